@@ -1,0 +1,76 @@
+-- What the commands do, as a function of their words.
+use Rattle.std.specs.Prelude.{ℕ, ◌+◌, ◌*◌, Bool, true, false, ◌&&◌, ◌||◌, ◌==◌, nat_lt, nat_le, nat_eq, List, [], ◌∷◌, ◌++◌, length, drop, fold, Option, Some, None, if◌then◌else◌, codes}
+use Rattle.std.specs.List.{list_all, starts_with, join_with_byte}
+use Rattle.std.specs.Char.{digit_value, is_digit}
+use Rattle.std.specs.Str.{bytes_eq}
+use Rattle.nb_terms.specs.declared.cause.Cause.{Cause}
+use Rattle.nb_defs.specs.Causes.{ok, unknown, usage, exit_cause}
+
+-- what a command comes to: what it prints, its result, and whether it leaves the script in any case
+pub record Outcome : Type 0 where
+  pub prints : Option (List ℕ)
+  pub cause : Cause
+  pub leaves : Bool
+
+abbrev pub refused : Cause → Outcome
+refused cause = record { prints = None; cause = cause; leaves = false }
+
+abbrev pub printed : List ℕ → Outcome
+printed bytes = record { prints = Some bytes; cause = ok; leaves = false }
+
+-- the value of digits in this base
+abbrev pub digits_value : ℕ → List ℕ → ℕ
+digits_value base digits = fold (λ n d. n * base + digit_value d) 0 digits
+
+abbrev pub are_digits : ℕ → List ℕ → Bool
+are_digits base digits = nat_lt 0 (length digits) && list_all (λ d. is_digit d base) digits
+
+-- no zero before other digits
+abbrev pub has_no_leading_zero : List ℕ → Bool
+has_no_leading_zero word = (length word == 1) || starts_with_no_zero word
+  where
+    starts_with_no_zero : List ℕ → Bool
+    starts_with_no_zero [] = false
+    starts_with_no_zero (d ∷ ds) = nat_lt 48 d
+
+-- a number: decimal digits without leading zeros, or `0x` and hexadecimal digits of either case
+unfoldable pub number_of : List ℕ → Option ℕ
+number_of word =
+    if starts_with nat_eq word (codes "0x") && are_digits 16 (drop 2 word) then Some (digits_value 16 (drop 2 word))
+    else if are_digits 10 word && has_no_leading_zero word then Some (digits_value 10 word)
+    else None
+
+-- whether a word in option place is an option of any command
+abbrev pub is_option : List ℕ → Bool
+is_option w = starts_with nat_eq w (codes "--")
+
+-- whether the first word is `-n` or an option
+abbrev pub begins_with_option : List (List ℕ) → Bool
+begins_with_option [] = false
+begins_with_option (w ∷ ws) = bytes_eq w (codes "-n") || is_option w
+
+-- `echo [-n] [text]`: the words joined by one space, and a line feed unless `-n`
+unfoldable pub echo : List (List ℕ) → Outcome
+echo [] = printed (10 ∷ [])
+echo (w ∷ ws) =
+    if bytes_eq w (codes "-n") then (if begins_with_option ws then refused usage else printed (join_with_byte 32 ws))
+    else if is_option w then refused usage
+    else printed (join_with_byte 32 (w ∷ ws) ++ (10 ∷ []))
+
+abbrev pub exit_with : Option ℕ → Outcome
+exit_with None = refused usage
+exit_with (Some n) = if nat_le n 255 then record { prints = None; cause = exit_cause n; leaves = true } else refused usage
+
+-- `exit [n]`: leaves the script, with Ok where n is 0 or absent; n is 0 to 255
+unfoldable pub exit : List (List ℕ) → Outcome
+exit [] = exit_with (Some 0)
+exit (w ∷ []) = exit_with (number_of w)
+exit (w ∷ v ∷ ws) = refused usage
+
+-- what a command does, by its name
+unfoldable pub outcome : List (List ℕ) → Outcome
+outcome [] = refused ok
+outcome (name ∷ args) =
+    if bytes_eq name (codes "echo") then echo args
+    else if bytes_eq name (codes "exit") then exit args
+    else refused unknown

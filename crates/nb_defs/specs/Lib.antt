@@ -1,0 +1,5 @@
+pub mod Causes
+pub mod Records
+pub mod ScriptText
+pub mod Commands
+pub mod Machine
