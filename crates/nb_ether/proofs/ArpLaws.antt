@@ -1,14 +1,12 @@
 -- An ARP message has one spelling, and bytes are at most one message.
-use Rattle.std.proofs.Common.{◌≡◌, ℕ, ◌+◌, ◌<◌, ◌≤◌, ◌^◌, ◌⊎◌, List, [], ◌∷◌, ◌++◌, length, get_or, take, drop, refl, sym, ap, ◌∙◌, append_assoc, arith}
+use Rattle.std.proofs.Common.{◌≡◌, ℕ, ◌≤◌, List, [], ◌∷◌, ◌++◌, length, get_or, take, refl, sym, ap, ◌∙◌, append_assoc, arith}
 use Rattle.std.specs.Int.{w16, w32, to_be_bytes, from_be_bytes}
 use Rattle.std.proofs.lemmas.List.{take_at, take_all, length-append, length-take}
 use Rattle.std.proofs.lemmas.Nat.{be_bytes_2, be_bytes_4}
 use Rattle.nb_wire.proofs.BytesLaws.{IsBytes}
-use Rattle.nb_wire.specs.declared.address.Mac.{Mac}
-use Rattle.nb_wire.specs.declared.address.Ip4.{Ip4}
 use Rattle.nb_ether.specs.declared.arp.Arp.{Arp}
 use Rattle.nb_ether.specs.ArpText.{HasForm, arp_text}
-use Rattle.nb_wire.proofs.BytesLaws.{Splits, append_one, be16_one, be32_one, IsBytes-rest, IsBytes-front, six, four, two, length_join}
+use Rattle.nb_wire.proofs.BytesLaws.{Splits, append_one, be16_one, be32_one, IsBytes-rest, IsBytes-front, six, length_join}
 
 right : (a b c d e f : List ℕ) → a ++ b ++ c ++ d ++ e ++ f ≡ a ++ (b ++ (c ++ (d ++ (e ++ f))))
 right a b c d e f = simp append_assoc

@@ -1,10 +1,10 @@
 -- A frame has one spelling, and bytes are at most one frame.
-use Rattle.std.proofs.Common.{◌≡◌, ℕ, ◌+◌, ◌<◌, ◌^◌, List, [], ◌∷◌, ◌++◌, length, get_or, take, drop, refl, sym, ap, ◌∙◌, append_assoc, arith}
+use Rattle.std.proofs.Common.{◌≡◌, ℕ, List, [], ◌∷◌, ◌++◌, length, get_or, refl, sym, ap, ◌∙◌, append_assoc, arith}
 use Rattle.std.specs.Int.{w16, to_be_bytes, from_be_bytes}
 use Rattle.nb_wire.proofs.BytesLaws.{IsBytes}
 use Rattle.nb_wire.specs.declared.address.Mac.{Mac}
 use Rattle.std.proofs.lemmas.Nat.{be_bytes_2}
-use Rattle.nb_ether.specs.Frame.{Frame, IsFrame, frame_text}
+use Rattle.nb_ether.specs.Frame.{Frame, IsFrame}
 use Rattle.nb_wire.proofs.BytesLaws.{Splits, append_one, be16_one, IsBytes-rest, IsBytes-front, six}
 
 right : (a b c d : List ℕ) → a ++ b ++ c ++ d ≡ a ++ (b ++ (c ++ d))

@@ -5,7 +5,7 @@ const CLIENT: Mac = Mac([0x52, 0x54, 0, 0, 0, 1]);
 
 const SERVER: Mac = Mac([0x52, 0x54, 0, 0, 0, 2]);
 
-/// An ARP request and its reply, as two Linux 6.1 hosts sent them over a virtual Ethernet link, and
+/// An ARP request and its reply, as two Linux hosts sent them over a virtual Ethernet link, and
 /// the reply padded to the least length of a frame on a real one.
 const REQUEST: [u8; 42] = [
     0xff, 0xff, 0xff, 0xff, 0xff, 0xff, 0x52, 0x54, 0x00, 0x00, 0x00, 0x01, 0x08, 0x06, 0x00, 0x01,

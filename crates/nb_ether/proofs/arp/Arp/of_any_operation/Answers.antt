@@ -1,8 +1,5 @@
-use Rattle.std.proofs.Common.{◌≡◌, ◌<◌, ◌⊎◌, ◌++◌, List, ℕ, [], ◌∷◌, Some, sym, ap, ◌∙◌, length, take, drop, arith, rules, refl}
+use Rattle.std.proofs.Common.{◌≡◌, [], ◌∷◌, Some, ap, arith, rules}
 use Rattle.nb_wire.proofs.BytesLaws.{IsBytes}
-use Rattle.nb_wire.specs.declared.address.Mac.{Mac}
-use Rattle.nb_wire.specs.declared.address.Ip4.{Ip4}
-use Rattle.std.specs.Int.{w32, from_be_bytes}
 use Rattle.nb_ether.specs.declared.arp.Arp.{Arp}
 use Rattle.nb_ether.specs.ArpText.{HasForm}
 use Rattle.nb_wire.proofs.BytesLaws.{Splits, splits_of}

@@ -1,5 +1,4 @@
-use Rattle.std.proofs.Common.{◌≡◌, ◌<◌, ◌^◌, ◌++◌, List, ℕ, [], ◌∷◌, refl, get_or, ap, ◌∙◌, length, arith, rules}
-use Rattle.std.specs.Int.{w16, to_be_bytes}
+use Rattle.std.proofs.Common.{◌≡◌, refl, length, rules}
 use Rattle.nb_ether.proofs.FrameLaws.{header_bytes}
 use Rattle.nb_ether.proofs.frame.EtherFrame.header.Goals as goal
 

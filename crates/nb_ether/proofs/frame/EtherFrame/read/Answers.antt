@@ -1,9 +1,7 @@
-use Rattle.std.proofs.Common.{◌≡◌, ◌<◌, ◌++◌, List, ℕ, sym, ap, ◌∙◌, length, get_or, take, drop, arith, inl, inr, refl}
+use Rattle.std.proofs.Common.{arith}
 use Rattle.nb_wire.proofs.BytesLaws.{IsBytes}
-use Rattle.nb_ether.specs.Frame.{Frame, IsFrame}
-use Rattle.nb_wire.specs.declared.address.Mac.{Mac}
-use Rattle.std.specs.Int.{w16, to_be_bytes, from_be_bytes}
-use Rattle.nb_wire.proofs.BytesLaws.{Splits, splits_of, IsBytes-rest}
+use Rattle.nb_ether.specs.Frame.{IsFrame}
+use Rattle.nb_wire.proofs.BytesLaws.{Splits, splits_of}
 use Rattle.nb_ether.proofs.FrameLaws.{frame_read, frame_one}
 use Rattle.nb_ether.proofs.frame.EtherFrame.read.Goals as goal
 
