@@ -1,0 +1,3 @@
+pub mod NumberLaws
+pub mod PacketLaws
+pub mod SentLaws

@@ -1,0 +1,8 @@
+// IPv4 packets (RFC 791) and UDP datagrams (RFC 768), read and written, with their checksums
+// (RFC 1071). Fragments are not read, options are passed over, and packets are written without
+// either. Begin with `Packet`.
+#![tactic(auto)]
+
+mod packet;
+
+pub use packet::{PROTO_ICMP, PROTO_TCP, PROTO_UDP, Packet};
