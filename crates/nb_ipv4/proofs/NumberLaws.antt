@@ -36,3 +36,9 @@ pub bytes_of : (xs : List ℕ) → AllByRecursion (λ x. x < 256) xs → IsBytes
 bytes_of [] all i = omega arith
 bytes_of (x ∷ xs) all zero = all.0
 bytes_of (x ∷ xs) all (suc i) = bytes_of xs all.1 i
+
+-- some bytes before others
+pub bytes_onto : (xs ys : List ℕ) → AllByRecursion (λ x. x < 256) xs → IsBytes ys → IsBytes (xs ++ ys)
+bytes_onto [] ys all rest i = rest i
+bytes_onto (x ∷ xs) ys all rest zero = all.0
+bytes_onto (x ∷ xs) ys all rest (suc i) = bytes_onto xs ys all.1 rest i

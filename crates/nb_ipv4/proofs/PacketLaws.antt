@@ -66,7 +66,7 @@ packet_placed fixed bytes p front is =
       src = sym (ap (λ (b : List ℕ). from_be_bytes w32 (get_or b 12 0 ∷ get_or b 13 0 ∷ get_or b 14 0 ∷ get_or b 15 0 ∷ [])) e ∙ from_be_bytes-to_be_bytes_4 p.src.0 is.src);
       dst = sym (ap (λ (b : List ℕ). from_be_bytes w32 (get_or b 16 0 ∷ get_or b 17 0 ∷ get_or b 18 0 ∷ get_or b 19 0 ∷ [])) e ∙ from_be_bytes-to_be_bytes_4 p.dst.0 is.dst);
       checked = ap checksum (header_of bytes p is) ∙ is.checked;
-      body = sym (ap (λ (b : List ℕ). drop (20 + 4 * words) b) (whole_of bytes p is) ∙ drop_at (header_text is.header p) p.body (20 + 4 * words) len)
+      body = sym (ap (λ (b : List ℕ). drop (20 + 4 * words) b) (whole_of bytes p is) ∙ drop_at (header_text is.header p) p.body (20 + 4 * words) len);
     }
 
 -- the pieces of a header, each as its bytes
@@ -112,7 +112,7 @@ packet_read fixed rest bytes header body padding fits front whole least most len
     let options = drop 20 header in
     let cut : header ≡ take 20 header ++ options = sym (take-append-drop 20 header) in
     let same : take 20 header ≡ fixed = (append_one (take 20 header) (options ++ (body ++ padding)) fixed rest (omega (arith, length-take 20 header, len, front.len))
-      (sym (append_assoc (take 20 header) options (body ++ padding)) ∙ ap (λ (x : List ℕ). x ++ (body ++ padding)) (sym cut) ∙ sym (append_assoc header body padding) ∙ sym whole ∙ front.parts)).0 in
+    (sym (append_assoc (take 20 header) options (body ++ padding)) ∙ ap (λ (x : List ℕ). x ++ (body ++ padding)) (sym cut) ∙ sym (append_assoc header body padding) ∙ sym whole ∙ front.parts)).0 in
     let is : header ≡ fixed ++ options = cut ∙ ap (λ (x : List ℕ). x ++ options) same in
     let options_len : length header ≡ 20 + length options = omega (arith, ap length is, length-append fixed options, front.len) in
     let text : header_text (header_at fixed options) (parts_at fixed body) ≡ header = header_spelled fixed options body fixed_fits front.len (omega (arith, options_len, len)) (omega (arith, options_len, total)) unbroken start ∙ sym is in
@@ -126,7 +126,7 @@ packet_read fixed rest bytes header body padding fits front whole least most len
       src = omega (arith, fixed_fits 12, fixed_fits 13, fixed_fits 14, fixed_fits 15);
       dst = omega (arith, fixed_fits 16, fixed_fits 17, fixed_fits 18, fixed_fits 19);
       spelled = whole ∙ ap (λ (x : List ℕ). x ++ body ++ padding) (sym text);
-      checked = ap checksum text ∙ checked
+      checked = ap checksum text ∙ checked;
     }
 
 abbrev pub made : ℕ → ℕ → ℕ → List ℕ → PacketParts
@@ -147,7 +147,7 @@ packet_one bytes p q first second =
     let words : a.words ≡ b.words = omega (arith, a.first, b.first) in
     let len : length p.body ≡ length q.body = omega (arith, a.total, b.total, words) in
     let body : p.body ≡ q.body =
-      a.body ∙ ap (λ (n : ℕ). drop (20 + 4 * n) (take (20 + 4 * n + length p.body) bytes)) words ∙ ap (λ (n : ℕ). drop (20 + 4 * b.words) (take (20 + 4 * b.words + n) bytes)) len ∙ sym b.body in
+    a.body ∙ ap (λ (n : ℕ). drop (20 + 4 * n) (take (20 + 4 * n + length p.body) bytes)) words ∙ ap (λ (n : ℕ). drop (20 + 4 * b.words) (take (20 + 4 * b.words + n) bytes)) len ∙ sym b.body in
     packet_same p q (a.src ∙ sym b.src) (a.dst ∙ sym b.dst) (a.proto ∙ sym b.proto) body
 
 -- a front of a front

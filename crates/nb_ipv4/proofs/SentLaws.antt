@@ -60,7 +60,7 @@ sent_readable p room fits = record {
   src = fits.0;
   dst = fits.1;
   spelled = sym (append-nil _);
-  checked = sent_checked p fits.2
+  checked = sent_checked p fits.2;
 }
 
 -- what is put is the packet as it is sent

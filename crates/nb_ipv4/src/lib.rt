@@ -4,5 +4,10 @@
 #![tactic(auto)]
 
 mod packet;
+mod udp;
 
 pub use packet::{PROTO_ICMP, PROTO_TCP, PROTO_UDP, Packet};
+pub use udp::Udp;
+
+#[cfg(test)]
+mod tests;

@@ -35,7 +35,7 @@ returns-then-sum16-ne0-clause-complete c = λ p is.
     let total_is : c.from-total_len.result ≡ 20 + 4 * placed.words + length p.body = omega (arith, placed.total, c.from_be_bytes.ensures, c.from-total_len.ensures) in
     let len_is : len ≡ 20 + 4 * placed.words = omega (arith, placed.first, c.in_ok-header_len.ensures.none.0) in
     let same : take len (take c.from-total_len.result c.args.bytes.now) ≡ take (20 + 4 * placed.words) c.args.bytes.now =
-      take_take len c.from-total_len.result c.args.bytes.now (omega (arith, total_is, len_is)) (omega (arith, total_is, placed.long)) ∙ ap (λ (n : ℕ). take n c.args.bytes.now) len_is in
+    take_take len c.from-total_len.result c.args.bytes.now (omega (arith, total_is, len_is)) (omega (arith, total_is, placed.long)) ∙ ap (λ (n : ℕ). take n c.args.bytes.now) len_is in
     let sum : c.sum16.result ≡ 0 = c.sum16.ensures ∙ ap checksum (append-nil c.split_at.result.0.now ∙ header_is ∙ same) ∙ placed.checked in
     absurd (omega (arith, sum, c.if-sum16-ne0.true))
 
