@@ -1,0 +1,2 @@
+pub mod ArpLaws
+pub mod FrameLaws

@@ -1,0 +1,64 @@
+ghost use Rattle.std.specs.Prelude.{◌≡◌, ◌+◌, ◌<◌, ◌++◌, ◌↔◌, length, IfSome, IsSomeAnd, IsErr, OnOk, OnErr};
+ghost use Rattle.std.specs.Int.{w16, to_be_bytes};
+
+use nb_wire::{Full, Mac, Out};
+
+/// The kind of a frame whose body is an IPv4 packet (RFC 894).
+pub const KIND_IPV4: u16 = 0x0800;
+
+/// The kind of a frame whose body is an ARP message (RFC 826).
+pub const KIND_ARP: u16 = 0x0806;
+
+/// An Ethernet frame (RFC 894).
+#[derive(Clone, Copy, Debug, PartialEq, Eq)]
+pub struct EtherFrame<'a> {
+    /// The interface that it is for.
+    pub dst: Mac,
+    /// The interface that sent it.
+    pub src: Mac,
+    /// What the body is: `KIND_IPV4`, `KIND_ARP` or another.
+    pub kind: u16,
+    /// All bytes behind the kind, padding included.
+    pub body: &'a [u8],
+}
+
+impl<'a> EtherFrame<'a> {
+    ghost use Rattle.nb_ether.specs.Frame.{Frame, IsFrame, frame_of, frame_text};
+
+    /// The frame that the bytes are, if they are one.
+    pub fn read(bytes: &'a [u8]) -> Option<EtherFrame<'a>>
+        ensures sound { IfSome result (λ f. IsFrame bytes.now (frame_of f)) }
+        ensures complete { (f : Frame) → IsFrame bytes.now f → IsSomeAnd result (λ g. frame_of g ≡ f) }
+    {
+        let (dst, rest) = bytes.split_first_chunk::<6>()?;
+        let (src, rest) = rest.split_first_chunk::<6>()?;
+        let (kind, body) = rest.split_first_chunk::<2>()?;
+        Some(EtherFrame {
+            dst: Mac(*dst),
+            src: Mac(*src),
+            kind: u16::from_be_bytes(*kind),
+            body,
+        })
+    }
+
+    /// Puts the frame's bytes.
+    pub fn write(&self, out: &mut Out<'_>) -> Result<(), Full>
+        ensures full { IsErr result ↔ (out.old.left < 14 + length self.now.body.now) }
+        ensures appended { OnOk result (out.new.written ≡ out.old.written ++ frame_text (frame_of self.now)) }
+        ensures room { OnOk result (out.new.left + (14 + length self.now.body.now) ≡ out.old.left) }
+        ensures refused { OnErr result (out.new ≡ out.old) }
+        ensures readable { IsFrame (frame_text (frame_of self.now)) (frame_of self.now) }
+    {
+        out.put_both(&self.header(), self.body)
+    }
+
+    fn header(&self) -> [u8; 14]
+        ensures value { result ≡ self.now.dst.0 ++ self.now.src.0 ++ to_be_bytes w16 self.now.kind }
+        ensures readable { IsFrame (frame_text (frame_of self.now)) (frame_of self.now) }
+    {
+        let Mac([d0, d1, d2, d3, d4, d5]) = self.dst;
+        let Mac([s0, s1, s2, s3, s4, s5]) = self.src;
+        let [k0, k1] = self.kind.to_be_bytes();
+        [d0, d1, d2, d3, d4, d5, s0, s1, s2, s3, s4, s5, k0, k1]
+    }
+}

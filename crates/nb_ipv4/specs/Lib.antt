@@ -1,0 +1,2 @@
+pub mod PacketText
+pub mod UdpText
