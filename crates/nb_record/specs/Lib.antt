@@ -1,0 +1,6 @@
+pub mod Outside
+pub mod View
+pub mod Bytes
+pub mod Held
+pub mod Logged
+pub mod Reading
