@@ -1,6 +1,6 @@
 -- Laws of the records' spelling: every field of a START is read again from its place, and no spelling of an
 -- input record begins another.
-use Rattle.std.proofs.Common.{◌≡◌, ℕ, ◌+◌, ◌^◌, ◌<◌, List, [], ◌∷◌, ◌++◌, length, take, drop, refl, sym, ap, subst, ◌∙◌, append_assoc, arith, replicate, lit<, lit≤}
+use Rattle.std.proofs.Common.{◌≡◌, ℕ, ◌+◌, ◌^◌, ◌<◌, ◌≤◌, List, [], ◌∷◌, ◌++◌, length, take, drop, refl, sym, ap, subst, ◌∙◌, append_assoc, arith, replicate, lit<, lit≤}
 use Rattle.std.specs.Int.{w16, w32, to_be_bytes, from_be_bytes}
 use Rattle.std.proofs.lemmas.List.{append-nil, length-append, take_at, drop_at, drop-drop}
 use Rattle.std.proofs.lemmas.Nat.{from_be_bytes-to_be_bytes_2, from_be_bytes-to_be_bytes_4}
@@ -110,12 +110,12 @@ record_stands s rest ok =
           ok.mac_len ok.uuid_len ok.key_len refl refl refl refl refl refl in
     record { mac = c.0; uuid = c.1; key = c.2; arch = c.3; w = c.4; ip = c.5; mask = c.6; gateway = c.7; dns = c.8; script = c.9 }
 
-make : (mac uuid key : List ℕ) (arch w ip mask gateway dns : ℕ) (script : List ℕ) → Start
+unfoldable pub make : (mac uuid key : List ℕ) (arch w ip mask gateway dns : ℕ) (script : List ℕ) → Start
 make mac uuid key arch w ip mask gateway dns script = record {
   mac = mac; uuid = uuid; key = key; arch = arch; w = w; ip = ip; mask = mask; gateway = gateway; dns = dns; script = script
 }
 
-make-same : (s : Start) (mac uuid key : List ℕ) (arch w ip mask gateway dns : ℕ) (script : List ℕ)
+pub make-same : (s : Start) (mac uuid key : List ℕ) (arch w ip mask gateway dns : ℕ) (script : List ℕ)
     → mac ≡ s.mac → uuid ≡ s.uuid → key ≡ s.key → arch ≡ s.arch → w ≡ s.w → ip ≡ s.ip → mask ≡ s.mask
     → gateway ≡ s.gateway → dns ≡ s.dns → script ≡ s.script
     → make mac uuid key arch w ip mask gateway dns script ≡ make s.mac s.uuid s.key s.arch s.w s.ip s.mask s.gateway s.dns s.script
@@ -239,3 +239,11 @@ nothing_partial = record {
   whole = refl;
   some = omega (arith, length-in_text zeros zeros-valid)
 }
+
+in_text-bound : (r : In) → IsIn r → length (in_text r) ≤ 131076
+in_text-bound (start s) ok = omega (arith, length-in_text s ok, ok.script_fits)
+
+-- what is partial is shorter than the longest record
+pub partial_short : (bytes : List ℕ) → IsPartial bytes → length bytes < 131076
+partial_short bytes partial =
+    omega (arith, in_text-bound partial.becomes partial.valid, ap length partial.whole, length-append bytes partial.more, partial.some)

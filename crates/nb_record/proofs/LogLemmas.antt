@@ -13,7 +13,7 @@ Puts-nothing a = record {
   fronts = refl;
   appended = sym (append-nil a.bytes);
   stays = λ _. refl;
-  too_small = λ e f. absurd cc
+  too_small = λ e f. absurd cc;
 }
 
 -- where the middle log was short, nothing was put behind it
@@ -28,7 +28,7 @@ then_short a b c x y p q short =
       fronts = ap (λ (w : List ℕ). w ++ y) p.fronts ∙ append_assoc p.part p.lost y;
       appended = ap (λ (l : Logged). l.bytes) same ∙ p.appended;
       stays = λ e. same ∙ p.stays e;
-      too_small = λ e f. omega (arith, p.too_small e short, length-append x y)
+      too_small = λ e f. omega (arith, p.too_small e short, length-append x y);
     }
 
 then_long : (a b c : Logged) (x y : List ℕ) → Puts a b x → Puts b c y → b.is_short ≡ false → Puts a c (x ++ y)
@@ -42,7 +42,7 @@ then_long a b c x y p q long =
       fronts = ap (λ (w : List ℕ). x ++ w) q.fronts ∙ sym (append_assoc x q.part q.lost);
       appended = q.appended ∙ ap (λ (w : List ℕ). w ++ q.part) first.1 ∙ append_assoc a.bytes x q.part;
       stays = λ e. let h : a.is_short ≡ false = first.0 in absurd cc;
-      too_small = λ e f. omega (arith, q.too_small long f, p.room_stays, ap length first.1, length-append a.bytes x, length-append x y)
+      too_small = λ e f. omega (arith, q.too_small long f, p.room_stays, ap length first.1, length-append a.bytes x, length-append x y);
     }
 
 by_short : (a b c : Logged) (x y : List ℕ) → Puts a b x → Puts b c y → (s : Bool) → b.is_short ≡ s → Puts a c (x ++ y)

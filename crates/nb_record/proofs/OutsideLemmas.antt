@@ -39,7 +39,7 @@ pub KeepsCounts-then : (a b c : Outside) → KeepsCounts a b → KeepsCounts b c
 KeepsCounts-then a b c p q = record {
   attach_count = omega (arith, p.attach_count, q.attach_count);
   read_count = omega (arith, p.read_count, q.read_count);
-  write_count = omega (arith, p.write_count, q.write_count)
+  write_count = omega (arith, p.write_count, q.write_count);
 }
 
 -- no call reads and takes nothing
@@ -52,7 +52,7 @@ pub Passes-then : (a b c : Outside) (read written read' written' : List ℕ) →
 Passes-then a b c read written read' written' p q = record {
   gave = Gave-then a.left b.left c.left read read' p.gave q.gave;
   took = Took-then a.taken b.taken c.taken written written' p.took q.took;
-  counts = KeepsCounts-then a b c p.counts q.counts
+  counts = KeepsCounts-then a b c p.counts q.counts;
 }
 
 pub Attaches-passes : (a b : Outside) → Attaches a b → Passes a b [] []

@@ -6,9 +6,9 @@ use Rattle.std.proofs.lemmas.Bool.{cases_lt}
 use Rattle.std.proofs.lemmas.List.{append-nil, length-append, length-take, length-drop, length-replicate, take-append-drop, take-append-le, drop-drop, drop_more, get_or-drop, get_or-take, get_or_past, get_or_append_left, get_or-append_right, get_or_default, get_or-replicate}
 use Rattle.std.proofs.lemmas.Nat.{be_bytes_2, be_bytes_4, from_be_bytes-to_be_bytes_4}
 use Rattle.nb_defs.specs.Records.{Start, In, start, IsStart, IsIn, start_body, in_text, IsPartial, IsBroken}
-use Rattle.nb_defs.proofs.RecordLaws.{start_at, fields, start_body-is, in_text-is, length-fields, length-in_text, StandsAt, record_stands, partial_front, nothing_partial}
+use Rattle.nb_defs.proofs.RecordLaws.{start_at, fields, start_body-is, in_text-is, length-fields, length-in_text, StandsAt, record_stands, partial_front, nothing_partial, make, make-same}
 use Rattle.nb_record.specs.Reading.{lead, length_with, CanBegin, whole_len}
-use Rattle.nb_record.specs.Held.{BreaksAt, part_of}
+use Rattle.nb_record.specs.Held.{BreaksAt, IsFront, part_of}
 
 abbrev pub IsBytes : List ℕ → Type 0
 IsBytes bytes = (i : ℕ) → get_or bytes i 0 < 256
@@ -58,7 +58,7 @@ can_begin_front a b h p = record {
   greatest = omega (arith, greatest_front a b h, p.greatest);
   kind = default_front a b 4 1 p.kind;
   version = default_front a b 5 1 p.version;
-  w_high = omega (arith, below_front a b 62, p.w_high)
+  w_high = omega (arith, below_front a b 62, p.w_high);
 }
 
 -- ---- a record can begin
@@ -78,23 +78,23 @@ lead_fits s rest =
 record_can_begin : (s : Start) (rest : List ℕ) → IsStart s → CanBegin (in_text (start s) ++ rest)
 record_can_begin s rest ok =
     let text : in_text (start s) ≡ to_be_bytes w32 (length (start_body s) + 1) ++ (1 ∷ 1 ∷ fields s) =
-          in_text-is s ∙ ap (λ (x : List ℕ). to_be_bytes w32 (length (start_body s) + 1) ++ (1 ∷ x)) (start_body-is s) in
+    in_text-is s ∙ ap (λ (x : List ℕ). to_be_bytes w32 (length (start_body s) + 1) ++ (1 ∷ x)) (start_body-is s) in
     let whole = in_text (start s) ++ rest in
     let w : get_or whole 62 0 ≡ get_or (to_be_bytes w16 s.w) 0 0 =
-          sym (get_or-drop 62 whole 0 0) ∙ sym (get_or-take 2 (drop 62 whole) 0 0 (lit< tt)) ∙ ap (λ (x : List ℕ). get_or x 0 0) (record_stands s rest ok).w in
+    sym (get_or-drop 62 whole 0 0) ∙ sym (get_or-take 2 (drop 62 whole) 0 0 (lit< tt)) ∙ ap (λ (x : List ℕ). get_or x 0 0) (record_stands s rest ok).w in
     record {
       least = omega (arith, length_with-in_text 0 s rest ok, ok.script_fits);
       greatest = omega (arith, length_with-in_text 255 s rest ok);
       kind = ap (λ (x : List ℕ). get_or (x ++ rest) 4 1) text;
       version = ap (λ (x : List ℕ). get_or (x ++ rest) 5 1) text;
-      w_high = omega (arith, w, ok.w_fits)
+      w_high = omega (arith, w, ok.w_fits);
     }
 
 can_begin_of : (r : In) (bytes more rest : List ℕ) → IsIn r → bytes ++ more ≡ in_text r ++ rest → CanBegin bytes
 can_begin_of (start s) bytes more rest ok e =
     can_begin_front bytes more
-      (subst (λ (x : List ℕ). LeadFits x) (sym e) (lead_fits s rest))
-      (subst (λ (x : List ℕ). CanBegin x) (sym e) (record_can_begin s rest ok))
+    (subst (λ (x : List ℕ). LeadFits x) (sym e) (lead_fits s rest))
+    (subst (λ (x : List ℕ). CanBegin x) (sym e) (record_can_begin s rest ok))
 
 -- with bytes that can't begin no record begins
 pub broken : (bytes : List ℕ) → (CanBegin bytes → ⊥) → IsBroken bytes
@@ -139,14 +139,14 @@ fields-at : (bytes : List ℕ) → IsBytes bytes → 80 ≤ length bytes → fie
 unfolding fields start_at
 fields-at bytes fits h =
     six (take 6 (drop 6 bytes)) (take 16 (drop 12 bytes)) (take 32 (drop 28 bytes)) (drop 80 bytes) _ _ _ _ _ _
-        (take 2 (drop 60 bytes)) (take 2 (drop 62 bytes)) (take 4 (drop 64 bytes)) (take 4 (drop 68 bytes)) (take 4 (drop 72 bytes)) (take 4 (drop 76 bytes))
-        (back2 bytes 60 fits (omega arith)) (back2 bytes 62 fits (omega arith))
-        (back4 bytes 64 fits (omega arith)) (back4 bytes 68 fits (omega arith)) (back4 bytes 72 fits (omega arith)) (back4 bytes 76 fits (omega arith))
+    (take 2 (drop 60 bytes)) (take 2 (drop 62 bytes)) (take 4 (drop 64 bytes)) (take 4 (drop 68 bytes)) (take 4 (drop 72 bytes)) (take 4 (drop 76 bytes))
+    (back2 bytes 60 fits (omega arith)) (back2 bytes 62 fits (omega arith))
+    (back4 bytes 64 fits (omega arith)) (back4 bytes 68 fits (omega arith)) (back4 bytes 72 fits (omega arith)) (back4 bytes 76 fits (omega arith))
     ∙ nine (take 6 (drop 6 bytes)) (take 16 (drop 12 bytes)) (take 32 (drop 28 bytes)) (take 2 (drop 60 bytes)) (take 2 (drop 62 bytes)) (take 4 (drop 64 bytes))
-        (take 4 (drop 68 bytes)) (take 4 (drop 72 bytes)) (take 4 (drop 76 bytes)) (drop 80 bytes)
-        (drop 6 bytes) (drop 12 bytes) (drop 28 bytes) (drop 60 bytes) (drop 62 bytes) (drop 64 bytes) (drop 68 bytes) (drop 72 bytes) (drop 76 bytes)
-        (split bytes 6 6) (split bytes 12 16) (split bytes 28 32) (split bytes 60 2) (split bytes 62 2)
-        (split bytes 64 4) (split bytes 68 4) (split bytes 72 4) (split bytes 76 4)
+    (take 4 (drop 68 bytes)) (take 4 (drop 72 bytes)) (take 4 (drop 76 bytes)) (drop 80 bytes)
+    (drop 6 bytes) (drop 12 bytes) (drop 28 bytes) (drop 60 bytes) (drop 62 bytes) (drop 64 bytes) (drop 68 bytes) (drop 72 bytes) (drop 76 bytes)
+    (split bytes 6 6) (split bytes 12 16) (split bytes 28 32) (split bytes 60 2) (split bytes 62 2)
+    (split bytes 64 4) (split bytes 68 4) (split bytes 72 4) (split bytes 76 4)
 
 below2 : (bytes : List ℕ) (n : ℕ) → IsBytes bytes → from_be_bytes w16 (take 2 (drop n bytes)) < 2 ^ 16
 below2 bytes n fits = let f = IsBytes-take 2 (drop n bytes) (IsBytes-drop n bytes fits) in omega (arith, f 0, f 1)
@@ -175,7 +175,7 @@ start_at-valid bytes fits h short high = record {
   mask_fits = below4 bytes 68 fits;
   gateway_fits = below4 bytes 72 fits;
   dns_fits = below4 bytes 76 fits;
-  script_fits = omega (arith, length-drop 80 bytes)
+  script_fits = omega (arith, length-drop 80 bytes);
 }
 
 -- bytes that are a record, as the reading sees it
@@ -202,12 +202,12 @@ whole_spelled bytes p =
     let body : start_body s ≡ 1 ∷ drop 6 bytes = start_body-is s ∙ ap (λ (x : List ℕ). 1 ∷ x) (fields-at bytes p.fits b.0) in
     let five : drop 5 bytes ≡ 1 ∷ drop 6 bytes = drop_more bytes 5 1 (omega (arith, b.0)) ∙ ap (λ (x : ℕ). x ∷ drop 6 bytes) p.begins.version in
     let four : drop 4 bytes ≡ 1 ∷ (1 ∷ drop 6 bytes) =
-          drop_more bytes 4 1 (omega (arith, b.0)) ∙ ap (λ (x : ℕ). x ∷ drop 5 bytes) p.begins.kind ∙ ap (λ (x : List ℕ). 1 ∷ x) five in
+    drop_more bytes 4 1 (omega (arith, b.0)) ∙ ap (λ (x : ℕ). x ∷ drop 5 bytes) p.begins.kind ∙ ap (λ (x : List ℕ). 1 ∷ x) five in
     let count : length (start_body s) + 1 ≡ length_with 0 bytes =
-          omega (arith, ap length body, length-drop 6 bytes, p.len, b.0) in
+    omega (arith, ap length body, length-drop 6 bytes, p.len, b.0) in
     let front : to_be_bytes w32 (length_with 0 bytes) ≡ take 4 bytes =
-          be_bytes_4 (take 4 bytes) (length_with 0 bytes) (omega (arith, length-take 4 bytes, b.0)) (IsBytes-take 4 bytes p.fits)
-            (ap (λ (x : List ℕ). from_be_bytes w32 x) (lead-take 0 bytes (omega (arith, b.0)))) in
+    be_bytes_4 (take 4 bytes) (length_with 0 bytes) (omega (arith, length-take 4 bytes, b.0)) (IsBytes-take 4 bytes p.fits)
+    (ap (λ (x : List ℕ). from_be_bytes w32 x) (lead-take 0 bytes (omega (arith, b.0)))) in
     sym (take-append-drop 4 bytes)
     ∙ ap (λ (x : List ℕ). take 4 bytes ++ x) (four ∙ ap (λ (x : List ℕ). 1 ∷ x) (sym body))
     ∙ ap (λ (x : List ℕ). x ++ (1 ∷ start_body s)) (sym front ∙ ap (λ (n : ℕ). to_be_bytes w32 n) (sym count))
@@ -224,7 +224,7 @@ length_front : (a b : List ℕ) → 4 ≤ length a → length_with 0 (a ++ b) �
 unfolding length_with
 length_front a b h =
     ap (λ (x : List ℕ). from_be_bytes w32 x)
-      (lead-take 0 (a ++ b) (omega (arith, length-append a b)) ∙ take-append-le 4 a b h ∙ sym (lead-take 0 a h))
+    (lead-take 0 (a ++ b) (omega (arith, length-append a b)) ∙ take-append-le 4 a b h ∙ sym (lead-take 0 a h))
 
 -- where a whole record stands at the front, its bytes are whole
 pub whole_front : (bytes : List ℕ) → CanBegin bytes → IsBytes bytes → whole_len bytes ≤ length bytes → IsWhole (take (whole_len bytes) bytes)
@@ -233,13 +233,13 @@ whole_front bytes begins fits long =
     let joined = take-append-drop n bytes in
     let len : length (take n bytes) ≡ n = omega (arith, length-take n bytes) in
     let known : length_with 0 bytes ≡ length_with 0 (take n bytes) =
-          ap (λ (x : List ℕ). length_with 0 x) (sym joined) ∙ length_front (take n bytes) (drop n bytes) (omega (arith, len)) in
+    ap (λ (x : List ℕ). length_with 0 x) (sym joined) ∙ length_front (take n bytes) (drop n bytes) (omega (arith, len)) in
     record {
       begins = can_begin_front (take n bytes) (drop n bytes)
-        (subst (λ (x : List ℕ). LeadFits x) (sym joined) (fits_at bytes 0 fits, fits_at bytes 1 fits, fits_at bytes 2 fits, fits_at bytes 3 fits))
-        (subst (λ (x : List ℕ). CanBegin x) (sym joined) begins);
+          (subst (λ (x : List ℕ). LeadFits x) (sym joined) (fits_at bytes 0 fits, fits_at bytes 1 fits, fits_at bytes 2 fits, fits_at bytes 3 fits))
+          (subst (λ (x : List ℕ). CanBegin x) (sym joined) begins);
       fits = IsBytes-take n bytes fits;
-      len = omega (arith, len, known)
+      len = omega (arith, len, known);
     }
 
 -- ---- what can begin and isn't whole is partial
@@ -272,8 +272,8 @@ at_filled a t i d P here there =
       | inl lt ↦ subst P (sym (get_or_append_left a (drop (length a) t) d i lt)) (here lt)
       | inr le ↦
           let e : get_or (a ++ drop (length a) t) i d ≡ get_or t i d =
-                get_or-append_right a (drop (length a) t) (length a) i d refl le ∙ get_or-drop (length a) t (i - length a) d
-                ∙ ap (λ (k : ℕ). get_or t k d) (let k : length a + (i - length a) ≡ i = omega arith in k) in
+          get_or-append_right a (drop (length a) t) (length a) i d refl le ∙ get_or-drop (length a) t (i - length a) d
+          ∙ ap (λ (k : ℕ). get_or t k d) (let k : length a + (i - length a) ≡ i = omega arith in k) in
           subst P (sym e) there
     ]
 
@@ -309,10 +309,10 @@ filled_whole bytes begins fits four short =
         greatest = omega (arith, length_known (bytes ++ added) (omega (arith, len)), same, big);
         kind = at_filled bytes f 4 1 (λ (x : ℕ). x ≡ 1) (λ _. begins.kind) (filler-4 n);
         version = at_filled bytes f 5 1 (λ (x : ℕ). x ≡ 1) (λ _. begins.version) (filler-5 n);
-        w_high = at_filled bytes f 62 0 (λ (x : ℕ). x < 64) (λ _. begins.w_high) (filler-62 n big)
+        w_high = at_filled bytes f 62 0 (λ (x : ℕ). x < 64) (λ _. begins.w_high) (filler-62 n big);
       };
       fits = λ i. at_filled bytes f i 0 (λ (x : ℕ). x < 256) (λ _. fits i) (filler_fits n i);
-      len = omega (arith, len, same)
+      len = omega (arith, len, same);
     }
 
 partial_long : (bytes : List ℕ) → CanBegin bytes → IsBytes bytes → 4 ≤ length bytes → length bytes < whole_len bytes → IsPartial bytes
@@ -325,7 +325,7 @@ partial_long bytes begins fits four short =
       valid = whole_valid (filled bytes) w;
       more = drop (length bytes) (filler n);
       whole = whole_spelled (filled bytes) w;
-      some = omega (arith, length-drop (length bytes) (filler n), length-filler n (omega (arith, length_known bytes four, begins.greatest)))
+      some = omega (arith, length-drop (length bytes) (filler n), length-filler n (omega (arith, length_known bytes four, begins.greatest)));
     }
 
 -- four bytes of a length that a START may have
@@ -334,8 +334,8 @@ four_partial : (a b c d : ℕ) → a < 256 → b < 256 → c < 256 → d < 256
 unfolding length_with
 four_partial a b c d fa fb fc fd low high =
     partial_long (a ∷ b ∷ c ∷ d ∷ [])
-      (record { least = omega arith; greatest = omega arith; kind = refl; version = refl; w_high = lit< tt })
-      fits (lit≤ tt) (omega arith)
+    (record { least = omega arith; greatest = omega arith; kind = refl; version = refl; w_high = lit< tt })
+    fits (lit≤ tt) (omega arith)
   where
     fits : IsBytes (a ∷ b ∷ c ∷ d ∷ [])
     fits zero = fa
@@ -383,8 +383,13 @@ same_at bytes n m i d hn hm = get_or-take n bytes i d hn ∙ sym (get_or-take m 
 same_length : (bytes : List ℕ) (n m d : ℕ) → 4 ≤ n → 4 ≤ m → length_with d (take n bytes) ≡ length_with d (take m bytes)
 unfolding length_with
 same_length bytes n m d hn hm =
-    omega (arith, same_at bytes n m 0 d (omega arith) (omega arith), same_at bytes n m 1 d (omega arith) (omega arith),
-      same_at bytes n m 2 d (omega arith) (omega arith), same_at bytes n m 3 d (omega arith) (omega arith))
+    omega (
+      arith,
+      same_at bytes n m 0 d (omega arith) (omega arith),
+      same_at bytes n m 1 d (omega arith) (omega arith),
+      same_at bytes n m 2 d (omega arith) (omega arith),
+      same_at bytes n m 3 d (omega arith) (omega arith),
+    )
 
 -- a byte behind the high byte of `w` breaks no record
 late_begins : (bytes : List ℕ) (n m : ℕ) → 63 ≤ n → 63 ≤ m → CanBegin (take n bytes) → CanBegin (take m bytes)
@@ -393,7 +398,7 @@ late_begins bytes n m hn hm begins = record {
   greatest = omega (arith, same_length bytes n m 255 (omega arith) (omega arith), begins.greatest);
   kind = sym (same_at bytes n m 4 1 (omega arith) (omega arith)) ∙ begins.kind;
   version = sym (same_at bytes n m 5 1 (omega arith) (omega arith)) ∙ begins.version;
-  w_high = omega (arith, same_at bytes n m 62 0 (omega arith) (omega arith), begins.w_high)
+  w_high = omega (arith, same_at bytes n m 62 0 (omega arith) (omega arith), begins.w_high);
 }
 
 -- the first byte with which no record can begin
@@ -401,16 +406,58 @@ pub breaks : (bytes : List ℕ) (place : ℕ) → IsBytes bytes → place < leng
     → BreaksAt bytes (part_of place)
 breaks bytes place fits within begins never =
     let early : place < 63 =
-          elim (cases_lt place 63) [
-            | inl lt ↦ lt
-            | inr le ↦ absurd (never (late_begins bytes place (place + 1) le (omega arith) begins))
-          ] in
+    elim (cases_lt place 63) [
+      | inl lt ↦ lt
+      | inr le ↦ absurd (never (late_begins bytes place (place + 1) le (omega arith) begins))
+    ] in
     let len : length (take place bytes) ≡ place = omega (arith, length-take place bytes) in
     record {
       place = place;
       within = within;
       before = is_partial (take place bytes) begins (IsBytes-take place bytes fits)
-        (λ four. omega (arith, len, length_known (take place bytes) four, begins.greatest));
+          (λ four. omega (arith, len, length_known (take place bytes) four, begins.greatest));
       with_it = broken (take (place + 1) bytes) never;
-      part = refl
+      part = refl;
     }
+
+-- ---- what the functions of the reading need
+
+-- with no bytes a record can begin
+pub nothing_begins : CanBegin []
+unfolding length_with
+nothing_begins = record { least = lit≤ tt; greatest = lit≤ tt; kind = refl; version = refl; w_high = lit< tt }
+
+-- a whole record has the fields' bytes
+pub front_long : (bytes : List ℕ) (len : ℕ) → CanBegin bytes → len ≡ whole_len bytes → len ≤ length bytes → 80 ≤ length (take len bytes)
+front_long bytes len begins e long =
+    omega (arith, length-take len bytes, length_known bytes (omega (arith, e, long)), begins.greatest)
+
+-- a whole record stands at the front
+pub front_is : (bytes : List ℕ) (s : Start) (len : ℕ) → CanBegin bytes → IsBytes bytes → len ≡ whole_len bytes → len ≤ length bytes → s ≡ start_at (take len bytes) → IsFront bytes (start s) len
+front_is bytes s len begins fits e long is =
+    let w : IsWhole (take len bytes) = subst (λ (n : ℕ). IsWhole (take n bytes)) (sym e) (whole_front bytes begins fits (omega (arith, e, long))) in
+    let text : take len bytes ≡ in_text (start s) = whole_spelled (take len bytes) w ∙ ap (λ (s : Start). in_text (start s)) (sym is) in
+    record {
+      valid = subst (λ (s : Start). IsStart s) (sym is) (whole_valid (take len bytes) w);
+      spelled = sym (take-append-drop len bytes) ∙ ap (λ (x : List ℕ). x ++ drop len bytes) text;
+      length_is = omega (arith, ap length text, length-take len bytes);
+    }
+
+-- a START whose fields are read from their places
+pub record FieldsFrom (bytes : List ℕ) (s : Start) : Type 0 where
+  pub mac : s.mac ≡ take 6 (drop 6 bytes)
+  pub uuid : s.uuid ≡ take 16 (drop 12 bytes)
+  pub key : s.key ≡ take 32 (drop 28 bytes)
+  pub arch : s.arch ≡ from_be_bytes w16 (take 2 (drop 60 bytes))
+  pub w : s.w ≡ from_be_bytes w16 (take 2 (drop 62 bytes))
+  pub ip : s.ip ≡ from_be_bytes w32 (take 4 (drop 64 bytes))
+  pub mask : s.mask ≡ from_be_bytes w32 (take 4 (drop 68 bytes))
+  pub gateway : s.gateway ≡ from_be_bytes w32 (take 4 (drop 72 bytes))
+  pub dns : s.dns ≡ from_be_bytes w32 (take 4 (drop 76 bytes))
+  pub script : s.script ≡ drop 80 bytes
+
+pub start_at-from : (bytes : List ℕ) (s : Start) → FieldsFrom bytes s → s ≡ start_at bytes
+unfolding start_at make
+start_at-from bytes s f =
+    make-same (start_at bytes) s.mac s.uuid s.key s.arch s.w s.ip s.mask s.gateway s.dns s.script
+    f.mac f.uuid f.key f.arch f.w f.ip f.mask f.gateway f.dns f.script

@@ -18,7 +18,7 @@ start_of s = record {
   mask = s.mask.0;
   gateway = s.gateway.0;
   dns = s.dns.0;
-  script = s.script.now
+  script = s.script.now;
 }
 
 abbrev pub in_of : InRec → defs.In

@@ -8,6 +8,7 @@ mod input;
 mod line;
 mod log;
 mod output;
+mod reading;
 
 pub use feed::{BadRecord, Feed, Front};
 pub use input::{InRec, Start};

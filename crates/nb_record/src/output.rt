@@ -20,7 +20,11 @@ pub enum OutRec<'a> {
     /// The command's result.
     Result(Cause),
     /// A script is entered (`what` is 0) or left (1).
-    Script { what: u8, depth: u8, cause: Cause },
+    Script {
+        what: u8,
+        depth: u8,
+        cause: Cause,
+    },
     /// The run's status; the last record.
     Done(u8),
 }
