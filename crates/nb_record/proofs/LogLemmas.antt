@@ -52,3 +52,50 @@ by_short a b c x y p q false e = then_long a b c x y p q e
 -- one put and then another are one put of both
 pub Puts-then : (a b c : Logged) (x y : List ℕ) → Puts a b x → Puts b c y → Puts a c (x ++ y)
 Puts-then a b c x y p q = by_short a b c x y p q b.is_short refl
+
+-- bytes that were appended
+pub Puts-all : (a b : Logged) (x : List ℕ) → a.is_short ≡ false → b ≡ record { bytes = a.bytes ++ x; room = a.room; is_short = false } → Puts a b x
+Puts-all a b x long e = record {
+  room_stays = ap (λ (l : Logged). l.room) e;
+  whole = λ _. (long, ap (λ (l : Logged). l.bytes) e);
+  part = x;
+  lost = [];
+  fronts = sym (append-nil x);
+  appended = ap (λ (l : Logged). l.bytes) e;
+  stays = λ f. absurd cc;
+  too_small = λ f g. let h : b.is_short ≡ false = ap (λ (l : Logged). l.is_short) e in absurd cc;
+}
+
+-- bytes for which there was no memory
+pub Puts-none : (a b : Logged) (x : List ℕ) → a.is_short ≡ false → b ≡ record { bytes = a.bytes; room = a.room; is_short = true } → a.room < length a.bytes + length x → Puts a b x
+Puts-none a b x long e small = record {
+  room_stays = ap (λ (l : Logged). l.room) e;
+  whole = λ f. let h : b.is_short ≡ true = ap (λ (l : Logged). l.is_short) e in absurd cc;
+  part = [];
+  lost = x;
+  fronts = refl;
+  appended = ap (λ (l : Logged). l.bytes) e ∙ sym (append-nil a.bytes);
+  stays = λ f. absurd cc;
+  too_small = λ f g. small;
+}
+
+-- a short log stays as it is
+pub Puts-short : (a b : Logged) (x : List ℕ) → a.is_short ≡ true → b ≡ a → Puts a b x
+Puts-short a b x short e = record {
+  room_stays = ap (λ (l : Logged). l.room) e;
+  whole = λ f. let h : b.is_short ≡ true = ap (λ (l : Logged). l.is_short) e ∙ short in absurd cc;
+  part = [];
+  lost = x;
+  fronts = refl;
+  appended = ap (λ (l : Logged). l.bytes) e ∙ sym (append-nil a.bytes);
+  stays = λ f. e;
+  too_small = λ f g. absurd cc;
+}
+
+-- the same bytes, told otherwise
+pub Puts-same : (a b : Logged) (x y : List ℕ) → x ≡ y → Puts a b x → Puts a b y
+Puts-same a b x y e p = subst (λ (w : List ℕ). Puts a b w) e p
+
+-- three puts
+pub Puts-three : (a b c d : Logged) (x y z : List ℕ) → Puts a b x → Puts b c y → Puts c d z → Puts a d ((x ++ y) ++ z)
+Puts-three a b c d x y z p q r = Puts-then a c d (x ++ y) z (Puts-then a b c x y p q) r

@@ -1,12 +1,12 @@
 -- What the reading says of the bytes, in the words of the definitions: what can't begin is broken, what is
 -- whole is spelled so, and what can begin and isn't whole is partial.
-use Rattle.std.proofs.Common.{◌≡◌, ℕ, zero, suc, ◌+◌, ◌*◌, ◌-◌, ◌^◌, ◌<◌, ◌≤◌, List, [], ◌∷◌, ◌++◌, length, get_or, take, drop, replicate, refl, sym, ap, subst, ◌∙◌, append_assoc, arith, inl, inr, lit≤, lit<}
+use Rattle.std.proofs.Common.{◌≡◌, ℕ, zero, suc, ◌+◌, ◌*◌, ◌-◌, ◌^◌, ◌<◌, ◌≤◌, List, [], ◌∷◌, ◌++◌, length, get_or, take, drop, replicate, refl, sym, ap, subst, ◌∙◌, arith, inl, inr, lit≤, lit<}
 use Rattle.std.specs.Int.{w16, w32, to_be_bytes, from_be_bytes}
 use Rattle.std.proofs.lemmas.Bool.{cases_lt}
-use Rattle.std.proofs.lemmas.List.{append-nil, length-append, length-take, length-drop, length-replicate, take-append-drop, take-append-le, drop-drop, drop_more, get_or-drop, get_or-take, get_or_past, get_or_append_left, get_or-append_right, get_or_default, get_or-replicate}
+use Rattle.std.proofs.lemmas.List.{length-append, length-take, length-drop, length-replicate, take-append-drop, take-append-le, drop-drop, drop_more, get_or-drop, get_or-take, get_or_past, get_or_append_left, get_or-append_right, get_or_default, get_or-replicate}
 use Rattle.std.proofs.lemmas.Nat.{be_bytes_2, be_bytes_4, from_be_bytes-to_be_bytes_4}
 use Rattle.nb_defs.specs.Records.{Start, In, start, IsStart, IsIn, start_body, in_text, IsPartial, IsBroken}
-use Rattle.nb_defs.proofs.RecordLaws.{start_at, fields, start_body-is, in_text-is, length-fields, length-in_text, StandsAt, record_stands, partial_front, nothing_partial, make, make-same}
+use Rattle.nb_defs.proofs.RecordLaws.{start_at, fields, start_body-is, in_text-is, length-fields, record_stands, partial_front, nothing_partial, make, make-same}
 use Rattle.nb_record.specs.Reading.{lead, length_with, CanBegin, whole_len}
 use Rattle.nb_record.specs.Held.{BreaksAt, IsFront, part_of}
 

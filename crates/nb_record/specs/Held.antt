@@ -1,11 +1,10 @@
 -- What a feed holds, and what stands at its front.
-use Rattle.std.specs.Prelude.{◌≡◌, ℕ, ◌+◌, ◌<◌, List, [], ◌++◌, length, take, drop, nat_lt, ◌==◌, if◌then◌else◌}
+use Rattle.std.specs.Prelude.{◌≡◌, ℕ, ◌+◌, ◌<◌, List, ◌++◌, length, take, drop, nat_lt, ◌==◌, if◌then◌else◌}
 use Rattle.nb_defs.specs.Records.{In, IsIn, in_text, IsPartial, IsBroken}
 use Rattle.nb_record.specs.Bytes.{Held}
 use Rattle.nb_record.specs.View.{in_of}
 use Rattle.nb_record.specs.declared.feed.Front.{Front}
 use Rattle.nb_record.specs.declared.feed.Front.TheVariants as front
-use Rattle.nb_record.specs.declared.feed.BadRecord.{BadRecord}
 
 -- where a byte of a record stands: 1 in the length, 2 the type, 3 in the body
 abbrev pub part_of : ℕ → ℕ

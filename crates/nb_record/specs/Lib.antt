@@ -4,3 +4,5 @@ pub mod Bytes
 pub mod Held
 pub mod Logged
 pub mod Reading
+pub mod Memory
+pub mod MemoryLines

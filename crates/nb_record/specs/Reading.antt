@@ -1,6 +1,6 @@
 -- The computing reading of bytes that are held: whether a record can still begin with them, and how many
 -- bytes it has. It stands for the words of the definitions, IsPartial and IsBroken.
-use Rattle.std.specs.Prelude.{◌≡◌, ℕ, ◌+◌, ◌<◌, ◌≤◌, List, [], ◌∷◌, length, slice_index_or}
+use Rattle.std.specs.Prelude.{◌≡◌, ℕ, ◌+◌, ◌<◌, ◌≤◌, List, [], ◌∷◌, slice_index_or}
 use Rattle.std.specs.Int.{w32, from_be_bytes}
 
 -- the first four bytes, with d in place of those that aren't there yet

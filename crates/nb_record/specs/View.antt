@@ -1,5 +1,4 @@
 -- The records of the program, seen as the records of the definitions.
-use Rattle.std.specs.Prelude.{ℕ}
 use Rattle.nb_defs.specs.Records as defs
 use Rattle.nb_record.specs.declared.input.Start.{Start}
 use Rattle.nb_record.specs.declared.input.InRec.{InRec}

@@ -7,12 +7,17 @@ mod feed;
 mod input;
 mod line;
 mod log;
+mod mem_line;
+mod memory;
 mod output;
 mod reading;
+mod sure_line;
 
 pub use feed::{BadRecord, Feed, Front};
 pub use input::{InRec, Start};
 pub use line::{Failed, Line, Target};
 pub use log::Log;
+pub use mem_line::MemLine;
 pub use nb_terms::{Acts, Cause, Event, NoMemory, SendTo};
 pub use output::OutRec;
+pub use sure_line::SureLine;

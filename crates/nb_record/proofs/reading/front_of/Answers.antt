@@ -1,6 +1,6 @@
-use Rattle.std.proofs.Common.{◌≡◌, ◌+◌, ap, arith, rules, sym, refl, ℕ}
-use Rattle.nb_record.specs.Reading.{CanBegin, whole_len}
-use Rattle.nb_record.proofs.ReadingLemmas.{IsBytes, is_partial, front_long, front_is}
+use Rattle.std.proofs.Common.{◌+◌, ap, arith, ℕ}
+use Rattle.nb_record.specs.Reading.{CanBegin}
+use Rattle.nb_record.proofs.ReadingLemmas.{is_partial, front_long, front_is}
 use Rattle.nb_record.proofs.reading.front_of.Goals as goal
 
 pub returns-then-bytes-len : goal.returns-then-bytes-len
