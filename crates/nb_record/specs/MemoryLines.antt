@@ -1,5 +1,5 @@
 -- What the lines over memory tell.
-use Rattle.std.specs.Prelude.{Some, drop, slice_index}
+use Rattle.std.specs.Prelude.{◌≡◌, ◌+◌, ◌-◌, ◌^◌, min, Some, drop, slice_index}
 use Rattle.nb_record.specs.Outside.{Outside}
 use Rattle.nb_record.specs.Memory.{told}
 use Rattle.nb_record.specs.declared.mem_line.MemLine.{MemLine}
@@ -24,3 +24,17 @@ sure_outside s = record {
   read_faults = 0;
   write_faults = 0;
 }
+
+-- one call more was made of a line, and what it was made with stays
+pub record IsCalled (old new : MemLine) : Type 0 where
+  pub input_stays : new.input.items ≡ old.input.items
+  pub cuts_stay : new.cuts.items ≡ old.cuts.items
+  pub fail_stays : new.fail.items ≡ old.fail.items
+  pub room_stays : new.room ≡ old.room
+  pub counted : new.calls ≡ min (old.calls + 1) (2 ^ 64 - 1)
+
+-- what a line was made with stays
+pub record IsSame (old new : SureLine) : Type 0 where
+  pub input_stays : new.input.items ≡ old.input.items
+  pub cuts_stay : new.cuts.items ≡ old.cuts.items
+  pub room_stays : new.room ≡ old.room

@@ -1,6 +1,6 @@
 ghost use Rattle.std.specs.Prelude.{◌≡◌, ◌+◌, ◌-◌, ◌^◌, ◌<◌, ◌≤◌, ◌∷◌, [], length, take, drop, min, true, false, Some, vec_len, vec_capacity, slice_index, IfOk, OnOk, OnErr, IsOk, is_err};
 ghost use Rattle.nb_record.specs.Outside.{Attaches, Reads, Writes, IsAtEnd, Rose};
-ghost use Rattle.nb_record.specs.Memory.{fails, cut_at};
+ghost use Rattle.nb_record.specs.Memory.{fails, write_fails, cut_at};
 
 use crate::memory::{copy_front, cut_len};
 use crate::{Failed, Line, Target};
@@ -18,6 +18,8 @@ pub struct MemLine {
     pub at: usize,
     pub cuts: Vec<usize>,
     pub output: Vec<u8>,
+    /// The most bytes that the output may have.
+    pub room: usize,
     pub fail: Vec<u64>,
     /// How many calls were made, and how many of them were reads.
     pub calls: u64,
@@ -25,6 +27,8 @@ pub struct MemLine {
     /// The faults of attach, of read and of write.
     pub faults: [u64; 3],
     pub ghost at_within: { at ≤ vec_len input },
+    pub ghost output_fits: { vec_len output ≤ room },
+    pub ghost room_held: { room ≤ vec_capacity output },
 }
 
 /// One more, or as many where no more can be counted.
@@ -46,7 +50,7 @@ impl MemLine {
         ensures input { IfOk result (λ m. (m.input.items ≡ input.now) × (m.at ≡ 0)) }
         ensures cuts { IfOk result (λ m. (m.cuts.items ≡ cuts.now) × (m.reads ≡ 0)) }
         ensures fail { IfOk result (λ m. (m.fail.items ≡ fail.now) × (m.calls ≡ 0)) }
-        ensures output { IfOk result (λ m. (m.output.items ≡ []) × (vec_capacity m.output ≡ room)) }
+        ensures output { IfOk result (λ m. (m.output.items ≡ []) × (m.room ≡ room)) }
         ensures faults { IfOk result (λ m. m.faults ≡ 0 ∷ 0 ∷ 0 ∷ []) }
     {
         Ok(MemLine {
@@ -54,6 +58,7 @@ impl MemLine {
             at: 0,
             cuts: Vec::from_slice(alloc, cuts)?,
             output: Vec::with_capacity(alloc, room)?,
+            room,
             fail: Vec::from_slice(alloc, fail)?,
             calls: 0,
             reads: 0,
@@ -80,7 +85,7 @@ impl MemLine {
 }
 
 impl Line for MemLine {
-    ghost use Rattle.nb_record.specs.MemoryLines.{mem_outside};
+    ghost use Rattle.nb_record.specs.MemoryLines.{mem_outside, IsCalled};
 
     ghost outside = { mem_outside };
 
@@ -88,6 +93,7 @@ impl Line for MemLine {
         ensures attached { Attaches (mem_outside self.old) (mem_outside self.new) }
         ensures failed { OnErr result (Rose (mem_outside self.old).attach_faults (mem_outside self.new).attach_faults) }
         ensures exactly { is_err result ≡ fails self.old.fail.items self.old.calls }
+        ensures called { IsCalled self.old self.new × (self.new.reads ≡ self.old.reads) }
     {
         if self.fails_now() {
             self.faults[0] = risen(self.faults[0]);
@@ -104,6 +110,7 @@ impl Line for MemLine {
             × Rose (mem_outside self.old).read_faults (mem_outside self.new).read_faults) }
         ensures exactly { is_err result ≡ fails self.old.fail.items self.old.calls }
         ensures cut { IfOk result (λ n. n ≡ cut_at self.old.cuts.items self.old.reads (min (length buf.old) (vec_len self.old.input - self.old.at))) }
+        ensures called { IsCalled self.old self.new × (self.new.reads ≡ min (self.old.reads + 1) (2 ^ 64 - 1)) }
     {
         let number = self.reads;
         self.reads = risen(number);
@@ -124,11 +131,12 @@ impl Line for MemLine {
         ensures ok { IfOk result (λ n. Writes (mem_outside self.old) (mem_outside self.new) (take n buf.now)) }
         ensures failed { OnErr result (Writes (mem_outside self.old) (mem_outside self.new) []
             × Rose (mem_outside self.old).write_faults (mem_outside self.new).write_faults) }
-        ensures sure { fails self.old.fail.items self.old.calls ≡ false → vec_len self.old.output < vec_capacity self.old.output → IsOk result }
-        ensures most { IfOk result (λ n. n ≡ min (length buf.now) (vec_capacity self.old.output - vec_len self.old.output)) }
+        ensures exactly { is_err result ≡ write_fails self.old.fail.items self.old.calls (length buf.now) (self.old.room - vec_len self.old.output) }
+        ensures most { IfOk result (λ n. n ≡ min (length buf.now) (self.old.room - vec_len self.old.output)) }
+        ensures called { IsCalled self.old self.new × (self.new.reads ≡ self.old.reads) }
     {
         let fails = self.fails_now();
-        let taken = buf.len().min(self.output.capacity() - self.output.len());
+        let taken = buf.len().min(self.room - self.output.len());
         if fails || (taken == 0 && !buf.is_empty()) {
             self.faults[2] = risen(self.faults[2]);
             return Err(Failed);

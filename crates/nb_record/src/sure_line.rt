@@ -1,4 +1,4 @@
-ghost use Rattle.std.specs.Prelude.{◌≡◌, ◌+◌, ◌-◌, ◌<◌, ◌≤◌, [], length, take, drop, min, true, Some, vec_len, vec_capacity, IfOk, OnErr, IsOk};
+ghost use Rattle.std.specs.Prelude.{◌≡◌, ◌+◌, ◌-◌, ◌^◌, ◌<◌, ◌≤◌, [], length, take, drop, min, true, Some, vec_len, vec_capacity, IfOk, OnErr, IsOk};
 ghost use Rattle.nb_record.specs.Outside.{Attaches, Reads, Writes, IsAtEnd, Rose};
 ghost use Rattle.nb_record.specs.Memory.{cut_at, told};
 
@@ -19,9 +19,13 @@ pub struct SureLine {
     /// How many reads were made.
     pub reads: u64,
     pub output: Vec<u8>,
+    /// The most bytes that the output may have.
+    pub room: usize,
     /// Whether the output has all that was taken.
     pub has_all: bool,
     pub ghost at_within: { at ≤ vec_len input },
+    pub ghost output_fits: { vec_len output ≤ room },
+    pub ghost room_held: { room ≤ vec_capacity output },
 }
 
 impl SureLine {
@@ -34,7 +38,7 @@ impl SureLine {
     ) -> Result<SureLine, NoMemory>
         ensures input { IfOk result (λ s. (s.input.items ≡ input.now) × (s.at ≡ 0)) }
         ensures cuts { IfOk result (λ s. (s.cuts.items ≡ cuts.now) × (s.reads ≡ 0)) }
-        ensures output { IfOk result (λ s. (s.output.items ≡ []) × (vec_capacity s.output ≡ room) × (s.has_all ≡ true)) }
+        ensures output { IfOk result (λ s. (s.output.items ≡ []) × (s.room ≡ room) × (s.has_all ≡ true)) }
     {
         Ok(SureLine {
             input: Vec::from_slice(alloc, input)?,
@@ -42,6 +46,7 @@ impl SureLine {
             cuts: Vec::from_slice(alloc, cuts)?,
             reads: 0,
             output: Vec::with_capacity(alloc, room)?,
+            room,
             has_all: true,
         })
     }
@@ -55,7 +60,7 @@ impl SureLine {
 }
 
 impl Line for SureLine {
-    ghost use Rattle.nb_record.specs.MemoryLines.{sure_outside};
+    ghost use Rattle.nb_record.specs.MemoryLines.{sure_outside, IsSame};
 
     ghost outside = { sure_outside };
 
@@ -63,6 +68,7 @@ impl Line for SureLine {
         ensures attached { Attaches (sure_outside self.old) (sure_outside self.new) }
         ensures failed { OnErr result (Rose (sure_outside self.old).attach_faults (sure_outside self.new).attach_faults) }
         ensures sure { IsOk result }
+        ensures same { self.new ≡ self.old }
     {
         Ok(())
     }
@@ -75,6 +81,7 @@ impl Line for SureLine {
             × Rose (sure_outside self.old).read_faults (sure_outside self.new).read_faults) }
         ensures sure { IsOk result }
         ensures cut { IfOk result (λ n. n ≡ cut_at self.old.cuts.items self.old.reads (min (length buf.old) (vec_len self.old.input - self.old.at))) }
+        ensures same { IsSame self.old self.new × (self.new.reads ≡ min (self.old.reads + 1) (2 ^ 64 - 1)) }
     {
         let most = buf.len().min(self.input.len() - self.at);
         let len = cut_len(&self.cuts, self.reads, most);
@@ -91,9 +98,10 @@ impl Line for SureLine {
         ensures failed { OnErr result (Writes (sure_outside self.old) (sure_outside self.new) []
             × Rose (sure_outside self.old).write_faults (sure_outside self.new).write_faults) }
         ensures sure { IsOk result }
-        ensures kept { self.old.has_all ≡ true → vec_len self.old.output + length buf.now ≤ vec_capacity self.old.output → self.new.has_all ≡ true }
+        ensures kept { self.old.has_all ≡ true → vec_len self.old.output + length buf.now ≤ self.old.room → self.new.has_all ≡ true }
+        ensures same { IsSame self.old self.new × (self.new.reads ≡ self.old.reads) }
     {
-        self.has_all = self.has_all && buf.len() <= self.output.capacity() - self.output.len();
+        self.has_all = self.has_all && buf.len() <= self.room - self.output.len();
         if self.has_all && self.output.extend_from_slice(buf).is_err() {
             unreachable!()
         }
