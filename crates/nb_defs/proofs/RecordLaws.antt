@@ -18,7 +18,7 @@ start_at bytes = record {
   mask = from_be_bytes w32 (take 4 (drop 68 bytes));
   gateway = from_be_bytes w32 (take 4 (drop 72 bytes));
   dns = from_be_bytes w32 (take 4 (drop 76 bytes));
-  script = drop 80 bytes
+  script = drop 80 bytes;
 }
 
 -- the fields behind the version
@@ -52,7 +52,7 @@ pub record Stands (bytes part rest : List ℕ) (place len : ℕ) : Type 0 where
 stands : (bytes part rest : List ℕ) (place len : ℕ) → drop place bytes ≡ part ++ rest → length part ≡ len → Stands bytes part rest place len
 stands bytes part rest place len e l = record {
   is_read = ap (λ (x : List ℕ). take len x) e ∙ take_at part rest len l;
-  then = sym (drop-drop len place bytes) ∙ ap (λ (x : List ℕ). drop len x) e ∙ drop_at part rest len l
+  then = sym (drop-drop len place bytes) ∙ ap (λ (x : List ℕ). drop len x) e ∙ drop_at part rest len l;
 }
 
 -- what stands at the places of a record's fields
@@ -85,9 +85,9 @@ chain : (bytes mac uuid key arch w ip mask gateway dns tail : List ℕ)
     → length mac ≡ 6 → length uuid ≡ 16 → length key ≡ 32 → length arch ≡ 2 → length w ≡ 2
     → length ip ≡ 4 → length mask ≡ 4 → length gateway ≡ 4 → length dns ≡ 4
     → (take 6 (drop 6 bytes) ≡ mac) × (take 16 (drop 12 bytes) ≡ uuid) × (take 32 (drop 28 bytes) ≡ key)
-      × (take 2 (drop 60 bytes) ≡ arch) × (take 2 (drop 62 bytes) ≡ w) × (take 4 (drop 64 bytes) ≡ ip)
-      × (take 4 (drop 68 bytes) ≡ mask) × (take 4 (drop 72 bytes) ≡ gateway) × (take 4 (drop 76 bytes) ≡ dns)
-      × (drop 80 bytes ≡ tail)
+    × (take 2 (drop 60 bytes) ≡ arch) × (take 2 (drop 62 bytes) ≡ w) × (take 4 (drop 64 bytes) ≡ ip)
+    × (take 4 (drop 68 bytes) ≡ mask) × (take 4 (drop 72 bytes) ≡ gateway) × (take 4 (drop 76 bytes) ≡ dns)
+    × (drop 80 bytes ≡ tail)
 chain bytes mac uuid key arch w ip mask gateway dns tail e l1 l2 l3 l4 l5 l6 l7 l8 l9 =
     let s1 = stands bytes mac _ 6 6 e l1 in
     let s2 = stands bytes uuid _ 12 16 s1.then l2 in
@@ -104,15 +104,24 @@ chain bytes mac uuid key arch w ip mask gateway dns tail e l1 l2 l3 l4 l5 l6 l7 
 pub record_stands : (s : Start) (rest : List ℕ) → IsStart s → StandsAt (in_text (start s) ++ rest) rest s
 record_stands s rest ok =
     let front : drop 6 (in_text (start s) ++ rest) ≡ fields s ++ rest =
-          ap (λ (x : List ℕ). drop 6 (x ++ rest)) (in_text-is s ∙ ap (λ (x : List ℕ). to_be_bytes w32 (length (start_body s) + 1) ++ (1 ∷ x)) (start_body-is s)) in
+    ap (λ (x : List ℕ). drop 6 (x ++ rest)) (in_text-is s ∙ ap (λ (x : List ℕ). to_be_bytes w32 (length (start_body s) + 1) ++ (1 ∷ x)) (start_body-is s)) in
     let c = chain (in_text (start s) ++ rest) s.mac s.uuid s.key (to_be_bytes w16 s.arch) (to_be_bytes w16 s.w) (to_be_bytes w32 s.ip)
-          (to_be_bytes w32 s.mask) (to_be_bytes w32 s.gateway) (to_be_bytes w32 s.dns) (s.script ++ rest) (front ∙ fields-then s rest)
-          ok.mac_len ok.uuid_len ok.key_len refl refl refl refl refl refl in
+    (to_be_bytes w32 s.mask) (to_be_bytes w32 s.gateway) (to_be_bytes w32 s.dns) (s.script ++ rest) (front ∙ fields-then s rest)
+    ok.mac_len ok.uuid_len ok.key_len refl refl refl refl refl refl in
     record { mac = c.0; uuid = c.1; key = c.2; arch = c.3; w = c.4; ip = c.5; mask = c.6; gateway = c.7; dns = c.8; script = c.9 }
 
 unfoldable pub make : (mac uuid key : List ℕ) (arch w ip mask gateway dns : ℕ) (script : List ℕ) → Start
 make mac uuid key arch w ip mask gateway dns script = record {
-  mac = mac; uuid = uuid; key = key; arch = arch; w = w; ip = ip; mask = mask; gateway = gateway; dns = dns; script = script
+  mac = mac;
+  uuid = uuid;
+  key = key;
+  arch = arch;
+  w = w;
+  ip = ip;
+  mask = mask;
+  gateway = gateway;
+  dns = dns;
+  script = script;
 }
 
 pub make-same : (s : Start) (mac uuid key : List ℕ) (arch w ip mask gateway dns : ℕ) (script : List ℕ)
@@ -135,14 +144,14 @@ start_at-stands : (bytes : List ℕ) (s : Start) → IsStart s → StandsAt byte
 unfolding start_at make
 start_at-stands bytes s ok at =
     let e : start_at bytes ≡ make s.mac s.uuid s.key s.arch s.w s.ip s.mask s.gateway s.dns s.script =
-          make-same s _ _ _ _ _ _ _ _ _ _ at.mac at.uuid at.key
-            (number2 _ s.arch ok.arch_fits at.arch)
-            (number2 _ s.w (omega (arith, ok.w_fits)) at.w)
-            (number4 _ s.ip ok.ip_fits at.ip)
-            (number4 _ s.mask ok.mask_fits at.mask)
-            (number4 _ s.gateway ok.gateway_fits at.gateway)
-            (number4 _ s.dns ok.dns_fits at.dns)
-            (at.script ∙ append-nil s.script) in
+    make-same s _ _ _ _ _ _ _ _ _ _ at.mac at.uuid at.key
+    (number2 _ s.arch ok.arch_fits at.arch)
+    (number2 _ s.w (omega (arith, ok.w_fits)) at.w)
+    (number4 _ s.ip ok.ip_fits at.ip)
+    (number4 _ s.mask ok.mask_fits at.mask)
+    (number4 _ s.gateway ok.gateway_fits at.gateway)
+    (number4 _ s.dns ok.dns_fits at.dns)
+    (at.script ∙ append-nil s.script) in
     e ∙ make-is s
 
 -- the record is read from its spelling
@@ -164,7 +173,7 @@ same_length : (s t : Start) (x y : List ℕ) → IsStart s → IsStart t → in_
     → length (in_text (start s)) ≡ length (in_text (start t))
 same_length s t x y oks okt e =
     let n : 76 + length s.script ≡ 76 + length t.script =
-          sym (length_front s x oks) ∙ ap (λ (b : List ℕ). from_be_bytes w32 (take 4 b)) e ∙ length_front t y okt in
+    sym (length_front s x oks) ∙ ap (λ (b : List ℕ). from_be_bytes w32 (take 4 b)) e ∙ length_front t y okt in
     omega (arith, length-in_text s oks, length-in_text t okt)
 
 pub record Same (r r' : In) (x y : List ℕ) : Type 0 where
@@ -177,16 +186,16 @@ pub in_text_apart : (r r' : In) (x y : List ℕ) → IsIn r → IsIn r' → in_t
 in_text_apart (start s) (start t) x y oks okt e =
     let len = same_length s t x y oks okt e in
     let texts : in_text (start s) ≡ in_text (start t) =
-          sym (take_at (in_text (start s)) x (length (in_text (start s))) refl)
-          ∙ ap (λ (b : List ℕ). take (length (in_text (start s))) b) e
-          ∙ take_at (in_text (start t)) y (length (in_text (start s))) (sym len) in
+    sym (take_at (in_text (start s)) x (length (in_text (start s))) refl)
+    ∙ ap (λ (b : List ℕ). take (length (in_text (start s))) b) e
+    ∙ take_at (in_text (start t)) y (length (in_text (start s))) (sym len) in
     let rests : x ≡ y =
-          sym (drop_at (in_text (start s)) x (length (in_text (start s))) refl)
-          ∙ ap (λ (b : List ℕ). drop (length (in_text (start s))) b) e
-          ∙ drop_at (in_text (start t)) y (length (in_text (start s))) (sym len) in
+    sym (drop_at (in_text (start s)) x (length (in_text (start s))) refl)
+    ∙ ap (λ (b : List ℕ). drop (length (in_text (start s))) b) e
+    ∙ drop_at (in_text (start t)) y (length (in_text (start s))) (sym len) in
     record {
       record_is = ap (λ (s : Start). start s) (sym (start_at-in_text s oks) ∙ ap (λ (b : List ℕ). start_at b) texts ∙ start_at-in_text t okt);
-      rest_is = rests
+      rest_is = rests;
     }
 
 -- a front of a record and of what follows it isn't broken
@@ -197,7 +206,7 @@ front_not_broken r bytes rest more valid e broken = broken r more rest valid e
 pub partial_not_whole : (r : In) (bytes rest : List ℕ) → IsIn r → bytes ≡ in_text r ++ rest → IsPartial bytes → ⊥
 partial_not_whole r bytes rest valid e partial =
     let joined : in_text r ++ (rest ++ partial.more) ≡ in_text partial.becomes ++ [] =
-          sym (append_assoc (in_text r) rest partial.more) ∙ ap (λ (b : List ℕ). b ++ partial.more) (sym e) ∙ partial.whole ∙ sym (append-nil (in_text partial.becomes)) in
+    sym (append_assoc (in_text r) rest partial.more) ∙ ap (λ (b : List ℕ). b ++ partial.more) (sym e) ∙ partial.whole ∙ sym (append-nil (in_text partial.becomes)) in
     let same = in_text_apart r partial.becomes (rest ++ partial.more) [] valid partial.valid joined in
     omega (arith, ap length same.rest_is, length-append rest partial.more, partial.some)
 
@@ -213,21 +222,37 @@ partial_front bytes added partial = record {
   valid = partial.valid;
   more = added ++ partial.more;
   whole = sym (append_assoc bytes added partial.more) ∙ partial.whole;
-  some = omega (arith, partial.some, length-append added partial.more)
+  some = omega (arith, partial.some, length-append added partial.more);
 }
 
 -- a START of zeros and no script
 zeros : Start
 zeros = record {
-  mac = replicate 6 0; uuid = replicate 16 0; key = replicate 32 0; arch = 0; w = 0;
-  ip = 0; mask = 0; gateway = 0; dns = 0; script = []
+  mac = replicate 6 0;
+  uuid = replicate 16 0;
+  key = replicate 32 0;
+  arch = 0;
+  w = 0;
+  ip = 0;
+  mask = 0;
+  gateway = 0;
+  dns = 0;
+  script = [];
 }
 
 zeros-valid : IsStart zeros
 unfolding zeros
 zeros-valid = record {
-  mac_len = refl; uuid_len = refl; key_len = refl; arch_fits = lit< tt; w_fits = lit< tt;
-  ip_fits = lit< tt; mask_fits = lit< tt; gateway_fits = lit< tt; dns_fits = lit< tt; script_fits = lit≤ tt
+  mac_len = refl;
+  uuid_len = refl;
+  key_len = refl;
+  arch_fits = lit< tt;
+  w_fits = lit< tt;
+  ip_fits = lit< tt;
+  mask_fits = lit< tt;
+  gateway_fits = lit< tt;
+  dns_fits = lit< tt;
+  script_fits = lit≤ tt;
 }
 
 -- no bytes are partial: a record can still come
@@ -237,7 +262,7 @@ nothing_partial = record {
   valid = zeros-valid;
   more = in_text (start zeros);
   whole = refl;
-  some = omega (arith, length-in_text zeros zeros-valid)
+  some = omega (arith, length-in_text zeros zeros-valid);
 }
 
 in_text-bound : (r : In) → IsIn r → length (in_text r) ≤ 131076
