@@ -1,0 +1,4 @@
+pub mod LogLemmas
+pub mod OutsideLemmas
+mod ReadingLemmas
+mod SpellingLemmas

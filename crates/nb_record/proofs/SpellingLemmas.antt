@@ -1,0 +1,57 @@
+-- The parts of an output record, put one after another, are its spelling.
+use Rattle.std.proofs.Common.{◌≡◌, ℕ, ◌+◌, ◌<◌, Bool, true, false, List, [], ◌∷◌, ◌++◌, length, take, get_or, refl, sym, ap, ◌∙◌, arith}
+use Rattle.std.specs.Int.{w16, w32, to_be_bytes}
+use Rattle.std.specs.List.{flat_map}
+use Rattle.std.proofs.lemmas.List.{take_more, flat_map_more}
+use mir.Val.{bool_byte}
+use Rattle.nb_terms.specs.declared.cause.Cause.{Cause}
+use Rattle.nb_defs.specs.Records.{out_text, command, script, record_text, cause_text, word_text, flag_of}
+use Rattle.nb_record.specs.Logged.{Logged, Puts}
+use Rattle.nb_record.proofs.LogLemmas.{Puts-then, Puts-same}
+
+-- the length and the type, then the body
+pub record_puts : (a b c : Logged) (kind : ℕ) (body : List ℕ) → Puts a b (to_be_bytes w32 (length body + 1) ++ kind ∷ []) → Puts b c body → Puts a c (record_text kind body)
+unfolding record_text
+record_puts a b c kind body p q = Puts-then a b c (to_be_bytes w32 (length body + 1) ++ kind ∷ []) body p q
+
+pub word_puts : (a b c : Logged) (w : List ℕ) → Puts a b (to_be_bytes w16 (length w)) → Puts b c w → Puts a c (word_text w)
+unfolding word_text
+word_puts a b c w p q = Puts-then a b c (to_be_bytes w16 (length w)) w p q
+
+pub script_puts : (a b c d : Logged) (what depth : ℕ) (cause : Cause) → Puts a b (to_be_bytes w32 12 ++ 0x86 ∷ []) → Puts b c (what ∷ depth ∷ []) → Puts c d (cause_text cause) → Puts a d (out_text (script what depth cause))
+unfolding out_text record_text cause_text
+script_puts a b c d what depth cause p q r =
+    Puts-then a c d (to_be_bytes w32 12 ++ 0x86 ∷ what ∷ depth ∷ []) (cause_text cause)
+    (Puts-then a b c (to_be_bytes w32 12 ++ 0x86 ∷ []) (what ∷ depth ∷ []) p q) r
+
+pub command_puts : (a b c d e f : Logged) (n depth line place flag : ℕ) (expanded : Bool) (words : List (List ℕ))
+    → n ≡ length (flat_map word_text words) → flag ≡ flag_of expanded
+    → Puts a b (to_be_bytes w32 (8 + n + 1) ++ 0x84 ∷ []) → Puts b c (depth ∷ []) → Puts c d (to_be_bytes w32 line)
+    → Puts d e (place ∷ flag ∷ length words ∷ []) → Puts e f (flat_map word_text words)
+    → Puts a f (out_text (command depth line place expanded words))
+unfolding out_text record_text
+command_puts a b c d e f n depth line place flag expanded words len is p q r s t =
+    let tail = flat_map word_text words in
+    let rest : ℕ → List ℕ = λ (g : ℕ). 0x84 ∷ depth ∷ (to_be_bytes w32 line ++ (place ∷ g ∷ length words ∷ tail)) in
+    let all : Puts a f ((((((to_be_bytes w32 (8 + n + 1) ++ 0x84 ∷ []) ++ depth ∷ []) ++ to_be_bytes w32 line) ++ (place ∷ flag ∷ length words ∷ [])) ++ tail)) =
+    Puts-then a e f _ tail (Puts-then a d e _ (place ∷ flag ∷ length words ∷ []) (Puts-then a c d _ (to_be_bytes w32 line) (Puts-then a b c _ (depth ∷ []) p q) r) s) t in
+    let count : 8 + n + 1 ≡ length (depth ∷ (to_be_bytes w32 line ++ place ∷ flag_of expanded ∷ length words ∷ tail)) + 1 = omega (arith, len) in
+    let same : to_be_bytes w32 (8 + n + 1) ++ rest flag ≡ to_be_bytes w32 (length (depth ∷ (to_be_bytes w32 line ++ place ∷ flag_of expanded ∷ length words ∷ tail)) + 1) ++ rest (flag_of expanded) =
+    ap (λ (k : ℕ). to_be_bytes w32 k ++ rest flag) count
+    ∙ ap (λ (g : ℕ). to_be_bytes w32 (length (depth ∷ (to_be_bytes w32 line ++ place ∷ flag_of expanded ∷ length words ∷ tail)) + 1) ++ rest g) is in
+    Puts-same a f _ _ same all
+
+-- one as a byte, as the definitions have it
+pub flag-is : (b : Bool) → bool_byte b ≡ flag_of b
+flag-is true = refl
+flag-is false = refl
+
+-- one word more
+pub words_more : (words : List (List ℕ)) (i : ℕ) (w : List ℕ) → i < length words → w ≡ get_or words i w → flat_map word_text (take (i + 1) words) ≡ flat_map word_text (take i words) ++ word_text w
+words_more words i w lt e =
+    ap (λ (ws : List (List ℕ)). flat_map word_text ws) (take_more words i w lt ∙ ap (λ (x : List ℕ). take i words ++ x ∷ []) (sym e))
+    ∙ sym (flat_map_more word_text [] (take i words) w)
+
+pub length-word_text : (w : List ℕ) → length (word_text w) ≡ 2 + length w
+unfolding word_text
+length-word_text w = omega arith

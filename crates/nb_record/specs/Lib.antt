@@ -1,0 +1,8 @@
+pub mod Outside
+pub mod View
+pub mod Bytes
+pub mod Held
+pub mod Logged
+pub mod Reading
+pub mod Memory
+pub mod MemoryLines

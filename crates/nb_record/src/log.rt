@@ -1,0 +1,189 @@
+ghost use Rattle.std.specs.Prelude.{◌≡◌, ◌+◌, ◌<◌, ◌≤◌, ◌∷◌, [], ◌++◌, length, false, IfOk};
+ghost use Rattle.std.specs.Int.{w32, to_be_bytes};
+ghost use Rattle.std.specs.List.{flat_map};
+ghost use Rattle.nb_defs.specs.Records.{IsOut, out_text, record_text, cause_text, word_text};
+ghost use Rattle.nb_defs.specs.Records as defs;
+ghost use Rattle.nb_record.specs.View.{out_of};
+ghost use Rattle.nb_record.specs.Logged.{Puts};
+
+use crate::OutRec;
+use nb_terms::{Cause, NoMemory};
+use nb_wire::Word;
+use std::alloc::Global;
+use std::marker::Model;
+
+/// The types of the output records.
+const STEP: u8 = 0x81;
+
+const TEXT: u8 = 0x83;
+
+const COMMAND: u8 = 0x84;
+
+const RESULT: u8 = 0x85;
+
+const SCRIPT: u8 = 0x86;
+
+const DONE: u8 = 0x8d;
+
+/// Gathers the spelling of output records.
+#[derive(Drop)]
+pub struct Log {
+    bytes: Vec<u8>,
+    room: usize,
+    short: bool,
+}
+
+impl Model for Log {
+    ghost use Rattle.std.specs.Prelude.{◌≤◌, vec_capacity};
+    ghost use Rattle.nb_record.specs.Logged.{Logged};
+
+    ghost Value = { Logged };
+
+    ghost view = { λ l. record { bytes = l.bytes.items; room = l.room; is_short = l.short } };
+
+    ghost invariant = { λ l. l.room ≤ vec_capacity l.bytes };
+}
+
+impl Log {
+    /// An empty log with room for this many bytes.
+    pub fn new(alloc: Global, room: usize) -> Result<Log, NoMemory>
+        ensures { IfOk result (λ l. l ≡ record { bytes = []; room = room; is_short = false }) }
+    {
+        Ok(Log {
+            bytes: Vec::with_capacity(alloc, room)?,
+            room,
+            short: false,
+        })
+    }
+
+    /// Appends a record. Within the room it takes no memory; past it memory may be wanted, and then the log
+    /// is short: it holds a front, and later puts add nothing.
+    pub fn put(&mut self, entry: &OutRec<'_>)
+        requires { IsOut (out_of entry.now) }
+        ensures { Puts self.old self.new (out_text (out_of entry.now)) }
+    {
+        match *entry {
+            OutRec::Step(number) => self.put_record(STEP, &number.to_be_bytes()),
+            OutRec::Text(bytes) => self.put_record(TEXT, bytes),
+            OutRec::Command {
+                depth,
+                line,
+                place,
+                expanded,
+                words,
+            } => self.put_command(depth, line, place, expanded, words),
+            OutRec::Result(cause) => self.put_record(RESULT, &cause_bytes(cause)),
+            OutRec::Script { what, depth, cause } => self.put_script(what, depth, cause),
+            OutRec::Done(status) => self.put_record(DONE, &[status]),
+        }
+    }
+
+    /// The bytes gathered.
+    pub fn bytes(&self) -> &[u8]
+        ensures { result.now ≡ self.now.bytes }
+    {
+        self.bytes.as_slice()
+    }
+
+    /// Drops the bytes gathered; the room stays.
+    pub fn clear(&mut self)
+        ensures { self.new ≡ record { bytes = []; room = self.old.room; is_short = self.old.is_short } }
+    {
+        self.bytes.clear();
+    }
+
+    /// Whether a put met want of memory.
+    pub fn short(&self) -> bool
+        ensures { result ≡ self.now.is_short }
+    {
+        self.short
+    }
+
+    /// Appends bytes, or makes the log short where there is no memory for them.
+    fn add(&mut self, piece: &[u8])
+        ensures { Puts self.old self.new piece.now }
+    {
+        if self.short {
+            return;
+        }
+        if self.bytes.extend_from_slice(piece).is_err() {
+            self.short = true;
+        }
+    }
+
+    /// Appends the length and the type of a record, whose body has this many bytes.
+    fn put_head(&mut self, kind: u8, body_len: usize)
+        requires { body_len ≤ 131071 }
+        ensures { Puts self.old self.new (to_be_bytes w32 (body_len + 1) ++ kind ∷ []) }
+    {
+        self.add(&(body_len as u32 + 1).to_be_bytes());
+        self.add(&[kind]);
+    }
+
+    /// Appends a record of this type and body.
+    fn put_record(&mut self, kind: u8, body: &[u8])
+        requires { length body.now ≤ 131071 }
+        ensures { Puts self.old self.new (record_text kind body.now) }
+    {
+        self.put_head(kind, body.len());
+        self.add(body);
+    }
+
+    fn put_script(&mut self, what: u8, depth: u8, cause: Cause)
+        ensures { Puts self.old self.new (out_text (defs.script what depth cause)) }
+    {
+        self.put_head(SCRIPT, 11);
+        self.add(&[what, depth]);
+        self.add(&cause_bytes(cause));
+    }
+
+    fn put_command(&mut self, depth: u8, line: u32, place: u8, expanded: bool, words: &[Word])
+        requires few { length words.now < 256 }
+        requires fits { length (flat_map word_text words.now) ≤ 131063 }
+        ensures { Puts self.old self.new (out_text (defs.command depth line place expanded words.now)) }
+    {
+        self.put_head(COMMAND, 8 + words_len(words));
+        self.add(&[depth]);
+        self.add(&line.to_be_bytes());
+        self.add(&[place, u8::from(expanded), words.len() as u8]);
+        self.put_words(words);
+    }
+
+    fn put_words(&mut self, words: &[Word])
+        ensures { Puts self.old self.new (flat_map word_text words.now) }
+    {
+        for word in words {
+            self.put_word(word);
+        }
+    }
+
+    /// Appends two bytes of length, and a word.
+    fn put_word(&mut self, word: &Word)
+        ensures { Puts self.old self.new (word_text word.now) }
+    {
+        self.add(&(word.len() as u16).to_be_bytes());
+        self.add(word.as_slice());
+    }
+}
+
+/// The spelling of a cause.
+#[tactic(auto, unfolding(nb_defs::specs::Records::cause_text))]
+fn cause_bytes(cause: Cause) -> [u8; 9]
+    ensures { result ≡ cause_text cause }
+{
+    let [a0, a1, a2, a3] = cause.a.to_be_bytes();
+    let [b0, b1, b2, b3] = cause.b.to_be_bytes();
+    [cause.code, a0, a1, a2, a3, b0, b1, b2, b3]
+}
+
+/// How many bytes the words have with their lengths.
+fn words_len(words: &[Word]) -> usize
+    requires { length words.now < 256 }
+    ensures { result ≡ length (flat_map word_text words.now) }
+{
+    let mut len = 0;
+    for word in words {
+        len += 2 + word.len();
+    }
+    len
+}
