@@ -1,7 +1,7 @@
 -- What the lines of a text are, line by line.
 use Rattle.std.proofs.Common.{◌≡◌, ℕ, suc, ◌+◌, ◌-◌, ◌≤◌, Bool, true, false, cond, ◌||◌, ◌&&◌, ◌==◌, List, [], ◌∷◌, ◌++◌, length, take, drop, Option, Some, None, refl, ap, ◌∙◌, arith, nat_eq}
 use Rattle.std.specs.Prelude.{position, codes}
-use Rattle.std.specs.List.{ends_with, starts_with, list_all}
+use Rattle.std.specs.List.{ends_with, list_all}
 use Rattle.std.specs.Option.{MatchOption, unwrap_or}
 use Rattle.std.specs.Cmp.Lexicographic.{pointwise}
 use Rattle.std.proofs.lemmas.Bool.Decides.{nat_tests}
@@ -100,14 +100,23 @@ pub stripped : (line : List ℕ) (d : Bor (List ℕ)) (r : Option (Bor (List ℕ
 stripped line d None same h = same ∙ rw h at (without_cr_is line)
 stripped line d (Some x) same h = h.1 ∙ rw h.0 at (without_cr_is line)
 
--- the first line, by its first six bytes
-pub first_line_yes : (line : List ℕ) → starts_with nat_eq line (codes "#!ipxe") ≡ true → is_first_line line ≡ list_all is_blank (without_cr (drop 6 line))
-unfolding is_first_line
-first_line_yes line e = rw e refl
+same_eq : (a b : ℕ) → nat_eq a b ≡ nat_eq b a
+same_eq a b = grind (arith, nat_tests)
 
-pub first_line_no : (line : List ℕ) → starts_with nat_eq line (codes "#!ipxe") ≡ false → is_first_line line ≡ false
+pointwise_sym : (xs ys : List ℕ) → pointwise nat_eq xs ys ≡ pointwise nat_eq ys xs
+pointwise_sym [] [] = refl
+pointwise_sym [] (y ∷ ys) = refl
+pointwise_sym (x ∷ xs) [] = refl
+pointwise_sym (x ∷ xs) (y ∷ ys) = rw (same_eq x y, pointwise_sym xs ys) refl
+
+-- the first line, by its first six bytes
+pub first_line_yes : (line behind : List ℕ) → pointwise nat_eq (take 6 line) (codes "#!ipxe") ≡ true → behind ≡ drop 6 line → is_first_line line ≡ list_all is_blank (without_cr behind)
 unfolding is_first_line
-first_line_no line e = rw e refl
+first_line_yes line behind e b = rw (pointwise_sym (codes "#!ipxe") (take 6 line), e, b) refl
+
+pub first_line_no : (line : List ℕ) → pointwise nat_eq (take 6 line) (codes "#!ipxe") ≡ false → is_first_line line ≡ false
+unfolding is_first_line
+first_line_no line e = rw (pointwise_sym (codes "#!ipxe") (take 6 line), e) refl
 
 pub begins_some : (text : List ℕ) (n : ℕ) → position is_line_feed text ≡ Some n → begins_script (pieces is_line_feed text) ≡ is_first_line (take n text)
 begins_some text n h = rw (pieces_some is_line_feed text n h) refl

@@ -19,7 +19,8 @@ pieces_is sep (b ∷ xs) =
 
 -- up to the first separator, and the pieces behind it
 pub pieces_first : (sep : ℕ → Bool) (xs : List ℕ) → position_or_len sep xs < length xs → pieces sep xs ≡ take (position_or_len sep xs) xs ∷ pieces sep (drop (position_or_len sep xs + 1) xs)
-pieces_first sep xs h = rw (pieces_is, pieces_is) (slice_split_first sep xs 0 h)
+pieces_first sep xs h =
+    rw (pieces_is sep xs, pieces_is sep (drop (position_or_len sep xs + 1) xs)) (slice_split_first sep xs 0 h)
 
 position_of : (t : Bool) (k n : ℕ) → cond t (Some k) None ≡ Some n → (t ≡ true) × (k ≡ n)
 position_of true k n h = (refl, cc)

@@ -8,6 +8,8 @@ mod error;
 mod line;
 mod script;
 mod span;
+#[cfg(test)]
+mod tests;
 mod word;
 
 pub use error::ScriptError;

@@ -1,15 +1,8 @@
 ghost use Rattle.std.specs.Prelude.{◌≡◌, ◌&&◌, length, nat_eq, nat_lt, codes, position};
 ghost use Rattle.std.specs.List.{list_all, starts_with};
-ghost use Rattle.nb_defs.specs.ScriptText.{is_line_feed, is_blank as is_blank_byte, without_cr as less_cr, ends_in_backslash as has_backslash, is_first_line as is_first, begins_script as begins, pieces, has_expansion as expands, is_label as labels, is_plain_line as is_plain, is_join as joins};
+ghost use Rattle.nb_defs.specs.ScriptText.{is_line_feed, is_blank as is_blank_byte, without_cr as less_cr, ends_in_backslash as has_backslash, is_first_line as is_first, begins_script as begins, pieces, has_expansion as expands, is_label as labels, is_plain_line as is_plain};
 
-use crate::word::{cut_word, has_plain_words};
-
-/// Whether a byte is a blank: a space or a tab.
-pub fn is_blank(byte: u8) -> bool
-    ensures { result ≡ is_blank_byte byte }
-{
-    byte == b' ' || byte == b'\t'
-}
+use crate::word::{cut_word, has_plain_words, is_blank};
 
 /// Where the first line feed stands.
 pub fn line_feed(text: &[u8]) -> Option<usize>
@@ -45,7 +38,10 @@ pub fn begins_script(text: &[u8]) -> bool
 fn is_first_line(line: &[u8]) -> bool
     ensures { result ≡ is_first line.now }
 {
-    line.starts_with(b"#!ipxe") && are_blank(without_cr(&line[6..]))
+    match line.strip_prefix(b"#!ipxe") {
+        Some(behind) => are_blank(without_cr(behind)),
+        None => false,
+    }
 }
 
 fn are_blank(line: &[u8]) -> bool

@@ -2,13 +2,19 @@ ghost use Rattle.std.specs.Prelude.{◌≡◌, ◌+◌, ◌≤◌, ◌<◌, ◌�
 ghost use Rattle.std.specs.List.{list_any, position_or_len};
 ghost use Rattle.nb_defs.specs.ScriptText.{all_words, words, is_blank as is_blank_byte, is_join as joins};
 
-use crate::line::is_blank;
 use nb_terms::NoMemory;
 use nb_wire::{Word, Words};
 use std::alloc::Global;
 
 /// The most words that a line may have.
 const MAX_WORDS: usize = 64;
+
+/// Whether a byte is a blank: a space or a tab.
+pub fn is_blank(byte: u8) -> bool
+    ensures { result ≡ is_blank_byte byte }
+{
+    byte == b' ' || byte == b'\t'
+}
 
 /// The first word of a line and what stands behind it. None where there are only blanks.
 pub fn cut_word(line: &[u8]) -> Option<(&[u8], &[u8])>
