@@ -1,6 +1,6 @@
 ghost use Rattle.std.specs.Prelude.{◌≡◌, ◌&&◌, length, nat_eq, nat_lt, codes, position};
 ghost use Rattle.std.specs.List.{list_all, starts_with};
-ghost use Rattle.nb_defs.specs.ScriptText.{is_line_feed, is_blank as is_blank_byte, without_cr as less_cr, ends_in_backslash as has_backslash, is_first_line as is_first, begins_script as begins, pieces, has_expansion as expands, is_label as labels, is_plain_line as is_plain};
+ghost use Rattle.nb_defs.specs.ScriptText.{is_line_feed, is_blank, without_cr, ends_in_backslash, is_first_line, begins_script, pieces, has_expansion, is_label, is_plain_line};
 
 use crate::word::{cut_word, has_plain_words, is_blank};
 
@@ -13,21 +13,21 @@ pub fn line_feed(text: &[u8]) -> Option<usize>
 
 /// A line less one carriage return at its end, where one stands there.
 pub fn without_cr(line: &[u8]) -> &[u8]
-    ensures { result.now ≡ less_cr line.now }
+    ensures { result.now ≡ without_cr line.now }
 {
     line.strip_suffix(b"\r").unwrap_or(line)
 }
 
 /// Whether a backslash stands at a line's end.
 pub fn ends_in_backslash(line: &[u8]) -> bool
-    ensures { result ≡ has_backslash line.now }
+    ensures { result ≡ ends_in_backslash line.now }
 {
     line.ends_with(b"\\")
 }
 
 /// Whether a text's first line is `#!ipxe`, with blanks and then at most one carriage return behind it.
 pub fn begins_script(text: &[u8]) -> bool
-    ensures { result ≡ begins (pieces is_line_feed text.now) }
+    ensures { result ≡ begins_script (pieces is_line_feed text.now) }
 {
     match line_feed(text) {
         Some(end) => is_first_line(&text[..end]),
@@ -36,7 +36,7 @@ pub fn begins_script(text: &[u8]) -> bool
 }
 
 fn is_first_line(line: &[u8]) -> bool
-    ensures { result ≡ is_first line.now }
+    ensures { result ≡ is_first_line line.now }
 {
     match line.strip_prefix(b"#!ipxe") {
         Some(behind) => are_blank(without_cr(behind)),
@@ -45,14 +45,14 @@ fn is_first_line(line: &[u8]) -> bool
 }
 
 fn are_blank(line: &[u8]) -> bool
-    ensures { result ≡ list_all is_blank_byte line.now }
+    ensures { result ≡ list_all is_blank line.now }
 {
     line.iter().all(|b| is_blank(*b))
 }
 
 /// Whether a line has a `${`.
 fn has_expansion(line: &[u8]) -> bool
-    ensures { result ≡ expands line.now }
+    ensures { result ≡ has_expansion line.now }
 {
     for i in 0..line.len() {
         if line[i..].starts_with(b"${") {
@@ -71,7 +71,7 @@ fn is_label_name(word: &[u8]) -> bool
 
 /// Whether a line is a label: a colon and a name, alone.
 fn is_label(line: &[u8]) -> bool
-    ensures { result ≡ labels line.now }
+    ensures { result ≡ is_label line.now }
 {
     match cut_word(line) {
         Some((word, rest)) => is_label_name(word) && cut_word(rest).is_none(),
@@ -81,7 +81,7 @@ fn is_label(line: &[u8]) -> bool
 
 /// Whether a line runs today: one command or nothing, its comment aside.
 pub fn is_plain_line(line: &[u8]) -> bool
-    ensures { result ≡ is_plain line.now }
+    ensures { result ≡ is_plain_line line.now }
 {
     !has_expansion(line) && !is_label(line) && has_plain_words(line)
 }

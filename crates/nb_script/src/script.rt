@@ -1,7 +1,7 @@
 ghost use Rattle.std.specs.Prelude.{◌≡◌, ◌≤◌, ◌-◌, length, drop, map, nat_le, sum_by, true, false, slice_get, IfOk, OnOk, IfSome, IsErrOf};
 ghost use Rattle.std.specs.List.{list_all};
 ghost use Rattle.std.specs.Option.{option_copied};
-ghost use Rattle.nb_defs.specs.ScriptText.{is_plain, lines, words, is_plain_line as runs};
+ghost use Rattle.nb_defs.specs.ScriptText.{is_plain, lines, words, is_plain_line};
 ghost use Rattle.nb_script.specs.Cut.{HasLines, IsWithin, spanned};
 
 use crate::ScriptError;
@@ -107,7 +107,7 @@ fn behind_first(spans: &[Span]) -> &[Span]
 /// Whether each of these lines runs.
 fn are_plain(text: &[u8], spans: &[Span]) -> bool
     requires { IsWithin text.now spans.now }
-    ensures { result ≡ list_all runs (map (spanned text.now) spans.now) }
+    ensures { result ≡ list_all is_plain_line (map (spanned text.now) spans.now) }
 {
     for span in spans {
         if !is_plain_line(&text[span.from..span.to]) {

@@ -1,6 +1,6 @@
-ghost use Rattle.std.specs.Prelude.{◌≡◌, ◌+◌, ◌≤◌, ◌<◌, ◌∷◌, [], length, IfSome, IsNone, IfOk, sum_by, position, not, ◌&&◌, nat_le};
+ghost use Rattle.std.specs.Prelude.{◌≡◌, ◌+◌, ◌≤◌, ◌<◌, ◌∷◌, [], length, IfSome, IfOk, sum_by, position, not, ◌&&◌, nat_le};
 ghost use Rattle.std.specs.List.{list_any, position_or_len};
-ghost use Rattle.nb_defs.specs.ScriptText.{all_words, words, is_blank as is_blank_byte, is_join as joins};
+ghost use Rattle.nb_defs.specs.ScriptText.{all_words, words, is_blank, is_join};
 
 use nb_terms::NoMemory;
 use nb_wire::{Word, Words};
@@ -11,7 +11,7 @@ const MAX_WORDS: usize = 64;
 
 /// Whether a byte is a blank: a space or a tab.
 pub fn is_blank(byte: u8) -> bool
-    ensures { result ≡ is_blank_byte byte }
+    ensures { result ≡ is_blank byte }
 {
     byte == b' ' || byte == b'\t'
 }
@@ -26,30 +26,30 @@ pub fn cut_word(line: &[u8]) -> Option<(&[u8], &[u8])>
 {
     let start = first_byte(line)?;
     let line = &line[start..];
-    let (word, rest) = line.split_at(first_blank(line));
+    let (word, rest) = line.split_at(word_len(line));
     Some((word, rest))
 }
 
 /// Where the first byte stands that is no blank.
 fn first_byte(line: &[u8]) -> Option<usize>
-    ensures { result ≡ position (λ b. not (is_blank_byte b)) line.now }
+    ensures { result ≡ position (λ b. not (is_blank b)) line.now }
 {
     line.iter().position(|b| !is_blank(*b))
 }
 
 /// Where the first blank stands.
-fn blank(line: &[u8]) -> Option<usize>
-    ensures { result ≡ position is_blank_byte line.now }
+fn first_blank(line: &[u8]) -> Option<usize>
+    ensures { result ≡ position is_blank line.now }
 {
     line.iter().position(|b| is_blank(*b))
 }
 
-/// Where the first blank stands, or the line's length.
-fn first_blank(line: &[u8]) -> usize
-    ensures value { result ≡ position_or_len is_blank_byte line.now }
+/// How many bytes stand before the first blank.
+fn word_len(line: &[u8]) -> usize
+    ensures value { result ≡ position_or_len is_blank line.now }
     ensures bound { result ≤ length line.now }
 {
-    blank(line).unwrap_or(line.len())
+    first_blank(line).unwrap_or(line.len())
 }
 
 /// The next word that isn't in a comment, and what stands behind it.
@@ -69,14 +69,14 @@ fn next_word(line: &[u8]) -> Option<(&[u8], &[u8])>
 
 /// Whether a word joins two commands.
 fn is_join(word: &[u8]) -> bool
-    ensures { result ≡ joins word.now }
+    ensures { result ≡ is_join word.now }
 {
     word == b"&&".as_slice() || word == b"||".as_slice() || word == b";".as_slice()
 }
 
 /// Whether a line has at most 64 words and none that joins commands.
 pub fn has_plain_words(line: &[u8]) -> bool
-    ensures { result ≡ (nat_le (length (words line.now)) 64 && not (list_any joins (words line.now))) }
+    ensures { result ≡ (nat_le (length (words line.now)) 64 && not (list_any is_join (words line.now))) }
 {
     let mut count = 0;
     let mut rest = line;

@@ -8,8 +8,8 @@ returns-in_err-start-clause-none c = λ _. all_words_none c.args.line.now (sym c
 
 pub returns-clause-some : goal.returns-clause-some
 returns-clause-some c =
-    (cut_at c.args.line.now _ c.in_ok-start.start c.first_blank.result _ _ (sym c.in_ok-start.ensures) (take_rest c.args.line.now c.in_ok-start.start) c.first_blank.ensures.value c.split_at.ensures.front c.split_at.ensures.back).1
+    (cut_at c.args.line.now _ c.in_ok-start.start c.word_len.result _ _ (sym c.in_ok-start.ensures) (take_rest c.args.line.now c.in_ok-start.start) c.word_len.ensures.value c.split_at.ensures.front c.split_at.ensures.back).1
 
 pub returns-clause-some_byte : goal.returns-clause-some_byte
 returns-clause-some_byte c =
-    (cut_at c.args.line.now _ c.in_ok-start.start c.first_blank.result _ _ (sym c.in_ok-start.ensures) (take_rest c.args.line.now c.in_ok-start.start) c.first_blank.ensures.value c.split_at.ensures.front c.split_at.ensures.back).0
+    (cut_at c.args.line.now _ c.in_ok-start.start c.word_len.result _ _ (sym c.in_ok-start.ensures) (take_rest c.args.line.now c.in_ok-start.start) c.word_len.ensures.value c.split_at.ensures.front c.split_at.ensures.back).0
