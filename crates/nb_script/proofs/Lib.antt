@@ -1,0 +1,5 @@
+pub mod PiecesLemmas
+pub mod LinesLemmas
+pub mod WordsLemmas
+pub mod CutLemmas
+pub mod ScriptLemmas

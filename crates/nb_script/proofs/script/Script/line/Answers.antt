@@ -1,0 +1,13 @@
+use Rattle.std.proofs.Common.{arith}
+use Rattle.nb_script.proofs.ScriptLemmas.{line_short, line_few}
+use Rattle.nb_script.proofs.script.Script.line.Goals as goal
+
+pub returns-clause-fits : goal.returns-clause-fits
+returns-clause-fits c =
+    let inside = c.self.inside in
+    rw (← c.index-span.ensures, ← c.as_slice.ensures) at (line_short inside.text inside.spans.items c.args.i c.index-span.result.now c.self.invariant.0 c.self.invariant.1 (omega (arith, inside.spans.ok.0)))
+
+pub returns-clause-few : goal.returns-clause-few
+returns-clause-few c = λ behind.
+    let inside = c.self.inside in
+    rw (← c.index-span.ensures, ← c.as_slice.ensures) at (line_few inside.text inside.spans.items c.args.i c.index-span.result.now c.self.invariant.0 c.self.invariant.1 (omega (arith, inside.spans.ok.0)) behind)

@@ -1,0 +1,106 @@
+ghost use Rattle.std.specs.Prelude.{◌≡◌, ◌+◌, ◌≤◌, ◌<◌, ◌∷◌, [], length, IfSome, IfOk, sum_by, position, not, ◌&&◌, nat_le};
+ghost use Rattle.std.specs.List.{list_any, position_or_len};
+ghost use Rattle.nb_defs.specs.ScriptText.{all_words, words, is_blank, is_join};
+
+use nb_terms::NoMemory;
+use nb_wire::{Word, Words};
+use std::alloc::Global;
+
+/// The most words that a line may have.
+const MAX_WORDS: usize = 64;
+
+/// Whether a byte is a blank: a space or a tab.
+pub fn is_blank(byte: u8) -> bool
+    ensures { result ≡ is_blank byte }
+{
+    byte == b' ' || byte == b'\t'
+}
+
+/// The first word of a line and what stands behind it. None where there are only blanks.
+pub fn cut_word(line: &[u8]) -> Option<(&[u8], &[u8])>
+    ensures none { result ≡ None → all_words line.now ≡ [] }
+    ensures some { IfSome result (λ cut. all_words line.now ≡ cut.0.now ∷ all_words cut.1.now) }
+    ensures sizes { IfSome result
+        (λ cut. length cut.0.now + length cut.1.now ≤ length line.now) }
+    ensures some_byte { IfSome result (λ cut. 0 < length cut.0.now) }
+{
+    let start = first_byte(line)?;
+    let line = &line[start..];
+    let (word, rest) = line.split_at(word_len(line));
+    Some((word, rest))
+}
+
+/// Where the first byte stands that is no blank.
+fn first_byte(line: &[u8]) -> Option<usize>
+    ensures { result ≡ position (λ b. not (is_blank b)) line.now }
+{
+    line.iter().position(|b| !is_blank(*b))
+}
+
+/// Where the first blank stands.
+fn first_blank(line: &[u8]) -> Option<usize>
+    ensures { result ≡ position is_blank line.now }
+{
+    line.iter().position(|b| is_blank(*b))
+}
+
+/// How many bytes stand before the first blank.
+fn word_len(line: &[u8]) -> usize
+    ensures value { result ≡ position_or_len is_blank line.now }
+    ensures bound { result ≤ length line.now }
+{
+    first_blank(line).unwrap_or(line.len())
+}
+
+/// The next word that isn't in a comment, and what stands behind it.
+fn next_word(line: &[u8]) -> Option<(&[u8], &[u8])>
+    ensures none { result ≡ None → words line.now ≡ [] }
+    ensures some { IfSome result (λ cut. words line.now ≡ cut.0.now ∷ words cut.1.now) }
+    ensures sizes { IfSome result
+        (λ cut. length cut.0.now + length cut.1.now ≤ length line.now) }
+    ensures some_byte { IfSome result (λ cut. 0 < length cut.0.now) }
+{
+    let (word, rest) = cut_word(line)?;
+    if word.starts_with(b"#") {
+        return None;
+    }
+    Some((word, rest))
+}
+
+/// Whether a word joins two commands.
+fn is_join(word: &[u8]) -> bool
+    ensures { result ≡ is_join word.now }
+{
+    word == b"&&".as_slice() || word == b"||".as_slice() || word == b";".as_slice()
+}
+
+/// Whether a line has at most 64 words and none that joins commands.
+pub fn has_plain_words(line: &[u8]) -> bool
+    ensures { result ≡ (nat_le (length (words line.now)) 64 && not (list_any is_join (words line.now))) }
+{
+    let mut count = 0;
+    let mut rest = line;
+    while let Some((word, behind)) = next_word(rest) {
+        if count == MAX_WORDS || is_join(word) {
+            return false;
+        }
+        count += 1;
+        rest = behind;
+    }
+    true
+}
+
+/// The words of a line, its comment dropped, each copied into a memory of its own.
+pub fn words_of(alloc: Global, line: &[u8]) -> Result<Words, NoMemory>
+    requires { length line.now ≤ 4096 }
+    ensures value { IfOk result (λ list. list ≡ words line.now) }
+    ensures total { IfOk result (λ list. sum_by length list ≤ length line.now) }
+{
+    let mut list = Vec::new(alloc);
+    let mut rest = line;
+    while let Some((word, behind)) = next_word(rest) {
+        list.push(Word::from_vec(Vec::from_slice(alloc, word)?))?;
+        rest = behind;
+    }
+    Ok(Words::from_vec(list))
+}
