@@ -40,11 +40,11 @@ def writing(path: Path) -> Iterator[BinaryIO]:
         unfinished.unlink(missing_ok=True)
 
 
-def run(command: Callable[[list[str]], None]) -> int:
-    """Runs a command on the program's arguments and answers its exit status."""
-    name = Path(sys.argv[0]).name
+def run(command: Callable[[list[str]], None], words: list[str]) -> int:
+    """Runs a command on its words, the program's name first, and answers its exit status."""
+    name = Path(words[0]).name
     try:
-        command(sys.argv[1:])
+        command(words[1:])
         sys.stdout.flush()
     except (Refused, OSError) as refusal:
         if isinstance(refusal, BrokenPipeError):

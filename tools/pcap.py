@@ -4,6 +4,7 @@
 from __future__ import annotations
 
 import argparse
+import sys
 from dataclasses import dataclass, field
 from pathlib import Path
 from typing import Iterable, Iterator
@@ -106,4 +107,4 @@ def pcap(words: list[str]) -> None:
 
 
 if __name__ == "__main__":
-    raise SystemExit(run(pcap))
+    raise SystemExit(run(pcap, sys.argv))

@@ -5,6 +5,7 @@ from __future__ import annotations
 
 import argparse
 import re
+import sys
 from ipaddress import IPv4Address
 from pathlib import Path
 from typing import BinaryIO, Callable, Iterator
@@ -175,4 +176,4 @@ def record(words: list[str]) -> None:
 
 
 if __name__ == "__main__":
-    raise SystemExit(run(record))
+    raise SystemExit(run(record, sys.argv))

@@ -338,8 +338,20 @@ class Done(Record):
 
 INPUT_RECORDS: tuple[type[Record], ...] = (Start, Received, Tick, Off)
 OUTPUT_RECORDS: tuple[type[Record], ...] = (
-    Step, Sent, Text, Command, Result, Script, Open, Try, Advance, Ended, Graph, Part, Done,
-)  # fmt: skip
+    Step,
+    Sent,
+    Text,
+    Command,
+    Result,
+    Script,
+    Open,
+    Try,
+    Advance,
+    Ended,
+    Graph,
+    Part,
+    Done,
+)
 KINDS: dict[Direction, dict[int, type[Record]]] = {
     Direction.INPUT: {kind.TYPE: kind for kind in INPUT_RECORDS},
     Direction.OUTPUT: {kind.TYPE: kind for kind in OUTPUT_RECORDS},

@@ -4,6 +4,7 @@
 from __future__ import annotations
 
 import argparse
+import sys
 from pathlib import Path
 from typing import Iterable, Iterator
 
@@ -208,4 +209,4 @@ def show(words: list[str]) -> None:
 
 
 if __name__ == "__main__":
-    raise SystemExit(run(show))
+    raise SystemExit(run(show, sys.argv))
