@@ -24,8 +24,10 @@ from records import (
     Sent,
     Start,
     Step,
+    Text,
     Try,
 )
+from texts import printable
 from why import reasons
 
 FIRST_OWN_PORT = 49_152
@@ -40,7 +42,8 @@ examples:
   show.py hello.rec                        the records that a run was given
   show.py hello.out                        what it did
   show.py hello.out --input hello.rec      the same, with the time and the record of each step
-  show.py boot.out --type TEXT             what its commands printed
+  show.py hello.out --text                 what its commands printed
+  show.py boot.out --type TRY --type ENDED only records of these types
   show.py boot.out --open 0                what belongs to its first open
   show.py boot.out --input boot.rec --why  why commands failed
   show.py boot.out --parts parts           writes kernel, initrds and command line into parts/"""
@@ -155,6 +158,12 @@ def parse(words: list[str]) -> argparse.Namespace:
         metavar="IN",
         help="the input recording that this output recording answers",
     )
+    add_filters(parser)
+    add_reports(parser)
+    return parser.parse_args(words)
+
+
+def add_filters(parser: argparse.ArgumentParser) -> None:
     parser.add_argument(
         "--type",
         type=type_name,
@@ -169,24 +178,42 @@ def parse(words: list[str]) -> argparse.Namespace:
         metavar="N",
         help="only records of open N, counted from 0, and its frames",
     )
-    parser.add_argument(
+
+
+def add_reports(parser: argparse.ArgumentParser) -> None:
+    """What can be asked for in place of the records; one at a time."""
+    reports = parser.add_mutually_exclusive_group()
+    reports.add_argument(
+        "--text", action="store_true", help="what the commands printed, and nothing else"
+    )
+    reports.add_argument(
         "--why",
         action="store_true",
         help="for each failed RESULT the records that show its cause",
     )
-    parser.add_argument(
+    reports.add_argument(
         "--parts",
         type=Path,
         metavar="DIR",
         help="write the parts of the hand-off into this new folder, print lengths and SHA-256",
     )
-    return parser.parse_args(words)
 
 
 def refuse_for_input(arguments: argparse.Namespace) -> None:
-    for name in ("why", "parts", "input"):
+    for name in ("text", "why", "parts", "input"):
         if getattr(arguments, name):
             raise Refused(f"--{name} needs an output recording, and this is an input recording")
+
+
+def printed_texts(records: Iterable[Record]) -> Iterator[str]:
+    """What a run's commands printed, line by line, however its TEXT records cut it."""
+    line = b""
+    for record in records:
+        if isinstance(record, Text):
+            *lines, line = (line + record.text).split(b"\n")
+            yield from map(printable, lines)
+    if line:
+        yield printable(line)
 
 
 def report(arguments: argparse.Namespace) -> Iterable[str]:
@@ -195,6 +222,8 @@ def report(arguments: argparse.Namespace) -> Iterable[str]:
         refuse_for_input(arguments)
         return input_lines(input_of(arguments.recording), arguments)
     records = output_of(arguments.recording)
+    if arguments.text:
+        return printed_texts(records)
     if arguments.parts:
         return write_parts(records, arguments.parts)
     if arguments.why:

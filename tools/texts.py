@@ -17,6 +17,11 @@ def _character(byte: int) -> str:
     return chr(byte) if 0x20 <= byte < 0x7F else f"\\x{byte:02x}"
 
 
+def printable(line: bytes) -> str:
+    """A printed line: printable ASCII and tabs as they are, all else as \\xNN."""
+    return "".join(chr(b) if b == 0x09 or 0x20 <= b < 0x7F else f"\\x{b:02x}" for b in line)
+
+
 def word(data: bytes) -> str:
     """A word as it is where nothing in it needs quotation marks."""
     if data and all(byte in PLAIN for byte in data):

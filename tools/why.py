@@ -203,11 +203,11 @@ class Inputs:
             raise Refused(f"the input recording has no record {step}: it is another run's")
         return f"step {step} at {self.times[step]} ms"
 
-    def script_line(self, command: Command) -> str | None:
-        """The line of the first script in which a command stands."""
-        if command.depth != 1 or not 1 <= command.line <= len(self.script_lines):
-            return None
-        return f"  script line {command.line}: {word(self.script_lines[command.line - 1])}"
+    def script_line(self, depth: int, line: int) -> list[str]:
+        """A line of the first script, where the script of that depth is known."""
+        if depth != 1 or not 1 <= line <= len(self.script_lines):
+            return []
+        return [f"  script line {line}: {word(self.script_lines[line - 1])}"]
 
 
 def reasons(records: Iterable[Record], input_path: Path | None) -> Iterator[str]:
@@ -243,8 +243,10 @@ def _explain(failure: Failure, inputs: Inputs, lines: Lines) -> Iterator[str]:
     for evidence in failure.evidence():
         behind = f", {lines.of(evidence.frame)}" if evidence.frame else ""
         yield f"  {inputs.at(evidence.step)}: {lines.of(evidence.record)}{behind}"
-        if isinstance(evidence.record, Command) and (line := inputs.script_line(evidence.record)):
-            yield line
+        if isinstance(evidence.record, Command):
+            yield from inputs.script_line(evidence.record.depth, evidence.record.line)
+    if failure.story is None:
+        yield from inputs.script_line(1, 1)
     if failure.cause.code in BY_MESSAGE:
         yield _message(failure.cause.a, inputs)
     if failure.cause.code is Code.NO_ROUTE and inputs.is_given:

@@ -243,7 +243,7 @@ class Document(unittest.TestCase):
     def test_worked_records(self) -> None:
         document = Path(__file__).parents[2] / "docs" / "RECORDS.md"
         rows = re.findall(r"^\| `([0-9a-f ]+)` \| `(.+)` \|$", document.read_text(), re.M)
-        self.assertEqual(len(rows), 28)
+        self.assertGreaterEqual(len(rows), 28)
         for digits, line in rows:
             data = bytes.fromhex(digits)
             direction = Direction.OUTPUT if data[4] & 0x80 else Direction.INPUT

@@ -70,6 +70,8 @@ class LocalCommands(unittest.TestCase):
         lines = why(outputs)
         self.assertEqual(lines[0], "SCRIPT leave, depth 1, NotScript in step 1")
         self.assertEqual(len(lines), 2)
+        lines = why(outputs, [made.start(b"echo hello\n")])
+        self.assertEqual(lines[2:], ['  script line 1: "echo hello"'])
 
     def test_a_list_that_goes_on_after_a_failure(self) -> None:
         cause = Cause(Code.FALSE)
