@@ -33,13 +33,15 @@ class Recording(Case):
         )
 
     def capture(self) -> list[tuple[int, bytes]]:
-        """Microseconds and frames: three that the client receives, and others."""
+        """Microseconds and frames: four that the client receives, one of them stamped earlier
+        than the one before it, and others."""
         ours = padded(made.found().frame)
         asked = arp_request(OTHER, made.CLIENT.ip)
         data = udp_frame(made.SERVER, made.CLIENT, (40_000, 49_152), b"\0\x03\0\x01abc")
         foreign = udp_frame(made.SERVER, OTHER, (1, 2), b"")
         sent = arp_request(made.CLIENT, made.SERVER.ip)
-        return [(0, sent), (1_999, ours), (600_000, foreign), (602_000, data), (601_000, asked)]
+        early = [(0, sent), (1_999, ours), (600_000, foreign)]
+        return early + [(602_000, data), (601_000, asked), (603_000, ours)]
 
     def expected(self) -> list[Record]:
         frames = dict(self.capture())
@@ -51,6 +53,8 @@ class Recording(Case):
             Tick(101),
             Received(frames[602_000]),
             Received(frames[601_000]),
+            Tick(1),
+            Received(frames[603_000]),
         ]
 
     def check_capture(self, data: bytes, words: str = "") -> list[Record]:
@@ -64,7 +68,7 @@ class Recording(Case):
         self.assertEqual(self.check_capture(data), self.expected())
         ticks = [record for record in self.check_capture(data, "--tick 60000")
                  if isinstance(record, Tick)]
-        self.assertEqual(ticks, [Tick(1), Tick(601)])
+        self.assertEqual(ticks, [Tick(1), Tick(601), Tick(1)])
 
     def test_frames_and_ticks_of_a_pcapng(self) -> None:
         data = section(">") + interface(">", option(">", 9, b"\x09"))
