@@ -1,0 +1,241 @@
+#!/usr/bin/env python3
+"""Prints a recording of netboot as text, one record a line."""
+
+from __future__ import annotations
+
+import argparse
+import sys
+from pathlib import Path
+from typing import Iterable, Iterator
+
+from command_line import Refused, run
+from describe import Lines
+from frames import ends_of, packet_of
+from parts import write_parts
+from recordings import Timed, direction_of, input_of, output_of
+from records import (
+    KINDS,
+    Advance,
+    Direction,
+    Ended,
+    Open,
+    Received,
+    Record,
+    Sent,
+    Start,
+    Step,
+    Text,
+    Try,
+)
+from texts import printable
+from why import reasons
+
+FIRST_OWN_PORT = 49_152
+OWN_PORTS = 16_384
+
+DESCRIPTION = """\
+Prints a recording of netboot as text, one record a line. Which of the two kinds it is shows
+from its first record. docs/RECORDS.md describes the format."""
+
+EPILOG = """\
+examples:
+  show.py hello.rec                        the records that a run was given
+  show.py hello.out                        what it did
+  show.py hello.out --input hello.rec      the same, with the time and the record of each step
+  show.py hello.out --text                 what its commands printed
+  show.py boot.out --type TRY --type ENDED only records of these types
+  show.py boot.out --open 0                what belongs to its first open
+  show.py boot.out --input boot.rec --why  why commands failed
+  show.py boot.out --parts parts           writes kernel, initrds and command line into parts/"""
+
+
+class OfOpen:
+    """Tells which records belong to an open: its own, and the frames between its ends.
+
+    In an output recording the ends are those of its OPEN record. An input recording shows only
+    its own port, which the START record and the open's number give.
+    """
+
+    def __init__(self, number: int) -> None:
+        self.number = number
+        self.own: int | None = None
+        self.opened: Open | None = None
+        self.is_tried = False
+
+    def has(self, record: Record) -> bool:
+        was_tried, self.is_tried = self.is_tried, False
+        if isinstance(record, Start):
+            self.own = FIRST_OWN_PORT + (record.w + self.number) % OWN_PORTS
+        if isinstance(record, (Open, Try, Advance, Ended)):
+            return self._has_own(record)
+        if isinstance(record, Sent):
+            return was_tried or self._has_frame(record.frame)
+        return isinstance(record, Received) and self._has_frame(record.frame)
+
+    def _has_own(self, record: Open | Try | Advance | Ended) -> bool:
+        is_own = record.number == self.number
+        if is_own and isinstance(record, Open):
+            self.opened = record
+            self.own = record.own
+        self.is_tried = is_own and isinstance(record, Try)
+        return is_own
+
+    def _has_frame(self, frame: bytes) -> bool:
+        packet = packet_of(frame)
+        if packet is None or self.own is None:
+            return False
+        ends = ends_of(packet)
+        if self.opened is None:
+            return ends.target_port == self.own
+        return ends.source_port == self.own and ends.target == self.opened.server
+
+
+def input_lines(records: Iterable[Timed], arguments: argparse.Namespace) -> Iterator[str]:
+    """A line for each chosen record, with its number and time."""
+    lines = Lines()
+    of_open = None if arguments.open is None else OfOpen(arguments.open)
+    for timed in records:
+        is_chosen = of_open is None or of_open.has(timed.record)
+        text = lines.of(timed.record)
+        if is_chosen and is_of_type(timed.record, arguments.type):
+            yield f"{timed.number:>6} {timed.time:>9} ms  {text}"
+
+
+def output_lines(
+    records: Iterable[Record], inputs: Iterator[Timed] | None, arguments: argparse.Namespace
+) -> Iterator[str]:
+    """A line for each chosen record, indented under its step."""
+    lines = Lines()
+    of_open = None if arguments.open is None else OfOpen(arguments.open)
+    waiting_step = None
+    for record in records:
+        is_chosen = of_open is None or of_open.has(record)
+        if isinstance(record, Step):
+            text = step_line(record, inputs, lines)
+            waiting_step = text if of_open else None
+        else:
+            text = f"  {lines.of(record)}"
+        if not is_chosen or not is_of_type(record, arguments.type):
+            continue
+        if waiting_step and not arguments.type:
+            yield waiting_step
+            waiting_step = None
+        yield text
+
+
+def step_line(step: Step, inputs: Iterator[Timed] | None, lines: Lines) -> str:
+    """A step's line, with the time and the record that it answers where these are known."""
+    if inputs is None:
+        return lines.of(step)
+    timed = next(inputs, None)
+    if timed is None:
+        raise Refused(f"the input recording has no record {step.number}: it is another run's")
+    return f"{lines.of(step)} at {timed.time} ms, on {lines.of(timed.record)}"
+
+
+def is_of_type(record: Record, names: list[str]) -> bool:
+    return not names or record.NAME in names
+
+
+def type_name(text: str) -> str:
+    """A record type's name as it is written in the format."""
+    names = {kind.NAME for kinds in KINDS.values() for kind in kinds.values()}
+    if text.upper() not in names:
+        raise argparse.ArgumentTypeError(f"{text} is none of {', '.join(sorted(names))}")
+    return text.upper()
+
+
+def parse(words: list[str]) -> argparse.Namespace:
+    parser = argparse.ArgumentParser(
+        description=DESCRIPTION,
+        epilog=EPILOG,
+        formatter_class=argparse.RawDescriptionHelpFormatter,
+    )
+    parser.add_argument("recording", type=Path, help="an input or an output recording")
+    parser.add_argument(
+        "--input",
+        type=Path,
+        metavar="IN",
+        help="the input recording that this output recording answers",
+    )
+    add_filters(parser)
+    add_reports(parser)
+    return parser.parse_args(words)
+
+
+def add_filters(parser: argparse.ArgumentParser) -> None:
+    parser.add_argument(
+        "--type",
+        type=type_name,
+        action="append",
+        default=[],
+        metavar="NAME",
+        help="only records of this type, as STEP or TEXT; may be given several times",
+    )
+    parser.add_argument(
+        "--open",
+        type=int,
+        metavar="N",
+        help="only records of open N, counted from 0, and its frames",
+    )
+
+
+def add_reports(parser: argparse.ArgumentParser) -> None:
+    """What can be asked for in place of the records; one at a time."""
+    reports = parser.add_mutually_exclusive_group()
+    reports.add_argument(
+        "--text", action="store_true", help="what the commands printed, and nothing else"
+    )
+    reports.add_argument(
+        "--why",
+        action="store_true",
+        help="for each failed RESULT the records that show its cause",
+    )
+    reports.add_argument(
+        "--parts",
+        type=Path,
+        metavar="DIR",
+        help="write the parts of the hand-off into this new folder, print lengths and SHA-256",
+    )
+
+
+def refuse_for_input(arguments: argparse.Namespace) -> None:
+    for name in ("text", "why", "parts", "input"):
+        if getattr(arguments, name):
+            raise Refused(f"--{name} needs an output recording, and this is an input recording")
+
+
+def printed_texts(records: Iterable[Record]) -> Iterator[str]:
+    """What a run's commands printed, line by line, however its TEXT records cut it."""
+    line = b""
+    for record in records:
+        if isinstance(record, Text):
+            *lines, line = (line + record.text).split(b"\n")
+            yield from map(printable, lines)
+    if line:
+        yield printable(line)
+
+
+def report(arguments: argparse.Namespace) -> Iterable[str]:
+    """The lines that were asked for."""
+    if direction_of(arguments.recording) is Direction.INPUT:
+        refuse_for_input(arguments)
+        return input_lines(input_of(arguments.recording), arguments)
+    records = output_of(arguments.recording)
+    if arguments.text:
+        return printed_texts(records)
+    if arguments.parts:
+        return write_parts(records, arguments.parts)
+    if arguments.why:
+        return reasons(records, arguments.input)
+    inputs = input_of(arguments.input) if arguments.input else None
+    return output_lines(records, inputs, arguments)
+
+
+def show(words: list[str]) -> None:
+    for line in report(parse(words)):
+        print(line)
+
+
+if __name__ == "__main__":
+    raise SystemExit(run(show, sys.argv))
