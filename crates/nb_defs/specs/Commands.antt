@@ -1,5 +1,5 @@
 -- What the commands do, as a function of their words.
-use Rattle.std.specs.Prelude.{ℕ, ◌+◌, ◌*◌, Bool, true, false, ◌&&◌, ◌||◌, ◌==◌, nat_lt, nat_le, nat_eq, List, [], ◌∷◌, ◌++◌, length, drop, fold, Option, Some, None, if◌then◌else◌, codes}
+use Rattle.std.specs.Prelude.{ℕ, ◌+◌, ◌*◌, Bool, true, false, not, ◌&&◌, ◌||◌, ◌==◌, nat_lt, nat_le, nat_eq, List, [], ◌∷◌, ◌++◌, length, drop, fold, Option, Some, None, if◌then◌else◌, codes}
 use Rattle.std.specs.List.{list_all, starts_with, join_with_byte}
 use Rattle.std.specs.Char.{digit_value, is_digit}
 use Rattle.std.specs.Str.{bytes_eq}
@@ -27,11 +27,7 @@ are_digits base digits = nat_lt 0 (length digits) && list_all (λ d. is_digit d 
 
 -- no zero before other digits
 abbrev pub has_no_leading_zero : List ℕ → Bool
-has_no_leading_zero word = (length word == 1) || starts_with_no_zero word
-  where
-    starts_with_no_zero : List ℕ → Bool
-    starts_with_no_zero [] = false
-    starts_with_no_zero (d ∷ ds) = nat_lt 48 d
+has_no_leading_zero word = not (starts_with nat_eq word (codes "0")) || (length word == 1)
 
 -- a number: decimal digits without leading zeros, or `0x` and hexadecimal digits of either case
 unfoldable pub number_of : List ℕ → Option ℕ

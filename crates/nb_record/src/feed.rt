@@ -71,13 +71,15 @@ impl Feed {
         })
     }
 
-    /// Takes as many first bytes as fit, and says how many: at least one where a front of a record is held.
+    /// Takes as many first bytes as fit, and says how many: at least one where a front of
+    /// a record is held, and then all of a piece of at most 65,536 bytes.
     pub fn push(&mut self, piece: &[u8]) -> usize
         ensures within { result ≤ length piece.now }
         ensures held { self.new ≡ record { bytes = self.old.bytes ++ take result piece.now; passed = self.old.passed } }
         ensures some { IsPartial self.old.bytes → 0 < length piece.now → 0 < result }
+        ensures all { IsPartial self.old.bytes → length piece.now ≤ 65536 → result ≡ length piece.now }
     {
-        if self.bytes.len() == ROOM {
+        if ROOM - self.bytes.len() < piece.len() {
             move_to_front(&mut self.bytes, self.start);
             self.start = 0;
         }

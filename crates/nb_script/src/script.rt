@@ -1,4 +1,4 @@
-ghost use Rattle.std.specs.Prelude.{◌≡◌, ◌≤◌, ◌-◌, length, drop, map, nat_le, sum_by, true, false, slice_get, IfOk, OnOk, IfSome, IsErrOf};
+ghost use Rattle.std.specs.Prelude.{◌≡◌, ◌<◌, ◌≤◌, ◌-◌, length, drop, map, nat_le, sum_by, true, false, slice_get, IfOk, OnOk, IfSome, IsErrOf};
 ghost use Rattle.std.specs.List.{list_all};
 ghost use Rattle.std.specs.Option.{option_copied};
 ghost use Rattle.nb_defs.specs.ScriptText.{is_plain, lines, words, is_plain_line};
@@ -67,6 +67,7 @@ impl Script {
     /// Line `i`, from 0; the first is `#!ipxe`. None behind the last.
     pub fn line(&self, i: usize) -> Option<&[u8]>
         ensures value { option_copied result ≡ slice_get (lines self.now) i }
+        ensures within { IfSome result (λ _. i < 4096) }
         ensures fits { IfSome result (λ line. length line.now ≤ 4096) }
         ensures few { IfSome result (λ line. 1 ≤ i → length (words line.now) ≤ 64) }
     {

@@ -1,6 +1,11 @@
 use Rattle.std.proofs.Common.{arith}
-use Rattle.nb_script.proofs.ScriptLemmas.{line_short, line_few}
+use Rattle.nb_script.proofs.ScriptLemmas.{line_short, line_few, table_few}
 use Rattle.nb_script.proofs.script.Script.line.Goals as goal
+
+pub returns-clause-within : goal.returns-clause-within
+returns-clause-within c =
+    let inside = c.self.inside in
+    omega (arith, table_few inside.text inside.spans.items c.self.invariant.0 c.self.invariant.1, inside.spans.ok.0)
 
 pub returns-clause-fits : goal.returns-clause-fits
 returns-clause-fits c =

@@ -1,0 +1,12 @@
+pub mod Digits
+pub mod Joins
+pub mod Puts
+pub mod Moves
+pub mod Growth
+pub mod Written
+pub mod Goings
+pub mod Turned
+pub mod Closings
+pub mod BadRests
+pub mod Attached
+pub mod Completeness

@@ -1,0 +1,9 @@
+use Rattle.std.proofs.Common.{rules, ◌≡◌}
+use Rattle.nb_boot.proofs.Goings.{going_flushed, flaw_cuts}
+use Rattle.nb_boot.proofs.output.make_room.Goals as goal
+
+pub returns-in-Ok-clause-ok : goal.returns-in-Ok-clause-ok
+returns-in-Ok-clause-ok g c = λ m ins first r. rw c.in-Ok.ensures.cleared (going_flushed ins first _ _ c.args.log.now m c.args.log.now.room c.in-Ok.ensures.whole c.in-Ok.ensures.ok r)
+
+pub returns-in-Err-clause-err : goal.returns-in-Err-clause-err
+returns-in-Err-clause-err g c = λ m. flaw_cuts c.in-Err.flaw _ _ c.args.log.now m c.in-Err.ensures.err

@@ -1,0 +1,77 @@
+ghost use Rattle.std.specs.Prelude.{◌≡◌, [], false, OnOk, OnErr, IfErr};
+ghost use Rattle.nb_boot.specs.Going.{Wrote, Stopped, IsFlaw, Keeps, Cuts, flaw_status};
+
+ghost use Rattle.nb_defs.specs.Machine.{Machine};
+
+use crate::Status;
+use nb_record::{Failed, Line, Log};
+
+/// Why output couldn't be written.
+#[derive(Clone, Copy, Debug, PartialEq, Eq)]
+pub enum Flaw {
+    /// A write failed.
+    WriteFault,
+    /// Memory ran out.
+    NoMemory,
+}
+
+impl Flaw {
+    /// The status of a call that met it.
+    pub fn status(self) -> Status
+        ensures { result ≡ flaw_status self }
+    {
+        match self {
+            Flaw::WriteFault => Status::WriteFault,
+            Flaw::NoMemory => Status::NoMemory,
+        }
+    }
+}
+
+/// Writes all the bytes, in as few writes as the line allows.
+fn write_all<L: Line>(bytes: &[u8], line: &mut L) -> Result<(), Failed>
+    ensures ok { OnOk result (Wrote (L.outside line.old) (L.outside line.new) bytes.now) }
+    ensures err { OnErr result (Stopped (L.outside line.old) (L.outside line.new) bytes.now) }
+{
+    let mut at = 0;
+    while at < bytes.len() {
+        at += line.write(&bytes[at..])?;
+    }
+    Ok(())
+}
+
+/// Writes what the log gathered, and clears it.
+pub fn flush<L: Line>(log: &mut Log, line: &mut L) -> Result<(), Flaw>
+    ensures ok { OnOk result (Wrote (L.outside line.old) (L.outside line.new) log.old.bytes) }
+    ensures whole { OnOk result (log.old.is_short ≡ false) }
+    ensures cleared { OnOk result (log.new ≡ record { bytes = []; room = log.old.room; is_short = false }) }
+    ensures err { IfErr result (λ flaw. IsFlaw flaw (L.outside line.old) (L.outside line.new) log.old) }
+{
+    if log.short() {
+        return Err(Flaw::NoMemory);
+    }
+    match write_all(log.bytes(), line) {
+        Ok(()) => {
+            log.clear();
+            Ok(())
+        }
+        Err(Failed) => Err(Flaw::WriteFault),
+    }
+}
+
+/// How much of the log's room may be used before it is written out: no line of a script puts more than
+/// the rest.
+const FULL: usize = 49_152;
+
+/// Writes out what the log gathered where the next line's output may not fit behind it.
+pub fn make_room<L: Line>(log: &mut Log, line: &mut L) -> Result<(), Flaw>
+    ensures ok { OnOk result ((m : Machine) → Keeps (L.outside line.old) (L.outside line.new) log.old log.new m m) }
+    ensures err { IfErr result (λ flaw. (m : Machine) → Cuts flaw (L.outside line.old) (L.outside line.new) log.old m) }
+{
+    if log.bytes().len() <= FULL {
+        return Ok(());
+    }
+    match flush(log, line) {
+        Ok(()) => Ok(()),
+        Err(flaw) => Err(flaw),
+    }
+}
