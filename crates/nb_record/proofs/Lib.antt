@@ -1,4 +1,6 @@
+mod BeginLemmas
 pub mod LogLemmas
 pub mod OutsideLemmas
-mod ReadingLemmas
+mod PartialLemmas
 mod SpellingLemmas
+mod WholeLemmas

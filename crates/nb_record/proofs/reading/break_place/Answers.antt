@@ -1,5 +1,6 @@
 use Rattle.std.proofs.Common.{arith}
-use Rattle.nb_record.proofs.ReadingLemmas.{breaks, nothing_begins}
+use Rattle.nb_record.proofs.BeginLemmas.{nothing_begins}
+use Rattle.nb_record.proofs.PartialLemmas.{breaks}
 use Rattle.nb_record.proofs.reading.break_place.Goals as goal
 
 pub loop-place-init : goal.loop-place-init

@@ -1,6 +1,7 @@
 use Rattle.std.proofs.Common.{◌+◌, ap, arith, ℕ}
 use Rattle.nb_record.specs.Reading.{CanBegin}
-use Rattle.nb_record.proofs.ReadingLemmas.{is_partial, front_long, front_is}
+use Rattle.nb_record.proofs.PartialLemmas.{is_partial}
+use Rattle.nb_record.proofs.WholeLemmas.{front_long, front_is}
 use Rattle.nb_record.proofs.reading.front_of.Goals as goal
 
 pub returns-then-bytes-len : goal.returns-then-bytes-len
