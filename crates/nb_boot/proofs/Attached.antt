@@ -1,8 +1,8 @@
 -- A run behind an attaching, which reads and takes nothing.
-use Rattle.std.proofs.Common.{◌≡◌, [], refl}
+use Rattle.std.proofs.Common.{[]}
 use Rattle.nb_record.specs.Outside.{Outside, Passes}
 use Rattle.nb_record.proofs.OutsideLemmas.{Passes-then}
-use Rattle.nb_boot.specs.Run.{Run, Shows, Says, IsOver, IsBad, IsUnread}
+use Rattle.nb_boot.specs.Run.{Run, Shows}
 use Rattle.nb_boot.specs.declared.status.Status.{Status}
 use Rattle.nb_boot.specs.declared.status.Status.TheVariants as status
 use Rattle.nb_boot.proofs.Written.{rose_later}
@@ -22,24 +22,31 @@ run_from first mid after p r = record {
   spelled = r.spelled;
   path = r.path;
   closes = r.closes;
-  texts = r.texts
+  texts = r.texts;
 }
 
 pub attached_shows : (s : Status) (first mid after : Outside) → Passes first mid [] [] → Shows s mid after → Shows s first after
 attached_shows status.Ended first mid after p (r, o) =
-  (run_from first mid after p r, record { cause = o.cause; is_left = o.is_left; status_is = o.status_is; closed = o.closed; all = o.all })
+    (run_from first mid after p r, record { cause = o.cause; is_left = o.is_left; status_is = o.status_is; closed = o.closed; all = o.all })
 attached_shows status.ScriptFailed first mid after p (r, o) =
-  (run_from first mid after p r, record { cause = o.cause; is_left = o.is_left; status_is = o.status_is; closed = o.closed; all = o.all })
+    (run_from first mid after p r, record { cause = o.cause; is_left = o.is_left; status_is = o.status_is; closed = o.closed; all = o.all })
 attached_shows status.BadRecord first mid after p (r, o) =
-  (run_from first mid after p r, record { is_ready = o.is_ready; bad = o.bad; closed = o.closed; all = o.all })
-attached_shows status.ReadFault first mid after p (r, o) =
-  (run_from first mid after p r, record { is_ready = o.is_ready; partial = o.partial; closed = o.closed; all = o.all;
-    rose = rose_later first.read_faults mid.read_faults after.read_faults p.counts.read_count o.rose })
+    (run_from first mid after p r, record { is_ready = o.is_ready; bad = o.bad; closed = o.closed; all = o.all })
+attached_shows status.ReadFault first mid after p (r, o) = (
+  run_from first mid after p r,
+  record {
+    is_ready = o.is_ready;
+    partial = o.partial;
+    closed = o.closed;
+    all = o.all;
+    rose = rose_later first.read_faults mid.read_faults after.read_faults p.counts.read_count o.rose;
+  },
+)
 attached_shows status.WriteFault first mid after p (r, o) =
-  (run_from first mid after p r, rose_later first.write_faults mid.write_faults after.write_faults p.counts.write_count o)
+    (run_from first mid after p r, rose_later first.write_faults mid.write_faults after.write_faults p.counts.write_count o)
 attached_shows status.NoMemory first mid after p (r, o) = (run_from first mid after p r, tt)
 attached_shows status.AttachFault first mid after p (r, o) =
-  (run_from first mid after p r, (o.0, o.1, rose_later first.attach_faults mid.attach_faults after.attach_faults p.counts.attach_count o.2))
+    (run_from first mid after p r, (o.0, o.1, rose_later first.attach_faults mid.attach_faults after.attach_faults p.counts.attach_count o.2))
 attached_shows status.HandedOff first mid after p (r, o) = absurd o
 attached_shows status.BadWords first mid after p (r, o) = absurd o
 attached_shows status.Unfinished first mid after p (r, o) = absurd o

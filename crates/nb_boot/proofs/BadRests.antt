@@ -1,8 +1,8 @@
 -- Bytes behind the records used with which no record can come.
-use Rattle.std.proofs.Common.{◌≡◌, ℕ, ◌+◌, ◌<◌, ◌≤◌, ◌⊎◌, inl, inr, List, [], ◌∷◌, ◌++◌, length, take, drop, Option, Some, None, refl, sym, ◌∙◌, ap, subst, append_assoc, append-nil}
+use Rattle.std.proofs.Common.{◌≡◌, ℕ, ◌+◌, inl, inr, List, [], ◌++◌, take, drop, Option, Some, None, sym, ◌∙◌, ap, append_assoc}
 use Rattle.std.specs.Prelude.{IfSome}
 use Rattle.std.proofs.lemmas.List.{take-append-drop}
-use Rattle.nb_defs.specs.Records.{In, in_text, IsPartial, IsBroken}
+use Rattle.nb_defs.specs.Records.{IsBroken}
 use Rattle.nb_record.specs.Outside.{Outside, Passes, Gave, IsAtEnd}
 use Rattle.nb_record.specs.Logged.{Logged}
 use Rattle.nb_record.specs.Held.{BreaksAt}
@@ -31,6 +31,6 @@ flaw_bad flaw.NoMemory rest before now log p b = bad_stays rest [] [] before now
 -- bytes that break somewhere begin no record
 pub breaks_broken : (bytes : List ℕ) (why : ℕ) → BreaksAt bytes why → IsBroken bytes
 breaks_broken bytes why b = λ r more rest valid e.
-  let whole : take (b.place + 1) bytes ++ drop (b.place + 1) bytes ≡ bytes = take-append-drop (b.place + 1) bytes in
-  b.with_it r (drop (b.place + 1) bytes ++ more) rest valid
+    let whole : take (b.place + 1) bytes ++ drop (b.place + 1) bytes ≡ bytes = take-append-drop (b.place + 1) bytes in
+    b.with_it r (drop (b.place + 1) bytes ++ more) rest valid
     (sym (append_assoc (take (b.place + 1) bytes) (drop (b.place + 1) bytes) more) ∙ ap (λ t. t ++ more) whole ∙ e)

@@ -1,9 +1,9 @@
 -- A client grows by the records of a step, and of a move.
-use Rattle.std.proofs.Common.{◌≡◌, ℕ, ◌+◌, true, false, List, [], ◌∷◌, ◌++◌, refl, append-nil}
+use Rattle.std.proofs.Common.{◌≡◌, ℕ, true, false, List, [], ◌∷◌, append-nil}
 use Rattle.nb_defs.specs.Causes.{not_script}
-use Rattle.nb_defs.specs.Records.{Start, In, start, IsIn, Out, out_texts, step, enter, leave}
+use Rattle.nb_defs.specs.Records.{Start, In, start, IsIn, out_texts, step, enter, leave}
 use Rattle.nb_defs.specs.ScriptText.{is_plain}
-use Rattle.nb_defs.specs.Machine.{Running, Phase, running, left, at, fresh, first_script, Path, uses, moves, runs, refuses}
+use Rattle.nb_defs.specs.Machine.{Running, Phase, running, left, at, fresh, first_script, uses, moves, runs, refuses}
 use Rattle.nb_record.specs.Logged.{Logged, Puts}
 use Rattle.nb_boot.specs.Advance.{Advances}
 use Rattle.nb_boot.specs.Turns.{Grows, Acts, IsEnd, IsLeft}
@@ -14,20 +14,20 @@ use Rattle.nb_defs.specs.Machine.{Machine}
 
 -- a START whose text runs
 pub start_grows : {old new : Logged} (s : Start) → IsIn (start s) → is_plain s.script ≡ true → Puts old new (out_texts (step 1 ∷ enter 1 ∷ [])) →
-  Grows (start s ∷ []) fresh (at 1 (running (first_script s.script))) old new
+    Grows (start s ∷ []) fresh (at 1 (running (first_script s.script))) old new
 start_grows s valid plain p = record {
   added = step 1 ∷ enter 1 ∷ [];
   puts = p;
-  stands = λ ins outs path. uses ins outs fresh (start s) (step 1 ∷ enter 1 ∷ []) (at 1 (running (first_script s.script))) path (runs 0 s valid plain)
+  stands = λ ins outs path. uses ins outs fresh (start s) (step 1 ∷ enter 1 ∷ []) (at 1 (running (first_script s.script))) path (runs 0 s valid plain);
 }
 
 -- a START whose text is none
 pub refusal_grows : {old new : Logged} (s : Start) → IsIn (start s) → is_plain s.script ≡ false → Puts old new (out_texts (step 1 ∷ enter 1 ∷ leave 1 not_script ∷ [])) →
-  Grows (start s ∷ []) fresh (at 1 (left not_script)) old new
+    Grows (start s ∷ []) fresh (at 1 (left not_script)) old new
 refusal_grows s valid other p = record {
   added = step 1 ∷ enter 1 ∷ leave 1 not_script ∷ [];
   puts = p;
-  stands = λ ins outs path. uses ins outs fresh (start s) (step 1 ∷ enter 1 ∷ leave 1 not_script ∷ []) (at 1 (left not_script)) path (refuses 0 s valid other)
+  stands = λ ins outs path. uses ins outs fresh (start s) (step 1 ∷ enter 1 ∷ leave 1 not_script ∷ []) (at 1 (left not_script)) path (refuses 0 s valid other);
 }
 
 -- a move
@@ -35,7 +35,7 @@ pub move_grows : {old new : Logged} (n : ℕ) (s : Running) (phase : Phase) → 
 move_grows n s phase a = record {
   added = a.added;
   puts = a.puts;
-  stands = λ ins outs path. rw (append-nil ins) (moves ins outs (at n (running s)) a.added (at n phase) path (a.does n))
+  stands = λ ins outs path. rw (append-nil ins) (moves ins outs (at n (running s)) a.added (at n phase) path (a.does n));
 }
 
 -- a turn with which the first script was left

@@ -1,5 +1,5 @@
 -- What a command read from words comes to.
-use Rattle.std.specs.Prelude.{ℕ, ◌+◌, ◌≤◌, length, sum_by, Bool, true, List, [], ◌∷◌, ◌++◌, Option, None, Some, Result, Ok, Err, if◌then◌else◌}
+use Rattle.std.specs.Prelude.{ℕ, ◌+◌, ◌≤◌, length, sum_by, Bool, true, List, [], ◌∷◌, ◌++◌, None, Result, Ok, Err, if◌then◌else◌}
 use Rattle.std.specs.List.{join_with_byte, flat_map}
 use Rattle.nb_terms.specs.declared.cause.Cause.{Cause}
 use Rattle.nb_defs.specs.Causes.{unknown, usage, exit_cause}

@@ -31,4 +31,4 @@ pub record IsMachineStatus (s : Start) (number : ℕ) : Type 0 where
 -- the status is the machine's
 abbrev pub Completes : Status → Outside → Outside → Type 0
 Completes result before after = (s : Start) (more : List ℕ) → IsIn (start s) → before.left ≡ Some (in_text (start s) ++ more) →
-  IsSome after.left → NoneRose before after → (result ≡ status.NoMemory → ⊥) → IsMachineStatus s (number_of result)
+    IsSome after.left → NoneRose before after → (result ≡ status.NoMemory → ⊥) → IsMachineStatus s (number_of result)

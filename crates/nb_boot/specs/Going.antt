@@ -1,5 +1,5 @@
 -- A run that goes on: what its client stands for, what was written, and what the log still holds.
-use Rattle.std.specs.Prelude.{◌≡◌, ℕ, false, true, ◌⊎◌, List, [], ◌∷◌, ◌++◌, Result, Ok, Err}
+use Rattle.std.specs.Prelude.{◌≡◌, ℕ, false, ◌⊎◌, List, [], ◌∷◌, ◌++◌, Result, Ok, Err}
 use Rattle.nb_defs.specs.Records.{In, in_texts, Out, out_texts}
 use Rattle.nb_defs.specs.Machine.{Machine, Path}
 use Rattle.nb_record.specs.Outside.{Outside, Passes, Rose}
@@ -84,4 +84,4 @@ IsEndOf s (Err f) = (s ≡ status.NoMemory) × (f ≡ flaw.NoMemory)
 -- the run of a record was cut short: before it was used, or behind it
 abbrev pub TakeCuts : Flaw → In → Outside → Outside → Logged → Machine → Type 0
 TakeCuts f r before now old m = (ins : List In) (first : Outside) → Going ins first before old m →
-  (n : List In) × ((n ≡ []) ⊎ (n ≡ r ∷ [])) × IsCut f (ins ++ n) first now
+    (n : List In) × ((n ≡ []) ⊎ (n ≡ r ∷ [])) × IsCut f (ins ++ n) first now

@@ -1,5 +1,5 @@
 -- What stands on a script's next line.
-use Rattle.std.specs.Prelude.{◌≡◌, ◌≤◌, ℕ, List, length, sum_by, Option, Some, None}
+use Rattle.std.specs.Prelude.{◌≡◌, ◌≤◌, ℕ, List, length, sum_by, Some, None}
 use Rattle.nb_defs.specs.ScriptText.{words}
 use Rattle.nb_defs.specs.Machine.{Running, next_line}
 use Rattle.nb_boot.specs.declared.running.Next.{Next}

@@ -1,12 +1,9 @@
 -- What a call of `netboot` shows: records used, records written, and what its status says of them.
-use Rattle.std.specs.Prelude.{◌≡◌, ℕ, ◌⊎◌, true, false, List, [], ◌∷◌, ◌++◌, Option, Some, IsSome, ◌<◌}
+use Rattle.std.specs.Prelude.{◌≡◌, ℕ, ◌⊎◌, List, [], ◌∷◌, ◌++◌}
 use Rattle.nb_terms.specs.declared.cause.Cause.{Cause}
-use Rattle.nb_defs.specs.Causes.{is_ok_cause}
-use Rattle.nb_defs.specs.Records.{Start, In, start, IsIn, in_text, in_texts, IsPartial, IsBroken, Out, out_texts, done}
-use Rattle.nb_defs.specs.Machine.{Machine, Phase, ready, left, at, Path, status_of}
+use Rattle.nb_defs.specs.Records.{In, in_texts, IsPartial, IsBroken, Out, out_texts, done}
+use Rattle.nb_defs.specs.Machine.{Machine, ready, left, at, Path, status_of}
 use Rattle.nb_record.specs.Outside.{Outside, Passes, Rose, IsAtEnd}
-use Rattle.nb_record.specs.Logged.{Logged}
-use Rattle.nb_boot.specs.StatusNumber.{number_of}
 use Rattle.nb_boot.specs.declared.status.Status.{Status}
 use Rattle.nb_boot.specs.declared.status.Status.TheVariants as status
 

@@ -1,9 +1,7 @@
 -- What a call of the client does, by its turn: between the client and the two lists of records, those
 -- used and those written.
-use Rattle.std.specs.Prelude.{◌≡◌, ℕ, ◌-◌, ◌<◌, List, [], ◌∷◌, ◌++◌, length}
-use Rattle.nb_terms.specs.declared.cause.Cause.{Cause}
+use Rattle.std.specs.Prelude.{◌≡◌, ℕ, ◌<◌, List, ◌++◌}
 use Rattle.nb_defs.specs.Records.{In, Out, out_texts}
-use Rattle.nb_defs.specs.ScriptText.{lines}
 use Rattle.nb_defs.specs.Machine.{Machine, Phase, ready, running, left, Path, status_of}
 use Rattle.nb_record.specs.Logged.{Logged, Puts}
 use Rattle.nb_boot.specs.StatusNumber.{number_of}

@@ -63,7 +63,7 @@ pub struct Client {
 
 impl Model for Client {
     ghost use Rattle.nb_defs.specs.Records as defs;
-ghost use Rattle.nb_defs.specs.Machine.{Machine};
+    ghost use Rattle.nb_defs.specs.Machine.{Machine};
 
     ghost Value = { Machine };
 

@@ -5,13 +5,15 @@
 #![tactic(auto)]
 
 mod client;
-mod feeding;
 mod command;
+mod feeding;
 mod number;
 mod output;
 mod play;
 mod running;
 mod status;
+#[cfg(test)]
+mod tests;
 mod top;
 
 pub use client::{Client, Turn};

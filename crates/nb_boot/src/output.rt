@@ -1,6 +1,5 @@
 ghost use Rattle.std.specs.Prelude.{◌≡◌, [], false, OnOk, OnErr, IfErr};
 ghost use Rattle.nb_boot.specs.Going.{Wrote, Stopped, IsFlaw, Keeps, Cuts, flaw_status};
-
 ghost use Rattle.nb_defs.specs.Machine.{Machine};
 
 use crate::Status;

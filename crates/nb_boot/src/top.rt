@@ -93,8 +93,7 @@ fn files(words: &[String]) -> Option<Target<'_>>
 {
     match words {
         [command, input, output]
-            if command.as_str() == "replay" && !input.is_empty() && !output.is_empty() =>
-        {
+            if command.as_str() == "replay" && !input.is_empty() && !output.is_empty() => {
             Some(Target::Files {
                 input: input.as_str(),
                 output: output.as_str(),

@@ -6,9 +6,8 @@ mod real_line;
 
 use nb_boot::{Status, netboot};
 use real_line::RealLine;
-use std::env;
-use std::io;
 use std::process::ExitCode;
+use std::{env, io};
 
 /// What is printed to standard error for a status, if anything.
 fn complaint(status: Status) -> Option<&'static str> {

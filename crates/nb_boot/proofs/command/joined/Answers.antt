@@ -10,5 +10,5 @@ end_length false = omega arith
 
 pub returns-clause-fits : goal.returns-clause-fits
 returns-clause-fits c =
-  let whole : c.from_vec.result ≡ join_with_byte 32 c.args.words.now ++ end_of c.args.newline = search rules in
-  omega (arith, ap length whole, length-append (join_with_byte 32 c.args.words.now) (end_of c.args.newline), join_length c.args.words.now, end_length c.args.newline)
+    let whole : c.from_vec.result ≡ join_with_byte 32 c.args.words.now ++ end_of c.args.newline = search rules in
+    omega (arith, ap length whole, length-append (join_with_byte 32 c.args.words.now) (end_of c.args.newline), join_length c.args.words.now, end_length c.args.newline)

@@ -1,4 +1,3 @@
-use Rattle.std.proofs.Common.{rules, ◌≡◌}
 use Rattle.nb_boot.proofs.Goings.{going_flushed, flaw_cuts}
 use Rattle.nb_boot.proofs.output.make_room.Goals as goal
 

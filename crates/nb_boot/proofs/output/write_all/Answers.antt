@@ -1,6 +1,5 @@
-use Rattle.std.proofs.Common.{rules, ◌≡◌, ◌≤◌, [], length, take, drop, subst, arith}
+use Rattle.std.proofs.Common.{arith}
 use Rattle.std.proofs.lemmas.List.{take_all}
-use Rattle.nb_record.specs.Outside.{Passes}
 use Rattle.nb_record.proofs.OutsideLemmas.{Passes-nothing}
 use Rattle.nb_boot.proofs.Written.{more_written, stopped_there, on_err, length-rest}
 use Rattle.nb_boot.proofs.output.write_all.Goals as goal
@@ -10,16 +9,17 @@ loop-at-init g c = (omega arith, Passes-nothing (g.L.Line.outside c.args.line.no
 
 pub returns-in_err-at-clause-err : goal.returns-in_err-at-clause-err
 returns-in_err-at-clause-err g c =
-  let failed = c.in_err-at.ensures.failed in
-  on_err c.from_residual.result _ (stopped_there (g.L.Line.outside c.args.line.now) (g.L.Line.outside c.loop-at.line) (g.L.Line.outside c.write.new.self)
+    let failed = c.in_err-at.ensures.failed in
+    on_err c.from_residual.result _ (stopped_there (g.L.Line.outside c.args.line.now) (g.L.Line.outside c.loop-at.line) (g.L.Line.outside c.write.new.self)
     c.args.bytes.now c.loop-at.at c.loop-at.invariant.1 failed.0 failed.1)
 
 pub loop-at-preserved : goal.loop-at-preserved
-loop-at-preserved g c =
-  (omega (arith, c.in_ok-at.ensures.within, length-rest c.args.bytes.now c.loop-at.at, c.loop-at.invariant.0),
-   more_written (g.L.Line.outside c.args.line.now) (g.L.Line.outside c.loop-at.line) (g.L.Line.outside c.write.new.self)
-     c.args.bytes.now c.loop-at.at c.in_ok-at.field-0 c.loop-at.invariant.0 c.loop-at.invariant.1 c.in_ok-at.ensures.ok)
+loop-at-preserved g c = (
+  omega (arith, c.in_ok-at.ensures.within, length-rest c.args.bytes.now c.loop-at.at, c.loop-at.invariant.0),
+  more_written (g.L.Line.outside c.args.line.now) (g.L.Line.outside c.loop-at.line) (g.L.Line.outside c.write.new.self)
+      c.args.bytes.now c.loop-at.at c.in_ok-at.field-0 c.loop-at.invariant.0 c.loop-at.invariant.1 c.in_ok-at.ensures.ok,
+)
 
 pub returns-clause-ok : goal.returns-clause-ok
 returns-clause-ok g c =
-  rw (← take_all c.loop-at.at c.args.bytes.now (omega arith)) c.loop-at.invariant.1
+    rw (← take_all c.loop-at.at c.args.bytes.now (omega arith)) c.loop-at.invariant.1

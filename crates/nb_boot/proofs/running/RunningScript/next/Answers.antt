@@ -1,4 +1,4 @@
-use Rattle.std.proofs.Common.{rules, ◌≡◌, sym, arith}
+use Rattle.std.proofs.Common.{sym, arith}
 use Rattle.nb_boot.proofs.running.RunningScript.next.Goals as goal
 
 pub returns : goal.returns
@@ -8,5 +8,5 @@ returns c = record {
   are = sym c.in_ok-list.ensures.value;
   few = rw c.in_ok-list.ensures.value (c.in-Some.ensures.few (c.self.invariant.0));
   total = omega (arith, c.in_ok-list.ensures.total, c.in-Some.ensures.fits);
-  within = rw (← c.self.view_is) (omega (arith, c.in-Some.ensures.within))
+  within = rw (← c.self.view_is) (omega (arith, c.in-Some.ensures.within));
 }

@@ -1,0 +1,190 @@
+use crate::{Status, netboot};
+use nb_record::{MemLine, NoMemory};
+use std::alloc::{AllocError, Global};
+use std::test::*;
+
+/// What a call answered, wrote, and how many calls of its line it made.
+#[derive(Drop)]
+struct Answer {
+    status: Status,
+    output: Vec<u8>,
+    calls: u64,
+}
+
+/// The words `replay in out`.
+fn replay_words(alloc: Global) -> Result<Vec<String>, AllocError> {
+    let mut words = Vec::new(alloc);
+    for word in ["replay", "in", "out"] {
+        words.push(String::from_str(alloc, word)?)?;
+    }
+    Ok(words)
+}
+
+/// Runs over an input, with reads cut to these lengths, failing calls and room for this much output.
+fn ran(
+    alloc: Global,
+    input: &[u8],
+    cuts: &[usize],
+    fail: &[u64],
+    room: usize,
+) -> Result<Answer, NoMemory> {
+    let mut line = MemLine::new(alloc, input, cuts, fail, room)?;
+    let status = netboot(alloc, replay_words(alloc)?.as_slice(), &mut line);
+    Ok(Answer {
+        status,
+        output: Vec::from_slice(alloc, line.output())?,
+        calls: line.calls,
+    })
+}
+
+/// START of mac 52:54:00:00:00:01 with all else 0, and this script.
+fn start_of(alloc: Global, script: &[u8]) -> Result<Vec<u8>, AllocError> {
+    let len = u32::try_from(script.len()).unwrap_or(0).saturating_add(76);
+    let mut bytes = Vec::from_slice(alloc, &len.to_be_bytes())?;
+    bytes.extend_from_slice(&[1, 1, 0x52, 0x54, 0, 0, 0, 1])?;
+    bytes.extend_from_slice(&[0; 68])?;
+    bytes.extend_from_slice(script)?;
+    Ok(bytes)
+}
+
+const HELLO: &[u8] = b"#!ipxe\necho hello\nexit\n";
+
+/// STEP 1, and SCRIPT enter.
+const ENTERED: &[u8] = &[
+    0, 0, 0, 5, 0x81, 0, 0, 0, 1, 0, 0, 0, 0x0c, 0x86, 0, 1, 0, 0, 0, 0, 0, 0, 0, 0, 0,
+];
+
+/// COMMAND `echo hello` on line 2, its text, Ok, COMMAND `exit` on line 3, Ok, SCRIPT leave, DONE 3.
+const SAID_HELLO: &[u8] =
+    b"\x00\x00\x00\x16\x84\x01\x00\x00\x00\x02\x00\x01\x02\x00\x04echo\x00\x05hello\
+\x00\x00\x00\x07\x83hello\n\
+\x00\x00\x00\x0a\x85\x00\x00\x00\x00\x00\x00\x00\x00\x00\
+\x00\x00\x00\x0f\x84\x01\x00\x00\x00\x03\x00\x01\x01\x00\x04exit\
+\x00\x00\x00\x0a\x85\x00\x00\x00\x00\x00\x00\x00\x00\x00\
+\x00\x00\x00\x0c\x86\x01\x01\x00\x00\x00\x00\x00\x00\x00\x00\x00\
+\x00\x00\x00\x02\x8d\x03";
+
+/// DONE 6.
+const REFUSED: &[u8] = &[0, 0, 0, 2, 0x8d, 6];
+
+// The hello script gives the records that the format says, read whole or byte by byte, in one write.
+#[test]
+fn hello(rt: HostRuntime) -> Result<(), Fail> {
+    let input = start_of(rt.alloc(), HELLO)?;
+    assert_eq!(rt; input.len(), 103);
+    let whole = ran(rt.alloc(), input.as_slice(), &[], &[], 1000)?;
+    assert_eq!(rt; whole.status, Status::Ended);
+    assert!(rt; whole.output.as_slice().starts_with(ENTERED));
+    assert!(rt; whole.output.as_slice().ends_with(SAID_HELLO));
+    assert_eq!(rt; whole.output.len(), ENTERED.len() + SAID_HELLO.len());
+    assert_eq!(rt; whole.calls, 3, "attach, one read, one write");
+    let bytes = ran(rt.alloc(), input.as_slice(), &[1; 103], &[], 1000)?;
+    assert_eq!(rt; bytes.status, Status::Ended);
+    assert_eq!(rt; bytes.output.as_slice(), whole.output.as_slice());
+    Ok(())
+}
+
+// No record, and half a length, are refused in the same way, however they come.
+#[test]
+fn no_record(rt: HostRuntime) -> Result<(), Fail> {
+    for (input, cuts) in [
+        (b"".as_slice(), [].as_slice()),
+        (&[0, 0, 0], &[]),
+        (&[0, 0, 0], &[1, 1, 1]),
+        (&[1, 0, 0], &[]),
+    ] {
+        let refused = ran(rt.alloc(), input, cuts, &[], 1000)?;
+        assert_eq!(rt; refused.status, Status::BadRecord);
+        assert_eq!(rt; refused.output.as_slice(), REFUSED);
+    }
+    Ok(())
+}
+
+// What stands behind SCRIPT enter, by the script.
+#[test]
+fn scripts(rt: HostRuntime) -> Result<(), Fail> {
+    for (script, status, behind) in [
+        (
+            b"#!ipxe\nfoo\n".as_slice(),
+            Status::ScriptFailed,
+            b"\x00\x00\x00\x0e\x84\x01\x00\x00\x00\x02\x00\x01\x01\x00\x03foo\
+\x00\x00\x00\x0a\x85\x13\x00\x00\x00\x00\x00\x00\x00\x00\
+\x00\x00\x00\x0c\x86\x01\x01\x13\x00\x00\x00\x00\x00\x00\x00\x00\
+\x00\x00\x00\x02\x8d\x04"
+                .as_slice(),
+        ),
+        (
+            b"echo hello",
+            Status::ScriptFailed,
+            b"\x00\x00\x00\x0c\x86\x01\x01\x0e\x00\x00\x00\x00\x00\x00\x00\x00\
+\x00\x00\x00\x02\x8d\x04",
+        ),
+        (
+            b"#!ipxe\n\n# no\necho -n # a\n",
+            Status::Ended,
+            b"\x00\x00\x00\x13\x84\x01\x00\x00\x00\x04\x00\x01\x02\x00\x04echo\x00\x02-n\
+\x00\x00\x00\x01\x83\
+\x00\x00\x00\x0a\x85\x00\x00\x00\x00\x00\x00\x00\x00\x00\
+\x00\x00\x00\x0c\x86\x01\x01\x00\x00\x00\x00\x00\x00\x00\x00\x00\
+\x00\x00\x00\x02\x8d\x03",
+        ),
+        (
+            b"#!ipxe\nexit 0xfF\necho a\n",
+            Status::ScriptFailed,
+            b"\x00\x00\x00\x15\x84\x01\x00\x00\x00\x02\x00\x01\x02\x00\x04exit\x00\x040xfF\
+\x00\x00\x00\x0a\x85\x18\x00\x00\x00\xff\x00\x00\x00\x00\
+\x00\x00\x00\x0c\x86\x01\x01\x18\x00\x00\x00\xff\x00\x00\x00\x00\
+\x00\x00\x00\x02\x8d\x04",
+        ),
+        (
+            b"#!ipxe\nexit 256\n",
+            Status::ScriptFailed,
+            b"\x00\x00\x00\x14\x84\x01\x00\x00\x00\x02\x00\x01\x02\x00\x04exit\x00\x03256\
+\x00\x00\x00\x0a\x85\x14\x00\x00\x00\x00\x00\x00\x00\x00\
+\x00\x00\x00\x0c\x86\x01\x01\x14\x00\x00\x00\x00\x00\x00\x00\x00\
+\x00\x00\x00\x02\x8d\x04",
+        ),
+    ] {
+        let input = start_of(rt.alloc(), script)?;
+        let done = ran(rt.alloc(), input.as_slice(), &[], &[], 1000)?;
+        assert_eq!(rt; done.status, status);
+        assert!(rt; done.output.as_slice().starts_with(ENTERED));
+        assert!(rt; done.output.as_slice().ends_with(behind));
+        assert_eq!(rt; done.output.len(), ENTERED.len() + behind.len());
+    }
+    Ok(())
+}
+
+// Each fault has its status, and leaves a front of the output.
+#[test]
+fn faults(rt: HostRuntime) -> Result<(), Fail> {
+    let input = start_of(rt.alloc(), HELLO)?;
+    for (fail, room, status, taken) in [
+        ([0], 1000, Status::AttachFault, 0),
+        ([1], 1000, Status::ReadFault, 0),
+        ([2], 1000, Status::WriteFault, 0),
+        ([9], 30, Status::WriteFault, 30),
+    ] {
+        let done = ran(rt.alloc(), input.as_slice(), &[], &fail, room)?;
+        assert_eq!(rt; done.status, status);
+        assert_eq!(rt; done.output.len(), taken);
+        assert!(rt; ENTERED.starts_with(&done.output.as_slice()[..done.output.len().min(25)]));
+    }
+    Ok(())
+}
+
+// Words of no form attach nothing.
+#[test]
+fn bad_words(rt: HostRuntime) -> Result<(), Fail> {
+    for count in [0, 2] {
+        let mut words = replay_words(rt.alloc())?;
+        words.truncate(count);
+        let mut line = MemLine::new(rt.alloc(), b"", &[], &[], 10)?;
+        assert_eq!(rt;
+            netboot(rt.alloc(), words.as_slice(), &mut line),
+            Status::BadWords
+        );
+        assert_eq!(rt; line.calls, 0);
+    }
+    Ok(())
+}
