@@ -1,5 +1,5 @@
 -- RFC 768: a UDP datagram between two IPv4 addresses
-use Rattle.std.specs.Prelude.{◌≡◌, ℕ, zero, suc, ◌+◌, ◌<◌, ◌^◌, ◌⊎◌, List, [], ◌∷◌, ◌++◌, length}
+use Rattle.std.specs.Prelude.{◌≡◌, ℕ, zero, suc, ◌+◌, ◌<◌, ◌^◌, ◌⊎◌, List, ◌∷◌, ◌++◌, length}
 use Rattle.std.specs.Int.{w16, w32, to_be_bytes}
 use Rattle.nb_wire.specs.Checksum.{checksum}
 use Rattle.nb_wire.specs.declared.address.Ip4.{Ip4}

@@ -1,4 +1,5 @@
 ghost use Rattle.std.specs.Prelude.{◌≡◌, ◌+◌, ◌-◌, ◌*◌, ◌%◌, ◌<◌, ◌≤◌, ◌^◌, ◌++◌, ◌↔◌, ◌⊎◌, length, IfSome, IsSomeAnd, IsErr, OnOk, OnErr, MatchOption, MatchBool};
+ghost use Rattle.nb_wire.specs.Checksum.{checksum};
 
 use nb_wire::{Full, Ip4, Out, sum16};
 
@@ -41,7 +42,7 @@ impl<'a> Packet<'a> {
             return None;
         }
         let (header, body) = bytes[..total_len].split_at(header_len);
-        if sum16(header, &[]) != 0 {
+        if !is_header_intact(header) {
             return None;
         }
         Some(Packet {
@@ -127,4 +128,12 @@ fn is_fragment(high: u8, low: u8) -> bool
     ensures { MatchBool result ((0 < high % 64) ⊎ (0 < low)) ((high % 64 ≡ 0) × (low ≡ 0)) }
 {
     high % DONT_FRAGMENT != 0 || low != 0
+}
+
+fn is_header_intact(header: &[u8]) -> bool
+    requires even { length header.now % 2 ≡ 0 }
+    requires room { length header.now ≤ 60 }
+    ensures { MatchBool result (checksum header.now ≡ 0) (0 < checksum header.now) }
+{
+    sum16(header, &[]) == 0
 }
