@@ -1,4 +1,4 @@
-ghost use Rattle.std.specs.Prelude.{◌≡◌, ◌+◌, ◌-◌, ◌*◌, ◌%◌, ◌<◌, ◌≤◌, ◌^◌, ◌++◌, ◌↔◌, ◌⊎◌, length, IfSome, IsSomeAnd, IsErr, OnOk, OnErr, MatchOption, MatchBool};
+ghost use Rattle.std.specs.Prelude.{◌≡◌, ◌+◌, ◌-◌, ◌*◌, ◌%◌, ◌<◌, ◌≤◌, ◌^◌, ◌++◌, ◌↔◌, ◌⊎◌, length, IfSome, IsSomeAnd, IsErr, OnOk, OnErr, IfNone, MatchBool};
 ghost use Rattle.nb_wire.specs.Checksum.{checksum};
 
 use nb_wire::{Full, Ip4, Out, sum16};
@@ -31,7 +31,8 @@ impl<'a> Packet<'a> {
     /// The packet that the bytes are, if they are one. Padding may follow it.
     pub fn read(bytes: &'a [u8]) -> Option<Packet<'a>>
         ensures sound { IfSome result (λ p. IsPacket bytes.now (packet_parts p)) }
-        ensures complete { (p : PacketParts) → IsPacket bytes.now p → IsSomeAnd result (λ q. packet_parts q ≡ p) }
+        ensures complete { (p : PacketParts) → IsPacket bytes.now p
+            → IsSomeAnd result (λ q. packet_parts q ≡ p) }
     {
         let (fixed, _) = bytes.split_first_chunk::<20>()?;
         let [first, _, t0, t1, _, _, f0, f1, _, proto, ..] = *fixed;
@@ -58,7 +59,8 @@ impl<'a> Packet<'a> {
     pub fn write(&self, out: &mut Out<'_>) -> Result<(), Full>
         requires { length self.now.body.now ≤ 65515 }
         ensures full { IsErr result ↔ (out.old.left < 20 + length self.now.body.now) }
-        ensures appended { OnOk result (out.new.written ≡ out.old.written ++ sent_packet (packet_parts self.now)) }
+        ensures appended { OnOk result
+            (out.new.written ≡ out.old.written ++ sent_packet (packet_parts self.now)) }
         ensures room { OnOk result (out.new.left + (20 + length self.now.body.now) ≡ out.old.left) }
         ensures refused { OnErr result (out.new ≡ out.old) }
         ensures readable { IsPacket (sent_packet (packet_parts self.now)) (packet_parts self.now) }
@@ -70,7 +72,8 @@ impl<'a> Packet<'a> {
     fn header(&self, checksum: u16) -> [u8; 20]
         requires { length self.now.body.now ≤ 65515 }
         ensures value { result ≡ header_text (sent_header checksum) (packet_parts self.now) }
-        ensures fits { (self.now.src.0 < 2 ^ 32) × (self.now.dst.0 < 2 ^ 32) × (self.now.proto < 256) }
+        ensures fits { (self.now.src.0 < 2 ^ 32) × (self.now.dst.0 < 2 ^ 32)
+            × (self.now.proto < 256) }
     {
         let [t0, t1] = (20 + self.body.len() as u16).to_be_bytes();
         let [c0, c1] = checksum.to_be_bytes();
@@ -115,7 +118,8 @@ const TIME_TO_LIVE: u8 = 64;
 
 // The length of a header in bytes, by its first byte.
 fn header_len(first: u8) -> Option<usize>
-    ensures none { MatchOption result ((first < 69) ⊎ (79 < first)) (λ n. (n ≡ 4 * (first - 64)) × (69 ≤ first) × (first ≤ 79)) }
+    ensures none { IfNone result ((first < 69) ⊎ (79 < first)) }
+    ensures length { IfSome result (λ n. (n ≡ 4 * (first - 64)) × (69 ≤ first) × (first ≤ 79)) }
 {
     match first {
         LEAST_FIRST..=MOST_FIRST => Some(4 * usize::from(first - 0x40)),

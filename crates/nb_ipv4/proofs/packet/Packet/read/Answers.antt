@@ -21,7 +21,7 @@ returns-then-is_fragment-clause-complete c = λ p is.
     let placed = packet_placed c.in_ok-fixed.fixed.now c.args.bytes.now p c.in_ok-fixed.ensures.cases.0 is in
     elim c.then-is_fragment.branch [
       | then-is_fragment-via-then-is_fragment w ↦ absurd (omega (arith, placed.unbroken, placed.at_start, w.if-is_fragment.ensures))
-      | then-is_fragment-via-else-is_fragment+then-total_len-header_len w ↦ absurd (omega (arith, placed.total, placed.first, c.from_be_bytes.ensures, c.from-total_len.ensures, c.in_ok-header_len.ensures.none.0))
+      | then-is_fragment-via-else-is_fragment+then-total_len-header_len w ↦ absurd (omega (arith, placed.total, placed.first, c.from_be_bytes.ensures, c.from-total_len.ensures, c.in_ok-header_len.ensures.length.0))
       | then-is_fragment-via-else-is_fragment+else-total_len-header_len+then-bytes-total_len w ↦ absurd (omega (arith, placed.total, placed.long, c.from_be_bytes.ensures, c.from-total_len.ensures))
     ]
 
@@ -31,7 +31,7 @@ returns-then-not-is_header_intact-clause-complete c = λ p is.
     let len = c.in_ok-header_len.header_len in
     let header_is : c.split_at.result.0.now ≡ take len (take c.from-total_len.result c.args.bytes.now) = c.split_at.ensures.front in
     let total_is : c.from-total_len.result ≡ 20 + 4 * placed.words + length p.body = omega (arith, placed.total, c.from_be_bytes.ensures, c.from-total_len.ensures) in
-    let len_is : len ≡ 20 + 4 * placed.words = omega (arith, placed.first, c.in_ok-header_len.ensures.none.0) in
+    let len_is : len ≡ 20 + 4 * placed.words = omega (arith, placed.first, c.in_ok-header_len.ensures.length.0) in
     let same : take len (take c.from-total_len.result c.args.bytes.now) ≡ take (20 + 4 * placed.words) c.args.bytes.now =
     take_take len c.from-total_len.result c.args.bytes.now (omega (arith, total_is, len_is)) (omega (arith, total_is, placed.long)) ∙ ap (λ (n : ℕ). take n c.args.bytes.now) len_is in
     let broken : 0 < checksum c.split_at.result.0.now = c.if-not-is_header_intact.ensures in
@@ -45,7 +45,7 @@ is_packet c =
     let enough : c.from-total_len.result ≤ length c.args.bytes.now = omega (arith, c.if-bytes-total_len.false) in
     let fit : c.in_ok-header_len.header_len ≤ c.from-total_len.result = omega (arith, c.if-total_len-header_len.false) in
     let sum : checksum c.split_at.result.0.now ≡ 0 = c.if-not-is_header_intact.ensures in
-    packet_made _ _ _ _ _ _ _ _ _ bytes fixed c.from_be_bytes-2.ensures c.from_be_bytes-3.ensures total enough fit c.in_ok-header_len.ensures.none c.split_at.ensures.front c.split_at.ensures.back c.if-is_fragment.ensures sum
+    packet_made _ _ _ _ _ _ _ _ _ bytes fixed c.from_be_bytes-2.ensures c.from_be_bytes-3.ensures total enough fit c.in_ok-header_len.ensures.length c.split_at.ensures.front c.split_at.ensures.back c.if-is_fragment.ensures sum
 
 pub returns-clause-sound : goal.returns-clause-sound
 returns-clause-sound c = is_packet c
