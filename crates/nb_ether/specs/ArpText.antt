@@ -5,7 +5,9 @@ use Rattle.nb_ether.specs.declared.arp.Arp.{Arp}
 
 -- a message's spelling, 28 bytes
 abbrev pub arp_text : Arp → List ℕ
-arp_text a = (0 ∷ 1 ∷ 8 ∷ 0 ∷ 6 ∷ 4 ∷ []) ++ to_be_bytes w16 a.op ++ a.sha.0 ++ to_be_bytes w32 a.spa.0 ++ a.tha.0 ++ to_be_bytes w32 a.tpa.0
+arp_text a =
+    (0 ∷ 1 ∷ 8 ∷ 0 ∷ 6 ∷ 4 ∷ []) ++ to_be_bytes w16 a.op
+    ++ a.sha.0 ++ to_be_bytes w32 a.spa.0 ++ a.tha.0 ++ to_be_bytes w32 a.tpa.0
 
 -- these bytes are the message, of any operation, and maybe padding behind it
 pub record HasForm (bytes : List ℕ) (a : Arp) : Type 0 where

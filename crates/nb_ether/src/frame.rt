@@ -28,7 +28,8 @@ impl<'a> EtherFrame<'a> {
     /// The frame that the bytes are, if they are one.
     pub fn read(bytes: &'a [u8]) -> Option<EtherFrame<'a>>
         ensures sound { IfSome result (λ f. IsFrame bytes.now (frame_of f)) }
-        ensures complete { (f : Frame) → IsFrame bytes.now f → IsSomeAnd result (λ g. frame_of g ≡ f) }
+        ensures complete { (f : Frame) → IsFrame bytes.now f
+            → IsSomeAnd result (λ g. frame_of g ≡ f) }
     {
         let (dst, rest) = bytes.split_first_chunk::<6>()?;
         let (src, rest) = rest.split_first_chunk::<6>()?;
@@ -44,7 +45,8 @@ impl<'a> EtherFrame<'a> {
     /// Puts the frame's bytes.
     pub fn write(&self, out: &mut Out<'_>) -> Result<(), Full>
         ensures full { IsErr result ↔ (out.old.left < 14 + length self.now.body.now) }
-        ensures appended { OnOk result (out.new.written ≡ out.old.written ++ frame_text (frame_of self.now)) }
+        ensures appended { OnOk result
+            (out.new.written ≡ out.old.written ++ frame_text (frame_of self.now)) }
         ensures room { OnOk result (out.new.left + (14 + length self.now.body.now) ≡ out.old.left) }
         ensures refused { OnErr result (out.new ≡ out.old) }
         ensures readable { IsFrame (frame_text (frame_of self.now)) (frame_of self.now) }

@@ -4,7 +4,7 @@ use Rattle.std.specs.Int.{w16, w32, to_be_bytes}
 use Rattle.nb_wire.specs.Checksum.{checksum}
 use Rattle.nb_wire.proofs.BytesLaws.{IsBytes}
 use Rattle.nb_wire.proofs.ChecksumLaws.{checksum-zero, checksum-closes}
-use Rattle.nb_ipv4.specs.PacketText.{PacketParts, Header, IsPacket, header_text, sent_header, sent_packet}
+use Rattle.nb_ipv4.specs.PacketText.{PacketParts, IsPacket, header_text, sent_header, sent_packet}
 use Rattle.nb_ipv4.proofs.NumberLaws.{bytes_of}
 use Rattle.nb_ipv4.proofs.PacketLaws.{header_form}
 

@@ -1,13 +1,12 @@
 -- A datagram's fields stand at their places, bytes whose fields are right are a datagram, and one that is sent is read again.
-use Rattle.std.proofs.Common.{◌≡◌, ℕ, zero, suc, ◌+◌, ◌*◌, ◌/◌, ◌%◌, ◌<◌, ◌≤◌, ◌^◌, ◌⊎◌, inl, inr, List, [], ◌∷◌, ◌++◌, length, get_or, take, drop, refl, sym, ap, subst, ◌∙◌, append_assoc, append-nil, arith}
-use Rattle.std.specs.Int.{w16, w32, to_be_bytes, from_be_bytes}
+use Rattle.std.proofs.Common.{◌≡◌, ℕ, ◌+◌, ◌*◌, ◌≤◌, ◌⊎◌, inl, inr, List, [], ◌∷◌, ◌++◌, length, get_or, take, drop, refl, sym, ap, ◌∙◌, append_assoc, arith}
+use Rattle.std.specs.Int.{w16, to_be_bytes}
 use Rattle.std.proofs.lemmas.List.{take_at, drop_at, take-append-drop, length-append, length-take}
 use Rattle.nb_wire.specs.declared.address.Ip4.{Ip4}
 use Rattle.nb_wire.specs.Checksum.{checksum}
 use Rattle.nb_wire.proofs.BytesLaws.{IsBytes, Splits, append_one, IsBytes-front}
-use Rattle.nb_wire.proofs.ChecksumLaws.{checksum-zero, checksum-closes, checksum-ones}
-use Rattle.nb_ipv4.specs.UdpText.{UdpParts, IsUdp, udp_header, udp_text, udp_sum, pseudo_header, sent_field, sent_datagram}
-use Rattle.nb_ipv4.proofs.NumberLaws.{be16_bytes, elements-drop, bytes_onto}
+use Rattle.nb_ipv4.specs.UdpText.{UdpParts, IsUdp, udp_header, udp_text, pseudo_header}
+use Rattle.nb_ipv4.proofs.NumberLaws.{be16_bytes, elements-drop}
 
 length-udp_header : (d : UdpParts) (field : ℕ) → length (udp_header d field) ≡ 8
 unfolding udp_header

@@ -1,5 +1,5 @@
 -- RFC 768: a UDP datagram between two IPv4 addresses
-use Rattle.std.specs.Prelude.{◌≡◌, ℕ, zero, suc, ◌+◌, ◌<◌, ◌^◌, ◌⊎◌, List, [], ◌∷◌, ◌++◌, length}
+use Rattle.std.specs.Prelude.{◌≡◌, ℕ, zero, suc, ◌+◌, ◌<◌, ◌^◌, ◌⊎◌, List, ◌∷◌, ◌++◌, length}
 use Rattle.std.specs.Int.{w16, w32, to_be_bytes}
 use Rattle.nb_wire.specs.Checksum.{checksum}
 use Rattle.nb_wire.specs.declared.address.Ip4.{Ip4}
@@ -16,7 +16,9 @@ udp_parts d = record { src_port = d.src_port; dst_port = d.dst_port; body = d.bo
 
 -- a datagram's header with this checksum
 unfoldable pub udp_header : UdpParts → ℕ → List ℕ
-udp_header d checksum = to_be_bytes w16 d.src_port ++ to_be_bytes w16 d.dst_port ++ to_be_bytes w16 (8 + length d.body) ++ to_be_bytes w16 checksum
+udp_header d checksum =
+    to_be_bytes w16 d.src_port ++ to_be_bytes w16 d.dst_port ++ to_be_bytes w16 (8 + length d.body)
+    ++ to_be_bytes w16 checksum
 
 -- a datagram's spelling with this checksum
 abbrev pub udp_text : UdpParts → ℕ → List ℕ
@@ -30,7 +32,7 @@ pseudo_header src dst total = to_be_bytes w32 src.0 ++ to_be_bytes w32 dst.0 ++ 
 abbrev pub udp_sum : Ip4 → Ip4 → UdpParts → ℕ → ℕ
 udp_sum src dst d field = checksum (pseudo_header src dst (8 + length d.body) ++ udp_text d field)
 
--- these bytes are the datagram, maybe with bytes behind it; a checksum field of 0 says that there is none
+-- these bytes are the datagram, maybe with others behind it; a checksum field of 0 says that there is none
 pub record IsUdp (src dst : Ip4) (bytes : List ℕ) (d : UdpParts) : Type 0 where
   pub field : ℕ
   pub padding : List ℕ

@@ -1,4 +1,5 @@
-ghost use Rattle.std.specs.Prelude.{◌≡◌, ◌+◌, ◌-◌, ◌*◌, ◌%◌, ◌<◌, ◌≤◌, ◌^◌, ◌++◌, ◌↔◌, ◌⊎◌, length, IfSome, IsSomeAnd, IsErr, OnOk, OnErr, MatchOption, MatchBool};
+ghost use Rattle.std.specs.Prelude.{◌≡◌, ◌+◌, ◌-◌, ◌*◌, ◌%◌, ◌<◌, ◌≤◌, ◌^◌, ◌++◌, ◌↔◌, ◌⊎◌, length, IfSome, IsSomeAnd, IsErr, OnOk, OnErr, IfNone, MatchBool};
+ghost use Rattle.nb_wire.specs.Checksum.{checksum};
 
 use nb_wire::{Full, Ip4, Out, sum16};
 
@@ -30,7 +31,8 @@ impl<'a> Packet<'a> {
     /// The packet that the bytes are, if they are one. Padding may follow it.
     pub fn read(bytes: &'a [u8]) -> Option<Packet<'a>>
         ensures sound { IfSome result (λ p. IsPacket bytes.now (packet_parts p)) }
-        ensures complete { (p : PacketParts) → IsPacket bytes.now p → IsSomeAnd result (λ q. packet_parts q ≡ p) }
+        ensures complete { (p : PacketParts) → IsPacket bytes.now p
+            → IsSomeAnd result (λ q. packet_parts q ≡ p) }
     {
         let (fixed, _) = bytes.split_first_chunk::<20>()?;
         let [first, _, t0, t1, _, _, f0, f1, _, proto, ..] = *fixed;
@@ -41,7 +43,7 @@ impl<'a> Packet<'a> {
             return None;
         }
         let (header, body) = bytes[..total_len].split_at(header_len);
-        if sum16(header, &[]) != 0 {
+        if !is_header_intact(header) {
             return None;
         }
         Some(Packet {
@@ -57,7 +59,8 @@ impl<'a> Packet<'a> {
     pub fn write(&self, out: &mut Out<'_>) -> Result<(), Full>
         requires { length self.now.body.now ≤ 65515 }
         ensures full { IsErr result ↔ (out.old.left < 20 + length self.now.body.now) }
-        ensures appended { OnOk result (out.new.written ≡ out.old.written ++ sent_packet (packet_parts self.now)) }
+        ensures appended { OnOk result
+            (out.new.written ≡ out.old.written ++ sent_packet (packet_parts self.now)) }
         ensures room { OnOk result (out.new.left + (20 + length self.now.body.now) ≡ out.old.left) }
         ensures refused { OnErr result (out.new ≡ out.old) }
         ensures readable { IsPacket (sent_packet (packet_parts self.now)) (packet_parts self.now) }
@@ -69,7 +72,8 @@ impl<'a> Packet<'a> {
     fn header(&self, checksum: u16) -> [u8; 20]
         requires { length self.now.body.now ≤ 65515 }
         ensures value { result ≡ header_text (sent_header checksum) (packet_parts self.now) }
-        ensures fits { (self.now.src.0 < 2 ^ 32) × (self.now.dst.0 < 2 ^ 32) × (self.now.proto < 256) }
+        ensures fits { (self.now.src.0 < 2 ^ 32) × (self.now.dst.0 < 2 ^ 32)
+            × (self.now.proto < 256) }
     {
         let [t0, t1] = (20 + self.body.len() as u16).to_be_bytes();
         let [c0, c1] = checksum.to_be_bytes();
@@ -114,7 +118,8 @@ const TIME_TO_LIVE: u8 = 64;
 
 // The length of a header in bytes, by its first byte.
 fn header_len(first: u8) -> Option<usize>
-    ensures none { MatchOption result ((first < 69) ⊎ (79 < first)) (λ n. (n ≡ 4 * (first - 64)) × (69 ≤ first) × (first ≤ 79)) }
+    ensures none { IfNone result ((first < 69) ⊎ (79 < first)) }
+    ensures length { IfSome result (λ n. (n ≡ 4 * (first - 64)) × (69 ≤ first) × (first ≤ 79)) }
 {
     match first {
         LEAST_FIRST..=MOST_FIRST => Some(4 * usize::from(first - 0x40)),
@@ -127,4 +132,12 @@ fn is_fragment(high: u8, low: u8) -> bool
     ensures { MatchBool result ((0 < high % 64) ⊎ (0 < low)) ((high % 64 ≡ 0) × (low ≡ 0)) }
 {
     high % DONT_FRAGMENT != 0 || low != 0
+}
+
+fn is_header_intact(header: &[u8]) -> bool
+    requires even { length header.now % 2 ≡ 0 }
+    requires room { length header.now ≤ 60 }
+    ensures { MatchBool result (checksum header.now ≡ 0) (0 < checksum header.now) }
+{
+    sum16(header, &[]) == 0
 }

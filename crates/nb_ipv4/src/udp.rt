@@ -26,7 +26,8 @@ impl<'a> Udp<'a> {
     /// may follow it.
     pub fn read(src: Ip4, dst: Ip4, bytes: &'a [u8]) -> Option<Udp<'a>>
         ensures sound { IfSome result (λ d. IsUdp src dst bytes.now (udp_parts d)) }
-        ensures complete { (d : UdpParts) → IsUdp src dst bytes.now d → IsSomeAnd result (λ e. udp_parts e ≡ d) }
+        ensures complete { (d : UdpParts) → IsUdp src dst bytes.now d
+            → IsSomeAnd result (λ e. udp_parts e ≡ d) }
     {
         let (fixed, _) = bytes.split_first_chunk::<8>()?;
         let [s0, s1, d0, d1, l0, l1, c0, c1] = *fixed;
@@ -51,10 +52,12 @@ impl<'a> Udp<'a> {
     pub fn write(&self, src: Ip4, dst: Ip4, out: &mut Out<'_>) -> Result<(), Full>
         requires { length self.now.body.now ≤ 65527 }
         ensures full { IsErr result ↔ (out.old.left < 8 + length self.now.body.now) }
-        ensures appended { OnOk result (out.new.written ≡ out.old.written ++ sent_datagram src dst (udp_parts self.now)) }
+        ensures appended { OnOk result
+            (out.new.written ≡ out.old.written ++ sent_datagram src dst (udp_parts self.now)) }
         ensures room { OnOk result (out.new.left + (8 + length self.now.body.now) ≡ out.old.left) }
         ensures refused { OnErr result (out.new ≡ out.old) }
-        ensures readable { IsUdp src dst (sent_datagram src dst (udp_parts self.now)) (udp_parts self.now) }
+        ensures readable { IsUdp src dst (sent_datagram src dst (udp_parts self.now))
+            (udp_parts self.now) }
     {
         let len = HEADER_LEN + self.body.len() as u16;
         let sum = covered_sum(&pseudo_bytes(src, dst, len), &self.header(0), self.body);

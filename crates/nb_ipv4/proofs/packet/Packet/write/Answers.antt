@@ -1,4 +1,4 @@
-use Rattle.std.proofs.Common.{◌≡◌, ◌++◌, sym}
+use Rattle.std.proofs.Common.{◌≡◌, ◌++◌}
 use Rattle.nb_ipv4.specs.PacketText.{packet_parts, sent_packet}
 use Rattle.nb_ipv4.proofs.SentLaws.{sent_readable, sent_whole}
 use Rattle.nb_ipv4.proofs.packet.Packet.write.Goals as goal

@@ -1,8 +1,8 @@
-use Rattle.std.proofs.Common.{◌≡◌, ℕ, ◌+◌, ◌*◌, ◌<◌, ◌≤◌, ◌⊎◌, List, [], ◌∷◌, ◌++◌, length, get_or, take, drop, sym, ap, ◌∙◌, inl, inr, arith, append-nil, refl}
+use Rattle.std.proofs.Common.{◌≡◌, ℕ, ◌+◌, ◌<◌, ◌≤◌, ◌⊎◌, List, ◌++◌, length, take, drop, sym, ap, ◌∙◌, inl, inr, arith, refl}
 use Rattle.nb_wire.specs.Checksum.{checksum}
 use Rattle.nb_wire.proofs.BytesLaws.{IsBytes, Splits, splits_of}
-use Rattle.nb_ipv4.specs.UdpText.{UdpParts, IsUdp, pseudo_header}
-use Rattle.nb_ipv4.proofs.UdpLaws.{IsUdpPlaced, udp_placed, udp_made, udp_one, made}
+use Rattle.nb_ipv4.specs.UdpText.{IsUdp, pseudo_header}
+use Rattle.nb_ipv4.proofs.UdpLaws.{udp_placed, udp_made, udp_one, made}
 use Rattle.nb_ipv4.proofs.udp.Udp.read.Goals as goal
 use Rattle.nb_ipv4.proofs.udp.Udp.read.Goals.{then-len-lt-HEADER_LEN-via-then-len-lt-HEADER_LEN, then-len-lt-HEADER_LEN-via-else-len-lt-HEADER_LEN+then-bytes-from}
 
