@@ -1,5 +1,5 @@
 -- A timer's answers over a whole run are the firings of its plan.
-use Rattle.std.proofs.Common.{◌≡◌, ℕ, ◌+◌, ◌-◌, ◌^◌, ◌<◌, ◌≤◌, List, [], ◌∷◌, ◌++◌, Option, Some, None, Bool, true, false, cond, refl, ap, ◌∙◌, sym, arith, leb, ltb, drop, length, map}
+use Rattle.std.proofs.Common.{◌≡◌, ℕ, ◌+◌, ◌-◌, ◌^◌, ◌<◌, ◌≤◌, List, [], ◌∷◌, ◌++◌, None, true, false, refl, ap, ◌∙◌, sym, arith, leb, ltb, drop, length, map}
 use Rattle.std.specs.List.{filter}
 use Rattle.std.specs.Prelude.{slice_index}
 use Rattle.std.proofs.Common.{subst, length-drop, get_or, suc, lit<, lit≤}
@@ -11,9 +11,9 @@ use Rattle.nb_retry.specs.declared.retry.Due.{Due}
 use Rattle.nb_retry.specs.declared.retry.Due.TheVariants.{Not, Again, Over}
 use Rattle.nb_retry.specs.declared.retry.Retry.{Retry}
 use Rattle.nb_retry.specs.Plans.{Asked, asked, Wait, wait, waits, delays, first_try, firings}
-use Rattle.nb_retry.specs.Timer.{started, later, is_due, goes_on, passed, answer, after, fired_at}
+use Rattle.nb_retry.specs.Timer.{started, later, is_due, goes_on, passed, answer, after}
 use Rattle.nb_retry.specs.Calls.{Says, Stands, FollowsPlan, fires}
-use Rattle.nb_retry.proofs.FiringLemmas.{ArePositive, either_way, firings-none, firings-past, firings-early, firings-due}
+use Rattle.nb_retry.proofs.FiringLemmas.{ArePositive, either_way, firings-none, firings-early, firings-due}
 
 -- the waits of a plan from a try on, made of its delays
 abbrev pub numbered : ℕ → List ℕ → List Wait

@@ -1,5 +1,5 @@
 -- One call of a timer: what it says at a moment, and what it is afterwards.
-use Rattle.std.specs.Prelude.{ℕ, ◌+◌, ◌-◌, ◌^◌, Bool, true, false, Option, Some, None, length, nat_le, nat_lt, slice_index, if◌then◌else◌}
+use Rattle.std.specs.Prelude.{ℕ, ◌+◌, ◌-◌, ◌^◌, Bool, false, Option, Some, None, length, nat_le, nat_lt, slice_index, if◌then◌else◌}
 use Rattle.std.specs.Option.{option_map_or}
 use Rattle.nb_retry.specs.declared.plan.Plan.{Plan}
 use Rattle.nb_retry.specs.declared.retry.Due.{Due}

@@ -1,10 +1,10 @@
 -- Laws of decimals.
-use Rattle.std.proofs.Common.{◌≡◌, ℕ, ◌+◌, ◌-◌, ◌*◌, ◌/◌, ◌%◌, ◌^◌, ◌<◌, ◌≤◌, List, [], ◌∷◌, ◌++◌, Option, Some, None, Bool, true, false, cond, not, ◌&&◌, refl, ap, ◌∙◌, sym, arith, eqb, ltb, take, drop, get_or, length, suc, map, lit≤, append_assoc}
+use Rattle.std.proofs.Common.{◌≡◌, ℕ, ◌+◌, ◌-◌, ◌*◌, ◌/◌, ◌%◌, ◌^◌, ◌<◌, ◌≤◌, List, [], ◌∷◌, ◌++◌, Option, Some, None, true, false, cond, ◌&&◌, refl, ap, ◌∙◌, sym, arith, eqb, ltb, drop, get_or, length, suc, map, lit≤, append_assoc}
 use Rattle.std.specs.Char.{is_ascii_digit, digit_value}
 use Rattle.std.specs.Int.{IsInRange}
 use Rattle.std.specs.Int.Digits.{digits_of}
 use Rattle.std.specs.List.{list_all}
-use Rattle.std.specs.Str.Parse.{digits_value_after, digits_value}
+use Rattle.std.specs.Str.Parse.{digits_value_after}
 use Rattle.std.proofs.Math.Dec.{eqb-suc-zero}
 use Rattle.std.proofs.lemmas.Bool.{false≢true, ne_eqb, eqb-true, eqb-false, lt-ltb, le-ltb, ltb-true, ltb-false}
 use Rattle.std.proofs.lemmas.Int.Digits.{digits_of_step, length-digits_of-le}
@@ -73,15 +73,15 @@ pub decimal_text-last : (n : ℕ) → n < 10 → decimal_text n ≡ (48 + n) ∷
 decimal_text-last n small = either_way (eqb n 0)
     (λ on. let zero : n ≡ 0 = eqb-true n 0 on in rw zero refl)
     (λ off.
-        let other : n ≡ 0 → ⊥ = eqb-false n 0 off in
-        let some : 0 < n = omega arith in
-        let none : n / 10 ≡ 0 = omega arith in
-        let last : n % 10 ≡ n = omega arith in
-        positive_is n some
-        ∙ ap (λ digits. map (λ digit. 48 + digit) digits)
-            (digits_of_step 10 n (lit≤ tt) some
-            ∙ ap (λ m. digits_of 10 m ++ (n % 10) ∷ []) none
-            ∙ ap (λ d. d ∷ []) last))
+    let other : n ≡ 0 → ⊥ = eqb-false n 0 off in
+    let some : 0 < n = omega arith in
+    let none : n / 10 ≡ 0 = omega arith in
+    let last : n % 10 ≡ n = omega arith in
+    positive_is n some
+    ∙ ap (λ digits. map (λ digit. 48 + digit) digits)
+    (digits_of_step 10 n (lit≤ tt) some
+    ∙ ap (λ m. digits_of 10 m ++ (n % 10) ∷ []) none
+    ∙ ap (λ d. d ∷ []) last))
 
 pub length-decimal_text : (n : ℕ) → n < 2 ^ 32 → length (decimal_text n) ≤ 10
 length-decimal_text n small = either_way (eqb n 0)

@@ -1,5 +1,5 @@
 -- Laws of an OACK's options.
-use Rattle.std.proofs.Common.{◌≡◌, ℕ, ◌+◌, ◌^◌, ◌<◌, ◌≤◌, List, [], ◌∷◌, ◌++◌, Option, Some, None, Bool, true, false, cond, ◌&&◌, refl, ap, ◌∙◌, sym, subst, arith, eqb, length, get_or, suc, append_assoc}
+use Rattle.std.proofs.Common.{◌≡◌, ℕ, ◌^◌, ◌<◌, List, [], ◌∷◌, ◌++◌, Option, Some, None, Bool, true, false, ◌&&◌, refl, ap, ◌∙◌, sym, subst, arith, eqb, length, get_or, append_assoc}
 use Rattle.std.specs.Prelude.{codes}
 use Rattle.std.specs.Str.{str_to_ascii_lowercase}
 use Rattle.std.proofs.lemmas.Slice.Eq.{bytes_eq-Decides}
@@ -89,30 +89,31 @@ pub with_first-reads : (found more : Found) (bytes rest : List ℕ) → with_fir
 with_first-reads found more bytes rest is =
     option_and_then_some (behind_name found) (text_at bytes) (more, rest) is (λ name at_name then_value.
     option_and_then_some (behind_value found name.0) (text_at name.1) (more, rest) then_value (λ value at_value then_more.
-        let done = option_map_some (λ (m : Found). with_rest m value.1) (with_option found name.0 value.0) (more, rest) then_more in
-        let same_more : done.0 ≡ more = ap (λ p. p.0) done.2 in
-        let same_rest : value.1 ≡ rest = ap (λ p. p.1) done.2 in
-        let step : with_option found name.0 value.0 ≡ Some more = done.1 ∙ ap (λ m. Some m) same_more in
-        let texts_are : texts bytes ≡ option_map (λ ts. name.0 ∷ ts) (option_map (λ ts. value.0 ∷ ts) (texts value.1)) =
-            texts-front bytes name.0 name.1 at_name ∙ ap (λ t. option_map (λ ts. name.0 ∷ ts) t) (texts-front name.1 value.0 value.1 at_value) in
-        let first : length name.1 < length bytes = text_at-shorter bytes name.0 name.1 at_name in
-        let second : length value.1 < length name.1 = text_at-shorter name.1 value.0 value.1 at_value in
-        let last : length value.1 ≡ length rest = ap length same_rest in
-        ( ap (λ t. option_and_then (pairs_reading found) t) texts_are ∙ two_texts found more name.0 value.0 (texts value.1) step ∙ ap (λ r. reading_from more r) same_rest
-        , omega arith )))
+    let done = option_map_some (λ (m : Found). with_rest m value.1) (with_option found name.0 value.0) (more, rest) then_more in
+    let same_more : done.0 ≡ more = ap (λ p. p.0) done.2 in
+    let same_rest : value.1 ≡ rest = ap (λ p. p.1) done.2 in
+    let step : with_option found name.0 value.0 ≡ Some more = done.1 ∙ ap (λ m. Some m) same_more in
+    let texts_are : texts bytes ≡ option_map (λ ts. name.0 ∷ ts) (option_map (λ ts. value.0 ∷ ts) (texts value.1)) =
+    texts-front bytes name.0 name.1 at_name ∙ ap (λ t. option_map (λ ts. name.0 ∷ ts) t) (texts-front name.1 value.0 value.1 at_value) in
+    let first : length name.1 < length bytes = text_at-shorter bytes name.0 name.1 at_name in
+    let second : length value.1 < length name.1 = text_at-shorter name.1 value.0 value.1 at_value in
+    let last : length value.1 ≡ length rest = ap length same_rest in (
+      ap (λ t. option_and_then (pairs_reading found) t) texts_are ∙ two_texts found more name.0 value.0 (texts value.1) step ∙ ap (λ r. reading_from more r) same_rest,
+      omega arith,
+    )))
 
 pub with_first-refuses : (found : Found) (bytes : List ℕ) → eqb (length bytes) 0 ≡ false → with_first found bytes ≡ None → reading_from found bytes ≡ None
 with_first-refuses found [] some is = absurd (false≢true (sym some))
 with_first-refuses found (byte ∷ bytes) some is =
     option_and_then_none (behind_name found) (text_at (byte ∷ bytes)) is
-        (λ none. ap (λ t. option_and_then (pairs_reading found) t) (texts-none byte bytes none))
-        (λ name at_name then_none.
-            ap (λ t. option_and_then (pairs_reading found) t) (texts-front (byte ∷ bytes) name.0 name.1 at_name)
-            ∙ option_and_then_none (behind_value found name.0) (text_at name.1) then_none
-                (λ none. half_option found name.0 name.1 none)
-                (λ value at_value refused.
-                    ap (λ t. option_and_then (pairs_reading found) (option_map (λ ts. name.0 ∷ ts) t)) (texts-front name.1 value.0 value.1 at_value)
-                    ∙ refused_texts found name.0 value.0 (texts value.1) (option_map_none (λ (m : Found). with_rest m value.1) (with_option found name.0 value.0) refused)))
+    (λ none. ap (λ t. option_and_then (pairs_reading found) t) (texts-none byte bytes none))
+    (λ name at_name then_none.
+    ap (λ t. option_and_then (pairs_reading found) t) (texts-front (byte ∷ bytes) name.0 name.1 at_name)
+    ∙ option_and_then_none (behind_value found name.0) (text_at name.1) then_none
+    (λ none. half_option found name.0 name.1 none)
+    (λ value at_value refused.
+    ap (λ t. option_and_then (pairs_reading found) (option_map (λ ts. name.0 ∷ ts) t)) (texts-front name.1 value.0 value.1 at_value)
+    ∙ refused_texts found name.0 value.0 (texts value.1) (option_map_none (λ (m : Found). with_rest m value.1) (with_option found name.0 value.0) refused)))
 
 -- what was found, or what the options say
 abbrev pub kept : Option ℕ → Option (Option ℕ) → Option (Option ℕ)
@@ -133,10 +134,10 @@ said_by found options =
 apart : (name : List ℕ) → is_named (codes "blksize") name ≡ true → is_named (codes "tsize") name ≡ false
 apart name is = either_way (is_named (codes "tsize") name)
     (λ on.
-        let one : str_to_ascii_lowercase name ≡ str_to_ascii_lowercase (codes "blksize") = (bytes_eq-Decides (str_to_ascii_lowercase name) (str_to_ascii_lowercase (codes "blksize"))).0 is in
-        let other : str_to_ascii_lowercase name ≡ str_to_ascii_lowercase (codes "tsize") = (bytes_eq-Decides (str_to_ascii_lowercase name) (str_to_ascii_lowercase (codes "tsize"))).0 on in
-        let heads : 98 ≡ 116 = ap (λ t. get_or t 0 0) (sym one ∙ other) in
-        absurd (omega arith))
+    let one : str_to_ascii_lowercase name ≡ str_to_ascii_lowercase (codes "blksize") = (bytes_eq-Decides (str_to_ascii_lowercase name) (str_to_ascii_lowercase (codes "blksize"))).0 is in
+    let other : str_to_ascii_lowercase name ≡ str_to_ascii_lowercase (codes "tsize") = (bytes_eq-Decides (str_to_ascii_lowercase name) (str_to_ascii_lowercase (codes "tsize"))).0 on in
+    let heads : 98 ≡ 116 = ap (λ t. get_or t 0 0) (sym one ∙ other) in
+    absurd (omega arith))
     (λ off. off)
 
 kept-skips : (found : Option ℕ) (wanted : List ℕ) (bound : ℕ) (o : TftpOption) (os : List TftpOption) → (is_none found && is_named wanted o.name) ≡ false → kept found (first_number wanted bound (o ∷ os)) ≡ kept found (first_number wanted bound os)
@@ -211,12 +212,12 @@ pairs_step found o os = refl
 -- reading names and values in turn is what the options say
 pub pairs-say : (found : Found) (options : List TftpOption) → pairs_reading found (names options) ≡ said_by found options
 pairs-say found [] = sym (nothing_more found)
-pairs-say found (o ∷ os) = pairs_step found o os ∙ 
+pairs-say found (o ∷ os) = pairs_step found o os ∙
     either_way (is_none found.blksize && is_named (codes "blksize") o.name)
-        (λ blksize. says_blksize found o os blksize (λ more. pairs-say more os))
-        (λ no_blksize. either_way (is_none found.tsize && is_named (codes "tsize") o.name)
-            (λ tsize. says_tsize found o os no_blksize tsize (λ more. pairs-say more os))
-            (λ no_tsize. says_other found o os no_blksize no_tsize (pairs-say found os)))
+    (λ blksize. says_blksize found o os blksize (λ more. pairs-say more os))
+    (λ no_blksize. either_way (is_none found.tsize && is_named (codes "tsize") o.name)
+    (λ tsize. says_tsize found o os no_blksize tsize (λ more. pairs-say more os))
+    (λ no_tsize. says_other found o os no_blksize no_tsize (pairs-say found os)))
 
 abbrev Stand : List ℕ → List (List ℕ) → Type 0
 Stand bytes found = AllByRecursion HasNoZero found × (bytes ≡ flat_map ended found)
@@ -231,7 +232,7 @@ front_stands : (byte : ℕ) (bytes : List ℕ) (found : List (List ℕ)) → (by
 front_stands byte bytes found other [] stand is = absurd (none-some found is)
 front_stands byte bytes found other (t ∷ ts) stand is =
     subst (λ (f : List (List ℕ)). Stand (byte ∷ bytes) f) (same_Some ((byte ∷ t) ∷ ts) found is)
-        (((omega arith, stand.0.0), stand.0.1), ap (λ bs. byte ∷ bs) stand.1)
+    (((omega arith, stand.0.0), stand.0.1), ap (λ bs. byte ∷ bs) stand.1)
 
 longer_stands : (byte : ℕ) (bytes : List ℕ) (found : List (List ℕ)) → (byte ≡ 0 → ⊥) → ((inner : List (List ℕ)) → texts bytes ≡ Some inner → Stand bytes inner) → option_and_then (in_front byte) (texts bytes) ≡ Some found → Stand (byte ∷ bytes) found
 longer_stands byte bytes found other stand is =
@@ -252,8 +253,8 @@ names-are found done [] is = ([], refl)
 names-are found done (name ∷ []) is = absurd (none-some done is)
 names-are found done (name ∷ value ∷ rest) is =
     option_and_then_some (λ more. pairs_reading more rest) (with_option found name value) done is (λ more at later.
-        let options = names-are more done rest later in
-        (record { name = name; value = value } ∷ options.0, ap (λ ts. name ∷ value ∷ ts) options.1))
+    let options = names-are more done rest later in
+    (record { name = name; value = value } ∷ options.0, ap (λ ts. name ∷ value ∷ ts) options.1))
 
 both_is : (size length : Option (Option ℕ)) (found : Found) → both size length ≡ Some found → (size ≡ Some found.blksize) × (length ≡ Some found.tsize)
 both_is None length found is = absurd (none-some found is)
@@ -282,12 +283,12 @@ names-read (o ∷ os) clean =
 pub options_stand : (bytes : List ℕ) (found : Found) → options_reading bytes ≡ Some found → (options : List TftpOption) × AllByRecursion IsOption options × (bytes ≡ options_text options) × OptionsSay options found.blksize found.tsize
 options_stand bytes found is =
     option_and_then_some (pairs_reading nothing_found) (texts bytes) found is (λ given at then_pairs.
-        let stand = texts-stand bytes given at in
-        let options = names-are nothing_found found given then_pairs in
-        let clean = subst (λ (ts : List (List ℕ)). AllByRecursion HasNoZero ts) options.1 stand.0 in
-        let said = both_is (first_number (codes "blksize") (2 ^ 16) options.0) (first_number (codes "tsize") (2 ^ 32) options.0) found
-            (sym (pairs-say nothing_found options.0) ∙ ap (λ ts. pairs_reading nothing_found ts) (sym options.1) ∙ then_pairs) in
-        (options.0, names-clean options.0 clean, stand.1 ∙ ap (λ ts. flat_map ended ts) options.1 ∙ names-text options.0, record { blksize = said.0; tsize = said.1 }))
+    let stand = texts-stand bytes given at in
+    let options = names-are nothing_found found given then_pairs in
+    let clean = subst (λ (ts : List (List ℕ)). AllByRecursion HasNoZero ts) options.1 stand.0 in
+    let said = both_is (first_number (codes "blksize") (2 ^ 16) options.0) (first_number (codes "tsize") (2 ^ 32) options.0) found
+    (sym (pairs-say nothing_found options.0) ∙ ap (λ ts. pairs_reading nothing_found ts) (sym options.1) ∙ then_pairs) in
+    (options.0, names-clean options.0 clean, stand.1 ∙ ap (λ ts. flat_map ended ts) options.1 ∙ names-text options.0, record { blksize = said.0; tsize = said.1 }))
 
 -- what stands in the bytes is read
 pub options_read : (options : List TftpOption) (size length : Option ℕ) → AllByRecursion IsOption options → OptionsSay options size length → options_reading (options_text options) ≡ Some (record { blksize = size; tsize = length })

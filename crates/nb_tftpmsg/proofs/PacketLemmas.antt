@@ -1,18 +1,16 @@
 -- Reading is the grammar, in both directions.
-use Rattle.std.proofs.Common.{◌≡◌, ℕ, ◌+◌, ◌^◌, ◌<◌, List, [], ◌∷◌, ◌++◌, Option, Some, None, Bool, true, false, cond, refl, ap, ◌∙◌, sym, subst, arith, eqb, length, get_or, suc, append_assoc, ◌*◌, ◌/◌, ◌%◌}
+use Rattle.std.proofs.Common.{◌≡◌, ℕ, ◌+◌, ◌^◌, ◌<◌, List, [], ◌∷◌, ◌++◌, Option, Some, None, Bool, true, false, refl, ap, ◌∙◌, sym, subst, arith, eqb, length, get_or, suc, append_assoc, ◌*◌, ◌/◌, ◌%◌}
 use Rattle.std.specs.Int.{to_be_bytes, from_be_bytes, w16}
-use Rattle.std.specs.List.{AllByRecursion}
-use Rattle.std.specs.Option.{option_map, option_and_then, IfSome}
+use Rattle.std.specs.Option.{option_map, IfSome}
 use Rattle.std.specs.Str.{bytes_eq}
 use Rattle.std.proofs.lemmas.Bool.{eqb-true, false≢true}
-use Rattle.std.proofs.lemmas.Nat.{from_be_bytes-to_be_bytes_2, be_bytes_2}
+use Rattle.std.proofs.lemmas.Nat.{from_be_bytes-to_be_bytes_2}
 use Rattle.std.proofs.lemmas.Option.{none-some, same_Some, option_and_then_some, cond_some}
 use Rattle.std.proofs.lemmas.Slice.Eq.{bytes_eq-Decides}
 use Rattle.nb_tftpmsg.specs.Texts.{HasNoZero, ended, text_at}
-use Rattle.nb_tftpmsg.specs.Options.{TftpOption, IsOption, options_text, OptionsSay}
-use Rattle.nb_tftpmsg.specs.Packets.{Message, rrq, block, ack, error, oack, request_tail, packet_text, IsPacket}
+use Rattle.nb_tftpmsg.specs.Packets.{Message, rrq, block, ack, error, oack, request_tail, IsPacket}
 use Rattle.nb_tftpmsg.specs.Reading.{Found, options_reading, request_reading, block_reading, ack_reading, error_reading, oack_reading, body_reading, reading}
-use Rattle.nb_tftpmsg.proofs.TextLemmas.{either_way, cut, text_at-front, text_at-stands}
+use Rattle.nb_tftpmsg.proofs.TextLemmas.{either_way, text_at-front, text_at-stands}
 use Rattle.nb_tftpmsg.proofs.OptionLemmas.{option_map_some, options_stand, options_read}
 use Rattle.std.proofs.Math.Dec.{eqb-suc-zero}
 
@@ -55,16 +53,16 @@ request_stands : (body : List ℕ) (m : Message) → request_reading body ≡ So
 request_stands body m is = option_and_then_some _ (text_at body) m is (λ found at then_tail.
     let stand = text_at-stands body found.0 found.1 at in
     either_way (bytes_eq found.1 (request_tail false))
-        (λ plain.
-            let tail = same_bytes found.1 (request_tail false) plain in
-            let same : rrq found.0 false ≡ m = same_Some (rrq found.0 false) m (rw plain at then_tail) in
-            subst (λ (x : Message). IsPacket (0 ∷ 1 ∷ body) x) same (stand.0, ap (λ b. 0 ∷ 1 ∷ b) (stand.1 ∙ ended_front found.0 found.1 ∙ ap (λ t. found.0 ++ 0 ∷ t) tail)))
-        (λ other. either_way (bytes_eq found.1 (request_tail true))
-            (λ full.
-                let tail = same_bytes found.1 (request_tail true) full in
-                let same : rrq found.0 true ≡ m = same_Some (rrq found.0 true) m (rw (other, full) at then_tail) in
-                subst (λ (x : Message). IsPacket (0 ∷ 1 ∷ body) x) same (stand.0, ap (λ b. 0 ∷ 1 ∷ b) (stand.1 ∙ ended_front found.0 found.1 ∙ ap (λ t. found.0 ++ 0 ∷ t) tail)))
-            (λ none. absurd (none-some m (rw (other, none) at then_tail)))))
+    (λ plain.
+    let tail = same_bytes found.1 (request_tail false) plain in
+    let same : rrq found.0 false ≡ m = same_Some (rrq found.0 false) m (rw plain at then_tail) in
+    subst (λ (x : Message). IsPacket (0 ∷ 1 ∷ body) x) same (stand.0, ap (λ b. 0 ∷ 1 ∷ b) (stand.1 ∙ ended_front found.0 found.1 ∙ ap (λ t. found.0 ++ 0 ∷ t) tail)))
+    (λ other. either_way (bytes_eq found.1 (request_tail true))
+    (λ full.
+    let tail = same_bytes found.1 (request_tail true) full in
+    let same : rrq found.0 true ≡ m = same_Some (rrq found.0 true) m (rw (other, full) at then_tail) in
+    subst (λ (x : Message). IsPacket (0 ∷ 1 ∷ body) x) same (stand.0, ap (λ b. 0 ∷ 1 ∷ b) (stand.1 ∙ ended_front found.0 found.1 ∙ ap (λ t. found.0 ++ 0 ∷ t) tail)))
+    (λ none. absurd (none-some m (rw (other, none) at then_tail)))))
 
 block_stands : (body : List ℕ) (m : Message) → IsBytes body → block_reading body ≡ Some m → IsPacket (0 ∷ 3 ∷ body) m
 block_stands [] m are is = absurd (none-some m is)
@@ -72,7 +70,7 @@ block_stands (high ∷ []) m are is = absurd (none-some m is)
 block_stands (high ∷ low ∷ bytes) m are is =
     let number = number_stands high low (are 0) (are 1) in
     subst (λ (x : Message). IsPacket (0 ∷ 3 ∷ high ∷ low ∷ bytes) x) (same_Some (block (from_be_bytes w16 (high ∷ low ∷ [])) bytes) m is)
-        (number.0, ap (λ n. 0 ∷ 3 ∷ (n ++ bytes)) number.1)
+    (number.0, ap (λ n. 0 ∷ 3 ∷ (n ++ bytes)) number.1)
 
 ack_stands : (body : List ℕ) (m : Message) → IsBytes body → ack_reading body ≡ Some m → IsPacket (0 ∷ 4 ∷ body) m
 ack_stands [] m are is = absurd (none-some m is)
@@ -81,7 +79,7 @@ ack_stands (high ∷ low ∷ more ∷ bytes) m are is = absurd (none-some m is)
 ack_stands (high ∷ low ∷ []) m are is =
     let number = number_stands high low (are 0) (are 1) in
     subst (λ (x : Message). IsPacket (0 ∷ 4 ∷ high ∷ low ∷ []) x) (same_Some (ack (from_be_bytes w16 (high ∷ low ∷ []))) m is)
-        (number.0, ap (λ n. 0 ∷ 4 ∷ n) number.1)
+    (number.0, ap (λ n. 0 ∷ 4 ∷ n) number.1)
 
 none_left : (bytes : List ℕ) → eqb (length bytes) 0 ≡ true → bytes ≡ []
 none_left [] on = refl
@@ -95,7 +93,7 @@ error_stands (high ∷ low ∷ rest) m are is = option_and_then_some _ (text_at 
     let number = number_stands high low (are 0) (are 1) in
     let done = cond_some (eqb (length found.1) 0) (error (from_be_bytes w16 (high ∷ low ∷ [])) found.0) m then_end in
     subst (λ (x : Message). IsPacket (0 ∷ 5 ∷ high ∷ low ∷ rest) x) done.1
-        (number.0, stand.0, ap (λ r. 0 ∷ 5 ∷ high ∷ low ∷ r) (stand.1 ∙ ended_front found.0 found.1 ∙ ap (λ t. found.0 ++ 0 ∷ t) (none_left found.1 done.0)) ∙ ap (λ n. 0 ∷ 5 ∷ (n ++ ended found.0)) number.1))
+    (number.0, stand.0, ap (λ r. 0 ∷ 5 ∷ high ∷ low ∷ r) (stand.1 ∙ ended_front found.0 found.1 ∙ ap (λ t. found.0 ++ 0 ∷ t) (none_left found.1 done.0)) ∙ ap (λ n. 0 ∷ 5 ∷ (n ++ ended found.0)) number.1))
 
 oack_stands : (body : List ℕ) (m : Message) → oack_reading body ≡ Some m → IsPacket (0 ∷ 6 ∷ body) m
 oack_stands body m is =

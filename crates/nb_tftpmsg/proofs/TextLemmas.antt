@@ -1,5 +1,5 @@
 -- Laws of texts that end in a zero byte.
-use Rattle.std.proofs.Common.{◌≡◌, ℕ, ◌+◌, ◌-◌, ◌<◌, ◌≤◌, List, [], ◌∷◌, ◌++◌, Option, Some, None, Bool, true, false, cond, not, refl, ap, subst, ◌∙◌, sym, arith, eqb, ltb, take, drop, length, suc, length-drop, length-append}
+use Rattle.std.proofs.Common.{◌≡◌, ℕ, ◌+◌, ◌-◌, ◌<◌, ◌≤◌, List, [], ◌∷◌, ◌++◌, Option, Some, None, Bool, true, false, cond, refl, ap, subst, ◌∙◌, arith, eqb, ltb, take, drop, length, suc, length-drop, length-append}
 use Rattle.std.proofs.lemmas.Bool.{lt-ltb, le-ltb, ltb-true, ltb-false, ne_eqb, eqb-true, eqb-false}
 use Rattle.std.proofs.lemmas.Option.{same_Some}
 use Rattle.std.proofs.Math.Seq.{take-length}
@@ -23,13 +23,13 @@ split_before bytes end = (take end bytes, drop (end + 1) bytes)
 shifted : (byte : ℕ) (bytes : List ℕ) (k n : ℕ) (found : Option (List ℕ × List ℕ)) → found ≡ option_map (split_before bytes) (cond (ltb k n) (Some k) None) → option_map (λ f. (byte ∷ f.0, f.1)) found ≡ option_map (split_before (byte ∷ bytes)) (cond (ltb (1 + k) (suc n)) (Some (1 + k)) None)
 shifted byte bytes k n found is = either_way (ltb k n)
     (λ on.
-        let before : k < n = ltb-true k n on in
-        let one : 1 + k ≡ suc k = omega arith in
-        let more : suc k + 1 ≡ suc (k + 1) = omega arith in
-        rw (is, on, lt-ltb (1 + k) (suc n) (omega arith), one, more) refl)
+    let before : k < n = ltb-true k n on in
+    let one : 1 + k ≡ suc k = omega arith in
+    let more : suc k + 1 ≡ suc (k + 1) = omega arith in
+    rw (is, on, lt-ltb (1 + k) (suc n) (omega arith), one, more) refl)
     (λ off.
-        let behind : n ≤ k = ltb-false k n off in
-        rw (is, off, le-ltb (1 + k) (suc n) (omega arith)) refl)
+    let behind : n ≤ k = ltb-false k n off in
+    rw (is, off, le-ltb (1 + k) (suc n) (omega arith)) refl)
 
 -- the text ends where the first zero byte stands
 pub text_at-is : (bytes : List ℕ) → text_at bytes ≡ option_map (split_before bytes) (position (λ byte. eqb byte 0) bytes)

@@ -1,18 +1,18 @@
 -- An OACK that is written is read again.
-use Rattle.std.proofs.Common.{◌≡◌, ℕ, ◌+◌, ◌^◌, ◌<◌, ◌≤◌, List, [], ◌∷◌, ◌++◌, Option, Some, None, Bool, true, false, cond, ◌&&◌, refl, ap, ◌∙◌, sym, arith, leb, ltb, eqb, length, map, lit<, lit≤}
+use Rattle.std.proofs.Common.{◌≡◌, ℕ, ◌+◌, ◌^◌, ◌<◌, List, [], ◌∷◌, ◌++◌, Option, Some, None, true, refl, ap, ◌∙◌, sym, arith, eqb, length, map, lit<, lit≤}
 use Rattle.std.specs.Prelude.{codes}
 use Rattle.std.specs.Char.{is_ascii_digit, digit_value}
 use Rattle.std.specs.Int.Digits.{digits_of, AllBelowBase, number_from_digits}
-use Rattle.std.specs.List.{AllByRecursion, list_all}
+use Rattle.std.specs.List.{list_all}
 use Rattle.std.specs.Option.{option_map, IfSome}
 use Rattle.std.specs.Str.Parse.{digits_value}
-use Rattle.std.proofs.lemmas.Bool.{eqb-true, ne_eqb, le-leb, lt-ltb}
+use Rattle.std.proofs.lemmas.Bool.{eqb-true, le-leb, lt-ltb}
 use Rattle.std.proofs.lemmas.Int.Digits.{digits_value_is, all_below_base_digits_of, number_digits_of}
 use Rattle.std.proofs.lemmas.List.{append-nil}
 use Rattle.std.proofs.lemmas.Str.{digit_value_digit}
 use Rattle.nb_tftpmsg.specs.Texts.{HasNoZero, ended, decimal, decimal_text}
-use Rattle.nb_tftpmsg.specs.Options.{TftpOption, IsOption, OptionsSay, first_number}
-use Rattle.nb_tftpmsg.specs.Packets.{Message, oack, packet_text, IsPacket}
+use Rattle.nb_tftpmsg.specs.Options.{TftpOption, IsOption}
+use Rattle.nb_tftpmsg.specs.Packets.{oack, packet_text, IsPacket}
 use Rattle.nb_tftpmsg.proofs.TextLemmas.{either_way}
 use Rattle.nb_tftpmsg.proofs.DecimalLemmas.{length-decimal_text-some}
 
@@ -44,9 +44,9 @@ value_again : (n : ℕ) → digits_value 10 (decimal_text n) ≡ n
 value_again n = either_way (eqb n 0)
     (λ on. rw on (sym (eqb-true n 0 on)))
     (λ off. rw off
-        (digits_value_is 10 (map written (digits_of 10 n))
-        ∙ ap (λ ds. number_from_digits 10 ds) (values_are (digits_of 10 n) (all_below_base_digits_of 10 n (lit≤ tt)))
-        ∙ number_digits_of 10 n (lit≤ tt)))
+    (digits_value_is 10 (map written (digits_of 10 n))
+    ∙ ap (λ ds. number_from_digits 10 ds) (values_are (digits_of 10 n) (all_below_base_digits_of 10 n (lit≤ tt)))
+    ∙ number_digits_of 10 n (lit≤ tt)))
 
 pub decimal_again : (bound n : ℕ) → n < bound → decimal bound (decimal_text n) ≡ Some n
 decimal_again bound n small =
@@ -54,7 +54,6 @@ decimal_again bound n small =
 
 abbrev option : List ℕ → ℕ → TftpOption
 option name n = record { name = name; value = decimal_text n }
-
 
 size_option : (n : ℕ) → IsOption (option (codes "blksize") n)
 size_option n = record { name = (lit< tt, (lit< tt, (lit< tt, (lit< tt, (lit< tt, (lit< tt, (lit< tt, tt))))))); value = clean_decimal n }
@@ -71,8 +70,9 @@ oack_again (Some n) None fits longer =
     (option (codes "blksize") n ∷ [], (size_option n, tt), refl, record { blksize = ap (λ d. option_map (λ x. Some x) d) (decimal_again (2 ^ 16) n fits); tsize = refl })
 oack_again None (Some n) fits longer =
     (option (codes "tsize") n ∷ [], (length_option n, tt), ap (λ t. 0 ∷ 6 ∷ t) (sym (append-nil (text_of (codes "tsize") n))), record { blksize = refl; tsize = ap (λ d. option_map (λ x. Some x) d) (decimal_again (2 ^ 32) n longer) })
-oack_again (Some m) (Some n) fits longer =
-    ( option (codes "blksize") m ∷ option (codes "tsize") n ∷ []
-    , (size_option m, (length_option n, tt))
-    , ap (λ t. 0 ∷ 6 ∷ (text_of (codes "blksize") m ++ t)) (sym (append-nil (text_of (codes "tsize") n)))
-    , record { blksize = ap (λ d. option_map (λ x. Some x) d) (decimal_again (2 ^ 16) m fits); tsize = ap (λ d. option_map (λ x. Some x) d) (decimal_again (2 ^ 32) n longer) })
+oack_again (Some m) (Some n) fits longer = (
+  option (codes "blksize") m ∷ option (codes "tsize") n ∷ [],
+  (size_option m, (length_option n, tt)),
+  ap (λ t. 0 ∷ 6 ∷ (text_of (codes "blksize") m ++ t)) (sym (append-nil (text_of (codes "tsize") n))),
+  record { blksize = ap (λ d. option_map (λ x. Some x) d) (decimal_again (2 ^ 16) m fits); tsize = ap (λ d. option_map (λ x. Some x) d) (decimal_again (2 ^ 32) n longer) },
+)

@@ -1,6 +1,6 @@
 -- Reading as a function of the bytes, one for each function of the program. That it is the grammar of
 -- Packets, in both directions, is what `Tftp::read` promises.
-use Rattle.std.specs.Prelude.{ℕ, ◌^◌, ◌==◌, Bool, ◌&&◌, true, false, List, [], ◌∷◌, length, Option, Some, None, codes, if◌then◌else◌}
+use Rattle.std.specs.Prelude.{ℕ, ◌^◌, ◌==◌, ◌&&◌, true, false, List, [], ◌∷◌, length, Option, Some, None, codes, if◌then◌else◌}
 use Rattle.std.specs.Int.{from_be_bytes, w16}
 use Rattle.std.specs.Option.{option_map, option_and_then, is_none}
 use Rattle.std.specs.Str.{bytes_eq}
@@ -29,8 +29,8 @@ with_option found name value =
 abbrev pub with_first : Found → List ℕ → Option (Found × List ℕ)
 with_first found bytes =
     option_and_then
-        (λ name. option_and_then (λ value. option_map (λ more. (more, value.1)) (with_option found name.0 value.0)) (text_at name.1))
-        (text_at bytes)
+    (λ name. option_and_then (λ value. option_map (λ more. (more, value.1)) (with_option found name.0 value.0)) (text_at name.1))
+    (text_at bytes)
 
 -- a byte in front of the first of some texts
 abbrev pub in_front : ℕ → List (List ℕ) → Option (List (List ℕ))

@@ -1,4 +1,4 @@
-use Rattle.std.proofs.Common.{◌≡◌, ◌<◌, suc, length, ◌++◌, ap, ◌∙◌, sym, refl, lit<, arith, rules}
+use Rattle.std.proofs.Common.{◌≡◌, ◌<◌, suc, length, ◌++◌, ap, ◌∙◌, sym, lit<, arith}
 use Rattle.nb_tftpmsg.proofs.DecimalLemmas.{room_for_digit, digits-more, decimal_text-last}
 use Rattle.nb_tftpmsg.proofs.decimal.decimal_text.Goals as goal
 

@@ -1,4 +1,4 @@
-use Rattle.std.proofs.Common.{◌≡◌, ◌≤◌, ◌^◌, ◌<◌, ◌++◌}
+use Rattle.std.proofs.Common.{◌≡◌, ◌++◌}
 use Rattle.nb_tftpmsg.specs.Texts.{decimal_text}
 use Rattle.nb_tftpmsg.proofs.decimal.decimal_text.Given as goal
 
