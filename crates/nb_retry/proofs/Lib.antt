@@ -1,0 +1,2 @@
+pub mod FiringLemmas
+pub mod PlanLemmas

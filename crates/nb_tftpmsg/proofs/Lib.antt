@@ -1,0 +1,5 @@
+pub mod TextLemmas
+pub mod DecimalLemmas
+pub mod OptionLemmas
+pub mod PacketLemmas
+pub mod WrittenLemmas

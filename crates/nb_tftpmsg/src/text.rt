@@ -1,0 +1,23 @@
+//! Texts that end in a zero byte.
+
+ghost use Rattle.std.specs.Prelude.{◌≡◌, ◌<◌, ◌==◌, position, length, IfSome};
+ghost use Rattle.std.specs.Option.{option_map};
+ghost use Rattle.nb_tftpmsg.specs.Texts.{text_at};
+
+/// The bytes before the first zero byte, and those behind it.
+pub(crate) fn text_at(bytes: &[u8]) -> Option<(&[u8], &[u8])>
+    ensures { option_map (λ found. (found.0.now, found.1.now)) result ≡ text_at bytes.now }
+{
+    match zero_at(bytes) {
+        Some(end) => Some((&bytes[..end], &bytes[end + 1..])),
+        None => None,
+    }
+}
+
+/// The place of the first zero byte.
+fn zero_at(bytes: &[u8]) -> Option<usize>
+    ensures place { result ≡ position (λ byte. byte == 0) bytes.now }
+    ensures within { IfSome result (λ end. end < length bytes.now) }
+{
+    bytes.iter().position(|byte| *byte == 0)
+}
