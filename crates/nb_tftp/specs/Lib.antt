@@ -1,0 +1,4 @@
+pub mod Ends
+pub mod Asks
+pub mod Decisions
+pub mod Steps
