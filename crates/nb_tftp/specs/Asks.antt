@@ -9,7 +9,10 @@ use Rattle.nb_wire.specs.declared.address.Ip4.{Ip4}
 use Rattle.nb_tftpmsg.specs.Packets.{rrq, ack, error, packet_text}
 use Rattle.nb_tftp.specs.declared.answer.Answer.{Answer}
 use Rattle.nb_tftp.specs.declared.answer.Answer.TheVariants.{Ignored, Stranger, Again, Taken, Ended}
+use Rattle.nb_retry.specs.declared.retry.Due.{Due}
+use Rattle.nb_retry.specs.declared.retry.Due.TheVariants.{Not, Again as TryAgain, Over as PlanOver}
 use Rattle.nb_tftp.specs.Decisions.{end_of_block}
+use Rattle.nb_tftp.specs.Ends.{timed_out}
 
 -- what a transfer was begun with: the server, the port that is asked, our own port, and the request's packet
 pub record Begun : Type 0 where
@@ -64,3 +67,9 @@ acts_of b port Stranger = sending (stranger b port) None
 acts_of b port (Again n) = sending (ack_of b port n) None
 acts_of b port (Taken n len) = taken (ack_of b port n) n len (end_of_block n len)
 acts_of b port (Ended cause) = ended_by cause
+
+-- what the timer's answer asks: the last message again, or the end
+abbrev pub due_acts : Begun → Option ℕ → ℕ → Due → Acts
+due_acts b fixed last Not = nothing
+due_acts b fixed last (TryAgain n) = sending (last_message b fixed last) (Some n)
+due_acts b fixed last PlanOver = ended_by timed_out

@@ -13,59 +13,53 @@ use Rattle.nb_tftpmsg.specs.Reading.{reading}
 use Rattle.nb_tftp.specs.declared.answer.Answer.{Answer}
 use Rattle.nb_tftp.specs.declared.answer.Answer.TheVariants.{Ignored, Stranger, Again, Taken, Ended}
 use Rattle.nb_tftp.specs.declared.answer.Phase.TheVariants.{Asking, Taking, Over}
-use Rattle.nb_tftp.specs.declared.core.Core.{Core}
-use Rattle.nb_tftp.specs.Ends.{timed_out}
-use Rattle.nb_tftp.specs.Asks.{Begun, begun, nothing, sending, ended_by, last_message, acts_of}
+use Rattle.nb_tftp.specs.declared.state.State.{State}
+use Rattle.nb_tftp.specs.Asks.{Begun, begun, nothing, acts_of, due_acts}
 use Rattle.nb_tftp.specs.Decisions.{fixed_of, last_of, is_over, end_of_block, decided}
 
-abbrev pub begun_of : Core → Begun
-begun_of core = record { server = core.server; port = core.port; own_port = core.own_port; request = core.request.items }
+abbrev pub begun_of : State → Begun
+begun_of state = record { server = state.server; port = state.port; own_port = state.own_port; request = state.request.items }
 
-abbrev pub core_of : Begun → ℕ → Core
-core_of b now = record { server = b.server; port = b.port; own_port = b.own_port; request = record { items = b.request }; phase = Asking; retry = started now Common }
+abbrev pub state_of : Begun → ℕ → State
+state_of b now = record { server = b.server; port = b.port; own_port = b.own_port; request = record { items = b.request }; phase = Asking; retry = started now Common }
 
 -- the state behind an answer to a packet from a port
-abbrev pub after_answer : Core → ℕ → Answer → ℕ → Core
-after_answer core port (Taken n len) now =
+abbrev pub after_answer : State → ℕ → Answer → ℕ → State
+after_answer state port (Taken n len) now =
     if is_none (end_of_block n len)
-    then record core { phase = Taking port n; retry = started now Common }
-    else record core { phase = Over }
-after_answer core port (Ended cause) now = record core { phase = Over }
-after_answer core port Ignored now = core
-after_answer core port Stranger now = core
-after_answer core port (Again n) now = core
+    then record state { phase = Taking port n; retry = started now Common }
+    else record state { phase = Over }
+after_answer state port (Ended cause) now = record state { phase = Over }
+after_answer state port Ignored now = state
+after_answer state port Stranger now = state
+after_answer state port (Again n) now = state
 
-abbrev pub answer_of : Core → ℕ → ℕ → Message → Answer
-answer_of core rec port packet = decided (fixed_of core.phase) (last_of core.phase) rec port packet
+abbrev pub answer_of : State → ℕ → ℕ → Message → Answer
+answer_of state rec port packet = decided (fixed_of state.phase) (last_of state.phase) rec port packet
 
 -- a packet
-abbrev pub packet_acts : Core → ℕ → ℕ → Message → Acts
-packet_acts core rec port packet = if is_over core.phase then nothing else acts_of (begun_of core) port (answer_of core rec port packet)
+abbrev pub packet_acts : State → ℕ → ℕ → Message → Acts
+packet_acts state rec port packet = if is_over state.phase then nothing else acts_of (begun_of state) port (answer_of state rec port packet)
 
-abbrev pub after_packet : Core → ℕ → ℕ → Message → ℕ → Core
-after_packet core rec port packet now = if is_over core.phase then core else after_answer core port (answer_of core rec port packet) now
+abbrev pub after_packet : State → ℕ → ℕ → Message → ℕ → State
+after_packet state rec port packet now = if is_over state.phase then state else after_answer state port (answer_of state rec port packet) now
 
 -- any datagram's bytes; what is no packet is ignored
-abbrev pub bytes_acts : Core → ℕ → ℕ → List ℕ → Acts
-bytes_acts core rec port bytes = option_map_or (packet_acts core rec port) (reading bytes) nothing
+abbrev pub bytes_acts : State → ℕ → ℕ → List ℕ → Acts
+bytes_acts state rec port bytes = option_map_or (packet_acts state rec port) (reading bytes) nothing
 
-abbrev pub after_bytes : Core → ℕ → ℕ → List ℕ → ℕ → Core
-after_bytes core rec port bytes now = option_map_or (λ packet. after_packet core rec port packet now) (reading bytes) core
+abbrev pub after_bytes : State → ℕ → ℕ → List ℕ → ℕ → State
+after_bytes state rec port bytes now = option_map_or (λ packet. after_packet state rec port packet now) (reading bytes) state
 
--- what the timer's answer asks: the last message again, or the end
-abbrev pub due_acts : Begun → Option ℕ → ℕ → Due → Acts
-due_acts b fixed last Not = nothing
-due_acts b fixed last (TryAgain n) = sending (last_message b fixed last) (Some n)
-due_acts b fixed last PlanOver = ended_by timed_out
-
-abbrev pub after_due : Core → Due → Core
-after_due core Not = core
-after_due core (TryAgain n) = core
-after_due core PlanOver = record core { phase = Over }
+-- the state behind the timer's answer
+abbrev pub after_due : State → Due → State
+after_due state Not = state
+after_due state (TryAgain n) = state
+after_due state PlanOver = record state { phase = Over }
 
 -- a time
-abbrev pub tick_acts : Core → ℕ → Acts
-tick_acts core now = if is_over core.phase then nothing else due_acts (begun_of core) (fixed_of core.phase) (last_of core.phase) (answer core.retry now)
+abbrev pub tick_acts : State → ℕ → Acts
+tick_acts state now = if is_over state.phase then nothing else due_acts (begun_of state) (fixed_of state.phase) (last_of state.phase) (answer state.retry now)
 
-abbrev pub after_tick : Core → ℕ → Core
-after_tick core now = if is_over core.phase then core else after_due (record core { retry = after core.retry now }) (answer core.retry now)
+abbrev pub after_tick : State → ℕ → State
+after_tick state now = if is_over state.phase then state else after_due (record state { retry = after state.retry now }) (answer state.retry now)

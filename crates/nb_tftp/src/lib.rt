@@ -10,7 +10,7 @@
 mod acts;
 mod answer;
 mod causes;
-mod core;
+mod state;
 mod datagram;
 mod transfer;
 

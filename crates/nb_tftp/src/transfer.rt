@@ -4,7 +4,7 @@ ghost use Rattle.std.specs.Prelude.{◌≡◌, ◌<◌, ◌↔◌, length, IsErr
 
 use crate::acts::sending;
 use crate::answer::Phase;
-use crate::core::Core;
+use crate::state::State;
 use crate::datagram::body_of;
 use nb_retry::{Plan, Retry};
 use nb_terms::Acts;
@@ -22,22 +22,22 @@ pub struct TooLong;
 /// The transfer of one file from a server. It takes no memory.
 #[derive(Drop)]
 pub struct Transfer {
-    core: Core,
+    state: State,
 }
 
 impl Model for Transfer {
-    ghost use Rattle.nb_tftp.specs.declared.core.Core.{Core};
+    ghost use Rattle.nb_tftp.specs.declared.state.State.{State};
 
-    ghost Value = { Core };
+    ghost Value = { State };
 
-    ghost view = { λ t. t.core };
+    ghost view = { λ t. t.state };
 }
 
 impl Transfer {
     ghost use Rattle.std.specs.Prelude.{◌≡◌, ◌<◌, ◌↔◌, length, IsErr, IfOk, OnErr, OnOk, Some, None};
     ghost use Rattle.nb_tftpmsg.specs.Texts.{HasNoZero};
     ghost use Rattle.nb_tftp.specs.Asks.{nothing, sending, begun, last_message};
-    ghost use Rattle.nb_tftp.specs.Steps.{core_of, bytes_acts, after_bytes, tick_acts, after_tick};
+    ghost use Rattle.nb_tftp.specs.Steps.{state_of, bytes_acts, after_bytes, tick_acts, after_tick};
 
     /// Asks the server for the file of this path. The path holds no zero byte.
     pub fn start(
@@ -52,16 +52,16 @@ impl Transfer {
         requires { HasNoZero path.now }
         ensures too_long { IsErr result ↔ (1024 < length path.now) }
         ensures refused { OnErr result (acts.new ≡ nothing) }
-        ensures core { IfOk result (λ t. t ≡ core_of (begun server port own_port path.now) now) }
+        ensures state { IfOk result (λ t. t ≡ state_of (begun server port own_port path.now) now) }
         ensures acts { OnOk result (acts.new ≡ sending (last_message (begun server port own_port path.now) None 0) (Some 1)) }
     {
         if path.len() > MAX_PATH {
             *acts = Acts::none();
             return Err(TooLong);
         }
-        let core = Core::begun(server, port, own_port, path, now);
-        *acts = sending(core.last_message(), Some(1));
-        Ok(Transfer { core })
+        let state = State::begun(server, port, own_port, path, now);
+        *acts = sending(state.last_message(), Some(1));
+        Ok(Transfer { state })
     }
 
     /// A datagram of the transfer's port, from this port of the server; `rec` is its record's number.
@@ -70,7 +70,7 @@ impl Transfer {
         ensures after { self.new ≡ after_bytes self.old rec src_port body.now now }
     {
         *acts = match Tftp::read(body) {
-            Some(packet) => self.core.packet(rec, src_port, &packet, now),
+            Some(packet) => self.state.packet(rec, src_port, &packet, now),
             None => Acts::none(),
         };
     }
@@ -80,6 +80,6 @@ impl Transfer {
         ensures acts { acts.new ≡ tick_acts self.old now }
         ensures after { self.new ≡ after_tick self.old now }
     {
-        *acts = self.core.tick(now);
+        *acts = self.state.tick(now);
     }
 }

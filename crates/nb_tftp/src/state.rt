@@ -4,7 +4,7 @@ ghost use Rattle.std.specs.Prelude.{◌≡◌, ◌≤◌, length};
 ghost use Rattle.nb_tftpmsg.specs.Texts.{HasNoZero};
 ghost use Rattle.nb_tftp.specs.Decisions.{fixed_of, last_of};
 ghost use Rattle.nb_tftp.specs.Asks.{begun, datagram, last_message, acts_of};
-ghost use Rattle.nb_tftp.specs.Steps.{begun_of, core_of, after_answer, packet_acts, after_packet, tick_acts, after_tick};
+ghost use Rattle.nb_tftp.specs.Steps.{begun_of, state_of, after_answer, packet_acts, after_packet, tick_acts, after_tick};
 ghost use Rattle.nb_tftpmsg.specs.Views.{message};
 
 use crate::acts::{ended_by, sending, taken};
@@ -24,7 +24,7 @@ const UNKNOWN_TRANSFER: u16 = 5;
 
 /// How far a transfer is, and what it was begun with.
 #[derive(Drop)]
-pub(crate) struct Core {
+pub(crate) struct State {
     pub(crate) server: Ip4,
     /// The port that was asked.
     pub(crate) port: u16,
@@ -35,12 +35,12 @@ pub(crate) struct Core {
     pub(crate) retry: Retry,
 }
 
-impl Core {
+impl State {
     /// A transfer whose request is out.
-    pub(crate) fn begun(server: Ip4, port: u16, own_port: u16, path: &[u8], now: u64) -> Core
+    pub(crate) fn begun(server: Ip4, port: u16, own_port: u16, path: &[u8], now: u64) -> State
         requires clean { HasNoZero path.now }
         requires fits { length path.now ≤ 1024 }
-        ensures { result ≡ core_of (begun server port own_port path.now) now }
+        ensures { result ≡ state_of (begun server port own_port path.now) now }
     {
         let mut retry = Retry::stopped();
         retry.start(now, Plan::Common);
@@ -48,7 +48,7 @@ impl Core {
             path,
             options: false,
         };
-        Core {
+        State {
             server,
             port,
             own_port,
