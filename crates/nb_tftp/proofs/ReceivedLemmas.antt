@@ -26,7 +26,7 @@ by_option : {A P : Type 0} (o : Option A) → (o ≡ None → P) → ((x : A) �
 by_option None none some = none refl
 by_option (Some x) none some = some x refl
 
-and_left : (a b : Bool) → (a && b) ≡ true → a ≡ true
+pub and_left : (a b : Bool) → (a && b) ≡ true → a ≡ true
 and_left true b is = refl
 and_left false b is = absurd (false≢true is)
 
