@@ -46,16 +46,16 @@ and_off false = refl
 block_means : (fixed : Option ℕ) (last rec port n : ℕ) (bytes : List ℕ) → from_server fixed port ≡ true → Means fixed last port (Some (block n bytes)) (block_decided fixed last rec n bytes)
 block_means fixed last rec port n bytes server = either_way (eqb n (last + 1))
     (λ on.
-        let number : eqb n (suc last) ≡ true = ap (λ k. eqb n k) (sym (add-one last)) ∙ on in
-        either_way (ltb 512 (length bytes))
-            (λ long.
-                let over : 512 < length bytes = ltb-true 512 (length bytes) long in
-                rw (on, long) (ap (λ f. (eqb n (suc last) && from_server fixed port) && f) (lt-leb (length bytes) 512 over) ∙ and_off (eqb n (suc last) && from_server fixed port), refl))
-            (λ short. rw (on, short) (eqb-true n (suc last) number, refl, ap (λ b. b && from_server fixed port) number ∙ server, le-leb (length bytes) 512 (ltb-false 512 (length bytes) short))))
+    let number : eqb n (suc last) ≡ true = ap (λ k. eqb n k) (sym (add-one last)) ∙ on in
+    either_way (ltb 512 (length bytes))
+    (λ long.
+    let over : 512 < length bytes = ltb-true 512 (length bytes) long in
+    rw (on, long) (ap (λ f. (eqb n (suc last) && from_server fixed port) && f) (lt-leb (length bytes) 512 over) ∙ and_off (eqb n (suc last) && from_server fixed port), refl))
+    (λ short. rw (on, short) (eqb-true n (suc last) number, refl, ap (λ b. b && from_server fixed port) number ∙ server, le-leb (length bytes) 512 (ltb-false 512 (length bytes) short))))
     (λ off.
-        let number : eqb n (suc last) ≡ false = ap (λ k. eqb n k) (sym (add-one last)) ∙ off in
-        let quiet : Quiet fixed last port (Some (block n bytes)) = (ap (λ b. b && from_server fixed port) number, ap (λ b. from_server fixed port && (b || false)) off ∙ and_off (from_server fixed port)) in
-        rw off (either_way (is_some fixed && eqb last n) (λ again. rw again quiet) (λ other. rw other quiet)))
+    let number : eqb n (suc last) ≡ false = ap (λ k. eqb n k) (sym (add-one last)) ∙ off in
+    let quiet : Quiet fixed last port (Some (block n bytes)) = (ap (λ b. b && from_server fixed port) number, ap (λ b. from_server fixed port && (b || false)) off ∙ and_off (from_server fixed port)) in
+    rw off (either_way (is_some fixed && eqb last n) (λ again. rw again quiet) (λ other. rw other quiet)))
 
 -- either answer of the port's test
 by_server : (fixed : Option ℕ) (last port : ℕ) (p : Message) (a b : Answer) → Means fixed last port (Some p) a → (from_server fixed port ≡ false → Means fixed last port (Some p) b) → Means fixed last port (Some p) (cond (from_server fixed port) a b)
@@ -70,7 +70,7 @@ packet_means : (fixed : Option ℕ) (last rec port : ℕ) (p : Message) → Mean
 packet_means fixed last rec port (block n bytes) = either_way (from_server fixed port)
     (λ on. subst (λ (x : Answer). Means fixed last port (Some (block n bytes)) x) (ap (λ t. cond t (block_decided fixed last rec n bytes) Stranger) (sym on)) (block_means fixed last rec port n bytes on))
     (λ off. subst (λ (x : Answer). Means fixed last port (Some (block n bytes)) x) (ap (λ t. cond t (block_decided fixed last rec n bytes) Stranger) (sym off))
-        (ap (λ b. eqb n (suc last) && b) off ∙ and_off (eqb n (suc last)), no_answer fixed port (eqb n (last + 1) || false) off))
+    (ap (λ b. eqb n (suc last) && b) off ∙ and_off (eqb n (suc last)), no_answer fixed port (eqb n (last + 1) || false) off))
 packet_means fixed last rec port (error code text) = by_server fixed last port (error code text) (Ended (refused rec code)) Stranger (refl, refl) (λ off. (refl, no_answer fixed port true off))
 packet_means fixed last rec port (rrq path options) = by_server fixed last port (rrq path options) Ignored Stranger (refl, and_off (from_server fixed port)) (λ off. (refl, and_off (from_server fixed port)))
 packet_means fixed last rec port (ack n) = by_server fixed last port (ack n) Ignored Stranger (refl, and_off (from_server fixed port)) (λ off. (refl, and_off (from_server fixed port)))
@@ -98,5 +98,5 @@ pub given_block : (m : Received) (now : ℕ) (bytes : List ℕ) (len : ℕ) → 
 given_block m now bytes len there same = either_way (eqb len 0)
     (λ none. let empty : length bytes ≡ 0 = sym same ∙ eqb-true len 0 none in rw none (empty_is bytes empty))
     (λ some.
-        let count : 4 + len - 4 ≡ length bytes = omega arith in
-        rw some (ap (λ k. take k (drop 4 m.body)) count ∙ ap (λ bs. take (length bytes) bs) there ∙ take-length bytes))
+    let count : 4 + len - 4 ≡ length bytes = omega arith in
+    rw some (ap (λ k. take k (drop 4 m.body)) count ∙ ap (λ bs. take (length bytes) bs) there ∙ take-length bytes))

@@ -43,7 +43,7 @@ fitting_more found done more is = either_way (leb (length (block_bytes found.one
 next_block-some : (port n : ℕ) (ms more : List Received) (found : Found) → next_block port n ms ≡ Some found → next_block port n (ms ++ more) ≡ Some (with_more more found)
 next_block-some port n ms more found is =
     option_and_then_some if_fitting (first_passing (is_block_from port n) ms) found is (λ first at fits.
-        ap (λ f. option_and_then if_fitting f) (first_passing-some (is_block_from port n) ms more first at) ∙ fitting_more first found more fits)
+    ap (λ f. option_and_then if_fitting f) (first_passing-some (is_block_from port n) ms more first at) ∙ fitting_more first found more fits)
 
 -- the find of block n
 abbrev pub found_at : ℕ → List Received → ℕ → Option Found
@@ -56,14 +56,14 @@ map_some f (Some x) y is then = then x refl (same_Some (f x) y is)
 found_at_by : (port : ℕ) (got more : List Received) (n : ℕ) (found : Found) → ((ms : List Received) → behind_block port got n ≡ Some ms → behind_block port (got ++ more) n ≡ Some (ms ++ more)) → found_at port got n ≡ Some found → found_at port (got ++ more) n ≡ Some (with_more more found)
 found_at_by port got more n found behind is =
     option_and_then_some (next_block port (suc n)) (behind_block port got n) found is (λ ms at next.
-        ap (λ m. option_and_then (next_block port (suc n)) m) (behind ms at) ∙ next_block-some port (suc n) ms more found next)
+    ap (λ m. option_and_then (next_block port (suc n)) m) (behind ms at) ∙ next_block-some port (suc n) ms more found next)
 
 -- more datagrams stand behind each block that there is
 pub behind_block-more : (port : ℕ) (got more : List Received) (n : ℕ) (ms : List Received) → behind_block port got n ≡ Some ms → behind_block port (got ++ more) n ≡ Some (ms ++ more)
 behind_block-more port got more zero ms is = ap (λ m. Some (m ++ more)) (same_Some got ms is)
 behind_block-more port got more (suc n) ms is =
     map_some (λ (f : Found). f.behind) (found_at port got n) ms is (λ found at same.
-        ap (λ f. option_map (λ (x : Found). x.behind) f) (found_at_by port got more n found (λ rest before. behind_block-more port got more n rest before) at) ∙ ap (λ m. Some (m ++ more)) same)
+    ap (λ f. option_map (λ (x : Found). x.behind) f) (found_at_by port got more n found (λ rest before. behind_block-more port got more n rest before) at) ∙ ap (λ m. Some (m ++ more)) same)
 
 pub found_at-more : (port : ℕ) (got more : List Received) (n : ℕ) (found : Found) → found_at port got n ≡ Some found → found_at port (got ++ more) n ≡ Some (with_more more found)
 found_at-more port got more n found is = found_at_by port got more n found (λ rest before. behind_block-more port got more n rest before) is
@@ -73,11 +73,11 @@ pub blocks_to-more : (port : ℕ) (got more : List Received) (n : ℕ) (ms : Lis
 blocks_to-more port got more zero ms is = refl
 blocks_to-more port got more (suc n) ms is =
     map_some (λ (f : Found). f.behind) (found_at port got n) ms is (λ found at same.
-        option_and_then_some (next_block port (suc n)) (behind_block port got n) found at (λ rest before next.
-            ap (λ bs. bs ++ option_to_list (block_at port (got ++ more) (suc n))) (blocks_to-more port got more n rest before)
-            ∙ ap (λ b. blocks_to port got n ++ option_to_list b)
-                (ap (λ f. option_map (λ (x : Found). block_bytes x.one) f) (found_at-more port got more n found at)
-                ∙ sym (ap (λ f. option_map (λ (x : Found). block_bytes x.one) f) at))))
+    option_and_then_some (next_block port (suc n)) (behind_block port got n) found at (λ rest before next.
+    ap (λ bs. bs ++ option_to_list (block_at port (got ++ more) (suc n))) (blocks_to-more port got more n rest before)
+    ∙ ap (λ b. blocks_to port got n ++ option_to_list b)
+    (ap (λ f. option_map (λ (x : Found). block_bytes x.one) f) (found_at-more port got more n found at)
+    ∙ sym (ap (λ f. option_map (λ (x : Found). block_bytes x.one) f) at))))
 
 none_from : (port : ℕ) (got : List Received) (n k : ℕ) → found_at port got n ≡ None → (n < k → behind_block port got k ≡ None) → n ≤ k → found_at port got k ≡ None
 none_from port got n k none behind below = ⊎_elim
@@ -98,7 +98,7 @@ pub blocks_to-past : (port : ℕ) (got : List Received) (n k : ℕ) → found_at
 blocks_to-past port got n zero none below = let same : n ≡ 0 = omega arith in sym (ap (λ k. blocks_to port got k) same)
 blocks_to-past port got n (suc k) none below = ⊎_elim
     (λ less. ap (λ b. blocks_to port got k ++ option_to_list (option_map (λ (x : Found). block_bytes x.one) b)) (nothing_found port got n k none (omega arith))
-        ∙ append-nil (blocks_to port got k) ∙ blocks_to-past port got n k none (omega arith))
+    ∙ append-nil (blocks_to port got k) ∙ blocks_to-past port got n k none (omega arith))
     (λ above. let same : n ≡ suc k = omega arith in sym (ap (λ k. blocks_to port got k) same))
     (cases_lt n (suc k))
 

@@ -79,8 +79,8 @@ not_fitting_by n (Some p) m port f server other = subst (λ (q : ℕ). ((is_bloc
 first_not : (n : ℕ) (fixed : Option ℕ) (m : Received) → fixed ≡ None → n ≡ 0 → (is_block (suc n) m && from_server fixed m.port) ≡ false → is_block 1 m ≡ false
 first_not n fixed m none at_start other = either_way (is_block 1 m)
     (λ on.
-        let now : (is_block 1 m && true) ≡ false = subst (λ (k : ℕ). (is_block (suc k) m && true) ≡ false) at_start (subst (λ (o : Option ℕ). (is_block (suc n) m && from_server o m.port) ≡ false) none other) in
-        absurd (false≢true (sym now ∙ ap (λ b. b && true) on)))
+    let now : (is_block 1 m && true) ≡ false = subst (λ (k : ℕ). (is_block (suc k) m && true) ≡ false) at_start (subst (λ (o : Option ℕ). (is_block (suc n) m && from_server o m.port) ≡ false) none other) in
+    absurd (false≢true (sym now ∙ ap (λ b. b && true) on)))
     (λ off. off)
 
 first_is : (n : ℕ) (m : Received) → n ≡ 0 → is_block (suc n) m ≡ true → is_block 1 m ≡ true
@@ -100,9 +100,9 @@ none_counted got none = ap length (no_blocks got none)
 
 waiting_by : (got : List Received) (port n : ℕ) → count got ≡ n → ((ms : List Received) × (behind_block port got n ≡ Some ms) × (first_passing (is_block_from port (suc n)) ms ≡ None)) → n ≤ length got → blocks_to port got n ≡ blocks got → Waiting got port
 waiting_by got port n same behind few all = record {
-    behind = subst (λ (k : ℕ). (ms : List Received) × (behind_block port got k ≡ Some ms) × (first_passing (is_block_from port (suc k)) ms ≡ None)) (sym same) behind;
-    few = subst (λ (k : ℕ). k ≤ length got) (sym same) few;
-    all = subst (λ (k : ℕ). blocks_to port got k ≡ blocks got) (sym same) all;
+  behind = subst (λ (k : ℕ). (ms : List Received) × (behind_block port got k ≡ Some ms) × (first_passing (is_block_from port (suc k)) ms ≡ None)) (sym same) behind;
+  few = subst (λ (k : ℕ). k ≤ length got) (sym same) few;
+  all = subst (λ (k : ℕ). blocks_to port got k ≡ blocks got) (sym same) all;
 }
 
 one_longer : (got : List Received) (m : Received) → length (got ++ m ∷ []) ≡ suc (length got)
@@ -111,8 +111,8 @@ one_longer got m = length-append got (m ∷ []) ∙ add-one (length got)
 pub kept_port : (got : List Received) (m : Received) → is_next got m ≡ false → fixed_port (got ++ m ∷ []) ≡ fixed_port got
 kept_port got m other = by_option (fixed_port got)
     (λ none.
-        let no : is_block 1 m ≡ false = first_not (count got) (fixed_port got) m none (none_counted got none) other in
-        port_comes got m none ∙ ap (λ b. cond b (Some m.port) None) no ∙ sym none)
+    let no : is_block 1 m ≡ false = first_not (count got) (fixed_port got) m none (none_counted got none) other in
+    port_comes got m none ∙ ap (λ b. cond b (Some m.port) None) no ∙ sym none)
     (λ p some. port_stays got m p some ∙ sym some)
 
 -- a port that is fixed afterwards could be the server's before
@@ -124,19 +124,19 @@ server_before got m port now = by_option (fixed_port got)
 pub kept_blocks : (got : List Received) (m : Received) → Waits got → (is_next got m && fits m) ≡ false → blocks (got ++ m ∷ []) ≡ blocks got
 kept_blocks got m waits other = by_option (fixed_port (got ++ m ∷ []))
     (λ none. no_blocks (got ++ m ∷ []) none ∙ sym (by_option (fixed_port got)
-        (λ before. no_blocks got before)
-        (λ p some. absurd (none-some p (sym none ∙ port_stays got m p some)))))
+    (λ before. no_blocks got before)
+    (λ p some. absurd (none-some p (sym none ∙ port_stays got m p some)))))
     (λ port some.
-        let server = server_before got m port some in
-        let w = waits port server in
-        let few : count got ≤ length got = w.few in
-        let longer : length (got ++ m ∷ []) ≡ suc (length got) = one_longer got m in
-        blocks_at (got ++ m ∷ []) port some
-        ∙ blocks_to-past port (got ++ m ∷ []) (count got) (length (got ++ m ∷ []))
-            (no_block port got w.behind.0 (count got) m w.behind.1 w.behind.2 (not_fitting_by (suc (count got)) (fixed_port got) m port (fits m) server other))
-            (omega arith)
-        ∙ blocks_to-more port got (m ∷ []) (count got) w.behind.0 w.behind.1
-        ∙ w.all)
+    let server = server_before got m port some in
+    let w = waits port server in
+    let few : count got ≤ length got = w.few in
+    let longer : length (got ++ m ∷ []) ≡ suc (length got) = one_longer got m in
+    blocks_at (got ++ m ∷ []) port some
+    ∙ blocks_to-past port (got ++ m ∷ []) (count got) (length (got ++ m ∷ []))
+    (no_block port got w.behind.0 (count got) m w.behind.1 w.behind.2 (not_fitting_by (suc (count got)) (fixed_port got) m port (fits m) server other))
+    (omega arith)
+    ∙ blocks_to-more port got (m ∷ []) (count got) w.behind.0 w.behind.1
+    ∙ w.all)
 
 pub kept_waits : (got : List Received) (m : Received) → Waits got → is_next got m ≡ false → Waits (got ++ m ∷ [])
 kept_waits got m waits other port server =
@@ -146,18 +146,19 @@ kept_waits got m waits other port server =
     let few : count got ≤ length got = w.few in
     let longer : length (got ++ m ∷ []) ≡ suc (length got) = one_longer got m in
     let no = not_from_by (suc (count got)) (fixed_port got) m port before other in
-    waiting_by (got ++ m ∷ []) port (count got) (ap length same)
-        ( w.behind.0 ++ m ∷ []
-        , behind_block-more port got (m ∷ []) (count got) w.behind.0 w.behind.1
-        , first_passing-none (is_block_from port (suc (count got))) w.behind.0 (m ∷ []) w.behind.2 ∙ ap (λ b. cond b (Some (record { one = m; behind = [] })) None) no)
-        (omega arith)
-        (blocks_to-more port got (m ∷ []) (count got) w.behind.0 w.behind.1 ∙ w.all ∙ sym same)
+    waiting_by (got ++ m ∷ []) port (count got) (ap length same) (
+      w.behind.0 ++ m ∷ [],
+      behind_block-more port got (m ∷ []) (count got) w.behind.0 w.behind.1,
+      first_passing-none (is_block_from port (suc (count got))) w.behind.0 (m ∷ []) w.behind.2 ∙ ap (λ b. cond b (Some (record { one = m; behind = [] })) None) no,
+    )
+    (omega arith)
+    (blocks_to-more port got (m ∷ []) (count got) w.behind.0 w.behind.1 ∙ w.all ∙ sym same)
 
 pub more_port : (got : List Received) (m : Received) → is_next got m ≡ true → fixed_port (got ++ m ∷ []) ≡ Some m.port
 more_port got m is = by_option (fixed_port got)
     (λ none.
-        let first : is_block 1 m ≡ true = first_is (count got) m (none_counted got none) (and_left (is_block (suc (count got)) m) (from_server (fixed_port got) m.port) is) in
-        port_comes got m none ∙ ap (λ b. cond b (Some m.port) None) first)
+    let first : is_block 1 m ≡ true = first_is (count got) m (none_counted got none) (and_left (is_block (suc (count got)) m) (from_server (fixed_port got) m.port) is) in
+    port_comes got m none ∙ ap (λ b. cond b (Some m.port) None) first)
     (λ p some. port_stays got m p some ∙ ap (λ q. Some q) (server_is (fixed_port got) p m.port some (and_right (is_block (suc (count got)) m) (from_server (fixed_port got) m.port) is)))
 
 -- what is found by the next block
@@ -167,7 +168,7 @@ found_now got m waits is short =
     let number = and_left (is_block (suc (count got)) m) (from_server (fixed_port got) m.port) is in
     let w = waits m.port server in
     next_found m.port got w.behind.0 (count got) m w.behind.1 w.behind.2
-        (ap (λ b. (b && eqb m.port m.port) && fits m) number ∙ ap (λ b. b && fits m) (eq-eqb m.port m.port refl) ∙ short)
+    (ap (λ b. (b && eqb m.port m.port) && fits m) number ∙ ap (λ b. b && fits m) (eq-eqb m.port m.port refl) ∙ short)
 
 behind_now : (got : List Received) (m : Received) → Waits got → is_next got m ≡ true → fits m ≡ true → behind_block m.port (got ++ m ∷ []) (suc (count got)) ≡ Some []
 behind_now got m waits is short = ap (λ f. option_map (λ (x : Found). x.behind) f) (found_now got m waits is short)
@@ -185,8 +186,8 @@ more_blocks got m waits is short =
     let longer : length (got ++ m ∷ []) ≡ suc (length got) = one_longer got m in
     blocks_at (got ++ m ∷ []) m.port (more_port got m is)
     ∙ blocks_to-past m.port (got ++ m ∷ []) (suc (count got)) (length (got ++ m ∷ []))
-        (ap (λ b. option_and_then (next_block m.port (suc (suc (count got)))) b) (behind_now got m waits is short))
-        (omega arith)
+    (ap (λ b. option_and_then (next_block m.port (suc (suc (count got)))) b) (behind_now got m waits is short))
+    (omega arith)
     ∙ blocks_now got m waits is short
 
 pub more_count : (got : List Received) (m : Received) → Waits got → is_next got m ≡ true → fits m ≡ true → count (got ++ m ∷ []) ≡ suc (count got)
@@ -199,7 +200,7 @@ more_waits got m waits is short port server =
     let longer : length (got ++ m ∷ []) ≡ suc (length got) = one_longer got m in
     let same : m.port ≡ port = server_is (fixed_port (got ++ m ∷ [])) m.port port (more_port got m is) server in
     subst (λ (q : ℕ). Waiting (got ++ m ∷ []) q) same
-        (waiting_by (got ++ m ∷ []) m.port (suc (count got)) (more_count got m waits is short)
-            ([], behind_now got m waits is short, refl)
-            (omega arith)
-            (blocks_now got m waits is short ∙ sym (more_blocks got m waits is short)))
+    (waiting_by (got ++ m ∷ []) m.port (suc (count got)) (more_count got m waits is short)
+    ([], behind_now got m waits is short, refl)
+    (omega arith)
+    (blocks_now got m waits is short ∙ sym (more_blocks got m waits is short)))

@@ -43,12 +43,12 @@ pub keeps : (b : Begun) (start : ℕ) (h : List Entry) (e : Entry) → Meets b s
     → FollowsCommonPlan start (h ++ e ∷ [])
     → Meets b start (h ++ e ∷ [])
 keeps b start h e meets no_place no_bytes same whole asks unanswered tries = record {
-    advance = last_advance-append h e ∙ ap (λ a. unwrap_or a (last_advance h)) no_place ∙ meets.advance ∙ sym (ap length same);
-    bytes = given-append h e ∙ ap (λ g. given h ++ g) no_bytes ∙ append-nil (given h) ∙ meets.bytes ∙ sym (ap (λ bs. flat_map (λ block. block) bs) same);
-    whole = EachEntry-append OkWhereWhole [] h e meets.whole whole;
-    sending = EachEntry-append (AsksSo b) [] h e meets.sending asks;
-    tries = tries;
-    unanswered = EachEntry-append (TriesUnanswered start) [] h e meets.unanswered unanswered;
+  advance = last_advance-append h e ∙ ap (λ a. unwrap_or a (last_advance h)) no_place ∙ meets.advance ∙ sym (ap length same);
+  bytes = given-append h e ∙ ap (λ g. given h ++ g) no_bytes ∙ append-nil (given h) ∙ meets.bytes ∙ sym (ap (λ bs. flat_map (λ block. block) bs) same);
+  whole = EachEntry-append OkWhereWhole [] h e meets.whole whole;
+  sending = EachEntry-append (AsksSo b) [] h e meets.sending asks;
+  tries = tries;
+  unanswered = EachEntry-append (TriesUnanswered start) [] h e meets.unanswered unanswered;
 }
 
 pub or_none : (a : Bool) → (a || false) ≡ a
@@ -83,27 +83,27 @@ quiet_step b start state h m now acts stands unended other unanswered no_place n
     let unfinished : is_whole (got (h ++ e ∷ [])) ≡ false = ap (λ bs. option_map_or (λ block. ltb (length block) 512) (last_block bs) false) same ∙ live.unfinished in
     let watch = heard_more start h m now acts no_try in
     record {
-        meets = keeps b start h e stands.meets no_place (ap (λ r. given_of (came m now) r) no_range) same
-            (ap (λ o. option_map_or (λ (c : Cause). eqb c.code 0) o false) no_end ∙ sym unfinished)
-            asks tt (subst PlanOf (sym watch) stands.meets.tries);
-        over = stands.over ∙ sym (is_ended-append h e ∙ ap (λ o. is_ended h || is_some o) no_end ∙ or_none (is_ended h));
-        live = λ _. record {
-            begun = live.begun;
-            fixed = live.fixed ∙ sym port;
-            last = live.last ∙ sym number;
-            waiting = subst Waits (sym more) (kept_waits (got h) m live.waiting other);
-            unfinished = unfinished;
-            timer = subst (λ (w : Watch). TimerStands state.retry w.times) (sym watch) live.timer;
-            since = live.since ∙ sym (ap (λ w. w.since) watch);
-            plan = live.plan;
-            unanswered =
-                ap (λ f. list_any (answers f (count (got (h ++ e ∷ [])))) (watched start (h ++ e ∷ [])).heard) port
-                ∙ ap (λ n. list_any (answers (fixed_port (got h)) n) (watched start (h ++ e ∷ [])).heard) number
-                ∙ ap (λ w. list_any (answers (fixed_port (got h)) (count (got h))) w.heard) watch
-                ∙ list_any-append (answers (fixed_port (got h)) (count (got h))) (watched start h).heard (m ∷ [])
-                ∙ ap (λ x. x || (answers (fixed_port (got h)) (count (got h)) m || false)) live.unanswered
-                ∙ ap (λ x. x || false) unanswered;
-        };
+      meets = keeps b start h e stands.meets no_place (ap (λ r. given_of (came m now) r) no_range) same
+          (ap (λ o. option_map_or (λ (c : Cause). eqb c.code 0) o false) no_end ∙ sym unfinished)
+          asks tt (subst PlanOf (sym watch) stands.meets.tries);
+      over = stands.over ∙ sym (is_ended-append h e ∙ ap (λ o. is_ended h || is_some o) no_end ∙ or_none (is_ended h));
+      live = λ _. record {
+        begun = live.begun;
+        fixed = live.fixed ∙ sym port;
+        last = live.last ∙ sym number;
+        waiting = subst Waits (sym more) (kept_waits (got h) m live.waiting other);
+        unfinished = unfinished;
+        timer = subst (λ (w : Watch). TimerStands state.retry w.times) (sym watch) live.timer;
+        since = live.since ∙ sym (ap (λ w. w.since) watch);
+        plan = live.plan;
+        unanswered =
+            ap (λ f. list_any (answers f (count (got (h ++ e ∷ [])))) (watched start (h ++ e ∷ [])).heard) port
+            ∙ ap (λ n. list_any (answers (fixed_port (got h)) n) (watched start (h ++ e ∷ [])).heard) number
+            ∙ ap (λ w. list_any (answers (fixed_port (got h)) (count (got h))) w.heard) watch
+            ∙ list_any-append (answers (fixed_port (got h)) (count (got h))) (watched start h).heard (m ∷ [])
+            ∙ ap (λ x. x || (answers (fixed_port (got h)) (count (got h)) m || false)) live.unanswered
+            ∙ ap (λ x. x || false) unanswered;
+      };
     }
 
 -- a datagram that ends the transfer, and is no block
@@ -119,9 +119,9 @@ ended_step b start state h m now cause stands unended other bad asks =
     let same : blocks (got (h ++ e ∷ [])) ≡ blocks (got h) = ap blocks more ∙ kept_blocks (got h) m live.waiting other in
     let unfinished : is_whole (got (h ++ e ∷ [])) ≡ false = ap (λ bs. option_map_or (λ block. ltb (length block) 512) (last_block bs) false) same ∙ live.unfinished in
     record {
-        meets = keeps b start h e stands.meets refl refl same (bad ∙ sym unfinished) asks tt (subst PlanOf (sym (heard_more start h m now (ended_by cause) refl)) stands.meets.tries);
-        over = sym (is_ended-append h e ∙ or_some (is_ended h));
-        live = λ unended. absurd (false≢true (sym unended));
+      meets = keeps b start h e stands.meets refl refl same (bad ∙ sym unfinished) asks tt (subst PlanOf (sym (heard_more start h m now (ended_by cause) refl)) stands.meets.tries);
+      over = sym (is_ended-append h e ∙ or_some (is_ended h));
+      live = λ unended. absurd (false≢true (sym unended));
     }
 
 -- a block ends the transfer in Ok exactly where it is short
@@ -153,12 +153,12 @@ taken_meets b start h m now n len send over meets waits number size next short t
     let e : Entry = entry (came m now) (taken send n len over) in
     let more : got (h ++ e ∷ []) ≡ got h ++ m ∷ [] = got-append h e in
     record {
-        advance = last_advance-append h e ∙ number ∙ sym (ap count more ∙ more_count (got h) m waits next short);
-        bytes = given-append h e ∙ ap (λ g. given h ++ g) (given_block m now (block_bytes m) len there size) ∙ ap (λ g. g ++ block_bytes m) meets.bytes ∙ sym (ap file more ∙ block_more (got h) m waits next short);
-        whole = EachEntry-append OkWhereWhole [] h e meets.whole (whole ∙ ap (λ l. ltb l 512) size ∙ sym (ap is_whole more ∙ whole_more (got h) m waits next short));
-        sending = EachEntry-append (AsksSo b) [] h e meets.sending asks;
-        tries = tries;
-        unanswered = EachEntry-append (TriesUnanswered start) [] h e meets.unanswered tt;
+      advance = last_advance-append h e ∙ number ∙ sym (ap count more ∙ more_count (got h) m waits next short);
+      bytes = given-append h e ∙ ap (λ g. given h ++ g) (given_block m now (block_bytes m) len there size) ∙ ap (λ g. g ++ block_bytes m) meets.bytes ∙ sym (ap file more ∙ block_more (got h) m waits next short);
+      whole = EachEntry-append OkWhereWhole [] h e meets.whole (whole ∙ ap (λ l. ltb l 512) size ∙ sym (ap is_whole more ∙ whole_more (got h) m waits next short));
+      sending = EachEntry-append (AsksSo b) [] h e meets.sending asks;
+      tries = tries;
+      unanswered = EachEntry-append (TriesUnanswered start) [] h e meets.unanswered tt;
     }
 
 -- a watch begins anew at a block behind which more come
@@ -178,27 +178,27 @@ taken_by b start state h m now n len send None stands unended number size next s
     let more : got (h ++ e ∷ []) ≡ got h ++ m ∷ [] = got-append h e in
     let watch = watch_anew start h m now n len send in
     record {
-        meets = taken_meets b start h m now n len send None stands.meets live.waiting number size next short there whole asks (subst PlanOf (sym watch) refl);
-        over = sym (is_ended-append h e ∙ or_none (is_ended h) ∙ sym stands.over ∙ unended);
-        live = λ _. record {
-            begun = live.begun;
-            fixed = sym (ap fixed_port more ∙ more_port (got h) m next);
-            last = number ∙ sym (ap count more ∙ more_count (got h) m live.waiting next short);
-            waiting = subst Waits (sym more) (more_waits (got h) m live.waiting next short);
-            unfinished = ap is_whole more ∙ whole_more (got h) m live.waiting next short ∙ ap (λ l. ltb l 512) (sym size) ∙ sym whole;
-            timer = subst (λ (w : Watch). TimerStands (started now Common) w.times) (sym watch) refl;
-            since = sym (ap (λ w. w.since) watch);
-            plan = refl;
-            unanswered = ap (λ w. list_any (answers (fixed_port (got (h ++ e ∷ []))) (count (got (h ++ e ∷ [])))) w.heard) watch;
-        };
+      meets = taken_meets b start h m now n len send None stands.meets live.waiting number size next short there whole asks (subst PlanOf (sym watch) refl);
+      over = sym (is_ended-append h e ∙ or_none (is_ended h) ∙ sym stands.over ∙ unended);
+      live = λ _. record {
+        begun = live.begun;
+        fixed = sym (ap fixed_port more ∙ more_port (got h) m next);
+        last = number ∙ sym (ap count more ∙ more_count (got h) m live.waiting next short);
+        waiting = subst Waits (sym more) (more_waits (got h) m live.waiting next short);
+        unfinished = ap is_whole more ∙ whole_more (got h) m live.waiting next short ∙ ap (λ l. ltb l 512) (sym size) ∙ sym whole;
+        timer = subst (λ (w : Watch). TimerStands (started now Common) w.times) (sym watch) refl;
+        since = sym (ap (λ w. w.since) watch);
+        plan = refl;
+        unanswered = ap (λ w. list_any (answers (fixed_port (got (h ++ e ∷ []))) (count (got (h ++ e ∷ [])))) w.heard) watch;
+      };
     }
 taken_by b start state h m now n len send (Some cause) stands unended number size next short there whole asks =
     let e : Entry = entry (came m now) (taken send n len (Some cause)) in
     let live = stands.live unended in
     record {
-        meets = taken_meets b start h m now n len send (Some cause) stands.meets live.waiting number size next short there whole asks (subst PlanOf (sym (heard_more start h m now (taken send n len (Some cause)) refl)) stands.meets.tries);
-        over = sym (is_ended-append h e ∙ or_some (is_ended h));
-        live = λ unended. absurd (false≢true (sym unended));
+      meets = taken_meets b start h m now n len send (Some cause) stands.meets live.waiting number size next short there whole asks (subst PlanOf (sym (heard_more start h m now (taken send n len (Some cause)) refl)) stands.meets.tries);
+      over = sym (is_ended-append h e ∙ or_some (is_ended h));
+      live = λ unended. absurd (false≢true (sym unended));
     }
 
 -- the next block
@@ -221,5 +221,5 @@ came_by b start state h m now (Again n) stands unended are means is = quiet_step
 came_by b start state h m now (Ended cause) stands unended are means is = ended_step b start state h m now cause stands unended means.0 means.1 (ap (acts_of b m.port) is)
 came_by b start state h m now (Taken n len) stands unended are means is =
     taken_step b start state h m now n len stands unended means.0 means.1 means.2 means.3
-        (block_body m.body (suc (count (got h))) (packet_in m) are refl (and_left (is_block (suc (count (got h))) m) (from_server (fixed_port (got h)) m.port) means.2))
-        (ap (acts_of b m.port) is)
+    (block_body m.body (suc (count (got h))) (packet_in m) are refl (and_left (is_block (suc (count (got h))) m) (from_server (fixed_port (got h)) m.port) means.2))
+    (ap (acts_of b m.port) is)

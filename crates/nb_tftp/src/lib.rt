@@ -10,8 +10,8 @@
 mod acts;
 mod answer;
 mod causes;
-mod state;
 mod datagram;
+mod state;
 mod transfer;
 
 pub use transfer::{TooLong, Transfer};

@@ -4,7 +4,7 @@ ghost use Rattle.std.specs.Prelude.{◌≡◌, ◌≤◌, length};
 ghost use Rattle.nb_tftpmsg.specs.Texts.{HasNoZero};
 ghost use Rattle.nb_tftp.specs.Decisions.{fixed_of, last_of};
 ghost use Rattle.nb_tftp.specs.Asks.{begun, datagram, last_message, acts_of};
-ghost use Rattle.nb_tftp.specs.Steps.{begun_of, state_of, after_answer, packet_acts, after_packet, tick_acts, after_tick};
+ghost use Rattle.nb_tftp.specs.Steps.{begun_of, state_of, after_answer, packet_acts, after_packet, bytes_acts, after_bytes, tick_acts, after_tick};
 ghost use Rattle.nb_tftpmsg.specs.Views.{message};
 
 use crate::acts::{ended_by, sending, taken};
@@ -58,8 +58,19 @@ impl State {
         }
     }
 
+    /// A datagram's body comes from this port. What is no packet is ignored.
+    pub(crate) fn datagram(&mut self, rec: u32, from: u16, body: &[u8], now: u64) -> Acts
+        ensures acts { result ≡ bytes_acts self.old rec from body.now }
+        ensures after { self.new ≡ after_bytes self.old rec from body.now now }
+    {
+        match Tftp::read(body) {
+            Some(packet) => self.packet(rec, from, &packet, now),
+            None => Acts::none(),
+        }
+    }
+
     /// A packet comes from this port.
-    pub(crate) fn packet(&mut self, rec: u32, from: u16, packet: &Tftp<'_>, now: u64) -> Acts
+    fn packet(&mut self, rec: u32, from: u16, packet: &Tftp<'_>, now: u64) -> Acts
         ensures acts { result ≡ packet_acts self.old rec from (message packet.now) }
         ensures after { self.new ≡ after_packet self.old rec from (message packet.now) now }
     {
@@ -94,8 +105,8 @@ impl State {
         ensures { result ≡ last_message (begun_of self.now) (fixed_of self.now.phase) (last_of self.now.phase) }
     {
         match self.phase {
-            Phase::Taking { port, last } => self.datagram(port, body_of(&Tftp::Ack(last))),
-            _ => self.datagram(self.port, copied(self.request.as_slice())),
+            Phase::Taking { port, last } => self.send_to(port, body_of(&Tftp::Ack(last))),
+            _ => self.send_to(self.port, copied(self.request.as_slice())),
         }
     }
 
@@ -127,20 +138,20 @@ impl State {
                     code: UNKNOWN_TRANSFER,
                     text: b"",
                 };
-                sending(self.datagram(from, body_of(&refusal)), None)
+                sending(self.send_to(from, body_of(&refusal)), None)
             }
             Answer::Again { block } => {
-                sending(self.datagram(from, body_of(&Tftp::Ack(block))), None)
+                sending(self.send_to(from, body_of(&Tftp::Ack(block))), None)
             }
             Answer::Taken { block, len } => {
-                let ack = self.datagram(from, body_of(&Tftp::Ack(block)));
+                let ack = self.send_to(from, body_of(&Tftp::Ack(block)));
                 taken(ack, block, len, end_of_block(block, len))
             }
             Answer::Ended(cause) => ended_by(cause),
         }
     }
 
-    fn datagram(&self, to_port: u16, body: ArrayVec<u8, 1480>) -> SendTo
+    fn send_to(&self, to_port: u16, body: ArrayVec<u8, 1480>) -> SendTo
         ensures { result ≡ datagram (begun_of self.now) to_port body.items }
     {
         SendTo {

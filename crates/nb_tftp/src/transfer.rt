@@ -1,14 +1,8 @@
 //! The transfer of one file.
 
-ghost use Rattle.std.specs.Prelude.{◌≡◌, ◌<◌, ◌↔◌, length, IsErr, IfOk, OnErr, OnOk, Some};
-
 use crate::acts::sending;
-use crate::answer::Phase;
 use crate::state::State;
-use crate::datagram::body_of;
-use nb_retry::{Plan, Retry};
 use nb_terms::Acts;
-use nb_tftpmsg::Tftp;
 use nb_wire::Ip4;
 use std::marker::Model;
 
@@ -34,12 +28,15 @@ impl Model for Transfer {
 }
 
 impl Transfer {
-    ghost use Rattle.std.specs.Prelude.{◌≡◌, ◌<◌, ◌↔◌, length, IsErr, IfOk, OnErr, OnOk, Some, None};
+    ghost use Rattle.std.specs.Prelude.{◌≡◌, ◌<◌, ◌∷◌, ◌++◌, ◌↔◌, [], ℕ, List, length, IsErr, IfOk, OnErr, OnOk, Some, None, true, false};
     ghost use Rattle.nb_tftpmsg.specs.Texts.{HasNoZero};
-    ghost use Rattle.nb_tftp.specs.Asks.{nothing, sending, begun, last_message};
-    ghost use Rattle.nb_tftp.specs.Steps.{state_of, bytes_acts, after_bytes, tick_acts, after_tick};
+    ghost use Rattle.nb_tftp.specs.Asks.{Begun, begun, nothing, sending, last_message};
+    ghost use Rattle.nb_tftp.specs.Received.{received};
+    ghost use Rattle.nb_tftp.specs.History.{Entry, entry, came, ticked, is_ended};
+    ghost use Rattle.nb_tftp.specs.Stands.{Stands};
 
-    /// Asks the server for the file of this path. The path holds no zero byte.
+    /// Asks the server for the file of this path. The path holds no zero byte; one of more than 1,024
+    /// bytes is too long. The open's number isn't needed here.
     pub fn start(
         _number: u16,
         server: Ip4,
@@ -52,8 +49,9 @@ impl Transfer {
         requires { HasNoZero path.now }
         ensures too_long { IsErr result ↔ (1024 < length path.now) }
         ensures refused { OnErr result (acts.new ≡ nothing) }
-        ensures state { IfOk result (λ t. t ≡ state_of (begun server port own_port path.now) now) }
-        ensures acts { OnOk result (acts.new ≡ sending (last_message (begun server port own_port path.now) None 0) (Some 1)) }
+        // The request is sent, under a timer, and no call stands behind it.
+        ensures request { OnOk result (acts.new ≡ sending (last_message (begun server port own_port path.now) None 0) (Some 1)) }
+        ensures stands { IfOk result (λ t. Stands (begun server port own_port path.now) now t []) }
     {
         if path.len() > MAX_PATH {
             *acts = Acts::none();
@@ -66,19 +64,19 @@ impl Transfer {
 
     /// A datagram of the transfer's port, from this port of the server; `rec` is its record's number.
     pub fn message(&mut self, rec: u32, src_port: u16, body: &[u8], now: u64, acts: &mut Acts)
-        ensures acts { acts.new ≡ bytes_acts self.old rec src_port body.now }
-        ensures after { self.new ≡ after_bytes self.old rec src_port body.now now }
+        // With this call and what it asks, the transfer stands for one call more. `Stands` has what it
+        // promises of all of them.
+        ensures stands { (b : Begun) (start : ℕ) (h : List Entry) → Stands b start self.old h → is_ended h ≡ false → Stands b start self.new (h ++ entry (came (received rec src_port body.now) now) acts.new ∷ []) }
+        // After its end it ignores every call.
+        ensures ended { (b : Begun) (start : ℕ) (h : List Entry) → Stands b start self.old h → is_ended h ≡ true → Stands b start self.new h × (acts.new ≡ nothing) }
     {
-        *acts = match Tftp::read(body) {
-            Some(packet) => self.state.packet(rec, src_port, &packet, now),
-            None => Acts::none(),
-        };
+        *acts = self.state.datagram(rec, src_port, body, now);
     }
 
     /// It is this time, in milliseconds since the start of the run.
     pub fn time(&mut self, now: u64, acts: &mut Acts)
-        ensures acts { acts.new ≡ tick_acts self.old now }
-        ensures after { self.new ≡ after_tick self.old now }
+        ensures stands { (b : Begun) (start : ℕ) (h : List Entry) → Stands b start self.old h → is_ended h ≡ false → Stands b start self.new (h ++ entry (ticked now) acts.new ∷ []) }
+        ensures ended { (b : Begun) (start : ℕ) (h : List Entry) → Stands b start self.old h → is_ended h ≡ true → Stands b start self.new h × (acts.new ≡ nothing) }
     {
         *acts = self.state.tick(now);
     }
