@@ -1,10 +1,8 @@
 -- What the answer to a datagram says of it.
-use Rattle.std.proofs.Common.{◌≡◌, ℕ, zero, suc, ◌+◌, ◌-◌, ◌^◌, ◌<◌, ◌≤◌, List, [], ◌∷◌, ◌++◌, length, take, drop, Option, Some, None, Bool, true, false, cond, ◌&&◌, ◌||◌, refl, ap, ◌∙◌, sym, subst, arith, leb, ltb, eqb, add-one}
+use Rattle.std.proofs.Common.{◌≡◌, ℕ, suc, ◌+◌, ◌-◌, ◌<◌, List, [], ◌∷◌, length, take, drop, Option, Some, None, Bool, true, false, cond, ◌&&◌, ◌||◌, refl, ap, ◌∙◌, sym, subst, arith, leb, ltb, eqb, add-one}
 use Rattle.std.specs.Option.{option_map_or, is_some}
-use Rattle.std.specs.Prelude.{slice_range}
 use Rattle.std.proofs.lemmas.Bool.{false≢true, eqb-true, ltb-true, ltb-false, lt-leb, le-leb}
 use Rattle.std.proofs.Math.Seq.{take-length}
-use Rattle.nb_terms.specs.declared.cause.Cause.{Cause}
 use Rattle.nb_tftpmsg.specs.Packets.{Message, rrq, block, ack, error, oack}
 use Rattle.nb_tftpmsg.specs.Reading.{reading}
 use Rattle.nb_tftpmsg.proofs.PacketLemmas.{IsBytes, reading_sound}
@@ -13,9 +11,8 @@ use Rattle.nb_tftp.specs.declared.answer.Answer.TheVariants.{Ignored, Stranger, 
 use Rattle.nb_tftp.specs.Asks.{range_of_block}
 use Rattle.nb_tftp.specs.Ends.{refused}
 use Rattle.nb_tftp.specs.Decisions.{from_server, decided, block_decided}
-use Rattle.nb_tftp.specs.Received.{Received, packet_in, has_number, bytes_of, is_error, is_block, block_bytes, is_refusal}
+use Rattle.nb_tftp.specs.Received.{Received, has_number, bytes_of, is_error}
 use Rattle.nb_tftp.specs.History.{came, given_of}
-use Rattle.nb_tftp.specs.Sentences.{answer_to, answers}
 use Rattle.nb_tftp.proofs.BlockLemmas.{either_way}
 
 -- it is the next block

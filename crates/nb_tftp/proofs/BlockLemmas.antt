@@ -1,13 +1,11 @@
 -- The blocks among datagrams, when one datagram more comes.
-use Rattle.std.proofs.Common.{◌≡◌, ℕ, zero, suc, ◌+◌, ◌<◌, ◌≤◌, List, [], ◌∷◌, ◌++◌, length, Option, Some, None, Bool, true, false, cond, ◌&&◌, not, refl, ap, ◌∙◌, sym, subst, arith, append_assoc, leb, ltb, eqb, inl, inr, ◌⊎◌, ⊎_elim}
-use Rattle.std.specs.List.{find, flat_map}
-use Rattle.std.specs.Option.{option_map, option_map_or, option_and_then, option_to_list, option_or}
+use Rattle.std.proofs.Common.{◌≡◌, ℕ, zero, suc, ◌<◌, ◌≤◌, List, [], ◌∷◌, ◌++◌, length, Option, Some, None, Bool, true, false, cond, ◌&&◌, refl, ap, ◌∙◌, sym, subst, arith, leb, ⊎_elim}
+use Rattle.std.specs.Option.{option_map, option_and_then, option_to_list}
 use Rattle.std.proofs.lemmas.Bool.{cases_lt}
-use Rattle.std.proofs.lemmas.List.{append-nil, length-append}
-use Rattle.std.proofs.lemmas.List.Folds.{find-append}
+use Rattle.std.proofs.lemmas.List.{append-nil}
 use Rattle.std.proofs.lemmas.Option.{none-some, same_Some, option_and_then_some}
-use Rattle.nb_tftp.specs.Received.{Received, is_block, block_bytes, fixed_port}
-use Rattle.nb_tftp.specs.Blocks.{Found, first_passing, is_block_from, if_fitting, next_block, behind_block, block_at, blocks_to, blocks, count, file, last_block, is_whole}
+use Rattle.nb_tftp.specs.Received.{Received, block_bytes}
+use Rattle.nb_tftp.specs.Blocks.{Found, first_passing, is_block_from, if_fitting, next_block, behind_block, block_at, blocks_to, last_block}
 
 -- either answer of a test
 pub either_way : {P : Type 0} (b : Bool) → (b ≡ true → P) → (b ≡ false → P) → P

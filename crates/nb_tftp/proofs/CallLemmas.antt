@@ -1,38 +1,30 @@
 -- A transfer stands for one call more: any datagram, any time, and what has ended.
-use Rattle.std.proofs.Common.{◌≡◌, ℕ, zero, suc, ◌+◌, ◌^◌, ◌<◌, ◌≤◌, List, [], ◌∷◌, ◌++◌, length, Option, Some, None, Bool, true, false, cond, ◌&&◌, ◌||◌, refl, ap, ◌∙◌, sym, subst, arith, leb, ltb, eqb, add-one, drop}
-use Rattle.std.specs.Prelude.{unwrap_or, filter, map}
-use Rattle.std.specs.List.{flat_map, list_any}
-use Rattle.std.specs.Option.{option_map_or, is_some, is_none}
+use Rattle.std.proofs.Common.{◌≡◌, ℕ, ◌^◌, ◌<◌, List, [], ◌∷◌, ◌++◌, Option, Some, None, true, false, cond, refl, ap, ◌∙◌, sym, subst}
+use Rattle.std.specs.Prelude.{map}
+use Rattle.std.specs.List.{list_any}
+use Rattle.std.specs.Option.{option_map_or}
 use Rattle.std.proofs.lemmas.Bool.{false≢true}
 use Rattle.std.proofs.lemmas.List.{append-nil}
-use Rattle.std.proofs.lemmas.List.Concat.{flat_map-append}
-use Rattle.std.proofs.lemmas.List.Folds.{list_any-append}
-use Rattle.nb_retry.specs.declared.plan.Plan.TheVariants.{Common}
-use Rattle.nb_retry.specs.Calls.{fires, Stands as TimerStands}
+use Rattle.nb_retry.specs.Calls.{Stands as TimerStands}
 use Rattle.nb_retry.specs.Plans.{firings, waits}
 use Rattle.nb_retry.specs.declared.retry.Due.{Due}
 use Rattle.nb_retry.specs.declared.retry.Due.TheVariants.{Not, Again as TryAgain, Over as PlanOver}
-use Rattle.nb_retry.specs.Timer.{started, answer, after}
+use Rattle.nb_retry.specs.Timer.{answer, after}
 use Rattle.nb_terms.specs.declared.acts.Acts.{Acts}
-use Rattle.nb_terms.specs.declared.acts.SendTo.{SendTo}
-use Rattle.nb_terms.specs.declared.cause.Cause.{Cause}
 use Rattle.nb_tftpmsg.proofs.PacketLemmas.{IsBytes}
-use Rattle.nb_tftp.specs.declared.answer.Answer.{Answer}
-use Rattle.nb_tftp.specs.declared.answer.Answer.TheVariants.{Ignored, Stranger, Again, Taken, Ended}
-use Rattle.nb_tftp.specs.declared.answer.Phase.TheVariants.{Asking, Taking, Over}
+use Rattle.nb_tftp.specs.declared.answer.Answer.TheVariants.{Ignored}
 use Rattle.nb_tftp.specs.declared.state.State.{State}
-use Rattle.nb_tftp.specs.Asks.{Begun, acts_of, ack_of, taken, ended_by, due_acts, nothing}
-use Rattle.nb_tftp.specs.Decisions.{from_server, fixed_of, last_of, is_over, end_of_block}
+use Rattle.nb_tftp.specs.Asks.{Begun, acts_of, due_acts, nothing}
+use Rattle.nb_tftp.specs.Decisions.{fixed_of, last_of, is_over}
 use Rattle.nb_tftp.specs.Steps.{begun_of, state_of, after_answer, after_bytes, bytes_acts, after_due, after_tick, tick_acts}
-use Rattle.nb_tftp.specs.Received.{Received, packet_in, block_bytes, is_block, fixed_port}
-use Rattle.nb_tftp.specs.Blocks.{blocks, count, file, is_whole, last_block}
-use Rattle.nb_tftp.specs.History.{Entry, entry, Call, came, ticked, got, last_advance, given, given_of, is_ended, ends_ok, watched, watched_call, Watch, watch_from, EachEntry}
-use Rattle.nb_tftp.specs.Sentences.{Meets, AsksSo, OkWhereWhole, TriesUnanswered, FollowsCommonPlan, IsUnanswered, answers, answer_to}
+use Rattle.nb_tftp.specs.Received.{Received, packet_in, fixed_port}
+use Rattle.nb_tftp.specs.Blocks.{blocks, count, is_whole}
+use Rattle.nb_tftp.specs.History.{Entry, entry, came, ticked, got, is_ended, ends_ok, watched, Watch}
+use Rattle.nb_tftp.specs.Sentences.{Meets, answers, answer_to}
 use Rattle.nb_tftp.specs.Stands.{Stands, Live}
-use Rattle.nb_tftp.proofs.BlockLemmas.{either_way, last_block-append}
-use Rattle.nb_tftp.proofs.ReceivedLemmas.{and_left, Waits, is_next, fits, kept_port, kept_blocks, kept_waits, more_port, more_blocks, more_count, more_waits}
-use Rattle.nb_tftp.proofs.AnswerLemmas.{Means, means, block_body, given_block}
-use Rattle.nb_tftp.proofs.HistoryLemmas.{got-append, given-append, last_advance-append, is_ended-append, watched-append, EachEntry-append}
+use Rattle.nb_tftp.proofs.ReceivedLemmas.{Waits}
+use Rattle.nb_tftp.proofs.AnswerLemmas.{means}
+use Rattle.nb_tftp.proofs.HistoryLemmas.{got-append, is_ended-append, watched-append}
 use Rattle.std.proofs.Common.{lit≤}
 use Rattle.nb_retry.specs.Plans.{Asked, asked}
 use Rattle.nb_retry.proofs.PlanLemmas.{Stands-append as TimerStands-append, follows_plan, after-since}
@@ -220,7 +212,7 @@ pub came_goes_on : (b : Begun) (start : ℕ) (state new : State) (h : List Entry
     → Stands b start new (h ++ entry (came m now) acts ∷ [])
 came_goes_on b start state new h m now acts asks becomes are stands unended =
     subst (λ (x : State). Stands b start x (h ++ entry (came m now) acts ∷ [])) (sym becomes)
-        (subst (λ (x : Acts). Stands b start (after_bytes state m.rec m.port m.body now) (h ++ entry (came m now) x ∷ [])) (sym asks) (came_stands b start state h m now stands unended are))
+    (subst (λ (x : Acts). Stands b start (after_bytes state m.rec m.port m.body now) (h ++ entry (came m now) x ∷ [])) (sym asks) (came_stands b start state h m now stands unended are))
 
 pub came_stays : (b : Begun) (start : ℕ) (state new : State) (h : List Entry) (rec port : ℕ) (body : List ℕ) (now : ℕ) (acts : Acts)
     → acts ≡ bytes_acts state rec port body → new ≡ after_bytes state rec port body now
@@ -236,4 +228,4 @@ pub tick_goes_on : (b : Begun) (start : ℕ) (state new : State) (h : List Entry
     → Stands b start new (h ++ entry (ticked now) acts ∷ [])
 tick_goes_on b start state new h now acts asks becomes small stands unended =
     subst (λ (x : State). Stands b start x (h ++ entry (ticked now) acts ∷ [])) (sym becomes)
-        (subst (λ (x : Acts). Stands b start (after_tick state now) (h ++ entry (ticked now) x ∷ [])) (sym asks) (tick_stands b start state h now stands unended small))
+    (subst (λ (x : Acts). Stands b start (after_tick state now) (h ++ entry (ticked now) x ∷ [])) (sym asks) (tick_stands b start state h now stands unended small))

@@ -1,13 +1,11 @@
 -- What is read from the calls of a transfer, when one call more is made.
-use Rattle.std.proofs.Common.{◌≡◌, ℕ, List, [], ◌∷◌, ◌++◌, Option, Some, None, Bool, true, false, ◌||◌, refl, ap, ◌∙◌, sym, subst, append_assoc}
+use Rattle.std.proofs.Common.{◌≡◌, ℕ, List, [], ◌∷◌, ◌++◌, Bool, true, false, ◌||◌, refl, ap, ◌∙◌, sym, subst, append_assoc}
 use Rattle.std.specs.Prelude.{unwrap_or}
-use Rattle.std.specs.List.{fold, list_any}
 use Rattle.std.specs.Option.{is_some}
 use Rattle.std.proofs.lemmas.List.{append-nil}
 use Rattle.std.proofs.lemmas.List.Concat.{flat_map-append}
 use Rattle.std.proofs.lemmas.List.Folds.{list_any-append}
 use Rattle.std.proofs.lemmas.List.Sums.{fold-append}
-use Rattle.nb_tftp.specs.Received.{Received}
 use Rattle.nb_tftp.specs.History.{Entry, got, received_by, given, given_of, last_advance, is_ended, watched, watched_call, watch_from, EachEntry}
 
 pub got-append : (h : List Entry) (e : Entry) → got (h ++ e ∷ []) ≡ got h ++ received_by e.call

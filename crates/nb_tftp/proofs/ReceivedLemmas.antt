@@ -1,16 +1,16 @@
 -- Blocks, port and what is waited for, when one datagram more comes.
-use Rattle.std.proofs.Common.{◌≡◌, ℕ, zero, suc, ◌+◌, ◌<◌, ◌≤◌, List, [], ◌∷◌, ◌++◌, length, Option, Some, None, Bool, true, false, cond, ◌&&◌, refl, ap, ◌∙◌, sym, subst, arith, leb, ltb, eqb, append_assoc, add-one, eq-eqb}
-use Rattle.std.specs.List.{find, flat_map}
-use Rattle.std.specs.Option.{option_map, option_map_or, option_or, option_and_then, option_to_list}
+use Rattle.std.proofs.Common.{◌≡◌, ℕ, suc, ◌≤◌, List, [], ◌∷◌, ◌++◌, length, Option, Some, None, Bool, true, false, cond, ◌&&◌, refl, ap, ◌∙◌, sym, subst, arith, leb, eqb, add-one, eq-eqb}
+use Rattle.std.specs.List.{find}
+use Rattle.std.specs.Option.{option_map, option_or, option_and_then, option_to_list}
 use Rattle.std.proofs.lemmas.Bool.{false≢true, eqb-true}
 use Rattle.std.proofs.lemmas.List.{length-append}
 use Rattle.std.proofs.lemmas.List.Folds.{find-append}
-use Rattle.std.proofs.lemmas.Option.{none-some, same_Some}
+use Rattle.std.proofs.lemmas.Option.{none-some}
 use Rattle.nb_tftp.specs.Received.{Received, is_block, block_bytes, fixed_port}
-use Rattle.nb_tftp.specs.Blocks.{Found, first_passing, is_block_from, behind_block, blocks_to, blocks, count, is_whole, next_block}
+use Rattle.nb_tftp.specs.Blocks.{Found, first_passing, is_block_from, behind_block, blocks_to, blocks, count, next_block}
 use Rattle.nb_tftp.specs.Decisions.{from_server}
 use Rattle.nb_tftp.specs.Stands.{Waiting}
-use Rattle.nb_tftp.proofs.BlockLemmas.{either_way, first_passing-none, behind_block-more, blocks_to-more, blocks_to-past, no_block, next_found, found_at, last_block-append}
+use Rattle.nb_tftp.proofs.BlockLemmas.{either_way, first_passing-none, behind_block-more, blocks_to-more, blocks_to-past, no_block, next_found, found_at}
 
 -- no later block is there, from any port that may be the server's
 abbrev pub Waits : List Received → Type 0

@@ -1,5 +1,5 @@
 -- A transfer goes on to stand for its calls.
-use Rattle.std.proofs.Common.{◌≡◌, ℕ, zero, suc, ◌+◌, ◌^◌, ◌<◌, ◌≤◌, List, [], ◌∷◌, ◌++◌, length, Option, Some, None, Bool, true, false, cond, ◌&&◌, ◌||◌, refl, ap, ◌∙◌, sym, subst, arith, leb, ltb, eqb, add-one, drop}
+use Rattle.std.proofs.Common.{◌≡◌, ℕ, suc, List, [], ◌∷◌, ◌++◌, length, Option, Some, None, Bool, true, false, cond, ◌&&◌, ◌||◌, refl, ap, ◌∙◌, sym, subst, ltb, eqb, drop}
 use Rattle.std.specs.Prelude.{unwrap_or, filter, map}
 use Rattle.std.specs.List.{flat_map, list_any}
 use Rattle.std.specs.Option.{option_map_or, is_some, is_none}
@@ -10,25 +10,23 @@ use Rattle.std.proofs.lemmas.List.Folds.{list_any-append}
 use Rattle.nb_retry.specs.declared.plan.Plan.TheVariants.{Common}
 use Rattle.nb_retry.specs.Calls.{fires, Stands as TimerStands}
 use Rattle.nb_retry.specs.Plans.{firings, waits}
-use Rattle.nb_retry.specs.declared.retry.Due.{Due}
-use Rattle.nb_retry.specs.declared.retry.Due.TheVariants.{Not, Again as TryAgain, Over as PlanOver}
-use Rattle.nb_retry.specs.Timer.{started, answer, after}
+use Rattle.nb_retry.specs.Timer.{started}
 use Rattle.nb_terms.specs.declared.acts.Acts.{Acts}
 use Rattle.nb_terms.specs.declared.acts.SendTo.{SendTo}
 use Rattle.nb_terms.specs.declared.cause.Cause.{Cause}
 use Rattle.nb_tftpmsg.proofs.PacketLemmas.{IsBytes}
 use Rattle.nb_tftp.specs.declared.answer.Answer.{Answer}
 use Rattle.nb_tftp.specs.declared.answer.Answer.TheVariants.{Ignored, Stranger, Again, Taken, Ended}
-use Rattle.nb_tftp.specs.declared.answer.Phase.TheVariants.{Asking, Taking, Over}
+use Rattle.nb_tftp.specs.declared.answer.Phase.TheVariants.{Taking, Over}
 use Rattle.nb_tftp.specs.declared.state.State.{State}
-use Rattle.nb_tftp.specs.Asks.{Begun, acts_of, ack_of, taken, ended_by, due_acts, nothing}
-use Rattle.nb_tftp.specs.Decisions.{from_server, fixed_of, last_of, is_over, end_of_block}
-use Rattle.nb_tftp.specs.Steps.{begun_of, state_of, after_answer, after_bytes, bytes_acts, after_due, after_tick, tick_acts}
+use Rattle.nb_tftp.specs.Asks.{Begun, acts_of, ack_of, taken, ended_by}
+use Rattle.nb_tftp.specs.Decisions.{from_server, is_over, end_of_block}
+use Rattle.nb_tftp.specs.Steps.{after_answer}
 use Rattle.nb_tftp.specs.Received.{Received, packet_in, block_bytes, is_block, fixed_port}
 use Rattle.nb_tftp.specs.Blocks.{blocks, count, file, is_whole, last_block}
-use Rattle.nb_tftp.specs.History.{Entry, entry, Call, came, ticked, got, last_advance, given, given_of, is_ended, ends_ok, watched, watched_call, Watch, watch_from, EachEntry}
-use Rattle.nb_tftp.specs.Sentences.{Meets, AsksSo, OkWhereWhole, TriesUnanswered, FollowsCommonPlan, IsUnanswered, answers, answer_to}
-use Rattle.nb_tftp.specs.Stands.{Stands, Live}
+use Rattle.nb_tftp.specs.History.{Entry, entry, came, got, last_advance, given, given_of, is_ended, ends_ok, watched, Watch, watch_from}
+use Rattle.nb_tftp.specs.Sentences.{Meets, AsksSo, OkWhereWhole, TriesUnanswered, FollowsCommonPlan, answers, answer_to}
+use Rattle.nb_tftp.specs.Stands.{Stands}
 use Rattle.nb_tftp.proofs.BlockLemmas.{either_way, last_block-append}
 use Rattle.nb_tftp.proofs.ReceivedLemmas.{and_left, Waits, is_next, fits, kept_port, kept_blocks, kept_waits, more_port, more_blocks, more_count, more_waits}
 use Rattle.nb_tftp.proofs.AnswerLemmas.{Means, means, block_body, given_block}

@@ -1,5 +1,5 @@
 -- What a transfer asks of its caller
-use Rattle.std.specs.Prelude.{ℕ, ◌+◌, ◌==◌, Bool, true, false, List, [], ◌∷◌, Option, Some, None, if◌then◌else◌}
+use Rattle.std.specs.Prelude.{ℕ, ◌+◌, ◌==◌, false, List, [], ◌∷◌, Option, Some, None, if◌then◌else◌}
 use Rattle.std.specs.Option.{option_map_or, is_none}
 use Rattle.arrayvec.specs.ArrayVec.{ArrayVec}
 use Rattle.nb_terms.specs.declared.acts.Acts.{Acts}

@@ -1,15 +1,14 @@
 -- What a transfer promises of all its calls, by what was received and when
-use Rattle.std.specs.Prelude.{◌≡◌, ℕ, ◌+◌, ◌&&◌, ◌||◌, Bool, true, false, List, [], ◌∷◌, ◌++◌, Option, Some, None, map, filter}
+use Rattle.std.specs.Prelude.{◌≡◌, ℕ, ◌+◌, ◌&&◌, ◌||◌, Bool, false, List, [], ◌∷◌, ◌++◌, Option, map, filter}
 use Rattle.std.specs.List.{list_any}
 use Rattle.std.specs.Option.{option_map_or}
 use Rattle.nb_retry.specs.declared.plan.Plan.TheVariants.{Common}
 use Rattle.nb_retry.specs.Calls.{fires}
 use Rattle.nb_retry.specs.Plans.{firings, waits}
 use Rattle.nb_terms.specs.declared.acts.Acts.{Acts}
-use Rattle.nb_tftpmsg.specs.Packets.{Message}
 use Rattle.nb_tftp.specs.declared.answer.Answer.{Answer}
 use Rattle.nb_tftp.specs.declared.answer.Answer.TheVariants.{Ignored}
-use Rattle.nb_tftp.specs.Asks.{Begun, nothing, acts_of, due_acts}
+use Rattle.nb_tftp.specs.Asks.{Begun, acts_of, due_acts}
 use Rattle.nb_tftp.specs.Decisions.{decided, from_server}
 use Rattle.nb_tftp.specs.Received.{Received, packet_in, is_block, is_refusal, fixed_port}
 use Rattle.nb_tftp.specs.Blocks.{count, file, is_whole}

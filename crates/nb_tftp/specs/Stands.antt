@@ -1,5 +1,5 @@
 -- What a transfer stands for: all the calls since its start
-use Rattle.std.specs.Prelude.{◌≡◌, ◌≤◌, ℕ, suc, Bool, true, false, List, length, Option, Some, None}
+use Rattle.std.specs.Prelude.{◌≡◌, ◌≤◌, ℕ, suc, true, false, List, length, Some, None}
 use Rattle.nb_retry.specs.declared.plan.Plan.TheVariants.{Common}
 use Rattle.nb_retry.specs.Calls.{Stands as TimerStands}
 use Rattle.nb_tftp.specs.declared.state.State.{State}

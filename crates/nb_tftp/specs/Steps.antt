@@ -1,20 +1,19 @@
 -- One call of a transfer: what it asks, and what it is afterwards. What this amounts to over all calls
 -- is said in Sentences.
-use Rattle.std.specs.Prelude.{ℕ, Bool, true, false, List, Option, Some, None, if◌then◌else◌}
+use Rattle.std.specs.Prelude.{ℕ, List, if◌then◌else◌}
 use Rattle.std.specs.Option.{option_map_or, is_none}
 use Rattle.nb_retry.specs.declared.plan.Plan.TheVariants.{Common}
 use Rattle.nb_retry.specs.declared.retry.Due.{Due}
 use Rattle.nb_retry.specs.declared.retry.Due.TheVariants.{Not, Again as TryAgain, Over as PlanOver}
 use Rattle.nb_retry.specs.Timer.{started, answer, after}
 use Rattle.nb_terms.specs.declared.acts.Acts.{Acts}
-use Rattle.nb_wire.specs.declared.address.Ip4.{Ip4}
 use Rattle.nb_tftpmsg.specs.Packets.{Message}
 use Rattle.nb_tftpmsg.specs.Reading.{reading}
 use Rattle.nb_tftp.specs.declared.answer.Answer.{Answer}
 use Rattle.nb_tftp.specs.declared.answer.Answer.TheVariants.{Ignored, Stranger, Again, Taken, Ended}
 use Rattle.nb_tftp.specs.declared.answer.Phase.TheVariants.{Asking, Taking, Over}
 use Rattle.nb_tftp.specs.declared.state.State.{State}
-use Rattle.nb_tftp.specs.Asks.{Begun, begun, nothing, acts_of, due_acts}
+use Rattle.nb_tftp.specs.Asks.{Begun, nothing, acts_of, due_acts}
 use Rattle.nb_tftp.specs.Decisions.{fixed_of, last_of, is_over, end_of_block, decided}
 
 abbrev pub begun_of : State → Begun
