@@ -5,11 +5,8 @@ use Rattle.std.specs.List.{AllByRecursion}
 use Rattle.std.proofs.lemmas.Bool.{cases_lt}
 use Rattle.std.proofs.lemmas.List.{get_or_append_left, get_or-append_right}
 use Rattle.std.proofs.lemmas.List.Sums.{sum_by-cons, sum_by-append}
+use Rattle.nb_wire.proofs.BytesLaws.{IsBytes}
 use Rattle.nb_wire.specs.Checksum.{words, add_with_carry, checksum, SameSum, sum_word}
-
--- each element of the list is a byte
-abbrev pub IsBytes : List ℕ → Type 0
-IsBytes bytes = (i : ℕ) → get_or bytes i 0 < 256
 
 sum_word-same : (a b : ℕ) → SameSum a b → sum_word a ≡ sum_word b
 sum_word-same zero zero s = refl

@@ -1,5 +1,6 @@
 use Rattle.std.proofs.Common.{◌∙◌, sym, arith}
-use Rattle.nb_wire.proofs.ChecksumLaws.{IsBytes, checksum-parts}
+use Rattle.nb_wire.proofs.BytesLaws.{IsBytes}
+use Rattle.nb_wire.proofs.ChecksumLaws.{checksum-parts}
 use Rattle.nb_wire.proofs.sum.sum16.Goals as goal
 
 pub returns : goal.returns
