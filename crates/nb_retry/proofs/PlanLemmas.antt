@@ -146,7 +146,7 @@ follows_plan retry calls stands =
     subst (λ (ws : List Wait). filter (λ call. fires call.said) calls ≡ firings retry.since ws (map (λ call. call.at) calls)) waiting.2
     (waiting_fires (started retry.since retry.plan) calls retry retry.since waiting.0 waiting.1 waiting.3 waiting.4 stands)
 
-after-since : (retry : Retry) (now : ℕ) → ((after retry now).since ≡ retry.since) × ((after retry now).plan ≡ retry.plan)
+pub after-since : (retry : Retry) (now : ℕ) → ((after retry now).since ≡ retry.since) × ((after retry now).plan ≡ retry.plan)
 after-since retry now =
     either_way (is_due retry now)
     (λ due. either_way (goes_on retry)

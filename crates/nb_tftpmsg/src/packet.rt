@@ -62,6 +62,8 @@ impl<'a> Tftp<'a> {
     pub fn read(bytes: &'a [u8]) -> Option<Tftp<'a>>
         ensures sound { IfSome result (λ packet. IsPacket bytes.now (message packet)) }
         ensures complete { (m : Message) → IsPacket bytes.now m → option_map message result ≡ Some m }
+        // The same as one equation, by the function on lists that is proved to be the grammar.
+        ensures exact { option_map message result ≡ reading bytes.now }
     {
         parsed(bytes)
     }

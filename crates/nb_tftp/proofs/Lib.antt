@@ -1,0 +1,6 @@
+pub mod BlockLemmas
+pub mod ReceivedLemmas
+pub mod AnswerLemmas
+pub mod HistoryLemmas
+pub mod StandsLemmas
+pub mod CallLemmas

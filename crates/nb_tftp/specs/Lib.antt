@@ -1,0 +1,9 @@
+pub mod Ends
+pub mod Asks
+pub mod Decisions
+pub mod Steps
+pub mod Received
+pub mod Blocks
+pub mod History
+pub mod Sentences
+pub mod Stands

@@ -1,0 +1,20 @@
+//! The transfer of one file by TFTP (RFC 1350): a core without IO, clock or memory of its own.
+//!
+//! `Transfer::start` asks for a file in mode `octet` without options, so blocks have 512 bytes, the last
+//! one fewer. From then on the transfer is handed each message of its port and each time, and says by
+//! `Acts` what to send, what goes up, and how it ended. The server's port is the one that the first block 1
+//! comes from; packets from other ports are told so (error 5). An OACK is ignored: no option was asked for.
+//! Start with `Transfer`; what it promises is `Stands` of specs/.
+#![tactic(auto)]
+
+mod acts;
+mod answer;
+mod causes;
+mod datagram;
+mod state;
+mod transfer;
+
+pub use transfer::{TooLong, Transfer};
+
+#[cfg(test)]
+mod tests;
