@@ -150,7 +150,7 @@ mod tests {
         assert_eq!(rt; line.attach(&target), Ok(()));
         let mut buf = [0u8; 8];
         assert_eq!(rt; line.read(&mut buf), Ok(3));
-        assert_eq!(rt; buf[..3], *b"abc");
+        assert_eq!(rt; &buf[..3], b"abc".as_slice());
         assert_eq!(rt; line.read(&mut buf), Ok(0));
         assert_eq!(rt; line.write(b"new"), Ok(3));
         assert_eq!(rt; fs::read_to_string(&rt, output.as_str())?.as_str(), "new");
