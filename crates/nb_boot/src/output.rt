@@ -1,4 +1,4 @@
-ghost use Rattle.std.specs.Prelude.{◌≡◌, [], false, OnOk, OnErr, IfErr};
+ghost use Rattle.std.specs.Prelude.{◌≡◌, ◌≤◌, [], false, length, OnOk, OnErr, IfErr};
 ghost use Rattle.nb_boot.specs.Going.{Wrote, Stopped, IsFlaw, Keeps, Cuts, flaw_status};
 ghost use Rattle.nb_defs.specs.Machine.{Machine};
 
@@ -64,6 +64,7 @@ const FULL: usize = 49_152;
 /// Writes out what the log gathered where the next line's output may not fit behind it.
 pub fn make_room<L: Line>(log: &mut Log, line: &mut L) -> Result<(), Flaw>
     ensures ok { OnOk result ((m : Machine) → Keeps (L.outside line.old) (L.outside line.new) log.old log.new m m) }
+    ensures room { OnOk result (length log.new.bytes ≤ 49152) }
     ensures err { IfErr result (λ flaw. (m : Machine) → Cuts flaw (L.outside line.old) (L.outside line.new) log.old m) }
 {
     if log.bytes().len() <= FULL {
