@@ -10,7 +10,7 @@ ghost use Rattle.nb_boot.specs.StatusNumber.{number_of};
 ghost use Rattle.nb_boot.specs.Turns.{Acts, IsRunning, IsNearer, IsEnd};
 
 use crate::Status;
-use crate::command::OK;
+use crate::causes::{NOT_SCRIPT, OK};
 use crate::running::RunningScript;
 use nb_record::{Cause, InRec, Log, NoMemory, OutRec, Start};
 use nb_script::{Script, ScriptError};
@@ -62,7 +62,6 @@ pub struct Client {
 }
 
 impl Model for Client {
-    ghost use Rattle.nb_defs.specs.Records as defs;
     ghost use Rattle.nb_defs.specs.Machine.{Machine};
 
     ghost Value = { Machine };
@@ -71,13 +70,6 @@ impl Model for Client {
 
     ghost view = { λ c. record { used = c.used; phase = phase_of c.stage } };
 }
-
-/// The first line isn't `#!ipxe`, or the text isn't one that runs.
-const NOT_SCRIPT: Cause = Cause {
-    code: 14,
-    a: 0,
-    b: 0,
-};
 
 impl Identity {
     fn of(start: &Start<'_>) -> Identity {

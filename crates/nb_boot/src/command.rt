@@ -1,11 +1,11 @@
 ghost use Rattle.std.specs.Prelude.{◌≡◌, ◌≤◌, ◌<◌, ◌+◌, length, sum_by, Bool, true, IfOk, OnOk, IfSome, MatchResult, ◌||◌, ◌++◌, nat_eq, nat_le, option_map, None, Some, codes};
 ghost use Rattle.std.specs.List.{starts_with, join_with_byte};
 ghost use Rattle.std.specs.Str.{bytes_eq};
-ghost use Rattle.nb_defs.specs.Causes.{exit_cause};
 ghost use Rattle.nb_defs.specs.Commands.{outcome, echo, exit, is_option, begins_with_option, number_of};
 ghost use Rattle.nb_defs.specs.Machine.{ends_script};
 ghost use Rattle.nb_boot.specs.CommandWords.{outcome_of, cause_of, done_of, end_of, TakesWithin, TakesFewer, spaced};
 
+use crate::causes::{OK, UNKNOWN, USAGE, exit_result};
 use crate::number::read_number;
 use nb_record::{Cause, NoMemory};
 use nb_wire::{Text, Word};
@@ -45,26 +45,11 @@ impl Refusal {
         ensures { result ≡ cause_of self }
     {
         match self {
-            Refusal::Unknown => Cause {
-                code: 19,
-                a: 0,
-                b: 0,
-            },
-            Refusal::Usage => Cause {
-                code: 20,
-                a: 0,
-                b: 0,
-            },
+            Refusal::Unknown => UNKNOWN,
+            Refusal::Usage => USAGE,
         }
     }
 }
-
-/// All went well.
-pub const OK: Cause = Cause {
-    code: 0,
-    a: 0,
-    b: 0,
-};
 
 impl Done {
     /// Whether the script is left: the command says so, or it failed.
@@ -199,20 +184,6 @@ fn joined(alloc: Global, words: &[Word], newline: bool) -> Result<Text, NoMemory
     push_joined(&mut bytes, words)?;
     bytes.extend_from_slice(line_end(newline))?;
     Ok(Text::from_vec(bytes))
-}
-
-/// The result of `exit n`: Ok where n is 0.
-fn exit_result(n: u8) -> Cause
-    ensures { result ≡ exit_cause n }
-{
-    if n == 0 {
-        return OK;
-    }
-    Cause {
-        code: 24,
-        a: u32::from(n),
-        b: 0,
-    }
 }
 
 /// Carries out the command that these words say.

@@ -4,6 +4,7 @@
 // START and all commands but `echo` and `exit`. Begin with `netboot` in top.rt, then `Client`.
 #![tactic(auto)]
 
+mod causes;
 mod client;
 mod command;
 mod feeding;

@@ -6,7 +6,8 @@ ghost use Rattle.nb_boot.specs.Advance.{Advances, phase_after, Does, lines_left}
 ghost use Rattle.nb_boot.specs.NextLine.{HasWords, IsNext};
 ghost use Rattle.nb_boot.specs.CommandWords.{done_of};
 
-use crate::command::{Done, OK, carry_out};
+use crate::causes::OK;
+use crate::command::{Done, carry_out};
 use nb_record::{Cause, Log, NoMemory, OutRec};
 use nb_script::Script;
 use nb_wire::{Text, Word, Words};
