@@ -10,3 +10,4 @@ pub mod Closings
 pub mod BadRests
 pub mod Attached
 pub mod Completeness
+pub mod OneRun

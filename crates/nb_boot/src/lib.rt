@@ -8,6 +8,7 @@ mod causes;
 mod client;
 mod command;
 mod feeding;
+mod laws;
 mod number;
 mod output;
 mod play;
@@ -18,5 +19,6 @@ mod tests;
 mod top;
 
 pub use client::{Client, Turn};
+pub use laws::one_run;
 pub use status::Status;
 pub use top::netboot;
