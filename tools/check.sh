@@ -1,5 +1,6 @@
 #!/bin/sh
-# Runs the tests of the tools, and ends with their status. Without Python 3.10 or later nothing runs.
+# Runs the tests of the tools and of the program from end to end, and ends with their status. Without
+# Python 3.10 or later nothing runs; without the toolchain's rt the program's tests are skipped.
 cd "$(dirname "$0")/.." || exit 1
 if ! command -v python3 >/dev/null 2>&1; then
     echo "tools: python3 is missing, the tools' tests are skipped"
