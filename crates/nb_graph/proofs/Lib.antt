@@ -1,0 +1,11 @@
+pub mod MannedLemmas
+pub mod LinkLemmas
+pub mod WholeLemmas
+pub mod RunsLemmas
+pub mod GraphLemmas
+pub mod ShrinkLemmas
+pub mod CalmLemmas
+pub mod UnplugLemmas
+pub mod ShutLemmas
+pub mod EndLemmas
+pub mod LivelyLemmas

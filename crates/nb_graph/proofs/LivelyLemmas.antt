@@ -1,0 +1,188 @@
+-- The parts of an entry from below or by time, joined.
+use Rattle.std.proofs.Common.{◌≡◌, ℕ, ◌<◌, inl, inr, Bool, true, false, zero, suc, ltb, List, [], ◌∷◌, ◌++◌, length, get_or, map, Option, None, refl, ap, sym, ◌∙◌, subst, arith}
+use Rattle.std.proofs.lemmas.Bool.{cases_eq, cases_Bool, eq-eqb, false≢true}
+use Rattle.std.specs.Option.{option_map_or}
+use Rattle.nb_terms.specs.declared.event.Event.{Event}
+use Rattle.nb_ledger.specs.declared.object.Object.{Object}
+use Rattle.nb_ledger.specs.declared.port.Port.{Port}
+use Rattle.nb_ledger.specs.declared.port.PortState.{PortState}
+use Rattle.nb_ledger.specs.declared.port.PortState.TheVariants.{Open, Linked, Leaving, Closed}
+use Rattle.nb_ledger.specs.declared.event.Way.{Way}
+use Rattle.nb_ledger.specs.declared.event.GraphEvent.TheVariants as event
+use Rattle.nb_ledger.specs.GraphRun.{Frame, Running, MustClose, MustEnter, MustUnplug, MustFree, IsIdle, RunsIn, Step, MayEnter, MayDrop, ports_but, new_ports}
+use Rattle.nb_ledger.specs.Flat.{Tells}
+use Rattle.nb_ledger.specs.Ledger.{Ledger, found, place_in, live, busy, rank, ranks, port, place, leaves, state_of}
+use Rattle.nb_ledger.specs.Changes.{SetsBusy, SetsPort, Adds}
+use Rattle.nb_ledger.proofs.RunLemmas.{Run-append, Told-none, Tells-append}
+use Rattle.nb_ledger.proofs.PlaceLemmas.{place_found, found-place}
+use Rattle.nb_ledger.proofs.PortLemmas.{busy-live}
+use Rattle.nb_graph.specs.Whole.{IsManned}
+use Rattle.nb_graph.specs.Calm.{Shrinks, Calm, Ends, Starts}
+use Rattle.nb_graph.specs.Lively.{Grows, Lively, LivelyIn}
+use Rattle.nb_graph.proofs.WholeLemmas.{but_same, but_other, ports_other, two_ports}
+use Rattle.nb_graph.proofs.ShrinkLemmas.{Agrees-busy, dead-port}
+use Rattle.nb_graph.proofs.CalmLemmas.{agrees-enter, agrees-leave, flags-back, two-keeps}
+
+pub Grows-refl : (l : Ledger) → Grows l l
+Grows-refl l = record { same_room = refl; same_busy = λ x. refl; same_leaves = λ x k. refl; kept = λ x b. refl }
+
+pub Grows-trans : {a b c : Ledger} → Grows a b → Grows b c → Grows a c
+Grows-trans {a} {b} {c} p q = record {
+  same_room = q.same_room ∙ p.same_room;
+  same_busy = λ x. q.same_busy x ∙ p.same_busy x;
+  same_leaves = λ x k. q.same_leaves x k ∙ p.same_leaves x k;
+  kept = λ x r. q.kept x (p.same_busy x ∙ r) ∙ p.kept x r;
+}
+
+pub Grows-shrinks : {old new : Ledger} → Shrinks old new → Grows old new
+Grows-shrinks {old} {new} s = record {
+  same_room = s.same_room;
+  same_busy = s.same_busy;
+  same_leaves = s.same_leaves;
+  kept = λ x r. (s.kept x (busy-live new x (s.same_busy x ∙ r))).1;
+}
+
+pub Lively-calm : {old new : Ledger} {before after : Option (List Event)} → Calm old new before after → Lively old new before after
+Lively-calm {old} {new} {before} {after} k = record { added = k.added; told = k.told; run = k.run; grows = Grows-shrinks k.shrinks }
+
+-- a stack whose innermost entry runs is idle
+runs-idle : (st : List Frame) (x : ℕ) → RunsIn st x → IsIdle st
+runs-idle [] x h = tt
+runs-idle (Running p w ∷ st) x h = tt
+runs-idle (MustClose p c ∷ st) x h = absurd h
+runs-idle (MustEnter p ∷ st) x h = absurd h
+runs-idle (MustUnplug p q ∷ st) x h = absurd h
+runs-idle (MustFree y ∷ st) x h = absurd h
+
+pub LivelyIn-lively : {x : ℕ} {old new : Ledger} {before after : Option (List Event)} → Lively old new before after → LivelyIn x old new before after
+LivelyIn-lively {x} {old} {new} {before} {after} k = record { added = k.added; told = k.told; run = λ st r a. k.run st (runs-idle st x r) a; grows = k.grows }
+
+pub LivelyIn-calm : {x : ℕ} {old new : Ledger} {before after : Option (List Event)} → Calm old new before after → LivelyIn x old new before after
+LivelyIn-calm {x} {old} {new} {before} {after} k = LivelyIn-lively (Lively-calm k)
+
+pub Lively-refl : (l : Ledger) (b : Option (List Event)) → Lively l l b b
+Lively-refl l b = record { added = []; told = Told-none b; run = λ st i a. refl; grows = Grows-refl l }
+
+pub LivelyIn-refl : (x : ℕ) (l : Ledger) (b : Option (List Event)) → LivelyIn x l l b b
+LivelyIn-refl x l b = record { added = []; told = Told-none b; run = λ st i a. refl; grows = Grows-refl l }
+
+pub Lively-trans : {a b c : Ledger} {m n o : Option (List Event)} → Lively a b m n → Lively b c n o → Lively a c m o
+Lively-trans {a} {b} {c} {m} {n} {o} p q = record {
+  added = p.added ++ q.added;
+  told = Tells-append m n o p.added q.added p.told q.told;
+  run = λ st i g. Run-append (state_of a st) (state_of b st) (state_of c st) p.added q.added (p.run st i g) (q.run st i (Agrees-busy a b st p.grows.same_busy g));
+  grows = Grows-trans p.grows q.grows;
+}
+
+pub LivelyIn-trans : {x : ℕ} {a b c : Ledger} {m n o : Option (List Event)} → LivelyIn x a b m n → LivelyIn x b c n o → LivelyIn x a c m o
+LivelyIn-trans {x} {a} {b} {c} {m} {n} {o} p q = record {
+  added = p.added ++ q.added;
+  told = Tells-append m n o p.added q.added p.told q.told;
+  run = λ st i g. Run-append (state_of a st) (state_of b st) (state_of c st) p.added q.added (p.run st i g) (q.run st i (Agrees-busy a b st p.grows.same_busy g));
+  grows = Grows-trans p.grows q.grows;
+}
+
+-- a message or a make is dropped: the port is closed, or it is linked and its object's entry runs
+pub LivelyIn-dropped : (l : Ledger) (before after : Option (List Event)) (p : Port) → (port l p.obj.0 p.slot ≡ Open → ⊥) → Tells before after (event.Dropped p ∷ []) → LivelyIn p.obj.0 l l before after
+LivelyIn-dropped l before after p n told = record {
+  added = event.Dropped p ∷ [];
+  told = told;
+  run = λ st r a. (state_of l st, (runs-idle st p.obj.0 r, may st r (port l p.obj.0 p.slot) refl, refl), refl);
+  grows = Grows-refl l;
+}
+  where
+    may : (st : List Frame) → RunsIn st p.obj.0 → (v : PortState) → port l p.obj.0 p.slot ≡ v → MayDrop (state_of l st) p.obj.0 (port l p.obj.0 p.slot)
+    may st r Open h = absurd (n h)
+    may st r (Linked q) h = rw h (inr r)
+    may st r (Leaving q) h = rw h tt
+    may st r Closed h = rw h tt
+
+-- a whole entry
+pub Lively-entry : {b0 b1 b2 new : Ledger} {n0 n1 n2 after : Option (List Event)} {p : Port} {way : Way} {was : Bool} → SetsBusy b0 b1 p.obj.0 true → Tells n0 n1 (event.Entered p way ∷ []) → ((st : List Frame) → IsIdle st → MayEnter (state_of b0 st) p way → Step (state_of b0 st) (event.Entered p way) (state_of b1 (Running p way ∷ st))) → ((st : List Frame) → MayEnter (state_of b0 st) p way) → was ≡ busy b0 p.obj.0 → LivelyIn p.obj.0 b1 b2 n1 n2 → Ends b2 new n2 after p.obj.0 was (λ st. Running p way ∷ st) (port b2) → Lively b0 new n0 after
+Lively-entry {b0} {b1} {b2} {new} {n0} {n1} {n2} {after} {p} {way} {was} c told step may prior k e = record {
+  added = event.Entered p way ∷ (k.added ++ e.added);
+  told = Tells-append n0 n1 after (event.Entered p way ∷ []) (k.added ++ e.added) told (Tells-append n1 n2 after k.added e.added k.told e.told);
+  run = λ st idle a. (
+    state_of b1 (Running p way ∷ st),
+    step st idle (may st),
+    Run-append (state_of b1 (Running p way ∷ st)) (state_of b2 (Running p way ∷ st)) (state_of new st) k.added e.added
+        (k.run (Running p way ∷ st) refl (λ x. c.busy_set x ∙ agrees-enter (busy b0) st p.obj.0 a x))
+        (e.run st (agrees-leave (busy b0) (busy b2) st p.obj.0 was prior flags a)),
+  );
+  grows = record {
+    same_room = e.same_room ∙ k.grows.same_room ∙ c.objects.same_room;
+    same_busy = back;
+    same_leaves = λ x j. e.leaves_is x j ∙ k.grows.same_leaves x j ∙ ap leaves (c.same_port x j);
+    kept = λ x r. (e.kept x (busy-live new x (back x ∙ r))).1 ∙ k.grows.kept x (entered x r) ∙ c.objects.same_rank x;
+  };
+}
+  where
+    flags : (x : ℕ) → (x ≡ p.obj.0 → ⊥) → busy b2 x ≡ busy b0 x
+    flags x n = k.grows.same_busy x ∙ c.busy_set x ∙ but_other p.obj.0 true (busy b0) x n
+
+    back : (x : ℕ) → busy new x ≡ busy b0 x
+    back x = e.busy_is x ∙ flags-back (busy b0) (busy b2) p.obj.0 was prior flags x
+
+    entered : (x : ℕ) → busy b0 x ≡ true → busy b1 x ≡ true
+    entered x r = elim (cases_eq x p.obj.0) [
+      | inl i ↦ c.busy_set x ∙ but_same p.obj.0 true (busy b0) x i
+      | inr n ↦ c.busy_set x ∙ but_other p.obj.0 true (busy b0) x n ∙ r
+    ]
+
+-- which begins with it
+pub Starts-lively : {b0 b1 b2 new : Ledger} {n0 n1 n2 after : Option (List Event)} {p : Port} {way : Way} {was : Bool} → SetsBusy b0 b1 p.obj.0 true → Tells n0 n1 (event.Entered p way ∷ []) → ((st : List Frame) → IsIdle st → MayEnter (state_of b0 st) p way → Step (state_of b0 st) (event.Entered p way) (state_of b1 (Running p way ∷ st))) → ((st : List Frame) → MayEnter (state_of b0 st) p way) → was ≡ busy b0 p.obj.0 → LivelyIn p.obj.0 b1 b2 n1 n2 → Ends b2 new n2 after p.obj.0 was (λ st. Running p way ∷ st) (port b2) → Starts b0 new n0 after (event.Entered p way)
+unfolding Lively-entry
+Starts-lively c told step may prior k e =
+    let whole = Lively-entry c told step may prior k e in
+    record { rest = k.added ++ e.added; told = whole.told; run = whole.run }
+
+-- a reading of an element
+get_or-map-at : {A : Type 0} (f : A → ℕ) (xs : List A) (i : ℕ) (d : A) → i < length xs → get_or (map f xs) i 0 ≡ f (get_or xs i d)
+get_or-map-at f [] i d h = absurd (omega arith)
+get_or-map-at f (x ∷ xs) zero d h = refl
+get_or-map-at f (x ∷ xs) (suc i) d h = get_or-map-at f xs i d (omega arith)
+
+-- some object
+no_object : Object
+no_object = record { id = record { 0 = 0 }; rank = 0; busy = false; holds = 0; ports = [] }
+
+rank-found : (os : List Object) (x : ℕ) → place_in os x < length os → option_map_or (λ o. o.rank) (found os x) 0 ≡ get_or (map (λ o. o.rank) os) (place_in os x) 0
+rank-found os x h = rw (found-place os x no_object h) (sym (get_or-map-at (λ o. o.rank) os (place_in os x) no_object h))
+
+-- the rank of a live object is that of its node
+rank-place : (l : Ledger) (x : ℕ) → live l x ≡ true → rank l x ≡ get_or (ranks l) (place l x) 0
+unfolding live rank ranks
+rank-place l x h = rank-found l.objects x (place_found l.objects x h)
+
+pub manned-rank : {N : Type 0} {rank_of : N → ℕ} {l : Ledger} {nodes : List N} {cap : ℕ} (x : ℕ) (d : N) → IsManned rank_of l nodes cap → live l x ≡ true → place l x < length nodes → d ≡ get_or nodes (place l x) d → rank l x ≡ rank_of d
+manned-rank {N} {rank_of} {l} {nodes} {cap} x d m v h e = rank-place l x v ∙ ap (λ r. get_or r (place l x) 0) m.same_ranks ∙ get_or-map-at rank_of nodes (place l x) d h ∙ sym (ap rank_of e)
+
+-- a dead object is not entered
+dead-busy : (l : Ledger) (x : ℕ) → live l x ≡ false → busy l x ≡ false
+dead-busy l x d = elim (cases_Bool (busy l x)) [ inl e ↦ absurd (false≢true (sym d ∙ busy-live l x e)) | inr e ↦ e ]
+
+new-leaves : (k : ℕ) → leaves (new_ports k) ≡ None
+new-leaves k = elim (cases_Bool (ltb k 4)) [ inl e ↦ rw e refl | inr e ↦ rw e refl ]
+
+-- an object is made and plugged
+pub Lively-make : (b0 b1 m new : Ledger) (n0 n1 after : Option (List Event)) (p q : Port) (r kind : ℕ) → Adds b0 b1 q.obj.0 r → live b0 q.obj.0 ≡ false → SetsPort b1 m p (Linked q) → SetsPort m new q (Linked p) → port b1 p.obj.0 p.slot ≡ Open → port b1 q.obj.0 q.slot ≡ Open → Tells n0 n1 (event.Made q.obj kind ∷ []) → ((st : List Frame) → IsIdle st → Step (state_of b0 st) (event.Made q.obj kind) (state_of b1 st)) → Tells n1 after (event.Plugged p q ∷ []) → ((st : List Frame) → IsIdle st → Step (state_of b1 st) (event.Plugged p q) (state_of new st)) → Lively b0 new n0 after
+Lively-make b0 b1 m new n0 n1 after p q r kind a d s t op oq told step more next = record {
+  added = event.Made q.obj kind ∷ event.Plugged p q ∷ [];
+  told = Tells-append n0 n1 after (event.Made q.obj kind ∷ []) (event.Plugged p q ∷ []) told more;
+  run = λ st i g. (state_of b1 st, step st i, (state_of new st, next st i, refl));
+  grows = record {
+    same_room = t.objects.same_room ∙ s.objects.same_room ∙ a.same_room;
+    same_busy = λ x. t.same_busy x ∙ s.same_busy x ∙ a.busy_set x ∙ elim (cases_eq x q.obj.0) [
+      | inl e ↦ but_same q.obj.0 false (busy b0) x e ∙ sym (ap (busy b0) e ∙ dead-busy b0 q.obj.0 d)
+      | inr n ↦ but_other q.obj.0 false (busy b0) x n
+    ];
+    same_leaves = λ x k. ap leaves (two_ports s t x k) ∙ two-keeps leaves p q (Linked q) (Linked p) (port b1) (sym (ap leaves op)) (sym (ap leaves oq)) x k ∙ ap leaves (a.port_set x k) ∙ elim (cases_eq x q.obj.0) [
+      | inl e ↦ at_new x k e
+      | inr n ↦ ap leaves (ports_other q.obj.0 new_ports (port b0) x k n)
+    ];
+    kept = λ x u. t.objects.same_rank x ∙ s.objects.same_rank x ∙ a.rank_set x ∙ but_other q.obj.0 r (rank b0) x (λ e. false≢true (sym d ∙ subst (λ y. live b0 y ≡ true) e (busy-live b0 x u)));
+  };
+}
+  where
+    at_new : (x k : ℕ) → x ≡ q.obj.0 → leaves (ports_but q.obj.0 new_ports (port b0) x k) ≡ leaves (port b0 x k)
+    at_new x k e = rw (eq-eqb x q.obj.0 e) (new-leaves k) ∙ sym (ap (λ y. leaves (port b0 y k)) e ∙ ap leaves (dead-port b0 q.obj.0 d k))

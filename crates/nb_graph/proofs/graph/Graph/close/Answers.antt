@@ -1,0 +1,5 @@
+use Rattle.nb_graph.proofs.RunsLemmas.{Began-starts}
+use Rattle.nb_graph.proofs.graph.Graph.close.Goals as goal
+
+pub returns-clause-begins : goal.returns-clause-begins
+returns-clause-begins g c = λ h. rw (← c.self.view_is) (Began-starts _ _ _ _ _ c.self.invariant.quiet (c.close_port.ensures.starts (rw (← c.self.view_is) at h)))

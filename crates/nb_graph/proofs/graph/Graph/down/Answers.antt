@@ -1,0 +1,12 @@
+use Rattle.std.proofs.Common.{sym, ◌∙◌, [], ◌∷◌}
+use Rattle.std.proofs.lemmas.Bool.{false≢true}
+use Rattle.nb_ledger.specs.declared.event.GraphEvent.TheVariants.{Dropped}
+use Rattle.nb_graph.proofs.RunsLemmas.{Began-starts, Runs-drop}
+use Rattle.nb_graph.proofs.graph.Graph.down.Goals as goal
+
+pub returns-then-is_free-clause-entered : goal.returns-then-is_free-clause-entered
+returns-then-is_free-clause-entered g c = λ _. rw (← c.self.view_is) (Began-starts _ _ _ _ _ c.self.invariant.quiet c.enter_down.ensures.starts)
+
+pub returns-else-is_free-clause-runs : goal.returns-else-is_free-clause-runs
+returns-else-is_free-clause-runs g c =
+    (Dropped c.args.to ∷ [], rw (← c.self.view_is) (Runs-drop _ _ _ c.args.to (λ e. false≢true (sym c.if-is_free.false ∙ c.is_free.ensures.1 e)) (rw c.spelled.ensures at c.event.ensures)))

@@ -1,0 +1,25 @@
+use Rattle.std.proofs.Common.{arith}
+use Rattle.nb_graph.proofs.MannedLemmas.{manned-place, IsManned-node}
+use Rattle.nb_graph.proofs.LivelyLemmas.{manned-rank}
+use Rattle.nb_graph.proofs.inner.Inner.ask_time.Goals as goal
+
+pub index_mut-requires : goal.index_mut-requires
+index_mut-requires g c =
+    let h = manned-place c.args.id.0 c.requires.manned c.requires.lives in
+    omega (arith, h, c.place-place.ensures, c.args.self.now.nodes.ok.0)
+
+pub returns-in-Ok-clause-asks : goal.returns-in-Ok-clause-asks
+returns-in-Ok-clause-asks g c =
+    let h = manned-place c.args.id.0 c.requires.manned c.requires.lives in
+    let e = manned-rank c.args.id.0 c.index_mut.result.now c.requires.manned c.requires.lives h (rw c.place-place.ensures at c.index_mut.ensures.value) in
+    rw e c.in-Ok.ensures.asks
+
+pub returns-in-Ok-clause-manned : goal.returns-in-Ok-clause-manned
+returns-in-Ok-clause-manned g c =
+    let h = manned-place c.args.id.0 c.requires.manned c.requires.lives in
+    IsManned-node c.place-place.result c.on_time.new.self c.index_mut.result.now (omega (arith, h, c.place-place.ensures)) c.index_mut.ensures.value c.on_time.ensures.rank c.requires.manned
+
+pub returns-in-Err-clause-manned : goal.returns-in-Err-clause-manned
+returns-in-Err-clause-manned g c =
+    let h = manned-place c.args.id.0 c.requires.manned c.requires.lives in
+    IsManned-node c.place-place.result c.on_time.new.self c.index_mut.result.now (omega (arith, h, c.place-place.ensures)) c.index_mut.ensures.value c.on_time.ensures.rank c.requires.manned

@@ -1,0 +1,36 @@
+use Rattle.std.proofs.Common.{refl, ◌∙◌, ◌∷◌}
+use Rattle.nb_ledger.specs.GraphRun.{MustEnter, MustUnplug}
+use Rattle.nb_ledger.specs.declared.port.PortState.TheVariants.{Linked}
+use Rattle.nb_ledger.proofs.PortLemmas.{live_by}
+use Rattle.nb_graph.proofs.MannedLemmas.{IsManned-same}
+use Rattle.nb_graph.proofs.CalmLemmas.{other-end, HalfCloses-both, IsWhole-both}
+use Rattle.nb_graph.proofs.inner.Inner.close_both.Goals as goal
+
+pub close_peer-requires : goal.close_peer-requires
+close_peer-requires g c = other-end c.requires.steady.whole.links c.requires.linked c.close_first.ensures.sets
+
+pub enter_closed-requires : goal.enter_closed-requires
+enter_closed-requires g c =
+    let there = other-end c.requires.steady.whole.links c.requires.linked c.close_first.ensures.sets in
+    c.close_peer.ensures.sets.objects.same_live _ ∙ (live_by _ _ _ (Linked c.args.at) tt there).0
+
+pub returns-clause-run : goal.returns-clause-run
+returns-clause-run g c = λ st idle.
+    (_, c.close_first.ensures.step st idle, (_, c.close_peer.ensures.step (MustEnter c.args.peer ∷ MustUnplug c.args.at c.args.peer ∷ st), (_, c.enter_closed.ensures.step (MustUnplug c.args.at c.args.peer ∷ st), refl)))
+
+pub returns-clause-half : goal.returns-clause-half
+returns-clause-half g c =
+    HalfCloses-both c.requires.steady.whole.links c.requires.linked c.close_first.ensures.sets c.close_peer.ensures.sets c.enter_closed.ensures.sets (other-end c.requires.steady.whole.links c.requires.linked c.close_first.ensures.sets)
+
+pub returns-clause-steady : goal.returns-clause-steady
+returns-clause-steady g c =
+    let a = c.close_first.ensures.sets in
+    let b = c.close_peer.ensures.sets in
+    let d = c.enter_closed.ensures.sets in
+    record {
+      whole = IsWhole-both c.requires.steady.whole.links c.requires.linked a b d c.requires.steady.whole;
+      manned = IsManned-same d.objects (IsManned-same b.objects (IsManned-same a.objects c.requires.steady.manned));
+    }
+
+pub returns-clause-runs : goal.returns-clause-runs
+returns-clause-runs g c = c.enter_closed.ensures.runs

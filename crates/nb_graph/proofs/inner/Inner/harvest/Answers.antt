@@ -1,0 +1,13 @@
+use Rattle.std.proofs.Common.{arith}
+use Rattle.nb_graph.proofs.MannedLemmas.{manned-place, IsManned-node}
+use Rattle.nb_graph.proofs.inner.Inner.harvest.Goals as goal
+
+pub index_mut-requires : goal.index_mut-requires
+index_mut-requires g c =
+    let h = manned-place c.args.id.0 c.requires.manned c.requires.lives in
+    omega (arith, h, c.place-place.ensures, c.args.self.now.nodes.ok.0)
+
+pub returns-clause-manned : goal.returns-clause-manned
+returns-clause-manned g c =
+    let h = manned-place c.args.id.0 c.requires.manned c.requires.lives in
+    IsManned-node c.place-place.result c.harvest.new.self c.index_mut.result.now (omega (arith, h, c.place-place.ensures)) c.index_mut.ensures.value c.harvest.ensures.rank c.requires.manned

@@ -1,0 +1,29 @@
+use Rattle.std.proofs.Common.{arith}
+use Rattle.nb_graph.proofs.RunsLemmas.{IsRun-let_go}
+use Rattle.nb_graph.proofs.GraphLemmas.{but-counted, KeepsRanks-settle, IsGraph-settle}
+use Rattle.nb_graph.proofs.WholeLemmas.{IsLinked-holds, IsQuiet-holds, CountedBut-holds}
+use Rattle.nb_graph.proofs.MannedLemmas.{IsManned-same}
+use Rattle.nb_graph.proofs.EndLemmas.{LetsGo-let_go, falls-let_go}
+use Rattle.nb_graph.proofs.inner.Inner.let_go.Goals as goal
+
+pub returns-clause-runs : goal.returns-clause-runs
+returns-clause-runs g c =
+    IsRun-let_go _ _ _ _ _ _ c.args.id (IsQuiet-holds c.let_go.ensures.sets c.requires.graph.quiet) c.let_go.ensures.told c.let_go.ensures.step c.settle.ensures.settles
+
+pub returns-clause-graph : goal.returns-clause-graph
+returns-clause-graph g c =
+    let s = c.let_go.ensures.sets in
+    let old = c.requires.graph in
+    IsGraph-settle c.settle.ensures.settles (IsLinked-holds s old.whole.links) (CountedBut-holds s (but-counted _ c.args.id.0 old.whole.counted)) (IsQuiet-holds s old.quiet) (λ y. rw (s.objects.same_rank y) (old.whole.small y)) c.settle.ensures.manned (omega (arith, s.objects.same_room, old.small))
+
+pub returns-clause-ranks : goal.returns-clause-ranks
+returns-clause-ranks g c = KeepsRanks-settle c.let_go.ensures.sets.objects c.settle.ensures.settles
+
+pub settle-requires-clause-manned : goal.settle-requires-clause-manned
+settle-requires-clause-manned g c = IsManned-same c.let_go.ensures.sets.objects c.requires.graph.manned
+
+pub returns-clause-lets : goal.returns-clause-lets
+returns-clause-lets g c = LetsGo-let_go c.requires.held c.let_go.ensures.sets c.settle.ensures.settles
+
+pub returns-clause-falls : goal.returns-clause-falls
+returns-clause-falls g c = falls-let_go c.requires.held c.let_go.ensures.sets c.settle.ensures.settles

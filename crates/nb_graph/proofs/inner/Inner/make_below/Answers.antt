@@ -1,0 +1,52 @@
+use Rattle.std.proofs.Common.{◌≡◌, ℕ, ◌<◌, refl, sym, ◌∙◌, subst, true, false}
+use Rattle.std.proofs.lemmas.Bool.{false≢true}
+use Rattle.nb_ledger.specs.Ledger.{Ledger, live, port, rank}
+use Rattle.nb_ledger.specs.Changes.{Adds}
+use Rattle.nb_ledger.specs.declared.port.Port.{Port}
+use Rattle.nb_ledger.specs.GraphRun.{new_ports}
+use Rattle.nb_ledger.specs.declared.port.PortState.TheVariants.{Open}
+use Rattle.nb_ledger.proofs.PortLemmas.{live_by}
+use Rattle.nb_graph.proofs.MannedLemmas.{IsManned-same}
+use Rattle.nb_graph.proofs.WholeLemmas.{but_same, but_other, ports_other, ports_same, IsWhole-plug, IsLinked-add, CountedBut-add}
+use Rattle.nb_graph.proofs.GraphLemmas.{dead-loose, small-add}
+use Rattle.nb_graph.proofs.LivelyLemmas.{Lively-make}
+use Rattle.nb_graph.proofs.inner.Inner.make_below.Goals as goal
+
+pub plug-requires-clause-upper_open : goal.plug-requires-clause-upper_open
+plug-requires-clause-upper_open g c =
+    let a = c.add-id.ensures.adds in
+    let x = c.args.at.obj.0 in
+    a.port_set x c.args.at.slot ∙ ports_other c.add-id.result.0 new_ports (port c.args.self.now.book) x c.args.at.slot (λ e. false≢true (sym c.add-id.ensures.fresh ∙ subst (λ y. live c.args.self.now.book y ≡ true) e (live_by _ _ _ Open tt c.requires.free).0)) ∙ c.requires.free
+
+-- the new object's slot 0 is open
+fresh_open : (b : Ledger) (new : Ledger) (x r : ℕ) → Adds b new x r → port new x 0 ≡ Open
+fresh_open b new x r a = a.port_set x 0 ∙ ports_same x new_ports (port b) x 0 refl
+
+-- the maker has the higher rank
+higher : (b new : Ledger) (x y r : ℕ) → Adds b new x r → (y ≡ x → ⊥) → r < rank b y → rank new x < rank new y
+higher b new x y r a n h = rw (a.rank_set x ∙ but_same x r (rank b) x refl, a.rank_set y ∙ but_other x r (rank b) y n) h
+
+-- the maker is another object
+another : (b : Ledger) (p : Port) (x : ℕ) → live b x ≡ false → port b p.obj.0 p.slot ≡ Open → p.obj.0 ≡ x → ⊥
+another b p x d h e = false≢true (sym d ∙ subst (λ y. live b y ≡ true) e (live_by b p.obj.0 p.slot Open tt h).0)
+
+-- the maker's port is still open
+still_open : (b new : Ledger) (p : Port) (x r : ℕ) → Adds b new x r → live b x ≡ false → port b p.obj.0 p.slot ≡ Open → port new p.obj.0 p.slot ≡ Open
+still_open b new p x r a d h = a.port_set p.obj.0 p.slot ∙ ports_other x new_ports (port b) p.obj.0 p.slot (another b p x d h) ∙ h
+
+pub returns-clause-lively : goal.returns-clause-lively
+returns-clause-lively g c =
+    let s = c.plug.ensures.sets in
+    let a = c.add-id.ensures.adds in
+    Lively-make _ _ _ _ _ _ _ c.args.at _ _ _ a c.add-id.ensures.fresh s.1 s.2 (still_open _ _ c.args.at _ _ a c.add-id.ensures.fresh c.requires.free) (fresh_open _ _ _ _ a) c.add-id.ensures.told c.add-id.ensures.step c.plug.ensures.told c.plug.ensures.step
+
+pub returns-clause-steady : goal.returns-clause-steady
+returns-clause-steady g c =
+    let s = c.plug.ensures.sets in
+    let a = c.add-id.ensures.adds in
+    let d = c.add-id.ensures.fresh in
+    let w = c.requires.steady.whole in
+    record {
+      whole = IsWhole-plug s.1 s.2 (still_open _ _ c.args.at _ _ a d c.requires.free) (fresh_open _ _ _ _ a) c.requires.slot refl (higher _ _ _ _ _ a (another _ c.args.at _ d c.requires.free) c.requires.lower) (IsLinked-add a (dead-loose _ _ d) w.links) (CountedBut-add a w.counted) (small-add a c.add-id.ensures.small w.small);
+      manned = IsManned-same s.2.objects (IsManned-same s.1.objects c.add-id.ensures.manned);
+    }

@@ -1,0 +1,37 @@
+use Rattle.std.proofs.Common.{◌∙◌}
+use Rattle.nb_ledger.specs.declared.port.PortState.TheVariants.{Leaving}
+use Rattle.nb_ledger.proofs.PortLemmas.{live_by}
+use Rattle.nb_graph.proofs.UnplugLemmas.{IsLinked-unplug, CountedButTwo-unplug, live-unplug, Ends-unplug}
+use Rattle.nb_graph.proofs.MannedLemmas.{IsManned-same}
+use Rattle.nb_graph.proofs.inner.Inner.unplug.Goals as goal
+
+pub leave-requires : goal.leave-requires
+leave-requires g c = (live_by _ _ _ (Leaving c.args.at) tt c.requires.other).0
+
+pub settle_two-requires-clause-first : goal.settle_two-requires-clause-first
+settle_two-requires-clause-first g c =
+    let s = c.unplug.ensures.sets in
+    live-unplug c.requires.first c.requires.other c.requires.apart c.leave.ensures.sets s.1 s.2 c.args.at.obj.0 ∙ (live_by _ _ _ (Leaving c.args.peer) tt c.requires.first).0
+
+pub settle_two-requires-clause-other : goal.settle_two-requires-clause-other
+settle_two-requires-clause-other g c =
+    let s = c.unplug.ensures.sets in
+    live-unplug c.requires.first c.requires.other c.requires.apart c.leave.ensures.sets s.1 s.2 c.args.peer.obj.0 ∙ (live_by _ _ _ (Leaving c.args.at) tt c.requires.other).0
+
+pub settle_two-requires-clause-links : goal.settle_two-requires-clause-links
+settle_two-requires-clause-links g c =
+    let s = c.unplug.ensures.sets in
+    IsLinked-unplug c.requires.first c.requires.other c.requires.apart c.leave.ensures.sets s.1 s.2 c.requires.steady.whole.links
+
+pub settle_two-requires-clause-counted : goal.settle_two-requires-clause-counted
+settle_two-requires-clause-counted g c =
+    let s = c.unplug.ensures.sets in
+    CountedButTwo-unplug c.requires.first c.requires.other c.requires.apart c.leave.ensures.sets s.1 s.2 c.requires.steady.whole.counted
+
+pub returns-clause-ends : goal.returns-clause-ends
+returns-clause-ends g c =
+    let s = c.unplug.ensures.sets in
+    Ends-unplug c.requires.first c.requires.other c.requires.apart c.leave.ensures.sets s.1 s.2 _ _ _ _ _ c.leave.ensures.told c.leave.ensures.step c.unplug.ensures.told c.unplug.ensures.step c.settle_two.ensures.settles
+
+pub settle_two-requires-clause-manned : goal.settle_two-requires-clause-manned
+settle_two-requires-clause-manned g c = let s = c.unplug.ensures.sets in IsManned-same s.2.objects (IsManned-same s.1.objects (IsManned-same c.leave.ensures.sets.objects c.requires.steady.manned))

@@ -1,0 +1,5 @@
+pub mod Effects
+pub mod Whole
+pub mod Calm
+pub mod Ending
+pub mod Lively

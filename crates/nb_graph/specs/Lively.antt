@@ -1,0 +1,32 @@
+-- What a message that goes up, or time, leaves, whatever it nests: events that are a run; objects may be made.
+use Rattle.std.specs.Prelude.{◌≡◌, ℕ, ◌+◌, ◌-◌, ◌*◌, ◌^◌, List, true, Option}
+use Rattle.nb_terms.specs.declared.event.Event.{Event}
+use Rattle.nb_ledger.specs.declared.event.GraphEvent.{GraphEvent}
+use Rattle.nb_ledger.specs.GraphRun.{Frame, IsIdle, RunsIn, Run}
+use Rattle.nb_ledger.specs.Flat.{Tells}
+use Rattle.nb_ledger.specs.Ledger.{Ledger, rank, port, busy, leaves, state_of, Agrees}
+
+-- no entry and no half-closed link ends or begins, and an object that runs keeps its rank
+pub record Grows (old new : Ledger) : Type 0 where
+  pub same_room : new.room ≡ old.room
+  pub same_busy : (x : ℕ) → busy new x ≡ busy old x
+  pub same_leaves : (x k : ℕ) → leaves (port new x k) ≡ leaves (port old x k)
+  pub kept : (x : ℕ) → busy old x ≡ true → rank new x ≡ rank old x
+
+-- the events are a run over any stack that the book agrees with
+pub record Lively (old new : Ledger) (before after : Option (List Event)) : Type 0 where
+  pub added : List GraphEvent
+  pub told : Tells before after added
+  pub run : (st : List Frame) → IsIdle st → Agrees old st → Run (state_of old st) added (state_of new st)
+  pub grows : Grows old new
+
+-- the same, where the innermost entry is one of the object x
+pub record LivelyIn (x : ℕ) (old new : Ledger) (before after : Option (List Event)) : Type 0 where
+  pub added : List GraphEvent
+  pub told : Tells before after added
+  pub run : (st : List Frame) → RunsIn st x → Agrees old st → Run (state_of old st) added (state_of new st)
+  pub grows : Grows old new
+
+-- how far a message that goes up has to go: by rank, then by the bytes left, then by the place in the code
+abbrev pub reach : ℕ → ℕ → ℕ → ℕ
+reach r len place = 2 ^ 70 * (256 - r) + 16 * len + place

@@ -1,0 +1,96 @@
+-- What is true of a graph's book and nodes between events.
+use Rattle.std.specs.Prelude.{◌≡◌, ℕ, ◌+◌, ◌<◌, ◌≤◌, List, [], ◌∷◌, map, true, false, Option, None, Some, length, slice_get}
+use Rattle.nb_terms.specs.declared.event.Event.{Event}
+use Rattle.nb_ledger.specs.declared.event.GraphEvent.{GraphEvent}
+use Rattle.nb_ledger.specs.declared.port.ObjId.{ObjId}
+use Rattle.nb_ledger.specs.declared.port.Port.{Port}
+use Rattle.nb_ledger.specs.declared.port.PortState.{PortState}
+use Rattle.nb_ledger.specs.declared.port.PortState.TheVariants.{Linked}
+use Rattle.nb_ledger.specs.GraphRun.{Run}
+use Rattle.nb_ledger.specs.Flat.{Tells}
+use Rattle.nb_ledger.specs.Ledger.{Ledger, live, rank, ranks, port, place, busy, leaves, unused, state_of}
+
+-- a port by its object's serial and its slot
+abbrev pub port_at : ℕ → ℕ → Port
+port_at x k = record { obj = record { 0 = x }; slot = k }
+
+-- links lead back, and join slot 0 of an object with a slot 1 to 3 of one of higher rank
+pub record IsLinked (f : ℕ → ℕ → PortState) (r : ℕ → ℕ) : Type 0 where
+  pub back : (x k : ℕ) (p : Port) → f x k ≡ Linked p → f p.obj.0 p.slot ≡ Linked (port_at x k)
+  pub upper : (x : ℕ) (p : Port) → f x 0 ≡ Linked p → 1 ≤ p.slot
+  pub lower : (x k : ℕ) (p : Port) → 1 ≤ k → f x k ≡ Linked p → p.slot ≡ 0
+  pub falls : (x : ℕ) (p : Port) → f x 0 ≡ Linked p → r x < r p.obj.0
+
+-- each live object has a hold, a link or an entry that runs
+abbrev pub IsCounted : Ledger → Type 0
+IsCounted l = (x : ℕ) → live l x ≡ true → unused l x ≡ false
+
+-- each but x is
+abbrev pub CountedBut : ℕ → Ledger → Type 0
+CountedBut x l = (y : ℕ) → (y ≡ x → ⊥) → live l y ≡ true → unused l y ≡ false
+
+-- each but x and z is
+abbrev pub CountedButTwo : ℕ → ℕ → Ledger → Type 0
+CountedButTwo x z l = (y : ℕ) → (y ≡ x → ⊥) → (y ≡ z → ⊥) → live l y ≡ true → unused l y ≡ false
+
+-- what is true of a book between events
+pub record IsWhole (l : Ledger) : Type 0 where
+  pub links : IsLinked (port l) (rank l)
+  pub counted : IsCounted l
+  pub small : (x : ℕ) → rank l x < 256
+
+-- no entry runs, and no link is half closed
+pub record IsQuiet (l : Ledger) : Type 0 where
+  pub idle : (x : ℕ) → busy l x ≡ false
+  pub settled : (x k : ℕ) → leaves (port l x k) ≡ None
+
+-- the nodes are those of the book's objects, in order, and have room for more
+pub record IsManned {N : Type 0} (rank_of : N → ℕ) (l : Ledger) (nodes : List N) (capacity : ℕ) : Type 0 where
+  pub same_ranks : ranks l ≡ map rank_of nodes
+  pub room : l.room ≤ capacity
+  pub in_room : length l.objects ≤ l.room
+
+-- a graph's objects: the book of them, and their nodes in the same order
+pub record Objects (N : Type 0) : Type 0 where
+  pub book : Ledger
+  pub nodes : List N
+
+-- these events were given, and are a run from the state before to the state after, with no entry on the stack
+pub record Runs (old new : Ledger) (before after : Option (List Event)) (added : List GraphEvent) : Type 0 where
+  pub told : Tells before after added
+  pub run : Run (state_of old []) added (state_of new [])
+
+-- some events were
+abbrev pub IsRun : Ledger → Ledger → Option (List Event) → Option (List Event) → Type 0
+IsRun old new before after = (added : List GraphEvent) × Runs old new before after added
+
+-- some events were, of which this was the first
+abbrev pub Began : Ledger → Ledger → Option (List Event) → Option (List Event) → GraphEvent → Type 0
+Began old new before after e = (rest : List GraphEvent) × Runs old new before after (e ∷ rest)
+
+-- a graph between calls, of at most 64 objects
+pub record IsGraph {N : Type 0} (rank_of : N → ℕ) (l : Ledger) (nodes : List N) (capacity : ℕ) : Type 0 where
+  pub whole : IsWhole l
+  pub quiet : IsQuiet l
+  pub manned : IsManned rank_of l nodes capacity
+  pub small : l.room ≤ 64
+
+-- the node of an object, None where it is dead
+abbrev pub node_of : {N : Type 0} → Objects N → ObjId → Option N
+node_of g id = slice_get g.nodes (place g.book id.0)
+
+-- nothing changed, and no event was given
+pub record IsSame {N : Type 0} (old new : Objects N) (before after : Option (List Event)) : Type 0 where
+  pub objects : new ≡ old
+  pub told : Tells before after []
+
+-- id is the next serial, of a live object with this node and rank
+pub record IsMade {N : Type 0} (old new : Objects N) (node : N) (r : ℕ) (id : ObjId) : Type 0 where
+  pub serial : id.0 ≡ old.book.made + 1
+  pub lives : live new.book id.0 ≡ true
+  pub at_rank : rank new.book id.0 ≡ r
+  pub is_node : node_of new id ≡ Some node
+
+-- an object's rank never changes
+abbrev pub KeepsRanks : Ledger → Ledger → Type 0
+KeepsRanks old new = (x : ℕ) → live old x ≡ true → live new x ≡ true → rank new x ≡ rank old x

@@ -1,0 +1,299 @@
+// Closes, and messages that go down: nothing in here makes an object or sends a message up.
+ghost use Rattle.std.specs.Prelude.{◌≡◌, ◌+◌, ◌<◌, ◌≤◌, ℕ, true, length, IfSome};
+ghost use Rattle.std.specs.Vec.{vec_capacity};
+ghost use Rattle.nb_ledger.specs.declared.port.PortState.TheVariants.{Linked};
+ghost use Rattle.nb_ledger.specs.GraphRun.{IsOpen};
+ghost use Rattle.nb_ledger.specs.Ledger.{busy, port, open_count};
+ghost use Rattle.nb_graph.specs.Calm.{Calm, IsSteady, Starts};
+ghost use Rattle.nb_ledger.specs.declared.event.GraphEvent.TheVariants.{Closed, Entered};
+ghost use Rattle.nb_ledger.specs.declared.event.Way.TheVariants as way;
+ghost use Rattle.nb_graph.specs.Effects.{MayAskBelow, MayAskDown, AreDowns, ClosesSlot, IsDown};
+
+use crate::inner::Inner;
+use crate::steps::{Asked, cut};
+use crate::{Emit, Few, Fx, Node, Parts};
+use nb_ledger::{GraphEvent, Msg, ObjId, Outside, Port, PortState, Way};
+use nb_terms::Cause;
+
+/// The cause of the closes of an object whose entry ran out of memory.
+pub(crate) const NO_MEMORY: Cause = Cause {
+    code: 23,
+    a: 0,
+    b: 0,
+};
+
+/// The message of an entry that has none.
+pub(crate) const NOTHING: Msg<'static> = Msg {
+    tag: 0,
+    rec: 0,
+    a: 0,
+    b: 0,
+    first: &[],
+    second: &[],
+};
+
+impl<N: Node> Inner<N> {
+    /// Closes a port, if it is open, and its peer.
+    #[cycle(calm)]
+    pub(crate) fn close_port<O: Outside>(&mut self, at: Port, cause: &Cause, now: u64, out: &mut O)
+        requires steady { IsSteady N.rank_of self.old.book self.old.nodes.items (vec_capacity self.old.nodes) }
+        ensures shut { open_count (port self.new.book at.obj.0 at.slot) ≡ 0 }
+        ensures calm { Calm self.old.book self.new.book (O.events out.old) (O.events out.new) }
+        ensures starts { 0 < open_count (port self.old.book at.obj.0 at.slot)
+            → Starts self.old.book self.new.book (O.events out.old) (O.events out.new) (Closed at cause.now) }
+        ensures stays { open_count (port self.old.book at.obj.0 at.slot) ≡ 0
+            → (self.new ≡ self.old) × (O.events out.new ≡ O.events out.old) }
+        ensures steady { IsSteady N.rank_of self.new.book self.new.nodes.items (vec_capacity self.new.nodes) }
+    {
+        match self.book.port(at) {
+            PortState::Open => self.book.close_alone(at, cause, out),
+            PortState::Linked(peer) => self.close_link(at, peer, cause, now, out),
+            PortState::Leaving(_) => {}
+            PortState::Closed => {}
+        }
+    }
+
+    /// Closes both ends of a link: the peer's object is entered between.
+    #[cycle(calm)]
+    fn close_link<O: Outside>(&mut self, at: Port, peer: Port, cause: &Cause, now: u64, out: &mut O)
+        requires linked { port self.old.book at.obj.0 at.slot ≡ Linked peer }
+        requires steady { IsSteady N.rank_of self.old.book self.old.nodes.items (vec_capacity self.old.nodes) }
+        ensures shut { open_count (port self.new.book at.obj.0 at.slot) ≡ 0 }
+        ensures calm { Calm self.old.book self.new.book (O.events out.old) (O.events out.new) }
+        ensures starts { Starts self.old.book self.new.book (O.events out.old) (O.events out.new) (Closed at cause.now) }
+        ensures steady { IsSteady N.rank_of self.new.book self.new.nodes.items (vec_capacity self.new.nodes) }
+    {
+        let was = self.close_both(at, peer, cause, out);
+        let fx = self.ask_closed(peer, cause, now);
+        self.calm_effects(peer.obj, &NOTHING, fx, now, out);
+        self.unplug(at, peer, was, out);
+    }
+
+    /// Runs the effects of an entry from above or by a close: downs, then closes.
+    #[cycle(calm)]
+    fn calm_effects<O: Outside>(
+        &mut self,
+        id: ObjId,
+        msg: &Msg<'_>,
+        fx: Fx<N, N::Load>,
+        now: u64,
+        out: &mut O,
+    )
+        requires runs { busy self.old.book id.0 ≡ true }
+        requires asks { MayAskBelow (length msg.now.first.now + length msg.now.second.now) fx }
+        requires steady { IsSteady N.rank_of self.old.book self.old.nodes.items (vec_capacity self.old.nodes) }
+        ensures calm { Calm self.old.book self.new.book (O.events out.old) (O.events out.new) }
+        ensures steady { IsSteady N.rank_of self.new.book self.new.nodes.items (vec_capacity self.new.nodes) }
+    {
+        let Fx {
+            makes: _,
+            downs,
+            ups: _,
+            closes,
+            took: _,
+        } = fx;
+        self.run_downs(id, msg, downs, now, out);
+        self.run_closes(id, closes.as_slice(), now, out);
+    }
+
+    #[cycle(calm)]
+    pub(crate) fn run_downs<O: Outside>(
+        &mut self,
+        id: ObjId,
+        msg: &Msg<'_>,
+        downs: Few<Emit<N::Load>>,
+        now: u64,
+        out: &mut O,
+    )
+        requires runs { busy self.old.book id.0 ≡ true }
+        requires downs { AreDowns (length msg.now.first.now + length msg.now.second.now) downs }
+        requires steady { IsSteady N.rank_of self.old.book self.old.nodes.items (vec_capacity self.old.nodes) }
+        ensures calm { Calm self.old.book self.new.book (O.events out.old) (O.events out.new) }
+        ensures steady { IsSteady N.rank_of self.new.book self.new.nodes.items (vec_capacity self.new.nodes) }
+    {
+        let Few { first, second } = downs;
+        self.run_down(id, msg, first, now, out);
+        self.run_down(id, msg, second, now, out);
+    }
+
+    #[cycle(calm)]
+    fn run_down<O: Outside>(
+        &mut self,
+        id: ObjId,
+        msg: &Msg<'_>,
+        emit: Option<Emit<N::Load>>,
+        now: u64,
+        out: &mut O,
+    )
+        requires runs { busy self.old.book id.0 ≡ true }
+        requires down { IfSome emit (IsDown (length msg.now.first.now + length msg.now.second.now)) }
+        requires steady { IsSteady N.rank_of self.old.book self.old.nodes.items (vec_capacity self.old.nodes) }
+        ensures calm { Calm self.old.book self.new.book (O.events out.old) (O.events out.new) }
+        ensures steady { IsSteady N.rank_of self.new.book self.new.nodes.items (vec_capacity self.new.nodes) }
+    {
+        if let Some(emit) = emit {
+            self.send_down(id, msg, emit, now, out);
+        }
+    }
+
+    #[cycle(calm)]
+    fn send_down<O: Outside>(
+        &mut self,
+        id: ObjId,
+        msg: &Msg<'_>,
+        emit: Emit<N::Load>,
+        now: u64,
+        out: &mut O,
+    )
+        requires runs { busy self.old.book id.0 ≡ true }
+        requires down { IsDown (length msg.now.first.now + length msg.now.second.now) emit }
+        requires steady { IsSteady N.rank_of self.old.book self.old.nodes.items (vec_capacity self.old.nodes) }
+        ensures calm { Calm self.old.book self.new.book (O.events out.old) (O.events out.new) }
+        ensures steady { IsSteady N.rank_of self.new.book self.new.nodes.items (vec_capacity self.new.nodes) }
+    {
+        let Emit {
+            slot,
+            tag,
+            a,
+            b,
+            from,
+            to,
+            load,
+        } = emit;
+        let at = Port { obj: id, slot };
+        match load {
+            Some(load) => {
+                let (first, second) = load.parts();
+                let part = Msg {
+                    tag,
+                    rec: msg.rec,
+                    a,
+                    b,
+                    first,
+                    second,
+                };
+                self.pass_down(at, &part, now, out);
+                self.give_back(id, load);
+            }
+            None => {
+                let (first, second) = cut(msg, from, to);
+                let part = Msg {
+                    tag,
+                    rec: msg.rec,
+                    a,
+                    b,
+                    first,
+                    second,
+                };
+                self.pass_down(at, &part, now, out);
+            }
+        }
+    }
+
+    /// A message leaves by one of the slots 1 to 3.
+    #[cycle(calm)]
+    fn pass_down<O: Outside>(&mut self, at: Port, msg: &Msg<'_>, now: u64, out: &mut O)
+        requires slot { 1 ≤ at.slot }
+        requires steady { IsSteady N.rank_of self.old.book self.old.nodes.items (vec_capacity self.old.nodes) }
+        ensures calm { Calm self.old.book self.new.book (O.events out.old) (O.events out.new) }
+        ensures steady { IsSteady N.rank_of self.new.book self.new.nodes.items (vec_capacity self.new.nodes) }
+    {
+        match self.book.port(at) {
+            PortState::Open => out.send(at, msg),
+            PortState::Linked(peer) => self.enter_down(peer, msg, now, out),
+            PortState::Leaving(_) => out.event(&GraphEvent::Dropped(at).spelled()),
+            PortState::Closed => out.event(&GraphEvent::Dropped(at).spelled()),
+        }
+    }
+
+    /// A message enters an object from above.
+    #[cycle(calm)]
+    pub(crate) fn enter_down<O: Outside>(&mut self, at: Port, msg: &Msg<'_>, now: u64, out: &mut O)
+        requires slot { at.slot ≡ 0 }
+        requires open { IsOpen (port self.old.book at.obj.0 at.slot) }
+        requires steady { IsSteady N.rank_of self.old.book self.old.nodes.items (vec_capacity self.old.nodes) }
+        ensures calm { Calm self.old.book self.new.book (O.events out.old) (O.events out.new) }
+        ensures starts { Starts self.old.book self.new.book (O.events out.old) (O.events out.new) (Entered at way.Down) }
+        ensures steady { IsSteady N.rank_of self.new.book self.new.nodes.items (vec_capacity self.new.nodes) }
+    {
+        let was = self.book.enter(at, Way::Down, out);
+        let asked = self.ask_down(at.obj, msg, now);
+        self.after_down(at.obj, msg, asked, now, out);
+        self.leave(at, was, out);
+    }
+
+    #[cycle(calm)]
+    fn after_down<O: Outside>(
+        &mut self,
+        id: ObjId,
+        msg: &Msg<'_>,
+        asked: Asked<N, N::Load>,
+        now: u64,
+        out: &mut O,
+    )
+        requires runs { busy self.old.book id.0 ≡ true }
+        requires asks { MayAskDown (length msg.now.first.now + length msg.now.second.now) asked }
+        requires steady { IsSteady N.rank_of self.old.book self.old.nodes.items (vec_capacity self.old.nodes) }
+        ensures calm { Calm self.old.book self.new.book (O.events out.old) (O.events out.new) }
+        ensures steady { IsSteady N.rank_of self.new.book self.new.nodes.items (vec_capacity self.new.nodes) }
+    {
+        match asked {
+            Asked::Done(fx) => self.calm_effects(id, msg, fx, now, out),
+            Asked::NoMemory(fx) => self.fail(id, fx, now, out),
+        }
+    }
+
+    /// An entry ran out of memory: its loads come back, and the object's ports are closed.
+    #[cycle(calm)]
+    pub(crate) fn fail<O: Outside>(&mut self, id: ObjId, fx: Fx<N, N::Load>, now: u64, out: &mut O)
+        requires runs { busy self.old.book id.0 ≡ true }
+        requires steady { IsSteady N.rank_of self.old.book self.old.nodes.items (vec_capacity self.old.nodes) }
+        ensures calm { Calm self.old.book self.new.book (O.events out.old) (O.events out.new) }
+        ensures steady { IsSteady N.rank_of self.new.book self.new.nodes.items (vec_capacity self.new.nodes) }
+    {
+        self.take_back(id, fx);
+        self.close_all(id, &NO_MEMORY, now, out);
+    }
+
+    /// Closes an object's open ports, slot 0 first.
+    #[cycle(calm)]
+    pub(crate) fn close_all<O: Outside>(&mut self, id: ObjId, cause: &Cause, now: u64, out: &mut O)
+        requires steady { IsSteady N.rank_of self.old.book self.old.nodes.items (vec_capacity self.old.nodes) }
+        ensures shut { (k : ℕ) → open_count (port self.new.book id.0 k) ≡ 0 }
+        ensures calm { Calm self.old.book self.new.book (O.events out.old) (O.events out.new) }
+        ensures steady { IsSteady N.rank_of self.new.book self.new.nodes.items (vec_capacity self.new.nodes) }
+    {
+        self.close_port(Port { obj: id, slot: 0 }, cause, now, out);
+        self.close_port(Port { obj: id, slot: 1 }, cause, now, out);
+        self.close_port(Port { obj: id, slot: 2 }, cause, now, out);
+        self.close_port(Port { obj: id, slot: 3 }, cause, now, out);
+    }
+
+    #[cycle(calm)]
+    pub(crate) fn run_closes<O: Outside>(
+        &mut self,
+        id: ObjId,
+        closes: &[(u8, Cause)],
+        now: u64,
+        out: &mut O,
+    )
+        requires few { length closes.now ≤ 4 }
+        requires steady { IsSteady N.rank_of self.old.book self.old.nodes.items (vec_capacity self.old.nodes) }
+        ensures shut { (k : ℕ) → ClosesSlot k closes.now → open_count (port self.new.book id.0 k) ≡ 0 }
+        ensures calm { Calm self.old.book self.new.book (O.events out.old) (O.events out.new) }
+        ensures steady { IsSteady N.rank_of self.new.book self.new.nodes.items (vec_capacity self.new.nodes) }
+    {
+        if let [(slot, cause), rest @ ..] = closes {
+            self.close_port(
+                Port {
+                    obj: id,
+                    slot: *slot,
+                },
+                cause,
+                now,
+                out,
+            );
+            self.run_closes(id, rest, now, out);
+        }
+    }
+}

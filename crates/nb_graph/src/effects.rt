@@ -1,0 +1,63 @@
+ghost use Rattle.nb_graph.specs.Effects.{IsNothing};
+
+use arrayvec::ArrayVec;
+use nb_terms::Cause;
+
+/// A message that an entry asks for: it leaves by `slot`. Its bytes are the load's, or without one
+/// bytes `from` to `to` of the message being delivered.
+#[derive(Drop)]
+pub struct Emit<L> {
+    pub slot: u8,
+    pub tag: u8,
+    pub a: u32,
+    pub b: u32,
+    pub from: u32,
+    pub to: u32,
+    pub load: Option<L>,
+}
+
+/// A new object that an entry asks for; its slot 0 is plugged to the maker's `slot`.
+#[derive(Drop)]
+pub struct Make<N> {
+    pub node: N,
+    pub slot: u8,
+}
+
+/// At most two; `second` is None where `first` is.
+#[derive(Drop)]
+pub struct Few<E> {
+    pub first: Option<E>,
+    pub second: Option<E>,
+}
+
+/// What an entry asks for. It runs in the order makes, downs, ups, closes. `took` says how many bytes
+/// of its message an entry from below has taken.
+#[derive(Drop)]
+pub struct Fx<N, L> {
+    pub makes: Option<Make<N>>,
+    pub downs: Few<Emit<L>>,
+    pub ups: Few<Emit<L>>,
+    pub closes: ArrayVec<(u8, Cause), 4>,
+    pub took: u32,
+}
+
+impl<N, L> Fx<N, L> {
+    /// Nothing is asked.
+    pub fn none() -> Fx<N, L>
+        ensures { IsNothing result }
+    {
+        Fx {
+            makes: None,
+            downs: Few {
+                first: None,
+                second: None,
+            },
+            ups: Few {
+                first: None,
+                second: None,
+            },
+            closes: ArrayVec::new(),
+            took: 0,
+        }
+    }
+}

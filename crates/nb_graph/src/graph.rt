@@ -1,0 +1,236 @@
+ghost use Rattle.std.specs.Prelude.{◌≡◌, ◌+◌, ◌<◌, ◌≤◌, ◌↔◌, ◌⊎◌, ◌≢◌, ◌^◌, ◌-◌, ℕ, [], ◌∷◌, ◌++◌, Ok, Err, IfOk, IfErr, OnErr, OnOk, IsErr, IsTrue, IsSome, IsNone, IfSome, IfNone, length, true, false, slice_get};
+ghost use Rattle.std.specs.Bool.{OnTrue, OnFalse};
+ghost use Rattle.std.specs.Option.{option_copied};
+ghost use Rattle.nb_ledger.specs.declared.event.GraphEvent.TheVariants.{Made, Held, Plugged, Entered, Dropped, Closed};
+ghost use Rattle.nb_ledger.specs.declared.event.Way.TheVariants as way;
+ghost use Rattle.nb_graph.specs.declared.graph.Reach.TheVariants as reach;
+ghost use Rattle.nb_ledger.specs.declared.port.PortState.TheVariants as state;
+ghost use Rattle.nb_ledger.specs.Ledger.{live, holds, port, rank, open_count, IsLeastAbove};
+ghost use Rattle.nb_graph.specs.Whole.{Began, port_at, Runs, IsRun, IsMade, KeepsRanks, node_of, IsSame};
+
+use crate::Node;
+use crate::inner::Inner;
+use nb_ledger::{Book, GraphEvent, Msg, ObjId, Outside, Port};
+use nb_terms::{Cause, NoMemory};
+use std::alloc::Global;
+use std::marker::Model;
+
+/// A graph of at most `cap` live objects. After `new` it takes no memory of its own.
+#[derive(Drop)]
+pub struct Graph<N: Node> {
+    inner: Inner<N>,
+}
+
+/// This port is dead, closed or plugged.
+#[derive(Clone, Copy, Debug, PartialEq, Eq)]
+pub struct NotOpen {
+    pub port: Port,
+}
+
+/// Whether a message or time reached its object.
+#[derive(Clone, Copy, Debug, PartialEq, Eq)]
+pub enum Reach {
+    Entered,
+    Dropped,
+}
+
+impl<N: Node> Model for Graph<N> {
+    ghost use Rattle.nb_graph.specs.Whole.{Objects, IsGraph};
+    ghost use Rattle.std.specs.Vec.{vec_capacity};
+
+    ghost Value = { Objects N };
+
+    ghost view = { λ g. record { book = g.inner.book; nodes = g.inner.nodes.items } };
+
+    ghost invariant = { λ g. IsGraph N.rank_of g.inner.book g.inner.nodes.items (vec_capacity g.inner.nodes) };
+}
+
+impl<N: Node> Graph<N> {
+    /// An empty graph for `cap` objects, 1 to 64.
+    pub fn new(alloc: Global, cap: usize) -> Result<Graph<N>, NoMemory>
+        requires { (1 ≤ cap) × (cap ≤ 64) }
+        ensures { IfOk result (λ g. g ≡ record { book = record { made = 0; room = cap; objects = [] }; nodes = [] }) }
+    {
+        let book = Book::new(alloc, cap)?;
+        let nodes = Vec::with_capacity(alloc, cap)?;
+        Ok(Graph {
+            inner: Inner { book, nodes },
+        })
+    }
+
+    /// Makes an object, with one hold. The node comes back where the graph is full.
+    pub fn make<O: Outside>(&mut self, node: N, out: &mut O) -> Result<ObjId, N>
+        ensures full { IsErr result ↔ ((length self.old.book.objects ≡ self.old.book.room) ⊎ (self.old.book.made ≡ 2 ^ 64 - 1)) }
+        ensures back { IfErr result (λ n. (n ≡ node) × IsSame self.old self.new (O.events out.old) (O.events out.new)) }
+        ensures runs { IfOk result (λ id. Runs self.old.book self.new.book (O.events out.old) (O.events out.new) (Made id (N.kind_of node) ∷ Held id ∷ [])) }
+        ensures made { IfOk result (IsMade self.old self.new node (N.rank_of node)) }
+        ensures ranks { KeepsRanks self.old.book self.new.book }
+    {
+        if self.inner.is_full() {
+            return Err(node);
+        }
+        Ok(self.inner.make(node, out))
+    }
+
+    /// Joins two ports. The first that is not open and free is named.
+    pub fn plug<O: Outside>(&mut self, upper: Port, lower: Port, out: &mut O) -> Result<(), NotOpen>
+        requires upper { (1 ≤ upper.slot) × (upper.slot ≤ 3) }
+        requires lower { lower.slot ≡ 0 }
+        requires ranks { live self.old.book upper.obj.0 ≡ true → live self.old.book lower.obj.0 ≡ true
+            → rank self.old.book lower.obj.0 < rank self.old.book upper.obj.0 }
+        ensures upper { (result ≡ Err (record { port = upper })) ↔ (port self.old.book upper.obj.0 upper.slot ≢ state.Open) }
+        ensures lower { (result ≡ Err (record { port = lower }))
+            ↔ ((port self.old.book upper.obj.0 upper.slot ≡ state.Open) × (port self.old.book lower.obj.0 0 ≢ state.Open)) }
+        ensures refused { OnErr result (IsSame self.old self.new (O.events out.old) (O.events out.new)) }
+        ensures runs { OnOk result (Runs self.old.book self.new.book (O.events out.old) (O.events out.new) (Plugged upper lower ∷ [])) }
+        ensures nodes { self.new.nodes ≡ self.old.nodes }
+        ensures ranks { KeepsRanks self.old.book self.new.book }
+    {
+        if !self.inner.book.is_free(upper) {
+            return Err(NotOpen { port: upper });
+        }
+        if !self.inner.book.is_free(lower) {
+            return Err(NotOpen { port: lower });
+        }
+        self.inner.book.plug(upper, lower, out);
+        Ok(())
+    }
+
+    /// Adds a hold. False where the object is dead or has 4,294,967,295 holds.
+    pub fn hold<O: Outside>(&mut self, id: ObjId, out: &mut O) -> bool
+        ensures may { IsTrue result ↔ ((live self.old.book id.0 ≡ true) × (holds self.old.book id.0 < 2 ^ 32 - 1)) }
+        ensures held { OnTrue result (Runs self.old.book self.new.book (O.events out.old) (O.events out.new) (Held id ∷ [])) }
+        ensures nodes { self.new.nodes ≡ self.old.nodes }
+        ensures ranks { KeepsRanks self.old.book self.new.book }
+        ensures not { OnFalse result (IsSame self.old self.new (O.events out.old) (O.events out.new)) }
+    {
+        if self.inner.book.is_live(id) && self.inner.book.holds(id) < u32::MAX {
+            self.inner.book.hold(id, out);
+            true
+        } else {
+            false
+        }
+    }
+
+    /// Takes a hold away. False where the object is dead or has none.
+    pub fn let_go<O: Outside>(&mut self, id: ObjId, out: &mut O) -> bool
+        ensures may { IsTrue result ↔ ((live self.old.book id.0 ≡ true) × (0 < holds self.old.book id.0)) }
+        ensures gone { OnTrue result (IsRun self.old.book self.new.book (O.events out.old) (O.events out.new)) }
+        ensures ranks { KeepsRanks self.old.book self.new.book }
+        ensures not { OnFalse result (IsSame self.old self.new (O.events out.old) (O.events out.new)) }
+    {
+        if self.inner.book.is_live(id) && self.inner.book.holds(id) > 0 {
+            self.inner.let_go(id, out);
+            true
+        } else {
+            false
+        }
+    }
+
+    /// The node of a live object.
+    pub fn node(&self, id: ObjId) -> Option<&N>
+        ensures { option_copied result ≡ node_of self.now id }
+    {
+        self.inner.nodes.get(self.inner.book.place(id))
+    }
+
+    /// How many objects live.
+    pub fn live(&self) -> usize
+        ensures { result ≡ length self.now.book.objects }
+    {
+        self.inner.book.len()
+    }
+
+    /// The least live serial above `after`.
+    pub fn ids(&self, after: u64) -> Option<ObjId>
+        ensures none { IfNone result ((x : ℕ) → after < x → live self.now.book x ≡ false) }
+        ensures some { IfSome result (IsLeastAbove self.now.book after) }
+    {
+        self.inner.book.above(after)
+    }
+
+    /// Closes a port, and its peer if it is linked. Nothing happens at a closed or dead one.
+    pub fn close<O: Outside>(&mut self, at: Port, cause: &Cause, now: u64, out: &mut O)
+        ensures runs { IsRun self.old.book self.new.book (O.events out.old) (O.events out.new) }
+        ensures begins { 0 < open_count (port self.old.book at.obj.0 at.slot)
+            → Began self.old.book self.new.book (O.events out.old) (O.events out.new) (Closed at cause.now) }
+        ensures shut { open_count (port self.new.book at.obj.0 at.slot) ≡ 0 }
+        ensures not { open_count (port self.old.book at.obj.0 at.slot) ≡ 0 → IsSame self.old self.new (O.events out.old) (O.events out.new) }
+        ensures ranks { KeepsRanks self.old.book self.new.book }
+    {
+        self.inner.close_port(at, cause, now, out);
+    }
+
+    /// A message enters an object from above, by its slot 0, if that is open and free; else it is dropped.
+    pub fn down<O: Outside>(&mut self, to: Port, msg: &Msg<'_>, now: u64, out: &mut O) -> Reach
+        requires { to.slot ≡ 0 }
+        ensures dropped { (result ≡ reach.Dropped) ↔ (port self.old.book to.obj.0 0 ≢ state.Open) }
+        ensures runs { IsRun self.old.book self.new.book (O.events out.old) (O.events out.new) }
+        ensures entered { result ≡ reach.Entered → Began self.old.book self.new.book (O.events out.old) (O.events out.new) (Entered to way.Down) }
+        ensures not { result ≡ reach.Dropped → Runs self.old.book self.new.book (O.events out.old) (O.events out.new) (Dropped to ∷ []) }
+        ensures ranks { KeepsRanks self.old.book self.new.book }
+    {
+        if self.inner.book.is_free(to) {
+            self.inner.enter_down(to, msg, now, out);
+            Reach::Entered
+        } else {
+            out.event(&GraphEvent::Dropped(to).spelled());
+            Reach::Dropped
+        }
+    }
+
+    /// A message enters an object from below, by a slot 1 to 3, if that is open and free; else it is dropped.
+    pub fn up<O: Outside>(&mut self, to: Port, msg: &Msg<'_>, now: u64, out: &mut O) -> Reach
+        requires { (1 ≤ to.slot) × (to.slot ≤ 3) }
+        ensures dropped { (result ≡ reach.Dropped) ↔ (port self.old.book to.obj.0 to.slot ≢ state.Open) }
+        ensures runs { IsRun self.old.book self.new.book (O.events out.old) (O.events out.new) }
+        ensures entered { result ≡ reach.Entered → Began self.old.book self.new.book (O.events out.old) (O.events out.new) (Entered to way.Up) }
+        ensures not { result ≡ reach.Dropped → Runs self.old.book self.new.book (O.events out.old) (O.events out.new) (Dropped to ∷ []) }
+    {
+        let _length = (msg.first.len(), msg.second.len());
+        if self.inner.book.is_free(to) {
+            self.inner.enter_up(to, msg, now, out);
+            Reach::Entered
+        } else {
+            out.event(&GraphEvent::Dropped(to).spelled());
+            Reach::Dropped
+        }
+    }
+
+    /// Time has come to `now`, in milliseconds. Dropped where the object is dead, and then nothing happens.
+    pub fn time<O: Outside>(&mut self, id: ObjId, now: u64, out: &mut O) -> Reach
+        ensures dropped { (result ≡ reach.Dropped) ↔ (live self.old.book id.0 ≡ false) }
+        ensures runs { IsRun self.old.book self.new.book (O.events out.old) (O.events out.new) }
+        ensures entered { result ≡ reach.Entered
+            → Began self.old.book self.new.book (O.events out.old) (O.events out.new) (Entered (port_at id.0 4) way.Time) }
+        ensures not { result ≡ reach.Dropped → IsSame self.old self.new (O.events out.old) (O.events out.new) }
+    {
+        if self.inner.book.is_live(id) {
+            self.inner.enter_time(id, now, out);
+            Reach::Entered
+        } else {
+            Reach::Dropped
+        }
+    }
+
+    /// What the node of a live object has to hand out.
+    pub fn harvest(&mut self, id: ObjId) -> Option<N::Load>
+        ensures dead { live self.old.book id.0 ≡ false → IsNone result }
+        ensures book { self.new.book ≡ self.old.book }
+    {
+        if self.inner.book.is_live(id) {
+            self.inner.harvest(id)
+        } else {
+            None
+        }
+    }
+
+    /// Closes all ports by rising serial and slot, and lets all holds go. Nothing lives after it.
+    pub fn shutdown<O: Outside>(&mut self, cause: &Cause, now: u64, out: &mut O)
+        ensures runs { IsRun self.old.book self.new.book (O.events out.old) (O.events out.new) }
+        ensures none { length self.new.book.objects ≡ 0 }
+    {
+        self.inner.close_above(0, cause, now, out);
+        self.inner.let_above_go(0, out);
+    }
+}

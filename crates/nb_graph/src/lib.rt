@@ -1,0 +1,22 @@
+// Counted objects joined by interfaces: each object has a node of its own, up to four ports and a
+// count of its holds, links and running entries, and is freed when the count falls to 0. Messages go
+// up and down by links, and a port may close in the middle of a delivery; specs/GraphRun.antt of
+// nb_ledger says in which order events then stand. Begin with `Node`, then `Graph`.
+#![tactic(auto)]
+
+mod calm;
+mod effects;
+mod ending;
+mod graph;
+mod inner;
+mod lively;
+mod making;
+mod node;
+mod steps;
+#[cfg(test)]
+mod tests;
+
+pub use effects::{Emit, Few, Fx, Make};
+pub use graph::{Graph, NotOpen, Reach};
+pub use nb_ledger::{GraphEvent, Msg, ObjId, Outside, Port, Way};
+pub use node::{Node, Parts};

@@ -1,0 +1,275 @@
+// Messages that go up, and time: objects may be made.
+ghost use Rattle.std.specs.Prelude.{◌≡◌, ◌+◌, ◌<◌, ◌≤◌, ◌^◌, ℕ, true, length, IfSome};
+ghost use Rattle.std.specs.Vec.{vec_capacity};
+ghost use Rattle.nb_ledger.specs.declared.event.GraphEvent.TheVariants.{Entered};
+ghost use Rattle.nb_ledger.specs.declared.event.Way.TheVariants as way;
+ghost use Rattle.nb_ledger.specs.GraphRun.{IsOpen};
+ghost use Rattle.nb_ledger.specs.Ledger.{live, busy, rank, port, open_count};
+ghost use Rattle.nb_graph.specs.Calm.{IsSteady, Starts};
+ghost use Rattle.nb_graph.specs.Whole.{IsManned, port_at};
+ghost use Rattle.nb_graph.specs.Lively.{Lively, LivelyIn};
+ghost use Rattle.nb_graph.specs.Effects.{MayAsk, MayAskTime, MayAskUp, AreUps, ClosesSlot, IsUp};
+
+use crate::calm::NOTHING;
+use crate::inner::Inner;
+use crate::steps::{Asked, behind, cut};
+use crate::{Emit, Few, Fx, Node, Parts};
+use nb_ledger::{GraphEvent, Msg, ObjId, Outside, Port, PortState, Way};
+
+impl<N: Node> Inner<N> {
+    /// A message enters an object from below.
+    #[cycle(lively)]
+    pub(crate) fn enter_up<O: Outside>(&mut self, at: Port, msg: &Msg<'_>, now: u64, out: &mut O)
+        requires slot { (1 ≤ at.slot) × (at.slot ≤ 3) }
+        requires open { IsOpen (port self.old.book at.obj.0 at.slot) }
+        requires small { length msg.now.first.now + length msg.now.second.now < 2 ^ 65 }
+        requires steady { IsSteady N.rank_of self.old.book self.old.nodes.items (vec_capacity self.old.nodes) }
+        ensures lively { Lively self.old.book self.new.book (O.events out.old) (O.events out.new) }
+        ensures starts { Starts self.old.book self.new.book (O.events out.old) (O.events out.new) (Entered at way.Up) }
+        ensures steady { IsSteady N.rank_of self.new.book self.new.nodes.items (vec_capacity self.new.nodes) }
+    {
+        let was = self.book.enter(at, Way::Up, out);
+        self.deliver(at, msg, now, out);
+        self.leave(at, was, out);
+    }
+
+    /// A message, or the rest of one, is given to the node of an entry from below.
+    #[cycle(lively)]
+    fn deliver<O: Outside>(&mut self, at: Port, msg: &Msg<'_>, now: u64, out: &mut O)
+        requires runs { busy self.old.book at.obj.0 ≡ true }
+        requires small { length msg.now.first.now + length msg.now.second.now < 2 ^ 65 }
+        requires steady { IsSteady N.rank_of self.old.book self.old.nodes.items (vec_capacity self.old.nodes) }
+        ensures lively { LivelyIn at.obj.0 self.old.book self.new.book (O.events out.old) (O.events out.new) }
+        ensures steady { IsSteady N.rank_of self.new.book self.new.nodes.items (vec_capacity self.new.nodes) }
+    {
+        let asked = self.ask_up(at, msg, now);
+        self.after_up(at, msg, asked, now, out);
+    }
+
+    #[cycle(lively)]
+    fn after_up<O: Outside>(
+        &mut self,
+        at: Port,
+        msg: &Msg<'_>,
+        asked: Asked<N, N::Load>,
+        now: u64,
+        out: &mut O,
+    )
+        requires runs { busy self.old.book at.obj.0 ≡ true }
+        requires asks { MayAskUp N.rank_of (rank self.old.book at.obj.0) at.slot (length msg.now.first.now + length msg.now.second.now) asked }
+        requires small { length msg.now.first.now + length msg.now.second.now < 2 ^ 65 }
+        requires steady { IsSteady N.rank_of self.old.book self.old.nodes.items (vec_capacity self.old.nodes) }
+        ensures lively { LivelyIn at.obj.0 self.old.book self.new.book (O.events out.old) (O.events out.new) }
+        ensures steady { IsSteady N.rank_of self.new.book self.new.nodes.items (vec_capacity self.new.nodes) }
+    {
+        match asked {
+            Asked::Done(fx) => {
+                let took = fx.took as usize;
+                self.effects(at.obj, msg, fx, now, out);
+                self.go_on(at, msg, took, now, out);
+            }
+            Asked::NoMemory(fx) => self.fail(at.obj, fx, now, out),
+        }
+    }
+
+    /// What the node left of a message is given to it again, if its port is still open.
+    #[cycle(lively)]
+    fn go_on<O: Outside>(&mut self, at: Port, msg: &Msg<'_>, took: usize, now: u64, out: &mut O)
+        requires runs { busy self.old.book at.obj.0 ≡ true }
+        requires took { took ≤ length msg.now.first.now + length msg.now.second.now }
+        requires some { took ≡ 0 → 0 < length msg.now.first.now + length msg.now.second.now → open_count (port self.old.book at.obj.0 at.slot) ≡ 0 }
+        requires small { length msg.now.first.now + length msg.now.second.now < 2 ^ 65 }
+        requires steady { IsSteady N.rank_of self.old.book self.old.nodes.items (vec_capacity self.old.nodes) }
+        ensures lively { LivelyIn at.obj.0 self.old.book self.new.book (O.events out.old) (O.events out.new) }
+        ensures steady { IsSteady N.rank_of self.new.book self.new.nodes.items (vec_capacity self.new.nodes) }
+    {
+        if took == msg.first.len() + msg.second.len() {
+            return;
+        }
+        if self.book.is_open(at) {
+            self.deliver(at, &behind(msg, took), now, out);
+        } else {
+            out.event(&GraphEvent::Dropped(at).spelled());
+        }
+    }
+
+    /// Runs the effects of an entry from below or by time: makes, downs, ups, closes.
+    #[cycle(lively)]
+    pub(crate) fn effects<O: Outside>(
+        &mut self,
+        id: ObjId,
+        msg: &Msg<'_>,
+        fx: Fx<N, N::Load>,
+        now: u64,
+        out: &mut O,
+    )
+        requires runs { busy self.old.book id.0 ≡ true }
+        requires asks { MayAsk N.rank_of (rank self.old.book id.0) (length msg.now.first.now + length msg.now.second.now) fx }
+        requires steady { IsSteady N.rank_of self.old.book self.old.nodes.items (vec_capacity self.old.nodes) }
+        ensures lively { LivelyIn id.0 self.old.book self.new.book (O.events out.old) (O.events out.new) }
+        ensures shut { (k : ℕ) → ClosesSlot k fx.closes.items → open_count (port self.new.book id.0 k) ≡ 0 }
+        ensures steady { IsSteady N.rank_of self.new.book self.new.nodes.items (vec_capacity self.new.nodes) }
+    {
+        let Fx {
+            makes,
+            downs,
+            ups,
+            closes,
+            took: _,
+        } = fx;
+        self.run_make(id, makes, now, out);
+        self.run_downs(id, msg, downs, now, out);
+        self.run_ups(id, msg, ups, now, out);
+        self.run_closes(id, closes.as_slice(), now, out);
+    }
+
+    #[cycle(lively)]
+    fn run_ups<O: Outside>(
+        &mut self,
+        id: ObjId,
+        msg: &Msg<'_>,
+        ups: Few<Emit<N::Load>>,
+        now: u64,
+        out: &mut O,
+    )
+        requires runs { busy self.old.book id.0 ≡ true }
+        requires ups { AreUps (length msg.now.first.now + length msg.now.second.now) ups }
+        requires steady { IsSteady N.rank_of self.old.book self.old.nodes.items (vec_capacity self.old.nodes) }
+        ensures lively { Lively self.old.book self.new.book (O.events out.old) (O.events out.new) }
+        ensures steady { IsSteady N.rank_of self.new.book self.new.nodes.items (vec_capacity self.new.nodes) }
+    {
+        let Few { first, second } = ups;
+        self.run_up(id, msg, first, now, out);
+        self.run_up(id, msg, second, now, out);
+    }
+
+    #[cycle(lively)]
+    fn run_up<O: Outside>(
+        &mut self,
+        id: ObjId,
+        msg: &Msg<'_>,
+        emit: Option<Emit<N::Load>>,
+        now: u64,
+        out: &mut O,
+    )
+        requires runs { busy self.old.book id.0 ≡ true }
+        requires up { IfSome emit (IsUp (length msg.now.first.now + length msg.now.second.now)) }
+        requires steady { IsSteady N.rank_of self.old.book self.old.nodes.items (vec_capacity self.old.nodes) }
+        ensures lively { Lively self.old.book self.new.book (O.events out.old) (O.events out.new) }
+        ensures steady { IsSteady N.rank_of self.new.book self.new.nodes.items (vec_capacity self.new.nodes) }
+    {
+        if let Some(emit) = emit {
+            self.send_up(id, msg, emit, now, out);
+        }
+    }
+
+    #[cycle(lively)]
+    fn send_up<O: Outside>(
+        &mut self,
+        id: ObjId,
+        msg: &Msg<'_>,
+        emit: Emit<N::Load>,
+        now: u64,
+        out: &mut O,
+    )
+        requires runs { busy self.old.book id.0 ≡ true }
+        requires up { IsUp (length msg.now.first.now + length msg.now.second.now) emit }
+        requires steady { IsSteady N.rank_of self.old.book self.old.nodes.items (vec_capacity self.old.nodes) }
+        ensures lively { Lively self.old.book self.new.book (O.events out.old) (O.events out.new) }
+        ensures steady { IsSteady N.rank_of self.new.book self.new.nodes.items (vec_capacity self.new.nodes) }
+    {
+        let Emit {
+            slot,
+            tag,
+            a,
+            b,
+            from,
+            to,
+            load,
+        } = emit;
+        let at = Port { obj: id, slot };
+        match load {
+            Some(load) => {
+                let (first, second) = load.parts();
+                let part = Msg {
+                    tag,
+                    rec: msg.rec,
+                    a,
+                    b,
+                    first,
+                    second,
+                };
+                self.pass_up(at, &part, now, out);
+                self.give_back(id, load);
+            }
+            None => {
+                let (first, second) = cut(msg, from, to);
+                let part = Msg {
+                    tag,
+                    rec: msg.rec,
+                    a,
+                    b,
+                    first,
+                    second,
+                };
+                self.pass_up(at, &part, now, out);
+            }
+        }
+    }
+
+    /// A message leaves by slot 0.
+    #[cycle(lively)]
+    fn pass_up<O: Outside>(&mut self, at: Port, msg: &Msg<'_>, now: u64, out: &mut O)
+        requires slot { at.slot ≡ 0 }
+        requires steady { IsSteady N.rank_of self.old.book self.old.nodes.items (vec_capacity self.old.nodes) }
+        ensures lively { Lively self.old.book self.new.book (O.events out.old) (O.events out.new) }
+        ensures steady { IsSteady N.rank_of self.new.book self.new.nodes.items (vec_capacity self.new.nodes) }
+    {
+        let _length = (msg.first.len(), msg.second.len());
+        match self.book.port(at) {
+            PortState::Open => out.send(at, msg),
+            PortState::Linked(peer) => self.enter_up(peer, msg, now, out),
+            PortState::Leaving(_) => out.event(&GraphEvent::Dropped(at).spelled()),
+            PortState::Closed => out.event(&GraphEvent::Dropped(at).spelled()),
+        }
+    }
+
+    /// Time enters a live object.
+    pub(crate) fn enter_time<O: Outside>(&mut self, id: ObjId, now: u64, out: &mut O)
+        requires lives { live self.old.book id.0 ≡ true }
+        requires steady { IsSteady N.rank_of self.old.book self.old.nodes.items (vec_capacity self.old.nodes) }
+        ensures lively { Lively self.old.book self.new.book (O.events out.old) (O.events out.new) }
+        ensures starts { Starts self.old.book self.new.book (O.events out.old) (O.events out.new) (Entered (port_at id.0 4) way.Time) }
+        ensures steady { IsSteady N.rank_of self.new.book self.new.nodes.items (vec_capacity self.new.nodes) }
+    {
+        let at = Port { obj: id, slot: 4 };
+        let was = self.book.enter(at, Way::Time, out);
+        let asked = self.ask_time(id, now);
+        self.after_time(id, asked, now, out);
+        self.leave(at, was, out);
+    }
+
+    fn after_time<O: Outside>(&mut self, id: ObjId, asked: Asked<N, N::Load>, now: u64, out: &mut O)
+        requires runs { busy self.old.book id.0 ≡ true }
+        requires asks { MayAskTime N.rank_of (rank self.old.book id.0) asked }
+        requires steady { IsSteady N.rank_of self.old.book self.old.nodes.items (vec_capacity self.old.nodes) }
+        ensures lively { LivelyIn id.0 self.old.book self.new.book (O.events out.old) (O.events out.new) }
+        ensures steady { IsSteady N.rank_of self.new.book self.new.nodes.items (vec_capacity self.new.nodes) }
+    {
+        match asked {
+            Asked::Done(fx) => self.effects(id, &NOTHING, fx, now, out),
+            Asked::NoMemory(fx) => self.fail(id, fx, now, out),
+        }
+    }
+
+    /// What the node of a live object has to hand out.
+    pub(crate) fn harvest(&mut self, id: ObjId) -> Option<N::Load>
+        requires lives { live self.old.book id.0 ≡ true }
+        requires manned { IsManned N.rank_of self.old.book self.old.nodes.items (vec_capacity self.old.nodes) }
+        ensures book { self.new.book ≡ self.old.book }
+        ensures manned { IsManned N.rank_of self.new.book self.new.nodes.items (vec_capacity self.new.nodes) }
+    {
+        let place = self.book.place(id);
+        self.nodes[place].harvest()
+    }
+}

@@ -1,0 +1,89 @@
+ghost use Rattle.std.specs.Prelude.{◌≡◌, ◌+◌, ◌≤◌, ℕ, List, OnOk, length, Err};
+ghost use Rattle.nb_graph.specs.Effects.{IsNothing, MayAsk, MayAskBelow, TakesSome};
+
+use crate::{Fx, Msg};
+use nb_terms::{Cause, NoMemory};
+
+/// A load that a message carries: its bytes, in two parts.
+pub trait Parts: Drop {
+    ghost first: { Self → List ℕ };
+
+    ghost second: { Self → List ℕ };
+
+    /// Its bytes are the first part and then the second.
+    fn parts(&self) -> (&[u8], &[u8])
+        ensures first { result.0.now ≡ first self.now }
+        ensures second { result.1.now ≡ second self.now };
+}
+
+/// What an object of the graph does when it is entered. It asks for its effects by `fx`, which is
+/// empty before.
+pub trait Node: Sized + Drop {
+    /// What its messages may carry.
+    type Load: Parts;
+
+    /// The rank, which bounds those below it.
+    ghost rank_of: { Self → ℕ };
+
+    /// The number of its kind.
+    ghost kind_of: { Self → ℕ };
+
+    /// The rank, which never changes: an object's links go down to lower ranks.
+    fn rank(&self) -> u8
+        ensures { result ≡ rank_of self.now };
+
+    /// The number of its kind, which never changes.
+    fn kind(&self) -> u8
+        ensures { result ≡ kind_of self.now };
+
+    /// A message comes from below by `slot`, or the rest of it.
+    fn on_up(
+        &mut self,
+        slot: u8,
+        msg: &Msg<'_>,
+        now: u64,
+        fx: &mut Fx<Self, Self::Load>,
+    ) -> Result<(), NoMemory>
+        requires { IsNothing fx.old }
+        ensures rank { rank_of self.new ≡ rank_of self.old }
+        ensures kind { kind_of self.new ≡ kind_of self.old }
+        ensures asks { MayAsk rank_of (rank_of self.old) (length msg.now.first.now + length msg.now.second.now) fx.new }
+        ensures took { fx.new.took ≤ length msg.now.first.now + length msg.now.second.now }
+        ensures takes { OnOk result (TakesSome slot (length msg.now.first.now + length msg.now.second.now) fx.new) };
+
+    /// A message comes from above.
+    fn on_down(
+        &mut self,
+        msg: &Msg<'_>,
+        now: u64,
+        fx: &mut Fx<Self, Self::Load>,
+    ) -> Result<(), NoMemory>
+        requires { IsNothing fx.old }
+        ensures rank { rank_of self.new ≡ rank_of self.old }
+        ensures kind { kind_of self.new ≡ kind_of self.old }
+        ensures asks { MayAskBelow (length msg.now.first.now + length msg.now.second.now) fx.new };
+
+    /// The port `slot` was closed from its other end.
+    fn on_close(&mut self, slot: u8, cause: &Cause, now: u64, fx: &mut Fx<Self, Self::Load>)
+        requires { IsNothing fx.old }
+        ensures rank { rank_of self.new ≡ rank_of self.old }
+        ensures kind { kind_of self.new ≡ kind_of self.old }
+        ensures asks { MayAskBelow 0 fx.new };
+
+    /// Time has come to `now`, in milliseconds.
+    fn on_time(&mut self, now: u64, fx: &mut Fx<Self, Self::Load>) -> Result<(), NoMemory>
+        requires { IsNothing fx.old }
+        ensures rank { rank_of self.new ≡ rank_of self.old }
+        ensures kind { kind_of self.new ≡ kind_of self.old }
+        ensures asks { MayAsk rank_of (rank_of self.old) 0 fx.new };
+
+    /// A load that was lent comes back.
+    fn regain(&mut self, load: Self::Load)
+        ensures rank { rank_of self.new ≡ rank_of self.old }
+        ensures kind { kind_of self.new ≡ kind_of self.old };
+
+    /// What the object has to hand out, once.
+    fn harvest(&mut self) -> Option<Self::Load>
+        ensures rank { rank_of self.new ≡ rank_of self.old }
+        ensures kind { kind_of self.new ≡ kind_of self.old };
+}

@@ -1,0 +1,265 @@
+// The parts of an entry that nest nothing: its begin, the call of the node, and its end.
+ghost use Rattle.std.specs.Prelude.{◌≡◌, ◌≢◌, ◌+◌, ◌<◌, ◌≤◌, ℕ, true, List, [], ◌∷◌, length, ◌-◌};
+ghost use Rattle.std.specs.Vec.{vec_capacity};
+ghost use Rattle.nb_ledger.specs.declared.port.PortState.TheVariants.{Linked, Leaving, Closed as Shut};
+ghost use Rattle.nb_ledger.specs.declared.event.Way.{Way as TheWay};
+ghost use Rattle.nb_ledger.specs.declared.event.Way.TheVariants.{Close};
+ghost use Rattle.nb_ledger.specs.declared.event.GraphEvent.TheVariants.{Closed, Entered};
+ghost use Rattle.nb_ledger.specs.GraphRun.{Frame, Running, MustUnplug, IsIdle, Run, port_but};
+ghost use Rattle.nb_ledger.specs.Flat.{Tells};
+ghost use Rattle.nb_ledger.specs.Ledger.{live, busy, rank, port, state_of};
+ghost use Rattle.nb_graph.specs.Calm.{IsSteady, HalfCloses, Ends, SettlesTwo};
+ghost use Rattle.nb_graph.specs.Whole.{IsManned, IsLinked, CountedButTwo};
+ghost use Rattle.nb_graph.specs.Effects.{MayAskBelow, MayAskDown, MayAskTime, MayAskUp};
+
+use crate::inner::Inner;
+use crate::{Emit, Few, Fx, Node};
+use nb_ledger::{Msg, ObjId, Outside, Port};
+use nb_terms::Cause;
+
+/// What an entry asked for, or that it ran out of memory.
+#[derive(Drop)]
+pub(crate) enum Asked<N, L> {
+    Done(Fx<N, L>),
+    NoMemory(Fx<N, L>),
+}
+
+impl<N: Node> Inner<N> {
+    /// Closes both ends of a link and begins the peer's entry; whether one of its object ran already.
+    pub(crate) fn close_both<O: Outside>(
+        &mut self,
+        at: Port,
+        peer: Port,
+        cause: &Cause,
+        out: &mut O,
+    ) -> bool
+        requires linked { port self.old.book at.obj.0 at.slot ≡ Linked peer }
+        requires steady { IsSteady N.rank_of self.old.book self.old.nodes.items (vec_capacity self.old.nodes) }
+        ensures told { Tells (O.events out.old) (O.events out.new) (Closed at cause.now ∷ Closed peer cause.now ∷ Entered peer Close ∷ []) }
+        ensures run { (st : List Frame) → IsIdle st → Run (state_of self.old.book st)
+            (Closed at cause.now ∷ Closed peer cause.now ∷ Entered peer Close ∷ [])
+            (state_of self.new.book (Running peer Close ∷ MustUnplug at peer ∷ st)) }
+        ensures was { result ≡ busy self.old.book peer.obj.0 }
+        ensures runs { busy self.new.book peer.obj.0 ≡ true }
+        ensures half { HalfCloses self.old.book self.new.book at peer }
+        ensures steady { IsSteady N.rank_of self.new.book self.new.nodes.items (vec_capacity self.new.nodes) }
+    {
+        self.book.close_first(at, peer, cause, out);
+        self.book.close_peer(peer, at, cause, out);
+        self.book.enter_closed(peer, out)
+    }
+
+    /// Ends the peer's entry of a closing and takes the link away.
+    pub(crate) fn unplug<O: Outside>(&mut self, at: Port, peer: Port, was: bool, out: &mut O)
+        requires first { port self.old.book at.obj.0 at.slot ≡ Leaving peer }
+        requires other { port self.old.book peer.obj.0 peer.slot ≡ Leaving at }
+        requires apart { at.obj.0 ≢ peer.obj.0 }
+        requires steady { IsSteady N.rank_of self.old.book self.old.nodes.items (vec_capacity self.old.nodes) }
+        ensures ends { Ends self.old.book self.new.book (O.events out.old) (O.events out.new) peer.obj.0 was
+            (λ st. Running peer Close ∷ MustUnplug at peer ∷ st) (port_but peer Shut (port_but at Shut (port self.old.book))) }
+        ensures steady { IsSteady N.rank_of self.new.book self.new.nodes.items (vec_capacity self.new.nodes) }
+    {
+        self.book.leave(peer, was, out);
+        self.book.unplug(at, peer, out);
+        self.settle_two(at.obj, peer.obj, out);
+    }
+
+    /// Ends an entry, and frees its object if that was the last of its count.
+    pub(crate) fn leave<O: Outside>(&mut self, at: Port, was: bool, out: &mut O)
+        requires lives { live self.old.book at.obj.0 ≡ true }
+        requires steady { IsSteady N.rank_of self.old.book self.old.nodes.items (vec_capacity self.old.nodes) }
+        ensures ends { (by : TheWay) → Ends self.old.book self.new.book (O.events out.old) (O.events out.new) at.obj.0 was
+            (λ st. Running at by ∷ st) (port self.old.book) }
+        ensures steady { IsSteady N.rank_of self.new.book self.new.nodes.items (vec_capacity self.new.nodes) }
+    {
+        self.book.leave(at, was, out);
+        self.settle(at.obj, out);
+    }
+
+    fn settle_two<O: Outside>(&mut self, first: ObjId, other: ObjId, out: &mut O)
+        requires first { live self.old.book first.0 ≡ true }
+        requires other { live self.old.book other.0 ≡ true }
+        requires apart { first.0 ≢ other.0 }
+        requires manned { IsManned N.rank_of self.old.book self.old.nodes.items (vec_capacity self.old.nodes) }
+        requires links { IsLinked (port self.old.book) (rank self.old.book) }
+        requires counted { CountedButTwo first.0 other.0 self.old.book }
+        requires small { (x : ℕ) → rank self.old.book x < 256 }
+        ensures settles { SettlesTwo self.old.book self.new.book (O.events out.old) (O.events out.new) first other }
+        ensures steady { IsSteady N.rank_of self.new.book self.new.nodes.items (vec_capacity self.new.nodes) }
+    {
+        if first.0 < other.0 {
+            self.settle_pair(first, other, out);
+        } else {
+            self.settle_pair(other, first, out);
+        }
+    }
+
+    fn settle_pair<O: Outside>(&mut self, low: ObjId, high: ObjId, out: &mut O)
+        requires low { live self.old.book low.0 ≡ true }
+        requires high { live self.old.book high.0 ≡ true }
+        requires order { low.0 < high.0 }
+        requires manned { IsManned N.rank_of self.old.book self.old.nodes.items (vec_capacity self.old.nodes) }
+        requires links { IsLinked (port self.old.book) (rank self.old.book) }
+        requires counted { CountedButTwo low.0 high.0 self.old.book }
+        requires small { (x : ℕ) → rank self.old.book x < 256 }
+        ensures settles { SettlesTwo self.old.book self.new.book (O.events out.old) (O.events out.new) low high }
+        ensures steady { IsSteady N.rank_of self.new.book self.new.nodes.items (vec_capacity self.new.nodes) }
+    {
+        self.settle(low, out);
+        self.settle(high, out);
+    }
+
+    /// Calls the node of a port that was closed from its other end.
+    pub(crate) fn ask_closed(&mut self, at: Port, cause: &Cause, now: u64) -> Fx<N, N::Load>
+        requires lives { live self.old.book at.obj.0 ≡ true }
+        requires manned { IsManned N.rank_of self.old.book self.old.nodes.items (vec_capacity self.old.nodes) }
+        ensures asks { MayAskBelow 0 result }
+        ensures book { self.new.book ≡ self.old.book }
+        ensures manned { IsManned N.rank_of self.new.book self.new.nodes.items (vec_capacity self.new.nodes) }
+    {
+        let mut fx = Fx::none();
+        let place = self.book.place(at.obj);
+        self.nodes[place].on_close(at.slot, cause, now, &mut fx);
+        fx
+    }
+
+    /// Calls the node that a message enters from above.
+    pub(crate) fn ask_down(&mut self, id: ObjId, msg: &Msg<'_>, now: u64) -> Asked<N, N::Load>
+        requires lives { live self.old.book id.0 ≡ true }
+        requires manned { IsManned N.rank_of self.old.book self.old.nodes.items (vec_capacity self.old.nodes) }
+        ensures asks { MayAskDown (length msg.now.first.now + length msg.now.second.now) result }
+        ensures book { self.new.book ≡ self.old.book }
+        ensures manned { IsManned N.rank_of self.new.book self.new.nodes.items (vec_capacity self.new.nodes) }
+    {
+        let mut fx = Fx::none();
+        let place = self.book.place(id);
+        match self.nodes[place].on_down(msg, now, &mut fx) {
+            Ok(()) => Asked::Done(fx),
+            Err(_) => Asked::NoMemory(fx),
+        }
+    }
+
+    /// Calls the node that a message, or the rest of one, enters from below.
+    pub(crate) fn ask_up(&mut self, at: Port, msg: &Msg<'_>, now: u64) -> Asked<N, N::Load>
+        requires lives { live self.old.book at.obj.0 ≡ true }
+        requires manned { IsManned N.rank_of self.old.book self.old.nodes.items (vec_capacity self.old.nodes) }
+        ensures asks { MayAskUp N.rank_of (rank self.old.book at.obj.0) at.slot (length msg.now.first.now + length msg.now.second.now) result }
+        ensures book { self.new.book ≡ self.old.book }
+        ensures manned { IsManned N.rank_of self.new.book self.new.nodes.items (vec_capacity self.new.nodes) }
+    {
+        let mut fx = Fx::none();
+        let place = self.book.place(at.obj);
+        match self.nodes[place].on_up(at.slot, msg, now, &mut fx) {
+            Ok(()) => Asked::Done(fx),
+            Err(_) => Asked::NoMemory(fx),
+        }
+    }
+
+    /// Calls the node that time enters.
+    pub(crate) fn ask_time(&mut self, id: ObjId, now: u64) -> Asked<N, N::Load>
+        requires lives { live self.old.book id.0 ≡ true }
+        requires manned { IsManned N.rank_of self.old.book self.old.nodes.items (vec_capacity self.old.nodes) }
+        ensures asks { MayAskTime N.rank_of (rank self.old.book id.0) result }
+        ensures book { self.new.book ≡ self.old.book }
+        ensures manned { IsManned N.rank_of self.new.book self.new.nodes.items (vec_capacity self.new.nodes) }
+    {
+        let mut fx = Fx::none();
+        let place = self.book.place(id);
+        match self.nodes[place].on_time(now, &mut fx) {
+            Ok(()) => Asked::Done(fx),
+            Err(_) => Asked::NoMemory(fx),
+        }
+    }
+
+    /// Gives a lent load back to its node.
+    pub(crate) fn give_back(&mut self, id: ObjId, load: N::Load)
+        requires lives { live self.old.book id.0 ≡ true }
+        requires manned { IsManned N.rank_of self.old.book self.old.nodes.items (vec_capacity self.old.nodes) }
+        ensures book { self.new.book ≡ self.old.book }
+        ensures manned { IsManned N.rank_of self.new.book self.new.nodes.items (vec_capacity self.new.nodes) }
+    {
+        let place = self.book.place(id);
+        self.nodes[place].regain(load);
+    }
+
+    /// Gives the loads of effects that aren't run back to their node.
+    pub(crate) fn take_back(&mut self, id: ObjId, fx: Fx<N, N::Load>)
+        requires lives { live self.old.book id.0 ≡ true }
+        requires manned { IsManned N.rank_of self.old.book self.old.nodes.items (vec_capacity self.old.nodes) }
+        ensures book { self.new.book ≡ self.old.book }
+        ensures manned { IsManned N.rank_of self.new.book self.new.nodes.items (vec_capacity self.new.nodes) }
+    {
+        let Fx {
+            makes: _,
+            downs,
+            ups,
+            closes: _,
+            took: _,
+        } = fx;
+        self.take_few(id, downs);
+        self.take_few(id, ups);
+    }
+
+    fn take_few(&mut self, id: ObjId, few: Few<Emit<N::Load>>)
+        requires lives { live self.old.book id.0 ≡ true }
+        requires manned { IsManned N.rank_of self.old.book self.old.nodes.items (vec_capacity self.old.nodes) }
+        ensures book { self.new.book ≡ self.old.book }
+        ensures manned { IsManned N.rank_of self.new.book self.new.nodes.items (vec_capacity self.new.nodes) }
+    {
+        let Few { first, second } = few;
+        self.take_one(id, first);
+        self.take_one(id, second);
+    }
+
+    fn take_one(&mut self, id: ObjId, emit: Option<Emit<N::Load>>)
+        requires lives { live self.old.book id.0 ≡ true }
+        requires manned { IsManned N.rank_of self.old.book self.old.nodes.items (vec_capacity self.old.nodes) }
+        ensures book { self.new.book ≡ self.old.book }
+        ensures manned { IsManned N.rank_of self.new.book self.new.nodes.items (vec_capacity self.new.nodes) }
+    {
+        if let Some(
+            Emit {
+                slot: _,
+                tag: _,
+                a: _,
+                b: _,
+                from: _,
+                to: _,
+                load: Some(load),
+            },
+        ) = emit
+        {
+            self.give_back(id, load);
+        }
+    }
+}
+
+/// Bytes `from` to `to` of a message, in two parts.
+pub(crate) fn cut<'m>(msg: &Msg<'m>, from: u32, to: u32) -> (&'m [u8], &'m [u8])
+    requires order { from ≤ to }
+    requires within { to ≤ length msg.now.first.now + length msg.now.second.now }
+    ensures { length result.0.now + length result.1.now ≡ to - from }
+{
+    let seam = msg.first.len();
+    let from = from as usize;
+    let to = to as usize;
+    let first = &msg.first[from.min(seam)..to.min(seam)];
+    let second = &msg.second[from.saturating_sub(seam)..to.saturating_sub(seam)];
+    (first, second)
+}
+
+/// A message without its first `took` bytes.
+pub(crate) fn behind<'m>(msg: &Msg<'m>, took: usize) -> Msg<'m>
+    requires { took ≤ length msg.now.first.now + length msg.now.second.now }
+    ensures { length result.first.now + length result.second.now + took ≡ length msg.now.first.now + length msg.now.second.now }
+{
+    let seam = msg.first.len();
+    Msg {
+        tag: msg.tag,
+        rec: msg.rec,
+        a: msg.a,
+        b: msg.b,
+        first: &msg.first[took.min(seam)..],
+        second: &msg.second[took.saturating_sub(seam)..],
+    }
+}

@@ -1,0 +1,7 @@
+pub mod PlaceLemmas
+pub mod ChangeLemmas
+pub mod StepLemmas
+pub mod PortLemmas
+pub mod CountLemmas
+pub mod RunLemmas
+pub mod SettleLemmas

@@ -1,0 +1,32 @@
+-- Runs and told events, one after another.
+use Rattle.std.proofs.Common.{List, [], ◌∷◌, ◌++◌, map, Option, Some, None, refl, ap, sym, ◌∙◌, subst, append_assoc, append-nil}
+use Rattle.std.proofs.lemmas.List.{map-append}
+use Rattle.nb_terms.specs.declared.event.Event.{Event}
+use Rattle.nb_ledger.specs.declared.event.GraphEvent.{GraphEvent}
+use Rattle.nb_ledger.specs.GraphRun.{State, Step, Run}
+use Rattle.nb_ledger.specs.Flat.{flat, Told, Tells}
+
+-- a run and one from where it ends
+pub Run-append : (s m t : State) (xs ys : List GraphEvent) → Run s xs m → Run m ys t → Run s (xs ++ ys) t
+Run-append s m t [] ys r q = subst (λ u. Run u ys t) (sym r) q
+Run-append s m t (x ∷ xs) ys r q = (r.0, r.1, Run-append r.0 m t xs ys r.2 q)
+
+-- a run of one step
+pub Run-one : (s t : State) (e : GraphEvent) → Step s e t → Run s (e ∷ []) t
+Run-one s t e h = (t, h, refl)
+
+-- told, and then told
+pub Told-append : (a b c : Option (List Event)) (xs ys : List Event) → Told a b xs → Told b c ys → Told a c (xs ++ ys)
+Told-append a b None xs ys p q = tt
+Told-append a None (Some c) xs ys p q = absurd q
+Told-append None (Some b) (Some c) xs ys p q = absurd p
+Told-append (Some a) (Some b) (Some c) xs ys p q = q ∙ ap (λ z. z ++ ys) p ∙ append_assoc a xs ys
+
+-- nothing was told
+pub Told-none : (a : Option (List Event)) → Told a a []
+Told-none None = tt
+Told-none (Some a) = sym (append-nil a)
+
+-- the same of the graph's events
+pub Tells-append : (a b c : Option (List Event)) (xs ys : List GraphEvent) → Tells a b xs → Tells b c ys → Tells a c (xs ++ ys)
+Tells-append a b c xs ys p q = subst (Told a c) (sym (map-append flat xs ys)) (Told-append a b c (map flat xs) (map flat ys) p q)

@@ -1,0 +1,30 @@
+-- An object is freed, or stays.
+use Rattle.std.proofs.Common.{◌≡◌, true, false, List, [], ◌∷◌, Option, refl, inl, inr}
+use Rattle.nb_terms.specs.declared.event.Event.{Event}
+use Rattle.nb_ledger.specs.declared.port.ObjId.{ObjId}
+use Rattle.nb_ledger.specs.declared.event.GraphEvent.TheVariants.{Freed}
+use Rattle.nb_ledger.specs.GraphRun.{Frame, MustFree, Step}
+use Rattle.nb_ledger.specs.Flat.{Tells}
+use Rattle.nb_ledger.specs.Ledger.{Ledger, state_of, unused}
+use Rattle.nb_ledger.specs.Changes.{Removes}
+use Rattle.nb_ledger.specs.Settled.{Settles}
+use Rattle.nb_ledger.proofs.CountLemmas.{owed-unused, owed-used}
+use Rattle.nb_ledger.proofs.RunLemmas.{Told-none}
+
+-- an object without use is freed
+pub Settles-free : (old new : Ledger) (before after : Option (List Event)) (id : ObjId) → unused old id.0 ≡ true → Tells before after (Freed id ∷ []) → ((st : List Frame) → Step (state_of old (MustFree id.0 ∷ st)) (Freed id) (state_of new st)) → Removes old new id.0 → Settles old new before after id
+Settles-free old new before after id is_so told step gone = record {
+  added = Freed id ∷ [];
+  told = told;
+  run = λ st a. rw (owed-unused old st id.0 a is_so) (state_of new st, step st, refl);
+  how = inr (is_so, gone);
+}
+
+-- one that is used stays
+pub Settles-stay : (old : Ledger) (before : Option (List Event)) (id : ObjId) → unused old id.0 ≡ false → Settles old old before before id
+Settles-stay old before id is_not = record {
+  added = [];
+  told = Told-none before;
+  run = λ st a. owed-used old st id.0 a is_not;
+  how = inl (refl, is_not);
+}

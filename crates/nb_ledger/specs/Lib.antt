@@ -1,0 +1,5 @@
+pub mod Changes
+pub mod Flat
+pub mod GraphRun
+pub mod Ledger
+pub mod Settled
