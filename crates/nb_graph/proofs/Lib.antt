@@ -9,3 +9,4 @@ pub mod UnplugLemmas
 pub mod ShutLemmas
 pub mod EndLemmas
 pub mod LivelyLemmas
+pub mod NodeLemmas

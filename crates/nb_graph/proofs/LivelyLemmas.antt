@@ -1,5 +1,5 @@
 -- The parts of an entry from below or by time, joined.
-use Rattle.std.proofs.Common.{◌≡◌, ℕ, ◌<◌, inl, inr, Bool, true, false, zero, suc, ltb, List, [], ◌∷◌, ◌++◌, length, get_or, map, Option, None, refl, ap, sym, ◌∙◌, subst, arith}
+use Rattle.std.proofs.Common.{◌≡◌, ℕ, ◌<◌, ◌≤◌, inl, inr, Bool, true, false, zero, suc, ltb, List, [], ◌∷◌, ◌++◌, length, get_or, set, slice_get, map, Option, Some, None, refl, ap, sym, ◌∙◌, subst, arith}
 use Rattle.std.proofs.lemmas.Bool.{cases_eq, cases_Bool, eq-eqb, false≢true}
 use Rattle.std.specs.Option.{option_map_or}
 use Rattle.nb_terms.specs.declared.event.Event.{Event}
@@ -186,3 +186,31 @@ Lively-make b0 b1 m new n0 n1 after p q r kind a d s t op oq told step more next
   where
     at_new : (x k : ℕ) → x ≡ q.obj.0 → leaves (ports_but q.obj.0 new_ports (port b0) x k) ≡ leaves (port b0 x k)
     at_new x k e = rw (eq-eqb x q.obj.0 e) (new-leaves k) ∙ sym (ap (λ y. leaves (port b0 y k)) e ∙ ap leaves (dead-port b0 q.obj.0 d k))
+
+-- an element by its place
+pub slice_get-at : {A : Type 0} (xs : List A) (i : ℕ) (d : A) → i < length xs → slice_get xs i ≡ Some (get_or xs i d)
+slice_get-at [] i d h = absurd (omega arith)
+slice_get-at (x ∷ xs) zero d h = refl
+slice_get-at (x ∷ xs) (suc i) d h = slice_get-at xs i d (omega arith)
+
+-- the element that was written
+slice_get-set : {A : Type 0} (xs : List A) (i : ℕ) (v : A) → i < length xs → slice_get (set xs i v) i ≡ Some v
+slice_get-set [] i v h = absurd (omega arith)
+slice_get-set (x ∷ xs) zero v h = refl
+slice_get-set (x ∷ xs) (suc i) v h = slice_get-set xs i v (omega arith)
+
+pub some_inj : {A : Type 0} {a b : A} → Some a ≡ Some b → a ≡ b
+some_inj {A} {a} {b} h = cc
+
+-- what a node gave, at its place
+pub Harvests-set : {N L : Type 0} (gives : N → Option L → N → Type 0) (nodes : List N) (i : ℕ) (d e : N) (r : Option L) → i < length nodes → d ≡ get_or nodes i d → gives d r e → (n m : N) → slice_get nodes i ≡ Some n → slice_get (set nodes i e) i ≡ Some m → gives n r m
+Harvests-set gives nodes i d e r lt v p n m a b =
+    let x : d ≡ n = some_inj (ap Some v ∙ sym (slice_get-at nodes i d lt) ∙ a) in
+    let y : e ≡ m = some_inj (sym (slice_get-set nodes i e lt) ∙ b) in
+    subst (λ z. gives z r m) x (subst (λ z. gives d r z) y p)
+
+-- nothing stands past the end
+pub slice_get-past : {A : Type 0} (xs : List A) (i : ℕ) → length xs ≤ i → slice_get xs i ≡ None
+slice_get-past [] i h = refl
+slice_get-past (x ∷ xs) zero h = absurd (omega arith)
+slice_get-past (x ∷ xs) (suc i) h = slice_get-past xs i (omega arith)

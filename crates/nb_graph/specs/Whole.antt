@@ -94,3 +94,7 @@ pub record IsMade {N : Type 0} (old new : Objects N) (node : N) (r : ℕ) (id : 
 -- an object's rank never changes
 abbrev pub KeepsRanks : Ledger → Ledger → Type 0
 KeepsRanks old new = (x : ℕ) → live old x ≡ true → live new x ≡ true → rank new x ≡ rank old x
+
+-- r is what the node of a live object gave, which left the node that it has now
+abbrev pub Harvests : {N L : Type 0} → (N → Option L → N → Type 0) → Objects N → Objects N → ObjId → Option L → Type 0
+Harvests {N} {L} gives old new id r = (n m : N) → node_of old id ≡ Some n → node_of new id ≡ Some m → gives n r m

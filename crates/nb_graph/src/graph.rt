@@ -6,7 +6,7 @@ ghost use Rattle.nb_ledger.specs.declared.event.Way.TheVariants as way;
 ghost use Rattle.nb_graph.specs.declared.graph.Reach.TheVariants as reach;
 ghost use Rattle.nb_ledger.specs.declared.port.PortState.TheVariants as state;
 ghost use Rattle.nb_ledger.specs.Ledger.{live, holds, port, rank, open_count, IsLeastAbove};
-ghost use Rattle.nb_graph.specs.Whole.{Began, port_at, Runs, IsRun, IsMade, KeepsRanks, node_of, IsSame};
+ghost use Rattle.nb_graph.specs.Whole.{Began, Harvests, port_at, Runs, IsRun, IsMade, KeepsRanks, node_of, IsSame};
 
 use crate::Node;
 use crate::inner::Inner;
@@ -129,9 +129,11 @@ impl<N: Node> Graph<N> {
 
     /// The node of a live object.
     pub fn node(&self, id: ObjId) -> Option<&N>
-        ensures { option_copied result ≡ node_of self.now id }
+        ensures node { option_copied result ≡ node_of self.now id }
+        ensures dead { IsNone result ↔ (live self.now.book id.0 ≡ false) }
+        ensures rank { IfSome result (λ n. N.rank_of n.now ≡ rank self.now.book id.0) }
     {
-        self.inner.nodes.get(self.inner.book.place(id))
+        self.inner.node(id)
     }
 
     /// How many objects live.
@@ -216,6 +218,7 @@ impl<N: Node> Graph<N> {
     /// What the node of a live object has to hand out.
     pub fn harvest(&mut self, id: ObjId) -> Option<N::Load>
         ensures dead { live self.old.book id.0 ≡ false → IsNone result }
+        ensures gives { live self.old.book id.0 ≡ true → Harvests N.harvests self.old self.new id result }
         ensures book { self.new.book ≡ self.old.book }
     {
         if self.inner.book.is_live(id) {

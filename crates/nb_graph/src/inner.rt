@@ -8,6 +8,9 @@ ghost use Rattle.nb_ledger.specs.Changes.{Adds};
 ghost use Rattle.nb_ledger.specs.Settled.{Settles};
 ghost use Rattle.nb_graph.specs.Whole.{IsManned};
 
+ghost use Rattle.std.specs.Option.{option_copied};
+ghost use Rattle.std.specs.Prelude.{slice_get};
+
 use crate::Node;
 use nb_ledger::{Book, ObjId, Outside};
 
@@ -63,6 +66,14 @@ impl<N: Node> Inner<N> {
         let id = self.book.make(node.rank(), node.kind(), out);
         push_last(&mut self.nodes, node);
         id
+    }
+
+    /// The node of an object.
+    pub(crate) fn node(&self, id: ObjId) -> Option<&N>
+        ensures { option_copied result ≡ slice_get self.now.nodes.items (place self.now.book id.0) }
+    {
+        let place = self.book.place(id);
+        self.nodes.get(place)
     }
 
     /// Makes an object with this node and one hold.

@@ -6,7 +6,7 @@ ghost use Rattle.nb_ledger.specs.declared.event.Way.TheVariants as way;
 ghost use Rattle.nb_ledger.specs.GraphRun.{IsOpen};
 ghost use Rattle.nb_ledger.specs.Ledger.{live, busy, rank, port, open_count};
 ghost use Rattle.nb_graph.specs.Calm.{IsSteady, Starts};
-ghost use Rattle.nb_graph.specs.Whole.{IsManned, port_at};
+ghost use Rattle.nb_graph.specs.Whole.{Harvests, IsManned, port_at};
 ghost use Rattle.nb_graph.specs.Lively.{Lively, LivelyIn};
 ghost use Rattle.nb_graph.specs.Effects.{MayAsk, MayAskTime, MayAskUp, AreUps, ClosesSlot, IsUp};
 
@@ -266,6 +266,8 @@ impl<N: Node> Inner<N> {
     pub(crate) fn harvest(&mut self, id: ObjId) -> Option<N::Load>
         requires lives { live self.old.book id.0 ≡ true }
         requires manned { IsManned N.rank_of self.old.book self.old.nodes.items (vec_capacity self.old.nodes) }
+        ensures gives { Harvests N.harvests (record { book = self.old.book; nodes = self.old.nodes.items })
+            (record { book = self.new.book; nodes = self.new.nodes.items }) id result }
         ensures book { self.new.book ≡ self.old.book }
         ensures manned { IsManned N.rank_of self.new.book self.new.nodes.items (vec_capacity self.new.nodes) }
     {

@@ -1,4 +1,4 @@
-ghost use Rattle.std.specs.Prelude.{◌≡◌, ◌+◌, ◌≤◌, ℕ, List, OnOk, length, Err};
+ghost use Rattle.std.specs.Prelude.{◌≡◌, ◌+◌, ◌≤◌, ℕ, List, Option, OnOk, length, Err};
 ghost use Rattle.nb_graph.specs.Effects.{IsNothing, MayAsk, MayAskBelow, TakesSome};
 
 use crate::{Fx, Msg};
@@ -27,6 +27,9 @@ pub trait Node: Sized + Drop {
 
     /// The number of its kind.
     ghost kind_of: { Self → ℕ };
+
+    /// What `harvest` gives, and what it leaves.
+    ghost harvests: { Self → Option Self.Load → Self → Type 0 };
 
     /// The rank, which never changes: an object's links go down to lower ranks.
     fn rank(&self) -> u8
@@ -84,6 +87,7 @@ pub trait Node: Sized + Drop {
 
     /// What the object has to hand out, once.
     fn harvest(&mut self) -> Option<Self::Load>
+        ensures gives { harvests self.old result self.new }
         ensures rank { rank_of self.new ≡ rank_of self.old }
         ensures kind { kind_of self.new ≡ kind_of self.old };
 }

@@ -64,6 +64,8 @@ impl Node for Fake {
 
     ghost kind_of = { λ _. 7 };
 
+    ghost harvests = { λ _ r _. r ≡ None };
+
     fn rank(&self) -> u8 {
         self.rank
     }

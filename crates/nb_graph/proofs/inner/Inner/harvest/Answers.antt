@@ -1,5 +1,6 @@
 use Rattle.std.proofs.Common.{arith}
 use Rattle.nb_graph.proofs.MannedLemmas.{manned-place, IsManned-node}
+use Rattle.nb_graph.proofs.LivelyLemmas.{Harvests-set}
 use Rattle.nb_graph.proofs.inner.Inner.harvest.Goals as goal
 
 pub index_mut-requires : goal.index_mut-requires
@@ -11,3 +12,8 @@ pub returns-clause-manned : goal.returns-clause-manned
 returns-clause-manned g c =
     let h = manned-place c.args.id.0 c.requires.manned c.requires.lives in
     IsManned-node c.place-place.result c.harvest.new.self c.index_mut.result.now (omega (arith, h, c.place-place.ensures)) c.index_mut.ensures.value c.harvest.ensures.rank c.requires.manned
+
+pub returns-clause-gives : goal.returns-clause-gives
+returns-clause-gives g c =
+    let h = manned-place c.args.id.0 c.requires.manned c.requires.lives in
+    rw c.place-place.ensures (Harvests-set g.N.Node.harvests c.args.self.now.nodes.items _ c.index_mut.result.now c.harvest.new.self c.harvest.result h (rw c.place-place.ensures at c.index_mut.ensures.value) c.harvest.ensures.gives)

@@ -1,0 +1,6 @@
+mod PiecesLemmas
+mod FirstLineLemmas
+mod KindLemmas
+mod ListLemmas
+mod RemoveLemmas
+mod PartsLemmas

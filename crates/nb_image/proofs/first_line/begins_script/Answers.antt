@@ -1,0 +1,12 @@
+use Rattle.std.proofs.Common.{◌∙◌, sym, arith}
+use Rattle.nb_image.proofs.FirstLineLemmas.{begins_some, begins_none}
+use Rattle.nb_image.proofs.first_line.begins_script.Goals as goal
+
+pub returns-in-Some : goal.returns-in-Some
+returns-in-Some c =
+    let e = begins_some c.args.text.now c.in-Some.end (sym c.in-Some.ensures) in
+    grind arith
+
+pub returns-in-None : goal.returns-in-None
+returns-in-None c =
+    c.is_first_line-in-None.ensures ∙ sym (begins_none c.args.text.now (sym c.in-None.ensures))

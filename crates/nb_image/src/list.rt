@@ -1,0 +1,116 @@
+ghost use Rattle.std.specs.Prelude.{◌≡◌, ◌<◌, ◌≤◌, None, Some, length, vec_len, unwrap_or, IfOk, IfErr, OnOk, OnErr};
+ghost use Rattle.std.specs.Option.{ForSome};
+ghost use Rattle.std.specs.Result.{MatchResult};
+ghost use Rattle.nb_image.specs.Images.{place_of, has_name, put_at, total_len, len_at, is_too_many, is_too_large, refusal, selection_without};
+ghost use Rattle.nb_image.specs.declared.error.ImageError.TheVariants as error;
+
+use crate::{Image, ImageError};
+
+/// The most images that a list may have.
+pub const MAX_IMAGES: usize = 32;
+
+/// The most bytes that the bodies of a list may have together.
+pub const MAX_TOTAL_LEN: usize = 536_870_912;
+
+/// Where the image of a name stands.
+pub fn place_of(images: &[Image], name: &[u8]) -> Option<usize>
+    ensures { result ≡ place_of name.now images.now }
+{
+    images.iter().position(|image| has_name(image, name))
+}
+
+fn has_name(image: &Image, name: &[u8]) -> bool
+    ensures { result ≡ has_name name.now image.now }
+{
+    image.name.as_slice() == name
+}
+
+/// How many bytes the bodies have together.
+pub fn total_len(images: &[Image]) -> usize
+    requires { total_len images.now ≤ 536870912 }
+    ensures { result ≡ total_len images.now }
+{
+    let mut total = 0;
+    for image in images {
+        total += image.body.len();
+    }
+    total
+}
+
+/// How many bytes the body has that stands at a place.
+fn len_at(images: &[Image], place: Option<usize>) -> usize
+    requires { ForSome place (λ i. i < length images.now) }
+    ensures { result ≡ len_at place images.now }
+{
+    match place {
+        Some(i) => images[i].body.len(),
+        None => 0,
+    }
+}
+
+/// Whether there would be a 33rd image.
+fn is_too_many(images: &[Image], place: Option<usize>, image: &Image) -> bool
+    requires place { place ≡ place_of image.now.name images.now }
+    requires len { length images.now ≤ 32 }
+    ensures { result ≡ is_too_many image.now images.now }
+{
+    place.is_none() && images.len() >= MAX_IMAGES
+}
+
+/// Whether all bodies together would have more than 536,870,912 bytes.
+fn is_too_large(images: &[Image], place: Option<usize>, image: &Image) -> bool
+    requires place { place ≡ place_of image.now.name images.now }
+    requires total { total_len images.now ≤ 536870912 }
+    ensures { result ≡ is_too_large image.now images.now }
+{
+    total_len(images) - len_at(images, place) + image.body.len() > MAX_TOTAL_LEN
+}
+
+/// Refuses an image that doesn't fit into the list.
+pub fn check_fits(images: &[Image], place: Option<usize>, image: &Image) -> Result<(), ImageError>
+    requires place { place ≡ place_of image.now.name images.now }
+    requires len { length images.now ≤ 32 }
+    requires total { total_len images.now ≤ 536870912 }
+    ensures { MatchResult result (λ _. refusal image.now images.now ≡ None)
+        (λ e. refusal image.now images.now ≡ Some e) }
+{
+    if is_too_many(images, place, image) {
+        return Err(ImageError::TooMany);
+    }
+    if is_too_large(images, place, image) {
+        return Err(ImageError::TooLarge);
+    }
+    Ok(())
+}
+
+/// Puts an image in place of another, or behind all, and says where.
+pub fn put(images: &mut Vec<Image>, place: Option<usize>, image: Image) -> Result<usize, ImageError>
+    requires { ForSome place (λ i. i < vec_len images.old) }
+    ensures ok { OnOk result (images.new.items ≡ put_at place image images.old.items) }
+    ensures place { IfOk result (λ i. i ≡ unwrap_or place (vec_len images.old)) }
+    ensures within { IfOk result (λ i. i < vec_len images.new) }
+    ensures refused { OnErr result (images.new.items ≡ images.old.items) }
+    ensures memory { IfErr result (λ e. e ≡ error.NoMemory) }
+{
+    match place {
+        Some(i) => {
+            images[i] = image;
+            Ok(i)
+        }
+        None => {
+            images.push(image)?;
+            Ok(images.len() - 1)
+        }
+    }
+}
+
+/// The selection, once the image at a place is gone.
+pub fn selection_without(i: usize, selected: Option<usize>) -> Option<usize>
+    ensures { result ≡ selection_without i selected }
+{
+    match selected {
+        Some(place) if place == i => None,
+        Some(place) if place > i => Some(place - 1),
+        _ => selected,
+    }
+}

@@ -1,0 +1,197 @@
+use super::*;
+use std::alloc::Global;
+use std::test::*;
+
+/// A body of these bytes.
+fn body(alloc: Global, bytes: &[u8]) -> Result<Body, PushError> {
+    let mut body = Body::new(alloc);
+    body.push(bytes)?;
+    Ok(body)
+}
+
+/// The first bytes of files of each kind: of a script, of a Linux kernel (its setup header as the boot
+/// protocol of Linux for x86 has it), of an ELF file and of an EFI program.
+#[test]
+fn kinds_by_content(rt: HostRuntime) -> Result<(), Fail> {
+    let mut kernel = [0; 520];
+    kernel[..2].copy_from_slice(b"MZ");
+    kernel[514..518].copy_from_slice(b"HdrS");
+    let rows: [(&[u8], ImageKind); 10] = [
+        (b"#!ipxe\necho hello\n", ImageKind::Script),
+        (b"#!ipxe \t\r\n", ImageKind::Script),
+        (b"#!ipxe", ImageKind::Script),
+        (b"#!ipxe2\n", ImageKind::Other),
+        (&kernel, ImageKind::BzImage),
+        (&kernel[..517], ImageKind::Efi),
+        (b"\x7fELF\x02\x01\x01", ImageKind::Elf),
+        (b"MZ\x90\x00", ImageKind::Efi),
+        (b"\x1f\x8b\x08", ImageKind::Other),
+        (b"", ImageKind::Other),
+    ];
+    for (number, (bytes, kind)) in rows.iter().enumerate() {
+        let mut images = Images::new(rt.alloc());
+        let i = images.add(
+            rt.alloc(),
+            b"image",
+            body(rt.alloc(), bytes)?,
+            b"",
+            b"tftp://10.0.0.1/image",
+        )?;
+        assert_eq!(rt; images.kind(i), *kind, "row {number}");
+    }
+    Ok(())
+}
+
+#[test]
+fn body_in_pages(rt: HostRuntime) -> Result<(), Fail> {
+    let mut body = Body::new(rt.alloc());
+    for _ in 0..17 {
+        body.push(&[7; 4096])?;
+    }
+    body.push(b"end")?;
+    assert_eq!(rt; body.len(), 69_635);
+    assert_eq!(rt; body.page(0).map(|page| page.len()), Some(65_536));
+    assert_eq!(rt; body.page(1).map(|page| page.len()), Some(4099));
+    assert!(rt; body.page(2).is_none());
+    assert_eq!(rt; body.text(rt.alloc())?.len(), 69_635);
+    Ok(())
+}
+
+/// The names of the images in order.
+fn has_names(images: &Images, names: &[&[u8]]) -> bool {
+    for i in 0..images.len() {
+        if names.get(i).copied() != Some(images.name(i)) {
+            return false;
+        }
+    }
+    images.len() == names.len()
+}
+
+fn three(alloc: Global) -> Result<Images, Fail> {
+    let mut images = Images::new(alloc);
+    let rows: [(&[u8], &[u8], &[u8]); 3] = [
+        (b"initrd.img", b"first", b""),
+        (b"vmlinuz", b"kernel", b"console=ttyS0"),
+        (b"modules.cpio", b"", b""),
+    ];
+    for (name, bytes, args) in &rows {
+        images.add(
+            alloc,
+            name,
+            body(alloc, bytes)?,
+            args,
+            b"tftp://10.0.0.1/boot",
+        )?;
+    }
+    Ok(images)
+}
+
+/// An image of the same name takes its place, and the selection stays with its image.
+#[test]
+fn list_and_selection(rt: HostRuntime) -> Result<(), Fail> {
+    let alloc = rt.alloc();
+    let mut images = three(alloc)?;
+    let place = images.add(
+        alloc,
+        b"vmlinuz",
+        body(alloc, b"newer")?,
+        b"quiet",
+        b"tftp://10.0.0.2/k",
+    )?;
+    assert_eq!(rt; place, 1);
+    assert!(rt; has_names(&images, &[b"initrd.img", b"vmlinuz", b"modules.cpio"]));
+    assert_eq!(rt; images.find(b"nosuch"), None);
+    if let Some(i) = images.find(b"modules.cpio") {
+        images.select(i);
+    }
+    if let Some(i) = images.find(b"vmlinuz") {
+        assert_eq!(rt; images.uri(i), b"tftp://10.0.0.2/k".as_slice());
+        images.set_args(alloc, i, b"root=/dev/sda1")?;
+        assert_eq!(rt; images.args(i), b"root=/dev/sda1".as_slice());
+        assert_eq!(rt; images.take_out(i).page(0), Some(b"newer".as_slice()));
+    }
+    assert!(rt; has_names(&images, &[b"initrd.img", b"modules.cpio"]));
+    assert_eq!(rt; images.selected(), Some(1));
+    if let Some(i) = images.find(b"modules.cpio") {
+        images.free(i);
+    }
+    assert_eq!(rt; images.selected(), None);
+    assert!(rt; images.handoff().is_none());
+    Ok(())
+}
+
+#[test]
+fn at_most_32_images(rt: HostRuntime) -> Result<(), Fail> {
+    let alloc = rt.alloc();
+    let mut images = Images::new(alloc);
+    for number in 0..33u8 {
+        let added = images.add(alloc, &[number], Body::new(alloc), b"", b"");
+        let expected = if number < 32 {
+            Ok(number as usize)
+        } else {
+            Err(ImageError::TooMany)
+        };
+        assert_eq!(rt; added, expected);
+    }
+    assert_eq!(rt;
+        images.add(alloc, &[31], Body::new(alloc), b"", b""),
+        Ok(31)
+    );
+    Ok(())
+}
+
+/// The parts of a hand-off of `vmlinuz`, each with its number, its index and its bytes.
+#[test]
+fn parts_in_order(rt: HostRuntime) -> Result<(), Fail> {
+    let rows: [(u8, u16, &[u8]); 7] = [
+        (5, 0, b"vmlinuz"),
+        (0, 0, b"kernel"),
+        (2, 0, b"console=ttyS0"),
+        (6, 0, b"initrd.img"),
+        (1, 0, b"first"),
+        (6, 1, b"modules.cpio"),
+        (1, 1, b""),
+    ];
+    let mut images = three(rt.alloc())?;
+    if let Some(i) = images.find(b"vmlinuz") {
+        images.select(i);
+    }
+    match images.handoff() {
+        Some(handoff) => {
+            for (k, row) in rows.iter().enumerate() {
+                let part = handoff
+                    .part(k)
+                    .map(|part| (part.kind.number(), part.index, part.bytes));
+                assert_eq!(rt; part, Some(*row), "part {k}");
+            }
+            assert!(rt; handoff.part(7).is_none());
+        }
+        None => panic!(rt; "an image is selected"),
+    }
+    Ok(())
+}
+
+/// Where the pieces of a part begin, and how many bytes they have.
+#[test]
+fn pieces_of_a_part(rt: HostRuntime) -> Result<(), Fail> {
+    let bytes = [1; 65_537];
+    let rows: [(usize, usize, Option<(usize, usize)>); 7] = [
+        (0, 0, Some((0, 0))),
+        (0, 1, None),
+        (65_536, 0, Some((0, 65_536))),
+        (65_536, 1, None),
+        (65_537, 0, Some((0, 65_536))),
+        (65_537, 1, Some((65_536, 1))),
+        (65_537, 2, None),
+    ];
+    for (len, p, expected) in rows {
+        let part = Part {
+            kind: PartKind::Kernel,
+            index: 0,
+            bytes: &bytes[..len.min(65_537)],
+        };
+        let piece = part.piece(p).map(|piece| (piece.offset, piece.bytes.len()));
+        assert_eq!(rt; piece, expected, "piece {p} of {len} bytes");
+    }
+    Ok(())
+}
