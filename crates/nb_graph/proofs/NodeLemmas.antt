@@ -21,11 +21,13 @@ unfolding live
 dead-past l x h = ltb-false _ _ (live_place l.objects x ∙ h)
 
 pub node-dead : {N : Type 0} {rank_of : N → ℕ} {l : Ledger} {nodes : List N} {cap : ℕ} (x : ℕ) (r : Option (Bor N)) → IsManned rank_of l nodes cap → option_copied r ≡ slice_get nodes (place l x) → IsNone r ↔ (live l x ≡ false)
-node-dead {N} {rank_of} {l} {nodes} {cap} x None m e =
-    (λ _. elim (cases_Bool (live l x)) [
-        inl v ↦ some_there v
-      | inr d ↦ d
-      ], λ _. refl)
+node-dead {N} {rank_of} {l} {nodes} {cap} x None m e = (
+  λ _. elim (cases_Bool (live l x)) [
+    | inl v ↦ some_there v
+    | inr d ↦ d
+  ],
+  λ _. refl,
+)
   where
     some_there : live l x ≡ true → live l x ≡ false
     some_there v = absurd (false≢true (ap is_some e ∙ slice_get-in nodes (place l x) (manned-place x m v)))
@@ -35,9 +37,9 @@ node-dead {N} {rank_of} {l} {nodes} {cap} x (Some b) m e =
 pub node-rank : {N : Type 0} {rank_of : N → ℕ} {l : Ledger} {nodes : List N} {cap : ℕ} (x : ℕ) (r : Option (Bor N)) → IsManned rank_of l nodes cap → option_copied r ≡ slice_get nodes (place l x) → IfSome r (λ n. rank_of n.now ≡ rank l x)
 node-rank {N} {rank_of} {l} {nodes} {cap} x None m e = tt
 node-rank {N} {rank_of} {l} {nodes} {cap} x (Some b) m e = elim (cases_Bool (live l x)) [
-    inl v ↦
+  | inl v ↦
       let h = manned-place x m v in
       let d : b.now ≡ get_or nodes (place l x) b.now = some_inj (e ∙ slice_get-at nodes (place l x) b.now h) in
       sym (manned-rank x b.now m v h d)
   | inr d ↦ absurd (let h = dead-past l x d in let k = manned-length m in let p = slice_get-past nodes (place l x) (omega arith) in cc)
-  ]
+]

@@ -7,7 +7,6 @@ ghost use Rattle.nb_ledger.specs.Ledger.{live, place, state_of};
 ghost use Rattle.nb_ledger.specs.Changes.{Adds};
 ghost use Rattle.nb_ledger.specs.Settled.{Settles};
 ghost use Rattle.nb_graph.specs.Whole.{IsManned};
-
 ghost use Rattle.std.specs.Option.{option_copied};
 ghost use Rattle.std.specs.Prelude.{slice_get};
 
