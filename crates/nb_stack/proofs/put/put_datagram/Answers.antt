@@ -1,0 +1,17 @@
+use Rattle.std.proofs.Common.{◌++◌, ◌∙◌, ap, length, arith}
+use Rattle.nb_ipv4.specs.UdpText.{sent_datagram}
+use Rattle.nb_stack.specs.Sends.{udp_of}
+use Rattle.nb_stack.proofs.PutLaws.{datagram_put}
+use Rattle.nb_stack.proofs.put.put_datagram.Goals as goal
+
+pub put_packet-requires-clause-short : goal.put_packet-requires-clause-short
+put_packet-requires-clause-short c =
+    let text = sent_datagram c.args.from c.args.message.now.to (udp_of c.args.message.now) in
+    let is = c.written.ensures ∙ c.write_datagram.ensures.value ∙ ap (λ x. x ++ text) c.new-body.ensures.empty in
+    omega (arith, ap length is, c.write_datagram.ensures.short)
+
+pub returns : goal.returns
+returns c =
+    let text = sent_datagram c.args.from c.args.message.now.to (udp_of c.args.message.now) in
+    let is = c.write_datagram.ensures.value ∙ ap (λ x. x ++ text) c.new-body.ensures.empty in
+    datagram_put _ _ _ _ c.args.dst c.args.src c.args.from c.args.message.now c.put_packet.ensures c.written.ensures is

@@ -1,0 +1,66 @@
+-- RFC 826, RFC 894: the frames that a client puts
+use Rattle.std.specs.Prelude.{ℕ, Option, Some, None, List, [], ◌∷◌}
+use Rattle.nb_wire.specs.declared.address.Ip4.{Ip4}
+use Rattle.nb_wire.specs.declared.address.Mac.{Mac}
+use Rattle.nb_terms.specs.declared.acts.SendTo.{SendTo}
+use Rattle.nb_ether.specs.declared.arp.Arp.{Arp}
+use Rattle.nb_ether.specs.ArpText.{arp_text}
+use Rattle.nb_ether.specs.Frame.{frame_text}
+use Rattle.nb_ipv4.specs.PacketText.{PacketParts, sent_packet}
+use Rattle.nb_ipv4.specs.UdpText.{UdpParts, sent_datagram}
+use Rattle.nb_stack.specs.declared.taken.Fate.{Fate}
+use Rattle.nb_stack.specs.declared.taken.Fate.TheVariants.{Sent, Asked, NoRoute}
+use Rattle.nb_stack.specs.declared.route.Way.{Way}
+use Rattle.nb_stack.specs.declared.route.Way.TheVariants.{Nowhere, Everyone, Hop}
+use Rattle.nb_stack.specs.Client.{Client}
+use Rattle.nb_stack.specs.Near.{mac_of}
+use Rattle.nb_stack.specs.Owns.{everyone}
+use Rattle.nb_stack.specs.Route.{route_of}
+
+-- an ARP message in a frame to an interface, from its sender's
+unfoldable pub arp_frame : Mac → Arp → List ℕ
+arp_frame dst arp = frame_text (record { dst = dst; src = arp.sha; kind = 2054; body = arp_text arp })
+
+-- a packet in a frame between two interfaces
+unfoldable pub packet_frame : Mac → Mac → PacketParts → List ℕ
+packet_frame dst src packet = frame_text (record { dst = dst; src = src; kind = 2048; body = sent_packet packet })
+
+-- a message as a UDP datagram
+abbrev pub udp_of : SendTo → UdpParts
+udp_of message = record { src_port = message.own_port; dst_port = message.to_port; body = message.body.items }
+
+-- a message from this address as a UDP datagram, in a packet, in a frame between two interfaces
+unfoldable pub datagram_frame : Mac → Mac → Ip4 → SendTo → List ℕ
+datagram_frame dst src from message =
+    packet_frame dst src (record { src = from; dst = message.to; proto = 17; body = sent_datagram from message.to (udp_of message) })
+
+-- the ARP request for a host's hardware address
+abbrev pub request_for : Mac → Ip4 → Ip4 → Arp
+request_for mac from hop =
+    record { op = 1; sha = mac; spa = from; tha = record { 0 = 0 ∷ 0 ∷ 0 ∷ 0 ∷ 0 ∷ 0 ∷ [] }; tpa = hop }
+
+-- the fate by what is known of the next hop
+abbrev pub fate_by : Option Mac → Fate
+fate_by None = Asked
+fate_by (Some mac) = Sent
+
+-- the fate of what goes this way
+abbrev pub fate_of : Client → Way → Fate
+fate_of client Nowhere = NoRoute
+fate_of client Everyone = Sent
+fate_of client (Hop from hop) = fate_by (mac_of hop client.near)
+
+-- the frame to a next hop, or the request for it where its hardware address isn't known
+abbrev pub put_by : Client → Ip4 → Ip4 → SendTo → Option Mac → List ℕ
+put_by client from hop message None = arp_frame everyone (request_for client.mac from hop)
+put_by client from hop message (Some mac) = datagram_frame mac client.mac from message
+
+-- the bytes that are put where a message goes this way; all hosts are reached from 0.0.0.0
+abbrev pub put_on : Client → SendTo → Way → List ℕ
+put_on client message Nowhere = []
+put_on client message Everyone = datagram_frame everyone client.mac (record { 0 = 0 }) message
+put_on client message (Hop from hop) = put_by client from hop message (mac_of hop client.near)
+
+-- the way of a message
+abbrev pub way_of : Client → SendTo → Way
+way_of client message = route_of client.up client.address message.to message.own_port

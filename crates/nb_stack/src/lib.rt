@@ -1,0 +1,24 @@
+// The link and network layer of the client: which frames are for it and what they bring, its
+// neighbours' hardware addresses (RFC 826), the ports that its sockets are bound to, and the route
+// of what it sends (RFC 791, RFC 1122). UDP alone is carried (RFC 768); a packet of another protocol
+// is dropped. No call takes memory. Begin with `Stack`.
+#![tactic(auto)]
+
+mod address;
+mod message;
+mod neighbours;
+mod ports;
+mod put;
+mod reading;
+mod route;
+mod stack;
+mod taken;
+
+pub use address::Addr;
+pub use neighbours::{MAX_NEIGHBOURS, Neighbour};
+pub use ports::{MAX_PORTS, Port};
+pub use stack::Stack;
+pub use taken::{Fate, Taken};
+
+#[cfg(test)]
+mod tests;

@@ -1,0 +1,233 @@
+//! The link and network layer.
+
+use crate::address::{Addr, EVERYONE, is_own};
+use crate::message::Message;
+use crate::neighbours::{Neighbour, Neighbours};
+use crate::ports::{Port, Ports};
+use crate::put::{put_arp, put_datagram};
+use crate::reading::message;
+use crate::route::{Way, route};
+use crate::taken::{Fate, Taken};
+use nb_ether::{ARP_REPLY, ARP_REQUEST, Arp};
+use nb_ipv4::{PROTO_UDP, Packet, Udp};
+use nb_terms::SendTo;
+use nb_wire::{Full, Ip4, Mac, Out};
+use std::marker::Model;
+
+/// The link and network layer of a client: its addresses, its neighbours and its ports.
+#[derive(Drop)]
+pub struct Stack {
+    mac: Mac,
+    address: Option<Addr>,
+    up: bool,
+    near: Neighbours,
+    ports: Ports,
+}
+
+impl Model for Stack {
+    ghost use Rattle.nb_stack.specs.Client.{Client};
+
+    ghost Value = { Client };
+
+    ghost view = { λ s. record { mac = s.mac; address = s.address; up = s.up; near = s.near; ports = s.ports } };
+}
+
+impl Stack {
+    ghost use Rattle.std.specs.Prelude.{◌≡◌, ◌≤◌, ◌++◌, ◌↔◌, [], None, false, length, is_some, IsErr, OnOk, OnErr};
+    ghost use Rattle.nb_ipv4.specs.PacketText.{packet_parts};
+    ghost use Rattle.nb_ipv4.specs.UdpText.{udp_parts};
+    ghost use Rattle.nb_stack.specs.Near.{mac_of, after_arp};
+    ghost use Rattle.nb_stack.specs.Bound.{owner_of, with_port, without};
+    ghost use Rattle.nb_stack.specs.Sends.{fate_of, put_on, way_of, fate_by, put_by, request_for};
+    ghost use Rattle.nb_stack.specs.Brings.{Brings, arp_message, datagram, brought};
+    ghost use Rattle.nb_stack.specs.Takes.{Takes, outcome, outcome_of, reply_of, client_after, asks, reply_to};
+
+    /// A client on the interface with this address. It has no address of its own, its device is down,
+    /// and it knows no neighbours.
+    pub fn new(mac: Mac) -> Stack
+        ensures { result ≡ record { mac = mac; address = None; up = false; near = []; ports = [] } }
+    {
+        Stack {
+            mac,
+            address: None,
+            up: false,
+            near: Neighbours::new(),
+            ports: Ports::new(),
+        }
+    }
+
+    /// Gives the client this address, or none.
+    pub fn set_address(&mut self, a: Option<Addr>)
+        ensures { self.new ≡ record self.old { address = a } }
+    {
+        self.address = a;
+    }
+
+    /// Opens or closes the device. A device that is down takes and sends nothing.
+    pub fn set_up(&mut self, up: bool)
+        ensures { self.new ≡ record self.old { up = up } }
+    {
+        self.up = up;
+    }
+
+    /// Whether somebody bound this port.
+    pub fn is_bound(&self, proto: u8, port: u16) -> bool
+        ensures { result ≡ is_some (owner_of proto port self.now.ports) }
+    {
+        self.ports.owner(proto, port).is_some()
+    }
+
+    /// Binds a port that isn't bound: its messages go to `to`.
+    pub fn bind(&mut self, proto: u8, port: u16, to: u64) -> Result<(), Full>
+        requires { owner_of proto port self.old.ports ≡ None }
+        ensures full { IsErr result ↔ (length self.old.ports ≡ 64) }
+        ensures bound { OnOk result
+            (self.new ≡ record self.old { ports = with_port proto port to self.old.ports }) }
+        ensures refused { OnErr result (self.new ≡ self.old) }
+    {
+        self.ports.bind(Port {
+            proto,
+            number: port,
+            to,
+        })
+    }
+
+    /// Frees a port. Nothing changes where it isn't bound.
+    pub fn unbind(&mut self, proto: u8, port: u16)
+        ensures { self.new ≡ record self.old { ports = without proto port self.old.ports } }
+    {
+        self.ports.unbind(proto, port);
+    }
+
+    /// Takes a frame. Its one message for the client, if it brings one, is noted, handed on or
+    /// replied to (RFC 826, 791, 768).
+    pub fn take<'a>(&mut self, frame: &'a [u8], reply: &mut Out<'_>) -> Taken<'a>
+        requires { 1522 ≤ reply.old.left }
+        ensures { Takes self.old frame.now
+            (outcome result) reply.old.written reply.new.written self.new }
+    {
+        match self.message(frame) {
+            Message::Nothing => Taken::Drop,
+            Message::HasArp { from, arp } => self.take_arp(from, &arp, reply),
+            Message::HasDatagram { packet, datagram } => self.hand_on(packet, datagram),
+        }
+    }
+
+    /// Sends a UDP message to its next hop (RFC 1122, section 3.3.1). The try is lost where the hop is
+    /// asked for its hardware address first (RFC 826).
+    pub fn send(&mut self, s: &SendTo, out: &mut Out<'_>) -> Fate
+        requires udp { s.now.proto ≡ 17 }
+        requires room { 1522 ≤ out.old.left }
+        ensures fate { result ≡ fate_of self.old (way_of self.old s.now) }
+        ensures put { out.new.written ≡
+            out.old.written ++ put_on self.old s.now (way_of self.old s.now) }
+        ensures same { self.new ≡ self.old }
+    {
+        match route(self.up, self.address, s.to, s.own_port) {
+            Way::Nowhere => Fate::NoRoute,
+            Way::Everyone => {
+                put_datagram(EVERYONE, self.mac, Ip4(0), s, out);
+                Fate::Sent
+            }
+            Way::Hop { from, hop } => self.send_by(from, hop, s, out),
+        }
+    }
+
+    fn send_by(&self, from: Ip4, hop: Ip4, s: &SendTo, out: &mut Out<'_>) -> Fate
+        requires { 1522 ≤ out.old.left }
+        ensures fate { result ≡ fate_by (mac_of hop self.now.near) }
+        ensures put { out.new.written ≡
+            out.old.written ++ put_by self.now from hop s.now (mac_of hop self.now.near) }
+    {
+        match self.near.mac(hop) {
+            Some(mac) => {
+                put_datagram(mac, self.mac, from, s, out);
+                Fate::Sent
+            }
+            None => {
+                put_arp(EVERYONE, &self.request(from, hop), out);
+                Fate::Asked
+            }
+        }
+    }
+
+    fn request(&self, from: Ip4, hop: Ip4) -> Arp
+        ensures { result ≡ request_for self.now.mac from hop }
+    {
+        Arp {
+            op: ARP_REQUEST,
+            sha: self.mac,
+            spa: from,
+            tha: Mac([0; 6]),
+            tpa: hop,
+        }
+    }
+
+    fn message<'a>(&self, frame: &'a [u8]) -> Message<'a>
+        ensures { Brings self.now.up self.now.mac self.now.address frame.now (brought result) }
+    {
+        message(self.up, self.mac, self.address, frame)
+    }
+
+    // The sender is noted, and a request for us is replied to.
+    fn take_arp<'a>(&mut self, from: Mac, arp: &Arp, reply: &mut Out<'_>) -> Taken<'a>
+        requires { 1522 ≤ reply.old.left }
+        ensures outcome { outcome result ≡ outcome_of self.old (arp_message from arp.now) }
+        ensures put { reply.new.written ≡
+            reply.old.written ++ reply_of self.old (arp_message from arp.now) }
+        ensures after { self.new ≡ client_after self.old (arp_message from arp.now) }
+    {
+        self.learn(arp);
+        if self.is_asked(arp) {
+            put_arp(from, &self.reply_to(arp), reply);
+            Taken::Reply
+        } else {
+            Taken::Drop
+        }
+    }
+
+    fn learn(&mut self, arp: &Arp)
+        ensures { self.new ≡ record self.old { near = after_arp self.old.address arp.now self.old.near } }
+    {
+        let sender = Neighbour {
+            ip: arp.spa,
+            mac: arp.sha,
+        };
+        self.near.learn(sender, is_own(self.address, arp.tpa));
+    }
+
+    fn is_asked(&self, arp: &Arp) -> bool
+        ensures { result ≡ asks self.now.address arp.now }
+    {
+        arp.op == ARP_REQUEST && is_own(self.address, arp.tpa)
+    }
+
+    fn reply_to(&self, arp: &Arp) -> Arp
+        ensures { result ≡ reply_to self.now.mac arp.now }
+    {
+        Arp {
+            op: ARP_REPLY,
+            sha: self.mac,
+            spa: arp.tpa,
+            tha: arp.sha,
+            tpa: arp.spa,
+        }
+    }
+
+    fn hand_on<'a>(&self, packet: Packet<'a>, udp: Udp<'a>) -> Taken<'a>
+        ensures { outcome result ≡ outcome_of self.now
+            (datagram (packet_parts packet.entry) (udp_parts udp.entry)) }
+    {
+        match self.ports.owner(PROTO_UDP, udp.dst_port) {
+            Some(to) => Taken::To {
+                to,
+                src: packet.src,
+                dst: packet.dst,
+                proto: PROTO_UDP,
+                src_port: udp.src_port,
+                body: udp.body,
+            },
+            None => Taken::Drop,
+        }
+    }
+}

@@ -1,0 +1,37 @@
+use nb_wire::Ip4;
+
+/// What became of a frame that was taken.
+#[derive(Clone, Copy, Debug, PartialEq, Eq)]
+pub enum Taken<'a> {
+    /// It brings nobody anything, or it was a message of the link, which the stack has noted.
+    Drop,
+    /// It asks for a reply, which was put.
+    Reply,
+    /// It brings a message.
+    To {
+        /// Who bound the port.
+        to: u64,
+        /// The host that sent it.
+        src: Ip4,
+        /// The address that it was sent to.
+        dst: Ip4,
+        /// `PROTO_UDP`.
+        proto: u8,
+        /// The port that it was sent from.
+        src_port: u16,
+        /// What follows the UDP header.
+        body: &'a [u8],
+    },
+}
+
+/// What became of a message that was to be sent.
+#[derive(Clone, Copy, Debug, PartialEq, Eq)]
+pub enum Fate {
+    /// Its frame was put.
+    Sent,
+    /// The next hop's hardware address isn't known: the ARP request for it was put in place of the
+    /// message, which is to be sent again.
+    Asked,
+    /// The device is down, there is no address, or no gateway for other nets. Nothing was put.
+    NoRoute,
+}
