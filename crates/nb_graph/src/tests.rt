@@ -197,26 +197,46 @@ fn bytes(first: &[u8]) -> Msg<'_> {
     }
 }
 
+/// A slot of an object, as a port.
+fn port(obj: ObjId, slot: u8) -> Port
+    ensures { result ≡ record { obj = obj; slot = slot } }
+{
+    Port { obj, slot }
+}
+
 /// A graph of an upper object 1 and a lower object 2 that is plugged to its slot 1.
 fn pair(rt: &HostRuntime, tape: &mut Tape, upper: Deed, lower: Deed) -> Result<Graph<Fake>, Fail> {
     let mut graph = Graph::new(rt.alloc(), 2)?;
     let above = graph.make(make_fake(2, upper), tape).ok().ok_or("full")?;
     let below = graph.make(make_fake(1, lower), tape).ok().ok_or("full")?;
     graph
-        .plug(
-            Port {
-                obj: above,
-                slot: 1,
-            },
-            Port {
-                obj: below,
-                slot: 0,
-            },
-            tape,
-        )
+        .plug(port(above, 1), port(below, 0), tape)
         .ok()
         .ok_or("not open")?;
     Ok(graph)
+}
+
+/// A graph of the objects 1, 2 and 3, each plugged to slot 1 of the one before, and the middle one.
+fn chain(rt: &HostRuntime, tape: &mut Tape, deed: Deed) -> Result<(Graph<Fake>, ObjId), Fail> {
+    let mut graph = Graph::new(rt.alloc(), 3)?;
+    let above = graph
+        .make(make_fake(2, Deed::Take), tape)
+        .ok()
+        .ok_or("full")?;
+    let middle = graph.make(make_fake(1, deed), tape).ok().ok_or("full")?;
+    graph
+        .plug(port(above, 1), port(middle, 0), tape)
+        .ok()
+        .ok_or("not open")?;
+    let below = graph
+        .make(make_fake(0, Deed::Take), tape)
+        .ok()
+        .ok_or("full")?;
+    graph
+        .plug(port(middle, 1), port(below, 0), tape)
+        .ok()
+        .ok_or("not open")?;
+    Ok((graph, middle))
 }
 
 #[test]
@@ -256,15 +276,7 @@ fn closed_inside_a_delivery(rt: HostRuntime) -> Result<(), Fail> {
     let _ = graph.let_go(ObjId(1), &mut tape);
     tape.events.clear();
     assert_eq!(rt;
-        graph.up(
-            Port {
-                obj: ObjId(2),
-                slot: 1
-            },
-            &bytes(b"abc"),
-            0,
-            &mut tape
-        ),
+        graph.up(port(ObjId(2), 1), &bytes(b"abc"), 0, &mut tape),
         Reach::Entered
     );
     // Entered below, Entered above, both ports Closed, Entered by close, Left, Unplugged, Left, Freed, Left.
@@ -294,47 +306,7 @@ fn closed_from_the_middle(rt: HostRuntime) -> Result<(), Fail> {
     let mut tape = Tape {
         events: Vec::new(rt.alloc()),
     };
-    let mut graph = Graph::new(rt.alloc(), 3)?;
-    let above = graph
-        .make(make_fake(2, Deed::Take), &mut tape)
-        .ok()
-        .ok_or("full")?;
-    let middle = graph
-        .make(make_fake(1, Deed::CloseBoth), &mut tape)
-        .ok()
-        .ok_or("full")?;
-    graph
-        .plug(
-            Port {
-                obj: above,
-                slot: 1,
-            },
-            Port {
-                obj: middle,
-                slot: 0,
-            },
-            &mut tape,
-        )
-        .ok()
-        .ok_or("not open")?;
-    let below = graph
-        .make(make_fake(0, Deed::Take), &mut tape)
-        .ok()
-        .ok_or("full")?;
-    graph
-        .plug(
-            Port {
-                obj: middle,
-                slot: 1,
-            },
-            Port {
-                obj: below,
-                slot: 0,
-            },
-            &mut tape,
-        )
-        .ok()
-        .ok_or("not open")?;
+    let (mut graph, middle) = chain(&rt, &mut tape, Deed::CloseBoth)?;
     let _ = graph.let_go(middle, &mut tape);
     tape.events.clear();
     assert_eq!(rt; graph.time(middle, 5, &mut tape), Reach::Entered);
@@ -372,7 +344,7 @@ fn lent_and_dropped(rt: HostRuntime) -> Result<(), Fail> {
         .make(make_fake(1, Deed::LendDown), &mut tape)
         .ok()
         .ok_or("full")?;
-    graph.close(Port { obj: only, slot: 2 }, &WHY, 0, &mut tape);
+    graph.close(port(only, 2), &WHY, 0, &mut tape);
     tape.events.clear();
     let _ = graph.time(only, 5, &mut tape);
     // Entered, Dropped, Left.
@@ -444,19 +416,14 @@ fn one_byte_at_a_time(rt: HostRuntime) -> Result<(), Fail> {
         second: b"cde",
     };
     assert_eq!(rt;
-        graph.up(Port { obj: only, slot: 1 }, &message, 0, &mut tape),
+        graph.up(port(only, 1), &message, 0, &mut tape),
         Reach::Entered
     );
     happened(&rt, &tape, &[(5, 1), (6, 1)]);
     assert_eq!(rt; graph.node(only).ok_or("dead")?.calls, 5);
     // Too long for its memory: Entered, four ports Closed, Left.
     tape.events.clear();
-    let _ = graph.up(
-        Port { obj: only, slot: 1 },
-        &bytes(b"0123456789"),
-        0,
-        &mut tape,
-    );
+    let _ = graph.up(port(only, 1), &bytes(b"0123456789"), 0, &mut tape);
     happened(
         &rt,
         &tape,
