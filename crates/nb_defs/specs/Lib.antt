@@ -2,4 +2,3 @@ pub mod Causes
 pub mod Records
 pub mod ScriptText
 pub mod Commands
-pub mod Machine

@@ -1,0 +1,62 @@
+-- What a run has beside its script, as START gives it: the client's link, its clock, its opens and its images.
+use Rattle.std.specs.Prelude.{ℕ, ◌+◌, ◌%◌, ◌==◌, Bool, not, [], Option, Some, None, if◌then◌else◌}
+use Rattle.nb_defs.specs.Records.{Start}
+use Rattle.nb_wire.specs.declared.address.Ip4.{Ip4}
+use Rattle.nb_stack.specs.declared.address.Addr.{Addr}
+use Rattle.nb_stack.specs.Client.{Client}
+use Rattle.nb_stack.specs.Bound.{with_port, without}
+use Rattle.nb_image.specs.Images.{ImageList}
+use Rattle.nb_engine.specs.declared.world.World.{World}
+
+-- an address as a number
+abbrev pub host : ℕ → Ip4
+host address = record { 0 = address }
+
+-- a mask that isn't given is 255.255.255.0
+abbrev pub mask_of : ℕ → Ip4
+mask_of mask = host (if mask == 0 then 0xffffff00 else mask)
+
+abbrev pub gateway_of : ℕ → Option Ip4
+gateway_of gateway = if gateway == 0 then None else Some (host gateway)
+
+-- the client's address and its net; without an address there is neither
+abbrev pub address_of : Start → Option Addr
+address_of s = if s.ip == 0 then None else Some (record { ip = host s.ip; mask = mask_of s.mask; gateway = gateway_of s.gateway })
+
+-- the device is up where the client has an address; it knows no neighbours
+abbrev pub net_of : Start → Client
+net_of s = record { mac = record { 0 = s.mac }; address = address_of s; up = not (s.ip == 0); near = []; ports = [] }
+
+abbrev pub no_images : ImageList
+no_images = record { images = []; selected = None }
+
+abbrev pub world_of : Start → World
+world_of s = record { w = s.w; time = 0; net = net_of s; opens = 0; images = no_images }
+
+-- the client's port of the open of this number
+abbrev pub own_port : ℕ → ℕ → ℕ
+own_port w number = 49152 + (w + number) % 16384
+
+-- the same, with another link, so many milliseconds later, with other images
+abbrev pub with_net : World → Client → World
+with_net w net = record { w = w.w; time = w.time; net = net; opens = w.opens; images = w.images }
+
+abbrev pub later : World → ℕ → World
+later w ms = record { w = w.w; time = w.time + ms; net = w.net; opens = w.opens; images = w.images }
+
+abbrev pub with_images : World → ImageList → World
+with_images w images = record { w = w.w; time = w.time; net = w.net; opens = w.opens; images = images }
+
+-- with one more open, whose port is bound
+abbrev pub with_open : World → World
+with_open w = record {
+  w = w.w;
+  time = w.time;
+  net = record w.net { ports = with_port 17 (own_port w.w w.opens) w.opens w.net.ports };
+  opens = w.opens + 1;
+  images = w.images;
+}
+
+-- with a port freed
+abbrev pub unbound : World → ℕ → World
+unbound w own = with_net w (record w.net { ports = without 17 own w.net.ports })

@@ -1,0 +1,91 @@
+ghost use Rattle.std.specs.Prelude.{◌≡◌, ◌≤◌, ◌++◌, ◌⊎◌, [], length, IfOk, OnOk, OnErr, Option, IfSome};
+ghost use Rattle.nb_tftp.specs.Received.{received};
+ghost use Rattle.nb_tftp.specs.History.{came, ticked};
+ghost use Rattle.nb_engine.specs.Opens.{end_of, is_over_limit};
+ghost use Rattle.nb_engine.specs.Fetches.{Hears, given_bytes, IsRange};
+
+use crate::causes::TOO_LARGE_IMAGE;
+use nb_image::{Body, PushError};
+use nb_record::{Acts, Cause, NoMemory};
+use nb_tftp::Transfer;
+use nb_wire::{Ip4, Text};
+
+/// A fetch under way: its open, what it is to become, its transfer, and what has come of the file.
+#[derive(Drop)]
+pub struct Fetch {
+    /// The open's number.
+    pub(crate) number: u16,
+    pub(crate) server: Ip4,
+    /// The client's port.
+    pub(crate) own_port: u16,
+    /// The image's name and URI.
+    pub(crate) name: Text,
+    pub(crate) uri: Text,
+    /// Whether the image is booted.
+    pub(crate) boots: bool,
+    pub(crate) transfer: Transfer,
+    pub(crate) body: Body,
+}
+
+/// What a datagram or a time has brought about.
+#[derive(Drop)]
+pub struct Heard {
+    /// What the transfer asks.
+    pub(crate) acts: Acts,
+    /// The end of the open, and its cause.
+    pub(crate) end: Option<Cause>,
+}
+
+/// The bytes of a message that go up.
+fn given(give: Option<(u32, u32)>, body: &[u8]) -> &[u8]
+    requires { IsRange give (length body.now) }
+    ensures { result.now ≡ given_bytes give body.now }
+{
+    match give {
+        Some((from, to)) => &body[from as usize..to as usize],
+        None => b"",
+    }
+}
+
+impl Fetch {
+    /// A datagram comes from this port of the server, in the record of this number.
+    pub fn message(
+        &mut self,
+        rec: u32,
+        port: u16,
+        body: &[u8],
+        now: u64,
+    ) -> Result<Heard, NoMemory>
+        ensures { IfOk result (λ heard. Hears self.old self.new (came (received rec port body.now) now) heard) }
+    {
+        let mut acts = Acts::none();
+        self.transfer.message(rec, port, body, now, &mut acts);
+        let end = self.take(&acts, body)?;
+        Ok(Heard { acts, end })
+    }
+
+    /// It is this time, in milliseconds since the run's start.
+    pub fn time(&mut self, now: u64) -> Result<Heard, NoMemory>
+        ensures { IfOk result (λ heard. Hears self.old self.new (ticked now) heard) }
+    {
+        let mut acts = Acts::none();
+        self.transfer.time(now, &mut acts);
+        let end = self.take(&acts, b"")?;
+        Ok(Heard { acts, end })
+    }
+
+    /// Joins the bytes that go up to the body, and says whether the open has ended.
+    fn take(&mut self, acts: &Acts, body: &[u8]) -> Result<Option<Cause>, NoMemory>
+        requires { IsRange acts.now.give (length body.now) }
+        ensures end { IfOk result (λ end. end ≡ end_of (self.old.body ++ given_bytes acts.now.give body.now) acts.now) }
+        ensures body { OnOk result ((self.new.body ≡ self.old.body ++ given_bytes acts.now.give body.now)
+            ⊎ (is_over_limit (self.old.body ++ given_bytes acts.now.give body.now) ≡ true)) }
+        ensures same { ∃ (body : List ℕ). self.new ≡ record self.old { body = body } }
+    {
+        match self.body.push(given(acts.give, body)) {
+            Ok(()) => Ok(acts.over),
+            Err(PushError::TooLarge) => Ok(Some(TOO_LARGE_IMAGE)),
+            Err(PushError::NoMemory) => Err(NoMemory),
+        }
+    }
+}

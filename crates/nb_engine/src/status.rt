@@ -1,0 +1,50 @@
+ghost use Rattle.std.specs.Prelude.{◌≡◌};
+ghost use Rattle.nb_engine.specs.StatusNumber.{number_of};
+
+/// How a run ended; its number is the program's exit status.
+#[derive(Clone, Copy, Debug, PartialEq, Eq)]
+pub enum Status {
+    /// A command handed off. No command does so yet.
+    HandedOff,
+    /// The words are of no form; nothing was attached.
+    BadWords,
+    /// The first script ended in Ok.
+    Ended,
+    /// The first script ended in a failed result.
+    ScriptFailed,
+    /// The input ended, or OFF came, while a command waited. No command waits yet.
+    Unfinished,
+    /// No record of the grammar stands at that place, or the input ended before START or inside it.
+    BadRecord,
+    /// A read failed.
+    ReadFault,
+    /// A write failed.
+    WriteFault,
+    /// Memory ran out.
+    NoMemory,
+    /// The line could not be attached.
+    AttachFault,
+    /// Every record number was given, and another record begins. No run uses more than one yet.
+    TooManyRecords,
+}
+
+impl Status {
+    /// The status's number, as DONE and the program's exit have it.
+    pub fn number(self) -> u8
+        ensures { result ≡ number_of self }
+    {
+        match self {
+            Status::HandedOff => 0,
+            Status::BadWords => 2,
+            Status::Ended => 3,
+            Status::ScriptFailed => 4,
+            Status::Unfinished => 5,
+            Status::BadRecord => 6,
+            Status::ReadFault => 7,
+            Status::WriteFault => 8,
+            Status::NoMemory => 9,
+            Status::AttachFault => 10,
+            Status::TooManyRecords => 11,
+        }
+    }
+}
