@@ -4,3 +4,4 @@ pub mod AnswerLemmas
 pub mod HistoryLemmas
 pub mod StandsLemmas
 pub mod CallLemmas
+pub mod PlainLaws

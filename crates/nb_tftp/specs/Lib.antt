@@ -7,3 +7,5 @@ pub mod Blocks
 pub mod History
 pub mod Sentences
 pub mod Stands
+pub mod Plain
+pub mod Limits

@@ -11,9 +11,11 @@ mod acts;
 mod answer;
 mod causes;
 mod datagram;
+mod laws;
 mod state;
 mod transfer;
 
+pub use laws::{asks_plainly, gives_within_the_body};
 pub use transfer::{TooLong, Transfer};
 
 #[cfg(test)]

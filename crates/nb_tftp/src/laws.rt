@@ -1,0 +1,32 @@
+//! Laws of what a transfer promises of its calls, for a caller that keeps them: each is a function
+//! that does nothing, whose contract is the law.
+
+ghost use Rattle.std.specs.Prelude.{◌≡◌, ◌≤◌, ◌∷◌, ◌++◌, [], ℕ, List, length, Some, None, slice_range};
+ghost use Rattle.nb_terms.specs.declared.acts.Acts.{Acts};
+ghost use Rattle.nb_wire.specs.declared.address.Ip4.{Ip4};
+ghost use Rattle.nb_tftp.specs.Asks.{Begun, begun};
+ghost use Rattle.nb_tftp.specs.Received.{Received};
+ghost use Rattle.nb_tftp.specs.History.{Entry, entry, came, ticked, given};
+ghost use Rattle.nb_tftp.specs.Sentences.{Meets};
+ghost use Rattle.nb_tftp.specs.Plain.{IsPlain, IsRangeOf};
+
+/// A call sends at most one message, by UDP from the transfer's port to its server, and holds no bytes
+/// back. The request of each path that a transfer takes fits into a message.
+pub fn asks_plainly()
+    ensures plain { (b : Begun) (start : ℕ) (h : List Entry) (e : Entry) → length b.request ≤ 1480
+        → Meets b start (h ++ e ∷ []) → IsPlain b e.acts }
+    ensures request { (server : Ip4) (port own_port : ℕ) (path : List ℕ) → length path ≤ 1024
+        → length (begun server port own_port path).request ≤ 1480 }
+{}
+
+/// The range that a call gives up lies within the body of its datagram, and goes up behind all that
+/// went up before. A time gives up nothing.
+pub fn gives_within_the_body()
+    ensures within { (b : Begun) (start : ℕ) (h : List Entry) (m : Received) (now : ℕ) (acts : Acts) (from to : ℕ)
+        → Meets b start (h ++ entry (came m now) acts ∷ []) → acts.give ≡ Some (from, to) → IsRangeOf m.body from to }
+    ensures range { (h : List Entry) (m : Received) (now : ℕ) (acts : Acts) (from to : ℕ) → acts.give ≡ Some (from, to)
+        → given (h ++ entry (came m now) acts ∷ []) ≡ given h ++ slice_range m.body from to }
+    ensures none { (h : List Entry) (e : Entry) → e.acts.give ≡ None → given (h ++ e ∷ []) ≡ given h }
+    ensures time { (b : Begun) (start : ℕ) (h : List Entry) (now : ℕ) (acts : Acts)
+        → Meets b start (h ++ entry (ticked now) acts ∷ []) → acts.give ≡ None }
+{}
