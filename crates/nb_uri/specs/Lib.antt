@@ -1,0 +1,4 @@
+pub mod Pieces
+pub mod Addresses
+pub mod Targets
+pub mod Views

@@ -1,0 +1,48 @@
+//! The pieces of a URI.
+
+ghost use Rattle.std.specs.Prelude.{◌≡◌, ◌<◌, ◌==◌, position, length, IfSome};
+ghost use Rattle.std.specs.List.{list_all, after_last};
+ghost use Rattle.std.specs.Option.{option_map};
+ghost use Rattle.nb_uri.specs.Pieces.{cut, is_path_byte, is_slash};
+
+/// The bytes before the first separator, and those behind it. None where there is no separator.
+pub(crate) fn cut(text: &[u8], separator: u8) -> Option<(&[u8], &[u8])>
+    ensures { option_map (λ pieces. (pieces.0.now, pieces.1.now)) result ≡ cut separator text.now }
+{
+    match first_of(text, separator) {
+        Some(place) => Some((&text[..place], &text[place + 1..])),
+        None => None,
+    }
+}
+
+/// The place of the first separator.
+fn first_of(text: &[u8], separator: u8) -> Option<usize>
+    ensures place { result ≡ position (λ byte. byte == separator) text.now }
+    ensures within { IfSome result (λ place. place < length text.now) }
+{
+    text.iter().position(|byte| *byte == separator)
+}
+
+/// What stands behind a path's last `/`; all of it where there is none (RFC 3986, section 3.3: segment).
+pub(crate) fn last_segment(path: &[u8]) -> &[u8]
+    ensures { result.now ≡ after_last is_slash path.now }
+{
+    match path.iter().rposition(|byte| *byte == b'/') {
+        Some(slash) => &path[slash + 1..],
+        None => path,
+    }
+}
+
+/// Whether each byte may stand in a path.
+pub(crate) fn is_path(path: &[u8]) -> bool
+    ensures { result ≡ list_all is_path_byte path.now }
+{
+    path.iter().all(|byte| is_path_byte(*byte))
+}
+
+/// An unreserved character (RFC 3986, section 2.3) or `/`.
+fn is_path_byte(byte: u8) -> bool
+    ensures { result ≡ is_path_byte byte }
+{
+    byte.is_ascii_alphanumeric() || matches!(byte, b'-' | b'.' | b'_' | b'~' | b'/')
+}
