@@ -1,180 +1,77 @@
--- Laws of the records' spelling: every field of a START is read again from its place, and no spelling of an
--- input record begins another.
-use Rattle.std.proofs.Common.{◌≡◌, ℕ, ◌+◌, ◌^◌, ◌<◌, ◌≤◌, List, [], ◌∷◌, ◌++◌, length, take, drop, refl, sym, ap, subst, ◌∙◌, append_assoc, arith, replicate, lit<, lit≤}
+-- Laws of the input records' spelling: each record is read again from its spelling, and no spelling begins
+-- another. So bytes begin with a record, are partial, or are broken, and never two of these.
+use Rattle.std.proofs.Common.{◌≡◌, ℕ, ◌+◌, ◌<◌, ◌≤◌, ◌==◌, List, [], ◌∷◌, ◌++◌, length, get_or, take, drop, refl, sym, ap, ◌∙◌, append_assoc, arith, lit<, lit≤, if◌then◌else◌}
 use Rattle.std.specs.Int.{w16, w32, to_be_bytes, from_be_bytes}
-use Rattle.std.proofs.lemmas.List.{append-nil, length-append, take_at, drop_at, drop-drop}
-use Rattle.std.proofs.lemmas.Nat.{from_be_bytes-to_be_bytes_2, from_be_bytes-to_be_bytes_4}
-use Rattle.nb_defs.specs.Records.{Start, In, start, IsStart, IsIn, record_text, start_body, in_text, IsPartial, IsBroken}
+use Rattle.std.proofs.lemmas.List.{append-nil, length-append, take_at, drop_at}
+use Rattle.nb_defs.specs.Records.{Start, In, start, frame, tick, off, IsIn, record_text, start_body, in_text, IsPartial, IsBroken}
+use Rattle.nb_defs.proofs.StartLaws.{start_at, length-start_body, start_at-in_text, number2, number4}
 
--- what a START says, each field read from its place in the record
-unfoldable pub start_at : List ℕ → Start
-start_at bytes = record {
-  mac = take 6 (drop 6 bytes);
-  uuid = take 16 (drop 12 bytes);
-  key = take 32 (drop 28 bytes);
-  arch = from_be_bytes w16 (take 2 (drop 60 bytes));
-  w = from_be_bytes w16 (take 2 (drop 62 bytes));
-  ip = from_be_bytes w32 (take 4 (drop 64 bytes));
-  mask = from_be_bytes w32 (take 4 (drop 68 bytes));
-  gateway = from_be_bytes w32 (take 4 (drop 72 bytes));
-  dns = from_be_bytes w32 (take 4 (drop 76 bytes));
-  script = drop 80 bytes;
-}
+-- the type of a record
+abbrev pub type_of : In → ℕ
+type_of (start s) = 1
+type_of (frame bytes) = 2
+type_of (tick ms) = 3
+type_of off = 4
 
--- the fields behind the version
-unfoldable pub fields : Start → List ℕ
-fields s = s.mac ++ (s.uuid ++ (s.key ++ (to_be_bytes w16 s.arch ++ (to_be_bytes w16 s.w
-    ++ (to_be_bytes w32 s.ip ++ (to_be_bytes w32 s.mask ++ (to_be_bytes w32 s.gateway ++ (to_be_bytes w32 s.dns ++ s.script))))))))
-
-pub start_body-is : (s : Start) → start_body s ≡ 1 ∷ fields s
-unfolding start_body fields
-start_body-is s = simp append_assoc
+-- its body
+abbrev pub body_of : In → List ℕ
+body_of (start s) = start_body s
+body_of (frame bytes) = bytes
+body_of (tick ms) = to_be_bytes w16 ms
+body_of off = []
 
 -- the length, the type, and the body
-pub in_text-is : (s : Start) → in_text (start s) ≡ to_be_bytes w32 (length (start_body s) + 1) ++ (1 ∷ start_body s)
+pub in_text-is : (r : In) → in_text r ≡ to_be_bytes w32 (length (body_of r) + 1) ++ (type_of r ∷ body_of r)
 unfolding record_text
-in_text-is s = refl
+in_text-is (start s) = refl
+in_text-is (frame bytes) = refl
+in_text-is (tick ms) = refl
+in_text-is off = refl
 
-pub length-fields : (s : Start) → IsStart s → length (fields s) ≡ 74 + length s.script
-unfolding fields
-length-fields s ok = simp length-append (omega arith)
+pub length-in_text : (r : In) → length (in_text r) ≡ 5 + length (body_of r)
+length-in_text r = rw (in_text-is r) (omega arith)
 
--- a START record of 80 bytes and its script
-pub length-in_text : (s : Start) → IsStart s → length (in_text (start s)) ≡ 80 + length s.script
-length-in_text s ok =
-    rw (in_text-is s, start_body-is s) (omega (arith, length-fields s ok))
+pub body_fits : (r : In) → IsIn r → length (body_of r) ≤ 131071
+body_fits (start s) ok = omega (arith, length-start_body s ok, ok.script_fits)
+body_fits (frame bytes) ok = omega (arith, ok.most)
+body_fits (tick ms) ok = lit≤ tt
+body_fits off ok = lit≤ tt
 
--- where a part stands, it is read, and behind it stands what follows it
-pub record Stands (bytes part rest : List ℕ) (place len : ℕ) : Type 0 where
-  pub is_read : take len (drop place bytes) ≡ part
-  pub then : drop (place + len) bytes ≡ rest
+-- ---- a record is read again
 
-stands : (bytes part rest : List ℕ) (place len : ℕ) → drop place bytes ≡ part ++ rest → length part ≡ len → Stands bytes part rest place len
-stands bytes part rest place len e l = record {
-  is_read = ap (λ (x : List ℕ). take len x) e ∙ take_at part rest len l;
-  then = sym (drop-drop len place bytes) ∙ ap (λ (x : List ℕ). drop len x) e ∙ drop_at part rest len l;
-}
+-- what a record of this type says
+unfoldable pub in_by : ℕ → List ℕ → In
+in_by kind bytes =
+    if kind == 1 then start (start_at bytes)
+    else if kind == 2 then frame (drop 5 bytes)
+    else if kind == 3 then tick (from_be_bytes w16 (take 2 (drop 5 bytes)))
+    else off
 
--- what stands at the places of a record's fields
-pub record StandsAt (bytes rest : List ℕ) (s : Start) : Type 0 where
-  pub mac : take 6 (drop 6 bytes) ≡ s.mac
-  pub uuid : take 16 (drop 12 bytes) ≡ s.uuid
-  pub key : take 32 (drop 28 bytes) ≡ s.key
-  pub arch : take 2 (drop 60 bytes) ≡ to_be_bytes w16 s.arch
-  pub w : take 2 (drop 62 bytes) ≡ to_be_bytes w16 s.w
-  pub ip : take 4 (drop 64 bytes) ≡ to_be_bytes w32 s.ip
-  pub mask : take 4 (drop 68 bytes) ≡ to_be_bytes w32 s.mask
-  pub gateway : take 4 (drop 72 bytes) ≡ to_be_bytes w32 s.gateway
-  pub dns : take 4 (drop 76 bytes) ≡ to_be_bytes w32 s.dns
-  pub script : drop 80 bytes ≡ s.script ++ rest
+-- what a record says, read by its type
+unfoldable pub in_at : List ℕ → In
+in_at bytes = in_by (get_or bytes 4 0) bytes
 
-fields-then : (s : Start) (rest : List ℕ) → fields s ++ rest ≡ s.mac ++ (s.uuid ++ (s.key ++ (to_be_bytes w16 s.arch ++ (to_be_bytes w16 s.w
-    ++ (to_be_bytes w32 s.ip ++ (to_be_bytes w32 s.mask ++ (to_be_bytes w32 s.gateway ++ (to_be_bytes w32 s.dns ++ (s.script ++ rest)))))))))
-unfolding fields
-fields-then s rest = simp append_assoc
-
--- A two-byte or four-byte number as bytes, kept closed: its bytes are quotients.
-two : ℕ → List ℕ
-two n = to_be_bytes w16 n
-
-four : ℕ → List ℕ
-four n = to_be_bytes w32 n
-
-chain : (bytes mac uuid key arch w ip mask gateway dns tail : List ℕ)
-    → drop 6 bytes ≡ mac ++ (uuid ++ (key ++ (arch ++ (w ++ (ip ++ (mask ++ (gateway ++ (dns ++ tail))))))))
-    → length mac ≡ 6 → length uuid ≡ 16 → length key ≡ 32 → length arch ≡ 2 → length w ≡ 2
-    → length ip ≡ 4 → length mask ≡ 4 → length gateway ≡ 4 → length dns ≡ 4
-    → (take 6 (drop 6 bytes) ≡ mac) × (take 16 (drop 12 bytes) ≡ uuid) × (take 32 (drop 28 bytes) ≡ key)
-    × (take 2 (drop 60 bytes) ≡ arch) × (take 2 (drop 62 bytes) ≡ w) × (take 4 (drop 64 bytes) ≡ ip)
-    × (take 4 (drop 68 bytes) ≡ mask) × (take 4 (drop 72 bytes) ≡ gateway) × (take 4 (drop 76 bytes) ≡ dns)
-    × (drop 80 bytes ≡ tail)
-chain bytes mac uuid key arch w ip mask gateway dns tail e l1 l2 l3 l4 l5 l6 l7 l8 l9 =
-    let s1 = stands bytes mac _ 6 6 e l1 in
-    let s2 = stands bytes uuid _ 12 16 s1.then l2 in
-    let s3 = stands bytes key _ 28 32 s2.then l3 in
-    let s4 = stands bytes arch _ 60 2 s3.then l4 in
-    let s5 = stands bytes w _ 62 2 s4.then l5 in
-    let s6 = stands bytes ip _ 64 4 s5.then l6 in
-    let s7 = stands bytes mask _ 68 4 s6.then l7 in
-    let s8 = stands bytes gateway _ 72 4 s7.then l8 in
-    let s9 = stands bytes dns tail 76 4 s8.then l9 in
-    (s1.is_read, s2.is_read, s3.is_read, s4.is_read, s5.is_read, s6.is_read, s7.is_read, s8.is_read, s9.is_read, s9.then)
-
--- each field of a record stands at its place, whatever follows the record
-pub record_stands : (s : Start) (rest : List ℕ) → IsStart s → StandsAt (in_text (start s) ++ rest) rest s
-record_stands s rest ok =
-    let front : drop 6 (in_text (start s) ++ rest) ≡ fields s ++ rest =
-    ap (λ (x : List ℕ). drop 6 (x ++ rest)) (in_text-is s ∙ ap (λ (x : List ℕ). to_be_bytes w32 (length (start_body s) + 1) ++ (1 ∷ x)) (start_body-is s)) in
-    let c = chain (in_text (start s) ++ rest) s.mac s.uuid s.key (to_be_bytes w16 s.arch) (to_be_bytes w16 s.w) (to_be_bytes w32 s.ip)
-    (to_be_bytes w32 s.mask) (to_be_bytes w32 s.gateway) (to_be_bytes w32 s.dns) (s.script ++ rest) (front ∙ fields-then s rest)
-    ok.mac_len ok.uuid_len ok.key_len refl refl refl refl refl refl in
-    record { mac = c.0; uuid = c.1; key = c.2; arch = c.3; w = c.4; ip = c.5; mask = c.6; gateway = c.7; dns = c.8; script = c.9 }
-
-unfoldable pub make : (mac uuid key : List ℕ) (arch w ip mask gateway dns : ℕ) (script : List ℕ) → Start
-make mac uuid key arch w ip mask gateway dns script = record {
-  mac = mac;
-  uuid = uuid;
-  key = key;
-  arch = arch;
-  w = w;
-  ip = ip;
-  mask = mask;
-  gateway = gateway;
-  dns = dns;
-  script = script;
-}
-
-pub make-same : (s : Start) (mac uuid key : List ℕ) (arch w ip mask gateway dns : ℕ) (script : List ℕ)
-    → mac ≡ s.mac → uuid ≡ s.uuid → key ≡ s.key → arch ≡ s.arch → w ≡ s.w → ip ≡ s.ip → mask ≡ s.mask
-    → gateway ≡ s.gateway → dns ≡ s.dns → script ≡ s.script
-    → make mac uuid key arch w ip mask gateway dns script ≡ make s.mac s.uuid s.key s.arch s.w s.ip s.mask s.gateway s.dns s.script
-make-same s mac uuid key arch w ip mask gateway dns script e0 e1 e2 e3 e4 e5 e6 e7 e8 e9 = cc
-
-make-is : (s : Start) → make s.mac s.uuid s.key s.arch s.w s.ip s.mask s.gateway s.dns s.script ≡ s
-unfolding make
-make-is s = refl
-
-number2 : (bytes : List ℕ) (n : ℕ) → n < 2 ^ 16 → bytes ≡ to_be_bytes w16 n → from_be_bytes w16 bytes ≡ n
-number2 bytes n lt e = ap (λ (x : List ℕ). from_be_bytes w16 x) e ∙ from_be_bytes-to_be_bytes_2 n lt
-
-number4 : (bytes : List ℕ) (n : ℕ) → n < 2 ^ 32 → bytes ≡ to_be_bytes w32 n → from_be_bytes w32 bytes ≡ n
-number4 bytes n lt e = ap (λ (x : List ℕ). from_be_bytes w32 x) e ∙ from_be_bytes-to_be_bytes_4 n lt
-
-start_at-stands : (bytes : List ℕ) (s : Start) → IsStart s → StandsAt bytes [] s → start_at bytes ≡ s
-unfolding start_at make
-start_at-stands bytes s ok at =
-    let e : start_at bytes ≡ make s.mac s.uuid s.key s.arch s.w s.ip s.mask s.gateway s.dns s.script =
-    make-same s _ _ _ _ _ _ _ _ _ _ at.mac at.uuid at.key
-    (number2 _ s.arch ok.arch_fits at.arch)
-    (number2 _ s.w (omega (arith, ok.w_fits)) at.w)
-    (number4 _ s.ip ok.ip_fits at.ip)
-    (number4 _ s.mask ok.mask_fits at.mask)
-    (number4 _ s.gateway ok.gateway_fits at.gateway)
-    (number4 _ s.dns ok.dns_fits at.dns)
-    (at.script ∙ append-nil s.script) in
-    e ∙ make-is s
-
--- the record is read from its spelling
-pub start_at-in_text : (s : Start) → IsStart s → start_at (in_text (start s)) ≡ s
-start_at-in_text s ok =
-    start_at-stands (in_text (start s)) s ok (subst (λ (x : List ℕ). StandsAt x [] s) (append-nil (in_text (start s))) (record_stands s [] ok))
+-- each record is read from its spelling
+pub in_at-in_text : (r : In) → IsIn r → in_at (in_text r) ≡ r
+unfolding in_at in_by record_text
+in_at-in_text (start s) ok = ap (λ (s : Start). start s) (start_at-in_text s ok)
+in_at-in_text (frame bytes) ok = refl
+in_at-in_text (tick ms) ok = ap (λ (n : ℕ). tick n) (number2 (to_be_bytes w16 ms) ms (omega (arith, ok.most)) refl)
+in_at-in_text off ok = refl
 
 -- ---- no spelling begins another
 
 -- the length that stands at the front of a record
-length_front : (s : Start) (rest : List ℕ) → IsStart s → from_be_bytes w32 (take 4 (in_text (start s) ++ rest)) ≡ 76 + length s.script
-length_front s rest ok =
-    let len : length (start_body s) + 1 ≡ 76 + length s.script = rw (start_body-is s) (omega (arith, length-fields s ok)) in
-    let front : take 4 (in_text (start s) ++ rest) ≡ to_be_bytes w32 (length (start_body s) + 1) = ap (λ (x : List ℕ). take 4 (x ++ rest)) (in_text-is s) in
-    number4 _ _ (omega (arith, ok.script_fits)) (front ∙ ap (λ (n : ℕ). to_be_bytes w32 n) len)
+pub length_front : (r : In) (rest : List ℕ) → IsIn r → from_be_bytes w32 (take 4 (in_text r ++ rest)) ≡ length (body_of r) + 1
+length_front r rest ok =
+    number4 _ _ (omega (arith, body_fits r ok)) (ap (λ (x : List ℕ). take 4 (x ++ rest)) (in_text-is r))
 
 -- two records that begin the same bytes have one length
-same_length : (s t : Start) (x y : List ℕ) → IsStart s → IsStart t → in_text (start s) ++ x ≡ in_text (start t) ++ y
-    → length (in_text (start s)) ≡ length (in_text (start t))
-same_length s t x y oks okt e =
-    let n : 76 + length s.script ≡ 76 + length t.script =
-    sym (length_front s x oks) ∙ ap (λ (b : List ℕ). from_be_bytes w32 (take 4 b)) e ∙ length_front t y okt in
-    omega (arith, length-in_text s oks, length-in_text t okt)
+same_length : (r r' : In) (x y : List ℕ) → IsIn r → IsIn r' → in_text r ++ x ≡ in_text r' ++ y → length (in_text r) ≡ length (in_text r')
+same_length r r' x y ok ok' e =
+    let n : length (body_of r) + 1 ≡ length (body_of r') + 1 =
+    sym (length_front r x ok) ∙ ap (λ (b : List ℕ). from_be_bytes w32 (take 4 b)) e ∙ length_front r' y ok' in
+    omega (arith, length-in_text r, length-in_text r', n)
 
 pub record Same (r r' : In) (x y : List ℕ) : Type 0 where
   pub record_is : r ≡ r'
@@ -183,18 +80,18 @@ pub record Same (r r' : In) (x y : List ℕ) : Type 0 where
 -- No spelling of an input record is a proper front of another: bytes that begin with two records begin with
 -- one, and what follows is the same.
 pub in_text_apart : (r r' : In) (x y : List ℕ) → IsIn r → IsIn r' → in_text r ++ x ≡ in_text r' ++ y → Same r r' x y
-in_text_apart (start s) (start t) x y oks okt e =
-    let len = same_length s t x y oks okt e in
-    let texts : in_text (start s) ≡ in_text (start t) =
-    sym (take_at (in_text (start s)) x (length (in_text (start s))) refl)
-    ∙ ap (λ (b : List ℕ). take (length (in_text (start s))) b) e
-    ∙ take_at (in_text (start t)) y (length (in_text (start s))) (sym len) in
+in_text_apart r r' x y ok ok' e =
+    let len = same_length r r' x y ok ok' e in
+    let texts : in_text r ≡ in_text r' =
+    sym (take_at (in_text r) x (length (in_text r)) refl)
+    ∙ ap (λ (b : List ℕ). take (length (in_text r)) b) e
+    ∙ take_at (in_text r') y (length (in_text r)) (sym len) in
     let rests : x ≡ y =
-    sym (drop_at (in_text (start s)) x (length (in_text (start s))) refl)
-    ∙ ap (λ (b : List ℕ). drop (length (in_text (start s))) b) e
-    ∙ drop_at (in_text (start t)) y (length (in_text (start s))) (sym len) in
+    sym (drop_at (in_text r) x (length (in_text r)) refl)
+    ∙ ap (λ (b : List ℕ). drop (length (in_text r)) b) e
+    ∙ drop_at (in_text r') y (length (in_text r)) (sym len) in
     record {
-      record_is = ap (λ (s : Start). start s) (sym (start_at-in_text s oks) ∙ ap (λ (b : List ℕ). start_at b) texts ∙ start_at-in_text t okt);
+      record_is = sym (in_at-in_text r ok) ∙ ap (λ (b : List ℕ). in_at b) texts ∙ in_at-in_text r' ok';
       rest_is = rests;
     }
 
@@ -225,50 +122,25 @@ partial_front bytes added partial = record {
   some = omega (arith, partial.some, length-append added partial.more);
 }
 
--- a START of zeros and no script
-zeros : Start
-zeros = record {
-  mac = replicate 6 0;
-  uuid = replicate 16 0;
-  key = replicate 32 0;
-  arch = 0;
-  w = 0;
-  ip = 0;
-  mask = 0;
-  gateway = 0;
-  dns = 0;
-  script = [];
-}
-
-zeros-valid : IsStart zeros
-unfolding zeros
-zeros-valid = record {
-  mac_len = refl;
-  uuid_len = refl;
-  key_len = refl;
-  arch_fits = lit< tt;
-  w_fits = lit< tt;
-  ip_fits = lit< tt;
-  mask_fits = lit< tt;
-  gateway_fits = lit< tt;
-  dns_fits = lit< tt;
-  script_fits = lit≤ tt;
-}
-
 -- no bytes are partial: a record can still come
 pub nothing_partial : IsPartial []
+unfolding record_text
 nothing_partial = record {
-  becomes = start zeros;
-  valid = zeros-valid;
-  more = in_text (start zeros);
+  becomes = off;
+  valid = tt;
+  more = in_text off;
   whole = refl;
-  some = omega (arith, length-in_text zeros zeros-valid);
+  some = lit< tt;
 }
-
-in_text-bound : (r : In) → IsIn r → length (in_text r) ≤ 131076
-in_text-bound (start s) ok = omega (arith, length-in_text s ok, ok.script_fits)
 
 -- what is partial is shorter than the longest record
 pub partial_short : (bytes : List ℕ) → IsPartial bytes → length bytes < 131076
 partial_short bytes partial =
-    omega (arith, in_text-bound partial.becomes partial.valid, ap length partial.whole, length-append bytes partial.more, partial.some)
+    omega (
+      arith,
+      body_fits partial.becomes partial.valid,
+      length-in_text partial.becomes,
+      ap length partial.whole,
+      length-append bytes partial.more,
+      partial.some,
+    )

@@ -147,7 +147,7 @@ out_text (result cause) = record_text 0x85 (cause_text cause)
 out_text (script what depth cause) = record_text 0x86 (what ∷ depth ∷ cause_text cause)
 out_text (opened number kind server port own target) =
     record_text 0x87 (to_be_bytes w16 number ++ (kind ∷ []) ++ to_be_bytes w32 server ++ to_be_bytes w16 port ++ to_be_bytes w16 own
-        ++ to_be_bytes w16 (length target) ++ target)
+    ++ to_be_bytes w16 (length target) ++ target)
 out_text (tried number count) = record_text 0x88 (to_be_bytes w16 number ++ (count ∷ []))
 out_text (advanced number place) = record_text 0x89 (to_be_bytes w16 number ++ to_be_bytes w32 place)
 out_text (ended number cause) = record_text 0x8a (to_be_bytes w16 number ++ cause_text cause)

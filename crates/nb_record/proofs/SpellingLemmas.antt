@@ -2,10 +2,9 @@
 use Rattle.std.proofs.Common.{◌≡◌, ℕ, ◌+◌, ◌<◌, Bool, true, false, List, [], ◌∷◌, ◌++◌, length, take, get_or, refl, sym, ap, ◌∙◌, arith}
 use Rattle.std.specs.Int.{w16, w32, to_be_bytes}
 use Rattle.std.specs.List.{flat_map}
-use Rattle.std.proofs.lemmas.List.{take_more, flat_map_more}
+use Rattle.std.proofs.lemmas.List.{length-append, take_more, flat_map_more}
 use mir.Val.{bool_byte}
-use Rattle.nb_terms.specs.declared.cause.Cause.{Cause}
-use Rattle.nb_defs.specs.Records.{out_text, command, script, record_text, cause_text, word_text, flag_of}
+use Rattle.nb_defs.specs.Records.{out_text, command, record_text, word_text, flag_of}
 use Rattle.nb_record.specs.Logged.{Logged, Puts}
 use Rattle.nb_record.proofs.LogLemmas.{Puts-then, Puts-same}
 
@@ -18,11 +17,19 @@ pub word_puts : (a b c : Logged) (w : List ℕ) → Puts a b (to_be_bytes w16 (l
 unfolding word_text
 word_puts a b c w p q = Puts-then a b c (to_be_bytes w16 (length w)) w p q
 
-pub script_puts : (a b c d : Logged) (what depth : ℕ) (cause : Cause) → Puts a b (to_be_bytes w32 12 ++ 0x86 ∷ []) → Puts b c (what ∷ depth ∷ []) → Puts c d (cause_text cause) → Puts a d (out_text (script what depth cause))
-unfolding out_text record_text cause_text
-script_puts a b c d what depth cause p q r =
-    Puts-then a c d (to_be_bytes w32 12 ++ 0x86 ∷ what ∷ depth ∷ []) (cause_text cause)
-    (Puts-then a b c (to_be_bytes w32 12 ++ 0x86 ∷ []) (what ∷ depth ∷ []) p q) r
+-- the length and the type, then the body's head and its tail
+pub parts_puts : (a b c d : Logged) (kind : ℕ) (head tail : List ℕ) → Puts a b (to_be_bytes w32 (length head + length tail + 1) ++ kind ∷ [])
+    → Puts b c head → Puts c d tail → Puts a d (record_text kind (head ++ tail))
+unfolding record_text
+parts_puts a b c d kind head tail p q r =
+    let n = length head + length tail + 1 in
+    Puts-same a d ((to_be_bytes w32 n ++ (kind ∷ [])) ++ head ++ tail) _
+    (ap (λ (n : ℕ). to_be_bytes w32 (n + 1) ++ (kind ∷ (head ++ tail))) (sym (length-append head tail)))
+    (Puts-then a c d ((to_be_bytes w32 n ++ (kind ∷ [])) ++ head) tail (Puts-then a b c (to_be_bytes w32 n ++ (kind ∷ [])) head p q) r)
+
+-- a record of the same head and tail
+pub record_same : (kind : ℕ) (head head' tail tail' : List ℕ) → head ≡ head' → tail ≡ tail' → record_text kind (head ++ tail) ≡ record_text kind (head' ++ tail')
+record_same kind head head' tail tail' e f = cc
 
 pub command_puts : (a b c d e f : Logged) (n depth line place flag : ℕ) (expanded : Bool) (words : List (List ℕ))
     → n ≡ length (flat_map word_text words) → flag ≡ flag_of expanded

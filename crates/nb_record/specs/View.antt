@@ -22,11 +22,20 @@ start_of s = record {
 
 abbrev pub in_of : InRec → defs.In
 in_of (input.Start s) = defs.start (start_of s)
+in_of (input.Frame bytes) = defs.frame bytes.now
+in_of (input.Tick ms) = defs.tick ms
+in_of input.Off = defs.off
 
 abbrev pub out_of : OutRec → defs.Out
 out_of (output.Step number) = defs.step number
+out_of (output.Frame bytes) = defs.sent bytes.now
 out_of (output.Text bytes) = defs.text bytes.now
 out_of (output.Command depth line place expanded words) = defs.command depth line place expanded words.now
 out_of (output.Result cause) = defs.result cause
 out_of (output.Script what depth cause) = defs.script what depth cause
+out_of (output.Opened number kind server port own target) = defs.opened number kind server.0 port own target.now
+out_of (output.Try number n) = defs.tried number n
+out_of (output.Advance number place) = defs.advanced number place
+out_of (output.Over number cause) = defs.ended number cause
+out_of (output.Part kind index offset bytes) = defs.part kind index offset bytes.now
 out_of (output.Done status) = defs.done status

@@ -19,5 +19,12 @@ pub struct Start<'a> {
 /// A record of the input.
 #[derive(Clone, Copy, Debug)]
 pub enum InRec<'a> {
+    /// The first record.
     Start(Start<'a>),
+    /// A frame that arrived, 14 to 1,522 bytes without its check sequence.
+    Frame(&'a [u8]),
+    /// So many milliseconds passed, 1 to 60,000.
+    Tick(u16),
+    /// The power was switched off.
+    Off,
 }

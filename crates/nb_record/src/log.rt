@@ -1,5 +1,5 @@
 ghost use Rattle.std.specs.Prelude.{◌≡◌, ◌+◌, ◌<◌, ◌≤◌, ◌∷◌, [], ◌++◌, length, false, IfOk};
-ghost use Rattle.std.specs.Int.{w32, to_be_bytes};
+ghost use Rattle.std.specs.Int.{w16, w32, to_be_bytes};
 ghost use Rattle.std.specs.List.{flat_map};
 ghost use Rattle.nb_defs.specs.Records.{IsOut, out_text, record_text, cause_text, word_text};
 ghost use Rattle.nb_defs.specs.Records as defs;
@@ -8,12 +8,14 @@ ghost use Rattle.nb_record.specs.Logged.{Puts};
 
 use crate::OutRec;
 use nb_terms::{Cause, NoMemory};
-use nb_wire::Word;
+use nb_wire::{Ip4, Word};
 use std::alloc::Global;
 use std::marker::Model;
 
 /// The types of the output records.
 const STEP: u8 = 0x81;
+
+const FRAME: u8 = 0x82;
 
 const TEXT: u8 = 0x83;
 
@@ -22,6 +24,16 @@ const COMMAND: u8 = 0x84;
 const RESULT: u8 = 0x85;
 
 const SCRIPT: u8 = 0x86;
+
+const OPEN: u8 = 0x87;
+
+const TRY: u8 = 0x88;
+
+const ADVANCE: u8 = 0x89;
+
+const ENDED: u8 = 0x8a;
+
+const PART: u8 = 0x8c;
 
 const DONE: u8 = 0x8d;
 
@@ -64,6 +76,7 @@ impl Log {
     {
         match *entry {
             OutRec::Step(number) => self.put_record(STEP, &number.to_be_bytes()),
+            OutRec::Frame(bytes) => self.put_record(FRAME, bytes),
             OutRec::Text(bytes) => self.put_record(TEXT, bytes),
             OutRec::Command {
                 depth,
@@ -74,6 +87,23 @@ impl Log {
             } => self.put_command(depth, line, place, expanded, words),
             OutRec::Result(cause) => self.put_record(RESULT, &cause_bytes(cause)),
             OutRec::Script { what, depth, cause } => self.put_script(what, depth, cause),
+            OutRec::Opened {
+                number,
+                kind,
+                server,
+                port,
+                own,
+                target,
+            } => self.put_open(number, kind, server, port, own, target),
+            OutRec::Try { number, n } => self.put_try(number, n),
+            OutRec::Advance { number, place } => self.put_advance(number, place),
+            OutRec::Over { number, cause } => self.put_end(number, cause),
+            OutRec::Part {
+                kind,
+                index,
+                offset,
+                bytes,
+            } => self.put_part(kind, index, offset, bytes),
             OutRec::Done(status) => self.put_record(DONE, &[status]),
         }
     }
@@ -129,12 +159,53 @@ impl Log {
         self.add(body);
     }
 
+    /// Appends a record of this type, whose body has a head and a tail.
+    fn put_parts(&mut self, kind: u8, head: &[u8], tail: &[u8])
+        requires { length head.now + length tail.now ≤ 131071 }
+        ensures { Puts self.old self.new (record_text kind (head.now ++ tail.now)) }
+    {
+        self.put_head(kind, head.len() + tail.len());
+        self.add(head);
+        self.add(tail);
+    }
+
     fn put_script(&mut self, what: u8, depth: u8, cause: Cause)
         ensures { Puts self.old self.new (out_text (defs.script what depth cause)) }
     {
-        self.put_head(SCRIPT, 11);
-        self.add(&[what, depth]);
-        self.add(&cause_bytes(cause));
+        self.put_parts(SCRIPT, &[what, depth], &cause_bytes(cause));
+    }
+
+    fn put_open(&mut self, number: u16, kind: u8, server: Ip4, port: u16, own: u16, target: &[u8])
+        requires { length target.now ≤ 65535 }
+        ensures { Puts self.old self.new (out_text (defs.opened number kind server.0 port own target.now)) }
+    {
+        let head = open_head(number, kind, server, port, own, target.len() as u16);
+        self.put_parts(OPEN, &head, target);
+    }
+
+    fn put_try(&mut self, number: u16, n: u8)
+        ensures { Puts self.old self.new (out_text (defs.tried number n)) }
+    {
+        self.put_parts(TRY, &number.to_be_bytes(), &[n]);
+    }
+
+    fn put_advance(&mut self, number: u16, place: u32)
+        ensures { Puts self.old self.new (out_text (defs.advanced number place)) }
+    {
+        self.put_parts(ADVANCE, &number.to_be_bytes(), &place.to_be_bytes());
+    }
+
+    fn put_end(&mut self, number: u16, cause: Cause)
+        ensures { Puts self.old self.new (out_text (defs.ended number cause)) }
+    {
+        self.put_parts(ENDED, &number.to_be_bytes(), &cause_bytes(cause));
+    }
+
+    fn put_part(&mut self, kind: u8, index: u16, offset: u32, bytes: &[u8])
+        requires { length bytes.now ≤ 65536 }
+        ensures { Puts self.old self.new (out_text (defs.part kind index offset bytes.now)) }
+    {
+        self.put_parts(PART, &part_head(kind, index, offset), bytes);
     }
 
     fn put_command(&mut self, depth: u8, line: u32, place: u8, expanded: bool, words: &[Word])
@@ -174,6 +245,28 @@ fn cause_bytes(cause: Cause) -> [u8; 9]
     let [a0, a1, a2, a3] = cause.a.to_be_bytes();
     let [b0, b1, b2, b3] = cause.b.to_be_bytes();
     [cause.code, a0, a1, a2, a3, b0, b1, b2, b3]
+}
+
+/// What stands before the target of an OPEN, the target's length included.
+fn open_head(number: u16, kind: u8, server: Ip4, port: u16, own: u16, len: u16) -> [u8; 13]
+    ensures { result ≡ to_be_bytes w16 number ++ (kind ∷ []) ++ to_be_bytes w32 server.0 ++ to_be_bytes w16 port
+        ++ to_be_bytes w16 own ++ to_be_bytes w16 len }
+{
+    let [n0, n1] = number.to_be_bytes();
+    let [s0, s1, s2, s3] = server.0.to_be_bytes();
+    let [p0, p1] = port.to_be_bytes();
+    let [o0, o1] = own.to_be_bytes();
+    let [l0, l1] = len.to_be_bytes();
+    [n0, n1, kind, s0, s1, s2, s3, p0, p1, o0, o1, l0, l1]
+}
+
+/// What stands before the bytes of a PART.
+fn part_head(kind: u8, index: u16, offset: u32) -> [u8; 7]
+    ensures { result ≡ (kind ∷ []) ++ to_be_bytes w16 index ++ to_be_bytes w32 offset }
+{
+    let [i0, i1] = index.to_be_bytes();
+    let [o0, o1, o2, o3] = offset.to_be_bytes();
+    [kind, i0, i1, o0, o1, o2, o3]
 }
 
 /// How many bytes the words have with their lengths.

@@ -10,6 +10,10 @@ unfolding out_text
 returns-in-Step c =
     Puts-same _ _ _ _ (ap (λ (x : List ℕ). record_text 0x81 x) c.to_be_bytes.ensures ∙ sym (ap (λ (o : OutRec). out_text (out_of o)) c.in-Step.is)) c.put_record.ensures
 
+pub returns-in-Frame : goal.returns-in-Frame
+unfolding out_text
+returns-in-Frame c = Puts-same _ _ _ _ (sym (ap (λ (o : OutRec). out_text (out_of o)) c.in-Frame.is)) c.put_record-in-Frame.ensures
+
 pub returns-in-Text : goal.returns-in-Text
 unfolding out_text
 returns-in-Text c = Puts-same _ _ _ _ (sym (ap (λ (o : OutRec). out_text (out_of o)) c.in-Text.is)) c.put_record-in-Text.ensures
