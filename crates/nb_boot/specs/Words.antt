@@ -1,12 +1,8 @@
 -- The words of the program, and numbers in words.
-use Rattle.std.specs.Prelude.{◌≡◌, ℕ, ◌-◌, ◌^◌, min, Bool, false, not, ◌&&◌, ◌==◌, List, [], ◌∷◌, length, Option, Some, None, slice_get, if◌then◌else◌, codes}
+use Rattle.std.specs.Prelude.{◌≡◌, ℕ, Bool, false, not, ◌&&◌, ◌==◌, List, [], ◌∷◌, length, Some, slice_get, codes}
 use Rattle.std.specs.Str.{bytes_eq}
 use Rattle.nb_record.specs.declared.line.Target.{Target}
 use Rattle.nb_record.specs.declared.line.Target.TheVariants.{Files}
-
--- a value, at most 2^32 - 1, where the test holds
-abbrev pub capped : Bool → ℕ → Option ℕ
-capped test value = if test then Some (min (2 ^ 32 - 1) value) else None
 
 -- `replay IN OUT`: three words, the last two not empty
 abbrev pub is_replay : List (List ℕ) → Bool

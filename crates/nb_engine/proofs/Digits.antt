@@ -8,7 +8,7 @@ use Rattle.std.proofs.Math.Logic.{⊎_elim}
 use Rattle.std.proofs.lemmas.Bool.{cases_lt, lt-ltb, le-ltb}
 use Rattle.std.proofs.lemmas.List.{drop_all}
 use Rattle.nb_defs.specs.Commands.{are_digits, digits_value}
-use Rattle.nb_engine.specs.Words.{capped}
+use Rattle.nb_engine.specs.Numbers.{capped}
 
 -- one digit more
 abbrev pub next_value : ℕ → ℕ → ℕ → ℕ

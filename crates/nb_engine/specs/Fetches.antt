@@ -7,7 +7,7 @@ use Rattle.nb_terms.specs.declared.acts.Acts.{Acts}
 use Rattle.nb_tftp.specs.Asks.{Begun}
 use Rattle.nb_tftp.specs.History.{Call, Entry, entry, given_of, is_ended}
 use Rattle.nb_tftp.specs.Stands.{Stands}
-use Rattle.nb_tftp.specs.Plain.{IsPlain, IsRange}
+use Rattle.nb_tftp.specs.Sound.{IsSound}
 use Rattle.nb_image.specs.Images.{ImageList}
 use Rattle.nb_engine.specs.declared.fetch.Fetch.{Fetch}
 use Rattle.nb_engine.specs.declared.fetch.Heard.{Heard}
@@ -30,11 +30,11 @@ pub record IsSameFetch (old new : Fetch) : Type 0 where
   pub boots : new.boots ≡ old.boots
 
 -- a datagram or a time came to the fetch, and this was heard
-pub record Hears (old new : Fetch) (call : Call) (heard : Heard) : Type 0 where
+pub record TakesCall (old new : Fetch) (call : Call) (heard : Heard) : Type 0 where
   pub same : IsSameFetch old new
   pub core : (b : Begun) (start : ℕ) (h : List Entry) → Stands b start old.transfer h → is_ended h ≡ false →
       Stands b start new.transfer (h ++ entry call heard.acts ∷ [])
-  pub plain : IsPlain heard.acts
+  pub sound : (len : ℕ) × IsSound len heard.acts
   pub ends : heard.end ≡ end_of (old.body ++ given_of call heard.acts.give) heard.acts
   pub body : (new.body ≡ old.body ++ given_of call heard.acts.give) ⊎ (is_over_limit (old.body ++ given_of call heard.acts.give) ≡ true)
 

@@ -1,57 +1,123 @@
 -- What a call of the client does, by its turn: between the client and the two lists of records, those
 -- used and those written.
-use Rattle.std.specs.Prelude.{◌≡◌, ℕ, ◌<◌, List, ◌++◌}
-use Rattle.nb_defs.specs.Records.{In, Out, out_texts}
-use Rattle.nb_engine.specs.Machine.{Machine, Phase, ready, running, left, Path, status_of}
+use Rattle.std.specs.Prelude.{◌≡◌, ℕ, ◌+◌, ◌<◌, List, [], ◌∷◌, ◌++◌, length}
+use Rattle.nb_terms.specs.declared.cause.Cause.{Cause}
+use Rattle.nb_defs.specs.Records.{In, start, frame, tick, off, Out, out_texts, ended, done}
 use Rattle.nb_record.specs.Logged.{Logged, Puts}
+use Rattle.nb_engine.specs.Machine.{Machine, Begins, Move, status_of, stopped_cause}
 use Rattle.nb_engine.specs.StatusNumber.{number_of}
-use Rattle.nb_engine.specs.Advance.{lines_left}
+use Rattle.nb_engine.specs.Steps.{lines_left}
+use Rattle.nb_engine.specs.Handings.{records_left}
+use Rattle.nb_engine.specs.Seen.{Seen, StandsFor}
 use Rattle.nb_engine.specs.declared.status.Status.{Status}
 use Rattle.nb_engine.specs.declared.status.Status.TheVariants as status
+use Rattle.nb_engine.specs.declared.stage.Stage.{Stage}
+use Rattle.nb_engine.specs.declared.stage.Stage.TheVariants as stage
 use Rattle.nb_engine.specs.declared.client.Turn.{Turn}
 use Rattle.nb_engine.specs.declared.client.Turn.TheVariants as turn
 
--- a script runs
-abbrev pub IsRunning : Phase → Type 0
-IsRunning ready = ⊥
-IsRunning (running s) = Unit {0}
-IsRunning (left cause) = ⊥
+-- the step isn't over
+abbrev pub IsBusy : Stage → Type 0
+IsBusy (stage.Running s) = Unit {0}
+IsBusy (stage.HandingOff h) = Unit {0}
+IsBusy stage.Ready = ⊥
+IsBusy (stage.Waiting s f) = ⊥
+IsBusy (stage.Left cause) = ⊥
+IsBusy stage.HandedOff = ⊥
+IsBusy stage.Stopped = ⊥
 
--- the first script was left with a cause that has this status
-abbrev pub IsLeft : Phase → Status → Type 0
-IsLeft ready s = ⊥
-IsLeft (running r) s = ⊥
-IsLeft (left cause) s = number_of s ≡ status_of cause
+-- a command waits
+abbrev pub IsWaiting : Stage → Type 0
+IsWaiting (stage.Waiting s f) = Unit {0}
+IsWaiting stage.Ready = ⊥
+IsWaiting (stage.Running s) = ⊥
+IsWaiting (stage.HandingOff h) = ⊥
+IsWaiting (stage.Left cause) = ⊥
+IsWaiting stage.HandedOff = ⊥
+IsWaiting stage.Stopped = ⊥
 
--- the statuses of a run that left its first script
-abbrev pub IsEnd : Status → Type 0
-IsEnd status.Ended = Unit {0}
-IsEnd status.ScriptFailed = Unit {0}
-IsEnd _ = ⊥
+-- the run is over, with this status
+abbrev pub IsOverWith : Stage → Status → Type 0
+IsOverWith (stage.Left cause) s = number_of s ≡ status_of cause
+IsOverWith stage.HandedOff s = s ≡ status.HandedOff
+IsOverWith stage.Stopped s = s ≡ status.Unfinished
+IsOverWith stage.Ready s = ⊥
+IsOverWith (stage.Running r) s = ⊥
+IsOverWith (stage.Waiting r f) s = ⊥
+IsOverWith (stage.HandingOff h) s = ⊥
 
--- From a client that stands for records used and written, one that stands for these used too and for
--- the records that were put.
-pub record Grows (used : List In) (before after : Machine) (old new : Logged) : Type 0 where
+-- the record may be used: START first, and each other record while a command waits
+abbrev pub MayUse : In → Stage → Type 0
+MayUse (start s) stage.Ready = Unit {0}
+MayUse (start s) (stage.Running r) = ⊥
+MayUse (start s) (stage.Waiting r f) = ⊥
+MayUse (start s) (stage.HandingOff h) = ⊥
+MayUse (start s) (stage.Left cause) = ⊥
+MayUse (start s) stage.HandedOff = ⊥
+MayUse (start s) stage.Stopped = ⊥
+MayUse (frame bytes) st = IsWaiting st
+MayUse (tick ms) st = IsWaiting st
+MayUse off st = IsWaiting st
+
+-- a record is used, or the machine moves
+abbrev pub Steps : List In → Machine → List Out → Machine → Type 0
+Steps [] before added after = Move before added after
+Steps (r ∷ []) before added after = Begins before r added after
+Steps (r ∷ q ∷ rs) before added after = ⊥
+
+-- the state after a step, for which the client stands
+pub record Leads (used : List In) (before : Machine) (added : List Out) (after : Seen) : Type 0 where
+  pub machine : Machine
+  pub steps : Steps used before added machine
+  pub stands : StandsFor after machine
+
+-- From a client to one that stands for the state after a step, whose records were put: for each state for
+-- which it stood.
+pub record Grows (used : List In) (before after : Seen) (old new : Logged) : Type 0 where
   pub added : List Out
   pub puts : Puts old new (out_texts added)
-  pub stands : (ins : List In) (outs : List Out) → Path ins outs before → Path (ins ++ used) (outs ++ added) after
+  pub leads : (m : Machine) → StandsFor before m → Leads used m added after
 
--- A call of the client: where memory ran out nothing changed, else it grew by these records.
-abbrev pub Acts : Turn → List In → Machine → Machine → Logged → Logged → Type 0
-Acts turn.More used before after old new = Grows used before after old new × IsRunning after.phase
-Acts (turn.Over status.NoMemory) used before after old new = (after ≡ before) × (new ≡ old)
-Acts (turn.Over s) used before after old new = IsEnd s × Grows used before after old new × IsLeft after.phase s
+-- the statuses with which a client ends a run
+abbrev pub IsEnd : Status → Type 0
+IsEnd status.HandedOff = Unit {0}
+IsEnd status.Ended = Unit {0}
+IsEnd status.ScriptFailed = Unit {0}
+IsEnd status.Unfinished = Unit {0}
+IsEnd _ = ⊥
+
+-- A call of the client: where memory ran out nothing was put, else it grew by these records.
+abbrev pub Acts : Turn → List In → Seen → Seen → Logged → Logged → Type 0
+Acts turn.More used before after old new = Grows used before after old new × IsBusy after.stage
+Acts turn.Waiting used before after old new = Grows used before after old new × IsWaiting after.stage
+Acts (turn.Over status.NoMemory) used before after old new = new ≡ old
+Acts (turn.Over s) used before after old new = IsEnd s × Grows used before after old new × IsOverWith after.stage s
 
 -- how many moves are left at most
-abbrev pub phase_moves : Phase → ℕ
-phase_moves ready = 0
-phase_moves (running s) = lines_left s
-phase_moves (left cause) = 0
+abbrev pub moves_at : Stage → Seen → ℕ
+moves_at (stage.Running s) c = lines_left s
+moves_at (stage.HandingOff h) c = length (records_left c.world.images.images h) + 1
+moves_at stage.Ready c = 0
+moves_at (stage.Waiting s f) c = 0
+moves_at (stage.Left cause) c = 0
+moves_at stage.HandedOff c = 0
+moves_at stage.Stopped c = 0
 
-abbrev pub moves_left : Machine → ℕ
-moves_left m = phase_moves m.phase
+abbrev pub moves_left : Seen → ℕ
+moves_left c = moves_at c.stage c
 
 -- a turn that goes on brings the end nearer
-abbrev pub IsNearer : Turn → Machine → Machine → Type 0
+abbrev pub IsNearer : Turn → Seen → Seen → Type 0
 IsNearer turn.More before after = moves_left after < moves_left before
+IsNearer turn.Waiting before after = Unit {0}
 IsNearer (turn.Over s) before after = Unit {0}
+
+-- what a run that ends has still to close, and DONE
+abbrev pub closing_records : Stage → ℕ → List Out
+closing_records (stage.Waiting s f) number = ended f.number stopped_cause ∷ done number ∷ []
+closing_records stage.Ready number = done number ∷ []
+closing_records (stage.Running s) number = done number ∷ []
+closing_records (stage.HandingOff h) number = done number ∷ []
+closing_records (stage.Left cause) number = done number ∷ []
+closing_records stage.HandedOff number = done number ∷ []
+closing_records stage.Stopped number = done number ∷ []

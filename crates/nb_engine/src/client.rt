@@ -1,213 +1,101 @@
-ghost use Rattle.std.specs.Prelude.{◌≡◌, [], ◌∷◌, true, false, IfOk, OnOk, IsOkAnd, IsErrOf};
-ghost use Rattle.nb_defs.specs.Records.{IsIn, IsStart, out_texts, step, enter, leave, done};
-ghost use Rattle.nb_defs.specs.Records as defs;
-ghost use Rattle.nb_engine.specs.Machine.{fresh, status_of};
-ghost use Rattle.nb_defs.specs.Causes.{not_script};
-ghost use Rattle.nb_defs.specs.ScriptText.{is_plain};
+ghost use Rattle.std.specs.Prelude.{◌≡◌, ◌<◌, ◌-◌, ◌^◌, [], ◌∷◌, IsOkAnd};
+ghost use Rattle.nb_defs.specs.Records.{IsIn, IsStart, out_texts};
 ghost use Rattle.nb_record.specs.View.{in_of, start_of};
 ghost use Rattle.nb_record.specs.Logged.{Puts};
 ghost use Rattle.nb_engine.specs.StatusNumber.{number_of};
-ghost use Rattle.nb_engine.specs.Turns.{Acts, IsRunning, IsNearer, IsEnd};
+ghost use Rattle.nb_engine.specs.Turns.{Acts, IsBusy, IsNearer, MayUse, closing_records};
+ghost use Rattle.nb_engine.specs.declared.stage.Stage.TheVariants as stage;
 
-use crate::Status;
-use crate::causes::{NOT_SCRIPT, OK};
-use crate::running::RunningScript;
-use nb_record::{Cause, InRec, Log, NoMemory, OutRec, Start};
-use nb_script::{Script, ScriptError};
-use nb_wire::{Ip4, Mac, Text};
+use crate::causes::STOPPED;
+use crate::put::put_over;
+use crate::{Stage, Status, World};
+use nb_record::{InRec, Log, NoMemory, OutRec, Start};
 use std::alloc::Global;
 use std::marker::Model;
-
-/// Who the client is, as START said.
-#[derive(Clone, Copy, Debug)]
-pub struct Identity {
-    pub mac: Mac,
-    pub uuid: [u8; 16],
-    pub key: [u8; 32],
-    pub arch: u16,
-    pub w: u16,
-    pub ip: Ip4,
-    pub mask: Ip4,
-    pub gateway: Ip4,
-    pub dns: Ip4,
-}
-
-/// Where a run stands.
-#[derive(Drop)]
-pub enum Stage {
-    /// START wasn't used yet.
-    Ready,
-    /// A script runs.
-    Running(RunningScript),
-    /// The first script was left with this cause.
-    Left(Cause),
-}
 
 /// How a call of the client ended.
 #[derive(Clone, Copy, Debug, PartialEq, Eq)]
 pub enum Turn {
-    /// A line is done, and the step isn't over: call `more`.
+    /// A line or a piece is done, and the step isn't over: call `more`.
     More,
+    /// A command waits: the step is over.
+    Waiting,
     /// The run is over.
     Over(Status),
 }
 
-/// A client: a run of scripts over records. Contracts see the state of the script machine.
+/// A client: a run of scripts over records. Contracts see what of it the script machine's state is told by.
 #[derive(Drop)]
 pub struct Client {
-    alloc: Global,
-    identity: Identity,
-    used: u32,
-    stage: Stage,
+    pub(crate) alloc: Global,
+    pub(crate) used: u32,
+    pub(crate) world: World,
+    pub(crate) stage: Stage,
 }
 
 impl Model for Client {
-    ghost use Rattle.nb_engine.specs.Machine.{Machine};
+    ghost use Rattle.nb_engine.specs.Seen.{Seen, seen, IsSound};
 
-    ghost Value = { Machine };
+    ghost Value = { Seen };
 
-    ghost use Rattle.nb_engine.specs.Stages.{phase_of};
+    ghost view = { λ c. seen c.used c.world c.stage };
 
-    ghost view = { λ c. record { used = c.used; phase = phase_of c.stage } };
-}
-
-impl Identity {
-    fn of(start: &Start<'_>) -> Identity {
-        Identity {
-            mac: start.mac,
-            uuid: start.uuid,
-            key: start.key,
-            arch: start.arch,
-            w: start.w,
-            ip: start.ip,
-            mask: start.mask,
-            gateway: start.gateway,
-            dns: start.dns,
-        }
-    }
-}
-
-/// How a run ends whose first script was left with this cause.
-fn status_after(cause: Cause) -> Status
-    ensures value { number_of result ≡ status_of cause }
-    ensures kind { IsEnd result }
-{
-    if cause.code == 0 {
-        Status::Ended
-    } else {
-        Status::ScriptFailed
-    }
-}
-
-/// The script of these bytes, copied.
-fn read_script(alloc: Global, bytes: &[u8]) -> Result<Script, ScriptError>
-    ensures same { IfOk result (λ s. s ≡ bytes.now) }
-    ensures plain { OnOk result (is_plain bytes.now ≡ true) }
-    ensures not_script { IsErrOf result ScriptError.NotScript → is_plain bytes.now ≡ false }
-{
-    match Vec::from_slice(alloc, bytes) {
-        Ok(copy) => Script::read(alloc, Text::from_vec(copy)),
-        Err(_) => Err(ScriptError::NoMemory),
-    }
-}
-
-/// Puts that the first record's step begins, and that the first script is entered.
-fn put_entered(log: &mut Log)
-    ensures { Puts log.old log.new (out_texts (step 1 ∷ enter 1 ∷ [])) }
-{
-    log.put(&OutRec::Step(1));
-    log.put(&OutRec::Script {
-        what: 0,
-        depth: 1,
-        cause: OK,
-    });
-}
-
-/// Puts that the first script is left, since its text is none.
-fn put_refused(log: &mut Log)
-    ensures { Puts log.old log.new (out_texts (leave 1 not_script ∷ [])) }
-{
-    log.put(&OutRec::Script {
-        what: 1,
-        depth: 1,
-        cause: NOT_SCRIPT,
-    });
+    ghost invariant = { λ c. IsSound c.used c.world c.stage };
 }
 
 impl Client {
-    /// A client for this START, before any record. It keeps who it is, and the allocator.
+    /// A client for this START, before any record. It keeps the allocator.
     pub fn new(alloc: Global, start: &Start<'_>) -> Result<Client, NoMemory>
-        ensures { IsOkAnd result (λ c. c ≡ fresh) }
+        requires { IsStart (start_of start.now) }
+        ensures used { IsOkAnd result (λ c. c.used ≡ 0) }
+        ensures ready { IsOkAnd result (λ c. c.stage ≡ stage.Ready) }
     {
         Ok(Client {
             alloc,
-            identity: Identity::of(start),
             used: 0,
+            world: World::of(alloc, start),
             stage: Stage::Ready,
         })
     }
 
-    /// Enters the first script; where the text is none, it is left at once.
-    fn start(&mut self, start: &Start<'_>, log: &mut Log) -> Turn
-        requires first { self.old ≡ fresh }
-        requires valid { IsStart (start_of start.now) }
-        ensures { Acts result (defs.start (start_of start.now) ∷ []) self.old self.new log.old log.new }
-    {
-        match read_script(self.alloc, start.script) {
-            Ok(script) => {
-                put_entered(log);
-                self.used = 1;
-                self.stage = Stage::Running(RunningScript::first(script));
-                Turn::More
-            }
-            Err(ScriptError::NotScript) => {
-                put_entered(log);
-                put_refused(log);
-                self.used = 1;
-                self.stage = Stage::Left(NOT_SCRIPT);
-                Turn::Over(Status::ScriptFailed)
-            }
-            Err(ScriptError::NoMemory) => Turn::Over(Status::NoMemory),
-        }
-    }
-
-    /// Uses the START that the client was made for: its script is entered. Where the text is no script, it
-    /// is left at once, and the run is over. Want of memory changes nothing.
+    /// Uses a record: START is the first, and each other one comes while a command waits. Where memory runs out
+    /// nothing is put, and the client is of no use any more.
     pub fn step(&mut self, entry: &InRec<'_>, log: &mut Log) -> Turn
-        requires first { self.old ≡ fresh }
         requires valid { IsIn (in_of entry.now) }
+        requires fits { MayUse (in_of entry.now) self.old.stage }
+        requires few { self.old.used < 2 ^ 32 - 1 }
         ensures { Acts result (in_of entry.now ∷ []) self.old self.new log.old log.new }
     {
+        self.used += 1;
         match entry {
             InRec::Start(start) => self.start(start, log),
+            InRec::Frame(bytes) => self.frame(bytes, log),
+            InRec::Tick(ms) => self.tick(*ms, log),
+            InRec::Off => self.switch_off(log),
         }
     }
 
-    /// Goes on in the step: does the next line of the script. Want of memory changes nothing.
+    /// Goes on in the step: does the next line of the script, or puts the next piece of the hand-off. Where
+    /// memory runs out nothing is put.
     pub fn more(&mut self, log: &mut Log) -> Turn
-        requires { IsRunning self.old.phase }
+        requires { IsBusy self.old.stage }
         ensures does { Acts result [] self.old self.new log.old log.new }
         ensures nearer { IsNearer result self.old self.new }
     {
-        let alloc = self.alloc;
-        let Stage::Running(script) = &mut self.stage else {
-            unreachable!()
-        };
-        match script.advance(alloc, log) {
-            Ok(None) => Turn::More,
-            Ok(Some(cause)) => {
-                self.stage = Stage::Left(cause);
-                Turn::Over(status_after(cause))
-            }
-            Err(NoMemory) => Turn::Over(Status::NoMemory),
+        match &self.stage {
+            Stage::Running(_) => self.advance(log),
+            _ => self.hand_on(log),
         }
     }
 
-    /// Puts DONE with the run's status, the last record.
+    /// Puts the end of an open that is left, and DONE with the run's status, the last record.
     pub fn finish(&mut self, status: Status, log: &mut Log)
-        ensures puts { Puts log.old log.new (out_texts (done (number_of status) ∷ [])) }
+        ensures puts { Puts log.old log.new (out_texts (closing_records self.old.stage (number_of status))) }
         ensures same { self.new ≡ self.old }
     {
+        if let Stage::Waiting(_, fetch) = &self.stage {
+            put_over(fetch.number, STOPPED, log);
+        }
         log.put(&OutRec::Done(status.number()));
     }
 }

@@ -2,7 +2,8 @@ ghost use Rattle.std.specs.Prelude.{◌≡◌, ◌≤◌, ◌++◌, ◌⊎◌, [
 ghost use Rattle.nb_tftp.specs.Received.{received};
 ghost use Rattle.nb_tftp.specs.History.{came, ticked};
 ghost use Rattle.nb_engine.specs.Opens.{end_of, is_over_limit};
-ghost use Rattle.nb_engine.specs.Fetches.{Hears, given_bytes, IsRange};
+ghost use Rattle.nb_engine.specs.Fetches.{TakesCall, given_bytes, IsSameFetch};
+ghost use Rattle.nb_tftp.specs.Sound.{IsRange};
 
 use crate::causes::TOO_LARGE_IMAGE;
 use nb_image::{Body, PushError};
@@ -56,7 +57,7 @@ impl Fetch {
         body: &[u8],
         now: u64,
     ) -> Result<Heard, NoMemory>
-        ensures { IfOk result (λ heard. Hears self.old self.new (came (received rec port body.now) now) heard) }
+        ensures { IfOk result (λ heard. TakesCall self.old self.new (came (received rec port body.now) now) heard) }
     {
         let mut acts = Acts::none();
         self.transfer.message(rec, port, body, now, &mut acts);
@@ -66,7 +67,7 @@ impl Fetch {
 
     /// It is this time, in milliseconds since the run's start.
     pub fn time(&mut self, now: u64) -> Result<Heard, NoMemory>
-        ensures { IfOk result (λ heard. Hears self.old self.new (ticked now) heard) }
+        ensures { IfOk result (λ heard. TakesCall self.old self.new (ticked now) heard) }
     {
         let mut acts = Acts::none();
         self.transfer.time(now, &mut acts);
@@ -80,7 +81,8 @@ impl Fetch {
         ensures end { IfOk result (λ end. end ≡ end_of (self.old.body ++ given_bytes acts.now.give body.now) acts.now) }
         ensures body { OnOk result ((self.new.body ≡ self.old.body ++ given_bytes acts.now.give body.now)
             ⊎ (is_over_limit (self.old.body ++ given_bytes acts.now.give body.now) ≡ true)) }
-        ensures same { ∃ (body : List ℕ). self.new ≡ record self.old { body = body } }
+        ensures same { IsSameFetch self.old self.new }
+        ensures transfer { self.new.transfer ≡ self.old.transfer }
     {
         match self.body.push(given(acts.give, body)) {
             Ok(()) => Ok(acts.over),

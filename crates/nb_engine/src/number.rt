@@ -2,7 +2,7 @@ ghost use Rattle.std.specs.Prelude.{◌≡◌, ◌≤◌, ◌-◌, ◌^◌, ◌&
 ghost use Rattle.std.specs.Option.{option_map};
 ghost use Rattle.std.specs.List.{starts_with};
 ghost use Rattle.nb_defs.specs.Commands.{number_of, digits_value, are_digits, has_no_leading_zero};
-ghost use Rattle.nb_engine.specs.Words.{capped};
+ghost use Rattle.nb_engine.specs.Numbers.{capped};
 
 /// The value of digits in a base, at most 2^32 - 1. None where one is no digit, or there is none.
 fn digits(bytes: &[u8], base: u32) -> Option<u32>

@@ -3,7 +3,7 @@ ghost use Rattle.nb_defs.specs.Records.{out_texts, step, ended, enter, leave, re
 ghost use Rattle.nb_record.specs.Logged.{Puts};
 ghost use Rattle.nb_engine.specs.Opens.{try_records, send_records, sends_records, advance_records, acts_records};
 ghost use Rattle.nb_engine.specs.Machine.{reply_records};
-ghost use Rattle.nb_tftp.specs.Plain.{IsPlain, IsUdp};
+ghost use Rattle.nb_tftp.specs.Sound.{IsSound, AreUdp};
 
 use nb_record::{Acts, Cause, Log, OutRec, SendTo};
 use nb_stack::{Fate, Stack};
@@ -46,7 +46,7 @@ pub fn put_reply(reply: &[u8], log: &mut Log)
 /// Puts what a transfer asks: the place to which it has come, and its messages.
 #[tactic(auto, unfolding(crate::specs::Opens::acts_records))]
 pub fn put_acts(net: &mut Stack, number: u16, acts: &Acts, log: &mut Log)
-    requires { IsPlain acts.now }
+    requires { (len : ℕ) × IsSound len acts.now }
     ensures puts { Puts log.old log.new (out_texts (acts_records net.old number acts.now)) }
     ensures same { net.new ≡ net.old }
 {
@@ -74,7 +74,7 @@ fn put_try(number: u16, tried: Option<u8>, log: &mut Log)
 #[tactic(auto, unfolding(crate::specs::Opens::sends_records))]
 fn put_sends(net: &mut Stack, number: u16, tried: Option<u8>, sends: &[SendTo], log: &mut Log)
     requires few { length sends.now ≤ 1 }
-    requires udp { IsUdp sends.now }
+    requires udp { AreUdp sends.now }
     ensures puts { Puts log.old log.new (out_texts (sends_records net.old number tried sends.now)) }
     ensures same { net.new ≡ net.old }
 {

@@ -5,3 +5,4 @@ pub mod HistoryLemmas
 pub mod StandsLemmas
 pub mod CallLemmas
 pub mod PlainLaws
+mod SoundLemmas

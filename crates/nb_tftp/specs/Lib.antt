@@ -9,3 +9,4 @@ pub mod Sentences
 pub mod Stands
 pub mod Plain
 pub mod Limits
+pub mod Sound

@@ -3,6 +3,10 @@ use Rattle.nb_tftp.specs.declared.state.State.{State}
 use Rattle.nb_tftp.specs.Received.{received}
 use Rattle.nb_tftp.specs.Stands.{Stands}
 use Rattle.nb_tftp.proofs.CallLemmas.{came_goes_on, came_stays}
+use Rattle.nb_tftp.specs.Sound.{IsSound}
+use Rattle.nb_terms.specs.declared.acts.Acts.{Acts}
+use Rattle.std.specs.Prelude.{length}
+use Rattle.nb_tftp.proofs.SoundLemmas.{bytes_sound}
 use Rattle.nb_tftp.proofs.transfer.Transfer.message.Goals as goal
 
 pub returns-clause-stands : goal.returns-clause-stands
@@ -14,3 +18,7 @@ pub returns-clause-ended : goal.returns-clause-ended
 returns-clause-ended c = λ b start h stands ended.
     came_stays b start c.self.inside.state c.datagram.new.self h c.args.rec c.args.src_port c.args.body.now c.args.now c.datagram.result c.datagram.ensures.acts c.datagram.ensures.after
     (subst (λ (x : State). Stands b start x h) (sym c.self.view_is) stands) ended
+
+pub returns-clause-sound : goal.returns-clause-sound
+returns-clause-sound c =
+    subst (λ (acts : Acts). IsSound (length c.args.body.now) acts) (sym c.datagram.ensures.acts) (bytes_sound c.self.inside.state c.args.rec c.args.src_port c.args.body.now)

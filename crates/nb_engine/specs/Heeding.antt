@@ -1,0 +1,62 @@
+-- What a datagram or a time does to a client whose command waits.
+use Rattle.std.specs.Prelude.{◌≡◌, ◌⊎◌, ℕ, ◌+◌, ◌==◌, ◌≤◌, Bool, true, false, List, [], ◌∷◌, ◌++◌, length}
+use Rattle.nb_wire.specs.declared.address.Ip4.{Ip4}
+use Rattle.nb_defs.specs.Records.{In, Out, out_texts, step, IsFrameRecord}
+use Rattle.nb_record.specs.Logged.{Logged, Puts}
+use Rattle.nb_tftp.specs.History.{Call, entry, is_ended}
+use Rattle.nb_engine.specs.Machine.{Running, Phase, Hears, at}
+use Rattle.nb_engine.specs.Opens.{Open, with_entry, body_of, end_of, is_over_limit}
+use Rattle.nb_engine.specs.Fetches.{IsFetchOf, IsLive}
+use Rattle.nb_engine.specs.Seen.{Seen, seen, StandsFor}
+use Rattle.nb_engine.specs.Turns.{Acts, IsBusy, IsWaiting, IsOverWith, IsEnd}
+use Rattle.nb_engine.specs.declared.fetch.Fetch.{Fetch}
+use Rattle.nb_engine.specs.declared.fetch.Heard.{Heard}
+use Rattle.nb_engine.specs.declared.status.Status.{Status}
+use Rattle.nb_engine.specs.declared.status.Status.TheVariants as status
+use Rattle.nb_engine.specs.declared.stage.Stage.{Stage}
+use Rattle.nb_engine.specs.declared.stage.Stage.TheVariants as stage
+use Rattle.nb_engine.specs.declared.client.Turn.{Turn}
+use Rattle.nb_engine.specs.declared.client.Turn.TheVariants as turn
+
+-- a record is used by a client that has counted it already
+abbrev pub Uses : Turn → In → Seen → Seen → Logged → Logged → Type 0
+Uses t r before after old new = (n : ℕ) → before.used ≡ n + 1 → Acts t (r ∷ []) (seen n before.world before.stage) after old new
+
+-- the step's records were put: what the datagram or the time brings the open is what they say, for each
+-- open of which P holds
+pub record Follows (P : Fetch → Open → Call → Type 0) (before after : Seen) (old new : Logged) : Type 0 where
+  pub added : List Out
+  pub puts : Puts old new (out_texts (step before.used ∷ added))
+  pub hears : (s : Running) (f : Fetch) (o : Open) (call : Call) → before.stage ≡ stage.Waiting s f → P f o call →
+      (phase : Phase) × Hears before.world s o call added phase × StandsFor after (at before.used phase)
+
+abbrev pub Heeds : Turn → (Fetch → Open → Call → Type 0) → Seen → Seen → Logged → Logged → Type 0
+Heeds turn.More P before after old new = Follows P before after old new × IsBusy after.stage
+Heeds turn.Waiting P before after old new = Follows P before after old new × IsWaiting after.stage
+Heeds (turn.Over status.NoMemory) P before after old new = new ≡ old
+Heeds (turn.Over s) P before after old new = IsEnd s × Follows P before after old new × IsOverWith after.stage s
+
+-- the fetch is the open's, and this comes to it
+abbrev pub Comes : Call → Fetch → Open → Call → Type 0
+Comes came f o call = IsLive f o × (call ≡ came)
+
+-- the fetch is the open's once this has come to it, and it was heard
+pub record HasHeard (heard : Heard) (f : Fetch) (o : Open) (call : Call) : Type 0 where
+  pub fetch : IsFetchOf f (with_entry o (entry call heard.acts))
+  pub ends : heard.end ≡ end_of (body_of (with_entry o (entry call heard.acts))) heard.acts
+  pub body : (f.body ≡ body_of (with_entry o (entry call heard.acts))) ⊎ (is_over_limit (body_of (with_entry o (entry call heard.acts))) ≡ true)
+  pub lives : is_ended o.entries ≡ false
+
+-- nothing, or a frame
+abbrev pub IsReply : List ℕ → Type 0
+IsReply bytes = (bytes ≡ []) ⊎ IsFrameRecord bytes
+
+-- the open that a command waits for is one of this server
+abbrev pub asks_server : Stage → Ip4 → Bool
+asks_server (stage.Waiting s f) server = f.server.0 == server.0
+asks_server stage.Ready server = false
+asks_server (stage.Running s) server = false
+asks_server (stage.HandingOff h) server = false
+asks_server (stage.Left cause) server = false
+asks_server stage.HandedOff server = false
+asks_server stage.Stopped server = false

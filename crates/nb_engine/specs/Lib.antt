@@ -1,0 +1,15 @@
+pub mod World
+pub mod Effects
+pub mod Opens
+pub mod Conclusions
+pub mod Machine
+pub mod StatusNumber
+pub mod CommandWords
+pub mod NextLine
+pub mod Steps
+pub mod Fetches
+pub mod Handings
+pub mod Seen
+pub mod Turns
+pub mod Laws
+pub mod Numbers

@@ -1,0 +1,105 @@
+ghost use Rattle.std.specs.Prelude.{◌≡◌, ◌≤◌, None, Some, ◌∷◌, ◌++◌, []};
+ghost use Rattle.nb_defs.specs.Records.{out_texts, step, ended};
+ghost use Rattle.nb_record.specs.Logged.{Puts};
+ghost use Rattle.nb_image.specs.Images.{image_of};
+ghost use Rattle.nb_engine.specs.Opens.{acts_records};
+ghost use Rattle.nb_engine.specs.Conclusions.{conclusion, conclusion_records};
+ghost use Rattle.nb_engine.specs.Fetches.{conclusion_of};
+ghost use Rattle.nb_engine.specs.Heeding.{Heeds, HasHeard};
+ghost use Rattle.nb_engine.specs.Concluding.{Concludes};
+ghost use Rattle.nb_engine.specs.Turns.{IsWaiting};
+ghost use Rattle.nb_tftp.specs.Sound.{IsSound};
+ghost use Rattle.nb_engine.specs.declared.stage.Stage.TheVariants as stage;
+
+use crate::causes::OK;
+use crate::conclusion::{Conclusion, conclude};
+use crate::fetch::Heard;
+use crate::put::{put_acts, put_over, put_result, put_step};
+use crate::status::status_after;
+use crate::{Client, Handing, RunningScript, Stage, Status, Turn};
+use nb_record::{Acts, Cause, Log, NoMemory};
+use std::mem;
+
+/// UDP (RFC 768).
+const UDP: u8 = 17;
+
+impl Client {
+    /// Puts what a datagram or a time has brought, and where it ended the open, what comes of its command.
+    pub(crate) fn heed(&mut self, heard: &Heard, log: &mut Log) -> Turn
+        requires waits { IsWaiting self.old.stage }
+        requires sound { (len : ℕ) × IsSound len heard.now.acts }
+        ensures { Heeds result (HasHeard heard.now) self.old self.new log.old log.new }
+    {
+        match heard.end {
+            None => self.go_on(&heard.acts, log),
+            Some(cause) => self.end(&heard.acts, cause, log),
+        }
+    }
+
+    /// The open goes on.
+    fn go_on(&mut self, acts: &Acts, log: &mut Log) -> Turn
+        requires waits { IsWaiting self.old.stage }
+        requires sound { (len : ℕ) × IsSound len acts.now }
+        ensures { GoesOn result acts.now self.old self.new log.old log.new }
+    {
+        let Stage::Waiting(_, fetch) = &self.stage else {
+            unreachable!()
+        };
+        put_step(self.used, log);
+        put_acts(&mut self.world.net, fetch.number, acts, log);
+        Turn::Waiting
+    }
+
+    /// The open ends with this cause.
+    fn end(&mut self, acts: &Acts, cause: Cause, log: &mut Log) -> Turn
+        requires waits { IsWaiting self.old.stage }
+        requires sound { (len : ℕ) × IsSound len acts.now }
+        ensures { Ends result acts.now cause self.old self.new log.old log.new }
+    {
+        let Stage::Waiting(script, fetch) = mem::replace(&mut self.stage, Stage::Stopped) else {
+            unreachable!()
+        };
+        let (number, own_port) = (fetch.number, fetch.own_port);
+        match conclude(self.alloc, &mut self.world.images, fetch, cause) {
+            Ok(conclusion) => {
+                put_step(self.used, log);
+                put_acts(&mut self.world.net, number, acts, log);
+                put_over(number, cause, log);
+                self.world.net.unbind(UDP, own_port);
+                self.conclude(script, conclusion, log)
+            }
+            Err(NoMemory) => Turn::Over(Status::NoMemory),
+        }
+    }
+
+    /// Puts the result of the script's command, and goes on as that says.
+    fn conclude(&mut self, script: RunningScript, conclusion: Conclusion, log: &mut Log) -> Turn
+        ensures { Concludes result script conclusion self.old self.new log.old log.new }
+    {
+        match conclusion {
+            Conclusion::Keeps => {
+                put_result(OK, log);
+                self.resume(script)
+            }
+            Conclusion::Fails(cause) => {
+                put_result(cause, log);
+                script.put_leave(cause, log);
+                self.stage = Stage::Left(cause);
+                Turn::Over(status_after(cause))
+            }
+            Conclusion::Boots(kernel) => {
+                put_result(OK, log);
+                self.stage = Stage::HandingOff(Handing::of(kernel));
+                Turn::More
+            }
+        }
+    }
+
+    /// The script goes on behind its line.
+    fn resume(&mut self, mut script: RunningScript) -> Turn
+    {
+        script.pass_with(OK);
+        self.stage = Stage::Running(script);
+        Turn::More
+    }
+}
