@@ -1,5 +1,5 @@
 -- What a fetch stands for, and what a datagram or a time does to it.
-use Rattle.std.specs.Prelude.{◌≡◌, ◌⊎◌, ℕ, ◌≤◌, Bool, true, false, List, [], ◌∷◌, ◌++◌, Option, Some, None, IfSome}
+use Rattle.std.specs.Prelude.{◌≡◌, ◌⊎◌, ℕ, ◌<◌, ◌≤◌, length, Bool, true, false, List, [], ◌∷◌, ◌++◌, Option, Some, None, IfSome}
 use Rattle.std.specs.Option.{option_map_or}
 use Rattle.std.specs.List.{slice_range}
 use Rattle.nb_terms.specs.declared.cause.Cause.{Cause}
@@ -59,3 +59,15 @@ abbrev pub conclusion_of : Concluded → ImageList → Conclusion
 conclusion_of concluded.Keeps list = keeps list
 conclusion_of (concluded.Fails cause) list = fails cause
 conclusion_of (concluded.Boots kernel) list = boots list kernel
+
+-- what a conclusion does to the list of images
+abbrev pub HasKept : Concluded → ImageList → ImageList → Type 0
+HasKept concluded.Keeps before after = Unit {0}
+HasKept (concluded.Fails cause) before after = after ≡ before
+HasKept (concluded.Boots kernel) before after = kernel < length after.images
+
+-- the program's conclusion is this one, with the list of images that it leaves; one that fails leaves the
+-- list, and one that boots names a place of it
+pub record Concludes (c : Concluded) (is : Conclusion) (before after : ImageList) : Type 0 where
+  pub same : is ≡ conclusion_of c after
+  pub kept : HasKept c before after

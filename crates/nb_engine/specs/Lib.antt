@@ -11,5 +11,7 @@ pub mod Fetches
 pub mod Handings
 pub mod Seen
 pub mod Turns
-pub mod Laws
+pub mod Advance
+pub mod Heeding
+pub mod Concluding
 pub mod Numbers

@@ -15,3 +15,9 @@ number_of WriteFault = 8
 number_of NoMemory = 9
 number_of AttachFault = 10
 number_of TooManyRecords = 11
+
+-- the statuses of a run whose first script was left
+abbrev pub IsLeftEnd : Status → Type 0
+IsLeftEnd Ended = Unit {0}
+IsLeftEnd ScriptFailed = Unit {0}
+IsLeftEnd _ = ⊥

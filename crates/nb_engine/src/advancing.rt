@@ -1,23 +1,46 @@
-ghost use Rattle.std.specs.Prelude.{◌≡◌};
+ghost use Rattle.std.specs.Prelude.{◌≡◌, ◌<◌, ◌∷◌, ◌++◌, [], length, true, false, Some};
+ghost use Rattle.nb_defs.specs.Records.{out_texts};
+ghost use Rattle.nb_record.specs.Logged.{Puts};
+ghost use Rattle.nb_engine.specs.Turns.{Acts, IsNearer};
+ghost use Rattle.nb_engine.specs.Effects.{effect, asks};
+ghost use Rattle.nb_engine.specs.CommandWords.{effect_of, wanted_of, TakesFewer, IsLocal};
+ghost use Rattle.nb_engine.specs.NextLine.{HasWords};
+ghost use Rattle.nb_engine.specs.Opens.{opened_record};
+ghost use Rattle.nb_engine.specs.Advance.{IfRunning, IsHanding};
+ghost use Rattle.nb_engine.specs.declared.stage.Stage.TheVariants as stage;
 
 use crate::causes::{OK, no_route};
-use crate::command::{Command, Wanted, carry_out, read_command};
+use crate::command::{Command, Refusal, Wanted, carry_out, read_command};
 use crate::put::{put_over, put_result, put_send};
 use crate::running::Next;
 use crate::status::status_after;
 use crate::world::own_port;
-use crate::{Client, Fetch, Stage, Status, Turn};
-use nb_image::Body;
-use nb_record::{Acts, Log, NoMemory, OutRec, SendTo};
-use nb_stack::Fate;
-use nb_tftp::Transfer;
+use crate::{Client, Fetch, RunningScript, Stage, Status, Turn};
+use nb_record::{Acts, Cause, Log, NoMemory, OutRec};
+use nb_stack::Stack;
 use nb_uri::TFTP_PORT;
-use nb_wire::{Text, Word};
+use nb_wire::Word;
+use std::mem;
+
+/// UDP (RFC 768).
+const UDP: u8 = 17;
+
+/// The kind of an open by TFTP, as its record names it.
+const TFTP: u8 = 1;
+
+/// Puts the request of an open, its first try. False where there is no way to the server.
+fn put_request(net: &mut Stack, number: u16, acts: &Acts, log: &mut Log) -> bool
+{
+    match acts.sends.as_slice().first() {
+        Some(send) => put_send(net, number, acts.tried, send, log),
+        None => false,
+    }
+}
 
 impl Client {
     /// Does the next line of the script.
     pub(crate) fn advance(&mut self, log: &mut Log) -> Turn
-        requires { IsRunning self.old.stage }
+        requires { IfRunning self.old.stage (λ s. s.passed ≡ s.passed) }
         ensures does { Acts result [] self.old self.new log.old log.new }
         ensures nearer { IsNearer result self.old self.new }
     {
@@ -38,13 +61,144 @@ impl Client {
 
     /// Does the words of the script's next line.
     fn line(&mut self, words: &[Word], log: &mut Log) -> Turn
+        requires { IfRunning self.old.stage (λ s. HasWords s words.now) }
+        ensures does { Acts result [] self.old self.new log.old log.new }
+        ensures nearer { IsNearer result self.old self.new }
     {
         if words.is_empty() {
             return self.pass();
         }
         match read_command(self.world.opens, words) {
             Ok(Command::Fetch(wanted)) => self.fetch(words, &wanted, log),
-            command => self.do_at_once(words, command, log),
+            command => self.carry_out(words, command, log),
+        }
+    }
+
+    /// Passes a line that is nothing.
+    fn pass(&mut self) -> Turn
+        requires { IfRunning self.old.stage (λ s. HasWords s []) }
+        ensures turn { result ≡ turn.More }
+        ensures after { IfRunning self.old.stage (λ s. self.new ≡ seen self.old.used self.old.world (stage.Running (further s s.last))) }
+    {
+        let Stage::Running(script) = &mut self.stage else {
+            unreachable!()
+        };
+        script.pass();
+        Turn::More
+    }
+
+    /// Does a command that is over at once.
+    fn carry_out(&mut self, words: &[Word], command: Result<Command<'_>, Refusal>, log: &mut Log) -> Turn
+        requires words { IfRunning self.old.stage (λ s. HasWords s words.now) }
+        requires some { 0 < length words.now }
+        requires local { IsLocal command }
+        requires fewer { TakesFewer words.now command }
+        requires value { effect self.old.world.opens words.now ≡ effect_of command }
+        ensures does { Acts result [] self.old self.new log.old log.new }
+        ensures nearer { IsNearer result self.old self.new }
+    {
+        let alloc = self.alloc;
+        let Stage::Running(script) = &mut self.stage else {
+            unreachable!()
+        };
+        match carry_out(alloc, command) {
+            Ok(done) => match script.finish(words, &done, log) {
+                Some(cause) => {
+                    self.stage = Stage::Left(cause);
+                    Turn::Over(status_after(cause))
+                }
+                None => Turn::More,
+            },
+            Err(NoMemory) => Turn::Over(Status::NoMemory),
+        }
+    }
+
+    /// Begins an open for a file; the script's command waits for it.
+    fn fetch(&mut self, words: &[Word], wanted: &Wanted<'_>, log: &mut Log) -> Turn
+        requires words { IfRunning self.old.stage (λ s. HasWords s words.now) }
+        requires some { 0 < length words.now }
+        requires value { effect self.old.world.opens words.now ≡ asks (wanted_of wanted.now) }
+        ensures does { Acts result [] self.old self.new log.old log.new }
+        ensures nearer { IsNearer result self.old self.new }
+    {
+        let number = self.world.opens;
+        let own_port = own_port(self.world.w, number);
+        let mut acts = Acts::none();
+        match Fetch::begin(self.alloc, number, own_port, wanted, self.world.time, &mut acts) {
+            Ok(fetch) => {
+                self.put_opened(words, wanted, own_port, log);
+                self.ask(fetch, &acts, log)
+            }
+            Err(NoMemory) => Turn::Over(Status::NoMemory),
+        }
+    }
+
+    /// Puts that the command begins, and the open.
+    fn put_opened(&self, words: &[Word], wanted: &Wanted<'_>, own: u16, log: &mut Log)
+        requires { IfRunning self.now.stage (λ s. HasWords s words.now) }
+        ensures { IfRunning self.now.stage (λ s. Puts log.old log.new
+            (out_texts (command_record s words.now ∷ opened_record self.now.world (wanted_of wanted.now) ∷ []))) }
+    {
+        let Stage::Running(script) = &self.stage else {
+            unreachable!()
+        };
+        script.put_begun(words, log);
+        log.put(&OutRec::Opened {
+            number: self.world.opens,
+            kind: TFTP,
+            server: wanted.target.server,
+            port: TFTP_PORT,
+            own,
+            target: wanted.target.path,
+        });
+    }
+
+    /// Sends the request. Without a way to the server the open has ended, and the script is left.
+    fn ask(&mut self, fetch: Fetch, acts: &Acts, log: &mut Log) -> Turn
+    {
+        let Stage::Running(script) = mem::replace(&mut self.stage, Stage::Stopped) else {
+            unreachable!()
+        };
+        if put_request(&mut self.world.net, fetch.number, acts, log) {
+            self.wait(script, fetch)
+        } else {
+            put_over(fetch.number, no_route(fetch.server), log);
+            self.fail(script, no_route(fetch.server), log)
+        }
+    }
+
+    /// The script's command waits for this fetch, whose port is bound.
+    fn wait(&mut self, script: RunningScript, fetch: Fetch) -> Turn
+    {
+        let _ = self.world.net.bind(UDP, fetch.own_port, u64::from(fetch.number));
+        self.world.opens += 1;
+        self.stage = Stage::Waiting(script, fetch);
+        Turn::Waiting
+    }
+
+    /// The script's command fails, and the script is left.
+    pub(crate) fn fail(&mut self, script: RunningScript, cause: Cause, log: &mut Log) -> Turn
+    {
+        put_result(cause, log);
+        script.put_leave(cause, log);
+        self.stage = Stage::Left(cause);
+        Turn::Over(status_after(cause))
+    }
+
+    /// Puts the next piece of the hand-off.
+    pub(crate) fn hand_on(&mut self, log: &mut Log) -> Turn
+        requires { IsHanding self.old.stage }
+        ensures does { Acts result [] self.old self.new log.old log.new }
+        ensures nearer { IsNearer result self.old self.new }
+    {
+        let Stage::HandingOff(handing) = &mut self.stage else {
+            unreachable!()
+        };
+        if handing.put_piece(&self.world.images, log) {
+            Turn::More
+        } else {
+            self.stage = Stage::HandedOff;
+            Turn::Over(Status::HandedOff)
         }
     }
 }

@@ -1,7 +1,7 @@
 ghost use Rattle.std.specs.Prelude.{◌≡◌, [], None, option_map, IfOk, IfErr, OnErr};
 ghost use Rattle.nb_image.specs.Images.{image_of};
 ghost use Rattle.nb_engine.specs.Conclusions.{conclusion, cause_of_error, is_bootable};
-ghost use Rattle.nb_engine.specs.Fetches.{conclusion_of};
+ghost use Rattle.nb_engine.specs.Fetches.{Concludes};
 
 use crate::Fetch;
 use crate::causes::{NOT_BOOTABLE, NO_MEMORY, TOO_LARGE_IMAGES, TOO_MANY_IMAGES};
@@ -49,17 +49,10 @@ pub fn conclude(
     fetch: Fetch,
     cause: Cause,
 ) -> Result<Conclusion, NoMemory>
-    ensures { IfOk result (λ c. conclusion cause fetch.boots (image_of fetch.name fetch.body [] fetch.uri) images.old ≡ conclusion_of c images.new) }
-    ensures { IfOk result (λ c. IfFails c (images.new ≡ images.old)) }
+    ensures { IfOk result (λ c. Concludes c (conclusion cause fetch.boots (image_of fetch.name fetch.body [] fetch.uri) images.old) images.old images.new) }
 {
     if cause.code != 0 {
         return Ok(Conclusion::Fails(cause));
-    }
-    if let Some(error) = images.refuses(fetch.name.as_slice(), &fetch.body) {
-        return Ok(Conclusion::Fails(cause_of(error)));
-    }
-    if fetch.boots && !is_bootable(fetch.body.kind()) {
-        return Ok(Conclusion::Fails(NOT_BOOTABLE));
     }
     store(alloc, images, fetch)
 }

@@ -1,15 +1,24 @@
-ghost use Rattle.std.specs.Prelude.{◌≡◌, ◌≤◌, ◌++◌, ◌⊎◌, [], length, IfOk, OnOk, OnErr, Option, IfSome};
+ghost use Rattle.std.specs.Prelude.{◌≡◌, ◌≤◌, ◌++◌, ◌⊎◌, [], length, IfOk, OnOk, OnErr, Some};
+ghost use Rattle.nb_tftp.specs.Asks.{begun, sending};
 ghost use Rattle.nb_tftp.specs.Received.{received};
+ghost use Rattle.nb_tftpmsg.specs.Texts.{HasNoZero};
+ghost use Rattle.nb_engine.specs.declared.world.World.{World};
+ghost use Rattle.nb_engine.specs.World.{own_port as own_port_of};
+ghost use Rattle.nb_engine.specs.CommandWords.{wanted_of};
+ghost use Rattle.nb_engine.specs.Opens.{open_for, request_of};
 ghost use Rattle.nb_tftp.specs.History.{came, ticked};
 ghost use Rattle.nb_engine.specs.Opens.{end_of, is_over_limit};
-ghost use Rattle.nb_engine.specs.Fetches.{TakesCall, given_bytes, IsSameFetch};
+ghost use Rattle.nb_engine.specs.Fetches.{TakesCall, given_bytes, IsSameFetch, IsLive};
 ghost use Rattle.nb_tftp.specs.Sound.{IsRange};
 
+use crate::Wanted;
 use crate::causes::TOO_LARGE_IMAGE;
 use nb_image::{Body, PushError};
 use nb_record::{Acts, Cause, NoMemory};
 use nb_tftp::Transfer;
+use nb_uri::TFTP_PORT;
 use nb_wire::{Ip4, Text};
+use std::alloc::Global;
 
 /// A fetch under way: its open, what it is to become, its transfer, and what has come of the file.
 #[derive(Drop)]
@@ -37,6 +46,13 @@ pub struct Heard {
     pub(crate) end: Option<Cause>,
 }
 
+/// A copy of these bytes.
+fn copy(alloc: Global, bytes: &[u8]) -> Result<Text, NoMemory>
+    ensures { IfOk result (λ text. text ≡ bytes.now) }
+{
+    Ok(Text::from_vec(Vec::from_slice(alloc, bytes)?))
+}
+
 /// The bytes of a message that go up.
 fn given(give: Option<(u32, u32)>, body: &[u8]) -> &[u8]
     requires { IsRange give (length body.now) }
@@ -49,6 +65,39 @@ fn given(give: Option<(u32, u32)>, body: &[u8]) -> &[u8]
 }
 
 impl Fetch {
+    /// Begins a fetch: its request is asked for, as its first try. The number and the port are the open's.
+    pub fn begin(
+        alloc: Global,
+        number: u16,
+        own_port: u16,
+        wanted: &Wanted<'_>,
+        now: u64,
+        acts: &mut Acts,
+    ) -> Result<Fetch, NoMemory>
+        requires clean { HasNoZero wanted.now.target.path.now }
+        requires fits { length wanted.now.target.path.now ≤ 1024 }
+        ensures live { IfOk result (λ f. (w : World) → w.opens ≡ number → own_port ≡ own_port_of w.w number → w.time ≡ now
+            → IsLive f (open_for w (wanted_of wanted.now))) }
+        ensures request { IfOk result (λ f. acts.new ≡ sending (request_of (begun wanted.now.target.server 69 own_port wanted.now.target.path.now)) (Some 1)) }
+    {
+        let target = &wanted.target;
+        let name = copy(alloc, target.name)?;
+        let uri = copy(alloc, wanted.uri)?;
+        match Transfer::start(number, target.server, TFTP_PORT, own_port, target.path, now, acts) {
+            Ok(transfer) => Ok(Fetch {
+                number,
+                server: target.server,
+                own_port,
+                name,
+                uri,
+                boots: wanted.boots,
+                transfer,
+                body: Body::new(alloc),
+            }),
+            Err(_) => unreachable!(),
+        }
+    }
+
     /// A datagram comes from this port of the server, in the record of this number.
     pub fn message(
         &mut self,

@@ -1,8 +1,9 @@
 ghost use Rattle.std.specs.Prelude.{◌≡◌, ◌≤◌, [], ◌∷◌, ◌++◌, length, Some, true};
 ghost use Rattle.nb_defs.specs.Records.{out_texts, step, ended, enter, leave, result as result_record};
 ghost use Rattle.nb_record.specs.Logged.{Puts};
-ghost use Rattle.nb_engine.specs.Opens.{try_records, send_records, sends_records, advance_records, acts_records};
+ghost use Rattle.nb_engine.specs.Opens.{try_records, send_records, sends_records, advance_records, acts_records, has_route};
 ghost use Rattle.nb_engine.specs.Machine.{reply_records};
+ghost use Rattle.nb_engine.specs.Heeding.{IsReply};
 ghost use Rattle.nb_tftp.specs.Sound.{IsSound, AreUdp};
 
 use nb_record::{Acts, Cause, Log, OutRec, SendTo};
@@ -85,16 +86,24 @@ fn put_sends(net: &mut Stack, number: u16, tried: Option<u8>, sends: &[SendTo], 
 
 /// Puts a message's frame, or the ARP request for its next hop, behind its try. Nothing is put where it
 /// finds no route.
-pub fn put_send(net: &mut Stack, number: u16, tried: Option<u8>, send: &SendTo, log: &mut Log)
+pub fn put_send(
+    net: &mut Stack,
+    number: u16,
+    tried: Option<u8>,
+    send: &SendTo,
+    log: &mut Log,
+) -> bool
     requires udp { send.now.proto ≡ 17 }
+    ensures route { result ≡ has_route net.old send.now }
     ensures puts { Puts log.old log.new (out_texts (send_records net.old number tried send.now)) }
     ensures same { net.new ≡ net.old }
 {
     let mut room = [0; MAX_FRAME];
     let mut out = Out::new(&mut room);
     if let Fate::NoRoute = net.send(send, &mut out) {
-        return;
+        return false;
     }
     put_try(number, tried, log);
     log.put(&OutRec::Frame(out.written()));
+    true
 }

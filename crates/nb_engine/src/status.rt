@@ -1,10 +1,13 @@
 ghost use Rattle.std.specs.Prelude.{◌≡◌};
-ghost use Rattle.nb_engine.specs.StatusNumber.{number_of};
+ghost use Rattle.nb_engine.specs.StatusNumber.{number_of, IsLeftEnd};
+ghost use Rattle.nb_engine.specs.Machine.{status_of};
+
+use nb_record::Cause;
 
 /// How a run ended; its number is the program's exit status.
 #[derive(Clone, Copy, Debug, PartialEq, Eq)]
 pub enum Status {
-    /// A command handed off. No command does so yet.
+    /// A command handed off.
     HandedOff,
     /// The words are of no form; nothing was attached.
     BadWords,
@@ -12,7 +15,7 @@ pub enum Status {
     Ended,
     /// The first script ended in a failed result.
     ScriptFailed,
-    /// The input ended, or OFF came, while a command waited. No command waits yet.
+    /// The input ended, or OFF came, while a command waited.
     Unfinished,
     /// No record of the grammar stands at that place, or the input ended before START or inside it.
     BadRecord,
@@ -24,7 +27,7 @@ pub enum Status {
     NoMemory,
     /// The line could not be attached.
     AttachFault,
-    /// Every record number was given, and another record begins. No run uses more than one yet.
+    /// Every record number was given, and another record begins.
     TooManyRecords,
 }
 
@@ -46,5 +49,17 @@ impl Status {
             Status::AttachFault => 10,
             Status::TooManyRecords => 11,
         }
+    }
+}
+
+/// How a run ends whose first script was left with this cause.
+pub fn status_after(cause: Cause) -> Status
+    ensures value { number_of result ≡ status_of cause }
+    ensures kind { IsLeftEnd result }
+{
+    if cause.code == 0 {
+        Status::Ended
+    } else {
+        Status::ScriptFailed
     }
 }

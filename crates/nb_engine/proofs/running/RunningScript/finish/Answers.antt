@@ -5,7 +5,7 @@ use Rattle.nb_defs.specs.Commands.{Outcome}
 use Rattle.nb_engine.specs.Machine.{ends_script, command_records}
 use Rattle.nb_engine.specs.CommandWords.{done_of}
 use Rattle.nb_engine.proofs.Puts.{Puts-outs}
-use Rattle.nb_engine.proofs.running.RunningScript.command.Goals as goal
+use Rattle.nb_engine.proofs.running.RunningScript.finish.Goals as goal
 
 pub returns-then-ends-clause-done : goal.returns-then-ends-clause-done
 returns-then-ends-clause-done c =

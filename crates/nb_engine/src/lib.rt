@@ -1,0 +1,30 @@
+// The engine of a run: a client that uses records, runs its script, fetches files and hands an image off.
+// Its contract is the script machine of specs/Machine.antt: each call's records are a step of it. It leaves
+// out all commands but `echo`, `exit`, `imgfetch` and `imgexec` with a TFTP server's address, and what
+// scripts have beside plain lines. Begin with `Client`.
+#![tactic(auto)]
+
+mod advancing;
+mod causes;
+mod client;
+mod command;
+mod conclusion;
+mod fetch;
+mod handing;
+mod heeding;
+mod number;
+mod put;
+mod running;
+mod stage;
+mod status;
+mod steps;
+mod world;
+
+pub use client::{Client, Turn};
+pub use command::Wanted;
+pub use fetch::Fetch;
+pub use handing::Handing;
+pub use running::RunningScript;
+pub use stage::Stage;
+pub use status::Status;
+pub use world::World;
