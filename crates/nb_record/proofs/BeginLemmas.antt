@@ -1,26 +1,15 @@
--- Bytes with which a record can begin: a front of them can begin too, each record can, and with bytes that
--- can't no record begins.
-use Rattle.std.proofs.Common.{◌≡◌, ℕ, zero, suc, ◌+◌, ◌<◌, ◌≤◌, List, [], ◌∷◌, ◌++◌, length, get_or, take, drop, refl, sym, ap, subst, ◌∙◌, arith, inl, inr, lit≤, lit<}
+-- Bytes with which a record of a kind can begin: a front of them can begin too, each record can, and with
+-- bytes that can't no record begins.
+use Rattle.std.proofs.Common.{◌≡◌, ℕ, zero, suc, ◌+◌, ◌<◌, ◌≤◌, List, [], ◌∷◌, ◌++◌, length, get_or, take, drop, refl, sym, ap, subst, ◌∙◌, arith, lit≤, lit<}
 use Rattle.std.specs.Int.{w16, w32, to_be_bytes, from_be_bytes}
-use Rattle.std.proofs.lemmas.Bool.{cases_lt}
-use Rattle.std.proofs.lemmas.List.{length-append, length-take, take-append-le, get_or-drop, get_or-take, get_or_past, get_or_default}
-use Rattle.std.proofs.lemmas.Nat.{from_be_bytes-to_be_bytes_4}
-use Rattle.nb_defs.specs.Records.{Start, In, start, IsStart, IsIn, start_body, in_text, IsBroken}
-use Rattle.nb_defs.proofs.RecordLaws.{fields, start_body-is, in_text-is, length-fields, record_stands}
-use Rattle.nb_record.specs.Reading.{lead, length_with, CanBegin}
-
-abbrev pub IsBytes : List ℕ → Type 0
-IsBytes bytes = (i : ℕ) → get_or bytes i 0 < 256
-
-pub IsBytes-drop : (n : ℕ) (bytes : List ℕ) → IsBytes bytes → IsBytes (drop n bytes)
-IsBytes-drop n bytes h i = rw get_or-drop (h (n + i))
-
-pub IsBytes-take : (n : ℕ) (bytes : List ℕ) → IsBytes bytes → IsBytes (take n bytes)
-IsBytes-take n bytes h i =
-    elim (cases_lt i n) [
-      | inl lt ↦ rw (get_or-take n bytes i 0 lt) (h i)
-      | inr le ↦ rw (get_or_past (take n bytes) i 0 (omega (arith, length-take n bytes))) (omega arith)
-    ]
+use Rattle.std.proofs.lemmas.List.{get_or-drop, get_or-take}
+use Rattle.std.proofs.lemmas.Nat.{from_be_bytes-to_be_bytes_2, from_be_bytes-to_be_bytes_4}
+use Rattle.nb_defs.specs.Records.{Start, In, start, frame, tick, off, IsStart, IsIn, record_text, start_body, in_text, IsBroken}
+use Rattle.nb_defs.proofs.StartLaws.{fields, start_body-is, start_text-is, length-start_body, record_stands}
+use Rattle.nb_defs.proofs.RecordLaws.{type_of, body_of, in_text-is, body_fits}
+use Rattle.nb_record.specs.declared.kind.Kind.{Kind}
+use Rattle.nb_record.specs.declared.kind.Kind.TheVariants as kind
+use Rattle.nb_record.specs.Reading.{lead, length_with, ms_with, number_of, least_length, greatest_length, BodyBeginsAs, BeginsAs, CanBegin}
 
 -- ---- a front of what can begin can begin
 
@@ -39,96 +28,136 @@ above_front [] b i h = h
 above_front (x ∷ a) b zero h = omega arith
 above_front (x ∷ a) b (suc i) h = above_front a b i h
 
+-- the length's bytes are bytes
+abbrev pub LeadFits : List ℕ → Type 0
+LeadFits a = (get_or a 0 255 ≤ 255) × (get_or a 1 255 ≤ 255) × (get_or a 2 255 ≤ 255) × (get_or a 3 255 ≤ 255)
+
+-- and so are those of the milliseconds
+abbrev pub BodyFits : Kind → List ℕ → Type 0
+BodyFits kind.Start a = Unit {0}
+BodyFits kind.Frame a = Unit {0}
+BodyFits kind.Tick a = (get_or a 5 255 ≤ 255) × (get_or a 6 255 ≤ 255)
+BodyFits kind.Off a = Unit {0}
+
 least_front : (a b : List ℕ) → length_with 0 a ≤ length_with 0 (a ++ b)
 unfolding length_with
 least_front a b = omega (arith, below_front a b 0, below_front a b 1, below_front a b 2, below_front a b 3)
-
-abbrev pub LeadFits : List ℕ → Type 0
-LeadFits a = (get_or a 0 255 ≤ 255) × (get_or a 1 255 ≤ 255) × (get_or a 2 255 ≤ 255) × (get_or a 3 255 ≤ 255)
 
 greatest_front : (a b : List ℕ) → LeadFits (a ++ b) → length_with 255 (a ++ b) ≤ length_with 255 a
 unfolding length_with
 greatest_front a b h =
     omega (arith, above_front a b 0 h.0, above_front a b 1 h.1, above_front a b 2 h.2, above_front a b 3 h.3)
 
-pub can_begin_front : (a b : List ℕ) → LeadFits (a ++ b) → CanBegin (a ++ b) → CanBegin a
-can_begin_front a b h p = record {
+least_ms_front : (a b : List ℕ) → ms_with 0 a ≤ ms_with 0 (a ++ b)
+unfolding ms_with
+least_ms_front a b = omega (arith, below_front a b 5, below_front a b 6)
+
+most_ms_front : (a b : List ℕ) → BodyFits kind.Tick (a ++ b) → ms_with 255 (a ++ b) ≤ ms_with 255 a
+unfolding ms_with
+most_ms_front a b h = omega (arith, above_front a b 5 h.0, above_front a b 6 h.1)
+
+body_front : (k : Kind) (a b : List ℕ) → BodyFits k (a ++ b) → BodyBeginsAs k (a ++ b) → BodyBeginsAs k a
+body_front kind.Start a b h p = (default_front a b 5 1 p.0, omega (arith, below_front a b 62, p.1))
+body_front kind.Frame a b h p = tt
+body_front kind.Tick a b h p = (omega (arith, most_ms_front a b h, p.0), omega (arith, least_ms_front a b, p.1))
+body_front kind.Off a b h p = tt
+
+pub begins_front : (k : Kind) (a b : List ℕ) → LeadFits (a ++ b) → BodyFits k (a ++ b) → BeginsAs k (a ++ b) → BeginsAs k a
+begins_front k a b h g p = record {
   least = omega (arith, least_front a b, p.least);
   greatest = omega (arith, greatest_front a b h, p.greatest);
-  kind = default_front a b 4 1 p.kind;
-  version = default_front a b 5 1 p.version;
-  w_high = omega (arith, below_front a b 62, p.w_high);
+  number = default_front a b 4 (number_of k) p.number;
+  body = body_front k a b g p.body;
 }
 
 -- ---- a record can begin
 
-length_with-in_text : (d : ℕ) (s : Start) (rest : List ℕ) → IsStart s → length_with d (in_text (start s) ++ rest) ≡ 76 + length s.script
+-- the kind of a record
+abbrev pub kind_of : In → Kind
+kind_of (start s) = kind.Start
+kind_of (frame bytes) = kind.Frame
+kind_of (tick ms) = kind.Tick
+kind_of off = kind.Off
+
+type-is : (r : In) → type_of r ≡ number_of (kind_of r)
+type-is (start s) = refl
+type-is (frame bytes) = refl
+type-is (tick ms) = refl
+type-is off = refl
+
+length_with-in_text : (d : ℕ) (r : In) (rest : List ℕ) → IsIn r → length_with d (in_text r ++ rest) ≡ length (body_of r) + 1
 unfolding length_with
-length_with-in_text d s rest ok =
-    let len : length (start_body s) + 1 ≡ 76 + length s.script = rw (start_body-is s) (omega (arith, length-fields s ok)) in
-    ap (λ (x : List ℕ). from_be_bytes w32 (lead d (x ++ rest))) (in_text-is s)
-    ∙ ap (λ (n : ℕ). from_be_bytes w32 (to_be_bytes w32 n)) len
-    ∙ from_be_bytes-to_be_bytes_4 (76 + length s.script) (omega (arith, ok.script_fits))
+length_with-in_text d r rest ok =
+    ap (λ (x : List ℕ). from_be_bytes w32 (lead d (x ++ rest))) (in_text-is r)
+    ∙ from_be_bytes-to_be_bytes_4 (length (body_of r) + 1) (omega (arith, body_fits r ok))
 
-lead_fits : (s : Start) (rest : List ℕ) → LeadFits (in_text (start s) ++ rest)
-lead_fits s rest =
-    subst (λ (x : List ℕ). LeadFits (x ++ rest)) (sym (in_text-is s)) (omega arith, omega arith, omega arith, omega arith)
+lead_fits : (r : In) (rest : List ℕ) → LeadFits (in_text r ++ rest)
+lead_fits r rest =
+    subst (λ (x : List ℕ). LeadFits (x ++ rest)) (sym (in_text-is r)) (omega arith, omega arith, omega arith, omega arith)
 
-record_can_begin : (s : Start) (rest : List ℕ) → IsStart s → CanBegin (in_text (start s) ++ rest)
-record_can_begin s rest ok =
+text_fits : (r : In) (rest : List ℕ) → BodyFits (kind_of r) (in_text r ++ rest)
+unfolding record_text
+text_fits (start s) rest = tt
+text_fits (frame bytes) rest = tt
+text_fits (tick ms) rest = (omega arith, omega arith)
+text_fits off rest = tt
+
+number-in_text : (r : In) (rest : List ℕ) → get_or (in_text r ++ rest) 4 (number_of (kind_of r)) ≡ number_of (kind_of r)
+number-in_text r rest = ap (λ (x : List ℕ). get_or (x ++ rest) 4 (number_of (kind_of r))) (in_text-is r) ∙ type-is r
+
+-- a record's length is one of its kind
+length_in : (r : In) → IsIn r → (least_length (kind_of r) ≤ length (body_of r) + 1) × (length (body_of r) + 1 ≤ greatest_length (kind_of r))
+length_in (start s) ok = (omega (arith, length-start_body s ok), omega (arith, length-start_body s ok, ok.script_fits))
+length_in (frame bytes) ok = (omega (arith, ok.least), omega (arith, ok.most))
+length_in (tick ms) ok = (lit≤ tt, lit≤ tt)
+length_in off ok = (lit≤ tt, lit≤ tt)
+
+ms_with-in_text : (d ms : ℕ) (rest : List ℕ) → IsIn (tick ms) → ms_with d (in_text (tick ms) ++ rest) ≡ ms
+unfolding ms_with record_text
+ms_with-in_text d ms rest ok = from_be_bytes-to_be_bytes_2 ms (omega (arith, ok.most))
+
+start_begins : (s : Start) (rest : List ℕ) → IsStart s → BodyBeginsAs kind.Start (in_text (start s) ++ rest)
+start_begins s rest ok =
     let text : in_text (start s) ≡ to_be_bytes w32 (length (start_body s) + 1) ++ (1 ∷ 1 ∷ fields s) =
-    in_text-is s ∙ ap (λ (x : List ℕ). to_be_bytes w32 (length (start_body s) + 1) ++ (1 ∷ x)) (start_body-is s) in
+    start_text-is s ∙ ap (λ (x : List ℕ). to_be_bytes w32 (length (start_body s) + 1) ++ (1 ∷ x)) (start_body-is s) in
     let whole = in_text (start s) ++ rest in
     let w : get_or whole 62 0 ≡ get_or (to_be_bytes w16 s.w) 0 0 =
     sym (get_or-drop 62 whole 0 0) ∙ sym (get_or-take 2 (drop 62 whole) 0 0 (lit< tt)) ∙ ap (λ (x : List ℕ). get_or x 0 0) (record_stands s rest ok).w in
+    (ap (λ (x : List ℕ). get_or (x ++ rest) 5 1) text, omega (arith, w, ok.w_fits))
+
+body_begins : (r : In) (rest : List ℕ) → IsIn r → BodyBeginsAs (kind_of r) (in_text r ++ rest)
+body_begins (start s) rest ok = start_begins s rest ok
+body_begins (frame bytes) rest ok = tt
+body_begins (tick ms) rest ok = (omega (arith, ms_with-in_text 255 ms rest ok, ok.least), omega (arith, ms_with-in_text 0 ms rest ok, ok.most))
+body_begins off rest ok = tt
+
+record_begins : (r : In) (rest : List ℕ) → IsIn r → BeginsAs (kind_of r) (in_text r ++ rest)
+record_begins r rest ok =
+    let len = length_in r ok in
     record {
-      least = omega (arith, length_with-in_text 0 s rest ok, ok.script_fits);
-      greatest = omega (arith, length_with-in_text 255 s rest ok);
-      kind = ap (λ (x : List ℕ). get_or (x ++ rest) 4 1) text;
-      version = ap (λ (x : List ℕ). get_or (x ++ rest) 5 1) text;
-      w_high = omega (arith, w, ok.w_fits);
+      least = omega (arith, length_with-in_text 0 r rest ok, len.1);
+      greatest = omega (arith, length_with-in_text 255 r rest ok, len.0);
+      number = number-in_text r rest;
+      body = body_begins r rest ok;
     }
 
 can_begin_of : (r : In) (bytes more rest : List ℕ) → IsIn r → bytes ++ more ≡ in_text r ++ rest → CanBegin bytes
-can_begin_of (start s) bytes more rest ok e =
-    can_begin_front bytes more
-    (subst (λ (x : List ℕ). LeadFits x) (sym e) (lead_fits s rest))
-    (subst (λ (x : List ℕ). CanBegin x) (sym e) (record_can_begin s rest ok))
+can_begin_of r bytes more rest ok e = record {
+  which = kind_of r;
+  begins = begins_front (kind_of r) bytes more
+      (subst (λ (x : List ℕ). LeadFits x) (sym e) (lead_fits r rest))
+      (subst (λ (x : List ℕ). BodyFits (kind_of r) x) (sym e) (text_fits r rest))
+      (subst (λ (x : List ℕ). BeginsAs (kind_of r) x) (sym e) (record_begins r rest ok));
+}
 
 -- with bytes that can't begin no record begins
 pub broken : (bytes : List ℕ) → (CanBegin bytes → ⊥) → IsBroken bytes
 broken bytes never r more rest valid e = never (can_begin_of r bytes more rest valid e)
 
--- ---- what is whole is spelled so
-
--- ---- the length
-
-pub lead-take : (d : ℕ) (bytes : List ℕ) → 4 ≤ length bytes → lead d bytes ≡ take 4 bytes
-lead-take d [] h = absurd (omega arith)
-lead-take d (a ∷ []) h = absurd (omega arith)
-lead-take d (a ∷ b ∷ []) h = absurd (omega arith)
-lead-take d (a ∷ b ∷ c ∷ []) h = absurd (omega arith)
-lead-take d (a ∷ b ∷ c ∷ e ∷ bytes) h = refl
-
--- with four bytes the length is known
-pub length_known : (bytes : List ℕ) → 4 ≤ length bytes → length_with 255 bytes ≡ length_with 0 bytes
-unfolding length_with
-length_known bytes h = ap (λ (x : List ℕ). from_be_bytes w32 x) (lead-take 255 bytes h ∙ sym (lead-take 0 bytes h))
-
-pub fits_at : (bytes : List ℕ) (i : ℕ) → IsBytes bytes → get_or bytes i 255 ≤ 255
-fits_at bytes i fits =
-    elim (cases_lt i (length bytes)) [
-      | inl lt ↦ let e : get_or bytes i 255 ≡ get_or bytes i 0 = get_or_default bytes i 255 0 lt in omega (arith, fits i)
-      | inr le ↦ rw (get_or_past bytes i 255 le) (lit≤ tt)
-    ]
-
-pub length_front : (a b : List ℕ) → 4 ≤ length a → length_with 0 (a ++ b) ≡ length_with 0 a
-unfolding length_with
-length_front a b h =
-    ap (λ (x : List ℕ). from_be_bytes w32 x)
-    (lead-take 0 (a ++ b) (omega (arith, length-append a b)) ∙ take-append-le 4 a b h ∙ sym (lead-take 0 a h))
-
 -- with no bytes a record can begin
 pub nothing_begins : CanBegin []
 unfolding length_with
-nothing_begins = record { least = lit≤ tt; greatest = lit≤ tt; kind = refl; version = refl; w_high = lit< tt }
+nothing_begins = record {
+  which = kind.Off;
+  begins = record { least = lit≤ tt; greatest = lit≤ tt; number = refl; body = tt };
+}

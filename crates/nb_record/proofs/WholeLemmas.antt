@@ -1,160 +1,126 @@
--- Bytes that are whole, as the reading sees it, are the spelling of the record whose fields are read from them.
-use Rattle.std.proofs.Common.{◌≡◌, ℕ, ◌+◌, ◌^◌, ◌<◌, ◌≤◌, List, ◌∷◌, ◌++◌, length, get_or, take, drop, refl, sym, ap, subst, ◌∙◌, arith, lit<}
+-- Bytes that are whole, as the reading sees it, are the spelling of the record that is read from them.
+use Rattle.std.proofs.Common.{◌≡◌, ℕ, ◌+◌, ◌*◌, ◌<◌, ◌≤◌, List, [], ◌∷◌, ◌++◌, length, get_or, take, drop, refl, sym, ap, subst, ◌∙◌, arith, lit<}
 use Rattle.std.specs.Int.{w16, w32, to_be_bytes, from_be_bytes}
-use Rattle.std.proofs.lemmas.List.{length-take, length-drop, take-append-drop, drop-drop, drop_more, get_or-drop, get_or-take}
-use Rattle.std.proofs.lemmas.Nat.{be_bytes_2, be_bytes_4}
-use Rattle.nb_defs.specs.Records.{Start, start, IsStart, start_body, in_text}
-use Rattle.nb_defs.proofs.RecordLaws.{start_at, fields, start_body-is, in_text-is, make, make-same}
-use Rattle.nb_record.specs.Reading.{length_with, CanBegin, whole_len}
+use Rattle.std.proofs.lemmas.List.{length-take, length-drop, take-append-drop, drop_more, drop_all, take_all, get_or-drop, get_or-take}
+use Rattle.std.proofs.lemmas.Nat.{be_bytes_4}
+use Rattle.nb_defs.specs.Records.{In, start, frame, tick, off, IsIn, IsTick, in_text}
+use Rattle.nb_defs.proofs.StartLaws.{start_at}
+use Rattle.nb_defs.proofs.RecordLaws.{type_of, body_of, in_text-is, in_by}
+use Rattle.nb_record.specs.declared.kind.Kind.{Kind}
+use Rattle.nb_record.specs.declared.kind.Kind.TheVariants as kind
+use Rattle.nb_record.specs.Reading.{length_with, ms_with, number_of, least_length, greatest_length, BodyBeginsAs, BeginsAs, whole_len}
 use Rattle.nb_record.specs.Held.{IsFront}
-use Rattle.nb_record.proofs.BeginLemmas.{IsBytes, IsBytes-drop, IsBytes-take, LeadFits, can_begin_front, lead-take, length_known, fits_at, length_front}
+use Rattle.nb_record.proofs.BeginLemmas.{begins_front, LeadFits, BodyFits}
+use Rattle.nb_record.proofs.KnownLemmas.{IsBytes, IsBytes-take, IsBytes-lead, IsBytes-body, lead-take, length_known, length_front, lengths}
+use Rattle.nb_record.proofs.StartLemmas.{back2, below2, start_at-valid, start_body-at}
 
-split : (bytes : List ℕ) (n m : ℕ) → take m (drop n bytes) ++ drop (n + m) bytes ≡ drop n bytes
-split bytes n m = ap (λ (x : List ℕ). take m (drop n bytes) ++ x) (sym (drop-drop m n bytes)) ∙ take-append-drop m (drop n bytes)
-
-nine : (a b c d e f g h i j r1 r2 r3 r4 r5 r6 r7 r8 r9 : List ℕ)
-    → a ++ r2 ≡ r1 → b ++ r3 ≡ r2 → c ++ r4 ≡ r3 → d ++ r5 ≡ r4 → e ++ r6 ≡ r5 → f ++ r7 ≡ r6 → g ++ r8 ≡ r7 → h ++ r9 ≡ r8 → i ++ j ≡ r9
-    → a ++ (b ++ (c ++ (d ++ (e ++ (f ++ (g ++ (h ++ (i ++ j)))))))) ≡ r1
-nine a b c d e f g h i j r1 r2 r3 r4 r5 r6 r7 r8 r9 e1 e2 e3 e4 e5 e6 e7 e8 e9 = cc
-
-six : (a b c j d e f g h i d' e' f' g' h' i' : List ℕ) → d ≡ d' → e ≡ e' → f ≡ f' → g ≡ g' → h ≡ h' → i ≡ i'
-    → a ++ (b ++ (c ++ (d ++ (e ++ (f ++ (g ++ (h ++ (i ++ j)))))))) ≡ a ++ (b ++ (c ++ (d' ++ (e' ++ (f' ++ (g' ++ (h' ++ (i' ++ j))))))))
-six a b c j d e f g h i d' e' f' g' h' i' e1 e2 e3 e4 e5 e6 = cc
-
-back2 : (bytes : List ℕ) (n : ℕ) → IsBytes bytes → n + 2 ≤ length bytes → to_be_bytes w16 (from_be_bytes w16 (take 2 (drop n bytes))) ≡ take 2 (drop n bytes)
-back2 bytes n fits h =
-    be_bytes_2 (take 2 (drop n bytes)) _ (omega (arith, length-take 2 (drop n bytes), length-drop n bytes)) (IsBytes-take 2 (drop n bytes) (IsBytes-drop n bytes fits)) refl
-
-back4 : (bytes : List ℕ) (n : ℕ) → IsBytes bytes → n + 4 ≤ length bytes → to_be_bytes w32 (from_be_bytes w32 (take 4 (drop n bytes))) ≡ take 4 (drop n bytes)
-back4 bytes n fits h =
-    be_bytes_4 (take 4 (drop n bytes)) _ (omega (arith, length-take 4 (drop n bytes), length-drop n bytes)) (IsBytes-take 4 (drop n bytes) (IsBytes-drop n bytes fits)) refl
-
--- the fields that are read are the bytes behind the version
-fields-at : (bytes : List ℕ) → IsBytes bytes → 80 ≤ length bytes → fields (start_at bytes) ≡ drop 6 bytes
-unfolding fields start_at
-fields-at bytes fits h =
-    six (take 6 (drop 6 bytes)) (take 16 (drop 12 bytes)) (take 32 (drop 28 bytes)) (drop 80 bytes) _ _ _ _ _ _
-    (take 2 (drop 60 bytes)) (take 2 (drop 62 bytes)) (take 4 (drop 64 bytes)) (take 4 (drop 68 bytes)) (take 4 (drop 72 bytes)) (take 4 (drop 76 bytes))
-    (back2 bytes 60 fits (omega arith)) (back2 bytes 62 fits (omega arith))
-    (back4 bytes 64 fits (omega arith)) (back4 bytes 68 fits (omega arith)) (back4 bytes 72 fits (omega arith)) (back4 bytes 76 fits (omega arith))
-    ∙ nine (take 6 (drop 6 bytes)) (take 16 (drop 12 bytes)) (take 32 (drop 28 bytes)) (take 2 (drop 60 bytes)) (take 2 (drop 62 bytes)) (take 4 (drop 64 bytes))
-    (take 4 (drop 68 bytes)) (take 4 (drop 72 bytes)) (take 4 (drop 76 bytes)) (drop 80 bytes)
-    (drop 6 bytes) (drop 12 bytes) (drop 28 bytes) (drop 60 bytes) (drop 62 bytes) (drop 64 bytes) (drop 68 bytes) (drop 72 bytes) (drop 76 bytes)
-    (split bytes 6 6) (split bytes 12 16) (split bytes 28 32) (split bytes 60 2) (split bytes 62 2)
-    (split bytes 64 4) (split bytes 68 4) (split bytes 72 4) (split bytes 76 4)
-
-below2 : (bytes : List ℕ) (n : ℕ) → IsBytes bytes → from_be_bytes w16 (take 2 (drop n bytes)) < 2 ^ 16
-below2 bytes n fits = let f = IsBytes-take 2 (drop n bytes) (IsBytes-drop n bytes fits) in omega (arith, f 0, f 1)
-
-below4 : (bytes : List ℕ) (n : ℕ) → IsBytes bytes → from_be_bytes w32 (take 4 (drop n bytes)) < 2 ^ 32
-below4 bytes n fits = let f = IsBytes-take 4 (drop n bytes) (IsBytes-drop n bytes fits) in omega (arith, f 0, f 1, f 2, f 3)
-
-w-below : (bytes : List ℕ) → IsBytes bytes → get_or bytes 62 0 < 64 → from_be_bytes w16 (take 2 (drop 62 bytes)) < 2 ^ 14
-w-below bytes fits high =
-    let f = IsBytes-take 2 (drop 62 bytes) (IsBytes-drop 62 bytes fits) in
-    let e : get_or (take 2 (drop 62 bytes)) 0 0 ≡ get_or bytes 62 0 = get_or-take 2 (drop 62 bytes) 0 0 (lit< tt) ∙ get_or-drop 62 bytes 0 0 in
-    omega (arith, f 1, e, high)
-
-part_len : (bytes : List ℕ) (n m : ℕ) → n + m ≤ length bytes → length (take m (drop n bytes)) ≡ m
-part_len bytes n m h = omega (arith, length-take m (drop n bytes), length-drop n bytes)
-
-start_at-valid : (bytes : List ℕ) → IsBytes bytes → 80 ≤ length bytes → length bytes ≤ 131076 → get_or bytes 62 0 < 64 → IsStart (start_at bytes)
-unfolding start_at
-start_at-valid bytes fits h short high = record {
-  mac_len = part_len bytes 6 6 (omega arith);
-  uuid_len = part_len bytes 12 16 (omega arith);
-  key_len = part_len bytes 28 32 (omega arith);
-  arch_fits = below2 bytes 60 fits;
-  w_fits = w-below bytes fits high;
-  ip_fits = below4 bytes 64 fits;
-  mask_fits = below4 bytes 68 fits;
-  gateway_fits = below4 bytes 72 fits;
-  dns_fits = below4 bytes 76 fits;
-  script_fits = omega (arith, length-drop 80 bytes);
-}
-
--- bytes that are a record, as the reading sees it
-pub record IsWhole (bytes : List ℕ) : Type 0 where
-  pub begins : CanBegin bytes
+-- bytes that are a record of a kind, as the reading sees it
+pub record IsWhole (k : Kind) (bytes : List ℕ) : Type 0 where
+  pub begins : BeginsAs k bytes
   pub fits : IsBytes bytes
   pub len : length bytes ≡ whole_len bytes
 
-whole_bounds : (bytes : List ℕ) → IsWhole bytes → (80 ≤ length bytes) × (length bytes ≤ 131076)
-whole_bounds bytes p =
+pub whole_bounds : (k : Kind) (bytes : List ℕ) → IsWhole k bytes → (4 + least_length k ≤ length bytes) × (length bytes ≤ 4 + greatest_length k)
+whole_bounds k bytes p =
     let known = length_known bytes (omega (arith, p.len)) in
     (omega (arith, known, p.len, p.begins.greatest), omega (arith, p.len, p.begins.least))
 
-pub whole_valid : (bytes : List ℕ) → IsWhole bytes → IsStart (start_at bytes)
-whole_valid bytes p =
-    let b = whole_bounds bytes p in start_at-valid bytes p.fits b.0 b.1 p.begins.w_high
+-- ---- a tick
+
+-- the milliseconds of seven bytes
+ms-at : (d : ℕ) (bytes : List ℕ) → 7 ≤ length bytes → ms_with d bytes ≡ from_be_bytes w16 (take 2 (drop 5 bytes))
+unfolding ms_with
+ms-at d bytes h =
+    let e : drop 5 bytes ≡ get_or bytes 5 d ∷ get_or bytes 6 d ∷ drop 7 bytes =
+    drop_more bytes 5 d (omega arith) ∙ ap (λ (x : List ℕ). get_or bytes 5 d ∷ x) (drop_more bytes 6 d (omega arith)) in
+    ap (λ (x : List ℕ). from_be_bytes w16 (take 2 x)) (sym e)
+
+tick-valid : (bytes : List ℕ) → 7 ≤ length bytes → BodyBeginsAs kind.Tick bytes → IsTick (from_be_bytes w16 (take 2 (drop 5 bytes)))
+tick-valid bytes h p = record { least = omega (arith, ms-at 255 bytes h, p.0); most = omega (arith, ms-at 0 bytes h, p.1) }
+
+tick-body : (bytes : List ℕ) → IsBytes bytes → length bytes ≡ 7 → to_be_bytes w16 (from_be_bytes w16 (take 2 (drop 5 bytes))) ≡ drop 5 bytes
+tick-body bytes fits h =
+    back2 bytes 5 fits (omega (arith, h)) ∙ take_all 2 (drop 5 bytes) (omega (arith, h, length-drop 5 bytes))
+
+-- ---- a record of any kind
+
+valid_by : (k : Kind) (bytes : List ℕ) → IsBytes bytes → 4 + least_length k ≤ length bytes → length bytes ≤ 4 + greatest_length k
+    → BodyBeginsAs k bytes → IsIn (in_by (number_of k) bytes)
+unfolding in_by
+valid_by kind.Start bytes fits low high p = start_at-valid bytes fits low high p.1
+valid_by kind.Frame bytes fits low high p = record { least = omega (arith, length-drop 5 bytes); most = omega (arith, length-drop 5 bytes) }
+valid_by kind.Tick bytes fits low high p = tick-valid bytes low p
+valid_by kind.Off bytes fits low high p = tt
+
+pub whole_valid : (k : Kind) (bytes : List ℕ) → IsWhole k bytes → IsIn (in_by (number_of k) bytes)
+whole_valid k bytes p = let b = whole_bounds k bytes p in valid_by k bytes p.fits b.0 b.1 p.begins.body
+
+type_by : (k : Kind) (bytes : List ℕ) → type_of (in_by (number_of k) bytes) ≡ number_of k
+unfolding in_by
+type_by kind.Start bytes = refl
+type_by kind.Frame bytes = refl
+type_by kind.Tick bytes = refl
+type_by kind.Off bytes = refl
+
+body_by : (k : Kind) (bytes : List ℕ) → IsBytes bytes → 4 + least_length k ≤ length bytes → length bytes ≤ 4 + greatest_length k
+    → BodyBeginsAs k bytes → body_of (in_by (number_of k) bytes) ≡ drop 5 bytes
+unfolding in_by
+body_by kind.Start bytes fits low high p = start_body-at bytes fits low p.0
+body_by kind.Frame bytes fits low high p = refl
+body_by kind.Tick bytes fits low high p = tick-body bytes fits (omega arith)
+body_by kind.Off bytes fits low high p = sym (drop_all 5 bytes high)
 
 -- what is whole is spelled so
-pub whole_spelled : (bytes : List ℕ) → IsWhole bytes → bytes ≡ in_text (start (start_at bytes))
+pub whole_spelled : (k : Kind) (bytes : List ℕ) → IsWhole k bytes → bytes ≡ in_text (in_by (number_of k) bytes)
 unfolding length_with
-whole_spelled bytes p =
-    let b = whole_bounds bytes p in
-    let s = start_at bytes in
-    let body : start_body s ≡ 1 ∷ drop 6 bytes = start_body-is s ∙ ap (λ (x : List ℕ). 1 ∷ x) (fields-at bytes p.fits b.0) in
-    let five : drop 5 bytes ≡ 1 ∷ drop 6 bytes = drop_more bytes 5 1 (omega (arith, b.0)) ∙ ap (λ (x : ℕ). x ∷ drop 6 bytes) p.begins.version in
-    let four : drop 4 bytes ≡ 1 ∷ (1 ∷ drop 6 bytes) =
-    drop_more bytes 4 1 (omega (arith, b.0)) ∙ ap (λ (x : ℕ). x ∷ drop 5 bytes) p.begins.kind ∙ ap (λ (x : List ℕ). 1 ∷ x) five in
-    let count : length (start_body s) + 1 ≡ length_with 0 bytes =
-    omega (arith, ap length body, length-drop 6 bytes, p.len, b.0) in
+whole_spelled k bytes p =
+    let b = whole_bounds k bytes p in
+    let some = (lengths k).some in
+    let r = in_by (number_of k) bytes in
+    let body : body_of r ≡ drop 5 bytes = body_by k bytes p.fits b.0 b.1 p.begins.body in
+    let four : drop 4 bytes ≡ type_of r ∷ body_of r =
+    drop_more bytes 4 (number_of k) (omega (arith, b.0, some))
+    ∙ ap (λ (x : ℕ). x ∷ drop 5 bytes) (p.begins.number ∙ sym (type_by k bytes))
+    ∙ ap (λ (x : List ℕ). type_of r ∷ x) (sym body) in
+    let count : length (body_of r) + 1 ≡ length_with 0 bytes = omega (arith, ap length body, length-drop 5 bytes, p.len, b.0, some) in
     let front : to_be_bytes w32 (length_with 0 bytes) ≡ take 4 bytes =
     be_bytes_4 (take 4 bytes) (length_with 0 bytes) (omega (arith, length-take 4 bytes, b.0)) (IsBytes-take 4 bytes p.fits)
     (ap (λ (x : List ℕ). from_be_bytes w32 x) (lead-take 0 bytes (omega (arith, b.0)))) in
     sym (take-append-drop 4 bytes)
-    ∙ ap (λ (x : List ℕ). take 4 bytes ++ x) (four ∙ ap (λ (x : List ℕ). 1 ∷ x) (sym body))
-    ∙ ap (λ (x : List ℕ). x ++ (1 ∷ start_body s)) (sym front ∙ ap (λ (n : ℕ). to_be_bytes w32 n) (sym count))
-    ∙ sym (in_text-is s)
+    ∙ ap (λ (x : List ℕ). take 4 bytes ++ x) four
+    ∙ ap (λ (x : List ℕ). x ++ (type_of r ∷ body_of r)) (sym front ∙ ap (λ (n : ℕ). to_be_bytes w32 n) (sym count))
+    ∙ sym (in_text-is r)
 
 -- where a whole record stands at the front, its bytes are whole
-pub whole_front : (bytes : List ℕ) → CanBegin bytes → IsBytes bytes → whole_len bytes ≤ length bytes → IsWhole (take (whole_len bytes) bytes)
-whole_front bytes begins fits long =
+pub whole_front : (k : Kind) (bytes : List ℕ) → BeginsAs k bytes → IsBytes bytes → whole_len bytes ≤ length bytes → IsWhole k (take (whole_len bytes) bytes)
+whole_front k bytes begins fits long =
     let n = whole_len bytes in
     let joined = take-append-drop n bytes in
     let len : length (take n bytes) ≡ n = omega (arith, length-take n bytes) in
     let known : length_with 0 bytes ≡ length_with 0 (take n bytes) =
-    ap (λ (x : List ℕ). length_with 0 x) (sym joined) ∙ length_front (take n bytes) (drop n bytes) (omega (arith, len)) in
+    ap (λ (x : List ℕ). length_with 0 x) (sym joined) ∙ length_front 0 (take n bytes) (drop n bytes) (omega (arith, len)) in
     record {
-      begins = can_begin_front (take n bytes) (drop n bytes)
-          (subst (λ (x : List ℕ). LeadFits x) (sym joined) (fits_at bytes 0 fits, fits_at bytes 1 fits, fits_at bytes 2 fits, fits_at bytes 3 fits))
-          (subst (λ (x : List ℕ). CanBegin x) (sym joined) begins);
+      begins = begins_front k (take n bytes) (drop n bytes)
+          (subst (λ (x : List ℕ). LeadFits x) (sym joined) (IsBytes-lead bytes fits))
+          (subst (λ (x : List ℕ). BodyFits k x) (sym joined) (IsBytes-body k bytes fits))
+          (subst (λ (x : List ℕ). BeginsAs k x) (sym joined) begins);
       fits = IsBytes-take n bytes fits;
       len = omega (arith, len, known);
     }
 
--- a whole record has the fields' bytes
-pub front_long : (bytes : List ℕ) (len : ℕ) → CanBegin bytes → len ≡ whole_len bytes → len ≤ length bytes → 80 ≤ length (take len bytes)
-front_long bytes len begins e long =
+-- a whole record has at least the bytes of its kind
+pub front_long : (k : Kind) (bytes : List ℕ) (len : ℕ) → BeginsAs k bytes → len ≡ whole_len bytes → len ≤ length bytes → 4 + least_length k ≤ length (take len bytes)
+front_long k bytes len begins e long =
     omega (arith, length-take len bytes, length_known bytes (omega (arith, e, long)), begins.greatest)
 
 -- a whole record stands at the front
-pub front_is : (bytes : List ℕ) (s : Start) (len : ℕ) → CanBegin bytes → IsBytes bytes → len ≡ whole_len bytes → len ≤ length bytes → s ≡ start_at (take len bytes) → IsFront bytes (start s) len
-front_is bytes s len begins fits e long is =
-    let w : IsWhole (take len bytes) = subst (λ (n : ℕ). IsWhole (take n bytes)) (sym e) (whole_front bytes begins fits (omega (arith, e, long))) in
-    let text : take len bytes ≡ in_text (start s) = whole_spelled (take len bytes) w ∙ ap (λ (s : Start). in_text (start s)) (sym is) in
+pub front_is : (k : Kind) (bytes : List ℕ) (r : In) (len : ℕ) → BeginsAs k bytes → IsBytes bytes → len ≡ whole_len bytes → len ≤ length bytes
+    → r ≡ in_by (number_of k) (take len bytes) → IsFront bytes r len
+front_is k bytes r len begins fits e long is =
+    let w : IsWhole k (take len bytes) = subst (λ (n : ℕ). IsWhole k (take n bytes)) (sym e) (whole_front k bytes begins fits (omega (arith, e, long))) in
+    let text : take len bytes ≡ in_text r = whole_spelled k (take len bytes) w ∙ ap (λ (r : In). in_text r) (sym is) in
     record {
-      valid = subst (λ (s : Start). IsStart s) (sym is) (whole_valid (take len bytes) w);
+      valid = subst (λ (r : In). IsIn r) (sym is) (whole_valid k (take len bytes) w);
       spelled = sym (take-append-drop len bytes) ∙ ap (λ (x : List ℕ). x ++ drop len bytes) text;
       length_is = omega (arith, ap length text, length-take len bytes);
     }
-
--- a START whose fields are read from their places
-pub record FieldsFrom (bytes : List ℕ) (s : Start) : Type 0 where
-  pub mac : s.mac ≡ take 6 (drop 6 bytes)
-  pub uuid : s.uuid ≡ take 16 (drop 12 bytes)
-  pub key : s.key ≡ take 32 (drop 28 bytes)
-  pub arch : s.arch ≡ from_be_bytes w16 (take 2 (drop 60 bytes))
-  pub w : s.w ≡ from_be_bytes w16 (take 2 (drop 62 bytes))
-  pub ip : s.ip ≡ from_be_bytes w32 (take 4 (drop 64 bytes))
-  pub mask : s.mask ≡ from_be_bytes w32 (take 4 (drop 68 bytes))
-  pub gateway : s.gateway ≡ from_be_bytes w32 (take 4 (drop 72 bytes))
-  pub dns : s.dns ≡ from_be_bytes w32 (take 4 (drop 76 bytes))
-  pub script : s.script ≡ drop 80 bytes
-
-pub start_at-from : (bytes : List ℕ) (s : Start) → FieldsFrom bytes s → s ≡ start_at bytes
-unfolding start_at make
-start_at-from bytes s f =
-    make-same (start_at bytes) s.mac s.uuid s.key s.arch s.w s.ip s.mask s.gateway s.dns s.script
-    f.mac f.uuid f.key f.arch f.w f.ip f.mask f.gateway f.dns f.script

@@ -5,6 +5,7 @@
 
 mod feed;
 mod input;
+mod kind;
 mod line;
 mod log;
 mod mem_line;

@@ -1,23 +1,23 @@
-ghost use Rattle.std.specs.Prelude.{◌≡◌, ◌+◌, ◌<◌, ◌≤◌, length, take, drop, true, false, slice_index_or};
-ghost use Rattle.nb_defs.proofs.RecordLaws.{start_at};
-ghost use Rattle.nb_record.specs.View.{start_of};
-ghost use Rattle.nb_record.specs.Reading.{CanBegin, length_with, whole_len};
+ghost use Rattle.std.specs.Prelude.{◌≡◌, ◌+◌, ◌<◌, ◌≤◌, length, take, drop, true, false, None, IfSome, slice_index_or};
+ghost use Rattle.nb_defs.proofs.StartLaws.{start_at};
+ghost use Rattle.nb_defs.proofs.RecordLaws.{in_by};
+ghost use Rattle.nb_record.specs.View.{start_of, in_of};
+ghost use Rattle.nb_record.specs.Reading.{number_of, least_length, length_with, ms_with, BodyBeginsAs, BeginsAs, CanBegin, whole_len};
 ghost use Rattle.nb_record.specs.Held.{BreaksAt, Shows, part_of};
 
+use crate::kind::Kind;
 use crate::{BadRecord, Front, InRec, Start};
 use nb_wire::{Ip4, Mac};
-
-/// The least and the greatest length of a START, which counts its type and its body.
-const LEAST_LENGTH: u32 = 76;
-
-const GREATEST_LENGTH: u32 = 131_072;
-
-const START_TYPE: u8 = 1;
 
 const VERSION: u8 = 1;
 
 /// The high byte of `w` is less.
 const W_HIGH_END: u8 = 64;
+
+/// The least and the most milliseconds of a TICK.
+const LEAST_TICK: u16 = 1;
+
+const GREATEST_TICK: u16 = 60_000;
 
 /// The byte at a place, or another where none stands there yet.
 fn byte_or(bytes: &[u8], place: usize, missing: u8) -> u8
@@ -42,25 +42,62 @@ fn spelled_length(bytes: &[u8], missing: u8) -> u32
     ])
 }
 
-/// Whether a START can begin with these bytes.
-fn can_begin(bytes: &[u8]) -> bool
-    ensures yes { result ≡ true → CanBegin bytes.now }
-    ensures not { result ≡ false → CanBegin bytes.now → ⊥ }
+/// The milliseconds that stand at a body's front, with `missing` in place of bytes that aren't there yet.
+#[tactic(auto, unfolding(crate::specs::Reading::ms_with))]
+fn spelled_ms(bytes: &[u8], missing: u8) -> u16
+    ensures { result ≡ ms_with missing bytes.now }
 {
-    spelled_length(bytes, 0) <= GREATEST_LENGTH
-        && LEAST_LENGTH <= spelled_length(bytes, 255)
-        && byte_or(bytes, 4, START_TYPE) == START_TYPE
-        && byte_or(bytes, 5, VERSION) == VERSION
-        && byte_or(bytes, 62, 0) < W_HIGH_END
+    u16::from_be_bytes([byte_or(bytes, 5, missing), byte_or(bytes, 6, missing)])
 }
 
-/// The place of the first byte with which no START can begin.
+/// Whether a body of this kind can begin so.
+fn body_begins_as(kind: Kind, bytes: &[u8]) -> bool
+    ensures yes { result ≡ true → BodyBeginsAs kind bytes.now }
+    ensures not { result ≡ false → BodyBeginsAs kind bytes.now → ⊥ }
+{
+    match kind {
+        Kind::Start => byte_or(bytes, 5, VERSION) == VERSION && byte_or(bytes, 62, 0) < W_HIGH_END,
+        Kind::Tick => LEAST_TICK <= spelled_ms(bytes, 255) && spelled_ms(bytes, 0) <= GREATEST_TICK,
+        Kind::Frame | Kind::Off => true,
+    }
+}
+
+/// Whether a record of this kind can begin with these bytes.
+fn begins_as(kind: Kind, bytes: &[u8]) -> bool
+    ensures yes { result ≡ true → BeginsAs kind bytes.now }
+    ensures not { result ≡ false → BeginsAs kind bytes.now → ⊥ }
+{
+    spelled_length(bytes, 0) <= kind.greatest_length()
+        && kind.least_length() <= spelled_length(bytes, 255)
+        && byte_or(bytes, 4, kind.number()) == kind.number()
+        && body_begins_as(kind, bytes)
+}
+
+/// A kind of which a record can begin with these bytes.
+fn kind_of(bytes: &[u8]) -> Option<Kind>
+    ensures some { IfSome result (λ kind. BeginsAs kind bytes.now) }
+    ensures none { result ≡ None → CanBegin bytes.now → ⊥ }
+{
+    if begins_as(Kind::Start, bytes) {
+        Some(Kind::Start)
+    } else if begins_as(Kind::Frame, bytes) {
+        Some(Kind::Frame)
+    } else if begins_as(Kind::Tick, bytes) {
+        Some(Kind::Tick)
+    } else if begins_as(Kind::Off, bytes) {
+        Some(Kind::Off)
+    } else {
+        None
+    }
+}
+
+/// The place of the first byte with which no record can begin.
 fn break_place(bytes: &[u8]) -> usize
     requires { CanBegin bytes.now → ⊥ }
     ensures { BreaksAt bytes.now (part_of result) }
 {
     for place in 0..bytes.len() {
-        if !can_begin(&bytes[..place + 1]) {
+        if kind_of(&bytes[..place + 1]).is_none() {
             return place;
         }
     }
@@ -90,7 +127,7 @@ fn part<const N: usize>(bytes: &[u8], place: usize) -> [u8; N]
 }
 
 /// The fields of a START record, each from its place.
-#[tactic(auto, unfolding(nb_defs::proofs::RecordLaws::start_at))]
+#[tactic(auto, unfolding(nb_defs::proofs::StartLaws::start_at))]
 fn start_fields(bytes: &[u8]) -> Start<'_>
     requires { 80 ≤ length bytes.now }
     ensures { start_of result ≡ start_at bytes.now }
@@ -109,19 +146,33 @@ fn start_fields(bytes: &[u8]) -> Start<'_>
     }
 }
 
+/// A whole record of this kind.
+#[tactic(auto, unfolding(nb_defs::proofs::RecordLaws::in_by))]
+fn record_of(kind: Kind, bytes: &[u8]) -> InRec<'_>
+    requires { 4 + least_length kind ≤ length bytes.now }
+    ensures { in_of result ≡ in_by (number_of kind) bytes.now }
+{
+    match kind {
+        Kind::Start => InRec::Start(start_fields(bytes)),
+        Kind::Frame => InRec::Frame(&bytes[5..]),
+        Kind::Tick => InRec::Tick(u16::from_be_bytes(part(bytes, 5))),
+        Kind::Off => InRec::Off,
+    }
+}
+
 /// What stands at the front of the bytes, before which this many bytes of whole records were passed.
 pub fn front_of(bytes: &[u8], passed: u64) -> Front<'_>
     ensures { Shows (record { bytes = bytes.now; passed = passed }) result }
 {
-    if !can_begin(bytes) {
+    let Some(kind) = kind_of(bytes) else {
         return Front::Broken(BadRecord {
             at: passed,
             why: part_at(break_place(bytes)),
         });
-    }
+    };
     let len = 4 + spelled_length(bytes, 0) as usize;
     if bytes.len() < len {
         return Front::Partial;
     }
-    Front::Whole(InRec::Start(start_fields(&bytes[..len])), len)
+    Front::Whole(record_of(kind, &bytes[..len]), len)
 }

@@ -1,7 +1,7 @@
 use Rattle.std.proofs.Common.{ap, ◌∙◌, List, ℕ}
 use Rattle.std.specs.Int.{w16, w32, from_be_bytes}
 use Rattle.std.proofs.lemmas.List.{take_rest}
-use Rattle.nb_record.proofs.WholeLemmas.{start_at-from}
+use Rattle.nb_record.proofs.StartLemmas.{start_at-from}
 use Rattle.nb_record.proofs.reading.start_fields.Goals as goal
 
 pub returns : goal.returns
