@@ -1,6 +1,6 @@
 -- RFC 3986, section 3: scheme, authority and path. Own: of all URIs only those of a file of a TFTP server
 -- by its address are read, with a path of unreserved characters and `/`, and lengths have limits.
-use Rattle.std.specs.Prelude.{◌≡◌, ℕ, ◌<◌, ◌≤◌, Bool, ◌&&◌, ◌||◌, nat_lt, nat_eq, List, ◌++◌, length, drop, Option, None, if◌then◌else◌, codes}
+use Rattle.std.specs.Prelude.{◌≡◌, ℕ, ◌<◌, ◌≤◌, Bool, true, ◌&&◌, ◌||◌, nat_lt, nat_eq, List, ◌++◌, length, drop, Option, None, if◌then◌else◌, codes}
 use Rattle.std.specs.List.{list_all, starts_with, before_first, after_first, after_last}
 use Rattle.std.specs.Option.{option_map}
 use Rattle.nb_tftpmsg.specs.Texts.{HasNoZero}
@@ -34,6 +34,9 @@ tftp_target text =
 
 abbrev pub is_too_long : TftpTarget → Bool
 is_too_long target = nat_lt 1024 (length target.path) || nat_lt 255 (length target.name)
+
+abbrev pub IsTooLong : TftpTarget → Type 0
+IsTooLong target = is_too_long target ≡ true
 
 -- what holds of each path and name that were read
 pub record NamesFile (path name : List ℕ) : Type 0 where

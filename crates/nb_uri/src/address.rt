@@ -1,9 +1,10 @@
 //! IPv4 addresses as text.
 
-ghost use Rattle.std.specs.Prelude.{◌≡◌};
+ghost use Rattle.std.specs.Prelude.{◌≡◌, ◌∷◌, []};
+ghost use Rattle.std.specs.Int.{from_be_bytes, w32};
 ghost use Rattle.std.specs.Option.{option_map};
 ghost use Rattle.nb_tftpmsg.specs.Texts.{decimal};
-ghost use Rattle.nb_uri.specs.Addresses.{dec_octet, four_decimals};
+ghost use Rattle.nb_uri.specs.Addresses.{dec_octet, octets, four_decimals};
 
 use crate::pieces::cut;
 use nb_wire::Ip4;
@@ -16,8 +17,16 @@ pub fn number(host: &[u8]) -> Option<Ip4>
     let (first, rest) = cut(host, b'.')?;
     let (second, rest) = cut(rest, b'.')?;
     let (third, fourth) = cut(rest, b'.')?;
-    let octets = [octet(first)?, octet(second)?, octet(third)?, octet(fourth)?];
-    Some(Ip4(u32::from_be_bytes(octets)))
+    address(first, second, third, fourth)
+}
+
+/// The address of four decimals.
+fn address(first: &[u8], second: &[u8], third: &[u8], fourth: &[u8]) -> Option<Ip4>
+    ensures { option_map (λ address. address.0) result
+        ≡ option_map (from_be_bytes w32) (octets (first.now ∷ second.now ∷ third.now ∷ fourth.now ∷ [])) }
+{
+    let bytes = [octet(first)?, octet(second)?, octet(third)?, octet(fourth)?];
+    Some(Ip4(u32::from_be_bytes(bytes)))
 }
 
 /// A decimal of 0 to 255 without a zero in front (RFC 3986, section 3.2.2: dec-octet).

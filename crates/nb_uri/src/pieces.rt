@@ -1,9 +1,9 @@
 //! The pieces of a URI.
 
-ghost use Rattle.std.specs.Prelude.{◌≡◌, ◌<◌, ◌==◌, position, length, IfSome};
+ghost use Rattle.std.specs.Prelude.{◌≡◌, ◌+◌, ◌<◌, ◌==◌, true, position, length, slice_index, IfSome, IfNone};
 ghost use Rattle.std.specs.List.{list_all, after_last};
 ghost use Rattle.std.specs.Option.{option_map};
-ghost use Rattle.nb_uri.specs.Pieces.{cut, is_path_byte, is_slash};
+ghost use Rattle.nb_uri.specs.Pieces.{cut, is_path_byte, is_slash, HasNoSlashFrom};
 
 /// The bytes before the first separator, and those behind it. None where there is no separator.
 pub(crate) fn cut(text: &[u8], separator: u8) -> Option<(&[u8], &[u8])>
@@ -27,10 +27,20 @@ fn first_of(text: &[u8], separator: u8) -> Option<usize>
 pub(crate) fn last_segment(path: &[u8]) -> &[u8]
     ensures { result.now ≡ after_last is_slash path.now }
 {
-    match path.iter().rposition(|byte| *byte == b'/') {
+    match last_slash(path) {
         Some(slash) => &path[slash + 1..],
         None => path,
     }
+}
+
+/// The place of the last `/`.
+fn last_slash(path: &[u8]) -> Option<usize>
+    ensures none { IfNone result (HasNoSlashFrom 0 path.now) }
+    ensures within { IfSome result (λ slash. slash < length path.now) }
+    ensures there { IfSome result (λ slash. is_slash (slice_index path.now slash) ≡ true) }
+    ensures last { IfSome result (λ slash. HasNoSlashFrom (slash + 1) path.now) }
+{
+    path.iter().rposition(|byte| *byte == b'/')
 }
 
 /// Whether each byte may stand in a path.

@@ -1,10 +1,10 @@
 //! The URI of a file of a TFTP server.
 
-ghost use Rattle.std.specs.Prelude.{◌≡◌, ◌↔◌, Some, None, Err, true, IfOk, IsSomeAnd};
+ghost use Rattle.std.specs.Prelude.{◌≡◌, ◌↔◌, Some, None, Err, IfOk, IsSomeAnd};
 ghost use Rattle.std.specs.Option.{option_map};
 ghost use Rattle.std.specs.Result.{result_map_both};
 ghost use Rattle.nb_tftpmsg.specs.Texts.{HasNoZero};
-ghost use Rattle.nb_uri.specs.Targets.{tftp_target, is_too_long, NamesFile};
+ghost use Rattle.nb_uri.specs.Targets.{tftp_target, IsTooLong, NamesFile};
 ghost use Rattle.nb_uri.specs.Views.{target_of, reading, limited};
 ghost use Rattle.nb_uri.specs.declared.uri.UriError.TheVariants as error;
 
@@ -35,7 +35,7 @@ pub enum UriError {
 pub struct TftpUri<'a> {
     /// The server's address.
     pub server: Ip4,
-    /// What the server is asked for: all behind the `/` after the address. It may begin with a `/` itself.
+    /// What the server is asked for: all behind the `/` after the address. It may begin with `/` itself.
     pub path: &'a [u8],
     /// The path's last segment, which names the image.
     pub name: &'a [u8],
@@ -47,7 +47,7 @@ impl<'a> TftpUri<'a> {
         // What is read, and each refusal, as one equation; the next two say each refusal alone.
         ensures reading { result_map_both target_of (λ why. why) result ≡ reading text.now }
         ensures bad_uri { (result ≡ Err error.BadUri) ↔ (tftp_target text.now ≡ None) }
-        ensures too_long { (result ≡ Err error.TooLong) ↔ IsSomeAnd (tftp_target text.now) (λ target. is_too_long target ≡ true) }
+        ensures too_long { (result ≡ Err error.TooLong) ↔ IsSomeAnd (tftp_target text.now) IsTooLong }
         // A transfer may ask for the path.
         ensures clean { IfOk result (λ uri. HasNoZero uri.path.now) }
         ensures file { IfOk result (λ uri. NamesFile uri.path.now uri.name.now) }
