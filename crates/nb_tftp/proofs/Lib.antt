@@ -5,3 +5,5 @@ pub mod HistoryLemmas
 pub mod StandsLemmas
 pub mod CallLemmas
 pub mod PlainLaws
+pub mod FoundLemmas
+pub mod LimitLaws
