@@ -28,7 +28,7 @@ first_passing-none test (m ∷ ms) more is = either_way (test m)
     (λ on. absurd (none-some (record { one = m; behind = ms }) (sym (rw on at is))))
     (λ off. rw off (first_passing-none test ms more (rw off at is)))
 
-fitting_same : (found done : Found) → if_fitting found ≡ Some done → found ≡ done
+pub fitting_same : (found done : Found) → if_fitting found ≡ Some done → found ≡ done
 fitting_same found done is = either_way (leb (length (block_bytes found.one)) 512)
     (λ on. same_Some found done (rw on at is))
     (λ off. absurd (none-some done (rw off at is)))
@@ -47,7 +47,7 @@ next_block-some port n ms more found is =
 abbrev pub found_at : ℕ → List Received → ℕ → Option Found
 found_at port got n = option_and_then (next_block port (suc n)) (behind_block port got n)
 
-map_some : {A B P : Type 0} (f : A → B) (o : Option A) (y : B) → option_map f o ≡ Some y → ((x : A) → o ≡ Some x → f x ≡ y → P) → P
+pub map_some : {A B P : Type 0} (f : A → B) (o : Option A) (y : B) → option_map f o ≡ Some y → ((x : A) → o ≡ Some x → f x ≡ y → P) → P
 map_some f None y is then = absurd (none-some y is)
 map_some f (Some x) y is then = then x refl (same_Some (f x) y is)
 

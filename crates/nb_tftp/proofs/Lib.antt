@@ -6,3 +6,5 @@ pub mod StandsLemmas
 pub mod CallLemmas
 pub mod PlainLaws
 mod SoundLemmas
+pub mod FoundLemmas
+pub mod LimitLaws

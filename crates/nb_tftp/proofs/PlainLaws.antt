@@ -1,6 +1,6 @@
 -- What one call of a transfer asks, by its promises: at most one message, and a range of the body that came.
 use Rattle.std.proofs.Common.{◌≡◌, ◌≤◌, ℕ, suc, ◌+◌, ◌==◌, List, [], ◌∷◌, ◌++◌, length, ◌-◌, Option, Some, None, Bool, true, false, cond, refl, ap, ◌∙◌, sym, subst, arith, append_assoc, lit≤}
-use Rattle.std.specs.Prelude.{slice_range, codes}
+use Rattle.std.specs.Prelude.{slice_range}
 use Rattle.std.specs.Option.{option_map, option_map_or, option_and_then}
 use Rattle.std.specs.Str.{bytes_eq}
 use Rattle.std.proofs.lemmas.Bool.{false≢true}
@@ -11,7 +11,7 @@ use Rattle.nb_retry.specs.declared.retry.Due.TheVariants.{Not, Again as TryAgain
 use Rattle.nb_terms.specs.declared.acts.Acts.{Acts}
 use Rattle.nb_wire.specs.declared.address.Ip4.{Ip4}
 use Rattle.nb_tftpmsg.specs.Texts.{text_at}
-use Rattle.nb_tftpmsg.specs.Packets.{Message, rrq, block, ack, error, oack, request_tail, packet_text}
+use Rattle.nb_tftpmsg.specs.Packets.{Message, rrq, block, ack, error, oack, request_tail}
 use Rattle.nb_tftpmsg.specs.Reading.{Found, reading, body_reading, request_reading, block_reading, ack_reading, error_reading, oack_reading, options_reading}
 use Rattle.nb_tftp.specs.declared.answer.Answer.{Answer}
 use Rattle.nb_tftp.specs.declared.answer.Answer.TheVariants.{Ignored, Stranger, Again, Taken, Ended}
@@ -20,12 +20,12 @@ use Rattle.nb_tftp.specs.Received.{Received, packet_in, has_number, bytes_of, fi
 use Rattle.nb_tftp.specs.Blocks.{count}
 use Rattle.nb_tftp.specs.History.{Call, came, ticked, Entry, entry, got, given, due_of, EachEntry}
 use Rattle.nb_tftp.specs.Sentences.{Meets, AsksSo, asks, answer_to}
-use Rattle.nb_tftp.specs.Plain.{IsToServer, IsPlain, IsRangeOf}
+use Rattle.nb_tftp.specs.Plain.{IsPlain, IsRangeOf}
 use Rattle.nb_tftp.proofs.BlockLemmas.{either_way}
 use Rattle.nb_tftp.proofs.ReceivedLemmas.{and_left}
-use Rattle.nb_tftp.proofs.AnswerLemmas.{Means, means, next_of}
+use Rattle.nb_tftp.proofs.AnswerLemmas.{Means, means}
 use Rattle.nb_tftp.proofs.HistoryLemmas.{given-append}
-use Rattle.nb_tftp.specs.Decisions.{from_server, end_of_block}
+use Rattle.nb_tftp.specs.Decisions.{from_server}
 
 -- a fact of each entry, at the last one
 pub EachEntry-last : (P : List Entry → Entry → Type 0) (before h : List Entry) (e : Entry) → EachEntry P before (h ++ e ∷ []) → P (before ++ h) e

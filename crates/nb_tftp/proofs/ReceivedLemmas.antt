@@ -22,7 +22,7 @@ is_next got m = is_block (suc (count got)) m && from_server (fixed_port got) m.p
 abbrev pub fits : Received → Bool
 fits m = leb (length (block_bytes m)) 512
 
-by_option : {A P : Type 0} (o : Option A) → (o ≡ None → P) → ((x : A) → o ≡ Some x → P) → P
+pub by_option : {A P : Type 0} (o : Option A) → (o ≡ None → P) → ((x : A) → o ≡ Some x → P) → P
 by_option None none some = none refl
 by_option (Some x) none some = some x refl
 
@@ -44,10 +44,10 @@ false_and true false c is on = absurd (false≢true on)
 false_and false b c is on = refl
 
 -- no port, no block
-no_blocks : (got : List Received) → fixed_port got ≡ None → blocks got ≡ []
+pub no_blocks : (got : List Received) → fixed_port got ≡ None → blocks got ≡ []
 no_blocks got none = rw none refl
 
-blocks_at : (got : List Received) (port : ℕ) → fixed_port got ≡ Some port → blocks got ≡ blocks_to port got (length got)
+pub blocks_at : (got : List Received) (port : ℕ) → fixed_port got ≡ Some port → blocks got ≡ blocks_to port got (length got)
 blocks_at got port some = rw some refl
 
 find_none : (got : List Received) → fixed_port got ≡ None → find (is_block 1) got ≡ None

@@ -6,7 +6,9 @@ ghost use Rattle.nb_terms.specs.declared.acts.Acts.{Acts};
 ghost use Rattle.nb_wire.specs.declared.address.Ip4.{Ip4};
 ghost use Rattle.nb_tftp.specs.Asks.{Begun, begun};
 ghost use Rattle.nb_tftp.specs.Received.{Received};
-ghost use Rattle.nb_tftp.specs.History.{Entry, entry, came, ticked, given};
+ghost use Rattle.nb_tftp.specs.Blocks.{count, file};
+ghost use Rattle.nb_tftp.specs.History.{Entry, entry, came, ticked, given, got};
+ghost use Rattle.nb_tftp.specs.Limits.{StopsAtEnd, HaveBytes};
 ghost use Rattle.nb_tftp.specs.Sentences.{Meets};
 ghost use Rattle.nb_tftp.specs.Plain.{IsPlain, IsRangeOf};
 
@@ -29,4 +31,13 @@ pub fn gives_within_the_body()
     ensures none { (h : List Entry) (e : Entry) → e.acts.give ≡ None → given (h ++ e ∷ []) ≡ given h }
     ensures time { (b : Begun) (start : ℕ) (h : List Entry) (now : ℕ) (acts : Acts)
         → Meets b start (h ++ entry (ticked now) acts ∷ []) → acts.give ≡ None }
+{}
+
+/// A transfer takes at most 65,535 blocks, of 512 bytes each at most, since it ends at block 65,535; and
+/// no block among datagrams of bytes has a higher number.
+pub fn at_most_65535_blocks()
+    ensures blocks { (b : Begun) (start : ℕ) (h : List Entry) → Meets b start h → StopsAtEnd h → count (got h) ≤ 65535 }
+    ensures size { (b : Begun) (start : ℕ) (h : List Entry) → Meets b start h → StopsAtEnd h → length (file (got h)) ≤ 33553920 }
+    ensures numbers { (received : List Received) → HaveBytes received → count received ≤ 65535 }
+    ensures bytes { (received : List Received) → HaveBytes received → length (file received) ≤ 33553920 }
 {}

@@ -15,7 +15,7 @@ mod laws;
 mod state;
 mod transfer;
 
-pub use laws::{asks_plainly, gives_within_the_body};
+pub use laws::{asks_plainly, at_most_65535_blocks, gives_within_the_body};
 pub use transfer::{TooLong, Transfer};
 
 #[cfg(test)]
