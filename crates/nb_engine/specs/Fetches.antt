@@ -18,7 +18,7 @@ use Rattle.nb_engine.specs.Conclusions.{Conclusion, keeps, fails, boots}
 
 -- the bytes of a message that go up
 abbrev pub given_bytes : Option (ℕ × ℕ) → List ℕ → List ℕ
-given_bytes give body = option_map_or (λ r. slice_range body r.0 r.1) [] give
+given_bytes give body = option_map_or (λ r. slice_range body r.0 r.1) give []
 
 -- two fetches differ in their transfers and bodies alone
 pub record IsSameFetch (old new : Fetch) : Type 0 where

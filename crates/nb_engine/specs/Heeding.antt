@@ -38,7 +38,7 @@ Heeds (turn.Over s) P before after old new = IsEnd s × Follows P before after o
 
 -- the fetch is the open's, and this comes to it
 abbrev pub Comes : Call → Fetch → Open → Call → Type 0
-Comes came f o call = IsLive f o × (call ≡ came)
+Comes brought f o call = IsLive f o × (call ≡ brought)
 
 -- the fetch is the open's once this has come to it, and it was heard
 pub record HasHeard (heard : Heard) (f : Fetch) (o : Open) (call : Call) : Type 0 where

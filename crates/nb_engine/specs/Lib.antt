@@ -11,7 +11,7 @@ pub mod Fetches
 pub mod Handings
 pub mod Seen
 pub mod Turns
-pub mod Advance
 pub mod Heeding
 pub mod Concluding
+pub mod Advance
 pub mod Numbers

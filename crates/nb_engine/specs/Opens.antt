@@ -1,5 +1,5 @@
 -- RFC 1350: an open, which fetches a file, and the records of what it asks.
-use Rattle.std.specs.Prelude.{ℕ, ◌&&◌, ◌==◌, nat_lt, Bool, List, [], ◌∷◌, ◌++◌, length, Option, Some, None, if◌then◌else◌}
+use Rattle.std.specs.Prelude.{ℕ, ◌&&◌, ◌==◌, nat_lt, Bool, true, false, List, [], ◌∷◌, ◌++◌, length, Option, Some, None, if◌then◌else◌}
 use Rattle.std.specs.Option.{option_to_list, option_map_or}
 use Rattle.std.specs.List.{flat_map}
 use Rattle.nb_terms.specs.declared.cause.Cause.{Cause}
@@ -8,9 +8,9 @@ use Rattle.nb_terms.specs.declared.acts.SendTo.{SendTo}
 use Rattle.nb_wire.specs.declared.address.Ip4.{Ip4}
 use Rattle.nb_defs.specs.Records.{Out, sent, opened, tried, advanced}
 use Rattle.nb_stack.specs.Client.{Client}
-use Rattle.nb_stack.specs.Sends.{way_of, put_on}
-use Rattle.nb_stack.specs.declared.route.Way.{Way}
-use Rattle.nb_stack.specs.declared.route.Way.TheVariants.{Nowhere, Everyone, Hop}
+use Rattle.nb_stack.specs.Sends.{way_of, put_on, fate_of}
+use Rattle.nb_stack.specs.declared.taken.Fate.{Fate}
+use Rattle.nb_stack.specs.declared.taken.Fate.TheVariants as fate
 use Rattle.nb_stack.specs.Takes.{Outcome, dropped, replied, handed}
 use Rattle.nb_tftp.specs.Asks.{Begun, begun, last_message}
 use Rattle.nb_tftp.specs.History.{Entry, got}
@@ -43,14 +43,14 @@ with_entry o e = record { number = o.number; wanted = o.wanted; begun = o.begun;
 abbrev pub body_of : Open → List ℕ
 body_of o = file (got o.entries)
 
-abbrev pub is_way : Way → Bool
-is_way Nowhere = false
-is_way Everyone = true
-is_way (Hop from hop) = true
+abbrev pub is_on_its_way : Fate → Bool
+is_on_its_way fate.Sent = true
+is_on_its_way fate.Asked = true
+is_on_its_way fate.NoRoute = false
 
 -- the message finds a route
 abbrev pub has_route : Client → SendTo → Bool
-has_route net message = is_way (way_of net message)
+has_route net message = is_on_its_way (fate_of net (way_of net message))
 
 -- the request
 abbrev pub request_of : Begun → SendTo

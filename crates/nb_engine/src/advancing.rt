@@ -1,12 +1,18 @@
-ghost use Rattle.std.specs.Prelude.{◌≡◌, ◌<◌, ◌∷◌, ◌++◌, [], length, true, false, Some};
+ghost use Rattle.std.specs.Prelude.{◌≡◌, ◌<◌, ◌≤◌, ◌∷◌, [], length};
 ghost use Rattle.nb_defs.specs.Records.{out_texts};
 ghost use Rattle.nb_record.specs.Logged.{Puts};
 ghost use Rattle.nb_engine.specs.Turns.{Acts, IsNearer};
+ghost use Rattle.nb_engine.specs.Seen.{seen};
+ghost use Rattle.nb_engine.specs.Machine.{command_record, further};
+ghost use Rattle.nb_engine.specs.declared.client.Turn.TheVariants as turn;
 ghost use Rattle.nb_engine.specs.Effects.{effect, asks};
 ghost use Rattle.nb_engine.specs.CommandWords.{effect_of, wanted_of, TakesFewer, IsLocal};
 ghost use Rattle.nb_engine.specs.NextLine.{HasWords};
-ghost use Rattle.nb_engine.specs.Opens.{opened_record};
-ghost use Rattle.nb_engine.specs.Advance.{IfRunning, IsHanding};
+ghost use Rattle.nb_engine.specs.World.{with_open};
+ghost use Rattle.nb_engine.specs.Opens.{opened_record, has_route, send_records};
+ghost use Rattle.nb_engine.specs.Conclusions.{fails, conclusion_records};
+ghost use Rattle.nb_engine.specs.Concluding.{IsTurn};
+ghost use Rattle.nb_engine.specs.Advance.{IfRunning, IsHanding, IsNext, IsOneUdp, IfOne, Asks};
 ghost use Rattle.nb_engine.specs.declared.stage.Stage.TheVariants as stage;
 
 use crate::causes::{OK, no_route};
@@ -16,7 +22,8 @@ use crate::running::Next;
 use crate::status::status_after;
 use crate::world::own_port;
 use crate::{Client, Fetch, RunningScript, Stage, Status, Turn};
-use nb_record::{Acts, Cause, Log, NoMemory, OutRec};
+use nb_record::{Cause, Log, NoMemory, OutRec};
+use nb_record::Acts as Asked;
 use nb_stack::Stack;
 use nb_uri::TFTP_PORT;
 use nb_wire::Word;
@@ -29,7 +36,11 @@ const UDP: u8 = 17;
 const TFTP: u8 = 1;
 
 /// Puts the request of an open, its first try. False where there is no way to the server.
-fn put_request(net: &mut Stack, number: u16, acts: &Acts, log: &mut Log) -> bool
+fn put_request(net: &mut Stack, number: u16, acts: &Asked, log: &mut Log) -> bool
+    requires { IsOneUdp acts.now }
+    ensures route { IfOne acts.now.sends.items (λ send. result ≡ has_route net.old send) }
+    ensures puts { IfOne acts.now.sends.items (λ send. Puts log.old log.new (out_texts (send_records net.old number acts.now.tried send))) }
+    ensures same { net.new ≡ net.old }
 {
     match acts.sends.as_slice().first() {
         Some(send) => put_send(net, number, acts.tried, send, log),
@@ -123,7 +134,7 @@ impl Client {
     {
         let number = self.world.opens;
         let own_port = own_port(self.world.w, number);
-        let mut acts = Acts::none();
+        let mut acts = Asked::none();
         match Fetch::begin(self.alloc, number, own_port, wanted, self.world.time, &mut acts) {
             Ok(fetch) => {
                 self.put_opened(words, wanted, own_port, log);
@@ -154,7 +165,11 @@ impl Client {
     }
 
     /// Sends the request. Without a way to the server the open has ended, and the script is left.
-    fn ask(&mut self, fetch: Fetch, acts: &Acts, log: &mut Log) -> Turn
+    fn ask(&mut self, fetch: Fetch, acts: &Asked, log: &mut Log) -> Turn
+        requires line { IfRunning self.old.stage (λ s. s.passed ≤ 4096) }
+        requires own { IsNext self.old.world fetch }
+        requires udp { IsOneUdp acts.now }
+        ensures { IfRunning self.old.stage (λ s. Asks result s fetch acts.now self.old self.new log.old log.new) }
     {
         let Stage::Running(script) = mem::replace(&mut self.stage, Stage::Stopped) else {
             unreachable!()
@@ -169,6 +184,11 @@ impl Client {
 
     /// The script's command waits for this fetch, whose port is bound.
     fn wait(&mut self, script: RunningScript, fetch: Fetch) -> Turn
+        requires line { script.passed ≤ 4096 }
+        requires own { IsNext self.old.world fetch }
+        requires free { self.old.world.net.ports ≡ [] }
+        ensures turn { result ≡ turn.Waiting }
+        ensures after { self.new ≡ seen self.old.used (with_open self.old.world) (stage.Waiting script fetch) }
     {
         let _ = self.world.net.bind(UDP, fetch.own_port, u64::from(fetch.number));
         self.world.opens += 1;
@@ -178,6 +198,9 @@ impl Client {
 
     /// The script's command fails, and the script is left.
     pub(crate) fn fail(&mut self, script: RunningScript, cause: Cause, log: &mut Log) -> Turn
+        ensures turn { IsTurn result (stage.Left cause) }
+        ensures puts { Puts log.old log.new (out_texts (conclusion_records script.depth (fails cause))) }
+        ensures after { self.new ≡ seen self.old.used self.old.world (stage.Left cause) }
     {
         put_result(cause, log);
         script.put_leave(cause, log);

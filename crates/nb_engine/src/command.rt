@@ -258,8 +258,8 @@ fn joined(alloc: Global, words: &[Word], newline: bool) -> Result<Text, NoMemory
 /// What a command of these words that is over at once comes to.
 pub fn carry_out(alloc: Global, command: Result<Command<'_>, Refusal>) -> Result<Done, NoMemory>
     requires { IsLocal command }
-    ensures value { IfOk result (λ done. effect_of command ≡ says (done_of done)) }
-    ensures fits { IfOk result (λ done. IfSome done.prints (λ text. PrintsWithin command (length text))) }
+    ensures value { IfOk result (λ done. effect_of command.entry ≡ says (done_of done)) }
+    ensures fits { IfOk result (λ done. IfSome done.prints (λ text. PrintsWithin command.entry (length text))) }
 {
     match command {
         Ok(Command::Echo { newline, text }) => Ok(Done {

@@ -1,4 +1,4 @@
-ghost use Rattle.std.specs.Prelude.{◌≡◌, ◌≤◌, ◌++◌, ◌⊎◌, [], length, IfOk, OnOk, OnErr, Some};
+ghost use Rattle.std.specs.Prelude.{◌≡◌, ◌≤◌, ◌++◌, ◌⊎◌, [], length, true, IfOk, OnOk, OnErr, Some};
 ghost use Rattle.nb_tftp.specs.Asks.{begun, sending};
 ghost use Rattle.nb_tftp.specs.Received.{received};
 ghost use Rattle.nb_tftpmsg.specs.Texts.{HasNoZero};

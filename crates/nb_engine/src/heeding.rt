@@ -1,12 +1,14 @@
-ghost use Rattle.std.specs.Prelude.{◌≡◌, ◌≤◌, None, Some, ◌∷◌, ◌++◌, []};
-ghost use Rattle.nb_defs.specs.Records.{out_texts, step, ended};
+ghost use Rattle.std.specs.Prelude.{◌≡◌, ◌≤◌, ℕ, ◌∷◌, []};
+ghost use Rattle.nb_defs.specs.Causes.{ok};
+ghost use Rattle.nb_defs.specs.Records.{out_texts, step};
 ghost use Rattle.nb_record.specs.Logged.{Puts};
-ghost use Rattle.nb_image.specs.Images.{image_of};
+ghost use Rattle.nb_engine.specs.Machine.{Running, further};
 ghost use Rattle.nb_engine.specs.Opens.{acts_records};
-ghost use Rattle.nb_engine.specs.Conclusions.{conclusion, conclusion_records};
-ghost use Rattle.nb_engine.specs.Fetches.{conclusion_of};
+ghost use Rattle.nb_engine.specs.Seen.{seen};
 ghost use Rattle.nb_engine.specs.Heeding.{Heeds, HasHeard};
-ghost use Rattle.nb_engine.specs.Concluding.{Concludes};
+ghost use Rattle.nb_engine.specs.Concluding.{Concludes, Ends, IsPlaceFor};
+ghost use Rattle.nb_engine.specs.declared.fetch.Fetch.{Fetch};
+ghost use Rattle.nb_engine.specs.declared.client.Turn.TheVariants as turn;
 ghost use Rattle.nb_engine.specs.Turns.{IsWaiting};
 ghost use Rattle.nb_tftp.specs.Sound.{IsSound};
 ghost use Rattle.nb_engine.specs.declared.stage.Stage.TheVariants as stage;
@@ -38,9 +40,12 @@ impl Client {
 
     /// The open goes on.
     fn go_on(&mut self, acts: &Acts, log: &mut Log) -> Turn
-        requires waits { IsWaiting self.old.stage }
         requires sound { (len : ℕ) × IsSound len acts.now }
-        ensures { GoesOn result acts.now self.old self.new log.old log.new }
+        requires waits { IsWaiting self.old.stage }
+        ensures turn { result ≡ turn.Waiting }
+        ensures puts { (s : Running) (f : Fetch) → self.old.stage ≡ stage.Waiting s f
+            → Puts log.old log.new (out_texts (step self.old.used ∷ acts_records self.old.world.net f.number acts.now)) }
+        ensures same { self.new ≡ self.old }
     {
         let Stage::Waiting(_, fetch) = &self.stage else {
             unreachable!()
@@ -52,9 +57,10 @@ impl Client {
 
     /// The open ends with this cause.
     fn end(&mut self, acts: &Acts, cause: Cause, log: &mut Log) -> Turn
-        requires waits { IsWaiting self.old.stage }
         requires sound { (len : ℕ) × IsSound len acts.now }
-        ensures { Ends result acts.now cause self.old self.new log.old log.new }
+        requires waits { IsWaiting self.old.stage }
+        ensures { (s : Running) (f : Fetch) → self.old.stage ≡ stage.Waiting s f
+            → Ends result acts.now cause s f self.old self.new log.old log.new }
     {
         let Stage::Waiting(script, fetch) = mem::replace(&mut self.stage, Stage::Stopped) else {
             unreachable!()
@@ -74,6 +80,9 @@ impl Client {
 
     /// Puts the result of the script's command, and goes on as that says.
     fn conclude(&mut self, script: RunningScript, conclusion: Conclusion, log: &mut Log) -> Turn
+        requires line { script.passed ≤ 4096 }
+        requires ports { self.old.world.net.ports ≡ [] }
+        requires place { IsPlaceFor conclusion self.old.world.images }
         ensures { Concludes result script conclusion self.old self.new log.old log.new }
     {
         match conclusion {
@@ -81,12 +90,7 @@ impl Client {
                 put_result(OK, log);
                 self.resume(script)
             }
-            Conclusion::Fails(cause) => {
-                put_result(cause, log);
-                script.put_leave(cause, log);
-                self.stage = Stage::Left(cause);
-                Turn::Over(status_after(cause))
-            }
+            Conclusion::Fails(cause) => self.fail(script, cause, log),
             Conclusion::Boots(kernel) => {
                 put_result(OK, log);
                 self.stage = Stage::HandingOff(Handing::of(kernel));
@@ -97,6 +101,10 @@ impl Client {
 
     /// The script goes on behind its line.
     fn resume(&mut self, mut script: RunningScript) -> Turn
+        requires line { script.passed ≤ 4096 }
+        requires ports { self.old.world.net.ports ≡ [] }
+        ensures turn { result ≡ turn.More }
+        ensures after { self.new ≡ seen self.old.used self.old.world (stage.Running (further script ok)) }
     {
         script.pass_with(OK);
         self.stage = Stage::Running(script);

@@ -1,4 +1,4 @@
-ghost use Rattle.std.specs.Prelude.{◌≡◌, ◌≤◌, [], ◌∷◌, ◌++◌, length, Some, true};
+ghost use Rattle.std.specs.Prelude.{◌≡◌, ◌≤◌, ℕ, [], ◌∷◌, ◌++◌, length, Some, true};
 ghost use Rattle.nb_defs.specs.Records.{out_texts, step, ended, enter, leave, result as result_record};
 ghost use Rattle.nb_record.specs.Logged.{Puts};
 ghost use Rattle.nb_engine.specs.Opens.{try_records, send_records, sends_records, advance_records, acts_records, has_route};
