@@ -1,4 +1,4 @@
--- A URI of the program, without where it lies in memory, and what is read of a text
+-- Own: a URI of the program, without where it lies in memory, and what is read of a text
 use Rattle.std.specs.Prelude.{ℕ, List, Option, Some, None, Result, Ok, Err, if◌then◌else◌}
 use Rattle.nb_uri.specs.declared.uri.TftpUri.{TftpUri}
 use Rattle.nb_uri.specs.declared.uri.UriError.{UriError}
