@@ -2,7 +2,7 @@
 use Rattle.std.proofs.Common.{◌≡◌, ℕ, ◌+◌, ◌<◌, ◌≤◌, false, Option, Some, None, List, [], ◌∷◌, ◌++◌, length, get_or, take, refl, sym, subst, arith, inl, inr}
 use Rattle.std.specs.Option.{is_some}
 use Rattle.std.proofs.lemmas.Bool.{cases_lt}
-use Rattle.std.proofs.lemmas.List.{length-take, take_more}
+use Rattle.std.proofs.lemmas.List.{take_more}
 use Rattle.nb_record.specs.Reading.{least_length, CanBegin, BeginsAs, whole_len}
 use Rattle.nb_record.specs.Held.{BreaksAt, part_of}
 use Rattle.nb_record.proofs.BeginLemmas.{broken}

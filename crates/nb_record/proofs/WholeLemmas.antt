@@ -1,10 +1,9 @@
 -- Bytes that are whole, as the reading sees it, are the spelling of the record that is read from them.
-use Rattle.std.proofs.Common.{◌≡◌, ℕ, ◌+◌, ◌*◌, ◌<◌, ◌≤◌, List, [], ◌∷◌, ◌++◌, length, get_or, take, drop, refl, sym, ap, subst, ◌∙◌, arith, lit<}
+use Rattle.std.proofs.Common.{◌≡◌, ℕ, ◌+◌, ◌≤◌, List, ◌∷◌, ◌++◌, length, get_or, take, drop, refl, sym, ap, subst, ◌∙◌, arith}
 use Rattle.std.specs.Int.{w16, w32, to_be_bytes, from_be_bytes}
-use Rattle.std.proofs.lemmas.List.{length-take, length-drop, take-append-drop, drop_more, drop_all, take_all, get_or-drop, get_or-take}
+use Rattle.std.proofs.lemmas.List.{length-take, length-drop, take-append-drop, drop_more, drop_all, take_all}
 use Rattle.std.proofs.lemmas.Nat.{be_bytes_4}
-use Rattle.nb_defs.specs.Records.{In, start, frame, tick, off, IsIn, IsTick, in_text}
-use Rattle.nb_defs.proofs.StartLaws.{start_at}
+use Rattle.nb_defs.specs.Records.{In, IsIn, IsTick, in_text}
 use Rattle.nb_defs.proofs.RecordLaws.{type_of, body_of, in_text-is, in_by}
 use Rattle.nb_record.specs.declared.kind.Kind.{Kind}
 use Rattle.nb_record.specs.declared.kind.Kind.TheVariants as kind
@@ -12,7 +11,7 @@ use Rattle.nb_record.specs.Reading.{length_with, ms_with, number_of, least_lengt
 use Rattle.nb_record.specs.Held.{IsFront}
 use Rattle.nb_record.proofs.BeginLemmas.{begins_front, LeadFits, BodyFits}
 use Rattle.nb_record.proofs.KnownLemmas.{IsBytes, IsBytes-take, IsBytes-lead, IsBytes-body, lead-take, length_known, length_front, lengths}
-use Rattle.nb_record.proofs.StartLemmas.{back2, below2, start_at-valid, start_body-at}
+use Rattle.nb_record.proofs.StartLemmas.{back2, start_at-valid, start_body-at}
 
 -- bytes that are a record of a kind, as the reading sees it
 pub record IsWhole (k : Kind) (bytes : List ℕ) : Type 0 where

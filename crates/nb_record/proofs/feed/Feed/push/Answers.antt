@@ -1,4 +1,4 @@
-use Rattle.std.proofs.Common.{◌≡◌, ◌<◌, ◌≤◌, length, drop, vec_len, ap, arith}
+use Rattle.std.proofs.Common.{◌≡◌, ◌<◌, length, drop, vec_len, ap, arith}
 use Rattle.std.proofs.lemmas.List.{length-drop}
 use Rattle.nb_defs.proofs.RecordLaws.{partial_short}
 use Rattle.nb_record.specs.Bytes.{Held}

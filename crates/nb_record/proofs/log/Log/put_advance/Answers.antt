@@ -1,4 +1,3 @@
-use Rattle.std.proofs.Common.{refl}
 use Rattle.nb_defs.specs.Records.{out_text}
 use Rattle.nb_record.proofs.LogLemmas.{Puts-same}
 use Rattle.nb_record.proofs.SpellingLemmas.{record_same}
