@@ -7,3 +7,6 @@ pub mod CallLemmas
 pub mod PlainLaws
 pub mod FoundLemmas
 pub mod LimitLaws
+pub mod SilenceLemmas
+pub mod EndLaws
+pub mod CutLaws

@@ -9,3 +9,5 @@ pub mod Sentences
 pub mod Stands
 pub mod Plain
 pub mod Limits
+pub mod Endings
+pub mod Cuts
