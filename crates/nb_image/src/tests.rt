@@ -156,6 +156,7 @@ fn parts_in_order(rt: HostRuntime) -> Result<(), Fail> {
     }
     match images.handoff() {
         Some(handoff) => {
+            assert_eq!(rt; handoff.part_count(), rows.len());
             for (k, row) in rows.iter().enumerate() {
                 let part = handoff
                     .part(k)
@@ -188,6 +189,8 @@ fn pieces_of_a_part(rt: HostRuntime) -> Result<(), Fail> {
             index: 0,
             bytes: &bytes[..len.min(65_537)],
         };
+        let count = if len < 65_537 { 1 } else { 2 };
+        assert_eq!(rt; part.piece_count(), count, "the pieces of {len} bytes");
         let piece = part.piece(p).map(|piece| (piece.offset, piece.bytes.len()));
         assert_eq!(rt; piece, expected, "piece {p} of {len} bytes");
     }
