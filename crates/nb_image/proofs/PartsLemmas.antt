@@ -4,10 +4,12 @@ use Rattle.std.specs.Prelude.{slice_get, option_map}
 use Rattle.std.specs.List.{remove, flat_map, enumerate_from}
 use Rattle.std.proofs.lemmas.Bool.{cases_lt}
 use Rattle.std.proofs.lemmas.Option.{slice_get-get_or, slice_get_past}
+use Rattle.std.proofs.lemmas.List.Edits.{length-remove}
 use Rattle.std.proofs.lemmas.List.FromFn.{get_or-map-range_with_len, length-map-range_with_len}
 use Rattle.nb_image.specs.declared.image.Image.{Image}
 use Rattle.nb_image.specs.declared.part.PartKind.TheVariants.{InitrdName, Initrd}
-use Rattle.nb_image.specs.Parts.{part, initrd_parts, others_parts, piece_at, piece_count, pieces}
+use Rattle.nb_image.specs.Images.{image_of}
+use Rattle.nb_image.specs.Parts.{part, initrd_parts, others_parts, parts, piece_at, piece_count, pieces}
 use Rattle.nb_image.proofs.RemoveLemmas.{other_at}
 
 pub pieces_past : (bytes : List ℕ) (p : ℕ) → piece_count (length bytes) ≤ p → slice_get (pieces bytes) p ≡ None
@@ -85,3 +87,18 @@ pub other_body : (images : List Image) (kernel k place : ℕ) → kernel < lengt
 other_body images kernel k place w before behind odd =
     others_body (remove images kernel) k odd
     ∙ ap (option_map (λ (image : Image). part Initrd (k / 2) image.body)) (other_at images kernel (k / 2) place w before behind)
+
+pub pieces_length : (bytes : List ℕ) → length (pieces bytes) ≡ piece_count (length bytes)
+pieces_length bytes = length-map-range_with_len (piece_at bytes) 0 (piece_count (length bytes))
+
+others_length : (n : ℕ) (xs : List Image) → length (flat_map initrd_parts (enumerate_from n xs)) ≡ 2 * length xs
+others_length n [] = refl
+others_length n (x ∷ xs) = let rest = others_length (n + 1) xs in omega arith
+
+-- three parts of the image to boot, and two of each other one
+pub parts_length : (images : List Image) (kernel : ℕ) → kernel < length images → length (parts kernel images) ≡ 1 + 2 * length images
+parts_length images kernel w =
+    let there = slice_get-get_or images kernel (image_of [] [] [] []) w in
+    let others = others_length 0 (remove images kernel) in
+    let gone = length-remove images kernel w in
+    rw there (omega arith)

@@ -1,7 +1,9 @@
 ghost use Rattle.std.specs.Prelude.{◌≡◌, ◌+◌, ◌*◌, ◌<◌, ◌≤◌, [], ◌++◌, length, take, drop, IfOk, OnOk, OnErr, IsErrOf};
 ghost use Rattle.std.specs.Option.{MatchOption};
+ghost use Rattle.nb_image.specs.Kinds.{kind_of};
 
-use crate::PushError;
+use crate::kind::kind_of;
+use crate::{ImageKind, PushError};
 use nb_terms::NoMemory;
 use nb_wire::Text;
 use std::alloc::Global;
@@ -59,6 +61,13 @@ impl Body {
         ensures fits { result ≤ 268435456 }
     {
         self.bytes.len()
+    }
+
+    /// What an image of these bytes is.
+    pub fn kind(&self) -> ImageKind
+        ensures { result ≡ kind_of self.now }
+    {
+        kind_of(self.bytes.as_slice())
     }
 
     /// The bytes from 65,536 times `p` on, at most 65,536 of them. None where none are there.

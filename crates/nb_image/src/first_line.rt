@@ -7,6 +7,10 @@ ghost use Rattle.nb_image.specs.Kinds.{is_script};
 pub fn begins_script(text: &[u8]) -> bool
     ensures { result ≡ is_script text.now }
 {
+    // A kernel may have no line feed in many megabytes: only what begins as a script is searched for one.
+    if !text.starts_with(b"#!ipxe") {
+        return false;
+    }
     match line_feed(text) {
         Some(end) => is_first_line(&text[..end]),
         None => is_first_line(text),

@@ -27,6 +27,15 @@ impl<'a> Handoff<'a> {
             _ => other_part(self.images, self.kernel, k - 3),
         }
     }
+
+    /// How many parts there are: three of the image to boot, and two of each other image.
+    pub fn part_count(&self) -> usize
+        requires { self.now.kernel < length self.now.images.now.images }
+        ensures value { result ≡ length (parts self.now.kernel self.now.images.now.images) }
+        ensures fits { result ≤ 65 }
+    {
+        1 + 2 * self.images.len()
+    }
 }
 
 /// Part `k` of the images other than the one at the place `kernel`.

@@ -1,11 +1,11 @@
-ghost use Rattle.std.specs.Prelude.{◌≡◌, ◌<◌, ◌≤◌, [], None, Some, length, slice_get, unwrap_or, IfOk, OnOk, OnErr, IfErr, IfSome, ◌⊎◌, option_map};
+ghost use Rattle.std.specs.Prelude.{◌≡◌, ◌<◌, ◌≤◌, ℕ, List, [], None, Some, length, slice_get, unwrap_or, IfOk, OnOk, OnErr, IfErr, IfSome, ◌⊎◌, option_map};
 ghost use Rattle.std.specs.Option.{MatchOption};
 ghost use Rattle.nb_image.specs.Images.{image_of, place_of, with_image, with_args_at, without, selected_image, refusal};
 ghost use Rattle.nb_image.specs.declared.error.ImageError.TheVariants as error;
 ghost use Rattle.nb_image.specs.Kinds.{kind_of};
 
 use crate::image::copy;
-use crate::list::{check_fits, place_of, put, selection_without};
+use crate::list::{place_of, put, refusal, selection_without};
 use crate::{Body, Handoff, Image, ImageError, ImageKind};
 use nb_terms::NoMemory;
 use std::alloc::Global;
@@ -61,10 +61,21 @@ impl Images {
             (λ e. (e ≡ error.NoMemory) ⊎ (refusal (image_of name.now body args.now uri.now) self.old.images ≡ Some e)) }
         ensures refused { OnErr result (self.new ≡ self.old) }
     {
+        if let Some(cause) = self.refuses(name, &body) {
+            return Err(cause);
+        }
         let image = Image::new(alloc, name, body, args, uri)?;
         let place = place_of(self.images.as_slice(), name);
-        check_fits(self.images.as_slice(), place, &image)?;
         put(&mut self.images, place, image)
+    }
+
+    /// Why an image of this name and body isn't taken, whatever its arguments and its URI are. None where
+    /// there is room for it.
+    pub fn refuses(&self, name: &[u8], body: &Body) -> Option<ImageError>
+        ensures { (args uri : List ℕ) → result ≡ refusal (image_of name.now body.now args uri) self.now.images }
+    {
+        let images = self.images.as_slice();
+        refusal(images, place_of(images, name), body)
     }
 
     /// Where the image of a name stands. None where there is none.
@@ -125,7 +136,7 @@ impl Images {
         requires { i < length self.now.images }
         ensures { option_map (λ image. kind_of image.body) (slice_get self.now.images i) ≡ Some result }
     {
-        crate::kind::kind_of(self.images[i].body.as_slice())
+        self.images[i].body.kind()
     }
 
     /// The selected image and all others, for the hand-off. None where none is selected.

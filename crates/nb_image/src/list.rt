@@ -1,10 +1,10 @@
 ghost use Rattle.std.specs.Prelude.{◌≡◌, ◌<◌, ◌≤◌, None, Some, length, vec_len, unwrap_or, IfOk, IfErr, OnOk, OnErr};
 ghost use Rattle.std.specs.Option.{ForSome};
-ghost use Rattle.std.specs.Result.{MatchResult};
+ghost use Rattle.nb_image.specs.declared.image.Image.{Image};
 ghost use Rattle.nb_image.specs.Images.{place_of, has_name, put_at, total_len, len_at, is_too_many, is_too_large, refusal, selection_without};
 ghost use Rattle.nb_image.specs.declared.error.ImageError.TheVariants as error;
 
-use crate::{Image, ImageError};
+use crate::{Body, Image, ImageError};
 
 /// The most images that a list may have.
 pub const MAX_IMAGES: usize = 32;
@@ -48,39 +48,39 @@ fn len_at(images: &[Image], place: Option<usize>) -> usize
     }
 }
 
-/// Whether there would be a 33rd image.
-fn is_too_many(images: &[Image], place: Option<usize>, image: &Image) -> bool
-    requires place { place ≡ place_of image.now.name images.now }
-    requires len { length images.now ≤ 32 }
-    ensures { result ≡ is_too_many image.now images.now }
+/// Whether there would be a 33rd image, if one of the name that stands at this place were put.
+fn is_too_many(images: &[Image], place: Option<usize>) -> bool
+    requires { length images.now ≤ 32 }
+    ensures { (image : Image) → place ≡ place_of image.name images.now → result ≡ is_too_many image images.now }
 {
     place.is_none() && images.len() >= MAX_IMAGES
 }
 
-/// Whether all bodies together would have more than 536,870,912 bytes.
-fn is_too_large(images: &[Image], place: Option<usize>, image: &Image) -> bool
-    requires place { place ≡ place_of image.now.name images.now }
+/// Whether all bodies together would have more than 536,870,912 bytes, with this body put there.
+fn is_too_large(images: &[Image], place: Option<usize>, body: &Body) -> bool
+    requires place { ForSome place (λ i. i < length images.now) }
     requires total { total_len images.now ≤ 536870912 }
-    ensures { result ≡ is_too_large image.now images.now }
+    ensures { (image : Image) → place ≡ place_of image.name images.now → image.body ≡ body.now
+        → result ≡ is_too_large image images.now }
 {
-    total_len(images) - len_at(images, place) + image.body.len() > MAX_TOTAL_LEN
+    total_len(images) - len_at(images, place) + body.len() > MAX_TOTAL_LEN
 }
 
-/// Refuses an image that doesn't fit into the list.
-pub fn check_fits(images: &[Image], place: Option<usize>, image: &Image) -> Result<(), ImageError>
-    requires place { place ≡ place_of image.now.name images.now }
+/// Why an image of this body, whose name stands at this place, isn't taken into the list.
+pub fn refusal(images: &[Image], place: Option<usize>, body: &Body) -> Option<ImageError>
+    requires place { ForSome place (λ i. i < length images.now) }
     requires len { length images.now ≤ 32 }
     requires total { total_len images.now ≤ 536870912 }
-    ensures { MatchResult result (λ _. refusal image.now images.now ≡ None)
-        (λ e. refusal image.now images.now ≡ Some e) }
+    ensures { (image : Image) → place ≡ place_of image.name images.now → image.body ≡ body.now
+        → result ≡ refusal image images.now }
 {
-    if is_too_many(images, place, image) {
-        return Err(ImageError::TooMany);
+    if is_too_many(images, place) {
+        return Some(ImageError::TooMany);
     }
-    if is_too_large(images, place, image) {
-        return Err(ImageError::TooLarge);
+    if is_too_large(images, place, body) {
+        return Some(ImageError::TooLarge);
     }
-    Ok(())
+    None
 }
 
 /// Puts an image in place of another, or behind all, and says where.

@@ -1,4 +1,4 @@
-ghost use Rattle.std.specs.Prelude.{◌≡◌, slice_get, option_map};
+ghost use Rattle.std.specs.Prelude.{◌≡◌, length, slice_get, option_map};
 ghost use Rattle.nb_image.specs.Parts.{number_of, piece_text, pieces, piece_count};
 
 use crate::PAGE_LEN;
@@ -63,6 +63,13 @@ impl<'a> Part<'a> {
             offset,
             bytes: first_page(&self.bytes[offset..]),
         })
+    }
+
+    /// How many pieces it has; one without bytes has one.
+    pub fn piece_count(&self) -> usize
+        ensures { result ≡ length (pieces self.now.bytes.now) }
+    {
+        piece_count(self.bytes.len())
     }
 }
 

@@ -30,13 +30,9 @@ fn kinds_by_content(rt: HostRuntime) -> Result<(), Fail> {
     ];
     for (number, (bytes, kind)) in rows.iter().enumerate() {
         let mut images = Images::new(rt.alloc());
-        let i = images.add(
-            rt.alloc(),
-            b"image",
-            body(rt.alloc(), bytes)?,
-            b"",
-            b"tftp://10.0.0.1/image",
-        )?;
+        let body = body(rt.alloc(), bytes)?;
+        assert_eq!(rt; body.kind(), *kind, "body {number}");
+        let i = images.add(rt.alloc(), b"image", body, b"", b"tftp://10.0.0.1/image")?;
         assert_eq!(rt; images.kind(i), *kind, "row {number}");
     }
     Ok(())
@@ -125,12 +121,14 @@ fn at_most_32_images(rt: HostRuntime) -> Result<(), Fail> {
     let alloc = rt.alloc();
     let mut images = Images::new(alloc);
     for number in 0..33u8 {
+        let refused = images.refuses(&[number], &Body::new(alloc));
         let added = images.add(alloc, &[number], Body::new(alloc), b"", b"");
         let expected = if number < 32 {
             Ok(number as usize)
         } else {
             Err(ImageError::TooMany)
         };
+        assert_eq!(rt; refused, expected.err());
         assert_eq!(rt; added, expected);
     }
     assert_eq!(rt;
@@ -158,6 +156,7 @@ fn parts_in_order(rt: HostRuntime) -> Result<(), Fail> {
     }
     match images.handoff() {
         Some(handoff) => {
+            assert_eq!(rt; handoff.part_count(), rows.len());
             for (k, row) in rows.iter().enumerate() {
                 let part = handoff
                     .part(k)
@@ -190,6 +189,8 @@ fn pieces_of_a_part(rt: HostRuntime) -> Result<(), Fail> {
             index: 0,
             bytes: &bytes[..len.min(65_537)],
         };
+        let count = if len < 65_537 { 1 } else { 2 };
+        assert_eq!(rt; part.piece_count(), count, "the pieces of {len} bytes");
         let piece = part.piece(p).map(|piece| (piece.offset, piece.bytes.len()));
         assert_eq!(rt; piece, expected, "piece {p} of {len} bytes");
     }

@@ -7,7 +7,7 @@ use Rattle.std.proofs.lemmas.List.{append-nil, length-append}
 use Rattle.std.proofs.lemmas.List.Concat.{flat_map-append}
 use Rattle.std.proofs.lemmas.Option.{none-some, same_Some, option_and_then_some}
 use Rattle.nb_tftp.specs.Received.{Received, block_bytes, fixed_port}
-use Rattle.nb_tftp.specs.Blocks.{Found, first_passing, is_block_from, if_fitting, next_block, behind_block, blocks_to, count, file}
+use Rattle.nb_tftp.specs.Blocks.{Found, first_passing, is_block_from, if_fitting, next_block, behind_block, blocks_to, count, file, last_block}
 use Rattle.nb_tftp.proofs.BlockLemmas.{either_way, fitting_same, map_some, found_at, blocks_to-past}
 use Rattle.nb_tftp.proofs.ReceivedLemmas.{by_option, no_blocks, blocks_at}
 
@@ -67,7 +67,7 @@ anything (m ∷ ms) = (tt, anything ms)
 pub found_short : (port : ℕ) (got : List Received) (n : ℕ) (found : Found) → found_at port got n ≡ Some found → length (block_bytes found.one) ≤ 512
 found_short port got n found is = (found_all (λ m. Unit {0}) port got n found (anything got) is).short
 
-abbrev joined : List (List ℕ) → List ℕ
+abbrev pub joined : List (List ℕ) → List ℕ
 joined bs = flat_map (λ block. block) bs
 
 abbrev pub bytes_found : Option Found → List (List ℕ)
@@ -108,3 +108,9 @@ bounded_blocks port got bound k small =
     (λ less. let few = few_blocks port got k in omega arith)
     (λ above. let few = few_blocks port got bound in rw (blocks_to-past port got bound k none above) few)
     (cases_lt k bound)
+
+-- no last block, no blocks
+pub no_last : (bs : List (List ℕ)) → last_block bs ≡ None → length bs ≡ 0
+no_last [] is = refl
+no_last (b ∷ []) is = absurd (none-some b (sym is))
+no_last (b ∷ c ∷ bs) is = let none : length (c ∷ bs) ≡ 0 = no_last (c ∷ bs) is in absurd (omega arith)

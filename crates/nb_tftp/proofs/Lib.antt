@@ -8,3 +8,6 @@ pub mod PlainLaws
 mod SoundLemmas
 pub mod FoundLemmas
 pub mod LimitLaws
+pub mod SilenceLemmas
+pub mod EndLaws
+pub mod CutLaws

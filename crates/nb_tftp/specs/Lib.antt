@@ -10,3 +10,5 @@ pub mod Stands
 pub mod Plain
 pub mod Limits
 pub mod Sound
+pub mod Endings
+pub mod Cuts

@@ -1,15 +1,18 @@
 //! Laws of what a transfer promises of its calls, for a caller that keeps them: each is a function
 //! that does nothing, whose contract is the law.
 
-ghost use Rattle.std.specs.Prelude.{◌≡◌, ◌≤◌, ◌∷◌, ◌++◌, [], ℕ, List, length, Some, None, slice_range};
+ghost use Rattle.std.specs.Prelude.{◌≡◌, ◌≤◌, ◌∷◌, ◌++◌, [], ℕ, List, length, Some, None, slice_range, ◌*◌, take, true};
 ghost use Rattle.nb_terms.specs.declared.acts.Acts.{Acts};
+ghost use Rattle.nb_terms.specs.declared.cause.Cause.{Cause};
 ghost use Rattle.nb_wire.specs.declared.address.Ip4.{Ip4};
 ghost use Rattle.nb_tftp.specs.Asks.{Begun, begun};
 ghost use Rattle.nb_tftp.specs.Received.{Received};
-ghost use Rattle.nb_tftp.specs.Blocks.{count, file};
+ghost use Rattle.nb_tftp.specs.Blocks.{count, file, is_whole};
+ghost use Rattle.nb_tftp.specs.Cuts.{cuts, CarriesFile};
 ghost use Rattle.nb_tftp.specs.History.{Entry, entry, came, ticked, given, got};
 ghost use Rattle.nb_tftp.specs.Limits.{StopsAtEnd, HaveBytes};
 ghost use Rattle.nb_tftp.specs.Sentences.{Meets};
+ghost use Rattle.nb_tftp.specs.Endings.{Ending};
 ghost use Rattle.nb_tftp.specs.Plain.{IsPlain, IsRangeOf};
 
 /// A call sends at most one message, by UDP from the transfer's port to its server, and holds no bytes
@@ -40,4 +43,23 @@ pub fn at_most_65535_blocks()
     ensures size { (b : Begun) (start : ℕ) (h : List Entry) → Meets b start h → StopsAtEnd h → length (file (got h)) ≤ 33553920 }
     ensures numbers { (received : List Received) → HaveBytes received → count received ≤ 65535 }
     ensures bytes { (received : List Received) → HaveBytes received → length (file received) ≤ 33553920 }
+{}
+
+/// Each cause of an end stands in what was received and when, and no other cause comes: `Ending` has
+/// what stands behind each.
+pub fn ends_as_told()
+    ensures { (b : Begun) (start : ℕ) (h : List Entry) (e : Entry) (cause : Cause) → Meets b start (h ++ e ∷ [])
+        → e.acts.over ≡ Some cause → Ending start h e cause }
+{}
+
+/// From a server that sends the blocks of one file comes a front of it, of 512 bytes for each block. Where a
+/// short block has come, it is the whole file; where as many have come as the file has, the last is short.
+pub fn honest_server_gives_its_file()
+    ensures front { (bytes : List ℕ) (received : List Received) → CarriesFile bytes received
+        → file received ≡ take (512 * count received) bytes }
+    ensures whole { (bytes : List ℕ) (received : List Received) → CarriesFile bytes received
+        → is_whole received ≡ true → file received ≡ bytes }
+    ensures few { (bytes : List ℕ) (received : List Received) → CarriesFile bytes received → count received ≤ cuts bytes }
+    ensures all { (bytes : List ℕ) (received : List Received) → CarriesFile bytes received
+        → count received ≡ cuts bytes → is_whole received ≡ true }
 {}

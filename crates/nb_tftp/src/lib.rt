@@ -4,7 +4,8 @@
 //! one fewer. From then on the transfer is handed each message of its port and each time, and says by
 //! `Acts` what to send, what goes up, and how it ended. The server's port is the one that the first block 1
 //! comes from; packets from other ports are told so (error 5). An OACK is ignored: no option was asked for.
-//! Start with `Transfer`; what it promises is `Stands` of specs/.
+//! Start with `Transfer`; what it promises is `Stands` of specs/. What follows from that for a caller that
+//! keeps the calls is said by the functions of `laws`.
 #![tactic(auto)]
 
 mod acts;
@@ -15,7 +16,10 @@ mod laws;
 mod state;
 mod transfer;
 
-pub use laws::{asks_plainly, at_most_65535_blocks, gives_within_the_body};
+pub use laws::{
+    asks_plainly, at_most_65535_blocks, ends_as_told, gives_within_the_body,
+    honest_server_gives_its_file,
+};
 pub use transfer::{TooLong, Transfer};
 
 #[cfg(test)]
