@@ -1,3 +1,9 @@
 pub mod Digits
 pub mod Joins
 pub mod Puts
+pub mod Standing
+pub mod Hearings
+pub mod Heedings
+pub mod Growth
+pub mod Moves
+pub mod HandingLemmas

@@ -13,6 +13,7 @@ use Rattle.nb_engine.specs.declared.fetch.Fetch.{Fetch}
 use Rattle.nb_engine.specs.declared.fetch.Heard.{Heard}
 use Rattle.nb_engine.specs.declared.conclusion.Conclusion.{Conclusion as Concluded}
 use Rattle.nb_engine.specs.declared.conclusion.Conclusion.TheVariants as concluded
+use Rattle.nb_engine.specs.Handings.{AreShort}
 use Rattle.nb_engine.specs.Opens.{Open, body_of, end_of, is_over_limit}
 use Rattle.nb_engine.specs.Conclusions.{Conclusion, keeps, fails, boots}
 
@@ -36,6 +37,7 @@ pub record TakesCall (old new : Fetch) (call : Call) (heard : Heard) : Type 0 wh
       Stands b start new.transfer (h ++ entry call heard.acts ∷ [])
   pub sound : (len : ℕ) × IsSound len heard.acts
   pub ends : heard.end ≡ end_of (old.body ++ given_of call heard.acts.give) heard.acts
+  pub short : length new.body ≤ 268435456
   pub body : (new.body ≡ old.body ++ given_of call heard.acts.give) ⊎ (is_over_limit (old.body ++ given_of call heard.acts.give) ≡ true)
 
 -- the fetch is the open's
@@ -71,3 +73,9 @@ HasKept (concluded.Boots kernel) before after = kernel < length after.images
 pub record Concludes (c : Concluded) (is : Conclusion) (before after : ImageList) : Type 0 where
   pub same : is ≡ conclusion_of c after
   pub kept : HasKept c before after
+  pub short : AreShort before.images → AreShort after.images
+
+-- the image at a place is selected and boots, or the list stays
+abbrev pub Chooses : Concluded → Bool → ℕ → ImageList → ImageList → Type 0
+Chooses c true place before after = (c ≡ concluded.Boots place) × (after ≡ record { images = before.images; selected = Some place })
+Chooses c false place before after = (c ≡ concluded.Keeps) × (after ≡ before)

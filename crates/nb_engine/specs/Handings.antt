@@ -1,6 +1,6 @@
 -- How far a hand-off is, and what putting a piece does to it.
-use Rattle.std.specs.Prelude.{◌≡◌, ℕ, ◌<◌, ◌≤◌, ◌&&◌, nat_le, Bool, true, false, List, [], ◌∷◌, length, drop, Option, Some, None, slice_get, IfSome}
-use Rattle.std.specs.List.{flat_map, list_all}
+use Rattle.std.specs.Prelude.{◌≡◌, ℕ, ◌<◌, ◌≤◌, Bool, true, false, List, [], ◌∷◌, length, drop, Option, Some, None, slice_get, IfSome}
+use Rattle.std.specs.List.{flat_map, AllByRecursion}
 use Rattle.nb_defs.specs.Records.{Out, out_texts}
 use Rattle.nb_record.specs.Logged.{Logged, Puts}
 use Rattle.nb_image.specs.declared.image.Image.{Image}
@@ -9,9 +9,14 @@ use Rattle.nb_image.specs.Parts.{PartText, parts}
 use Rattle.nb_engine.specs.declared.handing.Handing.{Handing}
 use Rattle.nb_engine.specs.Conclusions.{part_records}
 
--- an image's texts are short
-abbrev pub is_short : Image → Bool
-is_short image = nat_le (length image.name) 65536 && nat_le (length image.args) 65536
+-- an image's texts are short, and its body is an image's
+pub record IsShort (image : Image) : Type 0 where
+  pub name : length image.name ≤ 268435456
+  pub body : length image.body ≤ 268435456
+  pub args : length image.args ≤ 268435456
+
+abbrev pub AreShort : List Image → Type 0
+AreShort images = AllByRecursion IsShort images
 
 -- the records of the pieces that are still to come
 abbrev pub records_left : List Image → Handing → List Out
@@ -23,7 +28,7 @@ pub record IsAt (list : ImageList) (h : Handing) : Type 0 where
   pub part : h.part ≤ length (parts h.kernel list.images)
   pub piece : IfSome (slice_get (parts h.kernel list.images) h.part) (λ p. h.piece < length (part_records p))
   pub behind : slice_get (parts h.kernel list.images) h.part ≡ None → h.piece ≡ 0
-  pub short : list_all is_short list.images ≡ true
+  pub short : AreShort list.images
 
 -- the next record was put, or there is none
 pub record PutsNext (images : List Image) (old new : Handing) (before after : Logged) : Type 0 where

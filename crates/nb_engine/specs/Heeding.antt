@@ -22,19 +22,18 @@ use Rattle.nb_engine.specs.declared.client.Turn.TheVariants as turn
 abbrev pub Uses : Turn → In → Seen → Seen → Logged → Logged → Type 0
 Uses t r before after old new = (n : ℕ) → before.used ≡ n + 1 → Acts t (r ∷ []) (seen n before.world before.stage) after old new
 
--- the step's records were put: what the datagram or the time brings the open is what they say, for each
--- open of which P holds
-pub record Follows (P : Fetch → Open → Call → Type 0) (before after : Seen) (old new : Logged) : Type 0 where
+-- the step's records were put: what comes to the open is what they say, for each open of which P holds
+pub record Follows (s : Running) (P : Open → Call → Type 0) (before after : Seen) (old new : Logged) : Type 0 where
   pub added : List Out
   pub puts : Puts old new (out_texts (step before.used ∷ added))
-  pub hears : (s : Running) (f : Fetch) (o : Open) (call : Call) → before.stage ≡ stage.Waiting s f → P f o call →
+  pub hears : (o : Open) (call : Call) → P o call →
       (phase : Phase) × Hears before.world s o call added phase × StandsFor after (at before.used phase)
 
-abbrev pub Heeds : Turn → (Fetch → Open → Call → Type 0) → Seen → Seen → Logged → Logged → Type 0
-Heeds turn.More P before after old new = Follows P before after old new × IsBusy after.stage
-Heeds turn.Waiting P before after old new = Follows P before after old new × IsWaiting after.stage
-Heeds (turn.Over status.NoMemory) P before after old new = new ≡ old
-Heeds (turn.Over s) P before after old new = IsEnd s × Follows P before after old new × IsOverWith after.stage s
+abbrev pub Heeds : Turn → Running → (Open → Call → Type 0) → Seen → Seen → Logged → Logged → Type 0
+Heeds turn.More s P before after old new = Follows s P before after old new × IsBusy after.stage
+Heeds turn.Waiting s P before after old new = Follows s P before after old new × IsWaiting after.stage
+Heeds (turn.Over status.NoMemory) s P before after old new = new ≡ old
+Heeds (turn.Over t) s P before after old new = IsEnd t × Follows s P before after old new × IsOverWith after.stage t
 
 -- the fetch is the open's, and this comes to it
 abbrev pub Comes : Call → Fetch → Open → Call → Type 0

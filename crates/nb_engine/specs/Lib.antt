@@ -7,8 +7,8 @@ pub mod StatusNumber
 pub mod CommandWords
 pub mod NextLine
 pub mod Steps
-pub mod Fetches
 pub mod Handings
+pub mod Fetches
 pub mod Seen
 pub mod Turns
 pub mod Heeding

@@ -1,6 +1,5 @@
 -- What a client is, and which states of the machine it stands for.
 use Rattle.std.specs.Prelude.{◌≡◌, ℕ, ◌+◌, ◌*◌, ◌≤◌, true, List, [], ◌∷◌, length}
-use Rattle.std.specs.List.{list_all}
 use Rattle.nb_terms.specs.declared.cause.Cause.{Cause}
 use Rattle.nb_defs.specs.Records.{Out}
 use Rattle.nb_stack.specs.declared.ports.Port.{Port}
@@ -14,7 +13,7 @@ use Rattle.nb_engine.specs.declared.stage.Stage.TheVariants as stage
 use Rattle.nb_engine.specs.Machine.{Running, Phase, Machine, at, ready, running, waiting, handing, left, handed_off, stopped}
 use Rattle.nb_engine.specs.Opens.{Open}
 use Rattle.nb_engine.specs.Fetches.{IsLive}
-use Rattle.nb_engine.specs.Handings.{IsAt, records_left, is_short}
+use Rattle.nb_engine.specs.Handings.{IsAt, records_left, AreShort}
 
 -- a client: how many records were used, what it has beside its script, and where its run stands
 pub record Seen : Type 0 where
@@ -35,11 +34,11 @@ HasPorts (stage.Left cause) ports = Unit {0}
 HasPorts stage.HandedOff ports = Unit {0}
 HasPorts stage.Stopped ports = Unit {0}
 
--- a script that waits isn't at its end
+-- a script that waits isn't at its end, and its fetch's name and body are an image's
 abbrev pub StandsWell : Stage → ImageList → Type 0
 StandsWell stage.Ready list = Unit {0}
 StandsWell (stage.Running s) list = Unit {0}
-StandsWell (stage.Waiting s f) list = s.passed ≤ 4096
+StandsWell (stage.Waiting s f) list = (s.passed ≤ 4096) × (length f.name ≤ 268435456) × (length f.body ≤ 268435456)
 StandsWell (stage.HandingOff h) list = IsAt list h
 StandsWell (stage.Left cause) list = Unit {0}
 StandsWell stage.HandedOff list = Unit {0}
@@ -52,7 +51,7 @@ pub record IsSound (used : ℕ) (world : World) (stage : Stage) : Type 0 where
   pub opens : world.opens ≤ 16384
   pub ports : HasPorts stage world.net.ports
   pub well : StandsWell stage world.images
-  pub short : list_all is_short world.images.images ≡ true
+  pub short : AreShort world.images.images
 
 -- the states of the machine for which a client stands: those that agree with it, with an open whose
 -- history is one of the client's transfer, and with the records that its hand-off has left

@@ -1,7 +1,8 @@
-ghost use Rattle.std.specs.Prelude.{◌≡◌, [], None, option_map, IfOk, IfErr, OnErr};
-ghost use Rattle.nb_image.specs.Images.{image_of};
-ghost use Rattle.nb_engine.specs.Conclusions.{conclusion, cause_of_error, is_bootable};
-ghost use Rattle.nb_engine.specs.Fetches.{Concludes};
+ghost use Rattle.std.specs.Prelude.{◌≡◌, ◌<◌, ◌≤◌, [], None, true, length, IfOk};
+ghost use Rattle.nb_image.specs.Images.{image_of, refusal};
+ghost use Rattle.nb_image.specs.Kinds.{kind_of};
+ghost use Rattle.nb_engine.specs.Conclusions.{conclusion, taken_in, cause_of_error, is_bootable};
+ghost use Rattle.nb_engine.specs.Fetches.{Concludes, Chooses};
 
 use crate::Fetch;
 use crate::causes::{NOT_BOOTABLE, NO_MEMORY, TOO_LARGE_IMAGES, TOO_MANY_IMAGES};
@@ -49,24 +50,52 @@ pub fn conclude(
     fetch: Fetch,
     cause: Cause,
 ) -> Result<Conclusion, NoMemory>
+    requires name { length fetch.name ≤ 268435456 }
+    requires body { length fetch.body ≤ 268435456 }
     ensures { IfOk result (λ c. Concludes c (conclusion cause fetch.boots (image_of fetch.name fetch.body [] fetch.uri) images.old) images.old images.new) }
 {
     if cause.code != 0 {
         return Ok(Conclusion::Fails(cause));
+    }
+    if let Some(error) = images.refuses(fetch.name.as_slice(), &fetch.body) {
+        return Ok(Conclusion::Fails(cause_of(error)));
+    }
+    if fetch.boots && !is_bootable(fetch.body.kind()) {
+        return Ok(Conclusion::Fails(NOT_BOOTABLE));
     }
     store(alloc, images, fetch)
 }
 
 /// Takes the image into the list, which doesn't refuse it.
 fn store(alloc: Global, images: &mut Images, fetch: Fetch) -> Result<Conclusion, NoMemory>
+    requires room { refusal (image_of fetch.name fetch.body [] fetch.uri) images.old.images ≡ None }
+    requires name { length fetch.name ≤ 268435456 }
+    requires body { length fetch.body ≤ 268435456 }
+    requires kind { fetch.boots ≡ true → is_bootable (kind_of fetch.body) ≡ true }
+    ensures { IfOk result (λ c. Concludes c (taken_in fetch.boots (image_of fetch.name fetch.body [] fetch.uri) images.old) images.old images.new) }
 {
-    let boots = fetch.boots;
-    match images.add(alloc, fetch.name.as_slice(), fetch.body, b"", fetch.uri.as_slice()) {
-        Ok(place) if boots => {
-            images.select(place);
-            Ok(Conclusion::Boots(place))
-        }
-        Ok(_) => Ok(Conclusion::Keeps),
+    let Fetch {
+        name,
+        uri,
+        boots,
+        body,
+        ..
+    } = fetch;
+    match images.add(alloc, name.as_slice(), body, b"", uri.as_slice()) {
+        Ok(place) => Ok(choose(images, boots, place)),
         Err(_) => Err(NoMemory),
+    }
+}
+
+/// Selects the image at a place, where it is booted.
+fn choose(images: &mut Images, boots: bool, place: usize) -> Conclusion
+    requires { place < length images.old.images }
+    ensures { Chooses result boots place images.old images.new }
+{
+    if boots {
+        images.select(place);
+        Conclusion::Boots(place)
+    } else {
+        Conclusion::Keeps
     }
 }

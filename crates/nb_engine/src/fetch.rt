@@ -106,6 +106,7 @@ impl Fetch {
         body: &[u8],
         now: u64,
     ) -> Result<Heard, NoMemory>
+        requires { length self.old.body ≤ 268435456 }
         ensures { IfOk result (λ heard. TakesCall self.old self.new (came (received rec port body.now) now) heard) }
     {
         let mut acts = Acts::none();
@@ -116,6 +117,7 @@ impl Fetch {
 
     /// It is this time, in milliseconds since the run's start.
     pub fn time(&mut self, now: u64) -> Result<Heard, NoMemory>
+        requires { length self.old.body ≤ 268435456 }
         ensures { IfOk result (λ heard. TakesCall self.old self.new (ticked now) heard) }
     {
         let mut acts = Acts::none();
@@ -126,12 +128,14 @@ impl Fetch {
 
     /// Joins the bytes that go up to the body, and says whether the open has ended.
     fn take(&mut self, acts: &Acts, body: &[u8]) -> Result<Option<Cause>, NoMemory>
-        requires { IsRange acts.now.give (length body.now) }
+        requires range { IsRange acts.now.give (length body.now) }
+        requires short { length self.old.body ≤ 268435456 }
         ensures end { IfOk result (λ end. end ≡ end_of (self.old.body ++ given_bytes acts.now.give body.now) acts.now) }
         ensures body { OnOk result ((self.new.body ≡ self.old.body ++ given_bytes acts.now.give body.now)
             ⊎ (is_over_limit (self.old.body ++ given_bytes acts.now.give body.now) ≡ true)) }
         ensures same { IsSameFetch self.old self.new }
         ensures transfer { self.new.transfer ≡ self.old.transfer }
+        ensures short { OnOk result (length self.new.body ≤ 268435456) }
     {
         match self.body.push(given(acts.give, body)) {
             Ok(()) => Ok(acts.over),

@@ -35,8 +35,11 @@ impl Handing {
             kernel: self.kernel,
             images,
         };
-        let Some(part) = handoff.part(self.part) else {
+        if self.part == handoff.part_count() {
             return false;
+        }
+        let Some(part) = handoff.part(self.part) else {
+            unreachable!()
         };
         let Some(piece) = part.piece(self.piece) else {
             unreachable!()
@@ -48,7 +51,7 @@ impl Handing {
             bytes: piece.bytes,
         });
         self.piece += 1;
-        if part.piece(self.piece).is_none() {
+        if self.piece == part.piece_count() {
             self.part += 1;
             self.piece = 0;
         }

@@ -30,7 +30,8 @@ impl Client {
     pub(crate) fn heed(&mut self, heard: &Heard, log: &mut Log) -> Turn
         requires waits { IsWaiting self.old.stage }
         requires sound { (len : ℕ) × IsSound len heard.now.acts }
-        ensures { Heeds result (HasHeard heard.now) self.old self.new log.old log.new }
+        ensures { (s : Running) (f : Fetch) → self.old.stage ≡ stage.Waiting s f
+            → Heeds result s (HasHeard heard.now f) self.old self.new log.old log.new }
     {
         match heard.end {
             None => self.go_on(&heard.acts, log),

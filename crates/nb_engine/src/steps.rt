@@ -7,7 +7,8 @@ ghost use Rattle.nb_record.specs.View.{start_of};
 ghost use Rattle.nb_record.specs.Logged.{Puts};
 ghost use Rattle.nb_tftp.specs.Received.{received};
 ghost use Rattle.nb_tftp.specs.History.{came, ticked};
-ghost use Rattle.nb_engine.specs.Machine.{reply_records};
+ghost use Rattle.nb_engine.specs.Machine.{Running, reply_records};
+ghost use Rattle.nb_engine.specs.declared.fetch.Fetch.{Fetch};
 ghost use Rattle.nb_engine.specs.Turns.{IsWaiting};
 ghost use Rattle.nb_engine.specs.Heeding.{Uses, Heeds, Comes, IsReply, asks_server};
 ghost use Rattle.nb_engine.specs.declared.stage.Stage.TheVariants as stage;
@@ -127,7 +128,8 @@ impl Client {
     /// A datagram comes to the open, from this port of its server.
     fn hear(&mut self, port: u16, body: &[u8], log: &mut Log) -> Turn
         requires { IsWaiting self.old.stage }
-        ensures { Heeds result (Comes (came (received self.old.used port body.now) self.old.world.time)) self.old self.new log.old log.new }
+        ensures { (s : Running) (f : Fetch) → self.old.stage ≡ stage.Waiting s f
+            → Heeds result s (Comes (came (received self.old.used port body.now) self.old.world.time) f) self.old self.new log.old log.new }
     {
         let (rec, now) = (self.used, self.world.time);
         let Stage::Waiting(_, fetch) = &mut self.stage else {
@@ -153,7 +155,8 @@ impl Client {
     /// A time comes to the open.
     fn pass_time(&mut self, log: &mut Log) -> Turn
         requires { IsWaiting self.old.stage }
-        ensures { Heeds result (Comes (ticked self.old.world.time)) self.old self.new log.old log.new }
+        ensures { (s : Running) (f : Fetch) → self.old.stage ≡ stage.Waiting s f
+            → Heeds result s (Comes (ticked self.old.world.time) f) self.old self.new log.old log.new }
     {
         let now = self.world.time;
         let Stage::Waiting(_, fetch) = &mut self.stage else {

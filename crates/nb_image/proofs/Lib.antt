@@ -3,4 +3,4 @@ mod FirstLineLemmas
 mod KindLemmas
 mod ListLemmas
 mod RemoveLemmas
-mod PartsLemmas
+pub mod PartsLemmas

@@ -1,0 +1,145 @@
+-- A client grows by the records of a step.
+use Rattle.std.proofs.Common.{◌≡◌, ℕ, ◌+◌, true, false, Bool, List, [], ◌∷◌, ◌++◌, Option, Some, None, refl, sym, ◌∙◌, ap, subst}
+use Rattle.nb_defs.specs.Causes.{not_script}
+use Rattle.nb_defs.specs.Records.{Start, In, start, frame, tick, off, IsIn, Out, out_texts, step, enter, leave, ended}
+use Rattle.nb_defs.specs.ScriptText.{is_plain}
+use Rattle.nb_record.specs.Logged.{Logged, Puts}
+use Rattle.nb_stack.specs.Client.{Client}
+use Rattle.nb_stack.specs.Takes.{Outcome, Takes}
+use Rattle.nb_tftp.specs.Received.{received}
+use Rattle.nb_tftp.specs.History.{Call, came, ticked}
+use Rattle.nb_engine.specs.declared.world.World.{World}
+use Rattle.nb_engine.specs.declared.fetch.Fetch.{Fetch}
+use Rattle.nb_engine.specs.declared.stage.Stage.{Stage}
+use Rattle.nb_engine.specs.declared.stage.Stage.TheVariants as stage
+use Rattle.nb_engine.specs.declared.status.Status.{Status}
+use Rattle.nb_engine.specs.declared.status.Status.TheVariants as status
+use Rattle.nb_engine.specs.declared.client.Turn.{Turn}
+use Rattle.nb_engine.specs.declared.client.Turn.TheVariants as turn
+use Rattle.nb_engine.specs.World.{world_of, with_net, later}
+use Rattle.nb_engine.specs.Opens.{Open, heard_from}
+use Rattle.nb_engine.specs.Machine.{Running, Machine, Phase, at, ready, running, waiting, left, stopped, Begins, runs, refuses, passes_by, brings, passes_time, switches_off, first_script, reply_records, stopped_cause}
+use Rattle.nb_engine.specs.Fetches.{IsLive}
+use Rattle.nb_engine.specs.Seen.{Seen, seen, StandsFor, as_running, as_waiting, as_left, as_stopped}
+use Rattle.nb_engine.specs.Heeding.{Heeds, Follows, Comes}
+use Rattle.nb_engine.specs.Turns.{Grows, Leads, Acts, IsEnd, IsOverWith}
+use Rattle.nb_engine.proofs.Standing.{stands_at}
+
+-- from a state to the next by a record
+begins_from : (m m0 m' : Machine) (r : In) (added : List Out) → m ≡ m0 → Begins m0 r added m' → Begins m r added m'
+begins_from m m0 m' r added e b = subst (λ x. Begins x r added m') (sym e) b
+
+-- a START whose text runs
+pub start_grows : {old new : Logged} (n : ℕ) (w : World) (s : Start) → IsIn (start s) → is_plain s.script ≡ true → Puts old new (out_texts (step (n + 1) ∷ enter 1 ∷ [])) →
+    Grows (start s ∷ []) (seen n w stage.Ready) (seen (n + 1) (world_of s) (stage.Running (first_script s.script))) old new
+start_grows n w s valid plain p = record {
+  added = step (n + 1) ∷ enter 1 ∷ [];
+  puts = p;
+  leads = λ m stands. record {
+    machine = at (n + 1) (running (world_of s) (first_script s.script));
+    steps = begins_from m (at n ready) _ (start s) _ (stands_at (seen n w stage.Ready) m stands) (runs n s valid plain);
+    stands = as_running (n + 1) (world_of s) (first_script s.script);
+  };
+}
+
+-- a START whose text is none
+pub refusal_grows : {old new : Logged} (n : ℕ) (w : World) (s : Start) → IsIn (start s) → is_plain s.script ≡ false → Puts old new (out_texts (step (n + 1) ∷ enter 1 ∷ leave 1 not_script ∷ [])) →
+    Grows (start s ∷ []) (seen n w stage.Ready) (seen (n + 1) w (stage.Left not_script)) old new
+refusal_grows n w s valid other p = record {
+  added = step (n + 1) ∷ enter 1 ∷ leave 1 not_script ∷ [];
+  puts = p;
+  leads = λ m stands. record {
+    machine = at (n + 1) (left not_script);
+    steps = begins_from m (at n ready) _ (start s) _ (stands_at (seen n w stage.Ready) m stands) (refuses n s valid other);
+    stands = as_left (n + 1) w not_script;
+  };
+}
+
+-- a frame that brings the open nothing
+pub pass_by_grows : {old new : Logged} (n : ℕ) (w : World) (s : Running) (f : Fetch) (bytes reply : List ℕ) (out : Outcome) (net : Client) → IsIn (frame bytes) →
+    Takes w.net bytes out [] reply net → heard_from f.server out ≡ None → Puts old new (out_texts (step (n + 1) ∷ reply_records reply)) →
+    Grows (frame bytes ∷ []) (seen n w (stage.Waiting s f)) (seen (n + 1) (with_net w net) (stage.Waiting s f)) old new
+pass_by_grows n w s f bytes reply out net valid takes none p = record {
+  added = step (n + 1) ∷ reply_records reply;
+  puts = p;
+  leads = λ m stands.
+      let is = stands_at (seen n w (stage.Waiting s f)) m stands in
+      record {
+        machine = at (n + 1) (waiting (with_net w net) s is.0);
+        steps = begins_from m (at n (waiting w s is.0)) _ (frame bytes) _ is.1
+            (passes_by n w s is.0 bytes reply out net valid takes (rw (← is.2.fetch.server) none));
+        stands = as_waiting (n + 1) (with_net w net) s f is.0 is.2;
+      };
+}
+
+-- a frame that brings it a datagram
+pub frame_grows : {old new : Logged} (n : ℕ) (w : World) (s : Running) (f : Fetch) (st : Stage) (after : Seen) (bytes reply : List ℕ) (out : Outcome) (net : Client) (port : ℕ) (body : List ℕ) →
+    IsIn (frame bytes) → Takes w.net bytes out [] reply net → heard_from f.server out ≡ Some (port, body) →
+    Follows s (Comes (came (received (n + 1) port body) w.time) f) (seen (n + 1) (with_net w net) st) after old new →
+    Grows (frame bytes ∷ []) (seen n w (stage.Waiting s f)) after old new
+frame_grows n w s f st after bytes reply out net port body valid takes heard fo = record {
+  added = step (n + 1) ∷ fo.added;
+  puts = fo.puts;
+  leads = λ m stands.
+      let is = stands_at (seen n w (stage.Waiting s f)) m stands in
+      let h = fo.hears is.0 (came (received (n + 1) port body) w.time) (is.2, refl) in
+      record {
+        machine = at (n + 1) h.0;
+        steps = begins_from m (at n (waiting w s is.0)) _ (frame bytes) _ is.1
+            (brings n w s is.0 bytes reply out net port body fo.added h.0 valid takes (rw (← is.2.fetch.server) heard) h.1);
+        stands = h.2;
+      };
+}
+
+-- time passes
+pub tick_grows : {old new : Logged} (n : ℕ) (w : World) (s : Running) (f : Fetch) (st : Stage) (after : Seen) (ms : ℕ) → IsIn (tick ms) →
+    Follows s (Comes (ticked (w.time + ms)) f) (seen (n + 1) (later w ms) st) after old new →
+    Grows (tick ms ∷ []) (seen n w (stage.Waiting s f)) after old new
+tick_grows n w s f st after ms valid fo = record {
+  added = step (n + 1) ∷ fo.added;
+  puts = fo.puts;
+  leads = λ m stands.
+      let is = stands_at (seen n w (stage.Waiting s f)) m stands in
+      let h = fo.hears is.0 (ticked (w.time + ms)) (is.2, refl) in
+      record {
+        machine = at (n + 1) h.0;
+        steps = begins_from m (at n (waiting w s is.0)) _ (tick ms) _ is.1 (passes_time n w s is.0 ms fo.added h.0 valid h.1);
+        stands = h.2;
+      };
+}
+
+off_numbered : (n : ℕ) (w : World) (s : Running) (o : Open) (number : ℕ) → number ≡ o.number →
+    Begins (at n (waiting w s o)) off (step (n + 1) ∷ ended number stopped_cause ∷ []) (at (n + 1) stopped)
+off_numbered n w s o number e = rw e (switches_off n w s o)
+
+-- the power is switched off
+pub off_grows : {old new : Logged} (n : ℕ) (w : World) (s : Running) (f : Fetch) → Puts old new (out_texts (step (n + 1) ∷ ended f.number stopped_cause ∷ [])) →
+    Grows (off ∷ []) (seen n w (stage.Waiting s f)) (seen (n + 1) w stage.Stopped) old new
+off_grows n w s f p = record {
+  added = step (n + 1) ∷ ended f.number stopped_cause ∷ [];
+  puts = p;
+  leads = λ m stands.
+      let is = stands_at (seen n w (stage.Waiting s f)) m stands in
+      record {
+        machine = at (n + 1) stopped;
+        steps = begins_from m (at n (waiting w s is.0)) _ off _ is.1 (off_numbered n w s is.0 f.number is.2.fetch.number);
+        stands = as_stopped (n + 1) w;
+      };
+}
+
+-- what follows from a datagram or a time, as a turn
+pub heeds_acts : (t : Turn) (old new : Logged) (used : List In) (s : Running) (P : Open → Call → Type 0) (mid before after : Seen) →
+    (Follows s P mid after old new → Grows used before after old new) → Heeds t s P mid after old new → Acts t used before after old new
+heeds_acts turn.More old new used s P mid before after g h = (g h.0, h.1)
+heeds_acts turn.Waiting old new used s P mid before after g h = (g h.0, h.1)
+heeds_acts (turn.Over status.NoMemory) old new used s P mid before after g h = h
+heeds_acts (turn.Over status.HandedOff) old new used s P mid before after g h = (h.0, g h.1, h.2)
+heeds_acts (turn.Over status.Ended) old new used s P mid before after g h = (h.0, g h.1, h.2)
+heeds_acts (turn.Over status.ScriptFailed) old new used s P mid before after g h = (h.0, g h.1, h.2)
+heeds_acts (turn.Over status.Unfinished) old new used s P mid before after g h = (h.0, g h.1, h.2)
+heeds_acts (turn.Over status.BadWords) old new used s P mid before after g h = absurd h.0
+heeds_acts (turn.Over status.BadRecord) old new used s P mid before after g h = absurd h.0
+heeds_acts (turn.Over status.ReadFault) old new used s P mid before after g h = absurd h.0
+heeds_acts (turn.Over status.WriteFault) old new used s P mid before after g h = absurd h.0
+heeds_acts (turn.Over status.AttachFault) old new used s P mid before after g h = absurd h.0
+heeds_acts (turn.Over status.TooManyRecords) old new used s P mid before after g h = absurd h.0

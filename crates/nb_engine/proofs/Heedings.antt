@@ -1,0 +1,152 @@
+-- What comes of a datagram or a time, by what was heard.
+use Rattle.std.proofs.Common.{◌≡◌, ◌⊎◌, inl, inr, ℕ, Bool, true, false, cond, ◌||◌, List, [], ◌∷◌, ◌++◌, Option, Some, None, refl, sym, ◌∙◌, ap, subst, append_assoc}
+use Rattle.std.specs.Option.{is_some}
+use Rattle.std.specs.List.{list_any}
+use Rattle.nb_terms.specs.declared.cause.Cause.{Cause}
+use Rattle.nb_terms.specs.declared.acts.Acts.{Acts}
+use Rattle.nb_defs.specs.Records.{Out, out_texts, step, ended}
+use Rattle.nb_record.specs.Logged.{Logged, Puts}
+use Rattle.nb_image.specs.Images.{image_of}
+use Rattle.nb_image.specs.declared.image.Image.{Image}
+use Rattle.nb_tftp.specs.History.{Call, Entry, entry, is_ended}
+use Rattle.nb_engine.specs.declared.world.World.{World}
+use Rattle.nb_engine.specs.declared.fetch.Fetch.{Fetch}
+use Rattle.nb_engine.specs.declared.fetch.Heard.{Heard}
+use Rattle.nb_engine.specs.declared.stage.Stage.{Stage}
+use Rattle.nb_engine.specs.declared.stage.Stage.TheVariants as stage
+use Rattle.nb_engine.specs.declared.status.Status.{Status}
+use Rattle.nb_engine.specs.declared.status.Status.TheVariants as status
+use Rattle.nb_engine.specs.declared.client.Turn.{Turn}
+use Rattle.nb_engine.specs.declared.client.Turn.TheVariants as turn
+use Rattle.nb_engine.specs.World.{unbound}
+use Rattle.nb_engine.specs.Opens.{Open, with_entry, body_of, end_of, is_over_limit, acts_records, too_large_image}
+use Rattle.nb_engine.specs.Conclusions.{Conclusion, conclusion, conclusion_records, image_from, fails}
+use Rattle.nb_engine.specs.Machine.{Running, Phase, Hears, goes_on, is_over, waiting, at, phase_after, concluded}
+use Rattle.nb_engine.specs.Fetches.{IsLive, IsFetchOf}
+use Rattle.nb_engine.specs.Seen.{Seen, seen, StandsFor, as_waiting}
+use Rattle.nb_engine.specs.Heeding.{Heeds, Follows, HasHeard, Comes}
+use Rattle.nb_engine.specs.Concluding.{Ends, IsTurn}
+use Rattle.nb_engine.specs.Turns.{IsEnd, IsOverWith}
+use Rattle.nb_tftp.proofs.HistoryLemmas.{is_ended-append}
+
+no_end_by : (t : Bool) (over : Option Cause) → cond t (Some too_large_image) over ≡ None → (t ≡ false) × (over ≡ None)
+no_end_by true over e = let no : Some too_large_image ≡ None = e in cc
+no_end_by false over e = (refl, e)
+
+-- an end that none is: the body isn't too large, and the transfer told none
+no_end : (body : List ℕ) (acts : Acts) → end_of body acts ≡ None → (is_over_limit body ≡ false) × (acts.over ≡ None)
+no_end body acts e = no_end_by (is_over_limit body) acts.over e
+
+none_is : (x : Option Cause) → x ≡ None → is_some x ≡ false
+none_is x e = rw e refl
+
+not_over : (x y : List ℕ) → is_over_limit y ≡ false → ((x ≡ y) ⊎ (is_over_limit y ≡ true)) → x ≡ y
+not_over x y e (inl same) = same
+not_over x y e (inr over) = let no : true ≡ false = sym over ∙ e in cc
+
+-- the open goes on
+pub goes_heeds : {old new : Logged} (n : ℕ) (w : World) (s : Running) (f : Fetch) (heard : Heard) → heard.end ≡ None →
+    Puts old new (out_texts (step n ∷ acts_records w.net f.number heard.acts)) →
+    Follows s (HasHeard heard f) (seen n w (stage.Waiting s f)) (seen n w (stage.Waiting s f)) old new
+goes_heeds n w s f heard none p = record {
+  added = acts_records w.net f.number heard.acts;
+  puts = p;
+  hears = λ o call h.
+      let e = entry call heard.acts in
+      let o' = with_entry o e in
+      let goes = no_end (body_of o') heard.acts (sym h.ends ∙ none) in
+      let live : IsLive f o' = record {
+        fetch = h.fetch;
+        body = not_over f.body (body_of o') goes.0 h.body;
+        lives = is_ended-append o.entries e ∙ rw (h.lives, none_is heard.acts.over goes.1) refl;
+      } in
+      let hears : Hears w s o call (acts_records w.net o.number heard.acts) (waiting w s o') =
+      goes_on w s o call heard.acts h.fetch.core.meets (sym h.ends ∙ none) in
+      (waiting w s o', rw h.fetch.number hears, as_waiting n w s f o' live);
+}
+
+abbrev or_else : Cause → Option Cause → Cause
+or_else d None = d
+or_else d (Some x) = x
+
+some_same : {x y : Cause} → Some x ≡ Some y → x ≡ y
+some_same {x} {y} e = ap (λ o. or_else x o) e
+
+-- the image that a fetch has is the open's, unless it has grown too large: then it doesn't matter
+same_image : (f : Fetch) (o : Open) → IsFetchOf f o → f.body ≡ body_of o → image_of f.name f.body [] f.uri ≡ image_from o
+same_image f o is same = rw (is.name, is.uri, same) refl
+
+pub same_conclusion : (w : World) (f : Fetch) (o : Open) (acts : Acts) (cause : Cause) → IsFetchOf f o → end_of (body_of o) acts ≡ Some cause →
+    ((f.body ≡ body_of o) ⊎ (is_over_limit (body_of o) ≡ true)) →
+    conclusion cause f.boots (image_of f.name f.body [] f.uri) w.images ≡ concluded w o cause
+same_conclusion w f o acts cause is e (inl same) = ap (λ i. conclusion cause f.boots i w.images) (same_image f o is same) ∙ ap (λ b. conclusion cause b (image_from o) w.images) is.boots
+same_conclusion w f o acts cause is e (inr over) =
+    let too_large : Some too_large_image ≡ Some cause = rw over at e in
+    let c : too_large_image ≡ cause = some_same too_large in
+    rw (← c) refl
+
+-- the open ends, and its command with it
+pub ends_follow : {old new : Logged} (n : ℕ) (w : World) (s : Running) (f : Fetch) (heard : Heard) (cause : Cause) (after : Seen) → heard.end ≡ Some cause →
+    Puts old new (out_texts (step n ∷ (acts_records w.net f.number heard.acts ++ (ended f.number cause ∷ [])
+    ++ conclusion_records s.depth (conclusion cause f.boots (image_of f.name f.body [] f.uri) w.images)))) →
+    StandsFor after (at n (phase_after (unbound w f.own_port) s (conclusion cause f.boots (image_of f.name f.body [] f.uri) w.images))) →
+    Follows s (HasHeard heard f) (seen n w (stage.Waiting s f)) after old new
+ends_follow {old} {new} n w s f heard cause after is p stands =
+    let comes : Conclusion = conclusion cause f.boots (image_of f.name f.body [] f.uri) w.images in
+    record {
+      added = acts_records w.net f.number heard.acts ++ (ended f.number cause ∷ []) ++ conclusion_records s.depth comes;
+      puts = p;
+      hears = λ o call h.
+          let e = entry call heard.acts in
+          let o' = with_entry o e in
+          let ends : end_of (body_of o') heard.acts ≡ Some cause = sym h.ends ∙ is in
+          let same : comes ≡ concluded w o' cause = same_conclusion w f o' heard.acts cause h.fetch ends h.body in
+          let hears : Hears w s o call
+          (acts_records w.net o.number heard.acts ++ (ended o.number cause ∷ []) ++ conclusion_records s.depth (concluded w o' cause))
+          (phase_after (unbound w o.begun.own_port) s (concluded w o' cause)) =
+          is_over w s o call heard.acts cause h.fetch.core.meets ends in
+          (
+            phase_after (unbound w f.own_port) s comes,
+            rw (h.fetch.number, h.fetch.own_port, same) hears,
+            stands,
+          );
+    }
+
+-- by the turn
+pub ends_heeds : (t : Turn) (old new : Logged) (n : ℕ) (w : World) (s : Running) (f : Fetch) (heard : Heard) (cause : Cause) (after : Seen) → heard.end ≡ Some cause →
+    Ends t heard.acts cause s f (seen n w (stage.Waiting s f)) after old new →
+    Heeds t s (HasHeard heard f) (seen n w (stage.Waiting s f)) after old new
+ends_heeds turn.More old new n w s f heard cause after is e = (ends_follow n w s f heard cause after is e.1 e.2, e.0)
+ends_heeds turn.Waiting old new n w s f heard cause after is e = (ends_follow n w s f heard cause after is e.1 e.2, e.0)
+ends_heeds (turn.Over status.NoMemory) old new n w s f heard cause after is e = e
+ends_heeds (turn.Over status.HandedOff) old new n w s f heard cause after is e = (e.0.0, ends_follow n w s f heard cause after is e.1 e.2, e.0.1)
+ends_heeds (turn.Over status.Ended) old new n w s f heard cause after is e = (e.0.0, ends_follow n w s f heard cause after is e.1 e.2, e.0.1)
+ends_heeds (turn.Over status.ScriptFailed) old new n w s f heard cause after is e = (e.0.0, ends_follow n w s f heard cause after is e.1 e.2, e.0.1)
+ends_heeds (turn.Over status.Unfinished) old new n w s f heard cause after is e = (e.0.0, ends_follow n w s f heard cause after is e.1 e.2, e.0.1)
+ends_heeds (turn.Over status.BadWords) old new n w s f heard cause after is e = absurd e.0.0
+ends_heeds (turn.Over status.BadRecord) old new n w s f heard cause after is e = absurd e.0.0
+ends_heeds (turn.Over status.ReadFault) old new n w s f heard cause after is e = absurd e.0.0
+ends_heeds (turn.Over status.WriteFault) old new n w s f heard cause after is e = absurd e.0.0
+ends_heeds (turn.Over status.AttachFault) old new n w s f heard cause after is e = absurd e.0.0
+ends_heeds (turn.Over status.TooManyRecords) old new n w s f heard cause after is e = absurd e.0.0
+
+-- what holds of fewer opens follows too
+follows_less : {old new : Logged} (s : Running) (P Q : Open → Call → Type 0) (n : ℕ) (w : World) (st st' : Stage) (after : Seen) →
+    ((o : Open) (call : Call) → Q o call → P o call) → Follows s P (seen n w st) after old new → Follows s Q (seen n w st') after old new
+follows_less s P Q n w st st' after less f = record { added = f.added; puts = f.puts; hears = λ o call q. f.hears o call (less o call q) }
+
+pub heeds_less : (t : Turn) (old new : Logged) (s : Running) (P Q : Open → Call → Type 0) (n : ℕ) (w : World) (st st' : Stage) (after : Seen) →
+    ((o : Open) (call : Call) → Q o call → P o call) → Heeds t s P (seen n w st) after old new → Heeds t s Q (seen n w st') after old new
+heeds_less turn.More old new s P Q n w st st' after less h = (follows_less s P Q n w st st' after less h.0, h.1)
+heeds_less turn.Waiting old new s P Q n w st st' after less h = (follows_less s P Q n w st st' after less h.0, h.1)
+heeds_less (turn.Over status.NoMemory) old new s P Q n w st st' after less h = h
+heeds_less (turn.Over status.HandedOff) old new s P Q n w st st' after less h = (h.0, follows_less s P Q n w st st' after less h.1, h.2)
+heeds_less (turn.Over status.Ended) old new s P Q n w st st' after less h = (h.0, follows_less s P Q n w st st' after less h.1, h.2)
+heeds_less (turn.Over status.ScriptFailed) old new s P Q n w st st' after less h = (h.0, follows_less s P Q n w st st' after less h.1, h.2)
+heeds_less (turn.Over status.Unfinished) old new s P Q n w st st' after less h = (h.0, follows_less s P Q n w st st' after less h.1, h.2)
+heeds_less (turn.Over status.BadWords) old new s P Q n w st st' after less h = absurd h.0
+heeds_less (turn.Over status.BadRecord) old new s P Q n w st st' after less h = absurd h.0
+heeds_less (turn.Over status.ReadFault) old new s P Q n w st st' after less h = absurd h.0
+heeds_less (turn.Over status.WriteFault) old new s P Q n w st st' after less h = absurd h.0
+heeds_less (turn.Over status.AttachFault) old new s P Q n w st st' after less h = absurd h.0
+heeds_less (turn.Over status.TooManyRecords) old new s P Q n w st st' after less h = absurd h.0

@@ -1,0 +1,46 @@
+-- The states of the machine for which a client stands, by its stage.
+use Rattle.std.proofs.Common.{◌≡◌, ℕ, List, refl}
+use Rattle.nb_defs.specs.Records.{Out}
+use Rattle.nb_engine.specs.declared.world.World.{World}
+use Rattle.nb_engine.specs.declared.fetch.Fetch.{Fetch}
+use Rattle.nb_engine.specs.declared.stage.Stage.{Stage}
+use Rattle.nb_engine.specs.declared.stage.Stage.TheVariants as stage
+use Rattle.nb_engine.specs.Machine.{Running, Machine, at, ready, running, waiting, handing, left, handed_off, stopped}
+use Rattle.nb_engine.specs.Opens.{Open}
+use Rattle.nb_engine.specs.Fetches.{IsLive}
+use Rattle.nb_engine.specs.Handings.{records_left}
+use Rattle.nb_engine.specs.Seen.{Seen, StandsFor, as_ready, as_running, as_waiting, as_handing, as_left, as_handed_off, as_stopped}
+use Rattle.nb_engine.specs.Turns.{IsWaiting}
+
+abbrev pub StandsAt : Stage → ℕ → World → Machine → Type 0
+StandsAt stage.Ready n w m = m ≡ at n ready
+StandsAt (stage.Running s) n w m = m ≡ at n (running w s)
+StandsAt (stage.Waiting s f) n w m = (o : Open) × (m ≡ at n (waiting w s o)) × IsLive f o
+StandsAt (stage.HandingOff h) n w m = m ≡ at n (handing (records_left w.images.images h))
+StandsAt (stage.Left cause) n w m = m ≡ at n (left cause)
+StandsAt stage.HandedOff n w m = m ≡ at n handed_off
+StandsAt stage.Stopped n w m = m ≡ at n stopped
+
+pub stands_at : (c : Seen) (m : Machine) → StandsFor c m → StandsAt c.stage c.used c.world m
+stands_at c m (as_ready n w) = refl
+stands_at c m (as_running n w s) = refl
+stands_at c m (as_waiting n w s f o live) = (o, refl, live)
+stands_at c m (as_handing n w h rest is) = rw is refl
+stands_at c m (as_left n w cause) = refl
+stands_at c m (as_handed_off n w) = refl
+stands_at c m (as_stopped n w) = refl
+
+-- a client that waits has a script and a fetch
+pub record Waits (st : Stage) : Type 0 where
+  pub script : Running
+  pub fetch : Fetch
+  pub is : st ≡ stage.Waiting script fetch
+
+pub waits_for : (st : Stage) → IsWaiting st → Waits st
+waits_for (stage.Waiting s f) w = record { script = s; fetch = f; is = refl }
+waits_for stage.Ready w = absurd w
+waits_for (stage.Running s) w = absurd w
+waits_for (stage.HandingOff h) w = absurd w
+waits_for (stage.Left cause) w = absurd w
+waits_for stage.HandedOff w = absurd w
+waits_for stage.Stopped w = absurd w

@@ -1,0 +1,31 @@
+use Rattle.std.proofs.Common.{rules, ◌≡◌, ◌≤◌, ℕ, ◌∷◌, [], ◌+◌, ◌-◌, ◌*◌, ◌<◌, length, ◌/◌, ◌%◌, Bool, true, false, nat_eq, nat_lt, List, ◌++◌, slice_index_or, slice_set, bit_and, bit_or, Fits, w8, w32, w64, Bor, MutBor}
+use Rattle.nb_defs.specs.Causes.{ok}
+use Rattle.nb_defs.specs.Records.{out_texts, step}
+use Rattle.nb_record.specs.Logged.{Puts}
+use Rattle.nb_engine.specs.Machine.{Running, further}
+use Rattle.nb_engine.specs.Opens.{acts_records}
+use Rattle.nb_engine.specs.Seen.{seen}
+use Rattle.nb_engine.specs.Heeding.{Heeds, HasHeard}
+use Rattle.nb_engine.specs.Concluding.{Concludes, Ends, IsPlaceFor}
+use Rattle.nb_engine.specs.declared.fetch.Fetch.{Fetch}
+use Rattle.nb_engine.specs.declared.client.Turn.TheVariants as turn
+use Rattle.nb_engine.specs.Turns.{IsWaiting}
+use Rattle.nb_tftp.specs.Sound.{IsSound}
+use Rattle.nb_engine.specs.declared.stage.Stage.TheVariants as stage
+use Rattle.nb_engine.proofs.client.Client.conclude.Goals as goal
+
+-- src/heeding.rt:83:28
+pub invariant_of-self : goal.invariant_of-self
+invariant_of-self c = ?
+
+-- src/heeding.rt:83:5
+pub returns-in-Keeps : goal.returns-in-Keeps
+returns-in-Keeps c = ?
+
+-- src/heeding.rt:83:5
+pub returns-in-Fails : goal.returns-in-Fails
+returns-in-Fails c = ?
+
+-- src/heeding.rt:83:5
+pub returns-in-Boots : goal.returns-in-Boots
+returns-in-Boots c = ?
