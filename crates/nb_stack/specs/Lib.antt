@@ -4,5 +4,6 @@ pub mod Bound
 pub mod Client
 pub mod Route
 pub mod Brings
+pub mod Sizes
 pub mod Sends
 pub mod Takes

@@ -6,6 +6,7 @@ ghost use Rattle.nb_ether.specs.Frame.{frame_of, frame_text};
 ghost use Rattle.nb_ipv4.specs.PacketText.{packet_parts, sent_packet};
 ghost use Rattle.nb_ipv4.specs.UdpText.{sent_datagram};
 ghost use Rattle.nb_stack.specs.Sends.{arp_frame, packet_frame, datagram_frame, udp_of};
+ghost use Rattle.nb_stack.specs.Sizes.{IsFrameSize};
 
 use nb_ether::{Arp, EtherFrame, KIND_ARP, KIND_IPV4};
 use nb_ipv4::{PROTO_UDP, Packet, Udp};
@@ -25,7 +26,8 @@ const MAX_PACKET: usize = 1508;
 pub(crate) fn put_arp(dst: Mac, arp: &Arp, out: &mut Out<'_>)
     requires operation { IsOperation arp.now.op }
     requires room { 1522 ≤ out.old.left }
-    ensures { out.new.written ≡ out.old.written ++ arp_frame dst arp.now }
+    ensures put { out.new.written ≡ out.old.written ++ arp_frame dst arp.now }
+    ensures size { IsFrameSize (length (arp_frame dst arp.now)) }
 {
     let mut bytes = [0; ARP_LEN];
     let mut body = Out::new(&mut bytes);
@@ -44,7 +46,8 @@ pub(crate) fn put_arp(dst: Mac, arp: &Arp, out: &mut Out<'_>)
 // Puts a message as a datagram from this address, in a frame between these interfaces.
 pub(crate) fn put_datagram(dst: Mac, src: Mac, from: Ip4, message: &SendTo, out: &mut Out<'_>)
     requires room { 1522 ≤ out.old.left }
-    ensures { out.new.written ≡ out.old.written ++ datagram_frame dst src from message.now }
+    ensures put { out.new.written ≡ out.old.written ++ datagram_frame dst src from message.now }
+    ensures size { IsFrameSize (length (datagram_frame dst src from message.now)) }
 {
     let mut bytes = [0; MAX_DATAGRAM];
     let mut body = Out::new(&mut bytes);
@@ -61,7 +64,8 @@ pub(crate) fn put_datagram(dst: Mac, src: Mac, from: Ip4, message: &SendTo, out:
 fn put_packet(dst: Mac, src: Mac, packet: &Packet<'_>, out: &mut Out<'_>)
     requires short { length packet.now.body.now ≤ 1488 }
     requires room { 1522 ≤ out.old.left }
-    ensures { out.new.written ≡ out.old.written ++ packet_frame dst src (packet_parts packet.now) }
+    ensures put { out.new.written ≡ out.old.written ++ packet_frame dst src (packet_parts packet.now) }
+    ensures size { IsFrameSize (length (packet_frame dst src (packet_parts packet.now))) }
 {
     let mut bytes = [0; MAX_PACKET];
     let mut body = Out::new(&mut bytes);
@@ -79,7 +83,8 @@ fn put_packet(dst: Mac, src: Mac, packet: &Packet<'_>, out: &mut Out<'_>)
 
 fn put_frame(frame: &EtherFrame<'_>, out: &mut Out<'_>)
     requires { 14 + length frame.now.body.now ≤ out.old.left }
-    ensures { out.new.written ≡ out.old.written ++ frame_text (frame_of frame.now) }
+    ensures put { out.new.written ≡ out.old.written ++ frame_text (frame_of frame.now) }
+    ensures size { length (frame_text (frame_of frame.now)) ≡ 14 + length frame.now.body.now }
 {
     frame.write(out).unwrap();
 }

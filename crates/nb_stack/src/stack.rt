@@ -33,7 +33,7 @@ impl Model for Stack {
 }
 
 impl Stack {
-    ghost use Rattle.std.specs.Prelude.{◌≡◌, ◌≤◌, ◌++◌, ◌↔◌, [], None, false, length, is_some, IsErr, OnOk, OnErr};
+    ghost use Rattle.std.specs.Prelude.{◌≡◌, ℕ, ◌≤◌, List, ◌++◌, ◌↔◌, [], None, false, length, is_some, IsErr, OnOk, OnErr};
     ghost use Rattle.nb_ipv4.specs.PacketText.{packet_parts};
     ghost use Rattle.nb_ipv4.specs.UdpText.{udp_parts};
     ghost use Rattle.nb_stack.specs.Near.{mac_of, after_arp};
@@ -41,6 +41,8 @@ impl Stack {
     ghost use Rattle.nb_stack.specs.Sends.{fate_of, put_on, way_of, fate_by, put_by, request_for};
     ghost use Rattle.nb_stack.specs.Brings.{Brings, arp_message, datagram, brought};
     ghost use Rattle.nb_stack.specs.Takes.{Takes, outcome, outcome_of, reply_of, client_after, asks, reply_to};
+    ghost use Rattle.nb_stack.specs.Sizes.{IsFrameSize, IsReplySize};
+    ghost use Rattle.nb_stack.specs.declared.taken.Fate.TheVariants.{NoRoute};
 
     /// A client on the interface with this address. It has no address of its own, its device is down,
     /// and it knows no neighbours.
@@ -103,8 +105,13 @@ impl Stack {
     /// replied to (RFC 826, 791, 768).
     pub fn take<'a>(&mut self, frame: &'a [u8], reply: &mut Out<'_>) -> Taken<'a>
         requires { 1522 ≤ reply.old.left }
-        ensures { Takes self.old frame.now
+        ensures takes { Takes self.old frame.now
             (outcome result) reply.old.written reply.new.written self.new }
+        ensures size { (r : List ℕ) × (reply.new.written ≡ reply.old.written ++ r) × IsReplySize r }
+        ensures mac { self.new.mac ≡ self.old.mac }
+        ensures address { self.new.address ≡ self.old.address }
+        ensures up { self.new.up ≡ self.old.up }
+        ensures ports { self.new.ports ≡ self.old.ports }
     {
         match self.message(frame) {
             Message::Nothing => Taken::Drop,
@@ -121,6 +128,8 @@ impl Stack {
         ensures fate { result ≡ fate_of self.old (way_of self.old s.now) }
         ensures put { out.new.written ≡
             out.old.written ++ put_on self.old s.now (way_of self.old s.now) }
+        ensures size { (result ≡ NoRoute → ⊥)
+            → IsFrameSize (length (put_on self.old s.now (way_of self.old s.now))) }
         ensures same { self.new ≡ self.old }
     {
         match route(self.up, self.address, s.to, s.own_port) {
@@ -138,6 +147,7 @@ impl Stack {
         ensures fate { result ≡ fate_by (mac_of hop self.now.near) }
         ensures put { out.new.written ≡
             out.old.written ++ put_by self.now from hop s.now (mac_of hop self.now.near) }
+        ensures size { IsFrameSize (length (put_by self.now from hop s.now (mac_of hop self.now.near))) }
     {
         match self.near.mac(hop) {
             Some(mac) => {
@@ -175,6 +185,7 @@ impl Stack {
         ensures outcome { outcome result ≡ outcome_of self.old (arp_message from arp.now) }
         ensures put { reply.new.written ≡
             reply.old.written ++ reply_of self.old (arp_message from arp.now) }
+        ensures size { IsReplySize (reply_of self.old (arp_message from arp.now)) }
         ensures after { self.new ≡ client_after self.old (arp_message from arp.now) }
     {
         self.learn(arp);
