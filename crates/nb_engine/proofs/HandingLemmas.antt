@@ -1,10 +1,10 @@
 -- The parts of a hand-off are short, and its records come one after another.
 use Rattle.std.proofs.Common.{◌≡◌, ℕ, zero, suc, ◌+◌, ◌-◌, ◌*◌, ◌/◌, ◌<◌, ◌≤◌, ◌^◌, ◌==◌, true, false, cond, List, [], ◌∷◌, ◌++◌, length, take, drop, map, Option, Some, None, refl, sym, ◌∙◌, ap, subst, arith, add-one}
-use Rattle.std.specs.Prelude.{slice_get, slice_set, unwrap_or}
+use Rattle.std.specs.Prelude.{slice_get, slice_set, unwrap_or, IfSome}
 use Rattle.std.specs.List.{AllByRecursion, flat_map, remove, enumerate_from}
 use Rattle.std.specs.Option.{option_to_list, option_map}
 use Rattle.std.proofs.lemmas.Option.{slice_get_within, none-some, same_Some}
-use Rattle.std.proofs.lemmas.List.{drop-append-le, length-map, length-take}
+use Rattle.std.proofs.lemmas.List.{drop-append-le, drop_all, length-take}
 use Rattle.nb_defs.specs.Records.{Out}
 use Rattle.nb_image.specs.declared.image.Image.{Image}
 use Rattle.nb_image.specs.Images.{ImageList, put_at, place_of, with_image}
@@ -58,7 +58,7 @@ kernel_small (i ∷ images) p = (p.0.name, (p.0.body, (p.0.args, kernel_small im
 
 initrd_small : (n : ℕ) (images : List Image) → AreShort images → AllByRecursion IsSmall (flat_map initrd_parts (enumerate_from n images))
 initrd_small n [] p = tt
-initrd_small n (i ∷ images) p = (p.0.name, (p.0.body, initrd_small (suc n) images p.1))
+initrd_small n (i ∷ images) p = (p.0.name, (p.0.body, initrd_small (n + 1) images p.1))
 
 parts_small : (kernel : ℕ) (images : List Image) → AreShort images → AllByRecursion IsSmall (parts kernel images)
 parts_small kernel images p =
@@ -73,7 +73,7 @@ part_small kernel images k p short h = all_at IsSmall (parts kernel images) k p 
 pub drop_get : {A : Type 0} (xs : List A) (k : ℕ) (x : A) → slice_get xs k ≡ Some x → drop k xs ≡ x ∷ drop (k + 1) xs
 drop_get [] k x h = absurd (none-some x h)
 drop_get (y ∷ ys) zero x h = ap (λ z. z ∷ ys) (same_Some y x h)
-drop_get (y ∷ ys) (suc k) x h = rw add-one (drop_get ys k x h)
+drop_get (y ∷ ys) (suc k) x h = rw add-one (subst (λ j. drop k ys ≡ x ∷ drop j ys) (add-one k) (drop_get ys k x h))
 
 pub drop_none : {A : Type 0} (xs : List A) (k : ℕ) → slice_get xs k ≡ None → drop k xs ≡ []
 drop_none [] zero h = refl
@@ -143,3 +143,61 @@ piece_at_place bytes j piece small h =
       short = rw (← ap (λ (p : PieceText). p.bytes) same, length-take 65536 (drop (65536 * j) bytes)) (omega arith);
       fits = small_count (length bytes) j small count;
     }
+
+not_zero : (n : ℕ) → (n == 0) ≡ false → 0 < n
+not_zero zero e = let no : true ≡ false = e in cc
+not_zero (suc n) e = omega arith
+
+some_count : (len : ℕ) → 0 < piece_count len
+some_count len = elim (len == 0) as (λ t. (len == 0) ≡ t → 0 < cond t 1 ((len + 65535) / 65536)) [ true ↦ λ e. omega arith | false ↦ λ e. omega (arith, not_zero len e) ] refl
+
+map_length : {A B : Type 0} (f : A → B) (xs : List A) → length (map f xs) ≡ length xs
+map_length f [] = refl
+map_length f (x ∷ xs) = ap suc (map_length f xs)
+
+-- a part's records are as many as its pieces
+pub records_of_part : (p : PartText) → length (part_records p) ≡ length (pieces p.bytes)
+records_of_part p = map_length (piece_record p) (pieces p.bytes)
+
+-- a part has a piece
+first_piece : (o : Option PartText) → IfSome o (λ p. 0 < length (part_records p))
+first_piece None = tt
+first_piece (Some p) = rw (records_of_part p, pieces_length p.bytes) (some_count (length p.bytes))
+
+-- a hand-off begins
+pub begins_at : (list : ImageList) (kernel : ℕ) → kernel < length list.images → AreShort list.images → IsAt list (record { kernel = kernel; part = 0; piece = 0 })
+begins_at list kernel within short = record {
+  kernel = within;
+  part = omega arith;
+  piece = first_piece (slice_get (parts kernel list.images) 0);
+  behind = λ _. refl;
+  short = short;
+}
+
+-- behind a part comes the next, at its first piece
+pub at_next : (list : ImageList) (h : Handing) → IsAt list h → h.part < length (parts h.kernel list.images) →
+    IsAt list (record { kernel = h.kernel; part = h.part + 1; piece = 0 })
+at_next list h at within = record {
+  kernel = at.kernel;
+  part = omega arith;
+  piece = first_piece (slice_get (parts h.kernel list.images) (h.part + 1));
+  behind = λ _. refl;
+  short = at.short;
+}
+
+-- within a part comes the next piece
+pub at_piece : (list : ImageList) (h : Handing) (p : PartText) → IsAt list h → slice_get (parts h.kernel list.images) h.part ≡ Some p →
+    h.piece + 1 < length (part_records p) → IsAt list (record { kernel = h.kernel; part = h.part; piece = h.piece + 1 })
+at_piece list h p at is within = record {
+  kernel = at.kernel;
+  part = at.part;
+  piece = rw is within;
+  behind = λ none. absurd (none-some p (sym none ∙ is));
+  short = at.short;
+}
+
+pub part_within : (ps : List PartText) (k : ℕ) (p : PartText) → slice_get ps k ≡ Some p → k < length ps
+part_within ps k p h = slice_get_within ps k p h
+
+pub drop_past : (k : ℕ) (xs : List Out) → k ≡ length xs → drop k xs ≡ []
+drop_past k xs e = drop_all k xs (omega (arith, e))

@@ -1,12 +1,12 @@
 -- What comes of a datagram or a time, by what was heard.
-use Rattle.std.proofs.Common.{◌≡◌, ◌⊎◌, inl, inr, ℕ, Bool, true, false, cond, ◌||◌, List, [], ◌∷◌, ◌++◌, Option, Some, None, refl, sym, ◌∙◌, ap, subst, append_assoc}
+use Rattle.std.proofs.Common.{◌≡◌, ◌⊎◌, inl, inr, ℕ, ◌≤◌, length, Bool, true, false, cond, ◌||◌, List, [], ◌∷◌, ◌++◌, Option, Some, None, refl, sym, ◌∙◌, ap, subst, append_assoc}
 use Rattle.std.specs.Option.{is_some}
 use Rattle.std.specs.List.{list_any}
 use Rattle.nb_terms.specs.declared.cause.Cause.{Cause}
 use Rattle.nb_terms.specs.declared.acts.Acts.{Acts}
 use Rattle.nb_defs.specs.Records.{Out, out_texts, step, ended}
 use Rattle.nb_record.specs.Logged.{Logged, Puts}
-use Rattle.nb_image.specs.Images.{image_of}
+use Rattle.nb_image.specs.Images.{ImageList, image_of}
 use Rattle.nb_image.specs.declared.image.Image.{Image}
 use Rattle.nb_tftp.specs.History.{Call, Entry, entry, is_ended}
 use Rattle.nb_engine.specs.declared.world.World.{World}
@@ -18,12 +18,13 @@ use Rattle.nb_engine.specs.declared.status.Status.{Status}
 use Rattle.nb_engine.specs.declared.status.Status.TheVariants as status
 use Rattle.nb_engine.specs.declared.client.Turn.{Turn}
 use Rattle.nb_engine.specs.declared.client.Turn.TheVariants as turn
-use Rattle.nb_engine.specs.World.{unbound}
+use Rattle.nb_defs.specs.Causes.{ok}
+use Rattle.nb_engine.specs.World.{unbound, with_images}
 use Rattle.nb_engine.specs.Opens.{Open, with_entry, body_of, end_of, is_over_limit, acts_records, too_large_image}
-use Rattle.nb_engine.specs.Conclusions.{Conclusion, conclusion, conclusion_records, image_from, fails}
-use Rattle.nb_engine.specs.Machine.{Running, Phase, Hears, goes_on, is_over, waiting, at, phase_after, concluded}
-use Rattle.nb_engine.specs.Fetches.{IsLive, IsFetchOf}
-use Rattle.nb_engine.specs.Seen.{Seen, seen, StandsFor, as_waiting}
+use Rattle.nb_engine.specs.Conclusions.{Conclusion, conclusion, conclusion_records, image_from, fails, keeps, boots}
+use Rattle.nb_engine.specs.Machine.{Running, Phase, Hears, goes_on, is_over, waiting, at, phase_after, concluded, running, further}
+use Rattle.nb_engine.specs.Fetches.{IsLive, IsFetchOf, IsSameFetch}
+use Rattle.nb_engine.specs.Seen.{Seen, seen, StandsFor, as_waiting, IsSound}
 use Rattle.nb_engine.specs.Heeding.{Heeds, Follows, HasHeard, Comes}
 use Rattle.nb_engine.specs.Concluding.{Ends, IsTurn}
 use Rattle.nb_engine.specs.Turns.{IsEnd, IsOverWith}
@@ -150,3 +151,41 @@ heeds_less (turn.Over status.ReadFault) old new s P Q n w st st' after less h = 
 heeds_less (turn.Over status.WriteFault) old new s P Q n w st st' after less h = absurd h.0
 heeds_less (turn.Over status.AttachFault) old new s P Q n w st st' after less h = absurd h.0
 heeds_less (turn.Over status.TooManyRecords) old new s P Q n w st st' after less h = absurd h.0
+
+-- a fetch to which something came is as sound as before
+pub still_sound : (n : ℕ) (w : World) (s : Running) (f f1 : Fetch) → IsSound n w (stage.Waiting s f) → IsSameFetch f f1 → length f1.body ≤ 268435456 →
+    IsSound n w (stage.Waiting s f1)
+still_sound n w s f f1 sound same short = record {
+  time = sound.time;
+  w = sound.w;
+  opens = sound.opens;
+  ports = rw (same.own_port, same.number) sound.ports;
+  well = (sound.well.0, rw same.name sound.well.1, short);
+  short = sound.short;
+}
+
+-- an open's end, by the turn
+pub ends_of : (t : Turn) (old new : Logged) (acts : Acts) (cause : Cause) (s : Running) (f : Fetch) (before after : Seen) → IsTurn t after.stage →
+    Puts old new (out_texts (step before.used ∷ (acts_records before.world.net f.number acts ++ (ended f.number cause ∷ [])
+    ++ conclusion_records s.depth (conclusion cause f.boots (image_of f.name f.body [] f.uri) before.world.images)))) →
+    StandsFor after (at before.used (phase_after (unbound before.world f.own_port) s (conclusion cause f.boots (image_of f.name f.body [] f.uri) before.world.images))) →
+    Ends t acts cause s f before after old new
+ends_of turn.More old new acts cause s f before after is p st = (is, p, st)
+ends_of turn.Waiting old new acts cause s f before after is p st = (is, p, st)
+ends_of (turn.Over status.NoMemory) old new acts cause s f before after is p st = absurd is.0
+ends_of (turn.Over status.HandedOff) old new acts cause s f before after is p st = (is, p, st)
+ends_of (turn.Over status.Ended) old new acts cause s f before after is p st = (is, p, st)
+ends_of (turn.Over status.ScriptFailed) old new acts cause s f before after is p st = (is, p, st)
+ends_of (turn.Over status.Unfinished) old new acts cause s f before after is p st = (is, p, st)
+ends_of (turn.Over status.BadWords) old new acts cause s f before after is p st = (is, p, st)
+ends_of (turn.Over status.BadRecord) old new acts cause s f before after is p st = (is, p, st)
+ends_of (turn.Over status.ReadFault) old new acts cause s f before after is p st = (is, p, st)
+ends_of (turn.Over status.WriteFault) old new acts cause s f before after is p st = (is, p, st)
+ends_of (turn.Over status.AttachFault) old new acts cause s f before after is p st = (is, p, st)
+ends_of (turn.Over status.TooManyRecords) old new acts cause s f before after is p st = (is, p, st)
+
+-- the phase behind a conclusion doesn't depend on the images before it
+pub same_phase : (w v : World) (s : Running) (c : Conclusion) → ((list : ImageList) → with_images w list ≡ with_images v list) → phase_after w s c ≡ phase_after v s c
+same_phase w v s (keeps list) e = ap (λ x. running x (further s ok)) (e list)
+same_phase w v s (fails cause) e = refl
+same_phase w v s (boots list kernel) e = refl

@@ -2,6 +2,8 @@ pub mod Digits
 pub mod Joins
 pub mod Puts
 pub mod Standing
+pub mod Sendings
+pub mod TurnLemmas
 pub mod Hearings
 pub mod Heedings
 pub mod Growth

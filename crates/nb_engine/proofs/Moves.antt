@@ -1,11 +1,12 @@
 -- What a script's next line does is a move of the machine.
-use Rattle.std.proofs.Common.{◌≡◌, ℕ, ◌+◌, ◌<◌, true, false, List, [], ◌∷◌, ◌++◌, length, Option, Some, None, refl, sym, ◌∙◌, ap, subst, arith}
+use Rattle.std.proofs.Common.{◌≡◌, ℕ, ◌+◌, ◌<◌, ◌==◌, Bool, true, false, cond, List, [], ◌∷◌, ◌++◌, length, Option, Some, None, refl, sym, ◌∙◌, ap, subst, arith}
 use Rattle.std.proofs.lemmas.Option.{slice_get_within}
+use Rattle.std.proofs.lemmas.Bool.{eqb-true}
 use Rattle.nb_terms.specs.declared.cause.Cause.{Cause}
 use Rattle.nb_terms.specs.declared.acts.SendTo.{SendTo}
 use Rattle.nb_terms.specs.declared.acts.Acts.{Acts as Asked}
 use Rattle.nb_defs.specs.Causes.{ok}
-use Rattle.nb_defs.specs.Records.{Out, out_texts, leave, ended}
+use Rattle.nb_defs.specs.Records.{Out, out_texts, leave, ended, sent}
 use Rattle.nb_defs.specs.Commands.{Outcome}
 use Rattle.nb_defs.specs.ScriptText.{lines, words}
 use Rattle.nb_record.specs.Logged.{Logged, Puts}
@@ -15,15 +16,23 @@ use Rattle.nb_engine.specs.declared.stage.Stage.{Stage}
 use Rattle.nb_engine.specs.declared.stage.Stage.TheVariants as stage
 use Rattle.nb_engine.specs.World.{with_open}
 use Rattle.nb_engine.specs.Effects.{Wanted, says, asks, effect}
-use Rattle.nb_engine.specs.Opens.{open_for, begun_for, request_of, has_route, send_records, opened_record}
+use Rattle.nb_stack.specs.Sends.{put_on, way_of}
+use Rattle.nb_engine.specs.Opens.{try_records, open_for, begun_for, request_of, has_route, send_records, opened_record}
 use Rattle.nb_engine.specs.Conclusions.{fails, conclusion_records}
-use Rattle.nb_engine.specs.Machine.{Running, Machine, at, running, waiting, left, Move, passes, does, leaves, asks_for, finds_no_route, ends, further, next_line, command_record, command_records, ends_script, no_route}
+use Rattle.nb_engine.specs.Machine.{Running, Machine, at, running, waiting, left, Move, passes, does, leaves, asks_for, finds_no_route, ends, further, next_line, command_record, command_records, ends_script, no_route, handing, handed_off, hands, has_handed}
 use Rattle.nb_engine.specs.NextLine.{HasWords}
+use Rattle.nb_engine.specs.declared.handing.Handing.{Handing}
+use Rattle.nb_engine.specs.Handings.{records_left, PutsNext}
 use Rattle.nb_engine.specs.Steps.{Does, lines_left}
 use Rattle.nb_engine.specs.Fetches.{IsLive}
-use Rattle.nb_engine.specs.Seen.{Seen, seen, StandsFor, as_running, as_waiting, as_left}
+use Rattle.nb_engine.specs.Seen.{Seen, seen, StandsFor, as_running, as_waiting, as_left, as_handing, as_handed_off}
 use Rattle.nb_engine.specs.Turns.{Grows, Leads}
-use Rattle.nb_engine.proofs.Puts.{Puts-nothing}
+use Rattle.nb_wire.specs.declared.address.Ip4.{Ip4}
+use Rattle.nb_engine.specs.declared.client.Turn.{Turn}
+use Rattle.nb_engine.specs.Advance.{Asked as AskedFor, waits, fails_so, Followed}
+use Rattle.nb_engine.specs.Turns.{Acts}
+use Rattle.nb_engine.proofs.Puts.{Puts-nothing, Puts-outs}
+use Rattle.nb_engine.proofs.TurnLemmas.{turn_acts}
 use Rattle.nb_engine.proofs.Standing.{stands_at}
 
 move_from : (m m0 m' : Machine) (added : List Out) → m ≡ m0 → Move m0 added m' → Move m added m'
@@ -102,3 +111,69 @@ further_left s cause line h =
 pub no_words : (ws : List (List ℕ)) → length ws ≡ 0 → ws ≡ []
 no_words [] h = refl
 no_words (w ∷ ws) h = absurd (omega arith)
+
+-- an open was asked for
+pub asked_acts : (t : Turn) {old mid new : Logged} (n : ℕ) (w : World) (s : Running) (f : Fetch) (ws : List (List ℕ)) (wanted : Wanted) (acts : Asked) (after : Seen) →
+    HasWords s ws → 0 < length ws → effect w.opens ws ≡ asks wanted → IsLive f (open_for w wanted) → acts.tried ≡ Some 1 →
+    Puts old mid (out_texts (command_record s ws ∷ opened_record w wanted ∷ [])) →
+    AskedFor t s f acts (request_of (begun_for w wanted)) (seen n w (stage.Running s)) after mid new →
+    Acts t [] (seen n w (stage.Running s)) after old new
+asked_acts t {old} {mid} {new} n w s f ws wanted acts after h some e live tried p (waits route is q to) =
+    let sends : Puts mid new (out_texts (send_records w.net w.opens (Some 1) (request_of (begun_for w wanted)))) =
+    subst (λ k. Puts mid new (out_texts (send_records w.net k (Some 1) (request_of (begun_for w wanted))))) live.fetch.number
+    (subst (λ t. Puts mid new (out_texts (send_records w.net f.number t (request_of (begun_for w wanted))))) tried q) in
+    rw (is, to) (
+      asks_grows n w s f ws wanted h some e route live (Puts-outs (command_record s ws ∷ opened_record w wanted ∷ []) (send_records w.net w.opens (Some 1) (request_of (begun_for w wanted))) p sends),
+      tt,
+    )
+asked_acts t {old} {mid} {new} n w s f ws wanted acts after h some e live tried p (fails_so route is q to) =
+    let server : f.server.0 ≡ wanted.target.server = ap (λ (a : Ip4). a.0) live.fetch.server in
+    let rest : Puts mid new (out_texts (ended w.opens (no_route wanted.target.server) ∷ conclusion_records s.depth (fails (no_route wanted.target.server)))) =
+    subst (λ k. Puts mid new (out_texts (ended k (no_route wanted.target.server) ∷ conclusion_records s.depth (fails (no_route wanted.target.server))))) live.fetch.number
+    (subst (λ a. Puts mid new (out_texts (ended f.number (no_route a) ∷ conclusion_records s.depth (fails (no_route a))))) server q) in
+    let there : after ≡ seen n w (stage.Left (no_route wanted.target.server)) = to ∙ ap (λ a. seen n w (stage.Left (no_route a))) server in
+    let grows = no_route_grows n w s ws wanted h some e route (Puts-outs (command_record s ws ∷ opened_record w wanted ∷ [])
+    (ended w.opens (no_route wanted.target.server) ∷ conclusion_records s.depth (fails (no_route wanted.target.server))) p rest) in
+    turn_acts t old new [] (seen n w (stage.Running s)) after (rw to is) (rw there grows)
+
+-- a piece of the image is handed off
+pub hand_grows : {old new : Logged} (n : ℕ) (w : World) (h t : Handing) → PutsNext w.images.images h t old new →
+    Grows [] (seen n w (stage.HandingOff h)) (seen n w (stage.HandingOff t)) old new
+hand_grows n w h t p = record {
+  added = p.next ∷ [];
+  puts = p.puts;
+  leads = λ m stands. record {
+    machine = at n (handing (records_left w.images.images t));
+    steps = move_from m (at n (handing (p.next ∷ records_left w.images.images t))) (at n (handing (records_left w.images.images t))) (p.next ∷ [])
+        (stands_at (seen n w (stage.HandingOff h)) m stands ∙ ap (λ rs. at n (handing rs)) p.left) (hands n p.next (records_left w.images.images t));
+    stands = as_handing n w t (records_left w.images.images t) refl;
+  };
+}
+
+-- all was handed off
+pub handed_grows : {old : Logged} (n : ℕ) (w : World) (h : Handing) → records_left w.images.images h ≡ [] →
+    Grows [] (seen n w (stage.HandingOff h)) (seen n w stage.HandedOff) old old
+handed_grows n w h none = record {
+  added = [];
+  puts = Puts-nothing;
+  leads = λ m stands. record {
+    machine = at n handed_off;
+    steps = move_from m (at n (handing [])) (at n handed_off) []
+        (stands_at (seen n w (stage.HandingOff h)) m stands ∙ ap (λ rs. at n (handing rs)) none) (has_handed n);
+    stands = as_handed_off n w;
+  };
+}
+
+pub empty_length : (ws : List (List ℕ)) → (length ws == 0) ≡ true → length ws ≡ 0
+empty_length [] e = refl
+empty_length (w ∷ ws) e = eqb-true (length (w ∷ ws)) 0 e
+
+-- what followed the request is what was asked for
+pub asked_by : (found : Bool) (t : Turn) (old mid new : Logged) (s : Running) (f : Fetch) (acts : Asked) (send : SendTo) (before after : Seen) →
+    found ≡ has_route before.world.net send → Puts old mid (out_texts (send_records before.world.net f.number acts.tried send)) →
+    Followed found t s f before after mid new → AskedFor t s f acts send before after old new
+asked_by true t old mid new s f acts send before after route p q =
+    waits (sym route) q.0 (subst (λ (x : Logged). Puts old x (out_texts (send_records before.world.net f.number acts.tried send))) (sym q.1) p) q.2
+asked_by false t old mid new s f acts send before after route p q =
+    let nothing : Puts old mid (out_texts []) = subst (λ b. Puts old mid (out_texts (cond b (try_records f.number acts.tried ++ (sent (put_on before.world.net send (way_of before.world.net send)) ∷ [])) []))) (sym route) p in
+    fails_so (sym route) q.0 (Puts-outs [] (ended f.number (no_route f.server.0) ∷ conclusion_records s.depth (fails (no_route f.server.0))) nothing q.1) q.2

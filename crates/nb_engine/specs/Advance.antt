@@ -1,5 +1,5 @@
 -- A client whose script runs, or whose image is handed off.
-use Rattle.std.specs.Prelude.{◌≡◌, ℕ, ◌<◌, List, [], ◌∷◌, ◌++◌, Bool, true, false}
+use Rattle.std.specs.Prelude.{◌≡◌, ℕ, ◌<◌, ◌≤◌, length, List, [], ◌∷◌, ◌++◌, Bool, true, false}
 use Rattle.nb_terms.specs.declared.acts.Acts.{Acts}
 use Rattle.nb_terms.specs.declared.acts.SendTo.{SendTo}
 use Rattle.nb_defs.specs.Records.{out_texts, ended}
@@ -42,6 +42,8 @@ pub record IsNext (w : World) (f : Fetch) : Type 0 where
   pub number : f.number ≡ w.opens
   pub own_port : f.own_port ≡ own_port w.w w.opens
   pub few : w.opens < 16384
+  pub name : length f.name ≤ 268435456
+  pub body : length f.body ≤ 268435456
 
 -- one message, by UDP
 abbrev pub IsOneUdp : Acts → Type 0
@@ -63,3 +65,10 @@ pub data Asked (t : Turn) (s : Running) (f : Fetch) (acts : Acts) (send : SendTo
 
 abbrev pub Asks : Turn → Running → Fetch → Acts → Seen → Seen → Logged → Logged → Type 0
 Asks t s f acts before after old new = IfOne acts.sends.items (λ send. Asked t s f acts send before after old new)
+
+-- the command waits, or it failed
+abbrev pub Followed : Bool → Turn → Running → Fetch → Seen → Seen → Logged → Logged → Type 0
+Followed true t s f before after old new = (t ≡ turn.Waiting) × (new ≡ old) × (after ≡ seen before.used (with_open before.world) (stage.Waiting s f))
+Followed false t s f before after old new = IsTurn t (stage.Left (no_route f.server.0))
+    × Puts old new (out_texts (ended f.number (no_route f.server.0) ∷ conclusion_records s.depth (fails (no_route f.server.0))))
+    × (after ≡ seen before.used before.world (stage.Left (no_route f.server.0)))

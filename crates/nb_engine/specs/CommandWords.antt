@@ -1,10 +1,11 @@
 -- What a command read from words comes to.
-use Rattle.std.specs.Prelude.{ℕ, ◌+◌, ◌≤◌, length, sum_by, Bool, true, List, [], ◌∷◌, ◌++◌, None, Result, Ok, Err, if◌then◌else◌}
+use Rattle.std.specs.Prelude.{ℕ, ◌+◌, ◌<◌, ◌≤◌, length, sum_by, Bool, true, List, [], ◌∷◌, ◌++◌, None, Result, Ok, Err, if◌then◌else◌}
 use Rattle.std.specs.List.{join_with_byte, flat_map}
 use Rattle.nb_terms.specs.declared.cause.Cause.{Cause}
 use Rattle.nb_defs.specs.Causes.{unknown, usage, exit_cause}
 use Rattle.nb_defs.specs.Commands.{Outcome, printed, refused}
 use Rattle.nb_uri.specs.Views.{target_of}
+use Rattle.nb_tftpmsg.specs.Texts.{HasNoZero}
 use Rattle.nb_engine.specs.Effects.{Effect, says, asks, bad_uri, too_long_uri, full_opens}
 use Rattle.nb_engine.specs.Effects as defs
 use Rattle.nb_engine.specs.declared.command.Command.{Command}
@@ -55,6 +56,20 @@ PrintsWithin (Ok (Echo newline words)) len = len ≤ sum_by length words.now + l
 PrintsWithin (Ok (Exit n)) len = Unit {0}
 PrintsWithin (Ok (Fetch w)) len = Unit {0}
 PrintsWithin (Err refusal) len = Unit {0}
+
+-- of a command that asks for a file this holds
+abbrev pub IfFetch : Result Command Refusal → (Wanted → Type 0) → Type 0
+IfFetch (Ok (Fetch w)) P = P w
+IfFetch (Ok (Echo newline words)) P = Unit {0}
+IfFetch (Ok (Exit n)) P = Unit {0}
+IfFetch (Err refusal) P = Unit {0}
+
+-- an open may be made, and the file's path and name are of the sizes that a transfer and an image take
+pub record CanFetch (opens : ℕ) (w : Wanted) : Type 0 where
+  pub few : opens < 16384
+  pub clean : HasNoZero w.target.path.now
+  pub path : length w.target.path.now ≤ 1024
+  pub name : length w.target.name.now ≤ 255
 
 -- a command's words are some of these words
 abbrev pub TakesWithin : List (List ℕ) → Result Command Refusal → Type 0

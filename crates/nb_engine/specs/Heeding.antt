@@ -1,11 +1,12 @@
 -- What a datagram or a time does to a client whose command waits.
-use Rattle.std.specs.Prelude.{◌≡◌, ◌⊎◌, ℕ, ◌+◌, ◌==◌, ◌≤◌, Bool, true, false, List, [], ◌∷◌, ◌++◌, length}
+use Rattle.std.specs.Prelude.{◌≡◌, ◌⊎◌, ℕ, ◌+◌, ◌==◌, ◌≤◌, Bool, true, false, List, [], ◌∷◌, ◌++◌, length, Option, None}
 use Rattle.nb_wire.specs.declared.address.Ip4.{Ip4}
 use Rattle.nb_defs.specs.Records.{In, Out, out_texts, step, IsFrameRecord}
 use Rattle.nb_record.specs.Logged.{Logged, Puts}
+use Rattle.nb_stack.specs.Takes.{Outcome}
 use Rattle.nb_tftp.specs.History.{Call, entry, is_ended}
 use Rattle.nb_engine.specs.Machine.{Running, Phase, Hears, at}
-use Rattle.nb_engine.specs.Opens.{Open, with_entry, body_of, end_of, is_over_limit}
+use Rattle.nb_engine.specs.Opens.{Open, with_entry, body_of, end_of, is_over_limit, heard_from}
 use Rattle.nb_engine.specs.Fetches.{IsFetchOf, IsLive}
 use Rattle.nb_engine.specs.Seen.{Seen, seen, StandsFor}
 use Rattle.nb_engine.specs.Turns.{Acts, IsBusy, IsWaiting, IsOverWith, IsEnd}
@@ -52,10 +53,20 @@ IsReply bytes = (bytes ≡ []) ⊎ IsFrameRecord bytes
 
 -- the open that a command waits for is one of this server
 abbrev pub asks_server : Stage → Ip4 → Bool
-asks_server (stage.Waiting s f) server = f.server.0 == server.0
+asks_server (stage.Waiting s f) server = server.0 == f.server.0
 asks_server stage.Ready server = false
 asks_server (stage.Running s) server = false
 asks_server (stage.HandingOff h) server = false
 asks_server (stage.Left cause) server = false
 asks_server stage.HandedOff server = false
 asks_server stage.Stopped server = false
+
+-- what a client hears that waits for an open
+abbrev pub heard_at : Stage → Outcome → Option (ℕ × List ℕ)
+heard_at (stage.Waiting s f) out = heard_from f.server out
+heard_at stage.Ready out = None
+heard_at (stage.Running s) out = None
+heard_at (stage.HandingOff h) out = None
+heard_at (stage.Left cause) out = None
+heard_at stage.HandedOff out = None
+heard_at stage.Stopped out = None

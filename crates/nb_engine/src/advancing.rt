@@ -1,18 +1,18 @@
 ghost use Rattle.std.specs.Prelude.{◌≡◌, ◌<◌, ◌≤◌, ◌∷◌, [], length};
-ghost use Rattle.nb_defs.specs.Records.{out_texts};
+ghost use Rattle.nb_defs.specs.Records.{out_texts, ended};
 ghost use Rattle.nb_record.specs.Logged.{Puts};
 ghost use Rattle.nb_engine.specs.Turns.{Acts, IsNearer};
 ghost use Rattle.nb_engine.specs.Seen.{seen};
-ghost use Rattle.nb_engine.specs.Machine.{command_record, further};
+ghost use Rattle.nb_engine.specs.Machine.{command_record, further, no_route};
 ghost use Rattle.nb_engine.specs.declared.client.Turn.TheVariants as turn;
 ghost use Rattle.nb_engine.specs.Effects.{effect, asks};
-ghost use Rattle.nb_engine.specs.CommandWords.{effect_of, wanted_of, TakesFewer, IsLocal};
+ghost use Rattle.nb_engine.specs.CommandWords.{effect_of, wanted_of, TakesFewer, IsLocal, CanFetch};
 ghost use Rattle.nb_engine.specs.NextLine.{HasWords};
-ghost use Rattle.nb_engine.specs.World.{with_open};
+ghost use Rattle.nb_engine.specs.World.{with_open, own_port as own_port_of};
 ghost use Rattle.nb_engine.specs.Opens.{opened_record, has_route, send_records};
 ghost use Rattle.nb_engine.specs.Conclusions.{fails, conclusion_records};
 ghost use Rattle.nb_engine.specs.Concluding.{IsTurn};
-ghost use Rattle.nb_engine.specs.Advance.{IfRunning, IsHanding, IsNext, IsOneUdp, IfOne, Asks};
+ghost use Rattle.nb_engine.specs.Advance.{IfRunning, IsHanding, IsNext, IsOneUdp, IfOne, Asks, Followed};
 ghost use Rattle.nb_engine.specs.declared.stage.Stage.TheVariants as stage;
 
 use crate::causes::{OK, no_route};
@@ -129,6 +129,7 @@ impl Client {
         requires words { IfRunning self.old.stage (λ s. HasWords s words.now) }
         requires some { 0 < length words.now }
         requires value { effect self.old.world.opens words.now ≡ asks (wanted_of wanted.now) }
+        requires file { CanFetch self.old.world.opens wanted.now }
         ensures does { Acts result [] self.old self.new log.old log.new }
         ensures nearer { IsNearer result self.old self.new }
     {
@@ -146,7 +147,9 @@ impl Client {
 
     /// Puts that the command begins, and the open.
     fn put_opened(&self, words: &[Word], wanted: &Wanted<'_>, own: u16, log: &mut Log)
-        requires { IfRunning self.now.stage (λ s. HasWords s words.now) }
+        requires words { IfRunning self.now.stage (λ s. HasWords s words.now) }
+        requires fits { length wanted.now.target.path.now ≤ 1024 }
+        requires own { own ≡ own_port_of self.now.world.w self.now.world.opens }
         ensures { IfRunning self.now.stage (λ s. Puts log.old log.new
             (out_texts (command_record s words.now ∷ opened_record self.now.world (wanted_of wanted.now) ∷ []))) }
     {
@@ -171,29 +174,54 @@ impl Client {
         requires udp { IsOneUdp acts.now }
         ensures { IfRunning self.old.stage (λ s. Asks result s fetch acts.now self.old self.new log.old log.new) }
     {
-        let Stage::Running(script) = mem::replace(&mut self.stage, Stage::Stopped) else {
-            unreachable!()
-        };
-        if put_request(&mut self.world.net, fetch.number, acts, log) {
-            self.wait(script, fetch)
+        let found = put_request(&mut self.world.net, fetch.number, acts, log);
+        self.follow(found, fetch, log)
+    }
+
+    /// The command waits where its request has found a way, and fails where not.
+    fn follow(&mut self, found: bool, fetch: Fetch, log: &mut Log) -> Turn
+        requires line { IfRunning self.old.stage (λ s. s.passed ≤ 4096) }
+        requires own { IsNext self.old.world fetch }
+        ensures { IfRunning self.old.stage (λ s. Followed found result s fetch self.old self.new log.old log.new) }
+    {
+        if found {
+            self.wait(fetch)
         } else {
-            put_over(fetch.number, no_route(fetch.server), log);
-            self.fail(script, no_route(fetch.server), log)
+            self.give_up(fetch, log)
         }
     }
 
     /// The script's command waits for this fetch, whose port is bound.
-    fn wait(&mut self, script: RunningScript, fetch: Fetch) -> Turn
-        requires line { script.passed ≤ 4096 }
+    fn wait(&mut self, fetch: Fetch) -> Turn
+        requires line { IfRunning self.old.stage (λ s. s.passed ≤ 4096) }
         requires own { IsNext self.old.world fetch }
-        requires free { self.old.world.net.ports ≡ [] }
         ensures turn { result ≡ turn.Waiting }
-        ensures after { self.new ≡ seen self.old.used (with_open self.old.world) (stage.Waiting script fetch) }
+        ensures after { IfRunning self.old.stage (λ s. self.new ≡ seen self.old.used (with_open self.old.world) (stage.Waiting s fetch)) }
     {
+        let Stage::Running(script) = mem::replace(&mut self.stage, Stage::Stopped) else {
+            unreachable!()
+        };
         let _ = self.world.net.bind(UDP, fetch.own_port, u64::from(fetch.number));
         self.world.opens += 1;
         self.stage = Stage::Waiting(script, fetch);
         Turn::Waiting
+    }
+
+    /// There is no way to the fetch's server: its open has ended.
+    fn give_up(&mut self, fetch: Fetch, log: &mut Log) -> Turn
+        requires { IfRunning self.old.stage (λ s. s.passed ≤ 4096) }
+        ensures turn { IsTurn result (stage.Left (no_route fetch.server.0)) }
+        ensures puts { IfRunning self.old.stage (λ s. Puts log.old log.new
+            (out_texts (ended fetch.number (no_route fetch.server.0) ∷ conclusion_records s.depth (fails (no_route fetch.server.0))))) }
+        ensures after { self.new ≡ seen self.old.used self.old.world (stage.Left (no_route fetch.server.0)) }
+    {
+        let (number, server) = (fetch.number, fetch.server);
+        drop(fetch);
+        let Stage::Running(script) = mem::replace(&mut self.stage, Stage::Stopped) else {
+            unreachable!()
+        };
+        put_over(number, no_route(server), log);
+        self.fail(script, no_route(server), log)
     }
 
     /// The script's command fails, and the script is left.

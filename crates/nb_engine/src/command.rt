@@ -6,7 +6,7 @@ ghost use Rattle.nb_defs.specs.Commands.{outcome, echo, exit, refused, is_option
 ghost use Rattle.nb_uri.specs.Targets.{tftp_target};
 ghost use Rattle.nb_engine.specs.Effects.{effect, fetch, asked, says, bad_uri};
 ghost use Rattle.nb_engine.specs.Machine.{ends_script};
-ghost use Rattle.nb_engine.specs.CommandWords.{effect_of, cause_of, done_of, end_of, TakesWithin, TakesFewer, IsLocal, PrintsWithin, spaced};
+ghost use Rattle.nb_engine.specs.CommandWords.{effect_of, cause_of, done_of, end_of, TakesWithin, TakesFewer, IsLocal, PrintsWithin, spaced, IfFetch, CanFetch};
 
 use crate::causes::{BAD_URI, FULL_OPENS, OK, TOO_LONG_URI, UNKNOWN, USAGE, exit_result};
 use crate::number::read_number;
@@ -159,7 +159,9 @@ fn read_exit(args: &[Word]) -> Result<Command<'_>, Refusal>
 
 /// The file that a URI names, where one more open may be made.
 fn read_uri(opens: u16, boots: bool, uri: &[u8]) -> Result<Command<'_>, Refusal>
-    ensures { option_map_or (asked opens boots uri.now) (tftp_target uri.now) (says (refused bad_uri)) ≡ effect_of result }
+    requires { opens ≤ 16384 }
+    ensures value { option_map_or (asked opens boots uri.now) (tftp_target uri.now) (says (refused bad_uri)) ≡ effect_of result }
+    ensures file { IfFetch result (λ w. CanFetch opens w) }
 {
     match TftpUri::read(uri) {
         Ok(_) if opens == MAX_OPENS => Err(Refusal::Full),
@@ -171,7 +173,9 @@ fn read_uri(opens: u16, boots: bool, uri: &[u8]) -> Result<Command<'_>, Refusal>
 
 #[tactic(auto, unfolding(crate::specs::Effects::fetch))]
 fn read_fetch(opens: u16, boots: bool, args: &[Word]) -> Result<Command<'_>, Refusal>
+    requires { opens ≤ 16384 }
     ensures value { fetch opens boots args.now ≡ effect_of result }
+    ensures file { IfFetch result (λ w. CanFetch opens w) }
     ensures within { TakesFewer args.now result }
 {
     match args {
@@ -183,7 +187,9 @@ fn read_fetch(opens: u16, boots: bool, args: &[Word]) -> Result<Command<'_>, Ref
 /// The command that these words say, where so many opens were made.
 #[tactic(auto, unfolding(crate::specs::Effects::effect))]
 pub fn read_command(opens: u16, words: &[Word]) -> Result<Command<'_>, Refusal>
-    requires { 0 < length words.now }
+    requires some { 0 < length words.now }
+    requires opens { opens ≤ 16384 }
+    ensures file { IfFetch result (λ w. CanFetch opens w) }
     ensures value { effect opens words.now ≡ effect_of result }
     ensures within { TakesFewer words.now result }
 {
@@ -201,6 +207,7 @@ pub fn read_command(opens: u16, words: &[Word]) -> Result<Command<'_>, Refusal>
 #[tactic(auto, unfolding(nb_defs::specs::Commands::outcome))]
 fn read_local(words: &[Word]) -> Result<Command<'_>, Refusal>
     requires { 0 < length words.now }
+    ensures local { IsLocal result }
     ensures value { says (outcome words.now) ≡ effect_of result }
     ensures within { TakesFewer words.now result }
 {

@@ -1,4 +1,4 @@
-ghost use Rattle.std.specs.Prelude.{◌≡◌, ◌<◌, ◌≤◌, [], None, true, length, IfOk};
+ghost use Rattle.std.specs.Prelude.{◌≡◌, ◌<◌, ◌≤◌, [], None, true, length, IfOk, OnErr};
 ghost use Rattle.nb_image.specs.Images.{image_of, refusal};
 ghost use Rattle.nb_image.specs.Kinds.{kind_of};
 ghost use Rattle.nb_engine.specs.Conclusions.{conclusion, taken_in, cause_of_error, is_bootable};
@@ -52,7 +52,8 @@ pub fn conclude(
 ) -> Result<Conclusion, NoMemory>
     requires name { length fetch.name ≤ 268435456 }
     requires body { length fetch.body ≤ 268435456 }
-    ensures { IfOk result (λ c. Concludes c (conclusion cause fetch.boots (image_of fetch.name fetch.body [] fetch.uri) images.old) images.old images.new) }
+    ensures refused { OnErr result (images.new ≡ images.old) }
+    ensures concludes { IfOk result (λ c. Concludes c (conclusion cause fetch.boots (image_of fetch.name fetch.body [] fetch.uri) images.old) images.old images.new) }
 {
     if cause.code != 0 {
         return Ok(Conclusion::Fails(cause));
@@ -72,7 +73,8 @@ fn store(alloc: Global, images: &mut Images, fetch: Fetch) -> Result<Conclusion,
     requires name { length fetch.name ≤ 268435456 }
     requires body { length fetch.body ≤ 268435456 }
     requires kind { fetch.boots ≡ true → is_bootable (kind_of fetch.body) ≡ true }
-    ensures { IfOk result (λ c. Concludes c (taken_in fetch.boots (image_of fetch.name fetch.body [] fetch.uri) images.old) images.old images.new) }
+    ensures refused { OnErr result (images.new ≡ images.old) }
+    ensures concludes { IfOk result (λ c. Concludes c (taken_in fetch.boots (image_of fetch.name fetch.body [] fetch.uri) images.old) images.old images.new) }
 {
     let Fetch {
         name,

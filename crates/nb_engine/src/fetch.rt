@@ -76,6 +76,8 @@ impl Fetch {
     ) -> Result<Fetch, NoMemory>
         requires clean { HasNoZero wanted.now.target.path.now }
         requires fits { length wanted.now.target.path.now ≤ 1024 }
+        requires name { length wanted.now.target.name.now ≤ 255 }
+        ensures sizes { IfOk result (λ f. (length f.name ≤ 255) × (f.body ≡ [])) }
         ensures live { IfOk result (λ f. (w : World) → w.opens ≡ number → own_port ≡ own_port_of w.w number → w.time ≡ now
             → IsLive f (open_for w (wanted_of wanted.now))) }
         ensures request { IfOk result (λ f. acts.new ≡ sending (request_of (begun wanted.now.target.server 69 own_port wanted.now.target.path.now)) (Some 1)) }
@@ -107,18 +109,22 @@ impl Fetch {
         now: u64,
     ) -> Result<Heard, NoMemory>
         requires { length self.old.body ≤ 268435456 }
-        ensures { IfOk result (λ heard. TakesCall self.old self.new (came (received rec port body.now) now) heard) }
+        ensures heard { IfOk result (λ heard. TakesCall self.old self.new (came (received rec port body.now) now) heard) }
+        ensures same { IsSameFetch self.old self.new }
+        ensures short { length self.new.body ≤ 268435456 }
     {
         let mut acts = Acts::none();
         self.transfer.message(rec, port, body, now, &mut acts);
-        let end = self.take(&acts, body)?;
+        let end = self.take(&acts, given(acts.give, body))?;
         Ok(Heard { acts, end })
     }
 
     /// It is this time, in milliseconds since the run's start.
     pub fn time(&mut self, now: u64) -> Result<Heard, NoMemory>
         requires { length self.old.body ≤ 268435456 }
-        ensures { IfOk result (λ heard. TakesCall self.old self.new (ticked now) heard) }
+        ensures heard { IfOk result (λ heard. TakesCall self.old self.new (ticked now) heard) }
+        ensures same { IsSameFetch self.old self.new }
+        ensures short { length self.new.body ≤ 268435456 }
     {
         let mut acts = Acts::none();
         self.transfer.time(now, &mut acts);
@@ -127,17 +133,16 @@ impl Fetch {
     }
 
     /// Joins the bytes that go up to the body, and says whether the open has ended.
-    fn take(&mut self, acts: &Acts, body: &[u8]) -> Result<Option<Cause>, NoMemory>
-        requires range { IsRange acts.now.give (length body.now) }
-        requires short { length self.old.body ≤ 268435456 }
-        ensures end { IfOk result (λ end. end ≡ end_of (self.old.body ++ given_bytes acts.now.give body.now) acts.now) }
-        ensures body { OnOk result ((self.new.body ≡ self.old.body ++ given_bytes acts.now.give body.now)
-            ⊎ (is_over_limit (self.old.body ++ given_bytes acts.now.give body.now) ≡ true)) }
+    fn take(&mut self, acts: &Acts, piece: &[u8]) -> Result<Option<Cause>, NoMemory>
+        requires { length self.old.body ≤ 268435456 }
+        ensures end { IfOk result (λ end. end ≡ end_of (self.old.body ++ piece.now) acts.now) }
+        ensures body { OnOk result ((self.new.body ≡ self.old.body ++ piece.now)
+            ⊎ (is_over_limit (self.old.body ++ piece.now) ≡ true)) }
         ensures same { IsSameFetch self.old self.new }
         ensures transfer { self.new.transfer ≡ self.old.transfer }
-        ensures short { OnOk result (length self.new.body ≤ 268435456) }
+        ensures short { length self.new.body ≤ 268435456 }
     {
-        match self.body.push(given(acts.give, body)) {
+        match self.body.push(piece) {
             Ok(()) => Ok(acts.over),
             Err(PushError::TooLarge) => Ok(Some(TOO_LARGE_IMAGE)),
             Err(PushError::NoMemory) => Err(NoMemory),

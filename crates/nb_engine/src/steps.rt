@@ -5,12 +5,14 @@ ghost use Rattle.nb_defs.specs.Causes.{not_script};
 ghost use Rattle.nb_defs.specs.ScriptText.{is_plain};
 ghost use Rattle.nb_record.specs.View.{start_of};
 ghost use Rattle.nb_record.specs.Logged.{Puts};
+ghost use Rattle.std.specs.Option.{option_map};
+ghost use Rattle.nb_stack.specs.Takes.{outcome};
 ghost use Rattle.nb_tftp.specs.Received.{received};
 ghost use Rattle.nb_tftp.specs.History.{came, ticked};
 ghost use Rattle.nb_engine.specs.Machine.{Running, reply_records};
 ghost use Rattle.nb_engine.specs.declared.fetch.Fetch.{Fetch};
 ghost use Rattle.nb_engine.specs.Turns.{IsWaiting};
-ghost use Rattle.nb_engine.specs.Heeding.{Uses, Heeds, Comes, IsReply, asks_server};
+ghost use Rattle.nb_engine.specs.Heeding.{Uses, Heeds, Comes, IsReply, asks_server, heard_at};
 ghost use Rattle.nb_engine.specs.declared.stage.Stage.TheVariants as stage;
 ghost use Rattle.nb_engine.specs.declared.client.Turn.TheVariants as turn;
 
@@ -93,14 +95,30 @@ impl Client {
     {
         let mut room = [0; MAX_FRAME];
         let mut reply = Out::new(&mut room);
-        match self.world.net.take(bytes, &mut reply) {
-            Taken::To {
-                src,
-                src_port,
-                body,
-                ..
-            } if self.is_asked(src) => self.hear(src_port, body, log),
-            _ => self.pass_by(reply.written(), log),
+        let taken = self.world.net.take(bytes, &mut reply);
+        match self.heard(taken) {
+            Some((port, body)) => self.hear(port, body, log),
+            None => self.pass_by(reply.written(), log),
+        }
+    }
+
+    /// What a frame brings the open that a command waits for: the port of its server and the datagram's body.
+    fn heard<'a>(&self, taken: Taken<'a>) -> Option<(u16, &'a [u8])>
+        ensures { option_map (λ m. (m.0, m.1.now)) result ≡ heard_at self.now.stage (outcome taken) }
+    {
+        let Taken::To {
+            src,
+            src_port,
+            body,
+            ..
+        } = taken
+        else {
+            return None;
+        };
+        if self.is_asked(src) {
+            Some((src_port, body))
+        } else {
+            None
         }
     }
 
@@ -109,7 +127,7 @@ impl Client {
         ensures { result ≡ asks_server self.now.stage server }
     {
         match &self.stage {
-            Stage::Waiting(_, fetch) => fetch.server.0 == server.0,
+            Stage::Waiting(_, fetch) => server.0 == fetch.server.0,
             _ => false,
         }
     }

@@ -1,21 +1,15 @@
-use Rattle.std.proofs.Common.{rules, ◌≡◌, ◌<◌, ◌≤◌, ◌∷◌, [], length, ℕ, ◌+◌, ◌-◌, ◌*◌, ◌/◌, ◌%◌, Bool, true, false, nat_eq, nat_lt, List, ◌++◌, slice_index_or, slice_set, bit_and, bit_or, Fits, w8, w32, w64, Bor, MutBor}
-use Rattle.nb_defs.specs.Records.{out_texts}
-use Rattle.nb_record.specs.Logged.{Puts}
-use Rattle.nb_engine.specs.Turns.{Acts, IsNearer}
-use Rattle.nb_engine.specs.Seen.{seen}
-use Rattle.nb_engine.specs.Machine.{command_record, further}
-use Rattle.nb_engine.specs.declared.client.Turn.TheVariants as turn
-use Rattle.nb_engine.specs.Effects.{effect, asks}
-use Rattle.nb_engine.specs.CommandWords.{effect_of, wanted_of, TakesFewer, IsLocal}
-use Rattle.nb_engine.specs.NextLine.{HasWords}
-use Rattle.nb_engine.specs.World.{with_open}
-use Rattle.nb_engine.specs.Opens.{opened_record, has_route, send_records}
-use Rattle.nb_engine.specs.Conclusions.{fails, conclusion_records}
-use Rattle.nb_engine.specs.Concluding.{IsTurn}
-use Rattle.nb_engine.specs.Advance.{IfRunning, IsHanding, IsNext, IsOneUdp, IfOne, Asks}
+use Rattle.std.proofs.Common.{◌≡◌, refl, sym, ◌∙◌, ap, None}
 use Rattle.nb_engine.specs.declared.stage.Stage.TheVariants as stage
+use Rattle.nb_engine.specs.Machine.{next_line}
+use Rattle.nb_engine.specs.Seen.{seen}
+use Rattle.nb_engine.proofs.Moves.{end_grows}
 use Rattle.nb_engine.proofs.client.Client.advance.Goals as goal
 
--- src/advancing.rt:53:5
 pub returns-in-Ok-End-clause-does : goal.returns-in-Ok-End-clause-does
-returns-in-Ok-End-clause-does c = ?
+returns-in-Ok-End-clause-does c =
+    let s = c.in-Running.script in
+    let n = c.self.inside.used in
+    let w = c.self.inside.world in
+    let before : c.args.self.now ≡ seen n w (stage.Running s) = sym c.self.view_is ∙ ap (λ t. seen n w t) c.in-Running.is in
+    let none : next_line s ≡ None = rw c.in-Ok-End.field-0-is at c.in-Ok-End.ensures in
+    rw before (tt, end_grows n w s none c.put_leave.ensures, refl)

@@ -1,21 +1,30 @@
-use Rattle.std.proofs.Common.{rules, ◌≡◌, ◌<◌, ◌≤◌, ◌∷◌, [], length, ℕ, ◌+◌, ◌-◌, ◌*◌, ◌/◌, ◌%◌, Bool, true, false, nat_eq, nat_lt, List, ◌++◌, slice_index_or, slice_set, bit_and, bit_or, Fits, w8, w32, w64, Bor, MutBor}
-use Rattle.nb_defs.specs.Records.{out_texts}
+use Rattle.std.proofs.Common.{◌≡◌, ◌≤◌, List, [], ◌∷◌, sym, ap, subst}
+use Rattle.nb_terms.specs.declared.acts.SendTo.{SendTo}
 use Rattle.nb_record.specs.Logged.{Puts}
-use Rattle.nb_engine.specs.Turns.{Acts, IsNearer}
-use Rattle.nb_engine.specs.Seen.{seen}
-use Rattle.nb_engine.specs.Machine.{command_record, further}
-use Rattle.nb_engine.specs.declared.client.Turn.TheVariants as turn
-use Rattle.nb_engine.specs.Effects.{effect, asks}
-use Rattle.nb_engine.specs.CommandWords.{effect_of, wanted_of, TakesFewer, IsLocal}
-use Rattle.nb_engine.specs.NextLine.{HasWords}
-use Rattle.nb_engine.specs.World.{with_open}
-use Rattle.nb_engine.specs.Opens.{opened_record, has_route, send_records}
-use Rattle.nb_engine.specs.Conclusions.{fails, conclusion_records}
-use Rattle.nb_engine.specs.Concluding.{IsTurn}
-use Rattle.nb_engine.specs.Advance.{IfRunning, IsHanding, IsNext, IsOneUdp, IfOne, Asks}
+use Rattle.nb_defs.specs.Records.{out_texts}
+use Rattle.nb_engine.specs.declared.stage.Stage.{Stage}
 use Rattle.nb_engine.specs.declared.stage.Stage.TheVariants as stage
+use Rattle.nb_engine.specs.Machine.{Running}
+use Rattle.nb_engine.specs.Opens.{has_route, send_records}
+use Rattle.nb_engine.specs.Seen.{Seen, seen}
+use Rattle.nb_engine.specs.Advance.{IfRunning, IfOne, Asks, Asked, Followed}
+use Rattle.nb_engine.proofs.Standing.{runs_at}
+use Rattle.nb_engine.proofs.Moves.{asked_by}
 use Rattle.nb_engine.proofs.client.Client.ask.Goals as goal
 
--- src/advancing.rt:168:5
-pub returns-else-put_request : goal.returns-else-put_request
-returns-else-put_request c = ?
+pub returns : goal.returns
+returns c =
+    let x = seen c.self.inside.used c.self.inside.world c.self.inside.stage in
+    let acts = c.args.acts.now in
+    let f = c.args.fetch in
+    let send = c.requires.udp.0 in
+    let items = c.requires.udp.1 in
+    let r = runs_at c.self.inside.stage (λ s. s.passed ≤ 4096) (subst (λ (y : Seen). IfRunning y.stage (λ s. s.passed ≤ 4096)) (sym c.self.view_is) c.requires.line) in
+    let route = subst (λ (xs : List SendTo). IfOne xs (λ m. c.put_request.result ≡ has_route x.world.net m)) items c.put_request.ensures.route in
+    let puts = subst (λ (xs : List SendTo). IfOne xs (λ m. Puts c.args.log.now c.put_request.new.log (out_texts (send_records x.world.net f.number acts.tried m)))) items c.put_request.ensures.puts in
+    let followed = subst (λ (st : Stage). IfRunning st (λ s. Followed c.put_request.result c.follow.result s f x c.follow.new.self c.put_request.new.log c.follow.new.log)) r.is c.follow.ensures in
+    let asked = asked_by c.put_request.result c.follow.result c.args.log.now c.put_request.new.log c.follow.new.log r.script f acts send x c.follow.new.self route puts followed in
+    let one = subst (λ (xs : List SendTo). IfOne xs (λ m. Asked c.follow.result r.script f acts m x c.follow.new.self c.args.log.now c.follow.new.log)) (sym items) asked in
+    let all : IfRunning x.stage (λ s. Asks c.follow.result s f acts x c.follow.new.self c.args.log.now c.follow.new.log) =
+    subst (λ (st : Stage). IfRunning st (λ s. Asks c.follow.result s f acts x c.follow.new.self c.args.log.now c.follow.new.log)) (sym r.is) one in
+    subst (λ (y : Seen). IfRunning y.stage (λ s. Asks c.follow.result s f acts y c.follow.new.self c.args.log.now c.follow.new.log)) c.self.view_is all

@@ -1,31 +1,52 @@
-use Rattle.std.proofs.Common.{rules, ◌≡◌, ◌≤◌, ℕ, ◌∷◌, [], ◌+◌, ◌-◌, ◌*◌, ◌<◌, length, ◌/◌, ◌%◌, Bool, true, false, nat_eq, nat_lt, List, ◌++◌, slice_index_or, slice_set, bit_and, bit_or, Fits, w8, w32, w64, Bor, MutBor}
+use Rattle.std.proofs.Common.{◌≡◌, ◌<◌, length, refl, sym, ◌∙◌, ap, subst}
 use Rattle.nb_defs.specs.Causes.{ok}
-use Rattle.nb_defs.specs.Records.{out_texts, step}
-use Rattle.nb_record.specs.Logged.{Puts}
-use Rattle.nb_engine.specs.Machine.{Running, further}
-use Rattle.nb_engine.specs.Opens.{acts_records}
-use Rattle.nb_engine.specs.Seen.{seen}
-use Rattle.nb_engine.specs.Heeding.{Heeds, HasHeard}
-use Rattle.nb_engine.specs.Concluding.{Concludes, Ends, IsPlaceFor}
-use Rattle.nb_engine.specs.declared.fetch.Fetch.{Fetch}
-use Rattle.nb_engine.specs.declared.client.Turn.TheVariants as turn
-use Rattle.nb_engine.specs.Turns.{IsWaiting}
-use Rattle.nb_tftp.specs.Sound.{IsSound}
 use Rattle.nb_engine.specs.declared.stage.Stage.TheVariants as stage
+use Rattle.nb_engine.specs.declared.conclusion.Conclusion.TheVariants as concluded
+use Rattle.nb_engine.specs.Conclusions.{handoff_records}
+use Rattle.nb_engine.specs.Machine.{further}
+use Rattle.nb_engine.specs.Seen.{Seen, seen, as_running, as_left, as_handing}
+use Rattle.nb_engine.specs.Concluding.{IsPlaceFor}
+use Rattle.nb_engine.proofs.HandingLemmas.{begins_at}
 use Rattle.nb_engine.proofs.client.Client.conclude.Goals as goal
 
--- src/heeding.rt:83:28
 pub invariant_of-self : goal.invariant_of-self
-invariant_of-self c = ?
+invariant_of-self c =
+    let sound = c.self.invariant in
+    let there : c.in-Boots.kernel < length c.args.self.now.world.images.images = subst (λ k. IsPlaceFor k c.args.self.now.world.images) c.in-Boots.is c.requires.place in
+    let place : c.in-Boots.kernel < length c.self.inside.world.images.images = subst (λ (x : Seen). c.in-Boots.kernel < length x.world.images.images) (sym c.self.view_is) there in
+    record {
+      time = sound.time;
+      w = sound.w;
+      opens = sound.opens;
+      ports = tt;
+      well = rw c.of.ensures (begins_at c.self.inside.world.images c.in-Boots.kernel place sound.short);
+      short = sound.short;
+    }
 
--- src/heeding.rt:83:5
 pub returns-in-Keeps : goal.returns-in-Keeps
-returns-in-Keeps c = ?
+returns-in-Keeps c =
+    let now = c.args.self.now in
+    rw (c.in-Keeps.is, c.resume.ensures.turn, c.resume.ensures.after) (record {
+      puts = c.put_result.ensures;
+      is_turn = tt;
+      stands = as_running now.used now.world (further c.args.script ok);
+    })
 
--- src/heeding.rt:83:5
 pub returns-in-Fails : goal.returns-in-Fails
-returns-in-Fails c = ?
+returns-in-Fails c =
+    let now = c.args.self.now in
+    rw (c.in-Fails.is, c.fail.ensures.after) (record {
+      puts = c.fail.ensures.puts;
+      is_turn = c.fail.ensures.turn;
+      stands = as_left now.used now.world c.in-Fails.cause;
+    })
 
--- src/heeding.rt:83:5
 pub returns-in-Boots : goal.returns-in-Boots
-returns-in-Boots c = ?
+returns-in-Boots c =
+    let n = c.self.inside.used in
+    let w = c.self.inside.world in
+    rw (c.in-Boots.is, ← c.self.view_is, c.of.ensures) (record {
+      puts = c.put_result-in-Boots.ensures;
+      is_turn = tt;
+      stands = as_handing n w (record { kernel = c.in-Boots.kernel; part = 0; piece = 0 }) (handoff_records c.in-Boots.kernel w.images.images) refl;
+    })

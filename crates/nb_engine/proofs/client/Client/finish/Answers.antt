@@ -1,12 +1,15 @@
-use Rattle.std.proofs.Common.{rules, ◌≡◌, ◌<◌, ◌-◌, ◌^◌, [], ◌∷◌, IsOkAnd, ℕ, ◌+◌, ◌*◌, ◌≤◌, length, ◌/◌, ◌%◌, Bool, true, false, nat_eq, nat_lt, List, ◌++◌, slice_index_or, slice_set, bit_and, bit_or, Fits, w8, w32, w64, Bor, MutBor}
-use Rattle.nb_defs.specs.Records.{IsIn, IsStart, out_texts}
-use Rattle.nb_record.specs.View.{in_of, start_of}
-use Rattle.nb_record.specs.Logged.{Puts}
-use Rattle.nb_engine.specs.StatusNumber.{number_of}
-use Rattle.nb_engine.specs.Turns.{Acts, IsBusy, IsNearer, MayUse, closing_records}
-use Rattle.nb_engine.specs.declared.stage.Stage.TheVariants as stage
+use Rattle.std.proofs.Common.{[], ◌∷◌, sym, ◌∙◌}
+use Rattle.nb_defs.specs.Records.{done, ended}
+use Rattle.nb_engine.specs.Machine.{stopped_cause}
+use Rattle.nb_engine.proofs.Puts.{Puts-one, Puts-outs}
+use Rattle.nb_engine.proofs.Standing.{closing_else}
+use Rattle.nb_engine.proofs.client.Client.finish.Goals.{in-Waiting, in_default}
 use Rattle.nb_engine.proofs.client.Client.finish.Goals as goal
 
--- src/client.rt:92:5
 pub returns-clause-puts : goal.returns-clause-puts
-returns-clause-puts c = ?
+returns-clause-puts c =
+    let last = Puts-one (done c.number.result) c.put.ensures in
+    rw (← c.self.view_is, ← c.number.ensures) (elim c.match-self.branch [
+      | in-Waiting w ↦ rw w.in-Waiting.is (Puts-outs (ended w.in-Waiting.fetch.number stopped_cause ∷ []) (done c.number.result ∷ []) w.put_over.ensures (rw w.log-is at last))
+      | in_default w ↦ rw (closing_else c.self.inside.stage c.number.result w.in_default.not-Waiting) (rw w.log-is at last)
+    ])

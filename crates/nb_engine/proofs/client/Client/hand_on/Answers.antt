@@ -1,25 +1,23 @@
-use Rattle.std.proofs.Common.{rules, ◌≡◌, ◌<◌, ◌≤◌, ◌∷◌, [], length, ℕ, ◌+◌, ◌-◌, ◌*◌, ◌/◌, ◌%◌, Bool, true, false, nat_eq, nat_lt, List, ◌++◌, slice_index_or, slice_set, bit_and, bit_or, Fits, w8, w32, w64, Bor, MutBor}
-use Rattle.nb_defs.specs.Records.{out_texts}
-use Rattle.nb_record.specs.Logged.{Puts}
-use Rattle.nb_engine.specs.Turns.{Acts, IsNearer}
-use Rattle.nb_engine.specs.Seen.{seen}
-use Rattle.nb_engine.specs.Machine.{command_record, further}
-use Rattle.nb_engine.specs.declared.client.Turn.TheVariants as turn
-use Rattle.nb_engine.specs.Effects.{effect, asks}
-use Rattle.nb_engine.specs.CommandWords.{effect_of, wanted_of, TakesFewer, IsLocal}
-use Rattle.nb_engine.specs.NextLine.{HasWords}
-use Rattle.nb_engine.specs.World.{with_open}
-use Rattle.nb_engine.specs.Opens.{opened_record, has_route, send_records}
-use Rattle.nb_engine.specs.Conclusions.{fails, conclusion_records}
-use Rattle.nb_engine.specs.Concluding.{IsTurn}
-use Rattle.nb_engine.specs.Advance.{IfRunning, IsHanding, IsNext, IsOneUdp, IfOne, Asks}
+use Rattle.std.proofs.Common.{◌≡◌, [], refl, sym, ◌∙◌, ap}
 use Rattle.nb_engine.specs.declared.stage.Stage.TheVariants as stage
+use Rattle.nb_engine.specs.Seen.{seen}
+use Rattle.nb_engine.proofs.Moves.{hand_grows, handed_grows}
 use Rattle.nb_engine.proofs.client.Client.hand_on.Goals as goal
 
--- src/advancing.rt:212:5
 pub returns-then-put_piece-clause-does : goal.returns-then-put_piece-clause-does
-returns-then-put_piece-clause-does c = ?
+returns-then-put_piece-clause-does c =
+    let n = c.self.inside.used in
+    let w = c.self.inside.world in
+    let h = c.in-HandingOff.handing in
+    let before : c.args.self.now ≡ seen n w (stage.HandingOff h) = sym c.self.view_is ∙ ap (λ t. seen n w t) c.in-HandingOff.is in
+    let on = rw c.if-put_piece.true at c.put_piece.ensures in
+    rw before (hand_grows n w h c.put_piece.new.self on.1, tt)
 
--- src/advancing.rt:212:5
 pub returns-else-put_piece-clause-does : goal.returns-else-put_piece-clause-does
-returns-else-put_piece-clause-does c = ?
+returns-else-put_piece-clause-does c =
+    let n = c.self.inside.used in
+    let w = c.self.inside.world in
+    let h = c.in-HandingOff.handing in
+    let before : c.args.self.now ≡ seen n w (stage.HandingOff h) = sym c.self.view_is ∙ ap (λ t. seen n w t) c.in-HandingOff.is in
+    let off = rw c.if-put_piece.false at c.put_piece.ensures in
+    rw (before, off.2) (tt, handed_grows n w h off.0, refl)

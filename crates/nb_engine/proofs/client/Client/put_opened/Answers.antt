@@ -1,25 +1,20 @@
-use Rattle.std.proofs.Common.{rules, ◌≡◌, ◌<◌, ◌≤◌, ◌∷◌, [], length, ℕ, ◌+◌, ◌-◌, ◌*◌, ◌/◌, ◌%◌, Bool, true, false, nat_eq, nat_lt, List, ◌++◌, slice_index_or, slice_set, bit_and, bit_or, Fits, w8, w32, w64, Bor, MutBor}
-use Rattle.nb_defs.specs.Records.{out_texts}
-use Rattle.nb_record.specs.Logged.{Puts}
-use Rattle.nb_engine.specs.Turns.{Acts, IsNearer}
-use Rattle.nb_engine.specs.Seen.{seen}
-use Rattle.nb_engine.specs.Machine.{command_record, further}
-use Rattle.nb_engine.specs.declared.client.Turn.TheVariants as turn
-use Rattle.nb_engine.specs.Effects.{effect, asks}
-use Rattle.nb_engine.specs.CommandWords.{effect_of, wanted_of, TakesFewer, IsLocal}
-use Rattle.nb_engine.specs.NextLine.{HasWords}
-use Rattle.nb_engine.specs.World.{with_open}
-use Rattle.nb_engine.specs.Opens.{opened_record, has_route, send_records}
-use Rattle.nb_engine.specs.Conclusions.{fails, conclusion_records}
-use Rattle.nb_engine.specs.Concluding.{IsTurn}
-use Rattle.nb_engine.specs.Advance.{IfRunning, IsHanding, IsNext, IsOneUdp, IfOne, Asks}
+use Rattle.std.proofs.Common.{◌≡◌, [], ◌∷◌, sym, ◌∙◌, ap, arith}
 use Rattle.nb_engine.specs.declared.stage.Stage.TheVariants as stage
+use Rattle.nb_engine.specs.Seen.{seen}
+use Rattle.nb_engine.specs.CommandWords.{wanted_of}
+use Rattle.nb_engine.specs.Machine.{command_record}
+use Rattle.nb_engine.specs.Opens.{opened_record}
+use Rattle.nb_engine.proofs.Puts.{Puts-one, Puts-outs}
 use Rattle.nb_engine.proofs.client.Client.put_opened.Goals as goal
 
--- src/advancing.rt:157:9
 pub put-requires : goal.put-requires
-put-requires c = ?
+put-requires c = omega (arith, c.requires.fits)
 
--- src/advancing.rt:148:5
 pub returns : goal.returns
-returns c = ?
+returns c =
+    let s = c.in-Running.script in
+    let w = c.self.inside.world in
+    let before : c.args.self.now ≡ seen c.self.inside.used w (stage.Running s) = sym c.self.view_is ∙ ap (λ t. seen c.self.inside.used w t) c.in-Running.is in
+    let own = rw before at c.requires.own in
+    rw before (Puts-outs (command_record s c.args.words.now ∷ []) (opened_record w (wanted_of c.args.wanted.now) ∷ []) c.put_begun.ensures
+    (Puts-one (opened_record w (wanted_of c.args.wanted.now)) (rw (← own) c.put.ensures)))

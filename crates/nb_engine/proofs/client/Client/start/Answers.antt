@@ -1,24 +1,30 @@
-use Rattle.std.proofs.Common.{rules, ◌≡◌, ◌+◌, ◌*◌, ◌≤◌, [], ◌∷◌, true, false, IfOk, OnOk, IsErrOf, ℕ, ◌-◌, ◌<◌, length, ◌/◌, ◌%◌, Bool, nat_eq, nat_lt, List, ◌++◌, slice_index_or, slice_set, bit_and, bit_or, Fits, w8, w32, w64, Bor, MutBor}
-use Rattle.nb_defs.specs.Records.{IsStart, IsFrameRecord, IsTick, out_texts, step, enter, leave}
-use Rattle.nb_defs.specs.Records as defs
+use Rattle.std.proofs.Common.{◌≡◌, ◌+◌, true, false, [], ◌∷◌, refl, sym, ◌∙◌, ap, subst}
 use Rattle.nb_defs.specs.Causes.{not_script}
+use Rattle.nb_defs.specs.Records.{step, enter, leave, out_texts}
+use Rattle.nb_record.specs.Logged.{Puts}
 use Rattle.nb_defs.specs.ScriptText.{is_plain}
 use Rattle.nb_record.specs.View.{start_of}
-use Rattle.nb_record.specs.Logged.{Puts}
-use Rattle.nb_tftp.specs.Received.{received}
-use Rattle.nb_tftp.specs.History.{came, ticked}
-use Rattle.nb_engine.specs.Machine.{Running, reply_records}
-use Rattle.nb_engine.specs.declared.fetch.Fetch.{Fetch}
-use Rattle.nb_engine.specs.Turns.{IsWaiting}
-use Rattle.nb_engine.specs.Heeding.{Uses, Heeds, Comes, IsReply, asks_server}
 use Rattle.nb_engine.specs.declared.stage.Stage.TheVariants as stage
-use Rattle.nb_engine.specs.declared.client.Turn.TheVariants as turn
+use Rattle.nb_engine.specs.Seen.{Seen, seen}
+use Rattle.nb_engine.proofs.Puts.{Puts-outs}
+use Rattle.nb_engine.proofs.Growth.{start_grows, refusal_grows}
 use Rattle.nb_engine.proofs.client.Client.start.Goals as goal
 
--- src/steps.rt:66:5
 pub returns-in-Ok : goal.returns-in-Ok
-returns-in-Ok c = ?
+returns-in-Ok c = λ n e.
+    let s = start_of c.args.start.now in
+    let counted : c.self.inside.used ≡ n + 1 = ap (λ (x : Seen). x.used) c.self.view_is ∙ e in
+    let plain : is_plain s.script ≡ true = c.in-Ok.ensures.plain in
+    let puts = subst (λ k. Puts c.args.log.now c.put_entered.new.log (out_texts (step k ∷ enter 1 ∷ []))) counted c.put_entered.ensures in
+    rw (c.requires.first, counted, c.first.ensures, c.in-Ok.ensures.same, c.of.ensures) (start_grows n c.args.self.now.world s c.requires.valid plain puts, tt)
 
--- src/steps.rt:66:5
 pub returns-in-Err-NotScript : goal.returns-in-Err-NotScript
-returns-in-Err-NotScript c = ?
+returns-in-Err-NotScript c = λ n e.
+    let s = start_of c.args.start.now in
+    let counted : c.self.inside.used ≡ n + 1 = ap (λ (x : Seen). x.used) c.self.view_is ∙ e in
+    let world : c.args.self.now.world ≡ c.self.inside.world = sym (ap (λ (x : Seen). x.world) c.self.view_is) in
+    let refused = rw c.in-Err-NotScript.field-0-is at c.in-Err-NotScript.ensures.not_script in
+    let other : is_plain s.script ≡ false = refused refl in
+    let both = Puts-outs (step c.self.inside.used ∷ enter 1 ∷ []) (leave 1 not_script ∷ []) c.put_entered-in-Err-NotScript.ensures c.put_refused.ensures in
+    let puts = subst (λ k. Puts c.args.log.now c.put_refused.new.log (out_texts (step k ∷ enter 1 ∷ leave 1 not_script ∷ []))) counted both in
+    rw (c.requires.first, counted, world) (tt, refusal_grows n c.self.inside.world s c.requires.valid other puts, refl)

@@ -1,20 +1,20 @@
-use Rattle.std.proofs.Common.{rules, ◌≡◌, ◌+◌, ◌*◌, ◌≤◌, [], ◌∷◌, true, false, IfOk, OnOk, IsErrOf, ℕ, ◌-◌, ◌<◌, length, ◌/◌, ◌%◌, Bool, nat_eq, nat_lt, List, ◌++◌, slice_index_or, slice_set, bit_and, bit_or, Fits, w8, w32, w64, Bor, MutBor}
-use Rattle.nb_defs.specs.Records.{IsStart, IsFrameRecord, IsTick, out_texts, step, enter, leave}
-use Rattle.nb_defs.specs.Records as defs
-use Rattle.nb_defs.specs.Causes.{not_script}
-use Rattle.nb_defs.specs.ScriptText.{is_plain}
-use Rattle.nb_record.specs.View.{start_of}
+use Rattle.std.proofs.Common.{◌≡◌, ◌+◌, [], ◌∷◌, refl, sym, ◌∙◌, ap, subst}
+use Rattle.nb_defs.specs.Records.{step, ended, out_texts}
 use Rattle.nb_record.specs.Logged.{Puts}
-use Rattle.nb_tftp.specs.Received.{received}
-use Rattle.nb_tftp.specs.History.{came, ticked}
-use Rattle.nb_engine.specs.Machine.{Running, reply_records}
-use Rattle.nb_engine.specs.declared.fetch.Fetch.{Fetch}
-use Rattle.nb_engine.specs.Turns.{IsWaiting}
-use Rattle.nb_engine.specs.Heeding.{Uses, Heeds, Comes, IsReply, asks_server}
 use Rattle.nb_engine.specs.declared.stage.Stage.TheVariants as stage
-use Rattle.nb_engine.specs.declared.client.Turn.TheVariants as turn
+use Rattle.nb_engine.specs.Machine.{stopped_cause}
+use Rattle.nb_engine.specs.Seen.{Seen, seen}
+use Rattle.nb_engine.proofs.Puts.{Puts-outs}
+use Rattle.nb_engine.proofs.Growth.{off_grows}
 use Rattle.nb_engine.proofs.client.Client.switch_off.Goals as goal
 
--- src/steps.rt:172:5
 pub returns : goal.returns
-returns c = ?
+returns c = λ n e.
+    let s = c.in-Waiting.field-0 in
+    let f = c.in-Waiting.fetch in
+    let w = c.self.inside.world in
+    let before : c.args.self.now ≡ seen c.self.inside.used w (stage.Waiting s f) = sym c.self.view_is ∙ ap (λ t. seen c.self.inside.used w t) c.in-Waiting.is in
+    let counted : c.self.inside.used ≡ n + 1 = ap (λ (x : Seen). x.used) c.self.view_is ∙ e in
+    let both = Puts-outs (step c.self.inside.used ∷ []) (ended f.number stopped_cause ∷ []) c.put_step.ensures c.put_over.ensures in
+    let puts = subst (λ k. Puts c.args.log.now c.put_over.new.log (out_texts (step k ∷ ended f.number stopped_cause ∷ []))) counted both in
+    rw (before, counted) (tt, off_grows n w s f puts, refl)

@@ -1,16 +1,14 @@
-use Rattle.std.proofs.Common.{rules, ◌≡◌, ◌≤◌, ◌++◌, ◌⊎◌, [], length, true, IfOk, OnOk, OnErr, Some, ℕ, ◌+◌, ◌-◌, ◌*◌, ◌<◌, ◌/◌, ◌%◌, Bool, false, nat_eq, nat_lt, List, ◌∷◌, slice_index_or, slice_set, bit_and, bit_or, Fits, w8, w32, w64, Bor, MutBor}
-use Rattle.nb_tftp.specs.Asks.{begun, sending}
-use Rattle.nb_tftp.specs.Received.{received}
-use Rattle.nb_tftpmsg.specs.Texts.{HasNoZero}
-use Rattle.nb_engine.specs.declared.world.World.{World}
-use Rattle.nb_engine.specs.World.{own_port as own_port_of}
-use Rattle.nb_engine.specs.CommandWords.{wanted_of}
-use Rattle.nb_engine.specs.Opens.{open_for, request_of, end_of, is_over_limit}
-use Rattle.nb_tftp.specs.History.{came, ticked}
-use Rattle.nb_engine.specs.Fetches.{TakesCall, given_bytes, IsSameFetch, IsLive}
-use Rattle.nb_tftp.specs.Sound.{IsRange}
+use Rattle.std.proofs.Common.{◌≡◌}
 use Rattle.nb_engine.proofs.fetch.Fetch.time.Goals as goal
 
--- src/fetch.rt:119:5
-pub returns : goal.returns
-returns c = ?
+pub returns-clause-heard : goal.returns-clause-heard
+returns-clause-heard c =
+    let done = c.in_ok-end.ensures in
+    record {
+      same = record { number = done.same.number; server = done.same.server; own_port = done.same.own_port; name = done.same.name; uri = done.same.uri; boots = done.same.boots };
+      core = λ b start h stands lives. rw done.transfer (c.time.ensures.stands b start h stands lives);
+      sound = (_, c.time.ensures.sound);
+      ends = done.end;
+      short = done.short;
+      body = done.body;
+    }
