@@ -13,7 +13,7 @@ use crate::Status;
 use crate::causes::{NOT_SCRIPT, OK};
 use crate::running::RunningScript;
 use nb_record::{Cause, InRec, Log, NoMemory, OutRec, Start};
-use nb_script::{Script, ScriptError};
+use nb_script::{PlainError, PlainScript};
 use nb_wire::{Ip4, Mac, Text};
 use std::alloc::Global;
 use std::marker::Model;
@@ -100,14 +100,14 @@ fn status_after(cause: Cause) -> Status
 }
 
 /// The script of these bytes, copied.
-fn read_script(alloc: Global, bytes: &[u8]) -> Result<Script, ScriptError>
+fn read_script(alloc: Global, bytes: &[u8]) -> Result<PlainScript, PlainError>
     ensures same { IfOk result (λ s. s ≡ bytes.now) }
     ensures plain { OnOk result (is_plain bytes.now ≡ true) }
-    ensures not_script { IsErrOf result ScriptError.NotScript → is_plain bytes.now ≡ false }
+    ensures not_script { IsErrOf result PlainError.NotScript → is_plain bytes.now ≡ false }
 {
     match Vec::from_slice(alloc, bytes) {
-        Ok(copy) => Script::read(alloc, Text::from_vec(copy)),
-        Err(_) => Err(ScriptError::NoMemory),
+        Ok(copy) => PlainScript::read(alloc, Text::from_vec(copy)),
+        Err(_) => Err(PlainError::NoMemory),
     }
 }
 
@@ -160,14 +160,14 @@ impl Client {
                 self.stage = Stage::Running(RunningScript::first(script));
                 Turn::More
             }
-            Err(ScriptError::NotScript) => {
+            Err(PlainError::NotScript) => {
                 put_entered(log);
                 put_refused(log);
                 self.used = 1;
                 self.stage = Stage::Left(NOT_SCRIPT);
                 Turn::Over(Status::ScriptFailed)
             }
-            Err(ScriptError::NoMemory) => Turn::Over(Status::NoMemory),
+            Err(PlainError::NoMemory) => Turn::Over(Status::NoMemory),
         }
     }
 
