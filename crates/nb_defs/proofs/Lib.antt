@@ -1,1 +1,3 @@
 pub mod RecordLaws
+pub mod ScriptLaws
+pub mod ItemLaws

@@ -1,5 +1,5 @@
 -- Own, after the ipxe.org references on scripts: the lines of a text as numbered, which texts are scripts, and how a list of commands is cut.
-use Rattle.std.specs.Prelude.{ℕ, ◌-◌, Bool, true, false, not, ◌&&◌, ◌==◌, nat_lt, nat_le, List, [], ◌∷◌, ◌++◌, length, take, drop, map, count_by, position, Option, Some, None, if◌then◌else◌, codes}
+use Rattle.std.specs.Prelude.{◌≡◌, ℕ, ◌+◌, ◌-◌, ◌≤◌, Bool, true, false, not, ◌&&◌, ◌==◌, nat_lt, nat_le, List, [], ◌∷◌, ◌++◌, length, take, drop, map, count_by, sum_by, position, slice_get, All, IfSome, Option, Some, None, if◌then◌else◌, codes}
 use Rattle.std.specs.List.{list_all, position_or_len, suffix_len}
 use Rattle.std.specs.Str.{bytes_eq}
 use Rattle.nb_defs.specs.ScriptText.{is_line_feed, is_blank, pieces, without_cr, ends_in_backslash, begins_script, is_short_line, words, is_label, is_join}
@@ -124,6 +124,36 @@ cut_words join (word ∷ ws) =
 
 abbrev pub is_no_join : List ℕ → Bool
 is_no_join word = not (is_join word)
+
+-- the words between a command and the one before it
+abbrev pub join_words : Join → List (List ℕ)
+join_words first_join = []
+join_words and_join = codes "&&" ∷ []
+join_words or_join = codes "||" ∷ []
+join_words then_join = codes ";" ∷ []
+
+-- the words of commands, their joins between them
+abbrev pub spelled : List Item → List (List ℕ)
+spelled [] = []
+spelled (i ∷ behind) = join_words i.join ++ (i.words ++ spelled behind)
+
+-- A command in words of so many that are no joins, with so many bytes in all.
+pub record IsCommandIn (ws : List (List ℕ)) (i : Item) : Type 0 where
+  pub no_joins : list_all is_no_join i.words ≡ true
+  pub few : length i.words ≤ count_by is_no_join ws
+  pub small : sum_by length i.words ≤ sum_by length ws
+
+abbrev pub IsJoinedItem : Item → Type 0
+IsJoinedItem i = ¬ (i.join ≡ first_join)
+
+-- Commands cut from these words: spelled again they are the words, none has a join among its words,
+-- and all but the first are joined.
+pub record AreCutFrom (ws : List (List ℕ)) (cut : List Item) : Type 0 where
+  pub first : IfSome (slice_get cut 0) (λ i. i.join ≡ first_join)
+  pub behind_first : All IsJoinedItem (drop 1 cut)
+  pub spelled_are : spelled cut ≡ ws
+  pub each : All (IsCommandIn ws) cut
+  pub few : length cut ≡ count_by is_join ws + 1
 
 -- at most 64 words and at most 64 joins
 abbrev pub are_few : List (List ℕ) → Bool

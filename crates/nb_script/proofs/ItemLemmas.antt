@@ -1,17 +1,20 @@
 -- How the commands of a list are cut, word by word.
-use Rattle.std.proofs.Common.{◌≡◌, ℕ, true, false, List, [], ◌∷◌, ◌++◌, map, refl, ap, append_assoc}
-use Rattle.std.proofs.lemmas.List.{append-nil, map-append}
-use Rattle.std.specs.Prelude.{codes}
+use Rattle.std.proofs.Common.{◌≡◌, ℕ, true, false, List, [], ◌∷◌, ◌++◌, map, refl, ap, append_assoc, length, ◌≤◌, nat_le, arith}
+use Rattle.std.proofs.lemmas.List.{append-nil, map-append, get_or-map, length-map}
+use Rattle.std.specs.Prelude.{codes, count_by}
+use Rattle.std.proofs.lemmas.Bool.{leb-true}
 use Rattle.std.specs.Str.{bytes_eq}
-use Rattle.nb_defs.specs.ScriptText.{is_join}
+use Rattle.nb_defs.specs.ScriptText.{is_join, words}
+use Rattle.nb_defs.proofs.ScriptLaws.{words_small}
 use Rattle.nb_defs.specs.ScriptLines as defs
-use Rattle.nb_defs.specs.ScriptLines.{join_of, cut_words, item}
+use Rattle.nb_defs.specs.ScriptLines.{join_of, cut_words, item, are_few, is_no_join, AreCutFrom}
 use Rattle.nb_script.specs.declared.item.Cutting.{Cutting}
 use Rattle.nb_script.specs.declared.item.Item.{Item}
 use Rattle.nb_script.specs.declared.join.Join.{Join}
 use Rattle.nb_script.specs.ShownJoin.{shown_join}
-use Rattle.nb_script.specs.Shown.{shown_item}
+use Rattle.nb_script.specs.Shown.{shown_item, FitList}
 use Rattle.nb_script.specs.Cutting.{words_onto, commands_before}
+use Rattle.nb_script.proofs.PlainLemmas.{and_left, and_right}
 
 onto_none : (behind : List defs.Item) → words_onto [] behind ≡ behind
 onto_none [] = refl
@@ -65,3 +68,18 @@ join_or word e f = rw (e, f) (refl, refl)
 pub join_then : (word : List ℕ) → bytes_eq word (codes "&&") ≡ false → bytes_eq word (codes "||") ≡ false → bytes_eq word (codes ";") ≡ true → (is_join word ≡ true) × (defs.then_join ≡ join_of word)
 unfolding join_of
 join_then word e f g = rw (e, f, g) (refl, refl)
+
+-- the commands of a line that isn't too long and has few words
+pub list_fits : (line : List ℕ) (list : List Item) → length line ≤ 4096 → are_few (words line) ≡ true → AreCutFrom (words line) (map shown_item list) → FitList list
+list_fits line list short few cut =
+    let ws = words line in
+    let f = and_left (nat_le (count_by is_no_join ws) 64) (nat_le (count_by is_join ws) 64) few in
+    let g = and_right (nat_le (count_by is_no_join ws) 64) (nat_le (count_by is_join ws) 64) few in
+    let words_few : count_by is_no_join ws ≤ 64 = leb-true (count_by is_no_join ws) 64 f in
+    let joins_few : count_by is_join ws ≤ 64 = leb-true (count_by is_join ws) 64 g in
+    record {
+      few = omega (arith, cut.few, length-map list shown_item, joins_few);
+      small = λ k d l.
+          let each = rw (get_or-map shown_item list k d (shown_item d) l) at (cut.each k (shown_item d) (omega (arith, l, length-map list shown_item))) in
+          (omega (arith, each.few, words_few), omega (arith, each.small, words_small line, short));
+    }

@@ -66,7 +66,7 @@ label_first name code i before here =
           let fits = found.1 in
           let at : is_label_of name (get_or code i empty) ≡ true = rw (slice_get-get_or code i empty fits) at here in
           let place : position_or_len (is_label_of name) code ≡ i =
-              position_or_len_is (is_label_of name) code i empty (omega arith) (λ k h. rw (slice_get-get_or code k empty (omega arith)) at (before k h)) (λ _. at) in
+          position_or_len_is (is_label_of name) code i empty (omega arith) (λ k h. rw (slice_get-get_or code k empty (omega arith)) at (before k h)) (λ _. at) in
           let e : nat_lt i (length code) ≡ true = grind (arith, nat_tests) in
           rw (place, e) refl
       | inr past ↦ absurd (at_none name (slice_get code i) past.1 here)
@@ -77,7 +77,7 @@ pub label_none : (name : List ℕ) (code : List Line) → ((k : ℕ) → k < len
 unfolding label_place
 label_none name code before =
     let place : position_or_len (is_label_of name) code ≡ length code =
-        position_or_len_is (is_label_of name) code (length code) empty (omega arith) (λ k h. rw (slice_get-get_or code k empty h) at (before k h)) (λ h. absurd (omega arith)) in
+    position_or_len_is (is_label_of name) code (length code) empty (omega arith) (λ k h. rw (slice_get-get_or code k empty h) at (before k h)) (λ h. absurd (omega arith)) in
     let e : nat_lt (length code) (length code) ≡ false = grind (arith, nat_tests) in
     rw (place, e) refl
 

@@ -31,9 +31,9 @@ impl Model for JoinedLines {
     ghost Value = { Joined };
 
     ghost view = { λ j. record {
-        lines = map (spanned j.bytes.items) j.spans.items;
-        front = drop j.from j.bytes.items;
-        held = j.held;
+      lines = map (spanned j.bytes.items) j.spans.items;
+      front = drop j.from j.bytes.items;
+      held = j.held;
     } };
 
     ghost invariant = { λ j. IsWithin j.bytes.items j.spans.items × (j.from ≤ vec_len j.bytes) };

@@ -12,10 +12,14 @@ mod joined;
 mod kind;
 mod line;
 mod plain;
+#[cfg(test)]
+mod plain_tests;
 mod script;
+#[cfg(test)]
+mod script_tests;
 mod span;
 #[cfg(test)]
-mod tests;
+mod test_text;
 mod word;
 
 pub use error::{PlainError, ScriptError};

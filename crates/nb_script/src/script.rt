@@ -1,8 +1,9 @@
 ghost use Rattle.std.specs.Prelude.{◌≡◌, ◌≤◌, ◌↔◌, length, map, slice_get, IfOk, IfErr, IfSome, IsErrOf};
 ghost use Rattle.std.specs.Option.{option_map};
-ghost use Rattle.nb_defs.specs.ScriptLines.{reading, script, no_script, script_too_long, line_too_long, label_place, items};
+ghost use Rattle.nb_defs.specs.ScriptLines.{reading, script, no_script, script_too_long, line_too_long, label_place, items, AreCutFrom};
+ghost use Rattle.nb_defs.specs.ScriptText.{words};
 ghost use Rattle.nb_script.specs.ShownLine.{shown_line, HasAtMost, is_label_at};
-ghost use Rattle.nb_script.specs.Shown.{shown_item};
+ghost use Rattle.nb_script.specs.Shown.{shown_item, FitList};
 ghost use Rattle.nb_script.specs.Errors.{IsOfText, IsOfList};
 
 use crate::ScriptError;
@@ -107,6 +108,8 @@ impl Script {
     pub fn list(alloc: Global, line: &[u8]) -> Result<Vec<Item>, ScriptError>
         requires { length line.now ≤ 4096 }
         ensures value { IfOk result (λ list. items line.now ≡ Some (map shown_item list.items)) }
+        ensures cut { IfOk result (λ list. AreCutFrom (words line.now) (map shown_item list.items)) }
+        ensures fits { IfOk result (λ list. FitList list.items) }
         ensures too_many { IsErrOf result ScriptError.TooManyWords ↔ items line.now ≡ None }
         ensures kind { IfErr result IsOfList }
     {

@@ -26,7 +26,7 @@ returns-clause-lines c =
     let new = c.close.new.self in
     ok_three c.close.result
     (λ (l : new.lines ≡ mid.lines ++ closed mid.held mid.front) (f : IsBegun mid → new.front ≡ []) (z : new.held ≡ 0).
-        before_closed old new c.args.line.now (sym c.ends_in_backslash.ensures ∙ c.if-ends_in_backslash.false) (l ∙ all_lines c) (f (is_begun c)) z)
+    before_closed old new c.args.line.now (sym c.ends_in_backslash.ensures ∙ c.if-ends_in_backslash.false) (l ∙ all_lines c) (f (is_begun c)) z)
     h.lines h.front h.held
 
 pub returns-clause-size : goal.returns-clause-size
@@ -37,5 +37,5 @@ returns-clause-size c =
     let new = c.close.new.self in
     ok_three c.close.result
     (λ (l : new.lines ≡ mid.lines ++ closed mid.held mid.front) (f : IsBegun mid → new.front ≡ []) (z : new.held ≡ 0).
-        size_closed old new c.args.line.now (l ∙ all_lines c) z)
+    size_closed old new c.args.line.now (l ∙ all_lines c) z)
     h.lines h.front h.held

@@ -60,4 +60,3 @@ returns-clause-script_too_long c = (refused_not _ (reading c.args.text) _ _ refl
 
 pub returns-clause-line_too_long : goal.returns-clause-line_too_long
 returns-clause-line_too_long c = (refused_not _ (reading c.args.text) _ _ refl (returns-clause-lines c)).line_too_long
-
