@@ -1,4 +1,5 @@
--- Own, after the ipxe.org references on scripts: the lines of a text as numbered, which texts are scripts, and how a list of commands is cut.
+-- Own, after the ipxe.org references on scripts: which texts are scripts, their lines as numbered, and
+-- how a list of commands is cut.
 use Rattle.std.specs.Prelude.{◌≡◌, ℕ, ◌+◌, ◌-◌, ◌≤◌, Bool, true, false, not, ◌&&◌, ◌==◌, nat_lt, nat_le, List, [], ◌∷◌, ◌++◌, length, take, drop, map, count_by, sum_by, position, slice_get, All, IfSome, Option, Some, None, if◌then◌else◌, codes}
 use Rattle.std.specs.List.{list_all, position_or_len, suffix_len}
 use Rattle.std.specs.Str.{bytes_eq}
@@ -45,7 +46,7 @@ without_blanks_behind line = take (length line - suffix_len is_blank line) line
 unfoldable pub trimmed : List ℕ → List ℕ
 trimmed line = without_blanks_behind (without_blanks_before line)
 
--- nothing, or a comment
+-- an empty line, or a comment, which begins with #
 abbrev pub is_nothing : List ℕ → Bool
 is_nothing [] = true
 is_nothing (b ∷ bytes) = b == 35
@@ -146,8 +147,8 @@ pub record IsCommandIn (ws : List (List ℕ)) (i : Item) : Type 0 where
 abbrev pub IsJoinedItem : Item → Type 0
 IsJoinedItem i = ¬ (i.join ≡ first_join)
 
--- Commands cut from these words: spelled again they are the words, none has a join among its words,
--- and all but the first are joined.
+-- Commands cut from these words: spelled again they are the words, none has a join among its words, and
+-- all but the first are joined. So there is one more than joins.
 pub record AreCutFrom (ws : List (List ℕ)) (cut : List Item) : Type 0 where
   pub first : IfSome (slice_get cut 0) (λ i. i.join ≡ first_join)
   pub behind_first : All IsJoinedItem (drop 1 cut)

@@ -69,14 +69,21 @@ pub size_closed : (old new : Joined) (line : List ℕ) → new.lines ≡ old.lin
 size_closed old new line l h =
     omega (arith, ap length l, h, length-append old.lines (closed (old.held + 1) (old.front ++ line)), length-closed (old.held + 1) (old.front ++ line))
 
--- what stands behind the last line feed
-pub end_with : (old new : Joined) (rest : List ℕ) → (length rest == 0) ≡ false → new.lines ≡ old.lines ++ closed (old.held + 1) (old.front ++ rest) → (new.lines ≡ lines_before old (last_line rest)) × (length new.lines ≤ size_of old + length rest)
+-- what stands behind the last line feed was taken
+pub record HasEnded (old new : Joined) (rest : List ℕ) : Type 0 where
+  pub lines : new.lines ≡ lines_before old (last_line rest)
+  pub size : length new.lines ≤ size_of old + length rest
+
+pub end_with : (old new : Joined) (rest : List ℕ) → (length rest == 0) ≡ false → new.lines ≡ old.lines ++ closed (old.held + 1) (old.front ++ rest) → HasEnded old new rest
 end_with old new rest e l =
     let some : 0 < length rest = grind (arith, nat_tests) in
-    let lines : new.lines ≡ lines_before old (last_line rest) = rw (e, append-nil (closed (suc old.held) (old.front ++ rest))) (rw (add-one old.held) at l) in
-    (lines, omega (arith, ap length l, length-append old.lines (closed (old.held + 1) (old.front ++ rest)), length-closed (old.held + 1) (old.front ++ rest)))
+    record {
+      lines = rw (e, append-nil (closed (suc old.held) (old.front ++ rest))) (rw (add-one old.held) at l);
+      size = omega (arith, ap length l, length-append old.lines (closed (old.held + 1) (old.front ++ rest)), length-closed (old.held + 1) (old.front ++ rest));
+    }
 
-pub end_without : (old new : Joined) (rest : List ℕ) → (length rest == 0) ≡ true → new.lines ≡ old.lines ++ closed old.held old.front → (new.lines ≡ lines_before old (last_line rest)) × (length new.lines ≤ size_of old + length rest)
-end_without old new rest e l =
-    let lines : new.lines ≡ lines_before old (last_line rest) = rw e l in
-    (lines, omega (arith, ap length l, length-append old.lines (closed old.held old.front), length-closed old.held old.front))
+pub end_without : (old new : Joined) (rest : List ℕ) → (length rest == 0) ≡ true → new.lines ≡ old.lines ++ closed old.held old.front → HasEnded old new rest
+end_without old new rest e l = record {
+  lines = rw e l;
+  size = omega (arith, ap length l, length-append old.lines (closed old.held old.front), length-closed old.held old.front);
+}

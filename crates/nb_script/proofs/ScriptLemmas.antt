@@ -1,10 +1,12 @@
 -- What a text is, by its parts, and what its lines are.
-use Rattle.std.proofs.Common.{◌≡◌, ℕ, zero, suc, ◌<◌, ◌≤◌, Bool, true, false, not, cond, inl, inr, get_or, List, [], ◌∷◌, length, map, Option, Some, None, refl, arith, nat_le, nat_lt}
+use Rattle.std.proofs.Common.{◌≡◌, ℕ, zero, suc, ◌<◌, ◌≤◌, Bool, true, false, not, cond, inl, inr, get_or, List, [], ◌∷◌, length, map, Option, Some, None, refl, arith, nat_le, nat_lt, ap, ◌∙◌}
 use Rattle.std.specs.List.{list_all, slice_get, position_or_len}
 use Rattle.std.proofs.lemmas.List.Sums.{position_or_len_is}
 use Rattle.std.proofs.lemmas.Option.{slice_get_cases, slice_get-get_or}
 use Rattle.std.proofs.lemmas.Bool.Decides.{nat_tests}
-use Rattle.nb_defs.specs.ScriptText.{is_line_feed, pieces, begins_script, is_short_line, words}
+use Rattle.std.proofs.lemmas.List.{length-map}
+use Rattle.nb_defs.proofs.ScriptLaws.{length-joined_lines}
+use Rattle.nb_defs.specs.ScriptText.{lines, is_line_feed, pieces, begins_script, is_short_line, words}
 use Rattle.nb_defs.specs.ScriptLines.{Line, empty, line_of, Reading, joined_lines, script_lines, reading, script, no_script, script_too_long, line_too_long, is_label_of, label_place, first_join, cut_words, are_few, items}
 use Rattle.nb_script.specs.declared.kind.ScriptLine.{ScriptLine}
 use Rattle.nb_script.specs.declared.kind.ScriptLine.TheVariants as on
@@ -43,6 +45,10 @@ pub reads_script : (text : List ℕ) (lines : List (List ℕ)) → IsCut text li
 unfolding reading script_lines
 reads_script text lines cut short =
     rw (cut.begun, is_no_longer text cut.fits, ← cut.lines_are, short) refl
+
+-- each line keeps its number
+pub keeps_numbers : (text : List ℕ) (found : List (List ℕ)) → IsCut text found → length (map line_of found) ≡ length (lines text)
+keeps_numbers text found cut = length-map found line_of ∙ ap length cut.lines_are ∙ length-joined_lines text
 
 neither : (r : Reading) (b : Bool) (code : List Line) → r ≡ cond (not b) line_too_long (script code) → (r ≡ no_script → ⊥) × (r ≡ script_too_long → ⊥)
 neither r true code e = (λ h. cc, λ h. cc)

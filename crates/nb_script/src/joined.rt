@@ -107,7 +107,8 @@ impl JoinedLines {
 
     /// Puts the open line, and an empty one for each further line that was joined to it.
     fn close(&mut self) -> Result<(), NoMemory>
-        ensures lines { OnOk result (self.new.lines ≡ self.old.lines ++ closed self.old.held self.old.front) }
+        ensures lines { OnOk result
+            (self.new.lines ≡ self.old.lines ++ closed self.old.held self.old.front) }
         ensures front { OnOk result (IsBegun self.old → self.new.front ≡ []) }
         ensures held { OnOk result (self.new.held ≡ 0) }
     {

@@ -2,6 +2,7 @@ ghost use Rattle.std.specs.Prelude.{◌≡◌, ◌<◌, ◌≤◌, ◌-◌, leng
 ghost use Rattle.std.specs.List.{list_all};
 ghost use Rattle.std.specs.Option.{option_copied};
 ghost use Rattle.nb_defs.specs.ScriptText.{is_plain, lines, words, is_plain_line};
+ghost use Rattle.nb_defs.specs.ScriptLines.{reading, script, line_of};
 ghost use Rattle.nb_script.specs.Cut.{HasLines, IsWithin, spanned};
 
 use crate::PlainError;
@@ -35,10 +36,13 @@ impl Model for PlainScript {
 }
 
 impl PlainScript {
-    /// The plain script of a text, cut into lines once.
+    /// The plain script of a text, cut into lines once. It is a script of the same lines, where it isn't
+    /// too long.
     pub fn read(alloc: Global, text: Text) -> Result<PlainScript, PlainError>
         ensures same { IfOk result (λ s. s ≡ text) }
         ensures plain { OnOk result (is_plain text ≡ true) }
+        ensures reads { OnOk result
+            (length text ≤ 1048576 → reading text ≡ script (map line_of (lines text))) }
         ensures not_script { IsErrOf result PlainError.NotScript → is_plain text ≡ false }
     {
         if !begins_script(text.as_slice()) {

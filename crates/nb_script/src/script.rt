@@ -1,7 +1,7 @@
 ghost use Rattle.std.specs.Prelude.{◌≡◌, ◌≤◌, ◌↔◌, length, map, slice_get, IfOk, IfErr, IfSome, IsErrOf};
 ghost use Rattle.std.specs.Option.{option_map};
 ghost use Rattle.nb_defs.specs.ScriptLines.{reading, script, no_script, script_too_long, line_too_long, label_place, items, AreCutFrom};
-ghost use Rattle.nb_defs.specs.ScriptText.{words};
+ghost use Rattle.nb_defs.specs.ScriptText.{lines, words};
 ghost use Rattle.nb_script.specs.ShownLine.{shown_line, HasAtMost, is_label_at};
 ghost use Rattle.nb_script.specs.Shown.{shown_item, FitList};
 ghost use Rattle.nb_script.specs.Errors.{IsOfText, IsOfList};
@@ -35,16 +35,19 @@ impl Model for Script {
 
     ghost view = { λ s. map line_of s.lines.lines };
 
-    ghost invariant = { λ s. (list_all is_short_line s.lines.lines ≡ true) × (length s.lines.lines ≤ 1048576) };
+    ghost invariant = { λ s. (list_all is_short_line s.lines.lines ≡ true)
+        × (length s.lines.lines ≤ 1048576) };
 }
 
 impl Script {
     /// The script of a text. A text whose first line isn't `#!ipxe` is NotScript, whatever its length,
     /// and one that is too long is ScriptTooLong, whatever its lines.
     pub fn read(alloc: Global, text: Text) -> Result<Script, ScriptError>
-        ensures lines { IfOk result (λ code. reading text ≡ script code) }
+        ensures reads { IfOk result (λ code. reading text ≡ script code) }
+        ensures numbered { IfOk result (λ code. length code ≡ length (lines text)) }
         ensures not_script { IsErrOf result ScriptError.NotScript ↔ reading text ≡ no_script }
-        ensures script_too_long { IsErrOf result ScriptError.ScriptTooLong ↔ reading text ≡ script_too_long }
+        ensures script_too_long { IsErrOf result ScriptError.ScriptTooLong ↔
+            reading text ≡ script_too_long }
         ensures line_too_long { IsErrOf result ScriptError.LineTooLong ↔
             (reading text ≡ line_too_long) × ¬ IsErrOf result ScriptError.NoMemory }
         ensures kind { IfErr result IsOfText }

@@ -1,5 +1,6 @@
 use Rattle.std.proofs.Common.{◌∙◌, sym}
 use Rattle.std.proofs.lemmas.Result.{err_from_is_err_and}
+use Rattle.nb_defs.proofs.ScriptLaws.{plain_reads}
 use Rattle.nb_script.proofs.PlainLemmas.{plain_no_begin, plain_no_cut, plain_no_short, plain_no_lines, short_is, plain_is, plain_all}
 use Rattle.nb_script.proofs.SpansLemmas.{within_rest}
 use Rattle.nb_script.proofs.plain.PlainScript.read.Goals as goal
@@ -37,6 +38,9 @@ returns-clause-plain c =
     let short = rw c.as_slice-3.ensures.value at c.are_short.ensures in
     let plain = rw (c.behind_first.ensures, c.as_slice-5.ensures.value, c.as_slice-4.ensures) at c.are_plain.ensures in
     plain_all c.args.text begun (rw c.as_slice-2.ensures at c.in_ok-spans.ensures.cut) (sym (short_is _ _ has) ∙ sym short ∙ c.if-not-are_short.false) (sym (plain_is _ _ has) ∙ sym plain ∙ c.if-not-are_plain.false)
+
+pub returns-clause-reads : goal.returns-clause-reads
+returns-clause-reads c = plain_reads c.args.text (returns-clause-plain c)
 
 pub invariant_of-result : goal.invariant_of-result
 invariant_of-result c = (rw c.as_slice-2.ensures at c.in_ok-spans.ensures.lines, returns-clause-plain c)
