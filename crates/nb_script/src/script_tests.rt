@@ -36,10 +36,16 @@ fn shown(alloc: Global, script: &Script) -> Result<Vec<u8>, Fail> {
     Ok(text)
 }
 
+/// The commands of a line, of which no more than 4,096 bytes are looked at.
+fn list(alloc: Global, line: &[u8]) -> Result<Vec<Item>, ScriptError> {
+    let len = line.len().min(4096);
+    Script::list(alloc, &line[..len])
+}
+
 /// The commands of a list: each join as it is written, `^` for the first, and each word in brackets.
 fn commands(alloc: Global, line: &str) -> Result<Vec<u8>, Fail> {
     let mut text = Vec::new(alloc);
-    for item in &Script::list(alloc, line.as_bytes())? {
+    for item in &list(alloc, line.as_bytes())? {
         let join = match item.join {
             Join::First => "^",
             Join::And => "&&",
@@ -196,7 +202,7 @@ fn counts_words_and_joins(rt: HostRuntime) -> Result<(), Fail> {
     ];
     for (head, piece, count, tail, wanted) in cases {
         let line = repeated(rt.alloc(), head, piece, count, tail)?;
-        let found = match Script::list(rt.alloc(), line.as_slice()) {
+        let found = match list(rt.alloc(), line.as_slice()) {
             Ok(list) => Some(list.len()),
             Err(ScriptError::TooManyWords) => None,
             Err(error) => Err(error)?,
