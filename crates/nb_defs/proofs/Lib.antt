@@ -1,2 +1,4 @@
 pub mod RecordLaws
 pub mod StartLaws
+pub mod ScriptLaws
+pub mod ItemLaws

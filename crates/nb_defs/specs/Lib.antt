@@ -1,4 +1,5 @@
 pub mod Causes
 pub mod Records
 pub mod ScriptText
+pub mod ScriptLines
 pub mod Commands

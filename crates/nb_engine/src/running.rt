@@ -9,7 +9,7 @@ ghost use Rattle.nb_engine.specs.CommandWords.{done_of};
 use crate::causes::OK;
 use crate::command::Done;
 use nb_record::{Cause, Log, NoMemory, OutRec};
-use nb_script::Script;
+use nb_script::PlainScript;
 use nb_wire::{Text, Word, Words};
 use std::alloc::Global;
 use std::marker::Model;
@@ -18,7 +18,7 @@ use std::marker::Model;
 #[derive(Drop)]
 pub struct RunningScript {
     depth: u8,
-    script: Script,
+    script: PlainScript,
     passed: usize,
     last: Cause,
 }
@@ -55,7 +55,7 @@ fn put_prints(printed: &Option<Text>, log: &mut Log)
 
 impl RunningScript {
     /// The first script, its first line passed.
-    pub fn first(script: Script) -> RunningScript
+    pub fn first(script: PlainScript) -> RunningScript
         ensures { result ≡ first_script script }
     {
         RunningScript {
@@ -138,7 +138,7 @@ impl RunningScript {
         let Some(line) = self.script.line(self.passed) else {
             return Ok(Next::End);
         };
-        Ok(Next::List(Script::list(alloc, line)?))
+        Ok(Next::List(PlainScript::list(alloc, line)?))
     }
 
     /// Passes a line that is nothing.

@@ -2,12 +2,12 @@
 use Rattle.std.proofs.Common.{◌≡◌, ℕ, ◌+◌, ◌-◌, ◌<◌, ◌≤◌, Bool, true, false, not, ◌&&◌, ◌==◌, List, [], ◌∷◌, ◌++◌, length, take, drop, map, Some, None, refl, sym, ap, ◌∙◌, arith, nat_le, length-append, length-drop}
 use Rattle.std.specs.Prelude.{position}
 use Rattle.std.proofs.lemmas.List.{append_assoc, append-nil, map-append, drop-drop, take_rest, take-take, nil_from_length, length-take-le, length-map}
-use Rattle.std.proofs.lemmas.List.Elements.{All-push}
 use Rattle.std.proofs.lemmas.Bool.Decides.{nat_tests}
 use Rattle.nb_defs.specs.ScriptText.{is_line_feed, pieces, lines, line_contents, is_joined, ends_in_backslash, without_cr}
 use Rattle.nb_script.specs.declared.span.Span.{Span}
 use Rattle.nb_script.specs.Cut.{spanned, IsWithin, HasLines, can_cut}
 use Rattle.nb_script.proofs.PiecesLemmas.{position_some}
+use Rattle.nb_script.proofs.SpansLemmas.{within_push}
 use Rattle.nb_script.proofs.LinesLemmas.{lines_some, lines_none, joined_some, joined_none, without_cr_front, length-without_cr}
 
 -- a text cut up to a place where a line begins
@@ -37,9 +37,6 @@ spanned_line text from n span fits f t =
     let e : (from + length line) - from ≡ length line = omega arith in
     let front = without_cr_front (take n rest) in
     rw (f, t, e) (sym (take-take (length line) n rest (omega arith)) ∙ front)
-
-within_push : (text : List ℕ) (spans : List Span) (span : Span) → IsWithin text spans → span.from ≤ span.to → span.to ≤ length text → IsWithin text (spans ++ span ∷ [])
-within_push text spans span h a b = All-push (λ (s : Span). (s.from ≤ s.to) × (s.to ≤ length text)) spans span h (a, b)
 
 -- a line further
 pub cut_more : (text : List ℕ) (spans : List Span) (from n : ℕ) (span : Span) → CutTo text spans from → length spans < 4096 → position is_line_feed (drop from text) ≡ Some n → ends_in_backslash (without_cr (take n (drop from text))) ≡ false → span.from ≡ from → span.to ≡ from + length (without_cr (take n (drop from text))) → CutTo text (spans ++ span ∷ []) (from + (n + 1))

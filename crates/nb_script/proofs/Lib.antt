@@ -1,5 +1,12 @@
+pub mod OkLemmas
 pub mod PiecesLemmas
 pub mod LinesLemmas
 pub mod WordsLemmas
+pub mod SpansLemmas
 pub mod CutLemmas
+pub mod PlainLemmas
+pub mod JoinedLemmas
+pub mod KindLemmas
+pub mod ItemLemmas
 pub mod ScriptLemmas
+pub mod ReadLemmas

@@ -1,141 +1,112 @@
--- What it takes that a text runs, by the table of its lines.
-use Rattle.std.proofs.Common.{◌≡◌, ℕ, zero, suc, ◌+◌, ◌-◌, ◌<◌, ◌≤◌, Bool, true, false, not, ◌&&◌, List, [], ◌∷◌, length, drop, map, get_or, refl, sym, ap, ◌∙◌, arith, nat_le, length-drop}
-use Rattle.std.specs.List.{list_all, list_any}
-use Rattle.std.proofs.lemmas.Bool.{leb-true}
-use Rattle.std.proofs.lemmas.List.{length-take-le, get_or-map, drop-map, length-map, get_or-drop}
+-- What a text is, by its parts, and what its lines are.
+use Rattle.std.proofs.Common.{◌≡◌, ℕ, zero, suc, ◌<◌, ◌≤◌, Bool, true, false, not, cond, inl, inr, get_or, List, [], ◌∷◌, length, map, Option, Some, None, refl, arith, nat_le, nat_lt, ap, ◌∙◌}
+use Rattle.std.specs.List.{list_all, slice_get, position_or_len}
+use Rattle.std.proofs.lemmas.List.Sums.{position_or_len_is}
+use Rattle.std.proofs.lemmas.Option.{slice_get_cases, slice_get-get_or}
 use Rattle.std.proofs.lemmas.Bool.Decides.{nat_tests}
-use Rattle.nb_defs.specs.ScriptText.{has_expansion, is_label, is_join, is_line_feed, pieces, lines, words, is_joined, begins_script, is_plain, is_plain_line, is_short_line}
-use Rattle.nb_script.specs.declared.span.Span.{Span}
-use Rattle.nb_script.specs.Cut.{spanned, IsWithin, HasLines, can_cut}
+use Rattle.std.proofs.lemmas.List.{length-map}
+use Rattle.nb_defs.proofs.ScriptLaws.{length-joined_lines}
+use Rattle.nb_defs.specs.ScriptText.{lines, is_line_feed, pieces, begins_script, is_short_line, words}
+use Rattle.nb_defs.specs.ScriptLines.{Line, empty, line_of, Reading, joined_lines, script_lines, reading, script, no_script, script_too_long, line_too_long, is_label_of, label_place, first_join, cut_words, are_few, items}
+use Rattle.nb_script.specs.declared.kind.ScriptLine.{ScriptLine}
+use Rattle.nb_script.specs.declared.kind.ScriptLine.TheVariants as on
+use Rattle.nb_script.specs.ShownLine.{HasAtMost, is_label_at}
+use Rattle.nb_script.proofs.PlainLemmas.{and_left, and_right}
 
-and_left : (a b : Bool) → (a && b) ≡ true → a ≡ true
-and_left true b h = refl
-and_left false b h = h
+-- a text whose first line isn't that of a script
+pub reads_none : (text : List ℕ) → begins_script (pieces is_line_feed text) ≡ false → reading text ≡ no_script
+unfolding reading
+reads_none text begun = rw begun refl
 
-and_right : (a b : Bool) → (a && b) ≡ true → b ≡ true
-and_right true b h = h
-and_right false b h = cc
+-- one that is too long
+pub reads_too_long : (text : List ℕ) → begins_script (pieces is_line_feed text) ≡ true → 1048576 < length text → reading text ≡ script_too_long
+unfolding reading
+reads_too_long text begun long =
+    let e : nat_lt 1048576 (length text) ≡ true = grind (arith, nat_tests) in
+    rw (begun, e) refl
 
-and_false : (a b : Bool) → b ≡ false → (a && b) ≡ false
-and_false true b h = h
-and_false false b h = refl
+-- a text of which neither holds
+pub record IsCut (text : List ℕ) (lines : List (List ℕ)) : Type 0 where
+  pub begun : begins_script (pieces is_line_feed text) ≡ true
+  pub fits : length text ≤ 1048576
+  pub lines_are : lines ≡ joined_lines text
 
-cut_false : (b w f s l : Bool) → (w && f) ≡ false → ((((b && w) && f) && s) && l) ≡ false
-cut_false false w f s l h = refl
-cut_false true true f s l h = rw h refl
-cut_false true false f s l h = refl
+is_no_longer : (text : List ℕ) → length text ≤ 1048576 → nat_lt 1048576 (length text) ≡ false
+is_no_longer text fits = grind (arith, nat_tests)
 
-short_false : (a s l : Bool) → s ≡ false → ((a && s) && l) ≡ false
-short_false true s l h = rw h refl
-short_false false s l h = refl
+-- one with a line that is too long
+pub reads_line_too_long : (text : List ℕ) (lines : List (List ℕ)) → IsCut text lines → list_all is_short_line lines ≡ false → reading text ≡ line_too_long
+unfolding reading
+reads_line_too_long text lines cut long =
+    rw (cut.begun, is_no_longer text cut.fits, ← cut.lines_are, long) refl
 
-all_true : (b w f s l : Bool) → b ≡ true → (w && f) ≡ true → s ≡ true → l ≡ true → ((((b && w) && f) && s) && l) ≡ true
-all_true b w f s l hb h hs hl = rw (hb, and_left w f h, and_right w f h, hs, hl) refl
+-- a script
+pub reads_script : (text : List ℕ) (lines : List (List ℕ)) → IsCut text lines → list_all is_short_line lines ≡ true → reading text ≡ script (map line_of lines)
+unfolding reading script_lines
+reads_script text lines cut short =
+    rw (cut.begun, is_no_longer text cut.fits, ← cut.lines_are, short) refl
 
--- the parts of a text that runs
-record Runs (text : List ℕ) : Type 0 where
-  few : length (lines text) ≤ 4096
-  short : list_all is_short_line (lines text) ≡ true
-  plain : list_all is_plain_line (drop 1 (lines text)) ≡ true
+-- each line keeps its number
+pub keeps_numbers : (text : List ℕ) (found : List (List ℕ)) → IsCut text found → length (map line_of found) ≡ length (lines text)
+keeps_numbers text found cut = length-map found line_of ∙ ap length cut.lines_are ∙ length-joined_lines text
 
-runs_of : (text : List ℕ) → is_plain text ≡ true → Runs text
-unfolding is_plain
-runs_of text h =
-    let begun = begins_script (pieces is_line_feed text) in
-    let whole = not (is_joined (pieces is_line_feed text)) in
-    let few = nat_le (length (lines text)) 4096 in
-    let short = list_all is_short_line (lines text) in
-    let plain = list_all is_plain_line (drop 1 (lines text)) in
-    let four = and_left (((begun && whole) && few) && short) plain h in
-    let few_true = and_right (begun && whole) few (and_left ((begun && whole) && few) short four) in
-    record {
-      few = grind (arith, nat_tests);
-      short = and_right ((begun && whole) && few) short four;
-      plain = and_right (((begun && whole) && few) && short) plain h;
-    }
+neither : (r : Reading) (b : Bool) (code : List Line) → r ≡ cond (not b) line_too_long (script code) → (r ≡ no_script → ⊥) × (r ≡ script_too_long → ⊥)
+neither r true code e = (λ h. cc, λ h. cc)
+neither r false code e = (λ h. cc, λ h. cc)
 
-pub plain_few : (text : List ℕ) → is_plain text ≡ true → length (lines text) ≤ 4096
-plain_few text h = (runs_of text h).few
+-- neither holds of such a text
+pub reads_lines : (text : List ℕ) → begins_script (pieces is_line_feed text) ≡ true → length text ≤ 1048576 → (reading text ≡ no_script → ⊥) × (reading text ≡ script_too_long → ⊥)
+unfolding reading
+reads_lines text begun fits =
+    neither (reading text) (list_all is_short_line (joined_lines text)) (script_lines text) (rw (begun, is_no_longer text fits) refl)
 
-list_all_at : {X : Type 0} (p : X → Bool) (xs : List X) (i : ℕ) (d : X) → list_all p xs ≡ true → i < length xs → p (get_or xs i d) ≡ true
-list_all_at p [] i d h l = absurd (omega arith)
-list_all_at p (x ∷ xs) zero d h l = and_left (p x) (list_all p xs) h
-list_all_at p (x ∷ xs) (suc i) d h l = list_all_at p xs i d (and_right (p x) (list_all p xs) h) (omega arith)
+at_none : (name : List ℕ) (o : Option Line) → o ≡ None → is_label_at name o ≡ true → ⊥
+at_none name o e h = let f : is_label_at name None ≡ true = rw e at h in cc
 
-line_at : (text : List ℕ) (spans : List Span) (i : ℕ) (d : Span) → HasLines text spans → i < length spans → get_or (lines text) i [] ≡ spanned text (get_or spans i d)
-line_at text spans i d has l = rw (← has.lines_are) (get_or-map (spanned text) spans i d [] l)
+-- the place of a label, where no line before it is that label
+pub label_first : (name : List ℕ) (code : List Line) (i : ℕ) → ((k : ℕ) → k < i → is_label_at name (slice_get code k) ≡ false) → is_label_at name (slice_get code i) ≡ true → label_place name code ≡ Some i
+unfolding label_place
+label_first name code i before here =
+    elim (slice_get_cases code i).1 [
+      | inl found ↦
+          let fits = found.1 in
+          let at : is_label_of name (get_or code i empty) ≡ true = rw (slice_get-get_or code i empty fits) at here in
+          let place : position_or_len (is_label_of name) code ≡ i =
+          position_or_len_is (is_label_of name) code i empty (omega arith) (λ k h. rw (slice_get-get_or code k empty (omega arith)) at (before k h)) (λ _. at) in
+          let e : nat_lt i (length code) ≡ true = grind (arith, nat_tests) in
+          rw (place, e) refl
+      | inr past ↦ absurd (at_none name (slice_get code i) past.1 here)
+    ]
 
-length_lines : (text : List ℕ) (spans : List Span) → HasLines text spans → length (lines text) ≡ length spans
-length_lines text spans has = sym (ap length has.lines_are) ∙ length-map spans (spanned text)
+-- where no line is that label
+pub label_none : (name : List ℕ) (code : List Line) → ((k : ℕ) → k < length code → is_label_at name (slice_get code k) ≡ false) → label_place name code ≡ None
+unfolding label_place
+label_none name code before =
+    let place : position_or_len (is_label_of name) code ≡ length code =
+    position_or_len_is (is_label_of name) code (length code) empty (omega arith) (λ k h. rw (slice_get-get_or code k empty h) at (before k h)) (λ h. absurd (omega arith)) in
+    let e : nat_lt (length code) (length code) ≡ false = grind (arith, nat_tests) in
+    rw (place, e) refl
 
--- a text that runs has few lines
-pub table_few : (text : List ℕ) (spans : List Span) → HasLines text spans → is_plain text ≡ true → length spans ≤ 4096
-table_few text spans has plain = rw (← (length_lines text spans has)) (plain_few text plain)
+-- what stands on a short line is short
+pub short_at : (lines : List (List ℕ)) (i : ℕ) (line : List ℕ) → list_all is_short_line lines ≡ true → Some line ≡ slice_get lines i → length line ≤ 4096
+short_at [] i line h e = cc
+short_at (l ∷ lines) zero line h e =
+    let here : l ≡ line = cc in
+    let short : nat_le (length l) 4096 ≡ true = and_left (nat_le (length l) 4096) (list_all is_short_line lines) h in
+    let fits : length l ≤ 4096 = grind (arith, nat_tests) in
+    rw (← here) fits
+short_at (l ∷ lines) (suc i) line h e = short_at lines i line (and_right (nat_le (length l) 4096) (list_all is_short_line lines) h) e
 
--- no line is too long
-pub line_short : (text : List ℕ) (spans : List Span) (i : ℕ) (d : Span) → HasLines text spans → is_plain text ≡ true → i < length spans → length (spanned text (get_or spans i d)) ≤ 4096
-line_short text spans i d has plain l =
-    let sizes = length_lines text spans has in
-    let short = list_all_at is_short_line (lines text) i [] (runs_of text plain).short (omega arith) in
-    let e : nat_le (length (spanned text (get_or spans i d))) 4096 ≡ true = rw (line_at text spans i d has l) at short in
-    grind (arith, nat_tests)
+pub at_most : (n : ℕ) (line : ScriptLine) → n ≤ 4096 → HasAtMost n line → HasAtMost 4096 line
+at_most n (on.Label name) l h = omega arith
+at_most n (on.List line) l h = omega arith
+at_most n on.Nothing l h = tt
 
-few_words : (line : List ℕ) → is_plain_line line ≡ true → length (words line) ≤ 64
-unfolding is_plain_line
-few_words line h =
-    let running = not (has_expansion line) && not (is_label line) in
-    let few = nat_le (length (words line)) 64 in
-    leb-true (length (words line)) 64 (and_right running few (and_left (running && few) (not (list_any is_join (words line))) h))
+-- the commands of a list
+pub items_some : (line : List ℕ) → are_few (words line) ≡ true → items line ≡ Some (cut_words first_join (words line))
+unfolding items
+items_some line e = rw e refl
 
--- no line behind the first has too many words
-pub line_few : (text : List ℕ) (spans : List Span) (i : ℕ) (d : Span) → HasLines text spans → is_plain text ≡ true → i < length spans → 1 ≤ i → length (words (spanned text (get_or spans i d))) ≤ 64
-line_few text spans i d has plain l behind =
-    let sizes = length_lines text spans has in
-    let lefts = length-drop 1 (lines text) in
-    let runs = list_all_at is_plain_line (drop 1 (lines text)) (i - 1) [] (runs_of text plain).plain (omega arith) in
-    let e : 1 + (i - 1) ≡ i = omega arith in
-    let at = get_or-drop 1 (lines text) (i - 1) [] in
-    few_words _ (rw (at, e, line_at text spans i d has l) at runs)
-
--- what stands against it
-pub plain_no_begin : (text : List ℕ) → begins_script (pieces is_line_feed text) ≡ false → is_plain text ≡ false
-unfolding is_plain
-plain_no_begin text h = rw h refl
-
-pub plain_no_cut : (text : List ℕ) → can_cut text ≡ false → is_plain text ≡ false
-unfolding is_plain can_cut
-plain_no_cut text h = cut_false (begins_script (pieces is_line_feed text)) _ _ _ _ h
-
-within_first : (text : List ℕ) (span : Span) (spans : List Span) → IsWithin text (span ∷ spans) → (span.from ≤ span.to) × (span.to ≤ length text)
-within_first text span spans h = h 0 span (omega arith)
-
-pub within_rest : (text : List ℕ) (spans : List Span) → IsWithin text spans → IsWithin text (drop 1 spans)
-within_rest text [] h = h
-within_rest text (span ∷ spans) h = λ k d l. h (suc k) d (omega arith)
-
-shorts : (text : List ℕ) (spans : List Span) → IsWithin text spans → list_all (λ (span : Span). nat_le (span.to - span.from) 4096) spans ≡ list_all is_short_line (map (spanned text) spans)
-shorts text [] h = refl
-shorts text (span ∷ spans) h =
-    let in_text = within_first text span spans h in
-    let left = length-drop span.from text in
-    let size = length-take-le (span.to - span.from) (drop span.from text) (omega (arith, in_text.0, in_text.1)) in
-    rw (size, shorts text spans (within_rest text (span ∷ spans) h)) refl
-
-pub short_is : (text : List ℕ) (spans : List Span) → HasLines text spans → list_all (λ (span : Span). nat_le (span.to - span.from) 4096) spans ≡ list_all is_short_line (lines text)
-short_is text spans has = shorts text spans has.within ∙ ap (list_all is_short_line) has.lines_are
-
-pub plain_is : (text : List ℕ) (spans : List Span) → HasLines text spans → list_all is_plain_line (map (spanned text) (drop 1 spans)) ≡ list_all is_plain_line (drop 1 (lines text))
-plain_is text spans has = ap (list_all is_plain_line) (sym (drop-map (spanned text) 1 spans) ∙ ap (drop 1) has.lines_are)
-
-pub plain_no_short : (text : List ℕ) → list_all is_short_line (lines text) ≡ false → is_plain text ≡ false
-unfolding is_plain
-plain_no_short text h = short_false _ _ _ h
-
-pub plain_no_lines : (text : List ℕ) → list_all is_plain_line (drop 1 (lines text)) ≡ false → is_plain text ≡ false
-unfolding is_plain
-plain_no_lines text h = rw h (and_false _ _ refl)
-
--- and what stands for it
-pub plain_all : (text : List ℕ) → begins_script (pieces is_line_feed text) ≡ true → can_cut text ≡ true → list_all is_short_line (lines text) ≡ true → list_all is_plain_line (drop 1 (lines text)) ≡ true → is_plain text ≡ true
-unfolding is_plain can_cut
-plain_all text begun cut short plain = all_true _ _ _ _ _ begun cut short plain
+pub items_none : (line : List ℕ) → are_few (words line) ≡ false → items line ≡ None
+unfolding items
+items_none line e = rw e refl

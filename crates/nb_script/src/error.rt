@@ -1,21 +1,46 @@
 ghost use Rattle.std.specs.Prelude.{◌≡◌};
-ghost use Rattle.nb_script.specs.declared.error.ScriptError.TheVariants.{NoMemory};
+ghost use Rattle.nb_script.specs.declared.error.PlainError.TheVariants as plain;
+ghost use Rattle.nb_script.specs.declared.error.ScriptError.TheVariants as script;
 
+use nb_terms::NoMemory;
 use std::alloc::AllocFailed;
 
-/// Why a text isn't taken as a script.
+/// Why a text isn't taken as a script, or a line not as a list.
 #[derive(Clone, Copy, Debug, PartialEq, Eq)]
 pub enum ScriptError {
-    /// Its first line isn't `#!ipxe`, or it has what doesn't run yet.
+    /// The text's first line isn't `#!ipxe`.
+    NotScript,
+    /// A line has more than 4,096 bytes after joining.
+    LineTooLong,
+    /// The text has more than 1,048,576 bytes.
+    ScriptTooLong,
+    /// The list has more than 64 words or more than 64 joins.
+    TooManyWords,
+    /// Memory ran out.
+    NoMemory,
+}
+
+/// Why a text isn't taken as a plain script.
+#[derive(Clone, Copy, Debug, PartialEq, Eq)]
+pub enum PlainError {
+    /// Its first line isn't `#!ipxe`, or it has what a plain script hasn't.
     NotScript,
     /// Memory ran out.
     NoMemory,
 }
 
-impl<T: Drop> From<AllocFailed<T>> for ScriptError {
-    ghost from_gives = { λ _ e. e ≡ NoMemory };
+impl From<NoMemory> for ScriptError {
+    ghost from_gives = { λ _ e. e ≡ script.NoMemory };
 
-    fn from(_: AllocFailed<T>) -> ScriptError {
+    fn from(_: NoMemory) -> ScriptError {
         ScriptError::NoMemory
+    }
+}
+
+impl<T: Drop> From<AllocFailed<T>> for PlainError {
+    ghost from_gives = { λ _ e. e ≡ plain.NoMemory };
+
+    fn from(_: AllocFailed<T>) -> PlainError {
+        PlainError::NoMemory
     }
 }

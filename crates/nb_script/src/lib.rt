@@ -1,16 +1,30 @@
-// The text of a script: which texts run, its lines and their words. It follows the ipxe.org
-// references on scripts; joins, labels, joined lines and expansion are still left out, and a text
-// that has them is refused as no script. Begin with `Script`.
+// The text of a script: which texts are scripts, their lines after joining, each a label, a list of
+// commands or nothing, and the commands of a list. It follows the ipxe.org references on scripts; the
+// expansion of words stands elsewhere. Begin with `Script`. `PlainScript` is a script of one command a
+// line, without joins, labels and expansion.
 #![tactic(auto)]
 
 mod cut;
 mod error;
+mod item;
+mod join;
+mod joined;
+mod kind;
 mod line;
+mod plain;
+#[cfg(test)]
+mod plain_tests;
 mod script;
+#[cfg(test)]
+mod script_tests;
 mod span;
 #[cfg(test)]
-mod tests;
+mod test_text;
 mod word;
 
-pub use error::ScriptError;
+pub use error::{PlainError, ScriptError};
+pub use item::Item;
+pub use join::Join;
+pub use kind::ScriptLine;
+pub use plain::PlainScript;
 pub use script::Script;

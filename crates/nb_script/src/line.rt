@@ -70,7 +70,7 @@ fn is_label_name(word: &[u8]) -> bool
 }
 
 /// Whether a line is a label: a colon and a name, alone.
-fn is_label(line: &[u8]) -> bool
+pub fn is_label(line: &[u8]) -> bool
     ensures { result ≡ is_label line.now }
 {
     match cut_word(line) {

@@ -1,119 +1,124 @@
-ghost use Rattle.std.specs.Prelude.{◌≡◌, ◌<◌, ◌≤◌, ◌-◌, length, drop, map, nat_le, sum_by, true, false, slice_get, IfOk, OnOk, IfSome, IsErrOf};
-ghost use Rattle.std.specs.List.{list_all};
-ghost use Rattle.std.specs.Option.{option_copied};
-ghost use Rattle.nb_defs.specs.ScriptText.{is_plain, lines, words, is_plain_line};
-ghost use Rattle.nb_script.specs.Cut.{HasLines, IsWithin, spanned};
+ghost use Rattle.std.specs.Prelude.{◌≡◌, ◌≤◌, ◌↔◌, length, map, slice_get, IfOk, IfErr, IfSome, IsErrOf};
+ghost use Rattle.std.specs.Option.{option_map};
+ghost use Rattle.nb_defs.specs.ScriptLines.{reading, script, no_script, script_too_long, line_too_long, label_place, items, AreCutFrom};
+ghost use Rattle.nb_defs.specs.ScriptText.{lines, words};
+ghost use Rattle.nb_script.specs.ShownLine.{shown_line, HasAtMost, is_label_at};
+ghost use Rattle.nb_script.specs.Shown.{shown_item, FitList};
+ghost use Rattle.nb_script.specs.Errors.{IsOfText, IsOfList};
 
 use crate::ScriptError;
-use crate::cut::cut_lines;
-use crate::line::{begins_script, is_plain_line};
-use crate::span::Span;
-use crate::word::words_of;
-use nb_terms::NoMemory;
-use nb_wire::{Text, Words};
+use crate::item::{Item, cut_items, has_few_words};
+use crate::joined::{JoinedLines, join_lines};
+use crate::kind::{ScriptLine, line_of};
+use crate::line::begins_script;
+use nb_wire::Text;
 use std::alloc::Global;
 use std::marker::Model;
 
-/// The most bytes that a line may have.
-const MAX_LINE: usize = 4096;
+/// The most bytes that a text may have.
+const MAX_SCRIPT: usize = 1_048_576;
 
-/// The text of a script, cut into its lines.
+/// A script, its text cut into lines once. Contracts see its lines as numbered: the line at place `i`
+/// has the number `i + 1`. A line that was joined to the one before it is nothing at its own number.
 #[derive(Drop)]
 pub struct Script {
-    text: Text,
-    spans: Vec<Span>,
+    lines: JoinedLines,
 }
 
 impl Model for Script {
-    ghost use Rattle.std.specs.Prelude.{◌≡◌, ℕ, List, true};
-    ghost use Rattle.nb_defs.specs.ScriptText.{is_plain};
-    ghost use Rattle.nb_script.specs.Cut.{HasLines};
+    ghost use Rattle.std.specs.Prelude.{◌≡◌, ◌≤◌, List, length, map, true};
+    ghost use Rattle.std.specs.List.{list_all};
+    ghost use Rattle.nb_defs.specs.ScriptText.{is_short_line};
+    ghost use Rattle.nb_defs.specs.ScriptLines.{Line, line_of};
 
-    ghost Value = { List ℕ };
+    ghost Value = { List Line };
 
-    ghost view = { λ s. s.text };
+    ghost view = { λ s. map line_of s.lines.lines };
 
-    ghost invariant = { λ s. HasLines s.text s.spans.items × (is_plain s.text ≡ true) };
+    ghost invariant = { λ s. (list_all is_short_line s.lines.lines ≡ true)
+        × (length s.lines.lines ≤ 1048576) };
 }
 
 impl Script {
-    /// The script of a text, cut into lines once.
+    /// The script of a text. A text whose first line isn't `#!ipxe` is NotScript, whatever its length,
+    /// and one that is too long is ScriptTooLong, whatever its lines.
     pub fn read(alloc: Global, text: Text) -> Result<Script, ScriptError>
-        ensures same { IfOk result (λ s. s ≡ text) }
-        ensures plain { OnOk result (is_plain text ≡ true) }
-        ensures not_script { IsErrOf result ScriptError.NotScript → is_plain text ≡ false }
+        ensures reads { IfOk result (λ code. reading text ≡ script code) }
+        ensures numbered { IfOk result (λ code. length code ≡ length (lines text)) }
+        ensures not_script { IsErrOf result ScriptError.NotScript ↔ reading text ≡ no_script }
+        ensures script_too_long { IsErrOf result ScriptError.ScriptTooLong ↔
+            reading text ≡ script_too_long }
+        ensures line_too_long { IsErrOf result ScriptError.LineTooLong ↔
+            (reading text ≡ line_too_long) × ¬ IsErrOf result ScriptError.NoMemory }
+        ensures kind { IfErr result IsOfText }
     {
         if !begins_script(text.as_slice()) {
             return Err(ScriptError::NotScript);
         }
-        let spans = cut_lines(alloc, text.as_slice())?;
-        if !are_short(spans.as_slice()) {
-            return Err(ScriptError::NotScript);
+        if text.len() > MAX_SCRIPT {
+            return Err(ScriptError::ScriptTooLong);
         }
-        if !are_plain(text.as_slice(), behind_first(spans.as_slice())) {
-            return Err(ScriptError::NotScript);
+        let lines = join_lines(alloc, text.as_slice())?;
+        if !lines.are_short() {
+            return Err(ScriptError::LineTooLong);
         }
-        Ok(Script { text, spans })
+        Ok(Script { lines })
     }
 
     /// How many lines it has, the first line included.
     pub fn len(&self) -> usize
-        ensures value { result ≡ length (lines self.now) }
-        ensures fits { result ≤ 4096 }
+        ensures value { result ≡ length self.now }
+        ensures fits { result ≤ 1048576 }
     {
-        self.spans.len()
+        self.lines.len()
     }
 
-    /// Line `i`, from 0; the first is `#!ipxe`. None behind the last.
-    pub fn line(&self, i: usize) -> Option<&[u8]>
-        ensures value { option_copied result ≡ slice_get (lines self.now) i }
-        ensures within { IfSome result (λ _. i < 4096) }
-        ensures fits { IfSome result (λ line. length line.now ≤ 4096) }
-        ensures few { IfSome result (λ line. 1 ≤ i → length (words line.now) ≤ 64) }
+    /// What stands on line `i`, from 0; the first is `#!ipxe`. None behind the last.
+    pub fn line(&self, i: usize) -> Option<ScriptLine<'_>>
+        ensures value { option_map shown_line result ≡ slice_get self.now i }
+        ensures fits { IfSome result (λ line. HasAtMost 4096 line) }
     {
-        if i >= self.spans.len() {
-            return None;
+        match self.lines.get(i) {
+            Some(line) => Some(line_of(line)),
+            None => None,
         }
-        let span = self.spans[i];
-        Some(&self.text.as_slice()[span.from..span.to])
     }
 
-    /// The words of a line, its comment dropped. A line without words is nothing.
-    pub fn list(alloc: Global, line: &[u8]) -> Result<Words, NoMemory>
+    /// The place of the first line that is the label of this name.
+    pub fn label(&self, name: &[u8]) -> Option<usize>
+        ensures { result ≡ label_place name.now self.now }
+    {
+        for i in 0..self.len() {
+            if self.is_label(i, name) {
+                return Some(i);
+            }
+        }
+        None
+    }
+
+    /// Whether line `i` is the label of this name.
+    fn is_label(&self, i: usize, name: &[u8]) -> bool
+        ensures { result ≡ is_label_at name.now (slice_get self.now i) }
+    {
+        match self.line(i) {
+            Some(ScriptLine::Label(label)) => label == name,
+            _ => false,
+        }
+    }
+
+    /// The commands of a list, its comment dropped. TooManyWords where it has more than 64 words or more
+    /// than 64 joins; a join isn't counted as a word.
+    pub fn list(alloc: Global, line: &[u8]) -> Result<Vec<Item>, ScriptError>
         requires { length line.now ≤ 4096 }
-        ensures value { IfOk result (λ list. list ≡ words line.now) }
-        ensures total { IfOk result (λ list. sum_by length list ≤ length line.now) }
+        ensures value { IfOk result (λ list. items line.now ≡ Some (map shown_item list.items)) }
+        ensures cut { IfOk result (λ list. AreCutFrom (words line.now) (map shown_item list.items)) }
+        ensures fits { IfOk result (λ list. FitList list.items) }
+        ensures too_many { IsErrOf result ScriptError.TooManyWords ↔ items line.now ≡ None }
+        ensures kind { IfErr result IsOfList }
     {
-        words_of(alloc, line)
-    }
-}
-
-/// Whether no line has more than 4,096 bytes.
-fn are_short(spans: &[Span]) -> bool
-    ensures { result ≡ list_all (λ span. nat_le (span.to - span.from) 4096) spans.now }
-{
-    spans.iter().all(|span| span.len() <= MAX_LINE)
-}
-
-/// All places but the first.
-fn behind_first(spans: &[Span]) -> &[Span]
-    ensures { result.now ≡ drop 1 spans.now }
-{
-    match spans.split_first() {
-        Some((_, behind)) => behind,
-        None => spans,
-    }
-}
-
-/// Whether each of these lines runs.
-fn are_plain(text: &[u8], spans: &[Span]) -> bool
-    requires { IsWithin text.now spans.now }
-    ensures { result ≡ list_all is_plain_line (map (spanned text.now) spans.now) }
-{
-    for span in spans {
-        if !is_plain_line(&text[span.from..span.to]) {
-            return false;
+        if !has_few_words(line) {
+            return Err(ScriptError::TooManyWords);
         }
+        Ok(cut_items(alloc, line)?)
     }
-    true
 }

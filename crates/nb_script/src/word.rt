@@ -2,12 +2,13 @@ ghost use Rattle.std.specs.Prelude.{◌≡◌, ◌+◌, ◌≤◌, ◌<◌, ◌�
 ghost use Rattle.std.specs.List.{list_any, position_or_len};
 ghost use Rattle.nb_defs.specs.ScriptText.{all_words, words, is_blank, is_join};
 
+use crate::join::is_join;
 use nb_terms::NoMemory;
 use nb_wire::{Word, Words};
 use std::alloc::Global;
 
-/// The most words that a line may have.
-const MAX_WORDS: usize = 64;
+/// The most words that a line may have, and the most joins.
+pub const MAX_WORDS: usize = 64;
 
 /// Whether a byte is a blank: a space or a tab.
 pub fn is_blank(byte: u8) -> bool
@@ -31,7 +32,7 @@ pub fn cut_word(line: &[u8]) -> Option<(&[u8], &[u8])>
 }
 
 /// Where the first byte stands that is no blank.
-fn first_byte(line: &[u8]) -> Option<usize>
+pub fn first_byte(line: &[u8]) -> Option<usize>
     ensures { result ≡ position (λ b. not (is_blank b)) line.now }
 {
     line.iter().position(|b| !is_blank(*b))
@@ -53,7 +54,7 @@ fn word_len(line: &[u8]) -> usize
 }
 
 /// The next word that isn't in a comment, and what stands behind it.
-fn next_word(line: &[u8]) -> Option<(&[u8], &[u8])>
+pub fn next_word(line: &[u8]) -> Option<(&[u8], &[u8])>
     ensures none { result ≡ None → words line.now ≡ [] }
     ensures some { IfSome result (λ cut. words line.now ≡ cut.0.now ∷ words cut.1.now) }
     ensures sizes { IfSome result
@@ -65,13 +66,6 @@ fn next_word(line: &[u8]) -> Option<(&[u8], &[u8])>
         return None;
     }
     Some((word, rest))
-}
-
-/// Whether a word joins two commands.
-fn is_join(word: &[u8]) -> bool
-    ensures { result ≡ is_join word.now }
-{
-    word == b"&&".as_slice() || word == b"||".as_slice() || word == b";".as_slice()
 }
 
 /// Whether a line has at most 64 words and none that joins commands.

@@ -1,18 +1,16 @@
-use Rattle.std.proofs.Common.{arith}
-use Rattle.nb_script.proofs.ScriptLemmas.{line_short, line_few, table_few}
+use Rattle.std.proofs.Common.{◌∙◌, sym, ap, List}
+use Rattle.std.specs.List.{slice_get}
+use Rattle.std.specs.Option.{option_map}
+use Rattle.std.proofs.lemmas.Option.{slice_get-map}
+use Rattle.nb_defs.specs.ScriptLines.{Line, line_of}
+use Rattle.nb_script.proofs.ScriptLemmas.{short_at, at_most}
 use Rattle.nb_script.proofs.script.Script.line.Goals as goal
 
-pub returns-clause-within : goal.returns-clause-within
-returns-clause-within c =
-    let inside = c.self.inside in
-    omega (arith, table_few inside.text inside.spans.items c.self.invariant.0 c.self.invariant.1, inside.spans.ok.0)
+pub returns-in-Some-clause-fits : goal.returns-in-Some-clause-fits
+returns-in-Some-clause-fits c =
+    at_most _ c.line_of.result (short_at c.self.inside.lines.lines c.args.i c.in-Some.line.now c.self.invariant.0 c.in-Some.ensures) c.line_of.ensures.fits
 
-pub returns-clause-fits : goal.returns-clause-fits
-returns-clause-fits c =
-    let inside = c.self.inside in
-    rw (← c.index-span.ensures, ← c.as_slice.ensures) at (line_short inside.text inside.spans.items c.args.i c.index-span.result.now c.self.invariant.0 c.self.invariant.1 (omega (arith, inside.spans.ok.0)))
-
-pub returns-clause-few : goal.returns-clause-few
-returns-clause-few c = λ behind.
-    let inside = c.self.inside in
-    rw (← c.index-span.ensures, ← c.as_slice.ensures) at (line_few inside.text inside.spans.items c.args.i c.index-span.result.now c.self.invariant.0 c.self.invariant.1 (omega (arith, inside.spans.ok.0)) behind)
+pub returns-in-None-clause-value : goal.returns-in-None-clause-value
+returns-in-None-clause-value c =
+    let lines = c.self.inside.lines.lines in
+    ap (option_map line_of) c.in-None.ensures ∙ sym (slice_get-map line_of lines c.args.i) ∙ ap (λ (code : List Line). slice_get code c.args.i) c.self.view_is

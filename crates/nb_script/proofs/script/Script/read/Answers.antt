@@ -1,41 +1,86 @@
-use Rattle.std.proofs.Common.{◌∙◌, sym}
+use Rattle.std.proofs.Common.{◌∙◌, sym, refl, rules}
 use Rattle.std.proofs.lemmas.Result.{err_from_is_err_and}
-use Rattle.nb_script.proofs.ScriptLemmas.{plain_no_begin, plain_no_cut, plain_no_short, plain_no_lines, short_is, plain_is, within_rest, plain_all}
+use Rattle.nb_defs.specs.ScriptLines.{reading}
+use Rattle.nb_script.proofs.ScriptLemmas.{IsCut, reads_none, reads_too_long, reads_lines, reads_line_too_long, reads_script, keeps_numbers}
+use Rattle.nb_script.proofs.ReadLemmas.{refused_none, refused_long, refused_line, refused_memory, refused_not}
 use Rattle.nb_script.proofs.script.Script.read.Goals as goal
 
-pub returns-then-not-begins_script-clause-not_script : goal.returns-then-not-begins_script-clause-not_script
-returns-then-not-begins_script-clause-not_script c = λ _.
-    plain_no_begin c.args.text (rw c.as_slice.ensures at (sym c.begins_script.ensures ∙ c.if-not-begins_script.true))
+pub returns-then-not-begins_script : goal.returns-then-not-begins_script
+returns-then-not-begins_script c =
+    let none = reads_none c.args.text (rw c.as_slice.ensures at (sym c.begins_script.ensures ∙ c.if-not-begins_script.true)) in
+    let r = refused_none _ (reading c.args.text) refl none in
+    record {
+      reads = search rules;
+      numbered = search rules;
+      not_script = r.not_script;
+      script_too_long = r.script_too_long;
+      line_too_long = r.line_too_long;
+      kind = search rules;
+    }
 
-pub returns-in_err-spans-clause-not_script : goal.returns-in_err-spans-clause-not_script
-returns-in_err-spans-clause-not_script c = λ h.
-    let p = err_from_is_err_and c.from_residual.result c.from_residual.ensures.1 in
-    plain_no_cut c.args.text (rw c.as_slice-2.ensures at (c.in_err-spans.ensures.not_script cc))
-
-pub returns-then-not-are_short-clause-not_script : goal.returns-then-not-are_short-clause-not_script
-returns-then-not-are_short-clause-not_script c = λ _.
-    let has = rw c.as_slice-2.ensures at c.in_ok-spans.ensures.lines in
-    let short = rw c.as_slice-3.ensures.value at c.are_short.ensures in
-    plain_no_short c.args.text (sym (short_is _ _ has) ∙ sym short ∙ c.if-not-are_short.true)
-
-pub are_plain-requires : goal.are_plain-requires
-are_plain-requires c =
-    let has = rw c.as_slice-2.ensures at c.in_ok-spans.ensures.lines in
-    rw (c.behind_first.ensures, c.as_slice-5.ensures.value, c.as_slice-4.ensures) (within_rest c.args.text _ has.within)
-
-pub returns-then-not-are_plain-clause-not_script : goal.returns-then-not-are_plain-clause-not_script
-returns-then-not-are_plain-clause-not_script c = λ _.
-    let has = rw c.as_slice-2.ensures at c.in_ok-spans.ensures.lines in
-    let plain = rw (c.behind_first.ensures, c.as_slice-5.ensures.value, c.as_slice-4.ensures) at c.are_plain.ensures in
-    plain_no_lines c.args.text (sym (plain_is _ _ has) ∙ sym plain ∙ c.if-not-are_plain.true)
-
-pub returns-clause-plain : goal.returns-clause-plain
-returns-clause-plain c =
-    let has = rw c.as_slice-2.ensures at c.in_ok-spans.ensures.lines in
+pub returns-then-len-gt-MAX_SCRIPT : goal.returns-then-len-gt-MAX_SCRIPT
+returns-then-len-gt-MAX_SCRIPT c =
     let begun = rw c.as_slice.ensures at (sym c.begins_script.ensures ∙ c.if-not-begins_script.false) in
-    let short = rw c.as_slice-3.ensures.value at c.are_short.ensures in
-    let plain = rw (c.behind_first.ensures, c.as_slice-5.ensures.value, c.as_slice-4.ensures) at c.are_plain.ensures in
-    plain_all c.args.text begun (rw c.as_slice-2.ensures at c.in_ok-spans.ensures.cut) (sym (short_is _ _ has) ∙ sym short ∙ c.if-not-are_short.false) (sym (plain_is _ _ has) ∙ sym plain ∙ c.if-not-are_plain.false)
+    let long = reads_too_long c.args.text begun (rw c.len.ensures at c.if-len-gt-MAX_SCRIPT.true) in
+    let r = refused_long _ (reading c.args.text) refl long in
+    record {
+      reads = search rules;
+      numbered = search rules;
+      not_script = r.not_script;
+      script_too_long = r.script_too_long;
+      line_too_long = r.line_too_long;
+      kind = search rules;
+    }
 
-pub invariant_of-result : goal.invariant_of-result
-invariant_of-result c = (rw c.as_slice-2.ensures at c.in_ok-spans.ensures.lines, returns-clause-plain c)
+pub returns-in_err-lines : goal.returns-in_err-lines
+returns-in_err-lines c =
+    let p = err_from_is_err_and c.from_residual.result c.from_residual.ensures.1 in
+    let begun = rw c.as_slice.ensures at (sym c.begins_script.ensures ∙ c.if-not-begins_script.false) in
+    let lines = reads_lines c.args.text begun (rw c.len.ensures at c.if-len-gt-MAX_SCRIPT.false) in
+    let r = refused_memory c.from_residual.result (reading c.args.text) (rw p.2 at p.1) lines in
+    record {
+      reads = search rules;
+      numbered = search rules;
+      not_script = r.not_script;
+      script_too_long = r.script_too_long;
+      line_too_long = r.line_too_long;
+      kind = search rules;
+    }
+
+pub returns-then-not-are_short : goal.returns-then-not-are_short
+returns-then-not-are_short c =
+    let cut : IsCut c.args.text c.in_ok-lines.lines.lines =
+    record {
+      begun = rw c.as_slice.ensures at (sym c.begins_script.ensures ∙ c.if-not-begins_script.false);
+      fits = rw c.len.ensures at c.if-len-gt-MAX_SCRIPT.false;
+      lines_are = rw c.as_slice-2.ensures at c.in_ok-lines.ensures.lines;
+    } in
+    let long = reads_line_too_long c.args.text c.in_ok-lines.lines.lines cut (sym c.are_short.ensures ∙ c.if-not-are_short.true) in
+    let r = refused_line _ (reading c.args.text) refl long in
+    record {
+      reads = search rules;
+      numbered = search rules;
+      not_script = r.not_script;
+      script_too_long = r.script_too_long;
+      line_too_long = r.line_too_long;
+      kind = search rules;
+    }
+
+pub returns : goal.returns
+returns c =
+    let cut : IsCut c.args.text c.in_ok-lines.lines.lines =
+    record {
+      begun = rw c.as_slice.ensures at (sym c.begins_script.ensures ∙ c.if-not-begins_script.false);
+      fits = rw c.len.ensures at c.if-len-gt-MAX_SCRIPT.false;
+      lines_are = rw c.as_slice-2.ensures at c.in_ok-lines.ensures.lines;
+    } in
+    let found = reads_script c.args.text c.in_ok-lines.lines.lines cut (sym c.are_short.ensures ∙ c.if-not-are_short.false) in
+    let r = refused_not _ (reading c.args.text) _ _ refl found in
+    record {
+      reads = found;
+      numbered = keeps_numbers c.args.text c.in_ok-lines.lines.lines cut;
+      not_script = r.not_script;
+      script_too_long = r.script_too_long;
+      line_too_long = r.line_too_long;
+      kind = search rules;
+    }

@@ -1,32 +1,16 @@
 use super::*;
+use crate::test_text::repeated;
 use nb_wire::{Text, Words};
 use std::alloc::Global;
 use std::test::Fail;
 
-/// Whether a text is taken as a script.
+/// Whether a text is taken as a plain script.
 fn runs(alloc: Global, text: Vec<u8>) -> Result<bool, Fail> {
-    match Script::read(alloc, Text::from_vec(text)) {
+    match PlainScript::read(alloc, Text::from_vec(text)) {
         Ok(_) => Ok(true),
-        Err(ScriptError::NotScript) => Ok(false),
+        Err(PlainError::NotScript) => Ok(false),
         Err(error) => Err(error)?,
     }
-}
-
-/// A text made of a head, a piece so many times, and a tail.
-fn repeated(
-    alloc: Global,
-    head: &str,
-    piece: &str,
-    count: usize,
-    tail: &str,
-) -> Result<Vec<u8>, Fail> {
-    let mut text = Vec::new(alloc);
-    text.extend_from_slice(head.as_bytes())?;
-    for _ in 0..count {
-        text.extend_from_slice(piece.as_bytes())?;
-    }
-    text.extend_from_slice(tail.as_bytes())?;
-    Ok(text)
 }
 
 /// The words, each behind a bar.
@@ -40,7 +24,7 @@ fn barred(alloc: Global, words: &Words) -> Result<Vec<u8>, Fail> {
 }
 
 #[test]
-fn takes_what_runs(rt: HostRuntime) -> Result<(), Fail> {
+fn takes_what_is_plain(rt: HostRuntime) -> Result<(), Fail> {
     let cases = [
         ("", false),
         ("exit\n", false),
@@ -113,7 +97,7 @@ fn counts_as_the_limits_say(rt: HostRuntime) -> Result<(), Fail> {
 #[test]
 fn cuts_lines(rt: HostRuntime) -> Result<(), Fail> {
     let text = b"#!ipxe \r\n\n echo a\r\r\nexit\r";
-    let script = Script::read(
+    let script = PlainScript::read(
         rt.alloc(),
         Text::from_vec(Vec::from_slice(rt.alloc(), text)?),
     )?;
@@ -138,7 +122,7 @@ fn cuts_words(rt: HostRuntime) -> Result<(), Fail> {
         ("echo\r \\ :a && ;", "|echo\r|\\|:a|&&|;"),
     ];
     for (line, wanted) in cases {
-        let words = Script::list(rt.alloc(), line.as_bytes())?;
+        let words = PlainScript::list(rt.alloc(), line.as_bytes())?;
         assert_eq!(rt;
             barred(rt.alloc(), &words)?.as_slice(),
             wanted.as_bytes(),

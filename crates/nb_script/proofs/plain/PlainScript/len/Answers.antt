@@ -1,6 +1,6 @@
 use Rattle.std.proofs.Common.{arith}
-use Rattle.nb_script.proofs.ScriptLemmas.{table_few}
-use Rattle.nb_script.proofs.script.Script.len.Goals as goal
+use Rattle.nb_script.proofs.PlainLemmas.{table_few}
+use Rattle.nb_script.proofs.plain.PlainScript.len.Goals as goal
 
 pub returns-clause-fits : goal.returns-clause-fits
 returns-clause-fits c =
