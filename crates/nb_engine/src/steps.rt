@@ -20,7 +20,7 @@ use crate::causes::{NOT_SCRIPT, OK, STOPPED};
 use crate::put::{put_over, put_reply, put_step};
 use crate::{Client, RunningScript, Stage, Status, Turn, World};
 use nb_record::{Log, NoMemory, OutRec, Start};
-use nb_script::{Script, ScriptError};
+use nb_script::{PlainError, PlainScript};
 use nb_stack::Taken;
 use nb_wire::{Ip4, Out, Text};
 use std::alloc::Global;
@@ -29,14 +29,14 @@ use std::alloc::Global;
 const MAX_FRAME: usize = 1522;
 
 /// The script of these bytes, copied.
-fn read_script(alloc: Global, bytes: &[u8]) -> Result<Script, ScriptError>
+fn read_script(alloc: Global, bytes: &[u8]) -> Result<PlainScript, PlainError>
     ensures same { IfOk result (λ s. s ≡ bytes.now) }
     ensures plain { OnOk result (is_plain bytes.now ≡ true) }
-    ensures not_script { IsErrOf result ScriptError.NotScript → is_plain bytes.now ≡ false }
+    ensures not_script { IsErrOf result PlainError.NotScript → is_plain bytes.now ≡ false }
 {
     match Vec::from_slice(alloc, bytes) {
-        Ok(copy) => Script::read(alloc, Text::from_vec(copy)),
-        Err(_) => Err(ScriptError::NoMemory),
+        Ok(copy) => PlainScript::read(alloc, Text::from_vec(copy)),
+        Err(_) => Err(PlainError::NoMemory),
     }
 }
 
@@ -77,13 +77,13 @@ impl Client {
                 self.stage = Stage::Running(RunningScript::first(script));
                 Turn::More
             }
-            Err(ScriptError::NotScript) => {
+            Err(PlainError::NotScript) => {
                 put_entered(self.used, log);
                 put_refused(log);
                 self.stage = Stage::Left(NOT_SCRIPT);
                 Turn::Over(Status::ScriptFailed)
             }
-            Err(ScriptError::NoMemory) => Turn::Over(Status::NoMemory),
+            Err(PlainError::NoMemory) => Turn::Over(Status::NoMemory),
         }
     }
 
