@@ -1,10 +1,10 @@
 -- A run behind an attaching, which reads and takes nothing.
-use Rattle.std.proofs.Common.{[]}
+use Rattle.std.proofs.Common.{ℕ, []}
 use Rattle.nb_record.specs.Outside.{Outside, Passes}
 use Rattle.nb_record.proofs.OutsideLemmas.{Passes-then}
-use Rattle.nb_boot.specs.Run.{Run, Shows}
-use Rattle.nb_boot.specs.declared.status.Status.{Status}
-use Rattle.nb_boot.specs.declared.status.Status.TheVariants as status
+use Rattle.nb_boot.specs.Run.{Run, Shows, IsOver}
+use Rattle.nb_engine.specs.declared.status.Status.{Status}
+use Rattle.nb_engine.specs.declared.status.Status.TheVariants as status
 use Rattle.nb_boot.proofs.Written.{rose_later}
 
 -- the same run, seen from before the attaching
@@ -25,17 +25,20 @@ run_from first mid after p r = record {
   texts = r.texts;
 }
 
+over_from : (first mid after : Outside) (p : Passes first mid [] []) (r : Run mid after) (number : ℕ) → IsOver mid after r number → IsOver first after (run_from first mid after p r) number
+over_from first mid after p r number o = record { ends = o.ends; closed = o.closed; all = o.all }
+
 pub attached_shows : (s : Status) (first mid after : Outside) → Passes first mid [] [] → Shows s mid after → Shows s first after
-attached_shows status.Ended first mid after p (r, o) =
-    (run_from first mid after p r, record { cause = o.cause; is_left = o.is_left; status_is = o.status_is; closed = o.closed; all = o.all })
-attached_shows status.ScriptFailed first mid after p (r, o) =
-    (run_from first mid after p r, record { cause = o.cause; is_left = o.is_left; status_is = o.status_is; closed = o.closed; all = o.all })
-attached_shows status.BadRecord first mid after p (r, o) =
-    (run_from first mid after p r, record { is_ready = o.is_ready; bad = o.bad; closed = o.closed; all = o.all })
+attached_shows status.HandedOff first mid after p (r, o) = (run_from first mid after p r, over_from first mid after p r 0 o)
+attached_shows status.Ended first mid after p (r, o) = (run_from first mid after p r, over_from first mid after p r 3 o)
+attached_shows status.ScriptFailed first mid after p (r, o) = (run_from first mid after p r, over_from first mid after p r 4 o)
+attached_shows status.Unfinished first mid after p (r, o) = (run_from first mid after p r, over_from first mid after p r 5 o)
+attached_shows status.BadRecord first mid after p (r, o) = (run_from first mid after p r, over_from first mid after p r 6 o)
+attached_shows status.TooManyRecords first mid after p (r, o) = (run_from first mid after p r, over_from first mid after p r 11 o)
 attached_shows status.ReadFault first mid after p (r, o) = (
   run_from first mid after p r,
   record {
-    is_ready = o.is_ready;
+    between = o.between;
     partial = o.partial;
     closed = o.closed;
     all = o.all;
@@ -47,7 +50,4 @@ attached_shows status.WriteFault first mid after p (r, o) =
 attached_shows status.NoMemory first mid after p (r, o) = (run_from first mid after p r, tt)
 attached_shows status.AttachFault first mid after p (r, o) =
     (run_from first mid after p r, (o.0, o.1, rose_later first.attach_faults mid.attach_faults after.attach_faults p.counts.attach_count o.2))
-attached_shows status.HandedOff first mid after p (r, o) = absurd o
 attached_shows status.BadWords first mid after p (r, o) = absurd o
-attached_shows status.Unfinished first mid after p (r, o) = absurd o
-attached_shows status.TooManyRecords first mid after p (r, o) = absurd o

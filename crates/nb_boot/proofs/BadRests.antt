@@ -1,15 +1,12 @@
--- Bytes behind the records used with which no record can come.
+-- Bytes behind the records used with which no record can come, and the ends of a run.
 use Rattle.std.proofs.Common.{◌≡◌, ℕ, ◌+◌, inl, inr, List, [], ◌++◌, take, drop, Option, Some, None, sym, ◌∙◌, ap, append_assoc}
 use Rattle.std.specs.Prelude.{IfSome}
 use Rattle.std.proofs.lemmas.List.{take-append-drop}
 use Rattle.nb_defs.specs.Records.{IsBroken}
 use Rattle.nb_record.specs.Outside.{Outside, Passes, Gave, IsAtEnd}
-use Rattle.nb_record.specs.Logged.{Logged}
 use Rattle.nb_record.specs.Held.{BreaksAt}
-use Rattle.nb_boot.specs.Run.{IsBadRest}
-use Rattle.nb_boot.specs.Going.{IsFlaw}
-use Rattle.nb_boot.specs.declared.output.Flaw.{Flaw}
-use Rattle.nb_boot.specs.declared.output.Flaw.TheVariants as flaw
+use Rattle.nb_engine.specs.Machine.{Machine, Phase, ready, running, waiting, handing, left, handed_off, stopped}
+use Rattle.nb_boot.specs.Run.{IsBadRest, Ends, was_left, was_handed, was_stopped, ran_out, was_bad, was_full}
 
 gave_nothing : (old now : Option (List ℕ)) → Gave old now [] → IfSome old (λ rest. rest ≡ []) → IfSome now (λ rest. rest ≡ [])
 gave_nothing old None g e = tt
@@ -20,13 +17,27 @@ gave_nothing (Some x) (Some y) g e = sym g ∙ e
 pub end_stays : (before now : Outside) (written : List ℕ) → Passes before now [] written → IsAtEnd before → IsAtEnd now
 end_stays before now written p e = gave_nothing before.left now.left p.gave e
 
-pub bad_stays : (rest read written : List ℕ) (before now : Outside) → Passes before now [] written → IsBadRest rest before → IsBadRest rest now
-bad_stays rest read written before now p (inl b) = inl b
-bad_stays rest read written before now p (inr e) = inr (e.0, end_stays before now written p e.1)
+bad_stays : (phase : Phase) (rest written : List ℕ) (before now : Outside) → Passes before now [] written → IsBadRest phase rest before → IsBadRest phase rest now
+bad_stays ready rest written before now p (inl b) = inl b
+bad_stays ready rest written before now p (inr (inl b)) = inr (inl b)
+bad_stays ready rest written before now p (inr (inr e)) = inr (inr (e.0, end_stays before now written p e.1))
+bad_stays (waiting w s o) rest written before now p (inl b) = inl b
+bad_stays (waiting w s o) rest written before now p (inr (inl b)) = inr (inl b)
+bad_stays (waiting w s o) rest written before now p (inr (inr e)) = inr (inr (e.0, e.1, end_stays before now written p e.2))
+bad_stays (running w s) rest written before now p b = absurd b
+bad_stays (handing x) rest written before now p b = absurd b
+bad_stays (left cause) rest written before now p b = absurd b
+bad_stays handed_off rest written before now p b = absurd b
+bad_stays stopped rest written before now p b = absurd b
 
-pub flaw_bad : (f : Flaw) (rest : List ℕ) (before now : Outside) (log : Logged) → IsFlaw f before now log → IsBadRest rest before → IsBadRest rest now
-flaw_bad flaw.WriteFault rest before now log s b = bad_stays rest [] s.1.part before now s.1.passes b
-flaw_bad flaw.NoMemory rest before now log p b = bad_stays rest [] [] before now p b
+-- a run that is over stays over where nothing is read
+pub ends_stay : (m : Machine) (rest written : List ℕ) (before now : Outside) (number : ℕ) → Passes before now [] written → Ends m rest before number → Ends m rest now number
+ends_stay m rest written before now number p (was_left cause h e) = was_left cause h e
+ends_stay m rest written before now number p (was_handed h e) = was_handed h e
+ends_stay m rest written before now number p (was_stopped h e) = was_stopped h e
+ends_stay m rest written before now number p (ran_out h none at_end e) = ran_out h none (end_stays before now written p at_end) e
+ends_stay m rest written before now number p (was_bad few bad e) = was_bad few (bad_stays m.phase rest written before now p bad) e
+ends_stay m rest written before now number p (was_full full h some e) = was_full full h some e
 
 -- bytes that break somewhere begin no record
 pub breaks_broken : (bytes : List ℕ) (why : ℕ) → BreaksAt bytes why → IsBroken bytes

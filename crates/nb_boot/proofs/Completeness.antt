@@ -1,40 +1,19 @@
--- With no fault and memory enough, the status is the machine's.
-use Rattle.std.proofs.Common.{◌≡◌, ℕ, true, false, inl, inr, List, [], ◌∷◌, ◌++◌, length, Option, Some, None, refl, sym, ◌∙◌, ap, subst, arith, append-nil, append_assoc, length-append}
-use Rattle.std.specs.Prelude.{IsSome, IfSome}
-use Rattle.nb_defs.specs.Records.{Start, In, start, IsIn, in_text, in_texts, IsPartial, Out}
-use Rattle.nb_defs.specs.Machine.{Machine, Phase, ready, running, left, Path, nothing, uses, moves, Begins, runs, refuses, Move, passes, does, leaves, ends}
-use Rattle.nb_defs.proofs.RecordLaws.{in_text_apart}
-use Rattle.nb_record.specs.Outside.{Outside, Gave}
-use Rattle.nb_boot.specs.Run.{Run, Shows, IsBadRest, IsOver}
-use Rattle.nb_boot.specs.Complete.{Completes, IsMachineStatus}
-use Rattle.nb_boot.specs.declared.status.Status.{Status}
-use Rattle.nb_boot.specs.declared.status.Status.TheVariants as status
-
--- the records used, by where a run stands: none, or one START
-abbrev pub UsedAt : List In → Phase → Type 0
-UsedAt ins ready = ins ≡ []
-UsedAt ins (running s) = (r : In) × IsIn r × (ins ≡ r ∷ [])
-UsedAt ins (left cause) = (r : In) × IsIn r × (ins ≡ r ∷ [])
-
-begins_used : (ins : List In) (m : Machine) (r : In) (added : List Out) (m' : Machine) → Begins m r added m' → UsedAt ins m.phase → UsedAt (ins ++ r ∷ []) m'.phase
-begins_used ins m r added m' (runs n s valid plain) e = (start s, valid, ap (λ xs. xs ++ start s ∷ []) e)
-begins_used ins m r added m' (refuses n s valid other) e = (start s, valid, ap (λ xs. xs ++ start s ∷ []) e)
-
-move_used : (ins : List In) (m : Machine) (added : List Out) (m' : Machine) → Move m added m' → UsedAt ins m.phase → UsedAt ins m'.phase
-move_used ins m added m' (passes n s line h g) e = e
-move_used ins m added m' (does n s line w ws h g k) e = e
-move_used ins m added m' (leaves n s line w ws h g k) e = e
-move_used ins m added m' (ends n s h) e = e
-
-pub path_used : (ins : List In) (outs : List Out) (m : Machine) → Path ins outs m → UsedAt ins m.phase
-path_used ins outs m nothing = refl
-path_used ins outs m (uses ins' outs' m0 r added m' p b) = begins_used ins' m0 r added m' b (path_used ins' outs' m0 p)
-path_used ins outs m (moves ins' outs' m0 added m' p b) = move_used ins' m0 added m' b (path_used ins' outs' m0 p)
+-- With no fault and memory enough, a run ends as the machine does.
+use Rattle.std.proofs.Common.{◌≡◌, ℕ, ◌<◌, ◌⊎◌, Bool, true, false, inl, inr, List, [], ◌∷◌, ◌++◌, length, Option, Some, None, refl, sym, ◌∙◌, ap, subst, arith, append-nil, append_assoc, length-append}
+use Rattle.std.specs.Prelude.{IsSome, IfSome, if◌then◌else◌}
+use Rattle.nb_defs.specs.Causes.{is_ok_cause}
+use Rattle.nb_defs.specs.Records.{Start, In, start, frame, tick, off, IsIn, in_text, in_texts, IsPartial, IsBroken}
+use Rattle.nb_defs.proofs.RecordLaws.{in_text_apart, partial_not_whole, length-in_text}
+use Rattle.nb_engine.specs.Machine.{Machine, Phase, ready, running, waiting, handing, left, handed_off, stopped}
+use Rattle.nb_record.specs.Outside.{Outside, Gave, IsAtEnd}
+use Rattle.nb_boot.specs.Run.{Run, Shows, IsOther, IsFirst, BeginsWith, IsBadRest, Ends, was_left, was_handed, was_stopped, ran_out, was_bad, was_full}
+use Rattle.nb_boot.specs.Complete.{Completes, AreOthers}
+use Rattle.nb_engine.specs.declared.status.Status.{Status}
+use Rattle.nb_engine.specs.declared.status.Status.TheVariants as status
+use Rattle.nb_boot.proofs.Standing.{path_counts}
+use Rattle.nb_boot.proofs.Spelled.{path_in, path_used, HasUsed, Rest, spelled_rest, others_in, others_rest}
 
 -- what was read, and what is left, is what was left before
-pub told_read : (before after read input : List ℕ) → before ≡ input → before ≡ read ++ after → input ≡ read ++ after
-told_read before after read input e g = sym e ∙ g
-
 gave_told : (old now : Option (List ℕ)) (input read : List ℕ) → old ≡ Some input → IsSome now → Gave old now read → (after : List ℕ) × (now ≡ Some after) × (input ≡ read ++ after)
 gave_told None None input read e some g = let no : false ≡ true = some in cc
 gave_told None (Some y) input read e some g = absurd g
@@ -45,57 +24,134 @@ at_end_none : (now : Option (List ℕ)) (after : List ℕ) → now ≡ Some afte
 at_end_none None after e h = let no : None ≡ Some after = e in cc
 at_end_none (Some y) after e h = let same : y ≡ after = cc in sym same ∙ h
 
--- bytes that begin with a START are no front that a longer record only has
-no_partial : (s : Start) (more rest : List ℕ) → IsIn (start s) → in_text (start s) ++ more ≡ rest → IsPartial rest → ⊥
-no_partial s more rest valid e p =
-    let both : in_text (start s) ++ (more ++ p.more) ≡ in_text p.becomes ++ [] =
-    sym (append_assoc (in_text (start s)) more p.more) ∙ ap (λ t. t ++ p.more) e ∙ p.whole ∙ sym (append-nil (in_text p.becomes)) in
-    let same = in_text_apart (start s) p.becomes (more ++ p.more) [] valid p.valid both in
-    omega (arith, ap length same.rest_is, length-append more p.more, p.some)
+-- the input ended behind these bytes
+ended_there : (rest after bytes : List ℕ) (o : Outside) → bytes ≡ rest ++ after → o.left ≡ Some after → IsAtEnd o → rest ≡ bytes
+ended_there rest after bytes o e told end = sym (append-nil rest) ∙ ap (λ t. rest ++ t) (sym (at_end_none o.left after told end)) ∙ sym e
 
--- behind no record used, a rest that begins with a START is not bad
-no_bad : (s : Start) (more read after : List ℕ) (o : Outside) → IsIn (start s) → in_text (start s) ++ more ≡ read ++ after → o.left ≡ Some after → IsBadRest read o → ⊥
-no_bad s more read after o valid e told (inl b) = b (start s) after more valid (sym e)
-no_bad s more read after o valid e told (inr (p, end)) =
-    let none : after ≡ [] = at_end_none o.left after told end in
-    no_partial s more read valid (e ∙ ap (λ t. read ++ t) none ∙ append-nil read) p
+-- what begins with a record begins with the first of those that are spelled there
+same_entry : (Kind : In → Type 0) (r : In) (tail rest after : List ℕ) → IsIn r → in_text r ++ tail ≡ rest ++ after → BeginsWith rest Kind → Kind r
+same_entry Kind r tail rest after valid e w =
+    let both : in_text w.entry ++ (w.more ++ after) ≡ in_text r ++ tail =
+    sym (append_assoc (in_text w.entry) w.more after) ∙ ap (λ t. t ++ after) (sym w.spelled) ∙ sym e in
+    let same = in_text_apart w.entry r (w.more ++ after) tail w.valid valid both in
+    subst (λ x. Kind x) same.record_is w.kind
 
--- a run that is over used that START, and no other record
-pub machine_status : (s : Start) (more after : List ℕ) (number : ℕ) (before last : Outside) (r : Run before last) → IsIn (start s) →
-    in_text (start s) ++ more ≡ r.read ++ after → IsOver before last r number → IsMachineStatus s number
-machine_status s more after number before last r valid e o =
-    let used : UsedAt r.ins (left o.cause) = subst (λ ph. UsedAt r.ins ph) o.is_left (path_used r.ins r.outs r.machine r.path) in
-    let entry = used.0 in
-    let all : in_text (start s) ++ more ≡ in_text entry ++ (r.rest ++ after) =
-    e ∙ ap (λ t. t ++ after) (r.spelled ∙ ap (λ xs. in_texts xs ++ r.rest) used.2 ∙ ap (λ t. t ++ r.rest) (append-nil (in_text entry)))
-    ∙ append_assoc (in_text entry) r.rest after in
-    let same = in_text_apart (start s) entry more (r.rest ++ after) valid used.1 all in
+-- before any record used, a rest that begins with a START is not bad
+no_bad_first : (s : Start) (tail rest after : List ℕ) (o : Outside) → IsIn (start s) → in_text (start s) ++ tail ≡ rest ++ after → o.left ≡ Some after →
+    IsBroken rest ⊎ (BeginsWith rest IsOther ⊎ (IsPartial rest × IsAtEnd o)) → ⊥
+no_bad_first s tail rest after o valid e told (inl b) = b (start s) after tail valid (sym e)
+no_bad_first s tail rest after o valid e told (inr (inl w)) = same_entry IsOther (start s) tail rest after valid e w
+no_bad_first s tail rest after o valid e told (inr (inr (p, end))) =
+    partial_not_whole (start s) rest tail valid (ended_there rest after (in_text (start s) ++ tail) o e told end) p
+
+first_no_other : (r : In) → IsFirst r → IsOther r → ⊥
+first_no_other (start s) f o = o
+first_no_other (frame bytes) f o = f
+first_no_other (tick ms) f o = f
+first_no_other off f o = f
+
+empty_front : (rest after : List ℕ) → [] ≡ rest ++ after → rest ≡ []
+empty_front [] after e = refl
+empty_front (x ∷ xs) after e = absurd (omega (arith, ap length e))
+
+-- behind records used, a rest that begins with another than START, or where nothing follows, is not bad
+no_bad_later : (more : List In) (rest after : List ℕ) (o : Outside) → AreOthers more → in_texts more ≡ rest ++ after → o.left ≡ Some after →
+    IsBroken rest ⊎ (BeginsWith rest IsFirst ⊎ (IsPartial rest × (0 < length rest) × IsAtEnd o)) → ⊥
+no_bad_later [] rest after o a e told (inl b) =
+    b off (in_text off) [] tt (ap (λ t. t ++ in_text off) (empty_front rest after e) ∙ sym (append-nil (in_text off)))
+no_bad_later [] rest after o a e told (inr (inl w)) =
+    omega (arith, ap length (empty_front rest after e), ap length w.spelled, length-append (in_text w.entry) w.more, length-in_text w.entry)
+no_bad_later [] rest after o a e told (inr (inr (p, some, end))) = omega (arith, ap length (empty_front rest after e), some)
+no_bad_later (q ∷ qs) rest after o a e told (inl b) = b q after (in_texts qs) a.0 (sym e)
+no_bad_later (q ∷ qs) rest after o a e told (inr (inl w)) = first_no_other q (same_entry IsFirst q (in_texts qs) rest after a.0 e w) a.1
+no_bad_later (q ∷ qs) rest after o a e told (inr (inr (p, some, end))) =
+    partial_not_whole q rest (in_texts qs) a.0 (ended_there rest after (in_text q ++ in_texts qs) o e told end) p
+
+no_records : (ins : List In) → length ins ≡ 0 → ins ≡ []
+no_records [] h = refl
+no_records (r ∷ rs) h = absurd (omega (arith, h))
+
+-- an input that is spelled so has no bad rest
+no_bad : (phase : Phase) (s : Start) (others ins : List In) (rest after : List ℕ) (o : Outside) → IsIn (start s) → AreOthers others →
+    Rest ins (start s ∷ others) (rest ++ after) → HasUsed (length ins) phase → o.left ≡ Some after → IsBadRest phase rest o → ⊥
+no_bad ready s others ins rest after o valid a t u told b =
+    let all : start s ∷ others ≡ t.more = t.are ∙ ap (λ xs. xs ++ t.more) (no_records ins u) in
+    no_bad_first s (in_texts others) rest after o valid (ap (λ xs. in_texts xs) all ∙ t.spelled) told b
+no_bad (waiting w x op) s others ins rest after o valid a t u told b =
+    no_bad_later t.more rest after o (others_rest ins t.more others (start s) t.are u a) t.spelled told b
+no_bad (running w x) s others ins rest after o valid a t u told b = b
+no_bad (handing x) s others ins rest after o valid a t u told b = b
+no_bad (left cause) s others ins rest after o valid a t u told b = b
+no_bad handed_off s others ins rest after o valid a t u told b = b
+no_bad stopped s others ins rest after o valid a t u told b = b
+
+-- the status of a script that was left is 3 or 4
+left_low : (ok : Bool) → (if ok then 3 else 4) < 5
+left_low true = omega arith
+left_low false = omega arith
+
+ends_bad : (m : Machine) (rest : List ℕ) (o : Outside) → Ends m rest o 6 → IsBadRest m.phase rest o
+ends_bad m rest o (was_left cause h e) = absurd (omega (arith, e, left_low (is_ok_cause cause)))
+ends_bad m rest o (was_handed h e) = absurd (omega (arith, e))
+ends_bad m rest o (was_stopped h e) = absurd (omega (arith, e))
+ends_bad m rest o (ran_out h none end e) = absurd (omega (arith, e))
+ends_bad m rest o (was_bad few bad e) = bad
+ends_bad m rest o (was_full full h some e) = absurd (omega (arith, e))
+
+ends_full : (m : Machine) (rest : List ℕ) (o : Outside) → Ends m rest o 11 → (m.used ≡ 4294967295) × (0 < length rest)
+ends_full m rest o (was_left cause h e) = absurd (omega (arith, e, left_low (is_ok_cause cause)))
+ends_full m rest o (was_handed h e) = absurd (omega (arith, e))
+ends_full m rest o (was_stopped h e) = absurd (omega (arith, e))
+ends_full m rest o (ran_out h none end e) = absurd (omega (arith, e))
+ends_full m rest o (was_bad few bad e) = absurd (omega (arith, e))
+ends_full m rest o (was_full full h some e) = (full, some)
+
+-- what a run used of an input that is spelled so
+pub record Told (before after : Outside) (r : Run before after) (s : Start) (others : List In) : Type 0 where
+  pub behind : List ℕ
+  pub now : after.left ≡ Some behind
+  pub rest : Rest r.ins (start s ∷ others) (r.rest ++ behind)
+
+told : (before after : Outside) (r : Run before after) (s : Start) (others : List In) → IsIn (start s) → AreOthers others →
+    before.left ≡ Some (in_texts (start s ∷ others)) → IsSome after.left → Told before after r s others
+told before after r s others valid a e some =
+    let t = gave_told before.left after.left (in_texts (start s ∷ others)) r.read e some r.passes.gave in
+    let all : in_texts (start s ∷ others) ≡ in_texts r.ins ++ (r.rest ++ t.0) =
+    t.2 ∙ ap (λ x. x ++ t.0) r.spelled ∙ append_assoc (in_texts r.ins) r.rest t.0 in
     record {
-      outs = r.outs;
-      machine = r.machine;
-      cause = o.cause;
-      path = subst (λ xs. Path xs r.outs r.machine) (used.2 ∙ ap (λ x. x ∷ []) (sym same.record_is)) r.path;
-      is_left = o.is_left;
-      status_is = o.status_is;
+      behind = t.0;
+      now = t.1;
+      rest = spelled_rest r.ins (start s ∷ others) (r.rest ++ t.0) (path_in r.ins r.outs r.machine r.path) (valid, others_in others a) all;
     }
 
+-- records that spell more bytes are some
+some_more : (more : List In) (rest after : List ℕ) → in_texts more ≡ rest ++ after → 0 < length rest → 0 < length more
+some_more [] rest after e h = absurd (omega (arith, ap length (empty_front rest after e), h))
+some_more (r ∷ rs) rest after e h = omega arith
+
 pub completes : (s : Status) (before after : Outside) → Shows s before after → Completes s before after
-completes status.Ended before after (r, o) = λ s more valid told some none memory.
-    let t = gave_told before.left after.left (in_text (start s) ++ more) r.read told some r.passes.gave in
-    machine_status s more t.0 3 before after r valid t.2 o
-completes status.ScriptFailed before after (r, o) = λ s more valid told some none memory.
-    let t = gave_told before.left after.left (in_text (start s) ++ more) r.read told some r.passes.gave in
-    machine_status s more t.0 4 before after r valid t.2 o
-completes status.BadRecord before after (r, o) = λ s more valid told some none memory.
-    let t = gave_told before.left after.left (in_text (start s) ++ more) r.read told some r.passes.gave in
-    let used : UsedAt r.ins ready = subst (λ ph. UsedAt r.ins ph) o.is_ready (path_used r.ins r.outs r.machine r.path) in
-    let rest : r.read ≡ r.rest = r.spelled ∙ ap (λ xs. in_texts xs ++ r.rest) used in
-    absurd (no_bad s more r.rest t.0 after valid (t.2 ∙ ap (λ x. x ++ t.0) rest) t.1 o.bad)
-completes status.ReadFault before after (r, o) = λ s more valid told some none memory. absurd (none.read o.rose)
-completes status.WriteFault before after (r, o) = λ s more valid told some none memory. absurd (none.write o)
-completes status.NoMemory before after (r, o) = λ s more valid told some none memory. absurd (memory refl)
-completes status.AttachFault before after (r, o) = λ s more valid told some none memory. absurd (none.attach o.2)
-completes status.HandedOff before after (r, o) = absurd o
+completes status.HandedOff before after (r, o) = λ s others valid a e some none memory. tt
+completes status.Ended before after (r, o) = λ s others valid a e some none memory. tt
+completes status.ScriptFailed before after (r, o) = λ s others valid a e some none memory. tt
+completes status.Unfinished before after (r, o) = λ s others valid a e some none memory. tt
+completes status.BadRecord before after (r, o) = λ s others valid a e some none memory.
+    let t = told before after r s others valid a e some in
+    let used : HasUsed (length r.ins) r.machine.phase =
+    subst (λ n. HasUsed n r.machine.phase) (path_counts r.ins r.outs r.machine r.path) (path_used r.ins r.outs r.machine r.path) in
+    no_bad r.machine.phase s others r.ins r.rest t.behind after valid a t.rest used t.now (ends_bad r.machine r.rest after o.ends)
+completes status.TooManyRecords before after (r, o) = λ s others valid a e some none memory.
+    let t = told before after r s others valid a e some in
+    let full = ends_full r.machine r.rest after o.ends in
+    omega (
+      arith,
+      full.0,
+      path_counts r.ins r.outs r.machine r.path,
+      some_more t.rest.more r.rest t.behind t.rest.spelled full.1,
+      ap length t.rest.are,
+      length-append r.ins t.rest.more,
+    )
+completes status.ReadFault before after (r, o) = λ s others valid a e some none memory. none.read o.rose
+completes status.WriteFault before after (r, o) = λ s others valid a e some none memory. none.write o
+completes status.NoMemory before after (r, o) = λ s others valid a e some none memory. memory refl
+completes status.AttachFault before after (r, o) = λ s others valid a e some none memory. none.attach o.2
 completes status.BadWords before after (r, o) = absurd o
-completes status.Unfinished before after (r, o) = absurd o
-completes status.TooManyRecords before after (r, o) = absurd o

@@ -1,18 +1,15 @@
--- How a run goes on, is written out, and is cut short.
-use Rattle.std.proofs.Common.{◌≡◌, ℕ, true, false, inl, inr, List, [], ◌∷◌, ◌++◌, length, refl, sym, ◌∙◌, ap, arith, append-nil, append_assoc, length-append}
+-- How a run goes on, reads, and is written out.
+use Rattle.std.proofs.Common.{◌≡◌, ℕ, true, false, inl, inr, List, [], ◌∷◌, ◌++◌, length, refl, sym, ◌∙◌, ap, subst, arith, append-nil, append_assoc, length-append}
 use Rattle.std.proofs.lemmas.Grind.{flat_map-append}
-use Rattle.nb_defs.specs.Records.{In, Out, out_text, out_texts}
-use Rattle.nb_defs.specs.Machine.{Machine, Path}
-use Rattle.nb_record.specs.Outside.{Outside, Passes, Rose}
+use Rattle.nb_defs.specs.Records.{In, in_text, in_texts, Out, out_text, out_texts}
+use Rattle.nb_record.specs.Outside.{Outside, Passes}
 use Rattle.nb_record.specs.Logged.{Logged}
 use Rattle.nb_record.proofs.OutsideLemmas.{Passes-nothing, Passes-then}
-use Rattle.nb_boot.specs.Turns.{Grows}
-use Rattle.nb_boot.specs.Run.{goes_on}
-use Rattle.nb_boot.specs.Going.{Going, Cut, Wrote, Stopped, Cuts, IsFlaw}
-use Rattle.nb_boot.specs.declared.output.Flaw.{Flaw}
-use Rattle.nb_boot.specs.declared.output.Flaw.TheVariants as flaw
-use Rattle.nb_boot.proofs.Puts.{is_either}
-use Rattle.nb_boot.proofs.Written.{rose_later}
+use Rattle.nb_engine.specs.Machine.{Machine, Path, uses, moves, fresh, nothing}
+use Rattle.nb_engine.specs.Seen.{Seen, StandsFor}
+use Rattle.nb_engine.specs.Turns.{Steps, Grows}
+use Rattle.nb_engine.proofs.Puts.{is_either}
+use Rattle.nb_boot.specs.Going.{Going, Goes, Wrote}
 
 -- a list without elements
 no_length : (xs : List ℕ) → length xs ≡ 0 → xs ≡ []
@@ -39,101 +36,105 @@ end_of_front : (added : List Out) (part lost old new : List ℕ) → new ≡ old
 end_of_front added part lost old new whole front fronts =
     no_length lost (omega (arith, ap length whole, ap length front, ap length fronts, length-append old (out_texts added), length-append old part, length-append part lost))
 
-grows_whole : (used ins : List In) (first now : Outside) (old new : Logged) (m m' : Machine) → old.is_short ≡ false → Grows used m m' old new →
-    Going ins first now old m → Going (ins ++ used) first now new m'
-grows_whole used ins first now old new m m' e g r =
+-- what was read spells the records used and those used then
+read_again : (ins used : List In) (rest : List ℕ) → in_texts ins ++ (in_texts used ++ rest) ≡ in_texts (ins ++ used) ++ rest
+read_again ins used rest = sym (append_assoc (in_texts ins) (in_texts used) rest) ∙ ap (λ t. t ++ rest) (sym (flat_map-append in_text ins used))
+
+-- the path goes on by a step
+path_steps : (used ins : List In) (outs added : List Out) (m m' : Machine) → Path ins outs m → Steps used m added m' → Path (ins ++ used) (outs ++ added) m'
+path_steps [] ins outs added m m' p s = subst (λ xs. Path xs (outs ++ added) m') (sym (append-nil ins)) (moves ins outs m added m' p s)
+path_steps (r ∷ []) ins outs added m m' p s = uses ins outs m r added m' p s
+path_steps (r ∷ q ∷ rs) ins outs added m m' p s = absurd s
+
+grows_whole : (used ins : List In) (rest : List ℕ) (first now : Outside) (old new : Logged) (c c' : Seen) (m : Machine) → old.is_short ≡ false → Grows used c c' old new →
+    StandsFor c m → Going ins (in_texts used ++ rest) first now old m → Goes (ins ++ used) rest first now new c'
+grows_whole used ins rest first now old new c c' m e g st r =
     let none : r.lost ≡ [] = r.whole e in
     let start : out_texts r.outs ≡ (r.written ++ old.bytes) ++ [] = rw (← none) r.texts in
+    let l = g.leads m st in
     record {
-      outs = r.outs ++ g.added;
-      written = r.written;
-      lost = g.puts.lost;
-      passes = r.passes;
-      path = g.stands ins r.outs r.path;
-      texts = rw g.puts.appended (join_whole r.outs g.added r.written old.bytes g.puts.part g.puts.lost start g.puts.fronts);
-      whole = λ f. end_of_front g.added g.puts.part g.puts.lost old.bytes new.bytes (g.puts.whole f).1 g.puts.appended g.puts.fronts;
+      machine = l.machine;
+      stands = l.stands;
+      going = record {
+        outs = r.outs ++ g.added;
+        written = r.written;
+        lost = g.puts.lost;
+        passes = subst (λ xs. Passes first now xs r.written) (read_again ins used rest) r.passes;
+        path = path_steps used ins r.outs g.added m l.machine r.path l.steps;
+        texts = rw g.puts.appended (join_whole r.outs g.added r.written old.bytes g.puts.part g.puts.lost start g.puts.fronts);
+        whole = λ f. end_of_front g.added g.puts.part g.puts.lost old.bytes new.bytes (g.puts.whole f).1 g.puts.appended g.puts.fronts;
+      };
     }
 
-grows_short : (used ins : List In) (first now : Outside) (old new : Logged) (m m' : Machine) → old.is_short ≡ true → Grows used m m' old new →
-    Going ins first now old m → Going (ins ++ used) first now new m'
-grows_short used ins first now old new m m' e g r =
+grows_short : (used ins : List In) (rest : List ℕ) (first now : Outside) (old new : Logged) (c c' : Seen) (m : Machine) → old.is_short ≡ true → Grows used c c' old new →
+    StandsFor c m → Going ins (in_texts used ++ rest) first now old m → Goes (ins ++ used) rest first now new c'
+grows_short used ins rest first now old new c c' m e g st r =
     let same : new ≡ old = g.puts.stays e in
     let short : new.is_short ≡ true = ap (λ (l : Logged). l.is_short) same ∙ e in
+    let l = g.leads m st in
     record {
-      outs = r.outs ++ g.added;
-      written = r.written;
-      lost = r.lost ++ out_texts g.added;
-      passes = r.passes;
-      path = g.stands ins r.outs r.path;
-      texts = rw (ap (λ (l : Logged). l.bytes) same) (join_short r.outs g.added r.written old.bytes r.lost r.texts);
-      whole = λ f. let no : true ≡ false = sym short ∙ f in cc;
+      machine = l.machine;
+      stands = l.stands;
+      going = record {
+        outs = r.outs ++ g.added;
+        written = r.written;
+        lost = r.lost ++ out_texts g.added;
+        passes = subst (λ xs. Passes first now xs r.written) (read_again ins used rest) r.passes;
+        path = path_steps used ins r.outs g.added m l.machine r.path l.steps;
+        texts = rw (ap (λ (l : Logged). l.bytes) same) (join_short r.outs g.added r.written old.bytes r.lost r.texts);
+        whole = λ f. let no : true ≡ false = sym short ∙ f in cc;
+      };
     }
 
 -- a run that goes on grows with its client
-pub going_grows : (used ins : List In) (first now : Outside) (old new : Logged) (m m' : Machine) → Grows used m m' old new →
-    Going ins first now old m → Going (ins ++ used) first now new m'
-going_grows used ins first now old new m m' g r =
-    elim (is_either old.is_short) [ inl e ↦ grows_short used ins first now old new m m' e g r | inr e ↦ grows_whole used ins first now old new m m' e g r ]
+pub going_grows : (used ins : List In) (rest : List ℕ) (first now : Outside) (old new : Logged) (c c' : Seen) → Grows used c c' old new →
+    Goes ins (in_texts used ++ rest) first now old c → Goes (ins ++ used) rest first now new c'
+going_grows used ins rest first now old new c c' g r =
+    elim (is_either old.is_short) [
+      inl e ↦ grows_short used ins rest first now old new c c' r.machine e g r.stands r.going
+    | inr e ↦ grows_whole used ins rest first now old new c c' r.machine e g r.stands r.going
+    ]
 
--- nothing was written yet
-pub going_fresh : (now : Outside) (log : Logged) (m : Machine) → log.bytes ≡ [] → Path [] [] m → Going [] now now log m
-going_fresh now log m h p = record {
+-- nothing was read and written yet
+pub going_fresh : (now : Outside) (log : Logged) → log.bytes ≡ [] → Going [] [] now now log fresh
+going_fresh now log h = record {
   outs = [];
   written = [];
   lost = [];
   passes = Passes-nothing now;
-  path = p;
+  path = nothing;
   texts = rw h refl;
   whole = λ _. refl;
 }
 
+-- what was written then comes behind
+pub passes_wrote : (a b c : Outside) (read written more : List ℕ) → Passes a b read written → Passes b c [] more → Passes a c read (written ++ more)
+passes_wrote a b c read written more p q = subst (λ xs. Passes a c xs (written ++ more)) (append-nil read) (Passes-then a b c read written [] more p q)
+
 -- the log was written out
-pub going_flushed : (ins : List In) (first before now : Outside) (log : Logged) (m : Machine) (room : ℕ) → log.is_short ≡ false → Wrote before now log.bytes →
-    Going ins first before log m → Going ins first now (record { bytes = []; room = room; is_short = false }) m
-going_flushed ins first before now log m room e w r = record {
+pub going_flushed : (ins : List In) (held : List ℕ) (first before now : Outside) (log : Logged) (m : Machine) (room : ℕ) → log.is_short ≡ false → Wrote before now log.bytes →
+    Going ins held first before log m → Going ins held first now (record { bytes = []; room = room; is_short = false }) m
+going_flushed ins held first before now log m room e w r = record {
   outs = r.outs;
   written = r.written ++ log.bytes;
   lost = r.lost;
-  passes = Passes-then first before now [] r.written [] log.bytes r.passes w;
+  passes = passes_wrote first before now (in_texts ins ++ held) r.written log.bytes r.passes w;
   path = r.path;
   texts = r.texts ∙ ap (λ t. t ++ r.lost) (sym (append-nil (r.written ++ log.bytes)));
   whole = λ _. r.whole e;
 }
 
--- a write failed: a front of the output was written
-pub going_stopped : (ins : List In) (first before now : Outside) (log : Logged) (m : Machine) → Stopped before now log.bytes →
-    Going ins first before log m → Cut ins first now × Rose first.write_faults now.write_faults
-going_stopped ins first before now log m s r = (
-  record {
-    outs = r.outs;
-    machine = m;
-    closing = [];
-    written = r.written ++ s.part;
-    lost = s.lost ++ r.lost;
-    passes = Passes-then first before now [] r.written [] s.part r.passes s.passes;
-    path = r.path;
-    closes = λ rest o. goes_on m rest o;
-    texts = ap out_texts (append-nil r.outs) ∙ r.texts ∙ ap (λ t. (r.written ++ t) ++ r.lost) s.fronts
-        ∙ ap (λ t. t ++ r.lost) (sym (append_assoc r.written s.part s.lost)) ∙ append_assoc (r.written ++ s.part) s.lost r.lost;
-  },
-  rose_later first.write_faults before.write_faults now.write_faults r.passes.counts.write_count s.rose,
-)
-
--- memory ran out: what was written is a front of the output
-pub going_cut : (ins : List In) (first now later : Outside) (log : Logged) (m : Machine) → Passes now later [] [] → Going ins first now log m → Cut ins first later
-going_cut ins first now later log m p r = record {
+-- more was read, and is held
+pub going_read : (ins : List In) (held bytes : List ℕ) (first before now : Outside) (log : Logged) (m : Machine) → Passes before now bytes [] →
+    Going ins held first before log m → Going ins (held ++ bytes) first now log m
+going_read ins held bytes first before now log m p r = record {
   outs = r.outs;
-  machine = m;
-  closing = [];
-  written = r.written ++ [];
-  lost = log.bytes ++ r.lost;
-  passes = Passes-then first now later [] r.written [] [] r.passes p;
+  written = r.written;
+  lost = r.lost;
+  passes = subst (λ xs. Passes first now xs r.written) (append_assoc (in_texts ins) held bytes)
+      (subst (λ ws. Passes first now ((in_texts ins ++ held) ++ bytes) ws) (append-nil r.written)
+      (Passes-then first before now (in_texts ins ++ held) r.written bytes [] r.passes p));
   path = r.path;
-  closes = λ rest o. goes_on m rest o;
-  texts = ap out_texts (append-nil r.outs) ∙ r.texts ∙ append_assoc r.written log.bytes r.lost ∙ ap (λ t. t ++ (log.bytes ++ r.lost)) (sym (append-nil r.written));
+  texts = r.texts;
+  whole = r.whole;
 }
-
--- a log that couldn't be written out cuts a run short
-pub flaw_cuts : (f : Flaw) (before now : Outside) (log : Logged) (m : Machine) → IsFlaw f before now log → Cuts f before now log m
-flaw_cuts flaw.WriteFault before now log m s = λ ins first r. going_stopped ins first before now log m s.1 r
-flaw_cuts flaw.NoMemory before now log m p = λ ins first r. going_cut ins first before now log m p r

@@ -1,94 +1,84 @@
 -- From a turn of the client to the run that it belongs to.
-use Rattle.std.proofs.Common.{◌≡◌, inl, inr, List, [], ◌∷◌, ◌++◌, refl, sym, subst, append-nil, Result, Ok, Err}
-use Rattle.std.specs.Prelude.{IfOk, IfErr}
-use Rattle.nb_defs.specs.Records.{In}
-use Rattle.nb_defs.specs.Machine.{Machine}
+use Rattle.std.proofs.Common.{◌≡◌, ℕ, List, [], ◌++◌, refl, sym, subst, append-nil}
+use Rattle.nb_defs.specs.Records.{In, in_texts}
 use Rattle.nb_record.specs.Outside.{Outside}
 use Rattle.nb_record.specs.Logged.{Logged}
-use Rattle.nb_record.proofs.OutsideLemmas.{Passes-nothing}
-use Rattle.nb_boot.specs.Turns.{Grows, Acts, IsEnd, IsLeft}
-use Rattle.nb_boot.specs.Going.{Going, Cut, Keeps, Leads, Cuts, TakeCuts, IsEndOf}
-use Rattle.nb_boot.specs.declared.status.Status.{Status}
-use Rattle.nb_boot.specs.declared.status.Status.TheVariants as status
-use Rattle.nb_boot.specs.declared.client.Turn.TheVariants as turn
+use Rattle.nb_engine.specs.Seen.{Seen}
+use Rattle.nb_engine.specs.Turns.{Grows, Acts, IsEnd, IsOverWith}
+use Rattle.nb_engine.specs.declared.status.Status.{Status}
+use Rattle.nb_engine.specs.declared.status.Status.TheVariants as status
+use Rattle.nb_engine.specs.declared.client.Turn.TheVariants as turn
+use Rattle.nb_boot.specs.Going.{Goes, Holds, CutsAll, Leads, Stops, StepsTo, IsEndOf, flaw_status}
 use Rattle.nb_boot.specs.declared.output.Flaw.{Flaw}
-use Rattle.nb_boot.proofs.Goings.{going_grows, going_cut}
+use Rattle.nb_boot.specs.declared.play.StepEnd.{StepEnd}
+use Rattle.nb_boot.specs.declared.play.StepEnd.TheVariants as ending
+use Rattle.nb_boot.proofs.Goings.{going_grows}
+use Rattle.nb_boot.proofs.Cuttings.{memory_shows}
 
--- what holds of the value holds of what follows from it
-pub if_ok : {T E : Type 0} (r : Result T E) (P Q : T → Type 0) → ((x : T) → P x → Q x) → IfOk r P → IfOk r Q
-if_ok (Ok x) P Q f p = f x p
-if_ok (Err e) P Q f p = tt
+-- whatever run of a client went on before goes on afterwards, by no record
+abbrev pub Keeps : Outside → Outside → Logged → Logged → Seen → Seen → Type 0
+Keeps before now old new c c' = (ins : List In) (held : List ℕ) (first : Outside) → Goes ins held first before old c → Goes ins held first now new c'
 
-pub if_err : {T E : Type 0} (r : Result T E) (P Q : E → Type 0) → ((x : E) → P x → Q x) → IfErr r P → IfErr r Q
-if_err (Ok x) P Q f p = tt
-if_err (Err e) P Q f p = f e p
+-- a log that was written out keeps a run
+pub keeps_log : (before now : Outside) (old new : Logged) (c : Seen) → ((held : List ℕ) → Holds held held before now old new) → Keeps before now old new c c
+keeps_log before now old new c h = λ ins held first g. record { machine = g.machine; stands = g.stands; going = h held ins first g.machine g.going }
 
--- a turn that ended the run, memory aside
-pub over_acts : (s : Status) (used : List In) (m m' : Machine) (old new : Logged) → (s ≡ status.NoMemory → ⊥) → Acts (turn.Over s) used m m' old new →
-    IsEnd s × Grows used m m' old new × IsLeft m'.phase s
-over_acts status.NoMemory used m m' old new ne a = absurd (ne refl)
-over_acts status.HandedOff used m m' old new ne a = a
-over_acts status.BadWords used m m' old new ne a = a
-over_acts status.Ended used m m' old new ne a = a
-over_acts status.ScriptFailed used m m' old new ne a = a
-over_acts status.Unfinished used m m' old new ne a = a
-over_acts status.BadRecord used m m' old new ne a = a
-over_acts status.ReadFault used m m' old new ne a = a
-over_acts status.WriteFault used m m' old new ne a = a
-over_acts status.AttachFault used m m' old new ne a = a
-over_acts status.TooManyRecords used m m' old new ne a = a
+-- one after the other
+pub keeps_then : (a b d : Outside) (old mid new : Logged) (c c1 c' : Seen) → Keeps a b old mid c c1 → Keeps b d mid new c1 c' → Keeps a d old new c c'
+keeps_then a b d old mid new c c1 c' k l = λ ins held first g. l ins held first (k ins held first g)
 
 -- a growth by no record keeps the records used
-pub grow_keeps : (ins : List In) (first now : Outside) (old new : Logged) (m m' : Machine) → Grows [] m m' old new → Going ins first now old m → Going ins first now new m'
-grow_keeps ins first now old new m m' g r = subst (λ xs. Going xs first now new m') (append-nil ins) (going_grows [] ins first now old new m m' g r)
+pub grow_keeps : (now : Outside) (old new : Logged) (c c' : Seen) → Grows [] c c' old new → Keeps now now old new c c'
+grow_keeps now old new c c' g = λ ins held first r. subst (λ xs. Goes xs held first now new c') (append-nil ins) (going_grows [] ins held first now old new c c' g r)
 
--- the run is over, behind one that went on
-pub over_keeps : (r : Result Status Flaw) (s : Status) (before now : Outside) (log old new : Logged) (m0 m m' : Machine) →
-    Keeps before now log old m0 m → Acts (turn.Over s) [] m m' old new → IsEndOf s r →
-    IfOk r (λ t. IsEnd t × IsLeft m'.phase t × Keeps before now log new m0 m')
-over_keeps (Err f) s before now log old new m0 m m' k a e = tt
-over_keeps (Ok t) s before now log old new m0 m m' k a e =
-    let d = over_acts s [] m m' old new e.1 a in
-    let P : Status → Type 0 = λ x. IsEnd x × IsLeft m'.phase x × Keeps before now log new m0 m' in
-    subst P (sym e.0) (d.0, d.2, λ ins first g. grow_keeps ins first now old new m m' d.1 (k ins first g))
+-- a run that was kept, and then led on
+pub keeps_leads : (used : List In) (before now : Outside) (old mid new : Logged) (c c1 c' : Seen) → Keeps before now old mid c c1 → Grows used c1 c' mid new →
+    Leads used before now old new c c'
+keeps_leads used before now old mid new c c1 c' k g = λ ins rest first r. going_grows used ins rest first now mid new c1 c' g (k ins (in_texts used ++ rest) first r)
 
--- memory ran out, behind a run that went on
-pub over_cuts : (r : Result Status Flaw) (s : Status) (before now : Outside) (log old : Logged) (m0 m : Machine) →
-    Keeps before now log old m0 m → IsEndOf s r → IfErr r (λ f. Cuts f before now log m0)
-over_cuts (Ok t) s before now log old m0 m k e = tt
-over_cuts (Err f) s before now log old m0 m k e =
-    let P : Flaw → Type 0 = λ x. Cuts x before now log m0 in
-    subst P (sym e.1) (λ ins first g. going_cut ins first now now old m (Passes-nothing now) (k ins first g))
+-- a turn that ended the run, memory aside
+over_acts : (s : Status) (used : List In) (c c' : Seen) (old new : Logged) → (s ≡ status.NoMemory → ⊥) → Acts (turn.Over s) used c c' old new →
+    IsEnd s × Grows used c c' old new × IsOverWith c'.stage s
+over_acts status.NoMemory used c c' old new ne a = absurd (ne refl)
+over_acts status.HandedOff used c c' old new ne a = a
+over_acts status.BadWords used c c' old new ne a = a
+over_acts status.Ended used c c' old new ne a = a
+over_acts status.ScriptFailed used c c' old new ne a = a
+over_acts status.Unfinished used c c' old new ne a = a
+over_acts status.BadRecord used c c' old new ne a = a
+over_acts status.ReadFault used c c' old new ne a = a
+over_acts status.WriteFault used c c' old new ne a = a
+over_acts status.AttachFault used c c' old new ne a = a
+over_acts status.TooManyRecords used c c' old new ne a = a
 
--- the run is over in the step of the record that was used
-pub over_leads : (r : Result Status Flaw) (s : Status) (used : List In) (now : Outside) (old new : Logged) (m m' : Machine) →
-    Acts (turn.Over s) used m m' old new → IsEndOf s r → IfOk r (λ t. IsEnd t × IsLeft m'.phase t × Leads used now now old new m m')
-over_leads (Err f) s used now old new m m' a e = tt
-over_leads (Ok t) s used now old new m m' a e =
-    let d = over_acts s used m m' old new e.1 a in
-    let P : Status → Type 0 = λ x. IsEnd x × IsLeft m'.phase x × Leads used now now old new m m' in
-    subst P (sym e.0) (d.0, d.2, λ ins first g. going_grows used ins first now old new m m' d.1 g)
+-- the run is over, or memory ran out, behind one that went on
+pub over_steps : (e : StepEnd) (s : Status) (used : List In) (before now : Outside) (old mid new : Logged) (c c1 c' : Seen) → Keeps before now old mid c c1 →
+    Acts (turn.Over s) used c1 c' mid new → IsEndOf s e → StepsTo e used before now old new c c'
+over_steps ending.Waits s used before now old mid new c c1 c' k a e = absurd e
+over_steps (ending.Over t) s used before now old mid new c c1 c' k a e =
+    let d = over_acts s used c1 c' mid new e.1 a in
+    let P : Status → Type 0 = λ x. IsEnd x × IsOverWith c'.stage x × Leads used before now old new c c' in
+    subst P (sym e.0) (d.0, d.2, keeps_leads used before now old mid new c c1 c' k d.1)
+over_steps (ending.Cut f) s used before now old mid new c c1 c' k a e =
+    let P : Flaw → Type 0 = λ x. Stops (flaw_status x) used before now old c in
+    subst P (sym e.1) (λ ins rest first r.
+        let g = k ins (in_texts used ++ rest) first r in memory_shows ins (in_texts used ++ rest) first now mid g.machine g.going)
 
--- memory ran out before the record was used
-pub over_take_cuts : (r : Result Status Flaw) (s : Status) (entry : In) (now : Outside) (old : Logged) (m : Machine) → IsEndOf s r → IfErr r (λ f. TakeCuts f entry now now old m)
-over_take_cuts (Ok t) s entry now old m e = tt
-over_take_cuts (Err f) s entry now old m e =
-    let P : Flaw → Type 0 = λ x. TakeCuts x entry now now old m in
-    subst P (sym e.1) (λ ins first g. (
-      [],
-      inl refl,
-      subst (λ xs. Cut xs first now) (sym (append-nil ins)) (going_cut ins first now now old m (Passes-nothing now) g),
-    ))
+-- the log couldn't be written out, behind a run that went on
+pub cut_stops : (s : Status) (used : List In) (before mid now : Outside) (old log : Logged) (c c1 : Seen) → Keeps before mid old log c c1 → CutsAll s mid now log →
+    Stops s used before now old c
+cut_stops s used before mid now old log c c1 k x = λ ins rest first r.
+    let g = k ins (in_texts used ++ rest) first r in x (in_texts used ++ rest) ins first g.machine g.going
 
--- the run goes on behind the record that was used
-pub grown_leads : (r : Result Status Flaw) (used : List In) (now later : Outside) (old mid new : Logged) (m m1 m' : Machine) → Grows used m m1 old mid →
-    IfOk r (λ t. IsEnd t × IsLeft m'.phase t × Keeps now later mid new m1 m') → IfOk r (λ t. IsEnd t × IsLeft m'.phase t × Leads used now later old new m m')
-grown_leads r used now later old mid new m m1 m' g k =
-    if_ok r (λ t. IsEnd t × IsLeft m'.phase t × Keeps now later mid new m1 m') (λ t. IsEnd t × IsLeft m'.phase t × Leads used now later old new m m')
-    (λ t d. (d.0, d.1, λ ins first h. d.2 (ins ++ used) first (going_grows used ins first now old mid m m1 g h))) k
+-- a run that goes on where it went on
+pub keeps_nothing : (now : Outside) (log : Logged) (c : Seen) → Keeps now now log log c c
+keeps_nothing now log c = λ ins held first r. r
 
-pub grown_cuts : (r : Result Status Flaw) (entry : In) (now later : Outside) (old mid : Logged) (m m1 : Machine) → Grows (entry ∷ []) m m1 old mid →
-    IfErr r (λ f. Cuts f now later mid m1) → IfErr r (λ f. TakeCuts f entry now later old m)
-grown_cuts r entry now later old mid m m1 g k =
-    if_err r (λ f. Cuts f now later mid m1) (λ f. TakeCuts f entry now later old m)
-    (λ f d. λ ins first h. (entry ∷ [], inr refl, d (ins ++ entry ∷ []) first (going_grows (entry ∷ []) ins first now old mid m m1 g h))) k
+-- the step goes on behind the record that was used
+pub after_steps : (e : StepEnd) (used : List In) (before mid now : Outside) (old log new : Logged) (c c1 c' : Seen) → Leads used before mid old log c c1 →
+    StepsTo e [] mid now log new c1 c' → StepsTo e used before now old new c c'
+after_steps ending.Waits used before mid now old log new c c1 c' l s =
+    (s.0, λ ins rest first r. subst (λ xs. Goes xs rest first now new c') (append-nil (ins ++ used)) (s.1 (ins ++ used) rest first (l ins rest first r)))
+after_steps (ending.Over t) used before mid now old log new c c1 c' l s =
+    (s.0, s.1, λ ins rest first r. subst (λ xs. Goes xs rest first now new c') (append-nil (ins ++ used)) (s.2 (ins ++ used) rest first (l ins rest first r)))
+after_steps (ending.Cut f) used before mid now old log new c c1 c' l s = λ ins rest first r. s (ins ++ used) rest first (l ins rest first r)

@@ -1,12 +1,10 @@
--- With no fault and memory enough, the status of a run is the one that the machine gives.
-use Rattle.std.specs.Prelude.{◌≡◌, ℕ, List, [], ◌∷◌, ◌++◌, Some, IsSome}
-use Rattle.nb_terms.specs.declared.cause.Cause.{Cause}
-use Rattle.nb_defs.specs.Records.{Start, start, IsIn, in_text, Out}
-use Rattle.nb_defs.specs.Machine.{Machine, left, Path, status_of}
+-- With no fault and memory enough, a run ends as the machine does.
+use Rattle.std.specs.Prelude.{◌≡◌, ℕ, ◌<◌, List, [], ◌∷◌, length, Some, IsSome}
+use Rattle.nb_defs.specs.Records.{Start, In, start, IsIn, in_texts}
 use Rattle.nb_record.specs.Outside.{Outside, Rose}
-use Rattle.nb_boot.specs.StatusNumber.{number_of}
-use Rattle.nb_boot.specs.declared.status.Status.{Status}
-use Rattle.nb_boot.specs.declared.status.Status.TheVariants as status
+use Rattle.nb_boot.specs.Run.{IsOther}
+use Rattle.nb_engine.specs.declared.status.Status.{Status}
+use Rattle.nb_engine.specs.declared.status.Status.TheVariants as status
 
 -- the words were of no form
 abbrev pub IsBadWords : Status → Type 0
@@ -18,17 +16,29 @@ pub record NoneRose (before after : Outside) : Type 0 where
   pub read : Rose before.read_faults after.read_faults → ⊥
   pub write : Rose before.write_faults after.write_faults → ⊥
 
--- the machine's run on this START leaves the first script with a cause of this status
-pub record IsMachineStatus (s : Start) (number : ℕ) : Type 0 where
-  pub outs : List Out
-  pub machine : Machine
-  pub cause : Cause
-  pub path : Path (start s ∷ []) outs machine
-  pub is_left : machine.phase ≡ left cause
-  pub status_is : number ≡ status_of cause
+-- records with a spelling, none of them a START
+abbrev pub AreOthers : List In → Type 0
+AreOthers [] = Unit {0}
+AreOthers (r ∷ rs) = IsIn r × IsOther r × AreOthers rs
 
--- where the input begins with a START, the line tells what is left, no count rose and memory sufficed,
--- the status is the machine's
+-- The script handed off, was left, or did not come to its end; or there are more records than numbers for
+-- them. What the script did, the run shows by the machine's path.
+abbrev pub IsMachines : Status → (count : ℕ) → Type 0
+IsMachines status.HandedOff count = Unit {0}
+IsMachines status.Ended count = Unit {0}
+IsMachines status.ScriptFailed count = Unit {0}
+IsMachines status.Unfinished count = Unit {0}
+IsMachines status.TooManyRecords count = 4294967295 < count
+IsMachines status.BadWords count = ⊥
+IsMachines status.BadRecord count = ⊥
+IsMachines status.ReadFault count = ⊥
+IsMachines status.WriteFault count = ⊥
+IsMachines status.NoMemory count = ⊥
+IsMachines status.AttachFault count = ⊥
+
+-- where the whole input is the spelling of a START and other records, the line tells what is left, no count
+-- rose and memory sufficed, the status is the machine's
 abbrev pub Completes : Status → Outside → Outside → Type 0
-Completes result before after = (s : Start) (more : List ℕ) → IsIn (start s) → before.left ≡ Some (in_text (start s) ++ more) →
-    IsSome after.left → NoneRose before after → (result ≡ status.NoMemory → ⊥) → IsMachineStatus s (number_of result)
+Completes result before after = (s : Start) (others : List In) → IsIn (start s) → AreOthers others →
+    before.left ≡ Some (in_texts (start s ∷ others)) → IsSome after.left → NoneRose before after → (result ≡ status.NoMemory → ⊥) →
+    IsMachines result (length (start s ∷ others))

@@ -1,5 +1,6 @@
 -- What a read brings to the feed.
-use Rattle.std.specs.Prelude.{◌≡◌, ℕ, ◌<◌, List, [], ◌++◌, length}
+use Rattle.std.specs.Prelude.{◌≡◌, ℕ, ◌<◌, Bool, true, false, List, [], ◌++◌, length}
+use Rattle.nb_defs.specs.Records.{IsPartial}
 use Rattle.nb_record.specs.Outside.{Outside, Passes, Rose, IsAtEnd}
 use Rattle.nb_record.specs.Bytes.{Held}
 use Rattle.nb_boot.specs.declared.feeding.Fetched.{Fetched}
@@ -16,3 +17,8 @@ abbrev pub Fetches : Fetched → Held → Held → Outside → Outside → Type 
 Fetches fetched.More old new before now = Brings old new before now
 Fetches fetched.Ended old new before now = (new ≡ old) × Passes before now [] [] × IsAtEnd now
 Fetches fetched.Fault old new before now = (new ≡ old) × Passes before now [] [] × Rose before.read_faults now.read_faults
+
+-- what is held is a front of a longer record, or isn't
+abbrev pub TellsPartial : Bool → List ℕ → Type 0
+TellsPartial true bytes = IsPartial bytes
+TellsPartial false bytes = IsPartial bytes → ⊥

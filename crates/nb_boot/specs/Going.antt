@@ -1,49 +1,48 @@
--- A run that goes on: what its client stands for, what was written, and what the log still holds.
-use Rattle.std.specs.Prelude.{◌≡◌, ℕ, false, ◌⊎◌, List, [], ◌∷◌, ◌++◌, Result, Ok, Err}
-use Rattle.nb_defs.specs.Records.{In, in_texts, Out, out_texts}
-use Rattle.nb_defs.specs.Machine.{Machine, Path}
-use Rattle.nb_record.specs.Outside.{Outside, Passes, Rose}
+-- A run that goes on: what was read and written, what the log still holds, and what its client stands for.
+use Rattle.std.specs.Prelude.{◌≡◌, ℕ, ◌+◌, Bool, true, false, List, [], ◌∷◌, ◌++◌, length, Option, Some, None}
+use Rattle.nb_defs.specs.Records.{In, in_texts, Out, out_texts, IsPartial}
+use Rattle.nb_engine.specs.Machine.{Machine, Path, fresh}
+use Rattle.nb_engine.specs.Seen.{Seen, StandsFor}
+use Rattle.nb_engine.specs.Turns.{IsEnd, IsWaiting, IsOverWith}
+use Rattle.nb_record.specs.Outside.{Outside, Passes, Rose, IsAtEnd}
 use Rattle.nb_record.specs.Logged.{Logged}
-use Rattle.nb_boot.specs.Run.{Closes, Shows}
-use Rattle.nb_boot.specs.declared.status.Status.{Status}
-use Rattle.nb_boot.specs.declared.status.Status.TheVariants as status
+use Rattle.nb_boot.specs.Run.{Shows, IsBetween, IsFirst, IsOther}
+use Rattle.nb_engine.specs.declared.status.Status.{Status}
+use Rattle.nb_engine.specs.declared.status.Status.TheVariants as status
 use Rattle.nb_boot.specs.declared.output.Flaw.{Flaw}
 use Rattle.nb_boot.specs.declared.output.Flaw.TheVariants as flaw
+use Rattle.nb_boot.specs.declared.feeding.Filled.{Filled}
+use Rattle.nb_boot.specs.declared.feeding.Filled.TheVariants as filled
+use Rattle.nb_boot.specs.declared.play.StepEnd.{StepEnd}
+use Rattle.nb_boot.specs.declared.play.StepEnd.TheVariants as ending
 
--- the records used led the machine here, and their output was written, or stands in the log
-pub record Going (ins : List In) (before now : Outside) (log : Logged) (m : Machine) : Type 0 where
+-- The records used led the machine here, and their output was written, or stands in the log. Of what was
+-- read these bytes are held.
+pub record Going (ins : List In) (held : List ℕ) (first now : Outside) (log : Logged) (m : Machine) : Type 0 where
   pub outs : List Out
   pub written : List ℕ
   pub lost : List ℕ
-  pub passes : Passes before now [] written
+  pub passes : Passes first now (in_texts ins ++ held) written
   pub path : Path ins outs m
   pub texts : out_texts outs ≡ (written ++ log.bytes) ++ lost
   pub whole : log.is_short ≡ false → lost ≡ []
 
--- a run that was cut short: a front of its output was written, DONE included where it is over
-pub record Cut (ins : List In) (before now : Outside) : Type 0 where
-  pub outs : List Out
+-- a run that goes on with a client, which stands for its state
+pub record Goes (ins : List In) (held : List ℕ) (first now : Outside) (log : Logged) (c : Seen) : Type 0 where
   pub machine : Machine
-  pub closing : List Out
-  pub written : List ℕ
-  pub lost : List ℕ
-  pub passes : Passes before now [] written
-  pub path : Path ins outs machine
-  pub closes : (rest : List ℕ) (o : Outside) → Closes machine rest o closing
-  pub texts : out_texts (outs ++ closing) ≡ written ++ lost
+  pub stands : StandsFor c machine
+  pub going : Going ins held first now log machine
 
--- a run that was cut short for this
-abbrev pub IsCut : Flaw → List In → Outside → Outside → Type 0
-IsCut flaw.WriteFault ins before now = Cut ins before now × Rose before.write_faults now.write_faults
-IsCut flaw.NoMemory ins before now = Cut ins before now
+-- a run that goes on behind so many records
+pub record Waits (count : ℕ) (held : List ℕ) (first now : Outside) (log : Logged) (c : Seen) : Type 0 where
+  pub ins : List In
+  pub counted : length ins ≡ count
+  pub goes : Goes ins held first now log c
 
--- whatever run went on before, it goes on afterwards
-abbrev pub Keeps : Outside → Outside → Logged → Logged → Machine → Machine → Type 0
-Keeps before now old new m m' = (ins : List In) (first : Outside) → Going ins first before old m → Going ins first now new m'
-
--- whatever run went on before was cut short for this
-abbrev pub Cuts : Flaw → Outside → Outside → Logged → Machine → Type 0
-Cuts f before now old m = (ins : List In) (first : Outside) → Going ins first before old m → IsCut f ins first now
+-- the status of a flaw
+abbrev pub flaw_status : Flaw → Status
+flaw_status flaw.WriteFault = status.WriteFault
+flaw_status flaw.NoMemory = status.NoMemory
 
 -- all the bytes were written
 abbrev pub Wrote : Outside → Outside → List ℕ → Type 0
@@ -62,26 +61,85 @@ abbrev pub IsFlaw : Flaw → Outside → Outside → Logged → Type 0
 IsFlaw flaw.WriteFault before after log = (log.is_short ≡ false) × Stopped before after log.bytes
 IsFlaw flaw.NoMemory before after log = Passes before after [] []
 
--- the status of a flaw
-abbrev pub flaw_status : Flaw → Status
-flaw_status flaw.WriteFault = status.WriteFault
-flaw_status flaw.NoMemory = status.NoMemory
+-- whatever run went on before, it goes on afterwards, with this held of what was read
+abbrev pub Holds : List ℕ → List ℕ → Outside → Outside → Logged → Logged → Type 0
+Holds held held' before now old new =
+    (ins : List In) (first : Outside) (m : Machine) → Going ins held first before old m → Going ins held' first now new m
 
--- whatever run went on before, with these records used it goes on afterwards
-abbrev pub Leads : List In → Outside → Outside → Logged → Logged → Machine → Machine → Type 0
-Leads used before now old new m m' = (ins : List In) (first : Outside) → Going ins first before old m → Going (ins ++ used) first now new m'
+-- whatever run went on before, this is its status
+abbrev pub Cuts : Status → List ℕ → Outside → Outside → Logged → Type 0
+Cuts s held before now old = (ins : List In) (first : Outside) (m : Machine) → Going ins held first before old m → Shows s first now
 
--- The run of these records, whose first write came behind `first`, is over with this status: whatever was
--- read before, up to a rest, spelled them.
-abbrev pub Closed : List In → Outside → Status → Outside → Type 0
-Closed ins first s now = (init : Outside) (read rest : List ℕ) → Passes init first read [] → read ≡ in_texts ins ++ rest → Shows s init now
+-- the same, of any bytes held
+abbrev pub CutsAll : Status → Outside → Outside → Logged → Type 0
+CutsAll s before now old = (held : List ℕ) → Cuts s held before now old
+
+-- what a read brings to a run between two steps
+abbrev pub Fills : Filled → List ℕ → List ℕ → Outside → Outside → Logged → Logged → Type 0
+Fills filled.More held held' before now old new = Holds held held' before now old new
+Fills filled.Ended held held' before now old new = Holds held held' before now old new × IsPartial held' × IsAtEnd now
+Fills filled.Fault held held' before now old new =
+    (ins : List In) (first : Outside) (m : Machine) → IsBetween m.phase → Going ins held first before old m → Shows status.ReadFault first now
+Fills (filled.Cut f) held held' before now old new = Cuts (flaw_status f) held before now old
+
+-- From a client to another, by these records of those held: whatever run went on before goes on afterwards.
+abbrev pub Leads : List In → Outside → Outside → Logged → Logged → Seen → Seen → Type 0
+Leads used before now old new c c' =
+    (ins : List In) (rest : List ℕ) (first : Outside) → Goes ins (in_texts used ++ rest) first before old c → Goes (ins ++ used) rest first now new c'
+
+-- whatever run of a client went on before, with these records held, this is its status
+abbrev pub Stops : Status → List In → Outside → Outside → Logged → Seen → Type 0
+Stops s used before now old c =
+    (ins : List In) (rest : List ℕ) (first : Outside) → Goes ins (in_texts used ++ rest) first before old c → Shows s first now
+
+-- how a step ends, with these records used: a command waits, the run is over, or it was cut short
+abbrev pub StepsTo : StepEnd → List In → Outside → Outside → Logged → Logged → Seen → Seen → Type 0
+StepsTo ending.Waits used before now old new c c' = IsWaiting c'.stage × Leads used before now old new c c'
+StepsTo (ending.Over s) used before now old new c c' = IsEnd s × IsOverWith c'.stage s × Leads used before now old new c c'
+StepsTo (ending.Cut f) used before now old new c c' = Stops (flaw_status f) used before now old c
 
 -- a turn's status: the run's, or want of memory
-abbrev pub IsEndOf : Status → Result Status Flaw → Type 0
-IsEndOf s (Ok t) = (t ≡ s) × (s ≡ status.NoMemory → ⊥)
-IsEndOf s (Err f) = (s ≡ status.NoMemory) × (f ≡ flaw.NoMemory)
+abbrev pub IsEndOf : Status → StepEnd → Type 0
+IsEndOf s ending.Waits = ⊥
+IsEndOf s (ending.Over t) = (t ≡ s) × (s ≡ status.NoMemory → ⊥)
+IsEndOf s (ending.Cut f) = (s ≡ status.NoMemory) × (f ≡ flaw.NoMemory)
 
--- the run of a record was cut short: before it was used, or behind it
-abbrev pub TakeCuts : Flaw → In → Outside → Outside → Logged → Machine → Type 0
-TakeCuts f r before now old m = (ins : List In) (first : Outside) → Going ins first before old m →
-    (n : List In) × ((n ≡ []) ⊎ (n ≡ r ∷ [])) × IsCut f (ins ++ n) first now
+-- a record was used and a command waits, or the run is over with this status
+abbrev pub Uses : Option Status → In → Outside → Outside → Logged → Logged → Seen → Seen → Type 0
+Uses None r before now old new c c' = IsWaiting c'.stage × Leads (r ∷ []) before now old new c c'
+Uses (Some s) r before now old new c c' = Stops s (r ∷ []) before now old c
+
+-- one record more was used and a command waits, or the run is over with this status
+abbrev pub UsesNext : Option Status → List ℕ → List ℕ → Outside → Outside → Logged → Logged → Seen → Seen → Type 0
+UsesNext None held held' before now old new c c' =
+    IsWaiting c'.stage × ((n : ℕ) (first : Outside) → Waits n held first before old c → Waits (n + 1) held' first now new c')
+UsesNext (Some s) held held' before now old new c c' =
+    (n : ℕ) (first : Outside) → Waits n held first before old c → Shows s first now
+
+-- the statuses that DONE tells
+abbrev pub IsClosing : Status → Type 0
+IsClosing status.HandedOff = Unit {0}
+IsClosing status.Ended = Unit {0}
+IsClosing status.ScriptFailed = Unit {0}
+IsClosing status.Unfinished = Unit {0}
+IsClosing status.BadRecord = Unit {0}
+IsClosing status.TooManyRecords = Unit {0}
+IsClosing _ = ⊥
+
+-- a client was made, and used START: a command waits
+abbrev pub Opens : List ℕ → List ℕ → Outside → Outside → Logged → Logged → Seen → Type 0
+Opens held held' before now old new c = IsWaiting c.stage × ((first : Outside) → Going [] held first before old fresh → Waits 1 held' first now new c)
+
+-- the run is over, before START or in its step
+abbrev pub Refuses : Status → List ℕ → Outside → Outside → Logged → Type 0
+Refuses s held before now old = (first : Outside) → Going [] held first before old fresh → Shows s first now
+
+-- whether a record is a START
+abbrev pub TellsFirst : Bool → In → Type 0
+TellsFirst true r = IsFirst r
+TellsFirst false r = IsOther r
+
+-- the status of a run whose input ended where a command waits: no byte is left, or a front of a record
+abbrev pub IsAtRest : Status → List ℕ → Type 0
+IsAtRest s [] = s ≡ status.Unfinished
+IsAtRest s (b ∷ bytes) = s ≡ status.BadRecord

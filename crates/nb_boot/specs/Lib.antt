@@ -1,12 +1,5 @@
-pub mod StatusNumber
 pub mod Words
-pub mod CommandWords
-pub mod Advance
-pub mod NextLine
-pub mod Stages
-pub mod Turns
 pub mod Run
 pub mod Going
 pub mod Fetch
 pub mod Complete
-pub mod Laws

@@ -1,22 +1,87 @@
 -- What a call of `netboot` shows: records used, records written, and what its status says of them.
-use Rattle.std.specs.Prelude.{◌≡◌, ℕ, ◌⊎◌, List, [], ◌∷◌, ◌++◌}
+use Rattle.std.specs.Prelude.{◌≡◌, ℕ, ◌<◌, ◌⊎◌, List, [], ◌∷◌, ◌++◌, length}
 use Rattle.nb_terms.specs.declared.cause.Cause.{Cause}
-use Rattle.nb_defs.specs.Records.{In, in_texts, IsPartial, IsBroken, Out, out_texts, done}
-use Rattle.nb_defs.specs.Machine.{Machine, ready, left, at, Path, status_of}
+use Rattle.nb_defs.specs.Records.{In, start, frame, tick, off, IsIn, in_text, in_texts, IsPartial, IsBroken, Out, out_texts, done}
+use Rattle.nb_engine.specs.Machine.{Machine, Phase, ready, running, waiting, handing, left, handed_off, stopped, Path, status_of, shutdown_records}
 use Rattle.nb_record.specs.Outside.{Outside, Passes, Rose, IsAtEnd}
-use Rattle.nb_boot.specs.declared.status.Status.{Status}
-use Rattle.nb_boot.specs.declared.status.Status.TheVariants as status
+use Rattle.nb_engine.specs.declared.status.Status.{Status}
+use Rattle.nb_engine.specs.declared.status.Status.TheVariants as status
 
--- Behind the records used no record can come: what is there begins none, or the input ended there,
--- before a record or inside it.
-abbrev pub IsBadRest : List ℕ → Outside → Type 0
-IsBadRest rest o = IsBroken rest ⊎ (IsPartial rest × IsAtEnd o)
+-- a command waits
+abbrev pub Awaits : Phase → Type 0
+Awaits ready = ⊥
+Awaits (running w s) = ⊥
+Awaits (waiting w s o) = Unit {0}
+Awaits (handing rest) = ⊥
+Awaits (left cause) = ⊥
+Awaits handed_off = ⊥
+Awaits stopped = ⊥
 
--- What closes an output: nothing while the run goes on, DONE with the run's status where it is over.
+-- no step is under way, and the run isn't over: the next record may come
+abbrev pub IsBetween : Phase → Type 0
+IsBetween ready = Unit {0}
+IsBetween (running w s) = ⊥
+IsBetween (waiting w s o) = Unit {0}
+IsBetween (handing rest) = ⊥
+IsBetween (left cause) = ⊥
+IsBetween handed_off = ⊥
+IsBetween stopped = ⊥
+
+-- a record other than START
+abbrev pub IsOther : In → Type 0
+IsOther (start s) = ⊥
+IsOther (frame bytes) = Unit {0}
+IsOther (tick ms) = Unit {0}
+IsOther off = Unit {0}
+
+-- a START
+abbrev pub IsFirst : In → Type 0
+IsFirst (start s) = Unit {0}
+IsFirst (frame bytes) = ⊥
+IsFirst (tick ms) = ⊥
+IsFirst off = ⊥
+
+-- the bytes begin with a record of this kind
+pub record BeginsWith (bytes : List ℕ) (Kind : In → Type 0) : Type 0 where
+  pub entry : In
+  pub valid : IsIn entry
+  pub kind : Kind entry
+  pub more : List ℕ
+  pub spelled : bytes ≡ in_text entry ++ more
+
+-- Behind the records used no record may come. What is there begins none; or another than START comes
+-- first, or the input ended before START. Where a command waits: a second START comes, or the input ended
+-- inside a record.
+abbrev pub IsBadRest : Phase → List ℕ → Outside → Type 0
+IsBadRest ready rest o = IsBroken rest ⊎ (BeginsWith rest IsOther ⊎ (IsPartial rest × IsAtEnd o))
+IsBadRest (waiting w s open1) rest o = IsBroken rest ⊎ (BeginsWith rest IsFirst ⊎ (IsPartial rest × (0 < length rest) × IsAtEnd o))
+IsBadRest (running w s) rest o = ⊥
+IsBadRest (handing left1) rest o = ⊥
+IsBadRest (left cause) rest o = ⊥
+IsBadRest handed_off rest o = ⊥
+IsBadRest stopped rest o = ⊥
+
+-- Why a run of the machine that has come here is over, with what is left behind the records used, and the
+-- number of its status.
+pub data Ends (m : Machine) (rest : List ℕ) (o : Outside) (number : ℕ) : Type 0 where
+  -- the first script was left
+  was_left : (cause : Cause) → m.phase ≡ left cause → number ≡ status_of cause → Ends m rest o number
+  -- all was handed off
+  was_handed : m.phase ≡ handed_off → number ≡ 0 → Ends m rest o number
+  -- the power was switched off
+  was_stopped : m.phase ≡ stopped → number ≡ 5 → Ends m rest o number
+  -- the input was used to its end, where a command waits
+  ran_out : Awaits m.phase → rest ≡ [] → IsAtEnd o → number ≡ 5 → Ends m rest o number
+  -- no record may come
+  was_bad : m.used < 4294967295 → IsBadRest m.phase rest o → number ≡ 6 → Ends m rest o number
+  -- every record number was given, a command waits, and another byte follows
+  was_full : m.used ≡ 4294967295 → Awaits m.phase → 0 < length rest → number ≡ 11 → Ends m rest o number
+
+-- What closes an output: nothing while the run goes on; where it is over, the end of the open that a
+-- command waits for, and DONE with the run's status.
 pub data Closes : Machine → List ℕ → Outside → List Out → Type 0 where
   goes_on : (m : Machine) (rest : List ℕ) (o : Outside) → Closes m rest o []
-  is_left : (n : ℕ) (cause : Cause) (rest : List ℕ) (o : Outside) → Closes (at n (left cause)) rest o (done (status_of cause) ∷ [])
-  is_bad : (n : ℕ) (rest : List ℕ) (o : Outside) → IsBadRest rest o → Closes (at n ready) rest o (done 6 ∷ [])
+  is_over : (m : Machine) (rest : List ℕ) (o : Outside) (number : ℕ) → Ends m rest o number → Closes m rest o (shutdown_records m.phase ++ done number ∷ [])
 
 -- The records used are those that the bytes read spell, up to a rest; the records written are the script
 -- machine's path on them, with what closes it; the bytes taken are a front of their spelling.
@@ -35,42 +100,33 @@ pub record Run (before after : Outside) : Type 0 where
   pub closes : Closes machine rest after closing
   pub texts : out_texts (outs ++ closing) ≡ written ++ lost
 
--- the run is over: the first script was left with a cause of this status, and all was taken, DONE last
+-- the run is over, for a cause of this number, and all was taken, DONE last
 pub record IsOver (before after : Outside) (r : Run before after) (number : ℕ) : Type 0 where
-  pub cause : Cause
-  pub is_left : r.machine.phase ≡ left cause
-  pub status_is : number ≡ status_of cause
-  pub closed : r.closing ≡ done number ∷ []
+  pub ends : Ends r.machine r.rest after number
+  pub closed : r.closing ≡ shutdown_records r.machine.phase ++ done number ∷ []
   pub all : r.lost ≡ []
 
--- the run goes on, and no record can come; all was taken, DONE last
-pub record IsBad (before after : Outside) (r : Run before after) : Type 0 where
-  pub is_ready : r.machine.phase ≡ ready
-  pub bad : IsBadRest r.rest after
-  pub closed : r.closing ≡ done 6 ∷ []
-  pub all : r.lost ≡ []
-
--- a read failed while the run goes on: every whole record read was used, and their whole output was taken
+-- a read failed between two steps: every whole record read was used, and their whole output was taken
 pub record IsUnread (before after : Outside) (r : Run before after) : Type 0 where
-  pub is_ready : r.machine.phase ≡ ready
+  pub between : IsBetween r.machine.phase
   pub partial : IsPartial r.rest
   pub closed : r.closing ≡ []
   pub all : r.lost ≡ []
   pub rose : Rose before.read_faults after.read_faults
 
--- what a status says of a run; those that no run has today say the impossible
+-- what a status says of a run
 abbrev pub Says : Status → (before after : Outside) → Run before after → Type 0
+Says status.HandedOff before after r = IsOver before after r 0
 Says status.Ended before after r = IsOver before after r 3
 Says status.ScriptFailed before after r = IsOver before after r 4
-Says status.BadRecord before after r = IsBad before after r
+Says status.Unfinished before after r = IsOver before after r 5
+Says status.BadRecord before after r = IsOver before after r 6
+Says status.TooManyRecords before after r = IsOver before after r 11
 Says status.ReadFault before after r = IsUnread before after r
 Says status.WriteFault before after r = Rose before.write_faults after.write_faults
 Says status.NoMemory before after r = Unit {0}
 Says status.AttachFault before after r = (r.read ≡ []) × (r.written ≡ []) × Rose before.attach_faults after.attach_faults
-Says status.HandedOff before after r = ⊥
 Says status.BadWords before after r = ⊥
-Says status.Unfinished before after r = ⊥
-Says status.TooManyRecords before after r = ⊥
 
 -- a call shows a run of which its status is true
 abbrev pub Shows : Status → Outside → Outside → Type 0

@@ -1,24 +1,17 @@
-// The top call: `netboot` reads records from a line, runs the script of START, and writes records.
+// The top call: `netboot` reads records from a line, runs the script of START over them, and writes records.
 // Its contract is the program's theorem: what was read spells the records used, what was written
-// spells the script machine's path, and every status has its cause. It leaves out all records but
-// START and all commands but `echo` and `exit`. Begin with `netboot` in top.rt, then `Client`.
+// spells the script machine's path, and every status has its cause. What scripts and commands it runs,
+// nb_engine says; it leaves out `live` and `lab`. Begin with `netboot` in top.rt, then `serve`.
 #![tactic(auto)]
 
-mod causes;
-mod client;
-mod command;
+mod begin;
 mod feeding;
-mod laws;
-mod number;
 mod output;
 mod play;
-mod running;
-mod status;
 #[cfg(test)]
 mod tests;
 mod top;
+mod turn;
 
-pub use client::{Client, Turn};
-pub use laws::one_run;
-pub use status::Status;
+pub use nb_engine::Status;
 pub use top::netboot;

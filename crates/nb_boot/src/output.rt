@@ -1,6 +1,5 @@
-ghost use Rattle.std.specs.Prelude.{◌≡◌, ◌≤◌, [], false, length, OnOk, OnErr, IfErr};
-ghost use Rattle.nb_boot.specs.Going.{Wrote, Stopped, IsFlaw, Keeps, Cuts, flaw_status};
-ghost use Rattle.nb_defs.specs.Machine.{Machine};
+ghost use Rattle.std.specs.Prelude.{◌≡◌, ◌≤◌, [], false, length, List, ℕ, OnOk, OnErr, IfErr};
+ghost use Rattle.nb_boot.specs.Going.{Wrote, Stopped, IsFlaw, Holds, CutsAll, flaw_status};
 
 use crate::Status;
 use nb_record::{Failed, Line, Log};
@@ -57,15 +56,18 @@ pub fn flush<L: Line>(log: &mut Log, line: &mut L) -> Result<(), Flaw>
     }
 }
 
-/// How much of the log's room may be used before it is written out: no line of a script puts more than
-/// the rest.
-const FULL: usize = 49_152;
+/// How many bytes of output are gathered before they are written. One call of the client puts at most half
+/// of the room behind those that may stay: the longest are a piece of a hand-off, and a command's records.
+pub const ROOM: usize = 196_608;
 
-/// Writes out what the log gathered where the next line's output may not fit behind it.
+/// How much of the log's room may be used before it is written out.
+const FULL: usize = 65_536;
+
+/// Writes out what the log gathered where the next call's output may not fit behind it.
 pub fn make_room<L: Line>(log: &mut Log, line: &mut L) -> Result<(), Flaw>
-    ensures ok { OnOk result ((m : Machine) → Keeps (L.outside line.old) (L.outside line.new) log.old log.new m m) }
-    ensures room { OnOk result (length log.new.bytes ≤ 49152) }
-    ensures err { IfErr result (λ flaw. (m : Machine) → Cuts flaw (L.outside line.old) (L.outside line.new) log.old m) }
+    ensures ok { OnOk result ((held : List ℕ) → Holds held held (L.outside line.old) (L.outside line.new) log.old log.new) }
+    ensures room { OnOk result (length log.new.bytes ≤ 65536) }
+    ensures err { IfErr result (λ flaw. CutsAll (flaw_status flaw) (L.outside line.old) (L.outside line.new) log.old) }
 {
     if log.bytes().len() <= FULL {
         return Ok(());

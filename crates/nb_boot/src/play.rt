@@ -1,70 +1,82 @@
-ghost use Rattle.std.specs.Prelude.{◌≡◌, List, [], ◌∷◌, IfOk, IfErr};
+ghost use Rattle.std.specs.Prelude.{◌≡◌, ◌<◌, ◌-◌, ◌^◌, ℕ, List, [], ◌∷◌};
 ghost use Rattle.nb_defs.specs.Records.{In, IsIn};
 ghost use Rattle.nb_record.specs.Outside.{Outside};
 ghost use Rattle.nb_record.specs.View.{in_of};
-ghost use Rattle.nb_defs.specs.Machine.{fresh};
-ghost use Rattle.nb_boot.specs.Turns.{IsRunning, IsLeft, IsEnd};
-ghost use Rattle.nb_boot.specs.Going.{Keeps, Leads, Cuts, TakeCuts, Closed, IsEndOf, Going};
+ghost use Rattle.nb_engine.specs.StatusNumber.{number_of};
+ghost use Rattle.nb_engine.specs.Machine.{Machine};
+ghost use Rattle.nb_engine.specs.Seen.{StandsFor};
+ghost use Rattle.nb_engine.specs.Turns.{IsBusy, MayUse};
+ghost use Rattle.nb_boot.specs.Run.{Ends, Shows};
+ghost use Rattle.nb_boot.specs.Going.{StepsTo, IsEndOf, Uses, Going, IsClosing};
 
+use crate::Status;
 use crate::output::{Flaw, flush, make_room};
-use crate::{Client, Status, Turn};
-use nb_record::{InRec, Line, Log, NoMemory};
-use std::alloc::Global;
+use nb_engine::{Client, Turn};
+use nb_record::{InRec, Line, Log};
 
-/// The status of a turn that ended the run, or want of memory.
-fn end_of(status: Status) -> Result<Status, Flaw>
+/// How the step of a record ended.
+#[derive(Clone, Copy, Debug, PartialEq, Eq)]
+pub enum StepEnd {
+    /// A command waits.
+    Waits,
+    /// The run is over.
+    Over(Status),
+    /// The output couldn't be written, or memory ran out.
+    Cut(Flaw),
+}
+
+/// The end of a step with which the run ended, or want of memory.
+fn end_of(status: Status) -> StepEnd
     ensures { IsEndOf status result }
 {
     match status {
-        Status::NoMemory => Err(Flaw::NoMemory),
-        other => Ok(other),
+        Status::NoMemory => StepEnd::Cut(Flaw::NoMemory),
+        other => StepEnd::Over(other),
     }
 }
 
-/// Does line after line until the run is over, and writes output whenever the log is nearly full.
-fn go_on<L: Line>(client: &mut Client, log: &mut Log, line: &mut L) -> Result<Status, Flaw>
-    requires { IsRunning client.old.phase }
-    ensures ok { IfOk result (λ status. IsEnd status × IsLeft client.new.phase status
-        × Keeps (L.outside line.old) (L.outside line.new) log.old log.new client.old client.new) }
-    ensures err { IfErr result (λ flaw. Cuts flaw (L.outside line.old) (L.outside line.new) log.old client.old) }
+/// Goes on until the step is over, and writes output whenever the log is nearly full.
+fn go_on<L: Line>(client: &mut Client, log: &mut Log, line: &mut L) -> StepEnd
+    requires { IsBusy client.old.stage }
+    ensures { StepsTo result [] (L.outside line.old) (L.outside line.new) log.old log.new client.old client.new }
 {
-    'lines: loop {
+    'moves: loop {
         match make_room(log, line) {
             Ok(()) => {}
-            Err(flaw) => return Err(flaw),
+            Err(flaw) => return StepEnd::Cut(flaw),
         }
         match client.more(log) {
             Turn::More => {}
+            Turn::Waiting => return StepEnd::Waits,
             Turn::Over(status) => return end_of(status),
         }
     }
 }
 
-/// Uses a record, and goes on until its step, and with it the run, is over.
-fn take<L: Line>(
-    client: &mut Client,
-    entry: &InRec<'_>,
-    log: &mut Log,
-    line: &mut L,
-) -> Result<Status, Flaw>
-    requires first { client.old ≡ fresh }
+/// Uses a record, and goes on until its step is over.
+fn take<L: Line>(client: &mut Client, entry: &InRec<'_>, log: &mut Log, line: &mut L) -> StepEnd
     requires valid { IsIn (in_of entry.now) }
-    ensures ok { IfOk result (λ status. IsEnd status × IsLeft client.new.phase status
-        × Leads (in_of entry.now ∷ []) (L.outside line.old) (L.outside line.new) log.old log.new client.old client.new) }
-    ensures err { IfErr result (λ flaw. TakeCuts flaw (in_of entry.now) (L.outside line.old) (L.outside line.new) log.old client.old) }
+    requires fits { MayUse (in_of entry.now) client.old.stage }
+    requires few { client.old.used < 2 ^ 32 - 1 }
+    ensures { StepsTo result (in_of entry.now ∷ []) (L.outside line.old) (L.outside line.new) log.old log.new client.old client.new }
 {
+    match make_room(log, line) {
+        Ok(()) => {}
+        Err(flaw) => return StepEnd::Cut(flaw),
+    }
     match client.step(entry, log) {
         Turn::More => go_on(client, log, line),
+        Turn::Waiting => StepEnd::Waits,
         Turn::Over(status) => end_of(status),
     }
 }
 
-/// Puts DONE, and writes the rest of the output.
-fn finish<L: Line>(client: &mut Client, status: Status, log: &mut Log, line: &mut L) -> Status
-    requires end { IsEnd status }
-    requires left { IsLeft client.old.phase status }
-    ensures { (ins : List In) (first : Outside) → Going ins first (L.outside line.old) log.old client.old
-        → Closed ins first result (L.outside line.new) }
+/// Ends a run: puts the end of an open that is left, and DONE, and writes the rest of the output.
+pub fn finish<L: Line>(client: &mut Client, status: Status, log: &mut Log, line: &mut L) -> Status
+    requires { IsClosing status }
+    ensures { (ins : List In) (rest : List ℕ) (first : Outside) (m : Machine) → StandsFor client.old m
+        → Going ins rest first (L.outside line.old) log.old m → Ends m rest (L.outside line.old) (number_of status)
+        → Shows result first (L.outside line.new) }
 {
     client.finish(status, log);
     match flush(log, line) {
@@ -73,18 +85,21 @@ fn finish<L: Line>(client: &mut Client, status: Status, log: &mut Log, line: &mu
     }
 }
 
-/// Plays the first record: makes a client, uses the record, and ends the run.
-pub fn play<L: Line>(alloc: Global, entry: &InRec<'_>, log: &mut Log, line: &mut L) -> Status
+/// Uses a record. Where the run is over with its step, it ends it, and says its status.
+pub fn use_record<L: Line>(
+    client: &mut Client,
+    entry: &InRec<'_>,
+    log: &mut Log,
+    line: &mut L,
+) -> Option<Status>
     requires valid { IsIn (in_of entry.now) }
-    requires empty { log.old.bytes ≡ [] }
-    ensures { Closed (in_of entry.now ∷ []) (L.outside line.old) result (L.outside line.new) }
+    requires fits { MayUse (in_of entry.now) client.old.stage }
+    requires few { client.old.used < 2 ^ 32 - 1 }
+    ensures { Uses result (in_of entry.now) (L.outside line.old) (L.outside line.new) log.old log.new client.old client.new }
 {
-    let InRec::Start(start) = entry;
-    match Client::new(alloc, start) {
-        Ok(mut client) => match take(&mut client, entry, log, line) {
-            Ok(status) => finish(&mut client, status, log, line),
-            Err(flaw) => flaw.status(),
-        },
-        Err(NoMemory) => Status::NoMemory,
+    match take(client, entry, log, line) {
+        StepEnd::Waits => None,
+        StepEnd::Over(status) => Some(finish(client, status, log, line)),
+        StepEnd::Cut(flaw) => Some(flaw.status()),
     }
 }

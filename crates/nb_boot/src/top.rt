@@ -1,19 +1,16 @@
-ghost use Rattle.std.specs.Prelude.{◌≡◌, ◌↔◌, ℕ, List, [], false, true, map, length, IfOk, IfSome, is_some};
+ghost use Rattle.std.specs.Prelude.{◌≡◌, ◌↔◌, [], false, true, map, length, IfOk, IfSome, is_some};
 ghost use Rattle.std.specs.String.{string_bytes};
-ghost use Rattle.nb_record.specs.Outside.{Outside, Passes};
-ghost use Rattle.nb_boot.specs.Run.{Shows, IsBadRest};
+ghost use Rattle.nb_boot.specs.Run.{Shows};
 ghost use Rattle.nb_boot.specs.Words.{is_replay, NamesFiles};
 ghost use Rattle.nb_boot.specs.Complete.{Completes, IsBadWords};
 
 use crate::Status;
-use crate::feeding::{Fetched, PIECE, fetch};
-use crate::output::flush;
-use crate::play::play;
-use nb_record::{Feed, Front, Line, Log, NoMemory, OutRec, Target};
+use crate::begin::begin;
+use crate::feeding::PIECE;
+use crate::output::ROOM;
+use crate::turn::{last, turn};
+use nb_record::{Feed, Line, Log, NoMemory, Target};
 use std::alloc::Global;
-
-/// How many bytes of output are gathered before they are written.
-const ROOM: usize = 65_536;
 
 /// What a run needs beside its client: the feed, a piece of input, the log.
 #[derive(Drop)]
@@ -27,7 +24,7 @@ struct Session {
 fn open(alloc: Global) -> Result<Session, NoMemory>
     ensures feed { IfOk result (λ s. s.feed ≡ record { bytes = []; passed = 0 }) }
     ensures piece { IfOk result (λ s. length s.piece.items ≡ 65536) }
-    ensures log { IfOk result (λ s. s.log ≡ record { bytes = []; room = 65536; is_short = false }) }
+    ensures log { IfOk result (λ s. s.log ≡ record { bytes = []; room = 196608; is_short = false }) }
 {
     Ok(Session {
         feed: Feed::new(alloc)?,
@@ -36,20 +33,7 @@ fn open(alloc: Global) -> Result<Session, NoMemory>
     })
 }
 
-/// Ends a run in which no record can come: DONE alone is written.
-fn refuse<L: Line>(log: &mut Log, line: &mut L) -> Status
-    requires { log.old.bytes ≡ [] }
-    ensures { (init : Outside) (read : List ℕ) → Passes init (L.outside line.old) read [] → IsBadRest read (L.outside line.old)
-        → Shows result init (L.outside line.new) }
-{
-    log.put(&OutRec::Done(Status::BadRecord.number()));
-    match flush(log, line) {
-        Ok(()) => Status::BadRecord,
-        Err(flaw) => flaw.status(),
-    }
-}
-
-/// Reads until the first record is whole, and plays it.
+/// Uses record after record, until the run is over.
 fn serve<L: Line>(
     alloc: Global,
     feed: &mut Feed,
@@ -62,18 +46,18 @@ fn serve<L: Line>(
     requires no_output { log.old.bytes ≡ [] }
     ensures { Shows result (L.outside line.old) (L.outside line.new) }
 {
-    'reads: loop {
-        match feed.front() {
-            Front::Whole(entry, _) => return play(alloc, &entry, log, line),
-            Front::Broken(_) => return refuse(log, line),
-            Front::Partial => {}
-        }
-        match fetch(feed, piece, line) {
-            Fetched::More => {}
-            Fetched::Ended => return refuse(log, line),
-            Fetched::Fault => return Status::ReadFault,
+    let mut client = match begin(alloc, feed, piece, log, line) {
+        Ok(client) => client,
+        Err(status) => return status,
+    };
+    let mut used: u32 = 1;
+    'records: while used < u32::MAX {
+        match turn(&mut client, feed, piece, log, line) {
+            None => used += 1,
+            Some(status) => return status,
         }
     }
+    last(&mut client, feed, piece, log, line)
 }
 
 /// Runs what is attached.

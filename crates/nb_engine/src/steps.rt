@@ -104,7 +104,7 @@ impl Client {
 
     /// What a frame brings the open that a command waits for: the port of its server and the datagram's body.
     fn heard<'a>(&self, taken: Taken<'a>) -> Option<(u16, &'a [u8])>
-        ensures { option_map (λ m. (m.0, m.1.now)) result ≡ heard_at self.now.stage (outcome taken) }
+        ensures { option_map (λ m. (m.0, m.1.now)) result ≡ heard_at self.now.stage (outcome taken.entry) }
     {
         let Taken::To {
             src,

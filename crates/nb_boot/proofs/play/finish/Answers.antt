@@ -1,17 +1,25 @@
 use Rattle.std.proofs.Common.{sym, subst}
-use Rattle.nb_boot.specs.declared.status.Status.{Status}
-use Rattle.nb_boot.specs.Going.{Closed}
-use Rattle.nb_boot.proofs.Closings.{closed_over, closed_flaw}
+use Rattle.nb_defs.specs.Records.{out_texts}
+use Rattle.nb_record.specs.Logged.{Puts}
+use Rattle.nb_engine.specs.StatusNumber.{number_of}
+use Rattle.nb_engine.specs.declared.status.Status.{Status}
+use Rattle.nb_boot.specs.Run.{Shows}
+use Rattle.nb_boot.proofs.Standing.{closing_is}
+use Rattle.nb_boot.proofs.Closings.{closing, over_shows, flaw_shows}
 use Rattle.nb_boot.proofs.play.finish.Goals as goal
 
 pub returns-in-Ok : goal.returns-in-Ok
-returns-in-Ok g c = λ ins first r.
-    closed_over ins first (g.L.Line.outside c.args.line.now) (g.L.Line.outside c.flush.new.line) c.args.log.now c.finish.new.log
-    c.args.client.now.used c.args.client.now.phase c.args.status r c.requires.end c.requires.left c.finish.ensures.puts c.in-Ok.ensures.whole c.in-Ok.ensures.ok
+returns-in-Ok g c = λ ins rest first m st r e.
+    let puts : Puts c.args.log.now c.finish.new.log (out_texts (closing m (number_of c.args.status))) =
+    subst (λ k. Puts c.args.log.now c.finish.new.log (out_texts k)) (closing_is c.args.client.now m (number_of c.args.status) st) c.finish.ensures.puts in
+    over_shows c.args.status ins rest first (g.L.Line.outside c.args.line.now) (g.L.Line.outside c.flush.new.line) c.args.log.now c.finish.new.log m
+    c.requires r puts c.in-Ok.ensures.whole c.in-Ok.ensures.ok e
 
 pub returns-in-Err : goal.returns-in-Err
-returns-in-Err g c = λ ins first r.
-    let P : Status → Type 0 = λ s. Closed ins first s (g.L.Line.outside c.flush.new.line) in
+returns-in-Err g c = λ ins rest first m st r e.
+    let puts : Puts c.args.log.now c.finish.new.log (out_texts (closing m (number_of c.args.status))) =
+    subst (λ k. Puts c.args.log.now c.finish.new.log (out_texts k)) (closing_is c.args.client.now m (number_of c.args.status) st) c.finish.ensures.puts in
+    let P : Status → Type 0 = λ s. Shows s first (g.L.Line.outside c.flush.new.line) in
     subst P (sym c.status.ensures)
-    (closed_flaw c.in-Err.flaw ins first (g.L.Line.outside c.args.line.now) (g.L.Line.outside c.flush.new.line) c.args.log.now c.finish.new.log
-    c.args.client.now.used c.args.client.now.phase c.args.status r c.requires.left c.finish.ensures.puts c.in-Err.ensures.err)
+    (flaw_shows c.in-Err.flaw ins rest first (g.L.Line.outside c.args.line.now) (g.L.Line.outside c.flush.new.line) c.args.log.now c.finish.new.log m
+    (number_of c.args.status) r puts c.in-Err.ensures.err e)

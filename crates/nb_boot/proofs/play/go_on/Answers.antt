@@ -1,25 +1,42 @@
-use Rattle.nb_boot.proofs.Turned.{grow_keeps, over_keeps, over_cuts}
+use Rattle.std.proofs.Common.{[]}
+use Rattle.nb_boot.specs.Going.{flaw_status}
+use Rattle.nb_boot.proofs.Turned.{keeps_nothing, keeps_log, keeps_then, grow_keeps, keeps_leads, over_steps, cut_stops}
 use Rattle.nb_boot.proofs.play.go_on.Goals as goal
 
-pub returns-in-Err-clause-err : goal.returns-in-Err-clause-err
-returns-in-Err-clause-err g c = λ ins first r. c.in-Err.ensures.err c.lines.client ins first (c.lines.invariant.1 ins first r)
+pub moves-init : goal.moves-init
+moves-init g c = (c.requires, keeps_nothing (g.L.Line.outside c.args.line.now) c.args.log.now c.args.client.now)
 
-pub lines-preserved : goal.lines-preserved
-lines-preserved g c = (
-  c.in-More.ensures.does.1,
-  λ ins first r.
-      grow_keeps ins first (g.L.Line.outside c.make_room.new.line) c.make_room.new.log c.more.new.log c.lines.client c.more.new.self c.in-More.ensures.does.0
-      (c.in-Ok.ensures.ok c.lines.client ins first (c.lines.invariant.1 ins first r)),
-)
+pub returns-in-Err : goal.returns-in-Err
+returns-in-Err g c =
+    cut_stops (flaw_status c.in-Err.flaw) [] (g.L.Line.outside c.args.line.now) (g.L.Line.outside c.moves.line) (g.L.Line.outside c.make_room.new.line)
+    c.args.log.now c.moves.log c.args.client.now c.moves.client c.moves.invariant.1 c.in-Err.ensures.err
 
-pub returns-in-Over-clause-ok : goal.returns-in-Over-clause-ok
-returns-in-Over-clause-ok g c =
-    over_keeps c.end_of.result c.in-Over.status (g.L.Line.outside c.args.line.now) (g.L.Line.outside c.make_room.new.line) c.args.log.now c.make_room.new.log c.more.new.log
-    c.args.client.now c.lines.client c.more.new.self
-    (λ ins first r. c.in-Ok.ensures.ok c.lines.client ins first (c.lines.invariant.1 ins first r)) c.in-Over.ensures.does c.end_of.ensures
+pub moves-preserved : goal.moves-preserved
+moves-preserved g c =
+    let first = g.L.Line.outside c.args.line.now in
+    let now = g.L.Line.outside c.make_room.new.line in
+    let kept = keeps_then first (g.L.Line.outside c.moves.line) now c.args.log.now c.moves.log c.make_room.new.log c.args.client.now c.moves.client c.moves.client
+    c.moves.invariant.1 (keeps_log (g.L.Line.outside c.moves.line) now c.moves.log c.make_room.new.log c.moves.client c.in-Ok.ensures.ok) in (
+      c.in-More.ensures.does.1,
+      keeps_then first now now c.args.log.now c.make_room.new.log c.more.new.log c.args.client.now c.moves.client c.more.new.self
+          kept (grow_keeps now c.make_room.new.log c.more.new.log c.moves.client c.more.new.self c.in-More.ensures.does.0),
+    )
 
-pub returns-in-Over-clause-err : goal.returns-in-Over-clause-err
-returns-in-Over-clause-err g c =
-    over_cuts c.end_of.result c.in-Over.status (g.L.Line.outside c.args.line.now) (g.L.Line.outside c.make_room.new.line) c.args.log.now c.make_room.new.log
-    c.args.client.now c.lines.client
-    (λ ins first r. c.in-Ok.ensures.ok c.lines.client ins first (c.lines.invariant.1 ins first r)) c.end_of.ensures
+pub returns-in-Waiting : goal.returns-in-Waiting
+returns-in-Waiting g c =
+    let first = g.L.Line.outside c.args.line.now in
+    let now = g.L.Line.outside c.make_room.new.line in
+    let kept = keeps_then first (g.L.Line.outside c.moves.line) now c.args.log.now c.moves.log c.make_room.new.log c.args.client.now c.moves.client c.moves.client
+    c.moves.invariant.1 (keeps_log (g.L.Line.outside c.moves.line) now c.moves.log c.make_room.new.log c.moves.client c.in-Ok.ensures.ok) in (
+      c.in-Waiting.ensures.does.1,
+      keeps_leads [] first now c.args.log.now c.make_room.new.log c.more.new.log c.args.client.now c.moves.client c.more.new.self kept c.in-Waiting.ensures.does.0,
+    )
+
+pub returns-in-Over : goal.returns-in-Over
+returns-in-Over g c =
+    let first = g.L.Line.outside c.args.line.now in
+    let now = g.L.Line.outside c.make_room.new.line in
+    let kept = keeps_then first (g.L.Line.outside c.moves.line) now c.args.log.now c.moves.log c.make_room.new.log c.args.client.now c.moves.client c.moves.client
+    c.moves.invariant.1 (keeps_log (g.L.Line.outside c.moves.line) now c.moves.log c.make_room.new.log c.moves.client c.in-Ok.ensures.ok) in
+    over_steps c.end_of.result c.in-Over.status [] first now c.args.log.now c.make_room.new.log c.more.new.log c.args.client.now c.moves.client c.more.new.self
+    kept c.in-Over.ensures.does c.end_of.ensures

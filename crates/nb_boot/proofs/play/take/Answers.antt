@@ -1,22 +1,41 @@
 use Rattle.std.proofs.Common.{[], ◌∷◌}
 use Rattle.nb_record.specs.View.{in_of}
-use Rattle.nb_boot.proofs.Turned.{over_leads, over_take_cuts, grown_leads, grown_cuts}
+use Rattle.nb_boot.specs.Going.{flaw_status}
+use Rattle.nb_boot.proofs.Turned.{keeps_nothing, keeps_log, keeps_leads, over_steps, cut_stops, after_steps}
 use Rattle.nb_boot.proofs.play.take.Goals as goal
 
-pub returns-in-More-clause-ok : goal.returns-in-More-clause-ok
-returns-in-More-clause-ok g c =
-    grown_leads c.go_on.result (in_of c.args.entry.now ∷ []) _ _ c.args.log.now c.step.new.log c.go_on.new.log c.args.client.now c.step.new.self c.go_on.new.client
-    c.in-More.ensures.0 c.go_on.ensures.ok
+pub returns-in-Err : goal.returns-in-Err
+returns-in-Err g c =
+    let now = g.L.Line.outside c.args.line.now in
+    cut_stops (flaw_status c.in-Err.flaw) (in_of c.args.entry.now ∷ []) now now (g.L.Line.outside c.make_room.new.line)
+    c.args.log.now c.args.log.now c.args.client.now c.args.client.now (keeps_nothing now c.args.log.now c.args.client.now) c.in-Err.ensures.err
 
-pub returns-in-More-clause-err : goal.returns-in-More-clause-err
-returns-in-More-clause-err g c =
-    grown_cuts c.go_on.result (in_of c.args.entry.now) _ _ c.args.log.now c.step.new.log c.args.client.now c.step.new.self c.in-More.ensures.0 c.go_on.ensures.err
+pub returns-in-More : goal.returns-in-More
+returns-in-More g c =
+    let used = in_of c.args.entry.now ∷ [] in
+    let first = g.L.Line.outside c.args.line.now in
+    let now = g.L.Line.outside c.make_room.new.line in
+    let kept = keeps_log first now c.args.log.now c.make_room.new.log c.args.client.now c.in-Ok.ensures.ok in
+    after_steps c.go_on.result used first now (g.L.Line.outside c.go_on.new.line) c.args.log.now c.step.new.log c.go_on.new.log
+    c.args.client.now c.step.new.self c.go_on.new.client
+    (keeps_leads used first now c.args.log.now c.make_room.new.log c.step.new.log c.args.client.now c.args.client.now c.step.new.self kept c.in-More.ensures.0)
+    c.go_on.ensures
 
-pub returns-in-Over-clause-ok : goal.returns-in-Over-clause-ok
-returns-in-Over-clause-ok g c =
-    over_leads c.end_of.result c.in-Over.status (in_of c.args.entry.now ∷ []) (g.L.Line.outside c.args.line.now) c.args.log.now c.step.new.log c.args.client.now c.step.new.self
-    c.in-Over.ensures c.end_of.ensures
+pub returns-in-Waiting : goal.returns-in-Waiting
+returns-in-Waiting g c =
+    let used = in_of c.args.entry.now ∷ [] in
+    let first = g.L.Line.outside c.args.line.now in
+    let now = g.L.Line.outside c.make_room.new.line in
+    let kept = keeps_log first now c.args.log.now c.make_room.new.log c.args.client.now c.in-Ok.ensures.ok in (
+      c.in-Waiting.ensures.1,
+      keeps_leads used first now c.args.log.now c.make_room.new.log c.step.new.log c.args.client.now c.args.client.now c.step.new.self kept c.in-Waiting.ensures.0,
+    )
 
-pub returns-in-Over-clause-err : goal.returns-in-Over-clause-err
-returns-in-Over-clause-err g c =
-    over_take_cuts c.end_of.result c.in-Over.status (in_of c.args.entry.now) (g.L.Line.outside c.args.line.now) c.args.log.now c.args.client.now c.end_of.ensures
+pub returns-in-Over : goal.returns-in-Over
+returns-in-Over g c =
+    let used = in_of c.args.entry.now ∷ [] in
+    let first = g.L.Line.outside c.args.line.now in
+    let now = g.L.Line.outside c.make_room.new.line in
+    let kept = keeps_log first now c.args.log.now c.make_room.new.log c.args.client.now c.in-Ok.ensures.ok in
+    over_steps c.end_of.result c.in-Over.status used first now c.args.log.now c.make_room.new.log c.step.new.log c.args.client.now c.args.client.now c.step.new.self
+    kept c.in-Over.ensures c.end_of.ensures

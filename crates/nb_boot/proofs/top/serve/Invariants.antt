@@ -1,11 +1,12 @@
-use Rattle.std.proofs.Common.{◌≡◌, ◌-◌, [], length}
-use Rattle.nb_record.specs.Outside.{Passes}
+use Rattle.std.proofs.Common.{◌≤◌, ◌-◌}
+use Rattle.nb_engine.specs.Turns.{IsWaiting}
+use Rattle.nb_boot.specs.Going.{Waits}
 use Rattle.nb_boot.proofs.top.serve.Given as goal
 
--- what the feed holds was read, and nothing was written
-abbrev pub invariant-reads : goal.invariant-reads
-invariant-reads g l = (l.log ≡ l.fn.log) × Passes (g.L.Line.outside l.fn.line) (g.L.Line.outside l.line) l.feed.bytes []
+-- a command waits behind so many records
+abbrev pub invariant-records : goal.invariant-records
+invariant-records g l = (l.used ≤ 4294967295) × IsWaiting l.client.stage
+    × Waits l.used l.feed.bytes (g.L.Line.outside l.fn.line) (g.L.Line.outside l.line) l.log l.client
 
--- a record has at most 131,076 bytes
-abbrev pub decreases-reads : goal.decreases-reads
-decreases-reads g l = 131076 - length l.feed.bytes
+abbrev pub decreases-records : goal.decreases-records
+decreases-records g l = 4294967295 - l.used

@@ -20,10 +20,10 @@ returns c =
     let send = c.requires.udp.0 in
     let items = c.requires.udp.1 in
     let r = runs_at c.self.inside.stage (λ s. s.passed ≤ 4096) (subst (λ (y : Seen). IfRunning y.stage (λ s. s.passed ≤ 4096)) (sym c.self.view_is) c.requires.line) in
-    let route = subst (λ (xs : List SendTo). IfOne xs (λ m. c.put_request.result ≡ has_route x.world.net m)) items c.put_request.ensures.route in
-    let puts = subst (λ (xs : List SendTo). IfOne xs (λ m. Puts c.args.log.now c.put_request.new.log (out_texts (send_records x.world.net f.number acts.tried m)))) items c.put_request.ensures.puts in
-    let followed = subst (λ (st : Stage). IfRunning st (λ s. Followed c.put_request.result c.follow.result s f x c.follow.new.self c.put_request.new.log c.follow.new.log)) r.is c.follow.ensures in
-    let asked = asked_by c.put_request.result c.follow.result c.args.log.now c.put_request.new.log c.follow.new.log r.script f acts send x c.follow.new.self route puts followed in
+    let route = subst (λ (xs : List SendTo). IfOne xs (λ m. c.put_request-found.result ≡ has_route x.world.net m)) items c.put_request-found.ensures.route in
+    let puts = subst (λ (xs : List SendTo). IfOne xs (λ m. Puts c.args.log.now c.put_request-found.new.log (out_texts (send_records x.world.net f.number acts.tried m)))) items c.put_request-found.ensures.puts in
+    let followed = subst (λ (st : Stage). IfRunning st (λ s. Followed c.put_request-found.result c.follow.result s f x c.follow.new.self c.put_request-found.new.log c.follow.new.log)) r.is c.follow.ensures in
+    let asked = asked_by c.put_request-found.result c.follow.result c.args.log.now c.put_request-found.new.log c.follow.new.log r.script f acts send x c.follow.new.self route puts followed in
     let one = subst (λ (xs : List SendTo). IfOne xs (λ m. Asked c.follow.result r.script f acts m x c.follow.new.self c.args.log.now c.follow.new.log)) (sym items) asked in
     let all : IfRunning x.stage (λ s. Asks c.follow.result s f acts x c.follow.new.self c.args.log.now c.follow.new.log) =
     subst (λ (st : Stage). IfRunning st (λ s. Asks c.follow.result s f acts x c.follow.new.self c.args.log.now c.follow.new.log)) (sym r.is) one in

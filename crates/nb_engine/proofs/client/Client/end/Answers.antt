@@ -36,10 +36,11 @@ returns-in-Ok c =
     let concludes = c.conclude-in-Ok.ensures in
     let same : comes ≡ conclusion_of c.in-Ok.conclusion c.conclude.new.images = c.in-Ok.ensures.concludes.same in
     let tail : Puts c.put_over.new.log c.conclude-in-Ok.new.log (out_texts (conclusion_records c.in-Waiting.script.depth comes)) = rw same concludes.puts in
-    let rest : List Out = (ended g.number cause ∷ []) ++ conclusion_records c.in-Waiting.script.depth comes in
-    let over : Puts c.put_acts.new.log c.conclude-in-Ok.new.log (out_texts rest) = Puts-outs (ended g.number cause ∷ []) (conclusion_records c.in-Waiting.script.depth comes) c.put_over.ensures tail in
-    let both : Puts c.put_step.new.log c.conclude-in-Ok.new.log (out_texts (acts_records w.net g.number acts ++ rest)) = Puts-outs (acts_records w.net g.number acts) rest c.put_acts.ensures.puts over in
-    let puts : Puts c.args.log.now c.conclude-in-Ok.new.log (out_texts (step n ∷ (acts_records w.net g.number acts ++ rest))) = Puts-outs (step n ∷ []) (acts_records w.net g.number acts ++ rest) c.put_step.ensures both in
+    let front : List Out = acts_records w.net g.number acts ++ (ended g.number cause ∷ []) in
+    let over : Puts c.put_step.new.log c.put_over.new.log (out_texts front) = Puts-outs (acts_records w.net g.number acts) (ended g.number cause ∷ []) c.put_acts.ensures.puts c.put_over.ensures in
+    let both : Puts c.put_step.new.log c.conclude-in-Ok.new.log (out_texts (front ++ conclusion_records c.in-Waiting.script.depth comes)) = Puts-outs front (conclusion_records c.in-Waiting.script.depth comes) over tail in
+    let puts : Puts c.args.log.now c.conclude-in-Ok.new.log (out_texts (step n ∷ (front ++ conclusion_records c.in-Waiting.script.depth comes))) =
+    Puts-outs (step n ∷ []) (front ++ conclusion_records c.in-Waiting.script.depth comes) c.put_step.ensures both in
     let net_is : c.unbind.new.self ≡ (unbound w g.own_port).net = c.unbind.ensures ∙ ap (λ (x : Client). (unbound (record { w = w.w; time = w.time; net = x; opens = w.opens; images = w.images }) g.own_port).net) c.put_acts.ensures.same in
     let stands : StandsFor c.conclude-in-Ok.new.self (at n (phase_after (unbound w g.own_port) c.in-Waiting.script comes)) =
     subst (λ p. StandsFor c.conclude-in-Ok.new.self (at n p))

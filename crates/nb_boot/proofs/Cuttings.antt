@@ -1,0 +1,92 @@
+-- How a run is cut short between two records of its output.
+use Rattle.std.proofs.Common.{ℕ, false, List, [], ◌++◌, refl, sym, ◌∙◌, ap, append-nil, append_assoc}
+use Rattle.nb_defs.specs.Records.{In, in_texts, IsPartial, out_texts}
+use Rattle.nb_record.specs.Outside.{Outside, Passes, Rose}
+use Rattle.nb_record.specs.Logged.{Logged}
+use Rattle.nb_record.proofs.OutsideLemmas.{Passes-nothing}
+use Rattle.nb_engine.specs.Machine.{Machine}
+use Rattle.nb_engine.specs.declared.status.Status.TheVariants as status
+use Rattle.nb_boot.specs.Run.{Run, Shows, IsBetween, goes_on}
+use Rattle.nb_boot.specs.Going.{Going, Stopped, IsFlaw, CutsAll, flaw_status}
+use Rattle.nb_boot.specs.declared.output.Flaw.{Flaw}
+use Rattle.nb_boot.specs.declared.output.Flaw.TheVariants as flaw
+use Rattle.nb_boot.proofs.Goings.{passes_wrote}
+use Rattle.nb_boot.proofs.Written.{rose_later}
+
+-- a write failed: a front of the output was written
+abbrev pub stopped_run : (ins : List In) (held : List ℕ) (first before now : Outside) (log : Logged) (m : Machine) → Stopped before now log.bytes →
+    Going ins held first before log m → Run first now
+stopped_run ins held first before now log m s r = record {
+  ins = ins;
+  outs = r.outs;
+  machine = m;
+  rest = held;
+  closing = [];
+  read = in_texts ins ++ held;
+  written = r.written ++ s.part;
+  lost = s.lost ++ r.lost;
+  passes = passes_wrote first before now (in_texts ins ++ held) r.written s.part r.passes s.passes;
+  spelled = refl;
+  path = r.path;
+  closes = goes_on m held now;
+  texts = ap out_texts (append-nil r.outs) ∙ r.texts ∙ ap (λ t. (r.written ++ t) ++ r.lost) s.fronts
+      ∙ ap (λ t. t ++ r.lost) (sym (append_assoc r.written s.part s.lost)) ∙ append_assoc (r.written ++ s.part) s.lost r.lost;
+}
+
+-- memory ran out: what was written is a front of the output
+abbrev pub short_run : (ins : List In) (held : List ℕ) (first before now : Outside) (log : Logged) (m : Machine) → Passes before now [] [] →
+    Going ins held first before log m → Run first now
+short_run ins held first before now log m p r = record {
+  ins = ins;
+  outs = r.outs;
+  machine = m;
+  rest = held;
+  closing = [];
+  read = in_texts ins ++ held;
+  written = r.written ++ [];
+  lost = log.bytes ++ r.lost;
+  passes = passes_wrote first before now (in_texts ins ++ held) r.written [] r.passes p;
+  spelled = refl;
+  path = r.path;
+  closes = goes_on m held now;
+  texts = ap out_texts (append-nil r.outs) ∙ r.texts ∙ append_assoc r.written log.bytes r.lost ∙ ap (λ t. t ++ (log.bytes ++ r.lost)) (sym (append-nil r.written));
+}
+
+-- a log that couldn't be written out cuts a run short
+pub flaw_cuts : (f : Flaw) (before now : Outside) (log : Logged) → IsFlaw f before now log → CutsAll (flaw_status f) before now log
+flaw_cuts flaw.WriteFault before now log s = λ held ins first m r.
+    (stopped_run ins held first before now log m s.1 r, rose_later first.write_faults before.write_faults now.write_faults r.passes.counts.write_count s.1.rose)
+flaw_cuts flaw.NoMemory before now log p = λ held ins first m r. (short_run ins held first before now log m p r, tt)
+
+-- memory ran out in the client
+pub memory_shows : (ins : List In) (held : List ℕ) (first now : Outside) (log : Logged) (m : Machine) → Going ins held first now log m → Shows status.NoMemory first now
+memory_shows ins held first now log m r = (short_run ins held first now now log m (Passes-nothing now) r, tt)
+
+-- a read failed behind a log that was written out
+pub unread_shows : (ins : List In) (held : List ℕ) (first before now : Outside) (room : ℕ) (m : Machine) → IsBetween m.phase → IsPartial held →
+    Passes before now [] [] → Rose before.read_faults now.read_faults →
+    Going ins held first before (record { bytes = []; room = room; is_short = false }) m → Shows status.ReadFault first now
+unread_shows ins held first before now room m between partial p rose r = (
+  record {
+    ins = ins;
+    outs = r.outs;
+    machine = m;
+    rest = held;
+    closing = [];
+    read = in_texts ins ++ held;
+    written = r.written ++ [];
+    lost = [];
+    passes = passes_wrote first before now (in_texts ins ++ held) r.written [] r.passes p;
+    spelled = refl;
+    path = r.path;
+    closes = goes_on m held now;
+    texts = ap out_texts (append-nil r.outs) ∙ r.texts ∙ ap (λ t. (r.written ++ []) ++ t) (r.whole refl);
+  },
+  record {
+    between = between;
+    partial = partial;
+    closed = refl;
+    all = refl;
+    rose = rose_later first.read_faults before.read_faults now.read_faults r.passes.counts.read_count rose;
+  },
+)

@@ -1,0 +1,108 @@
+-- The records of a run, and a list of records that spells its input.
+use Rattle.std.proofs.Common.{◌≡◌, ℕ, ◌+◌, ◌<◌, List, [], ◌∷◌, ◌++◌, length, refl, ◌∙◌, ap, arith, append_assoc, length-append}
+use Rattle.nb_defs.specs.Records.{In, IsIn, in_text, in_texts, Out}
+use Rattle.nb_defs.proofs.RecordLaws.{in_text_apart, length-in_text}
+use Rattle.nb_tftp.specs.History.{Call, entry}
+use Rattle.nb_engine.specs.declared.world.World.{World}
+use Rattle.nb_engine.specs.Opens.{Open, with_entry}
+use Rattle.nb_engine.specs.Conclusions.{Conclusion, keeps, fails, boots}
+use Rattle.nb_engine.specs.Machine.{Machine, Running, Phase, ready, running, waiting, handing, left, handed_off, stopped, phase_after, concluded, Hears, goes_on, is_over, Path, nothing, uses, moves, Begins, runs, refuses, passes_by, brings, passes_time, switches_off, Move, passes, does, leaves, asks_for, finds_no_route, ends, hands, has_handed}
+use Rattle.nb_engine.specs.World.{unbound}
+use Rattle.nb_boot.specs.Complete.{AreOthers}
+
+-- each has a spelling
+abbrev pub AreIn : List In → Type 0
+AreIn [] = Unit {0}
+AreIn (r ∷ rs) = IsIn r × AreIn rs
+
+are_in_then : (ins : List In) (r : In) → AreIn ins → IsIn r → AreIn (ins ++ r ∷ [])
+are_in_then [] r a v = (v, tt)
+are_in_then (q ∷ qs) r a v = (a.0, are_in_then qs r a.1 v)
+
+begins_in : (m : Machine) (r : In) (added : List Out) (m' : Machine) → Begins m r added m' → IsIn r
+begins_in m r added m' (runs n s valid plain) = valid
+begins_in m r added m' (refuses n s valid plain) = valid
+begins_in m r added m' (passes_by n w s o bytes reply seen net valid t h) = valid
+begins_in m r added m' (brings n w s o bytes reply seen net port body added' phase valid t h k) = valid
+begins_in m r added m' (passes_time n w s o ms added' phase valid h) = valid
+begins_in m r added m' (switches_off n w s o) = tt
+
+-- the records used have spellings
+pub path_in : (ins : List In) (outs : List Out) (m : Machine) → Path ins outs m → AreIn ins
+path_in ins outs m nothing = tt
+path_in ins outs m (uses ins' outs' m0 r added m' p b) = are_in_then ins' r (path_in ins' outs' m0 p) (begins_in m0 r added m' b)
+path_in ins outs m (moves ins' outs' m0 added m' p b) = path_in ins' outs' m0 p
+
+-- how many records were used, by where a run stands: none, or some
+abbrev pub HasUsed : ℕ → Phase → Type 0
+HasUsed n ready = n ≡ 0
+HasUsed n (running w s) = 0 < n
+HasUsed n (waiting w s o) = 0 < n
+HasUsed n (handing rest) = 0 < n
+HasUsed n (left cause) = 0 < n
+HasUsed n handed_off = 0 < n
+HasUsed n stopped = 0 < n
+
+after_used : (n : ℕ) (w : World) (s : Running) (c : Conclusion) → 0 < n → HasUsed n (phase_after w s c)
+after_used n w s (keeps list) h = h
+after_used n w s (fails cause) h = h
+after_used n w s (boots list kernel) h = h
+
+hears_used : (n : ℕ) (w : World) (s : Running) (o : Open) (call : Call) (added : List Out) (phase : Phase) → Hears w s o call added phase → 0 < n → HasUsed n phase
+hears_used n w s o call added phase (goes_on w' s' o' call' acts meets end) h = h
+hears_used n w s o call added phase (is_over w' s' o' call' acts cause meets end) h =
+    after_used n (unbound w' o'.begun.own_port) s' (concluded w' (with_entry o' (entry call' acts)) cause) h
+
+begins_used : (m : Machine) (r : In) (added : List Out) (m' : Machine) → Begins m r added m' → HasUsed m'.used m'.phase
+begins_used m r added m' (runs n s valid plain) = omega arith
+begins_used m r added m' (refuses n s valid plain) = omega arith
+begins_used m r added m' (passes_by n w s o bytes reply seen net valid t h) = omega arith
+begins_used m r added m' (brings n w s o bytes reply seen net port body added' phase valid t h k) = hears_used (n + 1) _ _ _ _ _ phase k (omega arith)
+begins_used m r added m' (passes_time n w s o ms added' phase valid h) = hears_used (n + 1) _ _ _ _ _ phase h (omega arith)
+begins_used m r added m' (switches_off n w s o) = omega arith
+
+move_used : (m : Machine) (added : List Out) (m' : Machine) → Move m added m' → HasUsed m.used m.phase → HasUsed m'.used m'.phase
+move_used m added m' (passes n w s line h g) u = u
+move_used m added m' (does n w s line x xs o h g k l) u = u
+move_used m added m' (leaves n w s line x xs o h g k l) u = u
+move_used m added m' (asks_for n w s line x xs wanted h g k l) u = u
+move_used m added m' (finds_no_route n w s line x xs wanted h g k l) u = u
+move_used m added m' (ends n w s h) u = u
+move_used m added m' (hands n r rest) u = u
+move_used m added m' (has_handed n) u = u
+
+pub path_used : (ins : List In) (outs : List Out) (m : Machine) → Path ins outs m → HasUsed m.used m.phase
+path_used ins outs m nothing = refl
+path_used ins outs m (uses ins' outs' m0 r added m' p b) = begins_used m0 r added m' b
+path_used ins outs m (moves ins' outs' m0 added m' p b) = move_used m0 added m' b (path_used ins' outs' m0 p)
+
+-- the first of these records are those, and the others spell what follows
+pub record Rest (ins all : List In) (tail : List ℕ) : Type 0 where
+  pub more : List In
+  pub are : all ≡ ins ++ more
+  pub spelled : in_texts more ≡ tail
+
+-- records that spell the front of a list's spelling are the first of the list
+pub spelled_rest : (ins all : List In) (tail : List ℕ) → AreIn ins → AreIn all → in_texts all ≡ in_texts ins ++ tail → Rest ins all tail
+spelled_rest [] all tail v w e = record { more = all; are = refl; spelled = e }
+spelled_rest (r ∷ rs) [] tail v w e =
+    absurd (omega (arith, ap length e, length-append (in_texts (r ∷ rs)) tail, length-append (in_text r) (in_texts rs), length-in_text r))
+spelled_rest (r ∷ rs) (q ∷ qs) tail v w e =
+    let both : in_text q ++ in_texts qs ≡ in_text r ++ (in_texts rs ++ tail) = e ∙ append_assoc (in_text r) (in_texts rs) tail in
+    let same = in_text_apart q r (in_texts qs) (in_texts rs ++ tail) w.0 v.0 both in
+    let t = spelled_rest rs qs tail v.1 w.1 same.rest_is in
+    record { more = t.more; are = ap (λ x. x ∷ qs) same.record_is ∙ ap (λ xs. r ∷ xs) t.are; spelled = t.spelled }
+
+pub others_in : (rs : List In) → AreOthers rs → AreIn rs
+others_in [] a = tt
+others_in (r ∷ rs) a = (a.0, others_in rs a.2)
+
+others_behind : (qs more : List In) → AreOthers (qs ++ more) → AreOthers more
+others_behind [] more a = a
+others_behind (q ∷ qs) more a = others_behind qs more a.2
+
+-- behind some records of a list that begins with a START there is none
+pub others_rest : (ins more others : List In) (r : In) → r ∷ others ≡ ins ++ more → 0 < length ins → AreOthers others → AreOthers more
+others_rest [] more others r e h a = absurd (omega (arith, h))
+others_rest (q ∷ qs) more others r e h a =
+    let tails : others ≡ qs ++ more = cc in others_behind qs more (rw (← tails) a)

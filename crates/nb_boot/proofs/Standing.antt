@@ -1,0 +1,124 @@
+-- What is known of the machine's state for which a client stands.
+use Rattle.std.proofs.Common.{◌≡◌, ℕ, ◌+◌, ◌<◌, ◌⊎◌, List, [], ◌∷◌, ◌++◌, length, refl, sym, ◌∙◌, ap, arith, length-append}
+use Rattle.nb_defs.specs.Records.{In, start, frame, tick, off, Out, IsPartial, IsBroken, ended, done}
+use Rattle.nb_record.specs.Outside.{Outside, IsAtEnd}
+use Rattle.nb_record.specs.Logged.{Logged}
+use Rattle.nb_engine.specs.Machine.{Machine, Path, nothing, uses, moves, Begins, runs, refuses, passes_by, brings, passes_time, switches_off, Move, passes, does, leaves, asks_for, finds_no_route, ends, hands, has_handed, shutdown_records, stopped_cause}
+use Rattle.nb_engine.specs.Seen.{Seen, StandsFor, as_ready, as_running, as_waiting, as_handing, as_left, as_handed_off, as_stopped}
+use Rattle.nb_engine.specs.StatusNumber.{number_of}
+use Rattle.nb_engine.specs.Turns.{IsEnd, IsWaiting, IsOverWith, MayUse, closing_records}
+use Rattle.nb_engine.specs.declared.stage.Stage.{Stage}
+use Rattle.nb_engine.specs.declared.status.Status.{Status}
+use Rattle.nb_engine.specs.declared.status.Status.TheVariants as status
+use Rattle.nb_boot.specs.Run.{Awaits, IsBetween, IsOther, IsFirst, BeginsWith, IsBadRest, Ends, was_left, was_handed, was_stopped}
+use Rattle.nb_boot.specs.Going.{Goes, IsClosing}
+
+-- it used as many records
+pub stands_used : (c : Seen) (m : Machine) → StandsFor c m → m.used ≡ c.used
+stands_used c m (as_ready n w) = refl
+stands_used c m (as_running n w s) = refl
+stands_used c m (as_waiting n w s f o live) = refl
+stands_used c m (as_handing n w h rest e) = refl
+stands_used c m (as_left n w cause) = refl
+stands_used c m (as_handed_off n w) = refl
+stands_used c m (as_stopped n w) = refl
+
+begins_counts : (m : Machine) (r : In) (added : List Out) (m' : Machine) → Begins m r added m' → m'.used ≡ m.used + 1
+begins_counts m r added m' (runs n s valid plain) = refl
+begins_counts m r added m' (refuses n s valid plain) = refl
+begins_counts m r added m' (passes_by n w s o bytes reply seen net valid t h) = refl
+begins_counts m r added m' (brings n w s o bytes reply seen net port body added' phase valid t h k) = refl
+begins_counts m r added m' (passes_time n w s o ms added' phase valid h) = refl
+begins_counts m r added m' (switches_off n w s o) = refl
+
+move_counts : (m : Machine) (added : List Out) (m' : Machine) → Move m added m' → m'.used ≡ m.used
+move_counts m added m' (passes n w s line h g) = refl
+move_counts m added m' (does n w s line x xs o h g k l) = refl
+move_counts m added m' (leaves n w s line x xs o h g k l) = refl
+move_counts m added m' (asks_for n w s line x xs wanted h g k l) = refl
+move_counts m added m' (finds_no_route n w s line x xs wanted h g k l) = refl
+move_counts m added m' (ends n w s h) = refl
+move_counts m added m' (hands n r rest) = refl
+move_counts m added m' (has_handed n) = refl
+
+-- the machine counts the records used
+pub path_counts : (ins : List In) (outs : List Out) (m : Machine) → Path ins outs m → m.used ≡ length ins
+path_counts ins outs m nothing = refl
+path_counts ins outs m (uses ins' outs' m0 r added m' p b) =
+    omega (arith, begins_counts m0 r added m' b, path_counts ins' outs' m0 p, length-append ins' (r ∷ []))
+path_counts ins outs m (moves ins' outs' m0 added m' p b) = move_counts m0 added m' b ∙ path_counts ins' outs' m0 p
+
+-- so does its client
+pub goes_counts : (ins : List In) (held : List ℕ) (first now : Outside) (log : Logged) (c : Seen) → Goes ins held first now log c → c.used ≡ length ins
+goes_counts ins held first now log c g = sym (stands_used c g.machine g.stands) ∙ path_counts ins g.going.outs g.machine g.going.path
+
+-- where a client's command waits, the machine's does
+pub stands_awaits : (c : Seen) (m : Machine) → StandsFor c m → IsWaiting c.stage → Awaits m.phase
+stands_awaits c m (as_ready n w) h = absurd h
+stands_awaits c m (as_running n w s) h = absurd h
+stands_awaits c m (as_waiting n w s f o live) h = tt
+stands_awaits c m (as_handing n w x rest e) h = absurd h
+stands_awaits c m (as_left n w cause) h = absurd h
+stands_awaits c m (as_handed_off n w) h = absurd h
+stands_awaits c m (as_stopped n w) h = absurd h
+
+pub stands_between : (c : Seen) (m : Machine) → StandsFor c m → IsWaiting c.stage → IsBetween m.phase
+stands_between c m (as_ready n w) h = absurd h
+stands_between c m (as_running n w s) h = absurd h
+stands_between c m (as_waiting n w s f o live) h = tt
+stands_between c m (as_handing n w x rest e) h = absurd h
+stands_between c m (as_left n w cause) h = absurd h
+stands_between c m (as_handed_off n w) h = absurd h
+stands_between c m (as_stopped n w) h = absurd h
+
+-- no record may come where a command waits
+pub stands_bad : (c : Seen) (m : Machine) (rest : List ℕ) (o : Outside) → StandsFor c m → IsWaiting c.stage →
+    IsBroken rest ⊎ (BeginsWith rest IsFirst ⊎ (IsPartial rest × (0 < length rest) × IsAtEnd o)) → IsBadRest m.phase rest o
+stands_bad c m rest o (as_ready n w) h b = absurd h
+stands_bad c m rest o (as_running n w s) h b = absurd h
+stands_bad c m rest o (as_waiting n w s f op live) h b = b
+stands_bad c m rest o (as_handing n w x left1 e) h b = absurd h
+stands_bad c m rest o (as_left n w cause) h b = absurd h
+stands_bad c m rest o (as_handed_off n w) h b = absurd h
+stands_bad c m rest o (as_stopped n w) h b = absurd h
+
+-- a client whose run is over stands for a machine whose run is
+pub over_ends : (s : Status) (c : Seen) (m : Machine) (rest : List ℕ) (o : Outside) → StandsFor c m → IsOverWith c.stage s → Ends m rest o (number_of s)
+over_ends s c m rest o (as_ready n w) h = absurd h
+over_ends s c m rest o (as_running n w r) h = absurd h
+over_ends s c m rest o (as_waiting n w r f op live) h = absurd h
+over_ends s c m rest o (as_handing n w x left1 e) h = absurd h
+over_ends s c m rest o (as_left n w cause) h = was_left cause refl h
+over_ends s c m rest o (as_handed_off n w) h = was_handed refl (ap number_of h)
+over_ends s c m rest o (as_stopped n w) h = was_stopped refl (ap number_of h)
+
+-- DONE tells the end of a client
+pub end_closes : (s : Status) → IsEnd s → IsClosing s
+end_closes status.HandedOff e = tt
+end_closes status.Ended e = tt
+end_closes status.ScriptFailed e = tt
+end_closes status.Unfinished e = tt
+end_closes status.BadWords e = absurd e
+end_closes status.BadRecord e = absurd e
+end_closes status.ReadFault e = absurd e
+end_closes status.WriteFault e = absurd e
+end_closes status.NoMemory e = absurd e
+end_closes status.AttachFault e = absurd e
+end_closes status.TooManyRecords e = absurd e
+
+-- a client closes what its machine closes
+pub closing_is : (c : Seen) (m : Machine) (number : ℕ) → StandsFor c m → closing_records c.stage number ≡ shutdown_records m.phase ++ done number ∷ []
+closing_is c m number (as_ready n w) = refl
+closing_is c m number (as_running n w s) = refl
+closing_is c m number (as_waiting n w s f o live) = ap (λ k. ended k stopped_cause ∷ done number ∷ []) live.fetch.number
+closing_is c m number (as_handing n w h rest e) = refl
+closing_is c m number (as_left n w cause) = refl
+closing_is c m number (as_handed_off n w) = refl
+closing_is c m number (as_stopped n w) = refl
+
+-- where a command waits, each record but START may be used
+pub may_use : (r : In) (st : Stage) → IsOther r → IsWaiting st → MayUse r st
+may_use (start s) st o w = absurd o
+may_use (frame bytes) st o w = w
+may_use (tick ms) st o w = w
+may_use off st o w = w
