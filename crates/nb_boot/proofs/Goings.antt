@@ -91,8 +91,8 @@ pub going_grows : (used ins : List In) (rest : List ℕ) (first now : Outside) (
     Goes ins (in_texts used ++ rest) first now old c → Goes (ins ++ used) rest first now new c'
 going_grows used ins rest first now old new c c' g r =
     elim (is_either old.is_short) [
-      inl e ↦ grows_short used ins rest first now old new c c' r.machine e g r.stands r.going
-    | inr e ↦ grows_whole used ins rest first now old new c c' r.machine e g r.stands r.going
+      | inl e ↦ grows_short used ins rest first now old new c c' r.machine e g r.stands r.going
+      | inr e ↦ grows_whole used ins rest first now old new c c' r.machine e g r.stands r.going
     ]
 
 -- nothing was read and written yet

@@ -62,7 +62,7 @@ over_steps (ending.Over t) s used before now old mid new c c1 c' k a e =
 over_steps (ending.Cut f) s used before now old mid new c c1 c' k a e =
     let P : Flaw → Type 0 = λ x. Stops (flaw_status x) used before now old c in
     subst P (sym e.1) (λ ins rest first r.
-        let g = k ins (in_texts used ++ rest) first r in memory_shows ins (in_texts used ++ rest) first now mid g.machine g.going)
+    let g = k ins (in_texts used ++ rest) first r in memory_shows ins (in_texts used ++ rest) first now mid g.machine g.going)
 
 -- the log couldn't be written out, behind a run that went on
 pub cut_stops : (s : Status) (used : List In) (before mid now : Outside) (old log : Logged) (c c1 : Seen) → Keeps before mid old log c c1 → CutsAll s mid now log →

@@ -56,8 +56,8 @@ pub fn flush<L: Line>(log: &mut Log, line: &mut L) -> Result<(), Flaw>
     }
 }
 
-/// How many bytes of output are gathered before they are written. One call of the client puts at most half
-/// of the room behind those that may stay: the longest are a piece of a hand-off, and a command's records.
+/// How many bytes of output are gathered at most. One call of the client puts fewer than twice what may stay
+/// before it: a piece of a hand-off has 65,536 bytes, and all its other records some 6,000.
 pub const ROOM: usize = 196_608;
 
 /// How much of the log's room may be used before it is written out.

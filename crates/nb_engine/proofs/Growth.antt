@@ -1,5 +1,5 @@
 -- A client grows by the records of a step.
-use Rattle.std.proofs.Common.{◌≡◌, ℕ, ◌+◌, true, false, Bool, List, [], ◌∷◌, ◌++◌, Option, Some, None, refl, sym, ◌∙◌, ap, subst}
+use Rattle.std.proofs.Common.{◌≡◌, ℕ, ◌+◌, true, false, List, [], ◌∷◌, Some, None, refl, sym, subst}
 use Rattle.nb_defs.specs.Causes.{not_script}
 use Rattle.nb_defs.specs.Records.{Start, In, start, frame, tick, off, IsIn, Out, out_texts, step, enter, leave, ended}
 use Rattle.nb_defs.specs.ScriptText.{is_plain}
@@ -12,17 +12,15 @@ use Rattle.nb_engine.specs.declared.world.World.{World}
 use Rattle.nb_engine.specs.declared.fetch.Fetch.{Fetch}
 use Rattle.nb_engine.specs.declared.stage.Stage.{Stage}
 use Rattle.nb_engine.specs.declared.stage.Stage.TheVariants as stage
-use Rattle.nb_engine.specs.declared.status.Status.{Status}
 use Rattle.nb_engine.specs.declared.status.Status.TheVariants as status
 use Rattle.nb_engine.specs.declared.client.Turn.{Turn}
 use Rattle.nb_engine.specs.declared.client.Turn.TheVariants as turn
 use Rattle.nb_engine.specs.World.{world_of, with_net, later}
 use Rattle.nb_engine.specs.Opens.{Open, heard_from}
-use Rattle.nb_engine.specs.Machine.{Running, Machine, Phase, at, ready, running, waiting, left, stopped, Begins, runs, refuses, passes_by, brings, passes_time, switches_off, first_script, reply_records, stopped_cause}
-use Rattle.nb_engine.specs.Fetches.{IsLive}
-use Rattle.nb_engine.specs.Seen.{Seen, seen, StandsFor, as_running, as_waiting, as_left, as_stopped}
+use Rattle.nb_engine.specs.Machine.{Running, Machine, at, ready, running, waiting, left, stopped, Begins, runs, refuses, passes_by, brings, passes_time, switches_off, first_script, reply_records, stopped_cause}
+use Rattle.nb_engine.specs.Seen.{Seen, seen, as_running, as_waiting, as_left, as_stopped}
 use Rattle.nb_engine.specs.Heeding.{Heeds, Follows, Comes}
-use Rattle.nb_engine.specs.Turns.{Grows, Leads, Acts, IsEnd, IsOverWith}
+use Rattle.nb_engine.specs.Turns.{Grows, Acts}
 use Rattle.nb_engine.proofs.Standing.{stands_at}
 
 -- from a state to the next by a record

@@ -1,8 +1,8 @@
 -- The parts of a hand-off are short, and its records come one after another.
-use Rattle.std.proofs.Common.{◌≡◌, ℕ, zero, suc, ◌+◌, ◌-◌, ◌*◌, ◌/◌, ◌<◌, ◌≤◌, ◌^◌, ◌==◌, true, false, cond, List, [], ◌∷◌, ◌++◌, length, take, drop, map, Option, Some, None, refl, sym, ◌∙◌, ap, subst, arith, add-one}
-use Rattle.std.specs.Prelude.{slice_get, slice_set, unwrap_or, IfSome}
+use Rattle.std.proofs.Common.{◌≡◌, ℕ, zero, suc, ◌+◌, ◌*◌, ◌/◌, ◌<◌, ◌≤◌, ◌^◌, ◌==◌, true, false, cond, List, [], ◌∷◌, ◌++◌, length, take, drop, map, Option, Some, None, refl, sym, ◌∙◌, ap, subst, arith, add-one}
+use Rattle.std.specs.Prelude.{slice_get, slice_set, IfSome}
 use Rattle.std.specs.List.{AllByRecursion, flat_map, remove, enumerate_from}
-use Rattle.std.specs.Option.{option_to_list, option_map}
+use Rattle.std.specs.Option.{option_to_list}
 use Rattle.std.proofs.lemmas.Option.{slice_get_within, none-some, same_Some}
 use Rattle.std.proofs.lemmas.List.{drop-append-le, drop_all, length-take}
 use Rattle.nb_defs.specs.Records.{Out}
@@ -12,7 +12,7 @@ use Rattle.nb_image.specs.Parts.{PartText, PieceText, parts, kernel_parts, initr
 use Rattle.nb_image.proofs.PartsLemmas.{piece_is, pieces_length}
 use Rattle.nb_engine.specs.declared.handing.Handing.{Handing}
 use Rattle.nb_engine.specs.Conclusions.{part_records, piece_record}
-use Rattle.nb_engine.specs.Handings.{IsShort, AreShort, IsAt, records_left}
+use Rattle.nb_engine.specs.Handings.{IsShort, AreShort, IsAt}
 
 -- of all elements of both lists, and of an element
 all_append : {A : Type 0} (P : A → Type 0) (xs ys : List A) → AllByRecursion P xs → AllByRecursion P ys → AllByRecursion P (xs ++ ys)

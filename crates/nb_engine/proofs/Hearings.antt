@@ -1,12 +1,11 @@
 -- What a fetch has heard, for the open that it is of.
-use Rattle.std.proofs.Common.{◌≡◌, ◌⊎◌, inl, inr, ℕ, Bool, true, false, List, [], ◌∷◌, ◌++◌, refl, sym, ◌∙◌, ap}
-use Rattle.nb_tftp.specs.History.{Call, Entry, entry, given, given_of, is_ended}
-use Rattle.nb_tftp.specs.Stands.{Stands}
+use Rattle.std.proofs.Common.{◌≡◌, ◌⊎◌, inl, inr, ℕ, true, List, ◌++◌, sym, ◌∙◌, ap}
+use Rattle.nb_tftp.specs.History.{Call, entry, given, given_of}
 use Rattle.nb_tftp.proofs.HistoryLemmas.{given-append}
 use Rattle.nb_engine.specs.declared.fetch.Fetch.{Fetch}
 use Rattle.nb_engine.specs.declared.fetch.Heard.{Heard}
 use Rattle.nb_engine.specs.Opens.{Open, with_entry, body_of, end_of, is_over_limit}
-use Rattle.nb_engine.specs.Fetches.{IsLive, IsFetchOf, TakesCall}
+use Rattle.nb_engine.specs.Fetches.{IsLive, TakesCall}
 use Rattle.nb_engine.specs.Heeding.{HasHeard}
 
 body_either : (x y z : List ℕ) → y ≡ z → ((x ≡ y) ⊎ (is_over_limit y ≡ true)) → (x ≡ z) ⊎ (is_over_limit z ≡ true)

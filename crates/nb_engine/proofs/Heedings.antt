@@ -1,20 +1,17 @@
 -- What comes of a datagram or a time, by what was heard.
-use Rattle.std.proofs.Common.{◌≡◌, ◌⊎◌, inl, inr, ℕ, ◌≤◌, length, Bool, true, false, cond, ◌||◌, List, [], ◌∷◌, ◌++◌, Option, Some, None, refl, sym, ◌∙◌, ap, subst, append_assoc}
+use Rattle.std.proofs.Common.{◌≡◌, ◌⊎◌, inl, inr, ℕ, ◌≤◌, length, Bool, true, false, cond, List, [], ◌∷◌, ◌++◌, Option, Some, None, refl, sym, ◌∙◌, ap}
 use Rattle.std.specs.Option.{is_some}
-use Rattle.std.specs.List.{list_any}
 use Rattle.nb_terms.specs.declared.cause.Cause.{Cause}
 use Rattle.nb_terms.specs.declared.acts.Acts.{Acts}
-use Rattle.nb_defs.specs.Records.{Out, out_texts, step, ended}
+use Rattle.nb_defs.specs.Records.{out_texts, step, ended}
 use Rattle.nb_record.specs.Logged.{Logged, Puts}
 use Rattle.nb_image.specs.Images.{ImageList, image_of}
-use Rattle.nb_image.specs.declared.image.Image.{Image}
-use Rattle.nb_tftp.specs.History.{Call, Entry, entry, is_ended}
+use Rattle.nb_tftp.specs.History.{Call, entry}
 use Rattle.nb_engine.specs.declared.world.World.{World}
 use Rattle.nb_engine.specs.declared.fetch.Fetch.{Fetch}
 use Rattle.nb_engine.specs.declared.fetch.Heard.{Heard}
 use Rattle.nb_engine.specs.declared.stage.Stage.{Stage}
 use Rattle.nb_engine.specs.declared.stage.Stage.TheVariants as stage
-use Rattle.nb_engine.specs.declared.status.Status.{Status}
 use Rattle.nb_engine.specs.declared.status.Status.TheVariants as status
 use Rattle.nb_engine.specs.declared.client.Turn.{Turn}
 use Rattle.nb_engine.specs.declared.client.Turn.TheVariants as turn
@@ -22,12 +19,11 @@ use Rattle.nb_defs.specs.Causes.{ok}
 use Rattle.nb_engine.specs.World.{unbound, with_images}
 use Rattle.nb_engine.specs.Opens.{Open, with_entry, body_of, end_of, is_over_limit, acts_records, too_large_image}
 use Rattle.nb_engine.specs.Conclusions.{Conclusion, conclusion, conclusion_records, image_from, fails, keeps, boots}
-use Rattle.nb_engine.specs.Machine.{Running, Phase, Hears, goes_on, is_over, waiting, at, phase_after, concluded, running, further}
+use Rattle.nb_engine.specs.Machine.{Running, Hears, goes_on, is_over, waiting, at, phase_after, concluded, running, further}
 use Rattle.nb_engine.specs.Fetches.{IsLive, IsFetchOf, IsSameFetch}
 use Rattle.nb_engine.specs.Seen.{Seen, seen, StandsFor, as_waiting, IsSound}
-use Rattle.nb_engine.specs.Heeding.{Heeds, Follows, HasHeard, Comes}
+use Rattle.nb_engine.specs.Heeding.{Heeds, Follows, HasHeard}
 use Rattle.nb_engine.specs.Concluding.{Ends, IsTurn}
-use Rattle.nb_engine.specs.Turns.{IsEnd, IsOverWith}
 use Rattle.nb_tftp.proofs.HistoryLemmas.{is_ended-append}
 
 no_end_by : (t : Bool) (over : Option Cause) → cond t (Some too_large_image) over ≡ None → (t ≡ false) × (over ≡ None)
@@ -105,8 +101,7 @@ ends_follow {old} {new} n w s f heard cause after is p stands =
           let hears : Hears w s o call
           (acts_records w.net o.number heard.acts ++ (ended o.number cause ∷ []) ++ conclusion_records s.depth (concluded w o' cause))
           (phase_after (unbound w o.begun.own_port) s (concluded w o' cause)) =
-          is_over w s o call heard.acts cause h.fetch.core.meets ends in
-          (
+          is_over w s o call heard.acts cause h.fetch.core.meets ends in (
             phase_after (unbound w f.own_port) s comes,
             rw (h.fetch.number, h.fetch.own_port, same) hears,
             stands,

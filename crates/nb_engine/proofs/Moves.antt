@@ -1,5 +1,5 @@
 -- What a script's next line does is a move of the machine.
-use Rattle.std.proofs.Common.{◌≡◌, ℕ, ◌+◌, ◌<◌, ◌==◌, Bool, true, false, cond, List, [], ◌∷◌, ◌++◌, length, Option, Some, None, refl, sym, ◌∙◌, ap, subst, arith}
+use Rattle.std.proofs.Common.{◌≡◌, ℕ, ◌<◌, ◌==◌, Bool, true, false, cond, List, [], ◌∷◌, ◌++◌, length, Some, None, refl, sym, ◌∙◌, ap, subst, arith}
 use Rattle.std.proofs.lemmas.Option.{slice_get_within}
 use Rattle.std.proofs.lemmas.Bool.{eqb-true}
 use Rattle.nb_terms.specs.declared.cause.Cause.{Cause}
@@ -8,25 +8,24 @@ use Rattle.nb_terms.specs.declared.acts.Acts.{Acts as Asked}
 use Rattle.nb_defs.specs.Causes.{ok}
 use Rattle.nb_defs.specs.Records.{Out, out_texts, leave, ended, sent}
 use Rattle.nb_defs.specs.Commands.{Outcome}
-use Rattle.nb_defs.specs.ScriptText.{lines, words}
+use Rattle.nb_defs.specs.ScriptText.{lines}
 use Rattle.nb_record.specs.Logged.{Logged, Puts}
 use Rattle.nb_engine.specs.declared.world.World.{World}
 use Rattle.nb_engine.specs.declared.fetch.Fetch.{Fetch}
-use Rattle.nb_engine.specs.declared.stage.Stage.{Stage}
 use Rattle.nb_engine.specs.declared.stage.Stage.TheVariants as stage
 use Rattle.nb_engine.specs.World.{with_open}
 use Rattle.nb_engine.specs.Effects.{Wanted, says, asks, effect}
 use Rattle.nb_stack.specs.Sends.{put_on, way_of}
 use Rattle.nb_engine.specs.Opens.{try_records, open_for, begun_for, request_of, has_route, send_records, opened_record}
 use Rattle.nb_engine.specs.Conclusions.{fails, conclusion_records}
-use Rattle.nb_engine.specs.Machine.{Running, Machine, at, running, waiting, left, Move, passes, does, leaves, asks_for, finds_no_route, ends, further, next_line, command_record, command_records, ends_script, no_route, handing, handed_off, hands, has_handed}
+use Rattle.nb_engine.specs.Machine.{Running, Machine, at, running, waiting, left, Move, passes, does, leaves, asks_for, finds_no_route, ends, further, next_line, command_record, command_records, no_route, handing, handed_off, hands, has_handed}
 use Rattle.nb_engine.specs.NextLine.{HasWords}
 use Rattle.nb_engine.specs.declared.handing.Handing.{Handing}
 use Rattle.nb_engine.specs.Handings.{records_left, PutsNext}
 use Rattle.nb_engine.specs.Steps.{Does, lines_left}
 use Rattle.nb_engine.specs.Fetches.{IsLive}
 use Rattle.nb_engine.specs.Seen.{Seen, seen, StandsFor, as_running, as_waiting, as_left, as_handing, as_handed_off}
-use Rattle.nb_engine.specs.Turns.{Grows, Leads}
+use Rattle.nb_engine.specs.Turns.{Grows}
 use Rattle.nb_wire.specs.declared.address.Ip4.{Ip4}
 use Rattle.nb_engine.specs.declared.client.Turn.{Turn}
 use Rattle.nb_engine.specs.Advance.{Asked as AskedFor, waits, fails_so, Followed}

@@ -1,16 +1,15 @@
 -- Turns that end a run, and turns that say of a stage what they may.
-use Rattle.std.proofs.Common.{◌≡◌, ℕ, List, [], ◌∷◌, refl, subst, sym}
+use Rattle.std.proofs.Common.{List}
 use Rattle.nb_defs.specs.Records.{In}
 use Rattle.nb_record.specs.Logged.{Logged}
 use Rattle.nb_engine.specs.StatusNumber.{IsLeftEnd}
-use Rattle.nb_engine.specs.declared.stage.Stage.{Stage}
 use Rattle.nb_engine.specs.declared.status.Status.{Status}
 use Rattle.nb_engine.specs.declared.status.Status.TheVariants as status
 use Rattle.nb_engine.specs.declared.client.Turn.{Turn}
 use Rattle.nb_engine.specs.declared.client.Turn.TheVariants as turn
 use Rattle.nb_engine.specs.Seen.{Seen}
 use Rattle.nb_engine.specs.Concluding.{IsTurn}
-use Rattle.nb_engine.specs.Turns.{Grows, Acts, IsEnd, IsOverWith}
+use Rattle.nb_engine.specs.Turns.{Grows, Acts, IsEnd}
 
 -- a run whose first script was left
 pub left_end : (s : Status) → IsLeftEnd s → IsEnd s

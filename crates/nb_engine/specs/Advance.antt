@@ -1,5 +1,5 @@
 -- A client whose script runs, or whose image is handed off.
-use Rattle.std.specs.Prelude.{◌≡◌, ℕ, ◌<◌, ◌≤◌, length, List, [], ◌∷◌, ◌++◌, Bool, true, false}
+use Rattle.std.specs.Prelude.{◌≡◌, ◌<◌, ◌≤◌, length, List, [], ◌∷◌, Bool, true, false}
 use Rattle.nb_terms.specs.declared.acts.Acts.{Acts}
 use Rattle.nb_terms.specs.declared.acts.SendTo.{SendTo}
 use Rattle.nb_defs.specs.Records.{out_texts, ended}

@@ -1,23 +1,21 @@
 -- What the end of an open does to a client, part by part.
-use Rattle.std.specs.Prelude.{◌≡◌, ℕ, ◌<◌, length, List, [], ◌∷◌, ◌++◌, Some}
+use Rattle.std.specs.Prelude.{◌≡◌, ◌<◌, length, [], ◌∷◌, ◌++◌}
 use Rattle.nb_terms.specs.declared.cause.Cause.{Cause}
 use Rattle.nb_terms.specs.declared.acts.Acts.{Acts}
-use Rattle.nb_defs.specs.Records.{Out, out_texts, step, ended}
+use Rattle.nb_defs.specs.Records.{out_texts, step, ended}
 use Rattle.nb_record.specs.Logged.{Logged, Puts}
 use Rattle.nb_image.specs.Images.{ImageList, image_of}
-use Rattle.nb_engine.specs.Machine.{Running, Phase, phase_after, at}
+use Rattle.nb_engine.specs.Machine.{Running, phase_after, at}
 use Rattle.nb_engine.specs.Opens.{acts_records}
-use Rattle.nb_engine.specs.Conclusions.{Conclusion, conclusion, conclusion_records}
+use Rattle.nb_engine.specs.Conclusions.{conclusion, conclusion_records}
 use Rattle.nb_engine.specs.World.{unbound}
 use Rattle.nb_engine.specs.Fetches.{conclusion_of}
-use Rattle.nb_engine.specs.Seen.{Seen, seen, StandsFor}
+use Rattle.nb_engine.specs.Seen.{Seen, StandsFor}
 use Rattle.nb_engine.specs.Turns.{IsBusy, IsWaiting, IsOverWith, IsEnd}
 use Rattle.nb_engine.specs.declared.conclusion.Conclusion.{Conclusion as Concluded}
 use Rattle.nb_engine.specs.declared.conclusion.Conclusion.TheVariants as concluded
 use Rattle.nb_engine.specs.declared.fetch.Fetch.{Fetch}
 use Rattle.nb_engine.specs.declared.stage.Stage.{Stage}
-use Rattle.nb_engine.specs.declared.stage.Stage.TheVariants as stage
-use Rattle.nb_engine.specs.declared.status.Status.{Status}
 use Rattle.nb_engine.specs.declared.status.Status.TheVariants as status
 use Rattle.nb_engine.specs.declared.client.Turn.{Turn}
 use Rattle.nb_engine.specs.declared.client.Turn.TheVariants as turn

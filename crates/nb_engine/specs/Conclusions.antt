@@ -1,5 +1,5 @@
 -- What comes of a command whose open has ended, and the records of a hand-off.
-use Rattle.std.specs.Prelude.{ℕ, Bool, true, false, List, [], ◌∷◌, ◌++◌, length, map, Option, Some, None, unwrap_or, if◌then◌else◌}
+use Rattle.std.specs.Prelude.{ℕ, Bool, true, false, List, [], ◌∷◌, length, map, Option, Some, None, unwrap_or, if◌then◌else◌}
 use Rattle.std.specs.List.{flat_map}
 use Rattle.nb_terms.specs.declared.cause.Cause.{Cause}
 use Rattle.nb_defs.specs.Causes.{ok, plain_cause, is_ok_cause}
@@ -12,8 +12,6 @@ use Rattle.nb_image.specs.declared.kind.ImageKind.TheVariants as kind
 use Rattle.nb_image.specs.Images.{ImageList, image_of, with_image, place_of, refusal}
 use Rattle.nb_image.specs.Kinds.{kind_of}
 use Rattle.nb_image.specs.Parts.{PartText, PieceText, number_of, parts, pieces}
-use Rattle.nb_engine.specs.declared.world.World.{World}
-use Rattle.nb_engine.specs.World.{with_images, unbound}
 use Rattle.nb_engine.specs.Opens.{Open, body_of}
 
 -- the image can't be booted

@@ -1,9 +1,7 @@
 -- What a fetch stands for, and what a datagram or a time does to it.
-use Rattle.std.specs.Prelude.{◌≡◌, ◌⊎◌, ℕ, ◌<◌, ◌≤◌, length, Bool, true, false, List, [], ◌∷◌, ◌++◌, Option, Some, None, IfSome}
+use Rattle.std.specs.Prelude.{◌≡◌, ◌⊎◌, ℕ, ◌<◌, ◌≤◌, length, Bool, true, false, List, [], ◌∷◌, ◌++◌, Option, Some}
 use Rattle.std.specs.Option.{option_map_or}
 use Rattle.std.specs.List.{slice_range}
-use Rattle.nb_terms.specs.declared.cause.Cause.{Cause}
-use Rattle.nb_terms.specs.declared.acts.Acts.{Acts}
 use Rattle.nb_tftp.specs.Asks.{Begun}
 use Rattle.nb_tftp.specs.History.{Call, Entry, entry, given_of, is_ended}
 use Rattle.nb_tftp.specs.Stands.{Stands}

@@ -1,5 +1,5 @@
 -- What a datagram or a time does to a client whose command waits.
-use Rattle.std.specs.Prelude.{◌≡◌, ◌⊎◌, ℕ, ◌+◌, ◌==◌, ◌≤◌, Bool, true, false, List, [], ◌∷◌, ◌++◌, length, Option, None}
+use Rattle.std.specs.Prelude.{◌≡◌, ◌⊎◌, ℕ, ◌+◌, ◌==◌, Bool, true, false, List, [], ◌∷◌, Option, None}
 use Rattle.nb_wire.specs.declared.address.Ip4.{Ip4}
 use Rattle.nb_defs.specs.Records.{In, Out, out_texts, step, IsFrameRecord}
 use Rattle.nb_record.specs.Logged.{Logged, Puts}
@@ -12,7 +12,6 @@ use Rattle.nb_engine.specs.Seen.{Seen, seen, StandsFor}
 use Rattle.nb_engine.specs.Turns.{Acts, IsBusy, IsWaiting, IsOverWith, IsEnd}
 use Rattle.nb_engine.specs.declared.fetch.Fetch.{Fetch}
 use Rattle.nb_engine.specs.declared.fetch.Heard.{Heard}
-use Rattle.nb_engine.specs.declared.status.Status.{Status}
 use Rattle.nb_engine.specs.declared.status.Status.TheVariants as status
 use Rattle.nb_engine.specs.declared.stage.Stage.{Stage}
 use Rattle.nb_engine.specs.declared.stage.Stage.TheVariants as stage

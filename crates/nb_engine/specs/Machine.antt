@@ -14,7 +14,7 @@ use Rattle.nb_tftp.specs.History.{Call, came, ticked, entry}
 use Rattle.nb_tftp.specs.Sentences.{Meets}
 use Rattle.nb_engine.specs.declared.world.World.{World}
 use Rattle.nb_engine.specs.World.{world_of, with_net, later, with_images, with_open, unbound}
-use Rattle.nb_engine.specs.Effects.{Wanted, Effect, says, asks, effect}
+use Rattle.nb_engine.specs.Effects.{Wanted, says, asks, effect}
 use Rattle.nb_engine.specs.Opens.{Open, open_for, with_entry, body_of, request_of, has_route, send_records, acts_records, opened_record, heard_from, end_of, begun_for}
 use Rattle.nb_engine.specs.Conclusions.{Conclusion, keeps, fails, boots, conclusion, image_from, conclusion_records, handoff_records}
 

@@ -1,5 +1,5 @@
 -- What a client is, and which states of the machine it stands for.
-use Rattle.std.specs.Prelude.{◌≡◌, ℕ, ◌+◌, ◌*◌, ◌≤◌, true, List, [], ◌∷◌, length}
+use Rattle.std.specs.Prelude.{◌≡◌, ℕ, ◌*◌, ◌≤◌, List, [], length}
 use Rattle.nb_terms.specs.declared.cause.Cause.{Cause}
 use Rattle.nb_defs.specs.Records.{Out}
 use Rattle.nb_stack.specs.declared.ports.Port.{Port}
@@ -10,7 +10,7 @@ use Rattle.nb_engine.specs.declared.fetch.Fetch.{Fetch}
 use Rattle.nb_engine.specs.declared.handing.Handing.{Handing}
 use Rattle.nb_engine.specs.declared.stage.Stage.{Stage}
 use Rattle.nb_engine.specs.declared.stage.Stage.TheVariants as stage
-use Rattle.nb_engine.specs.Machine.{Running, Phase, Machine, at, ready, running, waiting, handing, left, handed_off, stopped}
+use Rattle.nb_engine.specs.Machine.{Running, Machine, at, ready, running, waiting, handing, left, handed_off, stopped}
 use Rattle.nb_engine.specs.Opens.{Open}
 use Rattle.nb_engine.specs.Fetches.{IsLive}
 use Rattle.nb_engine.specs.Handings.{IsAt, records_left, AreShort}

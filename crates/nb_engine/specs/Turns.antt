@@ -1,7 +1,6 @@
 -- What a call of the client does, by its turn: between the client and the two lists of records, those
 -- used and those written.
-use Rattle.std.specs.Prelude.{◌≡◌, ℕ, ◌+◌, ◌<◌, List, [], ◌∷◌, ◌++◌, length}
-use Rattle.nb_terms.specs.declared.cause.Cause.{Cause}
+use Rattle.std.specs.Prelude.{◌≡◌, ℕ, ◌+◌, ◌<◌, List, [], ◌∷◌, length}
 use Rattle.nb_defs.specs.Records.{In, start, frame, tick, off, Out, out_texts, ended, done}
 use Rattle.nb_record.specs.Logged.{Logged, Puts}
 use Rattle.nb_engine.specs.Machine.{Machine, Begins, Move, status_of, stopped_cause}

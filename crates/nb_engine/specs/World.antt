@@ -1,5 +1,5 @@
 -- What a run has beside its script, as START gives it: the client's link, its clock, its opens and its images.
-use Rattle.std.specs.Prelude.{ℕ, ◌+◌, ◌%◌, ◌==◌, Bool, not, [], Option, Some, None, if◌then◌else◌}
+use Rattle.std.specs.Prelude.{ℕ, ◌+◌, ◌%◌, ◌==◌, not, [], Option, Some, None, if◌then◌else◌}
 use Rattle.nb_defs.specs.Records.{Start}
 use Rattle.nb_wire.specs.declared.address.Ip4.{Ip4}
 use Rattle.nb_stack.specs.declared.address.Addr.{Addr}

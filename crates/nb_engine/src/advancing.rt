@@ -22,8 +22,7 @@ use crate::running::Next;
 use crate::status::status_after;
 use crate::world::own_port;
 use crate::{Client, Fetch, RunningScript, Stage, Status, Turn};
-use nb_record::{Cause, Log, NoMemory, OutRec};
-use nb_record::Acts as Asked;
+use nb_record::{Acts as Asked, Cause, Log, NoMemory, OutRec};
 use nb_stack::Stack;
 use nb_uri::TFTP_PORT;
 use nb_wire::Word;
@@ -99,7 +98,12 @@ impl Client {
     }
 
     /// Does a command that is over at once.
-    fn carry_out(&mut self, words: &[Word], command: Result<Command<'_>, Refusal>, log: &mut Log) -> Turn
+    fn carry_out(
+        &mut self,
+        words: &[Word],
+        command: Result<Command<'_>, Refusal>,
+        log: &mut Log,
+    ) -> Turn
         requires words { IfRunning self.old.stage (λ s. HasWords s words.now) }
         requires some { 0 < length words.now }
         requires local { IsLocal command }
@@ -136,7 +140,14 @@ impl Client {
         let number = self.world.opens;
         let own_port = own_port(self.world.w, number);
         let mut acts = Asked::none();
-        match Fetch::begin(self.alloc, number, own_port, wanted, self.world.time, &mut acts) {
+        match Fetch::begin(
+            self.alloc,
+            number,
+            own_port,
+            wanted,
+            self.world.time,
+            &mut acts,
+        ) {
             Ok(fetch) => {
                 self.put_opened(words, wanted, own_port, log);
                 self.ask(fetch, &acts, log)
@@ -201,7 +212,10 @@ impl Client {
         let Stage::Running(script) = mem::replace(&mut self.stage, Stage::Stopped) else {
             unreachable!()
         };
-        let _ = self.world.net.bind(UDP, fetch.own_port, u64::from(fetch.number));
+        let _ = self
+            .world
+            .net
+            .bind(UDP, fetch.own_port, u64::from(fetch.number));
         self.world.opens += 1;
         self.stage = Stage::Waiting(script, fetch);
         Turn::Waiting

@@ -5,7 +5,7 @@ ghost use Rattle.nb_engine.specs.Conclusions.{conclusion, taken_in, cause_of_err
 ghost use Rattle.nb_engine.specs.Fetches.{Concludes, Chooses};
 
 use crate::Fetch;
-use crate::causes::{NOT_BOOTABLE, NO_MEMORY, TOO_LARGE_IMAGES, TOO_MANY_IMAGES};
+use crate::causes::{NO_MEMORY, NOT_BOOTABLE, TOO_LARGE_IMAGES, TOO_MANY_IMAGES};
 use nb_image::{ImageError, ImageKind, Images};
 use nb_record::{Cause, NoMemory};
 use std::alloc::Global;

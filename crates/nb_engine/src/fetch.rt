@@ -85,7 +85,15 @@ impl Fetch {
         let target = &wanted.target;
         let name = copy(alloc, target.name)?;
         let uri = copy(alloc, wanted.uri)?;
-        match Transfer::start(number, target.server, TFTP_PORT, own_port, target.path, now, acts) {
+        match Transfer::start(
+            number,
+            target.server,
+            TFTP_PORT,
+            own_port,
+            target.path,
+            now,
+            acts,
+        ) {
             Ok(transfer) => Ok(Fetch {
                 number,
                 server: target.server,
@@ -101,13 +109,7 @@ impl Fetch {
     }
 
     /// A datagram comes from this port of the server, in the record of this number.
-    pub fn message(
-        &mut self,
-        rec: u32,
-        port: u16,
-        body: &[u8],
-        now: u64,
-    ) -> Result<Heard, NoMemory>
+    pub fn message(&mut self, rec: u32, port: u16, body: &[u8], now: u64) -> Result<Heard, NoMemory>
         requires { length self.old.body ≤ 268435456 }
         ensures heard { IfOk result (λ heard. TakesCall self.old self.new (came (received rec port body.now) now) heard) }
         ensures same { IsSameFetch self.old self.new }

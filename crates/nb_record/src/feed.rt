@@ -1,4 +1,4 @@
-ghost use Rattle.std.specs.Prelude.{◌≡◌, ◌+◌, ◌-◌, ◌^◌, ◌<◌, ◌≤◌, [], ◌++◌, length, take, drop, min, IfOk, vec_len, vec_capacity};
+ghost use Rattle.std.specs.Prelude.{◌≡◌, ◌+◌, ◌-◌, ◌^◌, ◌<◌, ◌≤◌, [], ◌++◌, ◌==◌, length, take, drop, min, IfOk, vec_len, vec_capacity};
 ghost use Rattle.nb_defs.specs.Records.{IsPartial};
 ghost use Rattle.nb_record.specs.Held.{Shows};
 
@@ -95,6 +95,13 @@ impl Feed {
         ensures { Shows self.now result }
     {
         front_of(&self.bytes.as_slice()[self.start..], self.passed)
+    }
+
+    /// Whether no byte is held.
+    pub fn is_empty(&self) -> bool
+        ensures { result ≡ (length self.now.bytes == 0) }
+    {
+        self.start == self.bytes.len()
     }
 
     /// Passes the first bytes, those of a record that was used.

@@ -1,10 +1,8 @@
-use Rattle.std.proofs.Common.{◌≡◌, ◌<◌, length, refl, sym, ◌∙◌, ap, subst}
+use Rattle.std.proofs.Common.{◌<◌, length, refl, sym, subst}
 use Rattle.nb_defs.specs.Causes.{ok}
-use Rattle.nb_engine.specs.declared.stage.Stage.TheVariants as stage
-use Rattle.nb_engine.specs.declared.conclusion.Conclusion.TheVariants as concluded
 use Rattle.nb_engine.specs.Conclusions.{handoff_records}
 use Rattle.nb_engine.specs.Machine.{further}
-use Rattle.nb_engine.specs.Seen.{Seen, seen, as_running, as_left, as_handing}
+use Rattle.nb_engine.specs.Seen.{Seen, as_running, as_left, as_handing}
 use Rattle.nb_engine.specs.Concluding.{IsPlaceFor}
 use Rattle.nb_engine.proofs.HandingLemmas.{begins_at}
 use Rattle.nb_engine.proofs.client.Client.conclude.Goals as goal

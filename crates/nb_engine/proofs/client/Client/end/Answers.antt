@@ -1,17 +1,17 @@
-use Rattle.std.proofs.Common.{◌≡◌, List, [], ◌∷◌, ◌++◌, refl, sym, ◌∙◌, ap, subst}
+use Rattle.std.proofs.Common.{◌≡◌, List, [], ◌∷◌, ◌++◌, sym, ◌∙◌, ap, subst}
 use Rattle.nb_defs.specs.Records.{Out, step, ended, out_texts}
 use Rattle.nb_record.specs.Logged.{Puts}
 use Rattle.nb_stack.specs.Client.{Client}
 use Rattle.nb_image.specs.Images.{image_of}
 use Rattle.nb_engine.specs.declared.fetch.Fetch.{Fetch}
-use Rattle.nb_engine.specs.declared.stage.Stage.TheVariants as stage
+use Rattle.nb_engine.specs.declared.world.World.{World}
 use Rattle.nb_engine.specs.Conclusions.{Conclusion, conclusion, conclusion_records}
 use Rattle.nb_engine.specs.Concluding.{Ends}
 use Rattle.nb_engine.specs.Fetches.{conclusion_of}
 use Rattle.nb_engine.specs.Machine.{Running, at, phase_after}
 use Rattle.nb_engine.specs.Opens.{acts_records}
 use Rattle.nb_engine.specs.World.{unbound}
-use Rattle.nb_engine.specs.Seen.{Seen, seen, StandsFor}
+use Rattle.nb_engine.specs.Seen.{seen, StandsFor}
 use Rattle.nb_engine.proofs.Puts.{Puts-outs}
 use Rattle.nb_engine.proofs.Standing.{same_fetch, same_script}
 use Rattle.nb_engine.proofs.Heedings.{ends_of, same_phase}
@@ -42,10 +42,11 @@ returns-in-Ok c =
     let puts : Puts c.args.log.now c.conclude-in-Ok.new.log (out_texts (step n ∷ (front ++ conclusion_records c.in-Waiting.script.depth comes))) =
     Puts-outs (step n ∷ []) (front ++ conclusion_records c.in-Waiting.script.depth comes) c.put_step.ensures both in
     let net_is : c.unbind.new.self ≡ (unbound w g.own_port).net = c.unbind.ensures ∙ ap (λ (x : Client). (unbound (record { w = w.w; time = w.time; net = x; opens = w.opens; images = w.images }) g.own_port).net) c.put_acts.ensures.same in
+    let v : World = record { w = w.w; time = w.time; net = c.unbind.new.self; opens = w.opens; images = c.conclude.new.images } in
     let stands : StandsFor c.conclude-in-Ok.new.self (at n (phase_after (unbound w g.own_port) c.in-Waiting.script comes)) =
     subst (λ p. StandsFor c.conclude-in-Ok.new.self (at n p))
-    (ap (λ x. phase_after _ c.in-Waiting.script x) (sym same)
-    ∙ same_phase _ (unbound w g.own_port) c.in-Waiting.script comes (λ list. ap (λ (x : Client). record { w = w.w; time = w.time; net = x; opens = w.opens; images = list }) net_is))
+    (ap (λ x. phase_after v c.in-Waiting.script x) (sym same)
+    ∙ same_phase v (unbound w g.own_port) c.in-Waiting.script comes (λ list. ap (λ (x : Client). record { w = w.w; time = w.time; net = x; opens = w.opens; images = list }) net_is))
     concludes.stands in
     let ends = ends_of c.conclude-in-Ok.result c.args.log.now c.conclude-in-Ok.new.log acts cause c.in-Waiting.script g (seen n w c.self.inside.stage) c.conclude-in-Ok.new.self concludes.is_turn puts stands in
     subst (λ (x : Running). Ends c.conclude-in-Ok.result acts cause x f (seen n w c.self.inside.stage) c.conclude-in-Ok.new.self c.args.log.now c.conclude-in-Ok.new.log) (same_script was)

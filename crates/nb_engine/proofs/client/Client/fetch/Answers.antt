@@ -1,8 +1,7 @@
-use Rattle.std.proofs.Common.{◌≡◌, ◌<◌, ◌≤◌, ◌++◌, [], ◌∷◌, refl, sym, ◌∙◌, ap, subst, arith, Some, length}
+use Rattle.std.proofs.Common.{◌≡◌, [], ◌∷◌, refl, sym, ◌∙◌, ap, subst, arith}
 use Rattle.nb_record.specs.Logged.{Puts}
 use Rattle.nb_defs.specs.Records.{out_texts}
 use Rattle.nb_terms.specs.declared.acts.Acts.{Acts as Asked}
-use Rattle.nb_terms.specs.declared.acts.SendTo.{SendTo}
 use Rattle.nb_tftp.specs.Asks.{begun}
 use Rattle.nb_engine.specs.declared.stage.Stage.TheVariants as stage
 use Rattle.nb_engine.specs.CommandWords.{wanted_of}

@@ -1,4 +1,4 @@
-use Rattle.std.proofs.Common.{[], ◌∷◌, sym, ◌∙◌}
+use Rattle.std.proofs.Common.{[], ◌∷◌}
 use Rattle.nb_defs.specs.Records.{done, ended}
 use Rattle.nb_engine.specs.Machine.{stopped_cause}
 use Rattle.nb_engine.proofs.Puts.{Puts-one, Puts-outs}

@@ -1,5 +1,4 @@
-use Rattle.std.proofs.Common.{◌≡◌, ◌+◌, ℕ, List, true, [], ◌∷◌, refl, sym, ◌∙◌, ap, subst, Some, None}
-use Rattle.std.specs.Option.{option_map}
+use Rattle.std.proofs.Common.{◌≡◌, ◌+◌, [], ◌∷◌, sym, ◌∙◌, ap, subst, Some, None}
 use Rattle.nb_defs.specs.Records as defs
 use Rattle.nb_stack.specs.Takes.{Takes, outcome}
 use Rattle.nb_tftp.specs.Received.{received}

@@ -1,4 +1,4 @@
-use Rattle.std.proofs.Common.{◌≡◌, [], refl, sym, ◌∙◌, ap, subst, List, ℕ, length}
+use Rattle.std.proofs.Common.{◌≡◌, [], sym, ◌∙◌, ap, subst}
 use Rattle.nb_engine.specs.declared.stage.Stage.{Stage}
 use Rattle.nb_engine.specs.declared.stage.Stage.TheVariants as stage
 use Rattle.nb_engine.specs.NextLine.{HasWords}

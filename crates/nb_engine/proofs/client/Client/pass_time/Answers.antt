@@ -1,13 +1,11 @@
-use Rattle.std.proofs.Common.{◌≡◌, sym, ◌∙◌, ap, subst, refl}
-use Rattle.nb_tftp.specs.Received.{received}
-use Rattle.nb_tftp.specs.History.{Call, came, ticked}
+use Rattle.std.proofs.Common.{◌≡◌, sym, ◌∙◌, subst, refl}
+use Rattle.nb_tftp.specs.History.{Call, ticked}
 use Rattle.nb_engine.specs.declared.fetch.Fetch.{Fetch}
 use Rattle.nb_engine.specs.declared.stage.Stage.TheVariants as stage
-use Rattle.nb_engine.specs.Opens.{Open}
 use Rattle.nb_engine.specs.Machine.{Running}
 use Rattle.nb_engine.specs.Fetches.{TakesCall}
 use Rattle.nb_engine.specs.Heeding.{Heeds, HasHeard, Comes}
-use Rattle.nb_engine.specs.Seen.{Seen, seen, IsSound}
+use Rattle.nb_engine.specs.Seen.{seen, IsSound}
 use Rattle.nb_engine.proofs.Standing.{same_fetch, same_script}
 use Rattle.nb_engine.proofs.Hearings.{heard_of}
 use Rattle.nb_engine.proofs.Heedings.{heeds_less, still_sound}

@@ -4,8 +4,7 @@ use Rattle.nb_defs.specs.Records.{step, enter, leave, out_texts}
 use Rattle.nb_record.specs.Logged.{Puts}
 use Rattle.nb_defs.specs.ScriptText.{is_plain}
 use Rattle.nb_record.specs.View.{start_of}
-use Rattle.nb_engine.specs.declared.stage.Stage.TheVariants as stage
-use Rattle.nb_engine.specs.Seen.{Seen, seen}
+use Rattle.nb_engine.specs.Seen.{Seen}
 use Rattle.nb_engine.proofs.Puts.{Puts-outs}
 use Rattle.nb_engine.proofs.Growth.{start_grows, refusal_grows}
 use Rattle.nb_engine.proofs.client.Client.start.Goals as goal

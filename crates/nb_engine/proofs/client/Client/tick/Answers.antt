@@ -1,4 +1,4 @@
-use Rattle.std.proofs.Common.{◌≡◌, ◌+◌, ℕ, [], ◌∷◌, refl, sym, ◌∙◌, ap, subst}
+use Rattle.std.proofs.Common.{◌≡◌, ◌+◌, [], ◌∷◌, sym, ◌∙◌, ap, subst}
 use Rattle.nb_defs.specs.Records as defs
 use Rattle.nb_tftp.specs.History.{ticked}
 use Rattle.nb_engine.specs.declared.world.World.{World}

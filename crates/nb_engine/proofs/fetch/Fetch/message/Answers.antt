@@ -1,4 +1,3 @@
-use Rattle.std.proofs.Common.{◌≡◌}
 use Rattle.nb_engine.proofs.fetch.Fetch.message.Goals as goal
 
 pub returns-clause-heard : goal.returns-clause-heard

@@ -1,13 +1,10 @@
-use Rattle.std.proofs.Common.{◌≡◌, ℕ, ◌+◌, ◌*◌, ◌<◌, ◌≤◌, ◌^◌, ◌∷◌, ◌++◌, [], List, length, drop, map, Some, None, refl, sym, ◌∙◌, ap, subst, arith}
-use Rattle.std.specs.Prelude.{slice_get, IfSome}
-use Rattle.std.specs.List.{flat_map}
+use Rattle.std.proofs.Common.{◌≡◌, ◌+◌, ◌<◌, ◌∷◌, length, Some, sym, ◌∙◌, ap, subst, arith}
+use Rattle.std.specs.Prelude.{slice_get}
 use Rattle.std.specs.Option.{option_map}
-use Rattle.nb_image.specs.Images.{ImageList}
-use Rattle.nb_image.specs.Parts.{PartText, PieceText, parts, part_text, piece_text, pieces}
-use Rattle.nb_defs.specs.Records.{Out, out_text, part}
+use Rattle.nb_image.specs.Parts.{parts, part_text, piece_text, pieces}
+use Rattle.nb_defs.specs.Records.{out_text, part}
 use Rattle.nb_record.specs.Logged.{Puts}
 use Rattle.nb_engine.specs.Conclusions.{part_records, piece_record}
-use Rattle.nb_engine.specs.Handings.{IsAt, PutsNext, records_left}
 use Rattle.nb_engine.proofs.Puts.{Puts-one}
 use Rattle.nb_engine.proofs.HandingLemmas.{part_small, piece_at_place, next_left, left_within, left_behind, at_next, at_piece, records_of_part, part_within, drop_past}
 use Rattle.nb_engine.proofs.handing.Handing.put_piece.Goals as goal
@@ -46,13 +43,14 @@ returns-then-self-piece_count c =
     let piece = piece_text c.in-Some-piece.piece in
     let is : slice_get ps h.part ≡ Some p = sym c.part.ensures ∙ ap (λ o. option_map part_text o) c.in-Some.is in
     let got : slice_get (pieces p.bytes) h.piece ≡ Some piece = sym c.piece.ensures ∙ ap (λ o. option_map piece_text o) c.in-Some-piece.is in
-    let last : h.piece + 1 ≡ length (part_records p) = c.if-self-piece_count.true ∙ c.piece_count.ensures ∙ sym (records_of_part p) in
-    (at_next c.args.images.now h c.requires (part_within ps h.part p is),
-    record {
-      next = piece_record p piece;
-      left = next_left ps h.part h.piece p piece is got ∙ ap (λ rs. piece_record p piece ∷ rs) (left_behind ps h.part h.piece p (drop_past (h.piece + 1) (part_records p) last));
-      puts = Puts-one (piece_record p piece) (subst (λ k. Puts c.args.log.now c.put.new.self (out_text (part k c.in-Some.part.index c.in-Some-piece.piece.offset c.in-Some-piece.piece.bytes.now))) c.number.ensures c.put.ensures);
-    })
+    let last : h.piece + 1 ≡ length (part_records p) = c.if-self-piece_count.true ∙ c.piece_count.ensures ∙ sym (records_of_part p) in (
+      at_next c.args.images.now h c.requires (part_within ps h.part p is),
+      record {
+        next = piece_record p piece;
+        left = next_left ps h.part h.piece p piece is got ∙ ap (λ rs. piece_record p piece ∷ rs) (left_behind ps h.part h.piece p (drop_past (h.piece + 1) (part_records p) last));
+        puts = Puts-one (piece_record p piece) (subst (λ k. Puts c.args.log.now c.put.new.self (out_text (part k c.in-Some.part.index c.in-Some-piece.piece.offset c.in-Some-piece.piece.bytes.now))) c.number.ensures c.put.ensures);
+      },
+    )
 
 pub returns-else-self-piece_count : goal.returns-else-self-piece_count
 returns-else-self-piece_count c =
@@ -63,10 +61,11 @@ returns-else-self-piece_count c =
     let is : slice_get ps h.part ≡ Some p = sym c.part.ensures ∙ ap (λ o. option_map part_text o) c.in-Some.is in
     let got : slice_get (pieces p.bytes) h.piece ≡ Some piece = sym c.piece.ensures ∙ ap (λ o. option_map piece_text o) c.in-Some-piece.is in
     let here : h.piece < length (part_records p) = rw is at c.requires.piece in
-    let within : h.piece + 1 < length (part_records p) = omega (arith, here, c.if-self-piece_count.false, c.piece_count.ensures, records_of_part p) in
-    (at_piece c.args.images.now h p c.requires is within,
-    record {
-      next = piece_record p piece;
-      left = next_left ps h.part h.piece p piece is got ∙ ap (λ rs. piece_record p piece ∷ rs) (left_within ps h.part h.piece p is (omega (arith, within)));
-      puts = Puts-one (piece_record p piece) (subst (λ k. Puts c.args.log.now c.put.new.self (out_text (part k c.in-Some.part.index c.in-Some-piece.piece.offset c.in-Some-piece.piece.bytes.now))) c.number.ensures c.put.ensures);
-    })
+    let within : h.piece + 1 < length (part_records p) = omega (arith, here, c.if-self-piece_count.false, c.piece_count.ensures, records_of_part p) in (
+      at_piece c.args.images.now h p c.requires is within,
+      record {
+        next = piece_record p piece;
+        left = next_left ps h.part h.piece p piece is got ∙ ap (λ rs. piece_record p piece ∷ rs) (left_within ps h.part h.piece p is (omega (arith, within)));
+        puts = Puts-one (piece_record p piece) (subst (λ k. Puts c.args.log.now c.put.new.self (out_text (part k c.in-Some.part.index c.in-Some-piece.piece.offset c.in-Some-piece.piece.bytes.now))) c.number.ensures c.put.ensures);
+      },
+    )
