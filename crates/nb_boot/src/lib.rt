@@ -6,8 +6,12 @@
 
 mod begin;
 mod feeding;
+#[cfg(test)]
+mod fetch_tests;
 mod output;
 mod play;
+#[cfg(test)]
+mod test_records;
 #[cfg(test)]
 mod tests;
 mod top;

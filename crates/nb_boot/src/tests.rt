@@ -5,10 +5,10 @@ use std::test::*;
 
 /// What a call answered, wrote, and how many calls of its line it made.
 #[derive(Drop)]
-struct Answer {
-    status: Status,
-    output: Vec<u8>,
-    calls: u64,
+pub struct Answer {
+    pub status: Status,
+    pub output: Vec<u8>,
+    pub calls: u64,
 }
 
 /// The words `replay in out`.
@@ -21,7 +21,7 @@ fn replay_words(alloc: Global) -> Result<Vec<String>, AllocError> {
 }
 
 /// Runs over an input, with reads cut to these lengths, failing calls and room for this much output.
-fn ran(
+pub fn ran(
     alloc: Global,
     input: &[u8],
     cuts: &[usize],
