@@ -1,0 +1,5 @@
+pub mod Kinds
+pub mod Keys
+pub mod Listed
+pub mod Names
+pub mod Tables

@@ -1,0 +1,26 @@
+// The settings of a client, after ipxe.org's settings: the grammar of their names, the listed names with
+// their tags and kinds, and the table of blocks with its look-up by priority. What a value prints as and
+// how it is read from text is left to the crate above, and so are the settings of a lease. Begin with
+// `Name`, then `Table`.
+#![tactic(auto)]
+
+mod block;
+mod cut;
+mod error;
+mod key;
+mod kind;
+mod listed;
+mod name;
+mod setting;
+mod table;
+mod word;
+
+pub use error::SetError;
+pub use key::Key;
+pub use kind::Kind;
+pub use name::Name;
+pub use setting::Value;
+pub use table::{MAX_BLOCKS, MAX_SETTINGS, MAX_VALUE, Table};
+
+#[cfg(test)]
+mod tests;
