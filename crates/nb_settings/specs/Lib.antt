@@ -1,5 +1,6 @@
 pub mod Kinds
 pub mod Keys
 pub mod Listed
+pub mod Lines
 pub mod Names
 pub mod Tables

@@ -28,7 +28,7 @@ abbrev pub is_word_byte : ℕ → Bool
 is_word_byte byte = is_ascii_alphanumeric byte || (byte == 45) || (byte == 95)
 
 -- 1 to 63 such bytes, not all of them digits
-abbrev pub is_word : List ℕ → Bool
+unfoldable pub is_word : List ℕ → Bool
 is_word text = nat_lt 0 (length text) && nat_le (length text) 63 && list_all is_word_byte text && not (list_all is_ascii_digit text)
 
 -- a word, or two joined by a dot

@@ -1,5 +1,5 @@
 ghost use Rattle.std.specs.Prelude.{◌≡◌};
-ghost use Rattle.nb_settings.specs.Keys.{key_of};
+ghost use Rattle.nb_settings.specs.Keys.{key_of, same_key};
 ghost use Rattle.nb_settings.specs.Listed.{listed_kind};
 
 use crate::Kind;
@@ -17,6 +17,18 @@ pub enum Key<'a> {
 }
 
 impl Key<'_> {
+    /// Whether two keys are the same.
+    pub(crate) fn is(&self, other: &Key<'_>) -> bool
+        ensures { result ≡ same_key (key_of self.now) (key_of other.now) }
+    {
+        match (*self, *other) {
+            (Key::Tag(number), Key::Tag(other)) => number == other,
+            (Key::Sub(outer, inner), Key::Sub(other, within)) => outer == other && inner == within,
+            (Key::Free(name), Key::Free(other)) => name == other,
+            _ => false,
+        }
+    }
+
     /// The kind that the list of names gives the setting. None where it isn't listed.
     pub fn listed_kind(&self) -> Option<Kind>
         ensures { result ≡ listed_kind (key_of self.now) }

@@ -1,4 +1,5 @@
 ghost use Rattle.std.specs.Prelude.{◌≡◌, Some, IfSome};
+ghost use Rattle.std.specs.Str.{bytes_eq};
 ghost use Rattle.nb_settings.specs.declared.kind.Kind.{Kind};
 ghost use Rattle.nb_settings.specs.Kinds.{kind_name, kind_named};
 
@@ -75,6 +76,12 @@ impl Kind {
         ensures sound { IfSome result (λ kind. name.now ≡ kind_name kind) }
         ensures complete { (kind : Kind) → name.now ≡ kind_name kind → result ≡ Some kind }
     {
-        KINDS.iter().copied().find(|kind| kind.name() == name)
+        KINDS.iter().find(|kind| kind.is_named(name)).copied()
+    }
+
+    fn is_named(self, name: &[u8]) -> bool
+        ensures { result ≡ bytes_eq name.now (kind_name self) }
+    {
+        name == self.name()
     }
 }

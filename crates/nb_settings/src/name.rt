@@ -22,19 +22,27 @@ impl<'a> Name<'a> {
         // The same as one equation, by the function on lists that is proved to be the grammar.
         ensures exact { option_map name_of result ≡ name_read text.now }
     {
-        match cut_at(b'/', text) {
-            Some((block, rest)) => {
-                if !is_block_name(block) {
-                    return None;
-                }
-                tail(Some(block), rest)
+        parsed(text)
+    }
+}
+
+#[tactic(auto, unfolding(crate::specs::Names::name_read))]
+fn parsed(text: &[u8]) -> Option<Name<'_>>
+    ensures { option_map name_of result ≡ name_read text.now }
+{
+    match cut_at(b'/', text) {
+        Some((block, rest)) => {
+            if !is_block_name(block) {
+                return None;
             }
-            None => tail(None, text),
+            tail(Some(block), rest)
         }
+        None => tail(None, text),
     }
 }
 
 /// The name behind its block.
+#[tactic(auto, unfolding(crate::specs::Names::tail_read))]
 fn tail<'a>(block: Option<&'a [u8]>, text: &'a [u8]) -> Option<Name<'a>>
     ensures { option_map name_of result ≡ tail_read (option_copied block.entry) text.now }
 {

@@ -1,4 +1,4 @@
-ghost use Rattle.std.specs.Prelude.{◌≡◌, ◌≤◌, IfSome, option_map};
+ghost use Rattle.std.specs.Prelude.{◌≡◌, ◌<◌, ◌≤◌, ◌↔◌, IsTrue, slice_index, option_map};
 ghost use Rattle.std.specs.Char.{is_ascii_digit};
 ghost use Rattle.std.specs.List.{list_all};
 ghost use Rattle.nb_settings.specs.Keys.{key_of};
@@ -7,14 +7,16 @@ ghost use Rattle.nb_settings.specs.Names.{is_word, is_word_byte, is_block_name, 
 use crate::Key;
 use crate::cut::cut_at;
 use crate::listed::key_named;
+use std::str::from_utf8;
 
 /// The most bytes of a word.
 const MAX_WORD: usize = 63;
 
-/// The number of an option that a text writes, without leading zeros.
+/// The highest number of an option.
 const MAX_NUMBER: u8 = 254;
 
 /// The key that a text spells.
+#[tactic(auto, unfolding(crate::specs::Names::key_read))]
 pub fn key(text: &[u8]) -> Option<Key<'_>>
     ensures { option_map key_of result ≡ key_read text.now }
 {
@@ -32,6 +34,7 @@ pub fn key(text: &[u8]) -> Option<Key<'_>>
 }
 
 /// Whether a text is a block's name.
+#[tactic(auto, unfolding(crate::specs::Names::is_block_name))]
 pub fn is_block_name(text: &[u8]) -> bool
     ensures { result ≡ is_block_name text.now }
 {
@@ -41,6 +44,7 @@ pub fn is_block_name(text: &[u8]) -> bool
     }
 }
 
+#[tactic(auto, unfolding(crate::specs::Names::is_word))]
 fn is_word(text: &[u8]) -> bool
     ensures { result ≡ is_word text.now }
 {
@@ -69,18 +73,21 @@ fn is_word_byte(byte: u8) -> bool
 fn number(text: &[u8]) -> Option<u8>
     ensures { result ≡ number_read text.now }
 {
-    if text.is_empty() || text[0] == b'0' || text.len() > 3 {
+    if !begins_with_digit(text) {
         return None;
     }
-    let mut value: u16 = 0;
-    for byte in text {
-        if !byte.is_ascii_digit() {
-            return None;
-        }
-        value = value * 10 + u16::from(*byte - b'0');
+    let text = from_utf8(text).ok()?;
+    let number = text.parse::<u8>().ok()?;
+    if number <= MAX_NUMBER {
+        Some(number)
+    } else {
+        None
     }
-    if value > u16::from(MAX_NUMBER) {
-        return None;
-    }
-    Some(value as u8)
+}
+
+/// Whether a text begins with a digit other than zero.
+fn begins_with_digit(text: &[u8]) -> bool
+    ensures { IsTrue result ↔ ((48 < slice_index text.now 0) × (slice_index text.now 0 ≤ 57)) }
+{
+    matches!(text, [b'1'..=b'9', ..])
 }

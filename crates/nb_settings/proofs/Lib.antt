@@ -1,0 +1,6 @@
+mod FindLemmas
+mod KindLemmas
+mod CutLemmas
+mod NumberLemmas
+mod KeyLemmas
+mod NameLemmas
