@@ -4,3 +4,5 @@ mod CutLemmas
 mod NumberLemmas
 mod KeyLemmas
 mod NameLemmas
+mod OrderLemmas
+mod LookupLemmas

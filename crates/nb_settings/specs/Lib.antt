@@ -4,3 +4,4 @@ pub mod Listed
 pub mod Lines
 pub mod Names
 pub mod Tables
+pub mod Order

@@ -1,5 +1,5 @@
 -- own, after ipxe.org's settings: the table of blocks and settings, its look-up, and what the calls do to it
-use Rattle.std.specs.Prelude.{◌≡◌, ℕ, ◌+◌, ◌≤◌, ℤ, int_lt, ◌==◌, ◌&&◌, ◌||◌, Bool, true, not, List, [], ◌∷◌, ◌++◌, length, map, filter, count_by, find, position, nat_eq, nat_lt, nat_le, Option, Some, None, option_map, slice_get, slice_set, All, if◌then◌else◌}
+use Rattle.std.specs.Prelude.{◌≡◌, ℕ, ◌+◌, ◌≤◌, ℤ, int_lt, ◌==◌, ◌&&◌, ◌||◌, Bool, true, not, List, [], ◌∷◌, ◌++◌, length, map, filter, count_by, find, position, nat_eq, nat_lt, nat_le, Option, Some, None, option_map, is_none, unwrap_or, slice_index, slice_get, slice_set, All, if◌then◌else◌}
 use Rattle.std.specs.List.{flat_map, list_all, list_any, starts_with}
 use Rattle.std.specs.Str.{bytes_eq}
 use Rattle.nb_settings.specs.declared.block.Block.{Block}
@@ -71,13 +71,18 @@ by_priority (block ∷ blocks) = put_in block (by_priority blocks)
 
 -- a block's name is this one, a dot and more
 abbrev pub is_below : List ℕ → Block → Bool
-is_below name block = starts_with nat_eq block.name (name ++ 46 ∷ []) && nat_lt (length name + 1) (length block.name)
+is_below name block =
+    nat_lt (length name + 1) (length block.name) && starts_with nat_eq block.name name && (slice_index block.name (length name) == 46)
 
--- the blocks in which a setting is looked up, in this order: the root and then all others, or the block
--- that is named and then those below it
+-- a block is looked up behind the one that is named, or behind the root where none is
+abbrev pub is_behind : Option (List ℕ) → Block → Bool
+is_behind None block = true
+is_behind (Some name) block = is_below name block
+
+-- the blocks in which a setting is looked up, in this order: the one that is named, or the root, and then
+-- those behind it
 abbrev pub scope : Option (List ℕ) → List Block → List (List ℕ)
-scope None blocks = [] ∷ map (λ block. block.name) (by_priority blocks)
-scope (Some name) blocks = name ∷ map (λ block. block.name) (filter (is_below name) (by_priority blocks))
+scope block blocks = unwrap_or block [] ∷ map (λ other. other.name) (filter (is_behind block) (by_priority blocks))
 
 -- the settings of a key in these blocks, in the order of the blocks
 abbrev pub settings_in : List (List ℕ) → OwnedKey → List Setting → List Setting
@@ -114,9 +119,14 @@ without_block block settings = filter (λ setting. not (is_of block setting)) se
 abbrev pub registered : Block → TableLists → TableLists
 registered block table = record { blocks = with_block block table.blocks; settings = without_block block.name table.settings }
 
--- with the root there would be a 17th block
-abbrev pub is_too_many_blocks : Block → List Block → Bool
-is_too_many_blocks block blocks = nat_lt 16 (1 + length (with_block block blocks))
+-- why a block isn't registered, if it isn't: there are 16 with the root, and it isn't among them
+abbrev pub register_refusal : List ℕ → TableLists → Option SetError
+register_refusal block table =
+    if nat_le 16 (1 + length table.blocks) && not (has_block block table.blocks) then Some TooMany else None
+
+-- where the setting of a block and a key stands
+abbrev pub place_of : List ℕ → OwnedKey → List Setting → Option ℕ
+place_of block key settings = position (is_setting block key) settings
 
 -- the settings with one put at a place, or behind all where there is no place
 abbrev pub put_at : Option ℕ → Setting → List Setting → List Setting
@@ -125,33 +135,30 @@ put_at (Some i) setting settings = slice_set settings i setting
 
 -- the settings with one more: it takes the place of the one of its block and key, or stands behind all
 abbrev pub with_setting : Setting → List Setting → List Setting
-with_setting setting settings = put_at (position (is_setting setting.block setting.key) settings) setting settings
-
--- its block would have a 129th setting
-abbrev pub is_too_many : Setting → List Setting → Bool
-is_too_many setting settings = nat_lt 128 (count_of setting.block (with_setting setting settings))
+with_setting setting settings = put_at (place_of setting.block setting.key settings) setting settings
 
 -- the table with a setting more
 abbrev pub with_value : Setting → TableLists → TableLists
 with_value setting table = record { blocks = table.blocks; settings = with_setting setting table.settings }
+
+-- the block has 128 settings, and none of them has the key
+abbrev pub is_full : List ℕ → OwnedKey → List Setting → Bool
+is_full block key settings = nat_le 128 (count_of block settings) && is_none (place_of block key settings)
+
+-- why a setting isn't put, if it isn't
+abbrev pub put_refusal : List ℕ → OwnedKey → List ℕ → TableLists → Option SetError
+put_refusal block key bytes table =
+    if not (has_block block table.blocks) then Some BadName
+    else (if nat_lt 1024 (length bytes) then Some TooLong
+    else (if is_full block key table.settings then Some TooMany else None))
 
 -- the table without a setting
 abbrev pub cleared : List ℕ → OwnedKey → TableLists → TableLists
 cleared block key table =
     record { blocks = table.blocks; settings = filter (λ setting. not (is_setting block key setting)) table.settings }
 
--- why a block isn't registered, if it isn't
-abbrev pub register_refusal : Block → TableLists → Option SetError
-register_refusal block table = if is_too_many_blocks block table.blocks then Some TooMany else None
-
--- why a setting isn't put, if it isn't
-abbrev pub put_refusal : Setting → TableLists → Option SetError
-put_refusal setting table =
-    if not (has_block setting.block table.blocks) then Some BadName
-    else (if nat_lt 1024 (length setting.bytes) then Some TooLong
-    else (if is_too_many setting table.settings then Some TooMany else None))
-
--- at most 16 blocks with the root; each has at most 128 settings, and each value at most 1,024 bytes
+-- at most 16 blocks with the root; each has at most 128 settings, and each value at most 1,024 bytes; there
+-- is no setting of a block that isn't there
 pub record IsTable (table : TableLists) : Type 0 where
   pub few : length table.blocks ≤ 15
   pub at_most : (block : List ℕ) → count_of block table.settings ≤ 128
