@@ -6,3 +6,4 @@ mod KeyLemmas
 mod NameLemmas
 mod OrderLemmas
 mod LookupLemmas
+mod TableLemmas
