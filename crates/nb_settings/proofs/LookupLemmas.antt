@@ -1,7 +1,9 @@
 -- The first of the settings in the order of the blocks.
 use Rattle.std.proofs.Common.{◌≡◌, ℕ, Bool, true, false, cond, List, [], ◌∷◌, ◌++◌, map, Option, Some, None, refl, ap, ◌∙◌, sym}
 use Rattle.std.specs.Prelude.{find, filter, slice_get, option_map, option_and_then, unwrap_or}
+use Rattle.std.specs.Borrow.{Bor}
 use Rattle.std.specs.List.{list_any}
+use Rattle.std.specs.Option.{option_copied}
 use Rattle.nb_settings.specs.declared.block.Block.{Block}
 use Rattle.nb_settings.specs.declared.setting.OwnedKey.{OwnedKey}
 use Rattle.nb_settings.specs.declared.setting.Setting.{Setting}
@@ -75,3 +77,8 @@ unfolding value_behind own_value
 value_behind_is block key table =
     ap (option_map setting_value) (behind_is block key table.settings (by_priority table.blocks))
     ∙ map-and_then setting_value (λ (b : Block). find (is_setting b.name key) table.settings) (find (has_behind block key table.settings) (by_priority table.blocks))
+
+-- the block that is named, or the root
+pub named_or_root : (block : Option (Bor (List ℕ))) (root : Bor (List ℕ)) → root.now ≡ [] → (unwrap_or block root).now ≡ unwrap_or (option_copied block) []
+named_or_root None root empty = empty
+named_or_root (Some name) root empty = refl

@@ -1,7 +1,8 @@
 -- What the calls keep of a table.
-use Rattle.std.proofs.Common.{◌≡◌, ℕ, zero, suc, ◌+◌, ◌<◌, ◌≤◌, Bool, true, false, not, cond, ◌&&◌, ◌||◌, List, [], ◌∷◌, ◌++◌, length, get_or, set, Option, Some, None, refl, ap, ◌∙◌, sym, subst, arith, length-append}
-use Rattle.std.specs.Prelude.{filter, count_by, find, position, nat_lt, nat_le, is_none, if◌then◌else◌, ◌==◌}
+use Rattle.std.proofs.Common.{◌≡◌, ℕ, zero, suc, ◌+◌, ◌<◌, ◌≤◌, Bool, true, false, not, cond, ◌&&◌, ◌||◌, List, [], ◌∷◌, ◌++◌, length, get_or, set, Option, Some, None, Ok, Err, refl, ap, ◌∙◌, sym, subst, arith, length-append}
+use Rattle.std.specs.Prelude.{filter, count_by, find, position, nat_lt, nat_le, is_none, if◌then◌else◌, ◌==◌, OnOk, OnErr}
 use Rattle.std.specs.List.{list_all, list_any}
+use Rattle.std.specs.declared.result.Result.{Result}
 use Rattle.std.specs.Str.{bytes_eq}
 use Rattle.std.proofs.lemmas.Bool.Decides.{nat_tests}
 use Rattle.std.proofs.lemmas.List.Recursion.{is_count_by}
@@ -135,6 +136,14 @@ kept_put table s is none =
       short = all-put_at (λ (x : Setting). nat_le (length x.bytes) 1024) place s table.settings is.short short;
       within = all-put_at (λ (x : Setting). has_block x.block table.blocks) place s table.settings is.within tests.0;
     }
+
+-- also where memory runs out, and nothing is put
+pub kept_put_or : {E : Type 0} (table : TableLists) (s : Setting) (place : Option ℕ) (new : List Setting) (r : Result (Unit {0}) E) → IsTable table → put_refusal s.block s.key s.bytes table ≡ None → place ≡ place_of s.block s.key table.settings → OnOk r (new ≡ put_at place s table.settings) → OnErr r (new ≡ table.settings) → IsTable (record { blocks = table.blocks; settings = new })
+kept_put_or table s place new (Ok x) is none at ok err =
+    let same : new ≡ with_setting s table.settings = ok ∙ ap (λ (i : Option ℕ). put_at i s table.settings) at in
+    subst (λ (xs : List Setting). IsTable (record { blocks = table.blocks; settings = xs })) (sym same) (kept_put table s is none)
+kept_put_or table s place new (Err e) is none at ok err =
+    subst (λ (xs : List Setting). IsTable (record { blocks = table.blocks; settings = xs })) (sym err) is
 
 fewer : (q : Setting → Bool) (b : List ℕ) (settings : List Setting) → count_of b settings ≤ 128 → count_of b (filter q settings) ≤ 128
 fewer q b settings most =

@@ -152,10 +152,13 @@ put_refusal block key bytes table =
     else (if nat_lt 1024 (length bytes) then Some TooLong
     else (if is_full block key table.settings then Some TooMany else None))
 
+-- the settings but for the one of a block and a key
+abbrev pub without_setting : List ℕ → OwnedKey → List Setting → List Setting
+without_setting block key settings = filter (λ setting. not (is_setting block key setting)) settings
+
 -- the table without a setting
 abbrev pub cleared : List ℕ → OwnedKey → TableLists → TableLists
-cleared block key table =
-    record { blocks = table.blocks; settings = filter (λ setting. not (is_setting block key setting)) table.settings }
+cleared block key table = record { blocks = table.blocks; settings = without_setting block key table.settings }
 
 -- at most 16 blocks with the root; each has at most 128 settings, and each value at most 1,024 bytes; there
 -- is no setting of a block that isn't there

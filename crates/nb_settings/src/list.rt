@@ -2,7 +2,7 @@ ghost use Rattle.std.specs.Prelude.{◌≡◌, ◌<◌, find, length, vec_len, I
 ghost use Rattle.std.specs.List.{list_any};
 ghost use Rattle.std.specs.Option.{ForSome, option_copied};
 ghost use Rattle.nb_settings.specs.Keys.{key_of};
-ghost use Rattle.nb_settings.specs.Tables.{block_of, has_block, is_named, count_of, is_setting, is_full, place_of, put_at, with_block, without_block};
+ghost use Rattle.nb_settings.specs.Tables.{block_of, has_block, is_named, count_of, is_setting, is_full, place_of, put_at, with_block, without_block, without_setting};
 ghost use Rattle.nb_settings.specs.declared.error.SetError.TheVariants as error;
 
 use crate::block::Block;
@@ -99,4 +99,11 @@ pub fn empty_block(settings: &mut Vec<Setting>, block: &[u8])
     ensures { settings.new.items ≡ without_block block.now settings.old.items }
 {
     settings.retain(|setting| !setting.is_of(block));
+}
+
+/// Drops the setting of a block with a key.
+pub fn drop_setting(settings: &mut Vec<Setting>, block: &[u8], key: &Key<'_>)
+    ensures { settings.new.items ≡ without_setting block.now (key_of key.now) settings.old.items }
+{
+    settings.retain(|setting| !setting.is(block, key));
 }

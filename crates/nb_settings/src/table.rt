@@ -8,7 +8,7 @@ ghost use Rattle.nb_settings.specs.declared.error.SetError.TheVariants as error;
 
 use crate::block::Block;
 use crate::list::{
-    count_of, empty_block, has_block, is_full, place_of, put, put_block, setting_of,
+    count_of, drop_setting, empty_block, has_block, is_full, place_of, put, put_block, setting_of,
 };
 use crate::lookup::first_behind;
 use crate::setting::Setting;
@@ -103,7 +103,7 @@ impl Table {
         if !has_block(self.blocks.as_slice(), block) {
             return Err(SetError::BadName);
         }
-        self.settings.retain(|setting| !setting.is(block, key));
+        drop_setting(&mut self.settings, block, key);
         Ok(())
     }
 
