@@ -1,9 +1,9 @@
-mod FindLemmas
-mod KindLemmas
-mod CutLemmas
-mod NumberLemmas
-mod KeyLemmas
-mod NameLemmas
-mod OrderLemmas
-mod LookupLemmas
-mod TableLemmas
+pub mod FindLemmas
+pub mod KindLemmas
+pub mod CutLemmas
+pub mod NumberLemmas
+pub mod KeyLemmas
+pub mod NameLemmas
+pub mod OrderLemmas
+pub mod LookupLemmas
+pub mod TableLemmas

@@ -1,5 +1,5 @@
 -- The first of the settings in the order of the blocks.
-use Rattle.std.proofs.Common.{◌≡◌, ℕ, Bool, true, false, cond, List, [], ◌∷◌, ◌++◌, map, Option, Some, None, refl, ap, ◌∙◌, sym}
+use Rattle.std.proofs.Common.{◌≡◌, ℕ, Bool, true, false, List, [], ◌∷◌, ◌++◌, map, Option, Some, None, refl, ap, ◌∙◌}
 use Rattle.std.specs.Prelude.{find, filter, slice_get, option_map, option_and_then, unwrap_or}
 use Rattle.std.specs.Borrow.{Bor}
 use Rattle.std.specs.List.{list_any}
@@ -7,7 +7,7 @@ use Rattle.std.specs.Option.{option_copied}
 use Rattle.nb_settings.specs.declared.block.Block.{Block}
 use Rattle.nb_settings.specs.declared.setting.OwnedKey.{OwnedKey}
 use Rattle.nb_settings.specs.declared.setting.Setting.{Setting}
-use Rattle.nb_settings.specs.Tables.{TableLists, SettingValue, setting_value, is_setting, is_behind, by_priority, settings_in, scope, look, own_value}
+use Rattle.nb_settings.specs.Tables.{TableLists, setting_value, is_setting, is_behind, by_priority, settings_in, look, own_value}
 use Rattle.nb_settings.specs.Order.{has_behind, value_behind}
 use Rattle.nb_settings.proofs.FindLemmas.{either_way}
 

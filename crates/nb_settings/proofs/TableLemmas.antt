@@ -1,6 +1,6 @@
 -- What the calls keep of a table.
-use Rattle.std.proofs.Common.{◌≡◌, ℕ, zero, suc, ◌+◌, ◌<◌, ◌≤◌, Bool, true, false, not, cond, ◌&&◌, ◌||◌, List, [], ◌∷◌, ◌++◌, length, get_or, set, Option, Some, None, Ok, Err, refl, ap, ◌∙◌, sym, subst, arith, length-append}
-use Rattle.std.specs.Prelude.{filter, count_by, find, position, nat_lt, nat_le, is_none, if◌then◌else◌, ◌==◌, OnOk, OnErr}
+use Rattle.std.proofs.Common.{◌≡◌, ℕ, zero, suc, ◌+◌, ◌<◌, ◌≤◌, Bool, true, false, not, cond, ◌&&◌, List, [], ◌∷◌, ◌++◌, length, get_or, set, Option, Some, None, Ok, Err, refl, ap, ◌∙◌, sym, subst, arith, length-append}
+use Rattle.std.specs.Prelude.{filter, count_by, find, nat_lt, nat_le, is_none, if◌then◌else◌, ◌==◌, OnOk, OnErr}
 use Rattle.std.specs.List.{list_all, list_any}
 use Rattle.std.specs.declared.result.Result.{Result}
 use Rattle.std.specs.Str.{bytes_eq}
@@ -10,12 +10,11 @@ use Rattle.std.proofs.lemmas.List.Quantifiers.{position-Some}
 use Rattle.std.proofs.lemmas.Option.{same_Some}
 use Rattle.std.proofs.lemmas.Slice.Eq.{bytes_eq-Decides}
 use Rattle.nb_settings.specs.declared.block.Block.{Block}
-use Rattle.nb_settings.specs.declared.error.SetError.{SetError}
 use Rattle.nb_settings.specs.declared.error.SetError.TheVariants.{BadName, TooMany, TooLong}
 use Rattle.nb_settings.specs.declared.setting.OwnedKey.{OwnedKey}
 use Rattle.nb_settings.specs.declared.setting.Setting.{Setting}
 use Rattle.nb_settings.specs.Keys.{same_key}
-use Rattle.nb_settings.specs.Tables.{TableLists, IsTable, is_of, is_setting, is_root, is_named, has_block, count_of, place_of, put_at, with_setting, with_value, with_block, without_block, registered, is_full, put_refusal, register_refusal, cleared}
+use Rattle.nb_settings.specs.Tables.{TableLists, IsTable, is_of, is_setting, is_root, is_named, has_block, count_of, place_of, put_at, with_setting, with_value, with_block, registered, is_full, put_refusal, register_refusal}
 use Rattle.nb_settings.proofs.FindLemmas.{either_way, find-passes}
 
 -- counting, head by head

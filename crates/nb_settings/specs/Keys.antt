@@ -1,5 +1,5 @@
 -- own: the keys of settings
-use Rattle.std.specs.Prelude.{ℕ, ◌==◌, ◌&&◌, Bool, false, List}
+use Rattle.std.specs.Prelude.{◌==◌, ◌&&◌, Bool, false}
 use Rattle.std.specs.Str.{bytes_eq}
 use Rattle.nb_settings.specs.declared.key.Key.{Key}
 use Rattle.nb_settings.specs.declared.key.Key.TheVariants as key

@@ -1,5 +1,5 @@
 -- own, after ipxe.org's settings: the grammar of a setting's name, `[block/]name[:kind]`
-use Rattle.std.specs.Prelude.{◌≡◌, ℕ, ◌≤◌, ◌==◌, ◌&&◌, ◌||◌, ◌⊎◌, Bool, true, not, List, [], ◌∷◌, ◌++◌, length, nat_lt, nat_le, Option, Some, None, codes, slice_get, find, IfSome, if◌then◌else◌}
+use Rattle.std.specs.Prelude.{◌≡◌, ℕ, ◌≤◌, ◌==◌, ◌&&◌, ◌||◌, ◌⊎◌, Bool, true, not, List, [], ◌∷◌, ◌++◌, length, nat_lt, nat_le, Option, Some, None, find, IfSome, if◌then◌else◌}
 use Rattle.std.specs.Char.{is_ascii_digit, is_ascii_alphanumeric}
 use Rattle.std.specs.Fmt.{decimal}
 use Rattle.std.specs.List.{list_all, range_with_len}

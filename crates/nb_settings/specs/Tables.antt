@@ -1,5 +1,5 @@
 -- own, after ipxe.org's settings: the table of blocks and settings, its look-up, and what the calls do to it
-use Rattle.std.specs.Prelude.{◌≡◌, ℕ, ◌+◌, ◌≤◌, ℤ, int_lt, ◌==◌, ◌&&◌, ◌||◌, Bool, true, not, List, [], ◌∷◌, ◌++◌, length, map, filter, count_by, find, position, nat_eq, nat_lt, nat_le, Option, Some, None, option_map, is_none, unwrap_or, slice_index, slice_get, slice_set, All, if◌then◌else◌}
+use Rattle.std.specs.Prelude.{◌≡◌, ℕ, ◌+◌, ◌≤◌, ℤ, int_lt, ◌==◌, ◌&&◌, ◌||◌, Bool, true, not, List, [], ◌∷◌, ◌++◌, length, map, filter, count_by, find, position, nat_eq, nat_lt, nat_le, Option, Some, None, option_map, is_none, unwrap_or, slice_index, slice_get, slice_set, if◌then◌else◌}
 use Rattle.std.specs.List.{flat_map, list_all, list_any, starts_with}
 use Rattle.std.specs.Str.{bytes_eq}
 use Rattle.nb_settings.specs.declared.block.Block.{Block}

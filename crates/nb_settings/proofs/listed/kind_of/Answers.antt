@@ -1,5 +1,4 @@
-use Rattle.std.proofs.Common.{◌≡◌, rules, Option, Some, None, refl}
-use Rattle.std.specs.Prelude.{option_map}
+use Rattle.std.proofs.Common.{rules}
 use Rattle.nb_settings.specs.Listed.{listed_kind}
 use Rattle.nb_settings.proofs.listed.kind_of.Goals as goal
 

@@ -1,4 +1,4 @@
-use Rattle.std.proofs.Common.{◌≡◌, ◌+◌, ◌∙◌, ap, sym, drop, Option, Some}
+use Rattle.std.proofs.Common.{◌+◌, ◌∙◌, ap, sym, drop, Option, Some}
 use Rattle.std.specs.Borrow.{Bor}
 use Rattle.std.specs.Option.{option_copied}
 use Rattle.nb_settings.specs.declared.block.Block.{Block}

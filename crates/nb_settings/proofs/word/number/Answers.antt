@@ -1,6 +1,5 @@
-use Rattle.std.proofs.Common.{◌≡◌, ◌<◌, ◌≤◌, ◌∙◌, get_or, sym, subst, arith, Ok, true, false, refl, List, ℕ}
-use Rattle.std.specs.Str.{IsUtf8, IsValidUpTo, valid_up_to}
-use Rattle.std.specs.Str.Parse.{ParsesUnsigned}
+use Rattle.std.proofs.Common.{◌≡◌, ◌<◌, ◌∙◌, get_or, sym, subst, arith, Ok, List, ℕ}
+use Rattle.std.specs.Str.{IsValidUpTo, valid_up_to}
 use Rattle.nb_settings.proofs.NumberLemmas.{number_read-decimal, number_read-none, parsed_is, parsed_from, decimal_first, decimal_utf8, ok_some, ok_none, text_is, no_text}
 use Rattle.nb_settings.proofs.word.number.Goals as goal
 

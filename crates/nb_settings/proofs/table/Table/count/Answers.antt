@@ -1,4 +1,4 @@
-use Rattle.std.proofs.Common.{◌≡◌, ◌∙◌, ap, arith, ℕ, List}
+use Rattle.std.proofs.Common.{◌≡◌, ◌∙◌, ap, arith, List}
 use Rattle.nb_settings.specs.declared.setting.Setting.{Setting}
 use Rattle.nb_settings.specs.Tables.{count_of}
 use Rattle.nb_settings.proofs.table.Table.count.Goals as goal

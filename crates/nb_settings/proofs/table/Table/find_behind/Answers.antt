@@ -1,4 +1,4 @@
-use Rattle.std.proofs.Common.{◌≡◌, ◌∙◌, ap, sym, subst, ℕ, List, Option, Some, None}
+use Rattle.std.proofs.Common.{◌≡◌, ◌∙◌, ap, sym, subst, ℕ, List, Some, None}
 use Rattle.std.specs.Prelude.{option_map, option_and_then, find}
 use Rattle.std.specs.Option.{option_copied}
 use Rattle.nb_settings.specs.declared.block.Block.{Block}

@@ -1,8 +1,5 @@
-use Rattle.std.proofs.Common.{◌≡◌, ◌≤◌, ◌∙◌, ap, sym, subst, ℕ, List, length, Option, Some, None, false, refl}
+use Rattle.std.proofs.Common.{◌≡◌, ◌≤◌, ◌∙◌, ap, sym, subst, length, Some, None, false}
 use Rattle.std.specs.Prelude.{option_map, find}
-use Rattle.nb_settings.specs.declared.block.Block.{Block}
-use Rattle.nb_settings.specs.declared.setting.Setting.{Setting}
-use Rattle.nb_settings.specs.declared.setting.Value.{Value}
 use Rattle.nb_settings.specs.Keys.{key_of}
 use Rattle.nb_settings.specs.Tables.{TableLists, SettingValue, value_of, setting_value, own_value, is_setting, has_block}
 use Rattle.nb_settings.proofs.TableLemmas.{found_short, absent_none}

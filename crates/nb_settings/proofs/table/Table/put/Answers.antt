@@ -1,7 +1,7 @@
-use Rattle.std.proofs.Common.{◌≡◌, ◌∙◌, ap, sym, subst, List, Option, None}
+use Rattle.std.proofs.Common.{◌≡◌, ◌∙◌, ap, sym, subst, None}
 use Rattle.nb_settings.specs.declared.setting.Setting.{Setting}
 use Rattle.nb_settings.specs.Keys.{key_of}
-use Rattle.nb_settings.specs.Tables.{TableLists, IsTable, put_refusal, place_of, setting_of}
+use Rattle.nb_settings.specs.Tables.{TableLists, put_refusal, place_of}
 use Rattle.nb_settings.proofs.TableLemmas.{kept_put_or}
 use Rattle.nb_settings.proofs.table.Table.put.Goals as goal
 

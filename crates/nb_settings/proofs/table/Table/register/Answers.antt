@@ -1,7 +1,7 @@
-use Rattle.std.proofs.Common.{◌≡◌, ◌∙◌, ap, sym, subst, w8, to_z, of_z, List, Option, None}
+use Rattle.std.proofs.Common.{◌≡◌, sym, subst, w8, to_z, of_z, List, None}
 use Rattle.nb_settings.specs.declared.block.Block.{Block}
 use Rattle.nb_settings.specs.declared.setting.Setting.{Setting}
-use Rattle.nb_settings.specs.Tables.{TableLists, IsTable, register_refusal, registered, block_of, without_block}
+use Rattle.nb_settings.specs.Tables.{TableLists, IsTable, register_refusal, block_of, without_block}
 use Rattle.nb_settings.proofs.TableLemmas.{kept_register}
 use Rattle.nb_settings.proofs.table.Table.register.Goals as goal
 
