@@ -1,7 +1,7 @@
 // The settings of a client, after ipxe.org's settings: the grammar of their names, the listed names with
-// their tags and kinds, and the table of blocks with its look-up by priority. What a value prints as and
-// how it is read from text is left to the crate above, and so are the settings of a lease. Begin with
-// `Name`, then `Table`.
+// their kinds and their tags, which are options of DHCP (RFC 2132), and the table of blocks with its
+// look-up by priority. How a value is printed and read from text is left to the crate above. The
+// settings of a lease are still left out. Begin with `Name`, then `Table`.
 #![tactic(auto)]
 
 mod block;

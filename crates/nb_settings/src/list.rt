@@ -80,7 +80,8 @@ pub fn put_block(
     name: &[u8],
     priority: i8,
 ) -> Result<(), SetError>
-    ensures ok { OnOk result (blocks.new.items ≡ with_block (block_of name.now priority) blocks.old.items) }
+    ensures ok { OnOk result
+        (blocks.new.items ≡ with_block (block_of name.now priority) blocks.old.items) }
     ensures refused { OnErr result (blocks.new.items ≡ blocks.old.items) }
     ensures memory { IfErr result (λ e. e ≡ error.NoMemory) }
 {

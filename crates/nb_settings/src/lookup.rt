@@ -1,4 +1,4 @@
-ghost use Rattle.std.specs.Prelude.{◌≡◌, ◌&&◌, find};
+ghost use Rattle.std.specs.Prelude.{◌≡◌, find};
 ghost use Rattle.std.specs.List.{list_any};
 ghost use Rattle.std.specs.Option.{option_copied};
 ghost use Rattle.nb_settings.specs.Keys.{key_of};
@@ -17,7 +17,8 @@ pub fn first_behind<'a>(
     key: &Key<'_>,
 ) -> Option<&'a Block>
     ensures { option_copied result
-        ≡ find (has_behind (option_copied block.entry) (key_of key.now) settings.now) (by_priority blocks.now) }
+        ≡ find (has_behind (option_copied block.entry) (key_of key.now) settings.now)
+        (by_priority blocks.now) }
 {
     let mut first = None;
     for candidate in blocks {
@@ -30,7 +31,8 @@ pub fn first_behind<'a>(
 
 /// Whether a block is looked up behind another, and has the key.
 fn has_behind(candidate: &Block, settings: &[Setting], block: Option<&[u8]>, key: &Key<'_>) -> bool
-    ensures { result ≡ has_behind (option_copied block.entry) (key_of key.now) settings.now candidate.now }
+    ensures { result
+        ≡ has_behind (option_copied block.entry) (key_of key.now) settings.now candidate.now }
 {
     is_behind(candidate, block) && has_key(settings, candidate.name.as_slice(), key)
 }

@@ -18,7 +18,8 @@ impl<'a> Name<'a> {
     /// The name that the bytes spell. None where they are outside the grammar.
     pub fn read(text: &'a [u8]) -> Option<Name<'a>>
         ensures sound { IfSome result (λ name. IsName text.now (name_of name)) }
-        ensures complete { (name : SettingName) → IsName text.now name → option_map name_of result ≡ Some name }
+        ensures complete { (name : SettingName) → IsName text.now name
+            → option_map name_of result ≡ Some name }
         // The same as one equation, by the function on lists that is proved to be the grammar.
         ensures exact { option_map name_of result ≡ name_read text.now }
     {

@@ -62,7 +62,8 @@ impl Setting {
         kind: Kind,
         bytes: &[u8],
     ) -> Result<Setting, NoMemory>
-        ensures { IfOk result (λ setting. setting ≡ setting_of block.now (key_of key.now) kind bytes.now) }
+        ensures { IfOk result
+            (λ setting. setting ≡ setting_of block.now (key_of key.now) kind bytes.now) }
     {
         Ok(Setting {
             block: copy(alloc, block)?,

@@ -1,4 +1,4 @@
-ghost use Rattle.std.specs.Prelude.{◌≡◌, ◌<◌, ◌≤◌, ◌⊎◌, None, Some, true, false, length, IfOk, OnOk, OnErr, IfErr, IfSome, option_map};
+ghost use Rattle.std.specs.Prelude.{◌≡◌, ◌≤◌, ◌⊎◌, None, Some, true, false, length, OnOk, OnErr, IfErr, IfSome, option_map};
 ghost use Rattle.std.specs.Option.{option_copied};
 ghost use Rattle.std.specs.Result.{MatchResult};
 ghost use Rattle.nb_settings.specs.Keys.{key_of};
@@ -111,7 +111,8 @@ impl Table {
     /// of equal ones the earlier-registered first; with one that block, then those whose name is its name, a
     /// dot and more, in the same order. The first that has the key gives the value. None where none has it.
     pub fn find(&self, block: Option<&[u8]>, key: &Key<'_>) -> Option<Value<'_>>
-        ensures value { option_map value_of result ≡ look (option_copied block.entry) (key_of key.now) self.now }
+        ensures value { option_map value_of result
+            ≡ look (option_copied block.entry) (key_of key.now) self.now }
         ensures fits { IfSome result (λ value. length value.bytes.now ≤ 1024) }
     {
         match self.own(block.unwrap_or(ROOT), key) {
@@ -171,7 +172,8 @@ impl Table {
 
     /// The value of a key in the first block that has it, of those behind a block or behind the root.
     fn find_behind(&self, block: Option<&[u8]>, key: &Key<'_>) -> Option<Value<'_>>
-        ensures value { option_map value_of result ≡ value_behind (option_copied block.entry) (key_of key.now) self.now }
+        ensures value { option_map value_of result
+            ≡ value_behind (option_copied block.entry) (key_of key.now) self.now }
         ensures fits { IfSome result (λ value. length value.bytes.now ≤ 1024) }
     {
         let first = first_behind(self.blocks.as_slice(), self.settings.as_slice(), block, key)?;
