@@ -1,0 +1,9 @@
+pub mod FindLemmas
+pub mod KindLemmas
+pub mod CutLemmas
+pub mod NumberLemmas
+pub mod KeyLemmas
+pub mod NameLemmas
+pub mod OrderLemmas
+pub mod LookupLemmas
+pub mod TableLemmas
