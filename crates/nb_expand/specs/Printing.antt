@@ -1,7 +1,7 @@
 -- Own, with RFC 4648 and RFC 9562: a setting's value as text, by its kind
 use Rattle.std.specs.Prelude.{ℕ, ◌==◌, List, [], length, if◌then◌else◌}
-use Rattle.nb_expand.specs.declared.kind.Kind.{Kind}
-use Rattle.nb_expand.specs.declared.kind.Kind.TheVariants.{Str, Ipv4, Int8, Int16, Int32, Uint8, Uint16, Uint32, Hex, Hexhyp, Hexraw, Base64, Uuid, Uristring}
+use Rattle.nb_settings.specs.declared.kind.Kind.{Kind}
+use Rattle.nb_settings.specs.declared.kind.Kind.TheVariants.{Str, Ipv4, Int8, Int16, Int32, Uint8, Uint16, Uint32, Hex, Hexhyp, Hexraw, Base64, Uuid, Uristring}
 use Rattle.hex.specs.Hex.{encode_lower}
 use Rattle.base64.specs.Engines.{standard}
 use Rattle.base64.specs.GeneralPurpose.{encode_of}

@@ -6,7 +6,6 @@
 
 mod address;
 mod error;
-mod kind;
 mod number;
 mod pairs;
 mod parsing;
@@ -14,7 +13,6 @@ mod printing;
 mod token;
 
 pub use error::ParseError;
-pub use kind::Kind;
 pub use parsing::parse;
 pub use printing::print;
 

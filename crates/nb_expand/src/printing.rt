@@ -7,7 +7,7 @@ ghost use Rattle.nb_expand.specs.Printing.{printed, printed_uuid};
 ghost use Rattle.nb_expand.specs.Reading.{parsed, IsWhole};
 ghost use Rattle.nb_expand.specs.Uris.{printed_uri};
 
-use crate::Kind;
+use nb_settings::Kind;
 use crate::address::print_address;
 use crate::number::{print_signed, print_unsigned};
 use crate::pairs::print_pairs;
