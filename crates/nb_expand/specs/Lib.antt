@@ -5,3 +5,5 @@ pub mod Uris
 pub mod Printing
 pub mod Reading
 pub mod Expansion
+pub mod Gathering
+pub mod Values

@@ -6,13 +6,17 @@
 
 mod address;
 mod error;
+mod expansion;
+mod gathered;
 mod number;
 mod pairs;
 mod parsing;
 mod printing;
 mod token;
+mod values;
 
-pub use error::ParseError;
+pub use error::{ExpandError, ParseError};
+pub use expansion::expand;
 pub use parsing::parse;
 pub use printing::print;
 

@@ -1,0 +1,5 @@
+pub mod GatheringLemmas
+pub mod ExpansionLemmas
+pub mod UriLemmas
+pub mod PairLemmas
+pub mod AddressLemmas
