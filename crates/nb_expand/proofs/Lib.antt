@@ -3,3 +3,4 @@ pub mod ExpansionLemmas
 pub mod UriLemmas
 pub mod PairLemmas
 pub mod AddressLemmas
+pub mod NumberLemmas

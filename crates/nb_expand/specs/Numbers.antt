@@ -4,7 +4,7 @@ use Rattle.std.specs.Fmt.{decimal, digits, signed_decimal}
 use Rattle.std.specs.Int.{cast_signed, cast_unsigned, from_be_bytes, to_be_bytes, w32}
 use Rattle.std.specs.List.{starts_with}
 use Rattle.std.specs.Option.{option_map}
-use Rattle.nb_defs.specs.Commands.{number_of, are_digits, digits_value}
+use Rattle.nb_defs.specs.Commands.{number_of, are_digits, has_no_leading_zero, digits_value}
 
 -- the last bytes of a value, at most so many
 abbrev pub last_bytes : ℕ → List ℕ → List ℕ
@@ -63,6 +63,9 @@ parsed_signed size text =
 abbrev pub parsed_unsigned : ℕ → List ℕ → Option (List ℕ)
 parsed_unsigned size text = option_map (number_bytes size) (below (256 ^ size) (number_of text))
 
--- the number of digits in a base
+-- the number of digits in a base, and of decimal digits without leading zeros
 abbrev pub digits_number : ℕ → List ℕ → Option ℕ
 digits_number base text = if are_digits base text then Some (digits_value base text) else None
+
+abbrev pub decimal_number : List ℕ → Option ℕ
+decimal_number text = if has_no_leading_zero text then digits_number 10 text else None

@@ -1,10 +1,10 @@
-ghost use Rattle.std.specs.Prelude.{◌≡◌, ◌+◌, ◌-◌, ◌^◌, ◌<◌, ◌≤◌, length, None, IfOk, if◌then◌else◌};
+ghost use Rattle.std.specs.Prelude.{◌≡◌, ◌+◌, ◌-◌, ◌^◌, ◌<◌, ◌≤◌, length, IfOk};
 ghost use Rattle.std.specs.Int.{cast_unsigned, w32};
 ghost use Rattle.std.specs.Char.{is_digit};
 ghost use Rattle.std.specs.List.{list_all};
 ghost use Rattle.std.specs.Option.{option_map};
-ghost use Rattle.nb_defs.specs.Commands.{number_of, are_digits, has_no_leading_zero, digits_value};
-ghost use Rattle.nb_expand.specs.Numbers.{last_bytes, filled, sign_fill, signed_of, unsigned_of, printed_signed, printed_unsigned, below, within, signed_number_of, digits_number};
+ghost use Rattle.nb_defs.specs.Commands.{number_of};
+ghost use Rattle.nb_expand.specs.Numbers.{last_bytes, filled, sign_fill, signed_of, unsigned_of, printed_signed, printed_unsigned, below, within, signed_number_of, digits_number, decimal_number};
 
 use nb_terms::NoMemory;
 use std::alloc::Global;
@@ -80,21 +80,28 @@ pub(crate) fn read_signed(text: &[u8], most: u32) -> Option<u32>
     }
 }
 
-/// The number that a text writes, up to `most`: decimal digits without leading zeros, or `0x` and
-/// hexadecimal digits.
-#[tactic(auto, unfolding(nb_defs::specs::Commands::number_of))]
+/// The number that a text writes, up to `most`.
 pub(crate) fn read_unsigned(text: &[u8], most: u32) -> Option<u32>
     ensures { result ≡ below (most + 1) (number_of text.now) }
 {
-    let number = match text.strip_prefix(b"0x") {
-        Some(behind) => digits(behind, 16)?,
-        None => decimal(text)?,
-    };
+    let number = number(text)?;
     (number <= most).then_some(number)
 }
 
+/// The number that a text writes: decimal digits without leading zeros, or `0x` and hexadecimal
+/// digits. None where it is over 32 bits.
+fn number(text: &[u8]) -> Option<u32>
+    ensures { result ≡ below (2 ^ 32) (number_of text.now) }
+{
+    match text.strip_prefix(b"0x") {
+        Some(behind) => digits(behind, 16),
+        None => decimal(text),
+    }
+}
+
+/// The number of decimal digits without leading zeros. None where it is over 32 bits.
 pub(crate) fn decimal(text: &[u8]) -> Option<u32>
-    ensures { result ≡ below (2 ^ 32) (if has_no_leading_zero text.now then digits_number 10 text.now else None) }
+    ensures { result ≡ below (2 ^ 32) (decimal_number text.now) }
 {
     if text.len() > 1 && text[0] == b'0' {
         return None;
