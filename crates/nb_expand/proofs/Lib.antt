@@ -4,3 +4,7 @@ pub mod UriLemmas
 pub mod PairLemmas
 pub mod AddressLemmas
 pub mod NumberLemmas
+pub mod NameLemmas
+pub mod NumberBackLemmas
+pub mod BytesBackLemmas
+pub mod ReadBackLemmas

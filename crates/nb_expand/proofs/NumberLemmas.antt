@@ -18,7 +18,7 @@ use Rattle.nb_defs.specs.Commands.{number_of, are_digits, has_no_leading_zero, d
 use Rattle.nb_expand.specs.Numbers.{below, within, signed_number_of, digits_number, decimal_number}
 
 -- the two spellings of a value
-value_after : (base n : ℕ) (text : List ℕ) → fold (λ m d. m * base + digit_value d) n text ≡ std.digits_value_after base n text
+pub value_after : (base n : ℕ) (text : List ℕ) → fold (λ m d. m * base + digit_value d) n text ≡ std.digits_value_after base n text
 value_after base n [] = refl
 value_after base n (c ∷ text) = value_after base (n * base + digit_value c) text
 
