@@ -48,6 +48,7 @@ cut_adds byte (b ∷ bs) cut h = cut_by byte b bs cut (b == byte) refl (cut_adds
 
 -- a word, and a block's name
 word_short : (text : List ℕ) → is_word text ≡ true → length text ≤ 63
+unfolding is_word
 word_short text h =
     let some = ltb 0 (length text) in
     let few = nat_le (length text) 63 in
@@ -153,7 +154,7 @@ block_then : (test : Bool) (cut : List ℕ × List ℕ) (name : SettingName) →
 block_then true cut name e h = omega (arith, block_short cut.0 e, tail_short (Some cut.0) cut.1 name h)
 block_then false cut name e h = cc
 
-pub block_cut-short : (cut : Option (List ℕ × List ℕ)) (text : List ℕ) (name : SettingName) → cut_at 47 text ≡ cut → block_cut cut text ≡ Some name → length text ≤ 201
+block_cut-short : (cut : Option (List ℕ × List ℕ)) (text : List ℕ) (name : SettingName) → cut_at 47 text ≡ cut → block_cut cut text ≡ Some name → length text ≤ 201
 block_cut-short None text name e h = omega (arith, tail_short None text name h)
 block_cut-short (Some cut) text name e h = omega (arith, cut_adds 47 text cut e, block_then (is_block_name cut.0) cut name refl h)
 
@@ -164,7 +165,7 @@ nothing (Some x) never = absurd (never x refl)
 -- a longer text is no name
 read_none : (text : List ℕ) → 201 < length text → name_read text ≡ None
 unfolding name_read
-read_none text long = refl
+read_none text long = nothing (name_read text) (λ name h. omega (arith, long, block_cut-short (cut_at 47 text) text name refl h))
 
 pub named_text-knows : (table : TableLists) → KnowsNames (named_text table)
 unfolding named_text

@@ -50,9 +50,9 @@ second_not (c ∷ d ∷ text) h =
     let other : d ≢ 120 = λ e. not_x d e h.1.0 in
     let off : nat_eq d 120 ≡ false = ne_eqb d 120 other in
     rw off (elim (nat_eq c 48) as (λ t. (t && (false && true)) ≡ false) [ true ↦ refl | false ↦ refl ])
-    where
-      not_x : (d : ℕ) → d ≡ 120 → digit_value d < 10 → ⊥
-      not_x d e h = grind (arith, nat_tests)
+  where
+    not_x : (d : ℕ) → d ≡ 120 → digit_value d < 10 → ⊥
+    not_x d e h = grind (arith, nat_tests)
 
 pub number_of-printed : (n : ℕ) → n < 2 ^ 64 → number_of (decimal n) ≡ Some n
 number_of-printed n h = number_of-decimal (decimal n) (second_not (decimal n) (decimal_is_IsNumeral n h).0.1) ∙ decimal_number-decimal n h
@@ -68,9 +68,9 @@ not_minus [] h = absurd (omega (arith, h.0))
 not_minus (c ∷ text) h =
     let other : 45 ≢ c = λ e. no_digit c (sym e) h.1.0 in
     rw (ne_eqb 45 c other) refl
-    where
-      no_digit : (c : ℕ) → c ≡ 45 → digit_value c < 10 → ⊥
-      no_digit c e h = grind (arith, nat_tests)
+  where
+    no_digit : (c : ℕ) → c ≡ 45 → digit_value c < 10 → ⊥
+    no_digit c e h = grind (arith, nat_tests)
 
 abbrev pub IsSmall : ℤ → Type 0
 IsSmall (pos n) = n < 2 ^ 63

@@ -38,9 +38,9 @@ use Rattle.nb_expand.proofs.BytesBackLemmas.{AreBytes, signed_one_back, signed_t
 no_dot : (text : List ℕ) → AllDigits 10 text → All (λ c. is_dot c ≡ false) text
 no_dot [] h = All-nil (λ c. is_dot c ≡ false)
 no_dot (c ∷ text) h = All-cons (λ c. is_dot c ≡ false) c text (ne_eqb c 46 (λ e. dot_is_none c e h.0)) (no_dot text h.1)
-    where
-      dot_is_none : (c : ℕ) → c ≡ 46 → digit_value c < 10 → ⊥
-      dot_is_none c e h = grind (arith, nat_tests)
+  where
+    dot_is_none : (c : ℕ) → c ≡ 46 → digit_value c < 10 → ⊥
+    dot_is_none c e h = grind (arith, nat_tests)
 
 decimal_part : (a : ℕ) (rest : List ℕ) → a < 256 → slice_split is_dot (decimal a ++ (46 ∷ rest)) ≡ decimal a ∷ slice_split is_dot rest
 decimal_part a rest h = slice_split_at is_dot (decimal a) 46 rest (no_dot (decimal a) (decimal_is_IsNumeral a (omega arith)).0.1) refl

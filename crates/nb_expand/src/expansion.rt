@@ -30,7 +30,12 @@ pub fn expand(alloc: Global, text: &[u8], table: &Table) -> Result<Word, ExpandE
 }
 
 /// What is gathered behind one token more.
-fn after(alloc: Global, gathered: Gathered, token: Token, table: &Table) -> Result<Gathered, ExpandError>
+fn after(
+    alloc: Global,
+    gathered: Gathered,
+    token: Token,
+    table: &Table,
+) -> Result<Gathered, ExpandError>
     ensures same { IfOk result (λ new. (rest : List Token) →
         answer_from (named_text table.now) gathered (token ∷ rest) ≡ answer_from (named_text table.now) new rest) }
     ensures bad_name { IsErrOf result ExpandError.BadName → (rest : List Token) →

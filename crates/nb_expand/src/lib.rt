@@ -20,5 +20,5 @@ pub use expansion::expand;
 pub use parsing::parse;
 pub use printing::print;
 
-
-
+#[cfg(test)]
+mod tests;

@@ -10,14 +10,14 @@ ghost use Rattle.nb_expand.specs.Addresses.{parsed_address};
 ghost use Rattle.nb_expand.specs.Numbers.{number_bytes};
 ghost use Rattle.nb_expand.specs.Reading.{parsed};
 
+use crate::ParseError;
 use crate::address::read_address;
 use crate::number::{read_signed, read_unsigned};
 use crate::pairs::parse_pairs;
-use crate::ParseError;
-use nb_settings::Kind;
 use base64::DecodeAllocError;
 use base64::engine::general_purpose::STANDARD;
 use hex::FromHexError;
+use nb_settings::Kind;
 use nb_wire::Text;
 use percent_encoding::percent_decode;
 use std::alloc::Global;

@@ -7,11 +7,11 @@ ghost use Rattle.nb_expand.specs.Printing.{printed, printed_uuid};
 ghost use Rattle.nb_expand.specs.Reading.{parsed, IsWhole};
 ghost use Rattle.nb_expand.specs.Uris.{printed_uri};
 
-use nb_settings::Kind;
 use crate::address::print_address;
 use crate::number::{print_signed, print_unsigned};
 use crate::pairs::print_pairs;
 use base64::engine::general_purpose::STANDARD;
+use nb_settings::Kind;
 use nb_terms::NoMemory;
 use nb_wire::Text;
 use percent_encoding::{AsciiSet, NON_ALPHANUMERIC, ascii_set, percent_encode};
@@ -19,8 +19,13 @@ use std::alloc::Global;
 use uuid::Uuid;
 
 /// All but the unreserved characters of RFC 3986, section 2.3.
-const RESERVED: AsciiSet =
-    ascii_set!(NON_ALPHANUMERIC.remove(b'-').remove(b'.').remove(b'_').remove(b'~'));
+const RESERVED: AsciiSet = ascii_set!(
+    NON_ALPHANUMERIC
+        .remove(b'-')
+        .remove(b'.')
+        .remove(b'_')
+        .remove(b'~')
+);
 
 /// A setting's value as text, by a kind. An integer kind prints the last bytes of a longer value, and
 /// extends a shorter one; an empty value prints nothing.
