@@ -1,14 +1,13 @@
 -- The bytes of the number of some bytes are those bytes.
-use Rattle.std.proofs.Common.{◌≡◌, ℕ, zero, suc, ◌+◌, ◌*◌, ◌-◌, ◌/◌, ◌^◌, ◌<◌, ◌≤◌, Bool, true, false, cond, List, [], ◌∷◌, ◌++◌, length, drop, get_or, codes, Option, Some, None, ℤ, pos, negsuc, refl, sym, ap, ◌∙◌, arith}
+use Rattle.std.proofs.Common.{◌≡◌, ℕ, zero, suc, ◌+◌, ◌*◌, ◌-◌, ◌/◌, ◌^◌, ◌<◌, ◌≤◌, false, List, [], ◌∷◌, ◌++◌, drop, get_or, codes, Some, ℤ, pos, negsuc, refl, ap, ◌∙◌, arith}
 use Rattle.std.specs.Fmt.{signed_decimal, digits}
 use Rattle.std.specs.Int.{cast_signed, cast_unsigned, from_be_bytes, to_be_bytes, w32}
-use Rattle.std.specs.Option.{option_map}
 use Rattle.std.proofs.Math.Logic.{⊎_elim}
 use Rattle.std.proofs.lemmas.Bool.{cases_lt, lt-ltb, le-ltb, le-leb, lt-leb}
 use Rattle.std.proofs.lemmas.Bool.Decides.{nat_tests}
 use Rattle.std.proofs.lemmas.Int.{of_z-to_z}
 use Rattle.std.proofs.lemmas.Nat.{be_bytes_4}
-use Rattle.nb_expand.specs.Numbers.{filled, sign_fill, signed_of, unsigned_of, last_bytes, printed_signed, printed_unsigned, below, within, number_bytes, parsed_signed, parsed_unsigned}
+use Rattle.nb_expand.specs.Numbers.{sign_fill, signed_of, printed_signed, printed_unsigned, within, number_bytes, parsed_signed, parsed_unsigned}
 use Rattle.nb_expand.proofs.NumberBackLemmas.{IsSmall, signed_number_of-printed, number_of-printed_hex}
 
 abbrev pub AreBytes : List ℕ → Type 0

@@ -1,17 +1,16 @@
 -- No name of a setting has more than 201 bytes.
-use Rattle.std.proofs.Common.{◌≡◌, ℕ, zero, suc, ◌+◌, ◌<◌, ◌≤◌, ◌==◌, nat_le, Bool, true, false, ◌&&◌, cond, List, [], ◌∷◌, length, Option, Some, None, option_and_then, find, not, ltb, refl, sym, ap, ◌∙◌, arith, codes}
+use Rattle.std.proofs.Common.{◌≡◌, ℕ, ◌+◌, ◌<◌, ◌≤◌, ◌==◌, nat_le, Bool, true, false, ◌&&◌, cond, List, [], ◌∷◌, length, Option, Some, None, option_and_then, find, not, ltb, refl, sym, ap, ◌∙◌, arith}
 use Rattle.std.specs.Fmt.{decimal, digits}
 use Rattle.std.specs.List.{list_all, range_with_len}
 use Rattle.std.specs.Option.{option_map}
 use Rattle.std.specs.Str.{bytes_eq}
 use Rattle.std.specs.Char.{is_ascii_digit}
-use Rattle.std.proofs.Math.Logic.{⊎_elim}
-use Rattle.std.proofs.lemmas.Bool.{and_parts, cases_Bool, leb-true, false≢true}
+use Rattle.std.proofs.lemmas.Bool.{and_parts, leb-true}
 use Rattle.std.proofs.lemmas.Slice.Eq.{bytes_eq-Decides}
 use Rattle.nb_settings.specs.declared.kind.Kind.{Kind}
 use Rattle.nb_settings.specs.declared.setting.OwnedKey.{OwnedKey}
 use Rattle.nb_settings.specs.Kinds.{kind_name, kind_named, all_kinds}
-use Rattle.nb_settings.specs.Names.{SettingName, is_word_byte, is_word, cut_at, number_read, two_words, is_block_name, word_read, tag_or_word, undotted_or_sub, key_read, kind_cut, tail_read, block_cut, name_read}
+use Rattle.nb_settings.specs.Names.{SettingName, is_word_byte, is_word, cut_at, number_read, two_words, is_block_name, tag_or_word, undotted_or_sub, key_read, kind_cut, tail_read, block_cut, name_read}
 use Rattle.nb_settings.specs.Tables.{TableLists}
 use Rattle.nb_expand.specs.Values.{named_text, text_of_name}
 use Rattle.nb_expand.proofs.ExpansionLemmas.{KnowsNames}

@@ -1,6 +1,5 @@
 -- A number's text reads back as the number.
-use Rattle.std.proofs.Common.{◌≡◌, ◌≢◌, ℕ, zero, suc, ◌+◌, ◌*◌, ◌-◌, ◌^◌, ◌<◌, ◌≤◌, ◌==◌, Bool, true, false, not, ◌&&◌, ◌||◌, cond, List, [], ◌∷◌, ◌++◌, length, take, drop, get_or, codes, nat_eq, ltb, Option, Some, None, ℤ, pos, negsuc, neg_ℤ, refl, sym, subst, ap, ◌∙◌, arith}
-use Rattle.std.specs.Prelude.{fold}
+use Rattle.std.proofs.Common.{◌≡◌, ◌≢◌, ℕ, zero, suc, ◌^◌, ◌<◌, ◌==◌, true, false, ◌&&◌, List, [], ◌∷◌, ◌++◌, length, take, get_or, codes, nat_eq, Some, ℤ, pos, negsuc, neg_ℤ, refl, sym, ap, ◌∙◌, arith}
 use Rattle.std.specs.Char.{digit_value, is_digit}
 use Rattle.std.specs.Cmp.Lexicographic.{pointwise}
 use Rattle.std.specs.Fmt.{decimal, digits, signed_decimal}
@@ -8,11 +7,10 @@ use Rattle.std.specs.List.{list_all, starts_with}
 use Rattle.std.specs.Option.{option_map}
 use Rattle.std.specs.Str.Parse.{AllDigits, IsNumeral}
 use Rattle.std.specs.Str.Parse as std
-use Rattle.std.proofs.Math.Logic.{⊎_elim}
-use Rattle.std.proofs.lemmas.Bool.{cases_lt, lt-ltb, ne_eqb, and_from}
+use Rattle.std.proofs.lemmas.Bool.{lt-ltb, ne_eqb}
 use Rattle.std.proofs.lemmas.Bool.Decides.{nat_tests}
 use Rattle.std.proofs.lemmas.Fmt.{decimal_is_IsNumeral, digits_is_IsNumeral, decimal_digit, first_decimal}
-use Rattle.nb_defs.specs.Commands.{number_of, are_digits, has_no_leading_zero, digits_value}
+use Rattle.nb_defs.specs.Commands.{number_of, has_no_leading_zero}
 use Rattle.nb_expand.specs.Numbers.{digits_number, decimal_number, signed_number_of}
 use Rattle.nb_expand.proofs.NumberLemmas.{value_after, number_of-hex, number_of-decimal}
 

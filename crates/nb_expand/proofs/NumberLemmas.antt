@@ -1,21 +1,19 @@
 -- Numbers of digits: their test, their value, and bounds on it.
-use Rattle.std.proofs.Common.{◌≡◌, ℕ, zero, suc, ◌+◌, ◌*◌, ◌-◌, ◌%◌, ◌^◌, ◌<◌, ◌≤◌, Bool, true, false, not, ◌&&◌, cond, List, [], ◌∷◌, length, take, drop, get_or, codes, nat_eq, ltb, Option, Some, None, Result, Ok, Err, ℤ, pos, negsuc, neg_ℤ, refl, sym, subst, ap, ◌∙◌, inl, inr, arith}
+use Rattle.std.proofs.Common.{◌≡◌, ℕ, zero, suc, ◌+◌, ◌*◌, ◌^◌, ◌<◌, ◌≤◌, Bool, true, false, ◌&&◌, cond, List, [], ◌∷◌, length, take, drop, get_or, codes, nat_eq, ltb, Option, Some, None, Result, Ok, Err, refl, sym, subst, ap, ◌∙◌, arith}
 use Rattle.std.specs.Prelude.{fold}
 use Rattle.std.specs.Char.{digit_value, is_digit}
-use Rattle.std.specs.Int.{cast_unsigned, w32}
 use Rattle.std.specs.List.{list_all, starts_with}
 use Rattle.std.specs.Cmp.Lexicographic.{pointwise}
-use Rattle.std.specs.Option.{option_map}
 use Rattle.std.specs.Result.{OkIff, MatchResult, result_ok}
 use Rattle.std.specs.Str.{IsAscii, IsUtf8}
 use Rattle.std.specs.Str.Parse.{AllDigits, IsNumeral, ParsesUnsigned, without_leading_plus}
 use Rattle.std.specs.Str.Parse as std
 use Rattle.std.proofs.Math.Logic.{⊎_elim}
-use Rattle.std.proofs.lemmas.Bool.{and_parts, cases_lt, cases_Bool, ltb-true, ltb-false, lt-ltb, le-ltb, eqb-true}
+use Rattle.std.proofs.lemmas.Bool.{and_parts, cases_lt, ltb-true, lt-ltb, le-ltb, eqb-true}
 use Rattle.std.proofs.lemmas.Bool.Decides.{nat_tests}
 use Rattle.std.proofs.lemmas.Str.Parse.{without_leading_plus_none}
 use Rattle.nb_defs.specs.Commands.{number_of, are_digits, has_no_leading_zero, digits_value}
-use Rattle.nb_expand.specs.Numbers.{below, within, signed_number_of, digits_number, decimal_number}
+use Rattle.nb_expand.specs.Numbers.{below, digits_number, decimal_number}
 
 -- the two spellings of a value
 pub value_after : (base n : ℕ) (text : List ℕ) → fold (λ m d. m * base + digit_value d) n text ≡ std.digits_value_after base n text

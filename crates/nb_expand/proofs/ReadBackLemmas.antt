@@ -1,9 +1,8 @@
 -- A value, printed and read again, is the same value.
-use Rattle.std.proofs.Common.{◌≡◌, ◌≢◌, ℕ, zero, suc, ◌+◌, ◌*◌, ◌/◌, ◌%◌, ◌<◌, ◌≤◌, ◌==◌, Bool, true, false, cond, List, [], ◌∷◌, ◌++◌, length, get_or, codes, Option, Some, None, Ok, option_and_then, All, refl, sym, ap, ◌∙◌, inl, arith, append_assoc}
-use Rattle.std.specs.Char.{digit_value, is_digit}
+use Rattle.std.proofs.Common.{◌≡◌, ℕ, suc, ◌+◌, ◌*◌, ◌/◌, ◌%◌, ◌<◌, ◌==◌, true, false, List, [], ◌∷◌, ◌++◌, length, get_or, Some, All, refl, sym, ap, ◌∙◌, inl, arith, append_assoc}
+use Rattle.std.specs.Char.{digit_value}
 use Rattle.std.specs.Fmt.{decimal}
 use Rattle.std.specs.List.{flat_map, slice_split}
-use Rattle.std.specs.Option.{option_map}
 use Rattle.std.specs.Result.{result_ok}
 use Rattle.std.specs.Str.Parse.{AllDigits}
 use Rattle.std.proofs.lemmas.Bool.{eq-eqb, ne_eqb, lt-ltb}
@@ -11,7 +10,7 @@ use Rattle.std.proofs.lemmas.Bool.Decides.{nat_tests}
 use Rattle.std.proofs.lemmas.Fmt.{decimal_is_IsNumeral}
 use Rattle.std.proofs.lemmas.List.Elements.{All-cons, All-nil, All-from_get_or}
 use Rattle.std.proofs.lemmas.List.Splits.{slice_split_at, slice_split_none}
-use Rattle.hex.specs.Hex.{encode_lower, encode_with, lower_digits, hex_digit_value, decode_of}
+use Rattle.hex.specs.Hex.{encode_lower, encode_with, lower_digits}
 use Rattle.hex.proofs.HexLemmas.{IsDigits-lower_digits, decode_of-encode_lower}
 use Rattle.base64.specs.Engines.{standard}
 use Rattle.base64.specs.GeneralPurpose.{encode_of, decoded_of}
@@ -23,8 +22,8 @@ use Rattle.uuid.proofs.RoundTrips.{parses_hyphenated_text}
 use Rattle.nb_settings.specs.declared.kind.Kind.{Kind}
 use Rattle.nb_settings.specs.declared.kind.Kind.TheVariants.{Str, Ipv4, Int8, Int16, Int32, Uint8, Uint16, Uint32, Hex, Hexhyp, Hexraw, Base64, Uuid, Uristring}
 use Rattle.nb_expand.specs.declared.printing.TheConstants.{RESERVED}
-use Rattle.nb_expand.specs.Addresses.{printed_address, decimal_byte, decimal_bytes, decimals, parsed_address, is_dot}
-use Rattle.nb_expand.specs.Numbers.{below, decimal_number, printed_signed, printed_unsigned, parsed_signed, parsed_unsigned}
+use Rattle.nb_expand.specs.Addresses.{printed_address, decimal_byte, decimals, parsed_address, is_dot}
+use Rattle.nb_expand.specs.Numbers.{printed_signed, printed_unsigned, parsed_signed, parsed_unsigned}
 use Rattle.nb_expand.specs.Pairs.{printed_pairs, byte_of, pairs_behind, parsed_pairs}
 use Rattle.nb_expand.specs.Printing.{printed, printed_uuid}
 use Rattle.nb_expand.specs.Reading.{parsed, IsWhole}

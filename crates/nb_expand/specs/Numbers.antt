@@ -1,6 +1,6 @@
 -- Own: numbers in settings, big-endian in two's complement, and as text
-use Rattle.std.specs.Prelude.{ℕ, ◌-◌, ◌*◌, ◌/◌, ◌^◌, Bool, false, nat_lt, nat_le, nat_eq, List, [], ◌∷◌, ◌++◌, length, drop, replicate, slice_index, Option, Some, None, ℤ, pos, negsuc, neg_ℤ, if◌then◌else◌, codes}
-use Rattle.std.specs.Fmt.{decimal, digits, signed_decimal}
+use Rattle.std.specs.Prelude.{ℕ, ◌-◌, ◌/◌, ◌^◌, false, nat_lt, nat_le, nat_eq, List, [], ◌∷◌, ◌++◌, length, drop, replicate, slice_index, Option, Some, None, ℤ, pos, negsuc, neg_ℤ, if◌then◌else◌, codes}
+use Rattle.std.specs.Fmt.{digits, signed_decimal}
 use Rattle.std.specs.Int.{cast_signed, cast_unsigned, from_be_bytes, to_be_bytes, w32}
 use Rattle.std.specs.List.{starts_with}
 use Rattle.std.specs.Option.{option_map}

@@ -1,7 +1,6 @@
-use Rattle.std.proofs.Common.{◌≡◌, Option, None, Some, [], ◌∷◌, sym, ap, ◌∙◌, List, ℕ}
+use Rattle.std.proofs.Common.{Option, [], ◌∷◌, sym, ap, ◌∙◌, List, ℕ}
 use Rattle.std.specs.Option.{option_map}
-use Rattle.nb_expand.specs.Addresses.{decimal_and_dot, decimal_byte, parsed_address}
-use Rattle.nb_expand.proofs.AddressLemmas.{chain, chain_none, chain_some, chain-decimals}
+use Rattle.nb_expand.proofs.AddressLemmas.{chain_none, chain_some, chain-decimals}
 use Rattle.nb_expand.proofs.address.read_address.Goals as goal
 
 abbrev front : ℕ → Option (List ℕ) → Option (List ℕ)

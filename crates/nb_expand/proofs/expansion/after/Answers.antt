@@ -1,6 +1,5 @@
-use Rattle.std.proofs.Common.{◌≡◌, ap, List, [], ◌∷◌, sym, ◌∙◌, true}
+use Rattle.std.proofs.Common.{ap, [], ◌∷◌, ◌∙◌}
 use Rattle.std.proofs.lemmas.Bool.{false≢true}
-use Rattle.nb_expand.specs.declared.token.Token.{Token}
 use Rattle.nb_expand.specs.Gathering.{answer_from, with_more}
 use Rattle.nb_expand.specs.Values.{named_text}
 use Rattle.nb_expand.proofs.ExpansionLemmas.{alike_answer, after_close, after_plain_close, none_open}

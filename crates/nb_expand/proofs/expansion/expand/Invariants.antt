@@ -1,4 +1,4 @@
-use Rattle.std.proofs.Common.{◌≡◌, [], length}
+use Rattle.std.proofs.Common.{◌≡◌, length}
 use Rattle.nb_expand.specs.Expansion.{expanded, tokens}
 use Rattle.nb_expand.specs.Gathering.{answer_from}
 use Rattle.nb_expand.specs.Values.{named_text}

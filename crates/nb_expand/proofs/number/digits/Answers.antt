@@ -1,4 +1,4 @@
-use Rattle.std.proofs.Common.{◌∙◌, sym, arith}
+use Rattle.std.proofs.Common.{◌∙◌, sym}
 use Rattle.std.proofs.lemmas.Str.{IsUtf8-from_ascii}
 use Rattle.nb_expand.proofs.NumberLemmas.{all_digits, digits-ascii, parsed-digits, utf8_taken, taken}
 use Rattle.nb_expand.proofs.number.digits.Goals as goal

@@ -1,5 +1,5 @@
 use Rattle.hex.specs.Hex.{decode_sized}
-use Rattle.std.proofs.Common.{◌∷◌, [], arith}
+use Rattle.std.proofs.Common.{◌∷◌, []}
 use Rattle.nb_expand.specs.Pairs.{byte_of}
 use Rattle.nb_expand.proofs.PairLemmas.{byte_of-tells, byte_of-ok, byte_of-err}
 use Rattle.nb_expand.proofs.pairs.byte_of.Goals as goal

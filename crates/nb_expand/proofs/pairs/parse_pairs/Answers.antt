@@ -1,4 +1,4 @@
-use Rattle.std.proofs.Common.{◌≡◌, ◌++◌, [], ◌∷◌, Some, ap, sym, ◌∙◌}
+use Rattle.std.proofs.Common.{◌++◌, ap, sym, ◌∙◌}
 use Rattle.std.specs.Option.{option_map}
 use Rattle.nb_expand.specs.Pairs.{pairs_behind}
 use Rattle.nb_expand.proofs.PairLemmas.{pairs-first, pairs-next, byte_more}

@@ -1,4 +1,3 @@
-use Rattle.std.proofs.Common.{◌∙◌}
 use Rattle.nb_expand.proofs.UriLemmas.{percent_encode-reserved}
 use Rattle.nb_expand.proofs.printing.print_uri.Goals as goal
 
