@@ -12,13 +12,15 @@ use nb_settings::Table;
 use nb_wire::{MAX_WORD, Word};
 use std::alloc::Global;
 
-/// A word with each `${name}` replaced by its setting's value as text, from the left and from the inside
-/// out. A `}` by itself is a character, and so is a `${` that is never closed.
+/// A word with each `${name}` replaced by its setting's value as text, from the left and from the
+/// inside out. A `}` by itself is a character, and so is a `${` that is never closed.
 pub fn expand(alloc: Global, text: &[u8], table: &Table) -> Result<Word, ExpandError>
     ensures value { IfOk result (λ word. expanded (named_text table.now) text.now ≡ Ok word) }
     // A name outside the grammar goes before a word of over 4,096 bytes.
-    ensures bad_name { IsErrOf result ExpandError.BadName → expanded (named_text table.now) text.now ≡ Err ExpandError.BadName }
-    ensures too_long { IsErrOf result ExpandError.TooLong → expanded (named_text table.now) text.now ≡ Err ExpandError.TooLong }
+    ensures bad_name { IsErrOf result ExpandError.BadName
+        → expanded (named_text table.now) text.now ≡ Err ExpandError.BadName }
+    ensures too_long { IsErrOf result ExpandError.TooLong
+        → expanded (named_text table.now) text.now ≡ Err ExpandError.TooLong }
 {
     let mut gathered = Gathered::new(alloc);
     let mut rest = text;
@@ -37,7 +39,8 @@ fn after(
     table: &Table,
 ) -> Result<Gathered, ExpandError>
     ensures same { IfOk result (λ new. (rest : List Token) →
-        answer_from (named_text table.now) gathered (token ∷ rest) ≡ answer_from (named_text table.now) new rest) }
+        answer_from (named_text table.now) gathered (token ∷ rest)
+        ≡ answer_from (named_text table.now) new rest) }
     ensures bad_name { IsErrOf result ExpandError.BadName → (rest : List Token) →
         answer_from (named_text table.now) gathered (token ∷ rest) ≡ Err ExpandError.BadName }
     ensures any_length { result ≢ Err ExpandError.TooLong }
@@ -56,7 +59,8 @@ fn after(
 fn word_of(text: Vec<u8>) -> Result<Word, ExpandError>
     ensures value { IfOk result (λ word. answer (Some text.items) ≡ Ok word) }
     ensures bad_name { result ≢ Err ExpandError.BadName }
-    ensures too_long { IsErrOf result ExpandError.TooLong → answer (Some text.items) ≡ Err ExpandError.TooLong }
+    ensures too_long { IsErrOf result ExpandError.TooLong
+        → answer (Some text.items) ≡ Err ExpandError.TooLong }
 {
     if text.len() > MAX_WORD {
         return Err(ExpandError::TooLong);

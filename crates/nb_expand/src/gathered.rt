@@ -10,8 +10,8 @@ use std::marker::Model;
 /// The most bytes that a name of a setting has: a block of two words, a word, and the longest kind.
 const MAX_NAME: usize = 201;
 
-/// What a text is expanded to so far: the result's text, behind it each open part as `${` and its text,
-/// and where these texts begin.
+/// What a text is expanded to so far: the result's text, behind it each open part as `${` and its
+/// text, and where these texts begin.
 #[derive(Drop)]
 pub(crate) struct Gathered {
     text: Vec<u8>,
@@ -99,7 +99,8 @@ impl Gathered {
 
     /// How many bytes may be added until the answer depends on no further ones.
     fn room(&self) -> usize
-        ensures { result ≡ max (4097 - length (put_back self.now.inner self.now.around)) (202 - length self.now.inner) }
+        ensures { result ≡ max (4097 - length (put_back self.now.inner self.now.around))
+            (202 - length self.now.inner) }
     {
         let word = (MAX_WORD + 1).saturating_sub(self.text.len());
         let name = (MAX_NAME + 1).saturating_sub(self.inner().len());

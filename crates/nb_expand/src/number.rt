@@ -72,7 +72,8 @@ fn filled(fill: u8, bytes: &[u8]) -> [u8; 4]
 /// The number that a text writes, from -`most` - 1 to `most`, in two's complement.
 pub(crate) fn read_signed(text: &[u8], most: u32) -> Option<u32>
     requires { most < 2 ^ 31 }
-    ensures { result ≡ option_map (cast_unsigned w32) (within (most + 1) (signed_number_of text.now)) }
+    ensures { result
+        ≡ option_map (cast_unsigned w32) (within (most + 1) (signed_number_of text.now)) }
 {
     match text.strip_prefix(b"-") {
         Some(behind) => Some(read_unsigned(behind, most + 1)?.wrapping_neg()),

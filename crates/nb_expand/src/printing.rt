@@ -27,12 +27,13 @@ const RESERVED: AsciiSet = ascii_set!(
         .remove(b'~')
 );
 
-/// A setting's value as text, by a kind. An integer kind prints the last bytes of a longer value, and
-/// extends a shorter one; an empty value prints nothing.
+/// A setting's value as text, by a kind. An integer kind prints the last bytes of a longer value,
+/// and extends a shorter one; an empty value prints nothing.
 pub fn print(alloc: Global, kind: Kind, bytes: &[u8]) -> Result<Text, NoMemory>
     ensures value { IfOk result (λ text. text ≡ printed kind bytes.now) }
     // A value of its kind's length, printed and read again, is the same value.
-    ensures read_back { IsWhole kind bytes.now → parsed kind (printed kind bytes.now) ≡ Some bytes.now }
+    ensures read_back { IsWhole kind bytes.now
+        → parsed kind (printed kind bytes.now) ≡ Some bytes.now }
 {
     Ok(Text::from_vec(print_bytes(alloc, kind, bytes)?))
 }

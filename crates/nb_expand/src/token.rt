@@ -14,7 +14,8 @@ pub(crate) enum Token {
 
 /// The first token of a text, and what stands behind it. None at the text's end.
 pub(crate) fn next_token(text: &[u8]) -> Option<(Token, &[u8])>
-    ensures value { MatchOption result (tokens text.now ≡ []) (λ next. tokens text.now ≡ next.0 ∷ tokens next.1.now) }
+    ensures value { MatchOption result (tokens text.now ≡ [])
+        (λ next. tokens text.now ≡ next.0 ∷ tokens next.1.now) }
     ensures shorter { IfSome result (λ next. length next.1.now < length text.now) }
 {
     match text {
