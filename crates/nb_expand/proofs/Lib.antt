@@ -1,0 +1,10 @@
+pub mod GatheringLemmas
+pub mod ExpansionLemmas
+pub mod UriLemmas
+pub mod PairLemmas
+pub mod AddressLemmas
+pub mod NumberLemmas
+pub mod NameLemmas
+pub mod NumberBackLemmas
+pub mod BytesBackLemmas
+pub mod ReadBackLemmas

@@ -1,0 +1,9 @@
+pub mod Numbers
+pub mod Pairs
+pub mod Addresses
+pub mod Uris
+pub mod Printing
+pub mod Reading
+pub mod Expansion
+pub mod Gathering
+pub mod Values

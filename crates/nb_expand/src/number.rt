@@ -1,0 +1,132 @@
+ghost use Rattle.std.specs.Prelude.{◌≡◌, ◌+◌, ◌-◌, ◌^◌, ◌<◌, ◌≤◌, length, IfOk};
+ghost use Rattle.std.specs.Int.{cast_unsigned, w32};
+ghost use Rattle.std.specs.Char.{is_digit};
+ghost use Rattle.std.specs.List.{list_all};
+ghost use Rattle.std.specs.Option.{option_map};
+ghost use Rattle.nb_defs.specs.Commands.{number_of};
+ghost use Rattle.nb_expand.specs.Numbers.{last_bytes, filled, sign_fill, signed_of, unsigned_of, printed_signed, printed_unsigned, below, within, signed_number_of, digits_number, decimal_number};
+
+use nb_terms::NoMemory;
+use std::alloc::Global;
+use std::str;
+
+/// A value's last bytes, at most `size`, as a number with a sign. No bytes print nothing.
+pub(crate) fn print_signed(alloc: Global, size: usize, bytes: &[u8]) -> Result<Vec<u8>, NoMemory>
+    requires { size ≤ 4 }
+    ensures { IfOk result (λ text. text.items ≡ printed_signed size bytes.now) }
+{
+    if bytes.is_empty() {
+        return Ok(Vec::new(alloc));
+    }
+    let number = signed(last_bytes(size, bytes));
+    Ok(format!(in alloc; "{number}")?.into_bytes())
+}
+
+/// A value's last bytes, at most `size`, as `0x` and hexadecimal digits. No bytes print nothing.
+pub(crate) fn print_unsigned(alloc: Global, size: usize, bytes: &[u8]) -> Result<Vec<u8>, NoMemory>
+    requires { size ≤ 4 }
+    ensures { IfOk result (λ text. text.items ≡ printed_unsigned size bytes.now) }
+{
+    if bytes.is_empty() {
+        return Ok(Vec::new(alloc));
+    }
+    let number = u32::from_be_bytes(filled(0, last_bytes(size, bytes)));
+    Ok(format!(in alloc; "0x{number:x}")?.into_bytes())
+}
+
+fn last_bytes(size: usize, bytes: &[u8]) -> &[u8]
+    ensures value { result.now ≡ last_bytes size bytes.now }
+    ensures few { length result.now ≤ size }
+{
+    &bytes[bytes.len().saturating_sub(size)..]
+}
+
+/// The number of big-endian bytes in two's complement.
+fn signed(bytes: &[u8]) -> i32
+    requires { length bytes.now ≤ 4 }
+    ensures { result ≡ signed_of bytes.now }
+{
+    i32::from_be_bytes(filled(sign_fill(bytes), bytes))
+}
+
+/// What extends a number by its sign.
+fn sign_fill(bytes: &[u8]) -> u8
+    ensures { result ≡ sign_fill bytes.now }
+{
+    match bytes {
+        [0x80..=0xff, ..] => 0xff,
+        _ => 0,
+    }
+}
+
+/// Four bytes, with `fill` before those that are given.
+fn filled(fill: u8, bytes: &[u8]) -> [u8; 4]
+    requires { length bytes.now ≤ 4 }
+    ensures { result ≡ filled fill bytes.now }
+{
+    let mut word = [fill; 4];
+    word[4 - bytes.len()..].copy_from_slice(bytes);
+    word
+}
+
+/// The number that a text writes, from -`most` - 1 to `most`, in two's complement.
+pub(crate) fn read_signed(text: &[u8], most: u32) -> Option<u32>
+    requires { most < 2 ^ 31 }
+    ensures { result
+        ≡ option_map (cast_unsigned w32) (within (most + 1) (signed_number_of text.now)) }
+{
+    match text.strip_prefix(b"-") {
+        Some(behind) => Some(read_unsigned(behind, most + 1)?.wrapping_neg()),
+        None => read_unsigned(text, most),
+    }
+}
+
+/// The number that a text writes, up to `most`.
+pub(crate) fn read_unsigned(text: &[u8], most: u32) -> Option<u32>
+    ensures { result ≡ below (most + 1) (number_of text.now) }
+{
+    let number = number(text)?;
+    (number <= most).then_some(number)
+}
+
+/// The number that a text writes: decimal digits without leading zeros, or `0x` and hexadecimal
+/// digits. None where it is over 32 bits.
+fn number(text: &[u8]) -> Option<u32>
+    ensures { result ≡ below (2 ^ 32) (number_of text.now) }
+{
+    match text.strip_prefix(b"0x") {
+        Some(behind) => digits(behind, 16),
+        None => decimal(text),
+    }
+}
+
+/// The number of decimal digits without leading zeros. None where it is over 32 bits.
+pub(crate) fn decimal(text: &[u8]) -> Option<u32>
+    ensures { result ≡ below (2 ^ 32) (decimal_number text.now) }
+{
+    if text.len() > 1 && text[0] == b'0' {
+        return None;
+    }
+    digits(text, 10)
+}
+
+/// The value of digits in a base. None where one is no digit, there is none, or it is over 32 bits.
+fn digits(text: &[u8], base: u32) -> Option<u32>
+    requires low { 2 ≤ base }
+    requires high { base ≤ 16 }
+    ensures { result ≡ below (2 ^ 32) (digits_number base text.now) }
+{
+    // `from_str_radix` reads a sign too.
+    if !are_digits(text, base) {
+        return None;
+    }
+    u32::from_str_radix(str::from_utf8(text).ok()?, base).ok()
+}
+
+fn are_digits(text: &[u8], base: u32) -> bool
+    requires low { 2 ≤ base }
+    requires high { base ≤ 16 }
+    ensures { result ≡ list_all (λ c. is_digit c base) text.now }
+{
+    text.iter().all(|byte| char::from(*byte).is_digit(base))
+}
