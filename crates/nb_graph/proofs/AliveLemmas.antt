@@ -1,5 +1,5 @@
 -- Calm calls, with what objects stand for.
-use Rattle.std.proofs.Common.{◌≡◌, ◌≢◌, ℕ, true, List, [], ◌∷◌, ◌++◌, Option, Some, None, refl, ap, sym, ◌∙◌, subst, append-nil}
+use Rattle.std.proofs.Common.{◌≡◌, ℕ, true, List, [], ◌++◌, Option, refl, ap, sym, ◌∙◌, subst, append-nil}
 use Rattle.nb_terms.specs.declared.event.Event.{Event}
 use Rattle.nb_ledger.specs.GraphRun.{Frame, IsIdle, Run}
 use Rattle.nb_ledger.specs.Ledger.{Ledger, busy, Agrees, state_of}

@@ -1,12 +1,12 @@
 -- Whole entries, with what objects stand for.
-use Rattle.std.proofs.Common.{◌≡◌, ◌≢◌, ℕ, Bool, false, List, [], ◌∷◌, ◌++◌, Option, Some, refl, ap}
+use Rattle.std.proofs.Common.{◌≡◌, ◌≢◌, ℕ, Bool, false, List, [], ◌∷◌, ◌++◌, Option, refl, ap}
 use Rattle.nb_ledger.specs.declared.event.GraphEvent.{GraphEvent}
 use Rattle.nb_graph.specs.Trace.{Entry}
 use Rattle.nb_graph.specs.declared.effects.Fx.{Fx}
-use Rattle.nb_graph.specs.Deeds.{Deed, writes, Stage, Notes, after_event, Calls, Hands}
+use Rattle.nb_graph.specs.Deeds.{writes, Stage, Notes, after_event, Calls, Hands}
 use Rattle.nb_graph.specs.Lives.{Lives, Loses, Same, Back, AllBack, Lends, LendsFirst, Stays, here}
-use Rattle.nb_graph.proofs.LivesLemmas.{Lives-then, Lives-under, Lives-note, Lives-weaken}
-use Rattle.nb_graph.proofs.OwingLemmas.{Same-lends, Same-first, AllBack-first, AllBack-back}
+use Rattle.nb_graph.proofs.LivesLemmas.{Lives-then, Lives-under, Lives-note}
+use Rattle.nb_graph.proofs.OwingLemmas.{Same-lends, Same-first, AllBack-first}
 
 -- an entry from above
 pub Lives-entry : {N L : Type 0} {stands : N → List (Entry N L) → Type 0} {now : ℕ} {f0 f1 f2 f3 f4 : ℕ → Option N} {m0 m1 : List Stage → List Stage} {xs ys : List GraphEvent} (b c : ℕ → Bool) (y : ℕ) (ls : List L) (e : GraphEvent) (entry : Bool → Fx N L → Entry N L) → ((x : ℕ) → x ≢ y → c x ≡ b x) → Loses f0 f1 → ((x : ℕ) (t : List (Entry N L)) → after_event x t e ≡ t) → ((st : List Stage) → Notes e st (m0 st)) → ((k : Lives stands now f1 f2 (Lends y ls) m0 m1 []) × Calls y entry k.deeds) → Lives stands now f2 f3 (Back c y ls) here here xs → Lives stands now f3 f4 Stays m1 here ys → (r : Lives stands now f0 f4 (Same b) here here (e ∷ (xs ++ ys))) × Hands e y entry r.deeds

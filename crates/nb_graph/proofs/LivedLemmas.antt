@@ -1,5 +1,5 @@
 -- The public calls, with what objects stand for.
-use Rattle.std.proofs.Common.{◌≡◌, ℕ, Bool, true, false, List, [], ◌∷◌, ◌++◌, Option, Some, inl, refl, sym, ◌∙◌}
+use Rattle.std.proofs.Common.{◌≡◌, ℕ, Bool, List, [], ◌∷◌, ◌++◌, Option, inl, refl, sym, ◌∙◌}
 use Rattle.std.proofs.lemmas.Bool.{false≢true}
 use Rattle.nb_terms.specs.declared.event.Event.{Event}
 use Rattle.nb_ledger.specs.declared.port.Port.{Port}
@@ -7,16 +7,15 @@ use Rattle.nb_ledger.specs.declared.port.PortState.TheVariants as state
 use Rattle.nb_ledger.specs.declared.event.GraphEvent.{GraphEvent}
 use Rattle.nb_ledger.specs.declared.event.GraphEvent.TheVariants.{Dropped}
 use Rattle.nb_ledger.specs.Flat.{Tells}
-use Rattle.nb_ledger.specs.Ledger.{Ledger, busy, rank, port}
-use Rattle.nb_ledger.specs.Changes.{SameObjects}
+use Rattle.nb_ledger.specs.Ledger.{Ledger, busy, port}
 use Rattle.nb_graph.specs.declared.effects.Fx.{Fx}
 use Rattle.nb_graph.specs.Trace.{Entry}
-use Rattle.nb_graph.specs.Deeds.{Deed, writes, Hands}
-use Rattle.nb_graph.specs.Whole.{Objects, IsQuiet, IsGraph}
-use Rattle.nb_graph.specs.Lives.{Lives, CalmFor, LivelyFor, RunFor, Loses, Same, IsUnder, nodes_at}
-use Rattle.nb_graph.specs.Lived.{StandsFor, KeepsTraces, Lived}
+use Rattle.nb_graph.specs.Deeds.{writes, Hands}
+use Rattle.nb_graph.specs.Whole.{Objects, IsQuiet}
+use Rattle.nb_graph.specs.Lives.{CalmFor, LivelyFor, RunFor, Loses, Same, IsUnder, nodes_at}
+use Rattle.nb_graph.specs.Lived.{KeepsTraces, Lived}
 use Rattle.nb_graph.proofs.RunsLemmas.{Agrees-quiet, Runs-drop, IsRun-none, IsRun-trans}
-use Rattle.nb_graph.proofs.LivesLemmas.{Lives-then, Lives-none}
+use Rattle.nb_graph.proofs.LivesLemmas.{Lives-then}
 
 -- a book and its nodes
 abbrev pub objects_of : {N : Type 0} → Ledger → List N → Objects N

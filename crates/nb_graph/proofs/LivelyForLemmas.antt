@@ -1,18 +1,16 @@
 -- Messages that go up, with what objects stand for.
-use Rattle.std.proofs.Common.{◌≡◌, ◌≢◌, ℕ, ◌+◌, ◌<◌, ◌≤◌, Bool, true, false, List, [], ◌∷◌, ◌++◌, length, length-append, Option, Some, None, inl, inr, refl, ap, sym, ◌∙◌, subst, arith, ltb}
+use Rattle.std.proofs.Common.{◌≡◌, ◌≢◌, ℕ, ◌<◌, ◌≤◌, true, false, List, [], ◌++◌, length, Option, Some, None, inl, inr, refl, ap, sym, ◌∙◌, subst, arith}
 use Rattle.std.proofs.lemmas.Bool.{cases_Bool, cases_eq, lt-ltb, le-ltb}
 use Rattle.nb_terms.specs.declared.event.Event.{Event}
-use Rattle.nb_ledger.specs.declared.port.Port.{Port}
 use Rattle.nb_ledger.specs.GraphRun.{Frame, IsIdle, Run}
 use Rattle.nb_ledger.specs.Ledger.{Ledger, busy, rank, Agrees, state_of}
 use Rattle.nb_graph.specs.Trace.{Entry, Said, left, said_behind}
 use Rattle.nb_graph.specs.Deeds.{Stage}
-use Rattle.nb_graph.specs.Calm.{Calm}
-use Rattle.nb_graph.specs.Lively.{Grows, Lively, LivelyIn}
-use Rattle.nb_graph.specs.Lives.{Lives, CalmFor, LivelyFor, LivelyInFor, Same, Back, AllBack, IsBelow, IsUnder, here, nodes_at}
-use Rattle.nb_graph.proofs.LivelyLemmas.{Lively-calm, Lively-refl, Lively-trans, LivelyIn-calm, LivelyIn-lively, LivelyIn-refl, LivelyIn-trans}
+use Rattle.nb_graph.specs.Lively.{Grows}
+use Rattle.nb_graph.specs.Lives.{Lives, CalmFor, LivelyFor, LivelyInFor, Same, Back, IsBelow, IsUnder, here, nodes_at}
+use Rattle.nb_graph.proofs.LivelyLemmas.{Lively-calm, Lively-refl, Lively-trans, LivelyIn-lively, LivelyIn-trans}
 use Rattle.nb_graph.proofs.LivesLemmas.{Lives-then, Lives-after, Lives-none, Lives-weaken}
-use Rattle.nb_graph.proofs.OwingLemmas.{Same-then, Back-then, Back-same, Same-back}
+use Rattle.nb_graph.proofs.OwingLemmas.{Back-then, Back-same, Same-back}
 
 pub LivelyFor-calm : {N L : Type 0} {stands : N → List (Entry N L) → Type 0} {now : ℕ} {a b : Ledger} {na nb : List N} {m n : Option (List Event)} {p : ℕ → List L → List L → Type 0} → CalmFor stands now a b na nb p m n → LivelyFor stands now a b na nb p m n
 unfolding Lively-calm

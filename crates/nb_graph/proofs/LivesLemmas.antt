@@ -6,7 +6,7 @@ use Rattle.nb_ledger.specs.declared.port.Port.{Port}
 use Rattle.nb_ledger.specs.declared.event.GraphEvent.{GraphEvent}
 use Rattle.nb_ledger.specs.declared.event.GraphEvent.TheVariants.{Made, Plugged}
 use Rattle.nb_graph.specs.Trace.{Entry, Owes, Owes1}
-use Rattle.nb_graph.specs.Deeds.{Deed, writes, calls, Stage, Notes, Hears, Follows, events_of, trace_after, after_event, Calls, Hands}
+use Rattle.nb_graph.specs.Deeds.{Deed, writes, calls, Stage, Notes, Hears, Follows, events_of, trace_after, after_event}
 use Rattle.nb_graph.specs.Lives.{Lives, Same, Stays, here, Fits}
 
 -- what is owed after a trace and one more

@@ -1,10 +1,10 @@
 -- The nodes by their serials, after a change of the book or of a node.
-use Rattle.std.proofs.Common.{◌≡◌, ◌≢◌, ℕ, ◌+◌, ◌<◌, ◌≤◌, Bool, true, false, cond, ltb, zero, suc, List, [], ◌∷◌, ◌++◌, length, set, get_or, slice_get, Option, Some, None, refl, ap, sym, ◌∙◌, subst, arith, inl, inr, add-one, eqb}
+use Rattle.std.proofs.Common.{◌≡◌, ◌≢◌, ℕ, ◌+◌, ◌<◌, ◌≤◌, Bool, true, false, cond, ltb, zero, suc, List, [], ◌∷◌, ◌++◌, length, set, get_or, slice_get, Option, Some, None, refl, ap, sym, ◌∙◌, subst, arith, inl, inr, eqb}
 use Rattle.std.specs.List.{remove}
 use Rattle.std.proofs.lemmas.Bool.{cases_Bool, cases_eq, eq-eqb, ne_eqb, ltb-false}
 use Rattle.std.proofs.lemmas.Bool.Decides.{nat_tests}
 use Rattle.nb_ledger.specs.declared.object.Object.{Object}
-use Rattle.nb_ledger.specs.Ledger.{Ledger, live, place, place_in}
+use Rattle.nb_ledger.specs.Ledger.{Ledger, live, place}
 use Rattle.nb_ledger.specs.Changes.{SameObjects, Adds, Removes}
 use Rattle.nb_ledger.proofs.PlaceLemmas.{live_place, live-stands, serial-place}
 use Rattle.nb_graph.specs.Whole.{IsManned}

@@ -6,9 +6,9 @@ use Rattle.nb_ledger.specs.declared.port.PortState.{PortState}
 use Rattle.nb_ledger.specs.GraphRun.{Frame}
 use Rattle.nb_ledger.specs.Ledger.{Ledger, place, busy, rank}
 use Rattle.nb_ledger.specs.Settled.{Settles}
-use Rattle.nb_graph.specs.Trace.{Entry, Owes, IsSettled}
+use Rattle.nb_graph.specs.Trace.{Entry, Owes}
 use Rattle.nb_graph.specs.Deeds.{Deed, Stage, events_of, trace_after, Follows}
-use Rattle.nb_graph.specs.Whole.{Objects, Runs, node_of}
+use Rattle.nb_graph.specs.Whole.{Runs}
 use Rattle.nb_graph.specs.Calm.{Calm, Ends, SettlesTwo}
 use Rattle.nb_graph.specs.Lively.{Lively, LivelyIn}
 use Rattle.nb_ledger.specs.declared.port.ObjId.{ObjId}

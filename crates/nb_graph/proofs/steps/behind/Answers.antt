@@ -1,5 +1,4 @@
 use Rattle.std.proofs.Common.{ap}
-use Rattle.nb_graph.specs.Trace.{Said}
 use Rattle.nb_graph.proofs.CutLemmas.{behind-bytes}
 use Rattle.nb_graph.proofs.steps.behind.Goals as goal
 

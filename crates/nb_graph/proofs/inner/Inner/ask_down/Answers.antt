@@ -1,5 +1,5 @@
-use Rattle.std.proofs.Common.{refl, sym, ◌∙◌, ap, subst, true, false, [], ◌++◌}
-use Rattle.nb_graph.specs.Trace.{down, said, lent, Owes}
+use Rattle.std.proofs.Common.{refl, true, false}
+use Rattle.nb_graph.specs.Trace.{down, said}
 use Rattle.nb_graph.proofs.SeatLemmas.{Calls-seat}
 use Rattle.std.proofs.Common.{arith}
 use Rattle.nb_graph.proofs.MannedLemmas.{manned-place, IsManned-node}

@@ -1,5 +1,3 @@
-use Rattle.nb_graph.proofs.EntryLemmas.{Lives-entry}
-use Rattle.nb_graph.proofs.AliveLemmas.{CalmFor-refl}
 use Rattle.std.proofs.Common.{refl, None, ◌∷◌}
 use Rattle.nb_ledger.specs.declared.event.GraphEvent.TheVariants.{Left}
 use Rattle.nb_graph.specs.Deeds.{Holds}

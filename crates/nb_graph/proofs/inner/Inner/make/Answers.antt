@@ -1,4 +1,4 @@
-use Rattle.std.proofs.Common.{◌≡◌, ◌≢◌, ℕ, arith, refl, sym, subst, [], ◌∷◌, ◌++◌}
+use Rattle.std.proofs.Common.{arith, refl, sym, subst, []}
 use Rattle.nb_graph.proofs.SeatLemmas.{made-seat, other-seat}
 use Rattle.nb_graph.proofs.GraphLemmas.{IsGraph-make, IsMade-make, KeepsRanks-make}
 use Rattle.nb_graph.proofs.inner.Inner.make.Goals as goal
