@@ -147,7 +147,7 @@ pub IsLinked-flag : {old new : Ledger} {x : ℕ} {b : Bool} → SetsBusy old new
 IsLinked-flag {old} {new} {x} {b} c l = IsLinked-same (port old) (port new) (rank old) (rank new) c.same_port c.objects.same_rank l
 
 -- an entry ends, and what is owed is done
-pub Ends-leave : {old mid new : Ledger} {before between after : Option (List Event)} {p : Port} {was : Bool} (by : Way) → SetsBusy old mid p.obj.0 was → Tells before between (event.Left p ∷ []) → ((w : Way) (st : List Frame) → Step (state_of old (Running p w ∷ st)) (event.Left p) (owed p.obj.0 (state_of mid st))) → Settles mid new between after p.obj → Ends old new before after p.obj.0 was (λ st. Running p by ∷ st) (port old)
+unfoldable pub Ends-leave : {old mid new : Ledger} {before between after : Option (List Event)} {p : Port} {was : Bool} (by : Way) → SetsBusy old mid p.obj.0 was → Tells before between (event.Left p ∷ []) → ((w : Way) (st : List Frame) → Step (state_of old (Running p w ∷ st)) (event.Left p) (owed p.obj.0 (state_of mid st))) → Settles mid new between after p.obj → Ends old new before after p.obj.0 was (λ st. Running p by ∷ st) (port old)
 Ends-leave {old} {mid} {new} {before} {between} {after} {p} {was} by c told step s =
     let k = Shrinks-settle s in
     record {

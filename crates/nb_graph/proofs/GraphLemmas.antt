@@ -16,7 +16,7 @@ use Rattle.nb_graph.proofs.MannedLemmas.{removed-length, IsManned-same, length-r
 use Rattle.nb_graph.proofs.WholeLemmas.{but_other, but_same, CountedBut-add, IsLinked-add, IsQuiet-add, IsQuiet-holds, IsQuiet-plug, IsWhole-hold, IsWhole-plug, IsWhole-settle, IsQuiet-settle}
 
 -- the last element of a list
-slice_get-push : {A : Type 0} (xs : List A) (x : A) → slice_get (xs ++ x ∷ []) (length xs) ≡ Some x
+pub slice_get-push : {A : Type 0} (xs : List A) (x : A) → slice_get (xs ++ x ∷ []) (length xs) ≡ Some x
 slice_get-push [] x = refl
 slice_get-push (y ∷ ys) x = slice_get-push ys x
 

@@ -10,3 +10,11 @@ pub mod ShutLemmas
 pub mod EndLemmas
 pub mod LivelyLemmas
 pub mod NodeLemmas
+pub mod LivesLemmas
+pub mod SeatLemmas
+pub mod OwingLemmas
+pub mod EntryLemmas
+pub mod AliveLemmas
+pub mod LivelyForLemmas
+pub mod CutLemmas
+pub mod LivedLemmas

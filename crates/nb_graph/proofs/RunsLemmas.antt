@@ -31,7 +31,7 @@ pub Agrees-quiet : (l : Ledger) → IsQuiet l → Agrees l []
 Agrees-quiet l q = λ x. q.idle x
 
 -- a hold is let go, and what is owed then is done
-pub IsRun-let_go : (old mid new : Ledger) (before between after : Option (List Event)) (id : ObjId) → IsQuiet mid → Tells before between (LetGo id ∷ []) → ((st : List Frame) → IsIdle st → Step (state_of old st) (LetGo id) (owed id.0 (state_of mid st))) → Settles mid new between after id → IsRun old new before after
+unfoldable pub IsRun-let_go : (old mid new : Ledger) (before between after : Option (List Event)) (id : ObjId) → IsQuiet mid → Tells before between (LetGo id ∷ []) → ((st : List Frame) → IsIdle st → Step (state_of old st) (LetGo id) (owed id.0 (state_of mid st))) → Settles mid new between after id → IsRun old new before after
 IsRun-let_go old mid new before between after id q told step s = (
   LetGo id ∷ s.added,
   record {
@@ -59,11 +59,11 @@ pub Runs-drop : (l : Ledger) (before after : Option (List Event)) (p : Port) →
 Runs-drop l before after p n told = record { told = told; run = (state_of l [], (tt, may-drop l p (port l p.obj.0 p.slot) refl n, refl), refl) }
 
 -- nothing happens
-pub IsRun-none : (l : Ledger) (before : Option (List Event)) → IsRun l l before before
+unfoldable pub IsRun-none : (l : Ledger) (before : Option (List Event)) → IsRun l l before before
 IsRun-none l before = ([], record { told = Told-none before; run = refl })
 
 -- one after the other
-pub IsRun-trans : (a b c : Ledger) (m n o : Option (List Event)) → IsRun a b m n → IsRun b c n o → IsRun a c m o
+unfoldable pub IsRun-trans : (a b c : Ledger) (m n o : Option (List Event)) → IsRun a b m n → IsRun b c n o → IsRun a c m o
 IsRun-trans a b c m n o p q = (
   p.0 ++ q.0,
   record {

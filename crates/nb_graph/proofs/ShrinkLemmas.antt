@@ -47,10 +47,10 @@ Shrinks-trans {a} {b} {c} p q = record {
 pub Agrees-busy : (old new : Ledger) (st : List Frame) → ((x : ℕ) → busy new x ≡ busy old x) → Agrees old st → Agrees new st
 Agrees-busy old new st e a = λ x. e x ∙ a x
 
-pub Calm-refl : (l : Ledger) (b : Option (List Event)) → Calm l l b b
+unfoldable pub Calm-refl : (l : Ledger) (b : Option (List Event)) → Calm l l b b
 Calm-refl l b = record { added = []; told = Told-none b; run = λ st i a. refl; shrinks = Shrinks-refl l }
 
-pub Calm-trans : {a b c : Ledger} {m n o : Option (List Event)} → Calm a b m n → Calm b c n o → Calm a c m o
+unfoldable pub Calm-trans : {a b c : Ledger} {m n o : Option (List Event)} → Calm a b m n → Calm b c n o → Calm a c m o
 Calm-trans {a} {b} {c} {m} {n} {o} p q = record {
   added = p.added ++ q.added;
   told = Tells-append m n o p.added q.added p.told q.told;
@@ -130,7 +130,7 @@ live-settle {old} {new} {before} {after} {id} x n s = elim s.how [
 ]
 
 -- two objects, the lower serial first
-pub SettlesTwo-pair : {old mid new : Ledger} {before between after : Option (List Event)} {low high : ObjId} → low.0 < high.0 → Settles old mid before between low → Settles mid new between after high → SettlesTwo old new before after low high
+unfoldable pub SettlesTwo-pair : {old mid new : Ledger} {before between after : Option (List Event)} {low high : ObjId} → low.0 < high.0 → Settles old mid before between low → Settles mid new between after high → SettlesTwo old new before after low high
 SettlesTwo-pair {old} {mid} {new} {before} {between} {after} {low} {high} less s t = record {
   added = s.added ++ t.added;
   told = Tells-append before between after s.added t.added s.told t.told;
@@ -159,7 +159,7 @@ SettlesTwo-pair {old} {mid} {new} {before} {between} {after} {low} {high} less s
         rw (owed-used old st high.0 a u) (Run-append _ (state_of mid st) _ s.added t.added (s.run st a) (rw (owed-used mid st high.0 (after_mid st a) (same ∙ u)) at (t.run st (after_mid st a))))
 
 -- in the other order
-pub SettlesTwo-swap : {old new : Ledger} {before after : Option (List Event)} {x y : ObjId} → SettlesTwo old new before after x y → SettlesTwo old new before after y x
+unfoldable pub SettlesTwo-swap : {old new : Ledger} {before after : Option (List Event)} {x y : ObjId} → SettlesTwo old new before after x y → SettlesTwo old new before after y x
 SettlesTwo-swap {old} {new} {before} {after} {x} {y} s = record {
   added = s.added;
   told = s.told;

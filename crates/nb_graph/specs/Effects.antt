@@ -1,11 +1,12 @@
 -- What an entry may ask for.
-use Rattle.std.specs.Prelude.{◌≡◌, ℕ, ◌<◌, ◌≤◌, List, [], ◌∷◌, ◌⊎◌, All, None, IfSome}
+use Rattle.std.specs.Prelude.{◌≡◌, ℕ, ◌<◌, ◌≤◌, List, [], ◌∷◌, ◌⊎◌, All, Option, None, IfSome}
 use Rattle.nb_terms.specs.declared.cause.Cause.{Cause}
 use Rattle.nb_graph.specs.declared.effects.Emit.{Emit}
 use Rattle.nb_graph.specs.declared.effects.Make.{Make}
 use Rattle.nb_graph.specs.declared.effects.Few.{Few}
 use Rattle.nb_graph.specs.declared.effects.Fx.{Fx}
 use Rattle.nb_graph.specs.declared.steps.Asked.{Asked}
+use Rattle.nb_graph.specs.Trace.{Entry, Said, lent, left}
 use Rattle.nb_graph.specs.declared.steps.Asked.TheVariants.{Done, NoMemory}
 
 -- no effect
@@ -42,13 +43,13 @@ AreUps len f = IsFew f × IfSome f.first (IsUp len) × IfSome f.second (IsUp len
 abbrev pub AreCloses : List (ℕ × Cause) → Type 0
 AreCloses xs = All (λ c. c.0 ≤ 3) xs
 
--- an object made has a lower rank, and is plugged to a slot 1 to 3
-abbrev pub IsMake : {N : Type 0} → (N → ℕ) → ℕ → Make N → Type 0
-IsMake rank_of rank m = (rank_of m.node < rank) × (1 ≤ m.slot) × (m.slot ≤ 3)
+-- an object made has a lower rank, is plugged to a slot 1 to 3, and its node stands for the empty trace
+abbrev pub IsMake : {N L : Type 0} → (N → ℕ) → (N → List (Entry N L) → Type 0) → ℕ → Make N → Type 0
+IsMake rank_of stands rank m = (rank_of m.node < rank) × (1 ≤ m.slot) × (m.slot ≤ 3) × stands m.node []
 
 -- what an entry from below or by time may ask for
-pub record MayAsk {N L : Type 0} (rank_of : N → ℕ) (rank len : ℕ) (fx : Fx N L) : Type 0 where
-  pub make : IfSome fx.makes (IsMake rank_of rank)
+pub record MayAsk {N L : Type 0} (rank_of : N → ℕ) (stands : N → List (Entry N L) → Type 0) (rank len : ℕ) (fx : Fx N L) : Type 0 where
+  pub make : IfSome fx.makes (IsMake rank_of stands rank)
   pub downs : AreDowns len fx.downs
   pub ups : AreUps len fx.ups
   pub closes : AreCloses fx.closes.items
@@ -76,11 +77,21 @@ MayAskDown len (Done fx) = MayAskBelow len fx
 MayAskDown len (NoMemory fx) = Unit {0}
 
 -- what an entry from below asks for, where it didn't run out of memory
-abbrev pub MayAskUp : {N L : Type 0} → (N → ℕ) → ℕ → ℕ → ℕ → Asked N L → Type 0
-MayAskUp rank_of rank slot len (Done fx) = MayAsk rank_of rank len fx × (fx.took ≤ len) × TakesSome slot len fx
-MayAskUp rank_of rank slot len (NoMemory fx) = Unit {0}
+abbrev pub MayAskUp : {N L : Type 0} → (N → ℕ) → (N → List (Entry N L) → Type 0) → ℕ → ℕ → ℕ → Asked N L → Type 0
+MayAskUp rank_of stands rank slot len (Done fx) = MayAsk rank_of stands rank len fx × (fx.took ≤ len) × TakesSome slot len fx
+MayAskUp rank_of stands rank slot len (NoMemory fx) = Unit {0}
 
 -- and one by time
-abbrev pub MayAskTime : {N L : Type 0} → (N → ℕ) → ℕ → Asked N L → Type 0
-MayAskTime rank_of rank (Done fx) = MayAsk rank_of rank 0 fx
-MayAskTime rank_of rank (NoMemory fx) = Unit {0}
+abbrev pub MayAskTime : {N L : Type 0} → (N → ℕ) → (N → List (Entry N L) → Type 0) → ℕ → Asked N L → Type 0
+MayAskTime rank_of stands rank (Done fx) = MayAsk rank_of stands rank 0 fx
+MayAskTime rank_of stands rank (NoMemory fx) = Unit {0}
+
+-- the loads that an entry lent, whether it was done or not
+abbrev pub asked_loads : {N L : Type 0} → Asked N L → List L
+asked_loads (Done fx) = lent fx
+asked_loads (NoMemory fx) = lent fx
+
+-- what an entry from below leaves of its message
+abbrev pub asked_rest : {N L : Type 0} → Said → Asked N L → Option Said
+asked_rest m (Done fx) = left fx.took m
+asked_rest m (NoMemory fx) = None

@@ -1,5 +1,10 @@
+pub mod Trace
 pub mod Effects
 pub mod Whole
 pub mod Calm
 pub mod Ending
 pub mod Lively
+pub mod Deeds
+pub mod Lives
+pub mod Lived
+pub mod Counted

@@ -4,10 +4,13 @@ ghost use Rattle.std.specs.Vec.{vec_capacity};
 ghost use Rattle.nb_ledger.specs.declared.port.PortState.TheVariants.{Linked};
 ghost use Rattle.nb_ledger.specs.GraphRun.{IsOpen};
 ghost use Rattle.nb_ledger.specs.Ledger.{busy, port, open_count};
-ghost use Rattle.nb_graph.specs.Calm.{Calm, IsSteady, Starts};
+ghost use Rattle.nb_graph.specs.Calm.{IsSteady, Starts};
+ghost use Rattle.nb_graph.specs.Trace.{carried, down, in_list, lent, loads, said};
+ghost use Rattle.nb_graph.specs.Deeds.{Hands};
+ghost use Rattle.nb_graph.specs.Lives.{Back, CalmFor, Same};
 ghost use Rattle.nb_ledger.specs.declared.event.GraphEvent.TheVariants.{Closed, Entered};
 ghost use Rattle.nb_ledger.specs.declared.event.Way.TheVariants as way;
-ghost use Rattle.nb_graph.specs.Effects.{MayAskBelow, MayAskDown, AreDowns, ClosesSlot, IsDown};
+ghost use Rattle.nb_graph.specs.Effects.{MayAskBelow, MayAskDown, asked_loads, AreDowns, ClosesSlot, IsDown};
 
 use crate::inner::Inner;
 use crate::steps::{Asked, cut};
@@ -38,7 +41,7 @@ impl<N: Node> Inner<N> {
     pub(crate) fn close_port<O: Outside>(&mut self, at: Port, cause: &Cause, now: u64, out: &mut O)
         requires steady { IsSteady N.rank_of self.old.book self.old.nodes.items (vec_capacity self.old.nodes) }
         ensures shut { open_count (port self.new.book at.obj.0 at.slot) ≡ 0 }
-        ensures calm { Calm self.old.book self.new.book (O.events out.old) (O.events out.new) }
+        ensures lives { CalmFor N.stands now self.old.book self.new.book self.old.nodes.items self.new.nodes.items (Same (busy self.old.book)) (O.events out.old) (O.events out.new) }
         ensures starts { 0 < open_count (port self.old.book at.obj.0 at.slot)
             → Starts self.old.book self.new.book (O.events out.old) (O.events out.new) (Closed at cause.now) }
         ensures stays { open_count (port self.old.book at.obj.0 at.slot) ≡ 0
@@ -59,7 +62,7 @@ impl<N: Node> Inner<N> {
         requires linked { port self.old.book at.obj.0 at.slot ≡ Linked peer }
         requires steady { IsSteady N.rank_of self.old.book self.old.nodes.items (vec_capacity self.old.nodes) }
         ensures shut { open_count (port self.new.book at.obj.0 at.slot) ≡ 0 }
-        ensures calm { Calm self.old.book self.new.book (O.events out.old) (O.events out.new) }
+        ensures lives { CalmFor N.stands now self.old.book self.new.book self.old.nodes.items self.new.nodes.items (Same (busy self.old.book)) (O.events out.old) (O.events out.new) }
         ensures starts { Starts self.old.book self.new.book (O.events out.old) (O.events out.new) (Closed at cause.now) }
         ensures steady { IsSteady N.rank_of self.new.book self.new.nodes.items (vec_capacity self.new.nodes) }
     {
@@ -82,7 +85,7 @@ impl<N: Node> Inner<N> {
         requires runs { busy self.old.book id.0 ≡ true }
         requires asks { MayAskBelow (length msg.now.first.now + length msg.now.second.now) fx }
         requires steady { IsSteady N.rank_of self.old.book self.old.nodes.items (vec_capacity self.old.nodes) }
-        ensures calm { Calm self.old.book self.new.book (O.events out.old) (O.events out.new) }
+        ensures lives { CalmFor N.stands now self.old.book self.new.book self.old.nodes.items self.new.nodes.items (Back (busy self.old.book) id.0 (lent fx)) (O.events out.old) (O.events out.new) }
         ensures steady { IsSteady N.rank_of self.new.book self.new.nodes.items (vec_capacity self.new.nodes) }
     {
         let Fx {
@@ -108,7 +111,7 @@ impl<N: Node> Inner<N> {
         requires runs { busy self.old.book id.0 ≡ true }
         requires downs { AreDowns (length msg.now.first.now + length msg.now.second.now) downs }
         requires steady { IsSteady N.rank_of self.old.book self.old.nodes.items (vec_capacity self.old.nodes) }
-        ensures calm { Calm self.old.book self.new.book (O.events out.old) (O.events out.new) }
+        ensures lives { CalmFor N.stands now self.old.book self.new.book self.old.nodes.items self.new.nodes.items (Back (busy self.old.book) id.0 (loads downs)) (O.events out.old) (O.events out.new) }
         ensures steady { IsSteady N.rank_of self.new.book self.new.nodes.items (vec_capacity self.new.nodes) }
     {
         let Few { first, second } = downs;
@@ -128,11 +131,12 @@ impl<N: Node> Inner<N> {
         requires runs { busy self.old.book id.0 ≡ true }
         requires down { IfSome emit (IsDown (length msg.now.first.now + length msg.now.second.now)) }
         requires steady { IsSteady N.rank_of self.old.book self.old.nodes.items (vec_capacity self.old.nodes) }
-        ensures calm { Calm self.old.book self.new.book (O.events out.old) (O.events out.new) }
+        ensures lives { CalmFor N.stands now self.old.book self.new.book self.old.nodes.items self.new.nodes.items (Back (busy self.old.book) id.0 (carried emit)) (O.events out.old) (O.events out.new) }
         ensures steady { IsSteady N.rank_of self.new.book self.new.nodes.items (vec_capacity self.new.nodes) }
     {
-        if let Some(emit) = emit {
-            self.send_down(id, msg, emit, now, out);
+        match emit {
+            Some(emit) => self.send_down(id, msg, emit, now, out),
+            None => {}
         }
     }
 
@@ -148,7 +152,7 @@ impl<N: Node> Inner<N> {
         requires runs { busy self.old.book id.0 ≡ true }
         requires down { IsDown (length msg.now.first.now + length msg.now.second.now) emit }
         requires steady { IsSteady N.rank_of self.old.book self.old.nodes.items (vec_capacity self.old.nodes) }
-        ensures calm { Calm self.old.book self.new.book (O.events out.old) (O.events out.new) }
+        ensures lives { CalmFor N.stands now self.old.book self.new.book self.old.nodes.items self.new.nodes.items (Back (busy self.old.book) id.0 (in_list emit.load)) (O.events out.old) (O.events out.new) }
         ensures steady { IsSteady N.rank_of self.new.book self.new.nodes.items (vec_capacity self.new.nodes) }
     {
         let Emit {
@@ -195,7 +199,7 @@ impl<N: Node> Inner<N> {
     fn pass_down<O: Outside>(&mut self, at: Port, msg: &Msg<'_>, now: u64, out: &mut O)
         requires slot { 1 ≤ at.slot }
         requires steady { IsSteady N.rank_of self.old.book self.old.nodes.items (vec_capacity self.old.nodes) }
-        ensures calm { Calm self.old.book self.new.book (O.events out.old) (O.events out.new) }
+        ensures lives { CalmFor N.stands now self.old.book self.new.book self.old.nodes.items self.new.nodes.items (Same (busy self.old.book)) (O.events out.old) (O.events out.new) }
         ensures steady { IsSteady N.rank_of self.new.book self.new.nodes.items (vec_capacity self.new.nodes) }
     {
         match self.book.port(at) {
@@ -212,7 +216,8 @@ impl<N: Node> Inner<N> {
         requires slot { at.slot ≡ 0 }
         requires open { IsOpen (port self.old.book at.obj.0 at.slot) }
         requires steady { IsSteady N.rank_of self.old.book self.old.nodes.items (vec_capacity self.old.nodes) }
-        ensures calm { Calm self.old.book self.new.book (O.events out.old) (O.events out.new) }
+        ensures lives { (k : CalmFor N.stands now self.old.book self.new.book self.old.nodes.items self.new.nodes.items (Same (busy self.old.book)) (O.events out.old) (O.events out.new))
+            × Hands (Entered at way.Down) at.obj.0 (λ done fx. down (said msg.now) now done fx) k.lives.deeds }
         ensures starts { Starts self.old.book self.new.book (O.events out.old) (O.events out.new) (Entered at way.Down) }
         ensures steady { IsSteady N.rank_of self.new.book self.new.nodes.items (vec_capacity self.new.nodes) }
     {
@@ -234,7 +239,7 @@ impl<N: Node> Inner<N> {
         requires runs { busy self.old.book id.0 ≡ true }
         requires asks { MayAskDown (length msg.now.first.now + length msg.now.second.now) asked }
         requires steady { IsSteady N.rank_of self.old.book self.old.nodes.items (vec_capacity self.old.nodes) }
-        ensures calm { Calm self.old.book self.new.book (O.events out.old) (O.events out.new) }
+        ensures lives { CalmFor N.stands now self.old.book self.new.book self.old.nodes.items self.new.nodes.items (Back (busy self.old.book) id.0 (asked_loads asked)) (O.events out.old) (O.events out.new) }
         ensures steady { IsSteady N.rank_of self.new.book self.new.nodes.items (vec_capacity self.new.nodes) }
     {
         match asked {
@@ -248,7 +253,7 @@ impl<N: Node> Inner<N> {
     pub(crate) fn fail<O: Outside>(&mut self, id: ObjId, fx: Fx<N, N::Load>, now: u64, out: &mut O)
         requires runs { busy self.old.book id.0 ≡ true }
         requires steady { IsSteady N.rank_of self.old.book self.old.nodes.items (vec_capacity self.old.nodes) }
-        ensures calm { Calm self.old.book self.new.book (O.events out.old) (O.events out.new) }
+        ensures lives { CalmFor N.stands now self.old.book self.new.book self.old.nodes.items self.new.nodes.items (Back (busy self.old.book) id.0 (lent fx)) (O.events out.old) (O.events out.new) }
         ensures steady { IsSteady N.rank_of self.new.book self.new.nodes.items (vec_capacity self.new.nodes) }
     {
         self.take_back(id, fx);
@@ -260,7 +265,7 @@ impl<N: Node> Inner<N> {
     pub(crate) fn close_all<O: Outside>(&mut self, id: ObjId, cause: &Cause, now: u64, out: &mut O)
         requires steady { IsSteady N.rank_of self.old.book self.old.nodes.items (vec_capacity self.old.nodes) }
         ensures shut { (k : ℕ) → open_count (port self.new.book id.0 k) ≡ 0 }
-        ensures calm { Calm self.old.book self.new.book (O.events out.old) (O.events out.new) }
+        ensures lives { CalmFor N.stands now self.old.book self.new.book self.old.nodes.items self.new.nodes.items (Same (busy self.old.book)) (O.events out.old) (O.events out.new) }
         ensures steady { IsSteady N.rank_of self.new.book self.new.nodes.items (vec_capacity self.new.nodes) }
     {
         self.close_port(Port { obj: id, slot: 0 }, cause, now, out);
@@ -280,7 +285,7 @@ impl<N: Node> Inner<N> {
         requires few { length closes.now ≤ 4 }
         requires steady { IsSteady N.rank_of self.old.book self.old.nodes.items (vec_capacity self.old.nodes) }
         ensures shut { (k : ℕ) → ClosesSlot k closes.now → open_count (port self.new.book id.0 k) ≡ 0 }
-        ensures calm { Calm self.old.book self.new.book (O.events out.old) (O.events out.new) }
+        ensures lives { CalmFor N.stands now self.old.book self.new.book self.old.nodes.items self.new.nodes.items (Same (busy self.old.book)) (O.events out.old) (O.events out.new) }
         ensures steady { IsSteady N.rank_of self.new.book self.new.nodes.items (vec_capacity self.new.nodes) }
     {
         if let [(slot, cause), rest @ ..] = closes {

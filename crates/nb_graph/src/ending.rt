@@ -1,10 +1,11 @@
 // The end of a graph: all ports are closed, and then all holds let go.
 ghost use Rattle.std.specs.Prelude.{◌≡◌, ◌<◌, ◌≤◌, ℕ, false};
 ghost use Rattle.std.specs.Vec.{vec_capacity};
-ghost use Rattle.nb_ledger.specs.Ledger.{live, holds, port, open_count};
-ghost use Rattle.nb_graph.specs.Calm.{Calm, IsSteady};
+ghost use Rattle.nb_ledger.specs.Ledger.{live, busy, holds, port, open_count};
+ghost use Rattle.nb_graph.specs.Calm.{IsSteady};
+ghost use Rattle.nb_graph.specs.Lives.{CalmFor, RunFor, Same};
 ghost use Rattle.nb_graph.specs.Ending.{LetsGo};
-ghost use Rattle.nb_graph.specs.Whole.{IsGraph, IsRun};
+ghost use Rattle.nb_graph.specs.Whole.{IsGraph};
 
 use crate::Node;
 use crate::inner::Inner;
@@ -21,7 +22,7 @@ impl<N: Node> Inner<N> {
         out: &mut O,
     )
         requires steady { IsSteady N.rank_of self.old.book self.old.nodes.items (vec_capacity self.old.nodes) }
-        ensures calm { Calm self.old.book self.new.book (O.events out.old) (O.events out.new) }
+        ensures lives { CalmFor N.stands now self.old.book self.new.book self.old.nodes.items self.new.nodes.items (Same (busy self.old.book)) (O.events out.old) (O.events out.new) }
         ensures steady { IsSteady N.rank_of self.new.book self.new.nodes.items (vec_capacity self.new.nodes) }
         ensures shut { (x k : ℕ) → after < x → open_count (port self.new.book x k) ≡ 0 }
     {
@@ -38,7 +39,7 @@ impl<N: Node> Inner<N> {
     fn let_all_go<O: Outside>(&mut self, id: ObjId, out: &mut O)
         requires graph { IsGraph N.rank_of self.old.book self.old.nodes.items (vec_capacity self.old.nodes) }
         ensures graph { IsGraph N.rank_of self.new.book self.new.nodes.items (vec_capacity self.new.nodes) }
-        ensures runs { IsRun self.old.book self.new.book (O.events out.old) (O.events out.new) }
+        ensures runs { RunFor N.stands self.old.book self.new.book self.old.nodes.items self.new.nodes.items (O.events out.old) (O.events out.new) }
         ensures lets { LetsGo self.old.book self.new.book }
         ensures none { holds self.new.book id.0 ≡ 0 }
     {
@@ -51,7 +52,7 @@ impl<N: Node> Inner<N> {
     pub(crate) fn let_above_go<O: Outside>(&mut self, after: u64, out: &mut O)
         requires graph { IsGraph N.rank_of self.old.book self.old.nodes.items (vec_capacity self.old.nodes) }
         ensures graph { IsGraph N.rank_of self.new.book self.new.nodes.items (vec_capacity self.new.nodes) }
-        ensures runs { IsRun self.old.book self.new.book (O.events out.old) (O.events out.new) }
+        ensures runs { RunFor N.stands self.old.book self.new.book self.old.nodes.items self.new.nodes.items (O.events out.old) (O.events out.new) }
         ensures lets { LetsGo self.old.book self.new.book }
         ensures none { (x : ℕ) → after < x → holds self.new.book x ≡ 0 }
         ensures first { live self.new.book 0 ≡ false }

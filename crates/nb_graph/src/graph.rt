@@ -1,4 +1,4 @@
-ghost use Rattle.std.specs.Prelude.{◌≡◌, ◌+◌, ◌<◌, ◌≤◌, ◌↔◌, ◌⊎◌, ◌≢◌, ◌^◌, ◌-◌, ℕ, [], ◌∷◌, ◌++◌, Ok, Err, IfOk, IfErr, OnErr, OnOk, IsErr, IsTrue, IsSome, IsNone, IfSome, IfNone, length, true, false, slice_get};
+ghost use Rattle.std.specs.Prelude.{◌≡◌, ◌+◌, ◌<◌, ◌≤◌, ◌↔◌, ◌⊎◌, ◌≢◌, ◌^◌, ◌-◌, ℕ, List, [], ◌∷◌, ◌++◌, Ok, Err, IfOk, IfErr, OnErr, OnOk, IsErr, IsTrue, IsSome, IsNone, IfSome, IfNone, length, true, false, slice_get};
 ghost use Rattle.std.specs.Bool.{OnTrue, OnFalse};
 ghost use Rattle.std.specs.Option.{option_copied};
 ghost use Rattle.nb_ledger.specs.declared.event.GraphEvent.TheVariants.{Made, Held, Plugged, Entered, Dropped, Closed};
@@ -6,6 +6,9 @@ ghost use Rattle.nb_ledger.specs.declared.event.Way.TheVariants as way;
 ghost use Rattle.nb_graph.specs.declared.graph.Reach.TheVariants as reach;
 ghost use Rattle.nb_ledger.specs.declared.port.PortState.TheVariants as state;
 ghost use Rattle.nb_ledger.specs.Ledger.{live, holds, port, rank, open_count, IsLeastAbove};
+ghost use Rattle.nb_graph.specs.Trace.{Entry, down, said, time, up};
+ghost use Rattle.nb_graph.specs.Deeds.{Hands};
+ghost use Rattle.nb_graph.specs.Lived.{KeepsTraces, Lived, StandsFor};
 ghost use Rattle.nb_graph.specs.Whole.{Began, Harvests, port_at, Runs, IsRun, IsMade, KeepsRanks, node_of, IsSame};
 
 use crate::Node;
@@ -60,10 +63,14 @@ impl<N: Node> Graph<N> {
 
     /// Makes an object, with one hold. The node comes back where the graph is full.
     pub fn make<O: Outside>(&mut self, node: N, out: &mut O) -> Result<ObjId, N>
+        requires { N.stands node [] }
         ensures full { IsErr result ↔ ((length self.old.book.objects ≡ self.old.book.room) ⊎ (self.old.book.made ≡ 2 ^ 64 - 1)) }
         ensures back { IfErr result (λ n. (n ≡ node) × IsSame self.old self.new (O.events out.old) (O.events out.new)) }
         ensures runs { IfOk result (λ id. Runs self.old.book self.new.book (O.events out.old) (O.events out.new) (Made id (N.kind_of node) ∷ Held id ∷ [])) }
         ensures made { IfOk result (IsMade self.old self.new node (N.rank_of node)) }
+        ensures stands { IfOk result (λ id. StandsFor N.stands self.new id.0 []) }
+        ensures keeps { IfOk result (λ id. (x : ℕ) (t : List (Entry N N.Load)) → x ≢ id.0
+            → StandsFor N.stands self.old x t → StandsFor N.stands self.new x t) }
         ensures ranks { KeepsRanks self.old.book self.new.book }
     {
         if self.inner.is_full() {
@@ -83,6 +90,7 @@ impl<N: Node> Graph<N> {
             ↔ ((port self.old.book upper.obj.0 upper.slot ≡ state.Open) × (port self.old.book lower.obj.0 0 ≢ state.Open)) }
         ensures refused { OnErr result (IsSame self.old self.new (O.events out.old) (O.events out.new)) }
         ensures runs { OnOk result (Runs self.old.book self.new.book (O.events out.old) (O.events out.new) (Plugged upper lower ∷ [])) }
+        ensures keeps { OnOk result (KeepsTraces N.stands self.old self.new) }
         ensures nodes { self.new.nodes ≡ self.old.nodes }
         ensures ranks { KeepsRanks self.old.book self.new.book }
     {
@@ -100,6 +108,7 @@ impl<N: Node> Graph<N> {
     pub fn hold<O: Outside>(&mut self, id: ObjId, out: &mut O) -> bool
         ensures may { IsTrue result ↔ ((live self.old.book id.0 ≡ true) × (holds self.old.book id.0 < 2 ^ 32 - 1)) }
         ensures held { OnTrue result (Runs self.old.book self.new.book (O.events out.old) (O.events out.new) (Held id ∷ [])) }
+        ensures keeps { OnTrue result (KeepsTraces N.stands self.old self.new) }
         ensures nodes { self.new.nodes ≡ self.old.nodes }
         ensures ranks { KeepsRanks self.old.book self.new.book }
         ensures not { OnFalse result (IsSame self.old self.new (O.events out.old) (O.events out.new)) }
@@ -116,6 +125,7 @@ impl<N: Node> Graph<N> {
     pub fn let_go<O: Outside>(&mut self, id: ObjId, out: &mut O) -> bool
         ensures may { IsTrue result ↔ ((live self.old.book id.0 ≡ true) × (0 < holds self.old.book id.0)) }
         ensures gone { OnTrue result (IsRun self.old.book self.new.book (O.events out.old) (O.events out.new)) }
+        ensures keeps { OnTrue result (KeepsTraces N.stands self.old self.new) }
         ensures ranks { KeepsRanks self.old.book self.new.book }
         ensures not { OnFalse result (IsSame self.old self.new (O.events out.old) (O.events out.new)) }
     {
@@ -153,6 +163,7 @@ impl<N: Node> Graph<N> {
 
     /// Closes a port, and its peer if it is linked. Nothing happens at a closed or dead one.
     pub fn close<O: Outside>(&mut self, at: Port, cause: &Cause, now: u64, out: &mut O)
+        ensures stands { Lived N.stands now self.old self.new (O.events out.old) (O.events out.new) }
         ensures runs { IsRun self.old.book self.new.book (O.events out.old) (O.events out.new) }
         ensures begins { 0 < open_count (port self.old.book at.obj.0 at.slot)
             → Began self.old.book self.new.book (O.events out.old) (O.events out.new) (Closed at cause.now) }
@@ -167,6 +178,9 @@ impl<N: Node> Graph<N> {
     pub fn down<O: Outside>(&mut self, to: Port, msg: &Msg<'_>, now: u64, out: &mut O) -> Reach
         requires { to.slot ≡ 0 }
         ensures dropped { (result ≡ reach.Dropped) ↔ (port self.old.book to.obj.0 0 ≢ state.Open) }
+        ensures stands { Lived N.stands now self.old self.new (O.events out.old) (O.events out.new) }
+        ensures hands { result ≡ reach.Entered → (k : Lived N.stands now self.old self.new (O.events out.old) (O.events out.new))
+            × Hands (Entered to way.Down) to.obj.0 (λ done fx. down (said msg.now) now done fx) k.deeds }
         ensures runs { IsRun self.old.book self.new.book (O.events out.old) (O.events out.new) }
         ensures entered { result ≡ reach.Entered → Began self.old.book self.new.book (O.events out.old) (O.events out.new) (Entered to way.Down) }
         ensures not { result ≡ reach.Dropped → Runs self.old.book self.new.book (O.events out.old) (O.events out.new) (Dropped to ∷ []) }
@@ -185,6 +199,9 @@ impl<N: Node> Graph<N> {
     pub fn up<O: Outside>(&mut self, to: Port, msg: &Msg<'_>, now: u64, out: &mut O) -> Reach
         requires { (1 ≤ to.slot) × (to.slot ≤ 3) }
         ensures dropped { (result ≡ reach.Dropped) ↔ (port self.old.book to.obj.0 to.slot ≢ state.Open) }
+        ensures stands { Lived N.stands now self.old self.new (O.events out.old) (O.events out.new) }
+        ensures hands { result ≡ reach.Entered → (k : Lived N.stands now self.old self.new (O.events out.old) (O.events out.new))
+            × Hands (Entered to way.Up) to.obj.0 (λ done fx. up to.slot (said msg.now) now done fx) k.deeds }
         ensures runs { IsRun self.old.book self.new.book (O.events out.old) (O.events out.new) }
         ensures entered { result ≡ reach.Entered → Began self.old.book self.new.book (O.events out.old) (O.events out.new) (Entered to way.Up) }
         ensures not { result ≡ reach.Dropped → Runs self.old.book self.new.book (O.events out.old) (O.events out.new) (Dropped to ∷ []) }
@@ -202,6 +219,9 @@ impl<N: Node> Graph<N> {
     /// Time has come to `now`, in milliseconds. Dropped where the object is dead, and then nothing happens.
     pub fn time<O: Outside>(&mut self, id: ObjId, now: u64, out: &mut O) -> Reach
         ensures dropped { (result ≡ reach.Dropped) ↔ (live self.old.book id.0 ≡ false) }
+        ensures stands { Lived N.stands now self.old self.new (O.events out.old) (O.events out.new) }
+        ensures hands { result ≡ reach.Entered → (k : Lived N.stands now self.old self.new (O.events out.old) (O.events out.new))
+            × Hands (Entered (port_at id.0 4) way.Time) id.0 (λ done fx. time now done fx) k.deeds }
         ensures runs { IsRun self.old.book self.new.book (O.events out.old) (O.events out.new) }
         ensures entered { result ≡ reach.Entered
             → Began self.old.book self.new.book (O.events out.old) (O.events out.new) (Entered (port_at id.0 4) way.Time) }
@@ -219,6 +239,7 @@ impl<N: Node> Graph<N> {
     pub fn harvest(&mut self, id: ObjId) -> Option<N::Load>
         ensures dead { live self.old.book id.0 ≡ false → IsNone result }
         ensures gives { live self.old.book id.0 ≡ true → Harvests N.harvests self.old self.new id result }
+        ensures keeps { KeepsTraces N.stands self.old self.new }
         ensures book { self.new.book ≡ self.old.book }
     {
         if self.inner.book.is_live(id) {
@@ -230,6 +251,7 @@ impl<N: Node> Graph<N> {
 
     /// Closes all ports by rising serial and slot, and lets all holds go. Nothing lives after it.
     pub fn shutdown<O: Outside>(&mut self, cause: &Cause, now: u64, out: &mut O)
+        ensures stands { Lived N.stands now self.old self.new (O.events out.old) (O.events out.new) }
         ensures runs { IsRun self.old.book self.new.book (O.events out.old) (O.events out.new) }
         ensures none { length self.new.book.objects ≡ 0 }
     {

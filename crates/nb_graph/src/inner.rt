@@ -1,11 +1,13 @@
-ghost use Rattle.std.specs.Prelude.{◌≡◌, ◌+◌, ◌<◌, ◌^◌, true, false, [], ◌∷◌, ◌++◌, length};
+ghost use Rattle.std.specs.Prelude.{◌≡◌, ◌≢◌, ℕ, ◌+◌, ◌<◌, ◌^◌, true, false, [], ◌∷◌, ◌++◌, length};
+ghost use Rattle.nb_graph.specs.Trace.{Entry};
+ghost use Rattle.nb_graph.specs.Lived.{StandsFor};
 ghost use Rattle.std.specs.Vec.{vec_capacity};
 ghost use Rattle.nb_ledger.specs.declared.event.GraphEvent.TheVariants.{Made};
 ghost use Rattle.nb_ledger.specs.Flat.{Tells};
 ghost use Rattle.nb_ledger.specs.GraphRun.{Frame, IsIdle, Step};
 ghost use Rattle.nb_ledger.specs.Ledger.{live, place, state_of};
 ghost use Rattle.nb_ledger.specs.Changes.{Adds};
-ghost use Rattle.nb_ledger.specs.Settled.{Settles};
+ghost use Rattle.nb_graph.specs.Lives.{Loses, RunFor, SettlesFor, nodes_at};
 ghost use Rattle.nb_graph.specs.Whole.{IsManned};
 ghost use Rattle.std.specs.Option.{option_copied};
 ghost use Rattle.std.specs.Prelude.{slice_get};
@@ -25,7 +27,7 @@ impl<N: Node> Inner<N> {
     pub(crate) fn settle<O: Outside>(&mut self, id: ObjId, out: &mut O)
         requires lives { live self.old.book id.0 ≡ true }
         requires manned { IsManned N.rank_of self.old.book self.old.nodes.items (vec_capacity self.old.nodes) }
-        ensures settles { Settles self.old.book self.new.book (O.events out.old) (O.events out.new) id }
+        ensures settles { SettlesFor N.stands self.old.book self.new.book self.old.nodes.items self.new.nodes.items (O.events out.old) (O.events out.new) id }
         ensures manned { IsManned N.rank_of self.new.book self.new.nodes.items (vec_capacity self.new.nodes) }
     {
         if self.book.is_unused(id) {
@@ -39,6 +41,7 @@ impl<N: Node> Inner<N> {
         ensures told { Tells (O.events out.old) (O.events out.new) (Freed id ∷ []) }
         ensures step { (st : List Frame) → Step (state_of self.old.book (MustFree id.0 ∷ st)) (Freed id) (state_of self.new.book st) }
         ensures removes { Removes self.old.book self.new.book id.0 }
+        ensures loses { Loses (nodes_at self.old.book self.old.nodes.items) (nodes_at self.new.book self.new.nodes.items) }
         ensures manned { IsManned N.rank_of self.new.book self.new.nodes.items (vec_capacity self.new.nodes) }
     {
         let place = self.book.place(id);
@@ -79,10 +82,15 @@ impl<N: Node> Inner<N> {
     pub(crate) fn make<O: Outside>(&mut self, node: N, out: &mut O) -> ObjId
         requires room { length self.old.book.objects < self.old.book.room }
         requires serial { self.old.book.made + 1 < 2 ^ 64 }
+        requires stands { N.stands node [] }
         requires graph { IsGraph N.rank_of self.old.book self.old.nodes.items (vec_capacity self.old.nodes) }
         ensures runs { Runs self.old.book self.new.book (O.events out.old) (O.events out.new) (Made result (N.kind_of node) ∷ Held result ∷ []) }
         ensures made { IsMade (record { book = self.old.book; nodes = self.old.nodes.items }) (record { book = self.new.book; nodes = self.new.nodes.items }) node (N.rank_of node) result }
         ensures ranks { KeepsRanks self.old.book self.new.book }
+        ensures stands { StandsFor N.stands (record { book = self.new.book; nodes = self.new.nodes.items }) result.0 [] }
+        ensures keeps { (x : ℕ) (t : List (Entry N N.Load)) → x ≢ result.0
+            → StandsFor N.stands (record { book = self.old.book; nodes = self.old.nodes.items }) x t
+            → StandsFor N.stands (record { book = self.new.book; nodes = self.new.nodes.items }) x t }
         ensures graph { IsGraph N.rank_of self.new.book self.new.nodes.items (vec_capacity self.new.nodes) }
     {
         let id = self.add(node, out);
@@ -95,9 +103,10 @@ impl<N: Node> Inner<N> {
         requires lives { live self.old.book id.0 ≡ true }
         requires held { 0 < holds self.old.book id.0 }
         requires graph { IsGraph N.rank_of self.old.book self.old.nodes.items (vec_capacity self.old.nodes) }
-        ensures runs { IsRun self.old.book self.new.book (O.events out.old) (O.events out.new) }
+        ensures runs { RunFor N.stands self.old.book self.new.book self.old.nodes.items self.new.nodes.items (O.events out.old) (O.events out.new) }
         ensures ranks { KeepsRanks self.old.book self.new.book }
         ensures lets { LetsGo self.old.book self.new.book }
+        ensures loses { Loses (nodes_at self.old.book self.old.nodes.items) (nodes_at self.new.book self.new.nodes.items) }
         ensures falls { holds self.new.book id.0 < holds self.old.book id.0 }
         ensures graph { IsGraph N.rank_of self.new.book self.new.nodes.items (vec_capacity self.new.nodes) }
     {
@@ -110,7 +119,7 @@ ghost use Rattle.std.specs.Prelude.{Some};
 ghost use Rattle.nb_ledger.specs.declared.event.GraphEvent.TheVariants.{Held};
 ghost use Rattle.nb_ledger.specs.Ledger.{holds};
 ghost use Rattle.nb_graph.specs.Ending.{LetsGo};
-ghost use Rattle.nb_graph.specs.Whole.{IsGraph, IsMade, KeepsRanks, Runs, IsRun};
+ghost use Rattle.nb_graph.specs.Whole.{IsGraph, IsMade, KeepsRanks, Runs};
 ghost use Rattle.std.specs.Prelude.{List, ◌≤◌, vec_len};
 ghost use Rattle.nb_ledger.specs.declared.event.GraphEvent.TheVariants.{Freed};
 ghost use Rattle.nb_ledger.specs.GraphRun.{MustFree};

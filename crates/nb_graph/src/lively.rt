@@ -1,5 +1,5 @@
 // Messages that go up, and time: objects may be made.
-ghost use Rattle.std.specs.Prelude.{◌≡◌, ◌+◌, ◌<◌, ◌≤◌, ◌^◌, ℕ, true, length, IfSome};
+ghost use Rattle.std.specs.Prelude.{◌≡◌, ◌+◌, ◌<◌, ◌≤◌, ◌^◌, ℕ, true, false, length, IfSome, Some, None, [], ◌∷◌};
 ghost use Rattle.std.specs.Vec.{vec_capacity};
 ghost use Rattle.nb_ledger.specs.declared.event.GraphEvent.TheVariants.{Entered};
 ghost use Rattle.nb_ledger.specs.declared.event.Way.TheVariants as way;
@@ -7,8 +7,11 @@ ghost use Rattle.nb_ledger.specs.GraphRun.{IsOpen};
 ghost use Rattle.nb_ledger.specs.Ledger.{live, busy, rank, port, open_count};
 ghost use Rattle.nb_graph.specs.Calm.{IsSteady, Starts};
 ghost use Rattle.nb_graph.specs.Whole.{Harvests, IsManned, port_at};
-ghost use Rattle.nb_graph.specs.Lively.{Lively, LivelyIn};
-ghost use Rattle.nb_graph.specs.Effects.{MayAsk, MayAskTime, MayAskUp, AreUps, ClosesSlot, IsUp};
+ghost use Rattle.nb_graph.specs.Trace.{carried, in_list, left, lent, loads, said, up, time};
+ghost use Rattle.nb_graph.specs.Deeds.{Calls, Hands, Holds};
+ghost use Rattle.nb_graph.specs.Lives.{AllBack, Back, IsBelow, IsUnder, LivelyFor, LivelyInFor, Same, here};
+ghost use Rattle.nb_graph.specs.Lived.{KeepsTraces};
+ghost use Rattle.nb_graph.specs.Effects.{MayAsk, MayAskTime, MayAskUp, asked_loads, asked_rest, AreUps, ClosesSlot, IsUp};
 
 use crate::calm::NOTHING;
 use crate::inner::Inner;
@@ -23,8 +26,10 @@ impl<N: Node> Inner<N> {
         requires slot { (1 ≤ at.slot) × (at.slot ≤ 3) }
         requires open { IsOpen (port self.old.book at.obj.0 at.slot) }
         requires small { length msg.now.first.now + length msg.now.second.now < 2 ^ 65 }
+        requires under { IsUnder (rank self.old.book at.obj.0) self.old.book }
         requires steady { IsSteady N.rank_of self.old.book self.old.nodes.items (vec_capacity self.old.nodes) }
-        ensures lively { Lively self.old.book self.new.book (O.events out.old) (O.events out.new) }
+        ensures lives { (k : LivelyFor N.stands now self.old.book self.new.book self.old.nodes.items self.new.nodes.items (Same (busy self.old.book)) (O.events out.old) (O.events out.new))
+            × Hands (Entered at way.Up) at.obj.0 (λ done fx. up at.slot (said msg.now) now done fx) k.lives.deeds }
         ensures starts { Starts self.old.book self.new.book (O.events out.old) (O.events out.new) (Entered at way.Up) }
         ensures steady { IsSteady N.rank_of self.new.book self.new.nodes.items (vec_capacity self.new.nodes) }
     {
@@ -38,8 +43,11 @@ impl<N: Node> Inner<N> {
     fn deliver<O: Outside>(&mut self, at: Port, msg: &Msg<'_>, now: u64, out: &mut O)
         requires runs { busy self.old.book at.obj.0 ≡ true }
         requires small { length msg.now.first.now + length msg.now.second.now < 2 ^ 65 }
+        requires below { IsBelow (rank self.old.book at.obj.0) self.old.book }
         requires steady { IsSteady N.rank_of self.old.book self.old.nodes.items (vec_capacity self.old.nodes) }
-        ensures lively { LivelyIn at.obj.0 self.old.book self.new.book (O.events out.old) (O.events out.new) }
+        ensures lives { (k : LivelyInFor N.stands now at.obj.0 self.old.book self.new.book self.old.nodes.items self.new.nodes.items (AllBack (busy self.old.book) at.obj.0 [])
+            (λ st. Holds at way.Up (Some (said msg.now)) ∷ st) (λ st. Holds at way.Up None ∷ st) (O.events out.old) (O.events out.new))
+            × Calls at.obj.0 (λ done fx. up at.slot (said msg.now) now done fx) k.lives.deeds }
         ensures steady { IsSteady N.rank_of self.new.book self.new.nodes.items (vec_capacity self.new.nodes) }
     {
         let asked = self.ask_up(at, msg, now);
@@ -56,10 +64,12 @@ impl<N: Node> Inner<N> {
         out: &mut O,
     )
         requires runs { busy self.old.book at.obj.0 ≡ true }
-        requires asks { MayAskUp N.rank_of (rank self.old.book at.obj.0) at.slot (length msg.now.first.now + length msg.now.second.now) asked }
+        requires asks { MayAskUp N.rank_of N.stands (rank self.old.book at.obj.0) at.slot (length msg.now.first.now + length msg.now.second.now) asked }
         requires small { length msg.now.first.now + length msg.now.second.now < 2 ^ 65 }
+        requires below { IsBelow (rank self.old.book at.obj.0) self.old.book }
         requires steady { IsSteady N.rank_of self.old.book self.old.nodes.items (vec_capacity self.old.nodes) }
-        ensures lively { LivelyIn at.obj.0 self.old.book self.new.book (O.events out.old) (O.events out.new) }
+        ensures lives { LivelyInFor N.stands now at.obj.0 self.old.book self.new.book self.old.nodes.items self.new.nodes.items (AllBack (busy self.old.book) at.obj.0 (asked_loads asked))
+            (λ st. Holds at way.Up (asked_rest (said msg.now) asked) ∷ st) (λ st. Holds at way.Up None ∷ st) (O.events out.old) (O.events out.new) }
         ensures steady { IsSteady N.rank_of self.new.book self.new.nodes.items (vec_capacity self.new.nodes) }
     {
         match asked {
@@ -79,8 +89,10 @@ impl<N: Node> Inner<N> {
         requires took { took ≤ length msg.now.first.now + length msg.now.second.now }
         requires some { took ≡ 0 → 0 < length msg.now.first.now + length msg.now.second.now → open_count (port self.old.book at.obj.0 at.slot) ≡ 0 }
         requires small { length msg.now.first.now + length msg.now.second.now < 2 ^ 65 }
+        requires below { IsBelow (rank self.old.book at.obj.0) self.old.book }
         requires steady { IsSteady N.rank_of self.old.book self.old.nodes.items (vec_capacity self.old.nodes) }
-        ensures lively { LivelyIn at.obj.0 self.old.book self.new.book (O.events out.old) (O.events out.new) }
+        ensures lives { LivelyInFor N.stands now at.obj.0 self.old.book self.new.book self.old.nodes.items self.new.nodes.items (AllBack (busy self.old.book) at.obj.0 [])
+            (λ st. Holds at way.Up (left took (said msg.now)) ∷ st) (λ st. Holds at way.Up None ∷ st) (O.events out.old) (O.events out.new) }
         ensures steady { IsSteady N.rank_of self.new.book self.new.nodes.items (vec_capacity self.new.nodes) }
     {
         if took == msg.first.len() + msg.second.len() {
@@ -104,9 +116,10 @@ impl<N: Node> Inner<N> {
         out: &mut O,
     )
         requires runs { busy self.old.book id.0 ≡ true }
-        requires asks { MayAsk N.rank_of (rank self.old.book id.0) (length msg.now.first.now + length msg.now.second.now) fx }
+        requires asks { MayAsk N.rank_of N.stands (rank self.old.book id.0) (length msg.now.first.now + length msg.now.second.now) fx }
+        requires below { IsBelow (rank self.old.book id.0) self.old.book }
         requires steady { IsSteady N.rank_of self.old.book self.old.nodes.items (vec_capacity self.old.nodes) }
-        ensures lively { LivelyIn id.0 self.old.book self.new.book (O.events out.old) (O.events out.new) }
+        ensures lives { LivelyInFor N.stands now id.0 self.old.book self.new.book self.old.nodes.items self.new.nodes.items (Back (busy self.old.book) id.0 (lent fx)) here here (O.events out.old) (O.events out.new) }
         ensures shut { (k : ℕ) → ClosesSlot k fx.closes.items → open_count (port self.new.book id.0 k) ≡ 0 }
         ensures steady { IsSteady N.rank_of self.new.book self.new.nodes.items (vec_capacity self.new.nodes) }
     {
@@ -134,8 +147,9 @@ impl<N: Node> Inner<N> {
     )
         requires runs { busy self.old.book id.0 ≡ true }
         requires ups { AreUps (length msg.now.first.now + length msg.now.second.now) ups }
+        requires below { IsBelow (rank self.old.book id.0) self.old.book }
         requires steady { IsSteady N.rank_of self.old.book self.old.nodes.items (vec_capacity self.old.nodes) }
-        ensures lively { Lively self.old.book self.new.book (O.events out.old) (O.events out.new) }
+        ensures lives { LivelyFor N.stands now self.old.book self.new.book self.old.nodes.items self.new.nodes.items (Back (busy self.old.book) id.0 (loads ups)) (O.events out.old) (O.events out.new) }
         ensures steady { IsSteady N.rank_of self.new.book self.new.nodes.items (vec_capacity self.new.nodes) }
     {
         let Few { first, second } = ups;
@@ -154,12 +168,14 @@ impl<N: Node> Inner<N> {
     )
         requires runs { busy self.old.book id.0 ≡ true }
         requires up { IfSome emit (IsUp (length msg.now.first.now + length msg.now.second.now)) }
+        requires below { IsBelow (rank self.old.book id.0) self.old.book }
         requires steady { IsSteady N.rank_of self.old.book self.old.nodes.items (vec_capacity self.old.nodes) }
-        ensures lively { Lively self.old.book self.new.book (O.events out.old) (O.events out.new) }
+        ensures lives { LivelyFor N.stands now self.old.book self.new.book self.old.nodes.items self.new.nodes.items (Back (busy self.old.book) id.0 (carried emit)) (O.events out.old) (O.events out.new) }
         ensures steady { IsSteady N.rank_of self.new.book self.new.nodes.items (vec_capacity self.new.nodes) }
     {
-        if let Some(emit) = emit {
-            self.send_up(id, msg, emit, now, out);
+        match emit {
+            Some(emit) => self.send_up(id, msg, emit, now, out),
+            None => {}
         }
     }
 
@@ -174,8 +190,9 @@ impl<N: Node> Inner<N> {
     )
         requires runs { busy self.old.book id.0 ≡ true }
         requires up { IsUp (length msg.now.first.now + length msg.now.second.now) emit }
+        requires below { IsBelow (rank self.old.book id.0) self.old.book }
         requires steady { IsSteady N.rank_of self.old.book self.old.nodes.items (vec_capacity self.old.nodes) }
-        ensures lively { Lively self.old.book self.new.book (O.events out.old) (O.events out.new) }
+        ensures lives { LivelyFor N.stands now self.old.book self.new.book self.old.nodes.items self.new.nodes.items (Back (busy self.old.book) id.0 (in_list emit.load)) (O.events out.old) (O.events out.new) }
         ensures steady { IsSteady N.rank_of self.new.book self.new.nodes.items (vec_capacity self.new.nodes) }
     {
         let Emit {
@@ -221,8 +238,9 @@ impl<N: Node> Inner<N> {
     #[cycle(lively)]
     fn pass_up<O: Outside>(&mut self, at: Port, msg: &Msg<'_>, now: u64, out: &mut O)
         requires slot { at.slot ≡ 0 }
+        requires below { IsBelow (rank self.old.book at.obj.0) self.old.book }
         requires steady { IsSteady N.rank_of self.old.book self.old.nodes.items (vec_capacity self.old.nodes) }
-        ensures lively { Lively self.old.book self.new.book (O.events out.old) (O.events out.new) }
+        ensures lives { LivelyFor N.stands now self.old.book self.new.book self.old.nodes.items self.new.nodes.items (Same (busy self.old.book)) (O.events out.old) (O.events out.new) }
         ensures steady { IsSteady N.rank_of self.new.book self.new.nodes.items (vec_capacity self.new.nodes) }
     {
         let _length = (msg.first.len(), msg.second.len());
@@ -237,8 +255,10 @@ impl<N: Node> Inner<N> {
     /// Time enters a live object.
     pub(crate) fn enter_time<O: Outside>(&mut self, id: ObjId, now: u64, out: &mut O)
         requires lives { live self.old.book id.0 ≡ true }
+        requires idle { (x : ℕ) → busy self.old.book x ≡ false }
         requires steady { IsSteady N.rank_of self.old.book self.old.nodes.items (vec_capacity self.old.nodes) }
-        ensures lively { Lively self.old.book self.new.book (O.events out.old) (O.events out.new) }
+        ensures lives { (k : LivelyFor N.stands now self.old.book self.new.book self.old.nodes.items self.new.nodes.items (Same (busy self.old.book)) (O.events out.old) (O.events out.new))
+            × Hands (Entered (port_at id.0 4) way.Time) id.0 (λ done fx. time now done fx) k.lives.deeds }
         ensures starts { Starts self.old.book self.new.book (O.events out.old) (O.events out.new) (Entered (port_at id.0 4) way.Time) }
         ensures steady { IsSteady N.rank_of self.new.book self.new.nodes.items (vec_capacity self.new.nodes) }
     {
@@ -251,9 +271,10 @@ impl<N: Node> Inner<N> {
 
     fn after_time<O: Outside>(&mut self, id: ObjId, asked: Asked<N, N::Load>, now: u64, out: &mut O)
         requires runs { busy self.old.book id.0 ≡ true }
-        requires asks { MayAskTime N.rank_of (rank self.old.book id.0) asked }
+        requires asks { MayAskTime N.rank_of N.stands (rank self.old.book id.0) asked }
+        requires below { IsBelow (rank self.old.book id.0) self.old.book }
         requires steady { IsSteady N.rank_of self.old.book self.old.nodes.items (vec_capacity self.old.nodes) }
-        ensures lively { LivelyIn id.0 self.old.book self.new.book (O.events out.old) (O.events out.new) }
+        ensures lives { LivelyInFor N.stands now id.0 self.old.book self.new.book self.old.nodes.items self.new.nodes.items (Back (busy self.old.book) id.0 (asked_loads asked)) here here (O.events out.old) (O.events out.new) }
         ensures steady { IsSteady N.rank_of self.new.book self.new.nodes.items (vec_capacity self.new.nodes) }
     {
         match asked {
@@ -268,6 +289,8 @@ impl<N: Node> Inner<N> {
         requires manned { IsManned N.rank_of self.old.book self.old.nodes.items (vec_capacity self.old.nodes) }
         ensures gives { Harvests N.harvests (record { book = self.old.book; nodes = self.old.nodes.items })
             (record { book = self.new.book; nodes = self.new.nodes.items }) id result }
+        ensures keeps { KeepsTraces N.stands (record { book = self.old.book; nodes = self.old.nodes.items })
+            (record { book = self.new.book; nodes = self.new.nodes.items }) }
         ensures book { self.new.book ≡ self.old.book }
         ensures manned { IsManned N.rank_of self.new.book self.new.nodes.items (vec_capacity self.new.nodes) }
     {

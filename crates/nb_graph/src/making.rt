@@ -1,11 +1,11 @@
 // The making of an object within an entry.
-ghost use Rattle.std.specs.Prelude.{◌≡◌, ◌+◌, ◌-◌, ◌<◌, ◌≤◌, ◌↔◌, ◌⊎◌, ◌^◌, IfSome, IsTrue, length, true};
+ghost use Rattle.std.specs.Prelude.{◌≡◌, ◌+◌, ◌-◌, ◌<◌, ◌≤◌, ◌↔◌, ◌⊎◌, ◌^◌, IfSome, IsTrue, length, true, ℕ, []};
 ghost use Rattle.std.specs.Bool.{OnFalse};
 ghost use Rattle.std.specs.Vec.{vec_capacity};
 ghost use Rattle.nb_ledger.specs.declared.port.PortState.TheVariants as state;
 ghost use Rattle.nb_ledger.specs.Ledger.{live, busy, rank, port};
 ghost use Rattle.nb_graph.specs.Calm.{IsSteady};
-ghost use Rattle.nb_graph.specs.Lively.{Lively, LivelyIn};
+ghost use Rattle.nb_graph.specs.Lives.{LivelyFor, LivelyInFor, Same, here};
 ghost use Rattle.nb_graph.specs.Effects.{IsMake};
 
 use crate::inner::Inner;
@@ -38,9 +38,9 @@ impl<N: Node> Inner<N> {
         out: &mut O,
     )
         requires runs { busy self.old.book id.0 ≡ true }
-        requires make { IfSome make (IsMake N.rank_of (rank self.old.book id.0)) }
+        requires make { IfSome make (IsMake N.rank_of N.stands (rank self.old.book id.0)) }
         requires steady { IsSteady N.rank_of self.old.book self.old.nodes.items (vec_capacity self.old.nodes) }
-        ensures lively { LivelyIn id.0 self.old.book self.new.book (O.events out.old) (O.events out.new) }
+        ensures lives { LivelyInFor N.stands now id.0 self.old.book self.new.book self.old.nodes.items self.new.nodes.items (Same (busy self.old.book)) here here (O.events out.old) (O.events out.new) }
         ensures steady { IsSteady N.rank_of self.new.book self.new.nodes.items (vec_capacity self.new.nodes) }
     {
         match make {
@@ -51,9 +51,10 @@ impl<N: Node> Inner<N> {
 
     fn make_at<O: Outside>(&mut self, at: Port, node: N, now: u64, out: &mut O)
         requires slot { (1 ≤ at.slot) × (at.slot ≤ 3) }
+        requires stands { N.stands node [] }
         requires lower { N.rank_of node < rank self.old.book at.obj.0 }
         requires steady { IsSteady N.rank_of self.old.book self.old.nodes.items (vec_capacity self.old.nodes) }
-        ensures lively { LivelyIn at.obj.0 self.old.book self.new.book (O.events out.old) (O.events out.new) }
+        ensures lives { LivelyInFor N.stands now at.obj.0 self.old.book self.new.book self.old.nodes.items self.new.nodes.items (Same (busy self.old.book)) here here (O.events out.old) (O.events out.new) }
         ensures steady { IsSteady N.rank_of self.new.book self.new.nodes.items (vec_capacity self.new.nodes) }
     {
         if !self.book.is_free(at) {
@@ -72,9 +73,10 @@ impl<N: Node> Inner<N> {
         requires serial { self.old.book.made + 1 < 2 ^ 64 }
         requires free { port self.old.book at.obj.0 at.slot ≡ state.Open }
         requires slot { 1 ≤ at.slot }
+        requires stands { N.stands node [] }
         requires lower { N.rank_of node < rank self.old.book at.obj.0 }
         requires steady { IsSteady N.rank_of self.old.book self.old.nodes.items (vec_capacity self.old.nodes) }
-        ensures lively { Lively self.old.book self.new.book (O.events out.old) (O.events out.new) }
+        ensures lives { (now : ℕ) → LivelyFor N.stands now self.old.book self.new.book self.old.nodes.items self.new.nodes.items (Same (busy self.old.book)) (O.events out.old) (O.events out.new) }
         ensures steady { IsSteady N.rank_of self.new.book self.new.nodes.items (vec_capacity self.new.nodes) }
     {
         let id = self.add(node, out);

@@ -1,16 +1,19 @@
 // The parts of an entry that nest nothing: its begin, the call of the node, and its end.
-ghost use Rattle.std.specs.Prelude.{◌≡◌, ◌≢◌, ◌+◌, ◌<◌, ◌≤◌, ℕ, true, List, [], ◌∷◌, length, ◌-◌};
+ghost use Rattle.std.specs.Prelude.{◌≡◌, ◌≢◌, ◌+◌, ◌<◌, ◌≤◌, ℕ, true, List, [], ◌∷◌, length, ◌-◌, Some, None};
 ghost use Rattle.std.specs.Vec.{vec_capacity};
 ghost use Rattle.nb_ledger.specs.declared.port.PortState.TheVariants.{Linked, Leaving, Closed as Shut};
 ghost use Rattle.nb_ledger.specs.declared.event.Way.{Way as TheWay};
-ghost use Rattle.nb_ledger.specs.declared.event.Way.TheVariants.{Close};
+ghost use Rattle.nb_ledger.specs.declared.event.Way.TheVariants.{Close, Down, Time, Up};
 ghost use Rattle.nb_ledger.specs.declared.event.GraphEvent.TheVariants.{Closed, Entered};
 ghost use Rattle.nb_ledger.specs.GraphRun.{Frame, Running, MustUnplug, IsIdle, Run, port_but};
 ghost use Rattle.nb_ledger.specs.Flat.{Tells};
 ghost use Rattle.nb_ledger.specs.Ledger.{live, busy, rank, port, state_of};
-ghost use Rattle.nb_graph.specs.Calm.{IsSteady, HalfCloses, Ends, SettlesTwo};
-ghost use Rattle.nb_graph.specs.Whole.{IsManned, IsLinked, CountedButTwo};
-ghost use Rattle.nb_graph.specs.Effects.{MayAskBelow, MayAskDown, MayAskTime, MayAskUp};
+ghost use Rattle.nb_graph.specs.Calm.{IsSteady, HalfCloses};
+ghost use Rattle.nb_graph.specs.Whole.{IsManned, IsLinked, CountedButTwo, port_at};
+ghost use Rattle.nb_graph.specs.Trace.{carried, down, in_list, lent, loads, said, said_behind, silence, time, up};
+ghost use Rattle.nb_graph.specs.Deeds.{Calls, Holds, MustHear};
+ghost use Rattle.nb_graph.specs.Lives.{Back, EndsFor, Lends, LendsFirst, Lives, SettlesTwoFor, Stays, here, nodes_at};
+ghost use Rattle.nb_graph.specs.Effects.{MayAskBelow, MayAskDown, MayAskTime, MayAskUp, asked_loads, asked_rest};
 
 use crate::inner::Inner;
 use crate::{Emit, Few, Fx, Node};
@@ -39,6 +42,8 @@ impl<N: Node> Inner<N> {
         ensures run { (st : List Frame) → IsIdle st → Run (state_of self.old.book st)
             (Closed at cause.now ∷ Closed peer cause.now ∷ Entered peer Close ∷ [])
             (state_of self.new.book (Running peer Close ∷ MustUnplug at peer ∷ st)) }
+        ensures lives { (now : ℕ) → Lives N.stands now (nodes_at self.old.book self.old.nodes.items) (nodes_at self.new.book self.new.nodes.items) Stays here
+            (λ st. MustHear peer cause.now ∷ st) (Closed at cause.now ∷ Closed peer cause.now ∷ Entered peer Close ∷ []) }
         ensures was { result ≡ busy self.old.book peer.obj.0 }
         ensures runs { busy self.new.book peer.obj.0 ≡ true }
         ensures half { HalfCloses self.old.book self.new.book at peer }
@@ -55,8 +60,9 @@ impl<N: Node> Inner<N> {
         requires other { port self.old.book peer.obj.0 peer.slot ≡ Leaving at }
         requires apart { at.obj.0 ≢ peer.obj.0 }
         requires steady { IsSteady N.rank_of self.old.book self.old.nodes.items (vec_capacity self.old.nodes) }
-        ensures ends { Ends self.old.book self.new.book (O.events out.old) (O.events out.new) peer.obj.0 was
-            (λ st. Running peer Close ∷ MustUnplug at peer ∷ st) (port_but peer Shut (port_but at Shut (port self.old.book))) }
+        ensures ends { EndsFor N.stands self.old.book self.new.book self.old.nodes.items self.new.nodes.items (O.events out.old) (O.events out.new) peer.obj.0 was
+            (λ st. Running peer Close ∷ MustUnplug at peer ∷ st) (port_but peer Shut (port_but at Shut (port self.old.book)))
+            (λ st. Holds peer Close None ∷ st) }
         ensures steady { IsSteady N.rank_of self.new.book self.new.nodes.items (vec_capacity self.new.nodes) }
     {
         self.book.leave(peer, was, out);
@@ -68,8 +74,8 @@ impl<N: Node> Inner<N> {
     pub(crate) fn leave<O: Outside>(&mut self, at: Port, was: bool, out: &mut O)
         requires lives { live self.old.book at.obj.0 ≡ true }
         requires steady { IsSteady N.rank_of self.old.book self.old.nodes.items (vec_capacity self.old.nodes) }
-        ensures ends { (by : TheWay) → Ends self.old.book self.new.book (O.events out.old) (O.events out.new) at.obj.0 was
-            (λ st. Running at by ∷ st) (port self.old.book) }
+        ensures ends { (by : TheWay) → EndsFor N.stands self.old.book self.new.book self.old.nodes.items self.new.nodes.items (O.events out.old) (O.events out.new) at.obj.0 was
+            (λ st. Running at by ∷ st) (port self.old.book) (λ st. Holds at by None ∷ st) }
         ensures steady { IsSteady N.rank_of self.new.book self.new.nodes.items (vec_capacity self.new.nodes) }
     {
         self.book.leave(at, was, out);
@@ -84,7 +90,7 @@ impl<N: Node> Inner<N> {
         requires links { IsLinked (port self.old.book) (rank self.old.book) }
         requires counted { CountedButTwo first.0 other.0 self.old.book }
         requires small { (x : ℕ) → rank self.old.book x < 256 }
-        ensures settles { SettlesTwo self.old.book self.new.book (O.events out.old) (O.events out.new) first other }
+        ensures settles { SettlesTwoFor N.stands self.old.book self.new.book self.old.nodes.items self.new.nodes.items (O.events out.old) (O.events out.new) first other }
         ensures steady { IsSteady N.rank_of self.new.book self.new.nodes.items (vec_capacity self.new.nodes) }
     {
         if first.0 < other.0 {
@@ -102,7 +108,7 @@ impl<N: Node> Inner<N> {
         requires links { IsLinked (port self.old.book) (rank self.old.book) }
         requires counted { CountedButTwo low.0 high.0 self.old.book }
         requires small { (x : ℕ) → rank self.old.book x < 256 }
-        ensures settles { SettlesTwo self.old.book self.new.book (O.events out.old) (O.events out.new) low high }
+        ensures settles { SettlesTwoFor N.stands self.old.book self.new.book self.old.nodes.items self.new.nodes.items (O.events out.old) (O.events out.new) low high }
         ensures steady { IsSteady N.rank_of self.new.book self.new.nodes.items (vec_capacity self.new.nodes) }
     {
         self.settle(low, out);
@@ -115,6 +121,8 @@ impl<N: Node> Inner<N> {
         requires manned { IsManned N.rank_of self.old.book self.old.nodes.items (vec_capacity self.old.nodes) }
         ensures asks { MayAskBelow 0 result }
         ensures book { self.new.book ≡ self.old.book }
+        ensures lives { Lives N.stands now (nodes_at self.old.book self.old.nodes.items) (nodes_at self.new.book self.new.nodes.items) (Lends at.obj.0 (lent result))
+            (λ st. MustHear at cause.now ∷ st) (λ st. Holds at Close None ∷ st) [] }
         ensures manned { IsManned N.rank_of self.new.book self.new.nodes.items (vec_capacity self.new.nodes) }
     {
         let mut fx = Fx::none();
@@ -129,6 +137,9 @@ impl<N: Node> Inner<N> {
         requires manned { IsManned N.rank_of self.old.book self.old.nodes.items (vec_capacity self.old.nodes) }
         ensures asks { MayAskDown (length msg.now.first.now + length msg.now.second.now) result }
         ensures book { self.new.book ≡ self.old.book }
+        ensures lives { (k : Lives N.stands now (nodes_at self.old.book self.old.nodes.items) (nodes_at self.new.book self.new.nodes.items) (Lends id.0 (asked_loads result))
+            (λ st. Holds (port_at id.0 0) Down (Some (said msg.now)) ∷ st) (λ st. Holds (port_at id.0 0) Down None ∷ st) [])
+            × Calls id.0 (λ done fx. down (said msg.now) now done fx) k.deeds }
         ensures manned { IsManned N.rank_of self.new.book self.new.nodes.items (vec_capacity self.new.nodes) }
     {
         let mut fx = Fx::none();
@@ -143,8 +154,11 @@ impl<N: Node> Inner<N> {
     pub(crate) fn ask_up(&mut self, at: Port, msg: &Msg<'_>, now: u64) -> Asked<N, N::Load>
         requires lives { live self.old.book at.obj.0 ≡ true }
         requires manned { IsManned N.rank_of self.old.book self.old.nodes.items (vec_capacity self.old.nodes) }
-        ensures asks { MayAskUp N.rank_of (rank self.old.book at.obj.0) at.slot (length msg.now.first.now + length msg.now.second.now) result }
+        ensures asks { MayAskUp N.rank_of N.stands (rank self.old.book at.obj.0) at.slot (length msg.now.first.now + length msg.now.second.now) result }
         ensures book { self.new.book ≡ self.old.book }
+        ensures lives { (k : Lives N.stands now (nodes_at self.old.book self.old.nodes.items) (nodes_at self.new.book self.new.nodes.items) (LendsFirst at.obj.0 (asked_loads result))
+            (λ st. Holds at Up (Some (said msg.now)) ∷ st) (λ st. Holds at Up (asked_rest (said msg.now) result) ∷ st) [])
+            × Calls at.obj.0 (λ done fx. up at.slot (said msg.now) now done fx) k.deeds }
         ensures manned { IsManned N.rank_of self.new.book self.new.nodes.items (vec_capacity self.new.nodes) }
     {
         let mut fx = Fx::none();
@@ -159,8 +173,11 @@ impl<N: Node> Inner<N> {
     pub(crate) fn ask_time(&mut self, id: ObjId, now: u64) -> Asked<N, N::Load>
         requires lives { live self.old.book id.0 ≡ true }
         requires manned { IsManned N.rank_of self.old.book self.old.nodes.items (vec_capacity self.old.nodes) }
-        ensures asks { MayAskTime N.rank_of (rank self.old.book id.0) result }
+        ensures asks { MayAskTime N.rank_of N.stands (rank self.old.book id.0) result }
         ensures book { self.new.book ≡ self.old.book }
+        ensures lives { (k : Lives N.stands now (nodes_at self.old.book self.old.nodes.items) (nodes_at self.new.book self.new.nodes.items) (LendsFirst id.0 (asked_loads result))
+            (λ st. Holds (port_at id.0 4) Time (Some silence) ∷ st) (λ st. Holds (port_at id.0 4) Time None ∷ st) [])
+            × Calls id.0 (λ done fx. time now done fx) k.deeds }
         ensures manned { IsManned N.rank_of self.new.book self.new.nodes.items (vec_capacity self.new.nodes) }
     {
         let mut fx = Fx::none();
@@ -176,6 +193,7 @@ impl<N: Node> Inner<N> {
         requires lives { live self.old.book id.0 ≡ true }
         requires manned { IsManned N.rank_of self.old.book self.old.nodes.items (vec_capacity self.old.nodes) }
         ensures book { self.new.book ≡ self.old.book }
+        ensures lives { (now : ℕ) → Lives N.stands now (nodes_at self.old.book self.old.nodes.items) (nodes_at self.new.book self.new.nodes.items) (Back (busy self.old.book) id.0 (load ∷ [])) here here [] }
         ensures manned { IsManned N.rank_of self.new.book self.new.nodes.items (vec_capacity self.new.nodes) }
     {
         let place = self.book.place(id);
@@ -187,6 +205,7 @@ impl<N: Node> Inner<N> {
         requires lives { live self.old.book id.0 ≡ true }
         requires manned { IsManned N.rank_of self.old.book self.old.nodes.items (vec_capacity self.old.nodes) }
         ensures book { self.new.book ≡ self.old.book }
+        ensures lives { (now : ℕ) → Lives N.stands now (nodes_at self.old.book self.old.nodes.items) (nodes_at self.new.book self.new.nodes.items) (Back (busy self.old.book) id.0 (lent fx)) here here [] }
         ensures manned { IsManned N.rank_of self.new.book self.new.nodes.items (vec_capacity self.new.nodes) }
     {
         let Fx {
@@ -204,6 +223,7 @@ impl<N: Node> Inner<N> {
         requires lives { live self.old.book id.0 ≡ true }
         requires manned { IsManned N.rank_of self.old.book self.old.nodes.items (vec_capacity self.old.nodes) }
         ensures book { self.new.book ≡ self.old.book }
+        ensures lives { (now : ℕ) → Lives N.stands now (nodes_at self.old.book self.old.nodes.items) (nodes_at self.new.book self.new.nodes.items) (Back (busy self.old.book) id.0 (loads few)) here here [] }
         ensures manned { IsManned N.rank_of self.new.book self.new.nodes.items (vec_capacity self.new.nodes) }
     {
         let Few { first, second } = few;
@@ -215,21 +235,44 @@ impl<N: Node> Inner<N> {
         requires lives { live self.old.book id.0 ≡ true }
         requires manned { IsManned N.rank_of self.old.book self.old.nodes.items (vec_capacity self.old.nodes) }
         ensures book { self.new.book ≡ self.old.book }
+        ensures lives { (now : ℕ) → Lives N.stands now (nodes_at self.old.book self.old.nodes.items) (nodes_at self.new.book self.new.nodes.items) (Back (busy self.old.book) id.0 (carried emit)) here here [] }
         ensures manned { IsManned N.rank_of self.new.book self.new.nodes.items (vec_capacity self.new.nodes) }
     {
-        if let Some(
-            Emit {
-                slot: _,
-                tag: _,
-                a: _,
-                b: _,
-                from: _,
-                to: _,
-                load: Some(load),
-            },
-        ) = emit
-        {
-            self.give_back(id, load);
+        match emit {
+            Some(emit) => self.take_emit(id, emit),
+            None => {}
+        }
+    }
+
+    fn take_emit(&mut self, id: ObjId, emit: Emit<N::Load>)
+        requires lives { live self.old.book id.0 ≡ true }
+        requires manned { IsManned N.rank_of self.old.book self.old.nodes.items (vec_capacity self.old.nodes) }
+        ensures book { self.new.book ≡ self.old.book }
+        ensures lives { (now : ℕ) → Lives N.stands now (nodes_at self.old.book self.old.nodes.items) (nodes_at self.new.book self.new.nodes.items) (Back (busy self.old.book) id.0 (in_list emit.load)) here here [] }
+        ensures manned { IsManned N.rank_of self.new.book self.new.nodes.items (vec_capacity self.new.nodes) }
+    {
+        let Emit {
+            slot: _,
+            tag: _,
+            a: _,
+            b: _,
+            from: _,
+            to: _,
+            load,
+        } = emit;
+        self.take_load(id, load);
+    }
+
+    fn take_load(&mut self, id: ObjId, load: Option<N::Load>)
+        requires lives { live self.old.book id.0 ≡ true }
+        requires manned { IsManned N.rank_of self.old.book self.old.nodes.items (vec_capacity self.old.nodes) }
+        ensures book { self.new.book ≡ self.old.book }
+        ensures lives { (now : ℕ) → Lives N.stands now (nodes_at self.old.book self.old.nodes.items) (nodes_at self.new.book self.new.nodes.items) (Back (busy self.old.book) id.0 (in_list load)) here here [] }
+        ensures manned { IsManned N.rank_of self.new.book self.new.nodes.items (vec_capacity self.new.nodes) }
+    {
+        match load {
+            Some(load) => self.give_back(id, load),
+            None => {}
         }
     }
 }
@@ -251,7 +294,8 @@ pub(crate) fn cut<'m>(msg: &Msg<'m>, from: u32, to: u32) -> (&'m [u8], &'m [u8])
 /// A message without its first `took` bytes.
 pub(crate) fn behind<'m>(msg: &Msg<'m>, took: usize) -> Msg<'m>
     requires { took ≤ length msg.now.first.now + length msg.now.second.now }
-    ensures { length result.first.now + length result.second.now + took ≡ length msg.now.first.now + length msg.now.second.now }
+    ensures length { length result.first.now + length result.second.now + took ≡ length msg.now.first.now + length msg.now.second.now }
+    ensures bytes { said result ≡ said_behind took (said msg.now) }
 {
     let seam = msg.first.len();
     Msg {

@@ -1,4 +1,5 @@
-ghost use Rattle.std.specs.Prelude.{◌≡◌, [], None};
+ghost use Rattle.std.specs.Prelude.{◌≡◌, [], None, min};
+ghost use Rattle.nb_graph.specs.Counted.{regains, ups};
 
 use crate::{Emit, Fx, Graph, Make, Msg, Node, ObjId, Outside, Parts, Port, Reach};
 use nb_terms::{Cause, Event, NoMemory};
@@ -47,7 +48,9 @@ const WHY: Cause = Cause {
 };
 
 fn make_fake(rank: u8, deed: Deed) -> Fake
-    ensures { result.rank ≡ rank }
+    ensures rank { result.rank ≡ rank }
+    ensures calls { result.calls ≡ 0 }
+    ensures back { result.back ≡ 0 }
 {
     Fake {
         rank,
@@ -65,6 +68,8 @@ impl Node for Fake {
     ghost kind_of = { λ _. 7 };
 
     ghost harvests = { λ _ r _. r ≡ None };
+
+    ghost stands = { λ n t. (n.calls ≡ min (ups t) 255) × (n.back ≡ min (regains t) 255) };
 
     fn rank(&self) -> u8 {
         self.rank

@@ -15,7 +15,7 @@ use Rattle.std.proofs.lemmas.Bool.{cases_Bool, eqb-true}
 use Rattle.nb_ledger.specs.GraphRun.{port_but, new_ports}
 use Rattle.nb_ledger.specs.Ledger.{Ledger, IsRising, found, place_in, live, holds, busy, rank, port, place, object_port, open_ports, open_count, opens, ranks}
 use Rattle.nb_ledger.specs.Changes.{SameObjects, SetsHolds, SetsBusy, SetsPort, Adds, Removes}
-use Rattle.nb_ledger.proofs.PlaceLemmas.{read-set, read-same, found-serial, found-place, place_found, place-set, read-push, read-remove}
+use Rattle.nb_ledger.proofs.PlaceLemmas.{read-set, read-same, found-serial, found-place, place_found, place-set, read-push, read-remove, place-stays, place-remove}
 
 -- l, with v over the object of its serial
 abbrev pub put_in : Ledger → Object → Ledger
@@ -148,6 +148,7 @@ Adds-push l o h none idle fresh = record {
   live_set = λ y. live-read _ ∙ read-push (λ _. true) false l.objects o y h ∙ ap (cond (eqb y o.id.0) true) (sym (live-read _));
   rank_set = λ y. read-push (λ w. w.rank) 0 l.objects o y h;
   ranks_set = map-append (λ w. w.rank) l.objects (o ∷ []);
+  place_set = λ y v. place-stays l.objects o y v;
   holds_set = λ y. read-push (λ w. w.holds) 0 l.objects o y h ∙ ap (λ z. cond (eqb y o.id.0) z (holds l y)) none;
   busy_set = λ y. read-push (λ w. w.busy) false l.objects o y h ∙ ap (λ z. cond (eqb y o.id.0) z (busy l y)) idle;
   port_set = λ y k. read-push (object_port k) Closed l.objects o y h ∙ ap (λ z. cond (eqb y o.id.0) z (port l y k)) (new_ports-open o k fresh);
@@ -170,6 +171,7 @@ Removes-remove l x r h = record {
   live_set = λ y. live-read _ ∙ read-remove (λ _. true) false 0 l.made l.objects x y r h ∙ ap (cond (eqb y x) false) (sym (live-read _));
   rank_set = λ y. read-remove (λ w. w.rank) 0 0 l.made l.objects x y r h;
   ranks_set = map-remove (λ w. w.rank) l.objects (place l x);
+  place_set = λ y n. place-remove l.objects x y h n;
   holds_set = λ y. read-remove (λ w. w.holds) 0 0 l.made l.objects x y r h;
   busy_set = λ y. read-remove (λ w. w.busy) false 0 l.made l.objects x y r h;
   port_set = λ y k. read-remove (object_port k) Closed 0 l.made l.objects x y r h;

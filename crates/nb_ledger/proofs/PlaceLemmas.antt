@@ -1,5 +1,5 @@
 -- Where objects stand in the book's list, and what is found there after an edit.
-use Rattle.std.proofs.Common.{◌≡◌, ℕ, ◌+◌, ◌<◌, ◌≤◌, Bool, true, false, cond, eqb, ltb, List, [], ◌∷◌, ◌++◌, length, get_or, set, Option, Some, None, zero, suc, is_some, refl, ap, ◌∙◌, arith, add-one, inl, inr}
+use Rattle.std.proofs.Common.{◌≡◌, ◌≢◌, ℕ, ◌+◌, ◌<◌, ◌≤◌, Bool, true, false, cond, eqb, ltb, List, [], ◌∷◌, ◌++◌, length, get_or, set, Option, Some, None, zero, suc, is_some, refl, ap, ◌∙◌, arith, add-one, inl, inr}
 use Rattle.std.specs.List.{remove}
 use Rattle.std.specs.Option.{option_map_or, IfNone, IfSome}
 use Rattle.std.proofs.lemmas.Bool.Decides.{nat_tests}
@@ -78,6 +78,11 @@ pub place-push : (os : List Object) (v : Object) → found os v.id.0 ≡ None �
 place-push [] v h = grind (arith, nat_tests)
 place-push (o ∷ os) v h = let r = place-push os v in grind (arith, nat_tests)
 
+-- those that were found stand where they stood
+pub place-stays : (os : List Object) (v : Object) (y : ℕ) → is_some (found os y) ≡ true → place_in (os ++ v ∷ []) y ≡ place_in os y
+place-stays [] v y h = absurd (cc)
+place-stays (o ∷ os) v y h = let r = place-stays os v y in grind (arith, nat_tests)
+
 -- the serials go on rising
 pub IsRising-push : (low high : ℕ) (os : List Object) (v : Object) → IsRising low os high → high < v.id.0 → length v.ports ≡ 4 → IsRising low (os ++ v ∷ []) v.id.0
 IsRising-push low high [] v r h n = (omega arith, n, omega arith)
@@ -101,6 +106,15 @@ found-remove low high (o ∷ os) x y r h =
     let c : remove (o ∷ os) (place_in os x + 1) ≡ o ∷ remove os (place_in os x) = rw add-one refl in
     let z : remove (o ∷ os) 0 ≡ os = refl in
     let b = found-below o.id.0 high os y r.2 in
+    grind (arith, nat_tests)
+
+-- those behind it move up by one
+pub place-remove : (os : List Object) (x y : ℕ) → place_in os x < length os → y ≢ x → place_in (remove os (place_in os x)) y + cond (ltb (place_in os x) (place_in os y)) 1 0 ≡ place_in os y
+place-remove [] x y h n = absurd (omega arith)
+place-remove (o ∷ os) x y h n =
+    let e = place-remove os x y in
+    let c : remove (o ∷ os) (place_in os x + 1) ≡ o ∷ remove os (place_in os x) = rw add-one refl in
+    let z : remove (o ∷ os) 0 ≡ os = refl in
     grind (arith, nat_tests)
 
 -- the serials go on rising

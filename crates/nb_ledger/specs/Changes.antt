@@ -1,5 +1,5 @@
 -- What one change of a book leaves of each serial.
-use Rattle.std.specs.Prelude.{◌≡◌, ℕ, ◌+◌, Bool, true, false, [], ◌∷◌, ◌++◌}
+use Rattle.std.specs.Prelude.{◌≡◌, ◌≢◌, ℕ, ◌+◌, Bool, true, false, nat_lt, [], ◌∷◌, ◌++◌, if◌then◌else◌}
 use Rattle.std.specs.List.{remove}
 use Rattle.nb_ledger.specs.declared.port.Port.{Port}
 use Rattle.nb_ledger.specs.declared.port.PortState.{PortState}
@@ -47,6 +47,7 @@ pub record Adds (old new : Ledger) (x r : ℕ) : Type 0 where
   pub live_set : (y : ℕ) → live new y ≡ but_at x true (live old) y
   pub rank_set : (y : ℕ) → rank new y ≡ but_at x r (rank old) y
   pub ranks_set : ranks new ≡ ranks old ++ r ∷ []
+  pub place_set : (y : ℕ) → live old y ≡ true → place new y ≡ place old y
   pub holds_set : (y : ℕ) → holds new y ≡ but_at x 0 (holds old) y
   pub busy_set : (y : ℕ) → busy new y ≡ but_at x false (busy old) y
   pub port_set : (y k : ℕ) → port new y k ≡ ports_but x new_ports (port old) y k
@@ -58,6 +59,7 @@ pub record Removes (old new : Ledger) (x : ℕ) : Type 0 where
   pub live_set : (y : ℕ) → live new y ≡ but_at x false (live old) y
   pub rank_set : (y : ℕ) → rank new y ≡ but_at x 0 (rank old) y
   pub ranks_set : ranks new ≡ remove (ranks old) (place old x)
+  pub place_set : (y : ℕ) → y ≢ x → place new y + (if nat_lt (place old x) (place old y) then 1 else 0) ≡ place old y
   pub holds_set : (y : ℕ) → holds new y ≡ but_at x 0 (holds old) y
   pub busy_set : (y : ℕ) → busy new y ≡ but_at x false (busy old) y
   pub port_set : (y k : ℕ) → port new y k ≡ ports_but x (λ _. Closed) (port old) y k

@@ -1,3 +1,5 @@
+use Rattle.nb_graph.proofs.SeatLemmas.{Loses-same, Loses-trans}
+use Rattle.nb_graph.proofs.LivedLemmas.{Keeps-loses}
 use Rattle.std.proofs.Common.{◌≡◌}
 use Rattle.nb_ledger.specs.declared.port.PortState.TheVariants.{Open}
 use Rattle.nb_ledger.specs.Ledger.{port}
@@ -15,3 +17,9 @@ invariant_of-self g c =
     let oq : port b q.obj.0 q.slot ≡ Open = c.is_free-2.ensures.0 c.if-not-is_free-2.false in
     let ranks = rw (← c.self.view_is) at c.requires.ranks in
     IsGraph-plug s.1 s.2 op oq c.requires.upper.0 c.requires.lower (ranks (live_by b _ _ _ tt op).0 (live_by b _ _ _ tt oq).0) c.self.invariant
+
+pub returns-clause-keeps : goal.returns-clause-keeps
+returns-clause-keeps g c =
+    let s = c.plug.ensures.sets in
+    let nodes = c.self.inside.inner.nodes.items in
+    rw (← c.self.view_is) (Keeps-loses g.N.Node.stands c.self.inside.inner.book c.plug.new.self nodes nodes (Loses-trans (Loses-same nodes s.1.objects) (Loses-same nodes s.2.objects)))

@@ -1,4 +1,4 @@
-use Rattle.std.proofs.Common.{refl, sym, ◌∙◌, arith, ap, rules, ◌≡◌, true}
+use Rattle.std.proofs.Common.{refl, sym, ◌∙◌, arith, ap, rules, ◌≡◌, true, inl, [], ◌∷◌}
 use Rattle.std.specs.Vec.{vec_capacity}
 use Rattle.nb_ledger.specs.Ledger.{busy, port, open_count}
 use Rattle.nb_graph.specs.Whole.{IsWhole}
@@ -6,19 +6,30 @@ use Rattle.nb_graph.specs.Calm.{IsSteady}
 use Rattle.nb_ledger.specs.declared.port.PortState.TheVariants.{Leaving, Closed}
 use Rattle.nb_ledger.specs.declared.event.Way.TheVariants.{Down}
 use Rattle.nb_ledger.proofs.PortLemmas.{busy-live, open-live}
-use Rattle.nb_graph.proofs.ShrinkLemmas.{Calm-refl, Calm-trans, ranks_fall}
+use Rattle.nb_graph.proofs.ShrinkLemmas.{ranks_fall}
 use Rattle.nb_graph.proofs.CalmLemmas.{linked-apart, IsWhole-enter}
 use Rattle.nb_graph.proofs.UnplugLemmas.{Starts-link, Starts-entry, Starts-one, Calm-link, Calm-entry, Calm-dropped, Calm-sent, Calm-alone, IsWhole-alone}
 use Rattle.nb_graph.proofs.ShutLemmas.{shut-set, shut-link, shut-all, closes-none, closes-step, shut-still}
 use Rattle.nb_graph.proofs.MannedLemmas.{IsManned-same}
+use Rattle.nb_ledger.specs.declared.event.GraphEvent.TheVariants.{Closed as CloseEvent, Dropped, Entered}
+use Rattle.nb_graph.specs.Trace.{carried, down, lent, loads, said}
+use Rattle.nb_graph.specs.Effects.{asked_loads}
+use Rattle.nb_graph.specs.Lives.{here}
+use Rattle.nb_graph.proofs.WholeLemmas.{but_other}
+use Rattle.nb_graph.proofs.LivesLemmas.{Lives-none, Lives-note, Lives-weaken}
+use Rattle.nb_graph.proofs.OwingLemmas.{Back-none}
+use Rattle.nb_graph.proofs.SeatLemmas.{Loses-refl, Loses-same}
+use Rattle.nb_graph.proofs.EntryLemmas.{Lives-closed, Lives-entry}
+use Rattle.nb_graph.proofs.AliveLemmas.{CalmFor-back, CalmFor-first, CalmFor-last, CalmFor-refl, CalmFor-regain, CalmFor-same, CalmFor-weaken, lent-below}
 use Rattle.nb_graph.proofs.inner.Inner.+calm.Goals as goal
 
-pub calm_effects-returns-clause-calm : goal.calm_effects-returns-clause-calm
-calm_effects-returns-clause-calm g t c = Calm-trans c.run_downs.ensures.calm c.run_closes.ensures.calm
+pub calm_effects-returns-clause-lives : goal.calm_effects-returns-clause-lives
+calm_effects-returns-clause-lives g t c =
+    rw (lent-below c.args.fx _ c.requires.asks) (CalmFor-last (loads c.args.fx.downs) c.requires.runs c.run_downs.ensures.lives c.run_closes.ensures.lives)
 
-pub close_all-returns-clause-calm : goal.close_all-returns-clause-calm
-close_all-returns-clause-calm g t c =
-    Calm-trans c.close_port.ensures.calm (Calm-trans c.close_port-2.ensures.calm (Calm-trans c.close_port-3.ensures.calm c.close_port-4.ensures.calm))
+pub close_all-returns-clause-lives : goal.close_all-returns-clause-lives
+close_all-returns-clause-lives g t c =
+    CalmFor-same c.close_port.ensures.lives (CalmFor-same c.close_port-2.ensures.lives (CalmFor-same c.close_port-3.ensures.lives c.close_port-4.ensures.lives))
 
 pub close_link-ask_closed-fx-requires-clause-lives : goal.close_link-ask_closed-fx-requires-clause-lives
 close_link-ask_closed-fx-requires-clause-lives g t c =
@@ -27,14 +38,22 @@ close_link-ask_closed-fx-requires-clause-lives g t c =
 pub close_link-unplug-requires-clause-apart : goal.close_link-unplug-requires-clause-apart
 close_link-unplug-requires-clause-apart g t c = linked-apart _ c.args.at c.args.peer c.requires.steady.whole.links c.requires.linked
 
-pub close_link-returns-clause-calm : goal.close_link-returns-clause-calm
-close_link-returns-clause-calm g t c =
+pub close_link-returns-clause-lives : goal.close_link-returns-clause-lives
+unfolding Calm-link
+close_link-returns-clause-lives g t c =
     let b = c.close_both-was.ensures in
-    Calm-link c.requires.steady.whole.links c.requires.linked b.told b.run b.was b.half (rw c.ask_closed-fx.ensures.book at c.calm_effects.ensures.calm) c.unplug.ensures.ends
+    let k = rw c.ask_closed-fx.ensures.book at c.calm_effects.ensures.lives in
+    record {
+      calm = Calm-link c.requires.steady.whole.links c.requires.linked b.told b.run b.was b.half k.calm c.unplug.ensures.ends.ends;
+      lives = Lives-closed _ _ c.args.peer.obj.0 (lent c.ask_closed-fx.result) (λ x n. b.half.busy_set x ∙ but_other c.args.peer.obj.0 true (busy c.args.self.now.book) x n) (b.lives c.args.now) (rw c.ask_closed-fx.ensures.book at c.ask_closed-fx.ensures.lives) k.lives (c.unplug.ensures.ends.lives c.args.now);
+    }
 
-pub close_port-returns-in-Open-clause-calm : goal.close_port-returns-in-Open-clause-calm
-close_port-returns-in-Open-clause-calm g t c =
-    Calm-alone (sym c.in-Open.ensures) c.close_alone.ensures.sets c.close_alone.ensures.told c.close_alone.ensures.step
+pub close_port-returns-in-Open-clause-lives : goal.close_port-returns-in-Open-clause-lives
+unfolding Calm-alone
+close_port-returns-in-Open-clause-lives g t c = record {
+  calm = Calm-alone (sym c.in-Open.ensures) c.close_alone.ensures.sets c.close_alone.ensures.told c.close_alone.ensures.step;
+  lives = Lives-weaken (λ x w v k. k.1) (Lives-note g.N.Node.stands c.args.now _ _ here here (CloseEvent c.args.at c.args.cause.now) (Loses-same c.args.self.now.nodes.items c.close_alone.ensures.sets.objects) (λ x t. refl) (λ st. inl refl));
+}
 
 pub close_port-returns-in-Open-clause-steady : goal.close_port-returns-in-Open-clause-steady
 close_port-returns-in-Open-clause-steady g t c = record {
@@ -42,11 +61,11 @@ close_port-returns-in-Open-clause-steady g t c = record {
   manned = IsManned-same c.close_alone.ensures.sets.objects c.requires.steady.manned;
 }
 
-pub close_port-returns-in-Leaving-clause-calm : goal.close_port-returns-in-Leaving-clause-calm
-close_port-returns-in-Leaving-clause-calm g t c = Calm-refl _ _
+pub close_port-returns-in-Leaving-clause-lives : goal.close_port-returns-in-Leaving-clause-lives
+close_port-returns-in-Leaving-clause-lives g t c = CalmFor-refl _ _ _ _ _
 
-pub close_port-returns-in-Closed-clause-calm : goal.close_port-returns-in-Closed-clause-calm
-close_port-returns-in-Closed-clause-calm g t c = Calm-refl _ _
+pub close_port-returns-in-Closed-clause-lives : goal.close_port-returns-in-Closed-clause-lives
+close_port-returns-in-Closed-clause-lives g t c = CalmFor-refl _ _ _ _ _
 
 pub enter_down-enter-was-requires : goal.enter_down-enter-was-requires
 enter_down-enter-was-requires g t c = open-live _ _ _ c.requires.open
@@ -54,47 +73,63 @@ enter_down-enter-was-requires g t c = open-live _ _ _ c.requires.open
 pub fail-take_back-requires-clause-lives : goal.fail-take_back-requires-clause-lives
 fail-take_back-requires-clause-lives g t c = busy-live _ _ c.requires.runs
 
-pub pass_down-returns-in-Open-clause-calm : goal.pass_down-returns-in-Open-clause-calm
-pass_down-returns-in-Open-clause-calm g t c = Calm-sent _ _ _ c.send.ensures
+pub pass_down-returns-in-Open-clause-lives : goal.pass_down-returns-in-Open-clause-lives
+unfolding Calm-sent
+pass_down-returns-in-Open-clause-lives g t c = record { calm = Calm-sent _ _ _ c.send.ensures; lives = Lives-weaken (λ x w v k. k.1) (Lives-none _ c.args.now _) }
 
-pub pass_down-returns-in-Leaving-clause-calm : goal.pass_down-returns-in-Leaving-clause-calm
-pass_down-returns-in-Leaving-clause-calm g t c =
-    Calm-dropped _ _ _ c.args.at (Leaving c.in-Leaving.field-0) (sym c.in-Leaving.ensures) tt (rw c.spelled.ensures at c.event.ensures)
+pub pass_down-returns-in-Leaving-clause-lives : goal.pass_down-returns-in-Leaving-clause-lives
+unfolding Calm-dropped
+pass_down-returns-in-Leaving-clause-lives g t c = record {
+  calm = Calm-dropped _ _ _ c.args.at (Leaving c.in-Leaving.field-0) (sym c.in-Leaving.ensures) tt (rw c.spelled.ensures at c.event.ensures);
+  lives = Lives-weaken (λ x w v k. k.1) (Lives-note g.N.Node.stands c.args.now _ _ here here (Dropped c.args.at) (Loses-refl _) (λ x t. refl) (λ st. inl refl));
+}
 
-pub pass_down-returns-in-Closed-clause-calm : goal.pass_down-returns-in-Closed-clause-calm
-pass_down-returns-in-Closed-clause-calm g t c =
-    Calm-dropped _ _ _ c.args.at Closed (sym c.in-Closed.ensures) tt (rw c.spelled-in-Closed.ensures at c.event-in-Closed.ensures)
+pub pass_down-returns-in-Closed-clause-lives : goal.pass_down-returns-in-Closed-clause-lives
+unfolding Calm-dropped
+pass_down-returns-in-Closed-clause-lives g t c = record {
+  calm = Calm-dropped _ _ _ c.args.at Closed (sym c.in-Closed.ensures) tt (rw c.spelled-in-Closed.ensures at c.event-in-Closed.ensures);
+  lives = Lives-weaken (λ x w v k. k.1) (Lives-note g.N.Node.stands c.args.now _ _ here here (Dropped c.args.at) (Loses-refl _) (λ x t. refl) (λ st. inl refl));
+}
 
-pub run_closes-returns-in_default-clause-calm : goal.run_closes-returns-in_default-clause-calm
-run_closes-returns-in_default-clause-calm g t c = Calm-refl _ _
+pub run_closes-returns-in_default-clause-lives : goal.run_closes-returns-in_default-clause-lives
+run_closes-returns-in_default-clause-lives g t c = CalmFor-refl _ _ _ _ _
 
-pub run_closes-returns-in-len1-up-clause-calm : goal.run_closes-returns-in-len1-up-clause-calm
-run_closes-returns-in-len1-up-clause-calm g t c = Calm-trans c.close_port.ensures.calm c.run_closes.ensures.calm
+pub run_closes-returns-in-len1-up-clause-lives : goal.run_closes-returns-in-len1-up-clause-lives
+run_closes-returns-in-len1-up-clause-lives g t c = CalmFor-same c.close_port.ensures.lives c.run_closes.ensures.lives
 
-pub run_down-returns-in_default-clause-calm : goal.run_down-returns-in_default-clause-calm
-run_down-returns-in_default-clause-calm g t c = Calm-refl _ _
+pub run_down-returns-in-None-clause-lives : goal.run_down-returns-in-None-clause-lives
+run_down-returns-in-None-clause-lives g t c = rw c.in-None.is (CalmFor-weaken (Back-none _ _ c.requires.runs) (CalmFor-refl _ _ _ _ _))
 
-pub run_downs-returns-clause-calm : goal.run_downs-returns-clause-calm
-run_downs-returns-clause-calm g t c = Calm-trans c.run_down.ensures.calm c.run_down-2.ensures.calm
+pub run_downs-returns-clause-lives : goal.run_downs-returns-clause-lives
+run_downs-returns-clause-lives g t c = CalmFor-back (carried c.args.downs.first) (carried c.args.downs.second) c.run_down.ensures.lives c.run_down-2.ensures.lives
 
 pub send_down-give_back-requires-clause-lives : goal.send_down-give_back-requires-clause-lives
-send_down-give_back-requires-clause-lives g t c = busy-live _ _ (c.pass_down.ensures.calm.shrinks.same_busy c.args.id.0 ∙ c.requires.runs)
+send_down-give_back-requires-clause-lives g t c = busy-live _ _ (c.pass_down.ensures.lives.calm.shrinks.same_busy c.args.id.0 ∙ c.requires.runs)
 
 pub enter_down-ask_down-asked-requires-clause-lives : goal.enter_down-ask_down-asked-requires-clause-lives
 enter_down-ask_down-asked-requires-clause-lives g t c = busy-live _ _ c.enter-was.ensures.runs
 
 pub enter_down-leave-requires-clause-lives : goal.enter_down-leave-requires-clause-lives
 enter_down-leave-requires-clause-lives g t c =
-    busy-live _ _ (c.after_down.ensures.calm.shrinks.same_busy c.args.at.obj.0 ∙ rw c.ask_down-asked.ensures.book c.enter-was.ensures.runs)
+    busy-live _ _ (c.after_down.ensures.lives.calm.shrinks.same_busy c.args.at.obj.0 ∙ rw c.ask_down-asked.ensures.book c.enter-was.ensures.runs)
 
-pub enter_down-returns-clause-calm : goal.enter_down-returns-clause-calm
-enter_down-returns-clause-calm g t c =
+pub enter_down-returns-clause-lives : goal.enter_down-returns-clause-lives
+unfolding Calm-entry
+enter_down-returns-clause-lives g t c =
     let b = c.enter-was.ensures in
-    Calm-entry b.sets b.told b.step (λ st. (c.requires.slot, c.requires.open)) b.was (rw c.ask_down-asked.ensures.book at c.after_down.ensures.calm) (c.leave.ensures.ends Down)
+    let k = rw c.ask_down-asked.ensures.book at c.after_down.ensures.lives in
+    let e = c.leave.ensures.ends Down in
+    let r = Lives-entry _ _ c.args.at.obj.0 (asked_loads c.ask_down-asked.result) (Entered c.args.at Down) (λ done fx. down (said c.args.msg.now) c.args.now done fx) (λ x n. b.sets.busy_set x ∙ but_other c.args.at.obj.0 true (busy c.args.self.now.book) x n) (Loses-same c.args.self.now.nodes.items b.sets.objects) (λ x t. refl) (λ st. (said c.args.msg.now, refl)) (rw (c.ask_down-asked.ensures.book, sym c.requires.slot) at c.ask_down-asked.ensures.lives) k.lives (e.lives c.args.now) in (
+      record {
+        calm = Calm-entry b.sets b.told b.step (λ st. (c.requires.slot, c.requires.open)) b.was k.calm e.ends;
+        lives = r.0;
+      },
+      r.1,
+    )
 
 pub run_downs-run_down-requires-2 : goal.run_downs-run_down-requires-2
 run_downs-run_down-requires-2 g t c =
-    let k = c.run_down.ensures.calm.shrinks in
+    let k = c.run_down.ensures.lives.calm.shrinks in
     let lower = ranks_fall c.args.id.0 k in
     let fewer = k.opens_fall in
     let runs = k.same_busy c.args.id.0 ∙ c.requires.runs in
@@ -122,11 +157,11 @@ close_port-returns-in-Closed-clause-shut g t c = ap open_count (sym c.in-Closed.
 
 pub close_link-returns-clause-shut : goal.close_link-returns-clause-shut
 close_link-returns-clause-shut g t c =
-    shut-link c.close_both-was.ensures.half (rw c.ask_closed-fx.ensures.book at c.calm_effects.ensures.calm) c.unplug.ensures.ends
+    shut-link c.close_both-was.ensures.half (rw c.ask_closed-fx.ensures.book at c.calm_effects.ensures.lives.calm) c.unplug.ensures.ends.ends
 
 pub close_all-returns-clause-shut : goal.close_all-returns-clause-shut
 close_all-returns-clause-shut g t c =
-    shut-all c.args.id.0 c.close_port.ensures.shut c.close_port-2.ensures.shut c.close_port-3.ensures.shut c.close_port-4.ensures.shut c.close_port-2.ensures.calm.shrinks c.close_port-3.ensures.calm.shrinks c.close_port-4.ensures.calm.shrinks
+    shut-all c.args.id.0 c.close_port.ensures.shut c.close_port-2.ensures.shut c.close_port-3.ensures.shut c.close_port-4.ensures.shut c.close_port-2.ensures.lives.calm.shrinks c.close_port-3.ensures.lives.calm.shrinks c.close_port-4.ensures.lives.calm.shrinks
 
 pub run_closes-returns-in_default-clause-shut : goal.run_closes-returns-in_default-clause-shut
 run_closes-returns-in_default-clause-shut g t c =
@@ -134,7 +169,7 @@ run_closes-returns-in_default-clause-shut g t c =
 
 pub run_closes-returns-in-len1-up-clause-shut : goal.run_closes-returns-in-len1-up-clause-shut
 run_closes-returns-in-len1-up-clause-shut g t c =
-    closes-step c.args.closes.now (0, record { code = 0; a = 0; b = 0 }) (λ k. open_count (port c.run_closes.new.self.book c.args.id.0 k) ≡ 0) c.in-len1-up.len_at_least (shut-still c.args.id.0 _ c.close_port.ensures.shut c.run_closes.ensures.calm.shrinks) c.run_closes.ensures.shut
+    closes-step c.args.closes.now (0, record { code = 0; a = 0; b = 0 }) (λ k. open_count (port c.run_closes.new.self.book c.args.id.0 k) ≡ 0) c.in-len1-up.len_at_least (shut-still c.args.id.0 _ c.close_port.ensures.shut c.run_closes.ensures.lives.calm.shrinks) c.run_closes.ensures.shut
 
 pub enter_down-ask_down-asked-requires-clause-manned : goal.enter_down-ask_down-asked-requires-clause-manned
 enter_down-ask_down-asked-requires-clause-manned g t c = IsManned-same c.enter-was.ensures.sets.objects c.requires.steady.manned
@@ -157,9 +192,21 @@ close_port-returns-in-Closed-clause-starts g t c = λ h. absurd (let z = ap open
 pub close_link-returns-clause-starts : goal.close_link-returns-clause-starts
 close_link-returns-clause-starts g t c =
     let b = c.close_both-was.ensures in
-    Starts-link c.requires.steady.whole.links c.requires.linked b.told b.run b.was b.half (rw c.ask_closed-fx.ensures.book at c.calm_effects.ensures.calm) c.unplug.ensures.ends
+    Starts-link c.requires.steady.whole.links c.requires.linked b.told b.run b.was b.half (rw c.ask_closed-fx.ensures.book at c.calm_effects.ensures.lives.calm) c.unplug.ensures.ends.ends
 
 pub enter_down-returns-clause-starts : goal.enter_down-returns-clause-starts
 enter_down-returns-clause-starts g t c =
     let b = c.enter-was.ensures in
-    Starts-entry b.sets b.told b.step (λ st. (c.requires.slot, c.requires.open)) b.was (rw c.ask_down-asked.ensures.book at c.after_down.ensures.calm) (c.leave.ensures.ends Down)
+    Starts-entry b.sets b.told b.step (λ st. (c.requires.slot, c.requires.open)) b.was (rw c.ask_down-asked.ensures.book at c.after_down.ensures.lives.calm) (c.leave.ensures.ends Down).ends
+
+pub send_down-returns-in-Some-clause-lives : goal.send_down-returns-in-Some-clause-lives
+send_down-returns-in-Some-clause-lives g t c =
+    rw c.in-Some.is (CalmFor-regain (c.in-Some.load ∷ []) c.requires.runs c.pass_down.ensures.lives c.give_back.ensures.lives c.give_back.ensures.book)
+
+pub send_down-returns-in-None-clause-lives : goal.send_down-returns-in-None-clause-lives
+send_down-returns-in-None-clause-lives g t c =
+    rw c.in-None.is (CalmFor-weaken (Back-none _ _ c.requires.runs) c.pass_down-in-None.ensures.lives)
+
+pub fail-returns-clause-lives : goal.fail-returns-clause-lives
+fail-returns-clause-lives g t c =
+    CalmFor-first (lent c.args.fx) c.requires.runs c.take_back.ensures.lives c.close_all.ensures.lives c.take_back.ensures.book

@@ -1,24 +1,25 @@
 use Rattle.std.proofs.Common.{◌≡◌, ℕ}
 use Rattle.nb_ledger.specs.Ledger.{port, open_count}
-use Rattle.nb_graph.proofs.ShrinkLemmas.{Calm-refl, Calm-trans, Shrinks-trans}
+use Rattle.nb_graph.proofs.ShrinkLemmas.{Shrinks-trans}
+use Rattle.nb_graph.proofs.AliveLemmas.{CalmFor-refl, CalmFor-same}
 use Rattle.nb_graph.proofs.ShutLemmas.{no-object, shut-still}
 use Rattle.nb_graph.proofs.EndLemmas.{all-above}
 use Rattle.nb_graph.proofs.inner.Inner.+close_above.Goals as goal
 
-pub returns-in-Some-clause-calm : goal.returns-in-Some-clause-calm
-returns-in-Some-clause-calm g t c = Calm-trans c.close_all.ensures.calm c.close_above.ensures.calm
+pub returns-in-Some-clause-lives : goal.returns-in-Some-clause-lives
+returns-in-Some-clause-lives g t c = CalmFor-same c.close_all.ensures.lives c.close_above.ensures.lives
 
 pub returns-in-Some-clause-shut : goal.returns-in-Some-clause-shut
 returns-in-Some-clause-shut g t c = λ x k h.
     let s = c.in-Some.ensures.some in
-    let both = Shrinks-trans c.close_all.ensures.calm.shrinks c.close_above.ensures.calm.shrinks in
+    let both = Shrinks-trans c.close_all.ensures.lives.calm.shrinks c.close_above.ensures.lives.calm.shrinks in
     all-above (λ y. (j : ℕ) → open_count (port c.close_above.new.self.book y j) ≡ 0) c.args.after c.in-Some.id.0
     (λ y a b j. shut-still y j (no-object _ y j (s.3 y a b)) both)
-    (λ j. shut-still c.in-Some.id.0 j (c.close_all.ensures.shut j) c.close_above.ensures.calm.shrinks)
+    (λ j. shut-still c.in-Some.id.0 j (c.close_all.ensures.shut j) c.close_above.ensures.lives.calm.shrinks)
     (λ y a j. c.close_above.ensures.shut y j a) x h k
 
-pub returns-in-None-clause-calm : goal.returns-in-None-clause-calm
-returns-in-None-clause-calm g t c = Calm-refl _ _
+pub returns-in-None-clause-lives : goal.returns-in-None-clause-lives
+returns-in-None-clause-lives g t c = CalmFor-refl _ _ _ _ _
 
 pub returns-in-None-clause-shut : goal.returns-in-None-clause-shut
 returns-in-None-clause-shut g t c = λ x k h. no-object _ x k (c.in-None.ensures.none x h)

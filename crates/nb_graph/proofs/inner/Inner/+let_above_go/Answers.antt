@@ -1,12 +1,12 @@
 use Rattle.std.proofs.Common.{◌≡◌, arith}
 use Rattle.nb_ledger.specs.Ledger.{holds}
 use Rattle.nb_ledger.proofs.PortLemmas.{dead_holds}
-use Rattle.nb_graph.proofs.RunsLemmas.{IsRun-none, IsRun-trans}
+use Rattle.nb_graph.proofs.AliveLemmas.{RunFor-none, RunFor-trans}
 use Rattle.nb_graph.proofs.EndLemmas.{all-above, LetsGo-refl, LetsGo-trans}
 use Rattle.nb_graph.proofs.inner.Inner.+let_above_go.Goals as goal
 
 pub returns-in-Some-clause-runs : goal.returns-in-Some-clause-runs
-returns-in-Some-clause-runs g t c = IsRun-trans _ _ _ _ _ _ c.let_all_go.ensures.runs c.let_above_go.ensures.runs
+returns-in-Some-clause-runs g t c = RunFor-trans c.let_all_go.ensures.runs c.let_above_go.ensures.runs
 
 pub returns-in-Some-clause-lets : goal.returns-in-Some-clause-lets
 returns-in-Some-clause-lets g t c = LetsGo-trans c.let_all_go.ensures.lets c.let_above_go.ensures.lets
@@ -23,7 +23,7 @@ returns-in-Some-clause-none g t c =
     (λ y a. c.let_above_go.ensures.none y a)
 
 pub returns-in-None-clause-runs : goal.returns-in-None-clause-runs
-returns-in-None-clause-runs g t c = IsRun-none _ _
+returns-in-None-clause-runs g t c = RunFor-none _ _ _ _
 
 pub returns-in-None-clause-lets : goal.returns-in-None-clause-lets
 returns-in-None-clause-lets g t c = LetsGo-refl _

@@ -1,70 +1,113 @@
-use Rattle.std.proofs.Common.{◌≡◌, ◌<◌, ◌≤◌, sym, ◌∙◌, arith, ap, subst, rules, ltb}
+use Rattle.std.proofs.Common.{◌≡◌, ◌<◌, ◌≤◌, sym, ◌∙◌, arith, ap, subst, rules, ltb, refl, true, inl, inr, Some, None, [], ◌∷◌, length-append}
 use Rattle.std.proofs.lemmas.Bool.{false≢true}
 use Rattle.std.specs.Vec.{vec_capacity}
 use Rattle.nb_ledger.specs.declared.event.Way.TheVariants.{Up}
 use Rattle.nb_ledger.specs.declared.port.PortState.TheVariants.{Linked, Leaving, Closed}
 use Rattle.nb_ledger.specs.GraphRun.{IsOpen}
-use Rattle.nb_ledger.specs.Ledger.{port, rank, open_count}
+use Rattle.nb_ledger.specs.Ledger.{busy, port, rank, open_count}
 use Rattle.nb_ledger.proofs.PortLemmas.{busy-live, open-live, live_by}
 use Rattle.nb_graph.specs.Calm.{IsSteady}
 use Rattle.nb_graph.proofs.CalmLemmas.{IsWhole-enter, linked-back}
 use Rattle.nb_graph.proofs.MannedLemmas.{IsManned-same}
 use Rattle.nb_graph.proofs.UnplugLemmas.{Calm-dropped, Calm-sent}
-use Rattle.nb_graph.proofs.LivelyLemmas.{LivelyIn-trans, LivelyIn-calm, LivelyIn-lively, LivelyIn-dropped, Lively-calm, Lively-trans, Lively-entry, Starts-lively}
+use Rattle.nb_graph.proofs.LivelyLemmas.{Grows-shrinks, Grows-trans, LivelyIn-trans, LivelyIn-calm, LivelyIn-lively, LivelyIn-dropped, LivelyIn-refl, Lively-calm, Lively-entry, Starts-lively}
+use Rattle.nb_ledger.specs.declared.event.GraphEvent.TheVariants.{Dropped, Entered}
+use Rattle.nb_graph.specs.Trace.{carried, left, lent, loads, said, said_behind, up}
+use Rattle.nb_graph.specs.Deeds.{Holds}
+use Rattle.nb_graph.specs.Effects.{asked_loads}
+use Rattle.nb_graph.specs.Lives.{IsUnder, here}
+use Rattle.nb_graph.proofs.WholeLemmas.{but_other}
+use Rattle.nb_graph.proofs.LivesLemmas.{Lives-none, Lives-note, Lives-then, Lives-under, Lives-weaken}
+use Rattle.nb_graph.proofs.OwingLemmas.{AllBack-back, AllBack-stays, AllBack-then, Back-none}
+use Rattle.nb_graph.proofs.SeatLemmas.{Loses-refl, Loses-same}
+use Rattle.nb_graph.proofs.EntryLemmas.{Calls-then, Lives-entry_up}
+use Rattle.nb_graph.proofs.LivelyForLemmas.{IsBelow-enter, IsBelow-grows, LivelyFor-back, LivelyFor-calm, LivelyFor-refl, LivelyFor-regain, LivelyFor-weaken, LivelyInFor-effects, left-some, left-none, under-idle}
 use Rattle.nb_graph.proofs.inner.Inner.+lively.Goals as goal
 
-pub after_up-returns-in-Done-clause-lively : goal.after_up-returns-in-Done-clause-lively
-after_up-returns-in-Done-clause-lively g t c = LivelyIn-trans c.effects.ensures.lively c.go_on.ensures.lively
+pub after_up-returns-in-Done-clause-lives : goal.after_up-returns-in-Done-clause-lives
+unfolding LivelyIn-trans
+after_up-returns-in-Done-clause-lives g t c =
+    let e = c.effects.ensures.lives in
+    let k = c.go_on.ensures.lives in
+    rw c.in-Done.is (record {
+      lively = LivelyIn-trans e.lively k.lively;
+      lives = Lives-then (Lives-under (λ st. Holds c.args.at Up (left c.in-Done.fx.took (said c.args.msg.now)) ∷ st) e.lives) k.lives (AllBack-then _ _ c.args.at.obj.0 (lent c.in-Done.fx) e.lively.grows.same_busy);
+    })
 
-pub after_up-returns-in-NoMemory-clause-lively : goal.after_up-returns-in-NoMemory-clause-lively
-after_up-returns-in-NoMemory-clause-lively g t c = LivelyIn-calm c.fail.ensures.calm
+pub after_up-returns-in-NoMemory-clause-lives : goal.after_up-returns-in-NoMemory-clause-lives
+unfolding LivelyIn-calm LivelyIn-lively Lively-calm
+after_up-returns-in-NoMemory-clause-lives g t c =
+    let k = c.fail.ensures.lives in
+    rw c.in-NoMemory.is (record {
+      lively = LivelyIn-calm k.calm;
+      lives = Lives-weaken (AllBack-back _ c.args.at.obj.0 (lent c.in-NoMemory.fx)) (Lives-under (λ st. Holds c.args.at Up None ∷ st) k.lives);
+    })
 
 pub deliver-ask_up-asked-requires-clause-lives : goal.deliver-ask_up-asked-requires-clause-lives
 deliver-ask_up-asked-requires-clause-lives g t c = busy-live _ _ c.requires.runs
 
-pub effects-returns-clause-lively : goal.effects-returns-clause-lively
-effects-returns-clause-lively g t c =
-    LivelyIn-trans c.run_make.ensures.lively (LivelyIn-trans (LivelyIn-calm c.run_downs.ensures.calm) (LivelyIn-trans (LivelyIn-lively c.run_ups.ensures.lively) (LivelyIn-calm c.run_closes.ensures.calm)))
+pub effects-returns-clause-lives : goal.effects-returns-clause-lives
+effects-returns-clause-lives g t c =
+    LivelyInFor-effects (loads c.args.fx.downs) (loads c.args.fx.ups) c.requires.runs c.run_make.ensures.lives c.run_downs.ensures.lives c.run_ups.ensures.lives c.run_closes.ensures.lives
 
 pub enter_up-enter-was-requires : goal.enter_up-enter-was-requires
 enter_up-enter-was-requires g t c = open-live _ _ _ c.requires.open
 
 pub enter_up-leave-requires-clause-lives : goal.enter_up-leave-requires-clause-lives
 enter_up-leave-requires-clause-lives g t c =
-    busy-live _ _ (c.deliver.ensures.lively.grows.same_busy c.args.at.obj.0 ∙ c.enter-was.ensures.runs)
+    busy-live _ _ (c.deliver.ensures.lives.0.lively.grows.same_busy c.args.at.obj.0 ∙ c.enter-was.ensures.runs)
 
-pub enter_up-returns-clause-lively : goal.enter_up-returns-clause-lively
-enter_up-returns-clause-lively g t c =
+pub enter_up-returns-clause-lives : goal.enter_up-returns-clause-lives
+unfolding Lively-entry
+enter_up-returns-clause-lives g t c =
     let b = c.enter-was.ensures in
-    Lively-entry b.sets b.told b.step (λ st. (c.requires.slot.0, c.requires.slot.1, c.requires.open)) b.was c.deliver.ensures.lively (c.leave.ensures.ends Up)
+    let d = c.deliver.ensures.lives in
+    let e = c.leave.ensures.ends Up in
+    let y = c.args.at.obj.0 in
+    let old = c.args.self.now.book in
+    let r = Lives-entry_up (busy old) _ y (Entered c.args.at Up) (λ done fx. up c.args.at.slot (said c.args.msg.now) c.args.now done fx) (λ x n. b.sets.busy_set x ∙ but_other y true (busy old) x n) (under-idle old y c.requires.under) (Loses-same c.args.self.now.nodes.items b.sets.objects) (λ x t. refl) (λ st. (said c.args.msg.now, refl)) (d.0.lives, d.1) (e.lives c.args.now) in (
+      record {
+        lively = Lively-entry b.sets b.told b.step (λ st. (c.requires.slot.0, c.requires.slot.1, c.requires.open)) b.was d.0.lively e.ends;
+        lives = r.0;
+      },
+      r.1,
+    )
 
 pub enter_up-returns-clause-starts : goal.enter_up-returns-clause-starts
 enter_up-returns-clause-starts g t c =
     let b = c.enter-was.ensures in
-    Starts-lively b.sets b.told b.step (λ st. (c.requires.slot.0, c.requires.slot.1, c.requires.open)) b.was c.deliver.ensures.lively (c.leave.ensures.ends Up)
+    Starts-lively b.sets b.told b.step (λ st. (c.requires.slot.0, c.requires.slot.1, c.requires.open)) b.was c.deliver.ensures.lives.0.lively (c.leave.ensures.ends Up).ends
 
 pub enter_up-deliver-requires : goal.enter_up-deliver-requires
 enter_up-deliver-requires g t c =
     let s = c.enter-was.ensures.sets in
     let r = s.objects.same_rank c.args.at.obj.0 in
     let runs = c.enter-was.ensures.runs in
+    let below = IsBelow-enter c.args.self.now.book c.enter-was.new.self c.args.at.obj.0 (λ x n. s.busy_set x ∙ but_other c.args.at.obj.0 true (busy c.args.self.now.book) x n) s.objects.same_rank c.requires.under in
     let steady : IsSteady g.N.Node.rank_of c.enter-was.new.self c.args.self.now.nodes.items (vec_capacity c.args.self.now.nodes) = record { whole = IsWhole-enter s c.requires.steady.whole; manned = IsManned-same s.objects c.requires.steady.manned } in
     search rules
 
 pub effects-run_ups-requires : goal.effects-run_ups-requires
 effects-run_ups-requires g t c =
     let x = c.args.id.0 in
-    let m = c.run_make.ensures.lively.grows in
-    let k = c.run_downs.ensures.calm.shrinks in
+    let m = c.run_make.ensures.lives.lively.grows in
+    let k = c.run_downs.ensures.lives.calm.shrinks in
     let first = m.kept x c.requires.runs in
     let then = m.same_busy x ∙ c.requires.runs in
     let runs = k.same_busy x ∙ then in
     let second = (k.kept x (busy-live _ _ runs)).1 in
+    let below = IsBelow-grows x (Grows-trans m (Grows-shrinks k)) c.requires.runs c.requires.below in
     search rules
 
-pub go_on-returns-else-is_open-clause-lively : goal.go_on-returns-else-is_open-clause-lively
-go_on-returns-else-is_open-clause-lively g t c =
-    LivelyIn-dropped _ _ _ c.args.at (λ e. false≢true (sym (sym c.is_open.ensures ∙ c.if-is_open.false) ∙ ap (λ v. ltb 0 (open_count v)) e)) (rw c.spelled.ensures at c.event.ensures)
+pub go_on-returns-else-is_open-clause-lives : goal.go_on-returns-else-is_open-clause-lives
+unfolding LivelyIn-dropped
+go_on-returns-else-is_open-clause-lives g t c =
+    let m = said c.args.msg.now in
+    let less = length-append c.args.msg.now.first.now c.args.msg.now.second.now in
+    rw (left-some c.args.took m (omega arith)) (record {
+      lively = LivelyIn-dropped _ _ _ c.args.at (λ e. false≢true (sym (sym c.is_open.ensures ∙ c.if-is_open.false) ∙ ap (λ v. ltb 0 (open_count v)) e)) (rw c.spelled.ensures at c.event.ensures);
+      lives = Lives-weaken (AllBack-stays _ c.args.at.obj.0) (Lives-note g.N.Node.stands c.args.now _ _ (λ st. Holds c.args.at Up (Some (said_behind c.args.took m)) ∷ st) (λ st. Holds c.args.at Up None ∷ st) (Dropped c.args.at) (Loses-refl _) (λ x t. refl) (λ st. inr (said_behind c.args.took m, st, refl, refl)));
+    })
 
 pub pass_up-enter_up-requires : goal.pass_up-enter_up-requires
 pass_up-enter_up-requires g t c =
@@ -82,21 +125,83 @@ pass_up-enter_up-requires g t c =
     let open_there : IsOpen (port b q.obj.0 q.slot) = subst IsOpen (sym back) tt in
     let four = (live_by b q.obj.0 q.slot (Linked p) tt back).1 in
     let three : q.slot ≤ 3 = omega arith in
+    let under : IsUnder (rank b q.obj.0) b = λ x h. let i = c.requires.below x h in omega arith in
     search rules
 
-pub pass_up-returns-in-Open-clause-lively : goal.pass_up-returns-in-Open-clause-lively
-pass_up-returns-in-Open-clause-lively g t c = Lively-calm (Calm-sent _ _ _ c.send.ensures)
+pub pass_up-returns-in-Open-clause-lives : goal.pass_up-returns-in-Open-clause-lives
+unfolding Calm-sent
+pass_up-returns-in-Open-clause-lives g t c =
+    LivelyFor-calm (record { calm = Calm-sent _ _ _ c.send.ensures; lives = Lives-weaken (λ x w v k. k.1) (Lives-none _ c.args.now _) })
 
-pub pass_up-returns-in-Leaving-clause-lively : goal.pass_up-returns-in-Leaving-clause-lively
-pass_up-returns-in-Leaving-clause-lively g t c =
-    Lively-calm (Calm-dropped _ _ _ c.args.at (Leaving c.in-Leaving.field-0) (sym c.in-Leaving.ensures) tt (rw c.spelled.ensures at c.event.ensures))
+pub pass_up-returns-in-Leaving-clause-lives : goal.pass_up-returns-in-Leaving-clause-lives
+unfolding Calm-dropped
+pass_up-returns-in-Leaving-clause-lives g t c =
+    LivelyFor-calm (record {
+      calm = Calm-dropped _ _ _ c.args.at (Leaving c.in-Leaving.field-0) (sym c.in-Leaving.ensures) tt (rw c.spelled.ensures at c.event.ensures);
+      lives = Lives-weaken (λ x w v k. k.1) (Lives-note g.N.Node.stands c.args.now _ _ here here (Dropped c.args.at) (Loses-refl _) (λ x t. refl) (λ st. inl refl));
+    })
 
-pub pass_up-returns-in-Closed-clause-lively : goal.pass_up-returns-in-Closed-clause-lively
-pass_up-returns-in-Closed-clause-lively g t c =
-    Lively-calm (Calm-dropped _ _ _ c.args.at Closed (sym c.in-Closed.ensures) tt (rw c.spelled-in-Closed.ensures at c.event-in-Closed.ensures))
+pub pass_up-returns-in-Closed-clause-lives : goal.pass_up-returns-in-Closed-clause-lives
+unfolding Calm-dropped
+pass_up-returns-in-Closed-clause-lives g t c =
+    LivelyFor-calm (record {
+      calm = Calm-dropped _ _ _ c.args.at Closed (sym c.in-Closed.ensures) tt (rw c.spelled-in-Closed.ensures at c.event-in-Closed.ensures);
+      lives = Lives-weaken (λ x w v k. k.1) (Lives-note g.N.Node.stands c.args.now _ _ here here (Dropped c.args.at) (Loses-refl _) (λ x t. refl) (λ st. inl refl));
+    })
 
-pub run_ups-returns-clause-lively : goal.run_ups-returns-clause-lively
-run_ups-returns-clause-lively g t c = Lively-trans c.run_up.ensures.lively c.run_up-2.ensures.lively
+pub run_ups-returns-clause-lives : goal.run_ups-returns-clause-lives
+run_ups-returns-clause-lives g t c = LivelyFor-back (carried c.args.ups.first) (carried c.args.ups.second) c.run_up.ensures.lives c.run_up-2.ensures.lives
 
 pub send_up-give_back-requires-clause-lives : goal.send_up-give_back-requires-clause-lives
-send_up-give_back-requires-clause-lives g t c = busy-live _ _ (c.pass_up.ensures.lively.grows.same_busy c.args.id.0 ∙ c.requires.runs)
+send_up-give_back-requires-clause-lives g t c = busy-live _ _ (c.pass_up.ensures.lives.lively.grows.same_busy c.args.id.0 ∙ c.requires.runs)
+
+pub deliver-returns-clause-lives : goal.deliver-returns-clause-lives
+deliver-returns-clause-lives g t c =
+    let k = rw c.ask_up-asked.ensures.book at c.after_up.ensures.lives in
+    let r = Calls-then (busy c.args.self.now.book) (busy c.args.self.now.book) c.args.at.obj.0 (asked_loads c.ask_up-asked.result) (λ done fx. up c.args.at.slot (said c.args.msg.now) c.args.now done fx) (λ x. refl) (rw c.ask_up-asked.ensures.book at c.ask_up-asked.ensures.lives) k.lives in
+    (record { lively = k.lively; lives = r.0 }, r.1)
+
+pub run_up-returns-in-None-clause-lives : goal.run_up-returns-in-None-clause-lives
+run_up-returns-in-None-clause-lives g t c = rw c.in-None.is (LivelyFor-weaken (Back-none _ _ c.requires.runs) (LivelyFor-refl _ _ _ _ _))
+
+pub send_up-returns-in-Some-clause-lives : goal.send_up-returns-in-Some-clause-lives
+send_up-returns-in-Some-clause-lives g t c =
+    rw c.in-Some.is (LivelyFor-regain (c.in-Some.load ∷ []) c.requires.runs c.pass_up.ensures.lives c.give_back.ensures.lives c.give_back.ensures.book)
+
+pub send_up-returns-in-None-clause-lives : goal.send_up-returns-in-None-clause-lives
+send_up-returns-in-None-clause-lives g t c =
+    rw c.in-None.is (LivelyFor-weaken (Back-none _ _ c.requires.runs) c.pass_up-in-None.ensures.lives)
+
+pub after_up-go_on-requires : goal.after_up-go_on-requires
+after_up-go_on-requires g t c =
+    let k = c.effects.ensures.lives.lively.grows in
+    let x = c.args.at.obj.0 in
+    let same = k.kept x c.requires.runs in
+    let runs = k.same_busy x ∙ c.requires.runs in
+    let below = IsBelow-grows x k c.requires.runs c.requires.below in
+    search rules
+
+pub run_ups-run_up-requires-2 : goal.run_ups-run_up-requires-2
+run_ups-run_up-requires-2 g t c =
+    let k = c.run_up.ensures.lives.lively.grows in
+    let x = c.args.id.0 in
+    let same = k.kept x c.requires.runs in
+    let runs = k.same_busy x ∙ c.requires.runs in
+    let below = IsBelow-grows x k c.requires.runs c.requires.below in
+    search rules
+
+pub go_on-returns-then-took-msg-clause-lives : goal.go_on-returns-then-took-msg-clause-lives
+unfolding LivelyIn-refl
+go_on-returns-then-took-msg-clause-lives g t c =
+    let m = said c.args.msg.now in
+    let all = length-append c.args.msg.now.first.now c.args.msg.now.second.now in
+    rw (left-none c.args.took m (omega arith)) (record {
+      lively = LivelyIn-refl _ _ _;
+      lives = Lives-weaken (AllBack-stays _ c.args.at.obj.0) (Lives-under (λ st. Holds c.args.at Up None ∷ st) (Lives-none _ c.args.now _));
+    })
+
+pub go_on-returns-then-is_open-clause-lives : goal.go_on-returns-then-is_open-clause-lives
+go_on-returns-then-is_open-clause-lives g t c =
+    let m = said c.args.msg.now in
+    let less = length-append c.args.msg.now.first.now c.args.msg.now.second.now in
+    rw (left-some c.args.took m (omega arith), sym c.behind.ensures.bytes) c.deliver.ensures.lives.0

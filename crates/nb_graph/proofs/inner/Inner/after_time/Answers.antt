@@ -1,5 +1,8 @@
-use Rattle.nb_graph.proofs.LivelyLemmas.{LivelyIn-calm}
+use Rattle.nb_graph.proofs.LivelyForLemmas.{LivelyInFor-calm}
 use Rattle.nb_graph.proofs.inner.Inner.after_time.Goals as goal
 
-pub returns-in-NoMemory-clause-lively : goal.returns-in-NoMemory-clause-lively
-returns-in-NoMemory-clause-lively g c = LivelyIn-calm c.fail.ensures.calm
+pub returns-in-Done-clause-lives : goal.returns-in-Done-clause-lives
+returns-in-Done-clause-lives g c = rw c.in-Done.is c.effects.ensures.lives
+
+pub returns-in-NoMemory-clause-lives : goal.returns-in-NoMemory-clause-lives
+returns-in-NoMemory-clause-lives g c = rw c.in-NoMemory.is (LivelyInFor-calm c.args.id.0 c.fail.ensures.lives)

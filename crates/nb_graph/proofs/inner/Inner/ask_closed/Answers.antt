@@ -1,3 +1,6 @@
+use Rattle.std.proofs.Common.{refl}
+use Rattle.nb_graph.specs.Trace.{closed}
+use Rattle.nb_graph.proofs.SeatLemmas.{Lives-seat}
 use Rattle.std.proofs.Common.{arith}
 use Rattle.nb_graph.proofs.MannedLemmas.{manned-place, IsManned-node}
 use Rattle.nb_graph.proofs.inner.Inner.ask_closed.Goals as goal
@@ -11,3 +14,11 @@ pub returns-clause-manned : goal.returns-clause-manned
 returns-clause-manned g c =
     let h = manned-place c.args.at.obj.0 c.requires.manned c.requires.lives in
     IsManned-node c.place-place.result c.on_close.new.self c.index_mut.result.now (omega (arith, h, c.place-place.ensures)) c.index_mut.ensures.value c.on_close.ensures.rank c.requires.manned
+
+pub returns-clause-lives : goal.returns-clause-lives
+returns-clause-lives g c =
+    Lives-seat g.N.Node.stands c.args.now _ _ _ c.args.at.obj.0 c.place-place.result (closed c.args.at.slot c.args.cause.now c.args.now c.on_close.new.fx) c.index_mut.result.now c.on_close.new.self c.requires.manned c.requires.lives c.place-place.ensures c.index_mut.ensures.value
+    (λ w v k. k.0 refl)
+    (λ x w v n k. k.1 n)
+    (λ t w v k o s. c.on_close.ensures.stands t s)
+    (λ st. (st, refl, refl, refl))

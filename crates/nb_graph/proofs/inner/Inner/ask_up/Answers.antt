@@ -1,3 +1,6 @@
+use Rattle.std.proofs.Common.{refl, sym, ◌∙◌, ap, subst, true, false, [], ◌++◌}
+use Rattle.nb_graph.specs.Trace.{up, said, lent, Owes}
+use Rattle.nb_graph.proofs.SeatLemmas.{Calls-seat}
 use Rattle.std.proofs.Common.{arith}
 use Rattle.nb_graph.proofs.MannedLemmas.{manned-place, IsManned-node}
 use Rattle.nb_graph.proofs.LivelyLemmas.{manned-rank}
@@ -23,3 +26,19 @@ pub returns-in-Err-clause-manned : goal.returns-in-Err-clause-manned
 returns-in-Err-clause-manned g c =
     let h = manned-place c.args.at.obj.0 c.requires.manned c.requires.lives in
     IsManned-node c.place-place.result c.on_up.new.self c.index_mut.result.now (omega (arith, h, c.place-place.ensures)) c.index_mut.ensures.value c.on_up.ensures.rank c.requires.manned
+
+pub returns-in-Ok-clause-lives : goal.returns-in-Ok-clause-lives
+returns-in-Ok-clause-lives g c =
+    Calls-seat g.N.Node.stands c.args.now _ _ _ c.args.at.obj.0 c.place-place.result (λ done fx. up c.args.at.slot (said c.args.msg.now) c.args.now done fx) true c.on_up.new.fx c.index_mut.result.now c.on_up.new.self c.requires.manned c.requires.lives c.place-place.ensures c.index_mut.ensures.value
+    (λ w v k. let b = k.0 refl in b.1 ∙ ap (λ z. z ++ lent c.on_up.new.fx) (sym b.0))
+    (λ x w v n k. k.1 n)
+    (λ t w v k o s. c.in-Ok.ensures.stands t s (subst (Owes [] t) (k.0 refl).0 o))
+    (λ st. (st, refl, refl, refl))
+
+pub returns-in-Err-clause-lives : goal.returns-in-Err-clause-lives
+returns-in-Err-clause-lives g c =
+    Calls-seat g.N.Node.stands c.args.now _ _ _ c.args.at.obj.0 c.place-place.result (λ done fx. up c.args.at.slot (said c.args.msg.now) c.args.now done fx) false c.on_up.new.fx c.index_mut.result.now c.on_up.new.self c.requires.manned c.requires.lives c.place-place.ensures c.index_mut.ensures.value
+    (λ w v k. let b = k.0 refl in b.1 ∙ ap (λ z. z ++ lent c.on_up.new.fx) (sym b.0))
+    (λ x w v n k. k.1 n)
+    (λ t w v k o s. c.in-Err.ensures.stands t s (subst (Owes [] t) (k.0 refl).0 o))
+    (λ st. (st, refl, refl, refl))

@@ -1,4 +1,18 @@
-use Rattle.std.proofs.Common.{refl, ◌∙◌}
+use Rattle.std.proofs.Common.{refl, sym, ◌∙◌, Bool, true, None, ◌∷◌}
+use Rattle.std.proofs.lemmas.Bool.{false≢true}
+use Rattle.nb_ledger.specs.declared.event.GraphEvent.TheVariants.{Entered}
+use Rattle.nb_ledger.specs.Ledger.{busy}
+use Rattle.nb_graph.specs.declared.effects.Fx.{Fx}
+use Rattle.nb_graph.specs.Trace.{time}
+use Rattle.nb_graph.specs.Deeds.{Holds}
+use Rattle.nb_graph.specs.Whole.{port_at}
+use Rattle.nb_graph.specs.Effects.{asked_loads}
+use Rattle.nb_graph.proofs.WholeLemmas.{but_other}
+use Rattle.nb_graph.proofs.LivesLemmas.{Lives-under, Lives-weaken}
+use Rattle.nb_graph.proofs.OwingLemmas.{AllBack-back}
+use Rattle.nb_graph.proofs.SeatLemmas.{Loses-same}
+use Rattle.nb_graph.proofs.EntryLemmas.{Calls-then, Lives-entry_up}
+use Rattle.nb_graph.proofs.LivelyForLemmas.{IsBelow-enter}
 use Rattle.nb_ledger.specs.declared.event.Way.TheVariants.{Time}
 use Rattle.nb_ledger.proofs.PortLemmas.{busy-live}
 use Rattle.nb_graph.proofs.CalmLemmas.{IsWhole-enter}
@@ -17,14 +31,35 @@ after_time-requires-clause-steady g c = record {
 
 pub leave-requires-clause-lives : goal.leave-requires-clause-lives
 leave-requires-clause-lives g c =
-    busy-live _ _ (c.after_time.ensures.lively.grows.same_busy c.args.id.0 ∙ rw c.ask_time-asked.ensures.book c.enter-was.ensures.runs)
+    busy-live _ _ (c.after_time.ensures.lives.lively.grows.same_busy c.args.id.0 ∙ rw c.ask_time-asked.ensures.book c.enter-was.ensures.runs)
 
-pub returns-clause-lively : goal.returns-clause-lively
-returns-clause-lively g c =
+pub after_time-requires-clause-below : goal.after_time-requires-clause-below
+after_time-requires-clause-below g c =
+    let s = c.enter-was.ensures.sets in
+    let y = c.args.id.0 in
+    let old = c.args.self.now.book in
+    rw c.ask_time-asked.ensures.book (IsBelow-enter old c.enter-was.new.self y (λ x n. s.busy_set x ∙ but_other y true (busy old) x n) s.objects.same_rank (λ x h. absurd (false≢true (sym (c.requires.idle x) ∙ h))))
+
+pub returns-clause-lives : goal.returns-clause-lives
+unfolding Lively-entry
+returns-clause-lives g c =
     let b = c.enter-was.ensures in
-    Lively-entry b.sets b.told b.step (λ st. (refl, c.requires.lives)) b.was (rw c.ask_time-asked.ensures.book at c.after_time.ensures.lively) (c.leave.ensures.ends Time)
+    let k = rw c.ask_time-asked.ensures.book at c.after_time.ensures.lives in
+    let e = c.leave.ensures.ends Time in
+    let y = c.args.id.0 in
+    let old = c.args.self.now.book in
+    let mid = c.enter-was.new.self in
+    let entry = λ (done : Bool) (fx : Fx g.row.N.Denot g.row.N-Load.Denot). time c.args.now done fx in
+    let d = Calls-then (busy mid) (busy mid) y (asked_loads c.ask_time-asked.result) entry (λ x. refl) (rw c.ask_time-asked.ensures.book at c.ask_time-asked.ensures.lives) (Lives-weaken (AllBack-back (busy mid) y (asked_loads c.ask_time-asked.result)) (Lives-under (λ st. Holds (port_at y 4) Time None ∷ st) k.lives)) in
+    let r = Lives-entry_up (busy old) (busy mid) y (Entered (port_at y 4) Time) entry (λ x n. b.sets.busy_set x ∙ but_other y true (busy old) x n) (c.requires.idle y) (Loses-same c.args.self.now.nodes.items b.sets.objects) (λ x t. refl) (λ st. refl) d (e.lives c.args.now) in (
+      record {
+        lively = Lively-entry b.sets b.told b.step (λ st. (refl, c.requires.lives)) b.was k.lively e.ends;
+        lives = r.0;
+      },
+      r.1,
+    )
 
 pub returns-clause-starts : goal.returns-clause-starts
 returns-clause-starts g c =
     let b = c.enter-was.ensures in
-    Starts-lively b.sets b.told b.step (λ st. (refl, c.requires.lives)) b.was (rw c.ask_time-asked.ensures.book at c.after_time.ensures.lively) (c.leave.ensures.ends Time)
+    Starts-lively b.sets b.told b.step (λ st. (refl, c.requires.lives)) b.was (rw c.ask_time-asked.ensures.book at c.after_time.ensures.lives.lively) (c.leave.ensures.ends Time).ends

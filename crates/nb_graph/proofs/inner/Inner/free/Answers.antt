@@ -1,3 +1,6 @@
+use Rattle.std.proofs.Common.{ap, ◌∙◌}
+use Rattle.std.specs.List.{remove}
+use Rattle.nb_graph.proofs.SeatLemmas.{Loses-remove}
 use Rattle.std.proofs.Common.{arith}
 use Rattle.nb_graph.proofs.MannedLemmas.{manned-place, IsManned-remove}
 use Rattle.nb_graph.proofs.inner.Inner.free.Goals as goal
@@ -10,3 +13,7 @@ remove-node-requires g c =
 pub returns-clause-manned : goal.returns-clause-manned
 returns-clause-manned g c =
     rw (c.remove-node.ensures.items, c.place-place.ensures, c.remove-node.ensures.capacity) (IsManned-remove c.free.ensures.removes c.requires.manned)
+
+pub returns-clause-loses : goal.returns-clause-loses
+returns-clause-loses g c =
+    Loses-remove c.requires.lives c.free.ensures.removes (c.remove-node.ensures.items ∙ ap (remove c.args.self.now.nodes.items) c.place-place.ensures) c.requires.manned (returns-clause-manned g c)

@@ -1,3 +1,6 @@
+use Rattle.std.proofs.Common.{refl, subst, []}
+use Rattle.nb_graph.specs.Trace.{regain, Owes}
+use Rattle.nb_graph.proofs.SeatLemmas.{Lives-seat}
 use Rattle.std.proofs.Common.{arith}
 use Rattle.nb_graph.proofs.MannedLemmas.{manned-place, IsManned-node}
 use Rattle.nb_graph.proofs.inner.Inner.give_back.Goals as goal
@@ -11,3 +14,11 @@ pub returns-clause-manned : goal.returns-clause-manned
 returns-clause-manned g c =
     let h = manned-place c.args.id.0 c.requires.manned c.requires.lives in
     IsManned-node c.place-place.result c.regain.new.self c.index_mut.result.now (omega (arith, h, c.place-place.ensures)) c.index_mut.ensures.value c.regain.ensures.rank c.requires.manned
+
+pub returns-clause-lives : goal.returns-clause-lives
+returns-clause-lives g c = λ now.
+    Lives-seat g.N.Node.stands now _ _ _ c.args.id.0 c.place-place.result (regain c.args.load) c.index_mut.result.now c.regain.new.self c.requires.manned c.requires.lives c.place-place.ensures c.index_mut.ensures.value
+    (λ w v k. k.0 refl)
+    (λ x w v n k. (k.1 n).1)
+    (λ t w v k o s. let b = k.0 refl in c.regain.ensures.stands t s (b.0, b.1, subst (Owes [] t) b.2 o))
+    (λ st. refl)

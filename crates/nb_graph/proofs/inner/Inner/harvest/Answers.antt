@@ -1,3 +1,5 @@
+use Rattle.std.proofs.Common.{[]}
+use Rattle.nb_graph.proofs.SeatLemmas.{Keeps-set}
 use Rattle.std.proofs.Common.{arith}
 use Rattle.nb_graph.proofs.MannedLemmas.{manned-place, IsManned-node}
 use Rattle.nb_graph.proofs.LivelyLemmas.{Harvests-set}
@@ -17,3 +19,7 @@ pub returns-clause-gives : goal.returns-clause-gives
 returns-clause-gives g c =
     let h = manned-place c.args.id.0 c.requires.manned c.requires.lives in
     rw c.place-place.ensures (Harvests-set g.N.Node.harvests c.args.self.now.nodes.items _ c.index_mut.result.now c.harvest.new.self c.harvest.result h (rw c.place-place.ensures at c.index_mut.ensures.value) c.harvest.ensures.gives)
+
+pub returns-clause-keeps : goal.returns-clause-keeps
+returns-clause-keeps g c = λ x t.
+    Keeps-set g.N.Node.stands c.args.id.0 c.place-place.result c.index_mut.result.now c.harvest.new.self c.requires.manned c.requires.lives c.place-place.ensures c.index_mut.ensures.value c.harvest.ensures.stands x t []

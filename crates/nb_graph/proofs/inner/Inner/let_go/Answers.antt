@@ -1,4 +1,8 @@
-use Rattle.std.proofs.Common.{arith}
+use Rattle.std.proofs.Common.{arith, refl, ◌∷◌}
+use Rattle.nb_ledger.specs.declared.event.GraphEvent.TheVariants.{LetGo}
+use Rattle.nb_graph.specs.Lives.{here}
+use Rattle.nb_graph.proofs.LivesLemmas.{Lives-note, Lives-then}
+use Rattle.nb_graph.proofs.SeatLemmas.{Loses-same, Loses-trans}
 use Rattle.nb_graph.proofs.RunsLemmas.{IsRun-let_go}
 use Rattle.nb_graph.proofs.GraphLemmas.{but-counted, KeepsRanks-settle, IsGraph-settle}
 use Rattle.nb_graph.proofs.WholeLemmas.{IsLinked-holds, IsQuiet-holds, CountedBut-holds}
@@ -7,23 +11,31 @@ use Rattle.nb_graph.proofs.EndLemmas.{LetsGo-let_go, falls-let_go}
 use Rattle.nb_graph.proofs.inner.Inner.let_go.Goals as goal
 
 pub returns-clause-runs : goal.returns-clause-runs
-returns-clause-runs g c =
-    IsRun-let_go _ _ _ _ _ _ c.args.id (IsQuiet-holds c.let_go.ensures.sets c.requires.graph.quiet) c.let_go.ensures.told c.let_go.ensures.step c.settle.ensures.settles
+unfolding IsRun-let_go
+returns-clause-runs g c = record {
+  added = LetGo c.args.id ∷ c.settle.ensures.settles.settles.added;
+  runs = (IsRun-let_go _ _ _ _ _ _ c.args.id (IsQuiet-holds c.let_go.ensures.sets c.requires.graph.quiet) c.let_go.ensures.told c.let_go.ensures.step c.settle.ensures.settles.settles).1;
+  lives = λ now.
+      Lives-then (Lives-note g.N.Node.stands now _ _ here here (LetGo c.args.id) (Loses-same c.args.self.now.nodes.items c.let_go.ensures.sets.objects) (λ x t. refl) (λ st. refl)) (c.settle.ensures.settles.lives now) (λ x w v k. (w, refl, k));
+}
+
+pub returns-clause-loses : goal.returns-clause-loses
+returns-clause-loses g c = Loses-trans (Loses-same c.args.self.now.nodes.items c.let_go.ensures.sets.objects) c.settle.ensures.settles.loses
 
 pub returns-clause-graph : goal.returns-clause-graph
 returns-clause-graph g c =
     let s = c.let_go.ensures.sets in
     let old = c.requires.graph in
-    IsGraph-settle c.settle.ensures.settles (IsLinked-holds s old.whole.links) (CountedBut-holds s (but-counted _ c.args.id.0 old.whole.counted)) (IsQuiet-holds s old.quiet) (λ y. rw (s.objects.same_rank y) (old.whole.small y)) c.settle.ensures.manned (omega (arith, s.objects.same_room, old.small))
+    IsGraph-settle c.settle.ensures.settles.settles (IsLinked-holds s old.whole.links) (CountedBut-holds s (but-counted _ c.args.id.0 old.whole.counted)) (IsQuiet-holds s old.quiet) (λ y. rw (s.objects.same_rank y) (old.whole.small y)) c.settle.ensures.manned (omega (arith, s.objects.same_room, old.small))
 
 pub returns-clause-ranks : goal.returns-clause-ranks
-returns-clause-ranks g c = KeepsRanks-settle c.let_go.ensures.sets.objects c.settle.ensures.settles
+returns-clause-ranks g c = KeepsRanks-settle c.let_go.ensures.sets.objects c.settle.ensures.settles.settles
 
 pub settle-requires-clause-manned : goal.settle-requires-clause-manned
 settle-requires-clause-manned g c = IsManned-same c.let_go.ensures.sets.objects c.requires.graph.manned
 
 pub returns-clause-lets : goal.returns-clause-lets
-returns-clause-lets g c = LetsGo-let_go c.requires.held c.let_go.ensures.sets c.settle.ensures.settles
+returns-clause-lets g c = LetsGo-let_go c.requires.held c.let_go.ensures.sets c.settle.ensures.settles.settles
 
 pub returns-clause-falls : goal.returns-clause-falls
-returns-clause-falls g c = falls-let_go c.requires.held c.let_go.ensures.sets c.settle.ensures.settles
+returns-clause-falls g c = falls-let_go c.requires.held c.let_go.ensures.sets c.settle.ensures.settles.settles

@@ -1,6 +1,6 @@
-use Rattle.std.proofs.Common.{◌≡◌, ℕ, ◌<◌, refl, sym, ◌∙◌, subst, true, false}
+use Rattle.std.proofs.Common.{◌≡◌, ℕ, ◌<◌, refl, sym, ◌∙◌, subst, true, false, [], ◌∷◌, ◌++◌}
 use Rattle.std.proofs.lemmas.Bool.{false≢true}
-use Rattle.nb_ledger.specs.Ledger.{Ledger, live, port, rank}
+use Rattle.nb_ledger.specs.Ledger.{Ledger, live, busy, port, rank, place}
 use Rattle.nb_ledger.specs.Changes.{Adds}
 use Rattle.nb_ledger.specs.declared.port.Port.{Port}
 use Rattle.nb_ledger.specs.GraphRun.{new_ports}
@@ -9,7 +9,9 @@ use Rattle.nb_ledger.proofs.PortLemmas.{live_by}
 use Rattle.nb_graph.proofs.MannedLemmas.{IsManned-same}
 use Rattle.nb_graph.proofs.WholeLemmas.{but_same, but_other, ports_other, ports_same, IsWhole-plug, IsLinked-add, CountedBut-add}
 use Rattle.nb_graph.proofs.GraphLemmas.{dead-loose, small-add}
-use Rattle.nb_graph.proofs.LivelyLemmas.{Lively-make}
+use Rattle.nb_graph.proofs.LivelyLemmas.{Lively-make, dead-busy}
+use Rattle.nb_graph.proofs.LivesLemmas.{Lives-make}
+use Rattle.nb_graph.proofs.SeatLemmas.{made-seat, other-seat}
 use Rattle.nb_graph.proofs.inner.Inner.make_below.Goals as goal
 
 pub plug-requires-clause-upper_open : goal.plug-requires-clause-upper_open
@@ -34,11 +36,19 @@ another b p x d h e = false≢true (sym d ∙ subst (λ y. live b y ≡ true) e 
 still_open : (b new : Ledger) (p : Port) (x r : ℕ) → Adds b new x r → live b x ≡ false → port b p.obj.0 p.slot ≡ Open → port new p.obj.0 p.slot ≡ Open
 still_open b new p x r a d h = a.port_set p.obj.0 p.slot ∙ ports_other x new_ports (port b) p.obj.0 p.slot (another b p x d h) ∙ h
 
-pub returns-clause-lively : goal.returns-clause-lively
-returns-clause-lively g c =
+pub returns-clause-lives : goal.returns-clause-lives
+unfolding Lively-make
+returns-clause-lives g c = λ now.
     let s = c.plug.ensures.sets in
     let a = c.add-id.ensures.adds in
-    Lively-make _ _ _ _ _ _ _ c.args.at _ _ _ a c.add-id.ensures.fresh s.1 s.2 (still_open _ _ c.args.at _ _ a c.add-id.ensures.fresh c.requires.free) (fresh_open _ _ _ _ a) c.add-id.ensures.told c.add-id.ensures.step c.plug.ensures.told c.plug.ensures.step
+    let nodes = c.args.self.now.nodes.items in
+    let more : c.add-id.new.self.nodes.items ≡ nodes ++ c.args.node ∷ [] = c.add-id.ensures.nodes in
+    let same : (y : ℕ) → place c.plug.new.self y ≡ place c.add-id.new.self.book y = λ y. s.2.objects.same_place y ∙ s.1.objects.same_place y in
+    let manned = rw more at c.add-id.ensures.manned in
+    record {
+      lively = Lively-make _ _ _ _ _ _ _ c.args.at _ _ _ a c.add-id.ensures.fresh s.1 s.2 (still_open _ _ c.args.at _ _ a c.add-id.ensures.fresh c.requires.free) (fresh_open _ _ _ _ a) c.add-id.ensures.told c.add-id.ensures.step c.plug.ensures.told c.plug.ensures.step;
+      lives = rw more (Lives-make g.N.Node.stands now (busy c.args.self.now.book) _ _ c.add-id.result _ c.args.at (record { obj = c.add-id.result; slot = 0 }) c.args.node c.requires.stands (dead-busy _ _ c.add-id.ensures.fresh) (made-seat c.plug.new.self c.args.node c.requires.steady.manned a manned c.add-id.ensures.place same) (other-seat c.plug.new.self c.args.node c.requires.steady.manned a manned c.add-id.ensures.place same));
+    }
 
 pub returns-clause-steady : goal.returns-clause-steady
 returns-clause-steady g c =

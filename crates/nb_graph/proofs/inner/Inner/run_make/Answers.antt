@@ -1,5 +1,5 @@
-use Rattle.nb_graph.proofs.LivelyLemmas.{LivelyIn-refl}
+use Rattle.nb_graph.proofs.LivelyForLemmas.{LivelyInFor-refl}
 use Rattle.nb_graph.proofs.inner.Inner.run_make.Goals as goal
 
-pub returns-in-None-clause-lively : goal.returns-in-None-clause-lively
-returns-in-None-clause-lively g c = LivelyIn-refl _ _ _
+pub returns-in-None-clause-lives : goal.returns-in-None-clause-lives
+returns-in-None-clause-lives g c = LivelyInFor-refl _ _ _ _ _ _

@@ -1,17 +1,22 @@
-use Rattle.std.proofs.Common.{◌≡◌, arith, ◌∙◌}
+use Rattle.std.proofs.Common.{◌≡◌, arith, refl, ◌∙◌}
 use Rattle.nb_graph.proofs.ShrinkLemmas.{SettlesTwo-pair, IsWhole-pair, live-settle}
+use Rattle.nb_graph.proofs.LivesLemmas.{Lives-then}
 use Rattle.nb_graph.proofs.inner.Inner.settle_pair.Goals as goal
 
 pub settle-requires-2-clause-lives : goal.settle-requires-2-clause-lives
 settle-requires-2-clause-lives g c =
     let less = c.requires.order in
-    live-settle c.args.high.0 (λ (e : c.args.high.0 ≡ c.args.low.0). absurd (omega arith)) c.settle.ensures.settles ∙ c.requires.high
+    live-settle c.args.high.0 (λ (e : c.args.high.0 ≡ c.args.low.0). absurd (omega arith)) c.settle.ensures.settles.settles ∙ c.requires.high
 
 pub returns-clause-settles : goal.returns-clause-settles
-returns-clause-settles g c = SettlesTwo-pair c.requires.order c.settle.ensures.settles c.settle-2.ensures.settles
+unfolding SettlesTwo-pair
+returns-clause-settles g c = record {
+  settles = SettlesTwo-pair c.requires.order c.settle.ensures.settles.settles c.settle-2.ensures.settles.settles;
+  lives = λ now. Lives-then (c.settle.ensures.settles.lives now) (c.settle-2.ensures.settles.lives now) (λ x w v k. (w, refl, k));
+}
 
 pub returns-clause-steady : goal.returns-clause-steady
 returns-clause-steady g c = record {
-  whole = IsWhole-pair c.settle.ensures.settles c.settle-2.ensures.settles c.requires.links c.requires.counted c.requires.small;
+  whole = IsWhole-pair c.settle.ensures.settles.settles c.settle-2.ensures.settles.settles c.requires.links c.requires.counted c.requires.small;
   manned = c.settle-2.ensures.manned;
 }

@@ -1,3 +1,10 @@
+use Rattle.std.proofs.Common.{refl, None, ◌∷◌}
+use Rattle.nb_ledger.specs.declared.event.Way.TheVariants.{Close}
+use Rattle.nb_ledger.specs.declared.event.GraphEvent.TheVariants.{Left, Unplugged}
+use Rattle.nb_graph.specs.Deeds.{Holds}
+use Rattle.nb_graph.specs.Lives.{here}
+use Rattle.nb_graph.proofs.LivesLemmas.{Lives-note, Lives-then}
+use Rattle.nb_graph.proofs.SeatLemmas.{Loses-same, Loses-trans}
 use Rattle.std.proofs.Common.{◌∙◌}
 use Rattle.nb_ledger.specs.declared.port.PortState.TheVariants.{Leaving}
 use Rattle.nb_ledger.proofs.PortLemmas.{live_by}
@@ -29,9 +36,17 @@ settle_two-requires-clause-counted g c =
     CountedButTwo-unplug c.requires.first c.requires.other c.requires.apart c.leave.ensures.sets s.1 s.2 c.requires.steady.whole.counted
 
 pub returns-clause-ends : goal.returns-clause-ends
+unfolding Ends-unplug
 returns-clause-ends g c =
     let s = c.unplug.ensures.sets in
-    Ends-unplug c.requires.first c.requires.other c.requires.apart c.leave.ensures.sets s.1 s.2 _ _ _ _ _ c.leave.ensures.told c.leave.ensures.step c.unplug.ensures.told c.unplug.ensures.step c.settle_two.ensures.settles
+    let nodes = c.args.self.now.nodes.items in
+    record {
+      ends = Ends-unplug c.requires.first c.requires.other c.requires.apart c.leave.ensures.sets s.1 s.2 _ _ _ _ _ c.leave.ensures.told c.leave.ensures.step c.unplug.ensures.told c.unplug.ensures.step c.settle_two.ensures.settles.settles;
+      lives = λ now.
+          Lives-then (Lives-note g.N.Node.stands now _ _ (λ st. Holds c.args.peer Close None ∷ st) here (Left c.args.peer) (Loses-same nodes c.leave.ensures.sets.objects) (λ x t. refl) (λ st. (Close, refl)))
+          (Lives-then (Lives-note g.N.Node.stands now _ _ here here (Unplugged c.args.at c.args.peer) (Loses-trans (Loses-same nodes s.1.objects) (Loses-same nodes s.2.objects)) (λ x t. refl) (λ st. refl)) (c.settle_two.ensures.settles.lives now) (λ x w v k. (w, refl, k)))
+          (λ x w v k. (w, refl, k));
+    }
 
 pub settle_two-requires-clause-manned : goal.settle_two-requires-clause-manned
 settle_two-requires-clause-manned g c = let s = c.unplug.ensures.sets in IsManned-same s.2.objects (IsManned-same s.1.objects (IsManned-same c.leave.ensures.sets.objects c.requires.steady.manned))

@@ -1,0 +1,26 @@
+-- What objects stand for, before a call and after it: our own.
+use Rattle.std.specs.Prelude.{◌≡◌, ℕ, List, [], Option, Some}
+use Rattle.nb_terms.specs.declared.event.Event.{Event}
+use Rattle.nb_ledger.specs.declared.event.GraphEvent.{GraphEvent}
+use Rattle.nb_graph.specs.Trace.{Entry, IsSettled}
+use Rattle.nb_graph.specs.Deeds.{Deed, events_of, trace_after, Follows}
+use Rattle.nb_graph.specs.Whole.{Objects, Runs, node_of}
+
+-- the object x, if it lives, stands for this trace, and all loads that the trace lent came back
+abbrev pub StandsFor : {N L : Type 0} → (N → List (Entry N L) → Type 0) → Objects N → ℕ → List (Entry N L) → Type 0
+StandsFor {N} stands g x t = (n : N) → node_of g (record { 0 = x }) ≡ Some n → stands n t × IsSettled t
+
+-- each object stands for what it stood for
+abbrev pub KeepsTraces : {N L : Type 0} → (N → List (Entry N L) → Type 0) → Objects N → Objects N → Type 0
+KeepsTraces {N} {L} stands old new = (x : ℕ) (t : List (Entry N L)) → StandsFor stands old x t → StandsFor stands new x t
+
+-- What happened in a call: its events are these and are a run; each entry of an event is a call of its object's
+-- node, with the rest of a message given again; and each object stands for its trace continued by its entries and
+-- the loads that came back to it. One that was made starts from the empty trace.
+pub record Lived {N L : Type 0} (stands : N → List (Entry N L) → Type 0) (now : ℕ) (old new : Objects N) (before after : Option (List Event)) : Type 0 where
+  pub added : List GraphEvent
+  pub runs : Runs old.book new.book before after added
+  pub deeds : List (Deed N L)
+  pub events : events_of deeds ≡ added
+  pub follows : Follows now [] deeds []
+  pub keeps : (x : ℕ) (t : List (Entry N L)) → StandsFor stands old x t → StandsFor stands new x (trace_after x t deeds)

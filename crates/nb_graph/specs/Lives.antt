@@ -1,0 +1,108 @@
+-- What objects stand for while a call runs.
+use Rattle.std.specs.Prelude.{◌≡◌, ◌≢◌, ℕ, ◌<◌, ◌≤◌, Bool, true, false, List, [], ◌++◌, Option, Some, slice_get}
+use Rattle.nb_terms.specs.declared.event.Event.{Event}
+use Rattle.nb_ledger.specs.declared.event.GraphEvent.{GraphEvent}
+use Rattle.nb_ledger.specs.declared.port.PortState.{PortState}
+use Rattle.nb_ledger.specs.GraphRun.{Frame}
+use Rattle.nb_ledger.specs.Ledger.{Ledger, place, busy, rank}
+use Rattle.nb_ledger.specs.Settled.{Settles}
+use Rattle.nb_graph.specs.Trace.{Entry, Owes}
+use Rattle.nb_graph.specs.Deeds.{Deed, Stage, events_of, trace_after, Follows}
+use Rattle.nb_graph.specs.Whole.{Runs}
+use Rattle.nb_graph.specs.Calm.{Calm, Ends, SettlesTwo}
+use Rattle.nb_graph.specs.Lively.{Lively, LivelyIn}
+use Rattle.nb_ledger.specs.declared.port.ObjId.{ObjId}
+
+-- the node of each serial, None where it is dead
+abbrev pub nodes_at : {N : Type 0} → Ledger → List N → ℕ → Option N
+nodes_at l nodes x = slice_get nodes (place l x)
+
+-- no node comes that wasn't there
+abbrev pub Loses : {N : Type 0} → (ℕ → Option N) → (ℕ → Option N) → Type 0
+Loses {N} f g = (x : ℕ) (n : N) → g x ≡ Some n → f x ≡ Some n
+
+-- the node of x, if it lives, stands for this trace, which lent these loads and hasn't had them back
+abbrev pub Fits : {N L : Type 0} → (N → List (Entry N L) → Type 0) → (ℕ → Option N) → ℕ → List (Entry N L) → List L → Type 0
+Fits {N} stands f x t w = (n : N) → f x ≡ Some n → stands n t × Owes [] t w
+
+-- What happened goes from these stages to those, and each object stands for its trace continued by it; `owing` has
+-- the loads that are lent before and after.
+pub record Lives {N L : Type 0} (stands : N → List (Entry N L) → Type 0) (now : ℕ) (f g : ℕ → Option N) (owing : ℕ → List L → List L → Type 0) (opened ended : List Stage → List Stage) (added : List GraphEvent) : Type 0 where
+  pub deeds : List (Deed N L)
+  pub events : events_of deeds ≡ added
+  pub follows : (st : List Stage) → Follows now (opened st) deeds (ended st)
+  pub keeps : (x : ℕ) (t : List (Entry N L)) (w v : List L) → owing x w v → Fits stands f x t w → Fits stands g x (trace_after x t deeds) v
+
+-- the same loads are lent, and none by an object of which no entry runs
+abbrev pub Same : {L : Type 0} → (ℕ → Bool) → ℕ → List L → List L → Type 0
+Same busy x w v = (busy x ≡ false → w ≡ []) × (w ≡ v)
+
+-- these loads of y come back
+abbrev pub Back : {L : Type 0} → (ℕ → Bool) → ℕ → List L → ℕ → List L → List L → Type 0
+Back {L} busy y ls x w v =
+    (x ≡ y → (us : List L) × (vs : List L) × (w ≡ us ++ (ls ++ vs)) × (v ≡ us ++ vs)) × (x ≢ y → Same busy x w v)
+
+-- these are all loads of y that are lent, and they come back
+abbrev pub AllBack : {L : Type 0} → (ℕ → Bool) → ℕ → List L → ℕ → List L → List L → Type 0
+AllBack busy y ls x w v = (x ≡ y → (w ≡ ls) × (v ≡ [])) × (x ≢ y → Same busy x w v)
+
+-- an entry of y lends these loads
+abbrev pub Lends : {L : Type 0} → ℕ → List L → ℕ → List L → List L → Type 0
+Lends y ls x w v = (x ≡ y → v ≡ w ++ ls) × (x ≢ y → w ≡ v)
+
+-- the same, of an entry that begins only where none is lent
+abbrev pub LendsFirst : {L : Type 0} → ℕ → List L → ℕ → List L → List L → Type 0
+LendsFirst y ls x w v = (x ≡ y → (w ≡ []) × (v ≡ ls)) × (x ≢ y → w ≡ v)
+
+-- nothing changes
+abbrev pub Stays : {L : Type 0} → ℕ → List L → List L → Type 0
+Stays x w v = w ≡ v
+
+-- the same stages
+abbrev pub here : List Stage → List Stage
+here st = st
+
+-- a calm call, with what its objects stand for
+pub record CalmFor {N L : Type 0} (stands : N → List (Entry N L) → Type 0) (now : ℕ) (old new : Ledger) (nodes more : List N) (owing : ℕ → List L → List L → Type 0) (before after : Option (List Event)) : Type 0 where
+  pub calm : Calm old new before after
+  pub lives : Lives stands now (nodes_at old nodes) (nodes_at new more) owing here here calm.added
+
+-- a call that may make objects
+pub record LivelyFor {N L : Type 0} (stands : N → List (Entry N L) → Type 0) (now : ℕ) (old new : Ledger) (nodes more : List N) (owing : ℕ → List L → List L → Type 0) (before after : Option (List Event)) : Type 0 where
+  pub lively : Lively old new before after
+  pub lives : Lives stands now (nodes_at old nodes) (nodes_at new more) owing here here lively.added
+
+-- the same in an entry of y, from these stages to those
+pub record LivelyInFor {N L : Type 0} (stands : N → List (Entry N L) → Type 0) (now y : ℕ) (old new : Ledger) (nodes more : List N) (owing : ℕ → List L → List L → Type 0) (opened ended : List Stage → List Stage) (before after : Option (List Event)) : Type 0 where
+  pub lively : LivelyIn y old new before after
+  pub lives : Lives stands now (nodes_at old nodes) (nodes_at new more) owing opened ended lively.added
+
+-- an entry ends
+pub record EndsFor {N L : Type 0} (stands : N → List (Entry N L) → Type 0) (old new : Ledger) (nodes more : List N) (before after : Option (List Event)) (y : ℕ) (was : Bool) (stack : List Frame → List Frame) (f : ℕ → ℕ → PortState) (opened : List Stage → List Stage) : Type 0 where
+  pub ends : Ends old new before after y was stack f
+  pub lives : (now : ℕ) → Lives stands now (nodes_at old nodes) (nodes_at new more) Stays opened here ends.added
+
+-- what was owed for an object is done
+pub record SettlesFor {N L : Type 0} (stands : N → List (Entry N L) → Type 0) (old new : Ledger) (nodes more : List N) (before after : Option (List Event)) (y : ObjId) : Type 0 where
+  pub settles : Settles old new before after y
+  pub loses : Loses (nodes_at old nodes) (nodes_at new more)
+  pub lives : (now : ℕ) → Lives stands now (nodes_at old nodes) (nodes_at new more) Stays here here settles.added
+
+-- and for two
+pub record SettlesTwoFor {N L : Type 0} (stands : N → List (Entry N L) → Type 0) (old new : Ledger) (nodes more : List N) (before after : Option (List Event)) (y z : ObjId) : Type 0 where
+  pub settles : SettlesTwo old new before after y z
+  pub lives : (now : ℕ) → Lives stands now (nodes_at old nodes) (nodes_at new more) Stays here here settles.added
+
+-- no entry of an object of rank r or above runs
+abbrev pub IsUnder : ℕ → Ledger → Type 0
+IsUnder r l = (x : ℕ) → busy l x ≡ true → rank l x < r
+
+-- no entry of an object of a rank above r runs
+abbrev pub IsBelow : ℕ → Ledger → Type 0
+IsBelow r l = (x : ℕ) → busy l x ≡ true → rank l x ≤ r
+
+-- events that are a run, with what objects stand for
+pub record RunFor {N L : Type 0} (stands : N → List (Entry N L) → Type 0) (old new : Ledger) (nodes more : List N) (before after : Option (List Event)) : Type 0 where
+  pub added : List GraphEvent
+  pub runs : Runs old new before after added
+  pub lives : (now : ℕ) → Lives stands now (nodes_at old nodes) (nodes_at new more) Stays here here added
