@@ -29,7 +29,7 @@ over_from : (first mid after : Outside) (p : Passes first mid [] []) (r : Run mi
 over_from first mid after p r number o = record { ends = o.ends; closed = o.closed; all = o.all }
 
 pub attached_shows : (s : Status) (first mid after : Outside) → Passes first mid [] [] → Shows s mid after → Shows s first after
-attached_shows status.HandedOff first mid after p (r, o) = (run_from first mid after p r, over_from first mid after p r 0 o)
+attached_shows status.HandedOff first mid after p (r, o) = (run_from first mid after p r, (over_from first mid after p r 0 o.0, o.1))
 attached_shows status.Ended first mid after p (r, o) = (run_from first mid after p r, over_from first mid after p r 3 o)
 attached_shows status.ScriptFailed first mid after p (r, o) = (run_from first mid after p r, over_from first mid after p r 4 o)
 attached_shows status.Unfinished first mid after p (r, o) = (run_from first mid after p r, over_from first mid after p r 5 o)

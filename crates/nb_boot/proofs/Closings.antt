@@ -1,14 +1,16 @@
 -- How a run ends: what closes it and DONE are put, and the rest of the output is written, or is not.
-use Rattle.std.proofs.Common.{◌≡◌, ℕ, false, List, [], ◌∷◌, ◌++◌, refl, sym, ◌∙◌, ap, append-nil, append_assoc}
+use Rattle.std.proofs.Common.{◌≡◌, ℕ, Bool, true, false, cond, List, [], ◌∷◌, ◌++◌, refl, sym, ◌∙◌, ap, append-nil, append_assoc}
 use Rattle.std.proofs.lemmas.Grind.{flat_map-append}
 use Rattle.nb_defs.specs.Records.{In, in_texts, Out, out_text, out_texts, done}
 use Rattle.nb_record.specs.Outside.{Outside, Passes, Rose}
 use Rattle.nb_record.specs.Logged.{Logged, Puts}
-use Rattle.nb_engine.specs.Machine.{Machine, shutdown_records, fresh, nothing}
+use Rattle.nb_defs.specs.Causes.{is_ok_cause}
+use Rattle.nb_engine.proofs.HonestyLaws.{files_handed_off}
+use Rattle.nb_engine.specs.Machine.{Machine, handed_off, shutdown_records, fresh, nothing}
 use Rattle.nb_engine.specs.StatusNumber.{number_of}
 use Rattle.nb_engine.specs.declared.status.Status.{Status}
 use Rattle.nb_engine.specs.declared.status.Status.TheVariants as status
-use Rattle.nb_boot.specs.Run.{Run, Shows, Says, IsOver, Ends, goes_on, is_over}
+use Rattle.nb_boot.specs.Run.{Run, Shows, Says, HandsTheirs, IsOver, Ends, was_left, was_handed, was_stopped, ran_out, was_bad, was_full, goes_on, is_over}
 use Rattle.nb_boot.specs.Going.{Going, Wrote, Stopped, IsFlaw, IsClosing, flaw_status}
 use Rattle.nb_boot.specs.declared.output.Flaw.{Flaw}
 use Rattle.nb_boot.specs.declared.output.Flaw.TheVariants as flaw
@@ -96,9 +98,26 @@ short_end ins held first before now log m number r p c = record {
       ∙ ap (λ t. t ++ ((log.bytes ++ r.lost) ++ out_texts (closing m number))) (sym (append-nil r.written));
 }
 
+-- a run of the status zero has handed off
+no_zero : (t : Bool) → ◌≡◌ {A = ℕ} 0 (cond t 3 4) → ⊥
+no_zero true e = cc
+no_zero false e = cc
+
+has_handed_off : (m : Machine) (rest : List ℕ) (o : Outside) → Ends m rest o 0 → m.phase ≡ handed_off
+has_handed_off m rest o (was_left cause at e) = absurd (no_zero (is_ok_cause cause) e)
+has_handed_off m rest o (was_handed at e) = at
+has_handed_off m rest o (was_stopped at e) = cc
+has_handed_off m rest o (ran_out waits none at e) = cc
+has_handed_off m rest o (was_bad few bad e) = cc
+has_handed_off m rest o (was_full full waits more e) = cc
+
+-- what is handed off is the servers'
+theirs : (before after : Outside) (r : Run before after) → Ends r.machine r.rest after 0 → HandsTheirs before after r
+theirs before after r e = λ store honest. files_handed_off store r.ins r.outs r.machine r.path honest (has_handed_off r.machine r.rest after e)
+
 -- what DONE tells is said of a run that is over
 over_says : (s : Status) (before after : Outside) (r : Run before after) → IsClosing s → IsOver before after r (number_of s) → Says s before after r
-over_says status.HandedOff before after r e o = o
+over_says status.HandedOff before after r e o = (o, theirs before after r o.ends)
 over_says status.Ended before after r e o = o
 over_says status.ScriptFailed before after r e o = o
 over_says status.Unfinished before after r e o = o

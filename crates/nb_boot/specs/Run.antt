@@ -3,6 +3,7 @@ use Rattle.std.specs.Prelude.{◌≡◌, ℕ, ◌<◌, ◌⊎◌, List, [], ◌�
 use Rattle.nb_terms.specs.declared.cause.Cause.{Cause}
 use Rattle.nb_defs.specs.Records.{In, start, frame, tick, off, IsIn, in_text, in_texts, IsPartial, IsBroken, Out, out_texts, done}
 use Rattle.nb_engine.specs.Machine.{Machine, Phase, ready, running, waiting, handing, left, handed_off, stopped, Path, status_of, shutdown_records}
+use Rattle.nb_engine.specs.Honesty.{Honest, HandsFiles}
 use Rattle.nb_record.specs.Outside.{Outside, Passes, Rose, IsAtEnd}
 use Rattle.nb_engine.specs.declared.status.Status.{Status}
 use Rattle.nb_engine.specs.declared.status.Status.TheVariants as status
@@ -114,9 +115,13 @@ pub record IsUnread (before after : Outside) (r : Run before after) : Type 0 whe
   pub all : r.lost ≡ []
   pub rose : Rose before.read_faults after.read_faults
 
+-- Where servers send what they hold, each image handed off is, byte for byte, its server's file.
+abbrev pub HandsTheirs : (before after : Outside) → Run before after → Type 0
+HandsTheirs before after r = (store : ℕ → List ℕ → List ℕ) → Honest store r.ins → HandsFiles store r.outs
+
 -- what a status says of a run
 abbrev pub Says : Status → (before after : Outside) → Run before after → Type 0
-Says status.HandedOff before after r = IsOver before after r 0
+Says status.HandedOff before after r = IsOver before after r 0 × HandsTheirs before after r
 Says status.Ended before after r = IsOver before after r 3
 Says status.ScriptFailed before after r = IsOver before after r 4
 Says status.Unfinished before after r = IsOver before after r 5

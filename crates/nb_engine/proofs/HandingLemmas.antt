@@ -15,7 +15,7 @@ use Rattle.nb_engine.specs.Conclusions.{part_records, piece_record}
 use Rattle.nb_engine.specs.Handings.{IsShort, AreShort, IsAt}
 
 -- of all elements of both lists, and of an element
-all_append : {A : Type 0} (P : A → Type 0) (xs ys : List A) → AllByRecursion P xs → AllByRecursion P ys → AllByRecursion P (xs ++ ys)
+pub all_append : {A : Type 0} (P : A → Type 0) (xs ys : List A) → AllByRecursion P xs → AllByRecursion P ys → AllByRecursion P (xs ++ ys)
 all_append P [] ys p q = q
 all_append P (x ∷ xs) ys p q = (p.0, all_append P xs ys p.1 q)
 
@@ -24,7 +24,7 @@ all_at P [] k x p h = absurd (none-some x h)
 all_at P (y ∷ ys) zero x p h = subst P (same_Some y x h) p.0
 all_at P (y ∷ ys) (suc k) x p h = all_at P ys k x p.1 h
 
-all_set : {A : Type 0} (P : A → Type 0) (xs : List A) (k : ℕ) (x : A) → AllByRecursion P xs → P x → AllByRecursion P (slice_set xs k x)
+pub all_set : {A : Type 0} (P : A → Type 0) (xs : List A) (k : ℕ) (x : A) → AllByRecursion P xs → P x → AllByRecursion P (slice_set xs k x)
 all_set P [] k x p q = tt
 all_set P (y ∷ ys) zero x p q = (q, p.1)
 all_set P (y ∷ ys) (suc k) x p q = (p.0, all_set P ys k x p.1 q)

@@ -9,3 +9,4 @@ pub mod Heedings
 pub mod Growth
 pub mod Moves
 pub mod HandingLemmas
+pub mod HonestyLaws

@@ -15,3 +15,4 @@ pub mod Heeding
 pub mod Concluding
 pub mod Advance
 pub mod Numbers
+pub mod Honesty
