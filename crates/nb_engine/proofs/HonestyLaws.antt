@@ -1,22 +1,20 @@
 -- Where servers send what they hold, what is handed off is theirs.
-use Rattle.std.proofs.Common.{◌≡◌, ◌⊎◌, inl, inr, ℕ, zero, suc, ◌+◌, ◌==◌, Bool, true, false, cond, ◌||◌, List, [], ◌∷◌, ◌++◌, length, Option, Some, None, refl, sym, ◌∙◌, ap, subst, append_assoc, append-nil}
-use Rattle.std.specs.Prelude.{codes, unwrap_or}
+use Rattle.std.proofs.Common.{◌≡◌, ℕ, ◌+◌, ◌==◌, Bool, true, false, cond, List, [], ◌∷◌, ◌++◌, Option, Some, None, refl, sym, ◌∙◌, ap, subst, append_assoc, append-nil}
+use Rattle.std.specs.Prelude.{codes}
 use Rattle.std.specs.Option.{option_map_or}
 use Rattle.std.specs.Str.{bytes_eq}
-use Rattle.std.specs.List.{AllByRecursion}
-use Rattle.std.proofs.lemmas.Option.{none-some, same_Some}
+use Rattle.std.proofs.lemmas.Option.{same_Some}
 use Rattle.nb_terms.specs.declared.cause.Cause.{Cause}
 use Rattle.nb_terms.specs.declared.acts.Acts.{Acts}
 use Rattle.nb_terms.specs.declared.acts.SendTo.{SendTo}
-use Rattle.nb_defs.specs.Causes.{ok, is_ok_cause, not_script, usage}
+use Rattle.nb_defs.specs.Causes.{is_ok_cause, usage}
 use Rattle.nb_defs.specs.Commands.{Outcome as Result, outcome, refused, is_option}
-use Rattle.nb_defs.specs.Records.{In, frame, Out, step, sent, enter, leave, result, ended, part, out_texts}
+use Rattle.nb_defs.specs.Records.{In, frame, Out, step, sent, enter, result, ended}
 use Rattle.nb_stack.specs.Client.{Client}
-use Rattle.nb_stack.specs.Takes.{Outcome, Takes}
-use Rattle.nb_tftp.specs.Received.{Received, received, fixed_port}
+use Rattle.nb_tftp.specs.Received.{received}
 use Rattle.nb_tftp.specs.History.{Call, came, ticked, Entry, entry, got, received_by, ends_ok}
 use Rattle.nb_tftp.specs.Cuts.{CarriesFile}
-use Rattle.nb_tftp.specs.Blocks.{is_whole, file}
+use Rattle.nb_tftp.specs.Blocks.{is_whole}
 use Rattle.nb_tftp.specs.Sentences.{Meets, OkWhereWhole}
 use Rattle.nb_tftp.proofs.CutLaws.{whole_file}
 use Rattle.nb_tftp.proofs.HistoryLemmas.{got-append}
@@ -24,14 +22,14 @@ use Rattle.nb_tftp.proofs.PlainLaws.{EachEntry-last}
 use Rattle.nb_uri.specs.Targets.{TftpTarget, tftp_target, is_too_long}
 use Rattle.nb_image.specs.declared.image.Image.{Image}
 use Rattle.nb_image.specs.declared.error.ImageError.{ImageError}
-use Rattle.nb_image.specs.Images.{ImageList, place_of, put_at, with_image, refusal}
+use Rattle.nb_image.specs.Images.{ImageList, place_of, put_at, refusal}
 use Rattle.nb_image.specs.Kinds.{kind_of}
 use Rattle.nb_engine.specs.declared.world.World.{World}
-use Rattle.nb_engine.specs.World.{with_net, later, with_open, unbound, world_of, with_images}
+use Rattle.nb_engine.specs.World.{with_net, later, unbound}
 use Rattle.nb_engine.specs.Effects.{Wanted, Effect, says, asks, asked, fetch, effect, too_long_uri, full_opens, bad_uri}
-use Rattle.nb_engine.specs.Opens.{Open, open_for, with_entry, body_of, acts_records, advance_records, sends_records, send_records, try_records, has_route, heard_from, end_of, is_over_limit, too_large_image, request_of, begun_for, opened_record}
-use Rattle.nb_engine.specs.Conclusions.{Conclusion, keeps, fails, boots, conclusion, stored, taken_in, added, selected_in, place_for, image_from, conclusion_records, handoff_records, is_bootable, not_bootable, cause_of_error}
-use Rattle.nb_engine.specs.Machine.{Machine, Phase, Running, at, fresh, ready, running, waiting, handing, left, handed_off, stopped, Hears, goes_on, is_over, Begins, runs, refuses, passes_by, brings, passes_time, switches_off, Move, passes, does, leaves, asks_for, finds_no_route, ends, hands, has_handed, Path, nothing, uses, moves, phase_after, concluded, command_records, command_record, prints, reply_records, first_script, further}
+use Rattle.nb_engine.specs.Opens.{Open, with_entry, body_of, acts_records, advance_records, sends_records, send_records, try_records, has_route, end_of, is_over_limit, too_large_image, request_of, begun_for, opened_record}
+use Rattle.nb_engine.specs.Conclusions.{Conclusion, keeps, fails, boots, conclusion, stored, taken_in, selected_in, place_for, image_from, conclusion_records, handoff_records, is_bootable, not_bootable}
+use Rattle.nb_engine.specs.Machine.{Machine, Phase, Running, ready, running, waiting, handing, left, handed_off, stopped, Hears, goes_on, is_over, Begins, runs, refuses, passes_by, brings, passes_time, switches_off, Move, passes, does, leaves, asks_for, finds_no_route, ends, hands, has_handed, Path, nothing, uses, moves, phase_after, concluded, command_records, command_record, prints, reply_records}
 use Rattle.nb_engine.specs.Honesty.{file_of, Honest, IsServers, AreServers, IsNoPart, HaveNoParts, HandsFiles}
 use Rattle.nb_engine.proofs.HandingLemmas.{all_append, all_set}
 
@@ -216,17 +214,23 @@ hears_holds : (store : Store) (outs : List Out) (k : ℕ) (w : World) (s : Runni
     CarriesFile (file_of store o.wanted.target) (got o.entries ++ received_by call) → Holds store (outs ++ step k ∷ news) phase
 unfolding Holds
 hears_holds store outs k w s o call news phase (goes_on _ _ _ _ acts meets open1) files none named carries =
-    let e = entry call acts in
-    (files, (more outs (step k ∷ acts_records w.net o.number acts) none (tt, no_acts w.net o.number acts),
-    record { named = named; carries = subst (CarriesFile (file_of store o.wanted.target)) (sym (got-append o.entries e)) carries }))
+    let e = entry call acts in (
+      files,
+      (
+        more outs (step k ∷ acts_records w.net o.number acts) none (tt, no_acts w.net o.number acts),
+        record { named = named; carries = subst (CarriesFile (file_of store o.wanted.target)) (sym (got-append o.entries e)) carries },
+      ),
+    )
 hears_holds store outs k w s o call news phase (is_over _ _ _ _ acts cause meets over) files none named carries =
     let e = entry call acts in
     let all = subst (CarriesFile (file_of store o.wanted.target)) (sym (got-append o.entries e)) carries in
     let c = concluded w (with_entry o e) cause in
     let left_with : Leaves store c = conclusion_leaves store cause o.wanted.boots (image_from (with_entry o e)) w.images (image_is store o e cause named all meets over) files in
-    let parts_none : HaveNoParts (step k ∷ (acts_records w.net o.number acts ++ (ended o.number cause ∷ []) ++ conclusion_records s.depth c)) =
-    (tt, more (acts_records w.net o.number acts ++ (ended o.number cause ∷ [])) (conclusion_records s.depth c)
-    (more (acts_records w.net o.number acts) (ended o.number cause ∷ []) (no_acts w.net o.number acts) (tt, tt)) (no_conclusion s.depth c)) in
+    let parts_none : HaveNoParts (step k ∷ (acts_records w.net o.number acts ++ (ended o.number cause ∷ []) ++ conclusion_records s.depth c)) = (
+      tt,
+      more (acts_records w.net o.number acts ++ (ended o.number cause ∷ [])) (conclusion_records s.depth c)
+          (more (acts_records w.net o.number acts) (ended o.number cause ∷ []) (no_acts w.net o.number acts) (tt, tt)) (no_conclusion s.depth c),
+    ) in
     leads_on store _ (unbound w o.begun.own_port) s c left_with (more outs _ none parts_none)
 
 -- nothing was received: that is a part of any file
@@ -255,9 +259,13 @@ unfolding Holds
 moves_holds store outs m news m' (passes n w s line there none) h = (h.0, more outs [] h.1 tt)
 moves_holds store outs m news m' (does n w s line c cs o there are comes stays) h = (h.0, more outs (command_records s (c ∷ cs) o) h.1 (no_command s (c ∷ cs) o))
 moves_holds store outs m news m' (leaves n w s line c cs o there are comes goes) h = tt
-moves_holds store outs m news m' (asks_for n w s line c cs wanted there are comes route) h =
-    (h.0, (more outs (command_record s (c ∷ cs) ∷ opened_record w wanted ∷ send_records w.net w.opens (Some 1) (request_of (begun_for w wanted))) h.1 (tt, (tt, no_send w.net w.opens (Some 1) (request_of (begun_for w wanted)))),
-    record { named = wanted_names w.opens (c ∷ cs) wanted comes; carries = nothing_carried (file_of store wanted.target) }))
+moves_holds store outs m news m' (asks_for n w s line c cs wanted there are comes route) h = (
+  h.0,
+  (
+    more outs (command_record s (c ∷ cs) ∷ opened_record w wanted ∷ send_records w.net w.opens (Some 1) (request_of (begun_for w wanted))) h.1 (tt, (tt, no_send w.net w.opens (Some 1) (request_of (begun_for w wanted)))),
+    record { named = wanted_names w.opens (c ∷ cs) wanted comes; carries = nothing_carried (file_of store wanted.target) },
+  ),
+)
 moves_holds store outs m news m' (finds_no_route n w s line c cs wanted there are comes route) h = tt
 moves_holds store outs m news m' (ends n w s there) h = tt
 moves_holds store outs m news m' (hands n r rest) h = record {

@@ -1,7 +1,6 @@
 -- Servers that send what they hold, and what is handed off then.
 use Rattle.std.specs.Prelude.{◌≡◌, ℕ, ◌+◌, List, [], ◌∷◌, ◌++◌, Some}
 use Rattle.std.specs.List.{AllByRecursion}
-use Rattle.nb_terms.specs.declared.cause.Cause.{Cause}
 use Rattle.nb_defs.specs.Records.{In, frame, Out, step, sent, text, command, result, script, opened, tried, advanced, ended, part, done}
 use Rattle.nb_stack.specs.Client.{Client}
 use Rattle.nb_stack.specs.Takes.{Outcome, Takes}
