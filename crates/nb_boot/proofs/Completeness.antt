@@ -14,7 +14,7 @@ use Rattle.nb_boot.proofs.Standing.{path_counts}
 use Rattle.nb_boot.proofs.Spelled.{path_in, path_used, HasUsed, Rest, spelled_rest, others_in, others_rest}
 
 -- what was read, and what is left, is what was left before
-gave_told : (old now : Option (List ℕ)) (input read : List ℕ) → old ≡ Some input → IsSome now → Gave old now read → (after : List ℕ) × (now ≡ Some after) × (input ≡ read ++ after)
+pub gave_told : (old now : Option (List ℕ)) (input read : List ℕ) → old ≡ Some input → IsSome now → Gave old now read → (after : List ℕ) × (now ≡ Some after) × (input ≡ read ++ after)
 gave_told None None input read e some g = let no : false ≡ true = some in cc
 gave_told None (Some y) input read e some g = absurd g
 gave_told (Some x) None input read e some g = let no : false ≡ true = some in cc
@@ -37,7 +37,7 @@ same_entry Kind r tail rest after valid e w =
     subst (λ x. Kind x) same.record_is w.kind
 
 -- before any record used, a rest that begins with a START is not bad
-no_bad_first : (s : Start) (tail rest after : List ℕ) (o : Outside) → IsIn (start s) → in_text (start s) ++ tail ≡ rest ++ after → o.left ≡ Some after →
+pub no_bad_first : (s : Start) (tail rest after : List ℕ) (o : Outside) → IsIn (start s) → in_text (start s) ++ tail ≡ rest ++ after → o.left ≡ Some after →
     IsBroken rest ⊎ (BeginsWith rest IsOther ⊎ (IsPartial rest × IsAtEnd o)) → ⊥
 no_bad_first s tail rest after o valid e told (inl b) = b (start s) after tail valid (sym e)
 no_bad_first s tail rest after o valid e told (inr (inl w)) = same_entry IsOther (start s) tail rest after valid e w

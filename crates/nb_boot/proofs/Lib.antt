@@ -12,3 +12,5 @@ pub mod Fronts
 pub mod Attached
 pub mod Spelled
 pub mod Completeness
+pub mod OneRun
+pub mod FirstStep

@@ -1,8 +1,11 @@
 -- With no fault and memory enough, a run ends as the machine does.
-use Rattle.std.specs.Prelude.{◌≡◌, ℕ, ◌<◌, List, [], ◌∷◌, length, Some, IsSome}
-use Rattle.nb_defs.specs.Records.{Start, In, start, IsIn, in_texts}
+use Rattle.std.specs.Prelude.{◌≡◌, ℕ, ◌<◌, List, [], ◌∷◌, ◌++◌, length, Some, IsSome}
+use Rattle.nb_terms.specs.declared.cause.Cause.{Cause}
+use Rattle.nb_defs.specs.Records.{Start, In, start, IsIn, in_text, in_texts, Out}
 use Rattle.nb_record.specs.Outside.{Outside, Rose}
 use Rattle.nb_boot.specs.Run.{IsOther}
+use Rattle.nb_engine.specs.Machine.{Machine, left, Path, status_of}
+use Rattle.nb_engine.specs.StatusNumber.{number_of}
 use Rattle.nb_engine.specs.declared.status.Status.{Status}
 use Rattle.nb_engine.specs.declared.status.Status.TheVariants as status
 
@@ -42,3 +45,10 @@ abbrev pub Completes : Status → Outside → Outside → Type 0
 Completes result before after = (s : Start) (others : List In) → IsIn (start s) → AreOthers others →
     before.left ≡ Some (in_texts (start s ∷ others)) → IsSome after.left → NoneRose before after → (result ≡ status.NoMemory → ⊥) →
     IsMachines result (length (start s ∷ others))
+
+-- where the input begins with a START in whose step the machine leaves the script, whatever follows, the line
+-- tells what is left, no count rose and memory sufficed, the status is the one of the script's cause
+abbrev pub CompletesFirst : Status → Outside → Outside → Type 0
+CompletesFirst result before after = (s : Start) (more : List ℕ) (outs : List Out) (m : Machine) (cause : Cause) → IsIn (start s) →
+    before.left ≡ Some (in_text (start s) ++ more) → Path (start s ∷ []) outs m → m.phase ≡ left cause →
+    IsSome after.left → NoneRose before after → (result ≡ status.NoMemory → ⊥) → number_of result ≡ status_of cause

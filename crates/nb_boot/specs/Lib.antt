@@ -3,3 +3,4 @@ pub mod Run
 pub mod Going
 pub mod Fetch
 pub mod Complete
+pub mod Laws

@@ -8,6 +8,7 @@ mod begin;
 mod feeding;
 #[cfg(test)]
 mod fetch_tests;
+mod laws;
 mod output;
 mod play;
 #[cfg(test)]
@@ -17,5 +18,6 @@ mod tests;
 mod top;
 mod turn;
 
+pub use laws::one_run;
 pub use nb_engine::Status;
 pub use top::netboot;
