@@ -1,5 +1,5 @@
 #!/usr/bin/env python3
-"""Measures the program on recorded boots by TFTP: peak memory, and time for each byte of the image."""
+"""Measures the program on recorded boots by TFTP: peak memory, and processor time for each byte."""
 
 from __future__ import annotations
 
@@ -7,7 +7,6 @@ import argparse
 import os
 import sys
 import tempfile
-import time
 from pathlib import Path
 from typing import Iterator, NamedTuple
 
@@ -22,12 +21,12 @@ MEGABYTE = 1_048_576
 SCRIPT = b"#!ipxe\nimgexec tftp://10.0.0.1/k\n"
 
 DESCRIPTION = """\
-Measures the built program on recorded boots by TFTP without options: the peak of its memory, and the
-time for each byte of the image. `rt run` in crates/netboot proves and builds the program."""
+Measures the built program on recorded boots by TFTP without options: the peak of its memory, and its
+processor time for each byte of the image. `rt run` in crates/netboot proves and builds the program."""
 
 
 class Measured(NamedTuple):
-    """How a run ended, the peak of its memory in bytes, and its time in seconds."""
+    """How a run ended, the peak of its memory in bytes, and its processor time in seconds."""
 
     status: int
     peak: int
@@ -59,10 +58,9 @@ def write_transfer(length: int, path: Path) -> None:
 def measure(program: Path, recording: Path, output: Path) -> Measured:
     """Runs the program, and asks the system what that took."""
     words = [str(program), "replay", str(recording), str(output)]
-    begin = time.monotonic()
     child = os.posix_spawn(program, words, os.environ)
     _, status, usage = os.wait4(child, 0)
-    seconds = time.monotonic() - begin
+    seconds = usage.ru_utime + usage.ru_stime
     return Measured(os.waitstatus_to_exitcode(status), usage.ru_maxrss * 1024, seconds)
 
 
