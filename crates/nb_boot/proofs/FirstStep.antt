@@ -1,15 +1,14 @@
 -- Where the machine leaves the script in the step of START, the status is the one of the script's cause.
-use Rattle.std.proofs.Common.{◌≡◌, ℕ, Bool, true, false, List, [], ◌∷◌, ◌++◌, length, Option, Some, None, refl, sym, ◌∙◌, ap, subst, arith, append_assoc, length-append}
+use Rattle.std.proofs.Common.{◌≡◌, ℕ, List, [], ◌∷◌, ◌++◌, length, Some, refl, sym, ◌∙◌, ap, subst, arith, append_assoc}
 use Rattle.std.specs.Prelude.{IsSome}
 use Rattle.nb_terms.specs.declared.cause.Cause.{Cause}
 use Rattle.nb_defs.specs.Records.{Start, In, start, IsIn, in_text, in_texts, Out}
 use Rattle.nb_defs.proofs.RecordLaws.{in_text_apart}
 use Rattle.nb_record.specs.Outside.{Outside}
 use Rattle.nb_engine.specs.Machine.{Machine, Phase, ready, running, waiting, handing, left, handed_off, stopped, Path, nothing, uses, moves, Begins, runs, refuses, passes_by, brings, passes_time, switches_off, status_of}
-use Rattle.nb_engine.specs.StatusNumber.{number_of}
 use Rattle.nb_engine.specs.declared.status.Status.{Status}
 use Rattle.nb_engine.specs.declared.status.Status.TheVariants as status
-use Rattle.nb_boot.specs.Run.{Run, Shows, IsOver, IsBadRest, Awaits, Ends, was_left, was_handed, was_stopped, ran_out, was_bad, was_full}
+use Rattle.nb_boot.specs.Run.{Run, Shows, IsBadRest, Awaits, Ends, was_left, was_handed, was_stopped, ran_out, was_bad, was_full}
 use Rattle.nb_boot.specs.Complete.{CompletesFirst}
 use Rattle.nb_boot.specs.Laws.{IsAtRest}
 use Rattle.nb_boot.proofs.Completeness.{gave_told, no_bad_first}

@@ -7,7 +7,7 @@ use Rattle.nb_defs.specs.ScriptText.{is_plain, words}
 use Rattle.nb_engine.specs.declared.world.World.{World}
 use Rattle.nb_engine.specs.World.{world_of, with_open}
 use Rattle.nb_engine.specs.Effects.{Wanted, Effect, says, asks, effect}
-use Rattle.nb_engine.specs.Opens.{Open, open_for, request_of, has_route, send_records, opened_record, begun_for}
+use Rattle.nb_engine.specs.Opens.{open_for, request_of, has_route, send_records, opened_record, begun_for}
 use Rattle.nb_engine.specs.Conclusions.{fails, conclusion_records}
 use Rattle.nb_engine.specs.Machine.{Machine, Running, Phase, ready, running, waiting, handing, left, handed_off, stopped, at, fresh, Path, nothing, uses, moves, Begins, runs, refuses, passes_by, brings, passes_time, switches_off, Move, passes, does, leaves, asks_for, finds_no_route, ends, hands, has_handed, next_line, further, command_record, command_records, ends_script, first_script, no_route}
 use Rattle.nb_boot.specs.Laws.{IsAtRest, SameRun}
