@@ -25,6 +25,8 @@ from wire import tftp_request, udp, udp_frame
 
 FETCH = b"imgfetch tftp://10.0.0.1/f"
 EXEC = b"imgexec tftp://10.0.0.1/k"
+# where OPEN stands in the output: behind STEP, SCRIPT and COMMAND
+OPEN_PLACE = 3
 FOREIGN_PORT = made.SERVER_PORT + 1
 NEIGHBOUR = Station(bytes.fromhex("525400000003"), IPv4Address("10.0.0.3"))
 FULL = bytes(range(256)) * 2
@@ -291,7 +293,7 @@ def two_files() -> Row:
         Part(PartKind.INITRD, 0, 0, b"initrd"),
         Done(Status.HANDED_OFF),
     ]
-    outputs[3 + 0] = replace(outputs[3], own=first)
+    outputs[OPEN_PLACE] = replace(outputs[OPEN_PLACE], own=first)
     return Row(inputs, outputs)
 
 
