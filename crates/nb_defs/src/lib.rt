@@ -1,5 +1,6 @@
-// The definitions that several crates speak of, and no code: records and their one spelling, causes,
-// the text of scripts, the commands, the script machine, and its path over whole lists of records.
-// They stand in specs/, in this order: Causes, Records, ScriptText, Commands, Machine. docs/DEFINITIONS.md
-// tells each in plain words. proofs/ has laws about them, which the crates above cite.
+// The definitions that several crates speak of, and no code: causes, records and their one spelling,
+// the text of scripts, whole scripts with their lines and lists, and the commands. They stand in specs/,
+// in this order: Causes, Records, ScriptText, ScriptLines, Commands; the script machine, which stands on
+// them, is nb_engine's. docs/DEFINITIONS.md tells each in plain words. proofs/ has laws about them, which
+// the crates above cite.
 #![tactic(auto)]
