@@ -18,3 +18,15 @@ pub mod AliveLemmas
 pub mod LivelyForLemmas
 pub mod CutLemmas
 pub mod LivedLemmas
+pub mod ForestLemmas
+pub mod AccountLemmas
+pub mod LivensLemmas
+pub mod MildLemmas
+pub mod CallLemmas
+pub mod FlowLemmas
+pub mod PassLemmas
+pub mod MakeLemmas
+pub mod RiseLemmas
+pub mod AskLemmas
+pub mod EffectLemmas
+pub mod DownLemmas

@@ -10,7 +10,7 @@ use Rattle.nb_ledger.proofs.PlaceLemmas.{live_place, live-stands, serial-place}
 use Rattle.nb_graph.specs.Whole.{IsManned}
 use Rattle.nb_graph.specs.Trace.{Entry, Owes, Owes1}
 use Rattle.nb_graph.specs.declared.effects.Fx.{Fx}
-use Rattle.nb_graph.specs.Deeds.{Stage, Hears, Calls}
+use Rattle.nb_graph.specs.Deeds.{Deed, calls, Stage, Hears, Calls}
 use Rattle.nb_graph.specs.Lives.{Lives, Loses, Fits, nodes_at}
 use Rattle.nb_graph.proofs.MannedLemmas.{manned-length, manned-place}
 use Rattle.nb_graph.proofs.LivelyLemmas.{slice_get-at, slice_get-set, slice_get-past, some_inj}
@@ -86,21 +86,21 @@ Loses-remove {old = old} {new = new} {nodes = nodes} {more = more} {x = x} v r i
     gone x = rw (eq-eqb x x refl) refl
 
 -- a call of the node of an object
-pub Lives-seat : {N L : Type 0} {rank_of : N → ℕ} {l : Ledger} {nodes : List N} {cap : ℕ} (stands : N → List (Entry N L) → Type 0) (now : ℕ) (owing : ℕ → List L → List L → Type 0) (o n : List Stage → List Stage) (y p : ℕ) (i : Entry N L) (d c : N) → IsManned rank_of l nodes cap → live l y ≡ true → p ≡ place l y → d ≡ get_or nodes p d → ((w v : List L) → owing y w v → Owes1 w i v) → ((x : ℕ) (w v : List L) → x ≢ y → owing x w v → w ≡ v) → ((t : List (Entry N L)) (w v : List L) → owing y w v → Owes [] t w → stands d t → stands c (t ++ i ∷ [])) → ((st : List Stage) → Hears now y i (o st) (n st)) → Lives stands now (nodes_at l nodes) (nodes_at l (set nodes p c)) owing o n []
-Lives-seat {l = l} {nodes = nodes} stands now owing o n y p i d c m v at is owes stay law hears =
+pub Lives-seat : {N L : Type 0} {rank_of : N → ℕ} {l : Ledger} {nodes : List N} {cap : ℕ} (stands : N → List (Entry N L) → Type 0) (now : ℕ) (owing : ℕ → List L → List L → Type 0) (o n : List Stage → List Stage) (y p : ℕ) (i : Entry N L) (d c : N) → IsManned rank_of l nodes cap → live l y ≡ true → p ≡ place l y → d ≡ get_or nodes p d → ((w v : List L) → owing y w v → Owes1 w i v) → ((x : ℕ) (w v : List L) → x ≢ y → owing x w v → w ≡ v) → ((t : List (Entry N L)) (w v : List L) → owing y w v → Owes [] t w → stands d t → stands c (t ++ i ∷ [])) → ((st : List Stage) → Hears now y i (o st) (n st)) → {z : List (Deed N L) → Type 0} → z (calls y i ∷ []) → Lives stands now (nodes_at l nodes) (nodes_at l (set nodes p c)) owing o n z []
+Lives-seat {l = l} {nodes = nodes} stands now owing o n y p i d c m v at is owes stay law hears moves =
     let h = manned-place y m v in
     let q : p < length nodes = omega (arith, h, at) in
     Lives-call stands now (nodes_at l nodes) (nodes_at l (set nodes p c)) owing o n y i d c
     (ap (slice_get nodes) (sym at) ∙ slice_get-at nodes p d q ∙ ap Some (sym is))
     (λ k e. some_inj (sym e ∙ ap (slice_get (set nodes p c)) (sym at) ∙ slice_get-set nodes p c q))
     (λ x k a e. sym (slice_get-set_other nodes p (place l x) c (λ z. place-apart l x y v a (z ∙ at))) ∙ e)
-    owes stay law hears
+    owes stay law hears moves
 
 -- a call of the node of an object by an entry, which is the first that happens
-pub Calls-seat : {N L : Type 0} {rank_of : N → ℕ} {l : Ledger} {nodes : List N} {cap : ℕ} (stands : N → List (Entry N L) → Type 0) (now : ℕ) (owing : ℕ → List L → List L → Type 0) (o n : List Stage → List Stage) (y p : ℕ) (entry : Bool → Fx N L → Entry N L) (done : Bool) (fx : Fx N L) (d c : N) → IsManned rank_of l nodes cap → live l y ≡ true → p ≡ place l y → d ≡ get_or nodes p d → ((w v : List L) → owing y w v → Owes1 w (entry done fx) v) → ((x : ℕ) (w v : List L) → x ≢ y → owing x w v → w ≡ v) → ((t : List (Entry N L)) (w v : List L) → owing y w v → Owes [] t w → stands d t → stands c (t ++ entry done fx ∷ [])) → ((st : List Stage) → Hears now y (entry done fx) (o st) (n st)) → (k : Lives stands now (nodes_at l nodes) (nodes_at l (set nodes p c)) owing o n []) × Calls y entry k.deeds
+pub Calls-seat : {N L : Type 0} {rank_of : N → ℕ} {l : Ledger} {nodes : List N} {cap : ℕ} (stands : N → List (Entry N L) → Type 0) (now : ℕ) (owing : ℕ → List L → List L → Type 0) (o n : List Stage → List Stage) (y p : ℕ) (entry : Bool → Fx N L → Entry N L) (done : Bool) (fx : Fx N L) (d c : N) → IsManned rank_of l nodes cap → live l y ≡ true → p ≡ place l y → d ≡ get_or nodes p d → ((w v : List L) → owing y w v → Owes1 w (entry done fx) v) → ((x : ℕ) (w v : List L) → x ≢ y → owing x w v → w ≡ v) → ((t : List (Entry N L)) (w v : List L) → owing y w v → Owes [] t w → stands d t → stands c (t ++ entry done fx ∷ [])) → ((st : List Stage) → Hears now y (entry done fx) (o st) (n st)) → {z : List (Deed N L) → Type 0} → z (calls y (entry done fx) ∷ []) → (k : Lives stands now (nodes_at l nodes) (nodes_at l (set nodes p c)) owing o n z []) × Calls y entry k.deeds
 unfolding Lives-seat Lives-call
-Calls-seat stands now owing o n y p entry done fx d c m v at is owes stay law hears =
-    (Lives-seat stands now owing o n y p (entry done fx) d c m v at is owes stay law hears, (done, fx, [], refl))
+Calls-seat stands now owing o n y p entry done fx d c m v at is owes stay law hears moves =
+    (Lives-seat stands now owing o n y p (entry done fx) d c m v at is owes stay law hears moves, (done, fx, [], refl))
 
 slice_get-before : {A : Type 0} (xs ys : List A) (i : ℕ) → i < length xs → slice_get (xs ++ ys) i ≡ slice_get xs i
 slice_get-before [] ys i h = absurd (omega arith)

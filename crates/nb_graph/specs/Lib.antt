@@ -8,3 +8,6 @@ pub mod Deeds
 pub mod Lives
 pub mod Lived
 pub mod Counted
+pub mod Accounts
+pub mod Flows
+pub mod Moves

@@ -4,6 +4,8 @@ use Rattle.nb_terms.specs.declared.event.Event.{Event}
 use Rattle.nb_ledger.specs.declared.event.GraphEvent.{GraphEvent}
 use Rattle.nb_graph.specs.Trace.{Entry, IsSettled}
 use Rattle.nb_graph.specs.Deeds.{Deed, events_of, trace_after, Follows}
+use Rattle.nb_ledger.specs.declared.port.Port.{Port}
+use Rattle.nb_graph.specs.Accounts.{Account, Balanced, account, rests}
 use Rattle.nb_graph.specs.Whole.{Objects, Runs, node_of}
 
 -- the object x, if it lives, stands for this trace, and all loads that the trace lent came back
@@ -16,11 +18,13 @@ KeepsTraces {N} {L} stands old new = (x : ℕ) (t : List (Entry N L)) → Stands
 
 -- What happened in a call: its events are these and are a run; each entry of an event is a call of its object's
 -- node, with the rest of a message given again; and each object stands for its trace continued by its entries and
--- the loads that came back to it. One that was made starts from the empty trace.
-pub record Lived {N L : Type 0} (stands : N → List (Entry N L) → Type 0) (now : ℕ) (old new : Objects N) (before after : Option (List Event)) : Type 0 where
+-- the loads that came back to it. One that was made starts from the empty trace. On each link one end took what the
+-- other sent, or the first of it where the link is closed.
+pub record Lived {N L : Type 0} (stands : N → List (Entry N L) → Type 0) (parts : L → List ℕ) (now : ℕ) (old new : Objects N) (before after : Option (List Event)) : Type 0 where
   pub added : List GraphEvent
   pub runs : Runs old.book new.book before after added
   pub deeds : List (Deed N L)
   pub events : events_of deeds ≡ added
   pub follows : Follows now [] deeds []
   pub keeps : (x : ℕ) (t : List (Entry N L)) → StandsFor stands old x t → StandsFor stands new x (trace_after x t deeds)
+  pub balances : (p q : Port) (a b : Account) → Balanced old.book p q a b → Balanced new.book p q (account parts p (rests a) deeds) (account parts q (rests b) deeds)

@@ -12,6 +12,10 @@ use Rattle.nb_graph.specs.Whole.{Runs}
 use Rattle.nb_graph.specs.Calm.{Calm, Ends, SettlesTwo}
 use Rattle.nb_graph.specs.Lively.{Lively, LivelyIn}
 use Rattle.nb_ledger.specs.declared.port.ObjId.{ObjId}
+use Rattle.nb_ledger.specs.declared.port.Port.{Port}
+use Rattle.nb_graph.specs.Accounts.{Account}
+use Rattle.nb_graph.specs.Flows.{Still}
+use Rattle.nb_graph.specs.Moves.{Calms, Livens, always}
 
 -- the node of each serial, None where it is dead
 abbrev pub nodes_at : {N : Type 0} → Ledger → List N → ℕ → Option N
@@ -26,12 +30,13 @@ abbrev pub Fits : {N L : Type 0} → (N → List (Entry N L) → Type 0) → (�
 Fits {N} stands f x t w = (n : N) → f x ≡ Some n → stands n t × Owes [] t w
 
 -- What happened goes from these stages to those, and each object stands for its trace continued by it; `owing` has
--- the loads that are lent before and after.
-pub record Lives {N L : Type 0} (stands : N → List (Entry N L) → Type 0) (now : ℕ) (f g : ℕ → Option N) (owing : ℕ → List L → List L → Type 0) (opened ended : List Stage → List Stage) (added : List GraphEvent) : Type 0 where
+-- the loads that are lent before and after, and `moves` what happens to the bytes on links.
+pub record Lives {N L : Type 0} (stands : N → List (Entry N L) → Type 0) (now : ℕ) (f g : ℕ → Option N) (owing : ℕ → List L → List L → Type 0) (opened ended : List Stage → List Stage) (moves : List (Deed N L) → Type 0) (added : List GraphEvent) : Type 0 where
   pub deeds : List (Deed N L)
   pub events : events_of deeds ≡ added
   pub follows : (st : List Stage) → Follows now (opened st) deeds (ended st)
   pub keeps : (x : ℕ) (t : List (Entry N L)) (w v : List L) → owing x w v → Fits stands f x t w → Fits stands g x (trace_after x t deeds) v
+  pub moved : moves deeds
 
 -- the same loads are lent, and none by an object of which no entry runs
 abbrev pub Same : {L : Type 0} → (ℕ → Bool) → ℕ → List L → List L → Type 0
@@ -63,35 +68,35 @@ abbrev pub here : List Stage → List Stage
 here st = st
 
 -- a calm call, with what its objects stand for
-pub record CalmFor {N L : Type 0} (stands : N → List (Entry N L) → Type 0) (now : ℕ) (old new : Ledger) (nodes more : List N) (owing : ℕ → List L → List L → Type 0) (before after : Option (List Event)) : Type 0 where
+pub record CalmFor {N L : Type 0} (stands : N → List (Entry N L) → Type 0) (parts : L → List ℕ) (now : ℕ) (old new : Ledger) (nodes more : List N) (owing : ℕ → List L → List L → Type 0) (flow : Port → Port → Account → List ℕ → List ℕ → Type 0) (before after : Option (List Event)) : Type 0 where
   pub calm : Calm old new before after
-  pub lives : Lives stands now (nodes_at old nodes) (nodes_at new more) owing here here calm.added
+  pub lives : Lives stands now (nodes_at old nodes) (nodes_at new more) owing here here (Calms parts old new flow) calm.added
 
 -- a call that may make objects
-pub record LivelyFor {N L : Type 0} (stands : N → List (Entry N L) → Type 0) (now : ℕ) (old new : Ledger) (nodes more : List N) (owing : ℕ → List L → List L → Type 0) (before after : Option (List Event)) : Type 0 where
+pub record LivelyFor {N L : Type 0} (stands : N → List (Entry N L) → Type 0) (parts : L → List ℕ) (now : ℕ) (old new : Ledger) (nodes more : List N) (owing : ℕ → List L → List L → Type 0) (due : Port → Account → List ℕ) (flow : Port → Port → Account → List ℕ → List ℕ → Type 0) (before after : Option (List Event)) : Type 0 where
   pub lively : Lively old new before after
-  pub lives : Lives stands now (nodes_at old nodes) (nodes_at new more) owing here here lively.added
+  pub lives : Lives stands now (nodes_at old nodes) (nodes_at new more) owing here here (Livens parts old new always due flow) lively.added
 
 -- the same in an entry of y, from these stages to those
-pub record LivelyInFor {N L : Type 0} (stands : N → List (Entry N L) → Type 0) (now y : ℕ) (old new : Ledger) (nodes more : List N) (owing : ℕ → List L → List L → Type 0) (opened ended : List Stage → List Stage) (before after : Option (List Event)) : Type 0 where
+pub record LivelyInFor {N L : Type 0} (stands : N → List (Entry N L) → Type 0) (parts : L → List ℕ) (now y : ℕ) (old new : Ledger) (nodes more : List N) (owing : ℕ → List L → List L → Type 0) (ready : Port → Account → Type 0) (due : Port → Account → List ℕ) (flow : Port → Port → Account → List ℕ → List ℕ → Type 0) (opened ended : List Stage → List Stage) (before after : Option (List Event)) : Type 0 where
   pub lively : LivelyIn y old new before after
-  pub lives : Lives stands now (nodes_at old nodes) (nodes_at new more) owing opened ended lively.added
+  pub lives : Lives stands now (nodes_at old nodes) (nodes_at new more) owing opened ended (Livens parts old new ready due flow) lively.added
 
 -- an entry ends
-pub record EndsFor {N L : Type 0} (stands : N → List (Entry N L) → Type 0) (old new : Ledger) (nodes more : List N) (before after : Option (List Event)) (y : ℕ) (was : Bool) (stack : List Frame → List Frame) (f : ℕ → ℕ → PortState) (opened : List Stage → List Stage) : Type 0 where
+pub record EndsFor {N L : Type 0} (stands : N → List (Entry N L) → Type 0) (parts : L → List ℕ) (old new : Ledger) (nodes more : List N) (before after : Option (List Event)) (y : ℕ) (was : Bool) (stack : List Frame → List Frame) (f : ℕ → ℕ → PortState) (opened : List Stage → List Stage) : Type 0 where
   pub ends : Ends old new before after y was stack f
-  pub lives : (now : ℕ) → Lives stands now (nodes_at old nodes) (nodes_at new more) Stays opened here ends.added
+  pub lives : (now : ℕ) → Lives stands now (nodes_at old nodes) (nodes_at new more) Stays opened here (Calms parts old new Still) ends.added
 
 -- what was owed for an object is done
-pub record SettlesFor {N L : Type 0} (stands : N → List (Entry N L) → Type 0) (old new : Ledger) (nodes more : List N) (before after : Option (List Event)) (y : ObjId) : Type 0 where
+pub record SettlesFor {N L : Type 0} (stands : N → List (Entry N L) → Type 0) (parts : L → List ℕ) (old new : Ledger) (nodes more : List N) (before after : Option (List Event)) (y : ObjId) : Type 0 where
   pub settles : Settles old new before after y
   pub loses : Loses (nodes_at old nodes) (nodes_at new more)
-  pub lives : (now : ℕ) → Lives stands now (nodes_at old nodes) (nodes_at new more) Stays here here settles.added
+  pub lives : (now : ℕ) → Lives stands now (nodes_at old nodes) (nodes_at new more) Stays here here (Calms parts old new Still) settles.added
 
 -- and for two
-pub record SettlesTwoFor {N L : Type 0} (stands : N → List (Entry N L) → Type 0) (old new : Ledger) (nodes more : List N) (before after : Option (List Event)) (y z : ObjId) : Type 0 where
+pub record SettlesTwoFor {N L : Type 0} (stands : N → List (Entry N L) → Type 0) (parts : L → List ℕ) (old new : Ledger) (nodes more : List N) (before after : Option (List Event)) (y z : ObjId) : Type 0 where
   pub settles : SettlesTwo old new before after y z
-  pub lives : (now : ℕ) → Lives stands now (nodes_at old nodes) (nodes_at new more) Stays here here settles.added
+  pub lives : (now : ℕ) → Lives stands now (nodes_at old nodes) (nodes_at new more) Stays here here (Calms parts old new Still) settles.added
 
 -- no entry of an object of rank r or above runs
 abbrev pub IsUnder : ℕ → Ledger → Type 0
@@ -102,7 +107,7 @@ abbrev pub IsBelow : ℕ → Ledger → Type 0
 IsBelow r l = (x : ℕ) → busy l x ≡ true → rank l x ≤ r
 
 -- events that are a run, with what objects stand for
-pub record RunFor {N L : Type 0} (stands : N → List (Entry N L) → Type 0) (old new : Ledger) (nodes more : List N) (before after : Option (List Event)) : Type 0 where
+pub record RunFor {N L : Type 0} (stands : N → List (Entry N L) → Type 0) (parts : L → List ℕ) (old new : Ledger) (nodes more : List N) (before after : Option (List Event)) : Type 0 where
   pub added : List GraphEvent
   pub runs : Runs old new before after added
-  pub lives : (now : ℕ) → Lives stands now (nodes_at old nodes) (nodes_at new more) Stays here here added
+  pub lives : (now : ℕ) → Lives stands now (nodes_at old nodes) (nodes_at new more) Stays here here (Calms parts old new Still) added

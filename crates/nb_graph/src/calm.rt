@@ -4,6 +4,9 @@ ghost use Rattle.std.specs.Vec.{vec_capacity};
 ghost use Rattle.nb_ledger.specs.declared.port.PortState.TheVariants.{Linked};
 ghost use Rattle.nb_ledger.specs.GraphRun.{IsOpen};
 ghost use Rattle.nb_ledger.specs.Ledger.{busy, port, open_count};
+ghost use Rattle.nb_graph.specs.Whole.{port_at};
+ghost use Rattle.nb_graph.specs.Accounts.{bytes_of, carries, few_bytes};
+ghost use Rattle.nb_graph.specs.Flows.{Closing, Downs, Emitting, Failing, Following, Giving, Passing, asked_left, asked_sent, nothing};
 ghost use Rattle.nb_graph.specs.Calm.{IsSteady, Starts};
 ghost use Rattle.nb_graph.specs.Trace.{carried, down, in_list, lent, loads, said};
 ghost use Rattle.nb_graph.specs.Deeds.{Hands};
@@ -39,14 +42,19 @@ impl<N: Node> Inner<N> {
     /// Closes a port, if it is open, and its peer.
     #[cycle(calm)]
     pub(crate) fn close_port<O: Outside>(&mut self, at: Port, cause: &Cause, now: u64, out: &mut O)
-        requires steady { IsSteady N.rank_of self.old.book self.old.nodes.items (vec_capacity self.old.nodes) }
+        requires steady { IsSteady N.rank_of self.old.book self.old.nodes.items
+            (vec_capacity self.old.nodes) }
         ensures shut { open_count (port self.new.book at.obj.0 at.slot) ≡ 0 }
-        ensures lives { CalmFor N.stands now self.old.book self.new.book self.old.nodes.items self.new.nodes.items (Same (busy self.old.book)) (O.events out.old) (O.events out.new) }
+        ensures lives { CalmFor N.stands (bytes_of N.Load.first N.Load.second) now self.old.book
+            self.new.book self.old.nodes.items self.new.nodes.items (Same (busy self.old.book))
+            (Closing self.old.book at.obj.0) (O.events out.old) (O.events out.new) }
         ensures starts { 0 < open_count (port self.old.book at.obj.0 at.slot)
-            → Starts self.old.book self.new.book (O.events out.old) (O.events out.new) (Closed at cause.now) }
+            → Starts self.old.book self.new.book (O.events out.old) (O.events out.new)
+            (Closed at cause.now) }
         ensures stays { open_count (port self.old.book at.obj.0 at.slot) ≡ 0
             → (self.new ≡ self.old) × (O.events out.new ≡ O.events out.old) }
-        ensures steady { IsSteady N.rank_of self.new.book self.new.nodes.items (vec_capacity self.new.nodes) }
+        ensures steady { IsSteady N.rank_of self.new.book self.new.nodes.items
+            (vec_capacity self.new.nodes) }
     {
         match self.book.port(at) {
             PortState::Open => self.book.close_alone(at, cause, out),
@@ -60,11 +68,16 @@ impl<N: Node> Inner<N> {
     #[cycle(calm)]
     fn close_link<O: Outside>(&mut self, at: Port, peer: Port, cause: &Cause, now: u64, out: &mut O)
         requires linked { port self.old.book at.obj.0 at.slot ≡ Linked peer }
-        requires steady { IsSteady N.rank_of self.old.book self.old.nodes.items (vec_capacity self.old.nodes) }
+        requires steady { IsSteady N.rank_of self.old.book self.old.nodes.items
+            (vec_capacity self.old.nodes) }
         ensures shut { open_count (port self.new.book at.obj.0 at.slot) ≡ 0 }
-        ensures lives { CalmFor N.stands now self.old.book self.new.book self.old.nodes.items self.new.nodes.items (Same (busy self.old.book)) (O.events out.old) (O.events out.new) }
-        ensures starts { Starts self.old.book self.new.book (O.events out.old) (O.events out.new) (Closed at cause.now) }
-        ensures steady { IsSteady N.rank_of self.new.book self.new.nodes.items (vec_capacity self.new.nodes) }
+        ensures lives { CalmFor N.stands (bytes_of N.Load.first N.Load.second) now self.old.book
+            self.new.book self.old.nodes.items self.new.nodes.items (Same (busy self.old.book))
+            (Closing self.old.book at.obj.0) (O.events out.old) (O.events out.new) }
+        ensures starts { Starts self.old.book self.new.book (O.events out.old) (O.events out.new)
+            (Closed at cause.now) }
+        ensures steady { IsSteady N.rank_of self.new.book self.new.nodes.items
+            (vec_capacity self.new.nodes) }
     {
         let was = self.close_both(at, peer, cause, out);
         let fx = self.ask_closed(peer, cause, now);
@@ -84,9 +97,15 @@ impl<N: Node> Inner<N> {
     )
         requires runs { busy self.old.book id.0 ≡ true }
         requires asks { MayAskBelow (length msg.now.first.now + length msg.now.second.now) fx }
-        requires steady { IsSteady N.rank_of self.old.book self.old.nodes.items (vec_capacity self.old.nodes) }
-        ensures lives { CalmFor N.stands now self.old.book self.new.book self.old.nodes.items self.new.nodes.items (Back (busy self.old.book) id.0 (lent fx)) (O.events out.old) (O.events out.new) }
-        ensures steady { IsSteady N.rank_of self.new.book self.new.nodes.items (vec_capacity self.new.nodes) }
+        requires steady { IsSteady N.rank_of self.old.book self.old.nodes.items
+            (vec_capacity self.old.nodes) }
+        ensures lives { CalmFor N.stands (bytes_of N.Load.first N.Load.second) now self.old.book
+            self.new.book self.old.nodes.items self.new.nodes.items
+            (Back (busy self.old.book) id.0 (lent fx)) (Downs self.old.book id.0
+            (λ k. few_bytes (bytes_of N.Load.first N.Load.second) k (said msg.now).bytes fx.downs))
+            (O.events out.old) (O.events out.new) }
+        ensures steady { IsSteady N.rank_of self.new.book self.new.nodes.items
+            (vec_capacity self.new.nodes) }
     {
         let Fx {
             makes: _,
@@ -110,9 +129,15 @@ impl<N: Node> Inner<N> {
     )
         requires runs { busy self.old.book id.0 ≡ true }
         requires downs { AreDowns (length msg.now.first.now + length msg.now.second.now) downs }
-        requires steady { IsSteady N.rank_of self.old.book self.old.nodes.items (vec_capacity self.old.nodes) }
-        ensures lives { CalmFor N.stands now self.old.book self.new.book self.old.nodes.items self.new.nodes.items (Back (busy self.old.book) id.0 (loads downs)) (O.events out.old) (O.events out.new) }
-        ensures steady { IsSteady N.rank_of self.new.book self.new.nodes.items (vec_capacity self.new.nodes) }
+        requires steady { IsSteady N.rank_of self.old.book self.old.nodes.items
+            (vec_capacity self.old.nodes) }
+        ensures lives { CalmFor N.stands (bytes_of N.Load.first N.Load.second) now self.old.book
+            self.new.book self.old.nodes.items self.new.nodes.items
+            (Back (busy self.old.book) id.0 (loads downs))
+            (Downs self.old.book id.0 (λ k. few_bytes (bytes_of N.Load.first N.Load.second) k
+            (said msg.now).bytes downs)) (O.events out.old) (O.events out.new) }
+        ensures steady { IsSteady N.rank_of self.new.book self.new.nodes.items
+            (vec_capacity self.new.nodes) }
     {
         let Few { first, second } = downs;
         self.run_down(id, msg, first, now, out);
@@ -130,9 +155,15 @@ impl<N: Node> Inner<N> {
     )
         requires runs { busy self.old.book id.0 ≡ true }
         requires down { IfSome emit (IsDown (length msg.now.first.now + length msg.now.second.now)) }
-        requires steady { IsSteady N.rank_of self.old.book self.old.nodes.items (vec_capacity self.old.nodes) }
-        ensures lives { CalmFor N.stands now self.old.book self.new.book self.old.nodes.items self.new.nodes.items (Back (busy self.old.book) id.0 (carried emit)) (O.events out.old) (O.events out.new) }
-        ensures steady { IsSteady N.rank_of self.new.book self.new.nodes.items (vec_capacity self.new.nodes) }
+        requires steady { IsSteady N.rank_of self.old.book self.old.nodes.items
+            (vec_capacity self.old.nodes) }
+        ensures lives { CalmFor N.stands (bytes_of N.Load.first N.Load.second) now self.old.book
+            self.new.book self.old.nodes.items self.new.nodes.items
+            (Back (busy self.old.book) id.0 (carried emit))
+            (Emitting self.old.book id.0 (bytes_of N.Load.first N.Load.second) (said msg.now).bytes
+            emit) (O.events out.old) (O.events out.new) }
+        ensures steady { IsSteady N.rank_of self.new.book self.new.nodes.items
+            (vec_capacity self.new.nodes) }
     {
         match emit {
             Some(emit) => self.send_down(id, msg, emit, now, out),
@@ -151,9 +182,16 @@ impl<N: Node> Inner<N> {
     )
         requires runs { busy self.old.book id.0 ≡ true }
         requires down { IsDown (length msg.now.first.now + length msg.now.second.now) emit }
-        requires steady { IsSteady N.rank_of self.old.book self.old.nodes.items (vec_capacity self.old.nodes) }
-        ensures lives { CalmFor N.stands now self.old.book self.new.book self.old.nodes.items self.new.nodes.items (Back (busy self.old.book) id.0 (in_list emit.load)) (O.events out.old) (O.events out.new) }
-        ensures steady { IsSteady N.rank_of self.new.book self.new.nodes.items (vec_capacity self.new.nodes) }
+        requires steady { IsSteady N.rank_of self.old.book self.old.nodes.items
+            (vec_capacity self.old.nodes) }
+        ensures lives { CalmFor N.stands (bytes_of N.Load.first N.Load.second) now self.old.book
+            self.new.book self.old.nodes.items self.new.nodes.items
+            (Back (busy self.old.book) id.0 (in_list emit.load))
+            (Passing self.old.book (port_at id.0 emit.slot)
+            (carries (bytes_of N.Load.first N.Load.second) (said msg.now).bytes emit.from emit.to
+            emit.load)) (O.events out.old) (O.events out.new) }
+        ensures steady { IsSteady N.rank_of self.new.book self.new.nodes.items
+            (vec_capacity self.new.nodes) }
     {
         let Emit {
             slot,
@@ -198,9 +236,13 @@ impl<N: Node> Inner<N> {
     #[cycle(calm)]
     fn pass_down<O: Outside>(&mut self, at: Port, msg: &Msg<'_>, now: u64, out: &mut O)
         requires slot { 1 ≤ at.slot }
-        requires steady { IsSteady N.rank_of self.old.book self.old.nodes.items (vec_capacity self.old.nodes) }
-        ensures lives { CalmFor N.stands now self.old.book self.new.book self.old.nodes.items self.new.nodes.items (Same (busy self.old.book)) (O.events out.old) (O.events out.new) }
-        ensures steady { IsSteady N.rank_of self.new.book self.new.nodes.items (vec_capacity self.new.nodes) }
+        requires steady { IsSteady N.rank_of self.old.book self.old.nodes.items
+            (vec_capacity self.old.nodes) }
+        ensures lives { CalmFor N.stands (bytes_of N.Load.first N.Load.second) now self.old.book
+            self.new.book self.old.nodes.items self.new.nodes.items (Same (busy self.old.book))
+            (Passing self.old.book at (said msg.now).bytes) (O.events out.old) (O.events out.new) }
+        ensures steady { IsSteady N.rank_of self.new.book self.new.nodes.items
+            (vec_capacity self.new.nodes) }
     {
         match self.book.port(at) {
             PortState::Open => out.send(at, msg),
@@ -215,11 +257,18 @@ impl<N: Node> Inner<N> {
     pub(crate) fn enter_down<O: Outside>(&mut self, at: Port, msg: &Msg<'_>, now: u64, out: &mut O)
         requires slot { at.slot ≡ 0 }
         requires open { IsOpen (port self.old.book at.obj.0 at.slot) }
-        requires steady { IsSteady N.rank_of self.old.book self.old.nodes.items (vec_capacity self.old.nodes) }
-        ensures lives { (k : CalmFor N.stands now self.old.book self.new.book self.old.nodes.items self.new.nodes.items (Same (busy self.old.book)) (O.events out.old) (O.events out.new))
-            × Hands (Entered at way.Down) at.obj.0 (λ done fx. down (said msg.now) now done fx) k.lives.deeds }
-        ensures starts { Starts self.old.book self.new.book (O.events out.old) (O.events out.new) (Entered at way.Down) }
-        ensures steady { IsSteady N.rank_of self.new.book self.new.nodes.items (vec_capacity self.new.nodes) }
+        requires steady { IsSteady N.rank_of self.old.book self.old.nodes.items
+            (vec_capacity self.old.nodes) }
+        ensures lives { (k : CalmFor N.stands (bytes_of N.Load.first N.Load.second) now
+            self.old.book self.new.book self.old.nodes.items self.new.nodes.items
+            (Same (busy self.old.book)) (Giving self.old.book at (said msg.now).bytes)
+            (O.events out.old) (O.events out.new))
+            × Hands (Entered at way.Down) at.obj.0 (λ done fx. down (said msg.now) now done fx)
+            k.lives.deeds }
+        ensures starts { Starts self.old.book self.new.book (O.events out.old) (O.events out.new)
+            (Entered at way.Down) }
+        ensures steady { IsSteady N.rank_of self.new.book self.new.nodes.items
+            (vec_capacity self.new.nodes) }
     {
         let was = self.book.enter(at, Way::Down, out);
         let asked = self.ask_down(at.obj, msg, now);
@@ -238,9 +287,16 @@ impl<N: Node> Inner<N> {
     )
         requires runs { busy self.old.book id.0 ≡ true }
         requires asks { MayAskDown (length msg.now.first.now + length msg.now.second.now) asked }
-        requires steady { IsSteady N.rank_of self.old.book self.old.nodes.items (vec_capacity self.old.nodes) }
-        ensures lives { CalmFor N.stands now self.old.book self.new.book self.old.nodes.items self.new.nodes.items (Back (busy self.old.book) id.0 (asked_loads asked)) (O.events out.old) (O.events out.new) }
-        ensures steady { IsSteady N.rank_of self.new.book self.new.nodes.items (vec_capacity self.new.nodes) }
+        requires steady { IsSteady N.rank_of self.old.book self.old.nodes.items
+            (vec_capacity self.old.nodes) }
+        ensures lives { CalmFor N.stands (bytes_of N.Load.first N.Load.second) now self.old.book
+            self.new.book self.old.nodes.items self.new.nodes.items
+            (Back (busy self.old.book) id.0 (asked_loads asked))
+            (Following self.old.book (port_at id.0 0) (asked_left (said msg.now).bytes asked)
+            (asked_sent (bytes_of N.Load.first N.Load.second) (said msg.now).bytes asked))
+            (O.events out.old) (O.events out.new) }
+        ensures steady { IsSteady N.rank_of self.new.book self.new.nodes.items
+            (vec_capacity self.new.nodes) }
     {
         match asked {
             Asked::Done(fx) => self.calm_effects(id, msg, fx, now, out),
@@ -252,9 +308,14 @@ impl<N: Node> Inner<N> {
     #[cycle(calm)]
     pub(crate) fn fail<O: Outside>(&mut self, id: ObjId, fx: Fx<N, N::Load>, now: u64, out: &mut O)
         requires runs { busy self.old.book id.0 ≡ true }
-        requires steady { IsSteady N.rank_of self.old.book self.old.nodes.items (vec_capacity self.old.nodes) }
-        ensures lives { CalmFor N.stands now self.old.book self.new.book self.old.nodes.items self.new.nodes.items (Back (busy self.old.book) id.0 (lent fx)) (O.events out.old) (O.events out.new) }
-        ensures steady { IsSteady N.rank_of self.new.book self.new.nodes.items (vec_capacity self.new.nodes) }
+        requires steady { IsSteady N.rank_of self.old.book self.old.nodes.items
+            (vec_capacity self.old.nodes) }
+        ensures lives { CalmFor N.stands (bytes_of N.Load.first N.Load.second) now self.old.book
+            self.new.book self.old.nodes.items self.new.nodes.items
+            (Back (busy self.old.book) id.0 (lent fx)) (Failing self.old.book id.0)
+            (O.events out.old) (O.events out.new) }
+        ensures steady { IsSteady N.rank_of self.new.book self.new.nodes.items
+            (vec_capacity self.new.nodes) }
     {
         self.take_back(id, fx);
         self.close_all(id, &NO_MEMORY, now, out);
@@ -263,10 +324,14 @@ impl<N: Node> Inner<N> {
     /// Closes an object's open ports, slot 0 first.
     #[cycle(calm)]
     pub(crate) fn close_all<O: Outside>(&mut self, id: ObjId, cause: &Cause, now: u64, out: &mut O)
-        requires steady { IsSteady N.rank_of self.old.book self.old.nodes.items (vec_capacity self.old.nodes) }
+        requires steady { IsSteady N.rank_of self.old.book self.old.nodes.items
+            (vec_capacity self.old.nodes) }
         ensures shut { (k : ℕ) → open_count (port self.new.book id.0 k) ≡ 0 }
-        ensures lives { CalmFor N.stands now self.old.book self.new.book self.old.nodes.items self.new.nodes.items (Same (busy self.old.book)) (O.events out.old) (O.events out.new) }
-        ensures steady { IsSteady N.rank_of self.new.book self.new.nodes.items (vec_capacity self.new.nodes) }
+        ensures lives { CalmFor N.stands (bytes_of N.Load.first N.Load.second) now self.old.book
+            self.new.book self.old.nodes.items self.new.nodes.items (Same (busy self.old.book))
+            (Closing self.old.book id.0) (O.events out.old) (O.events out.new) }
+        ensures steady { IsSteady N.rank_of self.new.book self.new.nodes.items
+            (vec_capacity self.new.nodes) }
     {
         self.close_port(Port { obj: id, slot: 0 }, cause, now, out);
         self.close_port(Port { obj: id, slot: 1 }, cause, now, out);
@@ -283,10 +348,15 @@ impl<N: Node> Inner<N> {
         out: &mut O,
     )
         requires few { length closes.now ≤ 4 }
-        requires steady { IsSteady N.rank_of self.old.book self.old.nodes.items (vec_capacity self.old.nodes) }
-        ensures shut { (k : ℕ) → ClosesSlot k closes.now → open_count (port self.new.book id.0 k) ≡ 0 }
-        ensures lives { CalmFor N.stands now self.old.book self.new.book self.old.nodes.items self.new.nodes.items (Same (busy self.old.book)) (O.events out.old) (O.events out.new) }
-        ensures steady { IsSteady N.rank_of self.new.book self.new.nodes.items (vec_capacity self.new.nodes) }
+        requires steady { IsSteady N.rank_of self.old.book self.old.nodes.items
+            (vec_capacity self.old.nodes) }
+        ensures shut { (k : ℕ) → ClosesSlot k closes.now → open_count (port self.new.book id.0 k) ≡
+            0 }
+        ensures lives { CalmFor N.stands (bytes_of N.Load.first N.Load.second) now self.old.book
+            self.new.book self.old.nodes.items self.new.nodes.items (Same (busy self.old.book))
+            (Closing self.old.book id.0) (O.events out.old) (O.events out.new) }
+        ensures steady { IsSteady N.rank_of self.new.book self.new.nodes.items
+            (vec_capacity self.new.nodes) }
     {
         if let [(slot, cause), rest @ ..] = closes {
             self.close_port(

@@ -2,6 +2,8 @@
 ghost use Rattle.std.specs.Prelude.{◌≡◌, ◌<◌, ◌≤◌, ℕ, false};
 ghost use Rattle.std.specs.Vec.{vec_capacity};
 ghost use Rattle.nb_ledger.specs.Ledger.{live, busy, holds, port, open_count};
+ghost use Rattle.nb_graph.specs.Accounts.{bytes_of};
+ghost use Rattle.nb_graph.specs.Flows.{Empty};
 ghost use Rattle.nb_graph.specs.Calm.{IsSteady};
 ghost use Rattle.nb_graph.specs.Lives.{CalmFor, RunFor, Same};
 ghost use Rattle.nb_graph.specs.Ending.{LetsGo};
@@ -21,9 +23,13 @@ impl<N: Node> Inner<N> {
         now: u64,
         out: &mut O,
     )
-        requires steady { IsSteady N.rank_of self.old.book self.old.nodes.items (vec_capacity self.old.nodes) }
-        ensures lives { CalmFor N.stands now self.old.book self.new.book self.old.nodes.items self.new.nodes.items (Same (busy self.old.book)) (O.events out.old) (O.events out.new) }
-        ensures steady { IsSteady N.rank_of self.new.book self.new.nodes.items (vec_capacity self.new.nodes) }
+        requires steady { IsSteady N.rank_of self.old.book self.old.nodes.items
+            (vec_capacity self.old.nodes) }
+        ensures lives { CalmFor N.stands (bytes_of N.Load.first N.Load.second) now self.old.book
+            self.new.book self.old.nodes.items self.new.nodes.items (Same (busy self.old.book))
+            Empty (O.events out.old) (O.events out.new) }
+        ensures steady { IsSteady N.rank_of self.new.book self.new.nodes.items
+            (vec_capacity self.new.nodes) }
         ensures shut { (x k : ℕ) → after < x → open_count (port self.new.book x k) ≡ 0 }
     {
         match self.book.above(after) {
@@ -37,9 +43,13 @@ impl<N: Node> Inner<N> {
 
     /// Lets all holds go of an object.
     fn let_all_go<O: Outside>(&mut self, id: ObjId, out: &mut O)
-        requires graph { IsGraph N.rank_of self.old.book self.old.nodes.items (vec_capacity self.old.nodes) }
-        ensures graph { IsGraph N.rank_of self.new.book self.new.nodes.items (vec_capacity self.new.nodes) }
-        ensures runs { RunFor N.stands self.old.book self.new.book self.old.nodes.items self.new.nodes.items (O.events out.old) (O.events out.new) }
+        requires graph { IsGraph N.rank_of self.old.book self.old.nodes.items
+            (vec_capacity self.old.nodes) }
+        ensures graph { IsGraph N.rank_of self.new.book self.new.nodes.items
+            (vec_capacity self.new.nodes) }
+        ensures runs { RunFor N.stands (bytes_of N.Load.first N.Load.second) self.old.book
+            self.new.book self.old.nodes.items self.new.nodes.items (O.events out.old)
+            (O.events out.new) }
         ensures lets { LetsGo self.old.book self.new.book }
         ensures none { holds self.new.book id.0 ≡ 0 }
     {
@@ -50,9 +60,13 @@ impl<N: Node> Inner<N> {
 
     /// Lets all holds go of the objects above a serial.
     pub(crate) fn let_above_go<O: Outside>(&mut self, after: u64, out: &mut O)
-        requires graph { IsGraph N.rank_of self.old.book self.old.nodes.items (vec_capacity self.old.nodes) }
-        ensures graph { IsGraph N.rank_of self.new.book self.new.nodes.items (vec_capacity self.new.nodes) }
-        ensures runs { RunFor N.stands self.old.book self.new.book self.old.nodes.items self.new.nodes.items (O.events out.old) (O.events out.new) }
+        requires graph { IsGraph N.rank_of self.old.book self.old.nodes.items
+            (vec_capacity self.old.nodes) }
+        ensures graph { IsGraph N.rank_of self.new.book self.new.nodes.items
+            (vec_capacity self.new.nodes) }
+        ensures runs { RunFor N.stands (bytes_of N.Load.first N.Load.second) self.old.book
+            self.new.book self.old.nodes.items self.new.nodes.items (O.events out.old)
+            (O.events out.new) }
         ensures lets { LetsGo self.old.book self.new.book }
         ensures none { (x : ℕ) → after < x → holds self.new.book x ≡ 0 }
         ensures first { live self.new.book 0 ≡ false }

@@ -3,6 +3,7 @@ ghost use Rattle.std.specs.Bool.{OnTrue, OnFalse};
 ghost use Rattle.std.specs.Option.{option_copied};
 ghost use Rattle.nb_ledger.specs.declared.event.GraphEvent.TheVariants.{Made, Held, Plugged, Entered, Dropped, Closed};
 ghost use Rattle.nb_ledger.specs.declared.event.Way.TheVariants as way;
+ghost use Rattle.nb_graph.specs.Accounts.{KeepsBalance, PlugsBalance, bytes_of};
 ghost use Rattle.nb_graph.specs.declared.graph.Reach.TheVariants as reach;
 ghost use Rattle.nb_ledger.specs.declared.port.PortState.TheVariants as state;
 ghost use Rattle.nb_ledger.specs.Ledger.{live, holds, port, rank, open_count, IsLeastAbove};
@@ -52,7 +53,11 @@ impl<N: Node> Graph<N> {
     /// An empty graph for `cap` objects, 1 to 64.
     pub fn new(alloc: Global, cap: usize) -> Result<Graph<N>, NoMemory>
         requires { (1 ≤ cap) × (cap ≤ 64) }
-        ensures { IfOk result (λ g. g ≡ record { book = record { made = 0; room = cap; objects = [] }; nodes = [] }) }
+        ensures { IfOk result (λ g. g ≡ record {
+          book = record
+              { made = 0; room = cap; objects = [] };
+          nodes = [];
+        }) }
     {
         let book = Book::new(alloc, cap)?;
         let nodes = Vec::with_capacity(alloc, cap)?;
@@ -64,13 +69,17 @@ impl<N: Node> Graph<N> {
     /// Makes an object, with one hold. The node comes back where the graph is full.
     pub fn make<O: Outside>(&mut self, node: N, out: &mut O) -> Result<ObjId, N>
         requires { N.stands node [] }
-        ensures full { IsErr result ↔ ((length self.old.book.objects ≡ self.old.book.room) ⊎ (self.old.book.made ≡ 2 ^ 64 - 1)) }
-        ensures back { IfErr result (λ n. (n ≡ node) × IsSame self.old self.new (O.events out.old) (O.events out.new)) }
-        ensures runs { IfOk result (λ id. Runs self.old.book self.new.book (O.events out.old) (O.events out.new) (Made id (N.kind_of node) ∷ Held id ∷ [])) }
+        ensures full { IsErr result ↔ ((length self.old.book.objects ≡ self.old.book.room) ⊎
+            (self.old.book.made ≡ 2 ^ 64 - 1)) }
+        ensures back { IfErr result (λ n. (n ≡ node) × IsSame self.old self.new (O.events out.old)
+            (O.events out.new)) }
+        ensures runs { IfOk result (λ id. Runs self.old.book self.new.book (O.events out.old)
+            (O.events out.new) (Made id (N.kind_of node) ∷ Held id ∷ [])) }
         ensures made { IfOk result (IsMade self.old self.new node (N.rank_of node)) }
         ensures stands { IfOk result (λ id. StandsFor N.stands self.new id.0 []) }
         ensures keeps { IfOk result (λ id. (x : ℕ) (t : List (Entry N N.Load)) → x ≢ id.0
             → StandsFor N.stands self.old x t → StandsFor N.stands self.new x t) }
+        ensures bytes { IfOk result (λ id. KeepsBalance self.old.book self.new.book) }
         ensures ranks { KeepsRanks self.old.book self.new.book }
     {
         if self.inner.is_full() {
@@ -83,14 +92,20 @@ impl<N: Node> Graph<N> {
     pub fn plug<O: Outside>(&mut self, upper: Port, lower: Port, out: &mut O) -> Result<(), NotOpen>
         requires upper { (1 ≤ upper.slot) × (upper.slot ≤ 3) }
         requires lower { lower.slot ≡ 0 }
-        requires ranks { live self.old.book upper.obj.0 ≡ true → live self.old.book lower.obj.0 ≡ true
+        requires ranks { live self.old.book upper.obj.0 ≡ true → live self.old.book lower.obj.0 ≡
+            true
             → rank self.old.book lower.obj.0 < rank self.old.book upper.obj.0 }
-        ensures upper { (result ≡ Err (record { port = upper })) ↔ (port self.old.book upper.obj.0 upper.slot ≢ state.Open) }
+        ensures upper { (result ≡ Err (record { port = upper })) ↔
+            (port self.old.book upper.obj.0 upper.slot ≢ state.Open) }
         ensures lower { (result ≡ Err (record { port = lower }))
-            ↔ ((port self.old.book upper.obj.0 upper.slot ≡ state.Open) × (port self.old.book lower.obj.0 0 ≢ state.Open)) }
-        ensures refused { OnErr result (IsSame self.old self.new (O.events out.old) (O.events out.new)) }
-        ensures runs { OnOk result (Runs self.old.book self.new.book (O.events out.old) (O.events out.new) (Plugged upper lower ∷ [])) }
+            ↔ ((port self.old.book upper.obj.0 upper.slot ≡ state.Open) ×
+            (port self.old.book lower.obj.0 0 ≢ state.Open)) }
+        ensures refused { OnErr result (IsSame self.old self.new (O.events out.old)
+            (O.events out.new)) }
+        ensures runs { OnOk result (Runs self.old.book self.new.book (O.events out.old)
+            (O.events out.new) (Plugged upper lower ∷ [])) }
         ensures keeps { OnOk result (KeepsTraces N.stands self.old self.new) }
+        ensures bytes { OnOk result (PlugsBalance self.old.book self.new.book upper lower) }
         ensures nodes { self.new.nodes ≡ self.old.nodes }
         ensures ranks { KeepsRanks self.old.book self.new.book }
     {
@@ -106,12 +121,16 @@ impl<N: Node> Graph<N> {
 
     /// Adds a hold. False where the object is dead or has 4,294,967,295 holds.
     pub fn hold<O: Outside>(&mut self, id: ObjId, out: &mut O) -> bool
-        ensures may { IsTrue result ↔ ((live self.old.book id.0 ≡ true) × (holds self.old.book id.0 < 2 ^ 32 - 1)) }
-        ensures held { OnTrue result (Runs self.old.book self.new.book (O.events out.old) (O.events out.new) (Held id ∷ [])) }
+        ensures may { IsTrue result ↔ ((live self.old.book id.0 ≡ true) ×
+            (holds self.old.book id.0 < 2 ^ 32 - 1)) }
+        ensures held { OnTrue result (Runs self.old.book self.new.book (O.events out.old)
+            (O.events out.new) (Held id ∷ [])) }
         ensures keeps { OnTrue result (KeepsTraces N.stands self.old self.new) }
+        ensures bytes { OnTrue result (KeepsBalance self.old.book self.new.book) }
         ensures nodes { self.new.nodes ≡ self.old.nodes }
         ensures ranks { KeepsRanks self.old.book self.new.book }
-        ensures not { OnFalse result (IsSame self.old self.new (O.events out.old) (O.events out.new)) }
+        ensures not { OnFalse result (IsSame self.old self.new (O.events out.old)
+            (O.events out.new)) }
     {
         if self.inner.book.is_live(id) && self.inner.book.holds(id) < u32::MAX {
             self.inner.book.hold(id, out);
@@ -123,11 +142,15 @@ impl<N: Node> Graph<N> {
 
     /// Takes a hold away. False where the object is dead or has none.
     pub fn let_go<O: Outside>(&mut self, id: ObjId, out: &mut O) -> bool
-        ensures may { IsTrue result ↔ ((live self.old.book id.0 ≡ true) × (0 < holds self.old.book id.0)) }
-        ensures gone { OnTrue result (IsRun self.old.book self.new.book (O.events out.old) (O.events out.new)) }
+        ensures may { IsTrue result ↔ ((live self.old.book id.0 ≡ true) ×
+            (0 < holds self.old.book id.0)) }
+        ensures gone { OnTrue result (IsRun self.old.book self.new.book (O.events out.old)
+            (O.events out.new)) }
         ensures keeps { OnTrue result (KeepsTraces N.stands self.old self.new) }
+        ensures bytes { OnTrue result (KeepsBalance self.old.book self.new.book) }
         ensures ranks { KeepsRanks self.old.book self.new.book }
-        ensures not { OnFalse result (IsSame self.old self.new (O.events out.old) (O.events out.new)) }
+        ensures not { OnFalse result (IsSame self.old self.new (O.events out.old)
+            (O.events out.new)) }
     {
         if self.inner.book.is_live(id) && self.inner.book.holds(id) > 0 {
             self.inner.let_go(id, out);
@@ -163,12 +186,15 @@ impl<N: Node> Graph<N> {
 
     /// Closes a port, and its peer if it is linked. Nothing happens at a closed or dead one.
     pub fn close<O: Outside>(&mut self, at: Port, cause: &Cause, now: u64, out: &mut O)
-        ensures stands { Lived N.stands now self.old self.new (O.events out.old) (O.events out.new) }
+        ensures stands { Lived N.stands (bytes_of N.Load.first N.Load.second) now self.old self.new
+            (O.events out.old) (O.events out.new) }
         ensures runs { IsRun self.old.book self.new.book (O.events out.old) (O.events out.new) }
         ensures begins { 0 < open_count (port self.old.book at.obj.0 at.slot)
-            → Began self.old.book self.new.book (O.events out.old) (O.events out.new) (Closed at cause.now) }
+            → Began self.old.book self.new.book (O.events out.old) (O.events out.new)
+            (Closed at cause.now) }
         ensures shut { open_count (port self.new.book at.obj.0 at.slot) ≡ 0 }
-        ensures not { open_count (port self.old.book at.obj.0 at.slot) ≡ 0 → IsSame self.old self.new (O.events out.old) (O.events out.new) }
+        ensures not { open_count (port self.old.book at.obj.0 at.slot) ≡ 0 → IsSame self.old
+            self.new (O.events out.old) (O.events out.new) }
         ensures ranks { KeepsRanks self.old.book self.new.book }
     {
         self.inner.close_port(at, cause, now, out);
@@ -178,12 +204,18 @@ impl<N: Node> Graph<N> {
     pub fn down<O: Outside>(&mut self, to: Port, msg: &Msg<'_>, now: u64, out: &mut O) -> Reach
         requires { to.slot ≡ 0 }
         ensures dropped { (result ≡ reach.Dropped) ↔ (port self.old.book to.obj.0 0 ≢ state.Open) }
-        ensures stands { Lived N.stands now self.old self.new (O.events out.old) (O.events out.new) }
-        ensures hands { result ≡ reach.Entered → (k : Lived N.stands now self.old self.new (O.events out.old) (O.events out.new))
-            × Hands (Entered to way.Down) to.obj.0 (λ done fx. down (said msg.now) now done fx) k.deeds }
+        ensures stands { Lived N.stands (bytes_of N.Load.first N.Load.second) now self.old self.new
+            (O.events out.old) (O.events out.new) }
+        ensures hands { result ≡ reach.Entered → (k : Lived N.stands
+            (bytes_of N.Load.first N.Load.second) now self.old self.new (O.events out.old)
+            (O.events out.new))
+            × Hands (Entered to way.Down) to.obj.0 (λ done fx. down (said msg.now) now done fx)
+            k.deeds }
         ensures runs { IsRun self.old.book self.new.book (O.events out.old) (O.events out.new) }
-        ensures entered { result ≡ reach.Entered → Began self.old.book self.new.book (O.events out.old) (O.events out.new) (Entered to way.Down) }
-        ensures not { result ≡ reach.Dropped → Runs self.old.book self.new.book (O.events out.old) (O.events out.new) (Dropped to ∷ []) }
+        ensures entered { result ≡ reach.Entered → Began self.old.book self.new.book
+            (O.events out.old) (O.events out.new) (Entered to way.Down) }
+        ensures not { result ≡ reach.Dropped → Runs self.old.book self.new.book (O.events out.old)
+            (O.events out.new) (Dropped to ∷ []) }
         ensures ranks { KeepsRanks self.old.book self.new.book }
     {
         if self.inner.book.is_free(to) {
@@ -198,13 +230,20 @@ impl<N: Node> Graph<N> {
     /// A message enters an object from below, by a slot 1 to 3, if that is open and free; else it is dropped.
     pub fn up<O: Outside>(&mut self, to: Port, msg: &Msg<'_>, now: u64, out: &mut O) -> Reach
         requires { (1 ≤ to.slot) × (to.slot ≤ 3) }
-        ensures dropped { (result ≡ reach.Dropped) ↔ (port self.old.book to.obj.0 to.slot ≢ state.Open) }
-        ensures stands { Lived N.stands now self.old self.new (O.events out.old) (O.events out.new) }
-        ensures hands { result ≡ reach.Entered → (k : Lived N.stands now self.old self.new (O.events out.old) (O.events out.new))
-            × Hands (Entered to way.Up) to.obj.0 (λ done fx. up to.slot (said msg.now) now done fx) k.deeds }
+        ensures dropped { (result ≡ reach.Dropped) ↔ (port self.old.book to.obj.0 to.slot ≢
+            state.Open) }
+        ensures stands { Lived N.stands (bytes_of N.Load.first N.Load.second) now self.old self.new
+            (O.events out.old) (O.events out.new) }
+        ensures hands { result ≡ reach.Entered → (k : Lived N.stands
+            (bytes_of N.Load.first N.Load.second) now self.old self.new (O.events out.old)
+            (O.events out.new))
+            × Hands (Entered to way.Up) to.obj.0 (λ done fx. up to.slot (said msg.now) now done fx)
+            k.deeds }
         ensures runs { IsRun self.old.book self.new.book (O.events out.old) (O.events out.new) }
-        ensures entered { result ≡ reach.Entered → Began self.old.book self.new.book (O.events out.old) (O.events out.new) (Entered to way.Up) }
-        ensures not { result ≡ reach.Dropped → Runs self.old.book self.new.book (O.events out.old) (O.events out.new) (Dropped to ∷ []) }
+        ensures entered { result ≡ reach.Entered → Began self.old.book self.new.book
+            (O.events out.old) (O.events out.new) (Entered to way.Up) }
+        ensures not { result ≡ reach.Dropped → Runs self.old.book self.new.book (O.events out.old)
+            (O.events out.new) (Dropped to ∷ []) }
     {
         let _length = (msg.first.len(), msg.second.len());
         if self.inner.book.is_free(to) {
@@ -219,13 +258,18 @@ impl<N: Node> Graph<N> {
     /// Time has come to `now`, in milliseconds. Dropped where the object is dead, and then nothing happens.
     pub fn time<O: Outside>(&mut self, id: ObjId, now: u64, out: &mut O) -> Reach
         ensures dropped { (result ≡ reach.Dropped) ↔ (live self.old.book id.0 ≡ false) }
-        ensures stands { Lived N.stands now self.old self.new (O.events out.old) (O.events out.new) }
-        ensures hands { result ≡ reach.Entered → (k : Lived N.stands now self.old self.new (O.events out.old) (O.events out.new))
+        ensures stands { Lived N.stands (bytes_of N.Load.first N.Load.second) now self.old self.new
+            (O.events out.old) (O.events out.new) }
+        ensures hands { result ≡ reach.Entered → (k : Lived N.stands
+            (bytes_of N.Load.first N.Load.second) now self.old self.new (O.events out.old)
+            (O.events out.new))
             × Hands (Entered (port_at id.0 4) way.Time) id.0 (λ done fx. time now done fx) k.deeds }
         ensures runs { IsRun self.old.book self.new.book (O.events out.old) (O.events out.new) }
         ensures entered { result ≡ reach.Entered
-            → Began self.old.book self.new.book (O.events out.old) (O.events out.new) (Entered (port_at id.0 4) way.Time) }
-        ensures not { result ≡ reach.Dropped → IsSame self.old self.new (O.events out.old) (O.events out.new) }
+            → Began self.old.book self.new.book (O.events out.old) (O.events out.new)
+            (Entered (port_at id.0 4) way.Time) }
+        ensures not { result ≡ reach.Dropped → IsSame self.old self.new (O.events out.old)
+            (O.events out.new) }
     {
         if self.inner.book.is_live(id) {
             self.inner.enter_time(id, now, out);
@@ -238,7 +282,8 @@ impl<N: Node> Graph<N> {
     /// What the node of a live object has to hand out.
     pub fn harvest(&mut self, id: ObjId) -> Option<N::Load>
         ensures dead { live self.old.book id.0 ≡ false → IsNone result }
-        ensures gives { live self.old.book id.0 ≡ true → Harvests N.harvests self.old self.new id result }
+        ensures gives { live self.old.book id.0 ≡ true → Harvests N.harvests self.old self.new id
+            result }
         ensures keeps { KeepsTraces N.stands self.old self.new }
         ensures book { self.new.book ≡ self.old.book }
     {
@@ -251,7 +296,8 @@ impl<N: Node> Graph<N> {
 
     /// Closes all ports by rising serial and slot, and lets all holds go. Nothing lives after it.
     pub fn shutdown<O: Outside>(&mut self, cause: &Cause, now: u64, out: &mut O)
-        ensures stands { Lived N.stands now self.old self.new (O.events out.old) (O.events out.new) }
+        ensures stands { Lived N.stands (bytes_of N.Load.first N.Load.second) now self.old self.new
+            (O.events out.old) (O.events out.new) }
         ensures runs { IsRun self.old.book self.new.book (O.events out.old) (O.events out.new) }
         ensures none { length self.new.book.objects ≡ 0 }
     {

@@ -1,4 +1,6 @@
 ghost use Rattle.std.specs.Prelude.{◌≡◌, ◌≢◌, ℕ, ◌+◌, ◌<◌, ◌^◌, true, false, [], ◌∷◌, ◌++◌, length};
+ghost use Rattle.nb_graph.specs.Accounts.{KeepsBalance, bytes_of};
+ghost use Rattle.nb_graph.specs.Moves.{Mild};
 ghost use Rattle.nb_graph.specs.Trace.{Entry};
 ghost use Rattle.nb_graph.specs.Lived.{StandsFor};
 ghost use Rattle.std.specs.Vec.{vec_capacity};
@@ -26,9 +28,13 @@ impl<N: Node> Inner<N> {
     /// Frees a live object where its count is 0.
     pub(crate) fn settle<O: Outside>(&mut self, id: ObjId, out: &mut O)
         requires lives { live self.old.book id.0 ≡ true }
-        requires manned { IsManned N.rank_of self.old.book self.old.nodes.items (vec_capacity self.old.nodes) }
-        ensures settles { SettlesFor N.stands self.old.book self.new.book self.old.nodes.items self.new.nodes.items (O.events out.old) (O.events out.new) id }
-        ensures manned { IsManned N.rank_of self.new.book self.new.nodes.items (vec_capacity self.new.nodes) }
+        requires manned { IsManned N.rank_of self.old.book self.old.nodes.items
+            (vec_capacity self.old.nodes) }
+        ensures settles { SettlesFor N.stands (bytes_of N.Load.first N.Load.second) self.old.book
+            self.new.book self.old.nodes.items self.new.nodes.items (O.events out.old)
+            (O.events out.new) id }
+        ensures manned { IsManned N.rank_of self.new.book self.new.nodes.items
+            (vec_capacity self.new.nodes) }
     {
         if self.book.is_unused(id) {
             self.free(id, out);
@@ -37,12 +43,16 @@ impl<N: Node> Inner<N> {
 
     fn free<O: Outside>(&mut self, id: ObjId, out: &mut O)
         requires lives { live self.old.book id.0 ≡ true }
-        requires manned { IsManned N.rank_of self.old.book self.old.nodes.items (vec_capacity self.old.nodes) }
+        requires manned { IsManned N.rank_of self.old.book self.old.nodes.items
+            (vec_capacity self.old.nodes) }
         ensures told { Tells (O.events out.old) (O.events out.new) (Freed id ∷ []) }
-        ensures step { (st : List Frame) → Step (state_of self.old.book (MustFree id.0 ∷ st)) (Freed id) (state_of self.new.book st) }
+        ensures step { (st : List Frame) → Step (state_of self.old.book (MustFree id.0 ∷ st))
+            (Freed id) (state_of self.new.book st) }
         ensures removes { Removes self.old.book self.new.book id.0 }
-        ensures loses { Loses (nodes_at self.old.book self.old.nodes.items) (nodes_at self.new.book self.new.nodes.items) }
-        ensures manned { IsManned N.rank_of self.new.book self.new.nodes.items (vec_capacity self.new.nodes) }
+        ensures loses { Loses (nodes_at self.old.book self.old.nodes.items)
+            (nodes_at self.new.book self.new.nodes.items) }
+        ensures manned { IsManned N.rank_of self.new.book self.new.nodes.items
+            (vec_capacity self.new.nodes) }
     {
         let place = self.book.place(id);
         self.book.free(id, out);
@@ -53,17 +63,21 @@ impl<N: Node> Inner<N> {
     pub(crate) fn add<O: Outside>(&mut self, node: N, out: &mut O) -> ObjId
         requires room { length self.old.book.objects < self.old.book.room }
         requires serial { self.old.book.made + 1 < 2 ^ 64 }
-        requires manned { IsManned N.rank_of self.old.book self.old.nodes.items (vec_capacity self.old.nodes) }
-        ensures told { Tells (O.events out.old) (O.events out.new) (Made result (N.kind_of node) ∷ []) }
+        requires manned { IsManned N.rank_of self.old.book self.old.nodes.items
+            (vec_capacity self.old.nodes) }
+        ensures told { Tells (O.events out.old) (O.events out.new)
+            (Made result (N.kind_of node) ∷ []) }
         ensures serial { result.0 ≡ self.old.book.made + 1 }
         ensures fresh { live self.old.book result.0 ≡ false }
         ensures len { length self.new.book.objects ≡ length self.old.book.objects + 1 }
         ensures small { N.rank_of node < 256 }
-        ensures step { (st : List Frame) → IsIdle st → Step (state_of self.old.book st) (Made result (N.kind_of node)) (state_of self.new.book st) }
+        ensures step { (st : List Frame) → IsIdle st → Step (state_of self.old.book st)
+            (Made result (N.kind_of node)) (state_of self.new.book st) }
         ensures adds { Adds self.old.book self.new.book result.0 (N.rank_of node) }
         ensures place { place self.new.book result.0 ≡ length self.old.nodes.items }
         ensures nodes { self.new.nodes.items ≡ self.old.nodes.items ++ node ∷ [] }
-        ensures manned { IsManned N.rank_of self.new.book self.new.nodes.items (vec_capacity self.new.nodes) }
+        ensures manned { IsManned N.rank_of self.new.book self.new.nodes.items
+            (vec_capacity self.new.nodes) }
     {
         let id = self.book.make(node.rank(), node.kind(), out);
         push_last(&mut self.nodes, node);
@@ -83,15 +97,25 @@ impl<N: Node> Inner<N> {
         requires room { length self.old.book.objects < self.old.book.room }
         requires serial { self.old.book.made + 1 < 2 ^ 64 }
         requires stands { N.stands node [] }
-        requires graph { IsGraph N.rank_of self.old.book self.old.nodes.items (vec_capacity self.old.nodes) }
-        ensures runs { Runs self.old.book self.new.book (O.events out.old) (O.events out.new) (Made result (N.kind_of node) ∷ Held result ∷ []) }
-        ensures made { IsMade (record { book = self.old.book; nodes = self.old.nodes.items }) (record { book = self.new.book; nodes = self.new.nodes.items }) node (N.rank_of node) result }
+        requires graph { IsGraph N.rank_of self.old.book self.old.nodes.items
+            (vec_capacity self.old.nodes) }
+        ensures runs { Runs self.old.book self.new.book (O.events out.old) (O.events out.new)
+            (Made result (N.kind_of node) ∷ Held result ∷ []) }
+        ensures bytes { KeepsBalance self.old.book self.new.book }
+        ensures made { IsMade (record { book = self.old.book; nodes = self.old.nodes.items })
+            (record { book = self.new.book; nodes = self.new.nodes.items }) node (N.rank_of node)
+            result }
         ensures ranks { KeepsRanks self.old.book self.new.book }
-        ensures stands { StandsFor N.stands (record { book = self.new.book; nodes = self.new.nodes.items }) result.0 [] }
+        ensures stands { StandsFor N.stands (record {
+          book = self.new.book;
+          nodes =
+              self.new.nodes.items;
+        }) result.0 [] }
         ensures keeps { (x : ℕ) (t : List (Entry N N.Load)) → x ≢ result.0
             → StandsFor N.stands (record { book = self.old.book; nodes = self.old.nodes.items }) x t
             → StandsFor N.stands (record { book = self.new.book; nodes = self.new.nodes.items }) x t }
-        ensures graph { IsGraph N.rank_of self.new.book self.new.nodes.items (vec_capacity self.new.nodes) }
+        ensures graph { IsGraph N.rank_of self.new.book self.new.nodes.items
+            (vec_capacity self.new.nodes) }
     {
         let id = self.add(node, out);
         self.book.hold(id, out);
@@ -102,13 +126,19 @@ impl<N: Node> Inner<N> {
     pub(crate) fn let_go<O: Outside>(&mut self, id: ObjId, out: &mut O)
         requires lives { live self.old.book id.0 ≡ true }
         requires held { 0 < holds self.old.book id.0 }
-        requires graph { IsGraph N.rank_of self.old.book self.old.nodes.items (vec_capacity self.old.nodes) }
-        ensures runs { RunFor N.stands self.old.book self.new.book self.old.nodes.items self.new.nodes.items (O.events out.old) (O.events out.new) }
+        requires graph { IsGraph N.rank_of self.old.book self.old.nodes.items
+            (vec_capacity self.old.nodes) }
+        ensures runs { RunFor N.stands (bytes_of N.Load.first N.Load.second) self.old.book
+            self.new.book self.old.nodes.items self.new.nodes.items (O.events out.old)
+            (O.events out.new) }
+        ensures mild { Mild self.old.book self.new.book }
         ensures ranks { KeepsRanks self.old.book self.new.book }
         ensures lets { LetsGo self.old.book self.new.book }
-        ensures loses { Loses (nodes_at self.old.book self.old.nodes.items) (nodes_at self.new.book self.new.nodes.items) }
+        ensures loses { Loses (nodes_at self.old.book self.old.nodes.items)
+            (nodes_at self.new.book self.new.nodes.items) }
         ensures falls { holds self.new.book id.0 < holds self.old.book id.0 }
-        ensures graph { IsGraph N.rank_of self.new.book self.new.nodes.items (vec_capacity self.new.nodes) }
+        ensures graph { IsGraph N.rank_of self.new.book self.new.nodes.items
+            (vec_capacity self.new.nodes) }
     {
         self.book.let_go(id, out);
         self.settle(id, out);

@@ -1,10 +1,13 @@
 // Messages that go up, and time: objects may be made.
-ghost use Rattle.std.specs.Prelude.{◌≡◌, ◌+◌, ◌<◌, ◌≤◌, ◌^◌, ℕ, true, false, length, IfSome, Some, None, [], ◌∷◌};
+ghost use Rattle.std.specs.Prelude.{◌≡◌, ◌+◌, ◌<◌, ◌≤◌, ◌^◌, ℕ, true, false, length, IfSome, Some, None, [], ◌∷◌, drop};
 ghost use Rattle.std.specs.Vec.{vec_capacity};
 ghost use Rattle.nb_ledger.specs.declared.event.GraphEvent.TheVariants.{Entered};
 ghost use Rattle.nb_ledger.specs.declared.event.Way.TheVariants as way;
 ghost use Rattle.nb_ledger.specs.GraphRun.{IsOpen};
 ghost use Rattle.nb_ledger.specs.Ledger.{live, busy, rank, port, open_count};
+ghost use Rattle.nb_graph.specs.Accounts.{bytes_of, carries, emit_bytes, few_bytes, fx_bytes};
+ghost use Rattle.nb_graph.specs.Flows.{Delivering, Doing, Keeping, Leaves, Rising, asked_behind, asked_sent, nothing};
+ghost use Rattle.nb_graph.specs.Moves.{HasAsked, always, none_due};
 ghost use Rattle.nb_graph.specs.Calm.{IsSteady, Starts};
 ghost use Rattle.nb_graph.specs.Whole.{Harvests, IsManned, port_at};
 ghost use Rattle.nb_graph.specs.Trace.{carried, in_list, left, lent, loads, said, up, time};
@@ -27,11 +30,18 @@ impl<N: Node> Inner<N> {
         requires open { IsOpen (port self.old.book at.obj.0 at.slot) }
         requires small { length msg.now.first.now + length msg.now.second.now < 2 ^ 65 }
         requires under { IsUnder (rank self.old.book at.obj.0) self.old.book }
-        requires steady { IsSteady N.rank_of self.old.book self.old.nodes.items (vec_capacity self.old.nodes) }
-        ensures lives { (k : LivelyFor N.stands now self.old.book self.new.book self.old.nodes.items self.new.nodes.items (Same (busy self.old.book)) (O.events out.old) (O.events out.new))
-            × Hands (Entered at way.Up) at.obj.0 (λ done fx. up at.slot (said msg.now) now done fx) k.lives.deeds }
-        ensures starts { Starts self.old.book self.new.book (O.events out.old) (O.events out.new) (Entered at way.Up) }
-        ensures steady { IsSteady N.rank_of self.new.book self.new.nodes.items (vec_capacity self.new.nodes) }
+        requires steady { IsSteady N.rank_of self.old.book self.old.nodes.items
+            (vec_capacity self.old.nodes) }
+        ensures lives { (k : LivelyFor N.stands (bytes_of N.Load.first N.Load.second) now
+            self.old.book self.new.book self.old.nodes.items self.new.nodes.items
+            (Same (busy self.old.book)) none_due (Rising self.old.book at (said msg.now).bytes)
+            (O.events out.old) (O.events out.new))
+            × Hands (Entered at way.Up) at.obj.0 (λ done fx. up at.slot (said msg.now) now done fx)
+            k.lives.deeds }
+        ensures starts { Starts self.old.book self.new.book (O.events out.old) (O.events out.new)
+            (Entered at way.Up) }
+        ensures steady { IsSteady N.rank_of self.new.book self.new.nodes.items
+            (vec_capacity self.new.nodes) }
     {
         let was = self.book.enter(at, Way::Up, out);
         self.deliver(at, msg, now, out);
@@ -41,14 +51,22 @@ impl<N: Node> Inner<N> {
     /// A message, or the rest of one, is given to the node of an entry from below.
     #[cycle(lively)]
     fn deliver<O: Outside>(&mut self, at: Port, msg: &Msg<'_>, now: u64, out: &mut O)
+        requires slot { 1 ≤ at.slot }
+        requires open { IsOpen (port self.old.book at.obj.0 at.slot) }
         requires runs { busy self.old.book at.obj.0 ≡ true }
         requires small { length msg.now.first.now + length msg.now.second.now < 2 ^ 65 }
         requires below { IsBelow (rank self.old.book at.obj.0) self.old.book }
-        requires steady { IsSteady N.rank_of self.old.book self.old.nodes.items (vec_capacity self.old.nodes) }
-        ensures lives { (k : LivelyInFor N.stands now at.obj.0 self.old.book self.new.book self.old.nodes.items self.new.nodes.items (AllBack (busy self.old.book) at.obj.0 [])
-            (λ st. Holds at way.Up (Some (said msg.now)) ∷ st) (λ st. Holds at way.Up None ∷ st) (O.events out.old) (O.events out.new))
+        requires steady { IsSteady N.rank_of self.old.book self.old.nodes.items
+            (vec_capacity self.old.nodes) }
+        ensures lives { (k : LivelyInFor N.stands (bytes_of N.Load.first N.Load.second) now at.obj.0
+            self.old.book self.new.book self.old.nodes.items self.new.nodes.items
+            (AllBack (busy self.old.book) at.obj.0 []) always none_due
+            (Delivering self.old.book at (said msg.now).bytes nothing)
+            (λ st. Holds at way.Up (Some (said msg.now)) ∷ st) (λ st. Holds at way.Up None ∷ st)
+            (O.events out.old) (O.events out.new))
             × Calls at.obj.0 (λ done fx. up at.slot (said msg.now) now done fx) k.lives.deeds }
-        ensures steady { IsSteady N.rank_of self.new.book self.new.nodes.items (vec_capacity self.new.nodes) }
+        ensures steady { IsSteady N.rank_of self.new.book self.new.nodes.items
+            (vec_capacity self.new.nodes) }
     {
         let asked = self.ask_up(at, msg, now);
         self.after_up(at, msg, asked, now, out);
@@ -63,14 +81,25 @@ impl<N: Node> Inner<N> {
         now: u64,
         out: &mut O,
     )
+        requires slot { 1 ≤ at.slot }
         requires runs { busy self.old.book at.obj.0 ≡ true }
-        requires asks { MayAskUp N.rank_of N.stands (rank self.old.book at.obj.0) at.slot (length msg.now.first.now + length msg.now.second.now) asked }
+        requires asks { MayAskUp N.rank_of N.stands (rank self.old.book at.obj.0) at.slot
+            (length msg.now.first.now + length msg.now.second.now) asked }
         requires small { length msg.now.first.now + length msg.now.second.now < 2 ^ 65 }
         requires below { IsBelow (rank self.old.book at.obj.0) self.old.book }
-        requires steady { IsSteady N.rank_of self.old.book self.old.nodes.items (vec_capacity self.old.nodes) }
-        ensures lives { LivelyInFor N.stands now at.obj.0 self.old.book self.new.book self.old.nodes.items self.new.nodes.items (AllBack (busy self.old.book) at.obj.0 (asked_loads asked))
-            (λ st. Holds at way.Up (asked_rest (said msg.now) asked) ∷ st) (λ st. Holds at way.Up None ∷ st) (O.events out.old) (O.events out.new) }
-        ensures steady { IsSteady N.rank_of self.new.book self.new.nodes.items (vec_capacity self.new.nodes) }
+        requires steady { IsSteady N.rank_of self.old.book self.old.nodes.items
+            (vec_capacity self.old.nodes) }
+        ensures lives { LivelyInFor N.stands (bytes_of N.Load.first N.Load.second) now at.obj.0
+            self.old.book self.new.book self.old.nodes.items self.new.nodes.items
+            (AllBack (busy self.old.book) at.obj.0 (asked_loads asked))
+            (HasAsked at.obj.0 (asked_sent (bytes_of N.Load.first N.Load.second)
+            (said msg.now).bytes asked)) none_due (Delivering self.old.book at
+            (asked_behind (said msg.now).bytes asked) (asked_sent
+            (bytes_of N.Load.first N.Load.second) (said msg.now).bytes asked))
+            (λ st. Holds at way.Up (asked_rest (said msg.now) asked) ∷ st)
+            (λ st. Holds at way.Up None ∷ st) (O.events out.old) (O.events out.new) }
+        ensures steady { IsSteady N.rank_of self.new.book self.new.nodes.items
+            (vec_capacity self.new.nodes) }
     {
         match asked {
             Asked::Done(fx) => {
@@ -85,15 +114,23 @@ impl<N: Node> Inner<N> {
     /// What the node left of a message is given to it again, if its port is still open.
     #[cycle(lively)]
     fn go_on<O: Outside>(&mut self, at: Port, msg: &Msg<'_>, took: usize, now: u64, out: &mut O)
+        requires slot { 1 ≤ at.slot }
         requires runs { busy self.old.book at.obj.0 ≡ true }
         requires took { took ≤ length msg.now.first.now + length msg.now.second.now }
-        requires some { took ≡ 0 → 0 < length msg.now.first.now + length msg.now.second.now → open_count (port self.old.book at.obj.0 at.slot) ≡ 0 }
+        requires some { took ≡ 0 → 0 < length msg.now.first.now + length msg.now.second.now →
+            open_count (port self.old.book at.obj.0 at.slot) ≡ 0 }
         requires small { length msg.now.first.now + length msg.now.second.now < 2 ^ 65 }
         requires below { IsBelow (rank self.old.book at.obj.0) self.old.book }
-        requires steady { IsSteady N.rank_of self.old.book self.old.nodes.items (vec_capacity self.old.nodes) }
-        ensures lives { LivelyInFor N.stands now at.obj.0 self.old.book self.new.book self.old.nodes.items self.new.nodes.items (AllBack (busy self.old.book) at.obj.0 [])
-            (λ st. Holds at way.Up (left took (said msg.now)) ∷ st) (λ st. Holds at way.Up None ∷ st) (O.events out.old) (O.events out.new) }
-        ensures steady { IsSteady N.rank_of self.new.book self.new.nodes.items (vec_capacity self.new.nodes) }
+        requires steady { IsSteady N.rank_of self.old.book self.old.nodes.items
+            (vec_capacity self.old.nodes) }
+        ensures lives { LivelyInFor N.stands (bytes_of N.Load.first N.Load.second) now at.obj.0
+            self.old.book self.new.book self.old.nodes.items self.new.nodes.items
+            (AllBack (busy self.old.book) at.obj.0 []) always none_due
+            (Delivering self.old.book at (drop took (said msg.now).bytes) nothing)
+            (λ st. Holds at way.Up (left took (said msg.now)) ∷ st)
+            (λ st. Holds at way.Up None ∷ st) (O.events out.old) (O.events out.new) }
+        ensures steady { IsSteady N.rank_of self.new.book self.new.nodes.items
+            (vec_capacity self.new.nodes) }
     {
         if took == msg.first.len() + msg.second.len() {
             return;
@@ -116,12 +153,21 @@ impl<N: Node> Inner<N> {
         out: &mut O,
     )
         requires runs { busy self.old.book id.0 ≡ true }
-        requires asks { MayAsk N.rank_of N.stands (rank self.old.book id.0) (length msg.now.first.now + length msg.now.second.now) fx }
+        requires asks { MayAsk N.rank_of N.stands (rank self.old.book id.0)
+            (length msg.now.first.now + length msg.now.second.now) fx }
         requires below { IsBelow (rank self.old.book id.0) self.old.book }
-        requires steady { IsSteady N.rank_of self.old.book self.old.nodes.items (vec_capacity self.old.nodes) }
-        ensures lives { LivelyInFor N.stands now id.0 self.old.book self.new.book self.old.nodes.items self.new.nodes.items (Back (busy self.old.book) id.0 (lent fx)) here here (O.events out.old) (O.events out.new) }
-        ensures shut { (k : ℕ) → ClosesSlot k fx.closes.items → open_count (port self.new.book id.0 k) ≡ 0 }
-        ensures steady { IsSteady N.rank_of self.new.book self.new.nodes.items (vec_capacity self.new.nodes) }
+        requires steady { IsSteady N.rank_of self.old.book self.old.nodes.items
+            (vec_capacity self.old.nodes) }
+        ensures lives { LivelyInFor N.stands (bytes_of N.Load.first N.Load.second) now id.0
+            self.old.book self.new.book self.old.nodes.items self.new.nodes.items
+            (Back (busy self.old.book) id.0 (lent fx)) (HasAsked id.0
+            (λ k. fx_bytes (bytes_of N.Load.first N.Load.second) k (said msg.now).bytes fx))
+            none_due (Doing self.old.book id.0 (λ k. fx_bytes (bytes_of N.Load.first N.Load.second)
+            k (said msg.now).bytes fx)) here here (O.events out.old) (O.events out.new) }
+        ensures shut { (k : ℕ) → ClosesSlot k fx.closes.items → open_count
+            (port self.new.book id.0 k) ≡ 0 }
+        ensures steady { IsSteady N.rank_of self.new.book self.new.nodes.items
+            (vec_capacity self.new.nodes) }
     {
         let Fx {
             makes,
@@ -148,9 +194,15 @@ impl<N: Node> Inner<N> {
         requires runs { busy self.old.book id.0 ≡ true }
         requires ups { AreUps (length msg.now.first.now + length msg.now.second.now) ups }
         requires below { IsBelow (rank self.old.book id.0) self.old.book }
-        requires steady { IsSteady N.rank_of self.old.book self.old.nodes.items (vec_capacity self.old.nodes) }
-        ensures lives { LivelyFor N.stands now self.old.book self.new.book self.old.nodes.items self.new.nodes.items (Back (busy self.old.book) id.0 (loads ups)) (O.events out.old) (O.events out.new) }
-        ensures steady { IsSteady N.rank_of self.new.book self.new.nodes.items (vec_capacity self.new.nodes) }
+        requires steady { IsSteady N.rank_of self.old.book self.old.nodes.items
+            (vec_capacity self.old.nodes) }
+        ensures lives { LivelyFor N.stands (bytes_of N.Load.first N.Load.second) now self.old.book
+            self.new.book self.old.nodes.items self.new.nodes.items
+            (Back (busy self.old.book) id.0 (loads ups)) none_due
+            (Leaves self.old.book (port_at id.0 0) (few_bytes (bytes_of N.Load.first N.Load.second)
+            0 (said msg.now).bytes ups)) (O.events out.old) (O.events out.new) }
+        ensures steady { IsSteady N.rank_of self.new.book self.new.nodes.items
+            (vec_capacity self.new.nodes) }
     {
         let Few { first, second } = ups;
         self.run_up(id, msg, first, now, out);
@@ -169,9 +221,15 @@ impl<N: Node> Inner<N> {
         requires runs { busy self.old.book id.0 ≡ true }
         requires up { IfSome emit (IsUp (length msg.now.first.now + length msg.now.second.now)) }
         requires below { IsBelow (rank self.old.book id.0) self.old.book }
-        requires steady { IsSteady N.rank_of self.old.book self.old.nodes.items (vec_capacity self.old.nodes) }
-        ensures lives { LivelyFor N.stands now self.old.book self.new.book self.old.nodes.items self.new.nodes.items (Back (busy self.old.book) id.0 (carried emit)) (O.events out.old) (O.events out.new) }
-        ensures steady { IsSteady N.rank_of self.new.book self.new.nodes.items (vec_capacity self.new.nodes) }
+        requires steady { IsSteady N.rank_of self.old.book self.old.nodes.items
+            (vec_capacity self.old.nodes) }
+        ensures lives { LivelyFor N.stands (bytes_of N.Load.first N.Load.second) now self.old.book
+            self.new.book self.old.nodes.items self.new.nodes.items
+            (Back (busy self.old.book) id.0 (carried emit)) none_due
+            (Leaves self.old.book (port_at id.0 0) (emit_bytes (bytes_of N.Load.first N.Load.second)
+            0 (said msg.now).bytes emit)) (O.events out.old) (O.events out.new) }
+        ensures steady { IsSteady N.rank_of self.new.book self.new.nodes.items
+            (vec_capacity self.new.nodes) }
     {
         match emit {
             Some(emit) => self.send_up(id, msg, emit, now, out),
@@ -191,9 +249,15 @@ impl<N: Node> Inner<N> {
         requires runs { busy self.old.book id.0 ≡ true }
         requires up { IsUp (length msg.now.first.now + length msg.now.second.now) emit }
         requires below { IsBelow (rank self.old.book id.0) self.old.book }
-        requires steady { IsSteady N.rank_of self.old.book self.old.nodes.items (vec_capacity self.old.nodes) }
-        ensures lives { LivelyFor N.stands now self.old.book self.new.book self.old.nodes.items self.new.nodes.items (Back (busy self.old.book) id.0 (in_list emit.load)) (O.events out.old) (O.events out.new) }
-        ensures steady { IsSteady N.rank_of self.new.book self.new.nodes.items (vec_capacity self.new.nodes) }
+        requires steady { IsSteady N.rank_of self.old.book self.old.nodes.items
+            (vec_capacity self.old.nodes) }
+        ensures lives { LivelyFor N.stands (bytes_of N.Load.first N.Load.second) now self.old.book
+            self.new.book self.old.nodes.items self.new.nodes.items
+            (Back (busy self.old.book) id.0 (in_list emit.load)) none_due
+            (Leaves self.old.book (port_at id.0 0) (carries (bytes_of N.Load.first N.Load.second)
+            (said msg.now).bytes emit.from emit.to emit.load)) (O.events out.old) (O.events out.new) }
+        ensures steady { IsSteady N.rank_of self.new.book self.new.nodes.items
+            (vec_capacity self.new.nodes) }
     {
         let Emit {
             slot,
@@ -238,10 +302,16 @@ impl<N: Node> Inner<N> {
     #[cycle(lively)]
     fn pass_up<O: Outside>(&mut self, at: Port, msg: &Msg<'_>, now: u64, out: &mut O)
         requires slot { at.slot ≡ 0 }
+        requires runs { busy self.old.book at.obj.0 ≡ true }
         requires below { IsBelow (rank self.old.book at.obj.0) self.old.book }
-        requires steady { IsSteady N.rank_of self.old.book self.old.nodes.items (vec_capacity self.old.nodes) }
-        ensures lives { LivelyFor N.stands now self.old.book self.new.book self.old.nodes.items self.new.nodes.items (Same (busy self.old.book)) (O.events out.old) (O.events out.new) }
-        ensures steady { IsSteady N.rank_of self.new.book self.new.nodes.items (vec_capacity self.new.nodes) }
+        requires steady { IsSteady N.rank_of self.old.book self.old.nodes.items
+            (vec_capacity self.old.nodes) }
+        ensures lives { LivelyFor N.stands (bytes_of N.Load.first N.Load.second) now self.old.book
+            self.new.book self.old.nodes.items self.new.nodes.items (Same (busy self.old.book))
+            none_due (Leaves self.old.book at (said msg.now).bytes) (O.events out.old)
+            (O.events out.new) }
+        ensures steady { IsSteady N.rank_of self.new.book self.new.nodes.items
+            (vec_capacity self.new.nodes) }
     {
         let _length = (msg.first.len(), msg.second.len());
         match self.book.port(at) {
@@ -256,11 +326,18 @@ impl<N: Node> Inner<N> {
     pub(crate) fn enter_time<O: Outside>(&mut self, id: ObjId, now: u64, out: &mut O)
         requires lives { live self.old.book id.0 ≡ true }
         requires idle { (x : ℕ) → busy self.old.book x ≡ false }
-        requires steady { IsSteady N.rank_of self.old.book self.old.nodes.items (vec_capacity self.old.nodes) }
-        ensures lives { (k : LivelyFor N.stands now self.old.book self.new.book self.old.nodes.items self.new.nodes.items (Same (busy self.old.book)) (O.events out.old) (O.events out.new))
-            × Hands (Entered (port_at id.0 4) way.Time) id.0 (λ done fx. time now done fx) k.lives.deeds }
-        ensures starts { Starts self.old.book self.new.book (O.events out.old) (O.events out.new) (Entered (port_at id.0 4) way.Time) }
-        ensures steady { IsSteady N.rank_of self.new.book self.new.nodes.items (vec_capacity self.new.nodes) }
+        requires steady { IsSteady N.rank_of self.old.book self.old.nodes.items
+            (vec_capacity self.old.nodes) }
+        ensures lives { (k : LivelyFor N.stands (bytes_of N.Load.first N.Load.second) now
+            self.old.book self.new.book self.old.nodes.items self.new.nodes.items
+            (Same (busy self.old.book)) none_due (Keeping self.old.book) (O.events out.old)
+            (O.events out.new))
+            × Hands (Entered (port_at id.0 4) way.Time) id.0 (λ done fx. time now done fx)
+            k.lives.deeds }
+        ensures starts { Starts self.old.book self.new.book (O.events out.old) (O.events out.new)
+            (Entered (port_at id.0 4) way.Time) }
+        ensures steady { IsSteady N.rank_of self.new.book self.new.nodes.items
+            (vec_capacity self.new.nodes) }
     {
         let at = Port { obj: id, slot: 4 };
         let was = self.book.enter(at, Way::Time, out);
@@ -273,9 +350,16 @@ impl<N: Node> Inner<N> {
         requires runs { busy self.old.book id.0 ≡ true }
         requires asks { MayAskTime N.rank_of N.stands (rank self.old.book id.0) asked }
         requires below { IsBelow (rank self.old.book id.0) self.old.book }
-        requires steady { IsSteady N.rank_of self.old.book self.old.nodes.items (vec_capacity self.old.nodes) }
-        ensures lives { LivelyInFor N.stands now id.0 self.old.book self.new.book self.old.nodes.items self.new.nodes.items (Back (busy self.old.book) id.0 (asked_loads asked)) here here (O.events out.old) (O.events out.new) }
-        ensures steady { IsSteady N.rank_of self.new.book self.new.nodes.items (vec_capacity self.new.nodes) }
+        requires steady { IsSteady N.rank_of self.old.book self.old.nodes.items
+            (vec_capacity self.old.nodes) }
+        ensures lives { LivelyInFor N.stands (bytes_of N.Load.first N.Load.second) now id.0
+            self.old.book self.new.book self.old.nodes.items self.new.nodes.items
+            (Back (busy self.old.book) id.0 (asked_loads asked))
+            (HasAsked id.0 (asked_sent (bytes_of N.Load.first N.Load.second) [] asked)) none_due
+            (Doing self.old.book id.0 (asked_sent (bytes_of N.Load.first N.Load.second) [] asked))
+            here here (O.events out.old) (O.events out.new) }
+        ensures steady { IsSteady N.rank_of self.new.book self.new.nodes.items
+            (vec_capacity self.new.nodes) }
     {
         match asked {
             Asked::Done(fx) => self.effects(id, &NOTHING, fx, now, out),
@@ -286,13 +370,23 @@ impl<N: Node> Inner<N> {
     /// What the node of a live object has to hand out.
     pub(crate) fn harvest(&mut self, id: ObjId) -> Option<N::Load>
         requires lives { live self.old.book id.0 ≡ true }
-        requires manned { IsManned N.rank_of self.old.book self.old.nodes.items (vec_capacity self.old.nodes) }
-        ensures gives { Harvests N.harvests (record { book = self.old.book; nodes = self.old.nodes.items })
+        requires manned { IsManned N.rank_of self.old.book self.old.nodes.items
+            (vec_capacity self.old.nodes) }
+        ensures gives { Harvests N.harvests (record {
+          book = self.old.book;
+          nodes =
+              self.old.nodes.items;
+        })
             (record { book = self.new.book; nodes = self.new.nodes.items }) id result }
-        ensures keeps { KeepsTraces N.stands (record { book = self.old.book; nodes = self.old.nodes.items })
+        ensures keeps { KeepsTraces N.stands (record {
+          book = self.old.book;
+          nodes =
+              self.old.nodes.items;
+        })
             (record { book = self.new.book; nodes = self.new.nodes.items }) }
         ensures book { self.new.book ≡ self.old.book }
-        ensures manned { IsManned N.rank_of self.new.book self.new.nodes.items (vec_capacity self.new.nodes) }
+        ensures manned { IsManned N.rank_of self.new.book self.new.nodes.items
+            (vec_capacity self.new.nodes) }
     {
         let place = self.book.place(id);
         self.nodes[place].harvest()

@@ -4,6 +4,9 @@ ghost use Rattle.std.specs.Bool.{OnFalse};
 ghost use Rattle.std.specs.Vec.{vec_capacity};
 ghost use Rattle.nb_ledger.specs.declared.port.PortState.TheVariants as state;
 ghost use Rattle.nb_ledger.specs.Ledger.{live, busy, rank, port};
+ghost use Rattle.nb_graph.specs.Accounts.{bytes_of};
+ghost use Rattle.nb_graph.specs.Flows.{Making};
+ghost use Rattle.nb_graph.specs.Moves.{always, asked_due};
 ghost use Rattle.nb_graph.specs.Calm.{IsSteady};
 ghost use Rattle.nb_graph.specs.Lives.{LivelyFor, LivelyInFor, Same, here};
 ghost use Rattle.nb_graph.specs.Effects.{IsMake};
@@ -23,7 +26,8 @@ const FULL: Cause = Cause {
 impl<N: Node> Inner<N> {
     /// Whether nothing can be made: as many objects live as may, or no serial is left.
     pub(crate) fn is_full(&self) -> bool
-        ensures full { IsTrue result ↔ ((length self.now.book.objects ≡ self.now.book.room) ⊎ (self.now.book.made ≡ 2 ^ 64 - 1)) }
+        ensures full { IsTrue result ↔ ((length self.now.book.objects ≡ self.now.book.room) ⊎
+            (self.now.book.made ≡ 2 ^ 64 - 1)) }
         ensures serial { OnFalse result (self.now.book.made + 1 < 2 ^ 64) }
     {
         self.book.len() == self.book.room() || self.book.made() == u64::MAX
@@ -39,9 +43,14 @@ impl<N: Node> Inner<N> {
     )
         requires runs { busy self.old.book id.0 ≡ true }
         requires make { IfSome make (IsMake N.rank_of N.stands (rank self.old.book id.0)) }
-        requires steady { IsSteady N.rank_of self.old.book self.old.nodes.items (vec_capacity self.old.nodes) }
-        ensures lives { LivelyInFor N.stands now id.0 self.old.book self.new.book self.old.nodes.items self.new.nodes.items (Same (busy self.old.book)) here here (O.events out.old) (O.events out.new) }
-        ensures steady { IsSteady N.rank_of self.new.book self.new.nodes.items (vec_capacity self.new.nodes) }
+        requires steady { IsSteady N.rank_of self.old.book self.old.nodes.items
+            (vec_capacity self.old.nodes) }
+        ensures lives { LivelyInFor N.stands (bytes_of N.Load.first N.Load.second) now id.0
+            self.old.book self.new.book self.old.nodes.items self.new.nodes.items
+            (Same (busy self.old.book)) always (asked_due id.0) (Making self.old.book id.0) here
+            here (O.events out.old) (O.events out.new) }
+        ensures steady { IsSteady N.rank_of self.new.book self.new.nodes.items
+            (vec_capacity self.new.nodes) }
     {
         match make {
             Some(Make { node, slot }) => self.make_at(Port { obj: id, slot }, node, now, out),
@@ -53,9 +62,14 @@ impl<N: Node> Inner<N> {
         requires slot { (1 ≤ at.slot) × (at.slot ≤ 3) }
         requires stands { N.stands node [] }
         requires lower { N.rank_of node < rank self.old.book at.obj.0 }
-        requires steady { IsSteady N.rank_of self.old.book self.old.nodes.items (vec_capacity self.old.nodes) }
-        ensures lives { LivelyInFor N.stands now at.obj.0 self.old.book self.new.book self.old.nodes.items self.new.nodes.items (Same (busy self.old.book)) here here (O.events out.old) (O.events out.new) }
-        ensures steady { IsSteady N.rank_of self.new.book self.new.nodes.items (vec_capacity self.new.nodes) }
+        requires steady { IsSteady N.rank_of self.old.book self.old.nodes.items
+            (vec_capacity self.old.nodes) }
+        ensures lives { LivelyInFor N.stands (bytes_of N.Load.first N.Load.second) now at.obj.0
+            self.old.book self.new.book self.old.nodes.items self.new.nodes.items
+            (Same (busy self.old.book)) always (asked_due at.obj.0) (Making self.old.book at.obj.0)
+            here here (O.events out.old) (O.events out.new) }
+        ensures steady { IsSteady N.rank_of self.new.book self.new.nodes.items
+            (vec_capacity self.new.nodes) }
     {
         if !self.book.is_free(at) {
             out.event(&GraphEvent::Dropped(at).spelled());
@@ -75,9 +89,14 @@ impl<N: Node> Inner<N> {
         requires slot { 1 ≤ at.slot }
         requires stands { N.stands node [] }
         requires lower { N.rank_of node < rank self.old.book at.obj.0 }
-        requires steady { IsSteady N.rank_of self.old.book self.old.nodes.items (vec_capacity self.old.nodes) }
-        ensures lives { (now : ℕ) → LivelyFor N.stands now self.old.book self.new.book self.old.nodes.items self.new.nodes.items (Same (busy self.old.book)) (O.events out.old) (O.events out.new) }
-        ensures steady { IsSteady N.rank_of self.new.book self.new.nodes.items (vec_capacity self.new.nodes) }
+        requires steady { IsSteady N.rank_of self.old.book self.old.nodes.items
+            (vec_capacity self.old.nodes) }
+        ensures lives { (now : ℕ) → LivelyFor N.stands (bytes_of N.Load.first N.Load.second) now
+            self.old.book self.new.book self.old.nodes.items self.new.nodes.items
+            (Same (busy self.old.book)) (asked_due at.obj.0) (Making self.old.book at.obj.0)
+            (O.events out.old) (O.events out.new) }
+        ensures steady { IsSteady N.rank_of self.new.book self.new.nodes.items
+            (vec_capacity self.new.nodes) }
     {
         let id = self.add(node, out);
         self.book.plug(at, Port { obj: id, slot: 0 }, out);

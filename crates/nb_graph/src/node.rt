@@ -55,9 +55,11 @@ pub trait Node: Sized + Drop {
         requires { IsNothing fx.old }
         ensures rank { rank_of self.new ≡ rank_of self.old }
         ensures kind { kind_of self.new ≡ kind_of self.old }
-        ensures asks { MayAsk rank_of stands (rank_of self.old) (length msg.now.first.now + length msg.now.second.now) fx.new }
+        ensures asks { MayAsk rank_of stands (rank_of self.old)
+            (length msg.now.first.now + length msg.now.second.now) fx.new }
         ensures took { fx.new.took ≤ length msg.now.first.now + length msg.now.second.now }
-        ensures takes { OnOk result (TakesSome slot (length msg.now.first.now + length msg.now.second.now) fx.new) }
+        ensures takes { OnOk result (TakesSome slot (length msg.now.first.now + length
+            msg.now.second.now) fx.new) }
         ensures stands { (t : List (Entry Self Self.Load)) → stands self.old t → IsSettled t
             → stands self.new (t ++ up slot (said msg.now) now (is_ok result) fx.new ∷ []) };
 

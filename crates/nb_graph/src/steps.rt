@@ -1,5 +1,5 @@
 // The parts of an entry that nest nothing: its begin, the call of the node, and its end.
-ghost use Rattle.std.specs.Prelude.{◌≡◌, ◌≢◌, ◌+◌, ◌<◌, ◌≤◌, ℕ, true, List, [], ◌∷◌, length, ◌-◌, Some, None};
+ghost use Rattle.std.specs.Prelude.{◌≡◌, ◌≢◌, ◌+◌, ◌<◌, ◌≤◌, ℕ, true, List, [], ◌∷◌, length, ◌-◌, Some, None, ◌++◌};
 ghost use Rattle.std.specs.Vec.{vec_capacity};
 ghost use Rattle.nb_ledger.specs.declared.port.PortState.TheVariants.{Linked, Leaving, Closed as Shut};
 ghost use Rattle.nb_ledger.specs.declared.event.Way.{Way as TheWay};
@@ -8,6 +8,9 @@ ghost use Rattle.nb_ledger.specs.declared.event.GraphEvent.TheVariants.{Closed, 
 ghost use Rattle.nb_ledger.specs.GraphRun.{Frame, Running, MustUnplug, IsIdle, Run, port_but};
 ghost use Rattle.nb_ledger.specs.Flat.{Tells};
 ghost use Rattle.nb_ledger.specs.Ledger.{live, busy, rank, port, state_of};
+ghost use Rattle.nb_graph.specs.Accounts.{part, bytes_of, fx_bytes};
+ghost use Rattle.nb_graph.specs.Flows.{Asking, Still, asked_sent, asked_taken, asked_whole, nothing};
+ghost use Rattle.nb_graph.specs.Moves.{Asks, Calms};
 ghost use Rattle.nb_graph.specs.Calm.{IsSteady, HalfCloses};
 ghost use Rattle.nb_graph.specs.Whole.{IsManned, IsLinked, CountedButTwo, port_at};
 ghost use Rattle.nb_graph.specs.Trace.{carried, down, in_list, lent, loads, said, said_behind, silence, time, up};
@@ -37,17 +40,23 @@ impl<N: Node> Inner<N> {
         out: &mut O,
     ) -> bool
         requires linked { port self.old.book at.obj.0 at.slot ≡ Linked peer }
-        requires steady { IsSteady N.rank_of self.old.book self.old.nodes.items (vec_capacity self.old.nodes) }
-        ensures told { Tells (O.events out.old) (O.events out.new) (Closed at cause.now ∷ Closed peer cause.now ∷ Entered peer Close ∷ []) }
+        requires steady { IsSteady N.rank_of self.old.book self.old.nodes.items
+            (vec_capacity self.old.nodes) }
+        ensures told { Tells (O.events out.old) (O.events out.new)
+            (Closed at cause.now ∷ Closed peer cause.now ∷ Entered peer Close ∷ []) }
         ensures run { (st : List Frame) → IsIdle st → Run (state_of self.old.book st)
             (Closed at cause.now ∷ Closed peer cause.now ∷ Entered peer Close ∷ [])
             (state_of self.new.book (Running peer Close ∷ MustUnplug at peer ∷ st)) }
-        ensures lives { (now : ℕ) → Lives N.stands now (nodes_at self.old.book self.old.nodes.items) (nodes_at self.new.book self.new.nodes.items) Stays here
-            (λ st. MustHear peer cause.now ∷ st) (Closed at cause.now ∷ Closed peer cause.now ∷ Entered peer Close ∷ []) }
+        ensures lives { (now : ℕ) → Lives N.stands now (nodes_at self.old.book self.old.nodes.items)
+            (nodes_at self.new.book self.new.nodes.items) Stays here
+            (λ st. MustHear peer cause.now ∷ st) (Calms (bytes_of N.Load.first N.Load.second)
+            self.old.book self.new.book Still) (Closed at cause.now ∷ Closed peer cause.now ∷
+            Entered peer Close ∷ []) }
         ensures was { result ≡ busy self.old.book peer.obj.0 }
         ensures runs { busy self.new.book peer.obj.0 ≡ true }
         ensures half { HalfCloses self.old.book self.new.book at peer }
-        ensures steady { IsSteady N.rank_of self.new.book self.new.nodes.items (vec_capacity self.new.nodes) }
+        ensures steady { IsSteady N.rank_of self.new.book self.new.nodes.items
+            (vec_capacity self.new.nodes) }
     {
         self.book.close_first(at, peer, cause, out);
         self.book.close_peer(peer, at, cause, out);
@@ -59,11 +68,16 @@ impl<N: Node> Inner<N> {
         requires first { port self.old.book at.obj.0 at.slot ≡ Leaving peer }
         requires other { port self.old.book peer.obj.0 peer.slot ≡ Leaving at }
         requires apart { at.obj.0 ≢ peer.obj.0 }
-        requires steady { IsSteady N.rank_of self.old.book self.old.nodes.items (vec_capacity self.old.nodes) }
-        ensures ends { EndsFor N.stands self.old.book self.new.book self.old.nodes.items self.new.nodes.items (O.events out.old) (O.events out.new) peer.obj.0 was
-            (λ st. Running peer Close ∷ MustUnplug at peer ∷ st) (port_but peer Shut (port_but at Shut (port self.old.book)))
+        requires steady { IsSteady N.rank_of self.old.book self.old.nodes.items
+            (vec_capacity self.old.nodes) }
+        ensures ends { EndsFor N.stands (bytes_of N.Load.first N.Load.second) self.old.book
+            self.new.book self.old.nodes.items self.new.nodes.items (O.events out.old)
+            (O.events out.new) peer.obj.0 was
+            (λ st. Running peer Close ∷ MustUnplug at peer ∷ st)
+            (port_but peer Shut (port_but at Shut (port self.old.book)))
             (λ st. Holds peer Close None ∷ st) }
-        ensures steady { IsSteady N.rank_of self.new.book self.new.nodes.items (vec_capacity self.new.nodes) }
+        ensures steady { IsSteady N.rank_of self.new.book self.new.nodes.items
+            (vec_capacity self.new.nodes) }
     {
         self.book.leave(peer, was, out);
         self.book.unplug(at, peer, out);
@@ -73,10 +87,14 @@ impl<N: Node> Inner<N> {
     /// Ends an entry, and frees its object if that was the last of its count.
     pub(crate) fn leave<O: Outside>(&mut self, at: Port, was: bool, out: &mut O)
         requires lives { live self.old.book at.obj.0 ≡ true }
-        requires steady { IsSteady N.rank_of self.old.book self.old.nodes.items (vec_capacity self.old.nodes) }
-        ensures ends { (by : TheWay) → EndsFor N.stands self.old.book self.new.book self.old.nodes.items self.new.nodes.items (O.events out.old) (O.events out.new) at.obj.0 was
+        requires steady { IsSteady N.rank_of self.old.book self.old.nodes.items
+            (vec_capacity self.old.nodes) }
+        ensures ends { (by : TheWay) → EndsFor N.stands (bytes_of N.Load.first N.Load.second)
+            self.old.book self.new.book self.old.nodes.items self.new.nodes.items (O.events out.old)
+            (O.events out.new) at.obj.0 was
             (λ st. Running at by ∷ st) (port self.old.book) (λ st. Holds at by None ∷ st) }
-        ensures steady { IsSteady N.rank_of self.new.book self.new.nodes.items (vec_capacity self.new.nodes) }
+        ensures steady { IsSteady N.rank_of self.new.book self.new.nodes.items
+            (vec_capacity self.new.nodes) }
     {
         self.book.leave(at, was, out);
         self.settle(at.obj, out);
@@ -86,12 +104,16 @@ impl<N: Node> Inner<N> {
         requires first { live self.old.book first.0 ≡ true }
         requires other { live self.old.book other.0 ≡ true }
         requires apart { first.0 ≢ other.0 }
-        requires manned { IsManned N.rank_of self.old.book self.old.nodes.items (vec_capacity self.old.nodes) }
+        requires manned { IsManned N.rank_of self.old.book self.old.nodes.items
+            (vec_capacity self.old.nodes) }
         requires links { IsLinked (port self.old.book) (rank self.old.book) }
         requires counted { CountedButTwo first.0 other.0 self.old.book }
         requires small { (x : ℕ) → rank self.old.book x < 256 }
-        ensures settles { SettlesTwoFor N.stands self.old.book self.new.book self.old.nodes.items self.new.nodes.items (O.events out.old) (O.events out.new) first other }
-        ensures steady { IsSteady N.rank_of self.new.book self.new.nodes.items (vec_capacity self.new.nodes) }
+        ensures settles { SettlesTwoFor N.stands (bytes_of N.Load.first N.Load.second) self.old.book
+            self.new.book self.old.nodes.items self.new.nodes.items (O.events out.old)
+            (O.events out.new) first other }
+        ensures steady { IsSteady N.rank_of self.new.book self.new.nodes.items
+            (vec_capacity self.new.nodes) }
     {
         if first.0 < other.0 {
             self.settle_pair(first, other, out);
@@ -104,12 +126,16 @@ impl<N: Node> Inner<N> {
         requires low { live self.old.book low.0 ≡ true }
         requires high { live self.old.book high.0 ≡ true }
         requires order { low.0 < high.0 }
-        requires manned { IsManned N.rank_of self.old.book self.old.nodes.items (vec_capacity self.old.nodes) }
+        requires manned { IsManned N.rank_of self.old.book self.old.nodes.items
+            (vec_capacity self.old.nodes) }
         requires links { IsLinked (port self.old.book) (rank self.old.book) }
         requires counted { CountedButTwo low.0 high.0 self.old.book }
         requires small { (x : ℕ) → rank self.old.book x < 256 }
-        ensures settles { SettlesTwoFor N.stands self.old.book self.new.book self.old.nodes.items self.new.nodes.items (O.events out.old) (O.events out.new) low high }
-        ensures steady { IsSteady N.rank_of self.new.book self.new.nodes.items (vec_capacity self.new.nodes) }
+        ensures settles { SettlesTwoFor N.stands (bytes_of N.Load.first N.Load.second) self.old.book
+            self.new.book self.old.nodes.items self.new.nodes.items (O.events out.old)
+            (O.events out.new) low high }
+        ensures steady { IsSteady N.rank_of self.new.book self.new.nodes.items
+            (vec_capacity self.new.nodes) }
     {
         self.settle(low, out);
         self.settle(high, out);
@@ -118,12 +144,18 @@ impl<N: Node> Inner<N> {
     /// Calls the node of a port that was closed from its other end.
     pub(crate) fn ask_closed(&mut self, at: Port, cause: &Cause, now: u64) -> Fx<N, N::Load>
         requires lives { live self.old.book at.obj.0 ≡ true }
-        requires manned { IsManned N.rank_of self.old.book self.old.nodes.items (vec_capacity self.old.nodes) }
+        requires manned { IsManned N.rank_of self.old.book self.old.nodes.items
+            (vec_capacity self.old.nodes) }
         ensures asks { MayAskBelow 0 result }
         ensures book { self.new.book ≡ self.old.book }
-        ensures lives { Lives N.stands now (nodes_at self.old.book self.old.nodes.items) (nodes_at self.new.book self.new.nodes.items) (Lends at.obj.0 (lent result))
-            (λ st. MustHear at cause.now ∷ st) (λ st. Holds at Close None ∷ st) [] }
-        ensures manned { IsManned N.rank_of self.new.book self.new.nodes.items (vec_capacity self.new.nodes) }
+        ensures lives { Lives N.stands now (nodes_at self.old.book self.old.nodes.items)
+            (nodes_at self.new.book self.new.nodes.items) (Lends at.obj.0 (lent result))
+            (λ st. MustHear at cause.now ∷ st) (λ st. Holds at Close None ∷ st)
+            (Calms (bytes_of N.Load.first N.Load.second) self.old.book self.old.book
+            (Asking self.old.book at.obj.0 (λ k. fx_bytes (bytes_of N.Load.first N.Load.second) k []
+            result) nothing)) [] }
+        ensures manned { IsManned N.rank_of self.new.book self.new.nodes.items
+            (vec_capacity self.new.nodes) }
     {
         let mut fx = Fx::none();
         let place = self.book.place(at.obj);
@@ -134,13 +166,20 @@ impl<N: Node> Inner<N> {
     /// Calls the node that a message enters from above.
     pub(crate) fn ask_down(&mut self, id: ObjId, msg: &Msg<'_>, now: u64) -> Asked<N, N::Load>
         requires lives { live self.old.book id.0 ≡ true }
-        requires manned { IsManned N.rank_of self.old.book self.old.nodes.items (vec_capacity self.old.nodes) }
+        requires manned { IsManned N.rank_of self.old.book self.old.nodes.items
+            (vec_capacity self.old.nodes) }
         ensures asks { MayAskDown (length msg.now.first.now + length msg.now.second.now) result }
         ensures book { self.new.book ≡ self.old.book }
-        ensures lives { (k : Lives N.stands now (nodes_at self.old.book self.old.nodes.items) (nodes_at self.new.book self.new.nodes.items) (Lends id.0 (asked_loads result))
-            (λ st. Holds (port_at id.0 0) Down (Some (said msg.now)) ∷ st) (λ st. Holds (port_at id.0 0) Down None ∷ st) [])
+        ensures lives { (k : Lives N.stands now (nodes_at self.old.book self.old.nodes.items)
+            (nodes_at self.new.book self.new.nodes.items) (Lends id.0 (asked_loads result))
+            (λ st. Holds (port_at id.0 0) Down (Some (said msg.now)) ∷ st)
+            (λ st. Holds (port_at id.0 0) Down None ∷ st)
+            (Calms (bytes_of N.Load.first N.Load.second) self.old.book self.old.book
+            (Asking self.old.book id.0 (asked_sent (bytes_of N.Load.first N.Load.second)
+            (said msg.now).bytes result) (asked_whole (said msg.now).bytes result))) [])
             × Calls id.0 (λ done fx. down (said msg.now) now done fx) k.deeds }
-        ensures manned { IsManned N.rank_of self.new.book self.new.nodes.items (vec_capacity self.new.nodes) }
+        ensures manned { IsManned N.rank_of self.new.book self.new.nodes.items
+            (vec_capacity self.new.nodes) }
     {
         let mut fx = Fx::none();
         let place = self.book.place(id);
@@ -153,13 +192,23 @@ impl<N: Node> Inner<N> {
     /// Calls the node that a message, or the rest of one, enters from below.
     pub(crate) fn ask_up(&mut self, at: Port, msg: &Msg<'_>, now: u64) -> Asked<N, N::Load>
         requires lives { live self.old.book at.obj.0 ≡ true }
-        requires manned { IsManned N.rank_of self.old.book self.old.nodes.items (vec_capacity self.old.nodes) }
-        ensures asks { MayAskUp N.rank_of N.stands (rank self.old.book at.obj.0) at.slot (length msg.now.first.now + length msg.now.second.now) result }
+        requires manned { IsManned N.rank_of self.old.book self.old.nodes.items
+            (vec_capacity self.old.nodes) }
+        ensures asks { MayAskUp N.rank_of N.stands (rank self.old.book at.obj.0) at.slot
+            (length msg.now.first.now + length msg.now.second.now) result }
         ensures book { self.new.book ≡ self.old.book }
-        ensures lives { (k : Lives N.stands now (nodes_at self.old.book self.old.nodes.items) (nodes_at self.new.book self.new.nodes.items) (LendsFirst at.obj.0 (asked_loads result))
-            (λ st. Holds at Up (Some (said msg.now)) ∷ st) (λ st. Holds at Up (asked_rest (said msg.now) result) ∷ st) [])
+        ensures lives { (k : Lives N.stands now (nodes_at self.old.book self.old.nodes.items)
+            (nodes_at self.new.book self.new.nodes.items) (LendsFirst at.obj.0 (asked_loads result))
+            (λ st. Holds at Up (Some (said msg.now)) ∷ st)
+            (λ st. Holds at Up (asked_rest (said msg.now) result) ∷ st)
+            (λ ds. Calms (bytes_of N.Load.first N.Load.second) self.old.book self.old.book
+            (Asking self.old.book at.obj.0 (asked_sent (bytes_of N.Load.first N.Load.second)
+            (said msg.now).bytes result) (asked_taken at.slot (said msg.now).bytes result)) ds ×
+            Asks (bytes_of N.Load.first N.Load.second) at.obj.0
+            (asked_sent (bytes_of N.Load.first N.Load.second) (said msg.now).bytes result) ds) [])
             × Calls at.obj.0 (λ done fx. up at.slot (said msg.now) now done fx) k.deeds }
-        ensures manned { IsManned N.rank_of self.new.book self.new.nodes.items (vec_capacity self.new.nodes) }
+        ensures manned { IsManned N.rank_of self.new.book self.new.nodes.items
+            (vec_capacity self.new.nodes) }
     {
         let mut fx = Fx::none();
         let place = self.book.place(at.obj);
@@ -172,13 +221,21 @@ impl<N: Node> Inner<N> {
     /// Calls the node that time enters.
     pub(crate) fn ask_time(&mut self, id: ObjId, now: u64) -> Asked<N, N::Load>
         requires lives { live self.old.book id.0 ≡ true }
-        requires manned { IsManned N.rank_of self.old.book self.old.nodes.items (vec_capacity self.old.nodes) }
+        requires manned { IsManned N.rank_of self.old.book self.old.nodes.items
+            (vec_capacity self.old.nodes) }
         ensures asks { MayAskTime N.rank_of N.stands (rank self.old.book id.0) result }
         ensures book { self.new.book ≡ self.old.book }
-        ensures lives { (k : Lives N.stands now (nodes_at self.old.book self.old.nodes.items) (nodes_at self.new.book self.new.nodes.items) (LendsFirst id.0 (asked_loads result))
-            (λ st. Holds (port_at id.0 4) Time (Some silence) ∷ st) (λ st. Holds (port_at id.0 4) Time None ∷ st) [])
+        ensures lives { (k : Lives N.stands now (nodes_at self.old.book self.old.nodes.items)
+            (nodes_at self.new.book self.new.nodes.items) (LendsFirst id.0 (asked_loads result))
+            (λ st. Holds (port_at id.0 4) Time (Some silence) ∷ st)
+            (λ st. Holds (port_at id.0 4) Time None ∷ st)
+            (λ ds. Calms (bytes_of N.Load.first N.Load.second) self.old.book self.old.book
+            (Asking self.old.book id.0 (asked_sent (bytes_of N.Load.first N.Load.second) [] result)
+            nothing) ds × Asks (bytes_of N.Load.first N.Load.second) id.0
+            (asked_sent (bytes_of N.Load.first N.Load.second) [] result) ds) [])
             × Calls id.0 (λ done fx. time now done fx) k.deeds }
-        ensures manned { IsManned N.rank_of self.new.book self.new.nodes.items (vec_capacity self.new.nodes) }
+        ensures manned { IsManned N.rank_of self.new.book self.new.nodes.items
+            (vec_capacity self.new.nodes) }
     {
         let mut fx = Fx::none();
         let place = self.book.place(id);
@@ -191,10 +248,15 @@ impl<N: Node> Inner<N> {
     /// Gives a lent load back to its node.
     pub(crate) fn give_back(&mut self, id: ObjId, load: N::Load)
         requires lives { live self.old.book id.0 ≡ true }
-        requires manned { IsManned N.rank_of self.old.book self.old.nodes.items (vec_capacity self.old.nodes) }
+        requires manned { IsManned N.rank_of self.old.book self.old.nodes.items
+            (vec_capacity self.old.nodes) }
         ensures book { self.new.book ≡ self.old.book }
-        ensures lives { (now : ℕ) → Lives N.stands now (nodes_at self.old.book self.old.nodes.items) (nodes_at self.new.book self.new.nodes.items) (Back (busy self.old.book) id.0 (load ∷ [])) here here [] }
-        ensures manned { IsManned N.rank_of self.new.book self.new.nodes.items (vec_capacity self.new.nodes) }
+        ensures lives { (now : ℕ) → Lives N.stands now (nodes_at self.old.book self.old.nodes.items)
+            (nodes_at self.new.book self.new.nodes.items)
+            (Back (busy self.old.book) id.0 (load ∷ [])) here here
+            (Calms (bytes_of N.Load.first N.Load.second) self.old.book self.old.book Still) [] }
+        ensures manned { IsManned N.rank_of self.new.book self.new.nodes.items
+            (vec_capacity self.new.nodes) }
     {
         let place = self.book.place(id);
         self.nodes[place].regain(load);
@@ -203,10 +265,15 @@ impl<N: Node> Inner<N> {
     /// Gives the loads of effects that aren't run back to their node.
     pub(crate) fn take_back(&mut self, id: ObjId, fx: Fx<N, N::Load>)
         requires lives { live self.old.book id.0 ≡ true }
-        requires manned { IsManned N.rank_of self.old.book self.old.nodes.items (vec_capacity self.old.nodes) }
+        requires manned { IsManned N.rank_of self.old.book self.old.nodes.items
+            (vec_capacity self.old.nodes) }
         ensures book { self.new.book ≡ self.old.book }
-        ensures lives { (now : ℕ) → Lives N.stands now (nodes_at self.old.book self.old.nodes.items) (nodes_at self.new.book self.new.nodes.items) (Back (busy self.old.book) id.0 (lent fx)) here here [] }
-        ensures manned { IsManned N.rank_of self.new.book self.new.nodes.items (vec_capacity self.new.nodes) }
+        ensures lives { (now : ℕ) → Lives N.stands now (nodes_at self.old.book self.old.nodes.items)
+            (nodes_at self.new.book self.new.nodes.items) (Back (busy self.old.book) id.0 (lent fx))
+            here here (Calms (bytes_of N.Load.first N.Load.second) self.old.book self.old.book
+            Still) [] }
+        ensures manned { IsManned N.rank_of self.new.book self.new.nodes.items
+            (vec_capacity self.new.nodes) }
     {
         let Fx {
             makes: _,
@@ -221,10 +288,15 @@ impl<N: Node> Inner<N> {
 
     fn take_few(&mut self, id: ObjId, few: Few<Emit<N::Load>>)
         requires lives { live self.old.book id.0 ≡ true }
-        requires manned { IsManned N.rank_of self.old.book self.old.nodes.items (vec_capacity self.old.nodes) }
+        requires manned { IsManned N.rank_of self.old.book self.old.nodes.items
+            (vec_capacity self.old.nodes) }
         ensures book { self.new.book ≡ self.old.book }
-        ensures lives { (now : ℕ) → Lives N.stands now (nodes_at self.old.book self.old.nodes.items) (nodes_at self.new.book self.new.nodes.items) (Back (busy self.old.book) id.0 (loads few)) here here [] }
-        ensures manned { IsManned N.rank_of self.new.book self.new.nodes.items (vec_capacity self.new.nodes) }
+        ensures lives { (now : ℕ) → Lives N.stands now (nodes_at self.old.book self.old.nodes.items)
+            (nodes_at self.new.book self.new.nodes.items)
+            (Back (busy self.old.book) id.0 (loads few)) here here
+            (Calms (bytes_of N.Load.first N.Load.second) self.old.book self.old.book Still) [] }
+        ensures manned { IsManned N.rank_of self.new.book self.new.nodes.items
+            (vec_capacity self.new.nodes) }
     {
         let Few { first, second } = few;
         self.take_one(id, first);
@@ -233,10 +305,15 @@ impl<N: Node> Inner<N> {
 
     fn take_one(&mut self, id: ObjId, emit: Option<Emit<N::Load>>)
         requires lives { live self.old.book id.0 ≡ true }
-        requires manned { IsManned N.rank_of self.old.book self.old.nodes.items (vec_capacity self.old.nodes) }
+        requires manned { IsManned N.rank_of self.old.book self.old.nodes.items
+            (vec_capacity self.old.nodes) }
         ensures book { self.new.book ≡ self.old.book }
-        ensures lives { (now : ℕ) → Lives N.stands now (nodes_at self.old.book self.old.nodes.items) (nodes_at self.new.book self.new.nodes.items) (Back (busy self.old.book) id.0 (carried emit)) here here [] }
-        ensures manned { IsManned N.rank_of self.new.book self.new.nodes.items (vec_capacity self.new.nodes) }
+        ensures lives { (now : ℕ) → Lives N.stands now (nodes_at self.old.book self.old.nodes.items)
+            (nodes_at self.new.book self.new.nodes.items)
+            (Back (busy self.old.book) id.0 (carried emit)) here here
+            (Calms (bytes_of N.Load.first N.Load.second) self.old.book self.old.book Still) [] }
+        ensures manned { IsManned N.rank_of self.new.book self.new.nodes.items
+            (vec_capacity self.new.nodes) }
     {
         match emit {
             Some(emit) => self.take_emit(id, emit),
@@ -246,10 +323,15 @@ impl<N: Node> Inner<N> {
 
     fn take_emit(&mut self, id: ObjId, emit: Emit<N::Load>)
         requires lives { live self.old.book id.0 ≡ true }
-        requires manned { IsManned N.rank_of self.old.book self.old.nodes.items (vec_capacity self.old.nodes) }
+        requires manned { IsManned N.rank_of self.old.book self.old.nodes.items
+            (vec_capacity self.old.nodes) }
         ensures book { self.new.book ≡ self.old.book }
-        ensures lives { (now : ℕ) → Lives N.stands now (nodes_at self.old.book self.old.nodes.items) (nodes_at self.new.book self.new.nodes.items) (Back (busy self.old.book) id.0 (in_list emit.load)) here here [] }
-        ensures manned { IsManned N.rank_of self.new.book self.new.nodes.items (vec_capacity self.new.nodes) }
+        ensures lives { (now : ℕ) → Lives N.stands now (nodes_at self.old.book self.old.nodes.items)
+            (nodes_at self.new.book self.new.nodes.items)
+            (Back (busy self.old.book) id.0 (in_list emit.load)) here here
+            (Calms (bytes_of N.Load.first N.Load.second) self.old.book self.old.book Still) [] }
+        ensures manned { IsManned N.rank_of self.new.book self.new.nodes.items
+            (vec_capacity self.new.nodes) }
     {
         let Emit {
             slot: _,
@@ -265,10 +347,15 @@ impl<N: Node> Inner<N> {
 
     fn take_load(&mut self, id: ObjId, load: Option<N::Load>)
         requires lives { live self.old.book id.0 ≡ true }
-        requires manned { IsManned N.rank_of self.old.book self.old.nodes.items (vec_capacity self.old.nodes) }
+        requires manned { IsManned N.rank_of self.old.book self.old.nodes.items
+            (vec_capacity self.old.nodes) }
         ensures book { self.new.book ≡ self.old.book }
-        ensures lives { (now : ℕ) → Lives N.stands now (nodes_at self.old.book self.old.nodes.items) (nodes_at self.new.book self.new.nodes.items) (Back (busy self.old.book) id.0 (in_list load)) here here [] }
-        ensures manned { IsManned N.rank_of self.new.book self.new.nodes.items (vec_capacity self.new.nodes) }
+        ensures lives { (now : ℕ) → Lives N.stands now (nodes_at self.old.book self.old.nodes.items)
+            (nodes_at self.new.book self.new.nodes.items)
+            (Back (busy self.old.book) id.0 (in_list load)) here here
+            (Calms (bytes_of N.Load.first N.Load.second) self.old.book self.old.book Still) [] }
+        ensures manned { IsManned N.rank_of self.new.book self.new.nodes.items
+            (vec_capacity self.new.nodes) }
     {
         match load {
             Some(load) => self.give_back(id, load),
@@ -281,7 +368,8 @@ impl<N: Node> Inner<N> {
 pub(crate) fn cut<'m>(msg: &Msg<'m>, from: u32, to: u32) -> (&'m [u8], &'m [u8])
     requires order { from ≤ to }
     requires within { to ≤ length msg.now.first.now + length msg.now.second.now }
-    ensures { length result.0.now + length result.1.now ≡ to - from }
+    ensures length { length result.0.now + length result.1.now ≡ to - from }
+    ensures bytes { result.0.now ++ result.1.now ≡ part (said msg.now).bytes from to }
 {
     let seam = msg.first.len();
     let from = from as usize;
@@ -294,7 +382,8 @@ pub(crate) fn cut<'m>(msg: &Msg<'m>, from: u32, to: u32) -> (&'m [u8], &'m [u8])
 /// A message without its first `took` bytes.
 pub(crate) fn behind<'m>(msg: &Msg<'m>, took: usize) -> Msg<'m>
     requires { took ≤ length msg.now.first.now + length msg.now.second.now }
-    ensures length { length result.first.now + length result.second.now + took ≡ length msg.now.first.now + length msg.now.second.now }
+    ensures length { length result.first.now + length result.second.now + took ≡ length
+        msg.now.first.now + length msg.now.second.now }
     ensures bytes { said result ≡ said_behind took (said msg.now) }
 {
     let seam = msg.first.len();

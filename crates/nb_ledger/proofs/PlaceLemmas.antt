@@ -1,9 +1,9 @@
 -- Where objects stand in the book's list, and what is found there after an edit.
-use Rattle.std.proofs.Common.{◌≡◌, ◌≢◌, ℕ, ◌+◌, ◌<◌, ◌≤◌, Bool, true, false, cond, eqb, ltb, List, [], ◌∷◌, ◌++◌, length, get_or, set, Option, Some, None, zero, suc, is_some, refl, ap, ◌∙◌, arith, add-one, inl, inr}
+use Rattle.std.proofs.Common.{◌≡◌, ◌≢◌, ℕ, ◌+◌, ◌<◌, ◌≤◌, Bool, true, false, cond, eqb, ltb, List, [], ◌∷◌, ◌++◌, length, get_or, set, Option, Some, None, zero, suc, is_some, refl, ap, sym, ◌∙◌, arith, add-one, inl, inr}
 use Rattle.std.specs.List.{remove}
 use Rattle.std.specs.Option.{option_map_or, IfNone, IfSome}
 use Rattle.std.proofs.lemmas.Bool.Decides.{nat_tests}
-use Rattle.std.proofs.lemmas.Bool.{eqb-true, eq-eqb, ne_eqb, cases_Bool, cases_lt, lt-ltb, le-ltb}
+use Rattle.std.proofs.lemmas.Bool.{eqb-true, eq-eqb, ne_eqb, cases_Bool, cases_lt, false≢true, lt-ltb, le-ltb}
 use Rattle.nb_ledger.specs.declared.port.ObjId.{ObjId}
 use Rattle.nb_ledger.specs.declared.object.Object.{Object}
 use Rattle.nb_ledger.specs.Ledger.{Ledger, live, least_above, place_in, found, IsRising}
@@ -67,6 +67,14 @@ found-below low high [] x r h = refl
 found-below low high (o ∷ os) x r h =
     let e = found-below o.id.0 high os x r.2 (omega arith) in
     grind (arith, nat_tests)
+
+-- a live object was made
+pub live-made : (l : Ledger) (x : ℕ) → IsRising 0 l.objects l.made → live l x ≡ true → x ≤ l.made
+unfolding live
+live-made l x r h = elim (cases_lt l.made x) [
+  | inl a ↦ absurd (false≢true (sym (ap is_some (found-above 0 l.made l.objects x r a)) ∙ h))
+  | inr b ↦ b
+]
 
 -- after an object of a new serial is put at the end
 pub found-push : (os : List Object) (v : Object) (y : ℕ) → found os v.id.0 ≡ None → found (os ++ v ∷ []) y ≡ cond (eqb y v.id.0) (Some v) (found os y)

@@ -85,6 +85,7 @@ impl Book {
         requires { live self.now id.0 ≡ true }
         ensures is { found self.now.objects id.0 ≡ Some result }
         ensures same { result.id.0 ≡ id.0 }
+        ensures made { id.0 ≤ self.now.made }
         ensures slots { length result.ports ≡ 4 }
     {
         object_among(&self.objects, id)

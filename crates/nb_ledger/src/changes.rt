@@ -26,7 +26,8 @@ impl Book {
     pub(crate) fn set_port(&mut self, at: Port, state: PortState)
         requires lives { live self.old at.obj.0 ≡ true }
         requires slot { at.slot < 4 }
-        ensures { SetsPort self.old self.new at state }
+        ensures sets { SetsPort self.old self.new at state }
+        ensures made { at.obj.0 ≤ self.old.made }
     {
         let mut object = self.object(at.obj);
         object.ports[at.slot as usize] = state;

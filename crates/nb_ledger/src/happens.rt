@@ -63,6 +63,7 @@ impl Book {
         ensures told { Tells (O.events out.old) (O.events out.new) (Plugged upper lower ∷ []) }
         ensures step { (st : List Frame) → IsIdle st → Step (state_of self.old st) (Plugged upper lower) (state_of self.new st) }
         ensures sets { (mid : Ledger) × SetsPort self.old mid upper (state.Linked lower) × SetsPort mid self.new lower (state.Linked upper) }
+        ensures made { (upper.obj.0 ≤ self.old.made) × (lower.obj.0 ≤ self.old.made) }
     {
         self.set_port(upper, PortState::Linked(lower));
         self.set_port(lower, PortState::Linked(upper));

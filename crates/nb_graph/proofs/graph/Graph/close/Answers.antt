@@ -1,4 +1,4 @@
-use Rattle.nb_graph.proofs.LivedLemmas.{Lived-calm}
+use Rattle.nb_graph.proofs.LivedLemmas.{Lived-calm, closing-empty}
 use Rattle.nb_graph.proofs.RunsLemmas.{Began-starts}
 use Rattle.nb_graph.proofs.graph.Graph.close.Goals as goal
 
@@ -6,4 +6,4 @@ pub returns-clause-begins : goal.returns-clause-begins
 returns-clause-begins g c = λ h. rw (← c.self.view_is) (Began-starts _ _ _ _ _ c.self.invariant.quiet (c.close_port.ensures.starts (rw (← c.self.view_is) at h)))
 
 pub returns-clause-stands : goal.returns-clause-stands
-returns-clause-stands g c = rw (← c.self.view_is) (Lived-calm c.self.invariant.quiet c.close_port.ensures.lives)
+returns-clause-stands g c = rw (← c.self.view_is) (Lived-calm c.self.invariant.quiet closing-empty c.close_port.ensures.lives)

@@ -1,4 +1,4 @@
-use Rattle.nb_graph.proofs.LivedLemmas.{Hands-calm, Lived-calm, Lived-drop}
+use Rattle.nb_graph.proofs.LivedLemmas.{Hands-calm, Lived-calm, Lived-drop, giving-empty}
 use Rattle.std.proofs.Common.{sym, ◌∙◌, [], ◌∷◌}
 use Rattle.std.proofs.lemmas.Bool.{false≢true}
 use Rattle.nb_ledger.specs.declared.event.GraphEvent.TheVariants.{Dropped}
@@ -13,11 +13,11 @@ returns-else-is_free-clause-runs g c =
     (Dropped c.args.to ∷ [], rw (← c.self.view_is) (Runs-drop _ _ _ c.args.to (λ e. false≢true (sym c.if-is_free.false ∙ c.is_free.ensures.1 e)) (rw c.spelled.ensures at c.event.ensures)))
 
 pub returns-then-is_free-clause-stands : goal.returns-then-is_free-clause-stands
-returns-then-is_free-clause-stands g c = rw (← c.self.view_is) (Lived-calm c.self.invariant.quiet c.enter_down.ensures.lives.0)
+returns-then-is_free-clause-stands g c = rw (← c.self.view_is) (Lived-calm c.self.invariant.quiet (giving-empty _ c.args.to _ (c.is_free.ensures.0 c.if-is_free.true)) c.enter_down.ensures.lives.0)
 
 pub returns-then-is_free-clause-hands : goal.returns-then-is_free-clause-hands
-returns-then-is_free-clause-hands g c = λ _. rw (← c.self.view_is) (Hands-calm c.self.invariant.quiet _ _ _ c.enter_down.ensures.lives)
+returns-then-is_free-clause-hands g c = λ _. rw (← c.self.view_is) (Hands-calm c.self.invariant.quiet (giving-empty _ c.args.to _ (c.is_free.ensures.0 c.if-is_free.true)) _ _ _ c.enter_down.ensures.lives)
 
 pub returns-else-is_free-clause-stands : goal.returns-else-is_free-clause-stands
 returns-else-is_free-clause-stands g c =
-    rw (← c.self.view_is) (Lived-drop _ _ _ _ _ _ c.args.to (λ e. false≢true (sym c.if-is_free.false ∙ c.is_free.ensures.1 e)) (rw c.spelled.ensures at c.event.ensures))
+    rw (← c.self.view_is) (Lived-drop _ _ _ _ _ _ _ c.args.to (λ e. false≢true (sym c.if-is_free.false ∙ c.is_free.ensures.1 e)) (rw c.spelled.ensures at c.event.ensures))

@@ -1,3 +1,4 @@
+use Rattle.nb_graph.proofs.MakeLemmas.{Balanced-plug}
 use Rattle.nb_graph.proofs.SeatLemmas.{Loses-same, Loses-trans}
 use Rattle.nb_graph.proofs.LivedLemmas.{Keeps-loses}
 use Rattle.std.proofs.Common.{◌≡◌}
@@ -23,3 +24,9 @@ returns-clause-keeps g c =
     let s = c.plug.ensures.sets in
     let nodes = c.self.inside.inner.nodes.items in
     rw (← c.self.view_is) (Keeps-loses g.N.Node.stands c.self.inside.inner.book c.plug.new.self nodes nodes (Loses-trans (Loses-same nodes s.1.objects) (Loses-same nodes s.2.objects)))
+
+pub returns-clause-bytes : goal.returns-clause-bytes
+returns-clause-bytes g c =
+    let s = c.plug.ensures.sets in
+    let made = c.plug.ensures.made in
+    rw (← c.self.view_is) (Balanced-plug s.1 s.2 (c.is_free.ensures.0 c.if-not-is_free.false) (c.is_free-2.ensures.0 c.if-not-is_free-2.false) c.requires.upper.0 c.requires.lower made.0 made.1)

@@ -1,4 +1,4 @@
-use Rattle.nb_graph.proofs.LivedLemmas.{Hands-lively, Lived-lively, Lived-none}
+use Rattle.nb_graph.proofs.LivedLemmas.{Hands-lively, Lived-lively, Lived-none, keeping-empty}
 use Rattle.nb_graph.proofs.RunsLemmas.{Began-starts}
 use Rattle.nb_graph.proofs.graph.Graph.time.Goals as goal
 
@@ -6,10 +6,10 @@ pub returns-then-is_live-clause-entered : goal.returns-then-is_live-clause-enter
 returns-then-is_live-clause-entered g c = λ _. rw (← c.self.view_is) (Began-starts _ _ _ _ _ c.self.invariant.quiet c.enter_time.ensures.starts)
 
 pub returns-then-is_live-clause-stands : goal.returns-then-is_live-clause-stands
-returns-then-is_live-clause-stands g c = rw (← c.self.view_is) (Lived-lively c.self.invariant.quiet c.enter_time.ensures.lives.0)
+returns-then-is_live-clause-stands g c = rw (← c.self.view_is) (Lived-lively c.self.invariant.quiet (keeping-empty _) c.enter_time.ensures.lives.0)
 
 pub returns-then-is_live-clause-hands : goal.returns-then-is_live-clause-hands
-returns-then-is_live-clause-hands g c = λ _. rw (← c.self.view_is) (Hands-lively c.self.invariant.quiet _ _ _ c.enter_time.ensures.lives)
+returns-then-is_live-clause-hands g c = λ _. rw (← c.self.view_is) (Hands-lively c.self.invariant.quiet (keeping-empty _) _ _ _ c.enter_time.ensures.lives)
 
 pub returns-else-is_live-clause-stands : goal.returns-else-is_live-clause-stands
-returns-else-is_live-clause-stands g c = Lived-none _ _ _ _ _
+returns-else-is_live-clause-stands g c = Lived-none _ _ _ _ _ _

@@ -16,7 +16,16 @@ use Rattle.nb_graph.specs.Trace.{carried, down, lent, loads, said}
 use Rattle.nb_graph.specs.Effects.{asked_loads}
 use Rattle.nb_graph.specs.Lives.{here}
 use Rattle.nb_graph.proofs.WholeLemmas.{but_other}
-use Rattle.nb_graph.proofs.LivesLemmas.{Lives-none, Lives-note, Lives-weaken}
+use Rattle.nb_graph.proofs.LivesLemmas.{Lives-none, Lives-weaken}
+use Rattle.nb_graph.specs.Accounts.{account, bytes_of, few_bytes}
+use Rattle.nb_graph.specs.declared.steps.Asked.TheVariants.{Done}
+use Rattle.nb_graph.specs.Flows.{Closing, asked_left, asked_sent, asked_whole}
+use Rattle.nb_graph.proofs.AccountLemmas.{Calms-idle, Calms-none, Calms-plain, Mild-same}
+use Rattle.nb_graph.proofs.MildLemmas.{Lives-plain, Mild-busy, Mild-port}
+use Rattle.nb_graph.proofs.FlowLemmas.{Calms-fail, Closing-then, Downs-closing, Downs-few, Passing-giving, Passing-open, Passing-shut, asked-zero, below-bytes, below-zero, closing-idle, following-done, following-fail, whole-left, whole-only}
+use Rattle.nb_graph.proofs.DownLemmas.{Calms-down}
+use Rattle.nb_graph.proofs.PassLemmas.{Calms-enter, Calms-link}
+use Rattle.nb_graph.proofs.CallLemmas.{half-gone, half-left}
 use Rattle.nb_graph.proofs.OwingLemmas.{Back-none}
 use Rattle.nb_graph.proofs.SeatLemmas.{Loses-refl, Loses-same}
 use Rattle.nb_graph.proofs.EntryLemmas.{Lives-closed, Lives-entry}
@@ -25,11 +34,19 @@ use Rattle.nb_graph.proofs.inner.Inner.+calm.Goals as goal
 
 pub calm_effects-returns-clause-lives : goal.calm_effects-returns-clause-lives
 calm_effects-returns-clause-lives g t c =
-    rw (lent-below c.args.fx _ c.requires.asks) (CalmFor-last (loads c.args.fx.downs) c.requires.runs c.run_downs.ensures.lives c.run_closes.ensures.lives)
+    let k = c.run_downs.ensures.lives in
+    rw (lent-below c.args.fx _ c.requires.asks) (CalmFor-last (loads c.args.fx.downs) c.requires.runs k c.run_closes.ensures.lives (λ ds p q i j w v h t. let z = Downs-closing c.args.self.now.book c.run_downs.new.self.book k.lives.moved.links k.lives.moved.shuts c.args.id.0 (λ n. few_bytes (bytes_of g.N.Load.Parts.first g.N.Load.Parts.second) n (said c.args.msg.now).bytes c.args.fx.downs) p q j j w v h in (z.0, z.1, λ _. z.2)))
 
 pub close_all-returns-clause-lives : goal.close_all-returns-clause-lives
 close_all-returns-clause-lives g t c =
-    CalmFor-same c.close_port.ensures.lives (CalmFor-same c.close_port-2.ensures.lives (CalmFor-same c.close_port-3.ensures.lives c.close_port-4.ensures.lives))
+    let a = c.close_port.ensures.lives in
+    let b = c.close_port-2.ensures.lives in
+    let d = c.close_port-3.ensures.lives in
+    let x = c.args.id.0 in
+    CalmFor-same {g = Closing c.close_port.new.self.book x} a (CalmFor-same {g = Closing c.close_port-2.new.self.book x} b (CalmFor-same d c.close_port-4.ensures.lives
+    (λ ds p q i j w v h t. let z = Closing-then _ _ d.lives.moved.links d.lives.moved.shuts x p q j j w v h in (z.0, z.1, λ _. z.2)))
+    (λ ds p q i j w v h t. let z = Closing-then _ _ b.lives.moved.links b.lives.moved.shuts x p q j j w v h in (z.0, z.1, λ _. z.2)))
+    (λ ds p q i j w v h t. let z = Closing-then _ _ a.lives.moved.links a.lives.moved.shuts x p q j j w v h in (z.0, z.1, λ _. z.2))
 
 pub close_link-ask_closed-fx-requires-clause-lives : goal.close_link-ask_closed-fx-requires-clause-lives
 close_link-ask_closed-fx-requires-clause-lives g t c =
@@ -43,16 +60,19 @@ unfolding Calm-link
 close_link-returns-clause-lives g t c =
     let b = c.close_both-was.ensures in
     let k = rw c.ask_closed-fx.ensures.book at c.calm_effects.ensures.lives in
+    let gone = half-gone c.requires.steady.whole.links c.requires.linked b.half in
+    let left = half-left c.args.self.now.book c.close_both-was.new.self.book b.half in
     record {
       calm = Calm-link c.requires.steady.whole.links c.requires.linked b.told b.run b.was b.half k.calm c.unplug.ensures.ends.ends;
-      lives = Lives-closed _ _ c.args.peer.obj.0 (lent c.ask_closed-fx.result) (λ x n. b.half.busy_set x ∙ but_other c.args.peer.obj.0 true (busy c.args.self.now.book) x n) (b.lives c.args.now) (rw c.ask_closed-fx.ensures.book at c.ask_closed-fx.ensures.lives) k.lives (c.unplug.ensures.ends.lives c.args.now);
+      lives = Lives-closed _ _ c.args.peer.obj.0 (lent c.ask_closed-fx.result) (λ x n. b.half.busy_set x ∙ but_other c.args.peer.obj.0 true (busy c.args.self.now.book) x n) (b.lives c.args.now) (rw c.ask_closed-fx.ensures.book at c.ask_closed-fx.ensures.lives) k.lives (c.unplug.ensures.ends.lives c.args.now)
+          (λ bs ds es gs h i j z. Calms-link c.args.at c.args.peer _ _ c.requires.steady.whole.links c.requires.linked gone left (λ n. below-bytes (bytes_of g.N.Load.Parts.first g.N.Load.Parts.second) [] 0 c.ask_closed-fx.result c.ask_closed-fx.ensures.asks n) (below-zero (bytes_of g.N.Load.Parts.first g.N.Load.Parts.second) [] 0 c.ask_closed-fx.result c.ask_closed-fx.ensures.asks) h i j z);
     }
 
 pub close_port-returns-in-Open-clause-lives : goal.close_port-returns-in-Open-clause-lives
 unfolding Calm-alone
 close_port-returns-in-Open-clause-lives g t c = record {
   calm = Calm-alone (sym c.in-Open.ensures) c.close_alone.ensures.sets c.close_alone.ensures.told c.close_alone.ensures.step;
-  lives = Lives-weaken (λ x w v k. k.1) (Lives-note g.N.Node.stands c.args.now _ _ here here (CloseEvent c.args.at c.args.cause.now) (Loses-same c.args.self.now.nodes.items c.close_alone.ensures.sets.objects) (λ x t. refl) (λ st. inl refl));
+  lives = Lives-weaken (λ x w v k. k.1) (λ ds k. Calms-idle k closing-idle) (Lives-plain g.N.Node.stands c.args.now _ _ here here (CloseEvent c.args.at c.args.cause.now) (Loses-same c.args.self.now.nodes.items c.close_alone.ensures.sets.objects) (λ x t. refl) (λ st. inl refl) (Calms-plain _ _ _ (CloseEvent c.args.at c.args.cause.now) (Mild-port c.close_alone.ensures.sets (λ q e. cc) (λ q e. absurd (let z = c.in-Open.ensures ∙ e in cc)) refl) (λ p a. refl)));
 }
 
 pub close_port-returns-in-Open-clause-steady : goal.close_port-returns-in-Open-clause-steady
@@ -62,10 +82,10 @@ close_port-returns-in-Open-clause-steady g t c = record {
 }
 
 pub close_port-returns-in-Leaving-clause-lives : goal.close_port-returns-in-Leaving-clause-lives
-close_port-returns-in-Leaving-clause-lives g t c = CalmFor-refl _ _ _ _ _
+close_port-returns-in-Leaving-clause-lives g t c = CalmFor-refl _ _ _ _ _ _ closing-idle
 
 pub close_port-returns-in-Closed-clause-lives : goal.close_port-returns-in-Closed-clause-lives
-close_port-returns-in-Closed-clause-lives g t c = CalmFor-refl _ _ _ _ _
+close_port-returns-in-Closed-clause-lives g t c = CalmFor-refl _ _ _ _ _ _ closing-idle
 
 pub enter_down-enter-was-requires : goal.enter_down-enter-was-requires
 enter_down-enter-was-requires g t c = open-live _ _ _ c.requires.open
@@ -75,33 +95,38 @@ fail-take_back-requires-clause-lives g t c = busy-live _ _ c.requires.runs
 
 pub pass_down-returns-in-Open-clause-lives : goal.pass_down-returns-in-Open-clause-lives
 unfolding Calm-sent
-pass_down-returns-in-Open-clause-lives g t c = record { calm = Calm-sent _ _ _ c.send.ensures; lives = Lives-weaken (λ x w v k. k.1) (Lives-none _ c.args.now _) }
+pass_down-returns-in-Open-clause-lives g t c = record { calm = Calm-sent _ _ _ c.send.ensures; lives = Lives-weaken (λ x w v k. k.1) (λ ds k. k) (Lives-none _ c.args.now _ (Calms-idle (Calms-none _ _) (λ p q x y w v i j. Passing-open c.args.self.now.book c.args.at _ (sym c.in-Open.ensures) p q y x.sent y.taken w v j i))) }
 
 pub pass_down-returns-in-Leaving-clause-lives : goal.pass_down-returns-in-Leaving-clause-lives
 unfolding Calm-dropped
 pass_down-returns-in-Leaving-clause-lives g t c = record {
   calm = Calm-dropped _ _ _ c.args.at (Leaving c.in-Leaving.field-0) (sym c.in-Leaving.ensures) tt (rw c.spelled.ensures at c.event.ensures);
-  lives = Lives-weaken (λ x w v k. k.1) (Lives-note g.N.Node.stands c.args.now _ _ here here (Dropped c.args.at) (Loses-refl _) (λ x t. refl) (λ st. inl refl));
+  lives = Lives-weaken (λ x w v k. k.1) (λ ds k. Calms-idle k (λ p q x y w v i j. Passing-shut c.args.self.now.book c.args.at _ (ap open_count (sym c.in-Leaving.ensures)) p q y w v i)) (Lives-plain g.N.Node.stands c.args.now _ _ here here (Dropped c.args.at) (Loses-refl _) (λ x t. refl) (λ st. inl refl) (Calms-plain _ _ _ (Dropped c.args.at) (Mild-same refl (λ x k. refl)) (λ p a. refl)));
 }
 
 pub pass_down-returns-in-Closed-clause-lives : goal.pass_down-returns-in-Closed-clause-lives
 unfolding Calm-dropped
 pass_down-returns-in-Closed-clause-lives g t c = record {
   calm = Calm-dropped _ _ _ c.args.at Closed (sym c.in-Closed.ensures) tt (rw c.spelled-in-Closed.ensures at c.event-in-Closed.ensures);
-  lives = Lives-weaken (λ x w v k. k.1) (Lives-note g.N.Node.stands c.args.now _ _ here here (Dropped c.args.at) (Loses-refl _) (λ x t. refl) (λ st. inl refl));
+  lives = Lives-weaken (λ x w v k. k.1) (λ ds k. Calms-idle k (λ p q x y w v i j. Passing-shut c.args.self.now.book c.args.at _ (ap open_count (sym c.in-Closed.ensures)) p q y w v i)) (Lives-plain g.N.Node.stands c.args.now _ _ here here (Dropped c.args.at) (Loses-refl _) (λ x t. refl) (λ st. inl refl) (Calms-plain _ _ _ (Dropped c.args.at) (Mild-same refl (λ x k. refl)) (λ p a. refl)));
 }
 
 pub run_closes-returns-in_default-clause-lives : goal.run_closes-returns-in_default-clause-lives
-run_closes-returns-in_default-clause-lives g t c = CalmFor-refl _ _ _ _ _
+run_closes-returns-in_default-clause-lives g t c = CalmFor-refl _ _ _ _ _ _ closing-idle
 
 pub run_closes-returns-in-len1-up-clause-lives : goal.run_closes-returns-in-len1-up-clause-lives
-run_closes-returns-in-len1-up-clause-lives g t c = CalmFor-same c.close_port.ensures.lives c.run_closes.ensures.lives
+run_closes-returns-in-len1-up-clause-lives g t c =
+    let a = c.close_port.ensures.lives in
+    CalmFor-same a c.run_closes.ensures.lives (λ ds p q i j w v h t. let z = Closing-then _ _ a.lives.moved.links a.lives.moved.shuts c.args.id.0 p q j j w v h in (z.0, z.1, λ _. z.2))
 
 pub run_down-returns-in-None-clause-lives : goal.run_down-returns-in-None-clause-lives
-run_down-returns-in-None-clause-lives g t c = rw c.in-None.is (CalmFor-weaken (Back-none _ _ c.requires.runs) (CalmFor-refl _ _ _ _ _))
+run_down-returns-in-None-clause-lives g t c = rw c.in-None.is (CalmFor-weaken (Back-none _ _ c.requires.runs) (λ p q x y w v i j. i) (CalmFor-refl _ _ _ _ _ _ (λ p q x y w v i j. i)))
 
 pub run_downs-returns-clause-lives : goal.run_downs-returns-clause-lives
-run_downs-returns-clause-lives g t c = CalmFor-back (carried c.args.downs.first) (carried c.args.downs.second) c.run_down.ensures.lives c.run_down-2.ensures.lives
+run_downs-returns-clause-lives g t c =
+    let a = c.run_down.ensures.lives in
+    CalmFor-back (carried c.args.downs.first) (carried c.args.downs.second) a c.run_down-2.ensures.lives
+    (λ ds p q i j w v h t. let z = Downs-few _ _ _ _ a.lives.moved.links a.lives.moved.shuts c.args.id.0 _ c.args.downs c.requires.downs p q j (account (bytes_of g.N.Load.Parts.first g.N.Load.Parts.second) q j ds) w v h in (z.0, z.1, λ _. z.2))
 
 pub send_down-give_back-requires-clause-lives : goal.send_down-give_back-requires-clause-lives
 send_down-give_back-requires-clause-lives g t c = busy-live _ _ (c.pass_down.ensures.lives.calm.shrinks.same_busy c.args.id.0 ∙ c.requires.runs)
@@ -119,7 +144,8 @@ enter_down-returns-clause-lives g t c =
     let b = c.enter-was.ensures in
     let k = rw c.ask_down-asked.ensures.book at c.after_down.ensures.lives in
     let e = c.leave.ensures.ends Down in
-    let r = Lives-entry _ _ c.args.at.obj.0 (asked_loads c.ask_down-asked.result) (Entered c.args.at Down) (λ done fx. down (said c.args.msg.now) c.args.now done fx) (λ x n. b.sets.busy_set x ∙ but_other c.args.at.obj.0 true (busy c.args.self.now.book) x n) (Loses-same c.args.self.now.nodes.items b.sets.objects) (λ x t. refl) (λ st. (said c.args.msg.now, refl)) (rw (c.ask_down-asked.ensures.book, sym c.requires.slot) at c.ask_down-asked.ensures.lives) k.lives (e.lives c.args.now) in (
+    let r = Lives-entry _ _ c.args.at.obj.0 (asked_loads c.ask_down-asked.result) (Entered c.args.at Down) (λ done fx. down (said c.args.msg.now) c.args.now done fx) (λ x n. b.sets.busy_set x ∙ but_other c.args.at.obj.0 true (busy c.args.self.now.book) x n) (Loses-same c.args.self.now.nodes.items b.sets.objects) (λ x t. refl) (λ st. (said c.args.msg.now, refl)) (rw (c.ask_down-asked.ensures.book, sym c.requires.slot) at c.ask_down-asked.ensures.lives) k.lives (e.lives c.args.now)
+    (λ ds es gs x y z. Calms-down c.args.at (asked_sent (bytes_of g.N.Load.Parts.first g.N.Load.Parts.second) (said c.args.msg.now).bytes c.ask_down-asked.result) (asked_whole (said c.args.msg.now).bytes c.ask_down-asked.result) (asked_left (said c.args.msg.now).bytes c.ask_down-asked.result) (said c.args.msg.now).bytes c.requires.slot (rw (b.sets.same_port c.args.at.obj.0 c.args.at.slot) c.requires.open) (IsWhole-enter b.sets c.requires.steady.whole).links (asked-zero (bytes_of g.N.Load.Parts.first g.N.Load.Parts.second) _ _ c.ask_down-asked.result c.ask_down-asked.ensures.asks) (whole-only _ c.ask_down-asked.result) (whole-left _ c.ask_down-asked.result) (Calms-enter _ _ _ c.args.at c.requires.slot (Mild-busy b.sets)) x y z) in (
       record {
         calm = Calm-entry b.sets b.told b.step (λ st. (c.requires.slot, c.requires.open)) b.was k.calm e.ends;
         lives = r.0;
@@ -201,12 +227,29 @@ enter_down-returns-clause-starts g t c =
 
 pub send_down-returns-in-Some-clause-lives : goal.send_down-returns-in-Some-clause-lives
 send_down-returns-in-Some-clause-lives g t c =
-    rw c.in-Some.is (CalmFor-regain (c.in-Some.load ∷ []) c.requires.runs c.pass_down.ensures.lives c.give_back.ensures.lives c.give_back.ensures.book)
+    rw (c.in-Some.is, sym c.parts.ensures.first, sym c.parts.ensures.second) (CalmFor-regain (c.in-Some.load ∷ []) c.requires.runs c.pass_down.ensures.lives c.give_back.ensures.lives c.give_back.ensures.book)
 
 pub send_down-returns-in-None-clause-lives : goal.send_down-returns-in-None-clause-lives
 send_down-returns-in-None-clause-lives g t c =
-    rw c.in-None.is (CalmFor-weaken (Back-none _ _ c.requires.runs) c.pass_down-in-None.ensures.lives)
+    rw (c.in-None.is, sym c.cut.ensures.bytes) (CalmFor-weaken (Back-none _ _ c.requires.runs) (λ p q x y w v i j. i) c.pass_down-in-None.ensures.lives)
 
 pub fail-returns-clause-lives : goal.fail-returns-clause-lives
 fail-returns-clause-lives g t c =
-    CalmFor-first (lent c.args.fx) c.requires.runs c.take_back.ensures.lives c.close_all.ensures.lives c.take_back.ensures.book
+    CalmFor-first (λ l. Closing l c.args.id.0) (lent c.args.fx) c.requires.runs c.take_back.ensures.lives c.close_all.ensures.lives c.take_back.ensures.book (λ p q x y w v i. i) (λ ds k. Calms-fail c.close_all.ensures.shut k)
+
+pub pass_down-returns-in-Linked-clause-lives : goal.pass_down-returns-in-Linked-clause-lives
+pass_down-returns-in-Linked-clause-lives g t c =
+    CalmFor-weaken (λ x w v i. i) (λ p q x y w v i j. Passing-giving c.args.self.now.book c.args.at c.in-Linked.peer _ c.requires.steady.whole.links c.requires.slot (sym c.in-Linked.ensures) p q y x.sent y.taken w v j i) c.enter_down.ensures.lives.0
+
+pub after_down-returns-in-Done-clause-lives : goal.after_down-returns-in-Done-clause-lives
+after_down-returns-in-Done-clause-lives g t c =
+    let bytes = (said c.args.msg.now).bytes in
+    let asks = rw c.in-Done.is at c.requires.asks in
+    rw c.in-Done.is (CalmFor-weaken (λ x w v i. i) (λ p q x y w v i j. following-done _ c.args.id.0 (asked_sent (bytes_of g.N.Load.Parts.first g.N.Load.Parts.second) bytes (Done c.in-Done.fx)) (λ n. few_bytes (bytes_of g.N.Load.Parts.first g.N.Load.Parts.second) n bytes c.in-Done.fx.downs) (λ n. below-bytes (bytes_of g.N.Load.Parts.first g.N.Load.Parts.second) bytes _ c.in-Done.fx asks n) p q y w v i) c.calm_effects.ensures.lives)
+
+pub after_down-returns-in-NoMemory-clause-lives : goal.after_down-returns-in-NoMemory-clause-lives
+after_down-returns-in-NoMemory-clause-lives g t c =
+    rw c.in-NoMemory.is (CalmFor-weaken (λ x w v i. i) (λ p q x y w v i j. following-fail _ c.args.id.0 _ p q y w v i) c.fail.ensures.lives)
+
+pub run_down-returns-in-Some-clause-lives : goal.run_down-returns-in-Some-clause-lives
+run_down-returns-in-Some-clause-lives g t c = rw c.in-Some.is c.send_down.ensures.lives

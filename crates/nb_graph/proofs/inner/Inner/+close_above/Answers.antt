@@ -1,4 +1,4 @@
-use Rattle.std.proofs.Common.{◌≡◌, ℕ}
+use Rattle.std.proofs.Common.{◌≡◌, ℕ, inl, inr, refl, sym, ◌∙◌}
 use Rattle.nb_ledger.specs.Ledger.{port, open_count}
 use Rattle.nb_graph.proofs.ShrinkLemmas.{Shrinks-trans}
 use Rattle.nb_graph.proofs.AliveLemmas.{CalmFor-refl, CalmFor-same}
@@ -7,7 +7,7 @@ use Rattle.nb_graph.proofs.EndLemmas.{all-above}
 use Rattle.nb_graph.proofs.inner.Inner.+close_above.Goals as goal
 
 pub returns-in-Some-clause-lives : goal.returns-in-Some-clause-lives
-returns-in-Some-clause-lives g t c = CalmFor-same c.close_all.ensures.lives c.close_above.ensures.lives
+returns-in-Some-clause-lives g t c = CalmFor-same c.close_all.ensures.lives c.close_above.ensures.lives (λ ds p q i j w v h t. (w, inr (refl, inr (inr (inl h.0))), λ _. h))
 
 pub returns-in-Some-clause-shut : goal.returns-in-Some-clause-shut
 returns-in-Some-clause-shut g t c = λ x k h.
@@ -19,7 +19,7 @@ returns-in-Some-clause-shut g t c = λ x k h.
     (λ y a j. c.close_above.ensures.shut y j a) x h k
 
 pub returns-in-None-clause-lives : goal.returns-in-None-clause-lives
-returns-in-None-clause-lives g t c = CalmFor-refl _ _ _ _ _
+returns-in-None-clause-lives g t c = CalmFor-refl _ _ _ _ _ _ (λ p q x y w v i j. inr (i.0 ∙ sym i.1))
 
 pub returns-in-None-clause-shut : goal.returns-in-None-clause-shut
 returns-in-None-clause-shut g t c = λ x k h. no-object _ x k (c.in-None.ensures.none x h)

@@ -23,7 +23,7 @@ returns-in-Some-clause-none g t c =
     (λ y a. c.let_above_go.ensures.none y a)
 
 pub returns-in-None-clause-runs : goal.returns-in-None-clause-runs
-returns-in-None-clause-runs g t c = RunFor-none _ _ _ _
+returns-in-None-clause-runs g t c = RunFor-none _ _ _ _ _
 
 pub returns-in-None-clause-lets : goal.returns-in-None-clause-lets
 returns-in-None-clause-lets g t c = LetsGo-refl _

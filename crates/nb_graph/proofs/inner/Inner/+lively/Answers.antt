@@ -1,4 +1,4 @@
-use Rattle.std.proofs.Common.{◌≡◌, ◌<◌, ◌≤◌, sym, ◌∙◌, arith, ap, subst, rules, ltb, refl, true, inl, inr, Some, None, [], ◌∷◌, length-append}
+use Rattle.std.proofs.Common.{◌≡◌, ℕ, List, ◌<◌, ◌≤◌, sym, ◌∙◌, arith, ap, subst, rules, ltb, refl, true, inl, inr, Some, None, [], ◌∷◌, length-append}
 use Rattle.std.proofs.lemmas.Bool.{false≢true}
 use Rattle.std.specs.Vec.{vec_capacity}
 use Rattle.nb_ledger.specs.declared.event.Way.TheVariants.{Up}
@@ -17,11 +17,22 @@ use Rattle.nb_graph.specs.Deeds.{Holds}
 use Rattle.nb_graph.specs.Effects.{asked_loads}
 use Rattle.nb_graph.specs.Lives.{IsUnder, here}
 use Rattle.nb_graph.proofs.WholeLemmas.{but_other}
-use Rattle.nb_graph.proofs.LivesLemmas.{Lives-none, Lives-note, Lives-then, Lives-under, Lives-weaken}
+use Rattle.nb_graph.proofs.LivesLemmas.{Lives-none, Lives-then, Lives-under, Lives-weaken}
+use Rattle.std.proofs.lemmas.List.{drop_all}
+use Rattle.nb_graph.specs.Whole.{port_at}
+use Rattle.nb_graph.specs.Accounts.{bytes_of, few_bytes, fx_bytes}
+use Rattle.nb_graph.specs.Flows.{Delivering, Doing, Leaves, Rising, asked_behind, asked_sent, asked_taken, nothing}
+use Rattle.nb_graph.proofs.AccountLemmas.{Calms-idle, Calms-none, Calms-plain, Calms-weaken, Mild-same}
+use Rattle.nb_graph.proofs.LivensLemmas.{Livens-calm}
+use Rattle.nb_graph.proofs.MildLemmas.{Lives-plain, Mild-busy}
+use Rattle.nb_graph.proofs.FlowLemmas.{emit-there}
+use Rattle.nb_graph.proofs.AskLemmas.{Livens-ask, Livens-entry, up-notes}
+use Rattle.nb_graph.proofs.EffectLemmas.{Livens-downs, Livens-effects, Livens-few, Livens-rest, Livens-ups, downs-bytes, ups-bytes}
+use Rattle.nb_graph.proofs.RiseLemmas.{Leaves-open, Leaves-rising, Leaves-shut, closed-count, leaves-at, leaves-nothing, rest-none, rest-shut, rise-fail, rises-delivering, taken-all, taken-only}
 use Rattle.nb_graph.proofs.OwingLemmas.{AllBack-back, AllBack-stays, AllBack-then, Back-none}
 use Rattle.nb_graph.proofs.SeatLemmas.{Loses-refl, Loses-same}
 use Rattle.nb_graph.proofs.EntryLemmas.{Calls-then, Lives-entry_up}
-use Rattle.nb_graph.proofs.LivelyForLemmas.{IsBelow-enter, IsBelow-grows, LivelyFor-back, LivelyFor-calm, LivelyFor-refl, LivelyFor-regain, LivelyFor-weaken, LivelyInFor-effects, left-some, left-none, under-idle}
+use Rattle.nb_graph.proofs.LivelyForLemmas.{IsBelow-enter, IsBelow-grows, LivelyFor-back, LivelyFor-calm, LivelyFor-refl, LivelyFor-regain, LivelyFor-weaken, LivelyInFor-effects, LivelyInFor-weaken, left-some, left-none, under-idle}
 use Rattle.nb_graph.proofs.inner.Inner.+lively.Goals as goal
 
 pub after_up-returns-in-Done-clause-lives : goal.after_up-returns-in-Done-clause-lives
@@ -31,7 +42,7 @@ after_up-returns-in-Done-clause-lives g t c =
     let k = c.go_on.ensures.lives in
     rw c.in-Done.is (record {
       lively = LivelyIn-trans e.lively k.lively;
-      lives = Lives-then (Lives-under (λ st. Holds c.args.at Up (left c.in-Done.fx.took (said c.args.msg.now)) ∷ st) e.lives) k.lives (AllBack-then _ _ c.args.at.obj.0 (lent c.in-Done.fx) e.lively.grows.same_busy);
+      lives = Lives-then (Lives-under (λ st. Holds c.args.at Up (left c.in-Done.fx.took (said c.args.msg.now)) ∷ st) e.lives) k.lives (AllBack-then _ _ c.args.at.obj.0 (lent c.in-Done.fx) e.lively.grows.same_busy) (λ ds es x z. Livens-rest c.args.at _ _ c.requires.slot c.requires.runs e.lively.grows.same_busy x z);
     })
 
 pub after_up-returns-in-NoMemory-clause-lives : goal.after_up-returns-in-NoMemory-clause-lives
@@ -40,7 +51,7 @@ after_up-returns-in-NoMemory-clause-lives g t c =
     let k = c.fail.ensures.lives in
     rw c.in-NoMemory.is (record {
       lively = LivelyIn-calm k.calm;
-      lives = Lives-weaken (AllBack-back _ c.args.at.obj.0 (lent c.in-NoMemory.fx)) (Lives-under (λ st. Holds c.args.at Up None ∷ st) k.lives);
+      lives = Lives-weaken (AllBack-back _ c.args.at.obj.0 (lent c.in-NoMemory.fx)) (λ ds k. Livens-calm (Calms-weaken k (λ p q x y w v i j. rise-fail c.args.self.now.book c.args.at (said c.args.msg.now).bytes p q y w v i))) (Lives-under (λ st. Holds c.args.at Up None ∷ st) k.lives);
     })
 
 pub deliver-ask_up-asked-requires-clause-lives : goal.deliver-ask_up-asked-requires-clause-lives
@@ -48,7 +59,17 @@ deliver-ask_up-asked-requires-clause-lives g t c = busy-live _ _ c.requires.runs
 
 pub effects-returns-clause-lives : goal.effects-returns-clause-lives
 effects-returns-clause-lives g t c =
-    LivelyInFor-effects (loads c.args.fx.downs) (loads c.args.fx.ups) c.requires.runs c.run_make.ensures.lives c.run_downs.ensures.lives c.run_ups.ensures.lives c.run_closes.ensures.lives
+    let bytes = (said c.args.msg.now).bytes in
+    let x = c.args.id.0 in
+    let sent : ℕ → List ℕ = λ n. fx_bytes (bytes_of g.N.Load.Parts.first g.N.Load.Parts.second) n bytes c.args.fx in
+    let made = c.run_make.ensures.lives in
+    let downs = c.run_downs.ensures.lives in
+    let ups = c.run_ups.ensures.lives in
+    let asks = c.requires.asks in
+    LivelyInFor-effects (Leaves c.run_downs.new.self.book (port_at x 0) (few_bytes (bytes_of g.N.Load.Parts.first g.N.Load.Parts.second) 0 bytes c.args.fx.ups)) (Doing c.run_make.new.self.book x sent) (loads c.args.fx.downs) (loads c.args.fx.ups) c.requires.runs made downs ups c.run_closes.ensures.lives
+    (λ ds es a z. Livens-ups x _ ups.lively.grows.same_busy a z)
+    (λ ds es a z. Livens-downs x sent (λ n. few_bytes (bytes_of g.N.Load.Parts.first g.N.Load.Parts.second) n bytes c.args.fx.downs) (few_bytes (bytes_of g.N.Load.Parts.first g.N.Load.Parts.second) 0 bytes c.args.fx.ups) (made.lively.grows.same_busy x ∙ c.requires.runs) (λ n o. downs-bytes (bytes_of g.N.Load.Parts.first g.N.Load.Parts.second) bytes _ c.args.fx asks.ups n o) (ups-bytes (bytes_of g.N.Load.Parts.first g.N.Load.Parts.second) bytes _ c.args.fx asks.downs) downs.calm.shrinks.same_busy a z)
+    (λ ds es a z. Livens-effects x sent made.lively.grows.same_busy a z)
 
 pub enter_up-enter-was-requires : goal.enter_up-enter-was-requires
 enter_up-enter-was-requires g t c = open-live _ _ _ c.requires.open
@@ -65,7 +86,7 @@ enter_up-returns-clause-lives g t c =
     let e = c.leave.ensures.ends Up in
     let y = c.args.at.obj.0 in
     let old = c.args.self.now.book in
-    let r = Lives-entry_up (busy old) _ y (Entered c.args.at Up) (λ done fx. up c.args.at.slot (said c.args.msg.now) c.args.now done fx) (λ x n. b.sets.busy_set x ∙ but_other y true (busy old) x n) (under-idle old y c.requires.under) (Loses-same c.args.self.now.nodes.items b.sets.objects) (λ x t. refl) (λ st. (said c.args.msg.now, refl)) (d.0.lives, d.1) (e.lives c.args.now) in (
+    let r = Lives-entry_up (busy old) _ y (Entered c.args.at Up) (λ done fx. up c.args.at.slot (said c.args.msg.now) c.args.now done fx) (λ x n. b.sets.busy_set x ∙ but_other y true (busy old) x n) (under-idle old y c.requires.under) (Loses-same c.args.self.now.nodes.items b.sets.objects) (λ x t. refl) (λ st. (said c.args.msg.now, refl)) (d.0.lives, d.1) (e.lives c.args.now) (λ ds es z k. Livens-entry {inner = Delivering c.enter-was.new.self c.args.at (said c.args.msg.now).bytes nothing} {outer = Rising old c.args.at (said c.args.msg.now).bytes} y (Entered c.args.at Up) (under-idle old y c.requires.under) (λ x n. b.sets.busy_set x ∙ but_other y true (busy old) x n) (Mild-busy b.sets) (up-notes c.args.at) (λ p q a w v i. rises-delivering old c.enter-was.new.self c.args.at (said c.args.msg.now).bytes (under-idle old y c.requires.under) (λ x n. b.sets.busy_set x ∙ but_other y true (busy old) x n) p q a w v i) z k) in (
       record {
         lively = Lively-entry b.sets b.told b.step (λ st. (c.requires.slot.0, c.requires.slot.1, c.requires.open)) b.was d.0.lively e.ends;
         lives = r.0;
@@ -104,9 +125,10 @@ unfolding LivelyIn-dropped
 go_on-returns-else-is_open-clause-lives g t c =
     let m = said c.args.msg.now in
     let less = length-append c.args.msg.now.first.now c.args.msg.now.second.now in
+    let shut = closed-count (port c.args.self.now.book c.args.at.obj.0 c.args.at.slot) (sym c.is_open.ensures ∙ c.if-is_open.false) in
     rw (left-some c.args.took m (omega arith)) (record {
       lively = LivelyIn-dropped _ _ _ c.args.at (λ e. false≢true (sym (sym c.is_open.ensures ∙ c.if-is_open.false) ∙ ap (λ v. ltb 0 (open_count v)) e)) (rw c.spelled.ensures at c.event.ensures);
-      lives = Lives-weaken (AllBack-stays _ c.args.at.obj.0) (Lives-note g.N.Node.stands c.args.now _ _ (λ st. Holds c.args.at Up (Some (said_behind c.args.took m)) ∷ st) (λ st. Holds c.args.at Up None ∷ st) (Dropped c.args.at) (Loses-refl _) (λ x t. refl) (λ st. inr (said_behind c.args.took m, st, refl, refl)));
+      lives = Lives-weaken (AllBack-stays _ c.args.at.obj.0) (λ ds k. Livens-calm (Calms-idle k (λ p q x y w v i j. rest-shut c.args.self.now.book c.args.at _ p q y x.sent y.taken w v shut j i))) (Lives-plain g.N.Node.stands c.args.now _ _ (λ st. Holds c.args.at Up (Some (said_behind c.args.took m)) ∷ st) (λ st. Holds c.args.at Up None ∷ st) (Dropped c.args.at) (Loses-refl _) (λ x t. refl) (λ st. inr (said_behind c.args.took m, st, refl, refl)) (Calms-plain _ _ _ (Dropped c.args.at) (Mild-same refl (λ x k. refl)) (λ p a. refl)));
     })
 
 pub pass_up-enter_up-requires : goal.pass_up-enter_up-requires
@@ -131,14 +153,14 @@ pass_up-enter_up-requires g t c =
 pub pass_up-returns-in-Open-clause-lives : goal.pass_up-returns-in-Open-clause-lives
 unfolding Calm-sent
 pass_up-returns-in-Open-clause-lives g t c =
-    LivelyFor-calm (record { calm = Calm-sent _ _ _ c.send.ensures; lives = Lives-weaken (λ x w v k. k.1) (Lives-none _ c.args.now _) })
+    LivelyFor-calm (record { calm = Calm-sent _ _ _ c.send.ensures; lives = Lives-weaken (λ x w v k. k.1) (λ ds k. k) (Lives-none _ c.args.now _ (Calms-idle (Calms-none _ _) (λ p q x y w v i j. Leaves-open c.args.self.now.book c.args.at _ (sym c.in-Open.ensures) p q y x.sent y.taken w v j i))) })
 
 pub pass_up-returns-in-Leaving-clause-lives : goal.pass_up-returns-in-Leaving-clause-lives
 unfolding Calm-dropped
 pass_up-returns-in-Leaving-clause-lives g t c =
     LivelyFor-calm (record {
       calm = Calm-dropped _ _ _ c.args.at (Leaving c.in-Leaving.field-0) (sym c.in-Leaving.ensures) tt (rw c.spelled.ensures at c.event.ensures);
-      lives = Lives-weaken (λ x w v k. k.1) (Lives-note g.N.Node.stands c.args.now _ _ here here (Dropped c.args.at) (Loses-refl _) (λ x t. refl) (λ st. inl refl));
+      lives = Lives-weaken (λ x w v k. k.1) (λ ds k. Calms-idle k (λ p q x y w v i j. Leaves-shut c.args.self.now.book c.args.at _ (ap open_count (sym c.in-Leaving.ensures)) p q y w v i)) (Lives-plain g.N.Node.stands c.args.now _ _ here here (Dropped c.args.at) (Loses-refl _) (λ x t. refl) (λ st. inl refl) (Calms-plain _ _ _ (Dropped c.args.at) (Mild-same refl (λ x k. refl)) (λ p a. refl)));
     })
 
 pub pass_up-returns-in-Closed-clause-lives : goal.pass_up-returns-in-Closed-clause-lives
@@ -146,11 +168,13 @@ unfolding Calm-dropped
 pass_up-returns-in-Closed-clause-lives g t c =
     LivelyFor-calm (record {
       calm = Calm-dropped _ _ _ c.args.at Closed (sym c.in-Closed.ensures) tt (rw c.spelled-in-Closed.ensures at c.event-in-Closed.ensures);
-      lives = Lives-weaken (λ x w v k. k.1) (Lives-note g.N.Node.stands c.args.now _ _ here here (Dropped c.args.at) (Loses-refl _) (λ x t. refl) (λ st. inl refl));
+      lives = Lives-weaken (λ x w v k. k.1) (λ ds k. Calms-idle k (λ p q x y w v i j. Leaves-shut c.args.self.now.book c.args.at _ (ap open_count (sym c.in-Closed.ensures)) p q y w v i)) (Lives-plain g.N.Node.stands c.args.now _ _ here here (Dropped c.args.at) (Loses-refl _) (λ x t. refl) (λ st. inl refl) (Calms-plain _ _ _ (Dropped c.args.at) (Mild-same refl (λ x k. refl)) (λ p a. refl)));
     })
 
 pub run_ups-returns-clause-lives : goal.run_ups-returns-clause-lives
-run_ups-returns-clause-lives g t c = LivelyFor-back (carried c.args.ups.first) (carried c.args.ups.second) c.run_up.ensures.lives c.run_up-2.ensures.lives
+run_ups-returns-clause-lives g t c =
+    let k = c.run_up.ensures.lives in
+    LivelyFor-back (carried c.args.ups.first) (carried c.args.ups.second) k c.run_up-2.ensures.lives (λ ds es a z. Livens-few c.args.id.0 _ _ c.requires.runs k.lively.grows.same_busy a z)
 
 pub send_up-give_back-requires-clause-lives : goal.send_up-give_back-requires-clause-lives
 send_up-give_back-requires-clause-lives g t c = busy-live _ _ (c.pass_up.ensures.lives.lively.grows.same_busy c.args.id.0 ∙ c.requires.runs)
@@ -158,19 +182,20 @@ send_up-give_back-requires-clause-lives g t c = busy-live _ _ (c.pass_up.ensures
 pub deliver-returns-clause-lives : goal.deliver-returns-clause-lives
 deliver-returns-clause-lives g t c =
     let k = rw c.ask_up-asked.ensures.book at c.after_up.ensures.lives in
-    let r = Calls-then (busy c.args.self.now.book) (busy c.args.self.now.book) c.args.at.obj.0 (asked_loads c.ask_up-asked.result) (λ done fx. up c.args.at.slot (said c.args.msg.now) c.args.now done fx) (λ x. refl) (rw c.ask_up-asked.ensures.book at c.ask_up-asked.ensures.lives) k.lives in
+    let bytes = (said c.args.msg.now).bytes in
+    let r = Calls-then (busy c.args.self.now.book) (busy c.args.self.now.book) c.args.at.obj.0 (asked_loads c.ask_up-asked.result) (λ done fx. up c.args.at.slot (said c.args.msg.now) c.args.now done fx) (λ x. refl) (rw c.ask_up-asked.ensures.book at c.ask_up-asked.ensures.lives) k.lives (λ ds es a z. Livens-ask c.args.at (asked_sent (bytes_of g.N.Load.Parts.first g.N.Load.Parts.second) bytes c.ask_up-asked.result) (asked_taken c.args.at.slot bytes c.ask_up-asked.result) (asked_taken c.args.at.slot bytes c.ask_up-asked.result c.args.at.slot) (asked_behind bytes c.ask_up-asked.result) bytes c.requires.slot c.requires.open c.requires.steady.whole.links refl (taken-only c.args.at.slot bytes c.ask_up-asked.result) (taken-all c.args.at.slot bytes c.ask_up-asked.result) a.0 a.1 z) in
     (record { lively = k.lively; lives = r.0 }, r.1)
 
 pub run_up-returns-in-None-clause-lives : goal.run_up-returns-in-None-clause-lives
-run_up-returns-in-None-clause-lives g t c = rw c.in-None.is (LivelyFor-weaken (Back-none _ _ c.requires.runs) (LivelyFor-refl _ _ _ _ _))
+run_up-returns-in-None-clause-lives g t c = rw c.in-None.is (LivelyFor-weaken (Back-none _ _ c.requires.runs) (λ p q x y w v i j. i) (LivelyFor-refl _ _ _ _ _ _ (λ p q x y w v i j. leaves-nothing _ _ p q y w v i)))
 
 pub send_up-returns-in-Some-clause-lives : goal.send_up-returns-in-Some-clause-lives
 send_up-returns-in-Some-clause-lives g t c =
-    rw c.in-Some.is (LivelyFor-regain (c.in-Some.load ∷ []) c.requires.runs c.pass_up.ensures.lives c.give_back.ensures.lives c.give_back.ensures.book)
+    rw (c.in-Some.is, sym c.parts.ensures.first, sym c.parts.ensures.second) (LivelyFor-regain (c.in-Some.load ∷ []) c.requires.runs (LivelyFor-weaken (λ x w v i. i) (λ p q x y w v i j. leaves-at c.args.self.now.book c.args.id c.args.emit.slot _ c.requires.up.0 p q y w v i) c.pass_up.ensures.lives) c.give_back.ensures.lives c.give_back.ensures.book)
 
 pub send_up-returns-in-None-clause-lives : goal.send_up-returns-in-None-clause-lives
 send_up-returns-in-None-clause-lives g t c =
-    rw c.in-None.is (LivelyFor-weaken (Back-none _ _ c.requires.runs) c.pass_up-in-None.ensures.lives)
+    rw (c.in-None.is, sym c.cut.ensures.bytes) (LivelyFor-weaken (Back-none _ _ c.requires.runs) (λ p q x y w v i j. leaves-at c.args.self.now.book c.args.id c.args.emit.slot _ c.requires.up.0 p q y w v i) c.pass_up-in-None.ensures.lives)
 
 pub after_up-go_on-requires : goal.after_up-go_on-requires
 after_up-go_on-requires g t c =
@@ -195,13 +220,23 @@ unfolding LivelyIn-refl
 go_on-returns-then-took-msg-clause-lives g t c =
     let m = said c.args.msg.now in
     let all = length-append c.args.msg.now.first.now c.args.msg.now.second.now in
+    let gone = drop_all c.args.took m.bytes (omega arith) in
     rw (left-none c.args.took m (omega arith)) (record {
       lively = LivelyIn-refl _ _ _;
-      lives = Lives-weaken (AllBack-stays _ c.args.at.obj.0) (Lives-under (λ st. Holds c.args.at Up None ∷ st) (Lives-none _ c.args.now _));
+      lives = Lives-weaken (AllBack-stays _ c.args.at.obj.0) (λ ds k. Livens-calm k) (Lives-under (λ st. Holds c.args.at Up None ∷ st) (Lives-none _ c.args.now _ (Calms-idle (Calms-none _ _) (λ p q x y w v i j. inr (rest-none c.args.self.now.book c.args.at _ p q y w v gone i)))));
     })
 
 pub go_on-returns-then-is_open-clause-lives : goal.go_on-returns-then-is_open-clause-lives
 go_on-returns-then-is_open-clause-lives g t c =
     let m = said c.args.msg.now in
     let less = length-append c.args.msg.now.first.now c.args.msg.now.second.now in
-    rw (left-some c.args.took m (omega arith), sym c.behind.ensures.bytes) c.deliver.ensures.lives.0
+    rw (left-some c.args.took m (omega arith), sym c.behind.ensures.bytes) (LivelyInFor-weaken (λ p q x y w v i j. subst (λ z. Delivering c.args.self.now.book c.args.at z nothing p q y w v) (sym (ap (λ z. z.bytes) c.behind.ensures.bytes)) i) c.deliver.ensures.lives.0)
+
+pub pass_up-returns-in-Linked-clause-lives : goal.pass_up-returns-in-Linked-clause-lives
+pass_up-returns-in-Linked-clause-lives g t c =
+    LivelyFor-weaken (λ x w v i. i) (λ p q x y w v i j. Leaves-rising c.args.self.now.book c.args.at c.in-Linked.peer _ c.requires.steady.whole.links c.requires.slot (sym c.in-Linked.ensures) p q y x.sent y.taken w v j i) c.enter_up.ensures.lives.0
+
+pub run_up-returns-in-Some-clause-lives : goal.run_up-returns-in-Some-clause-lives
+run_up-returns-in-Some-clause-lives g t c =
+    let up = rw c.in-Some.is at c.requires.up in
+    rw (c.in-Some.is, emit-there (bytes_of g.N.Load.Parts.first g.N.Load.Parts.second) (said c.args.msg.now).bytes 0 c.in-Some.emit (sym up.0)) c.send_up.ensures.lives

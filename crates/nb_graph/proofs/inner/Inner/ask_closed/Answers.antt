@@ -1,5 +1,6 @@
 use Rattle.std.proofs.Common.{refl}
 use Rattle.nb_graph.specs.Trace.{closed}
+use Rattle.nb_graph.proofs.CallLemmas.{Calms-call}
 use Rattle.nb_graph.proofs.SeatLemmas.{Lives-seat}
 use Rattle.std.proofs.Common.{arith}
 use Rattle.nb_graph.proofs.MannedLemmas.{manned-place, IsManned-node}
@@ -22,3 +23,4 @@ returns-clause-lives g c =
     (λ x w v n k. k.1 n)
     (λ t w v k o s. c.on_close.ensures.stands t s)
     (λ st. (st, refl, refl, refl))
+    (Calms-call _ _ c.args.at.obj.0 (closed c.args.at.slot c.args.cause.now c.args.now c.on_close.new.fx) _ _ (λ k. refl) (λ k. refl))

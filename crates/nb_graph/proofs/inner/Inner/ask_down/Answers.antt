@@ -1,5 +1,6 @@
 use Rattle.std.proofs.Common.{refl, true, false}
 use Rattle.nb_graph.specs.Trace.{down, said}
+use Rattle.nb_graph.proofs.CallLemmas.{Calms-call}
 use Rattle.nb_graph.proofs.SeatLemmas.{Calls-seat}
 use Rattle.std.proofs.Common.{arith}
 use Rattle.nb_graph.proofs.MannedLemmas.{manned-place, IsManned-node}
@@ -27,6 +28,7 @@ returns-in-Ok-clause-lives g c =
     (λ x w v n k. k.1 n)
     (λ t w v k o s. c.in-Ok.ensures.stands t s)
     (λ st. (st, refl, refl, refl))
+    (Calms-call _ _ c.args.id.0 (down (said c.args.msg.now) c.args.now true c.on_down.new.fx) _ _ (λ k. refl) (λ k. refl))
 
 pub returns-in-Err-clause-lives : goal.returns-in-Err-clause-lives
 returns-in-Err-clause-lives g c =
@@ -35,3 +37,4 @@ returns-in-Err-clause-lives g c =
     (λ x w v n k. k.1 n)
     (λ t w v k o s. c.in-Err.ensures.stands t s)
     (λ st. (st, refl, refl, refl))
+    (Calms-call _ _ c.args.id.0 (down (said c.args.msg.now) c.args.now false c.on_down.new.fx) _ _ (λ k. refl) (λ k. refl))

@@ -1,5 +1,7 @@
+use Rattle.nb_graph.specs.Accounts.{bytes_of}
 use Rattle.std.proofs.Common.{refl, sym, ◌∙◌, ap, subst, true, false, [], ◌++◌}
 use Rattle.nb_graph.specs.Trace.{up, said, lent, Owes}
+use Rattle.nb_graph.proofs.CallLemmas.{Asks-call, Calms-call}
 use Rattle.nb_graph.proofs.SeatLemmas.{Calls-seat}
 use Rattle.std.proofs.Common.{arith}
 use Rattle.nb_graph.proofs.MannedLemmas.{manned-place, IsManned-node}
@@ -34,6 +36,7 @@ returns-in-Ok-clause-lives g c =
     (λ x w v n k. k.1 n)
     (λ t w v k o s. c.in-Ok.ensures.stands t s (subst (Owes [] t) (k.0 refl).0 o))
     (λ st. (st, refl, refl, refl))
+    (Calms-call _ _ c.args.at.obj.0 (up c.args.at.slot (said c.args.msg.now) c.args.now true c.on_up.new.fx) _ _ (λ k. refl) (λ k. refl), Asks-call (bytes_of g.N.Load.Parts.first g.N.Load.Parts.second) c.args.at.obj.0 (up c.args.at.slot (said c.args.msg.now) c.args.now true c.on_up.new.fx) _ (λ k. refl))
 
 pub returns-in-Err-clause-lives : goal.returns-in-Err-clause-lives
 returns-in-Err-clause-lives g c =
@@ -42,3 +45,4 @@ returns-in-Err-clause-lives g c =
     (λ x w v n k. k.1 n)
     (λ t w v k o s. c.in-Err.ensures.stands t s (subst (Owes [] t) (k.0 refl).0 o))
     (λ st. (st, refl, refl, refl))
+    (Calms-call _ _ c.args.at.obj.0 (up c.args.at.slot (said c.args.msg.now) c.args.now false c.on_up.new.fx) _ _ (λ k. refl) (λ k. refl), Asks-call (bytes_of g.N.Load.Parts.first g.N.Load.Parts.second) c.args.at.obj.0 (up c.args.at.slot (said c.args.msg.now) c.args.now false c.on_up.new.fx) _ (λ k. refl))

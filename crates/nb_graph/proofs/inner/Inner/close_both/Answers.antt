@@ -3,7 +3,8 @@ use Rattle.nb_ledger.specs.declared.event.GraphEvent.TheVariants.{Closed, Entere
 use Rattle.nb_ledger.specs.declared.event.Way.TheVariants.{Close}
 use Rattle.nb_graph.specs.Deeds.{Shut, MustHear}
 use Rattle.nb_graph.specs.Lives.{here}
-use Rattle.nb_graph.proofs.LivesLemmas.{Lives-note, Lives-then}
+use Rattle.nb_graph.proofs.LivesLemmas.{Lives-both, Lives-note, Lives-say, Lives-then}
+use Rattle.nb_graph.proofs.CallLemmas.{Calms-half}
 use Rattle.nb_graph.proofs.SeatLemmas.{Loses-same}
 use Rattle.std.proofs.Common.{refl, ◌∙◌, ◌∷◌}
 use Rattle.nb_ledger.specs.GraphRun.{MustEnter, MustUnplug}
@@ -43,12 +44,14 @@ pub returns-clause-runs : goal.returns-clause-runs
 returns-clause-runs g c = c.enter_closed.ensures.runs
 
 pub returns-clause-lives : goal.returns-clause-lives
+unfolding Lives-both Lives-then Lives-note
 returns-clause-lives g c = λ now.
     let nodes = c.args.self.now.nodes.items in
     let cause = c.args.cause.now in
     let p = c.args.peer in
-    Lives-then (Lives-note g.N.Node.stands now _ _ here here (Closed c.args.at cause) (Loses-same nodes c.close_first.ensures.sets.objects) (λ x t. refl) (λ st. inl refl))
-    (Lives-then (Lives-note g.N.Node.stands now _ _ here (λ st. Shut p cause ∷ st) (Closed p cause) (Loses-same nodes c.close_peer.ensures.sets.objects) (λ x t. refl) (λ st. inr refl))
-    (Lives-note g.N.Node.stands now _ _ (λ st. Shut p cause ∷ st) (λ st. MustHear p cause ∷ st) (Entered p Close) (Loses-same nodes c.enter_closed.ensures.sets.objects) (λ x t. refl) (λ st. (cause, st, refl, refl)))
+    Lives-say (Lives-both (Lives-note g.N.Node.stands now _ _ here here (Closed c.args.at cause) (Loses-same nodes c.close_first.ensures.sets.objects) (λ x t. refl) (λ st. inl refl) {i = λ _. Unit {0}} tt)
+    (Lives-both (Lives-note g.N.Node.stands now _ _ here (λ st. Shut p cause ∷ st) (Closed p cause) (Loses-same nodes c.close_peer.ensures.sets.objects) (λ x t. refl) (λ st. inr refl) {i = λ _. Unit {0}} tt)
+    (Lives-note g.N.Node.stands now _ _ (λ st. Shut p cause ∷ st) (λ st. MustHear p cause ∷ st) (Entered p Close) (Loses-same nodes c.enter_closed.ensures.sets.objects) (λ x t. refl) (λ st. (cause, st, refl, refl)) {i = λ _. Unit {0}} tt)
     (λ x w v k. (w, refl, k)))
-    (λ x w v k. (w, refl, k))
+    (λ x w v k. (w, refl, k)))
+    (Calms-half _ _ _ c.args.at p cause c.requires.steady.whole.links c.requires.linked (returns-clause-half g c))

@@ -2,7 +2,8 @@ use Rattle.std.proofs.Common.{refl, None, ◌∷◌}
 use Rattle.nb_ledger.specs.declared.event.GraphEvent.TheVariants.{Left}
 use Rattle.nb_graph.specs.Deeds.{Holds}
 use Rattle.nb_graph.specs.Lives.{here}
-use Rattle.nb_graph.proofs.LivesLemmas.{Lives-note, Lives-then}
+use Rattle.nb_graph.proofs.AccountLemmas.{Calms-plain}
+use Rattle.nb_graph.proofs.MildLemmas.{Lives-next, Lives-plain, Mild-busy}
 use Rattle.nb_graph.proofs.SeatLemmas.{Loses-same}
 use Rattle.nb_graph.proofs.CalmLemmas.{Ends-leave, IsWhole-leave}
 use Rattle.nb_graph.proofs.MannedLemmas.{IsManned-same}
@@ -13,7 +14,7 @@ unfolding Ends-leave
 returns-clause-ends g c = λ by. record {
   ends = Ends-leave by c.leave.ensures.sets c.leave.ensures.told c.leave.ensures.step c.settle.ensures.settles.settles;
   lives = λ now.
-      Lives-then (Lives-note g.N.Node.stands now _ _ (λ st. Holds c.args.at by None ∷ st) here (Left c.args.at) (Loses-same c.args.self.now.nodes.items c.leave.ensures.sets.objects) (λ x t. refl) (λ st. (by, refl))) (c.settle.ensures.settles.lives now) (λ x w v k. (w, refl, k));
+      Lives-next (Lives-plain g.N.Node.stands now _ _ (λ st. Holds c.args.at by None ∷ st) here (Left c.args.at) (Loses-same c.args.self.now.nodes.items c.leave.ensures.sets.objects) (λ x t. refl) (λ st. (by, refl)) (Calms-plain _ _ _ (Left c.args.at) (Mild-busy c.leave.ensures.sets) (λ p a. refl))) (c.settle.ensures.settles.lives now);
 }
 
 pub returns-clause-steady : goal.returns-clause-steady

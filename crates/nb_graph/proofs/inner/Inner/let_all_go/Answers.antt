@@ -6,7 +6,7 @@ use Rattle.nb_graph.proofs.EndLemmas.{LetsGo-refl, LetsGo-trans}
 use Rattle.nb_graph.proofs.inner.Inner.let_all_go.Goals as goal
 
 pub loop-id-init : goal.loop-id-init
-loop-id-init g c = record { graph = c.requires.graph; runs = RunFor-none _ _ _ _; lets = LetsGo-refl _ }
+loop-id-init g c = record { graph = c.requires.graph; runs = RunFor-none _ _ _ _ _; lets = LetsGo-refl _ }
 
 pub loop-id-preserved : goal.loop-id-preserved
 loop-id-preserved g c = record {

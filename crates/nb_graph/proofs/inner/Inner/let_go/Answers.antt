@@ -1,7 +1,10 @@
+use Rattle.nb_graph.proofs.AccountLemmas.{Mild-trans}
+use Rattle.nb_graph.proofs.MildLemmas.{Mild-settle}
 use Rattle.std.proofs.Common.{arith, refl, ◌∷◌}
 use Rattle.nb_ledger.specs.declared.event.GraphEvent.TheVariants.{LetGo}
 use Rattle.nb_graph.specs.Lives.{here}
-use Rattle.nb_graph.proofs.LivesLemmas.{Lives-note, Lives-then}
+use Rattle.nb_graph.proofs.AccountLemmas.{Calms-plain}
+use Rattle.nb_graph.proofs.MildLemmas.{Lives-next, Lives-plain, Mild-holds}
 use Rattle.nb_graph.proofs.SeatLemmas.{Loses-same, Loses-trans}
 use Rattle.nb_graph.proofs.RunsLemmas.{IsRun-let_go}
 use Rattle.nb_graph.proofs.GraphLemmas.{but-counted, KeepsRanks-settle, IsGraph-settle}
@@ -16,7 +19,7 @@ returns-clause-runs g c = record {
   added = LetGo c.args.id ∷ c.settle.ensures.settles.settles.added;
   runs = (IsRun-let_go _ _ _ _ _ _ c.args.id (IsQuiet-holds c.let_go.ensures.sets c.requires.graph.quiet) c.let_go.ensures.told c.let_go.ensures.step c.settle.ensures.settles.settles).1;
   lives = λ now.
-      Lives-then (Lives-note g.N.Node.stands now _ _ here here (LetGo c.args.id) (Loses-same c.args.self.now.nodes.items c.let_go.ensures.sets.objects) (λ x t. refl) (λ st. refl)) (c.settle.ensures.settles.lives now) (λ x w v k. (w, refl, k));
+      Lives-next (Lives-plain g.N.Node.stands now _ _ here here (LetGo c.args.id) (Loses-same c.args.self.now.nodes.items c.let_go.ensures.sets.objects) (λ x t. refl) (λ st. refl) (Calms-plain _ _ _ (LetGo c.args.id) (Mild-holds c.let_go.ensures.sets) (λ p a. refl))) (c.settle.ensures.settles.lives now);
 }
 
 pub returns-clause-loses : goal.returns-clause-loses
@@ -39,3 +42,6 @@ returns-clause-lets g c = LetsGo-let_go c.requires.held c.let_go.ensures.sets c.
 
 pub returns-clause-falls : goal.returns-clause-falls
 returns-clause-falls g c = falls-let_go c.requires.held c.let_go.ensures.sets c.settle.ensures.settles.settles
+
+pub returns-clause-mild : goal.returns-clause-mild
+returns-clause-mild g c = Mild-trans (Mild-holds c.let_go.ensures.sets) (Mild-settle c.settle.ensures.settles.settles)

@@ -1,3 +1,6 @@
+use Rattle.nb_graph.proofs.AccountLemmas.{Joined-mild}
+use Rattle.nb_graph.proofs.MildLemmas.{Mild-holds}
+use Rattle.nb_graph.proofs.MakeLemmas.{Joined-add}
 use Rattle.std.proofs.Common.{arith, refl, sym, subst, []}
 use Rattle.nb_graph.proofs.SeatLemmas.{made-seat, other-seat}
 use Rattle.nb_graph.proofs.GraphLemmas.{IsGraph-make, IsMade-make, KeepsRanks-make}
@@ -24,3 +27,6 @@ pub returns-clause-keeps : goal.returns-clause-keeps
 returns-clause-keeps g c = λ x t ne fit n h.
     let manned = rw c.add-id.ensures.nodes at c.add-id.ensures.manned in
     fit n (other-seat c.hold.new.self c.args.node c.requires.graph.manned c.add-id.ensures.adds manned c.add-id.ensures.place c.hold.ensures.sets.objects.same_place x n ne (rw c.add-id.ensures.nodes at h))
+
+pub returns-clause-bytes : goal.returns-clause-bytes
+returns-clause-bytes g c = λ p q a b bal e. Joined-mild (Mild-holds c.hold.ensures.sets) (Joined-add c.add-id.ensures.adds c.add-id.ensures.fresh c.add-id.ensures.serial (bal e))

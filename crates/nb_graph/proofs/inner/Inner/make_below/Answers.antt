@@ -11,6 +11,7 @@ use Rattle.nb_graph.proofs.WholeLemmas.{but_same, but_other, ports_other, ports_
 use Rattle.nb_graph.proofs.GraphLemmas.{dead-loose, small-add}
 use Rattle.nb_graph.proofs.LivelyLemmas.{Lively-make, dead-busy}
 use Rattle.nb_graph.proofs.LivesLemmas.{Lives-make}
+use Rattle.nb_graph.proofs.MakeLemmas.{Livens-make}
 use Rattle.nb_graph.proofs.SeatLemmas.{made-seat, other-seat}
 use Rattle.nb_graph.proofs.inner.Inner.make_below.Goals as goal
 
@@ -47,7 +48,7 @@ returns-clause-lives g c = λ now.
     let manned = rw more at c.add-id.ensures.manned in
     record {
       lively = Lively-make _ _ _ _ _ _ _ c.args.at _ _ _ a c.add-id.ensures.fresh s.1 s.2 (still_open _ _ c.args.at _ _ a c.add-id.ensures.fresh c.requires.free) (fresh_open _ _ _ _ a) c.add-id.ensures.told c.add-id.ensures.step c.plug.ensures.told c.plug.ensures.step;
-      lives = rw more (Lives-make g.N.Node.stands now (busy c.args.self.now.book) _ _ c.add-id.result _ c.args.at (record { obj = c.add-id.result; slot = 0 }) c.args.node c.requires.stands (dead-busy _ _ c.add-id.ensures.fresh) (made-seat c.plug.new.self c.args.node c.requires.steady.manned a manned c.add-id.ensures.place same) (other-seat c.plug.new.self c.args.node c.requires.steady.manned a manned c.add-id.ensures.place same));
+      lives = rw more (Lives-make g.N.Node.stands now (busy c.args.self.now.book) _ _ c.add-id.result _ c.args.at (record { obj = c.add-id.result; slot = 0 }) c.args.node c.requires.stands (dead-busy _ _ c.add-id.ensures.fresh) (made-seat c.plug.new.self c.args.node c.requires.steady.manned a manned c.add-id.ensures.place same) (other-seat c.plug.new.self c.args.node c.requires.steady.manned a manned c.add-id.ensures.place same) (Livens-make _ _ _ _ _ c.args.at (record { obj = c.add-id.result; slot = 0 }) _ _ a c.add-id.ensures.fresh c.add-id.ensures.serial s.1 s.2 c.requires.free c.requires.slot refl c.plug.ensures.made.0 (another _ c.args.at _ c.add-id.ensures.fresh c.requires.free)));
     }
 
 pub returns-clause-steady : goal.returns-clause-steady

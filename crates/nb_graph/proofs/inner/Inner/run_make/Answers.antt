@@ -1,5 +1,6 @@
+use Rattle.std.proofs.Common.{inr}
 use Rattle.nb_graph.proofs.LivelyForLemmas.{LivelyInFor-refl}
 use Rattle.nb_graph.proofs.inner.Inner.run_make.Goals as goal
 
 pub returns-in-None-clause-lives : goal.returns-in-None-clause-lives
-returns-in-None-clause-lives g c = LivelyInFor-refl _ _ _ _ _ _
+returns-in-None-clause-lives g c = LivelyInFor-refl _ _ _ _ _ _ _ (λ p q x y w v i j. inr i.0)

@@ -3,21 +3,25 @@ use Rattle.nb_ledger.specs.declared.event.GraphEvent.TheVariants.{Freed}
 use Rattle.nb_ledger.proofs.SettleLemmas.{Settles-free, Settles-stay}
 use Rattle.nb_graph.specs.Lives.{here}
 use Rattle.nb_graph.proofs.SeatLemmas.{Loses-refl}
-use Rattle.nb_graph.proofs.LivesLemmas.{Lives-none, Lives-note}
+use Rattle.nb_graph.proofs.LivesLemmas.{Lives-none}
+use Rattle.nb_graph.proofs.AccountLemmas.{Calms-none, Calms-plain}
+use Rattle.nb_graph.proofs.MildLemmas.{Lives-plain, Mild-settle}
 use Rattle.nb_graph.proofs.inner.Inner.settle.Goals as goal
 
 pub returns-then-is_unused-clause-settles : goal.returns-then-is_unused-clause-settles
 unfolding Settles-free
-returns-then-is_unused-clause-settles g c = record {
-  settles = Settles-free _ _ _ _ c.args.id (sym c.is_unused.ensures ∙ c.if-is_unused.true) c.free.ensures.told c.free.ensures.step c.free.ensures.removes;
-  loses = c.free.ensures.loses;
-  lives = λ now. Lives-note g.N.Node.stands now _ _ here here (Freed c.args.id) c.free.ensures.loses (λ x t. refl) (λ st. refl);
-}
+returns-then-is_unused-clause-settles g c =
+    let s = Settles-free _ _ _ _ c.args.id (sym c.is_unused.ensures ∙ c.if-is_unused.true) c.free.ensures.told c.free.ensures.step c.free.ensures.removes in
+    record {
+      settles = s;
+      loses = c.free.ensures.loses;
+      lives = λ now. Lives-plain g.N.Node.stands now _ _ here here (Freed c.args.id) c.free.ensures.loses (λ x t. refl) (λ st. refl) (Calms-plain _ _ _ (Freed c.args.id) (Mild-settle s) (λ p a. refl));
+    }
 
 pub returns-else-is_unused-clause-settles : goal.returns-else-is_unused-clause-settles
 unfolding Settles-stay
 returns-else-is_unused-clause-settles g c = record {
   settles = Settles-stay _ _ c.args.id (sym c.is_unused.ensures ∙ c.if-is_unused.false);
   loses = Loses-refl _;
-  lives = λ now. Lives-none g.N.Node.stands now _;
+  lives = λ now. Lives-none g.N.Node.stands now _ (Calms-none _ _);
 }

@@ -1,6 +1,6 @@
-use Rattle.std.proofs.Common.{◌≡◌, arith, refl, ◌∙◌}
+use Rattle.std.proofs.Common.{◌≡◌, arith, ◌∙◌}
 use Rattle.nb_graph.proofs.ShrinkLemmas.{SettlesTwo-pair, IsWhole-pair, live-settle}
-use Rattle.nb_graph.proofs.LivesLemmas.{Lives-then}
+use Rattle.nb_graph.proofs.MildLemmas.{Lives-next}
 use Rattle.nb_graph.proofs.inner.Inner.settle_pair.Goals as goal
 
 pub settle-requires-2-clause-lives : goal.settle-requires-2-clause-lives
@@ -12,7 +12,7 @@ pub returns-clause-settles : goal.returns-clause-settles
 unfolding SettlesTwo-pair
 returns-clause-settles g c = record {
   settles = SettlesTwo-pair c.requires.order c.settle.ensures.settles.settles c.settle-2.ensures.settles.settles;
-  lives = λ now. Lives-then (c.settle.ensures.settles.lives now) (c.settle-2.ensures.settles.lives now) (λ x w v k. (w, refl, k));
+  lives = λ now. Lives-next (c.settle.ensures.settles.lives now) (c.settle-2.ensures.settles.lives now);
 }
 
 pub returns-clause-steady : goal.returns-clause-steady

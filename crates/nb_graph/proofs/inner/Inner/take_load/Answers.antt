@@ -1,6 +1,7 @@
 use Rattle.nb_graph.proofs.LivesLemmas.{Lives-none, Lives-weaken}
+use Rattle.nb_graph.proofs.AccountLemmas.{Calms-none}
 use Rattle.nb_graph.proofs.OwingLemmas.{Back-stays}
 use Rattle.nb_graph.proofs.inner.Inner.take_load.Goals as goal
 
 pub returns-in-None-clause-lives : goal.returns-in-None-clause-lives
-returns-in-None-clause-lives g c = λ now. rw c.in-None.is (Lives-weaken (Back-stays _ _) (Lives-none _ now _))
+returns-in-None-clause-lives g c = λ now. rw c.in-None.is (Lives-weaken (Back-stays _ _) (λ ds k. k) (Lives-none _ now _ (Calms-none _ _)))

@@ -10,4 +10,4 @@ pub set_port-requires-clause-slot : goal.set_port-requires-clause-slot
 set_port-requires-clause-slot g c = (live_by c.args.self.now c.args.at.obj.0 c.args.at.slot _ tt c.requires).1
 
 pub returns-clause-step : goal.returns-clause-step
-returns-clause-step g c = λ st idle. linked c.args.peer idle c.requires (state-port _ c.set_port.ensures)
+returns-clause-step g c = λ st idle. linked c.args.peer idle c.requires (state-port _ c.set_port.ensures.sets)
