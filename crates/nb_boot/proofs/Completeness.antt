@@ -25,11 +25,11 @@ at_end_none None after e h = let no : None ≡ Some after = e in cc
 at_end_none (Some y) after e h = let same : y ≡ after = cc in sym same ∙ h
 
 -- the input ended behind these bytes
-ended_there : (rest after bytes : List ℕ) (o : Outside) → bytes ≡ rest ++ after → o.left ≡ Some after → IsAtEnd o → rest ≡ bytes
+pub ended_there : (rest after bytes : List ℕ) (o : Outside) → bytes ≡ rest ++ after → o.left ≡ Some after → IsAtEnd o → rest ≡ bytes
 ended_there rest after bytes o e told end = sym (append-nil rest) ∙ ap (λ t. rest ++ t) (sym (at_end_none o.left after told end)) ∙ sym e
 
 -- what begins with a record begins with the first of those that are spelled there
-same_entry : (Kind : In → Type 0) (r : In) (tail rest after : List ℕ) → IsIn r → in_text r ++ tail ≡ rest ++ after → BeginsWith rest Kind → Kind r
+pub same_entry : (Kind : In → Type 0) (r : In) (tail rest after : List ℕ) → IsIn r → in_text r ++ tail ≡ rest ++ after → BeginsWith rest Kind → Kind r
 same_entry Kind r tail rest after valid e w =
     let both : in_text w.entry ++ (w.more ++ after) ≡ in_text r ++ tail =
     sym (append_assoc (in_text w.entry) w.more after) ∙ ap (λ t. t ++ after) (sym w.spelled) ∙ sym e in
@@ -44,13 +44,13 @@ no_bad_first s tail rest after o valid e told (inr (inl w)) = same_entry IsOther
 no_bad_first s tail rest after o valid e told (inr (inr (p, end))) =
     partial_not_whole (start s) rest tail valid (ended_there rest after (in_text (start s) ++ tail) o e told end) p
 
-first_no_other : (r : In) → IsFirst r → IsOther r → ⊥
+pub first_no_other : (r : In) → IsFirst r → IsOther r → ⊥
 first_no_other (start s) f o = o
 first_no_other (frame bytes) f o = f
 first_no_other (tick ms) f o = f
 first_no_other off f o = f
 
-empty_front : (rest after : List ℕ) → [] ≡ rest ++ after → rest ≡ []
+pub empty_front : (rest after : List ℕ) → [] ≡ rest ++ after → rest ≡ []
 empty_front [] after e = refl
 empty_front (x ∷ xs) after e = absurd (omega (arith, ap length e))
 

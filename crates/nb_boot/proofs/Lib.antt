@@ -13,4 +13,9 @@ pub mod Attached
 pub mod Spelled
 pub mod Completeness
 pub mod OneRun
-pub mod FirstStep
+pub mod Awaiting
+pub mod OneAnswer
+pub mod OneStep
+pub mod OneRuns
+pub mod Comparing
+pub mod Telling

@@ -77,12 +77,12 @@ move_is m a m' (hands n r rest) = refl
 move_is m a m' (has_handed n) = refl
 
 -- moves one after another, the first in front
-data Goes : Machine → List Out → Machine → Type 0 where
+pub data Goes : Machine → List Out → Machine → Type 0 where
   stays : (m : Machine) → Goes m [] m
   first : (m mid m' : Machine) (a outs : List Out) → Move m a mid → Goes mid outs m' → Goes m (a ++ outs) m'
 
 -- one move more at the end
-goes_then : (m m1 m2 : Machine) (outs a : List Out) → Goes m outs m1 → Move m1 a m2 → Goes m (outs ++ a) m2
+pub goes_then : (m m1 m2 : Machine) (outs a : List Out) → Goes m outs m1 → Move m1 a m2 → Goes m (outs ++ a) m2
 goes_then m m1 m2 outs a (stays _) v = subst (λ xs. Goes m xs m2) (append-nil a) (first m m2 m2 a [] v (stays m2))
 goes_then m m1 m2 outs a (first _ mid _ b rest u g) v =
     subst (λ xs. Goes m xs m2) (sym (append_assoc b rest a)) (first m mid m2 b (rest ++ a) u (goes_then mid m1 m2 rest a g v))
@@ -126,7 +126,7 @@ unfolding reached_in
 same_reached x y e = ap (reached_in x) e
 
 -- two runs of moves that come to rest are one
-one_way : (m m1 : Machine) (outs : List Out) → Goes m outs m1 → IsAtRest m1.phase → (m2 : Machine) (outs' : List Out) → Goes m outs' m2 → IsAtRest m2.phase →
+pub one_way : (m m1 : Machine) (outs : List Out) → Goes m outs m1 → IsAtRest m1.phase → (m2 : Machine) (outs' : List Out) → Goes m outs' m2 → IsAtRest m2.phase →
     SameRun outs outs' m1 m2
 one_way m m1 outs (stays _) o m2 outs' g p =
     elim (goes_cases m m2 outs' g) [

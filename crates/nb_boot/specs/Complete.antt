@@ -1,10 +1,9 @@
 -- With no fault and memory enough, a run ends as the machine does.
-use Rattle.std.specs.Prelude.{◌≡◌, ℕ, ◌<◌, List, [], ◌∷◌, ◌++◌, length, Some, IsSome}
-use Rattle.nb_terms.specs.declared.cause.Cause.{Cause}
-use Rattle.nb_defs.specs.Records.{Start, In, start, IsIn, in_text, in_texts, Out}
+use Rattle.std.specs.Prelude.{◌≡◌, ℕ, ◌<◌, ◌≤◌, List, [], ◌∷◌, ◌++◌, length, Some, IsSome}
+use Rattle.nb_defs.specs.Records.{Start, In, start, IsIn, in_texts, Out}
 use Rattle.nb_record.specs.Outside.{Outside, Rose}
 use Rattle.nb_boot.specs.Run.{IsOther}
-use Rattle.nb_engine.specs.Machine.{Machine, left, Path, status_of}
+use Rattle.nb_engine.specs.Machine.{Machine, Phase, ready, running, waiting, handing, left, handed_off, stopped, Path, status_of}
 use Rattle.nb_engine.specs.StatusNumber.{number_of}
 use Rattle.nb_engine.specs.declared.status.Status.{Status}
 use Rattle.nb_engine.specs.declared.status.Status.TheVariants as status
@@ -46,9 +45,20 @@ Completes result before after = (s : Start) (others : List In) → IsIn (start s
     before.left ≡ Some (in_texts (start s ∷ others)) → IsSome after.left → NoneRose before after → (result ≡ status.NoMemory → ⊥) →
     IsMachines result (length (start s ∷ others))
 
--- where the input begins with a START in whose step the machine leaves the script, whatever follows, the line
--- tells what is left, no count rose and memory sufficed, the status is the one of the script's cause
-abbrev pub CompletesFirst : Status → Outside → Outside → Type 0
-CompletesFirst result before after = (s : Start) (more : List ℕ) (outs : List Out) (m : Machine) (cause : Cause) → IsIn (start s) →
-    before.left ≡ Some (in_text (start s) ++ more) → Path (start s ∷ []) outs m → m.phase ≡ left cause →
-    IsSome after.left → NoneRose before after → (result ≡ status.NoMemory → ⊥) → number_of result ≡ status_of cause
+-- What a run of the machine says of the status where it has come here and these bytes follow: it is over, or a
+-- command waits and nothing follows.
+abbrev pub SaysStatus : Phase → List ℕ → ℕ → Type 0
+SaysStatus ready more number = ⊥
+SaysStatus (running w s) more number = ⊥
+SaysStatus (waiting w s o) more number = (more ≡ []) × (number ≡ 5)
+SaysStatus (handing rest) more number = ⊥
+SaysStatus (left cause) more number = number ≡ status_of cause
+SaysStatus handed_off more number = number ≡ 0
+SaysStatus stopped more number = number ≡ 5
+
+-- Where the input begins with records on which a run of the machine says the status, the line tells what is left,
+-- no count rose and memory sufficed, it is that one: the input alone says it, whatever follows.
+abbrev pub CompletesRun : Status → Outside → Outside → Type 0
+CompletesRun result before after = (ins : List In) (more : List ℕ) (outs : List Out) (m : Machine) (number : ℕ) → length ins ≤ 4294967295 →
+    before.left ≡ Some (in_texts ins ++ more) → Path ins outs m → SaysStatus m.phase more number →
+    IsSome after.left → NoneRose before after → (result ≡ status.NoMemory → ⊥) → number_of result ≡ number

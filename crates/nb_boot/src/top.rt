@@ -2,7 +2,7 @@ ghost use Rattle.std.specs.Prelude.{◌≡◌, ◌↔◌, [], false, true, map, 
 ghost use Rattle.std.specs.String.{string_bytes};
 ghost use Rattle.nb_boot.specs.Run.{Shows};
 ghost use Rattle.nb_boot.specs.Words.{is_replay, NamesFiles};
-ghost use Rattle.nb_boot.specs.Complete.{CompletesFirst, Completes, IsBadWords};
+ghost use Rattle.nb_boot.specs.Complete.{Completes, CompletesRun, IsBadWords};
 
 use crate::Status;
 use crate::begin::begin;
@@ -107,7 +107,7 @@ pub fn netboot<L: Line>(alloc: Global, words: &[String], line: &mut L) -> Status
     ensures run { is_replay (map string_bytes words.now) ≡ true → Shows result (L.outside line.old) (L.outside line.new) }
     // With no fault and memory enough the status is the machine's.
     ensures complete { is_replay (map string_bytes words.now) ≡ true → Completes result (L.outside line.old) (L.outside line.new) }
-    ensures first { is_replay (map string_bytes words.now) ≡ true → CompletesFirst result (L.outside line.old) (L.outside line.new) }
+    ensures alone { is_replay (map string_bytes words.now) ≡ true → CompletesRun result (L.outside line.old) (L.outside line.new) }
 {
     match files(words) {
         Some(target) => attach(alloc, &target, line),

@@ -63,6 +63,10 @@ pub record Account : Type 0 where
   pub entered : Bool
   pub asked : List ℕ
 
+-- that of a port that wasn't plugged yet
+abbrev pub unplugged : Account
+unplugged = record { peer = None; sent = []; taken = []; entered = false; asked = [] }
+
 -- p is q
 abbrev pub is_port : Port → Port → Bool
 is_port p q = (p.obj.0 == q.obj.0) && (p.slot == q.slot)

@@ -3,7 +3,8 @@ ghost use Rattle.std.specs.Bool.{OnTrue, OnFalse};
 ghost use Rattle.std.specs.Option.{option_copied};
 ghost use Rattle.nb_ledger.specs.declared.event.GraphEvent.TheVariants.{Made, Held, Plugged, Entered, Dropped, Closed};
 ghost use Rattle.nb_ledger.specs.declared.event.Way.TheVariants as way;
-ghost use Rattle.nb_graph.specs.Accounts.{KeepsBalance, PlugsBalance, bytes_of};
+ghost use Rattle.nb_ledger.specs.declared.port.Port.{Port as ThePort};
+ghost use Rattle.nb_graph.specs.Accounts.{Balanced, KeepsBalance, PlugsBalance, bytes_of, unplugged};
 ghost use Rattle.nb_graph.specs.declared.graph.Reach.TheVariants as reach;
 ghost use Rattle.nb_ledger.specs.declared.port.PortState.TheVariants as state;
 ghost use Rattle.nb_ledger.specs.Ledger.{live, holds, port, rank, open_count, IsLeastAbove};
@@ -53,11 +54,12 @@ impl<N: Node> Graph<N> {
     /// An empty graph for `cap` objects, 1 to 64.
     pub fn new(alloc: Global, cap: usize) -> Result<Graph<N>, NoMemory>
         requires { (1 ≤ cap) × (cap ≤ 64) }
-        ensures { IfOk result (λ g. g ≡ record {
+        ensures empty { IfOk result (λ g. g ≡ record {
           book = record
               { made = 0; room = cap; objects = [] };
           nodes = [];
         }) }
+        ensures bytes { IfOk result (λ g. (p q : ThePort) → Balanced g.book p q unplugged unplugged) }
     {
         let book = Book::new(alloc, cap)?;
         let nodes = Vec::with_capacity(alloc, cap)?;

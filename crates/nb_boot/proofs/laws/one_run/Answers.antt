@@ -1,5 +1,5 @@
-use Rattle.nb_boot.proofs.OneRun.{one_run_of}
+use Rattle.nb_boot.proofs.OneRuns.{one_run_on}
 use Rattle.nb_boot.proofs.laws.one_run.Goals as goal
 
 pub returns : goal.returns
-returns c = one_run_of
+returns c = one_run_on

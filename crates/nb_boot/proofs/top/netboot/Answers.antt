@@ -1,11 +1,11 @@
 use Rattle.nb_boot.proofs.Completeness.{completes}
-use Rattle.nb_boot.proofs.FirstStep.{completes_first}
+use Rattle.nb_boot.proofs.Telling.{completes_run}
 use Rattle.nb_boot.proofs.top.netboot.Goals as goal
 
 pub returns-in-Some-clause-complete : goal.returns-in-Some-clause-complete
 returns-in-Some-clause-complete g c = λ _.
     completes c.attach.result (g.L.Line.outside c.args.line.now) (g.L.Line.outside c.attach.new.line) c.attach.ensures
 
-pub returns-in-Some-clause-first : goal.returns-in-Some-clause-first
-returns-in-Some-clause-first g c = λ _.
-    completes_first c.attach.result (g.L.Line.outside c.args.line.now) (g.L.Line.outside c.attach.new.line) c.attach.ensures
+pub returns-in-Some-clause-alone : goal.returns-in-Some-clause-alone
+returns-in-Some-clause-alone g c = λ _.
+    completes_run c.attach.result (g.L.Line.outside c.args.line.now) (g.L.Line.outside c.attach.new.line) c.attach.ensures

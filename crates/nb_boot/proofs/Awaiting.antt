@@ -1,0 +1,41 @@
+-- Where a command waits.
+use Rattle.std.proofs.Common.{◌≡◌, ℕ, List, ◌∷◌, refl, subst, arith}
+use Rattle.nb_defs.specs.Records.{In, Out}
+use Rattle.nb_record.specs.Outside.{Outside}
+use Rattle.nb_engine.specs.Machine.{Machine, Phase, ready, running, waiting, handing, left, handed_off, stopped, Path, Begins, runs, refuses, passes_by, brings, passes_time, switches_off}
+use Rattle.nb_boot.specs.Run.{IsBadRest, Awaits}
+use Rattle.nb_boot.specs.Laws.{IsAtRest}
+use Rattle.nb_boot.proofs.Spelled.{HasUsed, path_used}
+use Rattle.nb_boot.proofs.Standing.{path_counts}
+
+pub begins_awaits : (m : Machine) (r : In) (added : List Out) (m' : Machine) → Begins m r added m' → (m.phase ≡ ready → ⊥) → Awaits m.phase
+begins_awaits m r added m' (runs n s valid plain) rises = absurd (rises refl)
+begins_awaits m r added m' (refuses n s valid plain) rises = absurd (rises refl)
+begins_awaits m r added m' (passes_by n w s o bytes reply seen net valid t h) rises = tt
+begins_awaits m r added m' (brings n w s o bytes reply seen net port body added' phase valid t h k) rises = tt
+begins_awaits m r added m' (passes_time n w s o ms added' phase valid h) rises = tt
+begins_awaits m r added m' (switches_off n w s o) rises = tt
+
+-- where records were used, the machine is no more ready
+pub not_ready : (r : In) (rs : List In) (outs : List Out) (m : Machine) → Path (r ∷ rs) outs m → m.phase ≡ ready → ⊥
+not_ready r rs outs m p e =
+    let none : m.used ≡ 0 = subst (λ ph. HasUsed m.used ph) e (path_used (r ∷ rs) outs m p) in
+    omega (arith, none, path_counts (r ∷ rs) outs m p)
+
+pub awaits_rests : (phase : Phase) → Awaits phase → IsAtRest phase
+awaits_rests ready a = absurd a
+awaits_rests (running w s) a = absurd a
+awaits_rests (waiting w s o) a = tt
+awaits_rests (handing rest) a = absurd a
+awaits_rests (left cause) a = absurd a
+awaits_rests handed_off a = absurd a
+awaits_rests stopped a = absurd a
+
+pub bad_awaits : (phase : Phase) (rest : List ℕ) (o : Outside) → IsBadRest phase rest o → (phase ≡ ready → ⊥) → Awaits phase
+bad_awaits ready rest o b rises = absurd (rises refl)
+bad_awaits (running w s) rest o b rises = b
+bad_awaits (waiting w s x) rest o b rises = tt
+bad_awaits (handing more) rest o b rises = b
+bad_awaits (left cause) rest o b rises = b
+bad_awaits handed_off rest o b rises = b
+bad_awaits stopped rest o b rises = b

@@ -1,0 +1,154 @@
+-- A record begins one step.
+use Rattle.std.proofs.Common.{◌≡◌, ℕ, ◌+◌, List, [], ◌∷◌, Option, Some, None, refl, sym, ◌∙◌, ap, subst}
+use Rattle.nb_tftp.specs.History.{Call, came, ticked}
+use Rattle.nb_stack.specs.Client.{Client}
+use Rattle.nb_stack.specs.Takes.{Outcome, Takes}
+use Rattle.nb_defs.specs.Records.{In, start, frame, tick, off, Out, step, ended}
+use Rattle.nb_engine.specs.declared.world.World.{World}
+use Rattle.nb_engine.specs.World.{with_net, later}
+use Rattle.nb_engine.specs.Opens.{Open, heard_from}
+use Rattle.nb_engine.specs.Machine.{Machine, Running, Phase, ready, running, waiting, handing, left, handed_off, stopped, at, Begins, runs, refuses, passes_by, brings, passes_time, switches_off, Hears, reply_records, stopped_cause}
+use Rattle.nb_boot.specs.Run.{Awaits}
+use Rattle.nb_boot.proofs.OneAnswer.{takes_one, hears_one}
+
+-- a record begins one step
+pub record BegunOne (a b : List Out) (m m' : Machine) : Type 0 where
+  pub records : a ≡ b
+  pub machines : m ≡ m'
+
+-- what a step that begins where a command waits amounts to
+data Waits (n : ℕ) (w : World) (s : Running) (o : Open) (r : In) (a : List Out) (m : Machine) : Type 0 where
+  was_passed : (bytes reply : List ℕ) (seen : Outcome) (net : Client) → r ≡ frame bytes → Takes w.net bytes seen [] reply net → heard_from o.begun.server seen ≡ None →
+      a ≡ step (n + 1) ∷ reply_records reply → m ≡ at (n + 1) (waiting (with_net w net) s o) → Waits n w s o r a m
+  was_brought : (bytes reply : List ℕ) (seen : Outcome) (net : Client) (port : ℕ) (body : List ℕ) (added : List Out) (phase : Phase) → r ≡ frame bytes →
+      Takes w.net bytes seen [] reply net → heard_from o.begun.server seen ≡ Some (port, body) →
+      Hears (with_net w net) s o (came (record { rec = n + 1; port = port; body = body }) w.time) added phase →
+      a ≡ step (n + 1) ∷ added → m ≡ at (n + 1) phase → Waits n w s o r a m
+  was_ticked : (ms : ℕ) (added : List Out) (phase : Phase) → r ≡ tick ms → Hears (later w ms) s o (ticked (w.time + ms)) added phase →
+      a ≡ step (n + 1) ∷ added → m ≡ at (n + 1) phase → Waits n w s o r a m
+  was_off : r ≡ off → a ≡ step (n + 1) ∷ ended o.number stopped_cause ∷ [] → m ≡ at (n + 1) stopped → Waits n w s o r a m
+
+waits_by : (m : Machine) (r : In) (a : List Out) (m' : Machine) → Begins m r a m' → (n : ℕ) (w : World) (s : Running) (o : Open) → m ≡ at n (waiting w s o) → Waits n w s o r a m'
+waits_by m r a m' (runs k i valid plain) n w s o e = let z : ready ≡ waiting w s o = ap (λ (x : Machine). x.phase) e in absurd (cc)
+waits_by m r a m' (refuses k i valid plain) n w s o e = let z : ready ≡ waiting w s o = ap (λ (x : Machine). x.phase) e in absurd (cc)
+waits_by m r a m' (passes_by k v i x bytes reply seen net valid t h) n w s o e =
+    let ek : k ≡ n = ap (λ (y : Machine). y.used) e in
+    let z : waiting v i x ≡ waiting w s o = ap (λ (y : Machine). y.phase) e in
+    let ev : v ≡ w = cc in
+    let ei : i ≡ s = cc in
+    let ex : x ≡ o = cc in
+    was_passed bytes reply seen net refl (subst (λ y. Takes y.net bytes seen [] reply net) ev t) (subst (λ y. heard_from y.begun.server seen ≡ None) ex h) (ap (λ y. step (y + 1) ∷ reply_records reply) ek) (cc)
+waits_by m r a m' (brings k v i x bytes reply seen net port body added phase valid t h g) n w s o e =
+    let ek : k ≡ n = ap (λ (y : Machine). y.used) e in
+    let z : waiting v i x ≡ waiting w s o = ap (λ (y : Machine). y.phase) e in
+    let ev : v ≡ w = cc in
+    let ei : i ≡ s = cc in
+    let ex : x ≡ o = cc in
+    was_brought bytes reply seen net port body added phase refl (subst (λ y. Takes y.net bytes seen [] reply net) ev t) (subst (λ y. heard_from y.begun.server seen ≡ Some (port, body)) ex h)
+    (subst (λ y. Hears (with_net y net) s o (came (record { rec = n + 1; port = port; body = body }) y.time) added phase) ev
+    (subst (λ y. Hears (with_net v net) y o (came (record { rec = n + 1; port = port; body = body }) v.time) added phase) ei
+    (subst (λ y. Hears (with_net v net) i y (came (record { rec = n + 1; port = port; body = body }) v.time) added phase) ex
+    (subst (λ y. Hears (with_net v net) i x (came (record { rec = y + 1; port = port; body = body }) v.time) added phase) ek g))))
+    (ap (λ y. step (y + 1) ∷ added) ek) (ap (λ y. at (y + 1) phase) ek)
+waits_by m r a m' (passes_time k v i x ms added phase valid g) n w s o e =
+    let ek : k ≡ n = ap (λ (y : Machine). y.used) e in
+    let z : waiting v i x ≡ waiting w s o = ap (λ (y : Machine). y.phase) e in
+    let ev : v ≡ w = cc in
+    let ei : i ≡ s = cc in
+    let ex : x ≡ o = cc in
+    was_ticked ms added phase refl
+    (subst (λ y. Hears (later y ms) s o (ticked (y.time + ms)) added phase) ev
+    (subst (λ y. Hears (later v ms) y o (ticked (v.time + ms)) added phase) ei
+    (subst (λ y. Hears (later v ms) i y (ticked (v.time + ms)) added phase) ex g)))
+    (ap (λ y. step (y + 1) ∷ added) ek) (ap (λ y. at (y + 1) phase) ek)
+waits_by m r a m' (switches_off k v i x) n w s o e =
+    let ek : k ≡ n = ap (λ (y : Machine). y.used) e in
+    let z : waiting v i x ≡ waiting w s o = ap (λ (y : Machine). y.phase) e in
+    let ex : x ≡ o = cc in
+    was_off refl (ap (λ y. step (y + 1) ∷ ended x.number stopped_cause ∷ []) ek ∙ ap (λ y. step (n + 1) ∷ ended y.number stopped_cause ∷ []) ex) (ap (λ y. at (y + 1) stopped) ek)
+
+-- the bytes of a frame
+bytes_in : In → List ℕ
+bytes_in (start s) = []
+bytes_in (frame bytes) = bytes
+bytes_in (tick ms) = []
+bytes_in off = []
+
+time_in : In → ℕ
+time_in (start s) = 0
+time_in (frame bytes) = 0
+time_in (tick ms) = ms
+time_in off = 0
+
+pair_in : Option (ℕ × List ℕ) → ℕ × List ℕ
+pair_in None = (0, [])
+pair_in (Some x) = x
+
+same_pair : (n k : ℕ) (x y : List ℕ) → ◌≡◌ {A = Option (ℕ × List ℕ)} (Some (n, x)) (Some (k, y)) → (n ≡ k) × (x ≡ y)
+unfolding pair_in
+same_pair n k x y e = (ap (λ z. (pair_in z).0) e, ap (λ z. (pair_in z).1) e)
+
+same_bytes : (r : In) (x y : List ℕ) → r ≡ frame x → r ≡ frame y → x ≡ y
+unfolding bytes_in
+same_bytes r x y e f = ap bytes_in (sym e ∙ f)
+
+same_time : (r : In) (x y : ℕ) → r ≡ tick x → r ≡ tick y → x ≡ y
+unfolding time_in
+same_time r x y e f = ap time_in (sym e ∙ f)
+
+heard_one : (n : ℕ) (w : World) (s : Running) (o : Open) (call : Call) (a b added added' : List Out) (m m' : Machine) (p q : Phase) → Hears w s o call added p → Hears w s o call added' q →
+    a ≡ step (n + 1) ∷ added → m ≡ at (n + 1) p → b ≡ step (n + 1) ∷ added' → m' ≡ at (n + 1) q → BegunOne a b m m'
+heard_one n w s o call a b added added' m m' p q h g ea em eb en =
+    let k = hears_one w s o call added added' p q h g in
+    record { records = ea ∙ ap (λ z. step (n + 1) ∷ z) k.records ∙ sym eb; machines = em ∙ ap (at (n + 1)) k.phases ∙ sym en }
+
+waits_one : (n : ℕ) (w : World) (s : Running) (o : Open) (r : In) (a b : List Out) (m m' : Machine) → Waits n w s o r a m → Waits n w s o r b m' → BegunOne a b m m'
+waits_one n w s o r a b m m' (was_passed x reply seen net er t h ea em) (was_passed y reply' seen' net' fr u g eb en) =
+    let k = takes_one w.net x seen seen' reply reply' net net' t (subst (λ z. Takes w.net z seen' [] reply' net') (same_bytes r y x fr er) u) in
+    record { records = ea ∙ ap (λ z. step (n + 1) ∷ reply_records z) k.replies ∙ sym eb; machines = em ∙ ap (λ z. at (n + 1) (waiting (with_net w z) s o)) k.clients ∙ sym en }
+waits_one n w s o r a b m m' (was_passed x reply seen net er t h ea em) (was_brought y reply' seen' net' port body added phase fr u g hr eb en) =
+    let k = takes_one w.net x seen seen' reply reply' net net' t (subst (λ z. Takes w.net z seen' [] reply' net') (same_bytes r y x fr er) u) in
+    absurd (let z : None ≡ Some (port, body) = sym h ∙ ap (heard_from o.begun.server) k.outcomes ∙ g in cc)
+waits_one n w s o r a b m m' (was_brought x reply seen net port body added phase er t h hr ea em) (was_passed y reply' seen' net' fr u g eb en) =
+    let k = takes_one w.net x seen seen' reply reply' net net' t (subst (λ z. Takes w.net z seen' [] reply' net') (same_bytes r y x fr er) u) in
+    absurd (let z : Some (port, body) ≡ None = sym h ∙ ap (heard_from o.begun.server) k.outcomes ∙ g in cc)
+waits_one n w s o r a b m m' (was_brought x reply seen net port body added phase er t h hr ea em) (was_brought y reply' seen' net' port' body' added' phase' fr u g hs eb en) =
+    let k = takes_one w.net x seen seen' reply reply' net net' t (subst (λ z. Takes w.net z seen' [] reply' net') (same_bytes r y x fr er) u) in
+    let z : ◌≡◌ {A = Option (ℕ × List ℕ)} (Some (port, body)) (Some (port', body')) = sym h ∙ ap (heard_from o.begun.server) k.outcomes ∙ g in
+    let both = same_pair port port' body body' z in
+    let ep = sym both.0 in
+    let eb' = sym both.1 in
+    heard_one n (with_net w net) s o (came (record { rec = n + 1; port = port; body = body }) w.time) a b added added' m m' phase phase' hr
+    (subst (λ v. Hears (with_net w v) s o (came (record { rec = n + 1; port = port; body = body }) w.time) added' phase') (sym k.clients)
+    (subst (λ v. Hears (with_net w net') s o (came (record { rec = n + 1; port = port; body = v }) w.time) added' phase') eb'
+    (subst (λ v. Hears (with_net w net') s o (came (record { rec = n + 1; port = v; body = body' }) w.time) added' phase') ep hs)))
+    ea em eb en
+waits_one n w s o r a b m m' (was_passed x reply seen net er t h ea em) (was_ticked ms added phase fr hr eb en) = absurd (let z : frame x ≡ tick ms = sym er ∙ fr in cc)
+waits_one n w s o r a b m m' (was_passed x reply seen net er t h ea em) (was_off fr eb en) = absurd (let z : frame x ≡ off = sym er ∙ fr in cc)
+waits_one n w s o r a b m m' (was_brought x reply seen net port body added phase er t h hr ea em) (was_ticked ms added' phase' fr hs eb en) = absurd (let z : frame x ≡ tick ms = sym er ∙ fr in cc)
+waits_one n w s o r a b m m' (was_brought x reply seen net port body added phase er t h hr ea em) (was_off fr eb en) = absurd (let z : frame x ≡ off = sym er ∙ fr in cc)
+waits_one n w s o r a b m m' (was_ticked ms added phase er hr ea em) (was_passed y reply' seen' net' fr u g eb en) = absurd (let z : tick ms ≡ frame y = sym er ∙ fr in cc)
+waits_one n w s o r a b m m' (was_ticked ms added phase er hr ea em) (was_brought y reply' seen' net' port' body' added' phase' fr u g hs eb en) = absurd (let z : tick ms ≡ frame y = sym er ∙ fr in cc)
+waits_one n w s o r a b m m' (was_ticked ms added phase er hr ea em) (was_ticked ms' added' phase' fr hs eb en) =
+    let e = same_time r ms' ms fr er in
+    heard_one n (later w ms) s o (ticked (w.time + ms)) a b added added' m m' phase phase' hr (subst (λ v. Hears (later w v) s o (ticked (w.time + v)) added' phase') e hs) ea em eb en
+waits_one n w s o r a b m m' (was_ticked ms added phase er hr ea em) (was_off fr eb en) = absurd (let z : tick ms ≡ off = sym er ∙ fr in cc)
+waits_one n w s o r a b m m' (was_off er ea em) (was_passed y reply' seen' net' fr u g eb en) = absurd (let z : off ≡ frame y = sym er ∙ fr in cc)
+waits_one n w s o r a b m m' (was_off er ea em) (was_brought y reply' seen' net' port' body' added' phase' fr u g hs eb en) = absurd (let z : off ≡ frame y = sym er ∙ fr in cc)
+waits_one n w s o r a b m m' (was_off er ea em) (was_ticked ms added phase fr hr eb en) = absurd (let z : off ≡ tick ms = sym er ∙ fr in cc)
+waits_one n w s o r a b m m' (was_off er ea em) (was_off fr eb en) = record { records = ea ∙ sym eb; machines = em ∙ sym en }
+
+-- a machine where a command waits begins one step on one record
+pub begins_one : (m : Machine) (r : In) (a b : List Out) (m1 m2 : Machine) → Awaits m.phase → Begins m r a m1 → Begins m r b m2 → BegunOne a b m1 m2
+begins_one m r a b m1 m2 k p q = go m.phase refl k
+  where
+    go : (phase : Phase) → m.phase ≡ phase → Awaits phase → BegunOne a b m1 m2
+    go ready e h = absurd h
+    go (running w s) e h = absurd h
+    go (waiting w s o) e h =
+        let is : m ≡ at m.used (waiting w s o) = ap (at m.used) e in
+        waits_one m.used w s o r a b m1 m2 (waits_by m r a m1 p m.used w s o is) (waits_by m r b m2 q m.used w s o is)
+    go (handing rest) e h = absurd h
+    go (left cause) e h = absurd h
+    go handed_off e h = absurd h
+    go stopped e h = absurd h
