@@ -1,16 +1,20 @@
 #!/usr/bin/env python3
-"""Measures the program on recorded boots by TFTP: peak memory, and processor time for each byte."""
+"""Measures the program on recorded boots by TFTP: memory, time, and instructions for each byte."""
 
 from __future__ import annotations
 
 import argparse
-import os
 import sys
 import tempfile
+from itertools import pairwise
 from pathlib import Path
-from typing import Iterator, NamedTuple
+from typing import Iterator
 
-from command_line import run
+import baseline
+from command_line import Refused, run
+from compiler import COMPILER, has_compiler
+from instructions import Counted, count, missing
+from launcher import Measured, build_launcher, measure
 from records import Record, Received, Tick, spell
 from tests.made import CLIENT, OWN_PORT, SERVER, SERVER_PORT, found, start
 from wire import tftp_data, udp_frame
@@ -21,16 +25,10 @@ MEGABYTE = 1_048_576
 SCRIPT = b"#!ipxe\nimgexec tftp://10.0.0.1/k\n"
 
 DESCRIPTION = """\
-Measures the built program on recorded boots by TFTP without options: the peak of its memory, and its
-processor time for each byte of the image. `rt run` in crates/netboot proves and builds the program."""
-
-
-class Measured(NamedTuple):
-    """How a run ended, the peak of its memory in bytes, and its processor time in seconds."""
-
-    status: int
-    peak: int
-    seconds: float
+Measures the built program on recorded boots by TFTP without options: the peak of its memory, its
+processor time, and its instructions for each byte of the image, beside those of a C loop that only
+checks sums and copies. Memory and time are measured where cc is installed, instructions counted
+where valgrind is too. `rt run` in crates/netboot proves and builds the program."""
 
 
 def image(length: int) -> bytes:
@@ -55,13 +53,8 @@ def write_transfer(length: int, path: Path) -> None:
             stream.write(spell(record))
 
 
-def measure(program: Path, recording: Path, output: Path) -> Measured:
-    """Runs the program, and asks the system what that took."""
-    words = [str(program), "replay", str(recording), str(output)]
-    child = os.posix_spawn(program, words, os.environ)
-    _, status, usage = os.wait4(child, 0)
-    seconds = usage.ru_utime + usage.ru_stime
-    return Measured(os.waitstatus_to_exitcode(status), usage.ru_maxrss * 1024, seconds)
+def replay(program: Path, recording: Path, output: Path) -> list[str]:
+    return [str(program), "replay", str(recording), str(output)]
 
 
 def report(length: int, measured: Measured) -> str:
@@ -72,28 +65,81 @@ def report(length: int, measured: Measured) -> str:
     )
 
 
+def report_runs(program: Path, recordings: dict[int, Path], folder: Path) -> None:
+    """Prints the memory and the time for each length."""
+    if not has_compiler():
+        print(f"memory and time aren't measured, for want of {COMPILER}")
+        return
+    launcher = build_launcher(folder)
+    for length, recording in recordings.items():
+        measured = measure(launcher, replay(program, recording, folder / "out"))
+        print(report(length, measured), flush=True)
+
+
+def count_loop(loop: Path, recording: Path, length: int) -> int:
+    """Counts the C loop's instructions; what it copied must be the image."""
+    output = recording.with_suffix(".copied")
+    words = [str(loop), str(recording), str(output)]
+    counted = count(words, recording.with_suffix(".profile"))
+    if output.read_bytes() != image(length)[:length]:
+        raise Refused(f"what the C loop copied isn't the image of {length} bytes")
+    return counted
+
+
+def count_program(program: Path, recording: Path) -> int:
+    """Counts the program's instructions; status 0 says that it handed the image off."""
+    words = replay(program, recording, recording.with_suffix(".out"))
+    return count(words, recording.with_suffix(".profile"))
+
+
+def report_instructions(program: Path, recordings: dict[int, Path], folder: Path) -> None:
+    """Prints the instructions for each length, and for each byte from one length to the next."""
+    if absent := missing():
+        print(f"instructions aren't counted, for want of {' and '.join(absent)}")
+        return
+    loop = baseline.build(folder, SERVER.ip)
+    counted = []
+    for length, recording in recordings.items():
+        of_program, of_loop = count_program(program, recording), count_loop(loop, recording, length)
+        counted.append(Counted(length, of_program, of_loop))
+        print(f"instructions a byte, image of {length} bytes: {counted[-1].rates()}")
+    for less, more in pairwise(counted):
+        further = more.beyond(less).rates()
+        print(f"instructions a further byte, from {less.length} to {more.length}: {further}")
+
+
 def parse(words: list[str]) -> argparse.Namespace:
     parser = argparse.ArgumentParser(description=DESCRIPTION)
     parser.add_argument(
         "--program", type=Path, default=TOP / "crates" / "netboot" / "out" / "netboot"
     )
     parser.add_argument(
-        "megabytes", type=int, nargs="*", default=[3, 30], help="sizes of images, at most 31"
+        "megabytes", type=int, nargs="*", default=[1, 3, 30], help="sizes of images, at most 31"
     )
     parser.add_argument("--keep", type=Path, metavar="DIR", help="only write the recordings here")
     return parser.parse_args(words)
 
 
+def write_transfers(sizes: list[int], folder: Path) -> dict[int, Path]:
+    """Writes a recording for each size in megabytes; answers them by their images' lengths."""
+    recordings = {}
+    for megabytes in sorted(set(sizes)):
+        length = megabytes * MEGABYTE
+        recording = recordings[length] = folder / f"{megabytes}.rec"
+        write_transfer(length, recording)
+    return recordings
+
+
 def measure_all(words: list[str]) -> None:
     arguments = parse(words)
-    with tempfile.TemporaryDirectory() as folder:
-        for megabytes in arguments.megabytes:
-            length = megabytes * MEGABYTE
-            recording = (arguments.keep or Path(folder)) / f"{megabytes}.rec"
-            write_transfer(length, recording)
-            if not arguments.keep:
-                measured = measure(arguments.program, recording, Path(folder) / "out")
-                print(report(length, measured))
+    if arguments.keep:
+        write_transfers(arguments.megabytes, arguments.keep)
+        return
+    with tempfile.TemporaryDirectory() as name:
+        folder = Path(name)
+        recordings = write_transfers(arguments.megabytes, folder)
+        report_runs(arguments.program, recordings, folder)
+        report_instructions(arguments.program, recordings, folder)
 
 
 if __name__ == "__main__":

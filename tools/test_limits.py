@@ -1,22 +1,23 @@
 """The longest file by TFTP without options, over the built program: its end, bytes and memory.
 
 `rt run` in crates/netboot, and the gate where it proves anew, build the program. Where it isn't
-built the tests are skipped, saying so.
+built the tests are skipped, saying so; without a C compiler the memory's is.
 """
 
 from __future__ import annotations
 
-import tempfile
+import subprocess
 import unittest
 from itertools import islice
-from pathlib import Path
 
 from causes import Cause, Code
+from compiler import has_compiler
 from kinds import PartKind, Status
-from measure import BLOCK, Measured, image, measure, transfer
+from launcher import build_launcher, measure
+from measure import BLOCK, MEGABYTE, image, replay, transfer
 from recordings import read_output
 from records import Done, Ended, Part, Record, spell
-from tests.case import TOP
+from tests.case import TOP, Case
 
 PROGRAM = TOP / "crates" / "netboot" / "out" / "netboot"
 
@@ -27,35 +28,48 @@ LONGEST = MOST_BLOCKS * BLOCK - 1
 # START, the ARP answer and a TICK come before the first block
 BEFORE = 3
 
-
-def boot(length: int) -> tuple[Measured, list[Record]]:
-    """How the boot of a kernel of this length ran, at most 65,535 blocks of it, and its output."""
-    with tempfile.TemporaryDirectory() as folder:
-        recording, output = Path(folder) / "in.rec", Path(folder) / "out.rec"
-        with recording.open("wb") as stream:
-            for record in islice(transfer(length), BEFORE + MOST_BLOCKS):
-                stream.write(spell(record))
-        measured = measure(PROGRAM, recording, output)
-        with output.open("rb") as stream:
-            return measured, list(read_output(stream))
+# the file once, a quarter of it, and 8 MiB
+MOST_MEMORY = LONGEST * 5 // 4 + 8 * MEGABYTE
 
 
 @unittest.skipUnless(PROGRAM.exists(), "the program isn't built")
-class Limits(unittest.TestCase):
+class Limits(Case):
+    def recorded(self, length: int) -> list[str]:
+        """Records the boot of a kernel of this length, at most 65,535 blocks of it.
+
+        Answers the words that replay it.
+        """
+        recording = self.folder / "in.rec"
+        with recording.open("wb") as stream:
+            for record in islice(transfer(length), BEFORE + MOST_BLOCKS):
+                stream.write(spell(record))
+        return replay(PROGRAM, recording, self.folder / "out.rec")
+
+    def boot(self, length: int) -> tuple[int, list[Record]]:
+        """How the boot of a kernel of this length ended, and its output."""
+        done = subprocess.run(self.recorded(length), check=False)
+        with (self.folder / "out.rec").open("rb") as stream:
+            return done.returncode, list(read_output(stream))
+
     def test_the_longest_file_is_handed_off(self) -> None:
-        measured, output = boot(LONGEST)
+        status, output = self.boot(LONGEST)
         pieces = [r.piece for r in output if isinstance(r, Part) and r.kind is PartKind.KERNEL]
         self.assertEqual(b"".join(pieces), image(LONGEST)[:LONGEST])
         self.assertEqual(output[-1], Done(Status.HANDED_OFF))
+        self.assertEqual(status, 0)
+
+    @unittest.skipUnless(has_compiler(), "cc is missing")
+    def test_the_memory_of_the_longest_file(self) -> None:
+        measured = measure(build_launcher(self.folder), self.recorded(LONGEST))
         self.assertEqual(measured.status, 0)
-        self.assertLessEqual(measured.peak, 3 * LONGEST)
+        self.assertLessEqual(measured.peak, MOST_MEMORY)
 
     def test_one_byte_more_is_too_long(self) -> None:
-        measured, output = boot(LONGEST + 1)
+        status, output = self.boot(LONGEST + 1)
         ended = [record for record in output if isinstance(record, Ended)]
         self.assertEqual(ended, [Ended(0, Cause(Code.TOO_LONG, 4))])
         self.assertEqual(output[-1], Done(Status.SCRIPT_FAILED))
-        self.assertEqual(measured.status, 4)
+        self.assertEqual(status, 4)
 
 
 if __name__ == "__main__":
