@@ -271,6 +271,56 @@ fn holds_and_links(rt: HostRuntime) -> Result<(), Fail> {
     Ok(())
 }
 
+/// The events of a shutdown of three objects in a chain, by number, object and slot. Object 1: slot 0;
+/// slot 1 with slot 0 of object 2, which is entered; slots 2 and 3. Object 2, whose slot 2 was closed:
+/// slot 1 with slot 0 of object 3, which is entered; slot 3. Object 3: slots 1 to 3. Then the holds, two
+/// of object 1: LetGo, LetGo, Freed, LetGo, Freed, LetGo, Freed.
+const SHUT_DOWN: [(u8, u64, u8); 24] = [
+    (8, 1, 0),
+    (8, 1, 1),
+    (8, 2, 0),
+    (5, 2, 0),
+    (6, 2, 0),
+    (9, 1, 1),
+    (8, 1, 2),
+    (8, 1, 3),
+    (8, 2, 1),
+    (8, 3, 0),
+    (5, 3, 0),
+    (6, 3, 0),
+    (9, 2, 1),
+    (8, 2, 3),
+    (8, 3, 1),
+    (8, 3, 2),
+    (8, 3, 3),
+    (3, 1, 0),
+    (3, 1, 0),
+    (10, 1, 0),
+    (3, 2, 0),
+    (10, 2, 0),
+    (3, 3, 0),
+    (10, 3, 0),
+];
+
+/// A shutdown closes the open ports by rising serial and slot, each with its peer, and then lets all
+/// holds go.
+#[test]
+fn shut_down_in_order(rt: HostRuntime) -> Result<(), Fail> {
+    let mut tape = Tape {
+        events: Vec::new(rt.alloc()),
+    };
+    let (mut graph, middle) = chain(&rt, &mut tape, Deed::Take)?;
+    graph.close(port(middle, 2), &WHY, 0, &mut tape);
+    assert!(rt; graph.hold(ObjId(1), &mut tape), "it lives");
+    tape.events.clear();
+    graph.shutdown(&WHY, 0, &mut tape);
+    assert_eq!(rt; tape.events.len(), SHUT_DOWN.len());
+    for (event, told) in tape.events.iter().zip(&SHUT_DOWN) {
+        assert_eq!(rt; (event.event, event.object, event.slot), *told);
+    }
+    Ok(())
+}
+
 /// The upper object closes the lower one's port inside the delivery, and is freed as its entry ends.
 #[test]
 fn closed_inside_a_delivery(rt: HostRuntime) -> Result<(), Fail> {
