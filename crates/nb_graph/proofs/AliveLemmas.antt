@@ -13,6 +13,8 @@ use Rattle.nb_graph.specs.Accounts.{Account, Joined, account}
 use Rattle.nb_graph.specs.Flows.{IsShut, Still}
 use Rattle.nb_graph.specs.Moves.{Calms}
 use Rattle.nb_graph.proofs.AccountLemmas.{Calms-idle, Calms-none, Calms-then, Calms-weaken, Calms-books, Still-both}
+use Rattle.nb_graph.specs.Order.{none}
+use Rattle.nb_graph.proofs.OrderLemmas.{lets-append}
 use Rattle.nb_graph.specs.Lives.{Lives, CalmFor, RunFor, Same, Back, here, nodes_at}
 use Rattle.nb_graph.proofs.ShrinkLemmas.{Calm-refl, Calm-trans}
 use Rattle.nb_graph.proofs.RunsLemmas.{IsRun-none, IsRun-trans}
@@ -81,7 +83,7 @@ lent-below fx len a = ap (λ z. loads fx.downs ++ (carried z ++ carried fx.ups.s
 -- nothing happens
 pub RunFor-none : {N L : Type 0} (stands : N → List (Entry N L) → Type 0) (parts : L → List ℕ) (l : Ledger) (nodes : List N) (m : Option (List Event)) → RunFor stands parts l l nodes nodes m m
 unfolding IsRun-none
-RunFor-none stands parts l nodes m = record { added = []; runs = (IsRun-none l m).1; lives = λ now. Lives-none stands now (nodes_at l nodes) (Calms-none parts l) }
+RunFor-none stands parts l nodes m = record { added = []; runs = (IsRun-none l m).1; lives = λ now. Lives-none stands now (nodes_at l nodes) (Calms-none parts l); lets = none }
 
 -- one after the other
 pub RunFor-trans : {N L : Type 0} {stands : N → List (Entry N L) → Type 0} {parts : L → List ℕ} {a b c : Ledger} {na nb nc : List N} {m n o : Option (List Event)} → RunFor stands parts a b na nb m n → RunFor stands parts b c nb nc n o → RunFor stands parts a c na nc m o
@@ -90,4 +92,5 @@ RunFor-trans {a = a} {b = b} {c = c} {m = m} {n = n} {o = o} p q = record {
   added = p.added ++ q.added;
   runs = (IsRun-trans a b c m n o (p.added, p.runs) (q.added, q.runs)).1;
   lives = λ now. Lives-then (p.lives now) (q.lives now) (λ x w v k. (w, refl, k)) (λ ds es x y. Still-both x y);
+  lets = lets-append p.added q.added p.lets q.lets;
 }

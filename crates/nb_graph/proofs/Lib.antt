@@ -30,3 +30,4 @@ pub mod RiseLemmas
 pub mod AskLemmas
 pub mod EffectLemmas
 pub mod DownLemmas
+pub mod OrderLemmas

@@ -137,7 +137,7 @@ Calm-link {b0} {b3} {b4} {new} {n0} {n3} {n4} {after} {p} {q} {was} {cause} l h 
     ]
 
 -- which begins with the close
-pub Starts-link : {b0 b3 b4 new : Ledger} {n0 n3 n4 after : Option (List Event)} {p q : Port} {was : Bool} {cause : Cause} → IsLinked (port b0) (rank b0) → port b0 p.obj.0 p.slot ≡ Linked q → Tells n0 n3 (event.Closed p cause ∷ event.Closed q cause ∷ event.Entered q Close ∷ []) → ((st : List Frame) → IsIdle st → Run (state_of b0 st) (event.Closed p cause ∷ event.Closed q cause ∷ event.Entered q Close ∷ []) (state_of b3 (Running q Close ∷ MustUnplug p q ∷ st))) → was ≡ busy b0 q.obj.0 → HalfCloses b0 b3 p q → Calm b3 b4 n3 n4 → Ends b4 new n4 after q.obj.0 was (λ st. Running q Close ∷ MustUnplug p q ∷ st) (port_but q Closed (port_but p Closed (port b4))) → Starts b0 new n0 after (event.Closed p cause)
+unfoldable pub Starts-link : {b0 b3 b4 new : Ledger} {n0 n3 n4 after : Option (List Event)} {p q : Port} {was : Bool} {cause : Cause} → IsLinked (port b0) (rank b0) → port b0 p.obj.0 p.slot ≡ Linked q → Tells n0 n3 (event.Closed p cause ∷ event.Closed q cause ∷ event.Entered q Close ∷ []) → ((st : List Frame) → IsIdle st → Run (state_of b0 st) (event.Closed p cause ∷ event.Closed q cause ∷ event.Entered q Close ∷ []) (state_of b3 (Running q Close ∷ MustUnplug p q ∷ st))) → was ≡ busy b0 q.obj.0 → HalfCloses b0 b3 p q → Calm b3 b4 n3 n4 → Ends b4 new n4 after q.obj.0 was (λ st. Running q Close ∷ MustUnplug p q ∷ st) (port_but q Closed (port_but p Closed (port b4))) → Starts b0 new n0 after (event.Closed p cause)
 unfolding Calm-link
 Starts-link {q = q} {cause = cause} l h told run prior half k e =
     let whole = Calm-link l h told run prior half k e in
@@ -232,5 +232,5 @@ IsWhole-alone {old} {new} {p} h a w = record {
 }
 
 -- one event
-pub Starts-one : (old new : Ledger) (before after : Option (List Event)) (e : GraphEvent) → Tells before after (e ∷ []) → ((st : List Frame) → IsIdle st → Step (state_of old st) e (state_of new st)) → Starts old new before after e
+unfoldable pub Starts-one : (old new : Ledger) (before after : Option (List Event)) (e : GraphEvent) → Tells before after (e ∷ []) → ((st : List Frame) → IsIdle st → Step (state_of old st) e (state_of new st)) → Starts old new before after e
 Starts-one old new before after e told step = record { rest = []; told = told; run = λ st i a. (state_of new st, step st i, refl) }

@@ -11,3 +11,4 @@ pub mod Counted
 pub mod Accounts
 pub mod Flows
 pub mod Moves
+pub mod Order

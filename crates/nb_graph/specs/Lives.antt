@@ -16,6 +16,7 @@ use Rattle.nb_ledger.specs.declared.port.Port.{Port}
 use Rattle.nb_graph.specs.Accounts.{Account}
 use Rattle.nb_graph.specs.Flows.{Still}
 use Rattle.nb_graph.specs.Moves.{Calms, Livens, always}
+use Rattle.nb_graph.specs.Order.{LetsHoldsGo, frees}
 
 -- the node of each serial, None where it is dead
 abbrev pub nodes_at : {N : Type 0} → Ledger → List N → ℕ → Option N
@@ -90,12 +91,16 @@ pub record EndsFor {N L : Type 0} (stands : N → List (Entry N L) → Type 0) (
 -- what was owed for an object is done
 pub record SettlesFor {N L : Type 0} (stands : N → List (Entry N L) → Type 0) (parts : L → List ℕ) (old new : Ledger) (nodes more : List N) (before after : Option (List Event)) (y : ObjId) : Type 0 where
   pub settles : Settles old new before after y
+  pub gone : List ObjId
+  pub frees : settles.added ≡ frees gone
   pub loses : Loses (nodes_at old nodes) (nodes_at new more)
   pub lives : (now : ℕ) → Lives stands now (nodes_at old nodes) (nodes_at new more) Stays here here (Calms parts old new Still) settles.added
 
 -- and for two
 pub record SettlesTwoFor {N L : Type 0} (stands : N → List (Entry N L) → Type 0) (parts : L → List ℕ) (old new : Ledger) (nodes more : List N) (before after : Option (List Event)) (y z : ObjId) : Type 0 where
   pub settles : SettlesTwo old new before after y z
+  pub gone : List ObjId
+  pub frees : settles.added ≡ frees gone
   pub lives : (now : ℕ) → Lives stands now (nodes_at old nodes) (nodes_at new more) Stays here here (Calms parts old new Still) settles.added
 
 -- no entry of an object of rank r or above runs
@@ -111,3 +116,4 @@ pub record RunFor {N L : Type 0} (stands : N → List (Entry N L) → Type 0) (p
   pub added : List GraphEvent
   pub runs : Runs old new before after added
   pub lives : (now : ℕ) → Lives stands now (nodes_at old nodes) (nodes_at new more) Stays here here (Calms parts old new Still) added
+  pub lets : LetsHoldsGo added

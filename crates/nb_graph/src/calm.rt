@@ -4,14 +4,15 @@ ghost use Rattle.std.specs.Vec.{vec_capacity};
 ghost use Rattle.nb_ledger.specs.declared.port.PortState.TheVariants.{Linked};
 ghost use Rattle.nb_ledger.specs.GraphRun.{IsOpen};
 ghost use Rattle.nb_ledger.specs.Ledger.{busy, port, open_count};
-ghost use Rattle.nb_graph.specs.Whole.{port_at};
+ghost use Rattle.nb_graph.specs.Whole.{IsQuiet, port_at};
+ghost use Rattle.nb_graph.specs.Order.{Shuts, ShutsObject};
 ghost use Rattle.nb_graph.specs.Accounts.{bytes_of, carries, few_bytes};
 ghost use Rattle.nb_graph.specs.Flows.{Closing, Downs, Emitting, Failing, Following, Giving, Passing, asked_left, asked_sent, nothing};
 ghost use Rattle.nb_graph.specs.Calm.{IsSteady, Starts};
 ghost use Rattle.nb_graph.specs.Trace.{carried, down, in_list, lent, loads, said};
 ghost use Rattle.nb_graph.specs.Deeds.{Hands};
 ghost use Rattle.nb_graph.specs.Lives.{Back, CalmFor, Same};
-ghost use Rattle.nb_ledger.specs.declared.event.GraphEvent.TheVariants.{Closed, Entered};
+ghost use Rattle.nb_ledger.specs.declared.event.GraphEvent.TheVariants.{Entered};
 ghost use Rattle.nb_ledger.specs.declared.event.Way.TheVariants as way;
 ghost use Rattle.nb_graph.specs.Effects.{MayAskBelow, MayAskDown, asked_loads, AreDowns, ClosesSlot, IsDown};
 
@@ -49,8 +50,8 @@ impl<N: Node> Inner<N> {
             self.new.book self.old.nodes.items self.new.nodes.items (Same (busy self.old.book))
             (Closing self.old.book at.obj.0) (O.events out.old) (O.events out.new) }
         ensures starts { 0 < open_count (port self.old.book at.obj.0 at.slot)
-            → Starts self.old.book self.new.book (O.events out.old) (O.events out.new)
-            (Closed at cause.now) }
+            → Shuts self.old.book self.new.book (O.events out.old) (O.events out.new) at
+            cause.now }
         ensures stays { open_count (port self.old.book at.obj.0 at.slot) ≡ 0
             → (self.new ≡ self.old) × (O.events out.new ≡ O.events out.old) }
         ensures steady { IsSteady N.rank_of self.new.book self.new.nodes.items
@@ -74,8 +75,8 @@ impl<N: Node> Inner<N> {
         ensures lives { CalmFor N.stands (bytes_of N.Load.first N.Load.second) now self.old.book
             self.new.book self.old.nodes.items self.new.nodes.items (Same (busy self.old.book))
             (Closing self.old.book at.obj.0) (O.events out.old) (O.events out.new) }
-        ensures starts { Starts self.old.book self.new.book (O.events out.old) (O.events out.new)
-            (Closed at cause.now) }
+        ensures starts { Shuts self.old.book self.new.book (O.events out.old) (O.events out.new) at
+            cause.now }
         ensures steady { IsSteady N.rank_of self.new.book self.new.nodes.items
             (vec_capacity self.new.nodes) }
     {
@@ -330,6 +331,8 @@ impl<N: Node> Inner<N> {
         ensures lives { CalmFor N.stands (bytes_of N.Load.first N.Load.second) now self.old.book
             self.new.book self.old.nodes.items self.new.nodes.items (Same (busy self.old.book))
             (Closing self.old.book id.0) (O.events out.old) (O.events out.new) }
+        ensures order { IsQuiet self.old.book → ShutsObject cause.now id.0 self.old.book
+            self.new.book (O.events out.old) (O.events out.new) }
         ensures steady { IsSteady N.rank_of self.new.book self.new.nodes.items
             (vec_capacity self.new.nodes) }
     {

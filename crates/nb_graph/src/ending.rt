@@ -1,5 +1,6 @@
 // The end of a graph: all ports are closed, and then all holds let go.
-ghost use Rattle.std.specs.Prelude.{◌≡◌, ◌<◌, ◌≤◌, ℕ, false};
+ghost use Rattle.std.specs.Prelude.{◌≡◌, ◌+◌, ◌<◌, ◌≤◌, ℕ, List, false};
+ghost use Rattle.nb_ledger.specs.declared.port.Port.{Port as ThePort};
 ghost use Rattle.std.specs.Vec.{vec_capacity};
 ghost use Rattle.nb_ledger.specs.Ledger.{live, busy, holds, port, open_count};
 ghost use Rattle.nb_graph.specs.Accounts.{bytes_of};
@@ -7,7 +8,8 @@ ghost use Rattle.nb_graph.specs.Flows.{Empty};
 ghost use Rattle.nb_graph.specs.Calm.{IsSteady};
 ghost use Rattle.nb_graph.specs.Lives.{CalmFor, RunFor, Same};
 ghost use Rattle.nb_graph.specs.Ending.{LetsGo};
-ghost use Rattle.nb_graph.specs.Whole.{IsGraph};
+ghost use Rattle.nb_graph.specs.Whole.{IsGraph, IsQuiet};
+ghost use Rattle.nb_graph.specs.Order.{ClosesInOrder};
 
 use crate::Node;
 use crate::inner::Inner;
@@ -31,6 +33,8 @@ impl<N: Node> Inner<N> {
         ensures steady { IsSteady N.rank_of self.new.book self.new.nodes.items
             (vec_capacity self.new.nodes) }
         ensures shut { (x k : ℕ) → after < x → open_count (port self.new.book x k) ≡ 0 }
+        ensures order { IsQuiet self.old.book → (ps : List ThePort) × ClosesInOrder cause.now
+            (after + 1) 0 self.old.book self.new.book (O.events out.old) (O.events out.new) ps }
     {
         match self.book.above(after) {
             Some(id) => {

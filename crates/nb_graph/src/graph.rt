@@ -11,6 +11,7 @@ ghost use Rattle.nb_ledger.specs.Ledger.{live, holds, port, rank, open_count, Is
 ghost use Rattle.nb_graph.specs.Trace.{Entry, down, said, time, up};
 ghost use Rattle.nb_graph.specs.Deeds.{Hands};
 ghost use Rattle.nb_graph.specs.Lived.{KeepsTraces, Lived, StandsFor};
+ghost use Rattle.nb_graph.specs.Order.{ClosesOne, EndsInOrder};
 ghost use Rattle.nb_graph.specs.Whole.{Began, Harvests, port_at, Runs, IsRun, IsMade, KeepsRanks, node_of, IsSame};
 
 use crate::Node;
@@ -194,6 +195,9 @@ impl<N: Node> Graph<N> {
         ensures begins { 0 < open_count (port self.old.book at.obj.0 at.slot)
             → Began self.old.book self.new.book (O.events out.old) (O.events out.new)
             (Closed at cause.now) }
+        ensures one { 0 < open_count (port self.old.book at.obj.0 at.slot)
+            → ClosesOne cause.now at self.old.book self.new.book (O.events out.old)
+            (O.events out.new) }
         ensures shut { open_count (port self.new.book at.obj.0 at.slot) ≡ 0 }
         ensures not { open_count (port self.old.book at.obj.0 at.slot) ≡ 0 → IsSame self.old
             self.new (O.events out.old) (O.events out.new) }
@@ -302,6 +306,8 @@ impl<N: Node> Graph<N> {
             (O.events out.old) (O.events out.new) }
         ensures runs { IsRun self.old.book self.new.book (O.events out.old) (O.events out.new) }
         ensures none { length self.new.book.objects ≡ 0 }
+        ensures order { EndsInOrder cause.now self.old.book self.new.book (O.events out.old)
+            (O.events out.new) }
     {
         self.inner.close_above(0, cause, now, out);
         self.inner.let_above_go(0, out);

@@ -18,3 +18,9 @@ returns-clause-none g c =
 
 pub returns-clause-stands : goal.returns-clause-stands
 returns-clause-stands g c = rw (← c.self.view_is) (Lived-end c.self.invariant.quiet c.close_above.ensures.lives c.let_above_go.ensures.runs)
+
+pub returns-clause-order : goal.returns-clause-order
+returns-clause-order g c =
+    let closes = c.close_above.ensures.order c.self.invariant.quiet in
+    let lets = c.let_above_go.ensures.runs in
+    rw (← c.self.view_is) (record { mid = c.close_above.new.self.book; told = _; ports = closes.0; closes = closes.1; lets = lets.added; runs = lets.runs; order = lets.lets })

@@ -27,6 +27,9 @@ use Rattle.nb_graph.proofs.DownLemmas.{Calms-down}
 use Rattle.nb_graph.proofs.PassLemmas.{Calms-enter, Calms-link}
 use Rattle.nb_graph.proofs.CallLemmas.{half-gone, half-left}
 use Rattle.nb_graph.proofs.OwingLemmas.{Back-none}
+use Rattle.nb_graph.specs.Order.{alone}
+use Rattle.nb_graph.proofs.OrderLemmas.{Shuts-link, order-object, order-port}
+use Rattle.nb_graph.proofs.EndLemmas.{IsQuiet-shrinks}
 use Rattle.nb_graph.proofs.SeatLemmas.{Loses-refl, Loses-same}
 use Rattle.nb_graph.proofs.EntryLemmas.{Lives-closed, Lives-entry}
 use Rattle.nb_graph.proofs.AliveLemmas.{CalmFor-back, CalmFor-first, CalmFor-last, CalmFor-refl, CalmFor-regain, CalmFor-same, CalmFor-weaken, lent-below}
@@ -63,8 +66,8 @@ close_link-returns-clause-lives g t c =
     let gone = half-gone c.requires.steady.whole.links c.requires.linked b.half in
     let left = half-left c.args.self.now.book c.close_both-was.new.self.book b.half in
     record {
-      calm = Calm-link c.requires.steady.whole.links c.requires.linked b.told b.run b.was b.half k.calm c.unplug.ensures.ends.ends;
-      lives = Lives-closed _ _ c.args.peer.obj.0 (lent c.ask_closed-fx.result) (λ x n. b.half.busy_set x ∙ but_other c.args.peer.obj.0 true (busy c.args.self.now.book) x n) (b.lives c.args.now) (rw c.ask_closed-fx.ensures.book at c.ask_closed-fx.ensures.lives) k.lives (c.unplug.ensures.ends.lives c.args.now)
+      calm = Calm-link c.requires.steady.whole.links c.requires.linked b.told b.run b.was b.half k.calm c.unplug.ensures.ends.0.ends;
+      lives = Lives-closed _ _ c.args.peer.obj.0 (lent c.ask_closed-fx.result) (λ x n. b.half.busy_set x ∙ but_other c.args.peer.obj.0 true (busy c.args.self.now.book) x n) (b.lives c.args.now) (rw c.ask_closed-fx.ensures.book at c.ask_closed-fx.ensures.lives) k.lives (c.unplug.ensures.ends.0.lives c.args.now)
           (λ bs ds es gs h i j z. Calms-link c.args.at c.args.peer _ _ c.requires.steady.whole.links c.requires.linked gone left (λ n. below-bytes (bytes_of g.N.Load.Parts.first g.N.Load.Parts.second) [] 0 c.ask_closed-fx.result c.ask_closed-fx.ensures.asks n) (below-zero (bytes_of g.N.Load.Parts.first g.N.Load.Parts.second) [] 0 c.ask_closed-fx.result c.ask_closed-fx.ensures.asks) h i j z);
     }
 
@@ -183,7 +186,7 @@ close_port-returns-in-Closed-clause-shut g t c = ap open_count (sym c.in-Closed.
 
 pub close_link-returns-clause-shut : goal.close_link-returns-clause-shut
 close_link-returns-clause-shut g t c =
-    shut-link c.close_both-was.ensures.half (rw c.ask_closed-fx.ensures.book at c.calm_effects.ensures.lives.calm) c.unplug.ensures.ends.ends
+    shut-link c.close_both-was.ensures.half (rw c.ask_closed-fx.ensures.book at c.calm_effects.ensures.lives.calm) c.unplug.ensures.ends.0.ends
 
 pub close_all-returns-clause-shut : goal.close_all-returns-clause-shut
 close_all-returns-clause-shut g t c =
@@ -201,7 +204,8 @@ pub enter_down-ask_down-asked-requires-clause-manned : goal.enter_down-ask_down-
 enter_down-ask_down-asked-requires-clause-manned g t c = IsManned-same c.enter-was.ensures.sets.objects c.requires.steady.manned
 
 pub close_port-returns-in-Open-clause-starts : goal.close_port-returns-in-Open-clause-starts
-close_port-returns-in-Open-clause-starts g t c = λ _. Starts-one _ _ _ _ _ c.close_alone.ensures.told c.close_alone.ensures.step
+unfolding Starts-one
+close_port-returns-in-Open-clause-starts g t c = λ _. record { starts = Starts-one _ _ _ _ _ c.close_alone.ensures.told c.close_alone.ensures.step; one = alone refl }
 
 pub close_port-returns-in-Open-clause-stays : goal.close_port-returns-in-Open-clause-stays
 close_port-returns-in-Open-clause-stays g t c = λ h. absurd (let z = ap open_count c.in-Open.ensures in omega arith)
@@ -216,9 +220,27 @@ pub close_port-returns-in-Closed-clause-starts : goal.close_port-returns-in-Clos
 close_port-returns-in-Closed-clause-starts g t c = λ h. absurd (let z = ap open_count c.in-Closed.ensures in omega arith)
 
 pub close_link-returns-clause-starts : goal.close_link-returns-clause-starts
+unfolding Starts-link
 close_link-returns-clause-starts g t c =
     let b = c.close_both-was.ensures in
-    Starts-link c.requires.steady.whole.links c.requires.linked b.told b.run b.was b.half (rw c.ask_closed-fx.ensures.book at c.calm_effects.ensures.lives.calm) c.unplug.ensures.ends.ends
+    let k = rw c.ask_closed-fx.ensures.book at c.calm_effects.ensures.lives.calm in
+    let e = c.unplug.ensures.ends in
+    Shuts-link (Starts-link c.requires.steady.whole.links c.requires.linked b.told b.run b.was b.half k e.0.ends) k.added e.1 refl
+
+pub close_all-returns-clause-order : goal.close_all-returns-clause-order
+close_all-returns-clause-order g t c = λ q n d ps k.
+    let x = c.args.id in
+    let a = c.close_port.ensures in
+    let b = c.close_port-2.ensures in
+    let e = c.close_port-3.ensures in
+    let f = c.close_port-4.ensures in
+    let q1 = IsQuiet-shrinks a.lives.calm.shrinks q in
+    let q2 = IsQuiet-shrinks b.lives.calm.shrinks q1 in
+    let q3 = IsQuiet-shrinks e.lives.calm.shrinks q2 in
+    let k3 = order-port c.args.cause.now (record { obj = x; slot = 3 }) _ _ n _ _ d q3 f.starts (λ h. let i = f.stays h in (ap (λ v. v.book) i.0, i.1)) ps (order-object c.args.cause.now x.0 _ n _ d ps k) in
+    let k2 = order-port c.args.cause.now (record { obj = x; slot = 2 }) _ _ n _ _ d q2 e.starts (λ h. let i = e.stays h in (ap (λ v. v.book) i.0, i.1)) k3.0 k3.1 in
+    let k1 = order-port c.args.cause.now (record { obj = x; slot = 1 }) _ _ n _ _ d q1 b.starts (λ h. let i = b.stays h in (ap (λ v. v.book) i.0, i.1)) k2.0 k2.1 in
+    order-port c.args.cause.now (record { obj = x; slot = 0 }) _ _ n _ _ d q a.starts (λ h. let i = a.stays h in (ap (λ v. v.book) i.0, i.1)) k1.0 k1.1
 
 pub enter_down-returns-clause-starts : goal.enter_down-returns-clause-starts
 enter_down-returns-clause-starts g t c =

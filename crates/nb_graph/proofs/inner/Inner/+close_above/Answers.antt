@@ -1,9 +1,10 @@
-use Rattle.std.proofs.Common.{◌≡◌, ℕ, inl, inr, refl, sym, ◌∙◌}
+use Rattle.std.proofs.Common.{◌≡◌, ℕ, [], inl, inr, refl, sym, ◌∙◌}
 use Rattle.nb_ledger.specs.Ledger.{port, open_count}
 use Rattle.nb_graph.proofs.ShrinkLemmas.{Shrinks-trans}
 use Rattle.nb_graph.proofs.AliveLemmas.{CalmFor-refl, CalmFor-same}
 use Rattle.nb_graph.proofs.ShutLemmas.{no-object, shut-still}
-use Rattle.nb_graph.proofs.EndLemmas.{all-above}
+use Rattle.nb_graph.proofs.EndLemmas.{IsQuiet-shrinks, all-above}
+use Rattle.nb_graph.proofs.OrderLemmas.{order-above, order-none}
 use Rattle.nb_graph.proofs.inner.Inner.+close_above.Goals as goal
 
 pub returns-in-Some-clause-lives : goal.returns-in-Some-clause-lives
@@ -17,6 +18,16 @@ returns-in-Some-clause-shut g t c = λ x k h.
     (λ y a b j. shut-still y j (no-object _ y j (s.3 y a b)) both)
     (λ j. shut-still c.in-Some.id.0 j (c.close_all.ensures.shut j) c.close_above.ensures.lives.calm.shrinks)
     (λ y a j. c.close_above.ensures.shut y j a) x h k
+
+pub returns-in-Some-clause-order : goal.returns-in-Some-clause-order
+returns-in-Some-clause-order g t c = λ q.
+    let s = c.in-Some.ensures.some in
+    let rest = c.close_above.ensures.order (IsQuiet-shrinks c.close_all.ensures.lives.calm.shrinks q) in
+    let all = c.close_all.ensures.order q _ _ rest.0 rest.1 in
+    (all.0, order-above c.args.cause.now c.args.after c.in-Some.id.0 _ _ _ _ s.0 s.3 all.0 all.1)
+
+pub returns-in-None-clause-order : goal.returns-in-None-clause-order
+returns-in-None-clause-order g t c = λ q. ([], order-none c.args.cause.now c.args.after _ _ c.in-None.ensures.none)
 
 pub returns-in-None-clause-lives : goal.returns-in-None-clause-lives
 returns-in-None-clause-lives g t c = CalmFor-refl _ _ _ _ _ _ (λ p q x y w v i j. inr (i.0 ∙ sym i.1))

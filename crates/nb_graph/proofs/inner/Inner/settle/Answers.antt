@@ -1,4 +1,4 @@
-use Rattle.std.proofs.Common.{refl, sym, ◌∙◌}
+use Rattle.std.proofs.Common.{refl, sym, ◌∙◌, [], ◌∷◌}
 use Rattle.nb_ledger.specs.declared.event.GraphEvent.TheVariants.{Freed}
 use Rattle.nb_ledger.proofs.SettleLemmas.{Settles-free, Settles-stay}
 use Rattle.nb_graph.specs.Lives.{here}
@@ -14,6 +14,8 @@ returns-then-is_unused-clause-settles g c =
     let s = Settles-free _ _ _ _ c.args.id (sym c.is_unused.ensures ∙ c.if-is_unused.true) c.free.ensures.told c.free.ensures.step c.free.ensures.removes in
     record {
       settles = s;
+      gone = c.args.id ∷ [];
+      frees = refl;
       loses = c.free.ensures.loses;
       lives = λ now. Lives-plain g.N.Node.stands now _ _ here here (Freed c.args.id) c.free.ensures.loses (λ x t. refl) (λ st. refl) (Calms-plain _ _ _ (Freed c.args.id) (Mild-settle s) (λ p a. refl));
     }
@@ -22,6 +24,8 @@ pub returns-else-is_unused-clause-settles : goal.returns-else-is_unused-clause-s
 unfolding Settles-stay
 returns-else-is_unused-clause-settles g c = record {
   settles = Settles-stay _ _ c.args.id (sym c.is_unused.ensures ∙ c.if-is_unused.false);
+  gone = [];
+  frees = refl;
   loses = Loses-refl _;
   lives = λ now. Lives-none g.N.Node.stands now _ (Calms-none _ _);
 }

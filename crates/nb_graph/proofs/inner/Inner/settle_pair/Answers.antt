@@ -1,4 +1,5 @@
-use Rattle.std.proofs.Common.{◌≡◌, arith, ◌∙◌}
+use Rattle.std.proofs.Common.{◌≡◌, ◌++◌, arith, ◌∙◌}
+use Rattle.nb_graph.proofs.OrderLemmas.{frees-append}
 use Rattle.nb_graph.proofs.ShrinkLemmas.{SettlesTwo-pair, IsWhole-pair, live-settle}
 use Rattle.nb_graph.proofs.MildLemmas.{Lives-next}
 use Rattle.nb_graph.proofs.inner.Inner.settle_pair.Goals as goal
@@ -12,6 +13,8 @@ pub returns-clause-settles : goal.returns-clause-settles
 unfolding SettlesTwo-pair
 returns-clause-settles g c = record {
   settles = SettlesTwo-pair c.requires.order c.settle.ensures.settles.settles c.settle-2.ensures.settles.settles;
+  gone = c.settle.ensures.settles.gone ++ c.settle-2.ensures.settles.gone;
+  frees = rw (c.settle.ensures.settles.frees, c.settle-2.ensures.settles.frees) (frees-append c.settle.ensures.settles.gone c.settle-2.ensures.settles.gone);
   lives = λ now. Lives-next (c.settle.ensures.settles.lives now) (c.settle-2.ensures.settles.lives now);
 }
 

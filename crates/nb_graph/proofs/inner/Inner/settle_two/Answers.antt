@@ -7,4 +7,4 @@ settle_pair-requires-else-first-other-clause-counted g c = λ y n o v. c.require
 pub returns-else-first-other-clause-settles : goal.returns-else-first-other-clause-settles
 unfolding SettlesTwo-swap
 returns-else-first-other-clause-settles g c =
-    let s = c.settle_pair-else-first-other.ensures.settles in record { settles = SettlesTwo-swap s.settles; lives = s.lives }
+    let s = c.settle_pair-else-first-other.ensures.settles in record { settles = SettlesTwo-swap s.settles; gone = s.gone; frees = s.frees; lives = s.lives }

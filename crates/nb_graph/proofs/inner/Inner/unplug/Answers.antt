@@ -1,4 +1,4 @@
-use Rattle.std.proofs.Common.{refl, sym, None, ◌∷◌}
+use Rattle.std.proofs.Common.{refl, ap, sym, None, ◌∷◌}
 use Rattle.nb_ledger.specs.declared.event.Way.TheVariants.{Close}
 use Rattle.nb_ledger.specs.declared.event.GraphEvent.TheVariants.{Left, Unplugged}
 use Rattle.nb_ledger.specs.Ledger.{port}
@@ -42,15 +42,17 @@ pub returns-clause-ends : goal.returns-clause-ends
 unfolding Ends-unplug
 returns-clause-ends g c =
     let s = c.unplug.ensures.sets in
-    let nodes = c.args.self.now.nodes.items in
-    record {
-      ends = Ends-unplug c.requires.first c.requires.other c.requires.apart c.leave.ensures.sets s.1 s.2 _ _ _ _ _ c.leave.ensures.told c.leave.ensures.step c.unplug.ensures.told c.unplug.ensures.step c.settle_two.ensures.settles.settles;
-      lives = λ now.
-          let other = s.1.port_set c.args.peer.obj.0 c.args.peer.slot ∙ port_but-other c.args.at Closed (port c.leave.new.self) c.args.peer.obj.0 c.args.peer.slot (λ i. c.requires.apart (sym i.0)) ∙ c.leave.ensures.sets.same_port c.args.peer.obj.0 c.args.peer.slot ∙ c.requires.other in
-          let first = c.leave.ensures.sets.same_port c.args.at.obj.0 c.args.at.slot ∙ c.requires.first in
-          Lives-next (Lives-plain g.N.Node.stands now _ _ (λ st. Holds c.args.peer Close None ∷ st) here (Left c.args.peer) (Loses-same nodes c.leave.ensures.sets.objects) (λ x t. refl) (λ st. (Close, refl)) (Calms-plain _ _ _ (Left c.args.peer) (Mild-busy c.leave.ensures.sets) (λ p a. refl)))
-          (Lives-next (Lives-plain g.N.Node.stands now _ _ here here (Unplugged c.args.at c.args.peer) (Loses-trans (Loses-same nodes s.1.objects) (Loses-same nodes s.2.objects)) (λ x t. refl) (λ st. refl) (Calms-plain _ _ _ (Unplugged c.args.at c.args.peer) (Mild-trans (Mild-port s.1 (λ q e. cc) (λ q e. absurd (let z = sym first ∙ e in cc)) refl) (Mild-port s.2 (λ q e. cc) (λ q e. absurd (let z = sym other ∙ e in cc)) refl)) (λ p a. refl))) (c.settle_two.ensures.settles.lives now));
-    }
+    let nodes = c.args.self.now.nodes.items in (
+      record {
+        ends = Ends-unplug c.requires.first c.requires.other c.requires.apart c.leave.ensures.sets s.1 s.2 _ _ _ _ _ c.leave.ensures.told c.leave.ensures.step c.unplug.ensures.told c.unplug.ensures.step c.settle_two.ensures.settles.settles;
+        lives = λ now.
+            let other = s.1.port_set c.args.peer.obj.0 c.args.peer.slot ∙ port_but-other c.args.at Closed (port c.leave.new.self) c.args.peer.obj.0 c.args.peer.slot (λ i. c.requires.apart (sym i.0)) ∙ c.leave.ensures.sets.same_port c.args.peer.obj.0 c.args.peer.slot ∙ c.requires.other in
+            let first = c.leave.ensures.sets.same_port c.args.at.obj.0 c.args.at.slot ∙ c.requires.first in
+            Lives-next (Lives-plain g.N.Node.stands now _ _ (λ st. Holds c.args.peer Close None ∷ st) here (Left c.args.peer) (Loses-same nodes c.leave.ensures.sets.objects) (λ x t. refl) (λ st. (Close, refl)) (Calms-plain _ _ _ (Left c.args.peer) (Mild-busy c.leave.ensures.sets) (λ p a. refl)))
+            (Lives-next (Lives-plain g.N.Node.stands now _ _ here here (Unplugged c.args.at c.args.peer) (Loses-trans (Loses-same nodes s.1.objects) (Loses-same nodes s.2.objects)) (λ x t. refl) (λ st. refl) (Calms-plain _ _ _ (Unplugged c.args.at c.args.peer) (Mild-trans (Mild-port s.1 (λ q e. cc) (λ q e. absurd (let z = sym first ∙ e in cc)) refl) (Mild-port s.2 (λ q e. cc) (λ q e. absurd (let z = sym other ∙ e in cc)) refl)) (λ p a. refl))) (c.settle_two.ensures.settles.lives now));
+      },
+      (c.settle_two.ensures.settles.gone, ap (λ l. Left c.args.peer ∷ Unplugged c.args.at c.args.peer ∷ l) c.settle_two.ensures.settles.frees),
+    )
 
 pub settle_two-requires-clause-manned : goal.settle_two-requires-clause-manned
 settle_two-requires-clause-manned g c = let s = c.unplug.ensures.sets in IsManned-same s.2.objects (IsManned-same s.1.objects (IsManned-same c.leave.ensures.sets.objects c.requires.steady.manned))
