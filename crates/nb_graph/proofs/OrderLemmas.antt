@@ -11,7 +11,7 @@ use Rattle.nb_ledger.specs.declared.event.Way.TheVariants.{Close}
 use Rattle.nb_ledger.specs.Ledger.{Ledger, port, open_count, live}
 use Rattle.nb_graph.specs.Whole.{IsQuiet}
 use Rattle.nb_graph.specs.Calm.{Starts}
-use Rattle.nb_graph.specs.Order.{IsFrom, ClosesInOrder, ClosesOne, LetsHoldsGo, Parts, Shuts, linked, none, one, frees}
+use Rattle.nb_graph.specs.Order.{IsFrom, ClosesInOrder, ClosesOne, LetsHoldsGo, EndsLink, Shuts, linked, none, one, frees}
 use Rattle.nb_graph.proofs.ShutLemmas.{no-object, no-slot}
 use Rattle.nb_graph.proofs.RunsLemmas.{Agrees-quiet}
 use Rattle.std.proofs.lemmas.List.{map-append}
@@ -47,7 +47,7 @@ order-skip cause x k l n b d h = order-from cause x k x (k + 1) l n b d to back
     back z i (inr f) = inr (f.0, let s = f.1 in omega arith)
 
 -- a close of a link, of which these events come between its begin and its end
-pub Shuts-link : {old new : Ledger} {before after : Option (List Event)} {p q : Port} {cause : Cause} (s : Starts old new before after (Closed p cause)) (nested : List GraphEvent) {es : List GraphEvent} → Parts p q es → s.rest ≡ Closed q cause ∷ Entered q Close ∷ (nested ++ es) → Shuts old new before after p cause
+pub Shuts-link : {old new : Ledger} {before after : Option (List Event)} {p q : Port} {cause : Cause} (s : Starts old new before after (Closed p cause)) (nested : List GraphEvent) {es : List GraphEvent} → EndsLink p q es → s.rest ≡ Closed q cause ∷ Entered q Close ∷ (nested ++ es) → Shuts old new before after p cause
 Shuts-link {p = p} {q = q} {cause = cause} s nested {es} e h = record {
   starts = s;
   one = linked q (Closed q cause ∷ Entered q Close ∷ (nested ++ Left q ∷ [])) e.0 (ap (λ l. Closed p cause ∷ l) h ∙ ap (λ l. Closed p cause ∷ Closed q cause ∷ Entered q Close ∷ l) (ap (λ l. nested ++ l) e.1 ∙ sym (append_assoc nested (Left q ∷ []) (Unplugged p q ∷ frees e.0))));

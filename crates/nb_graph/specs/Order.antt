@@ -62,8 +62,8 @@ pub record Shuts (old new : Ledger) (before after : Option (List Event)) (p : Po
   pub one : OneClose p cause (Closed p cause ∷ starts.rest)
 
 -- the entry of a peer that was closed ends, and its link
-abbrev pub Parts : Port → Port → List GraphEvent → Type 0
-Parts p q es = (gone : List ObjId) × (es ≡ Left q ∷ Unplugged p q ∷ frees gone)
+abbrev pub EndsLink : Port → Port → List GraphEvent → Type 0
+EndsLink p q es = (gone : List ObjId) × (es ≡ Left q ∷ Unplugged p q ∷ frees gone)
 
 -- what closes in order from the object behind x on, does so from x on with what closed x before it
 abbrev pub ShutsObject : Cause → ℕ → Ledger → Ledger → Option (List Event) → Option (List Event) → Type 0

@@ -15,7 +15,7 @@ ghost use Rattle.nb_graph.specs.Calm.{IsSteady, HalfCloses};
 ghost use Rattle.nb_graph.specs.Whole.{IsManned, IsLinked, CountedButTwo, port_at};
 ghost use Rattle.nb_graph.specs.Trace.{carried, down, in_list, lent, loads, said, said_behind, silence, time, up};
 ghost use Rattle.nb_graph.specs.Deeds.{Calls, Holds, MustHear};
-ghost use Rattle.nb_graph.specs.Order.{Parts};
+ghost use Rattle.nb_graph.specs.Order.{EndsLink};
 ghost use Rattle.nb_graph.specs.Lives.{Back, EndsFor, Lends, LendsFirst, Lives, SettlesTwoFor, Stays, here, nodes_at};
 ghost use Rattle.nb_graph.specs.Effects.{MayAskBelow, MayAskDown, MayAskTime, MayAskUp, asked_loads, asked_rest};
 
@@ -76,7 +76,7 @@ impl<N: Node> Inner<N> {
             (O.events out.new) peer.obj.0 was
             (λ st. Running peer Close ∷ MustUnplug at peer ∷ st)
             (port_but peer Shut (port_but at Shut (port self.old.book)))
-            (λ st. Holds peer Close None ∷ st)) × Parts at peer e.ends.added }
+            (λ st. Holds peer Close None ∷ st)) × EndsLink at peer e.ends.added }
         ensures steady { IsSteady N.rank_of self.new.book self.new.nodes.items
             (vec_capacity self.new.nodes) }
     {
