@@ -39,7 +39,7 @@ IsMachines status.NoMemory count = ⊥
 IsMachines status.AttachFault count = ⊥
 
 -- where the whole input is the spelling of a START and other records, the line tells what is left, no count
--- rose and memory sufficed, the status is the machine's
+-- rose and memory sufficed, the status is one of these
 abbrev pub Completes : Status → Outside → Outside → Type 0
 Completes result before after = (s : Start) (others : List In) → IsIn (start s) → AreOthers others →
     before.left ≡ Some (in_texts (start s ∷ others)) → IsSome after.left → NoneRose before after → (result ≡ status.NoMemory → ⊥) →

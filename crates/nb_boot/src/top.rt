@@ -105,8 +105,9 @@ pub fn netboot<L: Line>(alloc: Global, words: &[String], line: &mut L) -> Status
     ensures untouched { IsBadWords result → line.new ≡ line.old }
     // The records used are those read, the records written are the machine's path, and the status is true of them.
     ensures run { is_replay (map string_bytes words.now) ≡ true → Shows result (L.outside line.old) (L.outside line.new) }
-    // With no fault and memory enough the status is the machine's.
+    // With no fault and memory enough a START and other records end the script, hand off, or leave a command waiting.
     ensures complete { is_replay (map string_bytes words.now) ≡ true → Completes result (L.outside line.old) (L.outside line.new) }
+    // With no fault and memory enough the input alone says the status, where a run on it is over or waits at its end.
     ensures alone { is_replay (map string_bytes words.now) ≡ true → CompletesRun result (L.outside line.old) (L.outside line.new) }
 {
     match files(words) {

@@ -9,7 +9,7 @@ use Rattle.nb_ledger.specs.declared.event.GraphEvent.{GraphEvent}
 use Rattle.nb_ledger.specs.declared.event.GraphEvent.TheVariants.{Closed, Entered, Freed, Left, LetGo, Unplugged}
 use Rattle.nb_ledger.specs.declared.event.Way.TheVariants.{Close}
 use Rattle.nb_ledger.specs.Ledger.{Ledger, port, open_count, live}
-use Rattle.nb_graph.specs.Whole.{IsQuiet}
+use Rattle.nb_graph.specs.Whole.{IsQuiet, Runs}
 use Rattle.nb_graph.specs.Calm.{Starts}
 use Rattle.nb_graph.specs.Order.{IsFrom, ClosesInOrder, ClosesOne, LetsHoldsGo, EndsLink, Shuts, linked, none, one, frees}
 use Rattle.nb_graph.proofs.ShutLemmas.{no-object, no-slot}
@@ -122,3 +122,7 @@ lets-append es fs (one x gone more h) k = subst LetsHoldsGo (ap (λ l. LetGo x �
 -- what two objects free
 pub frees-append : (xs ys : List ObjId) → frees xs ++ frees ys ≡ frees (xs ++ ys)
 frees-append xs ys = sym (map-append Freed xs ys)
+
+-- one event, and what it frees
+pub Runs-frees : {old new : Ledger} {before after : Option (List Event)} {e : GraphEvent} {es fs : List GraphEvent} → es ≡ fs → Runs old new before after (e ∷ es) → Runs old new before after (e ∷ fs)
+Runs-frees {old} {new} {before} {after} {e} {es} {fs} h r = subst (λ l. Runs old new before after (e ∷ l)) h r

@@ -46,6 +46,10 @@ pub data LetsHoldsGo : List GraphEvent → Type 0 where
   none : LetsHoldsGo []
   one : (x : ObjId) (gone : List ObjId) (more : List GraphEvent) → LetsHoldsGo more → LetsHoldsGo (LetGo x ∷ frees gone ++ more)
 
+-- what happens is that one hold of x goes, and what that frees
+abbrev pub LetsOneGo : ObjId → Ledger → Ledger → Option (List Event) → Option (List Event) → Type 0
+LetsOneGo x old new before after = (gone : List ObjId) × Runs old new before after (LetGo x ∷ frees gone)
+
 -- All open ports are closed by rising serial and slot, and then holds are let go. Serials begin with 1.
 pub record EndsInOrder (cause : Cause) (old new : Ledger) (before after : Option (List Event)) : Type 0 where
   pub mid : Ledger

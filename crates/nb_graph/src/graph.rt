@@ -11,7 +11,7 @@ ghost use Rattle.nb_ledger.specs.Ledger.{live, holds, port, rank, open_count, Is
 ghost use Rattle.nb_graph.specs.Trace.{Entry, down, said, time, up};
 ghost use Rattle.nb_graph.specs.Deeds.{Hands};
 ghost use Rattle.nb_graph.specs.Lived.{KeepsTraces, Lived, StandsFor};
-ghost use Rattle.nb_graph.specs.Order.{ClosesOne, EndsInOrder};
+ghost use Rattle.nb_graph.specs.Order.{ClosesOne, EndsInOrder, LetsOneGo};
 ghost use Rattle.nb_graph.specs.Whole.{Began, Harvests, port_at, Runs, IsRun, IsMade, KeepsRanks, node_of, IsSame};
 
 use crate::Node;
@@ -148,6 +148,8 @@ impl<N: Node> Graph<N> {
         ensures may { IsTrue result ↔ ((live self.old.book id.0 ≡ true) ×
             (0 < holds self.old.book id.0)) }
         ensures gone { OnTrue result (IsRun self.old.book self.new.book (O.events out.old)
+            (O.events out.new)) }
+        ensures one { OnTrue result (LetsOneGo id self.old.book self.new.book (O.events out.old)
             (O.events out.new)) }
         ensures keeps { OnTrue result (KeepsTraces N.stands self.old self.new) }
         ensures bytes { OnTrue result (KeepsBalance self.old.book self.new.book) }

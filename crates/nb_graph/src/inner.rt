@@ -9,6 +9,7 @@ ghost use Rattle.nb_ledger.specs.Flat.{Tells};
 ghost use Rattle.nb_ledger.specs.GraphRun.{Frame, IsIdle, Step};
 ghost use Rattle.nb_ledger.specs.Ledger.{live, place, state_of};
 ghost use Rattle.nb_ledger.specs.Changes.{Adds};
+ghost use Rattle.nb_graph.specs.Order.{LetsOneGo};
 ghost use Rattle.nb_graph.specs.Lives.{Loses, RunFor, SettlesFor, nodes_at};
 ghost use Rattle.nb_graph.specs.Whole.{IsManned};
 ghost use Rattle.std.specs.Option.{option_copied};
@@ -131,6 +132,7 @@ impl<N: Node> Inner<N> {
         ensures runs { RunFor N.stands (bytes_of N.Load.first N.Load.second) self.old.book
             self.new.book self.old.nodes.items self.new.nodes.items (O.events out.old)
             (O.events out.new) }
+        ensures one { LetsOneGo id self.old.book self.new.book (O.events out.old) (O.events out.new) }
         ensures mild { Mild self.old.book self.new.book }
         ensures ranks { KeepsRanks self.old.book self.new.book }
         ensures lets { LetsGo self.old.book self.new.book }

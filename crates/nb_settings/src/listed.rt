@@ -1,7 +1,7 @@
 ghost use Rattle.std.specs.Prelude.{◌≡◌, map, find, option_map};
 ghost use Rattle.std.specs.Str.{bytes_eq};
 ghost use Rattle.nb_settings.specs.Keys.{key_of, same_key};
-ghost use Rattle.nb_settings.specs.Listed.{key_named, listed_kind, listed};
+ghost use Rattle.nb_settings.specs.Listed.{key_named, line, listed_kind, listed};
 ghost use Rattle.nb_settings.specs.Lines.{line_of};
 
 use crate::{Key, Kind};
@@ -14,136 +14,43 @@ struct Listed {
     kind: Kind,
 }
 
+/// One line of the list.
+fn line(name: &'static [u8], key: Key<'static>, kind: Kind) -> Listed
+    ensures { line_of result ≡ line name.now (key_of key.entry) kind }
+{
+    Listed { name, key, kind }
+}
+
 /// The names that are listed, with the tags of RFC 2132 and the inner options of 175.
 fn lines() -> [Listed; 25]
     ensures { map line_of result ≡ listed }
 {
     [
-        Listed {
-            name: b"netmask",
-            key: Key::Tag(1),
-            kind: Kind::Ipv4,
-        },
-        Listed {
-            name: b"gateway",
-            key: Key::Tag(3),
-            kind: Kind::Ipv4,
-        },
-        Listed {
-            name: b"dns",
-            key: Key::Tag(6),
-            kind: Kind::Ipv4,
-        },
-        Listed {
-            name: b"hostname",
-            key: Key::Tag(12),
-            kind: Kind::Str,
-        },
-        Listed {
-            name: b"domain",
-            key: Key::Tag(15),
-            kind: Kind::Str,
-        },
-        Listed {
-            name: b"root-path",
-            key: Key::Tag(17),
-            kind: Kind::Str,
-        },
-        Listed {
-            name: b"dhcp-server",
-            key: Key::Tag(54),
-            kind: Kind::Ipv4,
-        },
-        Listed {
-            name: b"filename",
-            key: Key::Tag(67),
-            kind: Kind::Str,
-        },
-        Listed {
-            name: b"user-class",
-            key: Key::Tag(77),
-            kind: Kind::Str,
-        },
-        Listed {
-            name: b"initiator-iqn",
-            key: Key::Tag(203),
-            kind: Kind::Str,
-        },
-        Listed {
-            name: b"priority",
-            key: Key::Sub(175, 1),
-            kind: Kind::Int8,
-        },
-        Listed {
-            name: b"keep-san",
-            key: Key::Sub(175, 8),
-            kind: Kind::Int8,
-        },
-        Listed {
-            name: b"skip-san-boot",
-            key: Key::Sub(175, 9),
-            kind: Kind::Int8,
-        },
-        Listed {
-            name: b"no-pxedhcp",
-            key: Key::Sub(175, 176),
-            kind: Kind::Uint8,
-        },
-        Listed {
-            name: b"busid",
-            key: Key::Sub(175, 177),
-            kind: Kind::Hex,
-        },
-        Listed {
-            name: b"san-drive",
-            key: Key::Sub(175, 189),
-            kind: Kind::Uint8,
-        },
-        Listed {
-            name: b"username",
-            key: Key::Sub(175, 190),
-            kind: Kind::Str,
-        },
-        Listed {
-            name: b"password",
-            key: Key::Sub(175, 191),
-            kind: Kind::Str,
-        },
-        Listed {
-            name: b"reverse-username",
-            key: Key::Sub(175, 192),
-            kind: Kind::Str,
-        },
-        Listed {
-            name: b"reverse-password",
-            key: Key::Sub(175, 193),
-            kind: Kind::Str,
-        },
-        Listed {
-            name: b"version",
-            key: Key::Sub(175, 235),
-            kind: Kind::Str,
-        },
-        Listed {
-            name: b"ip",
-            key: Key::Free(b"ip"),
-            kind: Kind::Ipv4,
-        },
-        Listed {
-            name: b"next-server",
-            key: Key::Free(b"next-server"),
-            kind: Kind::Ipv4,
-        },
-        Listed {
-            name: b"uuid",
-            key: Key::Free(b"uuid"),
-            kind: Kind::Uuid,
-        },
-        Listed {
-            name: b"mac",
-            key: Key::Free(b"mac"),
-            kind: Kind::Hex,
-        },
+        line(b"netmask", Key::Tag(1), Kind::Ipv4),
+        line(b"gateway", Key::Tag(3), Kind::Ipv4),
+        line(b"dns", Key::Tag(6), Kind::Ipv4),
+        line(b"hostname", Key::Tag(12), Kind::Str),
+        line(b"domain", Key::Tag(15), Kind::Str),
+        line(b"root-path", Key::Tag(17), Kind::Str),
+        line(b"dhcp-server", Key::Tag(54), Kind::Ipv4),
+        line(b"filename", Key::Tag(67), Kind::Str),
+        line(b"user-class", Key::Tag(77), Kind::Str),
+        line(b"initiator-iqn", Key::Tag(203), Kind::Str),
+        line(b"priority", Key::Sub(175, 1), Kind::Int8),
+        line(b"keep-san", Key::Sub(175, 8), Kind::Int8),
+        line(b"skip-san-boot", Key::Sub(175, 9), Kind::Int8),
+        line(b"no-pxedhcp", Key::Sub(175, 176), Kind::Uint8),
+        line(b"busid", Key::Sub(175, 177), Kind::Hex),
+        line(b"san-drive", Key::Sub(175, 189), Kind::Uint8),
+        line(b"username", Key::Sub(175, 190), Kind::Str),
+        line(b"password", Key::Sub(175, 191), Kind::Str),
+        line(b"reverse-username", Key::Sub(175, 192), Kind::Str),
+        line(b"reverse-password", Key::Sub(175, 193), Kind::Str),
+        line(b"version", Key::Sub(175, 235), Kind::Str),
+        line(b"ip", Key::Free(b"ip"), Kind::Ipv4),
+        line(b"next-server", Key::Free(b"next-server"), Kind::Ipv4),
+        line(b"uuid", Key::Free(b"uuid"), Kind::Uuid),
+        line(b"mac", Key::Free(b"mac"), Kind::Hex),
     ]
 }
 

@@ -117,105 +117,43 @@ fn repeated(
     Ok(text)
 }
 
+const TOO_LONG: Result<usize, ExpandError> = Err(ExpandError::TooLong);
+
+const BAD_NAME: Result<usize, ExpandError> = Err(ExpandError::BadName);
+
+/// A head, a piece so many times, and a tail so many times; how long the word is that it expands to, or
+/// why it isn't expanded; and what that shows.
+type Limit = (
+    &'static str,
+    (&'static str, usize),
+    (&'static str, usize),
+    Result<usize, ExpandError>,
+    &'static str,
+);
+
+const LIMITS: [Limit; 16] = [
+    ("", ("a", 4096), ("", 0), Ok(4096), "the longest word"),
+    ("", ("a", 4097), ("", 0), TOO_LONG, "a byte more"),
+    ("${", ("a", 4094), ("", 0), Ok(4096), "an open part"),
+    ("${", ("a", 4095), ("", 0), TOO_LONG, "a byte more"),
+    ("${x}", ("a", 4092), ("", 0), Ok(4096), "with a value"),
+    ("", ("${long}", 4), ("", 0), Ok(4096), "values alone"),
+    ("", ("${long}", 5), ("", 0), TOO_LONG, "a value more"),
+    ("", ("${long}", 5), ("${}", 1), BAD_NAME, "no name"),
+    ("${", ("a", 63), ("}", 1), Ok(0), "the longest name"),
+    ("${", ("a", 64), ("}", 1), BAD_NAME, "a byte more"),
+    ("${", ("${long}", 5), ("}", 1), BAD_NAME, "a long name"),
+    ("${", ("${long}", 5), ("", 0), TOO_LONG, "put back"),
+    ("${${", ("${long}", 5), ("}", 1), BAD_NAME, "in a part"),
+    ("", ("${${unset}", 100), ("}", 100), Ok(0), "all names"),
+    ("", ("${${unset}", 100), ("}", 99), Ok(65), "one put back"),
+    ("", ("${${unset}", 100), ("}", 1), TOO_LONG, "most put back"),
+];
+
 #[test]
 fn keeps_the_limits(rt: HostRuntime) -> Result<(), Fail> {
     let table = table(rt.alloc())?;
-    for (head, piece, tail, wanted, what) in [
-        ("", ("a", 4096), ("", 0), Ok(4096), "the longest word"),
-        (
-            "",
-            ("a", 4097),
-            ("", 0),
-            Err(ExpandError::TooLong),
-            "a byte more",
-        ),
-        (
-            "${",
-            ("a", 4094),
-            ("", 0),
-            Ok(4096),
-            "an open part of the longest word",
-        ),
-        (
-            "${",
-            ("a", 4095),
-            ("", 0),
-            Err(ExpandError::TooLong),
-            "a byte more",
-        ),
-        (
-            "${x}",
-            ("a", 4092),
-            ("", 0),
-            Ok(4096),
-            "a value in the longest word",
-        ),
-        ("", ("${long}", 4), ("", 0), Ok(4096), "values alone"),
-        (
-            "",
-            ("${long}", 5),
-            ("", 0),
-            Err(ExpandError::TooLong),
-            "a value more",
-        ),
-        (
-            "",
-            ("${long}", 5),
-            ("${}", 1),
-            Err(ExpandError::BadName),
-            "no name goes first",
-        ),
-        ("${", ("a", 63), ("}", 1), Ok(0), "the longest name"),
-        (
-            "${",
-            ("a", 64),
-            ("}", 1),
-            Err(ExpandError::BadName),
-            "a byte more",
-        ),
-        (
-            "${",
-            ("${long}", 5),
-            ("}", 1),
-            Err(ExpandError::BadName),
-            "a long part closed",
-        ),
-        (
-            "${",
-            ("${long}", 5),
-            ("", 0),
-            Err(ExpandError::TooLong),
-            "a long part put back",
-        ),
-        (
-            "${${",
-            ("${long}", 5),
-            ("}", 1),
-            Err(ExpandError::BadName),
-            "a long part in a part",
-        ),
-        (
-            "",
-            ("${${unset}", 100),
-            ("}", 100),
-            Ok(0),
-            "much gathered, and all of it names",
-        ),
-        (
-            "",
-            ("${${unset}", 100),
-            ("}", 99),
-            Ok(65),
-            "the outermost put back",
-        ),
-        (
-            "",
-            ("${${unset}", 100),
-            ("}", 1),
-            Err(ExpandError::TooLong),
-            "most put back",
-        ),
-    ] {
+    for (head, piece, tail, wanted, what) in LIMITS {
         let text = repeated(rt.alloc(), head, piece, tail)?;
         let word = expand(rt.alloc(), text.as_slice(), &table);
         assert_eq!(rt; word.map(|word| word.len()), wanted, "{what}");

@@ -1,6 +1,7 @@
 use Rattle.nb_graph.proofs.AccountLemmas.{Mild-trans}
 use Rattle.nb_graph.proofs.MildLemmas.{Mild-settle}
 use Rattle.std.proofs.Common.{arith, refl, ap, sym, subst, ◌∙◌, [], ◌∷◌, append-nil}
+use Rattle.nb_graph.proofs.OrderLemmas.{Runs-frees}
 use Rattle.nb_graph.specs.Order.{LetsHoldsGo, frees, none, one}
 use Rattle.nb_ledger.specs.declared.event.GraphEvent.TheVariants.{LetGo}
 use Rattle.nb_graph.specs.Lives.{here}
@@ -47,3 +48,9 @@ returns-clause-falls g c = falls-let_go c.requires.held c.let_go.ensures.sets c.
 
 pub returns-clause-mild : goal.returns-clause-mild
 returns-clause-mild g c = Mild-trans (Mild-holds c.let_go.ensures.sets) (Mild-settle c.settle.ensures.settles.settles)
+
+pub returns-clause-one : goal.returns-clause-one
+unfolding IsRun-let_go
+returns-clause-one g c =
+    let s = c.settle.ensures.settles in
+    (s.gone, Runs-frees s.frees (IsRun-let_go _ _ _ _ _ _ c.args.id (IsQuiet-holds c.let_go.ensures.sets c.requires.graph.quiet) c.let_go.ensures.told c.let_go.ensures.step s.settles).1)
