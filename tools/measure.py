@@ -21,6 +21,8 @@ from wire import tftp_data, udp_frame
 
 TOP = Path(__file__).resolve().parent.parent
 BLOCK = 512
+# a transfer without options has at most 65,535 blocks (RFC 1350)
+MOST_MEGABYTES = 31
 MEGABYTE = 1_048_576
 SCRIPT = b"#!ipxe\nimgexec tftp://10.0.0.1/k\n"
 
@@ -32,13 +34,13 @@ where valgrind is too. `rt run` in crates/netboot proves and builds the program.
 
 
 def image(length: int) -> bytes:
-    """A file that begins as an ELF file does."""
-    return b"\x7fELF" + bytes(range(256)) * (length // 256) + bytes(length % 256)
+    """A file of this length that begins as an ELF file does."""
+    return (b"\x7fELF" + bytes(range(256)) * (length // 256 + 1))[:length]
 
 
 def transfer(length: int) -> Iterator[Record]:
     """A boot whose kernel has this many bytes."""
-    content = image(length)[:length]
+    content = image(length)
     yield start(SCRIPT)
     yield found()
     yield Tick(250)
@@ -81,7 +83,7 @@ def count_loop(loop: Path, recording: Path, length: int) -> int:
     output = recording.with_suffix(".copied")
     words = [str(loop), str(recording), str(output)]
     counted = count(words, recording.with_suffix(".profile"))
-    if output.read_bytes() != image(length)[:length]:
+    if output.read_bytes() != image(length):
         raise Refused(f"what the C loop copied isn't the image of {length} bytes")
     return counted
 
@@ -114,7 +116,7 @@ def parse(words: list[str]) -> argparse.Namespace:
         "--program", type=Path, default=TOP / "crates" / "netboot" / "out" / "netboot"
     )
     parser.add_argument(
-        "megabytes", type=int, nargs="*", default=[1, 3, 30], help="sizes of images, at most 31"
+        "megabytes", type=int, nargs="*", default=[1, 3, 30], help="sizes of images, from 1 to 31"
     )
     parser.add_argument("--keep", type=Path, metavar="DIR", help="only write the recordings here")
     return parser.parse_args(words)
@@ -124,6 +126,8 @@ def write_transfers(sizes: list[int], folder: Path) -> dict[int, Path]:
     """Writes a recording for each size in megabytes; answers them by their images' lengths."""
     recordings = {}
     for megabytes in sorted(set(sizes)):
+        if not 1 <= megabytes <= MOST_MEGABYTES:
+            raise Refused(f"an image of {megabytes} megabytes can't be measured: 1 to {MOST_MEGABYTES} can")
         length = megabytes * MEGABYTE
         recording = recordings[length] = folder / f"{megabytes}.rec"
         write_transfer(length, recording)
