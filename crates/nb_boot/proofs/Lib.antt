@@ -19,3 +19,4 @@ pub mod OneStep
 pub mod OneRuns
 pub mod Comparing
 pub mod Telling
+pub mod Histories

@@ -7,6 +7,7 @@ ghost use Rattle.nb_engine.specs.Turns.{Acts, IsBusy, IsNearer, MayUse, closing_
 ghost use Rattle.nb_engine.specs.declared.stage.Stage.TheVariants as stage;
 
 use crate::causes::STOPPED;
+use crate::fetch::Heard;
 use crate::put::put_over;
 use crate::{Stage, Status, World};
 use nb_record::{InRec, Log, NoMemory, OutRec, Start};
@@ -31,6 +32,8 @@ pub struct Client {
     pub(crate) used: u32,
     pub(crate) world: World,
     pub(crate) stage: Stage,
+    /// The place for what the next call brings about; None while it is lent out.
+    pub(crate) heard: Option<Box<Heard>>,
 }
 
 impl Model for Client {
@@ -55,6 +58,7 @@ impl Client {
             used: 0,
             world: World::of(alloc, start),
             stage: Stage::Ready,
+            heard: None,
         })
     }
 

@@ -46,6 +46,24 @@ pub struct Heard {
     pub(crate) end: Option<Cause>,
 }
 
+impl Heard {
+    /// Nothing was brought about.
+    pub fn none() -> Heard {
+        Heard {
+            acts: Acts::none(),
+            end: None,
+        }
+    }
+}
+
+/// The place that was kept, or a new one.
+pub fn lent(alloc: Global, kept: Option<Box<Heard>>) -> Result<Box<Heard>, NoMemory> {
+    match kept {
+        Some(heard) => Ok(heard),
+        None => Ok(Box::new(alloc, Heard::none())?),
+    }
+}
+
 /// A copy of these bytes.
 fn copy(alloc: Global, bytes: &[u8]) -> Result<Text, NoMemory>
     ensures { IfOk result (λ text. text ≡ bytes.now) }
@@ -109,29 +127,36 @@ impl Fetch {
     }
 
     /// A datagram comes from this port of the server, in the record of this number.
-    pub fn message(&mut self, rec: u32, port: u16, body: &[u8], now: u64) -> Result<Heard, NoMemory>
+    pub fn message(
+        &mut self,
+        rec: u32,
+        port: u16,
+        body: &[u8],
+        now: u64,
+        heard: &mut Heard,
+    ) -> Result<(), NoMemory>
         requires { length self.old.body ≤ 268435456 }
-        ensures heard { IfOk result (λ heard. TakesCall self.old self.new (came (received rec port body.now) now) heard) }
+        ensures heard { OnOk result (TakesCall self.old self.new (came (received rec port body.now) now) heard.new) }
         ensures same { IsSameFetch self.old self.new }
         ensures short { length self.new.body ≤ 268435456 }
     {
-        let mut acts = Acts::none();
-        self.transfer.message(rec, port, body, now, &mut acts);
-        let end = self.take(&acts, given(acts.give, body))?;
-        Ok(Heard { acts, end })
+        self.transfer.message(rec, port, body, now, &mut heard.acts);
+        let end = self.take(&heard.acts, given(heard.acts.give, body))?;
+        heard.end = end;
+        Ok(())
     }
 
     /// It is this time, in milliseconds since the run's start.
-    pub fn time(&mut self, now: u64) -> Result<Heard, NoMemory>
+    pub fn time(&mut self, now: u64, heard: &mut Heard) -> Result<(), NoMemory>
         requires { length self.old.body ≤ 268435456 }
-        ensures heard { IfOk result (λ heard. TakesCall self.old self.new (ticked now) heard) }
+        ensures heard { OnOk result (TakesCall self.old self.new (ticked now) heard.new) }
         ensures same { IsSameFetch self.old self.new }
         ensures short { length self.new.body ≤ 268435456 }
     {
-        let mut acts = Acts::none();
-        self.transfer.time(now, &mut acts);
-        let end = self.take(&acts, b"")?;
-        Ok(Heard { acts, end })
+        self.transfer.time(now, &mut heard.acts);
+        let end = self.take(&heard.acts, b"")?;
+        heard.end = end;
+        Ok(())
     }
 
     /// Joins the bytes that go up to the body, and says whether the open has ended.

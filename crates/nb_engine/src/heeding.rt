@@ -39,6 +39,18 @@ impl Client {
         }
     }
 
+    /// Heeds what was heard, and keeps its place.
+    pub(crate) fn heed_kept(&mut self, heard: Box<Heard>, log: &mut Log) -> Turn
+        requires waits { IsWaiting self.old.stage }
+        requires sound { (len : ℕ) × IsSound len heard.value.acts }
+        ensures { (s : Running) (f : Fetch) → self.old.stage ≡ stage.Waiting s f
+            → Heeds result s (HasHeard heard.value f) self.old self.new log.old log.new }
+    {
+        let turn = self.heed(&heard, log);
+        self.heard = Some(heard);
+        turn
+    }
+
     /// The open goes on.
     fn go_on(&mut self, acts: &Acts, log: &mut Log) -> Turn
         requires sound { (len : ℕ) × IsSound len acts.now }

@@ -17,6 +17,7 @@ ghost use Rattle.nb_engine.specs.declared.stage.Stage.TheVariants as stage;
 ghost use Rattle.nb_engine.specs.declared.client.Turn.TheVariants as turn;
 
 use crate::causes::{NOT_SCRIPT, OK, STOPPED};
+use crate::fetch::lent;
 use crate::put::{put_over, put_reply, put_step};
 use crate::{Client, RunningScript, Stage, Status, Turn, World};
 use nb_record::{Log, NoMemory, OutRec, Start};
@@ -150,11 +151,14 @@ impl Client {
             → Heeds result s (Comes (came (received self.old.used port body.now) self.old.world.time) f) self.old self.new log.old log.new }
     {
         let (rec, now) = (self.used, self.world.time);
+        let Ok(mut heard) = lent(self.alloc, self.heard.take()) else {
+            return Turn::Over(Status::NoMemory);
+        };
         let Stage::Waiting(_, fetch) = &mut self.stage else {
             unreachable!()
         };
-        match fetch.message(rec, port, body, now) {
-            Ok(heard) => self.heed(&heard, log),
+        match fetch.message(rec, port, body, now, &mut heard) {
+            Ok(()) => self.heed_kept(heard, log),
             Err(NoMemory) => Turn::Over(Status::NoMemory),
         }
     }
@@ -177,11 +181,14 @@ impl Client {
             → Heeds result s (Comes (ticked self.old.world.time) f) self.old self.new log.old log.new }
     {
         let now = self.world.time;
+        let Ok(mut heard) = lent(self.alloc, self.heard.take()) else {
+            return Turn::Over(Status::NoMemory);
+        };
         let Stage::Waiting(_, fetch) = &mut self.stage else {
             unreachable!()
         };
-        match fetch.time(now) {
-            Ok(heard) => self.heed(&heard, log),
+        match fetch.time(now, &mut heard) {
+            Ok(()) => self.heed_kept(heard, log),
             Err(NoMemory) => Turn::Over(Status::NoMemory),
         }
     }

@@ -3,7 +3,7 @@ use Rattle.std.proofs.Common.{◌≡◌, ℕ, ◌⊎◌, inl, inr, List, [], ◌
 use Rattle.nb_ledger.specs.declared.port.Port.{Port}
 use Rattle.nb_ledger.specs.declared.event.GraphEvent.{GraphEvent}
 use Rattle.nb_ledger.specs.Ledger.{Ledger, port, open_count}
-use Rattle.nb_graph.specs.Deeds.{Deed, writes, calls}
+use Rattle.nb_graph.specs.Deeds.{Deed, writes, calls, turns, Turn}
 use Rattle.nb_graph.specs.Accounts.{Account, Joined, joined, parted, account, after_note, rests}
 use Rattle.nb_graph.specs.Flows.{IsShut, Still}
 use Rattle.nb_graph.specs.Moves.{Calms, Mild}
@@ -12,6 +12,7 @@ pub account-append : {N L : Type 0} (parts : L → List ℕ) (p : Port) (a : Acc
 account-append parts p a [] es = refl
 account-append parts p a (writes e ∷ ds) es = account-append parts p (after_note p a e) ds es
 account-append parts p a (calls y e ∷ ds) es = account-append parts p _ ds es
+account-append parts p a (turns u ∷ ds) es = account-append parts p a ds es
 
 pub Mild-same : {old new : Ledger} → new.made ≡ old.made → ((x k : ℕ) → port new x k ≡ port old x k) → Mild old new
 Mild-same m s = record { same_made = m; links = λ x k q h. sym (s x k) ∙ h; keeps = λ x k q h. s x k ∙ h; shuts = λ x k h. ap open_count (s x k) ∙ h }
@@ -50,6 +51,18 @@ Calms-plain parts old new e m plain = record {
   enters = λ q b h. ap (λ z. z.entered) (plain q b) ∙ h;
   quiet = λ q b o h. ap (λ z. z.entered) (plain q b) ∙ h;
   joins = λ p q a b w v f j. rw (plain p a, plain q b, sym f) (Joined-mild m j);
+}
+
+-- something turns
+pub Calms-turn : {N L : Type 0} (parts : L → List ℕ) (l : Ledger) (u : Turn) → Calms {N = N} {L = L} parts l l Still (turns u ∷ [])
+Calms-turn parts l u = record {
+  same_made = refl;
+  links = λ x k q h. h;
+  shuts = λ x k h. h;
+  peers = λ p a. refl;
+  enters = λ q b h. h;
+  quiet = λ q b o h. h;
+  joins = λ p q a b w v f j. subst (Joined l p q a.sent b.taken) f j;
 }
 
 -- one call after the other

@@ -12,7 +12,8 @@ use Rattle.nb_graph.specs.declared.steps.Asked.TheVariants.{Done, NoMemory}
 use Rattle.nb_graph.specs.Deeds.{Deed}
 use Rattle.nb_graph.specs.Effects.{AreDowns, IsDown, MayAskBelow, MayAskDown}
 use Rattle.nb_graph.specs.Whole.{IsLinked, port_at}
-use Rattle.nb_graph.specs.Accounts.{Account, Joined, joined, parted, account, carries, emit_bytes, few_bytes, fx_bytes}
+use Rattle.nb_graph.specs.Accounts.{Account, Joined, joined, parted, account, emit_bytes, few_bytes, fx_bytes}
+use Rattle.nb_graph.specs.Trace.{carries}
 use Rattle.nb_graph.specs.Flows.{Reaches, here, over, IsClear, IsShut, Closing, Failing, Downs, Passing, Emitting, Giving, Following, asked_left, asked_sent, asked_whole, nothing}
 use Rattle.nb_graph.specs.Moves.{Calms}
 use Rattle.nb_graph.proofs.ForestLemmas.{Reaches-map, apart-without, the-port}

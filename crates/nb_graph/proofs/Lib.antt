@@ -1,3 +1,7 @@
+pub mod MachineLaws
+pub mod Laws
+pub mod WentLemmas
+mod AgainLemmas
 pub mod MannedLemmas
 pub mod LinkLemmas
 pub mod WholeLemmas

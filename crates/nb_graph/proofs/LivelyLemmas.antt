@@ -1,8 +1,8 @@
 -- The parts of an entry from below or by time, joined.
+use Rattle.nb_ledger.specs.Flat.{Notice}
 use Rattle.std.proofs.Common.{◌≡◌, ℕ, ◌<◌, ◌≤◌, inl, inr, Bool, true, false, zero, suc, ltb, List, [], ◌∷◌, ◌++◌, length, get_or, set, slice_get, map, Option, Some, None, refl, ap, sym, ◌∙◌, subst, arith}
 use Rattle.std.proofs.lemmas.Bool.{cases_eq, cases_Bool, eq-eqb, false≢true}
 use Rattle.std.specs.Option.{option_map_or}
-use Rattle.nb_terms.specs.declared.event.Event.{Event}
 use Rattle.nb_ledger.specs.declared.object.Object.{Object}
 use Rattle.nb_ledger.specs.declared.port.Port.{Port}
 use Rattle.nb_ledger.specs.declared.port.PortState.{PortState}
@@ -42,7 +42,7 @@ Grows-shrinks {old} {new} s = record {
   kept = λ x r. (s.kept x (busy-live new x (s.same_busy x ∙ r))).1;
 }
 
-unfoldable pub Lively-calm : {old new : Ledger} {before after : Option (List Event)} → Calm old new before after → Lively old new before after
+unfoldable pub Lively-calm : {old new : Ledger} {before after : Option (List Notice)} → Calm old new before after → Lively old new before after
 Lively-calm {old} {new} {before} {after} k = record { added = k.added; told = k.told; run = k.run; grows = Grows-shrinks k.shrinks }
 
 -- a stack whose innermost entry runs is idle
@@ -54,19 +54,19 @@ runs-idle (MustEnter p ∷ st) x h = absurd h
 runs-idle (MustUnplug p q ∷ st) x h = absurd h
 runs-idle (MustFree y ∷ st) x h = absurd h
 
-unfoldable pub LivelyIn-lively : {x : ℕ} {old new : Ledger} {before after : Option (List Event)} → Lively old new before after → LivelyIn x old new before after
+unfoldable pub LivelyIn-lively : {x : ℕ} {old new : Ledger} {before after : Option (List Notice)} → Lively old new before after → LivelyIn x old new before after
 LivelyIn-lively {x} {old} {new} {before} {after} k = record { added = k.added; told = k.told; run = λ st r a. k.run st (runs-idle st x r) a; grows = k.grows }
 
-unfoldable pub LivelyIn-calm : {x : ℕ} {old new : Ledger} {before after : Option (List Event)} → Calm old new before after → LivelyIn x old new before after
+unfoldable pub LivelyIn-calm : {x : ℕ} {old new : Ledger} {before after : Option (List Notice)} → Calm old new before after → LivelyIn x old new before after
 LivelyIn-calm {x} {old} {new} {before} {after} k = LivelyIn-lively (Lively-calm k)
 
-unfoldable pub Lively-refl : (l : Ledger) (b : Option (List Event)) → Lively l l b b
+unfoldable pub Lively-refl : (l : Ledger) (b : Option (List Notice)) → Lively l l b b
 Lively-refl l b = record { added = []; told = Told-none b; run = λ st i a. refl; grows = Grows-refl l }
 
-unfoldable pub LivelyIn-refl : (x : ℕ) (l : Ledger) (b : Option (List Event)) → LivelyIn x l l b b
+unfoldable pub LivelyIn-refl : (x : ℕ) (l : Ledger) (b : Option (List Notice)) → LivelyIn x l l b b
 LivelyIn-refl x l b = record { added = []; told = Told-none b; run = λ st i a. refl; grows = Grows-refl l }
 
-unfoldable pub Lively-trans : {a b c : Ledger} {m n o : Option (List Event)} → Lively a b m n → Lively b c n o → Lively a c m o
+unfoldable pub Lively-trans : {a b c : Ledger} {m n o : Option (List Notice)} → Lively a b m n → Lively b c n o → Lively a c m o
 Lively-trans {a} {b} {c} {m} {n} {o} p q = record {
   added = p.added ++ q.added;
   told = Tells-append m n o p.added q.added p.told q.told;
@@ -74,7 +74,7 @@ Lively-trans {a} {b} {c} {m} {n} {o} p q = record {
   grows = Grows-trans p.grows q.grows;
 }
 
-unfoldable pub LivelyIn-trans : {x : ℕ} {a b c : Ledger} {m n o : Option (List Event)} → LivelyIn x a b m n → LivelyIn x b c n o → LivelyIn x a c m o
+unfoldable pub LivelyIn-trans : {x : ℕ} {a b c : Ledger} {m n o : Option (List Notice)} → LivelyIn x a b m n → LivelyIn x b c n o → LivelyIn x a c m o
 LivelyIn-trans {x} {a} {b} {c} {m} {n} {o} p q = record {
   added = p.added ++ q.added;
   told = Tells-append m n o p.added q.added p.told q.told;
@@ -83,7 +83,7 @@ LivelyIn-trans {x} {a} {b} {c} {m} {n} {o} p q = record {
 }
 
 -- a message or a make is dropped: the port is closed, or it is linked and its object's entry runs
-unfoldable pub LivelyIn-dropped : (l : Ledger) (before after : Option (List Event)) (p : Port) → (port l p.obj.0 p.slot ≡ Open → ⊥) → Tells before after (event.Dropped p ∷ []) → LivelyIn p.obj.0 l l before after
+unfoldable pub LivelyIn-dropped : (l : Ledger) (before after : Option (List Notice)) (p : Port) → (port l p.obj.0 p.slot ≡ Open → ⊥) → Tells before after (event.Dropped p ∷ []) → LivelyIn p.obj.0 l l before after
 LivelyIn-dropped l before after p n told = record {
   added = event.Dropped p ∷ [];
   told = told;
@@ -98,7 +98,7 @@ LivelyIn-dropped l before after p n told = record {
     may st r Closed h = rw h tt
 
 -- a whole entry
-unfoldable pub Lively-entry : {b0 b1 b2 new : Ledger} {n0 n1 n2 after : Option (List Event)} {p : Port} {way : Way} {was : Bool} → SetsBusy b0 b1 p.obj.0 true → Tells n0 n1 (event.Entered p way ∷ []) → ((st : List Frame) → IsIdle st → MayEnter (state_of b0 st) p way → Step (state_of b0 st) (event.Entered p way) (state_of b1 (Running p way ∷ st))) → ((st : List Frame) → MayEnter (state_of b0 st) p way) → was ≡ busy b0 p.obj.0 → LivelyIn p.obj.0 b1 b2 n1 n2 → Ends b2 new n2 after p.obj.0 was (λ st. Running p way ∷ st) (port b2) → Lively b0 new n0 after
+unfoldable pub Lively-entry : {b0 b1 b2 new : Ledger} {n0 n1 n2 after : Option (List Notice)} {p : Port} {way : Way} {was : Bool} → SetsBusy b0 b1 p.obj.0 true → Tells n0 n1 (event.Entered p way ∷ []) → ((st : List Frame) → IsIdle st → MayEnter (state_of b0 st) p way → Step (state_of b0 st) (event.Entered p way) (state_of b1 (Running p way ∷ st))) → ((st : List Frame) → MayEnter (state_of b0 st) p way) → was ≡ busy b0 p.obj.0 → LivelyIn p.obj.0 b1 b2 n1 n2 → Ends b2 new n2 after p.obj.0 was (λ st. Running p way ∷ st) (port b2) → Lively b0 new n0 after
 Lively-entry {b0} {b1} {b2} {new} {n0} {n1} {n2} {after} {p} {way} {was} c told step may prior k e = record {
   added = event.Entered p way ∷ (k.added ++ e.added);
   told = Tells-append n0 n1 after (event.Entered p way ∷ []) (k.added ++ e.added) told (Tells-append n1 n2 after k.added e.added k.told e.told);
@@ -130,7 +130,7 @@ Lively-entry {b0} {b1} {b2} {new} {n0} {n1} {n2} {after} {p} {way} {was} c told 
     ]
 
 -- which begins with it
-pub Starts-lively : {b0 b1 b2 new : Ledger} {n0 n1 n2 after : Option (List Event)} {p : Port} {way : Way} {was : Bool} → SetsBusy b0 b1 p.obj.0 true → Tells n0 n1 (event.Entered p way ∷ []) → ((st : List Frame) → IsIdle st → MayEnter (state_of b0 st) p way → Step (state_of b0 st) (event.Entered p way) (state_of b1 (Running p way ∷ st))) → ((st : List Frame) → MayEnter (state_of b0 st) p way) → was ≡ busy b0 p.obj.0 → LivelyIn p.obj.0 b1 b2 n1 n2 → Ends b2 new n2 after p.obj.0 was (λ st. Running p way ∷ st) (port b2) → Starts b0 new n0 after (event.Entered p way)
+pub Starts-lively : {b0 b1 b2 new : Ledger} {n0 n1 n2 after : Option (List Notice)} {p : Port} {way : Way} {was : Bool} → SetsBusy b0 b1 p.obj.0 true → Tells n0 n1 (event.Entered p way ∷ []) → ((st : List Frame) → IsIdle st → MayEnter (state_of b0 st) p way → Step (state_of b0 st) (event.Entered p way) (state_of b1 (Running p way ∷ st))) → ((st : List Frame) → MayEnter (state_of b0 st) p way) → was ≡ busy b0 p.obj.0 → LivelyIn p.obj.0 b1 b2 n1 n2 → Ends b2 new n2 after p.obj.0 was (λ st. Running p way ∷ st) (port b2) → Starts b0 new n0 after (event.Entered p way)
 unfolding Lively-entry
 Starts-lively c told step may prior k e =
     let whole = Lively-entry c told step may prior k e in
@@ -165,7 +165,7 @@ pub new-leaves : (k : ℕ) → leaves (new_ports k) ≡ None
 new-leaves k = elim (cases_Bool (ltb k 4)) [ inl e ↦ rw e refl | inr e ↦ rw e refl ]
 
 -- an object is made and plugged
-unfoldable pub Lively-make : (b0 b1 m new : Ledger) (n0 n1 after : Option (List Event)) (p q : Port) (r kind : ℕ) → Adds b0 b1 q.obj.0 r → live b0 q.obj.0 ≡ false → SetsPort b1 m p (Linked q) → SetsPort m new q (Linked p) → port b1 p.obj.0 p.slot ≡ Open → port b1 q.obj.0 q.slot ≡ Open → Tells n0 n1 (event.Made q.obj kind ∷ []) → ((st : List Frame) → IsIdle st → Step (state_of b0 st) (event.Made q.obj kind) (state_of b1 st)) → Tells n1 after (event.Plugged p q ∷ []) → ((st : List Frame) → IsIdle st → Step (state_of b1 st) (event.Plugged p q) (state_of new st)) → Lively b0 new n0 after
+unfoldable pub Lively-make : (b0 b1 m new : Ledger) (n0 n1 after : Option (List Notice)) (p q : Port) (r kind : ℕ) → Adds b0 b1 q.obj.0 r → live b0 q.obj.0 ≡ false → SetsPort b1 m p (Linked q) → SetsPort m new q (Linked p) → port b1 p.obj.0 p.slot ≡ Open → port b1 q.obj.0 q.slot ≡ Open → Tells n0 n1 (event.Made q.obj kind ∷ []) → ((st : List Frame) → IsIdle st → Step (state_of b0 st) (event.Made q.obj kind) (state_of b1 st)) → Tells n1 after (event.Plugged p q ∷ []) → ((st : List Frame) → IsIdle st → Step (state_of b1 st) (event.Plugged p q) (state_of new st)) → Lively b0 new n0 after
 Lively-make b0 b1 m new n0 n1 after p q r kind a d s t op oq told step more next = record {
   added = event.Made q.obj kind ∷ event.Plugged p q ∷ [];
   told = Tells-append n0 n1 after (event.Made q.obj kind ∷ []) (event.Plugged p q ∷ []) told more;

@@ -1,13 +1,22 @@
 -- What happens, one after another.
-use Rattle.std.proofs.Common.{◌≡◌, ◌≢◌, ℕ, inl, inr, Bool, false, List, [], ◌∷◌, ◌++◌, Option, Some, refl, ap, sym, ◌∙◌, subst, append-nil}
+use Rattle.std.proofs.Common.{Option, ◌≡◌, ◌≢◌, ℕ, inl, inr, Bool, false, List, [], ◌∷◌, ◌++◌, Some, append_assoc, refl, ap, sym, ◌∙◌, subst, append-nil}
 use Rattle.std.proofs.lemmas.Bool.{cases_eq, eq-eqb, ne_eqb}
 use Rattle.nb_ledger.specs.declared.port.ObjId.{ObjId}
 use Rattle.nb_ledger.specs.declared.port.Port.{Port}
 use Rattle.nb_ledger.specs.declared.event.GraphEvent.{GraphEvent}
 use Rattle.nb_ledger.specs.declared.event.GraphEvent.TheVariants.{Made, Plugged}
+use Rattle.nb_ledger.specs.Flat.{Notice, Given, flat, event}
+use Rattle.nb_ledger.proofs.RunLemmas.{Given-append, Given-none}
+use Rattle.nb_graph.specs.Ports.{notice_of, told_of}
+use Rattle.nb_ledger.specs.declared.event.Way.{Way}
+use Rattle.nb_ledger.specs.declared.event.Way.TheVariants as way
+use Rattle.nb_graph.specs.Deeds.{Settles as Frees, settles_by}
 use Rattle.nb_graph.specs.Trace.{Entry, Owes, Owes1}
-use Rattle.nb_graph.specs.Deeds.{Deed, writes, calls, Stage, Notes, Hears, Follows, events_of, trace_after, after_event}
-use Rattle.nb_graph.specs.Lives.{Lives, Same, Stays, here, Fits}
+use Rattle.nb_graph.specs.Deeds.{Deed, writes, calls, turns, Turn, Turns, Stage, Returns, returns_of, Makes, MustPlug, Notes, Hears, Follows, events_of, trace_after, after_event}
+use Rattle.nb_graph.specs.Whole.{port_at}
+use Rattle.nb_ledger.specs.declared.port.PortState.{PortState}
+use Rattle.nb_graph.specs.Ports.{Sees, Meets, ports_note}
+use Rattle.nb_graph.specs.Lives.{Seats, Loses, Lives, Same, Stays, here, Fits}
 
 -- what is owed after a trace and one more
 pub Owes-append : {N L : Type 0} (w v u : List L) (s t : List (Entry N L)) → Owes w s v → Owes v t u → Owes w (s ++ t) u
@@ -18,23 +27,40 @@ pub trace-append : {N L : Type 0} (x : ℕ) (t : List (Entry N L)) (ds es : List
 trace-append x t [] es = refl
 trace-append x t (writes e ∷ ds) es = trace-append x (after_event x t e) ds es
 trace-append x t (calls y i ∷ ds) es = trace-append x _ ds es
+trace-append x t (turns u ∷ ds) es = trace-append x t ds es
 
 pub events-append : {N L : Type 0} (ds es : List (Deed N L)) → events_of (ds ++ es) ≡ events_of ds ++ events_of es
 events-append [] es = refl
 events-append (writes e ∷ ds) es = ap (λ z. e ∷ z) (events-append ds es)
 events-append (calls y i ∷ ds) es = events-append ds es
+events-append (turns u ∷ ds) es = events-append ds es
 
-pub Follows-append : {N L : Type 0} (now : ℕ) (a b c : List Stage) (ds es : List (Deed N L)) → Follows now a ds b → Follows now b es c → Follows now a (ds ++ es) c
-Follows-append now a b c [] es p q = subst (λ z. Follows now z es c) (sym p) q
-Follows-append now a b c (writes e ∷ ds) es p q = (p.0, p.1, Follows-append now p.0 b c ds es p.2 q)
-Follows-append now a b c (calls y i ∷ ds) es p q = (p.0, p.1, Follows-append now p.0 b c ds es p.2 q)
+pub Follows-append : {N L : Type 0} (parts : L → List ℕ) (now : ℕ) (a b c : List (Stage L)) (ds es : List (Deed N L)) → Follows parts now a ds b → Follows parts now b es c → Follows parts now a (ds ++ es) c
+Follows-append parts now a b c [] es p q = subst (λ z. Follows parts now z es c) (sym p) q
+Follows-append parts now a b c (writes e ∷ ds) es p q = (p.0, p.1, Follows-append parts now p.0 b c ds es p.2 q)
+Follows-append parts now a b c (calls y i ∷ ds) es p q = (p.0, p.1, Follows-append parts now p.0 b c ds es p.2 q)
+Follows-append parts now a b c (turns u ∷ ds) es p q = (p.0, p.1, Follows-append parts now p.0 b c ds es p.2 q)
+
+pub told-append : {N L : Type 0} (ds es : List (Deed N L)) → told_of (ds ++ es) ≡ told_of ds ++ told_of es
+told-append [] es = refl
+told-append (writes e ∷ ds) es = ap (λ z. event (flat e) ∷ z) (told-append ds es)
+told-append (calls y i ∷ ds) es = told-append ds es
+told-append (turns u ∷ ds) es = ap (λ z. notice_of u ++ z) (told-append ds es) ∙ sym (append_assoc (notice_of u) (told_of ds) (told_of es))
+
+pub Sees-append : {N L : Type 0} (f g h : ℕ → ℕ → PortState) (ds es : List (Deed N L)) → Sees f ds g → Sees g es h → Sees f (ds ++ es) h
+Sees-append f g h [] es p q = subst (λ z. Sees z es h) (sym p) q
+Sees-append f g h (writes e ∷ ds) es p q = Sees-append (ports_note e f) g h ds es p q
+Sees-append f g h (calls y i ∷ ds) es p q = Sees-append f g h ds es p q
+Sees-append f g h (turns u ∷ ds) es p q = (p.0, Sees-append f g h ds es p.1 q)
 
 -- one after the other, with what is owed between
-unfoldable pub Lives-then : {N L : Type 0} {stands : N → List (Entry N L) → Type 0} {now : ℕ} {f g h : ℕ → Option N} {p q r : ℕ → List L → List L → Type 0} {o m n : List Stage → List Stage} {i j k : List (Deed N L) → Type 0} {xs ys : List GraphEvent} → Lives stands now f g p o m i xs → Lives stands now g h q m n j ys → ((x : ℕ) (w v : List L) → r x w v → (u : List L) × p x w u × q x u v) → ((ds es : List (Deed N L)) → i ds → j es → k (ds ++ es)) → Lives stands now f h r o n k (xs ++ ys)
-Lives-then {stands = stands} {now = now} {f = f} {g = g} {h = h} {o = o} {m = m} {n = n} {xs = xs} {ys = ys} a b split join = record {
+unfoldable pub Lives-then : {N L : Type 0} {parts : L → List ℕ} {stands : N → List (Entry N L) → Type 0} {now : ℕ} {f g h : Seats N} {p q r : ℕ → List L → List L → Type 0} {o m n : List (Stage L) → List (Stage L)} {i j k : List (Deed N L) → Type 0} {xs ys : List GraphEvent} → Lives stands parts now f g p o m i xs → Lives stands parts now g h q m n j ys → ((x : ℕ) (w v : List L) → r x w v → (u : List L) × p x w u × q x u v) → ((ds es : List (Deed N L)) → i ds → j es → k (ds ++ es)) → Lives stands parts now f h r o n k (xs ++ ys)
+Lives-then {parts = parts} {stands = stands} {now = now} {f = f} {g = g} {h = h} {o = o} {m = m} {n = n} {xs = xs} {ys = ys} a b split join = record {
   deeds = a.deeds ++ b.deeds;
   events = events-append a.deeds b.deeds ∙ ap (λ z. z ++ events_of b.deeds) a.events ∙ ap (λ z. xs ++ z) b.events;
-  follows = λ st. Follows-append now (o st) (m st) (n st) a.deeds b.deeds (a.follows st) (b.follows st);
+  sees = Sees-append f.port g.port h.port a.deeds b.deeds a.sees b.sees;
+  tells = subst (Given f.told h.told) (sym (told-append a.deeds b.deeds)) (Given-append f.told g.told h.told (told_of a.deeds) (told_of b.deeds) a.tells b.tells);
+  follows = λ st. Follows-append parts now (o st) (m st) (n st) a.deeds b.deeds (a.follows st) (b.follows st);
   keeps = λ x t w v k fit.
       let u = split x w v k in
       subst (λ z. Fits stands h x z v) (sym (trace-append x t a.deeds b.deeds)) (b.keeps x (trace_after x t a.deeds) u.0 v u.2 (a.keeps x t w u.0 u.1 fit));
@@ -42,48 +68,72 @@ Lives-then {stands = stands} {now = now} {f = f} {g = g} {h = h} {o = o} {m = m}
 }
 
 -- of which nothing is said of bytes
-unfoldable pub Lives-both : {N L : Type 0} {stands : N → List (Entry N L) → Type 0} {now : ℕ} {f g h : ℕ → Option N} {p q r : ℕ → List L → List L → Type 0} {o m n : List Stage → List Stage} {i j : List (Deed N L) → Type 0} {xs ys : List GraphEvent} → Lives stands now f g p o m i xs → Lives stands now g h q m n j ys → ((x : ℕ) (w v : List L) → r x w v → (u : List L) × p x w u × q x u v) → Lives stands now f h r o n (λ _. Unit {0}) (xs ++ ys)
+unfoldable pub Lives-both : {N L : Type 0} {parts : L → List ℕ} {stands : N → List (Entry N L) → Type 0} {now : ℕ} {f g h : Seats N} {p q r : ℕ → List L → List L → Type 0} {o m n : List (Stage L) → List (Stage L)} {i j : List (Deed N L) → Type 0} {xs ys : List GraphEvent} → Lives stands parts now f g p o m i xs → Lives stands parts now g h q m n j ys → ((x : ℕ) (w v : List L) → r x w v → (u : List L) × p x w u × q x u v) → Lives stands parts now f h r o n (λ _. Unit {0}) (xs ++ ys)
 unfolding Lives-then
 Lives-both a b split = Lives-then a b split (λ ds es k l. tt)
 
 -- something of which no event is written after it
-unfoldable pub Lives-after : {N L : Type 0} {stands : N → List (Entry N L) → Type 0} {now : ℕ} {f g h : ℕ → Option N} {p q r : ℕ → List L → List L → Type 0} {o m n : List Stage → List Stage} {i j k : List (Deed N L) → Type 0} {xs : List GraphEvent} → Lives stands now f g p o m i xs → Lives stands now g h q m n j [] → ((x : ℕ) (w v : List L) → r x w v → (u : List L) × p x w u × q x u v) → ((ds es : List (Deed N L)) → i ds → j es → k (ds ++ es)) → Lives stands now f h r o n k xs
+unfoldable pub Lives-after : {N L : Type 0} {parts : L → List ℕ} {stands : N → List (Entry N L) → Type 0} {now : ℕ} {f g h : Seats N} {p q r : ℕ → List L → List L → Type 0} {o m n : List (Stage L) → List (Stage L)} {i j k : List (Deed N L) → Type 0} {xs : List GraphEvent} → Lives stands parts now f g p o m i xs → Lives stands parts now g h q m n j [] → ((x : ℕ) (w v : List L) → r x w v → (u : List L) × p x w u × q x u v) → ((ds es : List (Deed N L)) → i ds → j es → k (ds ++ es)) → Lives stands parts now f h r o n k xs
 unfolding Lives-then
 Lives-after {k = k} {xs = xs} a b split join =
     let v = Lives-then {k = k} a b split join in
-    record { deeds = v.deeds; events = v.events ∙ append-nil xs; follows = v.follows; keeps = v.keeps; moved = v.moved }
+    record { deeds = v.deeds; events = v.events ∙ append-nil xs; sees = v.sees; tells = v.tells; follows = v.follows; keeps = v.keeps; moved = v.moved }
 
 -- the same within other stages
-unfoldable pub Lives-under : {N L : Type 0} {stands : N → List (Entry N L) → Type 0} {now : ℕ} {f g : ℕ → Option N} {p : ℕ → List L → List L → Type 0} {i : List (Deed N L) → Type 0} {xs : List GraphEvent} (m : List Stage → List Stage) → Lives stands now f g p here here i xs → Lives stands now f g p m m i xs
-Lives-under m k = record { deeds = k.deeds; events = k.events; follows = λ st. k.follows (m st); keeps = k.keeps; moved = k.moved }
+unfoldable pub Lives-under : {N L : Type 0} {parts : L → List ℕ} {stands : N → List (Entry N L) → Type 0} {now : ℕ} {f g : Seats N} {p : ℕ → List L → List L → Type 0} {i : List (Deed N L) → Type 0} {xs : List GraphEvent} (m : List (Stage L) → List (Stage L)) → Lives stands parts now f g p here here i xs → Lives stands parts now f g p m m i xs
+Lives-under m k = record { deeds = k.deeds; events = k.events; sees = k.sees; tells = k.tells; follows = λ st. k.follows (m st); keeps = k.keeps; moved = k.moved }
+
+-- the same above other stages
+unfoldable pub Lives-above : {N L : Type 0} {parts : L → List ℕ} {stands : N → List (Entry N L) → Type 0} {now : ℕ} {f g : Seats N} {p : ℕ → List L → List L → Type 0} {o n : List (Stage L) → List (Stage L)} {i : List (Deed N L) → Type 0} {xs : List GraphEvent} (m : List (Stage L) → List (Stage L)) → Lives stands parts now f g p o n i xs → Lives stands parts now f g p (λ st. o (m st)) (λ st. n (m st)) i xs
+Lives-above m k = record { deeds = k.deeds; events = k.events; sees = k.sees; tells = k.tells; follows = λ st. k.follows (m st); keeps = k.keeps; moved = k.moved }
+
+-- the same of stages in another form
+unfoldable pub Lives-opened : {N L : Type 0} {stands : N → List (Entry N L) → Type 0} {parts : L → List ℕ} {now : ℕ} {f g : Seats N} {p : ℕ → List L → List L → Type 0} {o m n : List (Stage L) → List (Stage L)} {i : List (Deed N L) → Type 0} {xs : List GraphEvent} → ((st : List (Stage L)) → m st ≡ o st) → Lives stands parts now f g p o n i xs → Lives stands parts now f g p m n i xs
+Lives-opened {parts = parts} {now = now} {n = n} same k = record { deeds = k.deeds; events = k.events; sees = k.sees; tells = k.tells; follows = λ st. subst (λ z. Follows parts now z k.deeds (n st)) (sym (same st)) (k.follows st); keeps = k.keeps; moved = k.moved }
+
+-- loads that come back, and others
+pub returns-append : {L : Type 0} (x : ℕ) (ls ms : List L) → returns_of x (ls ++ ms) ≡ returns_of x ls ++ returns_of x ms
+returns-append x [] ms = refl
+returns-append x (l ∷ ls) ms = ap (λ z. Returns x l ∷ z) (returns-append x ls ms)
+
+pub returns-both : {L : Type 0} (x : ℕ) (ls ms : List L) (st : List (Stage L)) → returns_of x (ls ++ ms) ++ st ≡ returns_of x ls ++ (returns_of x ms ++ st)
+returns-both x ls ms st = ap (λ z. z ++ st) (returns-append x ls ms) ∙ append_assoc (returns_of x ls) (returns_of x ms) st
 
 -- the same where less is asked
-unfoldable pub Lives-weaken : {N L : Type 0} {stands : N → List (Entry N L) → Type 0} {now : ℕ} {f g : ℕ → Option N} {p q : ℕ → List L → List L → Type 0} {o n : List Stage → List Stage} {i j : List (Deed N L) → Type 0} {xs : List GraphEvent} → ((x : ℕ) (w v : List L) → q x w v → p x w v) → ((ds : List (Deed N L)) → i ds → j ds) → Lives stands now f g p o n i xs → Lives stands now f g q o n j xs
-Lives-weaken less change k = record { deeds = k.deeds; events = k.events; follows = k.follows; keeps = λ x t w v i. k.keeps x t w v (less x w v i); moved = change k.deeds k.moved }
+unfoldable pub Lives-weaken : {N L : Type 0} {parts : L → List ℕ} {stands : N → List (Entry N L) → Type 0} {now : ℕ} {f g : Seats N} {p q : ℕ → List L → List L → Type 0} {o n : List (Stage L) → List (Stage L)} {i j : List (Deed N L) → Type 0} {xs : List GraphEvent} → ((x : ℕ) (w v : List L) → q x w v → p x w v) → ((ds : List (Deed N L)) → i ds → j ds) → Lives stands parts now f g p o n i xs → Lives stands parts now f g q o n j xs
+Lives-weaken less change k = record { deeds = k.deeds; events = k.events; sees = k.sees; tells = k.tells; follows = k.follows; keeps = λ x t w v i. k.keeps x t w v (less x w v i); moved = change k.deeds k.moved }
 
 -- of which this is said of bytes
-unfoldable pub Lives-say : {N L : Type 0} {stands : N → List (Entry N L) → Type 0} {now : ℕ} {f g : ℕ → Option N} {p : ℕ → List L → List L → Type 0} {o n : List Stage → List Stage} {i j : List (Deed N L) → Type 0} {xs : List GraphEvent} → (k : Lives stands now f g p o n i xs) → j k.deeds → Lives stands now f g p o n j xs
-Lives-say k m = record { deeds = k.deeds; events = k.events; follows = k.follows; keeps = k.keeps; moved = m }
+unfoldable pub Lives-say : {N L : Type 0} {parts : L → List ℕ} {stands : N → List (Entry N L) → Type 0} {now : ℕ} {f g : Seats N} {p : ℕ → List L → List L → Type 0} {o n : List (Stage L) → List (Stage L)} {i j : List (Deed N L) → Type 0} {xs : List GraphEvent} → (k : Lives stands parts now f g p o n i xs) → j k.deeds → Lives stands parts now f g p o n j xs
+Lives-say k m = record { deeds = k.deeds; events = k.events; sees = k.sees; tells = k.tells; follows = k.follows; keeps = k.keeps; moved = m }
 
 -- nothing happens
-unfoldable pub Lives-none : {N L : Type 0} (stands : N → List (Entry N L) → Type 0) (now : ℕ) (f : ℕ → Option N) {i : List (Deed N L) → Type 0} → i [] → Lives stands now f f Stays here here i []
-Lives-none stands now f m = record { deeds = []; events = refl; follows = λ st. refl; keeps = λ x t w v e fit. subst (Fits stands f x t) e fit; moved = m }
+unfoldable pub Lives-none : {N L : Type 0} {parts : L → List ℕ} (stands : N → List (Entry N L) → Type 0) (now : ℕ) (f : Seats N) {i : List (Deed N L) → Type 0} → i [] → Lives stands parts now f f Stays here here i []
+Lives-none stands now f m = record { deeds = []; events = refl; sees = refl; tells = Given-none f.told; follows = λ st. refl; keeps = λ x t w v e fit. subst (Fits stands f x t) e fit; moved = m }
+
+-- something turns
+unfoldable pub Lives-turn : {N L : Type 0} {parts : L → List ℕ} (stands : N → List (Entry N L) → Type 0) (now : ℕ) (f : Seats N) (t : Option (List Notice)) (o n : List (Stage L) → List (Stage L)) (u : Turn) → Given f.told t (notice_of u) → ((st : List (Stage L)) → Turns u (o st) (n st)) → Meets u f.port → {i : List (Deed N L) → Type 0} → i (turns u ∷ []) → Lives stands parts now f (record f { told = t }) Stays o n i []
+Lives-turn stands now f t o n u given fits met m = record { deeds = turns u ∷ []; events = refl; sees = (met, refl); tells = subst (Given f.told t) (sym (append-nil (notice_of u))) given; follows = λ st. (n st, fits st, refl); keeps = λ x t w v e fit. subst (Fits stands f x t) e fit; moved = m }
 
 -- an event by which no object is made
-unfoldable pub Lives-note : {N L : Type 0} (stands : N → List (Entry N L) → Type 0) (now : ℕ) (f g : ℕ → Option N) (o n : List Stage → List Stage) (e : GraphEvent) → ((x : ℕ) (m : N) → g x ≡ Some m → f x ≡ Some m) → ((x : ℕ) (t : List (Entry N L)) → after_event x t e ≡ t) → ((st : List Stage) → Notes e (o st) (n st)) → {i : List (Deed N L) → Type 0} → i (writes e ∷ []) → Lives stands now f g Stays o n i (e ∷ [])
-Lives-note stands now f g o n e loses plain notes moves = record {
+unfoldable pub Lives-note : {N L : Type 0} {parts : L → List ℕ} (stands : N → List (Entry N L) → Type 0) (now : ℕ) (f g : Seats N) (o n : List (Stage L) → List (Stage L)) (e : GraphEvent) → Loses f.node g.node → ((x k : ℕ) → g.port x k ≡ ports_note e f.port x k) → Given f.told g.told (event (flat e) ∷ []) → ((x : ℕ) (t : List (Entry N L)) → after_event x t e ≡ t) → ((st : List (Stage L)) → Notes e (o st) (n st)) → {i : List (Deed N L) → Type 0} → i (writes e ∷ []) → Lives stands parts now f g Stays o n i (e ∷ [])
+Lives-note stands now f g o n e loses ports given plain notes moves = record {
   deeds = writes e ∷ [];
   events = refl;
+  sees = sym (λ i. λ x k. ports x k i);
+  tells = given;
   follows = λ st. (n st, notes st, refl);
-  keeps = λ x t w v eq fit. λ m h. subst (λ z. stands m z × Owes [] z v) (sym (plain x t)) (subst (Fits stands f x t) eq fit m (loses x m h));
+  keeps = λ x t w v eq fit. λ m h. subst (λ z. stands m z × Owes [] z v) (sym (plain x t)) (subst (Fits stands f x t) eq fit m (loses.back x m h));
   moved = moves;
 }
 
 -- a call of a node, or a load that comes back to it
-unfoldable pub Lives-call : {N L : Type 0} (stands : N → List (Entry N L) → Type 0) (now : ℕ) (f g : ℕ → Option N) (owing : ℕ → List L → List L → Type 0) (o n : List Stage → List Stage) (y : ℕ) (i : Entry N L) (d c : N) → f y ≡ Some d → ((m : N) → g y ≡ Some m → m ≡ c) → ((x : ℕ) (m : N) → x ≢ y → g x ≡ Some m → f x ≡ Some m) → ((w v : List L) → owing y w v → Owes1 w i v) → ((x : ℕ) (w v : List L) → x ≢ y → owing x w v → w ≡ v) → ((t : List (Entry N L)) (w v : List L) → owing y w v → Owes [] t w → stands d t → stands c (t ++ i ∷ [])) → ((st : List Stage) → Hears now y i (o st) (n st)) → {z : List (Deed N L) → Type 0} → z (calls y i ∷ []) → Lives stands now f g owing o n z []
-Lives-call {N} {L} stands now f g owing o n y i d c is there others owes stay law hears moves = record {
+unfoldable pub Lives-call : {N L : Type 0} {parts : L → List ℕ} (stands : N → List (Entry N L) → Type 0) (now : ℕ) (f g : Seats N) (owing : ℕ → List L → List L → Type 0) (o n : List (Stage L) → List (Stage L)) (y : ℕ) (i : Entry N L) (d c : N) → f.port ≡ g.port → Given f.told g.told [] → f.node y ≡ Some d → ((m : N) → g.node y ≡ Some m → m ≡ c) → ((x : ℕ) (m : N) → x ≢ y → g.node x ≡ Some m → f.node x ≡ Some m) → ((w v : List L) → owing y w v → Owes1 w i v) → ((x : ℕ) (w v : List L) → x ≢ y → owing x w v → w ≡ v) → ((t : List (Entry N L)) (w v : List L) → owing y w v → Owes [] t w → stands d t → stands c (t ++ i ∷ [])) → ((st : List (Stage L)) → Hears parts now y i (o st) (n st)) → {z : List (Deed N L) → Type 0} → z (calls y i ∷ []) → Lives stands parts now f g owing o n z []
+Lives-call {N} {L} stands now f g owing o n y i d c ports given is there others owes stay law hears moves = record {
   deeds = calls y i ∷ [];
   events = refl;
+  sees = ports;
+  tells = given;
   follows = λ st. (n st, hears st, refl);
   keeps = λ x t w v k fit. λ m h. elim (cases_eq x y) [
     | inl e ↦ rw (eq-eqb x y e) (called x t w v k fit m h e)
@@ -92,23 +142,32 @@ Lives-call {N} {L} stands now f g owing o n y i d c is there others owes stay la
   moved = moves;
 }
   where
-    called : (x : ℕ) (t : List (Entry N L)) (w v : List L) → owing x w v → Fits stands f x t w → (m : N) → g x ≡ Some m → x ≡ y → stands m (t ++ i ∷ []) × Owes [] (t ++ i ∷ []) v
+    called : (x : ℕ) (t : List (Entry N L)) (w v : List L) → owing x w v → Fits stands f x t w → (m : N) → g.node x ≡ Some m → x ≡ y → stands m (t ++ i ∷ []) × Owes [] (t ++ i ∷ []) v
     called x t w v k fit m h e =
         let ky : owing y w v = subst (λ z. owing z w v) e k in
-        let was = fit d (ap f e ∙ is) in (
-          subst (λ z. stands z (t ++ i ∷ [])) (sym (there m (sym (ap g e) ∙ h))) (law t w v ky was.1 was.0),
+        let was = fit d (ap f.node e ∙ is) in (
+          subst (λ z. stands z (t ++ i ∷ [])) (sym (there m (sym (ap g.node e) ∙ h))) (law t w v ky was.1 was.0),
           Owes-append [] w v t (i ∷ []) was.1 (v, owes w v ky, refl),
         )
 
 -- an object is made and plugged; it starts from the empty trace
-pub Lives-make : {N L : Type 0} (stands : N → List (Entry N L) → Type 0) (now : ℕ) (b : ℕ → Bool) (f g : ℕ → Option N) (y : ObjId) (kind : ℕ) (p q : Port) (node : N) → stands node [] → b y.0 ≡ false → ((n : N) → g y.0 ≡ Some n → n ≡ node) → ((x : ℕ) (n : N) → x ≢ y.0 → g x ≡ Some n → f x ≡ Some n) → {i : List (Deed N L) → Type 0} → i (writes (Made y kind) ∷ writes (Plugged p q) ∷ []) → Lives stands now f g (Same b) here here i (Made y kind ∷ Plugged p q ∷ [])
-Lives-make {N} {L} stands now b f g y kind p q node start dead there others moves = record {
+pub Lives-make : {N L : Type 0} {parts : L → List ℕ} (stands : N → List (Entry N L) → Type 0) (now : ℕ) (b : ℕ → Bool) (f g : Seats N) (y : ObjId) (kind : ℕ) (p q : Port) (node : N) → stands node [] → b y.0 ≡ false → ((x k : ℕ) → g.port x k ≡ ports_note (Plugged p q) (ports_note (Made y kind) f.port) x k) → Given f.told g.told (event (flat (Made y kind)) ∷ event (flat (Plugged p q)) ∷ []) → ((n : N) → g.node y.0 ≡ Some n → n ≡ node) → ((x : ℕ) (n : N) → x ≢ y.0 → g.node x ≡ Some n → f.node x ≡ Some n) → {i : List (Deed N L) → Type 0} → i (writes (Made y kind) ∷ writes (Plugged p q) ∷ []) → q ≡ port_at y.0 0 → Lives stands parts now f g (Same b) (λ st. Makes p ∷ st) here i (Made y kind ∷ Plugged p q ∷ [])
+Lives-make {N} {L} stands now b f g y kind p q node start dead ports given there others moves zero = record {
   deeds = writes (Made y kind) ∷ writes (Plugged p q) ∷ [];
   events = refl;
-  follows = λ st. (st, refl, (st, refl, refl));
+  sees = sym (λ i. λ x k. ports x k i);
+  tells = given;
+  follows = λ st. (MustPlug p (port_at y.0 0) ∷ st, (p, st, refl, refl), (st, ap (λ z. MustPlug p z ∷ st) (sym zero), refl));
   keeps = λ x t w v k fit. λ n h. elim (cases_eq x y.0) [
-    | inl e ↦ rw (eq-eqb x y.0 e) (subst (λ z. stands z []) (sym (there n (sym (ap g e) ∙ h))) start, sym (k.0 (ap b e ∙ dead)) ∙ k.1)
+    | inl e ↦ rw (eq-eqb x y.0 e) (subst (λ z. stands z []) (sym (there n (sym (ap g.node e) ∙ h))) start, sym (k.0 (ap b e ∙ dead)) ∙ k.1)
     | inr e ↦ rw (ne_eqb x y.0 e) (subst (Fits stands f x t) k.1 fit n (others x n e h))
   ];
   moved = moves;
 }
+
+-- an entry that isn't by a close ends
+pub settles-own : {L : Type 0} (by : Way) (x : ℕ) → (by ≡ way.Close → ⊥) → settles_by {L = L} by x ≡ Frees x ∷ []
+settles-own way.Up x n = refl
+settles-own way.Down x n = refl
+settles-own way.Time x n = refl
+settles-own way.Close x n = absurd (n refl)

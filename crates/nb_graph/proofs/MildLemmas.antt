@@ -1,7 +1,8 @@
 -- What leaves links as they are, or closes ports without them.
-use Rattle.std.proofs.Common.{◌≡◌, ℕ, inl, inr, Bool, List, [], ◌∷◌, ◌++◌, Option, Some, refl, ap, sym, ◌∙◌}
+use Rattle.nb_ledger.specs.Flat.{Given, flat, event}
+use Rattle.nb_ledger.specs.Flat.{Notice}
+use Rattle.std.proofs.Common.{◌≡◌, ℕ, inl, inr, Bool, List, [], ◌∷◌, ◌++◌, Option, refl, ap, sym, ◌∙◌}
 use Rattle.std.proofs.lemmas.Bool.{cases_eq, false≢true}
-use Rattle.nb_terms.specs.declared.event.Event.{Event}
 use Rattle.nb_ledger.specs.declared.port.ObjId.{ObjId}
 use Rattle.nb_ledger.specs.declared.port.Port.{Port}
 use Rattle.nb_ledger.specs.declared.port.PortState.{PortState}
@@ -12,7 +13,8 @@ use Rattle.nb_ledger.specs.Changes.{SetsBusy, SetsHolds, SetsPort, Removes}
 use Rattle.nb_ledger.specs.Settled.{Settles}
 use Rattle.nb_graph.specs.Trace.{Entry}
 use Rattle.nb_graph.specs.Deeds.{writes, Stage, Notes, after_event}
-use Rattle.nb_graph.specs.Lives.{Lives, Stays}
+use Rattle.nb_graph.specs.Ports.{ports_note}
+use Rattle.nb_graph.specs.Lives.{Loses, Seats, Lives, Stays}
 use Rattle.nb_graph.specs.Flows.{Still}
 use Rattle.nb_graph.specs.Moves.{Calms}
 use Rattle.nb_graph.proofs.LinkLemmas.{cases_port, port_but-same, port_but-other}
@@ -45,7 +47,7 @@ Mild-remove {old} {new} {x} r n = record {
   ];
 }
 
-pub Mild-settle : {old new : Ledger} {before after : Option (List Event)} {id : ObjId} → Settles old new before after id → Mild old new
+pub Mild-settle : {old new : Ledger} {before after : Option (List Notice)} {id : ObjId} → Settles old new before after id → Mild old new
 Mild-settle {old} {new} {id = id} s = elim s.how [
   | inl h ↦ Mild-same (ap (λ z. z.made) h.0) (λ x k. ap (λ z. port z x k) h.0)
   | inr h ↦ Mild-remove h.1 (λ y k q e i. false≢true (sym (used-port old y k (Linked q) i refl tt) ∙ ap (λ z. unused old z) e ∙ h.0))
@@ -70,9 +72,9 @@ Mild-port {old} {new} {p} {v} a n m z = record {
 }
 
 -- an event that says nothing of links
-pub Lives-plain : {N L : Type 0} {parts : L → List ℕ} {old new : Ledger} (stands : N → List (Entry N L) → Type 0) (now : ℕ) (f g : ℕ → Option N) (o n : List Stage → List Stage) (e : GraphEvent) → ((x : ℕ) (m : N) → g x ≡ Some m → f x ≡ Some m) → ((x : ℕ) (t : List (Entry N L)) → after_event x t e ≡ t) → ((st : List Stage) → Notes e (o st) (n st)) → Calms {N = N} {L = L} parts old new Still (writes e ∷ []) → Lives stands now f g Stays o n (Calms parts old new Still) (e ∷ [])
-Lives-plain {parts = parts} {old = old} {new = new} stands now f g o n e loses plain notes m = Lives-note stands now f g o n e loses plain notes {i = Calms parts old new Still} m
+pub Lives-plain : {N L : Type 0} {parts : L → List ℕ} {old new : Ledger} (stands : N → List (Entry N L) → Type 0) (now : ℕ) (f g : Seats N) (o n : List (Stage L) → List (Stage L)) (e : GraphEvent) → Loses f.node g.node → ((x k : ℕ) → g.port x k ≡ ports_note e f.port x k) → Given f.told g.told (event (flat e) ∷ []) → ((x : ℕ) (t : List (Entry N L)) → after_event x t e ≡ t) → ((st : List (Stage L)) → Notes e (o st) (n st)) → Calms {N = N} {L = L} parts old new Still (writes e ∷ []) → Lives stands parts now f g Stays o n (Calms parts old new Still) (e ∷ [])
+Lives-plain {parts = parts} {old = old} {new = new} stands now f g o n e loses ports given plain notes m = Lives-note stands now f g o n e loses ports given plain notes {i = Calms parts old new Still} m
 
 -- and what comes then
-pub Lives-next : {N L : Type 0} {parts : L → List ℕ} {a b c : Ledger} {stands : N → List (Entry N L) → Type 0} {now : ℕ} {f g h : ℕ → Option N} {q : ℕ → List L → List L → Type 0} {o m n : List Stage → List Stage} {xs ys : List GraphEvent} → Lives stands now f g Stays o m (Calms parts a b Still) xs → Lives stands now g h q m n (Calms parts b c Still) ys → Lives stands now f h q o n (Calms parts a c Still) (xs ++ ys)
+pub Lives-next : {N L : Type 0} {parts : L → List ℕ} {a b c : Ledger} {stands : N → List (Entry N L) → Type 0} {now : ℕ} {f g h : Seats N} {q : ℕ → List L → List L → Type 0} {o m n : List (Stage L) → List (Stage L)} {xs ys : List GraphEvent} → Lives stands parts now f g Stays o m (Calms parts a b Still) xs → Lives stands parts now g h q m n (Calms parts b c Still) ys → Lives stands parts now f h q o n (Calms parts a c Still) (xs ++ ys)
 Lives-next k l = Lives-then k l (λ x w v i. (w, refl, i)) (λ ds es x y. Still-both x y)

@@ -1,5 +1,7 @@
 -- The nodes by their serials, after a change of the book or of a node.
-use Rattle.std.proofs.Common.{◌≡◌, ◌≢◌, ℕ, ◌+◌, ◌<◌, ◌≤◌, Bool, true, false, cond, ltb, zero, suc, List, [], ◌∷◌, ◌++◌, length, set, get_or, slice_get, Option, Some, None, refl, ap, sym, ◌∙◌, subst, arith, inl, inr, eqb}
+use Rattle.nb_ledger.specs.Flat.{Notice}
+use Rattle.nb_ledger.proofs.RunLemmas.{Given-none}
+use Rattle.std.proofs.Common.{Option, ◌≡◌, ◌≢◌, ℕ, ◌+◌, ◌<◌, ◌≤◌, Bool, true, false, cond, ltb, zero, suc, List, [], ◌∷◌, ◌++◌, length, set, get_or, slice_get, Some, None, refl, ap, sym, ◌∙◌, subst, arith, inl, inr, eqb}
 use Rattle.std.specs.List.{remove}
 use Rattle.std.proofs.lemmas.Bool.{cases_Bool, cases_eq, eq-eqb, ne_eqb, ltb-false}
 use Rattle.std.proofs.lemmas.Bool.Decides.{nat_tests}
@@ -11,7 +13,7 @@ use Rattle.nb_graph.specs.Whole.{IsManned}
 use Rattle.nb_graph.specs.Trace.{Entry, Owes, Owes1}
 use Rattle.nb_graph.specs.declared.effects.Fx.{Fx}
 use Rattle.nb_graph.specs.Deeds.{Deed, calls, Stage, Hears, Calls}
-use Rattle.nb_graph.specs.Lives.{Lives, Loses, Fits, nodes_at}
+use Rattle.nb_graph.specs.Lives.{seat, Lives, Loses, Fits, nodes_at}
 use Rattle.nb_graph.proofs.MannedLemmas.{manned-length, manned-place}
 use Rattle.nb_graph.proofs.LivelyLemmas.{slice_get-at, slice_get-set, slice_get-past, some_inj}
 use Rattle.nb_graph.proofs.GraphLemmas.{slice_get-push}
@@ -55,17 +57,17 @@ slice_get-remove_above (x ∷ xs) (suc i) zero h k = absurd (omega arith)
 slice_get-remove_above (x ∷ xs) (suc i) (suc j) h k = slice_get-remove_above xs i j (omega arith) (omega arith)
 
 -- the same objects at the same places have the same nodes
-pub Loses-same : {N : Type 0} {old new : Ledger} (nodes : List N) → SameObjects old new → Loses (nodes_at old nodes) (nodes_at new nodes)
-Loses-same nodes s x n h = ap (slice_get nodes) (sym (s.same_place x)) ∙ h
+pub Loses-same : {N : Type 0} {old new : Ledger} (nodes : List N) → SameObjects old new → Loses (seat old nodes) (seat new nodes)
+Loses-same nodes s = record { back = λ x n h. ap (slice_get nodes) (sym (s.same_place x)) ∙ h }
 
 pub Loses-refl : {N : Type 0} (f : ℕ → Option N) → Loses f f
-Loses-refl f x n h = h
+Loses-refl f = record { back = λ x n h. h }
 
 pub Loses-trans : {N : Type 0} {f g h : ℕ → Option N} → Loses f g → Loses g h → Loses f h
-Loses-trans p q x n e = p x n (q x n e)
+Loses-trans p q = record { back = λ x n e. p.back x n (q.back x n e) }
 
 -- one that is dead has no node
-pub dead-seat : {N : Type 0} {rank_of : N → ℕ} {l : Ledger} {nodes : List N} {cap : ℕ} (x : ℕ) → IsManned rank_of l nodes cap → live l x ≡ false → nodes_at l nodes x ≡ None
+pub dead-seat : {N : Type 0} {rank_of : N → ℕ} {l : Ledger} {nodes : List N} {cap : ℕ} (x : ℕ) → IsManned rank_of l nodes cap → live l x ≡ false → seat l nodes x ≡ None
 dead-seat {l = l} {nodes = nodes} x m d = let h = dead-past l x d in let k = manned-length m in slice_get-past nodes (place l x) (omega arith)
 
 -- a node is at its place after the one before it was taken out
@@ -76,28 +78,30 @@ moved xs i j k h n e = elim (cases_Bool (ltb i k)) [
 ]
 
 -- after an object and its node are taken out
-pub Loses-remove : {N : Type 0} {rank_of : N → ℕ} {old new : Ledger} {nodes more : List N} {cap big x : ℕ} → live old x ≡ true → Removes old new x → more ≡ remove nodes (place old x) → IsManned rank_of old nodes cap → IsManned rank_of new more big → Loses (nodes_at old nodes) (nodes_at new more)
-Loses-remove {old = old} {new = new} {nodes = nodes} {more = more} {x = x} v r is m t y n h = elim (cases_eq y x) [
-  | inl e ↦ absurd (let d = r.live_set y in let z : live new y ≡ false = d ∙ rw e (gone x) in let p = dead-seat y t z in cc)
-  | inr e ↦ sym (moved nodes (place old x) (place new y) (place old y) (manned-place x m v) (place-apart old y x v e) (r.place_set y e)) ∙ ap (λ z. slice_get z (place new y)) (sym is) ∙ h
-]
+pub Loses-remove : {N : Type 0} {rank_of : N → ℕ} {old new : Ledger} {nodes more : List N} {cap big x : ℕ} → live old x ≡ true → Removes old new x → more ≡ remove nodes (place old x) → IsManned rank_of old nodes cap → IsManned rank_of new more big → Loses (seat old nodes) (seat new more)
+Loses-remove {old = old} {new = new} {nodes = nodes} {more = more} {x = x} v r is m t = record {
+  back = λ y n h. elim (cases_eq y x) [
+    | inl e ↦ absurd (let d = r.live_set y in let z : live new y ≡ false = d ∙ rw e (gone x) in let p = dead-seat y t z in cc)
+    | inr e ↦ sym (moved nodes (place old x) (place new y) (place old y) (manned-place x m v) (place-apart old y x v e) (r.place_set y e)) ∙ ap (λ z. slice_get z (place new y)) (sym is) ∙ h
+  ];
+}
   where
     gone : (x : ℕ) → cond (eqb x x) false (live old x) ≡ false
     gone x = rw (eq-eqb x x refl) refl
 
 -- a call of the node of an object
-pub Lives-seat : {N L : Type 0} {rank_of : N → ℕ} {l : Ledger} {nodes : List N} {cap : ℕ} (stands : N → List (Entry N L) → Type 0) (now : ℕ) (owing : ℕ → List L → List L → Type 0) (o n : List Stage → List Stage) (y p : ℕ) (i : Entry N L) (d c : N) → IsManned rank_of l nodes cap → live l y ≡ true → p ≡ place l y → d ≡ get_or nodes p d → ((w v : List L) → owing y w v → Owes1 w i v) → ((x : ℕ) (w v : List L) → x ≢ y → owing x w v → w ≡ v) → ((t : List (Entry N L)) (w v : List L) → owing y w v → Owes [] t w → stands d t → stands c (t ++ i ∷ [])) → ((st : List Stage) → Hears now y i (o st) (n st)) → {z : List (Deed N L) → Type 0} → z (calls y i ∷ []) → Lives stands now (nodes_at l nodes) (nodes_at l (set nodes p c)) owing o n z []
-Lives-seat {l = l} {nodes = nodes} stands now owing o n y p i d c m v at is owes stay law hears moves =
+pub Lives-seat : {N L : Type 0} {parts : L → List ℕ} {u : Option (List Notice)} {rank_of : N → ℕ} {l : Ledger} {nodes : List N} {cap : ℕ} (stands : N → List (Entry N L) → Type 0) (now : ℕ) (owing : ℕ → List L → List L → Type 0) (o n : List (Stage L) → List (Stage L)) (y p : ℕ) (i : Entry N L) (d c : N) → IsManned rank_of l nodes cap → live l y ≡ true → p ≡ place l y → d ≡ get_or nodes p d → ((w v : List L) → owing y w v → Owes1 w i v) → ((x : ℕ) (w v : List L) → x ≢ y → owing x w v → w ≡ v) → ((t : List (Entry N L)) (w v : List L) → owing y w v → Owes [] t w → stands d t → stands c (t ++ i ∷ [])) → ((st : List (Stage L)) → Hears parts now y i (o st) (n st)) → {z : List (Deed N L) → Type 0} → z (calls y i ∷ []) → Lives stands parts now (nodes_at l nodes u) (nodes_at l (set nodes p c) u) owing o n z []
+Lives-seat {u = u} {l = l} {nodes = nodes} stands now owing o n y p i d c m v at is owes stay law hears moves =
     let h = manned-place y m v in
     let q : p < length nodes = omega (arith, h, at) in
-    Lives-call stands now (nodes_at l nodes) (nodes_at l (set nodes p c)) owing o n y i d c
+    Lives-call stands now (nodes_at l nodes u) (nodes_at l (set nodes p c) u) owing o n y i d c refl (Given-none u)
     (ap (slice_get nodes) (sym at) ∙ slice_get-at nodes p d q ∙ ap Some (sym is))
     (λ k e. some_inj (sym e ∙ ap (slice_get (set nodes p c)) (sym at) ∙ slice_get-set nodes p c q))
     (λ x k a e. sym (slice_get-set_other nodes p (place l x) c (λ z. place-apart l x y v a (z ∙ at))) ∙ e)
     owes stay law hears moves
 
 -- a call of the node of an object by an entry, which is the first that happens
-pub Calls-seat : {N L : Type 0} {rank_of : N → ℕ} {l : Ledger} {nodes : List N} {cap : ℕ} (stands : N → List (Entry N L) → Type 0) (now : ℕ) (owing : ℕ → List L → List L → Type 0) (o n : List Stage → List Stage) (y p : ℕ) (entry : Bool → Fx N L → Entry N L) (done : Bool) (fx : Fx N L) (d c : N) → IsManned rank_of l nodes cap → live l y ≡ true → p ≡ place l y → d ≡ get_or nodes p d → ((w v : List L) → owing y w v → Owes1 w (entry done fx) v) → ((x : ℕ) (w v : List L) → x ≢ y → owing x w v → w ≡ v) → ((t : List (Entry N L)) (w v : List L) → owing y w v → Owes [] t w → stands d t → stands c (t ++ entry done fx ∷ [])) → ((st : List Stage) → Hears now y (entry done fx) (o st) (n st)) → {z : List (Deed N L) → Type 0} → z (calls y (entry done fx) ∷ []) → (k : Lives stands now (nodes_at l nodes) (nodes_at l (set nodes p c)) owing o n z []) × Calls y entry k.deeds
+pub Calls-seat : {N L : Type 0} {parts : L → List ℕ} {u : Option (List Notice)} {rank_of : N → ℕ} {l : Ledger} {nodes : List N} {cap : ℕ} (stands : N → List (Entry N L) → Type 0) (now : ℕ) (owing : ℕ → List L → List L → Type 0) (o n : List (Stage L) → List (Stage L)) (y p : ℕ) (entry : Bool → Fx N L → Entry N L) (done : Bool) (fx : Fx N L) (d c : N) → IsManned rank_of l nodes cap → live l y ≡ true → p ≡ place l y → d ≡ get_or nodes p d → ((w v : List L) → owing y w v → Owes1 w (entry done fx) v) → ((x : ℕ) (w v : List L) → x ≢ y → owing x w v → w ≡ v) → ((t : List (Entry N L)) (w v : List L) → owing y w v → Owes [] t w → stands d t → stands c (t ++ entry done fx ∷ [])) → ((st : List (Stage L)) → Hears parts now y (entry done fx) (o st) (n st)) → {z : List (Deed N L) → Type 0} → z (calls y (entry done fx) ∷ []) → (k : Lives stands parts now (nodes_at l nodes u) (nodes_at l (set nodes p c) u) owing o n z []) × Calls y entry k.deeds
 unfolding Lives-seat Lives-call
 Calls-seat stands now owing o n y p entry done fx d c m v at is owes stay law hears moves =
     (Lives-seat stands now owing o n y p (entry done fx) d c m v at is owes stay law hears moves, (done, fx, [], refl))
@@ -109,10 +113,10 @@ slice_get-before (x ∷ xs) ys (suc i) h = slice_get-before xs ys i (omega arith
 
 -- an object is made: its node, and the others' nodes
 module _ {N : Type 0} {rank_of : N → ℕ} {old mid : Ledger} {nodes : List N} {cap big x r : ℕ} (new : Ledger) (n : N) (m : IsManned rank_of old nodes cap) (a : Adds old mid x r) (t : IsManned rank_of mid (nodes ++ n ∷ []) big) (at : place mid x ≡ length nodes) (s : (y : ℕ) → place new y ≡ place mid y) where
-  pub made-seat : (k : N) → nodes_at new (nodes ++ n ∷ []) x ≡ Some k → k ≡ n
+  pub made-seat : (k : N) → seat new (nodes ++ n ∷ []) x ≡ Some k → k ≡ n
   made-seat k h = some_inj (sym h ∙ ap (slice_get (nodes ++ n ∷ [])) (s x ∙ at) ∙ slice_get-push nodes n)
 
-  pub other-seat : (y : ℕ) (k : N) → y ≢ x → nodes_at new (nodes ++ n ∷ []) y ≡ Some k → nodes_at old nodes y ≡ Some k
+  pub other-seat : (y : ℕ) (k : N) → y ≢ x → seat new (nodes ++ n ∷ []) y ≡ Some k → seat old nodes y ≡ Some k
   other-seat y k ne h = elim (cases_Bool (live old y)) [
     | inl v ↦
         let p = a.place_set y v in
@@ -121,7 +125,7 @@ module _ {N : Type 0} {rank_of : N → ℕ} {old mid : Ledger} {nodes : List N} 
   ]
 
 -- a node that stands for all that it stood for
-pub Keeps-set : {N L : Type 0} {rank_of : N → ℕ} {l : Ledger} {nodes : List N} {cap : ℕ} (stands : N → List (Entry N L) → Type 0) (y p : ℕ) (d c : N) → IsManned rank_of l nodes cap → live l y ≡ true → p ≡ place l y → d ≡ get_or nodes p d → ((t : List (Entry N L)) → stands d t → stands c t) → (x : ℕ) (t : List (Entry N L)) (w : List L) → Fits stands (nodes_at l nodes) x t w → Fits stands (nodes_at l (set nodes p c)) x t w
+pub Keeps-set : {N L : Type 0} {rank_of : N → ℕ} {l : Ledger} {nodes : List N} {cap : ℕ} (stands : N → List (Entry N L) → Type 0) (y p : ℕ) (d c : N) → IsManned rank_of l nodes cap → live l y ≡ true → p ≡ place l y → d ≡ get_or nodes p d → ((t : List (Entry N L)) → stands d t → stands c t) → (x : ℕ) (t : List (Entry N L)) (w : List L) → Fits stands (nodes_at l nodes None) x t w → Fits stands (nodes_at l (set nodes p c) None) x t w
 Keeps-set {l = l} {nodes = nodes} stands y p d c m v at is law x t w fit = λ n h.
     let i = manned-place y m v in
     let q : p < length nodes = omega (arith, i, at) in

@@ -1,9 +1,11 @@
 -- A port that was closed stays closed.
+use Rattle.nb_ledger.specs.Flat.{Notice}
 use Rattle.std.proofs.Common.{◌≡◌, ℕ, ◌<◌, ◌≤◌, inl, inr, Bool, false, zero, suc, List, [], ◌∷◌, length, get_or, take, drop, ◌-◌, Option, refl, ap, sym, ◌∙◌, subst, arith}
 use Rattle.std.proofs.Math.Seq.{take-length}
 use Rattle.nb_terms.specs.declared.cause.Cause.{Cause}
+use Rattle.nb_graph.specs.Whole.{port_at}
+use Rattle.nb_graph.specs.Deeds.{Closes, closes_of}
 use Rattle.nb_graph.specs.Effects.{ClosesSlot}
-use Rattle.nb_terms.specs.declared.event.Event.{Event}
 use Rattle.nb_ledger.specs.declared.port.Port.{Port}
 use Rattle.nb_ledger.specs.declared.port.PortState.{PortState}
 use Rattle.nb_ledger.specs.declared.port.PortState.TheVariants.{Open, Linked, Leaving, Closed}
@@ -19,7 +21,7 @@ pub shut-set : {old new : Ledger} {p : Port} {v : PortState} → SetsPort old ne
 shut-set {old} {new} {p} {v} a h = ap open_count (a.port_set p.obj.0 p.slot ∙ port_but-same p v (port old) p.obj.0 p.slot refl refl) ∙ h
 
 -- the first end of a link
-pub shut-link : {b0 b3 b4 new : Ledger} {n3 n4 after : Option (List Event)} {p q : Port} {was : Bool} {opened : List Frame → List Frame} {f : ℕ → ℕ → PortState} → HalfCloses b0 b3 p q → Calm b3 b4 n3 n4 → Ends b4 new n4 after q.obj.0 was opened f → open_count (port new p.obj.0 p.slot) ≡ 0
+pub shut-link : {b0 b3 b4 new : Ledger} {n3 n4 after : Option (List Notice)} {p q : Port} {was : Bool} {opened : List Frame → List Frame} {f : ℕ → ℕ → PortState} → HalfCloses b0 b3 p q → Calm b3 b4 n3 n4 → Ends b4 new n4 after q.obj.0 was opened f → open_count (port new p.obj.0 p.slot) ≡ 0
 shut-link {b0} {b3} {b4} {new} {n3} {n4} {after} {p} {q} {was} {opened} {f} half k e =
     let i = e.closes p.obj.0 p.slot in
     let j = k.shrinks.closes p.obj.0 p.slot in
@@ -73,6 +75,15 @@ rest-cons x xs = ap (λ n. take n xs) (let e : length (x ∷ xs) - 1 ≡ length 
 pub closes-step : (xs : List (ℕ × Cause)) (d : ℕ × Cause) (P : ℕ → Type 0) → 1 ≤ length xs → P (get_or xs 0 d).0 → ((k : ℕ) → ClosesSlot k (take (length xs - 1) (drop 1 xs)) → P k) → (k : ℕ) → ClosesSlot k xs → P k
 closes-step [] d P h p r k c = absurd (omega arith)
 closes-step (x ∷ xs) d P h p r k c = elim c [ inl e ↦ subst P e p | inr i ↦ r k (subst (ClosesSlot k) (sym (rest-cons x xs)) i) ]
+
+-- what is to run of closes: nothing, or the first and then the others
+pub closes_of-none : {L : Type 0} (x : ℕ) (xs : List (ℕ × Cause)) → length xs < 1 → closes_of {L = L} x xs ≡ []
+closes_of-none x [] h = refl
+closes_of-none x (c ∷ xs) h = absurd (omega arith)
+
+pub closes_of-step : {L : Type 0} (x : ℕ) (xs : List (ℕ × Cause)) (d : ℕ × Cause) → 1 ≤ length xs → closes_of {L = L} x xs ≡ Closes (port_at x (get_or xs 0 d).0) (get_or xs 0 d).1 ∷ closes_of x (take (length xs - 1) (drop 1 xs))
+closes_of-step x [] d h = absurd (omega arith)
+closes_of-step x (c ∷ xs) d h = ap (λ z. Closes (port_at x c.0) c.1 ∷ closes_of x z) (sym (rest-cons c xs))
 
 -- closed, and then still closed
 pub shut-still : {old new : Ledger} (x k : ℕ) → open_count (port old x k) ≡ 0 → Shrinks old new → open_count (port new x k) ≡ 0

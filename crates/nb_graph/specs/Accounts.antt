@@ -1,5 +1,5 @@
 -- What the two ends of a link sent and took, counted from its Plugged: our own.
-use Rattle.std.specs.Prelude.{◌≡◌, ℕ, ◌-◌, ◌≤◌, ◌==◌, ◌&&◌, Bool, true, false, List, [], ◌∷◌, ◌++◌, take, drop, Option, Some, None, if◌then◌else◌}
+use Rattle.std.specs.Prelude.{◌≡◌, ℕ, ◌≤◌, ◌==◌, ◌&&◌, Bool, true, false, List, [], ◌∷◌, ◌++◌, take, Option, Some, None, if◌then◌else◌}
 use Rattle.nb_ledger.specs.declared.port.Port.{Port}
 use Rattle.nb_ledger.specs.declared.port.PortState.TheVariants.{Linked}
 use Rattle.nb_ledger.specs.declared.event.Way.{Way}
@@ -10,21 +10,8 @@ use Rattle.nb_ledger.specs.Ledger.{Ledger, port, open_count}
 use Rattle.nb_graph.specs.declared.effects.Emit.{Emit}
 use Rattle.nb_graph.specs.declared.effects.Few.{Few}
 use Rattle.nb_graph.specs.declared.effects.Fx.{Fx}
-use Rattle.nb_graph.specs.Trace.{Entry, up, down, closed, time, regain}
-use Rattle.nb_graph.specs.Deeds.{Deed, writes, calls}
-
--- bytes `from` to `to` of some bytes
-abbrev pub part : List ℕ → ℕ → ℕ → List ℕ
-part bytes from to = take (to - from) (drop from bytes)
-
--- a load's bytes, its two parts in one
-abbrev pub bytes_of : {L : Type 0} → (L → List ℕ) → (L → List ℕ) → L → List ℕ
-bytes_of first second load = first load ++ second load
-
--- the bytes of a message that an entry asks for: its load's, or without one some of those of its own message
-abbrev pub carries : {L : Type 0} → (L → List ℕ) → List ℕ → ℕ → ℕ → Option L → List ℕ
-carries parts bytes from to None = part bytes from to
-carries parts bytes from to (Some load) = parts load
+use Rattle.nb_graph.specs.Trace.{Entry, carries, up, down, closed, time, regain}
+use Rattle.nb_graph.specs.Deeds.{Deed, writes, calls, turns}
 
 -- those of one that leaves by slot k
 abbrev pub emit_bytes : {L : Type 0} → (L → List ℕ) → ℕ → List ℕ → Option (Emit L) → List ℕ
@@ -106,6 +93,7 @@ after_call parts p a e = record a { sent = a.sent ++ sent_by parts p.slot e; tak
 abbrev pub account : {N L : Type 0} → (L → List ℕ) → Port → Account → List (Deed N L) → Account
 account parts p a [] = a
 account parts p a (writes e ∷ ds) = account parts p (after_note p a e) ds
+account parts p a (turns u ∷ ds) = account parts p a ds
 account parts p a (calls y e ∷ ds) = account parts p (if p.obj.0 == y then after_call parts p a e else rests a) ds
 
 -- Two ends of one link: p sent s, and q took t. While the link is open they are linked, and `due` is what p sent and

@@ -1,5 +1,5 @@
 -- What an entry may ask for.
-use Rattle.std.specs.Prelude.{◌≡◌, ℕ, ◌<◌, ◌≤◌, List, [], ◌∷◌, ◌⊎◌, All, Option, None, IfSome}
+use Rattle.std.specs.Prelude.{◌≡◌, ℕ, true, false, ◌<◌, ◌≤◌, List, [], ◌∷◌, ◌⊎◌, All, Option, None, IfSome}
 use Rattle.nb_terms.specs.declared.cause.Cause.{Cause}
 use Rattle.nb_graph.specs.declared.effects.Emit.{Emit}
 use Rattle.nb_graph.specs.declared.effects.Make.{Make}
@@ -7,6 +7,7 @@ use Rattle.nb_graph.specs.declared.effects.Few.{Few}
 use Rattle.nb_graph.specs.declared.effects.Fx.{Fx}
 use Rattle.nb_graph.specs.declared.steps.Asked.{Asked}
 use Rattle.nb_graph.specs.Trace.{Entry, Said, lent, left}
+use Rattle.nb_graph.specs.Deeds.{Stage, runs_of}
 use Rattle.nb_graph.specs.declared.steps.Asked.TheVariants.{Done, NoMemory}
 
 -- no effect
@@ -90,6 +91,11 @@ MayAskTime rank_of stands rank (NoMemory fx) = Unit {0}
 abbrev pub asked_loads : {N L : Type 0} → Asked N L → List L
 asked_loads (Done fx) = lent fx
 asked_loads (NoMemory fx) = lent fx
+
+-- what is to run of it
+abbrev pub asked_runs : {N L : Type 0} → (L → List ℕ) → ℕ → Said → Asked N L → List (Stage L)
+asked_runs parts x m (Done fx) = runs_of parts x m true fx
+asked_runs parts x m (NoMemory fx) = runs_of parts x m false fx
 
 -- what an entry from below leaves of its message
 abbrev pub asked_rest : {N L : Type 0} → Said → Asked N L → Option Said

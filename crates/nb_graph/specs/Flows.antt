@@ -8,7 +8,8 @@ use Rattle.nb_graph.specs.declared.effects.Emit.{Emit}
 use Rattle.nb_graph.specs.declared.steps.Asked.{Asked}
 use Rattle.nb_graph.specs.declared.steps.Asked.TheVariants.{Done, NoMemory}
 use Rattle.nb_graph.specs.Whole.{port_at}
-use Rattle.nb_graph.specs.Accounts.{Account, carries, fx_bytes}
+use Rattle.nb_graph.specs.Accounts.{Account, fx_bytes}
+use Rattle.nb_graph.specs.Trace.{carries}
 
 -- y is reached from an object by links, the one of the port p left out
 pub data Reaches (f : ℕ → ℕ → PortState) (p : Port) (y : ℕ) : ℕ → Type 0 where

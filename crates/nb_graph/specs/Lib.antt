@@ -12,3 +12,7 @@ pub mod Accounts
 pub mod Flows
 pub mod Moves
 pub mod Order
+pub mod Again
+pub mod Went
+pub mod Machine
+pub mod Ports

@@ -1,6 +1,6 @@
 -- What a message that goes up, or time, leaves, whatever it nests: events that are a run; objects may be made.
+use Rattle.nb_ledger.specs.Flat.{Notice}
 use Rattle.std.specs.Prelude.{◌≡◌, ℕ, ◌+◌, ◌-◌, ◌*◌, ◌^◌, List, true, Option}
-use Rattle.nb_terms.specs.declared.event.Event.{Event}
 use Rattle.nb_ledger.specs.declared.event.GraphEvent.{GraphEvent}
 use Rattle.nb_ledger.specs.GraphRun.{Frame, IsIdle, RunsIn, Run}
 use Rattle.nb_ledger.specs.Flat.{Tells}
@@ -14,14 +14,14 @@ pub record Grows (old new : Ledger) : Type 0 where
   pub kept : (x : ℕ) → busy old x ≡ true → rank new x ≡ rank old x
 
 -- the events are a run over any stack that the book agrees with
-pub record Lively (old new : Ledger) (before after : Option (List Event)) : Type 0 where
+pub record Lively (old new : Ledger) (before after : Option (List Notice)) : Type 0 where
   pub added : List GraphEvent
   pub told : Tells before after added
   pub run : (st : List Frame) → IsIdle st → Agrees old st → Run (state_of old st) added (state_of new st)
   pub grows : Grows old new
 
 -- the same, where the innermost entry is one of the object x
-pub record LivelyIn (x : ℕ) (old new : Ledger) (before after : Option (List Event)) : Type 0 where
+pub record LivelyIn (x : ℕ) (old new : Ledger) (before after : Option (List Notice)) : Type 0 where
   pub added : List GraphEvent
   pub told : Tells before after added
   pub run : (st : List Frame) → RunsIn st x → Agrees old st → Run (state_of old st) added (state_of new st)

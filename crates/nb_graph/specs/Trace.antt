@@ -1,5 +1,5 @@
 -- Traces, our own: what an object was called with, what it answered and asked for, and the loads that came back to it.
-use Rattle.std.specs.Prelude.{◌≡◌, ℕ, Bool, List, [], ◌∷◌, ◌++◌, length, drop, Option, Some, None, nat_lt, if◌then◌else◌}
+use Rattle.std.specs.Prelude.{◌≡◌, ℕ, Bool, List, [], ◌∷◌, ◌++◌, ◌-◌, length, take, drop, Option, Some, None, nat_lt, if◌then◌else◌}
 use Rattle.nb_terms.specs.declared.cause.Cause.{Cause}
 use Rattle.nb_ledger.specs.declared.message.Msg.{Msg}
 use Rattle.nb_graph.specs.declared.effects.Emit.{Emit}
@@ -77,3 +77,16 @@ left took m = if nat_lt took (length m.bytes) then Some (said_behind took m) els
 -- the message of an entry that has none
 abbrev pub silence : Said
 silence = record { tag = 0; rec = 0; a = 0; b = 0; bytes = [] }
+
+-- bytes `from` to `to` of some bytes
+abbrev pub part : List ℕ → ℕ → ℕ → List ℕ
+part bytes from to = take (to - from) (drop from bytes)
+
+-- a load's bytes, its two parts in one
+abbrev pub bytes_of : {L : Type 0} → (L → List ℕ) → (L → List ℕ) → L → List ℕ
+bytes_of first second load = first load ++ second load
+
+-- the bytes of a message that an entry asks for: its load's, or without one some of those of its own message
+abbrev pub carries : {L : Type 0} → (L → List ℕ) → List ℕ → ℕ → ℕ → Option L → List ℕ
+carries parts bytes from to None = part bytes from to
+carries parts bytes from to (Some load) = parts load

@@ -1,6 +1,6 @@
 -- What is true of a graph's book and nodes between events.
+use Rattle.nb_ledger.specs.Flat.{Notice}
 use Rattle.std.specs.Prelude.{◌≡◌, ℕ, ◌+◌, ◌<◌, ◌≤◌, List, [], ◌∷◌, map, true, false, Option, None, Some, length, slice_get}
-use Rattle.nb_terms.specs.declared.event.Event.{Event}
 use Rattle.nb_ledger.specs.declared.event.GraphEvent.{GraphEvent}
 use Rattle.nb_ledger.specs.declared.port.ObjId.{ObjId}
 use Rattle.nb_ledger.specs.declared.port.Port.{Port}
@@ -56,16 +56,16 @@ pub record Objects (N : Type 0) : Type 0 where
   pub nodes : List N
 
 -- these events were given, and are a run from the state before to the state after, with no entry on the stack
-pub record Runs (old new : Ledger) (before after : Option (List Event)) (added : List GraphEvent) : Type 0 where
+pub record Runs (old new : Ledger) (before after : Option (List Notice)) (added : List GraphEvent) : Type 0 where
   pub told : Tells before after added
   pub run : Run (state_of old []) added (state_of new [])
 
 -- some events were
-abbrev pub IsRun : Ledger → Ledger → Option (List Event) → Option (List Event) → Type 0
+abbrev pub IsRun : Ledger → Ledger → Option (List Notice) → Option (List Notice) → Type 0
 IsRun old new before after = (added : List GraphEvent) × Runs old new before after added
 
 -- some events were, of which this was the first
-abbrev pub Began : Ledger → Ledger → Option (List Event) → Option (List Event) → GraphEvent → Type 0
+abbrev pub Began : Ledger → Ledger → Option (List Notice) → Option (List Notice) → GraphEvent → Type 0
 Began old new before after e = (rest : List GraphEvent) × Runs old new before after (e ∷ rest)
 
 -- a graph between calls, of at most 64 objects
@@ -80,7 +80,7 @@ abbrev pub node_of : {N : Type 0} → Objects N → ObjId → Option N
 node_of g id = slice_get g.nodes (place g.book id.0)
 
 -- nothing changed, and no event was given
-pub record IsSame {N : Type 0} (old new : Objects N) (before after : Option (List Event)) : Type 0 where
+pub record IsSame {N : Type 0} (old new : Objects N) (before after : Option (List Notice)) : Type 0 where
   pub objects : new ≡ old
   pub told : Tells before after []
 

@@ -1,20 +1,20 @@
 // Closes, and messages that go down: nothing in here makes an object or sends a message up.
-ghost use Rattle.std.specs.Prelude.{◌≡◌, ◌+◌, ◌<◌, ◌≤◌, ℕ, true, length, IfSome};
+ghost use Rattle.std.specs.Prelude.{◌≡◌, ◌+◌, ◌<◌, ◌≤◌, ◌++◌, ◌∷◌, ℕ, true, length, IfSome, Some};
 ghost use Rattle.std.specs.Vec.{vec_capacity};
 ghost use Rattle.nb_ledger.specs.declared.port.PortState.TheVariants.{Linked};
 ghost use Rattle.nb_ledger.specs.GraphRun.{IsOpen};
 ghost use Rattle.nb_ledger.specs.Ledger.{busy, port, open_count};
 ghost use Rattle.nb_graph.specs.Whole.{IsQuiet, port_at};
 ghost use Rattle.nb_graph.specs.Order.{Shuts, ShutsObject};
-ghost use Rattle.nb_graph.specs.Accounts.{bytes_of, carries, few_bytes};
+ghost use Rattle.nb_graph.specs.Accounts.{few_bytes};
 ghost use Rattle.nb_graph.specs.Flows.{Closing, Downs, Emitting, Failing, Following, Giving, Passing, asked_left, asked_sent, nothing};
 ghost use Rattle.nb_graph.specs.Calm.{IsSteady, Starts};
-ghost use Rattle.nb_graph.specs.Trace.{carried, down, in_list, lent, loads, said};
-ghost use Rattle.nb_graph.specs.Deeds.{Hands};
-ghost use Rattle.nb_graph.specs.Lives.{Back, CalmFor, Same};
+ghost use Rattle.nb_graph.specs.Trace.{carried, down, in_list, lent, loads, said, bytes_of, carries};
+ghost use Rattle.nb_graph.specs.Deeds.{Hands, Closes, Gives, Sends, all_closes, closes_of, emit_of, few_of, no_memory, returns_of, runs_of};
+ghost use Rattle.nb_graph.specs.Lives.{Back, CalmFor, Same, here};
 ghost use Rattle.nb_ledger.specs.declared.event.GraphEvent.TheVariants.{Entered};
 ghost use Rattle.nb_ledger.specs.declared.event.Way.TheVariants as way;
-ghost use Rattle.nb_graph.specs.Effects.{MayAskBelow, MayAskDown, asked_loads, AreDowns, ClosesSlot, IsDown};
+ghost use Rattle.nb_graph.specs.Effects.{MayAskBelow, MayAskDown, asked_loads, asked_runs, AreDowns, ClosesSlot, IsDown};
 
 use crate::inner::Inner;
 use crate::steps::{Asked, cut};
@@ -48,7 +48,7 @@ impl<N: Node> Inner<N> {
         ensures shut { open_count (port self.new.book at.obj.0 at.slot) ≡ 0 }
         ensures lives { CalmFor N.stands (bytes_of N.Load.first N.Load.second) now self.old.book
             self.new.book self.old.nodes.items self.new.nodes.items (Same (busy self.old.book))
-            (Closing self.old.book at.obj.0) (O.events out.old) (O.events out.new) }
+            (Closing self.old.book at.obj.0) (λ st. Closes at cause.now ∷ st) (O.events out.old) (O.events out.new) }
         ensures starts { 0 < open_count (port self.old.book at.obj.0 at.slot)
             → Shuts self.old.book self.new.book (O.events out.old) (O.events out.new) at
             cause.now }
@@ -74,7 +74,7 @@ impl<N: Node> Inner<N> {
         ensures shut { open_count (port self.new.book at.obj.0 at.slot) ≡ 0 }
         ensures lives { CalmFor N.stands (bytes_of N.Load.first N.Load.second) now self.old.book
             self.new.book self.old.nodes.items self.new.nodes.items (Same (busy self.old.book))
-            (Closing self.old.book at.obj.0) (O.events out.old) (O.events out.new) }
+            (Closing self.old.book at.obj.0) (λ st. Closes at cause.now ∷ st) (O.events out.old) (O.events out.new) }
         ensures starts { Shuts self.old.book self.new.book (O.events out.old) (O.events out.new) at
             cause.now }
         ensures steady { IsSteady N.rank_of self.new.book self.new.nodes.items
@@ -104,7 +104,7 @@ impl<N: Node> Inner<N> {
             self.new.book self.old.nodes.items self.new.nodes.items
             (Back (busy self.old.book) id.0 (lent fx)) (Downs self.old.book id.0
             (λ k. few_bytes (bytes_of N.Load.first N.Load.second) k (said msg.now).bytes fx.downs))
-            (O.events out.old) (O.events out.new) }
+            (λ st. runs_of (bytes_of N.Load.first N.Load.second) id.0 (said msg.now) true fx ++ st) (O.events out.old) (O.events out.new) }
         ensures steady { IsSteady N.rank_of self.new.book self.new.nodes.items
             (vec_capacity self.new.nodes) }
     {
@@ -136,7 +136,7 @@ impl<N: Node> Inner<N> {
             self.new.book self.old.nodes.items self.new.nodes.items
             (Back (busy self.old.book) id.0 (loads downs))
             (Downs self.old.book id.0 (λ k. few_bytes (bytes_of N.Load.first N.Load.second) k
-            (said msg.now).bytes downs)) (O.events out.old) (O.events out.new) }
+            (said msg.now).bytes downs)) (λ st. few_of (bytes_of N.Load.first N.Load.second) id.0 (said msg.now) downs ++ st) (O.events out.old) (O.events out.new) }
         ensures steady { IsSteady N.rank_of self.new.book self.new.nodes.items
             (vec_capacity self.new.nodes) }
     {
@@ -162,7 +162,7 @@ impl<N: Node> Inner<N> {
             self.new.book self.old.nodes.items self.new.nodes.items
             (Back (busy self.old.book) id.0 (carried emit))
             (Emitting self.old.book id.0 (bytes_of N.Load.first N.Load.second) (said msg.now).bytes
-            emit) (O.events out.old) (O.events out.new) }
+            emit) (λ st. emit_of (bytes_of N.Load.first N.Load.second) id.0 (said msg.now) emit ++ st) (O.events out.old) (O.events out.new) }
         ensures steady { IsSteady N.rank_of self.new.book self.new.nodes.items
             (vec_capacity self.new.nodes) }
     {
@@ -190,7 +190,7 @@ impl<N: Node> Inner<N> {
             (Back (busy self.old.book) id.0 (in_list emit.load))
             (Passing self.old.book (port_at id.0 emit.slot)
             (carries (bytes_of N.Load.first N.Load.second) (said msg.now).bytes emit.from emit.to
-            emit.load)) (O.events out.old) (O.events out.new) }
+            emit.load)) (λ st. emit_of (bytes_of N.Load.first N.Load.second) id.0 (said msg.now) (Some emit) ++ st) (O.events out.old) (O.events out.new) }
         ensures steady { IsSteady N.rank_of self.new.book self.new.nodes.items
             (vec_capacity self.new.nodes) }
     {
@@ -241,7 +241,7 @@ impl<N: Node> Inner<N> {
             (vec_capacity self.old.nodes) }
         ensures lives { CalmFor N.stands (bytes_of N.Load.first N.Load.second) now self.old.book
             self.new.book self.old.nodes.items self.new.nodes.items (Same (busy self.old.book))
-            (Passing self.old.book at (said msg.now).bytes) (O.events out.old) (O.events out.new) }
+            (Passing self.old.book at (said msg.now).bytes) (λ st. Sends at (said msg.now) ∷ st) (O.events out.old) (O.events out.new) }
         ensures steady { IsSteady N.rank_of self.new.book self.new.nodes.items
             (vec_capacity self.new.nodes) }
     {
@@ -263,7 +263,7 @@ impl<N: Node> Inner<N> {
         ensures lives { (k : CalmFor N.stands (bytes_of N.Load.first N.Load.second) now
             self.old.book self.new.book self.old.nodes.items self.new.nodes.items
             (Same (busy self.old.book)) (Giving self.old.book at (said msg.now).bytes)
-            (O.events out.old) (O.events out.new))
+            (λ st. Gives at (said msg.now) ∷ st) (O.events out.old) (O.events out.new))
             × Hands (Entered at way.Down) at.obj.0 (λ done fx. down (said msg.now) now done fx)
             k.lives.deeds }
         ensures starts { Starts self.old.book self.new.book (O.events out.old) (O.events out.new)
@@ -295,7 +295,7 @@ impl<N: Node> Inner<N> {
             (Back (busy self.old.book) id.0 (asked_loads asked))
             (Following self.old.book (port_at id.0 0) (asked_left (said msg.now).bytes asked)
             (asked_sent (bytes_of N.Load.first N.Load.second) (said msg.now).bytes asked))
-            (O.events out.old) (O.events out.new) }
+            (λ st. asked_runs (bytes_of N.Load.first N.Load.second) id.0 (said msg.now) asked ++ st) (O.events out.old) (O.events out.new) }
         ensures steady { IsSteady N.rank_of self.new.book self.new.nodes.items
             (vec_capacity self.new.nodes) }
     {
@@ -314,7 +314,7 @@ impl<N: Node> Inner<N> {
         ensures lives { CalmFor N.stands (bytes_of N.Load.first N.Load.second) now self.old.book
             self.new.book self.old.nodes.items self.new.nodes.items
             (Back (busy self.old.book) id.0 (lent fx)) (Failing self.old.book id.0)
-            (O.events out.old) (O.events out.new) }
+            (λ st. (returns_of id.0 (lent fx) ++ all_closes id.0 no_memory) ++ st) (O.events out.old) (O.events out.new) }
         ensures steady { IsSteady N.rank_of self.new.book self.new.nodes.items
             (vec_capacity self.new.nodes) }
     {
@@ -330,7 +330,7 @@ impl<N: Node> Inner<N> {
         ensures shut { (k : ℕ) → open_count (port self.new.book id.0 k) ≡ 0 }
         ensures lives { CalmFor N.stands (bytes_of N.Load.first N.Load.second) now self.old.book
             self.new.book self.old.nodes.items self.new.nodes.items (Same (busy self.old.book))
-            (Closing self.old.book id.0) (O.events out.old) (O.events out.new) }
+            (Closing self.old.book id.0) (λ st. all_closes id.0 cause.now ++ st) (O.events out.old) (O.events out.new) }
         ensures order { IsQuiet self.old.book → ShutsObject cause.now id.0 self.old.book
             self.new.book (O.events out.old) (O.events out.new) }
         ensures steady { IsSteady N.rank_of self.new.book self.new.nodes.items
@@ -357,7 +357,7 @@ impl<N: Node> Inner<N> {
             0 }
         ensures lives { CalmFor N.stands (bytes_of N.Load.first N.Load.second) now self.old.book
             self.new.book self.old.nodes.items self.new.nodes.items (Same (busy self.old.book))
-            (Closing self.old.book id.0) (O.events out.old) (O.events out.new) }
+            (Closing self.old.book id.0) (λ st. closes_of id.0 closes.now ++ st) (O.events out.old) (O.events out.new) }
         ensures steady { IsSteady N.rank_of self.new.book self.new.nodes.items
             (vec_capacity self.new.nodes) }
     {

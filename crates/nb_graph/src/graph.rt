@@ -4,12 +4,12 @@ ghost use Rattle.std.specs.Option.{option_copied};
 ghost use Rattle.nb_ledger.specs.declared.event.GraphEvent.TheVariants.{Made, Held, Plugged, Entered, Dropped, Closed};
 ghost use Rattle.nb_ledger.specs.declared.event.Way.TheVariants as way;
 ghost use Rattle.nb_ledger.specs.declared.port.Port.{Port as ThePort};
-ghost use Rattle.nb_graph.specs.Accounts.{Balanced, KeepsBalance, PlugsBalance, bytes_of, unplugged};
+ghost use Rattle.nb_graph.specs.Accounts.{Balanced, KeepsBalance, PlugsBalance, unplugged};
 ghost use Rattle.nb_graph.specs.declared.graph.Reach.TheVariants as reach;
 ghost use Rattle.nb_ledger.specs.declared.port.PortState.TheVariants as state;
 ghost use Rattle.nb_ledger.specs.Ledger.{live, holds, port, rank, open_count, IsLeastAbove};
-ghost use Rattle.nb_graph.specs.Trace.{Entry, down, said, time, up};
-ghost use Rattle.nb_graph.specs.Deeds.{Hands};
+ghost use Rattle.nb_graph.specs.Trace.{Entry, down, said, time, up, bytes_of};
+ghost use Rattle.nb_graph.specs.Deeds.{Hands, Closes, Ends, LetsAllGo, Gives, Ticks};
 ghost use Rattle.nb_graph.specs.Lived.{KeepsTraces, Lived, StandsFor};
 ghost use Rattle.nb_graph.specs.Order.{ClosesOne, EndsInOrder, LetsOneGo};
 ghost use Rattle.nb_graph.specs.Whole.{Began, Harvests, port_at, Runs, IsRun, IsMade, KeepsRanks, node_of, IsSame};
@@ -191,7 +191,7 @@ impl<N: Node> Graph<N> {
 
     /// Closes a port, and its peer if it is linked. Nothing happens at a closed or dead one.
     pub fn close<O: Outside>(&mut self, at: Port, cause: &Cause, now: u64, out: &mut O)
-        ensures stands { Lived N.stands (bytes_of N.Load.first N.Load.second) now self.old self.new
+        ensures stands { Lived N.stands (bytes_of N.Load.first N.Load.second) now (Closes at cause.now ∷ []) self.old self.new
             (O.events out.old) (O.events out.new) }
         ensures runs { IsRun self.old.book self.new.book (O.events out.old) (O.events out.new) }
         ensures begins { 0 < open_count (port self.old.book at.obj.0 at.slot)
@@ -212,10 +212,10 @@ impl<N: Node> Graph<N> {
     pub fn down<O: Outside>(&mut self, to: Port, msg: &Msg<'_>, now: u64, out: &mut O) -> Reach
         requires { to.slot ≡ 0 }
         ensures dropped { (result ≡ reach.Dropped) ↔ (port self.old.book to.obj.0 0 ≢ state.Open) }
-        ensures stands { Lived N.stands (bytes_of N.Load.first N.Load.second) now self.old self.new
+        ensures stands { Lived N.stands (bytes_of N.Load.first N.Load.second) now (Gives to (said msg.now) ∷ []) self.old self.new
             (O.events out.old) (O.events out.new) }
         ensures hands { result ≡ reach.Entered → (k : Lived N.stands
-            (bytes_of N.Load.first N.Load.second) now self.old self.new (O.events out.old)
+            (bytes_of N.Load.first N.Load.second) now (Gives to (said msg.now) ∷ []) self.old self.new (O.events out.old)
             (O.events out.new))
             × Hands (Entered to way.Down) to.obj.0 (λ done fx. down (said msg.now) now done fx)
             k.deeds }
@@ -240,10 +240,10 @@ impl<N: Node> Graph<N> {
         requires { (1 ≤ to.slot) × (to.slot ≤ 3) }
         ensures dropped { (result ≡ reach.Dropped) ↔ (port self.old.book to.obj.0 to.slot ≢
             state.Open) }
-        ensures stands { Lived N.stands (bytes_of N.Load.first N.Load.second) now self.old self.new
+        ensures stands { Lived N.stands (bytes_of N.Load.first N.Load.second) now (Gives to (said msg.now) ∷ []) self.old self.new
             (O.events out.old) (O.events out.new) }
         ensures hands { result ≡ reach.Entered → (k : Lived N.stands
-            (bytes_of N.Load.first N.Load.second) now self.old self.new (O.events out.old)
+            (bytes_of N.Load.first N.Load.second) now (Gives to (said msg.now) ∷ []) self.old self.new (O.events out.old)
             (O.events out.new))
             × Hands (Entered to way.Up) to.obj.0 (λ done fx. up to.slot (said msg.now) now done fx)
             k.deeds }
@@ -266,10 +266,10 @@ impl<N: Node> Graph<N> {
     /// Time has come to `now`, in milliseconds. Dropped where the object is dead, and then nothing happens.
     pub fn time<O: Outside>(&mut self, id: ObjId, now: u64, out: &mut O) -> Reach
         ensures dropped { (result ≡ reach.Dropped) ↔ (live self.old.book id.0 ≡ false) }
-        ensures stands { Lived N.stands (bytes_of N.Load.first N.Load.second) now self.old self.new
+        ensures stands { Lived N.stands (bytes_of N.Load.first N.Load.second) now (Ticks id.0 ∷ []) self.old self.new
             (O.events out.old) (O.events out.new) }
         ensures hands { result ≡ reach.Entered → (k : Lived N.stands
-            (bytes_of N.Load.first N.Load.second) now self.old self.new (O.events out.old)
+            (bytes_of N.Load.first N.Load.second) now (Ticks id.0 ∷ []) self.old self.new (O.events out.old)
             (O.events out.new))
             × Hands (Entered (port_at id.0 4) way.Time) id.0 (λ done fx. time now done fx) k.deeds }
         ensures runs { IsRun self.old.book self.new.book (O.events out.old) (O.events out.new) }
@@ -304,7 +304,7 @@ impl<N: Node> Graph<N> {
 
     /// Closes all ports by rising serial and slot, and lets all holds go. Nothing lives after it.
     pub fn shutdown<O: Outside>(&mut self, cause: &Cause, now: u64, out: &mut O)
-        ensures stands { Lived N.stands (bytes_of N.Load.first N.Load.second) now self.old self.new
+        ensures stands { Lived N.stands (bytes_of N.Load.first N.Load.second) now (Ends cause.now ∷ LetsAllGo ∷ []) self.old self.new
             (O.events out.old) (O.events out.new) }
         ensures runs { IsRun self.old.book self.new.book (O.events out.old) (O.events out.new) }
         ensures none { length self.new.book.objects ≡ 0 }
@@ -315,3 +315,16 @@ impl<N: Node> Graph<N> {
         self.inner.let_above_go(0, out);
     }
 }
+
+ghost use Rattle.std.specs.Prelude.{List, Option, ◌++◌};
+ghost use Rattle.nb_graph.specs.Whole.{Objects};
+ghost use Rattle.nb_graph.specs.Went.{Call, Went};
+ghost use Rattle.nb_ledger.specs.Flat.{Notice};
+
+/// What happens in calls and in those that come then happens in all of them.
+pub fn one_after_another<N: Node>()
+    ensures { (cs bs : List (Call N.Load)) (a b c : Objects N) (m n o : Option (List Notice))
+        → Went N.stands (bytes_of N.Load.first N.Load.second) cs a b m n
+        → Went N.stands (bytes_of N.Load.first N.Load.second) bs b c n o
+        → Went N.stands (bytes_of N.Load.first N.Load.second) (cs ++ bs) a c m o }
+{}

@@ -1,16 +1,19 @@
 ghost use Rattle.std.specs.Prelude.{◌≡◌, ◌≢◌, ℕ, ◌+◌, ◌<◌, ◌^◌, true, false, [], ◌∷◌, ◌++◌, length};
-ghost use Rattle.nb_graph.specs.Accounts.{KeepsBalance, bytes_of};
+ghost use Rattle.nb_graph.specs.Accounts.{KeepsBalance};
 ghost use Rattle.nb_graph.specs.Moves.{Mild};
-ghost use Rattle.nb_graph.specs.Trace.{Entry};
+ghost use Rattle.nb_graph.specs.Trace.{Entry, bytes_of};
 ghost use Rattle.nb_graph.specs.Lived.{StandsFor};
 ghost use Rattle.std.specs.Vec.{vec_capacity};
 ghost use Rattle.nb_ledger.specs.declared.event.GraphEvent.TheVariants.{Made};
-ghost use Rattle.nb_ledger.specs.Flat.{Tells};
+ghost use Rattle.nb_ledger.specs.Flat.{Given, Tells, flat};
+ghost use Rattle.nb_ledger.specs.Flat as notice;
 ghost use Rattle.nb_ledger.specs.GraphRun.{Frame, IsIdle, Step};
 ghost use Rattle.nb_ledger.specs.Ledger.{live, place, state_of};
 ghost use Rattle.nb_ledger.specs.Changes.{Adds};
 ghost use Rattle.nb_graph.specs.Order.{LetsOneGo};
-ghost use Rattle.nb_graph.specs.Lives.{Loses, RunFor, SettlesFor, nodes_at};
+ghost use Rattle.nb_graph.specs.Deeds.{Wants};
+ghost use Rattle.nb_ledger.specs.declared.event.GraphEvent.TheVariants as event;
+ghost use Rattle.nb_graph.specs.Lives.{here, Loses, RunFor, SettlesFor, seat};
 ghost use Rattle.nb_graph.specs.Whole.{IsManned};
 ghost use Rattle.std.specs.Option.{option_copied};
 ghost use Rattle.std.specs.Prelude.{slice_get};
@@ -47,11 +50,12 @@ impl<N: Node> Inner<N> {
         requires manned { IsManned N.rank_of self.old.book self.old.nodes.items
             (vec_capacity self.old.nodes) }
         ensures told { Tells (O.events out.old) (O.events out.new) (Freed id ∷ []) }
+        ensures given { Given (O.events out.old) (O.events out.new) (notice.event (flat (Freed id)) ∷ []) }
         ensures step { (st : List Frame) → Step (state_of self.old.book (MustFree id.0 ∷ st))
             (Freed id) (state_of self.new.book st) }
         ensures removes { Removes self.old.book self.new.book id.0 }
-        ensures loses { Loses (nodes_at self.old.book self.old.nodes.items)
-            (nodes_at self.new.book self.new.nodes.items) }
+        ensures loses { Loses (seat self.old.book self.old.nodes.items)
+            (seat self.new.book self.new.nodes.items) }
         ensures manned { IsManned N.rank_of self.new.book self.new.nodes.items
             (vec_capacity self.new.nodes) }
     {
@@ -68,6 +72,7 @@ impl<N: Node> Inner<N> {
             (vec_capacity self.old.nodes) }
         ensures told { Tells (O.events out.old) (O.events out.new)
             (Made result (N.kind_of node) ∷ []) }
+        ensures given { Given (O.events out.old) (O.events out.new) (notice.event (flat (Made result (N.kind_of node))) ∷ []) }
         ensures serial { result.0 ≡ self.old.book.made + 1 }
         ensures fresh { live self.old.book result.0 ≡ false }
         ensures len { length self.new.book.objects ≡ length self.old.book.objects + 1 }
@@ -130,14 +135,14 @@ impl<N: Node> Inner<N> {
         requires graph { IsGraph N.rank_of self.old.book self.old.nodes.items
             (vec_capacity self.old.nodes) }
         ensures runs { RunFor N.stands (bytes_of N.Load.first N.Load.second) self.old.book
-            self.new.book self.old.nodes.items self.new.nodes.items (O.events out.old)
+            self.new.book self.old.nodes.items self.new.nodes.items (λ st. Wants (event.LetGo id) ∷ st) here (O.events out.old)
             (O.events out.new) }
         ensures one { LetsOneGo id self.old.book self.new.book (O.events out.old) (O.events out.new) }
         ensures mild { Mild self.old.book self.new.book }
         ensures ranks { KeepsRanks self.old.book self.new.book }
         ensures lets { LetsGo self.old.book self.new.book }
-        ensures loses { Loses (nodes_at self.old.book self.old.nodes.items)
-            (nodes_at self.new.book self.new.nodes.items) }
+        ensures loses { Loses (seat self.old.book self.old.nodes.items)
+            (seat self.new.book self.new.nodes.items) }
         ensures falls { holds self.new.book id.0 < holds self.old.book id.0 }
         ensures graph { IsGraph N.rank_of self.new.book self.new.nodes.items
             (vec_capacity self.new.nodes) }

@@ -1,20 +1,24 @@
 // Messages that go up, and time: objects may be made.
-ghost use Rattle.std.specs.Prelude.{◌≡◌, ◌+◌, ◌<◌, ◌≤◌, ◌^◌, ℕ, true, false, length, IfSome, Some, None, [], ◌∷◌, drop};
+ghost use Rattle.std.specs.Prelude.{◌≡◌, ◌+◌, ◌<◌, ◌≤◌, ◌^◌, ℕ, true, false, length, IfSome, IfNone, ◌⊎◌, Some, None, [], ◌∷◌, ◌++◌, drop};
 ghost use Rattle.std.specs.Vec.{vec_capacity};
 ghost use Rattle.nb_ledger.specs.declared.event.GraphEvent.TheVariants.{Entered};
 ghost use Rattle.nb_ledger.specs.declared.event.Way.TheVariants as way;
 ghost use Rattle.nb_ledger.specs.GraphRun.{IsOpen};
 ghost use Rattle.nb_ledger.specs.Ledger.{live, busy, rank, port, open_count};
-ghost use Rattle.nb_graph.specs.Accounts.{bytes_of, carries, emit_bytes, few_bytes, fx_bytes};
+ghost use Rattle.nb_graph.specs.Accounts.{emit_bytes, few_bytes, fx_bytes};
 ghost use Rattle.nb_graph.specs.Flows.{Delivering, Doing, Keeping, Leaves, Rising, asked_behind, asked_sent, nothing};
 ghost use Rattle.nb_graph.specs.Moves.{HasAsked, always, none_due};
 ghost use Rattle.nb_graph.specs.Calm.{IsSteady, Starts};
 ghost use Rattle.nb_graph.specs.Whole.{Harvests, IsManned, port_at};
-ghost use Rattle.nb_graph.specs.Trace.{carried, in_list, left, lent, loads, said, up, time};
-ghost use Rattle.nb_graph.specs.Deeds.{Calls, Hands, Holds};
+ghost use Rattle.nb_graph.specs.Trace.{carried, in_list, left, lent, loads, said, said_behind, silence, up, time, bytes_of, carries};
+ghost use Rattle.nb_graph.specs.Deeds.{Calls, Hands, Gives, Holds, Sends, Ticks, emit_of, few_of, runs_of};
+ghost use Rattle.nb_graph.specs.Again.{Delivered, Gives as GivesAll, GoesOn, LeftOn};
+ghost use Rattle.nb_graph.specs.Lively.{Grows};
+ghost use Rattle.nb_ledger.specs.Flat.{Tells};
+ghost use Rattle.nb_ledger.specs.declared.event.GraphEvent.TheVariants.{Dropped};
 ghost use Rattle.nb_graph.specs.Lives.{AllBack, Back, IsBelow, IsUnder, LivelyFor, LivelyInFor, Same, here};
 ghost use Rattle.nb_graph.specs.Lived.{KeepsTraces};
-ghost use Rattle.nb_graph.specs.Effects.{MayAsk, MayAskTime, MayAskUp, asked_loads, asked_rest, AreUps, ClosesSlot, IsUp};
+ghost use Rattle.nb_graph.specs.Effects.{MayAsk, MayAskTime, MayAskUp, asked_loads, asked_rest, asked_runs, AreUps, ClosesSlot, IsUp};
 
 use crate::calm::NOTHING;
 use crate::inner::Inner;
@@ -35,7 +39,7 @@ impl<N: Node> Inner<N> {
         ensures lives { (k : LivelyFor N.stands (bytes_of N.Load.first N.Load.second) now
             self.old.book self.new.book self.old.nodes.items self.new.nodes.items
             (Same (busy self.old.book)) none_due (Rising self.old.book at (said msg.now).bytes)
-            (O.events out.old) (O.events out.new))
+            (λ st. Gives at (said msg.now) ∷ st) (O.events out.old) (O.events out.new))
             × Hands (Entered at way.Up) at.obj.0 (λ done fx. up at.slot (said msg.now) now done fx)
             k.lives.deeds }
         ensures starts { Starts self.old.book self.new.book (O.events out.old) (O.events out.new)
@@ -48,7 +52,7 @@ impl<N: Node> Inner<N> {
         self.leave(at, was, out);
     }
 
-    /// A message, or the rest of one, is given to the node of an entry from below.
+    /// A message is given to the node of an entry from below, and what it leaves of it again.
     #[cycle(lively)]
     fn deliver<O: Outside>(&mut self, at: Port, msg: &Msg<'_>, now: u64, out: &mut O)
         requires slot { 1 ≤ at.slot }
@@ -58,29 +62,57 @@ impl<N: Node> Inner<N> {
         requires below { IsBelow (rank self.old.book at.obj.0) self.old.book }
         requires steady { IsSteady N.rank_of self.old.book self.old.nodes.items
             (vec_capacity self.old.nodes) }
-        ensures lives { (k : LivelyInFor N.stands (bytes_of N.Load.first N.Load.second) now at.obj.0
-            self.old.book self.new.book self.old.nodes.items self.new.nodes.items
-            (AllBack (busy self.old.book) at.obj.0 []) always none_due
-            (Delivering self.old.book at (said msg.now).bytes nothing)
-            (λ st. Holds at way.Up (Some (said msg.now)) ∷ st) (λ st. Holds at way.Up None ∷ st)
-            (O.events out.old) (O.events out.new))
-            × Calls at.obj.0 (λ done fx. up at.slot (said msg.now) now done fx) k.lives.deeds }
+        ensures lives { Delivered N.stands (bytes_of N.Load.first N.Load.second) now at
+            (said msg.now) self.old.book self.new.book self.old.nodes.items self.new.nodes.items
+            (O.events out.old) (O.events out.new) }
+        ensures steady { IsSteady N.rank_of self.new.book self.new.nodes.items
+            (vec_capacity self.new.nodes) }
+    {
+        let mut rest = Some(*msg);
+        while let Some(part) = rest {
+            rest = self.give(at, &part, now, out);
+        }
+    }
+
+    /// Gives a message once, and answers what is left of it, if it is to be given again.
+    #[cycle(lively)]
+    fn give<'m, O: Outside>(
+        &mut self,
+        at: Port,
+        msg: &Msg<'m>,
+        now: u64,
+        out: &mut O,
+    ) -> Option<Msg<'m>>
+        requires slot { 1 ≤ at.slot }
+        requires open { IsOpen (port self.old.book at.obj.0 at.slot) }
+        requires runs { busy self.old.book at.obj.0 ≡ true }
+        requires small { length msg.now.first.now + length msg.now.second.now < 2 ^ 65 }
+        requires below { IsBelow (rank self.old.book at.obj.0) self.old.book }
+        requires steady { IsSteady N.rank_of self.old.book self.old.nodes.items
+            (vec_capacity self.old.nodes) }
+        ensures gives { GivesAll N.stands (bytes_of N.Load.first N.Load.second) now at
+            (said msg.now) self.old.book self.new.book self.old.nodes.items self.new.nodes.items
+            (O.events out.old) (O.events out.new) result }
+        ensures less { IfSome result (λ r. length r.first.now + length r.second.now
+            < length msg.now.first.now + length msg.now.second.now) }
+        ensures open { IfSome result (λ r. IsOpen (port self.new.book at.obj.0 at.slot)) }
+        ensures grows { Grows self.old.book self.new.book }
         ensures steady { IsSteady N.rank_of self.new.book self.new.nodes.items
             (vec_capacity self.new.nodes) }
     {
         let asked = self.ask_up(at, msg, now);
-        self.after_up(at, msg, asked, now, out);
+        self.after_up(at, msg, asked, now, out)
     }
 
     #[cycle(lively)]
-    fn after_up<O: Outside>(
+    fn after_up<'m, O: Outside>(
         &mut self,
         at: Port,
-        msg: &Msg<'_>,
+        msg: &Msg<'m>,
         asked: Asked<N, N::Load>,
         now: u64,
         out: &mut O,
-    )
+    ) -> Option<Msg<'m>>
         requires slot { 1 ≤ at.slot }
         requires runs { busy self.old.book at.obj.0 ≡ true }
         requires asks { MayAskUp N.rank_of N.stands (rank self.old.book at.obj.0) at.slot
@@ -89,15 +121,13 @@ impl<N: Node> Inner<N> {
         requires below { IsBelow (rank self.old.book at.obj.0) self.old.book }
         requires steady { IsSteady N.rank_of self.old.book self.old.nodes.items
             (vec_capacity self.old.nodes) }
-        ensures lives { LivelyInFor N.stands (bytes_of N.Load.first N.Load.second) now at.obj.0
-            self.old.book self.new.book self.old.nodes.items self.new.nodes.items
-            (AllBack (busy self.old.book) at.obj.0 (asked_loads asked))
-            (HasAsked at.obj.0 (asked_sent (bytes_of N.Load.first N.Load.second)
-            (said msg.now).bytes asked)) none_due (Delivering self.old.book at
-            (asked_behind (said msg.now).bytes asked) (asked_sent
-            (bytes_of N.Load.first N.Load.second) (said msg.now).bytes asked))
-            (λ st. Holds at way.Up (asked_rest (said msg.now) asked) ∷ st)
-            (λ st. Holds at way.Up None ∷ st) (O.events out.old) (O.events out.new) }
+        ensures goes { GoesOn N.stands (bytes_of N.Load.first N.Load.second) now at
+            (said msg.now) asked self.old.book self.new.book self.old.nodes.items self.new.nodes.items
+            (O.events out.old) (O.events out.new) result }
+        ensures less { IfSome result (λ r. length r.first.now + length r.second.now
+            < length msg.now.first.now + length msg.now.second.now) }
+        ensures open { IfSome result (λ r. IsOpen (port self.new.book at.obj.0 at.slot)) }
+        ensures grows { Grows self.old.book self.new.book }
         ensures steady { IsSteady N.rank_of self.new.book self.new.nodes.items
             (vec_capacity self.new.nodes) }
     {
@@ -105,40 +135,42 @@ impl<N: Node> Inner<N> {
             Asked::Done(fx) => {
                 let took = fx.took as usize;
                 self.effects(at.obj, msg, fx, now, out);
-                self.go_on(at, msg, took, now, out);
+                self.left_of(at, msg, took, out)
             }
-            Asked::NoMemory(fx) => self.fail(at.obj, fx, now, out),
+            Asked::NoMemory(fx) => {
+                self.fail(at.obj, fx, now, out);
+                None
+            }
         }
     }
 
-    /// What the node left of a message is given to it again, if its port is still open.
-    #[cycle(lively)]
-    fn go_on<O: Outside>(&mut self, at: Port, msg: &Msg<'_>, took: usize, now: u64, out: &mut O)
-        requires slot { 1 ≤ at.slot }
-        requires runs { busy self.old.book at.obj.0 ≡ true }
+    /// What the node left of a message, if its port is still open; else it is dropped.
+    fn left_of<'m, O: Outside>(
+        &mut self,
+        at: Port,
+        msg: &Msg<'m>,
+        took: usize,
+        out: &mut O,
+    ) -> Option<Msg<'m>>
         requires took { took ≤ length msg.now.first.now + length msg.now.second.now }
         requires some { took ≡ 0 → 0 < length msg.now.first.now + length msg.now.second.now →
             open_count (port self.old.book at.obj.0 at.slot) ≡ 0 }
-        requires small { length msg.now.first.now + length msg.now.second.now < 2 ^ 65 }
-        requires below { IsBelow (rank self.old.book at.obj.0) self.old.book }
-        requires steady { IsSteady N.rank_of self.old.book self.old.nodes.items
-            (vec_capacity self.old.nodes) }
-        ensures lives { LivelyInFor N.stands (bytes_of N.Load.first N.Load.second) now at.obj.0
-            self.old.book self.new.book self.old.nodes.items self.new.nodes.items
-            (AllBack (busy self.old.book) at.obj.0 []) always none_due
-            (Delivering self.old.book at (drop took (said msg.now).bytes) nothing)
-            (λ st. Holds at way.Up (left took (said msg.now)) ∷ st)
-            (λ st. Holds at way.Up None ∷ st) (O.events out.old) (O.events out.new) }
-        ensures steady { IsSteady N.rank_of self.new.book self.new.nodes.items
-            (vec_capacity self.new.nodes) }
+        ensures goes { (now : ℕ) → LeftOn N.stands (bytes_of N.Load.first N.Load.second) now at
+            took (said msg.now) self.old.book self.new.book self.old.nodes.items
+            self.new.nodes.items (O.events out.old) (O.events out.new) result }
+        ensures same { (self.new.book ≡ self.old.book) × (self.new.nodes ≡ self.old.nodes) }
+        ensures less { IfSome result (λ r. length r.first.now + length r.second.now
+            < length msg.now.first.now + length msg.now.second.now) }
+        ensures open { IfSome result (λ r. IsOpen (port self.new.book at.obj.0 at.slot)) }
     {
         if took == msg.first.len() + msg.second.len() {
-            return;
+            return None;
         }
         if self.book.is_open(at) {
-            self.deliver(at, &behind(msg, took), now, out);
+            Some(behind(msg, took))
         } else {
             out.event(&GraphEvent::Dropped(at).spelled());
+            None
         }
     }
 
@@ -163,7 +195,7 @@ impl<N: Node> Inner<N> {
             (Back (busy self.old.book) id.0 (lent fx)) (HasAsked id.0
             (λ k. fx_bytes (bytes_of N.Load.first N.Load.second) k (said msg.now).bytes fx))
             none_due (Doing self.old.book id.0 (λ k. fx_bytes (bytes_of N.Load.first N.Load.second)
-            k (said msg.now).bytes fx)) here here (O.events out.old) (O.events out.new) }
+            k (said msg.now).bytes fx)) (λ st. runs_of (bytes_of N.Load.first N.Load.second) id.0 (said msg.now) true fx ++ st) here (O.events out.old) (O.events out.new) }
         ensures shut { (k : ℕ) → ClosesSlot k fx.closes.items → open_count
             (port self.new.book id.0 k) ≡ 0 }
         ensures steady { IsSteady N.rank_of self.new.book self.new.nodes.items
@@ -200,7 +232,7 @@ impl<N: Node> Inner<N> {
             self.new.book self.old.nodes.items self.new.nodes.items
             (Back (busy self.old.book) id.0 (loads ups)) none_due
             (Leaves self.old.book (port_at id.0 0) (few_bytes (bytes_of N.Load.first N.Load.second)
-            0 (said msg.now).bytes ups)) (O.events out.old) (O.events out.new) }
+            0 (said msg.now).bytes ups)) (λ st. few_of (bytes_of N.Load.first N.Load.second) id.0 (said msg.now) ups ++ st) (O.events out.old) (O.events out.new) }
         ensures steady { IsSteady N.rank_of self.new.book self.new.nodes.items
             (vec_capacity self.new.nodes) }
     {
@@ -227,7 +259,7 @@ impl<N: Node> Inner<N> {
             self.new.book self.old.nodes.items self.new.nodes.items
             (Back (busy self.old.book) id.0 (carried emit)) none_due
             (Leaves self.old.book (port_at id.0 0) (emit_bytes (bytes_of N.Load.first N.Load.second)
-            0 (said msg.now).bytes emit)) (O.events out.old) (O.events out.new) }
+            0 (said msg.now).bytes emit)) (λ st. emit_of (bytes_of N.Load.first N.Load.second) id.0 (said msg.now) emit ++ st) (O.events out.old) (O.events out.new) }
         ensures steady { IsSteady N.rank_of self.new.book self.new.nodes.items
             (vec_capacity self.new.nodes) }
     {
@@ -255,7 +287,7 @@ impl<N: Node> Inner<N> {
             self.new.book self.old.nodes.items self.new.nodes.items
             (Back (busy self.old.book) id.0 (in_list emit.load)) none_due
             (Leaves self.old.book (port_at id.0 0) (carries (bytes_of N.Load.first N.Load.second)
-            (said msg.now).bytes emit.from emit.to emit.load)) (O.events out.old) (O.events out.new) }
+            (said msg.now).bytes emit.from emit.to emit.load)) (λ st. emit_of (bytes_of N.Load.first N.Load.second) id.0 (said msg.now) (Some emit) ++ st) (O.events out.old) (O.events out.new) }
         ensures steady { IsSteady N.rank_of self.new.book self.new.nodes.items
             (vec_capacity self.new.nodes) }
     {
@@ -308,7 +340,7 @@ impl<N: Node> Inner<N> {
             (vec_capacity self.old.nodes) }
         ensures lives { LivelyFor N.stands (bytes_of N.Load.first N.Load.second) now self.old.book
             self.new.book self.old.nodes.items self.new.nodes.items (Same (busy self.old.book))
-            none_due (Leaves self.old.book at (said msg.now).bytes) (O.events out.old)
+            none_due (Leaves self.old.book at (said msg.now).bytes) (λ st. Sends at (said msg.now) ∷ st) (O.events out.old)
             (O.events out.new) }
         ensures steady { IsSteady N.rank_of self.new.book self.new.nodes.items
             (vec_capacity self.new.nodes) }
@@ -330,7 +362,7 @@ impl<N: Node> Inner<N> {
             (vec_capacity self.old.nodes) }
         ensures lives { (k : LivelyFor N.stands (bytes_of N.Load.first N.Load.second) now
             self.old.book self.new.book self.old.nodes.items self.new.nodes.items
-            (Same (busy self.old.book)) none_due (Keeping self.old.book) (O.events out.old)
+            (Same (busy self.old.book)) none_due (Keeping self.old.book) (λ st. Ticks id.0 ∷ st) (O.events out.old)
             (O.events out.new))
             × Hands (Entered (port_at id.0 4) way.Time) id.0 (λ done fx. time now done fx)
             k.lives.deeds }
@@ -357,7 +389,7 @@ impl<N: Node> Inner<N> {
             (Back (busy self.old.book) id.0 (asked_loads asked))
             (HasAsked id.0 (asked_sent (bytes_of N.Load.first N.Load.second) [] asked)) none_due
             (Doing self.old.book id.0 (asked_sent (bytes_of N.Load.first N.Load.second) [] asked))
-            here here (O.events out.old) (O.events out.new) }
+            (λ st. asked_runs (bytes_of N.Load.first N.Load.second) id.0 silence asked ++ st) here (O.events out.old) (O.events out.new) }
         ensures steady { IsSteady N.rank_of self.new.book self.new.nodes.items
             (vec_capacity self.new.nodes) }
     {

@@ -1,23 +1,23 @@
 // The parts of an entry that nest nothing: its begin, the call of the node, and its end.
-ghost use Rattle.std.specs.Prelude.{◌≡◌, ◌≢◌, ◌+◌, ◌<◌, ◌≤◌, ℕ, true, List, [], ◌∷◌, length, ◌-◌, Some, None, ◌++◌};
+ghost use Rattle.std.specs.Prelude.{◌≡◌, ◌≢◌, ◌+◌, ◌<◌, ◌≤◌, ℕ, true, List, [], ◌∷◌, length, ◌-◌, Some, None, Option, ◌++◌};
 ghost use Rattle.std.specs.Vec.{vec_capacity};
 ghost use Rattle.nb_ledger.specs.declared.port.PortState.TheVariants.{Linked, Leaving, Closed as Shut};
 ghost use Rattle.nb_ledger.specs.declared.event.Way.{Way as TheWay};
 ghost use Rattle.nb_ledger.specs.declared.event.Way.TheVariants.{Close, Down, Time, Up};
 ghost use Rattle.nb_ledger.specs.declared.event.GraphEvent.TheVariants.{Closed, Entered};
 ghost use Rattle.nb_ledger.specs.GraphRun.{Frame, Running, MustUnplug, IsIdle, Run, port_but};
-ghost use Rattle.nb_ledger.specs.Flat.{Tells};
+ghost use Rattle.nb_ledger.specs.Flat.{Notice, Tells};
 ghost use Rattle.nb_ledger.specs.Ledger.{live, busy, rank, port, state_of};
-ghost use Rattle.nb_graph.specs.Accounts.{part, bytes_of, fx_bytes};
+ghost use Rattle.nb_graph.specs.Accounts.{fx_bytes};
 ghost use Rattle.nb_graph.specs.Flows.{Asking, Still, asked_sent, asked_taken, asked_whole, nothing};
 ghost use Rattle.nb_graph.specs.Moves.{Asks, Calms};
 ghost use Rattle.nb_graph.specs.Calm.{IsSteady, HalfCloses};
 ghost use Rattle.nb_graph.specs.Whole.{IsManned, IsLinked, CountedButTwo, port_at};
-ghost use Rattle.nb_graph.specs.Trace.{carried, down, in_list, lent, loads, said, said_behind, silence, time, up};
-ghost use Rattle.nb_graph.specs.Deeds.{Calls, Holds, MustHear};
+ghost use Rattle.nb_graph.specs.Trace.{carried, down, in_list, lent, loads, said, said_behind, silence, time, up, part, bytes_of};
+ghost use Rattle.nb_graph.specs.Deeds.{Calls, Closes, Holds, MustHear, MustUnplug as Unlinks, Returns, returns_of, runs_of};
 ghost use Rattle.nb_graph.specs.Order.{EndsLink};
 ghost use Rattle.nb_graph.specs.Lives.{Back, EndsFor, Lends, LendsFirst, Lives, SettlesTwoFor, Stays, here, nodes_at};
-ghost use Rattle.nb_graph.specs.Effects.{MayAskBelow, MayAskDown, MayAskTime, MayAskUp, asked_loads, asked_rest};
+ghost use Rattle.nb_graph.specs.Effects.{MayAskBelow, MayAskDown, MayAskTime, MayAskUp, asked_loads, asked_rest, asked_runs};
 
 use crate::inner::Inner;
 use crate::{Emit, Few, Fx, Node};
@@ -48,9 +48,9 @@ impl<N: Node> Inner<N> {
         ensures run { (st : List Frame) → IsIdle st → Run (state_of self.old.book st)
             (Closed at cause.now ∷ Closed peer cause.now ∷ Entered peer Close ∷ [])
             (state_of self.new.book (Running peer Close ∷ MustUnplug at peer ∷ st)) }
-        ensures lives { (now : ℕ) → Lives N.stands now (nodes_at self.old.book self.old.nodes.items)
-            (nodes_at self.new.book self.new.nodes.items) Stays here
-            (λ st. MustHear peer cause.now ∷ st) (Calms (bytes_of N.Load.first N.Load.second)
+        ensures lives { (now : ℕ) → Lives N.stands (bytes_of N.Load.first N.Load.second) now (nodes_at self.old.book self.old.nodes.items (O.events out.old))
+            (nodes_at self.new.book self.new.nodes.items (O.events out.new)) Stays (λ st. Closes at cause.now ∷ st)
+            (λ st. MustHear peer cause.now ∷ Unlinks at peer ∷ st) (Calms (bytes_of N.Load.first N.Load.second)
             self.old.book self.new.book Still) (Closed at cause.now ∷ Closed peer cause.now ∷
             Entered peer Close ∷ []) }
         ensures was { result ≡ busy self.old.book peer.obj.0 }
@@ -76,7 +76,7 @@ impl<N: Node> Inner<N> {
             (O.events out.new) peer.obj.0 was
             (λ st. Running peer Close ∷ MustUnplug at peer ∷ st)
             (port_but peer Shut (port_but at Shut (port self.old.book)))
-            (λ st. Holds peer Close None ∷ st)) × EndsLink at peer e.ends.added }
+            (λ st. Holds peer Close None ∷ Unlinks at peer ∷ st)) × EndsLink at peer e.ends.added }
         ensures steady { IsSteady N.rank_of self.new.book self.new.nodes.items
             (vec_capacity self.new.nodes) }
     {
@@ -90,7 +90,7 @@ impl<N: Node> Inner<N> {
         requires lives { live self.old.book at.obj.0 ≡ true }
         requires steady { IsSteady N.rank_of self.old.book self.old.nodes.items
             (vec_capacity self.old.nodes) }
-        ensures ends { (by : TheWay) → EndsFor N.stands (bytes_of N.Load.first N.Load.second)
+        ensures ends { (by : TheWay) → (by ≡ Close → ⊥) → EndsFor N.stands (bytes_of N.Load.first N.Load.second)
             self.old.book self.new.book self.old.nodes.items self.new.nodes.items (O.events out.old)
             (O.events out.new) at.obj.0 was
             (λ st. Running at by ∷ st) (port self.old.book) (λ st. Holds at by None ∷ st) }
@@ -149,9 +149,9 @@ impl<N: Node> Inner<N> {
             (vec_capacity self.old.nodes) }
         ensures asks { MayAskBelow 0 result }
         ensures book { self.new.book ≡ self.old.book }
-        ensures lives { Lives N.stands now (nodes_at self.old.book self.old.nodes.items)
-            (nodes_at self.new.book self.new.nodes.items) (Lends at.obj.0 (lent result))
-            (λ st. MustHear at cause.now ∷ st) (λ st. Holds at Close None ∷ st)
+        ensures lives { (u : Option (List Notice)) → Lives N.stands (bytes_of N.Load.first N.Load.second) now (nodes_at self.old.book self.old.nodes.items u)
+            (nodes_at self.new.book self.new.nodes.items u) (Lends at.obj.0 (lent result))
+            (λ st. MustHear at cause.now ∷ st) (λ st. runs_of (bytes_of N.Load.first N.Load.second) at.obj.0 silence true result ++ Holds at Close None ∷ st)
             (Calms (bytes_of N.Load.first N.Load.second) self.old.book self.old.book
             (Asking self.old.book at.obj.0 (λ k. fx_bytes (bytes_of N.Load.first N.Load.second) k []
             result) nothing)) [] }
@@ -171,10 +171,10 @@ impl<N: Node> Inner<N> {
             (vec_capacity self.old.nodes) }
         ensures asks { MayAskDown (length msg.now.first.now + length msg.now.second.now) result }
         ensures book { self.new.book ≡ self.old.book }
-        ensures lives { (k : Lives N.stands now (nodes_at self.old.book self.old.nodes.items)
-            (nodes_at self.new.book self.new.nodes.items) (Lends id.0 (asked_loads result))
+        ensures lives { (u : Option (List Notice)) → (k : Lives N.stands (bytes_of N.Load.first N.Load.second) now (nodes_at self.old.book self.old.nodes.items u)
+            (nodes_at self.new.book self.new.nodes.items u) (Lends id.0 (asked_loads result))
             (λ st. Holds (port_at id.0 0) Down (Some (said msg.now)) ∷ st)
-            (λ st. Holds (port_at id.0 0) Down None ∷ st)
+            (λ st. asked_runs (bytes_of N.Load.first N.Load.second) id.0 (said msg.now) result ++ Holds (port_at id.0 0) Down None ∷ st)
             (Calms (bytes_of N.Load.first N.Load.second) self.old.book self.old.book
             (Asking self.old.book id.0 (asked_sent (bytes_of N.Load.first N.Load.second)
             (said msg.now).bytes result) (asked_whole (said msg.now).bytes result))) [])
@@ -198,10 +198,10 @@ impl<N: Node> Inner<N> {
         ensures asks { MayAskUp N.rank_of N.stands (rank self.old.book at.obj.0) at.slot
             (length msg.now.first.now + length msg.now.second.now) result }
         ensures book { self.new.book ≡ self.old.book }
-        ensures lives { (k : Lives N.stands now (nodes_at self.old.book self.old.nodes.items)
-            (nodes_at self.new.book self.new.nodes.items) (LendsFirst at.obj.0 (asked_loads result))
+        ensures lives { (u : Option (List Notice)) → (k : Lives N.stands (bytes_of N.Load.first N.Load.second) now (nodes_at self.old.book self.old.nodes.items u)
+            (nodes_at self.new.book self.new.nodes.items u) (LendsFirst at.obj.0 (asked_loads result))
             (λ st. Holds at Up (Some (said msg.now)) ∷ st)
-            (λ st. Holds at Up (asked_rest (said msg.now) result) ∷ st)
+            (λ st. asked_runs (bytes_of N.Load.first N.Load.second) at.obj.0 (said msg.now) result ++ Holds at Up (asked_rest (said msg.now) result) ∷ st)
             (λ ds. Calms (bytes_of N.Load.first N.Load.second) self.old.book self.old.book
             (Asking self.old.book at.obj.0 (asked_sent (bytes_of N.Load.first N.Load.second)
             (said msg.now).bytes result) (asked_taken at.slot (said msg.now).bytes result)) ds ×
@@ -226,10 +226,10 @@ impl<N: Node> Inner<N> {
             (vec_capacity self.old.nodes) }
         ensures asks { MayAskTime N.rank_of N.stands (rank self.old.book id.0) result }
         ensures book { self.new.book ≡ self.old.book }
-        ensures lives { (k : Lives N.stands now (nodes_at self.old.book self.old.nodes.items)
-            (nodes_at self.new.book self.new.nodes.items) (LendsFirst id.0 (asked_loads result))
+        ensures lives { (u : Option (List Notice)) → (k : Lives N.stands (bytes_of N.Load.first N.Load.second) now (nodes_at self.old.book self.old.nodes.items u)
+            (nodes_at self.new.book self.new.nodes.items u) (LendsFirst id.0 (asked_loads result))
             (λ st. Holds (port_at id.0 4) Time (Some silence) ∷ st)
-            (λ st. Holds (port_at id.0 4) Time None ∷ st)
+            (λ st. asked_runs (bytes_of N.Load.first N.Load.second) id.0 silence result ++ Holds (port_at id.0 4) Time None ∷ st)
             (λ ds. Calms (bytes_of N.Load.first N.Load.second) self.old.book self.old.book
             (Asking self.old.book id.0 (asked_sent (bytes_of N.Load.first N.Load.second) [] result)
             nothing) ds × Asks (bytes_of N.Load.first N.Load.second) id.0
@@ -252,9 +252,9 @@ impl<N: Node> Inner<N> {
         requires manned { IsManned N.rank_of self.old.book self.old.nodes.items
             (vec_capacity self.old.nodes) }
         ensures book { self.new.book ≡ self.old.book }
-        ensures lives { (now : ℕ) → Lives N.stands now (nodes_at self.old.book self.old.nodes.items)
-            (nodes_at self.new.book self.new.nodes.items)
-            (Back (busy self.old.book) id.0 (load ∷ [])) here here
+        ensures lives { (now : ℕ) (u : Option (List Notice)) → Lives N.stands (bytes_of N.Load.first N.Load.second) now (nodes_at self.old.book self.old.nodes.items u)
+            (nodes_at self.new.book self.new.nodes.items u)
+            (Back (busy self.old.book) id.0 (load ∷ [])) (λ st. Returns id.0 load ∷ st) here
             (Calms (bytes_of N.Load.first N.Load.second) self.old.book self.old.book Still) [] }
         ensures manned { IsManned N.rank_of self.new.book self.new.nodes.items
             (vec_capacity self.new.nodes) }
@@ -269,9 +269,9 @@ impl<N: Node> Inner<N> {
         requires manned { IsManned N.rank_of self.old.book self.old.nodes.items
             (vec_capacity self.old.nodes) }
         ensures book { self.new.book ≡ self.old.book }
-        ensures lives { (now : ℕ) → Lives N.stands now (nodes_at self.old.book self.old.nodes.items)
-            (nodes_at self.new.book self.new.nodes.items) (Back (busy self.old.book) id.0 (lent fx))
-            here here (Calms (bytes_of N.Load.first N.Load.second) self.old.book self.old.book
+        ensures lives { (now : ℕ) (u : Option (List Notice)) → Lives N.stands (bytes_of N.Load.first N.Load.second) now (nodes_at self.old.book self.old.nodes.items u)
+            (nodes_at self.new.book self.new.nodes.items u) (Back (busy self.old.book) id.0 (lent fx))
+            (λ st. returns_of id.0 (lent fx) ++ st) here (Calms (bytes_of N.Load.first N.Load.second) self.old.book self.old.book
             Still) [] }
         ensures manned { IsManned N.rank_of self.new.book self.new.nodes.items
             (vec_capacity self.new.nodes) }
@@ -292,9 +292,9 @@ impl<N: Node> Inner<N> {
         requires manned { IsManned N.rank_of self.old.book self.old.nodes.items
             (vec_capacity self.old.nodes) }
         ensures book { self.new.book ≡ self.old.book }
-        ensures lives { (now : ℕ) → Lives N.stands now (nodes_at self.old.book self.old.nodes.items)
-            (nodes_at self.new.book self.new.nodes.items)
-            (Back (busy self.old.book) id.0 (loads few)) here here
+        ensures lives { (now : ℕ) (u : Option (List Notice)) → Lives N.stands (bytes_of N.Load.first N.Load.second) now (nodes_at self.old.book self.old.nodes.items u)
+            (nodes_at self.new.book self.new.nodes.items u)
+            (Back (busy self.old.book) id.0 (loads few)) (λ st. returns_of id.0 (loads few) ++ st) here
             (Calms (bytes_of N.Load.first N.Load.second) self.old.book self.old.book Still) [] }
         ensures manned { IsManned N.rank_of self.new.book self.new.nodes.items
             (vec_capacity self.new.nodes) }
@@ -309,9 +309,9 @@ impl<N: Node> Inner<N> {
         requires manned { IsManned N.rank_of self.old.book self.old.nodes.items
             (vec_capacity self.old.nodes) }
         ensures book { self.new.book ≡ self.old.book }
-        ensures lives { (now : ℕ) → Lives N.stands now (nodes_at self.old.book self.old.nodes.items)
-            (nodes_at self.new.book self.new.nodes.items)
-            (Back (busy self.old.book) id.0 (carried emit)) here here
+        ensures lives { (now : ℕ) (u : Option (List Notice)) → Lives N.stands (bytes_of N.Load.first N.Load.second) now (nodes_at self.old.book self.old.nodes.items u)
+            (nodes_at self.new.book self.new.nodes.items u)
+            (Back (busy self.old.book) id.0 (carried emit)) (λ st. returns_of id.0 (carried emit) ++ st) here
             (Calms (bytes_of N.Load.first N.Load.second) self.old.book self.old.book Still) [] }
         ensures manned { IsManned N.rank_of self.new.book self.new.nodes.items
             (vec_capacity self.new.nodes) }
@@ -327,9 +327,9 @@ impl<N: Node> Inner<N> {
         requires manned { IsManned N.rank_of self.old.book self.old.nodes.items
             (vec_capacity self.old.nodes) }
         ensures book { self.new.book ≡ self.old.book }
-        ensures lives { (now : ℕ) → Lives N.stands now (nodes_at self.old.book self.old.nodes.items)
-            (nodes_at self.new.book self.new.nodes.items)
-            (Back (busy self.old.book) id.0 (in_list emit.load)) here here
+        ensures lives { (now : ℕ) (u : Option (List Notice)) → Lives N.stands (bytes_of N.Load.first N.Load.second) now (nodes_at self.old.book self.old.nodes.items u)
+            (nodes_at self.new.book self.new.nodes.items u)
+            (Back (busy self.old.book) id.0 (in_list emit.load)) (λ st. returns_of id.0 (in_list emit.load) ++ st) here
             (Calms (bytes_of N.Load.first N.Load.second) self.old.book self.old.book Still) [] }
         ensures manned { IsManned N.rank_of self.new.book self.new.nodes.items
             (vec_capacity self.new.nodes) }
@@ -351,9 +351,9 @@ impl<N: Node> Inner<N> {
         requires manned { IsManned N.rank_of self.old.book self.old.nodes.items
             (vec_capacity self.old.nodes) }
         ensures book { self.new.book ≡ self.old.book }
-        ensures lives { (now : ℕ) → Lives N.stands now (nodes_at self.old.book self.old.nodes.items)
-            (nodes_at self.new.book self.new.nodes.items)
-            (Back (busy self.old.book) id.0 (in_list load)) here here
+        ensures lives { (now : ℕ) (u : Option (List Notice)) → Lives N.stands (bytes_of N.Load.first N.Load.second) now (nodes_at self.old.book self.old.nodes.items u)
+            (nodes_at self.new.book self.new.nodes.items u)
+            (Back (busy self.old.book) id.0 (in_list load)) (λ st. returns_of id.0 (in_list load) ++ st) here
             (Calms (bytes_of N.Load.first N.Load.second) self.old.book self.old.book Still) [] }
         ensures manned { IsManned N.rank_of self.new.book self.new.nodes.items
             (vec_capacity self.new.nodes) }

@@ -1,5 +1,5 @@
 -- The graph's events as they are traced, and what it means that they are told.
-use Rattle.std.specs.Prelude.{◌≡◌, ℕ, List, ◌++◌, map, Option, Some, None}
+use Rattle.std.specs.Prelude.{◌≡◌, ℕ, List, [], ◌∷◌, ◌++◌, map, Option, Some, None}
 use Rattle.nb_terms.specs.declared.event.Event.{Event}
 use Rattle.nb_ledger.specs.declared.port.Port.{Port}
 use Rattle.nb_ledger.specs.declared.event.Way.{Way}
@@ -39,12 +39,28 @@ flat (Closed p cause) = record (port_event 8 p) { cause = cause }
 flat (Unplugged p q) = link_event 9 p q
 flat (Freed x) = object_event 10 x.0
 
+-- what an outside is told: an event, or a message that leaves an open port without a link
+pub data Notice : Type 0 where
+  event : (e : Event) → Notice
+  message : (from : Port) (tag rec a b : ℕ) (bytes : List ℕ) → Notice
+
+abbrev pub events_part : List Notice → List Event
+events_part [] = []
+events_part (event e ∷ ns) = e ∷ events_part ns
+events_part (message from tag rec a b bytes ∷ ns) = events_part ns
+
+-- where it is told what happens, this was added to what was told before
+abbrev pub Given : Option (List Notice) → Option (List Notice) → List Notice → Type 0
+Given before None added = Unit {0}
+Given None (Some after) added = ⊥
+Given (Some before) (Some after) added = after ≡ before ++ added
+
 -- where the events are told afterwards, these were added to those told before
-abbrev pub Told : Option (List Event) → Option (List Event) → List Event → Type 0
+abbrev pub Told : Option (List Notice) → Option (List Notice) → List Event → Type 0
 Told before None added = Unit {0}
 Told None (Some after) added = ⊥
-Told (Some before) (Some after) added = after ≡ before ++ added
+Told (Some before) (Some after) added = events_part after ≡ events_part before ++ added
 
 -- the same, of the graph's events
-abbrev pub Tells : Option (List Event) → Option (List Event) → List GraphEvent → Type 0
+abbrev pub Tells : Option (List Notice) → Option (List Notice) → List GraphEvent → Type 0
 Tells before after added = Told before after (map flat added)

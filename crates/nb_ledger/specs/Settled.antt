@@ -1,6 +1,6 @@
 -- An object is freed where its count is 0.
+use Rattle.nb_ledger.specs.Flat.{Notice}
 use Rattle.std.specs.Prelude.{◌≡◌, List, Option, true, false, ◌⊎◌}
-use Rattle.nb_terms.specs.declared.event.Event.{Event}
 use Rattle.nb_ledger.specs.declared.port.ObjId.{ObjId}
 use Rattle.nb_ledger.specs.declared.event.GraphEvent.{GraphEvent}
 use Rattle.nb_ledger.specs.GraphRun.{Frame, Run, owed}
@@ -9,7 +9,7 @@ use Rattle.nb_ledger.specs.Ledger.{Ledger, Agrees, state_of, unused}
 use Rattle.nb_ledger.specs.Changes.{Removes}
 
 -- what was owed for an object is done: it is freed where it is unused, and else nothing happens
-pub record Settles (old new : Ledger) (before after : Option (List Event)) (id : ObjId) : Type 0 where
+pub record Settles (old new : Ledger) (before after : Option (List Notice)) (id : ObjId) : Type 0 where
   pub added : List GraphEvent
   pub told : Tells before after added
   pub run : (st : List Frame) → Agrees old st → Run (owed id.0 (state_of old st)) added (state_of new st)

@@ -1,6 +1,7 @@
-ghost use Rattle.std.specs.Prelude.{◌≡◌, Option, List, [], ◌∷◌};
+ghost use Rattle.std.specs.Prelude.{◌≡◌, Option, List, [], ◌∷◌, ◌++◌};
 ghost use Rattle.nb_terms.specs.declared.event.Event.{Event};
-ghost use Rattle.nb_ledger.specs.Flat.{Told};
+ghost use Rattle.nb_ledger.specs.Flat.{Given, Notice, Told};
+ghost use Rattle.nb_ledger.specs.Flat as notice;
 
 use crate::{Msg, Port};
 use nb_terms::Event;
@@ -9,13 +10,15 @@ use nb_terms::Event;
 /// without a link.
 pub trait Outside {
     /// The events given so far, where they are told.
-    ghost events: { Self → Option (List Event) };
+    ghost events: { Self → Option (List Notice) };
 
     /// Gives an event.
     fn event(&mut self, e: &Event)
-        ensures { Told (events self.old) (events self.new) (e.now ∷ []) };
+        ensures told { Told (events self.old) (events self.new) (e.now ∷ []) }
+        ensures given { Given (events self.old) (events self.new) (notice.event e.now ∷ []) };
 
     /// Gives a message that leaves by `from`.
     fn send(&mut self, from: Port, msg: &Msg<'_>)
-        ensures { Told (events self.old) (events self.new) [] };
+        ensures told { Told (events self.old) (events self.new) [] }
+        ensures given { Given (events self.old) (events self.new) (notice.message from msg.now.tag msg.now.rec msg.now.a msg.now.b (msg.now.first.now ++ msg.now.second.now) ∷ []) };
 }

@@ -56,7 +56,9 @@ fn move_to_front(bytes: &mut Vec<u8>, start: usize)
     ensures len { vec_len bytes.new ≡ vec_len bytes.old - start }
     ensures capacity { vec_capacity bytes.new ≡ vec_capacity bytes.old }
 {
-    bytes.drain(..start);
+    let len = bytes.len() - start;
+    bytes.copy_within(start.., 0);
+    bytes.truncate(len);
 }
 
 impl Feed {

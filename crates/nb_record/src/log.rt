@@ -75,7 +75,7 @@ impl Log {
         ensures { Puts self.old self.new (out_text (out_of entry.now)) }
     {
         match *entry {
-            OutRec::Step(number) => self.put_record(STEP, &number.to_be_bytes()),
+            OutRec::Step(number) => self.put_step(number),
             OutRec::Frame(bytes) => self.put_record(FRAME, bytes),
             OutRec::Text(bytes) => self.put_record(TEXT, bytes),
             OutRec::Command {
@@ -146,8 +146,7 @@ impl Log {
         requires { body_len ≤ 131071 }
         ensures { Puts self.old self.new (to_be_bytes w32 (body_len + 1) ++ kind ∷ []) }
     {
-        self.add(&(body_len as u32 + 1).to_be_bytes());
-        self.add(&[kind]);
+        self.add(&head_bytes(kind, body_len));
     }
 
     /// Appends a record of this type and body.
@@ -169,6 +168,12 @@ impl Log {
         self.add(tail);
     }
 
+    fn put_step(&mut self, number: u32)
+        ensures { Puts self.old self.new (out_text (defs.step number)) }
+    {
+        self.add(&step_bytes(number));
+    }
+
     fn put_script(&mut self, what: u8, depth: u8, cause: Cause)
         ensures { Puts self.old self.new (out_text (defs.script what depth cause)) }
     {
@@ -186,13 +191,13 @@ impl Log {
     fn put_try(&mut self, number: u16, n: u8)
         ensures { Puts self.old self.new (out_text (defs.tried number n)) }
     {
-        self.put_parts(TRY, &number.to_be_bytes(), &[n]);
+        self.add(&try_bytes(number, n));
     }
 
     fn put_advance(&mut self, number: u16, place: u32)
         ensures { Puts self.old self.new (out_text (defs.advanced number place)) }
     {
-        self.put_parts(ADVANCE, &number.to_be_bytes(), &place.to_be_bytes());
+        self.add(&advance_bytes(number, place));
     }
 
     fn put_end(&mut self, number: u16, cause: Cause)
@@ -235,6 +240,43 @@ impl Log {
         self.add(&(word.len() as u16).to_be_bytes());
         self.add(word.as_slice());
     }
+}
+
+/// The length and the type of a record, whose body has this many bytes.
+fn head_bytes(kind: u8, body_len: usize) -> [u8; 5]
+    requires { body_len ≤ 131071 }
+    ensures { result ≡ to_be_bytes w32 (body_len + 1) ++ kind ∷ [] }
+{
+    let [a, b, c, d] = (body_len as u32 + 1).to_be_bytes();
+    [a, b, c, d, kind]
+}
+
+/// The record STEP.
+#[tactic(auto, unfolding(nb_defs::specs::Records::out_text, nb_defs::specs::Records::record_text))]
+fn step_bytes(number: u32) -> [u8; 9]
+    ensures { result ≡ out_text (defs.step number) }
+{
+    let [a, b, c, d] = number.to_be_bytes();
+    [0, 0, 0, 5, STEP, a, b, c, d]
+}
+
+/// The record TRY.
+#[tactic(auto, unfolding(nb_defs::specs::Records::out_text, nb_defs::specs::Records::record_text))]
+fn try_bytes(number: u16, n: u8) -> [u8; 8]
+    ensures { result ≡ out_text (defs.tried number n) }
+{
+    let [a, b] = number.to_be_bytes();
+    [0, 0, 0, 4, TRY, a, b, n]
+}
+
+/// The record ADVANCE.
+#[tactic(auto, unfolding(nb_defs::specs::Records::out_text, nb_defs::specs::Records::record_text))]
+fn advance_bytes(number: u16, place: u32) -> [u8; 11]
+    ensures { result ≡ out_text (defs.advanced number place) }
+{
+    let [n0, n1] = number.to_be_bytes();
+    let [a, b, c, d] = place.to_be_bytes();
+    [0, 0, 0, 7, ADVANCE, n0, n1, a, b, c, d]
 }
 
 /// The spelling of a cause.

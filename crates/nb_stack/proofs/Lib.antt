@@ -1,3 +1,4 @@
 pub mod MessageLaws
 pub mod PutLaws
 pub mod ReadingLaws
+pub mod WayLaws

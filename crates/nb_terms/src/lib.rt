@@ -8,7 +8,7 @@ mod cause;
 mod event;
 mod no_memory;
 
-pub use acts::{Acts, MAX_BODY, SendTo};
+pub use acts::{Acts, MAX_BODY, SendTo, Sends};
 pub use cause::Cause;
 pub use event::Event;
 pub use no_memory::NoMemory;

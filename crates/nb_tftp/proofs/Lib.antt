@@ -11,3 +11,5 @@ pub mod LimitLaws
 pub mod SilenceLemmas
 pub mod EndLaws
 pub mod CutLaws
+pub mod TryLaws
+pub mod AskedLaws

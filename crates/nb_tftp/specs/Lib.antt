@@ -12,3 +12,4 @@ pub mod Limits
 pub mod Sound
 pub mod Endings
 pub mod Cuts
+pub mod Asked

@@ -1,19 +1,20 @@
 //! The transfer's state, and its steps.
 
-ghost use Rattle.std.specs.Prelude.{◌≡◌, ◌≤◌, length};
+ghost use Rattle.std.specs.Prelude.{◌≡◌, ◌≤◌, length, [], None};
 ghost use Rattle.nb_tftpmsg.specs.Texts.{HasNoZero};
 ghost use Rattle.nb_tftp.specs.Decisions.{fixed_of, last_of};
-ghost use Rattle.nb_tftp.specs.Asks.{begun, datagram, last_message, acts_of};
+ghost use Rattle.nb_tftp.specs.Asks.{begun, datagram, last_message, acts_of, nothing, sending};
+ghost use Rattle.nb_tftpmsg.specs.Packets.{packet_text, ack, error};
 ghost use Rattle.nb_tftp.specs.Steps.{begun_of, state_of, after_answer, packet_acts, after_packet, bytes_acts, after_bytes, tick_acts, after_tick};
 ghost use Rattle.nb_tftpmsg.specs.Views.{message};
 
-use crate::acts::{ended_by, sending, taken};
+use crate::acts::take_block;
 use crate::answer::{Answer, Phase, end_of_block};
 use crate::causes::timed_out;
-use crate::datagram::{body_of, copied};
+use crate::datagram::body_of;
 use arrayvec::ArrayVec;
 use nb_retry::{Due, Plan, Retry};
-use nb_terms::{Acts, SendTo};
+use nb_terms::Acts;
 use nb_tftpmsg::Tftp;
 use nb_wire::Ip4;
 
@@ -59,55 +60,59 @@ impl State {
     }
 
     /// A datagram's body comes from this port. What is no packet is ignored.
-    pub(crate) fn datagram(&mut self, rec: u32, from: u16, body: &[u8], now: u64) -> Acts
-        ensures acts { result ≡ bytes_acts self.old rec from body.now }
+    pub(crate) fn datagram(&mut self, rec: u32, from: u16, body: &[u8], now: u64, acts: &mut Acts)
+        requires { acts.old ≡ nothing }
+        ensures acts { acts.new ≡ bytes_acts self.old rec from body.now }
         ensures after { self.new ≡ after_bytes self.old rec from body.now now }
     {
-        match Tftp::read(body) {
-            Some(packet) => self.packet(rec, from, &packet, now),
-            None => Acts::none(),
+        if let Some(packet) = Tftp::read(body) {
+            self.packet(rec, from, &packet, now, acts);
         }
     }
 
     /// A packet comes from this port.
-    fn packet(&mut self, rec: u32, from: u16, packet: &Tftp<'_>, now: u64) -> Acts
-        ensures acts { result ≡ packet_acts self.old rec from (message packet.now) }
+    fn packet(&mut self, rec: u32, from: u16, packet: &Tftp<'_>, now: u64, acts: &mut Acts)
+        requires { acts.old ≡ nothing }
+        ensures acts { acts.new ≡ packet_acts self.old rec from (message packet.now) }
         ensures after { self.new ≡ after_packet self.old rec from (message packet.now) now }
     {
         if self.phase.is_over() {
-            return Acts::none();
+            return;
         }
         let answer = self.phase.decide(rec, from, packet);
         self.follow(from, answer, now);
-        self.acts_of(from, answer)
+        self.ask(from, answer, acts);
     }
 
     /// It is this time.
-    pub(crate) fn tick(&mut self, now: u64) -> Acts
-        ensures acts { result ≡ tick_acts self.old now }
+    pub(crate) fn tick(&mut self, now: u64, acts: &mut Acts)
+        requires { acts.old ≡ nothing }
+        ensures acts { acts.new ≡ tick_acts self.old now }
         ensures after { self.new ≡ after_tick self.old now }
     {
         if self.phase.is_over() {
-            return Acts::none();
+            return;
         }
         match self.retry.due(now) {
-            Due::Not => Acts::none(),
-            Due::Again(n) => sending(self.last_message(), Some(n)),
+            Due::Not => {}
+            Due::Again(n) => self.ask_last(Some(n), acts),
             Due::Over => {
                 self.phase = Phase::Over;
-                ended_by(timed_out())
+                acts.over = Some(timed_out());
             }
         }
     }
 
     /// The message that is sent again: the request, or the last block's acknowledgement.
-    pub(crate) fn last_message(&self) -> SendTo
-        ensures { result ≡ last_message (begun_of self.now) (fixed_of self.now.phase) (last_of self.now.phase) }
+    pub(crate) fn ask_last(&self, tried: Option<u8>, acts: &mut Acts)
+        requires { acts.old ≡ nothing }
+        ensures { acts.new ≡ sending (last_message (begun_of self.now) (fixed_of self.now.phase) (last_of self.now.phase)) tried }
     {
         match self.phase {
-            Phase::Taking { port, last } => self.send_to(port, body_of(&Tftp::Ack(last))),
-            _ => self.send_to(self.port, copied(self.request.as_slice())),
+            Phase::Taking { port, last } => self.send_to(port, &ack_bytes(last), acts),
+            _ => self.send_to(self.port, self.request.as_slice(), acts),
         }
+        acts.tried = tried;
     }
 
     /// The state behind an answer.
@@ -128,38 +133,45 @@ impl State {
     }
 
     /// What an answer asks of the caller.
-    fn acts_of(&self, from: u16, answer: Answer) -> Acts
-        ensures { result ≡ acts_of (begun_of self.now) from answer }
+    fn ask(&self, from: u16, answer: Answer, acts: &mut Acts)
+        requires { acts.old ≡ nothing }
+        ensures { acts.new ≡ acts_of (begun_of self.now) from answer }
     {
         match answer {
-            Answer::Ignored => Acts::none(),
-            Answer::Stranger => {
-                let refusal = Tftp::Error {
-                    code: UNKNOWN_TRANSFER,
-                    text: b"",
-                };
-                sending(self.send_to(from, body_of(&refusal)), None)
-            }
-            Answer::Again { block } => {
-                sending(self.send_to(from, body_of(&Tftp::Ack(block))), None)
-            }
+            Answer::Ignored => {}
+            Answer::Stranger => self.send_to(from, &refusal_bytes(UNKNOWN_TRANSFER), acts),
+            Answer::Again { block } => self.send_to(from, &ack_bytes(block), acts),
             Answer::Taken { block, len } => {
-                let ack = self.send_to(from, body_of(&Tftp::Ack(block)));
-                taken(ack, block, len, end_of_block(block, len))
+                self.send_to(from, &ack_bytes(block), acts);
+                take_block(block, len, end_of_block(block, len), acts);
             }
-            Answer::Ended(cause) => ended_by(cause),
+            Answer::Ended(cause) => acts.over = Some(cause),
         }
     }
 
-    fn send_to(&self, to_port: u16, body: ArrayVec<u8, 1480>) -> SendTo
-        ensures { result ≡ datagram (begun_of self.now) to_port body.items }
+    /// A message is sent, and nothing else.
+    fn send_to(&self, to_port: u16, body: &[u8], acts: &mut Acts)
+        requires plain { acts.old ≡ nothing }
+        requires fits { length body.now ≤ 1480 }
+        ensures { acts.new ≡ sending (datagram (begun_of self.now) to_port body.now) None }
     {
-        SendTo {
-            proto: UDP,
-            to: self.server,
-            to_port,
-            own_port: self.own_port,
-            body,
-        }
+        acts.sends
+            .add(UDP, self.server, to_port, self.own_port, body, b"");
     }
+}
+
+/// The packet `Ack(n)` (RFC 1350, section 5).
+fn ack_bytes(n: u16) -> [u8; 4]
+    ensures { result ≡ packet_text (ack n) }
+{
+    let [high, low] = n.to_be_bytes();
+    [0, 4, high, low]
+}
+
+/// The packet `Error` of this code and no text (RFC 1350, section 5).
+fn refusal_bytes(code: u16) -> [u8; 5]
+    ensures { result ≡ packet_text (error code []) }
+{
+    let [high, low] = code.to_be_bytes();
+    [0, 5, high, low, 0]
 }

@@ -1,6 +1,5 @@
 //! The transfer of one file.
 
-use crate::acts::sending;
 use crate::state::State;
 use nb_terms::Acts;
 use nb_wire::Ip4;
@@ -56,11 +55,12 @@ impl Transfer {
         ensures sound { IsSound 0 acts.new }
     {
         if path.len() > MAX_PATH {
-            *acts = Acts::none();
+            acts.clear();
             return Err(TooLong);
         }
         let state = State::begun(server, port, own_port, path, now);
-        *acts = sending(state.last_message(), Some(1));
+        acts.clear();
+        state.ask_last(Some(1), acts);
         Ok(Transfer { state })
     }
 
@@ -74,7 +74,8 @@ impl Transfer {
         // After its end it ignores every call.
         ensures ended { (b : Begun) (start : ℕ) (h : List Entry) → Stands b start self.old h → is_ended h ≡ true → Stands b start self.new h × (acts.new ≡ nothing) }
     {
-        *acts = self.state.datagram(rec, src_port, body, now);
+        acts.clear();
+        self.state.datagram(rec, src_port, body, now, acts);
     }
 
     /// It is this time, in milliseconds since the start of the run.
@@ -83,6 +84,7 @@ impl Transfer {
         ensures sound { IsSound 0 acts.new }
         ensures ended { (b : Begun) (start : ℕ) (h : List Entry) → Stands b start self.old h → is_ended h ≡ true → Stands b start self.new h × (acts.new ≡ nothing) }
     {
-        *acts = self.state.tick(now);
+        acts.clear();
+        self.state.tick(now, acts);
     }
 }

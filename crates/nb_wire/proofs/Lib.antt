@@ -1,2 +1,3 @@
 pub mod BytesLaws
 pub mod ChecksumLaws
+pub mod TurnedLaws

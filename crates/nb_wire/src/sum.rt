@@ -11,19 +11,53 @@ pub fn sum16(first: &[u8], second: &[u8]) -> u16
     complement(total(first) + total(second))
 }
 
-// In a sum of 16-bit words a carry counts as 1, so four bytes may be added as one number.
+// In a sum of 16-bit words a carry counts as 1, so eight bytes may be added as one number; and 256 times
+// a word is the word with its bytes turned round, so the sum may be taken in the other order of bytes.
 fn total(bytes: &[u8]) -> u64
     requires { length bytes.now ≤ 131072 }
     ensures sum { SameSum result (sum (words bytes.now)) }
     ensures room { result < 2 ^ 50 }
 {
-    let mut total = 0;
+    let mut total: u128 = 0;
     let mut rest = bytes;
-    while let [a, b, c, d, after @ ..] = rest {
-        total += u64::from(u32::from_be_bytes([*a, *b, *c, *d]));
+    while let Some((chunk, after)) = rest.split_first_chunk::<8>() {
+        total += u128::from(turned(chunk));
         rest = after;
     }
-    total + u64::from(last_words(rest))
+    256 * folded(total) + rest_words(rest)
+}
+
+// The sum of four words with their bytes turned round, carries counted as 1.
+fn turned(chunk: &[u8; 8]) -> u64
+    ensures { SameSum (256 * result) (sum (words chunk.now)) }
+{
+    u64::from_le_bytes(*chunk)
+}
+
+fn folded(total: u128) -> u64
+    requires { total < 2 ^ 83 }
+    ensures same { result % 65535 ≡ total % 65535 }
+    ensures zero { result ≡ 0 → total ≡ 0 }
+    ensures none { total ≡ 0 → result ≡ 0 }
+    ensures room { result < 2 ^ 35 }
+{
+    let low = total % 0x1_0000_0000;
+    let mid = total / 0x1_0000_0000 % 0x1_0000_0000;
+    let high = total / 0x1_0000_0000_0000_0000;
+    (low + mid + high) as u64
+}
+
+fn rest_words(rest: &[u8]) -> u64
+    requires { length rest.now < 8 }
+    ensures room { result < 2 ^ 40 }
+    ensures same { SameSum result (sum (words rest.now)) }
+{
+    match rest {
+        [a, b, c, d, after @ ..] => {
+            u64::from(u32::from_be_bytes([*a, *b, *c, *d])) + u64::from(last_words(after))
+        }
+        _ => u64::from(last_words(rest)),
+    }
 }
 
 fn last_words(rest: &[u8]) -> u32

@@ -1,7 +1,11 @@
+use Rattle.nb_graph.specs.Lives.{here}
+use Rattle.nb_graph.specs.Deeds.{LetsAllGo, none_held}
+use Rattle.nb_ledger.proofs.RunLemmas.{Given-none}
+use Rattle.std.proofs.Common.{refl, ◌∷◌}
 use Rattle.std.proofs.Common.{◌≡◌, arith}
 use Rattle.nb_ledger.specs.Ledger.{holds}
 use Rattle.nb_ledger.proofs.PortLemmas.{dead_holds}
-use Rattle.nb_graph.proofs.AliveLemmas.{RunFor-none, RunFor-trans}
+use Rattle.nb_graph.proofs.AliveLemmas.{RunFor-turned, RunFor-none, RunFor-trans}
 use Rattle.nb_graph.proofs.EndLemmas.{all-above, LetsGo-refl, LetsGo-trans}
 use Rattle.nb_graph.proofs.inner.Inner.+let_above_go.Goals as goal
 
@@ -23,7 +27,7 @@ returns-in-Some-clause-none g t c =
     (λ y a. c.let_above_go.ensures.none y a)
 
 pub returns-in-None-clause-runs : goal.returns-in-None-clause-runs
-returns-in-None-clause-runs g t c = RunFor-none _ _ _ _ _
+returns-in-None-clause-runs g t c = RunFor-turned (λ st. LetsAllGo ∷ st) none_held (Given-none _) (λ st. refl) tt (RunFor-none _ _ _ _ _ here)
 
 pub returns-in-None-clause-lets : goal.returns-in-None-clause-lets
 returns-in-None-clause-lets g t c = LetsGo-refl _

@@ -1,4 +1,12 @@
-use Rattle.std.proofs.Common.{◌+◌, length}
+use Rattle.std.proofs.Common.{◌+◌, ◌≤◌, length, IfSome}
+use Rattle.std.specs.Option.{option_map_or}
+use Rattle.std.specs.Vec.{vec_capacity}
+use Rattle.nb_ledger.specs.GraphRun.{IsOpen}
+use Rattle.nb_ledger.specs.Ledger.{port}
+use Rattle.nb_graph.specs.Lively.{Grows}
+use Rattle.nb_graph.specs.Calm.{IsSteady}
+use Rattle.nb_graph.specs.Again.{Gives}
+use Rattle.nb_graph.specs.Trace.{bytes_of, said}
 use Rattle.nb_ledger.specs.Ledger.{rank}
 use Rattle.nb_graph.specs.Lively.{reach}
 use Rattle.nb_graph.proofs.inner.Inner.+lively.Given as goal
@@ -7,7 +15,7 @@ abbrev pub decreases-enter_up : goal.decreases-enter_up
 decreases-enter_up g l = reach (rank l.self.now.book l.at.obj.0) (length l.msg.now.first.now + length l.msg.now.second.now) 10
 
 abbrev pub decreases-deliver : goal.decreases-deliver
-decreases-deliver g l = reach (rank l.self.now.book l.at.obj.0) (length l.msg.now.first.now + length l.msg.now.second.now) 8
+decreases-deliver g l = reach (rank l.self.now.book l.at.obj.0) (length l.msg.now.first.now + length l.msg.now.second.now) 9
 
 abbrev pub decreases-after_up : goal.decreases-after_up
 decreases-after_up g l = reach (rank l.self.now.book l.at.obj.0) (length l.msg.now.first.now + length l.msg.now.second.now) 7
@@ -27,5 +35,17 @@ decreases-send_up g l = reach (rank l.self.now.book l.id.0) 0 3
 abbrev pub decreases-pass_up : goal.decreases-pass_up
 decreases-pass_up g l = reach (rank l.self.now.book l.at.obj.0) 0 2
 
-abbrev pub decreases-go_on : goal.decreases-go_on
-decreases-go_on g l = reach (rank l.self.now.book l.at.obj.0) (length l.msg.now.first.now + length l.msg.now.second.now) 1
+abbrev pub decreases-give : goal.decreases-give
+decreases-give g l = reach (rank l.self.now.book l.at.obj.0) (length l.msg.now.first.now + length l.msg.now.second.now) 8
+
+abbrev pub decreases-deliver-loop-rest : goal.decreases-deliver-loop-rest
+decreases-deliver-loop-rest g l = option_map_or (λ r. 1 + length r.first.now + length r.second.now) l.rest 0
+
+abbrev pub invariant-deliver-loop-rest : goal.invariant-deliver-loop-rest
+invariant-deliver-loop-rest g l = record {
+  gives : Gives g.N.Node.stands (bytes_of g.N.Load.Parts.first g.N.Load.Parts.second) l.now l.at (said l.msg) l.initial.self.book l.self.book l.initial.self.nodes.items l.self.nodes.items (g.O.Outside.events l.initial.out) (g.O.Outside.events l.out) l.rest;
+  less : IfSome l.rest (λ r. length r.first.now + length r.second.now ≤ length l.msg.first.now + length l.msg.second.now);
+  opened : IfSome l.rest (λ r. IsOpen (port l.self.book l.at.obj.0 l.at.slot));
+  grows : Grows l.initial.self.book l.self.book;
+  steady : IsSteady g.N.Node.rank_of l.self.book l.self.nodes.items (vec_capacity l.self.nodes);
+}

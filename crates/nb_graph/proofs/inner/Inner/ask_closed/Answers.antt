@@ -17,7 +17,7 @@ returns-clause-manned g c =
     IsManned-node c.place-place.result c.on_close.new.self c.index_mut.result.now (omega (arith, h, c.place-place.ensures)) c.index_mut.ensures.value c.on_close.ensures.rank c.requires.manned
 
 pub returns-clause-lives : goal.returns-clause-lives
-returns-clause-lives g c =
+returns-clause-lives g c = λ u.
     Lives-seat g.N.Node.stands c.args.now _ _ _ c.args.at.obj.0 c.place-place.result (closed c.args.at.slot c.args.cause.now c.args.now c.on_close.new.fx) c.index_mut.result.now c.on_close.new.self c.requires.manned c.requires.lives c.place-place.ensures c.index_mut.ensures.value
     (λ w v k. k.0 refl)
     (λ x w v n k. k.1 n)

@@ -22,7 +22,7 @@ returns-in-Err-clause-manned g c =
     IsManned-node c.place-place.result c.on_down.new.self c.index_mut.result.now (omega (arith, h, c.place-place.ensures)) c.index_mut.ensures.value c.on_down.ensures.rank c.requires.manned
 
 pub returns-in-Ok-clause-lives : goal.returns-in-Ok-clause-lives
-returns-in-Ok-clause-lives g c =
+returns-in-Ok-clause-lives g c = λ u.
     Calls-seat g.N.Node.stands c.args.now _ _ _ c.args.id.0 c.place-place.result (λ done fx. down (said c.args.msg.now) c.args.now done fx) true c.on_down.new.fx c.index_mut.result.now c.on_down.new.self c.requires.manned c.requires.lives c.place-place.ensures c.index_mut.ensures.value
     (λ w v k. k.0 refl)
     (λ x w v n k. k.1 n)
@@ -31,7 +31,7 @@ returns-in-Ok-clause-lives g c =
     (Calms-call _ _ c.args.id.0 (down (said c.args.msg.now) c.args.now true c.on_down.new.fx) _ _ (λ k. refl) (λ k. refl))
 
 pub returns-in-Err-clause-lives : goal.returns-in-Err-clause-lives
-returns-in-Err-clause-lives g c =
+returns-in-Err-clause-lives g c = λ u.
     Calls-seat g.N.Node.stands c.args.now _ _ _ c.args.id.0 c.place-place.result (λ done fx. down (said c.args.msg.now) c.args.now done fx) false c.on_down.new.fx c.index_mut.result.now c.on_down.new.self c.requires.manned c.requires.lives c.place-place.ensures c.index_mut.ensures.value
     (λ w v k. k.0 refl)
     (λ x w v n k. k.1 n)

@@ -1,6 +1,5 @@
-use Rattle.nb_graph.specs.Accounts.{bytes_of}
 use Rattle.std.proofs.Common.{refl, sym, ◌∙◌, ap, subst, true, false, [], ◌++◌}
-use Rattle.nb_graph.specs.Trace.{time, lent, Owes}
+use Rattle.nb_graph.specs.Trace.{time, lent, Owes, bytes_of}
 use Rattle.nb_graph.proofs.CallLemmas.{Asks-call, Calms-call}
 use Rattle.nb_graph.proofs.SeatLemmas.{Calls-seat}
 use Rattle.std.proofs.Common.{arith}
@@ -30,7 +29,7 @@ returns-in-Err-clause-manned g c =
     IsManned-node c.place-place.result c.on_time.new.self c.index_mut.result.now (omega (arith, h, c.place-place.ensures)) c.index_mut.ensures.value c.on_time.ensures.rank c.requires.manned
 
 pub returns-in-Ok-clause-lives : goal.returns-in-Ok-clause-lives
-returns-in-Ok-clause-lives g c =
+returns-in-Ok-clause-lives g c = λ u.
     Calls-seat g.N.Node.stands c.args.now _ _ _ c.args.id.0 c.place-place.result (λ done fx. time c.args.now done fx) true c.on_time.new.fx c.index_mut.result.now c.on_time.new.self c.requires.manned c.requires.lives c.place-place.ensures c.index_mut.ensures.value
     (λ w v k. let b = k.0 refl in b.1 ∙ ap (λ z. z ++ lent c.on_time.new.fx) (sym b.0))
     (λ x w v n k. k.1 n)
@@ -39,7 +38,7 @@ returns-in-Ok-clause-lives g c =
     (Calms-call _ _ c.args.id.0 (time c.args.now true c.on_time.new.fx) _ _ (λ k. refl) (λ k. refl), Asks-call (bytes_of g.N.Load.Parts.first g.N.Load.Parts.second) c.args.id.0 (time c.args.now true c.on_time.new.fx) _ (λ k. refl))
 
 pub returns-in-Err-clause-lives : goal.returns-in-Err-clause-lives
-returns-in-Err-clause-lives g c =
+returns-in-Err-clause-lives g c = λ u.
     Calls-seat g.N.Node.stands c.args.now _ _ _ c.args.id.0 c.place-place.result (λ done fx. time c.args.now done fx) false c.on_time.new.fx c.index_mut.result.now c.on_time.new.self c.requires.manned c.requires.lives c.place-place.ensures c.index_mut.ensures.value
     (λ w v k. let b = k.0 refl in b.1 ∙ ap (λ z. z ++ lent c.on_time.new.fx) (sym b.0))
     (λ x w v n k. k.1 n)

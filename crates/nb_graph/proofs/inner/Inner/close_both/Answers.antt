@@ -1,8 +1,11 @@
+use Rattle.nb_graph.specs.Ports.{shut_of}
+use Rattle.nb_ledger.specs.GraphRun.{port_but}
+use Rattle.nb_ledger.specs.Ledger.{port}
+use Rattle.std.proofs.Common.{ap, sym}
 use Rattle.std.proofs.Common.{inl, inr}
 use Rattle.nb_ledger.specs.declared.event.GraphEvent.TheVariants.{Closed, Entered}
 use Rattle.nb_ledger.specs.declared.event.Way.TheVariants.{Close}
-use Rattle.nb_graph.specs.Deeds.{Shut, MustHear}
-use Rattle.nb_graph.specs.Lives.{here}
+use Rattle.nb_graph.specs.Deeds.{MustUnplug as Unlinks, Closes, MustShut, Shut, MustHear}
 use Rattle.nb_graph.proofs.LivesLemmas.{Lives-both, Lives-note, Lives-say, Lives-then}
 use Rattle.nb_graph.proofs.CallLemmas.{Calms-half}
 use Rattle.nb_graph.proofs.SeatLemmas.{Loses-same}
@@ -49,9 +52,9 @@ returns-clause-lives g c = λ now.
     let nodes = c.args.self.now.nodes.items in
     let cause = c.args.cause.now in
     let p = c.args.peer in
-    Lives-say (Lives-both (Lives-note g.N.Node.stands now _ _ here here (Closed c.args.at cause) (Loses-same nodes c.close_first.ensures.sets.objects) (λ x t. refl) (λ st. inl refl) {i = λ _. Unit {0}} tt)
-    (Lives-both (Lives-note g.N.Node.stands now _ _ here (λ st. Shut p cause ∷ st) (Closed p cause) (Loses-same nodes c.close_peer.ensures.sets.objects) (λ x t. refl) (λ st. inr refl) {i = λ _. Unit {0}} tt)
-    (Lives-note g.N.Node.stands now _ _ (λ st. Shut p cause ∷ st) (λ st. MustHear p cause ∷ st) (Entered p Close) (Loses-same nodes c.enter_closed.ensures.sets.objects) (λ x t. refl) (λ st. (cause, st, refl, refl)) {i = λ _. Unit {0}} tt)
+    Lives-say (Lives-both (Lives-note g.N.Node.stands now _ _ (λ st. Closes c.args.at cause ∷ st) (λ st. MustShut p cause ∷ Unlinks c.args.at p ∷ st) (Closed c.args.at cause) (Loses-same nodes c.close_first.ensures.sets.objects) (λ x k. c.close_first.ensures.sets.port_set x k ∙ ap (λ v. port_but c.args.at (shut_of v) (port c.args.self.now.book) x k) (sym c.requires.linked)) c.close_first.ensures.given (λ x t. refl) (λ st. inr (inl (p, st, refl, refl))) {i = λ _. Unit {0}} tt)
+    (Lives-both (Lives-note g.N.Node.stands now _ _ (λ st. MustShut p cause ∷ Unlinks c.args.at p ∷ st) (λ st. Shut p cause ∷ Unlinks c.args.at p ∷ st) (Closed p cause) (Loses-same nodes c.close_peer.ensures.sets.objects) (λ x k. c.close_peer.ensures.sets.port_set x k ∙ ap (λ v. port_but p (shut_of v) (port c.close_first.new.self) x k) (sym (other-end c.requires.steady.whole.links c.requires.linked c.close_first.ensures.sets))) c.close_peer.ensures.given (λ x t. refl) (λ st. inr (inr (Unlinks c.args.at p ∷ st, refl, refl))) {i = λ _. Unit {0}} tt)
+    (Lives-note g.N.Node.stands now _ _ (λ st. Shut p cause ∷ Unlinks c.args.at p ∷ st) (λ st. MustHear p cause ∷ Unlinks c.args.at p ∷ st) (Entered p Close) (Loses-same nodes c.enter_closed.ensures.sets.objects) c.enter_closed.ensures.sets.same_port c.enter_closed.ensures.given (λ x t. refl) (λ st. (cause, Unlinks c.args.at p ∷ st, refl, refl)) {i = λ _. Unit {0}} tt)
     (λ x w v k. (w, refl, k)))
     (λ x w v k. (w, refl, k)))
     (Calms-half _ _ _ c.args.at p cause c.requires.steady.whole.links c.requires.linked (returns-clause-half g c))

@@ -19,7 +19,7 @@ returns-clause-manned g c =
     IsManned-node c.place-place.result c.regain.new.self c.index_mut.result.now (omega (arith, h, c.place-place.ensures)) c.index_mut.ensures.value c.regain.ensures.rank c.requires.manned
 
 pub returns-clause-lives : goal.returns-clause-lives
-returns-clause-lives g c = λ now.
+returns-clause-lives g c = λ now u.
     Lives-seat g.N.Node.stands now _ _ _ c.args.id.0 c.place-place.result (regain c.args.load) c.index_mut.result.now c.regain.new.self c.requires.manned c.requires.lives c.place-place.ensures c.index_mut.ensures.value
     (λ w v k. k.0 refl)
     (λ x w v n k. (k.1 n).1)

@@ -1,10 +1,10 @@
+use Rattle.nb_graph.specs.Deeds.{Settles as Frees, Wants}
 use Rattle.nb_graph.proofs.AccountLemmas.{Mild-trans}
 use Rattle.nb_graph.proofs.MildLemmas.{Mild-settle}
 use Rattle.std.proofs.Common.{arith, refl, ap, sym, subst, ◌∙◌, [], ◌∷◌, append-nil}
 use Rattle.nb_graph.proofs.OrderLemmas.{Runs-frees}
 use Rattle.nb_graph.specs.Order.{LetsHoldsGo, frees, none, one}
 use Rattle.nb_ledger.specs.declared.event.GraphEvent.TheVariants.{LetGo}
-use Rattle.nb_graph.specs.Lives.{here}
 use Rattle.nb_graph.proofs.AccountLemmas.{Calms-plain}
 use Rattle.nb_graph.proofs.MildLemmas.{Lives-next, Lives-plain, Mild-holds}
 use Rattle.nb_graph.proofs.SeatLemmas.{Loses-same, Loses-trans}
@@ -21,7 +21,7 @@ returns-clause-runs g c = record {
   added = LetGo c.args.id ∷ c.settle.ensures.settles.settles.added;
   runs = (IsRun-let_go _ _ _ _ _ _ c.args.id (IsQuiet-holds c.let_go.ensures.sets c.requires.graph.quiet) c.let_go.ensures.told c.let_go.ensures.step c.settle.ensures.settles.settles).1;
   lives = λ now.
-      Lives-next (Lives-plain g.N.Node.stands now _ _ here here (LetGo c.args.id) (Loses-same c.args.self.now.nodes.items c.let_go.ensures.sets.objects) (λ x t. refl) (λ st. refl) (Calms-plain _ _ _ (LetGo c.args.id) (Mild-holds c.let_go.ensures.sets) (λ p a. refl))) (c.settle.ensures.settles.lives now);
+      Lives-next (Lives-plain g.N.Node.stands now _ _ (λ st. Wants (LetGo c.args.id) ∷ st) (λ st. Frees c.args.id.0 ∷ st) (LetGo c.args.id) (Loses-same c.args.self.now.nodes.items c.let_go.ensures.sets.objects) c.let_go.ensures.sets.same_port c.let_go.ensures.given (λ x t. refl) (λ st. (st, refl, refl)) (Calms-plain _ _ _ (LetGo c.args.id) (Mild-holds c.let_go.ensures.sets) (λ p a. refl))) (c.settle.ensures.settles.lives now);
   lets = subst LetsHoldsGo (ap (λ l. LetGo c.args.id ∷ l) (append-nil (frees c.settle.ensures.settles.gone) ∙ sym c.settle.ensures.settles.frees)) (one c.args.id c.settle.ensures.settles.gone [] none);
 }
 

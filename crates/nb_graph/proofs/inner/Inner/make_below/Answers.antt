@@ -1,10 +1,11 @@
-use Rattle.std.proofs.Common.{◌≡◌, ℕ, ◌<◌, refl, sym, ◌∙◌, subst, true, false, [], ◌∷◌, ◌++◌}
+use Rattle.nb_ledger.proofs.RunLemmas.{Given-append}
+use Rattle.std.proofs.Common.{◌≡◌, ℕ, ◌<◌, refl, ap, sym, ◌∙◌, subst, true, false, [], ◌∷◌, ◌++◌}
 use Rattle.std.proofs.lemmas.Bool.{false≢true}
 use Rattle.nb_ledger.specs.Ledger.{Ledger, live, busy, port, rank, place}
 use Rattle.nb_ledger.specs.Changes.{Adds}
 use Rattle.nb_ledger.specs.declared.port.Port.{Port}
-use Rattle.nb_ledger.specs.GraphRun.{new_ports}
-use Rattle.nb_ledger.specs.declared.port.PortState.TheVariants.{Open}
+use Rattle.nb_ledger.specs.GraphRun.{new_ports, port_but}
+use Rattle.nb_ledger.specs.declared.port.PortState.TheVariants.{Open, Linked}
 use Rattle.nb_ledger.proofs.PortLemmas.{live_by}
 use Rattle.nb_graph.proofs.MannedLemmas.{IsManned-same}
 use Rattle.nb_graph.proofs.WholeLemmas.{but_same, but_other, ports_other, ports_same, IsWhole-plug, IsLinked-add, CountedBut-add}
@@ -48,7 +49,7 @@ returns-clause-lives g c = λ now.
     let manned = rw more at c.add-id.ensures.manned in
     record {
       lively = Lively-make _ _ _ _ _ _ _ c.args.at _ _ _ a c.add-id.ensures.fresh s.1 s.2 (still_open _ _ c.args.at _ _ a c.add-id.ensures.fresh c.requires.free) (fresh_open _ _ _ _ a) c.add-id.ensures.told c.add-id.ensures.step c.plug.ensures.told c.plug.ensures.step;
-      lives = rw more (Lives-make g.N.Node.stands now (busy c.args.self.now.book) _ _ c.add-id.result _ c.args.at (record { obj = c.add-id.result; slot = 0 }) c.args.node c.requires.stands (dead-busy _ _ c.add-id.ensures.fresh) (made-seat c.plug.new.self c.args.node c.requires.steady.manned a manned c.add-id.ensures.place same) (other-seat c.plug.new.self c.args.node c.requires.steady.manned a manned c.add-id.ensures.place same) (Livens-make _ _ _ _ _ c.args.at (record { obj = c.add-id.result; slot = 0 }) _ _ a c.add-id.ensures.fresh c.add-id.ensures.serial s.1 s.2 c.requires.free c.requires.slot refl c.plug.ensures.made.0 (another _ c.args.at _ c.add-id.ensures.fresh c.requires.free)));
+      lives = rw more (Lives-make g.N.Node.stands now (busy c.args.self.now.book) _ _ c.add-id.result _ c.args.at (record { obj = c.add-id.result; slot = 0 }) c.args.node c.requires.stands (dead-busy _ _ c.add-id.ensures.fresh) (λ x k. s.2.port_set x k ∙ ap (λ h. port_but (record { obj = c.add-id.result; slot = 0 }) (Linked c.args.at) h x k) (λ i. λ y j. (s.1.port_set y j ∙ ap (λ h. port_but c.args.at (Linked (record { obj = c.add-id.result; slot = 0 })) h y j) (λ n. λ z m. a.port_set z m n)) i)) (Given-append _ _ _ _ _ c.add-id.ensures.given c.plug.ensures.given) (made-seat c.plug.new.self c.args.node c.requires.steady.manned a manned c.add-id.ensures.place same) (other-seat c.plug.new.self c.args.node c.requires.steady.manned a manned c.add-id.ensures.place same) (Livens-make _ _ _ _ _ c.args.at (record { obj = c.add-id.result; slot = 0 }) _ _ a c.add-id.ensures.fresh c.add-id.ensures.serial s.1 s.2 c.requires.free c.requires.slot refl c.plug.ensures.made.0 (another _ c.args.at _ c.add-id.ensures.fresh c.requires.free)) refl);
     }
 
 pub returns-clause-steady : goal.returns-clause-steady

@@ -2,9 +2,11 @@ use Rattle.std.proofs.Common.{refl, sym, ◌∙◌, [], ◌∷◌}
 use Rattle.nb_ledger.specs.declared.event.GraphEvent.TheVariants.{Freed}
 use Rattle.nb_ledger.proofs.SettleLemmas.{Settles-free, Settles-stay}
 use Rattle.nb_graph.specs.Lives.{here}
+use Rattle.nb_graph.specs.Deeds.{Settles as Frees, stays}
+use Rattle.nb_ledger.proofs.RunLemmas.{Given-none}
 use Rattle.nb_graph.proofs.SeatLemmas.{Loses-refl}
-use Rattle.nb_graph.proofs.LivesLemmas.{Lives-none}
-use Rattle.nb_graph.proofs.AccountLemmas.{Calms-none, Calms-plain}
+use Rattle.nb_graph.proofs.LivesLemmas.{Lives-turn}
+use Rattle.nb_graph.proofs.AccountLemmas.{Calms-turn, Calms-plain}
 use Rattle.nb_graph.proofs.MildLemmas.{Lives-plain, Mild-settle}
 use Rattle.nb_graph.proofs.inner.Inner.settle.Goals as goal
 
@@ -17,7 +19,7 @@ returns-then-is_unused-clause-settles g c =
       gone = c.args.id ∷ [];
       frees = refl;
       loses = c.free.ensures.loses;
-      lives = λ now. Lives-plain g.N.Node.stands now _ _ here here (Freed c.args.id) c.free.ensures.loses (λ x t. refl) (λ st. refl) (Calms-plain _ _ _ (Freed c.args.id) (Mild-settle s) (λ p a. refl));
+      lives = λ now. Lives-plain g.N.Node.stands now _ _ (λ st. Frees c.args.id.0 ∷ st) here (Freed c.args.id) c.free.ensures.loses c.free.ensures.removes.port_set c.free.ensures.given (λ x t. refl) (λ st. refl) (Calms-plain _ _ _ (Freed c.args.id) (Mild-settle s) (λ p a. refl));
     }
 
 pub returns-else-is_unused-clause-settles : goal.returns-else-is_unused-clause-settles
@@ -27,5 +29,5 @@ returns-else-is_unused-clause-settles g c = record {
   gone = [];
   frees = refl;
   loses = Loses-refl _;
-  lives = λ now. Lives-none g.N.Node.stands now _ (Calms-none _ _);
+  lives = λ now. Lives-turn g.N.Node.stands now _ _ (λ st. Frees c.args.id.0 ∷ st) here (stays c.args.id.0) (Given-none _) (λ st. refl) tt (Calms-turn _ _ _);
 }

@@ -1,3 +1,6 @@
+use Rattle.nb_graph.specs.Deeds.{Settles as Frees}
+use Rattle.nb_graph.proofs.LivesLemmas.{Lives-above, Lives-opened}
+use Rattle.std.proofs.Common.{min, max, ap, ◌∷◌}
 use Rattle.std.proofs.Common.{◌≡◌, ◌++◌, arith, ◌∙◌}
 use Rattle.nb_graph.proofs.OrderLemmas.{frees-append}
 use Rattle.nb_graph.proofs.ShrinkLemmas.{SettlesTwo-pair, IsWhole-pair, live-settle}
@@ -15,7 +18,7 @@ returns-clause-settles g c = record {
   settles = SettlesTwo-pair c.requires.order c.settle.ensures.settles.settles c.settle-2.ensures.settles.settles;
   gone = c.settle.ensures.settles.gone ++ c.settle-2.ensures.settles.gone;
   frees = rw (c.settle.ensures.settles.frees, c.settle-2.ensures.settles.frees) (frees-append c.settle.ensures.settles.gone c.settle-2.ensures.settles.gone);
-  lives = λ now. Lives-next (c.settle.ensures.settles.lives now) (c.settle-2.ensures.settles.lives now);
+  lives = λ now. Lives-opened (λ st. let less = c.requires.order in let e : min c.args.low.0 c.args.high.0 ≡ c.args.low.0 = omega (arith, less) in let f : max c.args.low.0 c.args.high.0 ≡ c.args.high.0 = omega (arith, less) in ap (λ z. Frees z ∷ Frees (max c.args.low.0 c.args.high.0) ∷ st) e ∙ ap (λ z. Frees c.args.low.0 ∷ Frees z ∷ st) f) (Lives-next (Lives-above (λ st. Frees c.args.high.0 ∷ st) (c.settle.ensures.settles.lives now)) (c.settle-2.ensures.settles.lives now));
 }
 
 pub returns-clause-steady : goal.returns-clause-steady

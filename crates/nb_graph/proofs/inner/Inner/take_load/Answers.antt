@@ -4,4 +4,7 @@ use Rattle.nb_graph.proofs.OwingLemmas.{Back-stays}
 use Rattle.nb_graph.proofs.inner.Inner.take_load.Goals as goal
 
 pub returns-in-None-clause-lives : goal.returns-in-None-clause-lives
-returns-in-None-clause-lives g c = λ now. rw c.in-None.is (Lives-weaken (Back-stays _ _) (λ ds k. k) (Lives-none _ now _ (Calms-none _ _)))
+returns-in-None-clause-lives g c = λ now u. rw c.in-None.is (Lives-weaken (Back-stays _ _) (λ ds k. k) (Lives-none _ now _ (Calms-none _ _)))
+
+pub returns-in-Some-clause-lives : goal.returns-in-Some-clause-lives
+returns-in-Some-clause-lives g c = λ now u. rw c.in-Some.is (c.give_back.ensures.lives now u)

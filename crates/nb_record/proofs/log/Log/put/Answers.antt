@@ -6,13 +6,11 @@ use Rattle.nb_record.proofs.LogLemmas.{Puts-same}
 use Rattle.nb_record.proofs.log.Log.put.Goals as goal
 
 pub returns-in-Step : goal.returns-in-Step
-unfolding out_text
-returns-in-Step c =
-    Puts-same _ _ _ _ (ap (λ (x : List ℕ). record_text 0x81 x) c.to_be_bytes.ensures ∙ sym (ap (λ (o : OutRec). out_text (out_of o)) c.in-Step.is)) c.put_record.ensures
+returns-in-Step c = Puts-same _ _ _ _ (sym (ap (λ (o : OutRec). out_text (out_of o)) c.in-Step.is)) c.put_step.ensures
 
 pub returns-in-Frame : goal.returns-in-Frame
 unfolding out_text
-returns-in-Frame c = Puts-same _ _ _ _ (sym (ap (λ (o : OutRec). out_text (out_of o)) c.in-Frame.is)) c.put_record-in-Frame.ensures
+returns-in-Frame c = Puts-same _ _ _ _ (sym (ap (λ (o : OutRec). out_text (out_of o)) c.in-Frame.is)) c.put_record.ensures
 
 pub returns-in-Text : goal.returns-in-Text
 unfolding out_text

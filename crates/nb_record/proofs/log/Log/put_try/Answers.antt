@@ -1,9 +1,5 @@
-use Rattle.std.proofs.Common.{refl}
-use Rattle.nb_defs.specs.Records.{out_text}
 use Rattle.nb_record.proofs.LogLemmas.{Puts-same}
-use Rattle.nb_record.proofs.SpellingLemmas.{record_same}
 use Rattle.nb_record.proofs.log.Log.put_try.Goals as goal
 
 pub returns : goal.returns
-unfolding out_text
-returns c = Puts-same _ _ _ _ (record_same _ _ _ _ _ c.to_be_bytes.ensures refl) c.put_parts.ensures
+returns c = Puts-same _ _ _ _ c.try_bytes.ensures c.add.ensures

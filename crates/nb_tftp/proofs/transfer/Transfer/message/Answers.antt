@@ -11,12 +11,12 @@ use Rattle.nb_tftp.proofs.transfer.Transfer.message.Goals as goal
 
 pub returns-clause-stands : goal.returns-clause-stands
 returns-clause-stands c = λ b start h stands unended.
-    came_goes_on b start c.self.inside.state c.datagram.new.self h (received c.args.rec c.args.src_port c.args.body.now) c.args.now c.datagram.result c.datagram.ensures.acts c.datagram.ensures.after (λ i. omega (arith, c.type_inv.body i))
+    came_goes_on b start c.self.inside.state c.datagram.new.self h (received c.args.rec c.args.src_port c.args.body.now) c.args.now c.datagram.new.acts c.datagram.ensures.acts c.datagram.ensures.after (λ i. omega (arith, c.type_inv.body i))
     (subst (λ (x : State). Stands b start x h) (sym c.self.view_is) stands) unended
 
 pub returns-clause-ended : goal.returns-clause-ended
 returns-clause-ended c = λ b start h stands ended.
-    came_stays b start c.self.inside.state c.datagram.new.self h c.args.rec c.args.src_port c.args.body.now c.args.now c.datagram.result c.datagram.ensures.acts c.datagram.ensures.after
+    came_stays b start c.self.inside.state c.datagram.new.self h c.args.rec c.args.src_port c.args.body.now c.args.now c.datagram.new.acts c.datagram.ensures.acts c.datagram.ensures.after
     (subst (λ (x : State). Stands b start x h) (sym c.self.view_is) stands) ended
 
 pub returns-clause-sound : goal.returns-clause-sound

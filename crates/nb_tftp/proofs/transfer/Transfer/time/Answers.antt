@@ -9,7 +9,7 @@ use Rattle.nb_tftp.proofs.transfer.Transfer.time.Goals as goal
 
 pub returns-clause-stands : goal.returns-clause-stands
 returns-clause-stands c = λ b start h stands unended.
-    tick_goes_on b start c.self.inside.state c.tick.new.self h c.args.now c.tick.result c.tick.ensures.acts c.tick.ensures.after c.ranges.now.fits
+    tick_goes_on b start c.self.inside.state c.tick.new.self h c.args.now c.tick.new.acts c.tick.ensures.acts c.tick.ensures.after c.ranges.now.fits
     (subst (λ (x : State). Stands b start x h) (sym c.self.view_is) stands) unended
 
 pub returns-clause-sound : goal.returns-clause-sound

@@ -1,0 +1,27 @@
+-- A message given again and again: one round, and those that come then.
+use Rattle.nb_ledger.specs.Flat.{Notice}
+use Rattle.std.proofs.Common.{◌+◌, ◌<◌, ◌≤◌, IfSome, arith, length, ℕ, List, Option, Some, None}
+use Rattle.nb_ledger.specs.declared.message.Msg.{Msg}
+use Rattle.nb_ledger.specs.declared.port.Port.{Port}
+use Rattle.nb_ledger.specs.Ledger.{Ledger}
+use Rattle.nb_graph.specs.Trace.{Entry, Said}
+use Rattle.nb_graph.specs.declared.steps.Asked.{Asked}
+use Rattle.nb_graph.specs.Again.{Delivered, Gives, Goes, GoesOn, Left, LeftOn}
+
+module _ {N L : Type 0} (stands : N → List (Entry N L) → Type 0) (parts : L → List ℕ) (now : ℕ) (at : Port) (m : Said) (a b d : Ledger) (na nb nd : List N) (before mid next : Option (List Notice)) where
+  pub GoesOn-left : (took : ℕ) (asked : Asked N L) → ((c : Ledger) (nc : List N) (after : Option (List Notice)) → Left stands parts now at took m b c nb nc mid after → Goes stands parts now at m asked a c na nc before after) → (r : Option Msg) → LeftOn stands parts now at took m b d nb nd mid next r → GoesOn stands parts now at m asked a d na nd before next r
+  GoesOn-left took asked h None x = h d nd next x
+  GoesOn-left took asked h (Some r) x = λ c nc after k. h c nc after (x c nc after k)
+
+  pub Gives-goes : (asked : Asked N L) → ((c : Ledger) (nc : List N) (after : Option (List Notice)) → Goes stands parts now at m asked b c nb nc mid after → Delivered stands parts now at m a c na nc before after) → (r : Option Msg) → GoesOn stands parts now at m asked b d nb nd mid next r → Gives stands parts now at m a d na nd before next r
+  Gives-goes asked h None x = h d nd next x
+  Gives-goes asked h (Some r) x = λ c nc after k. h c nc after (x c nc after k)
+
+  pub Gives-then : (n : Said) → ((c : Ledger) (nc : List N) (after : Option (List Notice)) → Delivered stands parts now at n b c nb nc mid after → Delivered stands parts now at m a c na nc before after) → (r : Option Msg) → Gives stands parts now at n b d nb nd mid next r → Gives stands parts now at m a d na nd before next r
+  Gives-then n h None x = h d nd next x
+  Gives-then n h (Some r) x = λ c nc after k. h c nc after (x c nc after k)
+
+-- what is left gets shorter
+pub less-then : (r : Option Msg) (n m : ℕ) → n ≤ m → IfSome r (λ x. length x.first.now + length x.second.now < n) → IfSome r (λ x. length x.first.now + length x.second.now ≤ m)
+less-then None n m h k = tt
+less-then (Some r) n m h k = omega (arith, h, k)
