@@ -9,10 +9,10 @@ from dataclasses import dataclass, field
 from pathlib import Path
 from typing import Iterable, Iterator
 
-from capture import PcapWriter
-from command_line import Refused, run, writing
-from recordings import Timed, input_of, output_of
-from records import Received, Record, Sent, Step
+from shared.capture import PcapWriter
+from shared.command_line import Refused, run, writing
+from shared.recordings import Timed, input_of, output_of
+from shared.records import Received, Record, Sent, Step
 
 DESCRIPTION = """\
 Writes the frames of a run as a pcap file that Wireshark and tcpdump open: those that the

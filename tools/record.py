@@ -11,9 +11,9 @@ from pathlib import Path
 from typing import BinaryIO, Callable, Iterator
 from uuid import UUID
 
-from capture import NANOSECONDS, Packet, read_capture
-from command_line import Refused, read_file, run, writing
-from records import MAX_FRAME, MAX_TICK, MIN_FRAME, Received, Record, Start, Tick, spell
+from shared.capture import NANOSECONDS, Packet, read_capture
+from shared.command_line import Refused, read_file, run, writing
+from shared.records import MAX_FRAME, MAX_TICK, MIN_FRAME, Received, Record, Start, Tick, spell
 
 MILLISECOND = NANOSECONDS // 1000
 GROUP_BIT = 1

@@ -8,12 +8,12 @@ import sys
 from pathlib import Path
 from typing import Iterable, Iterator
 
-from command_line import Refused, run
-from describe import Lines
-from frames import ends_of, packet_of
-from parts import write_parts
-from recordings import Timed, direction_of, input_of, output_of
-from records import (
+from shared.command_line import Refused, run
+from shared.describe import Lines
+from shared.frames import ends_of, packet_of
+from shared.parts import write_parts
+from shared.recordings import Timed, direction_of, input_of, output_of
+from shared.records import (
     KINDS,
     Advance,
     Direction,
@@ -27,8 +27,8 @@ from records import (
     Text,
     Try,
 )
-from texts import printable
-from why import reasons
+from shared.texts import printable
+from shared.why import reasons
 
 FIRST_OWN_PORT = 49_152
 OWN_PORTS = 16_384
