@@ -35,7 +35,7 @@ class Captures(Case):
             + [(253, data[1]), (253, sent[2])],
         )
 
-    def test_records_behind_the_end_were_not_received(self) -> None:
+    def test_records_after_the_end_were_not_received(self) -> None:
         self.put("boot.rec", [*made.BOOT_INPUT, made.found()])
         used = self.works("tools/pcap.py boot.rec boot.out --to a.pcap")
         self.assertIn("3 frames received, 4 sent", used)
@@ -48,12 +48,12 @@ class Captures(Case):
         for words, said in (
             ("short.rec boot.out", "has no record 4"),
             ("boot.rec cut.out", "cut.out: at byte"),
-            ("boot.out boot.rec", "boot.out is an output recording"),
+            ("boot.out boot.rec", "boot.rec is an input recording"),
+            ("boot.out boot.out", "boot.out is an output recording"),
             ("boot.rec boot.rec", "boot.rec is an input recording"),
         ):
             self.fails(f"tools/pcap.py {words} --to a.pcap", said)
             self.assertEqual(list(self.folder.glob("a.pcap*")), [])
-        self.fails("tools/pcap.py boot.rec --to /dev/null", "no regular file")
 
     @unittest.skipUnless(shutil.which("tshark"), "tshark is not installed")
     def test_tshark_reads_it_back(self) -> None:

@@ -12,7 +12,8 @@ from typing import BinaryIO, Callable, Iterator
 from uuid import UUID
 
 from shared.capture import NANOSECONDS, Packet, read_capture
-from shared.command_line import Refused, read_file, run, writing
+from shared.command_line import Refused, read_file, run
+from shared.output import report, writing
 from shared.records import MAX_FRAME, MAX_TICK, MIN_FRAME, Received, Record, Start, Tick, spell
 
 MILLISECOND = NANOSECONDS // 1000
@@ -170,7 +171,7 @@ def record(words: list[str]) -> None:
         start = spell(start_of(arguments, arguments.script.read_bytes()))
     except ValueError as refusal:
         raise Refused(f"{arguments.script}: {refusal}") from refusal
-    with writing(arguments.recording) as stream:
+    with writing(arguments.recording, arguments.script, arguments.capture) as stream:
         count = write_recording(arguments, start, stream)
     print(f"{arguments.recording}: {count} record{'' if count == 1 else 's'}")
 

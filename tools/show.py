@@ -8,11 +8,11 @@ import sys
 from pathlib import Path
 from typing import Iterable, Iterator
 
-from shared.command_line import Refused, run
+from shared.command_line import Refused, read_stream, run
 from shared.describe import Lines
 from shared.frames import ends_of, packet_of
 from shared.parts import write_parts
-from shared.recordings import Timed, direction_of, input_of, output_of
+from shared.recordings import Timed, input_of, open_recording, read_input, read_output
 from shared.records import (
     KINDS,
     Advance,
@@ -27,7 +27,7 @@ from shared.records import (
     Text,
     Try,
 )
-from shared.texts import printable
+from shared.texts import PrintedText
 from shared.why import reasons
 
 FIRST_OWN_PORT = 49_152
@@ -206,24 +206,16 @@ def refuse_for_input(arguments: argparse.Namespace) -> None:
 
 
 def printed_texts(records: Iterable[Record]) -> Iterator[str]:
-    """What a run's commands printed, line by line, however its TEXT records cut it."""
-    line = b""
+    """What a run's commands printed, however its TEXT records cut it."""
+    text = PrintedText()
     for record in records:
         if isinstance(record, Text):
-            *lines, line = (line + record.text).split(b"\n")
-            yield from map(printable, lines)
-    if line:
-        yield printable(line)
+            yield text.of(record.text)
+    yield text.end()
 
 
-def report(arguments: argparse.Namespace) -> Iterable[str]:
-    """The lines that were asked for."""
-    if direction_of(arguments.recording) is Direction.INPUT:
-        refuse_for_input(arguments)
-        return input_lines(input_of(arguments.recording), arguments)
-    records = output_of(arguments.recording)
-    if arguments.text:
-        return printed_texts(records)
+def report(arguments: argparse.Namespace, records: Iterator[Record]) -> Iterable[str]:
+    """The lines on an output recording that were asked for."""
     if arguments.parts:
         return write_parts(records, arguments.parts)
     if arguments.why:
@@ -232,9 +224,25 @@ def report(arguments: argparse.Namespace) -> Iterable[str]:
     return output_lines(records, inputs, arguments)
 
 
-def show(words: list[str]) -> None:
-    for line in report(parse(words)):
+def show_output(arguments: argparse.Namespace, records: Iterator[Record]) -> None:
+    if arguments.text:
+        for piece in printed_texts(records):
+            sys.stdout.write(piece)
+        return
+    for line in report(arguments, records):
         print(line)
+
+
+def show(words: list[str]) -> None:
+    arguments = parse(words)
+    path = arguments.recording
+    with open_recording(path) as (direction, stream):
+        if direction is Direction.OUTPUT:
+            show_output(arguments, read_stream(path, stream, read_output))
+            return
+        refuse_for_input(arguments)
+        for line in input_lines(read_stream(path, stream, read_input), arguments):
+            print(line)
 
 
 if __name__ == "__main__":

@@ -2,11 +2,12 @@
 
 from __future__ import annotations
 
+from contextlib import contextmanager
 from dataclasses import dataclass
 from pathlib import Path
 from typing import BinaryIO, Iterator
 
-from shared.command_line import Refused, read_file
+from shared.command_line import Refused, opened, read_stream
 from shared.fields import Damaged
 from shared.records import (
     Direction,
@@ -32,10 +33,15 @@ class Timed:
     record: Record
 
 
-def direction_of(path: Path) -> Direction:
-    """Tells an input from an output recording by the type of its first record."""
-    with path.open("rb") as stream:
-        head = stream.read(TYPE_OFFSET + 1)
+@contextmanager
+def open_recording(path: Path) -> Iterator[tuple[Direction, BinaryIO]]:
+    """A recording and its kind, which shows from the type of its first record."""
+    with opened(path) as stream:
+        yield _direction_of(path, stream), stream
+
+
+def _direction_of(path: Path, stream: BinaryIO) -> Direction:
+    head = stream.peek(TYPE_OFFSET + 1)
     if not head:
         raise Refused(f"{path}: the file is empty")
     if len(head) <= TYPE_OFFSET:
@@ -45,16 +51,18 @@ def direction_of(path: Path) -> Direction:
 
 def input_of(path: Path) -> Iterator[Timed]:
     """The records of a file that must be an input recording."""
-    if direction_of(path) is not Direction.INPUT:
-        raise Refused(f"{path} is an output recording, and an input recording is needed")
-    return read_file(path, read_input)
+    with open_recording(path) as (direction, stream):
+        if direction is not Direction.INPUT:
+            raise Refused(f"{path} is an output recording, and an input recording is needed")
+        yield from read_stream(path, stream, read_input)
 
 
 def output_of(path: Path) -> Iterator[Record]:
     """The records of a file that must be an output recording."""
-    if direction_of(path) is not Direction.OUTPUT:
-        raise Refused(f"{path} is an input recording, and an output recording is needed")
-    return read_file(path, read_output)
+    with open_recording(path) as (direction, stream):
+        if direction is not Direction.OUTPUT:
+            raise Refused(f"{path} is an input recording, and an output recording is needed")
+        yield from read_stream(path, stream, read_output)
 
 
 def read_input(stream: BinaryIO) -> Iterator[Timed]:
@@ -70,12 +78,12 @@ def read_input(stream: BinaryIO) -> Iterator[Timed]:
 
 
 def read_output(stream: BinaryIO) -> Iterator[Record]:
-    """The records of an output recording: steps numbered from 1, nothing behind DONE."""
+    """The records of an output recording: steps numbered from 1, nothing after DONE."""
     step = 0
     done = False
     for placed in read_records(stream, Direction.OUTPUT):
         if done:
-            raise Damaged(placed.offset, "a record behind DONE")
+            raise Damaged(placed.offset, "a record after DONE")
         step = _checked_step(placed, step)
         done = isinstance(placed.record, Done)
         yield placed.record
@@ -85,7 +93,7 @@ def _checked_step(placed: Placed, step: int) -> int:
     """The number of the step that a record stands in, after step number `step`."""
     if isinstance(placed.record, Step):
         if placed.record.number != step + 1:
-            raise Damaged(placed.offset, f"STEP {placed.record.number} behind STEP {step}")
+            raise Damaged(placed.offset, f"STEP {placed.record.number} after STEP {step}")
         return step + 1
     if step == 0 and not isinstance(placed.record, Done):
         raise Damaged(placed.offset, f"{placed.record.NAME} before the first STEP")

@@ -1,25 +1,47 @@
-"""How bytes, words and addresses are printed."""
+"""How bytes, words and addresses are printed: UTF-8 where it is, else byte by byte."""
 
 from __future__ import annotations
 
-ESCAPES = {0x09: "\\t", 0x0A: "\\n", 0x0D: "\\r", 0x22: '\\"', 0x5C: "\\\\"}
+import codecs
+
+ESCAPES = {"\t": "\\t", "\n": "\\n", "\r": "\\r", '"': '\\"', "\\": "\\\\"}
 PLAIN = frozenset(range(0x21, 0x7F)) - {0x22, 0x5C}
+UNCHANGED = "\t\n"
+# Python keeps a byte that is no UTF-8 as a character of its own.
+KEPT = "surrogateescape"
+
+
+def _visible(character: str) -> str:
+    """A character that can be seen; controls, marks of direction and bytes of no UTF-8 as \\xNN."""
+    if character.isprintable():
+        return character
+    return "".join(f"\\x{byte:02x}" for byte in character.encode("utf-8", KEPT))
 
 
 def quoted(data: bytes) -> str:
-    """The bytes between quotation marks; what is not printable ASCII stands as \\xNN."""
-    return f'"{"".join(_character(byte) for byte in data)}"'
+    """The bytes between quotation marks; what can't be seen, or is no UTF-8, stands as \\xNN."""
+    text = data.decode("utf-8", KEPT)
+    return f'"{"".join(ESCAPES.get(c) or _visible(c) for c in text)}"'
 
 
-def _character(byte: int) -> str:
-    if byte in ESCAPES:
-        return ESCAPES[byte]
-    return chr(byte) if 0x20 <= byte < 0x7F else f"\\x{byte:02x}"
+class PrintedText:
+    """What commands printed, piece by piece: lines and tabs as they are, the last line ended."""
 
+    def __init__(self) -> None:
+        self._decoder = codecs.getincrementaldecoder("utf-8")(KEPT)
+        self._is_in_line = False
 
-def printable(line: bytes) -> str:
-    """A printed line: printable ASCII and tabs as they are, all else as \\xNN."""
-    return "".join(chr(b) if b == 0x09 or 0x20 <= b < 0x7F else f"\\x{b:02x}" for b in line)
+    def of(self, piece: bytes) -> str:
+        return self._visible(self._decoder.decode(piece))
+
+    def end(self) -> str:
+        rest = self._visible(self._decoder.decode(b"", final=True))
+        return rest + "\n" if self._is_in_line else rest
+
+    def _visible(self, text: str) -> str:
+        if text:
+            self._is_in_line = not text.endswith("\n")
+        return "".join(c if c in UNCHANGED else _visible(c) for c in text)
 
 
 def word(data: bytes) -> str:
