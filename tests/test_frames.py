@@ -99,7 +99,7 @@ class Summary(unittest.TestCase):
         self.check(
             [
                 (ARP_REQUEST, "ARP who has 10.0.0.1, asks 10.0.0.2 at 52:54:00:00:00:01"),
-                (padded(ARP_REPLY), "ARP 10.0.0.1 is at 52:54:00:00:00:02, told to 10.0.0.2"),
+                (padded(ARP_REPLY), "ARP 10.0.0.1 is at 52:54:00:00:00:02, sent to 10.0.0.2"),
                 (ARP_REPLY[:40], "ARP, not well-formed"),
                 (
                     ARP_REQUEST[:12] + b"\x86\xdd",

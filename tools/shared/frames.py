@@ -161,7 +161,7 @@ def _arp(body: bytes) -> str:
     if operation == 1:
         return f"ARP who has {target}, asks {sender} at {sender_mac}"
     if operation == 2:
-        return f"ARP {sender} is at {sender_mac}, told to {target}"
+        return f"ARP {sender} is at {sender_mac}, sent to {target}"
     return f"ARP operation {operation}"
 
 
