@@ -90,7 +90,7 @@ class Pcap(unittest.TestCase):
             (good[:-1], 40, "inside a packet"),
             (other_version, 4, "version 3"),
             (with_check_sequence, 20, "check sequence"),
-            (pcap("<", 0xA1B2C3D4, 0, link=113), 20, "link type 113"),
+            (pcap("<", 0xA1B2C3D4, 0, link=12), 20, "link type 12"),
             (pcap("<", 0xA1B2C3D4, 10**6), 28, "no fraction"),
             (huge, 32, "262145"),
         ):
@@ -120,7 +120,7 @@ class Pcapng(unittest.TestCase):
                 self.assertEqual(packets(data)[0].time, 5 * SECOND + SECOND // 4)
 
     def test_other_blocks_are_passed_and_sections_begin_anew(self) -> None:
-        front = section("<") + interface("<", link=113) + interface("<")
+        front = section("<") + interface("<", link=12) + interface("<")
         front += block("<", 5, bytes(12)) + enhanced("<", 1, number=1)
         data = front + section(">") + interface(">") + enhanced(">", 2, FRAME[:17])
         found = packets(data)
@@ -147,7 +147,7 @@ class Pcapng(unittest.TestCase):
             (odd, at + 4, "no length 30"),
             (front + past_end, at + 20, "61 bytes goes past"),
             (front + enhanced("<", 1, number=1), at + 8, "no interface 1"),
-            (section("<") + interface("<", link=113) + enhanced("<", 1), 48, "link type 113"),
+            (section("<") + interface("<", link=12) + enhanced("<", 1), 48, "link type 12"),
             (section("<") + past_option, 44, "past its block's end"),
             (section("<") + with_check_sequence, 28, "check sequence"),
             (front + block("<", 3, bytes(8)), at, "has no time"),

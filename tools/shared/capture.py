@@ -1,7 +1,8 @@
 """Reads pcap and pcapng files of Ethernet frames, and writes pcap files.
 
-Reading goes packet by packet. What a file of these formats cannot hold, and what would need a
-guess (packets without a time, frames with check sequence, other links), is refused.
+Reading goes packet by packet. Captures on `any` (Linux cooked, SLL and SLL2) are read as Ethernet
+frames. What a file of these formats cannot hold, and what would need a guess (packets without a
+time, frames with check sequence, other links), is refused.
 """
 
 from __future__ import annotations
@@ -10,6 +11,7 @@ import struct
 from dataclasses import dataclass
 from typing import BinaryIO, Callable, Iterator
 
+from shared import cooked
 from shared.fields import Damaged
 
 ETHERNET = 1
@@ -27,6 +29,11 @@ OPTION_RESOLUTION = 9
 OPTION_CHECK_SEQUENCE = 13
 OPTION_TIME_OFFSET = 14
 MAX_BLOCK = 16_777_216
+MAX_INTERFACES = 4_096
+
+
+class CutOff(Damaged):
+    """The file ends inside a packet or a block; those before are complete."""
 
 
 @dataclass(frozen=True, slots=True)
@@ -50,7 +57,7 @@ class Source:
     def take(self, count: int, what: str) -> bytes:
         data = self.stream.read(count)
         if len(data) < count:
-            raise Damaged(self.at, f"the file ends inside {what}")
+            raise CutOff(self.at, f"the file ends inside {what}")
         self.at += count
         return data
 
@@ -58,7 +65,7 @@ class Source:
         """As `take`, but nothing where the file ends right here."""
         data = self.stream.read(count)
         if data and len(data) < count:
-            raise Damaged(self.at, f"the file ends inside {what}")
+            raise CutOff(self.at, f"the file ends inside {what}")
         self.at += len(data)
         return data
 
@@ -93,12 +100,25 @@ def _pcap_packets(source: Source, order: str, unit: int) -> Iterator[Packet]:
             raise Damaged(offset + 4, f"{fraction} is no fraction of a second")
         frame = source.take(kept, "a packet")
         time = seconds * NANOSECONDS + fraction * (NANOSECONDS // unit)
-        yield Packet(offset, time, frame, length)
+        packet = _with_ethernet(link, Packet(offset, time, frame, length))
+        if packet:
+            yield packet
 
 
 def _check_link(link: int, offset: int) -> None:
-    if link != ETHERNET:
-        raise Damaged(offset, f"link type {link} is not Ethernet")
+    if link not in (ETHERNET, cooked.SLL, cooked.SLL2):
+        raise Damaged(offset, f"link type {link} is not Ethernet or Linux cooked (SLL, SLL2)")
+
+
+def _with_ethernet(link: int, packet: Packet) -> Packet | None:
+    """The packet with an Ethernet header; None where the link below it has other addresses."""
+    if link == ETHERNET:
+        return packet
+    frame = cooked.frame_of(link, packet.frame)
+    if frame is None:
+        return None
+    length = packet.length - cooked.header_length(link) + cooked.ETHERNET_HEADER
+    return Packet(packet.offset, packet.time, frame, length)
 
 
 @dataclass(frozen=True, slots=True)
@@ -140,18 +160,18 @@ class _Sections:
     def _block(self, head: bytes, offset: int) -> tuple[int, bytes]:
         """The type and the body of a block, its two lengths compared."""
         length_bytes = self.source.take(4, "a block's length")
-        front = b""
+        first = b""
         if int.from_bytes(head, "big") == SECTION:
-            front = self.source.take(4, "a section's byte order")
-            self._section(front, offset)
+            first = self.source.take(4, "a section's byte order")
+            self._section(first, offset)
         kind = struct.unpack(self.order + "I", head)[0]
         length = struct.unpack(self.order + "I", length_bytes)[0]
-        if length % 4 or not 12 + len(front) <= length <= MAX_BLOCK:
+        if length % 4 or not 12 + len(first) <= length <= MAX_BLOCK:
             raise Damaged(offset + 4, f"a block has no length {length}")
-        body = self.source.take(length - 12 - len(front), "a block")
+        body = self.source.take(length - 12 - len(first), "a block")
         if self.source.take(4, "a block's second length") != length_bytes:
             raise Damaged(self.source.at - 4, "a block's two lengths differ")
-        return kind, front + body
+        return kind, first + body
 
     def _section(self, order_bytes: bytes, offset: int) -> None:
         for order in "<>":
@@ -173,6 +193,8 @@ class _Sections:
         if len(time_offset) != 8:
             raise Damaged(offset, "an interface's time offset has not eight bytes")
         seconds = struct.unpack(self.order + "q", time_offset)[0]
+        if len(self.interfaces) == MAX_INTERFACES:
+            raise Damaged(offset, f"there are more than {MAX_INTERFACES} interfaces")
         self.interfaces.append(_Interface(link, units, seconds))
 
     def _options(self, data: bytes, offset: int) -> Iterator[tuple[int, bytes]]:
@@ -197,7 +219,7 @@ class _Sections:
         interface = self.interfaces[number]
         _check_link(interface.link, offset)
         time = interface.nanoseconds(high << 32 | low)
-        return Packet(offset, time, body[20 : 20 + kept], length)
+        return _with_ethernet(interface.link, Packet(offset, time, body[20 : 20 + kept], length))
 
     def _without_time(self, offset: int, body: bytes) -> None:
         raise Damaged(offset, "a simple packet block has no time")
