@@ -6,7 +6,7 @@ from __future__ import annotations
 import argparse
 import sys
 from pathlib import Path
-from typing import Iterable, Iterator
+from typing import BinaryIO, Iterable, Iterator
 
 from shared.command_line import Refused, read_stream, run
 from shared.describe import Lines
@@ -45,7 +45,7 @@ examples:
   show.py hello.out --text                 what its commands printed
   show.py boot.out --type TRY --type ENDED only records of these types
   show.py boot.out --open 0                what belongs to its first open
-  show.py boot.out --input boot.rec --why  why commands failed
+  show.py boot.out --input boot.rec --why  how it ended, in a sentence, and why
   show.py boot.out --parts parts           writes kernel, initrds and command line into parts/"""
 
 
@@ -189,7 +189,7 @@ def add_reports(parser: argparse.ArgumentParser) -> None:
     reports.add_argument(
         "--why",
         action="store_true",
-        help="for each failed RESULT the records that show its cause",
+        help="how the run ended: a sentence, and then the records that show it",
     )
     reports.add_argument(
         "--parts",
@@ -218,13 +218,17 @@ def report(arguments: argparse.Namespace, records: Iterator[Record]) -> Iterable
     """The lines on an output recording that were asked for."""
     if arguments.parts:
         return write_parts(records, arguments.parts)
-    if arguments.why:
-        return reasons(records, arguments.input)
     inputs = input_of(arguments.input) if arguments.input else None
     return output_lines(records, inputs, arguments)
 
 
-def show_output(arguments: argparse.Namespace, records: Iterator[Record]) -> None:
+def show_output(arguments: argparse.Namespace, stream: BinaryIO) -> None:
+    path = arguments.recording
+    if arguments.why:
+        for line in reasons(path, stream, arguments.input):
+            print(line)
+        return
+    records = read_stream(path, stream, read_output)
     if arguments.text:
         for piece in printed_texts(records):
             sys.stdout.write(piece)
@@ -238,7 +242,7 @@ def show(words: list[str]) -> None:
     path = arguments.recording
     with open_recording(path) as (direction, stream):
         if direction is Direction.OUTPUT:
-            show_output(arguments, read_stream(path, stream, read_output))
+            show_output(arguments, stream)
             return
         refuse_for_input(arguments)
         for line in input_lines(read_stream(path, stream, read_input), arguments):

@@ -13,10 +13,11 @@ from dataclasses import dataclass, field
 from pathlib import Path
 from typing import BinaryIO, Callable, Iterator
 
-from shared.capture import NANOSECONDS, CutOff, Packet, read_capture
+from shared.capture import NANOSECONDS, Packet, read_capture
 from shared.checksums import Sums, filled, readdressed, sums_of
 from shared.command_line import STANDARD, Refused, opened, read_stream
 from shared.cooked import Receivers
+from shared.fields import CutOff
 from shared.frames import ends_of, packet_of
 from shared.records import MAX_FRAME, MIN_FRAME, Received, Record, Tick
 from shared.texts import count, mac

@@ -12,7 +12,7 @@ from dataclasses import dataclass
 from typing import BinaryIO, Callable, Iterator
 
 from shared import cooked
-from shared.fields import Damaged
+from shared.fields import CutOff, Damaged
 
 ETHERNET = 1
 NANOSECONDS = 10**9
@@ -30,10 +30,6 @@ OPTION_CHECK_SEQUENCE = 13
 OPTION_TIME_OFFSET = 14
 MAX_BLOCK = 16_777_216
 MAX_INTERFACES = 4_096
-
-
-class CutOff(Damaged):
-    """The file ends inside a packet or a block; those before are complete."""
 
 
 @dataclass(frozen=True, slots=True)

@@ -23,8 +23,12 @@ class Damaged(Exception):
         self.why = why
 
 
+class CutOff(Damaged):
+    """The file ends inside something; what stands before that is complete."""
+
+
 class Body:
-    """The bytes of a record behind its type, read from the front; `start` is their offset."""
+    """The bytes of a record after its type, read from their beginning; `start` is their offset."""
 
     __slots__ = ("data", "at", "start")
 

@@ -25,6 +25,7 @@ FLAGS = ((2, "SYN"), (1, "FIN"), (4, "RST"), (8, "PSH"), (16, "ACK"), (32, "URG"
 SYN = 2
 ACK = 16
 MORE_FRAGMENTS_AND_OFFSET = 0x3FFF
+MOST_STREAMS = 4_096
 
 
 @dataclass(frozen=True, slots=True)
@@ -88,7 +89,7 @@ def ends_of(packet: Packet) -> Ends:
 
 class Summaries:
     """Summaries of frames in order. It remembers where each TCP stream began, so that the
-    places of its bytes can be told from then on (a stream's first byte has place 0)."""
+    places of its bytes are known from then on (a stream's first byte has place 0)."""
 
     def __init__(self) -> None:
         self._first_numbers: dict[Ends, int] = {}
@@ -128,7 +129,7 @@ class Summaries:
         number = int.from_bytes(segment[4:8], "big")
         flags = segment[13]
         if flags & SYN:
-            self._first_numbers[ends] = number
+            self._remember(ends, number)
         names = " ".join(name for bit, name in FLAGS if flags & bit)
         parts = [f"TCP [{names}] {self._place_of(ends, number, flags, segment[head:])}"]
         if flags & ACK:
@@ -138,6 +139,11 @@ class Summaries:
         if not _is_sum_right(packet):
             parts.append("wrong checksum")
         return ", ".join(parts) + _http_line(segment[head:])
+
+    def _remember(self, ends: Ends, number: int) -> None:
+        while len(self._first_numbers) >= MOST_STREAMS:
+            del self._first_numbers[next(iter(self._first_numbers))]
+        self._first_numbers[ends] = number
 
     def _place_of(self, ends: Ends, number: int, flags: int, data: bytes) -> str:
         if flags & SYN:
@@ -167,8 +173,20 @@ def _arp(body: bytes) -> str:
 
 def _is_sum_right(packet: Packet) -> bool:
     length = len(packet.body)
-    front = pseudo_header(packet.source, packet.target, packet.protocol, length)
-    return checksum(front + packet.body) == 0
+    pseudo = pseudo_header(packet.source, packet.target, packet.protocol, length)
+    return checksum(pseudo + packet.body) == 0
+
+
+def datagram_of(packet: Packet) -> bytes | None:
+    """The body of a packet's UDP datagram, its checksum right or left out; else None."""
+    datagram = packet.body
+    length = int.from_bytes(datagram[4:6], "big")
+    if packet.is_fragment or len(datagram) < 8 or not 8 <= length <= len(datagram):
+        return None
+    whole = Packet(packet.source, packet.target, PROTOCOL_UDP, datagram[:length], False, True)
+    if datagram[6:8] != b"\0\0" and not _is_sum_right(whole):
+        return None
+    return datagram[8:length]
 
 
 def _udp(packet: Packet, ends: Ends) -> str:

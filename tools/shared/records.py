@@ -20,6 +20,7 @@ from shared.fields import (
     CauseField,
     Choice,
     Counted,
+    CutOff,
     Damaged,
     Field,
     Fixed,
@@ -224,7 +225,7 @@ class Open(Record):
 
 @dataclass(frozen=True, slots=True)
 class Try(Record):
-    """A message that a retry timer covers is sent; its frame stands directly behind."""
+    """A message that a retry timer covers is sent; its frame stands directly after."""
 
     TYPE = 0x88
     NAME = "TRY"
@@ -328,7 +329,7 @@ class Part(Record):
 
 @dataclass(frozen=True, slots=True)
 class Done(Record):
-    """The run is over: the last record of an output recording."""
+    """The run has ended: the last record of an output recording."""
 
     TYPE = 0x8D
     NAME = "DONE"
@@ -388,7 +389,7 @@ def record_of(kinds: dict[int, type[Record]], content: bytes, offset: int) -> Re
     body = Body(content[1:], offset + 1)
     record = kind(*[field.read(body) for field in kind.LAYOUT])
     if body.left:
-        raise Damaged(body.offset, f"{body.left} bytes behind the end of a {kind.NAME}")
+        raise Damaged(body.offset, f"{body.left} bytes after the end of a {kind.NAME}")
     fault = record.fault()
     if fault:
         raise Damaged(offset + 1, fault)
@@ -401,13 +402,13 @@ def read_records(stream: BinaryIO, direction: Direction) -> Iterator[Placed]:
     offset = 0
     while head := stream.read(4):
         if len(head) < 4:
-            raise Damaged(offset, f"the file ends inside a length, after {len(head)} of 4 bytes")
+            raise CutOff(offset, f"the file ends inside a length, after {len(head)} of 4 bytes")
         length = int.from_bytes(head, "big")
         if not 1 <= length <= MAX_LENGTH:
             raise Damaged(offset, f"the length is {length}, not 1 to {MAX_LENGTH}")
         content = stream.read(length)
         if len(content) < length:
-            raise Damaged(
+            raise CutOff(
                 offset, f"the file ends inside a record: {len(content)} of {length} bytes"
             )
         yield Placed(offset, record_of(kinds, content, offset + 4))
