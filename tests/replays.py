@@ -1,15 +1,33 @@
-"""Runs of the program over many input recordings, for one compiling of it."""
+"""Runs of the program over many input recordings: the built one where it is newer than its sources.
+
+Else `rt try` compiles it once for all of them.
+"""
 
 from __future__ import annotations
 
 import re
+import shutil
 import subprocess
 import tempfile
 from dataclasses import dataclass
 from pathlib import Path
 
-PROGRAM = Path(__file__).resolve().parents[1] / "crates" / "netboot"
+from boot import BUILT, CRATE, is_built
+
 LINE = re.compile(r"^case=(\S+) run=(\S+) status=(\d+) ", re.M)
+
+
+def can_run() -> bool:
+    return is_built() or shutil.which("rt") is not None
+
+
+@dataclass(frozen=True)
+class Ran:
+    """How a run ended, its exit status, and what it said."""
+
+    ending: str
+    status: int
+    said: str
 
 
 @dataclass(frozen=True)
@@ -21,23 +39,38 @@ class Replayed:
     output: bytes
 
 
-def replay_all(inputs: dict[str, bytes]) -> dict[str, Replayed]:
-    """Runs `netboot replay` over each of these input recordings, by `rt try`."""
+def run_all(cases: dict[str, list[str]]) -> dict[str, Ran]:
+    """Runs the program on each of these lists of words; files have absolute paths."""
+    if is_built():
+        return {name: _run_built(words) for name, words in cases.items()}
     with tempfile.TemporaryDirectory() as folder:
-        cases, outputs = Path(folder) / "cases", Path(folder) / "outputs"
-        cases.mkdir()
-        outputs.mkdir()
-        for name, recording in inputs.items():
-            (cases / name).write_bytes(recording)
-            (cases / f"{name}.args").write_text(f"{outputs / name}\n")
-        done = subprocess.run(
-            ["rt", "try", "--cases", str(cases), "--", "replay", "{}"],
-            cwd=PROGRAM,
-            capture_output=True,
-            text=True,
-            check=False,
-        )
+        for name, words in cases.items():
+            (Path(folder) / name).write_bytes(b"")
+            (Path(folder) / f"{name}.args").write_text("".join(f"{word}\n" for word in words))
+        compiled = ["rt", "try", "--cases", folder]
+        done = subprocess.run(compiled, cwd=CRATE, capture_output=True, text=True, check=False)
+    printed = done.stdout + done.stderr
+    said = dict(re.findall(r"^== (\S+)\n((?:(?!case=).*\n)*)", printed, re.M))
+    return {
+        name: Ran(ending, int(status), said.get(name, ""))
+        for name, ending, status in LINE.findall(printed)
+    }
+
+
+def _run_built(words: list[str]) -> Ran:
+    done = subprocess.run([BUILT, *words], capture_output=True, text=True, check=False)
+    ending = "ended" if done.returncode >= 0 else "killed"
+    return Ran(ending, done.returncode, done.stdout + done.stderr)
+
+
+def replay_all(inputs: dict[str, bytes]) -> dict[str, Replayed]:
+    """Runs `netboot replay` over each of these input recordings."""
+    with tempfile.TemporaryDirectory() as name:
+        folder, cases = Path(name), {}
+        for case, recording in inputs.items():
+            (folder / f"{case}.in").write_bytes(recording)
+            cases[case] = ["replay", f"{folder / case}.in", f"{folder / case}.out"]
         return {
-            name: Replayed(ending, int(status), (outputs / name).read_bytes())
-            for name, ending, status in LINE.findall(done.stdout + done.stderr)
+            case: Replayed(ran.ending, ran.status, (folder / f"{case}.out").read_bytes())
+            for case, ran in run_all(cases).items()
         }

@@ -1,4 +1,4 @@
-"""A file of 1,024 bytes, its recording cut behind each byte, over the built program.
+"""A file of 1,024 bytes, its recording cut at each byte, over the built program.
 
 Where the program isn't built the tests are skipped, saying so; the gate builds it where it proves
 anew.
@@ -12,10 +12,10 @@ import unittest
 from itertools import accumulate
 from pathlib import Path
 
+from boot import BUILT, is_built
 from shared.causes import Cause, Code
 from shared.kinds import Status
 from shared.records import Done, Ended, Record, Step
-from tests.test_limits import PROGRAM
 from tests.test_replay import blocks
 from tests import made
 
@@ -26,7 +26,7 @@ ENDS = list(accumulate(len(made.spelled([record])) for record in ROW.inputs))
 
 
 def expected(length: int) -> list[Record]:
-    """What is written where the input ends behind this many bytes.
+    """What is written where the input ends after this many bytes.
 
     The steps of its whole records, the end of the open that a command waits for, and DONE.
     """
@@ -39,14 +39,14 @@ def expected(length: int) -> list[Record]:
     return [*ROW.outputs[:later], *closing, Done(status)]
 
 
-@unittest.skipUnless(PROGRAM.exists(), "the program isn't built")
+@unittest.skipUnless(is_built(), "the program isn't built")
 class Cuts(unittest.TestCase):
-    def test_cut_behind_each_byte(self) -> None:
+    def test_cut_at_each_byte(self) -> None:
         with tempfile.TemporaryDirectory() as folder:
             source, output = Path(folder) / "in.rec", Path(folder) / "out.rec"
             for length in range(len(SPELLED) + 1):
                 source.write_bytes(SPELLED[:length])
-                words = [PROGRAM, "replay", source, output]
+                words = [BUILT, "replay", source, output]
                 subprocess.run(words, capture_output=True, check=False)
                 with self.subTest(length):
                     self.assertEqual(output.read_bytes(), made.spelled(expected(length)))

@@ -13,13 +13,12 @@ from itertools import islice
 from shared.causes import Cause, Code
 from compiler import has_compiler
 from shared.kinds import PartKind, Status
+from boot import BUILT, is_built
 from boots import BLOCK, MEGABYTE, image, replay, transfer
 from meter import build_meter, measure
 from shared.recordings import read_output
 from shared.records import Done, Ended, Part, Record, spell
-from tests.case import TOP, Case
-
-PROGRAM = TOP / "crates" / "netboot" / "out" / "netboot"
+from tests.case import Case
 
 # blocks have numbers from 1 to 65,535, and the last is shorter than 512 bytes (RFC 1350)
 MOST_BLOCKS = 65_535
@@ -32,7 +31,7 @@ BEFORE = 3
 MOST_MEMORY = LONGEST * 5 // 4 + 8 * MEGABYTE
 
 
-@unittest.skipUnless(PROGRAM.exists(), "the program isn't built")
+@unittest.skipUnless(is_built(), "the program isn't built")
 class Limits(Case):
     def recorded(self, length: int) -> list[str]:
         """Records the boot of a kernel of this length, at most 65,535 blocks of it.
@@ -43,7 +42,7 @@ class Limits(Case):
         with recording.open("wb") as stream:
             for record in islice(transfer(length), BEFORE + MOST_BLOCKS):
                 stream.write(spell(record))
-        return replay(PROGRAM, recording, self.folder / "out.rec")
+        return replay(BUILT, recording, self.folder / "out.rec")
 
     def boot(self, length: int) -> tuple[int, list[Record]]:
         """How the boot of a kernel of this length ended, and its output."""

@@ -7,7 +7,6 @@ by the toolchain's `rt try` and run over all recordings; without the toolchain t
 from __future__ import annotations
 
 import io
-import shutil
 import unittest
 from dataclasses import dataclass, replace
 from ipaddress import IPv4Address
@@ -19,7 +18,7 @@ from shared.records import Advance, Done, Ended, Off, Open, Part, Received, Reco
 from shared.records import Tick, Try
 from tests import made
 from tests.case import TOP
-from tests.replays import Replayed, replay_all
+from tests.replays import Replayed, can_run, replay_all
 from shared.wire import Station, arp_reply, arp_request, ethernet, ipv4, tftp_ack, tftp_data, tftp_error
 from shared.wire import tftp_request, udp, udp_frame
 
@@ -307,7 +306,7 @@ def runs() -> dict[str, Row]:
         "power_off": ends(fetches([Off()], []), stopped, Done(Status.UNFINISHED)),
         "input_ends": ends(fetches([]), stopped, Done(Status.UNFINISHED)),
         "a_second_start": ends(again, stopped, Done(Status.BAD_RECORD)),
-        "behind_the_end": ends_well(
+        "after_the_end": ends_well(
             fetches([data(1, b"a"), start(FETCH), Off()], took_last(1))
         ),
         "no_start": Row([Tick(1)], [Done(Status.BAD_RECORD)]),
@@ -316,7 +315,7 @@ def runs() -> dict[str, Row]:
 
 ROWS = {**blocks(), **errors(), **frames(), **runs()}
 
-# A boot of a kernel of four bytes, cut behind each of its bytes.
+# A boot of a kernel of four bytes, cut at each of its bytes.
 SHORT = made.spelled([start(EXEC), made.found(), Tick(250), data(1, b"\x7fELF")])
 EXAMPLE = (TOP / "examples" / "tftp-boot.rec").read_bytes()
 
@@ -337,7 +336,7 @@ def without_closing(records: list[Record]) -> list[Record]:
     return records[:-2] if records[-2:] == closing else records[:-1]
 
 
-@unittest.skipUnless(shutil.which("rt"), "the toolchain's rt is missing")
+@unittest.skipUnless(can_run(), "the program isn't built, and the toolchain's rt is missing")
 class Replays(unittest.TestCase):
     maxDiff = None
     replayed: dict[str, Replayed]
@@ -358,7 +357,7 @@ class Replays(unittest.TestCase):
             with self.subTest(name):
                 self.assertEqual(read_all(self.replayed[name].output), row.outputs)
 
-    def test_cut_behind_each_byte(self) -> None:
+    def test_cut_at_each_byte(self) -> None:
         whole = read_all(self.replayed[f"cut_{len(SHORT)}"].output)
         self.assertEqual(whole[-1], Done(Status.HANDED_OFF))
         lengths = [len(made.spelled([timed.record])) for timed in read_input(io.BytesIO(SHORT))]
@@ -369,9 +368,9 @@ class Replays(unittest.TestCase):
                 is_whole = length in ends_of_records
                 wanted = Status.UNFINISHED if is_whole else Status.BAD_RECORD
                 self.assertEqual(run.status, wanted)
-                front = without_closing(read_all(run.output))
-                self.assertEqual(front, whole[: len(front)])
-                steps = [record.number for record in front if isinstance(record, Step)]
+                before = without_closing(read_all(run.output))
+                self.assertEqual(before, whole[: len(before)])
+                steps = [record.number for record in before if isinstance(record, Step)]
                 self.assertEqual(len(steps), sum(sum(lengths[: n + 1]) <= length for n in range(4)))
 
     def test_the_example_boots(self) -> None:
