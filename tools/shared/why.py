@@ -241,8 +241,7 @@ class Account:
         if self.inputs.damage:
             return f"{sentence}: {self.inputs.damage}"
         if number in self.inputs.lines:
-            place = "a recording begins with START" if number == 1 else "START may stand once"
-            return f"{sentence}: {place}, and this is {self.inputs.lines[number]}"
+            return f"{sentence}: it is {self.inputs.lines[number]}"
         return f"{sentence}: the input ends after record {self.trace.step}"
 
     def _explain(self, failure: Failure) -> Iterator[str]:
