@@ -221,18 +221,24 @@ def execute(arguments: argparse.Namespace, recording: Path, output: Path) -> int
     return status
 
 
+def section(title: str, words: list[str]) -> None:
+    """A part of what came of the run; an output that is cut off is shown as far as it goes."""
+    print(f"-- {title}")
+    try:
+        show.show(words)
+    except Refused as refusal:
+        sys.stdout.flush()
+        progress(str(refusal))
+
+
 def print_run(arguments: argparse.Namespace, recording: Path, output: Path, status: int) -> None:
     """The text, and then the trace or why the run ended as it did."""
-    if not output.exists() or not output.stat().st_size:
-        return
-    print("-- text")
-    show.show([str(output), "--text"])
-    if status not in TRACED:
-        print("-- why")
-        show.show([str(output), "--input", str(recording), "--why"])
-    if status in TRACED or arguments.trace:
-        print("-- trace")
-        show.show([str(output), "--input", str(recording)])
+    if output.exists() and output.stat().st_size:
+        section("text", [str(output), "--text"])
+        if status not in TRACED:
+            section("why", [str(output), "--input", str(recording), "--why"])
+        if status in TRACED or arguments.trace:
+            section("trace", [str(output), "--input", str(recording)])
     print(f"-- status {status}: {STATUSES.get(status, 'not known')}")
 
 
