@@ -41,6 +41,8 @@ class PrintedText:
     def _visible(self, text: str) -> str:
         if text:
             self._is_in_line = not text.endswith("\n")
+        if text.replace("\n", "").isprintable():
+            return text
         return "".join(c if c in UNCHANGED else _visible(c) for c in text)
 
 
