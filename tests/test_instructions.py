@@ -14,7 +14,7 @@ from pathlib import Path
 from unittest.mock import patch
 
 from shared.command_line import Refused
-from instructions import Counted, count, missing, total_of
+from instructions import Counted, costs_of, count, missing, total_of
 from boots import write_transfer
 from measure import build_loop, count_loop, report_instructions
 from shared.records import Received, Record
@@ -80,7 +80,7 @@ class Profiles(unittest.TestCase):
     def test_the_total_of_a_profile(self) -> None:
         self.assertEqual(total_of(PROFILE), 820)
 
-    def test_what_tells_no_one_total(self) -> None:
+    def test_what_has_no_one_total(self) -> None:
         for why, profile in (
             ("empty", ""),
             ("cut", PROFILE.replace("totals: 820\n", "")),
@@ -91,15 +91,22 @@ class Profiles(unittest.TestCase):
                 total_of(profile)
 
     def test_rates_and_what_is_beyond(self) -> None:
-        one, three = Counted(1_000, 9_500, 3_000), Counted(3_000, 24_500, 8_000)
-        self.assertEqual(one.rates(), "program 9.50, C loop 3.00, ratio 3.17")
-        self.assertEqual(three.beyond(one), Counted(2_000, 15_000, 5_000))
+        one, three = Counted(1_000, 2_000, 9_500, 3_000), Counted(3_000, 5_000, 24_500, 8_000)
+        said = "9.50 (3.00) for each byte of the image, 4.75 (1.50) of the input"
+        self.assertEqual(one.rates(), f"{said}, 3.17 times the C loop's")
+        self.assertEqual(three.beyond(one), Counted(2_000, 3_000, 15_000, 5_000))
 
-    def test_missing_tools_are_told_in_a_line(self) -> None:
+    def test_the_functions_own_costs(self) -> None:
+        """A call's cost isn't its caller's; positions may be relative, and names by number."""
+        again = "fn=(1)\n+3 5\n* 6\ncfn=(2)\ncalls=1 20\n-2 99\n"
+        profile = PROFILE.replace("\ntotals", again + "\ntotals")
+        self.assertEqual(dict(costs_of(profile)), {"main": 411, "totals": 420})
+
+    def test_missing_tools_are_named_in_a_line(self) -> None:
         printed = io.StringIO()
         with patch.dict(os.environ, PATH="/none"), redirect_stdout(printed):
             report_instructions(Path("none"), {}, Path("none"))
-        said = "instructions aren't counted, for want of valgrind and cc\n"
+        said = "instructions aren't counted, as these are missing: valgrind, cc\n"
         self.assertEqual(printed.getvalue(), said)
 
 
@@ -107,7 +114,7 @@ class Profiles(unittest.TestCase):
 class Counts(Case):
     @unittest.skipUnless(platform.machine() == "x86_64", "the program is x86-64's")
     def test_a_program_of_1004_instructions(self) -> None:
-        """callgrind leaves out what a program runs behind its last jump, here the last three."""
+        """callgrind leaves out what a program runs after its last jump, here the last three."""
         self.put("exact.s", EXACT.encode())
         words = "cc -nostdlib -static -o exact exact.s"
         subprocess.run(words.split(), cwd=self.folder, check=True)

@@ -47,11 +47,11 @@ def path_of(name: str) -> str:
 
 
 class Missing(unittest.TestCase):
-    def test_a_missing_compiler_is_told_in_a_line(self) -> None:
+    def test_a_missing_compiler_is_named_in_a_line(self) -> None:
         printed = io.StringIO()
         with patch.dict(os.environ, PATH="/none"), redirect_stdout(printed):
             report_runs(Path("none"), {1: Path("none")}, Path("none"))
-        said = "memory and time aren't measured, for want of cc\n"
+        said = "memory and time aren't measured, as cc is missing\n"
         self.assertEqual(printed.getvalue(), said)
 
 
