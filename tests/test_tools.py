@@ -2,41 +2,20 @@
 
 from __future__ import annotations
 
+import os
 import re
 import shutil
 import struct
+import subprocess
 import unittest
 
-from shared.causes import OK, Cause, Code
-from shared.kinds import Status
+from boot import is_built
 from shared.recordings import read_input
-from shared.records import Done, Received, Record, Result, Step, Text, Tick
-from tests import made
-from tests.case import TOP, Case
+from shared.records import Received
+from tests import TOP, made
+from tests.case import Case
 
 EXAMPLES = TOP / "examples"
-
-COMMANDS_OUTPUT: list[Record] = [
-    Step(1),
-    made.enter(),
-    made.command(b"echo hello, world", 3),
-    Text(b"hello, world\n"),
-    Result(OK),
-    made.command(b"echo", 4),
-    Text(b"\n"),
-    Result(OK),
-    made.command(b"echo -n no line end yet:", 5),
-    Text(b"no line end yet:"),
-    Result(OK),
-    made.command(b"echo now", 6),
-    Text(b"now\n"),
-    Result(OK),
-    made.command(b"exit 3", 7),
-    Result(Cause(Code.EXIT, 3)),
-    made.leave(Cause(Code.EXIT, 3)),
-    Done(Status.SCRIPT_FAILED),
-]
-
 
 class Examples(Case):
     def test_recordings_are_made_from_their_scripts(self) -> None:
@@ -46,14 +25,32 @@ class Examples(Case):
             self.assertEqual(said, f"{name}.rec: 1 record\n")
             self.assertEqual(self.get(f"{name}.rec"), (EXAMPLES / f"{name}.rec").read_bytes())
 
-    def test_the_page_shows_what_the_tools_print(self) -> None:
-        self.put("hello.out", made.HELLO_OUTPUT)
-        self.put("commands.out", COMMANDS_OUTPUT)
+    @unittest.skipUnless(is_built(), "the program isn't built")
+    def test_the_page_shows_what_its_commands_print(self) -> None:
+        """Runs the page from its beginning to its end: each `$` line, and each block of `sh`."""
+        (self.folder / "crates").symlink_to(TOP / "crates")
         page = (EXAMPLES / "README.md").read_text()
-        calls = re.findall(r"^```console\n\$ (.*)\n((?:.*\n)*?)```$", page, re.M)
-        self.assertGreaterEqual(len(calls), 6)
-        for line, printed in calls:
-            self.assertEqual(self.works(line), printed, line)
+        blocks = re.findall(r"^```(sh|console)\n(.*?)^```$", page, re.M | re.S)
+        self.assertGreaterEqual(len(blocks), 10)
+        for kind, text in blocks:
+            if kind == "sh":
+                self.assertEqual(self.printed(text), "", text)
+                continue
+            for line, printed in re.findall(r"^\$ (.*)\n((?:(?!\$ ).*\n)*)", text, re.M):
+                self.assertEqual(self.printed(line), printed, line)
+
+    def printed(self, line: str) -> str:
+        """What a shell shows of a command line: standard output and standard error."""
+        done = subprocess.run(
+            ["sh", "-c", line],
+            cwd=self.folder,
+            env={**os.environ, "PYTHONDONTWRITEBYTECODE": "1", "LC_ALL": "C.UTF-8"},
+            stdout=subprocess.PIPE,
+            stderr=subprocess.STDOUT,
+            text=True,
+            check=False,
+        )
+        return done.stdout
 
     def test_the_tftp_boot_is_made_anew(self) -> None:
         (self.folder / "inner").mkdir()
@@ -105,7 +102,7 @@ class Processes(Case):
             return printed, said, process.returncode
 
     def test_help_and_missing_words(self) -> None:
-        for name in ("record", "show", "pcap"):
+        for name in ("record", "show", "pcap", "boot"):
             printed, said, status = self.ends(f"tools/{name}.py --help")
             self.assertEqual((said, status), ("", 0))
             self.assertIn("examples:", printed)
@@ -119,13 +116,6 @@ class Processes(Case):
         self.assertEqual((len(printed.splitlines()), status), (2, 1))
         why = "at byte 25: the file ends inside a record: 1 of 22 bytes"
         self.assertEqual(said, f"show.py: cut.out: {why}\n")
-
-    def test_a_reader_that_goes_away(self) -> None:
-        self.put("long.rec", [made.start(b""), *[Tick(1)] * 20_000])
-        with self.start("tools/show.py long.rec") as process:
-            process.stdout.readline()
-            process.stdout.close()
-            self.assertEqual(process.stderr.read(), "")
 
 
 if __name__ == "__main__":

@@ -333,6 +333,11 @@ class Waiting(unittest.TestCase):
         without = "the run was ended from outside, while line 2 waited for the hardware address of"
         self.assertIn(without, sentence(outputs))
 
+    def test_the_hardware_address_came_and_no_more(self) -> None:
+        outputs = [*self.begins(), Step(2), Step(3), *self.STOPPED]
+        said = "for the next try, as 10.0.0.1 had only said its hardware address: f is asked for then"
+        self.assertTrue(sentence(outputs, [self.START, made.found(), Tick(9)]).endswith(said))
+
     def test_the_power_is_switched_off(self) -> None:
         ack = made.to_server(tftp_ack(1))
         outputs = [*self.begins(), Step(2), Advance(0, 1), Try(0, 1), ack, Step(3), *self.STOPPED]

@@ -25,6 +25,7 @@ class Meanwhile:
     port: int | None = None
     blocks: int = 0
     reasons: Counter[str] = field(default_factory=Counter)
+    hosts: set[IPv4Address] = field(default_factory=set)
 
     def take(self, frame: bytes) -> None:
         """Counts a frame that brought the open nothing; one that did begins the count anew."""
@@ -44,6 +45,8 @@ class Meanwhile:
         if to != self.start.mac and not to[0] & GROUP_BIT:
             return f"the hardware address {mac(to)} isn't the client's, {mac(self.start.mac)}"
         if kind == ARP:
+            if len(frame) >= 42 and len(self.hosts) < MOST_REASONS:
+                self.hosts.add(IPv4Address(frame[28:32]))
             return "ARP, which only says where hosts are"
         if kind != IPV4:
             return f"Ethernet type 0x{kind:04x}, which is neither ARP nor IPv4"

@@ -131,12 +131,13 @@ def of_silence(opened: Open, asked: list[bytes], block: int, span: int | None) -
     return f"{server} never answered: {path} was asked for {times(len(asked))}{over}"
 
 
-def of_wait(opened: Open, asked: list[bytes], block: int) -> str:
-    """What an open waits for."""
-    hop = asked_address(asked[-1]) if asked else None
-    if hop:
+def of_wait(opened: Open, asked: list[bytes], block: int, known: set[IPv4Address]) -> str:
+    """What an open waits for; of the known hosts the hardware address has come."""
+    hop, path = asked_address(asked[-1]) if asked else None, word(opened.target)
+    if hop and hop not in known:
         return f"the hardware address of {hop}"
-    path = word(opened.target)
+    if hop:
+        return f"the next try, as {hop} had only said its hardware address: {path} is asked for then"
     if block:
         return f"block {block + 1} of {path} from {opened.server}"
     return f"the first answer of {opened.server} to the request for {path}"

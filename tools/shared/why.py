@@ -230,7 +230,8 @@ class Account:
             return f"{what}{when}, before the script's end"
         if waiting is None:
             return f"{what}{when}, while {running} was running"
-        wanted = of_wait(waiting.open, waiting.asked(), waiting.block)
+        known = self.inputs.meanwhile.hosts if self.inputs.meanwhile else set()
+        wanted = of_wait(waiting.open, waiting.asked(), waiting.block, known)
         return f"{what}{when}, while {running} waited for {wanted}"
 
     def _bad_record(self) -> str:
