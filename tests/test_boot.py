@@ -1,4 +1,4 @@
-"""`boot.py`: what it takes, what it shows, how it ends, and what it leaves behind.
+"""`boot.py`: what it takes, what it shows, how it ends, and what it leaves.
 
 A program of the tests' own stands for netboot, where it isn't the point what netboot does.
 """

@@ -24,7 +24,7 @@ from shared.wire import tftp_request, udp, udp_frame
 
 FETCH = b"imgfetch tftp://10.0.0.1/f"
 EXEC = b"imgexec tftp://10.0.0.1/k"
-# where OPEN stands in the output: behind STEP, SCRIPT and COMMAND
+# where OPEN stands in the output: after STEP, SCRIPT and COMMAND
 OPEN_PLACE = 3
 FOREIGN_PORT = made.SERVER_PORT + 1
 NEIGHBOUR = Station(bytes.fromhex("525400000003"), IPv4Address("10.0.0.3"))

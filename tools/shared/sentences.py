@@ -37,7 +37,7 @@ USAGES = {
     b"imgexec": "imgexec URI",
 }
 
-# Commands of iPXE, so that one that isn't built is told from one that is misspelled.
+# Commands of iPXE, so that one that isn't built is known from one that is misspelled.
 KNOWN = frozenset(
     b"autoboot boot chain choose clear colour config console cpair cpuid dhcp form goto ifclose "
     b"ifconf ifopen iflinkwait ifstat imgargs imgdecrypt imgextract imgfree imgload imgmem "
