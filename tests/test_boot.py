@@ -84,11 +84,11 @@ class Programs(Launched):
         self.assertEqual(self.get("in.rec")[6:12].hex(":"), "52:54:00:00:00:09")
         self.assertEqual(self.get("in.rec")[64:72].hex("."), "0a.00.00.07.ff.00.00.00")
 
-    def test_a_failure_is_said_and_no_file_is_shown(self) -> None:
+    def test_what_the_program_says_is_shown(self) -> None:
         self.program('echo "netboot: no memory" >&2; echo "in out.rec" >&2; exit 9')
         printed, said, status = self.ends("tools/boot.py s.ipxe --program program")
         wanted = "-- status 9: memory ran out\n"
-        self.assertEqual((printed, said, status), (wanted, "netboot: no memory\n", 9))
+        self.assertEqual((printed, said, status), (wanted, "netboot: no memory\nin out.rec\n", 9))
 
     def test_why_is_shown_of_what_ended_badly(self) -> None:
         self.put("bad.out", [Done(Status.BAD_RECORD)])
@@ -98,6 +98,12 @@ class Programs(Launched):
         self.assertEqual(status, 6)
         self.assertIn("-- why\ninput record 1 can't be used: ", printed)
         self.assertNotIn("-- trace", printed)
+
+    def test_options_that_a_recording_does_not_take(self) -> None:
+        self.put("boot.rec", made.BOOT_INPUT)
+        for words, option in (("--ip 10.0.0.9", "ip"), ("--from 1", "from"), ("--until 3", "until")):
+            said = self.ends(f"tools/boot.py boot.rec {words}")[1]
+            self.assertIn(f"is a recording already, so --{option} can't change it", said)
 
     def test_a_signal(self) -> None:
         self.program("kill -9 $$")

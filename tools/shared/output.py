@@ -98,7 +98,7 @@ def _beside(place: Path, about: os.stat_result | None) -> Iterator[BinaryIO]:
         unfinished = None
     finally:
         if unfinished:
-            os.unlink(unfinished)
+            Path(unfinished).unlink(missing_ok=True)
 
 
 def _new_file(place: Path) -> tuple[int, str]:
