@@ -156,7 +156,7 @@ class Times(Case):
     def test_a_clock_that_jumped(self) -> None:
         self.put("s.ipxe", b"")
         self.put("s.pcap", pcap_file([(0, SILENT[0][1]), (10**13, SILENT[0][1])]))
-        self.fails("tools/record.py s.ipxe s.rec --capture s.pcap", "s after the first, over a week")
+        self.fails("tools/record.py s.ipxe s.rec --capture s.pcap", "s after the beginning, over a day")
 
 
 class Warnings(Case):

@@ -30,8 +30,8 @@ UDP_HEADER = 8
 FIRST_OWN_PORT = 49_152
 OWN_PORTS = 16_384
 MOST_COUNTED = 1_024
-# a week: what comes later is no boot, but a clock that jumped
-LONGEST = 7 * 24 * 3600 * 1000
+# a day: what comes later is no boot, but a clock that jumped
+LONGEST = 24 * 3600 * 1000
 
 
 @dataclass(frozen=True, slots=True)
@@ -169,7 +169,10 @@ class Conversion:
     def _check_time(self, packet: Packet, time: int) -> None:
         if time > LONGEST:
             where = f"{self.reader.name}: the packet at byte {packet.offset}"
-            raise Refused(f"{where} comes {time // 1000} s after the first, over a week")
+            raise Refused(
+                f"{where} comes {time // 1000} s after the beginning, over a day: --from, --trim and "
+                "--until take a part of a capture"
+            )
 
     def ticks(self, time: int) -> Iterator[Tick]:
         """TICKs from now to this time, in milliseconds."""
