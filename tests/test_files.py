@@ -1,4 +1,4 @@
-"""The built program's files: outputs that are inputs, links, pipes, full disks, names of any bytes."""
+"""The built program's files: outputs that are inputs, links, pipes, full disks, strange names."""
 
 from __future__ import annotations
 

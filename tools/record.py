@@ -208,27 +208,6 @@ def add_machine(parser: argparse.ArgumentParser) -> None:
 
 def add_capture(parser: argparse.ArgumentParser) -> None:
     parser.add_argument("--capture", type=Path, metavar="FILE", help="a pcap or pcapng file")
-    begin = parser.add_mutually_exclusive_group()
-    begin.add_argument(
-        "--from",
-        dest="begin",
-        type=seconds(YEAR),
-        metavar="S",
-        help="time begins S seconds after the capture's first packet",
-    )
-    begin.add_argument(
-        "--trim", action="store_true", help="time begins at the first frame from or to --mac"
-    )
-    parser.add_argument(
-        "--until", type=seconds(DAY), metavar="S", help="time runs to S seconds after its beginning"
-    )
-    parser.add_argument(
-        "--tick",
-        type=ranged(1, MAX_TICK),
-        default=250,
-        metavar="MS",
-        help="the longest TICK, in milliseconds (default 250)",
-    )
     parser.add_argument(
         "--skip", action="store_true", help="leave out frames that are too long, short or cut"
     )
@@ -244,11 +223,32 @@ def add_capture(parser: argparse.ArgumentParser) -> None:
     )
 
 
+def add_times(parser: argparse.ArgumentParser) -> None:
+    begin = parser.add_mutually_exclusive_group()
+    begin.add_argument(
+        "--from",
+        dest="begin",
+        type=seconds(YEAR),
+        metavar="S",
+        help="time begins S seconds after the capture's first packet",
+    )
+    begin.add_argument(
+        "--trim", action="store_true", help="time begins at the first frame from or to --mac"
+    )
+    until = "time runs to S seconds after its beginning"
+    parser.add_argument("--until", type=seconds(DAY), metavar="S", help=until)
+    longest = "the longest TICK, in milliseconds (default 250)"
+    parser.add_argument(
+        "--tick", type=ranged(1, MAX_TICK), default=250, metavar="MS", help=longest
+    )
+
+
 def add_options(parser: argparse.ArgumentParser) -> None:
     """The options beside the files; boot.py has them too."""
     add_addresses(parser)
     add_machine(parser)
     add_capture(parser)
+    add_times(parser)
 
 
 def parse(words: list[str]) -> argparse.Namespace:

@@ -170,8 +170,8 @@ class Conversion:
         if time > LONGEST:
             where = f"{self.reader.name}: the packet at byte {packet.offset}"
             raise Refused(
-                f"{where} comes {time // 1000} s after the beginning, over a day: --from, --trim and "
-                "--until take a part of a capture"
+                f"{where} comes {time // 1000} s after the beginning, over a day: --from, --trim "
+                "and --until take a part of a capture"
             )
 
     def ticks(self, time: int) -> Iterator[Tick]:
@@ -263,7 +263,8 @@ def warnings(conversion: Conversion, w: int) -> Iterator[str]:
             "fills in later, and the client drops them: --fix-checksums mends them"
         )
     if met.wrong:
-        yield f"{met.wrong} of {count(met.taken, 'frame')} have wrong checksums; the client drops them"
+        of_all = f"{met.wrong} of {count(met.taken, 'frame')}"
+        yield f"{of_all} have wrong checksums, and the client drops them"
     if taken.own_port is None:
         yield from _ports(met, w)
     if met.began_late >= 1_000 and not taken.is_trimmed and taken.begin is None:
