@@ -91,7 +91,8 @@ fn fields_of_start(rt: HostRuntime) -> Result<(), Fail> {
     let mut feed = Feed::new(rt.alloc())?;
     feed.push(&START);
     match feed.front() {
-        Front::Whole(InRec::Start(start), len) => {
+        Front::Whole(InRec::Start(record), len) => {
+            let start = record.fields();
             assert_eq!(rt; len, 103);
             assert_eq!(rt; start.mac.0, [0x52, 0x54, 0, 0, 0, 1]);
             assert_eq!(rt; start.ip, Ip4(0));
@@ -113,7 +114,8 @@ fn places_of_fields(rt: HostRuntime) -> Result<(), Fail> {
     let mut feed = Feed::new(rt.alloc())?;
     feed.push(&bytes);
     match feed.front() {
-        Front::Whole(InRec::Start(start), _) => {
+        Front::Whole(InRec::Start(record), _) => {
+            let start = record.fields();
             let ends = (start.uuid[0], start.key[31]);
             assert_eq!(rt; ends, (12, 59));
             assert_eq!(rt; start.arch, 0x3c3d);

@@ -1,7 +1,7 @@
 use Rattle.std.proofs.Common.{◌+◌, ap, arith, ℕ}
 use Rattle.nb_record.proofs.PartialLemmas.{is_partial}
 use Rattle.nb_record.proofs.WholeLemmas.{front_long, front_is}
-use Rattle.nb_record.proofs.reading.front_of.Goals as goal
+use Rattle.nb_record.proofs.reading.any_front_of.Goals as goal
 
 pub returns-then-bytes-len : goal.returns-then-bytes-len
 returns-then-bytes-len c =
