@@ -7,29 +7,25 @@ ghost use Rattle.nb_boot.specs.Complete.{Completes, CompletesRun, IsBadWords};
 
 use crate::Status;
 use crate::begin::begin;
-use crate::feeding::PIECE;
 use crate::output::ROOM;
 use crate::turn::{last, turn};
 use nb_record::{Feed, Line, Log, NoMemory, Target};
 use std::alloc::Global;
 
-/// What a run needs beside its client: the feed, a piece of input, the log.
+/// What a run needs beside its client: the feed and the log.
 #[derive(Drop)]
 struct Session {
     feed: Feed,
-    piece: Vec<u8>,
     log: Log,
 }
 
 /// A session in which nothing was read or written.
 fn open(alloc: Global) -> Result<Session, NoMemory>
     ensures feed { IfOk result (λ s. s.feed ≡ record { bytes = []; passed = 0 }) }
-    ensures piece { IfOk result (λ s. length s.piece.items ≡ 65536) }
     ensures log { IfOk result (λ s. s.log ≡ record { bytes = []; room = 196608; is_short = false }) }
 {
     Ok(Session {
         feed: Feed::new(alloc)?,
-        piece: vec![in alloc; 0; PIECE]?,
         log: Log::new(alloc, ROOM)?,
     })
 }
@@ -38,27 +34,25 @@ fn open(alloc: Global) -> Result<Session, NoMemory>
 fn serve<L: Line>(
     alloc: Global,
     feed: &mut Feed,
-    piece: &mut [u8],
     log: &mut Log,
     line: &mut L,
 ) -> Status
     requires empty { feed.old.bytes ≡ [] }
-    requires room { length piece.old ≡ 65536 }
     requires no_output { log.old.bytes ≡ [] }
     ensures { Shows result (L.outside line.old) (L.outside line.new) }
 {
-    let mut client = match begin(alloc, feed, piece, log, line) {
+    let mut client = match begin(alloc, feed, log, line) {
         Ok(client) => client,
         Err(status) => return status,
     };
     let mut used: u32 = 1;
     'records: while used < u32::MAX {
-        match turn(&mut client, feed, piece, log, line) {
+        match turn(&mut client, feed, log, line) {
             None => used += 1,
             Some(status) => return status,
         }
     }
-    last(&mut client, feed, piece, log, line)
+    last(&mut client, feed, log, line)
 }
 
 /// Runs what is attached.
@@ -66,7 +60,7 @@ fn replay<L: Line>(alloc: Global, line: &mut L) -> Status
     ensures { Shows result (L.outside line.old) (L.outside line.new) }
 {
     match open(alloc) {
-        Ok(mut s) => serve(alloc, &mut s.feed, s.piece.as_mut_slice(), &mut s.log, line),
+        Ok(mut s) => serve(alloc, &mut s.feed, &mut s.log, line),
         Err(NoMemory) => Status::NoMemory,
     }
 }

@@ -17,7 +17,7 @@ use Rattle.nb_record.specs.Logged.{Puts}
 use Rattle.nb_defs.specs.Records.{out_texts, step}
 use Rattle.nb_engine.proofs.Standing.{waits_for}
 use Rattle.nb_engine.proofs.Growth.{frame_grows, pass_by_grows, heeds_acts}
-use Rattle.nb_engine.proofs.client.Client.frame.Goals as goal
+use Rattle.nb_engine.proofs.client.Client.receive.Goals as goal
 
 pub returns-in-Some : goal.returns-in-Some
 returns-in-Some c = λ n e.
@@ -31,7 +31,7 @@ returns-in-Some c = λ n e.
     let st : c.self.inside.stage ≡ stage.Waiting s f = ap (λ (x : Seen). x.stage) c.self.view_is ∙ r.is in
     let counted : c.self.inside.used ≡ n + 1 = ap (λ (x : Seen). x.used) c.self.view_is ∙ e in
     let takes : Takes w.net bytes (outcome c.take-taken.result) [] c.take-taken.new.reply.written net =
-    subst (λ p. Takes w.net bytes (outcome c.take-taken.result) p c.take-taken.new.reply.written net) c.new-reply.ensures.empty c.take-taken.ensures.takes in
+    subst (λ p. Takes w.net bytes (outcome c.take-taken.result) p c.take-taken.new.reply.written net) c.out-reply.ensures.empty c.take-taken.ensures.takes in
     let told : Some (c.in-Some.port, c.in-Some.body.now) ≡ heard_at c.self.inside.stage (outcome c.take-taken.result) = rw c.in-Some.is at c.heard.ensures in
     let heard : heard_from f.server (outcome c.take-taken.result) ≡ Some (c.in-Some.port, c.in-Some.body.now) =
     sym (subst (λ (x : Stage). Some (c.in-Some.port, c.in-Some.body.now) ≡ heard_at x (outcome c.take-taken.result)) st told) in
@@ -57,7 +57,7 @@ returns-in-None c = λ n e.
     let st : c.self.inside.stage ≡ stage.Waiting s f = ap (λ (x : Seen). x.stage) c.self.view_is ∙ r.is in
     let counted : c.self.inside.used ≡ n + 1 = ap (λ (x : Seen). x.used) c.self.view_is ∙ e in
     let takes : Takes w.net bytes (outcome c.take-taken.result) [] reply net =
-    subst (λ p. Takes w.net bytes (outcome c.take-taken.result) p reply net) c.new-reply.ensures.empty c.take-taken.ensures.takes in
+    subst (λ p. Takes w.net bytes (outcome c.take-taken.result) p reply net) c.out-reply.ensures.empty c.take-taken.ensures.takes in
     let told : None ≡ heard_at c.self.inside.stage (outcome c.take-taken.result) = rw c.in-None.is at c.heard.ensures in
     let none : heard_from f.server (outcome c.take-taken.result) ≡ None = sym (subst (λ (x : Stage). None ≡ heard_at x (outcome c.take-taken.result)) st told) in
     let puts = subst (λ b. Puts c.args.log.now c.pass_by.new.log (out_texts (step c.self.inside.used ∷ reply_records b))) c.written.ensures c.pass_by.ensures.puts in

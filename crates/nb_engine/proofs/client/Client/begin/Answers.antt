@@ -14,7 +14,7 @@ use Rattle.nb_engine.specs.Advance.{IfRunning, IfOne, Asks, Asked as AskedFor}
 use Rattle.nb_engine.specs.Seen.{Seen, seen}
 use Rattle.nb_engine.proofs.Standing.{runs_at}
 use Rattle.nb_engine.proofs.Moves.{asked_acts}
-use Rattle.nb_engine.proofs.client.Client.fetch.Goals as goal
+use Rattle.nb_engine.proofs.client.Client.begin.Goals as goal
 
 pub own_port-own_port-requires-clause-number : goal.own_port-own_port-requires-clause-number
 own_port-own_port-requires-clause-number c = rw (ap (λ (x : Seen). x.world.opens) c.self.view_is) c.requires.file.few

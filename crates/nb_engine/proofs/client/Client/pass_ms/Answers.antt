@@ -10,7 +10,7 @@ use Rattle.nb_engine.specs.Seen.{Seen, seen}
 use Rattle.nb_engine.specs.Turns.{Acts}
 use Rattle.nb_engine.proofs.Standing.{waits_for}
 use Rattle.nb_engine.proofs.Growth.{tick_grows, heeds_acts}
-use Rattle.nb_engine.proofs.client.Client.tick.Goals as goal
+use Rattle.nb_engine.proofs.client.Client.pass_ms.Goals as goal
 
 pub returns : goal.returns
 returns c = λ n e.
