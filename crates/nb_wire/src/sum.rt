@@ -14,14 +14,16 @@ pub fn sum16(first: &[u8], second: &[u8]) -> u16
     complement(total(first) + total(second))
 }
 
-/// The internet checksum of bytes whose 16-bit words have the sum `before`, and of `bytes` after
-/// them. So what stands before them, as a pseudo-header, needn't be written out.
+/// The internet checksum of bytes whose 16-bit words have the sum `before`, then `first`, and then
+/// `second`. So what stands before them, as a pseudo-header, needn't be written out.
 #[inline(always)]
-pub fn sum16_after(before: u32, bytes: &[u8]) -> u16
-    requires { length bytes.now ≤ 131072 }
-    ensures { (front : List ℕ) → HasSum front before → result ≡ checksum (front ++ bytes.now) }
+pub fn sum16_after(before: u32, first: &[u8], second: &[u8]) -> u16
+    requires even { length first.now % 2 ≡ 0 }
+    requires room { length first.now + length second.now ≤ 131072 }
+    ensures { (front : List ℕ) → HasSum front before
+        → result ≡ checksum (front ++ (first.now ++ second.now)) }
 {
-    complement(u64::from(before) + total(bytes))
+    complement(u64::from(before) + (total(first) + total(second)))
 }
 
 /// The internet checksum of bytes whose 16-bit words have this sum.

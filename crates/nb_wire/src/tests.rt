@@ -39,9 +39,12 @@ fn checksums_of_all_lengths(rt: HostRuntime) {
     for len in 0..200usize {
         let expected = plain_sum(&bytes[..len]);
         assert_eq!(rt; sum16(&[], &bytes[..len]), expected, "{len} bytes");
-        assert_eq!(rt; sum16_after(0, &bytes[..len]), expected, "{len} bytes");
+        assert_eq!(rt; sum16_after(0, &[], &bytes[..len]), expected, "{len} bytes");
     }
-    assert_eq!(rt; sum16_after(0x0760, &bytes[2..200]), plain_sum(&bytes));
+    assert_eq!(rt;
+        sum16_after(0x0760, &bytes[2..70], &bytes[70..200]),
+        plain_sum(&bytes)
+    );
 }
 
 /// A header's fields as a sum of numbers: the common example of the first test.
