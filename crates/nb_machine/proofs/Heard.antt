@@ -2,7 +2,7 @@
 use Rattle.std.proofs.Common.{◌≡◌, ℕ, true, cond, List, [], ◌∷◌, ◌++◌, Some, None, refl, sym, ◌∙◌, ap, subst, append-nil, option_map}
 use Rattle.nb_terms.specs.declared.cause.Cause.{Cause}
 use Rattle.nb_terms.specs.declared.acts.Acts.{Acts}
-use Rattle.nb_defs.specs.Records.{Out, ended}
+use Rattle.nb_defs.specs.Records.{In, Out, ended}
 use Rattle.nb_image.specs.Images.{image_of}
 use Rattle.nb_tftp.specs.Blocks.{file}
 use Rattle.nb_tftp.specs.History.{Call, entry, got}
@@ -28,29 +28,29 @@ use Rattle.nb_machine.specs.Carried.{live_of, state_in, waiting_in, Lives, Stand
 use Rattle.nb_machine.proofs.Told.{routed, end_put, all_came}
 
 -- where an answer comes: it, the records and where they lead
-pub record Answered (w : World) (s : Running) (o : Open) (added put : List Out) (after : List Live) (over : List Over) (phase : Phase) : Type 0 where
+pub record Answered (w : World) (s : Running) (o : Open) (r : In) (added put : List Out) (after : List Live) (over : List Over) (phase : Phase) : Type 0 where
   pub given : Answer
-  pub is_given : answer_in over (answer o.number) ≡ Some given
-  pub records : added ≡ put ++ conclusion_records s.depth (concluded_by (fetch o.wanted) given w.images)
-  pub leads : StandsAs phase (led_to (state_in w after) s [] (concluded_by (fetch o.wanted) given w.images))
+  pub is_given : answer_in (state_in w after) r over (answer o.number) ≡ Some given
+  pub records : added ≡ put ++ conclusion_records s.depth (concluded_by (state_in w after) (fetch o.wanted) given)
+  pub leads : StandsAs phase (led_to (state_in w after) s [] (concluded_by (state_in w after) (fetch o.wanted) given))
 
 -- where none does
-pub record Unanswered (w : World) (s : Running) (o : Open) (added put : List Out) (after : List Live) (over : List Over) (phase : Phase) : Type 0 where
-  pub none : answer_in over (answer o.number) ≡ None
+pub record Unanswered (w : World) (s : Running) (o : Open) (r : In) (added put : List Out) (after : List Live) (over : List Over) (phase : Phase) : Type 0 where
+  pub none : answer_in (state_in w after) r over (answer o.number) ≡ None
   pub records : added ≡ put
   pub leads : StandsAs phase (waiting (state_in w after) (waiting_in s o))
 
-pub data Result (w : World) (s : Running) (o : Open) (added put : List Out) (after : List Live) (over : List Over) (phase : Phase) : Type 0 where
-  waits_on : Unanswered w s o added put after over phase → Result w s o added put after over phase
-  is_answered : Answered w s o added put after over phase → Result w s o added put after over phase
+pub data Result (w : World) (s : Running) (o : Open) (r : In) (added put : List Out) (after : List Live) (over : List Over) (phase : Phase) : Type 0 where
+  waits_on : Unanswered w s o r added put after over phase → Result w s o r added put after over phase
+  is_answered : Answered w s o r added put after over phase → Result w s o r added put after over phase
 
 -- what it is for the machine of many opens
-pub record Taking (w : World) (s : Running) (o : Open) (xs : List Exchange) (call : Call) (added : List Out) (phase : Phase) : Type 0 where
+pub record Taking (w : World) (s : Running) (o : Open) (xs : List Exchange) (r : In) (call : Call) (added : List Out) (phase : Phase) : Type 0 where
   pub put : List Out
   pub after : List Live
   pub over : List Over
   pub take : AllTake (bare w.net ∷ []) (arrival_of call) (live_of o xs ∷ []) put after over
-  pub result : Result w s o added put after over phase
+  pub result : Result w s o r added put after over phase
 
 -- the exchange that a call becomes
 abbrev exchanged_by : World → Open → Call → Acts → Exchange
@@ -83,7 +83,7 @@ end_is w o call acts x put e =
 
 -- the image is made of what was fetched
 concluded_so : (w : World) (o : Open) (xs : List Exchange) (cause : Cause) → Lives o xs →
-    concluded w o cause ≡ concluded_by (fetch o.wanted) (by_end (record { live = live_of o xs; cause = cause })) w.images
+    concluded w o cause ≡ concluded_by (state_in w []) (fetch o.wanted) (by_end (record { live = live_of o xs; cause = cause }))
 concluded_so w o xs cause lives =
     ap (λ gs. conclusion cause o.wanted.boots (image_of o.wanted.target.name (file gs) [] o.wanted.uri) w.images) (sym (all_came o.number o.begun.server.0 o.entries xs lives.exchanged))
 
@@ -92,9 +92,9 @@ leads w own s (keeps list) = refl
 leads w own s (fails cause) = (state_in w [], refl, refl)
 leads w own s (boots list kernel) = (_, refl, refl)
 
-pub heard : (w : World) (s : Running) (o : Open) (xs : List Exchange) (call : Call) (added : List Out) (phase : Phase) → Hears w s o call added phase → Lives o xs →
-    has_route w.net (request_of o.begun) ≡ true → o.begun ≡ begun_by (opening_of o) → Taking w s o xs call added phase
-heard w s o xs call added phase (goes_on _ _ _ _ acts meets none) lives route begins =
+pub heard : (w : World) (s : Running) (o : Open) (xs : List Exchange) (r : In) (call : Call) (added : List Out) (phase : Phase) → Hears w s o call added phase → Lives o xs →
+    has_route w.net (request_of o.begun) ≡ true → o.begun ≡ begun_by (opening_of o) → Taking w s o xs r call added phase
+heard w s o xs r call added phase (goes_on _ _ _ _ acts meets none) lives route begins =
     let e = entry call acts in
     let x = exchanged_by w o call acts in
     let more = lives_more w o xs call acts lives meets in
@@ -110,7 +110,7 @@ heard w s o xs call added phase (goes_on _ _ _ _ acts meets none) lives route be
         leads = (xs ++ x ∷ [], more, refl);
       });
     }
-heard w s o xs call added phase (is_over _ _ _ _ acts cause meets over) lives route begins =
+heard w s o xs r call added phase (is_over _ _ _ _ acts cause meets over) lives route begins =
     let e = entry call acts in
     let x = exchanged_by w o call acts in
     let more = lives_more w o xs call acts lives meets in

@@ -40,12 +40,12 @@ record Steps (n : ℕ) (p : Standing) (r : In) (added : List Out) (m' : Machine)
   same : StandsAs m'.phase to
 
 -- what came is taken by the network, and the command waits on or is answered
-taken : (n : ℕ) (w v : World) (s : Running) (o : Open) (xs : List Exchange) (call : Call) (r : In) (added : List Out) (phase : Phase) → IsIn r → (t : Taking v s o xs call added phase) →
+taken : (n : ℕ) (w v : World) (s : Running) (o : Open) (xs : List Exchange) (call : Call) (r : In) (added : List Out) (phase : Phase) → IsIn r → (t : Taking v s o xs r call added phase) →
     Network (state_in w (live_of o xs ∷ [])) (n + 1) r t.put (state_in v t.after) t.over →
     Steps n (waiting (state_in w (live_of o xs ∷ [])) (waiting_in s o)) r (step (n + 1) ∷ added) (at (n + 1) phase)
 taken n w v s o xs call r added phase valid t net = by_result t.result
   where
-    by_result : Result v s o added t.put t.after t.over phase → Steps n (waiting (state_in w (live_of o xs ∷ [])) (waiting_in s o)) r (step (n + 1) ∷ added) (at (n + 1) phase)
+    by_result : Result v s o r added t.put t.after t.over phase → Steps n (waiting (state_in w (live_of o xs ∷ [])) (waiting_in s o)) r (step (n + 1) ∷ added) (at (n + 1) phase)
     by_result (waits_on u) = record {
       to = waiting (state_in v t.after) (waiting_in s o);
       begins = subst (λ z. StepBegins (stands n (waiting (state_in w (live_of o xs ∷ [])) (waiting_in s o))) r (step (n + 1) ∷ z) (stands (n + 1) (waiting (state_in v t.after) (waiting_in s o)))) (sym u.records)
@@ -53,8 +53,8 @@ taken n w v s o xs call r added phase valid t net = by_result t.result
       same = u.leads;
     }
     by_result (is_answered a) = record {
-      to = led_to (state_in v t.after) s [] (concluded_by (fetch o.wanted) a.given v.images);
-      begins = subst (λ z. StepBegins (stands n (waiting (state_in w (live_of o xs ∷ [])) (waiting_in s o))) r (step (n + 1) ∷ z) (stands (n + 1) (led_to (state_in v t.after) s [] (concluded_by (fetch o.wanted) a.given v.images)))) (sym a.records)
+      to = led_to (state_in v t.after) s [] (concluded_by (state_in v t.after) (fetch o.wanted) a.given);
+      begins = subst (λ z. StepBegins (stands n (waiting (state_in w (live_of o xs ∷ [])) (waiting_in s o))) r (step (n + 1) ∷ z) (stands (n + 1) (led_to (state_in v t.after) s [] (concluded_by (state_in v t.after) (fetch o.wanted) a.given)))) (sym a.records)
           (courses.is_answered n (state_in w (live_of o xs ∷ [])) (state_in v t.after) (waiting_in s o) r t.put t.over a.given valid net a.is_given);
       same = a.leads;
     }
@@ -70,7 +70,7 @@ frame_passes n w s o xs bytes reply net m valid here brings put is port none =
       to = to;
       begins = subst (λ z. StepBegins (stands n (waiting st (waiting_in s o))) (frame bytes) (step (n + 1) ∷ reply_records z) (stands (n + 1) to)) (bare_reply w.net m ∙ sym put)
           (courses.waits_on n st _ (waiting_in s o) (frame bytes) (reply_records (reply_of (bare w.net) m)) [] valid
-          (network.passes_by bytes (bare w.net) m refl brings (for_none w.net o xs m port none)) refl);
+          (network.passes_by (frame bytes) net0 bytes (bare w.net) m (network.on_net0 bytes) refl brings (for_none w.net o xs m port none)) refl);
       same = (xs, here, ap (λ c. waiting (record st { devices = c ∷ [] }) (waiting_in s o)) (bare_after w.net m ∙ ap bare (sym is)));
     }
 
@@ -82,13 +82,13 @@ frame_comes : (n : ℕ) (w : World) (s : Running) (o : Open) (xs : List Exchange
 frame_comes n w s o xs bytes m port body added phase valid here brings (by_datagram p d is from what) hears route is_begun =
     let heard_it : Hears w s o (came (received (n + 1) d.src_port d.body) w.time) added phase =
     subst (λ (z : List ℕ). Hears w s o (came (received (n + 1) d.src_port z) w.time) added phase) what (subst (λ (z : ℕ). Hears w s o (came (received (n + 1) z body) w.time) added phase) from hears) in
-    let t = heard w s o xs (came (received (n + 1) d.src_port d.body) w.time) added phase heard_it here route is_begun in
+    let t = heard w s o xs (frame bytes) (came (received (n + 1) d.src_port d.body) w.time) added phase heard_it here route is_begun in
     taken n w w s o xs (came (received (n + 1) d.src_port d.body) w.time) (frame bytes) added phase valid t (comes t)
   where
-    comes : (t : Taking w s o xs (came (received (n + 1) d.src_port d.body) w.time) added phase) → Network (state_in w (live_of o xs ∷ [])) (n + 1) (frame bytes) t.put (state_in w t.after) t.over
+    comes : (t : Taking w s o xs (frame bytes) (came (received (n + 1) d.src_port d.body) w.time) added phase) → Network (state_in w (live_of o xs ∷ [])) (n + 1) (frame bytes) t.put (state_in w t.after) t.over
     comes t =
         subst (λ (z : List Live). Network (state_in w (live_of o xs ∷ [])) (n + 1) (frame bytes) t.put (state_in w z) t.over) (append-nil t.after)
-        (network.brings bytes (bare w.net) p d [] [] t.after (live_of o xs) t.put t.over refl brings refl is t.take)
+        (network.brings (frame bytes) net0 bytes (bare w.net) p d [] [] t.after (live_of o xs) t.put t.over (network.on_net0 bytes) refl brings refl is t.take)
 
 same_net : (net : Client) (m : Brought) (port : ℕ) (body : List ℕ) (o : Open) (xs : List Exchange) → ForOpen o xs port body m → client_after net m ≡ net
 same_net net m port body o xs (by_datagram p d is from what) = refl
@@ -108,7 +108,7 @@ step_begins m r added m' es p (lone.brings n w s o bytes reply seen net port bod
     (frame_comes n w s o xs bytes takes.message port body news phase valid here takes.brings for_it
     (subst (λ (c : Client). Hears (with_net w c) s o (came (received (n + 1) port body) w.time) news phase) is_net hear) a.1.route a.1.begins)
 step_begins m r added m' es p (lone.passes_time n w s o ms news phase valid hear) a (xs, here, same) =
-    let t = heard (world.later w ms) s o xs (ticked (w.time + ms)) news phase hear here a.1.route a.1.begins in
+    let t = heard (world.later w ms) s o xs (tick ms) (ticked (w.time + ms)) news phase hear here a.1.route a.1.begins in
     subst (λ z. Steps n z (tick ms) added m') (sym same)
     (taken n w (world.later w ms) s o xs (ticked (w.time + ms)) (tick ms) news phase valid t
     (network.passes_time ms t.after t.put t.over t.take))

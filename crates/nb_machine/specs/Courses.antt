@@ -62,13 +62,13 @@ pub data StepBegins : Progress → In → List Out → Progress → Type 0 where
       StepBegins (stands n ready) (start s) (step (n + 1) ∷ enter 1 ∷ leave 1 not_script ∷ []) (stands (n + 1) (left (state_of s) [] not_script))
   -- the command waits on
   waits_on : (n : ℕ) (s s' : State) (w : Waiting) (r : In) (put : List Out) (over : List Over) → IsIn r →
-      Network s (n + 1) r put s' over → answer_in over w.awaited ≡ None →
+      Network s (n + 1) r put s' over → answer_in s' r over w.awaited ≡ None →
       StepBegins (stands n (waiting s w)) r (step (n + 1) ∷ put) (stands (n + 1) (waiting s' w))
   -- what it waits for has come
   is_answered : (n : ℕ) (s s' : State) (w : Waiting) (r : In) (put : List Out) (over : List Over) (a : Answer) → IsIn r →
-      Network s (n + 1) r put s' over → answer_in over w.awaited ≡ Some a →
-      StepBegins (stands n (waiting s w)) r (step (n + 1) ∷ put ++ conclusion_records w.script.depth (concluded_by w.job a s'.images))
-      (stands (n + 1) (led_to s' w.script w.outer (concluded_by w.job a s'.images)))
+      Network s (n + 1) r put s' over → answer_in s' r over w.awaited ≡ Some a →
+      StepBegins (stands n (waiting s w)) r (step (n + 1) ∷ put ++ conclusion_records w.script.depth (concluded_by s' w.job a))
+      (stands (n + 1) (led_to s' w.script w.outer (concluded_by s' w.job a)))
   -- the power is switched off: every open is closed, and the command gives no result
   switches_off : (n : ℕ) (s : State) (w : Waiting) (put : List Out) (over : List Over) →
       AllTake s.devices (close stopped_cause) s.live put [] over →

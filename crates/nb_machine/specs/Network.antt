@@ -19,18 +19,22 @@ is_for_one device nothing live = false
 is_for_one device (arp_message from arp) live = false
 is_for_one device (datagram p d) live = list_any (is_for device p d) live
 
+-- the record brings this frame on this device
+pub data IsFrameOn : In → (device : ℕ) → List ℕ → Type 0 where
+  on_net0 : (bytes : List ℕ) → IsFrameOn (frame bytes) net0 bytes
+
 -- What the record of this number does: the records put, the state after it, and the opens that it ended.
 pub data Network (s : State) (n : ℕ) : In → List Out → State → List Over → Type 0 where
   -- a frame for no open may change the neighbours, and be replied to
-  passes_by : (bytes : List ℕ) (link : Client) (m : Brought) → slice_get s.devices net0 ≡ Some link →
-      Brings link.up link.mac link.address bytes m → is_for_one net0 m s.live ≡ false →
-      Network s n (frame bytes) (reply_records (reply_of link m)) (with_device s net0 (client_after link m)) []
+  passes_by : (r : In) (device : ℕ) (bytes : List ℕ) (link : Client) (m : Brought) → IsFrameOn r device bytes → slice_get s.devices device ≡ Some link →
+      Brings link.up link.mac link.address bytes m → is_for_one device m s.live ≡ false →
+      Network s n r (reply_records (reply_of link m)) (with_device s device (client_after link m)) []
   -- a datagram goes to the open of its port, and to no other
-  brings : (bytes : List ℕ) (link : Client) (p : PacketParts) (d : UdpParts) (before behind after : List Live) (l : Live) (put : List Out) (over : List Over) →
-      slice_get s.devices net0 ≡ Some link → Brings link.up link.mac link.address bytes (datagram p d) →
-      s.live ≡ before ++ l ∷ behind → is_for net0 p d l ≡ true →
+  brings : (r : In) (device : ℕ) (bytes : List ℕ) (link : Client) (p : PacketParts) (d : UdpParts) (before behind after : List Live) (l : Live) (put : List Out) (over : List Over) →
+      IsFrameOn r device bytes → slice_get s.devices device ≡ Some link → Brings link.up link.mac link.address bytes (datagram p d) →
+      s.live ≡ before ++ l ∷ behind → is_for device p d l ≡ true →
       AllTake s.devices (message n d.src_port d.body s.now) (l ∷ []) put after over →
-      Network s n (frame bytes) put (with_live s (before ++ after ++ behind)) over
+      Network s n r put (with_live s (before ++ after ++ behind)) over
   -- time comes to every open that lives, in order
   passes_time : (ms : ℕ) (after : List Live) (put : List Out) (over : List Over) →
       AllTake s.devices (time (s.now + ms)) s.live put after over →

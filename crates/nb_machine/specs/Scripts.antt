@@ -1,7 +1,8 @@
 -- Scripts: what a command does to the state, and what comes of one that waited. No word of frames.
 use Rattle.std.specs.Prelude.{ℕ, ◌==◌, Bool, List, [], Option, find, option_map}
 use Rattle.nb_defs.specs.Commands.{Outcome}
-use Rattle.nb_image.specs.Images.{ImageList, image_of}
+use Rattle.nb_defs.specs.Records.{In}
+use Rattle.nb_image.specs.Images.{image_of}
 use Rattle.nb_engine.specs.Effects.{Wanted, Effect, says, asks, effect}
 use Rattle.nb_engine.specs.Conclusions.{Conclusion, conclusion}
 use Rattle.nb_engine.specs.World.{own_port}
@@ -54,9 +55,9 @@ pub data Answer : Type 0 where
 abbrev pub is_number : ℕ → Over → Bool
 is_number number o = o.live.number == number
 
--- the answer, where it has come with these ends
-abbrev pub answer_in : List Over → Awaited → Option Answer
-answer_in over (answer number) = option_map by_end (find (is_number number) over)
+-- the answer, where it has come by this record, which led to this state and these ends
+abbrev pub answer_in : State → In → List Over → Awaited → Option Answer
+answer_in s r over (answer number) = option_map by_end (find (is_number number) over)
 
 -- scripts that run, the innermost first, whose command waits
 pub record Waiting : Type 0 where
@@ -65,7 +66,7 @@ pub record Waiting : Type 0 where
   pub awaited : Awaited
   pub job : Job
 
--- what a job comes to by its answer: with the list of images as it was then
-abbrev pub concluded_by : Job → Answer → ImageList → Conclusion
-concluded_by (fetch wanted) (by_end o) images =
-    conclusion o.cause wanted.boots (image_of wanted.target.name (fetched o.live) [] wanted.uri) images
+-- what a job comes to by its answer, in this state
+abbrev pub concluded_by : State → Job → Answer → Conclusion
+concluded_by s (fetch wanted) (by_end o) =
+    conclusion o.cause wanted.boots (image_of wanted.target.name (fetched o.live) [] wanted.uri) s.images
