@@ -1,6 +1,7 @@
 ghost use Rattle.std.specs.Prelude.{◌≡◌, ◌↔◌, [], false, true, map, length, IfOk, IfSome, is_some};
 ghost use Rattle.std.specs.String.{string_bytes};
 ghost use Rattle.nb_boot.specs.Run.{Shows};
+ghost use Rattle.nb_boot.specs.Shown.{ShowsCourse};
 ghost use Rattle.nb_boot.specs.Told.{Told};
 ghost use Rattle.nb_boot.specs.Words.{is_replay, NamesFiles};
 ghost use Rattle.nb_boot.specs.Complete.{Completes, CompletesRun, IsBadWords};
@@ -98,7 +99,10 @@ pub fn netboot<L: Line>(alloc: Global, words: &[String], line: &mut L) -> Status
     // The words are of no form exactly where the answer is BadWords, and then nothing was attached.
     ensures bad_words { IsBadWords result ↔ (is_replay (map string_bytes words.now) ≡ false) }
     ensures untouched { IsBadWords result → line.new ≡ line.old }
-    // The records used are those read, the records written are the machine's path, and the status is true of them.
+    // The records used are those read, the records written are the machine's course on them, and the status is true
+    // of them.
+    ensures course { is_replay (map string_bytes words.now) ≡ true → ShowsCourse result (L.outside line.old) (L.outside line.new) }
+    // They are a run of the engine's own machine, in which a command waits for one transfer.
     ensures run { is_replay (map string_bytes words.now) ≡ true → Shows result (L.outside line.old) (L.outside line.new) }
     // Each end of an open has its cause in the records so far.
     ensures causes { is_replay (map string_bytes words.now) ≡ true → Told (L.outside line.old) (L.outside line.new) }
