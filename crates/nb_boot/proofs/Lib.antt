@@ -20,3 +20,5 @@ pub mod OneRuns
 pub mod Comparing
 pub mod Telling
 pub mod Histories
+pub mod Shut
+pub mod Showing

@@ -5,3 +5,4 @@ pub mod Fetch
 pub mod Complete
 pub mod Laws
 pub mod Told
+pub mod Shown

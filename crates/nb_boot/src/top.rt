@@ -1,35 +1,32 @@
 ghost use Rattle.std.specs.Prelude.{◌≡◌, ◌↔◌, [], false, true, map, length, IfOk, IfSome, is_some};
 ghost use Rattle.std.specs.String.{string_bytes};
 ghost use Rattle.nb_boot.specs.Run.{Shows};
+ghost use Rattle.nb_boot.specs.Shown.{ShowsCourse};
 ghost use Rattle.nb_boot.specs.Told.{Told};
 ghost use Rattle.nb_boot.specs.Words.{is_replay, NamesFiles};
 ghost use Rattle.nb_boot.specs.Complete.{Completes, CompletesRun, IsBadWords};
 
 use crate::Status;
 use crate::begin::begin;
-use crate::feeding::PIECE;
 use crate::output::ROOM;
 use crate::turn::{last, turn};
 use nb_record::{Feed, Line, Log, NoMemory, Target};
 use std::alloc::Global;
 
-/// What a run needs beside its client: the feed, a piece of input, the log.
+/// What a run needs beside its client: the feed and the log.
 #[derive(Drop)]
 struct Session {
     feed: Feed,
-    piece: Vec<u8>,
     log: Log,
 }
 
 /// A session in which nothing was read or written.
 fn open(alloc: Global) -> Result<Session, NoMemory>
     ensures feed { IfOk result (λ s. s.feed ≡ record { bytes = []; passed = 0 }) }
-    ensures piece { IfOk result (λ s. length s.piece.items ≡ 65536) }
     ensures log { IfOk result (λ s. s.log ≡ record { bytes = []; room = 196608; is_short = false }) }
 {
     Ok(Session {
         feed: Feed::new(alloc)?,
-        piece: vec![in alloc; 0; PIECE]?,
         log: Log::new(alloc, ROOM)?,
     })
 }
@@ -38,27 +35,25 @@ fn open(alloc: Global) -> Result<Session, NoMemory>
 fn serve<L: Line>(
     alloc: Global,
     feed: &mut Feed,
-    piece: &mut [u8],
     log: &mut Log,
     line: &mut L,
 ) -> Status
     requires empty { feed.old.bytes ≡ [] }
-    requires room { length piece.old ≡ 65536 }
     requires no_output { log.old.bytes ≡ [] }
     ensures { Shows result (L.outside line.old) (L.outside line.new) }
 {
-    let mut client = match begin(alloc, feed, piece, log, line) {
+    let mut client = match begin(alloc, feed, log, line) {
         Ok(client) => client,
         Err(status) => return status,
     };
     let mut used: u32 = 1;
     'records: while used < u32::MAX {
-        match turn(&mut client, feed, piece, log, line) {
+        match turn(&mut client, feed, log, line) {
             None => used += 1,
             Some(status) => return status,
         }
     }
-    last(&mut client, feed, piece, log, line)
+    last(&mut client, feed, log, line)
 }
 
 /// Runs what is attached.
@@ -66,7 +61,7 @@ fn replay<L: Line>(alloc: Global, line: &mut L) -> Status
     ensures { Shows result (L.outside line.old) (L.outside line.new) }
 {
     match open(alloc) {
-        Ok(mut s) => serve(alloc, &mut s.feed, s.piece.as_mut_slice(), &mut s.log, line),
+        Ok(mut s) => serve(alloc, &mut s.feed, &mut s.log, line),
         Err(NoMemory) => Status::NoMemory,
     }
 }
@@ -104,7 +99,10 @@ pub fn netboot<L: Line>(alloc: Global, words: &[String], line: &mut L) -> Status
     // The words are of no form exactly where the answer is BadWords, and then nothing was attached.
     ensures bad_words { IsBadWords result ↔ (is_replay (map string_bytes words.now) ≡ false) }
     ensures untouched { IsBadWords result → line.new ≡ line.old }
-    // The records used are those read, the records written are the machine's path, and the status is true of them.
+    // The records used are those read, the records written are the machine's course on them, and the status is true
+    // of them.
+    ensures course { is_replay (map string_bytes words.now) ≡ true → ShowsCourse result (L.outside line.old) (L.outside line.new) }
+    // They are a run of the engine's own machine, in which a command waits for one transfer.
     ensures run { is_replay (map string_bytes words.now) ≡ true → Shows result (L.outside line.old) (L.outside line.new) }
     // Each end of an open has its cause in the records so far.
     ensures causes { is_replay (map string_bytes words.now) ≡ true → Told (L.outside line.old) (L.outside line.new) }

@@ -10,9 +10,8 @@
 
 mod acts;
 mod answer;
-mod causes;
-mod datagram;
 mod laws;
+mod request;
 mod state;
 mod transfer;
 
