@@ -1,7 +1,7 @@
 ghost use Rattle.std.specs.Prelude.{◌≡◌, ◌↔◌, [], false, true, map, length, IfOk, IfSome, is_some};
 ghost use Rattle.std.specs.String.{string_bytes};
 ghost use Rattle.nb_boot.specs.Run.{Shows};
-ghost use Rattle.nb_boot.specs.Told.{Told};
+ghost use Rattle.nb_boot.specs.Lawful.{AreLawful};
 ghost use Rattle.nb_boot.specs.Words.{is_replay, NamesFiles};
 ghost use Rattle.nb_boot.specs.Complete.{Completes, CompletesRun, IsBadWords};
 
@@ -106,8 +106,8 @@ pub fn netboot<L: Line>(alloc: Global, words: &[String], line: &mut L) -> Status
     ensures untouched { IsBadWords result → line.new ≡ line.old }
     // The records used are those read, the records written are the machine's path, and the status is true of them.
     ensures run { is_replay (map string_bytes words.now) ≡ true → Shows result (L.outside line.old) (L.outside line.new) }
-    // Each end of an open has its cause in the records so far.
-    ensures causes { is_replay (map string_bytes words.now) ≡ true → Told (L.outside line.old) (L.outside line.new) }
+    // Each record of the output has its reason in the records so far, as the two lists say alone.
+    ensures lawful { is_replay (map string_bytes words.now) ≡ true → AreLawful (L.outside line.old) (L.outside line.new) }
     // With no fault and memory enough a START and other records end the script, hand off, or leave a command waiting.
     ensures complete { is_replay (map string_bytes words.now) ≡ true → Completes result (L.outside line.old) (L.outside line.new) }
     // With no fault and memory enough the input alone says the status, where a run on it is over or waits at its end.

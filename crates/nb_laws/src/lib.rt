@@ -3,4 +3,4 @@
 
 mod laws;
 
-pub use laws::{ends_and_frames_by_the_lists, ends_have_causes, one_history, world_by_the_lists};
+pub use laws::{histories_are_lawful, one_history, runs_are_lawful, world_by_the_lists};
