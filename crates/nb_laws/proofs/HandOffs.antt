@@ -33,13 +33,13 @@ use Rattle.nb_engine.proofs.HandingLemmas.{all_append}
 use Rattle.nb_laws.specs.Events.{Event, starts, hears, waits, stops, puts}
 use Rattle.nb_laws.specs.Lists.{words_of, words_by, last_end, end_by, made}
 use Rattle.nb_laws.specs.HandOff.{name_of, uri_of, came_ok, last_image, image_at, brought, listed, HandsOff}
-use Rattle.nb_laws.specs.Agreement.{AgreesImages}
+use Rattle.nb_laws.specs.Agreement.{AgreesImages, IsSilent}
 use Rattle.nb_laws.proofs.Histories.{gathered_one}
 use Rattle.nb_laws.proofs.Tellings.{told}
 use Rattle.nb_laws.proofs.Calls.{IsUsed}
 
 -- a FRAME, a TRY or an ADVANCE
-IsOpens : Out → Type 0
+pub IsOpens : Out → Type 0
 IsOpens (sent bytes) = Unit {0}
 IsOpens (tried number count) = Unit {0}
 IsOpens (advanced number place) = Unit {0}
@@ -161,7 +161,7 @@ pub words_kept : (es : List Event) (e : Event) (ws : Option (List (List ℕ))) �
 words_kept es e ws is = words_more es e ∙ is
 
 -- a command that is over at once brings no image
-last_end_more : (es : List Event) (e : Event) → last_end (es ++ e ∷ []) ≡ end_by (last_end es) e
+pub last_end_more : (es : List Event) (e : Event) → last_end (es ++ e ∷ []) ≡ end_by (last_end es) e
 unfolding last_end
 last_end_more es e = fold-append end_by None es (e ∷ [])
 
@@ -309,3 +309,9 @@ effect_asks opens (name ∷ args) =
 
 pub asks_named : (opens : ℕ) (ws : List (List ℕ)) (wanted : Wanted) → effect opens ws ≡ asks wanted → (uri_of (Some ws) ≡ wanted.uri) × (wanted.target.name ≡ name_of wanted.target.path)
 asks_named opens ws wanted e = subst (IsAskedBy (uri_of (Some ws))) e (effect_asks opens ws)
+
+-- no image comes but with a RESULT
+pub silent_image : (es : List Event) (o : Out) → IsSilent o → image_at es (puts o) ≡ []
+silent_image es (result cause) h = absurd h
+silent_image es (step number) h = refl
+silent_image es _ h = refl
