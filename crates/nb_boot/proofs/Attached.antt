@@ -47,7 +47,7 @@ attached_shows status.ReadFault first mid after p (r, o) = (
   },
 )
 attached_shows status.WriteFault first mid after p (r, o) =
-    (run_from first mid after p r, rose_later first.write_faults mid.write_faults after.write_faults p.counts.write_count o.0, o.1)
+    (run_from first mid after p r, (rose_later first.write_faults mid.write_faults after.write_faults p.counts.write_count o.0, o.1))
 attached_shows status.NoMemory first mid after p (r, o) = (run_from first mid after p r, o)
 attached_shows status.AttachFault first mid after p (r, o) =
     (run_from first mid after p r, (o.0, o.1, o.2, rose_later first.attach_faults mid.attach_faults after.attach_faults p.counts.attach_count o.3))

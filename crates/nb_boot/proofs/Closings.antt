@@ -158,8 +158,7 @@ pub flaw_shows : (f : Flaw) (ins : List In) (held : List ℕ) (first before now 
     Ends m held before number → Shows (flaw_status f) first now
 flaw_shows flaw.WriteFault ins held first before now log done_log m number r p s c = (
   stopped_end ins held first before now log done_log m number r p s.0 s.1 (ends_stay m held s.1.part before now number s.1.passes c),
-  rose_later first.write_faults before.write_faults now.write_faults r.passes.counts.write_count s.1.rose,
-  s.1.missing,
+  (rose_later first.write_faults before.write_faults now.write_faults r.passes.counts.write_count s.1.rose, s.1.missing),
 )
 flaw_shows flaw.NoMemory ins held first before now log done_log m number r p s c =
     (short_end ins held first before now log m number r s (ends_stay m held [] before now number s c), inr (done_missing (log.bytes ++ r.lost) m number))

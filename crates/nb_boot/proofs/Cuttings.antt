@@ -60,8 +60,7 @@ pub flaw_cuts : (f : Flaw) (before now : Outside) (log : Logged) → IsFlaw f be
 flaw_cuts flaw.WriteFault before now log s = λ held ins first m r.
     (
       stopped_run ins held first before now log m s.1 r,
-      rose_later first.write_faults before.write_faults now.write_faults r.passes.counts.write_count s.1.rose,
-      omega (arith, s.1.missing, length-append s.1.lost r.lost),
+      (rose_later first.write_faults before.write_faults now.write_faults r.passes.counts.write_count s.1.rose, omega (arith, s.1.missing, length-append s.1.lost r.lost)),
     )
 flaw_cuts flaw.NoMemory before now log p = λ held ins first m r. (short_run ins held first before now log m p r, inl refl)
 

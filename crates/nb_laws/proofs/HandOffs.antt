@@ -1,7 +1,7 @@
 -- The machine's images are those that the history says were brought.
-use Rattle.std.proofs.Common.{◌≡◌, ℕ, ◌+◌, ◌-◌, ◌==◌, ◌&&◌, Bool, true, false, cond, List, [], ◌∷◌, ◌++◌, Option, Some, None, refl, sym, ◌∙◌, ap, subst, append_assoc, append-nil, arith, map, length, if◌then◌else◌}
-use Rattle.std.specs.Prelude.{codes, fold, unwrap_or}
-use Rattle.std.specs.List.{flat_map, AllByRecursion, after_last}
+use Rattle.std.proofs.Common.{◌≡◌, ℕ, ◌==◌, ◌&&◌, Bool, true, false, cond, List, [], ◌∷◌, ◌++◌, Option, Some, None, refl, sym, ◌∙◌, ap, subst, append_assoc, append-nil, length, if◌then◌else◌}
+use Rattle.std.specs.Prelude.{codes, unwrap_or}
+use Rattle.std.specs.List.{AllByRecursion, after_last}
 use Rattle.std.specs.Option.{option_map, option_map_or}
 use Rattle.std.specs.Str.{bytes_eq}
 use Rattle.std.proofs.lemmas.Option.{none-some, same_Some}
@@ -13,9 +13,6 @@ use Rattle.nb_defs.specs.Causes.{ok, usage, is_ok_cause}
 use Rattle.nb_defs.specs.Commands.{Outcome, outcome, refused, is_option}
 use Rattle.nb_defs.specs.Records.{Out, step, sent, text, command, result, script, opened, tried, advanced, ended, part, done}
 use Rattle.nb_stack.specs.Client.{Client}
-use Rattle.nb_stack.specs.Sends.{put_on, way_of}
-use Rattle.nb_tftp.specs.Received.{Received}
-use Rattle.nb_tftp.specs.Blocks.{file}
 use Rattle.nb_uri.specs.Pieces.{is_slash}
 use Rattle.nb_uri.specs.Targets.{TftpTarget, tftp_target, is_too_long}
 use Rattle.nb_image.specs.declared.image.Image.{Image}
@@ -25,14 +22,14 @@ use Rattle.nb_image.specs.Kinds.{kind_of}
 use Rattle.nb_engine.specs.declared.world.World.{World}
 use Rattle.nb_engine.specs.World.{unbound}
 use Rattle.nb_engine.specs.Effects.{Wanted, Effect, says, asks, asked, fetch, effect, too_long_uri, full_opens, bad_uri}
-use Rattle.nb_engine.specs.Opens.{Open, has_route, send_records, sends_records, acts_records, advance_records, try_records}
+use Rattle.nb_engine.specs.Opens.{has_route, send_records, sends_records, acts_records, advance_records, try_records}
 use Rattle.nb_engine.specs.Conclusions.{Conclusion, keeps, fails, boots, conclusion, stored, taken_in, selected_in, place_for, is_bootable, not_bootable, conclusion_records, handoff_records}
 use Rattle.nb_engine.specs.Honesty.{IsNoPart, HaveNoParts}
 use Rattle.nb_engine.specs.Machine.{Running, prints, command_record, command_records, reply_records, phase_after}
 use Rattle.nb_engine.proofs.HandingLemmas.{all_append}
-use Rattle.nb_laws.specs.Events.{Event, starts, hears, waits, stops, puts}
-use Rattle.nb_laws.specs.Lists.{words_of, words_by, last_end, end_by, made}
-use Rattle.nb_laws.specs.HandOff.{name_of, uri_of, came_ok, last_image, image_at, brought, listed, HandsOff}
+use Rattle.nb_laws.specs.Events.{Event, starts, puts}
+use Rattle.nb_laws.specs.Lists.{words_of, words_by, last_end, end_by}
+use Rattle.nb_laws.specs.HandOff.{last_segment, uri_of, came_ok, last_image, image_at, brought, listed}
 use Rattle.nb_laws.specs.Agreement.{AgreesImages, IsSilent}
 use Rattle.nb_laws.proofs.Histories.{gathered_one}
 use Rattle.nb_laws.proofs.Tellings.{told}
@@ -275,15 +272,15 @@ concluded_images es outs w own s cause booting image end last is none =
 -- a command's URI and its image's name
 abbrev IsAskedBy : List ℕ → Effect → Type 0
 IsAskedBy uri (says o) = Unit {0}
-IsAskedBy uri (asks wanted) = (uri ≡ wanted.uri) × (wanted.target.name ≡ name_of wanted.target.path)
+IsAskedBy uri (asks wanted) = (uri ≡ wanted.uri) × (wanted.target.name ≡ last_segment wanted.target.path)
 
 either_asks : (uri : List ℕ) (t : Bool) (a b : Effect) → IsAskedBy uri a → IsAskedBy uri b → IsAskedBy uri (cond t a b)
 either_asks uri true a b p q = p
 either_asks uri false a b p q = q
 
-target_named : (b : Bool) (server : Option ℕ) (path : List ℕ) (t : TftpTarget) → cond b (option_map (λ s. record { server = s; path = path; name = after_last is_slash path }) server) None ≡ Some t → t.name ≡ name_of t.path
+target_named : (b : Bool) (server : Option ℕ) (path : List ℕ) (t : TftpTarget) → cond b (option_map (λ s. record { server = s; path = path; name = after_last is_slash path }) server) None ≡ Some t → t.name ≡ last_segment t.path
 target_named true None path t e = absurd (none-some t e)
-target_named true (Some s) path t e = let same = same_Some _ t e in ap (λ (x : TftpTarget). x.name) (sym same) ∙ ap (λ (x : TftpTarget). name_of x.path) same
+target_named true (Some s) path t e = let same = same_Some _ t e in ap (λ (x : TftpTarget). x.name) (sym same) ∙ ap (λ (x : TftpTarget). last_segment x.path) same
 target_named false server path t e = absurd (none-some t e)
 
 target_asks : (opens : ℕ) (booting : Bool) (uri : List ℕ) (o : Option TftpTarget) → tftp_target uri ≡ o → IsAskedBy uri (option_map_or (asked opens booting uri) o (says (refused bad_uri)))
@@ -307,7 +304,7 @@ effect_asks opens (name ∷ args) =
     either_asks uri (bytes_eq name (codes "imgfetch")) (fetch opens false args) _ (fetch_asks name opens false args)
     (either_asks uri (bytes_eq name (codes "imgexec")) (fetch opens true args) (says (outcome (name ∷ args))) (fetch_asks name opens true args) tt)
 
-pub asks_named : (opens : ℕ) (ws : List (List ℕ)) (wanted : Wanted) → effect opens ws ≡ asks wanted → (uri_of (Some ws) ≡ wanted.uri) × (wanted.target.name ≡ name_of wanted.target.path)
+pub asks_named : (opens : ℕ) (ws : List (List ℕ)) (wanted : Wanted) → effect opens ws ≡ asks wanted → (uri_of (Some ws) ≡ wanted.uri) × (wanted.target.name ≡ last_segment wanted.target.path)
 asks_named opens ws wanted e = subst (IsAskedBy (uri_of (Some ws))) e (effect_asks opens ws)
 
 -- no image comes but with a RESULT

@@ -11,12 +11,12 @@ use Rattle.nb_image.specs.declared.image.Image.{Image}
 use Rattle.nb_image.specs.Images.{image_of, with_image}
 use Rattle.nb_engine.specs.Conclusions.{place_for, handoff_records}
 use Rattle.nb_engine.specs.Honesty.{HaveNoParts}
-use Rattle.nb_laws.specs.Events.{Event, starts, hears, waits, stops, puts}
+use Rattle.nb_laws.specs.Events.{Event, puts}
 use Rattle.nb_laws.specs.Lists.{gathered, Opening, openings, got, words_of, last_end, made}
 
 -- an image is named as its path ends
-abbrev pub name_of : List ℕ → List ℕ
-name_of path = after_last is_slash path
+abbrev pub last_segment : List ℕ → List ℕ
+last_segment path = after_last is_slash path
 
 -- a command's URI is its first word after its name
 abbrev pub uri_of : Option (List (List ℕ)) → List ℕ
@@ -27,7 +27,7 @@ uri_of (Some (name ∷ uri ∷ rest)) = uri
 
 -- the image of an open: what it has received, without arguments
 abbrev pub image_by : Option (List (List ℕ)) → List Received → Opening → Image
-image_by words received o = image_of (name_of o.target) (file received) [] (uri_of words)
+image_by words received o = image_of (last_segment o.target) (file received) [] (uri_of words)
 
 -- the image of the last open, if one was made
 abbrev pub last_image : List Event → List Image

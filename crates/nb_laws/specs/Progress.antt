@@ -1,6 +1,6 @@
 -- How far a run is at each event: which record is used, whether a file is whole, and what ADVANCE tells.
 use Rattle.std.specs.Prelude.{◌≡◌, ℕ, ◌+◌, false, List, [], ◌∷◌, length}
-use Rattle.nb_defs.specs.Records.{Out, step, advanced}
+use Rattle.nb_defs.specs.Records.{step, advanced}
 use Rattle.nb_tftp.specs.Blocks.{count, is_whole}
 use Rattle.nb_laws.specs.Events.{Event, starts, hears, waits, stops, puts, inputs}
 use Rattle.nb_laws.specs.Lists.{Opening, live, got, place}
