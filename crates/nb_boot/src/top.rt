@@ -2,7 +2,7 @@ ghost use Rattle.std.specs.Prelude.{◌≡◌, ◌↔◌, [], false, true, map, 
 ghost use Rattle.std.specs.String.{string_bytes};
 ghost use Rattle.nb_boot.specs.Run.{Shows};
 ghost use Rattle.nb_boot.specs.Shown.{ShowsCourse};
-ghost use Rattle.nb_boot.specs.Told.{Told};
+ghost use Rattle.nb_boot.specs.Lawful.{AreLawful};
 ghost use Rattle.nb_boot.specs.Words.{is_replay, NamesFiles};
 ghost use Rattle.nb_boot.specs.Complete.{Completes, CompletesRun, IsBadWords};
 
@@ -104,8 +104,8 @@ pub fn netboot<L: Line>(alloc: Global, words: &[String], line: &mut L) -> Status
     ensures course { is_replay (map string_bytes words.now) ≡ true → ShowsCourse result (L.outside line.old) (L.outside line.new) }
     // They are a run of the engine's own machine, in which a command waits for one transfer.
     ensures run { is_replay (map string_bytes words.now) ≡ true → Shows result (L.outside line.old) (L.outside line.new) }
-    // Each end of an open has its cause in the records so far.
-    ensures causes { is_replay (map string_bytes words.now) ≡ true → Told (L.outside line.old) (L.outside line.new) }
+    // Each record of the output has its reason in the records so far, as the two lists say alone.
+    ensures lawful { is_replay (map string_bytes words.now) ≡ true → AreLawful (L.outside line.old) (L.outside line.new) }
     // With no fault and memory enough a START and other records end the script, hand off, or leave a command waiting.
     ensures complete { is_replay (map string_bytes words.now) ≡ true → Completes result (L.outside line.old) (L.outside line.new) }
     // With no fault and memory enough the input alone says the status, where a run on it is over or waits at its end.
