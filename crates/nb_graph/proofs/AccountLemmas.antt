@@ -1,4 +1,5 @@
 -- Accounts after one deed and after many, and what keeps links.
+use Rattle.nb_graph.specs.Trace.{Nature}
 use Rattle.std.proofs.Common.{◌≡◌, ℕ, ◌⊎◌, inl, inr, List, [], ◌∷◌, ◌++◌, refl, ap, sym, ◌∙◌, subst}
 use Rattle.nb_ledger.specs.declared.port.Port.{Port}
 use Rattle.nb_ledger.specs.declared.event.GraphEvent.{GraphEvent}
@@ -8,7 +9,7 @@ use Rattle.nb_graph.specs.Accounts.{Account, Joined, joined, parted, account, af
 use Rattle.nb_graph.specs.Flows.{IsShut, Still}
 use Rattle.nb_graph.specs.Moves.{Calms, Mild}
 
-pub account-append : {N L : Type 0} (parts : L → List ℕ) (p : Port) (a : Account) (ds es : List (Deed N L)) → account parts p a (ds ++ es) ≡ account parts p (account parts p a ds) es
+pub account-append : {N L : Type 0} (parts : Nature N L) (p : Port) (a : Account) (ds es : List (Deed N L)) → account parts p a (ds ++ es) ≡ account parts p (account parts p a ds) es
 account-append parts p a [] es = refl
 account-append parts p a (writes e ∷ ds) es = account-append parts p (after_note p a e) ds es
 account-append parts p a (calls y e ∷ ds) es = account-append parts p _ ds es
@@ -30,7 +31,7 @@ Joined-mild {p = p} {q = q} m (joined a b c d e) = joined (rw m.same_made a) (rw
 Joined-mild {p = p} {q = q} m (parted a b c d r e) = parted (rw m.same_made a) (rw m.same_made b) (m.shuts p.obj.0 p.slot c) (m.shuts q.obj.0 q.slot d) r e
 
 -- nothing happens
-pub Calms-none : {N L : Type 0} (parts : L → List ℕ) (l : Ledger) → Calms {N = N} {L = L} parts l l Still []
+pub Calms-none : {N L : Type 0} (parts : Nature N L) (l : Ledger) → Calms {N = N} {L = L} parts l l Still []
 Calms-none parts l = record {
   same_made = refl;
   links = λ x k q h. h;
@@ -42,7 +43,7 @@ Calms-none parts l = record {
 }
 
 -- an event of which accounts say nothing
-pub Calms-plain : {N L : Type 0} (parts : L → List ℕ) (old new : Ledger) (e : GraphEvent) → Mild old new → ((p : Port) (a : Account) → after_note p a e ≡ rests a) → Calms {N = N} {L = L} parts old new Still (writes e ∷ [])
+pub Calms-plain : {N L : Type 0} (parts : Nature N L) (old new : Ledger) (e : GraphEvent) → Mild old new → ((p : Port) (a : Account) → after_note p a e ≡ rests a) → Calms {N = N} {L = L} parts old new Still (writes e ∷ [])
 Calms-plain parts old new e m plain = record {
   same_made = m.same_made;
   links = m.links;
@@ -54,7 +55,7 @@ Calms-plain parts old new e m plain = record {
 }
 
 -- something turns
-pub Calms-turn : {N L : Type 0} (parts : L → List ℕ) (l : Ledger) (u : Turn) → Calms {N = N} {L = L} parts l l Still (turns u ∷ [])
+pub Calms-turn : {N L : Type 0} (parts : Nature N L) (l : Ledger) (u : Turn) → Calms {N = N} {L = L} parts l l Still (turns u ∷ [])
 Calms-turn parts l u = record {
   same_made = refl;
   links = λ x k q h. h;
@@ -66,7 +67,7 @@ Calms-turn parts l u = record {
 }
 
 -- one call after the other
-pub Calms-then : {N L : Type 0} {parts : L → List ℕ} {a b c : Ledger} {f g h : Port → Port → Account → List ℕ → List ℕ → Type 0} {ds es : List (Deed N L)} → Calms parts a b f ds → Calms parts b c g es → ((p q : Port) (x y : Account) (w v : List ℕ) → h p q y w v → Joined a p q x.sent y.taken w → (u : List ℕ) × f p q y w u × (Joined b p q (account parts p x ds).sent (account parts q y ds).taken u → g p q (account parts q y ds) u v)) → Calms parts a c h (ds ++ es)
+pub Calms-then : {N L : Type 0} {parts : Nature N L} {a b c : Ledger} {f g h : Port → Port → Account → List ℕ → List ℕ → Type 0} {ds es : List (Deed N L)} → Calms parts a b f ds → Calms parts b c g es → ((p q : Port) (x y : Account) (w v : List ℕ) → h p q y w v → Joined a p q x.sent y.taken w → (u : List ℕ) × f p q y w u × (Joined b p q (account parts p x ds).sent (account parts q y ds).taken u → g p q (account parts q y ds) u v)) → Calms parts a c h (ds ++ es)
 Calms-then {parts = parts} {c = c} {ds = ds} {es = es} k l split = record {
   same_made = l.same_made ∙ k.same_made;
   links = λ x j q h. k.links x j q (l.links x j q h);
@@ -81,11 +82,11 @@ Calms-then {parts = parts} {c = c} {ds = ds} {es = es} k l split = record {
 }
 
 -- what is pending stays, twice
-pub Still-both : {N L : Type 0} {parts : L → List ℕ} {a b c : Ledger} {ds es : List (Deed N L)} → Calms parts a b Still ds → Calms parts b c Still es → Calms parts a c Still (ds ++ es)
+pub Still-both : {N L : Type 0} {parts : Nature N L} {a b c : Ledger} {ds es : List (Deed N L)} → Calms parts a b Still ds → Calms parts b c Still es → Calms parts a c Still (ds ++ es)
 Still-both k l = Calms-then k l (λ p q x y w v e j. (w, refl, λ _. e))
 
 -- the same where less is asked
-pub Calms-weaken : {N L : Type 0} {parts : L → List ℕ} {a b : Ledger} {f g : Port → Port → Account → List ℕ → List ℕ → Type 0} {ds : List (Deed N L)} → Calms parts a b f ds → ((p q : Port) (x y : Account) (w v : List ℕ) → g p q y w v → Joined a p q x.sent y.taken w → f p q y w v) → Calms parts a b g ds
+pub Calms-weaken : {N L : Type 0} {parts : Nature N L} {a b : Ledger} {f g : Port → Port → Account → List ℕ → List ℕ → Type 0} {ds : List (Deed N L)} → Calms parts a b f ds → ((p q : Port) (x y : Account) (w v : List ℕ) → g p q y w v → Joined a p q x.sent y.taken w → f p q y w v) → Calms parts a b g ds
 Calms-weaken k less = record {
   same_made = k.same_made;
   links = k.links;
@@ -97,10 +98,10 @@ Calms-weaken k less = record {
 }
 
 -- and of equal books
-pub Calms-books : {N L : Type 0} {parts : L → List ℕ} {a b c : Ledger} {f : Port → Port → Account → List ℕ → List ℕ → Type 0} {ds : List (Deed N L)} → c ≡ b → Calms parts a b f ds → Calms parts a c f ds
+pub Calms-books : {N L : Type 0} {parts : Nature N L} {a b c : Ledger} {f : Port → Port → Account → List ℕ → List ℕ → Type 0} {ds : List (Deed N L)} → c ≡ b → Calms parts a b f ds → Calms parts a c f ds
 Calms-books {parts = parts} {a = a} {f = f} {ds = ds} e k = subst (λ z. Calms parts a z f ds) (sym e) k
 
-pub Calms-at : {N L : Type 0} {parts : L → List ℕ} {a b : Ledger} {ds : List (Deed N L)} → b ≡ a → Calms parts b b Still ds → Calms parts a a Still ds
+pub Calms-at : {N L : Type 0} {parts : Nature N L} {a b : Ledger} {ds : List (Deed N L)} → b ≡ a → Calms parts b b Still ds → Calms parts a a Still ds
 Calms-at {parts = parts} {ds = ds} e k = subst (λ z. Calms parts z z Still ds) e k
 
 -- what is pending at a shut port doesn't matter
@@ -108,7 +109,7 @@ pub Joined-any : {l : Ledger} {p q : Port} {s t w : List ℕ} (v : List ℕ) →
 Joined-any v z (joined a b c d e) = absurd (let i = sym (ap open_count c) ∙ z in cc)
 Joined-any v z (parted a b c d r e) = parted a b c d r e
 
-pub Calms-idle : {N L : Type 0} {parts : L → List ℕ} {a b : Ledger} {f : Port → Port → Account → List ℕ → List ℕ → Type 0} {ds : List (Deed N L)} → Calms parts a b Still ds → ((p q : Port) (x y : Account) (w v : List ℕ) → f p q y w v → Joined a p q x.sent y.taken w → IsShut a p ⊎ (w ≡ v)) → Calms parts a b f ds
+pub Calms-idle : {N L : Type 0} {parts : Nature N L} {a b : Ledger} {f : Port → Port → Account → List ℕ → List ℕ → Type 0} {ds : List (Deed N L)} → Calms parts a b Still ds → ((p q : Port) (x y : Account) (w v : List ℕ) → f p q y w v → Joined a p q x.sent y.taken w → IsShut a p ⊎ (w ≡ v)) → Calms parts a b f ds
 Calms-idle {a = a} k idle = record {
   same_made = k.same_made;
   links = k.links;

@@ -1,4 +1,5 @@
 -- Bytes on links through the call of a node, and through a whole entry from below or by time.
+use Rattle.nb_graph.specs.Trace.{Nature}
 use Rattle.std.proofs.Common.{◌≡◌, ℕ, ◌≤◌, inl, inr, Bool, true, false, List, [], ◌∷◌, ◌++◌, eqb, cond, refl, ap, sym, ◌∙◌, append_assoc, append-nil}
 use Rattle.std.proofs.lemmas.Bool.{cases_eq, cases_Bool, false≢true}
 use Rattle.nb_ledger.specs.declared.port.Port.{Port}
@@ -70,7 +71,7 @@ module _ (l : Ledger) (at : Port) (sent taken : ℕ → List ℕ) (got behind m 
         | inr k ↦ false≢true (sym (down (rw (ap (λ u. u.slot) i.0) one) k) ∙ i.1)
       ]
 
-pub Livens-ask : {N L : Type 0} {parts : L → List ℕ} {l c : Ledger} {ds es : List (Deed N L)} (at : Port) (sent taken : ℕ → List ℕ) (got behind m : List ℕ) → 1 ≤ at.slot → IsOpen (port l at.obj.0 at.slot) → IsLinked (port l) (rank l) → taken at.slot ≡ got → ((k : ℕ) → (k ≡ at.slot → ⊥) → taken k ≡ []) → got ++ behind ≡ m → Calms parts l l (Asking l at.obj.0 sent taken) ds → Asks parts at.obj.0 sent ds → Livens parts l c (HasAsked at.obj.0 sent) none_due (Delivering l at behind sent) es → Livens parts l c always none_due (Delivering l at m nothing) (ds ++ es)
+pub Livens-ask : {N L : Type 0} {parts : Nature N L} {l c : Ledger} {ds es : List (Deed N L)} (at : Port) (sent taken : ℕ → List ℕ) (got behind m : List ℕ) → 1 ≤ at.slot → IsOpen (port l at.obj.0 at.slot) → IsLinked (port l) (rank l) → taken at.slot ≡ got → ((k : ℕ) → (k ≡ at.slot → ⊥) → taken k ≡ []) → got ++ behind ≡ m → Calms parts l l (Asking l at.obj.0 sent taken) ds → Asks parts at.obj.0 sent ds → Livens parts l c (HasAsked at.obj.0 sent) none_due (Delivering l at behind sent) es → Livens parts l c always none_due (Delivering l at m nothing) (ds ++ es)
 Livens-ask {parts = parts} {l = l} {ds = ds} {es = es} at sent taken got behind m one opened links there only all k asked r = record {
   quiet = λ q y o i h. ap (λ z. z.entered) (account-append parts q y ds es) ∙ r.quiet q (account parts q y ds) o i (k.quiet q y o h);
   joins = λ p q x y w v i j.
@@ -83,7 +84,7 @@ Livens-ask {parts = parts} {l = l} {ds = ds} {es = es} at sent taken got behind 
 }
 
 -- and one by time
-pub Livens-time : {N L : Type 0} {parts : L → List ℕ} {l c : Ledger} {ds es : List (Deed N L)} (x : ℕ) (sent : ℕ → List ℕ) → Calms parts l l (Asking l x sent nothing) ds → Asks parts x sent ds → Livens parts l c (HasAsked x sent) none_due (Doing l x sent) es → Livens parts l c always none_due (Doing l x nothing) (ds ++ es)
+pub Livens-time : {N L : Type 0} {parts : Nature N L} {l c : Ledger} {ds es : List (Deed N L)} (x : ℕ) (sent : ℕ → List ℕ) → Calms parts l l (Asking l x sent nothing) ds → Asks parts x sent ds → Livens parts l c (HasAsked x sent) none_due (Doing l x sent) es → Livens parts l c always none_due (Doing l x nothing) (ds ++ es)
 Livens-time {parts = parts} {l = l} {ds = ds} {es = es} x sent k asked r = record {
   quiet = λ q y o i h. ap (λ z. z.entered) (account-append parts q y ds es) ∙ r.quiet q (account parts q y ds) o i (k.quiet q y o h);
   joins = λ p q a y w v i j.
@@ -103,7 +104,7 @@ Livens-time {parts = parts} {l = l} {ds = ds} {es = es} x sent k asked r = recor
         go free (inr (n, quiet, h)) = (w, (ap (λ u. w ++ u) (own-else x sent p n) ∙ append-nil w ∙ ap (λ u. u ++ w) (sym free), λ _. free), inr (n, quiet, h))
 
 -- a whole entry from below or by time
-pub Livens-entry : {N L : Type 0} {parts : L → List ℕ} {b0 b1 b2 b3 : Ledger} {ds es : List (Deed N L)} {inner outer : Port → Port → Account → List ℕ → List ℕ → Type 0} (x : ℕ) (e : GraphEvent) → busy b0 x ≡ false → ((y : ℕ) → (y ≡ x → ⊥) → busy b1 y ≡ busy b0 y) → Mild b0 b1 → ((p : Port) (a : Account) → ((after_note p a e).sent ≡ a.sent) × ((after_note p a e).taken ≡ a.taken) × ((after_note p a e).peer ≡ a.peer) × (a.entered ≡ true → (after_note p a e).entered ≡ true) × ((p.obj.0 ≡ x → ⊥) → (after_note p a e).entered ≡ a.entered)) → ((p q : Port) (y : Account) (w v : List ℕ) → outer p q y w v → inner p q (after_note q y e) w v) → Livens parts b1 b2 always none_due inner ds → Calms parts b2 b3 Still es → Livens parts b0 b3 always none_due outer (writes e ∷ (ds ++ es))
+pub Livens-entry : {N L : Type 0} {parts : Nature N L} {b0 b1 b2 b3 : Ledger} {ds es : List (Deed N L)} {inner outer : Port → Port → Account → List ℕ → List ℕ → Type 0} (x : ℕ) (e : GraphEvent) → busy b0 x ≡ false → ((y : ℕ) → (y ≡ x → ⊥) → busy b1 y ≡ busy b0 y) → Mild b0 b1 → ((p : Port) (a : Account) → ((after_note p a e).sent ≡ a.sent) × ((after_note p a e).taken ≡ a.taken) × ((after_note p a e).peer ≡ a.peer) × (a.entered ≡ true → (after_note p a e).entered ≡ true) × ((p.obj.0 ≡ x → ⊥) → (after_note p a e).entered ≡ a.entered)) → ((p q : Port) (y : Account) (w v : List ℕ) → outer p q y w v → inner p q (after_note q y e) w v) → Livens parts b1 b2 always none_due inner ds → Calms parts b2 b3 Still es → Livens parts b0 b3 always none_due outer (writes e ∷ (ds ++ es))
 Livens-entry {parts = parts} {b0 = b0} {b1 = b1} {ds = ds} {es = es} x e idle same mild note turn k last = record {
   quiet = λ q y o r h.
       let n = other q r in

@@ -8,7 +8,7 @@ use Rattle.nb_ledger.specs.declared.event.GraphEvent.TheVariants.{Closed, Entere
 use Rattle.nb_ledger.specs.declared.event.Way.TheVariants.{Close}
 use Rattle.nb_ledger.specs.Ledger.{Ledger, port, rank, open_count}
 use Rattle.nb_ledger.specs.GraphRun.{port_but}
-use Rattle.nb_graph.specs.Trace.{Entry}
+use Rattle.nb_graph.specs.Trace.{Nature, Entry}
 use Rattle.nb_graph.specs.Deeds.{writes, calls}
 use Rattle.nb_graph.specs.Whole.{IsLinked}
 use Rattle.nb_graph.specs.Calm.{HalfCloses}
@@ -25,7 +25,7 @@ pub Joined-call : {l : Ledger} {p q : Port} {s t w : List ℕ} (bs bt v : List �
 Joined-call {s = s} {t = t} {w = w} bs bt v e n (joined a b c d h) = joined a b c d (ap (λ z. z ++ bs) h ∙ append_assoc t w bs ∙ ap (λ z. t ++ z) e ∙ sym (append_assoc t bt v))
 Joined-call {s = s} {t = t} bs bt v e n (parted a b c d r h) = parted a b c d (r ++ bs) (ap (λ z. z ++ bs) h ∙ append_assoc t r bs ∙ ap (λ z. z ++ (r ++ bs)) (sym (append-nil t) ∙ ap (λ z. t ++ z) (sym (n d))))
 
-module _ {N L : Type 0} (parts : L → List ℕ) (e : Entry N L) where
+module _ {N L : Type 0} (parts : Nature N L) (e : Entry N L) where
   call-peer : (c : Bool) (p : Port) (a : Account) → (cond c (after_call parts p a e) (rests a)).peer ≡ a.peer
   call-peer true p a = refl
   call-peer false p a = refl
@@ -43,7 +43,7 @@ module _ {N L : Type 0} (parts : L → List ℕ) (e : Entry N L) where
   call-taken false q b taken h = sym (append-nil b.taken)
 
 -- the node of y is called
-pub Calms-call : {N L : Type 0} (parts : L → List ℕ) (l : Ledger) (y : ℕ) (e : Entry N L) (sent taken : ℕ → List ℕ) → ((k : ℕ) → sent_by parts k e ≡ sent k) → ((k : ℕ) → taken_by k e ≡ taken k) → Calms parts l l (Asking l y sent taken) (calls y e ∷ [])
+pub Calms-call : {N L : Type 0} (parts : Nature N L) (l : Ledger) (y : ℕ) (e : Entry N L) (sent taken : ℕ → List ℕ) → ((k : ℕ) → sent_by parts k e ≡ sent k) → ((k : ℕ) → taken_by k e ≡ taken k) → Calms parts l l (Asking l y sent taken) (calls y e ∷ [])
 Calms-call parts l y e sent taken hs ht = record {
   same_made = refl;
   links = λ x k q h. h;
@@ -59,7 +59,7 @@ enter-close true a = refl
 enter-close false a = refl
 
 -- both ends of a link are closed
-pub Calms-half : {N L : Type 0} (parts : L → List ℕ) (b0 b3 : Ledger) (p q : Port) (cause : Cause) → IsLinked (port b0) (rank b0) → port b0 p.obj.0 p.slot ≡ Linked q → HalfCloses b0 b3 p q → Calms {N = N} {L = L} parts b0 b3 Still (writes (Closed p cause) ∷ writes (Closed q cause) ∷ writes (Entered q Close) ∷ [])
+pub Calms-half : {N L : Type 0} (parts : Nature N L) (b0 b3 : Ledger) (p q : Port) (cause : Cause) → IsLinked (port b0) (rank b0) → port b0 p.obj.0 p.slot ≡ Linked q → HalfCloses b0 b3 p q → Calms {N = N} {L = L} parts b0 b3 Still (writes (Closed p cause) ∷ writes (Closed q cause) ∷ writes (Entered q Close) ∷ [])
 Calms-half {N} {L} parts b0 b3 p q cause l h half = record {
   same_made = half.same_made;
   links = λ x k r i. elim (cases_port x k q) [
@@ -144,5 +144,5 @@ half-left {p} {q} b0 b3 half = half.ports_set q.obj.0 q.slot ∙ port_but-same q
 pub half-gone : {b0 b3 : Ledger} {p q : Port} → IsLinked (port b0) (rank b0) → port b0 p.obj.0 p.slot ≡ Linked q → HalfCloses b0 b3 p q → port b3 p.obj.0 p.slot ≡ Leaving q
 half-gone {b0} {b3} {p} {q} l h half = half.ports_set p.obj.0 p.slot ∙ port_but-other q (Leaving p) (port_but p (Leaving q) (port b0)) p.obj.0 p.slot (λ i. linked-apart b0 p q l h i.0) ∙ port_but-same p (Leaving q) (port b0) p.obj.0 p.slot refl refl
 
-pub Asks-call : {N L : Type 0} (parts : L → List ℕ) (y : ℕ) (e : Entry N L) (sent : ℕ → List ℕ) → ((k : ℕ) → sent_by parts k e ≡ sent k) → Asks parts y sent (calls y e ∷ [])
+pub Asks-call : {N L : Type 0} (parts : Nature N L) (y : ℕ) (e : Entry N L) (sent : ℕ → List ℕ) → ((k : ℕ) → sent_by parts k e ≡ sent k) → Asks parts y sent (calls y e ∷ [])
 Asks-call parts y e sent h p a i = rw (eq-eqb p.obj.0 y i) (h p.slot)

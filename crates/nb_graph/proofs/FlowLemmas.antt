@@ -13,7 +13,7 @@ use Rattle.nb_graph.specs.Deeds.{Deed}
 use Rattle.nb_graph.specs.Effects.{AreDowns, IsDown, MayAskBelow, MayAskDown}
 use Rattle.nb_graph.specs.Whole.{IsLinked, port_at}
 use Rattle.nb_graph.specs.Accounts.{Account, Joined, joined, parted, account, emit_bytes, few_bytes, fx_bytes}
-use Rattle.nb_graph.specs.Trace.{carries}
+use Rattle.nb_graph.specs.Trace.{Nature, carries}
 use Rattle.nb_graph.specs.Flows.{Reaches, here, over, IsClear, IsShut, Closing, Failing, Downs, Passing, Emitting, Giving, Following, asked_left, asked_sent, asked_whole, nothing}
 use Rattle.nb_graph.specs.Moves.{Calms}
 use Rattle.nb_graph.proofs.ForestLemmas.{Reaches-map, apart-without, the-port}
@@ -46,7 +46,7 @@ module _ (a b : Ledger) (links : (y k : ℕ) (q : Port) → port b y k ≡ Linke
   Downs-closing m p q y z w v (inr (inl i)) = (v, inr (inl i), inr (refl, inl i.0))
   Downs-closing m p q y z w v (inr (inr i)) = (w, inr (inr (i.0, refl, i.2)), inr (i.1, inr (IsClear-fewer a b links i.2)))
 
-module _ {L : Type 0} (parts : L → List ℕ) (bytes : List ℕ) where
+module _ {N L : Type 0} (parts : Nature N L) (bytes : List ℕ) where
   pub emit-there : (k : ℕ) (e : Emit L) → k ≡ e.slot → emit_bytes parts k bytes (Some e) ≡ carries parts bytes e.from e.to e.load
   emit-there k e h = rw (eq-eqb k e.slot h) refl
 
@@ -120,7 +120,7 @@ Passing-shut l at m h p q y w v (inr (inr i)) = inr i.1
 Passing-shut l at m h p q y w v (inr (inl i)) = inl (ap (λ u. open_count (port l u.obj.0 u.slot)) i.0 ∙ h)
 
 -- all ports of an object were closed
-pub Calms-fail : {N L : Type 0} {parts : L → List ℕ} {a b : Ledger} {x : ℕ} {ds : List (Deed N L)} → ((k : ℕ) → open_count (port b x k) ≡ 0) → Calms parts a b (Closing a x) ds → Calms parts a b (Failing a x) ds
+pub Calms-fail : {N L : Type 0} {parts : Nature N L} {a b : Ledger} {x : ℕ} {ds : List (Deed N L)} → ((k : ℕ) → open_count (port b x k) ≡ 0) → Calms parts a b (Closing a x) ds → Calms parts a b (Failing a x) ds
 Calms-fail {parts = parts} {a = a} {b = b} {x = x} {ds = ds} shut k = record {
   same_made = k.same_made;
   links = k.links;
@@ -145,20 +145,20 @@ Calms-fail {parts = parts} {a = a} {b = b} {x = x} {ds = ds} shut k = record {
     go p q y z w v (inr (inr (inr e), c)) j = other p q _ _ w v e (k.joins p q y z w w (inr (refl, c)) j)
 
 -- an entry from above asks for nothing that goes up
-pub few-zero : {L : Type 0} (parts : L → List ℕ) (bytes : List ℕ) (len : ℕ) (f : Few (Emit L)) → AreDowns len f → few_bytes parts 0 bytes f ≡ []
+pub few-zero : {N L : Type 0} (parts : Nature N L) (bytes : List ℕ) (len : ℕ) (f : Few (Emit L)) → AreDowns len f → few_bytes parts 0 bytes f ≡ []
 few-zero parts bytes len f d = ap (λ z. z ++ emit_bytes parts 0 bytes f.second) (none f.first d.1) ∙ none f.second d.2
   where
     none : (o : Option (Emit _)) → IfSome o (IsDown len) → emit_bytes parts 0 bytes o ≡ []
     none None h = refl
     none (Some e) h = emit-elsewhere parts bytes 0 e (λ z. let i = h.0 in absurd (omega arith))
 
-pub below-bytes : {N L : Type 0} (parts : L → List ℕ) (bytes : List ℕ) (len : ℕ) (fx : Fx N L) → MayAskBelow len fx → (k : ℕ) → fx_bytes parts k bytes fx ≡ few_bytes parts k bytes fx.downs
+pub below-bytes : {N L : Type 0} (parts : Nature N L) (bytes : List ℕ) (len : ℕ) (fx : Fx N L) → MayAskBelow len fx → (k : ℕ) → fx_bytes parts k bytes fx ≡ few_bytes parts k bytes fx.downs
 below-bytes parts bytes len fx a k = ap (λ z. few_bytes parts k bytes fx.downs ++ (emit_bytes parts k bytes z ++ emit_bytes parts k bytes fx.ups.second)) a.no_up ∙ ap (λ z. few_bytes parts k bytes fx.downs ++ emit_bytes parts k bytes z) a.no_ups ∙ append-nil (few_bytes parts k bytes fx.downs)
 
-pub below-zero : {N L : Type 0} (parts : L → List ℕ) (bytes : List ℕ) (len : ℕ) (fx : Fx N L) → MayAskBelow len fx → fx_bytes parts 0 bytes fx ≡ []
+pub below-zero : {N L : Type 0} (parts : Nature N L) (bytes : List ℕ) (len : ℕ) (fx : Fx N L) → MayAskBelow len fx → fx_bytes parts 0 bytes fx ≡ []
 below-zero parts bytes len fx a = below-bytes parts bytes len fx a 0 ∙ few-zero parts bytes len fx.downs a.downs
 
-pub asked-zero : {N L : Type 0} (parts : L → List ℕ) (bytes : List ℕ) (len : ℕ) (asked : Asked N L) → MayAskDown len asked → asked_sent parts bytes asked 0 ≡ []
+pub asked-zero : {N L : Type 0} (parts : Nature N L) (bytes : List ℕ) (len : ℕ) (asked : Asked N L) → MayAskDown len asked → asked_sent parts bytes asked 0 ≡ []
 asked-zero parts bytes len (Done fx) a = below-zero parts bytes len fx a
 asked-zero parts bytes len (NoMemory fx) a = refl
 

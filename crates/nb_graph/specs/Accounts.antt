@@ -10,23 +10,23 @@ use Rattle.nb_ledger.specs.Ledger.{Ledger, port, open_count}
 use Rattle.nb_graph.specs.declared.effects.Emit.{Emit}
 use Rattle.nb_graph.specs.declared.effects.Few.{Few}
 use Rattle.nb_graph.specs.declared.effects.Fx.{Fx}
-use Rattle.nb_graph.specs.Trace.{Entry, carries, up, down, closed, time, regain}
+use Rattle.nb_graph.specs.Trace.{Nature, Entry, carries, up, down, closed, time, regain}
 use Rattle.nb_graph.specs.Deeds.{Deed, writes, calls, turns}
 
 -- those of one that leaves by slot k
-abbrev pub emit_bytes : {L : Type 0} → (L → List ℕ) → ℕ → List ℕ → Option (Emit L) → List ℕ
+abbrev pub emit_bytes : {N L : Type 0} → Nature N L → ℕ → List ℕ → Option (Emit L) → List ℕ
 emit_bytes parts k bytes None = []
 emit_bytes parts k bytes (Some e) = if k == e.slot then carries parts bytes e.from e.to e.load else []
 
-abbrev pub few_bytes : {L : Type 0} → (L → List ℕ) → ℕ → List ℕ → Few (Emit L) → List ℕ
+abbrev pub few_bytes : {N L : Type 0} → Nature N L → ℕ → List ℕ → Few (Emit L) → List ℕ
 few_bytes parts k bytes f = emit_bytes parts k bytes f.first ++ emit_bytes parts k bytes f.second
 
 -- what the effects of an entry with these bytes send by slot k
-abbrev pub fx_bytes : {N L : Type 0} → (L → List ℕ) → ℕ → List ℕ → Fx N L → List ℕ
+abbrev pub fx_bytes : {N L : Type 0} → Nature N L → ℕ → List ℕ → Fx N L → List ℕ
 fx_bytes parts k bytes fx = few_bytes parts k bytes fx.downs ++ few_bytes parts k bytes fx.ups
 
 -- What an entry sends by slot k. One that ran out of memory sends nothing.
-abbrev pub sent_by : {N L : Type 0} → (L → List ℕ) → ℕ → Entry N L → List ℕ
+abbrev pub sent_by : {N L : Type 0} → Nature N L → ℕ → Entry N L → List ℕ
 sent_by parts k (up slot msg now done fx) = if done then fx_bytes parts k msg.bytes fx else []
 sent_by parts k (down msg now done fx) = if done then fx_bytes parts k msg.bytes fx else []
 sent_by parts k (closed slot cause now fx) = fx_bytes parts k [] fx
@@ -86,11 +86,11 @@ after_note p a (Unplugged u l) = rests a
 after_note p a (Freed x) = rests a
 
 -- A call of its object. What it takes of a message that had entered before the link was plugged doesn't count.
-abbrev pub after_call : {N L : Type 0} → (L → List ℕ) → Port → Account → Entry N L → Account
+abbrev pub after_call : {N L : Type 0} → Nature N L → Port → Account → Entry N L → Account
 after_call parts p a e = record a { sent = a.sent ++ sent_by parts p.slot e; taken = a.taken ++ (if a.entered then taken_by p.slot e else []); asked = sent_by parts p.slot e }
 
 -- the account of the port p, after what happens
-abbrev pub account : {N L : Type 0} → (L → List ℕ) → Port → Account → List (Deed N L) → Account
+abbrev pub account : {N L : Type 0} → Nature N L → Port → Account → List (Deed N L) → Account
 account parts p a [] = a
 account parts p a (writes e ∷ ds) = account parts p (after_note p a e) ds
 account parts p a (turns u ∷ ds) = account parts p a ds

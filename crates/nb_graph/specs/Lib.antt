@@ -14,5 +14,5 @@ pub mod Moves
 pub mod Order
 pub mod Again
 pub mod Went
-pub mod Machine
-pub mod Ports
+pub mod Follows
+pub mod Scene

@@ -9,7 +9,7 @@ ghost use Rattle.nb_graph.specs.Order.{Shuts, ShutsObject};
 ghost use Rattle.nb_graph.specs.Accounts.{few_bytes};
 ghost use Rattle.nb_graph.specs.Flows.{Closing, Downs, Emitting, Failing, Following, Giving, Passing, asked_left, asked_sent, nothing};
 ghost use Rattle.nb_graph.specs.Calm.{IsSteady, Starts};
-ghost use Rattle.nb_graph.specs.Trace.{carried, down, in_list, lent, loads, said, bytes_of, carries};
+ghost use Rattle.nb_graph.specs.Trace.{carried, down, in_list, lent, loads, said, nature, carries};
 ghost use Rattle.nb_graph.specs.Deeds.{Hands, Closes, Gives, Sends, all_closes, closes_of, emit_of, few_of, no_memory, returns_of, runs_of};
 ghost use Rattle.nb_graph.specs.Lives.{Back, CalmFor, Same, here};
 ghost use Rattle.nb_ledger.specs.declared.event.GraphEvent.TheVariants.{Entered};
@@ -46,7 +46,7 @@ impl<N: Node> Inner<N> {
         requires steady { IsSteady N.rank_of self.old.book self.old.nodes.items
             (vec_capacity self.old.nodes) }
         ensures shut { open_count (port self.new.book at.obj.0 at.slot) ≡ 0 }
-        ensures lives { CalmFor N.stands (bytes_of N.Load.first N.Load.second) now self.old.book
+        ensures lives { CalmFor N.stands (nature N.kind_of N.Load.first N.Load.second) now self.old.book
             self.new.book self.old.nodes.items self.new.nodes.items (Same (busy self.old.book))
             (Closing self.old.book at.obj.0) (λ st. Closes at cause.now ∷ st) (O.events out.old) (O.events out.new) }
         ensures starts { 0 < open_count (port self.old.book at.obj.0 at.slot)
@@ -72,7 +72,7 @@ impl<N: Node> Inner<N> {
         requires steady { IsSteady N.rank_of self.old.book self.old.nodes.items
             (vec_capacity self.old.nodes) }
         ensures shut { open_count (port self.new.book at.obj.0 at.slot) ≡ 0 }
-        ensures lives { CalmFor N.stands (bytes_of N.Load.first N.Load.second) now self.old.book
+        ensures lives { CalmFor N.stands (nature N.kind_of N.Load.first N.Load.second) now self.old.book
             self.new.book self.old.nodes.items self.new.nodes.items (Same (busy self.old.book))
             (Closing self.old.book at.obj.0) (λ st. Closes at cause.now ∷ st) (O.events out.old) (O.events out.new) }
         ensures starts { Shuts self.old.book self.new.book (O.events out.old) (O.events out.new) at
@@ -100,11 +100,11 @@ impl<N: Node> Inner<N> {
         requires asks { MayAskBelow (length msg.now.first.now + length msg.now.second.now) fx }
         requires steady { IsSteady N.rank_of self.old.book self.old.nodes.items
             (vec_capacity self.old.nodes) }
-        ensures lives { CalmFor N.stands (bytes_of N.Load.first N.Load.second) now self.old.book
+        ensures lives { CalmFor N.stands (nature N.kind_of N.Load.first N.Load.second) now self.old.book
             self.new.book self.old.nodes.items self.new.nodes.items
             (Back (busy self.old.book) id.0 (lent fx)) (Downs self.old.book id.0
-            (λ k. few_bytes (bytes_of N.Load.first N.Load.second) k (said msg.now).bytes fx.downs))
-            (λ st. runs_of (bytes_of N.Load.first N.Load.second) id.0 (said msg.now) true fx ++ st) (O.events out.old) (O.events out.new) }
+            (λ k. few_bytes (nature N.kind_of N.Load.first N.Load.second) k (said msg.now).bytes fx.downs))
+            (λ st. runs_of (nature N.kind_of N.Load.first N.Load.second) id.0 (said msg.now) true fx ++ st) (O.events out.old) (O.events out.new) }
         ensures steady { IsSteady N.rank_of self.new.book self.new.nodes.items
             (vec_capacity self.new.nodes) }
     {
@@ -132,11 +132,11 @@ impl<N: Node> Inner<N> {
         requires downs { AreDowns (length msg.now.first.now + length msg.now.second.now) downs }
         requires steady { IsSteady N.rank_of self.old.book self.old.nodes.items
             (vec_capacity self.old.nodes) }
-        ensures lives { CalmFor N.stands (bytes_of N.Load.first N.Load.second) now self.old.book
+        ensures lives { CalmFor N.stands (nature N.kind_of N.Load.first N.Load.second) now self.old.book
             self.new.book self.old.nodes.items self.new.nodes.items
             (Back (busy self.old.book) id.0 (loads downs))
-            (Downs self.old.book id.0 (λ k. few_bytes (bytes_of N.Load.first N.Load.second) k
-            (said msg.now).bytes downs)) (λ st. few_of (bytes_of N.Load.first N.Load.second) id.0 (said msg.now) downs ++ st) (O.events out.old) (O.events out.new) }
+            (Downs self.old.book id.0 (λ k. few_bytes (nature N.kind_of N.Load.first N.Load.second) k
+            (said msg.now).bytes downs)) (λ st. few_of (nature N.kind_of N.Load.first N.Load.second) id.0 (said msg.now) downs ++ st) (O.events out.old) (O.events out.new) }
         ensures steady { IsSteady N.rank_of self.new.book self.new.nodes.items
             (vec_capacity self.new.nodes) }
     {
@@ -158,11 +158,11 @@ impl<N: Node> Inner<N> {
         requires down { IfSome emit (IsDown (length msg.now.first.now + length msg.now.second.now)) }
         requires steady { IsSteady N.rank_of self.old.book self.old.nodes.items
             (vec_capacity self.old.nodes) }
-        ensures lives { CalmFor N.stands (bytes_of N.Load.first N.Load.second) now self.old.book
+        ensures lives { CalmFor N.stands (nature N.kind_of N.Load.first N.Load.second) now self.old.book
             self.new.book self.old.nodes.items self.new.nodes.items
             (Back (busy self.old.book) id.0 (carried emit))
-            (Emitting self.old.book id.0 (bytes_of N.Load.first N.Load.second) (said msg.now).bytes
-            emit) (λ st. emit_of (bytes_of N.Load.first N.Load.second) id.0 (said msg.now) emit ++ st) (O.events out.old) (O.events out.new) }
+            (Emitting self.old.book id.0 (nature N.kind_of N.Load.first N.Load.second) (said msg.now).bytes
+            emit) (λ st. emit_of (nature N.kind_of N.Load.first N.Load.second) id.0 (said msg.now) emit ++ st) (O.events out.old) (O.events out.new) }
         ensures steady { IsSteady N.rank_of self.new.book self.new.nodes.items
             (vec_capacity self.new.nodes) }
     {
@@ -185,12 +185,12 @@ impl<N: Node> Inner<N> {
         requires down { IsDown (length msg.now.first.now + length msg.now.second.now) emit }
         requires steady { IsSteady N.rank_of self.old.book self.old.nodes.items
             (vec_capacity self.old.nodes) }
-        ensures lives { CalmFor N.stands (bytes_of N.Load.first N.Load.second) now self.old.book
+        ensures lives { CalmFor N.stands (nature N.kind_of N.Load.first N.Load.second) now self.old.book
             self.new.book self.old.nodes.items self.new.nodes.items
             (Back (busy self.old.book) id.0 (in_list emit.load))
             (Passing self.old.book (port_at id.0 emit.slot)
-            (carries (bytes_of N.Load.first N.Load.second) (said msg.now).bytes emit.from emit.to
-            emit.load)) (λ st. emit_of (bytes_of N.Load.first N.Load.second) id.0 (said msg.now) (Some emit) ++ st) (O.events out.old) (O.events out.new) }
+            (carries (nature N.kind_of N.Load.first N.Load.second) (said msg.now).bytes emit.from emit.to
+            emit.load)) (λ st. emit_of (nature N.kind_of N.Load.first N.Load.second) id.0 (said msg.now) (Some emit) ++ st) (O.events out.old) (O.events out.new) }
         ensures steady { IsSteady N.rank_of self.new.book self.new.nodes.items
             (vec_capacity self.new.nodes) }
     {
@@ -239,7 +239,7 @@ impl<N: Node> Inner<N> {
         requires slot { 1 ≤ at.slot }
         requires steady { IsSteady N.rank_of self.old.book self.old.nodes.items
             (vec_capacity self.old.nodes) }
-        ensures lives { CalmFor N.stands (bytes_of N.Load.first N.Load.second) now self.old.book
+        ensures lives { CalmFor N.stands (nature N.kind_of N.Load.first N.Load.second) now self.old.book
             self.new.book self.old.nodes.items self.new.nodes.items (Same (busy self.old.book))
             (Passing self.old.book at (said msg.now).bytes) (λ st. Sends at (said msg.now) ∷ st) (O.events out.old) (O.events out.new) }
         ensures steady { IsSteady N.rank_of self.new.book self.new.nodes.items
@@ -260,7 +260,7 @@ impl<N: Node> Inner<N> {
         requires open { IsOpen (port self.old.book at.obj.0 at.slot) }
         requires steady { IsSteady N.rank_of self.old.book self.old.nodes.items
             (vec_capacity self.old.nodes) }
-        ensures lives { (k : CalmFor N.stands (bytes_of N.Load.first N.Load.second) now
+        ensures lives { (k : CalmFor N.stands (nature N.kind_of N.Load.first N.Load.second) now
             self.old.book self.new.book self.old.nodes.items self.new.nodes.items
             (Same (busy self.old.book)) (Giving self.old.book at (said msg.now).bytes)
             (λ st. Gives at (said msg.now) ∷ st) (O.events out.old) (O.events out.new))
@@ -290,12 +290,12 @@ impl<N: Node> Inner<N> {
         requires asks { MayAskDown (length msg.now.first.now + length msg.now.second.now) asked }
         requires steady { IsSteady N.rank_of self.old.book self.old.nodes.items
             (vec_capacity self.old.nodes) }
-        ensures lives { CalmFor N.stands (bytes_of N.Load.first N.Load.second) now self.old.book
+        ensures lives { CalmFor N.stands (nature N.kind_of N.Load.first N.Load.second) now self.old.book
             self.new.book self.old.nodes.items self.new.nodes.items
             (Back (busy self.old.book) id.0 (asked_loads asked))
             (Following self.old.book (port_at id.0 0) (asked_left (said msg.now).bytes asked)
-            (asked_sent (bytes_of N.Load.first N.Load.second) (said msg.now).bytes asked))
-            (λ st. asked_runs (bytes_of N.Load.first N.Load.second) id.0 (said msg.now) asked ++ st) (O.events out.old) (O.events out.new) }
+            (asked_sent (nature N.kind_of N.Load.first N.Load.second) (said msg.now).bytes asked))
+            (λ st. asked_runs (nature N.kind_of N.Load.first N.Load.second) id.0 (said msg.now) asked ++ st) (O.events out.old) (O.events out.new) }
         ensures steady { IsSteady N.rank_of self.new.book self.new.nodes.items
             (vec_capacity self.new.nodes) }
     {
@@ -311,7 +311,7 @@ impl<N: Node> Inner<N> {
         requires runs { busy self.old.book id.0 ≡ true }
         requires steady { IsSteady N.rank_of self.old.book self.old.nodes.items
             (vec_capacity self.old.nodes) }
-        ensures lives { CalmFor N.stands (bytes_of N.Load.first N.Load.second) now self.old.book
+        ensures lives { CalmFor N.stands (nature N.kind_of N.Load.first N.Load.second) now self.old.book
             self.new.book self.old.nodes.items self.new.nodes.items
             (Back (busy self.old.book) id.0 (lent fx)) (Failing self.old.book id.0)
             (λ st. (returns_of id.0 (lent fx) ++ all_closes id.0 no_memory) ++ st) (O.events out.old) (O.events out.new) }
@@ -328,7 +328,7 @@ impl<N: Node> Inner<N> {
         requires steady { IsSteady N.rank_of self.old.book self.old.nodes.items
             (vec_capacity self.old.nodes) }
         ensures shut { (k : ℕ) → open_count (port self.new.book id.0 k) ≡ 0 }
-        ensures lives { CalmFor N.stands (bytes_of N.Load.first N.Load.second) now self.old.book
+        ensures lives { CalmFor N.stands (nature N.kind_of N.Load.first N.Load.second) now self.old.book
             self.new.book self.old.nodes.items self.new.nodes.items (Same (busy self.old.book))
             (Closing self.old.book id.0) (λ st. all_closes id.0 cause.now ++ st) (O.events out.old) (O.events out.new) }
         ensures order { IsQuiet self.old.book → ShutsObject cause.now id.0 self.old.book
@@ -355,7 +355,7 @@ impl<N: Node> Inner<N> {
             (vec_capacity self.old.nodes) }
         ensures shut { (k : ℕ) → ClosesSlot k closes.now → open_count (port self.new.book id.0 k) ≡
             0 }
-        ensures lives { CalmFor N.stands (bytes_of N.Load.first N.Load.second) now self.old.book
+        ensures lives { CalmFor N.stands (nature N.kind_of N.Load.first N.Load.second) now self.old.book
             self.new.book self.old.nodes.items self.new.nodes.items (Same (busy self.old.book))
             (Closing self.old.book id.0) (λ st. closes_of id.0 closes.now ++ st) (O.events out.old) (O.events out.new) }
         ensures steady { IsSteady N.rank_of self.new.book self.new.nodes.items

@@ -10,7 +10,7 @@ ghost use Rattle.nb_graph.specs.Flows.{Delivering, Doing, Keeping, Leaves, Risin
 ghost use Rattle.nb_graph.specs.Moves.{HasAsked, always, none_due};
 ghost use Rattle.nb_graph.specs.Calm.{IsSteady, Starts};
 ghost use Rattle.nb_graph.specs.Whole.{Harvests, IsManned, port_at};
-ghost use Rattle.nb_graph.specs.Trace.{carried, in_list, left, lent, loads, said, said_behind, silence, up, time, bytes_of, carries};
+ghost use Rattle.nb_graph.specs.Trace.{carried, in_list, left, lent, loads, said, said_behind, silence, up, time, nature, carries};
 ghost use Rattle.nb_graph.specs.Deeds.{Calls, Hands, Gives, Holds, Sends, Ticks, emit_of, few_of, runs_of};
 ghost use Rattle.nb_graph.specs.Again.{Delivered, Gives as GivesAll, GoesOn, LeftOn};
 ghost use Rattle.nb_graph.specs.Lively.{Grows};
@@ -36,7 +36,7 @@ impl<N: Node> Inner<N> {
         requires under { IsUnder (rank self.old.book at.obj.0) self.old.book }
         requires steady { IsSteady N.rank_of self.old.book self.old.nodes.items
             (vec_capacity self.old.nodes) }
-        ensures lives { (k : LivelyFor N.stands (bytes_of N.Load.first N.Load.second) now
+        ensures lives { (k : LivelyFor N.stands (nature N.kind_of N.Load.first N.Load.second) now
             self.old.book self.new.book self.old.nodes.items self.new.nodes.items
             (Same (busy self.old.book)) none_due (Rising self.old.book at (said msg.now).bytes)
             (λ st. Gives at (said msg.now) ∷ st) (O.events out.old) (O.events out.new))
@@ -62,7 +62,7 @@ impl<N: Node> Inner<N> {
         requires below { IsBelow (rank self.old.book at.obj.0) self.old.book }
         requires steady { IsSteady N.rank_of self.old.book self.old.nodes.items
             (vec_capacity self.old.nodes) }
-        ensures lives { Delivered N.stands (bytes_of N.Load.first N.Load.second) now at
+        ensures lives { Delivered N.stands (nature N.kind_of N.Load.first N.Load.second) now at
             (said msg.now) self.old.book self.new.book self.old.nodes.items self.new.nodes.items
             (O.events out.old) (O.events out.new) }
         ensures steady { IsSteady N.rank_of self.new.book self.new.nodes.items
@@ -90,7 +90,7 @@ impl<N: Node> Inner<N> {
         requires below { IsBelow (rank self.old.book at.obj.0) self.old.book }
         requires steady { IsSteady N.rank_of self.old.book self.old.nodes.items
             (vec_capacity self.old.nodes) }
-        ensures gives { GivesAll N.stands (bytes_of N.Load.first N.Load.second) now at
+        ensures gives { GivesAll N.stands (nature N.kind_of N.Load.first N.Load.second) now at
             (said msg.now) self.old.book self.new.book self.old.nodes.items self.new.nodes.items
             (O.events out.old) (O.events out.new) result }
         ensures less { IfSome result (λ r. length r.first.now + length r.second.now
@@ -121,7 +121,7 @@ impl<N: Node> Inner<N> {
         requires below { IsBelow (rank self.old.book at.obj.0) self.old.book }
         requires steady { IsSteady N.rank_of self.old.book self.old.nodes.items
             (vec_capacity self.old.nodes) }
-        ensures goes { GoesOn N.stands (bytes_of N.Load.first N.Load.second) now at
+        ensures goes { GoesOn N.stands (nature N.kind_of N.Load.first N.Load.second) now at
             (said msg.now) asked self.old.book self.new.book self.old.nodes.items self.new.nodes.items
             (O.events out.old) (O.events out.new) result }
         ensures less { IfSome result (λ r. length r.first.now + length r.second.now
@@ -155,7 +155,7 @@ impl<N: Node> Inner<N> {
         requires took { took ≤ length msg.now.first.now + length msg.now.second.now }
         requires some { took ≡ 0 → 0 < length msg.now.first.now + length msg.now.second.now →
             open_count (port self.old.book at.obj.0 at.slot) ≡ 0 }
-        ensures goes { (now : ℕ) → LeftOn N.stands (bytes_of N.Load.first N.Load.second) now at
+        ensures goes { (now : ℕ) → LeftOn N.stands (nature N.kind_of N.Load.first N.Load.second) now at
             took (said msg.now) self.old.book self.new.book self.old.nodes.items
             self.new.nodes.items (O.events out.old) (O.events out.new) result }
         ensures same { (self.new.book ≡ self.old.book) × (self.new.nodes ≡ self.old.nodes) }
@@ -190,12 +190,12 @@ impl<N: Node> Inner<N> {
         requires below { IsBelow (rank self.old.book id.0) self.old.book }
         requires steady { IsSteady N.rank_of self.old.book self.old.nodes.items
             (vec_capacity self.old.nodes) }
-        ensures lives { LivelyInFor N.stands (bytes_of N.Load.first N.Load.second) now id.0
+        ensures lives { LivelyInFor N.stands (nature N.kind_of N.Load.first N.Load.second) now id.0
             self.old.book self.new.book self.old.nodes.items self.new.nodes.items
             (Back (busy self.old.book) id.0 (lent fx)) (HasAsked id.0
-            (λ k. fx_bytes (bytes_of N.Load.first N.Load.second) k (said msg.now).bytes fx))
-            none_due (Doing self.old.book id.0 (λ k. fx_bytes (bytes_of N.Load.first N.Load.second)
-            k (said msg.now).bytes fx)) (λ st. runs_of (bytes_of N.Load.first N.Load.second) id.0 (said msg.now) true fx ++ st) here (O.events out.old) (O.events out.new) }
+            (λ k. fx_bytes (nature N.kind_of N.Load.first N.Load.second) k (said msg.now).bytes fx))
+            none_due (Doing self.old.book id.0 (λ k. fx_bytes (nature N.kind_of N.Load.first N.Load.second)
+            k (said msg.now).bytes fx)) (λ st. runs_of (nature N.kind_of N.Load.first N.Load.second) id.0 (said msg.now) true fx ++ st) here (O.events out.old) (O.events out.new) }
         ensures shut { (k : ℕ) → ClosesSlot k fx.closes.items → open_count
             (port self.new.book id.0 k) ≡ 0 }
         ensures steady { IsSteady N.rank_of self.new.book self.new.nodes.items
@@ -228,11 +228,11 @@ impl<N: Node> Inner<N> {
         requires below { IsBelow (rank self.old.book id.0) self.old.book }
         requires steady { IsSteady N.rank_of self.old.book self.old.nodes.items
             (vec_capacity self.old.nodes) }
-        ensures lives { LivelyFor N.stands (bytes_of N.Load.first N.Load.second) now self.old.book
+        ensures lives { LivelyFor N.stands (nature N.kind_of N.Load.first N.Load.second) now self.old.book
             self.new.book self.old.nodes.items self.new.nodes.items
             (Back (busy self.old.book) id.0 (loads ups)) none_due
-            (Leaves self.old.book (port_at id.0 0) (few_bytes (bytes_of N.Load.first N.Load.second)
-            0 (said msg.now).bytes ups)) (λ st. few_of (bytes_of N.Load.first N.Load.second) id.0 (said msg.now) ups ++ st) (O.events out.old) (O.events out.new) }
+            (Leaves self.old.book (port_at id.0 0) (few_bytes (nature N.kind_of N.Load.first N.Load.second)
+            0 (said msg.now).bytes ups)) (λ st. few_of (nature N.kind_of N.Load.first N.Load.second) id.0 (said msg.now) ups ++ st) (O.events out.old) (O.events out.new) }
         ensures steady { IsSteady N.rank_of self.new.book self.new.nodes.items
             (vec_capacity self.new.nodes) }
     {
@@ -255,11 +255,11 @@ impl<N: Node> Inner<N> {
         requires below { IsBelow (rank self.old.book id.0) self.old.book }
         requires steady { IsSteady N.rank_of self.old.book self.old.nodes.items
             (vec_capacity self.old.nodes) }
-        ensures lives { LivelyFor N.stands (bytes_of N.Load.first N.Load.second) now self.old.book
+        ensures lives { LivelyFor N.stands (nature N.kind_of N.Load.first N.Load.second) now self.old.book
             self.new.book self.old.nodes.items self.new.nodes.items
             (Back (busy self.old.book) id.0 (carried emit)) none_due
-            (Leaves self.old.book (port_at id.0 0) (emit_bytes (bytes_of N.Load.first N.Load.second)
-            0 (said msg.now).bytes emit)) (λ st. emit_of (bytes_of N.Load.first N.Load.second) id.0 (said msg.now) emit ++ st) (O.events out.old) (O.events out.new) }
+            (Leaves self.old.book (port_at id.0 0) (emit_bytes (nature N.kind_of N.Load.first N.Load.second)
+            0 (said msg.now).bytes emit)) (λ st. emit_of (nature N.kind_of N.Load.first N.Load.second) id.0 (said msg.now) emit ++ st) (O.events out.old) (O.events out.new) }
         ensures steady { IsSteady N.rank_of self.new.book self.new.nodes.items
             (vec_capacity self.new.nodes) }
     {
@@ -283,11 +283,11 @@ impl<N: Node> Inner<N> {
         requires below { IsBelow (rank self.old.book id.0) self.old.book }
         requires steady { IsSteady N.rank_of self.old.book self.old.nodes.items
             (vec_capacity self.old.nodes) }
-        ensures lives { LivelyFor N.stands (bytes_of N.Load.first N.Load.second) now self.old.book
+        ensures lives { LivelyFor N.stands (nature N.kind_of N.Load.first N.Load.second) now self.old.book
             self.new.book self.old.nodes.items self.new.nodes.items
             (Back (busy self.old.book) id.0 (in_list emit.load)) none_due
-            (Leaves self.old.book (port_at id.0 0) (carries (bytes_of N.Load.first N.Load.second)
-            (said msg.now).bytes emit.from emit.to emit.load)) (λ st. emit_of (bytes_of N.Load.first N.Load.second) id.0 (said msg.now) (Some emit) ++ st) (O.events out.old) (O.events out.new) }
+            (Leaves self.old.book (port_at id.0 0) (carries (nature N.kind_of N.Load.first N.Load.second)
+            (said msg.now).bytes emit.from emit.to emit.load)) (λ st. emit_of (nature N.kind_of N.Load.first N.Load.second) id.0 (said msg.now) (Some emit) ++ st) (O.events out.old) (O.events out.new) }
         ensures steady { IsSteady N.rank_of self.new.book self.new.nodes.items
             (vec_capacity self.new.nodes) }
     {
@@ -338,7 +338,7 @@ impl<N: Node> Inner<N> {
         requires below { IsBelow (rank self.old.book at.obj.0) self.old.book }
         requires steady { IsSteady N.rank_of self.old.book self.old.nodes.items
             (vec_capacity self.old.nodes) }
-        ensures lives { LivelyFor N.stands (bytes_of N.Load.first N.Load.second) now self.old.book
+        ensures lives { LivelyFor N.stands (nature N.kind_of N.Load.first N.Load.second) now self.old.book
             self.new.book self.old.nodes.items self.new.nodes.items (Same (busy self.old.book))
             none_due (Leaves self.old.book at (said msg.now).bytes) (λ st. Sends at (said msg.now) ∷ st) (O.events out.old)
             (O.events out.new) }
@@ -360,7 +360,7 @@ impl<N: Node> Inner<N> {
         requires idle { (x : ℕ) → busy self.old.book x ≡ false }
         requires steady { IsSteady N.rank_of self.old.book self.old.nodes.items
             (vec_capacity self.old.nodes) }
-        ensures lives { (k : LivelyFor N.stands (bytes_of N.Load.first N.Load.second) now
+        ensures lives { (k : LivelyFor N.stands (nature N.kind_of N.Load.first N.Load.second) now
             self.old.book self.new.book self.old.nodes.items self.new.nodes.items
             (Same (busy self.old.book)) none_due (Keeping self.old.book) (λ st. Ticks id.0 ∷ st) (O.events out.old)
             (O.events out.new))
@@ -384,12 +384,12 @@ impl<N: Node> Inner<N> {
         requires below { IsBelow (rank self.old.book id.0) self.old.book }
         requires steady { IsSteady N.rank_of self.old.book self.old.nodes.items
             (vec_capacity self.old.nodes) }
-        ensures lives { LivelyInFor N.stands (bytes_of N.Load.first N.Load.second) now id.0
+        ensures lives { LivelyInFor N.stands (nature N.kind_of N.Load.first N.Load.second) now id.0
             self.old.book self.new.book self.old.nodes.items self.new.nodes.items
             (Back (busy self.old.book) id.0 (asked_loads asked))
-            (HasAsked id.0 (asked_sent (bytes_of N.Load.first N.Load.second) [] asked)) none_due
-            (Doing self.old.book id.0 (asked_sent (bytes_of N.Load.first N.Load.second) [] asked))
-            (λ st. asked_runs (bytes_of N.Load.first N.Load.second) id.0 silence asked ++ st) here (O.events out.old) (O.events out.new) }
+            (HasAsked id.0 (asked_sent (nature N.kind_of N.Load.first N.Load.second) [] asked)) none_due
+            (Doing self.old.book id.0 (asked_sent (nature N.kind_of N.Load.first N.Load.second) [] asked))
+            (λ st. asked_runs (nature N.kind_of N.Load.first N.Load.second) id.0 silence asked ++ st) here (O.events out.old) (O.events out.new) }
         ensures steady { IsSteady N.rank_of self.new.book self.new.nodes.items
             (vec_capacity self.new.nodes) }
     {

@@ -5,7 +5,7 @@ ghost use Rattle.nb_ledger.specs.declared.port.PortState.TheVariants.{Linked, Le
 ghost use Rattle.nb_ledger.specs.declared.event.Way.{Way as TheWay};
 ghost use Rattle.nb_ledger.specs.declared.event.Way.TheVariants.{Close, Down, Time, Up};
 ghost use Rattle.nb_ledger.specs.declared.event.GraphEvent.TheVariants.{Closed, Entered};
-ghost use Rattle.nb_ledger.specs.GraphRun.{Frame, Running, MustUnplug, IsIdle, Run, port_but};
+ghost use Rattle.nb_ledger.specs.GraphRun.{Frame, Running, MustUnplug, IsIdle, IsOpen, Run, port_but};
 ghost use Rattle.nb_ledger.specs.Flat.{Notice, Tells};
 ghost use Rattle.nb_ledger.specs.Ledger.{live, busy, rank, port, state_of};
 ghost use Rattle.nb_graph.specs.Accounts.{fx_bytes};
@@ -13,7 +13,7 @@ ghost use Rattle.nb_graph.specs.Flows.{Asking, Still, asked_sent, asked_taken, a
 ghost use Rattle.nb_graph.specs.Moves.{Asks, Calms};
 ghost use Rattle.nb_graph.specs.Calm.{IsSteady, HalfCloses};
 ghost use Rattle.nb_graph.specs.Whole.{IsManned, IsLinked, CountedButTwo, port_at};
-ghost use Rattle.nb_graph.specs.Trace.{carried, down, in_list, lent, loads, said, said_behind, silence, time, up, part, bytes_of};
+ghost use Rattle.nb_graph.specs.Trace.{carried, down, in_list, lent, loads, said, said_behind, silence, time, up, part, nature};
 ghost use Rattle.nb_graph.specs.Deeds.{Calls, Closes, Holds, MustHear, MustUnplug as Unlinks, Returns, returns_of, runs_of};
 ghost use Rattle.nb_graph.specs.Order.{EndsLink};
 ghost use Rattle.nb_graph.specs.Lives.{Back, EndsFor, Lends, LendsFirst, Lives, SettlesTwoFor, Stays, here, nodes_at};
@@ -48,9 +48,9 @@ impl<N: Node> Inner<N> {
         ensures run { (st : List Frame) → IsIdle st → Run (state_of self.old.book st)
             (Closed at cause.now ∷ Closed peer cause.now ∷ Entered peer Close ∷ [])
             (state_of self.new.book (Running peer Close ∷ MustUnplug at peer ∷ st)) }
-        ensures lives { (now : ℕ) → Lives N.stands (bytes_of N.Load.first N.Load.second) now (nodes_at self.old.book self.old.nodes.items (O.events out.old))
+        ensures lives { (now : ℕ) → Lives N.stands (nature N.kind_of N.Load.first N.Load.second) now (nodes_at self.old.book self.old.nodes.items (O.events out.old))
             (nodes_at self.new.book self.new.nodes.items (O.events out.new)) Stays (λ st. Closes at cause.now ∷ st)
-            (λ st. MustHear peer cause.now ∷ Unlinks at peer ∷ st) (Calms (bytes_of N.Load.first N.Load.second)
+            (λ st. MustHear peer cause.now ∷ Unlinks at peer ∷ st) (Calms (nature N.kind_of N.Load.first N.Load.second)
             self.old.book self.new.book Still) (Closed at cause.now ∷ Closed peer cause.now ∷
             Entered peer Close ∷ []) }
         ensures was { result ≡ busy self.old.book peer.obj.0 }
@@ -71,7 +71,7 @@ impl<N: Node> Inner<N> {
         requires apart { at.obj.0 ≢ peer.obj.0 }
         requires steady { IsSteady N.rank_of self.old.book self.old.nodes.items
             (vec_capacity self.old.nodes) }
-        ensures ends { (e : EndsFor N.stands (bytes_of N.Load.first N.Load.second) self.old.book
+        ensures ends { (e : EndsFor N.stands (nature N.kind_of N.Load.first N.Load.second) self.old.book
             self.new.book self.old.nodes.items self.new.nodes.items (O.events out.old)
             (O.events out.new) peer.obj.0 was
             (λ st. Running peer Close ∷ MustUnplug at peer ∷ st)
@@ -90,7 +90,7 @@ impl<N: Node> Inner<N> {
         requires lives { live self.old.book at.obj.0 ≡ true }
         requires steady { IsSteady N.rank_of self.old.book self.old.nodes.items
             (vec_capacity self.old.nodes) }
-        ensures ends { (by : TheWay) → (by ≡ Close → ⊥) → EndsFor N.stands (bytes_of N.Load.first N.Load.second)
+        ensures ends { (by : TheWay) → (by ≡ Close → ⊥) → EndsFor N.stands (nature N.kind_of N.Load.first N.Load.second)
             self.old.book self.new.book self.old.nodes.items self.new.nodes.items (O.events out.old)
             (O.events out.new) at.obj.0 was
             (λ st. Running at by ∷ st) (port self.old.book) (λ st. Holds at by None ∷ st) }
@@ -110,7 +110,7 @@ impl<N: Node> Inner<N> {
         requires links { IsLinked (port self.old.book) (rank self.old.book) }
         requires counted { CountedButTwo first.0 other.0 self.old.book }
         requires small { (x : ℕ) → rank self.old.book x < 256 }
-        ensures settles { SettlesTwoFor N.stands (bytes_of N.Load.first N.Load.second) self.old.book
+        ensures settles { SettlesTwoFor N.stands (nature N.kind_of N.Load.first N.Load.second) self.old.book
             self.new.book self.old.nodes.items self.new.nodes.items (O.events out.old)
             (O.events out.new) first other }
         ensures steady { IsSteady N.rank_of self.new.book self.new.nodes.items
@@ -132,7 +132,7 @@ impl<N: Node> Inner<N> {
         requires links { IsLinked (port self.old.book) (rank self.old.book) }
         requires counted { CountedButTwo low.0 high.0 self.old.book }
         requires small { (x : ℕ) → rank self.old.book x < 256 }
-        ensures settles { SettlesTwoFor N.stands (bytes_of N.Load.first N.Load.second) self.old.book
+        ensures settles { SettlesTwoFor N.stands (nature N.kind_of N.Load.first N.Load.second) self.old.book
             self.new.book self.old.nodes.items self.new.nodes.items (O.events out.old)
             (O.events out.new) low high }
         ensures steady { IsSteady N.rank_of self.new.book self.new.nodes.items
@@ -149,11 +149,11 @@ impl<N: Node> Inner<N> {
             (vec_capacity self.old.nodes) }
         ensures asks { MayAskBelow 0 result }
         ensures book { self.new.book ≡ self.old.book }
-        ensures lives { (u : Option (List Notice)) → Lives N.stands (bytes_of N.Load.first N.Load.second) now (nodes_at self.old.book self.old.nodes.items u)
+        ensures lives { (u : Option (List Notice)) → Lives N.stands (nature N.kind_of N.Load.first N.Load.second) now (nodes_at self.old.book self.old.nodes.items u)
             (nodes_at self.new.book self.new.nodes.items u) (Lends at.obj.0 (lent result))
-            (λ st. MustHear at cause.now ∷ st) (λ st. runs_of (bytes_of N.Load.first N.Load.second) at.obj.0 silence true result ++ Holds at Close None ∷ st)
-            (Calms (bytes_of N.Load.first N.Load.second) self.old.book self.old.book
-            (Asking self.old.book at.obj.0 (λ k. fx_bytes (bytes_of N.Load.first N.Load.second) k []
+            (λ st. MustHear at cause.now ∷ st) (λ st. runs_of (nature N.kind_of N.Load.first N.Load.second) at.obj.0 silence true result ++ Holds at Close None ∷ st)
+            (Calms (nature N.kind_of N.Load.first N.Load.second) self.old.book self.old.book
+            (Asking self.old.book at.obj.0 (λ k. fx_bytes (nature N.kind_of N.Load.first N.Load.second) k []
             result) nothing)) [] }
         ensures manned { IsManned N.rank_of self.new.book self.new.nodes.items
             (vec_capacity self.new.nodes) }
@@ -171,12 +171,12 @@ impl<N: Node> Inner<N> {
             (vec_capacity self.old.nodes) }
         ensures asks { MayAskDown (length msg.now.first.now + length msg.now.second.now) result }
         ensures book { self.new.book ≡ self.old.book }
-        ensures lives { (u : Option (List Notice)) → (k : Lives N.stands (bytes_of N.Load.first N.Load.second) now (nodes_at self.old.book self.old.nodes.items u)
+        ensures lives { (u : Option (List Notice)) → (k : Lives N.stands (nature N.kind_of N.Load.first N.Load.second) now (nodes_at self.old.book self.old.nodes.items u)
             (nodes_at self.new.book self.new.nodes.items u) (Lends id.0 (asked_loads result))
             (λ st. Holds (port_at id.0 0) Down (Some (said msg.now)) ∷ st)
-            (λ st. asked_runs (bytes_of N.Load.first N.Load.second) id.0 (said msg.now) result ++ Holds (port_at id.0 0) Down None ∷ st)
-            (Calms (bytes_of N.Load.first N.Load.second) self.old.book self.old.book
-            (Asking self.old.book id.0 (asked_sent (bytes_of N.Load.first N.Load.second)
+            (λ st. asked_runs (nature N.kind_of N.Load.first N.Load.second) id.0 (said msg.now) result ++ Holds (port_at id.0 0) Down None ∷ st)
+            (Calms (nature N.kind_of N.Load.first N.Load.second) self.old.book self.old.book
+            (Asking self.old.book id.0 (asked_sent (nature N.kind_of N.Load.first N.Load.second)
             (said msg.now).bytes result) (asked_whole (said msg.now).bytes result))) [])
             × Calls id.0 (λ done fx. down (said msg.now) now done fx) k.deeds }
         ensures manned { IsManned N.rank_of self.new.book self.new.nodes.items
@@ -193,20 +193,21 @@ impl<N: Node> Inner<N> {
     /// Calls the node that a message, or the rest of one, enters from below.
     pub(crate) fn ask_up(&mut self, at: Port, msg: &Msg<'_>, now: u64) -> Asked<N, N::Load>
         requires lives { live self.old.book at.obj.0 ≡ true }
+        requires open { IsOpen (port self.old.book at.obj.0 at.slot) }
         requires manned { IsManned N.rank_of self.old.book self.old.nodes.items
             (vec_capacity self.old.nodes) }
         ensures asks { MayAskUp N.rank_of N.stands (rank self.old.book at.obj.0) at.slot
             (length msg.now.first.now + length msg.now.second.now) result }
         ensures book { self.new.book ≡ self.old.book }
-        ensures lives { (u : Option (List Notice)) → (k : Lives N.stands (bytes_of N.Load.first N.Load.second) now (nodes_at self.old.book self.old.nodes.items u)
+        ensures lives { (u : Option (List Notice)) → (k : Lives N.stands (nature N.kind_of N.Load.first N.Load.second) now (nodes_at self.old.book self.old.nodes.items u)
             (nodes_at self.new.book self.new.nodes.items u) (LendsFirst at.obj.0 (asked_loads result))
             (λ st. Holds at Up (Some (said msg.now)) ∷ st)
-            (λ st. asked_runs (bytes_of N.Load.first N.Load.second) at.obj.0 (said msg.now) result ++ Holds at Up (asked_rest (said msg.now) result) ∷ st)
-            (λ ds. Calms (bytes_of N.Load.first N.Load.second) self.old.book self.old.book
-            (Asking self.old.book at.obj.0 (asked_sent (bytes_of N.Load.first N.Load.second)
+            (λ st. asked_runs (nature N.kind_of N.Load.first N.Load.second) at.obj.0 (said msg.now) result ++ Holds at Up (asked_rest (said msg.now) result) ∷ st)
+            (λ ds. Calms (nature N.kind_of N.Load.first N.Load.second) self.old.book self.old.book
+            (Asking self.old.book at.obj.0 (asked_sent (nature N.kind_of N.Load.first N.Load.second)
             (said msg.now).bytes result) (asked_taken at.slot (said msg.now).bytes result)) ds ×
-            Asks (bytes_of N.Load.first N.Load.second) at.obj.0
-            (asked_sent (bytes_of N.Load.first N.Load.second) (said msg.now).bytes result) ds) [])
+            Asks (nature N.kind_of N.Load.first N.Load.second) at.obj.0
+            (asked_sent (nature N.kind_of N.Load.first N.Load.second) (said msg.now).bytes result) ds) [])
             × Calls at.obj.0 (λ done fx. up at.slot (said msg.now) now done fx) k.deeds }
         ensures manned { IsManned N.rank_of self.new.book self.new.nodes.items
             (vec_capacity self.new.nodes) }
@@ -226,14 +227,14 @@ impl<N: Node> Inner<N> {
             (vec_capacity self.old.nodes) }
         ensures asks { MayAskTime N.rank_of N.stands (rank self.old.book id.0) result }
         ensures book { self.new.book ≡ self.old.book }
-        ensures lives { (u : Option (List Notice)) → (k : Lives N.stands (bytes_of N.Load.first N.Load.second) now (nodes_at self.old.book self.old.nodes.items u)
+        ensures lives { (u : Option (List Notice)) → (k : Lives N.stands (nature N.kind_of N.Load.first N.Load.second) now (nodes_at self.old.book self.old.nodes.items u)
             (nodes_at self.new.book self.new.nodes.items u) (LendsFirst id.0 (asked_loads result))
             (λ st. Holds (port_at id.0 4) Time (Some silence) ∷ st)
-            (λ st. asked_runs (bytes_of N.Load.first N.Load.second) id.0 silence result ++ Holds (port_at id.0 4) Time None ∷ st)
-            (λ ds. Calms (bytes_of N.Load.first N.Load.second) self.old.book self.old.book
-            (Asking self.old.book id.0 (asked_sent (bytes_of N.Load.first N.Load.second) [] result)
-            nothing) ds × Asks (bytes_of N.Load.first N.Load.second) id.0
-            (asked_sent (bytes_of N.Load.first N.Load.second) [] result) ds) [])
+            (λ st. asked_runs (nature N.kind_of N.Load.first N.Load.second) id.0 silence result ++ Holds (port_at id.0 4) Time None ∷ st)
+            (λ ds. Calms (nature N.kind_of N.Load.first N.Load.second) self.old.book self.old.book
+            (Asking self.old.book id.0 (asked_sent (nature N.kind_of N.Load.first N.Load.second) [] result)
+            nothing) ds × Asks (nature N.kind_of N.Load.first N.Load.second) id.0
+            (asked_sent (nature N.kind_of N.Load.first N.Load.second) [] result) ds) [])
             × Calls id.0 (λ done fx. time now done fx) k.deeds }
         ensures manned { IsManned N.rank_of self.new.book self.new.nodes.items
             (vec_capacity self.new.nodes) }
@@ -252,10 +253,10 @@ impl<N: Node> Inner<N> {
         requires manned { IsManned N.rank_of self.old.book self.old.nodes.items
             (vec_capacity self.old.nodes) }
         ensures book { self.new.book ≡ self.old.book }
-        ensures lives { (now : ℕ) (u : Option (List Notice)) → Lives N.stands (bytes_of N.Load.first N.Load.second) now (nodes_at self.old.book self.old.nodes.items u)
+        ensures lives { (now : ℕ) (u : Option (List Notice)) → Lives N.stands (nature N.kind_of N.Load.first N.Load.second) now (nodes_at self.old.book self.old.nodes.items u)
             (nodes_at self.new.book self.new.nodes.items u)
             (Back (busy self.old.book) id.0 (load ∷ [])) (λ st. Returns id.0 load ∷ st) here
-            (Calms (bytes_of N.Load.first N.Load.second) self.old.book self.old.book Still) [] }
+            (Calms (nature N.kind_of N.Load.first N.Load.second) self.old.book self.old.book Still) [] }
         ensures manned { IsManned N.rank_of self.new.book self.new.nodes.items
             (vec_capacity self.new.nodes) }
     {
@@ -269,9 +270,9 @@ impl<N: Node> Inner<N> {
         requires manned { IsManned N.rank_of self.old.book self.old.nodes.items
             (vec_capacity self.old.nodes) }
         ensures book { self.new.book ≡ self.old.book }
-        ensures lives { (now : ℕ) (u : Option (List Notice)) → Lives N.stands (bytes_of N.Load.first N.Load.second) now (nodes_at self.old.book self.old.nodes.items u)
+        ensures lives { (now : ℕ) (u : Option (List Notice)) → Lives N.stands (nature N.kind_of N.Load.first N.Load.second) now (nodes_at self.old.book self.old.nodes.items u)
             (nodes_at self.new.book self.new.nodes.items u) (Back (busy self.old.book) id.0 (lent fx))
-            (λ st. returns_of id.0 (lent fx) ++ st) here (Calms (bytes_of N.Load.first N.Load.second) self.old.book self.old.book
+            (λ st. returns_of id.0 (lent fx) ++ st) here (Calms (nature N.kind_of N.Load.first N.Load.second) self.old.book self.old.book
             Still) [] }
         ensures manned { IsManned N.rank_of self.new.book self.new.nodes.items
             (vec_capacity self.new.nodes) }
@@ -292,10 +293,10 @@ impl<N: Node> Inner<N> {
         requires manned { IsManned N.rank_of self.old.book self.old.nodes.items
             (vec_capacity self.old.nodes) }
         ensures book { self.new.book ≡ self.old.book }
-        ensures lives { (now : ℕ) (u : Option (List Notice)) → Lives N.stands (bytes_of N.Load.first N.Load.second) now (nodes_at self.old.book self.old.nodes.items u)
+        ensures lives { (now : ℕ) (u : Option (List Notice)) → Lives N.stands (nature N.kind_of N.Load.first N.Load.second) now (nodes_at self.old.book self.old.nodes.items u)
             (nodes_at self.new.book self.new.nodes.items u)
             (Back (busy self.old.book) id.0 (loads few)) (λ st. returns_of id.0 (loads few) ++ st) here
-            (Calms (bytes_of N.Load.first N.Load.second) self.old.book self.old.book Still) [] }
+            (Calms (nature N.kind_of N.Load.first N.Load.second) self.old.book self.old.book Still) [] }
         ensures manned { IsManned N.rank_of self.new.book self.new.nodes.items
             (vec_capacity self.new.nodes) }
     {
@@ -309,10 +310,10 @@ impl<N: Node> Inner<N> {
         requires manned { IsManned N.rank_of self.old.book self.old.nodes.items
             (vec_capacity self.old.nodes) }
         ensures book { self.new.book ≡ self.old.book }
-        ensures lives { (now : ℕ) (u : Option (List Notice)) → Lives N.stands (bytes_of N.Load.first N.Load.second) now (nodes_at self.old.book self.old.nodes.items u)
+        ensures lives { (now : ℕ) (u : Option (List Notice)) → Lives N.stands (nature N.kind_of N.Load.first N.Load.second) now (nodes_at self.old.book self.old.nodes.items u)
             (nodes_at self.new.book self.new.nodes.items u)
             (Back (busy self.old.book) id.0 (carried emit)) (λ st. returns_of id.0 (carried emit) ++ st) here
-            (Calms (bytes_of N.Load.first N.Load.second) self.old.book self.old.book Still) [] }
+            (Calms (nature N.kind_of N.Load.first N.Load.second) self.old.book self.old.book Still) [] }
         ensures manned { IsManned N.rank_of self.new.book self.new.nodes.items
             (vec_capacity self.new.nodes) }
     {
@@ -327,10 +328,10 @@ impl<N: Node> Inner<N> {
         requires manned { IsManned N.rank_of self.old.book self.old.nodes.items
             (vec_capacity self.old.nodes) }
         ensures book { self.new.book ≡ self.old.book }
-        ensures lives { (now : ℕ) (u : Option (List Notice)) → Lives N.stands (bytes_of N.Load.first N.Load.second) now (nodes_at self.old.book self.old.nodes.items u)
+        ensures lives { (now : ℕ) (u : Option (List Notice)) → Lives N.stands (nature N.kind_of N.Load.first N.Load.second) now (nodes_at self.old.book self.old.nodes.items u)
             (nodes_at self.new.book self.new.nodes.items u)
             (Back (busy self.old.book) id.0 (in_list emit.load)) (λ st. returns_of id.0 (in_list emit.load) ++ st) here
-            (Calms (bytes_of N.Load.first N.Load.second) self.old.book self.old.book Still) [] }
+            (Calms (nature N.kind_of N.Load.first N.Load.second) self.old.book self.old.book Still) [] }
         ensures manned { IsManned N.rank_of self.new.book self.new.nodes.items
             (vec_capacity self.new.nodes) }
     {
@@ -351,10 +352,10 @@ impl<N: Node> Inner<N> {
         requires manned { IsManned N.rank_of self.old.book self.old.nodes.items
             (vec_capacity self.old.nodes) }
         ensures book { self.new.book ≡ self.old.book }
-        ensures lives { (now : ℕ) (u : Option (List Notice)) → Lives N.stands (bytes_of N.Load.first N.Load.second) now (nodes_at self.old.book self.old.nodes.items u)
+        ensures lives { (now : ℕ) (u : Option (List Notice)) → Lives N.stands (nature N.kind_of N.Load.first N.Load.second) now (nodes_at self.old.book self.old.nodes.items u)
             (nodes_at self.new.book self.new.nodes.items u)
             (Back (busy self.old.book) id.0 (in_list load)) (λ st. returns_of id.0 (in_list load) ++ st) here
-            (Calms (bytes_of N.Load.first N.Load.second) self.old.book self.old.book Still) [] }
+            (Calms (nature N.kind_of N.Load.first N.Load.second) self.old.book self.old.book Still) [] }
         ensures manned { IsManned N.rank_of self.new.book self.new.nodes.items
             (vec_capacity self.new.nodes) }
     {
