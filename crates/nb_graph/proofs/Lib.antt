@@ -1,3 +1,4 @@
+pub mod Laws
 pub mod AgesLemmas
 pub mod SceneLemmas
 pub mod WentLemmas

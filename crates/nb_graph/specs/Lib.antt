@@ -16,3 +16,4 @@ pub mod Again
 pub mod Went
 pub mod Follows
 pub mod Scene
+pub mod Laws
