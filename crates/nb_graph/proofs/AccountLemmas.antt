@@ -5,7 +5,7 @@ use Rattle.nb_ledger.specs.declared.port.Port.{Port}
 use Rattle.nb_ledger.specs.declared.event.GraphEvent.{GraphEvent}
 use Rattle.nb_ledger.specs.Ledger.{Ledger, port, open_count}
 use Rattle.nb_graph.specs.Deeds.{Deed, writes, calls, turns, Turn}
-use Rattle.nb_graph.specs.Accounts.{Account, Joined, joined, parted, account, after_note, rests}
+use Rattle.nb_graph.specs.Accounts.{Account, Joined, Midway, joined, parted, account, after_note, rests}
 use Rattle.nb_graph.specs.Flows.{IsShut, Still}
 use Rattle.nb_graph.specs.Moves.{Calms, Mild}
 
@@ -14,6 +14,17 @@ account-append parts p a [] es = refl
 account-append parts p a (writes e ∷ ds) es = account-append parts p (after_note p a e) ds es
 account-append parts p a (calls y e ∷ ds) es = account-append parts p _ ds es
 account-append parts p a (turns u ∷ ds) es = account-append parts p a ds es
+
+-- what was taken is the first of what was sent
+pub start-joined : {l : Ledger} {p q : Port} {s t w : List ℕ} → Joined l p q s t w → (rest : List ℕ) × (s ≡ t ++ rest)
+start-joined {w = w} (joined a b c d e) = (w, e)
+start-joined (parted a b c d r e) = (r, e)
+
+pub Midway-append : {N L : Type 0} (parts : Nature N L) (p q : Port) (a b : Account) (ds es : List (Deed N L)) → Midway parts p q a b ds → Midway parts p q (account parts p a ds) (account parts q b ds) es → Midway parts p q a b (ds ++ es)
+Midway-append parts p q a b [] es m n = n
+Midway-append parts p q a b (writes e ∷ ds) es m n = (m.0, Midway-append parts p q (after_note p a e) (after_note q b e) ds es m.1 n)
+Midway-append parts p q a b (calls y e ∷ ds) es m n = (m.0, Midway-append parts p q _ _ ds es m.1 n)
+Midway-append parts p q a b (turns u ∷ ds) es m n = Midway-append parts p q a b ds es m n
 
 pub Mild-same : {old new : Ledger} → new.made ≡ old.made → ((x k : ℕ) → port new x k ≡ port old x k) → Mild old new
 Mild-same m s = record { same_made = m; links = λ x k q h. sym (s x k) ∙ h; keeps = λ x k q h. s x k ∙ h; shuts = λ x k h. ap open_count (s x k) ∙ h }
@@ -40,6 +51,8 @@ Calms-none parts l = record {
   enters = λ q b h. h;
   quiet = λ q b o h. h;
   joins = λ p q a b w v f j. subst (Joined l p q a.sent b.taken) f j;
+  midway = λ p q a b w v f j. λ _. start-joined j;
+  apart = λ p q a b n. λ e. absurd (n e);
 }
 
 -- an event of which accounts say nothing
@@ -52,6 +65,8 @@ Calms-plain parts old new e m plain = record {
   enters = λ q b h. ap (λ z. z.entered) (plain q b) ∙ h;
   quiet = λ q b o h. ap (λ z. z.entered) (plain q b) ∙ h;
   joins = λ p q a b w v f j. rw (plain p a, plain q b, sym f) (Joined-mild m j);
+  midway = λ p q a b w v f j. (λ _. start-joined j, λ _. rw (plain p a, plain q b) (start-joined j));
+  apart = λ p q a b n. (λ e. absurd (n e), λ e. absurd (n (sym (ap (λ z. z.peer) (plain p a)) ∙ e)));
 }
 
 -- something turns
@@ -64,6 +79,8 @@ Calms-turn parts l u = record {
   enters = λ q b h. h;
   quiet = λ q b o h. h;
   joins = λ p q a b w v f j. subst (Joined l p q a.sent b.taken) f j;
+  midway = λ p q a b w v f j. λ _. start-joined j;
+  apart = λ p q a b n. λ e. absurd (n e);
 }
 
 -- one call after the other
@@ -79,6 +96,11 @@ Calms-then {parts = parts} {c = c} {ds = ds} {es = es} k l split = record {
       let s = split p q x y w v i j in
       let mid = k.joins p q x y w s.0 s.1 j in
       rw (account-append parts p x ds es, account-append parts q y ds es) (l.joins p q (account parts p x ds) (account parts q y ds) s.0 v (s.2 mid) mid);
+  midway = λ p q x y w v i j.
+      let s = split p q x y w v i j in
+      let mid = k.joins p q x y w s.0 s.1 j in
+      Midway-append parts p q x y ds es (k.midway p q x y w s.0 s.1 j) (l.midway p q (account parts p x ds) (account parts q y ds) s.0 v (s.2 mid) mid);
+  apart = λ p q x y n. Midway-append parts p q x y ds es (k.apart p q x y n) (l.apart p q (account parts p x ds) (account parts q y ds) (λ e. n (sym (k.peers p x) ∙ e)));
 }
 
 -- what is pending stays, twice
@@ -95,6 +117,8 @@ Calms-weaken k less = record {
   enters = k.enters;
   quiet = k.quiet;
   joins = λ p q x y w v i j. k.joins p q x y w v (less p q x y w v i j) j;
+  midway = λ p q x y w v i j. k.midway p q x y w v (less p q x y w v i j) j;
+  apart = k.apart;
 }
 
 -- and of equal books
@@ -121,4 +145,9 @@ Calms-idle {a = a} k idle = record {
     | inl z ↦ k.joins p q x y v v refl (Joined-any v z j)
     | inr e ↦ k.joins p q x y w v e j
   ];
+  midway = λ p q x y w v i j. elim (idle p q x y w v i j) [
+    | inl z ↦ k.midway p q x y v v refl (Joined-any v z j)
+    | inr e ↦ k.midway p q x y w v e j
+  ];
+  apart = k.apart;
 }

@@ -1,6 +1,7 @@
 -- Bytes on links through the call of a node, and through a whole entry from below or by time.
+use Rattle.nb_graph.proofs.AccountLemmas.{Midway-append, start-joined}
 use Rattle.nb_graph.specs.Trace.{Nature}
-use Rattle.std.proofs.Common.{◌≡◌, ℕ, ◌≤◌, inl, inr, Bool, true, false, List, [], ◌∷◌, ◌++◌, eqb, cond, refl, ap, sym, ◌∙◌, append_assoc, append-nil}
+use Rattle.std.proofs.Common.{Some, ◌≡◌, ℕ, ◌≤◌, inl, inr, Bool, true, false, List, [], ◌∷◌, ◌++◌, eqb, cond, refl, ap, sym, ◌∙◌, append_assoc, append-nil}
 use Rattle.std.proofs.lemmas.Bool.{cases_eq, cases_Bool, false≢true}
 use Rattle.nb_ledger.specs.declared.port.Port.{Port}
 use Rattle.nb_ledger.specs.declared.port.PortState.{PortState}
@@ -16,7 +17,7 @@ use Rattle.nb_graph.specs.Whole.{IsLinked}
 use Rattle.nb_graph.specs.Accounts.{Account, Joined, joined, parted, account, after_note, enters, is_port, rests}
 use Rattle.nb_graph.specs.Flows.{IsShut, Still, Asking, Delivering, Doing, nothing, own, counted}
 use Rattle.nb_graph.specs.Moves.{Calms, Livens, Asks, HasAsked, always, none_due}
-use Rattle.nb_graph.proofs.LivensLemmas.{port-eq}
+use Rattle.nb_graph.proofs.LivensLemmas.{cases_peer, port-eq}
 use Rattle.nb_graph.proofs.AccountLemmas.{Joined-mild, account-append}
 use Rattle.nb_graph.specs.Moves.{Mild}
 use Rattle.nb_graph.proofs.CalmLemmas.{linked-apart}
@@ -78,6 +79,10 @@ Livens-ask {parts = parts} {l = l} {ds = ds} {es = es} at sent taken got behind 
       let s = asks l at sent taken got behind m one opened links there only all p q y (account parts q y ds) x.sent y.taken w v (k.enters q y) (λ o. k.quiet q y o) i j in
       let last = r.joins p q (account parts p x ds) (account parts q y ds) s.0 v s.2 (k.joins p q x y w s.0 s.1 j) in
       rw (account-append parts p x ds es, account-append parts q y ds es) (last.0, λ e. last.1 (k.enters q y e));
+  midway = λ p q x y w v i j.
+      let s = asks l at sent taken got behind m one opened links there only all p q y (account parts q y ds) x.sent y.taken w v (k.enters q y) (λ o. k.quiet q y o) i j in
+      Midway-append parts p q x y ds es (k.midway p q x y w s.0 s.1 j) (r.midway p q (account parts p x ds) (account parts q y ds) s.0 v s.2 (k.joins p q x y w s.0 s.1 j));
+  newly = λ p q x y t n. Midway-append parts p q x y ds es (k.apart p q x y n) (r.newly p q (account parts p x ds) (account parts q y ds) (λ o. asked p x o) (λ o. n (sym (k.peers p x) ∙ o)));
   news = λ p q x y t n e.
       let i = sym (ap (λ z. z.peer) (account-append parts p x ds es)) ∙ e in
       rw (account-append parts p x ds es, account-append parts q y ds es) (r.news p q (account parts p x ds) (account parts q y ds) (λ o. asked p x o) (λ o. n (sym (k.peers p x) ∙ o)) i);
@@ -91,6 +96,10 @@ Livens-time {parts = parts} {l = l} {ds = ds} {es = es} x sent k asked r = recor
       let s = asks p q y (account parts q y ds) w v i in
       let last = r.joins p q (account parts p a ds) (account parts q y ds) s.0 v s.2 (k.joins p q a y w s.0 s.1 j) in
       rw (account-append parts p a ds es, account-append parts q y ds es) (last.0, λ e. last.1 (k.enters q y e));
+  midway = λ p q a y w v i j.
+      let s = asks p q y (account parts q y ds) w v i in
+      Midway-append parts p q a y ds es (k.midway p q a y w s.0 s.1 j) (r.midway p q (account parts p a ds) (account parts q y ds) s.0 v s.2 (k.joins p q a y w s.0 s.1 j));
+  newly = λ p q a y t n. Midway-append parts p q a y ds es (k.apart p q a y n) (r.newly p q (account parts p a ds) (account parts q y ds) (λ o. asked p a o) (λ o. n (sym (k.peers p a) ∙ o)));
   news = λ p q a y t n e.
       let i = sym (ap (λ z. z.peer) (account-append parts p a ds es)) ∙ e in
       rw (account-append parts p a ds es, account-append parts q y ds es) (r.news p q (account parts p a ds) (account parts q y ds) (λ o. asked p a o) (λ o. n (sym (k.peers p a) ∙ o)) i);
@@ -114,6 +123,17 @@ Livens-entry {parts = parts} {b0 = b0} {b1 = b1} {ds = ds} {es = es} x e idle sa
       let nq = note q y in
       let in_ = k.joins p q (after_note p a e) (after_note q y e) w v (turn p q y w v i) (rw (np.0, nq.1) (Joined-mild mild j)) in
       rw (account-append parts p (after_note p a e) ds es, account-append parts q (after_note q y e) ds es) (last.joins p q _ _ v v refl in_.0, λ h. last.enters q _ (in_.1 (nq.3 h)));
+  midway = λ p q a y w v i j.
+      let np = note p a in
+      let nq = note q y in
+      let was : Joined b1 p q (after_note p a e).sent (after_note q y e).taken w = rw (np.0, nq.1) (Joined-mild mild j) in
+      (λ _. start-joined j, Midway-append parts p q (after_note p a e) (after_note q y e) ds es (k.midway p q (after_note p a e) (after_note q y e) w v (turn p q y w v i) was) (last.midway p q (account parts p (after_note p a e) ds) (account parts q (after_note q y e) ds) v v refl (k.joins p q (after_note p a e) (after_note q y e) w v (turn p q y w v i) was).0));
+  newly = λ p q a y t n.
+      let m : ((after_note p a e).peer ≡ Some q → ⊥) = λ h. n (sym (note p a).2 ∙ h) in
+      (λ h. absurd (n h), Midway-append parts p q (after_note p a e) (after_note q y e) ds es (k.newly p q (after_note p a e) (after_note q y e) tt m) (elim (cases_peer (account parts p (after_note p a e) ds).peer q) [
+        | inl o ↦ last.midway p q (account parts p (after_note p a e) ds) (account parts q (after_note q y e) ds) [] [] refl (k.news p q (after_note p a e) (after_note q y e) tt m o).0
+        | inr o ↦ last.apart p q (account parts p (after_note p a e) ds) (account parts q (after_note q y e) ds) o
+      ]));
   news = λ p q a y t n i.
       let j = sym (ap (λ z. z.peer) (account-append parts p (after_note p a e) ds es)) ∙ i in
       let s = k.news p q (after_note p a e) (after_note q y e) tt (λ h. n (sym (note p a).2 ∙ h)) (sym (last.peers p (account parts p (after_note p a e) ds)) ∙ j) in

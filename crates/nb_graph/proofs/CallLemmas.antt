@@ -1,4 +1,5 @@
 -- What a call of a node, and the close of a link, leave of the bytes on links.
+use Rattle.nb_graph.proofs.AccountLemmas.{start-joined}
 use Rattle.std.proofs.Common.{◌≡◌, ℕ, inl, inr, Bool, true, false, List, [], ◌∷◌, ◌++◌, refl, ap, sym, ◌∙◌, subst, append_assoc, append-nil, eqb, cond}
 use Rattle.std.proofs.lemmas.Bool.{eq-eqb}
 use Rattle.nb_terms.specs.declared.cause.Cause.{Cause}
@@ -52,6 +53,8 @@ Calms-call parts l y e sent taken hs ht = record {
   enters = λ q b h. call-entered parts e (eqb q.obj.0 y) q b ∙ h;
   quiet = λ q b o h. call-entered parts e (eqb q.obj.0 y) q b ∙ h;
   joins = λ p q a b w v f j. rw (call-sent parts e (eqb p.obj.0 y) p a sent hs, call-taken parts e (eqb q.obj.0 y) q b taken ht) (Joined-call (own y sent p) (counted y taken q b) v f.0 f.1 j);
+  midway = λ p q a b w v f j. (λ _. start-joined j, λ _. rw (call-sent parts e (eqb p.obj.0 y) p a sent hs, call-taken parts e (eqb q.obj.0 y) q b taken ht) (start-joined (Joined-call (own y sent p) (counted y taken q b) v f.0 f.1 j)));
+  apart = λ p q a b n. (λ i. absurd (n i), λ i. absurd (n (sym (call-peer parts e (eqb p.obj.0 y) p a) ∙ i)));
 }
 
 enter-close : (c : Bool) (a : Account) → cond c (enters Close a) (rests a) ≡ rests a
@@ -74,6 +77,8 @@ Calms-half {N} {L} parts b0 b3 p q cause l h half = record {
   enters = λ r a i. ap (λ z. z.entered) (enter-close (is_port r q) (rests (rests a))) ∙ i;
   quiet = λ r a o i. ap (λ z. z.entered) (enter-close (is_port r q) (rests (rests a))) ∙ i;
   joins = λ r t a b w v f j. rw (enter-close (is_port r q) (rests (rests a)), enter-close (is_port t q) (rests (rests b)), sym f) (closes r t a.sent b.taken w j);
+  midway = λ r t a b w v f j. (λ _. start-joined j, (λ _. start-joined j, (λ _. start-joined j, λ _. rw (enter-close (is_port r q) (rests (rests a)), enter-close (is_port t q) (rests (rests b))) (start-joined j))));
+  apart = λ r t a b n. (λ i. absurd (n i), (λ i. absurd (n i), (λ i. absurd (n i), λ i. absurd (n (sym (ap (λ z. z.peer) (enter-close (is_port r q) (rests (rests a)))) ∙ i)))));
 }
   where
     at_q : (x k : ℕ) → (x ≡ q.obj.0) × (k ≡ q.slot) → port b3 x k ≡ Leaving p

@@ -1,4 +1,5 @@
 -- Bytes on links through the effects of an entry: makes, downs, ups, closes.
+use Rattle.nb_graph.proofs.AccountLemmas.{Midway-append}
 use Rattle.nb_graph.specs.Trace.{Nature}
 use Rattle.std.proofs.Common.{◌≡◌, ℕ, ◌≤◌, inl, inr, true, false, List, [], ◌++◌, Option, Some, None, IfSome, refl, ap, sym, ◌∙◌, subst, append_assoc, append-nil, arith}
 use Rattle.std.proofs.lemmas.Bool.{cases_eq, cases_Bool, eq-eqb, ne_eqb, false≢true}
@@ -57,6 +58,14 @@ Livens-effects {parts = parts} {a = a} {b = b} {e = e} {ds = ds} {es = es} x sen
       let mid = k.joins p q c y w w s.0 j in
       let last = l.joins p q (account parts p c ds) (account parts q y ds) w v s.1 mid.0 in
       rw (account-append parts p c ds es, account-append parts q y ds es) (last.0, λ h. last.1 (mid.1 h));
+  midway = λ p q c y w v i j.
+      let s = makes p q y (account parts q y ds) w v i in
+      let mid = k.joins p q c y w w s.0 j in
+      Midway-append parts p q c y ds es (k.midway p q c y w w s.0 j) (l.midway p q (account parts p c ds) (account parts q y ds) w v s.1 mid.0);
+  newly = λ p q c y r n. Midway-append parts p q c y ds es (k.newly p q c y tt n) (elim (cases_peer (account parts p c ds).peer q) [
+    | inl m ↦ l.midway p q (account parts p c ds) (account parts q y ds) (asked_due x p c) [] (pends p q c (account parts q y ds) r) (k.news p q c y tt n m).0
+    | inr m ↦ l.newly p q (account parts p c ds) (account parts q y ds) tt m
+  ]);
   news = λ p q c y r n i.
       let j = sym (ap (λ z. z.peer) (account-append parts p c ds es)) ∙ i in
       rw (account-append parts p c ds es, account-append parts q y ds es) (elim (cases_peer (account parts p c ds).peer q) [

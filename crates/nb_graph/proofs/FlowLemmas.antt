@@ -1,4 +1,5 @@
 -- What is pending on links, through the parts of a calm call.
+use Rattle.nb_graph.specs.Accounts.{Midway}
 use Rattle.std.proofs.Common.{◌≡◌, ℕ, ◌≤◌, ◌⊎◌, inl, inr, List, [], ◌++◌, Option, Some, None, IfSome, refl, ap, sym, ◌∙◌, subst, append-nil, arith}
 use Rattle.std.proofs.lemmas.Bool.{cases_eq, eq-eqb, ne_eqb}
 use Rattle.nb_ledger.specs.declared.port.Port.{Port}
@@ -129,6 +130,8 @@ Calms-fail {parts = parts} {a = a} {b = b} {x = x} {ds = ds} shut k = record {
   enters = k.enters;
   quiet = k.quiet;
   joins = go;
+  midway = during;
+  apart = k.apart;
 }
   where
     at_x : (p : Port) → p.obj.0 ≡ x → open_count (port b p.obj.0 p.slot) ≡ 0
@@ -137,6 +140,11 @@ Calms-fail {parts = parts} {a = a} {b = b} {x = x} {ds = ds} shut k = record {
     other : (p q : Port) (s t w v : List ℕ) → q.obj.0 ≡ x → Joined b p q s t w → Joined b p q s t v
     other p q s t w v e (joined c d f g h) = absurd (let i = sym (ap open_count g) ∙ at_x q e in cc)
     other p q s t w v e (parted c d f g r h) = parted c d f g r h
+
+    during : (p q : Port) (y z : Account) (w v : List ℕ) → Failing a x p q z w v → Joined a p q y.sent z.taken w → Midway parts p q y z ds
+    during p q y z w v (inl i) j = k.midway p q y z w v (inl i) j
+    during p q y z w v (inr (inl e, c)) j = k.midway p q y z w v (inr (e, c)) j
+    during p q y z w v (inr (inr e, c)) j = k.midway p q y z w w (inr (refl, c)) j
 
     go : (p q : Port) (y z : Account) (w v : List ℕ) → Failing a x p q z w v → Joined a p q y.sent z.taken w → Joined b p q (account parts p y ds).sent (account parts q z ds).taken v
     go p q y z w v (inl i) j = k.joins p q y z w v (inl i) j

@@ -20,7 +20,7 @@ use Rattle.nb_graph.proofs.AgesLemmas.{Ages-refl, Ages-adds, Ages-same, Ages-shr
 use Rattle.nb_graph.proofs.SceneLemmas.{roomy-below, scene-adds, scene-holds, scene-ports}
 use Rattle.nb_graph.proofs.SeatLemmas.{Loses-same, Loses-trans}
 use Rattle.nb_graph.proofs.MakeLemmas.{Balanced-plug, Joined-add}
-use Rattle.nb_graph.proofs.AccountLemmas.{Joined-mild}
+use Rattle.nb_graph.proofs.AccountLemmas.{Joined-mild, start-joined}
 use Rattle.nb_graph.proofs.MildLemmas.{Mild-holds}
 use Rattle.nb_graph.proofs.WholeLemmas.{but_same}
 use Rattle.nb_ledger.specs.Changes.{Adds, SetsHolds, SetsPort}
@@ -57,6 +57,10 @@ module _ {N L : Type 0} {stands : N → List (Entry N L) → Type 0} {parts : Na
     tells = k.lives.tells;
     follows = subst (λ z. Follows parts now (scene_of old) (s []) z (scene_of new)) (append-nil k.lives.deeds) (k.lives.follows [] [] (scene_of new) refl);
     keeps = λ x t fit. k.lives.keeps x t [] [] ((λ _. refl), refl) fit;
+    midway = λ p r a b bal. elim (cases_peer a.peer r) [
+      | inl g ↦ k.lives.moved.midway p r (rests a) (rests b) [] [] (idle p r (rests b) a.sent b.taken (bal g)) (bal g)
+      | inr n ↦ k.lives.moved.apart p r (rests a) (rests b) n
+    ];
     balances = λ p r a b bal e. k.lives.moved.joins p r (rests a) (rests b) [] [] (idle p r (rests b) a.sent b.taken (bal (sym (k.lives.moved.peers p (rests a)) ∙ e))) (bal (sym (k.lives.moved.peers p (rests a)) ∙ e));
   }
 
@@ -70,6 +74,10 @@ module _ {N L : Type 0} {stands : N → List (Entry N L) → Type 0} {parts : Na
     tells = k.lives.tells;
     follows = subst (λ z. Follows parts now (scene_of old) (s []) z (scene_of new)) (append-nil k.lives.deeds) (k.lives.follows [] [] (scene_of new) refl);
     keeps = λ x t fit. k.lives.keeps x t [] [] ((λ _. refl), refl) fit;
+    midway = λ p r a b bal. elim (cases_peer a.peer r) [
+      | inl g ↦ k.lives.moved.midway p r (rests a) (rests b) [] [] (idle p r (rests b) a.sent b.taken (bal g)) (bal g)
+      | inr n ↦ k.lives.moved.newly p r (rests a) (rests b) tt n
+    ];
     balances = λ p r a b bal e. elim (cases_peer a.peer r) [
       | inl g ↦ (k.lives.moved.joins p r (rests a) (rests b) [] [] (idle p r (rests b) a.sent b.taken (bal g)) (bal g)).0
       | inr n ↦ (k.lives.moved.news p r (rests a) (rests b) tt n e).0
@@ -96,13 +104,14 @@ Lived-drop stands parts now l nodes before after p msg n told given = record {
   tells = given;
   follows = ([], refused p msg n, refl);
   keeps = λ x t fit. fit;
+  midway = λ p q a b bal. (λ e. start-joined (bal e), λ e. start-joined (bal e));
   balances = λ p q a b bal e. bal e;
 }
 
 -- time comes to a dead object
 pub Lived-dead : {N L : Type 0} (stands : N → List (Entry N L) → Type 0) (parts : Nature N L) (now : ℕ) (l : Ledger) (nodes : List N) (before : Option (List Notice)) (x : ℕ) → live l x ≡ false → Lived stands parts now (Ticks x ∷ []) (objects_of l nodes) (objects_of l nodes) before before
 unfolding IsRun-none
-Lived-dead stands parts now l nodes before x dead = record { added = []; runs = (IsRun-none l before).1; deeds = turns (is_dead x) ∷ []; events = refl; ages = Ages-refl l; tells = Given-none before; follows = ([], ticks_none x dead, refl); keeps = λ x t fit. fit; balances = λ p q a b bal e. bal e }
+Lived-dead stands parts now l nodes before x dead = record { added = []; runs = (IsRun-none l before).1; deeds = turns (is_dead x) ∷ []; events = refl; ages = Ages-refl l; tells = Given-none before; follows = ([], ticks_none x dead, refl); keeps = λ x t fit. fit; midway = λ p q a b bal. λ e. start-joined (bal e); balances = λ p q a b bal e. bal e }
 
 -- ports are closed, and then holds let go
 pub Lived-end : {N L : Type 0} {s r : List (Stage L) → List (Stage L)} {stands : N → List (Entry N L) → Type 0} {parts : Nature N L} {now : ℕ} {a b c : Ledger} {na nb nc : List N} {m n o : Option (List Notice)} → IsQuiet a → CalmFor stands parts now a b na nb (Same (busy a)) Empty s m n → RunFor stands parts b c nb nc r here n o → Ages b c → Lived stands parts now (s (r [])) (objects_of a na) (objects_of c nc) m o
@@ -118,6 +127,10 @@ Lived-end {s = s} {r = r} {parts = parts} {now = now} {a = a} {b = b} {c = c} {m
       tells = both.tells;
       follows = subst (λ z. Follows parts now (scene_of a) (s (r [])) z (scene_of c)) (append-nil both.deeds) (both.follows [] [] (scene_of c) refl);
       keeps = λ x t fit. both.keeps x t [] [] ((λ _. refl), refl) fit;
+      midway = λ p r x y bal. elim (cases_peer x.peer r) [
+        | inl g ↦ both.moved.midway p r (rests x) (rests y) [] [] (refl, refl) (bal g)
+        | inr i ↦ both.moved.apart p r (rests x) (rests y) i
+      ];
       balances = λ p r x y bal e. both.moved.joins p r (rests x) (rests y) [] [] (refl, refl) (bal (sym (both.moved.peers p (rests x)) ∙ e));
     }
 
@@ -134,6 +147,10 @@ Lived-run {s = s} {parts = parts} {now = now} {old = old} {new = new} k ages =
       tells = l.tells;
       follows = subst (λ z. Follows parts now (scene_of old) (s []) z (scene_of new)) (append-nil l.deeds) (l.follows [] [] (scene_of new) refl);
       keeps = λ x t fit. l.keeps x t [] [] refl fit;
+      midway = λ p r x y bal. elim (cases_peer x.peer r) [
+        | inl g ↦ l.moved.midway p r (rests x) (rests y) [] [] refl (bal g)
+        | inr i ↦ l.moved.apart p r (rests x) (rests y) i
+      ];
       balances = λ p r x y bal e. l.moved.joins p r (rests x) (rests y) [] [] refl (bal (sym (l.moved.peers p (rests x)) ∙ e));
     }
 
@@ -153,6 +170,7 @@ Lived-offered {parts = parts} {now = now} {old = old} {new = new} {p = p} {m = m
   tells = k.tells;
   follows = offered parts now (scene_of old.book) (scene_of new.book) p m k.deeds o k.follows;
   keeps = k.keeps;
+  midway = k.midway;
   balances = k.balances;
 }
 
@@ -167,6 +185,7 @@ Lived-plug stands parts now {old = old} {mid = mid} {new = new} nodes before aft
   tells = given;
   follows = ([], plugs p q op oq, sym (scene-ports a b));
   keeps = Keeps-loses stands old new nodes nodes (Loses-trans (Loses-same nodes a.objects) (Loses-same nodes b.objects));
+  midway = λ r u x y bal. (λ e. start-joined (bal e), λ e. start-joined (Balanced-plug a b op oq up low pm qm r u x y bal e));
   balances = Balanced-plug a b op oq up low pm qm;
 }
 
@@ -181,6 +200,7 @@ Lived-hold stands parts now {old = old} {new = new} nodes before after x lives s
   tells = given;
   follows = ([], held x lives, sym (scene-holds s));
   keeps = Keeps-loses stands old new nodes nodes (Loses-same nodes s.objects);
+  midway = λ p q a b bal. (λ e. start-joined (bal e), λ e. start-joined (bal e));
   balances = λ p q a b bal e. Joined-mild (Mild-holds s) (bal e);
 }
 
@@ -198,6 +218,7 @@ Lived-make {N} {L} stands parts now {old = old} {mid = mid} {new = new} nodes mo
     | inl e ↦ rw (eq-eqb y x.0 e) (subst (λ z. StandsFor stands (objects_of new more) z []) (sym e) (there t))
     | inr n ↦ rw (ne_eqb y x.0 n) (others y t n fit)
   ];
+  midway = λ p q b d bal. (λ e. start-joined (bal e), (λ e. start-joined (bal e), λ e. start-joined (bal e)));
   balances = λ p q b d bal e. Joined-mild (Mild-holds s) (Joined-add a fresh serial (bal e));
 }
 

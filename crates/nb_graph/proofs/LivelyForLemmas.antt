@@ -83,7 +83,7 @@ runs-then parts x m fx st =
 pub LivelyFor-turned : {N L : Type 0} {stands : N → List (Entry N L) → Type 0} {parts : Nature N L} {now : ℕ} {a b : Ledger} {na nb : List N} {m n : Option (List Notice)} {i : ℕ → List L → List L → Type 0} {due : Port → Account → List ℕ} {f : Port → Port → Account → List ℕ → List ℕ → Type 0} {s : List (Stage L) → List (Stage L)} (t : List (Stage L) → List (Stage L)) (u : Turn) → Given m m (notice_of u) → ((st : List (Stage L)) (ds : List (Deed N L)) (z : Scene) → Follows parts now (scene_of a) (s st) ds z → Follows parts now (scene_of a) (t st) (turns u ∷ ds) z) → LivelyFor stands parts now a b na nb i due f s m n → LivelyFor stands parts now a b na nb i due f t m n
 LivelyFor-turned {stands = stands} {parts = parts} {now = now} {a = a} {b = b} {na = na} {m = m} {due = due} {f = f} {s = s} t u given fits k = record {
   lively = k.lively;
-  lives = Lives-then {k = Livens parts a b always due f} (Lives-turn stands now (nodes_at a na m) m t s u given fits {i = λ ds. ds ≡ turns u ∷ []} refl) k.lives (λ x w v i. (w, refl, i)) (λ ds es x y. subst (λ z. Livens parts a b always due f (z ++ es)) (sym x) (record { quiet = y.quiet; joins = y.joins; news = y.news }));
+  lives = Lives-then {k = Livens parts a b always due f} (Lives-turn stands now (nodes_at a na m) m t s u given fits {i = λ ds. ds ≡ turns u ∷ []} refl) k.lives (λ x w v i. (w, refl, i)) (λ ds es x y. subst (λ z. Livens parts a b always due f (z ++ es)) (sym x) (record { quiet = y.quiet; joins = y.joins; midway = y.midway; newly = y.newly; news = y.news }));
 }
 
 -- the same above other stages

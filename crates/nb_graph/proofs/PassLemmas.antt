@@ -1,4 +1,5 @@
 -- What is pending on links, through a whole close of a link and a whole entry from above.
+use Rattle.nb_graph.proofs.AccountLemmas.{start-joined}
 use Rattle.nb_graph.specs.Trace.{Nature}
 use Rattle.std.proofs.Common.{◌≡◌, ℕ, ◌⊎◌, inl, inr, Bool, true, false, List, [], ◌∷◌, ◌++◌, ◌&&◌, eqb, cond, refl, ap, sym, ◌∙◌, subst, append-nil, arith}
 use Rattle.std.proofs.lemmas.Bool.{cases_eq, eq-eqb, ne_eqb}
@@ -120,6 +121,8 @@ Calms-enter parts l b at z m = record {
   enters = λ q a h. enter-stays (is_port q at) a h;
   quiet = λ q a o h. rw (ne_eqb q.slot at.slot (λ (e : q.slot ≡ at.slot). absurd (omega (arith, e, z, o)))) (other (eqb q.obj.0 at.obj.0) a h);
   joins = λ p q a c w v f j. rw (enter-sent (is_port p at) a, enter-taken (is_port q at) c, sym f) (Joined-mild m j);
+  midway = λ p q a c w v f j. (λ _. start-joined j, λ _. rw (enter-sent (is_port p at) a, enter-taken (is_port q at) c) (start-joined j));
+  apart = λ p q a c n. (λ i. absurd (n i), λ i. absurd (n (sym (enter-peer (is_port p at) a) ∙ i)));
 }
   where
     other : (c : Bool) (a : Account) → a.entered ≡ false → (cond (c && false) (enters Down a) (rests a)).entered ≡ false

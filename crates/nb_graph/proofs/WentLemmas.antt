@@ -11,7 +11,7 @@ use Rattle.nb_graph.proofs.AgesLemmas.{Ages-trans}
 use Rattle.nb_graph.specs.Accounts.{Account, account, rests}
 use Rattle.nb_graph.specs.Whole.{Objects}
 use Rattle.nb_graph.specs.Lived.{StandsFor, Lived}
-use Rattle.nb_graph.specs.Went.{Call, Each, Went, all_of, accounts}
+use Rattle.nb_graph.specs.Went.{Call, Each, Midways, Went, all_of, accounts}
 use Rattle.nb_graph.proofs.LivesLemmas.{told-append, events-append, trace-append}
 use Rattle.nb_graph.proofs.RunsLemmas.{IsRun-trans}
 
@@ -22,6 +22,10 @@ all-append (d ∷ ds) es = ap (λ z. d ++ z) (all-append ds es) ∙ sym (append_
 accounts-append : {N L : Type 0} (parts : Nature N L) (p : Port) (a : Account) (ds es : List (List (Deed N L))) → accounts parts p a (ds ++ es) ≡ accounts parts p (accounts parts p a ds) es
 accounts-append parts p a [] es = refl
 accounts-append parts p a (d ∷ ds) es = accounts-append parts p (account parts p (rests a) d) ds es
+
+midways-append : {N L : Type 0} (parts : Nature N L) (p q : Port) (a b : Account) (ds es : List (List (Deed N L))) → Midways parts p q a b ds → Midways parts p q (accounts parts p a ds) (accounts parts q b ds) es → Midways parts p q a b (ds ++ es)
+midways-append parts p q a b [] es m n = n
+midways-append parts p q a b (d ∷ ds) es m n = (m.0, midways-append parts p q (account parts p (rests a) d) (account parts q (rests b) d) ds es m.1 n)
 
 each-append : {N L : Type 0} (parts : Nature N L) (s t u : Scene) (cs bs : List (Call L)) (ds es : List (List (Deed N L))) → Each parts s cs ds t → Each parts t bs es u → Each parts s (cs ++ bs) (ds ++ es) u
 each-append parts s t u [] bs [] es p q = subst (λ z. Each parts z bs es u) (sym p) q
@@ -40,6 +44,7 @@ Went-one {stands = stands} {old = old} {new = new} {before = before} {after = af
   ages = k.ages;
   each = (scene_of new.book, k.follows, refl);
   keeps = λ x t h. subst (λ z. StandsFor stands new x (trace_after x t z)) (sym (append-nil k.deeds)) (k.keeps x t h);
+  midway = λ p q a b bal. (k.midway p q a b bal, tt);
   balances = k.balances;
 }
 
@@ -55,5 +60,6 @@ Went-then {stands = stands} {parts = parts} {cs = cs} {bs = bs} {a = a} {b = b} 
   ages = Ages-trans k.ages l.ages;
   each = each-append parts (scene_of a.book) (scene_of b.book) (scene_of c.book) cs bs k.deeds l.deeds k.each l.each;
   keeps = λ x t h. subst (λ z. StandsFor stands c x z) (sym (trace-append x t (all_of k.deeds) (all_of l.deeds)) ∙ ap (trace_after x t) (sym (all-append k.deeds l.deeds))) (l.keeps x _ (k.keeps x t h));
+  midway = λ p q i j h. midways-append parts p q i j k.deeds l.deeds (k.midway p q i j h) (l.midway p q _ _ (k.balances p q i j h));
   balances = λ p q i j h. rw (accounts-append parts p i k.deeds l.deeds, accounts-append parts q j k.deeds l.deeds) (l.balances p q _ _ (k.balances p q i j h));
 }

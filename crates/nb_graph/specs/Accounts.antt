@@ -96,6 +96,17 @@ account parts p a (writes e ∷ ds) = account parts p (after_note p a e) ds
 account parts p a (turns u ∷ ds) = account parts p a ds
 account parts p a (calls y e ∷ ds) = account parts p (if p.obj.0 == y then after_call parts p a e else rests a) ds
 
+-- where p was plugged to q, q took the first of what p sent
+abbrev pub Covers : Port → Account → Account → Type 0
+Covers q a b = a.peer ≡ Some q → (rest : List ℕ) × (a.sent ≡ b.taken ++ rest)
+
+-- in the middle of a call too, before and after each deed
+abbrev pub Midway : {N L : Type 0} → Nature N L → Port → Port → Account → Account → List (Deed N L) → Type 0
+Midway parts p q a b [] = Covers q a b
+Midway parts p q a b (writes e ∷ ds) = Covers q a b × Midway parts p q (after_note p a e) (after_note q b e) ds
+Midway parts p q a b (turns u ∷ ds) = Midway parts p q a b ds
+Midway parts p q a b (calls y e ∷ ds) = Covers q a b × Midway parts p q (if p.obj.0 == y then after_call parts p a e else rests a) (if q.obj.0 == y then after_call parts q b e else rests b) ds
+
 -- Two ends of one link: p sent s, and q took t. While the link is open they are linked, and `due` is what p sent and
 -- q has still to take. Where it is closed, q took the first of what p sent.
 pub data Joined (l : Ledger) (p q : Port) (s t due : List ℕ) : Type 0 where

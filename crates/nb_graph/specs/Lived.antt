@@ -9,7 +9,7 @@ use Rattle.nb_ledger.specs.Ledger.{port}
 use Rattle.nb_graph.specs.Scene.{scene_of}
 use Rattle.nb_graph.specs.Follows.{Follows}
 use Rattle.nb_ledger.specs.Flat.{Given}
-use Rattle.nb_graph.specs.Accounts.{Account, Balanced, account, rests}
+use Rattle.nb_graph.specs.Accounts.{Account, Balanced, Midway, account, rests}
 use Rattle.nb_graph.specs.Whole.{Ages, Objects, Runs, node_of}
 
 -- the object x, if it lives, stands for this trace, and all loads that the trace lent came back
@@ -33,4 +33,5 @@ pub record Lived {N L : Type 0} (stands : N → List (Entry N L) → Type 0) (pa
   pub tells : Given before after (told_of deeds)
   pub follows : Follows parts now (scene_of old.book) asked deeds (scene_of new.book)
   pub keeps : (x : ℕ) (t : List (Entry N L)) → StandsFor stands old x t → StandsFor stands new x (trace_after x t deeds)
+  pub midway : (p q : Port) (a b : Account) → Balanced old.book p q a b → Midway parts p q (rests a) (rests b) deeds
   pub balances : (p q : Port) (a b : Account) → Balanced old.book p q a b → Balanced new.book p q (account parts p (rests a) deeds) (account parts q (rests b) deeds)

@@ -8,7 +8,7 @@ use Rattle.nb_graph.specs.Deeds.{Deed, Stage, events_of, told_of, trace_after}
 use Rattle.nb_graph.specs.Scene.{Scene, scene_of}
 use Rattle.nb_graph.specs.Follows.{Follows}
 use Rattle.nb_ledger.specs.Flat.{Given}
-use Rattle.nb_graph.specs.Accounts.{Account, Balanced, account, rests}
+use Rattle.nb_graph.specs.Accounts.{Account, Balanced, Midway, account, rests}
 use Rattle.nb_graph.specs.Whole.{Ages, Objects, Runs}
 use Rattle.nb_graph.specs.Lived.{StandsFor}
 
@@ -34,10 +34,16 @@ abbrev pub accounts : {N L : Type 0} → Nature N L → Port → Account → Lis
 accounts parts p a [] = a
 accounts parts p a (ds ∷ dss) = accounts parts p (account parts p (rests a) ds) dss
 
+-- at each moment of each call
+abbrev pub Midways : {N L : Type 0} → Nature N L → Port → Port → Account → Account → List (List (Deed N L)) → Type 0
+Midways parts p q a b [] = Unit {0}
+Midways parts p q a b (ds ∷ dss) = Midway parts p q (rests a) (rests b) ds × Midways parts p q (account parts p (rests a) ds) (account parts q (rests b) ds) dss
+
 -- What happened in these calls, one relation for one call and for many. The events were given and are a run. The
 -- deeds of each call use up what it asks for, and the outside was told of them. Each object stands for its trace
 -- continued by its entries and the loads that came back to it; one that was made starts from the empty trace. On
--- each link one end took what the other sent, or the first of it where the link is closed. Ranks stay.
+-- each link one end took what the other sent, or the first of it where the link is closed; at each moment of a call
+-- the first of it. Ranks stay.
 pub record Went {N L : Type 0} (stands : N → List (Entry N L) → Type 0) (parts : Nature N L) (calls : List (Call L)) (old new : Objects N) (before after : Option (List Notice)) : Type 0 where
   pub added : List GraphEvent
   pub runs : Runs old.book new.book before after added
@@ -47,6 +53,7 @@ pub record Went {N L : Type 0} (stands : N → List (Entry N L) → Type 0) (par
   pub tells : Given before after (told_of (all_of deeds))
   pub each : Each parts (scene_of old.book) calls deeds (scene_of new.book)
   pub keeps : (x : ℕ) (t : List (Entry N L)) → StandsFor stands old x t → StandsFor stands new x (trace_after x t (all_of deeds))
+  pub midway : (p q : Port) (a b : Account) → Balanced old.book p q a b → Midways parts p q a b deeds
   pub balances : (p q : Port) (a b : Account) → Balanced old.book p q a b → Balanced new.book p q (accounts parts p a deeds) (accounts parts q b deeds)
 
 -- what happened in one call
