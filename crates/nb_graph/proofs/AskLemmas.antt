@@ -129,11 +129,13 @@ Livens-entry {parts = parts} {b0 = b0} {b1 = b1} {ds = ds} {es = es} x e idle sa
       let was : Joined b1 p q (after_note p a e).sent (after_note q y e).taken w = rw (np.0, nq.1) (Joined-mild mild j) in
       (λ _. start-joined j, Midway-append parts p q (after_note p a e) (after_note q y e) ds es (k.midway p q (after_note p a e) (after_note q y e) w v (turn p q y w v i) was) (last.midway p q (account parts p (after_note p a e) ds) (account parts q (after_note q y e) ds) v v refl (k.joins p q (after_note p a e) (after_note q y e) w v (turn p q y w v i) was).0));
   newly = λ p q a y t n.
-      let m : ((after_note p a e).peer ≡ Some q → ⊥) = λ h. n (sym (note p a).2 ∙ h) in
-      (λ h. absurd (n h), Midway-append parts p q (after_note p a e) (after_note q y e) ds es (k.newly p q (after_note p a e) (after_note q y e) tt m) (elim (cases_peer (account parts p (after_note p a e) ds).peer q) [
-        | inl o ↦ last.midway p q (account parts p (after_note p a e) ds) (account parts q (after_note q y e) ds) [] [] refl (k.news p q (after_note p a e) (after_note q y e) tt m o).0
-        | inr o ↦ last.apart p q (account parts p (after_note p a e) ds) (account parts q (after_note q y e) ds) o
-      ]));
+      let m : ((after_note p a e).peer ≡ Some q → ⊥) = λ h. n (sym (note p a).2 ∙ h) in (
+        λ h. absurd (n h),
+        Midway-append parts p q (after_note p a e) (after_note q y e) ds es (k.newly p q (after_note p a e) (after_note q y e) tt m) (elim (cases_peer (account parts p (after_note p a e) ds).peer q) [
+          | inl o ↦ last.midway p q (account parts p (after_note p a e) ds) (account parts q (after_note q y e) ds) [] [] refl (k.news p q (after_note p a e) (after_note q y e) tt m o).0
+          | inr o ↦ last.apart p q (account parts p (after_note p a e) ds) (account parts q (after_note q y e) ds) o
+        ]),
+      );
   news = λ p q a y t n i.
       let j = sym (ap (λ z. z.peer) (account-append parts p (after_note p a e) ds es)) ∙ i in
       let s = k.news p q (after_note p a e) (after_note q y e) tt (λ h. n (sym (note p a).2 ∙ h)) (sym (last.peers p (account parts p (after_note p a e) ds)) ∙ j) in

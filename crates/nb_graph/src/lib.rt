@@ -8,6 +8,8 @@
 mod calm;
 mod effects;
 mod ending;
+#[cfg(test)]
+mod fake;
 mod graph;
 mod inner;
 mod lively;
