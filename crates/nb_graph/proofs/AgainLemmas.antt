@@ -5,7 +5,7 @@ use Rattle.nb_ledger.specs.declared.message.Msg.{Msg}
 use Rattle.nb_ledger.specs.declared.port.Port.{Port}
 use Rattle.nb_ledger.specs.Ledger.{Ledger}
 use Rattle.nb_graph.specs.Trace.{Nature, Entry, Said}
-use Rattle.nb_graph.specs.declared.steps.Asked.{Asked}
+use Rattle.nb_graph.specs.declared.asking.Asked.{Asked}
 use Rattle.nb_graph.specs.Again.{Delivered, Gives, Goes, GoesOn, Left, LeftOn}
 
 module _ {N L : Type 0} (stands : N → List (Entry N L) → Type 0) (parts : Nature N L) (now : ℕ) (at : Port) (m : Said) (a b d : Ledger) (na nb nd : List N) (before mid next : Option (List Notice)) where

@@ -8,8 +8,8 @@ use Rattle.nb_ledger.specs.Ledger.{Ledger, port, rank, open_count}
 use Rattle.nb_graph.specs.declared.effects.Emit.{Emit}
 use Rattle.nb_graph.specs.declared.effects.Few.{Few}
 use Rattle.nb_graph.specs.declared.effects.Fx.{Fx}
-use Rattle.nb_graph.specs.declared.steps.Asked.{Asked}
-use Rattle.nb_graph.specs.declared.steps.Asked.TheVariants.{Done, NoMemory}
+use Rattle.nb_graph.specs.declared.asking.Asked.{Asked}
+use Rattle.nb_graph.specs.declared.asking.Asked.TheVariants.{Done, NoMemory}
 use Rattle.nb_graph.specs.Deeds.{Deed}
 use Rattle.nb_graph.specs.Effects.{AreDowns, IsDown, MayAskBelow, MayAskDown}
 use Rattle.nb_graph.specs.Whole.{IsLinked, port_at}

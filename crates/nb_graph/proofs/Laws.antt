@@ -18,6 +18,7 @@ use Rattle.nb_graph.specs.Trace.{Nature, Said, up, down, closed, time, regain, s
 use Rattle.nb_graph.specs.Deeds.{Deed, writes, calls, turns, Stage, Shut, MustHear, Holds, Makes, MustPlug, Closes, MustShut, Sends, Gives, Offers, Ticks, Returns, MustUnplug, Settles, is_shut, is_full, is_dead, arrives, goes_out, stays, all_closes, no_place, rest, runs_of, settles_by, makes_of, few_of, closes_of, said_of}
 use Rattle.nb_graph.specs.Scene.{Scene, IsFull, state_at, after_noted}
 use Rattle.nb_graph.specs.Follows.{Follows, after_deed, closes_alone, closes_link, closes_none, peer_closes, peer_enters, peer_hears, unplugs, frees, keeps, passes, leaves, drops, returns, enters_up, enters_down, offered_up, offered_down, refused, takes, takes_down, drops_rest, ends, ticks, takes_time, ticks_none, makes, makes_none, finds_none, plugs}
+use Rattle.nb_graph.specs.Went.{Call, Each}
 use Rattle.nb_graph.specs.Laws.{FirstThen, InTurn, ClosesBoth, EntersThen, CallsThen, IsOnlyUp, IsOnlyDown, IsOnlyClose, IsOnlyMake, MakesOne, Settled}
 
 -- what is open isn't closed
@@ -27,7 +28,18 @@ shut_closed (port.Linked q) a b = absurd (omega (arith, b))
 shut_closed (port.Leaving q) a b = absurd a
 shut_closed port.Closed a b = absurd a
 
+-- what happened in one call
+pub only_call : {N L : Type 0} (parts : Nature N L) (s t : Scene) (c : Call L) (dss : List (List (Deed N L))) → Each parts s (c ∷ []) dss t → (ds : List (Deed N L)) × (dss ≡ ds ∷ []) × Follows parts c.now s c.asks ds t
+only_call parts s t c [] h = absurd h
+only_call parts s t c (ds ∷ []) h = (ds, refl, subst (λ z. Follows parts c.now s c.asks ds z) h.2 h.1)
+only_call parts s t c (ds ∷ (es ∷ dss)) h = absurd h.2
+
 module _ {N L : Type 0} (parts : Nature N L) (now : ℕ) where
+  -- nothing is asked for: nothing happens
+  pub nothing : (s t : Scene) (ds : List (Deed N L)) → Follows parts now s [] ds t → (ds ≡ []) × (s ≡ t)
+  nothing s t [] h = (refl, h)
+  nothing s t (d ∷ ds) h = absurd h
+
   -- what is asked for first is used up before what is asked for next
   pub split : (s t : Scene) (tops others : List (Stage L)) (ds : List (Deed N L)) → Follows parts now s (tops ++ others) ds t → InTurn parts now s tops others ds t
   split s t [] others ds h = ([], ds, s, refl, refl, h)

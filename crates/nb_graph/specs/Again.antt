@@ -5,7 +5,7 @@ use Rattle.nb_ledger.specs.declared.message.Msg.{Msg}
 use Rattle.nb_ledger.specs.declared.port.Port.{Port}
 use Rattle.nb_ledger.specs.declared.event.Way.TheVariants as way
 use Rattle.nb_ledger.specs.Ledger.{Ledger, busy}
-use Rattle.nb_graph.specs.declared.steps.Asked.{Asked}
+use Rattle.nb_graph.specs.declared.asking.Asked.{Asked}
 use Rattle.nb_graph.specs.Effects.{asked_loads, asked_rest, asked_runs}
 use Rattle.nb_graph.specs.Trace.{Nature, Entry, Said, left, said, up}
 use Rattle.nb_graph.specs.Deeds.{Calls, Holds}

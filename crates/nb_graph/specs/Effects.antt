@@ -5,10 +5,10 @@ use Rattle.nb_graph.specs.declared.effects.Emit.{Emit}
 use Rattle.nb_graph.specs.declared.effects.Make.{Make}
 use Rattle.nb_graph.specs.declared.effects.Few.{Few}
 use Rattle.nb_graph.specs.declared.effects.Fx.{Fx}
-use Rattle.nb_graph.specs.declared.steps.Asked.{Asked}
+use Rattle.nb_graph.specs.declared.asking.Asked.{Asked}
 use Rattle.nb_graph.specs.Trace.{Nature, Entry, Said, lent, left}
 use Rattle.nb_graph.specs.Deeds.{Stage, runs_of}
-use Rattle.nb_graph.specs.declared.steps.Asked.TheVariants.{Done, NoMemory}
+use Rattle.nb_graph.specs.declared.asking.Asked.TheVariants.{Done, NoMemory}
 
 -- no effect
 abbrev pub IsNothing : {N L : Type 0} → Fx N L → Type 0

@@ -25,7 +25,7 @@ use Rattle.nb_ledger.specs.GraphRun.{port_but}
 use Rattle.nb_graph.proofs.WholeLemmas.{but_other}
 use Rattle.nb_graph.proofs.LivesLemmas.{Lives-above, Lives-turn, Lives-weaken}
 use Rattle.nb_graph.specs.Accounts.{account, few_bytes}
-use Rattle.nb_graph.specs.declared.steps.Asked.TheVariants.{Done}
+use Rattle.nb_graph.specs.declared.asking.Asked.TheVariants.{Done}
 use Rattle.nb_graph.specs.Flows.{Closing, asked_left, asked_sent, asked_whole}
 use Rattle.nb_graph.proofs.AccountLemmas.{Calms-idle, Calms-turn, Calms-plain, Mild-same}
 use Rattle.nb_graph.proofs.MildLemmas.{Lives-plain, Mild-busy, Mild-port}

@@ -1,28 +1,25 @@
-// Messages that go up, and time: objects may be made.
-ghost use Rattle.std.specs.Prelude.{◌≡◌, ◌+◌, ◌<◌, ◌≤◌, ◌^◌, ℕ, true, false, length, IfSome, IfNone, ◌⊎◌, Some, None, [], ◌∷◌, ◌++◌, drop};
+// A message goes up: objects may be made.
+ghost use Rattle.std.specs.Prelude.{◌≡◌, ◌+◌, ◌<◌, ◌≤◌, ◌++◌, ◌∷◌, ℕ, true, length, IfSome, Some, ◌^◌, ◌-◌};
 ghost use Rattle.std.specs.Vec.{vec_capacity};
+ghost use Rattle.nb_ledger.specs.GraphRun.{IsOpen};
+ghost use Rattle.nb_ledger.specs.Ledger.{busy, port, open_count, rank};
+ghost use Rattle.nb_graph.specs.Whole.{port_at};
+ghost use Rattle.nb_graph.specs.Accounts.{few_bytes, emit_bytes, fx_bytes};
+ghost use Rattle.nb_graph.specs.Calm.{IsSteady, Starts};
+ghost use Rattle.nb_graph.specs.Trace.{carried, in_list, lent, loads, said, nature, carries, up};
+ghost use Rattle.nb_graph.specs.Deeds.{Hands, Gives, Sends, emit_of, few_of, runs_of};
+ghost use Rattle.nb_graph.specs.Lives.{Back, Same, here, IsBelow, IsUnder, LivelyFor, LivelyInFor};
 ghost use Rattle.nb_ledger.specs.declared.event.GraphEvent.TheVariants.{Entered};
 ghost use Rattle.nb_ledger.specs.declared.event.Way.TheVariants as way;
-ghost use Rattle.nb_ledger.specs.GraphRun.{IsOpen};
-ghost use Rattle.nb_ledger.specs.Ledger.{live, busy, rank, port, open_count};
-ghost use Rattle.nb_graph.specs.Accounts.{emit_bytes, few_bytes, fx_bytes};
-ghost use Rattle.nb_graph.specs.Flows.{Delivering, Doing, Keeping, Leaves, Rising, asked_behind, asked_sent, nothing};
-ghost use Rattle.nb_graph.specs.Moves.{HasAsked, always, none_due};
-ghost use Rattle.nb_graph.specs.Calm.{IsSteady, Starts};
-ghost use Rattle.nb_graph.specs.Whole.{Harvests, IsManned, port_at};
-ghost use Rattle.nb_graph.specs.Trace.{carried, in_list, left, lent, loads, said, said_behind, silence, up, time, nature, carries};
-ghost use Rattle.nb_graph.specs.Deeds.{Calls, Hands, Gives, Holds, Sends, Ticks, emit_of, few_of, runs_of};
+ghost use Rattle.nb_graph.specs.Effects.{ClosesSlot, MayAsk, MayAskUp, AreUps, IsUp};
+ghost use Rattle.nb_graph.specs.Flows.{Doing, Leaves, Rising};
+ghost use Rattle.nb_graph.specs.Moves.{HasAsked, none_due};
 ghost use Rattle.nb_graph.specs.Again.{Delivered, Gives as GivesAll, GoesOn, LeftOn};
 ghost use Rattle.nb_graph.specs.Lively.{Grows};
-ghost use Rattle.nb_ledger.specs.Flat.{Tells};
-ghost use Rattle.nb_ledger.specs.declared.event.GraphEvent.TheVariants.{Dropped};
-ghost use Rattle.nb_graph.specs.Lives.{AllBack, Back, IsBelow, IsUnder, LivelyFor, LivelyInFor, Same, here};
-ghost use Rattle.nb_graph.specs.Lived.{KeepsTraces};
-ghost use Rattle.nb_graph.specs.Effects.{MayAsk, MayAskTime, MayAskUp, asked_loads, asked_rest, asked_runs, AreUps, ClosesSlot, IsUp};
 
-use crate::calm::NOTHING;
+use crate::asking::Asked;
 use crate::inner::Inner;
-use crate::steps::{Asked, behind, cut};
+use crate::message::{behind, cut};
 use crate::{Emit, Few, Fx, Node, Parts};
 use nb_ledger::{GraphEvent, Msg, ObjId, Outside, Port, PortState, Way};
 
@@ -352,75 +349,5 @@ impl<N: Node> Inner<N> {
             PortState::Leaving(_) => out.event(&GraphEvent::Dropped(at).spelled()),
             PortState::Closed => out.event(&GraphEvent::Dropped(at).spelled()),
         }
-    }
-
-    /// Time enters a live object.
-    pub(crate) fn enter_time<O: Outside>(&mut self, id: ObjId, now: u64, out: &mut O)
-        requires lives { live self.old.book id.0 ≡ true }
-        requires idle { (x : ℕ) → busy self.old.book x ≡ false }
-        requires steady { IsSteady N.rank_of self.old.book self.old.nodes.items
-            (vec_capacity self.old.nodes) }
-        ensures lives { (k : LivelyFor N.stands (nature N.kind_of N.Load.first N.Load.second) now
-            self.old.book self.new.book self.old.nodes.items self.new.nodes.items
-            (Same (busy self.old.book)) none_due (Keeping self.old.book) (λ st. Ticks id.0 ∷ st) (O.events out.old)
-            (O.events out.new))
-            × Hands (Entered (port_at id.0 4) way.Time) id.0 (λ done fx. time now done fx)
-            k.lives.deeds }
-        ensures starts { Starts self.old.book self.new.book (O.events out.old) (O.events out.new)
-            (Entered (port_at id.0 4) way.Time) }
-        ensures steady { IsSteady N.rank_of self.new.book self.new.nodes.items
-            (vec_capacity self.new.nodes) }
-    {
-        let at = Port { obj: id, slot: 4 };
-        let was = self.book.enter(at, Way::Time, out);
-        let asked = self.ask_time(id, now);
-        self.after_time(id, asked, now, out);
-        self.leave(at, was, out);
-    }
-
-    fn after_time<O: Outside>(&mut self, id: ObjId, asked: Asked<N, N::Load>, now: u64, out: &mut O)
-        requires runs { busy self.old.book id.0 ≡ true }
-        requires asks { MayAskTime N.rank_of N.stands (rank self.old.book id.0) asked }
-        requires below { IsBelow (rank self.old.book id.0) self.old.book }
-        requires steady { IsSteady N.rank_of self.old.book self.old.nodes.items
-            (vec_capacity self.old.nodes) }
-        ensures lives { LivelyInFor N.stands (nature N.kind_of N.Load.first N.Load.second) now id.0
-            self.old.book self.new.book self.old.nodes.items self.new.nodes.items
-            (Back (busy self.old.book) id.0 (asked_loads asked))
-            (HasAsked id.0 (asked_sent (nature N.kind_of N.Load.first N.Load.second) [] asked)) none_due
-            (Doing self.old.book id.0 (asked_sent (nature N.kind_of N.Load.first N.Load.second) [] asked))
-            (λ st. asked_runs (nature N.kind_of N.Load.first N.Load.second) id.0 silence asked ++ st) here (O.events out.old) (O.events out.new) }
-        ensures steady { IsSteady N.rank_of self.new.book self.new.nodes.items
-            (vec_capacity self.new.nodes) }
-    {
-        match asked {
-            Asked::Done(fx) => self.effects(id, &NOTHING, fx, now, out),
-            Asked::NoMemory(fx) => self.fail(id, fx, now, out),
-        }
-    }
-
-    /// What the node of a live object has to hand out.
-    pub(crate) fn harvest(&mut self, id: ObjId) -> Option<N::Load>
-        requires lives { live self.old.book id.0 ≡ true }
-        requires manned { IsManned N.rank_of self.old.book self.old.nodes.items
-            (vec_capacity self.old.nodes) }
-        ensures gives { Harvests N.harvests (record {
-          book = self.old.book;
-          nodes =
-              self.old.nodes.items;
-        })
-            (record { book = self.new.book; nodes = self.new.nodes.items }) id result }
-        ensures keeps { KeepsTraces N.stands (record {
-          book = self.old.book;
-          nodes =
-              self.old.nodes.items;
-        })
-            (record { book = self.new.book; nodes = self.new.nodes.items }) }
-        ensures book { self.new.book ≡ self.old.book }
-        ensures manned { IsManned N.rank_of self.new.book self.new.nodes.items
-            (vec_capacity self.new.nodes) }
-    {
-        let place = self.book.place(id);
-        self.nodes[place].harvest()
     }
 }
