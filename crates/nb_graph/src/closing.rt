@@ -1,15 +1,19 @@
 // A port is closed, with its peer if it is linked; all ports of an object are.
-ghost use Rattle.std.specs.Prelude.{◌≡◌, ◌+◌, ◌<◌, ◌≤◌, ◌++◌, ◌∷◌, ℕ, true, length, None, [], ◌≢◌, List, ◌-◌};
+ghost use Rattle.std.specs.Prelude.{◌≡◌, ◌+◌, ◌<◌, ◌≤◌, ◌++◌, ◌∷◌, ℕ, true, length, None, [], ◌≢◌};
+ghost use Rattle.std.specs.Prelude.{List, ◌-◌};
 ghost use Rattle.std.specs.Vec.{vec_capacity};
-ghost use Rattle.nb_ledger.specs.declared.port.PortState.TheVariants.{Linked, Leaving, Closed as Shut};
+ghost use Rattle.nb_ledger.specs.declared.port.PortState.TheVariants.{Linked, Leaving};
+ghost use Rattle.nb_ledger.specs.declared.port.PortState.TheVariants.{Closed as Shut};
 ghost use Rattle.nb_ledger.specs.Ledger.{busy, port, open_count, live, rank, state_of};
 ghost use Rattle.nb_graph.specs.Whole.{IsQuiet, IsManned, IsLinked, CountedButTwo};
 ghost use Rattle.nb_graph.specs.Order.{Shuts, ShutsObject, EndsLink};
 ghost use Rattle.nb_graph.specs.Flows.{Closing, Failing, Still};
 ghost use Rattle.nb_graph.specs.Calm.{IsSteady, HalfCloses};
 ghost use Rattle.nb_graph.specs.Trace.{lent, nature};
-ghost use Rattle.nb_graph.specs.Deeds.{Closes, all_closes, closes_of, no_memory, returns_of, Holds, MustHear, MustUnplug as Unlinks};
-ghost use Rattle.nb_graph.specs.Lives.{Back, CalmFor, Same, EndsFor, Lives, SettlesTwoFor, Stays, nodes_at};
+ghost use Rattle.nb_graph.specs.Deeds.{Closes, all_closes, closes_of, no_memory, returns_of, Holds};
+ghost use Rattle.nb_graph.specs.Deeds.{MustHear, MustUnplug as Unlinks};
+ghost use Rattle.nb_graph.specs.Lives.{Back, CalmFor, Same, EndsFor, Lives, SettlesTwoFor, Stays};
+ghost use Rattle.nb_graph.specs.Lives.{nodes_at};
 ghost use Rattle.nb_ledger.specs.declared.event.GraphEvent.TheVariants.{Entered, Closed};
 ghost use Rattle.nb_graph.specs.Effects.{ClosesSlot};
 ghost use Rattle.nb_ledger.specs.Flat.{Tells};
@@ -37,9 +41,11 @@ impl<N: Node> Inner<N> {
         requires steady { IsSteady N.rank_of self.old.book self.old.nodes.items
             (vec_capacity self.old.nodes) }
         ensures shut { open_count (port self.new.book at.obj.0 at.slot) ≡ 0 }
-        ensures lives { CalmFor N.stands (nature N.kind_of N.Load.first N.Load.second) now self.old.book
+        ensures lives { CalmFor N.stands (nature N.kind_of N.Load.first N.Load.second) now
+            self.old.book
             self.new.book self.old.nodes.items self.new.nodes.items (Same (busy self.old.book))
-            (Closing self.old.book at.obj.0) (λ st. Closes at cause.now ∷ st) (O.events out.old) (O.events out.new) }
+            (Closing self.old.book at.obj.0) (λ st. Closes at cause.now ∷ st) (O.events out.old)
+            (O.events out.new) }
         ensures starts { 0 < open_count (port self.old.book at.obj.0 at.slot)
             → Shuts self.old.book self.new.book (O.events out.old) (O.events out.new) at
             cause.now }
@@ -63,9 +69,11 @@ impl<N: Node> Inner<N> {
         requires steady { IsSteady N.rank_of self.old.book self.old.nodes.items
             (vec_capacity self.old.nodes) }
         ensures shut { open_count (port self.new.book at.obj.0 at.slot) ≡ 0 }
-        ensures lives { CalmFor N.stands (nature N.kind_of N.Load.first N.Load.second) now self.old.book
+        ensures lives { CalmFor N.stands (nature N.kind_of N.Load.first N.Load.second) now
+            self.old.book
             self.new.book self.old.nodes.items self.new.nodes.items (Same (busy self.old.book))
-            (Closing self.old.book at.obj.0) (λ st. Closes at cause.now ∷ st) (O.events out.old) (O.events out.new) }
+            (Closing self.old.book at.obj.0) (λ st. Closes at cause.now ∷ st) (O.events out.old)
+            (O.events out.new) }
         ensures starts { Shuts self.old.book self.new.book (O.events out.old) (O.events out.new) at
             cause.now }
         ensures steady { IsSteady N.rank_of self.new.book self.new.nodes.items
@@ -77,7 +85,8 @@ impl<N: Node> Inner<N> {
         self.unplug(at, peer, was, out);
     }
 
-    /// Closes both ends of a link and begins the peer's entry; whether one of its object ran already.
+    /// Closes both ends of a link and begins the peer's entry; whether one of its object ran
+    /// already.
     pub(crate) fn close_both<O: Outside>(
         &mut self,
         at: Port,
@@ -93,9 +102,12 @@ impl<N: Node> Inner<N> {
         ensures run { (st : List Frame) → IsIdle st → Run (state_of self.old.book st)
             (Closed at cause.now ∷ Closed peer cause.now ∷ Entered peer Close ∷ [])
             (state_of self.new.book (Running peer Close ∷ MustUnplug at peer ∷ st)) }
-        ensures lives { (now : ℕ) → Lives N.stands (nature N.kind_of N.Load.first N.Load.second) now (nodes_at self.old.book self.old.nodes.items (O.events out.old))
-            (nodes_at self.new.book self.new.nodes.items (O.events out.new)) Stays (λ st. Closes at cause.now ∷ st)
-            (λ st. MustHear peer cause.now ∷ Unlinks at peer ∷ st) (Calms (nature N.kind_of N.Load.first N.Load.second)
+        ensures lives { (now : ℕ) → Lives N.stands (nature N.kind_of N.Load.first N.Load.second)
+            now (nodes_at self.old.book self.old.nodes.items (O.events out.old))
+            (nodes_at self.new.book self.new.nodes.items (O.events out.new)) Stays
+            (λ st. Closes at cause.now ∷ st)
+            (λ st. MustHear peer cause.now ∷ Unlinks at peer ∷ st) (Calms
+            (nature N.kind_of N.Load.first N.Load.second)
             self.old.book self.new.book Still) (Closed at cause.now ∷ Closed peer cause.now ∷
             Entered peer Close ∷ []) }
         ensures was { result ≡ busy self.old.book peer.obj.0 }
@@ -116,7 +128,8 @@ impl<N: Node> Inner<N> {
         requires apart { at.obj.0 ≢ peer.obj.0 }
         requires steady { IsSteady N.rank_of self.old.book self.old.nodes.items
             (vec_capacity self.old.nodes) }
-        ensures ends { (e : EndsFor N.stands (nature N.kind_of N.Load.first N.Load.second) self.old.book
+        ensures ends { (e : EndsFor N.stands (nature N.kind_of N.Load.first N.Load.second)
+            self.old.book
             self.new.book self.old.nodes.items self.new.nodes.items (O.events out.old)
             (O.events out.new) peer.obj.0 was
             (λ st. Running peer Close ∷ MustUnplug at peer ∷ st)
@@ -139,7 +152,8 @@ impl<N: Node> Inner<N> {
         requires links { IsLinked (port self.old.book) (rank self.old.book) }
         requires counted { CountedButTwo first.0 other.0 self.old.book }
         requires small { (x : ℕ) → rank self.old.book x < 256 }
-        ensures settles { SettlesTwoFor N.stands (nature N.kind_of N.Load.first N.Load.second) self.old.book
+        ensures settles { SettlesTwoFor N.stands (nature N.kind_of N.Load.first N.Load.second)
+            self.old.book
             self.new.book self.old.nodes.items self.new.nodes.items (O.events out.old)
             (O.events out.new) first other }
         ensures steady { IsSteady N.rank_of self.new.book self.new.nodes.items
@@ -161,7 +175,8 @@ impl<N: Node> Inner<N> {
         requires links { IsLinked (port self.old.book) (rank self.old.book) }
         requires counted { CountedButTwo low.0 high.0 self.old.book }
         requires small { (x : ℕ) → rank self.old.book x < 256 }
-        ensures settles { SettlesTwoFor N.stands (nature N.kind_of N.Load.first N.Load.second) self.old.book
+        ensures settles { SettlesTwoFor N.stands (nature N.kind_of N.Load.first N.Load.second)
+            self.old.book
             self.new.book self.old.nodes.items self.new.nodes.items (O.events out.old)
             (O.events out.new) low high }
         ensures steady { IsSteady N.rank_of self.new.book self.new.nodes.items
@@ -184,9 +199,11 @@ impl<N: Node> Inner<N> {
             (vec_capacity self.old.nodes) }
         ensures shut { (k : ℕ) → ClosesSlot k closes.now → open_count (port self.new.book id.0 k) ≡
             0 }
-        ensures lives { CalmFor N.stands (nature N.kind_of N.Load.first N.Load.second) now self.old.book
+        ensures lives { CalmFor N.stands (nature N.kind_of N.Load.first N.Load.second) now
+            self.old.book
             self.new.book self.old.nodes.items self.new.nodes.items (Same (busy self.old.book))
-            (Closing self.old.book id.0) (λ st. closes_of id.0 closes.now ++ st) (O.events out.old) (O.events out.new) }
+            (Closing self.old.book id.0) (λ st. closes_of id.0 closes.now ++ st)
+            (O.events out.old) (O.events out.new) }
         ensures steady { IsSteady N.rank_of self.new.book self.new.nodes.items
             (vec_capacity self.new.nodes) }
     {
@@ -210,9 +227,11 @@ impl<N: Node> Inner<N> {
         requires steady { IsSteady N.rank_of self.old.book self.old.nodes.items
             (vec_capacity self.old.nodes) }
         ensures shut { (k : ℕ) → open_count (port self.new.book id.0 k) ≡ 0 }
-        ensures lives { CalmFor N.stands (nature N.kind_of N.Load.first N.Load.second) now self.old.book
+        ensures lives { CalmFor N.stands (nature N.kind_of N.Load.first N.Load.second) now
+            self.old.book
             self.new.book self.old.nodes.items self.new.nodes.items (Same (busy self.old.book))
-            (Closing self.old.book id.0) (λ st. all_closes id.0 cause.now ++ st) (O.events out.old) (O.events out.new) }
+            (Closing self.old.book id.0) (λ st. all_closes id.0 cause.now ++ st)
+            (O.events out.old) (O.events out.new) }
         ensures order { IsQuiet self.old.book → ShutsObject cause.now id.0 self.old.book
             self.new.book (O.events out.old) (O.events out.new) }
         ensures steady { IsSteady N.rank_of self.new.book self.new.nodes.items
@@ -230,10 +249,12 @@ impl<N: Node> Inner<N> {
         requires runs { busy self.old.book id.0 ≡ true }
         requires steady { IsSteady N.rank_of self.old.book self.old.nodes.items
             (vec_capacity self.old.nodes) }
-        ensures lives { CalmFor N.stands (nature N.kind_of N.Load.first N.Load.second) now self.old.book
+        ensures lives { CalmFor N.stands (nature N.kind_of N.Load.first N.Load.second) now
+            self.old.book
             self.new.book self.old.nodes.items self.new.nodes.items
             (Back (busy self.old.book) id.0 (lent fx)) (Failing self.old.book id.0)
-            (λ st. (returns_of id.0 (lent fx) ++ all_closes id.0 no_memory) ++ st) (O.events out.old) (O.events out.new) }
+            (λ st. (returns_of id.0 (lent fx) ++ all_closes id.0 no_memory) ++ st)
+            (O.events out.old) (O.events out.new) }
         ensures steady { IsSteady N.rank_of self.new.book self.new.nodes.items
             (vec_capacity self.new.nodes) }
     {

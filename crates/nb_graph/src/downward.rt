@@ -5,14 +5,16 @@ ghost use Rattle.nb_ledger.specs.GraphRun.{IsOpen};
 ghost use Rattle.nb_ledger.specs.Ledger.{busy, port};
 ghost use Rattle.nb_graph.specs.Whole.{port_at};
 ghost use Rattle.nb_graph.specs.Accounts.{few_bytes};
-ghost use Rattle.nb_graph.specs.Flows.{Downs, Emitting, Following, Giving, Passing, asked_left, asked_sent};
+ghost use Rattle.nb_graph.specs.Flows.{Downs, Emitting, Following, Giving, Passing, asked_left};
+ghost use Rattle.nb_graph.specs.Flows.{asked_sent};
 ghost use Rattle.nb_graph.specs.Calm.{IsSteady, Starts};
 ghost use Rattle.nb_graph.specs.Trace.{carried, down, in_list, lent, loads, said, nature, carries};
 ghost use Rattle.nb_graph.specs.Deeds.{Hands, Gives, Sends, emit_of, few_of, runs_of};
 ghost use Rattle.nb_graph.specs.Lives.{Back, CalmFor, Same};
 ghost use Rattle.nb_ledger.specs.declared.event.GraphEvent.TheVariants.{Entered};
 ghost use Rattle.nb_ledger.specs.declared.event.Way.TheVariants as way;
-ghost use Rattle.nb_graph.specs.Effects.{MayAskBelow, MayAskDown, asked_loads, asked_runs, AreDowns, IsDown};
+ghost use Rattle.nb_graph.specs.Effects.{MayAskBelow, MayAskDown, asked_loads, asked_runs};
+ghost use Rattle.nb_graph.specs.Effects.{AreDowns, IsDown};
 
 use crate::asking::Asked;
 use crate::inner::Inner;
@@ -58,12 +60,14 @@ impl<N: Node> Inner<N> {
         requires asks { MayAskDown (length msg.now.first.now + length msg.now.second.now) asked }
         requires steady { IsSteady N.rank_of self.old.book self.old.nodes.items
             (vec_capacity self.old.nodes) }
-        ensures lives { CalmFor N.stands (nature N.kind_of N.Load.first N.Load.second) now self.old.book
+        ensures lives { CalmFor N.stands (nature N.kind_of N.Load.first N.Load.second) now
+            self.old.book
             self.new.book self.old.nodes.items self.new.nodes.items
             (Back (busy self.old.book) id.0 (asked_loads asked))
             (Following self.old.book (port_at id.0 0) (asked_left (said msg.now).bytes asked)
             (asked_sent (nature N.kind_of N.Load.first N.Load.second) (said msg.now).bytes asked))
-            (λ st. asked_runs (nature N.kind_of N.Load.first N.Load.second) id.0 (said msg.now) asked ++ st) (O.events out.old) (O.events out.new) }
+            (λ st. asked_runs (nature N.kind_of N.Load.first N.Load.second) id.0
+            (said msg.now) asked ++ st) (O.events out.old) (O.events out.new) }
         ensures steady { IsSteady N.rank_of self.new.book self.new.nodes.items
             (vec_capacity self.new.nodes) }
     {
@@ -87,11 +91,14 @@ impl<N: Node> Inner<N> {
         requires asks { MayAskBelow (length msg.now.first.now + length msg.now.second.now) fx }
         requires steady { IsSteady N.rank_of self.old.book self.old.nodes.items
             (vec_capacity self.old.nodes) }
-        ensures lives { CalmFor N.stands (nature N.kind_of N.Load.first N.Load.second) now self.old.book
+        ensures lives { CalmFor N.stands (nature N.kind_of N.Load.first N.Load.second) now
+            self.old.book
             self.new.book self.old.nodes.items self.new.nodes.items
             (Back (busy self.old.book) id.0 (lent fx)) (Downs self.old.book id.0
-            (λ k. few_bytes (nature N.kind_of N.Load.first N.Load.second) k (said msg.now).bytes fx.downs))
-            (λ st. runs_of (nature N.kind_of N.Load.first N.Load.second) id.0 (said msg.now) true fx ++ st) (O.events out.old) (O.events out.new) }
+            (λ k. few_bytes (nature N.kind_of N.Load.first N.Load.second) k
+            (said msg.now).bytes fx.downs))
+            (λ st. runs_of (nature N.kind_of N.Load.first N.Load.second) id.0
+            (said msg.now) true fx ++ st) (O.events out.old) (O.events out.new) }
         ensures steady { IsSteady N.rank_of self.new.book self.new.nodes.items
             (vec_capacity self.new.nodes) }
     {
@@ -119,11 +126,14 @@ impl<N: Node> Inner<N> {
         requires downs { AreDowns (length msg.now.first.now + length msg.now.second.now) downs }
         requires steady { IsSteady N.rank_of self.old.book self.old.nodes.items
             (vec_capacity self.old.nodes) }
-        ensures lives { CalmFor N.stands (nature N.kind_of N.Load.first N.Load.second) now self.old.book
+        ensures lives { CalmFor N.stands (nature N.kind_of N.Load.first N.Load.second) now
+            self.old.book
             self.new.book self.old.nodes.items self.new.nodes.items
             (Back (busy self.old.book) id.0 (loads downs))
-            (Downs self.old.book id.0 (λ k. few_bytes (nature N.kind_of N.Load.first N.Load.second) k
-            (said msg.now).bytes downs)) (λ st. few_of (nature N.kind_of N.Load.first N.Load.second) id.0 (said msg.now) downs ++ st) (O.events out.old) (O.events out.new) }
+            (Downs self.old.book id.0 (λ k. few_bytes (nature N.kind_of N.Load.first N.Load.second)
+            k
+            (said msg.now).bytes downs)) (λ st. few_of (nature N.kind_of N.Load.first
+            N.Load.second) id.0 (said msg.now) downs ++ st) (O.events out.old) (O.events out.new) }
         ensures steady { IsSteady N.rank_of self.new.book self.new.nodes.items
             (vec_capacity self.new.nodes) }
     {
@@ -145,11 +155,14 @@ impl<N: Node> Inner<N> {
         requires down { IfSome emit (IsDown (length msg.now.first.now + length msg.now.second.now)) }
         requires steady { IsSteady N.rank_of self.old.book self.old.nodes.items
             (vec_capacity self.old.nodes) }
-        ensures lives { CalmFor N.stands (nature N.kind_of N.Load.first N.Load.second) now self.old.book
+        ensures lives { CalmFor N.stands (nature N.kind_of N.Load.first N.Load.second) now
+            self.old.book
             self.new.book self.old.nodes.items self.new.nodes.items
             (Back (busy self.old.book) id.0 (carried emit))
-            (Emitting self.old.book id.0 (nature N.kind_of N.Load.first N.Load.second) (said msg.now).bytes
-            emit) (λ st. emit_of (nature N.kind_of N.Load.first N.Load.second) id.0 (said msg.now) emit ++ st) (O.events out.old) (O.events out.new) }
+            (Emitting self.old.book id.0 (nature N.kind_of N.Load.first N.Load.second)
+            (said msg.now).bytes
+            emit) (λ st. emit_of (nature N.kind_of N.Load.first N.Load.second) id.0
+            (said msg.now) emit ++ st) (O.events out.old) (O.events out.new) }
         ensures steady { IsSteady N.rank_of self.new.book self.new.nodes.items
             (vec_capacity self.new.nodes) }
     {
@@ -172,12 +185,15 @@ impl<N: Node> Inner<N> {
         requires down { IsDown (length msg.now.first.now + length msg.now.second.now) emit }
         requires steady { IsSteady N.rank_of self.old.book self.old.nodes.items
             (vec_capacity self.old.nodes) }
-        ensures lives { CalmFor N.stands (nature N.kind_of N.Load.first N.Load.second) now self.old.book
+        ensures lives { CalmFor N.stands (nature N.kind_of N.Load.first N.Load.second) now
+            self.old.book
             self.new.book self.old.nodes.items self.new.nodes.items
             (Back (busy self.old.book) id.0 (in_list emit.load))
             (Passing self.old.book (port_at id.0 emit.slot)
-            (carries (nature N.kind_of N.Load.first N.Load.second) (said msg.now).bytes emit.from emit.to
-            emit.load)) (λ st. emit_of (nature N.kind_of N.Load.first N.Load.second) id.0 (said msg.now) (Some emit) ++ st) (O.events out.old) (O.events out.new) }
+            (carries (nature N.kind_of N.Load.first N.Load.second)
+            (said msg.now).bytes emit.from emit.to
+            emit.load)) (λ st. emit_of (nature N.kind_of N.Load.first N.Load.second) id.0
+            (said msg.now) (Some emit) ++ st) (O.events out.old) (O.events out.new) }
         ensures steady { IsSteady N.rank_of self.new.book self.new.nodes.items
             (vec_capacity self.new.nodes) }
     {
@@ -226,9 +242,11 @@ impl<N: Node> Inner<N> {
         requires slot { 1 ≤ at.slot }
         requires steady { IsSteady N.rank_of self.old.book self.old.nodes.items
             (vec_capacity self.old.nodes) }
-        ensures lives { CalmFor N.stands (nature N.kind_of N.Load.first N.Load.second) now self.old.book
+        ensures lives { CalmFor N.stands (nature N.kind_of N.Load.first N.Load.second) now
+            self.old.book
             self.new.book self.old.nodes.items self.new.nodes.items (Same (busy self.old.book))
-            (Passing self.old.book at (said msg.now).bytes) (λ st. Sends at (said msg.now) ∷ st) (O.events out.old) (O.events out.new) }
+            (Passing self.old.book at (said msg.now).bytes) (λ st. Sends at (said msg.now) ∷ st)
+            (O.events out.old) (O.events out.new) }
         ensures steady { IsSteady N.rank_of self.new.book self.new.nodes.items
             (vec_capacity self.new.nodes) }
     {

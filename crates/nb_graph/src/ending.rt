@@ -28,7 +28,8 @@ impl<N: Node> Inner<N> {
     )
         requires steady { IsSteady N.rank_of self.old.book self.old.nodes.items
             (vec_capacity self.old.nodes) }
-        ensures lives { CalmFor N.stands (nature N.kind_of N.Load.first N.Load.second) now self.old.book
+        ensures lives { CalmFor N.stands (nature N.kind_of N.Load.first N.Load.second) now
+            self.old.book
             self.new.book self.old.nodes.items self.new.nodes.items (Same (busy self.old.book))
             Empty (λ st. Ends after cause.now ∷ st) (O.events out.old) (O.events out.new) }
         ensures steady { IsSteady N.rank_of self.new.book self.new.nodes.items
@@ -53,7 +54,8 @@ impl<N: Node> Inner<N> {
         ensures graph { IsGraph N.rank_of self.new.book self.new.nodes.items
             (vec_capacity self.new.nodes) }
         ensures runs { RunFor N.stands (nature N.kind_of N.Load.first N.Load.second) self.old.book
-            self.new.book self.old.nodes.items self.new.nodes.items (λ st. LetsAllGo ∷ st) (λ st. LetsAllGo ∷ st) (O.events out.old)
+            self.new.book self.old.nodes.items self.new.nodes.items (λ st. LetsAllGo ∷ st)
+            (λ st. LetsAllGo ∷ st) (O.events out.old)
             (O.events out.new) }
         ensures lets { LetsGo self.old.book self.new.book }
         ensures none { holds self.new.book id.0 ≡ 0 }
@@ -70,7 +72,8 @@ impl<N: Node> Inner<N> {
         ensures graph { IsGraph N.rank_of self.new.book self.new.nodes.items
             (vec_capacity self.new.nodes) }
         ensures runs { RunFor N.stands (nature N.kind_of N.Load.first N.Load.second) self.old.book
-            self.new.book self.old.nodes.items self.new.nodes.items (λ st. LetsAllGo ∷ st) here (O.events out.old)
+            self.new.book self.old.nodes.items self.new.nodes.items (λ st. LetsAllGo ∷ st) here
+            (O.events out.old)
             (O.events out.new) }
         ensures lets { LetsGo self.old.book self.new.book }
         ensures none { (x : ℕ) → after < x → holds self.new.book x ≡ 0 }

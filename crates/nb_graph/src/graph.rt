@@ -1,4 +1,6 @@
-ghost use Rattle.std.specs.Prelude.{◌≡◌, ◌+◌, ◌<◌, ◌≤◌, ◌↔◌, ◌⊎◌, ◌≢◌, ◌^◌, ◌-◌, ℕ, List, [], ◌∷◌, ◌++◌, Ok, Err, IfOk, IfErr, OnErr, OnOk, IsErr, IsTrue, IsSome, IsNone, IfSome, IfNone, length, true, false, slice_get};
+ghost use Rattle.std.specs.Prelude.{◌≡◌, ◌+◌, ◌<◌, ◌≤◌, ◌↔◌, ◌⊎◌, ◌≢◌, ◌^◌, ◌-◌, ℕ, List, [], ◌∷◌};
+ghost use Rattle.std.specs.Prelude.{◌++◌, Ok, Err, IfOk, IfErr, OnErr, OnOk, IsErr, IsTrue, IsSome};
+ghost use Rattle.std.specs.Prelude.{IsNone, IfSome, IfNone, length, true, false, slice_get};
 ghost use Rattle.std.specs.Bool.{OnTrue, OnFalse};
 ghost use Rattle.std.specs.Option.{option_copied};
 ghost use Rattle.nb_ledger.specs.declared.event.GraphEvent.TheVariants.{Made, Held, LetGo};
@@ -11,7 +13,7 @@ ghost use Rattle.nb_graph.specs.Trace.{said, nature};
 ghost use Rattle.nb_graph.specs.Deeds.{Closes, Ends, LetsAllGo, MustPlug, Offers, Ticks, Wants};
 ghost use Rattle.nb_graph.specs.Lived.{KeepsTraces};
 ghost use Rattle.nb_graph.specs.Order.{ClosesOne, EndsInOrder, LetsOneGo};
-ghost use Rattle.nb_graph.specs.Whole.{Harvests, IsMade, node_of, IsSame};
+ghost use Rattle.nb_graph.specs.Whole.{Harvests, IsMade, KeepsRanks, node_of, IsSame};
 
 use crate::Node;
 use crate::inner::Inner;
@@ -47,7 +49,8 @@ impl<N: Node> Model for Graph<N> {
 
     ghost view = { λ g. record { book = g.inner.book; nodes = g.inner.nodes.items } };
 
-    ghost invariant = { λ g. IsGraph N.rank_of g.inner.book g.inner.nodes.items (vec_capacity g.inner.nodes) };
+    ghost invariant = { λ g. IsGraph N.rank_of g.inner.book g.inner.nodes.items
+        (vec_capacity g.inner.nodes) };
 }
 
 impl<N: Node> Graph<N> {
@@ -59,7 +62,8 @@ impl<N: Node> Graph<N> {
               { made = 0; room = cap; objects = [] };
           nodes = [];
         }) }
-        ensures bytes { IfOk result (λ g. (p q : ThePort) → Balanced g.book p q unplugged unplugged) }
+        ensures bytes { IfOk result (λ g. (p q : ThePort) → Balanced g.book p q unplugged
+            unplugged) }
     {
         let book = Book::new(alloc, cap)?;
         let nodes = Vec::with_capacity(alloc, cap)?;
@@ -76,8 +80,11 @@ impl<N: Node> Graph<N> {
         ensures back { IfErr result (λ n. (n ≡ node) × IsSame self.old self.new (O.events out.old)
             (O.events out.new)) }
         ensures made { IfOk result (IsMade self.old self.new node (N.rank_of node)) }
-        ensures went { IfOk result (λ id. (now : ℕ) → WentOne N.stands (nature N.kind_of N.Load.first N.Load.second)
-            now (Wants (Made id (N.kind_of node)) ∷ Wants (Held id) ∷ []) self.old self.new (O.events out.old) (O.events out.new)) }
+        ensures ranks { KeepsRanks self.old.book self.new.book }
+        ensures went { IfOk result (λ id. (now : ℕ) → WentOne N.stands
+            (nature N.kind_of N.Load.first N.Load.second)
+            now (Wants (Made id (N.kind_of node)) ∷ Wants (Held id) ∷ []) self.old self.new
+            (O.events out.old) (O.events out.new)) }
     {
         if self.inner.is_full() {
             return Err(node);
@@ -99,8 +106,11 @@ impl<N: Node> Graph<N> {
             (port self.old.book lower.obj.0 0 ≢ state.Open)) }
         ensures refused { OnErr result (IsSame self.old self.new (O.events out.old)
             (O.events out.new)) }
-        ensures went { OnOk result ((now : ℕ) → WentOne N.stands (nature N.kind_of N.Load.first N.Load.second)
-            now (MustPlug upper lower ∷ []) self.old self.new (O.events out.old) (O.events out.new)) }
+        ensures ranks { KeepsRanks self.old.book self.new.book }
+        ensures went { OnOk result ((now : ℕ) → WentOne N.stands
+            (nature N.kind_of N.Load.first N.Load.second)
+            now (MustPlug upper lower ∷ []) self.old self.new (O.events out.old)
+            (O.events out.new)) }
         ensures nodes { self.new.nodes ≡ self.old.nodes }
     {
         if !self.inner.book.is_free(upper) {
@@ -117,7 +127,9 @@ impl<N: Node> Graph<N> {
     pub fn hold<O: Outside>(&mut self, id: ObjId, out: &mut O) -> bool
         ensures may { IsTrue result ↔ ((live self.old.book id.0 ≡ true) ×
             (holds self.old.book id.0 < 2 ^ 32 - 1)) }
-        ensures went { OnTrue result ((now : ℕ) → WentOne N.stands (nature N.kind_of N.Load.first N.Load.second)
+        ensures ranks { KeepsRanks self.old.book self.new.book }
+        ensures went { OnTrue result ((now : ℕ) → WentOne N.stands
+            (nature N.kind_of N.Load.first N.Load.second)
             now (Wants (Held id) ∷ []) self.old self.new (O.events out.old) (O.events out.new)) }
         ensures nodes { self.new.nodes ≡ self.old.nodes }
         ensures not { OnFalse result (IsSame self.old self.new (O.events out.old)
@@ -135,7 +147,9 @@ impl<N: Node> Graph<N> {
     pub fn let_go<O: Outside>(&mut self, id: ObjId, out: &mut O) -> bool
         ensures may { IsTrue result ↔ ((live self.old.book id.0 ≡ true) ×
             (0 < holds self.old.book id.0)) }
-        ensures went { OnTrue result ((now : ℕ) → WentOne N.stands (nature N.kind_of N.Load.first N.Load.second)
+        ensures ranks { KeepsRanks self.old.book self.new.book }
+        ensures went { OnTrue result ((now : ℕ) → WentOne N.stands
+            (nature N.kind_of N.Load.first N.Load.second)
             now (Wants (LetGo id) ∷ []) self.old self.new (O.events out.old) (O.events out.new)) }
         ensures one { OnTrue result (LetsOneGo id self.old.book self.new.book (O.events out.old)
             (O.events out.new)) }
@@ -176,6 +190,7 @@ impl<N: Node> Graph<N> {
 
     /// Closes a port, and its peer if it is linked. Nothing happens at a closed or dead one.
     pub fn close<O: Outside>(&mut self, at: Port, cause: &Cause, now: u64, out: &mut O)
+        ensures ranks { KeepsRanks self.old.book self.new.book }
         ensures went { WentOne N.stands (nature N.kind_of N.Load.first N.Load.second)
             now (Closes at cause.now ∷ []) self.old self.new (O.events out.old) (O.events out.new) }
         ensures one { 0 < open_count (port self.old.book at.obj.0 at.slot)
@@ -188,12 +203,15 @@ impl<N: Node> Graph<N> {
         self.inner.close_port(at, cause, now, out);
     }
 
-    /// A message enters an object from above, by its slot 0, if that is open and free; else it is dropped.
+    /// A message enters an object from above, by its slot 0, if that is open and free; else it is
+    /// dropped.
     pub fn down<O: Outside>(&mut self, to: Port, msg: &Msg<'_>, now: u64, out: &mut O) -> Reach
         requires { to.slot ≡ 0 }
         ensures dropped { (result ≡ reach.Dropped) ↔ (port self.old.book to.obj.0 0 ≢ state.Open) }
+        ensures ranks { KeepsRanks self.old.book self.new.book }
         ensures went { WentOne N.stands (nature N.kind_of N.Load.first N.Load.second)
-            now (Offers to (said msg.now) ∷ []) self.old self.new (O.events out.old) (O.events out.new) }
+            now (Offers to (said msg.now) ∷ []) self.old self.new (O.events out.old)
+            (O.events out.new) }
     {
         if self.inner.book.is_free(to) {
             self.inner.enter_down(to, msg, now, out);
@@ -204,13 +222,15 @@ impl<N: Node> Graph<N> {
         }
     }
 
-    /// A message enters an object from below, by a slot 1 to 3, if that is open and free; else it is dropped.
+    /// A message enters an object from below, by a slot 1 to 3, if that is open and free; else it
+    /// is dropped.
     pub fn up<O: Outside>(&mut self, to: Port, msg: &Msg<'_>, now: u64, out: &mut O) -> Reach
         requires { (1 ≤ to.slot) × (to.slot ≤ 3) }
         ensures dropped { (result ≡ reach.Dropped) ↔ (port self.old.book to.obj.0 to.slot ≢
             state.Open) }
         ensures went { WentOne N.stands (nature N.kind_of N.Load.first N.Load.second)
-            now (Offers to (said msg.now) ∷ []) self.old self.new (O.events out.old) (O.events out.new) }
+            now (Offers to (said msg.now) ∷ []) self.old self.new (O.events out.old)
+            (O.events out.new) }
     {
         let _length = (msg.first.len(), msg.second.len());
         if self.inner.book.is_free(to) {
@@ -222,7 +242,8 @@ impl<N: Node> Graph<N> {
         }
     }
 
-    /// Time has come to `now`, in milliseconds. Dropped where the object is dead, and then nothing happens.
+    /// Time has come to `now`, in milliseconds. Dropped where the object is dead, and then nothing
+    /// happens.
     pub fn time<O: Outside>(&mut self, id: ObjId, now: u64, out: &mut O) -> Reach
         ensures dropped { (result ≡ reach.Dropped) ↔ (live self.old.book id.0 ≡ false) }
         ensures went { WentOne N.stands (nature N.kind_of N.Load.first N.Load.second)
@@ -256,7 +277,8 @@ impl<N: Node> Graph<N> {
     /// Closes all ports by rising serial and slot, and lets all holds go. Nothing lives after it.
     pub fn shutdown<O: Outside>(&mut self, cause: &Cause, now: u64, out: &mut O)
         ensures went { WentOne N.stands (nature N.kind_of N.Load.first N.Load.second)
-            now (Ends 0 cause.now ∷ LetsAllGo ∷ []) self.old self.new (O.events out.old) (O.events out.new) }
+            now (Ends 0 cause.now ∷ LetsAllGo ∷ []) self.old self.new (O.events out.old)
+            (O.events out.new) }
         ensures none { length self.new.book.objects ≡ 0 }
         ensures order { EndsInOrder cause.now self.old.book self.new.book (O.events out.old)
             (O.events out.new) }

@@ -34,7 +34,8 @@ impl<N: Node> Inner<N> {
         requires lives { live self.old.book id.0 ≡ true }
         requires manned { IsManned N.rank_of self.old.book self.old.nodes.items
             (vec_capacity self.old.nodes) }
-        ensures settles { SettlesFor N.stands (nature N.kind_of N.Load.first N.Load.second) self.old.book
+        ensures settles { SettlesFor N.stands (nature N.kind_of N.Load.first N.Load.second)
+            self.old.book
             self.new.book self.old.nodes.items self.new.nodes.items (O.events out.old)
             (O.events out.new) id }
         ensures manned { IsManned N.rank_of self.new.book self.new.nodes.items
@@ -50,7 +51,8 @@ impl<N: Node> Inner<N> {
         requires manned { IsManned N.rank_of self.old.book self.old.nodes.items
             (vec_capacity self.old.nodes) }
         ensures told { Tells (O.events out.old) (O.events out.new) (Freed id ∷ []) }
-        ensures given { Given (O.events out.old) (O.events out.new) (notice.event (flat (Freed id)) ∷ []) }
+        ensures given { Given (O.events out.old) (O.events out.new) (notice.event (flat
+            (Freed id)) ∷ []) }
         ensures step { (st : List Frame) → Step (state_of self.old.book (MustFree id.0 ∷ st))
             (Freed id) (state_of self.new.book st) }
         ensures len { length self.new.book.objects + 1 ≡ length self.old.book.objects }
@@ -73,7 +75,8 @@ impl<N: Node> Inner<N> {
             (vec_capacity self.old.nodes) }
         ensures told { Tells (O.events out.old) (O.events out.new)
             (Made result (N.kind_of node) ∷ []) }
-        ensures given { Given (O.events out.old) (O.events out.new) (notice.event (flat (Made result (N.kind_of node))) ∷ []) }
+        ensures given { Given (O.events out.old) (O.events out.new) (notice.event (flat
+            (Made result (N.kind_of node))) ∷ []) }
         ensures serial { result.0 ≡ self.old.book.made + 1 }
         ensures fresh { live self.old.book result.0 ≡ false }
         ensures len { length self.new.book.objects ≡ length self.old.book.objects + 1 }
@@ -114,6 +117,7 @@ impl<N: Node> Inner<N> {
         ensures made { IsMade (record { book = self.old.book; nodes = self.old.nodes.items })
             (record { book = self.new.book; nodes = self.new.nodes.items }) node (N.rank_of node)
             result }
+        ensures ranks { KeepsRanks self.old.book self.new.book }
         ensures graph { IsGraph N.rank_of self.new.book self.new.nodes.items
             (vec_capacity self.new.nodes) }
     {
@@ -129,9 +133,12 @@ impl<N: Node> Inner<N> {
         requires graph { IsGraph N.rank_of self.old.book self.old.nodes.items
             (vec_capacity self.old.nodes) }
         ensures runs { RunFor N.stands (nature N.kind_of N.Load.first N.Load.second) self.old.book
-            self.new.book self.old.nodes.items self.new.nodes.items (λ st. Wants (event.LetGo id) ∷ st) here (O.events out.old)
+            self.new.book self.old.nodes.items self.new.nodes.items (λ st. Wants
+            (event.LetGo id) ∷ st) here (O.events out.old)
             (O.events out.new) }
-        ensures one { LetsOneGo id self.old.book self.new.book (O.events out.old) (O.events out.new) }
+        ensures one { LetsOneGo id self.old.book self.new.book (O.events out.old)
+            (O.events out.new) }
+        ensures ranks { KeepsRanks self.old.book self.new.book }
         ensures lets { LetsGo self.old.book self.new.book }
         ensures falls { holds self.new.book id.0 < holds self.old.book id.0 }
         ensures graph { IsGraph N.rank_of self.new.book self.new.nodes.items

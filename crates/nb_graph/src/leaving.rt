@@ -20,7 +20,8 @@ impl<N: Node> Inner<N> {
         requires lives { live self.old.book at.obj.0 ≡ true }
         requires steady { IsSteady N.rank_of self.old.book self.old.nodes.items
             (vec_capacity self.old.nodes) }
-        ensures ends { (by : TheWay) → (by ≡ Close → ⊥) → EndsFor N.stands (nature N.kind_of N.Load.first N.Load.second)
+        ensures ends { (by : TheWay) → (by ≡ Close → ⊥) → EndsFor N.stands
+            (nature N.kind_of N.Load.first N.Load.second)
             self.old.book self.new.book self.old.nodes.items self.new.nodes.items (O.events out.old)
             (O.events out.new) at.obj.0 was
             (λ st. Running at by ∷ st) (port self.old.book) (λ st. Holds at by None ∷ st) }

@@ -1,9 +1,9 @@
 // Counted objects joined by interfaces: each object has a node of its own, up to four ports and a
-// count of its holds, links and running entries, and is freed when the count falls to 0. Messages go
-// up and down by links, and a port may close in the middle of a delivery; specs/GraphRun.antt of
-// nb_ledger says in which order events then stand. What a call does is `Went` (specs/Went.antt): what
-// was asked for is used up, the top first, by the rows of specs/Follows.antt; proofs/Laws.antt has
-// them by cases. Begin with `Node`, then `Graph`.
+// count of its holds, links and running entries, and is freed when the count falls to 0. Messages
+// go up and down by links, and a port may close in the middle of a delivery; specs/GraphRun.antt of
+// nb_ledger says in which order events then stand. What a call does is `Went` (specs/Went.antt):
+// what was asked for is used up, the top first, by the rows of specs/Follows.antt; proofs/Laws.antt
+// has them by cases. Begin with `Node`, then `Graph`.
 #![tactic(auto)]
 
 mod asking;

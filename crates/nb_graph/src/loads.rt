@@ -21,10 +21,13 @@ impl<N: Node> Inner<N> {
         requires manned { IsManned N.rank_of self.old.book self.old.nodes.items
             (vec_capacity self.old.nodes) }
         ensures book { self.new.book ≡ self.old.book }
-        ensures lives { (now : ℕ) (u : Option (List Notice)) → Lives N.stands (nature N.kind_of N.Load.first N.Load.second) now (nodes_at self.old.book self.old.nodes.items u)
+        ensures lives { (now : ℕ) (u : Option (List Notice)) → Lives N.stands
+            (nature N.kind_of N.Load.first N.Load.second) now
+            (nodes_at self.old.book self.old.nodes.items u)
             (nodes_at self.new.book self.new.nodes.items u)
             (Back (busy self.old.book) id.0 (load ∷ [])) (λ st. Returns id.0 load ∷ st) here
-            (Calms (nature N.kind_of N.Load.first N.Load.second) self.old.book self.old.book Still) [] }
+            (Calms (nature N.kind_of N.Load.first N.Load.second) self.old.book self.old.book Still)
+            [] }
         ensures manned { IsManned N.rank_of self.new.book self.new.nodes.items
             (vec_capacity self.new.nodes) }
     {
@@ -38,9 +41,13 @@ impl<N: Node> Inner<N> {
         requires manned { IsManned N.rank_of self.old.book self.old.nodes.items
             (vec_capacity self.old.nodes) }
         ensures book { self.new.book ≡ self.old.book }
-        ensures lives { (now : ℕ) (u : Option (List Notice)) → Lives N.stands (nature N.kind_of N.Load.first N.Load.second) now (nodes_at self.old.book self.old.nodes.items u)
-            (nodes_at self.new.book self.new.nodes.items u) (Back (busy self.old.book) id.0 (lent fx))
-            (λ st. returns_of id.0 (lent fx) ++ st) here (Calms (nature N.kind_of N.Load.first N.Load.second) self.old.book self.old.book
+        ensures lives { (now : ℕ) (u : Option (List Notice)) → Lives N.stands
+            (nature N.kind_of N.Load.first N.Load.second) now
+            (nodes_at self.old.book self.old.nodes.items u)
+            (nodes_at self.new.book self.new.nodes.items u) (Back (busy self.old.book) id.0
+            (lent fx))
+            (λ st. returns_of id.0 (lent fx) ++ st) here (Calms
+            (nature N.kind_of N.Load.first N.Load.second) self.old.book self.old.book
             Still) [] }
         ensures manned { IsManned N.rank_of self.new.book self.new.nodes.items
             (vec_capacity self.new.nodes) }
@@ -61,10 +68,14 @@ impl<N: Node> Inner<N> {
         requires manned { IsManned N.rank_of self.old.book self.old.nodes.items
             (vec_capacity self.old.nodes) }
         ensures book { self.new.book ≡ self.old.book }
-        ensures lives { (now : ℕ) (u : Option (List Notice)) → Lives N.stands (nature N.kind_of N.Load.first N.Load.second) now (nodes_at self.old.book self.old.nodes.items u)
+        ensures lives { (now : ℕ) (u : Option (List Notice)) → Lives N.stands
+            (nature N.kind_of N.Load.first N.Load.second) now
+            (nodes_at self.old.book self.old.nodes.items u)
             (nodes_at self.new.book self.new.nodes.items u)
-            (Back (busy self.old.book) id.0 (loads few)) (λ st. returns_of id.0 (loads few) ++ st) here
-            (Calms (nature N.kind_of N.Load.first N.Load.second) self.old.book self.old.book Still) [] }
+            (Back (busy self.old.book) id.0 (loads few)) (λ st. returns_of id.0
+            (loads few) ++ st) here
+            (Calms (nature N.kind_of N.Load.first N.Load.second) self.old.book self.old.book Still)
+            [] }
         ensures manned { IsManned N.rank_of self.new.book self.new.nodes.items
             (vec_capacity self.new.nodes) }
     {
@@ -78,10 +89,14 @@ impl<N: Node> Inner<N> {
         requires manned { IsManned N.rank_of self.old.book self.old.nodes.items
             (vec_capacity self.old.nodes) }
         ensures book { self.new.book ≡ self.old.book }
-        ensures lives { (now : ℕ) (u : Option (List Notice)) → Lives N.stands (nature N.kind_of N.Load.first N.Load.second) now (nodes_at self.old.book self.old.nodes.items u)
+        ensures lives { (now : ℕ) (u : Option (List Notice)) → Lives N.stands
+            (nature N.kind_of N.Load.first N.Load.second) now
+            (nodes_at self.old.book self.old.nodes.items u)
             (nodes_at self.new.book self.new.nodes.items u)
-            (Back (busy self.old.book) id.0 (carried emit)) (λ st. returns_of id.0 (carried emit) ++ st) here
-            (Calms (nature N.kind_of N.Load.first N.Load.second) self.old.book self.old.book Still) [] }
+            (Back (busy self.old.book) id.0 (carried emit)) (λ st. returns_of id.0
+            (carried emit) ++ st) here
+            (Calms (nature N.kind_of N.Load.first N.Load.second) self.old.book self.old.book Still)
+            [] }
         ensures manned { IsManned N.rank_of self.new.book self.new.nodes.items
             (vec_capacity self.new.nodes) }
     {
@@ -96,10 +111,14 @@ impl<N: Node> Inner<N> {
         requires manned { IsManned N.rank_of self.old.book self.old.nodes.items
             (vec_capacity self.old.nodes) }
         ensures book { self.new.book ≡ self.old.book }
-        ensures lives { (now : ℕ) (u : Option (List Notice)) → Lives N.stands (nature N.kind_of N.Load.first N.Load.second) now (nodes_at self.old.book self.old.nodes.items u)
+        ensures lives { (now : ℕ) (u : Option (List Notice)) → Lives N.stands
+            (nature N.kind_of N.Load.first N.Load.second) now
+            (nodes_at self.old.book self.old.nodes.items u)
             (nodes_at self.new.book self.new.nodes.items u)
-            (Back (busy self.old.book) id.0 (in_list emit.load)) (λ st. returns_of id.0 (in_list emit.load) ++ st) here
-            (Calms (nature N.kind_of N.Load.first N.Load.second) self.old.book self.old.book Still) [] }
+            (Back (busy self.old.book) id.0 (in_list emit.load)) (λ st. returns_of id.0
+            (in_list emit.load) ++ st) here
+            (Calms (nature N.kind_of N.Load.first N.Load.second) self.old.book self.old.book Still)
+            [] }
         ensures manned { IsManned N.rank_of self.new.book self.new.nodes.items
             (vec_capacity self.new.nodes) }
     {
@@ -120,10 +139,14 @@ impl<N: Node> Inner<N> {
         requires manned { IsManned N.rank_of self.old.book self.old.nodes.items
             (vec_capacity self.old.nodes) }
         ensures book { self.new.book ≡ self.old.book }
-        ensures lives { (now : ℕ) (u : Option (List Notice)) → Lives N.stands (nature N.kind_of N.Load.first N.Load.second) now (nodes_at self.old.book self.old.nodes.items u)
+        ensures lives { (now : ℕ) (u : Option (List Notice)) → Lives N.stands
+            (nature N.kind_of N.Load.first N.Load.second) now
+            (nodes_at self.old.book self.old.nodes.items u)
             (nodes_at self.new.book self.new.nodes.items u)
-            (Back (busy self.old.book) id.0 (in_list load)) (λ st. returns_of id.0 (in_list load) ++ st) here
-            (Calms (nature N.kind_of N.Load.first N.Load.second) self.old.book self.old.book Still) [] }
+            (Back (busy self.old.book) id.0 (in_list load)) (λ st. returns_of id.0
+            (in_list load) ++ st) here
+            (Calms (nature N.kind_of N.Load.first N.Load.second) self.old.book self.old.book Still)
+            [] }
         ensures manned { IsManned N.rank_of self.new.book self.new.nodes.items
             (vec_capacity self.new.nodes) }
     {

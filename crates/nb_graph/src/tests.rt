@@ -32,10 +32,10 @@ fn holds_and_links(rt: HostRuntime) -> Result<(), Fail> {
     Ok(())
 }
 
-/// The events of a shutdown of three objects in a chain, by number, object and slot. Object 1: slot 0;
-/// slot 1 with slot 0 of object 2, which is entered; slots 2 and 3. Object 2, whose slot 2 was closed:
-/// slot 1 with slot 0 of object 3, which is entered; slot 3. Object 3: slots 1 to 3. Then the holds, two
-/// of object 1: LetGo, LetGo, Freed, LetGo, Freed, LetGo, Freed.
+/// The events of a shutdown of three objects in a chain, by number, object and slot. Object 1: slot
+/// 0; slot 1 with slot 0 of object 2, which is entered; slots 2 and 3. Object 2, whose slot 2 was
+/// closed: slot 1 with slot 0 of object 3, which is entered; slot 3. Object 3: slots 1 to 3. Then
+/// the holds, two of object 1: LetGo, LetGo, Freed, LetGo, Freed, LetGo, Freed.
 const SHUT_DOWN: [(u8, u64, u8); 24] = [
     (8, 1, 0),
     (8, 1, 1),
@@ -63,8 +63,8 @@ const SHUT_DOWN: [(u8, u64, u8); 24] = [
     (10, 3, 0),
 ];
 
-/// A shutdown closes the open ports by rising serial and slot, each with its peer, and then lets all
-/// holds go.
+/// A shutdown closes the open ports by rising serial and slot, each with its peer, and then lets
+/// all holds go.
 #[test]
 fn shut_down_in_order(rt: HostRuntime) -> Result<(), Fail> {
     let mut tape = Tape {
@@ -83,7 +83,8 @@ fn shut_down_in_order(rt: HostRuntime) -> Result<(), Fail> {
     Ok(())
 }
 
-/// The upper object closes the lower one's port inside the delivery, and is freed as its entry ends.
+/// The upper object closes the lower one's port inside the delivery, and is freed as its entry
+/// ends.
 #[test]
 fn closed_inside_a_delivery(rt: HostRuntime) -> Result<(), Fail> {
     let mut tape = Tape {
@@ -96,7 +97,8 @@ fn closed_inside_a_delivery(rt: HostRuntime) -> Result<(), Fail> {
         graph.up(port(ObjId(2), 1), &bytes(b"abc"), 0, &mut tape),
         Reach::Entered
     );
-    // Entered below, Entered above, both ports Closed, Entered by close, Left, Unplugged, Left, Freed, Left.
+    // Entered below, Entered above, both ports Closed, Entered by close, Left, Unplugged, Left,
+    // Freed, Left.
     happened(
         &rt,
         &tape,
@@ -172,7 +174,8 @@ fn lent_and_dropped(rt: HostRuntime) -> Result<(), Fail> {
     Ok(())
 }
 
-/// A make closes the maker's ports where the graph is full, and is dropped where its slot is closed.
+/// A make closes the maker's ports where the graph is full, and is dropped where its slot is
+/// closed.
 #[test]
 fn makes_that_are_not_run(rt: HostRuntime) -> Result<(), Fail> {
     let mut tape = Tape {
@@ -236,7 +239,8 @@ fn one_byte_at_a_time(rt: HostRuntime) -> Result<(), Fail> {
     Ok(())
 }
 
-/// A long message is taken in many parts, in the stack of one: 48 bytes at a time, and one at a time.
+/// A long message is taken in many parts, in the stack of one: 48 bytes at a time, and one at a
+/// time.
 #[test]
 fn long_message_in_parts(rt: HostRuntime) -> Result<(), Fail> {
     let mut tape = Tape {
@@ -299,8 +303,8 @@ fn passed_up_and_closed_below(rt: HostRuntime) -> Result<(), Fail> {
         graph.up(port(ObjId(3), 1), &bytes(b"abc"), 0, &mut tape),
         Reach::Entered
     );
-    // Entered at the lowest, the middle and the highest; Left by the highest; the middle's port and its
-    // peer Closed; Entered by close, Left, Unplugged; Left by the middle and the lowest.
+    // Entered at the lowest, the middle and the highest; Left by the highest; the middle's port and
+    // its peer Closed; Entered by close, Left, Unplugged; Left by the middle and the lowest.
     happened(
         &rt,
         &tape,

@@ -28,7 +28,8 @@ impl<N: Node> Inner<N> {
             (vec_capacity self.old.nodes) }
         ensures lives { (k : LivelyFor N.stands (nature N.kind_of N.Load.first N.Load.second) now
             self.old.book self.new.book self.old.nodes.items self.new.nodes.items
-            (Same (busy self.old.book)) none_due (Keeping self.old.book) (λ st. Ticks id.0 ∷ st) (O.events out.old)
+            (Same (busy self.old.book)) none_due (Keeping self.old.book) (λ st. Ticks id.0 ∷ st)
+            (O.events out.old)
             (O.events out.new))
             × Hands (Entered (port_at id.0 4) way.Time) id.0 (λ done fx. time now done fx)
             k.lives.deeds }
@@ -53,9 +54,12 @@ impl<N: Node> Inner<N> {
         ensures lives { LivelyInFor N.stands (nature N.kind_of N.Load.first N.Load.second) now id.0
             self.old.book self.new.book self.old.nodes.items self.new.nodes.items
             (Back (busy self.old.book) id.0 (asked_loads asked))
-            (HasAsked id.0 (asked_sent (nature N.kind_of N.Load.first N.Load.second) [] asked)) none_due
-            (Doing self.old.book id.0 (asked_sent (nature N.kind_of N.Load.first N.Load.second) [] asked))
-            (λ st. asked_runs (nature N.kind_of N.Load.first N.Load.second) id.0 silence asked ++ st) here (O.events out.old) (O.events out.new) }
+            (HasAsked id.0 (asked_sent (nature N.kind_of N.Load.first N.Load.second) [] asked))
+            none_due
+            (Doing self.old.book id.0 (asked_sent (nature N.kind_of N.Load.first N.Load.second) []
+            asked))
+            (λ st. asked_runs (nature N.kind_of N.Load.first N.Load.second) id.0 silence asked ++
+            st) here (O.events out.old) (O.events out.new) }
         ensures steady { IsSteady N.rank_of self.new.book self.new.nodes.items
             (vec_capacity self.new.nodes) }
     {

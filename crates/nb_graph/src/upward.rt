@@ -1,5 +1,6 @@
 // A message goes up: objects may be made.
-ghost use Rattle.std.specs.Prelude.{◌≡◌, ◌+◌, ◌<◌, ◌≤◌, ◌++◌, ◌∷◌, ℕ, true, length, IfSome, Some, ◌^◌, ◌-◌};
+ghost use Rattle.std.specs.Prelude.{◌≡◌, ◌+◌, ◌<◌, ◌≤◌, ◌++◌, ◌∷◌, ℕ, true, length, IfSome, Some};
+ghost use Rattle.std.specs.Prelude.{◌^◌, ◌-◌};
 ghost use Rattle.std.specs.Vec.{vec_capacity};
 ghost use Rattle.nb_ledger.specs.GraphRun.{IsOpen};
 ghost use Rattle.nb_ledger.specs.Ledger.{busy, port, open_count, rank};
@@ -119,7 +120,8 @@ impl<N: Node> Inner<N> {
         requires steady { IsSteady N.rank_of self.old.book self.old.nodes.items
             (vec_capacity self.old.nodes) }
         ensures goes { GoesOn N.stands (nature N.kind_of N.Load.first N.Load.second) now at
-            (said msg.now) asked self.old.book self.new.book self.old.nodes.items self.new.nodes.items
+            (said msg.now) asked self.old.book self.new.book self.old.nodes.items
+            self.new.nodes.items
             (O.events out.old) (O.events out.new) result }
         ensures less { IfSome result (λ r. length r.first.now + length r.second.now
             < length msg.now.first.now + length msg.now.second.now) }
@@ -152,7 +154,8 @@ impl<N: Node> Inner<N> {
         requires took { took ≤ length msg.now.first.now + length msg.now.second.now }
         requires some { took ≡ 0 → 0 < length msg.now.first.now + length msg.now.second.now →
             open_count (port self.old.book at.obj.0 at.slot) ≡ 0 }
-        ensures goes { (now : ℕ) → LeftOn N.stands (nature N.kind_of N.Load.first N.Load.second) now at
+        ensures goes { (now : ℕ) → LeftOn N.stands (nature N.kind_of N.Load.first N.Load.second)
+            now at
             took (said msg.now) self.old.book self.new.book self.old.nodes.items
             self.new.nodes.items (O.events out.old) (O.events out.new) result }
         ensures same { (self.new.book ≡ self.old.book) × (self.new.nodes ≡ self.old.nodes) }
@@ -191,8 +194,11 @@ impl<N: Node> Inner<N> {
             self.old.book self.new.book self.old.nodes.items self.new.nodes.items
             (Back (busy self.old.book) id.0 (lent fx)) (HasAsked id.0
             (λ k. fx_bytes (nature N.kind_of N.Load.first N.Load.second) k (said msg.now).bytes fx))
-            none_due (Doing self.old.book id.0 (λ k. fx_bytes (nature N.kind_of N.Load.first N.Load.second)
-            k (said msg.now).bytes fx)) (λ st. runs_of (nature N.kind_of N.Load.first N.Load.second) id.0 (said msg.now) true fx ++ st) here (O.events out.old) (O.events out.new) }
+            none_due (Doing self.old.book id.0 (λ k. fx_bytes
+            (nature N.kind_of N.Load.first N.Load.second)
+            k (said msg.now).bytes fx)) (λ st. runs_of (nature N.kind_of N.Load.first
+            N.Load.second) id.0 (said msg.now) true fx ++ st) here (O.events out.old)
+            (O.events out.new) }
         ensures shut { (k : ℕ) → ClosesSlot k fx.closes.items → open_count
             (port self.new.book id.0 k) ≡ 0 }
         ensures steady { IsSteady N.rank_of self.new.book self.new.nodes.items
@@ -225,11 +231,14 @@ impl<N: Node> Inner<N> {
         requires below { IsBelow (rank self.old.book id.0) self.old.book }
         requires steady { IsSteady N.rank_of self.old.book self.old.nodes.items
             (vec_capacity self.old.nodes) }
-        ensures lives { LivelyFor N.stands (nature N.kind_of N.Load.first N.Load.second) now self.old.book
+        ensures lives { LivelyFor N.stands (nature N.kind_of N.Load.first N.Load.second) now
+            self.old.book
             self.new.book self.old.nodes.items self.new.nodes.items
             (Back (busy self.old.book) id.0 (loads ups)) none_due
-            (Leaves self.old.book (port_at id.0 0) (few_bytes (nature N.kind_of N.Load.first N.Load.second)
-            0 (said msg.now).bytes ups)) (λ st. few_of (nature N.kind_of N.Load.first N.Load.second) id.0 (said msg.now) ups ++ st) (O.events out.old) (O.events out.new) }
+            (Leaves self.old.book (port_at id.0 0) (few_bytes
+            (nature N.kind_of N.Load.first N.Load.second)
+            0 (said msg.now).bytes ups)) (λ st. few_of (nature N.kind_of N.Load.first
+            N.Load.second) id.0 (said msg.now) ups ++ st) (O.events out.old) (O.events out.new) }
         ensures steady { IsSteady N.rank_of self.new.book self.new.nodes.items
             (vec_capacity self.new.nodes) }
     {
@@ -252,11 +261,14 @@ impl<N: Node> Inner<N> {
         requires below { IsBelow (rank self.old.book id.0) self.old.book }
         requires steady { IsSteady N.rank_of self.old.book self.old.nodes.items
             (vec_capacity self.old.nodes) }
-        ensures lives { LivelyFor N.stands (nature N.kind_of N.Load.first N.Load.second) now self.old.book
+        ensures lives { LivelyFor N.stands (nature N.kind_of N.Load.first N.Load.second) now
+            self.old.book
             self.new.book self.old.nodes.items self.new.nodes.items
             (Back (busy self.old.book) id.0 (carried emit)) none_due
-            (Leaves self.old.book (port_at id.0 0) (emit_bytes (nature N.kind_of N.Load.first N.Load.second)
-            0 (said msg.now).bytes emit)) (λ st. emit_of (nature N.kind_of N.Load.first N.Load.second) id.0 (said msg.now) emit ++ st) (O.events out.old) (O.events out.new) }
+            (Leaves self.old.book (port_at id.0 0) (emit_bytes
+            (nature N.kind_of N.Load.first N.Load.second)
+            0 (said msg.now).bytes emit)) (λ st. emit_of (nature N.kind_of N.Load.first
+            N.Load.second) id.0 (said msg.now) emit ++ st) (O.events out.old) (O.events out.new) }
         ensures steady { IsSteady N.rank_of self.new.book self.new.nodes.items
             (vec_capacity self.new.nodes) }
     {
@@ -280,11 +292,15 @@ impl<N: Node> Inner<N> {
         requires below { IsBelow (rank self.old.book id.0) self.old.book }
         requires steady { IsSteady N.rank_of self.old.book self.old.nodes.items
             (vec_capacity self.old.nodes) }
-        ensures lives { LivelyFor N.stands (nature N.kind_of N.Load.first N.Load.second) now self.old.book
+        ensures lives { LivelyFor N.stands (nature N.kind_of N.Load.first N.Load.second) now
+            self.old.book
             self.new.book self.old.nodes.items self.new.nodes.items
             (Back (busy self.old.book) id.0 (in_list emit.load)) none_due
-            (Leaves self.old.book (port_at id.0 0) (carries (nature N.kind_of N.Load.first N.Load.second)
-            (said msg.now).bytes emit.from emit.to emit.load)) (λ st. emit_of (nature N.kind_of N.Load.first N.Load.second) id.0 (said msg.now) (Some emit) ++ st) (O.events out.old) (O.events out.new) }
+            (Leaves self.old.book (port_at id.0 0) (carries (nature N.kind_of N.Load.first
+            N.Load.second)
+            (said msg.now).bytes emit.from emit.to emit.load)) (λ st. emit_of
+            (nature N.kind_of N.Load.first N.Load.second) id.0 (said msg.now) (Some emit) ++ st)
+            (O.events out.old) (O.events out.new) }
         ensures steady { IsSteady N.rank_of self.new.book self.new.nodes.items
             (vec_capacity self.new.nodes) }
     {
@@ -335,9 +351,11 @@ impl<N: Node> Inner<N> {
         requires below { IsBelow (rank self.old.book at.obj.0) self.old.book }
         requires steady { IsSteady N.rank_of self.old.book self.old.nodes.items
             (vec_capacity self.old.nodes) }
-        ensures lives { LivelyFor N.stands (nature N.kind_of N.Load.first N.Load.second) now self.old.book
+        ensures lives { LivelyFor N.stands (nature N.kind_of N.Load.first N.Load.second) now
+            self.old.book
             self.new.book self.old.nodes.items self.new.nodes.items (Same (busy self.old.book))
-            none_due (Leaves self.old.book at (said msg.now).bytes) (λ st. Sends at (said msg.now) ∷ st) (O.events out.old)
+            none_due (Leaves self.old.book at (said msg.now).bytes) (λ st. Sends at
+            (said msg.now) ∷ st) (O.events out.old)
             (O.events out.new) }
         ensures steady { IsSteady N.rank_of self.new.book self.new.nodes.items
             (vec_capacity self.new.nodes) }

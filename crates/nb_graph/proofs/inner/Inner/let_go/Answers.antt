@@ -33,6 +33,9 @@ returns-clause-graph g c =
     let old = c.requires.graph in
     IsGraph-settle c.settle.ensures.settles.settles (IsLinked-holds s old.whole.links) (CountedBut-holds s (but-counted _ c.args.id.0 old.whole.counted)) (IsQuiet-holds s old.quiet) (λ y. rw (s.objects.same_rank y) (old.whole.small y)) c.settle.ensures.manned (omega (arith, s.objects.same_room, old.small))
 
+pub returns-clause-ranks : goal.returns-clause-ranks
+returns-clause-ranks g c = KeepsRanks-settle c.let_go.ensures.sets.objects c.settle.ensures.settles.settles
+
 pub settle-requires-clause-manned : goal.settle-requires-clause-manned
 settle-requires-clause-manned g c = IsManned-same c.let_go.ensures.sets.objects c.requires.graph.manned
 
