@@ -1,28 +1,26 @@
-// Messages that go up, and time: objects may be made.
-ghost use Rattle.std.specs.Prelude.{◌≡◌, ◌+◌, ◌<◌, ◌≤◌, ◌^◌, ℕ, true, false, length, IfSome, IfNone, ◌⊎◌, Some, None, [], ◌∷◌, ◌++◌, drop};
+// A message goes up: objects may be made.
+ghost use Rattle.std.specs.Prelude.{◌≡◌, ◌+◌, ◌<◌, ◌≤◌, ◌++◌, ◌∷◌, ℕ, true, length, IfSome, Some};
+ghost use Rattle.std.specs.Prelude.{◌^◌, ◌-◌};
 ghost use Rattle.std.specs.Vec.{vec_capacity};
+ghost use Rattle.nb_ledger.specs.GraphRun.{IsOpen};
+ghost use Rattle.nb_ledger.specs.Ledger.{busy, port, open_count, rank};
+ghost use Rattle.nb_graph.specs.Whole.{port_at};
+ghost use Rattle.nb_graph.specs.Accounts.{few_bytes, emit_bytes, fx_bytes};
+ghost use Rattle.nb_graph.specs.Calm.{IsSteady, Starts};
+ghost use Rattle.nb_graph.specs.Trace.{carried, in_list, lent, loads, said, nature, carries, up};
+ghost use Rattle.nb_graph.specs.Deeds.{Hands, Gives, Sends, emit_of, few_of, runs_of};
+ghost use Rattle.nb_graph.specs.Lives.{Back, Same, here, IsBelow, IsUnder, LivelyFor, LivelyInFor};
 ghost use Rattle.nb_ledger.specs.declared.event.GraphEvent.TheVariants.{Entered};
 ghost use Rattle.nb_ledger.specs.declared.event.Way.TheVariants as way;
-ghost use Rattle.nb_ledger.specs.GraphRun.{IsOpen};
-ghost use Rattle.nb_ledger.specs.Ledger.{live, busy, rank, port, open_count};
-ghost use Rattle.nb_graph.specs.Accounts.{emit_bytes, few_bytes, fx_bytes};
-ghost use Rattle.nb_graph.specs.Flows.{Delivering, Doing, Keeping, Leaves, Rising, asked_behind, asked_sent, nothing};
-ghost use Rattle.nb_graph.specs.Moves.{HasAsked, always, none_due};
-ghost use Rattle.nb_graph.specs.Calm.{IsSteady, Starts};
-ghost use Rattle.nb_graph.specs.Whole.{Harvests, IsManned, port_at};
-ghost use Rattle.nb_graph.specs.Trace.{carried, in_list, left, lent, loads, said, said_behind, silence, up, time, bytes_of, carries};
-ghost use Rattle.nb_graph.specs.Deeds.{Calls, Hands, Gives, Holds, Sends, Ticks, emit_of, few_of, runs_of};
+ghost use Rattle.nb_graph.specs.Effects.{ClosesSlot, MayAsk, MayAskUp, AreUps, IsUp};
+ghost use Rattle.nb_graph.specs.Flows.{Doing, Leaves, Rising};
+ghost use Rattle.nb_graph.specs.Moves.{HasAsked, none_due};
 ghost use Rattle.nb_graph.specs.Again.{Delivered, Gives as GivesAll, GoesOn, LeftOn};
 ghost use Rattle.nb_graph.specs.Lively.{Grows};
-ghost use Rattle.nb_ledger.specs.Flat.{Tells};
-ghost use Rattle.nb_ledger.specs.declared.event.GraphEvent.TheVariants.{Dropped};
-ghost use Rattle.nb_graph.specs.Lives.{AllBack, Back, IsBelow, IsUnder, LivelyFor, LivelyInFor, Same, here};
-ghost use Rattle.nb_graph.specs.Lived.{KeepsTraces};
-ghost use Rattle.nb_graph.specs.Effects.{MayAsk, MayAskTime, MayAskUp, asked_loads, asked_rest, asked_runs, AreUps, ClosesSlot, IsUp};
 
-use crate::calm::NOTHING;
+use crate::asking::Asked;
 use crate::inner::Inner;
-use crate::steps::{Asked, behind, cut};
+use crate::message::{behind, cut};
 use crate::{Emit, Few, Fx, Node, Parts};
 use nb_ledger::{GraphEvent, Msg, ObjId, Outside, Port, PortState, Way};
 
@@ -36,7 +34,7 @@ impl<N: Node> Inner<N> {
         requires under { IsUnder (rank self.old.book at.obj.0) self.old.book }
         requires steady { IsSteady N.rank_of self.old.book self.old.nodes.items
             (vec_capacity self.old.nodes) }
-        ensures lives { (k : LivelyFor N.stands (bytes_of N.Load.first N.Load.second) now
+        ensures lives { (k : LivelyFor N.stands (nature N.kind_of N.Load.first N.Load.second) now
             self.old.book self.new.book self.old.nodes.items self.new.nodes.items
             (Same (busy self.old.book)) none_due (Rising self.old.book at (said msg.now).bytes)
             (λ st. Gives at (said msg.now) ∷ st) (O.events out.old) (O.events out.new))
@@ -62,7 +60,7 @@ impl<N: Node> Inner<N> {
         requires below { IsBelow (rank self.old.book at.obj.0) self.old.book }
         requires steady { IsSteady N.rank_of self.old.book self.old.nodes.items
             (vec_capacity self.old.nodes) }
-        ensures lives { Delivered N.stands (bytes_of N.Load.first N.Load.second) now at
+        ensures lives { Delivered N.stands (nature N.kind_of N.Load.first N.Load.second) now at
             (said msg.now) self.old.book self.new.book self.old.nodes.items self.new.nodes.items
             (O.events out.old) (O.events out.new) }
         ensures steady { IsSteady N.rank_of self.new.book self.new.nodes.items
@@ -90,7 +88,7 @@ impl<N: Node> Inner<N> {
         requires below { IsBelow (rank self.old.book at.obj.0) self.old.book }
         requires steady { IsSteady N.rank_of self.old.book self.old.nodes.items
             (vec_capacity self.old.nodes) }
-        ensures gives { GivesAll N.stands (bytes_of N.Load.first N.Load.second) now at
+        ensures gives { GivesAll N.stands (nature N.kind_of N.Load.first N.Load.second) now at
             (said msg.now) self.old.book self.new.book self.old.nodes.items self.new.nodes.items
             (O.events out.old) (O.events out.new) result }
         ensures less { IfSome result (λ r. length r.first.now + length r.second.now
@@ -121,8 +119,9 @@ impl<N: Node> Inner<N> {
         requires below { IsBelow (rank self.old.book at.obj.0) self.old.book }
         requires steady { IsSteady N.rank_of self.old.book self.old.nodes.items
             (vec_capacity self.old.nodes) }
-        ensures goes { GoesOn N.stands (bytes_of N.Load.first N.Load.second) now at
-            (said msg.now) asked self.old.book self.new.book self.old.nodes.items self.new.nodes.items
+        ensures goes { GoesOn N.stands (nature N.kind_of N.Load.first N.Load.second) now at
+            (said msg.now) asked self.old.book self.new.book self.old.nodes.items
+            self.new.nodes.items
             (O.events out.old) (O.events out.new) result }
         ensures less { IfSome result (λ r. length r.first.now + length r.second.now
             < length msg.now.first.now + length msg.now.second.now) }
@@ -155,7 +154,8 @@ impl<N: Node> Inner<N> {
         requires took { took ≤ length msg.now.first.now + length msg.now.second.now }
         requires some { took ≡ 0 → 0 < length msg.now.first.now + length msg.now.second.now →
             open_count (port self.old.book at.obj.0 at.slot) ≡ 0 }
-        ensures goes { (now : ℕ) → LeftOn N.stands (bytes_of N.Load.first N.Load.second) now at
+        ensures goes { (now : ℕ) → LeftOn N.stands (nature N.kind_of N.Load.first N.Load.second)
+            now at
             took (said msg.now) self.old.book self.new.book self.old.nodes.items
             self.new.nodes.items (O.events out.old) (O.events out.new) result }
         ensures same { (self.new.book ≡ self.old.book) × (self.new.nodes ≡ self.old.nodes) }
@@ -190,12 +190,15 @@ impl<N: Node> Inner<N> {
         requires below { IsBelow (rank self.old.book id.0) self.old.book }
         requires steady { IsSteady N.rank_of self.old.book self.old.nodes.items
             (vec_capacity self.old.nodes) }
-        ensures lives { LivelyInFor N.stands (bytes_of N.Load.first N.Load.second) now id.0
+        ensures lives { LivelyInFor N.stands (nature N.kind_of N.Load.first N.Load.second) now id.0
             self.old.book self.new.book self.old.nodes.items self.new.nodes.items
             (Back (busy self.old.book) id.0 (lent fx)) (HasAsked id.0
-            (λ k. fx_bytes (bytes_of N.Load.first N.Load.second) k (said msg.now).bytes fx))
-            none_due (Doing self.old.book id.0 (λ k. fx_bytes (bytes_of N.Load.first N.Load.second)
-            k (said msg.now).bytes fx)) (λ st. runs_of (bytes_of N.Load.first N.Load.second) id.0 (said msg.now) true fx ++ st) here (O.events out.old) (O.events out.new) }
+            (λ k. fx_bytes (nature N.kind_of N.Load.first N.Load.second) k (said msg.now).bytes fx))
+            none_due (Doing self.old.book id.0 (λ k. fx_bytes
+            (nature N.kind_of N.Load.first N.Load.second)
+            k (said msg.now).bytes fx)) (λ st. runs_of (nature N.kind_of N.Load.first
+            N.Load.second) id.0 (said msg.now) true fx ++ st) here (O.events out.old)
+            (O.events out.new) }
         ensures shut { (k : ℕ) → ClosesSlot k fx.closes.items → open_count
             (port self.new.book id.0 k) ≡ 0 }
         ensures steady { IsSteady N.rank_of self.new.book self.new.nodes.items
@@ -228,11 +231,14 @@ impl<N: Node> Inner<N> {
         requires below { IsBelow (rank self.old.book id.0) self.old.book }
         requires steady { IsSteady N.rank_of self.old.book self.old.nodes.items
             (vec_capacity self.old.nodes) }
-        ensures lives { LivelyFor N.stands (bytes_of N.Load.first N.Load.second) now self.old.book
+        ensures lives { LivelyFor N.stands (nature N.kind_of N.Load.first N.Load.second) now
+            self.old.book
             self.new.book self.old.nodes.items self.new.nodes.items
             (Back (busy self.old.book) id.0 (loads ups)) none_due
-            (Leaves self.old.book (port_at id.0 0) (few_bytes (bytes_of N.Load.first N.Load.second)
-            0 (said msg.now).bytes ups)) (λ st. few_of (bytes_of N.Load.first N.Load.second) id.0 (said msg.now) ups ++ st) (O.events out.old) (O.events out.new) }
+            (Leaves self.old.book (port_at id.0 0) (few_bytes
+            (nature N.kind_of N.Load.first N.Load.second)
+            0 (said msg.now).bytes ups)) (λ st. few_of (nature N.kind_of N.Load.first
+            N.Load.second) id.0 (said msg.now) ups ++ st) (O.events out.old) (O.events out.new) }
         ensures steady { IsSteady N.rank_of self.new.book self.new.nodes.items
             (vec_capacity self.new.nodes) }
     {
@@ -255,11 +261,14 @@ impl<N: Node> Inner<N> {
         requires below { IsBelow (rank self.old.book id.0) self.old.book }
         requires steady { IsSteady N.rank_of self.old.book self.old.nodes.items
             (vec_capacity self.old.nodes) }
-        ensures lives { LivelyFor N.stands (bytes_of N.Load.first N.Load.second) now self.old.book
+        ensures lives { LivelyFor N.stands (nature N.kind_of N.Load.first N.Load.second) now
+            self.old.book
             self.new.book self.old.nodes.items self.new.nodes.items
             (Back (busy self.old.book) id.0 (carried emit)) none_due
-            (Leaves self.old.book (port_at id.0 0) (emit_bytes (bytes_of N.Load.first N.Load.second)
-            0 (said msg.now).bytes emit)) (λ st. emit_of (bytes_of N.Load.first N.Load.second) id.0 (said msg.now) emit ++ st) (O.events out.old) (O.events out.new) }
+            (Leaves self.old.book (port_at id.0 0) (emit_bytes
+            (nature N.kind_of N.Load.first N.Load.second)
+            0 (said msg.now).bytes emit)) (λ st. emit_of (nature N.kind_of N.Load.first
+            N.Load.second) id.0 (said msg.now) emit ++ st) (O.events out.old) (O.events out.new) }
         ensures steady { IsSteady N.rank_of self.new.book self.new.nodes.items
             (vec_capacity self.new.nodes) }
     {
@@ -283,11 +292,15 @@ impl<N: Node> Inner<N> {
         requires below { IsBelow (rank self.old.book id.0) self.old.book }
         requires steady { IsSteady N.rank_of self.old.book self.old.nodes.items
             (vec_capacity self.old.nodes) }
-        ensures lives { LivelyFor N.stands (bytes_of N.Load.first N.Load.second) now self.old.book
+        ensures lives { LivelyFor N.stands (nature N.kind_of N.Load.first N.Load.second) now
+            self.old.book
             self.new.book self.old.nodes.items self.new.nodes.items
             (Back (busy self.old.book) id.0 (in_list emit.load)) none_due
-            (Leaves self.old.book (port_at id.0 0) (carries (bytes_of N.Load.first N.Load.second)
-            (said msg.now).bytes emit.from emit.to emit.load)) (λ st. emit_of (bytes_of N.Load.first N.Load.second) id.0 (said msg.now) (Some emit) ++ st) (O.events out.old) (O.events out.new) }
+            (Leaves self.old.book (port_at id.0 0) (carries (nature N.kind_of N.Load.first
+            N.Load.second)
+            (said msg.now).bytes emit.from emit.to emit.load)) (λ st. emit_of
+            (nature N.kind_of N.Load.first N.Load.second) id.0 (said msg.now) (Some emit) ++ st)
+            (O.events out.old) (O.events out.new) }
         ensures steady { IsSteady N.rank_of self.new.book self.new.nodes.items
             (vec_capacity self.new.nodes) }
     {
@@ -338,9 +351,11 @@ impl<N: Node> Inner<N> {
         requires below { IsBelow (rank self.old.book at.obj.0) self.old.book }
         requires steady { IsSteady N.rank_of self.old.book self.old.nodes.items
             (vec_capacity self.old.nodes) }
-        ensures lives { LivelyFor N.stands (bytes_of N.Load.first N.Load.second) now self.old.book
+        ensures lives { LivelyFor N.stands (nature N.kind_of N.Load.first N.Load.second) now
+            self.old.book
             self.new.book self.old.nodes.items self.new.nodes.items (Same (busy self.old.book))
-            none_due (Leaves self.old.book at (said msg.now).bytes) (λ st. Sends at (said msg.now) ∷ st) (O.events out.old)
+            none_due (Leaves self.old.book at (said msg.now).bytes) (λ st. Sends at
+            (said msg.now) ∷ st) (O.events out.old)
             (O.events out.new) }
         ensures steady { IsSteady N.rank_of self.new.book self.new.nodes.items
             (vec_capacity self.new.nodes) }
@@ -352,75 +367,5 @@ impl<N: Node> Inner<N> {
             PortState::Leaving(_) => out.event(&GraphEvent::Dropped(at).spelled()),
             PortState::Closed => out.event(&GraphEvent::Dropped(at).spelled()),
         }
-    }
-
-    /// Time enters a live object.
-    pub(crate) fn enter_time<O: Outside>(&mut self, id: ObjId, now: u64, out: &mut O)
-        requires lives { live self.old.book id.0 ≡ true }
-        requires idle { (x : ℕ) → busy self.old.book x ≡ false }
-        requires steady { IsSteady N.rank_of self.old.book self.old.nodes.items
-            (vec_capacity self.old.nodes) }
-        ensures lives { (k : LivelyFor N.stands (bytes_of N.Load.first N.Load.second) now
-            self.old.book self.new.book self.old.nodes.items self.new.nodes.items
-            (Same (busy self.old.book)) none_due (Keeping self.old.book) (λ st. Ticks id.0 ∷ st) (O.events out.old)
-            (O.events out.new))
-            × Hands (Entered (port_at id.0 4) way.Time) id.0 (λ done fx. time now done fx)
-            k.lives.deeds }
-        ensures starts { Starts self.old.book self.new.book (O.events out.old) (O.events out.new)
-            (Entered (port_at id.0 4) way.Time) }
-        ensures steady { IsSteady N.rank_of self.new.book self.new.nodes.items
-            (vec_capacity self.new.nodes) }
-    {
-        let at = Port { obj: id, slot: 4 };
-        let was = self.book.enter(at, Way::Time, out);
-        let asked = self.ask_time(id, now);
-        self.after_time(id, asked, now, out);
-        self.leave(at, was, out);
-    }
-
-    fn after_time<O: Outside>(&mut self, id: ObjId, asked: Asked<N, N::Load>, now: u64, out: &mut O)
-        requires runs { busy self.old.book id.0 ≡ true }
-        requires asks { MayAskTime N.rank_of N.stands (rank self.old.book id.0) asked }
-        requires below { IsBelow (rank self.old.book id.0) self.old.book }
-        requires steady { IsSteady N.rank_of self.old.book self.old.nodes.items
-            (vec_capacity self.old.nodes) }
-        ensures lives { LivelyInFor N.stands (bytes_of N.Load.first N.Load.second) now id.0
-            self.old.book self.new.book self.old.nodes.items self.new.nodes.items
-            (Back (busy self.old.book) id.0 (asked_loads asked))
-            (HasAsked id.0 (asked_sent (bytes_of N.Load.first N.Load.second) [] asked)) none_due
-            (Doing self.old.book id.0 (asked_sent (bytes_of N.Load.first N.Load.second) [] asked))
-            (λ st. asked_runs (bytes_of N.Load.first N.Load.second) id.0 silence asked ++ st) here (O.events out.old) (O.events out.new) }
-        ensures steady { IsSteady N.rank_of self.new.book self.new.nodes.items
-            (vec_capacity self.new.nodes) }
-    {
-        match asked {
-            Asked::Done(fx) => self.effects(id, &NOTHING, fx, now, out),
-            Asked::NoMemory(fx) => self.fail(id, fx, now, out),
-        }
-    }
-
-    /// What the node of a live object has to hand out.
-    pub(crate) fn harvest(&mut self, id: ObjId) -> Option<N::Load>
-        requires lives { live self.old.book id.0 ≡ true }
-        requires manned { IsManned N.rank_of self.old.book self.old.nodes.items
-            (vec_capacity self.old.nodes) }
-        ensures gives { Harvests N.harvests (record {
-          book = self.old.book;
-          nodes =
-              self.old.nodes.items;
-        })
-            (record { book = self.new.book; nodes = self.new.nodes.items }) id result }
-        ensures keeps { KeepsTraces N.stands (record {
-          book = self.old.book;
-          nodes =
-              self.old.nodes.items;
-        })
-            (record { book = self.new.book; nodes = self.new.nodes.items }) }
-        ensures book { self.new.book ≡ self.old.book }
-        ensures manned { IsManned N.rank_of self.new.book self.new.nodes.items
-            (vec_capacity self.new.nodes) }
-    {
-        let place = self.book.place(id);
-        self.nodes[place].harvest()
     }
 }

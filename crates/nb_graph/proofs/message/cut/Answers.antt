@@ -1,5 +1,5 @@
 use Rattle.nb_graph.proofs.CutLemmas.{cut-bytes}
-use Rattle.nb_graph.proofs.steps.cut.Goals as goal
+use Rattle.nb_graph.proofs.message.cut.Goals as goal
 
 pub returns-clause-bytes : goal.returns-clause-bytes
 returns-clause-bytes c =

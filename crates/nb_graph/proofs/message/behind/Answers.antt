@@ -1,6 +1,6 @@
 use Rattle.std.proofs.Common.{ap}
 use Rattle.nb_graph.proofs.CutLemmas.{behind-bytes}
-use Rattle.nb_graph.proofs.steps.behind.Goals as goal
+use Rattle.nb_graph.proofs.message.behind.Goals as goal
 
 pub returns-clause-bytes : goal.returns-clause-bytes
 returns-clause-bytes c =
