@@ -39,9 +39,9 @@ rest_in unfinished = []
 rest_in crowded = []
 
 -- a block that is whole: it stays so, and is the beginning
-record Stays (n : ℕ) (text more block rest : List ℕ) : Type 0 where
-  longer_too : first_block n (text ++ more) ≡ whole block (rest ++ more)
-  stands : text ≡ block ++ rest
+pub record Stays (n : ℕ) (text more block rest : List ℕ) : Type 0 where
+  pub longer_too : first_block n (text ++ more) ≡ whole block (rest ++ more)
+  pub stands : text ≡ block ++ rest
 
 by_block : {Z : Type 0} (k : LineBlock) → ((b r : List ℕ) → k ≡ whole b r → Z) → (is_whole k ≡ false → Z) → Z
 unfolding is_whole
@@ -49,13 +49,13 @@ by_block (whole b r) f g = f b r refl
 by_block unfinished f g = g refl
 by_block crowded f g = g refl
 
-behind_whole : (line : List ℕ) (k : LineBlock) → is_whole k ≡ false → is_whole (with_line line k) ≡ false
+with_line_whole : (line : List ℕ) (k : LineBlock) → is_whole k ≡ false → is_whole (with_line line k) ≡ false
 unfolding is_whole
-behind_whole line (whole b r) is = is
-behind_whole line unfinished is = refl
-behind_whole line crowded is = refl
+with_line_whole line (whole b r) is = is
+with_line_whole line unfinished is = refl
+with_line_whole line crowded is = refl
 
-block_more : (n : ℕ) (text more block rest : List ℕ) → first_block n text ≡ whole block rest → Stays n text more block rest
+pub block_more : (n : ℕ) (text more block rest : List ℕ) → first_block n text ≡ whole block rest → Stays n text more block rest
 unfolding is_whole block_in rest_in
 block_more zero text more block rest is = absurd (false≢true (ap is_whole is))
 block_more (suc n) text more block rest is = by_option (first_line text)
@@ -79,7 +79,7 @@ block_more (suc n) text more block rest is = by_option (first_line text)
       longer_too = rw (line.0, off) (ap (with_line l.line) later.longer_too ∙ ap (λ k. whole (block_in k) (rest_in k ++ more)) whole_too);
       stands = line.1 ∙ ap (λ ys. l.line ++ ys) later.stands ∙ sym (append_assoc l.line b r) ∙ ap (λ k. block_in k ++ rest_in k) whole_too;
     })
-    (λ no. absurd (false≢true (sym (behind_whole l.line (first_block n l.rest) no) ∙ ap is_whole same)))))
+    (λ no. absurd (false≢true (sym (with_line_whole l.line (first_block n l.rest) no) ∙ ap is_whole same)))))
 
 found_in : Found → List ℕ
 found_in (found block rest) = block
@@ -99,7 +99,7 @@ not_found text (whole b r) is = absurd (false≢true (sym is))
 not_found text unfinished is = either (leb limit (length text)) (λ on. rw on refl) (λ off. rw off refl)
 not_found text crowded is = refl
 
-take_front : (n : ℕ) (xs ys : List ℕ) → length xs ≤ n → take n (xs ++ ys) ≡ xs ++ take (n - length xs) ys
+pub take_front : (n : ℕ) (xs ys : List ℕ) → length xs ≤ n → take n (xs ++ ys) ≡ xs ++ take (n - length xs) ys
 take_front n [] ys l = ap (λ k. take k ys) (no_less n)
   where
     no_less : (n : ℕ) → n ≡ n - 0
@@ -128,3 +128,105 @@ head_block_more block more is = by_block (first_block most_lines (take limit blo
     ∙ ap (λ ys. found ys (drop (length ys) (block ++ more))) same
     ∙ ap (found block) (drop_at block more (length block) refl))
     (λ no. absurd (false≢true (sym (not_found block (first_block most_lines (take limit block)) no) ∙ ap is_found is)))
+
+first_line_alone : (text rest : List ℕ) (l : FirstLine) → first_line text ≡ Some l → first_line (l.line ++ rest) ≡ Some (record { line = l.line; rest = rest })
+first_line_alone [] rest l is = absurd (none-some l is)
+first_line_alone (b ∷ bs) rest l is = either (b == line_feed)
+    (λ on. let same : record { line = b ∷ []; rest = bs } ≡ l = same_Some (record { line = b ∷ []; rest = bs }) l (rw on at is) in
+    let alone : first_line (b ∷ rest) ≡ Some (record { line = b ∷ []; rest = rest }) = rw on refl in
+    ap (λ k. first_line (k.line ++ rest)) (sym same) ∙ alone ∙ ap (λ k. Some (record { line = k.line; rest = rest })) same)
+    (λ off. by_option (first_line bs)
+    (λ none. absurd (none-some l (rw (off, none) at is)))
+    (λ k some.
+    let same : with_byte b k ≡ l = same_Some (with_byte b k) l (rw (off, some) at is) in
+    let later : first_line (k.line ++ rest) ≡ Some (record { line = k.line; rest = rest }) = first_line_alone bs rest k some in
+    let alone : first_line (b ∷ k.line ++ rest) ≡ Some (record { line = b ∷ k.line; rest = rest }) = rw (off, later) refl in
+    ap (λ j. first_line (j.line ++ rest)) (sym same) ∙ alone ∙ ap (λ j. Some (record { line = j.line; rest = rest })) same))
+
+-- the block by itself
+pub block_alone : (n : ℕ) (text block rest : List ℕ) → first_block n text ≡ whole block rest → first_block n block ≡ whole block []
+unfolding is_whole block_in
+block_alone zero text block rest is = absurd (false≢true (ap is_whole is))
+block_alone (suc n) text block rest is = by_option (first_line text)
+    (λ none. let no : unfinished ≡ whole block rest = rw none at is in absurd (false≢true (ap is_whole no)))
+    (λ l some. either (is_empty l.line)
+    (λ on.
+    let same : whole l.line l.rest ≡ whole block rest = rw (some, on) at is in
+    let line : first_line (l.line ++ []) ≡ Some (record { line = l.line; rest = [] }) = first_line_alone text [] l some in
+    let alone : first_block (suc n) (l.line ++ []) ≡ whole l.line [] = rw (line, on) refl in
+    ap (λ k. first_block (suc n) (block_in k)) (sym same) ∙ ap (first_block (suc n)) (sym (append-nil l.line)) ∙ alone ∙ ap (λ k. whole (block_in k) []) same)
+    (λ off.
+    let same : with_line l.line (first_block n l.rest) ≡ whole block rest = rw (some, off) at is in
+    by_block (first_block n l.rest)
+    (λ b r there.
+    let later : first_block n b ≡ whole b [] = block_alone n l.rest b r there in
+    let whole_too : whole (l.line ++ b) r ≡ whole block rest = sym (ap (with_line l.line) there) ∙ same in
+    let line : first_line (l.line ++ b) ≡ Some (record { line = l.line; rest = b }) = first_line_alone text b l some in
+    let alone : first_block (suc n) (l.line ++ b) ≡ whole (l.line ++ b) [] = rw (line, off) (ap (with_line l.line) later) in
+    ap (λ k. first_block (suc n) (block_in k)) (sym whole_too) ∙ alone ∙ ap (λ k. whole (block_in k) []) whole_too)
+    (λ no. absurd (false≢true (sym (with_line_whole l.line (first_block n l.rest) no) ∙ ap is_whole same)))))
+
+is_unfinished : LineBlock → Bool
+is_unfinished (whole block rest) = false
+is_unfinished unfinished = true
+is_unfinished crowded = false
+
+with_line_unfinished : (line : List ℕ) (k : LineBlock) → with_line line k ≡ unfinished → k ≡ unfinished
+unfolding is_unfinished
+with_line_unfinished line (whole b r) is = absurd (false≢true (ap is_unfinished is))
+with_line_unfinished line unfinished is = refl
+with_line_unfinished line crowded is = absurd (false≢true (ap is_unfinished is))
+
+-- a line that becomes whole is longer than what was there
+first_line_longer : (text more : List ℕ) (l : FirstLine) → first_line text ≡ None → first_line (text ++ more) ≡ Some l → length text < length l.line
+first_line_longer [] more l none is = some_line more l is
+  where
+    some_line : (text : List ℕ) (l : FirstLine) → first_line text ≡ Some l → 0 < length l.line
+    some_line [] l is = absurd (none-some l is)
+    some_line (b ∷ bs) l is = either (b == line_feed)
+        (λ on. let same : record { line = b ∷ []; rest = bs } ≡ l = same_Some (record { line = b ∷ []; rest = bs }) l (rw on at is) in
+        subst (λ k. 0 < length k.line) same (omega arith))
+        (λ off. by_option (first_line bs)
+        (λ none. absurd (none-some l (rw (off, none) at is)))
+        (λ k some. let same : with_byte b k ≡ l = same_Some (with_byte b k) l (rw (off, some) at is) in
+        subst (λ j. 0 < length j.line) same (omega arith)))
+first_line_longer (b ∷ bs) more l none is = either (b == line_feed)
+    (λ on. absurd (none-some (record { line = b ∷ []; rest = bs }) (sym (rw on at none))))
+    (λ off. by_option (first_line bs)
+    (λ nothing. by_option (first_line (bs ++ more))
+    (λ still. absurd (none-some l (rw (off, still) at is)))
+    (λ k some. let same : with_byte b k ≡ l = same_Some (with_byte b k) l (rw (off, some) at is) in
+    let later : length bs < length k.line = first_line_longer bs more k nothing some in
+    subst (λ j. suc (length bs) < length j.line) same (omega (arith, later))))
+    (λ k some. absurd (none-some (with_byte b k) (sym (rw (off, some) at none)))))
+
+-- a block that becomes whole is longer than what was there
+pub block_longer : (n : ℕ) (text more block rest : List ℕ) → first_block n text ≡ unfinished → first_block n (text ++ more) ≡ whole block rest → length text < length block
+unfolding is_whole is_unfinished block_in
+block_longer zero text more block rest unended is = absurd (false≢true (ap is_unfinished unended))
+block_longer (suc n) text more block rest unended is = by_option (first_line text)
+    (λ none. by_option (first_line (text ++ more))
+    (λ still. let no : unfinished ≡ whole block rest = rw still at is in absurd (false≢true (ap is_whole no)))
+    (λ l some.
+    let longer : length text < length l.line = first_line_longer text more l none some in
+    either (is_empty l.line)
+    (λ on. let same : whole l.line l.rest ≡ whole block rest = rw (some, on) at is in
+    subst (λ k. length text < length (block_in k)) same longer)
+    (λ off. let same : with_line l.line (first_block n l.rest) ≡ whole block rest = rw (some, off) at is in
+    by_block (first_block n l.rest)
+    (λ b r there. let whole_too : whole (l.line ++ b) r ≡ whole block rest = sym (ap (with_line l.line) there) ∙ same in
+    subst (λ k. length text < length (block_in k)) whole_too (omega (arith, longer, length-append l.line b)))
+    (λ no. absurd (false≢true (sym (with_line_whole l.line (first_block n l.rest) no) ∙ ap is_whole same))))))
+    (λ l some.
+    let line : (first_line (text ++ more) ≡ Some (longer l more)) × (text ≡ l.line ++ l.rest) = first_line_more text more l some in
+    either (is_empty l.line)
+    (λ on. let no : whole l.line l.rest ≡ unfinished = rw (some, on) at unended in absurd (false≢true (ap is_unfinished no)))
+    (λ off.
+    let left : first_block n l.rest ≡ unfinished = with_line_unfinished l.line (first_block n l.rest) (rw (some, off) at unended) in
+    let same : with_line l.line (first_block n (l.rest ++ more)) ≡ whole block rest = rw (line.0, off) at is in
+    by_block (first_block n (l.rest ++ more))
+    (λ b r there.
+    let later : length l.rest < length b = block_longer n l.rest more b r left there in
+    let whole_too : whole (l.line ++ b) r ≡ whole block rest = sym (ap (with_line l.line) there) ∙ same in
+    subst (λ k. length text < length (block_in k)) whole_too (omega (arith, later, ap length line.1, length-append l.line l.rest, length-append l.line b)))
+    (λ no. absurd (false≢true (sym (with_line_whole l.line (first_block n (l.rest ++ more)) no) ∙ ap is_whole same)))))

@@ -11,7 +11,7 @@ use Rattle.httparse.proofs.GrammarLemmas.{response_unique}
 use Rattle.nb_responses.specs.Lines.{Found, found, missing, too_many, too_long, head_block, limit}
 use Rattle.nb_responses.specs.Heads.{IsHead, Framing, sized, chunked, to_end, bad, framing, is_interim}
 use Rattle.nb_responses.specs.Chunks.{Verdict, more, long, broken, Response, response, with_bytes, Chunk, chunk_bytes, print_chunk, IsChunk, ending, tail_ending, IsLineOf, LineVerdict, short_line, long_line, bad_line, Tail, no_line, after_line, Chunked}
-use Rattle.nb_responses.specs.Responses.{limited, ReadsBody, Final, no_block, no_head, by_head, by_body, head_verdict, no_block_verdict, IsInterim, ReadsSoFar, ResponseOf, by_end}
+use Rattle.nb_responses.specs.Responses.{within_limit, ReadsBody, Final, no_block, no_head, by_head, by_body, head_verdict, no_block_verdict, IsInterim, ReadsSoFar, ResponseOf, by_end}
 use Rattle.nb_responses.proofs.LineLaws.{head_block_more}
 use Rattle.nb_responses.proofs.Cases.{either}
 
@@ -110,7 +110,7 @@ chunked_unique text a b x y = x.is ∙ chunks_unique text x.chunks y.chunks x.ta
 
 body_unique : (text : List ℕ) (f : Framing) (a b : Response) → ReadsBody text f a → ReadsBody text f b → a ≡ b
 body_unique text (sized size) a b x y = x ∙ sym y
-body_unique text chunked a b (c, reads, x) (d, also, y) = x ∙ ap limited (chunked_unique text c d reads also) ∙ sym y
+body_unique text chunked a b (c, reads, x) (d, also, y) = x ∙ ap within_limit (chunked_unique text c d reads also) ∙ sym y
 body_unique text to_end a b x y = x ∙ sym y
 body_unique text bad a b x y = x ∙ sym y
 

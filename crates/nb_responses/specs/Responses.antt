@@ -3,7 +3,7 @@ use Rattle.std.specs.Prelude.{◌≡◌, ℕ, ◌==◌, Bool, true, false, List,
 use Rattle.std.specs.List.{AllByRecursion, concat}
 use Rattle.httparse.specs.Grammar.{ResponseHead, status_code}
 use Rattle.nb_responses.specs.Lines.{Found, found, missing, too_many, too_long, head_block}
-use Rattle.nb_responses.specs.Heads.{IsHead, Framing, sized, chunked, to_end, bad, framing, is_interim, target}
+use Rattle.nb_responses.specs.Heads.{IsHead, Framing, sized, chunked, to_end, bad, framing, is_interim, moves_to}
 use Rattle.nb_responses.specs.Chunks.{Verdict, more, open_body, body, moved, status, broken, large, long, many, Response, response, Chunked}
 
 -- the most bytes that a body may have
@@ -11,8 +11,8 @@ abbrev pub most_bytes : ℕ
 most_bytes = 268435456
 
 -- a body that passes the limit is too large at its first byte past it, whatever follows
-abbrev pub limited : Response → Response
-limited r = if nat_lt most_bytes (length r.bytes) then response large (take most_bytes r.bytes) else r
+abbrev pub within_limit : Response → Response
+within_limit r = if nat_lt most_bytes (length r.bytes) then response large (take most_bytes r.bytes) else r
 
 abbrev pub sized_verdict : ℕ → List ℕ → Verdict
 sized_verdict size text = if nat_lt (length text) size then more else body
@@ -24,13 +24,13 @@ sized_response size text = if nat_lt most_bytes size then response large [] else
 -- the body with_line a head with the status 200, by its framing
 abbrev pub ReadsBody : List ℕ → Framing → Response → Type 0
 ReadsBody text (sized size) r = r ≡ sized_response size text
-ReadsBody text chunked r = (read : Response) × Chunked text read × (r ≡ limited read)
-ReadsBody text to_end r = r ≡ limited (response open_body text)
+ReadsBody text chunked r = (read : Response) × Chunked text read × (r ≡ within_limit read)
+ReadsBody text to_end r = r ≡ within_limit (response open_body text)
 ReadsBody text bad r = r ≡ response broken []
 
 -- what a head that isn't interim says, before its body is looked at
 abbrev pub head_verdict : ResponseHead → Option Verdict
-head_verdict h = head_by (target h) (status_code h)
+head_verdict h = head_by (moves_to h) (status_code h)
   where
     head_by : Option (List ℕ) → ℕ → Option Verdict
     head_by (Some text) code = Some (moved text)
