@@ -4,8 +4,12 @@ use Rattle.std.specs.List.{list_all}
 use Rattle.std.specs.Char.{is_ascii_digit, digit_value}
 use Rattle.std.specs.Str.Parse.{digits_value, digits_value_after}
 use Rattle.std.specs.Int.{is_in_range, IsInRange}
-use Rattle.std.proofs.lemmas.Bool.{false≢true, leb-true, and_parts, ltb-true, ltb-false, eqb-true, eqb-false}
+use Rattle.std.proofs.lemmas.Bool.{false≢true, leb-true, and_parts, ltb-true, ltb-false, eqb-true, eqb-false, and_from, eq-eqb, ne_eqb}
 use Rattle.std.proofs.lemmas.Str.{digit_value_digit}
+use Rattle.std.specs.Bool.{Decides}
+use Rattle.std.specs.Str.{bytes_eq}
+use Rattle.std.proofs.lemmas.Slice.Eq.{bytes_eq-Decides}
+use Rattle.nb_responses.specs.Heads.{is_decimal, has_value}
 
 abbrev AreDigits : List ℕ → Type 0
 AreDigits ds = list_all is_ascii_digit ds ≡ true
@@ -39,7 +43,7 @@ larger_after (x ∷ xs) [] n m same are also l = absurd (apart (length xs) same)
     apart k e = omega (arith, e)
 larger_after (x ∷ xs) (y ∷ ys) n m same are also l =
     larger_after xs ys (n * 10 + digit_value x) (m * 10 + digit_value y) (omega (arith, same)) (more_digits x xs are) (more_digits y ys also)
-        (omega (arith, l, small_digit x xs are))
+    (omega (arith, l, small_digit x xs are))
 
 -- more digits after a number that isn't 0 make a larger number
 pub longer_larger : (xs ys : List ℕ) (m : ℕ) → length xs ≤ length ys → 0 < m → AreDigits xs → AreDigits ys → digits_value_after 10 0 xs < digits_value_after 10 m ys
@@ -98,3 +102,21 @@ same_digits xs ys are also first first_too e = either (ltb (length xs) (length y
   where
     not_less : (a b : ℕ) → a < b → a ≡ b → ⊥
     not_less a b l e = omega (arith, l, e)
+
+pub digit_here : (ds : List ℕ) (i : ℕ) → AreDigits ds → i < length ds → digit_value (get_or ds i 0) + 48 ≡ get_or ds i 0
+digit_here [] i are l = absurd (none_below i l)
+  where
+    none_below : (k : ℕ) → k < 0 → ⊥
+    none_below k l = omega (arith, l)
+digit_here (d ∷ ds) zero are l = first_digit d ds are
+digit_here (d ∷ ds) (suc i) are l = digit_here ds i (more_digits d ds are) (omega (arith, l))
+
+pub same_number : (text number xs ys : List ℕ) (r : Bool) → is_decimal text ≡ true → AreDigits xs → AreDigits ys → (get_or xs 0 0 ≡ 48 → ⊥) → (get_or ys 0 0 ≡ 48 → ⊥)
+    → digits_value 10 xs ≡ digits_value 10 text → digits_value 10 ys ≡ digits_value 10 number → r ≡ bytes_eq xs ys → r ≡ has_value (digits_value 10 number) text
+same_number text number xs ys r decimal are also first first_too value value_too is =
+    let decides : Decides (bytes_eq xs ys) (xs ≡ ys) = bytes_eq-Decides xs ys in
+    is ∙ either (bytes_eq xs ys)
+    (λ on. let e : digits_value 10 text ≡ digits_value 10 number = sym value ∙ ap (digits_value 10) (decides.0 on) ∙ value_too in
+    on ∙ sym (and_from _ _ decimal (eq-eqb _ _ e)))
+    (λ off. let apart : eqb (digits_value 10 text) (digits_value 10 number) ≡ false = ne_eqb _ _ (λ e. false≢true (sym off ∙ decides.1 (same_digits xs ys are also first first_too (value ∙ e ∙ sym value_too)))) in
+    off ∙ sym (ap (λ b. is_decimal text && b) apart ∙ ap (λ b. b && false) decimal))

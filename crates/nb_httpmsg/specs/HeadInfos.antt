@@ -1,6 +1,7 @@
 -- RFC 9112, sections 2 to 6: what is returned of the head with which bytes begin
 use Rattle.std.specs.Prelude.{◌≡◌, ◌≤◌, ℕ, ◌-◌, ◌^◌, List, length, take, drop, min, Option, Some, None, slice_range, IfSome, codes}
 use Rattle.std.specs.Option.{option_map}
+use Rattle.httparse.specs.declared.spans.ResponseSpans.{ResponseSpans}
 use Rattle.httparse.specs.Grammar.{ResponseHead, status_code}
 use Rattle.nb_responses.specs.Lines.{first_block, most_lines, whole, unfinished, crowded}
 use Rattle.nb_responses.specs.Heads.{IsHead, Framing, sized, chunked, to_end, bad, framing, moves_to_first, values}
@@ -16,6 +17,11 @@ kind_of (sized size) = Length (min size (2 ^ 64 - 1))
 kind_of chunked = Chunked
 kind_of to_end = ToEnd
 kind_of bad = Bad
+
+-- a head was found, and it is the whole block
+abbrev pub IsAllOf : List ℕ → Option ResponseSpans → Type 0
+IsAllOf block None = ⊥
+IsAllOf block (Some spans) = spans.len ≡ length block
 
 -- what is known of the head that a block is
 pub record IsInfoOf (block : List ℕ) (h : ResponseHead) (info : HeadInfo) : Type 0 where

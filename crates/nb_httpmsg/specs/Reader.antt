@@ -19,7 +19,7 @@ pub record IsOpenLine (line : List ℕ) : Type 0 where
 
 -- a trailer after a size line of so many bytes that isn't whole
 pub record IsOpenTrailer (used : ℕ) (line : List ℕ) : Type 0 where
-  pub used : used ≤ length line
+  pub within : used ≤ length line
   pub unended : first_block (limit - used + 1) (drop used line) ≡ unfinished
   pub short : length line < limit
 

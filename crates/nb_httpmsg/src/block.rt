@@ -24,8 +24,9 @@ pub(crate) fn find_block(most: usize, text: &[u8]) -> BlockEnd
     let mut at = 0;
     for _line in 0..most {
         let rest = &text[at..];
-        let Some(len) = line_len(rest) else {
-            return BlockEnd::Unfinished;
+        let len = match line_len(rest) {
+            Some(len) => len,
+            None => return BlockEnd::Unfinished,
         };
         at += len;
         if is_empty_line(&rest[..len]) {

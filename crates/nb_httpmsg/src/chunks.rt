@@ -79,13 +79,11 @@ impl Chunks {
         ensures all { result.took < length (first.now ++ second.now) → is_open self.new.place ≡ true → length self.new.block ≡ 4096 }
     {
         self.block.clear();
-        let mut took = self.run(first);
-        if took == first.len() {
-            took += self.run(second);
-        }
+        let took = self.run_both(first, second);
+        let block = self.block.as_slice();
         Fed {
             took: took as u32,
-            bytes: self.block.len() as u32,
+            bytes: block.len() as u32,
             state: self.state(),
         }
     }
@@ -121,6 +119,20 @@ impl Chunks {
             Place::Whole | Place::Broken | Place::TooLong => false,
             _ => true,
         }
+    }
+
+    /// Takes bytes of both.
+    fn run_both(&mut self, first: &[u8], second: &[u8]) -> usize
+        requires { length first.now + length second.now < 2 ^ 32 }
+        ensures stands { Feeds self.old self.new (take result (first.now ++ second.now)) }
+        ensures within { result ≤ length (first.now ++ second.now) }
+        ensures all { result < length (first.now ++ second.now) → is_open self.new.place ≡ true → length self.new.block ≡ 4096 }
+    {
+        let took = self.run(first);
+        if took < first.len() {
+            return took;
+        }
+        took + self.run(second)
     }
 
     /// Takes bytes until the body is decided or the block is full.

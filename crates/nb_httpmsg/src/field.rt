@@ -14,7 +14,6 @@ use crate::head::BodyKind;
 use crate::number::{is_decimal, is_same_number, saturated};
 use httparse::spans::HeaderSpan;
 
-
 /// Whether a field has this name; case makes no difference.
 fn has_name(block: &[u8], field: &HeaderSpan, name: &[u8]) -> bool
     requires { IsHeaderWithin (length block.now) field.now }
@@ -52,7 +51,7 @@ fn encoding_of(block: &[u8], first: &[u8], later: &[HeaderSpan]) -> BodyKind
     requires { All (IsHeaderWithin (length block.now)) later.now }
     ensures { (lengths : List (List ℕ)) → result ≡ kind_of (framing_by (first.now ∷ named (codes "transfer-encoding") (covered block.now later.now)) lengths) }
 {
-    if find_field(block, later, b"transfer-encoding").is_some() {
+    if let Some(_) = find_field(block, later, b"transfer-encoding") {
         return BodyKind::Bad;
     }
     if first.eq_ignore_ascii_case(b"chunked") {

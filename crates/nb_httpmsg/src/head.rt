@@ -1,14 +1,15 @@
 //! The head of a response (RFC 9112, sections 2 to 6).
 
-ghost use Rattle.std.specs.Prelude.{◌≡◌, ◌≤◌, length, MatchOption};
+ghost use Rattle.std.specs.Prelude.{◌≡◌, ◌≤◌, length, IfSome, MatchOption};
+ghost use Rattle.httparse.specs.Spans.{IsResponseOf, IsResponseWithin};
 ghost use Rattle.httparse.specs.Grammar.{ResponseHead};
 ghost use Rattle.nb_responses.specs.Heads.{IsHead};
-ghost use Rattle.nb_httpmsg.specs.HeadInfos.{IsHeadOf, IsInfoOf};
+ghost use Rattle.nb_httpmsg.specs.HeadInfos.{IsAllOf, IsHeadOf, IsInfoOf};
 
 use crate::block::{BlockEnd, find_block};
 use crate::field::{body_of, location_of};
 use httparse::Status;
-use httparse::spans::{EMPTY_HEADER_SPAN, parse_response};
+use httparse::spans::{EMPTY_HEADER_SPAN, HeaderSpan, ResponseSpans, parse_response};
 
 /// The most bytes of a head.
 pub const MAX_HEAD: usize = 16_384;
@@ -75,16 +76,29 @@ fn parse_block(block: &[u8]) -> Option<HeadInfo>
     ensures { MatchOption result ((h : ResponseHead) → ¬ (IsHead block.now h)) (λ info. (h : ResponseHead) × IsInfoOf block.now h info) }
 {
     let mut spans = [EMPTY_HEADER_SPAN; MAX_FIELDS];
-    match parse_response(block, &mut spans) {
-        Ok(Status::Complete(head)) if head.len == block.len() => {
-            let fields = &spans[..head.headers];
-            Some(HeadInfo {
-                status: head.code,
-                len: block.len() as u32,
-                body: body_of(block, fields),
-                location: location_of(block, fields),
-            })
-        }
-        _ => None,
+    let head = parsed(block, &mut spans)?;
+    if head.len != block.len() {
+        return None;
+    }
+    let fields = &spans[..head.headers];
+    Some(HeadInfo {
+        status: head.code,
+        len: block.len() as u32,
+        body: body_of(block, fields),
+        location: location_of(block, fields),
+    })
+}
+
+/// The head with which a block begins, and its fields.
+fn parsed(block: &[u8], spans: &mut [HeaderSpan]) -> Option<ResponseSpans>
+    requires { length spans.old ≡ 64 }
+    ensures head { IfSome result (IsResponseOf block.now spans.new) }
+    ensures within { IfSome result (IsResponseWithin block.now spans.new) }
+    ensures found { (h : ResponseHead) → IsHead block.now h → IsAllOf block.now result }
+{
+    match parse_response(block, spans) {
+        Ok(Status::Complete(head)) => Some(head),
+        Ok(Status::Partial) => None,
+        Err(_) => None,
     }
 }

@@ -8,11 +8,14 @@ mod block;
 mod chunks;
 mod field;
 mod head;
+mod line;
 mod number;
 mod place;
 mod steps;
 mod target;
+#[cfg(test)]
+mod tests;
 
-pub use chunks::{Chunks, ChunkState, Fed};
+pub use chunks::{ChunkState, Chunks, Fed};
 pub use head::{BodyKind, Head, HeadInfo, MAX_HEAD, read_head};
 pub use target::HttpTarget;

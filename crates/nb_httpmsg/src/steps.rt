@@ -1,13 +1,12 @@
 //! The steps of a reader of a chunked body, one for each place.
 
 ghost use Rattle.std.specs.Prelude.{◌≡◌, ◌≤◌, ◌<◌, ◌-◌, ◌++◌, length, take, min, true, vec_len, vec_capacity};
-ghost use Rattle.nb_httpmsg.specs.Feeding.{Feeds, is_open, place_after};
+ghost use Rattle.nb_httpmsg.specs.Feeding.{Feeds, is_open, place_after_bytes, place_after_end};
 ghost use Rattle.nb_httpmsg.specs.declared.place.Place.TheVariants.{Size, Bytes, End, Trailer};
 
-use crate::block::{BlockEnd, find_block};
 use crate::chunks::{BLOCK, Chunks, MAX_LINES};
+use crate::line::{read_size, read_trailer};
 use crate::place::Place;
-use httparse::{Status, parse_chunk_size};
 
 /// Appends as many bytes as a buffer of this size has room for, and returns how many.
 fn fill(buffer: &mut Vec<u8>, most: usize, bytes: &[u8]) -> usize
@@ -25,17 +24,33 @@ fn fill(buffer: &mut Vec<u8>, most: usize, bytes: &[u8]) -> usize
     }
 }
 
-/// The place after a size line of so many bytes.
-fn after_size(len: usize, size: u64) -> Place
-    ensures { result ≡ place_after len size }
+/// The place where so many bytes of a chunk are left.
+fn after_bytes(left: u64) -> Place
+    ensures { result ≡ place_after_bytes left }
 {
-    if size > 0 {
-        return Place::Bytes(size);
-    }
-    if len < MAX_LINES {
-        Place::Trailer(len)
+    if left > 0 {
+        Place::Bytes(left)
     } else {
-        Place::TooLong
+        Place::End(false)
+    }
+}
+
+/// The place after a byte of a chunk's line end, which is exactly CR LF.
+fn after_end(cr: bool, byte: u8) -> Place
+    ensures { result ≡ place_after_end cr byte }
+{
+    if cr {
+        if byte == b'\n' {
+            Place::Size
+        } else {
+            Place::Broken
+        }
+    } else {
+        if byte == b'\r' {
+            Place::End(true)
+        } else {
+            Place::Broken
+        }
     }
 }
 
@@ -66,25 +81,14 @@ impl Chunks {
         ensures within { result ≤ length bytes.now }
         ensures some { 0 < result }
     {
-        let old = self.line.len();
-        let taken = fill(&mut self.line, MAX_LINES, bytes);
-        match parse_chunk_size(self.line.as_slice()) {
-            Ok(Status::Complete((len, size))) => {
-                self.line.truncate(len);
-                self.place = after_size(len, size);
-                len - old
-            }
-            Ok(Status::Partial) => {
-                if self.line.len() == MAX_LINES {
-                    self.place = Place::TooLong;
-                }
-                taken
-            }
-            Err(_) => {
-                self.place = Place::Broken;
-                taken
-            }
-        }
+        let before = self.line.as_slice();
+        let old = before.len();
+        fill(&mut self.line, MAX_LINES, bytes);
+        let line = self.line.as_slice();
+        let read = read_size(line);
+        self.line.truncate(read.len);
+        self.place = read.place;
+        read.len - old
     }
 
     /// Gathers bytes of a chunk, of which so many are left.
@@ -99,16 +103,11 @@ impl Chunks {
         let most = left.min(BLOCK as u64) as usize;
         let most = most.min(bytes.len());
         let taken = fill(&mut self.block, BLOCK, &bytes[..most]);
-        let left = left - taken as u64;
-        if left == 0 {
-            self.place = Place::End(false);
-        } else {
-            self.place = Place::Bytes(left);
-        }
+        self.place = after_bytes(left - taken as u64);
         taken
     }
 
-    /// Takes a byte of the line end after a chunk, which is exactly CR LF.
+    /// Takes a byte of the line end after a chunk.
     fn chunk_end(&mut self, cr: bool, bytes: &[u8]) -> usize
         requires at { self.old.place ≡ End cr }
         requires some { 0 < length bytes.now }
@@ -116,15 +115,8 @@ impl Chunks {
         ensures within { result ≤ length bytes.now }
         ensures some { 0 < result }
     {
-        let byte = bytes[0];
-        if cr && byte == b'\n' {
-            self.line.clear();
-            self.place = Place::Size;
-        } else if !cr && byte == b'\r' {
-            self.place = Place::End(true);
-        } else {
-            self.place = Place::Broken;
-        }
+        self.place = after_end(cr, bytes[0]);
+        self.line.clear();
         1
     }
 
@@ -136,24 +128,13 @@ impl Chunks {
         ensures within { result ≤ length bytes.now }
         ensures some { 0 < result }
     {
-        let old = self.line.len();
-        let taken = fill(&mut self.line, MAX_LINES, bytes);
-        match find_block(MAX_LINES - used + 1, &self.line.as_slice()[used..]) {
-            BlockEnd::Whole(len) => {
-                self.line.truncate(used + len);
-                self.place = Place::Whole;
-                used + len - old
-            }
-            BlockEnd::Unfinished => {
-                if self.line.len() == MAX_LINES {
-                    self.place = Place::TooLong;
-                }
-                taken
-            }
-            BlockEnd::Crowded => {
-                self.place = Place::Broken;
-                taken
-            }
-        }
+        let before = self.line.as_slice();
+        let old = before.len();
+        fill(&mut self.line, MAX_LINES, bytes);
+        let line = self.line.as_slice();
+        let read = read_trailer(used, line);
+        self.line.truncate(read.len);
+        self.place = read.place;
+        read.len - old
     }
 }
