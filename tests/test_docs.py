@@ -72,8 +72,9 @@ class Names(unittest.TestCase):
 
 class Layout(unittest.TestCase):
     def test_tools_import_no_test_and_no_measure(self) -> None:
-        others = {path.stem for folder in ("measure", "tests") for path in (TOP / folder).glob("*.py")}
-        others |= {"measure", "tests"}
+        folders = ("measure", "tests")
+        others = {path.stem for folder in folders for path in (TOP / folder).glob("*.py")}
+        others |= set(folders)
         for path in (TOP / "tools").rglob("*.py"):
             for name in re.findall(r"^\s*(?:from|import) (\w+)", path.read_text(), re.M):
                 self.assertNotIn(name, others - {"__init__"}, path)
@@ -83,7 +84,8 @@ class Layout(unittest.TestCase):
             if path.name in ("shared", "__pycache__"):
                 continue
             self.assertTrue(path.stat().st_mode & 0o111, f"{path} can't be run")
-            self.assertIn(f"tools/{path.name}", (TOP / "README.md").read_text())
+            is_named = f"tools/{path.name}" in (TOP / "README.md").read_text()
+            self.assertTrue(is_named, f"README.md doesn't name tools/{path.name}")
 
 
 if __name__ == "__main__":

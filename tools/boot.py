@@ -105,7 +105,8 @@ def one_line_script(request: Request | None, capture: Path) -> bytes:
         raise Refused(f"{capture}: it has no TFTP request, so --script must say what to run")
     server = ".".join(map(str, request.server))
     line = b"imgexec tftp://" + server.encode() + b"/" + request.path.lstrip(b"/")
-    progress(f"the script is made from the capture's first request: {line.decode('utf-8', 'replace')}")
+    shown = line.decode("utf-8", "replace")
+    progress(f"the script is made from the capture's first request: {shown}")
     return b"#!ipxe\n" + line + b"\n"
 
 
