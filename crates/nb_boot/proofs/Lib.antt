@@ -20,3 +20,6 @@ pub mod OneRuns
 pub mod Comparing
 pub mod Telling
 pub mod Histories
+mod PortLemmas
+mod PeerLemmas
+mod WordLemmas
