@@ -22,6 +22,7 @@ from shared.servers import Tftp, dnsmasq
 SKIPPED = 77
 MOST_SECONDS = 600
 KERNEL_BYTES = 300_001
+ELF = b"\x7fELF"
 BRIDGE = Path(__file__).with_name("bridge.py")
 
 DESCRIPTION = """\
@@ -55,8 +56,8 @@ def say(line: str) -> None:
 
 
 def made_kernel() -> bytes:
-    """A file without meaning, whose last block isn't full, the same each time."""
-    return Random(0).randbytes(KERNEL_BYTES)
+    """A file that begins as an ELF file does, whose last block isn't full, the same each time."""
+    return ELF + Random(0).randbytes(KERNEL_BYTES - len(ELF))
 
 
 class Boot:
