@@ -99,6 +99,25 @@ def _number(data: bytes) -> int:
     return struct.unpack("=H", data[:2])[0]
 
 
+def _is_plain_udp(frame: bytes) -> bool:
+    """Whether it is a datagram in an IPv4 packet without options that isn't a fragment."""
+    is_one = frame[12:15] == b"\x08\x00\x45" and frame[23:24] == b"\x11"
+    return is_one and frame[20] & 0x3F == 0 and frame[21] == 0
+
+
+def completed(frame: bytes) -> bytes:
+    """The frame with the checksum that its sender left to a card; quick for plain datagrams."""
+    if not _is_plain_udp(frame):
+        return checksums.filled(frame)
+    end = 14 + int.from_bytes(frame[16:18], "big")
+    rest = frame[42:end]
+    pseudo = frame[26:34] + b"\0\x11" + frame[38:40]
+    summed = pseudo + frame[34:40] + rest + bytes(len(rest) & 1)
+    # A sum of 16-bit words is the whole number's remainder (RFC 1071, section 2).
+    total = 0xFFFF - int.from_bytes(summed, "big") % 0xFFFF
+    return frame[:40] + total.to_bytes(2, "big") + frame[42:]
+
+
 class Interface:
     """An interface of this machine. It takes every frame that comes, and none that the host sends."""
 
@@ -141,7 +160,7 @@ class Interface:
         if status & VLAN_WAS_THERE:
             return None
         # A sender on this machine leaves its checksums to a card that isn't there.
-        return checksums.filled(frame) if status & CHECKSUM_NOT_READY else frame
+        return completed(frame) if status & CHECKSUM_NOT_READY else frame
 
     def send(self, frame: bytes) -> None:
         self.socket.send(frame.ljust(MIN_ON_WIRE, b"\0"))

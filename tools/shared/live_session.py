@@ -21,12 +21,17 @@ from shared.records import (
     MAX_FRAME,
     MAX_LENGTH,
     MIN_FRAME,
+    Advance,
+    Command,
     Direction,
     Done,
+    Ended,
     Off,
+    Open,
     Record,
     Sent,
     Step,
+    Text,
     Tick,
     record_of,
     spell,
@@ -44,7 +49,9 @@ HEAD = 5
 # where an IPv4 packet says its length (RFC 791, section 3.1)
 PACKET_LENGTH = slice(16, 18)
 FRAME_IN = b"\x02"
-FRAME_TYPE, STEP_TYPE = Sent.TYPE, Step.TYPE
+FRAME_TYPE, STEP_TYPE, ADVANCE_TYPE = Sent.TYPE, Step.TYPE, Advance.TYPE
+# What a person sees of a run; the rest is only kept.
+SHOWN = frozenset(kind.TYPE for kind in (Text, Command, Open, Ended, Done))
 # A client that has said DONE, or was told OFF, closes its side in this time.
 MOST_SECONDS_TO_END = 10.0
 
@@ -218,8 +225,14 @@ class Session:
         elif content[0] == STEP_TYPE:
             self.lengths.pop(self.step, None)
             self.step = int.from_bytes(content[1:5], "big")
-        else:
+        elif content[0] == ADVANCE_TYPE:
+            number, place = content[1:3], content[3:7]
+            advance = Advance(int.from_bytes(number, "big"), int.from_bytes(place, "big"))
+            self.take(self.lengths.get(self.step, 0), advance)
+        elif content[0] in SHOWN:
             self._show(content)
+        elif content[0] not in KINDS[Direction.OUTPUT]:
+            raise ClientFault(f"a record of its output has type 0x{content[0]:02x}, which none has")
 
     def _show(self, content: bytes) -> None:
         try:
