@@ -9,11 +9,11 @@
 #include <string.h>
 #include <unistd.h>
 
-enum { ETHERNET = 14, IP = 20, UDP = 8, OWN_PORT = 49152, ROOM = 1 << 18, LONGEST = 131072 + 4 };
+enum { ETHERNET = 14, IP = 20, UDP = 8, FIRST_PORT = 49152, MOST_SECONDS = 120, ROOM = 1 << 18, LONGEST = 131072 + 4 };
 
 static int peer;
 static uint8_t mac[6], own[4], server[4], server_mac[6];
-static uint16_t server_port = 69;
+static uint16_t server_port = 69, own_port;
 
 static void put16(uint8_t *at, unsigned value) { at[0] = value >> 8; at[1] = value; }
 static unsigned get16(const uint8_t *at) { return at[0] << 8 | at[1]; }
@@ -71,7 +71,7 @@ static void send_datagram(const uint8_t *body, size_t length) {
     memcpy(ip + 12, own, 4);
     memcpy(ip + 16, server, 4);
     put16(ip + 10, folded(add(0, ip, IP)));
-    put16(udp, OWN_PORT);
+    put16(udp, own_port);
     put16(udp + 2, server_port);
     put16(udp + 4, UDP + length);
     memcpy(udp + UDP, body, length);
@@ -96,7 +96,7 @@ static int take_frame(const uint8_t *frame, size_t length, const char *path) {
         request(path);
     }
     if (length < ETHERNET + IP + UDP + 4 || get16(frame + 12) != 0x0800 || ip[9] != 17) return 0;
-    if (get16(udp + 2) != OWN_PORT || get16(udp + UDP) != 3) return 0;
+    if (get16(udp + 2) != own_port || get16(udp + UDP) != 3) return 0;
     server_port = get16(udp);
     uint8_t body[4] = {0, 4, udp[UDP + 2], udp[UDP + 3]};
     send_datagram(body, sizeof body);
@@ -107,7 +107,8 @@ static int take_record(const uint8_t *content, size_t length, const char *path) 
     static const uint8_t step[] = {0, 0, 0, 5, 0x81, 0, 0, 0, 1};
     if (content[0] == 1 && length >= 62) {
         memcpy(mac, content + 2, 6);
-        memcpy(own, content + 1 + 1 + 6 + 16 + 32 + 2 + 2, 4);
+        own_port = FIRST_PORT + get16(content + 58);
+        memcpy(own, content + 60, 4);
         out(step, sizeof step);
         ask_for_address();
     }
@@ -120,6 +121,7 @@ int main(int count, char **words) {
     struct sockaddr_in place = {.sin_family = AF_INET};
     size_t length = 0;
     int one = 1;
+    alarm(MOST_SECONDS);
     if (count != 5 || inet_pton(AF_INET, words[1], &place.sin_addr) != 1) return 2;
     if (inet_pton(AF_INET, words[3], server) != 1) return 2;
     place.sin_port = htons(atoi(words[2]));

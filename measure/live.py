@@ -33,7 +33,6 @@ ELF = b"\x7fELF"
 MEBIBYTE = 1 << 20
 MOST_MEBIBYTES = 31
 PEER_HOST, PEER_PORT = "127.0.0.1", 7000
-MOST_SECONDS = 600
 HERE = Path(__file__).resolve().parent
 BRIDGE = TOP / "tools" / "bridge.py"
 SKIPPED = 77
@@ -70,11 +69,12 @@ def _waited(process: subprocess.Popen[str]) -> float:
     return used.ru_utime + used.ru_stime
 
 
-def fetch(joined: Network, script: Path, client: list[str]) -> Fetched:
-    """One fetch by a client through a bridge of its own."""
+def fetch(joined: Network, script: Path, client: list[str], number: int) -> Fetched:
+    """One fetch by a client through a bridge of its own, from a port of its own."""
     place = f"{PEER_HOST}:{PEER_PORT}"
     words = [sys.executable, str(BRIDGE), str(script), "--quiet", "--listen", place,
-             "--device", joined.client_device, "--ip", f"{CLIENT_ADDRESS}/{PREFIX}"]
+             "--device", joined.client_device, "--ip", f"{CLIENT_ADDRESS}/{PREFIX}",
+             "--w", str(number)]
     bridge = subprocess.Popen(joined.in_client(*words), stderr=subprocess.PIPE, text=True)
     assert bridge.stderr is not None
     try:
@@ -116,9 +116,9 @@ def measure(folder: Path, joined: Network, arguments: argparse.Namespace) -> Non
     }
     best: dict[str, Fetched] = {}
     with dnsmasq(joined, Tftp(root)):
-        for _ in range(arguments.times):
+        for number in range(arguments.times):
             for name, words in clients.items():
-                fetched = fetch(joined, script, words)
+                fetched = fetch(joined, script, words, number)
                 best[name] = min(best.get(name, fetched), fetched, key=lambda f: f.seconds)
     for name, fetched in best.items():
         report(name, length, fetched)
