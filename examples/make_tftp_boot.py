@@ -32,8 +32,8 @@ SCRIPT = b"#!ipxe\nimgexec tftp://10.0.0.1/k\n"
 
 def kernel() -> bytes:
     """A file that begins as a 64-bit ELF file does, and goes on with a fixed pattern."""
-    front = b"\x7fELF\x02\x01\x01"
-    return front + bytes((31 * place + 7) % 256 for place in range(len(front), KERNEL_LENGTH))
+    head = b"\x7fELF\x02\x01\x01"
+    return head + bytes((31 * place + 7) % 256 for place in range(len(head), KERNEL_LENGTH))
 
 
 def start() -> Start:

@@ -118,7 +118,8 @@ def write_transfers(sizes: list[int], folder: Path) -> dict[int, Path]:
     recordings = {}
     for megabytes in sorted(set(sizes)):
         if not 1 <= megabytes <= MOST_MEGABYTES:
-            raise Refused(f"an image of {megabytes} megabytes can't be measured: 1 to {MOST_MEGABYTES} can")
+            why = f"can't be measured: 1 to {MOST_MEGABYTES} can"
+            raise Refused(f"an image of {megabytes} megabytes {why}")
         length = megabytes * MEGABYTE
         recording = recordings[length] = folder / f"{megabytes}.rec"
         write_transfer(length, recording)

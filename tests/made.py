@@ -27,7 +27,8 @@ from shared.records import (
     Try,
     spell,
 )
-from shared.wire import Station, arp_reply, arp_request, tftp_ack, tftp_data, tftp_request, udp_frame
+from shared.wire import Station, arp_reply, arp_request, tftp_ack, tftp_data, tftp_request
+from shared.wire import udp_frame
 
 CLIENT = Station(bytes.fromhex("525400000001"), IPv4Address("10.0.0.2"))
 SERVER = Station(bytes.fromhex("525400000002"), IPv4Address("10.0.0.1"))

@@ -1,4 +1,4 @@
-"""`boot.py`: what it takes, what it shows, how it ends, and what it leaves behind.
+"""`boot.py`: what it takes, what it shows, how it ends, and what it leaves.
 
 A program of the tests' own stands for netboot, where it isn't the point what netboot does.
 """
@@ -15,7 +15,7 @@ from pathlib import Path
 
 from boot import is_built
 from shared.kinds import Status
-from shared.records import Done, Step
+from shared.records import Done
 from shared.wire import arp_request, padded, tftp_data, tftp_request, udp_frame
 from tests import TOP, made
 from tests.case import Case
@@ -29,7 +29,8 @@ def is_running(pid: int) -> bool:
         return False
 
 
-SILENT = [(0, arp_request(made.CLIENT, made.SERVER.ip)), (16_000_000, arp_request(made.CLIENT, made.SERVER.ip))]
+ASKED = arp_request(made.CLIENT, made.SERVER.ip)
+SILENT = [(0, ASKED), (16_000_000, ASKED)]
 
 
 class Launched(Case):
@@ -84,11 +85,11 @@ class Programs(Launched):
         self.assertEqual(self.get("in.rec")[6:12].hex(":"), "52:54:00:00:00:09")
         self.assertEqual(self.get("in.rec")[64:72].hex("."), "0a.00.00.07.ff.00.00.00")
 
-    def test_a_failure_is_said_and_no_file_is_shown(self) -> None:
+    def test_what_the_program_says_is_shown(self) -> None:
         self.program('echo "netboot: no memory" >&2; echo "in out.rec" >&2; exit 9')
         printed, said, status = self.ends("tools/boot.py s.ipxe --program program")
         wanted = "-- status 9: memory ran out\n"
-        self.assertEqual((printed, said, status), (wanted, "netboot: no memory\n", 9))
+        self.assertEqual((printed, said, status), (wanted, "netboot: no memory\nin out.rec\n", 9))
 
     def test_why_is_shown_of_what_ended_badly(self) -> None:
         self.put("bad.out", [Done(Status.BAD_RECORD)])
@@ -98,6 +99,13 @@ class Programs(Launched):
         self.assertEqual(status, 6)
         self.assertIn("-- why\ninput record 1 can't be used: ", printed)
         self.assertNotIn("-- trace", printed)
+
+    def test_options_that_a_recording_does_not_take(self) -> None:
+        self.put("boot.rec", made.BOOT_INPUT)
+        cases = (("--ip 10.0.0.9", "ip"), ("--from 1", "from"), ("--until 3", "until"))
+        for words, option in cases:
+            said = self.ends(f"tools/boot.py boot.rec {words}")[1]
+            self.assertIn(f"is a recording already, so --{option} can't change it", said)
 
     def test_a_signal(self) -> None:
         self.program("kill -9 $$")
@@ -135,7 +143,8 @@ class Programs(Launched):
         (self.folder / "crates" / "netboot").mkdir(parents=True)
         _, said, status = self.ends("copy/boot.py s.ipxe", path="/none")
         self.assertEqual(status, 1)
-        self.assertIn("the program isn't built (crates/netboot/out/netboot), and the toolchain", said)
+        missing = "the program isn't built (crates/netboot/out/netboot), and the toolchain"
+        self.assertIn(missing, said)
 
     def test_it_compiles_where_nothing_is_built(self) -> None:
         """With another `rt` in the toolchain's place, which says what `rt try` does."""
@@ -144,8 +153,10 @@ class Programs(Launched):
         (self.folder / "crates" / "netboot").mkdir(parents=True)
         (self.folder / "bin").mkdir()
         fake = self.folder / "bin" / "rt"
-        fake.write_text(f'#!/bin/sh\ncp "{self.folder}/hello.out" "$5"\n'
-                        'echo "checked: ended status=3"\necho "run=ended status=3 runners=1 proved=no"\n')
+        fake.write_text(
+            f'#!/bin/sh\ncp "{self.folder}/hello.out" "$5"\necho "checked: ended status=3"\n'
+            'echo "run=ended status=3 runners=1 proved=no"\n'
+        )
         fake.chmod(0o755)
         path = f"{self.folder}/bin:{os.environ['PATH']}"
         printed, said, status = self.ends("copy/boot.py s.ipxe", path=path)
@@ -155,7 +166,8 @@ class Programs(Launched):
         fake.write_text("#!/bin/sh\necho refused: an error\nexit 1\n")
         _, said, status = self.ends("copy/boot.py s.ipxe", path=path)
         self.assertEqual(status, 1)
-        self.assertTrue(said.endswith("refused: an error\nboot.py: the program can't be compiled\n"))
+        wanted = "refused: an error\nboot.py: the program can't be compiled\n"
+        self.assertTrue(said.endswith(wanted), said)
 
     def test_the_output_is_kept(self) -> None:
         self.program(f'cp "{self.folder}/hello.out" "$3"; exit 3')
@@ -192,7 +204,8 @@ class Runs(Launched):
         self.put("s.pcap", pcap_file([(n * 300_000, frame) for n, frame in enumerate(frames)]))
         printed, said, status = self.ends("tools/boot.py s.pcap --map-ports")
         self.assertEqual(status, 0, said)
-        self.assertIn("the script is made from the capture's first request: imgexec tftp://10.0.0.1/k", said)
+        line = "the capture's first request: imgexec tftp://10.0.0.1/k"
+        self.assertIn(line, said)
         self.assertIn("  PART kernel, 604 bytes from 0\n", printed)
 
     def test_a_name_of_any_bytes(self) -> None:

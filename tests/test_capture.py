@@ -120,17 +120,17 @@ class Pcapng(unittest.TestCase):
                 self.assertEqual(packets(data)[0].time, 5 * SECOND + SECOND // 4)
 
     def test_other_blocks_are_passed_and_sections_begin_anew(self) -> None:
-        front = section("<") + interface("<", link=12) + interface("<")
-        front += block("<", 5, bytes(12)) + enhanced("<", 1, number=1)
-        data = front + section(">") + interface(">") + enhanced(">", 2, FRAME[:17])
+        head = section("<") + interface("<", link=12) + interface("<")
+        head += block("<", 5, bytes(12)) + enhanced("<", 1, number=1)
+        data = head + section(">") + interface(">") + enhanced(">", 2, FRAME[:17])
         found = packets(data)
         self.assertEqual([packet.time for packet in found], [1_000, 2_000])
         self.assertEqual([packet.frame for packet in found], [FRAME, FRAME[:17]])
 
     def test_damage(self) -> None:
-        front = section("<") + interface("<")
-        good = front + enhanced("<", 1)
-        at = len(front)
+        head = section("<") + interface("<")
+        good = head + enhanced("<", 1)
+        at = len(head)
         no_order = good[:8] + bytes(4) + good[12:]
         two_lengths = good[:-4] + bytes(4)
         odd = good[:at] + struct.pack("<II", 6, 30) + good[at + 8 :]
@@ -145,13 +145,13 @@ class Pcapng(unittest.TestCase):
             (no_order, 8, "no byte order"),
             (two_lengths, len(good) - 4, "two lengths differ"),
             (odd, at + 4, "no length 30"),
-            (front + past_end, at + 20, "61 bytes goes past"),
-            (front + enhanced("<", 1, number=1), at + 8, "no interface 1"),
+            (head + past_end, at + 20, "61 bytes goes past"),
+            (head + enhanced("<", 1, number=1), at + 8, "no interface 1"),
             (section("<") + interface("<", link=12) + enhanced("<", 1), 48, "link type 12"),
             (section("<") + past_option, 44, "past its block's end"),
             (section("<") + with_check_sequence, 28, "check sequence"),
-            (front + block("<", 3, bytes(8)), at, "has no time"),
-            (front + block("<", 2, bytes(24)), at, "obsolete"),
+            (head + block("<", 3, bytes(8)), at, "has no time"),
+            (head + block("<", 2, bytes(24)), at, "obsolete"),
         ):
             with self.subTest(why=why), self.assertRaises(Damaged) as caught:
                 packets(data)

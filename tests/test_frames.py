@@ -48,18 +48,18 @@ UNSET = Station(CLIENT.mac, IPv4Address(0))
 def tcp_frame(sender: Station, to: Station, ports: tuple[int, int], rest: tuple[int, ...]) -> bytes:
     """A TCP frame; `rest` are number, acknowledgement, flags, window and the number of data."""
     number, acknowledgement, flags, window, data = rest
-    front = struct.pack(">HHIIBBH", *ports, number, acknowledgement, 0x50, flags, window)
+    head = struct.pack(">HHIIBBH", *ports, number, acknowledgement, 0x50, flags, window)
     body = b"x" * data
     pseudo = pseudo_header(sender.ip, to.ip, PROTOCOL_TCP, 20 + data)
-    total = checksum(pseudo + front + bytes(4) + body)
-    segment = front + struct.pack(">HH", total, 0) + body
+    total = checksum(pseudo + head + bytes(4) + body)
+    segment = head + struct.pack(">HH", total, 0) + body
     return ethernet(to.mac, sender.mac, IPV4, ipv4(sender.ip, to.ip, PROTOCOL_TCP, segment))
 
 
 def dhcp(operation: int, kind: int, given: str = "0.0.0.0") -> bytes:
-    """A DHCP message with its kind behind a padding byte and a client identifier."""
-    front = bytes([operation, 1, 6, 0]) + bytes.fromhex("12345678") + bytes(8)
-    fixed = (front + IPv4Address(given).packed).ljust(236, b"\0")
+    """A DHCP message with its kind after a padding byte and a client identifier."""
+    head = bytes([operation, 1, 6, 0]) + bytes.fromhex("12345678") + bytes(8)
+    fixed = (head + IPv4Address(given).packed).ljust(236, b"\0")
     return fixed + bytes.fromhex("63825363 00 3d 02 0105 35 01") + bytes([kind, 255])
 
 
@@ -126,16 +126,16 @@ class Summary(unittest.TestCase):
             rows.append((udp_frame(SERVER, CLIENT, (40_000, 49_152), body), f"{ends} {said}"))
         self.check(rows)
 
-    def test_wrong_sums_are_told(self) -> None:
-        front = "10.0.0.2:49152 > 10.0.0.1:69 TFTP RRQ"
+    def test_wrong_sums_are_named(self) -> None:
+        head = "10.0.0.2:49152 > 10.0.0.1:69 TFTP RRQ"
         turned = READ_REQUEST.replace(b"k", b"l")
         other_life = READ_REQUEST.replace(b"\x40\x11", b"\x3f\x11")
         without = READ_REQUEST.replace(b"\x68\xb7", b"\0\0")
         self.check(
             [
-                (turned, f"{front} l octet, wrong checksum"),
-                (other_life, f"{front} k octet, wrong header checksum"),
-                (without, f"{front} k octet"),
+                (turned, f"{head} l octet, wrong checksum"),
+                (other_life, f"{head} k octet, wrong header checksum"),
+                (without, f"{head} k octet"),
             ]
         )
 

@@ -91,7 +91,7 @@ class Recording(Case):
             ("s.ipxe --capture none.pcap", "none.pcap"),
             ("s.ipxe --capture cut.pcap", "cut.pcap: at byte 40: the file ends inside a packet"),
             ("s.ipxe --gateway 10.0.0.1", "--gateway needs --ip"),
-            ("s.ipxe --ip 10.0.0.2/24 --gateway 10.0.1.1", "is not in the client's net 10.0.0.0/24"),
+            ("s.ipxe --ip 10.0.0.2/24 --gateway 10.0.1.1", "not in the client's net 10.0.0.0/24"),
             ("s.ipxe --ip 10.0.0.0/24", "10.0.0.0 is the address of the net"),
             ("s.ipxe --ip 10.0.0.255/24", "10.0.0.255 is the broadcast address"),
             ("s.ipxe --ip 10.0.0.2/24 --mask 255.0.0.0", "differ"),
@@ -109,8 +109,9 @@ class Recording(Case):
         for words in (
             "--mac 52:54:00:00:00", "--mac 52:54:00:00:00:0g", "--ip 10.0.0", "--key 00",
             "--uuid x", "--arch 65536", "--w 16384", "--tick 0", "--tick 60001",
-            "--mac 01:00:5e:00:00:01", "--mac 00:00:00:00:00:00", "--ip 224.0.0.1", "--ip 10.0.0.2/33",
-            "--ip 255.255.255.255", "--ip 0.0.0.1", "--mask 255.0.255.0", "--mask 0.0.0.255",
+            "--mac 01:00:5e:00:00:01", "--mac 00:00:00:00:00:00", "--ip 224.0.0.1",
+            "--ip 10.0.0.2/33", "--ip 255.255.255.255",
+            "--ip 0.0.0.1", "--mask 255.0.255.0", "--mask 0.0.0.255",
             "--gateway 239.0.0.1", "--dns 127.0.0.1", "--port 49151", "--until x", "--from -1",
             "--w 1 --port 50000", "--from 1 --trim",
         ):
@@ -156,7 +157,8 @@ class Times(Case):
     def test_a_clock_that_jumped(self) -> None:
         self.put("s.ipxe", b"")
         self.put("s.pcap", pcap_file([(0, SILENT[0][1]), (10**13, SILENT[0][1])]))
-        self.fails("tools/record.py s.ipxe s.rec --capture s.pcap", "s after the first, over a week")
+        said = "s after the beginning, over a day"
+        self.fails("tools/record.py s.ipxe s.rec --capture s.pcap", said)
 
 
 class Warnings(Case):
@@ -181,7 +183,7 @@ class Warnings(Case):
     def test_a_capture_that_is_cut_off(self) -> None:
         found = made.found().frame
         said = self.said([(0, found), (1, found)], tail=b"\0" * 5)
-        self.assertIn("cut off: at byte 140: the file ends inside a packet's header; 2 packets", said)
+        self.assertIn("cut off: at byte 140: the file ends inside a packet's header; 2 ", said)
         self.assertEqual(self.frames(), [found, found])
 
     def test_frames_that_are_skipped(self) -> None:
@@ -221,8 +223,8 @@ class Warnings(Case):
         answers = [udp_frame(made.SERVER, made.CLIENT, (40_000, port), b"\0\3\0\1abc")
                    for port in (2_070, 2_071)]
         packets = list(enumerate([asked, answers[0], again, answers[1]]))
-        self.assertIn("asked from port 2070, 2071, and the run's opens have the ports from 49152 on",
-                      self.said(packets))
+        said = "asked from port 2070, 2071, and the run's opens have the ports from 49152 on"
+        self.assertIn(said, self.said(packets))
         self.assertNotIn("warning", self.said(packets, "--map-ports"))
         wanted = [udp_frame(made.SERVER, made.CLIENT, (40_000, port), b"\0\3\0\1abc")
                   for port in (49_152, 49_153)]
@@ -252,7 +254,8 @@ def sll(kind: int, frame: bytes) -> bytes:
 
 
 def sll2(kind: int, frame: bytes) -> bytes:
-    return frame[12:14] + struct.pack(">HIHBB", 0, 2, 1, kind, 6) + frame[6:12] + b"\0\0" + frame[14:]
+    head = frame[12:14] + struct.pack(">HIHBB", 0, 2, 1, kind, 6)
+    return head + frame[6:12] + b"\0\0" + frame[14:]
 
 
 def pcap_file(packets: list[tuple[int, bytes]], cut: int = 0, link: int = 1) -> bytes:

@@ -1,7 +1,7 @@
 """Boots by TFTP over good and hostile recordings: the program's whole output, record by record.
 
-What is expected is written from docs/RECORDS.md, RFC 1350 and RFC 826. The program is compiled once
-by the toolchain's `rt try` and run over all recordings; without the toolchain the tests are skipped.
+What is expected is written from docs/RECORDS.md, RFC 1350 and RFC 826. The built program is run, or,
+where it isn't fresh, what the toolchain's `rt try` compiles once for all recordings.
 """
 
 from __future__ import annotations
@@ -14,17 +14,17 @@ from ipaddress import IPv4Address
 from shared.causes import OK, Cause, Code
 from shared.kinds import OpenKind, PartKind, Status
 from shared.recordings import read_input, read_output
-from shared.records import Advance, Done, Ended, Off, Open, Part, Received, Record, Result, Sent, Step
-from shared.records import Tick, Try
+from shared.records import Advance, Done, Ended, Off, Open, Part, Received, Record, Result
+from shared.records import Sent, Step, Tick, Try
 from tests import made
 from tests.case import TOP
 from tests.replays import Replayed, can_run, replay_all
-from shared.wire import Station, arp_reply, arp_request, ethernet, ipv4, tftp_ack, tftp_data, tftp_error
-from shared.wire import tftp_request, udp, udp_frame
+from shared.wire import Station, arp_reply, arp_request, ethernet, ipv4, tftp_ack, tftp_data
+from shared.wire import tftp_error, tftp_request, udp, udp_frame
 
 FETCH = b"imgfetch tftp://10.0.0.1/f"
 EXEC = b"imgexec tftp://10.0.0.1/k"
-# where OPEN stands in the output: behind STEP, SCRIPT and COMMAND
+# where OPEN stands in the output: after STEP, SCRIPT and COMMAND
 OPEN_PLACE = 3
 FOREIGN_PORT = made.SERVER_PORT + 1
 NEIGHBOUR = Station(bytes.fromhex("525400000003"), IPv4Address("10.0.0.3"))
@@ -117,7 +117,8 @@ def without_sum(block: int, content: bytes) -> Record:
     ports = (made.SERVER_PORT, made.OWN_PORT)
     packet = udp(server.ip, client.ip, ports, tftp_data(block, content))
     packet = packet[:6] + b"\0\0" + packet[8:]
-    return Received(ethernet(client.mac, server.mac, 0x0800, ipv4(server.ip, client.ip, 17, packet)))
+    body = ipv4(server.ip, client.ip, 17, packet)
+    return Received(ethernet(client.mac, server.mac, 0x0800, body))
 
 
 def blocks() -> dict[str, Row]:

@@ -204,6 +204,19 @@ class Outputs(Tool):
         finally:
             subprocess.run(["umount", str(disk)], check=True)
 
+    def test_parts_that_do_not_fit_leave_nothing(self) -> None:
+        pieces = [Part(PartKind.KERNEL, 0, number * 60_000, bytes(60_000)) for number in range(3)]
+        self.put("long.out", [Step(1), *pieces, Done(Status.HANDED_OFF)])
+        before = self.names()
+
+        def prepare() -> None:
+            resource.setrlimit(resource.RLIMIT_FSIZE, (170_000, 170_000))
+
+        done = self.end("tools/show.py long.out --parts new/parts", prepare)
+        self.assertEqual((done.status, done.printed), (1, ""))
+        self.assertIn("File too large", done.said)
+        self.assertEqual(self.names(), before)
+
     def test_what_can_not_be_written(self) -> None:
         for name, said in (("inner", "Is a directory"), ("none/made", "no file can be made")):
             (self.folder / "inner").mkdir(exist_ok=True)

@@ -17,7 +17,7 @@ class Showing(Case):
         self.put("boot.rec", made.BOOT_INPUT)
         self.put("boot.out", made.BOOT_OUTPUT)
 
-    def test_damage_is_told_behind_what_is_whole(self) -> None:
+    def test_damage_is_named_after_what_is_complete(self) -> None:
         whole = made.HELLO_OUTPUT
         unknown = whole[:25] + bytes.fromhex("00000002 99 00") + whole[25:]
         past_end = whole[:25] + bytes.fromhex("0000ffff 83") + whole[30:]
@@ -38,7 +38,7 @@ class Showing(Case):
         self.fails("tools/show.py damaged.rec", "damaged.rec: at byte 0")
         self.fails("tools/show.py absent.rec", "absent.rec")
 
-    def test_damage_is_told_of_the_file_that_has_it(self) -> None:
+    def test_damage_is_named_with_its_file(self) -> None:
         self.put("cut.rec", made.spelled(made.BOOT_INPUT)[:-1])
         self.fails("tools/show.py boot.out --input cut.rec", "cut.rec: at byte")
         self.put("cut.out", made.spelled(made.BOOT_OUTPUT)[:-1])
@@ -58,6 +58,16 @@ class Showing(Case):
         self.put("texts.out", [Step(1), *map(Text, texts)])
         printed = self.works("tools/show.py texts.out --text")
         self.assertEqual(printed, "ab\nc\t\\x1b\n\n\\xff\n")
+
+    def test_texts_in_utf_8(self) -> None:
+        """Also a character that is cut; what could not be seen, or turns the line, is shown."""
+        euro = "€".encode()
+        texts = ("grüße ".encode(), euro[:1], euro[1:], b"\xe2\x82!", "\u202e\x85".encode())
+        self.put("texts.out", [Step(1), *map(Text, texts)])
+        printed = self.works("tools/show.py texts.out --text")
+        self.assertEqual(printed, "grüße €\\xe2\\x82!\\xe2\\x80\\xae\\xc2\\x85\n")
+        self.put("texts.out", [Step(1), Text("grüße\\\n".encode() + b"\xff")])
+        self.assertIn('TEXT "grüße\\\\\\n\\xff"', self.works("tools/show.py texts.out"))
 
     def test_an_open(self) -> None:
         printed = self.works("tools/show.py boot.out --open 0 --input boot.rec").splitlines()
@@ -127,7 +137,7 @@ class Showing(Case):
         self.put("silent.rec", inputs)
         self.put("silent.out", outputs)
         printed = self.works("tools/show.py silent.out --input silent.rec --why")
-        self.assertEqual(printed.count("TRY"), 6)
+        self.assertEqual(printed.count(": try "), 6)
         self.fails("tools/show.py silent.rec --why", "needs an output recording")
         self.fails("tools/show.py silent.out --why --input silent.out", "is an output recording")
         self.fails("tools/show.py silent.out --input boot.rec", "has no record 7")

@@ -80,12 +80,12 @@ class LocalCommands(unittest.TestCase):
         outputs = [Step(1), made.enter(), made.leave(cause), Done(Status.SCRIPT_FAILED)]
         self.assertEqual(why(outputs)[1], "the script failed in step 1: NotScript")
         for script, said, line in (
-            (b"echo hello\n", 'line 1 is "echo hello", and a script begins with the line `#!ipxe`', 1),
+            (b"echo hi\n", 'line 1 is "echo hi", and a script begins with the line `#!ipxe`', 1),
             (b"", "the script is empty, and no script is built in yet", 1),
             (b"#!ipxe\n\n\necho a || echo b\n", "line 4 has `||`, which isn't run yet", 4),
             (b"#!ipxe\n:again\n", "line 2 is the label `:again`, and labels aren't run yet", 2),
             (b"#!ipxe\n#\necho ${ip}", "line 3 has `${`, and settings aren't expanded yet", 3),
-            (b"#!ipxe\necho a\\\nb\n", "line 2 ends in a backslash, and lines aren't joined yet", 2),
+            (b"#!ipxe\necho a\\\nb", "line 2 ends in a backslash, and lines aren't joined yet", 2),
             (b"#!ipxe\necho" + b" x" * 64, "line 2 has 65 words, more than 64", 2),
             (b"#!ipxe\n" + b"x" * 4_097, "line 2 has 4097 bytes, more than 4096", 2),
             (b"#!ipxe\n" * 4_097, "the script has more than 4096 lines", 4_097),
@@ -242,7 +242,8 @@ class Transfers(unittest.TestCase):
         outputs = [*self.begins()[:4], *made.fails(cause)]
         lines = why(outputs, [made.start(self.SCRIPT)])
         self.assertEqual(
-            lines[0], "line 2: 10.0.0.1 is outside the client's net 10.0.0.0/24, and no gateway is set"
+            lines[0],
+            "line 2: 10.0.0.1 is outside the client's net 10.0.0.0/24, and no gateway is set",
         )
         self.assertEqual(lines[1], "line 2 failed in step 1 at 0 ms: NoRoute(10.0.0.1)")
         self.assertIn("ip 10.0.0.2, mask 255.255.255.0, gateway 0.0.0.0", lines[-1])
@@ -273,11 +274,12 @@ class Transfers(unittest.TestCase):
         cut = made.spelled([*inputs[:1], made.found()])[:-1]
         self.assertRegex(sentence(outputs, cut), can_not + r".*in.rec: at byte 114: the file ends")
         broken = made.spelled(inputs[:1]) + b"\0\0\0\1\x09"
-        self.assertRegex(sentence(outputs, broken), can_not + r".*at byte 118: type 0x09 is not one")
+        self.assertRegex(sentence(outputs, broken), can_not + r".*at byte 118: type 0x09 is not")
         self.assertIn("the input ends after record 1", sentence(outputs, inputs[:1]))
         self.assertIn("give the input recording by --input", sentence(outputs))
         first = [Done(Status.BAD_RECORD)]
-        self.assertRegex(sentence(first, [Tick(1)]), r"record 1 can't .*the first record is not START$")
+        said = r"record 1 can't .*the first record is not START$"
+        self.assertRegex(sentence(first, [Tick(1)]), said)
 
     def test_an_output_that_is_cut_off(self) -> None:
         whole = made.spelled(self.begins())
@@ -326,8 +328,8 @@ class Waiting(unittest.TestCase):
     def test_the_recording_ends(self) -> None:
         outputs = [*self.begins(), Step(2), *self.STOPPED]
         lines = why(outputs, [self.START, Tick(200)])
-        said = "the recording ends after 0.2 s, while line 2 waited for the hardware address of 10.0.0.1"
-        self.assertEqual(lines[0], said)
+        waited = "while line 2 waited for the hardware address of 10.0.0.1"
+        self.assertEqual(lines[0], f"the recording ends after 0.2 s, {waited}")
         self.assertIn("  a silent server is given up after some 16 s: record.py --until 17", lines)
         self.assertEqual(lines[-1], "nothing came meanwhile")
         without = "the run was ended from outside, while line 2 waited for the hardware address of"
@@ -335,7 +337,7 @@ class Waiting(unittest.TestCase):
 
     def test_the_hardware_address_came_and_no_more(self) -> None:
         outputs = [*self.begins(), Step(2), Step(3), *self.STOPPED]
-        said = "for the next try, as 10.0.0.1 had only said its hardware address: f is asked for then"
+        said = "next try, as 10.0.0.1 had only said its hardware address: f is asked for then"
         self.assertTrue(sentence(outputs, [self.START, made.found(), Tick(9)]).endswith(said))
 
     def test_the_power_is_switched_off(self) -> None:
@@ -343,8 +345,8 @@ class Waiting(unittest.TestCase):
         outputs = [*self.begins(), Step(2), Advance(0, 1), Try(0, 1), ack, Step(3), *self.STOPPED]
         inputs = [self.START, made.from_server(tftp_data(1, bytes(512))), Off()]
         lines = why(outputs, inputs)
-        said = "the power was switched off after 0 s, while line 2 waited for block 2 of f from 10.0.0.1"
-        self.assertEqual(lines[0], said)
+        waited = "while line 2 waited for block 2 of f from 10.0.0.1"
+        self.assertEqual(lines[0], f"the power was switched off after 0 s, {waited}")
         self.assertFalse([line for line in lines if "--until" in line])
 
     def test_why_what_came_did_not_count(self) -> None:
@@ -357,8 +359,8 @@ class Waiting(unittest.TestCase):
             (other.mac + good[6:], "the hardware address 52:54:00:00:00:03 isn't the client's"),
             (damaged, "UDP from 10.0.0.1 with a wrong checksum or length"),
             (wrong_head, "or its header's checksum is wrong"),
-            (udp_frame(other, made.CLIENT, ports, tftp_data(1, b"a")), "from 10.0.0.3, and the file"),
-            (udp_frame(made.SERVER, made.CLIENT, (69, 1), b""), "to port 1, and the transfer's port"),
+            (udp_frame(other, made.CLIENT, ports, tftp_data(1, b"a")), "from 10.0.0.3, and the"),
+            (udp_frame(made.SERVER, made.CLIENT, (69, 1), b""), "to port 1, and the transfer's"),
             (made.found().frame, "ARP, which only says where hosts are"),
             (made.from_server(tftp_data(2, b"")).frame, "block 2, and block 1 was waited for"),
             (made.from_server(b"\0\6blksize\x001432\0").frame, "a TFTP OACK"),

@@ -18,17 +18,16 @@ import show
 from shared.boot_capture import Reader, Request, first_request
 from shared.command_line import Refused, run
 from shared.output import check_output, writing
+from shared.recordings import CAPTURE_MAGICS
 from shared.records import Start
 
 TOP = Path(__file__).resolve().parent.parent
 CRATE = TOP / "crates" / "netboot"
 BUILT = CRATE / "out" / "netboot"
-CAPTURE_MAGICS = frozenset(
-    bytes.fromhex(magic) for magic in ("a1b2c3d4", "d4c3b2a1", "a1b23c4d", "4d3cb2a1", "0a0d0d0a")
-)
 TYPE_OFFSET = 4
 MOST_SECONDS_TO_END = 3
 STATUS_LINE = "run=ended status="
+TOOLCHAIN_LINES = ("checked:", "run=")
 TRACED = (0, 3)
 STATUSES = {
     0: "an image was handed off",
@@ -61,21 +60,29 @@ examples:
   boot.py examples/tftp-boot.rec --output boot.out"""
 
 
-def parse(words: list[str]) -> argparse.Namespace:
-    parser = argparse.ArgumentParser(
+def parser() -> argparse.ArgumentParser:
+    made = argparse.ArgumentParser(
         description=DESCRIPTION,
         epilog=EPILOG,
         formatter_class=argparse.RawDescriptionHelpFormatter,
     )
-    parser.add_argument("file", type=Path, help="a script, an input recording or a capture")
-    parser.add_argument("--script", type=Path, help="the script to run over a capture")
-    parser.add_argument("--output", type=Path, metavar="FILE", help="keep the output recording")
-    parser.add_argument("--input", type=Path, metavar="FILE", help="keep the input recording")
-    parser.add_argument("--program", type=Path, help="the program to run, in place of the built one")
-    parser.add_argument("--trace", action="store_true", help="show the trace however the run ends")
-    options = parser.add_argument_group("options of record.py, for a script or a capture")
-    record.add_options(options)
-    return parser.parse_args(words)
+    made.add_argument("file", type=Path, help="a script, an input recording or a capture")
+    made.add_argument("--output", type=Path, metavar="FILE", help="keep the output recording")
+    made.add_argument("--program", type=Path, help="the program to run, in place of the built one")
+    made.add_argument("--trace", action="store_true", help="show the trace however the run ends")
+    made.add_argument("--script", type=Path, help="the script to run over a capture")
+    made.add_argument("--input", type=Path, metavar="FILE", help="keep the input recording")
+    record.add_options(made.add_argument_group("options of record.py, for a script or a capture"))
+    return made
+
+
+def refuse_for_recording(arguments: argparse.Namespace) -> None:
+    """A recording has its script, its addresses and its frames: options for them do nothing."""
+    usual = parser().parse_args([str(arguments.file)])
+    for name in vars(arguments).keys() - {"file", "output", "program", "trace"}:
+        if getattr(arguments, name) != getattr(usual, name):
+            option = "from" if name == "begin" else name.replace("_", "-")
+            raise Refused(f"{arguments.file} is a recording already, so --{option} can't change it")
 
 
 def kind_of(path: Path) -> str:
@@ -98,7 +105,8 @@ def one_line_script(request: Request | None, capture: Path) -> bytes:
         raise Refused(f"{capture}: it has no TFTP request, so --script must say what to run")
     server = ".".join(map(str, request.server))
     line = b"imgexec tftp://" + server.encode() + b"/" + request.path.lstrip(b"/")
-    progress(f"the script is made from the capture's first request: {line.decode('utf-8', 'replace')}")
+    shown = line.decode("utf-8", "replace")
+    progress(f"the script is made from the capture's first request: {shown}")
     return b"#!ipxe\n" + line + b"\n"
 
 
@@ -108,6 +116,7 @@ def input_recording(arguments: argparse.Namespace, folder: Path) -> Path:
         raise Refused(f"{arguments.file} is no regular file")
     kind = kind_of(arguments.file)
     if kind == "recording":
+        refuse_for_recording(arguments)
         return arguments.file
     arguments.recording = arguments.input or folder / "in.rec"
     if kind == "script":
@@ -197,9 +206,15 @@ def status_of(words: list[str], said: str, status: int) -> int:
     return int(ended[-1].removeprefix(STATUS_LINE).split()[0])
 
 
-def messages(said: str) -> Iterator[str]:
-    """The program's own lines among those of the toolchain."""
-    return (line for line in said.splitlines() if line.startswith(("netboot:", "usage:")))
+def messages(words: list[str], said: str) -> Iterator[str]:
+    """The program's own lines, without those of the toolchain around them."""
+    is_programs = words[0] != "rt"
+    for line in said.splitlines():
+        if words[0] == "rt" and line.startswith(TOOLCHAIN_LINES):
+            return
+        is_programs = is_programs or line.startswith(("netboot:", "usage:"))
+        if is_programs:
+            yield line
 
 
 def execute(arguments: argparse.Namespace, recording: Path, output: Path) -> int:
@@ -214,7 +229,7 @@ def execute(arguments: argparse.Namespace, recording: Path, output: Path) -> int
         raise Refused(f"{words[0]}: {error.strerror}") from error
     said = finish(process)
     status = status_of(words, said, process.returncode)
-    for line in messages(said):
+    for line in messages(words, said):
         print(line, file=sys.stderr)
     if status < 0:
         raise Refused(f"the program was ended by {signal.Signals(-status).name}")
@@ -248,7 +263,7 @@ def keep(path: Path, output: Path, recording: Path) -> None:
 
 
 def boot(words: list[str]) -> int:
-    arguments = parse(words)
+    arguments = parser().parse_args(words)
     if arguments.output:
         check_output(arguments.output, arguments.file, arguments.script, arguments.capture)
     with tempfile.TemporaryDirectory(prefix="netboot-") as name:

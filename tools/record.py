@@ -32,7 +32,9 @@ from shared.records import MAX_TICK, Start, Tick, spell
 from shared.texts import count, mac
 
 DEFAULT_MAC = "52:54:00:00:00:01"
-MOST_SECONDS = 604_800
+# a recording has at most a day, and may begin anywhere in a capture of up to a year
+DAY = 86_400
+YEAR = 366 * DAY
 # what START can hold, and one byte more, so that a longer script is seen to be one
 READ_AT_MOST = 130_997
 
@@ -76,10 +78,15 @@ def ranged(low: int, high: int) -> Callable[[str], int]:
     return number
 
 
-def seconds(text: str) -> float:
-    if not re.fullmatch(r"[0-9]{1,6}(\.[0-9]+)?", text) or float(text) > MOST_SECONDS:
-        raise argparse.ArgumentTypeError(f"{text} is no number of seconds, 0 to {MOST_SECONDS}")
-    return float(text)
+def seconds(most: int) -> Callable[[str], float]:
+    """A reader of seconds, with a fraction or without."""
+
+    def number(text: str) -> float:
+        if not re.fullmatch(r"[0-9]{1,8}(\.[0-9]+)?", text) or float(text) > most:
+            raise argparse.ArgumentTypeError(f"{text} is no number of seconds, 0 to {most}")
+        return float(text)
+
+    return number
 
 
 @dataclass(frozen=True, slots=True)
@@ -201,27 +208,6 @@ def add_machine(parser: argparse.ArgumentParser) -> None:
 
 def add_capture(parser: argparse.ArgumentParser) -> None:
     parser.add_argument("--capture", type=Path, metavar="FILE", help="a pcap or pcapng file")
-    begin = parser.add_mutually_exclusive_group()
-    begin.add_argument(
-        "--from",
-        dest="begin",
-        type=seconds,
-        metavar="S",
-        help="time begins S seconds after the capture's first packet",
-    )
-    begin.add_argument(
-        "--trim", action="store_true", help="time begins at the first frame from or to --mac"
-    )
-    parser.add_argument(
-        "--until", type=seconds, metavar="S", help="time runs to S seconds after its beginning"
-    )
-    parser.add_argument(
-        "--tick",
-        type=ranged(1, MAX_TICK),
-        default=250,
-        metavar="MS",
-        help="the longest TICK, in milliseconds (default 250)",
-    )
     parser.add_argument(
         "--skip", action="store_true", help="leave out frames that are too long, short or cut"
     )
@@ -237,11 +223,32 @@ def add_capture(parser: argparse.ArgumentParser) -> None:
     )
 
 
+def add_times(parser: argparse.ArgumentParser) -> None:
+    begin = parser.add_mutually_exclusive_group()
+    begin.add_argument(
+        "--from",
+        dest="begin",
+        type=seconds(YEAR),
+        metavar="S",
+        help="time begins S seconds after the capture's first packet",
+    )
+    begin.add_argument(
+        "--trim", action="store_true", help="time begins at the first frame from or to --mac"
+    )
+    until = "time runs to S seconds after its beginning"
+    parser.add_argument("--until", type=seconds(DAY), metavar="S", help=until)
+    longest = "the longest TICK, in milliseconds (default 250)"
+    parser.add_argument(
+        "--tick", type=ranged(1, MAX_TICK), default=250, metavar="MS", help=longest
+    )
+
+
 def add_options(parser: argparse.ArgumentParser) -> None:
     """The options beside the files; boot.py has them too."""
     add_addresses(parser)
     add_machine(parser)
     add_capture(parser)
+    add_times(parser)
 
 
 def parse(words: list[str]) -> argparse.Namespace:

@@ -30,8 +30,8 @@ UDP_HEADER = 8
 FIRST_OWN_PORT = 49_152
 OWN_PORTS = 16_384
 MOST_COUNTED = 1_024
-# a week: what comes later is no boot, but a clock that jumped
-LONGEST = 7 * 24 * 3600 * 1000
+# a day: what comes later is no boot, but a clock that jumped
+LONGEST = 24 * 3600 * 1000
 
 
 @dataclass(frozen=True, slots=True)
@@ -169,7 +169,10 @@ class Conversion:
     def _check_time(self, packet: Packet, time: int) -> None:
         if time > LONGEST:
             where = f"{self.reader.name}: the packet at byte {packet.offset}"
-            raise Refused(f"{where} comes {time // 1000} s after the first, over a week")
+            raise Refused(
+                f"{where} comes {time // 1000} s after the beginning, over a day: --from, --trim "
+                "and --until take a part of a capture"
+            )
 
     def ticks(self, time: int) -> Iterator[Tick]:
         """TICKs from now to this time, in milliseconds."""
@@ -260,7 +263,8 @@ def warnings(conversion: Conversion, w: int) -> Iterator[str]:
             "fills in later, and the client drops them: --fix-checksums mends them"
         )
     if met.wrong:
-        yield f"{met.wrong} of {count(met.taken, 'frame')} have wrong checksums; the client drops them"
+        of_all = f"{met.wrong} of {count(met.taken, 'frame')}"
+        yield f"{of_all} have wrong checksums, and the client drops them"
     if taken.own_port is None:
         yield from _ports(met, w)
     if met.began_late >= 1_000 and not taken.is_trimmed and taken.begin is None:

@@ -6,7 +6,7 @@ from collections import Counter
 from dataclasses import dataclass, field
 from ipaddress import IPv4Address
 
-from shared.frames import datagram_of, ends_of, packet_of
+from shared.frames import Packet, datagram_of, ends_of, packet_of
 from shared.records import Open, Start
 from shared.texts import count, mac
 from shared.wire import ARP, IPV4, PROTOCOL_UDP, Opcode
@@ -53,6 +53,9 @@ class Meanwhile:
         packet = packet_of(frame)
         if packet is None or not packet.is_sound:
             return "no well-formed IPv4 packet, or its header's checksum is wrong"
+        return self._packet_reason(packet)
+
+    def _packet_reason(self, packet: Packet) -> str | None:
         if packet.target not in (self.start.ip, ALL_HOSTS):
             return f"to the address {packet.target}, which isn't the client's, {self.start.ip}"
         if packet.is_fragment:

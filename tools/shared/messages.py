@@ -98,24 +98,24 @@ def dns(body: bytes) -> str | None:
         return None
     name, at = question
     flags = int.from_bytes(body[2:4], "big")
-    front = f"0x{body[0:2].hex()} {word(name)}"
+    asked = f"0x{body[0:2].hex()} {word(name)}"
     if not flags & DNS_RESPONSE:
-        return f"DNS query {front}"
+        return f"DNS query {asked}"
     if flags & 15:
-        return f"DNS answer {front}: rcode {flags & 15}"
+        return f"DNS answer {asked}: rcode {flags & 15}"
     found = _dns_records(body, at + 4, int.from_bytes(body[6:8], "big"))
-    return f"DNS answer {front}: {', '.join(found) or 'nothing'}"
+    return f"DNS answer {asked}: {', '.join(found) or 'nothing'}"
 
 
 def _dns_name(body: bytes, at: int) -> tuple[bytes, int] | None:
-    """A name and the place behind it. Pointers lead to earlier places only."""
+    """A name and the place after it. Pointers lead to earlier places only."""
     labels: list[bytes] = []
-    behind = None
+    after = None
     limit = at
     while at < len(body):
         length = body[at]
         if length & DNS_POINTER == DNS_POINTER and at + 1 < len(body):
-            behind = behind or at + 2
+            after = after or at + 2
             at = int.from_bytes(body[at : at + 2], "big") & 0x3FFF
             if at >= limit:
                 return None
@@ -123,7 +123,7 @@ def _dns_name(body: bytes, at: int) -> tuple[bytes, int] | None:
         elif length & DNS_POINTER or sum(map(len, labels)) > DNS_MAX_NAME:
             return None
         elif length == 0:
-            return b".".join(labels), behind or at + 1
+            return b".".join(labels), after or at + 1
         else:
             labels.append(body[at + 1 : at + 1 + length])
             at += 1 + length

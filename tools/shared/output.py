@@ -58,7 +58,9 @@ def _about(path: Path) -> os.stat_result | None:
         return None
 
 
-def _check_inputs(path: Path, about: os.stat_result | None, inputs: tuple[Path | None, ...]) -> None:
+def _check_inputs(
+    path: Path, about: os.stat_result | None, inputs: tuple[Path | None, ...]
+) -> None:
     for given in inputs:
         if given is None or about is None or not stat.S_ISREG(about.st_mode):
             continue
@@ -98,7 +100,7 @@ def _beside(place: Path, about: os.stat_result | None) -> Iterator[BinaryIO]:
         unfinished = None
     finally:
         if unfinished:
-            os.unlink(unfinished)
+            Path(unfinished).unlink(missing_ok=True)
 
 
 def _new_file(place: Path) -> tuple[int, str]:

@@ -3,6 +3,7 @@
 from __future__ import annotations
 
 import hashlib
+from contextlib import suppress
 from dataclasses import dataclass, field
 from pathlib import Path
 from typing import BinaryIO, Iterable
@@ -12,6 +13,8 @@ from shared.kinds import PartKind, Status
 from shared.records import Done, Part, Record
 from shared.texts import word
 
+# a URI's last segment or a --name has at most this many
+MOST_NAME = 255
 SAFE = frozenset(b"abcdefghijklmnopqrstuvwxyzABCDEFGHIJKLMNOPQRSTUVWXYZ0123456789._-")
 FILE_NAMES = {
     PartKind.KERNEL: "kernel",
@@ -50,18 +53,25 @@ class PartsWriter:
         if folder.exists() and (not folder.is_dir() or any(folder.iterdir())):
             raise Refused(f"{folder} is there already and not an empty folder")
         self.folder = folder
+        self.made: list[Path] = []
         self.names: dict[tuple[PartKind, int], bytes] = {}
         self.files: dict[tuple[PartKind, int], Written] = {}
 
     def put(self, part: Part) -> None:
         key = (part.kind, part.index)
         if part.kind in NAME_OF.values():
-            self._expect(part, len(self.names.get(key, b"")))
-            self.names[key] = self.names.get(key, b"") + part.piece
+            self._put_name(key, part)
             return
         written = self.files.get(key) or self._begin(key)
         self._expect(part, written.length)
         written.put(part.piece)
+
+    def _put_name(self, key: tuple[PartKind, int], part: Part) -> None:
+        name = self.names.get(key, b"")
+        self._expect(part, len(name))
+        if len(name) + len(part.piece) > MOST_NAME:
+            raise Refused(f"the name of an image has more than {MOST_NAME} bytes")
+        self.names[key] = name + part.piece
 
     def _expect(self, part: Part, offset: int) -> None:
         if part.offset != offset:
@@ -69,13 +79,19 @@ class PartsWriter:
             raise Refused(f"PART {what} goes on at {part.offset}, not at {offset}")
 
     def _begin(self, key: tuple[PartKind, int]) -> Written:
-        self.folder.mkdir(parents=True, exist_ok=True)
+        self._make_folders()
         kind, index = key
         name = FILE_NAMES.get(kind) or f"initrd-{index}-{safe_name(self._name(key) or b'')}"
         path = self.folder / name
         written = Written(path, path.open("xb"))
         self.files[key] = written
         return written
+
+    def _make_folders(self) -> None:
+        for folder in (*reversed(self.folder.parents), self.folder):
+            if not folder.is_dir():
+                folder.mkdir()
+                self.made.append(folder)
 
     def _name(self, key: tuple[PartKind, int]) -> bytes | None:
         kind, index = key
@@ -87,9 +103,15 @@ class PartsWriter:
             written.stream.close()
 
     def discard(self) -> None:
-        """Takes away what was written of a hand-off that is not whole."""
+        """Takes away what was made for a hand-off that is not complete."""
         for written in self.files.values():
-            written.path.unlink(missing_ok=True)
+            with suppress(OSError):
+                written.stream.close()
+            with suppress(OSError):
+                written.path.unlink()
+        for folder in reversed(self.made):
+            with suppress(OSError):
+                folder.rmdir()
 
     def report(self) -> list[str]:
         """A line for each file: its name, length, SHA-256, and the image's name."""
@@ -106,16 +128,17 @@ def write_parts(records: Iterable[Record], folder: Path) -> list[str]:
     """Writes the parts of an output recording and answers the report. A recording that does not
     end in a hand-off is refused, and leaves no file."""
     writer = PartsWriter(folder)
-    is_whole = False
+    is_written = is_complete = False
     try:
         for record in records:
             if isinstance(record, Part):
                 writer.put(record)
-            is_whole = record == Done(Status.HANDED_OFF)
-        if not is_whole:
+            is_complete = record == Done(Status.HANDED_OFF)
+        if not is_complete:
             raise Refused("the recording does not end in a hand-off (DONE 0)")
+        writer.close()
+        is_written = True
         return writer.report()
     finally:
-        writer.close()
-        if not is_whole:
+        if not is_written:
             writer.discard()

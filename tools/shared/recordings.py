@@ -22,6 +22,9 @@ from shared.records import (
 
 TYPE_OFFSET = 4
 OUTPUT_BIT = 0x80
+CAPTURE_MAGICS = frozenset(
+    bytes.fromhex(magic) for magic in ("a1b2c3d4", "d4c3b2a1", "a1b23c4d", "4d3cb2a1", "0a0d0d0a")
+)
 
 
 @dataclass(frozen=True, slots=True)
@@ -42,6 +45,10 @@ def open_recording(path: Path) -> Iterator[tuple[Direction, BinaryIO]]:
 
 def _direction_of(path: Path, stream: BinaryIO) -> Direction:
     head = stream.peek(TYPE_OFFSET + 1)
+    if head[:TYPE_OFFSET] in CAPTURE_MAGICS:
+        raise Refused(f"{path} is a capture, and record.py makes a recording of it")
+    if head.startswith(b"#!"):
+        raise Refused(f"{path} is a script, and record.py makes a recording of it")
     if not head:
         raise Refused(f"{path}: the file is empty")
     if len(head) <= TYPE_OFFSET:

@@ -31,6 +31,7 @@ from shared.fields import (
     Words,
 )
 from shared.kinds import GraphEvent, ObjectKind, OpenKind, PartKind, ScriptMove, Status
+from shared.texts import count
 
 MAX_LENGTH = 131_072
 MIN_FRAME = 14
@@ -389,7 +390,7 @@ def record_of(kinds: dict[int, type[Record]], content: bytes, offset: int) -> Re
     body = Body(content[1:], offset + 1)
     record = kind(*[field.read(body) for field in kind.LAYOUT])
     if body.left:
-        raise Damaged(body.offset, f"{body.left} bytes after the end of a {kind.NAME}")
+        raise Damaged(body.offset, f"{count(body.left, 'byte')} after the end of {kind.NAME}")
     fault = record.fault()
     if fault:
         raise Damaged(offset + 1, fault)

@@ -37,7 +37,7 @@ USAGES = {
     b"imgexec": "imgexec URI",
 }
 
-# Commands of iPXE, so that one that isn't built is told from one that is misspelled.
+# Commands of iPXE, so that one that isn't built is known from one that is misspelled.
 KNOWN = frozenset(
     b"autoboot boot chain choose clear colour config console cpair cpuid dhcp form goto ifclose "
     b"ifconf ifopen iflinkwait ifstat imgargs imgdecrypt imgextract imgfree imgload imgmem "
@@ -137,7 +137,8 @@ def of_wait(opened: Open, asked: list[bytes], block: int, known: set[IPv4Address
     if hop and hop not in known:
         return f"the hardware address of {hop}"
     if hop:
-        return f"the next try, as {hop} had only said its hardware address: {path} is asked for then"
+        said = f"{hop} had only said its hardware address"
+        return f"the next try, as {said}: {path} is asked for then"
     if block:
         return f"block {block + 1} of {path} from {opened.server}"
     return f"the first answer of {opened.server} to the request for {path}"

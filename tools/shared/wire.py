@@ -82,18 +82,18 @@ def ipv4(
 ) -> bytes:
     """An IPv4 packet without options, don't-fragment set, time to live 64."""
     length = (20 + len(body)).to_bytes(2, "big")
-    front = b"\x45\0" + length + identification.to_bytes(2, "big") + b"\x40\0\x40"
-    front += bytes([protocol])
+    head = b"\x45\0" + length + identification.to_bytes(2, "big") + b"\x40\0\x40"
+    head += bytes([protocol])
     addresses = source.packed + target.packed
-    return front + checksum(front + addresses).to_bytes(2, "big") + addresses + body
+    return head + checksum(head + addresses).to_bytes(2, "big") + addresses + body
 
 
 def udp(source: IPv4Address, target: IPv4Address, ports: tuple[int, int], body: bytes) -> bytes:
     """A UDP datagram with its checksum; `ports` are the sender's and the receiver's."""
     length = 8 + len(body)
-    front = b"".join(number.to_bytes(2, "big") for number in (*ports, length))
-    summed = pseudo_header(source, target, PROTOCOL_UDP, length) + front + b"\0\0" + body
-    return front + (checksum(summed) or 0xFFFF).to_bytes(2, "big") + body
+    head = b"".join(number.to_bytes(2, "big") for number in (*ports, length))
+    summed = pseudo_header(source, target, PROTOCOL_UDP, length) + head + b"\0\0" + body
+    return head + (checksum(summed) or 0xFFFF).to_bytes(2, "big") + body
 
 
 def udp_frame(
