@@ -1,10 +1,10 @@
 -- What a field begins with, by what it is without its padding.
-use Rattle.std.proofs.Common.{◌≡◌, ℕ, ◌+◌, ◌<◌, ◌≤◌, List, [], ◌∷◌, length, take, drop, refl, sym, ◌∙◌, ap, subst, arith}
+use Rattle.std.proofs.Common.{◌≡◌, ℕ, ◌+◌, ◌<◌, ◌≤◌, List, [], ◌∷◌, length, take, drop, arith}
 use Rattle.nb_dhcpmsg.specs.declared.option.First.{First}
 use Rattle.nb_dhcpmsg.specs.declared.option.First.TheVariants as first
-use Rattle.nb_dhcpmsg.specs.Options.{TagValue, tag_value, AreOptions, SameOptions}
+use Rattle.nb_dhcpmsg.specs.Options.{tag_value, SameOptions}
 use Rattle.nb_dhcpmsg.specs.Lefts.{parts_of_option, Precedes, IsFirst}
-use Rattle.nb_dhcpmsg.proofs.OptionLemmas.{Cut, cut, joined_back}
+use Rattle.nb_dhcpmsg.proofs.OptionLemmas.{cut, joined_back}
 
 -- bytes without padding begin with what those with it begin with
 pub with_padding : (f : First) (field bytes : List ℕ) → SameOptions field bytes → length bytes ≤ length field → IsFirst f bytes → IsFirst f field

@@ -1,10 +1,10 @@
 -- What a cursor comes to next.
-use Rattle.std.proofs.Common.{◌≡◌, ℕ, ◌+◌, ◌<◌, ◌≤◌, List, [], ◌∷◌, ◌++◌, length, refl, sym, ◌∙◌, ap, subst, arith, append-nil, append_assoc}
+use Rattle.std.proofs.Common.{◌≡◌, List, [], ◌∷◌, ◌++◌, length, refl, sym, ◌∙◌, ap, subst, arith, append-nil, append_assoc}
 use Rattle.nb_dhcpmsg.specs.declared.cursor.Cursor.{Cursor}
 use Rattle.nb_dhcpmsg.specs.declared.cursor.Next.{Next}
 use Rattle.nb_dhcpmsg.specs.declared.cursor.Next.TheVariants as next
 use Rattle.nb_dhcpmsg.specs.Options.{TagValue, AreOptions, none_left}
-use Rattle.nb_dhcpmsg.specs.Lefts.{parts_of_option, Precedes, IsLeft, left_bytes, Leads, IsNext, IsTaken, Walks}
+use Rattle.nb_dhcpmsg.specs.Lefts.{parts_of_option, IsLeft, Leads, IsNext, IsTaken, Walks}
 use Rattle.nb_dhcpmsg.proofs.OptionLemmas.{options_one, nothing_none}
 
 -- the first field holds no option, and the others follow

@@ -1,6 +1,5 @@
 -- A message is one message, by its bytes.
-use Rattle.std.proofs.Common.{◌≡◌, ℕ, ◌+◌, ◌<◌, ◌≤◌, List, [], ◌∷◌, ◌++◌, length, drop, take, slice_index, unwrap_or, Option, Some, None, refl, sym, ◌∙◌, ap, subst, arith, append-nil}
-use Rattle.std.specs.Int.{from_be_bytes, w32}
+use Rattle.std.proofs.Common.{◌≡◌, ℕ, ◌<◌, List, [], ◌∷◌, ◌++◌, length, drop, unwrap_or, Option, Some, None, sym, ◌∙◌, ap, subst, arith}
 use Rattle.std.proofs.Math.ListN.{drop_of_length-le}
 use Rattle.nb_dhcpmsg.specs.declared.cursor.Cursor.{Cursor}
 use Rattle.nb_dhcpmsg.specs.declared.joined.Only.{Only}

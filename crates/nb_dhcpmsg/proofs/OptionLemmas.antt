@@ -1,12 +1,11 @@
 -- What options are by the bytes that they begin with.
-use Rattle.std.proofs.Common.{◌≡◌, ℕ, zero, suc, ◌+◌, ◌<◌, ◌≤◌, List, [], ◌∷◌, ◌++◌, length, take, drop, refl, sym, ◌∙◌, ap, subst, arith, length-take-le, cond, append-nil, eq-eqb, ne_eqb, Bool, true, false, ◌&&◌, ◌||◌, ◌==◌, length-append, if◌then◌else◌}
+use Rattle.std.proofs.Common.{◌≡◌, ℕ, zero, suc, ◌+◌, ◌<◌, ◌≤◌, List, [], ◌∷◌, ◌++◌, length, take, drop, refl, sym, ◌∙◌, ap, subst, arith, length-take-le, cond, append-nil, eq-eqb, ne_eqb, Bool, true, false, ◌&&◌, ◌||◌, ◌==◌, length-append}
 use Rattle.std.proofs.lemmas.List.{take-append-drop}
 use Rattle.std.proofs.lemmas.List.Concat.{flat_map-append}
 use Rattle.nb_dhcpmsg.specs.Options.{TagValue, tag_value, AreOptions, none_left, end_mark, padding, option, SameOptions, joined, value_of, is_there}
 use Rattle.nb_dhcpmsg.specs.Messages.{is_value}
 use Rattle.std.proofs.lemmas.List.Folds.{list_any-append}
 use Rattle.std.proofs.lemmas.Bool.{lt-leb, le-leb}
-use Rattle.std.specs.List.{list_any, flat_map}
 
 abbrev head : List ℕ → ℕ
 head [] = 0

@@ -1,5 +1,5 @@
 -- RFC 2131, section 2: which bytes are which message
-use Rattle.std.specs.Prelude.{◌≡◌, ◌≤◌, ◌==◌, ◌&&◌, ◌||◌, nat_le, ℕ, Bool, true, false, List, [], ◌∷◌, ◌++◌, length, take, drop, slice_index, Option, Some, None, if◌then◌else◌}
+use Rattle.std.specs.Prelude.{◌≡◌, ◌≤◌, ◌==◌, ◌&&◌, ◌||◌, nat_le, ℕ, Bool, true, false, List, [], ◌∷◌, ◌++◌, length, take, drop, slice_index, Option, Some, None}
 use Rattle.std.specs.Int.{from_be_bytes, w32}
 use Rattle.nb_dhcpmsg.specs.Options.{TagValue, AreOptions, joined, is_there}
 
@@ -48,10 +48,14 @@ pub record HasOptions (bytes : List ℕ) (os : List TagValue) : Type 0 where
   pub in_sname : AreOptions (used_if (has_sname (overload main)) (field 44 64 bytes)) sname
   pub all : os ≡ main ++ (file ++ sname)
 
+-- what the options begin with
+abbrev pub HasCookie : List ℕ → Type 0
+HasCookie bytes = field 236 4 bytes ≡ 99 ∷ 130 ∷ 83 ∷ 99 ∷ []
+
 -- the bytes are this message
 pub record IsMessage (bytes : List ℕ) (m : MessageParts) : Type 0 where
   pub long : 240 ≤ length bytes
-  pub cookie : field 236 4 bytes ≡ 99 ∷ 130 ∷ 83 ∷ 99 ∷ []
+  pub cookie : HasCookie bytes
   pub op : m.op ≡ slice_index bytes 0
   pub xid : m.xid ≡ from_be_bytes w32 (field 4 4 bytes)
   pub yiaddr : m.yiaddr ≡ from_be_bytes w32 (field 16 4 bytes)

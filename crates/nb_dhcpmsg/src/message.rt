@@ -3,7 +3,7 @@
 ghost use Rattle.std.specs.Prelude.{◌≡◌, ◌+◌, ◌<◌, ◌≤◌, ◌∷◌, ◌++◌, ◌↔◌, ℕ, List, [], true, MatchBool, length, IfSome, IsErr, IsSomeAnd, OnOk, OnErr};
 ghost use Rattle.std.specs.Int.{w32, from_be_bytes};
 ghost use Rattle.nb_dhcpmsg.specs.Options.{TagValue, joined};
-ghost use Rattle.nb_dhcpmsg.specs.Messages.{MessageParts, IsMessage, HasOptions, field, is_value};
+ghost use Rattle.nb_dhcpmsg.specs.Messages.{MessageParts, IsMessage, HasCookie, HasOptions, field, is_value};
 ghost use Rattle.nb_dhcpmsg.specs.Views.{parts_of};
 ghost use Rattle.nb_dhcpmsg.specs.Lefts.{IsLeft};
 
@@ -49,11 +49,12 @@ pub struct DhcpMsg<'a> {
 }
 
 impl<'a> DhcpMsg<'a> {
-    /// The message that the bytes are, or None where they are none: too short, without the cookie, with an option
-    /// past its field's end, or without a kind of one byte.
+    /// The message that the bytes are, or None where they are none: too short, without the cookie, with an
+    /// option past its field's end, or without a kind of one byte.
     pub fn read(bytes: &'a [u8]) -> Option<DhcpMsg<'a>>
         ensures sound { IfSome result (λ m. IsMessage bytes.now (parts_of m)) }
-        ensures complete { (m : MessageParts) → IsMessage bytes.now m → IsSomeAnd result (λ r. parts_of r ≡ m) }
+        ensures complete { (m : MessageParts) → IsMessage bytes.now m
+            → IsSomeAnd result (λ r. parts_of r ≡ m) }
         ensures whole { IfSome result (λ m. m.whole.now ≡ bytes.now) }
     {
         if bytes.len() < OPTIONS || !has_cookie(bytes) {
@@ -84,10 +85,13 @@ impl<'a> DhcpMsg<'a> {
         out.put(self.whole)
     }
 
-    /// Puts the joined value of a tag into `to`. False where no option has the tag, or the value has over 1,024 bytes.
+    /// Puts the joined value of a tag into `to`. False where no option has the tag, or the value has over
+    /// 1,024 bytes.
     pub fn value(&self, tag: u8, to: &mut ArrayVec<u8, 1024>) -> bool
-        ensures found { (os : List TagValue) → HasOptions self.now.whole.now os → result ≡ is_value tag os }
-        ensures value { (os : List TagValue) → HasOptions self.now.whole.now os → result ≡ true → to.new.items ≡ joined tag os }
+        ensures found { (os : List TagValue) → HasOptions self.now.whole.now os
+            → result ≡ is_value tag os }
+        ensures value { (os : List TagValue) → HasOptions self.now.whole.now os → result ≡ true
+            → to.new.items ≡ joined tag os }
     {
         to.clear();
         if self.whole.len() < OPTIONS {
@@ -97,12 +101,13 @@ impl<'a> DhcpMsg<'a> {
     }
 }
 
-/// Puts the joined value of a tag, of all that is left, into `to`, which is empty. False where no option has the
-/// tag, or the room is too small.
+/// Puts the joined value of a tag, of all that is left, into `to`, which is empty. False where no option
+/// has the tag, or the room is too small.
 fn gather(options: Cursor<'_>, tag: u8, to: &mut ArrayVec<u8, 1024>) -> bool
     requires { to.old.items ≡ [] }
     ensures found { (os : List TagValue) → IsLeft options.entry os → result ≡ is_value tag os }
-    ensures value { (os : List TagValue) → IsLeft options.entry os → result ≡ true → to.new.items ≡ joined tag os }
+    ensures value { (os : List TagValue) → IsLeft options.entry os → result ≡ true
+        → to.new.items ≡ joined tag os }
 {
     let mut left = options;
     let mut found = false;
@@ -124,7 +129,7 @@ fn gather(options: Cursor<'_>, tag: u8, to: &mut ArrayVec<u8, 1024>) -> bool
 /// The cookie stands before the options.
 fn has_cookie(bytes: &[u8]) -> bool
     requires { 240 ≤ length bytes.now }
-    ensures { MatchBool result (field 236 4 bytes.now ≡ 99 ∷ 130 ∷ 83 ∷ 99 ∷ []) (field 236 4 bytes.now ≡ 99 ∷ 130 ∷ 83 ∷ 99 ∷ [] → ⊥) }
+    ensures { MatchBool result (HasCookie bytes.now) (HasCookie bytes.now → ⊥) }
 {
     part(bytes, COOKIE_AT, 4) == COOKIE.as_slice()
 }

@@ -3,31 +3,18 @@ use arrayvec::ArrayVec;
 use nb_wire::{Ip4, Mac};
 use std::test::Fail;
 
-/// A message of these fields and options.
-fn message(file: &[u8], sname: &[u8], options: &[u8], to: &mut ArrayVec<u8, 600>) {
-    to.clear();
-    let _ = to.try_extend_from_slice(&[2, 1, 6, 0, 0x39, 3, 0xf3, 0x26, 0, 0, 0x80, 0, 0, 0, 0, 0]);
-    let _ = to.try_extend_from_slice(&[10, 0, 0, 2, 10, 0, 0, 1, 0, 0, 0, 0, 2, 0, 0, 0, 0, 1]);
-    let _ = to.try_extend_from_slice(&[0; 10]);
-    let _ = to.try_extend_from_slice(sname);
-    let _ = to.try_extend_from_slice(&[0; 64][sname.len()..]);
-    let _ = to.try_extend_from_slice(file);
-    let _ = to.try_extend_from_slice(&[0; 128][file.len()..]);
-    let _ = to.try_extend_from_slice(&[99, 130, 83, 99]);
-    let _ = to.try_extend_from_slice(options);
-}
-
-// RFC 2132, section 9.3, and RFC 3396, section 5: overload, and a value split over the three fields.
+// RFC 2132, section 9.3, and RFC 3396, section 5: overload, and a value that is split over the three fields.
 #[test]
 fn joins_a_value_over_overloaded_fields(rt: HostRuntime) -> Result<(), Fail> {
-    let mut bytes = ArrayVec::new();
-    message(
-        b"\x43\x04boot\xff\x43\x01?",
-        b"\x43\x05.ipxe\xff",
-        b"\x35\x01\x05\x34\x01\x03\x43\x01/\xff",
-        &mut bytes,
-    );
-    let Some(read) = DhcpMsg::read(bytes.as_slice()) else {
+    let mut bytes = [0; 250];
+    bytes[0] = 2;
+    bytes[4..8].copy_from_slice(&[0x39, 3, 0xf3, 0x26]);
+    bytes[16..24].copy_from_slice(&[10, 0, 0, 2, 10, 0, 0, 1]);
+    bytes[28..34].copy_from_slice(&[2, 0, 0, 0, 0, 1]);
+    bytes[44..52].copy_from_slice(b"\x43\x05.ipxe\xff");
+    bytes[108..118].copy_from_slice(b"\x43\x04boot\xff\x43\x01?");
+    bytes[236..250].copy_from_slice(b"\x63\x82\x53\x63\x35\x01\x05\x34\x01\x03\x43\x01/\xff");
+    let Some(read) = DhcpMsg::read(&bytes) else {
         return Err(Fail::new("no message"));
     };
     assert_eq!(rt; (read.op, read.xid, read.kind), (2, 0x3903_f326, 5));
@@ -39,6 +26,6 @@ fn joins_a_value_over_overloaded_fields(rt: HostRuntime) -> Result<(), Fail> {
     let mut value = ArrayVec::new();
     assert!(rt; read.value(67, &mut value));
     assert_eq!(rt; value.as_slice(), b"/boot.ipxe".as_slice());
-    assert!(rt; !read.value(66, &mut value));
+    assert!(rt; !read.value(66, &mut value), "no option has the tag");
     Ok(())
 }

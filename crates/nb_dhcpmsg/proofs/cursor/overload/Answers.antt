@@ -1,4 +1,4 @@
-use Rattle.std.proofs.Common.{◌≡◌, ◌∙◌, refl}
+use Rattle.std.proofs.Common.{◌∙◌, refl}
 use Rattle.nb_dhcpmsg.proofs.LeftLemmas.{field_left}
 use Rattle.nb_dhcpmsg.proofs.MessageLemmas.{byte_is}
 use Rattle.nb_dhcpmsg.proofs.cursor.overload.Goals as goal

@@ -1,4 +1,4 @@
-use Rattle.std.proofs.Common.{◌≡◌, List}
+use Rattle.std.proofs.Common.{List}
 use Rattle.nb_dhcpmsg.specs.Options.{TagValue, joined}
 use Rattle.nb_dhcpmsg.specs.Lefts.{IsLength, Walks, left_bytes}
 use Rattle.nb_dhcpmsg.proofs.joined.only_byte.Given as goal

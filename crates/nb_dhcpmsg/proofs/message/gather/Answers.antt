@@ -1,5 +1,5 @@
-use Rattle.std.proofs.Common.{◌≡◌, ◌+◌, ◌<◌, ◌≤◌, ◌++◌, ◌∷◌, [], Bool, true, false, ◌&&◌, ◌||◌, length, sym, ◌∙◌, ap, subst, arith, append-nil}
-use Rattle.nb_dhcpmsg.specs.Options.{joined, is_there}
+use Rattle.std.proofs.Common.{◌≡◌, ◌≤◌, ◌++◌, ◌∷◌, [], length, sym, ◌∙◌, ap, subst, arith, append-nil}
+use Rattle.nb_dhcpmsg.specs.Options.{joined}
 use Rattle.nb_dhcpmsg.specs.Messages.{is_value}
 use Rattle.nb_dhcpmsg.specs.Lefts.{parts_of_option}
 use Rattle.nb_dhcpmsg.proofs.OptionLemmas.{joined_more, its_value, no_value, is_there_more, is_there_now, too_long, fits_all}

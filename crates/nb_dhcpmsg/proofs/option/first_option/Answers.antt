@@ -1,4 +1,4 @@
-use Rattle.std.proofs.Common.{◌≡◌, ◌∷◌, ◌∙◌, [], length, ap, arith}
+use Rattle.std.proofs.Common.{◌≡◌, ◌∷◌, ◌∙◌, [], ap, arith}
 use Rattle.std.proofs.lemmas.List.{nil_from_length}
 use Rattle.nb_dhcpmsg.specs.Options.{none_left, end_mark}
 use Rattle.nb_dhcpmsg.proofs.option.first_option.Goals as goal

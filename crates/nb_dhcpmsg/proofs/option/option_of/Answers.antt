@@ -1,4 +1,4 @@
-use Rattle.std.proofs.Common.{◌≡◌, ◌∷◌, length, take, sym, ap, subst, arith}
+use Rattle.std.proofs.Common.{◌∷◌, length, take, sym, ap, subst, arith}
 use Rattle.nb_dhcpmsg.specs.Options.{tag_value}
 use Rattle.nb_dhcpmsg.specs.Lefts.{Precedes}
 use Rattle.nb_dhcpmsg.proofs.FirstLemmas.{begins}

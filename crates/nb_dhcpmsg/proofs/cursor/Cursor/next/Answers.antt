@@ -1,4 +1,4 @@
-use Rattle.std.proofs.Common.{◌≡◌, sym, ◌∙◌, ap}
+use Rattle.std.proofs.Common.{◌≡◌, ◌∙◌, ap}
 use Rattle.nb_dhcpmsg.specs.declared.cursor.Cursor.{Cursor}
 use Rattle.nb_dhcpmsg.proofs.LeftLemmas.{Shifted, before_shift, taken_next}
 use Rattle.nb_dhcpmsg.proofs.cursor.Cursor.next.Goals as goal

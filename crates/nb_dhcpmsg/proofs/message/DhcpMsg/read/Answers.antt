@@ -1,6 +1,4 @@
-use Rattle.std.proofs.Common.{◌≡◌, refl, sym, ◌∙◌, arith}
-use Rattle.nb_dhcpmsg.specs.Messages.{IsMessage}
-use Rattle.nb_dhcpmsg.specs.Views.{parts_of}
+use Rattle.std.proofs.Common.{refl, sym, ◌∙◌, arith}
 use Rattle.nb_dhcpmsg.proofs.MessageLemmas.{Found, byte_found, begun_options, message_one, no_kind}
 use Rattle.nb_dhcpmsg.proofs.message.DhcpMsg.read.Goals as goal
 
