@@ -22,3 +22,6 @@ pub mod Telling
 pub mod Histories
 pub mod Shut
 pub mod Showing
+mod PortLemmas
+mod PeerLemmas
+mod WordLemmas

@@ -13,6 +13,7 @@ use Rattle.nb_machine.proofs.Runs.{runs_are_courses}
 use Rattle.nb_boot.specs.Run.{Awaits, IsBetween, IsBadRest, Ends, Closes, Run, IsOver, Says, Shows}
 use Rattle.nb_boot.specs.Run as run
 use Rattle.nb_boot.specs.Shown.{CommandWaits, MayGoOn, NoneMayCome, EndsWhere, was_left, was_handed, was_stopped, ran_out, was_bad, was_full, ClosedBy, goes_on, has_ended, Shown, HasEnded, IsSaid, ShowsCourse}
+use Rattle.nb_laws.proofs.Runs.{lawful_run}
 use Rattle.nb_boot.proofs.Shut.{shuts}
 
 waits : (phase : Phase) (p : Standing) → StandsAs phase p → Awaits phase → CommandWaits p
@@ -70,6 +71,10 @@ with_course before after r p course c shut = record {
   course = course;
   closed = closed_same r.machine p r.rest after r.closing c shut r.closes;
   texts = r.texts;
+  few = r.few;
+  history = (lawful_run r.ins r.outs r.machine r.path).0;
+  is_history = (lawful_run r.ins r.outs r.machine r.path).1;
+  is_lawful = (lawful_run r.ins r.outs r.machine r.path).2;
 }
 
 ended_same : (before after : Outside) (r : Run before after) (p : Progress) (course : Course r.ins r.outs p) (c : Carries r.machine p) (shut : Shuts p.standing (shutdown_records r.machine.phase)) (number : ℕ) →
@@ -93,7 +98,7 @@ said status.TooManyRecords before after r p course c shut h = ended_same before 
 said status.ReadFault before after r p course c shut h =
     record { between = between r.machine.phase p.standing c.standing h.between; partial = h.partial; closing = h.closed; all = h.all; rose = h.rose }
 said status.WriteFault before after r p course c shut h = h
-said status.NoMemory before after r p course c shut h = tt
+said status.NoMemory before after r p course c shut h = h
 said status.AttachFault before after r p course c shut h = h
 said status.BadWords before after r p course c shut h = absurd h
 

@@ -1,5 +1,5 @@
 -- What a call of `netboot` shows of the machine of many opens: records used, records written, and what its status says.
-use Rattle.std.specs.Prelude.{◌≡◌, ℕ, ◌<◌, ◌⊎◌, List, [], ◌∷◌, ◌++◌, length}
+use Rattle.std.specs.Prelude.{◌≡◌, ℕ, ◌<◌, ◌≤◌, ◌⊎◌, List, [], ◌∷◌, ◌++◌, length}
 use Rattle.nb_terms.specs.declared.cause.Cause.{Cause}
 use Rattle.nb_defs.specs.Records.{In, in_texts, IsPartial, IsBroken, Out, out_texts, done}
 use Rattle.nb_engine.specs.Machine.{status_of}
@@ -8,6 +8,8 @@ use Rattle.nb_record.specs.Outside.{Outside, Passes, Rose, IsAtEnd}
 use Rattle.nb_engine.specs.declared.status.Status.{Status}
 use Rattle.nb_engine.specs.declared.status.Status.TheVariants as status
 use Rattle.nb_machine.specs.Courses.{Standing, ready, running, waiting, handing, left, handed_off, stopped, Progress, Course}
+use Rattle.nb_laws.specs.Events.{Event, IsHistory}
+use Rattle.nb_laws.specs.Lawful.{IsLawful}
 use Rattle.nb_machine.specs.States.{State}
 use Rattle.nb_machine.specs.Closings.{Shuts}
 use Rattle.nb_boot.specs.Run.{IsOther, IsFirst, BeginsWith}
@@ -80,6 +82,12 @@ pub record Shown (before after : Outside) : Type 0 where
   pub course : Course ins outs progress
   pub closed : ClosedBy progress rest after closing
   pub texts : out_texts (outs ++ closing) ≡ written ++ lost
+  -- each record used has a number of 32 bits
+  pub few : length ins ≤ 4294967295
+  -- both lists have one history, and it is lawful
+  pub history : List Event
+  pub is_history : IsHistory ins outs history
+  pub is_lawful : IsLawful history
 
 -- the run has ended, for a cause of this number, and all was taken, DONE last
 pub record HasEnded (before after : Outside) (r : Shown before after) (number : ℕ) : Type 0 where
@@ -101,7 +109,11 @@ pub record WasUnread (before after : Outside) (r : Shown before after) : Type 0 
 abbrev pub HandsTrueFiles : (before after : Outside) → Shown before after → Type 0
 HandsTrueFiles before after r = (store : ℕ → List ℕ → List ℕ) → Honest store r.ins → HandsFiles store r.outs
 
--- what a status says of what is shown
+-- memory ran out: nothing closes the output, or some of it is missing
+abbrev pub LeftUnclosed : (before after : Outside) → Shown before after → Type 0
+LeftUnclosed before after r = (r.closing ≡ []) ⊎ (0 < length r.lost)
+
+-- What a status says of what is shown. The output ends with DONE, and is whole, where `HasEnded` stands; for no other.
 abbrev pub IsSaid : Status → (before after : Outside) → Shown before after → Type 0
 IsSaid status.HandedOff before after r = HasEnded before after r 0 × HandsTrueFiles before after r
 IsSaid status.Ended before after r = HasEnded before after r 3
@@ -110,9 +122,9 @@ IsSaid status.Unfinished before after r = HasEnded before after r 5
 IsSaid status.BadRecord before after r = HasEnded before after r 6
 IsSaid status.TooManyRecords before after r = HasEnded before after r 11
 IsSaid status.ReadFault before after r = WasUnread before after r
-IsSaid status.WriteFault before after r = Rose before.write_faults after.write_faults
-IsSaid status.NoMemory before after r = Unit {0}
-IsSaid status.AttachFault before after r = (r.read ≡ []) × (r.written ≡ []) × Rose before.attach_faults after.attach_faults
+IsSaid status.WriteFault before after r = Rose before.write_faults after.write_faults × (0 < length r.lost)
+IsSaid status.NoMemory before after r = LeftUnclosed before after r
+IsSaid status.AttachFault before after r = (r.read ≡ []) × (r.written ≡ []) × (r.closing ≡ []) × Rose before.attach_faults after.attach_faults
 IsSaid status.BadWords before after r = ⊥
 
 -- a call shows a course of which its status is true
