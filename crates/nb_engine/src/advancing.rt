@@ -15,7 +15,6 @@ ghost use Rattle.nb_engine.specs.Concluding.{IsTurn};
 ghost use Rattle.nb_engine.specs.Advance.{IfRunning, IsHanding, IsNext, IsOneUdp, IfOne, Asks, Followed};
 ghost use Rattle.nb_engine.specs.declared.stage.Stage.TheVariants as stage;
 
-use crate::causes::{OK, no_route};
 use crate::command::{Command, Refusal, Wanted, carry_out, read_command};
 use crate::desk::{Desk, Room, lent};
 use crate::put::{put_over, put_result, put_send};
@@ -25,6 +24,7 @@ use crate::world::own_port;
 use crate::{Client, Fetch, RunningScript, Stage, Status, Turn};
 use nb_record::{Acts as Asked, Cause, Log, NoMemory, OutRec};
 use nb_stack::Stack;
+use nb_terms::{Plain, Reason};
 use nb_uri::TFTP_PORT;
 use nb_wire::Word;
 use std::mem;
@@ -67,8 +67,9 @@ impl Client {
         };
         match script.next(alloc) {
             Ok(Next::End) => {
-                script.put_leave(OK, log);
-                self.stage = Stage::Left(OK);
+                let ok = Plain::Ok.cause();
+                script.put_leave(ok, log);
+                self.stage = Stage::Left(ok);
                 Turn::Over(Status::Ended)
             }
             Ok(Next::List(list)) => self.line(list.as_slice(), log),
@@ -263,8 +264,9 @@ impl Client {
         let Stage::Running(script) = mem::replace(&mut self.stage, Stage::Stopped) else {
             unreachable!()
         };
-        put_over(number, no_route(server), log);
-        self.fail(script, no_route(server), log)
+        let cause = Cause::from(Reason::NoRoute(server));
+        put_over(number, cause, log);
+        self.fail(script, cause, log)
     }
 
     /// The script's command fails, and the script is left.
