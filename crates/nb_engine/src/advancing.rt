@@ -36,13 +36,7 @@ const UDP: u8 = 17;
 const TFTP: u8 = 1;
 
 /// Puts the request of an open, its first try. False where there is no way to the server.
-fn put_request(
-    net: &mut Stack,
-    number: u16,
-    acts: &Asked,
-    room: &mut Room,
-    log: &mut Log,
-) -> bool
+fn put_request(net: &mut Stack, number: u16, acts: &Asked, room: &mut Room, log: &mut Log) -> bool
     requires { IsOneUdp acts.now }
     ensures route { IfOne acts.now.sends.items (λ send. result ≡ has_route net.old send) }
     ensures puts { IfOne acts.now.sends.items (λ send. Puts log.old log.new (out_texts (send_records net.old number acts.now.tried send))) }
@@ -154,13 +148,7 @@ impl Client {
     }
 
     /// Begins it on this desk.
-    fn begin(
-        &mut self,
-        words: &[Word],
-        wanted: &Wanted<'_>,
-        desk: &mut Desk,
-        log: &mut Log,
-    ) -> Turn
+    fn begin(&mut self, words: &[Word], wanted: &Wanted<'_>, desk: &mut Desk, log: &mut Log) -> Turn
         requires words { IfRunning self.old.stage (λ s. HasWords s words.now) }
         requires some { 0 < length words.now }
         requires value { effect self.old.world.opens words.now ≡ asks (wanted_of wanted.now) }
