@@ -58,12 +58,7 @@ pub fn turn<L: Line>(
 }
 
 /// Ends a run of which every record number was given: no byte may follow.
-pub fn last<L: Line>(
-    client: &mut Client,
-    feed: &mut Feed,
-    log: &mut Log,
-    line: &mut L,
-) -> Status
+pub fn last<L: Line>(client: &mut Client, feed: &mut Feed, log: &mut Log, line: &mut L) -> Status
     requires waits { IsWaiting client.old.stage }
     ensures { (first : Outside) → Waits 4294967295 feed.old.bytes first (L.outside line.old) log.old client.old → Shows result first (L.outside line.new) }
 {
