@@ -19,7 +19,8 @@ from shared import checksums
 from shared.command_line import Refused
 
 ALL_PROTOCOLS = 3
-MOST_BYTES = 65_535
+# more than a frame can have, so that one that is too long is seen to be
+MOST_BYTES = 2048
 NAME_BYTES = 15
 # linux/if_packet.h
 OUTGOING = 4

@@ -6,9 +6,10 @@ stands in a buffer, and frames that come while that is full are lost, as on a ca
 
 from __future__ import annotations
 
-import selectors
+import select
 import socket
 import time
+from contextlib import suppress
 from dataclasses import dataclass, field
 from typing import BinaryIO, Callable
 
@@ -42,8 +43,8 @@ TICK_SECONDS = 0.05
 MOST_MILLISECONDS = 60_000
 # A client that reads no more than this behind loses frames.
 MOST_WAITING = 4 << 20
-MOST_AT_ONCE = 64
-PIECE = 1 << 18
+# below the size from which each buffer would be mapped anew
+PIECE = 1 << 16
 GROUP_BIT = 1
 HEAD = 5
 # where an IPv4 packet says its length (RFC 791, section 3.1)
@@ -105,7 +106,10 @@ class Records:
 
 @dataclass
 class Session:
-    """A client that is connected, and the device that it is led to."""
+    """A client that is connected, and the device that it is led to.
+
+    What comes is passed on first, and written down and shown afterwards, while the other side works.
+    """
 
     client: socket.socket
     device: Device
@@ -120,90 +124,91 @@ class Session:
     def run(self, start: bytes) -> None:
         """Runs from START to the client's end. `ClientFault` where it is no client of ours."""
         self.records, self.waiting = Records(), bytearray()
-        self.begun = self.last = time.monotonic()
+        self.last = time.monotonic()
         self.step, self.now, self.is_ended = 0, 0, False
         self.lengths: dict[int, int] = {}
-        self.number = 0
+        self.number, self.waits_to_send = 0, False
         self.client.setsockopt(socket.IPPROTO_TCP, socket.TCP_NODELAY, 1)
         self.client.setblocking(False)
-        self.put(start)
-        with selectors.DefaultSelector() as selector:
-            self.selector = selector
-            selector.register(self.client, selectors.EVENT_READ)
-            selector.register(self.device, selectors.EVENT_READ)
+        with select.epoll() as self.poll:
+            self.poll.register(self.client, select.EPOLLIN)
+            self.poll.register(self.device, select.EPOLLIN)
+            self._put(start)
             while not self.is_ended:
                 self._turn()
 
-    def put(self, spelled: bytes, frame: bytes = b"") -> None:
+    def _put(self, spelled: bytes) -> None:
         """Gives the client a record, and keeps it."""
-        self.kept.input.write(spelled)
-        self.number += 1
-        if frame:
-            self.lengths[self.number] = int.from_bytes(frame[PACKET_LENGTH], "big")
-            self.counts.received += 1
-            if self.kept.pcap:
-                self.kept.pcap.put(self.now, frame)
         self.waiting += spelled
+        self.number += 1
+        self._send()
+        self.kept.input.write(spelled)
 
     def _turn(self) -> None:
         until = self.last + TICK_SECONDS - time.monotonic()
-        ready = self.selector.select(max(until, 0))
+        ready = self.poll.poll(until if until > 0 else 0)
         self._pass_time()
-        for key, events in ready:
-            if key.fileobj is self.device:
-                self._take_frames()
-            elif events & selectors.EVENT_READ:
+        device = self.device.fileno()
+        for number, events in ready:
+            if number == device:
+                self._take_frame()
+            elif events & ~select.EPOLLOUT:
                 self._take_output()
-        self._send()
+            elif not self.is_ended:
+                self._send()
 
     def _pass_time(self) -> None:
         """A TICK for the milliseconds that passed; OFF where that is wanted."""
-        if self.status is not None or self.is_off:
-            if time.monotonic() - self.last > MOST_SECONDS_TO_END:
-                self._end()
-            return
         passed = int((time.monotonic() - self.last) * 1000)
+        if self.status is not None or self.is_off:
+            self.is_ended = self.is_ended or passed > MOST_SECONDS_TO_END * 1000
+            return
         if passed >= TICK_SECONDS * 1000:
             self.last += passed / 1000
             self.now += passed
-            self.put(spell(Tick(min(passed, MOST_MILLISECONDS))))
+            self._put(spell(Tick(min(passed, MOST_MILLISECONDS))))
         if self.wants_off:
             self.is_off = True
-            self.put(spell(Off()))
+            self._put(spell(Off()))
 
-    def _take_frames(self) -> None:
-        for _ in range(MOST_AT_ONCE):
-            try:
-                frame = self.device.receive()
-            except BlockingIOError:
-                return
-            if frame is not None and self._is_for_client(frame):
-                self._take_frame(frame)
-
-    def _is_for_client(self, frame: bytes) -> bool:
-        is_to = frame[:6] == self.mac or (len(frame) > 0 and frame[0] & GROUP_BIT)
-        return bool(is_to) and frame[6:12] != self.mac
-
-    def _take_frame(self, frame: bytes) -> None:
+    def _take_frame(self) -> None:
+        try:
+            frame = self.device.receive()
+        except BlockingIOError:
+            return
+        if frame is None or not self._is_for_client(frame):
+            return
         if not MIN_FRAME <= len(frame) <= MAX_FRAME:
             self.counts.too_long += 1
         elif len(self.waiting) > MOST_WAITING:
             self.counts.not_taken += 1
         elif self.status is None and not self.is_off:
-            self.put((len(frame) + 1).to_bytes(4, "big") + FRAME_IN + frame, frame)
+            self._put_frame(frame)
+
+    def _is_for_client(self, frame: bytes) -> bool:
+        is_to = frame[:6] == self.mac or (len(frame) > 0 and frame[0] & GROUP_BIT)
+        return bool(is_to) and frame[6:12] != self.mac
+
+    def _put_frame(self, frame: bytes) -> None:
+        self._put((len(frame) + 1).to_bytes(4, "big") + FRAME_IN + frame)
+        self.lengths[self.number] = int.from_bytes(frame[PACKET_LENGTH], "big")
+        self.counts.received += 1
+        if self.kept.pcap:
+            self.kept.pcap.put(self.now, frame)
 
     def _send(self) -> None:
         """Sends what waits, as far as the client takes it."""
-        if self.waiting:
-            try:
+        try:
+            if self.waiting:
                 del self.waiting[: self.client.send(self.waiting)]
-            except BlockingIOError:
-                pass
-            except ConnectionError:
-                self.waiting.clear()
-        wanted = selectors.EVENT_READ | (selectors.EVENT_WRITE if self.waiting else 0)
-        if not self.is_ended and self.selector.get_key(self.client).events != wanted:
-            self.selector.modify(self.client, wanted)
+        except BlockingIOError:
+            pass
+        except ConnectionError:
+            self.waiting.clear()
+        if bool(self.waiting) != self.waits_to_send:
+            self.waits_to_send = not self.waits_to_send
+            wanted = select.EPOLLIN | (select.EPOLLOUT if self.waits_to_send else 0)
+            self.poll.modify(self.client, wanted)
 
     def _take_output(self) -> None:
         try:
@@ -213,26 +218,39 @@ class Session:
         except ConnectionError:
             piece = b""
         if not piece:
-            self._end()
+            self.is_ended = True
             return
+        contents = self.records.take(piece)
+        for content in contents:
+            if content[0] == FRAME_TYPE:
+                self._send_frame(content[1:])
         self.kept.output.write(piece)
-        for content in self.records.take(piece):
+        for content in contents:
             self._take_record(content)
 
+    def _send_frame(self, frame: bytes) -> None:
+        self.counts.sent += 1
+        try:
+            self.device.send(frame)
+        except OSError:
+            self.counts.not_sent += 1
+
     def _take_record(self, content: bytes) -> None:
-        if content[0] == FRAME_TYPE:
-            self._send_frame(content[1:])
-        elif content[0] == STEP_TYPE:
+        kind = content[0]
+        if kind == FRAME_TYPE:
+            if self.kept.pcap:
+                self.kept.pcap.put(self.now, content[1:])
+        elif kind == STEP_TYPE:
             self.lengths.pop(self.step, None)
             self.step = int.from_bytes(content[1:5], "big")
-        elif content[0] == ADVANCE_TYPE:
+        elif kind == ADVANCE_TYPE:
             number, place = content[1:3], content[3:7]
             advance = Advance(int.from_bytes(number, "big"), int.from_bytes(place, "big"))
             self.take(self.lengths.get(self.step, 0), advance)
-        elif content[0] in SHOWN:
+        elif kind in SHOWN:
             self._show(content)
-        elif content[0] not in KINDS[Direction.OUTPUT]:
-            raise ClientFault(f"a record of its output has type 0x{content[0]:02x}, which none has")
+        elif kind not in KINDS[Direction.OUTPUT]:
+            raise ClientFault(f"a record of its output has type 0x{kind:02x}, which none has")
 
     def _show(self, content: bytes) -> None:
         try:
@@ -242,17 +260,6 @@ class Session:
         if isinstance(record, Done):
             self.status, self.last = record.status, time.monotonic()
             self.waiting.clear()
-            self.client.shutdown(socket.SHUT_WR)
+            with suppress(OSError):
+                self.client.shutdown(socket.SHUT_WR)
         self.take(self.lengths.get(self.step, 0), record)
-
-    def _send_frame(self, frame: bytes) -> None:
-        self.counts.sent += 1
-        if self.kept.pcap:
-            self.kept.pcap.put(self.now, frame)
-        try:
-            self.device.send(frame)
-        except OSError:
-            self.counts.not_sent += 1
-
-    def _end(self) -> None:
-        self.is_ended = True

@@ -57,14 +57,14 @@ class Progress:
     def take(self, packet_length: int, record: Record) -> None:
         """A record of the output, in the step of a received packet of this length, or of none."""
         match record:
+            case Advance():
+                self._advance(record, packet_length)
             case Text():
                 self._print(record.text)
             case Command():
                 self._say(b" ".join(record.words).decode("utf-8", "backslashreplace"))
             case Open():
                 self.fetches[record.number] = Fetch(record, time.monotonic())
-            case Advance():
-                self._advance(record, packet_length)
             case Ended():
                 self._ended(record)
 

@@ -147,6 +147,18 @@ impl From<Reason> for Cause {
     }
 }
 
+impl Plain {
+    ghost use Rattle.nb_terms.specs.Reasons.{as_cause};
+    ghost use Rattle.nb_terms.specs.declared.reason.Reason.TheVariants as reason;
+
+    /// The cause of this reason.
+    pub fn cause(self) -> Cause
+        ensures { result ≡ as_cause (reason.Plain self) }
+    {
+        Cause::from(Reason::Plain(self))
+    }
+}
+
 fn cause(code: u8, a: u32, b: u32) -> Cause
     ensures { result ≡ record { code = code; a = a; b = b } }
 {
