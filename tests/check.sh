@@ -10,7 +10,7 @@ if ! python3 -c 'import sys; sys.exit(sys.version_info < (3, 10))'; then
     echo "tools: python3 is older than 3.10, the tools' tests are skipped"
     exit 0
 fi
-PYTHONDONTWRITEBYTECODE=1 python3 -m unittest discover -s tests -t .
+PYTHONDONTWRITEBYTECODE=1 python3 -m tests
 status=$?
 if [ "$status" -eq 0 ]; then
     echo "tools: the tests passed"

@@ -5,6 +5,7 @@ Else `rt try` compiles it once for all of them.
 
 from __future__ import annotations
 
+import functools
 import re
 import shutil
 import subprocess
@@ -32,11 +33,12 @@ class Ran:
 
 @dataclass(frozen=True)
 class Replayed:
-    """How a run ended, its exit status, and the output recording that it wrote."""
+    """How a run ended, its exit status, what it said, and the file that it wrote, if it wrote one."""
 
     ending: str
     status: int
-    output: bytes
+    said: str
+    output: bytes | None
 
 
 def run_all(cases: dict[str, list[str]]) -> dict[str, Ran]:
@@ -47,9 +49,14 @@ def run_all(cases: dict[str, list[str]]) -> dict[str, Ran]:
         for name, words in cases.items():
             (Path(folder) / name).write_bytes(b"")
             (Path(folder) / f"{name}.args").write_text("".join(f"{word}\n" for word in words))
-        compiled = ["rt", "try", "--cases", folder]
-        done = subprocess.run(compiled, cwd=CRATE, capture_output=True, text=True, check=False)
-    printed = done.stdout + done.stderr
+        printed = subprocess.run(
+            ["rt", "try", "--cases", folder],
+            cwd=CRATE,
+            stdout=subprocess.PIPE,
+            stderr=subprocess.STDOUT,
+            text=True,
+            check=False,
+        ).stdout
     said = dict(re.findall(r"^== (\S+)\n((?:(?!case=).*\n)*)", printed, re.M))
     return {
         name: Ran(ending, int(status), said.get(name, ""))
@@ -63,14 +70,27 @@ def _run_built(words: list[str]) -> Ran:
     return Ran(ending, done.returncode, done.stdout + done.stderr)
 
 
-def replay_all(inputs: dict[str, bytes]) -> dict[str, Replayed]:
-    """Runs `netboot replay` over each of these input recordings."""
+def replay_all(inputs: dict[str, bytes], more: dict[str, list[str]]) -> dict[str, Replayed]:
+    """Runs `netboot replay` over each of these recordings, and the program on each of these words."""
     with tempfile.TemporaryDirectory() as name:
-        folder, cases = Path(name), {}
+        folder, cases = Path(name), dict(more)
         for case, recording in inputs.items():
             (folder / f"{case}.in").write_bytes(recording)
             cases[case] = ["replay", f"{folder / case}.in", f"{folder / case}.out"]
         return {
-            case: Replayed(ran.ending, ran.status, (folder / f"{case}.out").read_bytes())
+            case: Replayed(ran.ending, ran.status, ran.said, _read(folder / f"{case}.out"))
             for case, ran in run_all(cases).items()
         }
+
+
+def _read(path: Path) -> bytes | None:
+    return path.read_bytes() if path.exists() else None
+
+
+@functools.cache
+def replayed() -> dict[str, Replayed]:
+    """The runs that the tests of whole outputs and of the program look at, for one compiling."""
+    from tests.test_program import INPUTS, WORDS
+    from tests.test_replay import all_inputs
+
+    return replay_all({**all_inputs(), **INPUTS}, WORDS)

@@ -107,6 +107,18 @@ class Programs(Launched):
             said = self.ends(f"tools/boot.py boot.rec {words}")[1]
             self.assertIn(f"is a recording already, so --{option} can't change it", said)
 
+    def test_files_that_are_something_else(self) -> None:
+        self.put("s.pcap", pcap_file(SILENT))
+        for line, said in (
+            ("boot.py hello.out", "hello.out is an output recording: show.py shows what it has"),
+            ("boot.py s.pcap", "s.pcap: it has no TFTP request, so --script must say what to run"),
+            ("boot.py none", "none: No such file or directory"),
+            ("boot.py /dev/null", "/dev/null is no regular file"),
+            ("show.py s.pcap", "s.pcap is a capture, and record.py makes a recording of it"),
+            ("show.py s.ipxe", "s.ipxe is a script, and record.py makes a recording of it"),
+        ):
+            self.assertEqual(self.ends(f"tools/{line}")[1:], (f"{line.split()[0]}: {said}\n", 1))
+
     def test_a_signal(self) -> None:
         self.program("kill -9 $$")
         _, said, status = self.ends("tools/boot.py s.ipxe --program program")

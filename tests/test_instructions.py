@@ -15,8 +15,9 @@ from unittest.mock import patch
 
 from shared.command_line import Refused
 from instructions import Counted, costs_of, count, missing, total_of
+from boot import is_built
 from boots import write_transfer
-from measure import build_loop, count_loop, report_instructions
+from measure import build_loop, count_loop, measure_all, report_instructions
 from shared.records import Received, Record
 from tests import made
 from tests.case import Case
@@ -124,6 +125,20 @@ class Counts(Case):
     def test_a_run_that_fails(self) -> None:
         with self.assertRaisesRegex(Refused, "ended with 1 under valgrind"):
             count([shutil.which("false") or "false"], self.folder / "profile")
+
+    @unittest.skipUnless(is_built(), "the program isn't built")
+    def test_the_whole_measurement(self) -> None:
+        """Of one size: memory, instructions beside the C loop's, and the ten costliest functions."""
+        printed = io.StringIO()
+        with redirect_stdout(printed):
+            measure_all(["1"])
+        lines = printed.getvalue().splitlines()
+        self.assertRegex(lines[0], r"^image of 1048576 bytes: status 0, peak \d+ bytes")
+        self.assertRegex(lines[1], r"^instructions \(the C loop's\), .*\d\.\d\d times the C loop's$")
+        shares = [float(line.split("%")[0]) for line in lines[-10:]]
+        self.assertEqual(shares, sorted(shares, reverse=True))
+        self.assertLess(sum(shares), 100.1)
+        self.assertIn("nb_", printed.getvalue())
 
     def test_a_copy_that_is_not_the_image(self) -> None:
         loop, recording = build_loop(self.folder), self.folder / "boot.rec"

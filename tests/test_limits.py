@@ -6,6 +6,7 @@ built the tests are skipped, saying so; without a C compiler the memory's is.
 
 from __future__ import annotations
 
+import resource
 import subprocess
 import unittest
 from itertools import islice
@@ -14,10 +15,11 @@ from shared.causes import Cause, Code
 from compiler import has_compiler
 from shared.kinds import PartKind, Status
 from boot import BUILT, is_built
-from boots import BLOCK, MEGABYTE, image, replay, transfer
+from boots import BLOCK, CLIENT, MEGABYTE, image, replay, start, transfer
 from meter import build_meter, measure
 from shared.recordings import read_output
-from shared.records import Done, Ended, Part, Record, spell
+from shared.records import Done, Ended, Part, Received, Record, spell
+from shared.wire import arp_request
 from tests.case import Case
 
 # blocks have numbers from 1 to 65,535, and the last is shorter than 512 bytes (RFC 1350)
@@ -26,6 +28,9 @@ LONGEST = MOST_BLOCKS * BLOCK - 1
 
 # START, the ARP answer and a TICK come before the first block
 BEFORE = 3
+
+NOISE = 200_000_000
+ROOM = 256 * MEGABYTE
 
 # the file once, a quarter of it, and 8 MiB
 MOST_MEMORY = LONGEST * 5 // 4 + 8 * MEGABYTE
@@ -62,6 +67,24 @@ class Limits(Case):
         measured = measure(build_meter(self.folder), self.recorded(LONGEST))
         self.assertEqual(measured.status, 0)
         self.assertLessEqual(measured.peak, MOST_MEMORY)
+
+    def test_200_mb_of_noise_in_256_mib(self) -> None:
+        """Frames that bring nothing, while a command waits; they take no memory."""
+        noise = spell(Received(arp_request(CLIENT, CLIENT.ip) + bytes(1_400))) * 16
+        recording = self.folder / "in.rec"
+        with recording.open("wb") as stream:
+            stream.write(spell(start()))
+            for _ in range(NOISE // len(noise)):
+                stream.write(noise)
+
+        def prepare() -> None:
+            resource.setrlimit(resource.RLIMIT_AS, (ROOM, ROOM))
+
+        words = replay(BUILT, recording, self.folder / "out.rec")
+        done = subprocess.run(words, preexec_fn=prepare, check=False)
+        self.assertEqual(done.returncode, 5)
+        with (self.folder / "out.rec").open("rb") as stream:
+            self.assertEqual(list(read_output(stream))[-1], Done(Status.UNFINISHED))
 
     def test_one_byte_more_is_too_long(self) -> None:
         status, output = self.boot(LONGEST + 1)

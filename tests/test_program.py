@@ -2,44 +2,26 @@
 
 from __future__ import annotations
 
-import tempfile
 import unittest
-from pathlib import Path
 
-from tests import TOP, made
-from tests.replays import Ran, can_run, run_all
+from tests import made
+from tests.replays import can_run, replayed
 
 USAGE = "usage: netboot replay IN OUT | live HOST:PORT | lab N\n"
+
+# recordings, and words
+INPUTS = {"hello": made.HELLO_INPUT, "empty": b""}
+WORDS = {"missing": ["replay", "/none/in", "/none/out"], "words": ["replay", "a"]}
 
 
 @unittest.skipUnless(can_run(), "the program isn't built, and the toolchain's rt is missing")
 class Program(unittest.TestCase):
-    ran: dict[str, Ran]
-    outputs: dict[str, bytes | None]
-
-    @classmethod
-    def setUpClass(cls) -> None:
-        with tempfile.TemporaryDirectory() as name:
-            folder = Path(name)
-            (folder / "empty").write_bytes(b"")
-            cases = {
-                "hello": ["replay", str(TOP / "examples" / "hello.rec"), f"{folder}/hello.out"],
-                "empty": ["replay", f"{folder}/empty", f"{folder}/empty.out"],
-                "missing": ["replay", f"{folder}/none", f"{folder}/missing.out"],
-                "words": ["replay", "a"],
-            }
-            cls.ran = run_all(cases)
-            written = {case: folder / f"{case}.out" for case in cases}
-            cls.outputs = {
-                case: path.read_bytes() if path.exists() else None for case, path in written.items()
-            }
-
     def ended(self, case: str, status: int, said: str, output: bytes | None) -> None:
         """The status, the first line said, and the bytes written."""
-        ran = self.ran[case]
+        ran = replayed()[case]
         self.assertEqual((ran.ending, ran.status), ("ended", status))
         self.assertEqual(ran.said.splitlines(keepends=True)[:1], [said] if said else [])
-        self.assertEqual(self.outputs[case], output)
+        self.assertEqual(ran.output, output)
 
     def test_hello(self) -> None:
         self.ended("hello", 3, "", made.HELLO_OUTPUT)

@@ -226,7 +226,7 @@ class Outputs(Tool):
         name = os.fsdecode(b"made-\xff")
         done = self.end(self.MAKE.format(name))
         self.assertEqual(done.status, 0)
-        self.assertTrue(done.printed.startswith("made-\\udcff: 4 records"))
+        self.assertTrue(done.printed.startswith("made-\\xff: 4 records"))
         self.assertEqual((self.folder / name).read_bytes(), self.wanted)
 
 

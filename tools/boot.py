@@ -18,13 +18,11 @@ import show
 from shared.boot_capture import Reader, Request, first_request
 from shared.command_line import Refused, run
 from shared.output import check_output, writing
-from shared.recordings import CAPTURE_MAGICS
-from shared.records import Start
+from shared.recordings import CAPTURE_MAGICS, OUTPUT_BIT, TYPE_OFFSET
 
 TOP = Path(__file__).resolve().parent.parent
 CRATE = TOP / "crates" / "netboot"
 BUILT = CRATE / "out" / "netboot"
-TYPE_OFFSET = 4
 MOST_SECONDS_TO_END = 3
 STATUS_LINE = "run=ended status="
 TOOLCHAIN_LINES = ("checked:", "run=")
@@ -91,8 +89,11 @@ def kind_of(path: Path) -> str:
         head = stream.read(TYPE_OFFSET + 1)
     if head[:TYPE_OFFSET] in CAPTURE_MAGICS:
         return "capture"
-    is_start = len(head) > TYPE_OFFSET and head[TYPE_OFFSET] == Start.TYPE
-    return "recording" if is_start and head[0] == 0 else "script"
+    if head[:1] != b"\0":
+        return "script"
+    if head[TYPE_OFFSET:] and head[TYPE_OFFSET] & OUTPUT_BIT:
+        raise Refused(f"{path} is an output recording: show.py shows what it has")
+    return "recording"
 
 
 def progress(line: str) -> None:

@@ -26,7 +26,7 @@ from shared.boot_capture import (
     warnings,
 )
 from shared.capture import NANOSECONDS
-from shared.command_line import Refused, opened, run
+from shared.command_line import STANDARD, Refused, opened, run
 from shared.output import report, writing
 from shared.records import MAX_TICK, Start, Tick, spell
 from shared.texts import count, mac
@@ -340,6 +340,8 @@ def summary(conversion: Conversion) -> str:
 
 def make(arguments: argparse.Namespace) -> str:
     """Writes the recording, and returns what was written."""
+    if arguments.script == arguments.capture == STANDARD:
+        raise Refused("script and capture can't both be standard input")
     script = read_script(arguments.script)
     if not arguments.capture:
         return write_without(arguments, script)

@@ -2,6 +2,7 @@
 
 from __future__ import annotations
 
+import codecs
 import os
 import signal
 import sys
@@ -79,17 +80,29 @@ def run(command: Callable[[list[str]], int | None], words: list[str]) -> int:
 
 def _prepare() -> None:
     """Names of any bytes can be printed; SIGTERM and SIGHUP end a command as SIGINT does."""
+    codecs.register_error("escaped", _escaped)
     if sys.stdout is None:
         raise Refused("standard output is closed")
     for stream in (sys.stdout, sys.stderr):
         if hasattr(stream, "reconfigure"):
-            stream.reconfigure(errors="backslashreplace")
+            stream.reconfigure(errors="escaped")
     try:
         for number in (signal.SIGTERM, signal.SIGHUP):
             if signal.getsignal(number) is signal.SIG_DFL:
                 signal.signal(number, _end)
     except ValueError:
         pass  # only a program's first thread may choose
+
+
+def _escaped(error: UnicodeError) -> tuple[str, int]:
+    """What can't be printed: a byte of a name as \\xNN, a character as Python writes it."""
+    assert isinstance(error, UnicodeEncodeError)
+    escapes = []
+    for character in error.object[error.start : error.end]:
+        is_byte = "\udc80" <= character <= "\udcff"
+        byte = f"\\x{ord(character) - 0xDC00:02x}"
+        escapes.append(byte if is_byte else character.encode("unicode_escape").decode())
+    return "".join(escapes), error.end
 
 
 def _end(number: int, _: object) -> None:

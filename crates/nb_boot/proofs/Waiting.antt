@@ -9,7 +9,8 @@ use Rattle.nb_engine.specs.Turns.{IsWaiting}
 use Rattle.nb_engine.specs.declared.status.Status.{Status}
 use Rattle.nb_boot.specs.Run.{IsFirst, BeginsWith, Ends, ran_out, was_bad, was_full}
 use Rattle.nb_boot.specs.Going.{Waits, IsAtRest, IsClosing}
-use Rattle.nb_boot.proofs.Standing.{stands_used, stands_awaits, stands_bad, path_counts}
+use Rattle.nb_boot.proofs.Standing.{stands_used, stands_awaits, stands_bad}
+use Rattle.nb_laws.proofs.Counts.{path_counts}
 
 -- no record may come
 pub waits_bad : (n : ℕ) (held : List ℕ) (first now : Outside) (log : Logged) (c : Seen) (w : Waits n held first now log c) → IsWaiting c.stage → c.used < 4294967295 →

@@ -1,5 +1,5 @@
 -- A run that goes on: what was read and written, what the log still holds, and what its client stands for.
-use Rattle.std.specs.Prelude.{◌≡◌, ℕ, ◌+◌, Bool, true, false, List, [], ◌∷◌, ◌++◌, length, Option, Some, None}
+use Rattle.std.specs.Prelude.{◌≡◌, ◌<◌, ◌≤◌, ℕ, ◌+◌, Bool, true, false, List, [], ◌∷◌, ◌++◌, length, Option, Some, None}
 use Rattle.nb_defs.specs.Records.{In, in_texts, Out, out_texts, IsPartial}
 use Rattle.nb_engine.specs.Machine.{Machine, Path, fresh}
 use Rattle.nb_engine.specs.Seen.{Seen, StandsFor}
@@ -26,6 +26,7 @@ pub record Going (ins : List In) (held : List ℕ) (first now : Outside) (log : 
   pub path : Path ins outs m
   pub texts : out_texts outs ≡ (written ++ log.bytes) ++ lost
   pub whole : log.is_short ≡ false → lost ≡ []
+  pub few : m.used ≤ 4294967295
 
 -- a run that goes on with a client, which stands for its state
 pub record Goes (ins : List In) (held : List ℕ) (first now : Outside) (log : Logged) (c : Seen) : Type 0 where
@@ -48,11 +49,12 @@ flaw_status flaw.NoMemory = status.NoMemory
 abbrev pub Wrote : Outside → Outside → List ℕ → Type 0
 Wrote before after bytes = Passes before after [] bytes
 
--- a front of the bytes was written, and then a write failed
+-- a front of the bytes was written, and then a write failed: the others weren't
 pub record Stopped (before after : Outside) (bytes : List ℕ) : Type 0 where
   pub part : List ℕ
   pub lost : List ℕ
   pub fronts : bytes ≡ part ++ lost
+  pub missing : 0 < length lost
   pub passes : Passes before after [] part
   pub rose : Rose before.write_faults after.write_faults
 
@@ -81,6 +83,11 @@ Fills filled.Ended held held' before now old new = Holds held held' before now o
 Fills filled.Fault held held' before now old new =
     (ins : List In) (first : Outside) (m : Machine) → IsBetween m.phase → Going ins held first before old m → Shows status.ReadFault first now
 Fills (filled.Cut f) held held' before now old new = Cuts (flaw_status f) held before now old
+
+-- a record has a number of 32 bits
+abbrev pub HasNumber : List In → ℕ → Type 0
+HasNumber [] count = Unit {0}
+HasNumber (r ∷ rs) count = count < 4294967295
 
 -- From a client to another, by these records of those held: whatever run went on before goes on afterwards.
 abbrev pub Leads : List In → Outside → Outside → Logged → Logged → Seen → Seen → Type 0

@@ -1,36 +1,33 @@
 ghost use Rattle.std.specs.Prelude.{◌≡◌, ◌↔◌, [], false, map, length, IfOk};
 ghost use Rattle.std.specs.String.{string_bytes};
 ghost use Rattle.nb_boot.specs.Run.{Shows};
-ghost use Rattle.nb_boot.specs.Told.{Told};
+ghost use Rattle.nb_boot.specs.Shown.{ShowsCourse};
+ghost use Rattle.nb_boot.specs.Lawful.{AreLawful};
 ghost use Rattle.nb_boot.specs.Words.{AreWords};
 ghost use Rattle.nb_boot.specs.Complete.{Completes, CompletesRun, IsBadWords};
 
 use crate::Status;
 use crate::begin::begin;
-use crate::feeding::PIECE;
 use crate::output::ROOM;
 use crate::turn::{last, turn};
 use crate::words::target;
 use nb_record::{Feed, Line, Log, NoMemory, Target};
 use std::alloc::Global;
 
-/// What a run needs beside its client: the feed, a piece of input, the log.
+/// What a run needs beside its client: the feed and the log.
 #[derive(Drop)]
 struct Session {
     feed: Feed,
-    piece: Vec<u8>,
     log: Log,
 }
 
 /// A session in which nothing was read or written.
 fn open(alloc: Global) -> Result<Session, NoMemory>
     ensures feed { IfOk result (λ s. s.feed ≡ record { bytes = []; passed = 0 }) }
-    ensures piece { IfOk result (λ s. length s.piece.items ≡ 65536) }
     ensures log { IfOk result (λ s. s.log ≡ record { bytes = []; room = 196608; is_short = false }) }
 {
     Ok(Session {
         feed: Feed::new(alloc)?,
-        piece: vec![in alloc; 0; PIECE]?,
         log: Log::new(alloc, ROOM)?,
     })
 }
@@ -39,27 +36,25 @@ fn open(alloc: Global) -> Result<Session, NoMemory>
 fn serve<L: Line>(
     alloc: Global,
     feed: &mut Feed,
-    piece: &mut [u8],
     log: &mut Log,
     line: &mut L,
 ) -> Status
     requires empty { feed.old.bytes ≡ [] }
-    requires room { length piece.old ≡ 65536 }
     requires no_output { log.old.bytes ≡ [] }
     ensures { Shows result (L.outside line.old) (L.outside line.new) }
 {
-    let mut client = match begin(alloc, feed, piece, log, line) {
+    let mut client = match begin(alloc, feed, log, line) {
         Ok(client) => client,
         Err(status) => return status,
     };
     let mut used: u32 = 1;
     'records: while used < u32::MAX {
-        match turn(&mut client, feed, piece, log, line) {
+        match turn(&mut client, feed, log, line) {
             None => used += 1,
             Some(status) => return status,
         }
     }
-    last(&mut client, feed, piece, log, line)
+    last(&mut client, feed, log, line)
 }
 
 /// Runs what is attached.
@@ -67,7 +62,7 @@ fn run_attached<L: Line>(alloc: Global, line: &mut L) -> Status
     ensures { Shows result (L.outside line.old) (L.outside line.new) }
 {
     match open(alloc) {
-        Ok(mut s) => serve(alloc, &mut s.feed, s.piece.as_mut_slice(), &mut s.log, line),
+        Ok(mut s) => serve(alloc, &mut s.feed, &mut s.log, line),
         Err(NoMemory) => Status::NoMemory,
     }
 }
@@ -88,10 +83,13 @@ pub fn netboot<L: Line>(alloc: Global, words: &[String], line: &mut L) -> Status
     // The words are of no form exactly where the answer is BadWords, and then nothing was attached.
     ensures bad_words { IsBadWords result ↔ (AreWords (map string_bytes words.now) → ⊥) }
     ensures untouched { IsBadWords result → line.new ≡ line.old }
-    // The records used are those read, the records written are the machine's path, and the status is true of them.
+    // The records used are those read, the records written are the machine's course on them, and the status is true
+    // of them.
+    ensures course { AreWords (map string_bytes words.now) → ShowsCourse result (L.outside line.old) (L.outside line.new) }
+    // They are a run of the engine's own machine, in which a command waits for one transfer.
     ensures run { AreWords (map string_bytes words.now) → Shows result (L.outside line.old) (L.outside line.new) }
-    // Each end of an open has its cause in the records so far.
-    ensures causes { AreWords (map string_bytes words.now) → Told (L.outside line.old) (L.outside line.new) }
+    // Each record of the output has its reason in the records so far, as the two lists say alone.
+    ensures lawful { AreWords (map string_bytes words.now) → AreLawful (L.outside line.old) (L.outside line.new) }
     // With no fault and memory enough a START and other records end the script, hand off, or leave a command waiting.
     ensures complete { AreWords (map string_bytes words.now) → Completes result (L.outside line.old) (L.outside line.new) }
     // With no fault and memory enough the input alone says the status, where a run on it is over or waits at its end.

@@ -7,7 +7,7 @@ ghost use Rattle.nb_engine.specs.Turns.{Acts, IsBusy, IsNearer, MayUse, closing_
 ghost use Rattle.nb_engine.specs.declared.stage.Stage.TheVariants as stage;
 
 use crate::causes::STOPPED;
-use crate::fetch::Heard;
+use crate::desk::Desk;
 use crate::put::put_over;
 use crate::{Stage, Status, World};
 use nb_record::{InRec, Log, NoMemory, OutRec, Start};
@@ -32,8 +32,8 @@ pub struct Client {
     pub(crate) used: u32,
     pub(crate) world: World,
     pub(crate) stage: Stage,
-    /// The place for what the next call brings about; None while it is lent out.
-    pub(crate) heard: Option<Box<Heard>>,
+    /// What the next step works on; None before the first, and while it is lent to one.
+    pub(crate) desk: Option<Box<Desk>>,
 }
 
 impl Model for Client {
@@ -58,7 +58,7 @@ impl Client {
             used: 0,
             world: World::of(alloc, start),
             stage: Stage::Ready,
-            heard: None,
+            desk: None,
         })
     }
 
@@ -72,7 +72,7 @@ impl Client {
     {
         self.used += 1;
         match entry {
-            InRec::Start(start) => self.start(start, log),
+            InRec::Start(record) => self.start(&record.fields(), log),
             InRec::Frame(bytes) => self.frame(bytes, log),
             InRec::Tick(ms) => self.tick(*ms, log),
             InRec::Off => self.switch_off(log),

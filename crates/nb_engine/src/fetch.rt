@@ -46,24 +46,6 @@ pub struct Heard {
     pub(crate) end: Option<Cause>,
 }
 
-impl Heard {
-    /// Nothing was brought about.
-    pub fn none() -> Heard {
-        Heard {
-            acts: Acts::none(),
-            end: None,
-        }
-    }
-}
-
-/// The place that was kept, or a new one.
-pub fn lent(alloc: Global, kept: Option<Box<Heard>>) -> Result<Box<Heard>, NoMemory> {
-    match kept {
-        Some(heard) => Ok(heard),
-        None => Ok(Box::new(alloc, Heard::none())?),
-    }
-}
-
 /// A copy of these bytes.
 fn copy(alloc: Global, bytes: &[u8]) -> Result<Text, NoMemory>
     ensures { IfOk result (λ text. text ≡ bytes.now) }

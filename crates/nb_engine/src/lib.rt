@@ -9,6 +9,7 @@ mod causes;
 mod client;
 mod command;
 mod conclusion;
+mod desk;
 mod fetch;
 mod handing;
 mod heeding;

@@ -1,0 +1,5 @@
+pub mod Blocks
+pub mod Fields
+pub mod HeadInfos
+pub mod Reader
+pub mod Feeding

@@ -1,0 +1,80 @@
+//! What a size line, or a trailer after one, is so far (RFC 9112, section 7.1).
+
+ghost use Rattle.std.specs.Prelude.{◌≡◌, ◌≤◌, length};
+ghost use Rattle.nb_httpmsg.specs.Feeding.{place_after, place_within, IsSizeRead, IsTrailerRead};
+
+use crate::block::{BlockEnd, find_block};
+use crate::chunks::MAX_LINES;
+use crate::place::Place;
+use httparse::{Status, parse_chunk_size};
+
+/// How many of the bytes belong to the line or the trailer, and the place after them.
+#[derive(Clone, Copy)]
+pub(crate) struct LineRead {
+    pub(crate) len: usize,
+    pub(crate) place: Place,
+}
+
+/// The place after a size line of so many bytes.
+fn after_size(len: usize, size: u64) -> Place
+    ensures { result ≡ place_after len size }
+{
+    if size > 0 {
+        return Place::Bytes(size);
+    }
+    within(len, Place::Trailer(len))
+}
+
+/// A place, unless so many bytes are too many for it.
+fn within(len: usize, place: Place) -> Place
+    ensures { result ≡ place_within len place }
+{
+    if len < MAX_LINES {
+        place
+    } else {
+        Place::TooLong
+    }
+}
+
+/// What bytes are as a size line.
+pub(crate) fn read_size(line: &[u8]) -> LineRead
+    requires { length line.now ≤ 16384 }
+    ensures { IsSizeRead line.now result }
+{
+    match parse_chunk_size(line) {
+        Ok(Status::Complete((len, size))) => LineRead {
+            len,
+            place: after_size(len, size),
+        },
+        Ok(Status::Partial) => LineRead {
+            len: line.len(),
+            place: within(line.len(), Place::Size),
+        },
+        Err(_) => LineRead {
+            len: line.len(),
+            place: Place::Broken,
+        },
+    }
+}
+
+/// What bytes are as a last size line of this length and a trailer.
+pub(crate) fn read_trailer(used: usize, line: &[u8]) -> LineRead
+    requires within { used ≤ length line.now }
+    requires short { length line.now ≤ 16384 }
+    ensures { IsTrailerRead used line.now result }
+{
+    match find_block(MAX_LINES - used + 1, &line[used..]) {
+        BlockEnd::Whole(len) => LineRead {
+            len: used + len,
+            place: Place::Whole,
+        },
+        BlockEnd::Unfinished => LineRead {
+            len: line.len(),
+            place: within(line.len(), Place::Trailer(used)),
+        },
+        BlockEnd::Crowded => LineRead {
+            len: line.len(),
+            place: Place::Broken,
+        },
+    }
+}

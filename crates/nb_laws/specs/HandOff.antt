@@ -1,0 +1,61 @@
+-- What is handed off: the images that commands have brought, by the history alone.
+use Rattle.std.specs.Prelude.{◌≡◌, ℕ, ◌-◌, ◌&&◌, Bool, false, List, [], ◌∷◌, ◌++◌, fold, map, Option, Some, None, if◌then◌else◌}
+use Rattle.std.specs.List.{after_last}
+use Rattle.nb_terms.specs.declared.cause.Cause.{Cause}
+use Rattle.nb_defs.specs.Causes.{is_ok_cause}
+use Rattle.nb_defs.specs.Records.{Out, step, result}
+use Rattle.nb_uri.specs.Pieces.{is_slash}
+use Rattle.nb_tftp.specs.Received.{Received}
+use Rattle.nb_tftp.specs.Blocks.{file}
+use Rattle.nb_image.specs.declared.image.Image.{Image}
+use Rattle.nb_image.specs.Images.{image_of, with_image}
+use Rattle.nb_engine.specs.Conclusions.{place_for, handoff_records}
+use Rattle.nb_engine.specs.Honesty.{HaveNoParts}
+use Rattle.nb_laws.specs.Events.{Event, puts}
+use Rattle.nb_laws.specs.Lists.{gathered, Opening, openings, got, words_of, last_end, made}
+
+-- an image is named as its path ends
+abbrev pub last_segment : List ℕ → List ℕ
+last_segment path = after_last is_slash path
+
+-- a command's URI is its first word after its name
+abbrev pub uri_of : Option (List (List ℕ)) → List ℕ
+uri_of None = []
+uri_of (Some []) = []
+uri_of (Some (name ∷ [])) = []
+uri_of (Some (name ∷ uri ∷ rest)) = uri
+
+-- the image of an open: what it has received, without arguments
+abbrev pub image_by : Option (List (List ℕ)) → List Received → Opening → Image
+image_by words received o = image_of (last_segment o.target) (file received) [] (uri_of words)
+
+-- the image of the last open, if one was made
+abbrev pub last_image : List Event → List Image
+last_image es = map (image_by (words_of es) (got (made es - 1) es)) (openings (made es - 1) es)
+
+abbrev pub came_ok : Option Cause → Bool
+came_ok None = false
+came_ok (Some cause) = is_ok_cause cause
+
+abbrev pub image_at : List Event → Event → List Image
+image_at before (puts (result cause)) = if is_ok_cause cause && came_ok (last_end before) then last_image before else []
+image_at before (puts (step number)) = []
+image_at before _ = []
+
+-- the images brought: at each RESULT Ok of a command whose open has ended in Ok, that open's
+unfoldable pub brought : List Event → List Image
+brought es = gathered image_at [] es
+
+-- the list that images make: each takes the place of the one of its name, or stands after all; so of a name the last one stands
+abbrev pub listed : List Image → List Image
+listed images = fold (λ list image. with_image image list) [] images
+
+-- The output, with these records still to come, ends with the hand-off of all the images brought, of which the last one is
+-- booted; no PART stands before it.
+pub record HandsOff (es : List Event) (outs rest : List Out) : Type 0 where
+  pub earlier : List Image
+  pub last : Image
+  pub all : brought es ≡ earlier ++ last ∷ []
+  pub before : List Out
+  pub none : HaveNoParts before
+  pub ends : outs ++ rest ≡ before ++ handoff_records (place_for last (record { images = listed earlier; selected = None })) (listed (earlier ++ last ∷ []))
