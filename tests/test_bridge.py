@@ -10,6 +10,7 @@ import threading
 import time
 import unittest
 
+from boot import is_built
 from bridge import listening_place
 from shared.capture import PcapWriter, read_capture
 from shared.checksums import Sums, sums_of
@@ -20,7 +21,7 @@ from shared.progress import Progress
 from shared.records import Direction, Off, Received, Record, Sent, Step, Tick, read_records
 from shared.wire import ARP, Opcode, arp_reply, padded, tftp_data, udp_frame
 from tests import TOP, made
-from tests.replays import can_run, replay_all, run_all
+from tests.replays import replay_all, run_all
 
 MOST_SECONDS = 30
 FILE = made.KERNEL + bytes(range(256)) * 40
@@ -170,7 +171,7 @@ class Bridged(unittest.TestCase):
                 found += records.take(data[at : at + size])
             self.assertEqual(b"".join(len(one).to_bytes(4, "big") + one for one in found), data)
 
-    @unittest.skipUnless(can_run(), "the program isn't built, and the toolchain's rt is missing")
+    @unittest.skipUnless(is_built(), "the program isn't built: a boot through a bridge in memory")
     def test_program(self) -> None:
         """The program boots over it; what was kept replays to what it wrote, byte for byte."""
         ran = {}
@@ -189,7 +190,7 @@ class Bridged(unittest.TestCase):
         self.assertEqual(self.printed.getvalue(), "one moment\n")
         self.assertIn(f"k from 10.0.0.1:69: {len(FILE) // 512 + 1} blocks, {len(FILE)} bytes",
                       self.said.getvalue())
-        replayed = replay_all({"kept": self.input.getvalue()})["kept"]
+        replayed = replay_all({"kept": self.input.getvalue()}, {})["kept"]
         self.assertEqual((replayed.status, replayed.output), (0, self.output.getvalue()))
 
 
@@ -221,7 +222,6 @@ class LiveBoot(unittest.TestCase):
         words = [sys.executable, "-B", str(TOP / "tools" / "live_boot.py")]
         done = subprocess.run(words, capture_output=True, text=True, timeout=300, check=False)
         if done.returncode == 77:
-            print(f"\ntools: {done.stderr.strip()}", file=sys.stderr)
             self.skipTest(done.stderr.strip())
         self.assertEqual(done.returncode, 0, done.stderr)
         self.assertIn("booting by TFTP: passed", done.stderr)

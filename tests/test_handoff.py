@@ -100,8 +100,7 @@ class HandOff(Case):
         why = None if shutil.which(QEMU) else f"{QEMU} is missing"
         why = why or (None if kernel else "/boot has no vmlinuz-* that can be read")
         if why or kernel is None:
-            print(f"\ntools: starting a kernel is skipped: {why}", file=sys.stderr)
-            self.skipTest(str(why))
+            self.skipTest(f"starting a kernel: {why}")
         words = b"console=ttyS0 earlyprintk=ttyS0 panic=-1"
         self.put("boot.out", handed_off(kernel.read_bytes(), words=words))
         called = [sys.executable, "-B", str(TOP / "tools" / "handoff.py"), "boot.out", "--to", "parts",

@@ -10,7 +10,7 @@ from typing import Callable
 
 from shared.records import Off, Tick, spell
 from tests import made
-from tests.replays import Ran, can_run, replay_all, run_all
+from tests.replays import Replayed, can_run, replay_all
 
 MOST_SECONDS = 30
 BOOT = made.spelled(made.BOOT_INPUT)
@@ -110,6 +110,11 @@ PEERS: dict[str, tuple[Callable[[socket.socket], None], int, str, str]] = {
 }
 
 
+REPLAYED = {"file": BOOT, "file-off": SILENT + spell(Off())}
+NO_PEERS = ("a", ":1", "a:", "a:0", "a:01", "a:+1", "a:-1", "a:0x1", "a:65536", "1:a", "a:1:")
+BAD_WORDS = [["live", name] for name in NO_PEERS] + [["live"], ["live", "a:1", "b:2"], ["Live", "a:1"]]
+
+
 def closed_port() -> str:
     """A port at which nobody listens."""
     with socket.create_server(("127.0.0.1", 0)) as listener:
@@ -118,7 +123,7 @@ def closed_port() -> str:
 
 @unittest.skipUnless(can_run(), "the program isn't built, and the toolchain's rt is missing")
 class Live(unittest.TestCase):
-    ran: dict[str, Ran]
+    ran: dict[str, Replayed]
     peers: dict[str, Peer]
 
     @classmethod
@@ -128,7 +133,9 @@ class Live(unittest.TestCase):
         words = {name: ["live", peer.name] for name, peer in cls.peers.items()}
         words["closed"] = ["live", cls.closed]
         words["unknown"] = ["live", "no-such-host.invalid:7000"]
-        cls.ran = run_all(words)
+        words |= {f"bad-{number}": bad for number, bad in enumerate(BAD_WORDS)}
+        # One compiling serves all, where the program isn't built.
+        cls.ran = replay_all(REPLAYED, words)
         for peer in cls.peers.values():
             peer.thread.join(MOST_SECONDS)
 
@@ -154,23 +161,17 @@ class Live(unittest.TestCase):
 
     def test_same_as_replay(self) -> None:
         """What a peer is told is what the same input gives in a file; nothing of it is lost."""
-        replayed = replay_all({"boots": BOOT, "off": SILENT + spell(Off())})
-        for case, of in (("boots", "boots"), ("by-byte", "boots"), ("goes-on", "boots"), ("off", "off")):
-            self.assertEqual(bytes(self.peers[case].taken), replayed[of].output, case)
-        self.assertEqual(replayed["boots"].output, made.spelled(made.BOOT_OUTPUT))
+        pairs = (("boots", "file"), ("by-byte", "file"), ("goes-on", "file"), ("off", "file-off"))
+        for case, file in pairs:
+            self.assertEqual(bytes(self.peers[case].taken), self.ran[file].output, case)
+        self.assertEqual(self.ran["file"].output, made.spelled(made.BOOT_OUTPUT))
 
-
-@unittest.skipUnless(can_run(), "the program isn't built, and the toolchain's rt is missing")
-class Words(unittest.TestCase):
     def test_bad_words(self) -> None:
-        """Words that are no peer's; each stands alone with its usage line, and nobody is called."""
-        peers = ["", "a", ":1", "a:", "a:0", "a:01", "a:+1", "a:-1", "a:0x1", "a:65536", "1:a", "a:1:"]
-        cases = {f"bad-{number}": ["live", peer] for number, peer in enumerate(peers) if peer}
-        cases["alone"], cases["two"] = ["live"], ["live", "a:1", "b:2"]
-        for case, ran in run_all(cases).items():
-            lines = [line for line in ran.said.splitlines() if line]
-            usage = ["usage: netboot replay IN OUT | live HOST:PORT | lab N"]
-            self.assertEqual((ran.status, lines), (2, usage), cases[case])
+        """Words that are no peer's: the usage line stands alone, and nobody is called."""
+        usage = ["usage: netboot replay IN OUT | live HOST:PORT | lab N"]
+        for number, words in enumerate(BAD_WORDS):
+            ran = self.ran[f"bad-{number}"]
+            self.assertEqual((ran.status, ran.said.splitlines()), (2, usage), words)
 
 
 if __name__ == "__main__":

@@ -142,21 +142,34 @@ def is_built() -> bool:
     return all(path.stat().st_mtime <= built for path in (TOP / "crates").glob("*/src/**/*.rt"))
 
 
-def words_of(arguments: argparse.Namespace, recording: Path, output: Path) -> list[str]:
-    """The words that run the program, built or to be compiled."""
-    run_words = ["replay", str(recording), str(output)]
-    if arguments.program:
-        return [str(arguments.program.resolve()), *run_words]
+def not_runnable() -> str | None:
+    """Why the program can't be run here, if it can't."""
+    if is_built() or shutil.which("rt"):
+        return None
+    return (
+        "the program isn't built (crates/netboot/out/netboot), and the toolchain's `rt` isn't "
+        "there to compile it"
+    )
+
+
+def program_words(*words: str) -> list[str]:
+    """What runs the program on these words in its crate's folder, built or to be compiled."""
     if is_built():
-        return [str(BUILT), *run_words]
-    if not shutil.which("rt"):
-        raise Refused(
-            "the program isn't built (crates/netboot/out/netboot), and the toolchain's `rt` isn't "
-            "there to compile it"
-        )
+        return [str(BUILT), *words]
+    refusal = not_runnable()
+    if refusal:
+        raise Refused(refusal)
     why = "its sources are newer than it" if BUILT.exists() else "it isn't built yet"
     progress(f"compiling the program, as {why}: this takes half a minute, and proves nothing")
-    return ["rt", "try", "--", *run_words]
+    return ["rt", "try", "--", *words]
+
+
+def words_of(arguments: argparse.Namespace, recording: Path, output: Path) -> list[str]:
+    """The words that run the program, the one that was given or ours."""
+    words = ["replay", str(recording), str(output)]
+    if arguments.program:
+        return [str(arguments.program.resolve()), *words]
+    return program_words(*words)
 
 
 def start(words: list[str]) -> subprocess.Popen[str]:

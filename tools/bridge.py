@@ -142,10 +142,12 @@ def client_running(
         say(f"waiting for `netboot live {peer}`")
         yield None
         return
-    if not boot.is_built():
-        raise Refused(f"the program isn't built, or older than its sources: {boot.BUILT}")
     program = subprocess.Popen(
-        [boot.BUILT, "live", peer], stdin=subprocess.DEVNULL, start_new_session=True
+        boot.program_words("live", peer),
+        cwd=boot.CRATE,
+        stdin=subprocess.DEVNULL,
+        stdout=subprocess.DEVNULL,
+        start_new_session=True,
     )
     try:
         yield program
@@ -153,8 +155,7 @@ def client_running(
     except subprocess.TimeoutExpired:
         say("the program doesn't end, and is ended")
     finally:
-        program.kill()
-        program.wait()
+        boot.end_group(program)
 
 
 @contextmanager

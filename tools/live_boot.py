@@ -31,8 +31,8 @@ boots over the wire from the other: bridge.py leads the built program there, whi
 one imgexec. The kernel that it hands off is compared with the one that was served, and the run
 that was recorded is replayed and compared byte for byte. Then all of it is taken away.
 
-It needs root, iproute2, dnsmasq and the built program. Where one isn't there it says so and ends
-with 77."""
+It needs root, iproute2, dnsmasq, and the built program or the toolchain's `rt`. Where one isn't
+there it says so and ends with 77."""
 
 EPILOG = """\
 examples:
@@ -83,7 +83,8 @@ class Boot:
     def replayed(self) -> bytes:
         """What the program writes over the input that was recorded."""
         again = self.folder / "again.out"
-        subprocess.run([boot.BUILT, "replay", self.input, again], check=False)
+        words = boot.program_words("replay", str(self.input.resolve()), str(again.resolve()))
+        subprocess.run(words, cwd=boot.CRATE, capture_output=True, check=False)
         return again.read_bytes()
 
 
@@ -123,7 +124,7 @@ WAYS: dict[str, Callable[[Network, Path, bytes], None]] = {"TFTP": by_tftp}
 
 def live_boot(words: list[str]) -> int:
     arguments = parse(words)
-    why = missing("dnsmasq") or (None if boot.is_built() else "the program isn't built")
+    why = missing("dnsmasq") or boot.not_runnable()
     if why:
         say(f"skipped: {why}")
         return SKIPPED

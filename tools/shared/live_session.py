@@ -51,6 +51,7 @@ HEAD = 5
 PACKET_LENGTH = slice(16, 18)
 FRAME_IN = b"\x02"
 FRAME_TYPE, STEP_TYPE, ADVANCE_TYPE = Sent.TYPE, Step.TYPE, Advance.TYPE
+OUTPUT_TYPES = frozenset(KINDS[Direction.OUTPUT])
 # What a person sees of a run; the rest is only kept.
 SHOWN = frozenset(kind.TYPE for kind in (Text, Command, Open, Ended, Done))
 # A client that has said DONE, or was told OFF, closes its side in this time.
@@ -90,12 +91,13 @@ class Records:
 
     def take(self, piece: bytes) -> list[bytes]:
         """The types and bodies of the records that are complete now."""
-        held, at, found = self.held + piece, 0, []
-        while len(held) - at >= HEAD:
+        held, at, found = self.held + piece if self.held else piece, 0, []
+        size = len(held)
+        while size - at >= HEAD:
             end = at + 4 + int.from_bytes(held[at : at + 4], "big")
             if not at + 4 < end <= at + 4 + MAX_LENGTH:
                 raise ClientFault(f"byte {self.passed + at} of its output begins no record")
-            if end > len(held):
+            if end > size:
                 break
             found.append(held[at + 4 : end])
             at = end
@@ -249,7 +251,7 @@ class Session:
             self.take(self.lengths.get(self.step, 0), advance)
         elif kind in SHOWN:
             self._show(content)
-        elif kind not in KINDS[Direction.OUTPUT]:
+        elif kind not in OUTPUT_TYPES:
             raise ClientFault(f"a record of its output has type 0x{kind:02x}, which none has")
 
     def _show(self, content: bytes) -> None:

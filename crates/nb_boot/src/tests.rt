@@ -219,7 +219,14 @@ fn bad_words(rt: HostRuntime) -> Result<(), Fail> {
 #[test]
 fn live(rt: HostRuntime) -> Result<(), Fail> {
     let input = start_of(rt.alloc(), HELLO)?;
-    for peer in ["localhost:1", "10.0.0.1:65535", "[::1]:8080", "::1:80", ":::9", "ä b:10"] {
+    for peer in [
+        "localhost:1",
+        "10.0.0.1:65535",
+        "[::1]:8080",
+        "::1:80",
+        ":::9",
+        "ä b:10",
+    ] {
         let mut line = MemLine::new(rt.alloc(), input.as_slice(), &[1, 2, 3], &[], 1000)?;
         let words = words_of(rt.alloc(), &["live", peer])?;
         assert_eq!(rt;
