@@ -70,10 +70,12 @@ def _run_built(words: list[str]) -> Ran:
     return Ran(ending, done.returncode, done.stdout + done.stderr)
 
 
-def replay_all(inputs: dict[str, bytes], more: dict[str, list[str]]) -> dict[str, Replayed]:
+def replay_all(
+    inputs: dict[str, bytes], words: dict[str, list[str]] | None = None
+) -> dict[str, Replayed]:
     """Runs `netboot replay` over each of these recordings, and the program on each of these words."""
     with tempfile.TemporaryDirectory() as name:
-        folder, cases = Path(name), dict(more)
+        folder, cases = Path(name), dict(words or {})
         for case, recording in inputs.items():
             (folder / f"{case}.in").write_bytes(recording)
             cases[case] = ["replay", f"{folder / case}.in", f"{folder / case}.out"]

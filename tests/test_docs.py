@@ -53,13 +53,14 @@ class Names(unittest.TestCase):
     def test_each_crate_has_one_row_and_one_place(self) -> None:
         crates = re.findall(r"^(\w+)(?: [^:\n]*)?:", (TOP / "crates.txt").read_text(), re.M)
         self.assertEqual(set(crates), {path.name for path in (TOP / "crates").iterdir()})
-        rows = {}
+        rows: dict[str, list[str]] = {crate: [] for crate in crates}
         for page in PAGES:
             for line in page.read_text().splitlines():
                 named = [cell for cell in cells(line)[:2] if cell.strip("`") in crates]
                 if named and len(cells(line)) >= 5:
-                    rows.setdefault(named[0].strip("`"), []).append(page.name)
-        self.assertEqual(rows, {crate: ["ARCHITECTURE.md"] for crate in crates})
+                    rows[named[0].strip("`")].append(page.name)
+        wrong = {crate: pages for crate, pages in rows.items() if pages != ["ARCHITECTURE.md"]}
+        self.assertEqual(wrong, {}, "crates without exactly one row in ARCHITECTURE.md")
 
     def test_what_is_named_is_there(self) -> None:
         for page in PAGES:

@@ -4,7 +4,7 @@ use Rattle.nb_defs.specs.Records.{In, Out, ended}
 use Rattle.nb_stack.specs.Client.{Client}
 use Rattle.nb_engine.specs.Machine.{Machine, Phase, Path, shutdown_records, stopped_cause}
 use Rattle.nb_engine.specs.Machine as lone
-use Rattle.nb_laws.specs.Agreement.{bare, Agrees}
+use Rattle.nb_laws.specs.Agreement.{bare, AgreesPhase}
 use Rattle.nb_laws.proofs.Runs.{run_tells}
 use Rattle.nb_laws.proofs.Tellings.{same_number}
 use Rattle.nb_machine.specs.Lives.{close, exchange, Live}
@@ -19,7 +19,7 @@ use Rattle.nb_machine.proofs.Heard.{keeps_now}
 none_close : (s : State) → s.live ≡ [] → AllClose s []
 none_close s none = ([], subst (λ (ls : List Live). AllTake s.devices (close stopped_cause) ls [] [] []) (sym none) all_have)
 
-shuts_by : (phase : Phase) (p : Standing) (es : _) → Agrees es phase → StandsAs phase p → Shuts p (shutdown_records phase)
+shuts_by : (phase : Phase) (p : Standing) (es : _) → AgreesPhase es phase → StandsAs phase p → Shuts p (shutdown_records phase)
 shuts_by lone.ready p es a same = subst (λ z. Shuts z []) (sym same) refl
 shuts_by (lone.running w s) p es a same = subst (λ z. Shuts z []) (sym same) ([], all_have)
 shuts_by (lone.waiting w s o) p es a (xs, here, same) =

@@ -33,12 +33,7 @@ fn open(alloc: Global) -> Result<Session, NoMemory>
 }
 
 /// Uses record after record, until the run is over.
-fn serve<L: Line>(
-    alloc: Global,
-    feed: &mut Feed,
-    log: &mut Log,
-    line: &mut L,
-) -> Status
+fn serve<L: Line>(alloc: Global, feed: &mut Feed, log: &mut Log, line: &mut L) -> Status
     requires empty { feed.old.bytes ≡ [] }
     requires no_output { log.old.bytes ≡ [] }
     ensures { Shows result (L.outside line.old) (L.outside line.new) }

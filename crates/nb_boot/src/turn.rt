@@ -3,7 +3,7 @@ ghost use Rattle.nb_defs.specs.Records.{IsPartial};
 ghost use Rattle.nb_record.specs.Outside.{Outside};
 ghost use Rattle.nb_engine.specs.Turns.{IsWaiting};
 ghost use Rattle.nb_boot.specs.Run.{Shows};
-ghost use Rattle.nb_boot.specs.Going.{Waits, UsesNext, IsAtRest};
+ghost use Rattle.nb_boot.specs.Going.{Waits, UsesNext, IsEndStatus};
 
 use crate::Status;
 use crate::begin::is_first;
@@ -14,7 +14,7 @@ use nb_record::{Feed, Front, Line, Log};
 
 /// The status of a run whose input ended while a command waits.
 fn status_at_end(feed: &Feed) -> Status
-    ensures { IsAtRest result feed.now.bytes }
+    ensures { IsEndStatus result feed.now.bytes }
 {
     if feed.is_empty() {
         Status::Unfinished
@@ -58,12 +58,7 @@ pub fn turn<L: Line>(
 }
 
 /// Ends a run of which every record number was given: no byte may follow.
-pub fn last<L: Line>(
-    client: &mut Client,
-    feed: &mut Feed,
-    log: &mut Log,
-    line: &mut L,
-) -> Status
+pub fn last<L: Line>(client: &mut Client, feed: &mut Feed, log: &mut Log, line: &mut L) -> Status
     requires waits { IsWaiting client.old.stage }
     ensures { (first : Outside) → Waits 4294967295 feed.old.bytes first (L.outside line.old) log.old client.old → Shows result first (L.outside line.new) }
 {

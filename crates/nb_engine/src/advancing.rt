@@ -15,7 +15,6 @@ ghost use Rattle.nb_engine.specs.Concluding.{IsTurn};
 ghost use Rattle.nb_engine.specs.Advance.{IfRunning, IsHanding, IsNext, IsOneUdp, IfOne, Asks, Followed};
 ghost use Rattle.nb_engine.specs.declared.stage.Stage.TheVariants as stage;
 
-use crate::causes::{OK, no_route};
 use crate::command::{Command, Refusal, Wanted, carry_out, read_command};
 use crate::desk::{Desk, Room, lent};
 use crate::put::{put_over, put_result, put_send};
@@ -25,6 +24,7 @@ use crate::world::own_port;
 use crate::{Client, Fetch, RunningScript, Stage, Status, Turn};
 use nb_record::{Acts as Asked, Cause, Log, NoMemory, OutRec};
 use nb_stack::Stack;
+use nb_terms::{Plain, Reason};
 use nb_uri::TFTP_PORT;
 use nb_wire::Word;
 use std::mem;
@@ -36,13 +36,7 @@ const UDP: u8 = 17;
 const TFTP: u8 = 1;
 
 /// Puts the request of an open, its first try. False where there is no way to the server.
-fn put_request(
-    net: &mut Stack,
-    number: u16,
-    acts: &Asked,
-    room: &mut Room,
-    log: &mut Log,
-) -> bool
+fn put_request(net: &mut Stack, number: u16, acts: &Asked, room: &mut Room, log: &mut Log) -> bool
     requires { IsOneUdp acts.now }
     ensures route { IfOne acts.now.sends.items (λ send. result ≡ has_route net.old send) }
     ensures puts { IfOne acts.now.sends.items (λ send. Puts log.old log.new (out_texts (send_records net.old number acts.now.tried send))) }
@@ -67,8 +61,9 @@ impl Client {
         };
         match script.next(alloc) {
             Ok(Next::End) => {
-                script.put_leave(OK, log);
-                self.stage = Stage::Left(OK);
+                let ok = Plain::Ok.cause();
+                script.put_leave(ok, log);
+                self.stage = Stage::Left(ok);
                 Turn::Over(Status::Ended)
             }
             Ok(Next::List(list)) => self.line(list.as_slice(), log),
@@ -153,13 +148,7 @@ impl Client {
     }
 
     /// Begins it on this desk.
-    fn begin(
-        &mut self,
-        words: &[Word],
-        wanted: &Wanted<'_>,
-        desk: &mut Desk,
-        log: &mut Log,
-    ) -> Turn
+    fn begin(&mut self, words: &[Word], wanted: &Wanted<'_>, desk: &mut Desk, log: &mut Log) -> Turn
         requires words { IfRunning self.old.stage (λ s. HasWords s words.now) }
         requires some { 0 < length words.now }
         requires value { effect self.old.world.opens words.now ≡ asks (wanted_of wanted.now) }
@@ -263,8 +252,9 @@ impl Client {
         let Stage::Running(script) = mem::replace(&mut self.stage, Stage::Stopped) else {
             unreachable!()
         };
-        put_over(number, no_route(server), log);
-        self.fail(script, no_route(server), log)
+        let cause = Cause::from(Reason::NoRoute(server));
+        put_over(number, cause, log);
+        self.fail(script, cause, log)
     }
 
     /// The script's command fails, and the script is left.

@@ -6,11 +6,11 @@ ghost use Rattle.nb_engine.specs.StatusNumber.{number_of};
 ghost use Rattle.nb_engine.specs.Turns.{Acts, IsBusy, IsNearer, MayUse, closing_records};
 ghost use Rattle.nb_engine.specs.declared.stage.Stage.TheVariants as stage;
 
-use crate::causes::STOPPED;
 use crate::desk::Desk;
 use crate::put::put_over;
 use crate::{Stage, Status, World};
 use nb_record::{InRec, Log, NoMemory, OutRec, Start};
+use nb_terms::Plain;
 use std::alloc::Global;
 use std::marker::Model;
 
@@ -98,7 +98,7 @@ impl Client {
         ensures same { self.new ≡ self.old }
     {
         if let Stage::Waiting(_, fetch) = &self.stage {
-            put_over(fetch.number, STOPPED, log);
+            put_over(fetch.number, Plain::Stopped.cause(), log);
         }
         log.put(&OutRec::Done(status.number()));
     }

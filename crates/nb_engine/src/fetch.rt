@@ -12,9 +12,9 @@ ghost use Rattle.nb_engine.specs.Fetches.{TakesCall, given_bytes, IsSameFetch, I
 ghost use Rattle.nb_tftp.specs.Sound.{IsRange};
 
 use crate::Wanted;
-use crate::causes::TOO_LARGE_IMAGE;
 use nb_image::{Body, PushError};
 use nb_record::{Acts, Cause, NoMemory};
+use nb_terms::{Large, Reason};
 use nb_tftp::Transfer;
 use nb_uri::TFTP_PORT;
 use nb_wire::{Ip4, Text};
@@ -45,6 +45,9 @@ pub struct Heard {
     /// The end of the open, and its cause.
     pub(crate) end: Option<Cause>,
 }
+
+/// Why an image isn't joined further.
+const TOO_LARGE: Reason = Reason::TooLarge(Large::Image);
 
 /// A copy of these bytes.
 fn copy(alloc: Global, bytes: &[u8]) -> Result<Text, NoMemory>
@@ -153,7 +156,7 @@ impl Fetch {
     {
         match self.body.push(piece) {
             Ok(()) => Ok(acts.over),
-            Err(PushError::TooLarge) => Ok(Some(TOO_LARGE_IMAGE)),
+            Err(PushError::TooLarge) => Ok(Some(Cause::from(TOO_LARGE))),
             Err(PushError::NoMemory) => Err(NoMemory),
         }
     }

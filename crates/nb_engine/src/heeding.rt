@@ -13,7 +13,6 @@ ghost use Rattle.nb_engine.specs.Turns.{IsWaiting};
 ghost use Rattle.nb_tftp.specs.Sound.{IsSound};
 ghost use Rattle.nb_engine.specs.declared.stage.Stage.TheVariants as stage;
 
-use crate::causes::OK;
 use crate::conclusion::{Conclusion, conclude};
 use crate::desk::Room;
 use crate::fetch::Heard;
@@ -21,6 +20,7 @@ use crate::put::{put_acts, put_over, put_result, put_step};
 use crate::status::status_after;
 use crate::{Client, Handing, RunningScript, Stage, Status, Turn};
 use nb_record::{Acts, Cause, Log, NoMemory};
+use nb_terms::Plain;
 use std::mem;
 
 /// UDP (RFC 768).
@@ -89,12 +89,12 @@ impl Client {
     {
         match conclusion {
             Conclusion::Keeps => {
-                put_result(OK, log);
+                put_result(Plain::Ok.cause(), log);
                 self.resume(script)
             }
             Conclusion::Fails(cause) => self.fail(script, cause, log),
             Conclusion::Boots(kernel) => {
-                put_result(OK, log);
+                put_result(Plain::Ok.cause(), log);
                 self.stage = Stage::HandingOff(Handing::of(kernel));
                 Turn::More
             }
@@ -108,7 +108,7 @@ impl Client {
         ensures turn { result ≡ turn.More }
         ensures after { self.new ≡ seen self.old.used self.old.world (stage.Running (further script ok)) }
     {
-        script.pass_with(OK);
+        script.pass_with(Plain::Ok.cause());
         self.stage = Stage::Running(script);
         Turn::More
     }

@@ -5,7 +5,6 @@
 #![tactic(auto)]
 
 mod advancing;
-mod causes;
 mod client;
 mod command;
 mod conclusion;

@@ -16,13 +16,13 @@ ghost use Rattle.nb_engine.specs.Heeding.{Uses, Heeds, Comes, IsReply, asks_serv
 ghost use Rattle.nb_engine.specs.declared.stage.Stage.TheVariants as stage;
 ghost use Rattle.nb_engine.specs.declared.client.Turn.TheVariants as turn;
 
-use crate::causes::{NOT_SCRIPT, OK, STOPPED};
 use crate::desk::{Desk, lent};
 use crate::put::{put_over, put_reply, put_step};
 use crate::{Client, RunningScript, Stage, Status, Turn, World};
 use nb_record::{Log, NoMemory, OutRec, Start};
 use nb_script::{PlainError, PlainScript};
 use nb_stack::Taken;
+use nb_terms::Plain;
 use nb_wire::{Ip4, Text};
 use std::alloc::Global;
 
@@ -46,7 +46,7 @@ fn put_entered(number: u32, log: &mut Log)
     log.put(&OutRec::Script {
         what: 0,
         depth: 1,
-        cause: OK,
+        cause: Plain::Ok.cause(),
     });
 }
 
@@ -57,7 +57,7 @@ fn put_refused(log: &mut Log)
     log.put(&OutRec::Script {
         what: 1,
         depth: 1,
-        cause: NOT_SCRIPT,
+        cause: Plain::NotScript.cause(),
     });
 }
 
@@ -78,7 +78,7 @@ impl Client {
             Err(PlainError::NotScript) => {
                 put_entered(self.used, log);
                 put_refused(log);
-                self.stage = Stage::Left(NOT_SCRIPT);
+                self.stage = Stage::Left(Plain::NotScript.cause());
                 Turn::Over(Status::ScriptFailed)
             }
             Err(PlainError::NoMemory) => Turn::Over(Status::NoMemory),
@@ -221,7 +221,7 @@ impl Client {
             unreachable!()
         };
         put_step(self.used, log);
-        put_over(fetch.number, STOPPED, log);
+        put_over(fetch.number, Plain::Stopped.cause(), log);
         self.stage = Stage::Stopped;
         Turn::Over(Status::Unfinished)
     }

@@ -1,5 +1,6 @@
 // Nodes and an outside for the tests.
-ghost use Rattle.std.specs.Prelude.{◌≡◌, [], None, min};
+ghost use Rattle.std.specs.Prelude.{◌≡◌, ◌≤◌, [], None, min, true};
+ghost use Rattle.nb_ledger.specs.Ledger.{live, rank};
 ghost use Rattle.nb_graph.specs.Counted.{regains, ups};
 
 use crate::{Emit, Fx, Graph, Make, Msg, Node, ObjId, Outside, Parts, Port, Reach};
@@ -256,6 +257,27 @@ pub(crate) fn port(obj: ObjId, slot: u8) -> Port
     Port { obj, slot }
 }
 
+/// The rank of a live object.
+fn rank_of(graph: &Graph<Fake>, id: ObjId) -> u8
+    ensures { live graph.now.book id.0 ≡ true → result ≡ rank graph.now.book id.0 }
+{
+    match graph.node(id) {
+        Some(node) => node.rank,
+        None => 0,
+    }
+}
+
+/// Joins two ports of objects whose ranks fit.
+fn join(graph: &mut Graph<Fake>, upper: Port, lower: Port, tape: &mut Tape) -> Result<(), Fail>
+    requires upper { (1 ≤ upper.slot) × (upper.slot ≤ 3) }
+    requires lower { lower.slot ≡ 0 }
+{
+    if rank_of(graph, lower.obj) < rank_of(graph, upper.obj) {
+        graph.plug(upper, lower, tape).ok().ok_or("not open")?;
+    }
+    Ok(())
+}
+
 /// A graph of an upper object 1 and a lower object 2 that is plugged to its slot 1.
 pub(crate) fn pair(
     rt: &HostRuntime,
@@ -266,10 +288,7 @@ pub(crate) fn pair(
     let mut graph = Graph::new(rt.alloc(), 2)?;
     let above = graph.make(make_fake(2, upper), tape).ok().ok_or("full")?;
     let below = graph.make(make_fake(1, lower), tape).ok().ok_or("full")?;
-    graph
-        .plug(port(above, 1), port(below, 0), tape)
-        .ok()
-        .ok_or("not open")?;
+    join(&mut graph, port(above, 1), port(below, 0), tape)?;
     Ok(graph)
 }
 
@@ -286,14 +305,8 @@ pub(crate) fn chain(
         .ok()
         .ok_or("full")?;
     let middle = graph.make(make_fake(1, deed), tape).ok().ok_or("full")?;
-    graph
-        .plug(port(above, 1), port(middle, 0), tape)
-        .ok()
-        .ok_or("not open")?;
+    join(&mut graph, port(above, 1), port(middle, 0), tape)?;
     let below = graph.make(make_fake(0, lowest), tape).ok().ok_or("full")?;
-    graph
-        .plug(port(middle, 1), port(below, 0), tape)
-        .ok()
-        .ok_or("not open")?;
+    join(&mut graph, port(middle, 1), port(below, 0), tape)?;
     Ok((graph, middle))
 }

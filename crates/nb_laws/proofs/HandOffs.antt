@@ -1,5 +1,5 @@
 -- The machine's images are those that the history says were brought.
-use Rattle.std.proofs.Common.{◌≡◌, ℕ, ◌==◌, ◌&&◌, Bool, true, false, cond, List, [], ◌∷◌, ◌++◌, Option, Some, None, refl, sym, ◌∙◌, ap, subst, append_assoc, append-nil, length, if◌then◌else◌}
+use Rattle.std.proofs.Common.{◌≡◌, ℕ, ◌-◌, ◌==◌, ◌&&◌, Bool, true, false, cond, List, [], ◌∷◌, ◌++◌, Option, Some, None, refl, sym, ◌∙◌, ap, subst, append_assoc, append-nil, length, if◌then◌else◌}
 use Rattle.std.specs.Prelude.{codes, unwrap_or}
 use Rattle.std.specs.List.{AllByRecursion, after_last}
 use Rattle.std.specs.Option.{option_map, option_map_or}
@@ -28,8 +28,9 @@ use Rattle.nb_engine.specs.Honesty.{IsNoPart, HaveNoParts}
 use Rattle.nb_engine.specs.Machine.{Running, prints, command_record, command_records, reply_records, phase_after}
 use Rattle.nb_engine.proofs.HandingLemmas.{all_append}
 use Rattle.nb_laws.specs.Events.{Event, starts, puts}
-use Rattle.nb_laws.specs.Lists.{words_of, words_by, last_end, end_by}
-use Rattle.nb_laws.specs.HandOff.{last_segment, uri_of, came_ok, last_image, image_at, brought, listed}
+use Rattle.nb_tftp.specs.Blocks.{is_whole}
+use Rattle.nb_laws.specs.Lists.{words_of, words_by, last_end, end_by, got, made}
+use Rattle.nb_laws.specs.HandOff.{last_segment, uri_of, came_ok, last_image, image_at, images_brought, image_list}
 use Rattle.nb_laws.specs.Agreement.{AgreesImages, IsSilent}
 use Rattle.nb_laws.proofs.Histories.{gathered_one}
 use Rattle.nb_laws.proofs.Tellings.{told}
@@ -94,8 +95,8 @@ words_more : (es : List Event) (e : Event) → words_of (es ++ e ∷ []) ≡ wor
 unfolding words_of
 words_more es e = fold-append words_by None es (e ∷ [])
 
-pub brought_more : (es : List Event) (e : Event) → brought (es ++ e ∷ []) ≡ brought es ++ image_at es e
-unfolding brought
+pub brought_more : (es : List Event) (e : Event) → images_brought (es ++ e ∷ []) ≡ images_brought es ++ image_at es e
+unfolding images_brought
 brought_more es e = gathered_one image_at es e
 
 opens_words : (ws : Option (List (List ℕ))) (o : Out) → IsOpens o → words_by ws (puts o) ≡ ws
@@ -121,13 +122,13 @@ pub opens_parts : (outs : List Out) → AreOpens outs → HaveNoParts outs
 opens_parts [] h = tt
 opens_parts (o ∷ outs) h = (opens_part o h.0, opens_parts outs h.1)
 
-pub opens_keep : (es : List Event) (outs : List Out) → AreOpens outs → (words_of (es ++ told outs) ≡ words_of es) × (brought (es ++ told outs) ≡ brought es)
-opens_keep es [] h = (ap words_of (append-nil es), ap brought (append-nil es))
+pub opens_keep : (es : List Event) (outs : List Out) → AreOpens outs → (words_of (es ++ told outs) ≡ words_of es) × (images_brought (es ++ told outs) ≡ images_brought es)
+opens_keep es [] h = (ap words_of (append-nil es), ap images_brought (append-nil es))
 opens_keep es (o ∷ outs) h =
     let rest = opens_keep (es ++ puts o ∷ []) outs h.1 in
     let e : es ++ told (o ∷ outs) ≡ (es ++ puts o ∷ []) ++ told outs = sym (append_assoc es (puts o ∷ []) (told outs)) in (
       ap words_of e ∙ rest.0 ∙ words_more es (puts o) ∙ opens_words (words_of es) o h.0,
-      ap brought e ∙ rest.1 ∙ brought_more es (puts o) ∙ ap (λ z. brought es ++ z) (opens_image es o h.0) ∙ append-nil (brought es),
+      ap images_brought e ∙ rest.1 ∙ brought_more es (puts o) ∙ ap (λ z. images_brought es ++ z) (opens_image es o h.0) ∙ append-nil (images_brought es),
     )
 
 -- a record is used
@@ -141,15 +142,15 @@ used_image es (puts o) h = absurd h
 used_image es (starts n s) h = refl
 used_image es _ h = refl
 
-pub used_keep : (es : List Event) (e : Event) → IsUsed e → (words_of (es ++ e ∷ []) ≡ words_of es) × (brought (es ++ e ∷ []) ≡ brought es)
+pub used_keep : (es : List Event) (e : Event) → IsUsed e → (words_of (es ++ e ∷ []) ≡ words_of es) × (images_brought (es ++ e ∷ []) ≡ images_brought es)
 used_keep es e h = (
   words_more es e ∙ used_words (words_of es) e h,
-  brought_more es e ∙ ap (λ z. brought es ++ z) (used_image es e h) ∙ append-nil (brought es),
+  brought_more es e ∙ ap (λ z. images_brought es ++ z) (used_image es e h) ∙ append-nil (images_brought es),
 )
 
 -- a record that brings no image, by its kind
-pub one_keeps : (es : List Event) (o : Out) → image_at es (puts o) ≡ [] → brought (es ++ puts o ∷ []) ≡ brought es
-one_keeps es o none = brought_more es (puts o) ∙ ap (λ z. brought es ++ z) none ∙ append-nil (brought es)
+pub one_keeps : (es : List Event) (o : Out) → image_at es (puts o) ≡ [] → images_brought (es ++ puts o ∷ []) ≡ images_brought es
+one_keeps es o none = brought_more es (puts o) ∙ ap (λ z. images_brought es ++ z) none ∙ append-nil (images_brought es)
 
 pub words_now : (es : List Event) (s : Running) (ws : List (List ℕ)) → words_of (es ++ puts (command_record s ws) ∷ []) ≡ Some ws
 words_now es s ws = words_more es (puts (command_record s ws))
@@ -162,26 +163,26 @@ pub last_end_more : (es : List Event) (e : Event) → last_end (es ++ e ∷ []) 
 unfolding last_end
 last_end_more es e = fold-append end_by None es (e ∷ [])
 
-and_none : (a : Bool) (x : Option Cause) (images : List Image) → x ≡ None → (if a && came_ok x then images else []) ≡ []
-and_none true x images e = ap (λ z. cond (came_ok z) images []) e
-and_none false x images e = refl
+and_none : (a b : Bool) (x : Option Cause) (images : List Image) → x ≡ None → (if a && (came_ok x && b) then images else []) ≡ []
+and_none true b x images e = ap (λ z. cond (came_ok z && b) images []) e
+and_none false b x images e = refl
 
 no_image : (es : List Event) (cause : Cause) → last_end es ≡ None → image_at es (puts (result cause)) ≡ []
-no_image es cause e = and_none (is_ok_cause cause) (last_end es) (last_image es) e
+no_image es cause e = and_none (is_ok_cause cause) (is_whole (got (made es - 1) es)) (last_end es) (last_image es) e
 
-pub command_keeps : (es : List Event) (s : Running) (ws : List (List ℕ)) (o : Outcome) → brought (es ++ told (command_records s ws o)) ≡ brought es
+pub command_keeps : (es : List Event) (s : Running) (ws : List (List ℕ)) (o : Outcome) → images_brought (es ++ told (command_records s ws o)) ≡ images_brought es
 command_keeps es s ws o = by o.prints
   where
-    by : (p : Option (List ℕ)) → brought (es ++ told ((command_record s ws ∷ []) ++ prints p ++ (result o.cause ∷ []))) ≡ brought es
+    by : (p : Option (List ℕ)) → images_brought (es ++ told ((command_record s ws ∷ []) ++ prints p ++ (result o.cause ∷ []))) ≡ images_brought es
     by None =
         let e = puts (command_record s ws) in
-        ap brought (sym (append_assoc es (e ∷ []) (puts (result o.cause) ∷ [])))
+        ap images_brought (sym (append_assoc es (e ∷ []) (puts (result o.cause) ∷ [])))
         ∙ one_keeps (es ++ e ∷ []) (result o.cause) (no_image (es ++ e ∷ []) o.cause (last_end_more es e)) ∙ one_keeps es (command_record s ws) refl
     by (Some bytes) =
         let e = puts (command_record s ws) in
         let es1 = es ++ e ∷ [] in
         let es2 = es1 ++ puts (text bytes) ∷ [] in
-        ap brought (sym (append_assoc es (e ∷ []) (puts (text bytes) ∷ puts (result o.cause) ∷ [])) ∙ sym (append_assoc es1 (puts (text bytes) ∷ []) (puts (result o.cause) ∷ [])))
+        ap images_brought (sym (append_assoc es (e ∷ []) (puts (text bytes) ∷ puts (result o.cause) ∷ [])) ∙ sym (append_assoc es1 (puts (text bytes) ∷ []) (puts (result o.cause) ∷ [])))
         ∙ one_keeps es2 (result o.cause) (no_image es2 o.cause (last_end_more es1 (puts (text bytes)) ∙ last_end_more es e))
         ∙ one_keeps es1 (text bytes) refl ∙ one_keeps es (command_record s ws) refl
 
@@ -229,45 +230,45 @@ conclusion_after c booting image list = by (is_ok_cause c) refl
     by true e = stored_after c (refusal image list.images) booting image list e
     by false e = tt
 
-listed_more : (images : List Image) (image : Image) → listed (images ++ image ∷ []) ≡ with_image image (listed images)
+listed_more : (images : List Image) (image : Image) → image_list (images ++ image ∷ []) ≡ with_image image (image_list images)
 listed_more images image = fold-append (λ (list : List Image) (i : Image). with_image i list) [] images (image ∷ [])
 
 -- RESULT Ok after an end that was Ok brings the last open's image
-result_brings : (es : List Event) (cause : Cause) (image : Image) → last_end es ≡ Some cause → is_ok_cause cause ≡ true → last_image es ≡ image ∷ [] → brought (es ++ puts (result ok) ∷ []) ≡ brought es ++ image ∷ []
-result_brings es cause image end is last =
-    brought_more es (puts (result ok)) ∙ ap (λ z. brought es ++ cond (came_ok z) (last_image es) []) end
-    ∙ ap (λ b. brought es ++ cond b (last_image es) []) is ∙ ap (λ z. brought es ++ z) last
+result_brings : (es : List Event) (cause : Cause) (image : Image) → last_end es ≡ Some cause → is_ok_cause cause ≡ true → is_whole (got (made es - 1) es) ≡ true → last_image es ≡ image ∷ [] → images_brought (es ++ puts (result ok) ∷ []) ≡ images_brought es ++ image ∷ []
+result_brings es cause image end is whole last =
+    brought_more es (puts (result ok)) ∙ ap (λ z. images_brought es ++ cond (came_ok z && is_whole (got (made es - 1) es)) (last_image es) []) end
+    ∙ ap (λ b. images_brought es ++ cond (b && is_whole (got (made es - 1) es)) (last_image es) []) is ∙ ap (λ b. images_brought es ++ cond b (last_image es) []) whole ∙ ap (λ z. images_brought es ++ z) last
 
 by_conclusion : (es : List Event) (outs : List Out) (w : World) (own : ℕ) (s : Running) (cause : Cause) (image : Image) (c : Conclusion) → IsAfter cause image w.images c →
-    last_end es ≡ Some cause → (is_ok_cause cause ≡ true → last_image es ≡ image ∷ []) → w.images.images ≡ listed (brought es) → HaveNoParts outs →
+    last_end es ≡ Some cause → (is_ok_cause cause ≡ is_whole (got (made es - 1) es)) → last_image es ≡ image ∷ [] → w.images.images ≡ image_list (images_brought es) → HaveNoParts outs →
     AgreesImages (es ++ told (conclusion_records s.depth c)) (outs ++ conclusion_records s.depth c) (phase_after (unbound w own) s c)
 unfolding IsAfter
-by_conclusion es outs w own s cause image (keeps new) h end last is none =
-    let all = result_brings es cause image end h.0 (last h.0) in (
-      h.1 ∙ ap (λ z. with_image image z) is ∙ sym (ap listed all ∙ listed_more (brought es) image),
+by_conclusion es outs w own s cause image (keeps new) h end whole last is none =
+    let all = result_brings es cause image end h.0 (sym whole ∙ h.0) last in (
+      h.1 ∙ ap (λ z. with_image image z) is ∙ sym (ap image_list all ∙ listed_more (images_brought es) image),
       parts_more outs (result ok ∷ []) none (tt, tt),
     )
-by_conclusion es outs w own s cause image (fails c) h end last is none = parts_more outs (conclusion_records s.depth (fails c)) none (tt, (tt, tt))
-by_conclusion es outs w own s cause image (boots new kernel) h end last is none =
-    let all = result_brings es cause image end h.0 (last h.0) in
-    let list : new.images ≡ listed (brought es ++ image ∷ []) = h.1 ∙ ap (λ z. with_image image z) is ∙ sym (listed_more (brought es) image) in
-    let place : kernel ≡ place_for image (record { images = listed (brought es); selected = None }) = h.2 ∙ ap (λ z. unwrap_or (place_of image.name z) (length z)) is in
+by_conclusion es outs w own s cause image (fails c) h end whole last is none = parts_more outs (conclusion_records s.depth (fails c)) none (tt, (tt, tt))
+by_conclusion es outs w own s cause image (boots new kernel) h end whole last is none =
+    let all = result_brings es cause image end h.0 (sym whole ∙ h.0) last in
+    let list : new.images ≡ image_list (images_brought es ++ image ∷ []) = h.1 ∙ ap (λ z. with_image image z) is ∙ sym (listed_more (images_brought es) image) in
+    let place : kernel ≡ place_for image (record { images = image_list (images_brought es); selected = None }) = h.2 ∙ ap (λ z. unwrap_or (place_of image.name z) (length z)) is in
     record {
-      earlier = brought es;
+      earlier = images_brought es;
       last = image;
       all = all;
       before = outs ++ result ok ∷ [];
       none = parts_more outs (result ok ∷ []) none (tt, tt);
       ends = ap (λ z. (outs ++ result ok ∷ []) ++ handoff_records z new.images) place
-          ∙ ap (λ z. (outs ++ result ok ∷ []) ++ handoff_records (place_for image (record { images = listed (brought es); selected = None })) z) list;
+          ∙ ap (λ z. (outs ++ result ok ∷ []) ++ handoff_records (place_for image (record { images = image_list (images_brought es); selected = None })) z) list;
     }
 
 pub concluded_images : (es : List Event) (outs : List Out) (w : World) (own : ℕ) (s : Running) (cause : Cause) (booting : Bool) (image : Image) → last_end es ≡ Some cause →
-    (is_ok_cause cause ≡ true → last_image es ≡ image ∷ []) → w.images.images ≡ listed (brought es) → HaveNoParts outs →
+    (is_ok_cause cause ≡ is_whole (got (made es - 1) es)) → last_image es ≡ image ∷ [] → w.images.images ≡ image_list (images_brought es) → HaveNoParts outs →
     AgreesImages (es ++ told (conclusion_records s.depth (conclusion cause booting image w.images))) (outs ++ conclusion_records s.depth (conclusion cause booting image w.images))
     (phase_after (unbound w own) s (conclusion cause booting image w.images))
-concluded_images es outs w own s cause booting image end last is none =
-    by_conclusion es outs w own s cause image (conclusion cause booting image w.images) (conclusion_after cause booting image w.images) end last is none
+concluded_images es outs w own s cause booting image end whole last is none =
+    by_conclusion es outs w own s cause image (conclusion cause booting image w.images) (conclusion_after cause booting image w.images) end whole last is none
 
 -- a command's URI and its image's name
 abbrev IsAskedBy : List ℕ → Effect → Type 0

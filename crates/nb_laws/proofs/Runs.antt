@@ -23,20 +23,20 @@ use Rattle.nb_engine.specs.Effects.{Wanted}
 use Rattle.nb_engine.specs.Opens.{Open, open_for, begun_for, opened_record, with_entry, acts_records, send_records, request_of, has_route, heard_from, is_on_its_way}
 use Rattle.nb_engine.specs.Conclusions.{image_from, Conclusion, keeps, fails, boots, conclusion_records}
 use Rattle.nb_engine.specs.Machine.{Machine, Phase, Running, ready, running, waiting, handing, left, handed_off, stopped, at, Hears, goes_on, is_over, Begins, runs, refuses, passes_by, brings, passes_time, switches_off, Move, passes, does, leaves, asks_for, finds_no_route, ends, hands, has_handed, Path, nothing, uses, moves, phase_after, concluded, command_records, command_record, reply_records, no_route, stopped_cause}
-use Rattle.nb_laws.specs.Events.{outputs, Event, starts, hears, waits, stops, puts, Each, IsHistory, client}
+use Rattle.nb_laws.specs.Events.{outputs, Event, starts, hears, waits, stops, puts, EachEvent, IsHistory, client}
 use Rattle.std.proofs.lemmas.List.{map-append}
 use Rattle.std.proofs.lemmas.List.Sums.{fold-append}
 use Rattle.std.proofs.Math.Bool.{or-true}
 use Rattle.nb_laws.specs.Lists as lists
-use Rattle.nb_laws.specs.Lists.{live, place, words_of, time, made, gathered, Opening, opening_at, openings, is_over as is_ended, is_end_of, calls, Mark, tries, marks, mark_at}
-use Rattle.nb_laws.specs.HandOff.{brought, listed, uri_of, last_segment, image_by, last_image, HandsOff}
+use Rattle.nb_laws.specs.Lists.{live, last_place, words_of, time, made, gathered, Opening, opening_at, openings, is_over as is_ended, is_end_of, calls, Mark, tries, marks, mark_at}
+use Rattle.nb_laws.specs.HandOff.{images_brought, image_list, uri_of, last_segment, image_by, last_image, HandsOff}
 use Rattle.nb_laws.proofs.HandOffs.{opens_keep, opens_acts, opens_send, opens_reply, opens_parts, parts_more, used_keep, one_keeps, words_now, words_kept, command_keeps, no_command, concluded_images, last_end_more, silent_image, asks_named}
 use Rattle.nb_engine.specs.Honesty.{HaveNoParts}
 use Rattle.nb_image.specs.Images.{image_of}
 use Rattle.nb_tftp.specs.Blocks.{file}
 use Rattle.nb_laws.specs.Lawful.{IsLawful, HandsAsBrought}
 use Rattle.nb_laws.specs.Progress.{IsAdvanced, NoneIsWhole, IsStep}
-use Rattle.nb_laws.specs.Agreement.{IsWorld, AgreesWorld, AgreesOpen, IsOnly, NoneLives, IsNamed, AgreesImages, Agrees, AreAside, AreStill, bare, opening_of}
+use Rattle.nb_laws.specs.Agreement.{IsWorld, AgreesWorld, AgreesOpen, IsOnly, NoneLives, IsNamed, AgreesImages, AgreesPhase, AreAside, AreStill, bare, opening_of}
 use Rattle.nb_laws.specs.Endings.{Holds, by_no_route, by_stop, is_off, off_by}
 use Rattle.nb_laws.proofs.Histories.{each_append, client_more, time_more, one_history}
 use Rattle.nb_laws.proofs.Tellings.{told, story_still, still_aside, still_advanced, live_same, live_kept, advanced_more, made_more, silent_frames, Kept, kept, world_kept, tries_by, Story, story_more, story_put, story_told, openings_more, calls_more, marks_more, over_more, no_more, no_or, same_number, other_number}
@@ -52,7 +52,7 @@ pub record Tells (ins : List In) (outs : List Out) (phase : Phase) : Type 0 wher
   pub events : List Event
   pub story : Story ins outs events
   pub advanced : IsAdvanced events
-  pub agrees : Agrees events phase
+  pub agrees : AgreesPhase events phase
   pub images : AgreesImages events outs phase
 
 -- the world agrees after an end of an open that was made
@@ -73,7 +73,7 @@ freed : (o : ℕ) (to : ℕ) (ports : List Port) → ports ≡ record { proto = 
 freed o to ports e = ap (without 17 o) e ∙ ap (λ b. cond (not b) (record { proto = 17; number = o; to = to } ∷ []) []) (same_number o)
 
 -- where a conclusion leads
-leads : (es : List Event) (w : World) (own to : ℕ) (s : Running) (c : Conclusion) → AgreesWorld es w → NoneLives es → w.net.ports ≡ record { proto = 17; number = own; to = to } ∷ [] → Agrees es (phase_after (unbound w own) s c)
+leads : (es : List Event) (w : World) (own to : ℕ) (s : Running) (c : Conclusion) → AgreesWorld es w → NoneLives es → w.net.ports ≡ record { proto = 17; number = own; to = to } ∷ [] → AgreesPhase es (phase_after (unbound w own) s c)
 leads es w own to s (keeps list) h none ports =
     (record { time = h.time; client = h.client; opens = h.opens; unopened = h.unopened; unended = h.unended; untold = h.untold }, freed own to w.net.ports ports, none)
 leads es w own to s (fails cause) h none ports = none
@@ -104,7 +104,7 @@ opened_only es w wanted none = λ j other.
 
 -- what came is taken
 hears_tells : (ins : List In) (outs : List Out) (es : List Event) (w : World) (s : Running) (o : Open) (call : Call) (added : List Out) (phase : Phase) →
-    Hears w s o call added phase → Story ins outs es → Comes es w o call → w.images.images ≡ listed (brought es) → HaveNoParts outs → IsNamed es w o → Tells ins (outs ++ added) phase
+    Hears w s o call added phase → Story ins outs es → Comes es w o call → w.images.images ≡ image_list (images_brought es) → HaveNoParts outs → IsNamed es w o → Tells ins (outs ++ added) phase
 hears_tells ins outs es w s o call added phase (goes_on _ _ _ _ acts meets none) story c is none_before named =
     let a = acts_records w.net o.number acts in
     let r = acts_reasons es w o call acts c meets in
@@ -115,7 +115,7 @@ hears_tells ins outs es w s o call added phase (goes_on _ _ _ _ acts meets none)
       story = story_told ins outs es a (aside_acts w.net o.number acts) r.writes r.advances r.tries story;
       advanced = r.after;
       agrees = (world_taken es w o call acts c, open_taken es w o call acts c meets, goes_further o (entry call acts) meets c.going none, λ j other. live_kept j es a left ∙ c.only j other);
-      images = (is ∙ sym (ap listed keep.1), parts_more outs a none_before (opens_parts a (opens_acts w.net o.number acts)), record { uri = ap uri_of keep.0 ∙ named.uri; name = named.name; latest = named.latest });
+      images = (is ∙ sym (ap image_list keep.1), parts_more outs a none_before (opens_parts a (opens_acts w.net o.number acts)), record { uri = ap uri_of keep.0 ∙ named.uri; name = named.name; latest = named.latest });
     }
 hears_tells ins outs es w s o call added phase (is_over _ _ _ _ acts cause meets over) story c is none_before named =
     let a = acts_records w.net o.number acts in
@@ -140,7 +140,7 @@ hears_tells ins outs es w s o call added phase (is_over _ _ _ _ acts cause meets
     let world2 = ended_world es1 w k cause c.number world1 in
     let joined = ap (λ x. x ++ b) (append_assoc outs a (ended k cause ∷ [])) ∙ append_assoc outs (a ++ ended k cause ∷ []) b in
     let keep = opens_keep es a (opens_acts w.net k acts) in
-    let brought2 : brought es2 ≡ brought es = one_keeps es1 (ended k cause) refl ∙ keep.1 in
+    let brought2 : images_brought es2 ≡ images_brought es = one_keeps es1 (ended k cause) refl ∙ keep.1 in
     let words2 : uri_of (words_of es2) ≡ o.wanted.uri = ap uri_of (words_kept es1 (puts (ended k cause)) (words_of es1) refl ∙ keep.0) ∙ named.uri in
     let number2 : made es2 - 1 ≡ k = ap (λ z. z - 1) (world2.opens ∙ named.latest) ∙ omega arith in
     let opening2 : openings k es2 ≡ opening_of o ∷ [] = openings_more k es1 (puts (ended k cause)) ∙ append-nil (openings k es1) ∙ open1.opening in
@@ -158,19 +158,19 @@ hears_tells ins outs es w s o call added phase (is_over _ _ _ _ acts cause meets
       agrees = leads (es2 ++ told b) w o.begun.own_port o.number s concl world3 (λ j. live_kept j es2 b (kept es2 b aside2) ∙ none2 j) c.ports;
       images = subst (λ z. AgreesImages (es2 ++ told b) z (phase_after (unbound w o.begun.own_port) s concl)) joined
           (concluded_images es2 ((outs ++ a) ++ ended k cause ∷ []) w o.begun.own_port s cause o.wanted.boots (image_from (with_entry o e)) (last_end_more es1 (puts (ended k cause)))
-          (λ good. last) (is ∙ sym (ap listed brought2)) (parts_more (outs ++ a) (ended k cause ∷ []) (parts_more outs a none_before (opens_parts a (opens_acts w.net k acts))) (tt, tt)));
+          (holds.1 ∙ ap is_whole (got_same k es1 (o.entries ++ e ∷ []) open1.calls ∙ sym got2) ∙ ap (λ n. is_whole (lists.got n es2)) (sym number2)) last (is ∙ sym (ap image_list brought2)) (parts_more (outs ++ a) (ended k cause ∷ []) (parts_more outs a none_before (opens_parts a (opens_acts w.net k acts))) (tt, tt)));
     }
 
 -- records aside, in a step
-step_still : (ins : List In) (outs : List Out) (es : List Event) (n : ℕ) (b : List Out) → Story ins (outs ++ step n ∷ []) es → AreStill b → Each WritesSo es (told b) → IsAdvanced es → Story ins (outs ++ (step n ∷ b)) (es ++ told b)
+step_still : (ins : List In) (outs : List Out) (es : List Event) (n : ℕ) (b : List Out) → Story ins (outs ++ step n ∷ []) es → AreStill b → EachEvent WritesSo es (told b) → IsAdvanced es → Story ins (outs ++ (step n ∷ b)) (es ++ told b)
 step_still ins outs es n b s h f a = subst (λ z. Story ins z (es ++ told b)) (append_assoc outs (step n ∷ []) b) (story_still ins (outs ++ step n ∷ []) es b h f a s)
 
-none_brought : (s : Start) (n : ℕ) → [] ≡ listed (brought (starts n s ∷ told (enter 1 ∷ [])))
-unfolding brought gathered
+none_brought : (s : Start) (n : ℕ) → [] ≡ image_list (images_brought (starts n s ∷ told (enter 1 ∷ [])))
+unfolding images_brought gathered
 none_brought s n = refl
 
-started : (s : Start) (n : ℕ) (es : List Event) → es ≡ [] → [] ≡ listed (brought ((es ++ starts n s ∷ []) ++ told (enter 1 ∷ [])))
-started s n es e = subst (λ (z : List Event). [] ≡ listed (brought ((z ++ starts n s ∷ []) ++ told (enter 1 ∷ [])))) (sym e) (none_brought s n)
+started : (s : Start) (n : ℕ) (es : List Event) → es ≡ [] → [] ≡ image_list (images_brought ((es ++ starts n s ∷ []) ++ told (enter 1 ∷ [])))
+started s n es e = subst (λ (z : List Event). [] ≡ image_list (images_brought ((z ++ starts n s ∷ []) ++ told (enter 1 ∷ [])))) (sym e) (none_brought s n)
 
 none_at_start : NoneLives []
 unfolding live openings is_ended gathered
@@ -209,7 +209,7 @@ first_world : (n : ℕ) (s : Start) (es : List Event) → es ≡ [] → AgreesWo
 first_world n s es e = subst (λ (z : List Event). AgreesWorld ((z ++ starts (n + 1) s ∷ []) ++ told (enter 1 ∷ [])) (world_of s)) (sym e) (first n s)
 
 begins_tells : (ins : List In) (outs : List Out) (es : List Event) (m : Machine) (r : In) (added : List Out) (m' : Machine) →
-    Begins m r added m' → Story ins outs es → IsAdvanced es → m.used ≡ length ins → Agrees es m.phase → AgreesImages es outs m.phase → Tells (ins ++ r ∷ []) (outs ++ added) m'.phase
+    Begins m r added m' → Story ins outs es → IsAdvanced es → m.used ≡ length ins → AgreesPhase es m.phase → AgreesImages es outs m.phase → Tells (ins ++ r ∷ []) (outs ++ added) m'.phase
 begins_tells ins outs es m r added m' (runs n s valid plain) story advanced counted a is =
     let e = starts (n + 1) s in
     let es1 = es ++ e ∷ [] in
@@ -250,7 +250,7 @@ begins_tells ins outs es m r added m' (passes_by n w s o bytes reply seen net va
     let k = kept es1 b (still_aside b still) in
     let world1 = frame_world es (n + 1) bytes takes.message w a.0 in
     let open1 = frame_passes es (n + 1) bytes takes.message w o a.0 a.1 heard_none in
-    let both : Agrees (es1 ++ told b) (waiting (with_net w (client_after w.net takes.message)) s o) = (
+    let both : AgreesPhase (es1 ++ told b) (waiting (with_net w (client_after w.net takes.message)) s o) = (
       world_kept es1 b _ k (λ j few. none_of_reply j (time es1) reply) world1,
       open_kept es1 b _ o k (none_of_reply o.number (time es1) reply) open1,
       a.2,
@@ -260,8 +260,8 @@ begins_tells ins outs es m r added m' (passes_by n w s o bytes reply seen net va
       events = es1 ++ told b;
       story = step_still (ins ++ frame bytes ∷ []) outs es1 (n + 1) b story1 still (reply_frames es (n + 1) bytes takes.message reply (takes.is_put ∙ bare_reply es w.net takes.message a.0.client)) advanced1;
       advanced = still_advanced es1 b still advanced1;
-      agrees = subst (λ c. Agrees (es1 ++ told b) (waiting (with_net w c) s o)) (sym takes.is_after) both;
-      images = (is.0 ∙ sym (ap listed (keep.1 ∙ keep1.1)), parts_more outs (step (n + 1) ∷ b) is.1 (tt, opens_parts b (opens_reply reply)), record { uri = ap uri_of (keep.0 ∙ keep1.0) ∙ is.2.uri; name = is.2.name; latest = is.2.latest });
+      agrees = subst (λ c. AgreesPhase (es1 ++ told b) (waiting (with_net w c) s o)) (sym takes.is_after) both;
+      images = (is.0 ∙ sym (ap image_list (keep.1 ∙ keep1.1)), parts_more outs (step (n + 1) ∷ b) is.1 (tt, opens_parts b (opens_reply reply)), record { uri = ap uri_of (keep.0 ∙ keep1.0) ∙ is.2.uri; name = is.2.name; latest = is.2.latest });
     }
 begins_tells ins outs es m r added m' (brings n w s o bytes reply seen net port body news phase valid takes some hear) story advanced counted a is =
     let e = hears (n + 1) bytes takes.message in
@@ -272,7 +272,7 @@ begins_tells ins outs es m r added m' (brings n w s o bytes reply seen net port 
     tells_step (ins ++ frame bytes ∷ []) outs (n + 1) news phase
     (hears_tells (ins ++ frame bytes ∷ []) (outs ++ step (n + 1) ∷ []) es1 (with_net w net) s o (came (received (n + 1) port body) w.time) news phase hear story1
     (subst (λ c. Comes es1 (with_net w c) o (came (received (n + 1) port body) w.time)) (sym takes.is_after) comes)
-    (is.0 ∙ sym (ap listed (used_keep es e tt).1)) (parts_more outs (step (n + 1) ∷ []) is.1 (tt, tt)) (record { uri = ap uri_of (used_keep es e tt).0 ∙ is.2.uri; name = is.2.name; latest = is.2.latest }))
+    (is.0 ∙ sym (ap image_list (used_keep es e tt).1)) (parts_more outs (step (n + 1) ∷ []) is.1 (tt, tt)) (record { uri = ap uri_of (used_keep es e tt).0 ∙ is.2.uri; name = is.2.name; latest = is.2.latest }))
 begins_tells ins outs es m r added m' (passes_time n w s o ms news phase valid hear) story advanced counted a is =
     let e = waits (n + 1) ms in
     let follows = step_follows ins outs es n story counted (going_not_whole es w o a.1 a.2 a.3) in
@@ -280,7 +280,7 @@ begins_tells ins outs es m r added m' (passes_time n w s o ms news phase valid h
     let story1 : Story (ins ++ tick ms ∷ []) (outs ++ step (n + 1) ∷ []) es1 = story_more ins outs es e story (record { read = tt; end = tt; frame = tt; step = follows; advance = advanced; try = tt }) in
     tells_step (ins ++ tick ms ∷ []) outs (n + 1) news phase
     (hears_tells (ins ++ tick ms ∷ []) (outs ++ step (n + 1) ∷ []) es1 (later w ms) s o (ticked (w.time + ms)) news phase hear story1 (time_comes es (n + 1) ms w o a.0 a.1 a.2 a.3 advanced)
-    (is.0 ∙ sym (ap listed (used_keep es e tt).1)) (parts_more outs (step (n + 1) ∷ []) is.1 (tt, tt)) (record { uri = ap uri_of (used_keep es e tt).0 ∙ is.2.uri; name = is.2.name; latest = is.2.latest }))
+    (is.0 ∙ sym (ap image_list (used_keep es e tt).1)) (parts_more outs (step (n + 1) ∷ []) is.1 (tt, tt)) (record { uri = ap uri_of (used_keep es e tt).0 ∙ is.2.uri; name = is.2.name; latest = is.2.latest }))
 begins_tells ins outs es m r added m' (switches_off n w s o) story advanced counted a is =
     let e = stops (n + 1) in
     let follows = step_follows ins outs es n story counted (going_not_whole es w o a.1 a.2 a.3) in
@@ -309,15 +309,15 @@ no_way fate.Sent e = absurd (cc)
 no_way fate.Asked e = absurd (cc)
 no_way fate.NoRoute e = refl
 
-leave_writes : (es : List Event) (b : List Out) (depth : ℕ) (cause : Cause) → Each WritesSo es (told b) → Each WritesSo es (told (b ++ leave depth cause ∷ []))
-leave_writes es b depth cause h = subst (λ z. Each WritesSo es z) (sym (map-append puts b (leave depth cause ∷ []))) (each_append WritesSo es (told b) (puts (leave depth cause) ∷ []) h (tt, tt))
+leave_writes : (es : List Event) (b : List Out) (depth : ℕ) (cause : Cause) → EachEvent WritesSo es (told b) → EachEvent WritesSo es (told (b ++ leave depth cause ∷ []))
+leave_writes es b depth cause h = subst (λ z. EachEvent WritesSo es z) (sym (map-append puts b (leave depth cause ∷ []))) (each_append WritesSo es (told b) (puts (leave depth cause) ∷ []) h (tt, tt))
 
 -- ports make no way
 bare_route : (net : Client) (send : SendTo) → has_route (bare net) send ≡ has_route net send
 bare_route net send = same_way is_on_its_way refl (bare net) net (way_of net send)
 
 moves_tells : (ins : List In) (outs : List Out) (es : List Event) (m : Machine) (added : List Out) (m' : Machine) →
-    Move m added m' → Story ins outs es → IsAdvanced es → Agrees es m.phase → AgreesImages es outs m.phase → Tells ins (outs ++ added) m'.phase
+    Move m added m' → Story ins outs es → IsAdvanced es → AgreesPhase es m.phase → AgreesImages es outs m.phase → Tells ins (outs ++ added) m'.phase
 moves_tells ins outs es m added m' (passes n w s line there none) story advanced a is =
     record { events = es; story = subst (λ z. Story ins z es) (sym (append-nil outs)) story; advanced = advanced; agrees = a; images = (is.0, subst HaveNoParts (sym (append-nil outs)) is.1) }
 moves_tells ins outs es m added m' (does n w s line c cs o there are comes stays) story advanced a is =
@@ -328,7 +328,7 @@ moves_tells ins outs es m added m' (does n w s line c cs o there are comes stays
       story = story_still ins outs es b h (command_writes es w s (c ∷ cs) o a.0 comes) advanced story;
       advanced = still_advanced es b h advanced;
       agrees = (quiet_world es b w (still_aside b h) (λ k now. none_of_command k now s (c ∷ cs) o) a.0, a.1, λ j. live_kept j es b (kept es b (still_aside b h)) ∙ a.2 j);
-      images = (is.0 ∙ sym (ap listed (command_keeps es s (c ∷ cs) o)), parts_more outs b is.1 (no_command s (c ∷ cs) o));
+      images = (is.0 ∙ sym (ap image_list (command_keeps es s (c ∷ cs) o)), parts_more outs b is.1 (no_command s (c ∷ cs) o));
     }
 moves_tells ins outs es m added m' (leaves n w s line c cs o there are comes goes) story advanced a is =
     let b = command_records s (c ∷ cs) o ++ (leave s.depth o.cause ∷ []) in
@@ -383,7 +383,7 @@ moves_tells ins outs es m added m' (asks_for n w s line c cs wanted there are co
         λ j other. live_kept j es2 b left ∙ opened_only es1 w wanted none1 j other,
       );
       images = (
-        is.0 ∙ sym (ap listed (keep.1 ∙ one_keeps es1 (opened_record w wanted) refl ∙ one_keeps es command refl)),
+        is.0 ∙ sym (ap image_list (keep.1 ∙ one_keeps es1 (opened_record w wanted) refl ∙ one_keeps es command refl)),
         parts_more outs (command ∷ opened_record w wanted ∷ b) is.1 (tt, (tt, opens_parts b (opens_send w.net k (Some 1) request))),
         record {
           uri = ap uri_of (keep.0 ∙ words_kept es1 e (Some (c ∷ cs)) (words_now es s (c ∷ cs))) ∙ names.0;
@@ -449,7 +449,7 @@ moves_tells ins outs es m added m' (has_handed n) story advanced a is =
     record { events = es; story = subst (λ z. Story ins z es) (sym (append-nil outs)) story; advanced = advanced; agrees = a.2; images = subst (λ z. HandsOff es z []) (sym (append-nil outs)) is }
 
 advanced_at_start : IsAdvanced []
-unfolding place calls gathered
+unfolding last_place calls gathered
 advanced_at_start = λ k. refl
 
 pub run_tells : (ins : List In) (outs : List Out) (m : Machine) → Path ins outs m → Tells ins outs m.phase
@@ -467,7 +467,7 @@ run_tells ins outs m (moves ins0 outs0 m0 a m1 path move) =
     let t = run_tells ins0 outs0 m0 path in
     moves_tells ins0 outs0 t.events m0 a m1 move t.story t.advanced t.agrees t.images
 
-none_whole : (es : List Event) (phase : Phase) → Agrees es phase → NoneIsWhole es
+none_whole : (es : List Event) (phase : Phase) → AgreesPhase es phase → NoneIsWhole es
 none_whole es ready a = none_is_whole es (subst NoneLives (sym a) none_at_start)
 none_whole es (running w s) a = none_is_whole es a.2
 none_whole es (waiting w s o) a = going_not_whole es w o a.1 a.2 a.3
@@ -485,7 +485,7 @@ hands_as_brought es outs (left cause) a = inl a
 hands_as_brought es outs handed_off a = inr ([], a)
 hands_as_brought es outs stopped a = inl a
 
-pub lawful_run : (ins : List In) (outs : List Out) (m : Machine) → Path ins outs m → (es : List Event) × IsHistory ins outs es × IsLawful es × Agrees es m.phase
+pub lawful_run : (ins : List In) (outs : List Out) (m : Machine) → Path ins outs m → (es : List Event) × IsHistory ins outs es × IsLawful es × AgreesPhase es m.phase
 lawful_run ins outs m path =
     let t = run_tells ins outs m path in (
       t.events,

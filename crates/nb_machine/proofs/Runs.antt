@@ -13,7 +13,7 @@ use Rattle.nb_engine.specs.World as world
 use Rattle.nb_engine.specs.Opens.{Open, has_route, request_of, begun_for, open_for, send_records, heard_from}
 use Rattle.nb_engine.specs.Machine.{Machine, Phase, Running, at, Hears, Begins, Move, Path, reply_records, command_record, stopped_cause}
 use Rattle.nb_engine.specs.Machine as lone
-use Rattle.nb_laws.specs.Agreement.{bare, opening_of, Agrees}
+use Rattle.nb_laws.specs.Agreement.{bare, opening_of, AgreesPhase}
 use Rattle.nb_laws.specs.Frames.{begun_by}
 use Rattle.nb_laws.proofs.Runs.{run_tells}
 use Rattle.nb_machine.specs.Lives.{Exchange, exchange, Live, open_record}
@@ -93,7 +93,7 @@ frame_comes n w s o xs bytes m port body added phase valid here brings (by_datag
 same_net : (net : Client) (m : Brought) (port : ℕ) (body : List ℕ) (o : Open) (xs : List Exchange) → ForOpen o xs port body m → client_after net m ≡ net
 same_net net m port body o xs (by_datagram p d is from what) = refl
 
-step_begins : (m : Machine) (r : In) (added : List Out) (m' : Machine) (es : _) (p : Standing) → Begins m r added m' → Agrees es m.phase → StandsAs m.phase p → Steps m.used p r added m'
+step_begins : (m : Machine) (r : In) (added : List Out) (m' : Machine) (es : _) (p : Standing) → Begins m r added m' → AgreesPhase es m.phase → StandsAs m.phase p → Steps m.used p r added m'
 step_begins m r added m' es p (lone.runs n s valid plain) a same =
     subst (λ z. Steps n z (start s) added m') (sym same) (record { to = running (state_of s) _ []; begins = courses.runs n s valid plain; same = refl })
 step_begins m r added m' es p (lone.refuses n s valid plain) a same =

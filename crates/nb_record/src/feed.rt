@@ -4,8 +4,8 @@ ghost use Rattle.nb_record.specs.Held.{Shows};
 ghost use Rattle.nb_record.specs.Bytes.{TakesIn};
 ghost use Rattle.nb_record.specs.Outside.{Reads, Rose, IsAtEnd};
 
-use crate::{Failed, InRec, Line};
 use crate::reading::front_of;
+use crate::{Failed, InRec, Line};
 use nb_terms::NoMemory;
 use std::alloc::Global;
 use std::marker::Model;
@@ -74,11 +74,7 @@ fn copy_behind(bytes: &mut Vec<u8>, end: usize, piece: &[u8])
 }
 
 /// Reads over the bytes from `end` on.
-fn read_behind<L: Line>(
-    bytes: &mut Vec<u8>,
-    end: usize,
-    line: &mut L,
-) -> Result<usize, Failed>
+fn read_behind<L: Line>(bytes: &mut Vec<u8>, end: usize, line: &mut L) -> Result<usize, Failed>
     requires { end ≤ vec_len bytes.old }
     ensures len { vec_len bytes.new ≡ vec_len bytes.old }
     ensures front { take end bytes.new.items ≡ take end bytes.old.items }
