@@ -46,15 +46,21 @@ static void send_frame(const uint8_t *frame, size_t length) {
     out(record, length + 5);
 }
 
-static void ask_for_address(void) {
-    static const uint8_t fixed[] = {8, 6, 0, 1, 8, 0, 6, 4, 0, 1};
+/* ARP (RFC 826): a request of the server's address where there is nobody to answer yet, else a reply. */
+static void send_arp(const uint8_t *asking) {
+    static const uint8_t fixed[] = {8, 6, 0, 1, 8, 0, 6, 4, 0};
     uint8_t frame[42] = {0};
     memset(frame, 0xff, 6);
     memcpy(frame + 6, mac, 6);
     memcpy(frame + 12, fixed, sizeof fixed);
+    frame[21] = asking ? 2 : 1;
     memcpy(frame + 22, mac, 6);
     memcpy(frame + 28, own, 4);
     memcpy(frame + 38, server, 4);
+    if (asking) {
+        memcpy(frame, asking, 6);
+        memcpy(frame + 32, asking, 6);
+    }
     send_frame(frame, sizeof frame);
 }
 
@@ -91,9 +97,12 @@ static void request(const char *path) {
 /* 1 once the last block came. */
 static int take_frame(const uint8_t *frame, size_t length, const char *path) {
     const uint8_t *ip = frame + ETHERNET, *udp = ip + IP;
-    if (length >= 42 && get16(frame + 12) == 0x0806 && ip[7] == 2 && !memcmp(ip + 14, server, 4)) {
-        memcpy(server_mac, ip + 8, 6);
-        request(path);
+    if (length >= 42 && get16(frame + 12) == 0x0806 && !memcmp(ip + 14, server, 4)) {
+        if (ip[7] == 1 && !memcmp(ip + 24, own, 4)) send_arp(ip + 8);
+        if (ip[7] == 2 && server_port == 69) {
+            memcpy(server_mac, ip + 8, 6);
+            request(path);
+        }
     }
     if (length < ETHERNET + IP + UDP + 4 || get16(frame + 12) != 0x0800 || ip[9] != 17) return 0;
     if (get16(udp + 2) != own_port || get16(udp + UDP) != 3) return 0;
@@ -110,7 +119,7 @@ static int take_record(const uint8_t *content, size_t length, const char *path) 
         own_port = FIRST_PORT + get16(content + 58);
         memcpy(own, content + 60, 4);
         out(step, sizeof step);
-        ask_for_address();
+        send_arp(NULL);
     }
     return content[0] == 2 && take_frame(content + 1, length - 1, path);
 }

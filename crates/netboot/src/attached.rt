@@ -67,10 +67,7 @@ pub fn open<R: Files + Net + AllocGlobal>(
 }
 
 /// Connects to a peer, by its host and port.
-pub fn connect<R: Files + Net>(
-    rt: &R,
-    peer: &str,
-) -> Result<Attached<R::File, R::Stream>, Fault> {
+pub fn connect<R: Files + Net>(rt: &R, peer: &str) -> Result<Attached<R::File, R::Stream>, Fault> {
     match TcpStream::connect(rt, peer) {
         Ok(stream) => {
             // Small records go out at once; where that can't be set they go out a little later.
@@ -113,10 +110,7 @@ fn write_within<F: Write>(output: &mut F, room: &mut u64, buf: &[u8]) -> Result<
 {
     let most = usize::try_from(*room).unwrap_or(usize::MAX).min(buf.len());
     if most == 0 && !buf.is_empty() {
-        return Err(Fault::system(
-            Part::Output,
-            Error::from(ErrorKind::FileTooLarge),
-        ));
+        return Err(Fault::system(Part::Output, Error::from(ErrorKind::FileTooLarge)));
     }
     let taken = write_to(Part::Output, output, &buf[..most])?;
     *room = room.saturating_sub(taken as u64);
@@ -159,7 +153,10 @@ impl<F: Read + Write, S: Read + Write + OpenStream> Attached<F, S> {
     pub fn drain(&mut self) {
         if let Attached::Peer(stream) = self {
             let _ = stream.shutdown(Shutdown::Write);
-            if stream.set_read_timeout(Some(Duration::from_secs(2))).is_ok() {
+            if stream
+                .set_read_timeout(Some(Duration::from_secs(2)))
+                .is_ok()
+            {
                 read_out(stream);
             }
         }

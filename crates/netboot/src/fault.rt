@@ -1,6 +1,5 @@
-use std::fmt;
 use std::fmt::{Display, Formatter};
-use std::io;
+use std::{fmt, io};
 
 /// A part of a line.
 #[derive(Clone, Copy, Debug, PartialEq, Eq)]

@@ -1,6 +1,5 @@
-use std::fs;
 use std::fs::Files;
-use std::io;
+use std::{fs, io};
 
 /// What the system says of this process's limits (proc(5)).
 const LIMITS: &str = "/proc/self/limits";

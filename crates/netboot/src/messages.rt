@@ -1,9 +1,8 @@
 use crate::fault::{Fault, Part};
+use crate::real_line::RealLine;
 use nb_boot::Status;
 use std::fs::Files;
 use std::net::Net;
-
-use crate::real_line::RealLine;
 
 /// What `--help` prints.
 pub const HELP: &str = "\

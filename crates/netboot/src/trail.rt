@@ -31,7 +31,9 @@ fn whole(bytes: &[u8]) -> Option<usize>
     ensures { IfSome result (λ len. len ≤ length bytes.now) }
 {
     let head = bytes.first_chunk::<4>()?;
-    let len = usize::try_from(u32::from_be_bytes(*head)).ok()?.checked_add(4)?;
+    let len = usize::try_from(u32::from_be_bytes(*head))
+        .ok()?
+        .checked_add(4)?;
     (len <= bytes.len()).then_some(len)
 }
 
@@ -114,9 +116,15 @@ mod tests {
         trail.note(&TICK[..3]);
         assert_eq!(rt; trail.refused(rt.alloc()), Some(Place { number: 2, at: 7 }));
         trail.note(&TICK[3..]);
-        assert_eq!(rt; trail.refused(rt.alloc()), Some(Place { number: 3, at: 14 }));
+        assert_eq!(rt;
+            trail.refused(rt.alloc()),
+            Some(Place { number: 3, at: 14 })
+        );
         trail.note(&[0, 0, 0, 1, 9, 0]);
-        assert_eq!(rt; trail.refused(rt.alloc()), Some(Place { number: 3, at: 14 }));
+        assert_eq!(rt;
+            trail.refused(rt.alloc()),
+            Some(Place { number: 3, at: 14 })
+        );
         Ok(())
     }
 }
