@@ -296,7 +296,7 @@ after_size_fits len size l exact = either (ltb 0 size)
     }))
     (λ far. rw (off, far) tt))
 
-no_longer : (line before added : List ℕ) → line ≡ before ++ added → 0 < length added → length before < length line
+pub no_longer : (line before added : List ℕ) → line ≡ before ++ added → 0 < length added → length before < length line
 no_longer line before added e l = omega (arith, ap length e, length-append before added, l)
 
 -- a whole size line
@@ -348,7 +348,7 @@ size_bad line never short =
     }
 
 -- a line of which a reader keeps what it read
-kept_front : (line before bytes : List ℕ) (taken len : ℕ) → line ≡ before ++ take taken bytes → len ≤ length line → length before ≤ len → take len line ≡ before ++ take (len - length before) bytes
+pub kept_front : (line before bytes : List ℕ) (taken len : ℕ) → line ≡ before ++ take taken bytes → len ≤ length line → length before ≤ len → take len line ≡ before ++ take (len - length before) bytes
 kept_front line before bytes taken len e l far =
     ap (take len) e ∙ take_front len before (take taken bytes) far
     ∙ ap (λ t. before ++ t) (take_within (len - length before) taken bytes (omega (arith, l, ap length e, length-append before (take taken bytes), length-take taken bytes)))
@@ -484,3 +484,12 @@ feeds_both a b c xs ys first second = λ text before s. subst (λ t. StandsFor c
 -- a reader at a body's first byte
 pub at_first : StandsFor Size [] [] []
 at_first = standing Size [] [] [] [] [] [] tt refl refl (record { is_tail = refl; is_part = refl; unread = open_at_first })
+
+-- of two takings, the second after none of the first
+pub both_some : (a b n m : ℕ) → a ≤ n → n ≤ a → 0 < n + m → (a ≡ 0 → 0 < m → 0 < b) → 0 < a + b
+both_some a b n m l k some later = either (eqb a 0)
+    (λ on. let none : a ≡ 0 = eqb-true a 0 on in omega (arith, later none (omega (arith, none, l, k, some))))
+    (λ off. positive a b (eqb-false a 0 off))
+  where
+    positive : (a b : ℕ) → (a ≡ 0 → ⊥) → 0 < a + b
+    positive a b apart = omega (arith, apart)

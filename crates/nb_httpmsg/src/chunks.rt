@@ -57,7 +57,7 @@ impl Chunks {
 
     /// A reader at a body's first byte. It takes all the memory that it needs.
     pub fn new(alloc: Global) -> Result<Chunks, NoMemory>
-        ensures { IfOk result (λ c. (StandsFor c.place c.line [] []) × (c.block ≡ [])) }
+        ensures { IfOk result (λ c. (StandsFor c.place c.line [] []) × (c.block ≡ []) × (is_open c.place ≡ true)) }
     {
         Ok(Chunks {
             line: Vec::with_capacity(alloc, MAX_LINES)?,
@@ -72,6 +72,7 @@ impl Chunks {
         // What it took and gathered, added to all that was before, is what it stands for.
         ensures stands { (text bytes : List ℕ) → StandsFor self.old.place self.old.line text bytes → StandsFor self.new.place self.new.line (text ++ take result.took (first.now ++ second.now)) (bytes ++ self.new.block) }
         ensures within { result.took ≤ length (first.now ++ second.now) }
+        ensures some { is_open self.old.place ≡ true → 0 < length (first.now ++ second.now) → 0 < result.took }
         ensures bytes { result.bytes ≡ length self.new.block }
         ensures most { length self.new.block ≤ 4096 }
         ensures state { result.state ≡ state_of self.new.place }
@@ -126,6 +127,7 @@ impl Chunks {
         requires { length first.now + length second.now < 2 ^ 32 }
         ensures stands { Feeds self.old self.new (take result (first.now ++ second.now)) }
         ensures within { result ≤ length (first.now ++ second.now) }
+        ensures some { is_open self.old.place ≡ true → length self.old.block < 4096 → 0 < length (first.now ++ second.now) → 0 < result }
         ensures all { result < length (first.now ++ second.now) → is_open self.new.place ≡ true → length self.new.block ≡ 4096 }
     {
         let took = self.run(first);
@@ -139,6 +141,8 @@ impl Chunks {
     fn run(&mut self, bytes: &[u8]) -> usize
         ensures stands { Feeds self.old self.new (take result bytes.now) }
         ensures within { result ≤ length bytes.now }
+        ensures some { is_open self.old.place ≡ true → length self.old.block < 4096 → 0 < length bytes.now → 0 < result }
+        ensures none { result ≡ 0 → self.new ≡ self.old }
         ensures all { result < length bytes.now → is_open self.new.place ≡ true → length self.new.block ≡ 4096 }
     {
         let mut at = 0;

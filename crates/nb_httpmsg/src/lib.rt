@@ -18,4 +18,5 @@ mod tests;
 
 pub use chunks::{ChunkState, Chunks, Fed};
 pub use head::{BodyKind, Head, HeadInfo, MAX_HEAD, read_head};
+pub use steps::fill;
 pub use target::HttpTarget;

@@ -8,8 +8,9 @@ use crate::chunks::{BLOCK, Chunks, MAX_LINES};
 use crate::line::{read_size, read_trailer};
 use crate::place::Place;
 
-/// Appends as many bytes as a buffer of this size has room for, and returns how many.
-fn fill(buffer: &mut Vec<u8>, most: usize, bytes: &[u8]) -> usize
+/// Appends as many bytes to a buffer of this size as it has room for, and returns how many. It takes
+/// no memory.
+pub fn fill(buffer: &mut Vec<u8>, most: usize, bytes: &[u8]) -> usize
     requires len { vec_len buffer.old ≤ most }
     requires room { most ≤ vec_capacity buffer.old }
     ensures items { buffer.new.items ≡ buffer.old.items ++ take result bytes.now }

@@ -23,7 +23,7 @@ first_line_more (b ∷ bs) more l is = either (b == line_feed)
     let later : (first_line (bs ++ more) ≡ Some (longer k more)) × (bs ≡ k.line ++ k.rest) = first_line_more bs more k some in
     (rw (off, later.0) (ap (λ j. Some (longer j more)) same), ap (λ ys. b ∷ ys) later.1 ∙ ap (λ j. j.line ++ j.rest) same)))
 
-is_whole : LineBlock → Bool
+pub is_whole : LineBlock → Bool
 is_whole (whole block rest) = true
 is_whole unfinished = false
 is_whole crowded = false
@@ -43,7 +43,7 @@ pub record Stays (n : ℕ) (text more block rest : List ℕ) : Type 0 where
   pub longer_too : first_block n (text ++ more) ≡ whole block (rest ++ more)
   pub stands : text ≡ block ++ rest
 
-by_block : {Z : Type 0} (k : LineBlock) → ((b r : List ℕ) → k ≡ whole b r → Z) → (is_whole k ≡ false → Z) → Z
+pub by_block : {Z : Type 0} (k : LineBlock) → ((b r : List ℕ) → k ≡ whole b r → Z) → (is_whole k ≡ false → Z) → Z
 unfolding is_whole
 by_block (whole b r) f g = f b r refl
 by_block unfinished f g = g refl
@@ -230,3 +230,16 @@ block_longer (suc n) text more block rest unended is = by_option (first_line tex
     let whole_too : whole (l.line ++ b) r ≡ whole block rest = sym (ap (with_line l.line) there) ∙ same in
     subst (λ k. length text < length (block_in k)) whole_too (omega (arith, later, ap length line.1, length-append l.line l.rest, length-append l.line b)))
     (λ no. absurd (false≢true (sym (with_line_whole l.line (first_block n (l.rest ++ more)) no) ∙ ap is_whole same)))))
+
+is_missing : Found → Bool
+is_missing (found block rest) = false
+is_missing missing = true
+is_missing too_many = false
+is_missing too_long = false
+
+-- where a head may still come, no block has ended
+pub missing_unfinished : (text : List ℕ) (k : LineBlock) → found_by limit text k ≡ missing → k ≡ unfinished
+unfolding is_missing
+missing_unfinished text (whole b r) is = absurd (false≢true (ap is_missing is))
+missing_unfinished text unfinished is = refl
+missing_unfinished text crowded is = absurd (false≢true (ap is_missing is))

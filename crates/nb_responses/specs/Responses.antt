@@ -28,13 +28,14 @@ ReadsBody text chunked r = (read : Response) × Chunked text read × (r ≡ with
 ReadsBody text to_end r = r ≡ within_limit (response open_body text)
 ReadsBody text bad r = r ≡ response broken []
 
+-- by the text that a head moves to, and its status
+abbrev pub verdict_by : Option (List ℕ) → ℕ → Option Verdict
+verdict_by (Some text) code = Some (moved text)
+verdict_by None code = if code == 200 then None else Some (status code)
+
 -- what a head that isn't interim says, before its body is looked at
 abbrev pub head_verdict : ResponseHead → Option Verdict
-head_verdict h = head_by (moves_to h) (status_code h)
-  where
-    head_by : Option (List ℕ) → ℕ → Option Verdict
-    head_by (Some text) code = Some (moved text)
-    head_by None code = if code == 200 then None else Some (status code)
+head_verdict h = verdict_by (moves_to h) (status_code h)
 
 -- why there is no block
 abbrev pub no_block_verdict : Found → Option Verdict

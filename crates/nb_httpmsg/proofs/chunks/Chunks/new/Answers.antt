@@ -1,4 +1,4 @@
-use Rattle.std.proofs.Common.{arith, sym, subst, [], List, ℕ}
+use Rattle.std.proofs.Common.{arith, refl, sym, subst, [], List, ℕ}
 use Rattle.nb_httpmsg.specs.Reader.{IsOpenLine}
 use Rattle.nb_httpmsg.specs.Feeding.{StandsFor}
 use Rattle.nb_httpmsg.specs.declared.place.Place.TheVariants.{Size}
@@ -15,4 +15,4 @@ invariant_of-result c = (
 )
 
 pub returns : goal.returns
-returns c = (subst (λ (line : List ℕ). StandsFor Size line [] []) (sym c.in_ok-with_capacity.ensures.items) at_first, c.in_ok-with_capacity-2.ensures.items)
+returns c = (subst (λ (line : List ℕ). StandsFor Size line [] []) (sym c.in_ok-with_capacity.ensures.items) at_first, c.in_ok-with_capacity-2.ensures.items, refl)

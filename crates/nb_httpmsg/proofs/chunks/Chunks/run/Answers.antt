@@ -1,6 +1,8 @@
-use Rattle.std.proofs.Common.{◌≡◌, ◌++◌, ◌-◌, ◌+◌, ◌∙◌, List, ℕ, ap, sym, subst, arith, take, drop, length}
+use Rattle.std.proofs.Common.{◌≡◌, ◌<◌, ◌++◌, ◌-◌, ◌+◌, ◌∙◌, List, ℕ, ap, sym, subst, arith, take, drop, length}
 use Rattle.std.proofs.lemmas.List.{length-drop}
-use Rattle.nb_httpmsg.specs.Feeding.{Feeds}
+use Rattle.std.proofs.Common.{true}
+use Rattle.nb_httpmsg.specs.Reader.{Reader}
+use Rattle.nb_httpmsg.specs.Feeding.{Feeds, is_open}
 use Rattle.nb_httpmsg.proofs.BlockLemmas.{rest_all, take_plus}
 use Rattle.nb_httpmsg.proofs.FeedLemmas.{feeds_both}
 use Rattle.nb_httpmsg.proofs.chunks.Chunks.run.Goals as goal
@@ -15,4 +17,20 @@ loop-at-preserved c =
       within = omega (arith, c.step-at.ensures.within, ap length (rest_all at bytes), length-drop at bytes, c.loop-at.invariant.within);
       stands = subst (λ (t : List ℕ). Feeds c.args.self.now c.step-at.new.self t) both
           (feeds_both c.args.self.now c.loop-at.self c.step-at.new.self (take at bytes) (take c.step-at.result rest) c.loop-at.invariant.stands c.step-at.ensures.stands);
+      fresh = λ none. absurd (apart at c.step-at.result none c.step-at.ensures.some);
     }
+  where
+    apart : (a b : ℕ) → a + b ≡ 0 → 0 < b → ⊥
+    apart a b e l = omega (arith, e, l)
+
+pub returns-then-not-can_take-clause-some : goal.returns-then-not-can_take-clause-some
+returns-then-not-can_take-clause-some c = λ unended room some. positive c.loop-at.at (λ e.
+    let same : c.loop-at.self ≡ c.args.self.now = c.loop-at.invariant.fresh e in
+    let full : length c.loop-at.self.block ≡ 4096 = c.can_take.ensures.not c.if-not-can_take.true (subst (λ (r : Reader). is_open r.place ≡ true) (sym same) unended) in
+    not_less (length c.loop-at.self.block) full (subst (λ (r : Reader). length r.block < 4096) (sym same) room))
+  where
+    positive : (n : ℕ) → (n ≡ 0 → ⊥) → 0 < n
+    positive n apart = omega (arith, apart)
+
+    not_less : (n : ℕ) → n ≡ 4096 → n < 4096 → ⊥
+    not_less n e l = omega (arith, e, l)
