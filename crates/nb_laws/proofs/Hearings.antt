@@ -1,51 +1,35 @@
 -- What comes to an open is taken: the history that agrees with the state afterwards.
-use Rattle.std.proofs.Common.{◌≡◌, inl, inr, ℕ, ◌+◌, ◌-◌, ◌<◌, true, false, cond, not, ◌||◌, List, [], ◌∷◌, ◌++◌, Some, refl, sym, ◌∙◌, ap, subst, append_assoc, append-nil, add-zero, arith, map, lt_of_lt_of_le, le_refl, ne_eqb, length}
+use Rattle.std.proofs.Common.{◌≡◌, ℕ, ◌-◌, ◌<◌, true, false, cond, not, ◌||◌, List, [], ◌∷◌, ◌++◌, refl, sym, ◌∙◌, ap, subst, append_assoc, append-nil, add-zero, arith, map, lt_of_lt_of_le, ne_eqb}
 use Rattle.std.specs.List.{flat_map}
-use Rattle.nb_terms.specs.declared.acts.SendTo.{SendTo}
 use Rattle.nb_terms.specs.declared.cause.Cause.{Cause}
-use Rattle.nb_defs.specs.Causes.{ok, not_script}
-use Rattle.nb_defs.specs.Records.{Start, In, start, frame, tick, off, Out, step, enter, leave, ended}
-use Rattle.nb_stack.specs.Client.{Client}
+use Rattle.nb_defs.specs.Records.{In, Out, ended}
 use Rattle.nb_stack.specs.Bound.{without}
 use Rattle.nb_stack.specs.declared.ports.Port.{Port}
-use Rattle.nb_stack.specs.declared.taken.Fate.{Fate}
-use Rattle.nb_stack.specs.declared.taken.Fate.TheVariants as fate
-use Rattle.nb_stack.specs.Route.{route_of}
-use Rattle.nb_stack.specs.Sends.{fate_of, way_of}
-use Rattle.nb_stack.proofs.WayLaws.{same_way}
-use Rattle.nb_stack.specs.Takes.{client_after}
 use Rattle.nb_tftp.specs.Blocks.{is_whole}
-use Rattle.nb_tftp.specs.History.{Call, came, ticked, entry, got, received_by}
-use Rattle.nb_tftp.specs.Received.{received}
+use Rattle.nb_tftp.specs.History.{Call, entry, got, received_by}
 use Rattle.nb_engine.specs.declared.world.World.{World}
-use Rattle.nb_engine.specs.World.{world_of, with_net, later, with_open, unbound, own_port, host}
+use Rattle.nb_engine.specs.World.{unbound}
 use Rattle.nb_engine.specs.Effects.{Wanted}
-use Rattle.nb_engine.specs.Opens.{Open, open_for, begun_for, opened_record, with_entry, acts_records, send_records, request_of, has_route, heard_from, is_on_its_way}
+use Rattle.nb_engine.specs.Opens.{Open, open_for, opened_record, with_entry, acts_records}
 use Rattle.nb_engine.specs.Conclusions.{image_from, Conclusion, keeps, fails, boots, conclusion_records}
-use Rattle.nb_engine.specs.Machine.{Machine, Phase, Running, ready, running, waiting, handing, left, handed_off, stopped, at, Hears, goes_on, is_over, Begins, runs, refuses, passes_by, brings, passes_time, switches_off, Move, passes, does, leaves, asks_for, finds_no_route, ends, hands, has_handed, Path, nothing, uses, moves, phase_after, concluded, command_records, command_record, reply_records, no_route, stopped_cause}
-use Rattle.nb_laws.specs.Events.{outputs, Event, starts, hears, waits, stops, puts, EachEvent, IsHistory, client}
-use Rattle.std.proofs.lemmas.List.{map-append}
-use Rattle.std.proofs.lemmas.List.Sums.{fold-append}
+use Rattle.nb_engine.specs.Machine.{Phase, Running, Hears, goes_on, is_over, phase_after, concluded}
+use Rattle.nb_laws.specs.Events.{Event, puts}
 use Rattle.std.proofs.Math.Bool.{or-true}
 use Rattle.nb_laws.specs.Lists as lists
 use Rattle.nb_laws.specs.Lists.{live, last_place, words_of, time, made, gathered, Opening, opening_at, openings, is_over as is_ended, is_end_of, calls, Mark, tries, marks, mark_at}
-use Rattle.nb_laws.specs.HandOff.{images_brought, image_list, uri_of, last_segment, image_by, last_image, HandsOff}
-use Rattle.nb_laws.proofs.HandOffs.{opens_keep, opens_acts, opens_send, opens_reply, opens_parts, parts_more, used_keep, one_keeps, words_now, words_kept, command_keeps, no_command, concluded_images, last_end_more, silent_image, asks_named}
+use Rattle.nb_laws.specs.HandOff.{images_brought, image_list, uri_of, last_segment, image_by, last_image}
+use Rattle.nb_laws.proofs.HandOffs.{opens_keep, opens_acts, opens_parts, parts_more, one_keeps, words_kept, concluded_images, last_end_more}
 use Rattle.nb_engine.specs.Honesty.{HaveNoParts}
 use Rattle.nb_image.specs.Images.{image_of}
 use Rattle.nb_tftp.specs.Blocks.{file}
-use Rattle.nb_laws.specs.Lawful.{IsLawful, HandsAsBrought}
-use Rattle.nb_laws.specs.Progress.{IsAdvanced, NoneIsWhole, IsStep}
-use Rattle.nb_laws.specs.Agreement.{IsWorld, AgreesWorld, AgreesOpen, IsOnly, NoneLives, IsNamed, AgreesImages, AgreesPhase, AreAside, AreStill, bare, opening_of}
-use Rattle.nb_laws.specs.Endings.{Holds, by_no_route, by_stop, is_off, off_by}
-use Rattle.nb_laws.proofs.Histories.{each_append, client_more, time_more, one_history}
-use Rattle.nb_laws.proofs.Tellings.{told, story_still, still_aside, still_advanced, live_same, live_kept, advanced_more, made_more, silent_frames, Kept, kept, world_kept, tries_by, Story, story_more, story_put, story_told, openings_more, calls_more, marks_more, over_more, no_more, no_or, same_number, other_number}
-use Rattle.nb_laws.proofs.Asides.{more_still, aside_send, aside_acts, still_conclusion, still_command, still_reply, still_handoff, silent_handoff, none_of_send, none_of_conclusion, none_of_command, none_of_reply, own_send}
-use Rattle.nb_laws.proofs.Calls.{Comes, got_same, each_number, used_only, used_none_live, used_advanced, none_come, none_is_whole, going_not_whole, frame_brings_none, bare_brings, frame_world, frame_passes, frame_comes, time_comes}
-use Rattle.nb_laws.specs.Frames.{WritesSo}
-use Rattle.nb_laws.proofs.Puttings.{command_writes, conclusion_writes, failed_writes, reply_frames, bare_reply, acts_reasons, request_reasons, opened_one, opened_world}
+use Rattle.nb_laws.specs.Progress.{IsAdvanced}
+use Rattle.nb_laws.specs.Agreement.{AgreesWorld, IsOnly, NoneLives, IsNamed, AgreesImages, AgreesPhase, opening_of}
+use Rattle.nb_laws.proofs.Histories.{client_more, time_more}
+use Rattle.nb_laws.proofs.Tellings.{told, story_still, still_aside, still_advanced, live_same, live_kept, advanced_more, made_more, kept, world_kept, Story, story_put, story_told, openings_more, calls_more, marks_more, over_more, no_more, no_or, same_number, other_number}
+use Rattle.nb_laws.proofs.Asides.{aside_acts, still_conclusion, still_handoff, silent_handoff, none_of_conclusion}
+use Rattle.nb_laws.proofs.Calls.{Comes, got_same, each_number}
+use Rattle.nb_laws.proofs.Puttings.{conclusion_writes, acts_reasons}
 use Rattle.nb_laws.proofs.Ends.{world_taken, open_taken, goes_further, end_holds}
-use Rattle.nb_laws.proofs.Counts.{path_counts}
 
 -- a run's records have a history, with which this state agrees
 pub record Tells (ins : List In) (outs : List Out) (phase : Phase) : Type 0 where
