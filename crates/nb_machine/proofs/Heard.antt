@@ -10,10 +10,11 @@ use Rattle.nb_tftp.specs.Sentences.{Meets}
 use Rattle.nb_tftp.proofs.PlainLaws.{asks_last}
 use Rattle.nb_tftp.proofs.TryLaws.{call_sends}
 use Rattle.nb_engine.specs.declared.world.World.{World}
-use Rattle.nb_engine.specs.World.{unbound}
+use Rattle.nb_defs.specs.Causes.{ok}
+use Rattle.nb_engine.specs.World.{unbound, with_images}
 use Rattle.nb_engine.specs.Opens.{Open, with_entry, body_of, has_route, request_of, acts_records, end_of}
-use Rattle.nb_engine.specs.Conclusions.{Conclusion, keeps, fails, boots, conclusion, conclusion_records}
-use Rattle.nb_engine.specs.Machine.{Running, Phase, Hears, goes_on, is_over, phase_after, concluded}
+use Rattle.nb_engine.specs.Conclusions.{Conclusion, keeps, fails, boots, conclusion, conclusion_records, handoff_records}
+use Rattle.nb_engine.specs.Machine.{Running, further, Phase, Hears, goes_on, is_over, phase_after, concluded}
 use Rattle.nb_laws.specs.Agreement.{bare, opening_of}
 use Rattle.nb_laws.specs.Frames.{begun_by}
 use Rattle.nb_laws.proofs.Asides.{aside_acts}
@@ -23,7 +24,7 @@ use Rattle.nb_machine.specs.Transfers.{arrival_of, end_records, transfer_records
 use Rattle.nb_machine.specs.Takings.{Over, AllTake, all_have, lives_on}
 use Rattle.nb_machine.specs.Takings as takings
 use Rattle.nb_machine.specs.Scripts.{fetch, answer, Answer, by_end, answer_in, concluded_by}
-use Rattle.nb_machine.specs.Courses.{waiting, led_to}
+use Rattle.nb_machine.specs.Courses.{Standing, running, waiting, handing, left, LeadsTo}
 use Rattle.nb_machine.specs.Carried.{live_of, state_in, waiting_in, Lives, StandsAs}
 use Rattle.nb_machine.proofs.Told.{routed, end_put, all_came}
 
@@ -32,7 +33,9 @@ pub record Answered (w : World) (s : Running) (o : Open) (r : In) (added put : L
   pub given : Answer
   pub is_given : answer_in (state_in w after) r over (answer o.number) ≡ Some given
   pub records : added ≡ put ++ conclusion_records s.depth (concluded_by (state_in w after) (fetch o.wanted) given)
-  pub leads : StandsAs phase (led_to (state_in w after) s [] (concluded_by (state_in w after) (fetch o.wanted) given))
+  pub to : Standing
+  pub led : LeadsTo (state_in w after) s [] (concluded_by (state_in w after) (fetch o.wanted) given) [] to
+  pub leads : StandsAs phase to
 
 -- where none does
 pub record Unanswered (w : World) (s : Running) (o : Open) (r : In) (added put : List Out) (after : List Live) (over : List Over) (phase : Phase) : Type 0 where
@@ -87,10 +90,20 @@ concluded_so : (w : World) (o : Open) (xs : List Exchange) (cause : Cause) → L
 concluded_so w o xs cause lives =
     ap (λ gs. conclusion cause o.wanted.boots (image_of o.wanted.target.name (file gs) [] o.wanted.uri) w.images) (sym (all_came o.number o.begun.server.0 o.entries xs lives.exchanged))
 
-leads : (w : World) (own : ℕ) (s : Running) (c : Conclusion) → StandsAs (phase_after (unbound w own) s c) (led_to (state_in w []) s [] c)
-leads w own s (keeps list) = refl
-leads w own s (fails cause) = (state_in w [], refl, refl)
-leads w own s (boots list kernel) = (_, refl, refl)
+-- where a conclusion leads the engine's machine, it leads this one
+record Led (w : World) (own : ℕ) (s : Running) (c d : Conclusion) : Type 0 where
+  to : Standing
+  led : LeadsTo (state_in w []) s [] d [] to
+  leads : StandsAs (phase_after (unbound w own) s c) to
+
+leads : (w : World) (own : ℕ) (s : Running) (c : Conclusion) → Led w own s c c
+leads w own s (keeps list) = record { to = running (state_in (with_images w list) []) (further s ok) []; led = (refl, refl); leads = refl }
+leads w own s (fails cause) = record { to = left (state_in w []) [] cause; led = (refl, refl); leads = (state_in w [], refl, refl) }
+leads w own s (boots list kernel) = record {
+  to = handing (state_in (with_images w list) []) (handoff_records kernel list.images);
+  led = ([], all_have, refl);
+  leads = (state_in (with_images w list) [], refl, refl);
+}
 
 pub heard : (w : World) (s : Running) (o : Open) (xs : List Exchange) (r : In) (call : Call) (added : List Out) (phase : Phase) → Hears w s o call added phase → Lives o xs →
     has_route w.net (request_of o.begun) ≡ true → o.begun ≡ begun_by (opening_of o) → Taking w s o xs r call added phase
@@ -118,6 +131,8 @@ heard w s o xs r call added phase (is_over _ _ _ _ acts cause meets over) lives 
     let l = continued (live_of o xs) x in
     let gone : Over = record { live = l; cause = cause } in
     let so = concluded_so w (with_entry o e) (xs ++ x ∷ []) cause more in
+    let l2 : Led w o.begun.own_port s (concluded w (with_entry o e) cause) (concluded_by (state_in w []) (fetch o.wanted) (by_end gone)) =
+    subst (λ c. Led w o.begun.own_port s (concluded w (with_entry o e) cause) c) so (leads w o.begun.own_port s (concluded w (with_entry o e) cause)) in
     let told : x.put ++ [] ≡ acts_records w.net o.number acts ++ (ended o.number cause ∷ []) = append-nil x.put ∙ put ∙ ap (λ z. acts_records w.net o.number acts ++ end_records o.number z) over in
     record {
       put = x.put ++ [];
@@ -130,6 +145,8 @@ heard w s o xs r call added phase (is_over _ _ _ _ acts cause meets over) lives 
         records =
             ap (λ z. z ++ conclusion_records s.depth (concluded w (with_entry o e) cause)) (sym told)
             ∙ ap (λ c. (x.put ++ []) ++ conclusion_records s.depth c) so;
-        leads = subst (λ c. StandsAs (phase_after (unbound w o.begun.own_port) s (concluded w (with_entry o e) cause)) (led_to (state_in w []) s [] c)) so (leads w o.begun.own_port s (concluded w (with_entry o e) cause));
+        to = l2.to;
+        led = l2.led;
+        leads = l2.leads;
       });
     }

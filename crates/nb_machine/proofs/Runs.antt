@@ -7,6 +7,7 @@ use Rattle.nb_stack.specs.Brings.{Brought, Brings}
 use Rattle.nb_stack.specs.Takes.{outcome_of, client_after, reply_of}
 use Rattle.nb_tftp.specs.Received.{received}
 use Rattle.nb_tftp.specs.History.{Call, came, ticked}
+use Rattle.nb_engine.specs.Conclusions.{conclusion_records}
 use Rattle.nb_engine.specs.declared.world.World.{World}
 use Rattle.nb_engine.specs.World.{world_of, with_net, with_open}
 use Rattle.nb_engine.specs.World as world
@@ -24,7 +25,7 @@ use Rattle.nb_machine.specs.Takings.{all_have, is_over}
 use Rattle.nb_machine.specs.Network.{Network}
 use Rattle.nb_machine.specs.Network as network
 use Rattle.nb_machine.specs.Scripts.{fetch, doing_by, transfer_for, concluded_by}
-use Rattle.nb_machine.specs.Courses.{Standing, Progress, stands, ready, running, waiting, handing, left, handed_off, stopped, led_to, StepBegins, Proceeds, Course, begins, uses, goes_on}
+use Rattle.nb_machine.specs.Courses.{Standing, Progress, stands, ready, running, waiting, handing, left, handed_off, stopped, StepBegins, Proceeds, Course, begins, uses, goes_on}
 use Rattle.nb_machine.specs.Courses as courses
 use Rattle.nb_machine.specs.Carried.{live_of, state_in, waiting_in, Lives, StandsAs, Carries}
 use Rattle.nb_laws.proofs.Tellings.{same_number}
@@ -52,12 +53,14 @@ taken n w v s o xs call r added phase valid t net = by_result t.result
           (courses.waits_on n (state_in w (live_of o xs ∷ [])) (state_in v t.after) (waiting_in s o) r t.put t.over valid net u.none);
       same = u.leads;
     }
-    by_result (is_answered a) = record {
-      to = led_to (state_in v t.after) s [] (concluded_by (state_in v t.after) (fetch o.wanted) a.given);
-      begins = subst (λ z. StepBegins (stands n (waiting (state_in w (live_of o xs ∷ [])) (waiting_in s o))) r (step (n + 1) ∷ z) (stands (n + 1) (led_to (state_in v t.after) s [] (concluded_by (state_in v t.after) (fetch o.wanted) a.given)))) (sym a.records)
-          (courses.is_answered n (state_in w (live_of o xs ∷ [])) (state_in v t.after) (waiting_in s o) r t.put t.over a.given valid net a.is_given);
-      same = a.leads;
-    }
+    by_result (is_answered a) =
+        let c = conclusion_records s.depth (concluded_by (state_in v t.after) (fetch o.wanted) a.given) in
+        record {
+          to = a.to;
+          begins = subst (λ z. StepBegins (stands n (waiting (state_in w (live_of o xs ∷ [])) (waiting_in s o))) r (step (n + 1) ∷ z) (stands (n + 1) a.to)) (append-nil (t.put ++ c) ∙ sym a.records)
+              (courses.is_answered n (state_in w (live_of o xs ∷ [])) (state_in v t.after) (waiting_in s o) r t.put [] t.over a.given a.to valid net a.is_given a.led);
+          same = a.leads;
+        }
 
 -- a frame for no open
 frame_passes : (n : ℕ) (w : World) (s : Running) (o : Open) (xs : List Exchange) (bytes reply : List ℕ) (net : Client) (m : Brought) → IsIn (frame bytes) → Lives o xs →

@@ -45,11 +45,14 @@ stands used standing = record { used = used; standing = standing }
 abbrev pub nowhere : Progress
 nowhere = stands 0 ready
 
--- where a conclusion leads: the script goes on, is left, or an image is handed off
-abbrev pub led_to : State → Running → List Running → Conclusion → Standing
-led_to s script outer (keeps list) = running (with_images s list) (further script ok) outer
-led_to s script outer (fails cause) = left s outer cause
-led_to s script outer (boots list kernel) = handing (with_images s list) (handoff_records kernel list.images)
+-- Where a conclusion leads, and the records put there: the script goes on, or is left; or an image is handed off, once all that
+-- lives is closed.
+abbrev pub LeadsTo : State → Running → List Running → Conclusion → List Out → Standing → Type 0
+LeadsTo s script outer (keeps list) put p = (put ≡ []) × (p ≡ running (with_images s list) (further script ok) outer)
+LeadsTo s script outer (fails cause) put p = (put ≡ []) × (p ≡ left s outer cause)
+LeadsTo s script outer (boots list kernel) put p =
+    (over : List Over) × AllTake s.devices (close stopped_cause) s.live put [] over
+    × (p ≡ handing (with_live (with_images s list) []) (handoff_records kernel list.images))
 
 -- A record is used, and its step begins. A first record comes before any other; each later one comes while a command
 -- waits. What it does, the network says; what comes of the command, the scripts.
@@ -65,10 +68,9 @@ pub data StepBegins : Progress → In → List Out → Progress → Type 0 where
       Network s (n + 1) r put s' over → answer_in s' r over w.awaited ≡ None →
       StepBegins (stands n (waiting s w)) r (step (n + 1) ∷ put) (stands (n + 1) (waiting s' w))
   -- what it waits for has come
-  is_answered : (n : ℕ) (s s' : State) (w : Waiting) (r : In) (put : List Out) (over : List Over) (a : Answer) → IsIn r →
-      Network s (n + 1) r put s' over → answer_in s' r over w.awaited ≡ Some a →
-      StepBegins (stands n (waiting s w)) r (step (n + 1) ∷ put ++ conclusion_records w.script.depth (concluded_by s' w.job a))
-      (stands (n + 1) (led_to s' w.script w.outer (concluded_by s' w.job a)))
+  is_answered : (n : ℕ) (s s' : State) (w : Waiting) (r : In) (put more : List Out) (over : List Over) (a : Answer) (p : Standing) → IsIn r →
+      Network s (n + 1) r put s' over → answer_in s' r over w.awaited ≡ Some a → LeadsTo s' w.script w.outer (concluded_by s' w.job a) more p →
+      StepBegins (stands n (waiting s w)) r (step (n + 1) ∷ put ++ conclusion_records w.script.depth (concluded_by s' w.job a) ++ more) (stands (n + 1) p)
   -- the power is switched off: every open is closed, and the command gives no result
   switches_off : (n : ℕ) (s : State) (w : Waiting) (put : List Out) (over : List Over) →
       AllTake s.devices (close stopped_cause) s.live put [] over →

@@ -91,12 +91,17 @@ fn fields_of_start(rt: HostRuntime) -> Result<(), Fail> {
     let mut feed = Feed::new(rt.alloc())?;
     feed.push(&START);
     match feed.front() {
-        Front::Whole(InRec::Start(record), len) => {
-            let start = record.fields();
+        Front::Whole(entry, len) => {
             assert_eq!(rt; len, 103);
-            assert_eq!(rt; start.mac.0, [0x52, 0x54, 0, 0, 0, 1]);
-            assert_eq!(rt; start.ip, Ip4(0));
-            assert_eq!(rt; start.script, b"#!ipxe\necho hello\nexit\n".as_slice());
+            match entry {
+                InRec::Start(record) => {
+                    let start = record.fields();
+                    assert_eq!(rt; start.mac.0, [0x52, 0x54, 0, 0, 0, 1]);
+                    assert_eq!(rt; start.ip, Ip4(0));
+                    assert_eq!(rt; start.script, b"#!ipxe\necho hello\nexit\n".as_slice());
+                }
+                _ => panic!(rt; "the record is a START"),
+            }
         }
         _ => panic!(rt; "the record is whole"),
     }
