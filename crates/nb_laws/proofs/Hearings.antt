@@ -27,7 +27,7 @@ use Rattle.nb_laws.specs.Agreement.{AgreesWorld, IsOnly, NoneLives, IsNamed, Agr
 use Rattle.nb_laws.proofs.Histories.{client_more, time_more}
 use Rattle.nb_laws.proofs.Tellings.{told, story_still, still_aside, still_advanced, live_same, live_kept, advanced_more, made_more, kept, world_kept, Story, story_put, story_told, openings_more, calls_more, marks_more, over_more, no_more, no_or, same_number, other_number}
 use Rattle.nb_laws.proofs.Asides.{aside_acts, still_conclusion, still_handoff, silent_handoff, none_of_conclusion}
-use Rattle.nb_laws.proofs.Calls.{Comes, got_same, each_number}
+use Rattle.nb_laws.proofs.Calls.{Comes, got_same, each_number, live_one}
 use Rattle.nb_laws.proofs.Puttings.{conclusion_writes, acts_reasons}
 use Rattle.nb_laws.proofs.Ends.{world_taken, open_taken, goes_further, end_holds}
 
@@ -115,7 +115,7 @@ hears_tells ins outs es w s o call added phase (is_over _ _ _ _ acts cause meets
     let holds = end_holds es1 w o e cause open1 meets c.going (c.now ∙ sym left.time_is) over in
     let r = acts_reasons es w o call acts c meets in
     let story1 : Story ins (outs ++ a) es1 = story_told ins outs es a (aside_acts w.net k acts) r.writes r.advances r.tries story in
-    let story2 : Story ins ((outs ++ a) ++ ended k cause ∷ []) es2 = story_put ins (outs ++ a) es1 (ended k cause) story1 (record { read = tt; end = holds; frame = tt; step = tt; advance = r.after; try = tt }) in
+    let story2 : Story ins ((outs ++ a) ++ ended k cause ∷ []) es2 = story_put ins (outs ++ a) es1 (ended k cause) story1 (record { read = tt; end = (holds.0, holds.1, opening_of o, live_one k es1 (opening_of o) open1.opening open1.lives); frame = tt; step = tt; advance = r.after; try = tt }) in
     let still = still_conclusion s.depth concl in
     let advanced2 = ended_advanced es1 k cause r.after in
     let story3 : Story ins (((outs ++ a) ++ ended k cause ∷ []) ++ b) (es2 ++ told b) = story_still ins _ es2 b still (conclusion_writes es1 k s.depth cause o.wanted.boots (image_from (with_entry o e)) w.images) advanced2 story2 in

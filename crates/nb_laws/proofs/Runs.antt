@@ -33,9 +33,9 @@ use Rattle.nb_laws.specs.Progress.{IsAdvanced, NoneIsWhole, IsStep}
 use Rattle.nb_laws.specs.Agreement.{IsWorld, AgreesWorld, AgreesOpen, NoneLives, AgreesImages, AgreesPhase, AreAside, AreStill, bare, opening_of}
 use Rattle.nb_laws.specs.Endings.{Holds, by_no_route, by_stop, is_off, off_by}
 use Rattle.nb_laws.proofs.Histories.{each_append, one_history}
-use Rattle.nb_laws.proofs.Tellings.{told, story_still, still_aside, still_advanced, live_kept, advanced_more, silent_frames, Kept, kept, world_kept, tries_by, Story, story_more, story_put, story_told, calls_more, marks_more, over_more, no_more, no_or, other_number}
+use Rattle.nb_laws.proofs.Tellings.{told, story_still, still_aside, still_advanced, live_kept, advanced_more, silent_frames, Kept, kept, world_kept, tries_by, Story, story_more, story_put, story_told, openings_more, calls_more, marks_more, over_more, no_more, no_or, other_number}
 use Rattle.nb_laws.proofs.Asides.{more_still, aside_send, still_conclusion, still_command, still_reply, none_of_send, none_of_command, none_of_reply, own_send}
-use Rattle.nb_laws.proofs.Calls.{Comes, got_same, used_only, used_none_live, used_advanced, none_come, none_is_whole, going_not_whole, frame_brings_none, bare_brings, frame_world, frame_passes, frame_comes, time_comes}
+use Rattle.nb_laws.proofs.Calls.{Comes, got_same, live_one, used_only, used_none_live, used_advanced, none_come, none_is_whole, going_not_whole, frame_brings_none, bare_brings, frame_world, frame_passes, frame_comes, time_comes}
 use Rattle.nb_laws.specs.Frames.{WritesSo}
 use Rattle.nb_laws.proofs.Puttings.{command_writes, failed_writes, reply_frames, bare_reply, request_reasons, opened_one, opened_world}
 use Rattle.nb_laws.proofs.Counts.{path_counts}
@@ -169,8 +169,9 @@ begins_tells ins outs es m r added m' (switches_off n w s o) story advanced coun
     ap (λ z. is_whole (flat_map received_by z)) (calls_more o.number es e ∙ append-nil (calls o.number es)) ∙ ap is_whole (got_same o.number es o.entries a.1.calls) ∙ a.2.unfinished in
     let es1 = es ++ e ∷ [] in
     let story1 : Story (ins ++ off ∷ []) (outs ++ step (n + 1) ∷ []) es1 = story_more ins outs es e story (record { read = tt; end = tt; frame = tt; step = follows; advance = advanced; try = tt }) in
+    let lives = live_one o.number es1 (opening_of o) (openings_more o.number es e ∙ append-nil (openings o.number es) ∙ a.1.opening) (over_more o.number es e ∙ no_or (is_ended o.number es) false refl ∙ a.1.lives) in
     let story2 = story_put (ins ++ off ∷ []) (outs ++ step (n + 1) ∷ []) es1 (ended o.number stopped_cause) story1
-    (record { read = tt; end = (by_stop refl (last_off es (n + 1)), sym unfinished); frame = tt; step = tt; advance = advanced1; try = tt }) in
+    (record { read = tt; end = (by_stop refl (last_off es (n + 1)), sym unfinished, opening_of o, lives); frame = tt; step = tt; advance = advanced1; try = tt }) in
     record {
       events = es1 ++ puts (ended o.number stopped_cause) ∷ [];
       story = subst (λ z. Story (ins ++ off ∷ []) z (es1 ++ puts (ended o.number stopped_cause) ∷ [])) (append_assoc outs (step (n + 1) ∷ []) (ended o.number stopped_cause ∷ [])) story2;
@@ -293,7 +294,8 @@ moves_tells ins outs es m added m' (finds_no_route n w s line c cs wanted there 
     let empty : is_whole (lists.got k es2) ≡ false = ap (λ z. is_whole (flat_map received_by z)) (calls_more k es1 (puts o) ∙ append-nil (calls k es1) ∙ (world1.untold k (le_refl k)).0) in
     let holds : Holds k es2 cause = by_no_route opening (opened_one es1 w wanted world1) refl
     (subst (λ (x : Client). fate_of x (route_of x.up x.address (host opening.server) opening.own) ≡ fate.NoRoute) (sym world2.client) (no_way _ (bare_route w.net (request_of (begun_for w wanted)) ∙ route))) in
-    let story3 : Story ins (((outs ++ command ∷ []) ++ o ∷ []) ++ ended k cause ∷ []) es3 = story_put ins _ es2 (ended k cause) story2 (record { read = tt; end = (holds, sym empty); frame = tt; step = tt; advance = advanced2; try = tt }) in
+    let lives = live_one k es2 opening (opened_one es1 w wanted world1) (over_more k es1 (puts o) ∙ no_or (is_ended k es1) false refl ∙ world1.unended k (le_refl k)) in
+    let story3 : Story ins (((outs ++ command ∷ []) ++ o ∷ []) ++ ended k cause ∷ []) es3 = story_put ins _ es2 (ended k cause) story2 (record { read = tt; end = (holds, sym empty, opening, lives); frame = tt; step = tt; advance = advanced2; try = tt }) in
     let advanced3 = ended_advanced es2 k cause advanced2 in
     let still = still_conclusion s.depth (fails cause) in
     let none3 = ended_none_live es2 k cause (opened_only es1 w wanted none1) in
