@@ -1,11 +1,13 @@
 """Counts the instructions of a run by valgrind's callgrind.
 
-What the system does for the run isn't counted. An instruction that repeats itself, as the C library
-has for long copies and fills, counts anew each time.
+What the system does for the run isn't counted. An instruction that repeats itself counts anew each
+time, and for long copies and fills the C library takes such ones on some processors alone. So the
+count is made with loops in their place: it is the same on each processor.
 """
 
 from __future__ import annotations
 
+import os
 import re
 import shutil
 import subprocess
@@ -19,6 +21,9 @@ NEEDED = ("valgrind", "cc")
 FUNCTION = re.compile(r"^(c?fn)=(\(\d+\))(?: (.*))?$")
 COST = re.compile(r"^(?:\+|-)?(?:\d+|\*) (\d+)$")
 TOTALS = re.compile(r"^totals: (\d+)$", re.M)
+
+# Lengths that no copy reaches, from which on the C library would take a repeating instruction.
+LOOPS = "glibc.cpu.x86_rep_movsb_threshold=1000000000:glibc.cpu.x86_rep_stosb_threshold=1000000000"
 
 
 class Counted(NamedTuple):
@@ -84,7 +89,13 @@ def costs_of(profile: str) -> Counter[str]:
 def count(words: list[str], profile: Path) -> int:
     """Runs these words under callgrind, which writes its profile there; the run must end in 0."""
     callgrind = ["valgrind", "--quiet", "--tool=callgrind", f"--callgrind-out-file={profile}"]
-    done = subprocess.run([*callgrind, *words], capture_output=True, text=True, check=False)
+    done = subprocess.run(
+        [*callgrind, *words],
+        capture_output=True,
+        text=True,
+        check=False,
+        env={**os.environ, "GLIBC_TUNABLES": LOOPS},
+    )
     if done.returncode != 0:
         raise Refused(f"{words[0]} ended with {done.returncode} under valgrind: {done.stderr}")
     return total_of(profile.read_text())

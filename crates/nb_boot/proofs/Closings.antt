@@ -86,8 +86,14 @@ length-done number = refl
 
 done_missing : (before : List ℕ) (m : Machine) (number : ℕ) → 0 < length (before ++ out_texts (closing m number))
 done_missing before m number =
-    omega (arith, length-append before (out_texts (closing m number)), ap length (flat_map-append out_text (shutdown_records m.phase) (done number ∷ [])),
-    length-append (out_texts (shutdown_records m.phase)) (out_texts (done number ∷ [])), length-append (out_text (done number)) [], length-done number)
+    omega (
+      arith,
+      length-append before (out_texts (closing m number)),
+      ap length (flat_map-append out_text (shutdown_records m.phase) (done number ∷ [])),
+      length-append (out_texts (shutdown_records m.phase)) (out_texts (done number ∷ [])),
+      length-append (out_text (done number)) [],
+      length-done number,
+    )
 
 -- a run whose output memory cut
 abbrev pub short_end : (ins : List In) (held : List ℕ) (first before now : Outside) (log : Logged) (m : Machine) (number : ℕ) →

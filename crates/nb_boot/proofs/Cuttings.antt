@@ -57,11 +57,10 @@ short_run ins held first before now log m p r = record {
 
 -- a log that couldn't be written out cuts a run short
 pub flaw_cuts : (f : Flaw) (before now : Outside) (log : Logged) → IsFlaw f before now log → CutsAll (flaw_status f) before now log
-flaw_cuts flaw.WriteFault before now log s = λ held ins first m r.
-    (
-      stopped_run ins held first before now log m s.1 r,
-      (rose_later first.write_faults before.write_faults now.write_faults r.passes.counts.write_count s.1.rose, omega (arith, s.1.missing, length-append s.1.lost r.lost)),
-    )
+flaw_cuts flaw.WriteFault before now log s = λ held ins first m r. (
+  stopped_run ins held first before now log m s.1 r,
+  (rose_later first.write_faults before.write_faults now.write_faults r.passes.counts.write_count s.1.rose, omega (arith, s.1.missing, length-append s.1.lost r.lost)),
+)
 flaw_cuts flaw.NoMemory before now log p = λ held ins first m r. (short_run ins held first before now log m p r, inl refl)
 
 -- memory ran out in the client

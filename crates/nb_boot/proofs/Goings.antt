@@ -1,5 +1,5 @@
 -- How a run goes on, reads, and is written out.
-use Rattle.std.proofs.Common.{◌≡◌, ◌<◌, ◌≤◌, lit≤, ℕ, true, false, inl, inr, List, [], ◌∷◌, ◌++◌, length, refl, sym, ◌∙◌, ap, subst, arith, append-nil, append_assoc, length-append}
+use Rattle.std.proofs.Common.{◌≡◌, ◌≤◌, lit≤, ℕ, true, false, inl, inr, List, [], ◌∷◌, ◌++◌, length, refl, sym, ◌∙◌, ap, subst, arith, append-nil, append_assoc, length-append}
 use Rattle.std.proofs.lemmas.Grind.{flat_map-append}
 use Rattle.nb_defs.specs.Records.{In, in_text, in_texts, Out, out_text, out_texts}
 use Rattle.nb_record.specs.Outside.{Outside, Passes}

@@ -1,6 +1,6 @@
 -- What a call shows of the engine's machine, it shows of the machine of many opens.
-use Rattle.std.proofs.Common.{◌≡◌, ℕ, ◌<◌, List, [], ◌∷◌, ◌++◌, refl, sym, ◌∙◌, ap, subst}
-use Rattle.nb_defs.specs.Records.{In, Out, done}
+use Rattle.std.proofs.Common.{ℕ, ◌<◌, List, sym, ◌∙◌, subst}
+use Rattle.nb_defs.specs.Records.{Out}
 use Rattle.nb_record.specs.Outside.{Outside}
 use Rattle.nb_engine.specs.declared.status.Status.{Status}
 use Rattle.nb_engine.specs.declared.status.Status.TheVariants as status

@@ -1,7 +1,6 @@
 -- What closes a run of the engine's machine closes its course.
-use Rattle.std.proofs.Common.{◌≡◌, List, [], ◌∷◌, ◌++◌, Option, Some, None, cond, refl, sym, ap, subst}
+use Rattle.std.proofs.Common.{◌≡◌, List, [], ◌∷◌, ◌++◌, Some, None, cond, refl, sym, ap, subst}
 use Rattle.nb_defs.specs.Records.{In, Out, ended}
-use Rattle.nb_stack.specs.Client.{Client}
 use Rattle.nb_engine.specs.Machine.{Machine, Phase, Path, shutdown_records, stopped_cause}
 use Rattle.nb_engine.specs.Machine as lone
 use Rattle.nb_laws.specs.Agreement.{bare, AgreesPhase}
@@ -11,7 +10,7 @@ use Rattle.nb_machine.specs.Lives.{close, exchange, Live}
 use Rattle.nb_machine.specs.Transfers.{closes}
 use Rattle.nb_machine.specs.States.{State}
 use Rattle.nb_machine.specs.Takings.{AllTake, all_have, is_over}
-use Rattle.nb_machine.specs.Courses.{Standing, handing, left, handed_off, stopped}
+use Rattle.nb_machine.specs.Courses.{Standing}
 use Rattle.nb_machine.specs.Closings.{AllClose, Shuts}
 use Rattle.nb_machine.specs.Carried.{live_of, Lives, StandsAs}
 use Rattle.nb_machine.proofs.Heard.{keeps_now}

@@ -1,6 +1,6 @@
 -- What is known of the machine's state for which a client stands.
-use Rattle.std.proofs.Common.{◌≡◌, ℕ, ◌+◌, ◌<◌, ◌⊎◌, List, [], ◌∷◌, ◌++◌, length, refl, sym, ◌∙◌, ap, arith, length-append}
-use Rattle.nb_defs.specs.Records.{In, start, frame, tick, off, Out, IsPartial, IsBroken, ended, done}
+use Rattle.std.proofs.Common.{◌≡◌, ℕ, ◌<◌, ◌⊎◌, List, [], ◌∷◌, ◌++◌, length, refl, sym, ◌∙◌, ap}
+use Rattle.nb_defs.specs.Records.{In, start, frame, tick, off, IsPartial, IsBroken, ended, done}
 use Rattle.nb_record.specs.Outside.{Outside, IsAtEnd}
 use Rattle.nb_record.specs.Logged.{Logged}
 use Rattle.nb_laws.proofs.Counts.{path_counts}
