@@ -1,5 +1,5 @@
 -- What a feed holds stands between two places of its room.
-use Rattle.std.proofs.Common.{◌≡◌, ℕ, ◌+◌, ◌-◌, ◌<◌, ◌≤◌, List, ◌++◌, length, take, drop, sym, ap, ◌∙◌, arith}
+use Rattle.std.proofs.Common.{◌≡◌, ℕ, ◌+◌, ◌-◌, ◌≤◌, List, ◌++◌, length, take, drop, sym, ap, ◌∙◌, arith}
 use Rattle.std.proofs.Math.Seq.{paste, take-add}
 use Rattle.std.proofs.lemmas.List.{drop-take, length-take, length-drop}
 use Rattle.std.proofs.lemmas.List.Edits.{take-paste}

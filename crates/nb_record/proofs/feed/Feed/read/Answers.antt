@@ -1,4 +1,4 @@
-use Rattle.std.proofs.Common.{take, drop, ◌++◌, ap, sym, ◌∙◌, arith, List, ℕ}
+use Rattle.std.proofs.Common.{take, drop, ◌++◌, ap, ◌∙◌, arith, List, ℕ}
 use Rattle.std.proofs.lemmas.List.{length-take, length-drop}
 use Rattle.nb_defs.proofs.RecordLaws.{partial_short}
 use Rattle.nb_record.specs.Bytes.{Held}
