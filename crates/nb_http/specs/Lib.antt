@@ -1,0 +1,5 @@
+pub mod Requests
+pub mod Ends
+pub mod Standing
+pub mod HeadReading
+pub mod Giving
