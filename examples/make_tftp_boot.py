@@ -18,8 +18,8 @@ from uuid import UUID
 HERE = Path(__file__).resolve().parent
 sys.path.insert(0, str(HERE.parent / "tools"))
 
-from records import Received, Record, Start, Tick, spell  # noqa: E402
-from wire import Station, arp_reply, padded, tftp_data, udp_frame  # noqa: E402
+from shared.records import Received, Record, Start, Tick, spell  # noqa: E402
+from shared.wire import Station, arp_reply, padded, tftp_data, udp_frame  # noqa: E402
 
 CLIENT = Station(bytes.fromhex("525400000001"), IPv4Address("10.0.0.2"))
 SERVER = Station(bytes.fromhex("525400000002"), IPv4Address("10.0.0.1"))
@@ -32,8 +32,8 @@ SCRIPT = b"#!ipxe\nimgexec tftp://10.0.0.1/k\n"
 
 def kernel() -> bytes:
     """A file that begins as a 64-bit ELF file does, and goes on with a fixed pattern."""
-    front = b"\x7fELF\x02\x01\x01"
-    return front + bytes((31 * place + 7) % 256 for place in range(len(front), KERNEL_LENGTH))
+    head = b"\x7fELF\x02\x01\x01"
+    return head + bytes((31 * place + 7) % 256 for place in range(len(head), KERNEL_LENGTH))
 
 
 def start() -> Start:

@@ -6,17 +6,37 @@ from __future__ import annotations
 import argparse
 import re
 import sys
+from contextlib import ExitStack
+from dataclasses import dataclass
 from ipaddress import IPv4Address
 from pathlib import Path
 from typing import BinaryIO, Callable, Iterator
 from uuid import UUID
 
-from capture import NANOSECONDS, Packet, read_capture
-from command_line import Refused, read_file, run, writing
-from records import MAX_FRAME, MAX_TICK, MIN_FRAME, Received, Record, Start, Tick, spell
+from shared import addresses
+from shared.boot_capture import (
+    FIRST_OWN_PORT,
+    OWN_PORTS,
+    Conversion,
+    Reader,
+    Request,
+    Taken,
+    first_request,
+    reopenable,
+    warnings,
+)
+from shared.capture import NANOSECONDS
+from shared.command_line import STANDARD, Refused, opened, run
+from shared.output import report, writing
+from shared.records import MAX_TICK, Start, Tick, spell
+from shared.texts import count, mac
 
-MILLISECOND = NANOSECONDS // 1000
-GROUP_BIT = 1
+DEFAULT_MAC = "52:54:00:00:00:01"
+# a recording has at most a day, and may begin anywhere in a capture of up to a year
+DAY = 86_400
+YEAR = 366 * DAY
+# what START can hold, and one byte more, so that a longer script is seen to be one
+READ_AT_MOST = 130_997
 
 DESCRIPTION = """\
 Makes an input recording for netboot: a START record with the script and the addresses and,
@@ -24,22 +44,20 @@ with --capture, the frames that a device received, as FRAME and TICK records.
 docs/RECORDS.md describes the format."""
 
 EPILOG = """\
-An empty script file asks for the built-in boot script.
+An empty script file asks for the built-in boot script. `-` is standard input or output.
 
-Of a capture (pcap or pcapng, Ethernet) the frames are taken that go to the address --mac or
-to a group address and do not come from --mac. Time is counted in whole milliseconds from the
-capture's first packet; a frame stamped earlier than one before it comes right behind that one.
-A pause longer than --tick becomes several TICKs, because a timer fires once in a TICK.
+Of a capture (pcap or pcapng; Ethernet, or Linux cooked as of `tcpdump -i any`) the frames are
+taken that go to the address --mac or to a group address and do not come from --mac. Time is
+counted in whole milliseconds from the capture's first packet to its last, or as --from, --trim
+and --until say; a frame stamped earlier than one before it comes right after that one. A pause
+longer than --tick becomes several TICKs, because a timer fires once in a TICK.
+
+--mac, --ip and --w that are not given are taken from the capture's first TFTP request, and said.
 
 examples:
   record.py hello.ipxe hello.rec
-  record.py boot.ipxe boot.rec --ip 10.0.0.2 --mask 255.255.255.0 --capture boot.pcap"""
-
-
-def mac(text: str) -> bytes:
-    if not re.fullmatch("[0-9a-fA-F]{2}(:[0-9a-fA-F]{2}){5}", text):
-        raise ValueError(text)
-    return bytes.fromhex(text.replace(":", ""))
+  record.py boot.ipxe boot.rec --ip 10.0.0.2/24 --capture boot.pcap --trim
+  record.py boot.ipxe silence.rec --ip 10.0.0.2/24 --until 16"""
 
 
 def key(text: str) -> bytes:
@@ -60,63 +78,177 @@ def ranged(low: int, high: int) -> Callable[[str], int]:
     return number
 
 
-def start_of(arguments: argparse.Namespace, script: bytes) -> Start:
-    return Start(
+def seconds(most: int) -> Callable[[str], float]:
+    """A reader of seconds, with a fraction or without."""
+
+    def number(text: str) -> float:
+        if not re.fullmatch(r"[0-9]{1,8}(\.[0-9]+)?", text) or float(text) > most:
+            raise argparse.ArgumentTypeError(f"{text} is no number of seconds, 0 to {most}")
+        return float(text)
+
+    return number
+
+
+@dataclass(frozen=True, slots=True)
+class Client:
+    """The client's addresses and its first own port's number, given or found."""
+
+    mac: bytes
+    ip: IPv4Address
+    mask: IPv4Address
+    w: int
+
+
+def client_of(arguments: argparse.Namespace, request: Request | None) -> Client:
+    """What was given; what wasn't is the request's, if there is one."""
+    ip, mask = addresses.UNSET, addresses.UNSET
+    if request:
+        ip = addresses.UNSET if arguments.ip else IPv4Address(request.ip)
+    if arguments.ip:
+        ip, mask = arguments.ip.ip, arguments.ip.mask or addresses.UNSET
+    if arguments.mask is not None:
+        if mask not in (addresses.UNSET, arguments.mask):
+            raise Refused(f"--mask {arguments.mask} and --ip .../{mask} differ")
+        mask = arguments.mask
+    device = arguments.mac or (request.mac if request else addresses.mac(DEFAULT_MAC))
+    return Client(device, ip, mask, own_port_number(arguments, request))
+
+
+def own_port_number(arguments: argparse.Namespace, request: Request | None) -> int:
+    if arguments.w is not None:
+        return arguments.w
+    if arguments.port is not None:
+        return arguments.port - FIRST_OWN_PORT
+    if request and request.port >= FIRST_OWN_PORT and not arguments.map_ports:
+        return request.port - FIRST_OWN_PORT
+    return 0
+
+
+def found(arguments: argparse.Namespace, request: Request, client: Client) -> str:
+    """What the capture's request showed that wasn't given."""
+    parts = []
+    if arguments.mac is None and request.mac != addresses.mac(DEFAULT_MAC):
+        parts.append(f"--mac {mac(request.mac)}")
+    if arguments.ip is None:
+        parts.append(f"--ip {client.ip}")
+    if arguments.w is None and arguments.port is None and client.w:
+        parts.append(f"--w {client.w} (port {request.port})")
+    return f"taken from the capture's first TFTP request: {', '.join(parts)}" if parts else ""
+
+
+def check_addresses(arguments: argparse.Namespace, client: Client) -> None:
+    if client.ip == addresses.UNSET:
+        for name in ("mask", "gateway", "dns"):
+            if getattr(arguments, name) not in (None, addresses.UNSET):
+                raise Refused(f"--{name} needs --ip: without an address the client ignores it")
+    fault = addresses.fault(client.ip, client.mask, arguments.gateway)
+    if fault:
+        raise Refused(fault)
+
+
+def start_of(arguments: argparse.Namespace, client: Client, script: bytes) -> bytes:
+    start = Start(
         version=1,
-        mac=arguments.mac,
+        mac=client.mac,
         uuid=arguments.uuid,
         key=arguments.key,
         arch=arguments.arch,
-        w=arguments.w,
-        ip=arguments.ip,
-        mask=arguments.mask,
+        w=client.w,
+        ip=client.ip,
+        mask=client.mask,
         gateway=arguments.gateway,
         dns=arguments.dns,
         script=script,
     )
+    try:
+        return spell(start)
+    except ValueError as refusal:
+        raise Refused(f"{arguments.script}: {refusal}") from refusal
 
 
-def is_for(frame: bytes, device: bytes) -> bool:
-    """Whether the device receives the frame: it goes to it or to a group, from another."""
-    return (frame[:6] == device or frame[0] & GROUP_BIT == 1) and frame[6:12] != device
+def read_script(path: Path) -> bytes:
+    with opened(path) as stream:
+        script = stream.read(READ_AT_MOST)
+    if len(script) == READ_AT_MOST:
+        raise Refused(f"{path}: the script has more than {READ_AT_MOST - 1} bytes")
+    return script
 
 
-def check_whole(packet: Packet) -> None:
-    """Refuses a frame that no FRAME record holds as it was on the wire."""
-    if packet.length != len(packet.frame):
-        raise Refused(
-            f"the packet at byte {packet.offset} was cut by the capture: "
-            f"{len(packet.frame)} of {packet.length} bytes"
-        )
-    if not MIN_FRAME <= len(packet.frame) <= MAX_FRAME:
-        raise Refused(
-            f"the packet at byte {packet.offset} has {len(packet.frame)} bytes, "
-            f"not {MIN_FRAME} to {MAX_FRAME}"
-        )
+def add_addresses(parser: argparse.ArgumentParser) -> None:
+    unset = addresses.UNSET
+    parser.add_argument(
+        "--mac", type=addresses.mac, help=f"the device's address (default {DEFAULT_MAC})"
+    )
+    parser.add_argument(
+        "--ip",
+        type=addresses.host_in_net,
+        metavar="IP[/N]",
+        help="the client's address, with its net's prefix, as 10.0.0.2/24",
+    )
+    parser.add_argument("--mask", type=addresses.mask, help="its network mask, if not by --ip")
+    parser.add_argument("--gateway", type=addresses.host, default=unset, help="its gateway")
+    parser.add_argument("--dns", type=addresses.host, default=unset, help="its name server")
 
 
-def ticks(milliseconds: int, longest: int) -> Iterator[Tick]:
-    """TICKs that take this time together."""
-    while milliseconds > 0:
-        yield Tick(min(milliseconds, longest))
-        milliseconds -= longest
+def add_machine(parser: argparse.ArgumentParser) -> None:
+    parser.add_argument("--uuid", type=UUID, default=UUID(int=0), help="the machine's UUID")
+    parser.add_argument(
+        "--key", type=key, default="0" * 64, help="64 hexadecimal digits, for starting numbers"
+    )
+    parser.add_argument("--arch", type=ranged(0, 65_535), default=0, help="DHCP's client type")
+    port = parser.add_mutually_exclusive_group()
+    port.add_argument("--w", type=ranged(0, OWN_PORTS - 1), help="own ports begin at 49152 + W")
+    port.add_argument(
+        "--port",
+        type=ranged(FIRST_OWN_PORT, FIRST_OWN_PORT + OWN_PORTS - 1),
+        metavar="P",
+        help="own ports begin at P; another spelling of --w",
+    )
 
 
-def records_of(packets: Iterator[Packet], device: bytes, longest: int) -> Iterator[Record]:
-    """The frames that the device received, and the time between them."""
-    begin = None
-    now = 0
-    for packet in packets:
-        begin = packet.time if begin is None else begin
-        if len(packet.frame) < MIN_FRAME:
-            check_whole(packet)
-        if not is_for(packet.frame, device):
-            continue
-        check_whole(packet)
-        time = (packet.time - begin) // MILLISECOND
-        yield from ticks(time - now, longest)
-        now = max(now, time)
-        yield Received(packet.frame)
+def add_capture(parser: argparse.ArgumentParser) -> None:
+    parser.add_argument("--capture", type=Path, metavar="FILE", help="a pcap or pcapng file")
+    parser.add_argument(
+        "--skip", action="store_true", help="leave out frames that are too long, short or cut"
+    )
+    parser.add_argument(
+        "--fix-checksums",
+        action="store_true",
+        help="fill in the checksums that the capturing machine left to its network card",
+    )
+    parser.add_argument(
+        "--map-ports",
+        action="store_true",
+        help="lead answers to the capture's n-th TFTP request to the own port of open n",
+    )
+
+
+def add_times(parser: argparse.ArgumentParser) -> None:
+    begin = parser.add_mutually_exclusive_group()
+    begin.add_argument(
+        "--from",
+        dest="begin",
+        type=seconds(YEAR),
+        metavar="S",
+        help="time begins S seconds after the capture's first packet",
+    )
+    begin.add_argument(
+        "--trim", action="store_true", help="time begins at the first frame from or to --mac"
+    )
+    until = "time runs to S seconds after its beginning"
+    parser.add_argument("--until", type=seconds(DAY), metavar="S", help=until)
+    longest = "the longest TICK, in milliseconds (default 250)"
+    parser.add_argument(
+        "--tick", type=ranged(1, MAX_TICK), default=250, metavar="MS", help=longest
+    )
+
+
+def add_options(parser: argparse.ArgumentParser) -> None:
+    """The options beside the files; boot.py has them too."""
+    add_addresses(parser)
+    add_machine(parser)
+    add_capture(parser)
+    add_times(parser)
 
 
 def parse(words: list[str]) -> argparse.Namespace:
@@ -125,54 +257,103 @@ def parse(words: list[str]) -> argparse.Namespace:
         epilog=EPILOG,
         formatter_class=argparse.RawDescriptionHelpFormatter,
     )
-    unset = IPv4Address(0)
     parser.add_argument("script", type=Path, help="the file with the first script")
     parser.add_argument("recording", type=Path, help="the input recording to be written")
-    parser.add_argument("--mac", type=mac, default="52:54:00:00:00:01", help="the device's address")
-    parser.add_argument("--ip", type=IPv4Address, default=unset, help="the client's address")
-    parser.add_argument("--mask", type=IPv4Address, default=unset, help="its network mask")
-    parser.add_argument("--gateway", type=IPv4Address, default=unset, help="its gateway")
-    parser.add_argument("--dns", type=IPv4Address, default=unset, help="its name server")
-    parser.add_argument("--uuid", type=UUID, default=UUID(int=0), help="the machine's UUID")
-    parser.add_argument(
-        "--key", type=key, default="0" * 64, help="64 hexadecimal digits, for starting numbers"
-    )
-    parser.add_argument("--arch", type=ranged(0, 65_535), default=0, help="DHCP's client type")
-    parser.add_argument(
-        "--w", type=ranged(0, 16_383), default=0, help="own ports begin at 49152 + W"
-    )
-    parser.add_argument("--capture", type=Path, metavar="FILE", help="a pcap or pcapng file")
-    parser.add_argument(
-        "--tick",
-        type=ranged(1, MAX_TICK),
-        default=250,
-        metavar="MS",
-        help="the longest TICK, in milliseconds (default 250)",
-    )
+    add_options(parser)
     return parser.parse_args(words)
 
 
-def write_recording(arguments: argparse.Namespace, start: bytes, stream: BinaryIO) -> int:
-    """Writes START and the capture's records, and answers how many records that is."""
+def taken_of(arguments: argparse.Namespace, client: Client) -> Taken:
+    def own_port(number: int) -> int:
+        return FIRST_OWN_PORT + (client.w + number) % OWN_PORTS
+
+    return Taken(
+        device=client.mac,
+        longest_tick=arguments.tick,
+        begin=None if arguments.begin is None else int(arguments.begin * NANOSECONDS),
+        is_trimmed=arguments.trim,
+        until=None if arguments.until is None else int(arguments.until * 1000),
+        skips=arguments.skip,
+        fills=arguments.fix_checksums,
+        own_port=own_port if arguments.map_ports else None,
+    )
+
+
+def warn(line: str) -> None:
+    print(f"record.py: warning: {line}", file=sys.stderr)
+
+
+def silence(until: int, longest: int) -> Iterator[Tick]:
+    """TICKs alone, for this time in milliseconds."""
+    for now in range(0, until, longest):
+        yield Tick(min(longest, until - now))
+
+
+def write_without(arguments: argparse.Namespace, script: bytes) -> str:
+    """The recording of a script without a capture: START, and silence as far as --until says."""
+    client = client_of(arguments, None)
+    check_addresses(arguments, client)
+    start, number = start_of(arguments, client, script), 1
+    until = int((arguments.until or 0) * 1000)
+    with writing(arguments.recording, arguments.script) as stream:
+        stream.write(start)
+        for number, tick in enumerate(silence(until, arguments.tick), 2):
+            stream.write(spell(tick))
+    return count(number, "record")
+
+
+def write_with(arguments: argparse.Namespace, script: bytes, reader: Reader) -> str:
+    """The recording of a script and a capture; what is to be known of it goes to warnings."""
+    request = first_request(reader, arguments.mac)
+    client = client_of(arguments, request)
+    check_addresses(arguments, client)
+    if request and found(arguments, request, client):
+        print(f"record.py: {found(arguments, request, client)}", file=sys.stderr)
+    if client.ip != addresses.UNSET:
+        reader.known[client.ip.packed] = client.mac
+    start = start_of(arguments, client, script)
+    conversion = Conversion(reader, taken_of(arguments, client))
+    with writing(arguments.recording, arguments.script, arguments.capture) as stream:
+        number = write_records(start, conversion, stream)
+    for line in warnings(conversion, client.w):
+        warn(line)
+    return f"{count(number, 'record')}; {summary(conversion)}"
+
+
+def write_records(start: bytes, conversion: Conversion, stream: BinaryIO) -> int:
     stream.write(start)
+    number = 1
+    for number, record_ in enumerate(conversion.records(), 2):
+        stream.write(spell(record_))
+    return number
+
+
+def summary(conversion: Conversion) -> str:
+    met = conversion.met
+    parts = [f"{met.taken} of {count(met.packets, 'packet')}", f"{conversion.now / 1000:.3f} s"]
+    if conversion.taken.fills:
+        parts.append(f"checksums of {count(met.unfilled, 'frame')} filled in")
+    if conversion.taken.own_port:
+        parts.append(f"ports of {count(met.readdressed, 'frame')} changed")
+    return ", ".join(parts)
+
+
+def make(arguments: argparse.Namespace) -> str:
+    """Writes the recording, and returns what was written."""
+    if arguments.script == arguments.capture == STANDARD:
+        raise Refused("script and capture can't both be standard input")
+    script = read_script(arguments.script)
     if not arguments.capture:
-        return 1
-    packets = read_file(arguments.capture, read_capture)
-    count = 1
-    for count, record in enumerate(records_of(packets, arguments.mac, arguments.tick), 2):
-        stream.write(spell(record))
-    return count
+        return write_without(arguments, script)
+    with ExitStack() as stack:
+        path = stack.enter_context(reopenable(arguments.capture))
+        return write_with(arguments, script, Reader(path, arguments.capture, {}))
 
 
 def record(words: list[str]) -> None:
     arguments = parse(words)
-    try:
-        start = spell(start_of(arguments, arguments.script.read_bytes()))
-    except ValueError as refusal:
-        raise Refused(f"{arguments.script}: {refusal}") from refusal
-    with writing(arguments.recording) as stream:
-        count = write_recording(arguments, start, stream)
-    print(f"{arguments.recording}: {count} record{'' if count == 1 else 's'}")
+    said = make(arguments)
+    report(arguments.recording, f"{arguments.recording}: {said}")
 
 
 if __name__ == "__main__":

@@ -6,14 +6,14 @@ from __future__ import annotations
 import argparse
 import sys
 from pathlib import Path
-from typing import Iterable, Iterator
+from typing import BinaryIO, Iterable, Iterator
 
-from command_line import Refused, run
-from describe import Lines
-from frames import ends_of, packet_of
-from parts import write_parts
-from recordings import Timed, direction_of, input_of, output_of
-from records import (
+from shared.command_line import Refused, read_stream, run
+from shared.describe import Lines
+from shared.frames import ends_of, packet_of
+from shared.parts import write_parts
+from shared.recordings import Timed, input_of, open_recording, read_input, read_output
+from shared.records import (
     KINDS,
     Advance,
     Direction,
@@ -27,8 +27,8 @@ from records import (
     Text,
     Try,
 )
-from texts import printable
-from why import reasons
+from shared.texts import PrintedText
+from shared.why import reasons
 
 FIRST_OWN_PORT = 49_152
 OWN_PORTS = 16_384
@@ -45,7 +45,7 @@ examples:
   show.py hello.out --text                 what its commands printed
   show.py boot.out --type TRY --type ENDED only records of these types
   show.py boot.out --open 0                what belongs to its first open
-  show.py boot.out --input boot.rec --why  why commands failed
+  show.py boot.out --input boot.rec --why  how it ended, in a sentence, and why
   show.py boot.out --parts parts           writes kernel, initrds and command line into parts/"""
 
 
@@ -189,7 +189,7 @@ def add_reports(parser: argparse.ArgumentParser) -> None:
     reports.add_argument(
         "--why",
         action="store_true",
-        help="for each failed RESULT the records that show its cause",
+        help="how the run ended: a sentence, and then the records that show it",
     )
     reports.add_argument(
         "--parts",
@@ -206,35 +206,47 @@ def refuse_for_input(arguments: argparse.Namespace) -> None:
 
 
 def printed_texts(records: Iterable[Record]) -> Iterator[str]:
-    """What a run's commands printed, line by line, however its TEXT records cut it."""
-    line = b""
+    """What a run's commands printed, however its TEXT records cut it."""
+    text = PrintedText()
     for record in records:
         if isinstance(record, Text):
-            *lines, line = (line + record.text).split(b"\n")
-            yield from map(printable, lines)
-    if line:
-        yield printable(line)
+            yield text.of(record.text)
+    yield text.end()
 
 
-def report(arguments: argparse.Namespace) -> Iterable[str]:
-    """The lines that were asked for."""
-    if direction_of(arguments.recording) is Direction.INPUT:
-        refuse_for_input(arguments)
-        return input_lines(input_of(arguments.recording), arguments)
-    records = output_of(arguments.recording)
-    if arguments.text:
-        return printed_texts(records)
+def report(arguments: argparse.Namespace, records: Iterator[Record]) -> Iterable[str]:
+    """The lines on an output recording that were asked for."""
     if arguments.parts:
         return write_parts(records, arguments.parts)
-    if arguments.why:
-        return reasons(records, arguments.input)
     inputs = input_of(arguments.input) if arguments.input else None
     return output_lines(records, inputs, arguments)
 
 
-def show(words: list[str]) -> None:
-    for line in report(parse(words)):
+def show_output(arguments: argparse.Namespace, stream: BinaryIO) -> None:
+    path = arguments.recording
+    if arguments.why:
+        for line in reasons(path, stream, arguments.input):
+            print(line)
+        return
+    records = read_stream(path, stream, read_output)
+    if arguments.text:
+        for piece in printed_texts(records):
+            sys.stdout.write(piece)
+        return
+    for line in report(arguments, records):
         print(line)
+
+
+def show(words: list[str]) -> None:
+    arguments = parse(words)
+    path = arguments.recording
+    with open_recording(path) as (direction, stream):
+        if direction is Direction.OUTPUT:
+            show_output(arguments, stream)
+            return
+        refuse_for_input(arguments)
+        for line in input_lines(read_stream(path, stream, read_input), arguments):
+            print(line)
 
 
 if __name__ == "__main__":

@@ -23,6 +23,7 @@ run_from first mid after p r = record {
   path = r.path;
   closes = r.closes;
   texts = r.texts;
+  few = r.few;
 }
 
 over_from : (first mid after : Outside) (p : Passes first mid [] []) (r : Run mid after) (number : ℕ) → IsOver mid after r number → IsOver first after (run_from first mid after p r) number
@@ -46,8 +47,8 @@ attached_shows status.ReadFault first mid after p (r, o) = (
   },
 )
 attached_shows status.WriteFault first mid after p (r, o) =
-    (run_from first mid after p r, rose_later first.write_faults mid.write_faults after.write_faults p.counts.write_count o)
-attached_shows status.NoMemory first mid after p (r, o) = (run_from first mid after p r, tt)
+    (run_from first mid after p r, (rose_later first.write_faults mid.write_faults after.write_faults p.counts.write_count o.0, o.1))
+attached_shows status.NoMemory first mid after p (r, o) = (run_from first mid after p r, o)
 attached_shows status.AttachFault first mid after p (r, o) =
-    (run_from first mid after p r, (o.0, o.1, rose_later first.attach_faults mid.attach_faults after.attach_faults p.counts.attach_count o.2))
+    (run_from first mid after p r, (o.0, o.1, o.2, rose_later first.attach_faults mid.attach_faults after.attach_faults p.counts.attach_count o.3))
 attached_shows status.BadWords first mid after p (r, o) = absurd o

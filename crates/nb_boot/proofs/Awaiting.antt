@@ -6,7 +6,7 @@ use Rattle.nb_engine.specs.Machine.{Machine, Phase, ready, running, waiting, han
 use Rattle.nb_boot.specs.Run.{IsBadRest, Awaits}
 use Rattle.nb_boot.specs.Laws.{IsAtRest}
 use Rattle.nb_boot.proofs.Spelled.{HasUsed, path_used}
-use Rattle.nb_boot.proofs.Standing.{path_counts}
+use Rattle.nb_laws.proofs.Counts.{path_counts}
 
 pub begins_awaits : (m : Machine) (r : In) (added : List Out) (m' : Machine) → Begins m r added m' → (m.phase ≡ ready → ⊥) → Awaits m.phase
 begins_awaits m r added m' (runs n s valid plain) rises = absurd (rises refl)

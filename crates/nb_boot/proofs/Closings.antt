@@ -1,7 +1,7 @@
 -- How a run ends: what closes it and DONE are put, and the rest of the output is written, or is not.
-use Rattle.std.proofs.Common.{◌≡◌, ℕ, Bool, true, false, cond, List, [], ◌∷◌, ◌++◌, refl, sym, ◌∙◌, ap, append-nil, append_assoc}
+use Rattle.std.proofs.Common.{◌≡◌, ◌<◌, ◌≤◌, inl, inr, lit≤, arith, subst, length, length-append, ℕ, Bool, true, false, cond, List, [], ◌∷◌, ◌++◌, refl, sym, ◌∙◌, ap, append-nil, append_assoc}
 use Rattle.std.proofs.lemmas.Grind.{flat_map-append}
-use Rattle.nb_defs.specs.Records.{In, in_texts, Out, out_text, out_texts, done}
+use Rattle.nb_defs.specs.Records.{In, in_texts, Out, out_text, out_texts, record_text, done}
 use Rattle.nb_record.specs.Outside.{Outside, Passes, Rose}
 use Rattle.nb_record.specs.Logged.{Logged, Puts}
 use Rattle.nb_defs.specs.Causes.{is_ok_cause}
@@ -14,6 +14,7 @@ use Rattle.nb_boot.specs.Run.{Run, Shows, Says, HandsTheirs, IsOver, Ends, was_l
 use Rattle.nb_boot.specs.Going.{Going, Wrote, Stopped, IsFlaw, IsClosing, flaw_status}
 use Rattle.nb_boot.specs.declared.output.Flaw.{Flaw}
 use Rattle.nb_boot.specs.declared.output.Flaw.TheVariants as flaw
+use Rattle.nb_laws.proofs.Counts.{path_counts}
 use Rattle.nb_boot.proofs.Goings.{passes_wrote}
 use Rattle.nb_boot.proofs.BadRests.{ends_stay}
 use Rattle.nb_boot.proofs.Written.{rose_later}
@@ -47,6 +48,7 @@ whole_run ins held first before now log done_log m number r p e w c =
       spelled = refl;
       path = r.path;
       closes = is_over m held now number c;
+      few = subst (λ n. n ≤ 4294967295) (path_counts ins r.outs m r.path) r.few;
       texts = closing_texts r.outs (closing m number) (r.written ++ log.bytes) front ∙ append_assoc r.written log.bytes (out_texts (closing m number))
           ∙ ap (λ t. r.written ++ t) (sym put.1) ∙ sym (append-nil (r.written ++ done_log.bytes));
     }
@@ -72,9 +74,26 @@ stopped_end ins held first before now log done_log m number r p e s c =
       spelled = refl;
       path = r.path;
       closes = is_over m held now number c;
+      few = subst (λ n. n ≤ 4294967295) (path_counts ins r.outs m r.path) r.few;
       texts = closing_texts r.outs (closing m number) (r.written ++ log.bytes) front ∙ append_assoc r.written log.bytes (out_texts (closing m number))
           ∙ ap (λ t. r.written ++ t) (sym put.1 ∙ s.fronts) ∙ sym (append_assoc r.written s.part s.lost);
     }
+
+-- DONE has some bytes
+length-done : (number : ℕ) → length (out_text (done number)) ≡ 6
+unfolding out_text record_text
+length-done number = refl
+
+done_missing : (before : List ℕ) (m : Machine) (number : ℕ) → 0 < length (before ++ out_texts (closing m number))
+done_missing before m number =
+    omega (
+      arith,
+      length-append before (out_texts (closing m number)),
+      ap length (flat_map-append out_text (shutdown_records m.phase) (done number ∷ [])),
+      length-append (out_texts (shutdown_records m.phase)) (out_texts (done number ∷ [])),
+      length-append (out_text (done number)) [],
+      length-done number,
+    )
 
 -- a run whose output memory cut
 abbrev pub short_end : (ins : List In) (held : List ℕ) (first before now : Outside) (log : Logged) (m : Machine) (number : ℕ) →
@@ -92,6 +111,7 @@ short_end ins held first before now log m number r p c = record {
   spelled = refl;
   path = r.path;
   closes = is_over m held now number c;
+  few = subst (λ n. n ≤ 4294967295) (path_counts ins r.outs m r.path) r.few;
   texts = closing_texts r.outs (closing m number) ((r.written ++ log.bytes) ++ r.lost) r.texts
       ∙ ap (λ t. t ++ out_texts (closing m number)) (append_assoc r.written log.bytes r.lost)
       ∙ append_assoc r.written (log.bytes ++ r.lost) (out_texts (closing m number))
@@ -144,10 +164,10 @@ pub flaw_shows : (f : Flaw) (ins : List In) (held : List ℕ) (first before now 
     Ends m held before number → Shows (flaw_status f) first now
 flaw_shows flaw.WriteFault ins held first before now log done_log m number r p s c = (
   stopped_end ins held first before now log done_log m number r p s.0 s.1 (ends_stay m held s.1.part before now number s.1.passes c),
-  rose_later first.write_faults before.write_faults now.write_faults r.passes.counts.write_count s.1.rose,
+  (rose_later first.write_faults before.write_faults now.write_faults r.passes.counts.write_count s.1.rose, s.1.missing),
 )
 flaw_shows flaw.NoMemory ins held first before now log done_log m number r p s c =
-    (short_end ins held first before now log m number r s (ends_stay m held [] before now number s c), tt)
+    (short_end ins held first before now log m number r s (ends_stay m held [] before now number s c), inr (done_missing (log.bytes ++ r.lost) m number))
 
 -- memory ran out before anything was used
 pub no_memory_shows : (now : Outside) → Passes now now [] [] → Shows status.NoMemory now now
@@ -165,9 +185,10 @@ no_memory_shows now p = (
     spelled = refl;
     path = nothing;
     closes = goes_on fresh [] now;
+    few = lit≤ tt;
     texts = refl;
   },
-  tt,
+  inl refl,
 )
 
 -- nothing could be attached
@@ -186,7 +207,8 @@ unattached_shows init now p rose = (
     spelled = refl;
     path = nothing;
     closes = goes_on fresh [] now;
+    few = lit≤ tt;
     texts = refl;
   },
-  (refl, refl, rose),
+  (refl, refl, refl, rose),
 )

@@ -10,7 +10,7 @@ use Rattle.nb_boot.specs.Run.{Run, Shows, IsOther, IsFirst, BeginsWith, IsBadRes
 use Rattle.nb_boot.specs.Complete.{Completes, AreOthers}
 use Rattle.nb_engine.specs.declared.status.Status.{Status}
 use Rattle.nb_engine.specs.declared.status.Status.TheVariants as status
-use Rattle.nb_boot.proofs.Standing.{path_counts}
+use Rattle.nb_laws.proofs.Counts.{path_counts}
 use Rattle.nb_boot.proofs.Spelled.{path_in, path_used, HasUsed, Rest, spelled_rest, others_in, others_rest}
 
 -- what was read, and what is left, is what was left before
@@ -151,7 +151,7 @@ completes status.TooManyRecords before after (r, o) = λ s others valid a e some
       length-append r.ins t.rest.more,
     )
 completes status.ReadFault before after (r, o) = λ s others valid a e some none memory. none.read o.rose
-completes status.WriteFault before after (r, o) = λ s others valid a e some none memory. none.write o
+completes status.WriteFault before after (r, o) = λ s others valid a e some none memory. none.write o.0
 completes status.NoMemory before after (r, o) = λ s others valid a e some none memory. memory refl
-completes status.AttachFault before after (r, o) = λ s others valid a e some none memory. none.attach o.2
+completes status.AttachFault before after (r, o) = λ s others valid a e some none memory. none.attach o.3
 completes status.BadWords before after (r, o) = absurd o

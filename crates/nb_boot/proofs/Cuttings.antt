@@ -1,5 +1,5 @@
 -- How a run is cut short between two records of its output.
-use Rattle.std.proofs.Common.{ℕ, false, List, [], ◌++◌, refl, sym, ◌∙◌, ap, append-nil, append_assoc}
+use Rattle.std.proofs.Common.{◌≤◌, inl, arith, subst, length-append, ℕ, false, List, [], ◌++◌, refl, sym, ◌∙◌, ap, append-nil, append_assoc}
 use Rattle.nb_defs.specs.Records.{In, in_texts, IsPartial, out_texts}
 use Rattle.nb_record.specs.Outside.{Outside, Passes, Rose}
 use Rattle.nb_record.specs.Logged.{Logged}
@@ -10,6 +10,7 @@ use Rattle.nb_boot.specs.Run.{Run, Shows, IsBetween, goes_on}
 use Rattle.nb_boot.specs.Going.{Going, Stopped, IsFlaw, CutsAll, flaw_status}
 use Rattle.nb_boot.specs.declared.output.Flaw.{Flaw}
 use Rattle.nb_boot.specs.declared.output.Flaw.TheVariants as flaw
+use Rattle.nb_laws.proofs.Counts.{path_counts}
 use Rattle.nb_boot.proofs.Goings.{passes_wrote}
 use Rattle.nb_boot.proofs.Written.{rose_later}
 
@@ -29,6 +30,7 @@ stopped_run ins held first before now log m s r = record {
   spelled = refl;
   path = r.path;
   closes = goes_on m held now;
+  few = subst (λ n. n ≤ 4294967295) (path_counts ins r.outs m r.path) r.few;
   texts = ap out_texts (append-nil r.outs) ∙ r.texts ∙ ap (λ t. (r.written ++ t) ++ r.lost) s.fronts
       ∙ ap (λ t. t ++ r.lost) (sym (append_assoc r.written s.part s.lost)) ∙ append_assoc (r.written ++ s.part) s.lost r.lost;
 }
@@ -49,18 +51,21 @@ short_run ins held first before now log m p r = record {
   spelled = refl;
   path = r.path;
   closes = goes_on m held now;
+  few = subst (λ n. n ≤ 4294967295) (path_counts ins r.outs m r.path) r.few;
   texts = ap out_texts (append-nil r.outs) ∙ r.texts ∙ append_assoc r.written log.bytes r.lost ∙ ap (λ t. t ++ (log.bytes ++ r.lost)) (sym (append-nil r.written));
 }
 
 -- a log that couldn't be written out cuts a run short
 pub flaw_cuts : (f : Flaw) (before now : Outside) (log : Logged) → IsFlaw f before now log → CutsAll (flaw_status f) before now log
-flaw_cuts flaw.WriteFault before now log s = λ held ins first m r.
-    (stopped_run ins held first before now log m s.1 r, rose_later first.write_faults before.write_faults now.write_faults r.passes.counts.write_count s.1.rose)
-flaw_cuts flaw.NoMemory before now log p = λ held ins first m r. (short_run ins held first before now log m p r, tt)
+flaw_cuts flaw.WriteFault before now log s = λ held ins first m r. (
+  stopped_run ins held first before now log m s.1 r,
+  (rose_later first.write_faults before.write_faults now.write_faults r.passes.counts.write_count s.1.rose, omega (arith, s.1.missing, length-append s.1.lost r.lost)),
+)
+flaw_cuts flaw.NoMemory before now log p = λ held ins first m r. (short_run ins held first before now log m p r, inl refl)
 
 -- memory ran out in the client
 pub memory_shows : (ins : List In) (held : List ℕ) (first now : Outside) (log : Logged) (m : Machine) → Going ins held first now log m → Shows status.NoMemory first now
-memory_shows ins held first now log m r = (short_run ins held first now now log m (Passes-nothing now) r, tt)
+memory_shows ins held first now log m r = (short_run ins held first now now log m (Passes-nothing now) r, inl refl)
 
 -- a read failed behind a log that was written out
 pub unread_shows : (ins : List In) (held : List ℕ) (first before now : Outside) (room : ℕ) (m : Machine) → IsBetween m.phase → IsPartial held →
@@ -80,6 +85,7 @@ unread_shows ins held first before now room m between partial p rose r = (
     spelled = refl;
     path = r.path;
     closes = goes_on m held now;
+    few = subst (λ n. n ≤ 4294967295) (path_counts ins r.outs m r.path) r.few;
     texts = ap out_texts (append-nil r.outs) ∙ r.texts ∙ ap (λ t. (r.written ++ []) ++ t) (r.whole refl);
   },
   record {

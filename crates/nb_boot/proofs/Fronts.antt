@@ -7,7 +7,7 @@ use Rattle.nb_record.specs.Held.{IsFront}
 use Rattle.nb_engine.specs.Seen.{Seen}
 use Rattle.nb_engine.specs.declared.status.Status.{Status}
 use Rattle.nb_boot.specs.Run.{Shows, BeginsWith}
-use Rattle.nb_boot.specs.Going.{Goes, Waits, Holds, Leads, Stops, UsesNext}
+use Rattle.nb_boot.specs.Going.{Goes, Waits, KeepsRun, LeadsOn, Stops, UsesRecord, UsesNext}
 
 -- a record at the front, and what follows it
 pub front_texts : (bytes : List ℕ) (r : In) (len : ℕ) → IsFront bytes r len → bytes ≡ in_texts (r ∷ []) ++ drop len bytes
@@ -18,7 +18,7 @@ front_begins bytes r len Kind f k = record { entry = r; valid = f.valid; kind = 
 
 -- one record more was used
 pub waits_next : (r : In) (n : ℕ) (held held' : List ℕ) (first before now : Outside) (old new : Logged) (c c' : Seen) → held ≡ in_texts (r ∷ []) ++ held' →
-    Leads (r ∷ []) before now old new c c' → Waits n held first before old c → Waits (n + 1) held' first now new c'
+    LeadsOn (r ∷ []) before now old new c c' → Waits n held first before old c → Waits (n + 1) held' first now new c'
 waits_next r n held held' first before now old new c c' e l w = record {
   ins = w.ins ++ r ∷ [];
   counted = length-append w.ins (r ∷ []) ∙ ap (λ k. k + 1) w.counted;
@@ -31,7 +31,7 @@ pub waits_stops : (r : In) (n : ℕ) (held held' : List ℕ) (s : Status) (first
 waits_stops r n held held' s first before now old c e l w = l w.ins held' first (subst (λ xs. Goes w.ins xs first before old c) e w.goes)
 
 -- more was read, and output was written
-pub waits_filled : (n : ℕ) (held held' : List ℕ) (first before now : Outside) (old new : Logged) (c : Seen) → Holds held held' before now old new →
+pub waits_filled : (n : ℕ) (held held' : List ℕ) (first before now : Outside) (old new : Logged) (c : Seen) → KeepsRun held held' before now old new →
     Waits n held first before old c → Waits n held' first now new c
 waits_filled n held held' first before now old new c h w = record {
   ins = w.ins;
@@ -39,7 +39,24 @@ waits_filled n held held' first before now old new c h w = record {
   goes = record { machine = w.goes.machine; stands = w.goes.stands; going = h w.ins first w.goes.machine w.goes.going };
 }
 
-pub uses_filled : (r : Option Status) (a b d : List ℕ) (before mid now : Outside) (old log new : Logged) (c c' : Seen) → Holds a b before mid old log →
+pub uses_filled : (r : Option Status) (a b d : List ℕ) (before mid now : Outside) (old log new : Logged) (c c' : Seen) → KeepsRun a b before mid old log →
     UsesNext r b d mid now log new c c' → UsesNext r a d before now old new c c'
 uses_filled None a b d before mid now old log new c c' h u = (u.0, λ n first w. u.1 n first (waits_filled n a b first before mid old log c h w))
 uses_filled (Some s) a b d before mid now old log new c c' h u = λ n first w. u n first (waits_filled n a b first before mid old log c h w)
+
+-- the same for a client that is the one before
+pub waits_there : (n : ℕ) (held held' : List ℕ) (first before now : Outside) (old new : Logged) (c c' : Seen) → KeepsRun held held' before now old new → c' ≡ c →
+    Waits n held first before old c → Waits n held' first now new c'
+waits_there n held held' first before now old new c c' h same w =
+    waits_filled n held held' first before now old new c' h (subst (λ x. Waits n held first before old x) (sym same) w)
+
+pub uses_there : (r : Option Status) (a b d : List ℕ) (before mid now : Outside) (old log new : Logged) (c m c' : Seen) → KeepsRun a b before mid old log → m ≡ c →
+    UsesNext r b d mid now log new m c' → UsesNext r a d before now old new c c'
+uses_there r a b d before mid now old log new c m c' h same u =
+    uses_filled r a b d before mid now old log new c c' h (subst (λ x. UsesNext r b d mid now log new x c') same u)
+
+-- the record at the front was used
+pub uses_front : (r : Option Status) (e : In) (held held' : List ℕ) (before now : Outside) (old new : Logged) (c c' : Seen) → held ≡ in_texts (e ∷ []) ++ held' →
+    UsesRecord r e before now old new c c' → UsesNext r held held' before now old new c c'
+uses_front None e held held' before now old new c c' is u = (u.0, λ n first w. waits_next e n held held' first before now old new c c' is u.1 w)
+uses_front (Some s) e held held' before now old new c c' is u = λ n first w. waits_stops e n held held' s first before now old c is u w

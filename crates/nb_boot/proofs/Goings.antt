@@ -1,5 +1,5 @@
 -- How a run goes on, reads, and is written out.
-use Rattle.std.proofs.Common.{◌≡◌, ℕ, true, false, inl, inr, List, [], ◌∷◌, ◌++◌, length, refl, sym, ◌∙◌, ap, subst, arith, append-nil, append_assoc, length-append}
+use Rattle.std.proofs.Common.{◌≡◌, ◌≤◌, lit≤, ℕ, true, false, inl, inr, List, [], ◌∷◌, ◌++◌, length, refl, sym, ◌∙◌, ap, subst, arith, append-nil, append_assoc, length-append}
 use Rattle.std.proofs.lemmas.Grind.{flat_map-append}
 use Rattle.nb_defs.specs.Records.{In, in_text, in_texts, Out, out_text, out_texts}
 use Rattle.nb_record.specs.Outside.{Outside, Passes}
@@ -9,7 +9,9 @@ use Rattle.nb_engine.specs.Machine.{Machine, Path, uses, moves, fresh, nothing}
 use Rattle.nb_engine.specs.Seen.{Seen, StandsFor}
 use Rattle.nb_engine.specs.Turns.{Steps, Grows}
 use Rattle.nb_engine.proofs.Puts.{is_either}
-use Rattle.nb_boot.specs.Going.{Going, Goes, Wrote}
+use Rattle.nb_boot.specs.Going.{Going, Goes, Wrote, HasNumber}
+use Rattle.nb_laws.proofs.Counts.{begins_counts, move_counts}
+use Rattle.nb_boot.proofs.Standing.{stands_used}
 
 -- a list without elements
 no_length : (xs : List ℕ) → length xs ≡ 0 → xs ≡ []
@@ -40,15 +42,21 @@ end_of_front added part lost old new whole front fronts =
 read_again : (ins used : List In) (rest : List ℕ) → in_texts ins ++ (in_texts used ++ rest) ≡ in_texts (ins ++ used) ++ rest
 read_again ins used rest = sym (append_assoc (in_texts ins) (in_texts used) rest) ∙ ap (λ t. t ++ rest) (sym (flat_map-append in_text ins used))
 
+-- it numbers the record with 32 bits
+steps_few : (used : List In) (outs : List Out) (m m' : Machine) → Steps used m outs m' → HasNumber used m.used → m.used ≤ 4294967295 → m'.used ≤ 4294967295
+steps_few [] outs m m' s number few = subst (λ n. n ≤ 4294967295) (sym (move_counts m outs m' s)) few
+steps_few (r ∷ []) outs m m' s number few = omega (arith, begins_counts m r outs m' s, number)
+steps_few (r ∷ q ∷ rs) outs m m' s number few = absurd s
+
 -- the path goes on by a step
 path_steps : (used ins : List In) (outs added : List Out) (m m' : Machine) → Path ins outs m → Steps used m added m' → Path (ins ++ used) (outs ++ added) m'
 path_steps [] ins outs added m m' p s = subst (λ xs. Path xs (outs ++ added) m') (sym (append-nil ins)) (moves ins outs m added m' p s)
 path_steps (r ∷ []) ins outs added m m' p s = uses ins outs m r added m' p s
 path_steps (r ∷ q ∷ rs) ins outs added m m' p s = absurd s
 
-grows_whole : (used ins : List In) (rest : List ℕ) (first now : Outside) (old new : Logged) (c c' : Seen) (m : Machine) → old.is_short ≡ false → Grows used c c' old new →
+grows_whole : (used ins : List In) (rest : List ℕ) (first now : Outside) (old new : Logged) (c c' : Seen) (m : Machine) → old.is_short ≡ false → Grows used c c' old new → HasNumber used c.used →
     StandsFor c m → Going ins (in_texts used ++ rest) first now old m → Goes (ins ++ used) rest first now new c'
-grows_whole used ins rest first now old new c c' m e g st r =
+grows_whole used ins rest first now old new c c' m e g number st r =
     let none : r.lost ≡ [] = r.whole e in
     let start : out_texts r.outs ≡ (r.written ++ old.bytes) ++ [] = rw (← none) r.texts in
     let l = g.leads m st in
@@ -62,13 +70,14 @@ grows_whole used ins rest first now old new c c' m e g st r =
         passes = subst (λ xs. Passes first now xs r.written) (read_again ins used rest) r.passes;
         path = path_steps used ins r.outs g.added m l.machine r.path l.steps;
         texts = rw g.puts.appended (join_whole r.outs g.added r.written old.bytes g.puts.part g.puts.lost start g.puts.fronts);
+        few = steps_few used g.added m l.machine l.steps (subst (λ n. HasNumber used n) (sym (stands_used c m st)) number) r.few;
         whole = λ f. end_of_front g.added g.puts.part g.puts.lost old.bytes new.bytes (g.puts.whole f).1 g.puts.appended g.puts.fronts;
       };
     }
 
-grows_short : (used ins : List In) (rest : List ℕ) (first now : Outside) (old new : Logged) (c c' : Seen) (m : Machine) → old.is_short ≡ true → Grows used c c' old new →
+grows_short : (used ins : List In) (rest : List ℕ) (first now : Outside) (old new : Logged) (c c' : Seen) (m : Machine) → old.is_short ≡ true → Grows used c c' old new → HasNumber used c.used →
     StandsFor c m → Going ins (in_texts used ++ rest) first now old m → Goes (ins ++ used) rest first now new c'
-grows_short used ins rest first now old new c c' m e g st r =
+grows_short used ins rest first now old new c c' m e g number st r =
     let same : new ≡ old = g.puts.stays e in
     let short : new.is_short ≡ true = ap (λ (l : Logged). l.is_short) same ∙ e in
     let l = g.leads m st in
@@ -82,17 +91,18 @@ grows_short used ins rest first now old new c c' m e g st r =
         passes = subst (λ xs. Passes first now xs r.written) (read_again ins used rest) r.passes;
         path = path_steps used ins r.outs g.added m l.machine r.path l.steps;
         texts = rw (ap (λ (l : Logged). l.bytes) same) (join_short r.outs g.added r.written old.bytes r.lost r.texts);
+        few = steps_few used g.added m l.machine l.steps (subst (λ n. HasNumber used n) (sym (stands_used c m st)) number) r.few;
         whole = λ f. let no : true ≡ false = sym short ∙ f in cc;
       };
     }
 
 -- a run that goes on grows with its client
-pub going_grows : (used ins : List In) (rest : List ℕ) (first now : Outside) (old new : Logged) (c c' : Seen) → Grows used c c' old new →
+pub going_grows : (used ins : List In) (rest : List ℕ) (first now : Outside) (old new : Logged) (c c' : Seen) → Grows used c c' old new → HasNumber used c.used →
     Goes ins (in_texts used ++ rest) first now old c → Goes (ins ++ used) rest first now new c'
-going_grows used ins rest first now old new c c' g r =
+going_grows used ins rest first now old new c c' g number r =
     elim (is_either old.is_short) [
-      | inl e ↦ grows_short used ins rest first now old new c c' r.machine e g r.stands r.going
-      | inr e ↦ grows_whole used ins rest first now old new c c' r.machine e g r.stands r.going
+      | inl e ↦ grows_short used ins rest first now old new c c' r.machine e g number r.stands r.going
+      | inr e ↦ grows_whole used ins rest first now old new c c' r.machine e g number r.stands r.going
     ]
 
 -- nothing was read and written yet
@@ -104,6 +114,7 @@ going_fresh now log h = record {
   passes = Passes-nothing now;
   path = nothing;
   texts = rw h refl;
+  few = lit≤ tt;
   whole = λ _. refl;
 }
 
@@ -121,6 +132,7 @@ going_flushed ins held first before now log m room e w r = record {
   passes = passes_wrote first before now (in_texts ins ++ held) r.written log.bytes r.passes w;
   path = r.path;
   texts = r.texts ∙ ap (λ t. t ++ r.lost) (sym (append-nil (r.written ++ log.bytes)));
+  few = r.few;
   whole = λ _. r.whole e;
 }
 
@@ -136,5 +148,6 @@ going_read ins held bytes first before now log m p r = record {
       (Passes-then first before now (in_texts ins ++ held) r.written bytes [] r.passes p));
   path = r.path;
   texts = r.texts;
+  few = r.few;
   whole = r.whole;
 }

@@ -20,3 +20,8 @@ pub mod OneRuns
 pub mod Comparing
 pub mod Telling
 pub mod Histories
+pub mod Shut
+pub mod Showing
+mod PortLemmas
+mod PeerLemmas
+mod WordLemmas

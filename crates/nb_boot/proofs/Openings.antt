@@ -9,7 +9,7 @@ use Rattle.nb_engine.specs.Seen.{Seen, seen, StandsFor, as_ready}
 use Rattle.nb_engine.specs.Turns.{IsWaiting}
 use Rattle.nb_engine.specs.declared.stage.Stage.TheVariants as stage
 use Rattle.nb_engine.specs.declared.status.Status.{Status}
-use Rattle.nb_boot.specs.Going.{Holds, Leads, Stops, Opens, Refuses}
+use Rattle.nb_boot.specs.Going.{KeepsRun, LeadsOn, Stops, Opens, RefusesRun}
 
 -- a client before any record
 fresh_stands : (c : Seen) → c.used ≡ 0 → c.stage ≡ stage.Ready → StandsFor c fresh
@@ -18,22 +18,22 @@ fresh_stands c e h =
 
 -- START was used, and a command waits
 pub opens_used : (r : In) (rest : List ℕ) (before now : Outside) (old new : Logged) (c c' : Seen) → c.used ≡ 0 → c.stage ≡ stage.Ready →
-    IsWaiting c'.stage × Leads (r ∷ []) before now old new c c' → Opens (in_texts (r ∷ []) ++ rest) rest before now old new c'
+    IsWaiting c'.stage × LeadsOn (r ∷ []) before now old new c c' → Opens (in_texts (r ∷ []) ++ rest) rest before now old new c'
 opens_used r rest before now old new c c' e h (w, l) =
     (w, λ first g. record { ins = r ∷ []; counted = refl; goes = l [] rest first (record { machine = fresh; stands = fresh_stands c e h; going = g }) })
 
 -- the run is over in START's step
 pub refuses_used : (r : In) (rest : List ℕ) (s : Status) (before now : Outside) (old : Logged) (c : Seen) → c.used ≡ 0 → c.stage ≡ stage.Ready →
-    Stops s (r ∷ []) before now old c → Refuses s (in_texts (r ∷ []) ++ rest) before now old
+    Stops s (r ∷ []) before now old c → RefusesRun s (in_texts (r ∷ []) ++ rest) before now old
 refuses_used r rest s before now old c e h l = λ first g. l [] rest first (record { machine = fresh; stands = fresh_stands c e h; going = g })
 
 -- what was read before
-pub opens_filled : (r : Result Seen Status) (a b d : List ℕ) (before mid now : Outside) (old log new : Logged) → Holds a b before mid old log →
+pub opens_filled : (r : Result Seen Status) (a b d : List ℕ) (before mid now : Outside) (old log new : Logged) → KeepsRun a b before mid old log →
     IfOk r (λ c. Opens b d mid now log new c) → IfOk r (λ c. Opens a d before now old new c)
 opens_filled (Ok c) a b d before mid now old log new h o = (o.0, λ first g. o.1 first (h [] first fresh g))
 opens_filled (Err s) a b d before mid now old log new h o = tt
 
-pub refuses_filled : (r : Result Seen Status) (a b : List ℕ) (before mid now : Outside) (old log : Logged) → Holds a b before mid old log →
-    IfErr r (λ s. Refuses s b mid now log) → IfErr r (λ s. Refuses s a before now old)
+pub refuses_filled : (r : Result Seen Status) (a b : List ℕ) (before mid now : Outside) (old log : Logged) → KeepsRun a b before mid old log →
+    IfErr r (λ s. RefusesRun s b mid now log) → IfErr r (λ s. RefusesRun s a before now old)
 refuses_filled (Ok c) a b before mid now old log h o = tt
 refuses_filled (Err s) a b before mid now old log h o = λ first g. o first (h [] first fresh g)

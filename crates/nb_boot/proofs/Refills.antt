@@ -4,8 +4,8 @@ use Rattle.nb_defs.specs.Records.{IsPartial}
 use Rattle.nb_record.specs.Outside.{Outside, Passes, Rose, IsAtEnd}
 use Rattle.nb_record.specs.Logged.{Logged}
 use Rattle.nb_record.specs.Bytes.{Held}
-use Rattle.nb_boot.specs.Fetch.{Brings}
-use Rattle.nb_boot.specs.Going.{Going, Wrote, Holds, Fills}
+use Rattle.nb_boot.specs.Fetch.{BringsBytes}
+use Rattle.nb_boot.specs.Going.{Going, Wrote, KeepsRun, Fills}
 use Rattle.nb_boot.specs.declared.feeding.Filled.{Filled}
 use Rattle.nb_boot.specs.declared.feeding.Filled.TheVariants as filled
 use Rattle.nb_boot.proofs.Goings.{going_flushed, going_read}
@@ -16,7 +16,7 @@ abbrev pub emptied : Logged → Logged
 emptied log = record { bytes = []; room = log.room; is_short = false }
 
 pub refill_more : (old new : Held) (before mid now : Outside) (log log' : Logged) → log.is_short ≡ false → Wrote before mid log.bytes → log' ≡ emptied log →
-    Brings old new mid now → Holds old.bytes new.bytes before now log log'
+    BringsBytes old new mid now → KeepsRun old.bytes new.bytes before now log log'
 refill_more old new before mid now log log' e w cleared b = λ ins first m r.
     let flushed : Going ins old.bytes first mid log' m =
     subst (λ l. Going ins old.bytes first mid l m) (sym cleared) (going_flushed ins old.bytes first before mid log m log.room e w r) in
@@ -40,7 +40,7 @@ refill_fault old new before mid now log log' e w partial (same, p, rose) = λ in
     unread_shows ins old.bytes first mid now log.room m between partial p rose (going_flushed ins old.bytes first before mid log m log.room e w r)
 
 -- a read behind others
-pub fills_then : (f : Filled) (a b d : List ℕ) (before mid now : Outside) (old log new : Logged) → Holds a b before mid old log → Fills f b d mid now log new →
+pub fills_then : (f : Filled) (a b d : List ℕ) (before mid now : Outside) (old log new : Logged) → KeepsRun a b before mid old log → Fills f b d mid now log new →
     Fills f a d before now old new
 fills_then filled.More a b d before mid now old log new h f = λ ins first m r. f ins first m (h ins first m r)
 fills_then filled.Ended a b d before mid now old log new h f = (λ ins first m r. f.0 ins first m (h ins first m r), f.1, f.2)

@@ -1,9 +1,10 @@
 -- What is known of the machine's state for which a client stands.
-use Rattle.std.proofs.Common.{◌≡◌, ℕ, ◌+◌, ◌<◌, ◌⊎◌, List, [], ◌∷◌, ◌++◌, length, refl, sym, ◌∙◌, ap, arith, length-append}
-use Rattle.nb_defs.specs.Records.{In, start, frame, tick, off, Out, IsPartial, IsBroken, ended, done}
+use Rattle.std.proofs.Common.{◌≡◌, ℕ, ◌<◌, ◌⊎◌, List, [], ◌∷◌, ◌++◌, length, refl, sym, ◌∙◌, ap}
+use Rattle.nb_defs.specs.Records.{In, start, frame, tick, off, IsPartial, IsBroken, ended, done}
 use Rattle.nb_record.specs.Outside.{Outside, IsAtEnd}
 use Rattle.nb_record.specs.Logged.{Logged}
-use Rattle.nb_engine.specs.Machine.{Machine, Path, nothing, uses, moves, Begins, runs, refuses, passes_by, brings, passes_time, switches_off, Move, passes, does, leaves, asks_for, finds_no_route, ends, hands, has_handed, shutdown_records, stopped_cause}
+use Rattle.nb_laws.proofs.Counts.{path_counts}
+use Rattle.nb_engine.specs.Machine.{Machine, shutdown_records, stopped_cause}
 use Rattle.nb_engine.specs.Seen.{Seen, StandsFor, as_ready, as_running, as_waiting, as_handing, as_left, as_handed_off, as_stopped}
 use Rattle.nb_engine.specs.StatusNumber.{number_of}
 use Rattle.nb_engine.specs.Turns.{IsEnd, IsWaiting, IsOverWith, MayUse, closing_records}
@@ -22,31 +23,6 @@ stands_used c m (as_handing n w h rest e) = refl
 stands_used c m (as_left n w cause) = refl
 stands_used c m (as_handed_off n w) = refl
 stands_used c m (as_stopped n w) = refl
-
-begins_counts : (m : Machine) (r : In) (added : List Out) (m' : Machine) → Begins m r added m' → m'.used ≡ m.used + 1
-begins_counts m r added m' (runs n s valid plain) = refl
-begins_counts m r added m' (refuses n s valid plain) = refl
-begins_counts m r added m' (passes_by n w s o bytes reply seen net valid t h) = refl
-begins_counts m r added m' (brings n w s o bytes reply seen net port body added' phase valid t h k) = refl
-begins_counts m r added m' (passes_time n w s o ms added' phase valid h) = refl
-begins_counts m r added m' (switches_off n w s o) = refl
-
-move_counts : (m : Machine) (added : List Out) (m' : Machine) → Move m added m' → m'.used ≡ m.used
-move_counts m added m' (passes n w s line h g) = refl
-move_counts m added m' (does n w s line x xs o h g k l) = refl
-move_counts m added m' (leaves n w s line x xs o h g k l) = refl
-move_counts m added m' (asks_for n w s line x xs wanted h g k l) = refl
-move_counts m added m' (finds_no_route n w s line x xs wanted h g k l) = refl
-move_counts m added m' (ends n w s h) = refl
-move_counts m added m' (hands n r rest) = refl
-move_counts m added m' (has_handed n) = refl
-
--- the machine counts the records used
-pub path_counts : (ins : List In) (outs : List Out) (m : Machine) → Path ins outs m → m.used ≡ length ins
-path_counts ins outs m nothing = refl
-path_counts ins outs m (uses ins' outs' m0 r added m' p b) =
-    omega (arith, begins_counts m0 r added m' b, path_counts ins' outs' m0 p, length-append ins' (r ∷ []))
-path_counts ins outs m (moves ins' outs' m0 added m' p b) = move_counts m0 added m' b ∙ path_counts ins' outs' m0 p
 
 -- so does its client
 pub goes_counts : (ins : List In) (held : List ℕ) (first now : Outside) (log : Logged) (c : Seen) → Goes ins held first now log c → c.used ≡ length ins

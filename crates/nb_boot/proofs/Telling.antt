@@ -15,7 +15,7 @@ use Rattle.nb_boot.proofs.Awaiting.{awaits_rests, bad_awaits, not_ready}
 use Rattle.nb_boot.proofs.OneRun.{path_unused}
 use Rattle.nb_boot.proofs.OneRuns.{one_run_on}
 use Rattle.nb_boot.proofs.Spelled.{AreIn, path_in}
-use Rattle.nb_boot.proofs.Standing.{path_counts}
+use Rattle.nb_laws.proofs.Counts.{path_counts}
 use Rattle.nb_boot.proofs.Comparing.{Compared, equal, longer, shorter, compare, Passed, passed, starts}
 
 -- bytes that begin with a record are some
@@ -166,7 +166,7 @@ completes_run status.Unfinished before after (r, o) = λ ins more outs m number 
 completes_run status.BadRecord before after (r, o) = λ ins more outs m number few e path says some none memory. over before after r 6 o.ends ins more outs m number few e path says some
 completes_run status.TooManyRecords before after (r, o) = λ ins more outs m number few e path says some none memory. over before after r 11 o.ends ins more outs m number few e path says some
 completes_run status.ReadFault before after (r, o) = λ ins more outs m number few e path says some none memory. absurd (none.read o.rose)
-completes_run status.WriteFault before after (r, o) = λ ins more outs m number few e path says some none memory. absurd (none.write o)
+completes_run status.WriteFault before after (r, o) = λ ins more outs m number few e path says some none memory. absurd (none.write o.0)
 completes_run status.NoMemory before after (r, o) = λ ins more outs m number few e path says some none memory. absurd (memory refl)
-completes_run status.AttachFault before after (r, o) = λ ins more outs m number few e path says some none memory. absurd (none.attach o.2)
+completes_run status.AttachFault before after (r, o) = λ ins more outs m number few e path says some none memory. absurd (none.attach o.3)
 completes_run status.BadWords before after (r, o) = absurd o

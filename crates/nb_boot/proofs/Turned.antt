@@ -8,7 +8,7 @@ use Rattle.nb_engine.specs.Turns.{Grows, Acts, IsEnd, IsOverWith}
 use Rattle.nb_engine.specs.declared.status.Status.{Status}
 use Rattle.nb_engine.specs.declared.status.Status.TheVariants as status
 use Rattle.nb_engine.specs.declared.client.Turn.TheVariants as turn
-use Rattle.nb_boot.specs.Going.{Goes, Holds, CutsAll, Leads, Stops, StepsTo, IsEndOf, flaw_status}
+use Rattle.nb_boot.specs.Going.{Goes, KeepsRun, CutsAll, LeadsOn, Stops, StepsTo, IsEndOf, HasNumber, flaw_status}
 use Rattle.nb_boot.specs.declared.output.Flaw.{Flaw}
 use Rattle.nb_boot.specs.declared.play.StepEnd.{StepEnd}
 use Rattle.nb_boot.specs.declared.play.StepEnd.TheVariants as ending
@@ -20,7 +20,7 @@ abbrev pub Keeps : Outside → Outside → Logged → Logged → Seen → Seen �
 Keeps before now old new c c' = (ins : List In) (held : List ℕ) (first : Outside) → Goes ins held first before old c → Goes ins held first now new c'
 
 -- a log that was written out keeps a run
-pub keeps_log : (before now : Outside) (old new : Logged) (c : Seen) → ((held : List ℕ) → Holds held held before now old new) → Keeps before now old new c c
+pub keeps_log : (before now : Outside) (old new : Logged) (c : Seen) → ((held : List ℕ) → KeepsRun held held before now old new) → Keeps before now old new c c
 keeps_log before now old new c h = λ ins held first g. record { machine = g.machine; stands = g.stands; going = h held ins first g.machine g.going }
 
 -- one after the other
@@ -29,12 +29,12 @@ keeps_then a b d old mid new c c1 c' k l = λ ins held first g. l ins held first
 
 -- a growth by no record keeps the records used
 pub grow_keeps : (now : Outside) (old new : Logged) (c c' : Seen) → Grows [] c c' old new → Keeps now now old new c c'
-grow_keeps now old new c c' g = λ ins held first r. subst (λ xs. Goes xs held first now new c') (append-nil ins) (going_grows [] ins held first now old new c c' g r)
+grow_keeps now old new c c' g = λ ins held first r. subst (λ xs. Goes xs held first now new c') (append-nil ins) (going_grows [] ins held first now old new c c' g tt r)
 
 -- a run that was kept, and then led on
-pub keeps_leads : (used : List In) (before now : Outside) (old mid new : Logged) (c c1 c' : Seen) → Keeps before now old mid c c1 → Grows used c1 c' mid new →
-    Leads used before now old new c c'
-keeps_leads used before now old mid new c c1 c' k g = λ ins rest first r. going_grows used ins rest first now mid new c1 c' g (k ins (in_texts used ++ rest) first r)
+pub keeps_leads : (used : List In) (before now : Outside) (old mid new : Logged) (c c1 c' : Seen) → Keeps before now old mid c c1 → Grows used c1 c' mid new → HasNumber used c1.used →
+    LeadsOn used before now old new c c'
+keeps_leads used before now old mid new c c1 c' k g number = λ ins rest first r. going_grows used ins rest first now mid new c1 c' g number (k ins (in_texts used ++ rest) first r)
 
 -- a turn that ended the run, memory aside
 over_acts : (s : Status) (used : List In) (c c' : Seen) (old new : Logged) → (s ≡ status.NoMemory → ⊥) → Acts (turn.Over s) used c c' old new →
@@ -53,13 +53,13 @@ over_acts status.TooManyRecords used c c' old new ne a = a
 
 -- the run is over, or memory ran out, behind one that went on
 pub over_steps : (e : StepEnd) (s : Status) (used : List In) (before now : Outside) (old mid new : Logged) (c c1 c' : Seen) → Keeps before now old mid c c1 →
-    Acts (turn.Over s) used c1 c' mid new → IsEndOf s e → StepsTo e used before now old new c c'
-over_steps ending.Waits s used before now old mid new c c1 c' k a e = absurd e
-over_steps (ending.Over t) s used before now old mid new c c1 c' k a e =
+    Acts (turn.Over s) used c1 c' mid new → HasNumber used c1.used → IsEndOf s e → StepsTo e used before now old new c c'
+over_steps ending.Waits s used before now old mid new c c1 c' k a number e = absurd e
+over_steps (ending.Over t) s used before now old mid new c c1 c' k a number e =
     let d = over_acts s used c1 c' mid new e.1 a in
-    let P : Status → Type 0 = λ x. IsEnd x × IsOverWith c'.stage x × Leads used before now old new c c' in
-    subst P (sym e.0) (d.0, d.2, keeps_leads used before now old mid new c c1 c' k d.1)
-over_steps (ending.Cut f) s used before now old mid new c c1 c' k a e =
+    let P : Status → Type 0 = λ x. IsEnd x × IsOverWith c'.stage x × LeadsOn used before now old new c c' in
+    subst P (sym e.0) (d.0, d.2, keeps_leads used before now old mid new c c1 c' k d.1 number)
+over_steps (ending.Cut f) s used before now old mid new c c1 c' k a number e =
     let P : Flaw → Type 0 = λ x. Stops (flaw_status x) used before now old c in
     subst P (sym e.1) (λ ins rest first r.
     let g = k ins (in_texts used ++ rest) first r in memory_shows ins (in_texts used ++ rest) first now mid g.machine g.going)
@@ -75,7 +75,7 @@ pub keeps_nothing : (now : Outside) (log : Logged) (c : Seen) → Keeps now now 
 keeps_nothing now log c = λ ins held first r. r
 
 -- the step goes on behind the record that was used
-pub after_steps : (e : StepEnd) (used : List In) (before mid now : Outside) (old log new : Logged) (c c1 c' : Seen) → Leads used before mid old log c c1 →
+pub after_steps : (e : StepEnd) (used : List In) (before mid now : Outside) (old log new : Logged) (c c1 c' : Seen) → LeadsOn used before mid old log c c1 →
     StepsTo e [] mid now log new c1 c' → StepsTo e used before now old new c c'
 after_steps ending.Waits used before mid now old log new c c1 c' l s =
     (s.0, λ ins rest first r. subst (λ xs. Goes xs rest first now new c') (append-nil (ins ++ used)) (s.1 (ins ++ used) rest first (l ins rest first r)))

@@ -8,8 +8,9 @@ use Rattle.nb_engine.specs.StatusNumber.{number_of}
 use Rattle.nb_engine.specs.Turns.{IsWaiting}
 use Rattle.nb_engine.specs.declared.status.Status.{Status}
 use Rattle.nb_boot.specs.Run.{IsFirst, BeginsWith, Ends, ran_out, was_bad, was_full}
-use Rattle.nb_boot.specs.Going.{Waits, IsAtRest, IsClosing}
-use Rattle.nb_boot.proofs.Standing.{stands_used, stands_awaits, stands_bad, path_counts}
+use Rattle.nb_boot.specs.Going.{Waits, IsEndStatus, IsClosing}
+use Rattle.nb_boot.proofs.Standing.{stands_used, stands_awaits, stands_bad}
+use Rattle.nb_laws.proofs.Counts.{path_counts}
 
 -- no record may come
 pub waits_bad : (n : ℕ) (held : List ℕ) (first now : Outside) (log : Logged) (c : Seen) (w : Waits n held first now log c) → IsWaiting c.stage → c.used < 4294967295 →
@@ -30,13 +31,13 @@ waits_full held first now log c w h some =
 
 -- the input ended
 pub waits_end : (s : Status) (n : ℕ) (held : List ℕ) (first now : Outside) (log : Logged) (c : Seen) (w : Waits n held first now log c) → IsWaiting c.stage →
-    c.used < 4294967295 → IsPartial held → IsAtEnd now → IsAtRest s held → Ends w.goes.machine held now (number_of s)
+    c.used < 4294967295 → IsPartial held → IsAtEnd now → IsEndStatus s held → Ends w.goes.machine held now (number_of s)
 waits_end s n [] first now log c w h few partial end e = rw e (waits_out n [] first now log c w h refl end)
 waits_end s n (b ∷ bytes) first now log c w h few partial end e =
     rw e (waits_bad n (b ∷ bytes) first now log c w h few (inr (inr (partial, omega arith, end))))
 
 -- DONE tells the end of an input
-pub rest_closes : (s : Status) (held : List ℕ) → IsAtRest s held → IsClosing s
+pub rest_closes : (s : Status) (held : List ℕ) → IsEndStatus s held → IsClosing s
 rest_closes s [] e = rw e tt
 rest_closes s (b ∷ bytes) e = rw e tt
 

@@ -1,5 +1,5 @@
 -- Writing bytes piece by piece.
-use Rattle.std.proofs.Common.{◌≡◌, ℕ, ◌+◌, ◌-◌, ◌≤◌, List, [], ◌++◌, length, take, drop, sym, ◌∙◌, ap, subst, arith, append-nil, take-add, Result, Ok, Err}
+use Rattle.std.proofs.Common.{◌≡◌, ℕ, ◌+◌, ◌-◌, ◌≤◌, ◌<◌, List, [], ◌++◌, length, take, drop, sym, ◌∙◌, ap, subst, arith, append-nil, take-add, Result, Ok, Err}
 use Rattle.std.specs.Prelude.{OnErr}
 use Rattle.std.proofs.lemmas.List.{take_all, take-append-drop, length-drop}
 use Rattle.nb_record.specs.Outside.{Outside, Passes, Writes, Rose}
@@ -27,11 +27,12 @@ pub rose_later : (a b c : ℕ) → a ≤ b → Rose b c → Rose a c
 rose_later a b c h r = omega arith
 
 -- a write that failed stops the bytes there
-pub stopped_there : (a b c : Outside) (bytes : List ℕ) (at : ℕ) → Passes a b [] (take at bytes) → Writes b c [] → Rose b.write_faults c.write_faults → Stopped a c bytes
-stopped_there a b c bytes at p w r = record {
+pub stopped_there : (a b c : Outside) (bytes : List ℕ) (at : ℕ) → at < length bytes → Passes a b [] (take at bytes) → Writes b c [] → Rose b.write_faults c.write_faults → Stopped a c bytes
+stopped_there a b c bytes at left_some p w r = record {
   part = take at bytes ++ [];
   lost = drop at bytes;
   fronts = sym (take-append-drop at bytes) ∙ ap (λ t. t ++ drop at bytes) (sym (append-nil (take at bytes)));
+  missing = omega (arith, length-drop at bytes, left_some);
   passes = Passes-then a b c [] (take at bytes) [] [] p (Writes-passes b c [] w);
   rose = rose_later a.write_faults b.write_faults c.write_faults p.counts.write_count r;
 }

@@ -7,14 +7,14 @@ use Rattle.nb_boot.specs.declared.feeding.Fetched.{Fetched}
 use Rattle.nb_boot.specs.declared.feeding.Fetched.TheVariants as fetched
 
 -- more bytes were read, and are held behind the others
-pub record Brings (old new : Held) (before now : Outside) : Type 0 where
+pub record BringsBytes (old new : Held) (before now : Outside) : Type 0 where
   pub bytes : List ℕ
   pub held : new.bytes ≡ old.bytes ++ bytes
   pub some : 0 < length bytes
   pub passes : Passes before now bytes []
 
 abbrev pub Fetches : Fetched → Held → Held → Outside → Outside → Type 0
-Fetches fetched.More old new before now = Brings old new before now
+Fetches fetched.More old new before now = BringsBytes old new before now
 Fetches fetched.Ended old new before now = (new ≡ old) × Passes before now [] [] × IsAtEnd now
 Fetches fetched.Fault old new before now = (new ≡ old) × Passes before now [] [] × Rose before.read_faults now.read_faults
 

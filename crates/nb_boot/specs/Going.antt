@@ -1,5 +1,5 @@
 -- A run that goes on: what was read and written, what the log still holds, and what its client stands for.
-use Rattle.std.specs.Prelude.{◌≡◌, ℕ, ◌+◌, Bool, true, false, List, [], ◌∷◌, ◌++◌, length, Option, Some, None}
+use Rattle.std.specs.Prelude.{◌≡◌, ◌<◌, ◌≤◌, ℕ, ◌+◌, Bool, true, false, List, [], ◌∷◌, ◌++◌, length, Option, Some, None}
 use Rattle.nb_defs.specs.Records.{In, in_texts, Out, out_texts, IsPartial}
 use Rattle.nb_engine.specs.Machine.{Machine, Path, fresh}
 use Rattle.nb_engine.specs.Seen.{Seen, StandsFor}
@@ -26,6 +26,7 @@ pub record Going (ins : List In) (held : List ℕ) (first now : Outside) (log : 
   pub path : Path ins outs m
   pub texts : out_texts outs ≡ (written ++ log.bytes) ++ lost
   pub whole : log.is_short ≡ false → lost ≡ []
+  pub few : m.used ≤ 4294967295
 
 -- a run that goes on with a client, which stands for its state
 pub record Goes (ins : List In) (held : List ℕ) (first now : Outside) (log : Logged) (c : Seen) : Type 0 where
@@ -48,11 +49,12 @@ flaw_status flaw.NoMemory = status.NoMemory
 abbrev pub Wrote : Outside → Outside → List ℕ → Type 0
 Wrote before after bytes = Passes before after [] bytes
 
--- a front of the bytes was written, and then a write failed
+-- a front of the bytes was written, and then a write failed: the others weren't
 pub record Stopped (before after : Outside) (bytes : List ℕ) : Type 0 where
   pub part : List ℕ
   pub lost : List ℕ
   pub fronts : bytes ≡ part ++ lost
+  pub missing : 0 < length lost
   pub passes : Passes before after [] part
   pub rose : Rose before.write_faults after.write_faults
 
@@ -62,8 +64,8 @@ IsFlaw flaw.WriteFault before after log = (log.is_short ≡ false) × Stopped be
 IsFlaw flaw.NoMemory before after log = Passes before after [] []
 
 -- whatever run went on before, it goes on afterwards, with this held of what was read
-abbrev pub Holds : List ℕ → List ℕ → Outside → Outside → Logged → Logged → Type 0
-Holds held held' before now old new =
+abbrev pub KeepsRun : List ℕ → List ℕ → Outside → Outside → Logged → Logged → Type 0
+KeepsRun held held' before now old new =
     (ins : List In) (first : Outside) (m : Machine) → Going ins held first before old m → Going ins held' first now new m
 
 -- whatever run went on before, this is its status
@@ -76,15 +78,20 @@ CutsAll s before now old = (held : List ℕ) → Cuts s held before now old
 
 -- what a read brings to a run between two steps
 abbrev pub Fills : Filled → List ℕ → List ℕ → Outside → Outside → Logged → Logged → Type 0
-Fills filled.More held held' before now old new = Holds held held' before now old new
-Fills filled.Ended held held' before now old new = Holds held held' before now old new × IsPartial held' × IsAtEnd now
+Fills filled.More held held' before now old new = KeepsRun held held' before now old new
+Fills filled.Ended held held' before now old new = KeepsRun held held' before now old new × IsPartial held' × IsAtEnd now
 Fills filled.Fault held held' before now old new =
     (ins : List In) (first : Outside) (m : Machine) → IsBetween m.phase → Going ins held first before old m → Shows status.ReadFault first now
 Fills (filled.Cut f) held held' before now old new = Cuts (flaw_status f) held before now old
 
+-- a record has a number of 32 bits
+abbrev pub HasNumber : List In → ℕ → Type 0
+HasNumber [] count = Unit {0}
+HasNumber (r ∷ rs) count = count < 4294967295
+
 -- From a client to another, by these records of those held: whatever run went on before goes on afterwards.
-abbrev pub Leads : List In → Outside → Outside → Logged → Logged → Seen → Seen → Type 0
-Leads used before now old new c c' =
+abbrev pub LeadsOn : List In → Outside → Outside → Logged → Logged → Seen → Seen → Type 0
+LeadsOn used before now old new c c' =
     (ins : List In) (rest : List ℕ) (first : Outside) → Goes ins (in_texts used ++ rest) first before old c → Goes (ins ++ used) rest first now new c'
 
 -- whatever run of a client went on before, with these records held, this is its status
@@ -94,8 +101,8 @@ Stops s used before now old c =
 
 -- how a step ends, with these records used: a command waits, the run is over, or it was cut short
 abbrev pub StepsTo : StepEnd → List In → Outside → Outside → Logged → Logged → Seen → Seen → Type 0
-StepsTo ending.Waits used before now old new c c' = IsWaiting c'.stage × Leads used before now old new c c'
-StepsTo (ending.Over s) used before now old new c c' = IsEnd s × IsOverWith c'.stage s × Leads used before now old new c c'
+StepsTo ending.Waits used before now old new c c' = IsWaiting c'.stage × LeadsOn used before now old new c c'
+StepsTo (ending.Over s) used before now old new c c' = IsEnd s × IsOverWith c'.stage s × LeadsOn used before now old new c c'
 StepsTo (ending.Cut f) used before now old new c c' = Stops (flaw_status f) used before now old c
 
 -- a turn's status: the run's, or want of memory
@@ -105,9 +112,9 @@ IsEndOf s (ending.Over t) = (t ≡ s) × (s ≡ status.NoMemory → ⊥)
 IsEndOf s (ending.Cut f) = (s ≡ status.NoMemory) × (f ≡ flaw.NoMemory)
 
 -- a record was used and a command waits, or the run is over with this status
-abbrev pub Uses : Option Status → In → Outside → Outside → Logged → Logged → Seen → Seen → Type 0
-Uses None r before now old new c c' = IsWaiting c'.stage × Leads (r ∷ []) before now old new c c'
-Uses (Some s) r before now old new c c' = Stops s (r ∷ []) before now old c
+abbrev pub UsesRecord : Option Status → In → Outside → Outside → Logged → Logged → Seen → Seen → Type 0
+UsesRecord None r before now old new c c' = IsWaiting c'.stage × LeadsOn (r ∷ []) before now old new c c'
+UsesRecord (Some s) r before now old new c c' = Stops s (r ∷ []) before now old c
 
 -- one record more was used and a command waits, or the run is over with this status
 abbrev pub UsesNext : Option Status → List ℕ → List ℕ → Outside → Outside → Logged → Logged → Seen → Seen → Type 0
@@ -131,8 +138,8 @@ abbrev pub Opens : List ℕ → List ℕ → Outside → Outside → Logged → 
 Opens held held' before now old new c = IsWaiting c.stage × ((first : Outside) → Going [] held first before old fresh → Waits 1 held' first now new c)
 
 -- the run is over, before START or in its step
-abbrev pub Refuses : Status → List ℕ → Outside → Outside → Logged → Type 0
-Refuses s held before now old = (first : Outside) → Going [] held first before old fresh → Shows s first now
+abbrev pub RefusesRun : Status → List ℕ → Outside → Outside → Logged → Type 0
+RefusesRun s held before now old = (first : Outside) → Going [] held first before old fresh → Shows s first now
 
 -- whether a record is a START
 abbrev pub TellsFirst : Bool → In → Type 0
@@ -140,6 +147,6 @@ TellsFirst true r = IsFirst r
 TellsFirst false r = IsOther r
 
 -- the status of a run whose input ended where a command waits: no byte is left, or a front of a record
-abbrev pub IsAtRest : Status → List ℕ → Type 0
-IsAtRest s [] = s ≡ status.Unfinished
-IsAtRest s (b ∷ bytes) = s ≡ status.BadRecord
+abbrev pub IsEndStatus : Status → List ℕ → Type 0
+IsEndStatus s [] = s ≡ status.Unfinished
+IsEndStatus s (b ∷ bytes) = s ≡ status.BadRecord

@@ -4,4 +4,5 @@ pub mod Going
 pub mod Fetch
 pub mod Complete
 pub mod Laws
-pub mod Told
+pub mod Shown
+pub mod Lawful

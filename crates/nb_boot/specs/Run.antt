@@ -1,5 +1,5 @@
 -- What a call of `netboot` shows: records used, records written, and what its status says of them.
-use Rattle.std.specs.Prelude.{◌≡◌, ℕ, ◌<◌, ◌⊎◌, List, [], ◌∷◌, ◌++◌, length}
+use Rattle.std.specs.Prelude.{◌≡◌, ℕ, ◌<◌, ◌≤◌, ◌⊎◌, List, [], ◌∷◌, ◌++◌, length}
 use Rattle.nb_terms.specs.declared.cause.Cause.{Cause}
 use Rattle.nb_defs.specs.Records.{In, start, frame, tick, off, IsIn, in_text, in_texts, IsPartial, IsBroken, Out, out_texts, done}
 use Rattle.nb_engine.specs.Machine.{Machine, Phase, ready, running, waiting, handing, left, handed_off, stopped, Path, status_of, shutdown_records}
@@ -100,6 +100,8 @@ pub record Run (before after : Outside) : Type 0 where
   pub path : Path ins outs machine
   pub closes : Closes machine rest after closing
   pub texts : out_texts (outs ++ closing) ≡ written ++ lost
+  -- each record used has a number of 32 bits
+  pub few : length ins ≤ 4294967295
 
 -- the run is over, for a cause of this number, and all was taken, DONE last
 pub record IsOver (before after : Outside) (r : Run before after) (number : ℕ) : Type 0 where
@@ -119,7 +121,11 @@ pub record IsUnread (before after : Outside) (r : Run before after) : Type 0 whe
 abbrev pub HandsTheirs : (before after : Outside) → Run before after → Type 0
 HandsTheirs before after r = (store : ℕ → List ℕ → List ℕ) → Honest store r.ins → HandsFiles store r.outs
 
--- what a status says of a run
+-- memory ran out: nothing closes the output, or some of it is missing
+abbrev pub IsUnclosed : (before after : Outside) → Run before after → Type 0
+IsUnclosed before after r = (r.closing ≡ []) ⊎ (0 < length r.lost)
+
+-- What a status says of a run. The output ends with DONE, and is whole, where `IsOver` stands; for no other status.
 abbrev pub Says : Status → (before after : Outside) → Run before after → Type 0
 Says status.HandedOff before after r = IsOver before after r 0 × HandsTheirs before after r
 Says status.Ended before after r = IsOver before after r 3
@@ -128,9 +134,9 @@ Says status.Unfinished before after r = IsOver before after r 5
 Says status.BadRecord before after r = IsOver before after r 6
 Says status.TooManyRecords before after r = IsOver before after r 11
 Says status.ReadFault before after r = IsUnread before after r
-Says status.WriteFault before after r = Rose before.write_faults after.write_faults
-Says status.NoMemory before after r = Unit {0}
-Says status.AttachFault before after r = (r.read ≡ []) × (r.written ≡ []) × Rose before.attach_faults after.attach_faults
+Says status.WriteFault before after r = Rose before.write_faults after.write_faults × (0 < length r.lost)
+Says status.NoMemory before after r = IsUnclosed before after r
+Says status.AttachFault before after r = (r.read ≡ []) × (r.written ≡ []) × (r.closing ≡ []) × Rose before.attach_faults after.attach_faults
 Says status.BadWords before after r = ⊥
 
 -- a call shows a run of which its status is true

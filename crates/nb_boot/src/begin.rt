@@ -4,7 +4,7 @@ ghost use Rattle.nb_record.specs.Outside.{Outside};
 ghost use Rattle.nb_record.specs.View.{in_of};
 ghost use Rattle.nb_engine.specs.Machine.{fresh, ready};
 ghost use Rattle.nb_boot.specs.Run.{Shows, IsBadRest, IsFirst};
-ghost use Rattle.nb_boot.specs.Going.{Going, Opens, Refuses, TellsFirst};
+ghost use Rattle.nb_boot.specs.Going.{Going, Opens, RefusesRun, TellsFirst};
 
 use crate::Status;
 use crate::feeding::{Filled, fill};
@@ -43,12 +43,12 @@ fn enter<L: Line>(
     requires valid { IsIn (in_of entry.now) }
     requires first { IsFirst (in_of entry.now) }
     ensures ok { IfOk result (λ c. (rest : List ℕ) → Opens (in_texts (in_of entry.now ∷ []) ++ rest) rest (L.outside line.old) (L.outside line.new) log.old log.new c) }
-    ensures err { IfErr result (λ s. (rest : List ℕ) → Refuses s (in_texts (in_of entry.now ∷ []) ++ rest) (L.outside line.old) (L.outside line.new) log.old) }
+    ensures err { IfErr result (λ s. (rest : List ℕ) → RefusesRun s (in_texts (in_of entry.now ∷ []) ++ rest) (L.outside line.old) (L.outside line.new) log.old) }
 {
-    let InRec::Start(start) = entry else {
+    let InRec::Start(record) = entry else {
         unreachable!()
     };
-    match Client::new(alloc, start) {
+    match Client::new(alloc, &record.fields()) {
         Ok(mut client) => match use_record(&mut client, entry, log, line) {
             None => Ok(client),
             Some(status) => Err(status),
@@ -66,7 +66,7 @@ fn enter_front<L: Line>(
 ) -> Result<Client, Status>
     requires whole { IsPartial feed.old.bytes → ⊥ }
     ensures ok { IfOk result (Opens feed.old.bytes feed.new.bytes (L.outside line.old) (L.outside line.new) log.old log.new) }
-    ensures err { IfErr result (λ s. Refuses s feed.old.bytes (L.outside line.old) (L.outside line.new) log.old) }
+    ensures err { IfErr result (λ s. RefusesRun s feed.old.bytes (L.outside line.old) (L.outside line.new) log.old) }
 {
     match feed.front() {
         Front::Whole(entry, len) => {
@@ -90,15 +90,13 @@ fn enter_front<L: Line>(
 pub fn begin<L: Line>(
     alloc: Global,
     feed: &mut Feed,
-    piece: &mut [u8],
     log: &mut Log,
     line: &mut L,
 ) -> Result<Client, Status>
-    requires room { length piece.old ≡ 65536 }
     ensures ok { IfOk result (Opens feed.old.bytes feed.new.bytes (L.outside line.old) (L.outside line.new) log.old log.new) }
-    ensures err { IfErr result (λ s. Refuses s feed.old.bytes (L.outside line.old) (L.outside line.new) log.old) }
+    ensures err { IfErr result (λ s. RefusesRun s feed.old.bytes (L.outside line.old) (L.outside line.new) log.old) }
 {
-    match fill(feed, piece, log, line) {
+    match fill(feed, log, line) {
         Filled::More => enter_front(alloc, feed, log, line),
         Filled::Ended => Err(refuse(log, line)),
         Filled::Fault => Err(Status::ReadFault),

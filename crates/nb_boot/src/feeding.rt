@@ -7,9 +7,6 @@ ghost use Rattle.nb_boot.specs.declared.feeding.Filled.TheVariants as filled;
 use crate::output::{Flaw, flush};
 use nb_record::{Failed, Feed, Front, Line, Log};
 
-/// The most bytes of one read.
-pub const PIECE: usize = 65_536;
-
 /// How a read went.
 #[derive(Clone, Copy, Debug, PartialEq, Eq)]
 pub enum Fetched {
@@ -35,25 +32,20 @@ pub enum Filled {
 }
 
 /// Reads a piece of the input into the feed, which holds a front of a record.
-pub fn fetch<L: Line>(feed: &mut Feed, piece: &mut [u8], line: &mut L) -> Fetched
+pub fn fetch<L: Line>(feed: &mut Feed, line: &mut L) -> Fetched
     requires partial { IsPartial feed.old.bytes }
-    requires room { length piece.old ≡ 65536 }
     ensures { Fetches result feed.old feed.new (L.outside line.old) (L.outside line.new) }
 {
-    match line.read(piece) {
+    match feed.read(line) {
         Ok(0) => Fetched::Ended,
-        Ok(n) => {
-            feed.push(&piece[..n]);
-            Fetched::More
-        }
+        Ok(_) => Fetched::More,
         Err(Failed) => Fetched::Fault,
     }
 }
 
 /// Writes out what the log gathered, and reads a piece of the input.
-pub fn refill<L: Line>(feed: &mut Feed, piece: &mut [u8], log: &mut Log, line: &mut L) -> Filled
+pub fn refill<L: Line>(feed: &mut Feed, log: &mut Log, line: &mut L) -> Filled
     requires partial { IsPartial feed.old.bytes }
-    requires room { length piece.old ≡ 65536 }
     ensures fills { Fills result feed.old.bytes feed.new.bytes (L.outside line.old) (L.outside line.new) log.old log.new }
     ensures grows { result ≡ filled.More → length feed.old.bytes < length feed.new.bytes }
     ensures stays { result ≡ filled.Ended → feed.new.bytes ≡ feed.old.bytes }
@@ -62,7 +54,7 @@ pub fn refill<L: Line>(feed: &mut Feed, piece: &mut [u8], log: &mut Log, line: &
         Ok(()) => {}
         Err(flaw) => return Filled::Cut(flaw),
     }
-    match fetch(feed, piece, line) {
+    match fetch(feed, line) {
         Fetched::More => Filled::More,
         Fetched::Ended => Filled::Ended,
         Fetched::Fault => Filled::Fault,
@@ -81,8 +73,7 @@ fn is_partial(feed: &Feed) -> bool
 }
 
 /// Reads until a record is whole, or can't be one any more. Output is written before each read.
-pub fn fill<L: Line>(feed: &mut Feed, piece: &mut [u8], log: &mut Log, line: &mut L) -> Filled
-    requires room { length piece.old ≡ 65536 }
+pub fn fill<L: Line>(feed: &mut Feed, log: &mut Log, line: &mut L) -> Filled
     ensures fills { Fills result feed.old.bytes feed.new.bytes (L.outside line.old) (L.outside line.new) log.old log.new }
     ensures whole { result ≡ filled.More → IsPartial feed.new.bytes → ⊥ }
 {
@@ -90,7 +81,7 @@ pub fn fill<L: Line>(feed: &mut Feed, piece: &mut [u8], log: &mut Log, line: &mu
         if !is_partial(feed) {
             return Filled::More;
         }
-        match refill(feed, piece, log, line) {
+        match refill(feed, log, line) {
             Filled::More => {}
             other => return other,
         }

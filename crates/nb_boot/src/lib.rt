@@ -1,7 +1,7 @@
 // The top call: `netboot` reads records from a line, runs the script of START over them, and writes records.
 // Its contract is the program's theorem: what was read spells the records used, what was written
 // spells the script machine's path, and every status has its cause. What scripts and commands it runs,
-// nb_engine says; it leaves out `live` and `lab`. Begin with `netboot` in top.rt, then `serve`.
+// nb_engine says; it leaves out `lab`. Begin with `netboot` in top.rt, then `serve`.
 #![tactic(auto)]
 
 mod begin;
@@ -17,6 +17,7 @@ mod test_records;
 mod tests;
 mod top;
 mod turn;
+mod words;
 
 pub use laws::one_run;
 pub use nb_engine::Status;

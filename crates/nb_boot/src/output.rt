@@ -1,5 +1,5 @@
 ghost use Rattle.std.specs.Prelude.{◌≡◌, ◌≤◌, [], false, length, List, ℕ, OnOk, OnErr, IfErr};
-ghost use Rattle.nb_boot.specs.Going.{Wrote, Stopped, IsFlaw, Holds, CutsAll, flaw_status};
+ghost use Rattle.nb_boot.specs.Going.{Wrote, Stopped, IsFlaw, KeepsRun, CutsAll, flaw_status};
 
 use crate::Status;
 use nb_record::{Failed, Line, Log};
@@ -65,7 +65,7 @@ const FULL: usize = 65_536;
 
 /// Writes out what the log gathered where the next call's output may not fit behind it.
 pub fn make_room<L: Line>(log: &mut Log, line: &mut L) -> Result<(), Flaw>
-    ensures ok { OnOk result ((held : List ℕ) → Holds held held (L.outside line.old) (L.outside line.new) log.old log.new) }
+    ensures ok { OnOk result ((held : List ℕ) → KeepsRun held held (L.outside line.old) (L.outside line.new) log.old log.new) }
     ensures room { OnOk result (length log.new.bytes ≤ 65536) }
     ensures err { IfErr result (λ flaw. CutsAll (flaw_status flaw) (L.outside line.old) (L.outside line.new) log.old) }
 {

@@ -7,7 +7,7 @@ ghost use Rattle.nb_engine.specs.Machine.{Machine};
 ghost use Rattle.nb_engine.specs.Seen.{StandsFor};
 ghost use Rattle.nb_engine.specs.Turns.{IsBusy, MayUse};
 ghost use Rattle.nb_boot.specs.Run.{Ends, Shows};
-ghost use Rattle.nb_boot.specs.Going.{StepsTo, IsEndOf, Uses, Going, IsClosing};
+ghost use Rattle.nb_boot.specs.Going.{StepsTo, IsEndOf, UsesRecord, Going, IsClosing};
 
 use crate::Status;
 use crate::output::{Flaw, flush, make_room};
@@ -95,7 +95,7 @@ pub fn use_record<L: Line>(
     requires valid { IsIn (in_of entry.now) }
     requires fits { MayUse (in_of entry.now) client.old.stage }
     requires few { client.old.used < 2 ^ 32 - 1 }
-    ensures { Uses result (in_of entry.now) (L.outside line.old) (L.outside line.new) log.old log.new client.old client.new }
+    ensures { UsesRecord result (in_of entry.now) (L.outside line.old) (L.outside line.new) log.old log.new client.old client.new }
 {
     match take(client, entry, log, line) {
         StepEnd::Waits => None,

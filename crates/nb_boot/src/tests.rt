@@ -11,11 +11,11 @@ pub struct Answer {
     pub calls: u64,
 }
 
-/// The words `replay in out`.
-fn replay_words(alloc: Global) -> Result<Vec<String>, AllocError> {
+/// These words, as the program gets them.
+fn words_of(alloc: Global, texts: &[&str]) -> Result<Vec<String>, AllocError> {
     let mut words = Vec::new(alloc);
-    for word in ["replay", "in", "out"] {
-        words.push(String::from_str(alloc, word)?)?;
+    for text in texts {
+        words.push(String::from_str(alloc, text)?)?;
     }
     Ok(words)
 }
@@ -29,7 +29,8 @@ pub fn ran(
     room: usize,
 ) -> Result<Answer, NoMemory> {
     let mut line = MemLine::new(alloc, input, cuts, fail, room)?;
-    let status = netboot(alloc, replay_words(alloc)?.as_slice(), &mut line);
+    let words = words_of(alloc, &["replay", "in", "out"])?;
+    let status = netboot(alloc, words.as_slice(), &mut line);
     Ok(Answer {
         status,
         output: Vec::from_slice(alloc, line.output())?,
@@ -173,18 +174,68 @@ fn faults(rt: HostRuntime) -> Result<(), Fail> {
     Ok(())
 }
 
-// Words of no form attach nothing.
+// Invalid words attach nothing.
 #[test]
 fn bad_words(rt: HostRuntime) -> Result<(), Fail> {
-    for count in [0, 2] {
-        let mut words = replay_words(rt.alloc())?;
-        words.truncate(count);
+    for texts in [
+        [].as_slice(),
+        &["replay", "in"],
+        &["replay", "", "out"],
+        &["replay", "in", ""],
+        &["replay", "in", "out", "more"],
+        &["live"],
+        &["Live", "a:1"],
+        &["live", "a:1", "b:2"],
+        &["live", ""],
+        &["live", "a"],
+        &["live", ":1"],
+        &["live", "a:"],
+        &["live", "a:0"],
+        &["live", "a:00"],
+        &["live", "a:01"],
+        &["live", "a:+1"],
+        &["live", "a:-1"],
+        &["live", "a:1 "],
+        &["live", "a:0x1"],
+        &["live", "a:65536"],
+        &["live", "a:655350"],
+        &["live", "a:4294967297"],
+        &["live", "1:a"],
+        &["live", "a:1:"],
+        &["lab", "1"],
+    ] {
         let mut line = MemLine::new(rt.alloc(), b"", &[], &[], 10)?;
+        let words = words_of(rt.alloc(), texts)?;
         assert_eq!(rt;
             netboot(rt.alloc(), words.as_slice(), &mut line),
             Status::BadWords
         );
         assert_eq!(rt; line.calls, 0);
+    }
+    Ok(())
+}
+
+// A peer may be a name, or an address of either kind, with any port; a run over it is the same.
+#[test]
+fn live(rt: HostRuntime) -> Result<(), Fail> {
+    let input = start_of(rt.alloc(), HELLO)?;
+    for peer in [
+        "localhost:1",
+        "10.0.0.1:65535",
+        "[::1]:8080",
+        "::1:80",
+        ":::9",
+        "ä b:10",
+    ] {
+        let mut line = MemLine::new(rt.alloc(), input.as_slice(), &[1, 2, 3], &[], 1000)?;
+        let words = words_of(rt.alloc(), &["live", peer])?;
+        assert_eq!(rt;
+            netboot(rt.alloc(), words.as_slice(), &mut line),
+            Status::Ended
+        );
+        assert!(rt; line.output().starts_with(ENTERED));
+        assert!(rt; line.output().ends_with(SAID_HELLO));
+        assert_eq!(rt; line.output().len(), ENTERED.len() + SAID_HELLO.len());
     }
     Ok(())
 }

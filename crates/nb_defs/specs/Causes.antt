@@ -1,6 +1,9 @@
--- Causes by name. A cause is a code and two numbers; code 0 is Ok.
+-- Causes by name, each of a reason. A cause is a code and two numbers; code 0 is Ok.
 use Rattle.std.specs.Prelude.{ℕ, Bool, ◌==◌, if◌then◌else◌}
 use Rattle.nb_terms.specs.declared.cause.Cause.{Cause}
+use Rattle.nb_terms.specs.declared.reason.Plain.TheVariants as plain
+use Rattle.nb_terms.specs.declared.reason.Reason.TheVariants as reason
+use Rattle.nb_terms.specs.Reasons.{as_cause}
 
 -- a cause whose numbers are 0
 abbrev pub plain_cause : ℕ → Cause
@@ -8,23 +11,23 @@ plain_cause code = record { code = code; a = 0; b = 0 }
 
 -- all went well
 abbrev pub ok : Cause
-ok = plain_cause 0
+ok = as_cause (reason.Plain plain.Ok)
 
 -- the first line isn't `#!ipxe`, or the text isn't one that runs today
 abbrev pub not_script : Cause
-not_script = plain_cause 14
+not_script = as_cause (reason.Plain plain.NotScript)
 
 -- no such command
 abbrev pub unknown : Cause
-unknown = plain_cause 19
+unknown = as_cause (reason.Plain plain.Unknown)
 
 -- the words don't fit the command
 abbrev pub usage : Cause
-usage = plain_cause 20
+usage = as_cause (reason.Plain plain.Usage)
 
 -- the script left by `exit n`: Ok where n is 0
 abbrev pub exit_cause : ℕ → Cause
-exit_cause n = if n == 0 then ok else record { code = 24; a = n; b = 0 }
+exit_cause n = if n == 0 then ok else as_cause (reason.Exit n)
 
 -- whether a cause is Ok
 abbrev pub is_ok_cause : Cause → Bool

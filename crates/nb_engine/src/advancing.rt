@@ -15,8 +15,8 @@ ghost use Rattle.nb_engine.specs.Concluding.{IsTurn};
 ghost use Rattle.nb_engine.specs.Advance.{IfRunning, IsHanding, IsNext, IsOneUdp, IfOne, Asks, Followed};
 ghost use Rattle.nb_engine.specs.declared.stage.Stage.TheVariants as stage;
 
-use crate::causes::{OK, no_route};
 use crate::command::{Command, Refusal, Wanted, carry_out, read_command};
+use crate::desk::{Desk, Room, lent};
 use crate::put::{put_over, put_result, put_send};
 use crate::running::Next;
 use crate::status::status_after;
@@ -24,6 +24,7 @@ use crate::world::own_port;
 use crate::{Client, Fetch, RunningScript, Stage, Status, Turn};
 use nb_record::{Acts as Asked, Cause, Log, NoMemory, OutRec};
 use nb_stack::Stack;
+use nb_terms::{Plain, Reason};
 use nb_uri::TFTP_PORT;
 use nb_wire::Word;
 use std::mem;
@@ -35,14 +36,14 @@ const UDP: u8 = 17;
 const TFTP: u8 = 1;
 
 /// Puts the request of an open, its first try. False where there is no way to the server.
-fn put_request(net: &mut Stack, number: u16, acts: &Asked, log: &mut Log) -> bool
+fn put_request(net: &mut Stack, number: u16, acts: &Asked, room: &mut Room, log: &mut Log) -> bool
     requires { IsOneUdp acts.now }
     ensures route { IfOne acts.now.sends.items (λ send. result ≡ has_route net.old send) }
     ensures puts { IfOne acts.now.sends.items (λ send. Puts log.old log.new (out_texts (send_records net.old number acts.now.tried send))) }
     ensures same { net.new ≡ net.old }
 {
     match acts.sends.as_slice().first() {
-        Some(send) => put_send(net, number, acts.tried, send, log),
+        Some(send) => put_send(net, number, acts.tried, send, room, log),
         None => false,
     }
 }
@@ -60,8 +61,9 @@ impl Client {
         };
         match script.next(alloc) {
             Ok(Next::End) => {
-                script.put_leave(OK, log);
-                self.stage = Stage::Left(OK);
+                let ok = Plain::Ok.cause();
+                script.put_leave(ok, log);
+                self.stage = Stage::Left(ok);
                 Turn::Over(Status::Ended)
             }
             Ok(Next::List(list)) => self.line(list.as_slice(), log),
@@ -137,20 +139,36 @@ impl Client {
         ensures does { Acts result [] self.old self.new log.old log.new }
         ensures nearer { IsNearer result self.old self.new }
     {
+        let Ok(mut desk) = lent(self.alloc, self.desk.take()) else {
+            return Turn::Over(Status::NoMemory);
+        };
+        let turn = self.begin(words, wanted, &mut desk, log);
+        self.desk = Some(desk);
+        turn
+    }
+
+    /// Begins it on this desk.
+    fn begin(&mut self, words: &[Word], wanted: &Wanted<'_>, desk: &mut Desk, log: &mut Log) -> Turn
+        requires words { IfRunning self.old.stage (λ s. HasWords s words.now) }
+        requires some { 0 < length words.now }
+        requires value { effect self.old.world.opens words.now ≡ asks (wanted_of wanted.now) }
+        requires file { CanFetch self.old.world.opens wanted.now }
+        ensures does { Acts result [] self.old self.new log.old log.new }
+        ensures nearer { IsNearer result self.old self.new }
+    {
         let number = self.world.opens;
         let own_port = own_port(self.world.w, number);
-        let mut acts = Asked::none();
         match Fetch::begin(
             self.alloc,
             number,
             own_port,
             wanted,
             self.world.time,
-            &mut acts,
+            &mut desk.heard.acts,
         ) {
             Ok(fetch) => {
                 self.put_opened(words, wanted, own_port, log);
-                self.ask(fetch, &acts, log)
+                self.ask(fetch, &desk.heard.acts, &mut desk.room, log)
             }
             Err(NoMemory) => Turn::Over(Status::NoMemory),
         }
@@ -179,13 +197,13 @@ impl Client {
     }
 
     /// Sends the request. Without a way to the server the open has ended, and the script is left.
-    fn ask(&mut self, fetch: Fetch, acts: &Asked, log: &mut Log) -> Turn
+    fn ask(&mut self, fetch: Fetch, acts: &Asked, room: &mut Room, log: &mut Log) -> Turn
         requires line { IfRunning self.old.stage (λ s. s.passed ≤ 4096) }
         requires own { IsNext self.old.world fetch }
         requires udp { IsOneUdp acts.now }
         ensures { IfRunning self.old.stage (λ s. Asks result s fetch acts.now self.old self.new log.old log.new) }
     {
-        let found = put_request(&mut self.world.net, fetch.number, acts, log);
+        let found = put_request(&mut self.world.net, fetch.number, acts, room, log);
         self.follow(found, fetch, log)
     }
 
@@ -234,8 +252,9 @@ impl Client {
         let Stage::Running(script) = mem::replace(&mut self.stage, Stage::Stopped) else {
             unreachable!()
         };
-        put_over(number, no_route(server), log);
-        self.fail(script, no_route(server), log)
+        let cause = Cause::from(Reason::NoRoute(server));
+        put_over(number, cause, log);
+        self.fail(script, cause, log)
     }
 
     /// The script's command fails, and the script is left.

@@ -6,11 +6,11 @@ ghost use Rattle.nb_engine.specs.StatusNumber.{number_of};
 ghost use Rattle.nb_engine.specs.Turns.{Acts, IsBusy, IsNearer, MayUse, closing_records};
 ghost use Rattle.nb_engine.specs.declared.stage.Stage.TheVariants as stage;
 
-use crate::causes::STOPPED;
-use crate::fetch::Heard;
+use crate::desk::Desk;
 use crate::put::put_over;
 use crate::{Stage, Status, World};
 use nb_record::{InRec, Log, NoMemory, OutRec, Start};
+use nb_terms::Plain;
 use std::alloc::Global;
 use std::marker::Model;
 
@@ -32,8 +32,8 @@ pub struct Client {
     pub(crate) used: u32,
     pub(crate) world: World,
     pub(crate) stage: Stage,
-    /// The place for what the next call brings about; None while it is lent out.
-    pub(crate) heard: Option<Box<Heard>>,
+    /// What the next step works on; None before the first, and while it is lent to one.
+    pub(crate) desk: Option<Box<Desk>>,
 }
 
 impl Model for Client {
@@ -58,7 +58,7 @@ impl Client {
             used: 0,
             world: World::of(alloc, start),
             stage: Stage::Ready,
-            heard: None,
+            desk: None,
         })
     }
 
@@ -72,7 +72,7 @@ impl Client {
     {
         self.used += 1;
         match entry {
-            InRec::Start(start) => self.start(start, log),
+            InRec::Start(record) => self.start(&record.fields(), log),
             InRec::Frame(bytes) => self.frame(bytes, log),
             InRec::Tick(ms) => self.tick(*ms, log),
             InRec::Off => self.switch_off(log),
@@ -98,7 +98,7 @@ impl Client {
         ensures same { self.new ≡ self.old }
     {
         if let Stage::Waiting(_, fetch) = &self.stage {
-            put_over(fetch.number, STOPPED, log);
+            put_over(fetch.number, Plain::Stopped.cause(), log);
         }
         log.put(&OutRec::Done(status.number()));
     }

@@ -6,11 +6,12 @@ ghost use Rattle.nb_defs.specs.Commands.{outcome, echo, exit, refused, is_option
 ghost use Rattle.nb_uri.specs.Targets.{tftp_target};
 ghost use Rattle.nb_engine.specs.Effects.{effect, fetch, asked, says, bad_uri};
 ghost use Rattle.nb_engine.specs.Machine.{ends_script};
+ghost use Rattle.nb_defs.specs.Causes.{exit_cause};
 ghost use Rattle.nb_engine.specs.CommandWords.{effect_of, cause_of, done_of, end_of, TakesWithin, TakesFewer, IsLocal, PrintsWithin, spaced, IfFetch, CanFetch};
 
-use crate::causes::{BAD_URI, FULL_OPENS, OK, TOO_LONG_URI, UNKNOWN, USAGE, exit_result};
 use crate::number::read_number;
 use nb_record::{Cause, NoMemory};
+use nb_terms::{Fullness, Long, Plain, Reason};
 use nb_uri::{TftpUri, UriError};
 use nb_wire::{Text, Word};
 use std::alloc::Global;
@@ -71,11 +72,11 @@ impl Refusal {
         ensures { result ≡ cause_of self }
     {
         match self {
-            Refusal::Unknown => UNKNOWN,
-            Refusal::Usage => USAGE,
-            Refusal::BadUri => BAD_URI,
-            Refusal::TooLong => TOO_LONG_URI,
-            Refusal::Full => FULL_OPENS,
+            Refusal::Unknown => Plain::Unknown.cause(),
+            Refusal::Usage => Plain::Usage.cause(),
+            Refusal::BadUri => Plain::BadUri.cause(),
+            Refusal::TooLong => Cause::from(Reason::TooLong(Long::Path)),
+            Refusal::Full => Cause::from(Reason::Full(Fullness::Opens)),
         }
     }
 }
@@ -262,6 +263,16 @@ fn joined(alloc: Global, words: &[Word], newline: bool) -> Result<Text, NoMemory
     Ok(Text::from_vec(bytes))
 }
 
+/// The result of `exit n`: Ok where n is 0.
+fn exit_result(n: u8) -> Cause
+    ensures { result ≡ exit_cause n }
+{
+    if n == 0 {
+        return Plain::Ok.cause();
+    }
+    Cause::from(Reason::Exit(n))
+}
+
 /// What a command of these words that is over at once comes to.
 pub fn carry_out(alloc: Global, command: Result<Command<'_>, Refusal>) -> Result<Done, NoMemory>
     requires { IsLocal command }
@@ -271,7 +282,7 @@ pub fn carry_out(alloc: Global, command: Result<Command<'_>, Refusal>) -> Result
     match command {
         Ok(Command::Echo { newline, text }) => Ok(Done {
             prints: Some(joined(alloc, text, newline)?),
-            cause: OK,
+            cause: Plain::Ok.cause(),
             leaves: false,
         }),
         Ok(Command::Exit(n)) => Ok(Done {

@@ -5,9 +5,9 @@ ghost use Rattle.nb_engine.specs.Conclusions.{conclusion, taken_in, cause_of_err
 ghost use Rattle.nb_engine.specs.Fetches.{Concludes, Chooses};
 
 use crate::Fetch;
-use crate::causes::{NO_MEMORY, NOT_BOOTABLE, TOO_LARGE_IMAGES, TOO_MANY_IMAGES};
 use nb_image::{ImageError, ImageKind, Images};
 use nb_record::{Cause, NoMemory};
+use nb_terms::{Large, Many, Plain, Reason};
 use std::alloc::Global;
 
 /// What comes of a command whose open has ended.
@@ -26,9 +26,9 @@ fn cause_of(error: ImageError) -> Cause
     ensures { result ≡ cause_of_error error }
 {
     match error {
-        ImageError::TooMany => TOO_MANY_IMAGES,
-        ImageError::TooLarge => TOO_LARGE_IMAGES,
-        ImageError::NoMemory => NO_MEMORY,
+        ImageError::TooMany => Cause::from(Reason::TooMany(Many::Images)),
+        ImageError::TooLarge => Cause::from(Reason::TooLarge(Large::Images)),
+        ImageError::NoMemory => Plain::NoMemory.cause(),
     }
 }
 
@@ -62,7 +62,7 @@ pub fn conclude(
         return Ok(Conclusion::Fails(cause_of(error)));
     }
     if fetch.boots && !is_bootable(fetch.body.kind()) {
-        return Ok(Conclusion::Fails(NOT_BOOTABLE));
+        return Ok(Conclusion::Fails(Plain::NotBootable.cause()));
     }
     store(alloc, images, fetch)
 }

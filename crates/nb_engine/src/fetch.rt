@@ -12,9 +12,9 @@ ghost use Rattle.nb_engine.specs.Fetches.{TakesCall, given_bytes, IsSameFetch, I
 ghost use Rattle.nb_tftp.specs.Sound.{IsRange};
 
 use crate::Wanted;
-use crate::causes::TOO_LARGE_IMAGE;
 use nb_image::{Body, PushError};
 use nb_record::{Acts, Cause, NoMemory};
+use nb_terms::{Large, Reason};
 use nb_tftp::Transfer;
 use nb_uri::TFTP_PORT;
 use nb_wire::{Ip4, Text};
@@ -46,23 +46,8 @@ pub struct Heard {
     pub(crate) end: Option<Cause>,
 }
 
-impl Heard {
-    /// Nothing was brought about.
-    pub fn none() -> Heard {
-        Heard {
-            acts: Acts::none(),
-            end: None,
-        }
-    }
-}
-
-/// The place that was kept, or a new one.
-pub fn lent(alloc: Global, kept: Option<Box<Heard>>) -> Result<Box<Heard>, NoMemory> {
-    match kept {
-        Some(heard) => Ok(heard),
-        None => Ok(Box::new(alloc, Heard::none())?),
-    }
-}
+/// Why an image isn't joined further.
+const TOO_LARGE: Reason = Reason::TooLarge(Large::Image);
 
 /// A copy of these bytes.
 fn copy(alloc: Global, bytes: &[u8]) -> Result<Text, NoMemory>
@@ -171,7 +156,7 @@ impl Fetch {
     {
         match self.body.push(piece) {
             Ok(()) => Ok(acts.over),
-            Err(PushError::TooLarge) => Ok(Some(TOO_LARGE_IMAGE)),
+            Err(PushError::TooLarge) => Ok(Some(Cause::from(TOO_LARGE))),
             Err(PushError::NoMemory) => Err(NoMemory),
         }
     }

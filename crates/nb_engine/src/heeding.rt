@@ -13,13 +13,14 @@ ghost use Rattle.nb_engine.specs.Turns.{IsWaiting};
 ghost use Rattle.nb_tftp.specs.Sound.{IsSound};
 ghost use Rattle.nb_engine.specs.declared.stage.Stage.TheVariants as stage;
 
-use crate::causes::OK;
 use crate::conclusion::{Conclusion, conclude};
+use crate::desk::Room;
 use crate::fetch::Heard;
 use crate::put::{put_acts, put_over, put_result, put_step};
 use crate::status::status_after;
 use crate::{Client, Handing, RunningScript, Stage, Status, Turn};
 use nb_record::{Acts, Cause, Log, NoMemory};
+use nb_terms::Plain;
 use std::mem;
 
 /// UDP (RFC 768).
@@ -27,32 +28,20 @@ const UDP: u8 = 17;
 
 impl Client {
     /// Puts what a datagram or a time has brought, and where it ended the open, what comes of its command.
-    pub(crate) fn heed(&mut self, heard: &Heard, log: &mut Log) -> Turn
+    pub(crate) fn heed(&mut self, heard: &Heard, room: &mut Room, log: &mut Log) -> Turn
         requires waits { IsWaiting self.old.stage }
         requires sound { (len : ℕ) × IsSound len heard.now.acts }
         ensures { (s : Running) (f : Fetch) → self.old.stage ≡ stage.Waiting s f
             → Heeds result s (HasHeard heard.now f) self.old self.new log.old log.new }
     {
         match heard.end {
-            None => self.go_on(&heard.acts, log),
-            Some(cause) => self.end(&heard.acts, cause, log),
+            None => self.go_on(&heard.acts, room, log),
+            Some(cause) => self.end(&heard.acts, cause, room, log),
         }
     }
 
-    /// Heeds what was heard, and keeps its place.
-    pub(crate) fn heed_kept(&mut self, heard: Box<Heard>, log: &mut Log) -> Turn
-        requires waits { IsWaiting self.old.stage }
-        requires sound { (len : ℕ) × IsSound len heard.value.acts }
-        ensures { (s : Running) (f : Fetch) → self.old.stage ≡ stage.Waiting s f
-            → Heeds result s (HasHeard heard.value f) self.old self.new log.old log.new }
-    {
-        let turn = self.heed(&heard, log);
-        self.heard = Some(heard);
-        turn
-    }
-
     /// The open goes on.
-    fn go_on(&mut self, acts: &Acts, log: &mut Log) -> Turn
+    fn go_on(&mut self, acts: &Acts, room: &mut Room, log: &mut Log) -> Turn
         requires sound { (len : ℕ) × IsSound len acts.now }
         requires waits { IsWaiting self.old.stage }
         ensures turn { result ≡ turn.Waiting }
@@ -64,12 +53,12 @@ impl Client {
             unreachable!()
         };
         put_step(self.used, log);
-        put_acts(&mut self.world.net, fetch.number, acts, log);
+        put_acts(&mut self.world.net, fetch.number, acts, room, log);
         Turn::Waiting
     }
 
     /// The open ends with this cause.
-    fn end(&mut self, acts: &Acts, cause: Cause, log: &mut Log) -> Turn
+    fn end(&mut self, acts: &Acts, cause: Cause, room: &mut Room, log: &mut Log) -> Turn
         requires sound { (len : ℕ) × IsSound len acts.now }
         requires waits { IsWaiting self.old.stage }
         ensures { (s : Running) (f : Fetch) → self.old.stage ≡ stage.Waiting s f
@@ -82,7 +71,7 @@ impl Client {
         match conclude(self.alloc, &mut self.world.images, fetch, cause) {
             Ok(conclusion) => {
                 put_step(self.used, log);
-                put_acts(&mut self.world.net, number, acts, log);
+                put_acts(&mut self.world.net, number, acts, room, log);
                 put_over(number, cause, log);
                 self.world.net.unbind(UDP, own_port);
                 self.conclude(script, conclusion, log)
@@ -100,12 +89,12 @@ impl Client {
     {
         match conclusion {
             Conclusion::Keeps => {
-                put_result(OK, log);
+                put_result(Plain::Ok.cause(), log);
                 self.resume(script)
             }
             Conclusion::Fails(cause) => self.fail(script, cause, log),
             Conclusion::Boots(kernel) => {
-                put_result(OK, log);
+                put_result(Plain::Ok.cause(), log);
                 self.stage = Stage::HandingOff(Handing::of(kernel));
                 Turn::More
             }
@@ -119,7 +108,7 @@ impl Client {
         ensures turn { result ≡ turn.More }
         ensures after { self.new ≡ seen self.old.used self.old.world (stage.Running (further script ok)) }
     {
-        script.pass_with(OK);
+        script.pass_with(Plain::Ok.cause());
         self.stage = Stage::Running(script);
         Turn::More
     }

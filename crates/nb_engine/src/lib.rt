@@ -5,10 +5,10 @@
 #![tactic(auto)]
 
 mod advancing;
-mod causes;
 mod client;
 mod command;
 mod conclusion;
+mod desk;
 mod fetch;
 mod handing;
 mod heeding;

@@ -6,12 +6,9 @@ ghost use Rattle.nb_engine.specs.Machine.{reply_records};
 ghost use Rattle.nb_engine.specs.Heeding.{IsReply};
 ghost use Rattle.nb_tftp.specs.Sound.{IsSound, AreUdp};
 
+use crate::desk::Room;
 use nb_record::{Acts, Cause, Log, OutRec, SendTo};
 use nb_stack::{Fate, Stack};
-use nb_wire::Out;
-
-/// The most bytes of a frame, its check sequence left out.
-const MAX_FRAME: usize = 1522;
 
 /// Puts that the step of this record begins.
 pub fn put_step(number: u32, log: &mut Log)
@@ -46,15 +43,17 @@ pub fn put_reply(reply: &[u8], log: &mut Log)
 
 /// Puts what a transfer asks: the place to which it has come, and its messages.
 #[tactic(auto, unfolding(crate::specs::Opens::acts_records))]
-pub fn put_acts(net: &mut Stack, number: u16, acts: &Acts, log: &mut Log)
+#[inline(always)]
+pub fn put_acts(net: &mut Stack, number: u16, acts: &Acts, room: &mut Room, log: &mut Log)
     requires { (len : ℕ) × IsSound len acts.now }
     ensures puts { Puts log.old log.new (out_texts (acts_records net.old number acts.now)) }
     ensures same { net.new ≡ net.old }
 {
     put_advance(number, acts.advance, log);
-    put_sends(net, number, acts.tried, acts.sends.as_slice(), log);
+    put_sends(net, number, acts.tried, acts.sends.as_slice(), room, log);
 }
 
+#[inline(always)]
 fn put_advance(number: u16, place: Option<u32>, log: &mut Log)
     ensures { Puts log.old log.new (out_texts (advance_records number place)) }
 {
@@ -63,6 +62,7 @@ fn put_advance(number: u16, place: Option<u32>, log: &mut Log)
     }
 }
 
+#[inline(always)]
 fn put_try(number: u16, tried: Option<u8>, log: &mut Log)
     ensures { Puts log.old log.new (out_texts (try_records number tried)) }
 {
@@ -73,24 +73,34 @@ fn put_try(number: u16, tried: Option<u8>, log: &mut Log)
 
 /// Puts messages, of which a timer covers the last.
 #[tactic(auto, unfolding(crate::specs::Opens::sends_records))]
-fn put_sends(net: &mut Stack, number: u16, tried: Option<u8>, sends: &[SendTo], log: &mut Log)
+#[inline(always)]
+fn put_sends(
+    net: &mut Stack,
+    number: u16,
+    tried: Option<u8>,
+    sends: &[SendTo],
+    room: &mut Room,
+    log: &mut Log,
+)
     requires few { length sends.now ≤ 1 }
     requires udp { AreUdp sends.now }
     ensures puts { Puts log.old log.new (out_texts (sends_records net.old number tried sends.now)) }
     ensures same { net.new ≡ net.old }
 {
     if let Some(send) = sends.first() {
-        put_send(net, number, tried, send, log);
+        put_send(net, number, tried, send, room, log);
     }
 }
 
 /// Puts a message's frame, or the ARP request for its next hop, behind its try. Nothing is put where it
 /// finds no route.
+#[inline(always)]
 pub fn put_send(
     net: &mut Stack,
     number: u16,
     tried: Option<u8>,
     send: &SendTo,
+    room: &mut Room,
     log: &mut Log,
 ) -> bool
     requires udp { send.now.proto ≡ 17 }
@@ -98,8 +108,7 @@ pub fn put_send(
     ensures puts { Puts log.old log.new (out_texts (send_records net.old number tried send.now)) }
     ensures same { net.new ≡ net.old }
 {
-    let mut room = [0; MAX_FRAME];
-    let mut out = Out::new(&mut room);
+    let mut out = room.out();
     if let Fate::NoRoute = net.send(send, &mut out) {
         return false;
     }

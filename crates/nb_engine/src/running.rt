@@ -6,10 +6,10 @@ ghost use Rattle.nb_engine.specs.Steps.{Does};
 ghost use Rattle.nb_engine.specs.NextLine.{HasWords, IsNext};
 ghost use Rattle.nb_engine.specs.CommandWords.{done_of};
 
-use crate::causes::OK;
 use crate::command::Done;
 use nb_record::{Cause, Log, NoMemory, OutRec};
 use nb_script::PlainScript;
+use nb_terms::Plain;
 use nb_wire::{Text, Word, Words};
 use std::alloc::Global;
 use std::marker::Model;
@@ -62,7 +62,7 @@ impl RunningScript {
             depth: 1,
             script,
             passed: 1,
-            last: OK,
+            last: Plain::Ok.cause(),
         }
     }
 

@@ -16,18 +16,15 @@ ghost use Rattle.nb_engine.specs.Heeding.{Uses, Heeds, Comes, IsReply, asks_serv
 ghost use Rattle.nb_engine.specs.declared.stage.Stage.TheVariants as stage;
 ghost use Rattle.nb_engine.specs.declared.client.Turn.TheVariants as turn;
 
-use crate::causes::{NOT_SCRIPT, OK, STOPPED};
-use crate::fetch::lent;
+use crate::desk::{Desk, lent};
 use crate::put::{put_over, put_reply, put_step};
 use crate::{Client, RunningScript, Stage, Status, Turn, World};
 use nb_record::{Log, NoMemory, OutRec, Start};
 use nb_script::{PlainError, PlainScript};
 use nb_stack::Taken;
-use nb_wire::{Ip4, Out, Text};
+use nb_terms::Plain;
+use nb_wire::{Ip4, Text};
 use std::alloc::Global;
-
-/// The most bytes of a frame, its check sequence left out.
-const MAX_FRAME: usize = 1522;
 
 /// The script of these bytes, copied.
 fn read_script(alloc: Global, bytes: &[u8]) -> Result<PlainScript, PlainError>
@@ -49,7 +46,7 @@ fn put_entered(number: u32, log: &mut Log)
     log.put(&OutRec::Script {
         what: 0,
         depth: 1,
-        cause: OK,
+        cause: Plain::Ok.cause(),
     });
 }
 
@@ -60,7 +57,7 @@ fn put_refused(log: &mut Log)
     log.put(&OutRec::Script {
         what: 1,
         depth: 1,
-        cause: NOT_SCRIPT,
+        cause: Plain::NotScript.cause(),
     });
 }
 
@@ -81,7 +78,7 @@ impl Client {
             Err(PlainError::NotScript) => {
                 put_entered(self.used, log);
                 put_refused(log);
-                self.stage = Stage::Left(NOT_SCRIPT);
+                self.stage = Stage::Left(Plain::NotScript.cause());
                 Turn::Over(Status::ScriptFailed)
             }
             Err(PlainError::NoMemory) => Turn::Over(Status::NoMemory),
@@ -94,11 +91,24 @@ impl Client {
         requires waits { IsWaiting self.old.stage }
         ensures { Uses result (defs.frame bytes.now) self.old self.new log.old log.new }
     {
-        let mut room = [0; MAX_FRAME];
-        let mut reply = Out::new(&mut room);
+        let Ok(mut desk) = lent(self.alloc, self.desk.take()) else {
+            return Turn::Over(Status::NoMemory);
+        };
+        let turn = self.receive(bytes, &mut desk, log);
+        self.desk = Some(desk);
+        turn
+    }
+
+    /// A frame arrives, while this desk is lent.
+    fn receive(&mut self, bytes: &[u8], desk: &mut Desk, log: &mut Log) -> Turn
+        requires valid { IsFrameRecord bytes.now }
+        requires waits { IsWaiting self.old.stage }
+        ensures { Uses result (defs.frame bytes.now) self.old self.new log.old log.new }
+    {
+        let mut reply = desk.room.out();
         let taken = self.world.net.take(bytes, &mut reply);
         match self.heard(taken) {
-            Some((port, body)) => self.hear(port, body, log),
+            Some((port, body)) => self.hear(port, body, desk, log),
             None => self.pass_by(reply.written(), log),
         }
     }
@@ -145,20 +155,17 @@ impl Client {
     }
 
     /// A datagram comes to the open, from this port of its server.
-    fn hear(&mut self, port: u16, body: &[u8], log: &mut Log) -> Turn
+    fn hear(&mut self, port: u16, body: &[u8], desk: &mut Desk, log: &mut Log) -> Turn
         requires { IsWaiting self.old.stage }
         ensures { (s : Running) (f : Fetch) → self.old.stage ≡ stage.Waiting s f
             → Heeds result s (Comes (came (received self.old.used port body.now) self.old.world.time) f) self.old self.new log.old log.new }
     {
         let (rec, now) = (self.used, self.world.time);
-        let Ok(mut heard) = lent(self.alloc, self.heard.take()) else {
-            return Turn::Over(Status::NoMemory);
-        };
         let Stage::Waiting(_, fetch) = &mut self.stage else {
             unreachable!()
         };
-        match fetch.message(rec, port, body, now, &mut heard) {
-            Ok(()) => self.heed_kept(heard, log),
+        match fetch.message(rec, port, body, now, &mut desk.heard) {
+            Ok(()) => self.heed(&desk.heard, &mut desk.room, log),
             Err(NoMemory) => Turn::Over(Status::NoMemory),
         }
     }
@@ -170,25 +177,37 @@ impl Client {
         requires early { self.old.world.time + 60000 ≤ 60000 * self.old.used }
         ensures { Uses result (defs.tick ms) self.old self.new log.old log.new }
     {
+        let Ok(mut desk) = lent(self.alloc, self.desk.take()) else {
+            return Turn::Over(Status::NoMemory);
+        };
+        let turn = self.pass_ms(ms, &mut desk, log);
+        self.desk = Some(desk);
+        turn
+    }
+
+    /// So many milliseconds pass, while this desk is lent.
+    fn pass_ms(&mut self, ms: u16, desk: &mut Desk, log: &mut Log) -> Turn
+        requires valid { IsTick ms }
+        requires waits { IsWaiting self.old.stage }
+        requires early { self.old.world.time + 60000 ≤ 60000 * self.old.used }
+        ensures { Uses result (defs.tick ms) self.old self.new log.old log.new }
+    {
         self.world.time += u64::from(ms);
-        self.pass_time(log)
+        self.pass_time(desk, log)
     }
 
     /// A time comes to the open.
-    fn pass_time(&mut self, log: &mut Log) -> Turn
+    fn pass_time(&mut self, desk: &mut Desk, log: &mut Log) -> Turn
         requires { IsWaiting self.old.stage }
         ensures { (s : Running) (f : Fetch) → self.old.stage ≡ stage.Waiting s f
             → Heeds result s (Comes (ticked self.old.world.time) f) self.old self.new log.old log.new }
     {
         let now = self.world.time;
-        let Ok(mut heard) = lent(self.alloc, self.heard.take()) else {
-            return Turn::Over(Status::NoMemory);
-        };
         let Stage::Waiting(_, fetch) = &mut self.stage else {
             unreachable!()
         };
-        match fetch.time(now, &mut heard) {
-            Ok(()) => self.heed_kept(heard, log),
+        match fetch.time(now, &mut desk.heard) {
+            Ok(()) => self.heed(&desk.heard, &mut desk.room, log),
             Err(NoMemory) => Turn::Over(Status::NoMemory),
         }
     }
@@ -202,7 +221,7 @@ impl Client {
             unreachable!()
         };
         put_step(self.used, log);
-        put_over(fetch.number, STOPPED, log);
+        put_over(fetch.number, Plain::Stopped.cause(), log);
         self.stage = Stage::Stopped;
         Turn::Over(Status::Unfinished)
     }

@@ -14,9 +14,13 @@ pub record Frame : Type 0 where
 abbrev pub frame_of : EtherFrame → Frame
 frame_of f = record { dst = f.dst; src = f.src; kind = f.kind; body = f.body.now }
 
+-- what stands before a frame's body
+abbrev pub frame_head : Mac → Mac → ℕ → List ℕ
+frame_head dst src kind = dst.0 ++ src.0 ++ to_be_bytes w16 kind
+
 -- a frame's spelling
 abbrev pub frame_text : Frame → List ℕ
-frame_text f = f.dst.0 ++ f.src.0 ++ to_be_bytes w16 f.kind ++ f.body
+frame_text f = frame_head f.dst f.src f.kind ++ f.body
 
 -- these bytes are the frame
 pub record IsFrame (bytes : List ℕ) (f : Frame) : Type 0 where

@@ -78,7 +78,8 @@ impl Arp {
         })
     }
 
-    fn bytes(&self) -> [u8; 28]
+    /// The message's 28 bytes.
+    pub fn bytes(&self) -> [u8; 28]
         ensures value { result ≡ arp_text self.now }
         ensures readable { HasForm (arp_text self.now) self.now }
     {

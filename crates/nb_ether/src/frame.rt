@@ -1,5 +1,4 @@
-ghost use Rattle.std.specs.Prelude.{◌≡◌, ◌+◌, ◌<◌, ◌++◌, ◌↔◌, length, IfSome, IsSomeAnd, IsErr, OnOk, OnErr};
-ghost use Rattle.std.specs.Int.{w16, to_be_bytes};
+ghost use Rattle.std.specs.Prelude.{◌≡◌, ℕ, ◌+◌, ◌<◌, List, ◌++◌, ◌↔◌, length, IfSome, IsSomeAnd, IsErr, OnOk, OnErr};
 
 use nb_wire::{Full, Mac, Out};
 
@@ -23,7 +22,7 @@ pub struct EtherFrame<'a> {
 }
 
 impl<'a> EtherFrame<'a> {
-    ghost use Rattle.nb_ether.specs.Frame.{Frame, IsFrame, frame_of, frame_text};
+    ghost use Rattle.nb_ether.specs.Frame.{Frame, IsFrame, frame_of, frame_head, frame_text};
 
     /// The frame that the bytes are, if they are one.
     pub fn read(bytes: &'a [u8]) -> Option<EtherFrame<'a>>
@@ -51,16 +50,19 @@ impl<'a> EtherFrame<'a> {
         ensures refused { OnErr result (out.new ≡ out.old) }
         ensures readable { IsFrame (frame_text (frame_of self.now)) (frame_of self.now) }
     {
-        out.put_both(&self.header(), self.body)
+        out.put_both(&EtherFrame::head(self.dst, self.src, self.kind), self.body)
     }
 
-    fn header(&self) -> [u8; 14]
-        ensures value { result ≡ self.now.dst.0 ++ self.now.src.0 ++ to_be_bytes w16 self.now.kind }
-        ensures readable { IsFrame (frame_text (frame_of self.now)) (frame_of self.now) }
+    /// The fourteen bytes before a frame's body, for who puts the body after them.
+    #[inline(always)]
+    pub fn head(dst: Mac, src: Mac, kind: u16) -> [u8; 14]
+        ensures value { result ≡ frame_head dst src kind }
+        ensures readable { (body : List ℕ) → IsFrame (frame_head dst src kind ++ body)
+            (record { dst = dst; src = src; kind = kind; body = body }) }
     {
-        let Mac([d0, d1, d2, d3, d4, d5]) = self.dst;
-        let Mac([s0, s1, s2, s3, s4, s5]) = self.src;
-        let [k0, k1] = self.kind.to_be_bytes();
+        let Mac([d0, d1, d2, d3, d4, d5]) = dst;
+        let Mac([s0, s1, s2, s3, s4, s5]) = src;
+        let [k0, k1] = kind.to_be_bytes();
         [d0, d1, d2, d3, d4, d5, s0, s1, s2, s3, s4, s5, k0, k1]
     }
 }

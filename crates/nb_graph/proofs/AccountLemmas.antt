@@ -1,18 +1,30 @@
 -- Accounts after one deed and after many, and what keeps links.
+use Rattle.nb_graph.specs.Trace.{Nature}
 use Rattle.std.proofs.Common.{◌≡◌, ℕ, ◌⊎◌, inl, inr, List, [], ◌∷◌, ◌++◌, refl, ap, sym, ◌∙◌, subst}
 use Rattle.nb_ledger.specs.declared.port.Port.{Port}
 use Rattle.nb_ledger.specs.declared.event.GraphEvent.{GraphEvent}
 use Rattle.nb_ledger.specs.Ledger.{Ledger, port, open_count}
 use Rattle.nb_graph.specs.Deeds.{Deed, writes, calls, turns, Turn}
-use Rattle.nb_graph.specs.Accounts.{Account, Joined, joined, parted, account, after_note, rests}
+use Rattle.nb_graph.specs.Accounts.{Account, Joined, Midway, joined, parted, account, after_note, rests}
 use Rattle.nb_graph.specs.Flows.{IsShut, Still}
 use Rattle.nb_graph.specs.Moves.{Calms, Mild}
 
-pub account-append : {N L : Type 0} (parts : L → List ℕ) (p : Port) (a : Account) (ds es : List (Deed N L)) → account parts p a (ds ++ es) ≡ account parts p (account parts p a ds) es
+pub account-append : {N L : Type 0} (parts : Nature N L) (p : Port) (a : Account) (ds es : List (Deed N L)) → account parts p a (ds ++ es) ≡ account parts p (account parts p a ds) es
 account-append parts p a [] es = refl
 account-append parts p a (writes e ∷ ds) es = account-append parts p (after_note p a e) ds es
 account-append parts p a (calls y e ∷ ds) es = account-append parts p _ ds es
 account-append parts p a (turns u ∷ ds) es = account-append parts p a ds es
+
+-- what was taken is the first of what was sent
+pub start-joined : {l : Ledger} {p q : Port} {s t w : List ℕ} → Joined l p q s t w → (rest : List ℕ) × (s ≡ t ++ rest)
+start-joined {w = w} (joined a b c d e) = (w, e)
+start-joined (parted a b c d r e) = (r, e)
+
+pub Midway-append : {N L : Type 0} (parts : Nature N L) (p q : Port) (a b : Account) (ds es : List (Deed N L)) → Midway parts p q a b ds → Midway parts p q (account parts p a ds) (account parts q b ds) es → Midway parts p q a b (ds ++ es)
+Midway-append parts p q a b [] es m n = n
+Midway-append parts p q a b (writes e ∷ ds) es m n = (m.0, Midway-append parts p q (after_note p a e) (after_note q b e) ds es m.1 n)
+Midway-append parts p q a b (calls y e ∷ ds) es m n = (m.0, Midway-append parts p q _ _ ds es m.1 n)
+Midway-append parts p q a b (turns u ∷ ds) es m n = Midway-append parts p q a b ds es m n
 
 pub Mild-same : {old new : Ledger} → new.made ≡ old.made → ((x k : ℕ) → port new x k ≡ port old x k) → Mild old new
 Mild-same m s = record { same_made = m; links = λ x k q h. sym (s x k) ∙ h; keeps = λ x k q h. s x k ∙ h; shuts = λ x k h. ap open_count (s x k) ∙ h }
@@ -30,7 +42,7 @@ Joined-mild {p = p} {q = q} m (joined a b c d e) = joined (rw m.same_made a) (rw
 Joined-mild {p = p} {q = q} m (parted a b c d r e) = parted (rw m.same_made a) (rw m.same_made b) (m.shuts p.obj.0 p.slot c) (m.shuts q.obj.0 q.slot d) r e
 
 -- nothing happens
-pub Calms-none : {N L : Type 0} (parts : L → List ℕ) (l : Ledger) → Calms {N = N} {L = L} parts l l Still []
+pub Calms-none : {N L : Type 0} (parts : Nature N L) (l : Ledger) → Calms {N = N} {L = L} parts l l Still []
 Calms-none parts l = record {
   same_made = refl;
   links = λ x k q h. h;
@@ -39,10 +51,12 @@ Calms-none parts l = record {
   enters = λ q b h. h;
   quiet = λ q b o h. h;
   joins = λ p q a b w v f j. subst (Joined l p q a.sent b.taken) f j;
+  midway = λ p q a b w v f j. λ _. start-joined j;
+  apart = λ p q a b n. λ e. absurd (n e);
 }
 
 -- an event of which accounts say nothing
-pub Calms-plain : {N L : Type 0} (parts : L → List ℕ) (old new : Ledger) (e : GraphEvent) → Mild old new → ((p : Port) (a : Account) → after_note p a e ≡ rests a) → Calms {N = N} {L = L} parts old new Still (writes e ∷ [])
+pub Calms-plain : {N L : Type 0} (parts : Nature N L) (old new : Ledger) (e : GraphEvent) → Mild old new → ((p : Port) (a : Account) → after_note p a e ≡ rests a) → Calms {N = N} {L = L} parts old new Still (writes e ∷ [])
 Calms-plain parts old new e m plain = record {
   same_made = m.same_made;
   links = m.links;
@@ -51,10 +65,12 @@ Calms-plain parts old new e m plain = record {
   enters = λ q b h. ap (λ z. z.entered) (plain q b) ∙ h;
   quiet = λ q b o h. ap (λ z. z.entered) (plain q b) ∙ h;
   joins = λ p q a b w v f j. rw (plain p a, plain q b, sym f) (Joined-mild m j);
+  midway = λ p q a b w v f j. (λ _. start-joined j, λ _. rw (plain p a, plain q b) (start-joined j));
+  apart = λ p q a b n. (λ e. absurd (n e), λ e. absurd (n (sym (ap (λ z. z.peer) (plain p a)) ∙ e)));
 }
 
 -- something turns
-pub Calms-turn : {N L : Type 0} (parts : L → List ℕ) (l : Ledger) (u : Turn) → Calms {N = N} {L = L} parts l l Still (turns u ∷ [])
+pub Calms-turn : {N L : Type 0} (parts : Nature N L) (l : Ledger) (u : Turn) → Calms {N = N} {L = L} parts l l Still (turns u ∷ [])
 Calms-turn parts l u = record {
   same_made = refl;
   links = λ x k q h. h;
@@ -63,10 +79,12 @@ Calms-turn parts l u = record {
   enters = λ q b h. h;
   quiet = λ q b o h. h;
   joins = λ p q a b w v f j. subst (Joined l p q a.sent b.taken) f j;
+  midway = λ p q a b w v f j. λ _. start-joined j;
+  apart = λ p q a b n. λ e. absurd (n e);
 }
 
 -- one call after the other
-pub Calms-then : {N L : Type 0} {parts : L → List ℕ} {a b c : Ledger} {f g h : Port → Port → Account → List ℕ → List ℕ → Type 0} {ds es : List (Deed N L)} → Calms parts a b f ds → Calms parts b c g es → ((p q : Port) (x y : Account) (w v : List ℕ) → h p q y w v → Joined a p q x.sent y.taken w → (u : List ℕ) × f p q y w u × (Joined b p q (account parts p x ds).sent (account parts q y ds).taken u → g p q (account parts q y ds) u v)) → Calms parts a c h (ds ++ es)
+pub Calms-then : {N L : Type 0} {parts : Nature N L} {a b c : Ledger} {f g h : Port → Port → Account → List ℕ → List ℕ → Type 0} {ds es : List (Deed N L)} → Calms parts a b f ds → Calms parts b c g es → ((p q : Port) (x y : Account) (w v : List ℕ) → h p q y w v → Joined a p q x.sent y.taken w → (u : List ℕ) × f p q y w u × (Joined b p q (account parts p x ds).sent (account parts q y ds).taken u → g p q (account parts q y ds) u v)) → Calms parts a c h (ds ++ es)
 Calms-then {parts = parts} {c = c} {ds = ds} {es = es} k l split = record {
   same_made = l.same_made ∙ k.same_made;
   links = λ x j q h. k.links x j q (l.links x j q h);
@@ -78,14 +96,19 @@ Calms-then {parts = parts} {c = c} {ds = ds} {es = es} k l split = record {
       let s = split p q x y w v i j in
       let mid = k.joins p q x y w s.0 s.1 j in
       rw (account-append parts p x ds es, account-append parts q y ds es) (l.joins p q (account parts p x ds) (account parts q y ds) s.0 v (s.2 mid) mid);
+  midway = λ p q x y w v i j.
+      let s = split p q x y w v i j in
+      let mid = k.joins p q x y w s.0 s.1 j in
+      Midway-append parts p q x y ds es (k.midway p q x y w s.0 s.1 j) (l.midway p q (account parts p x ds) (account parts q y ds) s.0 v (s.2 mid) mid);
+  apart = λ p q x y n. Midway-append parts p q x y ds es (k.apart p q x y n) (l.apart p q (account parts p x ds) (account parts q y ds) (λ e. n (sym (k.peers p x) ∙ e)));
 }
 
 -- what is pending stays, twice
-pub Still-both : {N L : Type 0} {parts : L → List ℕ} {a b c : Ledger} {ds es : List (Deed N L)} → Calms parts a b Still ds → Calms parts b c Still es → Calms parts a c Still (ds ++ es)
+pub Still-both : {N L : Type 0} {parts : Nature N L} {a b c : Ledger} {ds es : List (Deed N L)} → Calms parts a b Still ds → Calms parts b c Still es → Calms parts a c Still (ds ++ es)
 Still-both k l = Calms-then k l (λ p q x y w v e j. (w, refl, λ _. e))
 
 -- the same where less is asked
-pub Calms-weaken : {N L : Type 0} {parts : L → List ℕ} {a b : Ledger} {f g : Port → Port → Account → List ℕ → List ℕ → Type 0} {ds : List (Deed N L)} → Calms parts a b f ds → ((p q : Port) (x y : Account) (w v : List ℕ) → g p q y w v → Joined a p q x.sent y.taken w → f p q y w v) → Calms parts a b g ds
+pub Calms-weaken : {N L : Type 0} {parts : Nature N L} {a b : Ledger} {f g : Port → Port → Account → List ℕ → List ℕ → Type 0} {ds : List (Deed N L)} → Calms parts a b f ds → ((p q : Port) (x y : Account) (w v : List ℕ) → g p q y w v → Joined a p q x.sent y.taken w → f p q y w v) → Calms parts a b g ds
 Calms-weaken k less = record {
   same_made = k.same_made;
   links = k.links;
@@ -94,13 +117,15 @@ Calms-weaken k less = record {
   enters = k.enters;
   quiet = k.quiet;
   joins = λ p q x y w v i j. k.joins p q x y w v (less p q x y w v i j) j;
+  midway = λ p q x y w v i j. k.midway p q x y w v (less p q x y w v i j) j;
+  apart = k.apart;
 }
 
 -- and of equal books
-pub Calms-books : {N L : Type 0} {parts : L → List ℕ} {a b c : Ledger} {f : Port → Port → Account → List ℕ → List ℕ → Type 0} {ds : List (Deed N L)} → c ≡ b → Calms parts a b f ds → Calms parts a c f ds
+pub Calms-books : {N L : Type 0} {parts : Nature N L} {a b c : Ledger} {f : Port → Port → Account → List ℕ → List ℕ → Type 0} {ds : List (Deed N L)} → c ≡ b → Calms parts a b f ds → Calms parts a c f ds
 Calms-books {parts = parts} {a = a} {f = f} {ds = ds} e k = subst (λ z. Calms parts a z f ds) (sym e) k
 
-pub Calms-at : {N L : Type 0} {parts : L → List ℕ} {a b : Ledger} {ds : List (Deed N L)} → b ≡ a → Calms parts b b Still ds → Calms parts a a Still ds
+pub Calms-at : {N L : Type 0} {parts : Nature N L} {a b : Ledger} {ds : List (Deed N L)} → b ≡ a → Calms parts b b Still ds → Calms parts a a Still ds
 Calms-at {parts = parts} {ds = ds} e k = subst (λ z. Calms parts z z Still ds) e k
 
 -- what is pending at a shut port doesn't matter
@@ -108,7 +133,7 @@ pub Joined-any : {l : Ledger} {p q : Port} {s t w : List ℕ} (v : List ℕ) →
 Joined-any v z (joined a b c d e) = absurd (let i = sym (ap open_count c) ∙ z in cc)
 Joined-any v z (parted a b c d r e) = parted a b c d r e
 
-pub Calms-idle : {N L : Type 0} {parts : L → List ℕ} {a b : Ledger} {f : Port → Port → Account → List ℕ → List ℕ → Type 0} {ds : List (Deed N L)} → Calms parts a b Still ds → ((p q : Port) (x y : Account) (w v : List ℕ) → f p q y w v → Joined a p q x.sent y.taken w → IsShut a p ⊎ (w ≡ v)) → Calms parts a b f ds
+pub Calms-idle : {N L : Type 0} {parts : Nature N L} {a b : Ledger} {f : Port → Port → Account → List ℕ → List ℕ → Type 0} {ds : List (Deed N L)} → Calms parts a b Still ds → ((p q : Port) (x y : Account) (w v : List ℕ) → f p q y w v → Joined a p q x.sent y.taken w → IsShut a p ⊎ (w ≡ v)) → Calms parts a b f ds
 Calms-idle {a = a} k idle = record {
   same_made = k.same_made;
   links = k.links;
@@ -120,4 +145,9 @@ Calms-idle {a = a} k idle = record {
     | inl z ↦ k.joins p q x y v v refl (Joined-any v z j)
     | inr e ↦ k.joins p q x y w v e j
   ];
+  midway = λ p q x y w v i j. elim (idle p q x y w v i j) [
+    | inl z ↦ k.midway p q x y v v refl (Joined-any v z j)
+    | inr e ↦ k.midway p q x y w v e j
+  ];
+  apart = k.apart;
 }

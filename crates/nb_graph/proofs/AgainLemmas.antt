@@ -4,11 +4,11 @@ use Rattle.std.proofs.Common.{◌+◌, ◌<◌, ◌≤◌, IfSome, arith, length
 use Rattle.nb_ledger.specs.declared.message.Msg.{Msg}
 use Rattle.nb_ledger.specs.declared.port.Port.{Port}
 use Rattle.nb_ledger.specs.Ledger.{Ledger}
-use Rattle.nb_graph.specs.Trace.{Entry, Said}
-use Rattle.nb_graph.specs.declared.steps.Asked.{Asked}
+use Rattle.nb_graph.specs.Trace.{Nature, Entry, Said}
+use Rattle.nb_graph.specs.declared.asking.Asked.{Asked}
 use Rattle.nb_graph.specs.Again.{Delivered, Gives, Goes, GoesOn, Left, LeftOn}
 
-module _ {N L : Type 0} (stands : N → List (Entry N L) → Type 0) (parts : L → List ℕ) (now : ℕ) (at : Port) (m : Said) (a b d : Ledger) (na nb nd : List N) (before mid next : Option (List Notice)) where
+module _ {N L : Type 0} (stands : N → List (Entry N L) → Type 0) (parts : Nature N L) (now : ℕ) (at : Port) (m : Said) (a b d : Ledger) (na nb nd : List N) (before mid next : Option (List Notice)) where
   pub GoesOn-left : (took : ℕ) (asked : Asked N L) → ((c : Ledger) (nc : List N) (after : Option (List Notice)) → Left stands parts now at took m b c nb nc mid after → Goes stands parts now at m asked a c na nc before after) → (r : Option Msg) → LeftOn stands parts now at took m b d nb nd mid next r → GoesOn stands parts now at m asked a d na nd before next r
   GoesOn-left took asked h None x = h d nd next x
   GoesOn-left took asked h (Some r) x = λ c nc after k. h c nc after (x c nc after k)

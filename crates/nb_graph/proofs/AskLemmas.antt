@@ -1,5 +1,7 @@
 -- Bytes on links through the call of a node, and through a whole entry from below or by time.
-use Rattle.std.proofs.Common.{◌≡◌, ℕ, ◌≤◌, inl, inr, Bool, true, false, List, [], ◌∷◌, ◌++◌, eqb, cond, refl, ap, sym, ◌∙◌, append_assoc, append-nil}
+use Rattle.nb_graph.proofs.AccountLemmas.{Midway-append, start-joined}
+use Rattle.nb_graph.specs.Trace.{Nature}
+use Rattle.std.proofs.Common.{Some, ◌≡◌, ℕ, ◌≤◌, inl, inr, Bool, true, false, List, [], ◌∷◌, ◌++◌, eqb, cond, refl, ap, sym, ◌∙◌, append_assoc, append-nil}
 use Rattle.std.proofs.lemmas.Bool.{cases_eq, cases_Bool, false≢true}
 use Rattle.nb_ledger.specs.declared.port.Port.{Port}
 use Rattle.nb_ledger.specs.declared.port.PortState.{PortState}
@@ -15,7 +17,7 @@ use Rattle.nb_graph.specs.Whole.{IsLinked}
 use Rattle.nb_graph.specs.Accounts.{Account, Joined, joined, parted, account, after_note, enters, is_port, rests}
 use Rattle.nb_graph.specs.Flows.{IsShut, Still, Asking, Delivering, Doing, nothing, own, counted}
 use Rattle.nb_graph.specs.Moves.{Calms, Livens, Asks, HasAsked, always, none_due}
-use Rattle.nb_graph.proofs.LivensLemmas.{port-eq}
+use Rattle.nb_graph.proofs.LivensLemmas.{cases_peer, port-eq}
 use Rattle.nb_graph.proofs.AccountLemmas.{Joined-mild, account-append}
 use Rattle.nb_graph.specs.Moves.{Mild}
 use Rattle.nb_graph.proofs.CalmLemmas.{linked-apart}
@@ -70,26 +72,34 @@ module _ (l : Ledger) (at : Port) (sent taken : ℕ → List ℕ) (got behind m 
         | inr k ↦ false≢true (sym (down (rw (ap (λ u. u.slot) i.0) one) k) ∙ i.1)
       ]
 
-pub Livens-ask : {N L : Type 0} {parts : L → List ℕ} {l c : Ledger} {ds es : List (Deed N L)} (at : Port) (sent taken : ℕ → List ℕ) (got behind m : List ℕ) → 1 ≤ at.slot → IsOpen (port l at.obj.0 at.slot) → IsLinked (port l) (rank l) → taken at.slot ≡ got → ((k : ℕ) → (k ≡ at.slot → ⊥) → taken k ≡ []) → got ++ behind ≡ m → Calms parts l l (Asking l at.obj.0 sent taken) ds → Asks parts at.obj.0 sent ds → Livens parts l c (HasAsked at.obj.0 sent) none_due (Delivering l at behind sent) es → Livens parts l c always none_due (Delivering l at m nothing) (ds ++ es)
+pub Livens-ask : {N L : Type 0} {parts : Nature N L} {l c : Ledger} {ds es : List (Deed N L)} (at : Port) (sent taken : ℕ → List ℕ) (got behind m : List ℕ) → 1 ≤ at.slot → IsOpen (port l at.obj.0 at.slot) → IsLinked (port l) (rank l) → taken at.slot ≡ got → ((k : ℕ) → (k ≡ at.slot → ⊥) → taken k ≡ []) → got ++ behind ≡ m → Calms parts l l (Asking l at.obj.0 sent taken) ds → Asks parts at.obj.0 sent ds → Livens parts l c (HasAsked at.obj.0 sent) none_due (Delivering l at behind sent) es → Livens parts l c always none_due (Delivering l at m nothing) (ds ++ es)
 Livens-ask {parts = parts} {l = l} {ds = ds} {es = es} at sent taken got behind m one opened links there only all k asked r = record {
   quiet = λ q y o i h. ap (λ z. z.entered) (account-append parts q y ds es) ∙ r.quiet q (account parts q y ds) o i (k.quiet q y o h);
   joins = λ p q x y w v i j.
       let s = asks l at sent taken got behind m one opened links there only all p q y (account parts q y ds) x.sent y.taken w v (k.enters q y) (λ o. k.quiet q y o) i j in
       let last = r.joins p q (account parts p x ds) (account parts q y ds) s.0 v s.2 (k.joins p q x y w s.0 s.1 j) in
       rw (account-append parts p x ds es, account-append parts q y ds es) (last.0, λ e. last.1 (k.enters q y e));
+  midway = λ p q x y w v i j.
+      let s = asks l at sent taken got behind m one opened links there only all p q y (account parts q y ds) x.sent y.taken w v (k.enters q y) (λ o. k.quiet q y o) i j in
+      Midway-append parts p q x y ds es (k.midway p q x y w s.0 s.1 j) (r.midway p q (account parts p x ds) (account parts q y ds) s.0 v s.2 (k.joins p q x y w s.0 s.1 j));
+  newly = λ p q x y t n. Midway-append parts p q x y ds es (k.apart p q x y n) (r.newly p q (account parts p x ds) (account parts q y ds) (λ o. asked p x o) (λ o. n (sym (k.peers p x) ∙ o)));
   news = λ p q x y t n e.
       let i = sym (ap (λ z. z.peer) (account-append parts p x ds es)) ∙ e in
       rw (account-append parts p x ds es, account-append parts q y ds es) (r.news p q (account parts p x ds) (account parts q y ds) (λ o. asked p x o) (λ o. n (sym (k.peers p x) ∙ o)) i);
 }
 
 -- and one by time
-pub Livens-time : {N L : Type 0} {parts : L → List ℕ} {l c : Ledger} {ds es : List (Deed N L)} (x : ℕ) (sent : ℕ → List ℕ) → Calms parts l l (Asking l x sent nothing) ds → Asks parts x sent ds → Livens parts l c (HasAsked x sent) none_due (Doing l x sent) es → Livens parts l c always none_due (Doing l x nothing) (ds ++ es)
+pub Livens-time : {N L : Type 0} {parts : Nature N L} {l c : Ledger} {ds es : List (Deed N L)} (x : ℕ) (sent : ℕ → List ℕ) → Calms parts l l (Asking l x sent nothing) ds → Asks parts x sent ds → Livens parts l c (HasAsked x sent) none_due (Doing l x sent) es → Livens parts l c always none_due (Doing l x nothing) (ds ++ es)
 Livens-time {parts = parts} {l = l} {ds = ds} {es = es} x sent k asked r = record {
   quiet = λ q y o i h. ap (λ z. z.entered) (account-append parts q y ds es) ∙ r.quiet q (account parts q y ds) o i (k.quiet q y o h);
   joins = λ p q a y w v i j.
       let s = asks p q y (account parts q y ds) w v i in
       let last = r.joins p q (account parts p a ds) (account parts q y ds) s.0 v s.2 (k.joins p q a y w s.0 s.1 j) in
       rw (account-append parts p a ds es, account-append parts q y ds es) (last.0, λ e. last.1 (k.enters q y e));
+  midway = λ p q a y w v i j.
+      let s = asks p q y (account parts q y ds) w v i in
+      Midway-append parts p q a y ds es (k.midway p q a y w s.0 s.1 j) (r.midway p q (account parts p a ds) (account parts q y ds) s.0 v s.2 (k.joins p q a y w s.0 s.1 j));
+  newly = λ p q a y t n. Midway-append parts p q a y ds es (k.apart p q a y n) (r.newly p q (account parts p a ds) (account parts q y ds) (λ o. asked p a o) (λ o. n (sym (k.peers p a) ∙ o)));
   news = λ p q a y t n e.
       let i = sym (ap (λ z. z.peer) (account-append parts p a ds es)) ∙ e in
       rw (account-append parts p a ds es, account-append parts q y ds es) (r.news p q (account parts p a ds) (account parts q y ds) (λ o. asked p a o) (λ o. n (sym (k.peers p a) ∙ o)) i);
@@ -103,7 +113,7 @@ Livens-time {parts = parts} {l = l} {ds = ds} {es = es} x sent k asked r = recor
         go free (inr (n, quiet, h)) = (w, (ap (λ u. w ++ u) (own-else x sent p n) ∙ append-nil w ∙ ap (λ u. u ++ w) (sym free), λ _. free), inr (n, quiet, h))
 
 -- a whole entry from below or by time
-pub Livens-entry : {N L : Type 0} {parts : L → List ℕ} {b0 b1 b2 b3 : Ledger} {ds es : List (Deed N L)} {inner outer : Port → Port → Account → List ℕ → List ℕ → Type 0} (x : ℕ) (e : GraphEvent) → busy b0 x ≡ false → ((y : ℕ) → (y ≡ x → ⊥) → busy b1 y ≡ busy b0 y) → Mild b0 b1 → ((p : Port) (a : Account) → ((after_note p a e).sent ≡ a.sent) × ((after_note p a e).taken ≡ a.taken) × ((after_note p a e).peer ≡ a.peer) × (a.entered ≡ true → (after_note p a e).entered ≡ true) × ((p.obj.0 ≡ x → ⊥) → (after_note p a e).entered ≡ a.entered)) → ((p q : Port) (y : Account) (w v : List ℕ) → outer p q y w v → inner p q (after_note q y e) w v) → Livens parts b1 b2 always none_due inner ds → Calms parts b2 b3 Still es → Livens parts b0 b3 always none_due outer (writes e ∷ (ds ++ es))
+pub Livens-entry : {N L : Type 0} {parts : Nature N L} {b0 b1 b2 b3 : Ledger} {ds es : List (Deed N L)} {inner outer : Port → Port → Account → List ℕ → List ℕ → Type 0} (x : ℕ) (e : GraphEvent) → busy b0 x ≡ false → ((y : ℕ) → (y ≡ x → ⊥) → busy b1 y ≡ busy b0 y) → Mild b0 b1 → ((p : Port) (a : Account) → ((after_note p a e).sent ≡ a.sent) × ((after_note p a e).taken ≡ a.taken) × ((after_note p a e).peer ≡ a.peer) × (a.entered ≡ true → (after_note p a e).entered ≡ true) × ((p.obj.0 ≡ x → ⊥) → (after_note p a e).entered ≡ a.entered)) → ((p q : Port) (y : Account) (w v : List ℕ) → outer p q y w v → inner p q (after_note q y e) w v) → Livens parts b1 b2 always none_due inner ds → Calms parts b2 b3 Still es → Livens parts b0 b3 always none_due outer (writes e ∷ (ds ++ es))
 Livens-entry {parts = parts} {b0 = b0} {b1 = b1} {ds = ds} {es = es} x e idle same mild note turn k last = record {
   quiet = λ q y o r h.
       let n = other q r in
@@ -113,6 +123,19 @@ Livens-entry {parts = parts} {b0 = b0} {b1 = b1} {ds = ds} {es = es} x e idle sa
       let nq = note q y in
       let in_ = k.joins p q (after_note p a e) (after_note q y e) w v (turn p q y w v i) (rw (np.0, nq.1) (Joined-mild mild j)) in
       rw (account-append parts p (after_note p a e) ds es, account-append parts q (after_note q y e) ds es) (last.joins p q _ _ v v refl in_.0, λ h. last.enters q _ (in_.1 (nq.3 h)));
+  midway = λ p q a y w v i j.
+      let np = note p a in
+      let nq = note q y in
+      let was : Joined b1 p q (after_note p a e).sent (after_note q y e).taken w = rw (np.0, nq.1) (Joined-mild mild j) in
+      (λ _. start-joined j, Midway-append parts p q (after_note p a e) (after_note q y e) ds es (k.midway p q (after_note p a e) (after_note q y e) w v (turn p q y w v i) was) (last.midway p q (account parts p (after_note p a e) ds) (account parts q (after_note q y e) ds) v v refl (k.joins p q (after_note p a e) (after_note q y e) w v (turn p q y w v i) was).0));
+  newly = λ p q a y t n.
+      let m : ((after_note p a e).peer ≡ Some q → ⊥) = λ h. n (sym (note p a).2 ∙ h) in (
+        λ h. absurd (n h),
+        Midway-append parts p q (after_note p a e) (after_note q y e) ds es (k.newly p q (after_note p a e) (after_note q y e) tt m) (elim (cases_peer (account parts p (after_note p a e) ds).peer q) [
+          | inl o ↦ last.midway p q (account parts p (after_note p a e) ds) (account parts q (after_note q y e) ds) [] [] refl (k.news p q (after_note p a e) (after_note q y e) tt m o).0
+          | inr o ↦ last.apart p q (account parts p (after_note p a e) ds) (account parts q (after_note q y e) ds) o
+        ]),
+      );
   news = λ p q a y t n i.
       let j = sym (ap (λ z. z.peer) (account-append parts p (after_note p a e) ds es)) ∙ i in
       let s = k.news p q (after_note p a e) (after_note q y e) tt (λ h. n (sym (note p a).2 ∙ h)) (sym (last.peers p (account parts p (after_note p a e) ds)) ∙ j) in

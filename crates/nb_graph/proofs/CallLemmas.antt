@@ -1,4 +1,5 @@
 -- What a call of a node, and the close of a link, leave of the bytes on links.
+use Rattle.nb_graph.proofs.AccountLemmas.{start-joined}
 use Rattle.std.proofs.Common.{◌≡◌, ℕ, inl, inr, Bool, true, false, List, [], ◌∷◌, ◌++◌, refl, ap, sym, ◌∙◌, subst, append_assoc, append-nil, eqb, cond}
 use Rattle.std.proofs.lemmas.Bool.{eq-eqb}
 use Rattle.nb_terms.specs.declared.cause.Cause.{Cause}
@@ -8,7 +9,7 @@ use Rattle.nb_ledger.specs.declared.event.GraphEvent.TheVariants.{Closed, Entere
 use Rattle.nb_ledger.specs.declared.event.Way.TheVariants.{Close}
 use Rattle.nb_ledger.specs.Ledger.{Ledger, port, rank, open_count}
 use Rattle.nb_ledger.specs.GraphRun.{port_but}
-use Rattle.nb_graph.specs.Trace.{Entry}
+use Rattle.nb_graph.specs.Trace.{Nature, Entry}
 use Rattle.nb_graph.specs.Deeds.{writes, calls}
 use Rattle.nb_graph.specs.Whole.{IsLinked}
 use Rattle.nb_graph.specs.Calm.{HalfCloses}
@@ -25,7 +26,7 @@ pub Joined-call : {l : Ledger} {p q : Port} {s t w : List ℕ} (bs bt v : List �
 Joined-call {s = s} {t = t} {w = w} bs bt v e n (joined a b c d h) = joined a b c d (ap (λ z. z ++ bs) h ∙ append_assoc t w bs ∙ ap (λ z. t ++ z) e ∙ sym (append_assoc t bt v))
 Joined-call {s = s} {t = t} bs bt v e n (parted a b c d r h) = parted a b c d (r ++ bs) (ap (λ z. z ++ bs) h ∙ append_assoc t r bs ∙ ap (λ z. z ++ (r ++ bs)) (sym (append-nil t) ∙ ap (λ z. t ++ z) (sym (n d))))
 
-module _ {N L : Type 0} (parts : L → List ℕ) (e : Entry N L) where
+module _ {N L : Type 0} (parts : Nature N L) (e : Entry N L) where
   call-peer : (c : Bool) (p : Port) (a : Account) → (cond c (after_call parts p a e) (rests a)).peer ≡ a.peer
   call-peer true p a = refl
   call-peer false p a = refl
@@ -43,7 +44,7 @@ module _ {N L : Type 0} (parts : L → List ℕ) (e : Entry N L) where
   call-taken false q b taken h = sym (append-nil b.taken)
 
 -- the node of y is called
-pub Calms-call : {N L : Type 0} (parts : L → List ℕ) (l : Ledger) (y : ℕ) (e : Entry N L) (sent taken : ℕ → List ℕ) → ((k : ℕ) → sent_by parts k e ≡ sent k) → ((k : ℕ) → taken_by k e ≡ taken k) → Calms parts l l (Asking l y sent taken) (calls y e ∷ [])
+pub Calms-call : {N L : Type 0} (parts : Nature N L) (l : Ledger) (y : ℕ) (e : Entry N L) (sent taken : ℕ → List ℕ) → ((k : ℕ) → sent_by parts k e ≡ sent k) → ((k : ℕ) → taken_by k e ≡ taken k) → Calms parts l l (Asking l y sent taken) (calls y e ∷ [])
 Calms-call parts l y e sent taken hs ht = record {
   same_made = refl;
   links = λ x k q h. h;
@@ -52,6 +53,8 @@ Calms-call parts l y e sent taken hs ht = record {
   enters = λ q b h. call-entered parts e (eqb q.obj.0 y) q b ∙ h;
   quiet = λ q b o h. call-entered parts e (eqb q.obj.0 y) q b ∙ h;
   joins = λ p q a b w v f j. rw (call-sent parts e (eqb p.obj.0 y) p a sent hs, call-taken parts e (eqb q.obj.0 y) q b taken ht) (Joined-call (own y sent p) (counted y taken q b) v f.0 f.1 j);
+  midway = λ p q a b w v f j. (λ _. start-joined j, λ _. rw (call-sent parts e (eqb p.obj.0 y) p a sent hs, call-taken parts e (eqb q.obj.0 y) q b taken ht) (start-joined (Joined-call (own y sent p) (counted y taken q b) v f.0 f.1 j)));
+  apart = λ p q a b n. (λ i. absurd (n i), λ i. absurd (n (sym (call-peer parts e (eqb p.obj.0 y) p a) ∙ i)));
 }
 
 enter-close : (c : Bool) (a : Account) → cond c (enters Close a) (rests a) ≡ rests a
@@ -59,7 +62,7 @@ enter-close true a = refl
 enter-close false a = refl
 
 -- both ends of a link are closed
-pub Calms-half : {N L : Type 0} (parts : L → List ℕ) (b0 b3 : Ledger) (p q : Port) (cause : Cause) → IsLinked (port b0) (rank b0) → port b0 p.obj.0 p.slot ≡ Linked q → HalfCloses b0 b3 p q → Calms {N = N} {L = L} parts b0 b3 Still (writes (Closed p cause) ∷ writes (Closed q cause) ∷ writes (Entered q Close) ∷ [])
+pub Calms-half : {N L : Type 0} (parts : Nature N L) (b0 b3 : Ledger) (p q : Port) (cause : Cause) → IsLinked (port b0) (rank b0) → port b0 p.obj.0 p.slot ≡ Linked q → HalfCloses b0 b3 p q → Calms {N = N} {L = L} parts b0 b3 Still (writes (Closed p cause) ∷ writes (Closed q cause) ∷ writes (Entered q Close) ∷ [])
 Calms-half {N} {L} parts b0 b3 p q cause l h half = record {
   same_made = half.same_made;
   links = λ x k r i. elim (cases_port x k q) [
@@ -74,6 +77,8 @@ Calms-half {N} {L} parts b0 b3 p q cause l h half = record {
   enters = λ r a i. ap (λ z. z.entered) (enter-close (is_port r q) (rests (rests a))) ∙ i;
   quiet = λ r a o i. ap (λ z. z.entered) (enter-close (is_port r q) (rests (rests a))) ∙ i;
   joins = λ r t a b w v f j. rw (enter-close (is_port r q) (rests (rests a)), enter-close (is_port t q) (rests (rests b)), sym f) (closes r t a.sent b.taken w j);
+  midway = λ r t a b w v f j. (λ _. start-joined j, (λ _. start-joined j, (λ _. start-joined j, λ _. rw (enter-close (is_port r q) (rests (rests a)), enter-close (is_port t q) (rests (rests b))) (start-joined j))));
+  apart = λ r t a b n. (λ i. absurd (n i), (λ i. absurd (n i), (λ i. absurd (n i), λ i. absurd (n (sym (ap (λ z. z.peer) (enter-close (is_port r q) (rests (rests a)))) ∙ i)))));
 }
   where
     at_q : (x k : ℕ) → (x ≡ q.obj.0) × (k ≡ q.slot) → port b3 x k ≡ Leaving p
@@ -144,5 +149,5 @@ half-left {p} {q} b0 b3 half = half.ports_set q.obj.0 q.slot ∙ port_but-same q
 pub half-gone : {b0 b3 : Ledger} {p q : Port} → IsLinked (port b0) (rank b0) → port b0 p.obj.0 p.slot ≡ Linked q → HalfCloses b0 b3 p q → port b3 p.obj.0 p.slot ≡ Leaving q
 half-gone {b0} {b3} {p} {q} l h half = half.ports_set p.obj.0 p.slot ∙ port_but-other q (Leaving p) (port_but p (Leaving q) (port b0)) p.obj.0 p.slot (λ i. linked-apart b0 p q l h i.0) ∙ port_but-same p (Leaving q) (port b0) p.obj.0 p.slot refl refl
 
-pub Asks-call : {N L : Type 0} (parts : L → List ℕ) (y : ℕ) (e : Entry N L) (sent : ℕ → List ℕ) → ((k : ℕ) → sent_by parts k e ≡ sent k) → Asks parts y sent (calls y e ∷ [])
+pub Asks-call : {N L : Type 0} (parts : Nature N L) (y : ℕ) (e : Entry N L) (sent : ℕ → List ℕ) → ((k : ℕ) → sent_by parts k e ≡ sent k) → Asks parts y sent (calls y e ∷ [])
 Asks-call parts y e sent h p a i = rw (eq-eqb p.obj.0 y i) (h p.slot)

@@ -1,4 +1,5 @@
 -- What is pending on links, through a whole entry from above.
+use Rattle.nb_graph.specs.Trace.{Nature}
 use Rattle.std.proofs.Common.{◌≡◌, ℕ, ◌⊎◌, inl, inr, true, List, [], ◌∷◌, ◌++◌, cond, refl, ap, sym, ◌∙◌, subst, append_assoc, append-nil, arith}
 use Rattle.std.proofs.lemmas.Bool.{cases_eq, eq-eqb}
 use Rattle.nb_ledger.specs.declared.port.Port.{Port}
@@ -91,7 +92,7 @@ module _ (l : Ledger) (at : Port) (zero : at.slot ≡ 0) (opened : IsOpen (port 
       ]
 
 -- a whole entry from above
-pub Calms-down : {N L : Type 0} {parts : L → List ℕ} {b0 b1 b2 b3 : Ledger} {ds es gs : List (Deed N L)} (at : Port) (sent whole : ℕ → List ℕ) (left m : List ℕ) → at.slot ≡ 0 → IsOpen (port b1 at.obj.0 at.slot) → IsLinked (port b1) (rank b1) → sent 0 ≡ [] → ((k : ℕ) → (k ≡ 0 → ⊥) → whole k ≡ []) → whole 0 ++ left ≡ m → Calms {N = N} {L = L} parts b0 b1 Still (writes (Entered at Down) ∷ []) → Calms parts b1 b1 (Asking b1 at.obj.0 sent whole) ds → Calms parts b1 b2 (Following b1 (port_at at.obj.0 0) left sent) es → Calms parts b2 b3 Still gs → Calms parts b0 b3 (Giving b0 at m) (writes (Entered at Down) ∷ (ds ++ (es ++ gs)))
+pub Calms-down : {N L : Type 0} {parts : Nature N L} {b0 b1 b2 b3 : Ledger} {ds es gs : List (Deed N L)} (at : Port) (sent whole : ℕ → List ℕ) (left m : List ℕ) → at.slot ≡ 0 → IsOpen (port b1 at.obj.0 at.slot) → IsLinked (port b1) (rank b1) → sent 0 ≡ [] → ((k : ℕ) → (k ≡ 0 → ⊥) → whole k ≡ []) → whole 0 ++ left ≡ m → Calms {N = N} {L = L} parts b0 b1 Still (writes (Entered at Down) ∷ []) → Calms parts b1 b1 (Asking b1 at.obj.0 sent whole) ds → Calms parts b1 b2 (Following b1 (port_at at.obj.0 0) left sent) es → Calms parts b2 b3 Still gs → Calms parts b0 b3 (Giving b0 at m) (writes (Entered at Down) ∷ (ds ++ (es ++ gs)))
 Calms-down {N = N} {L = L} {parts = parts} {b0 = b0} {b1 = b1} at sent whole left m zero opened links none only all note ask eff last =
     Calms-then note
     (Calms-then {h = Given b1 at m} ask

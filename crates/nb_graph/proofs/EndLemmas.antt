@@ -14,6 +14,7 @@ use Rattle.nb_graph.specs.Whole.{IsQuiet, IsGraph, KeepsRanks}
 use Rattle.nb_graph.specs.Calm.{Shrinks, IsSteady}
 use Rattle.nb_graph.specs.Ending.{LetsGo}
 use Rattle.nb_graph.proofs.WholeLemmas.{but_same, but_other}
+use Rattle.nb_graph.proofs.AgesLemmas.{Ages-refl, Ages-same, Ages-settle, Ages-trans}
 use Rattle.nb_graph.proofs.ShrinkLemmas.{Shrinks-settle}
 
 pub IsQuiet-shrinks : {old new : Ledger} → Shrinks old new → IsQuiet old → IsQuiet new
@@ -35,11 +36,12 @@ pub IsSteady-graph : {N : Type 0} {rank_of : N → ℕ} {l : Ledger} {nodes : Li
 IsSteady-graph {N} {rank_of} {l} {nodes} {cap} g = record { whole = g.whole; manned = g.manned }
 
 pub LetsGo-refl : (l : Ledger) → LetsGo l l
-LetsGo-refl l = record { same_made = refl; holds_fall = λ x. omega arith; closes = λ x k. omega arith }
+LetsGo-refl l = record { same_made = refl; ages = Ages-refl l; holds_fall = λ x. omega arith; closes = λ x k. omega arith }
 
 pub LetsGo-trans : {a b c : Ledger} → LetsGo a b → LetsGo b c → LetsGo a c
 LetsGo-trans {a} {b} {c} p q = record {
   same_made = q.same_made ∙ p.same_made;
+  ages = Ages-trans p.ages q.ages;
   holds_fall = λ x. let i = p.holds_fall x in let j = q.holds_fall x in omega arith;
   closes = λ x k. let i = p.closes x k in let j = q.closes x k in omega arith;
 }
@@ -58,6 +60,7 @@ holds-settle {old} {new} {before} {after} {id} s x = elim s.how [
 pub LetsGo-let_go : {old mid new : Ledger} {before after : Option (List Notice)} {id : ObjId} → 0 < holds old id.0 → SetsHolds old mid id.0 (holds old id.0 - 1) → Settles mid new before after id → LetsGo old new
 LetsGo-let_go {old} {mid} {new} {before} {after} {id} h s t = record {
   same_made = (Shrinks-settle t).same_made ∙ s.objects.same_made;
+  ages = Ages-trans (Ages-same s.objects) (Ages-settle t);
   holds_fall = λ x. let i = holds-settle t x in elim (cases_eq x id.0) [
     | inl e ↦ let z = s.holds_set x ∙ but_same id.0 (holds old id.0 - 1) (holds old) x e in let y = ap (holds old) e in omega arith
     | inr n ↦ let z = s.holds_set x ∙ but_other id.0 (holds old id.0 - 1) (holds old) x n in omega arith

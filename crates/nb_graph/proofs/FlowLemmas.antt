@@ -1,4 +1,5 @@
 -- What is pending on links, through the parts of a calm call.
+use Rattle.nb_graph.specs.Accounts.{Midway}
 use Rattle.std.proofs.Common.{◌≡◌, ℕ, ◌≤◌, ◌⊎◌, inl, inr, List, [], ◌++◌, Option, Some, None, IfSome, refl, ap, sym, ◌∙◌, subst, append-nil, arith}
 use Rattle.std.proofs.lemmas.Bool.{cases_eq, eq-eqb, ne_eqb}
 use Rattle.nb_ledger.specs.declared.port.Port.{Port}
@@ -7,13 +8,13 @@ use Rattle.nb_ledger.specs.Ledger.{Ledger, port, rank, open_count}
 use Rattle.nb_graph.specs.declared.effects.Emit.{Emit}
 use Rattle.nb_graph.specs.declared.effects.Few.{Few}
 use Rattle.nb_graph.specs.declared.effects.Fx.{Fx}
-use Rattle.nb_graph.specs.declared.steps.Asked.{Asked}
-use Rattle.nb_graph.specs.declared.steps.Asked.TheVariants.{Done, NoMemory}
+use Rattle.nb_graph.specs.declared.asking.Asked.{Asked}
+use Rattle.nb_graph.specs.declared.asking.Asked.TheVariants.{Done, NoMemory}
 use Rattle.nb_graph.specs.Deeds.{Deed}
 use Rattle.nb_graph.specs.Effects.{AreDowns, IsDown, MayAskBelow, MayAskDown}
 use Rattle.nb_graph.specs.Whole.{IsLinked, port_at}
 use Rattle.nb_graph.specs.Accounts.{Account, Joined, joined, parted, account, emit_bytes, few_bytes, fx_bytes}
-use Rattle.nb_graph.specs.Trace.{carries}
+use Rattle.nb_graph.specs.Trace.{Nature, carries}
 use Rattle.nb_graph.specs.Flows.{Reaches, here, over, IsClear, IsShut, Closing, Failing, Downs, Passing, Emitting, Giving, Following, asked_left, asked_sent, asked_whole, nothing}
 use Rattle.nb_graph.specs.Moves.{Calms}
 use Rattle.nb_graph.proofs.ForestLemmas.{Reaches-map, apart-without, the-port}
@@ -46,7 +47,7 @@ module _ (a b : Ledger) (links : (y k : ℕ) (q : Port) → port b y k ≡ Linke
   Downs-closing m p q y z w v (inr (inl i)) = (v, inr (inl i), inr (refl, inl i.0))
   Downs-closing m p q y z w v (inr (inr i)) = (w, inr (inr (i.0, refl, i.2)), inr (i.1, inr (IsClear-fewer a b links i.2)))
 
-module _ {L : Type 0} (parts : L → List ℕ) (bytes : List ℕ) where
+module _ {N L : Type 0} (parts : Nature N L) (bytes : List ℕ) where
   pub emit-there : (k : ℕ) (e : Emit L) → k ≡ e.slot → emit_bytes parts k bytes (Some e) ≡ carries parts bytes e.from e.to e.load
   emit-there k e h = rw (eq-eqb k e.slot h) refl
 
@@ -120,7 +121,7 @@ Passing-shut l at m h p q y w v (inr (inr i)) = inr i.1
 Passing-shut l at m h p q y w v (inr (inl i)) = inl (ap (λ u. open_count (port l u.obj.0 u.slot)) i.0 ∙ h)
 
 -- all ports of an object were closed
-pub Calms-fail : {N L : Type 0} {parts : L → List ℕ} {a b : Ledger} {x : ℕ} {ds : List (Deed N L)} → ((k : ℕ) → open_count (port b x k) ≡ 0) → Calms parts a b (Closing a x) ds → Calms parts a b (Failing a x) ds
+pub Calms-fail : {N L : Type 0} {parts : Nature N L} {a b : Ledger} {x : ℕ} {ds : List (Deed N L)} → ((k : ℕ) → open_count (port b x k) ≡ 0) → Calms parts a b (Closing a x) ds → Calms parts a b (Failing a x) ds
 Calms-fail {parts = parts} {a = a} {b = b} {x = x} {ds = ds} shut k = record {
   same_made = k.same_made;
   links = k.links;
@@ -129,6 +130,8 @@ Calms-fail {parts = parts} {a = a} {b = b} {x = x} {ds = ds} shut k = record {
   enters = k.enters;
   quiet = k.quiet;
   joins = go;
+  midway = during;
+  apart = k.apart;
 }
   where
     at_x : (p : Port) → p.obj.0 ≡ x → open_count (port b p.obj.0 p.slot) ≡ 0
@@ -138,6 +141,11 @@ Calms-fail {parts = parts} {a = a} {b = b} {x = x} {ds = ds} shut k = record {
     other p q s t w v e (joined c d f g h) = absurd (let i = sym (ap open_count g) ∙ at_x q e in cc)
     other p q s t w v e (parted c d f g r h) = parted c d f g r h
 
+    during : (p q : Port) (y z : Account) (w v : List ℕ) → Failing a x p q z w v → Joined a p q y.sent z.taken w → Midway parts p q y z ds
+    during p q y z w v (inl i) j = k.midway p q y z w v (inl i) j
+    during p q y z w v (inr (inl e, c)) j = k.midway p q y z w v (inr (e, c)) j
+    during p q y z w v (inr (inr e, c)) j = k.midway p q y z w w (inr (refl, c)) j
+
     go : (p q : Port) (y z : Account) (w v : List ℕ) → Failing a x p q z w v → Joined a p q y.sent z.taken w → Joined b p q (account parts p y ds).sent (account parts q z ds).taken v
     go p q y z w v (inl i) j = k.joins p q y z w v (inl i) j
     go p q y z w v (inr (inl e, c)) j = k.joins p q y z w v (inr (e, c)) j
@@ -145,20 +153,20 @@ Calms-fail {parts = parts} {a = a} {b = b} {x = x} {ds = ds} shut k = record {
     go p q y z w v (inr (inr (inr e), c)) j = other p q _ _ w v e (k.joins p q y z w w (inr (refl, c)) j)
 
 -- an entry from above asks for nothing that goes up
-pub few-zero : {L : Type 0} (parts : L → List ℕ) (bytes : List ℕ) (len : ℕ) (f : Few (Emit L)) → AreDowns len f → few_bytes parts 0 bytes f ≡ []
+pub few-zero : {N L : Type 0} (parts : Nature N L) (bytes : List ℕ) (len : ℕ) (f : Few (Emit L)) → AreDowns len f → few_bytes parts 0 bytes f ≡ []
 few-zero parts bytes len f d = ap (λ z. z ++ emit_bytes parts 0 bytes f.second) (none f.first d.1) ∙ none f.second d.2
   where
     none : (o : Option (Emit _)) → IfSome o (IsDown len) → emit_bytes parts 0 bytes o ≡ []
     none None h = refl
     none (Some e) h = emit-elsewhere parts bytes 0 e (λ z. let i = h.0 in absurd (omega arith))
 
-pub below-bytes : {N L : Type 0} (parts : L → List ℕ) (bytes : List ℕ) (len : ℕ) (fx : Fx N L) → MayAskBelow len fx → (k : ℕ) → fx_bytes parts k bytes fx ≡ few_bytes parts k bytes fx.downs
+pub below-bytes : {N L : Type 0} (parts : Nature N L) (bytes : List ℕ) (len : ℕ) (fx : Fx N L) → MayAskBelow len fx → (k : ℕ) → fx_bytes parts k bytes fx ≡ few_bytes parts k bytes fx.downs
 below-bytes parts bytes len fx a k = ap (λ z. few_bytes parts k bytes fx.downs ++ (emit_bytes parts k bytes z ++ emit_bytes parts k bytes fx.ups.second)) a.no_up ∙ ap (λ z. few_bytes parts k bytes fx.downs ++ emit_bytes parts k bytes z) a.no_ups ∙ append-nil (few_bytes parts k bytes fx.downs)
 
-pub below-zero : {N L : Type 0} (parts : L → List ℕ) (bytes : List ℕ) (len : ℕ) (fx : Fx N L) → MayAskBelow len fx → fx_bytes parts 0 bytes fx ≡ []
+pub below-zero : {N L : Type 0} (parts : Nature N L) (bytes : List ℕ) (len : ℕ) (fx : Fx N L) → MayAskBelow len fx → fx_bytes parts 0 bytes fx ≡ []
 below-zero parts bytes len fx a = below-bytes parts bytes len fx a 0 ∙ few-zero parts bytes len fx.downs a.downs
 
-pub asked-zero : {N L : Type 0} (parts : L → List ℕ) (bytes : List ℕ) (len : ℕ) (asked : Asked N L) → MayAskDown len asked → asked_sent parts bytes asked 0 ≡ []
+pub asked-zero : {N L : Type 0} (parts : Nature N L) (bytes : List ℕ) (len : ℕ) (asked : Asked N L) → MayAskDown len asked → asked_sent parts bytes asked 0 ≡ []
 asked-zero parts bytes len (Done fx) a = below-zero parts bytes len fx a
 asked-zero parts bytes len (NoMemory fx) a = refl
 

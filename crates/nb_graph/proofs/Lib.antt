@@ -1,5 +1,6 @@
-pub mod MachineLaws
 pub mod Laws
+pub mod AgesLemmas
+pub mod SceneLemmas
 pub mod WentLemmas
 mod AgainLemmas
 pub mod MannedLemmas

@@ -1,6 +1,6 @@
 -- The parts of an entry from below or by time, joined.
 use Rattle.nb_ledger.specs.Flat.{Notice}
-use Rattle.std.proofs.Common.{◌≡◌, ℕ, ◌<◌, ◌≤◌, inl, inr, Bool, true, false, zero, suc, ltb, List, [], ◌∷◌, ◌++◌, length, get_or, set, slice_get, map, Option, Some, None, refl, ap, sym, ◌∙◌, subst, arith}
+use Rattle.std.proofs.Common.{◌≡◌, ℕ, ◌+◌, ◌<◌, ◌≤◌, inl, inr, Bool, true, false, zero, suc, ltb, List, [], ◌∷◌, ◌++◌, length, get_or, set, slice_get, map, Option, Some, None, refl, ap, sym, ◌∙◌, subst, arith}
 use Rattle.std.proofs.lemmas.Bool.{cases_eq, cases_Bool, eq-eqb, false≢true}
 use Rattle.std.specs.Option.{option_map_or}
 use Rattle.nb_ledger.specs.declared.object.Object.{Object}
@@ -21,16 +21,18 @@ use Rattle.nb_graph.specs.Calm.{Shrinks, Calm, Ends, Starts}
 use Rattle.nb_graph.specs.Lively.{Grows, Lively, LivelyIn}
 use Rattle.nb_graph.proofs.WholeLemmas.{but_same, but_other, ports_other, two_ports}
 use Rattle.nb_graph.proofs.ShrinkLemmas.{Agrees-busy, dead-port}
+use Rattle.nb_graph.proofs.AgesLemmas.{Ages-refl, Ages-trans, Ages-shrinks, Ages-same, Ages-adds, Ages-within}
 use Rattle.nb_graph.proofs.CalmLemmas.{agrees-enter, agrees-leave, flags-back, two-keeps}
 
 pub Grows-refl : (l : Ledger) → Grows l l
-Grows-refl l = record { same_room = refl; same_busy = λ x. refl; same_leaves = λ x k. refl; kept = λ x b. refl }
+Grows-refl l = record { same_room = refl; same_busy = λ x. refl; same_leaves = λ x k. refl; ages = Ages-refl l; kept = λ x b. refl }
 
 pub Grows-trans : {a b c : Ledger} → Grows a b → Grows b c → Grows a c
 Grows-trans {a} {b} {c} p q = record {
   same_room = q.same_room ∙ p.same_room;
   same_busy = λ x. q.same_busy x ∙ p.same_busy x;
   same_leaves = λ x k. q.same_leaves x k ∙ p.same_leaves x k;
+  ages = Ages-trans p.ages q.ages;
   kept = λ x r. q.kept x (p.same_busy x ∙ r) ∙ p.kept x r;
 }
 
@@ -39,6 +41,7 @@ Grows-shrinks {old} {new} s = record {
   same_room = s.same_room;
   same_busy = s.same_busy;
   same_leaves = s.same_leaves;
+  ages = Ages-shrinks s;
   kept = λ x r. (s.kept x (busy-live new x (s.same_busy x ∙ r))).1;
 }
 
@@ -113,6 +116,7 @@ Lively-entry {b0} {b1} {b2} {new} {n0} {n1} {n2} {after} {p} {way} {was} c told 
     same_room = e.same_room ∙ k.grows.same_room ∙ c.objects.same_room;
     same_busy = back;
     same_leaves = λ x j. e.leaves_is x j ∙ k.grows.same_leaves x j ∙ ap leaves (c.same_port x j);
+    ages = Ages-trans (Ages-same c.objects) (Ages-trans k.grows.ages (Ages-within e.same_made e.kept));
     kept = λ x r. (e.kept x (busy-live new x (back x ∙ r))).1 ∙ k.grows.kept x (entered x r) ∙ c.objects.same_rank x;
   };
 }
@@ -165,8 +169,8 @@ pub new-leaves : (k : ℕ) → leaves (new_ports k) ≡ None
 new-leaves k = elim (cases_Bool (ltb k 4)) [ inl e ↦ rw e refl | inr e ↦ rw e refl ]
 
 -- an object is made and plugged
-unfoldable pub Lively-make : (b0 b1 m new : Ledger) (n0 n1 after : Option (List Notice)) (p q : Port) (r kind : ℕ) → Adds b0 b1 q.obj.0 r → live b0 q.obj.0 ≡ false → SetsPort b1 m p (Linked q) → SetsPort m new q (Linked p) → port b1 p.obj.0 p.slot ≡ Open → port b1 q.obj.0 q.slot ≡ Open → Tells n0 n1 (event.Made q.obj kind ∷ []) → ((st : List Frame) → IsIdle st → Step (state_of b0 st) (event.Made q.obj kind) (state_of b1 st)) → Tells n1 after (event.Plugged p q ∷ []) → ((st : List Frame) → IsIdle st → Step (state_of b1 st) (event.Plugged p q) (state_of new st)) → Lively b0 new n0 after
-Lively-make b0 b1 m new n0 n1 after p q r kind a d s t op oq told step more next = record {
+unfoldable pub Lively-make : (b0 b1 m new : Ledger) (n0 n1 after : Option (List Notice)) (p q : Port) (r kind : ℕ) → q.obj.0 ≡ b0.made + 1 → Adds b0 b1 q.obj.0 r → live b0 q.obj.0 ≡ false → SetsPort b1 m p (Linked q) → SetsPort m new q (Linked p) → port b1 p.obj.0 p.slot ≡ Open → port b1 q.obj.0 q.slot ≡ Open → Tells n0 n1 (event.Made q.obj kind ∷ []) → ((st : List Frame) → IsIdle st → Step (state_of b0 st) (event.Made q.obj kind) (state_of b1 st)) → Tells n1 after (event.Plugged p q ∷ []) → ((st : List Frame) → IsIdle st → Step (state_of b1 st) (event.Plugged p q) (state_of new st)) → Lively b0 new n0 after
+Lively-make b0 b1 m new n0 n1 after p q r kind serial a d s t op oq told step more next = record {
   added = event.Made q.obj kind ∷ event.Plugged p q ∷ [];
   told = Tells-append n0 n1 after (event.Made q.obj kind ∷ []) (event.Plugged p q ∷ []) told more;
   run = λ st i g. (state_of b1 st, step st i, (state_of new st, next st i, refl));
@@ -180,6 +184,7 @@ Lively-make b0 b1 m new n0 n1 after p q r kind a d s t op oq told step more next
       | inl e ↦ at_new x k e
       | inr n ↦ ap leaves (ports_other q.obj.0 new_ports (port b0) x k n)
     ];
+    ages = Ages-trans (Ages-adds serial a) (Ages-trans (Ages-same s.objects) (Ages-same t.objects));
     kept = λ x u. t.objects.same_rank x ∙ s.objects.same_rank x ∙ a.rank_set x ∙ but_other q.obj.0 r (rank b0) x (λ e. false≢true (sym d ∙ subst (λ y. live b0 y ≡ true) e (busy-live b0 x u)));
   };
 }

@@ -1,4 +1,5 @@
 -- Bytes on links through calls that may make objects.
+use Rattle.nb_graph.specs.Trace.{Nature}
 use Rattle.std.proofs.Common.{◌≡◌, ℕ, ◌≤◌, inl, inr, ◌⊎◌, true, false, List, [], ◌++◌, Option, Some, None, refl, ap, sym, ◌∙◌, subst}
 use Rattle.std.proofs.lemmas.Bool.{cases_eq}
 use Rattle.nb_ledger.specs.declared.port.Port.{Port}
@@ -6,7 +7,7 @@ use Rattle.nb_ledger.specs.Ledger.{Ledger, busy}
 use Rattle.nb_graph.specs.Deeds.{Deed}
 use Rattle.nb_graph.specs.Accounts.{Account, Joined, account}
 use Rattle.nb_graph.specs.Moves.{Calms, Livens, always, none_due}
-use Rattle.nb_graph.proofs.AccountLemmas.{account-append}
+use Rattle.nb_graph.proofs.AccountLemmas.{account-append, Midway-append}
 
 pub port-eq : (p q : Port) → p.obj.0 ≡ q.obj.0 → p.slot ≡ q.slot → p ≡ q
 port-eq p q a b = subst (λ s. p ≡ record { obj = q.obj; slot = s }) b (subst (λ x. p ≡ record { obj = record { 0 = x }; slot = p.slot }) a refl)
@@ -22,18 +23,20 @@ pub cases_peer : (m : Option Port) (q : Port) → (m ≡ Some q) ⊎ (m ≡ Some
 cases_peer None q = inr (λ e. cc)
 cases_peer (Some p) q = elim (cases_ports p q) [ inl e ↦ inl (ap Some e) | inr n ↦ inr (λ e. n (cc)) ]
 
-pub Livens-calm : {N L : Type 0} {parts : L → List ℕ} {a b : Ledger} {f : Port → Port → Account → List ℕ → List ℕ → Type 0} {ready : Port → Account → Type 0} {due : Port → Account → List ℕ} {ds : List (Deed N L)} → Calms parts a b f ds → Livens parts a b ready due f ds
+pub Livens-calm : {N L : Type 0} {parts : Nature N L} {a b : Ledger} {f : Port → Port → Account → List ℕ → List ℕ → Type 0} {ready : Port → Account → Type 0} {due : Port → Account → List ℕ} {ds : List (Deed N L)} → Calms parts a b f ds → Livens parts a b ready due f ds
 Livens-calm k = record {
   quiet = λ q b o r e. k.quiet q b o e;
   joins = λ p q x y w v i j. (k.joins p q x y w v i j, k.enters q y);
+  midway = k.midway;
+  newly = λ p q x y r n. k.apart p q x y n;
   news = λ p q x y r n e. absurd (n (sym (k.peers p x) ∙ e));
 }
 
-pub Livens-weaken : {N L : Type 0} {parts : L → List ℕ} {a b : Ledger} {f g : Port → Port → Account → List ℕ → List ℕ → Type 0} {ready : Port → Account → Type 0} {due : Port → Account → List ℕ} {ds : List (Deed N L)} → Livens parts a b ready due f ds → ((p q : Port) (x y : Account) (w v : List ℕ) → g p q y w v → Joined a p q x.sent y.taken w → f p q y w v) → Livens parts a b ready due g ds
-Livens-weaken k less = record { quiet = k.quiet; joins = λ p q x y w v i j. k.joins p q x y w v (less p q x y w v i j) j; news = k.news }
+pub Livens-weaken : {N L : Type 0} {parts : Nature N L} {a b : Ledger} {f g : Port → Port → Account → List ℕ → List ℕ → Type 0} {ready : Port → Account → Type 0} {due : Port → Account → List ℕ} {ds : List (Deed N L)} → Livens parts a b ready due f ds → ((p q : Port) (x y : Account) (w v : List ℕ) → g p q y w v → Joined a p q x.sent y.taken w → f p q y w v) → Livens parts a b ready due g ds
+Livens-weaken k less = record { quiet = k.quiet; joins = λ p q x y w v i j. k.joins p q x y w v (less p q x y w v i j) j; midway = λ p q x y w v i j. k.midway p q x y w v (less p q x y w v i j) j; newly = k.newly; news = k.news }
 
 -- one call after the other
-pub Livens-then : {N L : Type 0} {parts : L → List ℕ} {a b c : Ledger} {f g h : Port → Port → Account → List ℕ → List ℕ → Type 0} {ready : Port → Account → Type 0} {ds es : List (Deed N L)} → Livens parts a b ready none_due f ds → Livens parts b c always none_due g es → ((x : ℕ) → busy b x ≡ busy a x) → ((p q : Port) (x y : Account) (w v : List ℕ) → h p q y w v → Joined a p q x.sent y.taken w → (u : List ℕ) × f p q y w u × (Joined b p q (account parts p x ds).sent (account parts q y ds).taken u → (y.entered ≡ true → (account parts q y ds).entered ≡ true) → (1 ≤ q.slot → busy a q.obj.0 ≡ true → y.entered ≡ false → (account parts q y ds).entered ≡ false) → g p q (account parts q y ds) u v)) → ((p q : Port) (y : Account) → (p.slot ≡ 0 → busy a p.obj.0 ≡ false) → (1 ≤ q.slot → busy a q.obj.0 ≡ true → y.entered ≡ false) → g p q y [] []) → Livens parts a c ready none_due h (ds ++ es)
+pub Livens-then : {N L : Type 0} {parts : Nature N L} {a b c : Ledger} {f g h : Port → Port → Account → List ℕ → List ℕ → Type 0} {ready : Port → Account → Type 0} {ds es : List (Deed N L)} → Livens parts a b ready none_due f ds → Livens parts b c always none_due g es → ((x : ℕ) → busy b x ≡ busy a x) → ((p q : Port) (x y : Account) (w v : List ℕ) → h p q y w v → Joined a p q x.sent y.taken w → (u : List ℕ) × f p q y w u × (Joined b p q (account parts p x ds).sent (account parts q y ds).taken u → (y.entered ≡ true → (account parts q y ds).entered ≡ true) → (1 ≤ q.slot → busy a q.obj.0 ≡ true → y.entered ≡ false → (account parts q y ds).entered ≡ false) → g p q (account parts q y ds) u v)) → ((p q : Port) (y : Account) → (p.slot ≡ 0 → busy a p.obj.0 ≡ false) → (1 ≤ q.slot → busy a q.obj.0 ≡ true → y.entered ≡ false) → g p q y [] []) → Livens parts a c ready none_due h (ds ++ es)
 Livens-then {parts = parts} {c = c} {ds = ds} {es = es} k l same split nils = record {
   quiet = λ q y o r e. ap (λ z. z.entered) (account-append parts q y ds es) ∙ l.quiet q (account parts q y ds) o (same q.obj.0 ∙ r) (k.quiet q y o r e);
   joins = λ p q x y w v i j.
@@ -41,6 +44,14 @@ Livens-then {parts = parts} {c = c} {ds = ds} {es = es} k l same split nils = re
       let mid = k.joins p q x y w s.0 s.1 j in
       let last = l.joins p q (account parts p x ds) (account parts q y ds) s.0 v (s.2 mid.0 mid.1 (k.quiet q y)) mid.0 in
       rw (account-append parts p x ds es, account-append parts q y ds es) (last.0, λ e. last.1 (mid.1 e));
+  midway = λ p q x y w v i j.
+      let s = split p q x y w v i j in
+      let mid = k.joins p q x y w s.0 s.1 j in
+      Midway-append parts p q x y ds es (k.midway p q x y w s.0 s.1 j) (l.midway p q (account parts p x ds) (account parts q y ds) s.0 v (s.2 mid.0 mid.1 (k.quiet q y)) mid.0);
+  newly = λ p q x y r n. Midway-append parts p q x y ds es (k.newly p q x y r n) (elim (cases_peer (account parts p x ds).peer q) [
+    | inl m ↦ let s = k.news p q x y r n m in l.midway p q (account parts p x ds) (account parts q y ds) [] [] (nils p q (account parts q y ds) s.1 s.2) s.0
+    | inr m ↦ l.newly p q (account parts p x ds) (account parts q y ds) tt m
+  ]);
   news = λ p q x y r n e.
       let i = sym (ap (λ z. z.peer) (account-append parts p x ds es)) ∙ e in
       rw (account-append parts p x ds es, account-append parts q y ds es) (elim (cases_peer (account parts p x ds).peer q) [

@@ -1,5 +1,7 @@
 -- The bytes on the link of an object that is made.
-use Rattle.std.proofs.Common.{◌≡◌, ℕ, ◌+◌, ◌≤◌, inl, inr, false, List, [], ◌∷◌, Some, refl, ap, sym, ◌∙◌, arith}
+use Rattle.nb_graph.proofs.AccountLemmas.{start-joined}
+use Rattle.nb_graph.specs.Trace.{Nature}
+use Rattle.std.proofs.Common.{true, false, ◌≡◌, ℕ, ◌+◌, ◌≤◌, inl, inr, List, [], ◌∷◌, Some, refl, ap, sym, ◌∙◌, arith}
 use Rattle.std.proofs.lemmas.Bool.{cases_eq, eq-eqb, ne_eqb}
 use Rattle.nb_ledger.specs.declared.port.Port.{Port}
 use Rattle.nb_ledger.specs.declared.port.PortState.TheVariants.{Open, Linked}
@@ -34,7 +36,7 @@ plugs-other : (r p q : Port) (a : Account) → (r ≡ p → ⊥) → (r ≡ q �
 plugs-other r p q a n m = rw (is-port-other r p n, is-port-other r q m) refl
 
 -- an object is made and plugged
-pub Livens-make : {N L : Type 0} (parts : L → List ℕ) (b0 b1 m new : Ledger) (p q : Port) (r kind : ℕ) → Adds b0 b1 q.obj.0 r → live b0 q.obj.0 ≡ false → q.obj.0 ≡ b0.made + 1 → SetsPort b1 m p (Linked q) → SetsPort m new q (Linked p) → port b0 p.obj.0 p.slot ≡ Open → 1 ≤ p.slot → q.slot ≡ 0 → p.obj.0 ≤ b1.made → (p.obj.0 ≡ q.obj.0 → ⊥) → Livens {N = N} {L = L} parts b0 new always (asked_due p.obj.0) (Making b0 p.obj.0) (writes (Made q.obj kind) ∷ writes (Plugged p q) ∷ [])
+pub Livens-make : {N L : Type 0} (parts : Nature N L) (b0 b1 m new : Ledger) (p q : Port) (r kind : ℕ) → Adds b0 b1 q.obj.0 r → live b0 q.obj.0 ≡ false → q.obj.0 ≡ b0.made + 1 → SetsPort b1 m p (Linked q) → SetsPort m new q (Linked p) → port b0 p.obj.0 p.slot ≡ Open → 1 ≤ p.slot → q.slot ≡ 0 → p.obj.0 ≤ b1.made → (p.obj.0 ≡ q.obj.0 → ⊥) → Livens {N = N} {L = L} parts b0 new always (asked_due p.obj.0) (Making b0 p.obj.0) (writes (Made q.obj kind) ∷ writes (Plugged p q) ∷ [])
 Livens-make parts b0 b1 m new p q r kind a d serial s t op one zero born apart = record {
   quiet = λ u y o i h. elim (cases_ports u p) [
     | inl e ↦ ap (λ z. z.entered) (plugs-upper u p q y e)
@@ -47,28 +49,12 @@ Livens-make parts b0 b1 m new p q r kind a d serial s t op one zero born apart =
       let nu = first u v x.sent y.taken w j in
       let nv = other u v x.sent y.taken w j in
       rw (plugs-other u p q x nu.0 nu.1, plugs-other v p q y nv.0 nv.1, sym i.0) (keeps u v x.sent y.taken w nu nv j, λ e. e);
-  news = λ u v x y k n e. elim (cases_ports u p) [
-    | inl g ↦
-        let ex = plugs-upper u p q x g in
-        let gv : v ≡ q = sym (some_port q v (sym (ap (λ z. z.peer) ex) ∙ e)) in
-        let low : v ≡ p → ⊥ = λ i. apart (ap (λ z. z.obj.0) (sym i ∙ gv)) in
-        rw (ex, plugs-lower v p q y low gv) (
-          rw (eq-eqb u.obj.0 p.obj.0 (ap (λ z. z.obj.0) g)) (joined (rw g born_p) (rw gv born_q) (rw (g, gv) port_p) (rw (g, gv) port_q) refl),
-          (λ z. absurd (let i = ap (λ o. o.slot) g in omega arith)),
-          λ o i. refl,
-        )
-    | inr g ↦ elim (cases_ports u q) [
-      | inl h ↦
-          let ex = plugs-lower u p q x g h in
-          let gv : v ≡ p = sym (some_port p v (sym (ap (λ z. z.peer) ex) ∙ e)) in
-          rw (ex, plugs-upper v p q y gv) (
-            rw (ne_eqb u.obj.0 p.obj.0 (λ i. apart (sym i ∙ ap (λ z. z.obj.0) h))) (joined (rw h born_q) (rw gv born_p) (rw (h, gv) port_q) (rw (h, gv) port_p) refl),
-            (λ z. ap (λ o. busy b0 o.obj.0) h ∙ dead-busy b0 q.obj.0 d),
-            λ o i. refl,
-          )
-      | inr h ↦ absurd (n (sym (ap (λ z. z.peer) (plugs-other u p q x g h)) ∙ e))
-    ]
-  ];
+  midway = λ u v x y w z i j.
+      let nu = first u v x.sent y.taken w j in
+      let nv = other u v x.sent y.taken w j in
+      (λ _. start-joined j, (λ _. start-joined j, λ _. rw (plugs-other u p q x nu.0 nu.1, plugs-other v p q y nv.0 nv.1) (start-joined j)));
+  newly = λ u v x y k n. (λ e. absurd (n e), (λ e. absurd (n e), λ e. start-joined (fresh u v x y n e).0));
+  news = λ u v x y k n e. fresh u v x y n e;
 }
   where
     some_port : (g h : Port) → Some g ≡ Some h → g ≡ h
@@ -108,6 +94,30 @@ Livens-make parts b0 b1 m new p q r kind a d serial s t op one zero born apart =
     keeps : (u v : Port) (x y w : List ℕ) → (u ≡ p → ⊥) × (u ≡ q → ⊥) → (v ≡ p → ⊥) × (v ≡ q → ⊥) → Joined b0 u v x y w → Joined new u v x y w
     keeps u v x y w nu nv (joined f g h i k) = joined (rw made_new (omega (arith, f, serial))) (rw made_new (omega (arith, g, serial))) (same u (λ e. let z = sym h ∙ ap (λ o. port b0 o u.slot) e ∙ dead-port b0 q.obj.0 d u.slot in absurd (cc)) nu.0 nu.1 ∙ h) (same v (λ e. let z = sym i ∙ ap (λ o. port b0 o v.slot) e ∙ dead-port b0 q.obj.0 d v.slot in absurd (cc)) nv.0 nv.1 ∙ i) k
     keeps u v x y w nu nv (parted f g h i o k) = parted (rw made_new (omega (arith, f, serial))) (rw made_new (omega (arith, g, serial))) (ap open_count (same u (λ e. absurd (omega (arith, e, f, serial))) nu.0 nu.1) ∙ h) (ap open_count (same v (λ e. absurd (omega (arith, e, g, serial))) nv.0 nv.1) ∙ i) o k
+
+    fresh : (u v : Port) (x y : Account) → (x.peer ≡ Some v → ⊥) → (after_note u x (Plugged p q)).peer ≡ Some v → Joined new u v (after_note u x (Plugged p q)).sent (after_note v y (Plugged p q)).taken (asked_due p.obj.0 u x) × (u.slot ≡ 0 → busy b0 u.obj.0 ≡ false) × (1 ≤ v.slot → busy b0 v.obj.0 ≡ true → (after_note v y (Plugged p q)).entered ≡ false)
+    fresh u v x y n e = elim (cases_ports u p) [
+      | inl g ↦
+          let ex = plugs-upper u p q x g in
+          let gv : v ≡ q = sym (some_port q v (sym (ap (λ z. z.peer) ex) ∙ e)) in
+          let low : v ≡ p → ⊥ = λ i. apart (ap (λ z. z.obj.0) (sym i ∙ gv)) in
+          rw (ex, plugs-lower v p q y low gv) (
+            rw (eq-eqb u.obj.0 p.obj.0 (ap (λ z. z.obj.0) g)) (joined (rw g born_p) (rw gv born_q) (rw (g, gv) port_p) (rw (g, gv) port_q) refl),
+            (λ z. absurd (let i = ap (λ o. o.slot) g in omega arith)),
+            λ o i. refl,
+          )
+      | inr g ↦ elim (cases_ports u q) [
+        | inl h ↦
+            let ex = plugs-lower u p q x g h in
+            let gv : v ≡ p = sym (some_port p v (sym (ap (λ z. z.peer) ex) ∙ e)) in
+            rw (ex, plugs-upper v p q y gv) (
+              rw (ne_eqb u.obj.0 p.obj.0 (λ i. apart (sym i ∙ ap (λ z. z.obj.0) h))) (joined (rw h born_q) (rw gv born_p) (rw (h, gv) port_q) (rw (h, gv) port_p) refl),
+              (λ z. ap (λ o. busy b0 o.obj.0) h ∙ dead-busy b0 q.obj.0 d),
+              λ o i. refl,
+            )
+        | inr h ↦ absurd (n (sym (ap (λ z. z.peer) (plugs-other u p q x g h)) ∙ e))
+      ]
+    ]
 
 -- an object is made, and nothing is plugged
 pub Joined-add : {b0 b1 : Ledger} {x r : ℕ} {p q : Port} {s t w : List ℕ} → Adds b0 b1 x r → live b0 x ≡ false → x ≡ b0.made + 1 → Joined b0 p q s t w → Joined b1 p q s t w

@@ -1,4 +1,6 @@
 -- What is pending on links, through a whole close of a link and a whole entry from above.
+use Rattle.nb_graph.proofs.AccountLemmas.{start-joined}
+use Rattle.nb_graph.specs.Trace.{Nature}
 use Rattle.std.proofs.Common.{◌≡◌, ℕ, ◌⊎◌, inl, inr, Bool, true, false, List, [], ◌∷◌, ◌++◌, ◌&&◌, eqb, cond, refl, ap, sym, ◌∙◌, subst, append-nil, arith}
 use Rattle.std.proofs.lemmas.Bool.{cases_eq, eq-eqb, ne_eqb}
 use Rattle.nb_ledger.specs.declared.port.Port.{Port}
@@ -64,7 +66,7 @@ hears l x sent m same none p q y z w v h =
     ]
 
 -- a whole close of a link
-pub Calms-link : {N L : Type 0} {parts : L → List ℕ} {b0 b3 b4 b5 : Ledger} {bs ds es gs : List (Deed N L)} (at peer : Port) (sent m : ℕ → List ℕ) → IsLinked (port b0) (rank b0) → port b0 at.obj.0 at.slot ≡ Linked peer → port b3 at.obj.0 at.slot ≡ Leaving peer → port b3 peer.obj.0 peer.slot ≡ Leaving at → ((k : ℕ) → sent k ≡ m k) → sent 0 ≡ [] → Calms parts b0 b3 Still bs → Calms parts b3 b3 (Asking b3 peer.obj.0 sent nothing) ds → Calms parts b3 b4 (Downs b3 peer.obj.0 m) es → Calms parts b4 b5 Still gs → Calms parts b0 b5 (Closing b0 at.obj.0) (bs ++ (ds ++ (es ++ gs)))
+pub Calms-link : {N L : Type 0} {parts : Nature N L} {b0 b3 b4 b5 : Ledger} {bs ds es gs : List (Deed N L)} (at peer : Port) (sent m : ℕ → List ℕ) → IsLinked (port b0) (rank b0) → port b0 at.obj.0 at.slot ≡ Linked peer → port b3 at.obj.0 at.slot ≡ Leaving peer → port b3 peer.obj.0 peer.slot ≡ Leaving at → ((k : ℕ) → sent k ≡ m k) → sent 0 ≡ [] → Calms parts b0 b3 Still bs → Calms parts b3 b3 (Asking b3 peer.obj.0 sent nothing) ds → Calms parts b3 b4 (Downs b3 peer.obj.0 m) es → Calms parts b4 b5 Still gs → Calms parts b0 b5 (Closing b0 at.obj.0) (bs ++ (ds ++ (es ++ gs)))
 Calms-link {parts = parts} {b0 = b0} {b3 = b3} {bs = bs} at peer sent m l h gone left same none half ask eff last =
     Calms-then half
     (Calms-then {h = Hearing b3 peer.obj.0} ask
@@ -110,7 +112,7 @@ enter-stays true a h = refl
 enter-stays false a h = h
 
 -- an entry from above begins
-pub Calms-enter : {N L : Type 0} (parts : L → List ℕ) (l b : Ledger) (at : Port) → at.slot ≡ 0 → Mild l b → Calms {N = N} {L = L} parts l b Still (writes (Entered at Down) ∷ [])
+pub Calms-enter : {N L : Type 0} (parts : Nature N L) (l b : Ledger) (at : Port) → at.slot ≡ 0 → Mild l b → Calms {N = N} {L = L} parts l b Still (writes (Entered at Down) ∷ [])
 Calms-enter parts l b at z m = record {
   same_made = m.same_made;
   links = m.links;
@@ -119,6 +121,8 @@ Calms-enter parts l b at z m = record {
   enters = λ q a h. enter-stays (is_port q at) a h;
   quiet = λ q a o h. rw (ne_eqb q.slot at.slot (λ (e : q.slot ≡ at.slot). absurd (omega (arith, e, z, o)))) (other (eqb q.obj.0 at.obj.0) a h);
   joins = λ p q a c w v f j. rw (enter-sent (is_port p at) a, enter-taken (is_port q at) c, sym f) (Joined-mild m j);
+  midway = λ p q a c w v f j. (λ _. start-joined j, λ _. rw (enter-sent (is_port p at) a, enter-taken (is_port q at) c) (start-joined j));
+  apart = λ p q a c n. (λ i. absurd (n i), λ i. absurd (n (sym (enter-peer (is_port p at) a) ∙ i)));
 }
   where
     other : (c : Bool) (a : Account) → a.entered ≡ false → (cond (c && false) (enters Down a) (rests a)).entered ≡ false

@@ -9,8 +9,8 @@ use Rattle.nb_ledger.specs.declared.port.PortState.TheVariants.{Open, Linked, Le
 use Rattle.nb_ledger.specs.declared.event.GraphEvent.TheVariants.{Entered}
 use Rattle.nb_ledger.specs.declared.event.Way.TheVariants.{Up}
 use Rattle.nb_ledger.specs.Ledger.{Ledger, port, rank, busy, open_count}
-use Rattle.nb_graph.specs.declared.steps.Asked.{Asked}
-use Rattle.nb_graph.specs.declared.steps.Asked.TheVariants.{Done, NoMemory}
+use Rattle.nb_graph.specs.declared.asking.Asked.{Asked}
+use Rattle.nb_graph.specs.declared.asking.Asked.TheVariants.{Done, NoMemory}
 use Rattle.nb_graph.specs.Whole.{IsLinked, port_at}
 use Rattle.nb_graph.specs.Accounts.{Account, Joined, joined, parted, after_note}
 use Rattle.nb_graph.specs.Flows.{IsClear, IsShut, IsQuietAt, Closing, Failing, Delivering, Doing, Keeping, Leaves, Making, Rising, asked_behind, asked_taken, nothing}

@@ -1,51 +1,55 @@
 -- Calls, one after another.
 use Rattle.nb_ledger.specs.Flat.{Given}
 use Rattle.nb_ledger.proofs.RunLemmas.{Given-append}
-use Rattle.nb_graph.specs.Ports.{told_of}
 use Rattle.nb_ledger.specs.Flat.{Notice}
 use Rattle.std.proofs.Common.{◌≡◌, ℕ, List, [], ◌∷◌, ◌++◌, Option, refl, ap, sym, ◌∙◌, subst, append_assoc, append-nil}
 use Rattle.nb_ledger.specs.declared.port.Port.{Port}
-use Rattle.nb_ledger.specs.Ledger.{port}
-use Rattle.nb_graph.specs.Trace.{Entry}
-use Rattle.nb_graph.specs.Deeds.{Deed, Stage, events_of, trace_after}
-use Rattle.nb_graph.specs.Ports.{Sees}
+use Rattle.nb_graph.specs.Trace.{Nature, Entry}
+use Rattle.nb_graph.specs.Deeds.{Deed, Stage, events_of, told_of, trace_after}
+use Rattle.nb_graph.specs.Scene.{Scene, scene_of}
+use Rattle.nb_graph.proofs.AgesLemmas.{Ages-trans}
 use Rattle.nb_graph.specs.Accounts.{Account, account, rests}
 use Rattle.nb_graph.specs.Whole.{Objects}
 use Rattle.nb_graph.specs.Lived.{StandsFor, Lived}
-use Rattle.nb_graph.specs.Went.{Call, Each, Went, all_of, accounts}
-use Rattle.nb_graph.proofs.LivesLemmas.{told-append, Sees-append, events-append, trace-append}
+use Rattle.nb_graph.specs.Went.{Call, Each, Midways, Went, all_of, accounts}
+use Rattle.nb_graph.proofs.LivesLemmas.{told-append, events-append, trace-append}
 use Rattle.nb_graph.proofs.RunsLemmas.{IsRun-trans}
 
 all-append : {N L : Type 0} (ds es : List (List (Deed N L))) → all_of (ds ++ es) ≡ all_of ds ++ all_of es
 all-append [] es = refl
 all-append (d ∷ ds) es = ap (λ z. d ++ z) (all-append ds es) ∙ sym (append_assoc d (all_of ds) (all_of es))
 
-accounts-append : {N L : Type 0} (parts : L → List ℕ) (p : Port) (a : Account) (ds es : List (List (Deed N L))) → accounts parts p a (ds ++ es) ≡ accounts parts p (accounts parts p a ds) es
+accounts-append : {N L : Type 0} (parts : Nature N L) (p : Port) (a : Account) (ds es : List (List (Deed N L))) → accounts parts p a (ds ++ es) ≡ accounts parts p (accounts parts p a ds) es
 accounts-append parts p a [] es = refl
 accounts-append parts p a (d ∷ ds) es = accounts-append parts p (account parts p (rests a) d) ds es
 
-each-append : {N L : Type 0} (parts : L → List ℕ) (cs bs : List (Call L)) (ds es : List (List (Deed N L))) → Each parts cs ds → Each parts bs es → Each parts (cs ++ bs) (ds ++ es)
-each-append parts [] bs [] es p q = q
-each-append parts [] bs (d ∷ ds) es p q = absurd p
-each-append parts (c ∷ cs) bs [] es p q = absurd p
-each-append parts (c ∷ cs) bs (d ∷ ds) es p q = (p.0, each-append parts cs bs ds es p.1 q)
+midways-append : {N L : Type 0} (parts : Nature N L) (p q : Port) (a b : Account) (ds es : List (List (Deed N L))) → Midways parts p q a b ds → Midways parts p q (accounts parts p a ds) (accounts parts q b ds) es → Midways parts p q a b (ds ++ es)
+midways-append parts p q a b [] es m n = n
+midways-append parts p q a b (d ∷ ds) es m n = (m.0, midways-append parts p q (account parts p (rests a) d) (account parts q (rests b) d) ds es m.1 n)
+
+each-append : {N L : Type 0} (parts : Nature N L) (s t u : Scene) (cs bs : List (Call L)) (ds es : List (List (Deed N L))) → Each parts s cs ds t → Each parts t bs es u → Each parts s (cs ++ bs) (ds ++ es) u
+each-append parts s t u [] bs [] es p q = subst (λ z. Each parts z bs es u) (sym p) q
+each-append parts s t u [] bs (d ∷ ds) es p q = absurd p
+each-append parts s t u (c ∷ cs) bs [] es p q = absurd p
+each-append parts s t u (c ∷ cs) bs (d ∷ ds) es p q = (p.0, p.1, each-append parts p.0 t u cs bs ds es p.2 q)
 
 -- a call's
-pub Went-one : {N L : Type 0} {stands : N → List (Entry N L) → Type 0} {parts : L → List ℕ} {now : ℕ} {asked : List (Stage L)} {old new : Objects N} {before after : Option (List Notice)} → Lived stands parts now asked old new before after → Went stands parts (record { now = now; asks = asked } ∷ []) old new before after
+pub Went-one : {N L : Type 0} {stands : N → List (Entry N L) → Type 0} {parts : Nature N L} {now : ℕ} {asked : List (Stage L)} {old new : Objects N} {before after : Option (List Notice)} → Lived stands parts now asked old new before after → Went stands parts (record { now = now; asks = asked } ∷ []) old new before after
 Went-one {stands = stands} {old = old} {new = new} {before = before} {after = after} k = record {
   added = k.added;
   runs = k.runs;
   deeds = k.deeds ∷ [];
   events = ap events_of (append-nil k.deeds) ∙ k.events;
   tells = subst (λ z. Given before after (told_of z)) (sym (append-nil k.deeds)) k.tells;
-  sees = subst (λ z. Sees (port old.book) z (port new.book)) (sym (append-nil k.deeds)) k.sees;
-  each = (k.follows, tt);
+  ages = k.ages;
+  each = (scene_of new.book, k.follows, refl);
   keeps = λ x t h. subst (λ z. StandsFor stands new x (trace_after x t z)) (sym (append-nil k.deeds)) (k.keeps x t h);
+  midway = λ p q a b bal. (k.midway p q a b bal, tt);
   balances = k.balances;
 }
 
 -- one call after the other
-pub Went-then : {N L : Type 0} {stands : N → List (Entry N L) → Type 0} {parts : L → List ℕ} {cs bs : List (Call L)} {a b c : Objects N} {m n o : Option (List Notice)} → Went stands parts cs a b m n → Went stands parts bs b c n o → Went stands parts (cs ++ bs) a c m o
+pub Went-then : {N L : Type 0} {stands : N → List (Entry N L) → Type 0} {parts : Nature N L} {cs bs : List (Call L)} {a b c : Objects N} {m n o : Option (List Notice)} → Went stands parts cs a b m n → Went stands parts bs b c n o → Went stands parts (cs ++ bs) a c m o
 unfolding IsRun-trans
 Went-then {stands = stands} {parts = parts} {cs = cs} {bs = bs} {a = a} {b = b} {c = c} {m = m} {n = n} {o = o} k l = record {
   added = k.added ++ l.added;
@@ -53,8 +57,9 @@ Went-then {stands = stands} {parts = parts} {cs = cs} {bs = bs} {a = a} {b = b} 
   deeds = k.deeds ++ l.deeds;
   events = ap events_of (all-append k.deeds l.deeds) ∙ events-append (all_of k.deeds) (all_of l.deeds) ∙ ap (λ z. z ++ events_of (all_of l.deeds)) k.events ∙ ap (λ z. k.added ++ z) l.events;
   tells = subst (λ z. Given m o (told_of z)) (sym (all-append k.deeds l.deeds)) (subst (Given m o) (sym (told-append (all_of k.deeds) (all_of l.deeds))) (Given-append m n o _ _ k.tells l.tells));
-  sees = subst (λ z. Sees (port a.book) z (port c.book)) (sym (all-append k.deeds l.deeds)) (Sees-append (port a.book) (port b.book) (port c.book) (all_of k.deeds) (all_of l.deeds) k.sees l.sees);
-  each = each-append parts cs bs k.deeds l.deeds k.each l.each;
+  ages = Ages-trans k.ages l.ages;
+  each = each-append parts (scene_of a.book) (scene_of b.book) (scene_of c.book) cs bs k.deeds l.deeds k.each l.each;
   keeps = λ x t h. subst (λ z. StandsFor stands c x z) (sym (trace-append x t (all_of k.deeds) (all_of l.deeds)) ∙ ap (trace_after x t) (sym (all-append k.deeds l.deeds))) (l.keeps x _ (k.keeps x t h));
+  midway = λ p q i j h. midways-append parts p q i j k.deeds l.deeds (k.midway p q i j h) (l.midway p q _ _ (k.balances p q i j h));
   balances = λ p q i j h. rw (accounts-append parts p i k.deeds l.deeds, accounts-append parts q j k.deeds l.deeds) (l.balances p q _ _ (k.balances p q i j h));
 }

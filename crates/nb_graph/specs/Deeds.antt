@@ -7,12 +7,13 @@ use Rattle.nb_ledger.specs.declared.event.Way.{Way}
 use Rattle.nb_ledger.specs.declared.event.Way.TheVariants as way
 use Rattle.nb_ledger.specs.declared.event.GraphEvent.{GraphEvent}
 use Rattle.nb_ledger.specs.declared.event.GraphEvent.TheVariants.{Made, Held, LetGo, Plugged, Entered, Left, Dropped, Closed, Unplugged, Freed}
+use Rattle.nb_ledger.specs.Flat.{Notice, flat, event, message}
 use Rattle.nb_graph.specs.declared.effects.Fx.{Fx}
 use Rattle.nb_graph.specs.declared.effects.Make.{Make}
 use Rattle.nb_graph.specs.declared.effects.Emit.{Emit}
 use Rattle.nb_graph.specs.declared.effects.Few.{Few}
 use Rattle.nb_graph.specs.Whole.{port_at}
-use Rattle.nb_graph.specs.Trace.{Said, Entry, carries, in_list, lent, up, down, closed, time, regain, left, silence}
+use Rattle.nb_graph.specs.Trace.{Nature, Said, Entry, carries, in_list, lent, up, down, closed, time, regain, left, silence}
 
 -- What is asked for turns into something else, and no event tells of it: a message arrives at the other end of its
 -- link, or goes out by an open port without one; time comes to a dead object; a port to be closed is closed already; a make
@@ -42,6 +43,25 @@ events_of (writes e ∷ ds) = e ∷ events_of ds
 events_of (calls x i ∷ ds) = events_of ds
 events_of (turns u ∷ ds) = events_of ds
 
+-- what an outside is told where something turns, and of all that happens
+abbrev pub notice_of : Turn → List Notice
+notice_of (is_shut p) = []
+notice_of (is_full p) = []
+notice_of (comes_to x) = []
+notice_of is_reached = []
+notice_of (is_dead x) = []
+notice_of (arrives p q) = []
+notice_of (stays x) = []
+notice_of (lets_go x) = []
+notice_of none_held = []
+notice_of (goes_out p m) = message p m.tag m.rec m.a m.b m.bytes ∷ []
+
+abbrev pub told_of : {N L : Type 0} → List (Deed N L) → List Notice
+told_of [] = []
+told_of (writes e ∷ ds) = event (flat e) ∷ told_of ds
+told_of (calls x i ∷ ds) = told_of ds
+told_of (turns u ∷ ds) = notice_of u ++ told_of ds
+
 -- a trace is empty at the object's Made
 abbrev pub after_event : {N L : Type 0} → ℕ → List (Entry N L) → GraphEvent → List (Entry N L)
 after_event x t (Made y kind) = if x == y.0 then [] else t
@@ -69,13 +89,14 @@ pub data Stage (L : Type 0) : Type 0 where
   Shut : (at : Port) (cause : Cause) → Stage L
   MustHear : (at : Port) (cause : Cause) → Stage L
   Holds : (at : Port) (by : Way) (msg : Option Said) → Stage L
-  Makes : (at : Port) → Stage L
+  Makes : (at : Port) (kind : ℕ) → Stage L
   MustPlug : (upper lower : Port) → Stage L
   Closes : (at : Port) (cause : Cause) → Stage L
   MustShut : (at : Port) (cause : Cause) → Stage L
-  Ends : (cause : Cause) → Stage L
+  Ends : (after : ℕ) (cause : Cause) → Stage L
   Sends : (at : Port) (msg : Said) → Stage L
   Gives : (at : Port) (msg : Said) → Stage L
+  Offers : (at : Port) (msg : Said) → Stage L
   Ticks : (object : ℕ) → Stage L
   Returns : (object : ℕ) (load : L) → Stage L
   Wants : (event : GraphEvent) → Stage L
@@ -99,9 +120,10 @@ no_memory = record { code = 23; a = 0; b = 0 }
 abbrev pub no_place : Cause
 no_place = record { code = 8; a = 1; b = 0 }
 
-abbrev pub makes_of : {N L : Type 0} → ℕ → Option (Make N) → List (Stage L)
-makes_of x None = []
-makes_of x (Some m) = Makes (port_at x m.slot) ∷ []
+-- an object is made, of the kind of its node
+abbrev pub makes_of : {N L : Type 0} → Nature N L → ℕ → Option (Make N) → List (Stage L)
+makes_of parts x None = []
+makes_of parts x (Some m) = Makes (port_at x m.slot) (parts.kind m.node) ∷ []
 
 -- loads come back to x
 abbrev pub returns_of : {L : Type 0} → ℕ → List L → List (Stage L)
@@ -109,29 +131,22 @@ returns_of x [] = []
 returns_of x (l ∷ ls) = Returns x l ∷ returns_of x ls
 
 -- the message that an entry with the message m asks for: it keeps the record
-abbrev pub said_of : {L : Type 0} → (L → List ℕ) → Said → Emit L → Said
+abbrev pub said_of : {N L : Type 0} → Nature N L → Said → Emit L → Said
 said_of parts m e = record { tag = e.tag; rec = m.rec; a = e.a; b = e.b; bytes = carries parts m.bytes e.from e.to e.load }
 
 -- a message leaves, and its load comes back before anything else
-abbrev pub emit_of : {L : Type 0} → (L → List ℕ) → ℕ → Said → Option (Emit L) → List (Stage L)
+abbrev pub emit_of : {N L : Type 0} → Nature N L → ℕ → Said → Option (Emit L) → List (Stage L)
 emit_of parts x m None = []
 emit_of parts x m (Some e) = Sends (port_at x e.slot) (said_of parts m e) ∷ returns_of x (in_list e.load)
 
-abbrev pub few_of : {L : Type 0} → (L → List ℕ) → ℕ → Said → Few (Emit L) → List (Stage L)
+abbrev pub few_of : {N L : Type 0} → Nature N L → ℕ → Said → Few (Emit L) → List (Stage L)
 few_of parts x m f = emit_of parts x m f.first ++ emit_of parts x m f.second
 
 -- What is to run of an entry of x with the message m: its makes, downs, ups and closes. Where memory ran out, its loads
 -- come back and all ports of x are closed.
-abbrev pub runs_of : {N L : Type 0} → (L → List ℕ) → ℕ → Said → Bool → Fx N L → List (Stage L)
-runs_of parts x m true fx = makes_of x fx.makes ++ (few_of parts x m fx.downs ++ (few_of parts x m fx.ups ++ closes_of x fx.closes.items))
+abbrev pub runs_of : {N L : Type 0} → Nature N L → ℕ → Said → Bool → Fx N L → List (Stage L)
+runs_of parts x m true fx = makes_of parts x fx.makes ++ (few_of parts x m fx.downs ++ (few_of parts x m fx.ups ++ closes_of x fx.closes.items))
 runs_of parts x m false fx = returns_of x (lent fx) ++ all_closes x no_memory
-
--- an entry begins: with a message, or by the close of a port
-abbrev pub Begins : {L : Type 0} → Way → Port → List (Stage L) → List (Stage L) → Type 0
-Begins {L} way.Up p st mid = (m : Said) × (more : List (Stage L)) × (st ≡ Gives p m ∷ more) × (mid ≡ Holds p way.Up (Some m) ∷ more)
-Begins {L} way.Down p st mid = (m : Said) × (more : List (Stage L)) × (st ≡ Gives p m ∷ more) × (mid ≡ Holds p way.Down (Some m) ∷ more)
-Begins {L} way.Time p st mid = (more : List (Stage L)) × (st ≡ Ticks p.obj.0 ∷ more) × (mid ≡ Holds p way.Time (Some silence) ∷ more)
-Begins {L} way.Close p st mid = (cause : Cause) × (more : List (Stage L)) × (st ≡ Shut p cause ∷ more) × (mid ≡ MustHear p cause ∷ more)
 
 -- An object is freed after its entry, if that was the last of its count. One that was entered by a close still has its
 -- link.
@@ -141,60 +156,10 @@ settles_by way.Down x = Settles x ∷ []
 settles_by way.Time x = Settles x ∷ []
 settles_by way.Close x = []
 
--- What an event does to the stages. An entry ends only when nothing is left to be given; what is left of a message
--- is dropped with an event.
-abbrev pub Notes : {L : Type 0} → GraphEvent → List (Stage L) → List (Stage L) → Type 0
-Notes {L} (Made x kind) st mid = (p : Port) × (more : List (Stage L)) × (st ≡ Makes p ∷ more) × (mid ≡ MustPlug p (port_at x.0 0) ∷ more)
-Notes (Held x) st mid = st ≡ Wants (Held x) ∷ mid
-Notes {L} (LetGo x) st mid = (more : List (Stage L)) × (st ≡ Wants (LetGo x) ∷ more) × (mid ≡ Settles x.0 ∷ more)
-Notes (Plugged p q) st mid = st ≡ MustPlug p q ∷ mid
-Notes (Entered p by) st mid = Begins by p st mid
-Notes {L} (Left p) st mid = (by : Way) × (more : List (Stage L)) × (st ≡ Holds p by None ∷ more) × (mid ≡ settles_by by p.obj.0 ++ more)
-Notes {L} (Dropped p) st mid = (st ≡ Makes p ∷ mid) ⊎ (((m : Said) × ((st ≡ Sends p m ∷ mid) ⊎ (st ≡ Gives p m ∷ mid))) ⊎ ((m : Said) × (more : List (Stage L)) × (st ≡ Holds p way.Up (Some m) ∷ more) × (mid ≡ Holds p way.Up None ∷ more)))
-Notes {L} (Closed p cause) st mid =
-    (st ≡ Closes p cause ∷ mid)
-    ⊎ (((q : Port) × (more : List (Stage L)) × (st ≡ Closes p cause ∷ more) × (mid ≡ MustShut q cause ∷ MustUnplug p q ∷ more))
-    ⊎ ((more : List (Stage L)) × (st ≡ MustShut p cause ∷ more) × (mid ≡ Shut p cause ∷ more)))
-Notes {L} (Unplugged p q) st mid = (more : List (Stage L)) × (st ≡ MustUnplug p q ∷ more) × (mid ≡ Settles (min p.obj.0 q.obj.0) ∷ Settles (max p.obj.0 q.obj.0) ∷ more)
-Notes (Freed x) st mid = st ≡ Settles x.0 ∷ mid
-
 -- what is left of a message after an entry from below
 abbrev pub rest : {N L : Type 0} → Said → Bool → Fx N L → Option Said
 rest m true fx = left fx.took m
 rest m false fx = None
-
--- What a call of a node does to them: it has the object, the slot and the message of the innermost entry, and the
--- call's time. An entry from below leaves the rest of its message, which is to be given again.
-abbrev pub Hears : {N L : Type 0} → (L → List ℕ) → ℕ → ℕ → Entry N L → List (Stage L) → List (Stage L) → Type 0
-Hears {N} {L} parts now x (up slot m at done fx) st mid =
-    (more : List (Stage L)) × (at ≡ now) × (st ≡ Holds (port_at x slot) way.Up (Some m) ∷ more) × (mid ≡ runs_of parts x m done fx ++ Holds (port_at x slot) way.Up (rest m done fx) ∷ more)
-Hears {N} {L} parts now x (down m at done fx) st mid =
-    (more : List (Stage L)) × (at ≡ now) × (st ≡ Holds (port_at x 0) way.Down (Some m) ∷ more) × (mid ≡ runs_of parts x m done fx ++ Holds (port_at x 0) way.Down None ∷ more)
-Hears {N} {L} parts now x (closed slot cause at fx) st mid =
-    (more : List (Stage L)) × (at ≡ now) × (st ≡ MustHear (port_at x slot) cause ∷ more) × (mid ≡ runs_of parts x silence true fx ++ Holds (port_at x slot) way.Close None ∷ more)
-Hears {N} {L} parts now x (time at done fx) st mid =
-    (more : List (Stage L)) × (at ≡ now) × (st ≡ Holds (port_at x 4) way.Time (Some silence) ∷ more) × (mid ≡ runs_of parts x silence done fx ++ Holds (port_at x 4) way.Time None ∷ more)
-Hears parts now x (regain load) st mid = st ≡ Returns x load ∷ mid
-
--- what turns
-abbrev pub Turns : {L : Type 0} → Turn → List (Stage L) → List (Stage L) → Type 0
-Turns (is_shut p) st mid = (cause : Cause) × (st ≡ Closes p cause ∷ mid)
-Turns {L} (is_full p) st mid = (more : List (Stage L)) × (st ≡ Makes p ∷ more) × (mid ≡ all_closes p.obj.0 no_place ++ more)
-Turns {L} (comes_to x) st mid = (cause : Cause) × (more : List (Stage L)) × (st ≡ Ends cause ∷ more) × (mid ≡ all_closes x cause ++ Ends cause ∷ more)
-Turns is_reached st mid = (cause : Cause) × (st ≡ Ends cause ∷ mid)
-Turns (is_dead x) st mid = st ≡ Ticks x ∷ mid
-Turns {L} (arrives p q) st mid = (m : Said) × (more : List (Stage L)) × (st ≡ Sends p m ∷ more) × (mid ≡ Gives q m ∷ more)
-Turns (goes_out p m) st mid = st ≡ Sends p m ∷ mid
-Turns (stays x) st mid = st ≡ Settles x ∷ mid
-Turns {L} (lets_go x) st mid = (more : List (Stage L)) × (st ≡ LetsAllGo ∷ more) × (mid ≡ Wants (LetGo x) ∷ LetsAllGo ∷ more)
-Turns none_held st mid = st ≡ LetsAllGo ∷ mid
-
--- what happens, from stage to stage
-abbrev pub Follows : {N L : Type 0} → (L → List ℕ) → ℕ → List (Stage L) → List (Deed N L) → List (Stage L) → Type 0
-Follows parts now st [] end = st ≡ end
-Follows {N} {L} parts now st (writes e ∷ ds) end = (mid : List (Stage L)) × Notes e st mid × Follows parts now mid ds end
-Follows {N} {L} parts now st (calls x i ∷ ds) end = (mid : List (Stage L)) × Hears parts now x i st mid × Follows parts now mid ds end
-Follows {N} {L} parts now st (turns u ∷ ds) end = (mid : List (Stage L)) × Turns u st mid × Follows parts now mid ds end
 
 -- the first that happens is that the node of x is called, and answers this entry
 abbrev pub Calls : {N L : Type 0} → ℕ → (Bool → Fx N L → Entry N L) → List (Deed N L) → Type 0

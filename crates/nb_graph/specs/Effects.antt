@@ -5,10 +5,10 @@ use Rattle.nb_graph.specs.declared.effects.Emit.{Emit}
 use Rattle.nb_graph.specs.declared.effects.Make.{Make}
 use Rattle.nb_graph.specs.declared.effects.Few.{Few}
 use Rattle.nb_graph.specs.declared.effects.Fx.{Fx}
-use Rattle.nb_graph.specs.declared.steps.Asked.{Asked}
-use Rattle.nb_graph.specs.Trace.{Entry, Said, lent, left}
+use Rattle.nb_graph.specs.declared.asking.Asked.{Asked}
+use Rattle.nb_graph.specs.Trace.{Nature, Entry, Said, lent, left}
 use Rattle.nb_graph.specs.Deeds.{Stage, runs_of}
-use Rattle.nb_graph.specs.declared.steps.Asked.TheVariants.{Done, NoMemory}
+use Rattle.nb_graph.specs.declared.asking.Asked.TheVariants.{Done, NoMemory}
 
 -- no effect
 abbrev pub IsNothing : {N L : Type 0} → Fx N L → Type 0
@@ -93,7 +93,7 @@ asked_loads (Done fx) = lent fx
 asked_loads (NoMemory fx) = lent fx
 
 -- what is to run of it
-abbrev pub asked_runs : {N L : Type 0} → (L → List ℕ) → ℕ → Said → Asked N L → List (Stage L)
+abbrev pub asked_runs : {N L : Type 0} → Nature N L → ℕ → Said → Asked N L → List (Stage L)
 asked_runs parts x m (Done fx) = runs_of parts x m true fx
 asked_runs parts x m (NoMemory fx) = runs_of parts x m false fx
 

@@ -5,11 +5,11 @@ use Rattle.nb_ledger.specs.declared.port.PortState.{PortState}
 use Rattle.nb_ledger.specs.declared.port.PortState.TheVariants.{Linked}
 use Rattle.nb_ledger.specs.Ledger.{Ledger, port, busy, open_count}
 use Rattle.nb_graph.specs.declared.effects.Emit.{Emit}
-use Rattle.nb_graph.specs.declared.steps.Asked.{Asked}
-use Rattle.nb_graph.specs.declared.steps.Asked.TheVariants.{Done, NoMemory}
+use Rattle.nb_graph.specs.declared.asking.Asked.{Asked}
+use Rattle.nb_graph.specs.declared.asking.Asked.TheVariants.{Done, NoMemory}
 use Rattle.nb_graph.specs.Whole.{port_at}
 use Rattle.nb_graph.specs.Accounts.{Account, fx_bytes}
-use Rattle.nb_graph.specs.Trace.{carries}
+use Rattle.nb_graph.specs.Trace.{Nature, carries}
 
 -- y is reached from an object by links, the one of the port p left out
 pub data Reaches (f : ℕ → ℕ → PortState) (p : Port) (y : ℕ) : ℕ → Type 0 where
@@ -44,7 +44,7 @@ abbrev pub Passing : Ledger → Port → List ℕ → Port → Port → Account 
 Passing l at m p q b w v = IsShut l p ⊎ (((p ≡ at) × (w ≡ m ++ v)) ⊎ ((p ≡ at → ⊥) × (w ≡ v) × IsClear l p at.obj.0 w))
 
 -- one of x's downs goes, if there is one
-abbrev pub Emitting : {L : Type 0} → Ledger → ℕ → (L → List ℕ) → List ℕ → Option (Emit L) → Port → Port → Account → List ℕ → List ℕ → Type 0
+abbrev pub Emitting : {N L : Type 0} → Ledger → ℕ → Nature N L → List ℕ → Option (Emit L) → Port → Port → Account → List ℕ → List ℕ → Type 0
 Emitting l x parts bytes None p q b w v = IsShut l p ⊎ (w ≡ v)
 Emitting l x parts bytes (Some e) p q b w v = Passing l (port_at x e.slot) (carries parts bytes e.from e.to e.load) p q b w v
 
@@ -77,7 +77,7 @@ abbrev pub nothing : ℕ → List ℕ
 nothing k = []
 
 -- what an entry sends, and takes by its slot
-abbrev pub asked_sent : {N L : Type 0} → (L → List ℕ) → List ℕ → Asked N L → ℕ → List ℕ
+abbrev pub asked_sent : {N L : Type 0} → Nature N L → List ℕ → Asked N L → ℕ → List ℕ
 asked_sent parts bytes (Done fx) k = fx_bytes parts k bytes fx
 asked_sent parts bytes (NoMemory fx) k = []
 

@@ -2,14 +2,15 @@
 use Rattle.nb_ledger.specs.Flat.{Notice}
 use Rattle.std.specs.Prelude.{◌≡◌, ℕ, List, [], Option, Some}
 use Rattle.nb_ledger.specs.declared.event.GraphEvent.{GraphEvent}
-use Rattle.nb_graph.specs.Trace.{Entry, IsSettled}
-use Rattle.nb_graph.specs.Deeds.{Deed, Stage, events_of, trace_after, Follows}
+use Rattle.nb_graph.specs.Trace.{Nature, Entry, IsSettled}
+use Rattle.nb_graph.specs.Deeds.{Deed, Stage, events_of, told_of, trace_after}
 use Rattle.nb_ledger.specs.declared.port.Port.{Port}
 use Rattle.nb_ledger.specs.Ledger.{port}
-use Rattle.nb_graph.specs.Ports.{Sees, told_of}
+use Rattle.nb_graph.specs.Scene.{scene_of}
+use Rattle.nb_graph.specs.Follows.{Follows}
 use Rattle.nb_ledger.specs.Flat.{Given}
-use Rattle.nb_graph.specs.Accounts.{Account, Balanced, account, rests}
-use Rattle.nb_graph.specs.Whole.{Objects, Runs, node_of}
+use Rattle.nb_graph.specs.Accounts.{Account, Balanced, Midway, account, rests}
+use Rattle.nb_graph.specs.Whole.{Ages, Objects, Runs, node_of}
 
 -- the object x, if it lives, stands for this trace, and all loads that the trace lent came back
 abbrev pub StandsFor : {N L : Type 0} → (N → List (Entry N L) → Type 0) → Objects N → ℕ → List (Entry N L) → Type 0
@@ -23,13 +24,14 @@ KeepsTraces {N} {L} stands old new = (x : ℕ) (t : List (Entry N L)) → Stands
 -- node, with the rest of a message given again; and each object stands for its trace continued by its entries and
 -- the loads that came back to it. One that was made starts from the empty trace. On each link one end took what the
 -- other sent, or the first of it where the link is closed.
-pub record Lived {N L : Type 0} (stands : N → List (Entry N L) → Type 0) (parts : L → List ℕ) (now : ℕ) (asked : List (Stage L)) (old new : Objects N) (before after : Option (List Notice)) : Type 0 where
+pub record Lived {N L : Type 0} (stands : N → List (Entry N L) → Type 0) (parts : Nature N L) (now : ℕ) (asked : List (Stage L)) (old new : Objects N) (before after : Option (List Notice)) : Type 0 where
   pub added : List GraphEvent
   pub runs : Runs old.book new.book before after added
+  pub ages : Ages old.book new.book
   pub deeds : List (Deed N L)
   pub events : events_of deeds ≡ added
   pub tells : Given before after (told_of deeds)
-  pub sees : Sees (port old.book) deeds (port new.book)
-  pub follows : Follows parts now asked deeds []
+  pub follows : Follows parts now (scene_of old.book) asked deeds (scene_of new.book)
   pub keeps : (x : ℕ) (t : List (Entry N L)) → StandsFor stands old x t → StandsFor stands new x (trace_after x t deeds)
+  pub midway : (p q : Port) (a b : Account) → Balanced old.book p q a b → Midway parts p q (rests a) (rests b) deeds
   pub balances : (p q : Port) (a b : Account) → Balanced old.book p q a b → Balanced new.book p q (account parts p (rests a) deeds) (account parts q (rests b) deeds)

@@ -4,6 +4,7 @@ use Rattle.std.specs.Prelude.{◌≡◌, ℕ, ◌+◌, ◌-◌, ◌*◌, ◌^◌
 use Rattle.nb_ledger.specs.declared.event.GraphEvent.{GraphEvent}
 use Rattle.nb_ledger.specs.GraphRun.{Frame, IsIdle, RunsIn, Run}
 use Rattle.nb_ledger.specs.Flat.{Tells}
+use Rattle.nb_graph.specs.Whole.{Ages}
 use Rattle.nb_ledger.specs.Ledger.{Ledger, rank, port, busy, leaves, state_of, Agrees}
 
 -- no entry and no half-closed link ends or begins, and an object that runs keeps its rank
@@ -11,6 +12,7 @@ pub record Grows (old new : Ledger) : Type 0 where
   pub same_room : new.room ≡ old.room
   pub same_busy : (x : ℕ) → busy new x ≡ busy old x
   pub same_leaves : (x k : ℕ) → leaves (port new x k) ≡ leaves (port old x k)
+  pub ages : Ages old new
   pub kept : (x : ℕ) → busy old x ≡ true → rank new x ≡ rank old x
 
 -- the events are a run over any stack that the book agrees with

@@ -1,10 +1,11 @@
 -- What a call leaves of links, and of the bytes on them.
+use Rattle.nb_graph.specs.Trace.{Nature}
 use Rattle.std.specs.Prelude.{◌≡◌, ℕ, ◌≤◌, ◌==◌, true, false, List, [], Some, if◌then◌else◌}
 use Rattle.nb_ledger.specs.declared.port.Port.{Port}
 use Rattle.nb_ledger.specs.declared.port.PortState.TheVariants.{Linked}
 use Rattle.nb_ledger.specs.Ledger.{Ledger, port, busy, open_count}
 use Rattle.nb_graph.specs.Deeds.{Deed}
-use Rattle.nb_graph.specs.Accounts.{Account, account, Joined}
+use Rattle.nb_graph.specs.Accounts.{Account, Midway, account, Joined}
 
 -- links stay, and what is closed stays closed
 pub record Mild (old new : Ledger) : Type 0 where
@@ -14,7 +15,7 @@ pub record Mild (old new : Ledger) : Type 0 where
   pub shuts : (x k : ℕ) → open_count (port old x k) ≡ 0 → open_count (port new x k) ≡ 0
 
 -- A calm call: links only go, and what was sent over one is pending or taken.
-pub record Calms {N L : Type 0} (parts : L → List ℕ) (old new : Ledger) (flow : Port → Port → Account → List ℕ → List ℕ → Type 0) (ds : List (Deed N L)) : Type 0 where
+pub record Calms {N L : Type 0} (parts : Nature N L) (old new : Ledger) (flow : Port → Port → Account → List ℕ → List ℕ → Type 0) (ds : List (Deed N L)) : Type 0 where
   pub same_made : new.made ≡ old.made
   pub links : (x k : ℕ) (q : Port) → port new x k ≡ Linked q → port old x k ≡ Linked q
   pub shuts : (x k : ℕ) → open_count (port old x k) ≡ 0 → open_count (port new x k) ≡ 0
@@ -22,12 +23,16 @@ pub record Calms {N L : Type 0} (parts : L → List ℕ) (old new : Ledger) (flo
   pub enters : (q : Port) (b : Account) → b.entered ≡ true → (account parts q b ds).entered ≡ true
   pub quiet : (q : Port) (b : Account) → 1 ≤ q.slot → b.entered ≡ false → (account parts q b ds).entered ≡ false
   pub joins : (p q : Port) (a b : Account) (w v : List ℕ) → flow p q b w v → Joined old p q a.sent b.taken w → Joined new p q (account parts p a ds).sent (account parts q b ds).taken v
+  pub midway : (p q : Port) (a b : Account) (w v : List ℕ) → flow p q b w v → Joined old p q a.sent b.taken w → Midway parts p q a b ds
+  pub apart : (p q : Port) (a b : Account) → (a.peer ≡ Some q → ⊥) → Midway parts p q a b ds
 
 -- A call that may make objects: so for each link that there was; and over each new one what was sent is taken, but
 -- for `due`.
-pub record Livens {N L : Type 0} (parts : L → List ℕ) (old new : Ledger) (ready : Port → Account → Type 0) (due : Port → Account → List ℕ) (flow : Port → Port → Account → List ℕ → List ℕ → Type 0) (ds : List (Deed N L)) : Type 0 where
+pub record Livens {N L : Type 0} (parts : Nature N L) (old new : Ledger) (ready : Port → Account → Type 0) (due : Port → Account → List ℕ) (flow : Port → Port → Account → List ℕ → List ℕ → Type 0) (ds : List (Deed N L)) : Type 0 where
   pub quiet : (q : Port) (b : Account) → 1 ≤ q.slot → busy old q.obj.0 ≡ true → b.entered ≡ false → (account parts q b ds).entered ≡ false
   pub joins : (p q : Port) (a b : Account) (w v : List ℕ) → flow p q b w v → Joined old p q a.sent b.taken w → Joined new p q (account parts p a ds).sent (account parts q b ds).taken v × (b.entered ≡ true → (account parts q b ds).entered ≡ true)
+  pub midway : (p q : Port) (a b : Account) (w v : List ℕ) → flow p q b w v → Joined old p q a.sent b.taken w → Midway parts p q a b ds
+  pub newly : (p q : Port) (a b : Account) → ready p a → (a.peer ≡ Some q → ⊥) → Midway parts p q a b ds
   pub news : (p q : Port) (a b : Account) → ready p a → (a.peer ≡ Some q → ⊥) → (account parts p a ds).peer ≡ Some q → Joined new p q (account parts p a ds).sent (account parts q b ds).taken (due p a) × (p.slot ≡ 0 → busy old p.obj.0 ≡ false) × (1 ≤ q.slot → busy old q.obj.0 ≡ true → (account parts q b ds).entered ≡ false)
 
 -- nothing has to be known of what was asked for
@@ -45,5 +50,5 @@ abbrev pub asked_due : ℕ → Port → Account → List ℕ
 asked_due x p a = if p.obj.0 == x then a.asked else []
 
 -- what happened asked for this directly before
-abbrev pub Asks : {N L : Type 0} → (L → List ℕ) → ℕ → (ℕ → List ℕ) → List (Deed N L) → Type 0
+abbrev pub Asks : {N L : Type 0} → Nature N L → ℕ → (ℕ → List ℕ) → List (Deed N L) → Type 0
 Asks parts x sent ds = (p : Port) (a : Account) → p.obj.0 ≡ x → (account parts p a ds).asked ≡ sent p.slot

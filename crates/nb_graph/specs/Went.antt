@@ -3,13 +3,13 @@ use Rattle.nb_ledger.specs.Flat.{Notice}
 use Rattle.std.specs.Prelude.{◌≡◌, ℕ, List, [], ◌∷◌, ◌++◌, Option}
 use Rattle.nb_ledger.specs.declared.port.Port.{Port}
 use Rattle.nb_ledger.specs.declared.event.GraphEvent.{GraphEvent}
-use Rattle.nb_ledger.specs.Ledger.{port}
-use Rattle.nb_graph.specs.Trace.{Entry}
-use Rattle.nb_graph.specs.Deeds.{Deed, Stage, Follows, events_of, trace_after}
-use Rattle.nb_graph.specs.Ports.{Sees, told_of}
+use Rattle.nb_graph.specs.Trace.{Nature, Entry}
+use Rattle.nb_graph.specs.Deeds.{Deed, Stage, events_of, told_of, trace_after}
+use Rattle.nb_graph.specs.Scene.{Scene, scene_of}
+use Rattle.nb_graph.specs.Follows.{Follows}
 use Rattle.nb_ledger.specs.Flat.{Given}
-use Rattle.nb_graph.specs.Accounts.{Account, Balanced, account, rests}
-use Rattle.nb_graph.specs.Whole.{Objects, Runs}
+use Rattle.nb_graph.specs.Accounts.{Account, Balanced, Midway, account, rests}
+use Rattle.nb_graph.specs.Whole.{Ages, Objects, Runs}
 use Rattle.nb_graph.specs.Lived.{StandsFor}
 
 -- a call: its time, and what it asks for
@@ -17,12 +17,12 @@ pub record Call (L : Type 0) : Type 0 where
   pub now : ℕ
   pub asks : List (Stage L)
 
--- what happens in each call follows from what it asks for
-abbrev pub Each : {N L : Type 0} → (L → List ℕ) → List (Call L) → List (List (Deed N L)) → Type 0
-Each parts [] [] = Unit {0}
-Each parts [] (ds ∷ dss) = ⊥
-Each parts (c ∷ cs) [] = ⊥
-Each parts (c ∷ cs) (ds ∷ dss) = Follows parts c.now c.asks ds [] × Each parts cs dss
+-- what happens in each call uses up what it asks for
+abbrev pub Each : {N L : Type 0} → Nature N L → Scene → List (Call L) → List (List (Deed N L)) → Scene → Type 0
+Each parts s [] [] t = s ≡ t
+Each parts s [] (ds ∷ dss) t = ⊥
+Each parts s (c ∷ cs) [] t = ⊥
+Each {N} {L} parts s (c ∷ cs) (ds ∷ dss) t = (mid : Scene) × Follows parts c.now s c.asks ds mid × Each parts mid cs dss t
 
 -- of all calls
 abbrev pub all_of : {N L : Type 0} → List (List (Deed N L)) → List (Deed N L)
@@ -30,18 +30,32 @@ all_of [] = []
 all_of (ds ∷ dss) = ds ++ all_of dss
 
 -- an account over calls
-abbrev pub accounts : {N L : Type 0} → (L → List ℕ) → Port → Account → List (List (Deed N L)) → Account
+abbrev pub accounts : {N L : Type 0} → Nature N L → Port → Account → List (List (Deed N L)) → Account
 accounts parts p a [] = a
 accounts parts p a (ds ∷ dss) = accounts parts p (account parts p (rests a) ds) dss
 
--- What happened in these calls: one relation for one call and for many.
-pub record Went {N L : Type 0} (stands : N → List (Entry N L) → Type 0) (parts : L → List ℕ) (calls : List (Call L)) (old new : Objects N) (before after : Option (List Notice)) : Type 0 where
+-- at each moment of each call
+abbrev pub Midways : {N L : Type 0} → Nature N L → Port → Port → Account → Account → List (List (Deed N L)) → Type 0
+Midways parts p q a b [] = Unit {0}
+Midways parts p q a b (ds ∷ dss) = Midway parts p q (rests a) (rests b) ds × Midways parts p q (account parts p (rests a) ds) (account parts q (rests b) ds) dss
+
+-- What happened in these calls, one relation for one call and for many. The events were given and are a run. The
+-- deeds of each call use up what it asks for, and the outside was told of them. Each object stands for its trace
+-- continued by its entries and the loads that came back to it; one that was made starts from the empty trace. On
+-- each link one end took what the other sent, or the first of it where the link is closed; at each moment of a call
+-- the first of it. Ranks stay.
+pub record Went {N L : Type 0} (stands : N → List (Entry N L) → Type 0) (parts : Nature N L) (calls : List (Call L)) (old new : Objects N) (before after : Option (List Notice)) : Type 0 where
   pub added : List GraphEvent
   pub runs : Runs old.book new.book before after added
+  pub ages : Ages old.book new.book
   pub deeds : List (List (Deed N L))
   pub events : events_of (all_of deeds) ≡ added
   pub tells : Given before after (told_of (all_of deeds))
-  pub sees : Sees (port old.book) (all_of deeds) (port new.book)
-  pub each : Each parts calls deeds
+  pub each : Each parts (scene_of old.book) calls deeds (scene_of new.book)
   pub keeps : (x : ℕ) (t : List (Entry N L)) → StandsFor stands old x t → StandsFor stands new x (trace_after x t (all_of deeds))
+  pub midway : (p q : Port) (a b : Account) → Balanced old.book p q a b → Midways parts p q a b deeds
   pub balances : (p q : Port) (a b : Account) → Balanced old.book p q a b → Balanced new.book p q (accounts parts p a deeds) (accounts parts q b deeds)
+
+-- what happened in one call
+abbrev pub WentOne : {N L : Type 0} → (N → List (Entry N L) → Type 0) → Nature N L → ℕ → List (Stage L) → Objects N → Objects N → Option (List Notice) → Option (List Notice) → Type 0
+WentOne stands parts now asks old new before after = Went stands parts (record { now = now; asks = asks } ∷ []) old new before after

@@ -91,6 +91,11 @@ pub record IsMade {N : Type 0} (old new : Objects N) (node : N) (r : ℕ) (id : 
   pub at_rank : rank new.book id.0 ≡ r
   pub is_node : node_of new id ≡ Some node
 
+-- Serials only rise, none comes back, and an object that stays keeps its rank.
+pub record Ages (old new : Ledger) : Type 0 where
+  pub later : old.made ≤ new.made
+  pub kept : (x : ℕ) → x ≤ old.made → live new x ≡ true → (live old x ≡ true) × (rank new x ≡ rank old x)
+
 -- an object's rank never changes
 abbrev pub KeepsRanks : Ledger → Ledger → Type 0
 KeepsRanks old new = (x : ℕ) → live old x ≡ true → live new x ≡ true → rank new x ≡ rank old x

@@ -30,8 +30,8 @@ pub struct Few<E> {
     pub second: Option<E>,
 }
 
-/// What an entry asks for. It runs in the order makes, downs, ups, closes. `took` says how many bytes
-/// of its message an entry from below has taken.
+/// What an entry asks for. It runs in the order makes, downs, ups, closes. `took` says how many
+/// bytes of its message an entry from below has taken.
 #[derive(Drop)]
 pub struct Fx<N, L> {
     pub makes: Option<Make<N>>,

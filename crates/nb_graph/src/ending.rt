@@ -3,7 +3,7 @@ ghost use Rattle.std.specs.Prelude.{◌≡◌, ◌+◌, ◌<◌, ◌≤◌, ℕ,
 ghost use Rattle.nb_ledger.specs.declared.port.Port.{Port as ThePort};
 ghost use Rattle.std.specs.Vec.{vec_capacity};
 ghost use Rattle.nb_ledger.specs.Ledger.{live, busy, holds, port, open_count};
-ghost use Rattle.nb_graph.specs.Trace.{bytes_of};
+ghost use Rattle.nb_graph.specs.Trace.{nature};
 ghost use Rattle.nb_graph.specs.Flows.{Empty};
 ghost use Rattle.nb_graph.specs.Calm.{IsSteady};
 ghost use Rattle.nb_graph.specs.Lives.{here, CalmFor, RunFor, Same};
@@ -28,9 +28,10 @@ impl<N: Node> Inner<N> {
     )
         requires steady { IsSteady N.rank_of self.old.book self.old.nodes.items
             (vec_capacity self.old.nodes) }
-        ensures lives { CalmFor N.stands (bytes_of N.Load.first N.Load.second) now self.old.book
+        ensures lives { CalmFor N.stands (nature N.kind_of N.Load.first N.Load.second) now
+            self.old.book
             self.new.book self.old.nodes.items self.new.nodes.items (Same (busy self.old.book))
-            Empty (λ st. Ends cause.now ∷ st) (O.events out.old) (O.events out.new) }
+            Empty (λ st. Ends after cause.now ∷ st) (O.events out.old) (O.events out.new) }
         ensures steady { IsSteady N.rank_of self.new.book self.new.nodes.items
             (vec_capacity self.new.nodes) }
         ensures shut { (x k : ℕ) → after < x → open_count (port self.new.book x k) ≡ 0 }
@@ -52,8 +53,9 @@ impl<N: Node> Inner<N> {
             (vec_capacity self.old.nodes) }
         ensures graph { IsGraph N.rank_of self.new.book self.new.nodes.items
             (vec_capacity self.new.nodes) }
-        ensures runs { RunFor N.stands (bytes_of N.Load.first N.Load.second) self.old.book
-            self.new.book self.old.nodes.items self.new.nodes.items (λ st. LetsAllGo ∷ st) (λ st. LetsAllGo ∷ st) (O.events out.old)
+        ensures runs { RunFor N.stands (nature N.kind_of N.Load.first N.Load.second) self.old.book
+            self.new.book self.old.nodes.items self.new.nodes.items (λ st. LetsAllGo ∷ st)
+            (λ st. LetsAllGo ∷ st) (O.events out.old)
             (O.events out.new) }
         ensures lets { LetsGo self.old.book self.new.book }
         ensures none { holds self.new.book id.0 ≡ 0 }
@@ -69,8 +71,9 @@ impl<N: Node> Inner<N> {
             (vec_capacity self.old.nodes) }
         ensures graph { IsGraph N.rank_of self.new.book self.new.nodes.items
             (vec_capacity self.new.nodes) }
-        ensures runs { RunFor N.stands (bytes_of N.Load.first N.Load.second) self.old.book
-            self.new.book self.old.nodes.items self.new.nodes.items (λ st. LetsAllGo ∷ st) here (O.events out.old)
+        ensures runs { RunFor N.stands (nature N.kind_of N.Load.first N.Load.second) self.old.book
+            self.new.book self.old.nodes.items self.new.nodes.items (λ st. LetsAllGo ∷ st) here
+            (O.events out.old)
             (O.events out.new) }
         ensures lets { LetsGo self.old.book self.new.book }
         ensures none { (x : ℕ) → after < x → holds self.new.book x ≡ 0 }

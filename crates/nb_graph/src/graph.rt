@@ -1,18 +1,19 @@
-ghost use Rattle.std.specs.Prelude.{◌≡◌, ◌+◌, ◌<◌, ◌≤◌, ◌↔◌, ◌⊎◌, ◌≢◌, ◌^◌, ◌-◌, ℕ, List, [], ◌∷◌, ◌++◌, Ok, Err, IfOk, IfErr, OnErr, OnOk, IsErr, IsTrue, IsSome, IsNone, IfSome, IfNone, length, true, false, slice_get};
+ghost use Rattle.std.specs.Prelude.{◌≡◌, ◌+◌, ◌<◌, ◌≤◌, ◌↔◌, ◌⊎◌, ◌≢◌, ◌^◌, ◌-◌, ℕ, List, [], ◌∷◌};
+ghost use Rattle.std.specs.Prelude.{◌++◌, Ok, Err, IfOk, IfErr, OnErr, OnOk, IsErr, IsTrue, IsSome};
+ghost use Rattle.std.specs.Prelude.{IsNone, IfSome, IfNone, length, true, false, slice_get};
 ghost use Rattle.std.specs.Bool.{OnTrue, OnFalse};
 ghost use Rattle.std.specs.Option.{option_copied};
-ghost use Rattle.nb_ledger.specs.declared.event.GraphEvent.TheVariants.{Made, Held, Plugged, Entered, Dropped, Closed};
-ghost use Rattle.nb_ledger.specs.declared.event.Way.TheVariants as way;
+ghost use Rattle.nb_ledger.specs.declared.event.GraphEvent.TheVariants.{Made, Held, LetGo};
 ghost use Rattle.nb_ledger.specs.declared.port.Port.{Port as ThePort};
-ghost use Rattle.nb_graph.specs.Accounts.{Balanced, KeepsBalance, PlugsBalance, unplugged};
+ghost use Rattle.nb_graph.specs.Accounts.{Balanced, unplugged};
 ghost use Rattle.nb_graph.specs.declared.graph.Reach.TheVariants as reach;
 ghost use Rattle.nb_ledger.specs.declared.port.PortState.TheVariants as state;
 ghost use Rattle.nb_ledger.specs.Ledger.{live, holds, port, rank, open_count, IsLeastAbove};
-ghost use Rattle.nb_graph.specs.Trace.{Entry, down, said, time, up, bytes_of};
-ghost use Rattle.nb_graph.specs.Deeds.{Hands, Closes, Ends, LetsAllGo, Gives, Ticks};
-ghost use Rattle.nb_graph.specs.Lived.{KeepsTraces, Lived, StandsFor};
+ghost use Rattle.nb_graph.specs.Trace.{said, nature};
+ghost use Rattle.nb_graph.specs.Deeds.{Closes, Ends, LetsAllGo, MustPlug, Offers, Ticks, Wants};
+ghost use Rattle.nb_graph.specs.Lived.{KeepsTraces};
 ghost use Rattle.nb_graph.specs.Order.{ClosesOne, EndsInOrder, LetsOneGo};
-ghost use Rattle.nb_graph.specs.Whole.{Began, Harvests, port_at, Runs, IsRun, IsMade, KeepsRanks, node_of, IsSame};
+ghost use Rattle.nb_graph.specs.Whole.{Harvests, IsMade, KeepsRanks, node_of, IsSame};
 
 use crate::Node;
 use crate::inner::Inner;
@@ -48,7 +49,8 @@ impl<N: Node> Model for Graph<N> {
 
     ghost view = { λ g. record { book = g.inner.book; nodes = g.inner.nodes.items } };
 
-    ghost invariant = { λ g. IsGraph N.rank_of g.inner.book g.inner.nodes.items (vec_capacity g.inner.nodes) };
+    ghost invariant = { λ g. IsGraph N.rank_of g.inner.book g.inner.nodes.items
+        (vec_capacity g.inner.nodes) };
 }
 
 impl<N: Node> Graph<N> {
@@ -60,7 +62,8 @@ impl<N: Node> Graph<N> {
               { made = 0; room = cap; objects = [] };
           nodes = [];
         }) }
-        ensures bytes { IfOk result (λ g. (p q : ThePort) → Balanced g.book p q unplugged unplugged) }
+        ensures bytes { IfOk result (λ g. (p q : ThePort) → Balanced g.book p q unplugged
+            unplugged) }
     {
         let book = Book::new(alloc, cap)?;
         let nodes = Vec::with_capacity(alloc, cap)?;
@@ -76,14 +79,12 @@ impl<N: Node> Graph<N> {
             (self.old.book.made ≡ 2 ^ 64 - 1)) }
         ensures back { IfErr result (λ n. (n ≡ node) × IsSame self.old self.new (O.events out.old)
             (O.events out.new)) }
-        ensures runs { IfOk result (λ id. Runs self.old.book self.new.book (O.events out.old)
-            (O.events out.new) (Made id (N.kind_of node) ∷ Held id ∷ [])) }
         ensures made { IfOk result (IsMade self.old self.new node (N.rank_of node)) }
-        ensures stands { IfOk result (λ id. StandsFor N.stands self.new id.0 []) }
-        ensures keeps { IfOk result (λ id. (x : ℕ) (t : List (Entry N N.Load)) → x ≢ id.0
-            → StandsFor N.stands self.old x t → StandsFor N.stands self.new x t) }
-        ensures bytes { IfOk result (λ id. KeepsBalance self.old.book self.new.book) }
         ensures ranks { KeepsRanks self.old.book self.new.book }
+        ensures went { IfOk result (λ id. (now : ℕ) → WentOne N.stands
+            (nature N.kind_of N.Load.first N.Load.second)
+            now (Wants (Made id (N.kind_of node)) ∷ Wants (Held id) ∷ []) self.old self.new
+            (O.events out.old) (O.events out.new)) }
     {
         if self.inner.is_full() {
             return Err(node);
@@ -105,12 +106,12 @@ impl<N: Node> Graph<N> {
             (port self.old.book lower.obj.0 0 ≢ state.Open)) }
         ensures refused { OnErr result (IsSame self.old self.new (O.events out.old)
             (O.events out.new)) }
-        ensures runs { OnOk result (Runs self.old.book self.new.book (O.events out.old)
-            (O.events out.new) (Plugged upper lower ∷ [])) }
-        ensures keeps { OnOk result (KeepsTraces N.stands self.old self.new) }
-        ensures bytes { OnOk result (PlugsBalance self.old.book self.new.book upper lower) }
-        ensures nodes { self.new.nodes ≡ self.old.nodes }
         ensures ranks { KeepsRanks self.old.book self.new.book }
+        ensures went { OnOk result ((now : ℕ) → WentOne N.stands
+            (nature N.kind_of N.Load.first N.Load.second)
+            now (MustPlug upper lower ∷ []) self.old self.new (O.events out.old)
+            (O.events out.new)) }
+        ensures nodes { self.new.nodes ≡ self.old.nodes }
     {
         if !self.inner.book.is_free(upper) {
             return Err(NotOpen { port: upper });
@@ -126,12 +127,11 @@ impl<N: Node> Graph<N> {
     pub fn hold<O: Outside>(&mut self, id: ObjId, out: &mut O) -> bool
         ensures may { IsTrue result ↔ ((live self.old.book id.0 ≡ true) ×
             (holds self.old.book id.0 < 2 ^ 32 - 1)) }
-        ensures held { OnTrue result (Runs self.old.book self.new.book (O.events out.old)
-            (O.events out.new) (Held id ∷ [])) }
-        ensures keeps { OnTrue result (KeepsTraces N.stands self.old self.new) }
-        ensures bytes { OnTrue result (KeepsBalance self.old.book self.new.book) }
-        ensures nodes { self.new.nodes ≡ self.old.nodes }
         ensures ranks { KeepsRanks self.old.book self.new.book }
+        ensures went { OnTrue result ((now : ℕ) → WentOne N.stands
+            (nature N.kind_of N.Load.first N.Load.second)
+            now (Wants (Held id) ∷ []) self.old self.new (O.events out.old) (O.events out.new)) }
+        ensures nodes { self.new.nodes ≡ self.old.nodes }
         ensures not { OnFalse result (IsSame self.old self.new (O.events out.old)
             (O.events out.new)) }
     {
@@ -147,13 +147,12 @@ impl<N: Node> Graph<N> {
     pub fn let_go<O: Outside>(&mut self, id: ObjId, out: &mut O) -> bool
         ensures may { IsTrue result ↔ ((live self.old.book id.0 ≡ true) ×
             (0 < holds self.old.book id.0)) }
-        ensures gone { OnTrue result (IsRun self.old.book self.new.book (O.events out.old)
-            (O.events out.new)) }
+        ensures ranks { KeepsRanks self.old.book self.new.book }
+        ensures went { OnTrue result ((now : ℕ) → WentOne N.stands
+            (nature N.kind_of N.Load.first N.Load.second)
+            now (Wants (LetGo id) ∷ []) self.old self.new (O.events out.old) (O.events out.new)) }
         ensures one { OnTrue result (LetsOneGo id self.old.book self.new.book (O.events out.old)
             (O.events out.new)) }
-        ensures keeps { OnTrue result (KeepsTraces N.stands self.old self.new) }
-        ensures bytes { OnTrue result (KeepsBalance self.old.book self.new.book) }
-        ensures ranks { KeepsRanks self.old.book self.new.book }
         ensures not { OnFalse result (IsSame self.old self.new (O.events out.old)
             (O.events out.new)) }
     {
@@ -191,40 +190,28 @@ impl<N: Node> Graph<N> {
 
     /// Closes a port, and its peer if it is linked. Nothing happens at a closed or dead one.
     pub fn close<O: Outside>(&mut self, at: Port, cause: &Cause, now: u64, out: &mut O)
-        ensures stands { Lived N.stands (bytes_of N.Load.first N.Load.second) now (Closes at cause.now ∷ []) self.old self.new
-            (O.events out.old) (O.events out.new) }
-        ensures runs { IsRun self.old.book self.new.book (O.events out.old) (O.events out.new) }
-        ensures begins { 0 < open_count (port self.old.book at.obj.0 at.slot)
-            → Began self.old.book self.new.book (O.events out.old) (O.events out.new)
-            (Closed at cause.now) }
+        ensures ranks { KeepsRanks self.old.book self.new.book }
+        ensures went { WentOne N.stands (nature N.kind_of N.Load.first N.Load.second)
+            now (Closes at cause.now ∷ []) self.old self.new (O.events out.old) (O.events out.new) }
         ensures one { 0 < open_count (port self.old.book at.obj.0 at.slot)
             → ClosesOne cause.now at self.old.book self.new.book (O.events out.old)
             (O.events out.new) }
         ensures shut { open_count (port self.new.book at.obj.0 at.slot) ≡ 0 }
         ensures not { open_count (port self.old.book at.obj.0 at.slot) ≡ 0 → IsSame self.old
             self.new (O.events out.old) (O.events out.new) }
-        ensures ranks { KeepsRanks self.old.book self.new.book }
     {
         self.inner.close_port(at, cause, now, out);
     }
 
-    /// A message enters an object from above, by its slot 0, if that is open and free; else it is dropped.
+    /// A message enters an object from above, by its slot 0, if that is open and free; else it is
+    /// dropped.
     pub fn down<O: Outside>(&mut self, to: Port, msg: &Msg<'_>, now: u64, out: &mut O) -> Reach
         requires { to.slot ≡ 0 }
         ensures dropped { (result ≡ reach.Dropped) ↔ (port self.old.book to.obj.0 0 ≢ state.Open) }
-        ensures stands { Lived N.stands (bytes_of N.Load.first N.Load.second) now (Gives to (said msg.now) ∷ []) self.old self.new
-            (O.events out.old) (O.events out.new) }
-        ensures hands { result ≡ reach.Entered → (k : Lived N.stands
-            (bytes_of N.Load.first N.Load.second) now (Gives to (said msg.now) ∷ []) self.old self.new (O.events out.old)
-            (O.events out.new))
-            × Hands (Entered to way.Down) to.obj.0 (λ done fx. down (said msg.now) now done fx)
-            k.deeds }
-        ensures runs { IsRun self.old.book self.new.book (O.events out.old) (O.events out.new) }
-        ensures entered { result ≡ reach.Entered → Began self.old.book self.new.book
-            (O.events out.old) (O.events out.new) (Entered to way.Down) }
-        ensures not { result ≡ reach.Dropped → Runs self.old.book self.new.book (O.events out.old)
-            (O.events out.new) (Dropped to ∷ []) }
         ensures ranks { KeepsRanks self.old.book self.new.book }
+        ensures went { WentOne N.stands (nature N.kind_of N.Load.first N.Load.second)
+            now (Offers to (said msg.now) ∷ []) self.old self.new (O.events out.old)
+            (O.events out.new) }
     {
         if self.inner.book.is_free(to) {
             self.inner.enter_down(to, msg, now, out);
@@ -235,23 +222,15 @@ impl<N: Node> Graph<N> {
         }
     }
 
-    /// A message enters an object from below, by a slot 1 to 3, if that is open and free; else it is dropped.
+    /// A message enters an object from below, by a slot 1 to 3, if that is open and free; else it
+    /// is dropped.
     pub fn up<O: Outside>(&mut self, to: Port, msg: &Msg<'_>, now: u64, out: &mut O) -> Reach
         requires { (1 ≤ to.slot) × (to.slot ≤ 3) }
         ensures dropped { (result ≡ reach.Dropped) ↔ (port self.old.book to.obj.0 to.slot ≢
             state.Open) }
-        ensures stands { Lived N.stands (bytes_of N.Load.first N.Load.second) now (Gives to (said msg.now) ∷ []) self.old self.new
-            (O.events out.old) (O.events out.new) }
-        ensures hands { result ≡ reach.Entered → (k : Lived N.stands
-            (bytes_of N.Load.first N.Load.second) now (Gives to (said msg.now) ∷ []) self.old self.new (O.events out.old)
-            (O.events out.new))
-            × Hands (Entered to way.Up) to.obj.0 (λ done fx. up to.slot (said msg.now) now done fx)
-            k.deeds }
-        ensures runs { IsRun self.old.book self.new.book (O.events out.old) (O.events out.new) }
-        ensures entered { result ≡ reach.Entered → Began self.old.book self.new.book
-            (O.events out.old) (O.events out.new) (Entered to way.Up) }
-        ensures not { result ≡ reach.Dropped → Runs self.old.book self.new.book (O.events out.old)
-            (O.events out.new) (Dropped to ∷ []) }
+        ensures went { WentOne N.stands (nature N.kind_of N.Load.first N.Load.second)
+            now (Offers to (said msg.now) ∷ []) self.old self.new (O.events out.old)
+            (O.events out.new) }
     {
         let _length = (msg.first.len(), msg.second.len());
         if self.inner.book.is_free(to) {
@@ -263,19 +242,12 @@ impl<N: Node> Graph<N> {
         }
     }
 
-    /// Time has come to `now`, in milliseconds. Dropped where the object is dead, and then nothing happens.
+    /// Time has come to `now`, in milliseconds. Dropped where the object is dead, and then nothing
+    /// happens.
     pub fn time<O: Outside>(&mut self, id: ObjId, now: u64, out: &mut O) -> Reach
         ensures dropped { (result ≡ reach.Dropped) ↔ (live self.old.book id.0 ≡ false) }
-        ensures stands { Lived N.stands (bytes_of N.Load.first N.Load.second) now (Ticks id.0 ∷ []) self.old self.new
-            (O.events out.old) (O.events out.new) }
-        ensures hands { result ≡ reach.Entered → (k : Lived N.stands
-            (bytes_of N.Load.first N.Load.second) now (Ticks id.0 ∷ []) self.old self.new (O.events out.old)
-            (O.events out.new))
-            × Hands (Entered (port_at id.0 4) way.Time) id.0 (λ done fx. time now done fx) k.deeds }
-        ensures runs { IsRun self.old.book self.new.book (O.events out.old) (O.events out.new) }
-        ensures entered { result ≡ reach.Entered
-            → Began self.old.book self.new.book (O.events out.old) (O.events out.new)
-            (Entered (port_at id.0 4) way.Time) }
+        ensures went { WentOne N.stands (nature N.kind_of N.Load.first N.Load.second)
+            now (Ticks id.0 ∷ []) self.old self.new (O.events out.old) (O.events out.new) }
         ensures not { result ≡ reach.Dropped → IsSame self.old self.new (O.events out.old)
             (O.events out.new) }
     {
@@ -304,9 +276,9 @@ impl<N: Node> Graph<N> {
 
     /// Closes all ports by rising serial and slot, and lets all holds go. Nothing lives after it.
     pub fn shutdown<O: Outside>(&mut self, cause: &Cause, now: u64, out: &mut O)
-        ensures stands { Lived N.stands (bytes_of N.Load.first N.Load.second) now (Ends cause.now ∷ LetsAllGo ∷ []) self.old self.new
-            (O.events out.old) (O.events out.new) }
-        ensures runs { IsRun self.old.book self.new.book (O.events out.old) (O.events out.new) }
+        ensures went { WentOne N.stands (nature N.kind_of N.Load.first N.Load.second)
+            now (Ends 0 cause.now ∷ LetsAllGo ∷ []) self.old self.new (O.events out.old)
+            (O.events out.new) }
         ensures none { length self.new.book.objects ≡ 0 }
         ensures order { EndsInOrder cause.now self.old.book self.new.book (O.events out.old)
             (O.events out.new) }
@@ -318,13 +290,13 @@ impl<N: Node> Graph<N> {
 
 ghost use Rattle.std.specs.Prelude.{List, Option, ◌++◌};
 ghost use Rattle.nb_graph.specs.Whole.{Objects};
-ghost use Rattle.nb_graph.specs.Went.{Call, Went};
+ghost use Rattle.nb_graph.specs.Went.{Call, Went, WentOne};
 ghost use Rattle.nb_ledger.specs.Flat.{Notice};
 
 /// What happens in calls and in those that come then happens in all of them.
 pub fn one_after_another<N: Node>()
     ensures { (cs bs : List (Call N.Load)) (a b c : Objects N) (m n o : Option (List Notice))
-        → Went N.stands (bytes_of N.Load.first N.Load.second) cs a b m n
-        → Went N.stands (bytes_of N.Load.first N.Load.second) bs b c n o
-        → Went N.stands (bytes_of N.Load.first N.Load.second) (cs ++ bs) a c m o }
+        → Went N.stands (nature N.kind_of N.Load.first N.Load.second) cs a b m n
+        → Went N.stands (nature N.kind_of N.Load.first N.Load.second) bs b c n o
+        → Went N.stands (nature N.kind_of N.Load.first N.Load.second) (cs ++ bs) a c m o }
 {}

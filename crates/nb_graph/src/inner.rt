@@ -1,8 +1,8 @@
 ghost use Rattle.std.specs.Prelude.{◌≡◌, ◌≢◌, ℕ, ◌+◌, ◌<◌, ◌^◌, true, false, [], ◌∷◌, ◌++◌, length};
 ghost use Rattle.nb_graph.specs.Accounts.{KeepsBalance};
 ghost use Rattle.nb_graph.specs.Moves.{Mild};
-ghost use Rattle.nb_graph.specs.Trace.{Entry, bytes_of};
-ghost use Rattle.nb_graph.specs.Lived.{StandsFor};
+ghost use Rattle.nb_graph.specs.Trace.{Entry, nature};
+ghost use Rattle.nb_graph.specs.Lived.{Lived};
 ghost use Rattle.std.specs.Vec.{vec_capacity};
 ghost use Rattle.nb_ledger.specs.declared.event.GraphEvent.TheVariants.{Made};
 ghost use Rattle.nb_ledger.specs.Flat.{Given, Tells, flat};
@@ -34,7 +34,8 @@ impl<N: Node> Inner<N> {
         requires lives { live self.old.book id.0 ≡ true }
         requires manned { IsManned N.rank_of self.old.book self.old.nodes.items
             (vec_capacity self.old.nodes) }
-        ensures settles { SettlesFor N.stands (bytes_of N.Load.first N.Load.second) self.old.book
+        ensures settles { SettlesFor N.stands (nature N.kind_of N.Load.first N.Load.second)
+            self.old.book
             self.new.book self.old.nodes.items self.new.nodes.items (O.events out.old)
             (O.events out.new) id }
         ensures manned { IsManned N.rank_of self.new.book self.new.nodes.items
@@ -50,9 +51,11 @@ impl<N: Node> Inner<N> {
         requires manned { IsManned N.rank_of self.old.book self.old.nodes.items
             (vec_capacity self.old.nodes) }
         ensures told { Tells (O.events out.old) (O.events out.new) (Freed id ∷ []) }
-        ensures given { Given (O.events out.old) (O.events out.new) (notice.event (flat (Freed id)) ∷ []) }
+        ensures given { Given (O.events out.old) (O.events out.new) (notice.event (flat
+            (Freed id)) ∷ []) }
         ensures step { (st : List Frame) → Step (state_of self.old.book (MustFree id.0 ∷ st))
             (Freed id) (state_of self.new.book st) }
+        ensures len { length self.new.book.objects + 1 ≡ length self.old.book.objects }
         ensures removes { Removes self.old.book self.new.book id.0 }
         ensures loses { Loses (seat self.old.book self.old.nodes.items)
             (seat self.new.book self.new.nodes.items) }
@@ -72,7 +75,8 @@ impl<N: Node> Inner<N> {
             (vec_capacity self.old.nodes) }
         ensures told { Tells (O.events out.old) (O.events out.new)
             (Made result (N.kind_of node) ∷ []) }
-        ensures given { Given (O.events out.old) (O.events out.new) (notice.event (flat (Made result (N.kind_of node))) ∷ []) }
+        ensures given { Given (O.events out.old) (O.events out.new) (notice.event (flat
+            (Made result (N.kind_of node))) ∷ []) }
         ensures serial { result.0 ≡ self.old.book.made + 1 }
         ensures fresh { live self.old.book result.0 ≡ false }
         ensures len { length self.new.book.objects ≡ length self.old.book.objects + 1 }
@@ -105,21 +109,15 @@ impl<N: Node> Inner<N> {
         requires stands { N.stands node [] }
         requires graph { IsGraph N.rank_of self.old.book self.old.nodes.items
             (vec_capacity self.old.nodes) }
-        ensures runs { Runs self.old.book self.new.book (O.events out.old) (O.events out.new)
-            (Made result (N.kind_of node) ∷ Held result ∷ []) }
-        ensures bytes { KeepsBalance self.old.book self.new.book }
+        ensures lived { (now : ℕ) → Lived N.stands (nature N.kind_of N.Load.first N.Load.second) now
+            (Wants (Made result (N.kind_of node)) ∷ Wants (Held result) ∷ [])
+            (record { book = self.old.book; nodes = self.old.nodes.items })
+            (record { book = self.new.book; nodes = self.new.nodes.items }) (O.events out.old)
+            (O.events out.new) }
         ensures made { IsMade (record { book = self.old.book; nodes = self.old.nodes.items })
             (record { book = self.new.book; nodes = self.new.nodes.items }) node (N.rank_of node)
             result }
         ensures ranks { KeepsRanks self.old.book self.new.book }
-        ensures stands { StandsFor N.stands (record {
-          book = self.new.book;
-          nodes =
-              self.new.nodes.items;
-        }) result.0 [] }
-        ensures keeps { (x : ℕ) (t : List (Entry N N.Load)) → x ≢ result.0
-            → StandsFor N.stands (record { book = self.old.book; nodes = self.old.nodes.items }) x t
-            → StandsFor N.stands (record { book = self.new.book; nodes = self.new.nodes.items }) x t }
         ensures graph { IsGraph N.rank_of self.new.book self.new.nodes.items
             (vec_capacity self.new.nodes) }
     {
@@ -134,15 +132,14 @@ impl<N: Node> Inner<N> {
         requires held { 0 < holds self.old.book id.0 }
         requires graph { IsGraph N.rank_of self.old.book self.old.nodes.items
             (vec_capacity self.old.nodes) }
-        ensures runs { RunFor N.stands (bytes_of N.Load.first N.Load.second) self.old.book
-            self.new.book self.old.nodes.items self.new.nodes.items (λ st. Wants (event.LetGo id) ∷ st) here (O.events out.old)
+        ensures runs { RunFor N.stands (nature N.kind_of N.Load.first N.Load.second) self.old.book
+            self.new.book self.old.nodes.items self.new.nodes.items (λ st. Wants
+            (event.LetGo id) ∷ st) here (O.events out.old)
             (O.events out.new) }
-        ensures one { LetsOneGo id self.old.book self.new.book (O.events out.old) (O.events out.new) }
-        ensures mild { Mild self.old.book self.new.book }
+        ensures one { LetsOneGo id self.old.book self.new.book (O.events out.old)
+            (O.events out.new) }
         ensures ranks { KeepsRanks self.old.book self.new.book }
         ensures lets { LetsGo self.old.book self.new.book }
-        ensures loses { Loses (seat self.old.book self.old.nodes.items)
-            (seat self.new.book self.new.nodes.items) }
         ensures falls { holds self.new.book id.0 < holds self.old.book id.0 }
         ensures graph { IsGraph N.rank_of self.new.book self.new.nodes.items
             (vec_capacity self.new.nodes) }

@@ -1,10 +1,11 @@
 // The making of an object within an entry.
-ghost use Rattle.std.specs.Prelude.{◌≡◌, ◌+◌, ◌-◌, ◌<◌, ◌≤◌, ◌↔◌, ◌⊎◌, ◌^◌, IfSome, IsTrue, length, true, ℕ, [], ◌∷◌, ◌++◌};
+ghost use Rattle.std.specs.Prelude.{◌≡◌, ◌+◌, ◌-◌, ◌<◌, ◌≤◌, ◌↔◌, ◌⊎◌, ◌^◌, IfSome, IsTrue, length};
+ghost use Rattle.std.specs.Prelude.{true, ℕ, [], ◌∷◌, ◌++◌};
 ghost use Rattle.std.specs.Bool.{OnFalse};
 ghost use Rattle.std.specs.Vec.{vec_capacity};
 ghost use Rattle.nb_ledger.specs.declared.port.PortState.TheVariants as state;
 ghost use Rattle.nb_ledger.specs.Ledger.{live, busy, rank, port};
-ghost use Rattle.nb_graph.specs.Trace.{bytes_of};
+ghost use Rattle.nb_graph.specs.Trace.{nature};
 ghost use Rattle.nb_graph.specs.Flows.{Making};
 ghost use Rattle.nb_graph.specs.Moves.{always, asked_due};
 ghost use Rattle.nb_graph.specs.Calm.{IsSteady};
@@ -46,9 +47,11 @@ impl<N: Node> Inner<N> {
         requires make { IfSome make (IsMake N.rank_of N.stands (rank self.old.book id.0)) }
         requires steady { IsSteady N.rank_of self.old.book self.old.nodes.items
             (vec_capacity self.old.nodes) }
-        ensures lives { LivelyInFor N.stands (bytes_of N.Load.first N.Load.second) now id.0
+        ensures lives { LivelyInFor N.stands (nature N.kind_of N.Load.first N.Load.second) now id.0
             self.old.book self.new.book self.old.nodes.items self.new.nodes.items
-            (Same (busy self.old.book)) always (asked_due id.0) (Making self.old.book id.0) (λ st. makes_of id.0 make ++ st) here (O.events out.old) (O.events out.new) }
+            (Same (busy self.old.book)) always (asked_due id.0) (Making self.old.book id.0)
+            (λ st. makes_of (nature N.kind_of N.Load.first N.Load.second) id.0 make ++ st) here
+            (O.events out.old) (O.events out.new) }
         ensures steady { IsSteady N.rank_of self.new.book self.new.nodes.items
             (vec_capacity self.new.nodes) }
     {
@@ -64,10 +67,11 @@ impl<N: Node> Inner<N> {
         requires lower { N.rank_of node < rank self.old.book at.obj.0 }
         requires steady { IsSteady N.rank_of self.old.book self.old.nodes.items
             (vec_capacity self.old.nodes) }
-        ensures lives { LivelyInFor N.stands (bytes_of N.Load.first N.Load.second) now at.obj.0
+        ensures lives { LivelyInFor N.stands (nature N.kind_of N.Load.first N.Load.second) now
+            at.obj.0
             self.old.book self.new.book self.old.nodes.items self.new.nodes.items
             (Same (busy self.old.book)) always (asked_due at.obj.0) (Making self.old.book at.obj.0)
-            (λ st. Makes at ∷ st) here (O.events out.old) (O.events out.new) }
+            (λ st. Makes at (N.kind_of node) ∷ st) here (O.events out.old) (O.events out.new) }
         ensures steady { IsSteady N.rank_of self.new.book self.new.nodes.items
             (vec_capacity self.new.nodes) }
     {
@@ -91,10 +95,11 @@ impl<N: Node> Inner<N> {
         requires lower { N.rank_of node < rank self.old.book at.obj.0 }
         requires steady { IsSteady N.rank_of self.old.book self.old.nodes.items
             (vec_capacity self.old.nodes) }
-        ensures lives { (now : ℕ) → LivelyFor N.stands (bytes_of N.Load.first N.Load.second) now
+        ensures lives { (now : ℕ) → LivelyFor N.stands (nature N.kind_of N.Load.first
+            N.Load.second) now
             self.old.book self.new.book self.old.nodes.items self.new.nodes.items
             (Same (busy self.old.book)) (asked_due at.obj.0) (Making self.old.book at.obj.0)
-            (λ st. Makes at ∷ st) (O.events out.old) (O.events out.new) }
+            (λ st. Makes at (N.kind_of node) ∷ st) (O.events out.old) (O.events out.new) }
         ensures steady { IsSteady N.rank_of self.new.book self.new.nodes.items
             (vec_capacity self.new.nodes) }
     {

@@ -1,5 +1,7 @@
-ghost use Rattle.std.specs.Prelude.{◌≡◌, ◌+◌, ◌≤◌, ℕ, List, [], ◌∷◌, ◌++◌, Option, OnOk, length, is_ok};
-ghost use Rattle.nb_graph.specs.Trace.{Entry, up, down, closed, time, regain, said, IsSettled, Awaits};
+ghost use Rattle.std.specs.Prelude.{◌≡◌, ◌+◌, ◌≤◌, ℕ, List, [], ◌∷◌, ◌++◌, Option, OnOk, length};
+ghost use Rattle.std.specs.Prelude.{is_ok};
+ghost use Rattle.nb_graph.specs.Trace.{Entry, up, down, closed, time, regain, said, IsSettled};
+ghost use Rattle.nb_graph.specs.Trace.{Awaits};
 ghost use Rattle.nb_graph.specs.Effects.{IsNothing, MayAsk, MayAskBelow, TakesSome};
 
 use crate::{Fx, Msg};
@@ -32,8 +34,9 @@ pub trait Node: Sized + Drop {
     /// What `harvest` gives, and what it leaves.
     ghost harvests: { Self → Option Self.Load → Self → Type 0 };
 
-    /// The traces that an object stands for, which is all that it means: a trace has its entries so far, each with
-    /// what it was called with, what it answered and its effects, and the loads that came back to it.
+    /// The traces that an object stands for, which is all that it means: a trace has its entries so
+    /// far, each with what it was called with, what it answered and its effects, and the loads that
+    /// came back to it.
     ghost stands: { Self → List (Entry Self Self.Load) → Type 0 };
 
     /// The rank, which never changes: an object's links go down to lower ranks.
@@ -44,7 +47,8 @@ pub trait Node: Sized + Drop {
     fn kind(&self) -> u8
         ensures { result ≡ kind_of self.now };
 
-    /// A message comes from below by `slot`, or the rest of it. All loads that were lent came back before.
+    /// A message comes from below by `slot`, or the rest of it. All loads that were lent came back
+    /// before.
     fn on_up(
         &mut self,
         slot: u8,

@@ -28,16 +28,31 @@ fn framings(rt: HostRuntime) -> Result<(), Fail> {
     let rows: [(&[u8], Option<BodyKind>); 16] = [
         (b"", Some(BodyKind::ToEnd)),
         (b"content-length:\t5 \r\n", Some(BodyKind::Length(5))),
-        (b"Content-Length: 5\r\nContent-Length: 005\r\n", Some(BodyKind::Length(5))),
-        (b"Content-Length: 5\r\nContent-Length: 6\r\n", Some(BodyKind::Bad)),
+        (
+            b"Content-Length: 5\r\nContent-Length: 005\r\n",
+            Some(BodyKind::Length(5)),
+        ),
+        (
+            b"Content-Length: 5\r\nContent-Length: 6\r\n",
+            Some(BodyKind::Bad),
+        ),
         (b"Content-Length: 5, 5\r\n", Some(BodyKind::Bad)),
         (b"Content-Length: +5\r\n", Some(BodyKind::Bad)),
         (b"Content-Length:\r\n", Some(BodyKind::Bad)),
-        (b"Content-Length: 18446744073709551616\r\n", Some(BodyKind::Length(u64::MAX))),
-        (b"Content-Length: 5\r\nTransfer-Encoding: chunked\r\n", Some(BodyKind::Chunked)),
+        (
+            b"Content-Length: 18446744073709551616\r\n",
+            Some(BodyKind::Length(u64::MAX)),
+        ),
+        (
+            b"Content-Length: 5\r\nTransfer-Encoding: chunked\r\n",
+            Some(BodyKind::Chunked),
+        ),
         (b"Transfer-Encoding: CHUNKED\r\n", Some(BodyKind::Chunked)),
         (b"Transfer-Encoding: gzip, chunked\r\n", Some(BodyKind::Bad)),
-        (b"Transfer-Encoding: chunked\r\nTransfer-Encoding: chunked\r\n", Some(BodyKind::Bad)),
+        (
+            b"Transfer-Encoding: chunked\r\nTransfer-Encoding: chunked\r\n",
+            Some(BodyKind::Bad),
+        ),
         (b"Content-Length : 5\r\n", None),
         (b"A: b\rContent-Length: 5\r\n", None),
         (b"A: b\0\r\n", None),
@@ -66,7 +81,12 @@ fn lines(alloc: Global, fields: usize, long: usize) -> Result<Vec<u8>, NoMemory>
 /// 64 fields are a head and 65 are too many; a head of 16,384 bytes is one, and of one more isn't.
 #[test]
 fn limits_of_a_head(rt: HostRuntime) -> Result<(), Fail> {
-    let rows = [(63, 1, true), (64, 1, false), (0, 16_360, true), (0, 16_361, false)];
+    let rows = [
+        (63, 1, true),
+        (64, 1, false),
+        (0, 16_360, true),
+        (0, 16_361, false),
+    ];
     for (fields, long, expected) in rows {
         let lines = lines(rt.alloc(), fields, long)?;
         let read = whole(rt.alloc(), lines.as_slice())?;
@@ -103,7 +123,11 @@ fn read(alloc: Global, text: &[u8], piece: usize) -> Result<(ChunkState, Vec<u8>
 #[test]
 fn chunked_bodies(rt: HostRuntime) -> Result<(), Fail> {
     let rows: [(&[u8], ChunkState, &[u8]); 12] = [
-        (b"3\r\nhel\r\n002;a=\"b\" \r\nlo\r\n0\r\nA: b\r\n\r\n", ChunkState::Whole, b"hello"),
+        (
+            b"3\r\nhel\r\n002;a=\"b\" \r\nlo\r\n0\r\nA: b\r\n\r\n",
+            ChunkState::Whole,
+            b"hello",
+        ),
         (b"5 \t\r\nhello\r\n00\r\n\r\n", ChunkState::Whole, b"hello"),
         (b"5\r\nhello\r\n", ChunkState::More, b"hello"),
         (b"5\r\nhello\r\n0\r\n", ChunkState::More, b"hello"),

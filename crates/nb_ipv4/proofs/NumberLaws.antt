@@ -4,6 +4,7 @@ use Rattle.std.specs.Int.{w16, w32, to_be_bytes, from_be_bytes}
 use Rattle.std.specs.List.{AllByRecursion}
 use Rattle.std.proofs.lemmas.List.{drop_all}
 use Rattle.std.proofs.lemmas.Nat.{be_bytes_4}
+use Rattle.nb_wire.specs.Checksum.{SameSum}
 use Rattle.nb_wire.proofs.BytesLaws.{IsBytes}
 
 pub be16_bytes : (n x y : ℕ) → x < 256 → y < 256 → n ≡ 256 * x + y → to_be_bytes w16 n ≡ x ∷ y ∷ []
@@ -42,3 +43,6 @@ pub bytes_onto : (xs ys : List ℕ) → AllByRecursion (λ x. x < 256) xs → Is
 bytes_onto [] ys all rest i = rest i
 bytes_onto (x ∷ xs) ys all rest zero = all.0
 bytes_onto (x ∷ xs) ys all rest (suc i) = bytes_onto xs ys all.1 rest i
+
+pub same_of : {m n : ℕ} → m ≡ n → SameSum m n
+same_of e = (ap (λ k. k % 65535) e, λ z. sym e ∙ z, λ z. e ∙ z)

@@ -1,11 +1,11 @@
 -- A packet that is sent is read again.
-use Rattle.std.proofs.Common.{◌≡◌, ℕ, ◌+◌, ◌*◌, ◌/◌, ◌%◌, ◌<◌, ◌≤◌, ◌^◌, List, [], ◌∷◌, ◌++◌, length, get_or, refl, sym, ap, ◌∙◌, append-nil, arith}
+use Rattle.std.proofs.Common.{◌≡◌, ℕ, ◌+◌, ◌*◌, ◌/◌, ◌%◌, ◌<◌, ◌≤◌, ◌^◌, List, [], ◌∷◌, ◌++◌, length, get_or, refl, sym, ap, ◌∙◌, append-nil, sum, arith}
 use Rattle.std.specs.Int.{w16, w32, to_be_bytes}
-use Rattle.nb_wire.specs.Checksum.{checksum}
+use Rattle.nb_wire.specs.Checksum.{words, checksum, HasSum}
 use Rattle.nb_wire.proofs.BytesLaws.{IsBytes}
 use Rattle.nb_wire.proofs.ChecksumLaws.{checksum-zero, checksum-closes}
 use Rattle.nb_ipv4.specs.PacketText.{PacketParts, IsPacket, header_text, sent_header, sent_packet}
-use Rattle.nb_ipv4.proofs.NumberLaws.{bytes_of}
+use Rattle.nb_ipv4.proofs.NumberLaws.{bytes_of, same_of}
 use Rattle.nb_ipv4.proofs.PacketLaws.{header_form}
 
 abbrev as_two : List ℕ → List ℕ
@@ -63,9 +63,15 @@ sent_readable p room fits = record {
   checked = sent_checked p fits.2;
 }
 
+-- the sum of a header's words, from its fields
+pub header_has_sum : (p : PacketParts) (n : ℕ) → length p.body ≤ 65515 → (p.src.0 < 2 ^ 32) × (p.dst.0 < 2 ^ 32) × (p.proto < 256) → n ≡ 17664 + 20 + length p.body + (32768 + p.proto) + sum (words (to_be_bytes w32 p.src.0)) + sum (words (to_be_bytes w32 p.dst.0)) → HasSum (header_text (sent_header 0) p) n
+unfolding header_text
+header_has_sum p n room fits is =
+    let e : n ≡ sum (words (header_text (sent_header 0) p)) = omega (arith, is, room, fits.2) in
+    record { even = refl; fits = header_fits 0 0 p fits.2 (omega arith) (omega arith); same = same_of e }
+
 -- what is put is the packet as it is sent
-pub sent_whole : (p : PacketParts) (unsummed closed : List ℕ) (sum : ℕ) → unsummed ≡ header_text (sent_header 0) p → sum ≡ checksum (unsummed ++ []) → closed ≡ header_text (sent_header sum) p → closed ++ p.body ≡ sent_packet p
+pub sent_whole : (p : PacketParts) (closed : List ℕ) (sum : ℕ) → sum ≡ checksum (header_text (sent_header 0) p) → closed ≡ header_text (sent_header sum) p → closed ++ p.body ≡ sent_packet p
 unfolding sent_packet
-sent_whole p unsummed closed sum unsummed_is sum_is closed_is =
-    let sum_of : sum ≡ checksum (header_text (sent_header 0) p) = sum_is ∙ ap checksum (append-nil unsummed ∙ unsummed_is) in
+sent_whole p closed sum sum_of closed_is =
     ap (λ (x : List ℕ). x ++ p.body) (closed_is ∙ ap (λ (n : ℕ). header_text (sent_header n) p) sum_of)

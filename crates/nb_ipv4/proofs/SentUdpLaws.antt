@@ -1,19 +1,17 @@
 -- A datagram that is sent is read again.
-use Rattle.std.proofs.Common.{◌≡◌, ℕ, zero, suc, ◌+◌, ◌*◌, ◌/◌, ◌%◌, ◌<◌, ◌≤◌, ◌^◌, inr, List, [], ◌∷◌, ◌++◌, length, get_or, refl, sym, ap, ◌∙◌, append_assoc, append-nil, arith}
+use Rattle.std.proofs.Common.{◌≡◌, ℕ, zero, suc, ◌+◌, ◌*◌, ◌/◌, ◌%◌, ◌<◌, ◌≤◌, ◌^◌, inr, List, [], ◌∷◌, ◌++◌, length, get_or, refl, sym, ap, ◌∙◌, append-nil, sum, subst, arith}
 use Rattle.std.specs.Int.{w16, w32, to_be_bytes}
 use Rattle.nb_wire.specs.declared.address.Ip4.{Ip4}
-use Rattle.nb_wire.specs.Checksum.{checksum}
+use Rattle.nb_wire.specs.Checksum.{words, checksum, SameSum, HasSum}
 use Rattle.nb_wire.proofs.BytesLaws.{IsBytes}
-use Rattle.nb_wire.proofs.ChecksumLaws.{checksum-zero, checksum-closes, checksum-ones}
+use Rattle.nb_wire.proofs.ChecksumLaws.{checksum-zero, checksum-closes, checksum-ones, SameSum-parts, IsBytes-append}
 use Rattle.nb_ipv4.specs.UdpText.{UdpParts, IsUdp, udp_header, udp_text, udp_sum, pseudo_header, sent_field, sent_datagram}
-use Rattle.nb_ipv4.proofs.NumberLaws.{elements-drop, bytes_onto}
-use Rattle.nb_ipv4.proofs.UdpLaws.{header_form}
+use Rattle.nb_ipv4.proofs.NumberLaws.{bytes_of, bytes_onto, same_of}
+use Rattle.std.proofs.lemmas.List.{length-append}
+use Rattle.nb_ipv4.proofs.UdpLaws.{header_form, length-udp_header}
 
 abbrev as_two : List ℕ → List ℕ
 as_two x = get_or x 0 0 ∷ get_or x 1 0 ∷ []
-
-abbrev as_four : List ℕ → List ℕ
-as_four x = get_or x 0 0 ∷ get_or x 1 0 ∷ get_or x 2 0 ∷ get_or x 3 0 ∷ []
 
 -- the eight bytes that are written are the header
 pub header_written : (d : UdpParts) (sum : ℕ) (src_port dst_port total field : List ℕ) → src_port ≡ to_be_bytes w16 d.src_port → dst_port ≡ to_be_bytes w16 d.dst_port → total ≡ to_be_bytes w16 (8 + length d.body) → field ≡ to_be_bytes w16 sum → header_form (as_two src_port) (as_two dst_port) (as_two total) (as_two field) ≡ udp_header d sum
@@ -23,20 +21,6 @@ header_written d sum src_port dst_port total field src_is dst_is total_is field_
     ∙ ap (λ (x : List ℕ). header_form (to_be_bytes w16 d.src_port) (as_two x) (as_two total) (as_two field)) dst_is
     ∙ ap (λ (x : List ℕ). header_form (to_be_bytes w16 d.src_port) (to_be_bytes w16 d.dst_port) (as_two x) (as_two field)) total_is
     ∙ ap (λ (x : List ℕ). header_form (to_be_bytes w16 d.src_port) (to_be_bytes w16 d.dst_port) (to_be_bytes w16 (8 + length d.body)) (as_two x)) field_is
-
--- the twelve bytes before it are the pseudo-header
-pub pseudo_written : (src dst : Ip4) (len : ℕ) (src_bytes dst_bytes total : List ℕ) → src_bytes ≡ to_be_bytes w32 src.0 → dst_bytes ≡ to_be_bytes w32 dst.0 → total ≡ to_be_bytes w16 len → as_four src_bytes ++ as_four dst_bytes ++ 0 ∷ 17 ∷ as_two total ≡ pseudo_header src dst len
-unfolding pseudo_header
-pseudo_written src dst len src_bytes dst_bytes total src_is dst_is total_is =
-    ap (λ (x : List ℕ). as_four x ++ as_four dst_bytes ++ 0 ∷ 17 ∷ as_two total) src_is
-    ∙ ap (λ (x : List ℕ). to_be_bytes w32 src.0 ++ as_four x ++ 0 ∷ 17 ∷ as_two total) dst_is
-    ∙ ap (λ (x : List ℕ). to_be_bytes w32 src.0 ++ to_be_bytes w32 dst.0 ++ 0 ∷ 17 ∷ as_two x) total_is
-
--- both, element by element
-pub joined : (pseudo header : List ℕ) → length pseudo ≡ 12 → length header ≡ 8 → get_or pseudo 0 0 ∷ get_or pseudo 1 0 ∷ get_or pseudo 2 0 ∷ get_or pseudo 3 0 ∷ get_or pseudo 4 0 ∷ get_or pseudo 5 0 ∷ get_or pseudo 6 0 ∷ get_or pseudo 7 0 ∷ get_or pseudo 8 0 ∷ get_or pseudo 9 0 ∷ get_or pseudo 10 0 ∷ get_or pseudo 11 0 ∷ get_or header 0 0 ∷ get_or header 1 0 ∷ get_or header 2 0 ∷ get_or header 3 0 ∷ get_or header 4 0 ∷ get_or header 5 0 ∷ get_or header 6 0 ∷ get_or header 7 0 ∷ [] ≡ pseudo ++ header
-joined pseudo header twelve eight =
-    let tail : List ℕ = get_or header 0 0 ∷ get_or header 1 0 ∷ get_or header 2 0 ∷ get_or header 3 0 ∷ get_or header 4 0 ∷ get_or header 5 0 ∷ get_or header 6 0 ∷ get_or header 7 0 ∷ [] in
-    ap (λ (x : List ℕ). x ++ tail) (elements-drop 12 0 pseudo twelve) ∙ ap (λ (x : List ℕ). pseudo ++ x) (elements-drop 8 0 header eight)
 
 abbrev before_sum : Ip4 → Ip4 → UdpParts → List ℕ
 before_sum src dst d =
@@ -85,11 +69,35 @@ sent_readable src dst d body room ports = record {
   checked = inr (sum_closed src dst d (udp_sum src dst d 0) body refl);
 }
 
+-- the sum of the pseudo-header's words, from its fields
+pub pseudo_has_sum : (src dst : Ip4) (len n : ℕ) → len < 2 ^ 16 → n ≡ sum (words (to_be_bytes w32 src.0)) + sum (words (to_be_bytes w32 dst.0)) + 17 + len → HasSum (pseudo_header src dst len) n
+unfolding pseudo_header
+pseudo_has_sum src dst len n room is =
+    let e : n ≡ sum (words (pseudo_header src dst len)) = omega (arith, is, room) in
+    record {
+      even = refl;
+      fits = bytes_of (pseudo_header src dst len) (omega arith, (omega arith, (omega arith, (omega arith, (omega arith, (omega arith, (omega arith, (omega arith, (omega arith, (omega arith, (omega arith, (omega arith, tt))))))))))));
+      same = same_of e;
+    }
+
+header_fits : (d : UdpParts) → IsBytes (udp_header d 0)
+unfolding udp_header
+header_fits d = bytes_of (udp_header d 0) (omega arith, (omega arith, (omega arith, (omega arith, (omega arith, (omega arith, (omega arith, (omega arith, tt))))))))
+
+header_sum : (d : UdpParts) → d.src_port < 2 ^ 16 → d.dst_port < 2 ^ 16 → 8 + length d.body < 2 ^ 16 → SameSum ((d.src_port + d.dst_port) + (8 + length d.body)) (sum (words (udp_header d 0)))
+unfolding udp_header
+header_sum d src_port dst_port room = same_of (omega (arith, src_port, dst_port, room))
+
+-- the same sum with that of a header whose checksum is 0
+pub covered_has_sum : (src dst : Ip4) (d : UdpParts) (m n : ℕ) → HasSum (pseudo_header src dst (8 + length d.body)) m → d.src_port < 2 ^ 16 → d.dst_port < 2 ^ 16 → 8 + length d.body < 2 ^ 16 → n ≡ m + (d.src_port + d.dst_port) + (8 + length d.body) → HasSum (pseudo_header src dst (8 + length d.body) ++ udp_header d 0) n
+covered_has_sum src dst d m n has src_port dst_port room is = record {
+  even = omega (arith, has.even, length-append (pseudo_header src dst (8 + length d.body)) (udp_header d 0), length-udp_header d 0);
+  fits = IsBytes-append (pseudo_header src dst (8 + length d.body)) (udp_header d 0) has.fits (header_fits d);
+  same = let P : ℕ → Type 0 = λ k. SameSum k (sum (words (pseudo_header src dst (8 + length d.body) ++ udp_header d 0))) in subst P (omega (arith, is)) (SameSum-parts (pseudo_header src dst (8 + length d.body)) (udp_header d 0) m ((d.src_port + d.dst_port) + (8 + length d.body)) has.even has.same (header_sum d src_port dst_port room));
+}
+
 -- what is put is the datagram as it is sent
-pub sent_whole : (src dst : Ip4) (d : UdpParts) (pseudo unsummed closed : List ℕ) (sum field : ℕ) → pseudo ≡ pseudo_header src dst (8 + length d.body) → unsummed ≡ udp_header d 0 → sum ≡ checksum (pseudo ++ unsummed ++ d.body) → field ≡ sent_field sum → closed ≡ udp_header d field → closed ++ d.body ≡ sent_datagram src dst d
+pub sent_whole : (src dst : Ip4) (d : UdpParts) (closed : List ℕ) (sum field : ℕ) → sum ≡ udp_sum src dst d 0 → field ≡ sent_field sum → closed ≡ udp_header d field → closed ++ d.body ≡ sent_datagram src dst d
 unfolding sent_datagram
-sent_whole src dst d pseudo unsummed closed sum field pseudo_is unsummed_is sum_is field_is closed_is =
-    let sum_of : sum ≡ udp_sum src dst d 0 =
-    sum_is
-    ∙ ap checksum (append_assoc pseudo unsummed d.body ∙ ap (λ (x : List ℕ). x ++ (unsummed ++ d.body)) pseudo_is ∙ ap (λ (x : List ℕ). pseudo_header src dst (8 + length d.body) ++ (x ++ d.body)) unsummed_is) in
+sent_whole src dst d closed sum field sum_of field_is closed_is =
     ap (λ (x : List ℕ). x ++ d.body) (closed_is ∙ ap (λ (n : ℕ). udp_header d n) (field_is ∙ ap (λ (n : ℕ). sent_field n) sum_of))

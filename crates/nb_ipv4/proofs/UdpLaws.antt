@@ -8,7 +8,7 @@ use Rattle.nb_wire.proofs.BytesLaws.{IsBytes, Splits, append_one, IsBytes-front}
 use Rattle.nb_ipv4.specs.UdpText.{UdpParts, IsUdp, udp_header, udp_text, pseudo_header}
 use Rattle.nb_ipv4.proofs.NumberLaws.{be16_bytes, elements-drop}
 
-length-udp_header : (d : UdpParts) (field : ℕ) → length (udp_header d field) ≡ 8
+pub length-udp_header : (d : UdpParts) (field : ℕ) → length (udp_header d field) ≡ 8
 unfolding udp_header
 length-udp_header d field = refl
 
@@ -103,3 +103,9 @@ udp_made src dst fixed rest bytes body src_port dst_port total field fits front 
         | inr sum ↦ inr (ap (λ (n : ℕ). checksum (pseudo_header src dst n ++ udp_text d field)) body_len ∙ ap (λ (x : List ℕ). checksum (pseudo_header src dst total ++ x)) is ∙ sum)
       ];
     }
+
+-- what is covered where the datagram is a front of these bytes
+pub covered_front : (src dst : Ip4) (n : ℕ) (bytes datagram : List ℕ) → datagram ≡ take n bytes → n ≤ length bytes → pseudo_header src dst (length datagram) ++ datagram ≡ pseudo_header src dst n ++ take n bytes
+covered_front src dst n bytes datagram is enough =
+    let len : length (take n bytes) ≡ n = omega (arith, length-take n bytes) in
+    ap (λ (x : List ℕ). pseudo_header src dst (length x) ++ x) is ∙ ap (λ (k : ℕ). pseudo_header src dst k ++ take n bytes) len

@@ -15,6 +15,10 @@ pub record PacketParts : Type 0 where
 abbrev pub packet_parts : Packet → PacketParts
 packet_parts p = record { src = p.src; dst = p.dst; proto = p.proto; body = p.body.now }
 
+-- a packet of these fields and this body
+abbrev pub sent_parts : Ip4 → Ip4 → ℕ → List ℕ → PacketParts
+sent_parts src dst proto body = record { src = src; dst = dst; proto = proto; body = body }
+
 -- what a header says besides; the flags are the reserved bit and don't-fragment, two bits above fourteen zeros
 pub record Header : Type 0 where
   pub service : ℕ

@@ -14,6 +14,10 @@ pub record UdpParts : Type 0 where
 abbrev pub udp_parts : Udp → UdpParts
 udp_parts d = record { src_port = d.src_port; dst_port = d.dst_port; body = d.body.now }
 
+-- a datagram between these ports, whose body is two parts
+abbrev pub sent_udp : ℕ → ℕ → List ℕ → List ℕ → UdpParts
+sent_udp src_port dst_port first second = record { src_port = src_port; dst_port = dst_port; body = first ++ second }
+
 -- a datagram's header with this checksum
 unfoldable pub udp_header : UdpParts → ℕ → List ℕ
 udp_header d checksum =

@@ -1,7 +1,8 @@
-ghost use Rattle.std.specs.Prelude.{◌≡◌, ◌+◌, ◌-◌, ◌*◌, ◌%◌, ◌<◌, ◌≤◌, ◌^◌, ◌++◌, ◌↔◌, ◌⊎◌, length, IfSome, IsSomeAnd, IsErr, OnOk, OnErr, IfNone, MatchBool};
-ghost use Rattle.nb_wire.specs.Checksum.{checksum};
+ghost use Rattle.std.specs.Prelude.{◌≡◌, ℕ, List, ◌+◌, ◌-◌, ◌*◌, ◌%◌, ◌<◌, ◌≤◌, ◌^◌, ◌++◌, ◌↔◌, ◌⊎◌, length, IfSome, IsSomeAnd, IsErr, OnOk, OnErr, IfNone, MatchBool};
+ghost use Rattle.nb_wire.specs.Checksum.{checksum, HasSum};
+ghost use Rattle.nb_ipv4.specs.PacketText.{sent_parts, header_text, sent_header};
 
-use nb_wire::{Full, Ip4, Out, sum16};
+use nb_wire::{Full, Ip4, Out, sum_of_address, sum16, sum16_of, sum16_of_20};
 
 /// The protocol of a packet whose body is an ICMP message (RFC 792).
 pub const PROTO_ICMP: u8 = 1;
@@ -26,7 +27,7 @@ pub struct Packet<'a> {
 }
 
 impl<'a> Packet<'a> {
-    ghost use Rattle.nb_ipv4.specs.PacketText.{PacketParts, IsPacket, packet_parts, sent_packet, header_text, sent_header};
+    ghost use Rattle.nb_ipv4.specs.PacketText.{PacketParts, IsPacket, packet_parts, sent_packet};
 
     /// The packet that the bytes are, if they are one. Padding may follow it.
     pub fn read(bytes: &'a [u8]) -> Option<Packet<'a>>
@@ -65,43 +66,71 @@ impl<'a> Packet<'a> {
         ensures refused { OnErr result (out.new ≡ out.old) }
         ensures readable { IsPacket (sent_packet (packet_parts self.now)) (packet_parts self.now) }
     {
-        let checksum = sum16(&self.header(0), &[]);
-        out.put_both(&self.header(checksum), self.body)
+        let head = Packet::head(self.src, self.dst, self.proto, self.body.len() as u16);
+        out.put_both(&head, self.body)
     }
 
-    fn header(&self, checksum: u16) -> [u8; 20]
-        requires { length self.now.body.now ≤ 65515 }
-        ensures value { result ≡ header_text (sent_header checksum) (packet_parts self.now) }
-        ensures fits { (self.now.src.0 < 2 ^ 32) × (self.now.dst.0 < 2 ^ 32)
-            × (self.now.proto < 256) }
+    /// The 20 bytes before the body of a packet that is sent, for who puts the `len` bytes of the body
+    /// after them.
+    #[inline(always)]
+    pub fn head(src: Ip4, dst: Ip4, proto: u8, len: u16) -> [u8; 20]
+        requires { len ≤ 65515 }
+        ensures value { (body : List ℕ) → length body ≡ len
+            → result ++ body ≡ sent_packet (sent_parts src dst proto body) }
+        ensures readable { (body : List ℕ) → length body ≡ len
+            → IsPacket (sent_packet (sent_parts src dst proto body)) (sent_parts src dst proto body) }
     {
-        let [t0, t1] = (20 + self.body.len() as u16).to_be_bytes();
-        let [c0, c1] = checksum.to_be_bytes();
-        let [s0, s1, s2, s3] = self.src.0.to_be_bytes();
-        let [d0, d1, d2, d3] = self.dst.0.to_be_bytes();
-        [
-            LEAST_FIRST,
-            0,
-            t0,
-            t1,
-            0,
-            0,
-            DONT_FRAGMENT,
-            0,
-            TIME_TO_LIVE,
-            self.proto,
-            c0,
-            c1,
-            s0,
-            s1,
-            s2,
-            s3,
-            d0,
-            d1,
-            d2,
-            d3,
-        ]
+        let sum = sum16_of(header_sum(src, dst, proto, len));
+        header_bytes(src, dst, proto, len, sum)
     }
+}
+
+// The sum of the words of a header whose checksum is 0.
+#[inline(always)]
+fn header_sum(src: Ip4, dst: Ip4, proto: u8, len: u16) -> u32
+    requires { len ≤ 65515 }
+    ensures { (body : List ℕ) → length body ≡ len
+        → HasSum (header_text (sent_header 0) (sent_parts src dst proto body)) result }
+{
+    let first_words = 256 * u32::from(LEAST_FIRST) + 20 + u32::from(len);
+    let middle_words = 256 * (u32::from(DONT_FRAGMENT) + u32::from(TIME_TO_LIVE))
+        + u32::from(proto);
+    first_words + middle_words + sum_of_address(src) + sum_of_address(dst)
+}
+
+#[inline(always)]
+fn header_bytes(src: Ip4, dst: Ip4, proto: u8, len: u16, checksum: u16) -> [u8; 20]
+    requires { len ≤ 65515 }
+    ensures value { (body : List ℕ) → length body ≡ len
+        → result ≡ header_text (sent_header checksum) (sent_parts src dst proto body) }
+    ensures fits { (src.0 < 2 ^ 32) × (dst.0 < 2 ^ 32) × (proto < 256) }
+{
+    let [t0, t1] = (20 + len).to_be_bytes();
+    let [c0, c1] = checksum.to_be_bytes();
+    let [s0, s1, s2, s3] = src.0.to_be_bytes();
+    let [d0, d1, d2, d3] = dst.0.to_be_bytes();
+    [
+        LEAST_FIRST,
+        0,
+        t0,
+        t1,
+        0,
+        0,
+        DONT_FRAGMENT,
+        0,
+        TIME_TO_LIVE,
+        proto,
+        c0,
+        c1,
+        s0,
+        s1,
+        s2,
+        s3,
+        d0,
+        d1,
+        d2,
+        d3,
+    ]
 }
 
 /// The first byte of a header without options: version 4 and a length of five words.
@@ -139,5 +168,8 @@ fn is_header_intact(header: &[u8]) -> bool
     requires room { length header.now ≤ 60 }
     ensures { MatchBool result (checksum header.now ≡ 0) (0 < checksum header.now) }
 {
-    sum16(header, &[]) == 0
+    match header.first_chunk::<20>() {
+        Some(fixed) if header.len() == 20 => sum16_of_20(fixed) == 0,
+        _ => sum16(header, &[]) == 0,
+    }
 }

@@ -1,9 +1,9 @@
-ghost use Rattle.std.specs.Prelude.{◌≡◌, ℕ, ◌+◌, ◌<◌, ◌≤◌, ◌^◌, ◌++◌, ◌↔◌, ◌⊎◌, length, slice_index, IfSome, IsSomeAnd, IsErr, OnOk, OnErr, MatchBool};
-ghost use Rattle.nb_wire.specs.Checksum.{checksum};
-ghost use Rattle.nb_ipv4.specs.UdpText.{pseudo_header, sent_field};
+ghost use Rattle.std.specs.Prelude.{◌≡◌, ◌+◌, ◌%◌, ◌<◌, ◌≤◌, ◌^◌, ◌++◌, ◌↔◌, ◌⊎◌, length, IfSome, IsSomeAnd, IsErr, OnOk, OnErr, MatchBool};
+ghost use Rattle.nb_wire.specs.Checksum.{checksum, HasSum};
+ghost use Rattle.nb_ipv4.specs.UdpText.{UdpParts, udp_header, pseudo_header, sent_field};
 
 use crate::packet::PROTO_UDP;
-use nb_wire::{Full, Ip4, Out, sum16};
+use nb_wire::{Full, Ip4, Out, sum_of_address, sum16_after};
 
 /// The bytes of a UDP header.
 const HEADER_LEN: u16 = 8;
@@ -20,7 +20,7 @@ pub struct Udp<'a> {
 }
 
 impl<'a> Udp<'a> {
-    ghost use Rattle.nb_ipv4.specs.UdpText.{UdpParts, IsUdp, udp_parts, udp_header, sent_datagram};
+    ghost use Rattle.nb_ipv4.specs.UdpText.{IsUdp, udp_parts, sent_udp, sent_datagram};
 
     /// The datagram between these addresses that the body of an IPv4 packet is, if it is one. Bytes
     /// may follow it.
@@ -37,7 +37,7 @@ impl<'a> Udp<'a> {
         }
         let (datagram, _) = bytes.split_at(usize::from(len));
         let field = u16::from_be_bytes([c0, c1]);
-        if !is_intact(field, &pseudo_bytes(src, dst, len), datagram) {
+        if !is_intact(field, src, dst, datagram) {
             return None;
         }
         let (_, body) = datagram.split_at(usize::from(HEADER_LEN));
@@ -59,56 +59,76 @@ impl<'a> Udp<'a> {
         ensures readable { IsUdp src dst (sent_datagram src dst (udp_parts self.now))
             (udp_parts self.now) }
     {
-        let len = HEADER_LEN + self.body.len() as u16;
-        let sum = covered_sum(&pseudo_bytes(src, dst, len), &self.header(0), self.body);
-        out.put_both(&self.header(field_of(sum)), self.body)
+        let head = Udp::head(src, dst, self.src_port, self.dst_port, &[], self.body);
+        out.put_both(&head, self.body)
     }
 
-    fn header(&self, checksum: u16) -> [u8; 8]
-        requires { length self.now.body.now ≤ 65527 }
-        ensures value { result ≡ udp_header (udp_parts self.now) checksum }
-        ensures fits { (self.now.src_port < 2 ^ 16) × (self.now.dst_port < 2 ^ 16) }
+    /// The eight bytes before a datagram's body, with the checksum between these addresses, for who
+    /// puts the body's two parts after them.
+    #[inline(always)]
+    pub fn head(
+        src: Ip4,
+        dst: Ip4,
+        src_port: u16,
+        dst_port: u16,
+        first: &[u8],
+        second: &[u8],
+    ) -> [u8; 8]
+        requires even { length first.now % 2 ≡ 0 }
+        requires room { length first.now + length second.now ≤ 65527 }
+        ensures value { result ++ (first.now ++ second.now)
+            ≡ sent_datagram src dst (sent_udp src_port dst_port first.now second.now) }
+        ensures readable { IsUdp src dst
+            (sent_datagram src dst (sent_udp src_port dst_port first.now second.now))
+            (sent_udp src_port dst_port first.now second.now) }
     {
-        let [s0, s1] = self.src_port.to_be_bytes();
-        let [d0, d1] = self.dst_port.to_be_bytes();
-        let [l0, l1] = (HEADER_LEN + self.body.len() as u16).to_be_bytes();
-        let [c0, c1] = checksum.to_be_bytes();
-        [s0, s1, d0, d1, l0, l1, c0, c1]
+        let len = HEADER_LEN + (first.len() + second.len()) as u16;
+        let before = covered_sum(src, dst, src_port, dst_port, len);
+        let field = field_of(sum16_after(before, first, second));
+        header_bytes(src_port, dst_port, len, field)
     }
 }
 
-// What the checksum covers before the datagram.
-fn pseudo_bytes(src: Ip4, dst: Ip4, len: u16) -> [u8; 12]
-    ensures value { result ≡ pseudo_header src dst len }
-    ensures fits { (src.0 < 2 ^ 32) × (dst.0 < 2 ^ 32) }
+// The sum of the words of the pseudo-header, which the checksum covers before the datagram.
+#[inline(always)]
+fn pseudo_sum(src: Ip4, dst: Ip4, len: u16) -> u32
+    ensures sum { HasSum (pseudo_header src dst len) result }
+    ensures room { result < 2 ^ 20 }
 {
-    let [s0, s1, s2, s3] = src.0.to_be_bytes();
-    let [d0, d1, d2, d3] = dst.0.to_be_bytes();
+    sum_of_address(src) + sum_of_address(dst) + u32::from(PROTO_UDP) + u32::from(len)
+}
+
+// The sum of the words of the pseudo-header and of a header whose checksum is 0.
+#[inline(always)]
+fn covered_sum(src: Ip4, dst: Ip4, src_port: u16, dst_port: u16, len: u16) -> u32
+    ensures { (d : UdpParts) → d.src_port ≡ src_port → d.dst_port ≡ dst_port
+        → 8 + length d.body ≡ len → HasSum (pseudo_header src dst len ++ udp_header d 0) result }
+{
+    let ports = u32::from(src_port) + u32::from(dst_port);
+    pseudo_sum(src, dst, len) + ports + u32::from(len)
+}
+
+#[inline(always)]
+fn header_bytes(src_port: u16, dst_port: u16, len: u16, checksum: u16) -> [u8; 8]
+    ensures value { (d : UdpParts) → d.src_port ≡ src_port → d.dst_port ≡ dst_port
+        → 8 + length d.body ≡ len → result ≡ udp_header d checksum }
+    ensures fits { (src_port < 2 ^ 16) × (dst_port < 2 ^ 16) }
+{
+    let [s0, s1] = src_port.to_be_bytes();
+    let [d0, d1] = dst_port.to_be_bytes();
     let [l0, l1] = len.to_be_bytes();
-    [s0, s1, s2, s3, d0, d1, d2, d3, 0, PROTO_UDP, l0, l1]
+    let [c0, c1] = checksum.to_be_bytes();
+    [s0, s1, d0, d1, l0, l1, c0, c1]
 }
 
 // Without a checksum a datagram is taken as it is.
-fn is_intact(field: u16, pseudo: &[u8; 12], datagram: &[u8]) -> bool
+#[inline(always)]
+fn is_intact(field: u16, src: Ip4, dst: Ip4, datagram: &[u8]) -> bool
     requires { length datagram.now < 65536 }
-    ensures { MatchBool result ((field ≡ 0) ⊎ (checksum (pseudo.now ++ datagram.now) ≡ 0))
-        ((0 < field) × (0 < checksum (pseudo.now ++ datagram.now))) }
+    ensures { let sum = checksum (pseudo_header src dst (length datagram.now) ++ datagram.now) in
+        MatchBool result ((field ≡ 0) ⊎ (sum ≡ 0)) ((0 < field) × (0 < sum)) }
 {
-    field == 0 || sum16(pseudo, datagram) == 0
-}
-
-// The checksum of a pseudo-header, a header and a body.
-fn covered_sum(pseudo: &[u8; 12], header: &[u8; 8], body: &[u8]) -> u16
-    requires { length body.now ≤ 65527 }
-    ensures value { result ≡ checksum (pseudo.now ++ header.now ++ body.now) }
-    ensures bytes { (i : ℕ) → slice_index body.now i < 256 }
-{
-    let [p0, p1, p2, p3, p4, p5, p6, p7, p8, p9, p10, p11] = *pseudo;
-    let [h0, h1, h2, h3, h4, h5, h6, h7] = *header;
-    let first = [
-        p0, p1, p2, p3, p4, p5, p6, p7, p8, p9, p10, p11, h0, h1, h2, h3, h4, h5, h6, h7,
-    ];
-    sum16(&first, body)
+    field == 0 || sum16_after(pseudo_sum(src, dst, datagram.len() as u16), &[], datagram) == 0
 }
 
 // A computed 0 is sent as all ones, since 0 says that there is no checksum.

@@ -1,24 +1,23 @@
 -- The last first try of an open, among what concerns its tries.
-use Rattle.std.proofs.Common.{◌≡◌, ◌⊎◌, inl, inr, ℕ, ◌+◌, Bool, true, false, cond, List, [], ◌∷◌, ◌++◌, Option, Some, None, refl, sym, ◌∙◌, ap, subst, append_assoc, append-nil, map, filter, if◌then◌else◌}
-use Rattle.std.specs.List.{flat_map, list_any, fold}
-use Rattle.std.specs.Option.{option_map_or, is_some, is_none}
+use Rattle.std.proofs.Common.{◌≡◌, ℕ, List, [], ◌∷◌, ◌++◌, Option, Some, None, refl, sym, ◌∙◌, ap, subst, append_assoc, append-nil, filter, if◌then◌else◌}
+use Rattle.std.specs.List.{flat_map, fold}
+use Rattle.std.specs.Option.{option_map_or, is_some}
 use Rattle.std.proofs.lemmas.List.{map-append}
 use Rattle.std.proofs.lemmas.List.Concat.{flat_map-append}
 use Rattle.nb_retry.specs.declared.retry.Due.{Due}
 use Rattle.nb_retry.specs.declared.retry.Due.TheVariants.{Not, Again, Over}
 use Rattle.nb_retry.specs.Calls.{fires}
-use Rattle.nb_retry.specs.Plans.{Asked, asked, first_from}
+use Rattle.nb_retry.specs.Plans.{Asked, asked}
 use Rattle.nb_terms.specs.declared.acts.Acts.{Acts}
 use Rattle.nb_terms.specs.declared.cause.Cause.{Cause}
 use Rattle.nb_tftp.specs.Asks.{Begun}
-use Rattle.nb_tftp.specs.Blocks.{count}
 use Rattle.nb_tftp.proofs.TryLaws.{IsFirst, first_try}
-use Rattle.nb_tftp.specs.Received.{Received, fixed_port}
-use Rattle.nb_tftp.specs.History.{Call, came, ticked, Entry, entry, got, Watch, watch_from, watched, watched_call, EachEntry}
-use Rattle.nb_tftp.specs.Sentences.{AsksSo, answer_to}
+use Rattle.nb_tftp.specs.Received.{Received}
+use Rattle.nb_tftp.specs.History.{Call, came, ticked, Entry, entry, Watch, watch_from, watched, watched_call, EachEntry}
+use Rattle.nb_tftp.specs.Sentences.{AsksSo}
 use Rattle.nb_tftp.specs.Endings.{moments}
-use Rattle.nb_laws.specs.Lists.{Mark, passed, tries, heard, mark_of, times_of, tries_of, heard_of, times_in, tries_in, heard_in}
-use Rattle.nb_laws.specs.Agreement.{moment, try_marks, entry_marks}
+use Rattle.nb_laws.specs.Lists.{Mark, passed, tries, heard, times_of, tries_of, heard_of, times_in, tries_in, heard_in}
+use Rattle.nb_laws.specs.Agreement.{try_marks, entry_marks}
 
 abbrev said_try : ℕ → Due → List (ℕ × ℕ)
 said_try at Not = []

@@ -3,4 +3,7 @@
 
 mod laws;
 
-pub use laws::{ends_and_frames_by_the_lists, ends_have_causes, one_history, world_by_the_lists};
+pub use laws::{
+    histories_are_lawful, honest_servers_files_are_brought, names_are_read_as_spelled, one_history,
+    packets_are_read_as_spelled, runs_are_lawful, world_by_the_lists,
+};

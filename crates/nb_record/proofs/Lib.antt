@@ -1,5 +1,6 @@
 mod BeginLemmas
 mod BreakLemmas
+mod FeedLemmas
 mod FillerLemmas
 mod KnownLemmas
 pub mod LogLemmas

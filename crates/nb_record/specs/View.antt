@@ -21,7 +21,7 @@ start_of s = record {
 }
 
 abbrev pub in_of : InRec → defs.In
-in_of (input.Start s) = defs.start (start_of s)
+in_of (input.Start s) = defs.start s
 in_of (input.Frame bytes) = defs.frame bytes.now
 in_of (input.Tick ms) = defs.tick ms
 in_of input.Off = defs.off

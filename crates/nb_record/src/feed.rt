@@ -1,9 +1,11 @@
-ghost use Rattle.std.specs.Prelude.{◌≡◌, ◌+◌, ◌-◌, ◌^◌, ◌<◌, ◌≤◌, [], ◌++◌, ◌==◌, length, take, drop, min, IfOk, vec_len, vec_capacity};
+ghost use Rattle.std.specs.Prelude.{◌≡◌, ◌+◌, ◌-◌, ◌^◌, ◌<◌, ◌≤◌, [], ◌++◌, ◌==◌, length, take, drop, min, IfOk, OnErr, vec_len};
 ghost use Rattle.nb_defs.specs.Records.{IsPartial};
 ghost use Rattle.nb_record.specs.Held.{Shows};
+ghost use Rattle.nb_record.specs.Bytes.{TakesIn};
+ghost use Rattle.nb_record.specs.Outside.{Reads, Rose, IsAtEnd};
 
-use crate::InRec;
 use crate::reading::front_of;
+use crate::{Failed, InRec, Line};
 use nb_terms::NoMemory;
 use std::alloc::Global;
 use std::marker::Model;
@@ -17,7 +19,7 @@ pub struct BadRecord {
 }
 
 /// What stands at the front of what a feed holds.
-#[derive(Clone, Copy, Debug)]
+#[derive(Debug, Drop)]
 pub enum Front<'a> {
     /// A whole record, and how many bytes it has.
     Whole(InRec<'a>, usize),
@@ -35,30 +37,54 @@ const ROOM: usize = 196_612;
 pub struct Feed {
     bytes: Vec<u8>,
     start: usize,
+    end: usize,
     passed: u64,
 }
 
 impl Model for Feed {
-    ghost use Rattle.std.specs.Prelude.{ℕ, ◌≤◌, drop, vec_len, vec_capacity};
+    ghost use Rattle.std.specs.Prelude.{ℕ, ◌≡◌, ◌≤◌, drop, take, vec_len};
     ghost use Rattle.nb_record.specs.Bytes.{Held};
 
     ghost Value = { Held };
 
-    ghost view = { λ f. record { bytes = drop f.start f.bytes.items; passed = f.passed } };
+    ghost view = { λ f. record { bytes = drop f.start (take f.end f.bytes.items); passed = f.passed } };
 
-    ghost invariant = { λ f. (f.start ≤ vec_len f.bytes) × (vec_len f.bytes ≤ 196612) × (196612 ≤ vec_capacity f.bytes) };
+    ghost invariant = { λ f. (f.start ≤ f.end) × (f.end ≤ 196612) × (vec_len f.bytes ≡ 196612) };
 }
 
-/// Moves the bytes from `start` on to the front.
-fn move_to_front(bytes: &mut Vec<u8>, start: usize)
-    requires { start ≤ vec_len bytes.old }
-    ensures items { bytes.new.items ≡ drop start bytes.old.items }
-    ensures len { vec_len bytes.new ≡ vec_len bytes.old - start }
-    ensures capacity { vec_capacity bytes.new ≡ vec_capacity bytes.old }
+/// Moves the bytes from `start` up to `end` to the front, and says how many they are.
+fn move_to_front(bytes: &mut Vec<u8>, start: usize, end: usize) -> usize
+    requires ordered { start ≤ end }
+    requires within { end ≤ vec_len bytes.old }
+    ensures moved { take result bytes.new.items ≡ drop start (take end bytes.old.items) }
+    ensures count { result ≡ end - start }
+    ensures len { vec_len bytes.new ≡ vec_len bytes.old }
 {
-    let len = bytes.len() - start;
-    bytes.copy_within(start.., 0);
-    bytes.truncate(len);
+    bytes.copy_within(start..end, 0);
+    end - start
+}
+
+/// Writes a piece over the bytes from `end` on.
+fn copy_behind(bytes: &mut Vec<u8>, end: usize, piece: &[u8])
+    requires { end + length piece.now ≤ vec_len bytes.old }
+    ensures held { take (end + length piece.now) bytes.new.items ≡ take end bytes.old.items ++ piece.now }
+    ensures len { vec_len bytes.new ≡ vec_len bytes.old }
+{
+    bytes.as_mut_slice()[end..end + piece.len()].copy_from_slice(piece);
+}
+
+/// Reads over the bytes from `end` on.
+fn read_behind<L: Line>(bytes: &mut Vec<u8>, end: usize, line: &mut L) -> Result<usize, Failed>
+    requires { end ≤ vec_len bytes.old }
+    ensures len { vec_len bytes.new ≡ vec_len bytes.old }
+    ensures front { take end bytes.new.items ≡ take end bytes.old.items }
+    ensures within { IfOk result (λ n. end + n ≤ vec_len bytes.old) }
+    ensures ok { IfOk result (λ n. Reads (L.outside line.old) (L.outside line.new) (take n (drop end bytes.new.items))) }
+    ensures over { IfOk result (λ n. n ≡ 0 → end < vec_len bytes.old → IsAtEnd (L.outside line.old)) }
+    ensures failed { OnErr result (Reads (L.outside line.old) (L.outside line.new) []
+        × Rose (L.outside line.old).read_faults (L.outside line.new).read_faults) }
+{
+    line.read(&mut bytes.as_mut_slice()[end..])
 }
 
 impl Feed {
@@ -67,8 +93,9 @@ impl Feed {
         ensures { IfOk result (λ f. f ≡ record { bytes = []; passed = 0 }) }
     {
         Ok(Feed {
-            bytes: Vec::with_capacity(alloc, ROOM)?,
+            bytes: vec![in alloc; 0; ROOM]?,
             start: 0,
+            end: 0,
             passed: 0,
         })
     }
@@ -81,29 +108,41 @@ impl Feed {
         ensures some { IsPartial self.old.bytes → 0 < length piece.now → 0 < result }
         ensures all { IsPartial self.old.bytes → length piece.now ≤ 65536 → result ≡ length piece.now }
     {
-        if ROOM - self.bytes.len() < piece.len() {
-            move_to_front(&mut self.bytes, self.start);
-            self.start = 0;
-        }
-        let taken = piece.len().min(ROOM - self.bytes.len());
-        match self.bytes.extend_from_slice(&piece[..taken]) {
-            Ok(()) => taken,
-            Err(_) => unreachable!(),
-        }
+        self.end = move_to_front(&mut self.bytes, self.start, self.end);
+        self.start = 0;
+        let taken = piece.len().min(ROOM - self.end);
+        copy_behind(&mut self.bytes, self.end, &piece[..taken]);
+        self.end += taken;
+        taken
+    }
+
+    /// Reads a piece straight into the room behind what is held, and says how many bytes it has: 0 at the
+    /// end of the input, where a front of a record is held. Where the read fails, what is held stays.
+    pub fn read<L: Line>(&mut self, line: &mut L) -> Result<usize, Failed>
+        ensures ok { IfOk result (λ n. TakesIn n self.old self.new (L.outside line.old) (L.outside line.new)) }
+        ensures over { IfOk result (λ n. n ≡ 0 → IsPartial self.old.bytes → IsAtEnd (L.outside line.old)) }
+        ensures failed { OnErr result ((self.new ≡ self.old) × Reads (L.outside line.old) (L.outside line.new) []
+            × Rose (L.outside line.old).read_faults (L.outside line.new).read_faults) }
+    {
+        self.end = move_to_front(&mut self.bytes, self.start, self.end);
+        self.start = 0;
+        let len = read_behind(&mut self.bytes, self.end, line)?;
+        self.end += len;
+        Ok(len)
     }
 
     /// What stands at the front. It stays there until it is passed.
     pub fn front(&self) -> Front<'_>
         ensures { Shows self.now result }
     {
-        front_of(&self.bytes.as_slice()[self.start..], self.passed)
+        front_of(&self.bytes.as_slice()[self.start..self.end], self.passed)
     }
 
     /// Whether no byte is held.
     pub fn is_empty(&self) -> bool
         ensures { result ≡ (length self.now.bytes == 0) }
     {
-        self.start == self.bytes.len()
+        self.start == self.end
     }
 
     /// Passes the first bytes, those of a record that was used.
@@ -113,9 +152,5 @@ impl Feed {
     {
         self.passed = self.passed.saturating_add(len as u64);
         self.start += len;
-        if self.start == self.bytes.len() {
-            self.bytes.clear();
-            self.start = 0;
-        }
     }
 }

@@ -16,7 +16,7 @@ mod reading;
 mod sure_line;
 
 pub use feed::{BadRecord, Feed, Front};
-pub use input::{InRec, Start};
+pub use input::{InRec, Start, StartRecord};
 pub use line::{Failed, Line, Target};
 pub use log::Log;
 pub use mem_line::MemLine;

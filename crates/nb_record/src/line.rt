@@ -6,6 +6,8 @@ ghost use Rattle.nb_record.specs.Outside.{Outside, Attaches, Reads, Writes, IsAt
 pub enum Target<'a> {
     /// A pair of files, by their paths.
     Files { input: &'a str, output: &'a str },
+    /// A host and port, with a colon between them: a peer that sends the input and takes the output.
+    Peer(&'a str),
 }
 
 /// A call of a line failed; its count of faults rose.

@@ -1,15 +1,19 @@
-ghost use Rattle.std.specs.Prelude.{◌≡◌, ◌+◌, ◌<◌, ◌≤◌, length, take, drop, true, false, None, IfSome, slice_index_or};
+ghost use Rattle.std.specs.Prelude.{◌≡◌, ◌+◌, ◌<◌, ◌≤◌, ◌⊎◌, MatchBool, length, take, drop, true, false, None, IfSome, slice_index_or};
 ghost use Rattle.nb_defs.proofs.StartLaws.{start_at};
 ghost use Rattle.nb_defs.proofs.RecordLaws.{in_by};
 ghost use Rattle.nb_record.specs.View.{start_of, in_of};
 ghost use Rattle.nb_record.specs.Reading.{number_of, least_length, length_with, ms_with, BodyBeginsAs, BeginsAs, CanBegin, whole_len};
-ghost use Rattle.nb_record.specs.Held.{BreaksAt, Shows, part_of};
+ghost use Rattle.nb_record.specs.Held.{BreaksAt, Shows, IsFront, part_of};
+ghost use Rattle.nb_defs.specs.Records.{frame};
 
 use crate::kind::Kind;
-use crate::{BadRecord, Front, InRec, Start};
+use crate::{BadRecord, Front, InRec, Start, StartRecord};
 use nb_wire::{Ip4, Mac};
 
 const VERSION: u8 = 1;
+
+/// The bytes of a frame's shortest record.
+const LEAST_FRAME: usize = 19;
 
 /// The high byte of `w` is less.
 const W_HIGH_END: u8 = 64;
@@ -128,7 +132,7 @@ fn part<const N: usize>(bytes: &[u8], place: usize) -> [u8; N]
 
 /// The fields of a START record, each from its place.
 #[tactic(auto, unfolding(nb_defs::proofs::StartLaws::start_at))]
-fn start_fields(bytes: &[u8]) -> Start<'_>
+pub fn start_fields(bytes: &[u8]) -> Start<'_>
     requires { 80 ≤ length bytes.now }
     ensures { start_of result ≡ start_at bytes.now }
 {
@@ -153,15 +157,51 @@ fn record_of(kind: Kind, bytes: &[u8]) -> InRec<'_>
     ensures { in_of result ≡ in_by (number_of kind) bytes.now }
 {
     match kind {
-        Kind::Start => InRec::Start(start_fields(bytes)),
+        Kind::Start => InRec::Start(StartRecord::of(bytes)),
         Kind::Frame => InRec::Frame(&bytes[5..]),
         Kind::Tick => InRec::Tick(u16::from_be_bytes(part(bytes, 5))),
         Kind::Off => InRec::Off,
     }
 }
 
+/// The frame that stands whole at the front, and how many bytes its record has, if one does.
+fn frame_at(bytes: &[u8]) -> Option<(&[u8], usize)>
+    ensures { IfSome result (λ f. IsFront bytes.now (frame f.0.now) f.1) }
+{
+    if bytes.len() < LEAST_FRAME {
+        return None;
+    }
+    let len = spelled_length(bytes, 0);
+    if byte_or(bytes, 4, 0) != Kind::Frame.number() || !is_frame_length(len) {
+        return None;
+    }
+    let end = 4 + len as usize;
+    if bytes.len() < end {
+        return None;
+    }
+    let (whole, _) = bytes.split_at(end);
+    Some((&whole[5..], end))
+}
+
+/// Whether a frame's record may have this length.
+fn is_frame_length(len: u32) -> bool
+    ensures { MatchBool result ((15 ≤ len) × (len ≤ 1523)) ((len < 15) ⊎ (1523 < len)) }
+{
+    Kind::Frame.least_length() <= len && len <= Kind::Frame.greatest_length()
+}
+
 /// What stands at the front of the bytes, before which this many bytes of whole records were passed.
+/// Nearly all records are frames, so these are looked for first.
 pub fn front_of(bytes: &[u8], passed: u64) -> Front<'_>
+    ensures { Shows (record { bytes = bytes.now; passed = passed }) result }
+{
+    match frame_at(bytes) {
+        Some((frame, len)) => Front::Whole(InRec::Frame(frame), len),
+        None => any_front_of(bytes, passed),
+    }
+}
+
+fn any_front_of(bytes: &[u8], passed: u64) -> Front<'_>
     ensures { Shows (record { bytes = bytes.now; passed = passed }) result }
 {
     let Some(kind) = kind_of(bytes) else {

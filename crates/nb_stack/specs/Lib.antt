@@ -5,5 +5,6 @@ pub mod Client
 pub mod Route
 pub mod Brings
 pub mod Sizes
+pub mod Envelope
 pub mod Sends
 pub mod Takes

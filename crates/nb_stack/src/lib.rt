@@ -5,6 +5,7 @@
 #![tactic(auto)]
 
 mod address;
+mod envelope;
 mod message;
 mod neighbours;
 mod ports;
@@ -15,6 +16,7 @@ mod stack;
 mod taken;
 
 pub use address::Addr;
+pub use envelope::Envelope;
 pub use neighbours::{MAX_NEIGHBOURS, Neighbour};
 pub use ports::{MAX_PORTS, Port};
 pub use stack::Stack;

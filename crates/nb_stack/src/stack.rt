@@ -1,6 +1,7 @@
 //! The link and network layer.
 
 use crate::address::{Addr, EVERYONE, is_own};
+use crate::envelope::Envelope;
 use crate::message::Message;
 use crate::neighbours::{Neighbour, Neighbours};
 use crate::ports::{Port, Ports};
@@ -33,12 +34,13 @@ impl Model for Stack {
 }
 
 impl Stack {
-    ghost use Rattle.std.specs.Prelude.{◌≡◌, ℕ, ◌≤◌, List, ◌++◌, ◌↔◌, [], None, false, length, is_some, IsErr, OnOk, OnErr};
+    ghost use Rattle.std.specs.Prelude.{◌≡◌, ℕ, ◌+◌, ◌%◌, ◌≤◌, List, ◌++◌, ◌↔◌, [], None, false, length, is_some, IsErr, OnOk, OnErr};
     ghost use Rattle.nb_ipv4.specs.PacketText.{packet_parts};
     ghost use Rattle.nb_ipv4.specs.UdpText.{udp_parts};
     ghost use Rattle.nb_stack.specs.Near.{mac_of, after_arp};
     ghost use Rattle.nb_stack.specs.Bound.{owner_of, with_port, without};
     ghost use Rattle.nb_stack.specs.Sends.{fate_of, put_on, way_of, fate_by, put_by, request_for};
+    ghost use Rattle.nb_stack.specs.Envelope.{message_of};
     ghost use Rattle.nb_stack.specs.Brings.{Brings, arp_message, datagram, brought};
     ghost use Rattle.nb_stack.specs.Takes.{Takes, outcome, outcome_of, reply_of, client_after, asks, reply_to};
     ghost use Rattle.nb_stack.specs.Sizes.{IsFrameSize, IsReplySize};
@@ -122,6 +124,7 @@ impl Stack {
 
     /// Sends a UDP message to its next hop (RFC 1122, section 3.3.1). The try is lost where the hop is
     /// asked for its hardware address first (RFC 826).
+    #[inline(always)]
     pub fn send(&mut self, s: &SendTo, out: &mut Out<'_>) -> Fate
         requires udp { s.now.proto ≡ 17 }
         requires room { 1522 ≤ out.old.left }
@@ -132,26 +135,62 @@ impl Stack {
             → IsFrameSize (length (put_on self.old s.now (way_of self.old s.now))) }
         ensures same { self.new ≡ self.old }
     {
-        match route(self.up, self.address, s.to, s.own_port) {
+        self.send_parts(&Envelope::of(s), &[], s.body.as_slice(), out)
+    }
+
+    /// Sends the UDP message of this envelope as `send` does. Its body is `first` and then `second`,
+    /// which are copied once, into the room.
+    #[inline(always)]
+    pub fn send_parts(
+        &self,
+        envelope: &Envelope,
+        first: &[u8],
+        second: &[u8],
+        out: &mut Out<'_>,
+    ) -> Fate
+        requires udp { envelope.now.proto ≡ 17 }
+        requires even { length first.now % 2 ≡ 0 }
+        requires short { length first.now + length second.now ≤ 1480 }
+        requires room { 1522 ≤ out.old.left }
+        ensures fate { let m = message_of envelope.now first.now second.now in
+            result ≡ fate_of self.now (way_of self.now m) }
+        ensures put { let m = message_of envelope.now first.now second.now in
+            out.new.written ≡ out.old.written ++ put_on self.now m (way_of self.now m) }
+        ensures size { let m = message_of envelope.now first.now second.now in
+            (result ≡ NoRoute → ⊥) → IsFrameSize (length (put_on self.now m (way_of self.now m))) }
+    {
+        match route(self.up, self.address, envelope.to, envelope.own_port) {
             Way::Nowhere => Fate::NoRoute,
             Way::Everyone => {
-                put_datagram(EVERYONE, self.mac, Ip4(0), s, out);
+                put_datagram(EVERYONE, self.mac, Ip4(0), envelope, first, second, out);
                 Fate::Sent
             }
-            Way::Hop { from, hop } => self.send_by(from, hop, s, out),
+            Way::Hop { from, hop } => self.send_by(from, hop, envelope, first, second, out),
         }
     }
 
-    fn send_by(&self, from: Ip4, hop: Ip4, s: &SendTo, out: &mut Out<'_>) -> Fate
-        requires { 1522 ≤ out.old.left }
+    #[inline(always)]
+    fn send_by(
+        &self,
+        from: Ip4,
+        hop: Ip4,
+        envelope: &Envelope,
+        first: &[u8],
+        second: &[u8],
+        out: &mut Out<'_>,
+    ) -> Fate
+        requires even { length first.now % 2 ≡ 0 }
+        requires short { length first.now + length second.now ≤ 1480 }
+        requires room { 1522 ≤ out.old.left }
         ensures fate { result ≡ fate_by (mac_of hop self.now.near) }
-        ensures put { out.new.written ≡
-            out.old.written ++ put_by self.now from hop s.now (mac_of hop self.now.near) }
-        ensures size { IsFrameSize (length (put_by self.now from hop s.now (mac_of hop self.now.near))) }
+        ensures put { let m = message_of envelope.now first.now second.now in
+            out.new.written ≡ out.old.written ++ put_by self.now from hop m (mac_of hop self.now.near) }
+        ensures size { let m = message_of envelope.now first.now second.now in
+            IsFrameSize (length (put_by self.now from hop m (mac_of hop self.now.near))) }
     {
         match self.near.mac(hop) {
             Some(mac) => {
-                put_datagram(mac, self.mac, from, s, out);
+                put_datagram(mac, self.mac, from, envelope, first, second, out);
                 Fate::Sent
             }
             None => {

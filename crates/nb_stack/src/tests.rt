@@ -83,6 +83,25 @@ fn client_asks_then_sends(rt: HostRuntime) {
     assert_eq!(rt; sent.written().get(26..), DNS_QUERY.get(26..));
 }
 
+/// The captured query's header and its question, sent as two parts: the same frame.
+#[test]
+fn two_parts_make_the_frame(rt: HostRuntime) {
+    let mut client = host(1, CLIENT);
+    let mut no_reply = [0; 1522];
+    let mut reply = Out::new(&mut no_reply);
+    assert_eq!(rt; client.take(&REPLY, &mut reply), Taken::Drop);
+
+    let message = query();
+    let body = message.body.as_slice();
+    assert!(rt; body.len() >= 12 && message.proto == 17);
+    let (header, question) = body.split_at(12);
+    let mut room = [0; 1522];
+    let mut out = Out::new(&mut room);
+    let fate = client.send_parts(&Envelope::of(&message), header, question, &mut out);
+    assert_eq!(rt; fate, Fate::Sent);
+    assert_eq!(rt; out.written().get(26..), DNS_QUERY.get(26..));
+}
+
 /// The server answers the captured request with the captured reply, and hands the captured query to
 /// who bound its port, as long as it is bound.
 #[test]

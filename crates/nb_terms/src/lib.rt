@@ -7,8 +7,10 @@ mod acts;
 mod cause;
 mod event;
 mod no_memory;
+mod reason;
 
 pub use acts::{Acts, MAX_BODY, SendTo, Sends};
 pub use cause::Cause;
 pub use event::Event;
 pub use no_memory::NoMemory;
+pub use reason::{Fullness, Large, Long, Many, Plain, Reason};

@@ -1,5 +1,5 @@
 -- What a call of a transfer asks, whatever came before it: at most one message, by UDP, and a range of the body.
-use Rattle.std.proofs.Common.{◌≡◌, ◌≤◌, ℕ, suc, ◌+◌, ◌==◌, List, length, Option, Some, None, Bool, true, false, cond, refl, sym, subst, arith, lit≤}
+use Rattle.std.proofs.Common.{◌≡◌, ◌≤◌, ℕ, suc, ◌+◌, ◌==◌, List, length, Option, Some, None, false, refl, arith, lit≤}
 use Rattle.std.specs.Option.{option_map_or}
 use Rattle.nb_retry.specs.declared.retry.Due.{Due}
 use Rattle.nb_retry.specs.declared.retry.Due.TheVariants.{Not, Again as TryAgain, Over as PlanOver}
@@ -12,7 +12,6 @@ use Rattle.nb_tftp.specs.Asks.{Begun, nothing, acts_of, due_acts, range_of_block
 use Rattle.nb_tftp.specs.Steps.{begun_of, packet_acts, bytes_acts, tick_acts}
 use Rattle.nb_tftp.specs.Decisions.{fixed_of, last_of, is_over, from_server, decided}
 use Rattle.nb_tftp.specs.Received.{Received, received, packet_in, has_number}
-use Rattle.nb_tftp.specs.Sentences.{answer_to}
 use Rattle.nb_tftp.specs.Sound.{IsSound, IsRange}
 use Rattle.nb_tftp.proofs.BlockLemmas.{either_way}
 use Rattle.nb_tftp.proofs.ReceivedLemmas.{and_left}

@@ -1,23 +1,27 @@
--- How a transfer ends, as causes: a code and two numbers
+-- How a transfer ends, as causes
 use Rattle.std.specs.Prelude.{ℕ}
 use Rattle.nb_terms.specs.declared.cause.Cause.{Cause}
+use Rattle.nb_terms.specs.declared.reason.Long.TheVariants as long
+use Rattle.nb_terms.specs.declared.reason.Plain.TheVariants as plain
+use Rattle.nb_terms.specs.declared.reason.Reason.TheVariants as reason
+use Rattle.nb_terms.specs.Reasons.{as_cause}
 
 -- the file is whole
 abbrev pub ok : Cause
-ok = record { code = 0; a = 0; b = 0 }
+ok = as_cause (reason.Plain plain.Ok)
 
 -- the message in a record refuses with an error number
 abbrev pub refused : ℕ → ℕ → Cause
-refused rec error = record { code = 1; a = rec; b = error }
+refused rec error = as_cause (reason.Refused rec error)
 
 -- six tries had no answer
 abbrev pub timed_out : Cause
-timed_out = record { code = 2; a = 6; b = 0 }
+timed_out = as_cause (reason.TimedOut 6)
 
 -- the block in a record is too long
 abbrev pub broken : ℕ → Cause
-broken rec = record { code = 3; a = rec; b = 0 }
+broken rec = as_cause (reason.Broken rec)
 
 -- block 65,535 was full
 abbrev pub too_many_blocks : Cause
-too_many_blocks = record { code = 5; a = 4; b = 0 }
+too_many_blocks = as_cause (reason.TooLong long.Blocks)

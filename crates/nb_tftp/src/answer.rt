@@ -4,8 +4,7 @@ ghost use Rattle.std.specs.Prelude.{◌≡◌, Option, IfSome};
 ghost use Rattle.nb_tftp.specs.Decisions.{decided, block_decided, end_of_block, from_server, fixed_of, last_of, is_over};
 ghost use Rattle.nb_tftpmsg.specs.Views.{message};
 
-use crate::causes::{broken, ok, refused, too_many_blocks};
-use nb_terms::Cause;
+use nb_terms::{Cause, Long, Plain, Reason};
 use nb_tftpmsg::Tftp;
 
 /// The most bytes of a block where no option was granted (RFC 1350, section 2).
@@ -54,7 +53,7 @@ impl Phase {
         match packet {
             Tftp::Oack { .. } => Answer::Ignored,
             Tftp::Error { code, .. } if self.is_from_server(from) => {
-                Answer::Ended(refused(rec, *code))
+                Answer::Ended(Cause::from(Reason::Refused { rec, code: *code }))
             }
             Tftp::Block { n, bytes } if self.is_from_server(from) => {
                 self.decide_block(rec, *n, bytes)
@@ -79,7 +78,7 @@ impl Phase {
     {
         if u32::from(block) == u32::from(self.last()) + 1 {
             if bytes.len() > BLOCK_SIZE {
-                return Answer::Ended(broken(rec));
+                return Answer::Ended(Cause::from(Reason::Broken { rec }));
             }
             return Answer::Taken {
                 block,
@@ -108,10 +107,10 @@ pub(crate) fn end_of_block(block: u16, len: u16) -> Option<Cause>
     ensures { result ≡ end_of_block block len }
 {
     if (len as usize) < BLOCK_SIZE {
-        return Some(ok());
+        return Some(Cause::from(Reason::Plain(Plain::Ok)));
     }
     if block == u16::MAX {
-        return Some(too_many_blocks());
+        return Some(Cause::from(Reason::TooLong(Long::Blocks)));
     }
     None
 }

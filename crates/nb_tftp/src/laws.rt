@@ -1,15 +1,17 @@
 //! Laws of what a transfer promises of its calls, for a caller that keeps them: each is a function
 //! that does nothing, whose contract is the law.
 
-ghost use Rattle.std.specs.Prelude.{◌≡◌, ◌≤◌, ◌∷◌, ◌++◌, [], ℕ, List, length, Some, None, slice_range, ◌*◌, take, true};
+ghost use Rattle.std.specs.Prelude.{◌≡◌, ◌≤◌, ◌<◌, ◌^◌, ◌∷◌, ◌++◌, [], ℕ, List, length, Some, None, slice_range, ◌*◌, take, true};
 ghost use Rattle.nb_terms.specs.declared.acts.Acts.{Acts};
 ghost use Rattle.nb_terms.specs.declared.cause.Cause.{Cause};
 ghost use Rattle.nb_wire.specs.declared.address.Ip4.{Ip4};
-ghost use Rattle.nb_tftp.specs.Asks.{Begun, begun};
+ghost use Rattle.std.specs.List.{AllByRecursion};
+ghost use Rattle.nb_tftp.specs.Asks.{Begun, begun, ack_of};
+ghost use Rattle.nb_tftp.specs.Asked.{IsAsked};
 ghost use Rattle.nb_tftp.specs.Received.{Received};
 ghost use Rattle.nb_tftp.specs.Blocks.{count, file, is_whole};
 ghost use Rattle.nb_tftp.specs.Cuts.{cuts, CarriesFile};
-ghost use Rattle.nb_tftp.specs.History.{Entry, entry, came, ticked, given, got};
+ghost use Rattle.nb_tftp.specs.History.{Call, Entry, entry, came, ticked, given, got, last_advance};
 ghost use Rattle.nb_tftp.specs.Limits.{StopsAtEnd, HaveBytes};
 ghost use Rattle.nb_tftp.specs.Sentences.{Meets};
 ghost use Rattle.nb_tftp.specs.Endings.{Ending};
@@ -62,4 +64,14 @@ pub fn honest_server_gives_its_file()
     ensures few { (bytes : List ℕ) (received : List Received) → CarriesFile bytes received → count received ≤ cuts bytes }
     ensures all { (bytes : List ℕ) (received : List Received) → CarriesFile bytes received
         → count received ≡ cuts bytes → is_whole received ≡ true }
+{}
+
+/// All that the promises ask of a call may be sent, by a relation that says so without the transfer's decisions:
+/// the request before block 1, the last block's acknowledgement, an error to a stranger's port. An
+/// acknowledgement of an earlier block may not.
+pub fn asks_what_may_be_sent()
+    ensures asked { (b : Begun) (start : ℕ) (h : List Entry) (call : Call) (acts : Acts) → Meets b start (h ++ entry call acts ∷ [])
+        → last_advance h ≡ count (got h) → AllByRecursion (IsAsked b (got (h ++ entry call acts ∷ []))) acts.sends.items }
+    ensures old { (b : Begun) (received : List Received) (port n : ℕ) → n < count received → count received < 2 ^ 16
+        → IsAsked b received (ack_of b port n) → ⊥ }
 {}

@@ -10,14 +10,13 @@
 
 mod acts;
 mod answer;
-mod causes;
-mod datagram;
 mod laws;
+mod request;
 mod state;
 mod transfer;
 
 pub use laws::{
-    asks_plainly, at_most_65535_blocks, ends_as_told, gives_within_the_body,
+    asks_plainly, asks_what_may_be_sent, at_most_65535_blocks, ends_as_told, gives_within_the_body,
     honest_server_gives_its_file,
 };
 pub use transfer::{TooLong, Transfer};

@@ -10,11 +10,10 @@ ghost use Rattle.nb_tftpmsg.specs.Views.{message};
 
 use crate::acts::take_block;
 use crate::answer::{Answer, Phase, end_of_block};
-use crate::causes::timed_out;
-use crate::datagram::body_of;
+use crate::request::request_bytes;
 use arrayvec::ArrayVec;
 use nb_retry::{Due, Plan, Retry};
-use nb_terms::Acts;
+use nb_terms::{Acts, Cause, Reason};
 use nb_tftpmsg::Tftp;
 use nb_wire::Ip4;
 
@@ -22,6 +21,8 @@ use nb_wire::Ip4;
 const UDP: u8 = 17;
 /// "Unknown transfer ID" (RFC 1350, appendix).
 const UNKNOWN_TRANSFER: u16 = 5;
+/// The plan's tries had no answer.
+const TIMED_OUT: Reason = Reason::TimedOut { tries: 6 };
 
 /// How far a transfer is, and what it was begun with.
 #[derive(Drop)]
@@ -45,15 +46,11 @@ impl State {
     {
         let mut retry = Retry::stopped();
         retry.start(now, Plan::Common);
-        let request = Tftp::Rrq {
-            path,
-            options: false,
-        };
         State {
             server,
             port,
             own_port,
-            request: body_of(&request),
+            request: request_bytes(path),
             phase: Phase::Asking,
             retry,
         }
@@ -98,7 +95,7 @@ impl State {
             Due::Again(n) => self.ask_last(Some(n), acts),
             Due::Over => {
                 self.phase = Phase::Over;
-                acts.over = Some(timed_out());
+                acts.over = Some(Cause::from(TIMED_OUT));
             }
         }
     }

@@ -1,5 +1,5 @@
 -- The ones' complement sum by the plain sum, and what a checksum field does to it.
-use Rattle.std.proofs.Common.{◌≡◌, ℕ, zero, suc, ◌+◌, ◌*◌, ◌-◌, ◌%◌, ◌<◌, List, [], ◌∷◌, ◌++◌, length, get_or, sum, refl, sym, ap, ◌∙◌, arith, inl, inr, ◌⊎◌}
+use Rattle.std.proofs.Common.{◌≡◌, ℕ, zero, suc, ◌+◌, ◌*◌, ◌-◌, ◌%◌, ◌<◌, List, [], ◌∷◌, ◌++◌, length, sum, refl, sym, ap, ◌∙◌, arith, inl, inr, ◌⊎◌}
 use Rattle.std.specs.Prelude.{fold}
 use Rattle.std.specs.List.{AllByRecursion}
 use Rattle.std.proofs.lemmas.Bool.{cases_lt}
@@ -58,19 +58,23 @@ words-append (x ∷ y ∷ a) b even = ap (λ ws. (256 * x + y) ∷ ws) (words-ap
 pub sum-words-append : (a b : List ℕ) → length a % 2 ≡ 0 → sum (words (a ++ b)) ≡ sum (words a) + sum (words b)
 sum-words-append a b even = ap sum (words-append a b even) ∙ sum_by-append (λ x. x) (words a) (words b)
 
-IsBytes-append : (a b : List ℕ) → IsBytes a → IsBytes b → IsBytes (a ++ b)
+pub IsBytes-append : (a b : List ℕ) → IsBytes a → IsBytes b → IsBytes (a ++ b)
 IsBytes-append a b p q i =
     elim (cases_lt i (length a)) [
       | inl lt ↦ rw (get_or_append_left a b 0 i lt) (p i)
       | inr le ↦ rw (get_or-append_right a b (length a) i 0 refl le) (q (i - length a))
     ]
 
+-- a number for each of two parts stands for both
+pub SameSum-parts : (a b : List ℕ) (m n : ℕ) → length a % 2 ≡ 0 → SameSum m (sum (words a)) → SameSum n (sum (words b)) → SameSum (m + n) (sum (words (a ++ b)))
+SameSum-parts a b m n even first second =
+    let e = sum-words-append a b even in
+    (omega (arith, e, first.0, second.0), λ z. omega (arith, e, first.1 (omega arith), second.1 (omega arith)), λ z. omega (arith, e, first.2 (omega (arith, e)), second.2 (omega (arith, e))))
+
 -- the checksum of two parts, from a number for each of them
 pub checksum-parts : (a b : List ℕ) (m n : ℕ) → IsBytes a → IsBytes b → length a % 2 ≡ 0 → SameSum m (sum (words a)) → SameSum n (sum (words b)) → checksum (a ++ b) ≡ 65535 - sum_word (m + n)
 checksum-parts a b m n p q even first second =
-    checksum-sum (a ++ b) (m + n) (IsBytes-append a b p q)
-    (let e = sum-words-append a b even in
-    (omega (arith, e, first.0, second.0), λ z. omega (arith, e, first.1 (omega arith), second.1 (omega arith)), λ z. omega (arith, e, first.2 (omega (arith, e)), second.2 (omega (arith, e)))))
+    checksum-sum (a ++ b) (m + n) (IsBytes-append a b p q) (SameSum-parts a b m n even first second)
 
 -- a word between an even number of bytes and the rest adds itself
 pub sum-word-between : (before after : List ℕ) (high low : ℕ) → length before % 2 ≡ 0 → sum (words (before ++ high ∷ low ∷ after)) ≡ sum (words (before ++ 0 ∷ 0 ∷ after)) + (256 * high + low)

@@ -1,6 +1,6 @@
 -- Eight bytes as one little-endian number.
-use Rattle.std.proofs.Common.{◌≡◌, ℕ, ◌+◌, ◌*◌, ◌%◌, List, [], ◌∷◌, ◌++◌, length, take, drop, sum, ap, sym, ◌∙◌, arith}
-use Rattle.std.proofs.lemmas.List.{take-append-drop, length-append}
+use Rattle.std.proofs.Common.{◌≡◌, ℕ, ◌+◌, ◌*◌, ◌/◌, ◌%◌, ◌<◌, List, [], ◌∷◌, ◌++◌, length, take, drop, sum, ap, ◌∙◌, arith}
+use Rattle.std.proofs.lemmas.List.{take-append-drop, length-append, length-drop}
 use Rattle.nb_wire.proofs.ChecksumLaws.{sum-words-append}
 use Rattle.std.specs.Int.{w64, from_le_bytes}
 use Rattle.nb_wire.specs.Checksum.{words, SameSum}
@@ -17,16 +17,32 @@ turned_sum (a ∷ b ∷ c ∷ d ∷ e ∷ f ∷ g ∷ []) h = absurd (omega arit
 turned_sum (a ∷ b ∷ c ∷ d ∷ e ∷ f ∷ g ∷ i ∷ []) h = (omega arith, λ z. omega arith, λ z. omega arith)
 turned_sum (a ∷ b ∷ c ∷ d ∷ e ∷ f ∷ g ∷ i ∷ j ∷ xs) h = absurd (omega arith)
 
-pub turned_step : (rest front after : List ℕ) (t w s : ℕ) → front ≡ take 8 rest → after ≡ drop 8 rest → length after + 8 ≡ length rest → SameSum (256 * w) (sum (words front)) → SameSum (256 * t + sum (words rest)) s → SameSum (256 * (t + w) + sum (words after)) s
-turned_step rest front after t w s f a n same all =
-    let whole : length (take 8 rest ++ drop 8 rest) ≡ length rest = ap length (take-append-drop 8 rest) in
-    let eight : length (take 8 rest) ≡ 8 = omega (arith, whole, length-append (take 8 rest) (drop 8 rest), ap length a, n) in
-    let cut : sum (words (take 8 rest ++ drop 8 rest)) ≡ sum (words (take 8 rest)) + sum (words (drop 8 rest)) = sum-words-append (take 8 rest) (drop 8 rest) (omega (arith, eight)) in
-    let joined : sum (words (take 8 rest ++ drop 8 rest)) ≡ sum (words rest) = ap (λ l. sum (words l)) (take-append-drop 8 rest) in
-    let front_sum : sum (words front) ≡ sum (words (take 8 rest)) = ap (λ l. sum (words l)) f in
-    let after_sum : sum (words after) ≡ sum (words (drop 8 rest)) = ap (λ l. sum (words l)) a in
+-- a front that is summed goes from what is left to the sum
+pub turned_step : (n : ℕ) (rest front after : List ℕ) (t w s : ℕ) → n % 2 ≡ 0 → front ≡ take n rest → after ≡ drop n rest → length after + n ≡ length rest → SameSum (256 * w) (sum (words front)) → SameSum (256 * t + sum (words rest)) s → SameSum (256 * (t + w) + sum (words after)) s
+turned_step n rest front after t w s even f a len same all =
+    let whole : length (take n rest ++ drop n rest) ≡ length rest = ap length (take-append-drop n rest) in
+    let front_len : length (take n rest) ≡ n = omega (arith, whole, length-append (take n rest) (drop n rest), ap length a, len) in
+    let cut : sum (words (take n rest ++ drop n rest)) ≡ sum (words (take n rest)) + sum (words (drop n rest)) = sum-words-append (take n rest) (drop n rest) (ap (λ k. k % 2) front_len ∙ even) in
+    let joined : sum (words (take n rest ++ drop n rest)) ≡ sum (words rest) = ap (λ l. sum (words l)) (take-append-drop n rest) in
+    let front_sum : sum (words front) ≡ sum (words (take n rest)) = ap (λ l. sum (words l)) f in
+    let after_sum : sum (words after) ≡ sum (words (drop n rest)) = ap (λ l. sum (words l)) a in
     let e : sum (words rest) ≡ sum (words front) + sum (words after) = omega (arith, cut, joined, front_sum, after_sum) in
     (omega (arith, e, same.0, all.0), λ z. all.1 (omega (arith, e, z, same.1 (omega (arith, z)))), λ z. omega (arith, e, all.2 z, same.2 (omega (arith, e, all.2 z))))
+
+-- all whole words of what is left
+pub turned_split : (n : ℕ) (rest front last : List ℕ) (t w s : ℕ) → n ≡ length rest / 8 * 8 → front ≡ take n rest → last ≡ drop n rest → SameSum (256 * w) (sum (words front)) → SameSum (256 * t + sum (words rest)) s → SameSum (256 * (t + w) + sum (words last)) s
+turned_split n rest front last t w s is f a same all =
+    turned_step n rest front last t w s (omega (arith, is)) f a (omega (arith, is, ap length a, length-drop n rest)) same all
+
+-- the sum with its bytes turned back, and what is left
+pub turned_end : (t f l r s : ℕ) → f % 65535 ≡ t % 65535 → (f ≡ 0 → t ≡ 0) → (t ≡ 0 → f ≡ 0) → SameSum r l → SameSum (256 * t + l) s → SameSum (256 * f + r) s
+turned_end t f l r s same zero none rest all =
+    (omega (arith, same, rest.0, all.0), λ z. all.1 (omega (arith, zero (omega (arith, z)), rest.1 (omega (arith, z)))), λ z. omega (arith, none (omega (arith, all.2 z)), rest.2 (omega (arith, all.2 z))))
+
+-- what is left has no byte where all were taken
+pub turned_all : (rest : List ℕ) (t s : ℕ) → length rest < 8 → length rest % 8 ≡ 0 → SameSum (256 * t + sum (words rest)) s → SameSum (256 * t) s
+turned_all [] t s short eights all = (omega (arith, all.0), λ z. all.1 (omega (arith, z)), λ z. omega (arith, all.2 z))
+turned_all (x ∷ rest) t s short eights all = absurd (omega arith)
 
 pub same_by : {v w s : ℕ} → v ≡ w → SameSum (256 * w) s → SameSum (256 * v) s
 same_by e same = (omega (arith, e, same.0), λ z. same.1 (omega (arith, e, z)), λ z. omega (arith, e, same.2 z))

@@ -1,5 +1,5 @@
 -- RFC 1071, section 1: the internet checksum
-use Rattle.std.specs.Prelude.{◌≡◌, ℕ, zero, suc, ◌+◌, ◌*◌, ◌-◌, ◌/◌, ◌%◌, List, [], ◌∷◌, fold}
+use Rattle.std.specs.Prelude.{◌≡◌, ℕ, zero, suc, ◌+◌, ◌*◌, ◌-◌, ◌/◌, ◌%◌, ◌<◌, List, [], ◌∷◌, fold, length, slice_index, sum}
 
 -- the 16-bit words of the bytes, the last one with a zero byte behind it where their number is odd
 abbrev pub words : List ℕ → List ℕ
@@ -23,3 +23,9 @@ SameSum a b = (a % 65535 ≡ b % 65535) × (a ≡ 0 → b ≡ 0) × (b ≡ 0 →
 abbrev pub sum_word : ℕ → ℕ
 sum_word zero = 0
 sum_word (suc n) = suc (n % 65535)
+
+-- bytes, even in number, whose words have the same ones' complement sum as this number
+pub record HasSum (bytes : List ℕ) (n : ℕ) : Type 0 where
+  pub even : length bytes % 2 ≡ 0
+  pub fits : (i : ℕ) → slice_index bytes i < 256
+  pub same : SameSum n (sum (words bytes))

@@ -26,6 +26,7 @@ impl<'b> Model for Out<'b> {
 
 impl<'b> Out<'b> {
     /// An empty one, with the whole of `buffer` as its room.
+    #[inline(always)]
     pub fn new(buffer: &'b mut [u8]) -> Out<'b>
         ensures empty { result.written ≡ [] }
         ensures room { result.left ≡ length buffer.old }
@@ -34,6 +35,7 @@ impl<'b> Out<'b> {
     }
 
     /// Puts the bytes behind those that stand there.
+    #[inline(always)]
     pub fn put(&mut self, bytes: &[u8]) -> Result<(), Full>
         ensures full { IsErr result ↔ (self.old.left < length bytes.now) }
         ensures appended { OnOk result (self.new.written ≡ self.old.written ++ bytes.now) }
@@ -64,6 +66,7 @@ impl<'b> Out<'b> {
     }
 
     /// The bytes that were put.
+    #[inline(always)]
     pub fn written(&self) -> &[u8]
         ensures { result.now ≡ self.now.written }
     {
@@ -71,6 +74,7 @@ impl<'b> Out<'b> {
     }
 
     /// For how many bytes there is still room.
+    #[inline(always)]
     pub fn room(&self) -> usize
         ensures { result ≡ self.now.left }
     {

@@ -1,5 +1,8 @@
-ghost use Rattle.std.specs.Prelude.{◌≡◌, ◌+◌, ◌-◌, ◌*◌, ◌%◌, ◌^◌, ◌<◌, ◌≤◌, ◌++◌, length, sum};
-ghost use Rattle.nb_wire.specs.Checksum.{words, checksum, SameSum, sum_word};
+ghost use Rattle.std.specs.Prelude.{◌≡◌, ℕ, ◌+◌, ◌-◌, ◌*◌, ◌%◌, ◌^◌, ◌<◌, ◌≤◌, List, ◌++◌, length, slice_index, sum};
+ghost use Rattle.std.specs.Int.{w32, to_be_bytes};
+ghost use Rattle.nb_wire.specs.Checksum.{words, checksum, SameSum, HasSum, sum_word};
+
+use crate::Ip4;
 
 /// The internet checksum of `first` and then `second`, with a zero byte behind them where their
 /// number is odd (RFC 1071).
@@ -11,29 +14,88 @@ pub fn sum16(first: &[u8], second: &[u8]) -> u16
     complement(total(first) + total(second))
 }
 
+/// The internet checksum of bytes whose 16-bit words have the sum `before`, then `first`, and then
+/// `second`. So what stands before them, as a pseudo-header, needn't be written out.
+#[inline(always)]
+pub fn sum16_after(before: u32, first: &[u8], second: &[u8]) -> u16
+    requires even { length first.now % 2 ≡ 0 }
+    requires room { length first.now + length second.now ≤ 131072 }
+    ensures { (front : List ℕ) → HasSum front before
+        → result ≡ checksum (front ++ (first.now ++ second.now)) }
+{
+    complement(u64::from(before) + (total(first) + total(second)))
+}
+
+/// The internet checksum of bytes whose 16-bit words have this sum.
+#[inline(always)]
+pub fn sum16_of(sum_of_words: u32) -> u16
+    ensures { (bytes : List ℕ) → HasSum bytes sum_of_words → result ≡ checksum bytes }
+{
+    complement(u64::from(sum_of_words))
+}
+
+/// The internet checksum of 20 bytes, as an IPv4 header without options has.
+#[inline(always)]
+pub fn sum16_of_20(bytes: &[u8; 20]) -> u16
+    ensures { result ≡ checksum bytes.now }
+{
+    complement(total(bytes))
+}
+
+/// The sum of an address's two 16-bit words.
+#[inline(always)]
+pub fn sum_of_address(ip: Ip4) -> u32
+    ensures value { result ≡ sum (words (to_be_bytes w32 ip.0)) }
+    ensures room { result ≤ 131070 }
+{
+    ip.0 / 0x1_0000 + ip.0 % 0x1_0000
+}
+
 // In a sum of 16-bit words a carry counts as 1, so eight bytes may be added as one number; and 256 times
 // a word is the word with its bytes turned round, so the sum may be taken in the other order of bytes.
+#[inline(always)]
 fn total(bytes: &[u8]) -> u64
     requires { length bytes.now ≤ 131072 }
-    ensures sum { SameSum result (sum (words bytes.now)) }
+    ensures same { SameSum result (sum (words bytes.now)) }
     ensures room { result < 2 ^ 50 }
+    ensures bytes { (i : ℕ) → slice_index bytes.now i < 256 }
 {
     let mut total: u128 = 0;
     let mut rest = bytes;
-    while let Some((chunk, after)) = rest.split_first_chunk::<8>() {
+    'wide: while let Some((block, after)) = rest.split_first_chunk::<64>() {
+        total += turned_sum(block);
+        rest = after;
+    }
+    let (front, last) = rest.split_at(rest.len() / 8 * 8);
+    total += turned_sum(front);
+    256 * folded(total) + rest_words(last)
+}
+
+// The sum of words with their bytes turned round, four at a time, carries counted as 1.
+#[inline(always)]
+fn turned_sum(bytes: &[u8]) -> u128
+    requires eights { length bytes.now % 8 ≡ 0 }
+    ensures same { SameSum (256 * result) (sum (words bytes.now)) }
+    ensures room { result ≤ 2 ^ 64 * length bytes.now }
+{
+    let mut total: u128 = 0;
+    let mut rest = bytes;
+    'eights: while let Some((chunk, after)) = rest.split_first_chunk::<8>() {
         total += u128::from(turned(chunk));
         rest = after;
     }
-    256 * folded(total) + rest_words(rest)
+    total
 }
 
-// The sum of four words with their bytes turned round, carries counted as 1.
+// The sum of the four words of eight bytes, their bytes turned round.
+#[inline(always)]
 fn turned(chunk: &[u8; 8]) -> u64
     ensures { SameSum (256 * result) (sum (words chunk.now)) }
 {
     u64::from_le_bytes(*chunk)
 }
 
+#[inline(always)]
 fn folded(total: u128) -> u64
     requires { total < 2 ^ 83 }
     ensures same { result % 65535 ≡ total % 65535 }
@@ -73,6 +135,7 @@ fn last_words(rest: &[u8]) -> u32
     }
 }
 
+#[inline(always)]
 fn complement(total: u64) -> u16
     ensures { result ≡ 65535 - sum_word total }
 {

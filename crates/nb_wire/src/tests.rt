@@ -27,3 +27,52 @@ fn checksums(rt: HostRuntime) {
         assert_eq!(rt; sum16(first, second), *expected, "row {number}");
     }
 }
+
+/// RFC 1071: the sum by the words one after another, as its section 4.1 does it, for every number of
+/// bytes around the sizes in which the sum is taken; the words before may be given as their sum.
+#[test]
+fn checksums_of_all_lengths(rt: HostRuntime) {
+    let mut bytes = [0; 200];
+    for (i, byte) in bytes.iter_mut().enumerate() {
+        *byte = ((i * 89 + 7) % 251) as u8;
+    }
+    for len in 0..200usize {
+        let expected = plain_sum(&bytes[..len]);
+        assert_eq!(rt; sum16(&[], &bytes[..len]), expected, "{len} bytes");
+        assert_eq!(rt; sum16_after(0, &[], &bytes[..len]), expected, "{len} bytes");
+    }
+    assert_eq!(rt;
+        sum16_after(0x0760, &bytes[2..70], &bytes[70..200]),
+        plain_sum(&bytes)
+    );
+}
+
+/// A header's fields as a sum of numbers: the common example of the first test.
+#[test]
+fn header_sums(rt: HostRuntime) {
+    let header: [u8; 20] = [
+        0x45, 0x00, 0x00, 0x73, 0x00, 0x00, 0x40, 0x00, 0x40, 0x11, 0x00, 0x00, 0xc0, 0xa8, 0x00,
+        0x01, 0xc0, 0xa8, 0x00, 0xc7,
+    ];
+    assert_eq!(rt; sum16_of_20(&header), 0xb861);
+    let addresses = sum_of_address(Ip4(0xc0a8_0001)) + sum_of_address(Ip4(0xc0a8_00c7));
+    assert_eq!(rt;
+        sum16_of(0x4500 + 0x0073 + 0x4000 + 0x4011 + addresses),
+        0xb861
+    );
+}
+
+// The checksum as RFC 1071, section 4.1 has it.
+fn plain_sum(bytes: &[u8]) -> u16 {
+    let mut sum: u16 = 0;
+    for (i, byte) in bytes.iter().enumerate() {
+        let word = if i % 2 == 0 {
+            u16::from(*byte).wrapping_shl(8)
+        } else {
+            u16::from(*byte)
+        };
+        let (low, carry) = sum.overflowing_add(word);
+        sum = low.wrapping_add(u16::from(carry));
+    }
+    !sum
+}

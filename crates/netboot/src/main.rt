@@ -1,45 +1,68 @@
-// The program `netboot`: reads its words, runs the top call over files, prints one line where a run
-// could not be made, and ends with the run's status. Begin with `main`; `RealLine` is the trusted edge.
+// The program `netboot`: reads its words, runs the top call over files or a connection, says to standard
+// error why a run could not be made, and ends with the run's status. Begin with `main`; `RealLine` is the
+// trusted edge.
 #![tactic(auto)]
 
+mod attached;
+mod fault;
+mod limit;
+mod messages;
 mod real_line;
+mod trail;
+mod words;
 
+use messages::{HELP, VERSION, complaint, explain};
 use nb_boot::{Status, netboot};
 use real_line::RealLine;
+use std::env::Env;
+use std::fs::Files;
+use std::net::Net;
 use std::process::ExitCode;
-use std::{env, io};
+use words::{WordsError, words};
 
-/// What is printed to standard error for a status, if anything.
-fn complaint(status: Status) -> Option<&'static str> {
-    match status {
-        Status::BadWords => Some("usage: netboot replay IN OUT | live HOST:PORT | lab N"),
-        Status::BadRecord => Some("netboot: bad record"),
-        Status::ReadFault => Some("netboot: read fault"),
-        Status::WriteFault => Some("netboot: write fault"),
-        Status::NoMemory => Some("netboot: no memory"),
-        Status::AttachFault => Some("netboot: cannot attach"),
-        Status::TooManyRecords => Some("netboot: too many records"),
-        Status::HandedOff | Status::Ended | Status::ScriptFailed | Status::Unfinished => None,
+/// The text that a single word asks for.
+fn asked(words: &[String]) -> Option<&'static str> {
+    match words {
+        [word] if word.as_str() == "--help" => Some(HELP),
+        [word] if word.as_str() == "--version" => Some(VERSION),
+        _ => None,
     }
 }
 
-/// The program's words, without its name.
-fn words<R: env::Env + AllocGlobal>(rt: &R) -> io::Result<Vec<String>> {
-    let mut words = Vec::new(rt.alloc());
-    for word in env::args(rt)?.skip(1) {
-        words.push(word)?;
+/// Runs the top call, and says how that went.
+fn run<R: Files + Net + Eprint + AllocGlobal>(rt: &R, words: &[String]) -> Status {
+    let mut line = RealLine::new(rt);
+    let status = netboot(rt.alloc(), words, &mut line);
+    line.drain();
+    explain(rt, status, words, &line);
+    status
+}
+
+/// Says why the words can't be used.
+fn refuse<R: Eprint>(rt: &R, error: WordsError) -> Status {
+    match error {
+        WordsError::NoMemory => {
+            let _ = rt.eprintln("netboot: no memory");
+            Status::NoMemory
+        }
+        WordsError::NotUtf8(number) => {
+            let _ = rt.eprintln("netboot: cannot attach");
+            let _ = eprintln!(rt; "word {number} is not UTF-8: give the file a name that is");
+            Status::AttachFault
+        }
     }
-    Ok(words)
 }
 
 fn main(rt: HostRuntime) -> ExitCode {
-    let status = match words(&rt) {
-        Ok(words) => netboot(rt.alloc(), words.as_slice(), &mut RealLine::new(&rt)),
-        Err(_) => Status::NoMemory,
+    let words = match words(&rt) {
+        Ok(words) => words,
+        Err(error) => return ExitCode::from(refuse(&rt, error).number()),
     };
-    if let Some(line) = complaint(status) {
-        // Where standard error can't be written to, the status still tells.
-        let _ = rt.eprintln(line);
+    match asked(words.as_slice()) {
+        Some(text) => match rt.println(text) {
+            Ok(()) => ExitCode::SUCCESS,
+            Err(_) => ExitCode::from(Status::WriteFault.number()),
+        },
+        None => ExitCode::from(run(&rt, words.as_slice()).number()),
     }
-    ExitCode::from(status.number())
 }

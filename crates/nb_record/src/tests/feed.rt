@@ -1,4 +1,4 @@
-use crate::{BadRecord, Feed, Front, InRec};
+use crate::{BadRecord, Failed, Feed, Front, InRec, MemLine};
 use nb_wire::Ip4;
 use std::test::*;
 
@@ -91,7 +91,8 @@ fn fields_of_start(rt: HostRuntime) -> Result<(), Fail> {
     let mut feed = Feed::new(rt.alloc())?;
     feed.push(&START);
     match feed.front() {
-        Front::Whole(InRec::Start(start), len) => {
+        Front::Whole(InRec::Start(record), len) => {
+            let start = record.fields();
             assert_eq!(rt; len, 103);
             assert_eq!(rt; start.mac.0, [0x52, 0x54, 0, 0, 0, 1]);
             assert_eq!(rt; start.ip, Ip4(0));
@@ -113,7 +114,8 @@ fn places_of_fields(rt: HostRuntime) -> Result<(), Fail> {
     let mut feed = Feed::new(rt.alloc())?;
     feed.push(&bytes);
     match feed.front() {
-        Front::Whole(InRec::Start(start), _) => {
+        Front::Whole(InRec::Start(record), _) => {
+            let start = record.fields();
             let ends = (start.uuid[0], start.key[31]);
             assert_eq!(rt; ends, (12, 59));
             assert_eq!(rt; start.arch, 0x3c3d);
@@ -189,5 +191,22 @@ fn second_record_is_bad(rt: HostRuntime) -> Result<(), Fail> {
         Front::Broken(bad) => assert_eq!(rt; bad, BadRecord { at: 103, why: 3 }),
         _ => panic!(rt; "w is too great"),
     }
+    Ok(())
+}
+
+#[test]
+fn reads_from_a_line(rt: HostRuntime) -> Result<(), Fail> {
+    let mut feed = Feed::new(rt.alloc())?;
+    let mut line = MemLine::new(rt.alloc(), &FRAME, &[7], &[1], 0)?;
+    assert_eq!(rt; feed.read(&mut line), Ok(7));
+    assert!(rt; is_partial(&feed));
+    assert_eq!(rt; feed.read(&mut line), Err(Failed));
+    assert!(rt; is_partial(&feed));
+    assert_eq!(rt; feed.read(&mut line), Ok(12));
+    match feed.front() {
+        Front::Whole(InRec::Frame(bytes), 19) => assert_eq!(rt; bytes, &FRAME[5..]),
+        _ => panic!(rt; "the record is whole"),
+    }
+    assert_eq!(rt; feed.read(&mut line), Ok(0));
     Ok(())
 }

@@ -1,7 +1,7 @@
 use Rattle.std.proofs.Common.{[], inr, sym, subst}
 use Rattle.nb_engine.specs.Machine.{fresh}
 use Rattle.nb_engine.specs.declared.status.Status.{Status}
-use Rattle.nb_boot.specs.Going.{Refuses}
+use Rattle.nb_boot.specs.Going.{RefusesRun}
 use Rattle.nb_boot.proofs.Openings.{opens_filled, refuses_filled}
 use Rattle.nb_boot.proofs.begin.begin.Goals as goal
 
@@ -27,5 +27,5 @@ returns-in-Fault-clause-err g c = λ first r. c.in-Fault.ensures.fills [] first 
 
 pub returns-in-Cut-clause-err : goal.returns-in-Cut-clause-err
 returns-in-Cut-clause-err g c =
-    let P : Status → Type 0 = λ s. Refuses s c.args.feed.now.bytes (g.L.Line.outside c.args.line.now) (g.L.Line.outside c.fill.new.line) c.args.log.now in
+    let P : Status → Type 0 = λ s. RefusesRun s c.args.feed.now.bytes (g.L.Line.outside c.args.line.now) (g.L.Line.outside c.fill.new.line) c.args.log.now in
     subst P (sym c.status.ensures) (λ first r. c.in-Cut.ensures.fills [] first fresh r)

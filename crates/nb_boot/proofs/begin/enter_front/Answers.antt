@@ -1,7 +1,7 @@
 use Rattle.std.proofs.Common.{inl, inr, drop, subst, sym}
 use Rattle.nb_record.specs.View.{in_of}
 use Rattle.nb_boot.specs.Run.{IsOther}
-use Rattle.nb_boot.specs.Going.{Opens, Refuses}
+use Rattle.nb_boot.specs.Going.{Opens, RefusesRun}
 use Rattle.nb_boot.proofs.BadRests.{breaks_broken}
 use Rattle.nb_boot.proofs.Fronts.{front_texts, front_begins}
 use Rattle.nb_boot.proofs.begin.enter_front.Goals as goal
@@ -23,7 +23,7 @@ pub returns-in-Err-clause-err : goal.returns-in-Err-clause-err
 returns-in-Err-clause-err g c =
     let held = c.args.feed.now.bytes in
     let e = front_texts held (in_of c.in-Whole.entry) c.in-Whole.len c.in-Whole.ensures in
-    subst (λ xs. Refuses c.in-Err.status xs (g.L.Line.outside c.args.line.now) (g.L.Line.outside c.enter.new.line) c.args.log.now) (sym e)
+    subst (λ xs. RefusesRun c.in-Err.status xs (g.L.Line.outside c.args.line.now) (g.L.Line.outside c.enter.new.line) c.args.log.now) (sym e)
     (c.in-Err.ensures.err (drop c.in-Whole.len held))
 
 pub returns-in-Broken-clause-err : goal.returns-in-Broken-clause-err

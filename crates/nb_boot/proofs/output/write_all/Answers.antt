@@ -11,7 +11,7 @@ pub returns-in_err-at-clause-err : goal.returns-in_err-at-clause-err
 returns-in_err-at-clause-err g c =
     let failed = c.in_err-at.ensures.failed in
     on_err c.from_residual.result _ (stopped_there (g.L.Line.outside c.args.line.now) (g.L.Line.outside c.loop-at.line) (g.L.Line.outside c.write.new.self)
-    c.args.bytes.now c.loop-at.at c.loop-at.invariant.1 failed.0 failed.1)
+    c.args.bytes.now c.loop-at.at (omega arith) c.loop-at.invariant.1 failed.0 failed.1)
 
 pub loop-at-preserved : goal.loop-at-preserved
 loop-at-preserved g c = (

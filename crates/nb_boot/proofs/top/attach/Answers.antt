@@ -5,8 +5,8 @@ use Rattle.nb_boot.proofs.top.attach.Goals as goal
 
 pub returns-in-Ok : goal.returns-in-Ok
 returns-in-Ok g c =
-    attached_shows c.replay.result (g.L.Line.outside c.args.line.now) (g.L.Line.outside c.attach.new.self) (g.L.Line.outside c.replay.new.line)
-    (Attaches-passes _ _ c.attach.ensures.attached) c.replay.ensures
+    attached_shows c.run_attached.result (g.L.Line.outside c.args.line.now) (g.L.Line.outside c.attach.new.self) (g.L.Line.outside c.run_attached.new.line)
+    (Attaches-passes _ _ c.attach.ensures.attached) c.run_attached.ensures
 
 pub returns-in-Err : goal.returns-in-Err
 returns-in-Err g c =

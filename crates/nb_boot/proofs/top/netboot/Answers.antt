@@ -1,6 +1,7 @@
 use Rattle.nb_boot.proofs.Completeness.{completes}
 use Rattle.nb_boot.proofs.Telling.{completes_run}
-use Rattle.nb_boot.proofs.Histories.{told_of}
+use Rattle.nb_boot.proofs.Showing.{shows_course}
+use Rattle.nb_boot.proofs.Histories.{are_lawful}
 use Rattle.nb_boot.proofs.top.netboot.Goals as goal
 
 pub returns-in-Some-clause-complete : goal.returns-in-Some-clause-complete
@@ -11,6 +12,10 @@ pub returns-in-Some-clause-alone : goal.returns-in-Some-clause-alone
 returns-in-Some-clause-alone g c = λ _.
     completes_run c.attach.result (g.L.Line.outside c.args.line.now) (g.L.Line.outside c.attach.new.line) c.attach.ensures
 
-pub returns-in-Some-clause-causes : goal.returns-in-Some-clause-causes
-returns-in-Some-clause-causes g c = λ _.
-    told_of c.attach.result (g.L.Line.outside c.args.line.now) (g.L.Line.outside c.attach.new.line) c.attach.ensures
+pub returns-in-Some-clause-course : goal.returns-in-Some-clause-course
+returns-in-Some-clause-course g c = λ _.
+    shows_course c.attach.result (g.L.Line.outside c.args.line.now) (g.L.Line.outside c.attach.new.line) c.attach.ensures
+
+pub returns-in-Some-clause-lawful : goal.returns-in-Some-clause-lawful
+returns-in-Some-clause-lawful g c = λ _.
+    are_lawful (g.L.Line.outside c.args.line.now) (g.L.Line.outside c.attach.new.line)

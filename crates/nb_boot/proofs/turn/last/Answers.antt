@@ -15,10 +15,11 @@ returns-then-not-is_empty g c = λ first w.
     c.finish.ensures w.ins held first w.goes.machine w.goes.stands w.goes.going
     (waits_full held first now c.args.log.now c.args.client.now w c.requires.waits (some_held held c.is_empty.result c.is_empty.ensures c.if-not-is_empty.true))
 
-pub refill-requires-clause-partial : goal.refill-requires-clause-partial
-refill-requires-clause-partial g c =
-    let none : c.args.feed.now.bytes ≡ [] = nothing_held c.args.feed.now.bytes c.is_empty.result c.is_empty.ensures c.if-not-is_empty.false in
-    subst (λ xs. IsPartial xs) (sym none) nothing_partial
+pub refill-requires : goal.refill-requires
+refill-requires g c = record {
+  partial = let none : c.args.feed.now.bytes ≡ [] = nothing_held c.args.feed.now.bytes c.is_empty.result c.is_empty.ensures c.if-not-is_empty.false in
+      subst (λ xs. IsPartial xs) (sym none) nothing_partial;
+}
 
 pub returns-in-More : goal.returns-in-More
 returns-in-More g c = λ first w.

@@ -1,34 +1,96 @@
-use Rattle.std.proofs.Common.{sym, subst}
+use Rattle.std.proofs.Common.{◌<◌, inl, inr, drop, refl, sym, subst, arith}
+use Rattle.nb_defs.proofs.RecordLaws.{partial_short}
+use Rattle.nb_record.specs.View.{in_of}
+use Rattle.nb_engine.specs.Seen.{Seen}
+use Rattle.nb_engine.specs.Turns.{IsWaiting}
 use Rattle.nb_engine.specs.declared.status.Status.{Status}
-use Rattle.nb_boot.specs.Run.{Shows}
-use Rattle.nb_boot.proofs.Standing.{stands_between}
-use Rattle.nb_boot.proofs.Waiting.{waits_end, rest_closes}
-use Rattle.nb_boot.proofs.Fronts.{waits_filled, uses_filled}
+use Rattle.nb_boot.specs.Run.{Shows, IsFirst}
+use Rattle.nb_boot.proofs.Standing.{may_use, stands_between}
+use Rattle.nb_boot.proofs.Waiting.{waits_bad, waits_end}
+use Rattle.nb_boot.proofs.BadRests.{breaks_broken}
+use Rattle.nb_boot.proofs.Fronts.{front_texts, front_begins, waits_filled, waits_there, uses_there, uses_front}
 use Rattle.nb_boot.proofs.turn.turn.Goals as goal
 
-pub finish-requires : goal.finish-requires
-finish-requires g c = rest_closes c.status_at_end.result c.fill.new.feed.bytes c.status_at_end.ensures
+pub returns-then-is_first : goal.returns-then-is_first
+returns-then-is_first g c = λ n first v.
+    let held = c.reads.feed.bytes in
+    let mid = g.L.Line.outside c.reads.line in
+    let h = c.reads.invariant in
+    let waits : IsWaiting c.reads.client.stage = subst (λ (x : Seen). IsWaiting x.stage) (sym h.1) c.requires.waits in
+    let few : c.reads.client.used < 4294967295 = subst (λ (x : Seen). x.used < 4294967295) (sym h.1) c.requires.few in
+    let w = waits_there n c.args.feed.now.bytes held first (g.L.Line.outside c.args.line.now) mid c.args.log.now c.reads.log c.args.client.now c.reads.client h.0 h.1 v in
+    c.finish.ensures w.ins held first w.goes.machine w.goes.stands w.goes.going
+    (waits_bad n held first mid c.reads.log c.reads.client w waits few
+    (inr (inl (front_begins held (in_of c.in-Whole.entry) c.in-Whole.len IsFirst c.in-Whole.ensures c.if-is_first.ensures))))
 
-pub returns-in-More : goal.returns-in-More
-returns-in-More g c =
-    uses_filled c.use_front.result c.args.feed.now.bytes c.fill.new.feed.bytes c.use_front.new.feed.bytes
-    (g.L.Line.outside c.args.line.now) (g.L.Line.outside c.fill.new.line) (g.L.Line.outside c.use_front.new.line)
-    c.args.log.now c.fill.new.log c.use_front.new.log c.args.client.now c.use_front.new.client c.in-More.ensures.fills c.use_front.ensures
+pub use_record-over-requires-clause-fits : goal.use_record-over-requires-clause-fits
+use_record-over-requires-clause-fits g c =
+    let waits : IsWaiting c.reads.client.stage = subst (λ (x : Seen). IsWaiting x.stage) (sym c.reads.invariant.1) c.requires.waits in
+    may_use (in_of c.in-Whole.entry) c.reads.client.stage c.if-is_first.ensures waits
+
+pub use_record-over-requires-clause-few : goal.use_record-over-requires-clause-few
+use_record-over-requires-clause-few g c = subst (λ (x : Seen). x.used < 4294967295) (sym c.reads.invariant.1) c.requires.few
+
+pub returns-in-Whole : goal.returns-in-Whole
+returns-in-Whole g c =
+    let held = c.reads.feed.bytes in
+    let r = in_of c.in-Whole.entry in
+    let mid = g.L.Line.outside c.reads.line in
+    let now = g.L.Line.outside c.use_record-over.new.line in
+    let rest = drop c.in-Whole.len held in
+    rw c.pass.ensures
+    (uses_there c.use_record-over.result c.args.feed.now.bytes held rest (g.L.Line.outside c.args.line.now) mid now
+    c.args.log.now c.reads.log c.use_record-over.new.log c.args.client.now c.reads.client c.use_record-over.new.client c.reads.invariant.0 c.reads.invariant.1
+    (uses_front c.use_record-over.result r held rest mid now c.reads.log c.use_record-over.new.log c.reads.client c.use_record-over.new.client
+    (front_texts held r c.in-Whole.len c.in-Whole.ensures) c.use_record-over.ensures))
+
+pub returns-in-Broken : goal.returns-in-Broken
+returns-in-Broken g c = λ n first v.
+    let held = c.reads.feed.bytes in
+    let mid = g.L.Line.outside c.reads.line in
+    let h = c.reads.invariant in
+    let waits : IsWaiting c.reads.client.stage = subst (λ (x : Seen). IsWaiting x.stage) (sym h.1) c.requires.waits in
+    let few : c.reads.client.used < 4294967295 = subst (λ (x : Seen). x.used < 4294967295) (sym h.1) c.requires.few in
+    let w = waits_there n c.args.feed.now.bytes held first (g.L.Line.outside c.args.line.now) mid c.args.log.now c.reads.log c.args.client.now c.reads.client h.0 h.1 v in
+    c.finish-in-Broken.ensures w.ins held first w.goes.machine w.goes.stands w.goes.going
+    (waits_bad n held first mid c.reads.log c.reads.client w waits few
+    (inl (breaks_broken held c.in-Broken.field-0.why c.in-Broken.ensures.1)))
+
+pub reads-preserved : goal.reads-preserved
+reads-preserved g c = (λ ins first m r. c.in-More.ensures.fills ins first m (c.reads.invariant.0 ins first m r), c.reads.invariant.1)
+
+pub reads-smaller : goal.reads-smaller
+reads-smaller g c = omega (arith, partial_short c.reads.feed.bytes c.in-Partial.ensures, c.in-More.ensures.grows refl)
 
 pub returns-in-Ended : goal.returns-in-Ended
-returns-in-Ended g c = λ n first w.
-    let held = c.fill.new.feed.bytes in
-    let now = g.L.Line.outside c.fill.new.line in
+returns-in-Ended g c = λ n first v.
+    let held = c.reads.feed.bytes in
+    let mid = g.L.Line.outside c.reads.line in
+    let h = c.reads.invariant in
+    let waits : IsWaiting c.reads.client.stage = subst (λ (x : Seen). IsWaiting x.stage) (sym h.1) c.requires.waits in
+    let few : c.reads.client.used < 4294967295 = subst (λ (x : Seen). x.used < 4294967295) (sym h.1) c.requires.few in
+    let w = waits_there n c.args.feed.now.bytes held first (g.L.Line.outside c.args.line.now) mid c.args.log.now c.reads.log c.args.client.now c.reads.client h.0 h.1 v in
+    let rest = c.refill.new.feed.bytes in
+    let now = g.L.Line.outside c.refill.new.line in
     let f = c.in-Ended.ensures.fills in
-    let v = waits_filled n c.args.feed.now.bytes held first (g.L.Line.outside c.args.line.now) now c.args.log.now c.fill.new.log c.args.client.now f.0 w in
-    c.finish.ensures v.ins held first v.goes.machine v.goes.stands v.goes.going
-    (waits_end c.status_at_end.result n held first now c.fill.new.log c.args.client.now v c.requires.waits c.requires.few f.1 f.2 c.status_at_end.ensures)
+    let u = waits_filled n held rest first mid now c.reads.log c.refill.new.log c.reads.client f.0 w in
+    c.finish-in-Ended.ensures u.ins rest first u.goes.machine u.goes.stands u.goes.going
+    (waits_end c.status_at_end.result n rest first now c.refill.new.log c.reads.client u waits few f.1 f.2 c.status_at_end.ensures)
 
 pub returns-in-Fault : goal.returns-in-Fault
-returns-in-Fault g c = λ n first w.
-    c.in-Fault.ensures.fills w.ins first w.goes.machine (stands_between c.args.client.now w.goes.machine w.goes.stands c.requires.waits) w.goes.going
+returns-in-Fault g c = λ n first v.
+    let held = c.reads.feed.bytes in
+    let mid = g.L.Line.outside c.reads.line in
+    let h = c.reads.invariant in
+    let waits : IsWaiting c.reads.client.stage = subst (λ (x : Seen). IsWaiting x.stage) (sym h.1) c.requires.waits in
+    let w = waits_there n c.args.feed.now.bytes held first (g.L.Line.outside c.args.line.now) mid c.args.log.now c.reads.log c.args.client.now c.reads.client h.0 h.1 v in
+    c.in-Fault.ensures.fills w.ins first w.goes.machine (stands_between c.reads.client w.goes.machine w.goes.stands waits) w.goes.going
 
 pub returns-in-Cut : goal.returns-in-Cut
-returns-in-Cut g c = λ n first w.
-    let P : Status → Type 0 = λ s. Shows s first (g.L.Line.outside c.fill.new.line) in
+returns-in-Cut g c = λ n first v.
+    let held = c.reads.feed.bytes in
+    let mid = g.L.Line.outside c.reads.line in
+    let h = c.reads.invariant in
+    let w = waits_there n c.args.feed.now.bytes held first (g.L.Line.outside c.args.line.now) mid c.args.log.now c.reads.log c.args.client.now c.reads.client h.0 h.1 v in
+    let P : Status → Type 0 = λ s. Shows s first (g.L.Line.outside c.refill.new.line) in
     subst P (sym c.status.ensures) (c.in-Cut.ensures.fills w.ins first w.goes.machine w.goes.going)

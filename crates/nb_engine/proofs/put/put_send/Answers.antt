@@ -10,7 +10,7 @@ pub put-requires : goal.put-requires
 put-requires c =
     let frame = put_on c.args.net.now c.args.send.now (way_of c.args.net.now c.args.send.now) in
     let size = c.send.ensures.size c.in_default.not-NoRoute in
-    let same : c.written.result.now ≡ frame = c.written.ensures ∙ c.send.ensures.put ∙ ap (λ t. t ++ frame) c.new-out.ensures.empty in
+    let same : c.written.result.now ≡ frame = c.written.ensures ∙ c.send.ensures.put ∙ ap (λ t. t ++ frame) c.out-out.ensures.empty in
     rw same (record { least = size.least; most = size.most })
 
 pub returns : goal.returns
@@ -18,7 +18,7 @@ returns c =
     let net = c.args.net.now in
     let message = c.args.send.now in
     let frame = put_on net message (way_of net message) in
-    let same : c.written.result.now ≡ frame = c.written.ensures ∙ c.send.ensures.put ∙ ap (λ t. t ++ frame) c.new-out.ensures.empty in
+    let same : c.written.result.now ≡ frame = c.written.ensures ∙ c.send.ensures.put ∙ ap (λ t. t ++ frame) c.out-out.ensures.empty in
     let goes : has_route net message ≡ true = on_its_way (fate_of net (way_of net message)) (λ e. c.in_default.not-NoRoute (c.send.ensures.fate ∙ e)) in
     record {
       route = sym goes;

@@ -8,4 +8,4 @@ returns c =
     let first : IsBytes c.args.first.now = λ i. omega (arith, c.type_inv.first i) in
     let second : IsBytes c.args.second.now = λ i. omega (arith, c.type_inv.second i) in
     c.complement.ensures
-    ∙ sym (checksum-parts _ _ c.total.result c.total-2.result first second c.requires.even c.total.ensures.sum c.total-2.ensures.sum)
+    ∙ sym (checksum-parts _ _ c.total.result c.total-2.result first second c.requires.even c.total.ensures.same c.total-2.ensures.same)

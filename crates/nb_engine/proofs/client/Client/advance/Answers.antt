@@ -12,4 +12,4 @@ returns-in-Ok-End-clause-does c =
     let w = c.self.inside.world in
     let before : c.args.self.now ≡ seen n w (stage.Running s) = sym c.self.view_is ∙ ap (λ t. seen n w t) c.in-Running.is in
     let none : next_line s ≡ None = rw c.in-Ok-End.field-0-is at c.in-Ok-End.ensures in
-    rw before (tt, end_grows n w s none c.put_leave.ensures, refl)
+    rw (before, c.cause-ok.ensures) (tt, end_grows n w s none (rw c.cause-ok.ensures at c.put_leave.ensures), refl)

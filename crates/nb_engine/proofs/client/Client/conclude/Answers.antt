@@ -25,7 +25,7 @@ pub returns-in-Keeps : goal.returns-in-Keeps
 returns-in-Keeps c =
     let now = c.args.self.now in
     rw (c.in-Keeps.is, c.resume.ensures.turn, c.resume.ensures.after) (record {
-      puts = c.put_result.ensures;
+      puts = rw c.cause.ensures at c.put_result.ensures;
       is_turn = tt;
       stands = as_running now.used now.world (further c.args.script ok);
     })
@@ -44,7 +44,7 @@ returns-in-Boots c =
     let n = c.self.inside.used in
     let w = c.self.inside.world in
     rw (c.in-Boots.is, ← c.self.view_is, c.of.ensures) (record {
-      puts = c.put_result-in-Boots.ensures;
+      puts = rw c.cause-in-Boots.ensures at c.put_result-in-Boots.ensures;
       is_turn = tt;
       stands = as_handing n w (record { kernel = c.in-Boots.kernel; part = 0; piece = 0 }) (handoff_records c.in-Boots.kernel w.images.images) refl;
     })

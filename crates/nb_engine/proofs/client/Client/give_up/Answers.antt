@@ -17,8 +17,8 @@ returns-clause-puts c =
     let cause = no_route c.args.fetch.server.0 in
     let is : c.args.self.now.stage ≡ stage.Running s = sym (ap (λ (x : Seen). x.stage) c.self.view_is) ∙ sym c.replace.ensures.value ∙ c.in-Running.is in
     let over : Puts c.args.log.now c.put_over.new.log (out_texts (ended c.args.fetch.number cause ∷ [])) =
-    subst (λ (x : Cause). Puts c.args.log.now c.put_over.new.log (out_texts (ended c.args.fetch.number x ∷ []))) c.no_route.ensures c.put_over.ensures in
+    subst (λ (x : Cause). Puts c.args.log.now c.put_over.new.log (out_texts (ended c.args.fetch.number x ∷ []))) c.from-cause.ensures c.put_over.ensures in
     let rest : Puts c.put_over.new.log c.fail.new.log (out_texts (conclusion_records s.depth (fails cause))) =
-    subst (λ (x : Cause). Puts c.put_over.new.log c.fail.new.log (out_texts (conclusion_records s.depth (fails x)))) c.no_route-2.ensures c.fail.ensures.puts in
+    subst (λ (x : Cause). Puts c.put_over.new.log c.fail.new.log (out_texts (conclusion_records s.depth (fails x)))) c.from-cause.ensures c.fail.ensures.puts in
     subst (λ (st : Stage). IfRunning st (λ (t : Running). Puts c.args.log.now c.fail.new.log (out_texts (ended c.args.fetch.number cause ∷ conclusion_records t.depth (fails cause)))))
     (sym is) (Puts-outs (ended c.args.fetch.number cause ∷ []) (conclusion_records s.depth (fails cause)) over rest)

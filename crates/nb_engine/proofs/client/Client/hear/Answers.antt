@@ -12,13 +12,13 @@ use Rattle.nb_engine.proofs.Hearings.{heard_of}
 use Rattle.nb_engine.proofs.Heedings.{heeds_less, still_sound}
 use Rattle.nb_engine.proofs.client.Client.hear.Goals as goal
 
-pub invariant_of-self-in-Err-message : goal.invariant_of-self-in-Err-message
-invariant_of-self-in-Err-message c =
+pub invariant_of-self-in-Err : goal.invariant_of-self-in-Err
+invariant_of-self-in-Err c =
     still_sound c.self.inside.used c.self.inside.world c.in-Waiting.field-0 c.in-Waiting.fetch c.message.new.self
     (subst (λ st. IsSound c.self.inside.used c.self.inside.world st) c.in-Waiting.is c.self.invariant) c.message.ensures.same c.message.ensures.short
 
-pub returns-in-Ok-message : goal.returns-in-Ok-message
-returns-in-Ok-message c =
+pub returns-in-Ok : goal.returns-in-Ok
+returns-in-Ok c =
     rw (← c.self.view_is)
     (λ s f is.
     let n = c.self.inside.used in
@@ -28,9 +28,9 @@ returns-in-Ok-message c =
     let both = sym c.in-Waiting.is ∙ is in
     let f_same : c.in-Waiting.fetch ≡ f = same_fetch both in
     let s_same : c.in-Waiting.field-0 ≡ s = same_script both in
-    let takes : TakesCall f c.message.new.self call heard = subst (λ (x : Fetch). TakesCall x c.message.new.self call heard) f_same c.in-Ok-message.ensures.heard in
-    let heeded = c.heed_kept.ensures c.in-Waiting.field-0 c.message.new.self refl in
-    let heeded_s = subst (λ (x : Running). Heeds c.heed_kept.result x (HasHeard heard c.message.new.self) (seen n w (stage.Waiting c.in-Waiting.field-0 c.message.new.self)) c.heed_kept.new.self c.args.log.now c.heed_kept.new.log) s_same heeded in
-    heeds_less c.heed_kept.result c.args.log.now c.heed_kept.new.log s (HasHeard heard c.message.new.self) (Comes call f) n w
-    (stage.Waiting c.in-Waiting.field-0 c.message.new.self) c.self.inside.stage c.heed_kept.new.self
+    let takes : TakesCall f c.message.new.self call heard = subst (λ (x : Fetch). TakesCall x c.message.new.self call heard) f_same c.in-Ok.ensures.heard in
+    let heeded = c.heed.ensures c.in-Waiting.field-0 c.message.new.self refl in
+    let heeded_s = subst (λ (x : Running). Heeds c.heed.result x (HasHeard heard c.message.new.self) (seen n w (stage.Waiting c.in-Waiting.field-0 c.message.new.self)) c.heed.new.self c.args.log.now c.heed.new.log) s_same heeded in
+    heeds_less c.heed.result c.args.log.now c.heed.new.log s (HasHeard heard c.message.new.self) (Comes call f) n w
+    (stage.Waiting c.in-Waiting.field-0 c.message.new.self) c.self.inside.stage c.heed.new.self
     (λ o k q. subst (λ x. HasHeard heard c.message.new.self o x) (sym q.1) (heard_of f c.message.new.self o call heard q.0 takes)) heeded_s)

@@ -26,4 +26,4 @@ returns-in-Err-NotScript c = λ n e.
     let other : is_plain s.script ≡ false = refused refl in
     let both = Puts-outs (step c.self.inside.used ∷ enter 1 ∷ []) (leave 1 not_script ∷ []) c.put_entered-in-Err-NotScript.ensures c.put_refused.ensures in
     let puts = subst (λ k. Puts c.args.log.now c.put_refused.new.log (out_texts (step k ∷ enter 1 ∷ leave 1 not_script ∷ []))) counted both in
-    rw (c.requires.first, counted, world) (tt, refusal_grows n c.self.inside.world s c.requires.valid other puts, refl)
+    rw (c.requires.first, counted, world, c.cause.ensures) (tt, refusal_grows n c.self.inside.world s c.requires.valid other puts, refl)

@@ -15,6 +15,6 @@ returns c = λ n e.
     let w = c.self.inside.world in
     let before : c.args.self.now ≡ seen c.self.inside.used w (stage.Waiting s f) = sym c.self.view_is ∙ ap (λ t. seen c.self.inside.used w t) c.in-Waiting.is in
     let counted : c.self.inside.used ≡ n + 1 = ap (λ (x : Seen). x.used) c.self.view_is ∙ e in
-    let both = Puts-outs (step c.self.inside.used ∷ []) (ended f.number stopped_cause ∷ []) c.put_step.ensures c.put_over.ensures in
+    let both = Puts-outs (step c.self.inside.used ∷ []) (ended f.number stopped_cause ∷ []) c.put_step.ensures (rw c.cause.ensures at c.put_over.ensures) in
     let puts = subst (λ k. Puts c.args.log.now c.put_over.new.log (out_texts (step k ∷ ended f.number stopped_cause ∷ []))) counted both in
     rw (before, counted) (tt, off_grows n w s f puts, refl)

@@ -1,7 +1,5 @@
+use Rattle.nb_graph.proofs.WentLemmas.{Went-one}
 use Rattle.nb_graph.proofs.graph.Graph.make.Goals as goal
 
-pub returns-clause-keeps : goal.returns-clause-keeps
-returns-clause-keeps g c = rw (← c.self.view_is) c.make.ensures.keeps
-
-pub returns-clause-bytes : goal.returns-clause-bytes
-returns-clause-bytes g c = rw (← c.self.view_is) c.make.ensures.bytes
+pub returns-clause-went : goal.returns-clause-went
+returns-clause-went g c = λ now. rw (← c.self.view_is) (Went-one (c.make.ensures.lived now))

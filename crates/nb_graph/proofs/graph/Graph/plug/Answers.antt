@@ -1,6 +1,5 @@
-use Rattle.nb_graph.proofs.MakeLemmas.{Balanced-plug}
-use Rattle.nb_graph.proofs.SeatLemmas.{Loses-same, Loses-trans}
-use Rattle.nb_graph.proofs.LivedLemmas.{Keeps-loses}
+use Rattle.nb_graph.proofs.LivedLemmas.{Lived-plug}
+use Rattle.nb_graph.proofs.WentLemmas.{Went-one}
 use Rattle.std.proofs.Common.{◌≡◌}
 use Rattle.nb_ledger.specs.declared.port.PortState.TheVariants.{Open}
 use Rattle.nb_ledger.specs.Ledger.{port}
@@ -19,14 +18,8 @@ invariant_of-self g c =
     let ranks = rw (← c.self.view_is) at c.requires.ranks in
     IsGraph-plug s.1 s.2 op oq c.requires.upper.0 c.requires.lower (ranks (live_by b _ _ _ tt op).0 (live_by b _ _ _ tt oq).0) c.self.invariant
 
-pub returns-clause-keeps : goal.returns-clause-keeps
-returns-clause-keeps g c =
-    let s = c.plug.ensures.sets in
-    let nodes = c.self.inside.inner.nodes.items in
-    rw (← c.self.view_is) (Keeps-loses g.N.Node.stands c.self.inside.inner.book c.plug.new.self nodes nodes (Loses-trans (Loses-same nodes s.1.objects) (Loses-same nodes s.2.objects)))
-
-pub returns-clause-bytes : goal.returns-clause-bytes
-returns-clause-bytes g c =
+pub returns-clause-went : goal.returns-clause-went
+returns-clause-went g c = λ now.
     let s = c.plug.ensures.sets in
     let made = c.plug.ensures.made in
-    rw (← c.self.view_is) (Balanced-plug s.1 s.2 (c.is_free.ensures.0 c.if-not-is_free.false) (c.is_free-2.ensures.0 c.if-not-is_free-2.false) c.requires.upper.0 c.requires.lower made.0 made.1)
+    rw (← c.self.view_is) (Went-one (Lived-plug g.N.Node.stands _ now c.self.inside.inner.nodes.items _ _ s.1 s.2 (c.is_free.ensures.0 c.if-not-is_free.false) (c.is_free-2.ensures.0 c.if-not-is_free-2.false) c.requires.upper.0 c.requires.lower made.0 made.1 c.plug.ensures.told c.plug.ensures.step c.plug.ensures.given))

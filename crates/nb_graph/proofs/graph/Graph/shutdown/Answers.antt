@@ -1,12 +1,8 @@
 use Rattle.nb_graph.proofs.LivedLemmas.{Lived-end}
 use Rattle.std.proofs.Common.{arith}
-use Rattle.nb_graph.proofs.RunsLemmas.{IsRun-calm, IsRun-trans}
+use Rattle.nb_graph.proofs.WentLemmas.{Went-one}
 use Rattle.nb_graph.proofs.EndLemmas.{dead-all, dead-zero}
 use Rattle.nb_graph.proofs.graph.Graph.shutdown.Goals as goal
-
-pub returns-clause-runs : goal.returns-clause-runs
-returns-clause-runs g c =
-    rw (← c.self.view_is) (IsRun-trans _ _ _ _ _ _ (IsRun-calm _ _ _ _ c.self.invariant.quiet c.close_above.ensures.lives.calm) (c.let_above_go.ensures.runs.added, c.let_above_go.ensures.runs.runs))
 
 pub returns-clause-none : goal.returns-clause-none
 returns-clause-none g c =
@@ -16,8 +12,8 @@ returns-clause-none g c =
     (λ x h. dead-all c.let_above_go.ensures.graph x (c.let_above_go.ensures.none x h) (λ k. let i = shut x k h in let j = closes x k in omega arith))
     c.let_above_go.ensures.first
 
-pub returns-clause-stands : goal.returns-clause-stands
-returns-clause-stands g c = rw (← c.self.view_is) (Lived-end c.self.invariant.quiet c.close_above.ensures.lives c.let_above_go.ensures.runs)
+pub returns-clause-went : goal.returns-clause-went
+returns-clause-went g c = rw (← c.self.view_is) (Went-one (Lived-end c.self.invariant.quiet c.close_above.ensures.lives c.let_above_go.ensures.runs c.let_above_go.ensures.lets.ages))
 
 pub returns-clause-order : goal.returns-clause-order
 returns-clause-order g c =

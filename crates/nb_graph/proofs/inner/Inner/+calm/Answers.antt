@@ -13,17 +13,19 @@ use Rattle.nb_graph.proofs.UnplugLemmas.{Starts-link, Starts-entry, Starts-one, 
 use Rattle.nb_graph.proofs.ShutLemmas.{shut-set, shut-link, shut-all, closes-none, closes-step, shut-still}
 use Rattle.nb_graph.proofs.MannedLemmas.{IsManned-same}
 use Rattle.nb_ledger.specs.declared.event.GraphEvent.TheVariants.{Closed as CloseEvent, Dropped, Entered}
-use Rattle.nb_graph.specs.Trace.{carried, down, silence, lent, loads, said, bytes_of}
+use Rattle.nb_graph.specs.Trace.{carried, down, silence, lent, loads, said, nature}
 use Rattle.nb_graph.specs.Effects.{asked_loads, asked_runs}
 use Rattle.nb_graph.specs.Deeds.{MustUnplug as Unlinks, Closes, Gives, Sends, all_closes, arrives, closes_of, emit_of, few_of, goes_out, is_shut, no_memory, returns_of, runs_of}
 use Rattle.nb_graph.proofs.ShutLemmas.{closes_of-none, closes_of-step}
 use Rattle.nb_graph.specs.Lives.{here}
-use Rattle.nb_graph.specs.Ports.{shut_of}
+use Rattle.nb_graph.specs.Scene.{scene_of, shut_of, with_ports}
+use Rattle.nb_graph.specs.Follows.{closes_alone, closes_none, passes, leaves, drops, enters_down}
+use Rattle.nb_graph.proofs.SceneLemmas.{scene-busy, scene-port}
 use Rattle.nb_ledger.specs.GraphRun.{port_but}
 use Rattle.nb_graph.proofs.WholeLemmas.{but_other}
 use Rattle.nb_graph.proofs.LivesLemmas.{Lives-above, Lives-turn, Lives-weaken}
 use Rattle.nb_graph.specs.Accounts.{account, few_bytes}
-use Rattle.nb_graph.specs.declared.steps.Asked.TheVariants.{Done}
+use Rattle.nb_graph.specs.declared.asking.Asked.TheVariants.{Done}
 use Rattle.nb_graph.specs.Flows.{Closing, asked_left, asked_sent, asked_whole}
 use Rattle.nb_graph.proofs.AccountLemmas.{Calms-idle, Calms-turn, Calms-plain, Mild-same}
 use Rattle.nb_graph.proofs.MildLemmas.{Lives-plain, Mild-busy, Mild-port}
@@ -43,7 +45,7 @@ use Rattle.nb_graph.proofs.inner.Inner.+calm.Goals as goal
 pub calm_effects-returns-clause-lives : goal.calm_effects-returns-clause-lives
 calm_effects-returns-clause-lives g t c =
     let k = c.run_downs.ensures.lives in
-    rw (lent-below c.args.fx _ c.requires.asks) (CalmFor-opened (λ st. ap (λ z. z ++ st) (runs-below (bytes_of g.N.Load.Parts.first g.N.Load.Parts.second) c.args.id.0 (said c.args.msg.now) c.args.fx _ c.requires.asks) ∙ append_assoc (few_of (bytes_of g.N.Load.Parts.first g.N.Load.Parts.second) c.args.id.0 (said c.args.msg.now) c.args.fx.downs) (closes_of c.args.id.0 c.args.fx.closes.items) st ∙ ap (λ z. few_of (bytes_of g.N.Load.Parts.first g.N.Load.Parts.second) c.args.id.0 (said c.args.msg.now) c.args.fx.downs ++ (closes_of c.args.id.0 z ++ st)) (sym c.as_slice.ensures.value)) (CalmFor-last (loads c.args.fx.downs) c.requires.runs k c.run_closes.ensures.lives (λ ds p q i j w v h t. let z = Downs-closing c.args.self.now.book c.run_downs.new.self.book k.lives.moved.links k.lives.moved.shuts c.args.id.0 (λ n. few_bytes (bytes_of g.N.Load.Parts.first g.N.Load.Parts.second) n (said c.args.msg.now).bytes c.args.fx.downs) p q j j w v h in (z.0, z.1, λ _. z.2))))
+    rw (lent-below c.args.fx _ c.requires.asks) (CalmFor-opened (λ st. ap (λ z. z ++ st) (runs-below (nature g.N.Node.kind_of g.N.Load.Parts.first g.N.Load.Parts.second) c.args.id.0 (said c.args.msg.now) c.args.fx _ c.requires.asks) ∙ append_assoc (few_of (nature g.N.Node.kind_of g.N.Load.Parts.first g.N.Load.Parts.second) c.args.id.0 (said c.args.msg.now) c.args.fx.downs) (closes_of c.args.id.0 c.args.fx.closes.items) st ∙ ap (λ z. few_of (nature g.N.Node.kind_of g.N.Load.Parts.first g.N.Load.Parts.second) c.args.id.0 (said c.args.msg.now) c.args.fx.downs ++ (closes_of c.args.id.0 z ++ st)) (sym c.as_slice.ensures.value)) (CalmFor-last (loads c.args.fx.downs) c.requires.runs k c.run_closes.ensures.lives (λ ds p q i j w v h t. let z = Downs-closing c.args.self.now.book c.run_downs.new.self.book k.lives.moved.links k.lives.moved.shuts c.args.id.0 (λ n. few_bytes (nature g.N.Node.kind_of g.N.Load.Parts.first g.N.Load.Parts.second) n (said c.args.msg.now).bytes c.args.fx.downs) p q j j w v h in (z.0, z.1, λ _. z.2))))
 
 pub close_all-returns-clause-lives : goal.close_all-returns-clause-lives
 close_all-returns-clause-lives g t c =
@@ -72,15 +74,15 @@ close_link-returns-clause-lives g t c =
     let left = half-left c.args.self.now.book c.close_both-was.new.self.book b.half in
     record {
       calm = Calm-link c.requires.steady.whole.links c.requires.linked b.told b.run b.was b.half k.calm c.unplug.ensures.ends.0.ends;
-      lives = Lives-closed _ _ c.args.peer.obj.0 (lent c.ask_closed-fx.result) (λ st. runs_of (bytes_of g.N.Load.Parts.first g.N.Load.Parts.second) c.args.peer.obj.0 silence true c.ask_closed-fx.result ++ st) (λ st. Closes c.args.at c.args.cause.now ∷ st) (λ x n. b.half.busy_set x ∙ but_other c.args.peer.obj.0 true (busy c.args.self.now.book) x n) (b.lives c.args.now) (Lives-above (λ st. Unlinks c.args.at c.args.peer ∷ st) (rw c.ask_closed-fx.ensures.book at c.ask_closed-fx.ensures.lives (g.O.Outside.events c.close_both-was.new.out))) k.lives (c.unplug.ensures.ends.0.lives c.args.now)
-          (λ bs ds es gs h i j z. Calms-link c.args.at c.args.peer _ _ c.requires.steady.whole.links c.requires.linked gone left (λ n. below-bytes (bytes_of g.N.Load.Parts.first g.N.Load.Parts.second) [] 0 c.ask_closed-fx.result c.ask_closed-fx.ensures.asks n) (below-zero (bytes_of g.N.Load.Parts.first g.N.Load.Parts.second) [] 0 c.ask_closed-fx.result c.ask_closed-fx.ensures.asks) h i j z);
+      lives = Lives-closed _ _ c.args.peer.obj.0 (lent c.ask_closed-fx.result) (λ st. runs_of (nature g.N.Node.kind_of g.N.Load.Parts.first g.N.Load.Parts.second) c.args.peer.obj.0 silence true c.ask_closed-fx.result ++ st) (λ st. Closes c.args.at c.args.cause.now ∷ st) (λ x n. b.half.busy_set x ∙ but_other c.args.peer.obj.0 true (busy c.args.self.now.book) x n) (b.lives c.args.now) (Lives-above (λ st. Unlinks c.args.at c.args.peer ∷ st) (rw c.ask_closed-fx.ensures.book at c.ask_closed-fx.ensures.lives (g.O.Outside.events c.close_both-was.new.out))) k.lives (c.unplug.ensures.ends.0.lives c.args.now)
+          (λ bs ds es gs h i j z. Calms-link c.args.at c.args.peer _ _ c.requires.steady.whole.links c.requires.linked gone left (λ n. below-bytes (nature g.N.Node.kind_of g.N.Load.Parts.first g.N.Load.Parts.second) [] 0 c.ask_closed-fx.result c.ask_closed-fx.ensures.asks n) (below-zero (nature g.N.Node.kind_of g.N.Load.Parts.first g.N.Load.Parts.second) [] 0 c.ask_closed-fx.result c.ask_closed-fx.ensures.asks) h i j z);
     }
 
 pub close_port-returns-in-Open-clause-lives : goal.close_port-returns-in-Open-clause-lives
 unfolding Calm-alone
 close_port-returns-in-Open-clause-lives g t c = record {
   calm = Calm-alone (sym c.in-Open.ensures) c.close_alone.ensures.sets c.close_alone.ensures.told c.close_alone.ensures.step;
-  lives = Lives-weaken (λ x w v k. k.1) (λ ds k. Calms-idle k closing-idle) (Lives-plain g.N.Node.stands c.args.now _ _ (λ st. Closes c.args.at c.args.cause.now ∷ st) here (CloseEvent c.args.at c.args.cause.now) (Loses-same c.args.self.now.nodes.items c.close_alone.ensures.sets.objects) (λ x k. c.close_alone.ensures.sets.port_set x k ∙ ap (λ v. port_but c.args.at (shut_of v) (port c.args.self.now.book) x k) c.in-Open.ensures) c.close_alone.ensures.given (λ x t. refl) (λ st. inl refl) (Calms-plain _ _ _ (CloseEvent c.args.at c.args.cause.now) (Mild-port c.close_alone.ensures.sets (λ q e. cc) (λ q e. absurd (let z = c.in-Open.ensures ∙ e in cc)) refl) (λ p a. refl)));
+  lives = Lives-weaken (λ x w v k. k.1) (λ ds k. Calms-idle k closing-idle) (Lives-plain g.N.Node.stands c.args.now _ _ (λ st. Closes c.args.at c.args.cause.now ∷ st) here (CloseEvent c.args.at c.args.cause.now) (Loses-same c.args.self.now.nodes.items c.close_alone.ensures.sets.objects) (scene-port c.close_alone.ensures.sets ∙ ap (λ v. with_ports (port_but c.args.at (shut_of v) (port c.args.self.now.book)) (scene_of c.args.self.now.book)) c.in-Open.ensures) c.close_alone.ensures.given (λ x t. refl) (λ st ds s k. ([], closes_alone c.args.at c.args.cause.now (sym c.in-Open.ensures), k)) (Calms-plain _ _ _ (CloseEvent c.args.at c.args.cause.now) (Mild-port c.close_alone.ensures.sets (λ q e. cc) (λ q e. absurd (let z = c.in-Open.ensures ∙ e in cc)) refl) (λ p a. refl)));
 }
 
 pub close_port-returns-in-Open-clause-steady : goal.close_port-returns-in-Open-clause-steady
@@ -90,10 +92,10 @@ close_port-returns-in-Open-clause-steady g t c = record {
 }
 
 pub close_port-returns-in-Leaving-clause-lives : goal.close_port-returns-in-Leaving-clause-lives
-close_port-returns-in-Leaving-clause-lives g t c = CalmFor-turn _ _ _ _ _ _ (λ st. Closes c.args.at c.args.cause.now ∷ st) (is_shut c.args.at) (Given-none _) (λ st. (c.args.cause.now, refl)) (ap open_count (sym c.in-Leaving.ensures)) closing-idle
+close_port-returns-in-Leaving-clause-lives g t c = CalmFor-turn _ _ _ _ _ _ (λ st. Closes c.args.at c.args.cause.now ∷ st) (is_shut c.args.at) (Given-none _) (λ st ds s k. ([], closes_none c.args.at c.args.cause.now (ap open_count (sym c.in-Leaving.ensures)), k)) closing-idle
 
 pub close_port-returns-in-Closed-clause-lives : goal.close_port-returns-in-Closed-clause-lives
-close_port-returns-in-Closed-clause-lives g t c = CalmFor-turn _ _ _ _ _ _ (λ st. Closes c.args.at c.args.cause.now ∷ st) (is_shut c.args.at) (Given-none _) (λ st. (c.args.cause.now, refl)) (ap open_count (sym c.in-Closed.ensures)) closing-idle
+close_port-returns-in-Closed-clause-lives g t c = CalmFor-turn _ _ _ _ _ _ (λ st. Closes c.args.at c.args.cause.now ∷ st) (is_shut c.args.at) (Given-none _) (λ st ds s k. ([], closes_none c.args.at c.args.cause.now (ap open_count (sym c.in-Closed.ensures)), k)) closing-idle
 
 pub enter_down-enter-was-requires : goal.enter_down-enter-was-requires
 enter_down-enter-was-requires g t c = open-live _ _ _ c.requires.open
@@ -103,20 +105,20 @@ fail-take_back-requires-clause-lives g t c = busy-live _ _ c.requires.runs
 
 pub pass_down-returns-in-Open-clause-lives : goal.pass_down-returns-in-Open-clause-lives
 unfolding Calm-sent
-pass_down-returns-in-Open-clause-lives g t c = record { calm = Calm-sent _ _ _ c.send.ensures.told; lives = Lives-weaken (λ x w v k. k.1) (λ ds k. k) (Lives-turn _ c.args.now _ _ (λ st. Sends c.args.at (said c.args.msg.now) ∷ st) here (goes_out c.args.at (said c.args.msg.now)) c.send.ensures.given (λ st. refl) (sym c.in-Open.ensures) (Calms-idle (Calms-turn _ _ _) (λ p q x y w v i j. Passing-open c.args.self.now.book c.args.at _ (sym c.in-Open.ensures) p q y x.sent y.taken w v j i))) }
+pass_down-returns-in-Open-clause-lives g t c = record { calm = Calm-sent _ _ _ c.send.ensures.told; lives = Lives-weaken (λ x w v k. k.1) (λ ds k. k) (Lives-turn _ c.args.now _ _ (λ st. Sends c.args.at (said c.args.msg.now) ∷ st) here (goes_out c.args.at (said c.args.msg.now)) c.send.ensures.given (λ st ds s k. ([], leaves c.args.at (said c.args.msg.now) (sym c.in-Open.ensures), k)) (Calms-idle (Calms-turn _ _ _) (λ p q x y w v i j. Passing-open c.args.self.now.book c.args.at _ (sym c.in-Open.ensures) p q y x.sent y.taken w v j i))) }
 
 pub pass_down-returns-in-Leaving-clause-lives : goal.pass_down-returns-in-Leaving-clause-lives
 unfolding Calm-dropped
 pass_down-returns-in-Leaving-clause-lives g t c = record {
   calm = Calm-dropped _ _ _ c.args.at (Leaving c.in-Leaving.field-0) (sym c.in-Leaving.ensures) tt (rw c.spelled.ensures at c.event.ensures.told);
-  lives = Lives-weaken (λ x w v k. k.1) (λ ds k. Calms-idle k (λ p q x y w v i j. Passing-shut c.args.self.now.book c.args.at _ (ap open_count (sym c.in-Leaving.ensures)) p q y w v i)) (Lives-plain g.N.Node.stands c.args.now _ _ (λ st. Sends c.args.at (said c.args.msg.now) ∷ st) here (Dropped c.args.at) (Loses-refl _) (λ x k. refl) (rw c.spelled.ensures at c.event.ensures.given) (λ x t. refl) (λ st. inr (inl (said c.args.msg.now, inl refl))) (Calms-plain _ _ _ (Dropped c.args.at) (Mild-same refl (λ x k. refl)) (λ p a. refl)));
+  lives = Lives-weaken (λ x w v k. k.1) (λ ds k. Calms-idle k (λ p q x y w v i j. Passing-shut c.args.self.now.book c.args.at _ (ap open_count (sym c.in-Leaving.ensures)) p q y w v i)) (Lives-plain g.N.Node.stands c.args.now _ _ (λ st. Sends c.args.at (said c.args.msg.now) ∷ st) here (Dropped c.args.at) (Loses-refl _) refl (rw c.spelled.ensures at c.event.ensures.given) (λ x t. refl) (λ st ds s k. ([], drops c.args.at (said c.args.msg.now) (ap open_count (sym c.in-Leaving.ensures)), k)) (Calms-plain _ _ _ (Dropped c.args.at) (Mild-same refl (λ x k. refl)) (λ p a. refl)));
 }
 
 pub pass_down-returns-in-Closed-clause-lives : goal.pass_down-returns-in-Closed-clause-lives
 unfolding Calm-dropped
 pass_down-returns-in-Closed-clause-lives g t c = record {
   calm = Calm-dropped _ _ _ c.args.at Closed (sym c.in-Closed.ensures) tt (rw c.spelled-in-Closed.ensures at c.event-in-Closed.ensures.told);
-  lives = Lives-weaken (λ x w v k. k.1) (λ ds k. Calms-idle k (λ p q x y w v i j. Passing-shut c.args.self.now.book c.args.at _ (ap open_count (sym c.in-Closed.ensures)) p q y w v i)) (Lives-plain g.N.Node.stands c.args.now _ _ (λ st. Sends c.args.at (said c.args.msg.now) ∷ st) here (Dropped c.args.at) (Loses-refl _) (λ x k. refl) (rw c.spelled-in-Closed.ensures at c.event-in-Closed.ensures.given) (λ x t. refl) (λ st. inr (inl (said c.args.msg.now, inl refl))) (Calms-plain _ _ _ (Dropped c.args.at) (Mild-same refl (λ x k. refl)) (λ p a. refl)));
+  lives = Lives-weaken (λ x w v k. k.1) (λ ds k. Calms-idle k (λ p q x y w v i j. Passing-shut c.args.self.now.book c.args.at _ (ap open_count (sym c.in-Closed.ensures)) p q y w v i)) (Lives-plain g.N.Node.stands c.args.now _ _ (λ st. Sends c.args.at (said c.args.msg.now) ∷ st) here (Dropped c.args.at) (Loses-refl _) refl (rw c.spelled-in-Closed.ensures at c.event-in-Closed.ensures.given) (λ x t. refl) (λ st ds s k. ([], drops c.args.at (said c.args.msg.now) (ap open_count (sym c.in-Closed.ensures)), k)) (Calms-plain _ _ _ (Dropped c.args.at) (Mild-same refl (λ x k. refl)) (λ p a. refl)));
 }
 
 pub run_closes-returns-in_default-clause-lives : goal.run_closes-returns-in_default-clause-lives
@@ -133,8 +135,8 @@ run_down-returns-in-None-clause-lives g t c = rw c.in-None.is (CalmFor-weaken (B
 pub run_downs-returns-clause-lives : goal.run_downs-returns-clause-lives
 run_downs-returns-clause-lives g t c =
     let a = c.run_down.ensures.lives in
-    CalmFor-opened (λ st. append_assoc (emit_of (bytes_of g.N.Load.Parts.first g.N.Load.Parts.second) c.args.id.0 (said c.args.msg.now) c.args.downs.first) (emit_of (bytes_of g.N.Load.Parts.first g.N.Load.Parts.second) c.args.id.0 (said c.args.msg.now) c.args.downs.second) st) (CalmFor-back (carried c.args.downs.first) (carried c.args.downs.second) a c.run_down-2.ensures.lives
-    (λ ds p q i j w v h t. let z = Downs-few _ _ _ _ a.lives.moved.links a.lives.moved.shuts c.args.id.0 _ c.args.downs c.requires.downs p q j (account (bytes_of g.N.Load.Parts.first g.N.Load.Parts.second) q j ds) w v h in (z.0, z.1, λ _. z.2)))
+    CalmFor-opened (λ st. append_assoc (emit_of (nature g.N.Node.kind_of g.N.Load.Parts.first g.N.Load.Parts.second) c.args.id.0 (said c.args.msg.now) c.args.downs.first) (emit_of (nature g.N.Node.kind_of g.N.Load.Parts.first g.N.Load.Parts.second) c.args.id.0 (said c.args.msg.now) c.args.downs.second) st) (CalmFor-back (carried c.args.downs.first) (carried c.args.downs.second) a c.run_down-2.ensures.lives
+    (λ ds p q i j w v h t. let z = Downs-few (nature g.N.Node.kind_of g.N.Load.Parts.first g.N.Load.Parts.second) _ _ _ a.lives.moved.links a.lives.moved.shuts c.args.id.0 _ c.args.downs c.requires.downs p q j (account (nature g.N.Node.kind_of g.N.Load.Parts.first g.N.Load.Parts.second) q j ds) w v h in (z.0, z.1, λ _. z.2)))
 
 pub send_down-give_back-requires-clause-lives : goal.send_down-give_back-requires-clause-lives
 send_down-give_back-requires-clause-lives g t c = busy-live _ _ (c.pass_down.ensures.lives.calm.shrinks.same_busy c.args.id.0 ∙ c.requires.runs)
@@ -152,8 +154,8 @@ enter_down-returns-clause-lives g t c =
     let b = c.enter-was.ensures in
     let k = rw c.ask_down-asked.ensures.book at c.after_down.ensures.lives in
     let e = c.leave.ensures.ends Down (λ e. cc) in
-    let r = Lives-entry _ _ c.args.at.obj.0 (asked_loads c.ask_down-asked.result) (λ st. asked_runs (bytes_of g.N.Load.Parts.first g.N.Load.Parts.second) c.args.at.obj.0 (said c.args.msg.now) c.ask_down-asked.result ++ st) (λ st. Gives c.args.at (said c.args.msg.now) ∷ st) (Entered c.args.at Down) (λ done fx. down (said c.args.msg.now) c.args.now done fx) (λ x n. b.sets.busy_set x ∙ but_other c.args.at.obj.0 true (busy c.args.self.now.book) x n) (Loses-same c.args.self.now.nodes.items b.sets.objects) b.sets.same_port b.given (λ x t. refl) (λ st. (said c.args.msg.now, st, refl, refl)) (rw (c.ask_down-asked.ensures.book, sym c.requires.slot) at c.ask_down-asked.ensures.lives (g.O.Outside.events c.enter-was.new.out)) k.lives (e.lives c.args.now)
-    (λ ds es gs x y z. Calms-down c.args.at (asked_sent (bytes_of g.N.Load.Parts.first g.N.Load.Parts.second) (said c.args.msg.now).bytes c.ask_down-asked.result) (asked_whole (said c.args.msg.now).bytes c.ask_down-asked.result) (asked_left (said c.args.msg.now).bytes c.ask_down-asked.result) (said c.args.msg.now).bytes c.requires.slot (rw (b.sets.same_port c.args.at.obj.0 c.args.at.slot) c.requires.open) (IsWhole-enter b.sets c.requires.steady.whole).links (asked-zero (bytes_of g.N.Load.Parts.first g.N.Load.Parts.second) _ _ c.ask_down-asked.result c.ask_down-asked.ensures.asks) (whole-only _ c.ask_down-asked.result) (whole-left _ c.ask_down-asked.result) (Calms-enter _ _ _ c.args.at c.requires.slot (Mild-busy b.sets)) x y z) in (
+    let r = Lives-entry _ _ c.args.at.obj.0 (asked_loads c.ask_down-asked.result) (λ st. asked_runs (nature g.N.Node.kind_of g.N.Load.Parts.first g.N.Load.Parts.second) c.args.at.obj.0 (said c.args.msg.now) c.ask_down-asked.result ++ st) (λ st. Gives c.args.at (said c.args.msg.now) ∷ st) (Entered c.args.at Down) (λ done fx. down (said c.args.msg.now) c.args.now done fx) (λ x n. b.sets.busy_set x ∙ but_other c.args.at.obj.0 true (busy c.args.self.now.book) x n) (Loses-same c.args.self.now.nodes.items b.sets.objects) (scene-busy b.sets) b.given (λ x t. refl) (λ st ds s k. (_, enters_down c.args.at (said c.args.msg.now) c.requires.slot c.requires.open, k)) (rw (c.ask_down-asked.ensures.book, sym c.requires.slot) at c.ask_down-asked.ensures.lives (g.O.Outside.events c.enter-was.new.out)) k.lives (e.lives c.args.now)
+    (λ ds es gs x y z. Calms-down c.args.at (asked_sent (nature g.N.Node.kind_of g.N.Load.Parts.first g.N.Load.Parts.second) (said c.args.msg.now).bytes c.ask_down-asked.result) (asked_whole (said c.args.msg.now).bytes c.ask_down-asked.result) (asked_left (said c.args.msg.now).bytes c.ask_down-asked.result) (said c.args.msg.now).bytes c.requires.slot (rw (b.sets.same_port c.args.at.obj.0 c.args.at.slot) c.requires.open) (IsWhole-enter b.sets c.requires.steady.whole).links (asked-zero (nature g.N.Node.kind_of g.N.Load.Parts.first g.N.Load.Parts.second) _ _ c.ask_down-asked.result c.ask_down-asked.ensures.asks) (whole-only _ c.ask_down-asked.result) (whole-left _ c.ask_down-asked.result) (Calms-enter _ _ _ c.args.at c.requires.slot (Mild-busy b.sets)) x y z) in (
       record {
         calm = Calm-entry b.sets b.told b.step (λ st. (c.requires.slot, c.requires.open)) b.was k.calm e.ends;
         lives = r.0;
@@ -266,13 +268,13 @@ fail-returns-clause-lives g t c =
 
 pub pass_down-returns-in-Linked-clause-lives : goal.pass_down-returns-in-Linked-clause-lives
 pass_down-returns-in-Linked-clause-lives g t c =
-    CalmFor-turned (λ st. Sends c.args.at (said c.args.msg.now) ∷ st) (arrives c.args.at c.in-Linked.peer) (Given-none _) (λ st. (said c.args.msg.now, st, refl, refl)) (sym c.in-Linked.ensures) (CalmFor-weaken (λ x w v i. i) (λ p q x y w v i j. Passing-giving c.args.self.now.book c.args.at c.in-Linked.peer _ c.requires.steady.whole.links c.requires.slot (sym c.in-Linked.ensures) p q y x.sent y.taken w v j i) c.enter_down.ensures.lives.0)
+    CalmFor-turned (λ st. Sends c.args.at (said c.args.msg.now) ∷ st) (arrives c.args.at c.in-Linked.peer) (Given-none _) (λ st ds s k. (_, passes c.args.at c.in-Linked.peer (said c.args.msg.now) (sym c.in-Linked.ensures), k)) (CalmFor-weaken (λ x w v i. i) (λ p q x y w v i j. Passing-giving c.args.self.now.book c.args.at c.in-Linked.peer _ c.requires.steady.whole.links c.requires.slot (sym c.in-Linked.ensures) p q y x.sent y.taken w v j i) c.enter_down.ensures.lives.0)
 
 pub after_down-returns-in-Done-clause-lives : goal.after_down-returns-in-Done-clause-lives
 after_down-returns-in-Done-clause-lives g t c =
     let bytes = (said c.args.msg.now).bytes in
     let asks = rw c.in-Done.is at c.requires.asks in
-    rw c.in-Done.is (CalmFor-weaken (λ x w v i. i) (λ p q x y w v i j. following-done _ c.args.id.0 (asked_sent (bytes_of g.N.Load.Parts.first g.N.Load.Parts.second) bytes (Done c.in-Done.fx)) (λ n. few_bytes (bytes_of g.N.Load.Parts.first g.N.Load.Parts.second) n bytes c.in-Done.fx.downs) (λ n. below-bytes (bytes_of g.N.Load.Parts.first g.N.Load.Parts.second) bytes _ c.in-Done.fx asks n) p q y w v i) c.calm_effects.ensures.lives)
+    rw c.in-Done.is (CalmFor-weaken (λ x w v i. i) (λ p q x y w v i j. following-done _ c.args.id.0 (asked_sent (nature g.N.Node.kind_of g.N.Load.Parts.first g.N.Load.Parts.second) bytes (Done c.in-Done.fx)) (λ n. few_bytes (nature g.N.Node.kind_of g.N.Load.Parts.first g.N.Load.Parts.second) n bytes c.in-Done.fx.downs) (λ n. below-bytes (nature g.N.Node.kind_of g.N.Load.Parts.first g.N.Load.Parts.second) bytes _ c.in-Done.fx asks n) p q y w v i) c.calm_effects.ensures.lives)
 
 pub after_down-returns-in-NoMemory-clause-lives : goal.after_down-returns-in-NoMemory-clause-lives
 after_down-returns-in-NoMemory-clause-lives g t c =

@@ -1,4 +1,6 @@
 use Rattle.nb_graph.specs.Lives.{here}
+use Rattle.std.proofs.Common.{[]}
+use Rattle.nb_graph.specs.Follows.{lets_none}
 use Rattle.nb_graph.specs.Deeds.{LetsAllGo, none_held}
 use Rattle.nb_ledger.proofs.RunLemmas.{Given-none}
 use Rattle.std.proofs.Common.{refl, ◌∷◌}
@@ -27,7 +29,7 @@ returns-in-Some-clause-none g t c =
     (λ y a. c.let_above_go.ensures.none y a)
 
 pub returns-in-None-clause-runs : goal.returns-in-None-clause-runs
-returns-in-None-clause-runs g t c = RunFor-turned (λ st. LetsAllGo ∷ st) none_held (Given-none _) (λ st. refl) tt (RunFor-none _ _ _ _ _ here)
+returns-in-None-clause-runs g t c = RunFor-turned (λ st. LetsAllGo ∷ st) none_held (Given-none _) (λ now st ds s k. ([], lets_none, k)) (RunFor-none _ _ _ _ _ here)
 
 pub returns-in-None-clause-lets : goal.returns-in-None-clause-lets
 returns-in-None-clause-lets g t c = LetsGo-refl _

@@ -1,5 +1,5 @@
 use Rattle.nb_ledger.proofs.RunLemmas.{Given-none}
-use Rattle.nb_graph.specs.declared.steps.Asked.TheVariants.{Done}
+use Rattle.nb_graph.specs.declared.asking.Asked.TheVariants.{Done}
 use Rattle.std.proofs.Common.{◌≡◌, ℕ, List, ◌<◌, ◌≤◌, sym, ◌∙◌, arith, ap, subst, rules, refl, true, inl, inr, None, [], ◌∷◌, append_assoc, ◌++◌}
 use Rattle.std.specs.Vec.{vec_capacity}
 use Rattle.nb_ledger.specs.declared.event.Way.TheVariants.{Up}
@@ -8,12 +8,14 @@ use Rattle.nb_ledger.specs.GraphRun.{IsOpen}
 use Rattle.nb_ledger.specs.Ledger.{busy, port, rank, open_count}
 use Rattle.nb_ledger.proofs.PortLemmas.{busy-live, open-live, live_by}
 use Rattle.nb_graph.specs.Calm.{IsSteady}
+use Rattle.nb_graph.specs.Follows.{passes, leaves, drops, enters_up}
+use Rattle.nb_graph.proofs.SceneLemmas.{scene-busy}
 use Rattle.nb_graph.proofs.CalmLemmas.{IsWhole-enter, linked-back}
 use Rattle.nb_graph.proofs.MannedLemmas.{IsManned-same}
 use Rattle.nb_graph.proofs.UnplugLemmas.{Calm-dropped, Calm-sent}
 use Rattle.nb_graph.proofs.LivelyLemmas.{Grows-shrinks, Grows-trans, LivelyIn-trans, LivelyIn-calm, LivelyIn-lively, Lively-calm, Lively-entry, Starts-lively}
 use Rattle.nb_ledger.specs.declared.event.GraphEvent.TheVariants.{Dropped, Entered}
-use Rattle.nb_graph.specs.Trace.{carried, left, lent, loads, said, up, bytes_of}
+use Rattle.nb_graph.specs.Trace.{carried, left, lent, loads, said, up, nature}
 use Rattle.nb_graph.specs.Deeds.{Gives, Holds, Sends, arrives, closes_of, emit_of, few_of, goes_out, makes_of}
 use Rattle.nb_graph.specs.Effects.{asked_loads}
 use Rattle.nb_graph.specs.Lives.{IsUnder, here}
@@ -41,14 +43,14 @@ pub effects-returns-clause-lives : goal.effects-returns-clause-lives
 effects-returns-clause-lives g t c =
     let bytes = (said c.args.msg.now).bytes in
     let x = c.args.id.0 in
-    let sent : ℕ → List ℕ = λ n. fx_bytes (bytes_of g.N.Load.Parts.first g.N.Load.Parts.second) n bytes c.args.fx in
+    let sent : ℕ → List ℕ = λ n. fx_bytes (nature g.N.Node.kind_of g.N.Load.Parts.first g.N.Load.Parts.second) n bytes c.args.fx in
     let made = c.run_make.ensures.lives in
     let downs = c.run_downs.ensures.lives in
     let ups = c.run_ups.ensures.lives in
     let asks = c.requires.asks in
-    LivelyInFor-opened (λ st. runs-then (bytes_of g.N.Load.Parts.first g.N.Load.Parts.second) x (said c.args.msg.now) c.args.fx st ∙ ap (λ z. makes_of x c.args.fx.makes ++ (few_of (bytes_of g.N.Load.Parts.first g.N.Load.Parts.second) x (said c.args.msg.now) c.args.fx.downs ++ (few_of (bytes_of g.N.Load.Parts.first g.N.Load.Parts.second) x (said c.args.msg.now) c.args.fx.ups ++ (closes_of x z ++ st)))) (sym c.as_slice.ensures.value)) (LivelyInFor-effects (Leaves c.run_downs.new.self.book (port_at x 0) (few_bytes (bytes_of g.N.Load.Parts.first g.N.Load.Parts.second) 0 bytes c.args.fx.ups)) (Doing c.run_make.new.self.book x sent) (loads c.args.fx.downs) (loads c.args.fx.ups) c.requires.runs made downs ups c.run_closes.ensures.lives
+    LivelyInFor-opened (λ st. runs-then (nature g.N.Node.kind_of g.N.Load.Parts.first g.N.Load.Parts.second) x (said c.args.msg.now) c.args.fx st ∙ ap (λ z. makes_of (nature g.N.Node.kind_of g.N.Load.Parts.first g.N.Load.Parts.second) x c.args.fx.makes ++ (few_of (nature g.N.Node.kind_of g.N.Load.Parts.first g.N.Load.Parts.second) x (said c.args.msg.now) c.args.fx.downs ++ (few_of (nature g.N.Node.kind_of g.N.Load.Parts.first g.N.Load.Parts.second) x (said c.args.msg.now) c.args.fx.ups ++ (closes_of x z ++ st)))) (sym c.as_slice.ensures.value)) (LivelyInFor-effects (Leaves c.run_downs.new.self.book (port_at x 0) (few_bytes (nature g.N.Node.kind_of g.N.Load.Parts.first g.N.Load.Parts.second) 0 bytes c.args.fx.ups)) (Doing c.run_make.new.self.book x sent) (loads c.args.fx.downs) (loads c.args.fx.ups) c.requires.runs made downs ups c.run_closes.ensures.lives
     (λ ds es a z. Livens-ups x _ ups.lively.grows.same_busy a z)
-    (λ ds es a z. Livens-downs x sent (λ n. few_bytes (bytes_of g.N.Load.Parts.first g.N.Load.Parts.second) n bytes c.args.fx.downs) (few_bytes (bytes_of g.N.Load.Parts.first g.N.Load.Parts.second) 0 bytes c.args.fx.ups) (made.lively.grows.same_busy x ∙ c.requires.runs) (λ n o. downs-bytes (bytes_of g.N.Load.Parts.first g.N.Load.Parts.second) bytes _ c.args.fx asks.ups n o) (ups-bytes (bytes_of g.N.Load.Parts.first g.N.Load.Parts.second) bytes _ c.args.fx asks.downs) downs.calm.shrinks.same_busy a z)
+    (λ ds es a z. Livens-downs x sent (λ n. few_bytes (nature g.N.Node.kind_of g.N.Load.Parts.first g.N.Load.Parts.second) n bytes c.args.fx.downs) (few_bytes (nature g.N.Node.kind_of g.N.Load.Parts.first g.N.Load.Parts.second) 0 bytes c.args.fx.ups) (made.lively.grows.same_busy x ∙ c.requires.runs) (λ n o. downs-bytes (nature g.N.Node.kind_of g.N.Load.Parts.first g.N.Load.Parts.second) bytes _ c.args.fx asks.ups n o) (ups-bytes (nature g.N.Node.kind_of g.N.Load.Parts.first g.N.Load.Parts.second) bytes _ c.args.fx asks.downs) downs.calm.shrinks.same_busy a z)
     (λ ds es a z. Livens-effects x sent made.lively.grows.same_busy a z))
 
 pub enter_up-enter-was-requires : goal.enter_up-enter-was-requires
@@ -66,7 +68,7 @@ enter_up-returns-clause-lives g t c =
     let e = c.leave.ensures.ends Up (λ e. cc) in
     let y = c.args.at.obj.0 in
     let old = c.args.self.now.book in
-    let r = Lives-entry_up (busy old) _ y (λ st. Gives c.args.at (said c.args.msg.now) ∷ st) (Entered c.args.at Up) (λ done fx. up c.args.at.slot (said c.args.msg.now) c.args.now done fx) (λ x n. b.sets.busy_set x ∙ but_other y true (busy old) x n) (under-idle old y c.requires.under) (Loses-same c.args.self.now.nodes.items b.sets.objects) b.sets.same_port b.given (λ x t. refl) (λ st. (said c.args.msg.now, st, refl, refl)) (d.0.lives, d.1) (e.lives c.args.now) (λ ds es z k. Livens-entry {inner = Delivering c.enter-was.new.self c.args.at (said c.args.msg.now).bytes nothing} {outer = Rising old c.args.at (said c.args.msg.now).bytes} y (Entered c.args.at Up) (under-idle old y c.requires.under) (λ x n. b.sets.busy_set x ∙ but_other y true (busy old) x n) (Mild-busy b.sets) (up-notes c.args.at) (λ p q a w v i. rises-delivering old c.enter-was.new.self c.args.at (said c.args.msg.now).bytes (under-idle old y c.requires.under) (λ x n. b.sets.busy_set x ∙ but_other y true (busy old) x n) p q a w v i) z k) in (
+    let r = Lives-entry_up (busy old) _ y (λ st. Gives c.args.at (said c.args.msg.now) ∷ st) (Entered c.args.at Up) (λ done fx. up c.args.at.slot (said c.args.msg.now) c.args.now done fx) (λ x n. b.sets.busy_set x ∙ but_other y true (busy old) x n) (under-idle old y c.requires.under) (Loses-same c.args.self.now.nodes.items b.sets.objects) (scene-busy b.sets) b.given (λ x t. refl) (λ st ds s k. (_, enters_up c.args.at (said c.args.msg.now) c.requires.slot.0 c.requires.open, k)) (d.0.lives, d.1) (e.lives c.args.now) (λ ds es z k. Livens-entry {inner = Delivering c.enter-was.new.self c.args.at (said c.args.msg.now).bytes nothing} {outer = Rising old c.args.at (said c.args.msg.now).bytes} y (Entered c.args.at Up) (under-idle old y c.requires.under) (λ x n. b.sets.busy_set x ∙ but_other y true (busy old) x n) (Mild-busy b.sets) (up-notes c.args.at) (λ p q a w v i. rises-delivering old c.enter-was.new.self c.args.at (said c.args.msg.now).bytes (under-idle old y c.requires.under) (λ x n. b.sets.busy_set x ∙ but_other y true (busy old) x n) p q a w v i) z k) in (
       record {
         lively = Lively-entry b.sets b.told b.step (λ st. (c.requires.slot.0, c.requires.slot.1, c.requires.open)) b.was d.0.lively e.ends;
         lives = r.0;
@@ -122,14 +124,14 @@ pass_up-enter_up-requires g t c =
 pub pass_up-returns-in-Open-clause-lives : goal.pass_up-returns-in-Open-clause-lives
 unfolding Calm-sent
 pass_up-returns-in-Open-clause-lives g t c =
-    LivelyFor-calm (record { calm = Calm-sent _ _ _ c.send.ensures.told; lives = Lives-weaken (λ x w v k. k.1) (λ ds k. k) (Lives-turn _ c.args.now _ _ (λ st. Sends c.args.at (said c.args.msg.now) ∷ st) here (goes_out c.args.at (said c.args.msg.now)) c.send.ensures.given (λ st. refl) (sym c.in-Open.ensures) (Calms-idle (Calms-turn _ _ _) (λ p q x y w v i j. Leaves-open c.args.self.now.book c.args.at _ (sym c.in-Open.ensures) p q y x.sent y.taken w v j i))) })
+    LivelyFor-calm (record { calm = Calm-sent _ _ _ c.send.ensures.told; lives = Lives-weaken (λ x w v k. k.1) (λ ds k. k) (Lives-turn _ c.args.now _ _ (λ st. Sends c.args.at (said c.args.msg.now) ∷ st) here (goes_out c.args.at (said c.args.msg.now)) c.send.ensures.given (λ st ds s k. ([], leaves c.args.at (said c.args.msg.now) (sym c.in-Open.ensures), k)) (Calms-idle (Calms-turn _ _ _) (λ p q x y w v i j. Leaves-open c.args.self.now.book c.args.at _ (sym c.in-Open.ensures) p q y x.sent y.taken w v j i))) })
 
 pub pass_up-returns-in-Leaving-clause-lives : goal.pass_up-returns-in-Leaving-clause-lives
 unfolding Calm-dropped
 pass_up-returns-in-Leaving-clause-lives g t c =
     LivelyFor-calm (record {
       calm = Calm-dropped _ _ _ c.args.at (Leaving c.in-Leaving.field-0) (sym c.in-Leaving.ensures) tt (rw c.spelled.ensures at c.event.ensures.told);
-      lives = Lives-weaken (λ x w v k. k.1) (λ ds k. Calms-idle k (λ p q x y w v i j. Leaves-shut c.args.self.now.book c.args.at _ (ap open_count (sym c.in-Leaving.ensures)) p q y w v i)) (Lives-plain g.N.Node.stands c.args.now _ _ (λ st. Sends c.args.at (said c.args.msg.now) ∷ st) here (Dropped c.args.at) (Loses-refl _) (λ x k. refl) (rw c.spelled.ensures at c.event.ensures.given) (λ x t. refl) (λ st. inr (inl (said c.args.msg.now, inl refl))) (Calms-plain _ _ _ (Dropped c.args.at) (Mild-same refl (λ x k. refl)) (λ p a. refl)));
+      lives = Lives-weaken (λ x w v k. k.1) (λ ds k. Calms-idle k (λ p q x y w v i j. Leaves-shut c.args.self.now.book c.args.at _ (ap open_count (sym c.in-Leaving.ensures)) p q y w v i)) (Lives-plain g.N.Node.stands c.args.now _ _ (λ st. Sends c.args.at (said c.args.msg.now) ∷ st) here (Dropped c.args.at) (Loses-refl _) refl (rw c.spelled.ensures at c.event.ensures.given) (λ x t. refl) (λ st ds s k. ([], drops c.args.at (said c.args.msg.now) (ap open_count (sym c.in-Leaving.ensures)), k)) (Calms-plain _ _ _ (Dropped c.args.at) (Mild-same refl (λ x k. refl)) (λ p a. refl)));
     })
 
 pub pass_up-returns-in-Closed-clause-lives : goal.pass_up-returns-in-Closed-clause-lives
@@ -137,13 +139,13 @@ unfolding Calm-dropped
 pass_up-returns-in-Closed-clause-lives g t c =
     LivelyFor-calm (record {
       calm = Calm-dropped _ _ _ c.args.at Closed (sym c.in-Closed.ensures) tt (rw c.spelled-in-Closed.ensures at c.event-in-Closed.ensures.told);
-      lives = Lives-weaken (λ x w v k. k.1) (λ ds k. Calms-idle k (λ p q x y w v i j. Leaves-shut c.args.self.now.book c.args.at _ (ap open_count (sym c.in-Closed.ensures)) p q y w v i)) (Lives-plain g.N.Node.stands c.args.now _ _ (λ st. Sends c.args.at (said c.args.msg.now) ∷ st) here (Dropped c.args.at) (Loses-refl _) (λ x k. refl) (rw c.spelled-in-Closed.ensures at c.event-in-Closed.ensures.given) (λ x t. refl) (λ st. inr (inl (said c.args.msg.now, inl refl))) (Calms-plain _ _ _ (Dropped c.args.at) (Mild-same refl (λ x k. refl)) (λ p a. refl)));
+      lives = Lives-weaken (λ x w v k. k.1) (λ ds k. Calms-idle k (λ p q x y w v i j. Leaves-shut c.args.self.now.book c.args.at _ (ap open_count (sym c.in-Closed.ensures)) p q y w v i)) (Lives-plain g.N.Node.stands c.args.now _ _ (λ st. Sends c.args.at (said c.args.msg.now) ∷ st) here (Dropped c.args.at) (Loses-refl _) refl (rw c.spelled-in-Closed.ensures at c.event-in-Closed.ensures.given) (λ x t. refl) (λ st ds s k. ([], drops c.args.at (said c.args.msg.now) (ap open_count (sym c.in-Closed.ensures)), k)) (Calms-plain _ _ _ (Dropped c.args.at) (Mild-same refl (λ x k. refl)) (λ p a. refl)));
     })
 
 pub run_ups-returns-clause-lives : goal.run_ups-returns-clause-lives
 run_ups-returns-clause-lives g t c =
     let k = c.run_up.ensures.lives in
-    LivelyFor-opened (λ st. append_assoc (emit_of (bytes_of g.N.Load.Parts.first g.N.Load.Parts.second) c.args.id.0 (said c.args.msg.now) c.args.ups.first) (emit_of (bytes_of g.N.Load.Parts.first g.N.Load.Parts.second) c.args.id.0 (said c.args.msg.now) c.args.ups.second) st) (LivelyFor-back (carried c.args.ups.first) (carried c.args.ups.second) k c.run_up-2.ensures.lives (λ ds es a z. Livens-few c.args.id.0 _ _ c.requires.runs k.lively.grows.same_busy a z))
+    LivelyFor-opened (λ st. append_assoc (emit_of (nature g.N.Node.kind_of g.N.Load.Parts.first g.N.Load.Parts.second) c.args.id.0 (said c.args.msg.now) c.args.ups.first) (emit_of (nature g.N.Node.kind_of g.N.Load.Parts.first g.N.Load.Parts.second) c.args.id.0 (said c.args.msg.now) c.args.ups.second) st) (LivelyFor-back (carried c.args.ups.first) (carried c.args.ups.second) k c.run_up-2.ensures.lives (λ ds es a z. Livens-few c.args.id.0 _ _ c.requires.runs k.lively.grows.same_busy a z))
 
 pub send_up-give_back-requires-clause-lives : goal.send_up-give_back-requires-clause-lives
 send_up-give_back-requires-clause-lives g t c = busy-live _ _ (c.pass_up.ensures.lives.lively.grows.same_busy c.args.id.0 ∙ c.requires.runs)
@@ -170,12 +172,12 @@ run_ups-run_up-requires-2 g t c =
 
 pub pass_up-returns-in-Linked-clause-lives : goal.pass_up-returns-in-Linked-clause-lives
 pass_up-returns-in-Linked-clause-lives g t c =
-    LivelyFor-turned (λ st. Sends c.args.at (said c.args.msg.now) ∷ st) (arrives c.args.at c.in-Linked.peer) (Given-none _) (λ st. (said c.args.msg.now, st, refl, refl)) (sym c.in-Linked.ensures) (LivelyFor-weaken (λ x w v i. i) (λ p q x y w v i j. Leaves-rising c.args.self.now.book c.args.at c.in-Linked.peer _ c.requires.steady.whole.links c.requires.slot (sym c.in-Linked.ensures) p q y x.sent y.taken w v j i) c.enter_up.ensures.lives.0)
+    LivelyFor-turned (λ st. Sends c.args.at (said c.args.msg.now) ∷ st) (arrives c.args.at c.in-Linked.peer) (Given-none _) (λ st ds s k. (_, passes c.args.at c.in-Linked.peer (said c.args.msg.now) (sym c.in-Linked.ensures), k)) (LivelyFor-weaken (λ x w v i. i) (λ p q x y w v i j. Leaves-rising c.args.self.now.book c.args.at c.in-Linked.peer _ c.requires.steady.whole.links c.requires.slot (sym c.in-Linked.ensures) p q y x.sent y.taken w v j i) c.enter_up.ensures.lives.0)
 
 pub run_up-returns-in-Some-clause-lives : goal.run_up-returns-in-Some-clause-lives
 run_up-returns-in-Some-clause-lives g t c =
     let up = rw c.in-Some.is at c.requires.up in
-    rw (c.in-Some.is, emit-there (bytes_of g.N.Load.Parts.first g.N.Load.Parts.second) (said c.args.msg.now).bytes 0 c.in-Some.emit (sym up.0)) c.send_up.ensures.lives
+    rw (c.in-Some.is, emit-there (nature g.N.Node.kind_of g.N.Load.Parts.first g.N.Load.Parts.second) (said c.args.msg.now).bytes 0 c.in-Some.emit (sym up.0)) c.send_up.ensures.lives
 
 pub give-ask_up-asked-requires-clause-lives : goal.give-ask_up-asked-requires-clause-lives
 give-ask_up-asked-requires-clause-lives g t c = busy-live _ _ c.requires.runs
@@ -196,7 +198,7 @@ pub after_up-returns-in-Done-clause-goes : goal.after_up-returns-in-Done-clause-
 unfolding LivelyIn-trans
 after_up-returns-in-Done-clause-goes g t c =
     let e = c.effects.ensures.lives in
-    rw c.in-Done.is (GoesOn-left g.N.Node.stands (bytes_of g.N.Load.Parts.first g.N.Load.Parts.second) c.args.now c.args.at (said c.args.msg.now) c.args.self.now.book c.effects.new.self.book c.left_of.new.self.book c.args.self.now.nodes.items c.effects.new.self.nodes.items c.left_of.new.self.nodes.items _ _ _ c.in-Done.fx.took (Done c.in-Done.fx) (λ d nd after k. record {
+    rw c.in-Done.is (GoesOn-left g.N.Node.stands (nature g.N.Node.kind_of g.N.Load.Parts.first g.N.Load.Parts.second) c.args.now c.args.at (said c.args.msg.now) c.args.self.now.book c.effects.new.self.book c.left_of.new.self.book c.args.self.now.nodes.items c.effects.new.self.nodes.items c.left_of.new.self.nodes.items _ _ _ c.in-Done.fx.took (Done c.in-Done.fx) (λ d nd after k. record {
       lively = LivelyIn-trans e.lively k.lively;
       lives = Lives-then (Lives-above (λ st. Holds c.args.at Up (left c.in-Done.fx.took (said c.args.msg.now)) ∷ st) e.lives) k.lives (AllBack-then _ _ c.args.at.obj.0 (lent c.in-Done.fx) e.lively.grows.same_busy) (λ ds es x z. Livens-rest c.args.at _ _ c.requires.slot c.requires.runs e.lively.grows.same_busy x z);
     }) c.left_of.result (c.left_of.ensures.goes c.args.now))
@@ -204,8 +206,8 @@ after_up-returns-in-Done-clause-goes g t c =
 pub give-returns-clause-gives : goal.give-returns-clause-gives
 give-returns-clause-gives g t c =
     let bytes = (said c.args.msg.now).bytes in
-    Gives-goes g.N.Node.stands (bytes_of g.N.Load.Parts.first g.N.Load.Parts.second) c.args.now c.args.at (said c.args.msg.now) c.args.self.now.book c.args.self.now.book c.after_up.new.self.book c.args.self.now.nodes.items c.ask_up-asked.new.self.nodes.items c.after_up.new.self.nodes.items _ _ _ c.ask_up-asked.result (λ d nd after k.
-    let r = Calls-then (busy c.args.self.now.book) (busy c.args.self.now.book) c.args.at.obj.0 (asked_loads c.ask_up-asked.result) (λ done fx. up c.args.at.slot (said c.args.msg.now) c.args.now done fx) (λ x. refl) (rw c.ask_up-asked.ensures.book at c.ask_up-asked.ensures.lives (g.O.Outside.events c.args.out.now)) k.lives (λ ds es a z. Livens-ask c.args.at (asked_sent (bytes_of g.N.Load.Parts.first g.N.Load.Parts.second) bytes c.ask_up-asked.result) (asked_taken c.args.at.slot bytes c.ask_up-asked.result) (asked_taken c.args.at.slot bytes c.ask_up-asked.result c.args.at.slot) (asked_behind bytes c.ask_up-asked.result) bytes c.requires.slot c.requires.open c.requires.steady.whole.links refl (taken-only c.args.at.slot bytes c.ask_up-asked.result) (taken-all c.args.at.slot bytes c.ask_up-asked.result) a.0 a.1 z) in
+    Gives-goes g.N.Node.stands (nature g.N.Node.kind_of g.N.Load.Parts.first g.N.Load.Parts.second) c.args.now c.args.at (said c.args.msg.now) c.args.self.now.book c.args.self.now.book c.after_up.new.self.book c.args.self.now.nodes.items c.ask_up-asked.new.self.nodes.items c.after_up.new.self.nodes.items _ _ _ c.ask_up-asked.result (λ d nd after k.
+    let r = Calls-then (busy c.args.self.now.book) (busy c.args.self.now.book) c.args.at.obj.0 (asked_loads c.ask_up-asked.result) (λ done fx. up c.args.at.slot (said c.args.msg.now) c.args.now done fx) (λ x. refl) (rw c.ask_up-asked.ensures.book at c.ask_up-asked.ensures.lives (g.O.Outside.events c.args.out.now)) k.lives (λ ds es a z. Livens-ask c.args.at (asked_sent (nature g.N.Node.kind_of g.N.Load.Parts.first g.N.Load.Parts.second) bytes c.ask_up-asked.result) (asked_taken c.args.at.slot bytes c.ask_up-asked.result) (asked_taken c.args.at.slot bytes c.ask_up-asked.result c.args.at.slot) (asked_behind bytes c.ask_up-asked.result) bytes c.requires.slot c.requires.open c.requires.steady.whole.links refl (taken-only c.args.at.slot bytes c.ask_up-asked.result) (taken-all c.args.at.slot bytes c.ask_up-asked.result) a.0 a.1 z) in
     (record { lively = k.lively; lives = r.0 }, r.1)) c.after_up.result (rw c.ask_up-asked.ensures.book at c.after_up.ensures.goes)
 
 pub deliver-loop-rest-preserved : goal.deliver-loop-rest-preserved
@@ -214,7 +216,7 @@ deliver-loop-rest-preserved g t c =
     let gives = rw c.in-Some.is at i.gives in
     let less = rw c.in-Some.is at i.less in
     record {
-      gives = Gives-then g.N.Node.stands (bytes_of g.N.Load.Parts.first g.N.Load.Parts.second) c.args.now c.args.at (said c.args.msg.now) c.args.self.now.book c.loop-rest.self.book c.give-rest.new.self.book c.args.self.now.nodes.items c.loop-rest.self.nodes.items c.give-rest.new.self.nodes.items _ _ _ (said c.in-Some.part) gives c.give-rest.result c.give-rest.ensures.gives;
+      gives = Gives-then g.N.Node.stands (nature g.N.Node.kind_of g.N.Load.Parts.first g.N.Load.Parts.second) c.args.now c.args.at (said c.args.msg.now) c.args.self.now.book c.loop-rest.self.book c.give-rest.new.self.book c.args.self.now.nodes.items c.loop-rest.self.nodes.items c.give-rest.new.self.nodes.items _ _ _ (said c.in-Some.part) gives c.give-rest.result c.give-rest.ensures.gives;
       less = less-then c.give-rest.result (length c.in-Some.part.first.now + length c.in-Some.part.second.now) _ less c.give-rest.ensures.less;
       opened = c.give-rest.ensures.open;
       grows = Grows-trans i.grows c.give-rest.ensures.grows;

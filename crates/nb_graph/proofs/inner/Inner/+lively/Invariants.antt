@@ -6,7 +6,7 @@ use Rattle.nb_ledger.specs.Ledger.{port}
 use Rattle.nb_graph.specs.Lively.{Grows}
 use Rattle.nb_graph.specs.Calm.{IsSteady}
 use Rattle.nb_graph.specs.Again.{Gives}
-use Rattle.nb_graph.specs.Trace.{bytes_of, said}
+use Rattle.nb_graph.specs.Trace.{nature, said}
 use Rattle.nb_ledger.specs.Ledger.{rank}
 use Rattle.nb_graph.specs.Lively.{reach}
 use Rattle.nb_graph.proofs.inner.Inner.+lively.Given as goal
@@ -43,7 +43,7 @@ decreases-deliver-loop-rest g l = option_map_or (λ r. 1 + length r.first.now + 
 
 abbrev pub invariant-deliver-loop-rest : goal.invariant-deliver-loop-rest
 invariant-deliver-loop-rest g l = record {
-  gives : Gives g.N.Node.stands (bytes_of g.N.Load.Parts.first g.N.Load.Parts.second) l.now l.at (said l.msg) l.initial.self.book l.self.book l.initial.self.nodes.items l.self.nodes.items (g.O.Outside.events l.initial.out) (g.O.Outside.events l.out) l.rest;
+  gives : Gives g.N.Node.stands (nature g.N.Node.kind_of g.N.Load.Parts.first g.N.Load.Parts.second) l.now l.at (said l.msg) l.initial.self.book l.self.book l.initial.self.nodes.items l.self.nodes.items (g.O.Outside.events l.initial.out) (g.O.Outside.events l.out) l.rest;
   less : IfSome l.rest (λ r. length r.first.now + length r.second.now ≤ length l.msg.first.now + length l.msg.second.now);
   opened : IfSome l.rest (λ r. IsOpen (port l.self.book l.at.obj.0 l.at.slot));
   grows : Grows l.initial.self.book l.self.book;

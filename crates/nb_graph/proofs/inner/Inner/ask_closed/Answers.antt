@@ -1,5 +1,9 @@
 use Rattle.std.proofs.Common.{refl}
-use Rattle.nb_graph.specs.Trace.{closed}
+use Rattle.nb_graph.specs.Trace.{closed, nature, silence}
+use Rattle.nb_graph.specs.Deeds.{runs_of}
+use Rattle.nb_graph.specs.Follows.{peer_hears}
+use Rattle.nb_graph.proofs.LivesLemmas.{Follows-called}
+use Rattle.std.proofs.Common.{true}
 use Rattle.nb_graph.proofs.CallLemmas.{Calms-call}
 use Rattle.nb_graph.proofs.SeatLemmas.{Lives-seat}
 use Rattle.std.proofs.Common.{arith}
@@ -22,5 +26,5 @@ returns-clause-lives g c = λ u.
     (λ w v k. k.0 refl)
     (λ x w v n k. k.1 n)
     (λ t w v k o s. c.on_close.ensures.stands t s)
-    (λ st. (st, refl, refl, refl))
+    (λ st ds s k. (_, peer_hears c.args.at.obj.0 c.args.at.slot c.args.cause.now c.on_close.new.fx, Follows-called _ _ _ _ (runs_of (nature g.N.Node.kind_of g.N.Load.Parts.first g.N.Load.Parts.second) c.args.at.obj.0 silence true c.on_close.new.fx) st _ ds k))
     (Calms-call _ _ c.args.at.obj.0 (closed c.args.at.slot c.args.cause.now c.args.now c.on_close.new.fx) _ _ (λ k. refl) (λ k. refl))

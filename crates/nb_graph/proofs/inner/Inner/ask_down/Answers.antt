@@ -1,3 +1,7 @@
+use Rattle.nb_graph.specs.Trace.{nature, said, silence}
+use Rattle.nb_graph.specs.Deeds.{runs_of}
+use Rattle.nb_graph.specs.Follows.{takes_down}
+use Rattle.nb_graph.proofs.LivesLemmas.{Follows-called}
 use Rattle.std.proofs.Common.{refl, true, false}
 use Rattle.nb_graph.specs.Trace.{down, said}
 use Rattle.nb_graph.proofs.CallLemmas.{Calms-call}
@@ -27,7 +31,7 @@ returns-in-Ok-clause-lives g c = λ u.
     (λ w v k. k.0 refl)
     (λ x w v n k. k.1 n)
     (λ t w v k o s. c.in-Ok.ensures.stands t s)
-    (λ st. (st, refl, refl, refl))
+    (λ st ds s k. (_, takes_down c.args.id.0 (said c.args.msg.now) true c.on_down.new.fx, Follows-called _ _ _ _ (runs_of (nature g.N.Node.kind_of g.N.Load.Parts.first g.N.Load.Parts.second) c.args.id.0 (said c.args.msg.now) true c.on_down.new.fx) st _ ds k))
     (Calms-call _ _ c.args.id.0 (down (said c.args.msg.now) c.args.now true c.on_down.new.fx) _ _ (λ k. refl) (λ k. refl))
 
 pub returns-in-Err-clause-lives : goal.returns-in-Err-clause-lives
@@ -36,5 +40,5 @@ returns-in-Err-clause-lives g c = λ u.
     (λ w v k. k.0 refl)
     (λ x w v n k. k.1 n)
     (λ t w v k o s. c.in-Err.ensures.stands t s)
-    (λ st. (st, refl, refl, refl))
+    (λ st ds s k. (_, takes_down c.args.id.0 (said c.args.msg.now) false c.on_down.new.fx, Follows-called _ _ _ _ (runs_of (nature g.N.Node.kind_of g.N.Load.Parts.first g.N.Load.Parts.second) c.args.id.0 (said c.args.msg.now) false c.on_down.new.fx) st _ ds k))
     (Calms-call _ _ c.args.id.0 (down (said c.args.msg.now) c.args.now false c.on_down.new.fx) _ _ (λ k. refl) (λ k. refl))

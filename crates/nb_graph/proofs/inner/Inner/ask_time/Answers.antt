@@ -1,5 +1,9 @@
+use Rattle.nb_graph.specs.Trace.{nature, said, silence}
+use Rattle.nb_graph.specs.Deeds.{runs_of}
+use Rattle.nb_graph.specs.Follows.{takes_time}
+use Rattle.nb_graph.proofs.LivesLemmas.{Follows-called}
 use Rattle.std.proofs.Common.{refl, sym, ◌∙◌, ap, subst, true, false, [], ◌++◌}
-use Rattle.nb_graph.specs.Trace.{time, lent, Owes, bytes_of}
+use Rattle.nb_graph.specs.Trace.{time, lent, Owes, nature}
 use Rattle.nb_graph.proofs.CallLemmas.{Asks-call, Calms-call}
 use Rattle.nb_graph.proofs.SeatLemmas.{Calls-seat}
 use Rattle.std.proofs.Common.{arith}
@@ -34,8 +38,8 @@ returns-in-Ok-clause-lives g c = λ u.
     (λ w v k. let b = k.0 refl in b.1 ∙ ap (λ z. z ++ lent c.on_time.new.fx) (sym b.0))
     (λ x w v n k. k.1 n)
     (λ t w v k o s. c.in-Ok.ensures.stands t s (subst (Owes [] t) (k.0 refl).0 o))
-    (λ st. (st, refl, refl, refl))
-    (Calms-call _ _ c.args.id.0 (time c.args.now true c.on_time.new.fx) _ _ (λ k. refl) (λ k. refl), Asks-call (bytes_of g.N.Load.Parts.first g.N.Load.Parts.second) c.args.id.0 (time c.args.now true c.on_time.new.fx) _ (λ k. refl))
+    (λ st ds s k. (_, takes_time c.args.id.0 true c.on_time.new.fx, Follows-called _ _ _ _ (runs_of (nature g.N.Node.kind_of g.N.Load.Parts.first g.N.Load.Parts.second) c.args.id.0 silence true c.on_time.new.fx) st _ ds k))
+    (Calms-call _ _ c.args.id.0 (time c.args.now true c.on_time.new.fx) _ _ (λ k. refl) (λ k. refl), Asks-call (nature g.N.Node.kind_of g.N.Load.Parts.first g.N.Load.Parts.second) c.args.id.0 (time c.args.now true c.on_time.new.fx) _ (λ k. refl))
 
 pub returns-in-Err-clause-lives : goal.returns-in-Err-clause-lives
 returns-in-Err-clause-lives g c = λ u.
@@ -43,5 +47,5 @@ returns-in-Err-clause-lives g c = λ u.
     (λ w v k. let b = k.0 refl in b.1 ∙ ap (λ z. z ++ lent c.on_time.new.fx) (sym b.0))
     (λ x w v n k. k.1 n)
     (λ t w v k o s. c.in-Err.ensures.stands t s (subst (Owes [] t) (k.0 refl).0 o))
-    (λ st. (st, refl, refl, refl))
-    (Calms-call _ _ c.args.id.0 (time c.args.now false c.on_time.new.fx) _ _ (λ k. refl) (λ k. refl), Asks-call (bytes_of g.N.Load.Parts.first g.N.Load.Parts.second) c.args.id.0 (time c.args.now false c.on_time.new.fx) _ (λ k. refl))
+    (λ st ds s k. (_, takes_time c.args.id.0 false c.on_time.new.fx, Follows-called _ _ _ _ (runs_of (nature g.N.Node.kind_of g.N.Load.Parts.first g.N.Load.Parts.second) c.args.id.0 silence false c.on_time.new.fx) st _ ds k))
+    (Calms-call _ _ c.args.id.0 (time c.args.now false c.on_time.new.fx) _ _ (λ k. refl) (λ k. refl), Asks-call (nature g.N.Node.kind_of g.N.Load.Parts.first g.N.Load.Parts.second) c.args.id.0 (time c.args.now false c.on_time.new.fx) _ (λ k. refl))

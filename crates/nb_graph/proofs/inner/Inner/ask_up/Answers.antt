@@ -1,5 +1,9 @@
+use Rattle.nb_graph.specs.Trace.{nature, said, silence}
+use Rattle.nb_graph.specs.Deeds.{runs_of}
+use Rattle.nb_graph.specs.Follows.{takes}
+use Rattle.nb_graph.proofs.LivesLemmas.{Follows-called}
 use Rattle.std.proofs.Common.{refl, sym, ◌∙◌, ap, subst, true, false, [], ◌++◌}
-use Rattle.nb_graph.specs.Trace.{up, said, lent, Owes, bytes_of}
+use Rattle.nb_graph.specs.Trace.{up, said, lent, Owes, nature}
 use Rattle.nb_graph.proofs.CallLemmas.{Asks-call, Calms-call}
 use Rattle.nb_graph.proofs.SeatLemmas.{Calls-seat}
 use Rattle.std.proofs.Common.{arith}
@@ -34,8 +38,8 @@ returns-in-Ok-clause-lives g c = λ u.
     (λ w v k. let b = k.0 refl in b.1 ∙ ap (λ z. z ++ lent c.on_up.new.fx) (sym b.0))
     (λ x w v n k. k.1 n)
     (λ t w v k o s. c.in-Ok.ensures.stands t s (subst (Owes [] t) (k.0 refl).0 o))
-    (λ st. (st, refl, refl, refl))
-    (Calms-call _ _ c.args.at.obj.0 (up c.args.at.slot (said c.args.msg.now) c.args.now true c.on_up.new.fx) _ _ (λ k. refl) (λ k. refl), Asks-call (bytes_of g.N.Load.Parts.first g.N.Load.Parts.second) c.args.at.obj.0 (up c.args.at.slot (said c.args.msg.now) c.args.now true c.on_up.new.fx) _ (λ k. refl))
+    (λ st ds s k. (_, takes c.args.at.obj.0 c.args.at.slot (said c.args.msg.now) true c.on_up.new.fx c.requires.open, Follows-called _ _ _ _ (runs_of (nature g.N.Node.kind_of g.N.Load.Parts.first g.N.Load.Parts.second) c.args.at.obj.0 (said c.args.msg.now) true c.on_up.new.fx) st _ ds k))
+    (Calms-call _ _ c.args.at.obj.0 (up c.args.at.slot (said c.args.msg.now) c.args.now true c.on_up.new.fx) _ _ (λ k. refl) (λ k. refl), Asks-call (nature g.N.Node.kind_of g.N.Load.Parts.first g.N.Load.Parts.second) c.args.at.obj.0 (up c.args.at.slot (said c.args.msg.now) c.args.now true c.on_up.new.fx) _ (λ k. refl))
 
 pub returns-in-Err-clause-lives : goal.returns-in-Err-clause-lives
 returns-in-Err-clause-lives g c = λ u.
@@ -43,5 +47,5 @@ returns-in-Err-clause-lives g c = λ u.
     (λ w v k. let b = k.0 refl in b.1 ∙ ap (λ z. z ++ lent c.on_up.new.fx) (sym b.0))
     (λ x w v n k. k.1 n)
     (λ t w v k o s. c.in-Err.ensures.stands t s (subst (Owes [] t) (k.0 refl).0 o))
-    (λ st. (st, refl, refl, refl))
-    (Calms-call _ _ c.args.at.obj.0 (up c.args.at.slot (said c.args.msg.now) c.args.now false c.on_up.new.fx) _ _ (λ k. refl) (λ k. refl), Asks-call (bytes_of g.N.Load.Parts.first g.N.Load.Parts.second) c.args.at.obj.0 (up c.args.at.slot (said c.args.msg.now) c.args.now false c.on_up.new.fx) _ (λ k. refl))
+    (λ st ds s k. (_, takes c.args.at.obj.0 c.args.at.slot (said c.args.msg.now) false c.on_up.new.fx c.requires.open, Follows-called _ _ _ _ (runs_of (nature g.N.Node.kind_of g.N.Load.Parts.first g.N.Load.Parts.second) c.args.at.obj.0 (said c.args.msg.now) false c.on_up.new.fx) st _ ds k))
+    (Calms-call _ _ c.args.at.obj.0 (up c.args.at.slot (said c.args.msg.now) c.args.now false c.on_up.new.fx) _ _ (λ k. refl) (λ k. refl), Asks-call (nature g.N.Node.kind_of g.N.Load.Parts.first g.N.Load.Parts.second) c.args.at.obj.0 (up c.args.at.slot (said c.args.msg.now) c.args.now false c.on_up.new.fx) _ (λ k. refl))

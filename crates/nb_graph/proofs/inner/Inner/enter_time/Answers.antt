@@ -3,8 +3,10 @@ use Rattle.std.proofs.lemmas.Bool.{false≢true}
 use Rattle.nb_ledger.specs.declared.event.GraphEvent.TheVariants.{Entered}
 use Rattle.nb_ledger.specs.Ledger.{busy}
 use Rattle.nb_graph.specs.declared.effects.Fx.{Fx}
-use Rattle.nb_graph.specs.Trace.{time, bytes_of}
+use Rattle.nb_graph.specs.Trace.{time, nature}
 use Rattle.nb_graph.specs.Deeds.{Ticks, Holds}
+use Rattle.nb_graph.specs.Follows.{ticks}
+use Rattle.nb_graph.proofs.SceneLemmas.{scene-busy}
 use Rattle.nb_graph.specs.Whole.{port_at}
 use Rattle.nb_graph.specs.Effects.{asked_loads}
 use Rattle.nb_graph.proofs.WholeLemmas.{but_other}
@@ -54,8 +56,8 @@ returns-clause-lives g c =
     let old = c.args.self.now.book in
     let mid = c.enter-was.new.self in
     let entry = λ (done : Bool) (fx : Fx g.row.N.Denot g.row.N-Load.Denot). time c.args.now done fx in
-    let d = Calls-then (busy mid) (busy mid) y (asked_loads c.ask_time-asked.result) entry (λ x. refl) (rw c.ask_time-asked.ensures.book at c.ask_time-asked.ensures.lives (g.O.Outside.events c.enter-was.new.out)) (Lives-weaken (AllBack-back (busy mid) y (asked_loads c.ask_time-asked.result)) (λ ds z. z) (Lives-above (λ st. Holds (port_at y 4) Time None ∷ st) k.lives)) (λ ds es a z. Livens-time y (asked_sent (bytes_of g.N.Load.Parts.first g.N.Load.Parts.second) [] c.ask_time-asked.result) a.0 a.1 z) in
-    let r = Lives-entry_up (busy old) (busy mid) y (λ st. Ticks y ∷ st) (Entered (port_at y 4) Time) entry (λ x n. b.sets.busy_set x ∙ but_other y true (busy old) x n) (c.requires.idle y) (Loses-same c.args.self.now.nodes.items b.sets.objects) b.sets.same_port b.given (λ x t. refl) (λ st. (st, refl, refl)) d (e.lives c.args.now) (λ ds es z k. Livens-entry {inner = Doing mid y nothing} {outer = Keeping old} y (Entered (port_at y 4) Time) (c.requires.idle y) (λ x n. b.sets.busy_set x ∙ but_other y true (busy old) x n) (Mild-busy b.sets) (time-notes (port_at y 4)) (λ p q a w v i. keeps-doing old mid y (c.requires.idle y) (λ x n. b.sets.busy_set x ∙ but_other y true (busy old) x n) p q a a w v i) z k) in (
+    let d = Calls-then (busy mid) (busy mid) y (asked_loads c.ask_time-asked.result) entry (λ x. refl) (rw c.ask_time-asked.ensures.book at c.ask_time-asked.ensures.lives (g.O.Outside.events c.enter-was.new.out)) (Lives-weaken (AllBack-back (busy mid) y (asked_loads c.ask_time-asked.result)) (λ ds z. z) (Lives-above (λ st. Holds (port_at y 4) Time None ∷ st) k.lives)) (λ ds es a z. Livens-time y (asked_sent (nature g.N.Node.kind_of g.N.Load.Parts.first g.N.Load.Parts.second) [] c.ask_time-asked.result) a.0 a.1 z) in
+    let r = Lives-entry_up (busy old) (busy mid) y (λ st. Ticks y ∷ st) (Entered (port_at y 4) Time) entry (λ x n. b.sets.busy_set x ∙ but_other y true (busy old) x n) (c.requires.idle y) (Loses-same c.args.self.now.nodes.items b.sets.objects) (scene-busy b.sets) b.given (λ x t. refl) (λ st ds s k. (_, ticks y c.requires.lives, k)) d (e.lives c.args.now) (λ ds es z k. Livens-entry {inner = Doing mid y nothing} {outer = Keeping old} y (Entered (port_at y 4) Time) (c.requires.idle y) (λ x n. b.sets.busy_set x ∙ but_other y true (busy old) x n) (Mild-busy b.sets) (time-notes (port_at y 4)) (λ p q a w v i. keeps-doing old mid y (c.requires.idle y) (λ x n. b.sets.busy_set x ∙ but_other y true (busy old) x n) p q a a w v i) z k) in (
       record {
         lively = Lively-entry b.sets b.told b.step (λ st. (refl, c.requires.lives)) b.was k.lively e.ends;
         lives = r.0;

@@ -1,6 +1,7 @@
 use Rattle.std.proofs.Common.{refl, subst, []}
 use Rattle.nb_graph.specs.Trace.{regain, Owes}
 use Rattle.nb_graph.specs.Flows.{nothing}
+use Rattle.nb_graph.specs.Follows.{returns}
 use Rattle.nb_graph.proofs.AccountLemmas.{Calms-weaken}
 use Rattle.nb_graph.proofs.CallLemmas.{Calms-call, asks-nothing}
 use Rattle.nb_graph.proofs.SeatLemmas.{Lives-seat}
@@ -24,5 +25,5 @@ returns-clause-lives g c = λ now u.
     (λ w v k. k.0 refl)
     (λ x w v n k. (k.1 n).1)
     (λ t w v k o s. let b = k.0 refl in c.regain.ensures.stands t s (b.0, b.1, subst (Owes [] t) b.2 o))
-    (λ st. refl)
+    (λ st ds s k. ([], returns c.args.id.0 c.args.load, k))
     (Calms-weaken (Calms-call _ _ c.args.id.0 (regain c.args.load) nothing nothing (λ k. refl) (λ k. refl)) (λ p q x y w v e j. asks-nothing _ c.args.id.0 p q y w v e))

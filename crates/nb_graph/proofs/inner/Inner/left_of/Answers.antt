@@ -6,6 +6,7 @@ use Rattle.nb_graph.proofs.LivelyLemmas.{LivelyIn-dropped, LivelyIn-refl}
 use Rattle.nb_ledger.specs.declared.event.GraphEvent.TheVariants.{Dropped}
 use Rattle.nb_graph.specs.Trace.{said, said_behind}
 use Rattle.nb_graph.specs.Deeds.{Holds}
+use Rattle.nb_graph.specs.Follows.{drops_rest}
 use Rattle.nb_graph.proofs.LivesLemmas.{Lives-none, Lives-under, Lives-weaken}
 use Rattle.std.proofs.lemmas.List.{drop_all}
 use Rattle.nb_graph.specs.Flows.{Delivering, nothing}
@@ -43,5 +44,5 @@ returns-else-is_open-clause-goes g c = λ now.
     let shut = closed-count (port c.args.self.now.book c.args.at.obj.0 c.args.at.slot) (sym c.is_open.ensures ∙ c.if-is_open.false) in
     rw (left-some c.args.took m (omega arith)) (record {
       lively = LivelyIn-dropped _ _ _ c.args.at (λ e. false≢true (sym (sym c.is_open.ensures ∙ c.if-is_open.false) ∙ ap (λ v. ltb 0 (open_count v)) e)) (rw c.spelled.ensures at c.event.ensures.told);
-      lives = Lives-weaken (AllBack-stays _ c.args.at.obj.0) (λ ds k. Livens-calm (Calms-idle k (λ p q x y w v i j. rest-shut c.args.self.now.book c.args.at _ p q y x.sent y.taken w v shut j i))) (Lives-plain g.N.Node.stands now _ _ (λ st. Holds c.args.at Up (Some (said_behind c.args.took m)) ∷ st) (λ st. Holds c.args.at Up None ∷ st) (Dropped c.args.at) (Loses-refl _) (λ x k. refl) (rw c.spelled.ensures at c.event.ensures.given) (λ x t. refl) (λ st. inr (inr (said_behind c.args.took m, st, refl, refl))) (Calms-plain _ _ _ (Dropped c.args.at) (Mild-same refl (λ x k. refl)) (λ p a. refl)));
+      lives = Lives-weaken (AllBack-stays _ c.args.at.obj.0) (λ ds k. Livens-calm (Calms-idle k (λ p q x y w v i j. rest-shut c.args.self.now.book c.args.at _ p q y x.sent y.taken w v shut j i))) (Lives-plain g.N.Node.stands now _ _ (λ st. Holds c.args.at Up (Some (said_behind c.args.took m)) ∷ st) (λ st. Holds c.args.at Up None ∷ st) (Dropped c.args.at) (Loses-refl _) refl (rw c.spelled.ensures at c.event.ensures.given) (λ x t. refl) (λ st ds s k. (_, drops_rest c.args.at (said_behind c.args.took m) shut, k)) (Calms-plain _ _ _ (Dropped c.args.at) (Mild-same refl (λ x k. refl)) (λ p a. refl)));
     })

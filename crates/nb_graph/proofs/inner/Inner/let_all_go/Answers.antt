@@ -1,6 +1,7 @@
 use Rattle.nb_graph.specs.Deeds.{LetsAllGo, lets_go}
 use Rattle.nb_ledger.proofs.RunLemmas.{Given-none}
 use Rattle.std.proofs.Common.{refl, ◌∷◌}
+use Rattle.nb_graph.specs.Follows.{lets}
 use Rattle.std.proofs.Common.{sym, ◌∙◌}
 use Rattle.std.proofs.lemmas.Bool.{ltb-true}
 use Rattle.nb_ledger.proofs.PortLemmas.{held-live}
@@ -14,7 +15,7 @@ loop-id-init g c = record { graph = c.requires.graph; runs = RunFor-none _ _ _ _
 pub loop-id-preserved : goal.loop-id-preserved
 loop-id-preserved g c = record {
   graph = c.let_go.ensures.graph;
-  runs = RunFor-trans c.loop-id.invariant.runs (RunFor-turned (λ st. LetsAllGo ∷ st) (lets_go c.args.id) (Given-none _) (λ st. (st, refl, refl)) tt (RunFor-above (λ st. LetsAllGo ∷ st) c.let_go.ensures.runs));
+  runs = RunFor-trans c.loop-id.invariant.runs (RunFor-turned (λ st. LetsAllGo ∷ st) (lets_go c.args.id) (Given-none _) (λ now st ds s k. (_, lets c.args.id, k)) (RunFor-above (λ st. LetsAllGo ∷ st) c.let_go.ensures.runs));
   lets = LetsGo-trans c.loop-id.invariant.lets c.let_go.ensures.lets;
 }
 

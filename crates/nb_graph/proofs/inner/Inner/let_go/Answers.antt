@@ -1,4 +1,6 @@
 use Rattle.nb_graph.specs.Deeds.{Settles as Frees, Wants}
+use Rattle.nb_graph.specs.Follows.{let_go}
+use Rattle.nb_graph.proofs.SceneLemmas.{scene-holds}
 use Rattle.nb_graph.proofs.AccountLemmas.{Mild-trans}
 use Rattle.nb_graph.proofs.MildLemmas.{Mild-settle}
 use Rattle.std.proofs.Common.{arith, refl, ap, sym, subst, ◌∙◌, [], ◌∷◌, append-nil}
@@ -21,12 +23,9 @@ returns-clause-runs g c = record {
   added = LetGo c.args.id ∷ c.settle.ensures.settles.settles.added;
   runs = (IsRun-let_go _ _ _ _ _ _ c.args.id (IsQuiet-holds c.let_go.ensures.sets c.requires.graph.quiet) c.let_go.ensures.told c.let_go.ensures.step c.settle.ensures.settles.settles).1;
   lives = λ now.
-      Lives-next (Lives-plain g.N.Node.stands now _ _ (λ st. Wants (LetGo c.args.id) ∷ st) (λ st. Frees c.args.id.0 ∷ st) (LetGo c.args.id) (Loses-same c.args.self.now.nodes.items c.let_go.ensures.sets.objects) c.let_go.ensures.sets.same_port c.let_go.ensures.given (λ x t. refl) (λ st. (st, refl, refl)) (Calms-plain _ _ _ (LetGo c.args.id) (Mild-holds c.let_go.ensures.sets) (λ p a. refl))) (c.settle.ensures.settles.lives now);
+      Lives-next (Lives-plain g.N.Node.stands now _ _ (λ st. Wants (LetGo c.args.id) ∷ st) (λ st. Frees c.args.id.0 ∷ st) (LetGo c.args.id) (Loses-same c.args.self.now.nodes.items c.let_go.ensures.sets.objects) (scene-holds c.let_go.ensures.sets) c.let_go.ensures.given (λ x t. refl) (λ st ds s k. (_, let_go c.args.id c.requires.lives, k)) (Calms-plain _ _ _ (LetGo c.args.id) (Mild-holds c.let_go.ensures.sets) (λ p a. refl))) (c.settle.ensures.settles.lives now);
   lets = subst LetsHoldsGo (ap (λ l. LetGo c.args.id ∷ l) (append-nil (frees c.settle.ensures.settles.gone) ∙ sym c.settle.ensures.settles.frees)) (one c.args.id c.settle.ensures.settles.gone [] none);
 }
-
-pub returns-clause-loses : goal.returns-clause-loses
-returns-clause-loses g c = Loses-trans (Loses-same c.args.self.now.nodes.items c.let_go.ensures.sets.objects) c.settle.ensures.settles.loses
 
 pub returns-clause-graph : goal.returns-clause-graph
 returns-clause-graph g c =
@@ -45,9 +44,6 @@ returns-clause-lets g c = LetsGo-let_go c.requires.held c.let_go.ensures.sets c.
 
 pub returns-clause-falls : goal.returns-clause-falls
 returns-clause-falls g c = falls-let_go c.requires.held c.let_go.ensures.sets c.settle.ensures.settles.settles
-
-pub returns-clause-mild : goal.returns-clause-mild
-returns-clause-mild g c = Mild-trans (Mild-holds c.let_go.ensures.sets) (Mild-settle c.settle.ensures.settles.settles)
 
 pub returns-clause-one : goal.returns-clause-one
 unfolding IsRun-let_go

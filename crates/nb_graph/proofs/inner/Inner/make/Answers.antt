@@ -1,6 +1,4 @@
-use Rattle.nb_graph.proofs.AccountLemmas.{Joined-mild}
-use Rattle.nb_graph.proofs.MildLemmas.{Mild-holds}
-use Rattle.nb_graph.proofs.MakeLemmas.{Joined-add}
+use Rattle.nb_graph.proofs.LivedLemmas.{Lived-make}
 use Rattle.std.proofs.Common.{arith, refl, sym, subst, []}
 use Rattle.nb_graph.proofs.SeatLemmas.{made-seat, other-seat}
 use Rattle.nb_graph.proofs.GraphLemmas.{IsGraph-make, IsMade-make, KeepsRanks-make}
@@ -17,16 +15,9 @@ pub returns-clause-graph : goal.returns-clause-graph
 returns-clause-graph g c =
     IsGraph-make c.add-id.ensures.adds c.add-id.ensures.fresh c.hold.ensures.sets (omega arith) c.add-id.ensures.small c.add-id.ensures.manned c.requires.graph
 
-pub returns-clause-stands : goal.returns-clause-stands
-returns-clause-stands g c = λ n h.
+pub returns-clause-lived : goal.returns-clause-lived
+returns-clause-lived g c = λ now.
     let manned = rw c.add-id.ensures.nodes at c.add-id.ensures.manned in
-    let e = made-seat c.hold.new.self c.args.node c.requires.graph.manned c.add-id.ensures.adds manned c.add-id.ensures.place c.hold.ensures.sets.objects.same_place n (rw c.add-id.ensures.nodes at h) in
-    (subst (λ z. g.N.Node.stands z []) (sym e) c.requires.stands, refl)
-
-pub returns-clause-keeps : goal.returns-clause-keeps
-returns-clause-keeps g c = λ x t ne fit n h.
-    let manned = rw c.add-id.ensures.nodes at c.add-id.ensures.manned in
-    fit n (other-seat c.hold.new.self c.args.node c.requires.graph.manned c.add-id.ensures.adds manned c.add-id.ensures.place c.hold.ensures.sets.objects.same_place x n ne (rw c.add-id.ensures.nodes at h))
-
-pub returns-clause-bytes : goal.returns-clause-bytes
-returns-clause-bytes g c = λ p q a b bal e. Joined-mild (Mild-holds c.hold.ensures.sets) (Joined-add c.add-id.ensures.adds c.add-id.ensures.fresh c.add-id.ensures.serial (bal e))
+    Lived-make g.N.Node.stands _ now c.args.self.now.nodes.items _ _ _ _ c.add-id.result _ c.requires.room c.requires.serial c.add-id.ensures.serial c.add-id.ensures.fresh c.add-id.ensures.len c.add-id.ensures.adds c.hold.ensures.sets c.add-id.ensures.told c.hold.ensures.told c.add-id.ensures.step c.hold.ensures.step c.add-id.ensures.given c.hold.ensures.given
+    (λ t n h. let e = made-seat c.hold.new.self c.args.node c.requires.graph.manned c.add-id.ensures.adds manned c.add-id.ensures.place c.hold.ensures.sets.objects.same_place n (rw c.add-id.ensures.nodes at h) in (subst (λ z. g.N.Node.stands z []) (sym e) c.requires.stands, refl))
+    (λ x t ne fit n h. fit n (other-seat c.hold.new.self c.args.node c.requires.graph.manned c.add-id.ensures.adds manned c.add-id.ensures.place c.hold.ensures.sets.objects.same_place x n ne (rw c.add-id.ensures.nodes at h)))

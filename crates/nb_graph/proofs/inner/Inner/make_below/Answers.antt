@@ -3,6 +3,9 @@ use Rattle.std.proofs.Common.{◌≡◌, ℕ, ◌<◌, refl, ap, sym, ◌∙◌,
 use Rattle.std.proofs.lemmas.Bool.{false≢true}
 use Rattle.nb_ledger.specs.Ledger.{Ledger, live, busy, port, rank, place}
 use Rattle.nb_ledger.specs.Changes.{Adds}
+use Rattle.nb_ledger.specs.declared.event.GraphEvent.TheVariants.{Made, Plugged}
+use Rattle.nb_graph.specs.Scene.{IsFull, scene_of, state_at, after_noted}
+use Rattle.nb_graph.proofs.SceneLemmas.{roomy-below, scene-adds, scene-ports}
 use Rattle.nb_ledger.specs.declared.port.Port.{Port}
 use Rattle.nb_ledger.specs.GraphRun.{new_ports, port_but}
 use Rattle.nb_ledger.specs.declared.port.PortState.TheVariants.{Open, Linked}
@@ -47,9 +50,12 @@ returns-clause-lives g c = λ now.
     let more : c.add-id.new.self.nodes.items ≡ nodes ++ c.args.node ∷ [] = c.add-id.ensures.nodes in
     let same : (y : ℕ) → place c.plug.new.self y ≡ place c.add-id.new.self.book y = λ y. s.2.objects.same_place y ∙ s.1.objects.same_place y in
     let manned = rw more at c.add-id.ensures.manned in
+    let added : scene_of c.add-id.new.self.book ≡ after_noted (Made c.add-id.result (g.N.Node.kind_of c.args.node)) (scene_of c.args.self.now.book) = scene-adds c.add-id.result (g.N.Node.kind_of c.args.node) a c.add-id.ensures.len in
+    let seen : (p : Port) → state_at (scene_of c.add-id.new.self.book) p ≡ state_at (after_noted (Made c.add-id.result (g.N.Node.kind_of c.args.node)) (scene_of c.args.self.now.book)) p = λ p. ap (λ z. state_at z p) added in
+    let roomy : (IsFull (scene_of c.args.self.now.book) → ⊥) = roomy-below _ c.requires.room c.requires.serial in
     record {
-      lively = Lively-make _ _ _ _ _ _ _ c.args.at _ _ _ a c.add-id.ensures.fresh s.1 s.2 (still_open _ _ c.args.at _ _ a c.add-id.ensures.fresh c.requires.free) (fresh_open _ _ _ _ a) c.add-id.ensures.told c.add-id.ensures.step c.plug.ensures.told c.plug.ensures.step;
-      lives = rw more (Lives-make g.N.Node.stands now (busy c.args.self.now.book) _ _ c.add-id.result _ c.args.at (record { obj = c.add-id.result; slot = 0 }) c.args.node c.requires.stands (dead-busy _ _ c.add-id.ensures.fresh) (λ x k. s.2.port_set x k ∙ ap (λ h. port_but (record { obj = c.add-id.result; slot = 0 }) (Linked c.args.at) h x k) (λ i. λ y j. (s.1.port_set y j ∙ ap (λ h. port_but c.args.at (Linked (record { obj = c.add-id.result; slot = 0 })) h y j) (λ n. λ z m. a.port_set z m n)) i)) (Given-append _ _ _ _ _ c.add-id.ensures.given c.plug.ensures.given) (made-seat c.plug.new.self c.args.node c.requires.steady.manned a manned c.add-id.ensures.place same) (other-seat c.plug.new.self c.args.node c.requires.steady.manned a manned c.add-id.ensures.place same) (Livens-make _ _ _ _ _ c.args.at (record { obj = c.add-id.result; slot = 0 }) _ _ a c.add-id.ensures.fresh c.add-id.ensures.serial s.1 s.2 c.requires.free c.requires.slot refl c.plug.ensures.made.0 (another _ c.args.at _ c.add-id.ensures.fresh c.requires.free)) refl);
+      lively = Lively-make _ _ _ _ _ _ _ c.args.at _ _ _ c.add-id.ensures.serial a c.add-id.ensures.fresh s.1 s.2 (still_open _ _ c.args.at _ _ a c.add-id.ensures.fresh c.requires.free) (fresh_open _ _ _ _ a) c.add-id.ensures.told c.add-id.ensures.step c.plug.ensures.told c.plug.ensures.step;
+      lives = rw more (Lives-make g.N.Node.stands now (busy c.args.self.now.book) _ _ c.add-id.result _ c.args.at (record { obj = c.add-id.result; slot = 0 }) c.args.node c.requires.stands (dead-busy _ _ c.add-id.ensures.fresh) c.requires.free roomy c.add-id.ensures.serial (sym (seen c.args.at) ∙ still_open _ _ c.args.at _ _ a c.add-id.ensures.fresh c.requires.free) (sym (seen (record { obj = c.add-id.result; slot = 0 })) ∙ fresh_open _ _ _ _ a) (scene-ports s.1 s.2 ∙ ap (λ z. after_noted (Plugged c.args.at (record { obj = c.add-id.result; slot = 0 })) z) added) (Given-append _ _ _ _ _ c.add-id.ensures.given c.plug.ensures.given) (made-seat c.plug.new.self c.args.node c.requires.steady.manned a manned c.add-id.ensures.place same) (other-seat c.plug.new.self c.args.node c.requires.steady.manned a manned c.add-id.ensures.place same) (Livens-make _ _ _ _ _ c.args.at (record { obj = c.add-id.result; slot = 0 }) _ _ a c.add-id.ensures.fresh c.add-id.ensures.serial s.1 s.2 c.requires.free c.requires.slot refl c.plug.ensures.made.0 (another _ c.args.at _ c.add-id.ensures.fresh c.requires.free)) refl);
     }
 
 pub returns-clause-steady : goal.returns-clause-steady

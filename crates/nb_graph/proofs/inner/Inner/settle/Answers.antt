@@ -2,6 +2,8 @@ use Rattle.std.proofs.Common.{refl, sym, ◌∙◌, [], ◌∷◌}
 use Rattle.nb_ledger.specs.declared.event.GraphEvent.TheVariants.{Freed}
 use Rattle.nb_ledger.proofs.SettleLemmas.{Settles-free, Settles-stay}
 use Rattle.nb_graph.specs.Lives.{here}
+use Rattle.nb_graph.specs.Follows.{frees, keeps}
+use Rattle.nb_graph.proofs.SceneLemmas.{scene-removes}
 use Rattle.nb_graph.specs.Deeds.{Settles as Frees, stays}
 use Rattle.nb_ledger.proofs.RunLemmas.{Given-none}
 use Rattle.nb_graph.proofs.SeatLemmas.{Loses-refl}
@@ -19,7 +21,7 @@ returns-then-is_unused-clause-settles g c =
       gone = c.args.id ∷ [];
       frees = refl;
       loses = c.free.ensures.loses;
-      lives = λ now. Lives-plain g.N.Node.stands now _ _ (λ st. Frees c.args.id.0 ∷ st) here (Freed c.args.id) c.free.ensures.loses c.free.ensures.removes.port_set c.free.ensures.given (λ x t. refl) (λ st. refl) (Calms-plain _ _ _ (Freed c.args.id) (Mild-settle s) (λ p a. refl));
+      lives = λ now. Lives-plain g.N.Node.stands now _ _ (λ st. Frees c.args.id.0 ∷ st) here (Freed c.args.id) c.free.ensures.loses (scene-removes c.args.id c.free.ensures.removes c.free.ensures.len) c.free.ensures.given (λ x t. refl) (λ st ds s k. ([], frees c.args.id, k)) (Calms-plain _ _ _ (Freed c.args.id) (Mild-settle s) (λ p a. refl));
     }
 
 pub returns-else-is_unused-clause-settles : goal.returns-else-is_unused-clause-settles
@@ -29,5 +31,5 @@ returns-else-is_unused-clause-settles g c = record {
   gone = [];
   frees = refl;
   loses = Loses-refl _;
-  lives = λ now. Lives-turn g.N.Node.stands now _ _ (λ st. Frees c.args.id.0 ∷ st) here (stays c.args.id.0) (Given-none _) (λ st. refl) tt (Calms-turn _ _ _);
+  lives = λ now. Lives-turn g.N.Node.stands now _ _ (λ st. Frees c.args.id.0 ∷ st) here (stays c.args.id.0) (Given-none _) (λ st ds s k. ([], keeps c.args.id.0, k)) (Calms-turn _ _ _);
 }

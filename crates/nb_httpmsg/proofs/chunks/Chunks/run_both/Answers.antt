@@ -15,5 +15,5 @@ pub returns-clause-some : goal.returns-clause-some
 returns-clause-some c = λ unended room some.
     both_some c.run-took.result c.run.result (length c.args.first.now) (length c.args.second.now) c.run-took.ensures.within c.if-took-first.false (omega (arith, some, length-append c.args.first.now c.args.second.now))
     (λ e l. c.run.ensures.some
-        (subst (λ (r : Reader). is_open r.place ≡ true) (sym (c.run-took.ensures.none e)) unended)
-        (subst (λ (r : Reader). length r.block < 4096) (sym (c.run-took.ensures.none e)) room) l)
+    (subst (λ (r : Reader). is_open r.place ≡ true) (sym (c.run-took.ensures.none e)) unended)
+    (subst (λ (r : Reader). length r.block < 4096) (sym (c.run-took.ensures.none e)) room) l)

@@ -1,0 +1,38 @@
+-- What closes a run of the engine's machine closes its course.
+use Rattle.std.proofs.Common.{◌≡◌, List, [], ◌∷◌, ◌++◌, Some, None, cond, refl, sym, ap, subst}
+use Rattle.nb_defs.specs.Records.{In, Out, ended}
+use Rattle.nb_engine.specs.Machine.{Machine, Phase, Path, shutdown_records, stopped_cause}
+use Rattle.nb_engine.specs.Machine as lone
+use Rattle.nb_laws.specs.Agreement.{bare, AgreesPhase}
+use Rattle.nb_laws.proofs.Runs.{run_tells}
+use Rattle.nb_laws.proofs.Tellings.{same_number}
+use Rattle.nb_machine.specs.Lives.{close, exchange, Live}
+use Rattle.nb_machine.specs.Transfers.{closes}
+use Rattle.nb_machine.specs.States.{State}
+use Rattle.nb_machine.specs.Takings.{AllTake, all_have, is_over}
+use Rattle.nb_machine.specs.Courses.{Standing}
+use Rattle.nb_machine.specs.Closings.{AllClose, Shuts}
+use Rattle.nb_machine.specs.Carried.{live_of, Lives, StandsAs}
+use Rattle.nb_machine.proofs.Heard.{keeps_now}
+
+none_close : (s : State) → s.live ≡ [] → AllClose s []
+none_close s none = ([], subst (λ (ls : List Live). AllTake s.devices (close stopped_cause) ls [] [] []) (sym none) all_have)
+
+shuts_by : (phase : Phase) (p : Standing) (es : _) → AgreesPhase es phase → StandsAs phase p → Shuts p (shutdown_records phase)
+shuts_by lone.ready p es a same = subst (λ z. Shuts z []) (sym same) refl
+shuts_by (lone.running w s) p es a same = subst (λ z. Shuts z []) (sym same) ([], all_have)
+shuts_by (lone.waiting w s o) p es a (xs, here, same) =
+    let x = exchange (close stopped_cause) (bare w.net) (ended o.number stopped_cause ∷ []) in
+    let now : Lives o (xs ++ x ∷ []) = record { exchanged = closes o.entries xs (bare w.net) stopped_cause here.exchanged; meets = here.meets } in
+    subst (λ z. Shuts z (ended o.number stopped_cause ∷ [])) (sym same) (
+      _,
+      is_over (live_of o xs) [] [] (bare w.net) (ended o.number stopped_cause ∷ []) [] [] stopped_cause refl (keeps_now o (xs ++ x ∷ []) now a.1.begins)
+          (ap (λ b. cond b (Some stopped_cause) None) (same_number o.number)) all_have,
+    )
+shuts_by (lone.handing rest) p es a (s, none, same) = subst (λ z. Shuts z []) (sym same) (none_close s none)
+shuts_by (lone.left cause) p es a (s, none, same) = subst (λ z. Shuts z []) (sym same) (none_close s none)
+shuts_by lone.handed_off p es a (s, none, same) = subst (λ z. Shuts z []) (sym same) (none_close s none)
+shuts_by lone.stopped p es a (s, none, same) = subst (λ z. Shuts z []) (sym same) (none_close s none)
+
+pub shuts : (ins : List In) (outs : List Out) (m : Machine) (p : Standing) → Path ins outs m → StandsAs m.phase p → Shuts p (shutdown_records m.phase)
+shuts ins outs m p path same = let t = run_tells ins outs m path in shuts_by m.phase p t.events t.agrees same

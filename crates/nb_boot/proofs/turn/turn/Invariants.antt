@@ -1,0 +1,12 @@
+use Rattle.std.proofs.Common.{◌≡◌, ◌-◌, length}
+use Rattle.nb_boot.specs.Going.{KeepsRun}
+use Rattle.nb_boot.proofs.turn.turn.Given as goal
+
+-- whatever run went on before goes on, and its client is the same
+abbrev pub invariant-reads : goal.invariant-reads
+invariant-reads g l = KeepsRun l.fn.feed.bytes l.feed.bytes (g.L.Line.outside l.fn.line) (g.L.Line.outside l.line) l.fn.log l.log
+    × (l.client ≡ l.fn.client)
+
+-- a record has at most 131,076 bytes
+abbrev pub decreases-reads : goal.decreases-reads
+decreases-reads g l = 131076 - length l.feed.bytes

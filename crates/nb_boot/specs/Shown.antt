@@ -1,0 +1,132 @@
+-- What a call of `netboot` shows of the machine of many opens: records used, records written, and what its status says.
+use Rattle.std.specs.Prelude.{◌≡◌, ℕ, ◌<◌, ◌≤◌, ◌⊎◌, List, [], ◌∷◌, ◌++◌, length}
+use Rattle.nb_terms.specs.declared.cause.Cause.{Cause}
+use Rattle.nb_defs.specs.Records.{In, in_texts, IsPartial, IsBroken, Out, out_texts, done}
+use Rattle.nb_engine.specs.Machine.{status_of}
+use Rattle.nb_engine.specs.Honesty.{Honest, HandsFiles}
+use Rattle.nb_record.specs.Outside.{Outside, Passes, Rose, IsAtEnd}
+use Rattle.nb_engine.specs.declared.status.Status.{Status}
+use Rattle.nb_engine.specs.declared.status.Status.TheVariants as status
+use Rattle.nb_machine.specs.Courses.{Standing, ready, running, waiting, handing, left, handed_off, stopped, Progress, Course}
+use Rattle.nb_laws.specs.Events.{Event, IsHistory}
+use Rattle.nb_laws.specs.Lawful.{IsLawful}
+use Rattle.nb_machine.specs.States.{State}
+use Rattle.nb_machine.specs.Closings.{Shuts}
+use Rattle.nb_boot.specs.Run.{IsOther, IsFirst, BeginsWith}
+
+-- a command waits
+abbrev pub CommandWaits : Standing → Type 0
+CommandWaits ready = ⊥
+CommandWaits (running s script outer) = ⊥
+CommandWaits (waiting s w) = Unit {0}
+CommandWaits (handing s rest) = ⊥
+CommandWaits (left s outer cause) = ⊥
+CommandWaits (handed_off s) = ⊥
+CommandWaits (stopped s) = ⊥
+
+-- no step is under way, and the run isn't over: the next record may come
+abbrev pub MayGoOn : Standing → Type 0
+MayGoOn ready = Unit {0}
+MayGoOn (running s script outer) = ⊥
+MayGoOn (waiting s w) = Unit {0}
+MayGoOn (handing s rest) = ⊥
+MayGoOn (left s outer cause) = ⊥
+MayGoOn (handed_off s) = ⊥
+MayGoOn (stopped s) = ⊥
+
+-- After the records used no record may come. What is there begins none; or another than START comes first, or the
+-- input ended before START. Where a command waits: a second START comes, or the input ended inside a record.
+abbrev pub NoneMayCome : Standing → List ℕ → Outside → Type 0
+NoneMayCome ready rest o = IsBroken rest ⊎ (BeginsWith rest IsOther ⊎ (IsPartial rest × IsAtEnd o))
+NoneMayCome (waiting s w) rest o = IsBroken rest ⊎ (BeginsWith rest IsFirst ⊎ (IsPartial rest × (0 < length rest) × IsAtEnd o))
+NoneMayCome (running s script outer) rest o = ⊥
+NoneMayCome (handing s more) rest o = ⊥
+NoneMayCome (left s outer cause) rest o = ⊥
+NoneMayCome (handed_off s) rest o = ⊥
+NoneMayCome (stopped s) rest o = ⊥
+
+-- Why a run that has come here has ended, with what is left after the records used, and the number of its status.
+pub data EndsWhere (p : Progress) (rest : List ℕ) (o : Outside) (number : ℕ) : Type 0 where
+  -- the first script was left
+  was_left : (s : State) (cause : Cause) → p.standing ≡ left s [] cause → number ≡ status_of cause → EndsWhere p rest o number
+  -- all was handed off
+  was_handed : (s : State) → p.standing ≡ handed_off s → number ≡ 0 → EndsWhere p rest o number
+  -- the power was switched off
+  was_stopped : (s : State) → p.standing ≡ stopped s → number ≡ 5 → EndsWhere p rest o number
+  -- the input was used to its end, where a command waits
+  ran_out : CommandWaits p.standing → rest ≡ [] → IsAtEnd o → number ≡ 5 → EndsWhere p rest o number
+  -- no record may come
+  was_bad : p.used < 4294967295 → NoneMayCome p.standing rest o → number ≡ 6 → EndsWhere p rest o number
+  -- every record number was given, a command waits, and another byte follows
+  was_full : p.used ≡ 4294967295 → CommandWaits p.standing → 0 < length rest → number ≡ 11 → EndsWhere p rest o number
+
+-- What closes an output: nothing while the run goes on; where it has ended, the ends of the opens that live, and DONE
+-- with the run's status.
+pub data ClosedBy (p : Progress) (rest : List ℕ) (o : Outside) : List Out → Type 0 where
+  goes_on : ClosedBy p rest o []
+  has_ended : (number : ℕ) (put : List Out) → EndsWhere p rest o number → Shuts p.standing put → ClosedBy p rest o (put ++ done number ∷ [])
+
+-- The records used are those that the bytes read spell, up to a rest; the records written are the machine's course on
+-- them, with what closes it; the bytes taken are a prefix of their spelling.
+pub record Shown (before after : Outside) : Type 0 where
+  pub ins : List In
+  pub outs : List Out
+  pub progress : Progress
+  pub rest : List ℕ
+  pub closing : List Out
+  pub read : List ℕ
+  pub written : List ℕ
+  pub lost : List ℕ
+  pub passes : Passes before after read written
+  pub spelled : read ≡ in_texts ins ++ rest
+  pub course : Course ins outs progress
+  pub closed : ClosedBy progress rest after closing
+  pub texts : out_texts (outs ++ closing) ≡ written ++ lost
+  -- each record used has a number of 32 bits
+  pub few : length ins ≤ 4294967295
+  -- both lists have one history, and it is lawful
+  pub history : List Event
+  pub is_history : IsHistory ins outs history
+  pub is_lawful : IsLawful history
+
+-- the run has ended, for a cause of this number, and all was taken, DONE last
+pub record HasEnded (before after : Outside) (r : Shown before after) (number : ℕ) : Type 0 where
+  pub ends : EndsWhere r.progress r.rest after number
+  pub put : List Out
+  pub shuts : Shuts r.progress.standing put
+  pub closing : r.closing ≡ put ++ done number ∷ []
+  pub all : r.lost ≡ []
+
+-- a read failed between two steps: every whole record read was used, and their whole output was taken
+pub record WasUnread (before after : Outside) (r : Shown before after) : Type 0 where
+  pub between : MayGoOn r.progress.standing
+  pub partial : IsPartial r.rest
+  pub closing : r.closing ≡ []
+  pub all : r.lost ≡ []
+  pub rose : Rose before.read_faults after.read_faults
+
+-- Where servers send what they hold, each image handed off is, byte for byte, its server's file.
+abbrev pub HandsTrueFiles : (before after : Outside) → Shown before after → Type 0
+HandsTrueFiles before after r = (store : ℕ → List ℕ → List ℕ) → Honest store r.ins → HandsFiles store r.outs
+
+-- memory ran out: nothing closes the output, or some of it is missing
+abbrev pub LeftUnclosed : (before after : Outside) → Shown before after → Type 0
+LeftUnclosed before after r = (r.closing ≡ []) ⊎ (0 < length r.lost)
+
+-- What a status says of what is shown. The output ends with DONE, and is whole, where `HasEnded` stands; for no other.
+abbrev pub IsSaid : Status → (before after : Outside) → Shown before after → Type 0
+IsSaid status.HandedOff before after r = HasEnded before after r 0 × HandsTrueFiles before after r
+IsSaid status.Ended before after r = HasEnded before after r 3
+IsSaid status.ScriptFailed before after r = HasEnded before after r 4
+IsSaid status.Unfinished before after r = HasEnded before after r 5
+IsSaid status.BadRecord before after r = HasEnded before after r 6
+IsSaid status.TooManyRecords before after r = HasEnded before after r 11
+IsSaid status.ReadFault before after r = WasUnread before after r
+IsSaid status.WriteFault before after r = Rose before.write_faults after.write_faults × (0 < length r.lost)
+IsSaid status.NoMemory before after r = LeftUnclosed before after r
+IsSaid status.AttachFault before after r = (r.read ≡ []) × (r.written ≡ []) × (r.closing ≡ []) × Rose before.attach_faults after.attach_faults
+IsSaid status.BadWords before after r = ⊥
+
+-- a call shows a course of which its status is true
+abbrev pub ShowsCourse : Status → Outside → Outside → Type 0
+ShowsCourse s before after = (r : Shown before after) × IsSaid s before after r

@@ -1,0 +1,4 @@
+pub mod OptionLemmas
+pub mod FirstLemmas
+pub mod LeftLemmas
+pub mod MessageLemmas

@@ -1,0 +1,4 @@
+pub mod Options
+pub mod Messages
+pub mod Views
+pub mod Lefts

@@ -1,0 +1,47 @@
+// Messages cut in parts.
+ghost use Rattle.std.specs.Prelude.{◌≡◌, ◌+◌, ◌<◌, ◌≤◌, ◌++◌, length, [], ◌-◌};
+ghost use Rattle.nb_graph.specs.Trace.{said, said_behind, part};
+
+use nb_ledger::Msg;
+
+/// The message of an entry that has none.
+pub(crate) const NOTHING: Msg<'static> = Msg {
+    tag: 0,
+    rec: 0,
+    a: 0,
+    b: 0,
+    first: &[],
+    second: &[],
+};
+/// Bytes `from` to `to` of a message, in two parts.
+pub(crate) fn cut<'m>(msg: &Msg<'m>, from: u32, to: u32) -> (&'m [u8], &'m [u8])
+    requires order { from ≤ to }
+    requires within { to ≤ length msg.now.first.now + length msg.now.second.now }
+    ensures length { length result.0.now + length result.1.now ≡ to - from }
+    ensures bytes { result.0.now ++ result.1.now ≡ part (said msg.now).bytes from to }
+{
+    let seam = msg.first.len();
+    let from = from as usize;
+    let to = to as usize;
+    let first = &msg.first[from.min(seam)..to.min(seam)];
+    let second = &msg.second[from.saturating_sub(seam)..to.saturating_sub(seam)];
+    (first, second)
+}
+
+/// A message without its first `took` bytes.
+pub(crate) fn behind<'m>(msg: &Msg<'m>, took: usize) -> Msg<'m>
+    requires { took ≤ length msg.now.first.now + length msg.now.second.now }
+    ensures length { length result.first.now + length result.second.now + took ≡ length
+        msg.now.first.now + length msg.now.second.now }
+    ensures bytes { said result ≡ said_behind took (said msg.now) }
+{
+    let seam = msg.first.len();
+    Msg {
+        tag: msg.tag,
+        rec: msg.rec,
+        a: msg.a,
+        b: msg.b,
+        first: &msg.first[took.min(seam)..],
+        second: &msg.second[took.saturating_sub(seam)..],
+    }
+}

@@ -1,0 +1,315 @@
+-- The machine's images are those that the history says were brought.
+use Rattle.std.proofs.Common.{◌≡◌, ℕ, ◌-◌, ◌==◌, ◌&&◌, Bool, true, false, cond, List, [], ◌∷◌, ◌++◌, Option, Some, None, refl, sym, ◌∙◌, ap, subst, append_assoc, append-nil, length, if◌then◌else◌}
+use Rattle.std.specs.Prelude.{codes, unwrap_or}
+use Rattle.std.specs.List.{AllByRecursion, after_last}
+use Rattle.std.specs.Option.{option_map, option_map_or}
+use Rattle.std.specs.Str.{bytes_eq}
+use Rattle.std.proofs.lemmas.Option.{none-some, same_Some}
+use Rattle.std.proofs.lemmas.List.Sums.{fold-append}
+use Rattle.nb_terms.specs.declared.acts.Acts.{Acts}
+use Rattle.nb_terms.specs.declared.acts.SendTo.{SendTo}
+use Rattle.nb_terms.specs.declared.cause.Cause.{Cause}
+use Rattle.nb_defs.specs.Causes.{ok, usage, is_ok_cause}
+use Rattle.nb_defs.specs.Commands.{Outcome, outcome, refused, is_option}
+use Rattle.nb_defs.specs.Records.{Out, step, sent, text, command, result, script, opened, tried, advanced, ended, part, done}
+use Rattle.nb_stack.specs.Client.{Client}
+use Rattle.nb_uri.specs.Pieces.{is_slash}
+use Rattle.nb_uri.specs.Targets.{TftpTarget, tftp_target, is_too_long}
+use Rattle.nb_image.specs.declared.image.Image.{Image}
+use Rattle.nb_image.specs.declared.error.ImageError.{ImageError}
+use Rattle.nb_image.specs.Images.{ImageList, with_image, place_of, refusal}
+use Rattle.nb_image.specs.Kinds.{kind_of}
+use Rattle.nb_engine.specs.declared.world.World.{World}
+use Rattle.nb_engine.specs.World.{unbound}
+use Rattle.nb_engine.specs.Effects.{Wanted, Effect, says, asks, asked, fetch, effect, too_long_uri, full_opens, bad_uri}
+use Rattle.nb_engine.specs.Opens.{has_route, send_records, sends_records, acts_records, advance_records, try_records}
+use Rattle.nb_engine.specs.Conclusions.{Conclusion, keeps, fails, boots, conclusion, stored, taken_in, selected_in, place_for, is_bootable, not_bootable, conclusion_records, handoff_records}
+use Rattle.nb_engine.specs.Honesty.{IsNoPart, HaveNoParts}
+use Rattle.nb_engine.specs.Machine.{Running, prints, command_record, command_records, reply_records, phase_after}
+use Rattle.nb_engine.proofs.HandingLemmas.{all_append}
+use Rattle.nb_laws.specs.Events.{Event, starts, puts}
+use Rattle.nb_tftp.specs.Blocks.{is_whole}
+use Rattle.nb_laws.specs.Lists.{words_of, words_by, last_end, end_by, got, made}
+use Rattle.nb_laws.specs.HandOff.{last_segment, uri_of, came_ok, last_image, image_at, images_brought, image_list}
+use Rattle.nb_laws.specs.Agreement.{AgreesImages, IsSilent}
+use Rattle.nb_laws.proofs.Histories.{gathered_one}
+use Rattle.nb_laws.proofs.Tellings.{told}
+use Rattle.nb_laws.proofs.Calls.{IsUsed}
+
+-- a FRAME, a TRY or an ADVANCE
+pub IsOpens : Out → Type 0
+IsOpens (sent bytes) = Unit {0}
+IsOpens (tried number count) = Unit {0}
+IsOpens (advanced number place) = Unit {0}
+IsOpens (step number) = ⊥
+IsOpens (text bytes) = ⊥
+IsOpens (command depth line place expanded words) = ⊥
+IsOpens (result cause) = ⊥
+IsOpens (script what depth cause) = ⊥
+IsOpens (opened number kind server port own target) = ⊥
+IsOpens (ended number cause) = ⊥
+IsOpens (part kind index offset bytes) = ⊥
+IsOpens (done status) = ⊥
+
+abbrev pub AreOpens : List Out → Type 0
+AreOpens outs = AllByRecursion IsOpens outs
+
+more : (xs ys : List Out) → AreOpens xs → AreOpens ys → AreOpens (xs ++ ys)
+more xs ys p q = all_append IsOpens xs ys p q
+
+opens_try : (k : ℕ) (try : Option ℕ) → AreOpens (try_records k try)
+unfolding IsOpens
+opens_try k None = tt
+opens_try k (Some n) = (tt, tt)
+
+opens_send_by : (b : Bool) (xs : List Out) (bytes : List ℕ) → AreOpens xs → AreOpens (cond b (xs ++ (sent bytes ∷ [])) [])
+unfolding IsOpens
+opens_send_by true xs bytes p = more xs (sent bytes ∷ []) p (tt, tt)
+opens_send_by false xs bytes p = tt
+
+pub opens_send : (net : Client) (k : ℕ) (try : Option ℕ) (m : SendTo) → AreOpens (send_records net k try m)
+opens_send net k try m = opens_send_by (has_route net m) (try_records k try) _ (opens_try k try)
+
+opens_sends : (net : Client) (k : ℕ) (try : Option ℕ) (ms : List SendTo) → AreOpens (sends_records net k try ms)
+unfolding sends_records
+opens_sends net k try [] = tt
+opens_sends net k try (m ∷ []) = opens_send net k try m
+opens_sends net k try (m ∷ n ∷ ms) = more (send_records net k None m) (sends_records net k try (n ∷ ms)) (opens_send net k None m) (opens_sends net k try (n ∷ ms))
+
+opens_advance : (k : ℕ) (place : Option ℕ) → AreOpens (advance_records k place)
+unfolding IsOpens
+opens_advance k None = tt
+opens_advance k (Some place) = (tt, tt)
+
+pub opens_acts : (net : Client) (k : ℕ) (acts : Acts) → AreOpens (acts_records net k acts)
+unfolding acts_records
+opens_acts net k acts = more (advance_records k acts.advance) (sends_records net k acts.tried acts.sends.items) (opens_advance k acts.advance) (opens_sends net k acts.tried acts.sends.items)
+
+pub opens_reply : (bytes : List ℕ) → AreOpens (reply_records bytes)
+unfolding IsOpens
+opens_reply [] = tt
+opens_reply (b ∷ bytes) = (tt, tt)
+
+-- what such records leave as it was
+words_more : (es : List Event) (e : Event) → words_of (es ++ e ∷ []) ≡ words_by (words_of es) e
+unfolding words_of
+words_more es e = fold-append words_by None es (e ∷ [])
+
+pub brought_more : (es : List Event) (e : Event) → images_brought (es ++ e ∷ []) ≡ images_brought es ++ image_at es e
+unfolding images_brought
+brought_more es e = gathered_one image_at es e
+
+opens_words : (ws : Option (List (List ℕ))) (o : Out) → IsOpens o → words_by ws (puts o) ≡ ws
+unfolding IsOpens
+opens_words ws (sent bytes) h = refl
+opens_words ws (tried number count) h = refl
+opens_words ws (advanced number place) h = refl
+opens_words ws _ h = absurd h
+
+opens_image : (es : List Event) (o : Out) → IsOpens o → image_at es (puts o) ≡ []
+unfolding IsOpens
+opens_image es (sent bytes) h = refl
+opens_image es (tried number count) h = refl
+opens_image es (advanced number place) h = refl
+opens_image es _ h = absurd h
+
+opens_part : (o : Out) → IsOpens o → IsNoPart o
+unfolding IsOpens
+opens_part (part kind index offset bytes) h = absurd h
+opens_part _ h = tt
+
+pub opens_parts : (outs : List Out) → AreOpens outs → HaveNoParts outs
+opens_parts [] h = tt
+opens_parts (o ∷ outs) h = (opens_part o h.0, opens_parts outs h.1)
+
+pub opens_keep : (es : List Event) (outs : List Out) → AreOpens outs → (words_of (es ++ told outs) ≡ words_of es) × (images_brought (es ++ told outs) ≡ images_brought es)
+opens_keep es [] h = (ap words_of (append-nil es), ap images_brought (append-nil es))
+opens_keep es (o ∷ outs) h =
+    let rest = opens_keep (es ++ puts o ∷ []) outs h.1 in
+    let e : es ++ told (o ∷ outs) ≡ (es ++ puts o ∷ []) ++ told outs = sym (append_assoc es (puts o ∷ []) (told outs)) in (
+      ap words_of e ∙ rest.0 ∙ words_more es (puts o) ∙ opens_words (words_of es) o h.0,
+      ap images_brought e ∙ rest.1 ∙ brought_more es (puts o) ∙ ap (λ z. images_brought es ++ z) (opens_image es o h.0) ∙ append-nil (images_brought es),
+    )
+
+-- a record is used
+used_words : (ws : Option (List (List ℕ))) (e : Event) → IsUsed e → words_by ws e ≡ ws
+used_words ws (puts o) h = absurd h
+used_words ws (starts n s) h = refl
+used_words ws _ h = refl
+
+used_image : (es : List Event) (e : Event) → IsUsed e → image_at es e ≡ []
+used_image es (puts o) h = absurd h
+used_image es (starts n s) h = refl
+used_image es _ h = refl
+
+pub used_keep : (es : List Event) (e : Event) → IsUsed e → (words_of (es ++ e ∷ []) ≡ words_of es) × (images_brought (es ++ e ∷ []) ≡ images_brought es)
+used_keep es e h = (
+  words_more es e ∙ used_words (words_of es) e h,
+  brought_more es e ∙ ap (λ z. images_brought es ++ z) (used_image es e h) ∙ append-nil (images_brought es),
+)
+
+-- a record that brings no image, by its kind
+pub one_keeps : (es : List Event) (o : Out) → image_at es (puts o) ≡ [] → images_brought (es ++ puts o ∷ []) ≡ images_brought es
+one_keeps es o none = brought_more es (puts o) ∙ ap (λ z. images_brought es ++ z) none ∙ append-nil (images_brought es)
+
+pub words_now : (es : List Event) (s : Running) (ws : List (List ℕ)) → words_of (es ++ puts (command_record s ws) ∷ []) ≡ Some ws
+words_now es s ws = words_more es (puts (command_record s ws))
+
+pub words_kept : (es : List Event) (e : Event) (ws : Option (List (List ℕ))) → words_by (words_of es) e ≡ ws → words_of (es ++ e ∷ []) ≡ ws
+words_kept es e ws is = words_more es e ∙ is
+
+-- a command that is over at once brings no image
+pub last_end_more : (es : List Event) (e : Event) → last_end (es ++ e ∷ []) ≡ end_by (last_end es) e
+unfolding last_end
+last_end_more es e = fold-append end_by None es (e ∷ [])
+
+and_none : (a b : Bool) (x : Option Cause) (images : List Image) → x ≡ None → (if a && (came_ok x && b) then images else []) ≡ []
+and_none true b x images e = ap (λ z. cond (came_ok z && b) images []) e
+and_none false b x images e = refl
+
+no_image : (es : List Event) (cause : Cause) → last_end es ≡ None → image_at es (puts (result cause)) ≡ []
+no_image es cause e = and_none (is_ok_cause cause) (is_whole (got (made es - 1) es)) (last_end es) (last_image es) e
+
+pub command_keeps : (es : List Event) (s : Running) (ws : List (List ℕ)) (o : Outcome) → images_brought (es ++ told (command_records s ws o)) ≡ images_brought es
+command_keeps es s ws o = by o.prints
+  where
+    by : (p : Option (List ℕ)) → images_brought (es ++ told ((command_record s ws ∷ []) ++ prints p ++ (result o.cause ∷ []))) ≡ images_brought es
+    by None =
+        let e = puts (command_record s ws) in
+        ap images_brought (sym (append_assoc es (e ∷ []) (puts (result o.cause) ∷ [])))
+        ∙ one_keeps (es ++ e ∷ []) (result o.cause) (no_image (es ++ e ∷ []) o.cause (last_end_more es e)) ∙ one_keeps es (command_record s ws) refl
+    by (Some bytes) =
+        let e = puts (command_record s ws) in
+        let es1 = es ++ e ∷ [] in
+        let es2 = es1 ++ puts (text bytes) ∷ [] in
+        ap images_brought (sym (append_assoc es (e ∷ []) (puts (text bytes) ∷ puts (result o.cause) ∷ [])) ∙ sym (append_assoc es1 (puts (text bytes) ∷ []) (puts (result o.cause) ∷ [])))
+        ∙ one_keeps es2 (result o.cause) (no_image es2 o.cause (last_end_more es1 (puts (text bytes)) ∙ last_end_more es e))
+        ∙ one_keeps es1 (text bytes) refl ∙ one_keeps es (command_record s ws) refl
+
+no_prints : (p : Option (List ℕ)) → HaveNoParts (prints p)
+no_prints None = tt
+no_prints (Some bytes) = (tt, tt)
+
+pub parts_more : (xs ys : List Out) → HaveNoParts xs → HaveNoParts ys → HaveNoParts (xs ++ ys)
+parts_more xs ys p q = all_append IsNoPart xs ys p q
+
+pub no_command : (s : Running) (ws : List (List ℕ)) (o : Outcome) → HaveNoParts (command_records s ws o)
+no_command s ws o =
+    parts_more ((command_record s ws ∷ []) ++ prints o.prints) (result o.cause ∷ []) (parts_more (command_record s ws ∷ []) (prints o.prints) (tt, tt) (no_prints o.prints)) (tt, tt)
+
+no_conclusion : (depth : ℕ) (c : Conclusion) → HaveNoParts (conclusion_records depth c)
+no_conclusion depth (keeps list) = (tt, tt)
+no_conclusion depth (fails cause) = (tt, (tt, tt))
+no_conclusion depth (boots list kernel) = (tt, tt)
+
+-- what a conclusion does to the list
+IsAfter : Cause → Image → ImageList → Conclusion → Type 0
+IsAfter cause image list (keeps new) = (is_ok_cause cause ≡ true) × (new.images ≡ with_image image list.images)
+IsAfter cause image list (fails c) = Unit {0}
+IsAfter cause image list (boots new kernel) = (is_ok_cause cause ≡ true) × (new.images ≡ with_image image list.images) × (kernel ≡ place_for image list)
+
+taken_after : (c : Cause) (booting : Bool) (image : Image) (list : ImageList) → is_ok_cause c ≡ true → IsAfter c image list (taken_in booting image list)
+unfolding IsAfter
+taken_after c false image list e = (e, refl)
+taken_after c true image list e = by (is_bootable (kind_of image.body))
+  where
+    by : (b : Bool) → IsAfter c image list (cond b (boots (selected_in image list) (place_for image list)) (fails not_bootable))
+    by true = (e, refl, refl)
+    by false = tt
+
+stored_after : (c : Cause) (x : Option ImageError) (booting : Bool) (image : Image) (list : ImageList) → is_ok_cause c ≡ true → IsAfter c image list (stored x booting image list)
+unfolding IsAfter
+stored_after c (Some x) booting image list e = tt
+stored_after c None booting image list e = taken_after c booting image list e
+
+conclusion_after : (c : Cause) (booting : Bool) (image : Image) (list : ImageList) → IsAfter c image list (conclusion c booting image list)
+unfolding IsAfter
+conclusion_after c booting image list = by (is_ok_cause c) refl
+  where
+    by : (b : Bool) → is_ok_cause c ≡ b → IsAfter c image list (cond b (stored (refusal image list.images) booting image list) (fails c))
+    by true e = stored_after c (refusal image list.images) booting image list e
+    by false e = tt
+
+listed_more : (images : List Image) (image : Image) → image_list (images ++ image ∷ []) ≡ with_image image (image_list images)
+listed_more images image = fold-append (λ (list : List Image) (i : Image). with_image i list) [] images (image ∷ [])
+
+-- RESULT Ok after an end that was Ok brings the last open's image
+result_brings : (es : List Event) (cause : Cause) (image : Image) → last_end es ≡ Some cause → is_ok_cause cause ≡ true → is_whole (got (made es - 1) es) ≡ true → last_image es ≡ image ∷ [] → images_brought (es ++ puts (result ok) ∷ []) ≡ images_brought es ++ image ∷ []
+result_brings es cause image end is whole last =
+    brought_more es (puts (result ok)) ∙ ap (λ z. images_brought es ++ cond (came_ok z && is_whole (got (made es - 1) es)) (last_image es) []) end
+    ∙ ap (λ b. images_brought es ++ cond (b && is_whole (got (made es - 1) es)) (last_image es) []) is ∙ ap (λ b. images_brought es ++ cond b (last_image es) []) whole ∙ ap (λ z. images_brought es ++ z) last
+
+by_conclusion : (es : List Event) (outs : List Out) (w : World) (own : ℕ) (s : Running) (cause : Cause) (image : Image) (c : Conclusion) → IsAfter cause image w.images c →
+    last_end es ≡ Some cause → (is_ok_cause cause ≡ is_whole (got (made es - 1) es)) → last_image es ≡ image ∷ [] → w.images.images ≡ image_list (images_brought es) → HaveNoParts outs →
+    AgreesImages (es ++ told (conclusion_records s.depth c)) (outs ++ conclusion_records s.depth c) (phase_after (unbound w own) s c)
+unfolding IsAfter
+by_conclusion es outs w own s cause image (keeps new) h end whole last is none =
+    let all = result_brings es cause image end h.0 (sym whole ∙ h.0) last in (
+      h.1 ∙ ap (λ z. with_image image z) is ∙ sym (ap image_list all ∙ listed_more (images_brought es) image),
+      parts_more outs (result ok ∷ []) none (tt, tt),
+    )
+by_conclusion es outs w own s cause image (fails c) h end whole last is none = parts_more outs (conclusion_records s.depth (fails c)) none (tt, (tt, tt))
+by_conclusion es outs w own s cause image (boots new kernel) h end whole last is none =
+    let all = result_brings es cause image end h.0 (sym whole ∙ h.0) last in
+    let list : new.images ≡ image_list (images_brought es ++ image ∷ []) = h.1 ∙ ap (λ z. with_image image z) is ∙ sym (listed_more (images_brought es) image) in
+    let place : kernel ≡ place_for image (record { images = image_list (images_brought es); selected = None }) = h.2 ∙ ap (λ z. unwrap_or (place_of image.name z) (length z)) is in
+    record {
+      earlier = images_brought es;
+      last = image;
+      all = all;
+      before = outs ++ result ok ∷ [];
+      none = parts_more outs (result ok ∷ []) none (tt, tt);
+      ends = ap (λ z. (outs ++ result ok ∷ []) ++ handoff_records z new.images) place
+          ∙ ap (λ z. (outs ++ result ok ∷ []) ++ handoff_records (place_for image (record { images = image_list (images_brought es); selected = None })) z) list;
+    }
+
+pub concluded_images : (es : List Event) (outs : List Out) (w : World) (own : ℕ) (s : Running) (cause : Cause) (booting : Bool) (image : Image) → last_end es ≡ Some cause →
+    (is_ok_cause cause ≡ is_whole (got (made es - 1) es)) → last_image es ≡ image ∷ [] → w.images.images ≡ image_list (images_brought es) → HaveNoParts outs →
+    AgreesImages (es ++ told (conclusion_records s.depth (conclusion cause booting image w.images))) (outs ++ conclusion_records s.depth (conclusion cause booting image w.images))
+    (phase_after (unbound w own) s (conclusion cause booting image w.images))
+concluded_images es outs w own s cause booting image end whole last is none =
+    by_conclusion es outs w own s cause image (conclusion cause booting image w.images) (conclusion_after cause booting image w.images) end whole last is none
+
+-- a command's URI and its image's name
+abbrev IsAskedBy : List ℕ → Effect → Type 0
+IsAskedBy uri (says o) = Unit {0}
+IsAskedBy uri (asks wanted) = (uri ≡ wanted.uri) × (wanted.target.name ≡ last_segment wanted.target.path)
+
+either_asks : (uri : List ℕ) (t : Bool) (a b : Effect) → IsAskedBy uri a → IsAskedBy uri b → IsAskedBy uri (cond t a b)
+either_asks uri true a b p q = p
+either_asks uri false a b p q = q
+
+target_named : (b : Bool) (server : Option ℕ) (path : List ℕ) (t : TftpTarget) → cond b (option_map (λ s. record { server = s; path = path; name = after_last is_slash path }) server) None ≡ Some t → t.name ≡ last_segment t.path
+target_named true None path t e = absurd (none-some t e)
+target_named true (Some s) path t e = let same = same_Some _ t e in ap (λ (x : TftpTarget). x.name) (sym same) ∙ ap (λ (x : TftpTarget). last_segment x.path) same
+target_named false server path t e = absurd (none-some t e)
+
+target_asks : (opens : ℕ) (booting : Bool) (uri : List ℕ) (o : Option TftpTarget) → tftp_target uri ≡ o → IsAskedBy uri (option_map_or (asked opens booting uri) o (says (refused bad_uri)))
+target_asks opens booting uri None e = tt
+target_asks opens booting uri (Some target) e =
+    either_asks uri (is_too_long target) (says (refused too_long_uri)) _ tt
+    (either_asks uri (opens == 16384) (says (refused full_opens)) (asks (record { uri = uri; target = target; boots = booting })) tt (refl, target_named _ _ _ target e))
+
+fetch_asks : (name : List ℕ) (opens : ℕ) (booting : Bool) (args : List (List ℕ)) → IsAskedBy (uri_of (Some (name ∷ args))) (fetch opens booting args)
+unfolding fetch
+fetch_asks name opens booting [] = tt
+fetch_asks name opens booting (uri ∷ []) =
+    either_asks uri (is_option uri) (says (refused usage)) (option_map_or (asked opens booting uri) (tftp_target uri) (says (refused bad_uri))) tt (target_asks opens booting uri (tftp_target uri) refl)
+fetch_asks name opens booting (uri ∷ w ∷ ws) = tt
+
+effect_asks : (opens : ℕ) (ws : List (List ℕ)) → IsAskedBy (uri_of (Some ws)) (effect opens ws)
+unfolding effect
+effect_asks opens [] = tt
+effect_asks opens (name ∷ args) =
+    let uri = uri_of (Some (name ∷ args)) in
+    either_asks uri (bytes_eq name (codes "imgfetch")) (fetch opens false args) _ (fetch_asks name opens false args)
+    (either_asks uri (bytes_eq name (codes "imgexec")) (fetch opens true args) (says (outcome (name ∷ args))) (fetch_asks name opens true args) tt)
+
+pub asks_named : (opens : ℕ) (ws : List (List ℕ)) (wanted : Wanted) → effect opens ws ≡ asks wanted → (uri_of (Some ws) ≡ wanted.uri) × (wanted.target.name ≡ last_segment wanted.target.path)
+asks_named opens ws wanted e = subst (IsAskedBy (uri_of (Some ws))) e (effect_asks opens ws)
+
+-- no image comes but with a RESULT
+pub silent_image : (es : List Event) (o : Out) → IsSilent o → image_at es (puts o) ≡ []
+silent_image es (result cause) h = absurd h
+silent_image es (step number) h = refl
+silent_image es _ h = refl

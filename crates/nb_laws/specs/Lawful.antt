@@ -1,0 +1,32 @@
+-- What holds of the history of each run.
+use Rattle.std.specs.Prelude.{◌⊎◌, List, []}
+use Rattle.nb_defs.specs.Records.{Out}
+use Rattle.nb_engine.specs.Honesty.{HaveNoParts}
+use Rattle.nb_laws.specs.Events.{Event, outputs, EachEvent, EachThen}
+use Rattle.nb_laws.specs.Endings.{EndsSo}
+use Rattle.nb_laws.specs.Frames.{WritesSo, TriesSo}
+use Rattle.nb_laws.specs.HandOff.{HandsOff}
+use Rattle.nb_laws.specs.Progress.{StepsSo, AdvancesSo, IsAdvanced, NoneIsWhole}
+
+-- the PARTs are those of the hand-off, or there are none
+abbrev pub HandsAsBrought : List Event → List Out → Type 0
+HandsAsBrought es outs = HaveNoParts outs ⊎ ((rest : List Out) × HandsOff es outs rest)
+
+pub record IsLawful (es : List Event) : Type 0 where
+  -- each STEP has its record's place among those used, and no live open's file is whole when a record is used
+  pub steps : EachEvent StepsSo [] es
+  -- each ENDED has its cause in the records so far, and is Ok exactly where the open's file is whole
+  pub ends : EachEvent EndsSo [] es
+  -- each RESULT has its cause in the records so far; each FRAME is a reply to its step's record, once, a message that a live
+  -- open may send, or the ARP request for its next hop; no DONE stands before the end
+  pub writes : EachEvent WritesSo [] es
+  -- each TRY has its FRAME, or the ARP request for its next hop, directly after it
+  pub tries : EachThen TriesSo [] es
+  -- an ADVANCE stands exactly where an open's file has grown by a block, before anything else
+  pub advances : EachEvent AdvancesSo [] es
+  -- after the last record, too, no ADVANCE is missing
+  pub advanced : IsAdvanced es
+  -- and no live open's file is whole: it ended in that step
+  pub unfinished : NoneIsWhole es
+  -- all PARTs are the hand-off's, of the images that the opens whose ENDED is Ok have brought, the last one of each name
+  pub parts : HandsAsBrought es (outputs es)

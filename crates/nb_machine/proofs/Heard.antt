@@ -1,0 +1,135 @@
+-- A datagram or a time comes to the one open that lives.
+use Rattle.std.proofs.Common.{◌≡◌, ℕ, true, cond, List, [], ◌∷◌, ◌++◌, Some, None, refl, sym, ◌∙◌, ap, subst, append-nil, option_map}
+use Rattle.nb_terms.specs.declared.cause.Cause.{Cause}
+use Rattle.nb_terms.specs.declared.acts.Acts.{Acts}
+use Rattle.nb_defs.specs.Records.{In, Out, ended}
+use Rattle.nb_image.specs.Images.{image_of}
+use Rattle.nb_tftp.specs.Blocks.{file}
+use Rattle.nb_tftp.specs.History.{Call, entry, got}
+use Rattle.nb_tftp.specs.Sentences.{Meets}
+use Rattle.nb_tftp.proofs.PlainLaws.{asks_last}
+use Rattle.nb_tftp.proofs.TryLaws.{call_sends}
+use Rattle.nb_engine.specs.declared.world.World.{World}
+use Rattle.nb_engine.specs.World.{unbound}
+use Rattle.nb_engine.specs.Opens.{Open, with_entry, body_of, has_route, request_of, acts_records, end_of}
+use Rattle.nb_engine.specs.Conclusions.{Conclusion, keeps, fails, boots, conclusion, conclusion_records}
+use Rattle.nb_engine.specs.Machine.{Running, Phase, Hears, goes_on, is_over, phase_after, concluded}
+use Rattle.nb_laws.specs.Agreement.{bare, opening_of}
+use Rattle.nb_laws.specs.Frames.{begun_by}
+use Rattle.nb_laws.proofs.Asides.{aside_acts}
+use Rattle.nb_laws.proofs.Tellings.{same_number}
+use Rattle.nb_machine.specs.Lives.{Exchange, exchange, continued, Live}
+use Rattle.nb_machine.specs.Transfers.{arrival_of, end_records, transfer_records, takes, KeepsTransfer}
+use Rattle.nb_machine.specs.Takings.{Over, AllTake, all_have, lives_on}
+use Rattle.nb_machine.specs.Takings as takings
+use Rattle.nb_machine.specs.Scripts.{fetch, answer, Answer, by_end, answer_in, concluded_by}
+use Rattle.nb_machine.specs.Courses.{waiting, led_to}
+use Rattle.nb_machine.specs.Carried.{live_of, state_in, waiting_in, Lives, StandsAs}
+use Rattle.nb_machine.proofs.Told.{routed, end_put, all_came}
+
+-- where an answer comes: it, the records and where they lead
+pub record Answered (w : World) (s : Running) (o : Open) (r : In) (added put : List Out) (after : List Live) (over : List Over) (phase : Phase) : Type 0 where
+  pub given : Answer
+  pub is_given : answer_in (state_in w after) r over (answer o.number) ≡ Some given
+  pub records : added ≡ put ++ conclusion_records s.depth (concluded_by (state_in w after) (fetch o.wanted) given)
+  pub leads : StandsAs phase (led_to (state_in w after) s [] (concluded_by (state_in w after) (fetch o.wanted) given))
+
+-- where none does
+pub record Unanswered (w : World) (s : Running) (o : Open) (r : In) (added put : List Out) (after : List Live) (over : List Over) (phase : Phase) : Type 0 where
+  pub none : answer_in (state_in w after) r over (answer o.number) ≡ None
+  pub records : added ≡ put
+  pub leads : StandsAs phase (waiting (state_in w after) (waiting_in s o))
+
+pub data Result (w : World) (s : Running) (o : Open) (r : In) (added put : List Out) (after : List Live) (over : List Over) (phase : Phase) : Type 0 where
+  waits_on : Unanswered w s o r added put after over phase → Result w s o r added put after over phase
+  is_answered : Answered w s o r added put after over phase → Result w s o r added put after over phase
+
+-- what it is for the machine of many opens
+pub record Taking (w : World) (s : Running) (o : Open) (xs : List Exchange) (r : In) (call : Call) (added : List Out) (phase : Phase) : Type 0 where
+  pub put : List Out
+  pub after : List Live
+  pub over : List Over
+  pub take : AllTake (bare w.net ∷ []) (arrival_of call) (live_of o xs ∷ []) put after over
+  pub result : Result w s o r added put after over phase
+
+-- the exchange that a call becomes
+abbrev exchanged_by : World → Open → Call → Acts → Exchange
+exchanged_by w o call acts = exchange (arrival_of call) (bare w.net) (transfer_records o.number o.begun.server.0 (bare w.net) (file (got (o.entries ++ entry call acts ∷ []))) acts)
+
+lives_more : (w : World) (o : Open) (xs : List Exchange) (call : Call) (acts : Acts) → Lives o xs → Meets o.begun o.start (o.entries ++ entry call acts ∷ []) →
+    Lives (with_entry o (entry call acts)) (xs ++ exchanged_by w o call acts ∷ [])
+lives_more w o xs call acts lives meets = record { exchanged = takes o.entries xs (bare w.net) call acts lives.exchanged; meets = meets }
+
+pub keeps_now : (o : Open) (xs : List Exchange) → Lives o xs → o.begun ≡ begun_by (opening_of o) → KeepsTransfer (live_of o xs)
+keeps_now o xs lives begins = record {
+  entries = o.entries;
+  exchanged = lives.exchanged;
+  meets = subst (λ b. Meets b o.start o.entries) begins lives.meets;
+}
+
+-- the end of an exchange with a message each of which finds a route
+puts : (w : World) (o : Open) (call : Call) (acts : Acts) → Meets o.begun o.start (o.entries ++ entry call acts ∷ []) → has_route w.net (request_of o.begun) ≡ true →
+    (exchanged_by w o call acts).put ≡ acts_records w.net o.number acts ++ end_records o.number (end_of (body_of (with_entry o (entry call acts))) acts)
+puts w o call acts meets route =
+    let so = asks_last o.begun o.start o.entries (entry call acts) meets in
+    routed w.net o.number o.begun.server.0 o.begun (file (got (o.entries ++ entry call acts ∷ []))) acts (call_sends o.begun o.entries call acts so) route
+
+end_is : (w : World) (o : Open) (call : Call) (acts : Acts) (x : _) → (exchanged_by w o call acts).put ≡ acts_records w.net o.number acts ++ end_records o.number (end_of (body_of (with_entry o (entry call acts))) acts) →
+    end_of (body_of (with_entry o (entry call acts))) acts ≡ x → takings.end_among o.number (exchanged_by w o call acts).put ≡ x
+end_is w o call acts x put e =
+    ap (λ z. takings.end_among o.number z) put
+    ∙ end_put o.number (acts_records w.net o.number acts) (end_of (body_of (with_entry o (entry call acts))) acts) (aside_acts w.net o.number acts)
+    ∙ e
+
+-- the image is made of what was fetched
+concluded_so : (w : World) (o : Open) (xs : List Exchange) (cause : Cause) → Lives o xs →
+    concluded w o cause ≡ concluded_by (state_in w []) (fetch o.wanted) (by_end (record { live = live_of o xs; cause = cause }))
+concluded_so w o xs cause lives =
+    ap (λ gs. conclusion cause o.wanted.boots (image_of o.wanted.target.name (file gs) [] o.wanted.uri) w.images) (sym (all_came o.number o.begun.server.0 o.entries xs lives.exchanged))
+
+leads : (w : World) (own : ℕ) (s : Running) (c : Conclusion) → StandsAs (phase_after (unbound w own) s c) (led_to (state_in w []) s [] c)
+leads w own s (keeps list) = refl
+leads w own s (fails cause) = (state_in w [], refl, refl)
+leads w own s (boots list kernel) = (_, refl, refl)
+
+pub heard : (w : World) (s : Running) (o : Open) (xs : List Exchange) (r : In) (call : Call) (added : List Out) (phase : Phase) → Hears w s o call added phase → Lives o xs →
+    has_route w.net (request_of o.begun) ≡ true → o.begun ≡ begun_by (opening_of o) → Taking w s o xs r call added phase
+heard w s o xs r call added phase (goes_on _ _ _ _ acts meets none) lives route begins =
+    let e = entry call acts in
+    let x = exchanged_by w o call acts in
+    let more = lives_more w o xs call acts lives meets in
+    let put = puts w o call acts meets route in
+    record {
+      put = x.put ++ [];
+      after = continued (live_of o xs) x ∷ [];
+      over = [];
+      take = lives_on (live_of o xs) [] [] (bare w.net) x.put [] [] refl (keeps_now (with_entry o e) (xs ++ x ∷ []) more begins) (end_is w o call acts None put none) all_have;
+      result = waits_on (record {
+        none = refl;
+        records = sym (append-nil x.put ∙ put ∙ ap (λ z. acts_records w.net o.number acts ++ end_records o.number z) none ∙ append-nil (acts_records w.net o.number acts));
+        leads = (xs ++ x ∷ [], more, refl);
+      });
+    }
+heard w s o xs r call added phase (is_over _ _ _ _ acts cause meets over) lives route begins =
+    let e = entry call acts in
+    let x = exchanged_by w o call acts in
+    let more = lives_more w o xs call acts lives meets in
+    let put = puts w o call acts meets route in
+    let l = continued (live_of o xs) x in
+    let gone : Over = record { live = l; cause = cause } in
+    let so = concluded_so w (with_entry o e) (xs ++ x ∷ []) cause more in
+    let told : x.put ++ [] ≡ acts_records w.net o.number acts ++ (ended o.number cause ∷ []) = append-nil x.put ∙ put ∙ ap (λ z. acts_records w.net o.number acts ++ end_records o.number z) over in
+    record {
+      put = x.put ++ [];
+      after = [];
+      over = gone ∷ [];
+      take = takings.is_over (live_of o xs) [] [] (bare w.net) x.put [] [] cause refl (keeps_now (with_entry o e) (xs ++ x ∷ []) more begins) (end_is w o call acts (Some cause) put over) all_have;
+      result = is_answered (record {
+        given = by_end gone;
+        is_given = ap (λ b. option_map by_end (cond b (Some gone) None)) (same_number o.number);
+        records =
+            ap (λ z. z ++ conclusion_records s.depth (concluded w (with_entry o e) cause)) (sym told)
+            ∙ ap (λ c. (x.put ++ []) ++ conclusion_records s.depth c) so;
+        leads = subst (λ c. StandsAs (phase_after (unbound w o.begun.own_port) s (concluded w (with_entry o e) cause)) (led_to (state_in w []) s [] c)) so (leads w o.begun.own_port s (concluded w (with_entry o e) cause));
+      });
+    }

@@ -1,0 +1,10 @@
+pub mod Lives
+pub mod Transfers
+pub mod Kinds
+pub mod States
+pub mod Takings
+pub mod Network
+pub mod Scripts
+pub mod Courses
+pub mod Closings
+pub mod Carried

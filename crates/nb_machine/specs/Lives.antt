@@ -1,0 +1,52 @@
+-- An open that lives: what its OPEN says, and all that came to it since, with what it put then.
+use Rattle.std.specs.Prelude.{ℕ, List, [], ◌∷◌, ◌++◌}
+use Rattle.nb_terms.specs.declared.cause.Cause.{Cause}
+use Rattle.nb_defs.specs.Records.{Out, opened, ended}
+use Rattle.nb_stack.specs.Client.{Client}
+
+-- what is opened
+pub data OpenKind : Type 0 where
+  -- a file by TFTP (RFC 1350)
+  tftp : OpenKind
+
+-- the number of a kind in an OPEN record
+abbrev pub kind_number : OpenKind → ℕ
+kind_number tftp = 1
+
+-- what comes to an open: a message in the record of this number, from this port; a time; a close from above
+pub data Arrival : Type 0 where
+  message : (rec port : ℕ) (body : List ℕ) (now : ℕ) → Arrival
+  time : (now : ℕ) → Arrival
+  close : (cause : Cause) → Arrival
+
+-- what came, the client as it was then, and the records that the open put
+pub record Exchange : Type 0 where
+  pub came : Arrival
+  pub link : Client
+  pub put : List Out
+
+-- an open, from the OPEN that told it, on this device, at this time
+pub record Live : Type 0 where
+  pub number : ℕ
+  pub kind : OpenKind
+  pub device : ℕ
+  pub server : ℕ
+  pub port : ℕ
+  pub own : ℕ
+  pub target : List ℕ
+  pub since : ℕ
+  pub exchanges : List Exchange
+
+abbrev pub exchange : Arrival → Client → List Out → Exchange
+exchange came link put = record { came = came; link = link; put = put }
+
+-- with one exchange more
+abbrev pub continued : Live → Exchange → Live
+continued l x = record l { exchanges = l.exchanges ++ x ∷ [] }
+
+-- its OPEN and its ENDED
+abbrev pub open_record : Live → Out
+open_record l = opened l.number (kind_number l.kind) l.server l.port l.own l.target
+
+abbrev pub end_record : Live → Cause → Out
+end_record l cause = ended l.number cause

@@ -1,0 +1,41 @@
+-- The network: what a record does to the devices and to the opens that live. No word of scripts.
+use Rattle.std.specs.Prelude.{◌≡◌, ℕ, ◌+◌, Bool, true, false, List, [], ◌∷◌, ◌++◌, Some, slice_get}
+use Rattle.std.specs.List.{list_any}
+use Rattle.nb_defs.specs.Records.{In, frame, tick, Out}
+use Rattle.nb_ipv4.specs.PacketText.{PacketParts}
+use Rattle.nb_ipv4.specs.UdpText.{UdpParts}
+use Rattle.nb_stack.specs.Client.{Client}
+use Rattle.nb_stack.specs.Brings.{Brought, nothing, arp_message, datagram, Brings}
+use Rattle.nb_stack.specs.Takes.{client_after, reply_of}
+use Rattle.nb_engine.specs.Machine.{reply_records}
+use Rattle.nb_machine.specs.Lives.{message, time, Live}
+use Rattle.nb_machine.specs.Kinds.{is_for}
+use Rattle.nb_machine.specs.States.{State, net0, with_device, with_live, later_by}
+use Rattle.nb_machine.specs.Takings.{Over, AllTake}
+
+-- what a frame brought is for an open that lives
+abbrev pub is_for_one : ℕ → Brought → List Live → Bool
+is_for_one device nothing live = false
+is_for_one device (arp_message from arp) live = false
+is_for_one device (datagram p d) live = list_any (is_for device p d) live
+
+-- the record brings this frame on this device
+pub data IsFrameOn : In → (device : ℕ) → List ℕ → Type 0 where
+  on_net0 : (bytes : List ℕ) → IsFrameOn (frame bytes) net0 bytes
+
+-- What the record of this number does: the records put, the state after it, and the opens that it ended.
+pub data Network (s : State) (n : ℕ) : In → List Out → State → List Over → Type 0 where
+  -- a frame for no open may change the neighbours, and be replied to
+  passes_by : (r : In) (device : ℕ) (bytes : List ℕ) (link : Client) (m : Brought) → IsFrameOn r device bytes → slice_get s.devices device ≡ Some link →
+      Brings link.up link.mac link.address bytes m → is_for_one device m s.live ≡ false →
+      Network s n r (reply_records (reply_of link m)) (with_device s device (client_after link m)) []
+  -- a datagram goes to the open of its port, and to no other
+  brings : (r : In) (device : ℕ) (bytes : List ℕ) (link : Client) (p : PacketParts) (d : UdpParts) (before behind after : List Live) (l : Live) (put : List Out) (over : List Over) →
+      IsFrameOn r device bytes → slice_get s.devices device ≡ Some link → Brings link.up link.mac link.address bytes (datagram p d) →
+      s.live ≡ before ++ l ∷ behind → is_for device p d l ≡ true →
+      AllTake s.devices (message n d.src_port d.body s.now) (l ∷ []) put after over →
+      Network s n r put (with_live s (before ++ after ++ behind)) over
+  -- time comes to every open that lives, in order
+  passes_time : (ms : ℕ) (after : List Live) (put : List Out) (over : List Over) →
+      AllTake s.devices (time (s.now + ms)) s.live put after over →
+      Network s n (tick ms) put (with_live (later_by s ms) after) over

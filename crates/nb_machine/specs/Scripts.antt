@@ -1,0 +1,72 @@
+-- Scripts: what a command does to the state, and what comes of one that waited. No word of frames.
+use Rattle.std.specs.Prelude.{ℕ, ◌==◌, Bool, List, [], Option, find, option_map}
+use Rattle.nb_defs.specs.Commands.{Outcome}
+use Rattle.nb_defs.specs.Records.{In}
+use Rattle.nb_image.specs.Images.{image_of}
+use Rattle.nb_engine.specs.Effects.{Wanted, Effect, says, asks, effect}
+use Rattle.nb_engine.specs.Conclusions.{Conclusion, conclusion}
+use Rattle.nb_engine.specs.World.{own_port}
+use Rattle.nb_engine.specs.Machine.{Running}
+use Rattle.nb_machine.specs.Lives.{tftp, Live}
+use Rattle.nb_machine.specs.Kinds.{fetched}
+use Rattle.nb_machine.specs.States.{State, net0}
+use Rattle.nb_machine.specs.Takings.{Over}
+
+-- what a command does once what it waits for has come
+pub data Job : Type 0 where
+  -- the file becomes an image, or is booted
+  fetch : Wanted → Job
+
+-- what a command comes to: it is over at once and leaves this state, or it opens something and waits for it
+pub data Doing : Type 0 where
+  ends : Outcome → State → Doing
+  opens : Live → Job → Doing
+
+-- the next open, on a device, for a file: from the client's next port to port 69 of the server
+abbrev pub transfer_for : State → Wanted → Live
+transfer_for s wanted = record {
+  number = s.opens;
+  kind = tftp;
+  device = net0;
+  server = wanted.target.server;
+  port = 69;
+  own = own_port s.w s.opens;
+  target = wanted.target.path;
+  since = s.now;
+  exchanges = [];
+}
+
+abbrev pub doing_by : State → Effect → Doing
+doing_by s (says o) = ends o s
+doing_by s (asks wanted) = opens (transfer_for s wanted) (fetch wanted)
+
+-- by its words and the state
+abbrev pub doing : State → List (List ℕ) → Doing
+doing s words = doing_by s (effect s.opens words)
+
+-- what a command waits for: the answer of the open of this number
+pub data Awaited : Type 0 where
+  answer : (number : ℕ) → Awaited
+
+-- what it gets: the open, with its end
+pub data Answer : Type 0 where
+  by_end : Over → Answer
+
+abbrev pub is_number : ℕ → Over → Bool
+is_number number o = o.live.number == number
+
+-- the answer, where it has come by this record, which led to this state and these ends
+abbrev pub answer_in : State → In → List Over → Awaited → Option Answer
+answer_in s r over (answer number) = option_map by_end (find (is_number number) over)
+
+-- scripts that run, the innermost first, whose command waits
+pub record Waiting : Type 0 where
+  pub script : Running
+  pub outer : List Running
+  pub awaited : Awaited
+  pub job : Job
+
+-- what a job comes to by its answer, in this state
+abbrev pub concluded_by : State → Job → Answer → Conclusion
+concluded_by s (fetch wanted) (by_end o) =
+    conclusion o.cause wanted.boots (image_of wanted.target.name (fetched o.live) [] wanted.uri) s.images

@@ -1,0 +1,45 @@
+-- What a run has beside its scripts. Every phase from START on keeps it.
+use Rattle.std.specs.Prelude.{ℕ, ◌+◌, List, [], ◌∷◌, ◌++◌, take, drop}
+use Rattle.nb_defs.specs.Records.{Start}
+use Rattle.nb_image.specs.Images.{ImageList}
+use Rattle.nb_stack.specs.Client.{Client}
+use Rattle.nb_engine.specs.World.{net_of, no_images}
+use Rattle.nb_machine.specs.Lives.{Live}
+
+-- The time in milliseconds; the devices, net0 first, each as the client that stands on it (ports aren't kept: an open
+-- has its own); the images; how many opens were made; and the opens that live, by rising number. `w` is START's,
+-- from which own ports are counted.
+pub record State : Type 0 where
+  pub w : ℕ
+  pub now : ℕ
+  pub devices : List Client
+  pub images : ImageList
+  pub opens : ℕ
+  pub live : List Live
+
+-- the one device that START gives
+abbrev pub net0 : ℕ
+net0 = 0
+
+abbrev pub state_of : Start → State
+state_of s = record { w = s.w; now = 0; devices = net_of s ∷ []; images = no_images; opens = 0; live = [] }
+
+abbrev pub with_device : State → ℕ → Client → State
+with_device s device link = record s { devices = take device s.devices ++ link ∷ drop (device + 1) s.devices }
+
+abbrev pub with_live : State → List Live → State
+with_live s live = record s { live = live }
+
+abbrev pub with_images : State → ImageList → State
+with_images s images = record s { images = images }
+
+abbrev pub later_by : State → ℕ → State
+later_by s ms = record s { now = s.now + ms }
+
+-- with one more open that was made, and lives
+abbrev pub with_opened : State → Live → State
+with_opened s l = record s { opens = s.opens + 1; live = s.live ++ l ∷ [] }
+
+-- with one more open that was made, and lives no more
+abbrev pub with_one_made : State → State
+with_one_made s = record s { opens = s.opens + 1 }

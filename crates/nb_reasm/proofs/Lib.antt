@@ -1,0 +1,9 @@
+pub mod MarkLemmas
+pub mod SlotLemmas
+pub mod SpotLemmas
+pub mod RingLemmas
+pub mod RunLemmas
+pub mod AdvanceLemmas
+pub mod PutLemmas
+pub mod AppendLemmas
+pub mod WindowLemmas

@@ -1,0 +1,133 @@
+-- What is held at a place: by where it lies, and by its mark.
+use Rattle.std.proofs.Common.{◌≡◌, ℕ, ◌+◌, ◌-◌, ◌<◌, ◌≤◌, ◌==◌, ◌&&◌, ◌||◌, not, nat_lt, nat_le, Bool, true, false, cond, Some, None, sym, ap, ◌∙◌, arith}
+use Rattle.std.proofs.lemmas.Bool.{ltb-true, ltb-false}
+use Rattle.std.proofs.lemmas.Bool.Decides.{nat_tests}
+use Rattle.nb_streams.proofs.StreamLaws.{either}
+use Rattle.nb_reasm.specs.Rings.{capacity, slot_of, byte_of, mark_of, is_held, held_byte, is_open_place, byte_put, IsJoinable}
+use Rattle.nb_reasm.specs.declared.ring.Ring.{Ring}
+use Rattle.nb_reasm.proofs.MarkLemmas.{mark_bit}
+
+abbrev test : ℕ → ℕ → ℕ → ℕ → ℕ → Bool
+test base next top mark p = nat_le base p && (nat_lt p next || (nat_lt p top && (mark == 1)))
+
+test_below : (base next top mark p : ℕ) → p < base → test base next top mark p ≡ false
+test_below base next top mark p h = grind (arith, nat_tests)
+
+test_front : (base next top mark p : ℕ) → base ≤ p → p < next → test base next top mark p ≡ true
+test_front base next top mark p h l = grind (arith, nat_tests)
+
+test_marked : (base next top mark p : ℕ) → base ≤ p → p < top → mark ≡ 1 → test base next top mark p ≡ true
+test_marked base next top mark p h l m = grind (arith, nat_tests)
+
+test_free : (base next top mark p : ℕ) → next ≤ p → mark ≡ 0 → test base next top mark p ≡ false
+test_free base next top mark p h m = grind (arith, nat_tests)
+
+test_above : (base next top mark p : ℕ) → next ≤ p → top ≤ p → test base next top mark p ≡ false
+test_above base next top mark p h l = grind (arith, nat_tests)
+
+held_if : (r : Ring) (p : ℕ) (b : Bool) → is_held r p ≡ b → held_byte r p ≡ cond b (Some (byte_of r p)) None
+unfolding held_byte
+held_if r p b e = ap (λ (t : Bool). cond t (Some (byte_of r p)) None) e
+
+pub held_below : (r : Ring) (p : ℕ) → p < r.base → held_byte r p ≡ None
+held_below r p h = held_if r p false (test_below r.base r.next (r.base + capacity r) (mark_of r p) p h)
+
+pub held_front : (r : Ring) (p : ℕ) → r.base ≤ p → p < r.next → held_byte r p ≡ Some (byte_of r p)
+held_front r p h l = held_if r p true (test_front r.base r.next (r.base + capacity r) (mark_of r p) p h l)
+
+pub held_marked : (r : Ring) (p : ℕ) → r.base ≤ p → p < r.base + capacity r → mark_of r p ≡ 1 → held_byte r p ≡ Some (byte_of r p)
+held_marked r p h l m = held_if r p true (test_marked r.base r.next (r.base + capacity r) (mark_of r p) p h l m)
+
+pub held_free : (r : Ring) (p : ℕ) → r.next ≤ p → mark_of r p ≡ 0 → held_byte r p ≡ None
+held_free r p h m = held_if r p false (test_free r.base r.next (r.base + capacity r) (mark_of r p) p h m)
+
+pub held_above : (r : Ring) (p : ℕ) → r.next ≤ p → r.base + capacity r ≤ p → held_byte r p ≡ None
+held_above r p h l = held_if r p false (test_above r.base r.next (r.base + capacity r) (mark_of r p) p h l)
+
+-- where a place lies
+pub data Spot (r : Ring) (p : ℕ) : Type 0 where
+  is_below : p < r.base → Spot r p
+  is_front : r.base ≤ p → p < r.next → Spot r p
+  is_marked : r.base ≤ p → r.next ≤ p → p < r.base + capacity r → mark_of r p ≡ 1 → Spot r p
+  is_unmarked : r.base ≤ p → r.next ≤ p → p < r.base + capacity r → mark_of r p ≡ 0 → Spot r p
+  is_above : r.base ≤ p → r.next ≤ p → r.base + capacity r ≤ p → Spot r p
+
+pub spot : (r : Ring) (p : ℕ) → Spot r p
+spot r p = either (nat_lt p r.base) (λ t. is_below (ltb-true p r.base t)) (λ b.
+    either (nat_lt p r.next) (λ t. is_front (ltb-false p r.base b) (ltb-true p r.next t)) (λ n.
+    either (nat_lt p (r.base + capacity r)) (λ t.
+    either (mark_of r p == 0)
+    (λ z. is_unmarked (ltb-false p r.base b) (ltb-false p r.next n) (ltb-true p (r.base + capacity r) t) (zero_mark (mark_of r p) z))
+    (λ o. is_marked (ltb-false p r.base b) (ltb-false p r.next n) (ltb-true p (r.base + capacity r) t) (one_mark (mark_of r p) o (mark_bit r.marks.words.items (slot_of r (p - r.base))))))
+    (λ f. is_above (ltb-false p r.base b) (ltb-false p r.next n) (ltb-false p (r.base + capacity r) f))))
+  where
+    zero_mark : (m : ℕ) → (m == 0) ≡ true → m ≡ 0
+    zero_mark m z = grind (arith, nat_tests)
+
+    one_mark : (m : ℕ) → (m == 0) ≡ false → m < 2 → m ≡ 1
+    one_mark m o l = grind (arith, nat_tests)
+
+-- The same window, a run that reached over marked places, and the same bytes and later marks: the same is held.
+pub held_kept : (r s : Ring) → s.base ≡ r.base → capacity s ≡ capacity r → r.base ≤ r.next → r.next ≤ s.next → s.next ≤ r.base + capacity r → (p : ℕ)
+    → (r.base ≤ p → p < r.base + capacity r → byte_of s p ≡ byte_of r p)
+    → (s.next ≤ p → p < r.base + capacity r → mark_of s p ≡ mark_of r p)
+    → (r.next ≤ p → p < s.next → mark_of r p ≡ 1)
+    → held_byte s p ≡ held_byte r p
+held_kept r s base size from grown to p bytes marks joined = elim (spot s p) [
+  | is_below l ↦ held_below s p l ∙ sym (held_below r p (omega (arith, l, base)))
+  | is_front h l ↦ either (nat_lt p r.next)
+      (λ t. held_front s p h l ∙ ap (λ (b : ℕ). Some b) (bytes (omega (arith, h, base)) (omega (arith, l, to))) ∙ sym (held_front r p (omega (arith, h, base)) (ltb-true p r.next t)))
+      (λ f. held_front s p h l ∙ ap (λ (b : ℕ). Some b) (bytes (omega (arith, h, base)) (omega (arith, l, to))) ∙ sym (held_marked r p (omega (arith, h, base)) (omega (arith, l, to)) (joined (ltb-false p r.next f) l)))
+  | is_marked h n l m ↦ held_marked s p h l m ∙ ap (λ (b : ℕ). Some b) (bytes (omega (arith, h, base)) (omega (arith, l, base, size))) ∙ sym (held_marked r p (omega (arith, h, base)) (omega (arith, l, base, size)) (sym (marks n (omega (arith, l, base, size))) ∙ m))
+  | is_unmarked h n l m ↦ held_free s p n m ∙ sym (held_free r p (omega (arith, n, grown)) (sym (marks n (omega (arith, l, base, size))) ∙ m))
+  | is_above h n l ↦ held_above s p n l ∙ sym (held_above r p (omega (arith, n, grown)) (omega (arith, l, base, size)))
+]
+
+open_test : (base top p : ℕ) (held : Bool) → base ≤ p → p < top → held ≡ false → nat_le base p && (nat_lt p top && not held) ≡ true
+open_test base top p held h l f = grind (arith, nat_tests)
+
+-- an unmarked place of the window is open; no other is
+pub open_unmarked : (r : Ring) (p : ℕ) → r.base ≤ p → r.next ≤ p → p < r.base + capacity r → mark_of r p ≡ 0 → is_open_place r p ≡ true
+open_unmarked r p h n l m = open_test r.base (r.base + capacity r) p (is_held r p) h l (test_free r.base r.next (r.base + capacity r) (mark_of r p) p n m)
+
+closed_test : (base top p : ℕ) (held : Bool) → held ≡ true → nat_le base p && (nat_lt p top && not held) ≡ false
+closed_test base top p held t = grind (arith, nat_tests)
+
+pub closed_front : (r : Ring) (p : ℕ) → IsJoinable r → p < r.next → is_open_place r p ≡ false
+closed_front r p is l = either (nat_lt p r.base)
+    (λ t. below r.base (r.base + capacity r) p (is_held r p) (ltb-true p r.base t))
+    (λ f. closed_test r.base (r.base + capacity r) p (is_held r p) (test_front r.base r.next (r.base + capacity r) (mark_of r p) p (ltb-false p r.base f) l))
+  where
+    below : (base top p : ℕ) (held : Bool) → p < base → nat_le base p && (nat_lt p top && not held) ≡ false
+    below base top p held h = grind (arith, nat_tests)
+
+pub closed_above : (r : Ring) (p : ℕ) → r.base + capacity r ≤ p → is_open_place r p ≡ false
+closed_above r p l = above r.base (r.base + capacity r) p (is_held r p) l
+  where
+    above : (base top p : ℕ) (held : Bool) → top ≤ p → nat_le base p && (nat_lt p top && not held) ≡ false
+    above base top p held h = grind (arith, nat_tests)
+
+pub closed_marked : (r : Ring) (p : ℕ) → r.base ≤ p → p < r.base + capacity r → mark_of r p ≡ 1 → is_open_place r p ≡ false
+closed_marked r p h l m = closed_test r.base (r.base + capacity r) p (is_held r p) (test_marked r.base r.next (r.base + capacity r) (mark_of r p) p h l m)
+
+-- what is held once a byte was put
+pub put_closed : (r : Ring) (place byte p : ℕ) → is_open_place r place ≡ false → byte_put r place byte p ≡ held_byte r p
+put_closed r place byte p e = ap (λ (t : Bool). cond (t && (p == place)) (Some byte) (held_byte r p)) e
+
+put_test : (a b : Bool) → a ≡ true → b ≡ true → a && b ≡ true
+put_test a b s t = grind (arith, nat_tests)
+
+pub put_here : (r : Ring) (place byte p : ℕ) → is_open_place r place ≡ true → p ≡ place → byte_put r place byte p ≡ Some byte
+put_here r place byte p e same = ap (λ (t : Bool). cond t (Some byte) (held_byte r p)) (put_test (is_open_place r place) (p == place) e (equal p place same))
+  where
+    equal : (a b : ℕ) → a ≡ b → (a == b) ≡ true
+    equal a b e = grind (arith, nat_tests)
+
+pub put_there : (r : Ring) (place byte p : ℕ) → (p ≡ place → ⊥) → byte_put r place byte p ≡ held_byte r p
+put_there r place byte p apart = ap (λ (t : Bool). cond t (Some byte) (held_byte r p)) (and_false (is_open_place r place) (p == place) (unequal p place apart))
+  where
+    unequal : (a b : ℕ) → (a ≡ b → ⊥) → (a == b) ≡ false
+    unequal a b h = grind (arith, nat_tests)
+
+    and_false : (a b : Bool) → b ≡ false → a && b ≡ false
+    and_false a b e = grind (arith, nat_tests)

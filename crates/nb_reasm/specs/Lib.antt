@@ -1,0 +1,4 @@
+pub mod Slots
+pub mod Rings
+pub mod Windows
+pub mod HeldWindows

@@ -1,0 +1,54 @@
+-- What a ring holds, place by place.
+use Rattle.std.specs.Prelude.{◌≡◌, ℕ, ◌+◌, ◌-◌, ◌*◌, ◌^◌, ◌<◌, ◌≤◌, ◌==◌, ◌&&◌, ◌||◌, not, Bool, Option, Some, None, length, vec_len, nat_lt, nat_le, slice_index, if◌then◌else◌}
+use Rattle.nb_reasm.specs.Slots.{slot_mark, wrapped_slot}
+use Rattle.nb_reasm.specs.declared.ring.Ring.{Ring}
+
+abbrev pub capacity : Ring → ℕ
+capacity r = length r.bytes.items
+
+-- the slot that lies so far after that of the base
+abbrev pub slot_of : Ring → ℕ → ℕ
+slot_of r offset = wrapped_slot (capacity r) (r.start + offset)
+
+-- the slot's byte and mark, by the place in the window
+abbrev pub byte_of : Ring → ℕ → ℕ
+byte_of r p = slice_index r.bytes.items (slot_of r (p - r.base))
+
+abbrev pub mark_of : Ring → ℕ → ℕ
+mark_of r p = slot_mark r.marks.words.items (slot_of r (p - r.base))
+
+abbrev pub is_held : Ring → ℕ → Bool
+is_held r p = nat_le r.base p && (nat_lt p r.next || (nat_lt p (r.base + capacity r) && (mark_of r p == 1)))
+
+-- the byte that is held at a place, if one is
+unfoldable pub held_byte : Ring → ℕ → Option ℕ
+held_byte r p = if is_held r p then Some (byte_of r p) else None
+
+-- a ring, maybe with a mark at the first place after the run; marks stand at later places, below the end
+pub record IsJoinable (r : Ring) : Type 0 where
+  pub some : 0 < capacity r
+  pub most : capacity r ≤ 2 ^ 20
+  pub start : r.start < capacity r
+  pub from : r.base ≤ r.next
+  pub to : r.next ≤ r.base + capacity r
+  pub small : r.next < 2 ^ 31
+  pub end_small : r.end < 2 ^ 31
+  pub words : capacity r ≤ 64 * vec_len r.marks.words
+  pub front : (p : ℕ) → r.base ≤ p → p < r.next → mark_of r p ≡ 0
+  pub rest : (p : ℕ) → r.base ≤ p → p < r.base + capacity r → r.end ≤ p → mark_of r p ≡ 0
+
+-- a ring, whose first place after the run holds nothing
+pub record IsRing (r : Ring) : Type 0 where
+  pub joinable : IsJoinable r
+  pub here : r.next < r.base + capacity r → mark_of r r.next ≡ 0
+
+abbrev pub SameWindow : Ring → Ring → Type 0
+SameWindow r s = (s.base ≡ r.base) × (capacity s ≡ capacity r)
+
+-- a place in the window that holds no byte
+abbrev pub is_open_place : Ring → ℕ → Bool
+is_open_place r p = nat_le r.base p && (nat_lt p (r.base + capacity r) && not (is_held r p))
+
+-- what is held at a place once a byte was put at one
+abbrev pub byte_put : Ring → ℕ → ℕ → ℕ → Option ℕ
+byte_put r place byte p = if is_open_place r place && (p == place) then Some byte else held_byte r p

@@ -1,0 +1,231 @@
+"""The bridge's session over a wire in memory, with the program at its other end and without it."""
+
+from __future__ import annotations
+
+import io
+import socket
+import subprocess
+import sys
+import threading
+import time
+import unittest
+
+from boot import is_built
+from bridge import listening_place
+from shared.capture import PcapWriter, read_capture
+from shared.checksums import Sums, sums_of
+from shared.devices import completed
+from shared.kinds import Status
+from shared.live_session import ClientFault, Kept, Records, Session
+from shared.progress import Progress
+from shared.records import Direction, Off, Received, Record, Sent, Step, Tick, read_records
+from shared.wire import ARP, Opcode, arp_reply, padded, tftp_data, udp_frame
+from tests import TOP, made
+from tests.replays import replay_all, run_all
+
+MOST_SECONDS = 30
+FILE = made.KERNEL + bytes(range(256)) * 40
+SCRIPT = b"#!ipxe\necho one moment\nimgexec tftp://10.0.0.1/k\n"
+
+
+class Wire:
+    """A device whose other end is this test."""
+
+    def __init__(self) -> None:
+        self.name, self.mac = "a wire in memory", None
+        self.inner, self.outer = socket.socketpair(socket.AF_UNIX, socket.SOCK_DGRAM)
+        self.inner.setblocking(False)
+        self.outer.settimeout(0.2)
+
+    def fileno(self) -> int:
+        return self.inner.fileno()
+
+    def receive(self) -> bytes | None:
+        return self.inner.recv(65_535)
+
+    def send(self, frame: bytes) -> None:
+        self.inner.send(frame)
+
+    def close(self) -> None:
+        self.inner.close()
+        self.outer.close()
+
+
+class Server(threading.Thread):
+    """Answers at the wire's other end: ARP, and TFTP for one file; it loses the first DATA 2."""
+
+    def __init__(self, wire: Wire) -> None:
+        super().__init__(daemon=True)
+        self.wire, self.is_over, self.has_lost = wire, False, False
+
+    def run(self) -> None:
+        while not self.is_over:
+            try:
+                self.answer(self.wire.outer.recv(65_535))
+            except TimeoutError:
+                continue
+            except OSError:
+                return
+
+    def answer(self, frame: bytes) -> None:
+        if int.from_bytes(frame[12:14], "big") == ARP:
+            self.wire.outer.send(padded(arp_reply(made.SERVER, made.CLIENT)))
+            return
+        body = frame[42:]
+        opcode = int.from_bytes(body[:2], "big")
+        if opcode == Opcode.RRQ:
+            self.give(1)
+        elif opcode == Opcode.ACK:
+            self.give(int.from_bytes(body[2:4], "big") + 1)
+
+    def give(self, block: int) -> None:
+        data = FILE[(block - 1) * 512 : block * 512]
+        if block * 512 - 512 > len(FILE):
+            return
+        if block == 2 and not self.has_lost:
+            self.has_lost = True
+            return
+        ports = (made.SERVER_PORT, made.OWN_PORT)
+        self.wire.outer.send(
+            padded(udp_frame(made.SERVER, made.CLIENT, ports, tftp_data(block, data)))
+        )
+
+
+class Bridged(unittest.TestCase):
+    def setUp(self) -> None:
+        self.wire = Wire()
+        self.addCleanup(self.wire.close)
+        self.input, self.output, self.pcap = io.BytesIO(), io.BytesIO(), io.BytesIO()
+        self.said, self.printed = io.StringIO(), io.StringIO()
+        self.progress = Progress(self.printed, self.said)
+        self.listener = socket.create_server(("127.0.0.1", 0))
+        self.addCleanup(self.listener.close)
+        self.port = self.listener.getsockname()[1]
+
+    def session(self) -> Session:
+        client, _ = self.listener.accept()
+        self.addCleanup(client.close)
+        kept = Kept(self.input, self.output, PcapWriter(self.pcap))
+        return Session(client, self.wire, made.CLIENT.mac, kept, self.progress.take)
+
+    def inputs(self) -> list[Record]:
+        placed = read_records(io.BytesIO(self.input.getvalue()), Direction.INPUT)
+        return [one.record for one in placed]
+
+    def with_client(self, answer: bytes, wants_off: bool = False, holds: float = 0.0) -> Session:
+        """A session with a client that says this, reads on for a while, and leaves."""
+
+        def act() -> None:
+            with socket.create_connection(("127.0.0.1", self.port)) as client:
+                client.sendall(answer)
+                client.settimeout(holds or 0.01)
+                until = time.monotonic() + holds
+                try:
+                    while client.recv(1 << 16) and time.monotonic() < until:
+                        pass
+                except TimeoutError:
+                    pass
+
+        thread = threading.Thread(target=act, daemon=True)
+        thread.start()
+        session = self.session()
+        session.wants_off = wants_off
+        session.run(made.spelled([made.start(SCRIPT)]))
+        thread.join(MOST_SECONDS)
+        return session
+
+    def test_time_and_frames(self) -> None:
+        """START, TICKs of a quarter second at most, frames for the client and for all, and no others."""
+        others = made.found().frame.replace(made.CLIENT.mac, bytes.fromhex("525400000009"))
+        own = made.asked().frame
+        for frame in (made.found().frame, others, own, bytes(2000), b"\xff" * 6 + bytes(10)):
+            self.wire.outer.send(frame)
+        session = self.with_client(made.spelled([Step(1), Sent(made.asked().frame)]), holds=0.6)
+        first, *rest = self.inputs()
+        self.assertEqual(first, made.start(SCRIPT))
+        frames = [one.frame for one in rest if isinstance(one, Received)]
+        self.assertEqual(frames, [made.found().frame, b"\xff" * 6 + bytes(10)])
+        ticks = [one.milliseconds for one in rest if isinstance(one, Tick)]
+        self.assertTrue(ticks and max(ticks) <= 250 and 400 <= sum(ticks) <= 900, ticks)
+        self.assertEqual(self.wire.outer.recv(2000), made.asked().frame)
+        self.assertEqual(session.counts.sent, 1)
+        packets = list(read_capture(io.BytesIO(self.pcap.getvalue())))
+        self.assertEqual(len(packets), 3)
+        self.assertIsNone(session.status)
+
+    def test_off(self) -> None:
+        self.with_client(b"", wants_off=True, holds=0.3)
+        self.assertEqual([one for one in self.inputs() if not isinstance(one, Tick)][1:], [Off()])
+
+    def test_no_client_of_ours(self) -> None:
+        for answer in (b"GET / HTTP/1.1\r\n\r\n", b"\0\0\0\1\7", b"\0\0\0\2\x8d\xff", bytes(8)):
+            with self.subTest(answer), self.assertRaises(ClientFault):
+                self.with_client(answer)
+
+    def test_cut_records(self) -> None:
+        """Records come out whole however they come in."""
+        data = made.spelled(made.BOOT_OUTPUT)
+        for size in (1, 7, len(data)):
+            records, found = Records(), []
+            for at in range(0, len(data), size):
+                found += records.take(data[at : at + size])
+            self.assertEqual(b"".join(len(one).to_bytes(4, "big") + one for one in found), data)
+
+    @unittest.skipUnless(is_built(), "the program isn't built: a boot through a bridge in memory")
+    def test_program(self) -> None:
+        """The program boots over it; what was kept replays to what it wrote, byte for byte."""
+        ran = {}
+        words = {"live": ["live", f"127.0.0.1:{self.port}"]}
+        thread = threading.Thread(target=lambda: ran.update(run_all(words)), daemon=True)
+        thread.start()
+        server = Server(self.wire)
+        server.start()
+        session = self.session()
+        session.run(made.spelled([made.start(SCRIPT)]))
+        server.is_over = True
+        thread.join(MOST_SECONDS)
+        self.progress.end()
+        self.assertEqual((session.status, ran["live"].status), (Status.HANDED_OFF, 0))
+        self.assertTrue(server.has_lost)
+        self.assertEqual(self.printed.getvalue(), "one moment\n")
+        self.assertIn(f"k from 10.0.0.1:69: {len(FILE) // 512 + 1} blocks, {len(FILE)} bytes",
+                      self.said.getvalue())
+        replayed = replay_all({"kept": self.input.getvalue()}, {})["kept"]
+        self.assertEqual((replayed.status, replayed.output), (0, self.output.getvalue()))
+
+
+class Checksums(unittest.TestCase):
+    def test_completed(self) -> None:
+        """A checksum that was left to a card is the one that a whole frame has."""
+        for length in (0, 1, 2, 17, 18, 19, 512):
+            frame = udp_frame(made.SERVER, made.CLIENT, (69, 49_152), bytes(range(256))[:length] * 2)
+            left = frame[:40] + b"\x12\x34" + frame[42:]
+            for shown in (left, padded(left)):
+                mended = completed(shown)
+                self.assertEqual(mended[: len(frame)], frame)
+                self.assertIs(sums_of(mended), Sums.RIGHT)
+
+
+class Places(unittest.TestCase):
+    def test_listening_places(self) -> None:
+        self.assertEqual(listening_place("127.0.0.1:7000"), ("127.0.0.1", 7000))
+        self.assertEqual(listening_place("[::1]:0"), ("::1", 0))
+        for text in ("7000", ":7000", "a:", "a:65536", "a:x"):
+            with self.subTest(text), self.assertRaises(Exception):
+                listening_place(text)
+
+
+class LiveBoot(unittest.TestCase):
+    """A boot from a real server over a real wire, where this machine can make one."""
+
+    def test_boot(self) -> None:
+        words = [sys.executable, "-B", str(TOP / "tools" / "live_boot.py")]
+        done = subprocess.run(words, capture_output=True, text=True, timeout=300, check=False)
+        if done.returncode == 77:
+            self.skipTest(done.stderr.strip())
+        self.assertEqual(done.returncode, 0, done.stderr)
+        self.assertIn("booting by TFTP: passed", done.stderr)
+
+
+if __name__ == "__main__":
+    unittest.main()

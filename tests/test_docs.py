@@ -1,0 +1,93 @@
+"""The documents: their words, their tables, and that what they name is there."""
+
+from __future__ import annotations
+
+import re
+import unittest
+
+from tests import TOP
+
+DOCS = TOP / "docs"
+PAGES = [TOP / "README.md", TOP / "examples" / "README.md", *sorted(DOCS.glob("*.md"))]
+MOST_WORDS = 25
+MOST_SENTENCES = 6
+
+# Each has a plainer word: a prefix of, after, out of memory, invalid, received, returned.
+UNUSUAL = r"\b(?:a front of|behind|want of memory|of no form|heard|heeds?|told|tells|went up)\b"
+
+
+def cells(line: str) -> list[str]:
+    """The cells of a table's line; `\\|` is a character."""
+    return [cell.strip() for cell in re.split(r"(?<!\\)\|", line.strip())[1:-1]]
+
+
+def plain(text: str) -> str:
+    """A page's words, without code and links, and without the names of clauses in CLAIMS.md."""
+    text = re.sub(r"^```.*?^```$", "", text, flags=re.M | re.S)
+    return re.sub(r"`[^`]*`|\([^()]*\.md\)", "", text)
+
+
+class Words(unittest.TestCase):
+    def test_plain_english(self) -> None:
+        for page in PAGES:
+            for number, line in enumerate(plain(page.read_text()).splitlines(), 1):
+                # the second column of a table of claims has the names of clauses
+                said = " | ".join(cells(line)[::2]) if line.startswith("|") else line
+                with self.subTest(page=page.name, line=line):
+                    self.assertNotRegex(said, UNUSUAL, f"{page.name}:{number}")
+
+    def test_the_cells_of_claims_are_short(self) -> None:
+        for line in (DOCS / "CLAIMS.md").read_text().splitlines():
+            for cell in cells(line) if line.startswith("|") else []:
+                self.assertLessEqual(len(cell.split()), MOST_WORDS, cell)
+
+    def test_what_is_proved_is_said_briefly(self) -> None:
+        readme = (TOP / "README.md").read_text()
+        proved = re.search(r"^\*\*Proved\*\*(.*?)\n\n", readme, re.M | re.S)
+        self.assertIsNotNone(proved)
+        sentences = re.findall(r"\.(?:\s|$)", re.sub(r"\(\S+\.md\)", "", proved[1]) + "\n")
+        self.assertLessEqual(len(sentences), MOST_SENTENCES)
+
+
+class Names(unittest.TestCase):
+    def test_each_crate_has_one_row_and_one_place(self) -> None:
+        crates = re.findall(r"^(\w+)(?: [^:\n]*)?:", (TOP / "crates.txt").read_text(), re.M)
+        self.assertEqual(set(crates), {path.name for path in (TOP / "crates").iterdir()})
+        rows: dict[str, list[str]] = {crate: [] for crate in crates}
+        for page in PAGES:
+            for line in page.read_text().splitlines():
+                named = [cell for cell in cells(line)[:2] if cell.strip("`") in crates]
+                if named and len(cells(line)) >= 5:
+                    rows[named[0].strip("`")].append(page.name)
+        wrong = {crate: pages for crate, pages in rows.items() if pages != ["ARCHITECTURE.md"]}
+        self.assertEqual(wrong, {}, "crates without exactly one row in ARCHITECTURE.md")
+
+    def test_what_is_named_is_there(self) -> None:
+        for page in PAGES:
+            text = page.read_text()
+            for name in re.findall(r"\b((?:tools|tests|measure|docs)/[\w/.]*\w)", text):
+                self.assertTrue((TOP / name).exists(), f"{page.name}: {name}")
+            for link in re.findall(r"\]\(([^)#:]+)\)", text):
+                self.assertTrue((page.parent / link).exists(), f"{page.name}: {link}")
+
+
+class Layout(unittest.TestCase):
+    def test_tools_import_no_test_and_no_measure(self) -> None:
+        folders = ("measure", "tests")
+        others = {path.stem for folder in folders for path in (TOP / folder).glob("*.py")}
+        others |= set(folders)
+        for path in (TOP / "tools").rglob("*.py"):
+            for name in re.findall(r"^\s*(?:from|import) (\w+)", path.read_text(), re.M):
+                self.assertNotIn(name, others - {"__init__"}, path)
+
+    def test_tools_are_what_users_run(self) -> None:
+        for path in (TOP / "tools").iterdir():
+            if path.name in ("shared", "__pycache__"):
+                continue
+            self.assertTrue(path.stat().st_mode & 0o111, f"{path} can't be run")
+            is_named = f"tools/{path.name}" in (TOP / "README.md").read_text()
+            self.assertTrue(is_named, f"README.md doesn't name tools/{path.name}")
+
+
+if __name__ == "__main__":
+    unittest.main()

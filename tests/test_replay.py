@@ -1,0 +1,396 @@
+"""Boots by TFTP over good and hostile recordings: the program's whole output, record by record.
+
+What is expected is written from docs/RECORDS.md, RFC 1350 and RFC 826. The built program is run, or,
+where it isn't fresh, what the toolchain's `rt try` compiles once for all recordings.
+"""
+
+from __future__ import annotations
+
+import io
+import unittest
+from dataclasses import dataclass, replace
+from ipaddress import IPv4Address
+
+from shared.causes import OK, Cause, Code
+from shared.kinds import OpenKind, PartKind, Status
+from shared.recordings import read_input, read_output
+from shared.records import Advance, Done, Ended, Off, Open, Part, Received, Record, Result
+from shared.records import Sent, Step, Tick, Try
+from tests import made
+from tests.case import TOP
+from tests.replays import Replayed, can_run, replayed
+from shared.wire import Station, arp_reply, arp_request, ethernet, ipv4, tftp_ack, tftp_data
+from shared.wire import tftp_error, tftp_request, udp, udp_frame
+
+FETCH = b"imgfetch tftp://10.0.0.1/f"
+EXEC = b"imgexec tftp://10.0.0.1/k"
+# where OPEN stands in the output: after STEP, SCRIPT and COMMAND
+OPEN_PLACE = 3
+FOREIGN_PORT = made.SERVER_PORT + 1
+NEIGHBOUR = Station(bytes.fromhex("525400000003"), IPv4Address("10.0.0.3"))
+FULL = bytes(range(256)) * 2
+UNKNOWN_TRANSFER = tftp_error(5, b"")
+ENDED_WELL = [made.leave(OK), Done(Status.ENDED)]
+
+
+@dataclass(frozen=True)
+class Row:
+    """An input recording, and the output recording that answers it."""
+
+    inputs: list[Record]
+    outputs: list[Record]
+
+
+def start(*lines: bytes) -> Record:
+    return made.start(b"#!ipxe\n" + b"".join(line + b"\n" for line in lines))
+
+
+def datagram(body: bytes, port: int = made.SERVER_PORT, own: int = made.OWN_PORT) -> Record:
+    return Received(udp_frame(made.SERVER, made.CLIENT, (port, own), body))
+
+
+def data(block: int, content: bytes, port: int = made.SERVER_PORT) -> Record:
+    return datagram(tftp_data(block, content), port)
+
+
+def took(block: int) -> list[Record]:
+    """A block is taken that isn't the last."""
+    return [Advance(0, block), Try(0, 1), made.to_server(tftp_ack(block))]
+
+
+def took_last(block: int) -> list[Record]:
+    """The last block is taken: its acknowledgement waits for nothing."""
+    return [Advance(0, block), made.to_server(tftp_ack(block)), Ended(0, OK)]
+
+
+def fetches(received: list[Record], *steps: list[Record], line: bytes = FETCH) -> Row:
+    """A fetch whose request is out in step 3, and then these records with what each brings."""
+    path = line[-1:]
+    outputs = [
+        *made.fetch_begins(line, path),
+        Step(2),
+        Step(3),
+        Try(0, 2),
+        made.to_server(tftp_request(path), 69),
+    ]
+    for number, step in enumerate(steps, 4):
+        outputs += [Step(number), *step]
+    return Row([start(line), made.found(), Tick(250), *received], outputs)
+
+
+def ends(row: Row, *closing: Record) -> Row:
+    return Row(row.inputs, [*row.outputs, *closing])
+
+
+def ends_well(row: Row) -> Row:
+    return ends(row, Result(OK), *ENDED_WELL)
+
+
+def refused(command: bytes, cause: Cause) -> Row:
+    """A command that fails before anything is sent."""
+    outputs = [Step(1), made.enter(), made.command(command), Result(cause), made.leave(cause)]
+    return Row([start(command)], [*outputs, Done(Status.SCRIPT_FAILED)])
+
+
+def unreached(address: str) -> Row:
+    """A server to which there is no way."""
+    server = IPv4Address(address)
+    cause = Cause(Code.NO_ROUTE, int(server))
+    command = b"imgfetch tftp://%s/f" % address.encode()
+    opened = Open(0, OpenKind.TFTP, server, 69, made.OWN_PORT, b"f")
+    outputs = [Step(1), made.enter(), made.command(command), opened, *made.fails(cause)]
+    return Row([start(command)], outputs)
+
+
+def without_address(row: Row) -> Row:
+    return Row([replace(row.inputs[0], ip=IPv4Address(0))], row.outputs)
+
+
+def flipped(frame: bytes, place: int) -> Record:
+    """A frame with a bit turned over."""
+    return Received(frame[:place] + bytes([frame[place] ^ 1]) + frame[place + 1 :])
+
+
+def without_sum(block: int, content: bytes) -> Record:
+    """A datagram whose checksum is 0: it has none."""
+    server, client = made.SERVER, made.CLIENT
+    ports = (made.SERVER_PORT, made.OWN_PORT)
+    packet = udp(server.ip, client.ip, ports, tftp_data(block, content))
+    packet = packet[:6] + b"\0\0" + packet[8:]
+    body = ipv4(server.ip, client.ip, 17, packet)
+    return Received(ethernet(client.mac, server.mac, 0x0800, body))
+
+
+def blocks() -> dict[str, Row]:
+    kernel = FULL + FULL + bytes(176)
+    return {
+        "an_empty_last_block": ends_well(
+            fetches(
+                [data(1, FULL), data(2, FULL), data(3, b"")], took(1), took(2), took_last(3)
+            )
+        ),
+        "a_block_too_long": ends(
+            fetches([data(1, bytes(1432))], []), *made.fails(Cause(Code.BROKEN, 4))
+        ),
+        "twice_and_late": ends_well(
+            fetches(
+                [
+                    data(1, kernel[:512]),
+                    data(2, kernel[512:1024]),
+                    data(2, kernel[512:1024]),
+                    data(1, kernel[:512]),
+                    data(3, kernel[1024:]),
+                ],
+                took(1),
+                took(2),
+                [made.to_server(tftp_ack(2))],
+                [],
+                took_last(3),
+            )
+        ),
+        "block_2_first": ends_well(
+            fetches([data(2, FULL), data(1, b"a")], [], took_last(1))
+        ),
+        "a_foreign_port": ends_well(
+            fetches(
+                [data(1, FULL), data(2, b"no", FOREIGN_PORT), data(2, b"yes")],
+                took(1),
+                [made.to_server(UNKNOWN_TRANSFER, FOREIGN_PORT)],
+                took_last(2),
+            )
+        ),
+    }
+
+
+def errors() -> dict[str, Row]:
+    return {
+        "refused_at_once": ends(
+            fetches([datagram(tftp_error(1, b"File not found"))], []),
+            *made.fails(Cause(Code.REFUSED, 4, 1)),
+        ),
+        "refused_later": ends(
+            fetches([data(1, FULL), datagram(tftp_error(3, b"Disk full"))], took(1), []),
+            *made.fails(Cause(Code.REFUSED, 5, 3)),
+        ),
+        "a_foreign_error": ends_well(
+            fetches(
+                [data(1, FULL), datagram(tftp_error(1, b"no"), FOREIGN_PORT), data(2, b"a")],
+                took(1),
+                [made.to_server(UNKNOWN_TRANSFER, FOREIGN_PORT)],
+                took_last(2),
+            )
+        ),
+        "not_bootable": ends(
+            fetches([data(1, b"hello")], took_last(1), line=EXEC),
+            *made.fails(Cause(Code.NOT_BOOTABLE))[1:],
+        ),
+        "no_route": unreached("10.0.1.1"),
+        "no_address": without_address(unreached("10.0.0.1")),
+        "bad_uri": refused(b"imgfetch tftp://10.0.0.256/f", Cause(Code.BAD_URI)),
+        "path_too_long": refused(
+            b"imgfetch tftp://10.0.0.1/" + b"a/" * 512 + b"f", Cause(Code.TOO_LONG, 7)
+        ),
+        "name_too_long": refused(
+            b"imgfetch tftp://10.0.0.1/" + b"a" * 256, Cause(Code.TOO_LONG, 7)
+        ),
+        "no_uri": refused(b"imgfetch", Cause(Code.USAGE)),
+    }
+
+
+def frames() -> dict[str, Row]:
+    good = data(1, b"a").frame
+    other_mac = NEIGHBOUR.mac + good[6:]
+    ports = (made.SERVER_PORT, made.OWN_PORT)
+    other_server = udp_frame(NEIGHBOUR, made.CLIENT, ports, tftp_data(1, b"a"))
+    other_client = udp_frame(made.SERVER, NEIGHBOUR, ports, tftp_data(1, b"a"))
+    ignored = [
+        Received(other_mac),
+        flipped(good, 24),  # the IPv4 header's checksum
+        flipped(good, 40),  # the datagram's checksum
+        flipped(good, 46),  # the block's byte
+        Received(good[:-1]),  # shorter than its header says
+        Received(good[:34]),  # a header alone
+        Received(other_server),
+        Received(made.CLIENT.mac + other_client[6:]),
+        datagram(tftp_data(1, b"a"), own=made.OWN_PORT + 1),
+        datagram(b""),
+        datagram(b"\0\3\0"),
+        datagram(b"\0\x09\0\1"),
+    ]
+    asked = Received(arp_request(made.SERVER, made.CLIENT.ip))
+    replied = Sent(arp_reply(made.CLIENT, made.SERVER))
+    begun = [start(FETCH), asked, Tick(250), data(1, b"a")]
+    return {
+        "frames_that_bring_nothing": ends_well(
+            fetches([*ignored, data(1, b"a")], *[[]] * len(ignored), took_last(1))
+        ),
+        "no_checksum": ends_well(fetches([without_sum(1, b"a")], took_last(1))),
+        "a_request_is_answered": ends_well(
+            Row(
+                begun,
+                [
+                    *made.fetch_begins(FETCH, b"f"),
+                    Step(2),
+                    replied,
+                    Step(3),
+                    Try(0, 2),
+                    made.to_server(tftp_request(b"f"), 69),
+                    Step(4),
+                    *took_last(1),
+                ],
+            )
+        ),
+        "a_request_for_another": ends_well(
+            fetches(
+                [Received(arp_request(made.SERVER, NEIGHBOUR.ip)), data(1, b"a")],
+                [],
+                took_last(1),
+            )
+        ),
+    }
+
+
+def two_files() -> Row:
+    """An initrd, and a kernel that is booted, from own ports 65535 and 49152."""
+    kernel = b"\x7fELF"
+    first, second = 65_535, made.OWN_PORT
+    began = replace(start(FETCH, EXEC), w=16_383)
+    ack = udp_frame(made.CLIENT, made.SERVER, (first, made.SERVER_PORT), tftp_ack(1))
+    asked = udp_frame(made.CLIENT, made.SERVER, (first, 69), tftp_request(b"f"))
+    inputs = [
+        began,
+        made.found(),
+        Tick(250),
+        datagram(tftp_data(1, b"initrd"), own=first),
+        datagram(tftp_data(1, b"late"), own=first),
+        datagram(tftp_data(1, kernel), own=second),
+    ]
+    outputs = [
+        *made.fetch_begins(FETCH, b"f"),
+        Step(2),
+        Step(3),
+        Try(0, 2),
+        Sent(asked),
+        Step(4),
+        Advance(0, 1),
+        Sent(ack),
+        Ended(0, OK),
+        Result(OK),
+        made.command(EXEC, 3),
+        Open(1, OpenKind.TFTP, made.SERVER.ip, 69, second, b"k"),
+        Try(1, 1),
+        made.to_server(tftp_request(b"k"), 69),
+        Step(5),
+        Step(6),
+        Advance(1, 1),
+        made.to_server(tftp_ack(1)),
+        Ended(1, OK),
+        Result(OK),
+        Part(PartKind.KERNEL_NAME, 0, 0, b"k"),
+        Part(PartKind.KERNEL, 0, 0, kernel),
+        Part(PartKind.COMMAND_LINE, 0, 0, b""),
+        Part(PartKind.INITRD_NAME, 0, 0, b"f"),
+        Part(PartKind.INITRD, 0, 0, b"initrd"),
+        Done(Status.HANDED_OFF),
+    ]
+    outputs[OPEN_PLACE] = replace(outputs[OPEN_PLACE], own=first)
+    return Row(inputs, outputs)
+
+
+def runs() -> dict[str, Row]:
+    stopped = Ended(0, Cause(Code.STOPPED))
+    again = fetches([start(FETCH)])
+    return {
+        "a_boot": Row(made.BOOT_INPUT, made.BOOT_OUTPUT),
+        "silence": Row(*made.silent_run()),
+        "two_files": two_files(),
+        "power_off": ends(fetches([Off()], []), stopped, Done(Status.UNFINISHED)),
+        "input_ends": ends(fetches([]), stopped, Done(Status.UNFINISHED)),
+        "a_second_start": ends(again, stopped, Done(Status.BAD_RECORD)),
+        "after_the_end": ends_well(
+            fetches([data(1, b"a"), start(FETCH), Off()], took_last(1))
+        ),
+        "no_start": Row([Tick(1)], [Done(Status.BAD_RECORD)]),
+    }
+
+
+ROWS = {**blocks(), **errors(), **frames(), **runs()}
+
+# A boot of a kernel of four bytes, cut at each of its bytes.
+SHORT = made.spelled([start(EXEC), made.found(), Tick(250), data(1, b"\x7fELF")])
+EXAMPLE = (TOP / "examples" / "tftp-boot.rec").read_bytes()
+
+
+def all_inputs() -> dict[str, bytes]:
+    inputs = {name: made.spelled(row.inputs) for name, row in ROWS.items()}
+    inputs |= {f"cut_{length}": SHORT[:length] for length in range(len(SHORT) + 1)}
+    return {**inputs, "example": EXAMPLE}
+
+
+def read_all(output: bytes) -> list[Record]:
+    return list(read_output(io.BytesIO(output)))
+
+
+def without_closing(records: list[Record]) -> list[Record]:
+    """A run's records but for those that end it from outside."""
+    closing = [Ended(0, Cause(Code.STOPPED)), records[-1]]
+    return records[:-2] if records[-2:] == closing else records[:-1]
+
+
+@unittest.skipUnless(can_run(), "the program isn't built, and the toolchain's rt is missing")
+class Replays(unittest.TestCase):
+    maxDiff = None
+    replayed: dict[str, Replayed]
+
+    @classmethod
+    def setUpClass(cls) -> None:
+        cls.replayed = {name: replayed()[name] for name in all_inputs()}
+
+    def test_each_run_ends(self) -> None:
+        for name, run in self.replayed.items():
+            with self.subTest(name):
+                self.assertEqual(run.ending, "ended")
+                self.assertEqual(run.output[-6:], made.spelled([Done(Status(run.status))]))
+
+    def test_rows(self) -> None:
+        for name, row in ROWS.items():
+            with self.subTest(name):
+                self.assertEqual(read_all(self.replayed[name].output), row.outputs)
+
+    def test_cut_at_each_byte(self) -> None:
+        whole = read_all(self.replayed[f"cut_{len(SHORT)}"].output)
+        self.assertEqual(whole[-1], Done(Status.HANDED_OFF))
+        lengths = [len(made.spelled([timed.record])) for timed in read_input(io.BytesIO(SHORT))]
+        ends_of_records = {sum(lengths[:count]) for count in range(1, len(lengths))}
+        for length in range(len(SHORT)):
+            with self.subTest(length):
+                run = self.replayed[f"cut_{length}"]
+                is_whole = length in ends_of_records
+                wanted = Status.UNFINISHED if is_whole else Status.BAD_RECORD
+                self.assertEqual(run.status, wanted)
+                before = without_closing(read_all(run.output))
+                self.assertEqual(before, whole[: len(before)])
+                steps = [record.number for record in before if isinstance(record, Step)]
+                self.assertEqual(len(steps), sum(sum(lengths[: n + 1]) <= length for n in range(4)))
+
+    def test_the_example_boots(self) -> None:
+        records = read_all(self.replayed["example"].output)
+        inputs = [timed.record for timed in read_input(io.BytesIO(EXAMPLE))]
+        received = [record.frame for record in inputs if isinstance(record, Received)]
+        kernel = {frame[45]: frame[46:558] for frame in received[1:]}
+        content = b"".join(kernel[block] for block in range(1, 6))[: 4 * 512 + 200]
+        self.assertEqual(
+            records[-4:],
+            [
+                Part(PartKind.KERNEL_NAME, 0, 0, b"k"),
+                Part(PartKind.KERNEL, 0, 0, content),
+                Part(PartKind.COMMAND_LINE, 0, 0, b""),
+                Done(Status.HANDED_OFF),
+            ],
+        )
+        places = [record.place for record in records if isinstance(record, Advance)]
+        self.assertEqual(places, [1, 2, 3, 4, 5])
+
+
+if __name__ == "__main__":
+    unittest.main()

@@ -1,0 +1,147 @@
+"""`show.py`: what it prints, its filters and reports, and what it says of damage."""
+
+from __future__ import annotations
+
+import hashlib
+import unittest
+
+from shared.kinds import PartKind, Status
+from shared.records import Done, Part, Step, Text
+from tests import made
+from tests.case import Case
+
+
+class Showing(Case):
+    def setUp(self) -> None:
+        super().setUp()
+        self.put("boot.rec", made.BOOT_INPUT)
+        self.put("boot.out", made.BOOT_OUTPUT)
+
+    def test_damage_is_named_after_what_is_complete(self) -> None:
+        whole = made.HELLO_OUTPUT
+        unknown = whole[:25] + bytes.fromhex("00000002 99 00") + whole[25:]
+        past_end = whole[:25] + bytes.fromhex("0000ffff 83") + whole[30:]
+        for data, said, lines in (
+            (whole[:-1], "at byte 125: the file ends inside a record", 8),
+            (unknown, "at byte 29: type 0x99", 2),
+            (past_end, "at byte 25: the file ends inside a record", 2),
+            (whole[:25] + b"\0\0", "at byte 25: the file ends inside a length", 2),
+            (whole + bytes(4), "at byte 131: the length is 0", 9),
+            (b"\0\0\0", "the file ends after 3 bytes, inside its first record", 0),
+            (b"", "the file is empty", 0),
+        ):
+            with self.subTest(said=said):
+                self.put("damaged.out", data)
+                printed = self.fails("tools/show.py damaged.out", f"damaged.out: {said}")
+                self.assertEqual(len(printed.splitlines()), lines)
+        self.put("damaged.rec", made.HELLO_INPUT[:50])
+        self.fails("tools/show.py damaged.rec", "damaged.rec: at byte 0")
+        self.fails("tools/show.py absent.rec", "absent.rec")
+
+    def test_damage_is_named_with_its_file(self) -> None:
+        self.put("cut.rec", made.spelled(made.BOOT_INPUT)[:-1])
+        self.fails("tools/show.py boot.out --input cut.rec", "cut.rec: at byte")
+        self.put("cut.out", made.spelled(made.BOOT_OUTPUT)[:-1])
+        self.fails("tools/show.py cut.out --input boot.rec", "cut.out: at byte")
+
+    def test_types(self) -> None:
+        printed = self.works("tools/show.py boot.out --type try --type DONE")
+        self.assertEqual(
+            printed.splitlines(),
+            ["  TRY 1 of open 0", "  TRY 2 of open 0", "  TRY 1 of open 0", "  DONE 0 handed off"],
+        )
+        self.assertEqual(len(self.works("tools/show.py boot.rec --type FRAME").splitlines()), 3)
+        self.fails("tools/show.py boot.rec --type FRAMES", "FRAMES is none of", 2)
+
+    def test_texts(self) -> None:
+        texts = (b"a", b"b\nc\t\x1b\n", b"", b"\n", b"\xff")
+        self.put("texts.out", [Step(1), *map(Text, texts)])
+        printed = self.works("tools/show.py texts.out --text")
+        self.assertEqual(printed, "ab\nc\t\\x1b\n\n\\xff\n")
+
+    def test_texts_in_utf_8(self) -> None:
+        """Also a character that is cut; what could not be seen, or turns the line, is shown."""
+        euro = "€".encode()
+        texts = ("grüße ".encode(), euro[:1], euro[1:], b"\xe2\x82!", "\u202e\x85".encode())
+        self.put("texts.out", [Step(1), *map(Text, texts)])
+        printed = self.works("tools/show.py texts.out --text")
+        self.assertEqual(printed, "grüße €\\xe2\\x82!\\xe2\\x80\\xae\\xc2\\x85\n")
+        self.put("texts.out", [Step(1), Text("grüße\\\n".encode() + b"\xff")])
+        self.assertIn('TEXT "grüße\\\\\\n\\xff"', self.works("tools/show.py texts.out"))
+
+    def test_an_open(self) -> None:
+        printed = self.works("tools/show.py boot.out --open 0 --input boot.rec").splitlines()
+        steps = [line.split(",")[0] for line in printed if line.startswith("STEP")]
+        self.assertEqual(
+            steps,
+            ["STEP 1 at 0 ms", "STEP 3 at 250 ms", "STEP 4 at 250 ms", "STEP 6 at 253 ms"],
+        )
+        names = [line.split()[0] for line in printed if not line.startswith("STEP")]
+        self.assertEqual(
+            names,
+            "OPEN TRY FRAME TRY FRAME ADVANCE TRY FRAME ADVANCE FRAME ENDED".split(),
+        )
+        self.assertEqual(self.works("tools/show.py boot.out --open 1"), "")
+        received = self.works("tools/show.py boot.rec --open 0")
+        self.assertEqual(received.count("TFTP DATA"), 2)
+        self.assertEqual(len(received.splitlines()), 2)
+
+    def test_parts(self) -> None:
+        name = b"../initrd.img"
+        parts = [
+            Part(PartKind.KERNEL_NAME, 0, 0, b"vmlinuz"),
+            Part(PartKind.KERNEL, 0, 0, bytes(65_536)),
+            Part(PartKind.KERNEL, 0, 65_536, b"end"),
+            Part(PartKind.COMMAND_LINE, 0, 0, b"console=ttyS0"),
+            Part(PartKind.INITRD_NAME, 0, 0, name),
+            Part(PartKind.INITRD, 0, 0, b""),
+            Part(PartKind.TABLE, 0, 0, b"iBFT"),
+        ]
+        self.put("parts.out", [Step(1), *parts, Done(Status.HANDED_OFF)])
+        printed = self.works("tools/show.py parts.out --parts made/here")
+        files = {
+            "kernel": bytes(65_536) + b"end",
+            "command-line": b"console=ttyS0",
+            "initrd-0-..%2Finitrd.img": b"",
+            "table": b"iBFT",
+        }
+        images = {
+            "kernel": ", image vmlinuz",
+            "initrd-0-..%2Finitrd.img": f", image {name.decode()}",
+        }
+        lines = []
+        for file, content in files.items():
+            self.assertEqual(self.get(f"made/here/{file}"), content)
+            digest = hashlib.sha256(content).hexdigest()
+            image = images.get(file, "")
+            lines.append(f"made/here/{file}: {len(content)} bytes, sha256 {digest}{image}")
+        self.assertEqual(printed.splitlines(), lines)
+        self.fails("tools/show.py parts.out --parts made/here", "not an empty folder")
+
+    def test_parts_that_are_not_whole(self) -> None:
+        first = Part(PartKind.KERNEL, 0, 0, b"abc")
+        gap = Part(PartKind.KERNEL, 0, 4, b"d")
+        for records, said in (
+            ([Step(1), first], "does not end in a hand-off"),
+            ([Step(1), first, Done(Status.SCRIPT_FAILED)], "does not end in a hand-off"),
+            ([Step(1), first, gap, Done(Status.HANDED_OFF)], "goes on at 4, not at 3"),
+            ([Step(1), first, first, Done(Status.HANDED_OFF)], "goes on at 0, not at 3"),
+        ):
+            self.put("parts.out", records)
+            self.fails("tools/show.py parts.out --parts made", said)
+            self.assertEqual(list(self.folder.glob("made/*")), [])
+        self.fails("tools/show.py boot.rec --parts made", "needs an output recording")
+
+    def test_why(self) -> None:
+        inputs, outputs = made.silent_run()
+        self.put("silent.rec", inputs)
+        self.put("silent.out", outputs)
+        printed = self.works("tools/show.py silent.out --input silent.rec --why")
+        self.assertEqual(printed.count(": try "), 6)
+        self.fails("tools/show.py silent.rec --why", "needs an output recording")
+        self.fails("tools/show.py silent.out --why --input silent.out", "is an output recording")
+        self.fails("tools/show.py silent.out --input boot.rec", "has no record 7")
+
+
+if __name__ == "__main__":
+    unittest.main()

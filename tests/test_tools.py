@@ -1,0 +1,122 @@
+"""The tools on the examples and their page, and as processes of their own."""
+
+from __future__ import annotations
+
+import os
+import re
+import shutil
+import struct
+import subprocess
+import unittest
+
+from boot import is_built
+from shared.recordings import read_input
+from shared.records import Received
+from tests import TOP, made
+from tests.case import Case
+
+EXAMPLES = TOP / "examples"
+
+class Examples(Case):
+    def test_recordings_are_made_from_their_scripts(self) -> None:
+        self.assertEqual((EXAMPLES / "hello.rec").read_bytes(), made.HELLO_INPUT)
+        for name in ("hello", "commands"):
+            said = self.works(f"tools/record.py examples/{name}.ipxe {name}.rec")
+            self.assertEqual(said, f"{name}.rec: 1 record\n")
+            self.assertEqual(self.get(f"{name}.rec"), (EXAMPLES / f"{name}.rec").read_bytes())
+
+    @unittest.skipUnless(is_built(), "the program isn't built")
+    def test_the_page_shows_what_its_commands_print(self) -> None:
+        """Runs the page from its beginning to its end: each `$` line, and each block of `sh`."""
+        (self.folder / "crates").symlink_to(TOP / "crates")
+        page = (EXAMPLES / "README.md").read_text()
+        blocks = re.findall(r"^```(sh|console)\n(.*?)^```$", page, re.M | re.S)
+        self.assertGreaterEqual(len(blocks), 10)
+        for kind, text in blocks:
+            if kind == "sh":
+                self.assertEqual(self.printed(text), "", text)
+                continue
+            for line, printed in re.findall(r"^\$ (.*)\n((?:(?!\$ ).*\n)*)", text, re.M):
+                self.assertEqual(self.printed(line), printed, line)
+
+    def printed(self, line: str) -> str:
+        """What a shell shows of a command line: standard output and standard error."""
+        done = subprocess.run(
+            ["sh", "-c", line],
+            cwd=self.folder,
+            env={**os.environ, "PYTHONDONTWRITEBYTECODE": "1", "LC_ALL": "C.UTF-8"},
+            stdout=subprocess.PIPE,
+            stderr=subprocess.STDOUT,
+            text=True,
+            check=False,
+        )
+        return done.stdout
+
+    def test_the_tftp_boot_is_made_anew(self) -> None:
+        (self.folder / "inner").mkdir()
+        shutil.copy(EXAMPLES / "make_tftp_boot.py", self.folder / "inner")
+        with self.start("inner/make_tftp_boot.py") as maker:
+            self.assertEqual(maker.communicate()[1], "")
+        made_anew = self.get("inner/tftp-boot.rec")
+        self.assertEqual(made_anew, (EXAMPLES / "tftp-boot.rec").read_bytes())
+
+    def test_frames_of_the_tftp_boot(self) -> None:
+        """Each block's frame is written out from the RFCs, its sums added up word by word."""
+        with (EXAMPLES / "tftp-boot.rec").open("rb") as stream:
+            records = [timed.record for timed in read_input(stream)]
+        frames = [record.frame for record in records if isinstance(record, Received)]
+        self.assertEqual(frames[0][:42].hex(), "5254000000015254000000020806"
+                         "00010800060400025254000000020a0000015254000000010a000002")
+        blocks = []
+        for frame in frames[1:]:
+            length, total = struct.unpack_from(">H", frame, 38)[0], frame[16:18]
+            self.assertEqual(frame[:16].hex(), "52540000000152540000000208004500")
+            self.assertEqual(int.from_bytes(total, "big"), 20 + length)
+            self.assertEqual(frame[20:24].hex(), "40004011")
+            self.assertEqual(frame[26:38].hex(), "0a0000010a0000029c40c000")
+            self.assertEqual(word_sum(frame[14:34]), 0xFFFF)
+            pseudo = frame[26:34] + b"\0\x11" + frame[38:40]
+            self.assertEqual(word_sum(pseudo + frame[34 : 34 + length]), 0xFFFF)
+            self.assertEqual(frame[42:44], b"\0\x03")
+            blocks.append((frame[45], frame[46 : 34 + length]))
+        self.assertEqual([number for number, _ in blocks], [1, 2, 2, 3, 4, 3, 5])
+        kernel = b"".join(dict(blocks)[number] for number in range(1, 6))
+        self.assertEqual((len(kernel), kernel[:4]), (2_248, b"\x7fELF"))
+
+
+def word_sum(data: bytes) -> int:
+    """The ones' complement sum of 16-bit words, added one by one."""
+    total = 0
+    for (number,) in struct.iter_unpack(">H", data + bytes(len(data) % 2)):
+        total += number
+        total = (total & 0xFFFF) + (total >> 16)
+    return total
+
+
+class Processes(Case):
+    """The tools as processes of their own."""
+
+    def ends(self, line: str) -> tuple[str, str, int]:
+        with self.start(line) as process:
+            printed, said = process.communicate()
+            return printed, said, process.returncode
+
+    def test_help_and_missing_words(self) -> None:
+        for name in ("record", "show", "pcap", "boot"):
+            printed, said, status = self.ends(f"tools/{name}.py --help")
+            self.assertEqual((said, status), ("", 0))
+            self.assertIn("examples:", printed)
+            printed, said, status = self.ends(f"tools/{name}.py")
+            self.assertEqual((printed, status), ("", 2))
+            self.assertIn("required", said)
+
+    def test_status_and_message_of_a_refusal(self) -> None:
+        self.put("cut.out", made.HELLO_OUTPUT[:30])
+        printed, said, status = self.ends("tools/show.py cut.out")
+        self.assertEqual((len(printed.splitlines()), status), (2, 1))
+        why = "at byte 25: the file ends inside a record: 1 of 22 bytes"
+        self.assertEqual(said, f"show.py: cut.out: {why}\n")
+
+
+if __name__ == "__main__":
+    unittest.main()

@@ -1,0 +1,142 @@
+#!/usr/bin/env python3
+"""Boots for real in a small network inside this machine, and compares what came with what was served."""
+
+from __future__ import annotations
+
+import argparse
+import hashlib
+import subprocess
+import sys
+import tempfile
+from pathlib import Path
+from random import Random
+from typing import Callable
+
+import boot
+from shared.command_line import Refused, run
+from shared.namespaces import CLIENT_ADDRESS, PREFIX, SERVER_ADDRESS, Network, missing, network
+from shared.parts import write_parts
+from shared.recordings import output_of
+from shared.servers import Tftp, dnsmasq
+
+SKIPPED = 77
+MOST_SECONDS = 600
+KERNEL_BYTES = 300_001
+ELF = b"\x7fELF"
+BRIDGE = Path(__file__).with_name("bridge.py")
+
+DESCRIPTION = """\
+Makes two network namespaces with a wire between them, starts dnsmasq as a TFTP server in one, and
+boots over the wire from the other: bridge.py leads the built program there, which runs a script of
+one imgexec. The kernel that it hands off is compared with the one that was served, and the run
+that was recorded is replayed and compared byte for byte. Then all of it is taken away.
+
+It needs root, iproute2, dnsmasq, and the built program or the toolchain's `rt`. Where one isn't
+there it says so and ends with 77."""
+
+EPILOG = """\
+examples:
+  live_boot.py
+  live_boot.py --kernel /boot/vmlinuz --keep hand-off"""
+
+
+def parse(words: list[str]) -> argparse.Namespace:
+    parser = argparse.ArgumentParser(
+        description=DESCRIPTION,
+        epilog=EPILOG,
+        formatter_class=argparse.RawDescriptionHelpFormatter,
+    )
+    parser.add_argument("--kernel", type=Path, help="the file to serve, in place of a made one")
+    parser.add_argument("--keep", type=Path, metavar="FOLDER", help="keep recordings and wire here")
+    return parser.parse_args(words)
+
+
+def say(line: str) -> None:
+    print(f"live_boot.py: {line}", file=sys.stderr, flush=True)
+
+
+def made_kernel() -> bytes:
+    """A file that begins as an ELF file does, whose last block isn't full, the same each time."""
+    return ELF + Random(0).randbytes(KERNEL_BYTES - len(ELF))
+
+
+class Boot:
+    """One boot over the wire, and the files of it."""
+
+    def __init__(self, joined: Network, folder: Path) -> None:
+        self.network, self.folder = joined, folder
+        self.input, self.output = folder / "boot.rec", folder / "boot.out"
+        self.pcap = folder / "boot.pcap"
+
+    def run(self, script: str) -> int:
+        """Runs a script through the bridge; the run's status."""
+        path = self.folder / "boot.ipxe"
+        path.write_text(script)
+        words = [
+            sys.executable, str(BRIDGE), str(path), "--run",
+            "--device", self.network.client_device, "--ip", f"{CLIENT_ADDRESS}/{PREFIX}",
+            "--record", str(self.input), "--output", str(self.output), "--pcap", str(self.pcap),
+        ]
+        done = subprocess.run(self.network.in_client(*words), timeout=MOST_SECONDS, check=False)
+        return done.returncode
+
+    def replayed(self) -> bytes:
+        """What the program writes over the input that was recorded."""
+        again = self.folder / "again.out"
+        words = boot.program_words("replay", str(self.input.resolve()), str(again.resolve()))
+        subprocess.run(words, cwd=boot.CRATE, capture_output=True, check=False)
+        return again.read_bytes()
+
+
+def compare_kernel(booted: Boot, served: bytes) -> None:
+    parts = booted.folder / "parts"
+    write_parts(output_of(booted.output), parts)
+    if (parts / "kernel").read_bytes() != served:
+        raise Refused("the kernel that was handed off isn't the one that was served")
+    say(f"the kernel is the one that was served: {len(served)} bytes, "
+        f"sha256 {hashlib.sha256(served).hexdigest()}")
+
+
+def compare_replay(booted: Boot) -> None:
+    if booted.replayed() != booted.output.read_bytes():
+        raise Refused("the run that was recorded doesn't replay to the same output")
+    say("the recorded run replays to the same output, byte for byte")
+
+
+def by_tftp(joined: Network, folder: Path, kernel: bytes) -> None:
+    """Boots a kernel by TFTP from the server's address."""
+    root = folder / "tftp"
+    root.mkdir()
+    root.chmod(0o755)
+    (root / "kernel").write_bytes(kernel)
+    booted = Boot(joined, folder)
+    with dnsmasq(joined, Tftp(root)):
+        status = booted.run(f"#!ipxe\nimgexec tftp://{SERVER_ADDRESS}/kernel\n")
+    if status != 0:
+        raise Refused(f"the boot by TFTP ended with status {status}: {boot.STATUSES.get(status)}")
+    compare_kernel(booted, kernel)
+    compare_replay(booted)
+
+
+# What is booted over; leases, names and HTTP join here.
+WAYS: dict[str, Callable[[Network, Path, bytes], None]] = {"TFTP": by_tftp}
+
+
+def live_boot(words: list[str]) -> int:
+    arguments = parse(words)
+    why = missing("dnsmasq") or boot.not_runnable()
+    if why:
+        say(f"skipped: {why}")
+        return SKIPPED
+    kernel = arguments.kernel.read_bytes() if arguments.kernel else made_kernel()
+    with tempfile.TemporaryDirectory(prefix="netboot-") as name, network() as joined:
+        for way, boots in WAYS.items():
+            folder = (arguments.keep or Path(name)) / way.lower()
+            folder.mkdir(parents=True)
+            boots(joined, folder, kernel)
+            say(f"booting by {way}: passed")
+    return 0
+
+
+if __name__ == "__main__":
+    raise SystemExit(run(live_boot, sys.argv))

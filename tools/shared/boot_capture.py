@@ -1,0 +1,290 @@
+"""A capture as the input of a run: which frames a client received, and when.
+
+The capture is read once, packet by packet. What was met on the way is counted, for warnings.
+"""
+
+from __future__ import annotations
+
+import shutil
+import tempfile
+from collections import Counter
+from contextlib import contextmanager
+from dataclasses import dataclass, field
+from pathlib import Path
+from typing import BinaryIO, Callable, Iterator
+
+from shared.capture import NANOSECONDS, Packet, read_capture
+from shared.checksums import Sums, filled, readdressed, sums_of
+from shared.command_line import STANDARD, Refused, opened, read_stream
+from shared.cooked import Receivers
+from shared.fields import CutOff
+from shared.frames import ends_of, packet_of
+from shared.records import MAX_FRAME, MIN_FRAME, Received, Record, Tick
+from shared.texts import count, mac
+from shared.wire import PROTOCOL_UDP, Opcode
+
+MILLISECOND = NANOSECONDS // 1000
+GROUP_BIT = 1
+TFTP_PORT = 69
+UDP_HEADER = 8
+FIRST_OWN_PORT = 49_152
+OWN_PORTS = 16_384
+MOST_COUNTED = 1_024
+# a day: what comes later is no boot, but a clock that jumped
+LONGEST = 24 * 3600 * 1000
+
+
+@dataclass(frozen=True, slots=True)
+class Request:
+    """A read request by TFTP in a capture: its time, its client, its server and its path."""
+
+    time: int
+    mac: bytes
+    ip: bytes
+    port: int
+    server: bytes
+    path: bytes
+
+
+def request_of(packet: Packet) -> Request | None:
+    """The read request that a packet carries, if it carries one."""
+    found = packet_of(packet.frame)
+    if found is None or found.protocol != PROTOCOL_UDP or found.is_fragment:
+        return None
+    ends = ends_of(found)
+    body = found.body[UDP_HEADER:]
+    if ends.target_port != TFTP_PORT or body[:2] != Opcode.RRQ.to_bytes(2, "big"):
+        return None
+    path = body[2:].split(b"\0", 1)[0]
+    sender, server = ends.source.packed, ends.target.packed
+    return Request(packet.time, packet.frame[6:12], sender, ends.source_port, server, path)
+
+
+@contextmanager
+def reopenable(path: Path) -> Iterator[Path]:
+    """A file that can be read twice: the file itself, or a copy of what a pipe gives."""
+    if path != STANDARD and path.is_file():
+        yield path
+        return
+    with tempfile.NamedTemporaryFile(prefix="netboot-") as copy, opened(path) as stream:
+        shutil.copyfileobj(stream, copy)
+        copy.flush()
+        yield Path(copy.name)
+
+
+class Reader:
+    """Reads the packets of a capture; a file that ends inside a packet ends the capture."""
+
+    def __init__(self, path: Path, name: Path, known: dict[bytes, bytes]) -> None:
+        self.path = path
+        self.name = name
+        self.known = known
+        self.cut_off: str | None = None
+
+    def packets(self) -> Iterator[Packet]:
+        receivers = Receivers(self.known)
+        with self.path.open("rb") as stream:
+            for packet in read_stream(self.name, stream, self._until_cut_off):
+                frame = receivers.complete(packet.frame)
+                yield Packet(packet.offset, packet.time, frame, packet.length)
+
+    def _until_cut_off(self, stream: BinaryIO) -> Iterator[Packet]:
+        packets, number = read_capture(stream), 0
+        try:
+            for packet in packets:
+                number += 1
+                yield packet
+        except CutOff as damage:
+            if not number:
+                raise
+            self.cut_off = f"{damage}; {count(number, 'packet')} before it"
+
+
+def first_request(reader: Reader, device: bytes | None) -> Request | None:
+    """The first read request in a capture, of this device where one is given."""
+    for packet in reader.packets():
+        request = request_of(packet)
+        if request and device in (None, request.mac):
+            return request
+    return None
+
+
+@dataclass(slots=True)
+class Taken:
+    """Which part of a capture is taken, for which device, and how."""
+
+    device: bytes
+    longest_tick: int = 250
+    begin: int | None = None
+    is_trimmed: bool = False
+    until: int | None = None
+    skips: bool = False
+    fills: bool = False
+    own_port: Callable[[int], int] | None = None
+
+
+@dataclass(slots=True)
+class Met:
+    """What was met in a capture, counted."""
+
+    packets: int = 0
+    taken: int = 0
+    skipped: int = 0
+    unfilled: int = 0
+    wrong: int = 0
+    readdressed: int = 0
+    began_late: int = 0
+    others: Counter[bytes] = field(default_factory=Counter)
+    ports: dict[int, int] = field(default_factory=dict)
+
+
+class Conversion:
+    """The records of a capture: the frames that the device received, and the time between them."""
+
+    def __init__(self, reader: Reader, taken: Taken) -> None:
+        self.reader = reader
+        self.taken = taken
+        self.met = Met()
+        self.zero: int | None = None
+        self.now = 0
+
+    def records(self) -> Iterator[Record]:
+        last = 0
+        for packet in self.reader.packets():
+            self.met.packets += 1
+            if not self._has_begun(packet):
+                continue
+            time = (packet.time - (self.zero or 0)) // MILLISECOND
+            if self.taken.until is not None and time > self.taken.until:
+                break
+            self._check_time(packet, time)
+            last = max(last, time)
+            frame = self._received(packet)
+            if frame is not None:
+                self.met.taken += 1
+                yield from self.ticks(time)
+                yield Received(frame)
+        yield from self.ticks(last if self.taken.until is None else self.taken.until)
+
+    def _check_time(self, packet: Packet, time: int) -> None:
+        if time > LONGEST:
+            where = f"{self.reader.name}: the packet at byte {packet.offset}"
+            raise Refused(
+                f"{where} comes {time // 1000} s after the beginning, over a day: --from, --trim "
+                "and --until take a part of a capture"
+            )
+
+    def ticks(self, time: int) -> Iterator[Tick]:
+        """TICKs from now to this time, in milliseconds."""
+        while self.now < time:
+            milliseconds = min(time - self.now, self.taken.longest_tick)
+            self.now += milliseconds
+            yield Tick(milliseconds)
+
+    def _has_begun(self, packet: Packet) -> bool:
+        """Whether the run's time has begun, which is the time of its first packet."""
+        if self.zero is None:
+            if self.taken.is_trimmed and not self._is_of_device(packet.frame):
+                return False
+            self.zero = packet.time + (self.taken.begin or 0)
+        return self.taken.begin is None or packet.time >= self.zero
+
+    def _is_of_device(self, frame: bytes) -> bool:
+        return self.taken.device in (frame[:6], frame[6:12])
+
+    def _received(self, packet: Packet) -> bytes | None:
+        """The frame, where the device receives it and a FRAME record holds it."""
+        frame = packet.frame
+        if len(frame) < MIN_FRAME:
+            return self._skipped(packet)
+        if frame[6:12] == self.taken.device:
+            self._note_sent(packet)
+            return None
+        if frame[:6] != self.taken.device and not frame[0] & GROUP_BIT:
+            if len(self.met.others) < MOST_COUNTED or frame[:6] in self.met.others:
+                self.met.others[frame[:6]] += 1
+            return None
+        if packet.length != len(frame) or len(frame) > MAX_FRAME:
+            return self._skipped(packet)
+        return self._readdressed(self._checked(frame))
+
+    def _note_sent(self, packet: Packet) -> None:
+        request = request_of(packet)
+        if request and request.port not in self.met.ports:
+            self.met.ports[request.port] = len(self.met.ports)
+            if len(self.met.ports) == 1:
+                self.met.began_late = (packet.time - (self.zero or 0)) // MILLISECOND
+
+    def _skipped(self, packet: Packet) -> None:
+        if self.taken.skips:
+            self.met.skipped += 1
+            return
+        kept = len(packet.frame)
+        what = f"has {kept} bytes, not {MIN_FRAME} to {MAX_FRAME}"
+        if packet.length != kept:
+            what = f"was cut by the capture: {kept} of {packet.length} bytes"
+        where = f"{self.reader.name}: the packet at byte {packet.offset}"
+        raise Refused(f"{where} {what}; --skip leaves out such frames")
+
+    def _checked(self, frame: bytes) -> bytes:
+        sums = sums_of(frame)
+        if sums is Sums.WRONG:
+            self.met.wrong += 1
+        if sums is not Sums.UNFILLED:
+            return frame
+        self.met.unfilled += 1
+        return filled(frame) if self.taken.fills else frame
+
+    def _readdressed(self, frame: bytes) -> bytes:
+        if self.taken.own_port is None:
+            return frame
+        packet = packet_of(frame)
+        if packet is None or packet.protocol != PROTOCOL_UDP or packet.is_fragment:
+            return frame
+        number = self.met.ports.get(ends_of(packet).target_port)
+        if number is None:
+            return frame
+        self.met.readdressed += 1
+        return readdressed(frame, self.taken.own_port(number))
+
+
+def warnings(conversion: Conversion, w: int) -> Iterator[str]:
+    """What a person should know of a capture that was taken."""
+    met, taken = conversion.met, conversion.taken
+    if conversion.reader.cut_off:
+        yield f"the capture is cut off: {conversion.reader.cut_off}"
+    if not met.taken:
+        yield _nothing(met, taken.device)
+    if met.skipped:
+        yield f"{count(met.skipped, 'frame')} skipped: cut by the capture, or not 14 to 1522 bytes"
+    if met.unfilled and not taken.fills:
+        yield (
+            f"{met.unfilled} of {count(met.taken, 'frame')} have checksums that the network card "
+            "fills in later, and the client drops them: --fix-checksums mends them"
+        )
+    if met.wrong:
+        of_all = f"{met.wrong} of {count(met.taken, 'frame')}"
+        yield f"{of_all} have wrong checksums, and the client drops them"
+    if taken.own_port is None:
+        yield from _ports(met, w)
+    if met.began_late >= 1_000 and not taken.is_trimmed and taken.begin is None:
+        yield (
+            f"the device's first request comes after {met.began_late / 1000:.3f} s: "
+            "--trim begins at its first frame"
+        )
+
+
+def _nothing(met: Met, device: bytes) -> str:
+    said = f"none of {count(met.packets, 'packet')} is for {mac(device)}"
+    most = ", ".join(f"{n} for {mac(address)}" for address, n in met.others.most_common(3))
+    return f"{said}; there are {most}" if most else said
+
+
+def _ports(met: Met, w: int) -> Iterator[str]:
+    wanted = [FIRST_OWN_PORT + (w + number) % OWN_PORTS for number in range(len(met.ports))]
+    if list(met.ports) != wanted:
+        asked = ", ".join(map(str, list(met.ports)[:4])) + (", .." if len(met.ports) > 4 else "")
+        yield (
+            f"the capture's client asked from port {asked}, and the run's opens have the ports "
+            f"from {wanted[0]} on: --map-ports leads its answers to them"
+        )

@@ -1,0 +1,113 @@
+"""Shows a live run while it goes: what commands print, and a line for each fetch."""
+
+from __future__ import annotations
+
+import sys
+import time
+from dataclasses import dataclass, field
+from typing import TextIO
+
+from shared.causes import MEANING, OK
+from shared.kinds import OpenKind
+from shared.records import Advance, Command, Ended, Open, Record, Text
+from shared.texts import PrintedText, count, word
+
+# IPv4 without options, UDP, and what stands before a DATA's bytes (RFC 1350, section 5).
+BEFORE_DATA = 20 + 8 + 4
+SECONDS_BETWEEN = 0.25
+SECONDS_BETWEEN_LINES = 5.0
+
+
+@dataclass(slots=True)
+class Fetch:
+    """A transfer that goes on, and how far it has come."""
+
+    opened: Open
+    begun: float
+    place: int = 0
+    bytes: int = 0
+
+    def line(self, now: float) -> str:
+        seconds = max(now - self.begun, 0.001)
+        server = f"{self.opened.server}:{self.opened.port}"
+        target = word(self.opened.target)
+        if self.opened.kind is OpenKind.TFTP:
+            place = f"{count(self.place, 'block')}, "
+        else:
+            place = ""
+        rate = self.bytes / seconds / 1e6
+        return f"{target} from {server}: {place}{count(self.bytes, 'byte')}, {rate:.2f} MB/s"
+
+
+@dataclass
+class Progress:
+    """Prints to standard output what commands print, and to standard error how fetches go on."""
+
+    printed: TextIO = field(default_factory=lambda: sys.stdout)
+    said: TextIO = field(default_factory=lambda: sys.stderr)
+    is_quiet: bool = False
+
+    def __post_init__(self) -> None:
+        self.text = PrintedText()
+        self.fetches: dict[int, Fetch] = {}
+        self.is_terminal = self.said.isatty()
+        self.shown = 0.0
+        self.is_line_open = False
+
+    def take(self, packet_length: int, record: Record) -> None:
+        """A record of the output, in the step of a received packet of this length, or of none."""
+        match record:
+            case Advance():
+                self._advance(record, packet_length)
+            case Text():
+                self._print(record.text)
+            case Command():
+                self._say(b" ".join(record.words).decode("utf-8", "backslashreplace"))
+            case Open():
+                self.fetches[record.number] = Fetch(record, time.monotonic())
+            case Ended():
+                self._ended(record)
+
+    def _print(self, text: bytes) -> None:
+        self._close_line()
+        self.printed.write(self.text.of(text))
+        self.printed.flush()
+
+    def _advance(self, advance: Advance, packet_length: int) -> None:
+        fetch = self.fetches.get(advance.number)
+        if fetch is None:
+            return
+        fetch.place = advance.place
+        if fetch.opened.kind is OpenKind.TFTP:
+            fetch.bytes += max(packet_length - BEFORE_DATA, 0)
+        else:
+            fetch.bytes = advance.place
+        between = SECONDS_BETWEEN if self.is_terminal else SECONDS_BETWEEN_LINES
+        now = time.monotonic()
+        if now - max(self.shown, fetch.begun) >= between:
+            self.shown = now
+            self._say(fetch.line(now), stays=False)
+
+    def _ended(self, ended: Ended) -> None:
+        fetch = self.fetches.pop(ended.number, None)
+        if fetch:
+            how = "" if ended.cause == OK else f": {MEANING[ended.cause.code]}"
+            self._say(fetch.line(time.monotonic()) + how)
+
+    def _say(self, line: str, stays: bool = True) -> None:
+        if self.is_quiet:
+            return
+        self.said.write(("\r\x1b[K" if self.is_line_open else "") + line)
+        self.is_line_open = self.is_terminal and not stays
+        self.said.write("" if self.is_line_open else "\n")
+        self.said.flush()
+
+    def _close_line(self) -> None:
+        if self.is_line_open:
+            self.said.write("\n")
+            self.is_line_open = False
+
+    def end(self) -> None:
+        self._close_line()
+        self.printed.write(self.text.end())
+        self.printed.flush()

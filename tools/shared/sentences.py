@@ -1,0 +1,161 @@
+"""The one sentence on how a run ended, for somebody who runs the network and not the program."""
+
+from __future__ import annotations
+
+import re
+from ipaddress import IPv4Address, IPv4Network
+
+from shared.causes import MEANING, Cause, Code
+from shared.frames import datagram_of, ends_of, packet_of
+from shared.records import Command, Open, Start
+from shared.script_faults import script_fault
+from shared.texts import word
+from shared.wire import ARP, PROTOCOL_UDP, Opcode
+
+NUMBERS = ("no", "one", "two", "three", "four", "five", "six", "seven", "eight", "nine", "ten")
+TIMES = ("never", "once", "twice")
+UNSET = IPv4Address(0)
+# START's mask of 0 stands for this one
+USUAL_MASK = IPv4Address("255.255.255.0")
+
+# RFC 1350, section 5, and RFC 2347
+TFTP_ERRORS = {
+    1: "file not found",
+    2: "access violation",
+    3: "disk full or allocation exceeded",
+    4: "illegal TFTP operation",
+    5: "unknown transfer ID",
+    6: "file already exists",
+    7: "no such user",
+    8: "option negotiation refused",
+}
+
+USAGES = {
+    b"echo": "echo [-n] [text]",
+    b"exit": "exit [n], n from 0 to 255",
+    b"imgfetch": "imgfetch URI",
+    b"imgexec": "imgexec URI",
+}
+
+# Commands of iPXE, so that one that isn't built is known from one that is misspelled.
+KNOWN = frozenset(
+    b"autoboot boot chain choose clear colour config console cpair cpuid dhcp form goto ifclose "
+    b"ifconf ifopen iflinkwait ifstat imgargs imgdecrypt imgextract imgfree imgload imgmem "
+    b"imgselect imgstat imgtrust imgverify inc initrd iseq isset item kernel login lotest menu "
+    b"module nslookup ntp nstat param params pciscan ping poweroff present profstat prompt read "
+    b"reboot route sanboot sanhook sanunhook set shell shim show sleep sync time vcreate "
+    b"vdestroy".split()
+)
+
+
+def times(number: int) -> str:
+    if number < len(TIMES):
+        return TIMES[number]
+    return f"{NUMBERS[number] if number < len(NUMBERS) else number} times"
+
+
+def seconds(milliseconds: int) -> str:
+    return f"{milliseconds / 1000:g} s"
+
+
+def of_local(cause: Cause, command: Command | None, start: Start | None) -> str:
+    """On a failure that no server took part in."""
+    if cause.code is Code.NOT_SCRIPT and command is None and start is not None:
+        return script_fault(start.script).why
+    if cause.code is Code.NO_ROUTE:
+        return _no_route(IPv4Address(cause.a), start)
+    if command is None:
+        return MEANING[cause.code]
+    name = command.words[0]
+    match cause.code:
+        case Code.BAD_URI:
+            return _bad_uri(command.words[-1])
+        case Code.UNKNOWN if name in KNOWN:
+            return f"the command `{name.decode()}` isn't built yet"
+        case Code.UNKNOWN:
+            return f"there is no command {word(name)}"
+        case Code.USAGE if name in USAGES:
+            return f"the words don't fit the command: `{USAGES[name]}`"
+        case Code.EXIT:
+            return f"the script left by `exit {cause.a}`"
+        case Code.NOT_BOOTABLE:
+            kinds = "a kernel for x86, an ELF file or an EFI program"
+            return f"{word(command.words[-1])} can't be booted: it isn't {kinds}"
+    return f"{word(name)}: {MEANING[cause.code]}"
+
+
+def _no_route(address: IPv4Address, start: Start | None) -> str:
+    if start is None:
+        return f"there is no route to {address}"
+    if start.ip == UNSET:
+        return f"the client has no address, so it can't reach {address}: give one by --ip"
+    mask = USUAL_MASK if start.mask == UNSET else start.mask
+    net = IPv4Network(f"{start.ip}/{mask}", strict=False)
+    return f"{address} is outside the client's net {net}, and no gateway is set"
+
+
+def _bad_uri(uri: bytes) -> str:
+    built = "`tftp://ADDRESS/PATH` is"
+    scheme = re.match(rb"([A-Za-z][A-Za-z0-9+.-]*):(//)?", uri)
+    if scheme and scheme[1].lower() != b"tftp":
+        return f"`{scheme[0].decode()}` isn't built yet; {built}"
+    host = re.match(rb"tftp://([^/]*)/", uri)
+    if host and not re.fullmatch(rb"[0-9.]+", host[1]):
+        return f"{word(uri)}: only an address can name the server yet; {built}"
+    return f"{word(uri)} is no URI that is read here; {built}"
+
+
+def of_refusal(cause: Cause, opened: Open, text: bytes | None) -> str:
+    """On an open whose server refused, with the text of its message where that is known."""
+    named = TFTP_ERRORS.get(cause.b)
+    if named is None:
+        said = word(text) if text else f"error {cause.b}"
+        return f"{opened.server} answered: {said}, when asked for {word(opened.target)}"
+    return f"{opened.server} answered: {named} ({word(opened.target)})"
+
+
+def of_silence(opened: Open, asked: list[bytes], block: int, span: int | None) -> str:
+    """On an open whose server didn't answer: the frames of its last tries, the last block, and
+    the time from the first of them to the end."""
+    over = f" in {seconds(span)}" if span is not None else ""
+    hops = [hop for hop in map(asked_address, asked) if hop]
+    server, path = opened.server, word(opened.target)
+    if asked and len(hops) == len(asked):
+        how = f"was asked for {times(len(asked))}{over}"
+        if hops[-1] != server:
+            return f"the gateway {hops[-1]} never answered: its hardware address {how}"
+        return f"{server} never answered: its hardware address {how}"
+    if block:
+        acknowledged = f"which was acknowledged {times(len(asked))}{over}"
+        return f"{server} stopped answering after block {block} of {path}, {acknowledged}"
+    return f"{server} never answered: {path} was asked for {times(len(asked))}{over}"
+
+
+def of_wait(opened: Open, asked: list[bytes], block: int, known: set[IPv4Address]) -> str:
+    """What an open waits for; of the known hosts the hardware address has come."""
+    hop, path = asked_address(asked[-1]) if asked else None, word(opened.target)
+    if hop and hop not in known:
+        return f"the hardware address of {hop}"
+    if hop:
+        said = f"{hop} had only said its hardware address"
+        return f"the next try, as {said}: {path} is asked for then"
+    if block:
+        return f"block {block + 1} of {path} from {opened.server}"
+    return f"the first answer of {opened.server} to the request for {path}"
+
+
+def asked_address(frame: bytes) -> IPv4Address | None:
+    """The address whose hardware address an ARP request asks for."""
+    is_arp = int.from_bytes(frame[12:14], "big") == ARP and len(frame) >= 42
+    return IPv4Address(frame[38:42]) if is_arp else None
+
+
+def error_text(frame: bytes) -> bytes | None:
+    """The text of a TFTP ERROR."""
+    packet = packet_of(frame)
+    if packet is None or packet.protocol != PROTOCOL_UDP or not ends_of(packet).target_port:
+        return None
+    body = datagram_of(packet)
+    if not body or int.from_bytes(body[:2], "big") != Opcode.ERROR:
+        return None
+    return body[4:].rstrip(b"\0")

@@ -1,0 +1,214 @@
+"""Goes over an output recording and gathers what failed, and what was waited for."""
+
+from __future__ import annotations
+
+from collections import deque
+from dataclasses import dataclass, field, replace
+
+from shared.causes import OK, Cause, Code
+from shared.command_line import Refused
+from shared.kinds import OpenKind, PartKind, ScriptMove
+from shared.records import (
+    Advance,
+    Command,
+    Done,
+    Ended,
+    Open,
+    Part,
+    Record,
+    Result,
+    Script,
+    Sent,
+    Step,
+    Try,
+)
+
+# What is kept of a recording, whatever it holds: the last failures, and of each the last opens.
+MOST_FAILURES = 100
+MOST_OPENS = 16
+MOST_TRIES = 16
+MOST_NESTED = 64
+MOST_TEXT = 256
+
+
+@dataclass(slots=True)
+class Evidence:
+    """An output record with the step that it stands in, and the frame directly after a TRY."""
+
+    step: int
+    record: Record
+    frame: Sent | None = None
+
+
+@dataclass(slots=True)
+class OpenStory:
+    """An open, its last place, the tries of the message that it sent last, and its end."""
+
+    opened: Evidence
+    tries: deque[Evidence] = field(default_factory=lambda: deque(maxlen=MOST_TRIES))
+    block: int = 0
+    ended: Evidence | None = None
+
+    def is_drive(self) -> bool:
+        return self.open.kind is OpenKind.ISCSI
+
+    @property
+    def open(self) -> Open:
+        assert isinstance(self.opened.record, Open)
+        return self.opened.record
+
+    def asked(self) -> list[bytes]:
+        """The frames of the last tries."""
+        return [tried.frame.frame for tried in self.tries if tried.frame]
+
+
+@dataclass(slots=True)
+class CommandStory:
+    """A command, the opens that it made or else those of the drives that stood, and the leave of
+    the script that it ran."""
+
+    command: Evidence
+    drives: list[OpenStory]
+    opens: deque[OpenStory] = field(default_factory=lambda: deque(maxlen=MOST_OPENS))
+    left: Evidence | None = None
+
+    @property
+    def words(self) -> Command:
+        assert isinstance(self.command.record, Command)
+        return self.command.record
+
+
+@dataclass(slots=True)
+class Failure:
+    """A failed RESULT with its command, or a script that failed before any command."""
+
+    what: Evidence
+    cause: Cause
+    story: CommandStory | None = None
+
+    def opens(self) -> list[OpenStory]:
+        """The opens that show the cause: a command's last, or each where moves were too many."""
+        if self.story is None or self.story.left:
+            return []
+        if self.cause.code is Code.TOO_MANY:
+            return list(self.story.opens)
+        return list(self.story.opens)[-1:] or self.story.drives
+
+    def evidence(self) -> list[Evidence]:
+        """The records that show the cause, in their order."""
+        found = [self.story.command] if self.story else []
+        for story in self.opens():
+            found.append(story.opened)
+            if self.cause.code is Code.TIMED_OUT:
+                found += story.tries
+            if story.ended:
+                found.append(story.ended)
+        if self.story and self.story.left:
+            found.append(self.story.left)
+        return found
+
+
+class Trace:
+    """Goes over the records of an output recording and gathers the failures."""
+
+    def __init__(self) -> None:
+        self.step = 0
+        self.running: list[CommandStory] = []
+        self.live: dict[int, OpenStory] = {}
+        self.failures: deque[Failure] = deque(maxlen=MOST_FAILURES)
+        self.failed = 0
+        self.waiting: OpenStory | None = None
+        self.kernel: bytes = b""
+        self.sizes: dict[PartKind, int] = {}
+        self.done: Done | None = None
+        self._last_cause: Cause | None = None
+        self._last_try: Evidence | None = None
+
+    def take(self, record: Record) -> None:
+        here = Evidence(self.step, record)
+        last_try, self._last_try = self._last_try, None
+        match record:
+            case Step():
+                self.step = record.number
+            case Command():
+                self._command(here, record)
+            case Result():
+                self._result(here, record.cause)
+            case Script():
+                self._script(here, record)
+            case Open():
+                self._open(here, record)
+            case Try():
+                self._try(here, record)
+            case Sent() if last_try:
+                last_try.frame = record
+            case Advance():
+                self._story(record.number).block = record.place
+            case Ended():
+                self._ended(here, record)
+            case Part():
+                self._part(record)
+            case Done():
+                self.done = record
+
+    def _command(self, here: Evidence, command: Command) -> None:
+        if len(self.running) == MOST_NESTED:
+            raise Refused(f"more than {MOST_NESTED} commands run at once in step {self.step}")
+        self.running.append(CommandStory(here, self._drives(command)))
+        self.waiting = None
+
+    def _drives(self, command: Command) -> list[OpenStory]:
+        """The opens of hooked drives, where the command may be one about a drive."""
+        if not command.words[0].startswith(b"san"):
+            return []
+        return [story for story in self.live.values() if story.is_drive()][:MOST_OPENS]
+
+    def _result(self, here: Evidence, cause: Cause) -> None:
+        if not self.running:
+            raise Refused(f"a RESULT without its COMMAND in step {self.step}")
+        story = self.running.pop()
+        self._last_cause = cause
+        self.waiting = None
+        if cause != OK:
+            self._fail(Failure(here, cause, story))
+
+    def _fail(self, failure: Failure) -> None:
+        self.failed += 1
+        self.failures.append(failure)
+
+    def _script(self, here: Evidence, script: Script) -> None:
+        if script.move is not ScriptMove.LEAVE:
+            self._last_cause = None
+        elif self.running:
+            self.running[-1].left = here
+        elif script.cause not in (OK, self._last_cause):
+            self._fail(Failure(here, script.cause))
+
+    def _open(self, here: Evidence, opened: Open) -> None:
+        here.record = replace(opened, target=opened.target[:MOST_TEXT])
+        story = OpenStory(here)
+        self.live[opened.number] = self.waiting = story
+        if self.running:
+            self.running[-1].opens.append(story)
+
+    def _story(self, number: int) -> OpenStory:
+        story = self.live.get(number)
+        if story is None:
+            raise Refused(f"step {self.step} speaks of open {number}, which is not open")
+        return story
+
+    def _try(self, here: Evidence, tried: Try) -> None:
+        tries = self._story(tried.number).tries
+        if tried.attempt == 1:
+            tries.clear()
+        tries.append(here)
+        self._last_try = here
+
+    def _ended(self, here: Evidence, ended: Ended) -> None:
+        self._story(ended.number).ended = here
+        del self.live[ended.number]
+
+    def _part(self, part: Part) -> None:
+        self.sizes[part.kind] = self.sizes.get(part.kind, 0) + len(part.piece)
+        if part.kind is PartKind.KERNEL_NAME:
+            self.kernel = (self.kernel + part.piece)[:MOST_TEXT]

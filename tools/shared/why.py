@@ -1,0 +1,344 @@
+"""Says how a run ended: a sentence, and then the records that show it."""
+
+from __future__ import annotations
+
+from dataclasses import dataclass, field
+from pathlib import Path
+from typing import BinaryIO, Iterator
+
+from shared.causes import MEANING, Code
+from shared.command_line import Refused, read_stream
+from shared.describe import Lines
+from shared.fields import CutOff
+from shared.kinds import PartKind, Status
+from shared.meanwhile import Meanwhile
+from shared.recordings import Timed, input_of, read_output
+from shared.records import (
+    Advance,
+    Command,
+    Ended,
+    Off,
+    Open,
+    Received,
+    Record,
+    Script,
+    Start,
+    Try,
+)
+from shared.script_faults import script_fault
+from shared.sentences import (
+    error_text,
+    of_local,
+    of_refusal,
+    of_silence,
+    of_wait,
+    seconds,
+)
+from shared.stories import CommandStory, Evidence, Failure, OpenStory, Trace
+from shared.texts import count, word
+
+# Causes that name the input record whose message decided.
+BY_MESSAGE = (Code.REFUSED, Code.BROKEN)
+# how long a transfer tries without an answer, in seconds, with a second to spare
+PATIENCE = 17
+
+
+@dataclass(slots=True)
+class Inputs:
+    """What the input recording says of the records that were asked for."""
+
+    path: Path | None
+    times: dict[int, int] = field(default_factory=dict)
+    records: dict[int, Record] = field(default_factory=dict)
+    lines: dict[int, str] = field(default_factory=dict)
+    start: Start | None = None
+    meanwhile: Meanwhile | None = None
+    damage: str | None = None
+
+    def read(self, numbers: set[int], waited: OpenStory | None, last: int) -> None:
+        """Reads as far as one of these records, or the last that was used, stands."""
+        if self.path is None:
+            return
+        furthest, lines = max(numbers | {last}), Lines()
+        try:
+            for timed in input_of(self.path):
+                self._take(timed, numbers, waited, last, lines)
+                if timed.number >= furthest:
+                    return
+        except Refused as refusal:
+            self.damage = str(refusal)
+
+    def _take(
+        self, timed: Timed, numbers: set[int], waited: OpenStory | None, last: int, lines: Lines
+    ) -> None:
+        if isinstance(timed.record, Start):
+            self.start = timed.record
+            if waited:
+                self.meanwhile = Meanwhile(timed.record, waited.open)
+        text = lines.of(timed.record)
+        if timed.number in numbers:
+            self.times[timed.number] = timed.time
+            self.records[timed.number] = timed.record
+            self.lines[timed.number] = text
+        is_meant = waited is not None and waited.opened.step < timed.number <= last
+        if is_meant and self.meanwhile and isinstance(timed.record, Received):
+            self.meanwhile.take(timed.record.frame)
+
+    def at(self, step: int) -> str:
+        if self.path is None:
+            return f"step {step}"
+        if step not in self.times:
+            raise Refused(self.damage or self.missing(step))
+        return f"step {step} at {self.times[step]} ms"
+
+    def missing(self, number: int) -> str:
+        return f"the input recording has no record {number}: it is another run's"
+
+    def script_line(self, depth: int, line: int) -> list[str]:
+        """A line of the first script, where the script of that depth is known."""
+        script_lines = self.start.script.split(b"\n") if self.start else []
+        if depth != 1 or not 1 <= line <= len(script_lines):
+            return []
+        return [f"  script line {line}: {word(script_lines[line - 1])}"]
+
+
+class Account:
+    """The account of a run: what its output shows, with what its input says of that."""
+
+    def __init__(self, trace: Trace, cut_off: str | None, input_path: Path | None) -> None:
+        self.trace = trace
+        self.cut_off = cut_off
+        self.inputs = Inputs(input_path)
+        self.lines = Lines()
+        self.is_bad = trace.done is not None and trace.done.status is Status.BAD_RECORD
+        self.inputs.read(self._numbers(), self._waited(), trace.step)
+
+    def _waited(self) -> OpenStory | None:
+        """The open for which the run waited last, if nothing ended that."""
+        decisive = self._decisive()
+        if self.trace.waiting or decisive is None or decisive.cause.code is not Code.TIMED_OUT:
+            return self.trace.waiting
+        opens = decisive.opens()
+        return opens[-1] if opens else None
+
+    def _decisive(self) -> Failure | None:
+        """The failure by which a failed script ended: the innermost of its last ones."""
+        if self.trace.done is None or self.trace.done.status is not Status.SCRIPT_FAILED:
+            return None
+        failures = list(self.trace.failures)
+        while len(failures) > 1 and failures[-1].story and failures[-1].story.left:
+            failures.pop()
+        return failures[-1] if failures else None
+
+    def _numbers(self) -> set[int]:
+        """The input records that the account names."""
+        found = {1} | ({self.trace.step} if self.trace.step else set())
+        for failure in self.trace.failures:
+            found.add(failure.what.step)
+            found.update(evidence.step for evidence in failure.evidence())
+            if failure.cause.code in BY_MESSAGE:
+                found.add(failure.cause.a)
+        if self.trace.waiting:
+            found.update(evidence.step for evidence in self._wait_evidence(self.trace.waiting))
+        if self.is_bad:
+            found.add(self.trace.step + 1)
+        return found
+
+    def report(self) -> Iterator[str]:
+        yield self.sentence()
+        if self.trace.waiting and not self._decisive():
+            yield from self._waiting(self.trace.waiting)
+        if self.trace.failed > len(self.trace.failures):
+            last = len(self.trace.failures)
+            yield f"{self.trace.failed} commands failed; these are the last {last}"
+        for failure in self.trace.failures:
+            yield from self._explain(failure)
+        yield from self._meanwhile()
+
+    def sentence(self) -> str:
+        """How the run ended, in words for somebody who doesn't know the program."""
+        done = self.trace.done
+        if done is None:
+            return self._cut_off()
+        match done.status:
+            case Status.HANDED_OFF:
+                return self._handed_off()
+            case Status.ENDED:
+                failed = self.trace.failed
+                on_the_way = f"; {count(failed, 'command')} failed on the way" if failed else ""
+                return f"the script ended well{on_the_way}"
+            case Status.SCRIPT_FAILED:
+                return self._failure_sentence()
+            case Status.UNFINISHED:
+                return self._unfinished()
+            case Status.BAD_RECORD:
+                return self._bad_record()
+        return "4294967295 records were used, the most that there can be, and more follows"
+
+    def _cut_off(self) -> str:
+        how = self.cut_off or "it ends without DONE, as where a read or a write failed"
+        running = self._running()
+        return f"the output is cut off: {how}{f'; {running} was running' if running else ''}"
+
+    def _running(self) -> str | None:
+        return _line_of(self.trace.running[-1]) if self.trace.running else None
+
+    def _handed_off(self) -> str:
+        sizes = self.trace.sizes
+        if PartKind.SECTOR in sizes:
+            return "the boot succeeded: a disk was handed off"
+        others = count(sizes.get(PartKind.INITRD, 0), "byte")
+        initrds = f", with initrds of {others}" if PartKind.INITRD in sizes else ""
+        size = count(sizes.get(PartKind.KERNEL, 0), "byte")
+        return f"the boot succeeded: {word(self.trace.kernel)}, {size}, was handed off{initrds}"
+
+    def _failure_sentence(self) -> str:
+        failure = self._decisive()
+        if failure is None:
+            return "the script failed"
+        opens = failure.opens()
+        if opens and failure.cause.code is Code.REFUSED:
+            frame = self.inputs.records.get(failure.cause.a)
+            text = error_text(frame.frame) if isinstance(frame, Received) else None
+            return of_refusal(failure.cause, opens[-1].open, text)
+        if opens and failure.cause.code is Code.TIMED_OUT:
+            return self._silence(opens[-1])
+        if opens and failure.cause.code is Code.BROKEN:
+            message = self.inputs.lines.get(failure.cause.a, f"record {failure.cause.a}")
+            return f"{opens[-1].open.server} sent what isn't allowed in its place: {message}"
+        command = failure.story.words if failure.story else None
+        sentence = of_local(failure.cause, command, self.inputs.start)
+        return f"{_line_of(failure.story)}: {sentence}" if failure.story else sentence
+
+    def _silence(self, story: OpenStory) -> str:
+        span = None
+        if story.tries and story.ended:
+            first, last = story.tries[0].step, story.ended.step
+            if first in self.inputs.times and last in self.inputs.times:
+                span = self.inputs.times[last] - self.inputs.times[first]
+        return of_silence(story.open, story.asked(), story.block, span)
+
+    def _unfinished(self) -> str:
+        step = self.trace.step
+        what, when = "the run was ended from outside", ""
+        if step in self.inputs.times:
+            is_off = isinstance(self.inputs.records[step], Off)
+            what = "the power was switched off" if is_off else "the recording ends"
+            when = f" after {seconds(self.inputs.times[step])}"
+        running, waiting = self._running(), self.trace.waiting
+        if running is None:
+            return f"{what}{when}, before the script's end"
+        if waiting is None:
+            return f"{what}{when}, while {running} was running"
+        known = self.inputs.meanwhile.hosts if self.inputs.meanwhile else set()
+        wanted = of_wait(waiting.open, waiting.asked(), waiting.block, known)
+        return f"{what}{when}, while {running} waited for {wanted}"
+
+    def _bad_record(self) -> str:
+        number = self.trace.step + 1
+        sentence = f"input record {number} can't be used"
+        if self.inputs.path is None:
+            return f"{sentence}: give the input recording by --input to see it"
+        if self.inputs.damage:
+            return f"{sentence}: {self.inputs.damage}"
+        if number in self.inputs.lines:
+            return f"{sentence}: it is {self.inputs.lines[number]}"
+        return f"{sentence}: the input ends after record {self.trace.step}"
+
+    def _explain(self, failure: Failure) -> Iterator[str]:
+        """A failure's cause, and the records that show it."""
+        what = _line_of(failure.story) if failure.story else "the script"
+        yield f"{what} failed in {self.inputs.at(failure.what.step)}: {failure.cause}"
+        yield f"  meaning: {MEANING[failure.cause.code]}"
+        for evidence in failure.evidence():
+            yield f"  {self.inputs.at(evidence.step)}: {self._plainly(evidence)}"
+            if isinstance(evidence.record, Command):
+                yield from self.inputs.script_line(evidence.record.depth, evidence.record.line)
+        if failure.story is None and self.inputs.start:
+            fault = script_fault(self.inputs.start.script)
+            yield from self.inputs.script_line(1, fault.line)
+        if failure.cause.code in BY_MESSAGE:
+            yield self._message(failure.cause.a)
+        if failure.cause.code is Code.NO_ROUTE and self.inputs.start:
+            yield f"  record 1: {self.inputs.lines[1]}"
+
+    def _message(self, number: int) -> str:
+        """The deciding message of a failure."""
+        if self.inputs.path is None:
+            return f"  record {number}: give the input recording by --input to see its message"
+        if number not in self.inputs.lines:
+            raise Refused(self.inputs.damage or self.inputs.missing(number))
+        return f"  record {number} at {self.inputs.times[number]} ms: {self.inputs.lines[number]}"
+
+    def _wait_evidence(self, story: OpenStory) -> list[Evidence]:
+        return [story.opened, *story.tries]
+
+    def _waiting(self, story: OpenStory) -> Iterator[str]:
+        """What a command waited for, and the records that show it."""
+        if self.trace.running:
+            command = self.trace.running[-1].words
+            yield from self.inputs.script_line(command.depth, command.line)
+        for evidence in self._wait_evidence(story):
+            yield f"  {self.inputs.at(evidence.step)}: {self._plainly(evidence)}"
+        is_off = isinstance(self.inputs.records.get(self.trace.step), Off)
+        if self.inputs.start and not is_off and self.trace.done:
+            yield f"  a silent server is given up after some 16 s: record.py --until {PATIENCE}"
+
+    def _meanwhile(self) -> Iterator[str]:
+        meanwhile = self.inputs.meanwhile
+        if meanwhile is None:
+            return
+        lines = meanwhile.lines()
+        if lines:
+            yield "what came meanwhile, and why it didn't count:"
+            yield from (f"  {line}" for line in lines)
+        else:
+            yield "nothing came meanwhile"
+
+    def _plainly(self, evidence: Evidence) -> str:
+        """A record in plain words."""
+        match evidence.record:
+            case Command() as command:
+                words = " ".join(word(text) for text in command.words)
+                return f"{_place_of(command)} begins: {words}"
+            case Open() as opened:
+                target = f"{word(opened.target)} is asked for: " if opened.target else ""
+                ports = f"port {opened.port}, from our port {opened.own}"
+                return f"{target}{opened.kind.name} with {opened.server} {ports}"
+            case Try() as tried:
+                frame = self.lines.of(evidence.frame) if evidence.frame else "FRAME missing"
+                return f"try {tried.attempt}: {frame.removeprefix('FRAME ')}"
+            case Ended() as ended:
+                return f"that ends: {ended.cause}"
+            case Script() as script:
+                return f"its script ends: {script.cause}"
+            case Advance() | _:
+                return self.lines.of(evidence.record)
+
+
+def _place_of(command: Command) -> str:
+    """Where a command stands: its line, and what else is needed to find it."""
+    place = f", command {command.place + 1} of the line" if command.place else ""
+    depth = f" of the script that line runs, {command.depth - 1} deep" if command.depth > 1 else ""
+    return f"line {command.line}{place}{depth}"
+
+
+def _line_of(story: CommandStory) -> str:
+    command = story.words
+    inner = " of an inner script" if command.depth > 1 else ""
+    return f"line {command.line}{inner}"
+
+
+def reasons(path: Path, stream: BinaryIO, input_path: Path | None) -> Iterator[str]:
+    """How a run ended, as lines of text; the stream is its output recording."""
+    trace, cut_off = Trace(), []
+
+    def until_cut_off(stream: BinaryIO) -> Iterator[Record]:
+        try:
+            yield from read_output(stream)
+        except CutOff as damage:
+            cut_off.append(str(damage))
+
+    for record in read_stream(path, stream, until_cut_off):
+        trace.take(record)
+    yield from Account(trace, cut_off[0] if cut_off else None, input_path).report()

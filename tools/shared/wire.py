@@ -1,0 +1,129 @@
+"""Writes frames: Ethernet, ARP (RFC 826), IPv4 (RFC 791), UDP (RFC 768) and TFTP (RFC 1350).
+
+The made examples and the tests build their frames with it; the tools themselves only read.
+"""
+
+from __future__ import annotations
+
+from dataclasses import dataclass
+from enum import IntEnum
+from ipaddress import IPv4Address
+
+IPV4 = 0x0800
+ARP = 0x0806
+PROTOCOL_ICMP = 1
+PROTOCOL_TCP = 6
+PROTOCOL_UDP = 17
+BROADCAST = bytes([0xFF] * 6)
+MIN_ON_WIRE = 60
+
+
+class Opcode(IntEnum):
+    """TFTP opcodes (RFC 1350, section 5; RFC 2347)."""
+
+    RRQ = 1
+    WRQ = 2
+    DATA = 3
+    ACK = 4
+    ERROR = 5
+    OACK = 6
+
+
+@dataclass(frozen=True, slots=True)
+class Station:
+    """A machine on the wire."""
+
+    mac: bytes
+    ip: IPv4Address
+
+
+def sum16(data: bytes) -> int:
+    """The ones' complement sum of 16-bit words, an odd end padded with zero (RFC 1071)."""
+    if len(data) % 2:
+        data += b"\0"
+    total = int.from_bytes(data, "big")
+    return (total % 0xFFFF) or (0xFFFF if total else 0)
+
+
+def checksum(data: bytes) -> int:
+    """The internet checksum."""
+    return 0xFFFF - sum16(data)
+
+
+def ethernet(to: bytes, sender: bytes, kind: int, body: bytes) -> bytes:
+    return to + sender + kind.to_bytes(2, "big") + body
+
+
+def padded(frame: bytes) -> bytes:
+    """A frame as it comes from a wire: at least 60 bytes without its check sequence."""
+    return frame.ljust(MIN_ON_WIRE, b"\0")
+
+
+def _arp(operation: int, sender: Station, target_mac: bytes, target: IPv4Address) -> bytes:
+    fixed = bytes.fromhex("0001 0800 06 04") + operation.to_bytes(2, "big")
+    return fixed + sender.mac + sender.ip.packed + target_mac + target.packed
+
+
+def arp_request(sender: Station, target: IPv4Address) -> bytes:
+    return ethernet(BROADCAST, sender.mac, ARP, _arp(1, sender, bytes(6), target))
+
+
+def arp_reply(sender: Station, to: Station) -> bytes:
+    return ethernet(to.mac, sender.mac, ARP, _arp(2, sender, to.mac, to.ip))
+
+
+def pseudo_header(source: IPv4Address, target: IPv4Address, protocol: int, length: int) -> bytes:
+    """What TCP and UDP sum before their own bytes."""
+    return source.packed + target.packed + bytes([0, protocol]) + length.to_bytes(2, "big")
+
+
+def ipv4(
+    source: IPv4Address, target: IPv4Address, protocol: int, body: bytes, identification: int = 0
+) -> bytes:
+    """An IPv4 packet without options, don't-fragment set, time to live 64."""
+    length = (20 + len(body)).to_bytes(2, "big")
+    head = b"\x45\0" + length + identification.to_bytes(2, "big") + b"\x40\0\x40"
+    head += bytes([protocol])
+    addresses = source.packed + target.packed
+    return head + checksum(head + addresses).to_bytes(2, "big") + addresses + body
+
+
+def udp(source: IPv4Address, target: IPv4Address, ports: tuple[int, int], body: bytes) -> bytes:
+    """A UDP datagram with its checksum; `ports` are the sender's and the receiver's."""
+    length = 8 + len(body)
+    head = b"".join(number.to_bytes(2, "big") for number in (*ports, length))
+    summed = pseudo_header(source, target, PROTOCOL_UDP, length) + head + b"\0\0" + body
+    return head + (checksum(summed) or 0xFFFF).to_bytes(2, "big") + body
+
+
+def udp_frame(
+    sender: Station,
+    to: Station,
+    ports: tuple[int, int],
+    body: bytes,
+    identification: int = 0,
+) -> bytes:
+    datagram = udp(sender.ip, to.ip, ports, body)
+    packet = ipv4(sender.ip, to.ip, PROTOCOL_UDP, datagram, identification)
+    return ethernet(to.mac, sender.mac, IPV4, packet)
+
+
+def tftp_request(path: bytes) -> bytes:
+    """A read request in octet mode without options."""
+    return _numbers(Opcode.RRQ) + path + b"\0octet\0"
+
+
+def tftp_data(block: int, data: bytes) -> bytes:
+    return _numbers(Opcode.DATA, block) + data
+
+
+def tftp_ack(block: int) -> bytes:
+    return _numbers(Opcode.ACK, block)
+
+
+def tftp_error(code: int, text: bytes) -> bytes:
+    return _numbers(Opcode.ERROR, code) + text + b"\0"
+
+
+def _numbers(*values: int) -> bytes:
+    return b"".join(int(value).to_bytes(2, "big") for value in values)
