@@ -228,6 +228,7 @@ read_more rec bytes short is = either (ltb (length bytes) limit)
     rw on (record {
       within = omega arith;
       goes = inl (refl, ap head_block (all_of bytes) ∙ open_head, refl);
+      reach = λ before added e _. no_shorter bytes before added e;
       longer = λ before added e l _. no_longer bytes before added e l;
     }))
     (λ off.

@@ -3,3 +3,4 @@ pub mod Ends
 pub mod Standing
 pub mod HeadReading
 pub mod Giving
+pub mod Runs

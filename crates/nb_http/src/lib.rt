@@ -7,6 +7,7 @@
 mod causes;
 mod head_step;
 mod http;
+pub mod laws;
 mod request;
 mod state;
 mod steps;
