@@ -143,32 +143,35 @@ ended_by : (rec : ℕ) (c : Core) (stream given : List ℕ) (before after : Verd
 ended_by rec c stream given before after over l reads decides is decided =
     (response after given, record { so_far = response before given; reads = record { skipped = l.skipped; rest = l.rest; all = l.all; stands = l.is_stream; ends = reads }; is = sym decides }, refl, is, decided)
 
+abbrev pub with_state : Core → State → Core
+with_state c state = record { head = c.head; chunks = c.chunks; state = state }
+
 -- the stream's end ends a core, by its state
-pub finishes : (rec : ℕ) (state : State) (old new : Core) (over : Option Cause) → old.state ≡ state → new.state ≡ state_at_end state → over ≡ end_at rec state → EndsSo rec old new over
+pub finishes : (rec : ℕ) (state : State) (old new : Core) (over : Option Cause) → old.state ≡ state → new ≡ with_state old (state_at_end state) → over ≡ end_at rec state → EndsSo rec old new over
 finishes rec Head old new over at after is = record {
   live = λ stream given s live. let l = s.live live in ended_by rec old stream given more broken over l (head_reads old l.rest given (subst (λ x. LiveAt x old l.rest given) at l.at)) refl is refl;
   silent = λ e. absurd (false≢true (sym (ap is_over at) ∙ e));
-  ended = ap is_over after;
+  ended = ap (λ (k : Core). is_over k.state) after;
 }
 finishes rec (Sized left) old new over at after is = record {
   live = λ stream given s live. let l = s.live live in ended_by rec old stream given more broken over l (sized_reads left old l.rest given (subst (λ x. LiveAt x old l.rest given) at l.at)) refl is refl;
   silent = λ e. absurd (false≢true (sym (ap is_over at) ∙ e));
-  ended = ap is_over after;
+  ended = ap (λ (k : Core). is_over k.state) after;
 }
 finishes rec (Chunked room) old new over at after is = record {
   live = λ stream given s live. let l = s.live live in ended_by rec old stream given more broken over l (chunked_reads room old l.rest given (subst (λ x. LiveAt x old l.rest given) at l.at)) refl is refl;
   silent = λ e. absurd (false≢true (sym (ap is_over at) ∙ e));
-  ended = ap is_over after;
+  ended = ap (λ (k : Core). is_over k.state) after;
 }
 finishes rec (ToEnd room) old new over at after is = record {
   live = λ stream given s live. let l = s.live live in ended_by rec old stream given open_body body over l (to_end_reads room old l.rest given (subst (λ x. LiveAt x old l.rest given) at l.at)) refl is refl;
   silent = λ e. absurd (false≢true (sym (ap is_over at) ∙ e));
-  ended = ap is_over after;
+  ended = ap (λ (k : Core). is_over k.state) after;
 }
 finishes rec (Over range) old new over at after is = record {
   live = λ stream given s live. absurd (false≢true (sym live ∙ ap is_over at));
-  silent = λ _. (is, after ∙ sym at);
-  ended = ap is_over after;
+  silent = λ _. (is, after ∙ ap (with_state old) (sym at));
+  ended = ap (λ (k : Core). is_over k.state) after;
 }
 
 -- what goes up by a range from the first byte

@@ -31,6 +31,10 @@ range_to given = if nat_lt 0 given then Some (0, given) else None
 abbrev pub nothing : Acts
 nothing = record { sends = record { items = [] }; tried = None; advance = None; give = None; ready = false; over = None }
 
+-- no message, no try and no new place is asked for
+abbrev pub SendsNothing : Acts → Type 0
+SendsNothing acts = (acts.sends ≡ record { items = [] }) × (acts.tried ≡ None) × (acts.advance ≡ None)
+
 -- what a core keeps fits its state
 abbrev pub Fits : State → List ℕ → Place → Type 0
 Fits Head head place = (head_block head ≡ missing) × (length head < 16384) × (is_open place ≡ true)

@@ -132,7 +132,7 @@ Steps rec old new taken gave over = (rest given : List ℕ) → LiveAt old.state
 -- A core that has ended stays as it is.
 pub record EndsSo (rec : ℕ) (old new : Core) (over : Option Cause) : Type 0 where
   pub live : (stream given : List ℕ) → Stands old stream given → is_over old.state ≡ false → (r : Response) × ResponseOf stream true r × (r.bytes ≡ given) × (over ≡ end_of rec r.verdict) × (is_decided r.verdict ≡ true)
-  pub silent : is_over old.state ≡ true → (over ≡ None) × (new.state ≡ old.state)
+  pub silent : is_over old.state ≡ true → (over ≡ None) × (new ≡ old)
   pub ended : is_over new.state ≡ true
 
 -- how the stream's end ends a core, by its state

@@ -81,11 +81,12 @@ impl Http {
     ghost use Rattle.std.specs.Option.{option_map, option_copied};
     ghost use Rattle.nb_http.specs.Requests.{request_text};
     ghost use Rattle.nb_http.specs.Standing.{Stands, Takes, EndsSo, is_over, moved_text};
-    ghost use Rattle.nb_http.specs.Giving.{gave, nothing, TakesSo};
+    ghost use Rattle.nb_http.specs.Giving.{gave, nothing, SendsNothing, TakesSo};
 
     /// Starts with an empty stream, and returns the request's text.
     pub fn start(alloc: Global, target: &HttpTarget) -> Result<(Http, Text), NoMemory>
         ensures stands { IfOk result (λ r. Stands r.0.core [] [] × (is_over r.0.core.state ≡ false)) }
+        ensures fresh { IfOk result (λ r. r.0.waiting ≡ 0) }
         ensures request { IfOk result (λ r. r.1 ≡ request_text target.now.host target.now.port target.now.path) }
     {
         let text = request(alloc, target)?;
@@ -109,8 +110,10 @@ impl Http {
         ensures within { result ≤ length (first.now ++ second.now) }
         ensures some { is_over self.old.core.state ≡ false → 0 < length (first.now ++ second.now) → 0 < result }
         ensures ready { acts.new.ready ≡ nat_lt 0 self.new.waiting }
-        // After its end it takes nothing and asks for nothing.
-        ensures ended { is_over self.old.core.state ≡ true → (result ≡ 0) × (acts.new ≡ nothing) × (self.new.core.state ≡ self.old.core.state) }
+        ensures sends { SendsNothing acts.new }
+        // After its end it takes nothing, asks for nothing and stays as it is.
+        ensures ended { is_over self.old.core.state ≡ true → (result ≡ 0) × (acts.new ≡ nothing) }
+        ensures stays { is_over self.old.core.state ≡ true → self.new.core ≡ self.old.core }
     {
         acts.clear();
         self.waiting = 0;
@@ -147,6 +150,7 @@ impl Http {
     /// The stream has ended: what isn't decided is now.
     pub fn finish(&mut self, rec: u32, acts: &mut Acts)
         ensures ends { EndsSo rec self.old.core self.new.core acts.new.over }
+        ensures sends { SendsNothing acts.new }
         ensures gives { (acts.new.give ≡ None) × (acts.new.ready ≡ false) × (self.new.waiting ≡ 0) }
     {
         acts.clear();

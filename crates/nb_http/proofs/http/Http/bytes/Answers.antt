@@ -1,4 +1,5 @@
 use Rattle.std.proofs.Common.{◌≡◌, ◌++◌, ◌∙◌, List, ℕ, Option, false, ap, sym, subst, take}
+use Rattle.nb_terms.specs.declared.acts.Acts.{Acts}
 use Rattle.nb_terms.specs.declared.cause.Cause.{Cause}
 use Rattle.nb_http.specs.Standing.{Core, Kept, Stands, Takes, is_over}
 use Rattle.nb_http.specs.Giving.{TakesSo, range_given}
@@ -23,3 +24,11 @@ returns-clause-stands c = λ stream given s live.
     let whole : Takes c.args.rec old new taken (range_given bytes c.range_to-give.result ++ take waiting new.chunks.block) over =
     subst (λ (g : List ℕ). Takes c.args.rec old new taken (g ++ take waiting new.chunks.block) over) (sym up) step in
     whole stream given (subst (λ (k : Core). Stands k stream given) (sym was) s) unended
+
+pub returns-clause-sends : goal.returns-clause-sends
+returns-clause-sends c = (ap (λ (a : Acts). a.sends) c.clear.ensures, ap (λ (a : Acts). a.tried) c.clear.ensures, ap (λ (a : Acts). a.advance) c.clear.ensures)
+
+pub returns-clause-stays : goal.returns-clause-stays
+returns-clause-stays c = λ ended.
+    let was : record { head = c.self.inside.head.items; chunks = c.self.inside.chunks; state = c.self.inside.state } ≡ c.args.self.now.core = ap (λ (k : Kept). k.core) c.self.view_is in
+    ap (λ (k : Kept). k.core) c.self-2.view_is ∙ ap (λ (k : Kept). k.core) (c.take-taken.ensures.ended (ap (λ (k : Core). is_over k.state) was ∙ ended)).1 ∙ was
