@@ -28,10 +28,10 @@ fn run(alloc: Global, stream: &[u8], piece: usize) -> Result<Ending, NoMemory> {
     let mut body = Vec::new(alloc);
     let mut rest = stream;
     for _ in 0..stream.len() + 1 {
-        if rest.is_empty() || acts.over.is_some() {
+        let bytes = rest.get(..piece).unwrap_or(rest);
+        if bytes.is_empty() || bytes.len() > 1000 || acts.over.is_some() {
             break;
         }
-        let bytes = rest.get(..piece).unwrap_or(rest);
         let took = http.bytes(7, bytes, b"", &mut acts) as usize;
         if let Some((from, to)) = acts.give {
             body.extend_from_slice(bytes.get(from as usize..to as usize).unwrap_or(b""))?;
