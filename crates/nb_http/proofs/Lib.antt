@@ -1,0 +1,4 @@
+pub mod StandsLemmas
+pub mod StepLemmas
+pub mod HeadLemmas
+pub mod RunLaws

@@ -1,0 +1,39 @@
+use Rattle.std.proofs.Common.{◌≡◌, ◌++◌, [], ◌∙◌, ◌≤◌, ◌<◌, ◌-◌, ◌+◌, List, ℕ, Option, Some, None, ap, sym, subst, refl, arith, take, length, min, append-nil, append_assoc}
+use Rattle.std.proofs.lemmas.List.{length-append, length-take}
+use Rattle.nb_terms.specs.declared.cause.Cause.{Cause}
+use Rattle.nb_http.specs.declared.state.State.{State}
+use Rattle.nb_http.specs.declared.state.State.TheVariants.{Head, Sized, Chunked, ToEnd, Over}
+use Rattle.nb_http.specs.Standing.{Core, Kept, Takes}
+use Rattle.nb_http.specs.Giving.{Fits, sized_next, to_end_next, chunk_next}
+use Rattle.nb_http.proofs.StandsLemmas.{takes}
+use Rattle.nb_http.proofs.StepLemmas.{open_comes}
+use Rattle.nb_http.proofs.HeadLemmas.{open_fit}
+use Rattle.nb_http.proofs.http.Http.take_open.Goals as goal
+
+pub invariant_of-self : goal.invariant_of-self
+invariant_of-self c = (c.self.invariant.0, c.self.invariant.1, omega (arith, c.requires.none, ap (λ (k : Kept). k.waiting) c.self.view_is), subst (λ (s : State). Fits s c.self.inside.head.items c.self.inside.chunks.place) (sym (ap (λ n. n.state) c.after_open-next.ensures)) (open_fit c.args.room (length c.args.first.now + length c.args.second.now) c.self.inside.head.items c.self.inside.chunks.place))
+
+pub returns : goal.returns
+returns c =
+    let old : Core = record { head = c.self.inside.head.items; chunks = c.self.inside.chunks; state = c.self.inside.state } in
+    let bytes : List ℕ = c.args.first.now ++ c.args.second.now in
+    let new : Core = record { head = c.self.inside.head.items; chunks = c.self.inside.chunks; state = c.after_open-next.result.state } in
+    let room : ℕ = c.args.room in
+    let at : c.self.inside.state ≡ ToEnd room = ap (λ (k : Kept). k.core.state) c.self.view_is ∙ c.requires.at in
+    let size : length bytes ≡ length c.args.first.now + length c.args.second.now = length-append c.args.first.now c.args.second.now in
+    let len : min (length bytes) (room + 1) ≡ c.min-len.result = omega (arith, c.min-len.ensures, c.saturating_add-past.ensures, size, c.requires.count) in
+    let given : min (length bytes) room ≡ c.min-given.result = omega (arith, c.min-given.ensures, size) in
+    let over : Option Cause = c.after_open-next.result.over in
+    let comes : Takes c.args.rec old new (take (min (length bytes) (room + 1)) bytes) (take (min (length bytes) room) bytes) over =
+    takes c.args.rec old new (take (min (length bytes) (room + 1)) bytes) (take (min (length bytes) room) bytes) over
+    (open_comes c.args.rec room old new bytes over at (ap (λ n. n.state) c.after_open-next.ensures ∙ ap (λ k. (to_end_next room k).state) (sym size)) (ap (λ n. n.over) c.after_open-next.ensures ∙ ap (λ k. (to_end_next room k).over) (sym size)) refl) in
+    record {
+      within = omega (arith, len);
+      given = omega (arith, given);
+      some = λ some. omega (arith, len, some);
+      waits = omega arith;
+      stands = subst (λ (k : Kept). Takes c.args.rec k.core new (take c.min-len.result bytes) (take c.min-given.result bytes ++ []) over) c.self.view_is
+          (subst (λ (g : List ℕ). Takes c.args.rec old new (take c.min-len.result bytes) g over) (sym (append-nil (take c.min-given.result bytes)))
+          (subst (λ (n : ℕ). Takes c.args.rec old new (take n bytes) (take c.min-given.result bytes) over) len
+          (subst (λ (n : ℕ). Takes c.args.rec old new (take (min (length bytes) (room + 1)) bytes) (take n bytes) over) given comes)));
+    }

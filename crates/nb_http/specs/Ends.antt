@@ -1,0 +1,42 @@
+-- How a response that is decided ends its core
+use Rattle.std.specs.Prelude.{ℕ, Bool, true, false, List, Option, Some, None}
+use Rattle.nb_terms.specs.declared.cause.Cause.{Cause}
+use Rattle.nb_responses.specs.Chunks.{Verdict, more, open_body, body, moved, status, broken, large, long, many}
+
+abbrev pub cause : ℕ → ℕ → ℕ → Cause
+cause code a b = record { code = code; a = a; b = b }
+
+-- Ok for a body or a move; Refused with the status; Broken; TooLarge 1; TooLong 6; TooMany 7
+abbrev pub end_of : ℕ → Verdict → Option Cause
+end_of rec more = None
+end_of rec open_body = None
+end_of rec body = Some (cause 0 0 0)
+end_of rec (moved text) = Some (cause 0 0 0)
+end_of rec (status code) = Some (cause 1 rec code)
+end_of rec broken = Some (cause 3 rec 0)
+end_of rec large = Some (cause 6 1 0)
+end_of rec long = Some (cause 5 6 0)
+end_of rec many = Some (cause 7 7 0)
+
+abbrev pub is_decided : Verdict → Bool
+is_decided more = false
+is_decided open_body = false
+is_decided body = true
+is_decided (moved text) = true
+is_decided (status code) = true
+is_decided broken = true
+is_decided large = true
+is_decided long = true
+is_decided many = true
+
+-- the text of a move
+abbrev pub text_of : Verdict → Option (List ℕ)
+text_of more = None
+text_of open_body = None
+text_of body = None
+text_of (moved text) = Some text
+text_of (status code) = None
+text_of broken = None
+text_of large = None
+text_of long = None
+text_of many = None

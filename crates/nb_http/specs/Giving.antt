@@ -1,0 +1,70 @@
+-- What a call hands on, and what it comes to
+use Rattle.std.specs.Prelude.{◌≡◌, ◌≤◌, ◌<◌, ℕ, ◌+◌, ◌-◌, Bool, true, false, List, [], ◌++◌, length, take, Option, Some, None, slice_range, nat_lt, if◌then◌else◌, ⊤}
+use Rattle.nb_terms.specs.declared.cause.Cause.{Cause}
+use Rattle.nb_terms.specs.declared.acts.Acts.{Acts}
+use Rattle.nb_responses.specs.Lines.{head_block, missing}
+use Rattle.nb_responses.specs.Chunks.{Verdict, body, broken, large, long}
+use Rattle.nb_httpmsg.specs.declared.place.Place.{Place}
+use Rattle.nb_httpmsg.specs.declared.chunks.ChunkState.{ChunkState}
+use Rattle.nb_httpmsg.specs.declared.chunks.ChunkState.TheVariants as chunk
+use Rattle.nb_httpmsg.specs.Feeding.{is_open}
+use Rattle.nb_http.specs.declared.state.State.{State}
+use Rattle.nb_http.specs.declared.state.State.TheVariants.{Head, Sized, Chunked, ToEnd, Over}
+use Rattle.nb_http.specs.declared.head_step.Next.{Next}
+use Rattle.nb_http.specs.declared.http.Taken.{Taken}
+use Rattle.nb_http.specs.Ends.{end_of}
+use Rattle.nb_http.specs.Standing.{Core, Kept, RangeFits, Takes, is_over}
+
+-- the range of the bytes that a call hands on
+abbrev pub range_given : List ℕ → Option (ℕ × ℕ) → List ℕ
+range_given bytes None = []
+range_given bytes (Some r) = slice_range bytes r.0 r.1
+
+-- what goes up by a call: a range of the bytes, and what waits in the block
+abbrev pub gave : List ℕ → Acts → Kept → List ℕ
+gave bytes acts k = range_given bytes acts.give ++ take k.waiting k.core.chunks.block
+
+-- the range of so many first bytes
+abbrev pub range_to : ℕ → Option (ℕ × ℕ)
+range_to given = if nat_lt 0 given then Some (0, given) else None
+
+abbrev pub nothing : Acts
+nothing = record { sends = record { items = [] }; tried = None; advance = None; give = None; ready = false; over = None }
+
+-- no message, no try and no new place is asked for
+abbrev pub SendsNothing : Acts → Type 0
+SendsNothing acts = (acts.sends ≡ record { items = [] }) × (acts.tried ≡ None) × (acts.advance ≡ None)
+
+-- what a core keeps fits its state
+abbrev pub Fits : State → List ℕ → Place → Type 0
+Fits Head head place = (head_block head ≡ missing) × (length head < 16384) × (is_open place ≡ true)
+Fits (Sized left) head place = 0 < left
+Fits (Chunked room) head place = is_open place ≡ true
+Fits (ToEnd room) head place = ⊤
+Fits (Over range) head place = RangeFits range head
+
+-- after bytes of a stated length of which so many are left
+abbrev pub sized_next : ℕ → Next
+sized_next left = if nat_lt 0 left then (record { state = Sized left; over = None }) else (record { state = Over None; over = end_of 0 body })
+
+-- after so many bytes of a body to the stream's end that may have this many more
+abbrev pub to_end_next : ℕ → ℕ → Next
+to_end_next room count = if nat_lt room count then (record { state = Over None; over = end_of 0 large }) else (record { state = ToEnd (room - count); over = None })
+
+abbrev pub chunk_next_by : ℕ → ℕ → ChunkState → Next
+chunk_next_by rec room chunk.More = record { state = Chunked room; over = None }
+chunk_next_by rec room chunk.Whole = record { state = Over None; over = end_of rec body }
+chunk_next_by rec room chunk.Broken = record { state = Over None; over = end_of rec broken }
+chunk_next_by rec room chunk.TooLong = record { state = Over None; over = end_of rec long }
+
+-- after so many bytes of a chunked body that may have this many more
+abbrev pub chunk_next : ℕ → ℕ → ℕ → ChunkState → Next
+chunk_next rec room count state = if nat_lt room count then (record { state = Over None; over = end_of rec large }) else chunk_next_by rec (room - count) state
+
+-- what a call of a core that hasn't ended comes to
+pub record TakesSo (rec : ℕ) (old new : Core) (bytes : List ℕ) (r : Taken) : Type 0 where
+  pub within : r.len ≤ length bytes
+  pub given : r.given ≤ length bytes
+  pub some : 0 < length bytes → 0 < r.len
+  pub waits : r.waiting ≤ length new.chunks.block
+  pub stands : Takes rec old new (take r.len bytes) (take r.given bytes ++ take r.waiting new.chunks.block) r.over

@@ -1,0 +1,151 @@
+-- What the core of a response stands for: the bytes of the stream that it took, and those of the body that it gave
+use Rattle.std.specs.Prelude.{◌≡◌, ◌≤◌, ◌<◌, ℕ, ◌+◌, Bool, true, false, List, [], ◌++◌, length, take, Option, Some, None, slice_range, ⊤}
+use Rattle.std.specs.List.{AllByRecursion, concat}
+use Rattle.std.specs.Option.{option_map}
+use Rattle.httparse.specs.Grammar.{ResponseHead}
+use Rattle.nb_terms.specs.declared.cause.Cause.{Cause}
+use Rattle.nb_responses.specs.Lines.{head_block, found, missing}
+use Rattle.nb_responses.specs.Heads.{IsHead, framing, sized, chunked, to_end, is_interim}
+use Rattle.nb_responses.specs.Chunks.{Verdict, body, broken, Response, response}
+use Rattle.nb_responses.specs.Responses.{most_bytes, head_verdict, Final, IsInterim, ReadsSoFar, ResponseOf}
+use Rattle.nb_httpmsg.specs.Reader.{Reader}
+use Rattle.nb_httpmsg.specs.Feeding.{StandsFor, is_open}
+use Rattle.nb_http.specs.declared.state.State.{State}
+use Rattle.nb_http.specs.declared.state.State.TheVariants.{Head, Sized, Chunked, ToEnd, Over}
+use Rattle.nb_http.specs.Ends.{end_of, is_decided, text_of}
+
+-- the head so far, the reader of a chunked body, and where the core is
+pub record Core : Type 0 where
+  pub head : List ℕ
+  pub chunks : Reader
+  pub state : State
+
+-- what is kept: the core, and how many bytes of the reader's block wait to go up
+pub record Kept : Type 0 where
+  pub core : Core
+  pub waiting : ℕ
+
+abbrev pub is_over : State → Bool
+is_over Head = false
+is_over (Sized left) = false
+is_over (Chunked room) = false
+is_over (ToEnd room) = false
+is_over (Over range) = true
+
+abbrev pub range_of : State → Option (ℕ × ℕ)
+range_of Head = None
+range_of (Sized left) = None
+range_of (Chunked room) = None
+range_of (ToEnd room) = None
+range_of (Over range) = range
+
+-- the text of the move that ended it
+abbrev pub moved_text : List ℕ → State → Option (List ℕ)
+moved_text head state = option_map (λ r. slice_range head r.0 r.1) (range_of state)
+
+-- a range that lies in the head
+abbrev pub RangeFits : Option (ℕ × ℕ) → List ℕ → Type 0
+RangeFits None head = ⊤
+RangeFits (Some r) head = (r.0 ≤ r.1) × (r.1 ≤ length head)
+
+-- the bytes are a head that a body follows
+pub record IsBodyHead (head : List ℕ) (h : ResponseHead) : Type 0 where
+  pub block : head_block head ≡ found head []
+  pub is : IsHead head h
+  pub final : is_interim h ≡ false
+  pub next : head_verdict h ≡ None
+
+-- the head so far
+pub record AtHead (c : Core) (rest given : List ℕ) : Type 0 where
+  pub is_rest : rest ≡ c.head
+  pub none_given : given ≡ []
+  pub block : head_block c.head ≡ missing
+  pub fresh : StandsFor c.chunks.place c.chunks.line [] []
+  pub unread : is_open c.chunks.place ≡ true
+
+pub record AtSized (left : ℕ) (c : Core) (rest given : List ℕ) : Type 0 where
+  pub h : ResponseHead
+  pub head : IsBodyHead c.head h
+  pub is_rest : rest ≡ c.head ++ given
+  pub frames : framing h ≡ sized (length given + left)
+  pub some : 0 < left
+  pub small : length given + left ≤ most_bytes
+
+pub record AtChunked (room : ℕ) (c : Core) (rest given : List ℕ) : Type 0 where
+  pub h : ResponseHead
+  pub body : List ℕ
+  pub head : IsBodyHead c.head h
+  pub is_rest : rest ≡ c.head ++ body
+  pub frames : framing h ≡ chunked
+  pub stands : StandsFor c.chunks.place c.chunks.line body given
+  pub unread : is_open c.chunks.place ≡ true
+  pub fits : length given + room ≡ most_bytes
+
+pub record AtToEnd (room : ℕ) (c : Core) (rest given : List ℕ) : Type 0 where
+  pub h : ResponseHead
+  pub head : IsBodyHead c.head h
+  pub is_rest : rest ≡ c.head ++ given
+  pub frames : framing h ≡ to_end
+  pub fits : length given + room ≡ most_bytes
+
+-- a core that hasn't ended, by what follows the interim heads
+abbrev pub LiveAt : State → Core → List ℕ → List ℕ → Type 0
+LiveAt Head c rest given = AtHead c rest given
+LiveAt (Sized left) c rest given = AtSized left c rest given
+LiveAt (Chunked room) c rest given = AtChunked room c rest given
+LiveAt (ToEnd room) c rest given = AtToEnd room c rest given
+LiveAt (Over range) c rest given = ⊥
+
+pub record Live (c : Core) (stream given : List ℕ) : Type 0 where
+  pub skipped : List (List ℕ)
+  pub rest : List ℕ
+  pub all : AllByRecursion IsInterim skipped
+  pub is_stream : stream ≡ concat skipped ++ rest
+  pub at : LiveAt c.state c rest given
+
+-- A core stands for the bytes of the stream that it took and those of the body that it gave: they are
+-- the stream's reading, which is decided exactly where the core has ended.
+pub record Stands (c : Core) (stream given : List ℕ) : Type 0 where
+  pub verdict : Verdict
+  pub reads : ReadsSoFar stream (response verdict given)
+  pub decided : is_over c.state ≡ is_decided verdict
+  pub moves : moved_text c.head c.state ≡ text_of verdict
+  pub live : is_over c.state ≡ false → Live c stream given
+
+-- A call takes bytes of the stream and gives bytes of the body: where it decides the response, it ends
+-- with its cause.
+abbrev pub Takes : ℕ → Core → Core → List ℕ → List ℕ → Option Cause → Type 0
+Takes rec old new taken gave over = (stream given : List ℕ) → Stands old stream given → is_over old.state ≡ false
+    → (s : Stands new (stream ++ taken) (given ++ gave)) × (over ≡ end_of rec s.verdict)
+
+-- what a step of a live core comes to
+pub data Outcome (rec : ℕ) (c : Core) (rest given : List ℕ) (over : Option Cause) : Type 0 where
+  goes_on : LiveAt c.state c rest given → over ≡ None → Outcome rec c rest given over
+  skips : IsInterim rest → LiveAt c.state c [] given → over ≡ None → Outcome rec c rest given over
+  ends : (verdict : Verdict) → Final rest (response verdict given) → is_decided verdict ≡ true → is_over c.state ≡ true
+      → moved_text c.head c.state ≡ text_of verdict → over ≡ end_of rec verdict → Outcome rec c rest given over
+
+abbrev pub Steps : ℕ → Core → Core → List ℕ → List ℕ → Option Cause → Type 0
+Steps rec old new taken gave over = (rest given : List ℕ) → LiveAt old.state old rest given → Outcome rec new (rest ++ taken) (given ++ gave) over
+
+-- The stream's end decides what isn't decided: a body to the stream's end is whole, all else is broken.
+-- A core that has ended stays as it is.
+pub record EndsSo (rec : ℕ) (old new : Core) (over : Option Cause) : Type 0 where
+  pub live : (stream given : List ℕ) → Stands old stream given → is_over old.state ≡ false → (r : Response) × ResponseOf stream true r × (r.bytes ≡ given) × (over ≡ end_of rec r.verdict) × (is_decided r.verdict ≡ true)
+  pub silent : is_over old.state ≡ true → (over ≡ None) × (new ≡ old)
+  pub ended : is_over new.state ≡ true
+
+-- how the stream's end ends a core, by its state
+abbrev pub end_at : ℕ → State → Option Cause
+end_at rec Head = end_of rec broken
+end_at rec (Sized left) = end_of rec broken
+end_at rec (Chunked room) = end_of rec broken
+end_at rec (ToEnd room) = end_of rec body
+end_at rec (Over range) = None
+
+abbrev pub state_at_end : State → State
+state_at_end Head = Over None
+state_at_end (Sized left) = Over None
+state_at_end (Chunked room) = Over None
+state_at_end (ToEnd room) = Over None
+state_at_end (Over range) = Over range
