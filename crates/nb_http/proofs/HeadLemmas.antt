@@ -1,16 +1,16 @@
 -- What the bytes of a head so far come to.
-use Rattle.std.proofs.Common.{◌≡◌, ◌≤◌, ◌<◌, ◌⊎◌, inl, inr, ℕ, ◌+◌, ◌-◌, ◌^◌, ◌==◌, ◌&&◌, List, [], ◌++◌, length, take, drop, min, Option, Some, None, Bool, true, false, refl, ap, ◌∙◌, sym, subst, arith, eqb, ltb, leb, append-nil, length-append, slice_range, if◌then◌else◌, codes}
+use Rattle.std.proofs.Common.{◌≡◌, ◌≤◌, ◌<◌, inl, inr, ℕ, ◌-◌, ◌^◌, ◌&&◌, List, [], ◌++◌, length, take, drop, min, Option, Some, None, Bool, true, false, refl, ap, ◌∙◌, sym, subst, arith, eqb, ltb, leb, length-append, slice_range, if◌then◌else◌, codes}
 use Rattle.std.specs.Option.{option_map}
-use Rattle.std.proofs.lemmas.Bool.{ne_eqb, eq-eqb, lt-ltb, le-ltb, ltb-true, ltb-false, le-leb, lt-leb, leb-false, false≢true}
+use Rattle.std.proofs.lemmas.Bool.{ne_eqb, eq-eqb, lt-ltb, ltb-true, ltb-false, le-leb, lt-leb, leb-false, false≢true}
 use Rattle.std.proofs.lemmas.List.{take_all, drop_all, length-take}
 use Rattle.std.specs.Prelude.{IfSome}
 use Rattle.std.proofs.lemmas.Option.{none-some, same_Some}
 use Rattle.httparse.specs.Grammar.{ResponseHead, status_code}
 use Rattle.nb_terms.specs.declared.cause.Cause.{Cause}
 use Rattle.nb_responses.specs.Lines.{LineBlock, whole, unfinished, crowded, first_block, Found, found, missing, too_many, too_long, found_by, head_block, limit, most_lines}
-use Rattle.nb_responses.specs.Heads.{IsHead, Framing, sized, chunked, to_end, bad, framing, is_interim, is_move, moves_to, moves_to_first, values}
-use Rattle.nb_responses.specs.Chunks.{Verdict, body, moved, status, broken, large, long, many, Response, response}
-use Rattle.nb_responses.specs.Responses.{most_bytes, sized_response, ReadsBody, head_verdict, verdict_by, no_block_verdict, Final, no_block, no_head, by_head, by_body, IsInterim}
+use Rattle.nb_responses.specs.Heads.{Framing, sized, chunked, to_end, bad, framing, is_interim, is_move, moves_to, moves_to_first, values}
+use Rattle.nb_responses.specs.Chunks.{Verdict, body, moved, status, broken, large, long, many, response}
+use Rattle.nb_responses.specs.Responses.{most_bytes, ReadsBody, verdict_by, no_block_verdict, Final, no_block, no_head, by_head, by_body}
 use Rattle.nb_responses.proofs.Cases.{either}
 use Rattle.nb_responses.proofs.LineLaws.{block_alone, block_longer, missing_unfinished}
 use Rattle.nb_httpmsg.specs.declared.head.HeadInfo.{HeadInfo}
@@ -27,7 +27,7 @@ use Rattle.nb_httpmsg.specs.declared.place.Place.{Place}
 use Rattle.nb_httpmsg.specs.declared.place.Place.TheVariants as place
 use Rattle.nb_httpmsg.specs.Feeding.{is_open, state_of}
 use Rattle.nb_http.specs.Giving.{Fits, sized_next, to_end_next, chunk_next, chunk_next_by}
-use Rattle.nb_http.specs.HeadReading.{HeadGoes, HeadEnds, IsFinalHead, GoesAfter, IsHeadRead, after_length, unfinished_step}
+use Rattle.nb_http.specs.HeadReading.{HeadGoes, IsFinalHead, GoesAfter, IsHeadRead, after_length, unfinished_step}
 
 if_map : (f : ℕ × ℕ → List ℕ) (b : Bool) (x : Option (ℕ × ℕ)) (y : Option (List ℕ)) → option_map f x ≡ y → option_map f (if b then x else None) ≡ (if b then y else None)
 if_map f true x y e = e

@@ -1,5 +1,5 @@
 -- Where a stream is cut changes nothing.
-use Rattle.std.proofs.Common.{◌≡◌, ℕ, List, [], ◌++◌, Option, Some, None, Bool, true, false, refl, ap, ◌∙◌, sym, subst}
+use Rattle.std.proofs.Common.{◌≡◌, ℕ, List, Option, None, true, false, refl, ap, ◌∙◌, sym}
 use Rattle.std.proofs.lemmas.Bool.{false≢true}
 use Rattle.nb_terms.specs.declared.cause.Cause.{Cause}
 use Rattle.nb_responses.specs.Chunks.{Verdict, more, open_body, body, moved, status, broken, large, long, many, Response, response}
@@ -7,7 +7,7 @@ use Rattle.nb_responses.specs.Responses.{before_end, by_end, ReadsSoFar, Respons
 use Rattle.nb_responses.proofs.ResponseLaws.{one_response}
 use Rattle.nb_responses.proofs.Cases.{either}
 use Rattle.nb_http.specs.Ends.{end_of, is_decided, text_of}
-use Rattle.nb_http.specs.Standing.{Core, Stands, Takes, EndsSo, is_over, moved_text}
+use Rattle.nb_http.specs.Standing.{Core, Stands, EndsSo, is_over}
 use Rattle.nb_http.specs.Runs.{Ran, started, took, EndedAlike, Alike}
 
 -- what a verdict says before the stream's end

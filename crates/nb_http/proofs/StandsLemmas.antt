@@ -1,15 +1,15 @@
 -- A live core reads the stream so far, and its steps keep what it stands for.
-use Rattle.std.proofs.Common.{◌≡◌, ◌≤◌, ◌<◌, ℕ, ◌+◌, ◌-◌, List, [], ◌∷◌, ◌++◌, length, take, Option, Some, None, Bool, true, false, refl, ap, ◌∙◌, sym, subst, arith, ltb, append-nil, append_assoc, slice_range}
+use Rattle.std.proofs.Common.{◌≡◌, ◌≤◌, ℕ, ◌+◌, ◌-◌, List, [], ◌∷◌, ◌++◌, length, take, Option, None, true, false, refl, ap, ◌∙◌, sym, subst, arith, ltb, append-nil, append_assoc, slice_range}
 use Rattle.std.specs.List.{AllByRecursion, concat}
 use Rattle.std.specs.Option.{option_map}
 use Rattle.std.proofs.lemmas.Bool.{lt-ltb, le-ltb, ltb-false, false≢true}
 use Rattle.std.proofs.lemmas.List.{take_all}
 use Rattle.httparse.specs.Grammar.{ResponseHead}
 use Rattle.nb_terms.specs.declared.cause.Cause.{Cause}
-use Rattle.nb_responses.specs.Lines.{head_block, found, missing}
-use Rattle.nb_responses.specs.Heads.{IsHead, Framing, framing, sized, chunked, to_end}
+use Rattle.nb_responses.specs.Lines.{head_block}
+use Rattle.nb_responses.specs.Heads.{Framing, framing, sized, chunked, to_end}
 use Rattle.nb_responses.specs.Chunks.{Verdict, more, open_body, body, broken, Response, response, Chunked as ReadsChunks}
-use Rattle.nb_responses.specs.Responses.{most_bytes, within_limit, sized_response, ReadsBody, Final, no_block, by_body, no_block_verdict, IsInterim, ReadsSoFar, ResponseOf, by_end}
+use Rattle.nb_responses.specs.Responses.{most_bytes, within_limit, sized_response, ReadsBody, Final, no_block, by_body, no_block_verdict, IsInterim, ResponseOf, by_end}
 use Rattle.nb_responses.proofs.LineLaws.{head_block_more}
 use Rattle.nb_httpmsg.specs.declared.place.Place.{Place}
 use Rattle.nb_httpmsg.specs.declared.place.Place.TheVariants as place
@@ -17,7 +17,7 @@ use Rattle.nb_httpmsg.specs.Feeding.{StandsFor, verdict_of, is_open}
 use Rattle.nb_http.specs.declared.state.State.{State}
 use Rattle.nb_http.specs.declared.state.State.TheVariants.{Head, Sized, Chunked, ToEnd, Over}
 use Rattle.nb_http.specs.Ends.{end_of, is_decided, text_of}
-use Rattle.nb_http.specs.Standing.{Core, is_over, range_of, moved_text, IsBodyHead, AtHead, AtSized, AtChunked, AtToEnd, LiveAt, Live, Stands, Takes, Outcome, goes_on, skips, ends, Steps, EndsSo, end_at, state_at_end}
+use Rattle.nb_http.specs.Standing.{Core, is_over, range_of, IsBodyHead, AtHead, AtSized, AtChunked, AtToEnd, LiveAt, Live, Stands, Takes, Outcome, goes_on, skips, ends, Steps, EndsSo, end_at, state_at_end}
 use Rattle.nb_http.specs.Giving.{range_given, range_to}
 use Rattle.nb_responses.proofs.Cases.{either}
 

@@ -1,27 +1,27 @@
 -- What a step of a live core comes to, for each state.
-use Rattle.std.proofs.Common.{◌≡◌, ◌≤◌, ◌<◌, ◌⊎◌, inl, inr, ℕ, ◌+◌, ◌-◌, List, [], ◌∷◌, ◌++◌, length, take, min, Option, Some, None, Bool, true, false, refl, ap, ◌∙◌, sym, subst, arith, ltb, append-nil, append_assoc, length-append}
+use Rattle.std.proofs.Common.{◌≡◌, ◌≤◌, ◌<◌, inl, inr, ℕ, ◌+◌, ◌-◌, List, [], ◌++◌, length, take, min, Option, None, true, false, refl, ap, ◌∙◌, sym, subst, arith, ltb, append-nil, append_assoc, length-append}
 use Rattle.std.proofs.lemmas.Bool.{lt-ltb, le-ltb, ltb-true, ltb-false}
-use Rattle.std.proofs.lemmas.List.{take_all, take_at, length-take}
+use Rattle.std.proofs.lemmas.List.{take_all, length-take}
 use Rattle.httparse.specs.Grammar.{ResponseHead}
 use Rattle.nb_terms.specs.declared.cause.Cause.{Cause}
-use Rattle.nb_responses.specs.Lines.{head_block, found, missing}
+use Rattle.nb_responses.specs.Lines.{head_block}
 use Rattle.nb_responses.specs.Heads.{framing, sized, chunked, to_end}
-use Rattle.nb_responses.specs.Chunks.{Verdict, more, open_body, body, broken, large, long, Response, response, Chunked as ReadsChunks}
-use Rattle.nb_responses.specs.Responses.{most_bytes, within_limit, sized_response, Final}
+use Rattle.nb_responses.specs.Chunks.{Verdict, open_body, body, broken, large, long, response, Chunked as ReadsChunks}
+use Rattle.nb_responses.specs.Responses.{most_bytes, within_limit, sized_response}
 use Rattle.nb_responses.proofs.Cases.{either}
 use Rattle.nb_responses.proofs.LineLaws.{take_front}
 use Rattle.nb_httpmsg.specs.Reader.{Reader}
 use Rattle.nb_httpmsg.specs.declared.place.Place.{Place}
 use Rattle.nb_httpmsg.specs.declared.place.Place.TheVariants as place
 use Rattle.nb_httpmsg.specs.declared.chunks.ChunkState.{ChunkState}
-use Rattle.nb_httpmsg.specs.Feeding.{StandsFor, Feeds, verdict_of, state_of, is_open}
+use Rattle.nb_httpmsg.specs.Feeding.{StandsFor, verdict_of, state_of, is_open}
 use Rattle.nb_httpmsg.proofs.FeedLemmas.{kept_front, take_within}
 use Rattle.nb_http.specs.declared.state.State.{State}
 use Rattle.nb_http.specs.declared.state.State.TheVariants.{Head, Sized, Chunked, ToEnd, Over}
 use Rattle.nb_http.specs.declared.head_step.HeadStep.{HeadStep}
 use Rattle.nb_http.specs.Ends.{end_of, is_decided, text_of}
 use Rattle.nb_http.specs.Standing.{Core, is_over, moved_text, IsBodyHead, AtHead, AtSized, AtChunked, AtToEnd, LiveAt, Outcome, goes_on, skips, ends, Steps}
-use Rattle.nb_http.specs.HeadReading.{HeadGoes, HeadEnds, IsHeadRead}
+use Rattle.nb_http.specs.HeadReading.{HeadGoes, IsHeadRead}
 use Rattle.nb_http.specs.Giving.{sized_next, to_end_next, chunk_next, chunk_next_by}
 use Rattle.nb_http.proofs.StandsLemmas.{body_reads, unlimited}
 

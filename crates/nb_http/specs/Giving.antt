@@ -1,9 +1,8 @@
 -- What a call hands on, and what it comes to
-use Rattle.std.specs.Prelude.{◌≡◌, ◌≤◌, ◌<◌, ℕ, ◌+◌, ◌-◌, Bool, true, false, List, [], ◌++◌, length, take, Option, Some, None, slice_range, nat_lt, if◌then◌else◌, ⊤}
-use Rattle.nb_terms.specs.declared.cause.Cause.{Cause}
+use Rattle.std.specs.Prelude.{◌≡◌, ◌≤◌, ◌<◌, ℕ, ◌-◌, true, false, List, [], ◌++◌, length, take, Option, Some, None, slice_range, nat_lt, if◌then◌else◌, ⊤}
 use Rattle.nb_terms.specs.declared.acts.Acts.{Acts}
 use Rattle.nb_responses.specs.Lines.{head_block, missing}
-use Rattle.nb_responses.specs.Chunks.{Verdict, body, broken, large, long}
+use Rattle.nb_responses.specs.Chunks.{body, broken, large, long}
 use Rattle.nb_httpmsg.specs.declared.place.Place.{Place}
 use Rattle.nb_httpmsg.specs.declared.chunks.ChunkState.{ChunkState}
 use Rattle.nb_httpmsg.specs.declared.chunks.ChunkState.TheVariants as chunk
@@ -13,7 +12,7 @@ use Rattle.nb_http.specs.declared.state.State.TheVariants.{Head, Sized, Chunked,
 use Rattle.nb_http.specs.declared.head_step.Next.{Next}
 use Rattle.nb_http.specs.declared.http.Taken.{Taken}
 use Rattle.nb_http.specs.Ends.{end_of}
-use Rattle.nb_http.specs.Standing.{Core, Kept, RangeFits, Takes, is_over}
+use Rattle.nb_http.specs.Standing.{Core, Kept, RangeFits, Takes}
 
 -- the range of the bytes that a call hands on
 abbrev pub range_given : List ℕ → Option (ℕ × ℕ) → List ℕ

@@ -1,5 +1,5 @@
 -- A core over a stream that comes in pieces
-use Rattle.std.specs.Prelude.{◌≡◌, ℕ, Bool, false, List, [], ◌++◌, Option, None}
+use Rattle.std.specs.Prelude.{◌≡◌, ℕ, false, List, [], ◌++◌, Option, None}
 use Rattle.nb_terms.specs.declared.cause.Cause.{Cause}
 use Rattle.nb_responses.specs.Chunks.{Verdict}
 use Rattle.nb_http.specs.Ends.{end_of}

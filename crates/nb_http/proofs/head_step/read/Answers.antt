@@ -1,7 +1,6 @@
-use Rattle.std.proofs.Common.{sym, subst, Option, None, Some, length, take}
+use Rattle.std.proofs.Common.{sym, subst, Option, None, length, take}
 use Rattle.nb_terms.specs.declared.cause.Cause.{Cause}
 use Rattle.nb_http.specs.declared.state.State.TheVariants.{Over}
-use Rattle.nb_http.specs.declared.head_step.HeadStep.{HeadStep}
 use Rattle.nb_http.specs.HeadReading.{IsHeadRead}
 use Rattle.nb_http.proofs.HeadLemmas.{read_more, read_many, read_broken, read_whole, alone_block}
 use Rattle.nb_http.proofs.head_step.read.Goals as goal

@@ -1,5 +1,4 @@
-use Rattle.std.proofs.Common.{sym, ap, ◌∙◌}
-use Rattle.nb_responses.specs.Heads.{is_interim}
+use Rattle.std.proofs.Common.{sym, ◌∙◌}
 use Rattle.nb_http.proofs.HeadLemmas.{interim_goes, final_goes, interim_by}
 use Rattle.nb_http.proofs.head_step.whole.Goals as goal
 

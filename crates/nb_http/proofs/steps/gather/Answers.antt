@@ -1,4 +1,4 @@
-use Rattle.std.proofs.Common.{◌≡◌, ◌++◌, [], ◌∙◌, ◌≤◌, ◌<◌, ◌-◌, ◌+◌, List, ℕ, Option, Some, None, ap, sym, subst, refl, arith, take, length, min, append-nil, append_assoc}
+use Rattle.std.proofs.Common.{◌++◌, ◌∙◌, List, ℕ, ap, arith, take, append_assoc}
 use Rattle.nb_httpmsg.proofs.FeedLemmas.{both_taken}
 use Rattle.nb_http.proofs.steps.gather.Goals as goal
 

@@ -1,10 +1,9 @@
-use Rattle.std.proofs.Common.{◌≡◌, ◌++◌, [], ◌∙◌, ◌≤◌, ◌<◌, ◌-◌, ◌+◌, List, ℕ, Option, Some, None, ap, sym, subst, refl, arith, take, length, min, append-nil, append_assoc}
-use Rattle.std.proofs.lemmas.List.{length-append, length-take}
+use Rattle.std.proofs.Common.{◌≡◌, ◌++◌, ◌∙◌, List, ℕ, Option, ap, sym, subst, refl, arith, take, length, min}
 use Rattle.nb_terms.specs.declared.cause.Cause.{Cause}
 use Rattle.nb_http.specs.declared.state.State.{State}
-use Rattle.nb_http.specs.declared.state.State.TheVariants.{Head, Sized, Chunked, ToEnd, Over}
+use Rattle.nb_http.specs.declared.state.State.TheVariants.{Chunked}
 use Rattle.nb_http.specs.Standing.{Core, Kept, Takes}
-use Rattle.nb_http.specs.Giving.{Fits, sized_next, to_end_next, chunk_next}
+use Rattle.nb_http.specs.Giving.{Fits, chunk_next}
 use Rattle.nb_http.proofs.StandsLemmas.{takes}
 use Rattle.nb_http.proofs.StepLemmas.{chunks_come}
 use Rattle.nb_http.proofs.HeadLemmas.{chunk_fit}
