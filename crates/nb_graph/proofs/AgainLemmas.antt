@@ -8,16 +8,16 @@ use Rattle.nb_graph.specs.Trace.{Nature, Entry, Said}
 use Rattle.nb_graph.specs.declared.asking.Asked.{Asked}
 use Rattle.nb_graph.specs.Again.{Delivered, Gives, Goes, GoesOn, Left, LeftOn}
 
-module _ {N L : Type 0} (stands : N → List (Entry N L) → Type 0) (parts : Nature N L) (now : ℕ) (at : Port) (m : Said) (a b d : Ledger) (na nb nd : List N) (before mid next : Option (List Notice)) where
-  pub GoesOn-left : (took : ℕ) (asked : Asked N L) → ((c : Ledger) (nc : List N) (after : Option (List Notice)) → Left stands parts now at took m b c nb nc mid after → Goes stands parts now at m asked a c na nc before after) → (r : Option Msg) → LeftOn stands parts now at took m b d nb nd mid next r → GoesOn stands parts now at m asked a d na nd before next r
+module _ {N L : Type 0} (stands : N → List (Entry N L) → Type 0) (known : Nature N L) (now : ℕ) (at : Port) (m : Said) (a b d : Ledger) (na nb nd : List N) (before mid next : Option (List Notice)) where
+  pub GoesOn-left : (took : ℕ) (asked : Asked N L) → ((c : Ledger) (nc : List N) (after : Option (List Notice)) → Left stands known now at took m b c nb nc mid after → Goes stands known now at m asked a c na nc before after) → (r : Option Msg) → LeftOn stands known now at took m b d nb nd mid next r → GoesOn stands known now at m asked a d na nd before next r
   GoesOn-left took asked h None x = h d nd next x
   GoesOn-left took asked h (Some r) x = λ c nc after k. h c nc after (x c nc after k)
 
-  pub Gives-goes : (asked : Asked N L) → ((c : Ledger) (nc : List N) (after : Option (List Notice)) → Goes stands parts now at m asked b c nb nc mid after → Delivered stands parts now at m a c na nc before after) → (r : Option Msg) → GoesOn stands parts now at m asked b d nb nd mid next r → Gives stands parts now at m a d na nd before next r
+  pub Gives-goes : (asked : Asked N L) → ((c : Ledger) (nc : List N) (after : Option (List Notice)) → Goes stands known now at m asked b c nb nc mid after → Delivered stands known now at m a c na nc before after) → (r : Option Msg) → GoesOn stands known now at m asked b d nb nd mid next r → Gives stands known now at m a d na nd before next r
   Gives-goes asked h None x = h d nd next x
   Gives-goes asked h (Some r) x = λ c nc after k. h c nc after (x c nc after k)
 
-  pub Gives-then : (n : Said) → ((c : Ledger) (nc : List N) (after : Option (List Notice)) → Delivered stands parts now at n b c nb nc mid after → Delivered stands parts now at m a c na nc before after) → (r : Option Msg) → Gives stands parts now at n b d nb nd mid next r → Gives stands parts now at m a d na nd before next r
+  pub Gives-then : (n : Said) → ((c : Ledger) (nc : List N) (after : Option (List Notice)) → Delivered stands known now at n b c nb nc mid after → Delivered stands known now at m a c na nc before after) → (r : Option Msg) → Gives stands known now at n b d nb nd mid next r → Gives stands known now at m a d na nd before next r
   Gives-then n h None x = h d nd next x
   Gives-then n h (Some r) x = λ c nc after k. h c nc after (x c nc after k)
 

@@ -72,37 +72,37 @@ module _ (l : Ledger) (at : Port) (sent taken : ℕ → List ℕ) (got behind m 
         | inr k ↦ false≢true (sym (down (rw (ap (λ u. u.slot) i.0) one) k) ∙ i.1)
       ]
 
-pub Livens-ask : {N L : Type 0} {parts : Nature N L} {l c : Ledger} {ds es : List (Deed N L)} (at : Port) (sent taken : ℕ → List ℕ) (got behind m : List ℕ) → 1 ≤ at.slot → IsOpen (port l at.obj.0 at.slot) → IsLinked (port l) (rank l) → taken at.slot ≡ got → ((k : ℕ) → (k ≡ at.slot → ⊥) → taken k ≡ []) → got ++ behind ≡ m → Calms parts l l (Asking l at.obj.0 sent taken) ds → Asks parts at.obj.0 sent ds → Livens parts l c (HasAsked at.obj.0 sent) none_due (Delivering l at behind sent) es → Livens parts l c always none_due (Delivering l at m nothing) (ds ++ es)
-Livens-ask {parts = parts} {l = l} {ds = ds} {es = es} at sent taken got behind m one opened links there only all k asked r = record {
-  quiet = λ q y o i h. ap (λ z. z.entered) (account-append parts q y ds es) ∙ r.quiet q (account parts q y ds) o i (k.quiet q y o h);
+pub Livens-ask : {N L : Type 0} {known : Nature N L} {l c : Ledger} {ds es : List (Deed N L)} (at : Port) (sent taken : ℕ → List ℕ) (got behind m : List ℕ) → 1 ≤ at.slot → IsOpen (port l at.obj.0 at.slot) → IsLinked (port l) (rank l) → taken at.slot ≡ got → ((k : ℕ) → (k ≡ at.slot → ⊥) → taken k ≡ []) → got ++ behind ≡ m → Calms known l l (Asking l at.obj.0 sent taken) ds → Asks known at.obj.0 sent ds → Livens known l c (HasAsked at.obj.0 sent) none_due (Delivering l at behind sent) es → Livens known l c always none_due (Delivering l at m nothing) (ds ++ es)
+Livens-ask {known = known} {l = l} {ds = ds} {es = es} at sent taken got behind m one opened links there only all k asked r = record {
+  quiet = λ q y o i h. ap (λ z. z.entered) (account-append known q y ds es) ∙ r.quiet q (account known q y ds) o i (k.quiet q y o h);
   joins = λ p q x y w v i j.
-      let s = asks l at sent taken got behind m one opened links there only all p q y (account parts q y ds) x.sent y.taken w v (k.enters q y) (λ o. k.quiet q y o) i j in
-      let last = r.joins p q (account parts p x ds) (account parts q y ds) s.0 v s.2 (k.joins p q x y w s.0 s.1 j) in
-      rw (account-append parts p x ds es, account-append parts q y ds es) (last.0, λ e. last.1 (k.enters q y e));
+      let s = asks l at sent taken got behind m one opened links there only all p q y (account known q y ds) x.sent y.taken w v (k.enters q y) (λ o. k.quiet q y o) i j in
+      let last = r.joins p q (account known p x ds) (account known q y ds) s.0 v s.2 (k.joins p q x y w s.0 s.1 j) in
+      rw (account-append known p x ds es, account-append known q y ds es) (last.0, λ e. last.1 (k.enters q y e));
   midway = λ p q x y w v i j.
-      let s = asks l at sent taken got behind m one opened links there only all p q y (account parts q y ds) x.sent y.taken w v (k.enters q y) (λ o. k.quiet q y o) i j in
-      Midway-append parts p q x y ds es (k.midway p q x y w s.0 s.1 j) (r.midway p q (account parts p x ds) (account parts q y ds) s.0 v s.2 (k.joins p q x y w s.0 s.1 j));
-  newly = λ p q x y t n. Midway-append parts p q x y ds es (k.apart p q x y n) (r.newly p q (account parts p x ds) (account parts q y ds) (λ o. asked p x o) (λ o. n (sym (k.peers p x) ∙ o)));
+      let s = asks l at sent taken got behind m one opened links there only all p q y (account known q y ds) x.sent y.taken w v (k.enters q y) (λ o. k.quiet q y o) i j in
+      Midway-append known p q x y ds es (k.midway p q x y w s.0 s.1 j) (r.midway p q (account known p x ds) (account known q y ds) s.0 v s.2 (k.joins p q x y w s.0 s.1 j));
+  newly = λ p q x y t n. Midway-append known p q x y ds es (k.apart p q x y n) (r.newly p q (account known p x ds) (account known q y ds) (λ o. asked p x o) (λ o. n (sym (k.peers p x) ∙ o)));
   news = λ p q x y t n e.
-      let i = sym (ap (λ z. z.peer) (account-append parts p x ds es)) ∙ e in
-      rw (account-append parts p x ds es, account-append parts q y ds es) (r.news p q (account parts p x ds) (account parts q y ds) (λ o. asked p x o) (λ o. n (sym (k.peers p x) ∙ o)) i);
+      let i = sym (ap (λ z. z.peer) (account-append known p x ds es)) ∙ e in
+      rw (account-append known p x ds es, account-append known q y ds es) (r.news p q (account known p x ds) (account known q y ds) (λ o. asked p x o) (λ o. n (sym (k.peers p x) ∙ o)) i);
 }
 
 -- and one by time
-pub Livens-time : {N L : Type 0} {parts : Nature N L} {l c : Ledger} {ds es : List (Deed N L)} (x : ℕ) (sent : ℕ → List ℕ) → Calms parts l l (Asking l x sent nothing) ds → Asks parts x sent ds → Livens parts l c (HasAsked x sent) none_due (Doing l x sent) es → Livens parts l c always none_due (Doing l x nothing) (ds ++ es)
-Livens-time {parts = parts} {l = l} {ds = ds} {es = es} x sent k asked r = record {
-  quiet = λ q y o i h. ap (λ z. z.entered) (account-append parts q y ds es) ∙ r.quiet q (account parts q y ds) o i (k.quiet q y o h);
+pub Livens-time : {N L : Type 0} {known : Nature N L} {l c : Ledger} {ds es : List (Deed N L)} (x : ℕ) (sent : ℕ → List ℕ) → Calms known l l (Asking l x sent nothing) ds → Asks known x sent ds → Livens known l c (HasAsked x sent) none_due (Doing l x sent) es → Livens known l c always none_due (Doing l x nothing) (ds ++ es)
+Livens-time {known = known} {l = l} {ds = ds} {es = es} x sent k asked r = record {
+  quiet = λ q y o i h. ap (λ z. z.entered) (account-append known q y ds es) ∙ r.quiet q (account known q y ds) o i (k.quiet q y o h);
   joins = λ p q a y w v i j.
-      let s = asks p q y (account parts q y ds) w v i in
-      let last = r.joins p q (account parts p a ds) (account parts q y ds) s.0 v s.2 (k.joins p q a y w s.0 s.1 j) in
-      rw (account-append parts p a ds es, account-append parts q y ds es) (last.0, λ e. last.1 (k.enters q y e));
+      let s = asks p q y (account known q y ds) w v i in
+      let last = r.joins p q (account known p a ds) (account known q y ds) s.0 v s.2 (k.joins p q a y w s.0 s.1 j) in
+      rw (account-append known p a ds es, account-append known q y ds es) (last.0, λ e. last.1 (k.enters q y e));
   midway = λ p q a y w v i j.
-      let s = asks p q y (account parts q y ds) w v i in
-      Midway-append parts p q a y ds es (k.midway p q a y w s.0 s.1 j) (r.midway p q (account parts p a ds) (account parts q y ds) s.0 v s.2 (k.joins p q a y w s.0 s.1 j));
-  newly = λ p q a y t n. Midway-append parts p q a y ds es (k.apart p q a y n) (r.newly p q (account parts p a ds) (account parts q y ds) (λ o. asked p a o) (λ o. n (sym (k.peers p a) ∙ o)));
+      let s = asks p q y (account known q y ds) w v i in
+      Midway-append known p q a y ds es (k.midway p q a y w s.0 s.1 j) (r.midway p q (account known p a ds) (account known q y ds) s.0 v s.2 (k.joins p q a y w s.0 s.1 j));
+  newly = λ p q a y t n. Midway-append known p q a y ds es (k.apart p q a y n) (r.newly p q (account known p a ds) (account known q y ds) (λ o. asked p a o) (λ o. n (sym (k.peers p a) ∙ o)));
   news = λ p q a y t n e.
-      let i = sym (ap (λ z. z.peer) (account-append parts p a ds es)) ∙ e in
-      rw (account-append parts p a ds es, account-append parts q y ds es) (r.news p q (account parts p a ds) (account parts q y ds) (λ o. asked p a o) (λ o. n (sym (k.peers p a) ∙ o)) i);
+      let i = sym (ap (λ z. z.peer) (account-append known p a ds es)) ∙ e in
+      rw (account-append known p a ds es, account-append known q y ds es) (r.news p q (account known p a ds) (account known q y ds) (λ o. asked p a o) (λ o. n (sym (k.peers p a) ∙ o)) i);
 }
   where
     asks : (p q : Port) (y z : Account) (w v : List ℕ) → Doing l x nothing p q y w v → (u : List ℕ) × Asking l x sent nothing p q y w u × Doing l x sent p q z u v
@@ -113,33 +113,33 @@ Livens-time {parts = parts} {l = l} {ds = ds} {es = es} x sent k asked r = recor
         go free (inr (n, quiet, h)) = (w, (ap (λ u. w ++ u) (own-else x sent p n) ∙ append-nil w ∙ ap (λ u. u ++ w) (sym free), λ _. free), inr (n, quiet, h))
 
 -- a whole entry from below or by time
-pub Livens-entry : {N L : Type 0} {parts : Nature N L} {b0 b1 b2 b3 : Ledger} {ds es : List (Deed N L)} {inner outer : Port → Port → Account → List ℕ → List ℕ → Type 0} (x : ℕ) (e : GraphEvent) → busy b0 x ≡ false → ((y : ℕ) → (y ≡ x → ⊥) → busy b1 y ≡ busy b0 y) → Mild b0 b1 → ((p : Port) (a : Account) → ((after_note p a e).sent ≡ a.sent) × ((after_note p a e).taken ≡ a.taken) × ((after_note p a e).peer ≡ a.peer) × (a.entered ≡ true → (after_note p a e).entered ≡ true) × ((p.obj.0 ≡ x → ⊥) → (after_note p a e).entered ≡ a.entered)) → ((p q : Port) (y : Account) (w v : List ℕ) → outer p q y w v → inner p q (after_note q y e) w v) → Livens parts b1 b2 always none_due inner ds → Calms parts b2 b3 Still es → Livens parts b0 b3 always none_due outer (writes e ∷ (ds ++ es))
-Livens-entry {parts = parts} {b0 = b0} {b1 = b1} {ds = ds} {es = es} x e idle same mild note turn k last = record {
+pub Livens-entry : {N L : Type 0} {known : Nature N L} {b0 b1 b2 b3 : Ledger} {ds es : List (Deed N L)} {inner outer : Port → Port → Account → List ℕ → List ℕ → Type 0} (x : ℕ) (e : GraphEvent) → busy b0 x ≡ false → ((y : ℕ) → (y ≡ x → ⊥) → busy b1 y ≡ busy b0 y) → Mild b0 b1 → ((p : Port) (a : Account) → ((after_note p a e).sent ≡ a.sent) × ((after_note p a e).taken ≡ a.taken) × ((after_note p a e).peer ≡ a.peer) × (a.entered ≡ true → (after_note p a e).entered ≡ true) × ((p.obj.0 ≡ x → ⊥) → (after_note p a e).entered ≡ a.entered)) → ((p q : Port) (y : Account) (w v : List ℕ) → outer p q y w v → inner p q (after_note q y e) w v) → Livens known b1 b2 always none_due inner ds → Calms known b2 b3 Still es → Livens known b0 b3 always none_due outer (writes e ∷ (ds ++ es))
+Livens-entry {known = known} {b0 = b0} {b1 = b1} {ds = ds} {es = es} x e idle same mild note turn k last = record {
   quiet = λ q y o r h.
       let n = other q r in
-      ap (λ z. z.entered) (account-append parts q (after_note q y e) ds es) ∙ last.quiet q _ o (k.quiet q (after_note q y e) o (same q.obj.0 n ∙ r) ((note q y).4 n ∙ h));
+      ap (λ z. z.entered) (account-append known q (after_note q y e) ds es) ∙ last.quiet q _ o (k.quiet q (after_note q y e) o (same q.obj.0 n ∙ r) ((note q y).4 n ∙ h));
   joins = λ p q a y w v i j.
       let np = note p a in
       let nq = note q y in
       let in_ = k.joins p q (after_note p a e) (after_note q y e) w v (turn p q y w v i) (rw (np.0, nq.1) (Joined-mild mild j)) in
-      rw (account-append parts p (after_note p a e) ds es, account-append parts q (after_note q y e) ds es) (last.joins p q _ _ v v refl in_.0, λ h. last.enters q _ (in_.1 (nq.3 h)));
+      rw (account-append known p (after_note p a e) ds es, account-append known q (after_note q y e) ds es) (last.joins p q _ _ v v refl in_.0, λ h. last.enters q _ (in_.1 (nq.3 h)));
   midway = λ p q a y w v i j.
       let np = note p a in
       let nq = note q y in
       let was : Joined b1 p q (after_note p a e).sent (after_note q y e).taken w = rw (np.0, nq.1) (Joined-mild mild j) in
-      (λ _. start-joined j, Midway-append parts p q (after_note p a e) (after_note q y e) ds es (k.midway p q (after_note p a e) (after_note q y e) w v (turn p q y w v i) was) (last.midway p q (account parts p (after_note p a e) ds) (account parts q (after_note q y e) ds) v v refl (k.joins p q (after_note p a e) (after_note q y e) w v (turn p q y w v i) was).0));
+      (λ _. start-joined j, Midway-append known p q (after_note p a e) (after_note q y e) ds es (k.midway p q (after_note p a e) (after_note q y e) w v (turn p q y w v i) was) (last.midway p q (account known p (after_note p a e) ds) (account known q (after_note q y e) ds) v v refl (k.joins p q (after_note p a e) (after_note q y e) w v (turn p q y w v i) was).0));
   newly = λ p q a y t n.
       let m : ((after_note p a e).peer ≡ Some q → ⊥) = λ h. n (sym (note p a).2 ∙ h) in (
         λ h. absurd (n h),
-        Midway-append parts p q (after_note p a e) (after_note q y e) ds es (k.newly p q (after_note p a e) (after_note q y e) tt m) (elim (cases_peer (account parts p (after_note p a e) ds).peer q) [
-          | inl o ↦ last.midway p q (account parts p (after_note p a e) ds) (account parts q (after_note q y e) ds) [] [] refl (k.news p q (after_note p a e) (after_note q y e) tt m o).0
-          | inr o ↦ last.apart p q (account parts p (after_note p a e) ds) (account parts q (after_note q y e) ds) o
+        Midway-append known p q (after_note p a e) (after_note q y e) ds es (k.newly p q (after_note p a e) (after_note q y e) tt m) (elim (cases_peer (account known p (after_note p a e) ds).peer q) [
+          | inl o ↦ last.midway p q (account known p (after_note p a e) ds) (account known q (after_note q y e) ds) [] [] refl (k.news p q (after_note p a e) (after_note q y e) tt m o).0
+          | inr o ↦ last.apart p q (account known p (after_note p a e) ds) (account known q (after_note q y e) ds) o
         ]),
       );
   news = λ p q a y t n i.
-      let j = sym (ap (λ z. z.peer) (account-append parts p (after_note p a e) ds es)) ∙ i in
-      let s = k.news p q (after_note p a e) (after_note q y e) tt (λ h. n (sym (note p a).2 ∙ h)) (sym (last.peers p (account parts p (after_note p a e) ds)) ∙ j) in
-      rw (account-append parts p (after_note p a e) ds es, account-append parts q (after_note q y e) ds es) (last.joins p q _ _ [] [] refl s.0, (λ z. idle_at p (s.1 z)), λ o r. last.quiet q _ o (s.2 o (same q.obj.0 (other q r) ∙ r)));
+      let j = sym (ap (λ z. z.peer) (account-append known p (after_note p a e) ds es)) ∙ i in
+      let s = k.news p q (after_note p a e) (after_note q y e) tt (λ h. n (sym (note p a).2 ∙ h)) (sym (last.peers p (account known p (after_note p a e) ds)) ∙ j) in
+      rw (account-append known p (after_note p a e) ds es, account-append known q (after_note q y e) ds es) (last.joins p q _ _ [] [] refl s.0, (λ z. idle_at p (s.1 z)), λ o r. last.quiet q _ o (s.2 o (same q.obj.0 (other q r) ∙ r)));
 }
   where
     other : (q : Port) → busy b0 q.obj.0 ≡ true → q.obj.0 ≡ x → ⊥

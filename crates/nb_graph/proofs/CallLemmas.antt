@@ -26,35 +26,35 @@ pub Joined-call : {l : Ledger} {p q : Port} {s t w : List ℕ} (bs bt v : List �
 Joined-call {s = s} {t = t} {w = w} bs bt v e n (joined a b c d h) = joined a b c d (ap (λ z. z ++ bs) h ∙ append_assoc t w bs ∙ ap (λ z. t ++ z) e ∙ sym (append_assoc t bt v))
 Joined-call {s = s} {t = t} bs bt v e n (parted a b c d r h) = parted a b c d (r ++ bs) (ap (λ z. z ++ bs) h ∙ append_assoc t r bs ∙ ap (λ z. z ++ (r ++ bs)) (sym (append-nil t) ∙ ap (λ z. t ++ z) (sym (n d))))
 
-module _ {N L : Type 0} (parts : Nature N L) (e : Entry N L) where
-  call-peer : (c : Bool) (p : Port) (a : Account) → (cond c (after_call parts p a e) (rests a)).peer ≡ a.peer
+module _ {N L : Type 0} (known : Nature N L) (e : Entry N L) where
+  call-peer : (c : Bool) (p : Port) (a : Account) → (cond c (after_call known p a e) (rests a)).peer ≡ a.peer
   call-peer true p a = refl
   call-peer false p a = refl
 
-  call-entered : (c : Bool) (p : Port) (a : Account) → (cond c (after_call parts p a e) (rests a)).entered ≡ a.entered
+  call-entered : (c : Bool) (p : Port) (a : Account) → (cond c (after_call known p a e) (rests a)).entered ≡ a.entered
   call-entered true p a = refl
   call-entered false p a = refl
 
-  call-sent : (c : Bool) (p : Port) (a : Account) (sent : ℕ → List ℕ) → ((k : ℕ) → sent_by parts k e ≡ sent k) → (cond c (after_call parts p a e) (rests a)).sent ≡ a.sent ++ cond c (sent p.slot) []
+  call-sent : (c : Bool) (p : Port) (a : Account) (sent : ℕ → List ℕ) → ((k : ℕ) → sent_by known k e ≡ sent k) → (cond c (after_call known p a e) (rests a)).sent ≡ a.sent ++ cond c (sent p.slot) []
   call-sent true p a sent h = ap (λ z. a.sent ++ z) (h p.slot)
   call-sent false p a sent h = sym (append-nil a.sent)
 
-  call-taken : (c : Bool) (q : Port) (b : Account) (taken : ℕ → List ℕ) → ((k : ℕ) → taken_by k e ≡ taken k) → (cond c (after_call parts q b e) (rests b)).taken ≡ b.taken ++ cond c (cond b.entered (taken q.slot) []) []
+  call-taken : (c : Bool) (q : Port) (b : Account) (taken : ℕ → List ℕ) → ((k : ℕ) → taken_by k e ≡ taken k) → (cond c (after_call known q b e) (rests b)).taken ≡ b.taken ++ cond c (cond b.entered (taken q.slot) []) []
   call-taken true q b taken h = ap (λ z. b.taken ++ cond b.entered z []) (h q.slot)
   call-taken false q b taken h = sym (append-nil b.taken)
 
 -- the node of y is called
-pub Calms-call : {N L : Type 0} (parts : Nature N L) (l : Ledger) (y : ℕ) (e : Entry N L) (sent taken : ℕ → List ℕ) → ((k : ℕ) → sent_by parts k e ≡ sent k) → ((k : ℕ) → taken_by k e ≡ taken k) → Calms parts l l (Asking l y sent taken) (calls y e ∷ [])
-Calms-call parts l y e sent taken hs ht = record {
+pub Calms-call : {N L : Type 0} (known : Nature N L) (l : Ledger) (y : ℕ) (e : Entry N L) (sent taken : ℕ → List ℕ) → ((k : ℕ) → sent_by known k e ≡ sent k) → ((k : ℕ) → taken_by k e ≡ taken k) → Calms known l l (Asking l y sent taken) (calls y e ∷ [])
+Calms-call known l y e sent taken hs ht = record {
   same_made = refl;
   links = λ x k q h. h;
   shuts = λ x k h. h;
-  peers = λ p a. call-peer parts e (eqb p.obj.0 y) p a;
-  enters = λ q b h. call-entered parts e (eqb q.obj.0 y) q b ∙ h;
-  quiet = λ q b o h. call-entered parts e (eqb q.obj.0 y) q b ∙ h;
-  joins = λ p q a b w v f j. rw (call-sent parts e (eqb p.obj.0 y) p a sent hs, call-taken parts e (eqb q.obj.0 y) q b taken ht) (Joined-call (own y sent p) (counted y taken q b) v f.0 f.1 j);
-  midway = λ p q a b w v f j. (λ _. start-joined j, λ _. rw (call-sent parts e (eqb p.obj.0 y) p a sent hs, call-taken parts e (eqb q.obj.0 y) q b taken ht) (start-joined (Joined-call (own y sent p) (counted y taken q b) v f.0 f.1 j)));
-  apart = λ p q a b n. (λ i. absurd (n i), λ i. absurd (n (sym (call-peer parts e (eqb p.obj.0 y) p a) ∙ i)));
+  peers = λ p a. call-peer known e (eqb p.obj.0 y) p a;
+  enters = λ q b h. call-entered known e (eqb q.obj.0 y) q b ∙ h;
+  quiet = λ q b o h. call-entered known e (eqb q.obj.0 y) q b ∙ h;
+  joins = λ p q a b w v f j. rw (call-sent known e (eqb p.obj.0 y) p a sent hs, call-taken known e (eqb q.obj.0 y) q b taken ht) (Joined-call (own y sent p) (counted y taken q b) v f.0 f.1 j);
+  midway = λ p q a b w v f j. (λ _. start-joined j, λ _. rw (call-sent known e (eqb p.obj.0 y) p a sent hs, call-taken known e (eqb q.obj.0 y) q b taken ht) (start-joined (Joined-call (own y sent p) (counted y taken q b) v f.0 f.1 j)));
+  apart = λ p q a b n. (λ i. absurd (n i), λ i. absurd (n (sym (call-peer known e (eqb p.obj.0 y) p a) ∙ i)));
 }
 
 enter-close : (c : Bool) (a : Account) → cond c (enters Close a) (rests a) ≡ rests a
@@ -62,8 +62,8 @@ enter-close true a = refl
 enter-close false a = refl
 
 -- both ends of a link are closed
-pub Calms-half : {N L : Type 0} (parts : Nature N L) (b0 b3 : Ledger) (p q : Port) (cause : Cause) → IsLinked (port b0) (rank b0) → port b0 p.obj.0 p.slot ≡ Linked q → HalfCloses b0 b3 p q → Calms {N = N} {L = L} parts b0 b3 Still (writes (Closed p cause) ∷ writes (Closed q cause) ∷ writes (Entered q Close) ∷ [])
-Calms-half {N} {L} parts b0 b3 p q cause l h half = record {
+pub Calms-half : {N L : Type 0} (known : Nature N L) (b0 b3 : Ledger) (p q : Port) (cause : Cause) → IsLinked (port b0) (rank b0) → port b0 p.obj.0 p.slot ≡ Linked q → HalfCloses b0 b3 p q → Calms {N = N} {L = L} known b0 b3 Still (writes (Closed p cause) ∷ writes (Closed q cause) ∷ writes (Entered q Close) ∷ [])
+Calms-half {N} {L} known b0 b3 p q cause l h half = record {
   same_made = half.same_made;
   links = λ x k r i. elim (cases_port x k q) [
     | inl m ↦ absurd (let z = sym (at_q x k m) ∙ i in cc)
@@ -149,5 +149,5 @@ half-left {p} {q} b0 b3 half = half.ports_set q.obj.0 q.slot ∙ port_but-same q
 pub half-gone : {b0 b3 : Ledger} {p q : Port} → IsLinked (port b0) (rank b0) → port b0 p.obj.0 p.slot ≡ Linked q → HalfCloses b0 b3 p q → port b3 p.obj.0 p.slot ≡ Leaving q
 half-gone {b0} {b3} {p} {q} l h half = half.ports_set p.obj.0 p.slot ∙ port_but-other q (Leaving p) (port_but p (Leaving q) (port b0)) p.obj.0 p.slot (λ i. linked-apart b0 p q l h i.0) ∙ port_but-same p (Leaving q) (port b0) p.obj.0 p.slot refl refl
 
-pub Asks-call : {N L : Type 0} (parts : Nature N L) (y : ℕ) (e : Entry N L) (sent : ℕ → List ℕ) → ((k : ℕ) → sent_by parts k e ≡ sent k) → Asks parts y sent (calls y e ∷ [])
-Asks-call parts y e sent h p a i = rw (eq-eqb p.obj.0 y i) (h p.slot)
+pub Asks-call : {N L : Type 0} (known : Nature N L) (y : ℕ) (e : Entry N L) (sent : ℕ → List ℕ) → ((k : ℕ) → sent_by known k e ≡ sent k) → Asks known y sent (calls y e ∷ [])
+Asks-call known y e sent h p a i = rw (eq-eqb p.obj.0 y i) (h p.slot)

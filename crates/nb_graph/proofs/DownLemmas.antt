@@ -92,15 +92,15 @@ module _ (l : Ledger) (at : Port) (zero : at.slot ≡ 0) (opened : IsOpen (port 
       ]
 
 -- a whole entry from above
-pub Calms-down : {N L : Type 0} {parts : Nature N L} {b0 b1 b2 b3 : Ledger} {ds es gs : List (Deed N L)} (at : Port) (sent whole : ℕ → List ℕ) (left m : List ℕ) → at.slot ≡ 0 → IsOpen (port b1 at.obj.0 at.slot) → IsLinked (port b1) (rank b1) → sent 0 ≡ [] → ((k : ℕ) → (k ≡ 0 → ⊥) → whole k ≡ []) → whole 0 ++ left ≡ m → Calms {N = N} {L = L} parts b0 b1 Still (writes (Entered at Down) ∷ []) → Calms parts b1 b1 (Asking b1 at.obj.0 sent whole) ds → Calms parts b1 b2 (Following b1 (port_at at.obj.0 0) left sent) es → Calms parts b2 b3 Still gs → Calms parts b0 b3 (Giving b0 at m) (writes (Entered at Down) ∷ (ds ++ (es ++ gs)))
-Calms-down {N = N} {L = L} {parts = parts} {b0 = b0} {b1 = b1} at sent whole left m zero opened links none only all note ask eff last =
+pub Calms-down : {N L : Type 0} {known : Nature N L} {b0 b1 b2 b3 : Ledger} {ds es gs : List (Deed N L)} (at : Port) (sent whole : ℕ → List ℕ) (left m : List ℕ) → at.slot ≡ 0 → IsOpen (port b1 at.obj.0 at.slot) → IsLinked (port b1) (rank b1) → sent 0 ≡ [] → ((k : ℕ) → (k ≡ 0 → ⊥) → whole k ≡ []) → whole 0 ++ left ≡ m → Calms {N = N} {L = L} known b0 b1 Still (writes (Entered at Down) ∷ []) → Calms known b1 b1 (Asking b1 at.obj.0 sent whole) ds → Calms known b1 b2 (Following b1 (port_at at.obj.0 0) left sent) es → Calms known b2 b3 Still gs → Calms known b0 b3 (Giving b0 at m) (writes (Entered at Down) ∷ (ds ++ (es ++ gs)))
+Calms-down {N = N} {L = L} {known = known} {b0 = b0} {b1 = b1} at sent whole left m zero opened links none only all note ask eff last =
     Calms-then note
     (Calms-then {h = Given b1 at m} ask
     (Calms-then {h = Following b1 (port_at at.obj.0 0) left sent} eff last (λ p q x y w v d j. (v, d, λ _. refl)))
     (λ p q x y w v i j. let s = takes b1 at zero opened links sent whole left m none only all p q y y _ _ w v i j in (s.0, s.1, λ _. s.2)))
     (λ p q x y w v i j. (w, refl, λ k. given p q y w v i))
   where
-    given : (p q : Port) (y : Account) (w v : List ℕ) → Giving b0 at m p q y w v → Given b1 at m p q (account {N = N} {L = L} parts q y (writes (Entered at Down) ∷ [])) w v
+    given : (p q : Port) (y : Account) (w v : List ℕ) → Giving b0 at m p q y w v → Given b1 at m p q (account {N = N} {L = L} known q y (writes (Entered at Down) ∷ [])) w v
     given p q y w v (inl i) = inl (note.shuts p.obj.0 p.slot i)
     given p q y w v (inr (c, inl (e, h))) = inr (IsClear-fewer b0 b1 note.links c, inl (e, ap (λ z. (cond z (enters Down y) (rests y)).entered) (is-port-same q at e), h))
     given p q y w v (inr (c, inr (n, h))) = inr (IsClear-fewer b0 b1 note.links c, inr (n, h))

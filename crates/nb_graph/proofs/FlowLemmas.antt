@@ -47,15 +47,15 @@ module _ (a b : Ledger) (links : (y k : ℕ) (q : Port) → port b y k ≡ Linke
   Downs-closing m p q y z w v (inr (inl i)) = (v, inr (inl i), inr (refl, inl i.0))
   Downs-closing m p q y z w v (inr (inr i)) = (w, inr (inr (i.0, refl, i.2)), inr (i.1, inr (IsClear-fewer a b links i.2)))
 
-module _ {N L : Type 0} (parts : Nature N L) (bytes : List ℕ) where
-  pub emit-there : (k : ℕ) (e : Emit L) → k ≡ e.slot → emit_bytes parts k bytes (Some e) ≡ carries parts bytes e.from e.to e.load
+module _ {N L : Type 0} (known : Nature N L) (bytes : List ℕ) where
+  pub emit-there : (k : ℕ) (e : Emit L) → k ≡ e.slot → emit_bytes known k bytes (Some e) ≡ carries known bytes e.from e.to e.load
   emit-there k e h = rw (eq-eqb k e.slot h) refl
 
-  pub emit-elsewhere : (k : ℕ) (e : Emit L) → (k ≡ e.slot → ⊥) → emit_bytes parts k bytes (Some e) ≡ []
+  pub emit-elsewhere : (k : ℕ) (e : Emit L) → (k ≡ e.slot → ⊥) → emit_bytes known k bytes (Some e) ≡ []
   emit-elsewhere k e h = rw (ne_eqb k e.slot h) refl
 
   -- one of the downs
-  pub Emitting-own : (l : Ledger) (x : ℕ) (o : Option (Emit L)) (p q : Port) (y : Account) (u v : List ℕ) → p.obj.0 ≡ x → 1 ≤ p.slot → IfSome o (λ e. p.slot ≡ e.slot → ⊥) ⊎ (v ≡ v) → u ≡ emit_bytes parts p.slot bytes o ++ v → (IfSome o (λ e. (p.slot ≡ e.slot → ⊥) → v ≡ [])) → Emitting l x parts bytes o p q y u v
+  pub Emitting-own : (l : Ledger) (x : ℕ) (o : Option (Emit L)) (p q : Port) (y : Account) (u v : List ℕ) → p.obj.0 ≡ x → 1 ≤ p.slot → IfSome o (λ e. p.slot ≡ e.slot → ⊥) ⊎ (v ≡ v) → u ≡ emit_bytes known p.slot bytes o ++ v → (IfSome o (λ e. (p.slot ≡ e.slot → ⊥) → v ≡ [])) → Emitting l x known bytes o p q y u v
   Emitting-own l x None p q y u v e o i h n = inr h
   Emitting-own l x (Some d) p q y u v e o i h n = elim (cases_eq p.slot d.slot) [
     | inl s ↦ inr (inl (port-eq p (port_at x d.slot) e s, h ∙ ap (λ z. z ++ v) (emit-there p.slot d s)))
@@ -64,25 +64,25 @@ module _ {N L : Type 0} (parts : Nature N L) (bytes : List ℕ) where
         inr (inr ((λ z. s (ap (λ t. t.slot) z)), g, inr (inl (g ∙ n s))))
   ]
 
-  pub Emitting-other : (l : Ledger) (x len : ℕ) (o : Option (Emit L)) → IfSome o (IsDown len) → (p q : Port) (y : Account) (w : List ℕ) → (p.obj.0 ≡ x → p.slot ≡ 0) → IsClear l p x w → Emitting l x parts bytes o p q y w w
+  pub Emitting-other : (l : Ledger) (x len : ℕ) (o : Option (Emit L)) → IfSome o (IsDown len) → (p q : Port) (y : Account) (w : List ℕ) → (p.obj.0 ≡ x → p.slot ≡ 0) → IsClear l p x w → Emitting l x known bytes o p q y w w
   Emitting-other l x len None d p q y w n c = inr refl
   Emitting-other l x len (Some e) d p q y w n c = inr (inr ((λ z. let i = n (ap (λ t. t.obj.0) z) in let j = ap (λ t. t.slot) z in let k = d.0 in absurd (omega arith)), refl, c))
 
-  Emitting-shut : (l : Ledger) (x : ℕ) (o : Option (Emit L)) (p q : Port) (y : Account) (w v : List ℕ) → IsShut l p → Emitting l x parts bytes o p q y w v
+  Emitting-shut : (l : Ledger) (x : ℕ) (o : Option (Emit L)) (p q : Port) (y : Account) (w v : List ℕ) → IsShut l p → Emitting l x known bytes o p q y w v
   Emitting-shut l x None p q y w v h = inl h
   Emitting-shut l x (Some e) p q y w v h = inl h
 
   -- of two downs, which leave by one slot, one after the other
-  pub Downs-few : (a b : Ledger) (links : (y k : ℕ) (q : Port) → port b y k ≡ Linked q → port a y k ≡ Linked q) (shuts : (y k : ℕ) → open_count (port a y k) ≡ 0 → open_count (port b y k) ≡ 0) (x len : ℕ) (f : Few (Emit L)) → AreDowns len f → (p q : Port) (y z : Account) (w v : List ℕ) → Downs a x (λ k. few_bytes parts k bytes f) p q y w v → (u : List ℕ) × Emitting a x parts bytes f.first p q y w u × Emitting b x parts bytes f.second p q z u v
+  pub Downs-few : (a b : Ledger) (links : (y k : ℕ) (q : Port) → port b y k ≡ Linked q → port a y k ≡ Linked q) (shuts : (y k : ℕ) → open_count (port a y k) ≡ 0 → open_count (port b y k) ≡ 0) (x len : ℕ) (f : Few (Emit L)) → AreDowns len f → (p q : Port) (y z : Account) (w v : List ℕ) → Downs a x (λ k. few_bytes known k bytes f) p q y w v → (u : List ℕ) × Emitting a x known bytes f.first p q y w u × Emitting b x known bytes f.second p q z u v
   Downs-few a b links shuts x len f d p q y z w v (inl i) = (v, Emitting-shut a x f.first p q y w v i, Emitting-shut b x f.second p q z v v (shuts p.obj.0 p.slot i))
-  Downs-few a b links shuts x len f d p q y z w v (inr (inr i)) = (w, Emitting-other a x len f.first d.1 p q y w i.0 i.2, subst (Emitting b x parts bytes f.second p q z w) i.1 (Emitting-other b x len f.second d.2 p q z w i.0 (IsClear-fewer a b links i.2)))
+  Downs-few a b links shuts x len f d p q y z w v (inr (inr i)) = (w, Emitting-other a x len f.first d.1 p q y w i.0 i.2, subst (Emitting b x known bytes f.second p q z w) i.1 (Emitting-other b x len f.second d.2 p q z w i.0 (IsClear-fewer a b links i.2)))
   Downs-few a b links shuts x len f d p q y z w v (inr (inl i)) = (
-    emit_bytes parts p.slot bytes f.second,
-    Emitting-own a x f.first p q y w (emit_bytes parts p.slot bytes f.second) i.0 i.1 (inr refl) i.2 (both f.first f.second d.3),
-    Emitting-own b x f.second p q z (emit_bytes parts p.slot bytes f.second) v i.0 i.1 (inr refl) (sym (ap (λ t. emit_bytes parts p.slot bytes f.second ++ t) i.3 ∙ append-nil (emit_bytes parts p.slot bytes f.second))) (last f.second),
+    emit_bytes known p.slot bytes f.second,
+    Emitting-own a x f.first p q y w (emit_bytes known p.slot bytes f.second) i.0 i.1 (inr refl) i.2 (both f.first f.second d.3),
+    Emitting-own b x f.second p q z (emit_bytes known p.slot bytes f.second) v i.0 i.1 (inr refl) (sym (ap (λ t. emit_bytes known p.slot bytes f.second ++ t) i.3 ∙ append-nil (emit_bytes known p.slot bytes f.second))) (last f.second),
   )
     where
-      both : (o s : Option (Emit L)) → IfSome o (λ e. IfSome s (λ g. g.slot ≡ e.slot)) → IfSome o (λ e. (p.slot ≡ e.slot → ⊥) → emit_bytes parts p.slot bytes s ≡ [])
+      both : (o s : Option (Emit L)) → IfSome o (λ e. IfSome s (λ g. g.slot ≡ e.slot)) → IfSome o (λ e. (p.slot ≡ e.slot → ⊥) → emit_bytes known p.slot bytes s ≡ [])
       both None s h = tt
       both (Some e) None h = λ n. refl
       both (Some e) (Some g) h = λ n. emit-elsewhere p.slot g (λ t. n (t ∙ h))
@@ -121,8 +121,8 @@ Passing-shut l at m h p q y w v (inr (inr i)) = inr i.1
 Passing-shut l at m h p q y w v (inr (inl i)) = inl (ap (λ u. open_count (port l u.obj.0 u.slot)) i.0 ∙ h)
 
 -- all ports of an object were closed
-pub Calms-fail : {N L : Type 0} {parts : Nature N L} {a b : Ledger} {x : ℕ} {ds : List (Deed N L)} → ((k : ℕ) → open_count (port b x k) ≡ 0) → Calms parts a b (Closing a x) ds → Calms parts a b (Failing a x) ds
-Calms-fail {parts = parts} {a = a} {b = b} {x = x} {ds = ds} shut k = record {
+pub Calms-fail : {N L : Type 0} {known : Nature N L} {a b : Ledger} {x : ℕ} {ds : List (Deed N L)} → ((k : ℕ) → open_count (port b x k) ≡ 0) → Calms known a b (Closing a x) ds → Calms known a b (Failing a x) ds
+Calms-fail {known = known} {a = a} {b = b} {x = x} {ds = ds} shut k = record {
   same_made = k.same_made;
   links = k.links;
   shuts = k.shuts;
@@ -141,34 +141,34 @@ Calms-fail {parts = parts} {a = a} {b = b} {x = x} {ds = ds} shut k = record {
     other p q s t w v e (joined c d f g h) = absurd (let i = sym (ap open_count g) ∙ at_x q e in cc)
     other p q s t w v e (parted c d f g r h) = parted c d f g r h
 
-    during : (p q : Port) (y z : Account) (w v : List ℕ) → Failing a x p q z w v → Joined a p q y.sent z.taken w → Midway parts p q y z ds
+    during : (p q : Port) (y z : Account) (w v : List ℕ) → Failing a x p q z w v → Joined a p q y.sent z.taken w → Midway known p q y z ds
     during p q y z w v (inl i) j = k.midway p q y z w v (inl i) j
     during p q y z w v (inr (inl e, c)) j = k.midway p q y z w v (inr (e, c)) j
     during p q y z w v (inr (inr e, c)) j = k.midway p q y z w w (inr (refl, c)) j
 
-    go : (p q : Port) (y z : Account) (w v : List ℕ) → Failing a x p q z w v → Joined a p q y.sent z.taken w → Joined b p q (account parts p y ds).sent (account parts q z ds).taken v
+    go : (p q : Port) (y z : Account) (w v : List ℕ) → Failing a x p q z w v → Joined a p q y.sent z.taken w → Joined b p q (account known p y ds).sent (account known q z ds).taken v
     go p q y z w v (inl i) j = k.joins p q y z w v (inl i) j
     go p q y z w v (inr (inl e, c)) j = k.joins p q y z w v (inr (e, c)) j
     go p q y z w v (inr (inr (inl e), c)) j = Joined-any v (at_x p e) (k.joins p q y z w w (inr (refl, c)) j)
     go p q y z w v (inr (inr (inr e), c)) j = other p q _ _ w v e (k.joins p q y z w w (inr (refl, c)) j)
 
 -- an entry from above asks for nothing that goes up
-pub few-zero : {N L : Type 0} (parts : Nature N L) (bytes : List ℕ) (len : ℕ) (f : Few (Emit L)) → AreDowns len f → few_bytes parts 0 bytes f ≡ []
-few-zero parts bytes len f d = ap (λ z. z ++ emit_bytes parts 0 bytes f.second) (none f.first d.1) ∙ none f.second d.2
+pub few-zero : {N L : Type 0} (known : Nature N L) (bytes : List ℕ) (len : ℕ) (f : Few (Emit L)) → AreDowns len f → few_bytes known 0 bytes f ≡ []
+few-zero known bytes len f d = ap (λ z. z ++ emit_bytes known 0 bytes f.second) (none f.first d.1) ∙ none f.second d.2
   where
-    none : (o : Option (Emit _)) → IfSome o (IsDown len) → emit_bytes parts 0 bytes o ≡ []
+    none : (o : Option (Emit _)) → IfSome o (IsDown len) → emit_bytes known 0 bytes o ≡ []
     none None h = refl
-    none (Some e) h = emit-elsewhere parts bytes 0 e (λ z. let i = h.0 in absurd (omega arith))
+    none (Some e) h = emit-elsewhere known bytes 0 e (λ z. let i = h.0 in absurd (omega arith))
 
-pub below-bytes : {N L : Type 0} (parts : Nature N L) (bytes : List ℕ) (len : ℕ) (fx : Fx N L) → MayAskBelow len fx → (k : ℕ) → fx_bytes parts k bytes fx ≡ few_bytes parts k bytes fx.downs
-below-bytes parts bytes len fx a k = ap (λ z. few_bytes parts k bytes fx.downs ++ (emit_bytes parts k bytes z ++ emit_bytes parts k bytes fx.ups.second)) a.no_up ∙ ap (λ z. few_bytes parts k bytes fx.downs ++ emit_bytes parts k bytes z) a.no_ups ∙ append-nil (few_bytes parts k bytes fx.downs)
+pub below-bytes : {N L : Type 0} (known : Nature N L) (bytes : List ℕ) (len : ℕ) (fx : Fx N L) → MayAskBelow len fx → (k : ℕ) → fx_bytes known k bytes fx ≡ few_bytes known k bytes fx.downs
+below-bytes known bytes len fx a k = ap (λ z. few_bytes known k bytes fx.downs ++ (emit_bytes known k bytes z ++ emit_bytes known k bytes fx.ups.second)) a.no_up ∙ ap (λ z. few_bytes known k bytes fx.downs ++ emit_bytes known k bytes z) a.no_ups ∙ append-nil (few_bytes known k bytes fx.downs)
 
-pub below-zero : {N L : Type 0} (parts : Nature N L) (bytes : List ℕ) (len : ℕ) (fx : Fx N L) → MayAskBelow len fx → fx_bytes parts 0 bytes fx ≡ []
-below-zero parts bytes len fx a = below-bytes parts bytes len fx a 0 ∙ few-zero parts bytes len fx.downs a.downs
+pub below-zero : {N L : Type 0} (known : Nature N L) (bytes : List ℕ) (len : ℕ) (fx : Fx N L) → MayAskBelow len fx → fx_bytes known 0 bytes fx ≡ []
+below-zero known bytes len fx a = below-bytes known bytes len fx a 0 ∙ few-zero known bytes len fx.downs a.downs
 
-pub asked-zero : {N L : Type 0} (parts : Nature N L) (bytes : List ℕ) (len : ℕ) (asked : Asked N L) → MayAskDown len asked → asked_sent parts bytes asked 0 ≡ []
-asked-zero parts bytes len (Done fx) a = below-zero parts bytes len fx a
-asked-zero parts bytes len (NoMemory fx) a = refl
+pub asked-zero : {N L : Type 0} (known : Nature N L) (bytes : List ℕ) (len : ℕ) (asked : Asked N L) → MayAskDown len asked → asked_sent known bytes asked 0 ≡ []
+asked-zero known bytes len (Done fx) a = below-zero known bytes len fx a
+asked-zero known bytes len (NoMemory fx) a = refl
 
 pub closing-idle : {l : Ledger} {x : ℕ} (p q : Port) (y z : Account) (w v : List ℕ) → Closing l x p q z w v → Joined l p q y.sent z.taken w → IsShut l p ⊎ (w ≡ v)
 closing-idle p q y z w v (inl i) j = inl i

@@ -46,8 +46,8 @@ objects_of l nodes = record { book = l; nodes = nodes }
 pub Keeps-loses : {N L : Type 0} (stands : N → List (Entry N L) → Type 0) (old new : Ledger) (nodes more : List N) → Loses (seat old nodes) (seat new more) → KeepsTraces stands (objects_of old nodes) (objects_of new more)
 Keeps-loses stands old new nodes more l x t fit n h = fit n (l.back x n h)
 
-module _ {N L : Type 0} {stands : N → List (Entry N L) → Type 0} {parts : Nature N L} {now : ℕ} {s : List (Stage L) → List (Stage L)} {old new : Ledger} {nodes more : List N} {before after : Option (List Notice)} {f : Port → Port → Account → List ℕ → List ℕ → Type 0} (q : IsQuiet old) (idle : (p q : Port) (y : Account) (s t : List ℕ) → Joined old p q s t [] → f p q y [] []) where
-  pub Lived-calm : CalmFor stands parts now old new nodes more (Same (busy old)) f s before after → Lived stands parts now (s []) (objects_of old nodes) (objects_of new more) before after
+module _ {N L : Type 0} {stands : N → List (Entry N L) → Type 0} {known : Nature N L} {now : ℕ} {s : List (Stage L) → List (Stage L)} {old new : Ledger} {nodes more : List N} {before after : Option (List Notice)} {f : Port → Port → Account → List ℕ → List ℕ → Type 0} (q : IsQuiet old) (idle : (p q : Port) (y : Account) (s t : List ℕ) → Joined old p q s t [] → f p q y [] []) where
+  pub Lived-calm : CalmFor stands known now old new nodes more (Same (busy old)) f s before after → Lived stands known now (s []) (objects_of old nodes) (objects_of new more) before after
   Lived-calm k = record {
     added = k.calm.added;
     ages = Ages-shrinks k.calm.shrinks;
@@ -55,7 +55,7 @@ module _ {N L : Type 0} {stands : N → List (Entry N L) → Type 0} {parts : Na
     deeds = k.lives.deeds;
     events = k.lives.events;
     tells = k.lives.tells;
-    follows = subst (λ z. Follows parts now (scene_of old) (s []) z (scene_of new)) (append-nil k.lives.deeds) (k.lives.follows [] [] (scene_of new) refl);
+    follows = subst (λ z. Follows known now (scene_of old) (s []) z (scene_of new)) (append-nil k.lives.deeds) (k.lives.follows [] [] (scene_of new) refl);
     keeps = λ x t fit. k.lives.keeps x t [] [] ((λ _. refl), refl) fit;
     midway = λ p r a b bal. elim (cases_peer a.peer r) [
       | inl g ↦ k.lives.moved.midway p r (rests a) (rests b) [] [] (idle p r (rests b) a.sent b.taken (bal g)) (bal g)
@@ -64,7 +64,7 @@ module _ {N L : Type 0} {stands : N → List (Entry N L) → Type 0} {parts : Na
     balances = λ p r a b bal e. k.lives.moved.joins p r (rests a) (rests b) [] [] (idle p r (rests b) a.sent b.taken (bal (sym (k.lives.moved.peers p (rests a)) ∙ e))) (bal (sym (k.lives.moved.peers p (rests a)) ∙ e));
   }
 
-  pub Lived-lively : LivelyFor stands parts now old new nodes more (Same (busy old)) none_due f s before after → Lived stands parts now (s []) (objects_of old nodes) (objects_of new more) before after
+  pub Lived-lively : LivelyFor stands known now old new nodes more (Same (busy old)) none_due f s before after → Lived stands known now (s []) (objects_of old nodes) (objects_of new more) before after
   Lived-lively k = record {
     added = k.lively.added;
     ages = k.lively.grows.ages;
@@ -72,7 +72,7 @@ module _ {N L : Type 0} {stands : N → List (Entry N L) → Type 0} {parts : Na
     deeds = k.lives.deeds;
     events = k.lives.events;
     tells = k.lives.tells;
-    follows = subst (λ z. Follows parts now (scene_of old) (s []) z (scene_of new)) (append-nil k.lives.deeds) (k.lives.follows [] [] (scene_of new) refl);
+    follows = subst (λ z. Follows known now (scene_of old) (s []) z (scene_of new)) (append-nil k.lives.deeds) (k.lives.follows [] [] (scene_of new) refl);
     keeps = λ x t fit. k.lives.keeps x t [] [] ((λ _. refl), refl) fit;
     midway = λ p r a b bal. elim (cases_peer a.peer r) [
       | inl g ↦ k.lives.moved.midway p r (rests a) (rests b) [] [] (idle p r (rests b) a.sent b.taken (bal g)) (bal g)
@@ -85,17 +85,17 @@ module _ {N L : Type 0} {stands : N → List (Entry N L) → Type 0} {parts : Na
   }
 
   -- and its first call
-  pub Hands-calm : (e : GraphEvent) (x : ℕ) (entry : Bool → Fx N L → Entry N L) → ((k : CalmFor stands parts now old new nodes more (Same (busy old)) f s before after) × Hands e x entry k.lives.deeds) → (k : Lived stands parts now (s []) (objects_of old nodes) (objects_of new more) before after) × Hands e x entry k.deeds
+  pub Hands-calm : (e : GraphEvent) (x : ℕ) (entry : Bool → Fx N L → Entry N L) → ((k : CalmFor stands known now old new nodes more (Same (busy old)) f s before after) × Hands e x entry k.lives.deeds) → (k : Lived stands known now (s []) (objects_of old nodes) (objects_of new more) before after) × Hands e x entry k.deeds
   unfolding Lived-calm
   Hands-calm e x entry k = (Lived-calm k.0, k.1)
 
-  pub Hands-lively : (e : GraphEvent) (x : ℕ) (entry : Bool → Fx N L → Entry N L) → ((k : LivelyFor stands parts now old new nodes more (Same (busy old)) none_due f s before after) × Hands e x entry k.lives.deeds) → (k : Lived stands parts now (s []) (objects_of old nodes) (objects_of new more) before after) × Hands e x entry k.deeds
+  pub Hands-lively : (e : GraphEvent) (x : ℕ) (entry : Bool → Fx N L → Entry N L) → ((k : LivelyFor stands known now old new nodes more (Same (busy old)) none_due f s before after) × Hands e x entry k.lives.deeds) → (k : Lived stands known now (s []) (objects_of old nodes) (objects_of new more) before after) × Hands e x entry k.deeds
   unfolding Lived-lively
   Hands-lively e x entry k = (Lived-lively k.0, k.1)
 
 -- a message is dropped
-pub Lived-drop : {N L : Type 0} (stands : N → List (Entry N L) → Type 0) (parts : Nature N L) (now : ℕ) (l : Ledger) (nodes : List N) (before after : Option (List Notice)) (p : Port) (msg : Said) → (port l p.obj.0 p.slot ≡ state.Open → ⊥) → Tells before after (Dropped p ∷ []) → Given before after (event (flat (Dropped p)) ∷ []) → Lived stands parts now (Offers p msg ∷ []) (objects_of l nodes) (objects_of l nodes) before after
-Lived-drop stands parts now l nodes before after p msg n told given = record {
+pub Lived-drop : {N L : Type 0} (stands : N → List (Entry N L) → Type 0) (known : Nature N L) (now : ℕ) (l : Ledger) (nodes : List N) (before after : Option (List Notice)) (p : Port) (msg : Said) → (port l p.obj.0 p.slot ≡ state.Open → ⊥) → Tells before after (Dropped p ∷ []) → Given before after (event (flat (Dropped p)) ∷ []) → Lived stands known now (Offers p msg ∷ []) (objects_of l nodes) (objects_of l nodes) before after
+Lived-drop stands known now l nodes before after p msg n told given = record {
   added = Dropped p ∷ [];
   runs = Runs-drop l before after p n told;
   deeds = writes (Dropped p) ∷ [];
@@ -109,15 +109,15 @@ Lived-drop stands parts now l nodes before after p msg n told given = record {
 }
 
 -- time comes to a dead object
-pub Lived-dead : {N L : Type 0} (stands : N → List (Entry N L) → Type 0) (parts : Nature N L) (now : ℕ) (l : Ledger) (nodes : List N) (before : Option (List Notice)) (x : ℕ) → live l x ≡ false → Lived stands parts now (Ticks x ∷ []) (objects_of l nodes) (objects_of l nodes) before before
+pub Lived-dead : {N L : Type 0} (stands : N → List (Entry N L) → Type 0) (known : Nature N L) (now : ℕ) (l : Ledger) (nodes : List N) (before : Option (List Notice)) (x : ℕ) → live l x ≡ false → Lived stands known now (Ticks x ∷ []) (objects_of l nodes) (objects_of l nodes) before before
 unfolding IsRun-none
-Lived-dead stands parts now l nodes before x dead = record { added = []; runs = (IsRun-none l before).1; deeds = turns (is_dead x) ∷ []; events = refl; ages = Ages-refl l; tells = Given-none before; follows = ([], ticks_none x dead, refl); keeps = λ x t fit. fit; midway = λ p q a b bal. λ e. start-joined (bal e); balances = λ p q a b bal e. bal e }
+Lived-dead stands known now l nodes before x dead = record { added = []; runs = (IsRun-none l before).1; deeds = turns (is_dead x) ∷ []; events = refl; ages = Ages-refl l; tells = Given-none before; follows = ([], ticks_none x dead, refl); keeps = λ x t fit. fit; midway = λ p q a b bal. λ e. start-joined (bal e); balances = λ p q a b bal e. bal e }
 
 -- ports are closed, and then holds let go
-pub Lived-end : {N L : Type 0} {s r : List (Stage L) → List (Stage L)} {stands : N → List (Entry N L) → Type 0} {parts : Nature N L} {now : ℕ} {a b c : Ledger} {na nb nc : List N} {m n o : Option (List Notice)} → IsQuiet a → CalmFor stands parts now a b na nb (Same (busy a)) Empty s m n → RunFor stands parts b c nb nc r here n o → Ages b c → Lived stands parts now (s (r [])) (objects_of a na) (objects_of c nc) m o
+pub Lived-end : {N L : Type 0} {s r : List (Stage L) → List (Stage L)} {stands : N → List (Entry N L) → Type 0} {known : Nature N L} {now : ℕ} {a b c : Ledger} {na nb nc : List N} {m n o : Option (List Notice)} → IsQuiet a → CalmFor stands known now a b na nb (Same (busy a)) Empty s m n → RunFor stands known b c nb nc r here n o → Ages b c → Lived stands known now (s (r [])) (objects_of a na) (objects_of c nc) m o
 unfolding IsRun-trans
-Lived-end {s = s} {r = r} {parts = parts} {now = now} {a = a} {b = b} {c = c} {m = m} {n = n} {o = o} q k l ages =
-    let both = Lives-then {k = Calms parts a c Empty} (Lives-above r k.lives) (l.lives now) (λ x w v i. (v, i, refl)) (λ ds es x y. Calms-then x y (λ p r i j w v e t. (v, e, λ _. refl))) in
+Lived-end {s = s} {r = r} {known = known} {now = now} {a = a} {b = b} {c = c} {m = m} {n = n} {o = o} q k l ages =
+    let both = Lives-then {k = Calms known a c Empty} (Lives-above r k.lives) (l.lives now) (λ x w v i. (v, i, refl)) (λ ds es x y. Calms-then x y (λ p r i j w v e t. (v, e, λ _. refl))) in
     record {
       added = k.calm.added ++ l.added;
       runs = (IsRun-trans a b c m n o (k.calm.added, record { told = k.calm.told; run = k.calm.run [] tt (Agrees-quiet a q) }) (l.added, l.runs)).1;
@@ -125,7 +125,7 @@ Lived-end {s = s} {r = r} {parts = parts} {now = now} {a = a} {b = b} {c = c} {m
       events = both.events;
       ages = Ages-trans (Ages-shrinks k.calm.shrinks) ages;
       tells = both.tells;
-      follows = subst (λ z. Follows parts now (scene_of a) (s (r [])) z (scene_of c)) (append-nil both.deeds) (both.follows [] [] (scene_of c) refl);
+      follows = subst (λ z. Follows known now (scene_of a) (s (r [])) z (scene_of c)) (append-nil both.deeds) (both.follows [] [] (scene_of c) refl);
       keeps = λ x t fit. both.keeps x t [] [] ((λ _. refl), refl) fit;
       midway = λ p r x y bal. elim (cases_peer x.peer r) [
         | inl g ↦ both.moved.midway p r (rests x) (rests y) [] [] (refl, refl) (bal g)
@@ -135,8 +135,8 @@ Lived-end {s = s} {r = r} {parts = parts} {now = now} {a = a} {b = b} {c = c} {m
     }
 
 -- holds are let go
-pub Lived-run : {N L : Type 0} {s : List (Stage L) → List (Stage L)} {stands : N → List (Entry N L) → Type 0} {parts : Nature N L} {now : ℕ} {old new : Ledger} {nodes more : List N} {before after : Option (List Notice)} → RunFor stands parts old new nodes more s here before after → Ages old new → Lived stands parts now (s []) (objects_of old nodes) (objects_of new more) before after
-Lived-run {s = s} {parts = parts} {now = now} {old = old} {new = new} k ages =
+pub Lived-run : {N L : Type 0} {s : List (Stage L) → List (Stage L)} {stands : N → List (Entry N L) → Type 0} {known : Nature N L} {now : ℕ} {old new : Ledger} {nodes more : List N} {before after : Option (List Notice)} → RunFor stands known old new nodes more s here before after → Ages old new → Lived stands known now (s []) (objects_of old nodes) (objects_of new more) before after
+Lived-run {s = s} {known = known} {now = now} {old = old} {new = new} k ages =
     let l = k.lives now in
     record {
       added = k.added;
@@ -145,7 +145,7 @@ Lived-run {s = s} {parts = parts} {now = now} {old = old} {new = new} k ages =
       deeds = l.deeds;
       events = l.events;
       tells = l.tells;
-      follows = subst (λ z. Follows parts now (scene_of old) (s []) z (scene_of new)) (append-nil l.deeds) (l.follows [] [] (scene_of new) refl);
+      follows = subst (λ z. Follows known now (scene_of old) (s []) z (scene_of new)) (append-nil l.deeds) (l.follows [] [] (scene_of new) refl);
       keeps = λ x t fit. l.keeps x t [] [] refl fit;
       midway = λ p r x y bal. elim (cases_peer x.peer r) [
         | inl g ↦ l.moved.midway p r (rests x) (rests y) [] [] refl (bal g)
@@ -155,28 +155,28 @@ Lived-run {s = s} {parts = parts} {now = now} {old = old} {new = new} k ages =
     }
 
 -- a message that is given from outside enters by an open port without a link
-offered : {N L : Type 0} (parts : Nature N L) (now : ℕ) (s t : Scene) (p : Port) (m : Said) (ds : List (Deed N L)) → state_at s p ≡ state.Open → Follows parts now s (Gives p m ∷ []) ds t → Follows parts now s (Offers p m ∷ []) ds t
-offered parts now s t p m [] o h = absurd h
-offered parts now s t p m (_ ∷ ds) o (more, enters_up _ _ i j, h) = (more, offered_up p m i o, h)
-offered parts now s t p m (_ ∷ ds) o (more, enters_down _ _ i j, h) = (more, offered_down p m i o, h)
+offered : {N L : Type 0} (known : Nature N L) (now : ℕ) (s t : Scene) (p : Port) (m : Said) (ds : List (Deed N L)) → state_at s p ≡ state.Open → Follows known now s (Gives p m ∷ []) ds t → Follows known now s (Offers p m ∷ []) ds t
+offered known now s t p m [] o h = absurd h
+offered known now s t p m (_ ∷ ds) o (more, enters_up _ _ i j, h) = (more, offered_up p m i o, h)
+offered known now s t p m (_ ∷ ds) o (more, enters_down _ _ i j, h) = (more, offered_down p m i o, h)
 
-pub Lived-offered : {N L : Type 0} {stands : N → List (Entry N L) → Type 0} {parts : Nature N L} {now : ℕ} {old new : Objects N} {before after : Option (List Notice)} {p : Port} {m : Said} → state_at (scene_of old.book) p ≡ state.Open → Lived stands parts now (Gives p m ∷ []) old new before after → Lived stands parts now (Offers p m ∷ []) old new before after
-Lived-offered {parts = parts} {now = now} {old = old} {new = new} {p = p} {m = m} o k = record {
+pub Lived-offered : {N L : Type 0} {stands : N → List (Entry N L) → Type 0} {known : Nature N L} {now : ℕ} {old new : Objects N} {before after : Option (List Notice)} {p : Port} {m : Said} → state_at (scene_of old.book) p ≡ state.Open → Lived stands known now (Gives p m ∷ []) old new before after → Lived stands known now (Offers p m ∷ []) old new before after
+Lived-offered {known = known} {now = now} {old = old} {new = new} {p = p} {m = m} o k = record {
   added = k.added;
   runs = k.runs;
   ages = k.ages;
   deeds = k.deeds;
   events = k.events;
   tells = k.tells;
-  follows = offered parts now (scene_of old.book) (scene_of new.book) p m k.deeds o k.follows;
+  follows = offered known now (scene_of old.book) (scene_of new.book) p m k.deeds o k.follows;
   keeps = k.keeps;
   midway = k.midway;
   balances = k.balances;
 }
 
 -- two ports are joined
-pub Lived-plug : {N L : Type 0} (stands : N → List (Entry N L) → Type 0) (parts : Nature N L) (now : ℕ) {old mid new : Ledger} (nodes : List N) (before after : Option (List Notice)) {p q : Port} → SetsPort old mid p (state.Linked q) → SetsPort mid new q (state.Linked p) → port old p.obj.0 p.slot ≡ state.Open → port old q.obj.0 q.slot ≡ state.Open → 1 ≤ p.slot → q.slot ≡ 0 → p.obj.0 ≤ old.made → q.obj.0 ≤ old.made → Tells before after (Plugged p q ∷ []) → ((st : List Frame) → IsIdle st → Step (state_of old st) (Plugged p q) (state_of new st)) → Given before after (event (flat (Plugged p q)) ∷ []) → Lived stands parts now (MustPlug p q ∷ []) (objects_of old nodes) (objects_of new nodes) before after
-Lived-plug stands parts now {old = old} {mid = mid} {new = new} nodes before after {p = p} {q = q} a b op oq up low pm qm told step given = record {
+pub Lived-plug : {N L : Type 0} (stands : N → List (Entry N L) → Type 0) (known : Nature N L) (now : ℕ) {old mid new : Ledger} (nodes : List N) (before after : Option (List Notice)) {p q : Port} → SetsPort old mid p (state.Linked q) → SetsPort mid new q (state.Linked p) → port old p.obj.0 p.slot ≡ state.Open → port old q.obj.0 q.slot ≡ state.Open → 1 ≤ p.slot → q.slot ≡ 0 → p.obj.0 ≤ old.made → q.obj.0 ≤ old.made → Tells before after (Plugged p q ∷ []) → ((st : List Frame) → IsIdle st → Step (state_of old st) (Plugged p q) (state_of new st)) → Given before after (event (flat (Plugged p q)) ∷ []) → Lived stands known now (MustPlug p q ∷ []) (objects_of old nodes) (objects_of new nodes) before after
+Lived-plug stands known now {old = old} {mid = mid} {new = new} nodes before after {p = p} {q = q} a b op oq up low pm qm told step given = record {
   added = Plugged p q ∷ [];
   runs = Runs-one old new before after (Plugged p q) told step;
   ages = Ages-trans (Ages-same a.objects) (Ages-same b.objects);
@@ -190,8 +190,8 @@ Lived-plug stands parts now {old = old} {mid = mid} {new = new} nodes before aft
 }
 
 -- a hold is added
-pub Lived-hold : {N L : Type 0} (stands : N → List (Entry N L) → Type 0) (parts : Nature N L) (now : ℕ) {old new : Ledger} {n : ℕ} (nodes : List N) (before after : Option (List Notice)) (x : ObjId) → live old x.0 ≡ true → SetsHolds old new x.0 n → Tells before after (Held x ∷ []) → ((st : List Frame) → IsIdle st → Step (state_of old st) (Held x) (state_of new st)) → Given before after (event (flat (Held x)) ∷ []) → Lived stands parts now (Wants (Held x) ∷ []) (objects_of old nodes) (objects_of new nodes) before after
-Lived-hold stands parts now {old = old} {new = new} nodes before after x lives s told step given = record {
+pub Lived-hold : {N L : Type 0} (stands : N → List (Entry N L) → Type 0) (known : Nature N L) (now : ℕ) {old new : Ledger} {n : ℕ} (nodes : List N) (before after : Option (List Notice)) (x : ObjId) → live old x.0 ≡ true → SetsHolds old new x.0 n → Tells before after (Held x ∷ []) → ((st : List Frame) → IsIdle st → Step (state_of old st) (Held x) (state_of new st)) → Given before after (event (flat (Held x)) ∷ []) → Lived stands known now (Wants (Held x) ∷ []) (objects_of old nodes) (objects_of new nodes) before after
+Lived-hold stands known now {old = old} {new = new} nodes before after x lives s told step given = record {
   added = Held x ∷ [];
   runs = Runs-one old new before after (Held x) told step;
   ages = Ages-same s.objects;
@@ -205,8 +205,8 @@ Lived-hold stands parts now {old = old} {new = new} nodes before after x lives s
 }
 
 -- an object is made, with a hold
-pub Lived-make : {N L : Type 0} (stands : N → List (Entry N L) → Type 0) (parts : Nature N L) (now : ℕ) {old mid new : Ledger} {r n : ℕ} (nodes more : List N) (before between after : Option (List Notice)) (x : ObjId) (kind : ℕ) → length old.objects < old.room → old.made + 1 < 2 ^ 64 → x.0 ≡ old.made + 1 → live old x.0 ≡ false → length mid.objects ≡ length old.objects + 1 → Adds old mid x.0 r → SetsHolds mid new x.0 n → Tells before between (Made x kind ∷ []) → Tells between after (Held x ∷ []) → ((st : List Frame) → IsIdle st → Step (state_of old st) (Made x kind) (state_of mid st)) → ((st : List Frame) → IsIdle st → Step (state_of mid st) (Held x) (state_of new st)) → Given before between (event (flat (Made x kind)) ∷ []) → Given between after (event (flat (Held x)) ∷ []) → ((t : List (Entry N L)) → StandsFor stands (objects_of new more) x.0 []) → ((y : ℕ) (t : List (Entry N L)) → y ≢ x.0 → StandsFor stands (objects_of old nodes) y t → StandsFor stands (objects_of new more) y t) → Lived stands parts now (Wants (Made x kind) ∷ Wants (Held x) ∷ []) (objects_of old nodes) (objects_of new more) before after
-Lived-make {N} {L} stands parts now {old = old} {mid = mid} {new = new} nodes more before between after x kind room small serial fresh one a s told then step next given also there others = record {
+pub Lived-make : {N L : Type 0} (stands : N → List (Entry N L) → Type 0) (known : Nature N L) (now : ℕ) {old mid new : Ledger} {r n : ℕ} (nodes more : List N) (before between after : Option (List Notice)) (x : ObjId) (kind : ℕ) → length old.objects < old.room → old.made + 1 < 2 ^ 64 → x.0 ≡ old.made + 1 → live old x.0 ≡ false → length mid.objects ≡ length old.objects + 1 → Adds old mid x.0 r → SetsHolds mid new x.0 n → Tells before between (Made x kind ∷ []) → Tells between after (Held x ∷ []) → ((st : List Frame) → IsIdle st → Step (state_of old st) (Made x kind) (state_of mid st)) → ((st : List Frame) → IsIdle st → Step (state_of mid st) (Held x) (state_of new st)) → Given before between (event (flat (Made x kind)) ∷ []) → Given between after (event (flat (Held x)) ∷ []) → ((t : List (Entry N L)) → StandsFor stands (objects_of new more) x.0 []) → ((y : ℕ) (t : List (Entry N L)) → y ≢ x.0 → StandsFor stands (objects_of old nodes) y t → StandsFor stands (objects_of new more) y t) → Lived stands known now (Wants (Made x kind) ∷ Wants (Held x) ∷ []) (objects_of old nodes) (objects_of new more) before after
+Lived-make {N} {L} stands known now {old = old} {mid = mid} {new = new} nodes more before between after x kind room small serial fresh one a s told then step next given also there others = record {
   added = Made x kind ∷ Held x ∷ [];
   runs = Runs-two old mid new before between after (Made x kind) (Held x) told then step next;
   ages = Ages-trans (Ages-adds serial a) (Ages-same s.objects);

@@ -43,16 +43,16 @@ told-append (calls y i ∷ ds) es = told-append ds es
 told-append (turns u ∷ ds) es = ap (λ z. notice_of u ++ z) (told-append ds es) ∙ sym (append_assoc (notice_of u) (told_of ds) (told_of es))
 
 -- what a call becomes stands above what stood below it
-pub Follows-called : {N L : Type 0} (parts : Nature N L) (now : ℕ) (s t : Scene) (rs gs : List (Stage L)) (g : Stage L) (ds : List (Deed N L)) → Follows parts now s (rs ++ g ∷ gs) ds t → Follows parts now s ((rs ++ g ∷ []) ++ gs) ds t
-Follows-called parts now s t rs gs g ds h = subst (λ z. Follows parts now s z ds t) (sym (append_assoc rs (g ∷ []) gs)) h
+pub Follows-called : {N L : Type 0} (known : Nature N L) (now : ℕ) (s t : Scene) (rs gs : List (Stage L)) (g : Stage L) (ds : List (Deed N L)) → Follows known now s (rs ++ g ∷ gs) ds t → Follows known now s ((rs ++ g ∷ []) ++ gs) ds t
+Follows-called known now s t rs gs g ds h = subst (λ z. Follows known now s z ds t) (sym (append_assoc rs (g ∷ []) gs)) h
 
 -- one after the other, with what is owed between
-unfoldable pub Lives-then : {N L : Type 0} {parts : Nature N L} {stands : N → List (Entry N L) → Type 0} {now : ℕ} {f g h : Seats N} {p q r : ℕ → List L → List L → Type 0} {o m n : List (Stage L) → List (Stage L)} {i j k : List (Deed N L) → Type 0} {xs ys : List GraphEvent} → Lives stands parts now f g p o m i xs → Lives stands parts now g h q m n j ys → ((x : ℕ) (w v : List L) → r x w v → (u : List L) × p x w u × q x u v) → ((ds es : List (Deed N L)) → i ds → j es → k (ds ++ es)) → Lives stands parts now f h r o n k (xs ++ ys)
-Lives-then {parts = parts} {stands = stands} {now = now} {f = f} {g = g} {h = h} {o = o} {m = m} {n = n} {xs = xs} {ys = ys} a b split join = record {
+unfoldable pub Lives-then : {N L : Type 0} {known : Nature N L} {stands : N → List (Entry N L) → Type 0} {now : ℕ} {f g h : Seats N} {p q r : ℕ → List L → List L → Type 0} {o m n : List (Stage L) → List (Stage L)} {i j k : List (Deed N L) → Type 0} {xs ys : List GraphEvent} → Lives stands known now f g p o m i xs → Lives stands known now g h q m n j ys → ((x : ℕ) (w v : List L) → r x w v → (u : List L) × p x w u × q x u v) → ((ds es : List (Deed N L)) → i ds → j es → k (ds ++ es)) → Lives stands known now f h r o n k (xs ++ ys)
+Lives-then {known = known} {stands = stands} {now = now} {f = f} {g = g} {h = h} {o = o} {m = m} {n = n} {xs = xs} {ys = ys} a b split join = record {
   deeds = a.deeds ++ b.deeds;
   events = events-append a.deeds b.deeds ∙ ap (λ z. z ++ events_of b.deeds) a.events ∙ ap (λ z. xs ++ z) b.events;
   tells = subst (Given f.told h.told) (sym (told-append a.deeds b.deeds)) (Given-append f.told g.told h.told (told_of a.deeds) (told_of b.deeds) a.tells b.tells);
-  follows = λ st ds s k. subst (λ z. Follows parts now f.scene (o st) z s) (sym (append_assoc a.deeds b.deeds ds)) (a.follows st (b.deeds ++ ds) s (b.follows st ds s k));
+  follows = λ st ds s k. subst (λ z. Follows known now f.scene (o st) z s) (sym (append_assoc a.deeds b.deeds ds)) (a.follows st (b.deeds ++ ds) s (b.follows st ds s k));
   keeps = λ x t w v k fit.
       let u = split x w v k in
       subst (λ z. Fits stands h x z v) (sym (trace-append x t a.deeds b.deeds)) (b.keeps x (trace_after x t a.deeds) u.0 v u.2 (a.keeps x t w u.0 u.1 fit));
@@ -60,28 +60,28 @@ Lives-then {parts = parts} {stands = stands} {now = now} {f = f} {g = g} {h = h}
 }
 
 -- of which nothing is said of bytes
-unfoldable pub Lives-both : {N L : Type 0} {parts : Nature N L} {stands : N → List (Entry N L) → Type 0} {now : ℕ} {f g h : Seats N} {p q r : ℕ → List L → List L → Type 0} {o m n : List (Stage L) → List (Stage L)} {i j : List (Deed N L) → Type 0} {xs ys : List GraphEvent} → Lives stands parts now f g p o m i xs → Lives stands parts now g h q m n j ys → ((x : ℕ) (w v : List L) → r x w v → (u : List L) × p x w u × q x u v) → Lives stands parts now f h r o n (λ _. Unit {0}) (xs ++ ys)
+unfoldable pub Lives-both : {N L : Type 0} {known : Nature N L} {stands : N → List (Entry N L) → Type 0} {now : ℕ} {f g h : Seats N} {p q r : ℕ → List L → List L → Type 0} {o m n : List (Stage L) → List (Stage L)} {i j : List (Deed N L) → Type 0} {xs ys : List GraphEvent} → Lives stands known now f g p o m i xs → Lives stands known now g h q m n j ys → ((x : ℕ) (w v : List L) → r x w v → (u : List L) × p x w u × q x u v) → Lives stands known now f h r o n (λ _. Unit {0}) (xs ++ ys)
 unfolding Lives-then
 Lives-both a b split = Lives-then a b split (λ ds es k l. tt)
 
 -- something of which no event is written after it
-unfoldable pub Lives-after : {N L : Type 0} {parts : Nature N L} {stands : N → List (Entry N L) → Type 0} {now : ℕ} {f g h : Seats N} {p q r : ℕ → List L → List L → Type 0} {o m n : List (Stage L) → List (Stage L)} {i j k : List (Deed N L) → Type 0} {xs : List GraphEvent} → Lives stands parts now f g p o m i xs → Lives stands parts now g h q m n j [] → ((x : ℕ) (w v : List L) → r x w v → (u : List L) × p x w u × q x u v) → ((ds es : List (Deed N L)) → i ds → j es → k (ds ++ es)) → Lives stands parts now f h r o n k xs
+unfoldable pub Lives-after : {N L : Type 0} {known : Nature N L} {stands : N → List (Entry N L) → Type 0} {now : ℕ} {f g h : Seats N} {p q r : ℕ → List L → List L → Type 0} {o m n : List (Stage L) → List (Stage L)} {i j k : List (Deed N L) → Type 0} {xs : List GraphEvent} → Lives stands known now f g p o m i xs → Lives stands known now g h q m n j [] → ((x : ℕ) (w v : List L) → r x w v → (u : List L) × p x w u × q x u v) → ((ds es : List (Deed N L)) → i ds → j es → k (ds ++ es)) → Lives stands known now f h r o n k xs
 unfolding Lives-then
 Lives-after {k = k} {xs = xs} a b split join =
     let v = Lives-then {k = k} a b split join in
     record { deeds = v.deeds; events = v.events ∙ append-nil xs; tells = v.tells; follows = v.follows; keeps = v.keeps; moved = v.moved }
 
 -- the same within other stages
-unfoldable pub Lives-under : {N L : Type 0} {parts : Nature N L} {stands : N → List (Entry N L) → Type 0} {now : ℕ} {f g : Seats N} {p : ℕ → List L → List L → Type 0} {i : List (Deed N L) → Type 0} {xs : List GraphEvent} (m : List (Stage L) → List (Stage L)) → Lives stands parts now f g p here here i xs → Lives stands parts now f g p m m i xs
+unfoldable pub Lives-under : {N L : Type 0} {known : Nature N L} {stands : N → List (Entry N L) → Type 0} {now : ℕ} {f g : Seats N} {p : ℕ → List L → List L → Type 0} {i : List (Deed N L) → Type 0} {xs : List GraphEvent} (m : List (Stage L) → List (Stage L)) → Lives stands known now f g p here here i xs → Lives stands known now f g p m m i xs
 Lives-under m k = record { deeds = k.deeds; events = k.events; tells = k.tells; follows = λ st. k.follows (m st); keeps = k.keeps; moved = k.moved }
 
 -- the same above other stages
-unfoldable pub Lives-above : {N L : Type 0} {parts : Nature N L} {stands : N → List (Entry N L) → Type 0} {now : ℕ} {f g : Seats N} {p : ℕ → List L → List L → Type 0} {o n : List (Stage L) → List (Stage L)} {i : List (Deed N L) → Type 0} {xs : List GraphEvent} (m : List (Stage L) → List (Stage L)) → Lives stands parts now f g p o n i xs → Lives stands parts now f g p (λ st. o (m st)) (λ st. n (m st)) i xs
+unfoldable pub Lives-above : {N L : Type 0} {known : Nature N L} {stands : N → List (Entry N L) → Type 0} {now : ℕ} {f g : Seats N} {p : ℕ → List L → List L → Type 0} {o n : List (Stage L) → List (Stage L)} {i : List (Deed N L) → Type 0} {xs : List GraphEvent} (m : List (Stage L) → List (Stage L)) → Lives stands known now f g p o n i xs → Lives stands known now f g p (λ st. o (m st)) (λ st. n (m st)) i xs
 Lives-above m k = record { deeds = k.deeds; events = k.events; tells = k.tells; follows = λ st. k.follows (m st); keeps = k.keeps; moved = k.moved }
 
 -- the same of stages in another form
-unfoldable pub Lives-opened : {N L : Type 0} {stands : N → List (Entry N L) → Type 0} {parts : Nature N L} {now : ℕ} {f g : Seats N} {p : ℕ → List L → List L → Type 0} {o m n : List (Stage L) → List (Stage L)} {i : List (Deed N L) → Type 0} {xs : List GraphEvent} → ((st : List (Stage L)) → m st ≡ o st) → Lives stands parts now f g p o n i xs → Lives stands parts now f g p m n i xs
-Lives-opened {parts = parts} {now = now} {f = f} same k = record { deeds = k.deeds; events = k.events; tells = k.tells; follows = λ st ds s w. subst (λ z. Follows parts now f.scene z (k.deeds ++ ds) s) (sym (same st)) (k.follows st ds s w); keeps = k.keeps; moved = k.moved }
+unfoldable pub Lives-opened : {N L : Type 0} {stands : N → List (Entry N L) → Type 0} {known : Nature N L} {now : ℕ} {f g : Seats N} {p : ℕ → List L → List L → Type 0} {o m n : List (Stage L) → List (Stage L)} {i : List (Deed N L) → Type 0} {xs : List GraphEvent} → ((st : List (Stage L)) → m st ≡ o st) → Lives stands known now f g p o n i xs → Lives stands known now f g p m n i xs
+Lives-opened {known = known} {now = now} {f = f} same k = record { deeds = k.deeds; events = k.events; tells = k.tells; follows = λ st ds s w. subst (λ z. Follows known now f.scene z (k.deeds ++ ds) s) (sym (same st)) (k.follows st ds s w); keeps = k.keeps; moved = k.moved }
 
 -- loads that come back, and others
 pub returns-append : {L : Type 0} (x : ℕ) (ls ms : List L) → returns_of x (ls ++ ms) ≡ returns_of x ls ++ returns_of x ms
@@ -92,39 +92,39 @@ pub returns-both : {L : Type 0} (x : ℕ) (ls ms : List L) (st : List (Stage L))
 returns-both x ls ms st = ap (λ z. z ++ st) (returns-append x ls ms) ∙ append_assoc (returns_of x ls) (returns_of x ms) st
 
 -- the same where less is asked
-unfoldable pub Lives-weaken : {N L : Type 0} {parts : Nature N L} {stands : N → List (Entry N L) → Type 0} {now : ℕ} {f g : Seats N} {p q : ℕ → List L → List L → Type 0} {o n : List (Stage L) → List (Stage L)} {i j : List (Deed N L) → Type 0} {xs : List GraphEvent} → ((x : ℕ) (w v : List L) → q x w v → p x w v) → ((ds : List (Deed N L)) → i ds → j ds) → Lives stands parts now f g p o n i xs → Lives stands parts now f g q o n j xs
+unfoldable pub Lives-weaken : {N L : Type 0} {known : Nature N L} {stands : N → List (Entry N L) → Type 0} {now : ℕ} {f g : Seats N} {p q : ℕ → List L → List L → Type 0} {o n : List (Stage L) → List (Stage L)} {i j : List (Deed N L) → Type 0} {xs : List GraphEvent} → ((x : ℕ) (w v : List L) → q x w v → p x w v) → ((ds : List (Deed N L)) → i ds → j ds) → Lives stands known now f g p o n i xs → Lives stands known now f g q o n j xs
 Lives-weaken less change k = record { deeds = k.deeds; events = k.events; tells = k.tells; follows = k.follows; keeps = λ x t w v i. k.keeps x t w v (less x w v i); moved = change k.deeds k.moved }
 
 -- of which this is said of bytes
-unfoldable pub Lives-say : {N L : Type 0} {parts : Nature N L} {stands : N → List (Entry N L) → Type 0} {now : ℕ} {f g : Seats N} {p : ℕ → List L → List L → Type 0} {o n : List (Stage L) → List (Stage L)} {i j : List (Deed N L) → Type 0} {xs : List GraphEvent} → (k : Lives stands parts now f g p o n i xs) → j k.deeds → Lives stands parts now f g p o n j xs
+unfoldable pub Lives-say : {N L : Type 0} {known : Nature N L} {stands : N → List (Entry N L) → Type 0} {now : ℕ} {f g : Seats N} {p : ℕ → List L → List L → Type 0} {o n : List (Stage L) → List (Stage L)} {i j : List (Deed N L) → Type 0} {xs : List GraphEvent} → (k : Lives stands known now f g p o n i xs) → j k.deeds → Lives stands known now f g p o n j xs
 Lives-say k m = record { deeds = k.deeds; events = k.events; tells = k.tells; follows = k.follows; keeps = k.keeps; moved = m }
 
 -- nothing happens
-unfoldable pub Lives-none : {N L : Type 0} {parts : Nature N L} (stands : N → List (Entry N L) → Type 0) (now : ℕ) (f : Seats N) {i : List (Deed N L) → Type 0} → i [] → Lives stands parts now f f Stays here here i []
+unfoldable pub Lives-none : {N L : Type 0} {known : Nature N L} (stands : N → List (Entry N L) → Type 0) (now : ℕ) (f : Seats N) {i : List (Deed N L) → Type 0} → i [] → Lives stands known now f f Stays here here i []
 Lives-none stands now f m = record { deeds = []; events = refl; tells = Given-none f.told; follows = λ st ds s k. k; keeps = λ x t w v e fit. subst (Fits stands f x t) e fit; moved = m }
 
 -- something turns
-unfoldable pub Lives-turn : {N L : Type 0} {parts : Nature N L} (stands : N → List (Entry N L) → Type 0) (now : ℕ) (f : Seats N) (t : Option (List Notice)) (o n : List (Stage L) → List (Stage L)) (u : Turn) → Given f.told t (notice_of u) → ((st : List (Stage L)) (ds : List (Deed N L)) (s : Scene) → Follows parts now f.scene (n st) ds s → Follows parts now f.scene (o st) (turns u ∷ ds) s) → {i : List (Deed N L) → Type 0} → i (turns u ∷ []) → Lives stands parts now f (record f { told = t }) Stays o n i []
+unfoldable pub Lives-turn : {N L : Type 0} {known : Nature N L} (stands : N → List (Entry N L) → Type 0) (now : ℕ) (f : Seats N) (t : Option (List Notice)) (o n : List (Stage L) → List (Stage L)) (u : Turn) → Given f.told t (notice_of u) → ((st : List (Stage L)) (ds : List (Deed N L)) (s : Scene) → Follows known now f.scene (n st) ds s → Follows known now f.scene (o st) (turns u ∷ ds) s) → {i : List (Deed N L) → Type 0} → i (turns u ∷ []) → Lives stands known now f (record f { told = t }) Stays o n i []
 Lives-turn stands now f t o n u given fits m = record { deeds = turns u ∷ []; events = refl; tells = subst (Given f.told t) (sym (append-nil (notice_of u))) given; follows = fits; keeps = λ x t w v e fit. subst (Fits stands f x t) e fit; moved = m }
 
 -- an event by which no object is made
-unfoldable pub Lives-note : {N L : Type 0} {parts : Nature N L} (stands : N → List (Entry N L) → Type 0) (now : ℕ) (f g : Seats N) (o n : List (Stage L) → List (Stage L)) (e : GraphEvent) → Loses f.node g.node → g.scene ≡ after_noted e f.scene → Given f.told g.told (event (flat e) ∷ []) → ((x : ℕ) (t : List (Entry N L)) → after_event x t e ≡ t) → ((st : List (Stage L)) (ds : List (Deed N L)) (s : Scene) → Follows parts now (after_noted e f.scene) (n st) ds s → Follows parts now f.scene (o st) (writes e ∷ ds) s) → {i : List (Deed N L) → Type 0} → i (writes e ∷ []) → Lives stands parts now f g Stays o n i (e ∷ [])
-Lives-note {parts = parts} stands now f g o n e loses scene given plain notes moves = record {
+unfoldable pub Lives-note : {N L : Type 0} {known : Nature N L} (stands : N → List (Entry N L) → Type 0) (now : ℕ) (f g : Seats N) (o n : List (Stage L) → List (Stage L)) (e : GraphEvent) → Loses f.node g.node → g.scene ≡ after_noted e f.scene → Given f.told g.told (event (flat e) ∷ []) → ((x : ℕ) (t : List (Entry N L)) → after_event x t e ≡ t) → ((st : List (Stage L)) (ds : List (Deed N L)) (s : Scene) → Follows known now (after_noted e f.scene) (n st) ds s → Follows known now f.scene (o st) (writes e ∷ ds) s) → {i : List (Deed N L) → Type 0} → i (writes e ∷ []) → Lives stands known now f g Stays o n i (e ∷ [])
+Lives-note {known = known} stands now f g o n e loses scene given plain notes moves = record {
   deeds = writes e ∷ [];
   events = refl;
   tells = given;
-  follows = λ st ds s k. notes st ds s (subst (λ z. Follows parts now z (n st) ds s) scene k);
+  follows = λ st ds s k. notes st ds s (subst (λ z. Follows known now z (n st) ds s) scene k);
   keeps = λ x t w v eq fit. λ m h. subst (λ z. stands m z × Owes [] z v) (sym (plain x t)) (subst (Fits stands f x t) eq fit m (loses.back x m h));
   moved = moves;
 }
 
 -- a call of a node, or a load that comes back to it
-unfoldable pub Lives-call : {N L : Type 0} {parts : Nature N L} (stands : N → List (Entry N L) → Type 0) (now : ℕ) (f g : Seats N) (owing : ℕ → List L → List L → Type 0) (o n : List (Stage L) → List (Stage L)) (y : ℕ) (i : Entry N L) (d c : N) → f.scene ≡ g.scene → Given f.told g.told [] → f.node y ≡ Some d → ((m : N) → g.node y ≡ Some m → m ≡ c) → ((x : ℕ) (m : N) → x ≢ y → g.node x ≡ Some m → f.node x ≡ Some m) → ((w v : List L) → owing y w v → Owes1 w i v) → ((x : ℕ) (w v : List L) → x ≢ y → owing x w v → w ≡ v) → ((t : List (Entry N L)) (w v : List L) → owing y w v → Owes [] t w → stands d t → stands c (t ++ i ∷ [])) → ((st : List (Stage L)) (ds : List (Deed N L)) (s : Scene) → Follows parts now f.scene (n st) ds s → Follows parts now f.scene (o st) (calls y i ∷ ds) s) → {z : List (Deed N L) → Type 0} → z (calls y i ∷ []) → Lives stands parts now f g owing o n z []
-Lives-call {N} {L} {parts = parts} stands now f g owing o n y i d c scene given is there others owes stay law hears moves = record {
+unfoldable pub Lives-call : {N L : Type 0} {known : Nature N L} (stands : N → List (Entry N L) → Type 0) (now : ℕ) (f g : Seats N) (owing : ℕ → List L → List L → Type 0) (o n : List (Stage L) → List (Stage L)) (y : ℕ) (i : Entry N L) (d c : N) → f.scene ≡ g.scene → Given f.told g.told [] → f.node y ≡ Some d → ((m : N) → g.node y ≡ Some m → m ≡ c) → ((x : ℕ) (m : N) → x ≢ y → g.node x ≡ Some m → f.node x ≡ Some m) → ((w v : List L) → owing y w v → Owes1 w i v) → ((x : ℕ) (w v : List L) → x ≢ y → owing x w v → w ≡ v) → ((t : List (Entry N L)) (w v : List L) → owing y w v → Owes [] t w → stands d t → stands c (t ++ i ∷ [])) → ((st : List (Stage L)) (ds : List (Deed N L)) (s : Scene) → Follows known now f.scene (n st) ds s → Follows known now f.scene (o st) (calls y i ∷ ds) s) → {z : List (Deed N L) → Type 0} → z (calls y i ∷ []) → Lives stands known now f g owing o n z []
+Lives-call {N} {L} {known = known} stands now f g owing o n y i d c scene given is there others owes stay law hears moves = record {
   deeds = calls y i ∷ [];
   events = refl;
   tells = given;
-  follows = λ st ds s k. hears st ds s (subst (λ z. Follows parts now z (n st) ds s) (sym scene) k);
+  follows = λ st ds s k. hears st ds s (subst (λ z. Follows known now z (n st) ds s) (sym scene) k);
   keeps = λ x t w v k fit. λ m h. elim (cases_eq x y) [
     | inl e ↦ rw (eq-eqb x y e) (called x t w v k fit m h e)
     | inr e ↦ rw (ne_eqb x y e) (subst (Fits stands f x t) (stay x w v e k) fit m (others x m e h))
@@ -141,12 +141,12 @@ Lives-call {N} {L} {parts = parts} stands now f g owing o n y i d c scene given 
         )
 
 -- an object is made and plugged; it starts from the empty trace
-pub Lives-make : {N L : Type 0} {parts : Nature N L} (stands : N → List (Entry N L) → Type 0) (now : ℕ) (b : ℕ → Bool) (f g : Seats N) (y : ObjId) (kind : ℕ) (p q : Port) (node : N) → stands node [] → b y.0 ≡ false → state_at f.scene p ≡ port.Open → (IsFull f.scene → ⊥) → y.0 ≡ f.scene.made + 1 → state_at (after_noted (Made y kind) f.scene) p ≡ port.Open → state_at (after_noted (Made y kind) f.scene) q ≡ port.Open → g.scene ≡ after_noted (Plugged p q) (after_noted (Made y kind) f.scene) → Given f.told g.told (event (flat (Made y kind)) ∷ event (flat (Plugged p q)) ∷ []) → ((n : N) → g.node y.0 ≡ Some n → n ≡ node) → ((x : ℕ) (n : N) → x ≢ y.0 → g.node x ≡ Some n → f.node x ≡ Some n) → {i : List (Deed N L) → Type 0} → i (writes (Made y kind) ∷ writes (Plugged p q) ∷ []) → q ≡ port_at y.0 0 → Lives stands parts now f g (Same b) (λ st. Makes p kind ∷ st) here i (Made y kind ∷ Plugged p q ∷ [])
-Lives-make {N} {L} {parts = parts} stands now b f g y kind p q node start dead free roomy serial upper lower scene given there others moves zero = record {
+pub Lives-make : {N L : Type 0} {known : Nature N L} (stands : N → List (Entry N L) → Type 0) (now : ℕ) (b : ℕ → Bool) (f g : Seats N) (y : ObjId) (kind : ℕ) (p q : Port) (node : N) → stands node [] → b y.0 ≡ false → state_at f.scene p ≡ port.Open → (IsFull f.scene → ⊥) → y.0 ≡ f.scene.made + 1 → state_at (after_noted (Made y kind) f.scene) p ≡ port.Open → state_at (after_noted (Made y kind) f.scene) q ≡ port.Open → g.scene ≡ after_noted (Plugged p q) (after_noted (Made y kind) f.scene) → Given f.told g.told (event (flat (Made y kind)) ∷ event (flat (Plugged p q)) ∷ []) → ((n : N) → g.node y.0 ≡ Some n → n ≡ node) → ((x : ℕ) (n : N) → x ≢ y.0 → g.node x ≡ Some n → f.node x ≡ Some n) → {i : List (Deed N L) → Type 0} → i (writes (Made y kind) ∷ writes (Plugged p q) ∷ []) → q ≡ port_at y.0 0 → Lives stands known now f g (Same b) (λ st. Makes p kind ∷ st) here i (Made y kind ∷ Plugged p q ∷ [])
+Lives-make {N} {L} {known = known} stands now b f g y kind p q node start dead free roomy serial upper lower scene given there others moves zero = record {
   deeds = writes (Made y kind) ∷ writes (Plugged p q) ∷ [];
   events = refl;
   tells = given;
-  follows = λ st ds s k. (MustPlug p (port_at y.0 0) ∷ [], makes p kind y free roomy serial, subst (λ z. Follows parts now (after_noted (Made y kind) f.scene) (MustPlug p z ∷ st) (writes (Plugged p q) ∷ ds) s) zero ([], plugs p q upper lower, subst (λ z. Follows parts now z st ds s) scene k));
+  follows = λ st ds s k. (MustPlug p (port_at y.0 0) ∷ [], makes p kind y free roomy serial, subst (λ z. Follows known now (after_noted (Made y kind) f.scene) (MustPlug p z ∷ st) (writes (Plugged p q) ∷ ds) s) zero ([], plugs p q upper lower, subst (λ z. Follows known now z st ds s) scene k));
   keeps = λ x t w v k fit. λ n h. elim (cases_eq x y.0) [
     | inl e ↦ rw (eq-eqb x y.0 e) (subst (λ z. stands z []) (sym (there n (sym (ap g.node e) ∙ h))) start, sym (k.0 (ap b e ∙ dead)) ∙ k.1)
     | inr e ↦ rw (ne_eqb x y.0 e) (subst (Fits stands f x t) k.1 fit n (others x n e h))

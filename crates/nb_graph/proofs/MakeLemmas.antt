@@ -36,8 +36,8 @@ plugs-other : (r p q : Port) (a : Account) → (r ≡ p → ⊥) → (r ≡ q �
 plugs-other r p q a n m = rw (is-port-other r p n, is-port-other r q m) refl
 
 -- an object is made and plugged
-pub Livens-make : {N L : Type 0} (parts : Nature N L) (b0 b1 m new : Ledger) (p q : Port) (r kind : ℕ) → Adds b0 b1 q.obj.0 r → live b0 q.obj.0 ≡ false → q.obj.0 ≡ b0.made + 1 → SetsPort b1 m p (Linked q) → SetsPort m new q (Linked p) → port b0 p.obj.0 p.slot ≡ Open → 1 ≤ p.slot → q.slot ≡ 0 → p.obj.0 ≤ b1.made → (p.obj.0 ≡ q.obj.0 → ⊥) → Livens {N = N} {L = L} parts b0 new always (asked_due p.obj.0) (Making b0 p.obj.0) (writes (Made q.obj kind) ∷ writes (Plugged p q) ∷ [])
-Livens-make parts b0 b1 m new p q r kind a d serial s t op one zero born apart = record {
+pub Livens-make : {N L : Type 0} (known : Nature N L) (b0 b1 m new : Ledger) (p q : Port) (r kind : ℕ) → Adds b0 b1 q.obj.0 r → live b0 q.obj.0 ≡ false → q.obj.0 ≡ b0.made + 1 → SetsPort b1 m p (Linked q) → SetsPort m new q (Linked p) → port b0 p.obj.0 p.slot ≡ Open → 1 ≤ p.slot → q.slot ≡ 0 → p.obj.0 ≤ b1.made → (p.obj.0 ≡ q.obj.0 → ⊥) → Livens {N = N} {L = L} known b0 new always (asked_due p.obj.0) (Making b0 p.obj.0) (writes (Made q.obj kind) ∷ writes (Plugged p q) ∷ [])
+Livens-make known b0 b1 m new p q r kind a d serial s t op one zero born apart = record {
   quiet = λ u y o i h. elim (cases_ports u p) [
     | inl e ↦ ap (λ z. z.entered) (plugs-upper u p q y e)
     | inr n ↦ elim (cases_ports u q) [

@@ -66,13 +66,13 @@ hears l x sent m same none p q y z w v h =
     ]
 
 -- a whole close of a link
-pub Calms-link : {N L : Type 0} {parts : Nature N L} {b0 b3 b4 b5 : Ledger} {bs ds es gs : List (Deed N L)} (at peer : Port) (sent m : ℕ → List ℕ) → IsLinked (port b0) (rank b0) → port b0 at.obj.0 at.slot ≡ Linked peer → port b3 at.obj.0 at.slot ≡ Leaving peer → port b3 peer.obj.0 peer.slot ≡ Leaving at → ((k : ℕ) → sent k ≡ m k) → sent 0 ≡ [] → Calms parts b0 b3 Still bs → Calms parts b3 b3 (Asking b3 peer.obj.0 sent nothing) ds → Calms parts b3 b4 (Downs b3 peer.obj.0 m) es → Calms parts b4 b5 Still gs → Calms parts b0 b5 (Closing b0 at.obj.0) (bs ++ (ds ++ (es ++ gs)))
-Calms-link {parts = parts} {b0 = b0} {b3 = b3} {bs = bs} at peer sent m l h gone left same none half ask eff last =
+pub Calms-link : {N L : Type 0} {known : Nature N L} {b0 b3 b4 b5 : Ledger} {bs ds es gs : List (Deed N L)} (at peer : Port) (sent m : ℕ → List ℕ) → IsLinked (port b0) (rank b0) → port b0 at.obj.0 at.slot ≡ Linked peer → port b3 at.obj.0 at.slot ≡ Leaving peer → port b3 peer.obj.0 peer.slot ≡ Leaving at → ((k : ℕ) → sent k ≡ m k) → sent 0 ≡ [] → Calms known b0 b3 Still bs → Calms known b3 b3 (Asking b3 peer.obj.0 sent nothing) ds → Calms known b3 b4 (Downs b3 peer.obj.0 m) es → Calms known b4 b5 Still gs → Calms known b0 b5 (Closing b0 at.obj.0) (bs ++ (ds ++ (es ++ gs)))
+Calms-link {known = known} {b0 = b0} {b3 = b3} {bs = bs} at peer sent m l h gone left same none half ask eff last =
     Calms-then half
     (Calms-then {h = Hearing b3 peer.obj.0} ask
     (Calms-then {h = Downs b3 peer.obj.0 m} eff last (λ p q x y w v d j. (v, d, λ _. refl)))
     (λ p q x y w v i j. let s = hears b3 peer.obj.0 sent m same none p q y y w v i in (s.0, s.1, λ _. s.2)))
-    (λ p q x y w v i j. (w, refl, λ k. hearing y (account parts q y bs) p q _ _ w v i k))
+    (λ p q x y w v i j. (w, refl, λ k. hearing y (account known q y bs) p q _ _ w v i k))
   where
     hearing : (y z : Account) (p q : Port) (s t w v : List ℕ) → Closing b0 at.obj.0 p q y w v → Joined b3 p q s t w → Hearing b3 peer.obj.0 p q z w v
     hearing y z p q s t w v (inl i) j = inl (half.shuts p.obj.0 p.slot i)
@@ -112,8 +112,8 @@ enter-stays true a h = refl
 enter-stays false a h = h
 
 -- an entry from above begins
-pub Calms-enter : {N L : Type 0} (parts : Nature N L) (l b : Ledger) (at : Port) → at.slot ≡ 0 → Mild l b → Calms {N = N} {L = L} parts l b Still (writes (Entered at Down) ∷ [])
-Calms-enter parts l b at z m = record {
+pub Calms-enter : {N L : Type 0} (known : Nature N L) (l b : Ledger) (at : Port) → at.slot ≡ 0 → Mild l b → Calms {N = N} {L = L} known l b Still (writes (Entered at Down) ∷ [])
+Calms-enter known l b at z m = record {
   same_made = m.same_made;
   links = m.links;
   shuts = m.shuts;

@@ -19,22 +19,22 @@ all-append : {N L : Type 0} (ds es : List (List (Deed N L))) → all_of (ds ++ e
 all-append [] es = refl
 all-append (d ∷ ds) es = ap (λ z. d ++ z) (all-append ds es) ∙ sym (append_assoc d (all_of ds) (all_of es))
 
-accounts-append : {N L : Type 0} (parts : Nature N L) (p : Port) (a : Account) (ds es : List (List (Deed N L))) → accounts parts p a (ds ++ es) ≡ accounts parts p (accounts parts p a ds) es
-accounts-append parts p a [] es = refl
-accounts-append parts p a (d ∷ ds) es = accounts-append parts p (account parts p (rests a) d) ds es
+accounts-append : {N L : Type 0} (known : Nature N L) (p : Port) (a : Account) (ds es : List (List (Deed N L))) → accounts known p a (ds ++ es) ≡ accounts known p (accounts known p a ds) es
+accounts-append known p a [] es = refl
+accounts-append known p a (d ∷ ds) es = accounts-append known p (account known p (rests a) d) ds es
 
-midways-append : {N L : Type 0} (parts : Nature N L) (p q : Port) (a b : Account) (ds es : List (List (Deed N L))) → Midways parts p q a b ds → Midways parts p q (accounts parts p a ds) (accounts parts q b ds) es → Midways parts p q a b (ds ++ es)
-midways-append parts p q a b [] es m n = n
-midways-append parts p q a b (d ∷ ds) es m n = (m.0, midways-append parts p q (account parts p (rests a) d) (account parts q (rests b) d) ds es m.1 n)
+midways-append : {N L : Type 0} (known : Nature N L) (p q : Port) (a b : Account) (ds es : List (List (Deed N L))) → Midways known p q a b ds → Midways known p q (accounts known p a ds) (accounts known q b ds) es → Midways known p q a b (ds ++ es)
+midways-append known p q a b [] es m n = n
+midways-append known p q a b (d ∷ ds) es m n = (m.0, midways-append known p q (account known p (rests a) d) (account known q (rests b) d) ds es m.1 n)
 
-each-append : {N L : Type 0} (parts : Nature N L) (s t u : Scene) (cs bs : List (Call L)) (ds es : List (List (Deed N L))) → Each parts s cs ds t → Each parts t bs es u → Each parts s (cs ++ bs) (ds ++ es) u
-each-append parts s t u [] bs [] es p q = subst (λ z. Each parts z bs es u) (sym p) q
-each-append parts s t u [] bs (d ∷ ds) es p q = absurd p
-each-append parts s t u (c ∷ cs) bs [] es p q = absurd p
-each-append parts s t u (c ∷ cs) bs (d ∷ ds) es p q = (p.0, p.1, each-append parts p.0 t u cs bs ds es p.2 q)
+each-append : {N L : Type 0} (known : Nature N L) (s t u : Scene) (cs bs : List (Call L)) (ds es : List (List (Deed N L))) → Each known s cs ds t → Each known t bs es u → Each known s (cs ++ bs) (ds ++ es) u
+each-append known s t u [] bs [] es p q = subst (λ z. Each known z bs es u) (sym p) q
+each-append known s t u [] bs (d ∷ ds) es p q = absurd p
+each-append known s t u (c ∷ cs) bs [] es p q = absurd p
+each-append known s t u (c ∷ cs) bs (d ∷ ds) es p q = (p.0, p.1, each-append known p.0 t u cs bs ds es p.2 q)
 
 -- a call's
-pub Went-one : {N L : Type 0} {stands : N → List (Entry N L) → Type 0} {parts : Nature N L} {now : ℕ} {asked : List (Stage L)} {old new : Objects N} {before after : Option (List Notice)} → Lived stands parts now asked old new before after → Went stands parts (record { now = now; asks = asked } ∷ []) old new before after
+pub Went-one : {N L : Type 0} {stands : N → List (Entry N L) → Type 0} {known : Nature N L} {now : ℕ} {asked : List (Stage L)} {old new : Objects N} {before after : Option (List Notice)} → Lived stands known now asked old new before after → Went stands known (record { now = now; asks = asked } ∷ []) old new before after
 Went-one {stands = stands} {old = old} {new = new} {before = before} {after = after} k = record {
   added = k.added;
   runs = k.runs;
@@ -49,17 +49,17 @@ Went-one {stands = stands} {old = old} {new = new} {before = before} {after = af
 }
 
 -- one call after the other
-pub Went-then : {N L : Type 0} {stands : N → List (Entry N L) → Type 0} {parts : Nature N L} {cs bs : List (Call L)} {a b c : Objects N} {m n o : Option (List Notice)} → Went stands parts cs a b m n → Went stands parts bs b c n o → Went stands parts (cs ++ bs) a c m o
+pub Went-then : {N L : Type 0} {stands : N → List (Entry N L) → Type 0} {known : Nature N L} {cs bs : List (Call L)} {a b c : Objects N} {m n o : Option (List Notice)} → Went stands known cs a b m n → Went stands known bs b c n o → Went stands known (cs ++ bs) a c m o
 unfolding IsRun-trans
-Went-then {stands = stands} {parts = parts} {cs = cs} {bs = bs} {a = a} {b = b} {c = c} {m = m} {n = n} {o = o} k l = record {
+Went-then {stands = stands} {known = known} {cs = cs} {bs = bs} {a = a} {b = b} {c = c} {m = m} {n = n} {o = o} k l = record {
   added = k.added ++ l.added;
   runs = (IsRun-trans a.book b.book c.book m n o (k.added, k.runs) (l.added, l.runs)).1;
   deeds = k.deeds ++ l.deeds;
   events = ap events_of (all-append k.deeds l.deeds) ∙ events-append (all_of k.deeds) (all_of l.deeds) ∙ ap (λ z. z ++ events_of (all_of l.deeds)) k.events ∙ ap (λ z. k.added ++ z) l.events;
   tells = subst (λ z. Given m o (told_of z)) (sym (all-append k.deeds l.deeds)) (subst (Given m o) (sym (told-append (all_of k.deeds) (all_of l.deeds))) (Given-append m n o _ _ k.tells l.tells));
   ages = Ages-trans k.ages l.ages;
-  each = each-append parts (scene_of a.book) (scene_of b.book) (scene_of c.book) cs bs k.deeds l.deeds k.each l.each;
+  each = each-append known (scene_of a.book) (scene_of b.book) (scene_of c.book) cs bs k.deeds l.deeds k.each l.each;
   keeps = λ x t h. subst (λ z. StandsFor stands c x z) (sym (trace-append x t (all_of k.deeds) (all_of l.deeds)) ∙ ap (trace_after x t) (sym (all-append k.deeds l.deeds))) (l.keeps x _ (k.keeps x t h));
-  midway = λ p q i j h. midways-append parts p q i j k.deeds l.deeds (k.midway p q i j h) (l.midway p q _ _ (k.balances p q i j h));
-  balances = λ p q i j h. rw (accounts-append parts p i k.deeds l.deeds, accounts-append parts q j k.deeds l.deeds) (l.balances p q _ _ (k.balances p q i j h));
+  midway = λ p q i j h. midways-append known p q i j k.deeds l.deeds (k.midway p q i j h) (l.midway p q _ _ (k.balances p q i j h));
+  balances = λ p q i j h. rw (accounts-append known p i k.deeds l.deeds, accounts-append known q j k.deeds l.deeds) (l.balances p q _ _ (k.balances p q i j h));
 }

@@ -15,23 +15,23 @@ use Rattle.nb_graph.specs.Deeds.{Deed, writes, calls, turns}
 
 -- those of one that leaves by slot k
 abbrev pub emit_bytes : {N L : Type 0} → Nature N L → ℕ → List ℕ → Option (Emit L) → List ℕ
-emit_bytes parts k bytes None = []
-emit_bytes parts k bytes (Some e) = if k == e.slot then carries parts bytes e.from e.to e.load else []
+emit_bytes known k bytes None = []
+emit_bytes known k bytes (Some e) = if k == e.slot then carries known bytes e.from e.to e.load else []
 
 abbrev pub few_bytes : {N L : Type 0} → Nature N L → ℕ → List ℕ → Few (Emit L) → List ℕ
-few_bytes parts k bytes f = emit_bytes parts k bytes f.first ++ emit_bytes parts k bytes f.second
+few_bytes known k bytes f = emit_bytes known k bytes f.first ++ emit_bytes known k bytes f.second
 
 -- what the effects of an entry with these bytes send by slot k
 abbrev pub fx_bytes : {N L : Type 0} → Nature N L → ℕ → List ℕ → Fx N L → List ℕ
-fx_bytes parts k bytes fx = few_bytes parts k bytes fx.downs ++ few_bytes parts k bytes fx.ups
+fx_bytes known k bytes fx = few_bytes known k bytes fx.downs ++ few_bytes known k bytes fx.ups
 
 -- What an entry sends by slot k. One that ran out of memory sends nothing.
 abbrev pub sent_by : {N L : Type 0} → Nature N L → ℕ → Entry N L → List ℕ
-sent_by parts k (up slot msg now done fx) = if done then fx_bytes parts k msg.bytes fx else []
-sent_by parts k (down msg now done fx) = if done then fx_bytes parts k msg.bytes fx else []
-sent_by parts k (closed slot cause now fx) = fx_bytes parts k [] fx
-sent_by parts k (time now done fx) = if done then fx_bytes parts k [] fx else []
-sent_by parts k (regain load) = []
+sent_by known k (up slot msg now done fx) = if done then fx_bytes known k msg.bytes fx else []
+sent_by known k (down msg now done fx) = if done then fx_bytes known k msg.bytes fx else []
+sent_by known k (closed slot cause now fx) = fx_bytes known k [] fx
+sent_by known k (time now done fx) = if done then fx_bytes known k [] fx else []
+sent_by known k (regain load) = []
 
 -- What an entry takes by slot k. One from above takes its whole message.
 abbrev pub taken_by : {N L : Type 0} → ℕ → Entry N L → List ℕ
@@ -87,14 +87,14 @@ after_note p a (Freed x) = rests a
 
 -- A call of its object. What it takes of a message that had entered before the link was plugged doesn't count.
 abbrev pub after_call : {N L : Type 0} → Nature N L → Port → Account → Entry N L → Account
-after_call parts p a e = record a { sent = a.sent ++ sent_by parts p.slot e; taken = a.taken ++ (if a.entered then taken_by p.slot e else []); asked = sent_by parts p.slot e }
+after_call known p a e = record a { sent = a.sent ++ sent_by known p.slot e; taken = a.taken ++ (if a.entered then taken_by p.slot e else []); asked = sent_by known p.slot e }
 
 -- the account of the port p, after what happens
 abbrev pub account : {N L : Type 0} → Nature N L → Port → Account → List (Deed N L) → Account
-account parts p a [] = a
-account parts p a (writes e ∷ ds) = account parts p (after_note p a e) ds
-account parts p a (turns u ∷ ds) = account parts p a ds
-account parts p a (calls y e ∷ ds) = account parts p (if p.obj.0 == y then after_call parts p a e else rests a) ds
+account known p a [] = a
+account known p a (writes e ∷ ds) = account known p (after_note p a e) ds
+account known p a (turns u ∷ ds) = account known p a ds
+account known p a (calls y e ∷ ds) = account known p (if p.obj.0 == y then after_call known p a e else rests a) ds
 
 -- where p was plugged to q, q took the first of what p sent
 abbrev pub Covers : Port → Account → Account → Type 0
@@ -102,10 +102,10 @@ Covers q a b = a.peer ≡ Some q → (rest : List ℕ) × (a.sent ≡ b.taken ++
 
 -- in the middle of a call too, before and after each deed
 abbrev pub Midway : {N L : Type 0} → Nature N L → Port → Port → Account → Account → List (Deed N L) → Type 0
-Midway parts p q a b [] = Covers q a b
-Midway parts p q a b (writes e ∷ ds) = Covers q a b × Midway parts p q (after_note p a e) (after_note q b e) ds
-Midway parts p q a b (turns u ∷ ds) = Midway parts p q a b ds
-Midway parts p q a b (calls y e ∷ ds) = Covers q a b × Midway parts p q (if p.obj.0 == y then after_call parts p a e else rests a) (if q.obj.0 == y then after_call parts q b e else rests b) ds
+Midway known p q a b [] = Covers q a b
+Midway known p q a b (writes e ∷ ds) = Covers q a b × Midway known p q (after_note p a e) (after_note q b e) ds
+Midway known p q a b (turns u ∷ ds) = Midway known p q a b ds
+Midway known p q a b (calls y e ∷ ds) = Covers q a b × Midway known p q (if p.obj.0 == y then after_call known p a e else rests a) (if q.obj.0 == y then after_call known q b e else rests b) ds
 
 -- Two ends of one link: p sent s, and q took t. While the link is open they are linked, and `due` is what p sent and
 -- q has still to take. Where it is closed, q took the first of what p sent.

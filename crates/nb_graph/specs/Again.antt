@@ -15,32 +15,32 @@ use Rattle.nb_graph.specs.Lives.{AllBack, LivelyInFor}
 
 -- all of the message is given
 abbrev pub Delivered : {N L : Type 0} → (N → List (Entry N L) → Type 0) → Nature N L → ℕ → Port → Said → Ledger → Ledger → List N → List N → Option (List Notice) → Option (List Notice) → Type 0
-Delivered {N} {L} stands parts now at m a c na nc before after =
-    (k : LivelyInFor stands parts now at.obj.0 a c na nc (AllBack (busy a) at.obj.0 []) always none_due (Delivering a at m.bytes nothing) (λ st. Holds at way.Up (Some m) ∷ st) (λ st. Holds at way.Up None ∷ st) before after)
+Delivered {N} {L} stands known now at m a c na nc before after =
+    (k : LivelyInFor stands known now at.obj.0 a c na nc (AllBack (busy a) at.obj.0 []) always none_due (Delivering a at m.bytes nothing) (λ st. Holds at way.Up (Some m) ∷ st) (λ st. Holds at way.Up None ∷ st) before after)
     × Calls at.obj.0 (λ done fx. up at.slot m now done fx) k.lives.deeds
 
 -- it is, or its rest is still to be given, from here to any end
 abbrev pub Gives : {N L : Type 0} → (N → List (Entry N L) → Type 0) → Nature N L → ℕ → Port → Said → Ledger → Ledger → List N → List N → Option (List Notice) → Option (List Notice) → Option Msg → Type 0
-Gives stands parts now at m a b na nb before mid None = Delivered stands parts now at m a b na nb before mid
-Gives {N} {L} stands parts now at m a b na nb before mid (Some r) =
-    (c : Ledger) (nc : List N) (after : Option (List Notice)) → Delivered stands parts now at (said r) b c nb nc mid after → Delivered stands parts now at m a c na nc before after
+Gives stands known now at m a b na nb before mid None = Delivered stands known now at m a b na nb before mid
+Gives {N} {L} stands known now at m a b na nb before mid (Some r) =
+    (c : Ledger) (nc : List N) (after : Option (List Notice)) → Delivered stands known now at (said r) b c nb nc mid after → Delivered stands known now at m a c na nc before after
 
 -- the same after the node was called
 abbrev pub Goes : {N L : Type 0} → (N → List (Entry N L) → Type 0) → Nature N L → ℕ → Port → Said → Asked N L → Ledger → Ledger → List N → List N → Option (List Notice) → Option (List Notice) → Type 0
-Goes stands parts now at m asked a c na nc before after =
-    LivelyInFor stands parts now at.obj.0 a c na nc (AllBack (busy a) at.obj.0 (asked_loads asked)) (HasAsked at.obj.0 (asked_sent parts m.bytes asked)) none_due (Delivering a at (asked_behind m.bytes asked) (asked_sent parts m.bytes asked)) (λ st. asked_runs parts at.obj.0 m asked ++ Holds at way.Up (asked_rest m asked) ∷ st) (λ st. Holds at way.Up None ∷ st) before after
+Goes stands known now at m asked a c na nc before after =
+    LivelyInFor stands known now at.obj.0 a c na nc (AllBack (busy a) at.obj.0 (asked_loads asked)) (HasAsked at.obj.0 (asked_sent known m.bytes asked)) none_due (Delivering a at (asked_behind m.bytes asked) (asked_sent known m.bytes asked)) (λ st. asked_runs known at.obj.0 m asked ++ Holds at way.Up (asked_rest m asked) ∷ st) (λ st. Holds at way.Up None ∷ st) before after
 
 abbrev pub GoesOn : {N L : Type 0} → (N → List (Entry N L) → Type 0) → Nature N L → ℕ → Port → Said → Asked N L → Ledger → Ledger → List N → List N → Option (List Notice) → Option (List Notice) → Option Msg → Type 0
-GoesOn stands parts now at m asked a b na nb before mid None = Goes stands parts now at m asked a b na nb before mid
-GoesOn {N} {L} stands parts now at m asked a b na nb before mid (Some r) =
-    (c : Ledger) (nc : List N) (after : Option (List Notice)) → Delivered stands parts now at (said r) b c nb nc mid after → Goes stands parts now at m asked a c na nc before after
+GoesOn stands known now at m asked a b na nb before mid None = Goes stands known now at m asked a b na nb before mid
+GoesOn {N} {L} stands known now at m asked a b na nb before mid (Some r) =
+    (c : Ledger) (nc : List N) (after : Option (List Notice)) → Delivered stands known now at (said r) b c nb nc mid after → Goes stands known now at m asked a c na nc before after
 
 -- what a node left of a message is given to it, or dropped
 abbrev pub Left : {N L : Type 0} → (N → List (Entry N L) → Type 0) → Nature N L → ℕ → Port → ℕ → Said → Ledger → Ledger → List N → List N → Option (List Notice) → Option (List Notice) → Type 0
-Left stands parts now at took m a c na nc before after =
-    LivelyInFor stands parts now at.obj.0 a c na nc (AllBack (busy a) at.obj.0 []) always none_due (Delivering a at (drop took m.bytes) nothing) (λ st. Holds at way.Up (left took m) ∷ st) (λ st. Holds at way.Up None ∷ st) before after
+Left stands known now at took m a c na nc before after =
+    LivelyInFor stands known now at.obj.0 a c na nc (AllBack (busy a) at.obj.0 []) always none_due (Delivering a at (drop took m.bytes) nothing) (λ st. Holds at way.Up (left took m) ∷ st) (λ st. Holds at way.Up None ∷ st) before after
 
 abbrev pub LeftOn : {N L : Type 0} → (N → List (Entry N L) → Type 0) → Nature N L → ℕ → Port → ℕ → Said → Ledger → Ledger → List N → List N → Option (List Notice) → Option (List Notice) → Option Msg → Type 0
-LeftOn stands parts now at took m a b na nb before mid None = Left stands parts now at took m a b na nb before mid
-LeftOn {N} {L} stands parts now at took m a b na nb before mid (Some r) =
-    (c : Ledger) (nc : List N) (after : Option (List Notice)) → Delivered stands parts now at (said r) b c nb nc mid after → Left stands parts now at took m a c na nc before after
+LeftOn stands known now at took m a b na nb before mid None = Left stands known now at took m a b na nb before mid
+LeftOn {N} {L} stands known now at took m a b na nb before mid (Some r) =
+    (c : Ledger) (nc : List N) (after : Option (List Notice)) → Delivered stands known now at (said r) b c nb nc mid after → Left stands known now at took m a c na nc before after

@@ -122,8 +122,8 @@ no_place = record { code = 8; a = 1; b = 0 }
 
 -- an object is made, of the kind of its node
 abbrev pub makes_of : {N L : Type 0} → Nature N L → ℕ → Option (Make N) → List (Stage L)
-makes_of parts x None = []
-makes_of parts x (Some m) = Makes (port_at x m.slot) (parts.kind m.node) ∷ []
+makes_of known x None = []
+makes_of known x (Some m) = Makes (port_at x m.slot) (known.kind m.node) ∷ []
 
 -- loads come back to x
 abbrev pub returns_of : {L : Type 0} → ℕ → List L → List (Stage L)
@@ -132,21 +132,21 @@ returns_of x (l ∷ ls) = Returns x l ∷ returns_of x ls
 
 -- the message that an entry with the message m asks for: it keeps the record
 abbrev pub said_of : {N L : Type 0} → Nature N L → Said → Emit L → Said
-said_of parts m e = record { tag = e.tag; rec = m.rec; a = e.a; b = e.b; bytes = carries parts m.bytes e.from e.to e.load }
+said_of known m e = record { tag = e.tag; rec = m.rec; a = e.a; b = e.b; bytes = carries known m.bytes e.from e.to e.load }
 
 -- a message leaves, and its load comes back before anything else
 abbrev pub emit_of : {N L : Type 0} → Nature N L → ℕ → Said → Option (Emit L) → List (Stage L)
-emit_of parts x m None = []
-emit_of parts x m (Some e) = Sends (port_at x e.slot) (said_of parts m e) ∷ returns_of x (in_list e.load)
+emit_of known x m None = []
+emit_of known x m (Some e) = Sends (port_at x e.slot) (said_of known m e) ∷ returns_of x (in_list e.load)
 
 abbrev pub few_of : {N L : Type 0} → Nature N L → ℕ → Said → Few (Emit L) → List (Stage L)
-few_of parts x m f = emit_of parts x m f.first ++ emit_of parts x m f.second
+few_of known x m f = emit_of known x m f.first ++ emit_of known x m f.second
 
 -- What is to run of an entry of x with the message m: its makes, downs, ups and closes. Where memory ran out, its loads
 -- come back and all ports of x are closed.
 abbrev pub runs_of : {N L : Type 0} → Nature N L → ℕ → Said → Bool → Fx N L → List (Stage L)
-runs_of parts x m true fx = makes_of parts x fx.makes ++ (few_of parts x m fx.downs ++ (few_of parts x m fx.ups ++ closes_of x fx.closes.items))
-runs_of parts x m false fx = returns_of x (lent fx) ++ all_closes x no_memory
+runs_of known x m true fx = makes_of known x fx.makes ++ (few_of known x m fx.downs ++ (few_of known x m fx.ups ++ closes_of x fx.closes.items))
+runs_of known x m false fx = returns_of x (lent fx) ++ all_closes x no_memory
 
 -- An object is freed after its entry, if that was the last of its count. One that was entered by a close still has its
 -- link.

@@ -94,8 +94,8 @@ asked_loads (NoMemory fx) = lent fx
 
 -- what is to run of it
 abbrev pub asked_runs : {N L : Type 0} → Nature N L → ℕ → Said → Asked N L → List (Stage L)
-asked_runs parts x m (Done fx) = runs_of parts x m true fx
-asked_runs parts x m (NoMemory fx) = runs_of parts x m false fx
+asked_runs known x m (Done fx) = runs_of known x m true fx
+asked_runs known x m (NoMemory fx) = runs_of known x m false fx
 
 -- what an entry from below leaves of its message
 abbrev pub asked_rest : {N L : Type 0} → Said → Asked N L → Option Said

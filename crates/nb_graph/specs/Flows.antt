@@ -45,8 +45,8 @@ Passing l at m p q b w v = IsShut l p ⊎ (((p ≡ at) × (w ≡ m ++ v)) ⊎ ((
 
 -- one of x's downs goes, if there is one
 abbrev pub Emitting : {N L : Type 0} → Ledger → ℕ → Nature N L → List ℕ → Option (Emit L) → Port → Port → Account → List ℕ → List ℕ → Type 0
-Emitting l x parts bytes None p q b w v = IsShut l p ⊎ (w ≡ v)
-Emitting l x parts bytes (Some e) p q b w v = Passing l (port_at x e.slot) (carries parts bytes e.from e.to e.load) p q b w v
+Emitting l x known bytes None p q b w v = IsShut l p ⊎ (w ≡ v)
+Emitting l x known bytes (Some e) p q b w v = Passing l (port_at x e.slot) (carries known bytes e.from e.to e.load) p q b w v
 
 -- nothing is pending
 abbrev pub Empty : Port → Port → Account → List ℕ → List ℕ → Type 0
@@ -78,8 +78,8 @@ nothing k = []
 
 -- what an entry sends, and takes by its slot
 abbrev pub asked_sent : {N L : Type 0} → Nature N L → List ℕ → Asked N L → ℕ → List ℕ
-asked_sent parts bytes (Done fx) k = fx_bytes parts k bytes fx
-asked_sent parts bytes (NoMemory fx) k = []
+asked_sent known bytes (Done fx) k = fx_bytes known k bytes fx
+asked_sent known bytes (NoMemory fx) k = []
 
 abbrev pub asked_taken : {N L : Type 0} → ℕ → List ℕ → Asked N L → ℕ → List ℕ
 asked_taken slot bytes (Done fx) k = if k == slot then take fx.took bytes else []

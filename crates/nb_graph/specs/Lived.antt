@@ -24,14 +24,14 @@ KeepsTraces {N} {L} stands old new = (x : ℕ) (t : List (Entry N L)) → Stands
 -- node, with the rest of a message given again; and each object stands for its trace continued by its entries and
 -- the loads that came back to it. One that was made starts from the empty trace. On each link one end took what the
 -- other sent, or the first of it where the link is closed.
-pub record Lived {N L : Type 0} (stands : N → List (Entry N L) → Type 0) (parts : Nature N L) (now : ℕ) (asked : List (Stage L)) (old new : Objects N) (before after : Option (List Notice)) : Type 0 where
+pub record Lived {N L : Type 0} (stands : N → List (Entry N L) → Type 0) (known : Nature N L) (now : ℕ) (asked : List (Stage L)) (old new : Objects N) (before after : Option (List Notice)) : Type 0 where
   pub added : List GraphEvent
   pub runs : Runs old.book new.book before after added
   pub ages : Ages old.book new.book
   pub deeds : List (Deed N L)
   pub events : events_of deeds ≡ added
   pub tells : Given before after (told_of deeds)
-  pub follows : Follows parts now (scene_of old.book) asked deeds (scene_of new.book)
+  pub follows : Follows known now (scene_of old.book) asked deeds (scene_of new.book)
   pub keeps : (x : ℕ) (t : List (Entry N L)) → StandsFor stands old x t → StandsFor stands new x (trace_after x t deeds)
-  pub midway : (p q : Port) (a b : Account) → Balanced old.book p q a b → Midway parts p q (rests a) (rests b) deeds
-  pub balances : (p q : Port) (a b : Account) → Balanced old.book p q a b → Balanced new.book p q (account parts p (rests a) deeds) (account parts q (rests b) deeds)
+  pub midway : (p q : Port) (a b : Account) → Balanced old.book p q a b → Midway known p q (rests a) (rests b) deeds
+  pub balances : (p q : Port) (a b : Account) → Balanced old.book p q a b → Balanced new.book p q (account known p (rests a) deeds) (account known q (rests b) deeds)

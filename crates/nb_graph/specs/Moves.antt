@@ -15,25 +15,25 @@ pub record Mild (old new : Ledger) : Type 0 where
   pub shuts : (x k : ℕ) → open_count (port old x k) ≡ 0 → open_count (port new x k) ≡ 0
 
 -- A calm call: links only go, and what was sent over one is pending or taken.
-pub record Calms {N L : Type 0} (parts : Nature N L) (old new : Ledger) (flow : Port → Port → Account → List ℕ → List ℕ → Type 0) (ds : List (Deed N L)) : Type 0 where
+pub record Calms {N L : Type 0} (known : Nature N L) (old new : Ledger) (flow : Port → Port → Account → List ℕ → List ℕ → Type 0) (ds : List (Deed N L)) : Type 0 where
   pub same_made : new.made ≡ old.made
   pub links : (x k : ℕ) (q : Port) → port new x k ≡ Linked q → port old x k ≡ Linked q
   pub shuts : (x k : ℕ) → open_count (port old x k) ≡ 0 → open_count (port new x k) ≡ 0
-  pub peers : (p : Port) (a : Account) → (account parts p a ds).peer ≡ a.peer
-  pub enters : (q : Port) (b : Account) → b.entered ≡ true → (account parts q b ds).entered ≡ true
-  pub quiet : (q : Port) (b : Account) → 1 ≤ q.slot → b.entered ≡ false → (account parts q b ds).entered ≡ false
-  pub joins : (p q : Port) (a b : Account) (w v : List ℕ) → flow p q b w v → Joined old p q a.sent b.taken w → Joined new p q (account parts p a ds).sent (account parts q b ds).taken v
-  pub midway : (p q : Port) (a b : Account) (w v : List ℕ) → flow p q b w v → Joined old p q a.sent b.taken w → Midway parts p q a b ds
-  pub apart : (p q : Port) (a b : Account) → (a.peer ≡ Some q → ⊥) → Midway parts p q a b ds
+  pub peers : (p : Port) (a : Account) → (account known p a ds).peer ≡ a.peer
+  pub enters : (q : Port) (b : Account) → b.entered ≡ true → (account known q b ds).entered ≡ true
+  pub quiet : (q : Port) (b : Account) → 1 ≤ q.slot → b.entered ≡ false → (account known q b ds).entered ≡ false
+  pub joins : (p q : Port) (a b : Account) (w v : List ℕ) → flow p q b w v → Joined old p q a.sent b.taken w → Joined new p q (account known p a ds).sent (account known q b ds).taken v
+  pub midway : (p q : Port) (a b : Account) (w v : List ℕ) → flow p q b w v → Joined old p q a.sent b.taken w → Midway known p q a b ds
+  pub apart : (p q : Port) (a b : Account) → (a.peer ≡ Some q → ⊥) → Midway known p q a b ds
 
 -- A call that may make objects: so for each link that there was; and over each new one what was sent is taken, but
 -- for `due`.
-pub record Livens {N L : Type 0} (parts : Nature N L) (old new : Ledger) (ready : Port → Account → Type 0) (due : Port → Account → List ℕ) (flow : Port → Port → Account → List ℕ → List ℕ → Type 0) (ds : List (Deed N L)) : Type 0 where
-  pub quiet : (q : Port) (b : Account) → 1 ≤ q.slot → busy old q.obj.0 ≡ true → b.entered ≡ false → (account parts q b ds).entered ≡ false
-  pub joins : (p q : Port) (a b : Account) (w v : List ℕ) → flow p q b w v → Joined old p q a.sent b.taken w → Joined new p q (account parts p a ds).sent (account parts q b ds).taken v × (b.entered ≡ true → (account parts q b ds).entered ≡ true)
-  pub midway : (p q : Port) (a b : Account) (w v : List ℕ) → flow p q b w v → Joined old p q a.sent b.taken w → Midway parts p q a b ds
-  pub newly : (p q : Port) (a b : Account) → ready p a → (a.peer ≡ Some q → ⊥) → Midway parts p q a b ds
-  pub news : (p q : Port) (a b : Account) → ready p a → (a.peer ≡ Some q → ⊥) → (account parts p a ds).peer ≡ Some q → Joined new p q (account parts p a ds).sent (account parts q b ds).taken (due p a) × (p.slot ≡ 0 → busy old p.obj.0 ≡ false) × (1 ≤ q.slot → busy old q.obj.0 ≡ true → (account parts q b ds).entered ≡ false)
+pub record Livens {N L : Type 0} (known : Nature N L) (old new : Ledger) (ready : Port → Account → Type 0) (due : Port → Account → List ℕ) (flow : Port → Port → Account → List ℕ → List ℕ → Type 0) (ds : List (Deed N L)) : Type 0 where
+  pub quiet : (q : Port) (b : Account) → 1 ≤ q.slot → busy old q.obj.0 ≡ true → b.entered ≡ false → (account known q b ds).entered ≡ false
+  pub joins : (p q : Port) (a b : Account) (w v : List ℕ) → flow p q b w v → Joined old p q a.sent b.taken w → Joined new p q (account known p a ds).sent (account known q b ds).taken v × (b.entered ≡ true → (account known q b ds).entered ≡ true)
+  pub midway : (p q : Port) (a b : Account) (w v : List ℕ) → flow p q b w v → Joined old p q a.sent b.taken w → Midway known p q a b ds
+  pub newly : (p q : Port) (a b : Account) → ready p a → (a.peer ≡ Some q → ⊥) → Midway known p q a b ds
+  pub news : (p q : Port) (a b : Account) → ready p a → (a.peer ≡ Some q → ⊥) → (account known p a ds).peer ≡ Some q → Joined new p q (account known p a ds).sent (account known q b ds).taken (due p a) × (p.slot ≡ 0 → busy old p.obj.0 ≡ false) × (1 ≤ q.slot → busy old q.obj.0 ≡ true → (account known q b ds).entered ≡ false)
 
 -- nothing has to be known of what was asked for
 abbrev pub always : Port → Account → Type 0
@@ -51,4 +51,4 @@ asked_due x p a = if p.obj.0 == x then a.asked else []
 
 -- what happened asked for this directly before
 abbrev pub Asks : {N L : Type 0} → Nature N L → ℕ → (ℕ → List ℕ) → List (Deed N L) → Type 0
-Asks parts x sent ds = (p : Port) (a : Account) → p.obj.0 ≡ x → (account parts p a ds).asked ≡ sent p.slot
+Asks known x sent ds = (p : Port) (a : Account) → p.obj.0 ≡ x → (account known p a ds).asked ≡ sent p.slot

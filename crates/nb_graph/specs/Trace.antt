@@ -93,5 +93,5 @@ nature kind first second = record { kind = kind; bytes = λ load. first load ++ 
 
 -- the bytes of a message that an entry asks for: its load's, or without one some of those of its own message
 abbrev pub carries : {N L : Type 0} → Nature N L → List ℕ → ℕ → ℕ → Option L → List ℕ
-carries parts bytes from to None = part bytes from to
-carries parts bytes from to (Some load) = parts.bytes load
+carries known bytes from to None = part bytes from to
+carries known bytes from to (Some load) = known.bytes load

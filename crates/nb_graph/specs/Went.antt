@@ -19,10 +19,10 @@ pub record Call (L : Type 0) : Type 0 where
 
 -- what happens in each call uses up what it asks for
 abbrev pub Each : {N L : Type 0} → Nature N L → Scene → List (Call L) → List (List (Deed N L)) → Scene → Type 0
-Each parts s [] [] t = s ≡ t
-Each parts s [] (ds ∷ dss) t = ⊥
-Each parts s (c ∷ cs) [] t = ⊥
-Each {N} {L} parts s (c ∷ cs) (ds ∷ dss) t = (mid : Scene) × Follows parts c.now s c.asks ds mid × Each parts mid cs dss t
+Each known s [] [] t = s ≡ t
+Each known s [] (ds ∷ dss) t = ⊥
+Each known s (c ∷ cs) [] t = ⊥
+Each {N} {L} known s (c ∷ cs) (ds ∷ dss) t = (mid : Scene) × Follows known c.now s c.asks ds mid × Each known mid cs dss t
 
 -- of all calls
 abbrev pub all_of : {N L : Type 0} → List (List (Deed N L)) → List (Deed N L)
@@ -31,31 +31,31 @@ all_of (ds ∷ dss) = ds ++ all_of dss
 
 -- an account over calls
 abbrev pub accounts : {N L : Type 0} → Nature N L → Port → Account → List (List (Deed N L)) → Account
-accounts parts p a [] = a
-accounts parts p a (ds ∷ dss) = accounts parts p (account parts p (rests a) ds) dss
+accounts known p a [] = a
+accounts known p a (ds ∷ dss) = accounts known p (account known p (rests a) ds) dss
 
 -- at each moment of each call
 abbrev pub Midways : {N L : Type 0} → Nature N L → Port → Port → Account → Account → List (List (Deed N L)) → Type 0
-Midways parts p q a b [] = Unit {0}
-Midways parts p q a b (ds ∷ dss) = Midway parts p q (rests a) (rests b) ds × Midways parts p q (account parts p (rests a) ds) (account parts q (rests b) ds) dss
+Midways known p q a b [] = Unit {0}
+Midways known p q a b (ds ∷ dss) = Midway known p q (rests a) (rests b) ds × Midways known p q (account known p (rests a) ds) (account known q (rests b) ds) dss
 
 -- What happened in these calls, one relation for one call and for many. The events were given and are a run. The
 -- deeds of each call use up what it asks for, and the outside was told of them. Each object stands for its trace
 -- continued by its entries and the loads that came back to it; one that was made starts from the empty trace. On
 -- each link one end took what the other sent, or the first of it where the link is closed; at each moment of a call
 -- the first of it. Ranks stay.
-pub record Went {N L : Type 0} (stands : N → List (Entry N L) → Type 0) (parts : Nature N L) (calls : List (Call L)) (old new : Objects N) (before after : Option (List Notice)) : Type 0 where
+pub record Went {N L : Type 0} (stands : N → List (Entry N L) → Type 0) (known : Nature N L) (calls : List (Call L)) (old new : Objects N) (before after : Option (List Notice)) : Type 0 where
   pub added : List GraphEvent
   pub runs : Runs old.book new.book before after added
   pub ages : Ages old.book new.book
   pub deeds : List (List (Deed N L))
   pub events : events_of (all_of deeds) ≡ added
   pub tells : Given before after (told_of (all_of deeds))
-  pub each : Each parts (scene_of old.book) calls deeds (scene_of new.book)
+  pub each : Each known (scene_of old.book) calls deeds (scene_of new.book)
   pub keeps : (x : ℕ) (t : List (Entry N L)) → StandsFor stands old x t → StandsFor stands new x (trace_after x t (all_of deeds))
-  pub midway : (p q : Port) (a b : Account) → Balanced old.book p q a b → Midways parts p q a b deeds
-  pub balances : (p q : Port) (a b : Account) → Balanced old.book p q a b → Balanced new.book p q (accounts parts p a deeds) (accounts parts q b deeds)
+  pub midway : (p q : Port) (a b : Account) → Balanced old.book p q a b → Midways known p q a b deeds
+  pub balances : (p q : Port) (a b : Account) → Balanced old.book p q a b → Balanced new.book p q (accounts known p a deeds) (accounts known q b deeds)
 
 -- what happened in one call
 abbrev pub WentOne : {N L : Type 0} → (N → List (Entry N L) → Type 0) → Nature N L → ℕ → List (Stage L) → Objects N → Objects N → Option (List Notice) → Option (List Notice) → Type 0
-WentOne stands parts now asks old new before after = Went stands parts (record { now = now; asks = asks } ∷ []) old new before after
+WentOne stands known now asks old new before after = Went stands known (record { now = now; asks = asks } ∷ []) old new before after

@@ -18,7 +18,7 @@ ghost use Rattle.nb_graph.specs.Effects.{AreDowns, IsDown};
 
 use crate::asking::Asked;
 use crate::inner::Inner;
-use crate::message::cut;
+use crate::message::{cut, with_bytes};
 use crate::{Emit, Few, Fx, Node, Parts};
 use nb_ledger::{GraphEvent, Msg, ObjId, Outside, Port, PortState, Way};
 
@@ -152,7 +152,8 @@ impl<N: Node> Inner<N> {
         out: &mut O,
     )
         requires runs { busy self.old.book id.0 ≡ true }
-        requires down { IfSome emit (IsDown (length msg.now.first.now + length msg.now.second.now)) }
+        requires down { IfSome emit (IsDown (length msg.now.first.now + length
+            msg.now.second.now)) }
         requires steady { IsSteady N.rank_of self.old.book self.old.nodes.items
             (vec_capacity self.old.nodes) }
         ensures lives { CalmFor N.stands (nature N.kind_of N.Load.first N.Load.second) now
@@ -197,40 +198,20 @@ impl<N: Node> Inner<N> {
         ensures steady { IsSteady N.rank_of self.new.book self.new.nodes.items
             (vec_capacity self.new.nodes) }
     {
-        let Emit {
-            slot,
-            tag,
-            a,
-            b,
-            from,
-            to,
-            load,
-        } = emit;
-        let at = Port { obj: id, slot };
-        match load {
+        let at = Port {
+            obj: id,
+            slot: emit.slot,
+        };
+        match &emit.load {
             Some(load) => {
                 let (first, second) = load.parts();
-                let part = Msg {
-                    tag,
-                    rec: msg.rec,
-                    a,
-                    b,
-                    first,
-                    second,
-                };
+                let part = with_bytes(&emit, msg.rec, first, second);
                 self.pass_down(at, &part, now, out);
-                self.give_back(id, load);
+                self.take_emit(id, emit);
             }
             None => {
-                let (first, second) = cut(msg, from, to);
-                let part = Msg {
-                    tag,
-                    rec: msg.rec,
-                    a,
-                    b,
-                    first,
-                    second,
-                };
+                let (first, second) = cut(msg, emit.from, emit.to);
+                let part = with_bytes(&emit, msg.rec, first, second);
                 self.pass_down(at, &part, now, out);
             }
         }

@@ -106,7 +106,8 @@ impl<N: Node> Inner<N> {
         }
     }
 
-    fn take_emit(&mut self, id: ObjId, emit: Emit<N::Load>)
+    /// Gives the load of a message that an entry asked for back to its node.
+    pub(crate) fn take_emit(&mut self, id: ObjId, emit: Emit<N::Load>)
         requires lives { live self.old.book id.0 ≡ true }
         requires manned { IsManned N.rank_of self.old.book self.old.nodes.items
             (vec_capacity self.old.nodes) }

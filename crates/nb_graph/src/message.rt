@@ -1,7 +1,8 @@
-// Messages cut in parts.
+// The messages that entries ask for, and those that they leave.
 ghost use Rattle.std.specs.Prelude.{◌≡◌, ◌+◌, ◌<◌, ◌≤◌, ◌++◌, length, [], ◌-◌};
 ghost use Rattle.nb_graph.specs.Trace.{said, said_behind, part};
 
+use crate::Emit;
 use nb_ledger::Msg;
 
 /// The message of an entry that has none.
@@ -13,6 +14,27 @@ pub(crate) const NOTHING: Msg<'static> = Msg {
     first: &[],
     second: &[],
 };
+
+/// The message that an entry with a message of the record `rec` asks for, of these bytes.
+pub(crate) fn with_bytes<'m, L>(
+    emit: &Emit<L>,
+    rec: u32,
+    first: &'m [u8],
+    second: &'m [u8],
+) -> Msg<'m>
+    ensures { said result ≡ record { tag = emit.now.tag; rec = rec; a = emit.now.a; b = emit.now.b;
+        bytes = first.now ++ second.now } }
+{
+    Msg {
+        tag: emit.tag,
+        rec,
+        a: emit.a,
+        b: emit.b,
+        first,
+        second,
+    }
+}
+
 /// Bytes `from` to `to` of a message, in two parts.
 pub(crate) fn cut<'m>(msg: &Msg<'m>, from: u32, to: u32) -> (&'m [u8], &'m [u8])
     requires order { from ≤ to }

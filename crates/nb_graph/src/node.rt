@@ -111,5 +111,6 @@ pub trait Node: Sized + Drop {
         ensures gives { harvests self.old result self.new }
         ensures rank { rank_of self.new ≡ rank_of self.old }
         ensures kind { kind_of self.new ≡ kind_of self.old }
-        ensures stands { (t : List (Entry Self Self.Load)) → stands self.old t → stands self.new t };
+        ensures stands { (t : List (Entry Self Self.Load)) → stands self.old t → stands self.new
+            t };
 }

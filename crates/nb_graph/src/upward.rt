@@ -20,7 +20,7 @@ ghost use Rattle.nb_graph.specs.Lively.{Grows};
 
 use crate::asking::Asked;
 use crate::inner::Inner;
-use crate::message::{behind, cut};
+use crate::message::{behind, cut, with_bytes};
 use crate::{Emit, Few, Fx, Node, Parts};
 use nb_ledger::{GraphEvent, Msg, ObjId, Outside, Port, PortState, Way};
 
@@ -304,40 +304,20 @@ impl<N: Node> Inner<N> {
         ensures steady { IsSteady N.rank_of self.new.book self.new.nodes.items
             (vec_capacity self.new.nodes) }
     {
-        let Emit {
-            slot,
-            tag,
-            a,
-            b,
-            from,
-            to,
-            load,
-        } = emit;
-        let at = Port { obj: id, slot };
-        match load {
+        let at = Port {
+            obj: id,
+            slot: emit.slot,
+        };
+        match &emit.load {
             Some(load) => {
                 let (first, second) = load.parts();
-                let part = Msg {
-                    tag,
-                    rec: msg.rec,
-                    a,
-                    b,
-                    first,
-                    second,
-                };
+                let part = with_bytes(&emit, msg.rec, first, second);
                 self.pass_up(at, &part, now, out);
-                self.give_back(id, load);
+                self.take_emit(id, emit);
             }
             None => {
-                let (first, second) = cut(msg, from, to);
-                let part = Msg {
-                    tag,
-                    rec: msg.rec,
-                    a,
-                    b,
-                    first,
-                    second,
-                };
+                let (first, second) = cut(msg, emit.from, emit.to);
+                let part = with_bytes(&emit, msg.rec, first, second);
                 self.pass_up(at, &part, now, out);
             }
         }

@@ -1,7 +1,8 @@
 -- Where objects stand in the book's list, and what is found there after an edit.
 use Rattle.std.proofs.Common.{◌≡◌, ◌≢◌, ℕ, ◌+◌, ◌<◌, ◌≤◌, Bool, true, false, cond, eqb, ltb, List, [], ◌∷◌, ◌++◌, length, get_or, set, Option, Some, None, zero, suc, is_some, refl, ap, sym, ◌∙◌, arith, add-one, inl, inr}
 use Rattle.std.specs.List.{remove}
-use Rattle.std.specs.Option.{option_map_or, IfNone, IfSome}
+use Rattle.std.specs.Borrow.{Bor}
+use Rattle.std.specs.Option.{option_map_or, option_copied, IfNone, IfSome}
 use Rattle.std.proofs.lemmas.Bool.Decides.{nat_tests}
 use Rattle.std.proofs.lemmas.Bool.{eqb-true, eq-eqb, ne_eqb, cases_Bool, cases_lt, false≢true, lt-ltb, le-ltb}
 use Rattle.nb_ledger.specs.declared.port.ObjId.{ObjId}
@@ -174,6 +175,11 @@ found-slots low high (p ∷ os) x o r h =
     let e = found-slots p.id.0 high os x o r.2 in
     let q = r.1 in
     grind (arith, nat_tests)
+
+-- the same of a reference to it
+pub some-slots : (low high : ℕ) (os : List Object) (x : ℕ) (r : Option (Bor Object)) → IsRising low os high → option_copied r ≡ found os x → IfSome r (λ o. length o.now.ports ≡ 4)
+some-slots low high os x None i h = tt
+some-slots low high os x (Some b) i h = found-slots low high os x b.now i (sym h)
 
 -- a live object stands in the list
 pub live-stands : (l : Ledger) (x : ℕ) → live l x ≡ true → place_in l.objects x < length l.objects

@@ -6,7 +6,7 @@ use Rattle.std.proofs.lemmas.Bool.Decides.{nat_tests}
 use Rattle.nb_ledger.specs.declared.object.Object.{Object}
 use Rattle.nb_ledger.specs.declared.port.PortState.TheVariants.{Open, Linked, Leaving, Closed}
 use Rattle.nb_ledger.specs.declared.port.PortState.{PortState}
-use Rattle.nb_ledger.specs.Ledger.{Ledger, found, live, holds, busy, port, object_port}
+use Rattle.nb_ledger.specs.Ledger.{Ledger, found, live, holds, busy, port, ties, unused, object_port, object_unused}
 use Rattle.nb_ledger.specs.GraphRun.{IsOpen}
 
 -- a state other than Closed
@@ -60,3 +60,13 @@ dead_holds l x h = no_holds (found l.objects x) h
 -- an object with a hold lives
 pub held-live : (l : Ledger) (x : ℕ) → 0 < holds l x → live l x ≡ true
 held-live l x h = elim (cases_Bool (live l x)) [ inl e ↦ e | inr e ↦ absurd (let z = dead_holds l x e in omega arith) ]
+
+-- an object that is found is unused as its entry says
+pub unused-some : (l : Ledger) (x : ℕ) (o : Object) → found l.objects x ≡ Some o → object_unused o ≡ unused l x
+unfolding holds busy port ties unused
+unused-some l x o h = rw h refl
+
+-- a dead object has nothing that is counted
+pub unused-none : (l : Ledger) (x : ℕ) → found l.objects x ≡ None → true ≡ unused l x
+unfolding holds busy port ties unused
+unused-none l x h = rw h refl

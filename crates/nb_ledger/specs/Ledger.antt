@@ -6,7 +6,7 @@ use Rattle.nb_ledger.specs.declared.port.Port.{Port}
 use Rattle.nb_ledger.specs.declared.port.PortState.{PortState}
 use Rattle.nb_ledger.specs.declared.port.PortState.TheVariants.{Open, Linked, Leaving, Closed}
 use Rattle.nb_ledger.specs.declared.object.Object.{Object}
-use Rattle.nb_ledger.specs.GraphRun.{State, Frame, entries, links}
+use Rattle.nb_ledger.specs.GraphRun.{State, Frame, entries, link_count, links}
 
 -- a book: how many objects were made, how many may live, and those that live, by rising serial
 pub record Ledger : Type 0 where
@@ -52,6 +52,14 @@ object_port k o = if nat_lt k 4 then slice_index_or o.ports k Closed else Closed
 -- the state of its port, Closed where it is dead or there is no such slot
 unfoldable pub port : Ledger → ℕ → ℕ → PortState
 port l x k = option_map_or (object_port k) (found l.objects x) Closed
+
+-- the links of an object, of its four slots
+abbrev pub object_ties : Object → ℕ
+object_ties o = link_count (object_port 0 o) + link_count (object_port 1 o) + link_count (object_port 2 o) + link_count (object_port 3 o)
+
+-- an object has no hold and no link, and no entry of it runs
+abbrev pub object_unused : Object → Bool
+object_unused o = (o.holds == 0) && ((object_ties o == 0) && not o.busy)
 
 -- where it stands
 abbrev pub place : Ledger → ℕ → ℕ

@@ -1,8 +1,11 @@
-ghost use Rattle.std.specs.Prelude.{◌≡◌, ◌+◌, ◌-◌, ◌<◌, ◌≤◌, ◌^◌, ◌&&◌, ◌==◌, not, true, false, [], IfOk, IfSome, IfNone, ℕ, length, Some, is_some, slice_set, vec_len, IsTrue, ◌↔◌, nat_lt};
+ghost use Rattle.std.specs.Prelude.{◌≡◌, ◌+◌, ◌-◌, ◌<◌, ◌≤◌, ◌^◌, ◌&&◌, ◌==◌, not, true, false, []};
+ghost use Rattle.std.specs.Prelude.{IfOk, IfSome, IfNone, ℕ, length, Some, is_some, slice_set};
+ghost use Rattle.std.specs.Prelude.{vec_len, IsTrue, ◌↔◌, nat_lt};
 ghost use Rattle.nb_ledger.specs.declared.port.PortState.TheVariants.{Open};
+ghost use Rattle.std.specs.Option.{option_copied};
 ghost use Rattle.std.specs.Vec.{vec_capacity};
-ghost use Rattle.nb_ledger.specs.GraphRun.{link_count};
-ghost use Rattle.nb_ledger.specs.Ledger.{live, holds, busy, rank, port, place, place_in, found, ties, unused, least_above, open_count, IsLeastAbove};
+ghost use Rattle.nb_ledger.specs.Ledger.{live, holds, busy, rank, port, place, place_in, found};
+ghost use Rattle.nb_ledger.specs.Ledger.{ties, unused, least_above, open_count, IsLeastAbove};
 
 use crate::{ObjId, Object, Port, PortState};
 use nb_terms::NoMemory;
@@ -27,7 +30,8 @@ impl Model for Book {
 
     ghost view = { λ b. record { made = b.made; room = b.room; objects = b.objects.items } };
 
-    ghost invariant = { λ b. IsRising 0 b.objects.items b.made × (vec_len b.objects ≤ b.room) × (b.room ≤ vec_capacity b.objects) };
+    ghost invariant = { λ b. IsRising 0 b.objects.items b.made × (vec_len b.objects ≤ b.room) ×
+        (b.room ≤ vec_capacity b.objects) };
 }
 
 impl Book {
@@ -76,7 +80,18 @@ impl Book {
     pub fn is_live(&self, id: ObjId) -> bool
         ensures { result ≡ live self.now id.0 }
     {
-        is_among(&self.objects, id)
+        match self.find(id) {
+            Some(_) => true,
+            None => false,
+        }
+    }
+
+    /// The book's entry of an object, by one search.
+    fn find(&self, id: ObjId) -> Option<&Object>
+        ensures is { option_copied result ≡ found self.now.objects id.0 }
+        ensures slots { IfSome result (λ o. length o.now.ports ≡ 4) }
+    {
+        find_among(&self.objects, id)
     }
 
     /// The book's entry of a live object.
@@ -97,18 +112,21 @@ impl Book {
         requires { live self.now id.0 ≡ true }
         ensures { result ≡ holds self.now id.0 }
     {
-        self.object(id).holds
+        match self.find(id) {
+            Some(object) => object.holds,
+            None => 0,
+        }
     }
 
     /// Whether an object has a hold.
-    #[tactic(auto, using(crate::proofs::PortLemmas::dead_holds))]
+    #[tactic(auto, unfolding(crate::specs::Ledger::holds))]
     pub fn is_held(&self, id: ObjId) -> bool
         ensures { result ≡ nat_lt 0 (holds self.now id.0) }
     {
-        if !self.is_live(id) {
-            return false;
+        match self.find(id) {
+            Some(object) => object.holds > 0,
+            None => false,
         }
-        self.holds(id) > 0
     }
 
     /// Whether an entry of a live object runs.
@@ -117,7 +135,10 @@ impl Book {
         requires { live self.now id.0 ≡ true }
         ensures { result ≡ busy self.now id.0 }
     {
-        self.object(id).busy
+        match self.find(id) {
+            Some(object) => object.busy,
+            None => false,
+        }
     }
 
     /// The rank of a live object.
@@ -126,22 +147,20 @@ impl Book {
         requires { live self.now id.0 ≡ true }
         ensures { result ≡ rank self.now id.0 }
     {
-        self.object(id).rank
+        match self.find(id) {
+            Some(object) => object.rank,
+            None => 0,
+        }
     }
 
     /// The state of a port: Closed where the object is dead or has no such slot.
-    #[tactic(auto, unfolding(crate::specs::Ledger::live, crate::specs::Ledger::port))]
+    #[tactic(auto, unfolding(crate::specs::Ledger::port))]
     pub fn port(&self, at: Port) -> PortState
         ensures { result ≡ port self.now at.obj.0 at.slot }
     {
-        if !self.is_live(at.obj) {
-            return PortState::Closed;
-        }
-        let object = self.object(at.obj);
-        if at.slot < 4 {
-            object.ports[at.slot as usize]
-        } else {
-            PortState::Closed
+        match self.find(at.obj) {
+            Some(object) => object.port(at.slot),
+            None => PortState::Closed,
         }
     }
 
@@ -169,33 +188,15 @@ impl Book {
         }
     }
 
-    /// The links of an object.
-    #[tactic(auto, unfolding(crate::specs::Ledger::ties))]
-    fn ties(&self, id: ObjId) -> u8
-        ensures { result ≡ ties self.now id.0 }
-    {
-        self.tie(id, 0) + self.tie(id, 1) + self.tie(id, 2) + self.tie(id, 3)
-    }
-
-    fn tie(&self, id: ObjId, slot: u8) -> u8
-        ensures is { result ≡ link_count (port self.now id.0 slot) }
-        ensures small { result ≤ 1 }
-    {
-        match self.port(Port { obj: id, slot }) {
-            PortState::Open => 0,
-            PortState::Linked(_) => 1,
-            PortState::Leaving(_) => 1,
-            PortState::Closed => 0,
-        }
-    }
-
     /// Whether a live object has no hold, no link and no entry that runs.
-    #[tactic(auto, unfolding(crate::specs::Ledger::unused))]
     pub fn is_unused(&self, id: ObjId) -> bool
         requires { live self.now id.0 ≡ true }
         ensures { result ≡ unused self.now id.0 }
     {
-        self.holds(id) == 0 && self.ties(id) == 0 && !self.is_busy(id)
+        match self.find(id) {
+            Some(object) => object.is_unused(),
+            None => true,
+        }
     }
 
     /// The least serial of a live object above `after`.
@@ -212,7 +213,8 @@ impl Book {
     pub(crate) fn put(&mut self, object: Object)
         requires lives { live self.old object.id.0 ≡ true }
         requires slots { length object.ports ≡ 4 }
-        ensures { self.new ≡ record self.old { objects = slice_set self.old.objects (place self.old object.id.0) object } }
+        ensures { self.new ≡ record self.old { objects = slice_set self.old.objects
+            (place self.old object.id.0) object } }
     {
         put_among(&mut self.objects, object);
     }
@@ -240,11 +242,15 @@ fn first_above(objects: &[Object], after: u64) -> Option<ObjId>
     None
 }
 
-#[tactic(auto, using(crate::proofs::PlaceLemmas::live_place))]
-fn is_among(objects: &[Object], id: ObjId) -> bool
-    ensures { result ≡ is_some (found objects.now id.0) }
+fn find_among(objects: &[Object], id: ObjId) -> Option<&Object>
+    ensures { option_copied result ≡ found objects.now id.0 }
 {
-    place_among(objects, id) < objects.len()
+    for object in objects {
+        if object.id.0 == id.0 {
+            return Some(object);
+        }
+    }
+    None
 }
 
 #[tactic(auto, using(crate::proofs::PlaceLemmas::place_found))]
@@ -259,7 +265,8 @@ fn object_among(objects: &[Object], id: ObjId) -> Object
 #[tactic(auto, using(crate::proofs::PlaceLemmas::place_found))]
 fn put_among(objects: &mut Vec<Object>, object: Object)
     requires { is_some (found objects.old.items object.id.0) ≡ true }
-    ensures items { objects.new.items ≡ slice_set objects.old.items (place_in objects.old.items object.id.0) object }
+    ensures items { objects.new.items ≡ slice_set objects.old.items (place_in objects.old.items
+        object.id.0) object }
     ensures len { vec_len objects.new ≡ vec_len objects.old }
     ensures capacity { vec_capacity objects.new ≡ vec_capacity objects.old }
 {

@@ -4,7 +4,8 @@ ghost use Rattle.nb_ledger.specs.Flat.{flat, way_number};
 use crate::{ObjId, Port};
 use nb_terms::{Cause, Event};
 
-/// How an object is entered: by a message from below, by one from above, by the closing of a port, or
+/// How an object is entered: by a message from below, by one from above, by the closing of a port,
+/// or
 /// by time.
 #[derive(Clone, Copy, Debug, PartialEq, Eq)]
 pub enum Way {
@@ -29,7 +30,8 @@ impl Way {
 }
 
 /// What happens to an object. `Made` has the object's kind, `Plugged` the upper port and then the
-/// lower one, `Unplugged` the port that was closed first and then its peer. An entry by time has the
+/// lower one, `Unplugged` the port that was closed first and then its peer. An entry by time has
+/// the
 /// slot 4.
 #[derive(Clone, Copy, Debug, PartialEq, Eq)]
 pub enum GraphEvent {

@@ -1,10 +1,14 @@
-ghost use Rattle.std.specs.Prelude.{◌≡◌, ◌+◌, ◌-◌, ◌<◌, ◌≤◌, ◌^◌, true, false, List, [], ◌∷◌, length, min, max};
-ghost use Rattle.nb_ledger.specs.declared.event.GraphEvent.TheVariants.{Made, Held, LetGo, Plugged, Entered, Left, Closed, Unplugged, Freed};
+ghost use Rattle.std.specs.Prelude.{◌≡◌, ◌+◌, ◌-◌, ◌<◌, ◌≤◌, ◌^◌, true, false, List, [], ◌∷◌};
+ghost use Rattle.std.specs.Prelude.{length, min, max};
+ghost use Rattle.nb_ledger.specs.declared.event.GraphEvent.TheVariants.{Made, Held, LetGo, Plugged};
+ghost use Rattle.nb_ledger.specs.declared.event.GraphEvent.TheVariants.{Entered, Left, Closed};
+ghost use Rattle.nb_ledger.specs.declared.event.GraphEvent.TheVariants.{Unplugged, Freed};
 ghost use Rattle.nb_ledger.specs.declared.event.Way.TheVariants as way;
 ghost use Rattle.nb_ledger.specs.declared.port.PortState.TheVariants as state;
 ghost use Rattle.nb_ledger.specs.Flat.{Given, Tells, flat};
 ghost use Rattle.nb_ledger.specs.Flat as notice;
-ghost use Rattle.nb_ledger.specs.GraphRun.{Frame, Running, MustClose, MustEnter, MustUnplug, MustFree, IsIdle, MayEnter, Step, owed};
+ghost use Rattle.nb_ledger.specs.GraphRun.{Frame, Running, MustClose, MustEnter, MustUnplug};
+ghost use Rattle.nb_ledger.specs.GraphRun.{MustFree, IsIdle, MayEnter, Step, owed};
 ghost use Rattle.nb_ledger.specs.Ledger.{Ledger, live, holds, busy, port, place, state_of};
 ghost use Rattle.nb_ledger.specs.Changes.{SetsHolds, SetsBusy, SetsPort, Adds, Removes};
 
@@ -17,10 +21,12 @@ impl Book {
         requires room { length self.old.objects < self.old.room }
         requires serial { self.old.made + 1 < 2 ^ 64 }
         ensures told { Tells (O.events out.old) (O.events out.new) (Made result kind ∷ []) }
-        ensures given { Given (O.events out.old) (O.events out.new) (notice.event (flat (Made result kind)) ∷ []) }
+        ensures given { Given (O.events out.old) (O.events out.new) (notice.event
+            (flat (Made result kind)) ∷ []) }
         ensures serial { result.0 ≡ self.old.made + 1 }
         ensures fresh { live self.old result.0 ≡ false }
-        ensures step { (st : List Frame) → IsIdle st → Step (state_of self.old st) (Made result kind) (state_of self.new st) }
+        ensures step { (st : List Frame) → IsIdle st → Step (state_of self.old st)
+            (Made result kind) (state_of self.new st) }
         ensures adds { Adds self.old self.new result.0 rank }
         ensures place { place self.new result.0 ≡ length self.old.objects }
         ensures len { length self.new.objects ≡ length self.old.objects + 1 }
@@ -35,8 +41,10 @@ impl Book {
         requires lives { live self.old id.0 ≡ true }
         requires fits { holds self.old id.0 + 1 < 2 ^ 32 }
         ensures told { Tells (O.events out.old) (O.events out.new) (Held id ∷ []) }
-        ensures given { Given (O.events out.old) (O.events out.new) (notice.event (flat (Held id)) ∷ []) }
-        ensures step { (st : List Frame) → IsIdle st → Step (state_of self.old st) (Held id) (state_of self.new st) }
+        ensures given { Given (O.events out.old) (O.events out.new) (notice.event (flat (Held id))
+            ∷ []) }
+        ensures step { (st : List Frame) → IsIdle st → Step (state_of self.old st) (Held id)
+            (state_of self.new st) }
         ensures sets { SetsHolds self.old self.new id.0 (holds self.old id.0 + 1) }
     {
         let count = self.holds(id);
@@ -49,8 +57,10 @@ impl Book {
         requires lives { live self.old id.0 ≡ true }
         requires held { 0 < holds self.old id.0 }
         ensures told { Tells (O.events out.old) (O.events out.new) (LetGo id ∷ []) }
-        ensures given { Given (O.events out.old) (O.events out.new) (notice.event (flat (LetGo id)) ∷ []) }
-        ensures step { (st : List Frame) → IsIdle st → Step (state_of self.old st) (LetGo id) (owed id.0 (state_of self.new st)) }
+        ensures given { Given (O.events out.old) (O.events out.new) (notice.event (flat (LetGo id))
+            ∷ []) }
+        ensures step { (st : List Frame) → IsIdle st → Step (state_of self.old st) (LetGo id)
+            (owed id.0 (state_of self.new st)) }
         ensures sets { SetsHolds self.old self.new id.0 (holds self.old id.0 - 1) }
     {
         let count = self.holds(id);
@@ -65,9 +75,12 @@ impl Book {
         requires upper_slot { 1 ≤ upper.slot }
         requires lower_slot { lower.slot ≡ 0 }
         ensures told { Tells (O.events out.old) (O.events out.new) (Plugged upper lower ∷ []) }
-        ensures given { Given (O.events out.old) (O.events out.new) (notice.event (flat (Plugged upper lower)) ∷ []) }
-        ensures step { (st : List Frame) → IsIdle st → Step (state_of self.old st) (Plugged upper lower) (state_of self.new st) }
-        ensures sets { (mid : Ledger) × SetsPort self.old mid upper (state.Linked lower) × SetsPort mid self.new lower (state.Linked upper) }
+        ensures given { Given (O.events out.old) (O.events out.new) (notice.event
+            (flat (Plugged upper lower)) ∷ []) }
+        ensures step { (st : List Frame) → IsIdle st → Step (state_of self.old st)
+            (Plugged upper lower) (state_of self.new st) }
+        ensures sets { (mid : Ledger) × SetsPort self.old mid upper (state.Linked lower) × SetsPort
+            mid self.new lower (state.Linked upper) }
         ensures made { (upper.obj.0 ≤ self.old.made) × (lower.obj.0 ≤ self.old.made) }
     {
         self.set_port(upper, PortState::Linked(lower));
@@ -79,7 +92,8 @@ impl Book {
     pub fn enter<O: Outside>(&mut self, at: Port, by: Way, out: &mut O) -> bool
         requires { live self.old at.obj.0 ≡ true }
         ensures told { Tells (O.events out.old) (O.events out.new) (Entered at by ∷ []) }
-        ensures given { Given (O.events out.old) (O.events out.new) (notice.event (flat (Entered at by)) ∷ []) }
+        ensures given { Given (O.events out.old) (O.events out.new) (notice.event
+            (flat (Entered at by)) ∷ []) }
         ensures was { result ≡ busy self.old at.obj.0 }
         ensures step { (st : List Frame) → IsIdle st → MayEnter (state_of self.old st) at by
             → Step (state_of self.old st) (Entered at by) (state_of self.new (Running at by ∷ st)) }
@@ -96,9 +110,11 @@ impl Book {
     pub fn enter_closed<O: Outside>(&mut self, at: Port, out: &mut O) -> bool
         requires { live self.old at.obj.0 ≡ true }
         ensures told { Tells (O.events out.old) (O.events out.new) (Entered at way.Close ∷ []) }
-        ensures given { Given (O.events out.old) (O.events out.new) (notice.event (flat (Entered at way.Close)) ∷ []) }
+        ensures given { Given (O.events out.old) (O.events out.new) (notice.event
+            (flat (Entered at way.Close)) ∷ []) }
         ensures was { result ≡ busy self.old at.obj.0 }
-        ensures step { (st : List Frame) → Step (state_of self.old (MustEnter at ∷ st)) (Entered at way.Close) (state_of self.new (Running at way.Close ∷ st)) }
+        ensures step { (st : List Frame) → Step (state_of self.old (MustEnter at ∷ st))
+            (Entered at way.Close) (state_of self.new (Running at way.Close ∷ st)) }
         ensures sets { SetsBusy self.old self.new at.obj.0 true }
         ensures runs { busy self.new at.obj.0 ≡ true }
     {
@@ -112,8 +128,10 @@ impl Book {
     pub fn leave<O: Outside>(&mut self, at: Port, was: bool, out: &mut O)
         requires { live self.old at.obj.0 ≡ true }
         ensures told { Tells (O.events out.old) (O.events out.new) (Left at ∷ []) }
-        ensures given { Given (O.events out.old) (O.events out.new) (notice.event (flat (Left at)) ∷ []) }
-        ensures step { (by : _) (st : List Frame) → Step (state_of self.old (Running at by ∷ st)) (Left at) (owed at.obj.0 (state_of self.new st)) }
+        ensures given { Given (O.events out.old) (O.events out.new) (notice.event (flat (Left at))
+            ∷ []) }
+        ensures step { (by : _) (st : List Frame) → Step (state_of self.old (Running at by ∷ st))
+            (Left at) (owed at.obj.0 (state_of self.new st)) }
         ensures sets { SetsBusy self.old self.new at.obj.0 was }
     {
         self.set_busy(at.obj, was);
@@ -124,8 +142,10 @@ impl Book {
     pub fn close_alone<O: Outside>(&mut self, at: Port, cause: &Cause, out: &mut O)
         requires { port self.old at.obj.0 at.slot ≡ state.Open }
         ensures told { Tells (O.events out.old) (O.events out.new) (Closed at cause.now ∷ []) }
-        ensures given { Given (O.events out.old) (O.events out.new) (notice.event (flat (Closed at cause.now)) ∷ []) }
-        ensures step { (st : List Frame) → IsIdle st → Step (state_of self.old st) (Closed at cause.now) (state_of self.new st) }
+        ensures given { Given (O.events out.old) (O.events out.new) (notice.event
+            (flat (Closed at cause.now)) ∷ []) }
+        ensures step { (st : List Frame) → IsIdle st → Step (state_of self.old st)
+            (Closed at cause.now) (state_of self.new st) }
         ensures sets { SetsPort self.old self.new at state.Closed }
     {
         self.set_port(at, PortState::Closed);
@@ -136,9 +156,12 @@ impl Book {
     pub fn close_first<O: Outside>(&mut self, at: Port, peer: Port, cause: &Cause, out: &mut O)
         requires { port self.old at.obj.0 at.slot ≡ state.Linked peer }
         ensures told { Tells (O.events out.old) (O.events out.new) (Closed at cause.now ∷ []) }
-        ensures given { Given (O.events out.old) (O.events out.new) (notice.event (flat (Closed at cause.now)) ∷ []) }
-        ensures step { (st : List Frame) → IsIdle st → Step (state_of self.old st) (Closed at cause.now)
-            (state_of self.new (MustClose peer cause.now ∷ MustEnter peer ∷ MustUnplug at peer ∷ st)) }
+        ensures given { Given (O.events out.old) (O.events out.new) (notice.event
+            (flat (Closed at cause.now)) ∷ []) }
+        ensures step { (st : List Frame) → IsIdle st → Step (state_of self.old st)
+            (Closed at cause.now)
+            (state_of self.new (MustClose peer cause.now ∷ MustEnter peer ∷ MustUnplug at peer
+                ∷ st)) }
         ensures sets { SetsPort self.old self.new at (state.Leaving peer) }
     {
         self.set_port(at, PortState::Leaving(peer));
@@ -149,8 +172,10 @@ impl Book {
     pub fn close_peer<O: Outside>(&mut self, at: Port, peer: Port, cause: &Cause, out: &mut O)
         requires { port self.old at.obj.0 at.slot ≡ state.Linked peer }
         ensures told { Tells (O.events out.old) (O.events out.new) (Closed at cause.now ∷ []) }
-        ensures given { Given (O.events out.old) (O.events out.new) (notice.event (flat (Closed at cause.now)) ∷ []) }
-        ensures step { (st : List Frame) → Step (state_of self.old (MustClose at cause.now ∷ st)) (Closed at cause.now) (state_of self.new st) }
+        ensures given { Given (O.events out.old) (O.events out.new) (notice.event
+            (flat (Closed at cause.now)) ∷ []) }
+        ensures step { (st : List Frame) → Step (state_of self.old (MustClose at cause.now ∷ st))
+            (Closed at cause.now) (state_of self.new st) }
         ensures sets { SetsPort self.old self.new at (state.Leaving peer) }
     {
         self.set_port(at, PortState::Leaving(peer));
@@ -162,10 +187,14 @@ impl Book {
         requires first { port self.old first.obj.0 first.slot ≡ state.Leaving other }
         requires other { port self.old other.obj.0 other.slot ≡ state.Leaving first }
         ensures told { Tells (O.events out.old) (O.events out.new) (Unplugged first other ∷ []) }
-        ensures given { Given (O.events out.old) (O.events out.new) (notice.event (flat (Unplugged first other)) ∷ []) }
-        ensures step { (st : List Frame) → Step (state_of self.old (MustUnplug first other ∷ st)) (Unplugged first other)
-            (owed (min first.obj.0 other.obj.0) (owed (max first.obj.0 other.obj.0) (state_of self.new st))) }
-        ensures sets { (mid : Ledger) × SetsPort self.old mid first state.Closed × SetsPort mid self.new other state.Closed }
+        ensures given { Given (O.events out.old) (O.events out.new) (notice.event
+            (flat (Unplugged first other)) ∷ []) }
+        ensures step { (st : List Frame) → Step (state_of self.old (MustUnplug first other ∷ st))
+            (Unplugged first other)
+            (owed (min first.obj.0 other.obj.0) (owed (max first.obj.0 other.obj.0)
+                (state_of self.new st))) }
+        ensures sets { (mid : Ledger) × SetsPort self.old mid first state.Closed × SetsPort mid
+            self.new other state.Closed }
     {
         self.set_port(first, PortState::Closed);
         self.set_port(other, PortState::Closed);
@@ -176,8 +205,10 @@ impl Book {
     pub fn free<O: Outside>(&mut self, id: ObjId, out: &mut O)
         requires { live self.old id.0 ≡ true }
         ensures told { Tells (O.events out.old) (O.events out.new) (Freed id ∷ []) }
-        ensures given { Given (O.events out.old) (O.events out.new) (notice.event (flat (Freed id)) ∷ []) }
-        ensures step { (st : List Frame) → Step (state_of self.old (MustFree id.0 ∷ st)) (Freed id) (state_of self.new st) }
+        ensures given { Given (O.events out.old) (O.events out.new) (notice.event (flat (Freed id))
+            ∷ []) }
+        ensures step { (st : List Frame) → Step (state_of self.old (MustFree id.0 ∷ st)) (Freed id)
+            (state_of self.new st) }
         ensures removes { Removes self.old self.new id.0 }
         ensures len { length self.new.objects + 1 ≡ length self.old.objects }
     {

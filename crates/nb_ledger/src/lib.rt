@@ -1,6 +1,7 @@
 // The book of a graph of counted objects: which objects live, their holds and the state of their
 // ports, one method for each event, and the relation that says in which order events may stand
-// (specs/GraphRun.antt). It knows nothing of what the objects do; the graph above puts nodes beside it.
+// (specs/GraphRun.antt). It knows nothing of what the objects do; the graph above puts nodes beside
+// it.
 // Begin with `GraphEvent`, then `Book`.
 #![tactic(auto)]
 

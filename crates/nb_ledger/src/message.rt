@@ -1,4 +1,5 @@
-/// A message: a tag, the record that it comes from, two numbers, and its bytes, which are `first` and
+/// A message: a tag, the record that it comes from, two numbers, and its bytes, which are `first`
+/// and
 /// then `second`.
 #[derive(Clone, Copy, Debug)]
 pub struct Msg<'m> {

@@ -1,6 +1,7 @@
 use crate::{ObjId, PortState};
 
-/// What the book has of an object. Its rank bounds those below it; `busy` says that an entry of it runs.
+/// What the book has of an object. Its rank bounds those below it; `busy` says that an entry of it
+/// runs.
 #[derive(Clone, Copy, Debug, PartialEq, Eq)]
 pub struct Object {
     pub id: ObjId,
@@ -8,4 +9,51 @@ pub struct Object {
     pub busy: bool,
     pub holds: u32,
     pub ports: [PortState; 4],
+}
+
+ghost use Rattle.std.specs.Prelude.{◌≡◌, ◌≤◌, length};
+ghost use Rattle.nb_ledger.specs.GraphRun.{link_count};
+ghost use Rattle.nb_ledger.specs.Ledger.{object_port, object_ties, object_unused};
+
+impl Object {
+    /// The state of a port: Closed where there is no such slot.
+    pub(crate) fn port(&self, slot: u8) -> PortState
+        requires { length self.now.ports ≡ 4 }
+        ensures { result ≡ object_port slot self.now }
+    {
+        if slot < 4 {
+            self.ports[slot as usize]
+        } else {
+            PortState::Closed
+        }
+    }
+
+    /// Whether it has no hold, no link and no entry that runs.
+    pub(crate) fn is_unused(&self) -> bool
+        requires { length self.now.ports ≡ 4 }
+        ensures { result ≡ object_unused self.now }
+    {
+        self.holds == 0 && self.ties() == 0 && !self.busy
+    }
+
+    /// The number of its links.
+    fn ties(&self) -> u8
+        requires { length self.now.ports ≡ 4 }
+        ensures { result ≡ object_ties self.now }
+    {
+        self.tie(0) + self.tie(1) + self.tie(2) + self.tie(3)
+    }
+
+    fn tie(&self, slot: u8) -> u8
+        requires { length self.now.ports ≡ 4 }
+        ensures is { result ≡ link_count (object_port slot self.now) }
+        ensures small { result ≤ 1 }
+    {
+        match self.port(slot) {
+            PortState::Open => 0,
+            PortState::Linked(_) => 1,
+            PortState::Leaving(_) => 1,
+            PortState::Closed => 0,
+        }
+    }
 }

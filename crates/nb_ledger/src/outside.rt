@@ -20,5 +20,6 @@ pub trait Outside {
     /// Gives a message that leaves by `from`.
     fn send(&mut self, from: Port, msg: &Msg<'_>)
         ensures told { Told (events self.old) (events self.new) [] }
-        ensures given { Given (events self.old) (events self.new) (notice.message from msg.now.tag msg.now.rec msg.now.a msg.now.b (msg.now.first.now ++ msg.now.second.now) ∷ []) };
+        ensures given { Given (events self.old) (events self.new) (notice.message from msg.now.tag
+            msg.now.rec msg.now.a msg.now.b (msg.now.first.now ++ msg.now.second.now) ∷ []) };
 }

@@ -1,8 +1,8 @@
 use Rattle.nb_ledger.proofs.RunLemmas.{Given-none}
-use Rattle.std.proofs.Common.{refl, sym, ◌∙◌, arith, ap, rules, ◌≡◌, true, inl, inr, append_assoc, [], ◌∷◌, ◌++◌}
+use Rattle.std.proofs.Common.{refl, sym, subst, ◌∙◌, arith, ap, rules, ◌≡◌, true, inl, inr, append_assoc, [], ◌∷◌, ◌++◌}
 use Rattle.std.specs.Vec.{vec_capacity}
 use Rattle.nb_ledger.specs.Ledger.{busy, port, open_count}
-use Rattle.nb_graph.specs.Whole.{IsWhole}
+use Rattle.nb_graph.specs.Whole.{IsWhole, port_at}
 use Rattle.nb_graph.specs.Calm.{IsSteady}
 use Rattle.nb_ledger.specs.declared.port.PortState.TheVariants.{Leaving, Closed}
 use Rattle.nb_ledger.specs.declared.event.Way.TheVariants.{Down}
@@ -13,11 +13,11 @@ use Rattle.nb_graph.proofs.UnplugLemmas.{Starts-link, Starts-entry, Starts-one, 
 use Rattle.nb_graph.proofs.ShutLemmas.{shut-set, shut-link, shut-all, closes-none, closes-step, shut-still}
 use Rattle.nb_graph.proofs.MannedLemmas.{IsManned-same}
 use Rattle.nb_ledger.specs.declared.event.GraphEvent.TheVariants.{Closed as CloseEvent, Dropped, Entered}
-use Rattle.nb_graph.specs.Trace.{carried, down, silence, lent, loads, said, nature}
+use Rattle.nb_graph.specs.Trace.{carried, down, in_list, part, silence, lent, loads, said, nature}
 use Rattle.nb_graph.specs.Effects.{asked_loads, asked_runs}
-use Rattle.nb_graph.specs.Deeds.{MustUnplug as Unlinks, Closes, Gives, Sends, all_closes, arrives, closes_of, emit_of, few_of, goes_out, is_shut, no_memory, returns_of, runs_of}
+use Rattle.nb_graph.specs.Deeds.{MustUnplug as Unlinks, Closes, Gives, Sends, all_closes, arrives, closes_of, emit_of, few_of, goes_out, is_shut, no_memory, returns_of, runs_of, said_of}
 use Rattle.nb_graph.proofs.ShutLemmas.{closes_of-none, closes_of-step}
-use Rattle.nb_graph.specs.Lives.{here}
+use Rattle.nb_graph.specs.Lives.{CalmFor, Same, here}
 use Rattle.nb_graph.specs.Scene.{scene_of, shut_of, with_ports}
 use Rattle.nb_graph.specs.Follows.{closes_alone, closes_none, passes, leaves, drops, enters_down}
 use Rattle.nb_graph.proofs.SceneLemmas.{scene-busy, scene-port}
@@ -26,7 +26,7 @@ use Rattle.nb_graph.proofs.WholeLemmas.{but_other}
 use Rattle.nb_graph.proofs.LivesLemmas.{Lives-above, Lives-turn, Lives-weaken}
 use Rattle.nb_graph.specs.Accounts.{account, few_bytes}
 use Rattle.nb_graph.specs.declared.asking.Asked.TheVariants.{Done}
-use Rattle.nb_graph.specs.Flows.{Closing, asked_left, asked_sent, asked_whole}
+use Rattle.nb_graph.specs.Flows.{Closing, Passing, asked_left, asked_sent, asked_whole}
 use Rattle.nb_graph.proofs.AccountLemmas.{Calms-idle, Calms-turn, Calms-plain, Mild-same}
 use Rattle.nb_graph.proofs.MildLemmas.{Lives-plain, Mild-busy, Mild-port}
 use Rattle.nb_graph.proofs.FlowLemmas.{Calms-fail, Closing-then, Downs-closing, Downs-few, Passing-giving, Passing-open, Passing-shut, asked-zero, below-bytes, below-zero, closing-idle, following-done, following-fail, whole-left, whole-only}
@@ -138,8 +138,8 @@ run_downs-returns-clause-lives g t c =
     CalmFor-opened (λ st. append_assoc (emit_of (nature g.N.Node.kind_of g.N.Load.Parts.first g.N.Load.Parts.second) c.args.id.0 (said c.args.msg.now) c.args.downs.first) (emit_of (nature g.N.Node.kind_of g.N.Load.Parts.first g.N.Load.Parts.second) c.args.id.0 (said c.args.msg.now) c.args.downs.second) st) (CalmFor-back (carried c.args.downs.first) (carried c.args.downs.second) a c.run_down-2.ensures.lives
     (λ ds p q i j w v h t. let z = Downs-few (nature g.N.Node.kind_of g.N.Load.Parts.first g.N.Load.Parts.second) _ _ _ a.lives.moved.links a.lives.moved.shuts c.args.id.0 _ c.args.downs c.requires.downs p q j (account (nature g.N.Node.kind_of g.N.Load.Parts.first g.N.Load.Parts.second) q j ds) w v h in (z.0, z.1, λ _. z.2)))
 
-pub send_down-give_back-requires-clause-lives : goal.send_down-give_back-requires-clause-lives
-send_down-give_back-requires-clause-lives g t c = busy-live _ _ (c.pass_down.ensures.lives.calm.shrinks.same_busy c.args.id.0 ∙ c.requires.runs)
+pub send_down-take_emit-requires-clause-lives : goal.send_down-take_emit-requires-clause-lives
+send_down-take_emit-requires-clause-lives g t c = busy-live _ _ (c.pass_down.ensures.lives.calm.shrinks.same_busy c.args.id.0 ∙ c.requires.runs)
 
 pub enter_down-ask_down-asked-requires-clause-lives : goal.enter_down-ask_down-asked-requires-clause-lives
 enter_down-ask_down-asked-requires-clause-lives g t c = busy-live _ _ c.enter-was.ensures.runs
@@ -256,11 +256,13 @@ enter_down-returns-clause-starts g t c =
 
 pub send_down-returns-in-Some-clause-lives : goal.send_down-returns-in-Some-clause-lives
 send_down-returns-in-Some-clause-lives g t c =
-    rw (c.in-Some.is, sym c.parts.ensures.first, sym c.parts.ensures.second) (CalmFor-regain (c.in-Some.load ∷ []) c.requires.runs c.pass_down.ensures.lives c.give_back.ensures.lives c.give_back.ensures.book)
+    let e : said c.with_bytes-part.result ≡ said_of (nature g.N.Node.kind_of g.N.Load.Parts.first g.N.Load.Parts.second) (said c.args.msg.now) c.args.emit = c.with_bytes-part.ensures ∙ rw (c.in-Some.is, c.parts.ensures.first, c.parts.ensures.second) refl in
+    CalmFor-regain (in_list c.args.emit.load) c.requires.runs (subst (λ m. CalmFor g.N.Node.stands (nature g.N.Node.kind_of g.N.Load.Parts.first g.N.Load.Parts.second) c.args.now c.args.self.now.book c.pass_down.new.self.book c.args.self.now.nodes.items c.pass_down.new.self.nodes.items (Same (busy c.args.self.now.book)) (Passing c.args.self.now.book (port_at c.args.id.0 c.args.emit.slot) m.bytes) (λ st. Sends (port_at c.args.id.0 c.args.emit.slot) m ∷ st) (g.O.Outside.events c.args.out.now) (g.O.Outside.events c.pass_down.new.out)) e c.pass_down.ensures.lives) c.take_emit.ensures.lives c.take_emit.ensures.book
 
 pub send_down-returns-in-None-clause-lives : goal.send_down-returns-in-None-clause-lives
 send_down-returns-in-None-clause-lives g t c =
-    rw (c.in-None.is, sym c.cut.ensures.bytes) (CalmFor-weaken (Back-none _ _ c.requires.runs) (λ p q x y w v i j. i) c.pass_down-in-None.ensures.lives)
+    let e : said c.with_bytes-part-in-None.result ≡ record { tag = c.args.emit.tag; rec = c.args.msg.now.rec; a = c.args.emit.a; b = c.args.emit.b; bytes = part (said c.args.msg.now).bytes c.args.emit.from c.args.emit.to } = c.with_bytes-part-in-None.ensures ∙ rw c.cut.ensures.bytes refl in
+    rw c.in-None.is (CalmFor-weaken (Back-none _ _ c.requires.runs) (λ p q x y w v i j. i) (subst (λ m. CalmFor g.N.Node.stands (nature g.N.Node.kind_of g.N.Load.Parts.first g.N.Load.Parts.second) c.args.now c.args.self.now.book c.pass_down-in-None.new.self.book c.args.self.now.nodes.items c.pass_down-in-None.new.self.nodes.items (Same (busy c.args.self.now.book)) (Passing c.args.self.now.book (port_at c.args.id.0 c.args.emit.slot) m.bytes) (λ st. Sends (port_at c.args.id.0 c.args.emit.slot) m ∷ st) (g.O.Outside.events c.args.out.now) (g.O.Outside.events c.pass_down-in-None.new.out)) e c.pass_down-in-None.ensures.lives))
 
 pub fail-returns-clause-lives : goal.fail-returns-clause-lives
 fail-returns-clause-lives g t c =

@@ -15,13 +15,14 @@ use Rattle.nb_graph.proofs.MannedLemmas.{IsManned-same}
 use Rattle.nb_graph.proofs.UnplugLemmas.{Calm-dropped, Calm-sent}
 use Rattle.nb_graph.proofs.LivelyLemmas.{Grows-shrinks, Grows-trans, LivelyIn-trans, LivelyIn-calm, LivelyIn-lively, Lively-calm, Lively-entry, Starts-lively}
 use Rattle.nb_ledger.specs.declared.event.GraphEvent.TheVariants.{Dropped, Entered}
-use Rattle.nb_graph.specs.Trace.{carried, left, lent, loads, said, up, nature}
-use Rattle.nb_graph.specs.Deeds.{Gives, Holds, Sends, arrives, closes_of, emit_of, few_of, goes_out, makes_of}
+use Rattle.nb_graph.specs.Trace.{carried, in_list, left, part, lent, loads, said, up, nature}
+use Rattle.nb_graph.specs.Deeds.{Gives, Holds, Sends, arrives, closes_of, emit_of, few_of, goes_out, makes_of, said_of}
 use Rattle.nb_graph.specs.Effects.{asked_loads}
-use Rattle.nb_graph.specs.Lives.{IsUnder, here}
+use Rattle.nb_graph.specs.Lives.{IsUnder, LivelyFor, Same, here}
 use Rattle.nb_graph.proofs.WholeLemmas.{but_other}
 use Rattle.nb_graph.proofs.LivesLemmas.{Lives-above, Lives-turn, Lives-then, Lives-weaken}
 use Rattle.nb_graph.specs.Whole.{port_at}
+use Rattle.nb_graph.specs.Moves.{none_due}
 use Rattle.nb_graph.specs.Accounts.{few_bytes, fx_bytes}
 use Rattle.nb_graph.specs.Flows.{Delivering, Doing, Leaves, Rising, asked_behind, asked_sent, asked_taken, nothing}
 use Rattle.nb_graph.proofs.AccountLemmas.{Calms-idle, Calms-turn, Calms-plain, Calms-weaken, Mild-same}
@@ -147,19 +148,21 @@ run_ups-returns-clause-lives g t c =
     let k = c.run_up.ensures.lives in
     LivelyFor-opened (λ st. append_assoc (emit_of (nature g.N.Node.kind_of g.N.Load.Parts.first g.N.Load.Parts.second) c.args.id.0 (said c.args.msg.now) c.args.ups.first) (emit_of (nature g.N.Node.kind_of g.N.Load.Parts.first g.N.Load.Parts.second) c.args.id.0 (said c.args.msg.now) c.args.ups.second) st) (LivelyFor-back (carried c.args.ups.first) (carried c.args.ups.second) k c.run_up-2.ensures.lives (λ ds es a z. Livens-few c.args.id.0 _ _ c.requires.runs k.lively.grows.same_busy a z))
 
-pub send_up-give_back-requires-clause-lives : goal.send_up-give_back-requires-clause-lives
-send_up-give_back-requires-clause-lives g t c = busy-live _ _ (c.pass_up.ensures.lives.lively.grows.same_busy c.args.id.0 ∙ c.requires.runs)
+pub send_up-take_emit-requires-clause-lives : goal.send_up-take_emit-requires-clause-lives
+send_up-take_emit-requires-clause-lives g t c = busy-live _ _ (c.pass_up.ensures.lives.lively.grows.same_busy c.args.id.0 ∙ c.requires.runs)
 
 pub run_up-returns-in-None-clause-lives : goal.run_up-returns-in-None-clause-lives
 run_up-returns-in-None-clause-lives g t c = rw c.in-None.is (LivelyFor-weaken (Back-none _ _ c.requires.runs) (λ p q x y w v i j. i) (LivelyFor-refl _ _ _ _ _ _ (λ p q x y w v i j. leaves-nothing _ _ p q y w v i)))
 
 pub send_up-returns-in-Some-clause-lives : goal.send_up-returns-in-Some-clause-lives
 send_up-returns-in-Some-clause-lives g t c =
-    rw (c.in-Some.is, sym c.parts.ensures.first, sym c.parts.ensures.second) (LivelyFor-regain (c.in-Some.load ∷ []) c.requires.runs (LivelyFor-weaken (λ x w v i. i) (λ p q x y w v i j. leaves-at c.args.self.now.book c.args.id c.args.emit.slot _ c.requires.up.0 p q y w v i) c.pass_up.ensures.lives) c.give_back.ensures.lives c.give_back.ensures.book)
+    let e : said c.with_bytes-part.result ≡ said_of (nature g.N.Node.kind_of g.N.Load.Parts.first g.N.Load.Parts.second) (said c.args.msg.now) c.args.emit = c.with_bytes-part.ensures ∙ rw (c.in-Some.is, c.parts.ensures.first, c.parts.ensures.second) refl in
+    LivelyFor-regain (in_list c.args.emit.load) c.requires.runs (LivelyFor-weaken (λ x w v i. i) (λ p q x y w v i j. leaves-at c.args.self.now.book c.args.id c.args.emit.slot _ c.requires.up.0 p q y w v i) (subst (λ m. LivelyFor g.N.Node.stands (nature g.N.Node.kind_of g.N.Load.Parts.first g.N.Load.Parts.second) c.args.now c.args.self.now.book c.pass_up.new.self.book c.args.self.now.nodes.items c.pass_up.new.self.nodes.items (Same (busy c.args.self.now.book)) none_due (Leaves c.args.self.now.book (port_at c.args.id.0 c.args.emit.slot) m.bytes) (λ st. Sends (port_at c.args.id.0 c.args.emit.slot) m ∷ st) (g.O.Outside.events c.args.out.now) (g.O.Outside.events c.pass_up.new.out)) e c.pass_up.ensures.lives)) c.take_emit.ensures.lives c.take_emit.ensures.book
 
 pub send_up-returns-in-None-clause-lives : goal.send_up-returns-in-None-clause-lives
 send_up-returns-in-None-clause-lives g t c =
-    rw (c.in-None.is, sym c.cut.ensures.bytes) (LivelyFor-weaken (Back-none _ _ c.requires.runs) (λ p q x y w v i j. leaves-at c.args.self.now.book c.args.id c.args.emit.slot _ c.requires.up.0 p q y w v i) c.pass_up-in-None.ensures.lives)
+    let e : said c.with_bytes-part-in-None.result ≡ record { tag = c.args.emit.tag; rec = c.args.msg.now.rec; a = c.args.emit.a; b = c.args.emit.b; bytes = part (said c.args.msg.now).bytes c.args.emit.from c.args.emit.to } = c.with_bytes-part-in-None.ensures ∙ rw c.cut.ensures.bytes refl in
+    rw c.in-None.is (LivelyFor-weaken (Back-none _ _ c.requires.runs) (λ p q x y w v i j. leaves-at c.args.self.now.book c.args.id c.args.emit.slot _ c.requires.up.0 p q y w v i) (subst (λ m. LivelyFor g.N.Node.stands (nature g.N.Node.kind_of g.N.Load.Parts.first g.N.Load.Parts.second) c.args.now c.args.self.now.book c.pass_up-in-None.new.self.book c.args.self.now.nodes.items c.pass_up-in-None.new.self.nodes.items (Same (busy c.args.self.now.book)) none_due (Leaves c.args.self.now.book (port_at c.args.id.0 c.args.emit.slot) m.bytes) (λ st. Sends (port_at c.args.id.0 c.args.emit.slot) m ∷ st) (g.O.Outside.events c.args.out.now) (g.O.Outside.events c.pass_up-in-None.new.out)) e c.pass_up-in-None.ensures.lives))
 
 pub run_ups-run_up-requires-2 : goal.run_ups-run_up-requires-2
 run_ups-run_up-requires-2 g t c =
