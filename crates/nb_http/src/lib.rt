@@ -7,7 +7,7 @@
 mod causes;
 mod head_step;
 mod http;
-pub mod laws;
+mod laws;
 mod request;
 mod state;
 mod steps;
@@ -15,3 +15,4 @@ mod steps;
 mod tests;
 
 pub use http::Http;
+pub use laws::cutting_changes_nothing;
