@@ -22,8 +22,13 @@ pub(crate) fn with_bytes<'m, L>(
     first: &'m [u8],
     second: &'m [u8],
 ) -> Msg<'m>
-    ensures { said result ≡ record { tag = emit.now.tag; rec = rec; a = emit.now.a; b = emit.now.b;
-        bytes = first.now ++ second.now } }
+    ensures { said result ≡ record {
+      tag = emit.now.tag;
+      rec = rec;
+      a = emit.now.a;
+      b = emit.now.b;
+      bytes = first.now ++ second.now;
+    } }
 {
     Msg {
         tag: emit.tag,

@@ -213,8 +213,10 @@ impl Book {
     pub(crate) fn put(&mut self, object: Object)
         requires lives { live self.old object.id.0 ≡ true }
         requires slots { length object.ports ≡ 4 }
-        ensures { self.new ≡ record self.old { objects = slice_set self.old.objects
-            (place self.old object.id.0) object } }
+        ensures { self.new ≡ record self.old {
+          objects = slice_set self.old.objects
+              (place self.old object.id.0) object;
+        } }
     {
         put_among(&mut self.objects, object);
     }

@@ -161,7 +161,7 @@ impl Book {
         ensures step { (st : List Frame) → IsIdle st → Step (state_of self.old st)
             (Closed at cause.now)
             (state_of self.new (MustClose peer cause.now ∷ MustEnter peer ∷ MustUnplug at peer
-                ∷ st)) }
+            ∷ st)) }
         ensures sets { SetsPort self.old self.new at (state.Leaving peer) }
     {
         self.set_port(at, PortState::Leaving(peer));
@@ -192,7 +192,7 @@ impl Book {
         ensures step { (st : List Frame) → Step (state_of self.old (MustUnplug first other ∷ st))
             (Unplugged first other)
             (owed (min first.obj.0 other.obj.0) (owed (max first.obj.0 other.obj.0)
-                (state_of self.new st))) }
+            (state_of self.new st))) }
         ensures sets { (mid : Ledger) × SetsPort self.old mid first state.Closed × SetsPort mid
             self.new other state.Closed }
     {
