@@ -104,6 +104,8 @@ impl<N: Node> Graph<N> {
         ensures lower { (result ≡ Err (record { port = lower }))
             ↔ ((port self.old.book upper.obj.0 upper.slot ≡ state.Open) ×
             (port self.old.book lower.obj.0 0 ≢ state.Open)) }
+        // Only those two are named.
+        ensures named { IfErr result (λ e. (e.port ≡ upper) ⊎ (e.port ≡ lower)) }
         ensures refused { OnErr result (IsSame self.old self.new (O.events out.old)
             (O.events out.new)) }
         ensures ranks { KeepsRanks self.old.book self.new.book }
