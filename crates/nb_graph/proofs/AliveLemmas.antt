@@ -2,7 +2,7 @@
 use Rattle.nb_ledger.specs.Flat.{Notice}
 use Rattle.std.proofs.Common.{◌≡◌, ℕ, ◌⊎◌, true, List, [], ◌∷◌, ◌++◌, Option, refl, ap, sym, ◌∙◌, subst, append-nil}
 use Rattle.nb_ledger.specs.GraphRun.{Frame, IsIdle, Run}
-use Rattle.nb_ledger.specs.Ledger.{Ledger, port, busy, Agrees, state_of}
+use Rattle.nb_ledger.specs.Ledger.{Ledger, busy, Agrees, state_of}
 use Rattle.nb_graph.specs.Calm.{Calm, Shrinks}
 use Rattle.nb_graph.specs.Effects.{MayAskBelow}
 use Rattle.nb_graph.specs.declared.effects.Fx.{Fx}

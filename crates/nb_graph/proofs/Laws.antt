@@ -1,5 +1,5 @@
 -- For callers: what each thing that is asked for becomes, by the state of its port.
-use Rattle.std.proofs.Common.{inl, inr, ◌≡◌, ℕ, ◌+◌, ◌<◌, ◌≤◌, Bool, true, false, List, [], ◌∷◌, ◌++◌, Option, Some, None, min, max, refl, ap, sym, ◌∙◌, subst, append_assoc, arith}
+use Rattle.std.proofs.Common.{inl, inr, ◌≡◌, ℕ, ◌≤◌, true, List, [], ◌∷◌, ◌++◌, Some, None, min, max, refl, ap, sym, ◌∙◌, subst, append_assoc, arith}
 use Rattle.nb_terms.specs.declared.cause.Cause.{Cause}
 use Rattle.nb_ledger.specs.declared.port.Port.{Port}
 use Rattle.nb_ledger.specs.declared.port.ObjId.{ObjId}
@@ -7,7 +7,7 @@ use Rattle.nb_ledger.specs.declared.port.PortState.{PortState}
 use Rattle.nb_ledger.specs.declared.port.PortState.TheVariants as port
 use Rattle.std.proofs.lemmas.Bool.{false≢true}
 use Rattle.nb_ledger.specs.declared.event.Way.TheVariants as way
-use Rattle.nb_ledger.specs.declared.event.GraphEvent.TheVariants.{Made, Plugged, Entered, Left, Dropped, Closed, Unplugged, Freed}
+use Rattle.nb_ledger.specs.declared.event.GraphEvent.TheVariants.{Entered, Left, Dropped, Closed, Unplugged}
 use Rattle.nb_ledger.specs.GraphRun.{IsOpen}
 use Rattle.nb_ledger.specs.Ledger.{open_count}
 use Rattle.nb_graph.specs.declared.effects.Fx.{Fx}
@@ -15,7 +15,7 @@ use Rattle.nb_graph.specs.declared.effects.Emit.{Emit}
 use Rattle.nb_graph.specs.declared.effects.Make.{Make}
 use Rattle.nb_graph.specs.Whole.{port_at}
 use Rattle.nb_graph.specs.Trace.{Nature, Said, up, down, closed, time, regain, silence}
-use Rattle.nb_graph.specs.Deeds.{Deed, writes, calls, turns, Stage, Shut, MustHear, Holds, Makes, MustPlug, Closes, MustShut, Sends, Gives, Offers, Ticks, Returns, MustUnplug, Settles, is_shut, is_full, is_dead, arrives, goes_out, stays, all_closes, no_place, rest, runs_of, settles_by, makes_of, few_of, closes_of, said_of}
+use Rattle.nb_graph.specs.Deeds.{Deed, writes, calls, turns, Stage, Shut, MustHear, Holds, Makes, Closes, MustShut, Sends, Gives, Offers, Ticks, Returns, MustUnplug, Settles, is_shut, is_full, arrives, goes_out, all_closes, no_place, rest, runs_of, settles_by, said_of}
 use Rattle.nb_graph.specs.Scene.{Scene, IsFull, state_at, after_noted}
 use Rattle.nb_graph.specs.Follows.{Follows, after_deed, closes_alone, closes_link, closes_none, peer_closes, peer_enters, peer_hears, unplugs, frees, keeps, passes, leaves, drops, returns, enters_up, enters_down, offered_up, offered_down, refused, takes, takes_down, drops_rest, ends, ticks, takes_time, ticks_none, makes, makes_none, finds_none, plugs}
 use Rattle.nb_graph.specs.Went.{Call, Each}

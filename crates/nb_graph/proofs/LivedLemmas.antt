@@ -32,7 +32,6 @@ use Rattle.nb_graph.specs.Lived.{KeepsTraces, Lived, StandsFor}
 use Rattle.nb_graph.specs.Accounts.{Account, Joined, joined, parted, rests}
 use Rattle.nb_graph.specs.Flows.{Empty, Closing, Giving, Keeping, Rising}
 use Rattle.nb_graph.specs.Moves.{Calms, none_due}
-use Rattle.nb_graph.proofs.ShrinkLemmas.{dead-port}
 use Rattle.nb_graph.proofs.AccountLemmas.{Calms-then}
 use Rattle.nb_graph.proofs.LivensLemmas.{cases_peer}
 use Rattle.nb_graph.proofs.RunsLemmas.{Agrees-quiet, Runs-drop, Runs-one, Runs-two, IsRun-none, IsRun-trans}

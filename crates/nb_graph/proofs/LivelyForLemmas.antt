@@ -3,7 +3,7 @@ use Rattle.nb_ledger.specs.Flat.{Notice}
 use Rattle.std.proofs.Common.{◌≡◌, ◌≢◌, ◌⊎◌, ℕ, ◌<◌, ◌≤◌, true, false, List, [], ◌∷◌, ◌++◌, append_assoc, length, Option, Some, None, inl, inr, refl, ap, sym, ◌∙◌, subst, arith}
 use Rattle.std.proofs.lemmas.Bool.{cases_Bool, cases_eq, lt-ltb, le-ltb}
 use Rattle.nb_ledger.specs.GraphRun.{Frame, IsIdle, Run}
-use Rattle.nb_ledger.specs.Ledger.{Ledger, port, busy, rank, Agrees, state_of}
+use Rattle.nb_ledger.specs.Ledger.{Ledger, busy, rank, Agrees, state_of}
 use Rattle.nb_graph.specs.Trace.{Nature, Entry, Said, left, said_behind}
 use Rattle.nb_ledger.specs.declared.port.Port.{Port}
 use Rattle.nb_graph.specs.Deeds.{Deed, Stage, Turn, turns, notice_of, runs_of, makes_of, few_of, closes_of}

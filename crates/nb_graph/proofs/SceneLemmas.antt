@@ -1,15 +1,14 @@
 -- What is seen of a book after a change of it.
-use Rattle.std.proofs.Common.{◌≡◌, ℕ, ◌+◌, ◌-◌, ◌<◌, ◌^◌, inl, inr, List, length, refl, ap, sym, ◌∙◌, arith}
+use Rattle.std.proofs.Common.{◌≡◌, ℕ, ◌+◌, ◌-◌, ◌<◌, ◌^◌, inl, inr, length, ap, ◌∙◌, arith}
 use Rattle.nb_ledger.specs.declared.port.ObjId.{ObjId}
 use Rattle.nb_ledger.specs.declared.port.Port.{Port}
 use Rattle.nb_ledger.specs.declared.port.PortState.{PortState}
 use Rattle.nb_ledger.specs.declared.event.GraphEvent.TheVariants.{Made, Freed}
 use Rattle.nb_ledger.specs.GraphRun.{port_but}
-use Rattle.nb_ledger.specs.Ledger.{Ledger, live, port}
+use Rattle.nb_ledger.specs.Ledger.{Ledger, port}
 use Rattle.nb_ledger.specs.Changes.{SameObjects, SetsHolds, SetsBusy, SetsPort, Adds, Removes}
 use Rattle.nb_graph.specs.Scene.{IsFull, scene_of, with_ports, after_noted}
 use Rattle.nb_graph.proofs.GraphLemmas.{same-length}
-use Rattle.nb_graph.proofs.WholeLemmas.{two_ports}
 
 -- the same objects and ports
 pub scene-same : {old new : Ledger} → SameObjects old new → ((x k : ℕ) → port new x k ≡ port old x k) → scene_of new ≡ scene_of old

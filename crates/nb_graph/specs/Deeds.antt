@@ -1,5 +1,5 @@
 -- What happens in a call, in order: the events, and between them the calls of nodes. Our own.
-use Rattle.std.specs.Prelude.{◌≡◌, ℕ, ◌==◌, ◌⊎◌, Bool, true, false, List, [], ◌∷◌, ◌++◌, Option, Some, None, min, max, if◌then◌else◌}
+use Rattle.std.specs.Prelude.{◌≡◌, ℕ, ◌==◌, Bool, true, false, List, [], ◌∷◌, ◌++◌, Option, Some, None, if◌then◌else◌}
 use Rattle.nb_terms.specs.declared.cause.Cause.{Cause}
 use Rattle.nb_ledger.specs.declared.port.Port.{Port}
 use Rattle.nb_ledger.specs.declared.port.ObjId.{ObjId}
@@ -13,7 +13,7 @@ use Rattle.nb_graph.specs.declared.effects.Make.{Make}
 use Rattle.nb_graph.specs.declared.effects.Emit.{Emit}
 use Rattle.nb_graph.specs.declared.effects.Few.{Few}
 use Rattle.nb_graph.specs.Whole.{port_at}
-use Rattle.nb_graph.specs.Trace.{Nature, Said, Entry, carries, in_list, lent, up, down, closed, time, regain, left, silence}
+use Rattle.nb_graph.specs.Trace.{Nature, Said, Entry, carries, in_list, lent, left}
 
 -- What is asked for turns into something else, and no event tells of it: a message arrives at the other end of its
 -- link, or goes out by an open port without one; time comes to a dead object; a port to be closed is closed already; a make

@@ -1,11 +1,10 @@
 -- What objects stand for, before a call and after it: our own.
 use Rattle.nb_ledger.specs.Flat.{Notice}
-use Rattle.std.specs.Prelude.{◌≡◌, ℕ, List, [], Option, Some}
+use Rattle.std.specs.Prelude.{◌≡◌, ℕ, List, Option, Some}
 use Rattle.nb_ledger.specs.declared.event.GraphEvent.{GraphEvent}
 use Rattle.nb_graph.specs.Trace.{Nature, Entry, IsSettled}
 use Rattle.nb_graph.specs.Deeds.{Deed, Stage, events_of, told_of, trace_after}
 use Rattle.nb_ledger.specs.declared.port.Port.{Port}
-use Rattle.nb_ledger.specs.Ledger.{port}
 use Rattle.nb_graph.specs.Scene.{scene_of}
 use Rattle.nb_graph.specs.Follows.{Follows}
 use Rattle.nb_ledger.specs.Flat.{Given}

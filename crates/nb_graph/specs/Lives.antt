@@ -4,7 +4,7 @@ use Rattle.std.specs.Prelude.{◌≡◌, ◌≢◌, ℕ, ◌<◌, ◌≤◌, Boo
 use Rattle.nb_ledger.specs.declared.event.GraphEvent.{GraphEvent}
 use Rattle.nb_ledger.specs.declared.port.PortState.{PortState}
 use Rattle.nb_ledger.specs.GraphRun.{Frame}
-use Rattle.nb_ledger.specs.Ledger.{Ledger, place, port, busy, rank}
+use Rattle.nb_ledger.specs.Ledger.{Ledger, place, busy, rank}
 use Rattle.nb_graph.specs.Scene.{Scene, scene_of}
 use Rattle.nb_ledger.specs.Flat.{Given}
 use Rattle.nb_ledger.specs.Settled.{Settles}

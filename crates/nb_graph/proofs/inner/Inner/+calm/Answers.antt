@@ -1,5 +1,5 @@
 use Rattle.nb_ledger.proofs.RunLemmas.{Given-none}
-use Rattle.std.proofs.Common.{refl, sym, subst, ◌∙◌, arith, ap, rules, ◌≡◌, true, inl, inr, append_assoc, [], ◌∷◌, ◌++◌}
+use Rattle.std.proofs.Common.{refl, sym, subst, ◌∙◌, arith, ap, rules, ◌≡◌, true, append_assoc, [], ◌∷◌, ◌++◌}
 use Rattle.std.specs.Vec.{vec_capacity}
 use Rattle.nb_ledger.specs.Ledger.{busy, port, open_count}
 use Rattle.nb_graph.specs.Whole.{IsWhole, port_at}

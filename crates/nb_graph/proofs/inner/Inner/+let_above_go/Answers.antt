@@ -3,7 +3,7 @@ use Rattle.std.proofs.Common.{[]}
 use Rattle.nb_graph.specs.Follows.{lets_none}
 use Rattle.nb_graph.specs.Deeds.{LetsAllGo, none_held}
 use Rattle.nb_ledger.proofs.RunLemmas.{Given-none}
-use Rattle.std.proofs.Common.{refl, ◌∷◌}
+use Rattle.std.proofs.Common.{◌∷◌}
 use Rattle.std.proofs.Common.{◌≡◌, arith}
 use Rattle.nb_ledger.specs.Ledger.{holds}
 use Rattle.nb_ledger.proofs.PortLemmas.{dead_holds}

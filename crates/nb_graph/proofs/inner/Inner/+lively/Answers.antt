@@ -1,6 +1,6 @@
 use Rattle.nb_ledger.proofs.RunLemmas.{Given-none}
 use Rattle.nb_graph.specs.declared.asking.Asked.TheVariants.{Done}
-use Rattle.std.proofs.Common.{◌≡◌, ℕ, List, ◌<◌, ◌≤◌, sym, ◌∙◌, arith, ap, subst, rules, refl, true, inl, inr, None, [], ◌∷◌, append_assoc, ◌++◌}
+use Rattle.std.proofs.Common.{◌≡◌, ℕ, List, ◌<◌, ◌≤◌, sym, ◌∙◌, arith, ap, subst, rules, refl, true, None, [], ◌∷◌, append_assoc, ◌++◌}
 use Rattle.std.specs.Vec.{vec_capacity}
 use Rattle.nb_ledger.specs.declared.event.Way.TheVariants.{Up}
 use Rattle.nb_ledger.specs.declared.port.PortState.TheVariants.{Linked, Leaving, Closed}

@@ -1,4 +1,4 @@
-use Rattle.nb_graph.specs.Trace.{nature, said, silence}
+use Rattle.nb_graph.specs.Trace.{nature, said}
 use Rattle.nb_graph.specs.Deeds.{runs_of}
 use Rattle.nb_graph.specs.Follows.{takes_down}
 use Rattle.nb_graph.proofs.LivesLemmas.{Follows-called}

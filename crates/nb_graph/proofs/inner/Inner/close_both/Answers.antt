@@ -4,7 +4,6 @@ use Rattle.nb_graph.proofs.SceneLemmas.{scene-busy, scene-port}
 use Rattle.nb_ledger.specs.GraphRun.{port_but}
 use Rattle.nb_ledger.specs.Ledger.{port}
 use Rattle.std.proofs.Common.{ap, sym}
-use Rattle.std.proofs.Common.{inl, inr}
 use Rattle.nb_ledger.specs.declared.event.GraphEvent.TheVariants.{Closed, Entered}
 use Rattle.nb_ledger.specs.declared.event.Way.TheVariants.{Close}
 use Rattle.nb_graph.specs.Deeds.{MustUnplug as Unlinks, Closes, MustShut, Shut, MustHear}

@@ -1,6 +1,6 @@
 use Rattle.nb_graph.specs.Deeds.{LetsAllGo, lets_go}
 use Rattle.nb_ledger.proofs.RunLemmas.{Given-none}
-use Rattle.std.proofs.Common.{refl, ◌∷◌}
+use Rattle.std.proofs.Common.{◌∷◌}
 use Rattle.nb_graph.specs.Follows.{lets}
 use Rattle.std.proofs.Common.{sym, ◌∙◌}
 use Rattle.std.proofs.lemmas.Bool.{ltb-true}

@@ -1,5 +1,5 @@
 use Rattle.nb_ledger.proofs.RunLemmas.{Given-none}
-use Rattle.std.proofs.Common.{sym, ◌∙◌, refl, inl, inr}
+use Rattle.std.proofs.Common.{sym, ◌∙◌, refl, inr}
 use Rattle.std.proofs.lemmas.Bool.{false≢true}
 use Rattle.nb_ledger.specs.declared.event.GraphEvent.TheVariants.{Dropped}
 use Rattle.nb_graph.specs.Lives.{here}

@@ -7,8 +7,8 @@ use Rattle.nb_ledger.specs.declared.event.GraphEvent.TheVariants.{Made, Plugged}
 use Rattle.nb_graph.specs.Scene.{IsFull, scene_of, state_at, after_noted}
 use Rattle.nb_graph.proofs.SceneLemmas.{roomy-below, scene-adds, scene-ports}
 use Rattle.nb_ledger.specs.declared.port.Port.{Port}
-use Rattle.nb_ledger.specs.GraphRun.{new_ports, port_but}
-use Rattle.nb_ledger.specs.declared.port.PortState.TheVariants.{Open, Linked}
+use Rattle.nb_ledger.specs.GraphRun.{new_ports}
+use Rattle.nb_ledger.specs.declared.port.PortState.TheVariants.{Open}
 use Rattle.nb_ledger.proofs.PortLemmas.{live_by}
 use Rattle.nb_graph.proofs.MannedLemmas.{IsManned-same}
 use Rattle.nb_graph.proofs.WholeLemmas.{but_same, but_other, ports_other, ports_same, IsWhole-plug, IsLinked-add, CountedBut-add}

@@ -1,5 +1,4 @@
 use Rattle.std.proofs.Common.{min, max, []}
-use Rattle.nb_ledger.specs.GraphRun.{port_but}
 use Rattle.std.proofs.Common.{refl, ap, sym, None, ◌∷◌}
 use Rattle.nb_ledger.specs.declared.event.Way.TheVariants.{Close}
 use Rattle.nb_ledger.specs.declared.event.GraphEvent.TheVariants.{Left, Unplugged}
