@@ -7,7 +7,7 @@ use Rattle.nb_responses.specs.Responses.{before_end, by_end, ReadsSoFar, Respons
 use Rattle.nb_responses.proofs.ResponseLaws.{one_response}
 use Rattle.nb_responses.proofs.Cases.{either}
 use Rattle.nb_http.specs.Ends.{end_of, is_decided, text_of}
-use Rattle.nb_http.specs.Standing.{Core, Stands, EndsSo, is_over}
+use Rattle.nb_http.specs.Standing.{Core, HasRead, EndsSo, is_over}
 use Rattle.nb_http.specs.Runs.{Ran, started, took, EndedAlike, Alike}
 
 -- what a verdict says before the stream's end
@@ -47,14 +47,14 @@ quiet rec long e = absurd (false≢true (sym e))
 quiet rec many e = absurd (false≢true (sym e))
 
 -- a core that ran stands for what it took and gave
-ran_stands : (rec : ℕ) (c : Core) (stream given : List ℕ) (over : Option Cause) → Ran rec c stream given over → (s : Stands c stream given) × (over ≡ end_of rec s.verdict)
+ran_stands : (rec : ℕ) (c : Core) (stream given : List ℕ) (over : Option Cause) → Ran rec c stream given over → (s : HasRead c stream given) × (over ≡ end_of rec s.verdict)
 ran_stands _ _ _ _ _ (started rec c s live) = (s, quiet rec s.verdict (sym s.decided ∙ live))
 ran_stands _ _ _ _ _ (took before rec old new stream given taken gave last over ran live takes) = takes stream given (ran_stands before old stream given last ran).0 live
 
 so_far : (stream : List ℕ) (r : Response) → ReadsSoFar stream r → ResponseOf stream false (by_end false r)
 so_far stream r reads = record { so_far = r; reads = reads; is = refl }
 
-same_reading : (a b : Core) (stream given others : List ℕ) (s : Stands a stream given) (t : Stands b stream others) → by_end false (response s.verdict given) ≡ by_end false (response t.verdict others)
+same_reading : (a b : Core) (stream given others : List ℕ) (s : HasRead a stream given) (t : HasRead b stream others) → by_end false (response s.verdict given) ≡ by_end false (response t.verdict others)
 same_reading a b stream given others s t =
     one_response stream false (by_end false (response s.verdict given)) (by_end false (response t.verdict others)) (so_far stream (response s.verdict given) s.reads) (so_far stream (response t.verdict others) t.reads)
 

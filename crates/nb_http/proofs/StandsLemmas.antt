@@ -17,7 +17,7 @@ use Rattle.nb_httpmsg.specs.Feeding.{StandsFor, verdict_of, is_open}
 use Rattle.nb_http.specs.declared.state.State.{State}
 use Rattle.nb_http.specs.declared.state.State.TheVariants.{Head, Sized, Chunked, ToEnd, Over}
 use Rattle.nb_http.specs.Ends.{end_of, is_decided, text_of}
-use Rattle.nb_http.specs.Standing.{Core, is_over, range_of, IsBodyHead, AtHead, AtSized, AtChunked, AtToEnd, LiveAt, Live, Stands, Takes, Outcome, goes_on, skips, ends, Steps, EndsSo, end_at, state_at_end}
+use Rattle.nb_http.specs.Standing.{Core, is_over, range_of, IsBodyHead, AtHead, AtSized, AtChunked, AtToEnd, LiveAt, IsReading, HasRead, Takes, GoesOnOrEnds, goes_on, skips, ends, Steps, EndsSo, end_at, state_at_end}
 use Rattle.nb_http.specs.Giving.{range_given, range_to}
 use Rattle.nb_responses.proofs.Cases.{either}
 
@@ -87,7 +87,7 @@ not_over (ToEnd room) c rest given at = (refl, refl)
 not_over (Over range) c rest given at = absurd at
 
 stands_live : (rec : ℕ) (c : Core) (skipped : List (List ℕ)) (rest stream given : List ℕ) (over : Option Cause) → AllByRecursion IsInterim skipped → stream ≡ concat skipped ++ rest
-    → LiveAt c.state c rest given → over ≡ None → (s : Stands c stream given) × (over ≡ end_of rec s.verdict)
+    → LiveAt c.state c rest given → over ≡ None → (s : HasRead c stream given) × (over ≡ end_of rec s.verdict)
 stands_live rec c skipped rest stream given over all e at none =
     let u : Undecided rest given = undecided c.state c rest given at in
     let n : (is_over c.state ≡ false) × (range_of c.state ≡ None) = not_over c.state c rest given at in (
@@ -110,7 +110,7 @@ concat_one_more [] x = append-nil x
 concat_one_more (y ∷ ys) x = ap (λ t. y ++ t) (concat_one_more ys x) ∙ sym (append_assoc y (concat ys) x)
 
 outcome_stands : (rec : ℕ) (c : Core) (skipped : List (List ℕ)) (rest stream given : List ℕ) (over : Option Cause) → AllByRecursion IsInterim skipped → stream ≡ concat skipped ++ rest
-    → Outcome rec c rest given over → (s : Stands c stream given) × (over ≡ end_of rec s.verdict)
+    → GoesOnOrEnds rec c rest given over → (s : HasRead c stream given) × (over ≡ end_of rec s.verdict)
 outcome_stands rec c skipped rest stream given over all e (goes_on at none) = stands_live rec c skipped rest stream given over all e at none
 outcome_stands rec c skipped rest stream given over all e (skips interim at none) =
     stands_live rec c (skipped ++ rest ∷ []) [] stream given over (all_one_more skipped rest all interim)
@@ -129,16 +129,16 @@ outcome_stands rec c skipped rest stream given over all e (ends verdict reads de
 -- steps of a live core are what a call takes
 pub takes : (rec : ℕ) (old new : Core) (taken gave : List ℕ) (over : Option Cause) → Steps rec old new taken gave over → Takes rec old new taken gave over
 takes rec old new taken gave over step = λ stream given s live.
-    let l : Live old stream given = s.live live in
+    let l : IsReading old stream given = s.live live in
     outcome_stands rec new l.skipped (l.rest ++ taken) (stream ++ taken) (given ++ gave) over l.all
     (ap (λ t. t ++ taken) l.is_stream ∙ append_assoc (concat l.skipped) l.rest taken) (step l.rest given l.at)
 
 -- a core that has taken nothing
-pub at_start : (c : Core) → c.head ≡ [] → c.state ≡ Head → StandsFor c.chunks.place c.chunks.line [] [] → is_open c.chunks.place ≡ true → Stands c [] []
+pub at_start : (c : Core) → c.head ≡ [] → c.state ≡ Head → StandsFor c.chunks.place c.chunks.line [] [] → is_open c.chunks.place ≡ true → HasRead c [] []
 at_start c empty at fresh unread =
     (stands_live 0 c [] [] [] [] None tt refl (subst (λ s. LiveAt s c [] []) (sym at) (record { is_rest = sym empty; none_given = refl; block = ap head_block empty; fresh = fresh; unread = unread })) refl).0
 
-ended_by : (rec : ℕ) (c : Core) (stream given : List ℕ) (before after : Verdict) (over : Option Cause) → (l : Live c stream given) → Final l.rest (response before given) → by_end true (response before given) ≡ response after given
+ended_by : (rec : ℕ) (c : Core) (stream given : List ℕ) (before after : Verdict) (over : Option Cause) → (l : IsReading c stream given) → Final l.rest (response before given) → by_end true (response before given) ≡ response after given
     → over ≡ end_of rec after → is_decided after ≡ true → (r : Response) × ResponseOf stream true r × (r.bytes ≡ given) × (over ≡ end_of rec r.verdict) × (is_decided r.verdict ≡ true)
 ended_by rec c stream given before after over l reads decides is decided =
     (response after given, record { so_far = response before given; reads = record { skipped = l.skipped; rest = l.rest; all = l.all; stands = l.is_stream; ends = reads }; is = sym decides }, refl, is, decided)

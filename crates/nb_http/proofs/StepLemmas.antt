@@ -20,13 +20,13 @@ use Rattle.nb_http.specs.declared.state.State.{State}
 use Rattle.nb_http.specs.declared.state.State.TheVariants.{Head, Sized, Chunked, ToEnd, Over}
 use Rattle.nb_http.specs.declared.head_step.HeadStep.{HeadStep}
 use Rattle.nb_http.specs.Ends.{end_of, is_decided, text_of}
-use Rattle.nb_http.specs.Standing.{Core, is_over, moved_text, IsBodyHead, AtHead, AtSized, AtChunked, AtToEnd, LiveAt, Outcome, goes_on, skips, ends, Steps}
+use Rattle.nb_http.specs.Standing.{Core, is_over, moved_text, IsBodyHead, AtHead, AtSized, AtChunked, AtToEnd, LiveAt, GoesOnOrEnds, goes_on, skips, ends, Steps}
 use Rattle.nb_http.specs.HeadReading.{HeadGoes, IsHeadRead}
 use Rattle.nb_http.specs.Giving.{sized_next, to_end_next, chunk_next, chunk_next_by}
 use Rattle.nb_http.proofs.StandsLemmas.{body_reads, unlimited}
 
 head_outcome : (rec : ℕ) (state : State) (c : Core) (text : List ℕ) (over : Option Cause) → c.state ≡ state → HeadGoes rec state text c.head over
-    → StandsFor c.chunks.place c.chunks.line [] [] → is_open c.chunks.place ≡ true → Outcome rec c text [] over
+    → StandsFor c.chunks.place c.chunks.line [] [] → is_open c.chunks.place ≡ true → GoesOnOrEnds rec c text [] over
 head_outcome rec Head c text over e goes fresh unread =
     elim goes [
       | inl g ↦ goes_on (subst (λ s. LiveAt s c text []) (sym e) (record { is_rest = sym g.0; none_given = refl; block = ap head_block g.0 ∙ g.1; fresh = fresh; unread = unread })) g.2
@@ -70,12 +70,12 @@ pub head_comes : (rec : ℕ) (old new : Core) (line bytes : List ℕ) (taken : �
 head_comes rec old new line bytes taken r at spelled read far after kept same = λ rest given live.
     let here : AtHead old rest given = subst (λ s. LiveAt s old rest given) at live in
     let text : take r.len line ≡ rest ++ take (r.len - length old.head) bytes = kept_front line old.head bytes taken r.len spelled read.within far ∙ ap (λ t. t ++ take (r.len - length old.head) bytes) (sym here.is_rest) in
-    let comes : Outcome rec new (take r.len line) [] r.over = head_outcome rec r.state new (take r.len line) r.over after
+    let comes : GoesOnOrEnds rec new (take r.len line) [] r.over = head_outcome rec r.state new (take r.len line) r.over after
     (subst (λ k. HeadGoes rec r.state (take r.len line) k r.over) (sym kept) read.goes)
     (subst (λ (c : Reader). StandsFor c.place c.line [] []) (sym same) here.fresh)
     (subst (λ (c : Reader). is_open c.place ≡ true) (sym same) here.unread) in
-    subst (λ g. Outcome rec new (rest ++ take (r.len - length old.head) bytes) g r.over) (sym (append-nil given ∙ here.none_given))
-    (subst (λ t. Outcome rec new t [] r.over) text comes)
+    subst (λ g. GoesOnOrEnds rec new (rest ++ take (r.len - length old.head) bytes) g r.over) (sym (append-nil given ∙ here.none_given))
+    (subst (λ t. GoesOnOrEnds rec new t [] r.over) text comes)
 
 -- bytes of a body of a stated length
 pub sized_comes : (rec left : ℕ) (old new : Core) (bytes : List ℕ) (taken : ℕ) (over : Option Cause) → old.state ≡ Sized left → taken ≤ left → taken ≤ length bytes
@@ -144,19 +144,19 @@ open_comes rec room old new bytes over at after is same = λ rest given live.
     })) (is ∙ (rw off refl)))
 
 chunk_live : (c : Core) (rest given text : List ℕ) (h : ResponseHead) (rec room : ℕ) (over : Option Cause) → IsBodyHead c.head h → rest ≡ c.head ++ text → framing h ≡ chunked
-    → StandsFor c.chunks.place c.chunks.line text given → is_open c.chunks.place ≡ true → length given + room ≡ most_bytes → c.state ≡ Chunked room → over ≡ None → Outcome rec c rest given over
+    → StandsFor c.chunks.place c.chunks.line text given → is_open c.chunks.place ≡ true → length given + room ≡ most_bytes → c.state ≡ Chunked room → over ≡ None → GoesOnOrEnds rec c rest given over
 chunk_live c rest given text h rec room over head e frames stands unread fits state none =
     goes_on (subst (λ s. LiveAt s c rest given) (sym state) (record { h = h; body = text; head = head; is_rest = e; frames = frames; stands = stands; unread = unread; fits = fits })) none
 
 chunk_decided : (verdict : Verdict) (c : Core) (rest given text : List ℕ) (h : ResponseHead) (rec room : ℕ) (over : Option Cause) → IsBodyHead c.head h → rest ≡ c.head ++ text → framing h ≡ chunked
-    → ReadsChunks text (response verdict given) → length given + room ≡ most_bytes → is_decided verdict ≡ true → text_of verdict ≡ None → c.state ≡ Over None → over ≡ end_of rec verdict → Outcome rec c rest given over
+    → ReadsChunks text (response verdict given) → length given + room ≡ most_bytes → is_decided verdict ≡ true → text_of verdict ≡ None → c.state ≡ Over None → over ≡ end_of rec verdict → GoesOnOrEnds rec c rest given over
 chunk_decided verdict c rest given text h rec room over head e frames reads fits decided none state is =
     ends verdict (body_reads c.head rest text h chunked (response verdict given) head e frames (response verdict given, reads, unlimited verdict given (omega (arith, fits))))
     decided (ap is_over state) (ap (moved_text c.head) state ∙ sym none) is
 
 chunks_end : (place : Place) (c : Core) (rest given text : List ℕ) (h : ResponseHead) (rec room : ℕ) (over : Option Cause) → IsBodyHead c.head h → rest ≡ c.head ++ text → framing h ≡ chunked
     → c.chunks.place ≡ place → StandsFor place c.chunks.line text given → length given + room ≡ most_bytes
-    → c.state ≡ (chunk_next_by rec room (state_of place)).state → over ≡ (chunk_next_by rec room (state_of place)).over → Outcome rec c rest given over
+    → c.state ≡ (chunk_next_by rec room (state_of place)).state → over ≡ (chunk_next_by rec room (state_of place)).over → GoesOnOrEnds rec c rest given over
 chunks_end place.Size c rest given text h rec room over head e frames at stands fits state is =
     chunk_live c rest given text h rec room over head e frames (subst (λ p. StandsFor p c.chunks.line text given) (sym at) stands) (ap is_open at) fits state is
 chunks_end (place.Bytes left) c rest given text h rec room over head e frames at stands fits state is =
@@ -202,5 +202,5 @@ chunks_come rec room old new taken fed over at feeds says after is same = λ res
     let gave_all : gave ≡ block = ap (λ n. take n block) all ∙ take_all (length block) block (omega arith) in
     let state : new.state ≡ (chunk_next_by rec (room - length block) (state_of new.chunks.place)).state = after ∙ (rw off (ap (λ s. (chunk_next_by rec (room - length block) s).state) says)) in
     let ending : over ≡ (chunk_next_by rec (room - length block) (state_of new.chunks.place)).over = is ∙ (rw off (ap (λ s. (chunk_next_by rec (room - length block) s).over) says)) in
-    subst (λ g. Outcome rec new (rest ++ taken) (given ++ g) over) (sym gave_all)
+    subst (λ g. GoesOnOrEnds rec new (rest ++ taken) (given ++ g) over) (sym gave_all)
     (chunks_end new.chunks.place new (rest ++ taken) (given ++ block) (here.body ++ taken) here.h rec (room - length block) over head text here.frames refl stands (omega (arith, size, here.fits, few)) state ending))

@@ -96,7 +96,7 @@ LiveAt (Chunked room) c rest given = AtChunked room c rest given
 LiveAt (ToEnd room) c rest given = AtToEnd room c rest given
 LiveAt (Over range) c rest given = ⊥
 
-pub record Live (c : Core) (stream given : List ℕ) : Type 0 where
+pub record IsReading (c : Core) (stream given : List ℕ) : Type 0 where
   pub skipped : List (List ℕ)
   pub rest : List ℕ
   pub all : AllByRecursion IsInterim skipped
@@ -105,33 +105,33 @@ pub record Live (c : Core) (stream given : List ℕ) : Type 0 where
 
 -- A core stands for the bytes of the stream that it took and those of the body that it gave: they are
 -- the stream's reading, which is decided exactly where the core has ended.
-pub record Stands (c : Core) (stream given : List ℕ) : Type 0 where
+pub record HasRead (c : Core) (stream given : List ℕ) : Type 0 where
   pub verdict : Verdict
   pub reads : ReadsSoFar stream (response verdict given)
   pub decided : is_over c.state ≡ is_decided verdict
   pub moves : moved_text c.head c.state ≡ text_of verdict
-  pub live : is_over c.state ≡ false → Live c stream given
+  pub live : is_over c.state ≡ false → IsReading c stream given
 
 -- A call takes bytes of the stream and gives bytes of the body: where it decides the response, it ends
 -- with its cause.
 abbrev pub Takes : ℕ → Core → Core → List ℕ → List ℕ → Option Cause → Type 0
-Takes rec old new taken gave over = (stream given : List ℕ) → Stands old stream given → is_over old.state ≡ false
-    → (s : Stands new (stream ++ taken) (given ++ gave)) × (over ≡ end_of rec s.verdict)
+Takes rec old new taken gave over = (stream given : List ℕ) → HasRead old stream given → is_over old.state ≡ false
+    → (s : HasRead new (stream ++ taken) (given ++ gave)) × (over ≡ end_of rec s.verdict)
 
 -- what a step of a live core comes to
-pub data Outcome (rec : ℕ) (c : Core) (rest given : List ℕ) (over : Option Cause) : Type 0 where
-  goes_on : LiveAt c.state c rest given → over ≡ None → Outcome rec c rest given over
-  skips : IsInterim rest → LiveAt c.state c [] given → over ≡ None → Outcome rec c rest given over
+pub data GoesOnOrEnds (rec : ℕ) (c : Core) (rest given : List ℕ) (over : Option Cause) : Type 0 where
+  goes_on : LiveAt c.state c rest given → over ≡ None → GoesOnOrEnds rec c rest given over
+  skips : IsInterim rest → LiveAt c.state c [] given → over ≡ None → GoesOnOrEnds rec c rest given over
   ends : (verdict : Verdict) → Final rest (response verdict given) → is_decided verdict ≡ true → is_over c.state ≡ true
-      → moved_text c.head c.state ≡ text_of verdict → over ≡ end_of rec verdict → Outcome rec c rest given over
+      → moved_text c.head c.state ≡ text_of verdict → over ≡ end_of rec verdict → GoesOnOrEnds rec c rest given over
 
 abbrev pub Steps : ℕ → Core → Core → List ℕ → List ℕ → Option Cause → Type 0
-Steps rec old new taken gave over = (rest given : List ℕ) → LiveAt old.state old rest given → Outcome rec new (rest ++ taken) (given ++ gave) over
+Steps rec old new taken gave over = (rest given : List ℕ) → LiveAt old.state old rest given → GoesOnOrEnds rec new (rest ++ taken) (given ++ gave) over
 
 -- The stream's end decides what isn't decided: a body to the stream's end is whole, all else is broken.
 -- A core that has ended stays as it is.
 pub record EndsSo (rec : ℕ) (old new : Core) (over : Option Cause) : Type 0 where
-  pub live : (stream given : List ℕ) → Stands old stream given → is_over old.state ≡ false → (r : Response) × ResponseOf stream true r × (r.bytes ≡ given) × (over ≡ end_of rec r.verdict) × (is_decided r.verdict ≡ true)
+  pub live : (stream given : List ℕ) → HasRead old stream given → is_over old.state ≡ false → (r : Response) × ResponseOf stream true r × (r.bytes ≡ given) × (over ≡ end_of rec r.verdict) × (is_decided r.verdict ≡ true)
   pub silent : is_over old.state ≡ true → (over ≡ None) × (new ≡ old)
   pub ended : is_over new.state ≡ true
 

@@ -80,12 +80,12 @@ impl Http {
     ghost use Rattle.std.specs.Prelude.{◌≡◌, ◌≤◌, ◌<◌, ◌+◌, ◌^◌, ◌++◌, [], ℕ, List, length, take, IfOk, true, false, nat_lt, slice_range, None};
     ghost use Rattle.std.specs.Option.{option_map, option_copied};
     ghost use Rattle.nb_http.specs.Requests.{request_text};
-    ghost use Rattle.nb_http.specs.Standing.{Stands, Takes, EndsSo, is_over, moved_text};
+    ghost use Rattle.nb_http.specs.Standing.{HasRead, Takes, EndsSo, is_over, moved_text};
     ghost use Rattle.nb_http.specs.Giving.{gave, nothing, SendsNothing, TakesSo};
 
     /// Starts with an empty stream, and returns the request's text.
     pub fn start(alloc: Global, target: &HttpTarget) -> Result<(Http, Text), NoMemory>
-        ensures stands { IfOk result (λ r. Stands r.0.core [] [] × (is_over r.0.core.state ≡ false)) }
+        ensures stands { IfOk result (λ r. HasRead r.0.core [] [] × (is_over r.0.core.state ≡ false)) }
         ensures fresh { IfOk result (λ r. r.0.waiting ≡ 0) }
         ensures request { IfOk result (λ r. r.1 ≡ request_text target.now.host target.now.port target.now.path) }
     {

@@ -3,6 +3,7 @@ use nb_httpmsg::HttpTarget;
 use nb_terms::{Acts, Cause, NoMemory};
 use nb_wire::Text;
 use std::alloc::Global;
+use std::process::Abort;
 use std::test::Fail;
 
 /// What a stream in pieces of this size gave, and how it ended. It came with record 7, and its end
@@ -48,10 +49,56 @@ fn run(alloc: Global, stream: &[u8], piece: usize) -> Result<Ending, NoMemory> {
     Ok(Ending { body, over, moved })
 }
 
-/// RFC 9112, sections 6 and 7, and RFC 9110, section 15, by hand; each stream is cut in five ways.
+/// A stream, its body, how it ends (a code and two numbers), and where it moves to.
+type Row<'a> = (&'a [u8], &'a [u8], (u8, u32, u32), &'a [u8]);
+
+/// Reads each stream, cut in five ways: its body, how it ends, and where it moves to.
+fn agree(rt: &impl Abort, alloc: Global, rows: &[Row]) -> Result<(), Fail> {
+    for (number, (stream, body, (code, a, b), moved)) in rows.iter().enumerate() {
+        for piece in [1, 2, 3, 7, 1000] {
+            let run = run(alloc, stream, piece)?;
+            assert_eq!(rt;
+                run.body.as_slice(),
+                *body,
+                "row {number} in pieces of {piece}"
+            );
+            let over = Some(Cause {
+                code: *code,
+                a: *a,
+                b: *b,
+            });
+            assert_eq!(rt; run.over, over, "row {number} in pieces of {piece}");
+            assert_eq!(rt;
+                run.moved.as_slice(),
+                *moved,
+                "row {number} in pieces of {piece}"
+            );
+        }
+    }
+    Ok(())
+}
+
+/// RFC 9112, section 3.2: the port of plain HTTP isn't named.
 #[test]
-fn responses(rt: HostRuntime) -> Result<(), Fail> {
-    let rows: [(&[u8], &[u8], (u8, u32, u32), &[u8]); 13] = [
+fn requests(rt: HostRuntime) -> Result<(), Fail> {
+    let (_http, text) = Http::start(rt.alloc(), &target(rt.alloc(), 80)?)?;
+    assert_eq!(rt;
+        text.as_slice(),
+        b"GET /a HTTP/1.1\r\nHost: 10.0.0.1\r\nUser-Agent: netboot\r\nConnection: close\r\n\r\n".as_slice()
+    );
+    assert_eq!(rt; text.len(), 75);
+    let (_http, text) = Http::start(rt.alloc(), &target(rt.alloc(), 8080)?)?;
+    assert_eq!(rt;
+        text.as_slice(),
+        b"GET /a HTTP/1.1\r\nHost: 10.0.0.1:8080\r\nUser-Agent: netboot\r\nConnection: close\r\n\r\n".as_slice()
+    );
+    Ok(())
+}
+
+/// RFC 9112, sections 6 and 7, and RFC 9110, section 15.4, by hand.
+#[test]
+fn whole_responses(rt: HostRuntime) -> Result<(), Fail> {
+    let rows: [Row; 5] = [
         (
             b"HTTP/1.1 200 OK\r\nContent-Length: 5\r\n\r\nhello",
             b"hello",
@@ -77,6 +124,14 @@ fn responses(rt: HostRuntime) -> Result<(), Fail> {
             (0, 0, 0),
             b"/b",
         ),
+    ];
+    agree(&rt, rt.alloc(), &rows)
+}
+
+/// RFC 9112, sections 6 to 8, and RFC 9110, section 15, by hand.
+#[test]
+fn refused_responses(rt: HostRuntime) -> Result<(), Fail> {
+    let rows: [Row; 8] = [
         (
             b"HTTP/1.1 302 Found\r\nContent-Length: 1\r\n\r\n",
             b"",
@@ -126,43 +181,5 @@ fn responses(rt: HostRuntime) -> Result<(), Fail> {
             b"",
         ),
     ];
-    for (number, (stream, body, (code, a, b), moved)) in rows.iter().enumerate() {
-        for piece in [1, 2, 3, 7, 1000] {
-            let run = run(rt.alloc(), stream, piece)?;
-            assert_eq!(rt;
-                run.body.as_slice(),
-                *body,
-                "row {number} in pieces of {piece}"
-            );
-            let over = Some(Cause {
-                code: *code,
-                a: *a,
-                b: *b,
-            });
-            assert_eq!(rt; run.over, over, "row {number} in pieces of {piece}");
-            assert_eq!(rt;
-                run.moved.as_slice(),
-                *moved,
-                "row {number} in pieces of {piece}"
-            );
-        }
-    }
-    Ok(())
-}
-
-/// RFC 9112, section 3.2: the port of plain HTTP isn't named.
-#[test]
-fn requests(rt: HostRuntime) -> Result<(), Fail> {
-    let (_http, text) = Http::start(rt.alloc(), &target(rt.alloc(), 80)?)?;
-    assert_eq!(rt;
-        text.as_slice(),
-        b"GET /a HTTP/1.1\r\nHost: 10.0.0.1\r\nUser-Agent: netboot\r\nConnection: close\r\n\r\n".as_slice()
-    );
-    assert_eq!(rt; text.len(), 75);
-    let (_http, text) = Http::start(rt.alloc(), &target(rt.alloc(), 8080)?)?;
-    assert_eq!(rt;
-        text.as_slice(),
-        b"GET /a HTTP/1.1\r\nHost: 10.0.0.1:8080\r\nUser-Agent: netboot\r\nConnection: close\r\n\r\n".as_slice()
-    );
-    Ok(())
+    agree(&rt, rt.alloc(), &rows)
 }

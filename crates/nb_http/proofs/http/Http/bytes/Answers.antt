@@ -1,7 +1,7 @@
 use Rattle.std.proofs.Common.{◌≡◌, ◌++◌, ◌∙◌, List, ℕ, Option, false, ap, sym, subst, take}
 use Rattle.nb_terms.specs.declared.acts.Acts.{Acts}
 use Rattle.nb_terms.specs.declared.cause.Cause.{Cause}
-use Rattle.nb_http.specs.Standing.{Core, Kept, Stands, Takes, is_over}
+use Rattle.nb_http.specs.Standing.{Core, Kept, HasRead, Takes, is_over}
 use Rattle.nb_http.specs.Giving.{TakesSo, range_given}
 use Rattle.nb_http.proofs.StandsLemmas.{range_bytes}
 use Rattle.nb_http.proofs.http.Http.bytes.Goals as goal
@@ -23,7 +23,7 @@ returns-clause-stands c = λ stream given s live.
     subst (λ (k : Core). Takes c.args.rec old k taken (take c.take-taken.result.given bytes ++ take waiting k.chunks.block) over) (sym is) takes.stands in
     let whole : Takes c.args.rec old new taken (range_given bytes c.range_to-give.result ++ take waiting new.chunks.block) over =
     subst (λ (g : List ℕ). Takes c.args.rec old new taken (g ++ take waiting new.chunks.block) over) (sym up) step in
-    whole stream given (subst (λ (k : Core). Stands k stream given) (sym was) s) unended
+    whole stream given (subst (λ (k : Core). HasRead k stream given) (sym was) s) unended
 
 pub returns-clause-sends : goal.returns-clause-sends
 returns-clause-sends c = (ap (λ (a : Acts). a.sends) c.clear.ensures, ap (λ (a : Acts). a.tried) c.clear.ensures, ap (λ (a : Acts). a.advance) c.clear.ensures)
