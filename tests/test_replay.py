@@ -1,6 +1,6 @@
 """Boots by TFTP over good and hostile recordings: the program's whole output, record by record.
 
-What is expected is written from docs/RECORDS.md, RFC 1350 and RFC 826. The built program is run, or,
+What is expected is written from docs/RECORDS.md, RFC 1350, 826, 792 and 9293. The built program is run, or,
 where it isn't fresh, what the toolchain's `rt try` compiles once for all recordings.
 """
 
@@ -19,7 +19,8 @@ from shared.records import Sent, Step, Tick, Try
 from tests import made
 from tests.case import TOP
 from tests.replays import Replayed, can_run, replayed
-from shared.wire import Station, arp_reply, arp_request, ethernet, ipv4, tftp_ack, tftp_data
+from shared.wire import BROADCAST, PROTOCOL_ICMP, PROTOCOL_TCP, Station, arp_reply, arp_request
+from shared.wire import echo, ethernet, ipv4, packet_frame, segment, tftp_ack, tftp_data
 from shared.wire import tftp_error, tftp_request, udp, udp_frame
 
 FETCH = b"imgfetch tftp://10.0.0.1/f"
@@ -29,6 +30,7 @@ OPEN_PLACE = 3
 FOREIGN_PORT = made.SERVER_PORT + 1
 NEIGHBOUR = Station(bytes.fromhex("525400000003"), IPv4Address("10.0.0.3"))
 FULL = bytes(range(256)) * 2
+FIN, SYN, RST, ACK = 1, 2, 4, 16
 UNKNOWN_TRANSFER = tftp_error(5, b"")
 ENDED_WELL = [made.leave(OK), Done(Status.ENDED)]
 
@@ -250,6 +252,62 @@ def frames() -> dict[str, Row]:
     }
 
 
+def ping(to: Station = made.CLIENT, code: int = 0, kind: int = 8) -> bytes:
+    message = echo(kind, 0x1234, 7, b"hello", code)
+    return packet_frame(made.SERVER, to, PROTOCOL_ICMP, message)
+
+
+def stranger(numbers: tuple[int, int], flags: int, body: bytes = b"") -> Record:
+    """A segment to a port that isn't bound."""
+    server, client = made.SERVER, made.CLIENT
+    text = segment(server.ip, client.ip, (1024, 80), numbers, flags, 512, body)
+    return Received(packet_frame(server, client, PROTOCOL_TCP, text))
+
+
+def reset(numbers: tuple[int, int], flags: int) -> list[Record]:
+    server, client = made.SERVER, made.CLIENT
+    text = segment(client.ip, server.ip, (80, 1024), numbers, flags)
+    return [Sent(packet_frame(client, server, PROTOCOL_TCP, text))]
+
+
+def answers() -> dict[str, Row]:
+    pong = packet_frame(made.CLIENT, made.SERVER, PROTOCOL_ICMP, echo(0, 0x1234, 7, b"hello"))
+    everyone = Station(BROADCAST, IPv4Address("255.255.255.255"))
+    other = Station(made.CLIENT.mac, NEIGHBOUR.ip)
+    silent = [
+        Received(ping(other)),
+        Received(ping(everyone)),
+        Received(ping(code=1)),
+        Received(ping(kind=0)),
+        flipped(ping(), 46),
+        stranger((7, 9), RST),
+        stranger((7, 9), RST + ACK),
+    ]
+    reset_so = [
+        (stranger((7, 0), SYN), reset((0, 8), RST + ACK)),
+        (stranger((2**32 - 1, 0), SYN + FIN), reset((0, 1), RST + ACK)),
+        (stranger((7, 0), 0, b"hello"), reset((0, 12), RST + ACK)),
+        (stranger((7, 9), ACK, b"hello"), reset((9, 0), RST)),
+        (stranger((7, 9), SYN + ACK), reset((9, 0), RST)),
+    ]
+    inputs, outputs = zip(*reset_so, strict=True)
+    unset = without_address(unreached("10.0.0.1"))
+    return {
+        "a_ping_is_answered": ends_well(
+            fetches([Received(ping()), data(1, b"a")], [Sent(pong)], took_last(1))
+        ),
+        "not_answered": ends_well(
+            fetches([*silent, data(1, b"a")], *[[]] * len(silent), took_last(1))
+        ),
+        "segments_are_reset": ends_well(
+            fetches([*inputs, data(1, b"a")], *outputs, took_last(1))
+        ),
+        "no_address_no_answer": Row(
+            [*unset.inputs, Received(ping()), stranger((7, 0), SYN)], unset.outputs
+        ),
+    }
+
+
 def two_files() -> Row:
     """An initrd, and a kernel that is booted, from own ports 65535 and 49152."""
     kernel = b"\x7fELF"
@@ -314,7 +372,7 @@ def runs() -> dict[str, Row]:
     }
 
 
-ROWS = {**blocks(), **errors(), **frames(), **runs()}
+ROWS = {**blocks(), **errors(), **frames(), **answers(), **runs()}
 
 # A boot of a kernel of four bytes, cut at each of its bytes.
 SHORT = made.spelled([start(EXEC), made.found(), Tick(250), data(1, b"\x7fELF")])

@@ -1,4 +1,4 @@
-"""Writes frames: Ethernet, ARP (RFC 826), IPv4 (RFC 791), UDP (RFC 768) and TFTP (RFC 1350).
+"""Writes frames: Ethernet, ARP, IPv4, UDP and TFTP (RFC 826, 791, 768, 1350), echoes and segments.
 
 The made examples and the tests build their frames with it; the tools themselves only read.
 """
@@ -106,6 +106,33 @@ def udp_frame(
     datagram = udp(sender.ip, to.ip, ports, body)
     packet = ipv4(sender.ip, to.ip, PROTOCOL_UDP, datagram, identification)
     return ethernet(to.mac, sender.mac, IPV4, packet)
+
+
+def echo(kind: int, identifier: int, number: int, body: bytes, code: int = 0) -> bytes:
+    """An ICMP echo, a request (8) or a reply (0) (RFC 792)."""
+    head, rest = bytes([kind, code]), _numbers(identifier, number) + body
+    return head + checksum(head + b"\0\0" + rest).to_bytes(2, "big") + rest
+
+
+def segment(
+    source: IPv4Address,
+    target: IPv4Address,
+    ports: tuple[int, int],
+    numbers: tuple[int, int],
+    flags: int,
+    window: int = 0,
+    body: bytes = b"",
+) -> bytes:
+    """A TCP segment without options; `numbers` are its sequence number and what it acknowledges."""
+    places = b"".join(number.to_bytes(4, "big") for number in numbers)
+    head = _numbers(*ports) + places + bytes([0x50, flags]) + _numbers(window)
+    rest = b"\0\0" + body
+    pseudo = pseudo_header(source, target, PROTOCOL_TCP, len(head) + 2 + len(rest))
+    return head + checksum(pseudo + head + b"\0\0" + rest).to_bytes(2, "big") + rest
+
+
+def packet_frame(sender: Station, to: Station, protocol: int, body: bytes) -> bytes:
+    return ethernet(to.mac, sender.mac, IPV4, ipv4(sender.ip, to.ip, protocol, body))
 
 
 def tftp_request(path: bytes) -> bytes:

@@ -7,7 +7,7 @@ use Rattle.nb_record.specs.Logged.{Logged, Puts}
 use Rattle.nb_defs.specs.Causes.{is_ok_cause}
 use Rattle.nb_engine.proofs.HonestyLaws.{files_handed_off}
 use Rattle.nb_engine.specs.Machine.{Machine, handed_off, shutdown_records, fresh, nothing}
-use Rattle.nb_engine.specs.StatusNumber.{number_of}
+use Rattle.nb_engine.specs.StatusNumber.{status_number}
 use Rattle.nb_engine.specs.declared.status.Status.{Status}
 use Rattle.nb_engine.specs.declared.status.Status.TheVariants as status
 use Rattle.nb_boot.specs.Run.{Run, Shows, Says, HandsTheirs, IsOver, Ends, was_left, was_handed, was_stopped, ran_out, was_bad, was_full, goes_on, is_over}
@@ -136,7 +136,7 @@ theirs : (before after : Outside) (r : Run before after) → Ends r.machine r.re
 theirs before after r e = λ store honest. files_handed_off store r.ins r.outs r.machine r.path honest (has_handed_off r.machine r.rest after e)
 
 -- what DONE tells is said of a run that is over
-over_says : (s : Status) (before after : Outside) (r : Run before after) → IsClosing s → IsOver before after r (number_of s) → Says s before after r
+over_says : (s : Status) (before after : Outside) (r : Run before after) → IsClosing s → IsOver before after r (status_number s) → Says s before after r
 over_says status.HandedOff before after r e o = (o, theirs before after r o.ends)
 over_says status.Ended before after r e o = o
 over_says status.ScriptFailed before after r e o = o
@@ -151,11 +151,11 @@ over_says status.AttachFault before after r e o = absurd e
 
 -- the run is over, and its whole output was written
 pub over_shows : (s : Status) (ins : List In) (held : List ℕ) (first before now : Outside) (log done_log : Logged) (m : Machine) → IsClosing s →
-    Going ins held first before log m → Puts log done_log (out_texts (closing m (number_of s))) → done_log.is_short ≡ false → Wrote before now done_log.bytes →
-    Ends m held before (number_of s) → Shows s first now
+    Going ins held first before log m → Puts log done_log (out_texts (closing m (status_number s))) → done_log.is_short ≡ false → Wrote before now done_log.bytes →
+    Ends m held before (status_number s) → Shows s first now
 over_shows s ins held first before now log done_log m e r p whole w c =
-    let then = ends_stay m held done_log.bytes before now (number_of s) w c in
-    let run = whole_run ins held first before now log done_log m (number_of s) r p whole w then in
+    let then = ends_stay m held done_log.bytes before now (status_number s) w c in
+    let run = whole_run ins held first before now log done_log m (status_number s) r p whole w then in
     (run, over_says s first now run e (record { ends = then; closed = refl; all = refl }))
 
 -- the run is over, and its last writing met a flaw

@@ -7,7 +7,7 @@ use Rattle.nb_terms.specs.declared.cause.Cause.{Cause}
 use Rattle.nb_retry.specs.declared.retry.Due.{Due}
 use Rattle.nb_retry.specs.declared.retry.Due.TheVariants.{Not, Again, Over}
 use Rattle.nb_retry.specs.declared.plan.Plan.TheVariants.{Common}
-use Rattle.nb_retry.specs.Plans.{asked, firings, waits}
+use Rattle.nb_retry.specs.Plans.{asked_at, firings, waits}
 use Rattle.nb_retry.specs.Calls.{fires}
 use Rattle.nb_tftp.specs.Asks.{Begun, due_acts}
 use Rattle.nb_tftp.specs.History.{Call, came, ticked, Entry, entry, got, watched, due_of, EachEntry}
@@ -31,7 +31,7 @@ each_last P before [] e h = subst (λ z. P z e) (sym (append-nil before)) h.0
 each_last P before (x ∷ es) e h = subst (λ z. P z e) (append_assoc before (x ∷ []) es) (each_last P (before ++ x ∷ []) es e h.1)
 
 -- what was said at the last time
-last_said : (n : ℕ) (c d : Due) → filter (λ call. fires call.said) (asked n c ∷ []) ≡ filter (λ call. fires call.said) (asked n d ∷ []) → c ≡ d
+last_said : (n : ℕ) (c d : Due) → filter (λ call. fires call.said) (asked_at n c ∷ []) ≡ filter (λ call. fires call.said) (asked_at n d ∷ []) → c ≡ d
 last_said n Not Not h = refl
 last_said n Not (Again m) h = absurd (cc)
 last_said n Not Over h = absurd (cc)
@@ -44,13 +44,13 @@ last_said n Over Over h = refl
 
 -- the firings of a watch whose last time was said so
 fired : (b : Begun) (began now : ℕ) (es : List Entry) (a : Acts) → Meets b began (es ++ entry (ticked now) a ∷ []) →
-    filter (λ call. fires call.said) (watched began es).times ++ filter (λ call. fires call.said) (asked now (due_of a) ∷ [])
+    filter (λ call. fires call.said) (watched began es).times ++ filter (λ call. fires call.said) (asked_at now (due_of a) ∷ [])
     ≡ firings (watched began es).since (waits Common) (map (λ call. call.at) (watched began es).times ++ now ∷ [])
 fired b began now es a m =
     let w = watched-append began es (entry (ticked now) a) in
     let t = rw w at m.tries in
-    sym (filter-append (λ call. fires call.said) (watched began es).times (asked now (due_of a) ∷ [])) ∙ t
-    ∙ ap (firings (watched began es).since (waits Common)) (map-append (λ call. call.at) (watched began es).times (asked now (due_of a) ∷ []))
+    sym (filter-append (λ call. fires call.said) (watched began es).times (asked_at now (due_of a) ∷ [])) ∙ t
+    ∙ ap (firings (watched began es).since (waits Common)) (map-append (λ call. call.at) (watched began es).times (asked_at now (due_of a) ∷ []))
 
 -- the promises of a transfer leave it one answer
 one_answer : (b : Begun) (began : ℕ) (es : List Entry) (call : Call) (a c : Acts) → Meets b began (es ++ entry call a ∷ []) → Meets b began (es ++ entry call c ∷ []) → a ≡ c

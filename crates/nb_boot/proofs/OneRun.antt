@@ -1,9 +1,9 @@
 -- There is at most one run of the machine on a record that comes to rest.
 use Rattle.std.proofs.Common.{◌≡◌, ℕ, ◌+◌, true, false, Bool, ◌⊎◌, inl, inr, List, [], ◌∷◌, ◌++◌, length, Option, Some, None, refl, sym, ◌∙◌, ap, subst, arith, append_assoc, append-nil, length-append}
 use Rattle.nb_defs.specs.Causes.{ok, not_script}
-use Rattle.nb_defs.specs.Commands.{Outcome}
+use Rattle.nb_defs.specs.Commands.{CommandOutcome}
 use Rattle.nb_defs.specs.Records.{Start, In, start, frame, tick, off, Out, step, enter, leave, ended}
-use Rattle.nb_defs.specs.ScriptText.{is_plain, words}
+use Rattle.nb_defs.specs.ScriptText.{is_plain, line_words}
 use Rattle.nb_engine.specs.declared.world.World.{World}
 use Rattle.nb_engine.specs.World.{world_of, with_open}
 use Rattle.nb_engine.specs.Effects.{Wanted, Effect, says, asks, effect}
@@ -21,7 +21,7 @@ abbrev reached : List Out → Machine → Reached
 reached records machine = record { records = records; machine = machine }
 
 -- what a run does next, as a function
-abbrev outcome_move : ℕ → World → Running → List (List ℕ) → Outcome → Bool → Reached
+abbrev outcome_move : ℕ → World → Running → List (List ℕ) → CommandOutcome → Bool → Reached
 outcome_move n w s ws o true = reached (command_records s ws o ++ (leave s.depth o.cause ∷ [])) (at n (left o.cause))
 outcome_move n w s ws o false = reached (command_records s ws o) (at n (running w (further s o.cause)))
 
@@ -42,7 +42,7 @@ words_move n w s (c ∷ cs) = effect_move n w s (c ∷ cs) (effect w.opens (c �
 
 abbrev line_move : ℕ → World → Running → Option (List ℕ) → Reached
 line_move n w s None = reached (leave s.depth ok ∷ []) (at n (left ok))
-line_move n w s (Some line) = words_move n w s (words line)
+line_move n w s (Some line) = words_move n w s (line_words line)
 
 abbrev hand_move : ℕ → List Out → Reached
 hand_move n [] = reached [] (at n handed_off)

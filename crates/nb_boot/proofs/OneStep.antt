@@ -5,7 +5,7 @@ use Rattle.nb_stack.specs.Client.{Client}
 use Rattle.nb_stack.specs.Takes.{Outcome, Takes}
 use Rattle.nb_defs.specs.Records.{In, start, frame, tick, off, Out, step, ended}
 use Rattle.nb_engine.specs.declared.world.World.{World}
-use Rattle.nb_engine.specs.World.{with_net, later}
+use Rattle.nb_engine.specs.World.{with_net, world_later}
 use Rattle.nb_engine.specs.Opens.{Open, heard_from}
 use Rattle.nb_engine.specs.Machine.{Machine, Running, Phase, ready, running, waiting, handing, left, handed_off, stopped, at, Begins, runs, refuses, passes_by, brings, passes_time, switches_off, Hears, reply_records, stopped_cause}
 use Rattle.nb_boot.specs.Run.{Awaits}
@@ -24,7 +24,7 @@ data Waits (n : ℕ) (w : World) (s : Running) (o : Open) (r : In) (a : List Out
       Takes w.net bytes seen [] reply net → heard_from o.begun.server seen ≡ Some (port, body) →
       Hears (with_net w net) s o (came (record { rec = n + 1; port = port; body = body }) w.time) added phase →
       a ≡ step (n + 1) ∷ added → m ≡ at (n + 1) phase → Waits n w s o r a m
-  was_ticked : (ms : ℕ) (added : List Out) (phase : Phase) → r ≡ tick ms → Hears (later w ms) s o (ticked (w.time + ms)) added phase →
+  was_ticked : (ms : ℕ) (added : List Out) (phase : Phase) → r ≡ tick ms → Hears (world_later w ms) s o (ticked (w.time + ms)) added phase →
       a ≡ step (n + 1) ∷ added → m ≡ at (n + 1) phase → Waits n w s o r a m
   was_off : r ≡ off → a ≡ step (n + 1) ∷ ended o.number stopped_cause ∷ [] → m ≡ at (n + 1) stopped → Waits n w s o r a m
 
@@ -57,9 +57,9 @@ waits_by m r a m' (passes_time k v i x ms added phase valid g) n w s o e =
     let ei : i ≡ s = cc in
     let ex : x ≡ o = cc in
     was_ticked ms added phase refl
-    (subst (λ y. Hears (later y ms) s o (ticked (y.time + ms)) added phase) ev
-    (subst (λ y. Hears (later v ms) y o (ticked (v.time + ms)) added phase) ei
-    (subst (λ y. Hears (later v ms) i y (ticked (v.time + ms)) added phase) ex g)))
+    (subst (λ y. Hears (world_later y ms) s o (ticked (y.time + ms)) added phase) ev
+    (subst (λ y. Hears (world_later v ms) y o (ticked (v.time + ms)) added phase) ei
+    (subst (λ y. Hears (world_later v ms) i y (ticked (v.time + ms)) added phase) ex g)))
     (ap (λ y. step (y + 1) ∷ added) ek) (ap (λ y. at (y + 1) phase) ek)
 waits_by m r a m' (switches_off k v i x) n w s o e =
     let ek : k ≡ n = ap (λ (y : Machine). y.used) e in
@@ -131,7 +131,7 @@ waits_one n w s o r a b m m' (was_ticked ms added phase er hr ea em) (was_passed
 waits_one n w s o r a b m m' (was_ticked ms added phase er hr ea em) (was_brought y reply' seen' net' port' body' added' phase' fr u g hs eb en) = absurd (let z : tick ms ≡ frame y = sym er ∙ fr in cc)
 waits_one n w s o r a b m m' (was_ticked ms added phase er hr ea em) (was_ticked ms' added' phase' fr hs eb en) =
     let e = same_time r ms' ms fr er in
-    heard_one n (later w ms) s o (ticked (w.time + ms)) a b added added' m m' phase phase' hr (subst (λ v. Hears (later w v) s o (ticked (w.time + v)) added' phase') e hs) ea em eb en
+    heard_one n (world_later w ms) s o (ticked (w.time + ms)) a b added added' m m' phase phase' hr (subst (λ v. Hears (world_later w v) s o (ticked (w.time + v)) added' phase') e hs) ea em eb en
 waits_one n w s o r a b m m' (was_ticked ms added phase er hr ea em) (was_off fr eb en) = absurd (let z : tick ms ≡ off = sym er ∙ fr in cc)
 waits_one n w s o r a b m m' (was_off er ea em) (was_passed y reply' seen' net' fr u g eb en) = absurd (let z : off ≡ frame y = sym er ∙ fr in cc)
 waits_one n w s o r a b m m' (was_off er ea em) (was_brought y reply' seen' net' port' body' added' phase' fr u g hs eb en) = absurd (let z : off ≡ frame y = sym er ∙ fr in cc)

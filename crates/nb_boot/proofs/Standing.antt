@@ -6,7 +6,7 @@ use Rattle.nb_record.specs.Logged.{Logged}
 use Rattle.nb_laws.proofs.Counts.{path_counts}
 use Rattle.nb_engine.specs.Machine.{Machine, shutdown_records, stopped_cause}
 use Rattle.nb_engine.specs.Seen.{Seen, StandsFor, as_ready, as_running, as_waiting, as_handing, as_left, as_handed_off, as_stopped}
-use Rattle.nb_engine.specs.StatusNumber.{number_of}
+use Rattle.nb_engine.specs.StatusNumber.{status_number}
 use Rattle.nb_engine.specs.Turns.{IsEnd, IsWaiting, IsOverWith, MayUse, closing_records}
 use Rattle.nb_engine.specs.declared.stage.Stage.{Stage}
 use Rattle.nb_engine.specs.declared.status.Status.{Status}
@@ -59,14 +59,14 @@ stands_bad c m rest o (as_handed_off n w) h b = absurd h
 stands_bad c m rest o (as_stopped n w) h b = absurd h
 
 -- a client whose run is over stands for a machine whose run is
-pub over_ends : (s : Status) (c : Seen) (m : Machine) (rest : List ℕ) (o : Outside) → StandsFor c m → IsOverWith c.stage s → Ends m rest o (number_of s)
+pub over_ends : (s : Status) (c : Seen) (m : Machine) (rest : List ℕ) (o : Outside) → StandsFor c m → IsOverWith c.stage s → Ends m rest o (status_number s)
 over_ends s c m rest o (as_ready n w) h = absurd h
 over_ends s c m rest o (as_running n w r) h = absurd h
 over_ends s c m rest o (as_waiting n w r f op live) h = absurd h
 over_ends s c m rest o (as_handing n w x left1 e) h = absurd h
 over_ends s c m rest o (as_left n w cause) h = was_left cause refl h
-over_ends s c m rest o (as_handed_off n w) h = was_handed refl (ap number_of h)
-over_ends s c m rest o (as_stopped n w) h = was_stopped refl (ap number_of h)
+over_ends s c m rest o (as_handed_off n w) h = was_handed refl (ap status_number h)
+over_ends s c m rest o (as_stopped n w) h = was_stopped refl (ap status_number h)
 
 -- DONE tells the end of a client
 pub end_closes : (s : Status) → IsEnd s → IsClosing s

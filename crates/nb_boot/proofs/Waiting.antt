@@ -4,7 +4,7 @@ use Rattle.nb_defs.specs.Records.{IsPartial, IsBroken}
 use Rattle.nb_record.specs.Outside.{Outside, IsAtEnd}
 use Rattle.nb_record.specs.Logged.{Logged}
 use Rattle.nb_engine.specs.Seen.{Seen}
-use Rattle.nb_engine.specs.StatusNumber.{number_of}
+use Rattle.nb_engine.specs.StatusNumber.{status_number}
 use Rattle.nb_engine.specs.Turns.{IsWaiting}
 use Rattle.nb_engine.specs.declared.status.Status.{Status}
 use Rattle.nb_boot.specs.Run.{IsFirst, BeginsWith, Ends, ran_out, was_bad, was_full}
@@ -31,7 +31,7 @@ waits_full held first now log c w h some =
 
 -- the input ended
 pub waits_end : (s : Status) (n : ℕ) (held : List ℕ) (first now : Outside) (log : Logged) (c : Seen) (w : Waits n held first now log c) → IsWaiting c.stage →
-    c.used < 4294967295 → IsPartial held → IsAtEnd now → IsEndStatus s held → Ends w.goes.machine held now (number_of s)
+    c.used < 4294967295 → IsPartial held → IsAtEnd now → IsEndStatus s held → Ends w.goes.machine held now (status_number s)
 waits_end s n [] first now log c w h few partial end e = rw e (waits_out n [] first now log c w h refl end)
 waits_end s n (b ∷ bytes) first now log c w h few partial end e =
     rw e (waits_bad n (b ∷ bytes) first now log c w h few (inr (inr (partial, omega arith, end))))

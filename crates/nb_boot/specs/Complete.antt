@@ -4,7 +4,7 @@ use Rattle.nb_defs.specs.Records.{Start, In, start, IsIn, in_texts, Out}
 use Rattle.nb_record.specs.Outside.{Outside, Rose}
 use Rattle.nb_boot.specs.Run.{IsOther}
 use Rattle.nb_engine.specs.Machine.{Machine, Phase, ready, running, waiting, handing, left, handed_off, stopped, Path, status_of}
-use Rattle.nb_engine.specs.StatusNumber.{number_of}
+use Rattle.nb_engine.specs.StatusNumber.{status_number}
 use Rattle.nb_engine.specs.declared.status.Status.{Status}
 use Rattle.nb_engine.specs.declared.status.Status.TheVariants as status
 
@@ -61,4 +61,4 @@ SaysStatus stopped more number = number ≡ 5
 abbrev pub CompletesRun : Status → Outside → Outside → Type 0
 CompletesRun result before after = (ins : List In) (more : List ℕ) (outs : List Out) (m : Machine) (number : ℕ) → length ins ≤ 4294967295 →
     before.left ≡ Some (in_texts ins ++ more) → Path ins outs m → SaysStatus m.phase more number →
-    IsSome after.left → NoneRose before after → (result ≡ status.NoMemory → ⊥) → number_of result ≡ number
+    IsSome after.left → NoneRose before after → (result ≡ status.NoMemory → ⊥) → status_number result ≡ number

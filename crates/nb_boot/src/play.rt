@@ -2,7 +2,7 @@ ghost use Rattle.std.specs.Prelude.{◌≡◌, ◌<◌, ◌-◌, ◌^◌, ℕ, L
 ghost use Rattle.nb_defs.specs.Records.{In, IsIn};
 ghost use Rattle.nb_record.specs.Outside.{Outside};
 ghost use Rattle.nb_record.specs.View.{in_of};
-ghost use Rattle.nb_engine.specs.StatusNumber.{number_of};
+ghost use Rattle.nb_engine.specs.StatusNumber.{status_number};
 ghost use Rattle.nb_engine.specs.Machine.{Machine};
 ghost use Rattle.nb_engine.specs.Seen.{StandsFor};
 ghost use Rattle.nb_engine.specs.Turns.{IsBusy, MayUse};
@@ -75,7 +75,7 @@ fn take<L: Line>(client: &mut Client, entry: &InRec<'_>, log: &mut Log, line: &m
 pub fn finish<L: Line>(client: &mut Client, status: Status, log: &mut Log, line: &mut L) -> Status
     requires { IsClosing status }
     ensures { (ins : List In) (rest : List ℕ) (first : Outside) (m : Machine) → StandsFor client.old m
-        → Going ins rest first (L.outside line.old) log.old m → Ends m rest (L.outside line.old) (number_of status)
+        → Going ins rest first (L.outside line.old) log.old m → Ends m rest (L.outside line.old) (status_number status)
         → Shows result first (L.outside line.new) }
 {
     client.finish(status, log);

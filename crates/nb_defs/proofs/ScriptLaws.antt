@@ -5,8 +5,8 @@ use Rattle.std.specs.List.{list_all, prefix_len}
 use Rattle.std.proofs.lemmas.List.Sums.{sum_by-take-le, sum_by-cons}
 use Rattle.std.proofs.lemmas.List.Filters.{sum_by-filter_both}
 use Rattle.std.proofs.lemmas.Bool.Decides.{nat_tests}
-use Rattle.nb_defs.specs.ScriptText.{is_line_feed, is_blank, pieces, onto_first, without_cr, line_contents, lines, all_words, words, is_some_byte, is_before_comment, is_joined, ends_in_backslash, is_plain, begins_script, is_short_line, is_plain_line}
-use Rattle.nb_defs.specs.ScriptLines.{joined_onto, line_before, joined_contents, joined_lines, line_of, script_lines, reading, script}
+use Rattle.nb_defs.specs.ScriptText.{is_line_feed, is_blank, pieces, onto_first, without_cr, line_contents, lines, all_words, line_words, is_some_byte, is_before_comment, is_joined, ends_in_backslash, is_plain, begins_script, is_short_line, is_plain_line}
+use Rattle.nb_defs.specs.ScriptLines.{joined_onto, line_before, joined_contents, joined_lines, script_line, script_lines, script_reading, script}
 
 length_onto : (front : List ℕ) (behind : List (List ℕ)) → length (joined_onto front behind) ≡ length behind + 1
 length_onto front [] = refl
@@ -66,8 +66,8 @@ not_true true h = cc
 not_true false h = refl
 
 -- a plain text that isn't too long is a script, of the same lines
-pub plain_reads : (text : List ℕ) → is_plain text ≡ true → length text ≤ 1048576 → reading text ≡ script (map line_of (lines text))
-unfolding reading script_lines is_plain
+pub plain_reads : (text : List ℕ) → is_plain text ≡ true → length text ≤ 1048576 → script_reading text ≡ script (map script_line (lines text))
+unfolding script_reading script_lines is_plain
 plain_reads text plain fits =
     let begun = begins_script (pieces is_line_feed text) in
     let whole = not (is_joined (pieces is_line_feed text)) in
@@ -97,9 +97,9 @@ filter_small : (p : List ℕ → Bool) (ws : List (List ℕ)) → sum_by length 
 filter_small p ws = omega (arith, sum_by-filter_both p (λ w. not (p w)) (λ w. refl) length ws)
 
 -- a line's words have no more bytes than the line
-pub words_small : (line : List ℕ) → sum_by length (words line) ≤ length line
-unfolding words all_words
+pub words_small : (line : List ℕ) → sum_by length (line_words line) ≤ length line
+unfolding line_words all_words
 words_small line =
     let all = filter is_some_byte (pieces is_blank line) in
-    let front : sum_by length (words line) ≤ sum_by length all = sum_by-take-le length all (prefix_len is_before_comment all) in
+    let front : sum_by length (line_words line) ≤ sum_by length all = sum_by-take-le length all (prefix_len is_before_comment all) in
     omega (arith, front, filter_small is_some_byte (pieces is_blank line), pieces_small is_blank line)

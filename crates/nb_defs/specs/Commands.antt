@@ -7,16 +7,16 @@ use Rattle.nb_terms.specs.declared.cause.Cause.{Cause}
 use Rattle.nb_defs.specs.Causes.{ok, unknown, usage, exit_cause}
 
 -- what a command comes to: what it prints, its result, and whether it leaves the script in any case
-pub record Outcome : Type 0 where
+pub record CommandOutcome : Type 0 where
   pub prints : Option (List ℕ)
   pub cause : Cause
   pub leaves : Bool
 
-abbrev pub refused : Cause → Outcome
+abbrev pub refused : Cause → CommandOutcome
 refused cause = record { prints = None; cause = cause; leaves = false }
 
-abbrev pub printed : List ℕ → Outcome
-printed bytes = record { prints = Some bytes; cause = ok; leaves = false }
+abbrev pub prints_text : List ℕ → CommandOutcome
+prints_text bytes = record { prints = Some bytes; cause = ok; leaves = false }
 
 -- the value of digits in this base
 abbrev pub digits_value : ℕ → List ℕ → ℕ
@@ -46,27 +46,27 @@ begins_with_option [] = false
 begins_with_option (w ∷ ws) = bytes_eq w (codes "-n") || is_option w
 
 -- `echo [-n] [text]`: the words joined by one space, and a line feed unless `-n`
-unfoldable pub echo : List (List ℕ) → Outcome
-echo [] = printed (10 ∷ [])
+unfoldable pub echo : List (List ℕ) → CommandOutcome
+echo [] = prints_text (10 ∷ [])
 echo (w ∷ ws) =
-    if bytes_eq w (codes "-n") then (if begins_with_option ws then refused usage else printed (join_with_byte 32 ws))
+    if bytes_eq w (codes "-n") then (if begins_with_option ws then refused usage else prints_text (join_with_byte 32 ws))
     else if is_option w then refused usage
-    else printed (join_with_byte 32 (w ∷ ws) ++ (10 ∷ []))
+    else prints_text (join_with_byte 32 (w ∷ ws) ++ (10 ∷ []))
 
-abbrev pub exit_with : Option ℕ → Outcome
+abbrev pub exit_with : Option ℕ → CommandOutcome
 exit_with None = refused usage
 exit_with (Some n) = if nat_le n 255 then record { prints = None; cause = exit_cause n; leaves = true } else refused usage
 
 -- `exit [n]`: leaves the script, with Ok where n is 0 or absent; n is 0 to 255
-unfoldable pub exit : List (List ℕ) → Outcome
+unfoldable pub exit : List (List ℕ) → CommandOutcome
 exit [] = exit_with (Some 0)
 exit (w ∷ []) = exit_with (number_of w)
 exit (w ∷ v ∷ ws) = refused usage
 
 -- what a command does, by its name
-unfoldable pub outcome : List (List ℕ) → Outcome
-outcome [] = refused ok
-outcome (name ∷ args) =
+unfoldable pub command_outcome : List (List ℕ) → CommandOutcome
+command_outcome [] = refused ok
+command_outcome (name ∷ args) =
     if bytes_eq name (codes "echo") then echo args
     else if bytes_eq name (codes "exit") then exit args
     else refused unknown

@@ -3,7 +3,7 @@
 use Rattle.std.specs.Prelude.{◌≡◌, ℕ, ◌+◌, ◌-◌, ◌≤◌, Bool, true, false, not, ◌&&◌, ◌==◌, nat_lt, nat_le, List, [], ◌∷◌, ◌++◌, length, take, drop, map, count_by, sum_by, position, slice_get, All, IfSome, Option, Some, None, if◌then◌else◌, codes}
 use Rattle.std.specs.List.{list_all, position_or_len, suffix_len}
 use Rattle.std.specs.Str.{bytes_eq}
-use Rattle.nb_defs.specs.ScriptText.{is_line_feed, is_blank, pieces, without_cr, ends_in_backslash, begins_script, is_short_line, words, is_label, is_join}
+use Rattle.nb_defs.specs.ScriptText.{is_line_feed, is_blank, pieces, without_cr, ends_in_backslash, begins_script, is_short_line, line_words, is_label, is_join}
 
 -- What stands on a line: a label with its name, a list of commands as it is written, or nothing.
 pub data Line : Type 0 where
@@ -52,16 +52,16 @@ is_nothing [] = true
 is_nothing (b ∷ bytes) = b == 35
 
 -- what a line is, its blanks at both ends dropped
-unfoldable pub kind_of : List ℕ → Line
-kind_of line = if is_nothing line then empty else if is_label line then label (drop 1 line) else list line
+unfoldable pub line_kind : List ℕ → Line
+line_kind line = if is_nothing line then empty else if is_label line then label (drop 1 line) else list line
 
 -- what stands on a line
-unfoldable pub line_of : List ℕ → Line
-line_of line = kind_of (trimmed line)
+unfoldable pub script_line : List ℕ → Line
+script_line line = line_kind (trimmed line)
 
 -- the lines of a text as numbered
 unfoldable pub script_lines : List ℕ → List Line
-script_lines text = map line_of (joined_lines text)
+script_lines text = map script_line (joined_lines text)
 
 -- What a text is: a script with these lines, or none and why.
 pub data Reading : Type 0 where
@@ -73,8 +73,8 @@ pub data Reading : Type 0 where
   -- a line has more than 4,096 bytes after joining, its blanks and comments included
   line_too_long : Reading
 
-unfoldable pub reading : List ℕ → Reading
-reading text =
+unfoldable pub script_reading : List ℕ → Reading
+script_reading text =
     if not (begins_script (pieces is_line_feed text)) then no_script
     else if nat_lt 1048576 (length text) then script_too_long
     else if not (list_all is_short_line (joined_lines text)) then line_too_long
@@ -162,4 +162,4 @@ are_few ws = nat_le (count_by is_no_join ws) 64 && nat_le (count_by is_join ws) 
 
 -- the commands of a list, its comment dropped; None where it has too many words or joins
 unfoldable pub items : List ℕ → Option (List Item)
-items line = if are_few (words line) then Some (cut_words first_join (words line)) else None
+items line = if are_few (line_words line) then Some (cut_words first_join (line_words line)) else None

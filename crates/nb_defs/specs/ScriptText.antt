@@ -49,8 +49,8 @@ abbrev pub is_before_comment : List ℕ → Bool
 is_before_comment word = not (starts_with nat_eq word (codes "#"))
 
 -- the words of a line; a line without words is nothing
-unfoldable pub words : List ℕ → List (List ℕ)
-words line = take_while is_before_comment (all_words line)
+unfoldable pub line_words : List ℕ → List (List ℕ)
+line_words line = take_while is_before_comment (all_words line)
 
 -- a colon and a name, alone on the line
 abbrev pub is_label_word : List (List ℕ) → Bool
@@ -92,7 +92,7 @@ begins_script (p ∷ ps) = is_first_line p
 
 -- a line that runs today: one command or nothing, its comment aside
 unfoldable pub is_plain_line : List ℕ → Bool
-is_plain_line line = not (has_expansion line) && not (is_label line) && nat_le (length (words line)) 64 && not (list_any is_join (words line))
+is_plain_line line = not (has_expansion line) && not (is_label line) && nat_le (length (line_words line)) 64 && not (list_any is_join (line_words line))
 
 abbrev pub is_short_line : List ℕ → Bool
 is_short_line line = nat_le (length line) 4096

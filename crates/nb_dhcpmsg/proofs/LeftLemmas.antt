@@ -4,7 +4,7 @@ use Rattle.nb_dhcpmsg.specs.declared.cursor.Cursor.{Cursor}
 use Rattle.nb_dhcpmsg.specs.declared.cursor.Next.{Next}
 use Rattle.nb_dhcpmsg.specs.declared.cursor.Next.TheVariants as next
 use Rattle.nb_dhcpmsg.specs.Options.{TagValue, AreOptions, none_left}
-use Rattle.nb_dhcpmsg.specs.Lefts.{parts_of_option, IsLeft, Leads, IsNext, IsTaken, Walks}
+use Rattle.nb_dhcpmsg.specs.Lefts.{parts_of_option, IsLeft, LeadsToOption, IsNextOption, IsTaken, Walks}
 use Rattle.nb_dhcpmsg.proofs.OptionLemmas.{options_one, nothing_none}
 
 -- the first field holds no option, and the others follow
@@ -41,7 +41,7 @@ shift_forth a s os m h =
     }
 
 -- what comes next after the shift comes next before it
-pub before_shift : (a s b : Cursor) (n : Next) → Shifted a s → IsNext n s b → IsNext n a b
+pub before_shift : (a s b : Cursor) (n : Next) → Shifted a s → IsNextOption n s b → IsNextOption n a b
 before_shift a s b next.End m h = shift_back a s [] m h
 before_shift a s b next.Broken m h = λ os left. h os (shift_forth a s os m left)
 before_shift a s b (next.Option o) m h = record {
@@ -56,7 +56,7 @@ before_shift a s b (next.Option o) m h = record {
 }
 
 -- an option taken, or none
-pub taken_next : (a b : Cursor) (n : Next) → IsTaken n a b → (n ≡ next.End → (a.second.now ≡ []) × (a.third.now ≡ [])) → IsNext n a b
+pub taken_next : (a b : Cursor) (n : Next) → IsTaken n a b → (n ≡ next.End → (a.second.now ≡ []) × (a.third.now ≡ [])) → IsNextOption n a b
 taken_next a b next.End h ends =
     let e = ends refl in
     record {
@@ -101,7 +101,7 @@ taken_next a b (next.Option o) (p, second, third) ends = record {
 }
 
 -- one option further
-pub walks_on : (before : List TagValue) (start a b : Cursor) (o : TagValue) → Walks before start a → Leads o a b → Walks (before ++ o ∷ []) start b
+pub walks_on : (before : List TagValue) (start a b : Cursor) (o : TagValue) → Walks before start a → LeadsToOption o a b → Walks (before ++ o ∷ []) start b
 walks_on before start a b o w l = record {
   back = λ os left. subst (λ z. IsLeft start z) (sym (append_assoc before (o ∷ []) os)) (w.back (o ∷ os) (l.back os left));
   forth = λ os left.

@@ -2,7 +2,7 @@
 use Rattle.std.proofs.Common.{◌≡◌, ℕ, zero, suc, ◌+◌, ◌<◌, ◌≤◌, List, [], ◌∷◌, ◌++◌, length, take, drop, refl, sym, ◌∙◌, ap, subst, arith, length-take-le, cond, append-nil, eq-eqb, ne_eqb, Bool, true, false, ◌&&◌, ◌||◌, ◌==◌, length-append}
 use Rattle.std.proofs.lemmas.List.{take-append-drop}
 use Rattle.std.proofs.lemmas.List.Concat.{flat_map-append}
-use Rattle.nb_dhcpmsg.specs.Options.{TagValue, tag_value, AreOptions, none_left, end_mark, padding, option, SameOptions, joined, value_of, is_there}
+use Rattle.nb_dhcpmsg.specs.Options.{TagValue, tag_value, AreOptions, none_left, end_mark, padding, option, SameOptions, joined, value_of_option, is_there}
 use Rattle.nb_dhcpmsg.specs.Messages.{is_value}
 use Rattle.std.proofs.lemmas.List.Folds.{list_any-append}
 use Rattle.std.proofs.lemmas.Bool.{lt-leb, le-leb}
@@ -46,15 +46,15 @@ half_broken tag os pos small (end_mark _ more e) = let z : tag ≡ 255 = ap head
 half_broken tag os pos small (padding _ more os2 e h) = let z : tag ≡ 0 = ap head e in omega (arith, z, pos)
 half_broken tag os pos small (option _ t value more os2 e p s h) = let z : 0 ≡ length (length value ∷ (value ++ more)) = ap (λ x. length (tail x)) e in absurd cc
 
-taken : (value rest : List ℕ) → take (length value) (value ++ rest) ≡ value
+pub taken : (value rest : List ℕ) → take (length value) (value ++ rest) ≡ value
 taken [] rest = refl
 taken (x ∷ xs) rest = ap (λ z. x ∷ z) (taken xs rest)
 
-dropped : (value rest : List ℕ) → drop (length value) (value ++ rest) ≡ rest
+pub dropped : (value rest : List ℕ) → drop (length value) (value ++ rest) ≡ rest
 dropped [] rest = refl
 dropped (x ∷ xs) rest = dropped xs rest
 
-long : (value rest : List ℕ) → length value ≤ length (value ++ rest)
+pub long : (value rest : List ℕ) → length value ≤ length (value ++ rest)
 long [] rest = omega arith
 long (x ∷ xs) rest = let h = long xs rest in omega (arith, h)
 
@@ -113,13 +113,13 @@ options_one bytes os ps (option _ tag value rest os2 e pos small a) b =
 pub pad_gone : (bytes : List ℕ) (x : ℕ) (rest : List ℕ) → bytes ≡ x ∷ rest → x ≡ 0 → SameOptions bytes rest
 pad_gone bytes x rest e zero_is = subst (λ z. SameOptions z rest) (sym (e ∙ ap (λ z. z ∷ rest) zero_is)) (same_padded rest)
 
-pub joined_more : (tag : ℕ) (before : List TagValue) (o : TagValue) → joined tag (before ++ o ∷ []) ≡ joined tag before ++ value_of tag o
-joined_more tag before o = flat_map-append (value_of tag) before (o ∷ []) ∙ ap (λ z. joined tag before ++ z) (append-nil (value_of tag o))
+pub joined_more : (tag : ℕ) (before : List TagValue) (o : TagValue) → joined tag (before ++ o ∷ []) ≡ joined tag before ++ value_of_option tag o
+joined_more tag before o = flat_map-append (value_of_option tag) before (o ∷ []) ∙ ap (λ z. joined tag before ++ z) (append-nil (value_of_option tag o))
 
-pub its_value : (tag : ℕ) (o : TagValue) → o.tag ≡ tag → value_of tag o ≡ o.value
+pub its_value : (tag : ℕ) (o : TagValue) → o.tag ≡ tag → value_of_option tag o ≡ o.value
 its_value tag o e = ap (λ b. cond b o.value []) (eq-eqb o.tag tag e)
 
-pub no_value : (tag : ℕ) (o : TagValue) → (o.tag ≡ tag → ⊥) → value_of tag o ≡ []
+pub no_value : (tag : ℕ) (o : TagValue) → (o.tag ≡ tag → ⊥) → value_of_option tag o ≡ []
 no_value tag o e = ap (λ b. cond b o.value []) (ne_eqb o.tag tag e)
 
 or_true : (b : Bool) → (b || (true || false)) ≡ true
@@ -153,10 +153,10 @@ is_there_more tag before o e =
 -- a value that doesn't fit any more
 pub too_long : (tag : ℕ) (before more : List TagValue) (o : TagValue) → o.tag ≡ tag → 1024 < length (joined tag before) + length o.value → is_value tag (before ++ (o ∷ more)) ≡ false
 too_long tag before more o is long =
-    let whole : joined tag (before ++ (o ∷ more)) ≡ joined tag before ++ (value_of tag o ++ joined tag more) = flat_map-append (value_of tag) before (o ∷ more) in
-    let value : length (value_of tag o) ≡ length o.value = ap length (its_value tag o is) in
-    let size : length (joined tag (before ++ (o ∷ more))) ≡ length (joined tag before) + (length (value_of tag o) + length (joined tag more)) =
-    ap length whole ∙ length-append (joined tag before) (value_of tag o ++ joined tag more) ∙ ap (λ z. length (joined tag before) + z) (length-append (value_of tag o) (joined tag more)) in
+    let whole : joined tag (before ++ (o ∷ more)) ≡ joined tag before ++ (value_of_option tag o ++ joined tag more) = flat_map-append (value_of_option tag) before (o ∷ more) in
+    let value : length (value_of_option tag o) ≡ length o.value = ap length (its_value tag o is) in
+    let size : length (joined tag (before ++ (o ∷ more))) ≡ length (joined tag before) + (length (value_of_option tag o) + length (joined tag more)) =
+    ap length whole ∙ length-append (joined tag before) (value_of_option tag o ++ joined tag more) ∙ ap (λ z. length (joined tag before) + z) (length-append (value_of_option tag o) (joined tag more)) in
     ap (λ b. is_there tag (before ++ (o ∷ more)) && b) (lt-leb (length (joined tag (before ++ (o ∷ more)))) 1024 (omega (arith, size, value, long)))
     ∙ and_false (is_there tag (before ++ (o ∷ more)))
 

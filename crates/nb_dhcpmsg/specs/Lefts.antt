@@ -20,12 +20,12 @@ parts_of_option o = tag_value o.tag o.value.now
 pub record Precedes (o : TagValue) (rest bytes : List ℕ) : Type 0 where
   pub back : (os : List TagValue) → AreOptions rest os → AreOptions bytes (o ∷ os)
   pub forth : (os : List TagValue) → AreOptions bytes os → (more : List TagValue) × (os ≡ o ∷ more) × AreOptions rest more
-  pub less : length rest < length bytes
+  pub less : length o.value + length rest < length bytes
 
-abbrev pub IsFirst : First → List ℕ → Type 0
-IsFirst first.End bytes = AreOptions bytes []
-IsFirst first.Broken bytes = (os : List TagValue) → AreOptions bytes os → ⊥
-IsFirst (first.Option o rest) bytes = Precedes (parts_of_option o) rest.now bytes
+abbrev pub IsFirstOption : First → List ℕ → Type 0
+IsFirstOption first.End bytes = AreOptions bytes []
+IsFirstOption first.Broken bytes = (os : List TagValue) → AreOptions bytes os → ⊥
+IsFirstOption (first.Option o rest) bytes = Precedes (parts_of_option o) rest.now bytes
 
 pub record IsLeft (c : Cursor) (os : List TagValue) : Type 0 where
   pub first : List TagValue
@@ -40,15 +40,15 @@ abbrev pub left_bytes : Cursor → ℕ
 left_bytes c = length c.field.now + (length c.second.now + length c.third.now)
 
 -- the options are those of this cursor with this one before them
-pub record Leads (o : TagValue) (a b : Cursor) : Type 0 where
+pub record LeadsToOption (o : TagValue) (a b : Cursor) : Type 0 where
   pub back : (os : List TagValue) → IsLeft b os → IsLeft a (o ∷ os)
   pub forth : (os : List TagValue) → IsLeft a os → (more : List TagValue) × (os ≡ o ∷ more) × IsLeft b more
-  pub less : left_bytes b < left_bytes a
+  pub less : length o.value + left_bytes b < left_bytes a
 
-abbrev pub IsNext : Next → Cursor → Cursor → Type 0
-IsNext next.End a b = IsLeft a []
-IsNext next.Broken a b = (os : List TagValue) → IsLeft a os → ⊥
-IsNext (next.Option o) a b = Leads (parts_of_option o) a b
+abbrev pub IsNextOption : Next → Cursor → Cursor → Type 0
+IsNextOption next.End a b = IsLeft a []
+IsNextOption next.Broken a b = (os : List TagValue) → IsLeft a os → ⊥
+IsNextOption (next.Option o) a b = LeadsToOption (parts_of_option o) a b
 
 abbrev pub IsTaken : Next → Cursor → Cursor → Type 0
 IsTaken next.End a b = AreOptions a.field.now [] × (b ≡ a)
@@ -56,7 +56,7 @@ IsTaken next.Broken a b = (os : List TagValue) → AreOptions a.field.now os →
 IsTaken (next.Option o) a b = Precedes (parts_of_option o) b.field.now a.field.now × (b.second.now ≡ a.second.now) × (b.third.now ≡ a.third.now)
 
 -- the cursor has all options of a message before it
-pub record IsBegun (c : Cursor) (bytes : List ℕ) : Type 0 where
+pub record OptionBegun (c : Cursor) (bytes : List ℕ) : Type 0 where
   pub main : c.field.now ≡ drop 240 bytes
   pub file : (os : List TagValue) → AreOptions (drop 240 bytes) os → c.second.now ≡ used_if (has_file (overload os)) (field 108 128 bytes)
   pub sname : (os : List TagValue) → AreOptions (drop 240 bytes) os → c.third.now ≡ used_if (has_sname (overload os)) (field 44 64 bytes)
@@ -67,10 +67,10 @@ IsLength (length_of.Byte byte) bytes = bytes ≡ byte ∷ []
 IsLength length_of.More bytes = 1 < length bytes
 
 -- whether the joined value of a tag is one byte, over all that is left
-abbrev pub IsOnly : Only → ℕ → Cursor → Type 0
-IsOnly one.Broken tag c = (os : List TagValue) → IsLeft c os → ⊥
-IsOnly one.Other tag c = (os : List TagValue) × IsLeft c os × (only (joined tag os) ≡ None)
-IsOnly (one.Byte byte) tag c = (os : List TagValue) × IsLeft c os × (joined tag os ≡ byte ∷ [])
+abbrev pub IsOnlyByte : Only → ℕ → Cursor → Type 0
+IsOnlyByte one.Broken tag c = (os : List TagValue) → IsLeft c os → ⊥
+IsOnlyByte one.Other tag c = (os : List TagValue) × IsLeft c os × (only (joined tag os) ≡ None)
+IsOnlyByte (one.Byte byte) tag c = (os : List TagValue) × IsLeft c os × (joined tag os ≡ byte ∷ [])
 
 -- this cursor has come by these options from that one
 pub record Walks (before : List TagValue) (start now : Cursor) : Type 0 where

@@ -21,12 +21,12 @@ pub data AreOptions : List ℕ → List TagValue → Type 0 where
 abbrev pub SameOptions : List ℕ → List ℕ → Type 0
 SameOptions a b = (os : List TagValue) → (AreOptions a os → AreOptions b os) × (AreOptions b os → AreOptions a os)
 
-abbrev pub value_of : ℕ → TagValue → List ℕ
-value_of tag o = if o.tag == tag then o.value else []
+abbrev pub value_of_option : ℕ → TagValue → List ℕ
+value_of_option tag o = if o.tag == tag then o.value else []
 
 -- the values of one tag, one after the other
 abbrev pub joined : ℕ → List TagValue → List ℕ
-joined tag os = flat_map (value_of tag) os
+joined tag os = flat_map (value_of_option tag) os
 
 -- an option has the tag
 abbrev pub is_there : ℕ → List TagValue → Bool

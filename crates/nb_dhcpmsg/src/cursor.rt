@@ -3,7 +3,7 @@
 ghost use Rattle.std.specs.Prelude.{◌≡◌, ◌+◌, ◌≤◌, List, [], length};
 ghost use Rattle.nb_dhcpmsg.specs.Options.{TagValue, AreOptions};
 ghost use Rattle.nb_dhcpmsg.specs.Messages.{field, overload, has_file, has_sname, used_if};
-ghost use Rattle.nb_dhcpmsg.specs.Lefts.{IsTaken, IsNext, IsBegun};
+ghost use Rattle.nb_dhcpmsg.specs.Lefts.{IsTaken, IsNextOption, OptionBegun};
 
 use crate::joined::only_byte;
 use crate::option::{DhcpOption, First, first_option};
@@ -16,9 +16,9 @@ const SNAME: usize = 44;
 
 const SNAME_LEN: usize = 64;
 
-const FILE: usize = 108;
+pub(crate) const FILE: usize = 108;
 
-const FILE_LEN: usize = 128;
+pub(crate) const FILE_LEN: usize = 128;
 
 /// Says which other fields have options (RFC 2132, section 9.3).
 const OVERLOAD: u8 = 52;
@@ -45,7 +45,7 @@ impl<'a> Cursor<'a> {
     /// All options of a message, at their beginning.
     pub(crate) fn of(message: &'a [u8]) -> Cursor<'a>
         requires { 240 ≤ length message.now }
-        ensures { IsBegun result message.now }
+        ensures { OptionBegun result message.now }
     {
         let (_, field) = message.split_at(OPTIONS);
         let overload = overload(field);
@@ -58,7 +58,7 @@ impl<'a> Cursor<'a> {
 
     /// The next option.
     pub(crate) fn next(&mut self) -> Next<'a>
-        ensures { IsNext result self.old self.new }
+        ensures { IsNextOption result self.old self.new }
     {
         match self.take() {
             Next::End => {}
@@ -100,7 +100,7 @@ impl<'a> Cursor<'a> {
 }
 
 /// What the options of this field say of the others.
-fn overload(field: &[u8]) -> Option<u8>
+pub(crate) fn overload(field: &[u8]) -> Option<u8>
     ensures { (os : List TagValue) → AreOptions field.now os → result ≡ overload os }
 {
     let options = Cursor {
@@ -111,7 +111,7 @@ fn overload(field: &[u8]) -> Option<u8>
     only_byte(options, OVERLOAD).byte()
 }
 
-fn has_file(overload: Option<u8>) -> bool
+pub(crate) fn has_file(overload: Option<u8>) -> bool
     ensures { result ≡ has_file overload }
 {
     overload == Some(1) || overload == Some(3)
@@ -124,7 +124,7 @@ fn has_sname(overload: Option<u8>) -> bool
 }
 
 /// The bytes, or nothing.
-fn used_if(is_used: bool, bytes: &[u8]) -> &[u8]
+pub(crate) fn used_if(is_used: bool, bytes: &[u8]) -> &[u8]
     ensures { result.now ≡ used_if is_used bytes.now }
 {
     if is_used { bytes } else { &[] }

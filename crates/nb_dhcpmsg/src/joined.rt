@@ -1,7 +1,7 @@
 //! A value joined from the options of one tag (RFC 3396).
 
 ghost use Rattle.std.specs.Prelude.{◌≡◌, ◌++◌, ℕ, List, [], length};
-ghost use Rattle.nb_dhcpmsg.specs.Lefts.{IsLength, IsOnly, byte_of};
+ghost use Rattle.nb_dhcpmsg.specs.Lefts.{IsLength, IsOnlyByte, byte_of};
 
 use crate::cursor::{Cursor, Next};
 
@@ -50,7 +50,7 @@ impl Only {
 
 /// The joined value of a tag, where it is one byte.
 pub(crate) fn only_byte(options: Cursor<'_>, tag: u8) -> Only
-    ensures { IsOnly result tag options.entry }
+    ensures { IsOnlyByte result tag options.entry }
 {
     let mut left = options;
     let mut joined = Joined::Nothing;

@@ -1,14 +1,17 @@
 //! A message.
 
-ghost use Rattle.std.specs.Prelude.{◌≡◌, ◌+◌, ◌<◌, ◌≤◌, ◌∷◌, ◌++◌, ◌↔◌, ℕ, List, [], true, MatchBool, length, IfSome, IsErr, IsSomeAnd, OnOk, OnErr};
+ghost use Rattle.std.specs.Prelude.{◌≡◌, ◌+◌, ◌<◌, ◌≤◌, ◌∷◌, ◌++◌, ◌↔◌, ℕ, ◌==◌, List, [], true, position, MatchBool, length, IfSome, IsErr, IsSomeAnd, OnOk, OnErr};
 ghost use Rattle.std.specs.Int.{w32, from_be_bytes};
 ghost use Rattle.nb_dhcpmsg.specs.Options.{TagValue, joined};
 ghost use Rattle.nb_dhcpmsg.specs.Messages.{MessageParts, IsMessage, HasCookie, HasOptions, field, is_value};
+ghost use Rattle.std.specs.Option.{option_map};
+ghost use Rattle.nb_dhcpmsg.specs.Fields.{inner_options, message_in, address_in, file_name, up_to_zero};
 ghost use Rattle.nb_dhcpmsg.specs.Views.{parts_of};
 ghost use Rattle.nb_dhcpmsg.specs.Lefts.{IsLeft};
 
-use crate::cursor::{Cursor, Next, OPTIONS, part};
+use crate::cursor::{Cursor, FILE, FILE_LEN, Next, OPTIONS, has_file, overload, part, used_if};
 use crate::joined::only_byte;
+use crate::stream::{Stream, gather_inner};
 use arrayvec::ArrayVec;
 use nb_wire::{Full, Ip4, Mac, Out};
 
@@ -55,7 +58,9 @@ impl<'a> DhcpMsg<'a> {
         ensures sound { IfSome result (λ m. IsMessage bytes.now (parts_of m)) }
         ensures complete { (m : MessageParts) → IsMessage bytes.now m
             → IsSomeAnd result (λ r. parts_of r ≡ m) }
+        ensures value { option_map parts_of result ≡ message_in bytes.now }
         ensures whole { IfSome result (λ m. m.whole.now ≡ bytes.now) }
+        ensures kept { IfSome result (λ m. IsMessage m.whole.now (parts_of m)) }
     {
         if bytes.len() < OPTIONS || !has_cookie(bytes) {
             return None;
@@ -99,6 +104,65 @@ impl<'a> DhcpMsg<'a> {
         }
         gather(Cursor::of(self.whole), tag, to)
     }
+
+    /// Puts the joined value of an option within a tag's joined value into `to`. The options within are read
+    /// as those of a field, and one that goes past the end ends them. False where no option within has the
+    /// tag `inner`, or its value has over 1,024 bytes.
+    pub fn sub(&self, tag: u8, inner: u8, to: &mut ArrayVec<u8, 1024>) -> bool
+        ensures found { (os : List TagValue) → HasOptions self.now.whole.now os
+            → result ≡ is_value inner (inner_options (joined tag os)) }
+        ensures value { (os : List TagValue) → HasOptions self.now.whole.now os → result ≡ true
+            → to.new.items ≡ joined inner (inner_options (joined tag os)) }
+    {
+        to.clear();
+        if self.whole.len() < OPTIONS {
+            return false;
+        }
+        gather_inner(Stream::of(tag, Cursor::of(self.whole)), inner, to)
+    }
+
+    /// The address that a tag's joined value begins with. None where it has fewer than four bytes.
+    pub fn address(&self, tag: u8) -> Option<Ip4>
+        ensures { (os : List TagValue) → HasOptions self.now.whole.now os
+            → option_map (λ ip. ip.0) result ≡ address_in (joined tag os) }
+    {
+        if self.whole.len() < OPTIONS {
+            return None;
+        }
+        let value = Stream::of(tag, Cursor::of(self.whole));
+        Some(Ip4(value.address()?))
+    }
+
+    /// The name in the field for a file's name, up to its first zero byte. Empty where that field holds options.
+    pub fn file(&self) -> &'a [u8]
+        ensures { (m : MessageParts) → IsMessage self.now.whole.now m
+            → result.now ≡ file_name self.now.whole.now }
+    {
+        if self.whole.len() < OPTIONS {
+            return &[];
+        }
+        let (_, options) = self.whole.split_at(OPTIONS);
+        let is_name = !has_file(overload(options));
+        used_if(is_name, up_to_zero(part(self.whole, FILE, FILE_LEN)))
+    }
+}
+
+/// The bytes before the first zero byte. All of them where there is none.
+fn up_to_zero(bytes: &[u8]) -> &[u8]
+    ensures { result.now ≡ up_to_zero bytes.now }
+{
+    match zero_at(bytes) {
+        Some(end) => &bytes[..end],
+        None => bytes,
+    }
+}
+
+/// The place of the first zero byte.
+fn zero_at(bytes: &[u8]) -> Option<usize>
+    ensures place { result ≡ position (λ byte. byte == 0) bytes.now }
+    ensures within { IfSome result (λ end. end < length bytes.now) }
+{
+    bytes.iter().position(|byte| *byte == 0)
 }
 
 /// Puts the joined value of a tag, of all that is left, into `to`, which is empty. False where no option

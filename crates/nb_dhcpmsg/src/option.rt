@@ -2,13 +2,13 @@
 
 ghost use Rattle.std.specs.Prelude.{◌≡◌, ◌∷◌, ◌<◌, ◌≤◌, ℕ, List, length};
 ghost use Rattle.nb_dhcpmsg.specs.Options.{SameOptions};
-ghost use Rattle.nb_dhcpmsg.specs.Lefts.{IsFirst};
+ghost use Rattle.nb_dhcpmsg.specs.Lefts.{IsFirstOption};
 
 /// Padding, one byte alone (RFC 2132, section 3.1).
-const PAD: u8 = 0;
+pub(crate) const PAD: u8 = 0;
 
 /// The end of a field's options (RFC 2132, section 3.2).
-const END: u8 = 255;
+pub(crate) const END: u8 = 255;
 
 /// An option of a message.
 #[derive(Clone, Copy, Drop)]
@@ -30,7 +30,7 @@ pub(crate) enum First<'a> {
 
 /// What the field begins with, padding aside.
 pub(crate) fn first_option(field: &[u8]) -> First<'_>
-    ensures { IsFirst result field.now }
+    ensures { IsFirstOption result field.now }
 {
     let Some((tag, more)) = after_padding(field).split_first() else {
         return First::End;
@@ -47,7 +47,7 @@ pub(crate) fn first_option(field: &[u8]) -> First<'_>
 /// The option of this tag and length, whose value begins these bytes.
 fn option_of(tag: u8, len: usize, bytes: &[u8]) -> First<'_>
     requires tag { (0 < tag) × (tag < 255) }
-    ensures { IsFirst result (tag ∷ len ∷ bytes.now) }
+    ensures { IsFirstOption result (tag ∷ len ∷ bytes.now) }
 {
     if len > bytes.len() {
         return First::Broken;

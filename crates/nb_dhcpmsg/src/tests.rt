@@ -1,31 +1,277 @@
 use crate::DhcpMsg;
 use arrayvec::ArrayVec;
 use nb_wire::{Ip4, Mac};
+use std::process::Abort;
 use std::test::Fail;
+
+/// The cookie, and the kind of an acknowledgement.
+const ACKNOWLEDGED: &[u8] = b"\x63\x82\x53\x63\x35\x01\x05";
+
+/// The fields of an acknowledgement before those for names (RFC 2131, section 2).
+const FIELDS: &[u8] =
+    b"\x02\x01\x06\x00\x39\x03\xf3\x26\x00\x00\x00\x00\x00\x00\x00\x00\x0a\x00\x00\x02\x0a\x00\x00\x01\x00\x00\x00\x00\x02\x00\x00\x00\x00\x01";
+
+/// The same of an offer in dhcp.pcap, one of Wireshark's sample captures.
+const CAPTURED: &[u8] =
+    b"\x02\x01\x06\x00\x00\x00\x3d\x1d\x00\x00\x00\x00\x00\x00\x00\x00\xc0\xa8\x00\x0a\xc0\xa8\x00\x01\x00\x00\x00\x00\x00\x0b\x82\x01\xfc\x42";
+
+/// Puts so many bytes: these, and then zeros.
+fn put(to: &mut ArrayVec<u8, 2048>, bytes: &[u8], len: usize) {
+    for place in 0..len {
+        let _ = to.try_push(bytes.get(place).copied().unwrap_or(0));
+    }
+}
+
+/// A message of these fields, with these bytes from its cookie on, and in its fields for a file's and a
+/// server's name.
+fn message_of(fields: &[u8], rest: &[u8], file: &[u8], sname: &[u8]) -> ArrayVec<u8, 2048> {
+    let mut bytes = ArrayVec::new();
+    put(&mut bytes, fields, 44);
+    put(&mut bytes, sname, 64);
+    put(&mut bytes, file, 128);
+    let _ = bytes.try_extend_from_slice(rest);
+    bytes
+}
+
+/// An acknowledgement's fields, with these bytes from its cookie on.
+fn message(rest: &[u8], file: &[u8], sname: &[u8]) -> ArrayVec<u8, 2048> {
+    message_of(FIELDS, rest, file, sname)
+}
+
+/// An acknowledgement with these options after its kind.
+fn acknowledged(options: &[u8], file: &[u8], sname: &[u8]) -> ArrayVec<u8, 2048> {
+    let mut rest: ArrayVec<u8, 2048> = ArrayVec::new();
+    let _ = rest.try_extend_from_slice(ACKNOWLEDGED);
+    let _ = rest.try_extend_from_slice(options);
+    message(rest.as_slice(), file, sname)
+}
+
+/// The message that these bytes are.
+fn read(bytes: &[u8]) -> Result<DhcpMsg<'_>, Fail> {
+    match DhcpMsg::read(bytes) {
+        Some(message) => Ok(message),
+        None => Err(Fail::new("no message")),
+    }
+}
+
+/// The value of an option is this; there is none where nothing is given.
+fn has_value(rt: &impl Abort, bytes: &[u8], tag: u8, wanted: Option<&[u8]>) -> Result<(), Fail> {
+    let mut value = ArrayVec::new();
+    let message = read(bytes)?;
+    assert_eq!(rt;
+        message.value(tag, &mut value),
+        wanted.is_some(),
+        "option {tag}"
+    );
+    if let Some(wanted) = wanted {
+        assert_eq!(rt; value.as_slice(), wanted, "option {tag}");
+    }
+    Ok(())
+}
+
+/// The value of an option within option 175 is this; there is none where nothing is given.
+fn has_inner(rt: &impl Abort, bytes: &[u8], tag: u8, wanted: Option<&[u8]>) -> Result<(), Fail> {
+    let mut value = ArrayVec::new();
+    let message = read(bytes)?;
+    assert_eq!(rt;
+        message.sub(175, tag, &mut value),
+        wanted.is_some(),
+        "option 175.{tag}"
+    );
+    if let Some(wanted) = wanted {
+        assert_eq!(rt; value.as_slice(), wanted, "option 175.{tag}");
+    }
+    Ok(())
+}
 
 // RFC 2132, section 9.3, and RFC 3396, section 5: overload, and a value that is split over the three fields.
 #[test]
 fn joins_a_value_over_overloaded_fields(rt: HostRuntime) -> Result<(), Fail> {
-    let mut bytes = [0; 250];
-    bytes[0] = 2;
-    bytes[4..8].copy_from_slice(&[0x39, 3, 0xf3, 0x26]);
-    bytes[16..24].copy_from_slice(&[10, 0, 0, 2, 10, 0, 0, 1]);
-    bytes[28..34].copy_from_slice(&[2, 0, 0, 0, 0, 1]);
-    bytes[44..52].copy_from_slice(b"\x43\x05.ipxe\xff");
-    bytes[108..118].copy_from_slice(b"\x43\x04boot\xff\x43\x01?");
-    bytes[236..250].copy_from_slice(b"\x63\x82\x53\x63\x35\x01\x05\x34\x01\x03\x43\x01/\xff");
-    let Some(read) = DhcpMsg::read(&bytes) else {
-        return Err(Fail::new("no message"));
-    };
-    assert_eq!(rt; (read.op, read.xid, read.kind), (2, 0x3903_f326, 5));
+    let bytes = acknowledged(
+        b"\x34\x01\x03\x43\x01/\xff",
+        b"\x43\x04boot\xff\x43\x01?",
+        b"\x43\x05.ipxe\xff",
+    );
+    let message = read(bytes.as_slice())?;
     assert_eq!(rt;
-        (read.yiaddr, read.siaddr),
+        (message.op, message.xid, message.kind),
+        (2, 0x3903_f326, 5)
+    );
+    assert_eq!(rt;
+        (message.yiaddr, message.siaddr),
         (Ip4(0x0a00_0002), Ip4(0x0a00_0001))
     );
-    assert_eq!(rt; read.chaddr, Mac([2, 0, 0, 0, 0, 1]));
-    let mut value = ArrayVec::new();
-    assert!(rt; read.value(67, &mut value));
-    assert_eq!(rt; value.as_slice(), b"/boot.ipxe".as_slice());
-    assert!(rt; !read.value(66, &mut value), "no option has the tag");
+    assert_eq!(rt; message.chaddr, Mac([2, 0, 0, 0, 0, 1]));
+    assert_eq!(rt; message.file(), b"".as_slice(), "the field holds options");
+    has_value(&rt, bytes.as_slice(), 67, Some(b"/boot.ipxe"))?;
+    has_value(&rt, bytes.as_slice(), 66, None)
+}
+
+// RFC 3396, section 8: the name of a file as it is split there.
+#[test]
+fn joins_a_split_name(rt: HostRuntime) -> Result<(), Fail> {
+    let bytes = acknowledged(b"\x43\x07/diskle\x43\x06ss/foo\xff", b"", b"");
+    has_value(&rt, bytes.as_slice(), 67, Some(b"/diskless/foo"))
+}
+
+// The offer in dhcp.pcap of Wireshark's sample captures.
+#[test]
+fn reads_a_captured_offer(rt: HostRuntime) -> Result<(), Fail> {
+    let bytes = message_of(
+        CAPTURED,
+        b"\x63\x82\x53\x63\x35\x01\x02\x01\x04\xff\xff\xff\x00\x3a\x04\x00\x00\x07\x08\x3b\x04\x00\x00\x0c\x4e\x33\x04\x00\x00\x0e\x10\x36\x04\xc0\xa8\x00\x01\xff\x00\x00",
+        b"",
+        b"",
+    );
+    let message = read(bytes.as_slice())?;
+    assert_eq!(rt; (message.op, message.xid, message.kind), (2, 0x3d1d, 2));
+    assert_eq!(rt; message.yiaddr, Ip4(0xc0a8_000a));
+    assert_eq!(rt; message.address(54), Some(Ip4(0xc0a8_0001)));
+    assert_eq!(rt; message.address(53), None, "one byte is no address");
+    has_value(&rt, bytes.as_slice(), 51, Some(&[0, 0, 14, 16]))
+}
+
+#[test]
+fn takes_the_files_name_up_to_a_zero(rt: HostRuntime) -> Result<(), Fail> {
+    let full = [b'n'; 128];
+    for (options, file, name) in [
+        (
+            b"\xff".as_slice(),
+            b"boot\0more".as_slice(),
+            b"boot".as_slice(),
+        ),
+        (b"\xff", b"", b""),
+        (b"\xff", &full, &full),
+        (b"\x34\x01\x02\xff", b"boot", b"boot"),
+        (b"\x34\x01\x01\xff", b"\xff", b""),
+    ] {
+        let bytes = acknowledged(options, file, b"");
+        let message = read(bytes.as_slice())?;
+        assert_eq!(rt; message.file(), name);
+    }
+    Ok(())
+}
+
+// Own rules: the options within option 175 are read like others, and one past the end ends them.
+#[test]
+fn reads_options_within_an_option(rt: HostRuntime) -> Result<(), Fail> {
+    for (value, tag, wanted) in [
+        (b"\xbe\x01u\xbf\x01p".as_slice(), 190, Some(b"u".as_slice())),
+        (b"\xbe\x01u\xbf\x01p", 191, Some(b"p")),
+        (b"\xbe\x01u\xbf\x01p", 1, None),
+        (b"\xbe\x01u\x00\x00\xbe\x02vw", 190, Some(b"uvw")),
+        (b"\xbe\x00", 190, Some(b"")),
+        (b"\xbe\x01u\xff\xbe\x01v", 190, Some(b"u")),
+        (b"\xbe\x01u\xbe\x02v", 190, Some(b"u")),
+        (b"\xbe\x01u\xbf", 191, None),
+        (b"\xbe\x05u", 190, None),
+        (b"", 190, None),
+    ] {
+        let mut options: ArrayVec<u8, 64> = ArrayVec::new();
+        let _ = options.try_extend_from_slice(&[175, value.len() as u8]);
+        let _ = options.try_extend_from_slice(value);
+        let bytes = acknowledged(options.as_slice(), b"", b"");
+        has_inner(&rt, bytes.as_slice(), tag, wanted)?;
+    }
+    Ok(())
+}
+
+// An option within is cut over two of the options that hold it, and over two fields.
+#[test]
+fn reads_an_inner_option_over_a_split(rt: HostRuntime) -> Result<(), Fail> {
+    let bytes = acknowledged(
+        b"\x34\x01\x01\xaf\x02\xbe\x04\xaf\x00\xaf\x01u\xff",
+        b"\xaf\x03ser\xff",
+        b"",
+    );
+    has_inner(&rt, bytes.as_slice(), 190, Some(b"user"))
+}
+
+// The value of option 175 has 1,275 bytes, which are too many for a value; the options within are read.
+#[test]
+fn reads_within_a_long_value(rt: HostRuntime) -> Result<(), Fail> {
+    let mut options: ArrayVec<u8, 1500> = ArrayVec::new();
+    for _part in 0..5 {
+        let _ = options.try_extend_from_slice(&[175, 255, 7, 251]);
+        let _ = options.try_extend_from_slice(&[b'x'; 251]);
+        let _ = options.try_extend_from_slice(&[190, 0]);
+    }
+    let bytes = acknowledged(options.as_slice(), b"", b"");
+    has_value(&rt, bytes.as_slice(), 175, None)?;
+    has_inner(&rt, bytes.as_slice(), 190, Some(b""))?;
+    has_inner(&rt, bytes.as_slice(), 7, None)
+}
+
+#[test]
+fn refuses_what_is_no_message(rt: HostRuntime) -> Result<(), Fail> {
+    for (rest, file, what) in [
+        (
+            b"\x63\x82\x53\x63\x35\x01\x05\x43\x05boot".as_slice(),
+            b"".as_slice(),
+            "an option past the end",
+        ),
+        (
+            b"\x63\x82\x53\x63\x35\x01\x05\x43",
+            b"",
+            "an option without its length",
+        ),
+        (
+            b"\x63\x82\x53\x63\x35\x01\x05\x34\x01\x01",
+            b"\x01\x7fn",
+            "an option past the field for a name",
+        ),
+        (b"\x63\x82\x53\x63\x35\x00", b"", "an empty kind"),
+        (
+            b"\x63\x82\x53\x63\x35\x02\x05\x05",
+            b"",
+            "a kind of two bytes",
+        ),
+        (
+            b"\x63\x82\x53\x63\x35\x01\x05\x35\x01\x05",
+            b"",
+            "a kind that stands twice",
+        ),
+        (b"\x63\x82\x53\x63\xff", b"", "no kind"),
+        (b"\x63\x82\x53\x64\x35\x01\x05", b"", "another cookie"),
+        (b"\x63\x82\x53", b"", "too few bytes"),
+    ] {
+        let bytes = message(rest, file, b"");
+        assert!(rt; DhcpMsg::read(bytes.as_slice()).is_none(), "{what}");
+    }
+    Ok(())
+}
+
+// Overload that points at the fields that it stands in, or of another value, or of two bytes, isn't followed.
+#[test]
+fn ignores_other_overload(rt: HostRuntime) -> Result<(), Fail> {
+    for (options, what) in [
+        (b"\x34\x01\x04\xff".as_slice(), "another value"),
+        (b"\x34\x02\x03\x03\xff", "two bytes"),
+        (b"\x34\x00\xff", "no byte"),
+        (b"\x34\x01\x03\x34\x01\x03\xff", "twice"),
+    ] {
+        let bytes = acknowledged(options, b"\x43\x01f\xff", b"\x43\x01s\xff");
+        let message = read(bytes.as_slice())?;
+        let mut value = ArrayVec::new();
+        assert!(rt; !message.value(67, &mut value), "{what}");
+    }
+    let bytes = acknowledged(
+        b"\x34\x01\x01\xff",
+        b"\x34\x01\x03\x43\x01f\xff",
+        b"\x43\x01s\xff",
+    );
+    has_value(&rt, bytes.as_slice(), 67, Some(b"f"))
+}
+
+#[test]
+fn writes_what_was_read(rt: HostRuntime) -> Result<(), Fail> {
+    let bytes = acknowledged(b"\xff", b"", b"");
+    let Some(message) = DhcpMsg::read(bytes.as_slice()) else {
+        return Err(Fail::new("no message"));
+    };
+    let mut room = [0; 300];
+    let mut out = nb_wire::Out::new(&mut room);
+    assert!(rt; message.write(&mut out).is_ok());
+    assert_eq!(rt; out.written(), bytes.as_slice());
     Ok(())
 }

@@ -15,7 +15,7 @@ use Rattle.nb_engine.specs.declared.stage.Stage.TheVariants as stage
 use Rattle.nb_engine.specs.declared.status.Status.TheVariants as status
 use Rattle.nb_engine.specs.declared.client.Turn.{Turn}
 use Rattle.nb_engine.specs.declared.client.Turn.TheVariants as turn
-use Rattle.nb_engine.specs.World.{world_of, with_net, later}
+use Rattle.nb_engine.specs.World.{world_of, with_net, world_later}
 use Rattle.nb_engine.specs.Opens.{Open, heard_from}
 use Rattle.nb_engine.specs.Machine.{Running, Machine, at, ready, running, waiting, left, stopped, Begins, runs, refuses, passes_by, brings, passes_time, switches_off, first_script, reply_records, stopped_cause}
 use Rattle.nb_engine.specs.Seen.{Seen, seen, as_running, as_waiting, as_left, as_stopped}
@@ -91,7 +91,7 @@ frame_grows n w s f st after bytes reply out net port body valid takes heard fo 
 
 -- time passes
 pub tick_grows : {old new : Logged} (n : ℕ) (w : World) (s : Running) (f : Fetch) (st : Stage) (after : Seen) (ms : ℕ) → IsIn (tick ms) →
-    Follows s (Comes (ticked (w.time + ms)) f) (seen (n + 1) (later w ms) st) after old new →
+    Follows s (Comes (ticked (w.time + ms)) f) (seen (n + 1) (world_later w ms) st) after old new →
     Grows (tick ms ∷ []) (seen n w (stage.Waiting s f)) after old new
 tick_grows n w s f st after ms valid fo = record {
   added = step (n + 1) ∷ fo.added;

@@ -7,8 +7,8 @@ use Rattle.std.proofs.lemmas.Option.{slice_get_within, none-some, same_Some}
 use Rattle.std.proofs.lemmas.List.{drop-append-le, drop_all, length-take}
 use Rattle.nb_defs.specs.Records.{Out}
 use Rattle.nb_image.specs.declared.image.Image.{Image}
-use Rattle.nb_image.specs.Images.{ImageList, put_at, place_of, with_image}
-use Rattle.nb_image.specs.Parts.{PartText, PieceText, parts, kernel_parts, initrd_parts, others_parts, pieces, piece_count}
+use Rattle.nb_image.specs.Images.{ImageList, put_image, image_place, with_image}
+use Rattle.nb_image.specs.Parts.{PartText, PieceText, parts, kernel_parts, initrd_parts, others_parts, part_pieces, piece_count}
 use Rattle.nb_image.proofs.PartsLemmas.{piece_is, pieces_length}
 use Rattle.nb_engine.specs.declared.handing.Handing.{Handing}
 use Rattle.nb_engine.specs.Conclusions.{part_records, piece_record}
@@ -41,12 +41,12 @@ all_option P (y ∷ ys) zero p = (p.0, tt)
 all_option P (y ∷ ys) (suc k) p = all_option P ys k p.1
 
 -- an image more
-put_short : (place : Option ℕ) (image : Image) (images : List Image) → IsShort image → AreShort images → AreShort (put_at place image images)
+put_short : (place : Option ℕ) (image : Image) (images : List Image) → IsShort image → AreShort images → AreShort (put_image place image images)
 put_short None image images q p = all_append IsShort images (image ∷ []) p (q, tt)
 put_short (Some i) image images q p = all_set IsShort images i image p q
 
 pub with_short : (image : Image) (images : List Image) → IsShort image → AreShort images → AreShort (with_image image images)
-with_short image images q p = put_short (place_of image.name images) image images q p
+with_short image images q p = put_short (image_place image.name images) image images q p
 
 -- a part has at most 268,435,456 bytes
 abbrev IsSmall : PartText → Type 0
@@ -93,10 +93,10 @@ left_at ps k j p h within =
     ap (λ xs. drop j (flat_map part_records xs)) (drop_get ps k p h)
     ∙ drop-append-le j (part_records p) (flat_map part_records (drop (k + 1) ps)) within
 
-pub next_left : (ps : List PartText) (k j : ℕ) (p : PartText) (piece : PieceText) → slice_get ps k ≡ Some p → slice_get (pieces p.bytes) j ≡ Some piece →
+pub next_left : (ps : List PartText) (k j : ℕ) (p : PartText) (piece : PieceText) → slice_get ps k ≡ Some p → slice_get (part_pieces p.bytes) j ≡ Some piece →
     drop j (flat_map part_records (drop k ps)) ≡ piece_record p piece ∷ (drop (j + 1) (part_records p) ++ flat_map part_records (drop (k + 1) ps))
 next_left ps k j p piece h g =
-    let r = get_map (piece_record p) (pieces p.bytes) j piece g in
+    let r = get_map (piece_record p) (part_pieces p.bytes) j piece g in
     let within : j < length (part_records p) = slice_get_within (part_records p) j (piece_record p piece) r in
     left_at ps k j p h (omega arith) ∙ ap (λ xs. xs ++ flat_map part_records (drop (k + 1) ps)) (drop_get (part_records p) j (piece_record p piece) r)
 
@@ -133,9 +133,9 @@ pub record PieceAt (j : ℕ) (piece : PieceText) : Type 0 where
   pub short : length piece.bytes ≤ 65536
   pub fits : 65536 * j < 2 ^ 32
 
-pub piece_at_place : (bytes : List ℕ) (j : ℕ) (piece : PieceText) → length bytes ≤ 268435456 → slice_get (pieces bytes) j ≡ Some piece → PieceAt j piece
+pub piece_at_place : (bytes : List ℕ) (j : ℕ) (piece : PieceText) → length bytes ≤ 268435456 → slice_get (part_pieces bytes) j ≡ Some piece → PieceAt j piece
 piece_at_place bytes j piece small h =
-    let within : j < length (pieces bytes) = slice_get_within (pieces bytes) j piece h in
+    let within : j < length (part_pieces bytes) = slice_get_within (part_pieces bytes) j piece h in
     let count : j < piece_count (length bytes) = rw (← pieces_length bytes) within in
     let same = same_Some _ piece (sym (piece_is bytes j (65536 * j) (take 65536 (drop (65536 * j) bytes)) count refl refl) ∙ h) in
     record {
@@ -156,8 +156,8 @@ map_length f [] = refl
 map_length f (x ∷ xs) = ap suc (map_length f xs)
 
 -- a part's records are as many as its pieces
-pub records_of_part : (p : PartText) → length (part_records p) ≡ length (pieces p.bytes)
-records_of_part p = map_length (piece_record p) (pieces p.bytes)
+pub records_of_part : (p : PartText) → length (part_records p) ≡ length (part_pieces p.bytes)
+records_of_part p = map_length (piece_record p) (part_pieces p.bytes)
 
 -- a part has a piece
 first_piece : (o : Option PartText) → IfSome o (λ p. 0 < length (part_records p))

@@ -16,14 +16,14 @@ use Rattle.nb_engine.specs.declared.status.Status.TheVariants as status
 use Rattle.nb_engine.specs.declared.client.Turn.{Turn}
 use Rattle.nb_engine.specs.declared.client.Turn.TheVariants as turn
 use Rattle.nb_defs.specs.Causes.{ok}
-use Rattle.nb_engine.specs.World.{unbound, with_images}
+use Rattle.nb_engine.specs.World.{unbound, world_with_images}
 use Rattle.nb_engine.specs.Opens.{Open, with_entry, body_of, end_of, is_over_limit, acts_records, too_large_image}
 use Rattle.nb_engine.specs.Conclusions.{Conclusion, conclusion, conclusion_records, image_from, fails, keeps, boots}
 use Rattle.nb_engine.specs.Machine.{Running, Hears, goes_on, is_over, waiting, at, phase_after, concluded, running, further}
 use Rattle.nb_engine.specs.Fetches.{IsLive, IsFetchOf, IsSameFetch}
 use Rattle.nb_engine.specs.Seen.{Seen, seen, StandsFor, as_waiting, IsSound}
 use Rattle.nb_engine.specs.Heeding.{Heeds, Follows, HasHeard}
-use Rattle.nb_engine.specs.Concluding.{Ends, IsTurn}
+use Rattle.nb_engine.specs.Concluding.{EndsOpen, IsTurn}
 use Rattle.nb_tftp.proofs.HistoryLemmas.{is_ended-append}
 
 no_end_by : (t : Bool) (over : Option Cause) → cond t (Some too_large_image) over ≡ None → (t ≡ false) × (over ≡ None)
@@ -110,7 +110,7 @@ ends_follow {old} {new} n w s f heard cause after is p stands =
 
 -- by the turn
 pub ends_heeds : (t : Turn) (old new : Logged) (n : ℕ) (w : World) (s : Running) (f : Fetch) (heard : Heard) (cause : Cause) (after : Seen) → heard.end ≡ Some cause →
-    Ends t heard.acts cause s f (seen n w (stage.Waiting s f)) after old new →
+    EndsOpen t heard.acts cause s f (seen n w (stage.Waiting s f)) after old new →
     Heeds t s (HasHeard heard f) (seen n w (stage.Waiting s f)) after old new
 ends_heeds turn.More old new n w s f heard cause after is e = (ends_follow n w s f heard cause after is e.1 e.2, e.0)
 ends_heeds turn.Waiting old new n w s f heard cause after is e = (ends_follow n w s f heard cause after is e.1 e.2, e.0)
@@ -164,7 +164,7 @@ pub ends_of : (t : Turn) (old new : Logged) (acts : Acts) (cause : Cause) (s : R
     Puts old new (out_texts (step before.used ∷ (acts_records before.world.net f.number acts ++ (ended f.number cause ∷ [])
     ++ conclusion_records s.depth (conclusion cause f.boots (image_of f.name f.body [] f.uri) before.world.images)))) →
     StandsFor after (at before.used (phase_after (unbound before.world f.own_port) s (conclusion cause f.boots (image_of f.name f.body [] f.uri) before.world.images))) →
-    Ends t acts cause s f before after old new
+    EndsOpen t acts cause s f before after old new
 ends_of turn.More old new acts cause s f before after is p st = (is, p, st)
 ends_of turn.Waiting old new acts cause s f before after is p st = (is, p, st)
 ends_of (turn.Over status.NoMemory) old new acts cause s f before after is p st = absurd is.0
@@ -180,7 +180,7 @@ ends_of (turn.Over status.AttachFault) old new acts cause s f before after is p 
 ends_of (turn.Over status.TooManyRecords) old new acts cause s f before after is p st = (is, p, st)
 
 -- the phase behind a conclusion doesn't depend on the images before it
-pub same_phase : (w v : World) (s : Running) (c : Conclusion) → ((list : ImageList) → with_images w list ≡ with_images v list) → phase_after w s c ≡ phase_after v s c
+pub same_phase : (w v : World) (s : Running) (c : Conclusion) → ((list : ImageList) → world_with_images w list ≡ world_with_images v list) → phase_after w s c ≡ phase_after v s c
 same_phase w v s (keeps list) e = ap (λ x. running x (further s ok)) (e list)
 same_phase w v s (fails cause) e = refl
 same_phase w v s (boots list kernel) e = refl

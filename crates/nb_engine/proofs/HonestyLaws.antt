@@ -8,7 +8,7 @@ use Rattle.nb_terms.specs.declared.cause.Cause.{Cause}
 use Rattle.nb_terms.specs.declared.acts.Acts.{Acts}
 use Rattle.nb_terms.specs.declared.acts.SendTo.{SendTo}
 use Rattle.nb_defs.specs.Causes.{is_ok_cause, usage}
-use Rattle.nb_defs.specs.Commands.{Outcome as Result, outcome, refused, is_option}
+use Rattle.nb_defs.specs.Commands.{CommandOutcome as Result, command_outcome, refused, is_option}
 use Rattle.nb_defs.specs.Records.{In, frame, Out, step, sent, enter, result, ended}
 use Rattle.nb_stack.specs.Client.{Client}
 use Rattle.nb_tftp.specs.Received.{received}
@@ -22,11 +22,11 @@ use Rattle.nb_tftp.proofs.PlainLaws.{EachEntry-last}
 use Rattle.nb_uri.specs.Targets.{TftpTarget, tftp_target, is_too_long}
 use Rattle.nb_image.specs.declared.image.Image.{Image}
 use Rattle.nb_image.specs.declared.error.ImageError.{ImageError}
-use Rattle.nb_image.specs.Images.{ImageList, place_of, put_at, refusal}
+use Rattle.nb_image.specs.Images.{ImageList, image_place, put_image, refusal}
 use Rattle.nb_image.specs.Kinds.{kind_of}
 use Rattle.nb_engine.specs.declared.world.World.{World}
-use Rattle.nb_engine.specs.World.{with_net, later, unbound}
-use Rattle.nb_engine.specs.Effects.{Wanted, Effect, says, asks, asked, fetch, effect, too_long_uri, full_opens, bad_uri}
+use Rattle.nb_engine.specs.World.{with_net, world_later, unbound}
+use Rattle.nb_engine.specs.Effects.{Wanted, Effect, says, asks, asked_for, fetch, effect, too_long_uri, full_opens, bad_uri}
 use Rattle.nb_engine.specs.Opens.{Open, with_entry, body_of, acts_records, advance_records, sends_records, send_records, try_records, has_route, end_of, is_over_limit, too_large_image, request_of, begun_for, opened_record}
 use Rattle.nb_engine.specs.Conclusions.{Conclusion, keeps, fails, boots, conclusion, stored, taken_in, selected_in, place_for, image_from, conclusion_records, handoff_records, is_bootable, not_bootable}
 use Rattle.nb_engine.specs.Machine.{Machine, Phase, Running, ready, running, waiting, handing, left, handed_off, stopped, Hears, goes_on, is_over, Begins, runs, refuses, passes_by, brings, passes_time, switches_off, Move, passes, does, leaves, asks_for, finds_no_route, ends, hands, has_handed, Path, nothing, uses, moves, phase_after, concluded, command_records, command_record, prints, reply_records}
@@ -115,12 +115,12 @@ either_names : (t : Bool) (a b : Effect) → Names a → Names b → Names (cond
 either_names true a b p q = p
 either_names false a b p q = q
 
-asked_names : (opens : ℕ) (booting : Bool) (uri : List ℕ) (target : TftpTarget) → tftp_target uri ≡ Some target → Names (asked opens booting uri target)
+asked_names : (opens : ℕ) (booting : Bool) (uri : List ℕ) (target : TftpTarget) → tftp_target uri ≡ Some target → Names (asked_for opens booting uri target)
 asked_names opens booting uri target e =
     either_names (is_too_long target) (says (refused too_long_uri)) _ tt
     (either_names (opens == 16384) (says (refused full_opens)) (asks (record { uri = uri; target = target; boots = booting })) tt e)
 
-target_names : (opens : ℕ) (booting : Bool) (uri : List ℕ) (o : Option TftpTarget) → tftp_target uri ≡ o → Names (option_map_or (asked opens booting uri) o (says (refused bad_uri)))
+target_names : (opens : ℕ) (booting : Bool) (uri : List ℕ) (o : Option TftpTarget) → tftp_target uri ≡ o → Names (option_map_or (asked_for opens booting uri) o (says (refused bad_uri)))
 target_names opens booting uri None e = tt
 target_names opens booting uri (Some target) e = asked_names opens booting uri target e
 
@@ -128,7 +128,7 @@ fetch_names : (opens : ℕ) (booting : Bool) (args : List (List ℕ)) → Names 
 unfolding fetch
 fetch_names opens booting [] = tt
 fetch_names opens booting (uri ∷ []) =
-    either_names (is_option uri) (says (refused usage)) (option_map_or (asked opens booting uri) (tftp_target uri) (says (refused bad_uri))) tt (target_names opens booting uri (tftp_target uri) refl)
+    either_names (is_option uri) (says (refused usage)) (option_map_or (asked_for opens booting uri) (tftp_target uri) (says (refused bad_uri))) tt (target_names opens booting uri (tftp_target uri) refl)
 fetch_names opens booting (uri ∷ w ∷ ws) = tt
 
 effect_names : (opens : ℕ) (ws : List (List ℕ)) → Names (effect opens ws)
@@ -136,13 +136,13 @@ unfolding effect
 effect_names opens [] = tt
 effect_names opens (name ∷ args) =
     either_names (bytes_eq name (codes "imgfetch")) (fetch opens false args) _ (fetch_names opens false args)
-    (either_names (bytes_eq name (codes "imgexec")) (fetch opens true args) (says (outcome (name ∷ args))) (fetch_names opens true args) tt)
+    (either_names (bytes_eq name (codes "imgexec")) (fetch opens true args) (says (command_outcome (name ∷ args))) (fetch_names opens true args) tt)
 
 wanted_names : (opens : ℕ) (ws : List (List ℕ)) (wanted : Wanted) → effect opens ws ≡ asks wanted → tftp_target wanted.uri ≡ Some wanted.target
 wanted_names opens ws wanted e = subst Names e (effect_names opens ws)
 
 -- one image more
-put_servers : (store : Store) (place : Option ℕ) (image : Image) (images : List Image) → IsServers store image → AreServers store images → AreServers store (put_at place image images)
+put_servers : (store : Store) (place : Option ℕ) (image : Image) (images : List Image) → IsServers store image → AreServers store images → AreServers store (put_image place image images)
 put_servers store None image images q p = all_append (IsServers store) images (image ∷ []) p (q, tt)
 put_servers store (Some i) image images q p = all_set (IsServers store) images i image p q
 
@@ -157,10 +157,10 @@ either_leaves store true a b p q = p
 either_leaves store false a b p q = q
 
 taken_leaves : (store : Store) (booting : Bool) (image : Image) (list : ImageList) → IsServers store image → AreServers store list.images → Leaves store (taken_in booting image list)
-taken_leaves store false image list q p = put_servers store (place_of image.name list.images) image list.images q p
+taken_leaves store false image list q p = put_servers store (image_place image.name list.images) image list.images q p
 taken_leaves store true image list q p =
     either_leaves store (is_bootable (kind_of image.body)) (boots (selected_in image list) (place_for image list)) (fails not_bootable)
-    (put_servers store (place_of image.name list.images) image list.images q p) tt
+    (put_servers store (image_place image.name list.images) image list.images q p) tt
 
 stored_leaves : (store : Store) (e : Option ImageError) (booting : Bool) (image : Image) (list : ImageList) → IsServers store image → AreServers store list.images → Leaves store (stored e booting image list)
 stored_leaves store (Some e) booting image list q p = tt
@@ -249,7 +249,7 @@ begins_holds store ins outs m r news m' (brings n w s o bytes reply out net port
     hears_holds store outs (n + 1) (with_net w net) s o (came (received (n + 1) port body) w.time) a phase hears h.0 h.1.0 h.1.1.named
     (honest ins [] bytes reply body outs n w s o out net port refl path takes heard)
 begins_holds store ins outs m r news m' (passes_time n w s o ms a phase valid hears) path honest h =
-    hears_holds store outs (n + 1) (later w ms) s o (ticked (w.time + ms)) a phase hears h.0 h.1.0 h.1.1.named
+    hears_holds store outs (n + 1) (world_later w ms) s o (ticked (w.time + ms)) a phase hears h.0 h.1.0 h.1.1.named
     (subst (CarriesFile (file_of store o.wanted.target)) (sym (append-nil (got o.entries))) h.1.1.carries)
 begins_holds store ins outs m r news m' (switches_off n w s o) path honest h = tt
 

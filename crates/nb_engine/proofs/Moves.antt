@@ -1,5 +1,5 @@
 -- What a script's next line does is a move of the machine.
-use Rattle.std.proofs.Common.{◌≡◌, ℕ, ◌<◌, ◌==◌, Bool, true, false, cond, List, [], ◌∷◌, ◌++◌, length, Some, None, refl, sym, ◌∙◌, ap, subst, arith}
+use Rattle.std.proofs.Common.{◌≡◌, ℕ, ◌<◌, ◌==◌, Bool, true, false, cond, List, [], ◌∷◌, ◌++◌, length, Option, Some, None, refl, sym, ◌∙◌, ap, subst, arith}
 use Rattle.std.proofs.lemmas.Option.{slice_get_within}
 use Rattle.std.proofs.lemmas.Bool.{eqb-true}
 use Rattle.nb_terms.specs.declared.cause.Cause.{Cause}
@@ -7,7 +7,7 @@ use Rattle.nb_terms.specs.declared.acts.SendTo.{SendTo}
 use Rattle.nb_terms.specs.declared.acts.Acts.{Acts as Asked}
 use Rattle.nb_defs.specs.Causes.{ok}
 use Rattle.nb_defs.specs.Records.{Out, out_texts, leave, ended, sent}
-use Rattle.nb_defs.specs.Commands.{Outcome}
+use Rattle.nb_defs.specs.Commands.{CommandOutcome}
 use Rattle.nb_defs.specs.ScriptText.{lines}
 use Rattle.nb_record.specs.Logged.{Logged, Puts}
 use Rattle.nb_engine.specs.declared.world.World.{World}
@@ -28,8 +28,11 @@ use Rattle.nb_engine.specs.Seen.{Seen, seen, StandsFor, as_running, as_waiting, 
 use Rattle.nb_engine.specs.Turns.{Grows}
 use Rattle.nb_wire.specs.declared.address.Ip4.{Ip4}
 use Rattle.nb_engine.specs.declared.client.Turn.{Turn}
-use Rattle.nb_engine.specs.Advance.{Asked as AskedFor, waits, fails_so, Followed}
-use Rattle.nb_engine.specs.Turns.{Acts}
+use Rattle.nb_engine.specs.declared.client.Turn.TheVariants as turn
+use Rattle.nb_engine.specs.Advance.{Requested as AskedFor, waits, fails_so, SettlesScript}
+use Rattle.nb_engine.specs.Concluding.{IsTurn}
+use Rattle.nb_stack.specs.Client.{Client}
+use Rattle.nb_engine.specs.Turns.{Acts, IsNearer}
 use Rattle.nb_engine.proofs.Puts.{Puts-nothing, Puts-outs}
 use Rattle.nb_engine.proofs.TurnLemmas.{turn_acts}
 use Rattle.nb_engine.proofs.Standing.{stands_at}
@@ -62,7 +65,7 @@ pass_grows n w s h =
     move_grows n w s [] (at n (running w (further s s.last))) (seen n w (stage.Running (further s s.last))) Puts-nothing (passes n w s h.line h.there h.are) (as_running n w (further s s.last))
 
 -- a command after which the script goes on
-pub does_grows : {old new : Logged} (n : ℕ) (w : World) (s t : Running) (ws : List (List ℕ)) (o : Outcome) → HasWords s ws → 0 < length ws →
+pub does_grows : {old new : Logged} (n : ℕ) (w : World) (s t : Running) (ws : List (List ℕ)) (o : CommandOutcome) → HasWords s ws → 0 < length ws →
     effect w.opens ws ≡ says o → Does ws o None s t old new → Grows [] (seen n w (stage.Running s)) (seen n w (stage.Running t)) old new
 does_grows n w s t [] o h some e d = absurd (omega arith)
 does_grows n w s t (c ∷ cs) o h some e d =
@@ -70,7 +73,7 @@ does_grows n w s t (c ∷ cs) o h some e d =
     (does n w s h.line c cs o h.there h.are e d.0) (as_running n w (further s o.cause)))
 
 -- a command with which the script is left
-pub leaves_grows : {old new : Logged} (n : ℕ) (w : World) (s t : Running) (ws : List (List ℕ)) (o : Outcome) (cause : Cause) → HasWords s ws → 0 < length ws →
+pub leaves_grows : {old new : Logged} (n : ℕ) (w : World) (s t : Running) (ws : List (List ℕ)) (o : CommandOutcome) (cause : Cause) → HasWords s ws → 0 < length ws →
     effect w.opens ws ≡ says o → Does ws o (Some cause) s t old new → Grows [] (seen n w (stage.Running s)) (seen n w (stage.Left cause)) old new
 leaves_grows n w s t [] o cause h some e d = absurd (omega arith)
 leaves_grows {old} {new} n w s t (c ∷ cs) o cause h some e d =
@@ -167,12 +170,29 @@ pub empty_length : (ws : List (List ℕ)) → (length ws == 0) ≡ true → leng
 empty_length [] e = refl
 empty_length (w ∷ ws) e = eqb-true (length (w ∷ ws)) 0 e
 
--- what followed the request is what was asked for
-pub asked_by : (found : Bool) (t : Turn) (old mid new : Logged) (s : Running) (f : Fetch) (acts : Asked) (send : SendTo) (before after : Seen) →
-    found ≡ has_route before.world.net send → Puts old mid (out_texts (send_records before.world.net f.number acts.tried send)) →
-    Followed found t s f before after mid new → AskedFor t s f acts send before after old new
-asked_by true t old mid new s f acts send before after route p q =
-    waits (sym route) q.0 (subst (λ (x : Logged). Puts old x (out_texts (send_records before.world.net f.number acts.tried send))) (sym q.1) p) q.2
-asked_by false t old mid new s f acts send before after route p q =
-    let nothing : Puts old mid (out_texts []) = subst (λ b. Puts old mid (out_texts (cond b (try_records f.number acts.tried ++ (sent (put_on before.world.net send (way_of before.world.net send)) ∷ [])) []))) (sym route) p in
-    fails_so (sym route) q.0 (Puts-outs [] (ended f.number (no_route f.server.0) ∷ conclusion_records s.depth (fails (no_route f.server.0))) nothing q.1) q.2
+-- where there is no route, nothing was put
+pub nothing_sent : {old new : Logged} (net : Client) (number : ℕ) (tried : Option ℕ) (send : SendTo) → has_route net send ≡ false →
+    Puts old new (out_texts (send_records net number tried send)) → Puts old new (out_texts [])
+nothing_sent {old} {new} net number tried send route p =
+    subst (λ b. Puts old new (out_texts (cond b (try_records number tried ++ (sent (put_on net send (way_of net send)) ∷ [])) []))) route p
+
+-- a command was over at once, and the script goes on or was left
+pub settled_acts : (left : Option Cause) (t : Turn) (old new : Logged) (n : ℕ) (w : World) (s s' : Running) (ws : List (List ℕ)) (o : CommandOutcome) (at after : Seen) →
+    HasWords s ws → 0 < length ws → effect w.opens ws ≡ says o → Does ws o left s s' old new → at.used ≡ n → at.world ≡ w → SettlesScript left t s' at after →
+    Acts t [] (seen n w (stage.Running s)) after old new
+settled_acts None t old new n w s s' ws o at after h some e d used world settles =
+    rw (settles.0, settles.1, used, world) (does_grows n w s s' ws o h some e d, tt)
+settled_acts (Some cause) t old new n w s s' ws o at after h some e d used world settles =
+    turn_acts t old new [] (seen n w (stage.Running s)) after (rw settles.1 settles.0)
+    (rw (settles.1, used, world) (leaves_grows n w s s' ws o cause h some e d))
+
+pub settled_nearer : (left : Option Cause) (t : Turn) (old new : Logged) (n : ℕ) (w : World) (s s' : Running) (ws : List (List ℕ)) (o : CommandOutcome) (at after : Seen) →
+    HasWords s ws → Does ws o left s s' old new → SettlesScript left t s' at after → IsNearer t (seen n w (stage.Running s)) after
+settled_nearer None t old new n w s s' ws o at after h d settles =
+    rw (settles.0, settles.1, d.1) (further_left s o.cause h.line h.there)
+settled_nearer (Some cause) t old new n w s s' ws o at after h d settles = nearer_over t after cause settles.0
+  where
+    nearer_over : (t : Turn) (after : Seen) (cause : Cause) → IsTurn t (stage.Left cause) → IsNearer t (seen n w (stage.Running s)) after
+    nearer_over turn.More after cause is = absurd is
+    nearer_over turn.Waiting after cause is = absurd is
+    nearer_over (turn.Over x) after cause is = tt

@@ -3,7 +3,7 @@ use Rattle.std.specs.Prelude.{ℕ, ◌+◌, ◌<◌, ◌≤◌, length, sum_by, 
 use Rattle.std.specs.List.{join_with_byte, flat_map}
 use Rattle.nb_terms.specs.declared.cause.Cause.{Cause}
 use Rattle.nb_defs.specs.Causes.{unknown, usage, exit_cause}
-use Rattle.nb_defs.specs.Commands.{Outcome, printed, refused}
+use Rattle.nb_defs.specs.Commands.{CommandOutcome, prints_text, refused}
 use Rattle.nb_uri.specs.Views.{target_of}
 use Rattle.nb_tftpmsg.specs.Texts.{HasNoZero}
 use Rattle.nb_engine.specs.Effects.{Effect, says, asks, bad_uri, too_long_uri, full_opens}
@@ -23,8 +23,8 @@ cause_of TooLong = too_long_uri
 cause_of Full = full_opens
 
 -- the line feed behind what echo prints
-abbrev pub end_of : Bool → List ℕ
-end_of newline = if newline then 10 ∷ [] else []
+abbrev pub line_end : Bool → List ℕ
+line_end newline = if newline then 10 ∷ [] else []
 
 -- words, each behind a space
 abbrev pub spaced : List (List ℕ) → List ℕ
@@ -35,12 +35,12 @@ abbrev pub wanted_of : Wanted → defs.Wanted
 wanted_of w = record { uri = w.uri.now; target = target_of w.target; boots = w.boots }
 
 abbrev pub effect_of : Result Command Refusal → Effect
-effect_of (Ok (Echo newline words)) = says (printed (join_with_byte 32 words.now ++ end_of newline))
+effect_of (Ok (Echo newline words)) = says (prints_text (join_with_byte 32 words.now ++ line_end newline))
 effect_of (Ok (Exit n)) = says (record { prints = None; cause = exit_cause n; leaves = true })
 effect_of (Ok (Fetch w)) = asks (wanted_of w)
 effect_of (Err refusal) = says (refused (cause_of refusal))
 
-abbrev pub done_of : Done → Outcome
+abbrev pub done_of : Done → CommandOutcome
 done_of d = record { prints = d.prints; cause = d.cause; leaves = d.leaves }
 
 -- a command that is over at once

@@ -39,9 +39,9 @@ pub record Concludes (t : Turn) (s : Running) (c : Concluded) (before after : Se
   pub stands : StandsFor after (at before.used (phase_after before.world s (conclusion_of c before.world.images)))
 
 -- the open has ended: what was asked, its end and the result were put, unless memory ran out
-abbrev pub Ends : Turn → Acts → Cause → Running → Fetch → Seen → Seen → Logged → Logged → Type 0
-Ends (turn.Over status.NoMemory) acts cause s f before after old new = new ≡ old
-Ends t acts cause s f before after old new =
+abbrev pub EndsOpen : Turn → Acts → Cause → Running → Fetch → Seen → Seen → Logged → Logged → Type 0
+EndsOpen (turn.Over status.NoMemory) acts cause s f before after old new = new ≡ old
+EndsOpen t acts cause s f before after old new =
     IsTurn t after.stage
     × Puts old new (out_texts (step before.used ∷ (acts_records before.world.net f.number acts ++ (ended f.number cause ∷ [])
     ++ conclusion_records s.depth (conclusion cause f.boots (image_of f.name f.body [] f.uri) before.world.images))))

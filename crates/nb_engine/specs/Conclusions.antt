@@ -9,9 +9,9 @@ use Rattle.nb_image.specs.declared.error.ImageError.{ImageError}
 use Rattle.nb_image.specs.declared.error.ImageError.TheVariants as error
 use Rattle.nb_image.specs.declared.kind.ImageKind.{ImageKind}
 use Rattle.nb_image.specs.declared.kind.ImageKind.TheVariants as kind
-use Rattle.nb_image.specs.Images.{ImageList, image_of, with_image, place_of, refusal}
+use Rattle.nb_image.specs.Images.{ImageList, image_of, with_image, image_place, refusal}
 use Rattle.nb_image.specs.Kinds.{kind_of}
-use Rattle.nb_image.specs.Parts.{PartText, PieceText, number_of, parts, pieces}
+use Rattle.nb_image.specs.Parts.{PartText, PieceText, part_number, parts, part_pieces}
 use Rattle.nb_engine.specs.Opens.{Open, body_of}
 
 -- the image can't be booted
@@ -48,7 +48,7 @@ added image list = record { images = with_image image list.images; selected = li
 
 -- the place at which an image is added
 abbrev pub place_for : Image → ImageList → ℕ
-place_for image list = unwrap_or (place_of image.name list.images) (length list.images)
+place_for image list = unwrap_or (image_place image.name list.images) (length list.images)
 
 -- the list with the image added and selected
 abbrev pub selected_in : Image → ImageList → ImageList
@@ -75,10 +75,10 @@ conclusion_records depth (boots list kernel) = result ok ∷ []
 
 -- a piece of a part of the hand-off
 abbrev pub piece_record : PartText → PieceText → Out
-piece_record p piece = part (number_of p.kind) p.index piece.offset piece.bytes
+piece_record p piece = part (part_number p.kind) p.index piece.offset piece.bytes
 
 abbrev pub part_records : PartText → List Out
-part_records p = map (piece_record p) (pieces p.bytes)
+part_records p = map (piece_record p) (part_pieces p.bytes)
 
 -- the records of a hand-off: each part in its pieces
 abbrev pub handoff_records : ℕ → List Image → List Out

@@ -4,7 +4,7 @@ use Rattle.std.specs.Option.{option_map_or}
 use Rattle.std.specs.Str.{bytes_eq}
 use Rattle.nb_terms.specs.declared.cause.Cause.{Cause}
 use Rattle.nb_defs.specs.Causes.{ok, usage, plain_cause}
-use Rattle.nb_defs.specs.Commands.{Outcome, refused, outcome, is_option}
+use Rattle.nb_defs.specs.Commands.{CommandOutcome, refused, command_outcome, is_option}
 use Rattle.nb_uri.specs.Targets.{TftpTarget, tftp_target, is_too_long}
 
 -- the URI is none that is fetched
@@ -26,12 +26,12 @@ pub record Wanted : Type 0 where
   pub boots : Bool
 
 pub data Effect : Type 0 where
-  says : Outcome → Effect
+  says : CommandOutcome → Effect
   asks : Wanted → Effect
 
 -- the refusals in their order
-abbrev pub asked : ℕ → Bool → List ℕ → TftpTarget → Effect
-asked opens boots uri target =
+abbrev pub asked_for : ℕ → Bool → List ℕ → TftpTarget → Effect
+asked_for opens boots uri target =
     if is_too_long target then says (refused too_long_uri)
     else if opens == 16384 then says (refused full_opens)
     else asks (record { uri = uri; target = target; boots = boots })
@@ -39,7 +39,7 @@ asked opens boots uri target =
 -- one word, a URI; a word that begins with `--` is an option, of which there is none
 unfoldable pub fetch : ℕ → Bool → List (List ℕ) → Effect
 fetch opens boots [] = says (refused usage)
-fetch opens boots (uri ∷ []) = if is_option uri then says (refused usage) else option_map_or (asked opens boots uri) (tftp_target uri) (says (refused bad_uri))
+fetch opens boots (uri ∷ []) = if is_option uri then says (refused usage) else option_map_or (asked_for opens boots uri) (tftp_target uri) (says (refused bad_uri))
 fetch opens boots (uri ∷ w ∷ ws) = says (refused usage)
 
 -- what a command comes to, by its words and how many opens were made
@@ -48,4 +48,4 @@ effect opens [] = says (refused ok)
 effect opens (name ∷ args) =
     if bytes_eq name (codes "imgfetch") then fetch opens false args
     else if bytes_eq name (codes "imgexec") then fetch opens true args
-    else says (outcome (name ∷ args))
+    else says (command_outcome (name ∷ args))

@@ -5,7 +5,7 @@ use Rattle.std.specs.List.{slice_range}
 use Rattle.nb_tftp.specs.Asks.{Begun}
 use Rattle.nb_tftp.specs.History.{Call, Entry, entry, given_of, is_ended}
 use Rattle.nb_tftp.specs.Stands.{Stands}
-use Rattle.nb_tftp.specs.Sound.{IsSound}
+use Rattle.nb_tftp.specs.Sound.{AreSoundActs}
 use Rattle.nb_image.specs.Images.{ImageList}
 use Rattle.nb_engine.specs.declared.fetch.Fetch.{Fetch}
 use Rattle.nb_engine.specs.declared.fetch.Heard.{Heard}
@@ -33,7 +33,7 @@ pub record TakesCall (old new : Fetch) (call : Call) (heard : Heard) : Type 0 wh
   pub same : IsSameFetch old new
   pub core : (b : Begun) (start : ℕ) (h : List Entry) → Stands b start old.transfer h → is_ended h ≡ false →
       Stands b start new.transfer (h ++ entry call heard.acts ∷ [])
-  pub sound : (len : ℕ) × IsSound len heard.acts
+  pub sound : (len : ℕ) × AreSoundActs len heard.acts
   pub ends : heard.end ≡ end_of (old.body ++ given_of call heard.acts.give) heard.acts
   pub short : length new.body ≤ 268435456
   pub body : (new.body ≡ old.body ++ given_of call heard.acts.give) ⊎ (is_over_limit (old.body ++ given_of call heard.acts.give) ≡ true)
@@ -68,7 +68,7 @@ HasKept (concluded.Boots kernel) before after = kernel < length after.images
 
 -- the program's conclusion is this one, with the list of images that it leaves; one that fails leaves the
 -- list, and one that boots names a place of it
-pub record Concludes (c : Concluded) (is : Conclusion) (before after : ImageList) : Type 0 where
+pub record IsConclusion (c : Concluded) (is : Conclusion) (before after : ImageList) : Type 0 where
   pub same : is ≡ conclusion_of c after
   pub kept : HasKept c before after
   pub short : AreShort before.images → AreShort after.images

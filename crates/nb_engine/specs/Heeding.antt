@@ -49,23 +49,3 @@ pub record HasHeard (heard : Heard) (f : Fetch) (o : Open) (call : Call) : Type 
 -- nothing, or a frame
 abbrev pub IsReply : List ℕ → Type 0
 IsReply bytes = (bytes ≡ []) ⊎ IsFrameRecord bytes
-
--- the open that a command waits for is one of this server
-abbrev pub asks_server : Stage → Ip4 → Bool
-asks_server (stage.Waiting s f) server = server.0 == f.server.0
-asks_server stage.Ready server = false
-asks_server (stage.Running s) server = false
-asks_server (stage.HandingOff h) server = false
-asks_server (stage.Left cause) server = false
-asks_server stage.HandedOff server = false
-asks_server stage.Stopped server = false
-
--- what a client hears that waits for an open
-abbrev pub heard_at : Stage → Outcome → Option (ℕ × List ℕ)
-heard_at (stage.Waiting s f) out = heard_from f.server out
-heard_at stage.Ready out = None
-heard_at (stage.Running s) out = None
-heard_at (stage.HandingOff h) out = None
-heard_at (stage.Left cause) out = None
-heard_at stage.HandedOff out = None
-heard_at stage.Stopped out = None

@@ -14,5 +14,4 @@ pub mod Turns
 pub mod Heeding
 pub mod Concluding
 pub mod Advance
-pub mod Numbers
 pub mod Honesty

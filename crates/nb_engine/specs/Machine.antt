@@ -5,15 +5,15 @@ use Rattle.nb_terms.specs.declared.cause.Cause.{Cause}
 use Rattle.nb_terms.specs.declared.acts.Acts.{Acts}
 use Rattle.nb_defs.specs.Causes.{ok, not_script, is_ok_cause, plain_cause}
 use Rattle.nb_defs.specs.Records.{Start, In, start, frame, tick, off, IsIn, Out, step, sent, text, command, result, enter, leave, ended}
-use Rattle.nb_defs.specs.ScriptText.{is_plain, lines, words}
-use Rattle.nb_defs.specs.Commands.{Outcome}
+use Rattle.nb_defs.specs.ScriptText.{is_plain, lines, line_words}
+use Rattle.nb_defs.specs.Commands.{CommandOutcome}
 use Rattle.nb_stack.specs.Client.{Client}
 use Rattle.nb_stack.specs.Takes.{Outcome as TakeOutcome, Takes}
 use Rattle.nb_tftp.specs.Received.{received}
 use Rattle.nb_tftp.specs.History.{Call, came, ticked, entry}
 use Rattle.nb_tftp.specs.Sentences.{Meets}
 use Rattle.nb_engine.specs.declared.world.World.{World}
-use Rattle.nb_engine.specs.World.{world_of, with_net, later, with_images, with_open, unbound}
+use Rattle.nb_engine.specs.World.{world_of, with_net, world_later, world_with_images, with_open, unbound}
 use Rattle.nb_engine.specs.Effects.{Wanted, says, asks, effect}
 use Rattle.nb_engine.specs.Opens.{Open, open_for, with_entry, body_of, request_of, has_route, send_records, acts_records, opened_record, heard_from, end_of, begun_for}
 use Rattle.nb_engine.specs.Conclusions.{Conclusion, keeps, fails, boots, conclusion, image_from, conclusion_records, handoff_records}
@@ -75,11 +75,11 @@ abbrev pub command_record : Running → List (List ℕ) → Out
 command_record s ws = command s.depth (s.passed + 1) 0 true ws
 
 -- the records of a command that is over at once: COMMAND, what it prints, RESULT
-abbrev pub command_records : Running → List (List ℕ) → Outcome → List Out
+abbrev pub command_records : Running → List (List ℕ) → CommandOutcome → List Out
 command_records s ws o = (command_record s ws ∷ []) ++ prints o.prints ++ (result o.cause ∷ [])
 
 -- whether the script is left after a command: it says so, or it failed and nothing is joined to it
-abbrev pub ends_script : Outcome → Bool
+abbrev pub ends_script : CommandOutcome → Bool
 ends_script o = o.leaves || not (is_ok_cause o.cause)
 
 -- there is no way to this server
@@ -92,7 +92,7 @@ stopped_cause = plain_cause 26
 
 -- the run goes on, is over, or hands off
 abbrev pub phase_after : World → Running → Conclusion → Phase
-phase_after w s (keeps list) = running (with_images w list) (further s ok)
+phase_after w s (keeps list) = running (world_with_images w list) (further s ok)
 phase_after w s (fails cause) = left cause
 phase_after w s (boots list kernel) = handing (handoff_records kernel list.images)
 
@@ -141,7 +141,7 @@ pub data Begins : Machine → In → List Out → Machine → Type 0 where
       Begins (at n (waiting w s o)) (frame bytes) (step (n + 1) ∷ added) (at (n + 1) phase)
   -- time passes
   passes_time : (n : ℕ) (w : World) (s : Running) (o : Open) (ms : ℕ) (added : List Out) (phase : Phase) → IsIn (tick ms) →
-      Hears (later w ms) s o (ticked (w.time + ms)) added phase →
+      Hears (world_later w ms) s o (ticked (w.time + ms)) added phase →
       Begins (at n (waiting w s o)) (tick ms) (step (n + 1) ∷ added) (at (n + 1) phase)
   -- the power is switched off: the open ends, and the command gives no result
   switches_off : (n : ℕ) (w : World) (s : Running) (o : Open) →
@@ -149,25 +149,25 @@ pub data Begins : Machine → In → List Out → Machine → Type 0 where
 
 -- What a run does next. Each rule has its condition, and one of them fits a script that runs and an image that is handed off.
 pub data Move : Machine → List Out → Machine → Type 0 where
-  -- a line without words is nothing
-  passes : (n : ℕ) (w : World) (s : Running) (line : List ℕ) → next_line s ≡ Some line → words line ≡ [] →
+  -- a line without line_words is nothing
+  passes : (n : ℕ) (w : World) (s : Running) (line : List ℕ) → next_line s ≡ Some line → line_words line ≡ [] →
       Move (at n (running w s)) [] (at n (running w (further s s.last)))
   -- a command after which the script goes on
-  does : (n : ℕ) (w : World) (s : Running) (line : List ℕ) (c : List ℕ) (cs : List (List ℕ)) (o : Outcome) → next_line s ≡ Some line → words line ≡ c ∷ cs →
+  does : (n : ℕ) (w : World) (s : Running) (line : List ℕ) (c : List ℕ) (cs : List (List ℕ)) (o : CommandOutcome) → next_line s ≡ Some line → line_words line ≡ c ∷ cs →
       effect w.opens (c ∷ cs) ≡ says o → ends_script o ≡ false →
       Move (at n (running w s)) (command_records s (c ∷ cs) o) (at n (running w (further s o.cause)))
   -- a command with which the script is left
-  leaves : (n : ℕ) (w : World) (s : Running) (line : List ℕ) (c : List ℕ) (cs : List (List ℕ)) (o : Outcome) → next_line s ≡ Some line → words line ≡ c ∷ cs →
+  leaves : (n : ℕ) (w : World) (s : Running) (line : List ℕ) (c : List ℕ) (cs : List (List ℕ)) (o : CommandOutcome) → next_line s ≡ Some line → line_words line ≡ c ∷ cs →
       effect w.opens (c ∷ cs) ≡ says o → ends_script o ≡ true →
       Move (at n (running w s)) (command_records s (c ∷ cs) o ++ (leave s.depth o.cause ∷ [])) (at n (left o.cause))
   -- a command that asks for a file: its open begins, and it waits
-  asks_for : (n : ℕ) (w : World) (s : Running) (line : List ℕ) (c : List ℕ) (cs : List (List ℕ)) (wanted : Wanted) → next_line s ≡ Some line → words line ≡ c ∷ cs →
+  asks_for : (n : ℕ) (w : World) (s : Running) (line : List ℕ) (c : List ℕ) (cs : List (List ℕ)) (wanted : Wanted) → next_line s ≡ Some line → line_words line ≡ c ∷ cs →
       effect w.opens (c ∷ cs) ≡ asks wanted → has_route w.net (request_of (begun_for w wanted)) ≡ true →
       Move (at n (running w s))
       (command_record s (c ∷ cs) ∷ opened_record w wanted ∷ send_records w.net w.opens (Some 1) (request_of (begun_for w wanted)))
       (at n (waiting (with_open w) s (open_for w wanted)))
   -- a command that asks for a file of a server to which there is no way
-  finds_no_route : (n : ℕ) (w : World) (s : Running) (line : List ℕ) (c : List ℕ) (cs : List (List ℕ)) (wanted : Wanted) → next_line s ≡ Some line → words line ≡ c ∷ cs →
+  finds_no_route : (n : ℕ) (w : World) (s : Running) (line : List ℕ) (c : List ℕ) (cs : List (List ℕ)) (wanted : Wanted) → next_line s ≡ Some line → line_words line ≡ c ∷ cs →
       effect w.opens (c ∷ cs) ≡ asks wanted → has_route w.net (request_of (begun_for w wanted)) ≡ false →
       Move (at n (running w s))
       (command_record s (c ∷ cs) ∷ opened_record w wanted ∷ ended w.opens (no_route wanted.target.server)

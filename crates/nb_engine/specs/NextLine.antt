@@ -1,6 +1,6 @@
 -- What stands on a script's next line.
 use Rattle.std.specs.Prelude.{◌≡◌, ◌≤◌, ℕ, List, length, sum_by, Some, None}
-use Rattle.nb_defs.specs.ScriptText.{words}
+use Rattle.nb_defs.specs.ScriptText.{line_words}
 use Rattle.nb_engine.specs.Machine.{Running, next_line}
 use Rattle.nb_engine.specs.declared.running.Next.{Next}
 use Rattle.nb_engine.specs.declared.running.Next.TheVariants as next
@@ -9,11 +9,11 @@ use Rattle.nb_engine.specs.declared.running.Next.TheVariants as next
 pub record HasWords (s : Running) (ws : List (List ℕ)) : Type 0 where
   pub line : List ℕ
   pub there : next_line s ≡ Some line
-  pub are : words line ≡ ws
+  pub are : line_words line ≡ ws
   pub few : length ws ≤ 64
   pub total : sum_by length ws ≤ 4096
   pub within : s.passed ≤ 4096
 
-abbrev pub IsNext : Running → Next → Type 0
-IsNext s next.End = next_line s ≡ None
-IsNext s (next.List list) = HasWords s list
+abbrev pub IsNextLine : Running → Next → Type 0
+IsNextLine s next.End = next_line s ≡ None
+IsNextLine s (next.List list) = HasWords s list

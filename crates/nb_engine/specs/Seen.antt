@@ -24,6 +24,10 @@ pub record Seen : Type 0 where
 abbrev pub seen : ℕ → World → Stage → Seen
 seen used world stage = record { used = used; world = world; stage = stage }
 
+-- the client, with its run standing here
+abbrev pub standing : Seen → Stage → Seen
+standing c stage = seen c.used c.world stage
+
 -- a port is bound only for the open that a command waits for
 abbrev pub HasPorts : Stage → List Port → Type 0
 HasPorts stage.Ready ports = Unit {0}

@@ -3,18 +3,18 @@ use Rattle.std.specs.Prelude.{ℕ}
 use Rattle.nb_engine.specs.declared.status.Status.{Status}
 use Rattle.nb_engine.specs.declared.status.Status.TheVariants.{HandedOff, BadWords, Ended, ScriptFailed, Unfinished, BadRecord, ReadFault, WriteFault, NoMemory, AttachFault, TooManyRecords}
 
-abbrev pub number_of : Status → ℕ
-number_of HandedOff = 0
-number_of BadWords = 2
-number_of Ended = 3
-number_of ScriptFailed = 4
-number_of Unfinished = 5
-number_of BadRecord = 6
-number_of ReadFault = 7
-number_of WriteFault = 8
-number_of NoMemory = 9
-number_of AttachFault = 10
-number_of TooManyRecords = 11
+abbrev pub status_number : Status → ℕ
+status_number HandedOff = 0
+status_number BadWords = 2
+status_number Ended = 3
+status_number ScriptFailed = 4
+status_number Unfinished = 5
+status_number BadRecord = 6
+status_number ReadFault = 7
+status_number WriteFault = 8
+status_number NoMemory = 9
+status_number AttachFault = 10
+status_number TooManyRecords = 11
 
 -- the statuses of a run whose first script was left
 abbrev pub IsLeftEnd : Status → Type 0

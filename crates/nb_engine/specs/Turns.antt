@@ -4,7 +4,7 @@ use Rattle.std.specs.Prelude.{◌≡◌, ℕ, ◌+◌, ◌<◌, List, [], ◌∷
 use Rattle.nb_defs.specs.Records.{In, start, frame, tick, off, Out, out_texts, ended, done}
 use Rattle.nb_record.specs.Logged.{Logged, Puts}
 use Rattle.nb_engine.specs.Machine.{Machine, Begins, Move, status_of, stopped_cause}
-use Rattle.nb_engine.specs.StatusNumber.{number_of}
+use Rattle.nb_engine.specs.StatusNumber.{status_number}
 use Rattle.nb_engine.specs.Steps.{lines_left}
 use Rattle.nb_engine.specs.Handings.{records_left}
 use Rattle.nb_engine.specs.Seen.{Seen, StandsFor}
@@ -37,7 +37,7 @@ IsWaiting stage.Stopped = ⊥
 
 -- the run is over, with this status
 abbrev pub IsOverWith : Stage → Status → Type 0
-IsOverWith (stage.Left cause) s = number_of s ≡ status_of cause
+IsOverWith (stage.Left cause) s = status_number s ≡ status_of cause
 IsOverWith stage.HandedOff s = s ≡ status.HandedOff
 IsOverWith stage.Stopped s = s ≡ status.Unfinished
 IsOverWith stage.Ready s = ⊥

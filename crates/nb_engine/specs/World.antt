@@ -41,11 +41,11 @@ own_port w number = 49152 + (w + number) % 16384
 abbrev pub with_net : World → Client → World
 with_net w net = record { w = w.w; time = w.time; net = net; opens = w.opens; images = w.images }
 
-abbrev pub later : World → ℕ → World
-later w ms = record { w = w.w; time = w.time + ms; net = w.net; opens = w.opens; images = w.images }
+abbrev pub world_later : World → ℕ → World
+world_later w ms = record { w = w.w; time = w.time + ms; net = w.net; opens = w.opens; images = w.images }
 
-abbrev pub with_images : World → ImageList → World
-with_images w images = record { w = w.w; time = w.time; net = w.net; opens = w.opens; images = images }
+abbrev pub world_with_images : World → ImageList → World
+world_with_images w images = record { w = w.w; time = w.time; net = w.net; opens = w.opens; images = images }
 
 -- with one more open, whose port is bound
 abbrev pub with_open : World → World

@@ -2,7 +2,7 @@ ghost use Rattle.std.specs.Prelude.{◌≡◌, ◌<◌, ◌-◌, ◌^◌, [], �
 ghost use Rattle.nb_defs.specs.Records.{IsIn, IsStart, out_texts};
 ghost use Rattle.nb_record.specs.View.{in_of, start_of};
 ghost use Rattle.nb_record.specs.Logged.{Puts};
-ghost use Rattle.nb_engine.specs.StatusNumber.{number_of};
+ghost use Rattle.nb_engine.specs.StatusNumber.{status_number};
 ghost use Rattle.nb_engine.specs.Turns.{Acts, IsBusy, IsNearer, MayUse, closing_records};
 ghost use Rattle.nb_engine.specs.declared.stage.Stage.TheVariants as stage;
 
@@ -13,6 +13,7 @@ use nb_record::{InRec, Log, NoMemory, OutRec, Start};
 use nb_terms::Plain;
 use std::alloc::Global;
 use std::marker::Model;
+use std::mem;
 
 /// How a call of the client ended.
 #[derive(Clone, Copy, Debug, PartialEq, Eq)]
@@ -71,11 +72,14 @@ impl Client {
         ensures { Acts result (in_of entry.now ∷ []) self.old self.new log.old log.new }
     {
         self.used += 1;
-        match entry {
-            InRec::Start(record) => self.start(&record.fields(), log),
-            InRec::Frame(bytes) => self.frame(bytes, log),
-            InRec::Tick(ms) => self.tick(*ms, log),
-            InRec::Off => self.switch_off(log),
+        match (mem::replace(&mut self.stage, Stage::Stopped), entry) {
+            (Stage::Ready, InRec::Start(record)) => self.start(&record.fields(), log),
+            (Stage::Waiting(script, fetch), InRec::Frame(bytes)) => {
+                self.frame(script, fetch, bytes, log)
+            }
+            (Stage::Waiting(script, fetch), InRec::Tick(ms)) => self.tick(script, fetch, *ms, log),
+            (Stage::Waiting(_, fetch), InRec::Off) => self.switch_off(fetch, log),
+            _ => unreachable!(),
         }
     }
 
@@ -86,19 +90,20 @@ impl Client {
         ensures does { Acts result [] self.old self.new log.old log.new }
         ensures nearer { IsNearer result self.old self.new }
     {
-        match &self.stage {
-            Stage::Running(_) => self.advance(log),
-            _ => self.hand_on(log),
+        match mem::replace(&mut self.stage, Stage::Stopped) {
+            Stage::Running(script) => self.advance(script, log),
+            Stage::HandingOff(handing) => self.hand_on(handing, log),
+            _ => unreachable!(),
         }
     }
 
     /// Puts the end of an open that is left, and DONE with the run's status, the last record.
     pub fn finish(&mut self, status: Status, log: &mut Log)
-        ensures puts { Puts log.old log.new (out_texts (closing_records self.old.stage (number_of status))) }
+        ensures puts { Puts log.old log.new (out_texts (closing_records self.old.stage (status_number status))) }
         ensures same { self.new ≡ self.old }
     {
         if let Stage::Waiting(_, fetch) = &self.stage {
-            put_over(fetch.number, Plain::Stopped.cause(), log);
+            put_over(fetch.get().number, Plain::Stopped.cause(), log);
         }
         log.put(&OutRec::Done(status.number()));
     }

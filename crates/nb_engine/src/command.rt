@@ -2,14 +2,14 @@ ghost use Rattle.std.specs.Prelude.{◌≡◌, ◌≤◌, ◌<◌, ◌+◌, leng
 ghost use Rattle.std.specs.List.{starts_with, join_with_byte};
 ghost use Rattle.std.specs.Str.{bytes_eq};
 ghost use Rattle.std.specs.Option.{option_map_or};
-ghost use Rattle.nb_defs.specs.Commands.{outcome, echo, exit, refused, is_option, begins_with_option, number_of};
+ghost use Rattle.nb_defs.specs.Commands.{command_outcome, echo, exit, refused, is_option, begins_with_option, number_of};
 ghost use Rattle.nb_uri.specs.Targets.{tftp_target};
-ghost use Rattle.nb_engine.specs.Effects.{effect, fetch, asked, says, bad_uri};
+ghost use Rattle.nb_engine.specs.Effects.{effect, fetch, asked_for, says, bad_uri};
 ghost use Rattle.nb_engine.specs.Machine.{ends_script};
 ghost use Rattle.nb_defs.specs.Causes.{exit_cause};
-ghost use Rattle.nb_engine.specs.CommandWords.{effect_of, cause_of, done_of, end_of, TakesWithin, TakesFewer, IsLocal, PrintsWithin, spaced, IfFetch, CanFetch};
+ghost use Rattle.nb_engine.specs.CommandWords.{effect_of, cause_of, done_of, line_end, TakesWithin, TakesFewer, IsLocal, PrintsWithin, spaced, IfFetch, CanFetch};
 
-use crate::number::read_number;
+use nb_numerals::number;
 use nb_record::{Cause, NoMemory};
 use nb_terms::{Fullness, Long, Plain, Reason};
 use nb_uri::{TftpUri, UriError};
@@ -150,7 +150,7 @@ fn read_exit(args: &[Word]) -> Result<Command<'_>, Refusal>
 {
     match args {
         [] => Ok(Command::Exit(0)),
-        [word] => match read_number(word.as_slice()) {
+        [word] => match number(word.as_slice()) {
             Some(n) if n <= 255 => Ok(Command::Exit(n as u8)),
             _ => Err(Refusal::Usage),
         },
@@ -161,7 +161,7 @@ fn read_exit(args: &[Word]) -> Result<Command<'_>, Refusal>
 /// The file that a URI names, where one more open may be made.
 fn read_uri(opens: u16, boots: bool, uri: &[u8]) -> Result<Command<'_>, Refusal>
     requires { opens ≤ 16384 }
-    ensures value { option_map_or (asked opens boots uri.now) (tftp_target uri.now) (says (refused bad_uri)) ≡ effect_of result }
+    ensures value { option_map_or (asked_for opens boots uri.now) (tftp_target uri.now) (says (refused bad_uri)) ≡ effect_of result }
     ensures file { IfFetch result (λ w. CanFetch opens w) }
 {
     match TftpUri::read(uri) {
@@ -205,11 +205,11 @@ pub fn read_command(opens: u16, words: &[Word]) -> Result<Command<'_>, Refusal>
 }
 
 /// A command that is over at once.
-#[tactic(auto, unfolding(nb_defs::specs::Commands::outcome))]
+#[tactic(auto, unfolding(nb_defs::specs::Commands::command_outcome))]
 fn read_local(words: &[Word]) -> Result<Command<'_>, Refusal>
     requires { 0 < length words.now }
     ensures local { IsLocal result }
-    ensures value { says (outcome words.now) ≡ effect_of result }
+    ensures value { says (command_outcome words.now) ≡ effect_of result }
     ensures within { TakesFewer words.now result }
 {
     let (name, args) = (&words[0], &words[1..]);
@@ -247,14 +247,14 @@ fn push_joined(bytes: &mut Vec<u8>, words: &[Word]) -> Result<(), NoMemory>
 }
 
 fn line_end(newline: bool) -> &'static [u8]
-    ensures { result.now ≡ end_of newline }
+    ensures { result.now ≡ line_end newline }
 {
     if newline { b"\n" } else { b"" }
 }
 
 /// Words joined by one space, and a line feed where it is wanted.
 fn joined(alloc: Global, words: &[Word], newline: bool) -> Result<Text, NoMemory>
-    ensures value { IfOk result (λ text. text ≡ join_with_byte 32 words.now ++ end_of newline) }
+    ensures value { IfOk result (λ text. text ≡ join_with_byte 32 words.now ++ line_end newline) }
     ensures fits { IfOk result (λ text. length text ≤ sum_by length words.now + length words.now + 1) }
 {
     let mut bytes = Vec::new(alloc);

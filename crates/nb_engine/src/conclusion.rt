@@ -2,9 +2,9 @@ ghost use Rattle.std.specs.Prelude.{◌≡◌, ◌<◌, ◌≤◌, [], None, tru
 ghost use Rattle.nb_image.specs.Images.{image_of, refusal};
 ghost use Rattle.nb_image.specs.Kinds.{kind_of};
 ghost use Rattle.nb_engine.specs.Conclusions.{conclusion, taken_in, cause_of_error, is_bootable};
-ghost use Rattle.nb_engine.specs.Fetches.{Concludes, Chooses};
+ghost use Rattle.nb_engine.specs.Fetches.{IsConclusion, Chooses};
 
-use crate::Fetch;
+use crate::KeptFetch;
 use nb_image::{ImageError, ImageKind, Images};
 use nb_record::{Cause, NoMemory};
 use nb_terms::{Large, Many, Plain, Reason};
@@ -47,44 +47,46 @@ fn is_bootable(kind: ImageKind) -> bool
 pub fn conclude(
     alloc: Global,
     images: &mut Images,
-    fetch: Fetch,
+    fetch: &mut KeptFetch,
     cause: Cause,
 ) -> Result<Conclusion, NoMemory>
-    requires name { length fetch.name ≤ 268435456 }
-    requires body { length fetch.body ≤ 268435456 }
+    requires name { length fetch.old.name ≤ 268435456 }
+    requires body { length fetch.old.body ≤ 268435456 }
     ensures refused { OnErr result (images.new ≡ images.old) }
-    ensures concludes { IfOk result (λ c. Concludes c (conclusion cause fetch.boots (image_of fetch.name fetch.body [] fetch.uri) images.old) images.old images.new) }
+    ensures concludes { IfOk result (λ c. IsConclusion c (conclusion cause fetch.old.boots (image_of fetch.old.name fetch.old.body [] fetch.old.uri) images.old) images.old images.new) }
 {
     if cause.code != 0 {
         return Ok(Conclusion::Fails(cause));
     }
-    if let Some(error) = images.refuses(fetch.name.as_slice(), &fetch.body) {
+    let ended = fetch.get();
+    if let Some(error) = images.refuses(ended.name.as_slice(), &ended.body) {
         return Ok(Conclusion::Fails(cause_of(error)));
     }
-    if fetch.boots && !is_bootable(fetch.body.kind()) {
+    if ended.boots && !is_bootable(ended.body.kind()) {
         return Ok(Conclusion::Fails(Plain::NotBootable.cause()));
     }
     store(alloc, images, fetch)
 }
 
 /// Takes the image into the list, which doesn't refuse it.
-fn store(alloc: Global, images: &mut Images, fetch: Fetch) -> Result<Conclusion, NoMemory>
-    requires room { refusal (image_of fetch.name fetch.body [] fetch.uri) images.old.images ≡ None }
-    requires name { length fetch.name ≤ 268435456 }
-    requires body { length fetch.body ≤ 268435456 }
-    requires kind { fetch.boots ≡ true → is_bootable (kind_of fetch.body) ≡ true }
+fn store(alloc: Global, images: &mut Images, fetch: &mut KeptFetch) -> Result<Conclusion, NoMemory>
+    requires room { refusal (image_of fetch.old.name fetch.old.body [] fetch.old.uri) images.old.images ≡ None }
+    requires name { length fetch.old.name ≤ 268435456 }
+    requires body { length fetch.old.body ≤ 268435456 }
+    requires kind { fetch.old.boots ≡ true → is_bootable (kind_of fetch.old.body) ≡ true }
     ensures refused { OnErr result (images.new ≡ images.old) }
-    ensures concludes { IfOk result (λ c. Concludes c (taken_in fetch.boots (image_of fetch.name fetch.body [] fetch.uri) images.old) images.old images.new) }
+    ensures concludes { IfOk result (λ c. IsConclusion c (taken_in fetch.old.boots (image_of fetch.old.name fetch.old.body [] fetch.old.uri) images.old) images.old images.new) }
 {
-    let Fetch {
-        name,
-        uri,
-        boots,
+    let body = fetch.take_body(alloc);
+    let ended = fetch.get();
+    match images.add(
+        alloc,
+        ended.name.as_slice(),
         body,
-        ..
-    } = fetch;
-    match images.add(alloc, name.as_slice(), body, b"", uri.as_slice()) {
-        Ok(place) => Ok(choose(images, boots, place)),
+        b"",
+        ended.uri.as_slice(),
+    ) {
+        Ok(place) => Ok(choose(images, ended.boots, place)),
         Err(_) => Err(NoMemory),
     }
 }

@@ -11,7 +11,7 @@ ghost use Rattle.nb_engine.specs.Opens.{end_of, is_over_limit};
 ghost use Rattle.nb_engine.specs.Fetches.{TakesCall, given_bytes, IsSameFetch, IsLive};
 ghost use Rattle.nb_tftp.specs.Sound.{IsRange};
 
-use crate::Wanted;
+use crate::{KeptFetch, Wanted};
 use nb_image::{Body, PushError};
 use nb_record::{Acts, Cause, NoMemory};
 use nb_terms::{Large, Reason};
@@ -76,7 +76,7 @@ impl Fetch {
         wanted: &Wanted<'_>,
         now: u64,
         acts: &mut Acts,
-    ) -> Result<Fetch, NoMemory>
+    ) -> Result<KeptFetch, NoMemory>
         requires clean { HasNoZero wanted.now.target.path.now }
         requires fits { length wanted.now.target.path.now ≤ 1024 }
         requires name { length wanted.now.target.name.now ≤ 255 }
@@ -97,16 +97,19 @@ impl Fetch {
             now,
             acts,
         ) {
-            Ok(transfer) => Ok(Fetch {
-                number,
-                server: target.server,
-                own_port,
-                name,
-                uri,
-                boots: wanted.boots,
-                transfer,
-                body: Body::new(alloc),
-            }),
+            Ok(transfer) => KeptFetch::of(
+                alloc,
+                Fetch {
+                    number,
+                    server: target.server,
+                    own_port,
+                    name,
+                    uri,
+                    boots: wanted.boots,
+                    transfer,
+                    body: Body::new(alloc),
+                },
+            ),
             Err(_) => unreachable!(),
         }
     }

@@ -4,7 +4,7 @@ ghost use Rattle.nb_record.specs.Logged.{Puts};
 ghost use Rattle.nb_engine.specs.Opens.{try_records, send_records, sends_records, advance_records, acts_records, has_route};
 ghost use Rattle.nb_engine.specs.Machine.{reply_records};
 ghost use Rattle.nb_engine.specs.Heeding.{IsReply};
-ghost use Rattle.nb_tftp.specs.Sound.{IsSound, AreUdp};
+ghost use Rattle.nb_tftp.specs.Sound.{AreSoundActs, AreUdp};
 
 use crate::desk::Room;
 use nb_record::{Acts, Cause, Log, OutRec, SendTo};
@@ -45,7 +45,7 @@ pub fn put_reply(reply: &[u8], log: &mut Log)
 #[tactic(auto, unfolding(crate::specs::Opens::acts_records))]
 #[inline(always)]
 pub fn put_acts(net: &mut Stack, number: u16, acts: &Acts, room: &mut Room, log: &mut Log)
-    requires { (len : ℕ) × IsSound len acts.now }
+    requires { (len : ℕ) × AreSoundActs len acts.now }
     ensures puts { Puts log.old log.new (out_texts (acts_records net.old number acts.now)) }
     ensures same { net.new ≡ net.old }
 {

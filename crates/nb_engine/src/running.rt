@@ -3,7 +3,7 @@ ghost use Rattle.nb_engine.specs.Machine.{command_record, command_records, first
 ghost use Rattle.nb_defs.specs.Records.{out_texts, leave};
 ghost use Rattle.nb_record.specs.Logged.{Puts};
 ghost use Rattle.nb_engine.specs.Steps.{Does};
-ghost use Rattle.nb_engine.specs.NextLine.{HasWords, IsNext};
+ghost use Rattle.nb_engine.specs.NextLine.{HasWords, IsNextLine};
 ghost use Rattle.nb_engine.specs.CommandWords.{done_of};
 
 use crate::command::Done;
@@ -14,13 +14,19 @@ use nb_wire::{Text, Word, Words};
 use std::alloc::Global;
 use std::marker::Model;
 
-/// A script that runs: its text, how many of its lines were passed, and the last result.
+/// A script's text, how many of its lines were passed, and the last result.
 #[derive(Drop)]
-pub struct RunningScript {
+struct Progress {
     depth: u8,
     script: PlainScript,
     passed: usize,
     last: Cause,
+}
+
+/// A script that runs. It stays at one place of memory: moving it moves its address alone.
+#[derive(Drop)]
+pub struct RunningScript {
+    place: Box<Progress>,
 }
 
 impl Model for RunningScript {
@@ -29,9 +35,9 @@ impl Model for RunningScript {
 
     ghost Value = { Running };
 
-    ghost view = { λ s. record { depth = s.depth; code = s.script; passed = s.passed; last = s.last } };
+    ghost view = { λ s. record { depth = s.place.value.depth; code = s.place.value.script; passed = s.place.value.passed; last = s.place.value.last } };
 
-    ghost invariant = { λ s. (1 ≤ s.passed) × (s.passed ≤ 4097) };
+    ghost invariant = { λ s. (1 ≤ s.place.value.passed) × (s.place.value.passed ≤ 4097) };
 }
 
 /// What stands on a script's next line.
@@ -55,15 +61,18 @@ fn put_prints(printed: &Option<Text>, log: &mut Log)
 
 impl RunningScript {
     /// The first script, its first line passed.
-    pub fn first(script: PlainScript) -> RunningScript
-        ensures { result ≡ first_script script }
+    pub fn first(alloc: Global, script: PlainScript) -> Result<RunningScript, NoMemory>
+        ensures { IfOk result (λ s. s ≡ first_script script) }
     {
-        RunningScript {
+        let start = Progress {
             depth: 1,
             script,
             passed: 1,
             last: Plain::Ok.cause(),
-        }
+        };
+        Ok(RunningScript {
+            place: Box::new(alloc, start)?,
+        })
     }
 
     /// Puts COMMAND, what the command prints, and its result.
@@ -84,7 +93,7 @@ impl RunningScript {
     {
         log.put(&OutRec::Script {
             what: 1,
-            depth: self.depth,
+            depth: self.place.depth,
             cause,
         });
     }
@@ -114,8 +123,8 @@ impl RunningScript {
         ensures { Puts log.old log.new (out_texts (command_record self.now words.now ∷ [])) }
     {
         log.put(&OutRec::Command {
-            depth: self.depth,
-            line: self.passed as u32 + 1,
+            depth: self.place.depth,
+            line: self.place.passed as u32 + 1,
             place: 0,
             expanded: true,
             words,
@@ -127,15 +136,16 @@ impl RunningScript {
         requires { self.old.passed ≤ 4096 }
         ensures { self.new ≡ further self.old last }
     {
-        self.passed += 1;
-        self.last = last;
+        self.place.passed += 1;
+        self.place.last = last;
     }
 
     /// What stands on the next line.
     pub fn next(&self, alloc: Global) -> Result<Next, NoMemory>
-        ensures { IfOk result (λ next. IsNext self.now next) }
+        ensures { IfOk result (λ next. IsNextLine self.now next) }
     {
-        let Some(line) = self.script.line(self.passed) else {
+        let place: &Progress = &self.place;
+        let Some(line) = place.script.line(place.passed) else {
             return Ok(Next::End);
         };
         Ok(Next::List(PlainScript::list(alloc, line)?))
@@ -146,6 +156,6 @@ impl RunningScript {
         requires { self.old.passed ≤ 4096 }
         ensures { self.new ≡ further self.old self.old.last }
     {
-        self.passed += 1;
+        self.place.passed += 1;
     }
 }

@@ -1,4 +1,4 @@
-use crate::{Fetch, Handing, RunningScript};
+use crate::{Handing, KeptFetch, RunningScript};
 use nb_record::Cause;
 
 /// Where a run stands.
@@ -9,7 +9,7 @@ pub enum Stage {
     /// A script runs.
     Running(RunningScript),
     /// The command on the script's next line waits for a fetch.
-    Waiting(RunningScript, Fetch),
+    Waiting(RunningScript, KeptFetch),
     /// An image is handed off.
     HandingOff(Handing),
     /// The first script was left with this cause.

@@ -1,5 +1,5 @@
 ghost use Rattle.std.specs.Prelude.{◌≡◌};
-ghost use Rattle.nb_engine.specs.StatusNumber.{number_of, IsLeftEnd};
+ghost use Rattle.nb_engine.specs.StatusNumber.{status_number, IsLeftEnd};
 ghost use Rattle.nb_engine.specs.Machine.{status_of};
 
 use nb_record::Cause;
@@ -34,7 +34,7 @@ pub enum Status {
 impl Status {
     /// The status's number, as DONE and the program's exit have it.
     pub fn number(self) -> u8
-        ensures { result ≡ number_of self }
+        ensures { result ≡ status_number self }
     {
         match self {
             Status::HandedOff => 0,
@@ -54,7 +54,7 @@ impl Status {
 
 /// How a run ends whose first script was left with this cause.
 pub fn status_after(cause: Cause) -> Status
-    ensures value { number_of result ≡ status_of cause }
+    ensures value { status_number result ≡ status_of cause }
     ensures kind { IsLeftEnd result }
 {
     if cause.code == 0 {

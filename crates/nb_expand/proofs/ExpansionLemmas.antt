@@ -5,7 +5,7 @@ use Rattle.std.proofs.lemmas.Bool.{lt-leb}
 use Rattle.nb_expand.specs.declared.token.Token.{Token}
 use Rattle.nb_expand.specs.declared.token.Token.TheVariants.{Open, Close, Byte}
 use Rattle.nb_expand.specs.declared.error.ExpandError.TheVariants.{TooLong}
-use Rattle.nb_expand.specs.Expansion.{put_back, expansion_from, answer}
+use Rattle.nb_expand.specs.Expansion.{put_back, expansion_from, expansion_answer}
 use Rattle.nb_expand.specs.Gathering.{Parts, IsAlike, with_more, answer_from}
 use Rattle.nb_expand.proofs.GatheringLemmas.{put_back-append, put_back-cons}
 
@@ -39,24 +39,24 @@ put_back-longer (next ∷ parts) text part around =
     let longer = put_back-longer parts text next around in
     omega (arith, whole, longer, length-append (put_back next (parts ++ text ∷ around)) (codes "${" ++ part))
 
-too_long : (text : List ℕ) → 4096 < length text → answer (Some text) ≡ Err TooLong
+too_long : (text : List ℕ) → 4096 < length text → expansion_answer (Some text) ≡ Err TooLong
 too_long text h = let off : nat_le (length text) 4096 ≡ false = lt-leb (length text) 4096 h in rw off refl
 
 end_same : (parts : List (List ℕ)) (text text' : List ℕ) (around : List (List ℕ)) → Decides text around → Decides text' around
-    → answer (Some (put_back (inner_of parts text) (around_of parts text around))) ≡ answer (Some (put_back (inner_of parts text') (around_of parts text' around)))
+    → expansion_answer (Some (put_back (inner_of parts text) (around_of parts text around))) ≡ expansion_answer (Some (put_back (inner_of parts text') (around_of parts text' around)))
 end_same [] text text' around h h' = too_long (put_back text around) h.1 ∙ sym (too_long (put_back text' around) h'.1)
 end_same (part ∷ parts) text text' around h h' =
     too_long (put_back part (parts ++ text ∷ around)) (omega (arith, h.1, put_back-longer parts text part around))
     ∙ sym (too_long (put_back part (parts ++ text' ∷ around)) (omega (arith, h'.1, put_back-longer parts text' part around)))
 
 -- two results of a name that is looked up once
-same_value : (found : Option (List ℕ)) (f g : List ℕ → Option (List ℕ)) → ((text : List ℕ) → answer (f text) ≡ answer (g text)) → answer (option_and_then f found) ≡ answer (option_and_then g found)
+same_value : (found : Option (List ℕ)) (f g : List ℕ → Option (List ℕ)) → ((text : List ℕ) → expansion_answer (f text) ≡ expansion_answer (g text)) → expansion_answer (option_and_then f found) ≡ expansion_answer (option_and_then g found)
 same_value None f g h = refl
 same_value (Some text) f g h = h text
 
 -- whichever of two such texts was gathered, the answer is the same
 pub same_answer : (value : List ℕ → Option (List ℕ)) → KnowsNames value → (rest : List Token) (parts : List (List ℕ)) (text text' : List ℕ) (around : List (List ℕ)) → Decides text around → Decides text' around
-    → answer (expansion_from value (inner_of parts text) (around_of parts text around) rest) ≡ answer (expansion_from value (inner_of parts text') (around_of parts text' around) rest)
+    → expansion_answer (expansion_from value (inner_of parts text) (around_of parts text around) rest) ≡ expansion_answer (expansion_from value (inner_of parts text') (around_of parts text' around) rest)
 same_answer value knows [] parts text text' around h h' = end_same parts text text' around h h'
 same_answer value knows (Open ∷ rest) [] text text' around h h' = same_answer value knows rest ([] ∷ []) text text' around h h'
 same_answer value knows (Open ∷ rest) (part ∷ parts) text text' around h h' = same_answer value knows rest ([] ∷ part ∷ parts) text text' around h h'
@@ -78,21 +78,21 @@ pub alike_answer : (value : List ℕ → Option (List ℕ)) → KnowsNames value
 alike_answer value knows parts kept (inl same) rest = sym (ap (λ p. answer_from value p rest) same)
 alike_answer value knows parts kept (inr h) rest =
     let texts = same_answer value knows rest [] parts.inner kept.inner parts.around h.1 (subst (λ (around : List (List ℕ)). Decides kept.inner around) h.0 h.2) in
-    texts ∙ ap (λ around. answer (expansion_from value kept.inner around rest)) (sym h.0)
+    texts ∙ ap (λ around. expansion_answer (expansion_from value kept.inner around rest)) (sym h.0)
 
 -- a closed part's text is at the end of the text around it
 pub after_close : (value : List ℕ → Option (List ℕ)) → KnowsNames value → (parts outer new : Parts) (text : List ℕ) → parts.around ≡ outer.inner ∷ outer.around → value parts.inner ≡ Some text → IsAlike (with_more outer text) new → (rest : List Token)
     → answer_from value parts (Close ∷ rest) ≡ answer_from value new rest
 after_close value knows parts outer new text around some alike rest =
     let step : expansion_from value parts.inner parts.around (Close ∷ rest) ≡ expansion_from value (outer.inner ++ text) outer.around rest = rw (around, some) refl in
-    ap answer step ∙ alike_answer value knows (with_more outer text) new alike rest
+    ap expansion_answer step ∙ alike_answer value knows (with_more outer text) new alike rest
 
 -- with no part open, `}` is a character
 pub after_plain_close : (value : List ℕ → Option (List ℕ)) → KnowsNames value → (parts new : Parts) → parts.around ≡ [] → IsAlike (with_more parts (125 ∷ [])) new → (rest : List Token)
     → answer_from value parts (Close ∷ rest) ≡ answer_from value new rest
 after_plain_close value knows parts new around alike rest =
     let step : expansion_from value parts.inner parts.around (Close ∷ rest) ≡ expansion_from value (parts.inner ++ 125 ∷ []) parts.around rest = rw around refl in
-    ap answer step ∙ alike_answer value knows (with_more parts (125 ∷ [])) new alike rest
+    ap expansion_answer step ∙ alike_answer value knows (with_more parts (125 ∷ [])) new alike rest
 
 pub none_open : (around : List (List ℕ)) → (0 < length around → ⊥) → around ≡ []
 none_open [] h = refl

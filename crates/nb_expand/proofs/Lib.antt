@@ -3,7 +3,6 @@ pub mod ExpansionLemmas
 pub mod UriLemmas
 pub mod PairLemmas
 pub mod AddressLemmas
-pub mod NumberLemmas
 pub mod NameLemmas
 pub mod NumberBackLemmas
 pub mod BytesBackLemmas

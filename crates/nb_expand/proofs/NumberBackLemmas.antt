@@ -11,8 +11,9 @@ use Rattle.std.proofs.lemmas.Bool.{lt-ltb, ne_eqb}
 use Rattle.std.proofs.lemmas.Bool.Decides.{nat_tests}
 use Rattle.std.proofs.lemmas.Fmt.{decimal_is_IsNumeral, digits_is_IsNumeral, decimal_digit, first_decimal}
 use Rattle.nb_defs.specs.Commands.{number_of, has_no_leading_zero}
-use Rattle.nb_expand.specs.Numbers.{digits_number, decimal_number, signed_number_of}
-use Rattle.nb_expand.proofs.NumberLemmas.{value_after, number_of-hex, number_of-decimal}
+use Rattle.nb_numerals.specs.Numbers.{digits_number, decimal_number}
+use Rattle.nb_expand.specs.Numbers.{signed_number_of}
+use Rattle.nb_numerals.proofs.NumberLemmas.{value_after, number_of-hex, number_of-decimal}
 
 -- digits pass the test
 digits_pass : (base : ℕ) (text : List ℕ) → AllDigits base text → list_all (λ c. is_digit c base) text ≡ true

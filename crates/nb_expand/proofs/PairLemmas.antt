@@ -8,7 +8,7 @@ use Rattle.std.proofs.lemmas.List.{append-nil}
 use Rattle.hex.specs.Hex.{encode_lower, encode_with, hex_digit_value, decode_sized, decode_pairs}
 use Rattle.hex.specs.declared.error.FromHexError.{FromHexError}
 use Rattle.hex.specs.declared.error.FromHexError.TheVariants.{InvalidHexCharacter}
-use Rattle.nb_expand.specs.Pairs.{printed_pairs, byte_of, pair_at, pair_behind, pairs_behind, parsed_pairs}
+use Rattle.nb_expand.specs.Pairs.{printed_pairs, byte_of_digits, pair_at, pair_behind, pairs_behind, parsed_pairs}
 
 abbrev separated : ℕ → ℕ → List ℕ
 separated separator b = separator ∷ encode_lower (b ∷ [])
@@ -55,7 +55,7 @@ digits_tell high low None l eh el = (InvalidHexCharacter high 0, rw eh refl)
 digits_tell high low (Some x) None eh el = (InvalidHexCharacter low 1, rw (eh, el) refl)
 digits_tell high low (Some x) (Some y) eh el = rw (eh, el) refl
 
-pub byte_of-tells : (high low : ℕ) → MatchOption (byte_of high low) ((e : FromHexError) × (decode_sized (high ∷ low ∷ []) 1 ≡ Err e)) (λ b. decode_sized (high ∷ low ∷ []) 1 ≡ Ok (b ∷ []))
+pub byte_of-tells : (high low : ℕ) → MatchOption (byte_of_digits high low) ((e : FromHexError) × (decode_sized (high ∷ low ∷ []) 1 ≡ Err e)) (λ b. decode_sized (high ∷ low ∷ []) 1 ≡ Ok (b ∷ []))
 byte_of-tells high low = digits_tell high low (hex_digit_value high) (hex_digit_value low) refl refl
 
 eqb-same : (n : ℕ) → (n == n) ≡ true
@@ -84,19 +84,19 @@ pub pairs-first : (separator : ℕ) (text : List ℕ) (b : ℕ) (behind : List �
 pairs-first separator [] b behind h = cc
 pairs-first separator (high ∷ []) b behind h = cc
 pairs-first separator (high ∷ low ∷ rest) b behind h =
-    rw eqb-same (pair_some rest behind b (byte_of high low) (pairs_behind separator) h)
+    rw eqb-same (pair_some rest behind b (byte_of_digits high low) (pairs_behind separator) h)
 
 pub pairs-first-none : (separator : ℕ) (text : List ℕ) → 0 < length text → pair_at text ≡ None → parsed_pairs separator text ≡ None
 pairs-first-none separator [] some h = absurd (omega arith)
 pairs-first-none separator (high ∷ []) some h = refl
 pairs-first-none separator (high ∷ low ∷ rest) some h =
-    rw eqb-same (pair_none rest (byte_of high low) (pairs_behind separator rest) h)
+    rw eqb-same (pair_none rest (byte_of_digits high low) (pairs_behind separator rest) h)
 
 next_some : (separator s : ℕ) (text : List ℕ) (b : ℕ) (behind : List ℕ) (test : Bool) → (s == separator) ≡ test → cond test (pair_at text) None ≡ Some (b, behind) → pairs_behind separator (s ∷ text) ≡ option_map (λ bytes. b ∷ bytes) (pairs_behind separator behind)
 next_some separator s text b behind false e h = cc
 next_some separator s [] b behind true e h = cc
 next_some separator s (high ∷ []) b behind true e h = cc
-next_some separator s (high ∷ low ∷ rest) b behind true e h = rw e (pair_some rest behind b (byte_of high low) (pairs_behind separator) h)
+next_some separator s (high ∷ low ∷ rest) b behind true e h = rw e (pair_some rest behind b (byte_of_digits high low) (pairs_behind separator) h)
 
 -- a further pair
 pub pairs-next : (separator : ℕ) (text : List ℕ) (b : ℕ) (behind : List ℕ) → pair_behind separator text ≡ Some (b, behind) → pairs_behind separator text ≡ option_map (λ bytes. b ∷ bytes) (pairs_behind separator behind)
@@ -107,7 +107,7 @@ next_none : (separator s : ℕ) (text : List ℕ) (test : Bool) → (s == separa
 next_none separator s [] test e h = refl
 next_none separator s (high ∷ []) test e h = refl
 next_none separator s (high ∷ low ∷ rest) false e h = rw e refl
-next_none separator s (high ∷ low ∷ rest) true e h = rw e (pair_none rest (byte_of high low) (pairs_behind separator rest) h)
+next_none separator s (high ∷ low ∷ rest) true e h = rw e (pair_none rest (byte_of_digits high low) (pairs_behind separator rest) h)
 
 pub pairs-next-none : (separator : ℕ) (text : List ℕ) → 0 < length text → pair_behind separator text ≡ None → pairs_behind separator text ≡ None
 pairs-next-none separator [] some h = absurd (omega arith)

@@ -22,9 +22,10 @@ use Rattle.uuid.proofs.RoundTrips.{parses_hyphenated_text}
 use Rattle.nb_settings.specs.declared.kind.Kind.{Kind}
 use Rattle.nb_settings.specs.declared.kind.Kind.TheVariants.{Str, Ipv4, Int8, Int16, Int32, Uint8, Uint16, Uint32, Hex, Hexhyp, Hexraw, Base64, Uuid, Uristring}
 use Rattle.nb_expand.specs.declared.printing.TheConstants.{RESERVED}
-use Rattle.nb_expand.specs.Addresses.{printed_address, decimal_byte, decimals, parsed_address, is_dot}
+use Rattle.nb_numerals.specs.Addresses.{decimal_byte, decimals, parsed_address, is_dot}
+use Rattle.nb_expand.specs.Addresses.{printed_address}
 use Rattle.nb_expand.specs.Numbers.{printed_signed, printed_unsigned, parsed_signed, parsed_unsigned}
-use Rattle.nb_expand.specs.Pairs.{printed_pairs, byte_of, pairs_behind, parsed_pairs}
+use Rattle.nb_expand.specs.Pairs.{printed_pairs, byte_of_digits, pairs_behind, parsed_pairs}
 use Rattle.nb_expand.specs.Printing.{printed, printed_uuid}
 use Rattle.nb_expand.specs.Reading.{parsed, IsWhole}
 use Rattle.nb_expand.specs.Uris.{printed_uri}
@@ -60,7 +61,7 @@ address_back a b c d ha hb hc hd =
 abbrev separated : ℕ → ℕ → List ℕ
 separated separator b = separator ∷ encode_lower (b ∷ [])
 
-digits_back : (b : ℕ) → b < 256 → byte_of (get_or lower_digits (b / 16) 0) (get_or lower_digits (b % 16) 0) ≡ Some b
+digits_back : (b : ℕ) → b < 256 → byte_of_digits (get_or lower_digits (b / 16) 0) (get_or lower_digits (b % 16) 0) ≡ Some b
 digits_back b h =
     let high = IsDigits-lower_digits (b / 16) (omega arith) in
     let low = IsDigits-lower_digits (b % 16) (omega arith) in

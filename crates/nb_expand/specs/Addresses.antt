@@ -1,9 +1,6 @@
--- RFC 791 addresses as text: four decimals from 0 to 255 without leading zeros, with dots between them
-use Rattle.std.specs.Prelude.{ℕ, ◌+◌, ◌==◌, Bool, take, drop, position, List, [], ◌∷◌, ◌++◌, length, Option, Some, None, option_and_then, if◌then◌else◌, codes}
+-- RFC 791 addresses as text: four decimals with dots between them
+use Rattle.std.specs.Prelude.{List, ℕ, [], ◌∷◌, ◌++◌, codes}
 use Rattle.std.specs.Fmt.{decimal}
-use Rattle.std.specs.List.{slice_split}
-use Rattle.std.specs.Option.{option_map}
-use Rattle.nb_expand.specs.Numbers.{below, decimal_number}
 
 -- the first four bytes; nothing of fewer
 abbrev pub printed_address : List ℕ → List ℕ
@@ -13,28 +10,3 @@ printed_address (a ∷ b ∷ c ∷ []) = []
 printed_address (a ∷ b ∷ []) = []
 printed_address (a ∷ []) = []
 printed_address [] = []
-
--- the byte that a decimal writes
-abbrev pub decimal_byte : List ℕ → Option ℕ
-decimal_byte text = below 256 (decimal_number text)
-
--- the bytes that texts write, each a decimal
-abbrev pub decimal_bytes : List (List ℕ) → Option (List ℕ)
-decimal_bytes [] = Some []
-decimal_bytes (text ∷ texts) = option_and_then (λ byte. option_map (λ bytes. byte ∷ bytes) (decimal_bytes texts)) (decimal_byte text)
-
-abbrev pub is_dot : ℕ → Bool
-is_dot b = b == 46
-
--- so many decimals
-abbrev pub decimals : ℕ → List (List ℕ) → Option (List ℕ)
-decimals count texts = if length texts == count then decimal_bytes texts else None
-
--- the four bytes of an address
-abbrev pub parsed_address : List ℕ → Option (List ℕ)
-parsed_address text = decimals 4 (slice_split is_dot text)
-
--- the byte of the decimal before the first dot, and what stands behind the dot
-abbrev pub decimal_and_dot : List ℕ → Option (ℕ × List ℕ)
-decimal_and_dot text =
-    option_and_then (λ dot. option_map (λ byte. (byte, drop (dot + 1) text)) (decimal_byte (take dot text))) (position is_dot text)

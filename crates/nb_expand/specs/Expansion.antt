@@ -32,10 +32,10 @@ expansion_from value inner (outer ∷ around) (Close ∷ rest) =
 expansion_from value inner around (Byte b ∷ rest) = expansion_from value (inner ++ b ∷ []) around rest
 
 -- the answer for an expansion: a text that is no name goes before a result of over 4,096 bytes
-abbrev pub answer : Option (List ℕ) → Result (List ℕ) ExpandError
-answer None = Err BadName
-answer (Some text) = if nat_le (length text) 4096 then Ok text else Err TooLong
+abbrev pub expansion_answer : Option (List ℕ) → Result (List ℕ) ExpandError
+expansion_answer None = Err BadName
+expansion_answer (Some text) = if nat_le (length text) 4096 then Ok text else Err TooLong
 
 -- the answer for a text
 unfoldable pub expanded : (List ℕ → Option (List ℕ)) → List ℕ → Result (List ℕ) ExpandError
-expanded value text = answer (expansion_from value [] [] (tokens text))
+expanded value text = expansion_answer (expansion_from value [] [] (tokens text))

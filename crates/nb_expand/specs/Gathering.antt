@@ -2,7 +2,7 @@
 use Rattle.std.specs.Prelude.{◌≡◌, ◌⊎◌, ℕ, ◌+◌, ◌-◌, ◌*◌, ◌<◌, ◌≤◌, List, [], ◌∷◌, ◌++◌, length, take, drop, Option, Result, codes}
 use Rattle.nb_expand.specs.declared.token.Token.{Token}
 use Rattle.nb_expand.specs.declared.error.ExpandError.{ExpandError}
-use Rattle.nb_expand.specs.Expansion.{put_back, expansion_from, answer}
+use Rattle.nb_expand.specs.Expansion.{put_back, expansion_from, expansion_answer}
 
 -- the text of the innermost open part, or of the result where no part is open, and the texts around it,
 -- from the inside out
@@ -45,4 +45,4 @@ IsAlike parts kept = (kept ≡ parts) ⊎ ((kept.around ≡ parts.around) × IsD
 
 -- the answer for what was gathered and what is left of a text
 abbrev pub answer_from : (List ℕ → Option (List ℕ)) → Parts → List Token → Result (List ℕ) ExpandError
-answer_from value parts rest = answer (expansion_from value parts.inner parts.around rest)
+answer_from value parts rest = expansion_answer (expansion_from value parts.inner parts.around rest)

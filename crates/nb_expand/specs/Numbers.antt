@@ -4,7 +4,8 @@ use Rattle.std.specs.Fmt.{digits, signed_decimal}
 use Rattle.std.specs.Int.{cast_signed, cast_unsigned, from_be_bytes, to_be_bytes, w32}
 use Rattle.std.specs.List.{starts_with}
 use Rattle.std.specs.Option.{option_map}
-use Rattle.nb_defs.specs.Commands.{number_of, are_digits, has_no_leading_zero, digits_value}
+use Rattle.nb_defs.specs.Commands.{number_of}
+use Rattle.nb_numerals.specs.Numbers.{below}
 
 -- the last bytes of a value, at most so many
 abbrev pub last_bytes : ℕ → List ℕ → List ℕ
@@ -40,11 +41,6 @@ signed_number_of text =
     if starts_with nat_eq text (codes "-") then option_map (λ n. neg_ℤ (pos n)) (number_of (drop 1 text))
     else option_map pos (number_of text)
 
--- a number, where it is below a bound
-abbrev pub below : ℕ → Option ℕ → Option ℕ
-below bound None = None
-below bound (Some n) = if nat_lt n bound then Some n else None
-
 -- a number from minus a bound to below it
 abbrev pub within : ℕ → Option ℤ → Option ℤ
 within bound None = None
@@ -62,10 +58,3 @@ parsed_signed size text =
 
 abbrev pub parsed_unsigned : ℕ → List ℕ → Option (List ℕ)
 parsed_unsigned size text = option_map (number_bytes size) (below (256 ^ size) (number_of text))
-
--- the number of digits in a base, and of decimal digits without leading zeros
-abbrev pub digits_number : ℕ → List ℕ → Option ℕ
-digits_number base text = if are_digits base text then Some (digits_value base text) else None
-
-abbrev pub decimal_number : List ℕ → Option ℕ
-decimal_number text = if has_no_leading_zero text then digits_number 10 text else None

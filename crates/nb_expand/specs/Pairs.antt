@@ -9,14 +9,14 @@ abbrev pub printed_pairs : ℕ → List ℕ → List ℕ
 printed_pairs separator bytes = drop 1 (flat_map (λ b. separator ∷ encode_lower (b ∷ [])) bytes)
 
 -- the byte of two digits of either case
-abbrev pub byte_of : ℕ → ℕ → Option ℕ
-byte_of high low = option_and_then (λ h. option_map (λ l. h * 16 + l) (hex_digit_value low)) (hex_digit_value high)
+abbrev pub byte_of_digits : ℕ → ℕ → Option ℕ
+byte_of_digits high low = option_and_then (λ h. option_map (λ l. h * 16 + l) (hex_digit_value low)) (hex_digit_value high)
 
 -- the byte of the pair that a text begins with, and what stands behind it
 abbrev pub pair_at : List ℕ → Option (ℕ × List ℕ)
 pair_at [] = None
 pair_at (high ∷ []) = None
-pair_at (high ∷ low ∷ rest) = option_map (λ byte. (byte, rest)) (byte_of high low)
+pair_at (high ∷ low ∷ rest) = option_map (λ byte. (byte, rest)) (byte_of_digits high low)
 
 -- the same behind a separator
 abbrev pub pair_behind : ℕ → List ℕ → Option (ℕ × List ℕ)
@@ -30,7 +30,7 @@ pairs_behind separator (s ∷ []) = None
 pairs_behind separator (s ∷ high ∷ []) = None
 pairs_behind separator (s ∷ high ∷ low ∷ rest) =
     if s == separator
-    then option_and_then (λ byte. option_map (λ bytes. byte ∷ bytes) (pairs_behind separator rest)) (byte_of high low)
+    then option_and_then (λ byte. option_map (λ bytes. byte ∷ bytes) (pairs_behind separator rest)) (byte_of_digits high low)
     else None
 
 -- the bytes of pairs with a separator between them; no pairs are no bytes

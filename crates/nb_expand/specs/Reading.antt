@@ -10,7 +10,7 @@ use Rattle.percent_encoding.specs.Percent.{percent_decode}
 use Rattle.uuid.specs.Text.{parsed_hyphenated}
 use Rattle.nb_expand.specs.Numbers.{parsed_signed, parsed_unsigned}
 use Rattle.nb_expand.specs.Pairs.{parsed_pairs}
-use Rattle.nb_expand.specs.Addresses.{parsed_address}
+use Rattle.nb_numerals.specs.Addresses.{parsed_address}
 
 -- the value that a text is of a kind, or None where it is none
 unfoldable pub parsed : Kind → List ℕ → Option (List ℕ)

@@ -1,6 +1,6 @@
 ghost use Rattle.std.specs.Prelude.{◌≡◌, ◌≢◌, ◌∷◌, List, Some, Ok, Err, IfOk, IsErrOf};
 ghost use Rattle.nb_expand.specs.declared.token.Token.{Token};
-ghost use Rattle.nb_expand.specs.Expansion.{answer, expanded};
+ghost use Rattle.nb_expand.specs.Expansion.{expansion_answer, expanded};
 ghost use Rattle.nb_expand.specs.Gathering.{answer_from};
 ghost use Rattle.nb_expand.specs.Values.{named_text};
 
@@ -57,10 +57,10 @@ fn after(
 }
 
 fn word_of(text: Vec<u8>) -> Result<Word, ExpandError>
-    ensures value { IfOk result (λ word. answer (Some text.items) ≡ Ok word) }
+    ensures value { IfOk result (λ word. expansion_answer (Some text.items) ≡ Ok word) }
     ensures bad_name { result ≢ Err ExpandError.BadName }
     ensures too_long { IsErrOf result ExpandError.TooLong
-        → answer (Some text.items) ≡ Err ExpandError.TooLong }
+        → expansion_answer (Some text.items) ≡ Err ExpandError.TooLong }
 {
     if text.len() > MAX_WORD {
         return Err(ExpandError::TooLong);

@@ -1,14 +1,13 @@
 ghost use Rattle.std.specs.Prelude.{◌≡◌, ◌+◌, ◌-◌, ◌^◌, ◌<◌, ◌≤◌, length, IfOk};
 ghost use Rattle.std.specs.Int.{cast_unsigned, w32};
-ghost use Rattle.std.specs.Char.{is_digit};
-ghost use Rattle.std.specs.List.{list_all};
 ghost use Rattle.std.specs.Option.{option_map};
 ghost use Rattle.nb_defs.specs.Commands.{number_of};
-ghost use Rattle.nb_expand.specs.Numbers.{last_bytes, filled, sign_fill, signed_of, unsigned_of, printed_signed, printed_unsigned, below, within, signed_number_of, digits_number, decimal_number};
+ghost use Rattle.nb_expand.specs.Numbers.{last_bytes, filled, sign_fill, signed_of, unsigned_of, printed_signed, printed_unsigned, within, signed_number_of};
+ghost use Rattle.nb_numerals.specs.Numbers.{below};
 
+use nb_numerals::number;
 use nb_terms::NoMemory;
 use std::alloc::Global;
-use std::str;
 
 /// A value's last bytes, at most `size`, as a number with a sign. No bytes print nothing.
 pub(crate) fn print_signed(alloc: Global, size: usize, bytes: &[u8]) -> Result<Vec<u8>, NoMemory>
@@ -85,48 +84,6 @@ pub(crate) fn read_signed(text: &[u8], most: u32) -> Option<u32>
 pub(crate) fn read_unsigned(text: &[u8], most: u32) -> Option<u32>
     ensures { result ≡ below (most + 1) (number_of text.now) }
 {
-    let number = number(text)?;
-    (number <= most).then_some(number)
-}
-
-/// The number that a text writes: decimal digits without leading zeros, or `0x` and hexadecimal
-/// digits. None where it is over 32 bits.
-fn number(text: &[u8]) -> Option<u32>
-    ensures { result ≡ below (2 ^ 32) (number_of text.now) }
-{
-    match text.strip_prefix(b"0x") {
-        Some(behind) => digits(behind, 16),
-        None => decimal(text),
-    }
-}
-
-/// The number of decimal digits without leading zeros. None where it is over 32 bits.
-pub(crate) fn decimal(text: &[u8]) -> Option<u32>
-    ensures { result ≡ below (2 ^ 32) (decimal_number text.now) }
-{
-    if text.len() > 1 && text[0] == b'0' {
-        return None;
-    }
-    digits(text, 10)
-}
-
-/// The value of digits in a base. None where one is no digit, there is none, or it is over 32 bits.
-fn digits(text: &[u8], base: u32) -> Option<u32>
-    requires low { 2 ≤ base }
-    requires high { base ≤ 16 }
-    ensures { result ≡ below (2 ^ 32) (digits_number base text.now) }
-{
-    // `from_str_radix` reads a sign too.
-    if !are_digits(text, base) {
-        return None;
-    }
-    u32::from_str_radix(str::from_utf8(text).ok()?, base).ok()
-}
-
-fn are_digits(text: &[u8], base: u32) -> bool
-    requires low { 2 ≤ base }
-    requires high { base ≤ 16 }
-    ensures { result ≡ list_all (λ c. is_digit c base) text.now }
-{
-    text.iter().all(|byte| char::from(*byte).is_digit(base))
+    let value = number(text)?;
+    (value <= most).then_some(value)
 }

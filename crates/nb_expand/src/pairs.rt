@@ -1,7 +1,7 @@
 ghost use Rattle.std.specs.Prelude.{◌≡◌, ◌<◌, ◌∷◌, [], Some, None, length, IfOk, IfSome, IsErrOf};
 ghost use Rattle.std.specs.Option.{option_map};
 ghost use Rattle.hex.specs.Hex.{encode_lower};
-ghost use Rattle.nb_expand.specs.Pairs.{printed_pairs, byte_of, pair_at, pair_behind, parsed_pairs};
+ghost use Rattle.nb_expand.specs.Pairs.{printed_pairs, byte_of_digits, pair_at, pair_behind, parsed_pairs};
 
 use crate::ParseError;
 use nb_terms::NoMemory;
@@ -75,7 +75,7 @@ fn pair_at(text: &[u8]) -> Option<(u8, &[u8])>
 }
 
 fn byte_of(high: u8, low: u8) -> Option<u8>
-    ensures { result ≡ byte_of high low }
+    ensures { result ≡ byte_of_digits high low }
 {
     let mut byte = [0];
     match hex::decode_to_slice([high, low].as_slice(), &mut byte) {

@@ -4,8 +4,8 @@ use Rattle.std.proofs.Common.{◌≡◌, ℕ, ◌⊎◌, inl, inr, List, [], ◌
 use Rattle.nb_ledger.specs.declared.port.Port.{Port}
 use Rattle.nb_ledger.specs.declared.event.GraphEvent.{GraphEvent}
 use Rattle.nb_ledger.specs.Ledger.{Ledger, port, open_count}
-use Rattle.nb_graph.specs.Deeds.{Deed, writes, calls, turns, Turn}
-use Rattle.nb_graph.specs.Accounts.{Account, Joined, Midway, joined, parted, account, after_note, rests}
+use Rattle.nb_graph.specs.Deeds.{Deed, writes, begins, calls, turns, Turn}
+use Rattle.nb_graph.specs.Accounts.{Account, JoinedEnds, Midway, joined, parted, account, after_note, rests}
 use Rattle.nb_graph.specs.Flows.{IsShut, Still}
 use Rattle.nb_graph.specs.Moves.{Calms, Mild}
 
@@ -13,10 +13,11 @@ pub account-append : {N L : Type 0} (known : Nature N L) (p : Port) (a : Account
 account-append known p a [] es = refl
 account-append known p a (writes e ∷ ds) es = account-append known p (after_note p a e) ds es
 account-append known p a (calls y e ∷ ds) es = account-append known p _ ds es
+account-append known p a (begins y n ∷ ds) es = account-append known p a ds es
 account-append known p a (turns u ∷ ds) es = account-append known p a ds es
 
 -- what was taken is the first of what was sent
-pub start-joined : {l : Ledger} {p q : Port} {s t w : List ℕ} → Joined l p q s t w → (rest : List ℕ) × (s ≡ t ++ rest)
+pub start-joined : {l : Ledger} {p q : Port} {s t w : List ℕ} → JoinedEnds l p q s t w → (rest : List ℕ) × (s ≡ t ++ rest)
 start-joined {w = w} (joined a b c d e) = (w, e)
 start-joined (parted a b c d r e) = (r, e)
 
@@ -24,6 +25,7 @@ pub Midway-append : {N L : Type 0} (known : Nature N L) (p q : Port) (a b : Acco
 Midway-append known p q a b [] es m n = n
 Midway-append known p q a b (writes e ∷ ds) es m n = (m.0, Midway-append known p q (after_note p a e) (after_note q b e) ds es m.1 n)
 Midway-append known p q a b (calls y e ∷ ds) es m n = (m.0, Midway-append known p q _ _ ds es m.1 n)
+Midway-append known p q a b (begins y o ∷ ds) es m n = Midway-append known p q a b ds es m n
 Midway-append known p q a b (turns u ∷ ds) es m n = Midway-append known p q a b ds es m n
 
 pub Mild-same : {old new : Ledger} → new.made ≡ old.made → ((x k : ℕ) → port new x k ≡ port old x k) → Mild old new
@@ -37,7 +39,7 @@ Mild-trans m n = record {
   shuts = λ x k h. n.shuts x k (m.shuts x k h);
 }
 
-pub Joined-mild : {old new : Ledger} {p q : Port} {s t w : List ℕ} → Mild old new → Joined old p q s t w → Joined new p q s t w
+pub Joined-mild : {old new : Ledger} {p q : Port} {s t w : List ℕ} → Mild old new → JoinedEnds old p q s t w → JoinedEnds new p q s t w
 Joined-mild {p = p} {q = q} m (joined a b c d e) = joined (rw m.same_made a) (rw m.same_made b) (m.keeps p.obj.0 p.slot q c) (m.keeps q.obj.0 q.slot p d) e
 Joined-mild {p = p} {q = q} m (parted a b c d r e) = parted (rw m.same_made a) (rw m.same_made b) (m.shuts p.obj.0 p.slot c) (m.shuts q.obj.0 q.slot d) r e
 
@@ -50,7 +52,7 @@ Calms-none known l = record {
   peers = λ p a. refl;
   enters = λ q b h. h;
   quiet = λ q b o h. h;
-  joins = λ p q a b w v f j. subst (Joined l p q a.sent b.taken) f j;
+  joins = λ p q a b w v f j. subst (JoinedEnds l p q a.sent b.taken) f j;
   midway = λ p q a b w v f j. λ _. start-joined j;
   apart = λ p q a b n. λ e. absurd (n e);
 }
@@ -78,13 +80,13 @@ Calms-turn known l u = record {
   peers = λ p a. refl;
   enters = λ q b h. h;
   quiet = λ q b o h. h;
-  joins = λ p q a b w v f j. subst (Joined l p q a.sent b.taken) f j;
+  joins = λ p q a b w v f j. subst (JoinedEnds l p q a.sent b.taken) f j;
   midway = λ p q a b w v f j. λ _. start-joined j;
   apart = λ p q a b n. λ e. absurd (n e);
 }
 
 -- one call after the other
-pub Calms-then : {N L : Type 0} {known : Nature N L} {a b c : Ledger} {f g h : Port → Port → Account → List ℕ → List ℕ → Type 0} {ds es : List (Deed N L)} → Calms known a b f ds → Calms known b c g es → ((p q : Port) (x y : Account) (w v : List ℕ) → h p q y w v → Joined a p q x.sent y.taken w → (u : List ℕ) × f p q y w u × (Joined b p q (account known p x ds).sent (account known q y ds).taken u → g p q (account known q y ds) u v)) → Calms known a c h (ds ++ es)
+pub Calms-then : {N L : Type 0} {known : Nature N L} {a b c : Ledger} {f g h : Port → Port → Account → List ℕ → List ℕ → Type 0} {ds es : List (Deed N L)} → Calms known a b f ds → Calms known b c g es → ((p q : Port) (x y : Account) (w v : List ℕ) → h p q y w v → JoinedEnds a p q x.sent y.taken w → (u : List ℕ) × f p q y w u × (JoinedEnds b p q (account known p x ds).sent (account known q y ds).taken u → g p q (account known q y ds) u v)) → Calms known a c h (ds ++ es)
 Calms-then {known = known} {c = c} {ds = ds} {es = es} k l split = record {
   same_made = l.same_made ∙ k.same_made;
   links = λ x j q h. k.links x j q (l.links x j q h);
@@ -108,7 +110,7 @@ pub Still-both : {N L : Type 0} {known : Nature N L} {a b c : Ledger} {ds es : L
 Still-both k l = Calms-then k l (λ p q x y w v e j. (w, refl, λ _. e))
 
 -- the same where less is asked
-pub Calms-weaken : {N L : Type 0} {known : Nature N L} {a b : Ledger} {f g : Port → Port → Account → List ℕ → List ℕ → Type 0} {ds : List (Deed N L)} → Calms known a b f ds → ((p q : Port) (x y : Account) (w v : List ℕ) → g p q y w v → Joined a p q x.sent y.taken w → f p q y w v) → Calms known a b g ds
+pub Calms-weaken : {N L : Type 0} {known : Nature N L} {a b : Ledger} {f g : Port → Port → Account → List ℕ → List ℕ → Type 0} {ds : List (Deed N L)} → Calms known a b f ds → ((p q : Port) (x y : Account) (w v : List ℕ) → g p q y w v → JoinedEnds a p q x.sent y.taken w → f p q y w v) → Calms known a b g ds
 Calms-weaken k less = record {
   same_made = k.same_made;
   links = k.links;
@@ -129,11 +131,11 @@ pub Calms-at : {N L : Type 0} {known : Nature N L} {a b : Ledger} {ds : List (De
 Calms-at {known = known} {ds = ds} e k = subst (λ z. Calms known z z Still ds) e k
 
 -- what is pending at a shut port doesn't matter
-pub Joined-any : {l : Ledger} {p q : Port} {s t w : List ℕ} (v : List ℕ) → open_count (port l p.obj.0 p.slot) ≡ 0 → Joined l p q s t w → Joined l p q s t v
+pub Joined-any : {l : Ledger} {p q : Port} {s t w : List ℕ} (v : List ℕ) → open_count (port l p.obj.0 p.slot) ≡ 0 → JoinedEnds l p q s t w → JoinedEnds l p q s t v
 Joined-any v z (joined a b c d e) = absurd (let i = sym (ap open_count c) ∙ z in cc)
 Joined-any v z (parted a b c d r e) = parted a b c d r e
 
-pub Calms-idle : {N L : Type 0} {known : Nature N L} {a b : Ledger} {f : Port → Port → Account → List ℕ → List ℕ → Type 0} {ds : List (Deed N L)} → Calms known a b Still ds → ((p q : Port) (x y : Account) (w v : List ℕ) → f p q y w v → Joined a p q x.sent y.taken w → IsShut a p ⊎ (w ≡ v)) → Calms known a b f ds
+pub Calms-idle : {N L : Type 0} {known : Nature N L} {a b : Ledger} {f : Port → Port → Account → List ℕ → List ℕ → Type 0} {ds : List (Deed N L)} → Calms known a b Still ds → ((p q : Port) (x y : Account) (w v : List ℕ) → f p q y w v → JoinedEnds a p q x.sent y.taken w → IsShut a p ⊎ (w ≡ v)) → Calms known a b f ds
 Calms-idle {a = a} k idle = record {
   same_made = k.same_made;
   links = k.links;

@@ -3,7 +3,7 @@ use Rattle.nb_ledger.specs.Flat.{Notice}
 use Rattle.std.proofs.Common.{◌≡◌, ℕ, ◌+◌, inl, inr, true, false, List, Option, refl, sym, ◌∙◌, subst, arith}
 use Rattle.std.proofs.lemmas.Bool.{cases_eq, false≢true}
 use Rattle.nb_ledger.specs.declared.port.ObjId.{ObjId}
-use Rattle.nb_ledger.specs.Ledger.{Ledger, live, rank}
+use Rattle.nb_ledger.specs.Ledger.{Ledger, object_lives, rank}
 use Rattle.nb_ledger.specs.Changes.{SameObjects, Adds, Removes}
 use Rattle.nb_ledger.specs.Settled.{Settles}
 use Rattle.nb_graph.specs.Calm.{Shrinks}
@@ -23,7 +23,7 @@ Ages-trans {a} {b} {c} p q =
     }
 
 -- no object is made, and those that stay keep their rank
-pub Ages-within : {old new : Ledger} → new.made ≡ old.made → ((x : ℕ) → live new x ≡ true → (live old x ≡ true) × (rank new x ≡ rank old x)) → Ages old new
+pub Ages-within : {old new : Ledger} → new.made ≡ old.made → ((x : ℕ) → object_lives new x ≡ true → (object_lives old x ≡ true) × (rank new x ≡ rank old x)) → Ages old new
 Ages-within {old} {new} e kept = record { later = omega (arith, e); kept = λ x h v. kept x v }
 
 pub Ages-shrinks : {old new : Ledger} → Shrinks old new → Ages old new
@@ -39,7 +39,7 @@ Ages-adds {old} {new} {y} {r} e a =
       later = omega arith;
       kept = λ x h v.
           let other : (x ≡ y → ⊥) = λ z. absurd (omega arith) in
-          (sym (a.live_set x ∙ but_other y true (live old) x other) ∙ v, a.rank_set x ∙ but_other y r (rank old) x other);
+          (sym (a.live_set x ∙ but_other y true (object_lives old) x other) ∙ v, a.rank_set x ∙ but_other y r (rank old) x other);
     }
 
 pub Ages-removes : {old new : Ledger} {y : ℕ} → Removes old new y → Ages old new
@@ -48,8 +48,8 @@ Ages-removes {old} {new} {y} r =
     record {
       later = omega arith;
       kept = λ x h v. elim (cases_eq x y) [
-        | inl e ↦ absurd (false≢true (sym (r.live_set x ∙ but_same y false (live old) x e) ∙ v))
-        | inr n ↦ (sym (r.live_set x ∙ but_other y false (live old) x n) ∙ v, r.rank_set x ∙ but_other y 0 (rank old) x n)
+        | inl e ↦ absurd (false≢true (sym (r.live_set x ∙ but_same y false (object_lives old) x e) ∙ v))
+        | inr n ↦ (sym (r.live_set x ∙ but_other y false (object_lives old) x n) ∙ v, r.rank_set x ∙ but_other y 0 (rank old) x n)
       ];
     }
 

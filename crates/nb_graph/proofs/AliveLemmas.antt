@@ -1,30 +1,30 @@
 -- Calm calls, with what objects stand for.
 use Rattle.nb_ledger.specs.Flat.{Notice}
 use Rattle.std.proofs.Common.{◌≡◌, ℕ, ◌⊎◌, true, List, [], ◌∷◌, ◌++◌, Option, refl, ap, sym, ◌∙◌, subst, append-nil}
-use Rattle.nb_ledger.specs.GraphRun.{Frame, IsIdle, Run}
-use Rattle.nb_ledger.specs.Ledger.{Ledger, busy, Agrees, state_of}
+use Rattle.nb_ledger.specs.GraphRun.{OnStack, IsIdle, GraphRunOf}
+use Rattle.nb_ledger.specs.Ledger.{Ledger, busy, Agrees, run_state}
 use Rattle.nb_graph.specs.Calm.{Calm, Shrinks}
 use Rattle.nb_graph.specs.Effects.{MayAskBelow}
 use Rattle.nb_graph.specs.declared.effects.Fx.{Fx}
-use Rattle.nb_graph.specs.Trace.{Nature, Entry, Said, lent, loads, carried}
+use Rattle.nb_graph.specs.Trace.{Nature, NodeEntry, Said, lent, loads, carried}
 use Rattle.nb_ledger.specs.declared.port.Port.{Port}
 use Rattle.nb_graph.specs.Deeds.{makes_of, emit_of, few_of, closes_of, runs_of, notice_of, Deed, Stage, Turn, turns}
-use Rattle.nb_graph.specs.Follows.{Follows}
+use Rattle.nb_graph.specs.Follows.{UsesStack}
 use Rattle.nb_graph.specs.Scene.{Scene, scene_of}
-use Rattle.nb_graph.specs.Accounts.{Account, Joined, account}
+use Rattle.nb_graph.specs.Accounts.{Account, JoinedEnds, account}
 use Rattle.nb_graph.specs.Flows.{IsShut, Still}
 use Rattle.nb_graph.specs.Moves.{Calms}
 use Rattle.nb_graph.proofs.AccountLemmas.{Calms-idle, Calms-turn, Calms-none, Calms-then, Calms-weaken, Calms-books, Still-both}
 use Rattle.nb_graph.specs.Order.{none}
 use Rattle.nb_graph.proofs.OrderLemmas.{lets-append}
 use Rattle.nb_ledger.specs.Flat.{Given, Notice}
-use Rattle.nb_graph.specs.Lives.{Lives, CalmFor, RunFor, Same, Back, here, nodes_at}
+use Rattle.nb_graph.specs.Lives.{StaysTraced, CalmFor, RunFor, Same, Back, here, nodes_at}
 use Rattle.nb_graph.proofs.ShrinkLemmas.{Calm-refl, Calm-trans}
 use Rattle.nb_graph.proofs.RunsLemmas.{IsRun-none, IsRun-trans}
 use Rattle.nb_graph.proofs.LivesLemmas.{Lives-opened, Lives-under, Lives-above, Lives-turn, Lives-then, Lives-after, Lives-none, Lives-weaken}
 use Rattle.nb_graph.proofs.OwingLemmas.{Same-then, Back-then, Back-same, Same-back}
 
-pub CalmFor-refl : {N L : Type 0} (stands : N → List (Entry N L) → Type 0) (known : Nature N L) (now : ℕ) (l : Ledger) (nodes : List N) (m : Option (List Notice)) {f : Port → Port → Account → List ℕ → List ℕ → Type 0} → ((p q : Port) (x y : Account) (w v : List ℕ) → f p q y w v → Joined l p q x.sent y.taken w → IsShut l p ⊎ (w ≡ v)) → CalmFor stands known now l l nodes nodes (Same (busy l)) f here m m
+pub CalmFor-refl : {N L : Type 0} (stands : N → List (NodeEntry N L) → Type 0) (known : Nature N L) (now : ℕ) (l : Ledger) (nodes : List N) (m : Option (List Notice)) {f : Port → Port → Account → List ℕ → List ℕ → Type 0} → ((p q : Port) (x y : Account) (w v : List ℕ) → f p q y w v → JoinedEnds l p q x.sent y.taken w → IsShut l p ⊎ (w ≡ v)) → CalmFor stands known now l l nodes nodes (Same (busy l)) f here m m
 unfolding Calm-refl
 CalmFor-refl stands known now l nodes m still = record {
   calm = Calm-refl l m;
@@ -32,22 +32,22 @@ CalmFor-refl stands known now l nodes m still = record {
 }
 
 -- one after the other
-pub CalmFor-then : {N L : Type 0} {stands : N → List (Entry N L) → Type 0} {known : Nature N L} {now : ℕ} {a b c : Ledger} {na nb nc : List N} {m n o : Option (List Notice)} {i j k : ℕ → List L → List L → Type 0} {f g h : Port → Port → Account → List ℕ → List ℕ → Type 0} {s t : List (Stage L) → List (Stage L)} → CalmFor stands known now a b na nb i f s m n → CalmFor stands known now b c nb nc j g t n o → ((x : ℕ) (w v : List L) → k x w v → (u : List L) × i x w u × j x u v) → ((ds : List (Deed N L)) (p q : Port) (x y : Account) (w v : List ℕ) → h p q y w v → Joined a p q x.sent y.taken w → (u : List ℕ) × f p q y w u × (Joined b p q (account known p x ds).sent (account known q y ds).taken u → g p q (account known q y ds) u v)) → CalmFor stands known now a c na nc k h (λ st. s (t st)) m o
+pub CalmFor-then : {N L : Type 0} {stands : N → List (NodeEntry N L) → Type 0} {known : Nature N L} {now : ℕ} {a b c : Ledger} {na nb nc : List N} {m n o : Option (List Notice)} {i j k : ℕ → List L → List L → Type 0} {f g h : Port → Port → Account → List ℕ → List ℕ → Type 0} {s t : List (Stage N L) → List (Stage N L)} → CalmFor stands known now a b na nb i f s m n → CalmFor stands known now b c nb nc j g t n o → ((x : ℕ) (w v : List L) → k x w v → (u : List L) × i x w u × j x u v) → ((ds : List (Deed N L)) (p q : Port) (x y : Account) (w v : List ℕ) → h p q y w v → JoinedEnds a p q x.sent y.taken w → (u : List ℕ) × f p q y w u × (JoinedEnds b p q (account known p x ds).sent (account known q y ds).taken u → g p q (account known q y ds) u v)) → CalmFor stands known now a c na nc k h (λ st. s (t st)) m o
 unfolding Calm-trans
 CalmFor-then {t = t} k l split moves = record { calm = Calm-trans k.calm l.calm; lives = Lives-then (Lives-above t k.lives) l.lives split (λ ds es x y. Calms-then x y (moves ds)) }
 
-pub CalmFor-weaken : {N L : Type 0} {stands : N → List (Entry N L) → Type 0} {known : Nature N L} {now : ℕ} {a b : Ledger} {na nb : List N} {m n : Option (List Notice)} {i j : ℕ → List L → List L → Type 0} {f g : Port → Port → Account → List ℕ → List ℕ → Type 0} {s : List (Stage L) → List (Stage L)} → ((x : ℕ) (w v : List L) → j x w v → i x w v) → ((p q : Port) (x y : Account) (w v : List ℕ) → g p q y w v → Joined a p q x.sent y.taken w → f p q y w v) → CalmFor stands known now a b na nb i f s m n → CalmFor stands known now a b na nb j g s m n
+pub CalmFor-weaken : {N L : Type 0} {stands : N → List (NodeEntry N L) → Type 0} {known : Nature N L} {now : ℕ} {a b : Ledger} {na nb : List N} {m n : Option (List Notice)} {i j : ℕ → List L → List L → Type 0} {f g : Port → Port → Account → List ℕ → List ℕ → Type 0} {s : List (Stage N L) → List (Stage N L)} → ((x : ℕ) (w v : List L) → j x w v → i x w v) → ((p q : Port) (x y : Account) (w v : List ℕ) → g p q y w v → JoinedEnds a p q x.sent y.taken w → f p q y w v) → CalmFor stands known now a b na nb i f s m n → CalmFor stands known now a b na nb j g s m n
 CalmFor-weaken less moves k = record { calm = k.calm; lives = Lives-weaken less (λ ds x. Calms-weaken x moves) k.lives }
 
-pub CalmFor-same : {N L : Type 0} {stands : N → List (Entry N L) → Type 0} {known : Nature N L} {now : ℕ} {a b c : Ledger} {na nb nc : List N} {m n o : Option (List Notice)} {f g h : Port → Port → Account → List ℕ → List ℕ → Type 0} {s t : List (Stage L) → List (Stage L)} → CalmFor stands known now a b na nb (Same (busy a)) f s m n → CalmFor stands known now b c nb nc (Same (busy b)) g t n o → ((ds : List (Deed N L)) (p q : Port) (x y : Account) (w v : List ℕ) → h p q y w v → Joined a p q x.sent y.taken w → (u : List ℕ) × f p q y w u × (Joined b p q (account known p x ds).sent (account known q y ds).taken u → g p q (account known q y ds) u v)) → CalmFor stands known now a c na nc (Same (busy a)) h (λ st. s (t st)) m o
+pub CalmFor-same : {N L : Type 0} {stands : N → List (NodeEntry N L) → Type 0} {known : Nature N L} {now : ℕ} {a b c : Ledger} {na nb nc : List N} {m n o : Option (List Notice)} {f g h : Port → Port → Account → List ℕ → List ℕ → Type 0} {s t : List (Stage N L) → List (Stage N L)} → CalmFor stands known now a b na nb (Same (busy a)) f s m n → CalmFor stands known now b c nb nc (Same (busy b)) g t n o → ((ds : List (Deed N L)) (p q : Port) (x y : Account) (w v : List ℕ) → h p q y w v → JoinedEnds a p q x.sent y.taken w → (u : List ℕ) × f p q y w u × (JoinedEnds b p q (account known p x ds).sent (account known q y ds).taken u → g p q (account known q y ds) u v)) → CalmFor stands known now a c na nc (Same (busy a)) h (λ st. s (t st)) m o
 CalmFor-same {a = a} {b = b} k l moves = CalmFor-then k l (Same-then (busy a) (busy b) k.calm.shrinks.same_busy) moves
 
 -- loads come back, and then others
-pub CalmFor-back : {N L : Type 0} {stands : N → List (Entry N L) → Type 0} {known : Nature N L} {now : ℕ} {a b c : Ledger} {na nb nc : List N} {m n o : Option (List Notice)} {y : ℕ} {f g h : Port → Port → Account → List ℕ → List ℕ → Type 0} {s t : List (Stage L) → List (Stage L)} (ls ms : List L) → CalmFor stands known now a b na nb (Back (busy a) y ls) f s m n → CalmFor stands known now b c nb nc (Back (busy b) y ms) g t n o → ((ds : List (Deed N L)) (p q : Port) (x y : Account) (w v : List ℕ) → h p q y w v → Joined a p q x.sent y.taken w → (u : List ℕ) × f p q y w u × (Joined b p q (account known p x ds).sent (account known q y ds).taken u → g p q (account known q y ds) u v)) → CalmFor stands known now a c na nc (Back (busy a) y (ls ++ ms)) h (λ st. s (t st)) m o
+pub CalmFor-back : {N L : Type 0} {stands : N → List (NodeEntry N L) → Type 0} {known : Nature N L} {now : ℕ} {a b c : Ledger} {na nb nc : List N} {m n o : Option (List Notice)} {y : ℕ} {f g h : Port → Port → Account → List ℕ → List ℕ → Type 0} {s t : List (Stage N L) → List (Stage N L)} (ls ms : List L) → CalmFor stands known now a b na nb (Back (busy a) y ls) f s m n → CalmFor stands known now b c nb nc (Back (busy b) y ms) g t n o → ((ds : List (Deed N L)) (p q : Port) (x y : Account) (w v : List ℕ) → h p q y w v → JoinedEnds a p q x.sent y.taken w → (u : List ℕ) × f p q y w u × (JoinedEnds b p q (account known p x ds).sent (account known q y ds).taken u → g p q (account known q y ds) u v)) → CalmFor stands known now a c na nc (Back (busy a) y (ls ++ ms)) h (λ st. s (t st)) m o
 CalmFor-back {a = a} {b = b} {y = y} ls ms k l moves = CalmFor-then k l (Back-then (busy a) (busy b) y ls ms k.calm.shrinks.same_busy) moves
 
 -- loads come back, and then nothing
-pub CalmFor-last : {N L : Type 0} {stands : N → List (Entry N L) → Type 0} {known : Nature N L} {now : ℕ} {a b c : Ledger} {na nb nc : List N} {m n o : Option (List Notice)} {y : ℕ} {f g h : Port → Port → Account → List ℕ → List ℕ → Type 0} {s t : List (Stage L) → List (Stage L)} (ls : List L) → busy a y ≡ true → CalmFor stands known now a b na nb (Back (busy a) y ls) f s m n → CalmFor stands known now b c nb nc (Same (busy b)) g t n o → ((ds : List (Deed N L)) (p q : Port) (x y : Account) (w v : List ℕ) → h p q y w v → Joined a p q x.sent y.taken w → (u : List ℕ) × f p q y w u × (Joined b p q (account known p x ds).sent (account known q y ds).taken u → g p q (account known q y ds) u v)) → CalmFor stands known now a c na nc (Back (busy a) y ls) h (λ st. s (t st)) m o
+pub CalmFor-last : {N L : Type 0} {stands : N → List (NodeEntry N L) → Type 0} {known : Nature N L} {now : ℕ} {a b c : Ledger} {na nb nc : List N} {m n o : Option (List Notice)} {y : ℕ} {f g h : Port → Port → Account → List ℕ → List ℕ → Type 0} {s t : List (Stage N L) → List (Stage N L)} (ls : List L) → busy a y ≡ true → CalmFor stands known now a b na nb (Back (busy a) y ls) f s m n → CalmFor stands known now b c nb nc (Same (busy b)) g t n o → ((ds : List (Deed N L)) (p q : Port) (x y : Account) (w v : List ℕ) → h p q y w v → JoinedEnds a p q x.sent y.taken w → (u : List ℕ) × f p q y w u × (JoinedEnds b p q (account known p x ds).sent (account known q y ds).taken u → g p q (account known q y ds) u v)) → CalmFor stands known now a c na nc (Back (busy a) y ls) h (λ st. s (t st)) m o
 CalmFor-last {a = a} {b = b} {y = y} ls r k l moves = CalmFor-then k l (Back-same (busy a) (busy b) y ls k.calm.shrinks.same_busy (k.calm.shrinks.same_busy y ∙ r)) moves
 
 -- the same of an equal book after it
@@ -55,12 +55,12 @@ unfoldable pub Calm-book : {a b c : Ledger} {m n : Option (List Notice)} → Cal
 Calm-book {a} {b} {c} {m} {n} k e = record {
   added = k.added;
   told = k.told;
-  run = subst (λ z. (st : List Frame) → IsIdle st → Agrees a st → Run (state_of a st) k.added (state_of z st)) (sym e) k.run;
+  run = subst (λ z. (st : List OnStack) → IsIdle st → Agrees a st → GraphRunOf (run_state a st) k.added (run_state z st)) (sym e) k.run;
   shrinks = subst (Shrinks a) (sym e) k.shrinks;
 }
 
 -- and then a load comes back
-pub CalmFor-regain : {N L : Type 0} {stands : N → List (Entry N L) → Type 0} {known : Nature N L} {now : ℕ} {a b c : Ledger} {na nb nc : List N} {m n : Option (List Notice)} {y : ℕ} {f : Port → Port → Account → List ℕ → List ℕ → Type 0} {r s : List (Stage L) → List (Stage L)} (ls : List L) → busy a y ≡ true → CalmFor stands known now a b na nb (Same (busy a)) f s m n → ((at : ℕ) (u : Option (List Notice)) → Lives stands known at (nodes_at b nb u) (nodes_at c nc u) (Back (busy b) y ls) r here (Calms known b b Still) []) → c ≡ b → CalmFor stands known now a c na nc (Back (busy a) y ls) f (λ st. s (r st)) m n
+pub CalmFor-regain : {N L : Type 0} {stands : N → List (NodeEntry N L) → Type 0} {known : Nature N L} {now : ℕ} {a b c : Ledger} {na nb nc : List N} {m n : Option (List Notice)} {y : ℕ} {f : Port → Port → Account → List ℕ → List ℕ → Type 0} {r s : List (Stage N L) → List (Stage N L)} (ls : List L) → busy a y ≡ true → CalmFor stands known now a b na nb (Same (busy a)) f s m n → ((at : ℕ) (u : Option (List Notice)) → StaysTraced stands known at (nodes_at b nb u) (nodes_at c nc u) (Back (busy b) y ls) r here (Calms known b b Still) []) → c ≡ b → CalmFor stands known now a c na nc (Back (busy a) y ls) f (λ st. s (r st)) m n
 unfolding Calm-book
 CalmFor-regain {now = now} {a = a} {b = b} {n = n} {y = y} {r = o} ls r k l e = record {
   calm = Calm-book k.calm e;
@@ -68,19 +68,19 @@ CalmFor-regain {now = now} {a = a} {b = b} {n = n} {y = y} {r = o} ls r k l e = 
 }
 
 -- loads came back before
-pub CalmFor-first : {N L : Type 0} {stands : N → List (Entry N L) → Type 0} {known : Nature N L} {now : ℕ} {a b c : Ledger} {na nb nc : List N} {m n : Option (List Notice)} {y : ℕ} (f : Ledger → Port → Port → Account → List ℕ → List ℕ → Type 0) {g : Port → Port → Account → List ℕ → List ℕ → Type 0} {o s : List (Stage L) → List (Stage L)} (ls : List L) → busy a y ≡ true → ((at : ℕ) (u : Option (List Notice)) → Lives stands known at (nodes_at a na u) (nodes_at b nb u) (Back (busy a) y ls) o here (Calms known a a Still) []) → CalmFor stands known now b c nb nc (Same (busy b)) (f b) s m n → b ≡ a → ((p q : Port) (x y : Account) (w v : List ℕ) → f a p q x w v → f a p q y w v) → ((ds : List (Deed N L)) → Calms known a c (f a) ds → Calms known a c g ds) → CalmFor stands known now a c na nc (Back (busy a) y ls) g (λ st. o (s st)) m n
+pub CalmFor-first : {N L : Type 0} {stands : N → List (NodeEntry N L) → Type 0} {known : Nature N L} {now : ℕ} {a b c : Ledger} {na nb nc : List N} {m n : Option (List Notice)} {y : ℕ} (f : Ledger → Port → Port → Account → List ℕ → List ℕ → Type 0) {g : Port → Port → Account → List ℕ → List ℕ → Type 0} {o s : List (Stage N L) → List (Stage N L)} (ls : List L) → busy a y ≡ true → ((at : ℕ) (u : Option (List Notice)) → StaysTraced stands known at (nodes_at a na u) (nodes_at b nb u) (Back (busy a) y ls) o here (Calms known a a Still) []) → CalmFor stands known now b c nb nc (Same (busy b)) (f b) s m n → b ≡ a → ((p q : Port) (x y : Account) (w v : List ℕ) → f a p q x w v → f a p q y w v) → ((ds : List (Deed N L)) → Calms known a c (f a) ds → Calms known a c g ds) → CalmFor stands known now a c na nc (Back (busy a) y ls) g (λ st. o (s st)) m n
 CalmFor-first {known = known} {now = now} {a = a} {b = b} {c = c} {m = m} {y = y} f {s = s} ls r l k e any moves = record {
   calm = record {
     added = k.calm.added;
     told = k.calm.told;
-    run = subst (λ z. (st : List Frame) → IsIdle st → Agrees z st → Run (state_of z st) k.calm.added (state_of c st)) e k.calm.run;
+    run = subst (λ z. (st : List OnStack) → IsIdle st → Agrees z st → GraphRunOf (run_state z st) k.calm.added (run_state c st)) e k.calm.run;
     shrinks = subst (λ z. Shrinks z c) e k.calm.shrinks;
   };
   lives = Lives-then (Lives-above s (l now m)) k.lives (Back-same (busy a) (busy b) y ls (λ x. ap (λ z. busy z x) e) (ap (λ z. busy z y) e ∙ r)) (λ ds es x z. moves (ds ++ es) (Calms-then x (subst (λ t. Calms known t c (f t) es) e z) (λ p q i j w v t h. (w, refl, λ _. any p q j (account known q j ds) w v t))));
 }
 
 -- a close that was asked for is of a closed port
-pub CalmFor-turn : {N L : Type 0} (stands : N → List (Entry N L) → Type 0) (known : Nature N L) (now : ℕ) (l : Ledger) (nodes : List N) (m : Option (List Notice)) {f : Port → Port → Account → List ℕ → List ℕ → Type 0} (s : List (Stage L) → List (Stage L)) (u : Turn) → Given m m (notice_of u) → ((st : List (Stage L)) (ds : List (Deed N L)) (z : Scene) → Follows known now (scene_of l) st ds z → Follows known now (scene_of l) (s st) (turns u ∷ ds) z) → ((p q : Port) (x y : Account) (w v : List ℕ) → f p q y w v → Joined l p q x.sent y.taken w → IsShut l p ⊎ (w ≡ v)) → CalmFor stands known now l l nodes nodes (Same (busy l)) f s m m
+pub CalmFor-turn : {N L : Type 0} (stands : N → List (NodeEntry N L) → Type 0) (known : Nature N L) (now : ℕ) (l : Ledger) (nodes : List N) (m : Option (List Notice)) {f : Port → Port → Account → List ℕ → List ℕ → Type 0} (s : List (Stage N L) → List (Stage N L)) (u : Turn) → Given m m (notice_of u) → ((st : List (Stage N L)) (ds : List (Deed N L)) (z : Scene) → UsesStack known now (scene_of l) st ds z → UsesStack known now (scene_of l) (s st) (turns u ∷ ds) z) → ((p q : Port) (x y : Account) (w v : List ℕ) → f p q y w v → JoinedEnds l p q x.sent y.taken w → IsShut l p ⊎ (w ≡ v)) → CalmFor stands known now l l nodes nodes (Same (busy l)) f s m m
 unfolding Calm-refl
 CalmFor-turn stands known now l nodes m s u given fits still = record {
   calm = Calm-refl l m;
@@ -88,14 +88,14 @@ CalmFor-turn stands known now l nodes m s u given fits still = record {
 }
 
 -- the same of stages in another form
-pub CalmFor-opened : {N L : Type 0} {stands : N → List (Entry N L) → Type 0} {known : Nature N L} {now : ℕ} {a b : Ledger} {na nb : List N} {m n : Option (List Notice)} {i : ℕ → List L → List L → Type 0} {f : Port → Port → Account → List ℕ → List ℕ → Type 0} {s t : List (Stage L) → List (Stage L)} → ((st : List (Stage L)) → t st ≡ s st) → CalmFor stands known now a b na nb i f s m n → CalmFor stands known now a b na nb i f t m n
+pub CalmFor-opened : {N L : Type 0} {stands : N → List (NodeEntry N L) → Type 0} {known : Nature N L} {now : ℕ} {a b : Ledger} {na nb : List N} {m n : Option (List Notice)} {i : ℕ → List L → List L → Type 0} {f : Port → Port → Account → List ℕ → List ℕ → Type 0} {s t : List (Stage N L) → List (Stage N L)} → ((st : List (Stage N L)) → t st ≡ s st) → CalmFor stands known now a b na nb i f s m n → CalmFor stands known now a b na nb i f t m n
 CalmFor-opened same l = record {
   calm = l.calm;
   lives = Lives-opened same l.lives;
 }
 
 -- something turns before it
-pub CalmFor-turned : {N L : Type 0} {stands : N → List (Entry N L) → Type 0} {known : Nature N L} {now : ℕ} {a b : Ledger} {na nb : List N} {m n : Option (List Notice)} {i : ℕ → List L → List L → Type 0} {f : Port → Port → Account → List ℕ → List ℕ → Type 0} {s : List (Stage L) → List (Stage L)} (t : List (Stage L) → List (Stage L)) (u : Turn) → Given m m (notice_of u) → ((st : List (Stage L)) (ds : List (Deed N L)) (z : Scene) → Follows known now (scene_of a) (s st) ds z → Follows known now (scene_of a) (t st) (turns u ∷ ds) z) → CalmFor stands known now a b na nb i f s m n → CalmFor stands known now a b na nb i f t m n
+pub CalmFor-turned : {N L : Type 0} {stands : N → List (NodeEntry N L) → Type 0} {known : Nature N L} {now : ℕ} {a b : Ledger} {na nb : List N} {m n : Option (List Notice)} {i : ℕ → List L → List L → Type 0} {f : Port → Port → Account → List ℕ → List ℕ → Type 0} {s : List (Stage N L) → List (Stage N L)} (t : List (Stage N L) → List (Stage N L)) (u : Turn) → Given m m (notice_of u) → ((st : List (Stage N L)) (ds : List (Deed N L)) (z : Scene) → UsesStack known now (scene_of a) (s st) ds z → UsesStack known now (scene_of a) (t st) (turns u ∷ ds) z) → CalmFor stands known now a b na nb i f s m n → CalmFor stands known now a b na nb i f t m n
 CalmFor-turned {stands = stands} {known = known} {now = now} {a = a} {b = b} {na = na} {m = m} {f = f} {s = s} t u given fits k = record {
   calm = k.calm;
   lives = Lives-then {k = Calms known a b f} (Lives-turn stands now (nodes_at a na m) m t s u given fits {i = λ ds. ds ≡ turns u ∷ []} refl) k.lives (λ x w v i. (w, refl, i)) (λ ds es x y. subst (λ z. Calms known a b f (z ++ es)) (sym x) (Calms-then {ds = turns u ∷ []} (Calms-turn known a u) y (λ p q i j w v t h. (w, refl, λ _. t))));
@@ -108,17 +108,17 @@ lent-below fx len a = ap (λ z. loads fx.downs ++ (carried z ++ carried fx.ups.s
 -- and no object is made
 pub runs-below : {N L : Type 0} (known : Nature N L) (x : ℕ) (m : Said) (fx : Fx N L) (len : ℕ) → MayAskBelow len fx → runs_of known x m true fx ≡ few_of known x m fx.downs ++ closes_of x fx.closes.items
 runs-below known x m fx len a =
-    ap (λ z. makes_of known x z ++ (few_of known x m fx.downs ++ (few_of known x m fx.ups ++ closes_of x fx.closes.items))) a.no_make
+    ap (λ z. makes_of x z ++ (few_of known x m fx.downs ++ (few_of known x m fx.ups ++ closes_of x fx.closes.items))) a.no_make
     ∙ ap (λ z. few_of known x m fx.downs ++ ((emit_of known x m z ++ emit_of known x m fx.ups.second) ++ closes_of x fx.closes.items)) a.no_up
     ∙ ap (λ z. few_of known x m fx.downs ++ (emit_of known x m z ++ closes_of x fx.closes.items)) a.no_ups
 
 -- nothing happens
-pub RunFor-none : {N L : Type 0} (stands : N → List (Entry N L) → Type 0) (known : Nature N L) (l : Ledger) (nodes : List N) (m : Option (List Notice)) → (s : List (Stage L) → List (Stage L)) → RunFor stands known l l nodes nodes s s m m
+pub RunFor-none : {N L : Type 0} (stands : N → List (NodeEntry N L) → Type 0) (known : Nature N L) (l : Ledger) (nodes : List N) (m : Option (List Notice)) → (s : List (Stage N L) → List (Stage N L)) → RunFor stands known l l nodes nodes s s m m
 unfolding IsRun-none
 RunFor-none stands known l nodes m s = record { added = []; runs = (IsRun-none l m).1; lives = λ now. Lives-under s (Lives-none stands now (nodes_at l nodes m) (Calms-none known l)); lets = none }
 
 -- something turns before it
-pub RunFor-turned : {N L : Type 0} {stands : N → List (Entry N L) → Type 0} {known : Nature N L} {a b : Ledger} {na nb : List N} {m n : Option (List Notice)} {s r : List (Stage L) → List (Stage L)} (t : List (Stage L) → List (Stage L)) (u : Turn) → Given m m (notice_of u) → ((now : ℕ) (st : List (Stage L)) (ds : List (Deed N L)) (z : Scene) → Follows known now (scene_of a) (s st) ds z → Follows known now (scene_of a) (t st) (turns u ∷ ds) z) → RunFor stands known a b na nb s r m n → RunFor stands known a b na nb t r m n
+pub RunFor-turned : {N L : Type 0} {stands : N → List (NodeEntry N L) → Type 0} {known : Nature N L} {a b : Ledger} {na nb : List N} {m n : Option (List Notice)} {s r : List (Stage N L) → List (Stage N L)} (t : List (Stage N L) → List (Stage N L)) (u : Turn) → Given m m (notice_of u) → ((now : ℕ) (st : List (Stage N L)) (ds : List (Deed N L)) (z : Scene) → UsesStack known now (scene_of a) (s st) ds z → UsesStack known now (scene_of a) (t st) (turns u ∷ ds) z) → RunFor stands known a b na nb s r m n → RunFor stands known a b na nb t r m n
 RunFor-turned {stands = stands} {known = known} {a = a} {b = b} {na = na} {m = m} {s = s} t u given fits k = record {
   added = k.added;
   runs = k.runs;
@@ -127,11 +127,11 @@ RunFor-turned {stands = stands} {known = known} {a = a} {b = b} {na = na} {m = m
 }
 
 -- the same above other stages
-pub RunFor-above : {N L : Type 0} {stands : N → List (Entry N L) → Type 0} {known : Nature N L} {a b : Ledger} {na nb : List N} {m n : Option (List Notice)} {s r : List (Stage L) → List (Stage L)} (t : List (Stage L) → List (Stage L)) → RunFor stands known a b na nb s r m n → RunFor stands known a b na nb (λ st. s (t st)) (λ st. r (t st)) m n
+pub RunFor-above : {N L : Type 0} {stands : N → List (NodeEntry N L) → Type 0} {known : Nature N L} {a b : Ledger} {na nb : List N} {m n : Option (List Notice)} {s r : List (Stage N L) → List (Stage N L)} (t : List (Stage N L) → List (Stage N L)) → RunFor stands known a b na nb s r m n → RunFor stands known a b na nb (λ st. s (t st)) (λ st. r (t st)) m n
 RunFor-above t k = record { added = k.added; runs = k.runs; lives = λ now. Lives-above t (k.lives now); lets = k.lets }
 
 -- one after the other
-pub RunFor-trans : {N L : Type 0} {stands : N → List (Entry N L) → Type 0} {known : Nature N L} {a b c : Ledger} {na nb nc : List N} {m n o : Option (List Notice)} {s t r : List (Stage L) → List (Stage L)} → RunFor stands known a b na nb s t m n → RunFor stands known b c nb nc t r n o → RunFor stands known a c na nc s r m o
+pub RunFor-trans : {N L : Type 0} {stands : N → List (NodeEntry N L) → Type 0} {known : Nature N L} {a b c : Ledger} {na nb nc : List N} {m n o : Option (List Notice)} {s t r : List (Stage N L) → List (Stage N L)} → RunFor stands known a b na nb s t m n → RunFor stands known b c nb nc t r n o → RunFor stands known a c na nc s r m o
 unfolding IsRun-trans
 RunFor-trans {a = a} {b = b} {c = c} {m = m} {n = n} {o = o} p q = record {
   added = p.added ++ q.added;

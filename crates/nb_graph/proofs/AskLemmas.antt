@@ -14,8 +14,8 @@ use Rattle.nb_ledger.specs.GraphRun.{IsOpen}
 use Rattle.nb_ledger.specs.Ledger.{Ledger, port, rank, busy, open_count}
 use Rattle.nb_graph.specs.Deeds.{Deed, writes}
 use Rattle.nb_graph.specs.Whole.{IsLinked}
-use Rattle.nb_graph.specs.Accounts.{Account, Joined, joined, parted, account, after_note, enters, is_port, rests}
-use Rattle.nb_graph.specs.Flows.{IsShut, Still, Asking, Delivering, Doing, nothing, own, counted}
+use Rattle.nb_graph.specs.Accounts.{Account, JoinedEnds, joined, parted, account, after_note, enters, is_same_port, rests}
+use Rattle.nb_graph.specs.Flows.{IsShut, Still, Asking, Delivering, DoesEffects, by_no_slot, own, counted}
 use Rattle.nb_graph.specs.Moves.{Calms, Livens, Asks, HasAsked, always, none_due}
 use Rattle.nb_graph.proofs.LivensLemmas.{cases_peer, port-eq}
 use Rattle.nb_graph.proofs.AccountLemmas.{Joined-mild, account-append}
@@ -36,23 +36,23 @@ not-shut l at q o e i = open-not-shut (port l at.obj.0 at.slot) o (sym (ap (λ z
 
 -- the node that a message from below is given to is called, and what follows
 module _ (l : Ledger) (at : Port) (sent taken : ℕ → List ℕ) (got behind m : List ℕ) (one : 1 ≤ at.slot) (opened : IsOpen (port l at.obj.0 at.slot)) (links : IsLinked (port l) (rank l)) (there : taken at.slot ≡ got) (only : (k : ℕ) → (k ≡ at.slot → ⊥) → taken k ≡ []) (all : got ++ behind ≡ m) where
-  -- at the other ports nothing is taken
+  -- at the other ports by_no_slot is taken
   elsewhere : (q : Port) (b : Account) → ((q ≡ at) × (b.entered ≡ true) → ⊥) → counted at.obj.0 taken q b ≡ []
   elsewhere q b n = elim (cases_Bool b.entered) [
     | inl t ↦ counted-else at.obj.0 taken q b (λ e. only q.slot (λ z. n (port-eq q at e z, t)))
     | inr f ↦ rw f (none (eqb q.obj.0 at.obj.0))
   ]
     where
-      none : (c : Bool) → cond c (nothing 0) [] ≡ []
+      none : (c : Bool) → cond c (by_no_slot 0) [] ≡ []
       none true = refl
       none false = refl
 
-  asks : (p q : Port) (y z : Account) (s t w v : List ℕ) → (y.entered ≡ true → z.entered ≡ true) → (1 ≤ q.slot → y.entered ≡ false → z.entered ≡ false) → Delivering l at m nothing p q y w v → Joined l p q s t w → (u : List ℕ) × Asking l at.obj.0 sent taken p q y w u × Delivering l at behind sent p q z u v
+  asks : (p q : Port) (y z : Account) (s t w v : List ℕ) → (y.entered ≡ true → z.entered ≡ true) → (1 ≤ q.slot → y.entered ≡ false → z.entered ≡ false) → Delivering l at m by_no_slot p q y w v → JoinedEnds l p q s t w → (u : List ℕ) × Asking l at.obj.0 sent taken p q y w u × Delivering l at behind sent p q z u v
   asks p q y z s t w v up down (inl (o, e, h)) j =
       let free = elsewhere q y (away j) in
       (own at.obj.0 sent p, (ap (λ g. g ++ own at.obj.0 sent p) (e ∙ sym free), λ _. free), inl (o, own-at at.obj.0 sent p o, h))
     where
-      away : Joined l p q s t w → (q ≡ at) × (y.entered ≡ true) → ⊥
+      away : JoinedEnds l p q s t w → (q ≡ at) × (y.entered ≡ true) → ⊥
       away (joined a b g d k) i = linked-apart l p q links g (o ∙ sym (ap (λ u. u.obj.0) i.0))
       away (parted a b g d r k) i = not-shut l at q opened i.0 d
   asks p q y z s t w v up down (inr (n, quiet, inl (g, en, h))) j =
@@ -72,7 +72,7 @@ module _ (l : Ledger) (at : Port) (sent taken : ℕ → List ℕ) (got behind m 
         | inr k ↦ false≢true (sym (down (rw (ap (λ u. u.slot) i.0) one) k) ∙ i.1)
       ]
 
-pub Livens-ask : {N L : Type 0} {known : Nature N L} {l c : Ledger} {ds es : List (Deed N L)} (at : Port) (sent taken : ℕ → List ℕ) (got behind m : List ℕ) → 1 ≤ at.slot → IsOpen (port l at.obj.0 at.slot) → IsLinked (port l) (rank l) → taken at.slot ≡ got → ((k : ℕ) → (k ≡ at.slot → ⊥) → taken k ≡ []) → got ++ behind ≡ m → Calms known l l (Asking l at.obj.0 sent taken) ds → Asks known at.obj.0 sent ds → Livens known l c (HasAsked at.obj.0 sent) none_due (Delivering l at behind sent) es → Livens known l c always none_due (Delivering l at m nothing) (ds ++ es)
+pub Livens-ask : {N L : Type 0} {known : Nature N L} {l c : Ledger} {ds es : List (Deed N L)} (at : Port) (sent taken : ℕ → List ℕ) (got behind m : List ℕ) → 1 ≤ at.slot → IsOpen (port l at.obj.0 at.slot) → IsLinked (port l) (rank l) → taken at.slot ≡ got → ((k : ℕ) → (k ≡ at.slot → ⊥) → taken k ≡ []) → got ++ behind ≡ m → Calms known l l (Asking l at.obj.0 sent taken) ds → Asks known at.obj.0 sent ds → Livens known l c (HasAsked at.obj.0 sent) none_due (Delivering l at behind sent) es → Livens known l c always none_due (Delivering l at m by_no_slot) (ds ++ es)
 Livens-ask {known = known} {l = l} {ds = ds} {es = es} at sent taken got behind m one opened links there only all k asked r = record {
   quiet = λ q y o i h. ap (λ z. z.entered) (account-append known q y ds es) ∙ r.quiet q (account known q y ds) o i (k.quiet q y o h);
   joins = λ p q x y w v i j.
@@ -89,7 +89,7 @@ Livens-ask {known = known} {l = l} {ds = ds} {es = es} at sent taken got behind 
 }
 
 -- and one by time
-pub Livens-time : {N L : Type 0} {known : Nature N L} {l c : Ledger} {ds es : List (Deed N L)} (x : ℕ) (sent : ℕ → List ℕ) → Calms known l l (Asking l x sent nothing) ds → Asks known x sent ds → Livens known l c (HasAsked x sent) none_due (Doing l x sent) es → Livens known l c always none_due (Doing l x nothing) (ds ++ es)
+pub Livens-time : {N L : Type 0} {known : Nature N L} {l c : Ledger} {ds es : List (Deed N L)} (x : ℕ) (sent : ℕ → List ℕ) → Calms known l l (Asking l x sent by_no_slot) ds → Asks known x sent ds → Livens known l c (HasAsked x sent) none_due (DoesEffects l x sent) es → Livens known l c always none_due (DoesEffects l x by_no_slot) (ds ++ es)
 Livens-time {known = known} {l = l} {ds = ds} {es = es} x sent k asked r = record {
   quiet = λ q y o i h. ap (λ z. z.entered) (account-append known q y ds es) ∙ r.quiet q (account known q y ds) o i (k.quiet q y o h);
   joins = λ p q a y w v i j.
@@ -105,10 +105,10 @@ Livens-time {known = known} {l = l} {ds = ds} {es = es} x sent k asked r = recor
       rw (account-append known p a ds es, account-append known q y ds es) (r.news p q (account known p a ds) (account known q y ds) (λ o. asked p a o) (λ o. n (sym (k.peers p a) ∙ o)) i);
 }
   where
-    asks : (p q : Port) (y z : Account) (w v : List ℕ) → Doing l x nothing p q y w v → (u : List ℕ) × Asking l x sent nothing p q y w u × Doing l x sent p q z u v
-    asks p q y z w v i = go (counted-else x nothing q y (λ _. refl)) i
+    asks : (p q : Port) (y z : Account) (w v : List ℕ) → DoesEffects l x by_no_slot p q y w v → (u : List ℕ) × Asking l x sent by_no_slot p q y w u × DoesEffects l x sent p q z u v
+    asks p q y z w v i = go (counted-else x by_no_slot q y (λ _. refl)) i
       where
-        go : counted x nothing q y ≡ [] → Doing l x nothing p q y w v → (u : List ℕ) × Asking l x sent nothing p q y w u × Doing l x sent p q z u v
+        go : counted x by_no_slot q y ≡ [] → DoesEffects l x by_no_slot p q y w v → (u : List ℕ) × Asking l x sent by_no_slot p q y w u × DoesEffects l x sent p q z u v
         go free (inl (o, e, h)) = (own x sent p, (ap (λ g. g ++ own x sent p) (e ∙ sym free), λ _. free), inl (o, own-at x sent p o, h))
         go free (inr (n, quiet, h)) = (w, (ap (λ u. w ++ u) (own-else x sent p n) ∙ append-nil w ∙ ap (λ u. u ++ w) (sym free), λ _. free), inr (n, quiet, h))
 
@@ -126,7 +126,7 @@ Livens-entry {known = known} {b0 = b0} {b1 = b1} {ds = ds} {es = es} x e idle sa
   midway = λ p q a y w v i j.
       let np = note p a in
       let nq = note q y in
-      let was : Joined b1 p q (after_note p a e).sent (after_note q y e).taken w = rw (np.0, nq.1) (Joined-mild mild j) in
+      let was : JoinedEnds b1 p q (after_note p a e).sent (after_note q y e).taken w = rw (np.0, nq.1) (Joined-mild mild j) in
       (λ _. start-joined j, Midway-append known p q (after_note p a e) (after_note q y e) ds es (k.midway p q (after_note p a e) (after_note q y e) w v (turn p q y w v i) was) (last.midway p q (account known p (after_note p a e) ds) (account known q (after_note q y e) ds) v v refl (k.joins p q (after_note p a e) (after_note q y e) w v (turn p q y w v i) was).0));
   newly = λ p q a y t n.
       let m : ((after_note p a e).peer ≡ Some q → ⊥) = λ h. n (sym (note p a).2 ∙ h) in (
@@ -154,7 +154,7 @@ time-enter true a = refl
 time-enter false a = refl
 
 pub time-notes : (at p : Port) (a : Account) → ((after_note p a (Entered at Time)).sent ≡ a.sent) × ((after_note p a (Entered at Time)).taken ≡ a.taken) × ((after_note p a (Entered at Time)).peer ≡ a.peer) × (a.entered ≡ true → (after_note p a (Entered at Time)).entered ≡ true) × ((p.obj.0 ≡ at.obj.0 → ⊥) → (after_note p a (Entered at Time)).entered ≡ a.entered)
-time-notes at p a = let e = time-enter (is_port p at) a in rw e (refl, refl, refl, (λ h. h), λ n. refl)
+time-notes at p a = let e = time-enter (is_same_port p at) a in rw e (refl, refl, refl, (λ h. h), λ n. refl)
 
 up-sent : (c : Bool) (a : Account) → ((cond c (enters Up a) (rests a)).sent ≡ a.sent) × ((cond c (enters Up a) (rests a)).taken ≡ a.taken) × ((cond c (enters Up a) (rests a)).peer ≡ a.peer) × (a.entered ≡ true → (cond c (enters Up a) (rests a)).entered ≡ true)
 up-sent true a = (refl, refl, refl, λ h. refl)
@@ -162,5 +162,5 @@ up-sent false a = (refl, refl, refl, λ h. h)
 
 pub up-notes : (at p : Port) (a : Account) → ((after_note p a (Entered at Up)).sent ≡ a.sent) × ((after_note p a (Entered at Up)).taken ≡ a.taken) × ((after_note p a (Entered at Up)).peer ≡ a.peer) × (a.entered ≡ true → (after_note p a (Entered at Up)).entered ≡ true) × ((p.obj.0 ≡ at.obj.0 → ⊥) → (after_note p a (Entered at Up)).entered ≡ a.entered)
 up-notes at p a =
-    let s = up-sent (is_port p at) a in
+    let s = up-sent (is_same_port p at) a in
     (s.0, s.1, s.2, s.3, λ n. rw (is-port-other p at (λ e. n (ap (λ z. z.obj.0) e))) refl)

@@ -9,12 +9,12 @@ use Rattle.nb_ledger.specs.declared.event.GraphEvent.TheVariants.{Closed, Entere
 use Rattle.nb_ledger.specs.declared.event.Way.TheVariants.{Close}
 use Rattle.nb_ledger.specs.Ledger.{Ledger, port, rank, open_count}
 use Rattle.nb_ledger.specs.GraphRun.{port_but}
-use Rattle.nb_graph.specs.Trace.{Nature, Entry}
+use Rattle.nb_graph.specs.Trace.{Nature, NodeEntry}
 use Rattle.nb_graph.specs.Deeds.{writes, calls}
 use Rattle.nb_graph.specs.Whole.{IsLinked}
 use Rattle.nb_graph.specs.Calm.{HalfCloses}
-use Rattle.nb_graph.specs.Accounts.{Account, Joined, joined, parted, after_call, rests, enters, is_port, sent_by, taken_by}
-use Rattle.nb_graph.specs.Flows.{Still, Asking, IsShut, own, counted, nothing}
+use Rattle.nb_graph.specs.Accounts.{Account, JoinedEnds, joined, parted, after_call, rests, enters, is_same_port, sent_by, taken_by}
+use Rattle.nb_graph.specs.Flows.{Still, Asking, IsShut, own, counted, by_no_slot}
 use Rattle.nb_graph.specs.Moves.{Asks, Calms}
 use Rattle.nb_graph.proofs.LinkLemmas.{cases_port, port_but-same, port_but-other}
 use Rattle.nb_graph.proofs.CalmLemmas.{linked-apart}
@@ -22,11 +22,11 @@ use Rattle.nb_graph.proofs.ForestLemmas.{the-port}
 use Rattle.nb_graph.proofs.LivensLemmas.{port-eq}
 
 -- one sends, and the other takes
-pub Joined-call : {l : Ledger} {p q : Port} {s t w : List ℕ} (bs bt v : List ℕ) → w ++ bs ≡ bt ++ v → (IsShut l q → bt ≡ []) → Joined l p q s t w → Joined l p q (s ++ bs) (t ++ bt) v
+pub Joined-call : {l : Ledger} {p q : Port} {s t w : List ℕ} (bs bt v : List ℕ) → w ++ bs ≡ bt ++ v → (IsShut l q → bt ≡ []) → JoinedEnds l p q s t w → JoinedEnds l p q (s ++ bs) (t ++ bt) v
 Joined-call {s = s} {t = t} {w = w} bs bt v e n (joined a b c d h) = joined a b c d (ap (λ z. z ++ bs) h ∙ append_assoc t w bs ∙ ap (λ z. t ++ z) e ∙ sym (append_assoc t bt v))
 Joined-call {s = s} {t = t} bs bt v e n (parted a b c d r h) = parted a b c d (r ++ bs) (ap (λ z. z ++ bs) h ∙ append_assoc t r bs ∙ ap (λ z. z ++ (r ++ bs)) (sym (append-nil t) ∙ ap (λ z. t ++ z) (sym (n d))))
 
-module _ {N L : Type 0} (known : Nature N L) (e : Entry N L) where
+module _ {N L : Type 0} (known : Nature N L) (e : NodeEntry N L) where
   call-peer : (c : Bool) (p : Port) (a : Account) → (cond c (after_call known p a e) (rests a)).peer ≡ a.peer
   call-peer true p a = refl
   call-peer false p a = refl
@@ -44,7 +44,7 @@ module _ {N L : Type 0} (known : Nature N L) (e : Entry N L) where
   call-taken false q b taken h = sym (append-nil b.taken)
 
 -- the node of y is called
-pub Calms-call : {N L : Type 0} (known : Nature N L) (l : Ledger) (y : ℕ) (e : Entry N L) (sent taken : ℕ → List ℕ) → ((k : ℕ) → sent_by known k e ≡ sent k) → ((k : ℕ) → taken_by k e ≡ taken k) → Calms known l l (Asking l y sent taken) (calls y e ∷ [])
+pub Calms-call : {N L : Type 0} (known : Nature N L) (l : Ledger) (y : ℕ) (e : NodeEntry N L) (sent taken : ℕ → List ℕ) → ((k : ℕ) → sent_by known k e ≡ sent k) → ((k : ℕ) → taken_by k e ≡ taken k) → Calms known l l (Asking l y sent taken) (calls y e ∷ [])
 Calms-call known l y e sent taken hs ht = record {
   same_made = refl;
   links = λ x k q h. h;
@@ -73,12 +73,12 @@ Calms-half {N} {L} known b0 b3 p q cause l h half = record {
     ]
   ];
   shuts = shuts;
-  peers = λ r a. ap (λ z. z.peer) (enter-close (is_port r q) (rests (rests a)));
-  enters = λ r a i. ap (λ z. z.entered) (enter-close (is_port r q) (rests (rests a))) ∙ i;
-  quiet = λ r a o i. ap (λ z. z.entered) (enter-close (is_port r q) (rests (rests a))) ∙ i;
-  joins = λ r t a b w v f j. rw (enter-close (is_port r q) (rests (rests a)), enter-close (is_port t q) (rests (rests b)), sym f) (closes r t a.sent b.taken w j);
-  midway = λ r t a b w v f j. (λ _. start-joined j, (λ _. start-joined j, (λ _. start-joined j, λ _. rw (enter-close (is_port r q) (rests (rests a)), enter-close (is_port t q) (rests (rests b))) (start-joined j))));
-  apart = λ r t a b n. (λ i. absurd (n i), (λ i. absurd (n i), (λ i. absurd (n i), λ i. absurd (n (sym (ap (λ z. z.peer) (enter-close (is_port r q) (rests (rests a)))) ∙ i)))));
+  peers = λ r a. ap (λ z. z.peer) (enter-close (is_same_port r q) (rests (rests a)));
+  enters = λ r a i. ap (λ z. z.entered) (enter-close (is_same_port r q) (rests (rests a))) ∙ i;
+  quiet = λ r a o i. ap (λ z. z.entered) (enter-close (is_same_port r q) (rests (rests a))) ∙ i;
+  joins = λ r t a b w v f j. rw (enter-close (is_same_port r q) (rests (rests a)), enter-close (is_same_port t q) (rests (rests b)), sym f) (closes r t a.sent b.taken w j);
+  midway = λ r t a b w v f j. (λ _. start-joined j, (λ _. start-joined j, (λ _. start-joined j, λ _. rw (enter-close (is_same_port r q) (rests (rests a)), enter-close (is_same_port t q) (rests (rests b))) (start-joined j))));
+  apart = λ r t a b n. (λ i. absurd (n i), (λ i. absurd (n i), (λ i. absurd (n i), λ i. absurd (n (sym (ap (λ z. z.peer) (enter-close (is_same_port r q) (rests (rests a)))) ∙ i)))));
 }
   where
     at_q : (x k : ℕ) → (x ≡ q.obj.0) × (k ≡ q.slot) → port b3 x k ≡ Leaving p
@@ -115,7 +115,7 @@ Calms-half {N} {L} known b0 b3 p q cause l h half = record {
     linked_at : (r s t : Port) → r ≡ s → port b0 r.obj.0 r.slot ≡ Linked t → port b0 s.obj.0 s.slot ≡ Linked t
     linked_at r s t e i = subst (λ z. port b0 z.obj.0 z.slot ≡ Linked t) e i
 
-    closes : (r t : Port) (x y w : List ℕ) → Joined b0 r t x y w → Joined b3 r t x y w
+    closes : (r t : Port) (x y w : List ℕ) → JoinedEnds b0 r t x y w → JoinedEnds b3 r t x y w
     closes r t x y w (parted a b c d z i) = parted (rw half.same_made a) (rw half.same_made b) (shuts r.obj.0 r.slot c) (shuts t.obj.0 t.slot d) z i
     closes r t x y w (joined a b c d i) = elim (cases_port r.obj.0 r.slot q) [
       | inl m ↦ let e = port-eq r q m.0 m.1 in parted (rw half.same_made a) (rw half.same_made b) (shut_at r q e shut_q) (shut_at t p (the-port (port b0) q.obj.0 q.slot t p (linked_at r q t e c) back) shut_p) w i
@@ -130,14 +130,14 @@ Calms-half {N} {L} known b0 b3 p q cause l h half = record {
     ]
 
 -- nothing is sent or taken
-pub asks-nothing : (l : Ledger) (y : ℕ) (p q : Port) (b : Account) (w v : List ℕ) → w ≡ v → Asking l y nothing nothing p q b w v
+pub asks-nothing : (l : Ledger) (y : ℕ) (p q : Port) (b : Account) (w v : List ℕ) → w ≡ v → Asking l y by_no_slot by_no_slot p q b w v
 asks-nothing l y p q b w v e = (ap (λ z. w ++ z) (none (eqb p.obj.0 y)) ∙ append-nil w ∙ e ∙ ap (λ z. z ++ v) (sym (counts (eqb q.obj.0 y) b.entered)), λ h. counts (eqb q.obj.0 y) b.entered)
   where
-    none : (c : Bool) → cond c (nothing 0) [] ≡ []
+    none : (c : Bool) → cond c (by_no_slot 0) [] ≡ []
     none true = refl
     none false = refl
 
-    counts : (c d : Bool) → cond c (cond d (nothing 0) []) [] ≡ []
+    counts : (c d : Bool) → cond c (cond d (by_no_slot 0) []) [] ≡ []
     counts true true = refl
     counts true false = refl
     counts false d = refl
@@ -149,5 +149,5 @@ half-left {p} {q} b0 b3 half = half.ports_set q.obj.0 q.slot ∙ port_but-same q
 pub half-gone : {b0 b3 : Ledger} {p q : Port} → IsLinked (port b0) (rank b0) → port b0 p.obj.0 p.slot ≡ Linked q → HalfCloses b0 b3 p q → port b3 p.obj.0 p.slot ≡ Leaving q
 half-gone {b0} {b3} {p} {q} l h half = half.ports_set p.obj.0 p.slot ∙ port_but-other q (Leaving p) (port_but p (Leaving q) (port b0)) p.obj.0 p.slot (λ i. linked-apart b0 p q l h i.0) ∙ port_but-same p (Leaving q) (port b0) p.obj.0 p.slot refl refl
 
-pub Asks-call : {N L : Type 0} (known : Nature N L) (y : ℕ) (e : Entry N L) (sent : ℕ → List ℕ) → ((k : ℕ) → sent_by known k e ≡ sent k) → Asks known y sent (calls y e ∷ [])
+pub Asks-call : {N L : Type 0} (known : Nature N L) (y : ℕ) (e : NodeEntry N L) (sent : ℕ → List ℕ) → ((k : ℕ) → sent_by known k e ≡ sent k) → Asks known y sent (calls y e ∷ [])
 Asks-call known y e sent h p a i = rw (eq-eqb p.obj.0 y i) (h p.slot)

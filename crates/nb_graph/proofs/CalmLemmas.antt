@@ -9,16 +9,16 @@ use Rattle.nb_ledger.specs.declared.port.PortState.{PortState}
 use Rattle.nb_ledger.specs.declared.port.PortState.TheVariants.{Open, Linked, Leaving, Closed}
 use Rattle.nb_ledger.specs.declared.event.Way.{Way}
 use Rattle.nb_ledger.specs.declared.event.GraphEvent.TheVariants as event
-use Rattle.nb_ledger.specs.GraphRun.{Frame, Running, Step, owed, entries, but_at, port_but, link_count}
+use Rattle.nb_ledger.specs.GraphRun.{OnStack, Running, Step, owed, entries, but_at, port_but, link_count}
 use Rattle.nb_ledger.specs.Flat.{Tells}
-use Rattle.nb_ledger.specs.Ledger.{Ledger, busy, rank, port, leaves, open_count, state_of}
+use Rattle.nb_ledger.specs.Ledger.{Ledger, busy, rank, port, leaves, open_count, run_state}
 use Rattle.nb_ledger.specs.Changes.{SetsBusy, SetsPort}
 use Rattle.nb_ledger.specs.Settled.{Settles}
 use Rattle.nb_ledger.proofs.RunLemmas.{Tells-append}
 use Rattle.nb_ledger.proofs.CountLemmas.{count-state, owed-some, used-busy}
 use Rattle.nb_ledger.proofs.PortLemmas.{live_by, IsUsed}
-use Rattle.nb_graph.specs.Whole.{IsLinked, CountedBut, IsCounted, IsWhole, port_at}
-use Rattle.nb_graph.specs.Calm.{HalfCloses, Ends}
+use Rattle.nb_graph.specs.Whole.{IsLinked, CountedBut, IsCounted, IsBookWhole, port_at}
+use Rattle.nb_graph.specs.Calm.{HalfCloses, EndsEntry}
 use Rattle.nb_graph.proofs.LinkLemmas.{cases_port, port_but-same, port_but-other, IsLinked-same, IsLinked-close}
 use Rattle.nb_graph.proofs.WholeLemmas.{but_same, but_other, unused-same, ties-at, two_ports, counted-all, IsWhole-settle}
 use Rattle.nb_graph.proofs.GraphLemmas.{same-length}
@@ -63,20 +63,20 @@ leaving-is (Leaving p) q h = cc
 leaving-is Closed q h = absurd (cc)
 
 -- an object with a link is not freed
-pub owed-port : (l : Ledger) (st : List Frame) (x k : ℕ) (v : PortState) → port l x k ≡ v → link_count v ≡ 1 → IsUsed v → owed x (state_of l st) ≡ state_of l st
+pub owed-port : (l : Ledger) (st : List OnStack) (x k : ℕ) (v : PortState) → port l x k ≡ v → link_count v ≡ 1 → IsUsed v → owed x (run_state l st) ≡ run_state l st
 owed-port l st x k v h n u =
     let small = (live_by l x k v u h).1 in
     let t = ties-at l x k small in
     let w = ap link_count h in
     let c = count-state l st x in
-    owed-some (state_of l st) x (omega arith)
+    owed-some (run_state l st) x (omega arith)
 
 -- flags after an entry begins
-pub agrees-enter : (f : ℕ → Bool) (st : List Frame) (y : ℕ) → ((x : ℕ) → f x ≡ nat_lt 0 (entries st x)) → (x : ℕ) → but_at y true f x ≡ nat_lt 0 (cond (eqb x y) 1 0 + entries st x)
+pub agrees-enter : (f : ℕ → Bool) (st : List OnStack) (y : ℕ) → ((x : ℕ) → f x ≡ nat_lt 0 (entries st x)) → (x : ℕ) → but_at y true f x ≡ nat_lt 0 (cond (eqb x y) 1 0 + entries st x)
 agrees-enter f st y e x = let a = e x in grind (arith, nat_tests)
 
 -- and after it ends
-pub agrees-leave : (f g : ℕ → Bool) (st : List Frame) (y : ℕ) (was : Bool) → was ≡ f y → ((x : ℕ) → (x ≡ y → ⊥) → g x ≡ f x) → ((x : ℕ) → f x ≡ nat_lt 0 (entries st x)) → (x : ℕ) → but_at y was g x ≡ nat_lt 0 (entries st x)
+pub agrees-leave : (f g : ℕ → Bool) (st : List OnStack) (y : ℕ) (was : Bool) → was ≡ f y → ((x : ℕ) → (x ≡ y → ⊥) → g x ≡ f x) → ((x : ℕ) → f x ≡ nat_lt 0 (entries st x)) → (x : ℕ) → but_at y was g x ≡ nat_lt 0 (entries st x)
 agrees-leave f g st y was h e a x = elim (cases_eq x y) [
   | inl i ↦ but_same y was g x i ∙ h ∙ ap f (sym i) ∙ a x
   | inr n ↦ but_other y was g x n ∙ e x n ∙ a x
@@ -114,7 +114,7 @@ module _ {b0 b1 b2 b3 : Ledger} {p q : Port} (l : IsLinked (port b0) (rank b0)) 
         | inr n ↦ but_other q.obj.0 true (busy b2) x n ∙ b.same_busy x ∙ a.same_busy x ∙ sym (but_other q.obj.0 true (busy b0) x n)
       ]
 
-  pub IsWhole-both : IsWhole b0 → IsWhole b3
+  pub IsWhole-both : IsBookWhole b0 → IsBookWhole b3
   IsWhole-both w = record {
     links = IsLinked-close p q (Leaving q) (Leaving p) (port b0) (port b3) (rank b0) (rank b3) tt tt h ports3 (λ x. c.objects.same_rank x ∙ b.objects.same_rank x ∙ a.objects.same_rank x) l;
     counted = counted-all q.obj.0 b3
@@ -129,7 +129,7 @@ other-end {b0} {b1} {p} {q} {v} l h a =
     a.port_set q.obj.0 q.slot ∙ port_but-other p v (port b0) q.obj.0 q.slot (λ i. linked-apart b0 p q l h (sym i.0)) ∙ linked-back b0 p q l h
 
 -- a flag is written, and the object is used
-pub IsWhole-enter : {old new : Ledger} {x : ℕ} → SetsBusy old new x true → IsWhole old → IsWhole new
+pub IsWhole-enter : {old new : Ledger} {x : ℕ} → SetsBusy old new x true → IsBookWhole old → IsBookWhole new
 IsWhole-enter {old} {new} {x} c w = record {
   links = IsLinked-same (port old) (port new) (rank old) (rank new) c.same_port c.objects.same_rank w.links;
   counted = counted-all x new
@@ -147,13 +147,13 @@ pub IsLinked-flag : {old new : Ledger} {x : ℕ} {b : Bool} → SetsBusy old new
 IsLinked-flag {old} {new} {x} {b} c l = IsLinked-same (port old) (port new) (rank old) (rank new) c.same_port c.objects.same_rank l
 
 -- an entry ends, and what is owed is done
-unfoldable pub Ends-leave : {old mid new : Ledger} {before between after : Option (List Notice)} {p : Port} {was : Bool} (by : Way) → SetsBusy old mid p.obj.0 was → Tells before between (event.Left p ∷ []) → ((w : Way) (st : List Frame) → Step (state_of old (Running p w ∷ st)) (event.Left p) (owed p.obj.0 (state_of mid st))) → Settles mid new between after p.obj → Ends old new before after p.obj.0 was (λ st. Running p by ∷ st) (port old)
+unfoldable pub Ends-leave : {old mid new : Ledger} {before between after : Option (List Notice)} {p : Port} {was : Bool} (by : Way) → SetsBusy old mid p.obj.0 was → Tells before between (event.Left p ∷ []) → ((w : Way) (st : List OnStack) → Step (run_state old (Running p w ∷ st)) (event.Left p) (owed p.obj.0 (run_state mid st))) → Settles mid new between after p.obj → EndsEntry old new before after p.obj.0 was (λ st. Running p by ∷ st) (port old)
 Ends-leave {old} {mid} {new} {before} {between} {after} {p} {was} by c told step s =
     let k = Shrinks-settle s in
     record {
       added = event.Left p ∷ s.added;
       told = Tells-append before between after (event.Left p ∷ []) s.added told s.told;
-      run = λ st a. (owed p.obj.0 (state_of mid st), step by st, s.run st (λ y. c.busy_set y ∙ a y));
+      run = λ st a. (owed p.obj.0 (run_state mid st), step by st, s.run st (λ y. c.busy_set y ∙ a y));
       same_made = k.same_made ∙ c.objects.same_made;
       same_room = k.same_room ∙ c.objects.same_room;
       fewer = let i = k.fewer in let j = same-length c.objects in omega arith;
@@ -164,6 +164,6 @@ Ends-leave {old} {mid} {new} {before} {between} {after} {p} {was} by c told step
       closes = λ y j. let i = k.closes y j in let m = ap open_count (c.same_port y j) in omega arith;
     }
 
-pub IsWhole-leave : {old mid new : Ledger} {between after : Option (List Notice)} {x : ObjId} {was : Bool} → SetsBusy old mid x.0 was → Settles mid new between after x → IsWhole old → IsWhole new
+pub IsWhole-leave : {old mid new : Ledger} {between after : Option (List Notice)} {x : ObjId} {was : Bool} → SetsBusy old mid x.0 was → Settles mid new between after x → IsBookWhole old → IsBookWhole new
 IsWhole-leave {old} {mid} {new} {between} {after} {x} {was} c s w =
     IsWhole-settle s (IsLinked-flag c w.links) (CountedBut-flag c w.counted) (λ y. rw (c.objects.same_rank y) (w.small y))

@@ -11,7 +11,7 @@ use Rattle.nb_ledger.specs.GraphRun.{IsOpen}
 use Rattle.nb_ledger.specs.Ledger.{Ledger, port, rank, open_count}
 use Rattle.nb_graph.specs.Deeds.{Deed, writes}
 use Rattle.nb_graph.specs.Whole.{IsLinked, port_at}
-use Rattle.nb_graph.specs.Accounts.{Account, Joined, joined, parted, account, enters, rests, is_port}
+use Rattle.nb_graph.specs.Accounts.{Account, JoinedEnds, joined, parted, account, enters, rests, is_same_port}
 use Rattle.nb_graph.specs.Flows.{IsClear, IsShut, Still, Giving, Following, Asking, own, counted}
 use Rattle.nb_graph.specs.Moves.{Calms}
 use Rattle.nb_graph.proofs.LivensLemmas.{port-eq}
@@ -32,7 +32,7 @@ pub nil-right : {A : Type 0} (xs ys : List A) → xs ++ ys ≡ [] → ys ≡ []
 nil-right [] ys e = e
 nil-right (x ∷ xs) ys e = absurd (cc)
 
-pub is-port-same : (p q : Port) → p ≡ q → is_port p q ≡ true
+pub is-port-same : (p q : Port) → p ≡ q → is_same_port p q ≡ true
 is-port-same p q e = rw (eq-eqb p.obj.0 q.obj.0 (ap (λ z. z.obj.0) e), eq-eqb p.slot q.slot (ap (λ z. z.slot) e)) refl
 
 -- the node that m is given to is called, and its downs go
@@ -55,7 +55,7 @@ module _ (l : Ledger) (at : Port) (zero : at.slot ≡ 0) (opened : IsOpen (port 
       go (Leaving r) o i = o
       go Closed o i = o
 
-  takes : (p q : Port) (y z : Account) (s t w v : List ℕ) → Given l at m p q y w v → Joined l p q s t w → (u : List ℕ) × Asking l at.obj.0 sent whole p q y w u × Following l (port_at at.obj.0 0) left sent p q z u v
+  takes : (p q : Port) (y z : Account) (s t w v : List ℕ) → Given l at m p q y w v → JoinedEnds l p q s t w → (u : List ℕ) × Asking l at.obj.0 sent whole p q y w u × Following l (port_at at.obj.0 0) left sent p q z u v
   takes p q y z s t w v i (parted a b c d r e) =
       let free = elsewhere q y (λ g. not-shut q g d) in
       (w ++ own at.obj.0 sent p, (ap (λ x. x ++ (w ++ own at.obj.0 sent p)) (sym free), λ _. free), inl c)

@@ -11,7 +11,7 @@ use Rattle.nb_graph.specs.Deeds.{Deed}
 use Rattle.nb_graph.specs.Effects.{AreDowns, AreUps, IsUp}
 use Rattle.nb_graph.specs.Whole.{port_at}
 use Rattle.nb_graph.specs.Accounts.{Account, account, emit_bytes, few_bytes, fx_bytes}
-use Rattle.nb_graph.specs.Flows.{IsClear, Closing, Downs, Delivering, Doing, Leaves, Making, nothing}
+use Rattle.nb_graph.specs.Flows.{IsClear, Closing, Downs, Delivering, DoesEffects, Leaves, Making, by_no_slot}
 use Rattle.nb_graph.specs.Moves.{Livens, HasAsked, always, asked_due, none_due}
 use Rattle.nb_graph.proofs.LivensLemmas.{Livens-then, cases_peer, port-eq}
 use Rattle.nb_graph.proofs.AccountLemmas.{account-append}
@@ -38,11 +38,11 @@ pub Livens-ups : {N L : Type 0} {known : Nature N L} {c d e : Ledger} {ds es : L
 Livens-ups {known = known} {c = c} {d = d} {ds = ds} x mu same k l = Livens-then k l same (λ p q a y w v i j. (v, i, λ _ _ _. ups-closes c d x mu p q y (account known q y ds) w v i)) (λ p q y n f. inr (refl, inr (inr (inl refl))))
 
 -- the downs before them
-pub Livens-downs : {N L : Type 0} {known : Nature N L} {b c e : Ledger} {ds es : List (Deed N L)} (x : ℕ) (sent md : ℕ → List ℕ) (mu : List ℕ) → busy b x ≡ true → ((k : ℕ) → 1 ≤ k → sent k ≡ md k) → sent 0 ≡ mu → ((y : ℕ) → busy c y ≡ busy b y) → Livens known b c always none_due (Downs b x md) ds → Livens known c e always none_due (Leaves c (port_at x 0) mu) es → Livens known b e always none_due (Doing b x sent) (ds ++ es)
+pub Livens-downs : {N L : Type 0} {known : Nature N L} {b c e : Ledger} {ds es : List (Deed N L)} (x : ℕ) (sent md : ℕ → List ℕ) (mu : List ℕ) → busy b x ≡ true → ((k : ℕ) → 1 ≤ k → sent k ≡ md k) → sent 0 ≡ mu → ((y : ℕ) → busy c y ≡ busy b y) → Livens known b c always none_due (Downs b x md) ds → Livens known c e always none_due (Leaves c (port_at x 0) mu) es → Livens known b e always none_due (DoesEffects b x sent) (ds ++ es)
 Livens-downs {known = known} {b = b} {c = c} {ds = ds} x sent md mu runs low high same k l =
     Livens-then k l same (λ p q a y w v i j. let s = go p q y (account known q y ds) w v i in (s.0, s.1, λ _ _ _. s.2)) (λ p q y n f. inr ((λ z. false≢true (sym (n (ap (λ u. u.slot) z)) ∙ ap (λ u. busy b u.obj.0) z ∙ runs)), quiet-none c p, refl))
   where
-    go : (p q : Port) (y z : Account) (w v : List ℕ) → Doing b x sent p q y w v → (u : List ℕ) × Downs b x md p q y w u × Leaves c (port_at x 0) mu p q z u v
+    go : (p q : Port) (y z : Account) (w v : List ℕ) → DoesEffects b x sent p q y w v → (u : List ℕ) × Downs b x md p q y w u × Leaves c (port_at x 0) mu p q z u v
     go p q y z w v (inr (n, quiet, h)) = (w, inr (inr ((λ o. absurd (n o)), refl, quiet-clear b b p x w quiet)), inr ((λ o. n (ap (λ u. u.obj.0) o)), quiet-same b c p w same quiet, h))
     go p q y z w v (inl (o, e, h)) = elim (cases_eq p.slot 0) [
       | inl i ↦ (w, inr (inr ((λ _. i), refl, inl i)), inl (port-eq p (port_at x 0) o i, same p.obj.0 ∙ ap (busy b) o ∙ runs, e ∙ ap sent i ∙ high ∙ sym (append-nil mu) ∙ ap (λ u. mu ++ u) (sym h)))
@@ -50,7 +50,7 @@ Livens-downs {known = known} {b = b} {c = c} {ds = ds} x sent md mu runs low hig
     ]
 
 -- and what was made before that
-pub Livens-effects : {N L : Type 0} {known : Nature N L} {a b e : Ledger} {ds es : List (Deed N L)} (x : ℕ) (sent : ℕ → List ℕ) → ((y : ℕ) → busy b y ≡ busy a y) → Livens known a b always (asked_due x) (Making a x) ds → Livens known b e always none_due (Doing b x sent) es → Livens known a e (HasAsked x sent) none_due (Doing a x sent) (ds ++ es)
+pub Livens-effects : {N L : Type 0} {known : Nature N L} {a b e : Ledger} {ds es : List (Deed N L)} (x : ℕ) (sent : ℕ → List ℕ) → ((y : ℕ) → busy b y ≡ busy a y) → Livens known a b always (asked_due x) (Making a x) ds → Livens known b e always none_due (DoesEffects b x sent) es → Livens known a e (HasAsked x sent) none_due (DoesEffects a x sent) (ds ++ es)
 Livens-effects {known = known} {a = a} {b = b} {e = e} {ds = ds} {es = es} x sent same k l = record {
   quiet = λ q y o r h. ap (λ z. z.entered) (account-append known q y ds es) ∙ l.quiet q (account known q y ds) o (same q.obj.0 ∙ r) (k.quiet q y o r h);
   joins = λ p q c y w v i j.
@@ -79,22 +79,22 @@ Livens-effects {known = known} {a = a} {b = b} {e = e} {ds = ds} {es = es} x sen
       ]);
 }
   where
-    makes : (p q : Port) (y z : Account) (w v : List ℕ) → Doing a x sent p q y w v → Making a x p q y w w × Doing b x sent p q z w v
+    makes : (p q : Port) (y z : Account) (w v : List ℕ) → DoesEffects a x sent p q y w v → Making a x p q y w w × DoesEffects b x sent p q z w v
     makes p q y z w v (inl i) = ((refl, inl i.0), inl i)
     makes p q y z w v (inr (n, quiet, h)) = ((refl, inr quiet), inr (n, quiet-same a b p w same quiet, h))
 
-    pends : (p q : Port) (c z : Account) → HasAsked x sent p c → Doing b x sent p q z (asked_due x p c) []
+    pends : (p q : Port) (c z : Account) → HasAsked x sent p c → DoesEffects b x sent p q z (asked_due x p c) []
     pends p q c z r = elim (cases_eq p.obj.0 x) [
       | inl o ↦ inl (o, rw (eq-eqb p.obj.0 x o) (r o), refl)
       | inr o ↦ rw (ne_eqb p.obj.0 x o) (inr (o, quiet-none b p, refl))
     ]
 
 -- what is left of a message is given after the effects
-pub Livens-rest : {N L : Type 0} {known : Nature N L} {a b c : Ledger} {ds es : List (Deed N L)} (at : Port) (m : List ℕ) (sent : ℕ → List ℕ) → 1 ≤ at.slot → busy a at.obj.0 ≡ true → ((y : ℕ) → busy b y ≡ busy a y) → Livens known a b (HasAsked at.obj.0 sent) none_due (Doing a at.obj.0 sent) ds → Livens known b c always none_due (Delivering b at m nothing) es → Livens known a c (HasAsked at.obj.0 sent) none_due (Delivering a at m sent) (ds ++ es)
+pub Livens-rest : {N L : Type 0} {known : Nature N L} {a b c : Ledger} {ds es : List (Deed N L)} (at : Port) (m : List ℕ) (sent : ℕ → List ℕ) → 1 ≤ at.slot → busy a at.obj.0 ≡ true → ((y : ℕ) → busy b y ≡ busy a y) → Livens known a b (HasAsked at.obj.0 sent) none_due (DoesEffects a at.obj.0 sent) ds → Livens known b c always none_due (Delivering b at m by_no_slot) es → Livens known a c (HasAsked at.obj.0 sent) none_due (Delivering a at m sent) (ds ++ es)
 Livens-rest {known = known} {a = a} {b = b} {ds = ds} at m sent one runs same k l =
     Livens-then k l same (λ p q x y w v i j. let s = go p q y (account known q y ds) w v i in (s.0, s.1, λ _. s.2)) nils
   where
-    go : (p q : Port) (y z : Account) (w v : List ℕ) → Delivering a at m sent p q y w v → (u : List ℕ) × Doing a at.obj.0 sent p q y w u × ((y.entered ≡ true → z.entered ≡ true) → (1 ≤ q.slot → busy a q.obj.0 ≡ true → y.entered ≡ false → z.entered ≡ false) → Delivering b at m nothing p q z u v)
+    go : (p q : Port) (y z : Account) (w v : List ℕ) → Delivering a at m sent p q y w v → (u : List ℕ) × DoesEffects a at.obj.0 sent p q y w u × ((y.entered ≡ true → z.entered ≡ true) → (1 ≤ q.slot → busy a q.obj.0 ≡ true → y.entered ≡ false → z.entered ≡ false) → Delivering b at m by_no_slot p q z u v)
     go p q y z w v (inl (o, e, h)) = ([], inl (o, e, refl), λ _ _. inl (o, refl, h))
     go p q y z w v (inr (n, quiet, inl (g, en, h))) = (w, inr (n, quiet, refl), λ up _. inr (n, quiet-same a b p w same quiet, inl (g, up en, h)))
     go p q y z w v (inr (n, quiet, inr (g, h))) = (
@@ -113,7 +113,7 @@ Livens-rest {known = known} {a = a} {b = b} {ds = ds} at m sent one runs same k 
       ),
     )
 
-    nils : (p q : Port) (y : Account) → (p.slot ≡ 0 → busy a p.obj.0 ≡ false) → (1 ≤ q.slot → busy a q.obj.0 ≡ true → y.entered ≡ false) → Delivering b at m nothing p q y [] []
+    nils : (p q : Port) (y : Account) → (p.slot ≡ 0 → busy a p.obj.0 ≡ false) → (1 ≤ q.slot → busy a q.obj.0 ≡ true → y.entered ≡ false) → Delivering b at m by_no_slot p q y [] []
     nils p q y n f = elim (cases_eq p.obj.0 at.obj.0) [
       | inl o ↦ inl (o, refl, refl)
       | inr o ↦ inr (o, quiet-none b p, inr ((λ i. false≢true (sym (f (rw (ap (λ u. u.slot) i.0) one) (ap (λ u. busy a u.obj.0) i.0 ∙ runs)) ∙ i.1)), refl))

@@ -7,7 +7,7 @@ use Rattle.nb_ledger.specs.declared.port.ObjId.{ObjId}
 use Rattle.nb_ledger.specs.declared.port.PortState.{PortState}
 use Rattle.nb_ledger.specs.declared.port.PortState.TheVariants.{Open, Linked, Leaving, Closed}
 use Rattle.nb_ledger.specs.GraphRun.{link_count}
-use Rattle.nb_ledger.specs.Ledger.{Ledger, found, live, holds, busy, port, ties, unused, leaves, open_count}
+use Rattle.nb_ledger.specs.Ledger.{Ledger, found, object_lives, holds, busy, port, ties, unused, leaves, open_count}
 use Rattle.nb_ledger.specs.Changes.{SetsHolds}
 use Rattle.nb_ledger.specs.Settled.{Settles}
 use Rattle.nb_graph.specs.Whole.{IsQuiet, IsGraph, KeepsRanks}
@@ -89,8 +89,8 @@ none-live (o ∷ os) h = absurd (false≢true (sym (h o.id.0) ∙ here))
     here : is_some (found (o ∷ os) o.id.0) ≡ true
     here = rw (eq-eqb o.id.0 o.id.0 refl) refl
 
-pub none-objects : (l : Ledger) → ((x : ℕ) → live l x ≡ false) → length l.objects ≡ 0
-unfolding live
+pub none-objects : (l : Ledger) → ((x : ℕ) → object_lives l x ≡ false) → length l.objects ≡ 0
+unfolding object_lives
 none-objects l h = none-live l.objects h
 
 -- no open and no half-closed port is no link
@@ -109,12 +109,12 @@ unfolding unused
 is-unused l x h t b = rw (h, t, b) refl
 
 -- an object that is counted, with no hold and no link, is none
-pub dead-all : {N : Type 0} {rank_of : N → ℕ} {l : Ledger} {nodes : List N} {cap : ℕ} → IsGraph rank_of l nodes cap → (x : ℕ) → holds l x ≡ 0 → ((k : ℕ) → open_count (port l x k) ≡ 0) → live l x ≡ false
-dead-all {N} {rank_of} {l} {nodes} {cap} g x h o = elim (cases_Bool (live l x)) [
+pub dead-all : {N : Type 0} {rank_of : N → ℕ} {l : Ledger} {nodes : List N} {cap : ℕ} → IsGraph rank_of l nodes cap → (x : ℕ) → holds l x ≡ 0 → ((k : ℕ) → open_count (port l x k) ≡ 0) → object_lives l x ≡ false
+dead-all {N} {rank_of} {l} {nodes} {cap} g x h o = elim (cases_Bool (object_lives l x)) [
   | inl v ↦ absurd (false≢true (sym (g.whole.counted x v) ∙ is-unused l x h (no-ties l x (λ k. closed-link (port l x k) (o k) (g.quiet.settled x k))) (g.quiet.idle x)))
   | inr d ↦ d
 ]
 
 -- serials begin at 1
-pub dead-zero : (l : Ledger) → ((x : ℕ) → 0 < x → live l x ≡ false) → live l 0 ≡ false → length l.objects ≡ 0
-dead-zero l h z = none-objects l (λ x. elim (cases_eq x 0) [ inl e ↦ subst (λ y. live l y ≡ false) (sym e) z | inr n ↦ h x (omega arith) ])
+pub dead-zero : (l : Ledger) → ((x : ℕ) → 0 < x → object_lives l x ≡ false) → object_lives l 0 ≡ false → length l.objects ≡ 0
+dead-zero l h z = none-objects l (λ x. elim (cases_eq x 0) [ inl e ↦ subst (λ y. object_lives l y ≡ false) (sym e) z | inr n ↦ h x (omega arith) ])

@@ -1,6 +1,6 @@
 -- What is pending on links, through the parts of a calm call.
 use Rattle.nb_graph.specs.Accounts.{Midway}
-use Rattle.std.proofs.Common.{◌≡◌, ℕ, ◌≤◌, ◌⊎◌, inl, inr, List, [], ◌++◌, Option, Some, None, IfSome, refl, ap, sym, ◌∙◌, subst, append-nil, arith}
+use Rattle.std.proofs.Common.{◌≡◌, ℕ, ◌≤◌, ◌⊎◌, inl, inr, Bool, true, false, List, [], ◌++◌, Option, Some, None, IfSome, refl, ap, sym, ◌∙◌, subst, append-nil, arith}
 use Rattle.std.proofs.lemmas.Bool.{cases_eq, eq-eqb, ne_eqb}
 use Rattle.nb_ledger.specs.declared.port.Port.{Port}
 use Rattle.nb_ledger.specs.declared.port.PortState.TheVariants.{Open, Linked}
@@ -8,14 +8,12 @@ use Rattle.nb_ledger.specs.Ledger.{Ledger, port, rank, open_count}
 use Rattle.nb_graph.specs.declared.effects.Emit.{Emit}
 use Rattle.nb_graph.specs.declared.effects.Few.{Few}
 use Rattle.nb_graph.specs.declared.effects.Fx.{Fx}
-use Rattle.nb_graph.specs.declared.asking.Asked.{Asked}
-use Rattle.nb_graph.specs.declared.asking.Asked.TheVariants.{Done, NoMemory}
 use Rattle.nb_graph.specs.Deeds.{Deed}
 use Rattle.nb_graph.specs.Effects.{AreDowns, IsDown, MayAskBelow, MayAskDown}
 use Rattle.nb_graph.specs.Whole.{IsLinked, port_at}
-use Rattle.nb_graph.specs.Accounts.{Account, Joined, joined, parted, account, emit_bytes, few_bytes, fx_bytes}
+use Rattle.nb_graph.specs.Accounts.{Account, JoinedEnds, joined, parted, account, emit_bytes, few_bytes, fx_bytes}
 use Rattle.nb_graph.specs.Trace.{Nature, carries}
-use Rattle.nb_graph.specs.Flows.{Reaches, here, over, IsClear, IsShut, Closing, Failing, Downs, Passing, Emitting, Giving, Following, asked_left, asked_sent, asked_whole, nothing}
+use Rattle.nb_graph.specs.Flows.{Reaches, here, over, IsClear, IsShut, Closing, Failing, Downs, Passing, Emitting, Giving, Following, asked_left, asked_sent, asked_whole, by_no_slot}
 use Rattle.nb_graph.specs.Moves.{Calms}
 use Rattle.nb_graph.proofs.ForestLemmas.{Reaches-map, apart-without, the-port}
 use Rattle.nb_graph.proofs.LivensLemmas.{cases_ports, port-eq}
@@ -92,7 +90,7 @@ module _ {N L : Type 0} (known : Nature N L) (bytes : List ℕ) where
       last (Some e) = λ n. i.3
 
 -- a message goes down a link
-pub Passing-giving : (l : Ledger) (at peer : Port) (m : List ℕ) → IsLinked (port l) (rank l) → 1 ≤ at.slot → port l at.obj.0 at.slot ≡ Linked peer → (p q : Port) (y : Account) (s t w v : List ℕ) → Joined l p q s t w → Passing l at m p q y w v → Giving l peer m p q y w v
+pub Passing-giving : (l : Ledger) (at peer : Port) (m : List ℕ) → IsLinked (port l) (rank l) → 1 ≤ at.slot → port l at.obj.0 at.slot ≡ Linked peer → (p q : Port) (y : Account) (s t w v : List ℕ) → JoinedEnds l p q s t w → Passing l at m p q y w v → Giving l peer m p q y w v
 Passing-giving l at peer m k o h p q y s t w v j (inl i) = inl i
 Passing-giving l at peer m k o h p q y s t w v (parted a b c d r e) (inr i) = inl c
 Passing-giving l at peer m k o h p q y s t w v (joined a b c d e) (inr (inl i)) =
@@ -109,7 +107,7 @@ Passing-giving l at peer m k o h p q y s t w v (joined a b c d e) (inr (inr i)) 
     ]
 
 -- a message leaves the graph, or is dropped
-pub Passing-open : (l : Ledger) (at : Port) (m : List ℕ) → port l at.obj.0 at.slot ≡ Open → (p q : Port) (y : Account) (s t w v : List ℕ) → Joined l p q s t w → Passing l at m p q y w v → IsShut l p ⊎ (w ≡ v)
+pub Passing-open : (l : Ledger) (at : Port) (m : List ℕ) → port l at.obj.0 at.slot ≡ Open → (p q : Port) (y : Account) (s t w v : List ℕ) → JoinedEnds l p q s t w → Passing l at m p q y w v → IsShut l p ⊎ (w ≡ v)
 Passing-open l at m h p q y s t w v j (inl i) = inl i
 Passing-open l at m h p q y s t w v j (inr (inr i)) = inr i.1
 Passing-open l at m h p q y s t w v (parted a b c d r e) (inr (inl i)) = inl c
@@ -137,16 +135,16 @@ Calms-fail {known = known} {a = a} {b = b} {x = x} {ds = ds} shut k = record {
     at_x : (p : Port) → p.obj.0 ≡ x → open_count (port b p.obj.0 p.slot) ≡ 0
     at_x p e = ap (λ z. open_count (port b z p.slot)) e ∙ shut p.slot
 
-    other : (p q : Port) (s t w v : List ℕ) → q.obj.0 ≡ x → Joined b p q s t w → Joined b p q s t v
+    other : (p q : Port) (s t w v : List ℕ) → q.obj.0 ≡ x → JoinedEnds b p q s t w → JoinedEnds b p q s t v
     other p q s t w v e (joined c d f g h) = absurd (let i = sym (ap open_count g) ∙ at_x q e in cc)
     other p q s t w v e (parted c d f g r h) = parted c d f g r h
 
-    during : (p q : Port) (y z : Account) (w v : List ℕ) → Failing a x p q z w v → Joined a p q y.sent z.taken w → Midway known p q y z ds
+    during : (p q : Port) (y z : Account) (w v : List ℕ) → Failing a x p q z w v → JoinedEnds a p q y.sent z.taken w → Midway known p q y z ds
     during p q y z w v (inl i) j = k.midway p q y z w v (inl i) j
     during p q y z w v (inr (inl e, c)) j = k.midway p q y z w v (inr (e, c)) j
     during p q y z w v (inr (inr e, c)) j = k.midway p q y z w w (inr (refl, c)) j
 
-    go : (p q : Port) (y z : Account) (w v : List ℕ) → Failing a x p q z w v → Joined a p q y.sent z.taken w → Joined b p q (account known p y ds).sent (account known q z ds).taken v
+    go : (p q : Port) (y z : Account) (w v : List ℕ) → Failing a x p q z w v → JoinedEnds a p q y.sent z.taken w → JoinedEnds b p q (account known p y ds).sent (account known q z ds).taken v
     go p q y z w v (inl i) j = k.joins p q y z w v (inl i) j
     go p q y z w v (inr (inl e, c)) j = k.joins p q y z w v (inr (e, c)) j
     go p q y z w v (inr (inr (inl e), c)) j = Joined-any v (at_x p e) (k.joins p q y z w w (inr (refl, c)) j)
@@ -166,22 +164,22 @@ below-bytes known bytes len fx a k = ap (λ z. few_bytes known k bytes fx.downs 
 pub below-zero : {N L : Type 0} (known : Nature N L) (bytes : List ℕ) (len : ℕ) (fx : Fx N L) → MayAskBelow len fx → fx_bytes known 0 bytes fx ≡ []
 below-zero known bytes len fx a = below-bytes known bytes len fx a 0 ∙ few-zero known bytes len fx.downs a.downs
 
-pub asked-zero : {N L : Type 0} (known : Nature N L) (bytes : List ℕ) (len : ℕ) (asked : Asked N L) → MayAskDown len asked → asked_sent known bytes asked 0 ≡ []
-asked-zero known bytes len (Done fx) a = below-zero known bytes len fx a
-asked-zero known bytes len (NoMemory fx) a = refl
+pub asked-zero : {N L : Type 0} (known : Nature N L) (bytes : List ℕ) (len : ℕ) (done : Bool) (fx : Fx N L) → MayAskDown len done fx → asked_sent known bytes done fx 0 ≡ []
+asked-zero known bytes len true fx a = below-zero known bytes len fx a
+asked-zero known bytes len false fx a = refl
 
-pub closing-idle : {l : Ledger} {x : ℕ} (p q : Port) (y z : Account) (w v : List ℕ) → Closing l x p q z w v → Joined l p q y.sent z.taken w → IsShut l p ⊎ (w ≡ v)
+pub closing-idle : {l : Ledger} {x : ℕ} (p q : Port) (y z : Account) (w v : List ℕ) → Closing l x p q z w v → JoinedEnds l p q y.sent z.taken w → IsShut l p ⊎ (w ≡ v)
 closing-idle p q y z w v (inl i) j = inl i
 closing-idle p q y z w v (inr i) j = inr i.0
 
 -- what an entry from above takes, and leaves
-pub whole-only : {N L : Type 0} (bytes : List ℕ) (asked : Asked N L) (k : ℕ) → (k ≡ 0 → ⊥) → asked_whole bytes asked k ≡ []
-whole-only bytes (Done fx) k n = rw (ne_eqb k 0 n) refl
-whole-only bytes (NoMemory fx) k n = refl
+pub whole-only : (bytes : List ℕ) (done : Bool) (k : ℕ) → (k ≡ 0 → ⊥) → asked_whole bytes done k ≡ []
+whole-only bytes true k n = rw (ne_eqb k 0 n) refl
+whole-only bytes false k n = refl
 
-pub whole-left : {N L : Type 0} (bytes : List ℕ) (asked : Asked N L) → asked_whole bytes asked 0 ++ asked_left bytes asked ≡ bytes
-whole-left bytes (Done fx) = append-nil bytes
-whole-left bytes (NoMemory fx) = refl
+pub whole-left : (bytes : List ℕ) (done : Bool) → asked_whole bytes done 0 ++ asked_left bytes done ≡ bytes
+whole-left bytes true = append-nil bytes
+whole-left bytes false = refl
 
 -- and its effects, or its failing
 pub following-done : (l : Ledger) (x : ℕ) (sent m : ℕ → List ℕ) → ((k : ℕ) → sent k ≡ m k) → (p q : Port) (y : Account) (w v : List ℕ) → Following l (port_at x 0) [] sent p q y w v → Downs l x m p q y w v
@@ -190,7 +188,7 @@ following-done l x sent m same p q y w v (inr (inl i)) = inr (inl (i.0, i.1, i.2
 following-done l x sent m same p q y w v (inr (inr (n, c, inl i))) = inr (inr (n, i.1, c))
 following-done l x sent m same p q y w v (inr (inr (n, c, inr i))) = inr (inr (n, i.1, c))
 
-pub following-fail : (l : Ledger) (x : ℕ) (m : List ℕ) (p q : Port) (y : Account) (w v : List ℕ) → Following l (port_at x 0) m nothing p q y w v → Failing l x p q y w v
+pub following-fail : (l : Ledger) (x : ℕ) (m : List ℕ) (p q : Port) (y : Account) (w v : List ℕ) → Following l (port_at x 0) m by_no_slot p q y w v → Failing l x p q y w v
 following-fail l x m p q y w v (inl i) = inl i
 following-fail l x m p q y w v (inr (inl i)) = inr (inr (inl i.0), inl i.0)
 following-fail l x m p q y w v (inr (inr (n, c, inl i))) = inr (inr (inr (ap (λ z. z.obj.0) i.0)), inr c)

@@ -6,7 +6,7 @@ use Rattle.nb_ledger.specs.declared.port.ObjId.{ObjId}
 use Rattle.nb_ledger.specs.declared.port.Port.{Port}
 use Rattle.nb_ledger.specs.declared.port.PortState.{PortState}
 use Rattle.nb_ledger.specs.declared.port.PortState.TheVariants.{Open, Linked, Leaving, Closed}
-use Rattle.nb_ledger.specs.Ledger.{Ledger, live, busy, rank, ranks, port, place}
+use Rattle.nb_ledger.specs.Ledger.{Ledger, object_lives, busy, rank, ranks, port, place}
 use Rattle.nb_ledger.specs.Changes.{SameObjects, SetsHolds, SetsPort, Adds}
 use Rattle.nb_ledger.specs.Settled.{Settles}
 use Rattle.nb_ledger.proofs.PortLemmas.{live_by}
@@ -29,7 +29,7 @@ pub but-counted : (l : Ledger) (x : ℕ) → IsCounted l → CountedBut x l
 but-counted l x c = λ y n v. c y v
 
 -- a dead object's ports have no link
-pub dead-loose : (l : Ledger) (x : ℕ) → live l x ≡ false → (k : ℕ) → IsLoose (port l x k)
+pub dead-loose : (l : Ledger) (x : ℕ) → object_lives l x ≡ false → (k : ℕ) → IsLoose (port l x k)
 dead-loose l x d k = by_state (port l x k) refl
   where
     by_state : (v : PortState) → port l x k ≡ v → IsLoose v
@@ -40,7 +40,7 @@ dead-loose l x d k = by_state (port l x k) refl
 
 -- nothing lives
 pub IsGraph-empty : {N : Type 0} (rank_of : N → ℕ) (cap room : ℕ) → cap ≤ 64 → cap ≤ room → IsGraph rank_of (record { made = 0; room = cap; objects = [] }) [] room
-unfolding live busy port ranks rank
+unfolding object_lives busy port ranks rank
 IsGraph-empty rank_of cap room small fits = record {
   whole = record {
     links = record { back = λ x k p h. absurd (cc); upper = λ x p h. absurd (cc); lower = λ x k p i h. absurd (cc); falls = λ x p h. absurd (cc) };
@@ -75,7 +75,7 @@ pub small-add : {old new : Ledger} {x r : ℕ} → Adds old new x r → r < 256 
 small-add {old} {new} {x} {r} a sm w y = elim (cases_eq y x) [ inl e ↦ rw (a.rank_set y ∙ but_same x r (rank old) y e) sm | inr n ↦ rw (a.rank_set y ∙ but_other x r (rank old) y n) (w y) ]
 
 -- an object is made and held
-pub IsGraph-make : {N : Type 0} {rank_of : N → ℕ} {old mid new : Ledger} {nodes more : List N} {cap big x r n : ℕ} → Adds old mid x r → live old x ≡ false → SetsHolds mid new x n → 0 < n → r < 256 → IsManned rank_of mid more big → IsGraph rank_of old nodes cap → IsGraph rank_of new more big
+pub IsGraph-make : {N : Type 0} {rank_of : N → ℕ} {old mid new : Ledger} {nodes more : List N} {cap big x r n : ℕ} → Adds old mid x r → object_lives old x ≡ false → SetsHolds mid new x n → 0 < n → r < 256 → IsManned rank_of mid more big → IsGraph rank_of old nodes cap → IsGraph rank_of new more big
 IsGraph-make {N} {rank_of} {old} {mid} {new} {nodes} {more} {cap} {big} {x} {r} {n} a d s h sm m g = record {
   whole = IsWhole-hold s h (IsLinked-add a (dead-loose old x d) g.whole.links) (CountedBut-add a g.whole.counted) (λ y. small-add a sm g.whole.small y);
   quiet = IsQuiet-holds s (IsQuiet-add a g.quiet);
@@ -107,21 +107,21 @@ pub KeepsRanks-same : {old new : Ledger} → SameObjects old new → KeepsRanks 
 KeepsRanks-same {old} {new} s = λ x _ _. s.same_rank x
 
 -- and where one is made
-pub KeepsRanks-make : {old mid new : Ledger} {x r : ℕ} → Adds old mid x r → live old x ≡ false → SameObjects mid new → KeepsRanks old new
-KeepsRanks-make {old} {mid} {new} {x} {r} a d s = λ y v _. s.same_rank y ∙ a.rank_set y ∙ but_other x r (rank old) y (λ e. false≢true (sym d ∙ subst (λ z. live old z ≡ true) e v))
+pub KeepsRanks-make : {old mid new : Ledger} {x r : ℕ} → Adds old mid x r → object_lives old x ≡ false → SameObjects mid new → KeepsRanks old new
+KeepsRanks-make {old} {mid} {new} {x} {r} a d s = λ y v _. s.same_rank y ∙ a.rank_set y ∙ but_other x r (rank old) y (λ e. false≢true (sym d ∙ subst (λ z. object_lives old z ≡ true) e v))
 
 -- and where one is gone
 pub KeepsRanks-settle : {old mid new : Ledger} {before after : Option (List Notice)} {id : ObjId} → SameObjects old mid → Settles mid new before after id → KeepsRanks old new
 KeepsRanks-settle {old} {mid} {new} {before} {after} {id} s t = elim t.how [
   | inl h ↦ λ y v u. ap (λ l. rank l y) h.0 ∙ s.same_rank y
-  | inr h ↦ λ y v u. h.1.rank_set y ∙ but_other id.0 0 (rank mid) y (λ e. false≢true (sym (h.1.live_set y ∙ but_same id.0 false (live mid) y e) ∙ u)) ∙ s.same_rank y
+  | inr h ↦ λ y v u. h.1.rank_set y ∙ but_other id.0 0 (rank mid) y (λ e. false≢true (sym (h.1.live_set y ∙ but_same id.0 false (object_lives mid) y e) ∙ u)) ∙ s.same_rank y
 ]
 
 -- what is known of an object just made
 pub IsMade-make : {N : Type 0} {old mid new : Ledger} {nodes : List N} {x : ObjId} {r n : ℕ} (node : N) → Adds old mid x.0 r → x.0 ≡ old.made + 1 → SetsHolds mid new x.0 n → place mid x.0 ≡ length nodes → IsMade (record { book = old; nodes = nodes }) (record { book = new; nodes = nodes ++ node ∷ [] }) node r x
 IsMade-make {N} {old} {mid} {new} {nodes} {x} {r} {n} node a e s h = record {
   serial = e;
-  lives = s.objects.same_live x.0 ∙ a.live_set x.0 ∙ but_same x.0 true (live old) x.0 refl;
+  lives = s.objects.same_live x.0 ∙ a.live_set x.0 ∙ but_same x.0 true (object_lives old) x.0 refl;
   at_rank = s.objects.same_rank x.0 ∙ a.rank_set x.0 ∙ but_same x.0 r (rank old) x.0 refl;
   is_node = rw (s.objects.same_place x.0, h) (slice_get-push nodes node);
 }

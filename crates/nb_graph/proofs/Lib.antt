@@ -15,6 +15,7 @@ pub mod ShutLemmas
 pub mod EndLemmas
 pub mod LivelyLemmas
 pub mod NodeLemmas
+pub mod HostLemmas
 pub mod LivesLemmas
 pub mod SeatLemmas
 pub mod OwingLemmas

@@ -2,19 +2,19 @@
 use Rattle.nb_ledger.specs.Flat.{Given, flat, event}
 use Rattle.nb_ledger.proofs.RunLemmas.{Given-append, Given-none}
 use Rattle.nb_ledger.specs.Flat.{Notice}
-use Rattle.std.proofs.Common.{true, false, ◌≡◌, ◌≢◌, ◌+◌, ◌<◌, ◌≤◌, ◌^◌, length, ℕ, Bool, List, [], ◌∷◌, ◌++◌, Option, inl, inr, refl, ap, sym, ◌∙◌, subst, append-nil}
+use Rattle.std.proofs.Common.{true, false, ◌≡◌, ◌≢◌, ◌+◌, ◌<◌, ◌≤◌, ◌^◌, length, ℕ, Bool, List, [], ◌∷◌, ◌++◌, Option, Some, inl, inr, refl, ap, sym, ◌∙◌, subst, append-nil}
 use Rattle.std.proofs.lemmas.Bool.{cases_eq, eq-eqb, ne_eqb, false≢true}
 use Rattle.nb_ledger.specs.declared.port.Port.{Port}
 use Rattle.nb_ledger.specs.declared.port.PortState.TheVariants as state
 use Rattle.nb_ledger.specs.declared.event.GraphEvent.{GraphEvent}
 use Rattle.nb_ledger.specs.declared.event.GraphEvent.TheVariants.{Made, Held, Plugged, Dropped}
 use Rattle.nb_ledger.specs.Flat.{Tells}
-use Rattle.nb_ledger.specs.Ledger.{live, Ledger, busy, open_count, port, state_of}
+use Rattle.nb_ledger.specs.Ledger.{object_lives, Ledger, busy, open_count, port, run_state}
 use Rattle.nb_graph.specs.declared.effects.Fx.{Fx}
-use Rattle.nb_graph.specs.Trace.{Nature, Said, Entry}
+use Rattle.nb_graph.specs.Trace.{Nature, Said, NodeEntry}
 use Rattle.nb_graph.specs.Deeds.{writes, turns, is_dead, Offers, Ticks, Hands, Stage}
-use Rattle.nb_graph.specs.Deeds.{Deed, Gives, MustPlug, Wants}
-use Rattle.nb_graph.specs.Follows.{Follows, refused, ticks_none, enters_up, enters_down, offered_up, offered_down, plugs, held, made_outside}
+use Rattle.nb_graph.specs.Deeds.{Deed, Gives, MustBegin, MustMake, MustPlug, Wants, begins}
+use Rattle.nb_graph.specs.Follows.{UsesStack, refused, ticks_none, enters_up, enters_down, offered_up, offered_down, plugs, held, has_begun, made_outside}
 use Rattle.nb_graph.specs.Scene.{Scene, scene_of, state_at}
 use Rattle.nb_graph.proofs.AgesLemmas.{Ages-refl, Ages-adds, Ages-same, Ages-shrinks, Ages-trans}
 use Rattle.nb_graph.proofs.SceneLemmas.{roomy-below, scene-adds, scene-holds, scene-ports}
@@ -24,12 +24,12 @@ use Rattle.nb_graph.proofs.AccountLemmas.{Joined-mild, start-joined}
 use Rattle.nb_graph.proofs.MildLemmas.{Mild-holds}
 use Rattle.nb_graph.proofs.WholeLemmas.{but_same}
 use Rattle.nb_ledger.specs.Changes.{Adds, SetsHolds, SetsPort}
-use Rattle.nb_ledger.specs.GraphRun.{Frame, IsIdle, Step}
+use Rattle.nb_ledger.specs.GraphRun.{OnStack, IsIdle, Step}
 use Rattle.nb_ledger.specs.declared.port.ObjId.{ObjId}
 use Rattle.nb_graph.specs.Whole.{Ages, Objects, IsQuiet}
 use Rattle.nb_graph.specs.Lives.{here, seat, CalmFor, LivelyFor, RunFor, Loses, Same, IsUnder}
-use Rattle.nb_graph.specs.Lived.{KeepsTraces, Lived, StandsFor}
-use Rattle.nb_graph.specs.Accounts.{Account, Joined, joined, parted, rests}
+use Rattle.nb_graph.specs.Lived.{KeepsTraces, Lived}
+use Rattle.nb_graph.specs.Accounts.{Account, JoinedEnds, joined, parted, rests}
 use Rattle.nb_graph.specs.Flows.{Empty, Closing, Giving, Keeping, Rising}
 use Rattle.nb_graph.specs.Moves.{Calms, none_due}
 use Rattle.nb_graph.proofs.AccountLemmas.{Calms-then}
@@ -42,10 +42,10 @@ abbrev pub objects_of : {N : Type 0} → Ledger → List N → Objects N
 objects_of l nodes = record { book = l; nodes = nodes }
 
 -- where no node comes, each object stands for what it stood for
-pub Keeps-loses : {N L : Type 0} (stands : N → List (Entry N L) → Type 0) (old new : Ledger) (nodes more : List N) → Loses (seat old nodes) (seat new more) → KeepsTraces stands (objects_of old nodes) (objects_of new more)
+pub Keeps-loses : {N L : Type 0} (stands : N → List (NodeEntry N L) → Type 0) (old new : Ledger) (nodes more : List N) → Loses (seat old nodes) (seat new more) → KeepsTraces stands (objects_of old nodes) (objects_of new more)
 Keeps-loses stands old new nodes more l x t fit n h = fit n (l.back x n h)
 
-module _ {N L : Type 0} {stands : N → List (Entry N L) → Type 0} {known : Nature N L} {now : ℕ} {s : List (Stage L) → List (Stage L)} {old new : Ledger} {nodes more : List N} {before after : Option (List Notice)} {f : Port → Port → Account → List ℕ → List ℕ → Type 0} (q : IsQuiet old) (idle : (p q : Port) (y : Account) (s t : List ℕ) → Joined old p q s t [] → f p q y [] []) where
+module _ {N L : Type 0} {stands : N → List (NodeEntry N L) → Type 0} {known : Nature N L} {now : ℕ} {s : List (Stage N L) → List (Stage N L)} {old new : Ledger} {nodes more : List N} {before after : Option (List Notice)} {f : Port → Port → Account → List ℕ → List ℕ → Type 0} (q : IsQuiet old) (idle : (p q : Port) (y : Account) (s t : List ℕ) → JoinedEnds old p q s t [] → f p q y [] []) where
   pub Lived-calm : CalmFor stands known now old new nodes more (Same (busy old)) f s before after → Lived stands known now (s []) (objects_of old nodes) (objects_of new more) before after
   Lived-calm k = record {
     added = k.calm.added;
@@ -54,8 +54,10 @@ module _ {N L : Type 0} {stands : N → List (Entry N L) → Type 0} {known : Na
     deeds = k.lives.deeds;
     events = k.lives.events;
     tells = k.lives.tells;
-    follows = subst (λ z. Follows known now (scene_of old) (s []) z (scene_of new)) (append-nil k.lives.deeds) (k.lives.follows [] [] (scene_of new) refl);
+    follows = subst (λ z. UsesStack known now (scene_of old) (s []) z (scene_of new)) (append-nil k.lives.deeds) (k.lives.follows [] [] (scene_of new) refl);
     keeps = λ x t fit. k.lives.keeps x t [] [] ((λ _. refl), refl) fit;
+    hosts = k.lives.hosts;
+    suits = λ x t fit. k.lives.suits x t [] [] ((λ _. refl), refl) fit;
     midway = λ p r a b bal. elim (cases_peer a.peer r) [
       | inl g ↦ k.lives.moved.midway p r (rests a) (rests b) [] [] (idle p r (rests b) a.sent b.taken (bal g)) (bal g)
       | inr n ↦ k.lives.moved.apart p r (rests a) (rests b) n
@@ -71,8 +73,10 @@ module _ {N L : Type 0} {stands : N → List (Entry N L) → Type 0} {known : Na
     deeds = k.lives.deeds;
     events = k.lives.events;
     tells = k.lives.tells;
-    follows = subst (λ z. Follows known now (scene_of old) (s []) z (scene_of new)) (append-nil k.lives.deeds) (k.lives.follows [] [] (scene_of new) refl);
+    follows = subst (λ z. UsesStack known now (scene_of old) (s []) z (scene_of new)) (append-nil k.lives.deeds) (k.lives.follows [] [] (scene_of new) refl);
     keeps = λ x t fit. k.lives.keeps x t [] [] ((λ _. refl), refl) fit;
+    hosts = k.lives.hosts;
+    suits = λ x t fit. k.lives.suits x t [] [] ((λ _. refl), refl) fit;
     midway = λ p r a b bal. elim (cases_peer a.peer r) [
       | inl g ↦ k.lives.moved.midway p r (rests a) (rests b) [] [] (idle p r (rests b) a.sent b.taken (bal g)) (bal g)
       | inr n ↦ k.lives.moved.newly p r (rests a) (rests b) tt n
@@ -84,16 +88,16 @@ module _ {N L : Type 0} {stands : N → List (Entry N L) → Type 0} {known : Na
   }
 
   -- and its first call
-  pub Hands-calm : (e : GraphEvent) (x : ℕ) (entry : Bool → Fx N L → Entry N L) → ((k : CalmFor stands known now old new nodes more (Same (busy old)) f s before after) × Hands e x entry k.lives.deeds) → (k : Lived stands known now (s []) (objects_of old nodes) (objects_of new more) before after) × Hands e x entry k.deeds
+  pub Hands-calm : (e : GraphEvent) (x : ℕ) (entry : Bool → Fx N L → NodeEntry N L) → ((k : CalmFor stands known now old new nodes more (Same (busy old)) f s before after) × Hands e x entry k.lives.deeds) → (k : Lived stands known now (s []) (objects_of old nodes) (objects_of new more) before after) × Hands e x entry k.deeds
   unfolding Lived-calm
   Hands-calm e x entry k = (Lived-calm k.0, k.1)
 
-  pub Hands-lively : (e : GraphEvent) (x : ℕ) (entry : Bool → Fx N L → Entry N L) → ((k : LivelyFor stands known now old new nodes more (Same (busy old)) none_due f s before after) × Hands e x entry k.lives.deeds) → (k : Lived stands known now (s []) (objects_of old nodes) (objects_of new more) before after) × Hands e x entry k.deeds
+  pub Hands-lively : (e : GraphEvent) (x : ℕ) (entry : Bool → Fx N L → NodeEntry N L) → ((k : LivelyFor stands known now old new nodes more (Same (busy old)) none_due f s before after) × Hands e x entry k.lives.deeds) → (k : Lived stands known now (s []) (objects_of old nodes) (objects_of new more) before after) × Hands e x entry k.deeds
   unfolding Lived-lively
   Hands-lively e x entry k = (Lived-lively k.0, k.1)
 
 -- a message is dropped
-pub Lived-drop : {N L : Type 0} (stands : N → List (Entry N L) → Type 0) (known : Nature N L) (now : ℕ) (l : Ledger) (nodes : List N) (before after : Option (List Notice)) (p : Port) (msg : Said) → (port l p.obj.0 p.slot ≡ state.Open → ⊥) → Tells before after (Dropped p ∷ []) → Given before after (event (flat (Dropped p)) ∷ []) → Lived stands known now (Offers p msg ∷ []) (objects_of l nodes) (objects_of l nodes) before after
+pub Lived-drop : {N L : Type 0} (stands : N → List (NodeEntry N L) → Type 0) (known : Nature N L) (now : ℕ) (l : Ledger) (nodes : List N) (before after : Option (List Notice)) (p : Port) (msg : Said) → (port l p.obj.0 p.slot ≡ state.Open → ⊥) → Tells before after (Dropped p ∷ []) → Given before after (event (flat (Dropped p)) ∷ []) → Lived stands known now (Offers p msg ∷ []) (objects_of l nodes) (objects_of l nodes) before after
 Lived-drop stands known now l nodes before after p msg n told given = record {
   added = Dropped p ∷ [];
   runs = Runs-drop l before after p n told;
@@ -103,17 +107,19 @@ Lived-drop stands known now l nodes before after p msg n told given = record {
   tells = given;
   follows = ([], refused p msg n, refl);
   keeps = λ x t fit. fit;
+  hosts = λ x n h. h;
+  suits = λ x t fit. tt;
   midway = λ p q a b bal. (λ e. start-joined (bal e), λ e. start-joined (bal e));
   balances = λ p q a b bal e. bal e;
 }
 
 -- time comes to a dead object
-pub Lived-dead : {N L : Type 0} (stands : N → List (Entry N L) → Type 0) (known : Nature N L) (now : ℕ) (l : Ledger) (nodes : List N) (before : Option (List Notice)) (x : ℕ) → live l x ≡ false → Lived stands known now (Ticks x ∷ []) (objects_of l nodes) (objects_of l nodes) before before
+pub Lived-dead : {N L : Type 0} (stands : N → List (NodeEntry N L) → Type 0) (known : Nature N L) (now : ℕ) (l : Ledger) (nodes : List N) (before : Option (List Notice)) (x : ℕ) → object_lives l x ≡ false → Lived stands known now (Ticks x ∷ []) (objects_of l nodes) (objects_of l nodes) before before
 unfolding IsRun-none
-Lived-dead stands known now l nodes before x dead = record { added = []; runs = (IsRun-none l before).1; deeds = turns (is_dead x) ∷ []; events = refl; ages = Ages-refl l; tells = Given-none before; follows = ([], ticks_none x dead, refl); keeps = λ x t fit. fit; midway = λ p q a b bal. λ e. start-joined (bal e); balances = λ p q a b bal e. bal e }
+Lived-dead stands known now l nodes before x dead = record { added = []; runs = (IsRun-none l before).1; deeds = turns (is_dead x) ∷ []; events = refl; ages = Ages-refl l; tells = Given-none before; follows = ([], ticks_none x dead, refl); keeps = λ x t fit. fit; hosts = λ x n h. h; suits = λ x t fit. tt; midway = λ p q a b bal. λ e. start-joined (bal e); balances = λ p q a b bal e. bal e }
 
 -- ports are closed, and then holds let go
-pub Lived-end : {N L : Type 0} {s r : List (Stage L) → List (Stage L)} {stands : N → List (Entry N L) → Type 0} {known : Nature N L} {now : ℕ} {a b c : Ledger} {na nb nc : List N} {m n o : Option (List Notice)} → IsQuiet a → CalmFor stands known now a b na nb (Same (busy a)) Empty s m n → RunFor stands known b c nb nc r here n o → Ages b c → Lived stands known now (s (r [])) (objects_of a na) (objects_of c nc) m o
+pub Lived-end : {N L : Type 0} {s r : List (Stage N L) → List (Stage N L)} {stands : N → List (NodeEntry N L) → Type 0} {known : Nature N L} {now : ℕ} {a b c : Ledger} {na nb nc : List N} {m n o : Option (List Notice)} → IsQuiet a → CalmFor stands known now a b na nb (Same (busy a)) Empty s m n → RunFor stands known b c nb nc r here n o → Ages b c → Lived stands known now (s (r [])) (objects_of a na) (objects_of c nc) m o
 unfolding IsRun-trans
 Lived-end {s = s} {r = r} {known = known} {now = now} {a = a} {b = b} {c = c} {m = m} {n = n} {o = o} q k l ages =
     let both = Lives-then {k = Calms known a c Empty} (Lives-above r k.lives) (l.lives now) (λ x w v i. (v, i, refl)) (λ ds es x y. Calms-then x y (λ p r i j w v e t. (v, e, λ _. refl))) in
@@ -124,8 +130,10 @@ Lived-end {s = s} {r = r} {known = known} {now = now} {a = a} {b = b} {c = c} {m
       events = both.events;
       ages = Ages-trans (Ages-shrinks k.calm.shrinks) ages;
       tells = both.tells;
-      follows = subst (λ z. Follows known now (scene_of a) (s (r [])) z (scene_of c)) (append-nil both.deeds) (both.follows [] [] (scene_of c) refl);
+      follows = subst (λ z. UsesStack known now (scene_of a) (s (r [])) z (scene_of c)) (append-nil both.deeds) (both.follows [] [] (scene_of c) refl);
       keeps = λ x t fit. both.keeps x t [] [] ((λ _. refl), refl) fit;
+      hosts = both.hosts;
+      suits = λ x t fit. both.suits x t [] [] ((λ _. refl), refl) fit;
       midway = λ p r x y bal. elim (cases_peer x.peer r) [
         | inl g ↦ both.moved.midway p r (rests x) (rests y) [] [] (refl, refl) (bal g)
         | inr i ↦ both.moved.apart p r (rests x) (rests y) i
@@ -134,7 +142,7 @@ Lived-end {s = s} {r = r} {known = known} {now = now} {a = a} {b = b} {c = c} {m
     }
 
 -- holds are let go
-pub Lived-run : {N L : Type 0} {s : List (Stage L) → List (Stage L)} {stands : N → List (Entry N L) → Type 0} {known : Nature N L} {now : ℕ} {old new : Ledger} {nodes more : List N} {before after : Option (List Notice)} → RunFor stands known old new nodes more s here before after → Ages old new → Lived stands known now (s []) (objects_of old nodes) (objects_of new more) before after
+pub Lived-run : {N L : Type 0} {s : List (Stage N L) → List (Stage N L)} {stands : N → List (NodeEntry N L) → Type 0} {known : Nature N L} {now : ℕ} {old new : Ledger} {nodes more : List N} {before after : Option (List Notice)} → RunFor stands known old new nodes more s here before after → Ages old new → Lived stands known now (s []) (objects_of old nodes) (objects_of new more) before after
 Lived-run {s = s} {known = known} {now = now} {old = old} {new = new} k ages =
     let l = k.lives now in
     record {
@@ -144,8 +152,10 @@ Lived-run {s = s} {known = known} {now = now} {old = old} {new = new} k ages =
       deeds = l.deeds;
       events = l.events;
       tells = l.tells;
-      follows = subst (λ z. Follows known now (scene_of old) (s []) z (scene_of new)) (append-nil l.deeds) (l.follows [] [] (scene_of new) refl);
+      follows = subst (λ z. UsesStack known now (scene_of old) (s []) z (scene_of new)) (append-nil l.deeds) (l.follows [] [] (scene_of new) refl);
       keeps = λ x t fit. l.keeps x t [] [] refl fit;
+      hosts = l.hosts;
+      suits = λ x t fit. l.suits x t [] [] refl fit;
       midway = λ p r x y bal. elim (cases_peer x.peer r) [
         | inl g ↦ l.moved.midway p r (rests x) (rests y) [] [] refl (bal g)
         | inr i ↦ l.moved.apart p r (rests x) (rests y) i
@@ -154,12 +164,12 @@ Lived-run {s = s} {known = known} {now = now} {old = old} {new = new} k ages =
     }
 
 -- a message that is given from outside enters by an open port without a link
-offered : {N L : Type 0} (known : Nature N L) (now : ℕ) (s t : Scene) (p : Port) (m : Said) (ds : List (Deed N L)) → state_at s p ≡ state.Open → Follows known now s (Gives p m ∷ []) ds t → Follows known now s (Offers p m ∷ []) ds t
+offered : {N L : Type 0} (known : Nature N L) (now : ℕ) (s t : Scene) (p : Port) (m : Said) (ds : List (Deed N L)) → state_at s p ≡ state.Open → UsesStack known now s (Gives p m ∷ []) ds t → UsesStack known now s (Offers p m ∷ []) ds t
 offered known now s t p m [] o h = absurd h
 offered known now s t p m (_ ∷ ds) o (more, enters_up _ _ i j, h) = (more, offered_up p m i o, h)
 offered known now s t p m (_ ∷ ds) o (more, enters_down _ _ i j, h) = (more, offered_down p m i o, h)
 
-pub Lived-offered : {N L : Type 0} {stands : N → List (Entry N L) → Type 0} {known : Nature N L} {now : ℕ} {old new : Objects N} {before after : Option (List Notice)} {p : Port} {m : Said} → state_at (scene_of old.book) p ≡ state.Open → Lived stands known now (Gives p m ∷ []) old new before after → Lived stands known now (Offers p m ∷ []) old new before after
+pub Lived-offered : {N L : Type 0} {stands : N → List (NodeEntry N L) → Type 0} {known : Nature N L} {now : ℕ} {old new : Objects N} {before after : Option (List Notice)} {p : Port} {m : Said} → state_at (scene_of old.book) p ≡ state.Open → Lived stands known now (Gives p m ∷ []) old new before after → Lived stands known now (Offers p m ∷ []) old new before after
 Lived-offered {known = known} {now = now} {old = old} {new = new} {p = p} {m = m} o k = record {
   added = k.added;
   runs = k.runs;
@@ -169,12 +179,14 @@ Lived-offered {known = known} {now = now} {old = old} {new = new} {p = p} {m = m
   tells = k.tells;
   follows = offered known now (scene_of old.book) (scene_of new.book) p m k.deeds o k.follows;
   keeps = k.keeps;
+  hosts = k.hosts;
+  suits = k.suits;
   midway = k.midway;
   balances = k.balances;
 }
 
 -- two ports are joined
-pub Lived-plug : {N L : Type 0} (stands : N → List (Entry N L) → Type 0) (known : Nature N L) (now : ℕ) {old mid new : Ledger} (nodes : List N) (before after : Option (List Notice)) {p q : Port} → SetsPort old mid p (state.Linked q) → SetsPort mid new q (state.Linked p) → port old p.obj.0 p.slot ≡ state.Open → port old q.obj.0 q.slot ≡ state.Open → 1 ≤ p.slot → q.slot ≡ 0 → p.obj.0 ≤ old.made → q.obj.0 ≤ old.made → Tells before after (Plugged p q ∷ []) → ((st : List Frame) → IsIdle st → Step (state_of old st) (Plugged p q) (state_of new st)) → Given before after (event (flat (Plugged p q)) ∷ []) → Lived stands known now (MustPlug p q ∷ []) (objects_of old nodes) (objects_of new nodes) before after
+pub Lived-plug : {N L : Type 0} (stands : N → List (NodeEntry N L) → Type 0) (known : Nature N L) (now : ℕ) {old mid new : Ledger} (nodes : List N) (before after : Option (List Notice)) {p q : Port} → SetsPort old mid p (state.Linked q) → SetsPort mid new q (state.Linked p) → port old p.obj.0 p.slot ≡ state.Open → port old q.obj.0 q.slot ≡ state.Open → 1 ≤ p.slot → q.slot ≡ 0 → p.obj.0 ≤ old.made → q.obj.0 ≤ old.made → Tells before after (Plugged p q ∷ []) → ((st : List OnStack) → IsIdle st → Step (run_state old st) (Plugged p q) (run_state new st)) → Given before after (event (flat (Plugged p q)) ∷ []) → Lived stands known now (MustPlug p q ∷ []) (objects_of old nodes) (objects_of new nodes) before after
 Lived-plug stands known now {old = old} {mid = mid} {new = new} nodes before after {p = p} {q = q} a b op oq up low pm qm told step given = record {
   added = Plugged p q ∷ [];
   runs = Runs-one old new before after (Plugged p q) told step;
@@ -184,12 +196,14 @@ Lived-plug stands known now {old = old} {mid = mid} {new = new} nodes before aft
   tells = given;
   follows = ([], plugs p q op oq, sym (scene-ports a b));
   keeps = Keeps-loses stands old new nodes nodes (Loses-trans (Loses-same nodes a.objects) (Loses-same nodes b.objects));
+  hosts = λ x n h. (Loses-trans (Loses-same nodes a.objects) (Loses-same nodes b.objects)).back x n h;
+  suits = λ x t fit. tt;
   midway = λ r u x y bal. (λ e. start-joined (bal e), λ e. start-joined (Balanced-plug a b op oq up low pm qm r u x y bal e));
   balances = Balanced-plug a b op oq up low pm qm;
 }
 
 -- a hold is added
-pub Lived-hold : {N L : Type 0} (stands : N → List (Entry N L) → Type 0) (known : Nature N L) (now : ℕ) {old new : Ledger} {n : ℕ} (nodes : List N) (before after : Option (List Notice)) (x : ObjId) → live old x.0 ≡ true → SetsHolds old new x.0 n → Tells before after (Held x ∷ []) → ((st : List Frame) → IsIdle st → Step (state_of old st) (Held x) (state_of new st)) → Given before after (event (flat (Held x)) ∷ []) → Lived stands known now (Wants (Held x) ∷ []) (objects_of old nodes) (objects_of new nodes) before after
+pub Lived-hold : {N L : Type 0} (stands : N → List (NodeEntry N L) → Type 0) (known : Nature N L) (now : ℕ) {old new : Ledger} {n : ℕ} (nodes : List N) (before after : Option (List Notice)) (x : ObjId) → object_lives old x.0 ≡ true → SetsHolds old new x.0 n → Tells before after (Held x ∷ []) → ((st : List OnStack) → IsIdle st → Step (run_state old st) (Held x) (run_state new st)) → Given before after (event (flat (Held x)) ∷ []) → Lived stands known now (Wants (Held x) ∷ []) (objects_of old nodes) (objects_of new nodes) before after
 Lived-hold stands known now {old = old} {new = new} nodes before after x lives s told step given = record {
   added = Held x ∷ [];
   runs = Runs-one old new before after (Held x) told step;
@@ -199,24 +213,34 @@ Lived-hold stands known now {old = old} {new = new} nodes before after x lives s
   tells = given;
   follows = ([], held x lives, sym (scene-holds s));
   keeps = Keeps-loses stands old new nodes nodes (Loses-same nodes s.objects);
+  hosts = λ x n h. (Loses-same nodes s.objects).back x n h;
+  suits = λ x t fit. tt;
   midway = λ p q a b bal. (λ e. start-joined (bal e), λ e. start-joined (bal e));
   balances = λ p q a b bal e. Joined-mild (Mild-holds s) (bal e);
 }
 
 -- an object is made, with a hold
-pub Lived-make : {N L : Type 0} (stands : N → List (Entry N L) → Type 0) (known : Nature N L) (now : ℕ) {old mid new : Ledger} {r n : ℕ} (nodes more : List N) (before between after : Option (List Notice)) (x : ObjId) (kind : ℕ) → length old.objects < old.room → old.made + 1 < 2 ^ 64 → x.0 ≡ old.made + 1 → live old x.0 ≡ false → length mid.objects ≡ length old.objects + 1 → Adds old mid x.0 r → SetsHolds mid new x.0 n → Tells before between (Made x kind ∷ []) → Tells between after (Held x ∷ []) → ((st : List Frame) → IsIdle st → Step (state_of old st) (Made x kind) (state_of mid st)) → ((st : List Frame) → IsIdle st → Step (state_of mid st) (Held x) (state_of new st)) → Given before between (event (flat (Made x kind)) ∷ []) → Given between after (event (flat (Held x)) ∷ []) → ((t : List (Entry N L)) → StandsFor stands (objects_of new more) x.0 []) → ((y : ℕ) (t : List (Entry N L)) → y ≢ x.0 → StandsFor stands (objects_of old nodes) y t → StandsFor stands (objects_of new more) y t) → Lived stands known now (Wants (Made x kind) ∷ Wants (Held x) ∷ []) (objects_of old nodes) (objects_of new more) before after
-Lived-make {N} {L} stands known now {old = old} {mid = mid} {new = new} nodes more before between after x kind room small serial fresh one a s told then step next given also there others = record {
-  added = Made x kind ∷ Held x ∷ [];
-  runs = Runs-two old mid new before between after (Made x kind) (Held x) told then step next;
+pub Lived-make : {N L : Type 0} (stands : N → List (NodeEntry N L) → Type 0) (known : Nature N L) (now : ℕ) {old mid new : Ledger} {r n : ℕ} (nodes more : List N) (before between after : Option (List Notice)) (x : ObjId) (node : N) → stands node [] → length old.objects < old.room → old.made + 1 < 2 ^ 64 → x.0 ≡ old.made + 1 → object_lives old x.0 ≡ false → length mid.objects ≡ length old.objects + 1 → Adds old mid x.0 r → SetsHolds mid new x.0 n → Tells before between (Made x (known.kind node) ∷ []) → Tells between after (Held x ∷ []) → ((st : List OnStack) → IsIdle st → Step (run_state old st) (Made x (known.kind node)) (run_state mid st)) → ((st : List OnStack) → IsIdle st → Step (run_state mid st) (Held x) (run_state new st)) → Given before between (event (flat (Made x (known.kind node))) ∷ []) → Given between after (event (flat (Held x)) ∷ []) → ((n : N) → seat new more x.0 ≡ Some n → n ≡ node) → ((y : ℕ) (n : N) → y ≢ x.0 → seat new more y ≡ Some n → seat old nodes y ≡ Some n) → Lived stands known now (MustMake x node ∷ Wants (Held x) ∷ []) (objects_of old nodes) (objects_of new more) before after
+Lived-make {N} {L} stands known now {old = old} {mid = mid} {new = new} nodes more before between after x node start room small serial fresh one a s told then step next given also there others = record {
+  added = Made x (known.kind node) ∷ Held x ∷ [];
+  runs = Runs-two old mid new before between after (Made x (known.kind node)) (Held x) told then step next;
   ages = Ages-trans (Ages-adds serial a) (Ages-same s.objects);
-  deeds = writes (Made x kind) ∷ writes (Held x) ∷ [];
+  deeds = writes (Made x (known.kind node)) ∷ begins x.0 node ∷ writes (Held x) ∷ [];
   events = refl;
   tells = Given-append before between after _ _ given also;
-  follows = ([], made_outside x kind (roomy-below old room small) serial, ([], held x (but_same x.0 true (live old) x.0 refl), sym (scene-holds s ∙ scene-adds x kind a one)));
-  keeps = λ y t fit. elim (cases_eq y x.0) [
-    | inl e ↦ rw (eq-eqb y x.0 e) (subst (λ z. StandsFor stands (objects_of new more) z []) (sym e) (there t))
-    | inr n ↦ rw (ne_eqb y x.0 n) (others y t n fit)
+  follows = (MustBegin x.0 node ∷ [], made_outside x node (roomy-below old room small) serial, ([], has_begun x.0 node, ([], held x (but_same x.0 true (object_lives old) x.0 refl), sym (scene-holds s ∙ scene-adds x (known.kind node) a one))));
+  keeps = λ y t fit. λ n h. elim (cases_eq y x.0) [
+    | inl e ↦ rw (eq-eqb y x.0 e) (subst (λ z. stands z []) (sym (there n (sym (ap (seat new more) e) ∙ h))) start, refl)
+    | inr e ↦ rw (ne_eqb y x.0 e) (fit n (others y n e h))
   ];
+  hosts = (
+    start,
+    λ y n h. elim (cases_eq y x.0) [
+      | inl e ↦ rw (eq-eqb y x.0 e) (ap Some (sym (there n (sym (ap (seat new more) e) ∙ h))))
+      | inr e ↦ rw (ne_eqb y x.0 e) (others y n e h)
+    ],
+  );
+  suits = λ y t fit. tt;
   midway = λ p q b d bal. (λ e. start-joined (bal e), (λ e. start-joined (bal e), λ e. start-joined (bal e)));
   balances = λ p q b d bal e. Joined-mild (Mild-holds s) (Joined-add a fresh serial (bal e));
 }
@@ -226,19 +250,19 @@ pub under-quiet : (l : Ledger) (r : ℕ) → IsQuiet l → IsUnder r l
 under-quiet l r q x h = absurd (false≢true (sym (q.idle x) ∙ h))
 
 -- nothing is pending outside all calls
-pub closing-empty : {l : Ledger} {x : ℕ} (p q : Port) (y : Account) (s t : List ℕ) → Joined l p q s t [] → Closing l x p q y [] []
+pub closing-empty : {l : Ledger} {x : ℕ} (p q : Port) (y : Account) (s t : List ℕ) → JoinedEnds l p q s t [] → Closing l x p q y [] []
 closing-empty p q y s t j = inr (refl, inr (inr (inl refl)))
 
 -- an end that has no link is no link's
-not-end : (l : Ledger) (at p q : Port) (s t w : List ℕ) → port l at.obj.0 at.slot ≡ state.Open → Joined l p q s t w → q ≡ at → ⊥
+not-end : (l : Ledger) (at p q : Port) (s t w : List ℕ) → port l at.obj.0 at.slot ≡ state.Open → JoinedEnds l p q s t w → q ≡ at → ⊥
 not-end l at p q s t w h (joined a b c d e) i = let z = sym h ∙ ap (λ u. port l u.obj.0 u.slot) (sym i) ∙ d in absurd (cc)
 not-end l at p q s t w h (parted a b c d r e) i = let z = sym d ∙ ap (λ u. open_count (port l u.obj.0 u.slot)) i ∙ ap open_count h in absurd (cc)
 
-pub giving-empty : (l : Ledger) (at : Port) (m : List ℕ) → port l at.obj.0 at.slot ≡ state.Open → (p q : Port) (y : Account) (s t : List ℕ) → Joined l p q s t [] → Giving l at m p q y [] []
+pub giving-empty : (l : Ledger) (at : Port) (m : List ℕ) → port l at.obj.0 at.slot ≡ state.Open → (p q : Port) (y : Account) (s t : List ℕ) → JoinedEnds l p q s t [] → Giving l at m p q y [] []
 giving-empty l at m h p q y s t j = inr (inr (inl refl), inr (not-end l at p q s t [] h j, refl))
 
-pub rising-empty : (l : Ledger) (at : Port) (m : List ℕ) → port l at.obj.0 at.slot ≡ state.Open → (p q : Port) (y : Account) (s t : List ℕ) → Joined l p q s t [] → Rising l at m p q y [] []
+pub rising-empty : (l : Ledger) (at : Port) (m : List ℕ) → port l at.obj.0 at.slot ≡ state.Open → (p q : Port) (y : Account) (s t : List ℕ) → JoinedEnds l p q s t [] → Rising l at m p q y [] []
 rising-empty l at m h p q y s t j = (((λ z i. refl), λ z. refl), inr (not-end l at p q s t [] h j, refl))
 
-pub keeping-empty : (l : Ledger) (p q : Port) (y : Account) (s t : List ℕ) → Joined l p q s t [] → Keeping l p q y [] []
+pub keeping-empty : (l : Ledger) (p q : Port) (y : Account) (s t : List ℕ) → JoinedEnds l p q s t [] → Keeping l p q y [] []
 keeping-empty l p q y s t j = (((λ z i. refl), λ z. refl), refl)

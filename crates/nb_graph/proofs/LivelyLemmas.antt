@@ -9,25 +9,25 @@ use Rattle.nb_ledger.specs.declared.port.PortState.{PortState}
 use Rattle.nb_ledger.specs.declared.port.PortState.TheVariants.{Open, Linked, Leaving, Closed}
 use Rattle.nb_ledger.specs.declared.event.Way.{Way}
 use Rattle.nb_ledger.specs.declared.event.GraphEvent.TheVariants as event
-use Rattle.nb_ledger.specs.GraphRun.{Frame, Running, MustClose, MustEnter, MustUnplug, MustFree, IsIdle, RunsIn, Step, MayEnter, MayDrop, ports_but, new_ports}
+use Rattle.nb_ledger.specs.GraphRun.{OnStack, Running, MustClose, MustEnter, MustUnplug, MustFree, IsIdle, RunsIn, Step, MayEnter, MayDrop, ports_but, new_ports}
 use Rattle.nb_ledger.specs.Flat.{Tells}
-use Rattle.nb_ledger.specs.Ledger.{Ledger, found, place_in, live, busy, rank, ranks, port, place, leaves, state_of}
+use Rattle.nb_ledger.specs.Ledger.{Ledger, found, place_in, object_lives, busy, rank, ranks, port, place, leaves, run_state}
 use Rattle.nb_ledger.specs.Changes.{SetsBusy, SetsPort, Adds}
 use Rattle.nb_ledger.proofs.RunLemmas.{Run-append, Told-none, Tells-append}
 use Rattle.nb_ledger.proofs.PlaceLemmas.{place_found, found-place}
 use Rattle.nb_ledger.proofs.PortLemmas.{busy-live}
 use Rattle.nb_graph.specs.Whole.{IsManned}
-use Rattle.nb_graph.specs.Calm.{Shrinks, Calm, Ends, Starts}
-use Rattle.nb_graph.specs.Lively.{Grows, Lively, LivelyIn}
+use Rattle.nb_graph.specs.Calm.{Shrinks, Calm, EndsEntry, Starts}
+use Rattle.nb_graph.specs.Lively.{GrowsLively, Lively, LivelyIn}
 use Rattle.nb_graph.proofs.WholeLemmas.{but_same, but_other, ports_other, two_ports}
 use Rattle.nb_graph.proofs.ShrinkLemmas.{Agrees-busy, dead-port}
 use Rattle.nb_graph.proofs.AgesLemmas.{Ages-refl, Ages-trans, Ages-shrinks, Ages-same, Ages-adds, Ages-within}
 use Rattle.nb_graph.proofs.CalmLemmas.{agrees-enter, agrees-leave, flags-back, two-keeps}
 
-pub Grows-refl : (l : Ledger) → Grows l l
+pub Grows-refl : (l : Ledger) → GrowsLively l l
 Grows-refl l = record { same_room = refl; same_busy = λ x. refl; same_leaves = λ x k. refl; ages = Ages-refl l; kept = λ x b. refl }
 
-pub Grows-trans : {a b c : Ledger} → Grows a b → Grows b c → Grows a c
+pub Grows-trans : {a b c : Ledger} → GrowsLively a b → GrowsLively b c → GrowsLively a c
 Grows-trans {a} {b} {c} p q = record {
   same_room = q.same_room ∙ p.same_room;
   same_busy = λ x. q.same_busy x ∙ p.same_busy x;
@@ -36,7 +36,7 @@ Grows-trans {a} {b} {c} p q = record {
   kept = λ x r. q.kept x (p.same_busy x ∙ r) ∙ p.kept x r;
 }
 
-pub Grows-shrinks : {old new : Ledger} → Shrinks old new → Grows old new
+pub Grows-shrinks : {old new : Ledger} → Shrinks old new → GrowsLively old new
 Grows-shrinks {old} {new} s = record {
   same_room = s.same_room;
   same_busy = s.same_busy;
@@ -49,7 +49,7 @@ unfoldable pub Lively-calm : {old new : Ledger} {before after : Option (List Not
 Lively-calm {old} {new} {before} {after} k = record { added = k.added; told = k.told; run = k.run; grows = Grows-shrinks k.shrinks }
 
 -- a stack whose innermost entry runs is idle
-pub runs-idle : (st : List Frame) (x : ℕ) → RunsIn st x → IsIdle st
+pub runs-idle : (st : List OnStack) (x : ℕ) → RunsIn st x → IsIdle st
 runs-idle [] x h = tt
 runs-idle (Running p w ∷ st) x h = tt
 runs-idle (MustClose p c ∷ st) x h = absurd h
@@ -73,7 +73,7 @@ unfoldable pub Lively-trans : {a b c : Ledger} {m n o : Option (List Notice)} �
 Lively-trans {a} {b} {c} {m} {n} {o} p q = record {
   added = p.added ++ q.added;
   told = Tells-append m n o p.added q.added p.told q.told;
-  run = λ st i g. Run-append (state_of a st) (state_of b st) (state_of c st) p.added q.added (p.run st i g) (q.run st i (Agrees-busy a b st p.grows.same_busy g));
+  run = λ st i g. Run-append (run_state a st) (run_state b st) (run_state c st) p.added q.added (p.run st i g) (q.run st i (Agrees-busy a b st p.grows.same_busy g));
   grows = Grows-trans p.grows q.grows;
 }
 
@@ -81,7 +81,7 @@ unfoldable pub LivelyIn-trans : {x : ℕ} {a b c : Ledger} {m n o : Option (List
 LivelyIn-trans {x} {a} {b} {c} {m} {n} {o} p q = record {
   added = p.added ++ q.added;
   told = Tells-append m n o p.added q.added p.told q.told;
-  run = λ st i g. Run-append (state_of a st) (state_of b st) (state_of c st) p.added q.added (p.run st i g) (q.run st i (Agrees-busy a b st p.grows.same_busy g));
+  run = λ st i g. Run-append (run_state a st) (run_state b st) (run_state c st) p.added q.added (p.run st i g) (q.run st i (Agrees-busy a b st p.grows.same_busy g));
   grows = Grows-trans p.grows q.grows;
 }
 
@@ -90,25 +90,25 @@ unfoldable pub LivelyIn-dropped : (l : Ledger) (before after : Option (List Noti
 LivelyIn-dropped l before after p n told = record {
   added = event.Dropped p ∷ [];
   told = told;
-  run = λ st r a. (state_of l st, (runs-idle st p.obj.0 r, may st r (port l p.obj.0 p.slot) refl, refl), refl);
+  run = λ st r a. (run_state l st, (runs-idle st p.obj.0 r, may st r (port l p.obj.0 p.slot) refl, refl), refl);
   grows = Grows-refl l;
 }
   where
-    may : (st : List Frame) → RunsIn st p.obj.0 → (v : PortState) → port l p.obj.0 p.slot ≡ v → MayDrop (state_of l st) p.obj.0 (port l p.obj.0 p.slot)
+    may : (st : List OnStack) → RunsIn st p.obj.0 → (v : PortState) → port l p.obj.0 p.slot ≡ v → MayDrop (run_state l st) p.obj.0 (port l p.obj.0 p.slot)
     may st r Open h = absurd (n h)
     may st r (Linked q) h = rw h (inr r)
     may st r (Leaving q) h = rw h tt
     may st r Closed h = rw h tt
 
 -- a whole entry
-unfoldable pub Lively-entry : {b0 b1 b2 new : Ledger} {n0 n1 n2 after : Option (List Notice)} {p : Port} {way : Way} {was : Bool} → SetsBusy b0 b1 p.obj.0 true → Tells n0 n1 (event.Entered p way ∷ []) → ((st : List Frame) → IsIdle st → MayEnter (state_of b0 st) p way → Step (state_of b0 st) (event.Entered p way) (state_of b1 (Running p way ∷ st))) → ((st : List Frame) → MayEnter (state_of b0 st) p way) → was ≡ busy b0 p.obj.0 → LivelyIn p.obj.0 b1 b2 n1 n2 → Ends b2 new n2 after p.obj.0 was (λ st. Running p way ∷ st) (port b2) → Lively b0 new n0 after
+unfoldable pub Lively-entry : {b0 b1 b2 new : Ledger} {n0 n1 n2 after : Option (List Notice)} {p : Port} {way : Way} {was : Bool} → SetsBusy b0 b1 p.obj.0 true → Tells n0 n1 (event.Entered p way ∷ []) → ((st : List OnStack) → IsIdle st → MayEnter (run_state b0 st) p way → Step (run_state b0 st) (event.Entered p way) (run_state b1 (Running p way ∷ st))) → ((st : List OnStack) → MayEnter (run_state b0 st) p way) → was ≡ busy b0 p.obj.0 → LivelyIn p.obj.0 b1 b2 n1 n2 → EndsEntry b2 new n2 after p.obj.0 was (λ st. Running p way ∷ st) (port b2) → Lively b0 new n0 after
 Lively-entry {b0} {b1} {b2} {new} {n0} {n1} {n2} {after} {p} {way} {was} c told step may prior k e = record {
   added = event.Entered p way ∷ (k.added ++ e.added);
   told = Tells-append n0 n1 after (event.Entered p way ∷ []) (k.added ++ e.added) told (Tells-append n1 n2 after k.added e.added k.told e.told);
   run = λ st idle a. (
-    state_of b1 (Running p way ∷ st),
+    run_state b1 (Running p way ∷ st),
     step st idle (may st),
-    Run-append (state_of b1 (Running p way ∷ st)) (state_of b2 (Running p way ∷ st)) (state_of new st) k.added e.added
+    Run-append (run_state b1 (Running p way ∷ st)) (run_state b2 (Running p way ∷ st)) (run_state new st) k.added e.added
         (k.run (Running p way ∷ st) refl (λ x. c.busy_set x ∙ agrees-enter (busy b0) st p.obj.0 a x))
         (e.run st (agrees-leave (busy b0) (busy b2) st p.obj.0 was prior flags a)),
   );
@@ -134,7 +134,7 @@ Lively-entry {b0} {b1} {b2} {new} {n0} {n1} {n2} {after} {p} {way} {was} c told 
     ]
 
 -- which begins with it
-pub Starts-lively : {b0 b1 b2 new : Ledger} {n0 n1 n2 after : Option (List Notice)} {p : Port} {way : Way} {was : Bool} → SetsBusy b0 b1 p.obj.0 true → Tells n0 n1 (event.Entered p way ∷ []) → ((st : List Frame) → IsIdle st → MayEnter (state_of b0 st) p way → Step (state_of b0 st) (event.Entered p way) (state_of b1 (Running p way ∷ st))) → ((st : List Frame) → MayEnter (state_of b0 st) p way) → was ≡ busy b0 p.obj.0 → LivelyIn p.obj.0 b1 b2 n1 n2 → Ends b2 new n2 after p.obj.0 was (λ st. Running p way ∷ st) (port b2) → Starts b0 new n0 after (event.Entered p way)
+pub Starts-lively : {b0 b1 b2 new : Ledger} {n0 n1 n2 after : Option (List Notice)} {p : Port} {way : Way} {was : Bool} → SetsBusy b0 b1 p.obj.0 true → Tells n0 n1 (event.Entered p way ∷ []) → ((st : List OnStack) → IsIdle st → MayEnter (run_state b0 st) p way → Step (run_state b0 st) (event.Entered p way) (run_state b1 (Running p way ∷ st))) → ((st : List OnStack) → MayEnter (run_state b0 st) p way) → was ≡ busy b0 p.obj.0 → LivelyIn p.obj.0 b1 b2 n1 n2 → EndsEntry b2 new n2 after p.obj.0 was (λ st. Running p way ∷ st) (port b2) → Starts b0 new n0 after (event.Entered p way)
 unfolding Lively-entry
 Starts-lively c told step may prior k e =
     let whole = Lively-entry c told step may prior k e in
@@ -154,26 +154,26 @@ rank-found : (os : List Object) (x : ℕ) → place_in os x < length os → opti
 rank-found os x h = rw (found-place os x no_object h) (sym (get_or-map-at (λ o. o.rank) os (place_in os x) no_object h))
 
 -- the rank of a live object is that of its node
-rank-place : (l : Ledger) (x : ℕ) → live l x ≡ true → rank l x ≡ get_or (ranks l) (place l x) 0
-unfolding live rank ranks
+rank-place : (l : Ledger) (x : ℕ) → object_lives l x ≡ true → rank l x ≡ get_or (ranks l) (place l x) 0
+unfolding object_lives rank ranks
 rank-place l x h = rank-found l.objects x (place_found l.objects x h)
 
-pub manned-rank : {N : Type 0} {rank_of : N → ℕ} {l : Ledger} {nodes : List N} {cap : ℕ} (x : ℕ) (d : N) → IsManned rank_of l nodes cap → live l x ≡ true → place l x < length nodes → d ≡ get_or nodes (place l x) d → rank l x ≡ rank_of d
+pub manned-rank : {N : Type 0} {rank_of : N → ℕ} {l : Ledger} {nodes : List N} {cap : ℕ} (x : ℕ) (d : N) → IsManned rank_of l nodes cap → object_lives l x ≡ true → place l x < length nodes → d ≡ get_or nodes (place l x) d → rank l x ≡ rank_of d
 manned-rank {N} {rank_of} {l} {nodes} {cap} x d m v h e = rank-place l x v ∙ ap (λ r. get_or r (place l x) 0) m.same_ranks ∙ get_or-map-at rank_of nodes (place l x) d h ∙ sym (ap rank_of e)
 
 -- a dead object is not entered
-pub dead-busy : (l : Ledger) (x : ℕ) → live l x ≡ false → busy l x ≡ false
+pub dead-busy : (l : Ledger) (x : ℕ) → object_lives l x ≡ false → busy l x ≡ false
 dead-busy l x d = elim (cases_Bool (busy l x)) [ inl e ↦ absurd (false≢true (sym d ∙ busy-live l x e)) | inr e ↦ e ]
 
 pub new-leaves : (k : ℕ) → leaves (new_ports k) ≡ None
 new-leaves k = elim (cases_Bool (ltb k 4)) [ inl e ↦ rw e refl | inr e ↦ rw e refl ]
 
 -- an object is made and plugged
-unfoldable pub Lively-make : (b0 b1 m new : Ledger) (n0 n1 after : Option (List Notice)) (p q : Port) (r kind : ℕ) → q.obj.0 ≡ b0.made + 1 → Adds b0 b1 q.obj.0 r → live b0 q.obj.0 ≡ false → SetsPort b1 m p (Linked q) → SetsPort m new q (Linked p) → port b1 p.obj.0 p.slot ≡ Open → port b1 q.obj.0 q.slot ≡ Open → Tells n0 n1 (event.Made q.obj kind ∷ []) → ((st : List Frame) → IsIdle st → Step (state_of b0 st) (event.Made q.obj kind) (state_of b1 st)) → Tells n1 after (event.Plugged p q ∷ []) → ((st : List Frame) → IsIdle st → Step (state_of b1 st) (event.Plugged p q) (state_of new st)) → Lively b0 new n0 after
+unfoldable pub Lively-make : (b0 b1 m new : Ledger) (n0 n1 after : Option (List Notice)) (p q : Port) (r kind : ℕ) → q.obj.0 ≡ b0.made + 1 → Adds b0 b1 q.obj.0 r → object_lives b0 q.obj.0 ≡ false → SetsPort b1 m p (Linked q) → SetsPort m new q (Linked p) → port b1 p.obj.0 p.slot ≡ Open → port b1 q.obj.0 q.slot ≡ Open → Tells n0 n1 (event.Made q.obj kind ∷ []) → ((st : List OnStack) → IsIdle st → Step (run_state b0 st) (event.Made q.obj kind) (run_state b1 st)) → Tells n1 after (event.Plugged p q ∷ []) → ((st : List OnStack) → IsIdle st → Step (run_state b1 st) (event.Plugged p q) (run_state new st)) → Lively b0 new n0 after
 Lively-make b0 b1 m new n0 n1 after p q r kind serial a d s t op oq told step more next = record {
   added = event.Made q.obj kind ∷ event.Plugged p q ∷ [];
   told = Tells-append n0 n1 after (event.Made q.obj kind ∷ []) (event.Plugged p q ∷ []) told more;
-  run = λ st i g. (state_of b1 st, step st i, (state_of new st, next st i, refl));
+  run = λ st i g. (run_state b1 st, step st i, (run_state new st, next st i, refl));
   grows = record {
     same_room = t.objects.same_room ∙ s.objects.same_room ∙ a.same_room;
     same_busy = λ x. t.same_busy x ∙ s.same_busy x ∙ a.busy_set x ∙ elim (cases_eq x q.obj.0) [
@@ -185,7 +185,7 @@ Lively-make b0 b1 m new n0 n1 after p q r kind serial a d s t op oq told step mo
       | inr n ↦ ap leaves (ports_other q.obj.0 new_ports (port b0) x k n)
     ];
     ages = Ages-trans (Ages-adds serial a) (Ages-trans (Ages-same s.objects) (Ages-same t.objects));
-    kept = λ x u. t.objects.same_rank x ∙ s.objects.same_rank x ∙ a.rank_set x ∙ but_other q.obj.0 r (rank b0) x (λ e. false≢true (sym d ∙ subst (λ y. live b0 y ≡ true) e (busy-live b0 x u)));
+    kept = λ x u. t.objects.same_rank x ∙ s.objects.same_rank x ∙ a.rank_set x ∙ but_other q.obj.0 r (rank b0) x (λ e. false≢true (sym d ∙ subst (λ y. object_lives b0 y ≡ true) e (busy-live b0 x u)));
   };
 }
   where

@@ -5,7 +5,7 @@ use Rattle.std.proofs.lemmas.Bool.{cases_eq}
 use Rattle.nb_ledger.specs.declared.port.Port.{Port}
 use Rattle.nb_ledger.specs.Ledger.{Ledger, busy}
 use Rattle.nb_graph.specs.Deeds.{Deed}
-use Rattle.nb_graph.specs.Accounts.{Account, Joined, account}
+use Rattle.nb_graph.specs.Accounts.{Account, JoinedEnds, account}
 use Rattle.nb_graph.specs.Moves.{Calms, Livens, always, none_due}
 use Rattle.nb_graph.proofs.AccountLemmas.{account-append, Midway-append}
 
@@ -32,11 +32,11 @@ Livens-calm k = record {
   news = λ p q x y r n e. absurd (n (sym (k.peers p x) ∙ e));
 }
 
-pub Livens-weaken : {N L : Type 0} {known : Nature N L} {a b : Ledger} {f g : Port → Port → Account → List ℕ → List ℕ → Type 0} {ready : Port → Account → Type 0} {due : Port → Account → List ℕ} {ds : List (Deed N L)} → Livens known a b ready due f ds → ((p q : Port) (x y : Account) (w v : List ℕ) → g p q y w v → Joined a p q x.sent y.taken w → f p q y w v) → Livens known a b ready due g ds
+pub Livens-weaken : {N L : Type 0} {known : Nature N L} {a b : Ledger} {f g : Port → Port → Account → List ℕ → List ℕ → Type 0} {ready : Port → Account → Type 0} {due : Port → Account → List ℕ} {ds : List (Deed N L)} → Livens known a b ready due f ds → ((p q : Port) (x y : Account) (w v : List ℕ) → g p q y w v → JoinedEnds a p q x.sent y.taken w → f p q y w v) → Livens known a b ready due g ds
 Livens-weaken k less = record { quiet = k.quiet; joins = λ p q x y w v i j. k.joins p q x y w v (less p q x y w v i j) j; midway = λ p q x y w v i j. k.midway p q x y w v (less p q x y w v i j) j; newly = k.newly; news = k.news }
 
 -- one call after the other
-pub Livens-then : {N L : Type 0} {known : Nature N L} {a b c : Ledger} {f g h : Port → Port → Account → List ℕ → List ℕ → Type 0} {ready : Port → Account → Type 0} {ds es : List (Deed N L)} → Livens known a b ready none_due f ds → Livens known b c always none_due g es → ((x : ℕ) → busy b x ≡ busy a x) → ((p q : Port) (x y : Account) (w v : List ℕ) → h p q y w v → Joined a p q x.sent y.taken w → (u : List ℕ) × f p q y w u × (Joined b p q (account known p x ds).sent (account known q y ds).taken u → (y.entered ≡ true → (account known q y ds).entered ≡ true) → (1 ≤ q.slot → busy a q.obj.0 ≡ true → y.entered ≡ false → (account known q y ds).entered ≡ false) → g p q (account known q y ds) u v)) → ((p q : Port) (y : Account) → (p.slot ≡ 0 → busy a p.obj.0 ≡ false) → (1 ≤ q.slot → busy a q.obj.0 ≡ true → y.entered ≡ false) → g p q y [] []) → Livens known a c ready none_due h (ds ++ es)
+pub Livens-then : {N L : Type 0} {known : Nature N L} {a b c : Ledger} {f g h : Port → Port → Account → List ℕ → List ℕ → Type 0} {ready : Port → Account → Type 0} {ds es : List (Deed N L)} → Livens known a b ready none_due f ds → Livens known b c always none_due g es → ((x : ℕ) → busy b x ≡ busy a x) → ((p q : Port) (x y : Account) (w v : List ℕ) → h p q y w v → JoinedEnds a p q x.sent y.taken w → (u : List ℕ) × f p q y w u × (JoinedEnds b p q (account known p x ds).sent (account known q y ds).taken u → (y.entered ≡ true → (account known q y ds).entered ≡ true) → (1 ≤ q.slot → busy a q.obj.0 ≡ true → y.entered ≡ false → (account known q y ds).entered ≡ false) → g p q (account known q y ds) u v)) → ((p q : Port) (y : Account) → (p.slot ≡ 0 → busy a p.obj.0 ≡ false) → (1 ≤ q.slot → busy a q.obj.0 ≡ true → y.entered ≡ false) → g p q y [] []) → Livens known a c ready none_due h (ds ++ es)
 Livens-then {known = known} {c = c} {ds = ds} {es = es} k l same split nils = record {
   quiet = λ q y o r e. ap (λ z. z.entered) (account-append known q y ds es) ∙ l.quiet q (account known q y ds) o (same q.obj.0 ∙ r) (k.quiet q y o r e);
   joins = λ p q x y w v i j.

@@ -7,10 +7,10 @@ use Rattle.nb_ledger.specs.declared.port.Port.{Port}
 use Rattle.nb_ledger.specs.declared.port.PortState.TheVariants.{Open, Linked}
 use Rattle.nb_ledger.specs.declared.event.GraphEvent.TheVariants.{Made, Plugged}
 use Rattle.nb_ledger.specs.GraphRun.{new_ports, port_but}
-use Rattle.nb_ledger.specs.Ledger.{Ledger, live, busy, port, open_count}
+use Rattle.nb_ledger.specs.Ledger.{Ledger, object_lives, busy, port, open_count}
 use Rattle.nb_ledger.specs.Changes.{Adds, SetsPort}
-use Rattle.nb_graph.specs.Deeds.{writes}
-use Rattle.nb_graph.specs.Accounts.{Account, Joined, PlugsBalance, joined, parted, after_note, is_port, joins, rests}
+use Rattle.nb_graph.specs.Deeds.{writes, begins}
+use Rattle.nb_graph.specs.Accounts.{Account, JoinedEnds, PlugsBalance, joined, parted, after_note, is_same_port, joins, rests}
 use Rattle.nb_graph.specs.Flows.{Making}
 use Rattle.nb_graph.specs.Moves.{Livens, always, asked_due}
 use Rattle.nb_graph.proofs.LinkLemmas.{port_but-same, port_but-other}
@@ -20,7 +20,7 @@ use Rattle.nb_graph.proofs.LivelyLemmas.{dead-busy}
 use Rattle.nb_graph.proofs.LivensLemmas.{cases_ports, port-eq}
 use Rattle.nb_graph.proofs.DownLemmas.{is-port-same}
 
-pub is-port-other : (p q : Port) → (p ≡ q → ⊥) → is_port p q ≡ false
+pub is-port-other : (p q : Port) → (p ≡ q → ⊥) → is_same_port p q ≡ false
 is-port-other p q n = elim (cases_eq p.obj.0 q.obj.0) [
   | inl a ↦ rw (eq-eqb p.obj.0 q.obj.0 a, ne_eqb p.slot q.slot (λ b. n (port-eq p q a b))) refl
   | inr a ↦ rw (ne_eqb p.obj.0 q.obj.0 a) refl
@@ -36,8 +36,8 @@ plugs-other : (r p q : Port) (a : Account) → (r ≡ p → ⊥) → (r ≡ q �
 plugs-other r p q a n m = rw (is-port-other r p n, is-port-other r q m) refl
 
 -- an object is made and plugged
-pub Livens-make : {N L : Type 0} (known : Nature N L) (b0 b1 m new : Ledger) (p q : Port) (r kind : ℕ) → Adds b0 b1 q.obj.0 r → live b0 q.obj.0 ≡ false → q.obj.0 ≡ b0.made + 1 → SetsPort b1 m p (Linked q) → SetsPort m new q (Linked p) → port b0 p.obj.0 p.slot ≡ Open → 1 ≤ p.slot → q.slot ≡ 0 → p.obj.0 ≤ b1.made → (p.obj.0 ≡ q.obj.0 → ⊥) → Livens {N = N} {L = L} known b0 new always (asked_due p.obj.0) (Making b0 p.obj.0) (writes (Made q.obj kind) ∷ writes (Plugged p q) ∷ [])
-Livens-make known b0 b1 m new p q r kind a d serial s t op one zero born apart = record {
+pub Livens-make : {N L : Type 0} (known : Nature N L) (b0 b1 m new : Ledger) (p q : Port) (r kind : ℕ) (n : N) → Adds b0 b1 q.obj.0 r → object_lives b0 q.obj.0 ≡ false → q.obj.0 ≡ b0.made + 1 → SetsPort b1 m p (Linked q) → SetsPort m new q (Linked p) → port b0 p.obj.0 p.slot ≡ Open → 1 ≤ p.slot → q.slot ≡ 0 → p.obj.0 ≤ b1.made → (p.obj.0 ≡ q.obj.0 → ⊥) → Livens {N = N} {L = L} known b0 new always (asked_due p.obj.0) (Making b0 p.obj.0) (writes (Made q.obj kind) ∷ begins q.obj.0 n ∷ writes (Plugged p q) ∷ [])
+Livens-make known b0 b1 m new p q r kind node a d serial s t op one zero born apart = record {
   quiet = λ u y o i h. elim (cases_ports u p) [
     | inl e ↦ ap (λ z. z.entered) (plugs-upper u p q y e)
     | inr n ↦ elim (cases_ports u q) [
@@ -79,11 +79,11 @@ Livens-make known b0 b1 m new p q r kind a d serial s t op one zero born apart =
     not-both : (u : Port) → (u.obj.0 ≡ q.obj.0 → ⊥) → (port b0 u.obj.0 u.slot ≡ Open → ⊥) → (u ≡ p → ⊥) × (u ≡ q → ⊥)
     not-both u n k = ((λ e. k (ap (λ z. port b0 z.obj.0 z.slot) e ∙ op)), λ e. n (ap (λ z. z.obj.0) e))
 
-    first : (u v : Port) (x y w : List ℕ) → Joined b0 u v x y w → (u ≡ p → ⊥) × (u ≡ q → ⊥)
+    first : (u v : Port) (x y w : List ℕ) → JoinedEnds b0 u v x y w → (u ≡ p → ⊥) × (u ≡ q → ⊥)
     first u v x y w (joined f g h i k) = not-both u (λ e. let z = sym h ∙ ap (λ o. port b0 o u.slot) e ∙ dead-port b0 q.obj.0 d u.slot in absurd (cc)) (λ e. let z = sym h ∙ e in absurd (cc))
     first u v x y w (parted f g h i o k) = not-both u (λ e. absurd (omega (arith, e, f, serial))) (λ e. let z = sym h ∙ ap open_count e in absurd (cc))
 
-    other : (u v : Port) (x y w : List ℕ) → Joined b0 u v x y w → (v ≡ p → ⊥) × (v ≡ q → ⊥)
+    other : (u v : Port) (x y w : List ℕ) → JoinedEnds b0 u v x y w → (v ≡ p → ⊥) × (v ≡ q → ⊥)
     other u v x y w (joined f g h i k) = not-both v (λ e. let z = sym i ∙ ap (λ o. port b0 o v.slot) e ∙ dead-port b0 q.obj.0 d v.slot in absurd (cc)) (λ e. let z = sym i ∙ e in absurd (cc))
     other u v x y w (parted f g h i o k) = not-both v (λ e. absurd (omega (arith, e, g, serial))) (λ e. let z = sym i ∙ ap open_count e in absurd (cc))
 
@@ -91,11 +91,11 @@ Livens-make known b0 b1 m new p q r kind a d serial s t op one zero born apart =
     same : (u : Port) → (u.obj.0 ≡ q.obj.0 → ⊥) → (u ≡ p → ⊥) → (u ≡ q → ⊥) → port new u.obj.0 u.slot ≡ port b0 u.obj.0 u.slot
     same u n k l = two_ports s t u.obj.0 u.slot ∙ port_but-other q (Linked p) (port_but p (Linked q) (port b1)) u.obj.0 u.slot (λ i. n i.0) ∙ port_but-other p (Linked q) (port b1) u.obj.0 u.slot (λ i. k (port-eq u p i.0 i.1)) ∙ a.port_set u.obj.0 u.slot ∙ ports_other q.obj.0 new_ports (port b0) u.obj.0 u.slot n
 
-    keeps : (u v : Port) (x y w : List ℕ) → (u ≡ p → ⊥) × (u ≡ q → ⊥) → (v ≡ p → ⊥) × (v ≡ q → ⊥) → Joined b0 u v x y w → Joined new u v x y w
+    keeps : (u v : Port) (x y w : List ℕ) → (u ≡ p → ⊥) × (u ≡ q → ⊥) → (v ≡ p → ⊥) × (v ≡ q → ⊥) → JoinedEnds b0 u v x y w → JoinedEnds new u v x y w
     keeps u v x y w nu nv (joined f g h i k) = joined (rw made_new (omega (arith, f, serial))) (rw made_new (omega (arith, g, serial))) (same u (λ e. let z = sym h ∙ ap (λ o. port b0 o u.slot) e ∙ dead-port b0 q.obj.0 d u.slot in absurd (cc)) nu.0 nu.1 ∙ h) (same v (λ e. let z = sym i ∙ ap (λ o. port b0 o v.slot) e ∙ dead-port b0 q.obj.0 d v.slot in absurd (cc)) nv.0 nv.1 ∙ i) k
     keeps u v x y w nu nv (parted f g h i o k) = parted (rw made_new (omega (arith, f, serial))) (rw made_new (omega (arith, g, serial))) (ap open_count (same u (λ e. absurd (omega (arith, e, f, serial))) nu.0 nu.1) ∙ h) (ap open_count (same v (λ e. absurd (omega (arith, e, g, serial))) nv.0 nv.1) ∙ i) o k
 
-    fresh : (u v : Port) (x y : Account) → (x.peer ≡ Some v → ⊥) → (after_note u x (Plugged p q)).peer ≡ Some v → Joined new u v (after_note u x (Plugged p q)).sent (after_note v y (Plugged p q)).taken (asked_due p.obj.0 u x) × (u.slot ≡ 0 → busy b0 u.obj.0 ≡ false) × (1 ≤ v.slot → busy b0 v.obj.0 ≡ true → (after_note v y (Plugged p q)).entered ≡ false)
+    fresh : (u v : Port) (x y : Account) → (x.peer ≡ Some v → ⊥) → (after_note u x (Plugged p q)).peer ≡ Some v → JoinedEnds new u v (after_note u x (Plugged p q)).sent (after_note v y (Plugged p q)).taken (asked_due p.obj.0 u x) × (u.slot ≡ 0 → busy b0 u.obj.0 ≡ false) × (1 ≤ v.slot → busy b0 v.obj.0 ≡ true → (after_note v y (Plugged p q)).entered ≡ false)
     fresh u v x y n e = elim (cases_ports u p) [
       | inl g ↦
           let ex = plugs-upper u p q x g in
@@ -120,7 +120,7 @@ Livens-make known b0 b1 m new p q r kind a d serial s t op one zero born apart =
     ]
 
 -- an object is made, and nothing is plugged
-pub Joined-add : {b0 b1 : Ledger} {x r : ℕ} {p q : Port} {s t w : List ℕ} → Adds b0 b1 x r → live b0 x ≡ false → x ≡ b0.made + 1 → Joined b0 p q s t w → Joined b1 p q s t w
+pub Joined-add : {b0 b1 : Ledger} {x r : ℕ} {p q : Port} {s t w : List ℕ} → Adds b0 b1 x r → object_lives b0 x ≡ false → x ≡ b0.made + 1 → JoinedEnds b0 p q s t w → JoinedEnds b1 p q s t w
 Joined-add {b0} {b1} {x} {r} {p} {q} {s} {t} {w} a d serial j = go j
   where
     later : (y : ℕ) → y ≤ b0.made → y ≤ b1.made
@@ -132,7 +132,7 @@ Joined-add {b0} {b1} {x} {r} {p} {q} {s} {t} {w} a d serial j = go j
     linked_not : (u v : Port) → port b0 u.obj.0 u.slot ≡ Linked v → u.obj.0 ≡ x → ⊥
     linked_not u v h e = let z = sym h ∙ ap (λ o. port b0 o u.slot) e ∙ dead-port b0 x d u.slot in cc
 
-    go : Joined b0 p q s t w → Joined b1 p q s t w
+    go : JoinedEnds b0 p q s t w → JoinedEnds b1 p q s t w
     go (joined f g h i k) = joined (later p.obj.0 f) (later q.obj.0 g) (same p (linked_not p q h) ∙ h) (same q (linked_not q p i) ∙ i) k
     go (parted f g h i o k) = parted (later p.obj.0 f) (later q.obj.0 g) (ap open_count (same p (λ e. absurd (omega (arith, e, f, serial)))) ∙ h) (ap open_count (same q (λ e. absurd (omega (arith, e, g, serial)))) ∙ i) o k
 
@@ -174,13 +174,13 @@ Balanced-plug {b} {m} {new} {p} {q} s t op oq one zero bp bq u v x y bal e = eli
     not-open : (w z : Port) → port b z.obj.0 z.slot ≡ Open → w ≡ z → port b w.obj.0 w.slot ≡ Open
     not-open w z h i = ap (λ o. port b o.obj.0 o.slot) i ∙ h
 
-    other : Joined b u v x.sent y.taken [] → (v ≡ p → ⊥) × (v ≡ q → ⊥)
+    other : JoinedEnds b u v x.sent y.taken [] → (v ≡ p → ⊥) × (v ≡ q → ⊥)
     other (joined f g h i k) = ((λ z. let o = sym (not-open v p op z) ∙ i in absurd (cc)), λ z. let o = sym (not-open v q oq z) ∙ i in absurd (cc))
     other (parted f g h i r k) = ((λ z. let o = sym (ap open_count (not-open v p op z)) ∙ i in absurd (cc)), λ z. let o = sym (ap open_count (not-open v q oq z)) ∙ i in absurd (cc))
 
     same : (w : Port) → (w ≡ p → ⊥) → (w ≡ q → ⊥) → port new w.obj.0 w.slot ≡ port b w.obj.0 w.slot
     same w n k = two_ports s t w.obj.0 w.slot ∙ port_but-other q (Linked p) (port_but p (Linked q) (port b)) w.obj.0 w.slot (λ i. k (port-eq w q i.0 i.1)) ∙ port_but-other p (Linked q) (port b) w.obj.0 w.slot (λ i. n (port-eq w p i.0 i.1))
 
-    keeps : (u ≡ p → ⊥) → (u ≡ q → ⊥) → (v ≡ p → ⊥) × (v ≡ q → ⊥) → Joined b u v x.sent y.taken [] → Joined new u v x.sent y.taken []
+    keeps : (u ≡ p → ⊥) → (u ≡ q → ⊥) → (v ≡ p → ⊥) × (v ≡ q → ⊥) → JoinedEnds b u v x.sent y.taken [] → JoinedEnds new u v x.sent y.taken []
     keeps n k nv (joined f g h i o) = joined (born u f) (born v g) (same u n k ∙ h) (same v nv.0 nv.1 ∙ i) o
     keeps n k nv (parted f g h i r o) = parted (born u f) (born v g) (ap open_count (same u n k) ∙ h) (ap open_count (same v nv.0 nv.1) ∙ i) r o

@@ -3,7 +3,7 @@ use Rattle.std.proofs.Common.{◌≡◌, ℕ, ◌<◌, ◌≤◌, true, List, []
 use Rattle.std.specs.List.{remove}
 use Rattle.std.proofs.Math.Seq.{map-set_same}
 use Rattle.std.proofs.lemmas.List.{map-append, length-map}
-use Rattle.nb_ledger.specs.Ledger.{Ledger, live, ranks, place}
+use Rattle.nb_ledger.specs.Ledger.{Ledger, object_lives, ranks, place}
 use Rattle.nb_ledger.specs.Changes.{SameObjects, Adds, Removes}
 use Rattle.nb_ledger.proofs.PlaceLemmas.{live-stands}
 use Rattle.nb_ledger.proofs.ChangeLemmas.{map-remove}
@@ -19,7 +19,7 @@ pub manned-length : {N : Type 0} {rank_of : N → ℕ} {l : Ledger} {nodes : Lis
 manned-length {N} {rank_of} {l} {nodes} {cap} m = sym (length-map nodes rank_of) ∙ sym (ap length m.same_ranks) ∙ length-ranks l
 
 -- the node of a live object
-pub manned-place : {N : Type 0} {rank_of : N → ℕ} {l : Ledger} {nodes : List N} {cap : ℕ} (x : ℕ) → IsManned rank_of l nodes cap → live l x ≡ true → place l x < length nodes
+pub manned-place : {N : Type 0} {rank_of : N → ℕ} {l : Ledger} {nodes : List N} {cap : ℕ} (x : ℕ) → IsManned rank_of l nodes cap → object_lives l x ≡ true → place l x < length nodes
 manned-place {N} {rank_of} {l} {nodes} {cap} x m h = let e = manned-length m in let s = live-stands l x h in omega arith
 
 -- a list without one of its elements

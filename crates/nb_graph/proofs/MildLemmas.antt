@@ -11,11 +11,11 @@ use Rattle.nb_ledger.specs.declared.event.GraphEvent.{GraphEvent}
 use Rattle.nb_ledger.specs.Ledger.{Ledger, port, open_count, unused}
 use Rattle.nb_ledger.specs.Changes.{SetsBusy, SetsHolds, SetsPort, Removes}
 use Rattle.nb_ledger.specs.Settled.{Settles}
-use Rattle.nb_graph.specs.Trace.{Nature, Entry}
-use Rattle.nb_graph.specs.Deeds.{Deed, writes, Stage, after_event}
-use Rattle.nb_graph.specs.Follows.{Follows}
+use Rattle.nb_graph.specs.Trace.{Nature, NodeEntry}
+use Rattle.nb_graph.specs.Deeds.{Deed, writes, Stage}
+use Rattle.nb_graph.specs.Follows.{UsesStack}
 use Rattle.nb_graph.specs.Scene.{Scene, after_noted}
-use Rattle.nb_graph.specs.Lives.{Loses, Seats, Lives, Stays}
+use Rattle.nb_graph.specs.Lives.{Loses, Seats, StaysTraced, Stays}
 use Rattle.nb_graph.specs.Flows.{Still}
 use Rattle.nb_graph.specs.Moves.{Calms}
 use Rattle.nb_graph.proofs.LinkLemmas.{cases_port, port_but-same, port_but-other}
@@ -73,9 +73,9 @@ Mild-port {old} {new} {p} {v} a n m z = record {
 }
 
 -- an event that says nothing of links
-pub Lives-plain : {N L : Type 0} {known : Nature N L} {old new : Ledger} (stands : N → List (Entry N L) → Type 0) (now : ℕ) (f g : Seats N) (o n : List (Stage L) → List (Stage L)) (e : GraphEvent) → Loses f.node g.node → g.scene ≡ after_noted e f.scene → Given f.told g.told (event (flat e) ∷ []) → ((x : ℕ) (t : List (Entry N L)) → after_event x t e ≡ t) → ((st : List (Stage L)) (ds : List (Deed N L)) (s : Scene) → Follows known now (after_noted e f.scene) (n st) ds s → Follows known now f.scene (o st) (writes e ∷ ds) s) → Calms {N = N} {L = L} known old new Still (writes e ∷ []) → Lives stands known now f g Stays o n (Calms known old new Still) (e ∷ [])
-Lives-plain {known = known} {old = old} {new = new} stands now f g o n e loses scene given plain notes m = Lives-note stands now f g o n e loses scene given plain notes {i = Calms known old new Still} m
+pub Lives-plain : {N L : Type 0} {known : Nature N L} {old new : Ledger} (stands : N → List (NodeEntry N L) → Type 0) (now : ℕ) (f g : Seats N) (o n : List (Stage N L) → List (Stage N L)) (e : GraphEvent) → Loses f.node g.node → g.scene ≡ after_noted e f.scene → Given f.told g.told (event (flat e) ∷ []) → ((st : List (Stage N L)) (ds : List (Deed N L)) (s : Scene) → UsesStack known now (after_noted e f.scene) (n st) ds s → UsesStack known now f.scene (o st) (writes e ∷ ds) s) → Calms {N = N} {L = L} known old new Still (writes e ∷ []) → StaysTraced stands known now f g Stays o n (Calms known old new Still) (e ∷ [])
+Lives-plain {known = known} {old = old} {new = new} stands now f g o n e loses scene given notes m = Lives-note stands now f g o n e loses scene given notes {i = Calms known old new Still} m
 
 -- and what comes then
-pub Lives-next : {N L : Type 0} {known : Nature N L} {a b c : Ledger} {stands : N → List (Entry N L) → Type 0} {now : ℕ} {f g h : Seats N} {q : ℕ → List L → List L → Type 0} {o m n : List (Stage L) → List (Stage L)} {xs ys : List GraphEvent} → Lives stands known now f g Stays o m (Calms known a b Still) xs → Lives stands known now g h q m n (Calms known b c Still) ys → Lives stands known now f h q o n (Calms known a c Still) (xs ++ ys)
+pub Lives-next : {N L : Type 0} {known : Nature N L} {a b c : Ledger} {stands : N → List (NodeEntry N L) → Type 0} {now : ℕ} {f g h : Seats N} {q : ℕ → List L → List L → Type 0} {o m n : List (Stage N L) → List (Stage N L)} {xs ys : List GraphEvent} → StaysTraced stands known now f g Stays o m (Calms known a b Still) xs → StaysTraced stands known now g h q m n (Calms known b c Still) ys → StaysTraced stands known now f h q o n (Calms known a c Still) (xs ++ ys)
 Lives-next k l = Lives-then k l (λ x w v i. (w, refl, i)) (λ ds es x y. Still-both x y)

@@ -3,7 +3,7 @@ use Rattle.std.proofs.Common.{◌≡◌, ℕ, ◌<◌, ◌≤◌, ◌↔◌, inl
 use Rattle.std.specs.Borrow.{Bor}
 use Rattle.std.specs.Option.{option_copied}
 use Rattle.std.proofs.lemmas.Bool.{cases_Bool, false≢true, ltb-false}
-use Rattle.nb_ledger.specs.Ledger.{Ledger, live, rank, place}
+use Rattle.nb_ledger.specs.Ledger.{Ledger, object_lives, rank, place}
 use Rattle.nb_ledger.proofs.PlaceLemmas.{live_place}
 use Rattle.nb_graph.specs.Whole.{IsManned}
 use Rattle.nb_graph.proofs.MannedLemmas.{manned-length, manned-place}
@@ -16,27 +16,27 @@ slice_get-in (x ∷ xs) zero h = refl
 slice_get-in (x ∷ xs) (suc i) h = slice_get-in xs i (omega arith)
 
 -- a dead object stands at no place
-dead-past : (l : Ledger) (x : ℕ) → live l x ≡ false → length l.objects ≤ place l x
-unfolding live
+dead-past : (l : Ledger) (x : ℕ) → object_lives l x ≡ false → length l.objects ≤ place l x
+unfolding object_lives
 dead-past l x h = ltb-false _ _ (live_place l.objects x ∙ h)
 
-pub node-dead : {N : Type 0} {rank_of : N → ℕ} {l : Ledger} {nodes : List N} {cap : ℕ} (x : ℕ) (r : Option (Bor N)) → IsManned rank_of l nodes cap → option_copied r ≡ slice_get nodes (place l x) → IsNone r ↔ (live l x ≡ false)
+pub node-dead : {N : Type 0} {rank_of : N → ℕ} {l : Ledger} {nodes : List N} {cap : ℕ} (x : ℕ) (r : Option (Bor N)) → IsManned rank_of l nodes cap → option_copied r ≡ slice_get nodes (place l x) → IsNone r ↔ (object_lives l x ≡ false)
 node-dead {N} {rank_of} {l} {nodes} {cap} x None m e = (
-  λ _. elim (cases_Bool (live l x)) [
+  λ _. elim (cases_Bool (object_lives l x)) [
     | inl v ↦ some_there v
     | inr d ↦ d
   ],
   λ _. refl,
 )
   where
-    some_there : live l x ≡ true → live l x ≡ false
+    some_there : object_lives l x ≡ true → object_lives l x ≡ false
     some_there v = absurd (false≢true (ap is_some e ∙ slice_get-in nodes (place l x) (manned-place x m v)))
 node-dead {N} {rank_of} {l} {nodes} {cap} x (Some b) m e =
     (λ n. absurd (cc), λ d. absurd (let h = dead-past l x d in let k = manned-length m in let p = slice_get-past nodes (place l x) (omega arith) in cc))
 
 pub node-rank : {N : Type 0} {rank_of : N → ℕ} {l : Ledger} {nodes : List N} {cap : ℕ} (x : ℕ) (r : Option (Bor N)) → IsManned rank_of l nodes cap → option_copied r ≡ slice_get nodes (place l x) → IfSome r (λ n. rank_of n.now ≡ rank l x)
 node-rank {N} {rank_of} {l} {nodes} {cap} x None m e = tt
-node-rank {N} {rank_of} {l} {nodes} {cap} x (Some b) m e = elim (cases_Bool (live l x)) [
+node-rank {N} {rank_of} {l} {nodes} {cap} x (Some b) m e = elim (cases_Bool (object_lives l x)) [
   | inl v ↦
       let h = manned-place x m v in
       let d : b.now ≡ get_or nodes (place l x) b.now = some_inj (e ∙ slice_get-at nodes (place l x) b.now h) in

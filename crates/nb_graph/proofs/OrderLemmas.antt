@@ -8,10 +8,10 @@ use Rattle.nb_ledger.specs.declared.port.Port.{Port}
 use Rattle.nb_ledger.specs.declared.event.GraphEvent.{GraphEvent}
 use Rattle.nb_ledger.specs.declared.event.GraphEvent.TheVariants.{Closed, Entered, Freed, Left, LetGo, Unplugged}
 use Rattle.nb_ledger.specs.declared.event.Way.TheVariants.{Close}
-use Rattle.nb_ledger.specs.Ledger.{Ledger, port, open_count, live}
+use Rattle.nb_ledger.specs.Ledger.{Ledger, port, open_count, object_lives}
 use Rattle.nb_graph.specs.Whole.{IsQuiet, Runs}
 use Rattle.nb_graph.specs.Calm.{Starts}
-use Rattle.nb_graph.specs.Order.{IsFrom, ClosesInOrder, ClosesOne, LetsHoldsGo, EndsLink, Shuts, linked, none, one, frees}
+use Rattle.nb_graph.specs.Order.{IsFrom, ClosesInOrder, ClosesOne, LetsHoldsGo, EndsLink, ClosesOnce, linked, none, one, frees}
 use Rattle.nb_graph.proofs.ShutLemmas.{no-object, no-slot}
 use Rattle.nb_graph.proofs.RunsLemmas.{Agrees-quiet}
 use Rattle.std.proofs.lemmas.List.{map-append}
@@ -47,18 +47,18 @@ order-skip cause x k l n b d h = order-from cause x k x (k + 1) l n b d to back
     back z i (inr f) = inr (f.0, let s = f.1 in omega arith)
 
 -- a close of a link, of which these events come between its begin and its end
-pub Shuts-link : {old new : Ledger} {before after : Option (List Notice)} {p q : Port} {cause : Cause} (s : Starts old new before after (Closed p cause)) (nested : List GraphEvent) {es : List GraphEvent} → EndsLink p q es → s.rest ≡ Closed q cause ∷ Entered q Close ∷ (nested ++ es) → Shuts old new before after p cause
+pub Shuts-link : {old new : Ledger} {before after : Option (List Notice)} {p q : Port} {cause : Cause} (s : Starts old new before after (Closed p cause)) (nested : List GraphEvent) {es : List GraphEvent} → EndsLink p q es → s.rest ≡ Closed q cause ∷ Entered q Close ∷ (nested ++ es) → ClosesOnce old new before after p cause
 Shuts-link {p = p} {q = q} {cause = cause} s nested {es} e h = record {
   starts = s;
   one = linked q (Closed q cause ∷ Entered q Close ∷ (nested ++ Left q ∷ [])) e.0 (ap (λ l. Closed p cause ∷ l) h ∙ ap (λ l. Closed p cause ∷ Closed q cause ∷ Entered q Close ∷ l) (ap (λ l. nested ++ l) e.1 ∙ sym (append_assoc nested (Left q ∷ []) (Unplugged p q ∷ frees e.0))));
 }
 
 -- where no entry runs
-pub ClosesOne-shuts : {l m : Ledger} {b c : Option (List Notice)} {p : Port} {cause : Cause} → IsQuiet l → Shuts l m b c p cause → ClosesOne cause p l m b c
+pub ClosesOne-shuts : {l m : Ledger} {b c : Option (List Notice)} {p : Port} {cause : Cause} → IsQuiet l → ClosesOnce l m b c p cause → ClosesOne cause p l m b c
 ClosesOne-shuts {l} {p = p} {cause = cause} q s = (Closed p cause ∷ s.starts.rest, record { told = s.starts.told; run = s.starts.run [] tt (Agrees-quiet l q) }, s.one)
 
 -- the next port of an object, open or not
-pub order-port : (cause : Cause) (p : Port) (l m n : Ledger) (b c d : Option (List Notice)) → IsQuiet l → (0 < open_count (port l p.obj.0 p.slot) → Shuts l m b c p cause) → (open_count (port l p.obj.0 p.slot) ≡ 0 → (m ≡ l) × (c ≡ b)) → (ps : List Port) → ClosesInOrder cause p.obj.0 (p.slot + 1) m n c d ps → (qs : List Port) × ClosesInOrder cause p.obj.0 p.slot l n b d qs
+pub order-port : (cause : Cause) (p : Port) (l m n : Ledger) (b c d : Option (List Notice)) → IsQuiet l → (0 < open_count (port l p.obj.0 p.slot) → ClosesOnce l m b c p cause) → (open_count (port l p.obj.0 p.slot) ≡ 0 → (m ≡ l) × (c ≡ b)) → (ps : List Port) → ClosesInOrder cause p.obj.0 (p.slot + 1) m n c d ps → (qs : List Port) × ClosesInOrder cause p.obj.0 p.slot l n b d qs
 order-port cause p l m n b c d q shuts stays ps k = elim (cases_order (open_count (port l p.obj.0 p.slot)) 0) [
   | inl e ↦ let s = stays e in (ps, order-skip cause p.obj.0 p.slot l n b d e ps (rw (s.0, s.1) at k))
   | inr j ↦ elim j [
@@ -83,7 +83,7 @@ order-object cause x l n b d = order-from cause x 4 (x + 1) 0 l n b d to back
     back z i (inr f) = inl (let e = f.0 in omega arith)
 
 -- from the least live object on, and so from all above a serial on
-pub order-above : (cause : Cause) (low x : ℕ) (l n : Ledger) (b d : Option (List Notice)) → low < x → ((y : ℕ) → low < y → y < x → live l y ≡ false) → (ps : List Port) → ClosesInOrder cause x 0 l n b d ps → ClosesInOrder cause (low + 1) 0 l n b d ps
+pub order-above : (cause : Cause) (low x : ℕ) (l n : Ledger) (b d : Option (List Notice)) → low < x → ((y : ℕ) → low < y → y < x → object_lives l y ≡ false) → (ps : List Port) → ClosesInOrder cause x 0 l n b d ps → ClosesInOrder cause (low + 1) 0 l n b d ps
 order-above cause low x l n b d less dead = order-from cause (low + 1) 0 x 0 l n b d to back
   where
     above : (z i : ℕ) → IsFrom (low + 1) 0 z i → low < z
@@ -107,7 +107,7 @@ order-above cause low x l n b d less dead = order-from cause (low + 1) 0 x 0 l n
         least z i (inr f) = let e = f.0 in omega arith
 
 -- no object lives above
-pub order-none : (cause : Cause) (low : ℕ) (l : Ledger) (b : Option (List Notice)) → ((y : ℕ) → low < y → live l y ≡ false) → ClosesInOrder cause (low + 1) 0 l l b b []
+pub order-none : (cause : Cause) (low : ℕ) (l : Ledger) (b : Option (List Notice)) → ((y : ℕ) → low < y → object_lives l y ≡ false) → ClosesInOrder cause (low + 1) 0 l l b b []
 order-none cause low l b dead = (λ z i f o. let s = no-object l z i (dead z (above z i f)) in absurd (omega arith), refl, refl)
   where
     above : (z i : ℕ) → IsFrom (low + 1) 0 z i → low < z

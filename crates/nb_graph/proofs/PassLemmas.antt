@@ -10,8 +10,8 @@ use Rattle.nb_ledger.specs.declared.event.Way.TheVariants.{Down}
 use Rattle.nb_ledger.specs.Ledger.{Ledger, port, rank}
 use Rattle.nb_graph.specs.Deeds.{Deed, writes}
 use Rattle.nb_graph.specs.Whole.{IsLinked, port_at}
-use Rattle.nb_graph.specs.Accounts.{Account, Joined, joined, parted, account, enters, rests, is_port}
-use Rattle.nb_graph.specs.Flows.{Reaches, over, IsClear, IsShut, Still, Closing, Downs, Asking, own, counted, nothing}
+use Rattle.nb_graph.specs.Accounts.{Account, JoinedEnds, joined, parted, account, enters, rests, is_same_port}
+use Rattle.nb_graph.specs.Flows.{Reaches, over, IsClear, IsShut, Still, Closing, Downs, Asking, own, counted, by_no_slot}
 use Rattle.nb_graph.specs.Moves.{Calms}
 use Rattle.nb_graph.proofs.ForestLemmas.{Reaches-map, apart-without, the-port}
 use Rattle.nb_graph.proofs.AccountLemmas.{Calms-then, Joined-mild}
@@ -30,7 +30,7 @@ counted-else y taken q b n = elim (cases_eq q.obj.0 y) [
   | inr e ↦ rw (ne_eqb q.obj.0 y e) refl
 ]
   where
-    same : (c : Bool) → cond c (nothing 0) [] ≡ []
+    same : (c : Bool) → cond c (by_no_slot 0) [] ≡ []
     same true = refl
     same false = refl
 
@@ -42,12 +42,12 @@ abbrev Hearing : Ledger → ℕ → Port → Port → Account → List ℕ → L
 Hearing l x p q b w v = IsShut l p ⊎ ((w ≡ v) × IsClear l p x w)
 
 -- the node of x is called, and its downs go
-hears : (l : Ledger) (x : ℕ) (sent m : ℕ → List ℕ) → ((k : ℕ) → sent k ≡ m k) → sent 0 ≡ [] → (p q : Port) (y z : Account) (w v : List ℕ) → Hearing l x p q y w v → (u : List ℕ) × Asking l x sent nothing p q y w u × Downs l x m p q z u v
+hears : (l : Ledger) (x : ℕ) (sent m : ℕ → List ℕ) → ((k : ℕ) → sent k ≡ m k) → sent 0 ≡ [] → (p q : Port) (y z : Account) (w v : List ℕ) → Hearing l x p q y w v → (u : List ℕ) × Asking l x sent by_no_slot p q y w u × Downs l x m p q z u v
 hears l x sent m same none p q y z w v h =
     (w ++ own x sent p, (ap (λ t. t ++ (w ++ own x sent p)) (sym free), λ _. free), goes h)
   where
-    free : counted x nothing q y ≡ []
-    free = counted-else x nothing q y (λ _. refl)
+    free : counted x by_no_slot q y ≡ []
+    free = counted-else x by_no_slot q y (λ _. refl)
 
     goes : Hearing l x p q y w v → Downs l x m p q z (w ++ own x sent p) v
     goes (inl i) = inl i
@@ -66,7 +66,7 @@ hears l x sent m same none p q y z w v h =
     ]
 
 -- a whole close of a link
-pub Calms-link : {N L : Type 0} {known : Nature N L} {b0 b3 b4 b5 : Ledger} {bs ds es gs : List (Deed N L)} (at peer : Port) (sent m : ℕ → List ℕ) → IsLinked (port b0) (rank b0) → port b0 at.obj.0 at.slot ≡ Linked peer → port b3 at.obj.0 at.slot ≡ Leaving peer → port b3 peer.obj.0 peer.slot ≡ Leaving at → ((k : ℕ) → sent k ≡ m k) → sent 0 ≡ [] → Calms known b0 b3 Still bs → Calms known b3 b3 (Asking b3 peer.obj.0 sent nothing) ds → Calms known b3 b4 (Downs b3 peer.obj.0 m) es → Calms known b4 b5 Still gs → Calms known b0 b5 (Closing b0 at.obj.0) (bs ++ (ds ++ (es ++ gs)))
+pub Calms-link : {N L : Type 0} {known : Nature N L} {b0 b3 b4 b5 : Ledger} {bs ds es gs : List (Deed N L)} (at peer : Port) (sent m : ℕ → List ℕ) → IsLinked (port b0) (rank b0) → port b0 at.obj.0 at.slot ≡ Linked peer → port b3 at.obj.0 at.slot ≡ Leaving peer → port b3 peer.obj.0 peer.slot ≡ Leaving at → ((k : ℕ) → sent k ≡ m k) → sent 0 ≡ [] → Calms known b0 b3 Still bs → Calms known b3 b3 (Asking b3 peer.obj.0 sent by_no_slot) ds → Calms known b3 b4 (Downs b3 peer.obj.0 m) es → Calms known b4 b5 Still gs → Calms known b0 b5 (Closing b0 at.obj.0) (bs ++ (ds ++ (es ++ gs)))
 Calms-link {known = known} {b0 = b0} {b3 = b3} {bs = bs} at peer sent m l h gone left same none half ask eff last =
     Calms-then half
     (Calms-then {h = Hearing b3 peer.obj.0} ask
@@ -74,7 +74,7 @@ Calms-link {known = known} {b0 = b0} {b3 = b3} {bs = bs} at peer sent m l h gone
     (λ p q x y w v i j. let s = hears b3 peer.obj.0 sent m same none p q y y w v i in (s.0, s.1, λ _. s.2)))
     (λ p q x y w v i j. (w, refl, λ k. hearing y (account known q y bs) p q _ _ w v i k))
   where
-    hearing : (y z : Account) (p q : Port) (s t w v : List ℕ) → Closing b0 at.obj.0 p q y w v → Joined b3 p q s t w → Hearing b3 peer.obj.0 p q z w v
+    hearing : (y z : Account) (p q : Port) (s t w v : List ℕ) → Closing b0 at.obj.0 p q y w v → JoinedEnds b3 p q s t w → Hearing b3 peer.obj.0 p q z w v
     hearing y z p q s t w v (inl i) j = inl (half.shuts p.obj.0 p.slot i)
     hearing y z p q s t w v (inr i) (parted a b c d r e) = inl c
     hearing y z p q s t w v (inr i) (joined a b c d e) = inr (i.0, clear i.1)
@@ -117,12 +117,12 @@ Calms-enter known l b at z m = record {
   same_made = m.same_made;
   links = m.links;
   shuts = m.shuts;
-  peers = λ p a. enter-peer (is_port p at) a;
-  enters = λ q a h. enter-stays (is_port q at) a h;
+  peers = λ p a. enter-peer (is_same_port p at) a;
+  enters = λ q a h. enter-stays (is_same_port q at) a h;
   quiet = λ q a o h. rw (ne_eqb q.slot at.slot (λ (e : q.slot ≡ at.slot). absurd (omega (arith, e, z, o)))) (other (eqb q.obj.0 at.obj.0) a h);
-  joins = λ p q a c w v f j. rw (enter-sent (is_port p at) a, enter-taken (is_port q at) c, sym f) (Joined-mild m j);
-  midway = λ p q a c w v f j. (λ _. start-joined j, λ _. rw (enter-sent (is_port p at) a, enter-taken (is_port q at) c) (start-joined j));
-  apart = λ p q a c n. (λ i. absurd (n i), λ i. absurd (n (sym (enter-peer (is_port p at) a) ∙ i)));
+  joins = λ p q a c w v f j. rw (enter-sent (is_same_port p at) a, enter-taken (is_same_port q at) c, sym f) (Joined-mild m j);
+  midway = λ p q a c w v f j. (λ _. start-joined j, λ _. rw (enter-sent (is_same_port p at) a, enter-taken (is_same_port q at) c) (start-joined j));
+  apart = λ p q a c n. (λ i. absurd (n i), λ i. absurd (n (sym (enter-peer (is_same_port p at) a) ∙ i)));
 }
   where
     other : (c : Bool) (a : Account) → a.entered ≡ false → (cond (c && false) (enters Down a) (rests a)).entered ≡ false

@@ -7,7 +7,7 @@ use Rattle.nb_ledger.specs.declared.event.GraphEvent.TheVariants.{Made, Freed}
 use Rattle.nb_ledger.specs.GraphRun.{port_but}
 use Rattle.nb_ledger.specs.Ledger.{Ledger, port}
 use Rattle.nb_ledger.specs.Changes.{SameObjects, SetsHolds, SetsBusy, SetsPort, Adds, Removes}
-use Rattle.nb_graph.specs.Scene.{IsFull, scene_of, with_ports, after_noted}
+use Rattle.nb_graph.specs.Scene.{IsGraphFull, scene_of, with_ports, after_noted}
 use Rattle.nb_graph.proofs.GraphLemmas.{same-length}
 
 -- the same objects and ports
@@ -38,6 +38,6 @@ scene-removes {old} {new} y r one =
     λ i. record { port = λ x k. r.port_set x k i; live = λ x. r.live_set x i; number = less i; room = r.same_room i; made = r.same_made i }
 
 -- something can be made
-pub roomy-below : (l : Ledger) → length l.objects < l.room → l.made + 1 < 2 ^ 64 → IsFull (scene_of l) → ⊥
+pub roomy-below : (l : Ledger) → length l.objects < l.room → l.made + 1 < 2 ^ 64 → IsGraphFull (scene_of l) → ⊥
 roomy-below l h k (inl e) = absurd (omega arith)
 roomy-below l h k (inr e) = absurd (omega arith)

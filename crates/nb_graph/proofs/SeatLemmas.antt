@@ -6,16 +6,17 @@ use Rattle.std.specs.List.{remove}
 use Rattle.std.proofs.lemmas.Bool.{cases_Bool, cases_eq, eq-eqb, ne_eqb, ltb-false}
 use Rattle.std.proofs.lemmas.Bool.Decides.{nat_tests}
 use Rattle.nb_ledger.specs.declared.object.Object.{Object}
-use Rattle.nb_ledger.specs.Ledger.{Ledger, live, place}
+use Rattle.nb_ledger.specs.Ledger.{Ledger, object_lives, place}
 use Rattle.nb_ledger.specs.Changes.{SameObjects, Adds, Removes}
 use Rattle.nb_ledger.proofs.PlaceLemmas.{live_place, live-stands, serial-place}
 use Rattle.nb_graph.specs.Whole.{IsManned}
-use Rattle.nb_graph.specs.Trace.{Nature, Entry, Owes, Owes1}
+use Rattle.nb_graph.specs.Trace.{Nature, NodeEntry, Owes, Owes1}
 use Rattle.nb_graph.specs.declared.effects.Fx.{Fx}
 use Rattle.nb_graph.specs.Deeds.{Deed, calls, Stage, Calls}
-use Rattle.nb_graph.specs.Follows.{Follows}
+use Rattle.nb_graph.specs.Follows.{UsesStack}
+use Rattle.nb_graph.specs.Hosts.{Performs, Suits}
 use Rattle.nb_graph.specs.Scene.{Scene, scene_of}
-use Rattle.nb_graph.specs.Lives.{seat, Lives, Loses, Fits, nodes_at}
+use Rattle.nb_graph.specs.Lives.{seat, StaysTraced, Loses, NodeFits, nodes_at}
 use Rattle.nb_graph.proofs.MannedLemmas.{manned-length, manned-place}
 use Rattle.nb_graph.proofs.LivelyLemmas.{slice_get-at, slice_get-set, slice_get-past, some_inj}
 use Rattle.nb_graph.proofs.GraphLemmas.{slice_get-push}
@@ -26,7 +27,7 @@ no_object : Object
 no_object = record { id = record { 0 = 0 }; rank = 0; busy = false; holds = 0; ports = [] }
 
 -- two objects stand at two places
-place-apart : (l : Ledger) (x y : ℕ) → live l y ≡ true → x ≢ y → place l x ≢ place l y
+place-apart : (l : Ledger) (x y : ℕ) → object_lives l y ≡ true → x ≢ y → place l x ≢ place l y
 place-apart l x y v n = λ e.
     let h = live-stands l y v in
     let a = serial-place l.objects y no_object h in
@@ -34,8 +35,8 @@ place-apart l x y v n = λ e.
     n (sym b ∙ ap (λ i. (get_or l.objects i no_object).id.0) e ∙ a)
 
 -- a dead object stands at no place
-pub dead-past : (l : Ledger) (x : ℕ) → live l x ≡ false → length l.objects ≤ place l x
-unfolding live
+pub dead-past : (l : Ledger) (x : ℕ) → object_lives l x ≡ false → length l.objects ≤ place l x
+unfolding object_lives
 dead-past l x h = ltb-false _ _ (live_place l.objects x ∙ h)
 
 slice_get-set_other : {A : Type 0} (xs : List A) (i j : ℕ) (v : A) → j ≢ i → slice_get (set xs i v) j ≡ slice_get xs j
@@ -69,7 +70,7 @@ pub Loses-trans : {N : Type 0} {f g h : ℕ → Option N} → Loses f g → Lose
 Loses-trans p q = record { back = λ x n e. p.back x n (q.back x n e) }
 
 -- one that is dead has no node
-pub dead-seat : {N : Type 0} {rank_of : N → ℕ} {l : Ledger} {nodes : List N} {cap : ℕ} (x : ℕ) → IsManned rank_of l nodes cap → live l x ≡ false → seat l nodes x ≡ None
+pub dead-seat : {N : Type 0} {rank_of : N → ℕ} {l : Ledger} {nodes : List N} {cap : ℕ} (x : ℕ) → IsManned rank_of l nodes cap → object_lives l x ≡ false → seat l nodes x ≡ None
 dead-seat {l = l} {nodes = nodes} x m d = let h = dead-past l x d in let k = manned-length m in slice_get-past nodes (place l x) (omega arith)
 
 -- a node is at its place after the one before it was taken out
@@ -80,33 +81,33 @@ moved xs i j k h n e = elim (cases_Bool (ltb i k)) [
 ]
 
 -- after an object and its node are taken out
-pub Loses-remove : {N : Type 0} {rank_of : N → ℕ} {old new : Ledger} {nodes more : List N} {cap big x : ℕ} → live old x ≡ true → Removes old new x → more ≡ remove nodes (place old x) → IsManned rank_of old nodes cap → IsManned rank_of new more big → Loses (seat old nodes) (seat new more)
+pub Loses-remove : {N : Type 0} {rank_of : N → ℕ} {old new : Ledger} {nodes more : List N} {cap big x : ℕ} → object_lives old x ≡ true → Removes old new x → more ≡ remove nodes (place old x) → IsManned rank_of old nodes cap → IsManned rank_of new more big → Loses (seat old nodes) (seat new more)
 Loses-remove {old = old} {new = new} {nodes = nodes} {more = more} {x = x} v r is m t = record {
   back = λ y n h. elim (cases_eq y x) [
-    | inl e ↦ absurd (let d = r.live_set y in let z : live new y ≡ false = d ∙ rw e (gone x) in let p = dead-seat y t z in cc)
+    | inl e ↦ absurd (let d = r.live_set y in let z : object_lives new y ≡ false = d ∙ rw e (gone x) in let p = dead-seat y t z in cc)
     | inr e ↦ sym (moved nodes (place old x) (place new y) (place old y) (manned-place x m v) (place-apart old y x v e) (r.place_set y e)) ∙ ap (λ z. slice_get z (place new y)) (sym is) ∙ h
   ];
 }
   where
-    gone : (x : ℕ) → cond (eqb x x) false (live old x) ≡ false
+    gone : (x : ℕ) → cond (eqb x x) false (object_lives old x) ≡ false
     gone x = rw (eq-eqb x x refl) refl
 
 -- a call of the node of an object
-pub Lives-seat : {N L : Type 0} {known : Nature N L} {u : Option (List Notice)} {rank_of : N → ℕ} {l : Ledger} {nodes : List N} {cap : ℕ} (stands : N → List (Entry N L) → Type 0) (now : ℕ) (owing : ℕ → List L → List L → Type 0) (o n : List (Stage L) → List (Stage L)) (y p : ℕ) (i : Entry N L) (d c : N) → IsManned rank_of l nodes cap → live l y ≡ true → p ≡ place l y → d ≡ get_or nodes p d → ((w v : List L) → owing y w v → Owes1 w i v) → ((x : ℕ) (w v : List L) → x ≢ y → owing x w v → w ≡ v) → ((t : List (Entry N L)) (w v : List L) → owing y w v → Owes [] t w → stands d t → stands c (t ++ i ∷ [])) → ((st : List (Stage L)) (ds : List (Deed N L)) (s : Scene) → Follows known now (scene_of l) (n st) ds s → Follows known now (scene_of l) (o st) (calls y i ∷ ds) s) → {z : List (Deed N L) → Type 0} → z (calls y i ∷ []) → Lives stands known now (nodes_at l nodes u) (nodes_at l (set nodes p c) u) owing o n z []
-Lives-seat {u = u} {l = l} {nodes = nodes} stands now owing o n y p i d c m v at is owes stay law hears moves =
+pub Lives-seat : {N L : Type 0} {known : Nature N L} {u : Option (List Notice)} {rank_of : N → ℕ} {l : Ledger} {nodes : List N} {cap : ℕ} (stands : N → List (NodeEntry N L) → Type 0) (now : ℕ) (owing : ℕ → List L → List L → Type 0) (o n : List (Stage N L) → List (Stage N L)) (y p : ℕ) (i : NodeEntry N L) (d c : N) → IsManned rank_of l nodes cap → object_lives l y ≡ true → p ≡ place l y → d ≡ get_or nodes p d → ((w v : List L) → owing y w v → Owes1 w i v) → ((x : ℕ) (w v : List L) → x ≢ y → owing x w v → w ≡ v) → Performs stands d i c → ((t : List (NodeEntry N L)) (w v : List L) → owing y w v → Owes [] t w → Suits t i) → ((st : List (Stage N L)) (ds : List (Deed N L)) (s : Scene) → UsesStack known now (scene_of l) (n st) ds s → UsesStack known now (scene_of l) (o st) (calls y i ∷ ds) s) → {z : List (Deed N L) → Type 0} → z (calls y i ∷ []) → StaysTraced stands known now (nodes_at l nodes u) (nodes_at l (set nodes p c) u) owing o n z []
+Lives-seat {u = u} {l = l} {nodes = nodes} stands now owing o n y p i d c m v at is owes stay performs suit hears moves =
     let h = manned-place y m v in
     let q : p < length nodes = omega (arith, h, at) in
     Lives-call stands now (nodes_at l nodes u) (nodes_at l (set nodes p c) u) owing o n y i d c refl (Given-none u)
     (ap (slice_get nodes) (sym at) ∙ slice_get-at nodes p d q ∙ ap Some (sym is))
     (λ k e. some_inj (sym e ∙ ap (slice_get (set nodes p c)) (sym at) ∙ slice_get-set nodes p c q))
     (λ x k a e. sym (slice_get-set_other nodes p (place l x) c (λ z. place-apart l x y v a (z ∙ at))) ∙ e)
-    owes stay law hears moves
+    owes stay performs suit hears moves
 
 -- a call of the node of an object by an entry, which is the first that happens
-pub Calls-seat : {N L : Type 0} {known : Nature N L} {u : Option (List Notice)} {rank_of : N → ℕ} {l : Ledger} {nodes : List N} {cap : ℕ} (stands : N → List (Entry N L) → Type 0) (now : ℕ) (owing : ℕ → List L → List L → Type 0) (o n : List (Stage L) → List (Stage L)) (y p : ℕ) (entry : Bool → Fx N L → Entry N L) (done : Bool) (fx : Fx N L) (d c : N) → IsManned rank_of l nodes cap → live l y ≡ true → p ≡ place l y → d ≡ get_or nodes p d → ((w v : List L) → owing y w v → Owes1 w (entry done fx) v) → ((x : ℕ) (w v : List L) → x ≢ y → owing x w v → w ≡ v) → ((t : List (Entry N L)) (w v : List L) → owing y w v → Owes [] t w → stands d t → stands c (t ++ entry done fx ∷ [])) → ((st : List (Stage L)) (ds : List (Deed N L)) (s : Scene) → Follows known now (scene_of l) (n st) ds s → Follows known now (scene_of l) (o st) (calls y (entry done fx) ∷ ds) s) → {z : List (Deed N L) → Type 0} → z (calls y (entry done fx) ∷ []) → (k : Lives stands known now (nodes_at l nodes u) (nodes_at l (set nodes p c) u) owing o n z []) × Calls y entry k.deeds
+pub Calls-seat : {N L : Type 0} {known : Nature N L} {u : Option (List Notice)} {rank_of : N → ℕ} {l : Ledger} {nodes : List N} {cap : ℕ} (stands : N → List (NodeEntry N L) → Type 0) (now : ℕ) (owing : ℕ → List L → List L → Type 0) (o n : List (Stage N L) → List (Stage N L)) (y p : ℕ) (entry : Bool → Fx N L → NodeEntry N L) (done : Bool) (fx : Fx N L) (d c : N) → IsManned rank_of l nodes cap → object_lives l y ≡ true → p ≡ place l y → d ≡ get_or nodes p d → ((w v : List L) → owing y w v → Owes1 w (entry done fx) v) → ((x : ℕ) (w v : List L) → x ≢ y → owing x w v → w ≡ v) → Performs stands d (entry done fx) c → ((t : List (NodeEntry N L)) (w v : List L) → owing y w v → Owes [] t w → Suits t (entry done fx)) → ((st : List (Stage N L)) (ds : List (Deed N L)) (s : Scene) → UsesStack known now (scene_of l) (n st) ds s → UsesStack known now (scene_of l) (o st) (calls y (entry done fx) ∷ ds) s) → {z : List (Deed N L) → Type 0} → z (calls y (entry done fx) ∷ []) → (k : StaysTraced stands known now (nodes_at l nodes u) (nodes_at l (set nodes p c) u) owing o n z []) × Calls y entry k.deeds
 unfolding Lives-seat Lives-call
-Calls-seat stands now owing o n y p entry done fx d c m v at is owes stay law hears moves =
-    (Lives-seat stands now owing o n y p (entry done fx) d c m v at is owes stay law hears moves, (done, fx, [], refl))
+Calls-seat stands now owing o n y p entry done fx d c m v at is owes stay performs suit hears moves =
+    (Lives-seat stands now owing o n y p (entry done fx) d c m v at is owes stay performs suit hears moves, (done, fx, [], refl))
 
 slice_get-before : {A : Type 0} (xs ys : List A) (i : ℕ) → i < length xs → slice_get (xs ++ ys) i ≡ slice_get xs i
 slice_get-before [] ys i h = absurd (omega arith)
@@ -119,15 +120,15 @@ module _ {N : Type 0} {rank_of : N → ℕ} {old mid : Ledger} {nodes : List N} 
   made-seat k h = some_inj (sym h ∙ ap (slice_get (nodes ++ n ∷ [])) (s x ∙ at) ∙ slice_get-push nodes n)
 
   pub other-seat : (y : ℕ) (k : N) → y ≢ x → seat new (nodes ++ n ∷ []) y ≡ Some k → seat old nodes y ≡ Some k
-  other-seat y k ne h = elim (cases_Bool (live old y)) [
+  other-seat y k ne h = elim (cases_Bool (object_lives old y)) [
     | inl v ↦
         let p = a.place_set y v in
         sym (slice_get-before nodes (n ∷ []) (place old y) (manned-place y m v)) ∙ ap (slice_get (nodes ++ n ∷ [])) (sym (s y ∙ p)) ∙ h
-    | inr d ↦ absurd (let z : live mid y ≡ false = a.live_set y ∙ rw (ne_eqb y x ne) d in let q = dead-seat y t z in let w = ap (slice_get (nodes ++ n ∷ [])) (s y) in cc)
+    | inr d ↦ absurd (let z : object_lives mid y ≡ false = a.live_set y ∙ rw (ne_eqb y x ne) d in let q = dead-seat y t z in let w = ap (slice_get (nodes ++ n ∷ [])) (s y) in cc)
   ]
 
 -- a node that stands for all that it stood for
-pub Keeps-set : {N L : Type 0} {rank_of : N → ℕ} {l : Ledger} {nodes : List N} {cap : ℕ} (stands : N → List (Entry N L) → Type 0) (y p : ℕ) (d c : N) → IsManned rank_of l nodes cap → live l y ≡ true → p ≡ place l y → d ≡ get_or nodes p d → ((t : List (Entry N L)) → stands d t → stands c t) → (x : ℕ) (t : List (Entry N L)) (w : List L) → Fits stands (nodes_at l nodes None) x t w → Fits stands (nodes_at l (set nodes p c) None) x t w
+pub Keeps-set : {N L : Type 0} {rank_of : N → ℕ} {l : Ledger} {nodes : List N} {cap : ℕ} (stands : N → List (NodeEntry N L) → Type 0) (y p : ℕ) (d c : N) → IsManned rank_of l nodes cap → object_lives l y ≡ true → p ≡ place l y → d ≡ get_or nodes p d → ((t : List (NodeEntry N L)) → stands d t → stands c t) → (x : ℕ) (t : List (NodeEntry N L)) (w : List L) → NodeFits stands (nodes_at l nodes None) x t w → NodeFits stands (nodes_at l (set nodes p c) None) x t w
 Keeps-set {l = l} {nodes = nodes} stands y p d c m v at is law x t w fit = λ n h.
     let i = manned-place y m v in
     let q : p < length nodes = omega (arith, i, at) in

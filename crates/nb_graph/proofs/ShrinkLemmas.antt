@@ -5,16 +5,16 @@ use Rattle.std.proofs.lemmas.Bool.{cases_eq, cases_Bool, eq-eqb, false≢true}
 use Rattle.nb_ledger.specs.declared.port.ObjId.{ObjId}
 use Rattle.nb_ledger.specs.declared.port.PortState.{PortState}
 use Rattle.nb_ledger.specs.declared.port.PortState.TheVariants.{Open, Linked, Leaving, Closed}
-use Rattle.nb_ledger.specs.GraphRun.{Frame, MustFree, Run, owed, ports_but, link_count}
+use Rattle.nb_ledger.specs.GraphRun.{OnStack, MustFree, GraphRunOf, owed, ports_but, link_count}
 use Rattle.std.specs.Option.{option_map_or}
 use Rattle.nb_ledger.specs.declared.object.Object.{Object}
-use Rattle.nb_ledger.specs.Ledger.{Ledger, found, live, holds, busy, rank, port, ties, unused, leaves, open_count, state_of, Agrees}
+use Rattle.nb_ledger.specs.Ledger.{Ledger, found, object_lives, holds, busy, rank, port, ties, unused, leaves, open_count, run_state, Agrees}
 use Rattle.nb_ledger.specs.Changes.{Removes}
 use Rattle.nb_ledger.specs.Settled.{Settles}
 use Rattle.nb_ledger.proofs.RunLemmas.{Run-append, Told-none, Tells-append}
 use Rattle.nb_ledger.proofs.CountLemmas.{owed-unused, owed-used, used-busy}
 use Rattle.nb_ledger.proofs.PortLemmas.{live_by}
-use Rattle.nb_graph.specs.Whole.{IsLinked, CountedBut, CountedButTwo, IsWhole}
+use Rattle.nb_graph.specs.Whole.{IsLinked, CountedBut, CountedButTwo, IsBookWhole}
 use Rattle.nb_graph.specs.Calm.{Shrinks, Calm, SettlesTwo}
 use Rattle.nb_graph.proofs.WholeLemmas.{but_same, but_other, ports_other, unused-same, unused-ties, ties-at, IsWhole-settle, IsLinked-gone}
 use Rattle.nb_graph.proofs.GraphLemmas.{settled-length}
@@ -44,7 +44,7 @@ Shrinks-trans {a} {b} {c} p q = record {
 }
 
 -- the flags are those of the stack, before and after
-pub Agrees-busy : (old new : Ledger) (st : List Frame) → ((x : ℕ) → busy new x ≡ busy old x) → Agrees old st → Agrees new st
+pub Agrees-busy : (old new : Ledger) (st : List OnStack) → ((x : ℕ) → busy new x ≡ busy old x) → Agrees old st → Agrees new st
 Agrees-busy old new st e a = λ x. e x ∙ a x
 
 unfoldable pub Calm-refl : (l : Ledger) (b : Option (List Notice)) → Calm l l b b
@@ -54,12 +54,12 @@ unfoldable pub Calm-trans : {a b c : Ledger} {m n o : Option (List Notice)} → 
 Calm-trans {a} {b} {c} {m} {n} {o} p q = record {
   added = p.added ++ q.added;
   told = Tells-append m n o p.added q.added p.told q.told;
-  run = λ st i g. Run-append (state_of a st) (state_of b st) (state_of c st) p.added q.added (p.run st i g) (q.run st i (Agrees-busy a b st p.shrinks.same_busy g));
+  run = λ st i g. Run-append (run_state a st) (run_state b st) (run_state c st) p.added q.added (p.run st i g) (q.run st i (Agrees-busy a b st p.shrinks.same_busy g));
   shrinks = Shrinks-trans p.shrinks q.shrinks;
 }
 
 -- a dead object's port is closed
-pub dead-port : (l : Ledger) (x : ℕ) → live l x ≡ false → (k : ℕ) → port l x k ≡ Closed
+pub dead-port : (l : Ledger) (x : ℕ) → object_lives l x ≡ false → (k : ℕ) → port l x k ≡ Closed
 dead-port l x d k = by_state (port l x k) refl
   where
     by_state : (v : PortState) → port l x k ≡ v → port l x k ≡ Closed
@@ -97,8 +97,8 @@ Shrinks-remove {old} {new} {x} u s n = record {
     | inr m ↦ ap leaves (s.port_set y k ∙ ports_other x (λ _. Closed) (port old) y k m)
   ];
   kept = λ y v. elim (cases_eq y x) [
-    | inl e ↦ absurd (false≢true (sym (s.live_set y ∙ but_same x false (live old) y e) ∙ v))
-    | inr m ↦ (sym (s.live_set y ∙ but_other x false (live old) y m) ∙ v, s.rank_set y ∙ but_other x 0 (rank old) y m)
+    | inl e ↦ absurd (false≢true (sym (s.live_set y ∙ but_same x false (object_lives old) y e) ∙ v))
+    | inr m ↦ (sym (s.live_set y ∙ but_other x false (object_lives old) y m) ∙ v, s.rank_set y ∙ but_other x 0 (rank old) y m)
   ];
   opens_fall = let h = s.opens_le.1 in omega arith;
   closes = λ y k. elim (cases_eq y x) [
@@ -123,10 +123,10 @@ unused-settle {old} {new} {before} {after} {id} x n s = elim s.how [
   | inr h ↦ unused-same old new x (h.1.holds_set x ∙ but_other id.0 0 (holds old) x n) (h.1.busy_set x ∙ but_other id.0 false (busy old) x n) (λ k. ap link_count (h.1.port_set x k ∙ ports_other id.0 (λ _. Closed) (port old) x k n))
 ]
 
-pub live-settle : {old new : Ledger} {before after : Option (List Notice)} {id : ObjId} (x : ℕ) → (x ≡ id.0 → ⊥) → Settles old new before after id → live new x ≡ live old x
+pub live-settle : {old new : Ledger} {before after : Option (List Notice)} {id : ObjId} (x : ℕ) → (x ≡ id.0 → ⊥) → Settles old new before after id → object_lives new x ≡ object_lives old x
 live-settle {old} {new} {before} {after} {id} x n s = elim s.how [
-  | inl h ↦ ap (λ l. live l x) h.0
-  | inr h ↦ h.1.live_set x ∙ but_other id.0 false (live old) x n
+  | inl h ↦ ap (λ l. object_lives l x) h.0
+  | inr h ↦ h.1.live_set x ∙ but_other id.0 false (object_lives old) x n
 ]
 
 -- two objects, the lower serial first
@@ -147,16 +147,16 @@ SettlesTwo-pair {old} {mid} {new} {before} {between} {after} {low} {high} less s
     same : unused mid high.0 ≡ unused old high.0
     same = unused-settle high.0 (λ e. absurd (omega arith)) s
 
-    after_mid : (st : List Frame) → Agrees old st → Agrees mid st
+    after_mid : (st : List OnStack) → Agrees old st → Agrees mid st
     after_mid st a = Agrees-busy old mid st (Shrinks-settle s).same_busy a
 
-    freed : (st : List Frame) → Agrees old st → unused old high.0 ≡ true → Run (owed low.0 (owed high.0 (state_of old st))) (s.added ++ t.added) (state_of new st)
+    freed : (st : List OnStack) → Agrees old st → unused old high.0 ≡ true → GraphRunOf (owed low.0 (owed high.0 (run_state old st))) (s.added ++ t.added) (run_state new st)
     freed st a u =
-        rw (owed-unused old st high.0 a u) (Run-append _ (state_of mid (MustFree high.0 ∷ st)) _ s.added t.added (s.run (MustFree high.0 ∷ st) a) (rw (owed-unused mid st high.0 (after_mid st a) (same ∙ u)) at (t.run st (after_mid st a))))
+        rw (owed-unused old st high.0 a u) (Run-append _ (run_state mid (MustFree high.0 ∷ st)) _ s.added t.added (s.run (MustFree high.0 ∷ st) a) (rw (owed-unused mid st high.0 (after_mid st a) (same ∙ u)) at (t.run st (after_mid st a))))
 
-    stays : (st : List Frame) → Agrees old st → unused old high.0 ≡ false → Run (owed low.0 (owed high.0 (state_of old st))) (s.added ++ t.added) (state_of new st)
+    stays : (st : List OnStack) → Agrees old st → unused old high.0 ≡ false → GraphRunOf (owed low.0 (owed high.0 (run_state old st))) (s.added ++ t.added) (run_state new st)
     stays st a u =
-        rw (owed-used old st high.0 a u) (Run-append _ (state_of mid st) _ s.added t.added (s.run st a) (rw (owed-used mid st high.0 (after_mid st a) (same ∙ u)) at (t.run st (after_mid st a))))
+        rw (owed-used old st high.0 a u) (Run-append _ (run_state mid st) _ s.added t.added (s.run st a) (rw (owed-used mid st high.0 (after_mid st a) (same ∙ u)) at (t.run st (after_mid st a))))
 
 -- in the other order
 unfoldable pub SettlesTwo-swap : {old new : Ledger} {before after : Option (List Notice)} {x y : ObjId} → SettlesTwo old new before after x y → SettlesTwo old new before after y x
@@ -181,10 +181,10 @@ CountedBut-settle {old} {new} {before} {after} {id} z s c = λ y d v. elim (case
   | inr n ↦ unused-settle y n s ∙ c y n d (sym (live-settle y n s) ∙ v)
 ]
   where
-    own : (y : ℕ) → y ≡ id.0 → live new y ≡ true → unused new y ≡ false
+    own : (y : ℕ) → y ≡ id.0 → object_lives new y ≡ true → unused new y ≡ false
     own y e v = elim s.how [
       | inl h ↦ ap (λ l. unused l y) h.0 ∙ ap (unused old) e ∙ h.1
-      | inr h ↦ absurd (false≢true (sym (h.1.live_set y ∙ but_same id.0 false (live old) y e) ∙ v))
+      | inr h ↦ absurd (false≢true (sym (h.1.live_set y ∙ but_same id.0 false (object_lives old) y e) ∙ v))
     ]
 
 small-settle : {old new : Ledger} {before after : Option (List Notice)} {id : ObjId} → Settles old new before after id → ((y : ℕ) → rank old y < 256) → (y : ℕ) → rank new y < 256
@@ -194,13 +194,13 @@ small-settle {old} {new} {before} {after} {id} s w y = elim s.how [
 ]
 
 -- after both, each is counted
-pub IsWhole-pair : {old mid new : Ledger} {before between after : Option (List Notice)} {low high : ObjId} → Settles old mid before between low → Settles mid new between after high → IsLinked (port old) (rank old) → CountedButTwo low.0 high.0 old → ((y : ℕ) → rank old y < 256) → IsWhole new
+pub IsWhole-pair : {old mid new : Ledger} {before between after : Option (List Notice)} {low high : ObjId} → Settles old mid before between low → Settles mid new between after high → IsLinked (port old) (rank old) → CountedButTwo low.0 high.0 old → ((y : ℕ) → rank old y < 256) → IsBookWhole new
 IsWhole-pair {old} {mid} {new} {before} {between} {after} {low} {high} s t l c w =
     IsWhole-settle t (IsLinked-settle s l) (CountedBut-settle high.0 s c) (small-settle s w)
 
 -- a dead object has no rank
-dead-rank : (l : Ledger) (x : ℕ) → live l x ≡ false → rank l x ≡ 0
-unfolding live rank
+dead-rank : (l : Ledger) (x : ℕ) → object_lives l x ≡ false → rank l x ≡ 0
+unfolding object_lives rank
 dead-rank l x h = found_rank (found l.objects x) h
   where
     found_rank : (o : Option Object) → is_some o ≡ false → option_map_or (λ w. w.rank) o 0 ≡ 0
@@ -209,7 +209,7 @@ dead-rank l x h = found_rank (found l.objects x) h
 
 -- no rank rises
 pub ranks_fall : {old new : Ledger} (x : ℕ) → Shrinks old new → rank new x ≤ rank old x
-ranks_fall {old} {new} x s = elim (cases_Bool (live new x)) [
+ranks_fall {old} {new} x s = elim (cases_Bool (object_lives new x)) [
   | inl v ↦ let e = (s.kept x v).1 in omega arith
   | inr d ↦ let e = dead-rank new x d in omega arith
 ]

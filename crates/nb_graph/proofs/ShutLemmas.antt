@@ -9,11 +9,11 @@ use Rattle.nb_graph.specs.Effects.{ClosesSlot}
 use Rattle.nb_ledger.specs.declared.port.Port.{Port}
 use Rattle.nb_ledger.specs.declared.port.PortState.{PortState}
 use Rattle.nb_ledger.specs.declared.port.PortState.TheVariants.{Open, Linked, Leaving, Closed}
-use Rattle.nb_ledger.specs.GraphRun.{Frame, port_but}
-use Rattle.nb_ledger.specs.Ledger.{Ledger, live, port, open_count}
+use Rattle.nb_ledger.specs.GraphRun.{OnStack, port_but}
+use Rattle.nb_ledger.specs.Ledger.{Ledger, object_lives, port, open_count}
 use Rattle.nb_ledger.specs.Changes.{SetsPort}
 use Rattle.nb_ledger.proofs.PortLemmas.{live_by}
-use Rattle.nb_graph.specs.Calm.{Shrinks, Calm, HalfCloses, Ends}
+use Rattle.nb_graph.specs.Calm.{Shrinks, Calm, HalfCloses, EndsEntry}
 use Rattle.nb_graph.proofs.LinkLemmas.{cases_port, port_but-same, port_but-other}
 
 -- the port that was written
@@ -21,7 +21,7 @@ pub shut-set : {old new : Ledger} {p : Port} {v : PortState} → SetsPort old ne
 shut-set {old} {new} {p} {v} a h = ap open_count (a.port_set p.obj.0 p.slot ∙ port_but-same p v (port old) p.obj.0 p.slot refl refl) ∙ h
 
 -- the first end of a link
-pub shut-link : {b0 b3 b4 new : Ledger} {n3 n4 after : Option (List Notice)} {p q : Port} {was : Bool} {opened : List Frame → List Frame} {f : ℕ → ℕ → PortState} → HalfCloses b0 b3 p q → Calm b3 b4 n3 n4 → Ends b4 new n4 after q.obj.0 was opened f → open_count (port new p.obj.0 p.slot) ≡ 0
+pub shut-link : {b0 b3 b4 new : Ledger} {n3 n4 after : Option (List Notice)} {p q : Port} {was : Bool} {opened : List OnStack → List OnStack} {f : ℕ → ℕ → PortState} → HalfCloses b0 b3 p q → Calm b3 b4 n3 n4 → EndsEntry b4 new n4 after q.obj.0 was opened f → open_count (port new p.obj.0 p.slot) ≡ 0
 shut-link {b0} {b3} {b4} {new} {n3} {n4} {after} {p} {q} {was} {opened} {f} half k e =
     let i = e.closes p.obj.0 p.slot in
     let j = k.shrinks.closes p.obj.0 p.slot in
@@ -45,7 +45,7 @@ no-slot l x k h = by_state (port l x k) refl
     by_state Closed e = ap open_count e
 
 -- a dead object has no open port
-pub no-object : (l : Ledger) (x k : ℕ) → live l x ≡ false → open_count (port l x k) ≡ 0
+pub no-object : (l : Ledger) (x k : ℕ) → object_lives l x ≡ false → open_count (port l x k) ≡ 0
 no-object l x k h = by_state (port l x k) refl
   where
     by_state : (v : PortState) → port l x k ≡ v → open_count (port l x k) ≡ 0
@@ -77,11 +77,11 @@ closes-step [] d P h p r k c = absurd (omega arith)
 closes-step (x ∷ xs) d P h p r k c = elim c [ inl e ↦ subst P e p | inr i ↦ r k (subst (ClosesSlot k) (sym (rest-cons x xs)) i) ]
 
 -- what is to run of closes: nothing, or the first and then the others
-pub closes_of-none : {L : Type 0} (x : ℕ) (xs : List (ℕ × Cause)) → length xs < 1 → closes_of {L = L} x xs ≡ []
+pub closes_of-none : {N L : Type 0} (x : ℕ) (xs : List (ℕ × Cause)) → length xs < 1 → closes_of {N = N} {L = L} x xs ≡ []
 closes_of-none x [] h = refl
 closes_of-none x (c ∷ xs) h = absurd (omega arith)
 
-pub closes_of-step : {L : Type 0} (x : ℕ) (xs : List (ℕ × Cause)) (d : ℕ × Cause) → 1 ≤ length xs → closes_of {L = L} x xs ≡ Closes (port_at x (get_or xs 0 d).0) (get_or xs 0 d).1 ∷ closes_of x (take (length xs - 1) (drop 1 xs))
+pub closes_of-step : {N L : Type 0} (x : ℕ) (xs : List (ℕ × Cause)) (d : ℕ × Cause) → 1 ≤ length xs → closes_of {N = N} {L = L} x xs ≡ Closes (port_at x (get_or xs 0 d).0) (get_or xs 0 d).1 ∷ closes_of x (take (length xs - 1) (drop 1 xs))
 closes_of-step x [] d h = absurd (omega arith)
 closes_of-step x (c ∷ xs) d h = ap (λ z. Closes (port_at x c.0) c.1 ∷ closes_of x z) (sym (rest-cons c xs))
 

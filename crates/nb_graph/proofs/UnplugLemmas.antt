@@ -9,13 +9,13 @@ use Rattle.nb_ledger.specs.declared.event.Way.{Way}
 use Rattle.nb_ledger.specs.declared.event.Way.TheVariants.{Close}
 use Rattle.nb_ledger.specs.declared.event.GraphEvent.{GraphEvent}
 use Rattle.nb_ledger.specs.declared.event.GraphEvent.TheVariants as event
-use Rattle.nb_ledger.specs.GraphRun.{Frame, Running, MustUnplug, IsIdle, Step, Run, MayEnter, MayDrop, owed, port_but, link_count}
+use Rattle.nb_ledger.specs.GraphRun.{OnStack, Running, MustUnplug, IsIdle, Step, GraphRunOf, MayEnter, MayDrop, owed, port_but, link_count}
 use Rattle.nb_ledger.specs.Flat.{Tells}
-use Rattle.nb_ledger.specs.Ledger.{Ledger, live, busy, rank, port, leaves, open_count, state_of}
+use Rattle.nb_ledger.specs.Ledger.{Ledger, object_lives, busy, rank, port, leaves, open_count, run_state}
 use Rattle.nb_ledger.specs.Changes.{SetsBusy, SetsPort}
 use Rattle.nb_ledger.proofs.RunLemmas.{Run-append, Tells-append}
-use Rattle.nb_graph.specs.Whole.{IsLinked, IsCounted, CountedButTwo, IsWhole}
-use Rattle.nb_graph.specs.Calm.{Calm, Starts, HalfCloses, Ends, SettlesTwo}
+use Rattle.nb_graph.specs.Whole.{IsLinked, IsCounted, CountedButTwo, IsBookWhole}
+use Rattle.nb_graph.specs.Calm.{Calm, Starts, HalfCloses, EndsEntry, SettlesTwo}
 use Rattle.nb_graph.proofs.LinkLemmas.{IsLoose, cases_port, port_but-same, port_but-other, IsLinked-loose}
 use Rattle.nb_graph.proofs.WholeLemmas.{but_other, unused-same, two_ports}
 use Rattle.nb_graph.proofs.GraphLemmas.{same-length}
@@ -48,17 +48,17 @@ module _ {b4 b5 m b6 : Ledger} {p q : Port} {was : Bool} (hp : port b4 p.obj.0 p
   pub small-unplug : ((y : ℕ) → rank b4 y < 256) → (y : ℕ) → rank b6 y < 256
   small-unplug w y = rw (b.objects.same_rank y ∙ a.objects.same_rank y ∙ c.objects.same_rank y) (w y)
 
-  pub live-unplug : (y : ℕ) → live b6 y ≡ live b4 y
+  pub live-unplug : (y : ℕ) → object_lives b6 y ≡ object_lives b4 y
   live-unplug y = b.objects.same_live y ∙ a.objects.same_live y ∙ c.objects.same_live y
 
   -- the entry of the peer ends and the link goes
-  unfoldable pub Ends-unplug : (new : Ledger) (before between next after : Option (List Notice)) → Tells before between (event.Left q ∷ []) → ((w : Way) (st : List Frame) → Step (state_of b4 (Running q w ∷ st)) (event.Left q) (owed q.obj.0 (state_of b5 st))) → Tells between next (event.Unplugged p q ∷ []) → ((st : List Frame) → Step (state_of b5 (MustUnplug p q ∷ st)) (event.Unplugged p q) (owed (min p.obj.0 q.obj.0) (owed (max p.obj.0 q.obj.0) (state_of b6 st)))) → SettlesTwo b6 new next after p.obj q.obj → Ends b4 new before after q.obj.0 was (λ st. Running q Close ∷ MustUnplug p q ∷ st) (port_but q Closed (port_but p Closed (port b4)))
+  unfoldable pub Ends-unplug : (new : Ledger) (before between next after : Option (List Notice)) → Tells before between (event.Left q ∷ []) → ((w : Way) (st : List OnStack) → Step (run_state b4 (Running q w ∷ st)) (event.Left q) (owed q.obj.0 (run_state b5 st))) → Tells between next (event.Unplugged p q ∷ []) → ((st : List OnStack) → Step (run_state b5 (MustUnplug p q ∷ st)) (event.Unplugged p q) (owed (min p.obj.0 q.obj.0) (owed (max p.obj.0 q.obj.0) (run_state b6 st)))) → SettlesTwo b6 new next after p.obj q.obj → EndsEntry b4 new before after q.obj.0 was (λ st. Running q Close ∷ MustUnplug p q ∷ st) (port_but q Closed (port_but p Closed (port b4)))
   Ends-unplug new before between next after told step more unplug s =
       let k = s.shrinks in
       record {
         added = event.Left q ∷ event.Unplugged p q ∷ s.added;
         told = Tells-append before between after (event.Left q ∷ []) (event.Unplugged p q ∷ s.added) told (Tells-append between next after (event.Unplugged p q ∷ []) s.added more s.told);
-        run = λ st e. (state_of b5 (MustUnplug p q ∷ st), left st, (owed (min p.obj.0 q.obj.0) (owed (max p.obj.0 q.obj.0) (state_of b6 st)), unplug st, s.run st (λ y. b.same_busy y ∙ a.same_busy y ∙ c.busy_set y ∙ e y)));
+        run = λ st e. (run_state b5 (MustUnplug p q ∷ st), left st, (owed (min p.obj.0 q.obj.0) (owed (max p.obj.0 q.obj.0) (run_state b6 st)), unplug st, s.run st (λ y. b.same_busy y ∙ a.same_busy y ∙ c.busy_set y ∙ e y)));
         same_made = k.same_made ∙ b.objects.same_made ∙ a.objects.same_made ∙ c.objects.same_made;
         same_room = k.same_room ∙ b.objects.same_room ∙ a.objects.same_room ∙ c.objects.same_room;
         fewer = let i = k.fewer in let x = same-length b.objects in let y = same-length a.objects in let z = same-length c.objects in omega arith;
@@ -69,7 +69,7 @@ module _ {b4 b5 m b6 : Ledger} {p q : Port} {was : Bool} (hp : port b4 p.obj.0 p
         closes = λ y j. let i = k.closes y j in let x = ap open_count (two_ports a b y j) in let z = two-keeps open_count p q Closed Closed (port b5) (sym (ap open_count hp5)) (sym (ap open_count hq5)) y j in let u = ap open_count (c.same_port y j) in omega arith;
       }
     where
-      left : (st : List Frame) → Step (state_of b4 (Running q Close ∷ MustUnplug p q ∷ st)) (event.Left q) (state_of b5 (MustUnplug p q ∷ st))
+      left : (st : List OnStack) → Step (run_state b4 (Running q Close ∷ MustUnplug p q ∷ st)) (event.Left q) (run_state b5 (MustUnplug p q ∷ st))
       left st = rw (owed-port b5 (MustUnplug p q ∷ st) q.obj.0 q.slot (Leaving p) hq5 refl tt) at (step Close (MustUnplug p q ∷ st))
 
       flags : (y j : ℕ) → leaves (port_but q Closed (port_but p Closed (port b5)) y j) ≡ leaves (port_but q Closed (port_but p Closed (port b4)) y j)
@@ -85,13 +85,13 @@ module _ {b4 b5 m b6 : Ledger} {p q : Port} {was : Bool} (hp : port b4 p.obj.0 p
           ]
 
 -- a whole close of a linked port
-unfoldable pub Calm-link : {b0 b3 b4 new : Ledger} {n0 n3 n4 after : Option (List Notice)} {p q : Port} {was : Bool} {cause : Cause} → IsLinked (port b0) (rank b0) → port b0 p.obj.0 p.slot ≡ Linked q → Tells n0 n3 (event.Closed p cause ∷ event.Closed q cause ∷ event.Entered q Close ∷ []) → ((st : List Frame) → IsIdle st → Run (state_of b0 st) (event.Closed p cause ∷ event.Closed q cause ∷ event.Entered q Close ∷ []) (state_of b3 (Running q Close ∷ MustUnplug p q ∷ st))) → was ≡ busy b0 q.obj.0 → HalfCloses b0 b3 p q → Calm b3 b4 n3 n4 → Ends b4 new n4 after q.obj.0 was (λ st. Running q Close ∷ MustUnplug p q ∷ st) (port_but q Closed (port_but p Closed (port b4))) → Calm b0 new n0 after
+unfoldable pub Calm-link : {b0 b3 b4 new : Ledger} {n0 n3 n4 after : Option (List Notice)} {p q : Port} {was : Bool} {cause : Cause} → IsLinked (port b0) (rank b0) → port b0 p.obj.0 p.slot ≡ Linked q → Tells n0 n3 (event.Closed p cause ∷ event.Closed q cause ∷ event.Entered q Close ∷ []) → ((st : List OnStack) → IsIdle st → GraphRunOf (run_state b0 st) (event.Closed p cause ∷ event.Closed q cause ∷ event.Entered q Close ∷ []) (run_state b3 (Running q Close ∷ MustUnplug p q ∷ st))) → was ≡ busy b0 q.obj.0 → HalfCloses b0 b3 p q → Calm b3 b4 n3 n4 → EndsEntry b4 new n4 after q.obj.0 was (λ st. Running q Close ∷ MustUnplug p q ∷ st) (port_but q Closed (port_but p Closed (port b4))) → Calm b0 new n0 after
 Calm-link {b0} {b3} {b4} {new} {n0} {n3} {n4} {after} {p} {q} {was} {cause} l h told run prior half k e = record {
   added = begun ++ (k.added ++ e.added);
   told = Tells-append n0 n3 after begun (k.added ++ e.added) told (Tells-append n3 n4 after k.added e.added k.told e.told);
   run = λ st idle a.
-      Run-append (state_of b0 st) (state_of b3 (inside st)) (state_of new st) begun (k.added ++ e.added) (run st idle)
-      (Run-append (state_of b3 (inside st)) (state_of b4 (inside st)) (state_of new st) k.added e.added
+      Run-append (run_state b0 st) (run_state b3 (inside st)) (run_state new st) begun (k.added ++ e.added) (run st idle)
+      (Run-append (run_state b3 (inside st)) (run_state b4 (inside st)) (run_state new st) k.added e.added
       (k.run (inside st) tt (λ x. half.busy_set x ∙ agrees-enter (busy b0) st q.obj.0 a x))
       (e.run st (agrees-leave (busy b0) (busy b4) st q.obj.0 was prior flags a)));
   shrinks = record {
@@ -109,7 +109,7 @@ Calm-link {b0} {b3} {b4} {new} {n0} {n3} {n4} {after} {p} {q} {was} {cause} l h 
     begun : List GraphEvent
     begun = event.Closed p cause ∷ event.Closed q cause ∷ event.Entered q Close ∷ []
 
-    inside : List Frame → List Frame
+    inside : List OnStack → List OnStack
     inside st = Running q Close ∷ MustUnplug p q ∷ st
 
     back : port b0 q.obj.0 q.slot ≡ Linked p
@@ -137,21 +137,21 @@ Calm-link {b0} {b3} {b4} {new} {n0} {n3} {n4} {after} {p} {q} {was} {cause} l h 
     ]
 
 -- which begins with the close
-unfoldable pub Starts-link : {b0 b3 b4 new : Ledger} {n0 n3 n4 after : Option (List Notice)} {p q : Port} {was : Bool} {cause : Cause} → IsLinked (port b0) (rank b0) → port b0 p.obj.0 p.slot ≡ Linked q → Tells n0 n3 (event.Closed p cause ∷ event.Closed q cause ∷ event.Entered q Close ∷ []) → ((st : List Frame) → IsIdle st → Run (state_of b0 st) (event.Closed p cause ∷ event.Closed q cause ∷ event.Entered q Close ∷ []) (state_of b3 (Running q Close ∷ MustUnplug p q ∷ st))) → was ≡ busy b0 q.obj.0 → HalfCloses b0 b3 p q → Calm b3 b4 n3 n4 → Ends b4 new n4 after q.obj.0 was (λ st. Running q Close ∷ MustUnplug p q ∷ st) (port_but q Closed (port_but p Closed (port b4))) → Starts b0 new n0 after (event.Closed p cause)
+unfoldable pub Starts-link : {b0 b3 b4 new : Ledger} {n0 n3 n4 after : Option (List Notice)} {p q : Port} {was : Bool} {cause : Cause} → IsLinked (port b0) (rank b0) → port b0 p.obj.0 p.slot ≡ Linked q → Tells n0 n3 (event.Closed p cause ∷ event.Closed q cause ∷ event.Entered q Close ∷ []) → ((st : List OnStack) → IsIdle st → GraphRunOf (run_state b0 st) (event.Closed p cause ∷ event.Closed q cause ∷ event.Entered q Close ∷ []) (run_state b3 (Running q Close ∷ MustUnplug p q ∷ st))) → was ≡ busy b0 q.obj.0 → HalfCloses b0 b3 p q → Calm b3 b4 n3 n4 → EndsEntry b4 new n4 after q.obj.0 was (λ st. Running q Close ∷ MustUnplug p q ∷ st) (port_but q Closed (port_but p Closed (port b4))) → Starts b0 new n0 after (event.Closed p cause)
 unfolding Calm-link
 Starts-link {q = q} {cause = cause} l h told run prior half k e =
     let whole = Calm-link l h told run prior half k e in
     record { rest = event.Closed q cause ∷ event.Entered q Close ∷ (k.added ++ e.added); told = whole.told; run = whole.run }
 
 -- a whole entry by a message or by time, of calm effects
-unfoldable pub Calm-entry : {b0 b1 b2 new : Ledger} {n0 n1 n2 after : Option (List Notice)} {p : Port} {way : Way} {was : Bool} → SetsBusy b0 b1 p.obj.0 true → Tells n0 n1 (event.Entered p way ∷ []) → ((st : List Frame) → IsIdle st → MayEnter (state_of b0 st) p way → Step (state_of b0 st) (event.Entered p way) (state_of b1 (Running p way ∷ st))) → ((st : List Frame) → MayEnter (state_of b0 st) p way) → was ≡ busy b0 p.obj.0 → Calm b1 b2 n1 n2 → Ends b2 new n2 after p.obj.0 was (λ st. Running p way ∷ st) (port b2) → Calm b0 new n0 after
+unfoldable pub Calm-entry : {b0 b1 b2 new : Ledger} {n0 n1 n2 after : Option (List Notice)} {p : Port} {way : Way} {was : Bool} → SetsBusy b0 b1 p.obj.0 true → Tells n0 n1 (event.Entered p way ∷ []) → ((st : List OnStack) → IsIdle st → MayEnter (run_state b0 st) p way → Step (run_state b0 st) (event.Entered p way) (run_state b1 (Running p way ∷ st))) → ((st : List OnStack) → MayEnter (run_state b0 st) p way) → was ≡ busy b0 p.obj.0 → Calm b1 b2 n1 n2 → EndsEntry b2 new n2 after p.obj.0 was (λ st. Running p way ∷ st) (port b2) → Calm b0 new n0 after
 Calm-entry {b0} {b1} {b2} {new} {n0} {n1} {n2} {after} {p} {way} {was} c told step may prior k e = record {
   added = event.Entered p way ∷ (k.added ++ e.added);
   told = Tells-append n0 n1 after (event.Entered p way ∷ []) (k.added ++ e.added) told (Tells-append n1 n2 after k.added e.added k.told e.told);
   run = λ st idle a. (
-    state_of b1 (Running p way ∷ st),
+    run_state b1 (Running p way ∷ st),
     step st idle (may st),
-    Run-append (state_of b1 (Running p way ∷ st)) (state_of b2 (Running p way ∷ st)) (state_of new st) k.added e.added
+    Run-append (run_state b1 (Running p way ∷ st)) (run_state b2 (Running p way ∷ st)) (run_state new st) k.added e.added
         (k.run (Running p way ∷ st) tt (λ x. c.busy_set x ∙ agrees-enter (busy b0) st p.obj.0 a x))
         (e.run st (agrees-leave (busy b0) (busy b2) st p.obj.0 was prior flags a)),
   );
@@ -171,7 +171,7 @@ Calm-entry {b0} {b1} {b2} {new} {n0} {n1} {n2} {after} {p} {way} {was} c told st
     flags x n = k.shrinks.same_busy x ∙ c.busy_set x ∙ but_other p.obj.0 true (busy b0) x n
 
 -- which begins with it
-pub Starts-entry : {b0 b1 b2 new : Ledger} {n0 n1 n2 after : Option (List Notice)} {p : Port} {way : Way} {was : Bool} → SetsBusy b0 b1 p.obj.0 true → Tells n0 n1 (event.Entered p way ∷ []) → ((st : List Frame) → IsIdle st → MayEnter (state_of b0 st) p way → Step (state_of b0 st) (event.Entered p way) (state_of b1 (Running p way ∷ st))) → ((st : List Frame) → MayEnter (state_of b0 st) p way) → was ≡ busy b0 p.obj.0 → Calm b1 b2 n1 n2 → Ends b2 new n2 after p.obj.0 was (λ st. Running p way ∷ st) (port b2) → Starts b0 new n0 after (event.Entered p way)
+pub Starts-entry : {b0 b1 b2 new : Ledger} {n0 n1 n2 after : Option (List Notice)} {p : Port} {way : Way} {was : Bool} → SetsBusy b0 b1 p.obj.0 true → Tells n0 n1 (event.Entered p way ∷ []) → ((st : List OnStack) → IsIdle st → MayEnter (run_state b0 st) p way → Step (run_state b0 st) (event.Entered p way) (run_state b1 (Running p way ∷ st))) → ((st : List OnStack) → MayEnter (run_state b0 st) p way) → was ≡ busy b0 p.obj.0 → Calm b1 b2 n1 n2 → EndsEntry b2 new n2 after p.obj.0 was (λ st. Running p way ∷ st) (port b2) → Starts b0 new n0 after (event.Entered p way)
 unfolding Calm-entry
 Starts-entry c told step may prior k e =
     let whole = Calm-entry c told step may prior k e in
@@ -189,11 +189,11 @@ unfoldable pub Calm-dropped : (l : Ledger) (before after : Option (List Notice))
 Calm-dropped l before after p v h shut told = record {
   added = event.Dropped p ∷ [];
   told = told;
-  run = λ st i a. (state_of l st, (i, may st v h shut, refl), refl);
+  run = λ st i a. (run_state l st, (i, may st v h shut, refl), refl);
   shrinks = Shrinks-refl l;
 }
   where
-    may : (st : List Frame) (v : PortState) → port l p.obj.0 p.slot ≡ v → IsShut v → MayDrop (state_of l st) p.obj.0 (port l p.obj.0 p.slot)
+    may : (st : List OnStack) (v : PortState) → port l p.obj.0 p.slot ≡ v → IsShut v → MayDrop (run_state l st) p.obj.0 (port l p.obj.0 p.slot)
     may st Open h s = absurd s
     may st (Linked q) h s = absurd s
     may st (Leaving q) h s = rw h tt
@@ -204,11 +204,11 @@ unfoldable pub Calm-sent : (l : Ledger) (before after : Option (List Notice)) �
 Calm-sent l before after told = record { added = []; told = told; run = λ st i a. refl; shrinks = Shrinks-refl l }
 
 -- a close of a port without a link
-unfoldable pub Calm-alone : {old new : Ledger} {before after : Option (List Notice)} {p : Port} {cause : Cause} → port old p.obj.0 p.slot ≡ Open → SetsPort old new p Closed → Tells before after (event.Closed p cause ∷ []) → ((st : List Frame) → IsIdle st → Step (state_of old st) (event.Closed p cause) (state_of new st)) → Calm old new before after
+unfoldable pub Calm-alone : {old new : Ledger} {before after : Option (List Notice)} {p : Port} {cause : Cause} → port old p.obj.0 p.slot ≡ Open → SetsPort old new p Closed → Tells before after (event.Closed p cause ∷ []) → ((st : List OnStack) → IsIdle st → Step (run_state old st) (event.Closed p cause) (run_state new st)) → Calm old new before after
 Calm-alone {old} {new} {before} {after} {p} {cause} h a told step = record {
   added = event.Closed p cause ∷ [];
   told = told;
-  run = λ st i g. (state_of new st, step st i, refl);
+  run = λ st i g. (run_state new st, step st i, refl);
   shrinks = record {
     same_made = a.objects.same_made;
     same_room = a.objects.same_room;
@@ -224,7 +224,7 @@ Calm-alone {old} {new} {before} {after} {p} {cause} h a told step = record {
   };
 }
 
-pub IsWhole-alone : {old new : Ledger} {p : Port} → port old p.obj.0 p.slot ≡ Open → SetsPort old new p Closed → IsWhole old → IsWhole new
+pub IsWhole-alone : {old new : Ledger} {p : Port} → port old p.obj.0 p.slot ≡ Open → SetsPort old new p Closed → IsBookWhole old → IsBookWhole new
 IsWhole-alone {old} {new} {p} h a w = record {
   links = IsLinked-loose p Closed (port old) (port new) (rank old) (rank new) tt (subst IsLoose (sym h) tt) a.port_set a.objects.same_rank w.links;
   counted = λ y v. unused-same old new y (a.same_holds y) (a.same_busy y) (λ k. ap link_count (a.port_set y k) ∙ but-keeps link_count p Closed (port old) (sym (ap link_count h)) y k) ∙ w.counted y (sym (a.objects.same_live y) ∙ v);
@@ -232,5 +232,5 @@ IsWhole-alone {old} {new} {p} h a w = record {
 }
 
 -- one event
-unfoldable pub Starts-one : (old new : Ledger) (before after : Option (List Notice)) (e : GraphEvent) → Tells before after (e ∷ []) → ((st : List Frame) → IsIdle st → Step (state_of old st) e (state_of new st)) → Starts old new before after e
-Starts-one old new before after e told step = record { rest = []; told = told; run = λ st i a. (state_of new st, step st i, refl) }
+unfoldable pub Starts-one : (old new : Ledger) (before after : Option (List Notice)) (e : GraphEvent) → Tells before after (e ∷ []) → ((st : List OnStack) → IsIdle st → Step (run_state old st) e (run_state new st)) → Starts old new before after e
+Starts-one old new before after e told step = record { rest = []; told = told; run = λ st i a. (run_state new st, step st i, refl) }

@@ -7,12 +7,12 @@ use Rattle.nb_ledger.specs.declared.port.Port.{Port}
 use Rattle.nb_ledger.specs.declared.port.PortState.{PortState}
 use Rattle.nb_ledger.specs.declared.port.PortState.TheVariants.{Open, Linked, Leaving, Closed}
 use Rattle.nb_ledger.specs.GraphRun.{port_but, ports_but, but_at, link_count, new_ports}
-use Rattle.nb_ledger.specs.Ledger.{Ledger, live, holds, busy, rank, port, ties, unused, leaves}
+use Rattle.nb_ledger.specs.Ledger.{Ledger, object_lives, holds, busy, rank, port, ties, unused, leaves}
 use Rattle.nb_ledger.specs.Changes.{SetsHolds, SetsPort, Adds, Removes}
 use Rattle.nb_ledger.specs.Settled.{Settles}
 use Rattle.nb_ledger.proofs.CountLemmas.{used-ties, used-holds}
 use Rattle.nb_ledger.proofs.PortLemmas.{live_by, IsUsed}
-use Rattle.nb_graph.specs.Whole.{IsLinked, IsCounted, CountedBut, IsWhole, IsQuiet}
+use Rattle.nb_graph.specs.Whole.{IsLinked, IsCounted, CountedBut, IsBookWhole, IsQuiet}
 use Rattle.nb_graph.proofs.LinkLemmas.{IsLoose, IsLinked-same, IsLinked-ports, IsLinked-plug, port_but-same, port_but-other, cases_port}
 
 -- elsewhere
@@ -51,9 +51,9 @@ unfolding unused
 unused-same old new x h b p = rw (h, b, ties-same old new x x p) refl
 
 -- all are, where x is
-pub counted-all : (x : ℕ) (l : Ledger) → CountedBut x l → (live l x ≡ true → unused l x ≡ false) → IsCounted l
+pub counted-all : (x : ℕ) (l : Ledger) → CountedBut x l → (object_lives l x ≡ true → unused l x ≡ false) → IsCounted l
 counted-all x l c h y v = elim (cases_eq y x) [
-  | inl e ↦ subst (λ z. unused l z ≡ false) (sym e) (h (subst (λ z. live l z ≡ true) e v))
+  | inl e ↦ subst (λ z. unused l z ≡ false) (sym e) (h (subst (λ z. object_lives l z ≡ true) e v))
   | inr n ↦ c y n v
 ]
 
@@ -70,7 +70,7 @@ pub IsQuiet-holds : {old new : Ledger} {x n : ℕ} → SetsHolds old new x n →
 IsQuiet-holds {old} {new} {x} {n} s q = record { idle = λ y. s.same_busy y ∙ q.idle y; settled = λ y k. ap leaves (s.same_port y k) ∙ q.settled y k }
 
 -- more than 0 holds
-pub IsWhole-hold : {old new : Ledger} {x n : ℕ} → SetsHolds old new x n → 0 < n → IsLinked (port old) (rank old) → CountedBut x old → ((y : ℕ) → rank old y < 256) → IsWhole new
+pub IsWhole-hold : {old new : Ledger} {x n : ℕ} → SetsHolds old new x n → 0 < n → IsLinked (port old) (rank old) → CountedBut x old → ((y : ℕ) → rank old y < 256) → IsBookWhole new
 IsWhole-hold {old} {new} {x} {n} s h l c w = record {
   small = λ y. rw (s.objects.same_rank y) (w y);
   links = IsLinked-holds s l;
@@ -88,7 +88,7 @@ IsLinked-add {old} {new} {x} {r} s e l =
 
 pub CountedBut-add : {old new : Ledger} {x r : ℕ} → Adds old new x r → IsCounted old → CountedBut x new
 CountedBut-add {old} {new} {x} {r} s c y d v =
-    unused-same old new y (s.holds_set y ∙ but_other x 0 (holds old) y d) (s.busy_set y ∙ but_other x false (busy old) y d) (λ k. ap link_count (s.port_set y k ∙ ports_other x new_ports (port old) y k d)) ∙ c y (sym (s.live_set y ∙ but_other x true (live old) y d) ∙ v)
+    unused-same old new y (s.holds_set y ∙ but_other x 0 (holds old) y d) (s.busy_set y ∙ but_other x false (busy old) y d) (λ k. ap link_count (s.port_set y k ∙ ports_other x new_ports (port old) y k d)) ∙ c y (sym (s.live_set y ∙ but_other x true (object_lives old) y d) ∙ v)
 
 new-settled : (k : ℕ) → leaves (new_ports k) ≡ None
 new-settled k = elim (cases_Bool (ltb k 4)) [ inl e ↦ rw e refl | inr e ↦ rw e refl ]
@@ -117,20 +117,20 @@ pub IsLinked-gone : {old new : Ledger} {x : ℕ} → unused old x ≡ true → R
 IsLinked-gone {old} {new} {x} u s l = IsLinked-ports x (λ _. Closed) (port old) (port new) (rank old) (rank new) (λ _. tt) (loose-ties old x (unused-ties old x u)) s.port_set (λ y n. s.rank_set y ∙ but_other x 0 (rank old) y n) l
 
 -- an object without use is gone
-pub IsWhole-remove : {old new : Ledger} {x : ℕ} → unused old x ≡ true → Removes old new x → IsLinked (port old) (rank old) → CountedBut x old → ((y : ℕ) → rank old y < 256) → IsWhole new
+pub IsWhole-remove : {old new : Ledger} {x : ℕ} → unused old x ≡ true → Removes old new x → IsLinked (port old) (rank old) → CountedBut x old → ((y : ℕ) → rank old y < 256) → IsBookWhole new
 IsWhole-remove {old} {new} {x} u s l c w = record {
   small = λ y. elim (cases_eq y x) [ inl e ↦ rw (s.rank_set y ∙ but_same x 0 (rank old) y e) (omega arith) | inr n ↦ rw (s.rank_set y ∙ but_other x 0 (rank old) y n) (w y) ];
   links = IsLinked-ports x (λ _. Closed) (port old) (port new) (rank old) (rank new) (λ _. tt) (loose-ties old x (unused-ties old x u)) s.port_set (λ y n. s.rank_set y ∙ but_other x 0 (rank old) y n) l;
   counted = counted-all x new
-      (λ y d v. unused-same old new y (s.holds_set y ∙ but_other x 0 (holds old) y d) (s.busy_set y ∙ but_other x false (busy old) y d) (λ k. ap link_count (s.port_set y k ∙ ports_other x (λ _. Closed) (port old) y k d)) ∙ c y d (sym (s.live_set y ∙ but_other x false (live old) y d) ∙ v))
-      (λ v. absurd (false≢true (sym (s.live_set x ∙ but_same x false (live old) x refl) ∙ v)));
+      (λ y d v. unused-same old new y (s.holds_set y ∙ but_other x 0 (holds old) y d) (s.busy_set y ∙ but_other x false (busy old) y d) (λ k. ap link_count (s.port_set y k ∙ ports_other x (λ _. Closed) (port old) y k d)) ∙ c y d (sym (s.live_set y ∙ but_other x false (object_lives old) y d) ∙ v))
+      (λ v. absurd (false≢true (sym (s.live_set x ∙ but_same x false (object_lives old) x refl) ∙ v)));
 }
 
 -- after what was owed for x is done, all are counted
-pub IsWhole-settle : {old new : Ledger} {before after : Option (List Notice)} {id : ObjId} → Settles old new before after id → IsLinked (port old) (rank old) → CountedBut id.0 old → ((y : ℕ) → rank old y < 256) → IsWhole new
+pub IsWhole-settle : {old new : Ledger} {before after : Option (List Notice)} {id : ObjId} → Settles old new before after id → IsLinked (port old) (rank old) → CountedBut id.0 old → ((y : ℕ) → rank old y < 256) → IsBookWhole new
 IsWhole-settle {old} {new} {before} {after} {id} s l c w =
     elim s.how [
-      | inl h ↦ subst IsWhole (sym h.0) (record { links = l; counted = counted-all id.0 old c (λ _. h.1); small = w })
+      | inl h ↦ subst IsBookWhole (sym h.0) (record { links = l; counted = counted-all id.0 old c (λ _. h.1); small = w })
       | inr h ↦ IsWhole-remove h.0 h.1 l c w
     ]
 
@@ -161,7 +161,7 @@ used-port l x k v h n u =
     used-ties l x (omega arith)
 
 -- two open ports are joined
-pub IsWhole-plug : {old mid new : Ledger} {p q : Port} → SetsPort old mid p (Linked q) → SetsPort mid new q (Linked p) → port old p.obj.0 p.slot ≡ Open → port old q.obj.0 q.slot ≡ Open → 1 ≤ p.slot → q.slot ≡ 0 → rank old q.obj.0 < rank old p.obj.0 → IsLinked (port old) (rank old) → CountedBut q.obj.0 old → ((y : ℕ) → rank old y < 256) → IsWhole new
+pub IsWhole-plug : {old mid new : Ledger} {p q : Port} → SetsPort old mid p (Linked q) → SetsPort mid new q (Linked p) → port old p.obj.0 p.slot ≡ Open → port old q.obj.0 q.slot ≡ Open → 1 ≤ p.slot → q.slot ≡ 0 → rank old q.obj.0 < rank old p.obj.0 → IsLinked (port old) (rank old) → CountedBut q.obj.0 old → ((y : ℕ) → rank old y < 256) → IsBookWhole new
 IsWhole-plug {old} {mid} {new} {p} {q} a b op oq ps qs less l c w = record {
   small = λ y. rw (b.objects.same_rank y ∙ a.objects.same_rank y) (w y);
   links = IsLinked-plug p q (port old) (port new) (rank old) (rank new) op oq ps qs less (two_ports a b) (λ x. b.objects.same_rank x ∙ a.objects.same_rank x) l;

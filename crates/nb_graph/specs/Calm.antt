@@ -6,10 +6,10 @@ use Rattle.nb_ledger.specs.declared.port.Port.{Port}
 use Rattle.nb_ledger.specs.declared.port.PortState.{PortState}
 use Rattle.nb_ledger.specs.declared.port.PortState.TheVariants.{Leaving}
 use Rattle.nb_ledger.specs.declared.event.GraphEvent.{GraphEvent}
-use Rattle.nb_ledger.specs.GraphRun.{Frame, IsIdle, Run, owed, entries, but_at, port_but}
+use Rattle.nb_ledger.specs.GraphRun.{OnStack, IsIdle, GraphRunOf, owed, entries, but_at, port_but}
 use Rattle.nb_ledger.specs.Flat.{Tells}
-use Rattle.nb_ledger.specs.Ledger.{Ledger, live, rank, port, busy, place, leaves, opens, open_count, state_of, Agrees}
-use Rattle.nb_graph.specs.Whole.{IsWhole, IsManned}
+use Rattle.nb_ledger.specs.Ledger.{Ledger, object_lives, rank, port, busy, place, leaves, opens, open_count, run_state, Agrees}
+use Rattle.nb_graph.specs.Whole.{IsBookWhole, IsManned}
 
 -- no object is made, those that stay keep their rank, ports only close, and no entry and no half-closed link ends or begins
 pub record Shrinks (old new : Ledger) : Type 0 where
@@ -18,7 +18,7 @@ pub record Shrinks (old new : Ledger) : Type 0 where
   pub fewer : length new.objects ≤ length old.objects
   pub same_busy : (x : ℕ) → busy new x ≡ busy old x
   pub same_leaves : (x k : ℕ) → leaves (port new x k) ≡ leaves (port old x k)
-  pub kept : (x : ℕ) → live new x ≡ true → (live old x ≡ true) × (rank new x ≡ rank old x)
+  pub kept : (x : ℕ) → object_lives new x ≡ true → (object_lives old x ≡ true) × (rank new x ≡ rank old x)
   pub opens_fall : opens new ≤ opens old
   pub closes : (x k : ℕ) → open_count (port new x k) ≤ open_count (port old x k)
 
@@ -26,18 +26,18 @@ pub record Shrinks (old new : Ledger) : Type 0 where
 pub record Calm (old new : Ledger) (before after : Option (List Notice)) : Type 0 where
   pub added : List GraphEvent
   pub told : Tells before after added
-  pub run : (st : List Frame) → IsIdle st → Agrees old st → Run (state_of old st) added (state_of new st)
+  pub run : (st : List OnStack) → IsIdle st → Agrees old st → GraphRunOf (run_state old st) added (run_state new st)
   pub shrinks : Shrinks old new
 
 -- the run begins with this event
 pub record Starts (old new : Ledger) (before after : Option (List Notice)) (e : GraphEvent) : Type 0 where
   pub rest : List GraphEvent
   pub told : Tells before after (e ∷ rest)
-  pub run : (st : List Frame) → IsIdle st → Agrees old st → Run (state_of old st) (e ∷ rest) (state_of new st)
+  pub run : (st : List OnStack) → IsIdle st → Agrees old st → GraphRunOf (run_state old st) (e ∷ rest) (run_state new st)
 
 -- a book and nodes between events, in mid-call too
 pub record IsSteady {N : Type 0} (rank_of : N → ℕ) (l : Ledger) (nodes : List N) (capacity : ℕ) : Type 0 where
-  pub whole : IsWhole l
+  pub whole : IsBookWhole l
   pub manned : IsManned rank_of l nodes capacity
 
 -- how far a calm call has to go: by open ports, then by rank, then by the place in the code
@@ -49,7 +49,7 @@ pub record HalfCloses (old new : Ledger) (at peer : Port) : Type 0 where
   pub same_made : new.made ≡ old.made
   pub same_room : new.room ≡ old.room
   pub same_length : length new.objects ≡ length old.objects
-  pub same_live : (x : ℕ) → live new x ≡ live old x
+  pub same_live : (x : ℕ) → object_lives new x ≡ object_lives old x
   pub same_rank : (x : ℕ) → rank new x ≡ rank old x
   pub busy_set : (x : ℕ) → busy new x ≡ but_at peer.obj.0 true (busy old) x
   pub ports_set : (x k : ℕ) → port new x k ≡ port_but peer (Leaving at) (port_but at (Leaving peer) (port old)) x k
@@ -57,16 +57,16 @@ pub record HalfCloses (old new : Ledger) (at peer : Port) : Type 0 where
 
 -- An entry ends, of the object x; `was` says whether one of it ran before. The stack was `opened st` with it, and
 -- f has the ports then.
-pub record Ends (old new : Ledger) (before after : Option (List Notice)) (x : ℕ) (was : Bool) (opened : List Frame → List Frame) (f : ℕ → ℕ → PortState) : Type 0 where
+pub record EndsEntry (old new : Ledger) (before after : Option (List Notice)) (x : ℕ) (was : Bool) (opened : List OnStack → List OnStack) (f : ℕ → ℕ → PortState) : Type 0 where
   pub added : List GraphEvent
   pub told : Tells before after added
-  pub run : (st : List Frame) → ((y : ℕ) → but_at x was (busy old) y ≡ nat_lt 0 (entries st y)) → Run (state_of old (opened st)) added (state_of new st)
+  pub run : (st : List OnStack) → ((y : ℕ) → but_at x was (busy old) y ≡ nat_lt 0 (entries st y)) → GraphRunOf (run_state old (opened st)) added (run_state new st)
   pub same_made : new.made ≡ old.made
   pub same_room : new.room ≡ old.room
   pub fewer : length new.objects ≤ length old.objects
   pub busy_is : (y : ℕ) → busy new y ≡ but_at x was (busy old) y
   pub leaves_is : (y k : ℕ) → leaves (port new y k) ≡ leaves (f y k)
-  pub kept : (y : ℕ) → live new y ≡ true → (live old y ≡ true) × (rank new y ≡ rank old y)
+  pub kept : (y : ℕ) → object_lives new y ≡ true → (object_lives old y ≡ true) × (rank new y ≡ rank old y)
   pub opens_fall : opens new ≤ opens old
   pub closes : (y k : ℕ) → open_count (port new y k) ≤ open_count (port old y k)
 
@@ -74,5 +74,5 @@ pub record Ends (old new : Ledger) (before after : Option (List Notice)) (x : �
 pub record SettlesTwo (old new : Ledger) (before after : Option (List Notice)) (x y : ObjId) : Type 0 where
   pub added : List GraphEvent
   pub told : Tells before after added
-  pub run : (st : List Frame) → Agrees old st → Run (owed (min x.0 y.0) (owed (max x.0 y.0) (state_of old st))) added (state_of new st)
+  pub run : (st : List OnStack) → Agrees old st → GraphRunOf (owed (min x.0 y.0) (owed (max x.0 y.0) (run_state old st))) added (run_state new st)
   pub shrinks : Shrinks old new

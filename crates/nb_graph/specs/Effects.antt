@@ -1,14 +1,11 @@
 -- What an entry may ask for.
-use Rattle.std.specs.Prelude.{◌≡◌, ℕ, true, false, ◌<◌, ◌≤◌, List, [], ◌∷◌, ◌⊎◌, All, Option, None, IfSome}
+use Rattle.std.specs.Prelude.{◌≡◌, ℕ, Bool, true, false, ◌<◌, ◌≤◌, List, [], ◌∷◌, ◌⊎◌, All, None, IfSome}
 use Rattle.nb_terms.specs.declared.cause.Cause.{Cause}
 use Rattle.nb_graph.specs.declared.effects.Emit.{Emit}
 use Rattle.nb_graph.specs.declared.effects.Make.{Make}
 use Rattle.nb_graph.specs.declared.effects.Few.{Few}
 use Rattle.nb_graph.specs.declared.effects.Fx.{Fx}
-use Rattle.nb_graph.specs.declared.asking.Asked.{Asked}
-use Rattle.nb_graph.specs.Trace.{Nature, Entry, Said, lent, left}
-use Rattle.nb_graph.specs.Deeds.{Stage, runs_of}
-use Rattle.nb_graph.specs.declared.asking.Asked.TheVariants.{Done, NoMemory}
+use Rattle.nb_graph.specs.Trace.{NodeEntry}
 
 -- no effect
 abbrev pub IsNothing : {N L : Type 0} → Fx N L → Type 0
@@ -20,16 +17,16 @@ abbrev pub IsFew : {L : Type 0} → Few (Emit L) → Type 0
 IsFew f = f.first ≡ None → f.second ≡ None
 
 -- without a load its bytes are some of the `len` bytes of the message being delivered
-abbrev pub IsCut : {L : Type 0} → ℕ → Emit L → Type 0
-IsCut len e = e.load ≡ None → (e.from ≤ e.to) × (e.to ≤ len)
+abbrev pub IsPartOf : {L : Type 0} → ℕ → Emit L → Type 0
+IsPartOf len e = e.load ≡ None → (e.from ≤ e.to) × (e.to ≤ len)
 
 -- a down leaves by a slot 1 to 3
 abbrev pub IsDown : {L : Type 0} → ℕ → Emit L → Type 0
-IsDown len e = (1 ≤ e.slot) × (e.slot ≤ 3) × IsCut len e
+IsDown len e = (1 ≤ e.slot) × (e.slot ≤ 3) × IsPartOf len e
 
 -- an up leaves by slot 0
 abbrev pub IsUp : {L : Type 0} → ℕ → Emit L → Type 0
-IsUp len e = (e.slot ≡ 0) × IsCut len e
+IsUp len e = (e.slot ≡ 0) × IsPartOf len e
 
 -- downs all leave by one of the slots 1 to 3
 abbrev pub AreDowns : {L : Type 0} → ℕ → Few (Emit L) → Type 0
@@ -45,11 +42,11 @@ abbrev pub AreCloses : List (ℕ × Cause) → Type 0
 AreCloses xs = All (λ c. c.0 ≤ 3) xs
 
 -- an object made has a lower rank, is plugged to a slot 1 to 3, and its node stands for the empty trace
-abbrev pub IsMake : {N L : Type 0} → (N → ℕ) → (N → List (Entry N L) → Type 0) → ℕ → Make N → Type 0
+abbrev pub IsMake : {N L : Type 0} → (N → ℕ) → (N → List (NodeEntry N L) → Type 0) → ℕ → Make N → Type 0
 IsMake rank_of stands rank m = (rank_of m.node < rank) × (1 ≤ m.slot) × (m.slot ≤ 3) × stands m.node []
 
 -- what an entry from below or by time may ask for
-pub record MayAsk {N L : Type 0} (rank_of : N → ℕ) (stands : N → List (Entry N L) → Type 0) (rank len : ℕ) (fx : Fx N L) : Type 0 where
+pub record MayAsk {N L : Type 0} (rank_of : N → ℕ) (stands : N → List (NodeEntry N L) → Type 0) (rank len : ℕ) (fx : Fx N L) : Type 0 where
   pub make : IfSome fx.makes (IsMake rank_of stands rank)
   pub downs : AreDowns len fx.downs
   pub ups : AreUps len fx.ups
@@ -73,31 +70,16 @@ abbrev pub TakesSome : {N L : Type 0} → ℕ → ℕ → Fx N L → Type 0
 TakesSome slot len fx = (0 < len → 0 < fx.took) ⊎ ClosesSlot slot fx.closes.items
 
 -- what an entry from above asks for, where it didn't run out of memory
-abbrev pub MayAskDown : {N L : Type 0} → ℕ → Asked N L → Type 0
-MayAskDown len (Done fx) = MayAskBelow len fx
-MayAskDown len (NoMemory fx) = Unit {0}
+abbrev pub MayAskDown : {N L : Type 0} → ℕ → Bool → Fx N L → Type 0
+MayAskDown len true fx = MayAskBelow len fx
+MayAskDown len false fx = Unit {0}
 
 -- what an entry from below asks for, where it didn't run out of memory
-abbrev pub MayAskUp : {N L : Type 0} → (N → ℕ) → (N → List (Entry N L) → Type 0) → ℕ → ℕ → ℕ → Asked N L → Type 0
-MayAskUp rank_of stands rank slot len (Done fx) = MayAsk rank_of stands rank len fx × (fx.took ≤ len) × TakesSome slot len fx
-MayAskUp rank_of stands rank slot len (NoMemory fx) = Unit {0}
+abbrev pub MayAskUp : {N L : Type 0} → (N → ℕ) → (N → List (NodeEntry N L) → Type 0) → ℕ → ℕ → ℕ → Bool → Fx N L → Type 0
+MayAskUp rank_of stands rank slot len true fx = MayAsk rank_of stands rank len fx × (fx.took ≤ len) × TakesSome slot len fx
+MayAskUp rank_of stands rank slot len false fx = Unit {0}
 
 -- and one by time
-abbrev pub MayAskTime : {N L : Type 0} → (N → ℕ) → (N → List (Entry N L) → Type 0) → ℕ → Asked N L → Type 0
-MayAskTime rank_of stands rank (Done fx) = MayAsk rank_of stands rank 0 fx
-MayAskTime rank_of stands rank (NoMemory fx) = Unit {0}
-
--- the loads that an entry lent, whether it was done or not
-abbrev pub asked_loads : {N L : Type 0} → Asked N L → List L
-asked_loads (Done fx) = lent fx
-asked_loads (NoMemory fx) = lent fx
-
--- what is to run of it
-abbrev pub asked_runs : {N L : Type 0} → Nature N L → ℕ → Said → Asked N L → List (Stage L)
-asked_runs known x m (Done fx) = runs_of known x m true fx
-asked_runs known x m (NoMemory fx) = runs_of known x m false fx
-
--- what an entry from below leaves of its message
-abbrev pub asked_rest : {N L : Type 0} → Said → Asked N L → Option Said
-asked_rest m (Done fx) = left fx.took m
-asked_rest m (NoMemory fx) = None
+abbrev pub MayAskTime : {N L : Type 0} → (N → ℕ) → (N → List (NodeEntry N L) → Type 0) → ℕ → Bool → Fx N L → Type 0
+MayAskTime rank_of stands rank true fx = MayAsk rank_of stands rank 0 fx
+MayAskTime rank_of stands rank false fx = Unit {0}

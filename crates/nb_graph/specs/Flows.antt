@@ -1,12 +1,11 @@
 -- How bytes that were sent and not taken yet are brought to the other end of their link, call by call.
-use Rattle.std.specs.Prelude.{◌≡◌, ℕ, ◌≤◌, ◌⊎◌, ◌==◌, true, false, List, [], ◌++◌, take, drop, Option, Some, None, if◌then◌else◌}
+use Rattle.std.specs.Prelude.{◌≡◌, ℕ, ◌≤◌, ◌⊎◌, ◌==◌, Bool, true, false, List, [], ◌++◌, take, drop, Option, Some, None, if◌then◌else◌}
 use Rattle.nb_ledger.specs.declared.port.Port.{Port}
 use Rattle.nb_ledger.specs.declared.port.PortState.{PortState}
 use Rattle.nb_ledger.specs.declared.port.PortState.TheVariants.{Linked}
 use Rattle.nb_ledger.specs.Ledger.{Ledger, port, busy, open_count}
 use Rattle.nb_graph.specs.declared.effects.Emit.{Emit}
-use Rattle.nb_graph.specs.declared.asking.Asked.{Asked}
-use Rattle.nb_graph.specs.declared.asking.Asked.TheVariants.{Done, NoMemory}
+use Rattle.nb_graph.specs.declared.effects.Fx.{Fx}
 use Rattle.nb_graph.specs.Whole.{port_at}
 use Rattle.nb_graph.specs.Accounts.{Account, fx_bytes}
 use Rattle.nb_graph.specs.Trace.{Nature, carries}
@@ -73,31 +72,31 @@ abbrev pub Asking : Ledger → ℕ → (ℕ → List ℕ) → (ℕ → List ℕ)
 Asking l y sent taken p q b w v = (w ++ own y sent p ≡ counted y taken q b ++ v) × (IsShut l q → counted y taken q b ≡ [])
 
 -- nothing by no slot
-abbrev pub nothing : ℕ → List ℕ
-nothing k = []
+abbrev pub by_no_slot : ℕ → List ℕ
+by_no_slot k = []
 
--- what an entry sends, and takes by its slot
-abbrev pub asked_sent : {N L : Type 0} → Nature N L → List ℕ → Asked N L → ℕ → List ℕ
-asked_sent known bytes (Done fx) k = fx_bytes known k bytes fx
-asked_sent known bytes (NoMemory fx) k = []
+-- what an entry sends, and takes by its slot, if it didn't run out of memory
+abbrev pub asked_sent : {N L : Type 0} → Nature N L → List ℕ → Bool → Fx N L → ℕ → List ℕ
+asked_sent known bytes true fx k = fx_bytes known k bytes fx
+asked_sent known bytes false fx k = []
 
-abbrev pub asked_taken : {N L : Type 0} → ℕ → List ℕ → Asked N L → ℕ → List ℕ
-asked_taken slot bytes (Done fx) k = if k == slot then take fx.took bytes else []
-asked_taken slot bytes (NoMemory fx) k = []
+abbrev pub asked_taken : {N L : Type 0} → ℕ → List ℕ → Bool → Fx N L → ℕ → List ℕ
+asked_taken slot bytes true fx k = if k == slot then take fx.took bytes else []
+asked_taken slot bytes false fx k = []
 
-abbrev pub asked_whole : {N L : Type 0} → List ℕ → Asked N L → ℕ → List ℕ
-asked_whole bytes (Done fx) k = if k == 0 then bytes else []
-asked_whole bytes (NoMemory fx) k = []
+abbrev pub asked_whole : List ℕ → Bool → ℕ → List ℕ
+asked_whole bytes true k = if k == 0 then bytes else []
+asked_whole bytes false k = []
 
 -- what an entry from above has left
-abbrev pub asked_left : {N L : Type 0} → List ℕ → Asked N L → List ℕ
-asked_left bytes (Done fx) = []
-asked_left bytes (NoMemory fx) = bytes
+abbrev pub asked_left : List ℕ → Bool → List ℕ
+asked_left bytes true = []
+asked_left bytes false = bytes
 
 -- and one from below
-abbrev pub asked_behind : {N L : Type 0} → List ℕ → Asked N L → List ℕ
-asked_behind bytes (Done fx) = drop fx.took bytes
-asked_behind bytes (NoMemory fx) = bytes
+abbrev pub asked_behind : {N L : Type 0} → List ℕ → Bool → Fx N L → List ℕ
+asked_behind bytes true fx = drop fx.took bytes
+asked_behind bytes false fx = bytes
 
 -- nothing is pending at a port that faces down, nor at one of an object of which no entry runs
 abbrev pub IsQuietAt : Ledger → Port → List ℕ → Type 0
@@ -118,8 +117,8 @@ Delivering l at m sent p q b w v =
     ⊎ ((p.obj.0 ≡ at.obj.0 → ⊥) × IsQuietAt l p w × (((q ≡ at) × (b.entered ≡ true) × (w ≡ m ++ v)) ⊎ (((q ≡ at) × (b.entered ≡ true) → ⊥) × (w ≡ v))))
 
 -- the effects of x go
-abbrev pub Doing : Ledger → ℕ → (ℕ → List ℕ) → Port → Port → Account → List ℕ → List ℕ → Type 0
-Doing l x sent p q b w v = ((p.obj.0 ≡ x) × (w ≡ sent p.slot) × (v ≡ [])) ⊎ ((p.obj.0 ≡ x → ⊥) × IsQuietAt l p w × (w ≡ v))
+abbrev pub DoesEffects : Ledger → ℕ → (ℕ → List ℕ) → Port → Port → Account → List ℕ → List ℕ → Type 0
+DoesEffects l x sent p q b w v = ((p.obj.0 ≡ x) × (w ≡ sent p.slot) × (v ≡ [])) ⊎ ((p.obj.0 ≡ x → ⊥) × IsQuietAt l p w × (w ≡ v))
 
 -- m leaves by the port `at`, upwards
 abbrev pub Leaves : Ledger → Port → List ℕ → Port → Port → Account → List ℕ → List ℕ → Type 0

@@ -12,11 +12,11 @@ use Rattle.nb_ledger.specs.Ledger.{open_count}
 use Rattle.nb_graph.specs.declared.effects.Fx.{Fx}
 use Rattle.nb_graph.specs.Whole.{port_at}
 use Rattle.nb_graph.specs.Trace.{Nature, Said, up, down, closed, time, regain, silence}
-use Rattle.nb_graph.specs.Deeds.{Deed, writes, calls, turns, Stage, Shut, MustHear, Holds, Makes, MustPlug, Closes, MustShut, Ends, Sends, Gives, Offers, Ticks, Returns, Wants, MustUnplug, Settles, LetsAllGo, is_shut, is_full, comes_to, is_reached, is_dead, arrives, goes_out, stays, lets_go, none_held, all_closes, no_place, rest, runs_of, settles_by}
-use Rattle.nb_graph.specs.Scene.{Scene, IsFull, state_at, after_noted}
+use Rattle.nb_graph.specs.Deeds.{Deed, writes, begins, calls, turns, Stage, Shut, MustHear, Holds, Makes, MustMake, MustBegin, MustPlug, Closes, MustShut, Ends, Sends, Gives, Offers, Ticks, Returns, Wants, MustUnplug, Settles, LetsAllGo, is_shut, is_full, comes_to, is_reached, is_dead, arrives, goes_out, stays, lets_go, none_held, all_closes, no_place, rest, runs_of, settles_by}
+use Rattle.nb_graph.specs.Scene.{Scene, IsGraphFull, state_at, after_noted}
 
 -- What a deed uses up, where the graph's book is seen so, and what that becomes.
-pub data Becomes {N L : Type 0} (known : Nature N L) (now : ℕ) (s : Scene) : Stage L → Deed N L → List (Stage L) → Type 0 where
+pub data Becomes {N L : Type 0} (known : Nature N L) (now : ℕ) (s : Scene) : Stage N L → Deed N L → List (Stage N L) → Type 0 where
   -- a port is closed: alone, or with its peer, whose node hears of it with the same cause; or it was closed already
   closes_alone : (p : Port) (c : Cause) → state_at s p ≡ port.Open → Becomes known now s (Closes p c) (writes (Closed p c)) []
   closes_link : (p q : Port) (c : Cause) → state_at s p ≡ port.Linked q → Becomes known now s (Closes p c) (writes (Closed p c)) (MustShut q c ∷ MustUnplug p q ∷ [])
@@ -54,12 +54,13 @@ pub data Becomes {N L : Type 0} (known : Nature N L) (now : ℕ) (s : Scene) : S
   ticks_none : (x : ℕ) → s.live x ≡ false → Becomes known now s (Ticks x) (turns (is_dead x)) []
   -- A make is run where its port is open and without a link and there is a place. Without a place all ports of the
   -- maker are closed; at any other port it is dropped.
-  makes : (p : Port) (kind : ℕ) (x : ObjId) → state_at s p ≡ port.Open → (IsFull s → ⊥) → x.0 ≡ s.made + 1 → Becomes known now s (Makes p kind) (writes (Made x kind)) (MustPlug p (port_at x.0 0) ∷ [])
-  makes_none : (p : Port) (kind : ℕ) → (state_at s p ≡ port.Open → ⊥) → Becomes known now s (Makes p kind) (writes (Dropped p)) []
-  finds_none : (p : Port) (kind : ℕ) → state_at s p ≡ port.Open → IsFull s → Becomes known now s (Makes p kind) (turns (is_full p)) (all_closes p.obj.0 no_place)
+  makes : (p : Port) (n : N) (x : ObjId) → state_at s p ≡ port.Open → (IsGraphFull s → ⊥) → x.0 ≡ s.made + 1 → Becomes known now s (Makes p n) (writes (Made x (known.kind n))) (MustBegin x.0 n ∷ MustPlug p (port_at x.0 0) ∷ [])
+  makes_none : (p : Port) (n : N) → (state_at s p ≡ port.Open → ⊥) → Becomes known now s (Makes p n) (writes (Dropped p)) []
+  finds_none : (p : Port) (n : N) → state_at s p ≡ port.Open → IsGraphFull s → Becomes known now s (Makes p n) (turns (is_full p)) (all_closes p.obj.0 no_place)
+  has_begun : (x : ℕ) (n : N) → Becomes known now s (MustBegin x n) (begins x n) []
   plugs : (p q : Port) → state_at s p ≡ port.Open → state_at s q ≡ port.Open → Becomes known now s (MustPlug p q) (writes (Plugged p q)) []
   -- what is asked for from outside
-  made_outside : (x : ObjId) (kind : ℕ) → (IsFull s → ⊥) → x.0 ≡ s.made + 1 → Becomes known now s (Wants (Made x kind)) (writes (Made x kind)) []
+  made_outside : (x : ObjId) (n : N) → (IsGraphFull s → ⊥) → x.0 ≡ s.made + 1 → Becomes known now s (MustMake x n) (writes (Made x (known.kind n))) (MustBegin x.0 n ∷ [])
   held : (x : ObjId) → s.live x.0 ≡ true → Becomes known now s (Wants (Held x)) (writes (Held x)) []
   let_go : (x : ObjId) → s.live x.0 ≡ true → Becomes known now s (Wants (LetGo x)) (writes (LetGo x)) (Settles x.0 ∷ [])
   -- the end of a graph comes to the next object above the one that it came to last, until none is left
@@ -71,12 +72,13 @@ pub data Becomes {N L : Type 0} (known : Nature N L) (now : ℕ) (s : Scene) : S
 -- after a deed
 abbrev pub after_deed : {N L : Type 0} → Deed N L → Scene → Scene
 after_deed (writes e) s = after_noted e s
+after_deed (begins x n) s = s
 after_deed (calls x i) s = s
 after_deed (turns u) s = s
 
 -- all that stands on the stack is used up, the top first
-abbrev pub Follows : {N L : Type 0} → Nature N L → ℕ → Scene → List (Stage L) → List (Deed N L) → Scene → Type 0
-Follows known now s [] [] t = s ≡ t
-Follows known now s [] (d ∷ ds) t = ⊥
-Follows known now s (g ∷ gs) [] t = ⊥
-Follows {N} {L} known now s (g ∷ gs) (d ∷ ds) t = (more : List (Stage L)) × Becomes known now s g d more × Follows known now (after_deed d s) (more ++ gs) ds t
+abbrev pub UsesStack : {N L : Type 0} → Nature N L → ℕ → Scene → List (Stage N L) → List (Deed N L) → Scene → Type 0
+UsesStack known now s [] [] t = s ≡ t
+UsesStack known now s [] (d ∷ ds) t = ⊥
+UsesStack known now s (g ∷ gs) [] t = ⊥
+UsesStack {N} {L} known now s (g ∷ gs) (d ∷ ds) t = (more : List (Stage N L)) × Becomes known now s g d more × UsesStack known now (after_deed d s) (more ++ gs) ds t

@@ -5,6 +5,7 @@ pub mod Whole
 pub mod Deeds
 pub mod Scene
 pub mod Follows
+pub mod Hosts
 pub mod Accounts
 pub mod Lived
 pub mod Went

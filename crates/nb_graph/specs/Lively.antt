@@ -2,13 +2,13 @@
 use Rattle.nb_ledger.specs.Flat.{Notice}
 use Rattle.std.specs.Prelude.{◌≡◌, ℕ, ◌+◌, ◌-◌, ◌*◌, ◌^◌, List, true, Option}
 use Rattle.nb_ledger.specs.declared.event.GraphEvent.{GraphEvent}
-use Rattle.nb_ledger.specs.GraphRun.{Frame, IsIdle, RunsIn, Run}
+use Rattle.nb_ledger.specs.GraphRun.{OnStack, IsIdle, RunsIn, GraphRunOf}
 use Rattle.nb_ledger.specs.Flat.{Tells}
 use Rattle.nb_graph.specs.Whole.{Ages}
-use Rattle.nb_ledger.specs.Ledger.{Ledger, rank, port, busy, leaves, state_of, Agrees}
+use Rattle.nb_ledger.specs.Ledger.{Ledger, rank, port, busy, leaves, run_state, Agrees}
 
 -- no entry and no half-closed link ends or begins, and an object that runs keeps its rank
-pub record Grows (old new : Ledger) : Type 0 where
+pub record GrowsLively (old new : Ledger) : Type 0 where
   pub same_room : new.room ≡ old.room
   pub same_busy : (x : ℕ) → busy new x ≡ busy old x
   pub same_leaves : (x k : ℕ) → leaves (port new x k) ≡ leaves (port old x k)
@@ -19,15 +19,15 @@ pub record Grows (old new : Ledger) : Type 0 where
 pub record Lively (old new : Ledger) (before after : Option (List Notice)) : Type 0 where
   pub added : List GraphEvent
   pub told : Tells before after added
-  pub run : (st : List Frame) → IsIdle st → Agrees old st → Run (state_of old st) added (state_of new st)
-  pub grows : Grows old new
+  pub run : (st : List OnStack) → IsIdle st → Agrees old st → GraphRunOf (run_state old st) added (run_state new st)
+  pub grows : GrowsLively old new
 
 -- the same, where the innermost entry is one of the object x
 pub record LivelyIn (x : ℕ) (old new : Ledger) (before after : Option (List Notice)) : Type 0 where
   pub added : List GraphEvent
   pub told : Tells before after added
-  pub run : (st : List Frame) → RunsIn st x → Agrees old st → Run (state_of old st) added (state_of new st)
-  pub grows : Grows old new
+  pub run : (st : List OnStack) → RunsIn st x → Agrees old st → GraphRunOf (run_state old st) added (run_state new st)
+  pub grows : GrowsLively old new
 
 -- how far a message that goes up has to go: by rank, then by the bytes left, then by the place in the code
 abbrev pub reach : ℕ → ℕ → ℕ → ℕ

@@ -5,7 +5,7 @@ use Rattle.nb_ledger.specs.declared.port.Port.{Port}
 use Rattle.nb_ledger.specs.declared.port.PortState.TheVariants.{Linked}
 use Rattle.nb_ledger.specs.Ledger.{Ledger, port, busy, open_count}
 use Rattle.nb_graph.specs.Deeds.{Deed}
-use Rattle.nb_graph.specs.Accounts.{Account, Midway, account, Joined}
+use Rattle.nb_graph.specs.Accounts.{Account, Midway, account, JoinedEnds}
 
 -- links stay, and what is closed stays closed
 pub record Mild (old new : Ledger) : Type 0 where
@@ -22,18 +22,18 @@ pub record Calms {N L : Type 0} (known : Nature N L) (old new : Ledger) (flow : 
   pub peers : (p : Port) (a : Account) → (account known p a ds).peer ≡ a.peer
   pub enters : (q : Port) (b : Account) → b.entered ≡ true → (account known q b ds).entered ≡ true
   pub quiet : (q : Port) (b : Account) → 1 ≤ q.slot → b.entered ≡ false → (account known q b ds).entered ≡ false
-  pub joins : (p q : Port) (a b : Account) (w v : List ℕ) → flow p q b w v → Joined old p q a.sent b.taken w → Joined new p q (account known p a ds).sent (account known q b ds).taken v
-  pub midway : (p q : Port) (a b : Account) (w v : List ℕ) → flow p q b w v → Joined old p q a.sent b.taken w → Midway known p q a b ds
+  pub joins : (p q : Port) (a b : Account) (w v : List ℕ) → flow p q b w v → JoinedEnds old p q a.sent b.taken w → JoinedEnds new p q (account known p a ds).sent (account known q b ds).taken v
+  pub midway : (p q : Port) (a b : Account) (w v : List ℕ) → flow p q b w v → JoinedEnds old p q a.sent b.taken w → Midway known p q a b ds
   pub apart : (p q : Port) (a b : Account) → (a.peer ≡ Some q → ⊥) → Midway known p q a b ds
 
 -- A call that may make objects: so for each link that there was; and over each new one what was sent is taken, but
 -- for `due`.
 pub record Livens {N L : Type 0} (known : Nature N L) (old new : Ledger) (ready : Port → Account → Type 0) (due : Port → Account → List ℕ) (flow : Port → Port → Account → List ℕ → List ℕ → Type 0) (ds : List (Deed N L)) : Type 0 where
   pub quiet : (q : Port) (b : Account) → 1 ≤ q.slot → busy old q.obj.0 ≡ true → b.entered ≡ false → (account known q b ds).entered ≡ false
-  pub joins : (p q : Port) (a b : Account) (w v : List ℕ) → flow p q b w v → Joined old p q a.sent b.taken w → Joined new p q (account known p a ds).sent (account known q b ds).taken v × (b.entered ≡ true → (account known q b ds).entered ≡ true)
-  pub midway : (p q : Port) (a b : Account) (w v : List ℕ) → flow p q b w v → Joined old p q a.sent b.taken w → Midway known p q a b ds
+  pub joins : (p q : Port) (a b : Account) (w v : List ℕ) → flow p q b w v → JoinedEnds old p q a.sent b.taken w → JoinedEnds new p q (account known p a ds).sent (account known q b ds).taken v × (b.entered ≡ true → (account known q b ds).entered ≡ true)
+  pub midway : (p q : Port) (a b : Account) (w v : List ℕ) → flow p q b w v → JoinedEnds old p q a.sent b.taken w → Midway known p q a b ds
   pub newly : (p q : Port) (a b : Account) → ready p a → (a.peer ≡ Some q → ⊥) → Midway known p q a b ds
-  pub news : (p q : Port) (a b : Account) → ready p a → (a.peer ≡ Some q → ⊥) → (account known p a ds).peer ≡ Some q → Joined new p q (account known p a ds).sent (account known q b ds).taken (due p a) × (p.slot ≡ 0 → busy old p.obj.0 ≡ false) × (1 ≤ q.slot → busy old q.obj.0 ≡ true → (account known q b ds).entered ≡ false)
+  pub news : (p q : Port) (a b : Account) → ready p a → (a.peer ≡ Some q → ⊥) → (account known p a ds).peer ≡ Some q → JoinedEnds new p q (account known p a ds).sent (account known q b ds).taken (due p a) × (p.slot ≡ 0 → busy old p.obj.0 ≡ false) × (1 ≤ q.slot → busy old q.obj.0 ≡ true → (account known q b ds).entered ≡ false)
 
 -- nothing has to be known of what was asked for
 abbrev pub always : Port → Account → Type 0

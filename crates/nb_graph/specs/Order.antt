@@ -29,7 +29,7 @@ abbrev pub IsFrom : ℕ → ℕ → ℕ → ℕ → Type 0
 IsFrom x k y j = (x < y) ⊎ ((x ≡ y) × (k ≤ j))
 
 -- an open port, and from slot k of x on the first that is open
-pub record IsNext (l : Ledger) (x k : ℕ) (p : Port) : Type 0 where
+pub record IsNextPort (l : Ledger) (x k : ℕ) (p : Port) : Type 0 where
   pub from : IsFrom x k p.obj.0 p.slot
   pub opened : 0 < open_count (port l p.obj.0 p.slot)
   pub first : (y j : ℕ) → IsFrom x k y j → 0 < open_count (port l y j) → IsFrom p.obj.0 p.slot y j
@@ -39,7 +39,7 @@ abbrev pub ClosesInOrder : Cause → ℕ → ℕ → Ledger → Ledger → Optio
 ClosesInOrder cause x k old new before after [] =
     ((y j : ℕ) → IsFrom x k y j → 0 < open_count (port old y j) → ⊥) × (new ≡ old) × (after ≡ before)
 ClosesInOrder cause x k old new before after (p ∷ ps) =
-    (mid : Ledger) × (told : Option (List Notice)) × IsNext old x k p × ClosesOne cause p old mid before told × ClosesInOrder cause p.obj.0 (p.slot + 1) mid new told after ps
+    (mid : Ledger) × (told : Option (List Notice)) × IsNextPort old x k p × ClosesOne cause p old mid before told × ClosesInOrder cause p.obj.0 (p.slot + 1) mid new told after ps
 
 -- holds are let go, one after another, and objects freed by that; nothing else happens
 pub data LetsHoldsGo : List GraphEvent → Type 0 where
@@ -61,7 +61,7 @@ pub record EndsInOrder (cause : Cause) (old new : Ledger) (before after : Option
   pub order : LetsHoldsGo lets
 
 -- in mid-call too, the events are one close of this port
-pub record Shuts (old new : Ledger) (before after : Option (List Notice)) (p : Port) (cause : Cause) : Type 0 where
+pub record ClosesOnce (old new : Ledger) (before after : Option (List Notice)) (p : Port) (cause : Cause) : Type 0 where
   pub starts : Starts old new before after (Closed p cause)
   pub one : OneClose p cause (Closed p cause ∷ starts.rest)
 

@@ -6,7 +6,7 @@ use Rattle.nb_ledger.specs.declared.port.PortState.TheVariants.{Open, Linked, Le
 use Rattle.nb_ledger.specs.declared.event.GraphEvent.{GraphEvent}
 use Rattle.nb_ledger.specs.declared.event.GraphEvent.TheVariants.{Made, Held, LetGo, Plugged, Entered, Left, Dropped, Closed, Unplugged, Freed}
 use Rattle.nb_ledger.specs.GraphRun.{but_at, new_ports, port_but, ports_but}
-use Rattle.nb_ledger.specs.Ledger.{Ledger, live, port}
+use Rattle.nb_ledger.specs.Ledger.{Ledger, object_lives, port}
 
 -- the ports, which objects live and how many, how many may live, and how many were made
 pub record Scene : Type 0 where
@@ -18,15 +18,15 @@ pub record Scene : Type 0 where
 
 -- that of a book
 abbrev pub scene_of : Ledger → Scene
-scene_of l = record { port = port l; live = live l; number = length l.objects; room = l.room; made = l.made }
+scene_of l = record { port = port l; live = object_lives l; number = length l.objects; room = l.room; made = l.made }
 
 -- the state of a port
 abbrev pub state_at : Scene → Port → PortState
 state_at s p = s.port p.obj.0 p.slot
 
 -- nothing can be made: as many objects live as may, or no serial is left
-abbrev pub IsFull : Scene → Type 0
-IsFull s = (s.number ≡ s.room) ⊎ (s.made ≡ 2 ^ 64 - 1)
+abbrev pub IsGraphFull : Scene → Type 0
+IsGraphFull s = (s.number ≡ s.room) ⊎ (s.made ≡ 2 ^ 64 - 1)
 
 -- a port that is closed: its link is still to be unplugged, if it has one
 abbrev pub shut_of : PortState → PortState

@@ -20,12 +20,12 @@ said m = record { tag = m.tag; rec = m.rec; a = m.a; b = m.b; bytes = m.first.no
 
 -- An entry of a trace: a call by a message from below or above, by the closing of a port, or by time, with the
 -- time, whether it was done (false where it ran out of memory), and its effects; or a load that came back.
-pub data Entry (N L : Type 0) : Type 0 where
-  up : (slot : ℕ) (msg : Said) (now : ℕ) (done : Bool) (fx : Fx N L) → Entry N L
-  down : (msg : Said) (now : ℕ) (done : Bool) (fx : Fx N L) → Entry N L
-  closed : (slot : ℕ) (cause : Cause) (now : ℕ) (fx : Fx N L) → Entry N L
-  time : (now : ℕ) (done : Bool) (fx : Fx N L) → Entry N L
-  regain : (load : L) → Entry N L
+pub data NodeEntry (N L : Type 0) : Type 0 where
+  up : (slot : ℕ) (msg : Said) (now : ℕ) (done : Bool) (fx : Fx N L) → NodeEntry N L
+  down : (msg : Said) (now : ℕ) (done : Bool) (fx : Fx N L) → NodeEntry N L
+  closed : (slot : ℕ) (cause : Cause) (now : ℕ) (fx : Fx N L) → NodeEntry N L
+  time : (now : ℕ) (done : Bool) (fx : Fx N L) → NodeEntry N L
+  regain : (load : L) → NodeEntry N L
 
 -- one or none, as a list
 abbrev pub in_list : {L : Type 0} → Option L → List L
@@ -46,7 +46,7 @@ abbrev pub lent : {N L : Type 0} → Fx N L → List L
 lent fx = loads fx.downs ++ loads fx.ups
 
 -- the loads that are lent, before an entry and after it
-abbrev pub Owes1 : {N L : Type 0} → List L → Entry N L → List L → Type 0
+abbrev pub Owes1 : {N L : Type 0} → List L → NodeEntry N L → List L → Type 0
 Owes1 w (up slot msg now done fx) v = v ≡ w ++ lent fx
 Owes1 w (down msg now done fx) v = v ≡ w ++ lent fx
 Owes1 w (closed slot cause now fx) v = v ≡ w ++ lent fx
@@ -54,17 +54,17 @@ Owes1 w (time now done fx) v = v ≡ w ++ lent fx
 Owes1 {N} {L} w (regain load) v = (us : List L) × (vs : List L) × (w ≡ us ++ load ∷ vs) × (v ≡ us ++ vs)
 
 -- and before and after a trace
-abbrev pub Owes : {N L : Type 0} → List L → List (Entry N L) → List L → Type 0
+abbrev pub Owes : {N L : Type 0} → List L → List (NodeEntry N L) → List L → Type 0
 Owes w [] v = w ≡ v
 Owes {N} {L} w (e ∷ t) v = (u : List L) × Owes1 w e u × Owes u t v
 
 -- all loads that the trace lent came back
-abbrev pub IsSettled : {N L : Type 0} → List (Entry N L) → Type 0
+abbrev pub IsSettled : {N L : Type 0} → List (NodeEntry N L) → Type 0
 IsSettled t = Owes [] t []
 
 -- the trace lent this load and hasn't had it back
-abbrev pub Awaits : {N L : Type 0} → List (Entry N L) → L → Type 0
-Awaits {N} {L} t load = (us : List L) × (vs : List L) × Owes [] t (us ++ load ∷ vs)
+abbrev pub LacksLoad : {N L : Type 0} → List (NodeEntry N L) → L → Type 0
+LacksLoad {N} {L} t load = (us : List L) × (vs : List L) × Owes [] t (us ++ load ∷ vs)
 
 -- a message without its first bytes
 abbrev pub said_behind : ℕ → Said → Said
@@ -79,8 +79,8 @@ abbrev pub silence : Said
 silence = record { tag = 0; rec = 0; a = 0; b = 0; bytes = [] }
 
 -- bytes `from` to `to` of some bytes
-abbrev pub part : List ℕ → ℕ → ℕ → List ℕ
-part bytes from to = take (to - from) (drop from bytes)
+abbrev pub bytes_between : List ℕ → ℕ → ℕ → List ℕ
+bytes_between bytes from to = take (to - from) (drop from bytes)
 
 -- what is known of a type of nodes: the number of each one's kind, and the bytes of a load
 pub record Nature (N L : Type 0) : Type 0 where
@@ -93,5 +93,5 @@ nature kind first second = record { kind = kind; bytes = λ load. first load ++ 
 
 -- the bytes of a message that an entry asks for: its load's, or without one some of those of its own message
 abbrev pub carries : {N L : Type 0} → Nature N L → List ℕ → ℕ → ℕ → Option L → List ℕ
-carries known bytes from to None = part bytes from to
+carries known bytes from to None = bytes_between bytes from to
 carries known bytes from to (Some load) = known.bytes load

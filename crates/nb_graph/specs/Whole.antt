@@ -6,9 +6,9 @@ use Rattle.nb_ledger.specs.declared.port.ObjId.{ObjId}
 use Rattle.nb_ledger.specs.declared.port.Port.{Port}
 use Rattle.nb_ledger.specs.declared.port.PortState.{PortState}
 use Rattle.nb_ledger.specs.declared.port.PortState.TheVariants.{Linked}
-use Rattle.nb_ledger.specs.GraphRun.{Run}
+use Rattle.nb_ledger.specs.GraphRun.{GraphRunOf}
 use Rattle.nb_ledger.specs.Flat.{Tells}
-use Rattle.nb_ledger.specs.Ledger.{Ledger, live, rank, ranks, port, place, busy, leaves, unused, state_of}
+use Rattle.nb_ledger.specs.Ledger.{Ledger, object_lives, rank, ranks, port, place, busy, leaves, unused, run_state}
 
 -- a port by its object's serial and its slot
 abbrev pub port_at : ℕ → ℕ → Port
@@ -23,18 +23,18 @@ pub record IsLinked (f : ℕ → ℕ → PortState) (r : ℕ → ℕ) : Type 0 w
 
 -- each live object has a hold, a link or an entry that runs
 abbrev pub IsCounted : Ledger → Type 0
-IsCounted l = (x : ℕ) → live l x ≡ true → unused l x ≡ false
+IsCounted l = (x : ℕ) → object_lives l x ≡ true → unused l x ≡ false
 
 -- each but x is
 abbrev pub CountedBut : ℕ → Ledger → Type 0
-CountedBut x l = (y : ℕ) → (y ≡ x → ⊥) → live l y ≡ true → unused l y ≡ false
+CountedBut x l = (y : ℕ) → (y ≡ x → ⊥) → object_lives l y ≡ true → unused l y ≡ false
 
 -- each but x and z is
 abbrev pub CountedButTwo : ℕ → ℕ → Ledger → Type 0
-CountedButTwo x z l = (y : ℕ) → (y ≡ x → ⊥) → (y ≡ z → ⊥) → live l y ≡ true → unused l y ≡ false
+CountedButTwo x z l = (y : ℕ) → (y ≡ x → ⊥) → (y ≡ z → ⊥) → object_lives l y ≡ true → unused l y ≡ false
 
 -- what is true of a book between events
-pub record IsWhole (l : Ledger) : Type 0 where
+pub record IsBookWhole (l : Ledger) : Type 0 where
   pub links : IsLinked (port l) (rank l)
   pub counted : IsCounted l
   pub small : (x : ℕ) → rank l x < 256
@@ -58,7 +58,7 @@ pub record Objects (N : Type 0) : Type 0 where
 -- these events were given, and are a run from the state before to the state after, with no entry on the stack
 pub record Runs (old new : Ledger) (before after : Option (List Notice)) (added : List GraphEvent) : Type 0 where
   pub told : Tells before after added
-  pub run : Run (state_of old []) added (state_of new [])
+  pub run : GraphRunOf (run_state old []) added (run_state new [])
 
 -- some events were
 abbrev pub IsRun : Ledger → Ledger → Option (List Notice) → Option (List Notice) → Type 0
@@ -70,7 +70,7 @@ Began old new before after e = (rest : List GraphEvent) × Runs old new before a
 
 -- a graph between calls, of at most 64 objects
 pub record IsGraph {N : Type 0} (rank_of : N → ℕ) (l : Ledger) (nodes : List N) (capacity : ℕ) : Type 0 where
-  pub whole : IsWhole l
+  pub whole : IsBookWhole l
   pub quiet : IsQuiet l
   pub manned : IsManned rank_of l nodes capacity
   pub small : l.room ≤ 64
@@ -79,26 +79,30 @@ pub record IsGraph {N : Type 0} (rank_of : N → ℕ) (l : Ledger) (nodes : List
 abbrev pub node_of : {N : Type 0} → Objects N → ObjId → Option N
 node_of g id = slice_get g.nodes (place g.book id.0)
 
+-- the same by its serial
+abbrev pub node_at : {N : Type 0} → Objects N → ℕ → Option N
+node_at g x = slice_get g.nodes (place g.book x)
+
 -- nothing changed, and no event was given
-pub record IsSame {N : Type 0} (old new : Objects N) (before after : Option (List Notice)) : Type 0 where
+pub record StaysSame {N : Type 0} (old new : Objects N) (before after : Option (List Notice)) : Type 0 where
   pub objects : new ≡ old
   pub told : Tells before after []
 
 -- id is the next serial, of a live object with this node and rank
 pub record IsMade {N : Type 0} (old new : Objects N) (node : N) (r : ℕ) (id : ObjId) : Type 0 where
   pub serial : id.0 ≡ old.book.made + 1
-  pub lives : live new.book id.0 ≡ true
+  pub lives : object_lives new.book id.0 ≡ true
   pub at_rank : rank new.book id.0 ≡ r
   pub is_node : node_of new id ≡ Some node
 
 -- Serials only rise, none comes back, and an object that stays keeps its rank.
 pub record Ages (old new : Ledger) : Type 0 where
   pub later : old.made ≤ new.made
-  pub kept : (x : ℕ) → x ≤ old.made → live new x ≡ true → (live old x ≡ true) × (rank new x ≡ rank old x)
+  pub kept : (x : ℕ) → x ≤ old.made → object_lives new x ≡ true → (object_lives old x ≡ true) × (rank new x ≡ rank old x)
 
 -- an object's rank never changes
 abbrev pub KeepsRanks : Ledger → Ledger → Type 0
-KeepsRanks old new = (x : ℕ) → live old x ≡ true → live new x ≡ true → rank new x ≡ rank old x
+KeepsRanks old new = (x : ℕ) → object_lives old x ≡ true → object_lives new x ≡ true → rank new x ≡ rank old x
 
 -- r is what the node of a live object gave, which left the node that it has now
 abbrev pub Harvests : {N L : Type 0} → (N → Option L → N → Type 0) → Objects N → Objects N → ObjId → Option L → Type 0

@@ -3,158 +3,176 @@ ghost use Rattle.std.specs.Prelude.{◌≡◌, ◌+◌, ◌<◌, ◌++◌, ◌�
 ghost use Rattle.std.specs.Prelude.{◌-◌, Option};
 ghost use Rattle.std.specs.Vec.{vec_capacity};
 ghost use Rattle.nb_ledger.specs.GraphRun.{IsOpen};
-ghost use Rattle.nb_ledger.specs.Ledger.{port, live, rank};
+ghost use Rattle.nb_ledger.specs.Ledger.{port, object_lives, rank};
 ghost use Rattle.nb_graph.specs.Whole.{port_at, Harvests, IsManned};
-ghost use Rattle.nb_graph.specs.Flows.{asked_sent, nothing, Asking, asked_taken, asked_whole};
+ghost use Rattle.nb_graph.specs.Flows.{asked_sent, by_no_slot, Asking, asked_taken, asked_whole};
 ghost use Rattle.nb_graph.specs.Trace.{down, lent, said, nature, silence, up, time};
-ghost use Rattle.nb_graph.specs.Deeds.{runs_of, Calls, Holds, MustHear};
-ghost use Rattle.nb_graph.specs.Effects.{MayAskBelow, MayAskDown, asked_loads, asked_runs};
-ghost use Rattle.nb_graph.specs.Effects.{MayAskTime, MayAskUp, asked_rest};
+ghost use Rattle.nb_graph.specs.Deeds.{rest, runs_of, Calls, Holds, MustHear};
+ghost use Rattle.nb_graph.specs.Effects.{IsNothing, MayAskBelow, MayAskDown};
+ghost use Rattle.nb_graph.specs.Effects.{MayAskTime, MayAskUp};
 ghost use Rattle.nb_graph.specs.Accounts.{fx_bytes};
 ghost use Rattle.nb_graph.specs.Lived.{KeepsTraces};
 ghost use Rattle.nb_ledger.specs.declared.event.Way.TheVariants.{Close, Down, Time, Up};
 ghost use Rattle.nb_ledger.specs.Flat.{Notice};
 ghost use Rattle.nb_graph.specs.Moves.{Asks, Calms};
-ghost use Rattle.nb_graph.specs.Lives.{Lends, LendsFirst, Lives, nodes_at};
+ghost use Rattle.nb_graph.specs.Lives.{Lends, LendsFirst, StaysTraced, nodes_at};
 
 use crate::inner::Inner;
 use crate::{Fx, Node};
 use nb_ledger::{Msg, ObjId, Port};
 use nb_terms::Cause;
 
-/// What an entry asked for, or that it ran out of memory.
-#[derive(Drop)]
-pub(crate) enum Asked<N, L> {
-    Done(Fx<N, L>),
-    NoMemory(Fx<N, L>),
-}
-
 impl<N: Node> Inner<N> {
-    /// Calls the node of a port that was closed from its other end.
-    pub(crate) fn ask_closed(&mut self, at: Port, cause: &Cause, now: u64) -> Fx<N, N::Load>
-        requires lives { live self.old.book at.obj.0 ≡ true }
+    /// Calls the node of a port that was closed from its other end; `fx` gets what it asks for.
+    pub(crate) fn ask_closed(
+        &mut self,
+        at: Port,
+        key: usize,
+        cause: &Cause,
+        now: u64,
+        fx: &mut Fx<N, N::Load>,
+    )
+        requires nothing { IsNothing fx.old }
+        requires lives { object_lives self.old.book at.obj.0 ≡ true }
         requires manned { IsManned N.rank_of self.old.book self.old.nodes.items
             (vec_capacity self.old.nodes) }
-        ensures asks { MayAskBelow 0 result }
+        ensures asks { MayAskBelow 0 fx.new }
         ensures book { self.new.book ≡ self.old.book }
-        ensures lives { (u : Option (List Notice)) → Lives N.stands
+        ensures lives { (u : Option (List Notice)) → StaysTraced N.stands
             (nature N.kind_of N.Load.first N.Load.second) now
             (nodes_at self.old.book self.old.nodes.items u)
-            (nodes_at self.new.book self.new.nodes.items u) (Lends at.obj.0 (lent result))
+            (nodes_at self.new.book self.new.nodes.items u) (Lends at.obj.0 (lent fx.new))
             (λ st. MustHear at cause.now ∷ st) (λ st. runs_of
-            (nature N.kind_of N.Load.first N.Load.second) at.obj.0 silence true result ++ Holds at
+            (nature N.kind_of N.Load.first N.Load.second) at.obj.0 silence true fx.new ++ Holds at
             Close None ∷ st)
             (Calms (nature N.kind_of N.Load.first N.Load.second) self.old.book self.old.book
             (Asking self.old.book at.obj.0 (λ k. fx_bytes (nature N.kind_of N.Load.first
             N.Load.second) k []
-            result) nothing)) [] }
+            fx.new) by_no_slot)) [] }
         ensures manned { IsManned N.rank_of self.new.book self.new.nodes.items
             (vec_capacity self.new.nodes) }
     {
-        let mut fx = Fx::none();
-        let place = self.book.place(at.obj);
-        self.nodes[place].on_close(at.slot, cause, now, &mut fx);
-        fx
+        let place = self.book.place_at(at.obj, key);
+        self.nodes[place].on_close(at.slot, cause, now, fx);
     }
 
-    /// Calls the node that a message enters from above.
-    pub(crate) fn ask_down(&mut self, id: ObjId, msg: &Msg<'_>, now: u64) -> Asked<N, N::Load>
-        requires lives { live self.old.book id.0 ≡ true }
+    /// Calls the node that a message enters from above; false where it ran out of memory.
+    pub(crate) fn ask_down(
+        &mut self,
+        id: ObjId,
+        key: usize,
+        msg: &Msg<'_>,
+        now: u64,
+        fx: &mut Fx<N, N::Load>,
+    ) -> bool
+        requires nothing { IsNothing fx.old }
+        requires lives { object_lives self.old.book id.0 ≡ true }
         requires manned { IsManned N.rank_of self.old.book self.old.nodes.items
             (vec_capacity self.old.nodes) }
-        ensures asks { MayAskDown (length msg.now.first.now + length msg.now.second.now) result }
+        ensures asks { MayAskDown (length msg.now.first.now + length msg.now.second.now) result fx.new }
         ensures book { self.new.book ≡ self.old.book }
-        ensures lives { (u : Option (List Notice)) → (k : Lives N.stands
+        ensures lives { (u : Option (List Notice)) → (k : StaysTraced N.stands
             (nature N.kind_of N.Load.first N.Load.second) now
             (nodes_at self.old.book self.old.nodes.items u)
-            (nodes_at self.new.book self.new.nodes.items u) (Lends id.0 (asked_loads result))
+            (nodes_at self.new.book self.new.nodes.items u) (Lends id.0 (lent fx.new))
             (λ st. Holds (port_at id.0 0) Down (Some (said msg.now)) ∷ st)
-            (λ st. asked_runs (nature N.kind_of N.Load.first N.Load.second) id.0
-            (said msg.now) result ++ Holds (port_at id.0 0) Down None ∷ st)
+            (λ st. runs_of (nature N.kind_of N.Load.first N.Load.second) id.0 (said msg.now) result fx.new ++ Holds (port_at id.0 0) Down None ∷ st)
             (Calms (nature N.kind_of N.Load.first N.Load.second) self.old.book self.old.book
             (Asking self.old.book id.0 (asked_sent (nature N.kind_of N.Load.first N.Load.second)
-            (said msg.now).bytes result) (asked_whole (said msg.now).bytes result))) [])
+            (said msg.now).bytes result fx.new) (asked_whole (said msg.now).bytes result))) [])
             × Calls id.0 (λ done fx. down (said msg.now) now done fx) k.deeds }
         ensures manned { IsManned N.rank_of self.new.book self.new.nodes.items
             (vec_capacity self.new.nodes) }
     {
-        let mut fx = Fx::none();
-        let place = self.book.place(id);
-        match self.nodes[place].on_down(msg, now, &mut fx) {
-            Ok(()) => Asked::Done(fx),
-            Err(_) => Asked::NoMemory(fx),
+        let place = self.book.place_at(id, key);
+        match self.nodes[place].on_down(msg, now, fx) {
+            Ok(()) => true,
+            Err(_) => false,
         }
     }
 
-    /// Calls the node that a message, or the rest of one, enters from below.
-    pub(crate) fn ask_up(&mut self, at: Port, msg: &Msg<'_>, now: u64) -> Asked<N, N::Load>
-        requires lives { live self.old.book at.obj.0 ≡ true }
+    /// Calls the node that a message, or the rest of one, enters from below; false where it ran out
+    /// of memory.
+    pub(crate) fn ask_up(
+        &mut self,
+        at: Port,
+        key: usize,
+        msg: &Msg<'_>,
+        now: u64,
+        fx: &mut Fx<N, N::Load>,
+    ) -> bool
+        requires nothing { IsNothing fx.old }
+        requires lives { object_lives self.old.book at.obj.0 ≡ true }
         requires open { IsOpen (port self.old.book at.obj.0 at.slot) }
         requires manned { IsManned N.rank_of self.old.book self.old.nodes.items
             (vec_capacity self.old.nodes) }
         ensures asks { MayAskUp N.rank_of N.stands (rank self.old.book at.obj.0) at.slot
-            (length msg.now.first.now + length msg.now.second.now) result }
+            (length msg.now.first.now + length msg.now.second.now) result fx.new }
         ensures book { self.new.book ≡ self.old.book }
-        ensures lives { (u : Option (List Notice)) → (k : Lives N.stands
+        ensures lives { (u : Option (List Notice)) → (k : StaysTraced N.stands
             (nature N.kind_of N.Load.first N.Load.second) now
             (nodes_at self.old.book self.old.nodes.items u)
             (nodes_at self.new.book self.new.nodes.items u) (LendsFirst at.obj.0
-            (asked_loads result))
+            (lent fx.new))
             (λ st. Holds at Up (Some (said msg.now)) ∷ st)
-            (λ st. asked_runs (nature N.kind_of N.Load.first N.Load.second) at.obj.0
-            (said msg.now) result ++ Holds at Up (asked_rest (said msg.now) result) ∷ st)
+            (λ st. runs_of (nature N.kind_of N.Load.first N.Load.second) at.obj.0 (said msg.now) result fx.new ++ Holds at Up (rest (said msg.now) result fx.new) ∷ st)
             (λ ds. Calms (nature N.kind_of N.Load.first N.Load.second) self.old.book self.old.book
             (Asking self.old.book at.obj.0 (asked_sent (nature N.kind_of N.Load.first N.Load.second)
-            (said msg.now).bytes result) (asked_taken at.slot (said msg.now).bytes result)) ds ×
+            (said msg.now).bytes result fx.new) (asked_taken at.slot (said msg.now).bytes result fx.new)) ds ×
             Asks (nature N.kind_of N.Load.first N.Load.second) at.obj.0
             (asked_sent (nature N.kind_of N.Load.first N.Load.second)
-            (said msg.now).bytes result) ds) [])
+            (said msg.now).bytes result fx.new) ds) [])
             × Calls at.obj.0 (λ done fx. up at.slot (said msg.now) now done fx) k.deeds }
         ensures manned { IsManned N.rank_of self.new.book self.new.nodes.items
             (vec_capacity self.new.nodes) }
     {
-        let mut fx = Fx::none();
-        let place = self.book.place(at.obj);
-        match self.nodes[place].on_up(at.slot, msg, now, &mut fx) {
-            Ok(()) => Asked::Done(fx),
-            Err(_) => Asked::NoMemory(fx),
+        let place = self.book.place_at(at.obj, key);
+        match self.nodes[place].on_up(at.slot, msg, now, fx) {
+            Ok(()) => true,
+            Err(_) => false,
         }
     }
 
-    /// Calls the node that time enters.
-    pub(crate) fn ask_time(&mut self, id: ObjId, now: u64) -> Asked<N, N::Load>
-        requires lives { live self.old.book id.0 ≡ true }
+    /// Calls the node that time enters; false where it ran out of memory.
+    pub(crate) fn ask_time(
+        &mut self,
+        id: ObjId,
+        key: usize,
+        now: u64,
+        fx: &mut Fx<N, N::Load>,
+    ) -> bool
+        requires nothing { IsNothing fx.old }
+        requires lives { object_lives self.old.book id.0 ≡ true }
         requires manned { IsManned N.rank_of self.old.book self.old.nodes.items
             (vec_capacity self.old.nodes) }
-        ensures asks { MayAskTime N.rank_of N.stands (rank self.old.book id.0) result }
+        ensures asks { MayAskTime N.rank_of N.stands (rank self.old.book id.0) result fx.new }
         ensures book { self.new.book ≡ self.old.book }
-        ensures lives { (u : Option (List Notice)) → (k : Lives N.stands
+        ensures lives { (u : Option (List Notice)) → (k : StaysTraced N.stands
             (nature N.kind_of N.Load.first N.Load.second) now
             (nodes_at self.old.book self.old.nodes.items u)
-            (nodes_at self.new.book self.new.nodes.items u) (LendsFirst id.0 (asked_loads result))
+            (nodes_at self.new.book self.new.nodes.items u) (LendsFirst id.0 (lent fx.new))
             (λ st. Holds (port_at id.0 4) Time (Some silence) ∷ st)
-            (λ st. asked_runs (nature N.kind_of N.Load.first N.Load.second) id.0 silence result ++
+            (λ st. runs_of (nature N.kind_of N.Load.first N.Load.second) id.0 silence result fx.new ++
             Holds (port_at id.0 4) Time None ∷ st)
             (λ ds. Calms (nature N.kind_of N.Load.first N.Load.second) self.old.book self.old.book
             (Asking self.old.book id.0 (asked_sent (nature N.kind_of N.Load.first N.Load.second) []
-            result)
-            nothing) ds × Asks (nature N.kind_of N.Load.first N.Load.second) id.0
-            (asked_sent (nature N.kind_of N.Load.first N.Load.second) [] result) ds) [])
+            result fx.new)
+            by_no_slot) ds × Asks (nature N.kind_of N.Load.first N.Load.second) id.0
+            (asked_sent (nature N.kind_of N.Load.first N.Load.second) [] result fx.new) ds) [])
             × Calls id.0 (λ done fx. time now done fx) k.deeds }
         ensures manned { IsManned N.rank_of self.new.book self.new.nodes.items
             (vec_capacity self.new.nodes) }
     {
-        let mut fx = Fx::none();
-        let place = self.book.place(id);
-        match self.nodes[place].on_time(now, &mut fx) {
-            Ok(()) => Asked::Done(fx),
-            Err(_) => Asked::NoMemory(fx),
+        let place = self.book.place_at(id, key);
+        match self.nodes[place].on_time(now, fx) {
+            Ok(()) => true,
+            Err(_) => false,
         }
     }
 
     /// What the node of a live object has to hand out.
     pub(crate) fn harvest(&mut self, id: ObjId) -> Option<N::Load>
-        requires lives { live self.old.book id.0 ≡ true }
+        requires lives { object_lives self.old.book id.0 ≡ true }
         requires manned { IsManned N.rank_of self.old.book self.old.nodes.items
             (vec_capacity self.old.nodes) }
         ensures gives { Harvests N.harvests (record {

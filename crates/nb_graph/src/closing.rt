@@ -4,21 +4,21 @@ ghost use Rattle.std.specs.Prelude.{List, ◌-◌};
 ghost use Rattle.std.specs.Vec.{vec_capacity};
 ghost use Rattle.nb_ledger.specs.declared.port.PortState.TheVariants.{Linked, Leaving};
 ghost use Rattle.nb_ledger.specs.declared.port.PortState.TheVariants.{Closed as Shut};
-ghost use Rattle.nb_ledger.specs.Ledger.{busy, port, open_count, live, rank, state_of};
+ghost use Rattle.nb_ledger.specs.Ledger.{busy, port, open_count, object_lives, rank, run_state};
 ghost use Rattle.nb_graph.specs.Whole.{IsQuiet, IsManned, IsLinked, CountedButTwo};
-ghost use Rattle.nb_graph.specs.Order.{Shuts, ShutsObject, EndsLink};
+ghost use Rattle.nb_graph.specs.Order.{ClosesOnce, ShutsObject, EndsLink};
 ghost use Rattle.nb_graph.specs.Flows.{Closing, Failing, Still};
 ghost use Rattle.nb_graph.specs.Calm.{IsSteady, HalfCloses};
 ghost use Rattle.nb_graph.specs.Trace.{lent, nature};
 ghost use Rattle.nb_graph.specs.Deeds.{Closes, all_closes, closes_of, no_memory, returns_of, Holds};
 ghost use Rattle.nb_graph.specs.Deeds.{MustHear, MustUnplug as Unlinks};
-ghost use Rattle.nb_graph.specs.Lives.{Back, CalmFor, Same, EndsFor, Lives, SettlesTwoFor, Stays};
+ghost use Rattle.nb_graph.specs.Lives.{Back, CalmFor, Same, EndsFor, StaysTraced, SettlesTwoFor, Stays};
 ghost use Rattle.nb_graph.specs.Lives.{nodes_at};
 ghost use Rattle.nb_ledger.specs.declared.event.GraphEvent.TheVariants.{Entered, Closed};
 ghost use Rattle.nb_graph.specs.Effects.{ClosesSlot};
 ghost use Rattle.nb_ledger.specs.Flat.{Tells};
 ghost use Rattle.nb_ledger.specs.declared.event.Way.TheVariants.{Close};
-ghost use Rattle.nb_ledger.specs.GraphRun.{Frame, Running, MustUnplug, IsIdle, Run, port_but};
+ghost use Rattle.nb_ledger.specs.GraphRun.{OnStack, Running, MustUnplug, IsIdle, GraphRunOf, port_but};
 ghost use Rattle.nb_graph.specs.Moves.{Calms};
 
 use crate::inner::Inner;
@@ -47,7 +47,7 @@ impl<N: Node> Inner<N> {
             (Closing self.old.book at.obj.0) (λ st. Closes at cause.now ∷ st) (O.events out.old)
             (O.events out.new) }
         ensures starts { 0 < open_count (port self.old.book at.obj.0 at.slot)
-            → Shuts self.old.book self.new.book (O.events out.old) (O.events out.new) at
+            → ClosesOnce self.old.book self.new.book (O.events out.old) (O.events out.new) at
             cause.now }
         ensures stays { open_count (port self.old.book at.obj.0 at.slot) ≡ 0
             → (self.new ≡ self.old) × (O.events out.new ≡ O.events out.old) }
@@ -74,15 +74,17 @@ impl<N: Node> Inner<N> {
             self.new.book self.old.nodes.items self.new.nodes.items (Same (busy self.old.book))
             (Closing self.old.book at.obj.0) (λ st. Closes at cause.now ∷ st) (O.events out.old)
             (O.events out.new) }
-        ensures starts { Shuts self.old.book self.new.book (O.events out.old) (O.events out.new) at
+        ensures starts { ClosesOnce self.old.book self.new.book (O.events out.old) (O.events out.new) at
             cause.now }
         ensures steady { IsSteady N.rank_of self.new.book self.new.nodes.items
             (vec_capacity self.new.nodes) }
     {
-        let was = self.close_both(at, peer, cause, out);
-        let fx = self.ask_closed(peer, cause, now);
-        self.calm_effects(peer.obj, &NOTHING, fx, now, out);
-        self.unplug(at, peer, was, out);
+        let key = self.book.key(peer.obj);
+        let was = self.close_both(at, peer, key, cause, out);
+        let mut fx = Fx::none();
+        self.ask_closed(peer, key, cause, now, &mut fx);
+        self.calm_effects(peer.obj, key, &NOTHING, &mut fx, now, out);
+        self.unplug(at, peer, key, was, out);
     }
 
     /// Closes both ends of a link and begins the peer's entry; whether one of its object ran
@@ -91,6 +93,7 @@ impl<N: Node> Inner<N> {
         &mut self,
         at: Port,
         peer: Port,
+        key: usize,
         cause: &Cause,
         out: &mut O,
     ) -> bool
@@ -99,10 +102,10 @@ impl<N: Node> Inner<N> {
             (vec_capacity self.old.nodes) }
         ensures told { Tells (O.events out.old) (O.events out.new)
             (Closed at cause.now ∷ Closed peer cause.now ∷ Entered peer Close ∷ []) }
-        ensures run { (st : List Frame) → IsIdle st → Run (state_of self.old.book st)
+        ensures run { (st : List OnStack) → IsIdle st → GraphRunOf (run_state self.old.book st)
             (Closed at cause.now ∷ Closed peer cause.now ∷ Entered peer Close ∷ [])
-            (state_of self.new.book (Running peer Close ∷ MustUnplug at peer ∷ st)) }
-        ensures lives { (now : ℕ) → Lives N.stands (nature N.kind_of N.Load.first N.Load.second)
+            (run_state self.new.book (Running peer Close ∷ MustUnplug at peer ∷ st)) }
+        ensures lives { (now : ℕ) → StaysTraced N.stands (nature N.kind_of N.Load.first N.Load.second)
             now (nodes_at self.old.book self.old.nodes.items (O.events out.old))
             (nodes_at self.new.book self.new.nodes.items (O.events out.new)) Stays
             (λ st. Closes at cause.now ∷ st)
@@ -118,11 +121,18 @@ impl<N: Node> Inner<N> {
     {
         self.book.close_first(at, peer, cause, out);
         self.book.close_peer(peer, at, cause, out);
-        self.book.enter_closed(peer, out)
+        self.book.enter_closed(peer, key, out)
     }
 
     /// Ends the peer's entry of a closing and takes the link away.
-    pub(crate) fn unplug<O: Outside>(&mut self, at: Port, peer: Port, was: bool, out: &mut O)
+    pub(crate) fn unplug<O: Outside>(
+        &mut self,
+        at: Port,
+        peer: Port,
+        key: usize,
+        was: bool,
+        out: &mut O,
+    )
         requires first { port self.old.book at.obj.0 at.slot ≡ Leaving peer }
         requires other { port self.old.book peer.obj.0 peer.slot ≡ Leaving at }
         requires apart { at.obj.0 ≢ peer.obj.0 }
@@ -138,14 +148,14 @@ impl<N: Node> Inner<N> {
         ensures steady { IsSteady N.rank_of self.new.book self.new.nodes.items
             (vec_capacity self.new.nodes) }
     {
-        self.book.leave(peer, was, out);
+        self.book.leave(peer, key, was, out);
         self.book.unplug(at, peer, out);
         self.settle_two(at.obj, peer.obj, out);
     }
 
     fn settle_two<O: Outside>(&mut self, first: ObjId, other: ObjId, out: &mut O)
-        requires first { live self.old.book first.0 ≡ true }
-        requires other { live self.old.book other.0 ≡ true }
+        requires first { object_lives self.old.book first.0 ≡ true }
+        requires other { object_lives self.old.book other.0 ≡ true }
         requires apart { first.0 ≢ other.0 }
         requires manned { IsManned N.rank_of self.old.book self.old.nodes.items
             (vec_capacity self.old.nodes) }
@@ -167,8 +177,8 @@ impl<N: Node> Inner<N> {
     }
 
     fn settle_pair<O: Outside>(&mut self, low: ObjId, high: ObjId, out: &mut O)
-        requires low { live self.old.book low.0 ≡ true }
-        requires high { live self.old.book high.0 ≡ true }
+        requires low { object_lives self.old.book low.0 ≡ true }
+        requires high { object_lives self.old.book high.0 ≡ true }
         requires order { low.0 < high.0 }
         requires manned { IsManned N.rank_of self.old.book self.old.nodes.items
             (vec_capacity self.old.nodes) }
@@ -182,8 +192,10 @@ impl<N: Node> Inner<N> {
         ensures steady { IsSteady N.rank_of self.new.book self.new.nodes.items
             (vec_capacity self.new.nodes) }
     {
-        self.settle(low, out);
-        self.settle(high, out);
+        let key = self.book.key(low);
+        self.settle(low, key, out);
+        let key = self.book.key(high);
+        self.settle(high, key, out);
     }
 
     #[cycle(calm)]
@@ -245,20 +257,27 @@ impl<N: Node> Inner<N> {
 
     /// An entry ran out of memory: its loads come back, and the object's ports are closed.
     #[cycle(calm)]
-    pub(crate) fn fail<O: Outside>(&mut self, id: ObjId, fx: Fx<N, N::Load>, now: u64, out: &mut O)
+    pub(crate) fn fail<O: Outside>(
+        &mut self,
+        id: ObjId,
+        key: usize,
+        fx: &mut Fx<N, N::Load>,
+        now: u64,
+        out: &mut O,
+    )
         requires runs { busy self.old.book id.0 ≡ true }
         requires steady { IsSteady N.rank_of self.old.book self.old.nodes.items
             (vec_capacity self.old.nodes) }
         ensures lives { CalmFor N.stands (nature N.kind_of N.Load.first N.Load.second) now
             self.old.book
             self.new.book self.old.nodes.items self.new.nodes.items
-            (Back (busy self.old.book) id.0 (lent fx)) (Failing self.old.book id.0)
-            (λ st. (returns_of id.0 (lent fx) ++ all_closes id.0 no_memory) ++ st)
+            (Back (busy self.old.book) id.0 (lent fx.old)) (Failing self.old.book id.0)
+            (λ st. (returns_of id.0 (lent fx.old) ++ all_closes id.0 no_memory) ++ st)
             (O.events out.old) (O.events out.new) }
         ensures steady { IsSteady N.rank_of self.new.book self.new.nodes.items
             (vec_capacity self.new.nodes) }
     {
-        self.take_back(id, fx);
+        self.take_back(id, key, fx);
         self.close_all(id, &NO_MEMORY, now, out);
     }
 }

@@ -13,19 +13,26 @@ ghost use Rattle.nb_graph.specs.Deeds.{Hands, Gives, Sends, emit_of, few_of, run
 ghost use Rattle.nb_graph.specs.Lives.{Back, CalmFor, Same};
 ghost use Rattle.nb_ledger.specs.declared.event.GraphEvent.TheVariants.{Entered};
 ghost use Rattle.nb_ledger.specs.declared.event.Way.TheVariants as way;
-ghost use Rattle.nb_graph.specs.Effects.{MayAskBelow, MayAskDown, asked_loads, asked_runs};
+ghost use Rattle.nb_graph.specs.Effects.{MayAskBelow, MayAskDown};
 ghost use Rattle.nb_graph.specs.Effects.{AreDowns, IsDown};
 
-use crate::asking::Asked;
 use crate::inner::Inner;
-use crate::message::{cut, with_bytes};
-use crate::{Emit, Few, Fx, Node, Parts};
+use crate::message::message_of;
+use crate::{Emit, Few, Fx, Node};
 use nb_ledger::{GraphEvent, Msg, ObjId, Outside, Port, PortState, Way};
 
 impl<N: Node> Inner<N> {
-    /// A message enters an object from above.
+    /// A message enters an object from above. Here and below `key` is the key of the object in the
+    /// book.
     #[cycle(calm)]
-    pub(crate) fn enter_down<O: Outside>(&mut self, at: Port, msg: &Msg<'_>, now: u64, out: &mut O)
+    pub(crate) fn enter_down<O: Outside>(
+        &mut self,
+        at: Port,
+        key: usize,
+        msg: &Msg<'_>,
+        now: u64,
+        out: &mut O,
+    )
         requires slot { at.slot ≡ 0 }
         requires open { IsOpen (port self.old.book at.obj.0 at.slot) }
         requires steady { IsSteady N.rank_of self.old.book self.old.nodes.items
@@ -41,39 +48,45 @@ impl<N: Node> Inner<N> {
         ensures steady { IsSteady N.rank_of self.new.book self.new.nodes.items
             (vec_capacity self.new.nodes) }
     {
-        let was = self.book.enter(at, Way::Down, out);
-        let asked = self.ask_down(at.obj, msg, now);
-        self.after_down(at.obj, msg, asked, now, out);
-        self.leave(at, was, out);
+        let was = self.book.enter(at, key, Way::Down, out);
+        let mut fx = Fx::none();
+        let done = self.ask_down(at.obj, key, msg, now, &mut fx);
+        self.after_down(at.obj, key, msg, done, &mut fx, now, out);
+        self.leave(at, key, was, out);
     }
 
     #[cycle(calm)]
     fn after_down<O: Outside>(
         &mut self,
         id: ObjId,
+        key: usize,
         msg: &Msg<'_>,
-        asked: Asked<N, N::Load>,
+        done: bool,
+        fx: &mut Fx<N, N::Load>,
         now: u64,
         out: &mut O,
     )
         requires runs { busy self.old.book id.0 ≡ true }
-        requires asks { MayAskDown (length msg.now.first.now + length msg.now.second.now) asked }
+        requires asks { MayAskDown (length msg.now.first.now + length msg.now.second.now) done
+            fx.old }
         requires steady { IsSteady N.rank_of self.old.book self.old.nodes.items
             (vec_capacity self.old.nodes) }
         ensures lives { CalmFor N.stands (nature N.kind_of N.Load.first N.Load.second) now
             self.old.book
             self.new.book self.old.nodes.items self.new.nodes.items
-            (Back (busy self.old.book) id.0 (asked_loads asked))
-            (Following self.old.book (port_at id.0 0) (asked_left (said msg.now).bytes asked)
-            (asked_sent (nature N.kind_of N.Load.first N.Load.second) (said msg.now).bytes asked))
-            (λ st. asked_runs (nature N.kind_of N.Load.first N.Load.second) id.0
-            (said msg.now) asked ++ st) (O.events out.old) (O.events out.new) }
+            (Back (busy self.old.book) id.0 (lent fx.old))
+            (Following self.old.book (port_at id.0 0) (asked_left (said msg.now).bytes done)
+            (asked_sent (nature N.kind_of N.Load.first N.Load.second) (said msg.now).bytes done
+            fx.old))
+            (λ st. runs_of (nature N.kind_of N.Load.first N.Load.second) id.0
+            (said msg.now) done fx.old ++ st) (O.events out.old) (O.events out.new) }
         ensures steady { IsSteady N.rank_of self.new.book self.new.nodes.items
             (vec_capacity self.new.nodes) }
     {
-        match asked {
-            Asked::Done(fx) => self.calm_effects(id, msg, fx, now, out),
-            Asked::NoMemory(fx) => self.fail(id, fx, now, out),
+        if done {
+            self.calm_effects(id, key, msg, fx, now, out);
+        } else {
+            self.fail(id, key, fx, now, out);
         }
     }
 
@@ -82,70 +95,66 @@ impl<N: Node> Inner<N> {
     pub(crate) fn calm_effects<O: Outside>(
         &mut self,
         id: ObjId,
+        key: usize,
         msg: &Msg<'_>,
-        fx: Fx<N, N::Load>,
+        fx: &mut Fx<N, N::Load>,
         now: u64,
         out: &mut O,
     )
         requires runs { busy self.old.book id.0 ≡ true }
-        requires asks { MayAskBelow (length msg.now.first.now + length msg.now.second.now) fx }
+        requires asks { MayAskBelow (length msg.now.first.now + length msg.now.second.now) fx.old }
         requires steady { IsSteady N.rank_of self.old.book self.old.nodes.items
             (vec_capacity self.old.nodes) }
         ensures lives { CalmFor N.stands (nature N.kind_of N.Load.first N.Load.second) now
             self.old.book
             self.new.book self.old.nodes.items self.new.nodes.items
-            (Back (busy self.old.book) id.0 (lent fx)) (Downs self.old.book id.0
+            (Back (busy self.old.book) id.0 (lent fx.old)) (Downs self.old.book id.0
             (λ k. few_bytes (nature N.kind_of N.Load.first N.Load.second) k
-            (said msg.now).bytes fx.downs))
+            (said msg.now).bytes fx.old.downs))
             (λ st. runs_of (nature N.kind_of N.Load.first N.Load.second) id.0
-            (said msg.now) true fx ++ st) (O.events out.old) (O.events out.new) }
+            (said msg.now) true fx.old ++ st) (O.events out.old) (O.events out.new) }
         ensures steady { IsSteady N.rank_of self.new.book self.new.nodes.items
             (vec_capacity self.new.nodes) }
     {
-        let Fx {
-            makes: _,
-            downs,
-            ups: _,
-            closes,
-            took: _,
-        } = fx;
-        self.run_downs(id, msg, downs, now, out);
-        self.run_closes(id, closes.as_slice(), now, out);
+        self.run_downs(id, key, msg, &mut fx.downs, now, out);
+        self.run_closes(id, fx.closes.as_slice(), now, out);
     }
 
     #[cycle(calm)]
     pub(crate) fn run_downs<O: Outside>(
         &mut self,
         id: ObjId,
+        key: usize,
         msg: &Msg<'_>,
-        downs: Few<Emit<N::Load>>,
+        downs: &mut Few<Emit<N::Load>>,
         now: u64,
         out: &mut O,
     )
         requires runs { busy self.old.book id.0 ≡ true }
-        requires downs { AreDowns (length msg.now.first.now + length msg.now.second.now) downs }
+        requires downs { AreDowns (length msg.now.first.now + length msg.now.second.now)
+            downs.old }
         requires steady { IsSteady N.rank_of self.old.book self.old.nodes.items
             (vec_capacity self.old.nodes) }
         ensures lives { CalmFor N.stands (nature N.kind_of N.Load.first N.Load.second) now
             self.old.book
             self.new.book self.old.nodes.items self.new.nodes.items
-            (Back (busy self.old.book) id.0 (loads downs))
+            (Back (busy self.old.book) id.0 (loads downs.old))
             (Downs self.old.book id.0 (λ k. few_bytes (nature N.kind_of N.Load.first N.Load.second)
             k
-            (said msg.now).bytes downs)) (λ st. few_of (nature N.kind_of N.Load.first
-            N.Load.second) id.0 (said msg.now) downs ++ st) (O.events out.old) (O.events out.new) }
+            (said msg.now).bytes downs.old)) (λ st. few_of (nature N.kind_of N.Load.first
+            N.Load.second) id.0 (said msg.now) downs.old ++ st) (O.events out.old) (O.events out.new) }
         ensures steady { IsSteady N.rank_of self.new.book self.new.nodes.items
             (vec_capacity self.new.nodes) }
     {
-        let Few { first, second } = downs;
-        self.run_down(id, msg, first, now, out);
-        self.run_down(id, msg, second, now, out);
+        self.run_down(id, key, msg, downs.first.take(), now, out);
+        self.run_down(id, key, msg, downs.second.take(), now, out);
     }
 
     #[cycle(calm)]
     fn run_down<O: Outside>(
         &mut self,
         id: ObjId,
+        key: usize,
         msg: &Msg<'_>,
         emit: Option<Emit<N::Load>>,
         now: u64,
@@ -168,7 +177,7 @@ impl<N: Node> Inner<N> {
             (vec_capacity self.new.nodes) }
     {
         match emit {
-            Some(emit) => self.send_down(id, msg, emit, now, out),
+            Some(emit) => self.send_down(id, key, msg, emit, now, out),
             None => {}
         }
     }
@@ -177,6 +186,7 @@ impl<N: Node> Inner<N> {
     fn send_down<O: Outside>(
         &mut self,
         id: ObjId,
+        key: usize,
         msg: &Msg<'_>,
         emit: Emit<N::Load>,
         now: u64,
@@ -202,24 +212,14 @@ impl<N: Node> Inner<N> {
             obj: id,
             slot: emit.slot,
         };
-        match &emit.load {
-            Some(load) => {
-                let (first, second) = load.parts();
-                let part = with_bytes(&emit, msg.rec, first, second);
-                self.pass_down(at, &part, now, out);
-                self.take_emit(id, emit);
-            }
-            None => {
-                let (first, second) = cut(msg, emit.from, emit.to);
-                let part = with_bytes(&emit, msg.rec, first, second);
-                self.pass_down(at, &part, now, out);
-            }
-        }
+        let part = message_of::<N>(&emit, msg.rec, msg.first, msg.second);
+        self.pass_down(at, key, &part, now, out);
+        self.take_emit(id, key, emit);
     }
 
     /// A message leaves by one of the slots 1 to 3.
     #[cycle(calm)]
-    fn pass_down<O: Outside>(&mut self, at: Port, msg: &Msg<'_>, now: u64, out: &mut O)
+    fn pass_down<O: Outside>(&mut self, at: Port, key: usize, msg: &Msg<'_>, now: u64, out: &mut O)
         requires slot { 1 ≤ at.slot }
         requires steady { IsSteady N.rank_of self.old.book self.old.nodes.items
             (vec_capacity self.old.nodes) }
@@ -231,9 +231,12 @@ impl<N: Node> Inner<N> {
         ensures steady { IsSteady N.rank_of self.new.book self.new.nodes.items
             (vec_capacity self.new.nodes) }
     {
-        match self.book.port(at) {
+        match self.book.port_at(at, key) {
             PortState::Open => out.send(at, msg),
-            PortState::Linked(peer) => self.enter_down(peer, msg, now, out),
+            PortState::Linked(peer) => {
+                let other = self.book.peer_key(key, at.slot);
+                self.enter_down(peer, other, msg, now, out);
+            }
             PortState::Leaving(_) => out.event(&GraphEvent::Dropped(at).spelled()),
             PortState::Closed => out.event(&GraphEvent::Dropped(at).spelled()),
         }

@@ -4,7 +4,8 @@ use arrayvec::ArrayVec;
 use nb_terms::Cause;
 
 /// A message that an entry asks for: it leaves by `slot`. Its bytes are the load's, or without one
-/// bytes `from` to `to` of the message being delivered.
+/// bytes `from` to `to` of the message being delivered. A load moves from its node and back, so
+/// large bytes stand in a box or a place of it.
 #[derive(Drop)]
 pub struct Emit<L> {
     pub slot: u8,
@@ -16,7 +17,8 @@ pub struct Emit<L> {
     pub load: Option<L>,
 }
 
-/// A new object that an entry asks for; its slot 0 is plugged to the maker's `slot`.
+/// A new object that an entry asks for; its slot 0 is plugged to the maker's `slot`. The node moves
+/// into the graph's table, so one of many kinds, or a large one, is to be boxed.
 #[derive(Drop)]
 pub struct Make<N> {
     pub node: N,
@@ -31,7 +33,8 @@ pub struct Few<E> {
 }
 
 /// What an entry asks for. It runs in the order makes, downs, ups, closes. `took` says how many
-/// bytes of its message an entry from below has taken.
+/// bytes of its message an entry from below has taken. The graph makes one at each call of a node
+/// and lends it to all that runs it.
 #[derive(Drop)]
 pub struct Fx<N, L> {
     pub makes: Option<Make<N>>,

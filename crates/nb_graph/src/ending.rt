@@ -2,7 +2,7 @@
 ghost use Rattle.std.specs.Prelude.{◌≡◌, ◌+◌, ◌<◌, ◌≤◌, ℕ, List, ◌∷◌, false};
 ghost use Rattle.nb_ledger.specs.declared.port.Port.{Port as ThePort};
 ghost use Rattle.std.specs.Vec.{vec_capacity};
-ghost use Rattle.nb_ledger.specs.Ledger.{live, busy, holds, port, open_count};
+ghost use Rattle.nb_ledger.specs.Ledger.{object_lives, busy, holds, port, open_count};
 ghost use Rattle.nb_graph.specs.Trace.{nature};
 ghost use Rattle.nb_graph.specs.Flows.{Empty};
 ghost use Rattle.nb_graph.specs.Calm.{IsSteady};
@@ -77,7 +77,7 @@ impl<N: Node> Inner<N> {
             (O.events out.new) }
         ensures lets { LetsGo self.old.book self.new.book }
         ensures none { (x : ℕ) → after < x → holds self.new.book x ≡ 0 }
-        ensures first { live self.new.book 0 ≡ false }
+        ensures first { object_lives self.new.book 0 ≡ false }
     {
         match self.book.above(after) {
             Some(id) => {

@@ -1,6 +1,6 @@
 // Nodes and an outside for the tests.
 ghost use Rattle.std.specs.Prelude.{◌≡◌, ◌≤◌, [], None, min, true};
-ghost use Rattle.nb_ledger.specs.Ledger.{live, rank};
+ghost use Rattle.nb_ledger.specs.Ledger.{object_lives, rank};
 ghost use Rattle.nb_graph.specs.Counted.{regains, ups};
 
 use crate::{Emit, Fx, Graph, Make, Msg, Node, ObjId, Outside, Parts, Port, Reach};
@@ -259,7 +259,7 @@ pub(crate) fn port(obj: ObjId, slot: u8) -> Port
 
 /// The rank of a live object.
 fn rank_of(graph: &Graph<Fake>, id: ObjId) -> u8
-    ensures { live graph.now.book id.0 ≡ true → result ≡ rank graph.now.book id.0 }
+    ensures { object_lives graph.now.book id.0 ≡ true → result ≡ rank graph.now.book id.0 }
 {
     match graph.node(id) {
         Some(node) => node.rank,

@@ -3,17 +3,17 @@ ghost use Rattle.std.specs.Prelude.{◌++◌, Ok, Err, IfOk, IfErr, OnErr, OnOk,
 ghost use Rattle.std.specs.Prelude.{IsNone, IfSome, IfNone, length, true, false, slice_get};
 ghost use Rattle.std.specs.Bool.{OnTrue, OnFalse};
 ghost use Rattle.std.specs.Option.{option_copied};
-ghost use Rattle.nb_ledger.specs.declared.event.GraphEvent.TheVariants.{Made, Held, LetGo};
+ghost use Rattle.nb_ledger.specs.declared.event.GraphEvent.TheVariants.{Held, LetGo};
 ghost use Rattle.nb_ledger.specs.declared.port.Port.{Port as ThePort};
 ghost use Rattle.nb_graph.specs.Accounts.{Balanced, unplugged};
 ghost use Rattle.nb_graph.specs.declared.graph.Reach.TheVariants as reach;
 ghost use Rattle.nb_ledger.specs.declared.port.PortState.TheVariants as state;
-ghost use Rattle.nb_ledger.specs.Ledger.{live, holds, port, rank, open_count, IsLeastAbove};
+ghost use Rattle.nb_ledger.specs.Ledger.{object_lives, holds, port, rank, open_count, IsLeastAbove};
 ghost use Rattle.nb_graph.specs.Trace.{said, nature};
-ghost use Rattle.nb_graph.specs.Deeds.{Closes, Ends, LetsAllGo, MustPlug, Offers, Ticks, Wants};
+ghost use Rattle.nb_graph.specs.Deeds.{Closes, Ends, LetsAllGo, MustMake, MustPlug, Offers, Ticks, Wants};
 ghost use Rattle.nb_graph.specs.Lived.{KeepsTraces};
 ghost use Rattle.nb_graph.specs.Order.{ClosesOne, EndsInOrder, LetsOneGo};
-ghost use Rattle.nb_graph.specs.Whole.{Harvests, IsMade, KeepsRanks, node_of, IsSame};
+ghost use Rattle.nb_graph.specs.Whole.{Harvests, IsMade, KeepsRanks, node_of, StaysSame};
 
 use crate::Node;
 use crate::inner::Inner;
@@ -77,13 +77,13 @@ impl<N: Node> Graph<N> {
         requires { N.stands node [] }
         ensures full { IsErr result ↔ ((length self.old.book.objects ≡ self.old.book.room) ⊎
             (self.old.book.made ≡ 2 ^ 64 - 1)) }
-        ensures back { IfErr result (λ n. (n ≡ node) × IsSame self.old self.new (O.events out.old)
+        ensures back { IfErr result (λ n. (n ≡ node) × StaysSame self.old self.new (O.events out.old)
             (O.events out.new)) }
         ensures made { IfOk result (IsMade self.old self.new node (N.rank_of node)) }
         ensures ranks { KeepsRanks self.old.book self.new.book }
         ensures went { IfOk result (λ id. (now : ℕ) → WentOne N.stands
             (nature N.kind_of N.Load.first N.Load.second)
-            now (Wants (Made id (N.kind_of node)) ∷ Wants (Held id) ∷ []) self.old self.new
+            now (MustMake id node ∷ Wants (Held id) ∷ []) self.old self.new
             (O.events out.old) (O.events out.new)) }
     {
         if self.inner.is_full() {
@@ -96,7 +96,7 @@ impl<N: Node> Graph<N> {
     pub fn plug<O: Outside>(&mut self, upper: Port, lower: Port, out: &mut O) -> Result<(), NotOpen>
         requires upper { (1 ≤ upper.slot) × (upper.slot ≤ 3) }
         requires lower { lower.slot ≡ 0 }
-        requires ranks { live self.old.book upper.obj.0 ≡ true → live self.old.book lower.obj.0 ≡
+        requires ranks { object_lives self.old.book upper.obj.0 ≡ true → object_lives self.old.book lower.obj.0 ≡
             true
             → rank self.old.book lower.obj.0 < rank self.old.book upper.obj.0 }
         ensures upper { (result ≡ Err (record { port = upper })) ↔
@@ -106,7 +106,7 @@ impl<N: Node> Graph<N> {
             (port self.old.book lower.obj.0 0 ≢ state.Open)) }
         // Only those two are named.
         ensures named { IfErr result (λ e. (e.port ≡ upper) ⊎ (e.port ≡ lower)) }
-        ensures refused { OnErr result (IsSame self.old self.new (O.events out.old)
+        ensures refused { OnErr result (StaysSame self.old self.new (O.events out.old)
             (O.events out.new)) }
         ensures ranks { KeepsRanks self.old.book self.new.book }
         ensures went { OnOk result ((now : ℕ) → WentOne N.stands
@@ -127,14 +127,14 @@ impl<N: Node> Graph<N> {
 
     /// Adds a hold. False where the object is dead or has 4,294,967,295 holds.
     pub fn hold<O: Outside>(&mut self, id: ObjId, out: &mut O) -> bool
-        ensures may { IsTrue result ↔ ((live self.old.book id.0 ≡ true) ×
+        ensures may { IsTrue result ↔ ((object_lives self.old.book id.0 ≡ true) ×
             (holds self.old.book id.0 < 2 ^ 32 - 1)) }
         ensures ranks { KeepsRanks self.old.book self.new.book }
         ensures went { OnTrue result ((now : ℕ) → WentOne N.stands
             (nature N.kind_of N.Load.first N.Load.second)
             now (Wants (Held id) ∷ []) self.old self.new (O.events out.old) (O.events out.new)) }
         ensures nodes { self.new.nodes ≡ self.old.nodes }
-        ensures not { OnFalse result (IsSame self.old self.new (O.events out.old)
+        ensures not { OnFalse result (StaysSame self.old self.new (O.events out.old)
             (O.events out.new)) }
     {
         if self.inner.book.is_live(id) && self.inner.book.holds(id) < u32::MAX {
@@ -147,7 +147,7 @@ impl<N: Node> Graph<N> {
 
     /// Takes a hold away. False where the object is dead or has none.
     pub fn let_go<O: Outside>(&mut self, id: ObjId, out: &mut O) -> bool
-        ensures may { IsTrue result ↔ ((live self.old.book id.0 ≡ true) ×
+        ensures may { IsTrue result ↔ ((object_lives self.old.book id.0 ≡ true) ×
             (0 < holds self.old.book id.0)) }
         ensures ranks { KeepsRanks self.old.book self.new.book }
         ensures went { OnTrue result ((now : ℕ) → WentOne N.stands
@@ -155,7 +155,7 @@ impl<N: Node> Graph<N> {
             now (Wants (LetGo id) ∷ []) self.old self.new (O.events out.old) (O.events out.new)) }
         ensures one { OnTrue result (LetsOneGo id self.old.book self.new.book (O.events out.old)
             (O.events out.new)) }
-        ensures not { OnFalse result (IsSame self.old self.new (O.events out.old)
+        ensures not { OnFalse result (StaysSame self.old self.new (O.events out.old)
             (O.events out.new)) }
     {
         if self.inner.book.is_live(id) && self.inner.book.holds(id) > 0 {
@@ -169,7 +169,7 @@ impl<N: Node> Graph<N> {
     /// The node of a live object.
     pub fn node(&self, id: ObjId) -> Option<&N>
         ensures node { option_copied result ≡ node_of self.now id }
-        ensures dead { IsNone result ↔ (live self.now.book id.0 ≡ false) }
+        ensures dead { IsNone result ↔ (object_lives self.now.book id.0 ≡ false) }
         ensures rank { IfSome result (λ n. N.rank_of n.now ≡ rank self.now.book id.0) }
     {
         self.inner.node(id)
@@ -184,7 +184,7 @@ impl<N: Node> Graph<N> {
 
     /// The least live serial above `after`.
     pub fn ids(&self, after: u64) -> Option<ObjId>
-        ensures none { IfNone result ((x : ℕ) → after < x → live self.now.book x ≡ false) }
+        ensures none { IfNone result ((x : ℕ) → after < x → object_lives self.now.book x ≡ false) }
         ensures some { IfSome result (IsLeastAbove self.now.book after) }
     {
         self.inner.book.above(after)
@@ -199,7 +199,7 @@ impl<N: Node> Graph<N> {
             → ClosesOne cause.now at self.old.book self.new.book (O.events out.old)
             (O.events out.new) }
         ensures shut { open_count (port self.new.book at.obj.0 at.slot) ≡ 0 }
-        ensures not { open_count (port self.old.book at.obj.0 at.slot) ≡ 0 → IsSame self.old
+        ensures not { open_count (port self.old.book at.obj.0 at.slot) ≡ 0 → StaysSame self.old
             self.new (O.events out.old) (O.events out.new) }
     {
         self.inner.close_port(at, cause, now, out);
@@ -216,7 +216,8 @@ impl<N: Node> Graph<N> {
             (O.events out.new) }
     {
         if self.inner.book.is_free(to) {
-            self.inner.enter_down(to, msg, now, out);
+            let key = self.inner.book.key(to.obj);
+            self.inner.enter_down(to, key, msg, now, out);
             Reach::Entered
         } else {
             out.event(&GraphEvent::Dropped(to).spelled());
@@ -236,7 +237,8 @@ impl<N: Node> Graph<N> {
     {
         let _length = (msg.first.len(), msg.second.len());
         if self.inner.book.is_free(to) {
-            self.inner.enter_up(to, msg, now, out);
+            let key = self.inner.book.key(to.obj);
+            self.inner.enter_up(to, key, msg, now, out);
             Reach::Entered
         } else {
             out.event(&GraphEvent::Dropped(to).spelled());
@@ -247,10 +249,10 @@ impl<N: Node> Graph<N> {
     /// Time has come to `now`, in milliseconds. Dropped where the object is dead, and then nothing
     /// happens.
     pub fn time<O: Outside>(&mut self, id: ObjId, now: u64, out: &mut O) -> Reach
-        ensures dropped { (result ≡ reach.Dropped) ↔ (live self.old.book id.0 ≡ false) }
+        ensures dropped { (result ≡ reach.Dropped) ↔ (object_lives self.old.book id.0 ≡ false) }
         ensures went { WentOne N.stands (nature N.kind_of N.Load.first N.Load.second)
             now (Ticks id.0 ∷ []) self.old self.new (O.events out.old) (O.events out.new) }
-        ensures not { result ≡ reach.Dropped → IsSame self.old self.new (O.events out.old)
+        ensures not { result ≡ reach.Dropped → StaysSame self.old self.new (O.events out.old)
             (O.events out.new) }
     {
         if self.inner.book.is_live(id) {
@@ -263,8 +265,8 @@ impl<N: Node> Graph<N> {
 
     /// What the node of a live object has to hand out.
     pub fn harvest(&mut self, id: ObjId) -> Option<N::Load>
-        ensures dead { live self.old.book id.0 ≡ false → IsNone result }
-        ensures gives { live self.old.book id.0 ≡ true → Harvests N.harvests self.old self.new id
+        ensures dead { object_lives self.old.book id.0 ≡ false → IsNone result }
+        ensures gives { object_lives self.old.book id.0 ≡ true → Harvests N.harvests self.old self.new id
             result }
         ensures keeps { KeepsTraces N.stands self.old self.new }
         ensures book { self.new.book ≡ self.old.book }
@@ -291,14 +293,26 @@ impl<N: Node> Graph<N> {
 }
 
 ghost use Rattle.std.specs.Prelude.{List, Option, ◌++◌};
+ghost use Rattle.nb_graph.specs.Hosts.{Stood};
+ghost use Rattle.nb_graph.specs.Lived.{ObjectStands};
+ghost use Rattle.nb_graph.specs.Trace.{NodeEntry};
 ghost use Rattle.nb_graph.specs.Whole.{Objects};
-ghost use Rattle.nb_graph.specs.Went.{Call, Went, WentOne};
+ghost use Rattle.nb_graph.specs.Went.{all_of, GraphCall, Went, WentOne};
 ghost use Rattle.nb_ledger.specs.Flat.{Notice};
 
 /// What happens in calls and in those that come then happens in all of them.
 pub fn one_after_another<N: Node>()
-    ensures { (cs bs : List (Call N.Load)) (a b c : Objects N) (m n o : Option (List Notice))
+    ensures { (cs bs : List (GraphCall N N.Load)) (a b c : Objects N) (m n o : Option (List Notice))
         → Went N.stands (nature N.kind_of N.Load.first N.Load.second) cs a b m n
         → Went N.stands (nature N.kind_of N.Load.first N.Load.second) bs b c n o
         → Went N.stands (nature N.kind_of N.Load.first N.Load.second) (cs ++ bs) a c m o }
+{}
+
+/// Each entry of an object in some calls, also of one that is freed, is one of its node, which
+/// stands for its trace so far, and after it for that with the entry.
+pub fn entries_are_the_nodes_own<N: Node>()
+    ensures { (cs : List (GraphCall N N.Load)) (a b : Objects N) (m n : Option (List Notice)) (x : ℕ)
+        (t : List (NodeEntry N N.Load)) → ObjectStands N.stands a x t
+        → (k : Went N.stands (nature N.kind_of N.Load.first N.Load.second) cs a b m n)
+        → Stood N.stands x t (all_of k.deeds) }
 {}

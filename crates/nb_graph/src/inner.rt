@@ -1,17 +1,17 @@
 ghost use Rattle.std.specs.Prelude.{◌≡◌, ◌≢◌, ℕ, ◌+◌, ◌<◌, ◌^◌, true, false, [], ◌∷◌, ◌++◌, length};
 ghost use Rattle.nb_graph.specs.Accounts.{KeepsBalance};
 ghost use Rattle.nb_graph.specs.Moves.{Mild};
-ghost use Rattle.nb_graph.specs.Trace.{Entry, nature};
+ghost use Rattle.nb_graph.specs.Trace.{NodeEntry, nature};
 ghost use Rattle.nb_graph.specs.Lived.{Lived};
 ghost use Rattle.std.specs.Vec.{vec_capacity};
 ghost use Rattle.nb_ledger.specs.declared.event.GraphEvent.TheVariants.{Made};
 ghost use Rattle.nb_ledger.specs.Flat.{Given, Tells, flat};
 ghost use Rattle.nb_ledger.specs.Flat as notice;
-ghost use Rattle.nb_ledger.specs.GraphRun.{Frame, IsIdle, Step};
-ghost use Rattle.nb_ledger.specs.Ledger.{live, place, state_of};
+ghost use Rattle.nb_ledger.specs.GraphRun.{OnStack, IsIdle, Step};
+ghost use Rattle.nb_ledger.specs.Ledger.{object_lives, place, run_state};
 ghost use Rattle.nb_ledger.specs.Changes.{Adds};
 ghost use Rattle.nb_graph.specs.Order.{LetsOneGo};
-ghost use Rattle.nb_graph.specs.Deeds.{Wants};
+ghost use Rattle.nb_graph.specs.Deeds.{MustMake, Wants};
 ghost use Rattle.nb_ledger.specs.declared.event.GraphEvent.TheVariants as event;
 ghost use Rattle.nb_graph.specs.Lives.{here, Loses, RunFor, SettlesFor, seat};
 ghost use Rattle.nb_graph.specs.Whole.{IsManned};
@@ -30,8 +30,8 @@ pub(crate) struct Inner<N: Node> {
 
 impl<N: Node> Inner<N> {
     /// Frees a live object where its count is 0.
-    pub(crate) fn settle<O: Outside>(&mut self, id: ObjId, out: &mut O)
-        requires lives { live self.old.book id.0 ≡ true }
+    pub(crate) fn settle<O: Outside>(&mut self, id: ObjId, key: usize, out: &mut O)
+        requires lives { object_lives self.old.book id.0 ≡ true }
         requires manned { IsManned N.rank_of self.old.book self.old.nodes.items
             (vec_capacity self.old.nodes) }
         ensures settles { SettlesFor N.stands (nature N.kind_of N.Load.first N.Load.second)
@@ -41,20 +41,20 @@ impl<N: Node> Inner<N> {
         ensures manned { IsManned N.rank_of self.new.book self.new.nodes.items
             (vec_capacity self.new.nodes) }
     {
-        if self.book.is_unused(id) {
+        if self.book.is_unused_at(id, key) {
             self.free(id, out);
         }
     }
 
     fn free<O: Outside>(&mut self, id: ObjId, out: &mut O)
-        requires lives { live self.old.book id.0 ≡ true }
+        requires lives { object_lives self.old.book id.0 ≡ true }
         requires manned { IsManned N.rank_of self.old.book self.old.nodes.items
             (vec_capacity self.old.nodes) }
         ensures told { Tells (O.events out.old) (O.events out.new) (Freed id ∷ []) }
         ensures given { Given (O.events out.old) (O.events out.new) (notice.event (flat
             (Freed id)) ∷ []) }
-        ensures step { (st : List Frame) → Step (state_of self.old.book (MustFree id.0 ∷ st))
-            (Freed id) (state_of self.new.book st) }
+        ensures step { (st : List OnStack) → Step (run_state self.old.book (MustFree id.0 ∷ st))
+            (Freed id) (run_state self.new.book st) }
         ensures len { length self.new.book.objects + 1 ≡ length self.old.book.objects }
         ensures removes { Removes self.old.book self.new.book id.0 }
         ensures loses { Loses (seat self.old.book self.old.nodes.items)
@@ -78,11 +78,11 @@ impl<N: Node> Inner<N> {
         ensures given { Given (O.events out.old) (O.events out.new) (notice.event (flat
             (Made result (N.kind_of node))) ∷ []) }
         ensures serial { result.0 ≡ self.old.book.made + 1 }
-        ensures fresh { live self.old.book result.0 ≡ false }
+        ensures fresh { object_lives self.old.book result.0 ≡ false }
         ensures len { length self.new.book.objects ≡ length self.old.book.objects + 1 }
         ensures small { N.rank_of node < 256 }
-        ensures step { (st : List Frame) → IsIdle st → Step (state_of self.old.book st)
-            (Made result (N.kind_of node)) (state_of self.new.book st) }
+        ensures step { (st : List OnStack) → IsIdle st → Step (run_state self.old.book st)
+            (Made result (N.kind_of node)) (run_state self.new.book st) }
         ensures adds { Adds self.old.book self.new.book result.0 (N.rank_of node) }
         ensures place { place self.new.book result.0 ≡ length self.old.nodes.items }
         ensures nodes { self.new.nodes.items ≡ self.old.nodes.items ++ node ∷ [] }
@@ -110,7 +110,7 @@ impl<N: Node> Inner<N> {
         requires graph { IsGraph N.rank_of self.old.book self.old.nodes.items
             (vec_capacity self.old.nodes) }
         ensures lived { (now : ℕ) → Lived N.stands (nature N.kind_of N.Load.first N.Load.second) now
-            (Wants (Made result (N.kind_of node)) ∷ Wants (Held result) ∷ [])
+            (MustMake result node ∷ Wants (Held result) ∷ [])
             (record { book = self.old.book; nodes = self.old.nodes.items })
             (record { book = self.new.book; nodes = self.new.nodes.items }) (O.events out.old)
             (O.events out.new) }
@@ -128,7 +128,7 @@ impl<N: Node> Inner<N> {
 
     /// Takes a hold away, and frees the object if that was the last of its count.
     pub(crate) fn let_go<O: Outside>(&mut self, id: ObjId, out: &mut O)
-        requires lives { live self.old.book id.0 ≡ true }
+        requires lives { object_lives self.old.book id.0 ≡ true }
         requires held { 0 < holds self.old.book id.0 }
         requires graph { IsGraph N.rank_of self.old.book self.old.nodes.items
             (vec_capacity self.old.nodes) }
@@ -145,7 +145,8 @@ impl<N: Node> Inner<N> {
             (vec_capacity self.new.nodes) }
     {
         self.book.let_go(id, out);
-        self.settle(id, out);
+        let key = self.book.key(id);
+        self.settle(id, key, out);
     }
 }
 

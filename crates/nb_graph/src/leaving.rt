@@ -1,7 +1,7 @@
 // An entry ends.
 ghost use Rattle.std.specs.Prelude.{◌≡◌, ◌<◌, ◌∷◌, true, None};
 ghost use Rattle.std.specs.Vec.{vec_capacity};
-ghost use Rattle.nb_ledger.specs.Ledger.{port, live};
+ghost use Rattle.nb_ledger.specs.Ledger.{port, object_lives};
 ghost use Rattle.nb_graph.specs.Calm.{IsSteady};
 ghost use Rattle.nb_graph.specs.Trace.{nature};
 ghost use Rattle.nb_graph.specs.Deeds.{Holds};
@@ -16,8 +16,8 @@ use nb_ledger::{Outside, Port};
 
 impl<N: Node> Inner<N> {
     /// Ends an entry, and frees its object if that was the last of its count.
-    pub(crate) fn leave<O: Outside>(&mut self, at: Port, was: bool, out: &mut O)
-        requires lives { live self.old.book at.obj.0 ≡ true }
+    pub(crate) fn leave<O: Outside>(&mut self, at: Port, key: usize, was: bool, out: &mut O)
+        requires lives { object_lives self.old.book at.obj.0 ≡ true }
         requires steady { IsSteady N.rank_of self.old.book self.old.nodes.items
             (vec_capacity self.old.nodes) }
         ensures ends { (by : TheWay) → (by ≡ Close → ⊥) → EndsFor N.stands
@@ -28,7 +28,7 @@ impl<N: Node> Inner<N> {
         ensures steady { IsSteady N.rank_of self.new.book self.new.nodes.items
             (vec_capacity self.new.nodes) }
     {
-        self.book.leave(at, was, out);
-        self.settle(at.obj, out);
+        self.book.leave(at, key, was, out);
+        self.settle(at.obj, key, out);
     }
 }

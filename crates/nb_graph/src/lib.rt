@@ -26,6 +26,6 @@ mod timing;
 mod upward;
 
 pub use effects::{Emit, Few, Fx, Make};
-pub use graph::{Graph, NotOpen, Reach};
+pub use graph::{Graph, NotOpen, Reach, entries_are_the_nodes_own, one_after_another};
 pub use nb_ledger::{GraphEvent, Msg, ObjId, Outside, Port, Way};
 pub use node::{Node, Parts};

@@ -1,10 +1,10 @@
 // Loads that were lent come back.
 ghost use Rattle.std.specs.Prelude.{◌≡◌, ◌+◌, ◌<◌, ◌++◌, ◌∷◌, ℕ, true, [], List, Option};
 ghost use Rattle.std.specs.Vec.{vec_capacity};
-ghost use Rattle.nb_ledger.specs.Ledger.{busy, live};
+ghost use Rattle.nb_ledger.specs.Ledger.{busy, object_lives};
 ghost use Rattle.nb_graph.specs.Trace.{carried, in_list, lent, loads, nature};
 ghost use Rattle.nb_graph.specs.Deeds.{returns_of, Returns};
-ghost use Rattle.nb_graph.specs.Lives.{Back, here, Lives, nodes_at};
+ghost use Rattle.nb_graph.specs.Lives.{Back, here, StaysTraced, nodes_at};
 ghost use Rattle.nb_graph.specs.Whole.{IsManned};
 ghost use Rattle.nb_ledger.specs.Flat.{Notice};
 ghost use Rattle.nb_graph.specs.Flows.{Still};
@@ -16,12 +16,12 @@ use nb_ledger::ObjId;
 
 impl<N: Node> Inner<N> {
     /// Gives a lent load back to its node.
-    pub(crate) fn give_back(&mut self, id: ObjId, load: N::Load)
-        requires lives { live self.old.book id.0 ≡ true }
+    pub(crate) fn give_back(&mut self, id: ObjId, key: usize, load: N::Load)
+        requires lives { object_lives self.old.book id.0 ≡ true }
         requires manned { IsManned N.rank_of self.old.book self.old.nodes.items
             (vec_capacity self.old.nodes) }
         ensures book { self.new.book ≡ self.old.book }
-        ensures lives { (now : ℕ) (u : Option (List Notice)) → Lives N.stands
+        ensures lives { (now : ℕ) (u : Option (List Notice)) → StaysTraced N.stands
             (nature N.kind_of N.Load.first N.Load.second) now
             (nodes_at self.old.book self.old.nodes.items u)
             (nodes_at self.new.book self.new.nodes.items u)
@@ -31,65 +31,57 @@ impl<N: Node> Inner<N> {
         ensures manned { IsManned N.rank_of self.new.book self.new.nodes.items
             (vec_capacity self.new.nodes) }
     {
-        let place = self.book.place(id);
+        let place = self.book.place_at(id, key);
         self.nodes[place].regain(load);
     }
 
     /// Gives the loads of effects that aren't run back to their node.
-    pub(crate) fn take_back(&mut self, id: ObjId, fx: Fx<N, N::Load>)
-        requires lives { live self.old.book id.0 ≡ true }
+    pub(crate) fn take_back(&mut self, id: ObjId, key: usize, fx: &mut Fx<N, N::Load>)
+        requires lives { object_lives self.old.book id.0 ≡ true }
         requires manned { IsManned N.rank_of self.old.book self.old.nodes.items
             (vec_capacity self.old.nodes) }
         ensures book { self.new.book ≡ self.old.book }
-        ensures lives { (now : ℕ) (u : Option (List Notice)) → Lives N.stands
+        ensures lives { (now : ℕ) (u : Option (List Notice)) → StaysTraced N.stands
             (nature N.kind_of N.Load.first N.Load.second) now
             (nodes_at self.old.book self.old.nodes.items u)
             (nodes_at self.new.book self.new.nodes.items u) (Back (busy self.old.book) id.0
-            (lent fx))
-            (λ st. returns_of id.0 (lent fx) ++ st) here (Calms
+            (lent fx.old))
+            (λ st. returns_of id.0 (lent fx.old) ++ st) here (Calms
             (nature N.kind_of N.Load.first N.Load.second) self.old.book self.old.book
             Still) [] }
         ensures manned { IsManned N.rank_of self.new.book self.new.nodes.items
             (vec_capacity self.new.nodes) }
     {
-        let Fx {
-            makes: _,
-            downs,
-            ups,
-            closes: _,
-            took: _,
-        } = fx;
-        self.take_few(id, downs);
-        self.take_few(id, ups);
+        self.take_few(id, key, &mut fx.downs);
+        self.take_few(id, key, &mut fx.ups);
     }
 
-    fn take_few(&mut self, id: ObjId, few: Few<Emit<N::Load>>)
-        requires lives { live self.old.book id.0 ≡ true }
+    fn take_few(&mut self, id: ObjId, key: usize, few: &mut Few<Emit<N::Load>>)
+        requires lives { object_lives self.old.book id.0 ≡ true }
         requires manned { IsManned N.rank_of self.old.book self.old.nodes.items
             (vec_capacity self.old.nodes) }
         ensures book { self.new.book ≡ self.old.book }
-        ensures lives { (now : ℕ) (u : Option (List Notice)) → Lives N.stands
+        ensures lives { (now : ℕ) (u : Option (List Notice)) → StaysTraced N.stands
             (nature N.kind_of N.Load.first N.Load.second) now
             (nodes_at self.old.book self.old.nodes.items u)
             (nodes_at self.new.book self.new.nodes.items u)
-            (Back (busy self.old.book) id.0 (loads few)) (λ st. returns_of id.0
-            (loads few) ++ st) here
+            (Back (busy self.old.book) id.0 (loads few.old)) (λ st. returns_of id.0
+            (loads few.old) ++ st) here
             (Calms (nature N.kind_of N.Load.first N.Load.second) self.old.book self.old.book Still)
             [] }
         ensures manned { IsManned N.rank_of self.new.book self.new.nodes.items
             (vec_capacity self.new.nodes) }
     {
-        let Few { first, second } = few;
-        self.take_one(id, first);
-        self.take_one(id, second);
+        self.take_one(id, key, few.first.take());
+        self.take_one(id, key, few.second.take());
     }
 
-    fn take_one(&mut self, id: ObjId, emit: Option<Emit<N::Load>>)
-        requires lives { live self.old.book id.0 ≡ true }
+    fn take_one(&mut self, id: ObjId, key: usize, emit: Option<Emit<N::Load>>)
+        requires lives { object_lives self.old.book id.0 ≡ true }
         requires manned { IsManned N.rank_of self.old.book self.old.nodes.items
             (vec_capacity self.old.nodes) }
         ensures book { self.new.book ≡ self.old.book }
-        ensures lives { (now : ℕ) (u : Option (List Notice)) → Lives N.stands
+        ensures lives { (now : ℕ) (u : Option (List Notice)) → StaysTraced N.stands
             (nature N.kind_of N.Load.first N.Load.second) now
             (nodes_at self.old.book self.old.nodes.items u)
             (nodes_at self.new.book self.new.nodes.items u)
@@ -101,18 +93,18 @@ impl<N: Node> Inner<N> {
             (vec_capacity self.new.nodes) }
     {
         match emit {
-            Some(emit) => self.take_emit(id, emit),
+            Some(emit) => self.take_emit(id, key, emit),
             None => {}
         }
     }
 
     /// Gives the load of a message that an entry asked for back to its node.
-    pub(crate) fn take_emit(&mut self, id: ObjId, emit: Emit<N::Load>)
-        requires lives { live self.old.book id.0 ≡ true }
+    pub(crate) fn take_emit(&mut self, id: ObjId, key: usize, emit: Emit<N::Load>)
+        requires lives { object_lives self.old.book id.0 ≡ true }
         requires manned { IsManned N.rank_of self.old.book self.old.nodes.items
             (vec_capacity self.old.nodes) }
         ensures book { self.new.book ≡ self.old.book }
-        ensures lives { (now : ℕ) (u : Option (List Notice)) → Lives N.stands
+        ensures lives { (now : ℕ) (u : Option (List Notice)) → StaysTraced N.stands
             (nature N.kind_of N.Load.first N.Load.second) now
             (nodes_at self.old.book self.old.nodes.items u)
             (nodes_at self.new.book self.new.nodes.items u)
@@ -132,15 +124,15 @@ impl<N: Node> Inner<N> {
             to: _,
             load,
         } = emit;
-        self.take_load(id, load);
+        self.take_load(id, key, load);
     }
 
-    fn take_load(&mut self, id: ObjId, load: Option<N::Load>)
-        requires lives { live self.old.book id.0 ≡ true }
+    fn take_load(&mut self, id: ObjId, key: usize, load: Option<N::Load>)
+        requires lives { object_lives self.old.book id.0 ≡ true }
         requires manned { IsManned N.rank_of self.old.book self.old.nodes.items
             (vec_capacity self.old.nodes) }
         ensures book { self.new.book ≡ self.old.book }
-        ensures lives { (now : ℕ) (u : Option (List Notice)) → Lives N.stands
+        ensures lives { (now : ℕ) (u : Option (List Notice)) → StaysTraced N.stands
             (nature N.kind_of N.Load.first N.Load.second) now
             (nodes_at self.old.book self.old.nodes.items u)
             (nodes_at self.new.book self.new.nodes.items u)
@@ -152,7 +144,7 @@ impl<N: Node> Inner<N> {
             (vec_capacity self.new.nodes) }
     {
         match load {
-            Some(load) => self.give_back(id, load),
+            Some(load) => self.give_back(id, key, load),
             None => {}
         }
     }

@@ -4,7 +4,7 @@ ghost use Rattle.std.specs.Prelude.{true, ℕ, [], ◌∷◌, ◌++◌};
 ghost use Rattle.std.specs.Bool.{OnFalse};
 ghost use Rattle.std.specs.Vec.{vec_capacity};
 ghost use Rattle.nb_ledger.specs.declared.port.PortState.TheVariants as state;
-ghost use Rattle.nb_ledger.specs.Ledger.{live, busy, rank, port};
+ghost use Rattle.nb_ledger.specs.Ledger.{object_lives, busy, rank, port};
 ghost use Rattle.nb_graph.specs.Trace.{nature};
 ghost use Rattle.nb_graph.specs.Flows.{Making};
 ghost use Rattle.nb_graph.specs.Moves.{always, asked_due};
@@ -39,23 +39,23 @@ impl<N: Node> Inner<N> {
     pub(crate) fn run_make<O: Outside>(
         &mut self,
         id: ObjId,
-        make: Option<Make<N>>,
+        makes: &mut Option<Make<N>>,
         now: u64,
         out: &mut O,
     )
         requires runs { busy self.old.book id.0 ≡ true }
-        requires make { IfSome make (IsMake N.rank_of N.stands (rank self.old.book id.0)) }
+        requires make { IfSome makes.old (IsMake N.rank_of N.stands (rank self.old.book id.0)) }
         requires steady { IsSteady N.rank_of self.old.book self.old.nodes.items
             (vec_capacity self.old.nodes) }
         ensures lives { LivelyInFor N.stands (nature N.kind_of N.Load.first N.Load.second) now id.0
             self.old.book self.new.book self.old.nodes.items self.new.nodes.items
             (Same (busy self.old.book)) always (asked_due id.0) (Making self.old.book id.0)
-            (λ st. makes_of (nature N.kind_of N.Load.first N.Load.second) id.0 make ++ st) here
+            (λ st. makes_of id.0 makes.old ++ st) here
             (O.events out.old) (O.events out.new) }
         ensures steady { IsSteady N.rank_of self.new.book self.new.nodes.items
             (vec_capacity self.new.nodes) }
     {
-        match make {
+        match makes.take() {
             Some(Make { node, slot }) => self.make_at(Port { obj: id, slot }, node, now, out),
             None => {}
         }
@@ -71,7 +71,7 @@ impl<N: Node> Inner<N> {
             at.obj.0
             self.old.book self.new.book self.old.nodes.items self.new.nodes.items
             (Same (busy self.old.book)) always (asked_due at.obj.0) (Making self.old.book at.obj.0)
-            (λ st. Makes at (N.kind_of node) ∷ st) here (O.events out.old) (O.events out.new) }
+            (λ st. Makes at node ∷ st) here (O.events out.old) (O.events out.new) }
         ensures steady { IsSteady N.rank_of self.new.book self.new.nodes.items
             (vec_capacity self.new.nodes) }
     {
@@ -99,7 +99,7 @@ impl<N: Node> Inner<N> {
             N.Load.second) now
             self.old.book self.new.book self.old.nodes.items self.new.nodes.items
             (Same (busy self.old.book)) (asked_due at.obj.0) (Making self.old.book at.obj.0)
-            (λ st. Makes at (N.kind_of node) ∷ st) (O.events out.old) (O.events out.new) }
+            (λ st. Makes at node ∷ st) (O.events out.old) (O.events out.new) }
         ensures steady { IsSteady N.rank_of self.new.book self.new.nodes.items
             (vec_capacity self.new.nodes) }
     {

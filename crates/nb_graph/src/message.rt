@@ -1,8 +1,9 @@
 // The messages that entries ask for, and those that they leave.
 ghost use Rattle.std.specs.Prelude.{◌≡◌, ◌+◌, ◌<◌, ◌≤◌, ◌++◌, length, [], ◌-◌};
-ghost use Rattle.nb_graph.specs.Trace.{said, said_behind, part};
+ghost use Rattle.nb_graph.specs.Effects.{IsPartOf};
+ghost use Rattle.nb_graph.specs.Trace.{carries, nature, bytes_between, said, said_behind};
 
-use crate::Emit;
+use crate::{Emit, Node, Parts};
 use nb_ledger::Msg;
 
 /// The message of an entry that has none.
@@ -15,13 +16,37 @@ pub(crate) const NOTHING: Msg<'static> = Msg {
     second: &[],
 };
 
-/// The message that an entry with a message of the record `rec` asks for, of these bytes.
-pub(crate) fn with_bytes<'m, L>(
-    emit: &Emit<L>,
+/// The message that an entry asks for, of a message of the record `rec` with these bytes.
+pub(crate) fn message_of<'m, N: Node>(
+    emit: &'m Emit<N::Load>,
     rec: u32,
     first: &'m [u8],
     second: &'m [u8],
 ) -> Msg<'m>
+    requires { IsPartOf (length first.now + length second.now) emit.now }
+    ensures { said result ≡ record {
+      tag = emit.now.tag;
+      rec = rec;
+      a = emit.now.a;
+      b = emit.now.b;
+      bytes = carries (nature N.kind_of N.Load.first N.Load.second) (first.now ++ second.now)
+          emit.now.from emit.now.to emit.now.load;
+    } }
+{
+    match &emit.load {
+        Some(load) => {
+            let (first, second) = load.parts();
+            with_bytes(emit, rec, first, second)
+        }
+        None => {
+            let (first, second) = cut(first, second, emit.from, emit.to);
+            with_bytes(emit, rec, first, second)
+        }
+    }
+}
+
+/// The same of these bytes.
+fn with_bytes<'m, L>(emit: &Emit<L>, rec: u32, first: &'m [u8], second: &'m [u8]) -> Msg<'m>
     ensures { said result ≡ record {
       tag = emit.now.tag;
       rec = rec;
@@ -40,19 +65,19 @@ pub(crate) fn with_bytes<'m, L>(
     }
 }
 
-/// Bytes `from` to `to` of a message, in two parts.
-pub(crate) fn cut<'m>(msg: &Msg<'m>, from: u32, to: u32) -> (&'m [u8], &'m [u8])
+/// Bytes `from` to `to` of a message's two parts, in two parts.
+fn cut<'m>(first: &'m [u8], second: &'m [u8], from: u32, to: u32) -> (&'m [u8], &'m [u8])
     requires order { from ≤ to }
-    requires within { to ≤ length msg.now.first.now + length msg.now.second.now }
+    requires within { to ≤ length first.now + length second.now }
     ensures length { length result.0.now + length result.1.now ≡ to - from }
-    ensures bytes { result.0.now ++ result.1.now ≡ part (said msg.now).bytes from to }
+    ensures bytes { result.0.now ++ result.1.now ≡ bytes_between (first.now ++ second.now) from to }
 {
-    let seam = msg.first.len();
+    let seam = first.len();
     let from = from as usize;
     let to = to as usize;
-    let first = &msg.first[from.min(seam)..to.min(seam)];
-    let second = &msg.second[from.saturating_sub(seam)..to.saturating_sub(seam)];
-    (first, second)
+    let front = &first[from.min(seam)..to.min(seam)];
+    let back = &second[from.saturating_sub(seam)..to.saturating_sub(seam)];
+    (front, back)
 }
 
 /// A message without its first `took` bytes.

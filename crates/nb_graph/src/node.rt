@@ -1,7 +1,7 @@
 ghost use Rattle.std.specs.Prelude.{◌≡◌, ◌+◌, ◌≤◌, ℕ, List, [], ◌∷◌, ◌++◌, Option, OnOk, length};
 ghost use Rattle.std.specs.Prelude.{is_ok};
-ghost use Rattle.nb_graph.specs.Trace.{Entry, up, down, closed, time, regain, said, IsSettled};
-ghost use Rattle.nb_graph.specs.Trace.{Awaits};
+ghost use Rattle.nb_graph.specs.Trace.{NodeEntry, up, down, closed, time, regain, said, IsSettled};
+ghost use Rattle.nb_graph.specs.Trace.{LacksLoad};
 ghost use Rattle.nb_graph.specs.Effects.{IsNothing, MayAsk, MayAskBelow, TakesSome};
 
 use crate::{Fx, Msg};
@@ -37,7 +37,7 @@ pub trait Node: Sized + Drop {
     /// The traces that an object stands for, which is all that it means: a trace has its entries so
     /// far, each with what it was called with, what it answered and its effects, and the loads that
     /// came back to it.
-    ghost stands: { Self → List (Entry Self Self.Load) → Type 0 };
+    ghost stands: { Self → List (NodeEntry Self Self.Load) → Type 0 };
 
     /// The rank, which never changes: an object's links go down to lower ranks.
     fn rank(&self) -> u8
@@ -64,7 +64,7 @@ pub trait Node: Sized + Drop {
         ensures took { fx.new.took ≤ length msg.now.first.now + length msg.now.second.now }
         ensures takes { OnOk result (TakesSome slot (length msg.now.first.now + length
             msg.now.second.now) fx.new) }
-        ensures stands { (t : List (Entry Self Self.Load)) → stands self.old t → IsSettled t
+        ensures stands { (t : List (NodeEntry Self Self.Load)) → stands self.old t → IsSettled t
             → stands self.new (t ++ up slot (said msg.now) now (is_ok result) fx.new ∷ []) };
 
     /// A message comes from above.
@@ -78,7 +78,7 @@ pub trait Node: Sized + Drop {
         ensures rank { rank_of self.new ≡ rank_of self.old }
         ensures kind { kind_of self.new ≡ kind_of self.old }
         ensures asks { MayAskBelow (length msg.now.first.now + length msg.now.second.now) fx.new }
-        ensures stands { (t : List (Entry Self Self.Load)) → stands self.old t
+        ensures stands { (t : List (NodeEntry Self Self.Load)) → stands self.old t
             → stands self.new (t ++ down (said msg.now) now (is_ok result) fx.new ∷ []) };
 
     /// The port `slot` was closed from its other end.
@@ -87,7 +87,7 @@ pub trait Node: Sized + Drop {
         ensures rank { rank_of self.new ≡ rank_of self.old }
         ensures kind { kind_of self.new ≡ kind_of self.old }
         ensures asks { MayAskBelow 0 fx.new }
-        ensures stands { (t : List (Entry Self Self.Load)) → stands self.old t
+        ensures stands { (t : List (NodeEntry Self Self.Load)) → stands self.old t
             → stands self.new (t ++ closed slot cause.now now fx.new ∷ []) };
 
     /// Time has come to `now`, in milliseconds. All loads that were lent came back before.
@@ -96,14 +96,14 @@ pub trait Node: Sized + Drop {
         ensures rank { rank_of self.new ≡ rank_of self.old }
         ensures kind { kind_of self.new ≡ kind_of self.old }
         ensures asks { MayAsk rank_of stands (rank_of self.old) 0 fx.new }
-        ensures stands { (t : List (Entry Self Self.Load)) → stands self.old t → IsSettled t
+        ensures stands { (t : List (NodeEntry Self Self.Load)) → stands self.old t → IsSettled t
             → stands self.new (t ++ time now (is_ok result) fx.new ∷ []) };
 
     /// A load that was lent comes back.
     fn regain(&mut self, load: Self::Load)
         ensures rank { rank_of self.new ≡ rank_of self.old }
         ensures kind { kind_of self.new ≡ kind_of self.old }
-        ensures stands { (t : List (Entry Self Self.Load)) → stands self.old t → Awaits t load
+        ensures stands { (t : List (NodeEntry Self Self.Load)) → stands self.old t → LacksLoad t load
             → stands self.new (t ++ regain load ∷ []) };
 
     /// What the object has to hand out, once.
@@ -111,6 +111,6 @@ pub trait Node: Sized + Drop {
         ensures gives { harvests self.old result self.new }
         ensures rank { rank_of self.new ≡ rank_of self.old }
         ensures kind { kind_of self.new ≡ kind_of self.old }
-        ensures stands { (t : List (Entry Self Self.Load)) → stands self.old t → stands self.new
+        ensures stands { (t : List (NodeEntry Self Self.Load)) → stands self.old t → stands self.new
             t };
 }

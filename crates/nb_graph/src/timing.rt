@@ -1,28 +1,27 @@
 // Time comes to an object.
 ghost use Rattle.std.specs.Prelude.{◌≡◌, ◌+◌, ◌<◌, ◌++◌, ◌∷◌, ℕ, true, false, []};
 ghost use Rattle.std.specs.Vec.{vec_capacity};
-ghost use Rattle.nb_ledger.specs.Ledger.{busy, live, rank};
+ghost use Rattle.nb_ledger.specs.Ledger.{busy, object_lives, rank};
 ghost use Rattle.nb_graph.specs.Whole.{port_at};
-ghost use Rattle.nb_graph.specs.Flows.{asked_sent, Doing, Keeping};
+ghost use Rattle.nb_graph.specs.Flows.{asked_sent, DoesEffects, Keeping};
 ghost use Rattle.nb_graph.specs.Calm.{IsSteady, Starts};
-ghost use Rattle.nb_graph.specs.Trace.{nature, silence, time};
-ghost use Rattle.nb_graph.specs.Deeds.{Hands, Ticks};
+ghost use Rattle.nb_graph.specs.Trace.{lent, nature, silence, time};
+ghost use Rattle.nb_graph.specs.Deeds.{Hands, Ticks, runs_of};
 ghost use Rattle.nb_graph.specs.Lives.{Back, Same, here, IsBelow, LivelyFor, LivelyInFor};
 ghost use Rattle.nb_ledger.specs.declared.event.GraphEvent.TheVariants.{Entered};
 ghost use Rattle.nb_ledger.specs.declared.event.Way.TheVariants as way;
-ghost use Rattle.nb_graph.specs.Effects.{asked_loads, asked_runs, MayAskTime};
+ghost use Rattle.nb_graph.specs.Effects.{MayAskTime};
 ghost use Rattle.nb_graph.specs.Moves.{HasAsked, none_due};
 
-use crate::Node;
-use crate::asking::Asked;
 use crate::inner::Inner;
 use crate::message::NOTHING;
+use crate::{Fx, Node};
 use nb_ledger::{ObjId, Outside, Port, Way};
 
 impl<N: Node> Inner<N> {
     /// Time enters a live object.
     pub(crate) fn enter_time<O: Outside>(&mut self, id: ObjId, now: u64, out: &mut O)
-        requires lives { live self.old.book id.0 ≡ true }
+        requires lives { object_lives self.old.book id.0 ≡ true }
         requires idle { (x : ℕ) → busy self.old.book x ≡ false }
         requires steady { IsSteady N.rank_of self.old.book self.old.nodes.items
             (vec_capacity self.old.nodes) }
@@ -39,33 +38,45 @@ impl<N: Node> Inner<N> {
             (vec_capacity self.new.nodes) }
     {
         let at = Port { obj: id, slot: 4 };
-        let was = self.book.enter(at, Way::Time, out);
-        let asked = self.ask_time(id, now);
-        self.after_time(id, asked, now, out);
-        self.leave(at, was, out);
+        let key = self.book.key(id);
+        let was = self.book.enter(at, key, Way::Time, out);
+        let mut fx = Fx::none();
+        let done = self.ask_time(id, key, now, &mut fx);
+        self.after_time(id, key, done, &mut fx, now, out);
+        self.leave(at, key, was, out);
     }
 
-    fn after_time<O: Outside>(&mut self, id: ObjId, asked: Asked<N, N::Load>, now: u64, out: &mut O)
+    fn after_time<O: Outside>(
+        &mut self,
+        id: ObjId,
+        key: usize,
+        done: bool,
+        fx: &mut Fx<N, N::Load>,
+        now: u64,
+        out: &mut O,
+    )
         requires runs { busy self.old.book id.0 ≡ true }
-        requires asks { MayAskTime N.rank_of N.stands (rank self.old.book id.0) asked }
+        requires asks { MayAskTime N.rank_of N.stands (rank self.old.book id.0) done fx.old }
         requires below { IsBelow (rank self.old.book id.0) self.old.book }
         requires steady { IsSteady N.rank_of self.old.book self.old.nodes.items
             (vec_capacity self.old.nodes) }
         ensures lives { LivelyInFor N.stands (nature N.kind_of N.Load.first N.Load.second) now id.0
             self.old.book self.new.book self.old.nodes.items self.new.nodes.items
-            (Back (busy self.old.book) id.0 (asked_loads asked))
-            (HasAsked id.0 (asked_sent (nature N.kind_of N.Load.first N.Load.second) [] asked))
+            (Back (busy self.old.book) id.0 (lent fx.old))
+            (HasAsked id.0 (asked_sent (nature N.kind_of N.Load.first N.Load.second) [] done
+            fx.old))
             none_due
-            (Doing self.old.book id.0 (asked_sent (nature N.kind_of N.Load.first N.Load.second) []
-            asked))
-            (λ st. asked_runs (nature N.kind_of N.Load.first N.Load.second) id.0 silence asked ++
+            (DoesEffects self.old.book id.0 (asked_sent (nature N.kind_of N.Load.first N.Load.second) [] done
+            fx.old))
+            (λ st. runs_of (nature N.kind_of N.Load.first N.Load.second) id.0 silence done fx.old ++
             st) here (O.events out.old) (O.events out.new) }
         ensures steady { IsSteady N.rank_of self.new.book self.new.nodes.items
             (vec_capacity self.new.nodes) }
     {
-        match asked {
-            Asked::Done(fx) => self.effects(id, &NOTHING, fx, now, out),
-            Asked::NoMemory(fx) => self.fail(id, fx, now, out),
+        if done {
+            self.effects(id, key, &NOTHING, fx, now, out);
+        } else {
+            self.fail(id, key, fx, now, out);
         }
     }
 }

@@ -13,21 +13,28 @@ ghost use Rattle.nb_graph.specs.Lives.{Back, Same, here, IsBelow, IsUnder, Livel
 ghost use Rattle.nb_ledger.specs.declared.event.GraphEvent.TheVariants.{Entered};
 ghost use Rattle.nb_ledger.specs.declared.event.Way.TheVariants as way;
 ghost use Rattle.nb_graph.specs.Effects.{ClosesSlot, MayAsk, MayAskUp, AreUps, IsUp};
-ghost use Rattle.nb_graph.specs.Flows.{Doing, Leaves, Rising};
+ghost use Rattle.nb_graph.specs.Flows.{DoesEffects, Leaves, Rising};
 ghost use Rattle.nb_graph.specs.Moves.{HasAsked, none_due};
 ghost use Rattle.nb_graph.specs.Again.{Delivered, Gives as GivesAll, GoesOn, LeftOn};
-ghost use Rattle.nb_graph.specs.Lively.{Grows};
+ghost use Rattle.nb_graph.specs.Lively.{GrowsLively};
 
-use crate::asking::Asked;
 use crate::inner::Inner;
-use crate::message::{behind, cut, with_bytes};
-use crate::{Emit, Few, Fx, Node, Parts};
+use crate::message::{behind, message_of};
+use crate::{Emit, Few, Fx, Node};
 use nb_ledger::{GraphEvent, Msg, ObjId, Outside, Port, PortState, Way};
 
 impl<N: Node> Inner<N> {
-    /// A message enters an object from below.
+    /// A message enters an object from below. Here and below `key` is the key of the object in the
+    /// book.
     #[cycle(lively)]
-    pub(crate) fn enter_up<O: Outside>(&mut self, at: Port, msg: &Msg<'_>, now: u64, out: &mut O)
+    pub(crate) fn enter_up<O: Outside>(
+        &mut self,
+        at: Port,
+        key: usize,
+        msg: &Msg<'_>,
+        now: u64,
+        out: &mut O,
+    )
         requires slot { (1 ≤ at.slot) × (at.slot ≤ 3) }
         requires open { IsOpen (port self.old.book at.obj.0 at.slot) }
         requires small { length msg.now.first.now + length msg.now.second.now < 2 ^ 65 }
@@ -45,14 +52,14 @@ impl<N: Node> Inner<N> {
         ensures steady { IsSteady N.rank_of self.new.book self.new.nodes.items
             (vec_capacity self.new.nodes) }
     {
-        let was = self.book.enter(at, Way::Up, out);
-        self.deliver(at, msg, now, out);
-        self.leave(at, was, out);
+        let was = self.book.enter(at, key, Way::Up, out);
+        self.deliver(at, key, msg, now, out);
+        self.leave(at, key, was, out);
     }
 
     /// A message is given to the node of an entry from below, and what it leaves of it again.
     #[cycle(lively)]
-    fn deliver<O: Outside>(&mut self, at: Port, msg: &Msg<'_>, now: u64, out: &mut O)
+    fn deliver<O: Outside>(&mut self, at: Port, key: usize, msg: &Msg<'_>, now: u64, out: &mut O)
         requires slot { 1 ≤ at.slot }
         requires open { IsOpen (port self.old.book at.obj.0 at.slot) }
         requires runs { busy self.old.book at.obj.0 ≡ true }
@@ -68,7 +75,7 @@ impl<N: Node> Inner<N> {
     {
         let mut rest = Some(*msg);
         while let Some(part) = rest {
-            rest = self.give(at, &part, now, out);
+            rest = self.give(at, key, &part, now, out);
         }
     }
 
@@ -77,6 +84,7 @@ impl<N: Node> Inner<N> {
     fn give<'m, O: Outside>(
         &mut self,
         at: Port,
+        key: usize,
         msg: &Msg<'m>,
         now: u64,
         out: &mut O,
@@ -94,52 +102,52 @@ impl<N: Node> Inner<N> {
         ensures less { IfSome result (λ r. length r.first.now + length r.second.now
             < length msg.now.first.now + length msg.now.second.now) }
         ensures open { IfSome result (λ r. IsOpen (port self.new.book at.obj.0 at.slot)) }
-        ensures grows { Grows self.old.book self.new.book }
+        ensures grows { GrowsLively self.old.book self.new.book }
         ensures steady { IsSteady N.rank_of self.new.book self.new.nodes.items
             (vec_capacity self.new.nodes) }
     {
-        let asked = self.ask_up(at, msg, now);
-        self.after_up(at, msg, asked, now, out)
+        let mut fx = Fx::none();
+        let done = self.ask_up(at, key, msg, now, &mut fx);
+        self.after_up(at, key, msg, done, &mut fx, now, out)
     }
 
     #[cycle(lively)]
     fn after_up<'m, O: Outside>(
         &mut self,
         at: Port,
+        key: usize,
         msg: &Msg<'m>,
-        asked: Asked<N, N::Load>,
+        done: bool,
+        fx: &mut Fx<N, N::Load>,
         now: u64,
         out: &mut O,
     ) -> Option<Msg<'m>>
         requires slot { 1 ≤ at.slot }
         requires runs { busy self.old.book at.obj.0 ≡ true }
         requires asks { MayAskUp N.rank_of N.stands (rank self.old.book at.obj.0) at.slot
-            (length msg.now.first.now + length msg.now.second.now) asked }
+            (length msg.now.first.now + length msg.now.second.now) done fx.old }
         requires small { length msg.now.first.now + length msg.now.second.now < 2 ^ 65 }
         requires below { IsBelow (rank self.old.book at.obj.0) self.old.book }
         requires steady { IsSteady N.rank_of self.old.book self.old.nodes.items
             (vec_capacity self.old.nodes) }
         ensures goes { GoesOn N.stands (nature N.kind_of N.Load.first N.Load.second) now at
-            (said msg.now) asked self.old.book self.new.book self.old.nodes.items
+            (said msg.now) done fx.old self.old.book self.new.book self.old.nodes.items
             self.new.nodes.items
             (O.events out.old) (O.events out.new) result }
         ensures less { IfSome result (λ r. length r.first.now + length r.second.now
             < length msg.now.first.now + length msg.now.second.now) }
         ensures open { IfSome result (λ r. IsOpen (port self.new.book at.obj.0 at.slot)) }
-        ensures grows { Grows self.old.book self.new.book }
+        ensures grows { GrowsLively self.old.book self.new.book }
         ensures steady { IsSteady N.rank_of self.new.book self.new.nodes.items
             (vec_capacity self.new.nodes) }
     {
-        match asked {
-            Asked::Done(fx) => {
-                let took = fx.took as usize;
-                self.effects(at.obj, msg, fx, now, out);
-                self.left_of(at, msg, took, out)
-            }
-            Asked::NoMemory(fx) => {
-                self.fail(at.obj, fx, now, out);
-                None
-            }
+        if done {
+            let took = fx.took as usize;
+            self.effects(at.obj, key, msg, fx, now, out);
+            self.left_of(at, key, msg, took, out)
+        } else {
+            self.fail(at.obj, key, fx, now, out);
+            None
         }
     }
 
@@ -147,6 +155,7 @@ impl<N: Node> Inner<N> {
     fn left_of<'m, O: Outside>(
         &mut self,
         at: Port,
+        key: usize,
         msg: &Msg<'m>,
         took: usize,
         out: &mut O,
@@ -166,7 +175,7 @@ impl<N: Node> Inner<N> {
         if took == msg.first.len() + msg.second.len() {
             return None;
         }
-        if self.book.is_open(at) {
+        if self.book.is_open_at(at, key) {
             Some(behind(msg, took))
         } else {
             out.event(&GraphEvent::Dropped(at).spelled());
@@ -179,78 +188,73 @@ impl<N: Node> Inner<N> {
     pub(crate) fn effects<O: Outside>(
         &mut self,
         id: ObjId,
+        key: usize,
         msg: &Msg<'_>,
-        fx: Fx<N, N::Load>,
+        fx: &mut Fx<N, N::Load>,
         now: u64,
         out: &mut O,
     )
         requires runs { busy self.old.book id.0 ≡ true }
         requires asks { MayAsk N.rank_of N.stands (rank self.old.book id.0)
-            (length msg.now.first.now + length msg.now.second.now) fx }
+            (length msg.now.first.now + length msg.now.second.now) fx.old }
         requires below { IsBelow (rank self.old.book id.0) self.old.book }
         requires steady { IsSteady N.rank_of self.old.book self.old.nodes.items
             (vec_capacity self.old.nodes) }
         ensures lives { LivelyInFor N.stands (nature N.kind_of N.Load.first N.Load.second) now id.0
             self.old.book self.new.book self.old.nodes.items self.new.nodes.items
-            (Back (busy self.old.book) id.0 (lent fx)) (HasAsked id.0
-            (λ k. fx_bytes (nature N.kind_of N.Load.first N.Load.second) k (said msg.now).bytes fx))
-            none_due (Doing self.old.book id.0 (λ k. fx_bytes
+            (Back (busy self.old.book) id.0 (lent fx.old)) (HasAsked id.0
+            (λ k. fx_bytes (nature N.kind_of N.Load.first N.Load.second) k (said msg.now).bytes fx.old))
+            none_due (DoesEffects self.old.book id.0 (λ k. fx_bytes
             (nature N.kind_of N.Load.first N.Load.second)
-            k (said msg.now).bytes fx)) (λ st. runs_of (nature N.kind_of N.Load.first
-            N.Load.second) id.0 (said msg.now) true fx ++ st) here (O.events out.old)
+            k (said msg.now).bytes fx.old)) (λ st. runs_of (nature N.kind_of N.Load.first
+            N.Load.second) id.0 (said msg.now) true fx.old ++ st) here (O.events out.old)
             (O.events out.new) }
-        ensures shut { (k : ℕ) → ClosesSlot k fx.closes.items → open_count
+        ensures shut { (k : ℕ) → ClosesSlot k fx.old.closes.items → open_count
             (port self.new.book id.0 k) ≡ 0 }
         ensures steady { IsSteady N.rank_of self.new.book self.new.nodes.items
             (vec_capacity self.new.nodes) }
     {
-        let Fx {
-            makes,
-            downs,
-            ups,
-            closes,
-            took: _,
-        } = fx;
-        self.run_make(id, makes, now, out);
-        self.run_downs(id, msg, downs, now, out);
-        self.run_ups(id, msg, ups, now, out);
-        self.run_closes(id, closes.as_slice(), now, out);
+        self.run_make(id, &mut fx.makes, now, out);
+        self.run_downs(id, key, msg, &mut fx.downs, now, out);
+        self.run_ups(id, key, msg, &mut fx.ups, now, out);
+        self.run_closes(id, fx.closes.as_slice(), now, out);
     }
 
     #[cycle(lively)]
     fn run_ups<O: Outside>(
         &mut self,
         id: ObjId,
+        key: usize,
         msg: &Msg<'_>,
-        ups: Few<Emit<N::Load>>,
+        ups: &mut Few<Emit<N::Load>>,
         now: u64,
         out: &mut O,
     )
         requires runs { busy self.old.book id.0 ≡ true }
-        requires ups { AreUps (length msg.now.first.now + length msg.now.second.now) ups }
+        requires ups { AreUps (length msg.now.first.now + length msg.now.second.now) ups.old }
         requires below { IsBelow (rank self.old.book id.0) self.old.book }
         requires steady { IsSteady N.rank_of self.old.book self.old.nodes.items
             (vec_capacity self.old.nodes) }
         ensures lives { LivelyFor N.stands (nature N.kind_of N.Load.first N.Load.second) now
             self.old.book
             self.new.book self.old.nodes.items self.new.nodes.items
-            (Back (busy self.old.book) id.0 (loads ups)) none_due
+            (Back (busy self.old.book) id.0 (loads ups.old)) none_due
             (Leaves self.old.book (port_at id.0 0) (few_bytes
             (nature N.kind_of N.Load.first N.Load.second)
-            0 (said msg.now).bytes ups)) (λ st. few_of (nature N.kind_of N.Load.first
-            N.Load.second) id.0 (said msg.now) ups ++ st) (O.events out.old) (O.events out.new) }
+            0 (said msg.now).bytes ups.old)) (λ st. few_of (nature N.kind_of N.Load.first
+            N.Load.second) id.0 (said msg.now) ups.old ++ st) (O.events out.old) (O.events out.new) }
         ensures steady { IsSteady N.rank_of self.new.book self.new.nodes.items
             (vec_capacity self.new.nodes) }
     {
-        let Few { first, second } = ups;
-        self.run_up(id, msg, first, now, out);
-        self.run_up(id, msg, second, now, out);
+        self.run_up(id, key, msg, ups.first.take(), now, out);
+        self.run_up(id, key, msg, ups.second.take(), now, out);
     }
 
     #[cycle(lively)]
     fn run_up<O: Outside>(
         &mut self,
         id: ObjId,
+        key: usize,
         msg: &Msg<'_>,
         emit: Option<Emit<N::Load>>,
         now: u64,
@@ -273,7 +277,7 @@ impl<N: Node> Inner<N> {
             (vec_capacity self.new.nodes) }
     {
         match emit {
-            Some(emit) => self.send_up(id, msg, emit, now, out),
+            Some(emit) => self.send_up(id, key, msg, emit, now, out),
             None => {}
         }
     }
@@ -282,6 +286,7 @@ impl<N: Node> Inner<N> {
     fn send_up<O: Outside>(
         &mut self,
         id: ObjId,
+        key: usize,
         msg: &Msg<'_>,
         emit: Emit<N::Load>,
         now: u64,
@@ -308,24 +313,14 @@ impl<N: Node> Inner<N> {
             obj: id,
             slot: emit.slot,
         };
-        match &emit.load {
-            Some(load) => {
-                let (first, second) = load.parts();
-                let part = with_bytes(&emit, msg.rec, first, second);
-                self.pass_up(at, &part, now, out);
-                self.take_emit(id, emit);
-            }
-            None => {
-                let (first, second) = cut(msg, emit.from, emit.to);
-                let part = with_bytes(&emit, msg.rec, first, second);
-                self.pass_up(at, &part, now, out);
-            }
-        }
+        let part = message_of::<N>(&emit, msg.rec, msg.first, msg.second);
+        self.pass_up(at, key, &part, now, out);
+        self.take_emit(id, key, emit);
     }
 
     /// A message leaves by slot 0.
     #[cycle(lively)]
-    fn pass_up<O: Outside>(&mut self, at: Port, msg: &Msg<'_>, now: u64, out: &mut O)
+    fn pass_up<O: Outside>(&mut self, at: Port, key: usize, msg: &Msg<'_>, now: u64, out: &mut O)
         requires slot { at.slot ≡ 0 }
         requires runs { busy self.old.book at.obj.0 ≡ true }
         requires below { IsBelow (rank self.old.book at.obj.0) self.old.book }
@@ -341,9 +336,12 @@ impl<N: Node> Inner<N> {
             (vec_capacity self.new.nodes) }
     {
         let _length = (msg.first.len(), msg.second.len());
-        match self.book.port(at) {
+        match self.book.port_at(at, key) {
             PortState::Open => out.send(at, msg),
-            PortState::Linked(peer) => self.enter_up(peer, msg, now, out),
+            PortState::Linked(peer) => {
+                let other = self.book.peer_key(key, at.slot);
+                self.enter_up(peer, other, msg, now, out);
+            }
             PortState::Leaving(_) => out.event(&GraphEvent::Dropped(at).spelled()),
             PortState::Closed => out.event(&GraphEvent::Dropped(at).spelled()),
         }

@@ -16,17 +16,17 @@ use Rattle.nb_responses.proofs.LineLaws.{block_alone, block_longer, missing_unfi
 use Rattle.nb_httpmsg.specs.declared.head.HeadInfo.{HeadInfo}
 use Rattle.nb_httpmsg.specs.declared.head.BodyKind.{BodyKind}
 use Rattle.nb_httpmsg.specs.declared.head.BodyKind.TheVariants as kind
-use Rattle.nb_httpmsg.specs.HeadInfos.{IsInfoOf, kind_of, BeginsWithHead, BeginsWithoutHead}
+use Rattle.nb_httpmsg.specs.HeadInfos.{IsInfoOf, body_kind, BeginsWithHead, BeginsWithoutHead}
 use Rattle.nb_httpmsg.proofs.FeedLemmas.{no_longer, take_within}
 use Rattle.nb_http.specs.declared.state.State.{State}
 use Rattle.nb_http.specs.declared.state.State.TheVariants.{Head, Sized, Chunked, ToEnd, Over}
 use Rattle.nb_http.specs.declared.head_step.HeadStep.{HeadStep}
-use Rattle.nb_http.specs.Ends.{end_of, is_decided, text_of}
+use Rattle.nb_http.specs.Ends.{verdict_end, is_decided, text_of}
 use Rattle.nb_http.specs.Standing.{IsBodyHead, state_at_end}
 use Rattle.nb_httpmsg.specs.declared.place.Place.{Place}
 use Rattle.nb_httpmsg.specs.declared.place.Place.TheVariants as place
-use Rattle.nb_httpmsg.specs.Feeding.{is_open, state_of}
-use Rattle.nb_http.specs.Giving.{Fits, sized_next, to_end_next, chunk_next, chunk_next_by}
+use Rattle.nb_httpmsg.specs.Feeding.{is_open, chunk_state}
+use Rattle.nb_http.specs.Giving.{KeepsFit, sized_next, to_end_next, chunk_next, chunk_next_by}
 use Rattle.nb_http.specs.HeadReading.{HeadGoes, IsFinalHead, GoesAfter, IsHeadRead, after_length, unfinished_step}
 
 if_map : (f : ℕ × ℕ → List ℕ) (b : Bool) (x : Option (ℕ × ℕ)) (y : Option (List ℕ)) → option_map f x ≡ y → option_map f (if b then x else None) ≡ (if b then y else None)
@@ -63,7 +63,7 @@ pub stays_there : (block : List ℕ) (h : ResponseHead) (info : HeadInfo) → Is
 stays_there block h info is e = sym (target_is block h info is) ∙ ap (option_map (λ r. slice_range block r.0 r.1)) e
 
 pub refused_goes : (rec : ℕ) (block : List ℕ) (h : ResponseHead) (info : HeadInfo) → IsFinalHead block h info → moves_to h ≡ None → (info.status ≡ 200 → ⊥)
-    → HeadGoes rec (Over None) block block (end_of rec (status info.status))
+    → HeadGoes rec (Over None) block block (verdict_end rec (status info.status))
 refused_goes rec block h info is stays other =
     let off : eqb (status_code h) 200 ≡ false = ne_eqb (status_code h) 200 (λ e. other (is.known.status ∙ e)) in
     let says : verdict_by None (status_code h) ≡ Some (status (status_code h)) = rw off refl in
@@ -72,7 +72,7 @@ refused_goes rec block h info is stays other =
       reads = by_head block [] h (status (status_code h)) is.is_block is.known.head is.final (ap (λ o. verdict_by o (status_code h)) stays ∙ says);
       decided = refl;
       moves = refl;
-      ends = ap (λ n. end_of rec (status n)) is.known.status;
+      ends = ap (λ n. verdict_end rec (status n)) is.known.status;
       fits = tt;
     }
 
@@ -89,7 +89,7 @@ FramingIs kind.Chunked f = f ≡ chunked
 FramingIs kind.ToEnd f = f ≡ to_end
 FramingIs kind.Bad f = f ≡ bad
 
-framing_is : (f : Framing) → FramingIs (kind_of f) f
+framing_is : (f : Framing) → FramingIs (body_kind f) f
 unfolding FramingIs
 framing_is (sized n) = (n, refl, refl)
 framing_is chunked = refl
@@ -109,7 +109,7 @@ to_end_goes rec block h info is stays ok e = (h, body_head block h info is stays
 
 -- a body that is decided with its head
 decided_body : (rec : ℕ) (block : List ℕ) (h : ResponseHead) (f : Framing) (verdict : Verdict) (over : Option Cause) → IsBodyHead block h → framing h ≡ f → ReadsBody [] f (response verdict [])
-    → is_decided verdict ≡ true → text_of verdict ≡ None → over ≡ end_of rec verdict → HeadGoes rec (Over None) block block over
+    → is_decided verdict ≡ true → text_of verdict ≡ None → over ≡ verdict_end rec verdict → HeadGoes rec (Over None) block block over
 decided_body rec block h f verdict over is frames reads decided none ends = record {
   verdict = verdict;
   reads = by_body block [] h (response verdict []) is.block is.is is.final is.next (subst (λ k. ReadsBody [] k (response verdict [])) (sym frames) reads);
@@ -119,9 +119,9 @@ decided_body rec block h f verdict over is frames reads decided none ends = reco
   fits = tt;
 }
 
-pub bad_goes : (rec : ℕ) (block : List ℕ) (h : ResponseHead) (info : HeadInfo) → IsFinalHead block h info → moves_to h ≡ None → info.status ≡ 200 → info.body ≡ kind.Bad → HeadGoes rec (Over None) block block (end_of rec broken)
+pub bad_goes : (rec : ℕ) (block : List ℕ) (h : ResponseHead) (info : HeadInfo) → IsFinalHead block h info → moves_to h ≡ None → info.status ≡ 200 → info.body ≡ kind.Bad → HeadGoes rec (Over None) block block (verdict_end rec broken)
 unfolding FramingIs
-bad_goes rec block h info is stays ok e = decided_body rec block h bad broken (end_of rec broken) (body_head block h info is stays ok) (framed block h info kind.Bad is e) refl refl refl refl
+bad_goes rec block h info is stays ok e = decided_body rec block h bad broken (verdict_end rec broken) (body_head block h info is stays ok) (framed block h info kind.Bad is e) refl refl refl refl
 
 pub sized_goes : (rec size : ℕ) (block : List ℕ) (h : ResponseHead) (info : HeadInfo) → IsFinalHead block h info → moves_to h ≡ None → info.status ≡ 200 → info.body ≡ kind.Length size
     → HeadGoes rec (after_length size).state block block (after_length size).over
@@ -133,7 +133,7 @@ sized_goes rec size block h info is stays ok e =
     either (ltb most_bytes size)
     (λ on.
     let too_much : ltb most_bytes n ≡ true = lt-ltb most_bytes n (omega (arith, f.2, ltb-true most_bytes size on)) in
-    rw on (decided_body rec block h (sized n) large (end_of 0 large) head f.1 (rw too_much refl) refl refl refl))
+    rw on (decided_body rec block h (sized n) large (verdict_end 0 large) head f.1 (rw too_much refl) refl refl refl))
     (λ off.
     let few : size ≤ most_bytes = ltb-false most_bytes size off in
     let exact : n ≡ size = omega (arith, f.2, few) in
@@ -141,7 +141,7 @@ sized_goes rec size block h info is stays ok e =
     (λ on. rw (off, on) (h, head, refl, f.1 ∙ ap sized exact, ltb-true 0 size on, few, refl))
     (λ none.
     let nothing : n ≡ 0 = omega (arith, exact, ltb-false 0 size none) in
-    rw (off, none) (decided_body rec block h (sized 0) body (end_of 0 body) head (f.1 ∙ ap sized nothing) refl refl refl refl)))
+    rw (off, none) (decided_body rec block h (sized 0) body (verdict_end 0 body) head (f.1 ∙ ap sized nothing) refl refl refl refl)))
 
 -- the block of a whole head
 pub alone_block : (bytes : List ℕ) (len : ℕ) → length bytes ≤ limit → first_block most_lines bytes ≡ whole (take len bytes) (drop len bytes) → head_block (take len bytes) ≡ found (take len bytes) []
@@ -204,7 +204,7 @@ all_of bytes = take_all (length bytes) bytes (omega arith)
 few_bytes : (bytes : List ℕ) (k : LineBlock) → length bytes ≤ limit → first_block most_lines bytes ≡ k → head_block bytes ≡ found_by limit bytes k
 few_bytes bytes k short is = ap (λ t. found_by limit bytes (first_block most_lines t)) (take_all limit bytes short) ∙ ap (found_by limit bytes) is
 
-stopped : (rec : ℕ) (bytes : List ℕ) (verdict : Verdict) (over : Option Cause) → Final bytes (response verdict []) → is_decided verdict ≡ true → text_of verdict ≡ None → over ≡ end_of rec verdict
+stopped : (rec : ℕ) (bytes : List ℕ) (verdict : Verdict) (over : Option Cause) → Final bytes (response verdict []) → is_decided verdict ≡ true → text_of verdict ≡ None → over ≡ verdict_end rec verdict
     → IsHeadRead rec bytes (record { len = length bytes; kept = length bytes; state = Over None; over = over })
 stopped rec bytes verdict over reads decided none is = record {
   within = omega arith;
@@ -213,12 +213,12 @@ stopped rec bytes verdict over reads decided none is = record {
   longer = λ before added e l _. no_longer bytes before added e l;
 }
 
-pub read_many : (rec : ℕ) (bytes : List ℕ) → length bytes ≤ limit → first_block most_lines bytes ≡ crowded → IsHeadRead rec bytes (record { len = length bytes; kept = length bytes; state = Over None; over = end_of 0 many })
-read_many rec bytes short is = stopped rec bytes many (end_of 0 many) (no_block many (ap no_block_verdict (few_bytes bytes crowded short is))) refl refl refl
+pub read_many : (rec : ℕ) (bytes : List ℕ) → length bytes ≤ limit → first_block most_lines bytes ≡ crowded → IsHeadRead rec bytes (record { len = length bytes; kept = length bytes; state = Over None; over = verdict_end 0 many })
+read_many rec bytes short is = stopped rec bytes many (verdict_end 0 many) (no_block many (ap no_block_verdict (few_bytes bytes crowded short is))) refl refl refl
 
-pub read_broken : (rec : ℕ) (bytes : List ℕ) → length bytes ≤ limit → BeginsWithoutHead bytes → IsHeadRead rec bytes (record { len = length bytes; kept = length bytes; state = Over None; over = end_of rec broken })
+pub read_broken : (rec : ℕ) (bytes : List ℕ) → length bytes ≤ limit → BeginsWithoutHead bytes → IsHeadRead rec bytes (record { len = length bytes; kept = length bytes; state = Over None; over = verdict_end rec broken })
 read_broken rec bytes short is =
-    stopped rec bytes broken (end_of rec broken) (no_head (take is.len bytes) (drop (length (take is.len bytes)) bytes) (few_bytes bytes (whole (take is.len bytes) (drop is.len bytes)) short is.block) is.none) refl refl refl
+    stopped rec bytes broken (verdict_end rec broken) (no_head (take is.len bytes) (drop (length (take is.len bytes)) bytes) (few_bytes bytes (whole (take is.len bytes) (drop is.len bytes)) short is.block) is.none) refl refl refl
 
 pub read_more : (rec : ℕ) (bytes : List ℕ) → length bytes ≤ limit → first_block most_lines bytes ≡ unfinished → IsHeadRead rec bytes (unfinished_step (length bytes))
 read_more rec bytes short is = either (ltb (length bytes) limit)
@@ -234,7 +234,7 @@ read_more rec bytes short is = either (ltb (length bytes) limit)
     (λ off.
     let full : leb limit (length bytes) ≡ true = le-leb limit (length bytes) (ltb-false (length bytes) limit off) in
     let too_many_bytes : head_block bytes ≡ too_long = few_bytes bytes unfinished short is ∙ (rw full refl) in
-    rw off (stopped rec bytes long (end_of 0 long) (no_block long (ap no_block_verdict too_many_bytes)) refl refl refl))
+    rw off (stopped rec bytes long (verdict_end 0 long) (no_block long (ap no_block_verdict too_many_bytes)) refl refl refl))
 
 is_too_long : Found → Bool
 is_too_long (found block rest) = false
@@ -255,7 +255,7 @@ missing_short text is = either (leb limit (length text))
     absurd (too_long_missing (sym too ∙ is)))
     (λ off. leb-false limit (length text) off)
 
-pub goes_fit : (rec : ℕ) (state : State) (text kept : List ℕ) (over : Option Cause) (place : Place) → HeadGoes rec state text kept over → is_open place ≡ true → Fits state kept place
+pub goes_fit : (rec : ℕ) (state : State) (text kept : List ℕ) (over : Option Cause) (place : Place) → HeadGoes rec state text kept over → is_open place ≡ true → KeepsFit state kept place
 goes_fit rec Head text kept over place goes unread =
     elim goes [
       | inl g ↦ (ap head_block g.0 ∙ g.1, missing_short kept (ap head_block g.0 ∙ g.1), unread)
@@ -266,13 +266,13 @@ goes_fit rec (Chunked room) text kept over place goes unread = unread
 goes_fit rec (ToEnd room) text kept over place goes unread = tt
 goes_fit rec (Over range) text kept over place goes unread = goes.fits
 
-pub sized_fit : (left : ℕ) (head : List ℕ) (place : Place) → Fits (sized_next left).state head place
+pub sized_fit : (left : ℕ) (head : List ℕ) (place : Place) → KeepsFit (sized_next left).state head place
 sized_fit left head place = either (ltb 0 left) (λ on. rw on (ltb-true 0 left on)) (λ off. rw off tt)
 
-pub open_fit : (room count : ℕ) (head : List ℕ) (place : Place) → Fits (to_end_next room count).state head place
+pub open_fit : (room count : ℕ) (head : List ℕ) (place : Place) → KeepsFit (to_end_next room count).state head place
 open_fit room count head place = either (ltb room count) (λ on. rw on tt) (λ off. rw off tt)
 
-chunk_fit_by : (rec room : ℕ) (head : List ℕ) (place : Place) → Fits (chunk_next_by rec room (state_of place)).state head place
+chunk_fit_by : (rec room : ℕ) (head : List ℕ) (place : Place) → KeepsFit (chunk_next_by rec room (chunk_state place)).state head place
 chunk_fit_by rec room head place.Size = refl
 chunk_fit_by rec room head (place.Bytes left) = refl
 chunk_fit_by rec room head (place.End cr) = refl
@@ -281,10 +281,10 @@ chunk_fit_by rec room head place.Whole = tt
 chunk_fit_by rec room head place.Broken = tt
 chunk_fit_by rec room head place.TooLong = tt
 
-pub chunk_fit : (rec room count : ℕ) (head : List ℕ) (place : Place) → Fits (chunk_next rec room count (state_of place)).state head place
+pub chunk_fit : (rec room count : ℕ) (head : List ℕ) (place : Place) → KeepsFit (chunk_next rec room count (chunk_state place)).state head place
 chunk_fit rec room count head place = either (ltb room count) (λ on. rw on tt) (λ off. rw off (chunk_fit_by rec (room - count) head place))
 
-pub end_fit : (state : State) (head : List ℕ) (place : Place) → Fits state head place → Fits (state_at_end state) head place
+pub end_fit : (state : State) (head : List ℕ) (place : Place) → KeepsFit state head place → KeepsFit (state_at_end state) head place
 end_fit Head head place fits = tt
 end_fit (Sized left) head place fits = tt
 end_fit (Chunked room) head place fits = tt

@@ -13,11 +13,11 @@ use Rattle.nb_responses.specs.Responses.{most_bytes, within_limit, sized_respons
 use Rattle.nb_responses.proofs.LineLaws.{head_block_more}
 use Rattle.nb_httpmsg.specs.declared.place.Place.{Place}
 use Rattle.nb_httpmsg.specs.declared.place.Place.TheVariants as place
-use Rattle.nb_httpmsg.specs.Feeding.{StandsFor, verdict_of, is_open}
+use Rattle.nb_httpmsg.specs.Feeding.{StandsForBody, verdict_of, is_open}
 use Rattle.nb_http.specs.declared.state.State.{State}
 use Rattle.nb_http.specs.declared.state.State.TheVariants.{Head, Sized, Chunked, ToEnd, Over}
-use Rattle.nb_http.specs.Ends.{end_of, is_decided, text_of}
-use Rattle.nb_http.specs.Standing.{Core, is_over, range_of, IsBodyHead, AtHead, AtSized, AtChunked, AtToEnd, LiveAt, IsReading, HasRead, Takes, GoesOnOrEnds, goes_on, skips, ends, Steps, EndsSo, end_at, state_at_end}
+use Rattle.nb_http.specs.Ends.{verdict_end, is_decided, text_of}
+use Rattle.nb_http.specs.Standing.{Core, is_over, range_of, moved_text, IsBodyHead, AtHead, AtSized, AtChunked, AtToEnd, LiveAt, IsReading, HasRead, TakesBytes, GoesOnOrEnds, goes_on, skips, ends, StepsBy, EndsStream, end_at, state_at_end}
 use Rattle.nb_http.specs.Giving.{range_given, range_to}
 use Rattle.nb_responses.proofs.Cases.{either}
 
@@ -44,7 +44,7 @@ pub record Undecided (rest given : List ℕ) : Type 0 where
   pub reads : Final rest (response verdict given)
   pub decided : is_decided verdict ≡ false
   pub moves : text_of verdict ≡ None
-  pub quiet : (rec : ℕ) → end_of rec verdict ≡ None
+  pub quiet : (rec : ℕ) → verdict_end rec verdict ≡ None
 
 with_more : (rest given : List ℕ) → Final rest (response more given) → Undecided rest given
 with_more rest given reads = record { verdict = more; reads = reads; decided = refl; moves = refl; quiet = λ rec. refl }
@@ -87,7 +87,7 @@ not_over (ToEnd room) c rest given at = (refl, refl)
 not_over (Over range) c rest given at = absurd at
 
 stands_live : (rec : ℕ) (c : Core) (skipped : List (List ℕ)) (rest stream given : List ℕ) (over : Option Cause) → AllByRecursion IsInterim skipped → stream ≡ concat skipped ++ rest
-    → LiveAt c.state c rest given → over ≡ None → (s : HasRead c stream given) × (over ≡ end_of rec s.verdict)
+    → LiveAt c.state c rest given → over ≡ None → (s : HasRead c stream given) × (over ≡ verdict_end rec s.verdict)
 stands_live rec c skipped rest stream given over all e at none =
     let u : Undecided rest given = undecided c.state c rest given at in
     let n : (is_over c.state ≡ false) × (range_of c.state ≡ None) = not_over c.state c rest given at in (
@@ -110,7 +110,7 @@ concat_one_more [] x = append-nil x
 concat_one_more (y ∷ ys) x = ap (λ t. y ++ t) (concat_one_more ys x) ∙ sym (append_assoc y (concat ys) x)
 
 outcome_stands : (rec : ℕ) (c : Core) (skipped : List (List ℕ)) (rest stream given : List ℕ) (over : Option Cause) → AllByRecursion IsInterim skipped → stream ≡ concat skipped ++ rest
-    → GoesOnOrEnds rec c rest given over → (s : HasRead c stream given) × (over ≡ end_of rec s.verdict)
+    → GoesOnOrEnds rec c rest given over → (s : HasRead c stream given) × (over ≡ verdict_end rec s.verdict)
 outcome_stands rec c skipped rest stream given over all e (goes_on at none) = stands_live rec c skipped rest stream given over all e at none
 outcome_stands rec c skipped rest stream given over all e (skips interim at none) =
     stands_live rec c (skipped ++ rest ∷ []) [] stream given over (all_one_more skipped rest all interim)
@@ -127,19 +127,19 @@ outcome_stands rec c skipped rest stream given over all e (ends verdict reads de
 )
 
 -- steps of a live core are what a call takes
-pub takes : (rec : ℕ) (old new : Core) (taken gave : List ℕ) (over : Option Cause) → Steps rec old new taken gave over → Takes rec old new taken gave over
+pub takes : (rec : ℕ) (old new : Core) (taken gave : List ℕ) (over : Option Cause) → StepsBy rec old new taken gave over → TakesBytes rec old new taken gave over
 takes rec old new taken gave over step = λ stream given s live.
     let l : IsReading old stream given = s.live live in
     outcome_stands rec new l.skipped (l.rest ++ taken) (stream ++ taken) (given ++ gave) over l.all
     (ap (λ t. t ++ taken) l.is_stream ∙ append_assoc (concat l.skipped) l.rest taken) (step l.rest given l.at)
 
 -- a core that has taken nothing
-pub at_start : (c : Core) → c.head ≡ [] → c.state ≡ Head → StandsFor c.chunks.place c.chunks.line [] [] → is_open c.chunks.place ≡ true → HasRead c [] []
+pub at_start : (c : Core) → c.head ≡ [] → c.state ≡ Head → StandsForBody c.chunks.place c.chunks.line [] [] → is_open c.chunks.place ≡ true → HasRead c [] []
 at_start c empty at fresh unread =
     (stands_live 0 c [] [] [] [] None tt refl (subst (λ s. LiveAt s c [] []) (sym at) (record { is_rest = sym empty; none_given = refl; block = ap head_block empty; fresh = fresh; unread = unread })) refl).0
 
 ended_by : (rec : ℕ) (c : Core) (stream given : List ℕ) (before after : Verdict) (over : Option Cause) → (l : IsReading c stream given) → Final l.rest (response before given) → by_end true (response before given) ≡ response after given
-    → over ≡ end_of rec after → is_decided after ≡ true → (r : Response) × ResponseOf stream true r × (r.bytes ≡ given) × (over ≡ end_of rec r.verdict) × (is_decided r.verdict ≡ true)
+    → over ≡ verdict_end rec after → is_decided after ≡ true → (r : Response) × ResponseOf stream true r × (r.bytes ≡ given) × (over ≡ verdict_end rec r.verdict) × (is_decided r.verdict ≡ true)
 ended_by rec c stream given before after over l reads decides is decided =
     (response after given, record { so_far = response before given; reads = record { skipped = l.skipped; rest = l.rest; all = l.all; stands = l.is_stream; ends = reads }; is = sym decides }, refl, is, decided)
 
@@ -147,30 +147,35 @@ abbrev pub with_state : Core → State → Core
 with_state c state = record { head = c.head; chunks = c.chunks; state = state }
 
 -- the stream's end ends a core, by its state
-pub finishes : (rec : ℕ) (state : State) (old new : Core) (over : Option Cause) → old.state ≡ state → new ≡ with_state old (state_at_end state) → over ≡ end_at rec state → EndsSo rec old new over
+pub finishes : (rec : ℕ) (state : State) (old new : Core) (over : Option Cause) → old.state ≡ state → new ≡ with_state old (state_at_end state) → over ≡ end_at rec state → EndsStream rec old new over
 finishes rec Head old new over at after is = record {
   live = λ stream given s live. let l = s.live live in ended_by rec old stream given more broken over l (head_reads old l.rest given (subst (λ x. LiveAt x old l.rest given) at l.at)) refl is refl;
   silent = λ e. absurd (false≢true (sym (ap is_over at) ∙ e));
+  unmoved = λ _. ap (λ (k : Core). moved_text k.head k.state) after;
   ended = ap (λ (k : Core). is_over k.state) after;
 }
 finishes rec (Sized left) old new over at after is = record {
   live = λ stream given s live. let l = s.live live in ended_by rec old stream given more broken over l (sized_reads left old l.rest given (subst (λ x. LiveAt x old l.rest given) at l.at)) refl is refl;
   silent = λ e. absurd (false≢true (sym (ap is_over at) ∙ e));
+  unmoved = λ _. ap (λ (k : Core). moved_text k.head k.state) after;
   ended = ap (λ (k : Core). is_over k.state) after;
 }
 finishes rec (Chunked room) old new over at after is = record {
   live = λ stream given s live. let l = s.live live in ended_by rec old stream given more broken over l (chunked_reads room old l.rest given (subst (λ x. LiveAt x old l.rest given) at l.at)) refl is refl;
   silent = λ e. absurd (false≢true (sym (ap is_over at) ∙ e));
+  unmoved = λ _. ap (λ (k : Core). moved_text k.head k.state) after;
   ended = ap (λ (k : Core). is_over k.state) after;
 }
 finishes rec (ToEnd room) old new over at after is = record {
   live = λ stream given s live. let l = s.live live in ended_by rec old stream given open_body body over l (to_end_reads room old l.rest given (subst (λ x. LiveAt x old l.rest given) at l.at)) refl is refl;
   silent = λ e. absurd (false≢true (sym (ap is_over at) ∙ e));
+  unmoved = λ _. ap (λ (k : Core). moved_text k.head k.state) after;
   ended = ap (λ (k : Core). is_over k.state) after;
 }
 finishes rec (Over range) old new over at after is = record {
   live = λ stream given s live. absurd (false≢true (sym live ∙ ap is_over at));
   silent = λ _. (is, after ∙ ap (with_state old) (sym at));
+  unmoved = λ live. absurd (false≢true (sym live ∙ ap is_over at));
   ended = ap (λ (k : Core). is_over k.state) after;
 }
 

@@ -7,16 +7,16 @@ abbrev pub cause : ℕ → ℕ → ℕ → Cause
 cause code a b = record { code = code; a = a; b = b }
 
 -- Ok for a body or a move; Refused with the status; Broken; TooLarge 1; TooLong 6; TooMany 7
-abbrev pub end_of : ℕ → Verdict → Option Cause
-end_of rec more = None
-end_of rec open_body = None
-end_of rec body = Some (cause 0 0 0)
-end_of rec (moved text) = Some (cause 0 0 0)
-end_of rec (status code) = Some (cause 1 rec code)
-end_of rec broken = Some (cause 3 rec 0)
-end_of rec large = Some (cause 6 1 0)
-end_of rec long = Some (cause 5 6 0)
-end_of rec many = Some (cause 7 7 0)
+abbrev pub verdict_end : ℕ → Verdict → Option Cause
+verdict_end rec more = None
+verdict_end rec open_body = None
+verdict_end rec body = Some (cause 0 0 0)
+verdict_end rec (moved text) = Some (cause 0 0 0)
+verdict_end rec (status code) = Some (cause 1 rec code)
+verdict_end rec broken = Some (cause 3 rec 0)
+verdict_end rec large = Some (cause 6 1 0)
+verdict_end rec long = Some (cause 5 6 0)
+verdict_end rec many = Some (cause 7 7 0)
 
 abbrev pub is_decided : Verdict → Bool
 is_decided more = false

@@ -8,4 +8,5 @@ port_text port = if port == 80 then [] else (codes ":" ++ decimal port)
 
 abbrev pub request_text : List ℕ → ℕ → List ℕ → List ℕ
 request_text host port path =
-    codes "GET " ++ path ++ codes " HTTP/1.1\r\nHost: " ++ host ++ port_text port ++ codes "\r\nUser-Agent: netboot\r\nConnection: close\r\n\r\n"
+    codes "GET " ++ path ++ codes " HTTP/1.1\r\nHost: " ++ host ++ port_text port
+    ++ codes "\r\nUser-Agent: netboot\r\nConnection: close\r\n\r\n"

@@ -1,4 +1,4 @@
--- What the core of a response stands for: the bytes of the stream that it took, and those of the body that it gave
+-- What the core of a response stands for: what it took of the stream, and what it gave of the body
 use Rattle.std.specs.Prelude.{◌≡◌, ◌≤◌, ◌<◌, ℕ, ◌+◌, Bool, true, false, List, [], ◌++◌, length, Option, Some, None, slice_range, ⊤}
 use Rattle.std.specs.List.{AllByRecursion, concat}
 use Rattle.std.specs.Option.{option_map}
@@ -9,10 +9,10 @@ use Rattle.nb_responses.specs.Heads.{IsHead, framing, sized, chunked, to_end, is
 use Rattle.nb_responses.specs.Chunks.{Verdict, body, broken, Response, response}
 use Rattle.nb_responses.specs.Responses.{most_bytes, head_verdict, Final, IsInterim, ReadsSoFar, ResponseOf}
 use Rattle.nb_httpmsg.specs.Reader.{Reader}
-use Rattle.nb_httpmsg.specs.Feeding.{StandsFor, is_open}
+use Rattle.nb_httpmsg.specs.Feeding.{StandsForBody, is_open}
 use Rattle.nb_http.specs.declared.state.State.{State}
 use Rattle.nb_http.specs.declared.state.State.TheVariants.{Head, Sized, Chunked, ToEnd, Over}
-use Rattle.nb_http.specs.Ends.{end_of, is_decided, text_of}
+use Rattle.nb_http.specs.Ends.{verdict_end, is_decided, text_of}
 
 -- the head so far, the reader of a chunked body, and where the core is
 pub record Core : Type 0 where
@@ -60,7 +60,7 @@ pub record AtHead (c : Core) (rest given : List ℕ) : Type 0 where
   pub is_rest : rest ≡ c.head
   pub none_given : given ≡ []
   pub block : head_block c.head ≡ missing
-  pub fresh : StandsFor c.chunks.place c.chunks.line [] []
+  pub fresh : StandsForBody c.chunks.place c.chunks.line [] []
   pub unread : is_open c.chunks.place ≡ true
 
 pub record AtSized (left : ℕ) (c : Core) (rest given : List ℕ) : Type 0 where
@@ -77,7 +77,7 @@ pub record AtChunked (room : ℕ) (c : Core) (rest given : List ℕ) : Type 0 wh
   pub head : IsBodyHead c.head h
   pub is_rest : rest ≡ c.head ++ body
   pub frames : framing h ≡ chunked
-  pub stands : StandsFor c.chunks.place c.chunks.line body given
+  pub stands : StandsForBody c.chunks.place c.chunks.line body given
   pub unread : is_open c.chunks.place ≡ true
   pub fits : length given + room ≡ most_bytes
 
@@ -114,33 +114,40 @@ pub record HasRead (c : Core) (stream given : List ℕ) : Type 0 where
 
 -- A call takes bytes of the stream and gives bytes of the body: where it decides the response, it ends
 -- with its cause.
-abbrev pub Takes : ℕ → Core → Core → List ℕ → List ℕ → Option Cause → Type 0
-Takes rec old new taken gave over = (stream given : List ℕ) → HasRead old stream given → is_over old.state ≡ false
-    → (s : HasRead new (stream ++ taken) (given ++ gave)) × (over ≡ end_of rec s.verdict)
+abbrev pub TakesBytes : ℕ → Core → Core → List ℕ → List ℕ → Option Cause → Type 0
+TakesBytes rec old new taken gave over = (stream given : List ℕ) → HasRead old stream given
+    → is_over old.state ≡ false
+    → (s : HasRead new (stream ++ taken) (given ++ gave)) × (over ≡ verdict_end rec s.verdict)
 
 -- what a step of a live core comes to
 pub data GoesOnOrEnds (rec : ℕ) (c : Core) (rest given : List ℕ) (over : Option Cause) : Type 0 where
   goes_on : LiveAt c.state c rest given → over ≡ None → GoesOnOrEnds rec c rest given over
   skips : IsInterim rest → LiveAt c.state c [] given → over ≡ None → GoesOnOrEnds rec c rest given over
-  ends : (verdict : Verdict) → Final rest (response verdict given) → is_decided verdict ≡ true → is_over c.state ≡ true
-      → moved_text c.head c.state ≡ text_of verdict → over ≡ end_of rec verdict → GoesOnOrEnds rec c rest given over
+  ends : (verdict : Verdict) → Final rest (response verdict given) → is_decided verdict ≡ true
+      → is_over c.state ≡ true
+      → moved_text c.head c.state ≡ text_of verdict → over ≡ verdict_end rec verdict
+      → GoesOnOrEnds rec c rest given over
 
-abbrev pub Steps : ℕ → Core → Core → List ℕ → List ℕ → Option Cause → Type 0
-Steps rec old new taken gave over = (rest given : List ℕ) → LiveAt old.state old rest given → GoesOnOrEnds rec new (rest ++ taken) (given ++ gave) over
+abbrev pub StepsBy : ℕ → Core → Core → List ℕ → List ℕ → Option Cause → Type 0
+StepsBy rec old new taken gave over = (rest given : List ℕ) → LiveAt old.state old rest given
+    → GoesOnOrEnds rec new (rest ++ taken) (given ++ gave) over
 
 -- The stream's end decides what isn't decided: a body to the stream's end is whole, all else is broken.
 -- A core that has ended stays as it is.
-pub record EndsSo (rec : ℕ) (old new : Core) (over : Option Cause) : Type 0 where
-  pub live : (stream given : List ℕ) → HasRead old stream given → is_over old.state ≡ false → (r : Response) × ResponseOf stream true r × (r.bytes ≡ given) × (over ≡ end_of rec r.verdict) × (is_decided r.verdict ≡ true)
+pub record EndsStream (rec : ℕ) (old new : Core) (over : Option Cause) : Type 0 where
+  pub live : (stream given : List ℕ) → HasRead old stream given → is_over old.state ≡ false
+      → (r : Response) × ResponseOf stream true r × (r.bytes ≡ given) × (over ≡ verdict_end rec r.verdict)
+      × (is_decided r.verdict ≡ true)
   pub silent : is_over old.state ≡ true → (over ≡ None) × (new ≡ old)
+  pub unmoved : is_over old.state ≡ false → moved_text new.head new.state ≡ None
   pub ended : is_over new.state ≡ true
 
 -- how the stream's end ends a core, by its state
 abbrev pub end_at : ℕ → State → Option Cause
-end_at rec Head = end_of rec broken
-end_at rec (Sized left) = end_of rec broken
-end_at rec (Chunked room) = end_of rec broken
-end_at rec (ToEnd room) = end_of rec body
+end_at rec Head = verdict_end rec broken
+end_at rec (Sized left) = verdict_end rec broken
+end_at rec (Chunked room) = verdict_end rec broken
+end_at rec (ToEnd room) = verdict_end rec body
 end_at rec (Over range) = None
 
 abbrev pub state_at_end : State → State

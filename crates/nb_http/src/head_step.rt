@@ -79,7 +79,8 @@ fn target_of(info: &HeadInfo) -> Option<(u32, u32)>
 
 /// What a head says: a move goes before its status, and that before its fields on the body.
 fn after_head(rec: u32, info: &HeadInfo) -> Next
-    ensures { (block : List ℕ) (h : ResponseHead) → IsFinalHead block h info.now → HeadGoes rec result.state block block result.over }
+    ensures { (block : List ℕ) (h : ResponseHead) → IsFinalHead block h info.now
+        → HeadGoes rec result.state block block result.over }
 {
     match target_of(info) {
         Some(range) => moves(range),
@@ -89,7 +90,8 @@ fn after_head(rec: u32, info: &HeadInfo) -> Next
 
 /// What a head that doesn't move says.
 fn after_status(rec: u32, info: &HeadInfo) -> Next
-    ensures { (block : List ℕ) (h : ResponseHead) → IsFinalHead block h info.now → moves_to h ≡ None → HeadGoes rec result.state block block result.over }
+    ensures { (block : List ℕ) (h : ResponseHead) → IsFinalHead block h info.now → moves_to h ≡ None
+        → HeadGoes rec result.state block block result.over }
 {
     if info.status != 200 {
         return ended(refused(rec, info.status));
@@ -169,7 +171,8 @@ fn stops(len: usize, cause: Cause) -> HeadStep
 
 /// A head stands there: an interim one is passed over.
 fn whole(rec: u32, info: &HeadInfo) -> HeadStep
-    ensures { (block : List ℕ) (h : ResponseHead) → IsInfoOf block h info.now → head_block block ≡ found block [] → GoesAfter rec block result }
+    ensures { (block : List ℕ) (h : ResponseHead) → IsInfoOf block h info.now
+        → head_block block ≡ found block [] → GoesAfter rec block result }
 {
     let len = info.len as usize;
     if is_interim(info.status) {

@@ -25,13 +25,14 @@ pub struct Http {
 impl Model for Http {
     ghost use Rattle.std.specs.Prelude.{◌≤◌, vec_len, vec_capacity, length};
     ghost use Rattle.nb_http.specs.Standing.{Kept};
-    ghost use Rattle.nb_http.specs.Giving.{Fits};
+    ghost use Rattle.nb_http.specs.Giving.{KeepsFit};
 
     ghost Value = { Kept };
 
     ghost view = { λ h. record { core = record { head = h.head.items; chunks = h.chunks; state = h.state }; waiting = h.waiting } };
 
-    ghost invariant = { λ h. (vec_len h.head ≤ 16384) × (16384 ≤ vec_capacity h.head) × (h.waiting ≤ length h.chunks.block) × Fits h.state h.head.items h.chunks.place };
+    ghost invariant = { λ h. (vec_len h.head ≤ 16384) × (16384 ≤ vec_capacity h.head)
+        × (h.waiting ≤ length h.chunks.block) × KeepsFit h.state h.head.items h.chunks.place };
 }
 
 /// What a call took of the bytes, how many of them it hands on, how many of the block wait, and the end.
@@ -77,17 +78,18 @@ fn after_end(state: State) -> State
 }
 
 impl Http {
-    ghost use Rattle.std.specs.Prelude.{◌≡◌, ◌≤◌, ◌<◌, ◌+◌, ◌^◌, ◌++◌, [], ℕ, List, length, take, IfOk, true, false, nat_lt, slice_range, None};
+    ghost use Rattle.std.specs.Prelude.{◌≡◌, ◌≤◌, ◌<◌, ◌+◌, ◌^◌, ◌++◌, [], ℕ, List, length, take, IfOk, true, false, slice_range, None};
     ghost use Rattle.std.specs.Option.{option_map, option_copied};
     ghost use Rattle.nb_http.specs.Requests.{request_text};
-    ghost use Rattle.nb_http.specs.Standing.{HasRead, Takes, EndsSo, is_over, moved_text};
-    ghost use Rattle.nb_http.specs.Giving.{gave, nothing, SendsNothing, TakesSo};
+    ghost use Rattle.nb_http.specs.Standing.{HasRead, EndsStream, is_over, moved_text};
+    ghost use Rattle.nb_http.specs.Giving.{gives_none, took_nothing, HandsUp, SendsNothing, TakesFirst, TakesSo};
 
     /// Starts with an empty stream, and returns the request's text.
     pub fn start(alloc: Global, target: &HttpTarget) -> Result<(Http, Text), NoMemory>
         ensures stands { IfOk result (λ r. HasRead r.0.core [] [] × (is_over r.0.core.state ≡ false)) }
         ensures fresh { IfOk result (λ r. r.0.waiting ≡ 0) }
-        ensures request { IfOk result (λ r. r.1 ≡ request_text target.now.host target.now.port target.now.path) }
+        ensures request { IfOk result
+            (λ r. r.1 ≡ request_text target.now.host target.now.port target.now.path) }
     {
         let text = request(alloc, target)?;
         let head = Vec::with_capacity(alloc, MAX_HEAD)?;
@@ -106,13 +108,14 @@ impl Http {
     pub fn bytes(&mut self, rec: u32, first: &[u8], second: &[u8], acts: &mut Acts) -> u32
         requires { length first.now + length second.now < 2 ^ 32 }
         // What it took and what goes up, added to all before, is what it stands for.
-        ensures stands { Takes rec self.old.core self.new.core (take result (first.now ++ second.now)) (gave (first.now ++ second.now) acts.new self.new) acts.new.over }
+        ensures stands { TakesFirst rec self.old.core self.new (first.now ++ second.now) result acts.new }
         ensures within { result ≤ length (first.now ++ second.now) }
-        ensures some { is_over self.old.core.state ≡ false → 0 < length (first.now ++ second.now) → 0 < result }
-        ensures ready { acts.new.ready ≡ nat_lt 0 self.new.waiting }
+        ensures some { is_over self.old.core.state ≡ false
+            → 0 < length (first.now ++ second.now) → 0 < result }
+        ensures hands { HandsUp self.old.core self.new acts.new result }
         ensures sends { SendsNothing acts.new }
         // After its end it takes nothing, asks for nothing and stays as it is.
-        ensures ended { is_over self.old.core.state ≡ true → (result ≡ 0) × (acts.new ≡ nothing) }
+        ensures ended { is_over self.old.core.state ≡ true → (result ≡ 0) × (acts.new ≡ gives_none) }
         ensures stays { is_over self.old.core.state ≡ true → self.new.core ≡ self.old.core }
     {
         acts.clear();
@@ -130,8 +133,9 @@ impl Http {
     fn take(&mut self, rec: u32, first: &[u8], second: &[u8]) -> Taken
         requires count { length first.now + length second.now < 2 ^ 32 }
         requires none { self.old.waiting ≡ 0 }
-        ensures live { is_over self.old.core.state ≡ false → TakesSo rec self.old.core self.new.core (first.now ++ second.now) result }
-        ensures ended { is_over self.old.core.state ≡ true → (result ≡ record { len = 0; given = 0; waiting = 0; over = None }) × (self.new ≡ self.old) }
+        ensures live { is_over self.old.core.state ≡ false
+            → TakesSo rec self.old.core self.new.core (first.now ++ second.now) result }
+        ensures ended { is_over self.old.core.state ≡ true → (result ≡ took_nothing) × (self.new ≡ self.old) }
     {
         match self.state {
             State::Head => self.take_head(rec, first, second),
@@ -149,7 +153,7 @@ impl Http {
 
     /// The stream has ended: what isn't decided is now.
     pub fn finish(&mut self, rec: u32, acts: &mut Acts)
-        ensures ends { EndsSo rec self.old.core self.new.core acts.new.over }
+        ensures ends { EndsStream rec self.old.core self.new.core acts.new.over }
         ensures sends { SendsNothing acts.new }
         ensures gives { (acts.new.give ≡ None) × (acts.new.ready ≡ false) × (self.new.waiting ≡ 0) }
     {

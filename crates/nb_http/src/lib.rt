@@ -5,6 +5,8 @@
 #![tactic(auto)]
 
 mod causes;
+#[cfg(test)]
+mod framing_tests;
 mod head_step;
 mod http;
 mod laws;
@@ -15,4 +17,4 @@ mod steps;
 mod tests;
 
 pub use http::Http;
-pub use laws::cutting_changes_nothing;
+pub use laws::{cutting_changes_nothing, streams_are_read_as_responses};

@@ -1,9 +1,8 @@
 -- The first line by its LF, and the first block by its lines.
-use Rattle.std.proofs.Common.{◌≡◌, ◌≤◌, ◌<◌, ℕ, zero, suc, ◌+◌, ◌-◌, ◌==◌, List, [], ◌∷◌, ◌++◌, length, take, drop, get_or, Option, Some, None, Bool, true, false, if◌then◌else◌, refl, ap, ◌∙◌, sym, subst, arith, append_assoc, eqb, eq-eqb, add-one}
+use Rattle.std.proofs.Common.{◌≡◌, ◌≤◌, ◌<◌, ℕ, zero, suc, ◌+◌, ◌-◌, List, [], ◌∷◌, ◌++◌, length, take, drop, get_or, Some, None, true, false, if◌then◌else◌, refl, ap, ◌∙◌, sym, arith, append_assoc, eqb, eq-eqb, add-one}
 use Rattle.std.proofs.lemmas.List.{take_all, length-drop}
 use Rattle.std.proofs.lemmas.Bool.{ne_eqb}
-use Rattle.httparse.specs.Ascii.{line_feed}
-use Rattle.nb_responses.specs.Lines.{FirstLine, with_byte, first_line, is_empty, LineBlock, whole, unfinished, crowded, with_line, block_by, first_block}
+use Rattle.nb_responses.specs.Lines.{first_line, is_empty, LineBlock, whole, unfinished, crowded, with_line, first_block}
 
 pub line_at : (text : List ℕ) (i : ℕ) → i < length text → get_or text i 0 ≡ 10 → ((k : ℕ) → k < i → get_or text k 0 ≡ 10 → ⊥)
     → first_line text ≡ Some (record { line = take (suc i) text; rest = drop (suc i) text })

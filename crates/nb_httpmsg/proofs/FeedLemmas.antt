@@ -1,23 +1,23 @@
 -- How a reader of a chunked body goes on to stand for the bytes that it takes.
-use Rattle.std.proofs.Common.{◌≡◌, ◌≤◌, ◌<◌, ℕ, zero, suc, ◌+◌, ◌-◌, ◌==◌, List, [], ◌∷◌, ◌++◌, length, take, drop, Option, Some, None, Bool, true, false, cond, refl, ap, ◌∙◌, sym, subst, arith, eqb, ltb, leb, append-nil, append_assoc, length-append, add-one, lit<, get_or, length-drop}
+use Rattle.std.proofs.Common.{◌≡◌, ◌≤◌, ◌<◌, ℕ, zero, suc, ◌+◌, ◌-◌, List, [], ◌∷◌, ◌++◌, length, take, drop, Some, None, Bool, true, false, cond, refl, ap, ◌∙◌, sym, subst, arith, eqb, ltb, leb, append-nil, append_assoc, length-append, add-one, lit<, get_or, length-drop}
 use Rattle.std.specs.List.{AllByRecursion, flat_map}
 use Rattle.std.specs.Char.{is_ascii_hexdigit}
 use Rattle.std.proofs.lemmas.Bool.{ne_eqb, eq-eqb, lt-ltb, le-ltb, le-leb, lt-leb, leb-true, leb-false, ltb-true, ltb-false, eqb-true, eqb-false, true≢false, false≢true}
 use Rattle.std.proofs.lemmas.List.{take_all, take_at, drop_at, take-append-le, take-append-drop, length-take, drop_all, drop-append-le}
 use Rattle.std.proofs.lemmas.Grind.{flat_map-append}
-use Rattle.httparse.specs.Ascii.{carriage_return, line_feed, crlf_bytes}
-use Rattle.httparse.specs.Grammar.{ChunkLine, IsChunkLine, print_chunk_line, chunk_size, HasNoChunkLine, NeverHasChunkLine, MayBecomeChunkLine, ReadsChunkLine, print_extension, print_end, crlf, AllPass}
+use Rattle.httparse.specs.Ascii.{carriage_return, line_feed}
+use Rattle.httparse.specs.Grammar.{ChunkLine, print_chunk_line, chunk_size, HasNoChunkLine, NeverHasChunkLine, MayBecomeChunkLine, ReadsChunkLine, print_extension, print_end, crlf, AllPass}
 use Rattle.httparse.specs.Spans.{IsChunkLineAt}
-use Rattle.nb_responses.specs.Lines.{first_block, LineBlock, whole, unfinished, crowded, limit, trailer_block, found_by, Found, found, missing, too_many, too_long}
-use Rattle.nb_responses.specs.Chunks.{Verdict, more, body, broken, long, Response, response, with_bytes, Chunk, chunk_bytes, print_chunk, IsChunk, ending, tail_ending, trailer_verdict, IsLineOf, short_line, long_line, bad_line, Tail, no_line, after_line, Chunked}
+use Rattle.nb_responses.specs.Lines.{first_block, whole, unfinished, crowded, limit, found_by}
+use Rattle.nb_responses.specs.Chunks.{Verdict, more, body, broken, long, response, Chunk, chunk_bytes, print_chunk, IsChunk, ending, tail_ending, trailer_verdict, IsLineOf, short_line, long_line, bad_line, Tail, no_line, after_line}
 use Rattle.nb_responses.proofs.LineLaws.{take_front, block_alone, block_longer}
 use Rattle.nb_responses.proofs.Cases.{either}
 use Rattle.nb_httpmsg.specs.declared.place.Place.{Place}
 use Rattle.nb_httpmsg.specs.declared.place.Place.TheVariants.{Size, Bytes, End, Trailer, Whole, Broken, TooLong}
-use Rattle.nb_httpmsg.specs.Reader.{Reader, IsOpenLine, IsOpenTrailer, Fits}
+use Rattle.nb_httpmsg.specs.Reader.{Reader, IsOpenLine, IsOpenTrailer, FitsPlace}
 use Rattle.nb_httpmsg.specs.declared.line.LineRead.{LineRead}
 use Rattle.nb_httpmsg.proofs.BlockLemmas.{take_plus}
-use Rattle.nb_httpmsg.specs.Feeding.{InChunk, InSize, InBytes, InEnd, InTrailer, StandsAt, verdict_of, place_after, place_within, place_after_bytes, place_after_end, StandsFor, Feeds, IsSizeRead, IsLast, IsTrailerRead}
+use Rattle.nb_httpmsg.specs.Feeding.{InChunk, InSize, InBytes, InEnd, InTrailer, StandsAt, verdict_of, place_after, kept_within, place_after_bytes, place_after_end, StandsForBody, Feeds, IsSizeRead, IsLast, IsTrailerRead}
 
 line_of : (text : List ℕ) (l : ChunkLine) (rest : List ℕ) → text ≡ print_chunk_line l ++ rest → InChunk l → IsLineOf text l rest
 line_of text l rest e c = record { reads = (c.is, e); short = c.short }
@@ -88,7 +88,7 @@ tail_at Broken line tail part s = s
 tail_at TooLong line tail part s = s
 
 standing : (place : Place) (line text bytes : List ℕ) (chunks : List Chunk) (tail part : List ℕ) → AllByRecursion IsChunk chunks
-    → text ≡ flat_map print_chunk chunks ++ tail → bytes ≡ flat_map chunk_bytes chunks ++ part → StandsAt place line tail part → StandsFor place line text bytes
+    → text ≡ flat_map print_chunk chunks ++ tail → bytes ≡ flat_map chunk_bytes chunks ++ part → StandsAt place line tail part → StandsForBody place line text bytes
 standing place line text bytes chunks tail part all e f s = record {
   chunks = chunks;
   tail = tail;
@@ -193,7 +193,7 @@ end_comes false byte old new at after empty same = either (eqb byte 13)
     (λ on. subst (λ b. Feeds old new (b ∷ [])) (sym (eqb-true byte 13 on)) (chunk_goes_on old new at (after ∙ (rw on refl)) same))
     (λ off. chunk_breaks false byte old new at (after ∙ (rw off refl)) same (λ e. absurd (false≢true e)) (λ _ is. eqb-false byte 13 off is))
 
-pub end_fits : (cr : Bool) (byte : ℕ) → Fits (place_after_end cr byte) []
+pub end_fits : (cr : Bool) (byte : ℕ) → FitsPlace (place_after_end cr byte) []
 end_fits true byte = either (eqb byte 10) (λ on. rw on open_at_first) (λ off. rw off tt)
 end_fits false byte = either (eqb byte 13) (λ on. rw on tt) (λ off. rw off tt)
 
@@ -226,7 +226,7 @@ bytes_come left old new taken at few after same = goes_on old new taken taken sa
       some = omega (arith, here.size, here.more, few, length-append part taken, ltb-false 0 (left - length taken) off);
     }))))
 
-pub bytes_fit : (left : ℕ) (line : List ℕ) → Fits (place_after_bytes left) line
+pub bytes_fit : (left : ℕ) (line : List ℕ) → FitsPlace (place_after_bytes left) line
 bytes_fit left line = either (ltb 0 left) (λ on. rw on (ltb-true 0 left on)) (λ off. rw off tt)
 
 pub take_within : (k n : ℕ) (xs : List ℕ) → k ≤ n → take k (take n xs) ≡ take k xs
@@ -285,7 +285,7 @@ after_size_line len size l c exact says = either (ltb 0 size)
     ending_last (length (print_chunk_line l)) (chunk_size l) [] nothing (omega arith) ∙ ap (λ n. Some (response (trailer_verdict (found_by n [] (first_block (n + 1) []))) [])) full in
     rw (off, far) (after_line l [] (response long []) (line_of (print_chunk_line l) l [] (sym (append-nil (print_chunk_line l))) c) ends)))
 
-pub after_size_fits : (len size : ℕ) (l : ChunkLine) → len ≡ length (print_chunk_line l) → Fits (place_after len size) (print_chunk_line l)
+pub after_size_fits : (len size : ℕ) (l : ChunkLine) → len ≡ length (print_chunk_line l) → FitsPlace (place_after len size) (print_chunk_line l)
 after_size_fits len size l exact = either (ltb 0 size)
     (λ on. rw on (ltb-true 0 size on))
     (λ off. either (ltb len limit)
@@ -308,12 +308,12 @@ size_whole line len size l is short =
     record {
       within = omega (arith, is.len_is, whole_line);
       stands = subst (λ t. StandsAt (place_after len size) t t []) (sym kept) (after_size_line len size l c is.len_is is.size_is);
-      fits = subst (Fits (place_after len size)) (sym kept) (after_size_fits len size l is.len_is);
+      fits = subst (FitsPlace (place_after len size)) (sym kept) (after_size_fits len size l is.len_is);
       longer = λ before added e l' unread. omega (arith, is.len_is, line_longer before added l (drop len line) unread.none (is.reads.0, sym e ∙ is.reads.1));
     }
 
 -- one that may become whole
-pub size_open : (line : List ℕ) → HasNoChunkLine line → MayBecomeChunkLine line → length line ≤ limit → IsSizeRead line (record { len = length line; place = place_within (length line) Size })
+pub size_open : (line : List ℕ) → HasNoChunkLine line → MayBecomeChunkLine line → length line ≤ limit → IsSizeRead line (record { len = length line; place = kept_within (length line) Size })
 size_open line none may short =
     let all : take (length line) line ≡ line = take_all (length line) line (omega arith) in
     either (ltb (length line) limit)
@@ -381,7 +381,7 @@ block_in_trailer used before added l = drop-append-le used before added l
 
 -- a trailer that isn't whole
 pub trailer_open : (used : ℕ) (line : List ℕ) → used ≤ length line → length line ≤ limit → first_block (limit - used + 1) (drop used line) ≡ unfinished
-    → IsTrailerRead used line (record { len = length line; place = place_within (length line) (Trailer used) })
+    → IsTrailerRead used line (record { len = length line; place = kept_within (length line) (Trailer used) })
 trailer_open used line within short unended =
     let all : take (length line) line ≡ line = take_all (length line) line (omega arith) in
     either (ltb (length line) limit)
@@ -476,13 +476,13 @@ both_taken a b xs ys e =
 
 -- no bytes, and bytes after others
 pub feeds_nothing : (r : Reader) → Feeds r r []
-feeds_nothing r = λ text before s. subst (λ t. StandsFor r.place r.line t (before ++ r.block)) (sym (append-nil text)) s
+feeds_nothing r = λ text before s. subst (λ t. StandsForBody r.place r.line t (before ++ r.block)) (sym (append-nil text)) s
 
 pub feeds_both : (a b c : Reader) (xs ys : List ℕ) → Feeds a b xs → Feeds b c ys → Feeds a c (xs ++ ys)
-feeds_both a b c xs ys first second = λ text before s. subst (λ t. StandsFor c.place c.line t (before ++ c.block)) (append_assoc text xs ys) (second (text ++ xs) before (first text before s))
+feeds_both a b c xs ys first second = λ text before s. subst (λ t. StandsForBody c.place c.line t (before ++ c.block)) (append_assoc text xs ys) (second (text ++ xs) before (first text before s))
 
 -- a reader at a body's first byte
-pub at_first : StandsFor Size [] [] []
+pub at_first : StandsForBody Size [] [] []
 at_first = standing Size [] [] [] [] [] [] tt refl refl (record { is_tail = refl; is_part = refl; unread = open_at_first })
 
 -- of two takings, the second after none of the first

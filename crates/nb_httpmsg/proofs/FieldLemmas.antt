@@ -1,6 +1,6 @@
 -- The fields of a name among those that spans cover.
 use Rattle.std.specs.Option.{option_map}
-use Rattle.std.proofs.Common.{◌≡◌, ◌≤◌, ◌<◌, ◌++◌, take, codes, IfSome, slice_range, append-nil, ℕ, suc, ◌+◌, List, [], ◌∷◌, length, drop, get_or, map, Bool, true, false, cond, Option, Some, None, refl, ap, ◌∙◌, sym, arith}
+use Rattle.std.proofs.Common.{◌≡◌, ◌≤◌, ◌<◌, ◌++◌, take, codes, IfSome, slice_range, append-nil, ℕ, suc, ◌+◌, List, [], ◌∷◌, length, drop, get_or, map, true, false, Option, Some, None, refl, ap, ◌∙◌, sym, arith}
 use Rattle.std.specs.List.{filter}
 use Rattle.std.proofs.lemmas.List.{at_drop_more, length-map, drop_all, length-take}
 use Rattle.httparse.specs.declared.spans.HeaderSpan.{HeaderSpan}
@@ -11,7 +11,7 @@ use Rattle.nb_responses.specs.Heads.{is_same_word, field_is, values, moves_to_fi
 use Rattle.nb_responses.proofs.Cases.{either}
 use Rattle.nb_httpmsg.specs.declared.head.BodyKind.{BodyKind}
 use Rattle.nb_httpmsg.specs.Fields.{covered, named}
-use Rattle.nb_httpmsg.specs.HeadInfos.{kind_of, IsInfoOf}
+use Rattle.nb_httpmsg.specs.HeadInfos.{body_kind, IsInfoOf}
 
 pub skips : (block name : List ℕ) (spans : List HeaderSpan) (i : ℕ) (d : HeaderSpan) → i < length spans → is_same_word name (span_bytes block (get_or spans i d).name) ≡ false
     → named name (covered block (drop i spans)) ≡ named name (covered block (drop (i + 1) spans))
@@ -54,7 +54,7 @@ covered_values block name spans h e = ap (named name) e ∙ named_values name h.
 -- a block is a head where the parser's head is all of it
 pub info_of : (block : List ℕ) (headers fields : List HeaderSpan) (r : ResponseSpans) (h : ResponseHead) (kind : BodyKind) (location : Option (ℕ × ℕ))
     → IsResponseAt block headers r h → r.len ≡ length block → length headers ≡ 64 → fields ≡ take r.headers headers
-    → kind ≡ kind_of (framing_by (named (codes "transfer-encoding") (covered block fields)) (named (codes "content-length") (covered block fields)))
+    → kind ≡ body_kind (framing_by (named (codes "transfer-encoding") (covered block fields)) (named (codes "content-length") (covered block fields)))
     → option_map (λ p. slice_range block p.0 p.1) location ≡ moves_to_first (named (codes "location") (covered block fields))
     → IfSome location (λ p. (p.0 ≤ p.1) × (p.1 ≤ length block))
     → IsInfoOf block h (record { status = r.code; len = length block; body = kind; location = location })
@@ -69,8 +69,8 @@ info_of block headers fields r h kind location is all room these kind_is locatio
       };
       len = refl;
       status = is.code;
-      body = kind_is ∙ ap (λ vs. kind_of (framing_by vs (named (codes "content-length") (covered block fields)))) (covered_values block (codes "transfer-encoding") fields h same)
-          ∙ ap (λ vs. kind_of (framing_by (values (codes "transfer-encoding") h) vs)) (covered_values block (codes "content-length") fields h same);
+      body = kind_is ∙ ap (λ vs. body_kind (framing_by vs (named (codes "content-length") (covered block fields)))) (covered_values block (codes "transfer-encoding") fields h same)
+          ∙ ap (λ vs. body_kind (framing_by (values (codes "transfer-encoding") h) vs)) (covered_values block (codes "content-length") fields h same);
       location = location_is ∙ ap moves_to_first (covered_values block (codes "location") fields h same);
       within = within;
     }

@@ -1,9 +1,9 @@
 -- Decimals without leading zeros are the same number only where they are the same digits.
-use Rattle.std.proofs.Common.{◌≡◌, ◌≤◌, ◌<◌, ℕ, zero, suc, ◌+◌, ◌-◌, ◌*◌, ◌==◌, ◌&&◌, List, [], ◌∷◌, length, get_or, Bool, true, false, refl, ap, ◌∙◌, sym, subst, arith, eqb, ltb, leb}
+use Rattle.std.proofs.Common.{◌≡◌, ◌≤◌, ◌<◌, ℕ, zero, suc, ◌+◌, ◌*◌, ◌&&◌, List, [], ◌∷◌, length, get_or, Bool, true, false, refl, ap, ◌∙◌, sym, arith, eqb, ltb, leb}
 use Rattle.std.specs.List.{list_all}
 use Rattle.std.specs.Char.{is_ascii_digit, digit_value}
 use Rattle.std.specs.Str.Parse.{digits_value, digits_value_after}
-use Rattle.std.specs.Int.{is_in_range, IsInRange}
+use Rattle.std.specs.Int.{IsInRange}
 use Rattle.std.proofs.lemmas.Bool.{false≢true, leb-true, and_parts, ltb-true, ltb-false, eqb-true, eqb-false, and_from, eq-eqb, ne_eqb}
 use Rattle.std.proofs.lemmas.Str.{digit_value_digit}
 use Rattle.std.specs.Bool.{Decides}

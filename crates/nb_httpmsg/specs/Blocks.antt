@@ -1,5 +1,5 @@
 -- What the search for a block of lines returns
-use Rattle.std.specs.Prelude.{◌≤◌, ℕ, List, length, take, drop, ⊤}
+use Rattle.std.specs.Prelude.{◌≤◌, ℕ, List, take, drop, ⊤}
 use Rattle.nb_responses.specs.Lines.{LineBlock, whole, unfinished, crowded}
 use Rattle.nb_httpmsg.specs.declared.block.BlockEnd.{BlockEnd}
 use Rattle.nb_httpmsg.specs.declared.block.BlockEnd.TheVariants.{Whole, Unfinished, Crowded}

@@ -5,7 +5,7 @@ use Rattle.httparse.specs.Ascii.{carriage_return, line_feed}
 use Rattle.httparse.specs.Grammar.{ChunkLine, IsChunkLine, print_chunk_line, chunk_size}
 use Rattle.nb_responses.specs.Lines.{first_block, unfinished, limit}
 use Rattle.nb_responses.specs.Chunks.{Verdict, more, body, broken, long, response, Chunk, IsChunk, print_chunk, chunk_bytes, Tail, Chunked}
-use Rattle.nb_httpmsg.specs.Reader.{Reader, IsOpenLine, IsOpenTrailer, Fits}
+use Rattle.nb_httpmsg.specs.Reader.{Reader, IsOpenLine, IsOpenTrailer, FitsPlace}
 use Rattle.nb_httpmsg.specs.declared.line.LineRead.{LineRead}
 use Rattle.nb_httpmsg.specs.declared.place.Place.{Place}
 use Rattle.nb_httpmsg.specs.declared.place.Place.TheVariants.{Size, Bytes, End, Trailer, Whole, Broken, TooLong}
@@ -70,14 +70,14 @@ verdict_of Whole = body
 verdict_of Broken = broken
 verdict_of TooLong = long
 
-abbrev pub state_of : Place → ChunkState
-state_of Size = state.More
-state_of (Bytes left) = state.More
-state_of (End cr) = state.More
-state_of (Trailer used) = state.More
-state_of Whole = state.Whole
-state_of Broken = state.Broken
-state_of TooLong = state.TooLong
+abbrev pub chunk_state : Place → ChunkState
+chunk_state Size = state.More
+chunk_state (Bytes left) = state.More
+chunk_state (End cr) = state.More
+chunk_state (Trailer used) = state.More
+chunk_state Whole = state.Whole
+chunk_state Broken = state.Broken
+chunk_state TooLong = state.TooLong
 
 abbrev pub is_open : Place → Bool
 is_open Size = true
@@ -89,12 +89,12 @@ is_open Broken = false
 is_open TooLong = false
 
 -- a place, unless so many bytes are too many for it
-abbrev pub place_within : ℕ → Place → Place
-place_within len place = cond (nat_lt len limit) place TooLong
+abbrev pub kept_within : ℕ → Place → Place
+kept_within len place = cond (nat_lt len limit) place TooLong
 
 -- the place after a size line of so many bytes, which says this size
 abbrev pub place_after : ℕ → ℕ → Place
-place_after len size = cond (nat_lt 0 size) (Bytes size) (place_within len (Trailer len))
+place_after len size = cond (nat_lt 0 size) (Bytes size) (kept_within len (Trailer len))
 
 -- the place after bytes of a chunk of which so many are left
 abbrev pub place_after_bytes : ℕ → Place
@@ -102,11 +102,12 @@ place_after_bytes left = cond (nat_lt 0 left) (Bytes left) (End false)
 
 -- the place after a byte of a chunk's line end
 abbrev pub place_after_end : Bool → ℕ → Place
-place_after_end cr byte = cond cr (cond (byte == line_feed) Size Broken) (cond (byte == carriage_return) (End true) Broken)
+place_after_end cr byte = cond cr (cond (byte == line_feed) Size Broken)
+    (cond (byte == carriage_return) (End true) Broken)
 
 -- A reader at a place, with a size line or trailer so far, stands for the bytes that it took and those
 -- of the body that it gathered since it was made: this is how the text is read.
-pub record StandsFor (place : Place) (line text bytes : List ℕ) : Type 0 where
+pub record StandsForBody (place : Place) (line text bytes : List ℕ) : Type 0 where
   pub chunks : List Chunk
   pub tail : List ℕ
   pub part : List ℕ
@@ -116,16 +117,49 @@ pub record StandsFor (place : Place) (line text bytes : List ℕ) : Type 0 where
   pub at : StandsAt place line tail part
   pub reads : Chunked text (response (verdict_of place) bytes)
 
+-- a reader that has taken nothing
+abbrev pub IsAtStart : Reader → Type 0
+IsAtStart r = StandsForBody r.place r.line [] [] × (r.block ≡ []) × (is_open r.place ≡ true)
+
+-- A call took these bytes of the text: they and what it gathered, added to all that was before, are what
+-- the reader stands for.
+abbrev pub Gathers : Reader → Reader → List ℕ → Type 0
+Gathers old new taken = (text bytes : List ℕ)
+    → StandsForBody old.place old.line text bytes
+    → StandsForBody new.place new.line (text ++ taken) (bytes ++ new.block)
+
+-- of these bytes at least one is taken where there is one, until the body is decided
+abbrev pub TakesAtLeastOne : Reader → List ℕ → ℕ → Type 0
+TakesAtLeastOne old bytes count = is_open old.place ≡ true → 0 < length bytes → 0 < count
+
+-- the same while the block has room
+abbrev pub TakesOneWithRoom : Reader → List ℕ → ℕ → Type 0
+TakesOneWithRoom old bytes count = is_open old.place ≡ true → length old.block < 4096
+    → 0 < length bytes → 0 < count
+
+-- once the body is decided, none is taken
+abbrev pub TakesNone : Reader → Reader → ℕ → Type 0
+TakesNone old new count = is_open old.place ≡ false
+    → (count ≡ 0) × (new.place ≡ old.place) × (new.line ≡ old.line)
+
+-- bytes are left over only where the body is decided or the block is full
+abbrev pub TakesAll : Reader → List ℕ → ℕ → Type 0
+TakesAll new bytes count = count < length bytes → is_open new.place ≡ true → length new.block ≡ 4096
+
 -- a reader goes on by these bytes of the text: whatever it stood for, it stands for with them added
 abbrev pub Feeds : Reader → Reader → List ℕ → Type 0
-Feeds old new taken = (text before : List ℕ) → StandsFor old.place old.line text (before ++ old.block) → StandsFor new.place new.line (text ++ taken) (before ++ new.block)
+Feeds old new taken = (text before : List ℕ)
+    → StandsForBody old.place old.line text (before ++ old.block)
+    → StandsForBody new.place new.line (text ++ taken) (before ++ new.block)
 
--- What a size line, or what may become one, is read as. Where none was whole, one that is whole ends in what was added.
+-- What a size line, or what may become one, is read as. Where none was whole, one that is whole ends in
+-- what was added.
 pub record IsSizeRead (line : List ℕ) (r : LineRead) : Type 0 where
   pub within : r.len ≤ length line
   pub stands : StandsAt r.place (take r.len line) (take r.len line) []
-  pub fits : Fits r.place (take r.len line)
-  pub longer : (before added : List ℕ) → line ≡ before ++ added → 0 < length added → IsOpenLine before → length before < r.len
+  pub fits : FitsPlace r.place (take r.len line)
+  pub longer : (before added : List ℕ) → line ≡ before ++ added → 0 < length added
+      → IsOpenLine before → length before < r.len
 
 -- a last size line of so many bytes, and what follows it
 pub record IsLast (used : ℕ) (line : List ℕ) : Type 0 where
@@ -140,5 +174,6 @@ pub record IsLast (used : ℕ) (line : List ℕ) : Type 0 where
 pub record IsTrailerRead (used : ℕ) (line : List ℕ) (r : LineRead) : Type 0 where
   pub within : r.len ≤ length line
   pub stands : IsLast used line → StandsAt r.place (take r.len line) (take r.len line) []
-  pub fits : Fits r.place (take r.len line)
-  pub longer : (before added : List ℕ) → line ≡ before ++ added → 0 < length added → IsOpenTrailer used before → length before < r.len
+  pub fits : FitsPlace r.place (take r.len line)
+  pub longer : (before added : List ℕ) → line ≡ before ++ added → 0 < length added
+      → IsOpenTrailer used before → length before < r.len

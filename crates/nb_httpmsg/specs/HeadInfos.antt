@@ -12,11 +12,11 @@ use Rattle.nb_httpmsg.specs.declared.head.BodyKind.{BodyKind}
 use Rattle.nb_httpmsg.specs.declared.head.BodyKind.TheVariants.{Length, Chunked, ToEnd, Bad}
 
 -- a length that a u64 can't say is the largest u64
-abbrev pub kind_of : Framing → BodyKind
-kind_of (sized size) = Length (min size (2 ^ 64 - 1))
-kind_of chunked = Chunked
-kind_of to_end = ToEnd
-kind_of bad = Bad
+abbrev pub body_kind : Framing → BodyKind
+body_kind (sized size) = Length (min size (2 ^ 64 - 1))
+body_kind chunked = Chunked
+body_kind to_end = ToEnd
+body_kind bad = Bad
 
 -- a head was found, and it is the whole block
 abbrev pub IsAllOf : List ℕ → Option ResponseSpans → Type 0
@@ -28,8 +28,9 @@ pub record IsInfoOf (block : List ℕ) (h : ResponseHead) (info : HeadInfo) : Ty
   pub head : IsHead block h
   pub len : info.len ≡ length block
   pub status : info.status ≡ status_code h
-  pub body : info.body ≡ kind_of (framing h)
-  pub location : option_map (λ r. slice_range block r.0 r.1) info.location ≡ moves_to_first (values (codes "location") h)
+  pub body : info.body ≡ body_kind (framing h)
+  pub location : option_map (λ r. slice_range block r.0 r.1) info.location
+      ≡ moves_to_first (values (codes "location") h)
   pub within : IfSome info.location (λ r. (r.0 ≤ r.1) × (r.1 ≤ length block))
 
 -- the bytes begin with a head of this length

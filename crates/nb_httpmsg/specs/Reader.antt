@@ -24,11 +24,11 @@ pub record IsOpenTrailer (used : ℕ) (line : List ℕ) : Type 0 where
   pub short : length line < limit
 
 -- what a reader keeps fits its place
-abbrev pub Fits : Place → List ℕ → Type 0
-Fits Size line = IsOpenLine line
-Fits (Bytes left) line = 0 < left
-Fits (End cr) line = ⊤
-Fits (Trailer used) line = IsOpenTrailer used line
-Fits Whole line = ⊤
-Fits Broken line = ⊤
-Fits TooLong line = ⊤
+abbrev pub FitsPlace : Place → List ℕ → Type 0
+FitsPlace Size line = IsOpenLine line
+FitsPlace (Bytes left) line = 0 < left
+FitsPlace (End cr) line = ⊤
+FitsPlace (Trailer used) line = IsOpenTrailer used line
+FitsPlace Whole line = ⊤
+FitsPlace Broken line = ⊤
+FitsPlace TooLong line = ⊤

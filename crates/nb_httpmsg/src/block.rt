@@ -38,7 +38,8 @@ pub(crate) fn find_block(most: usize, text: &[u8]) -> BlockEnd
 
 /// The length of the first line, with its LF.
 fn line_len(text: &[u8]) -> Option<usize>
-    ensures line { first_line text.now ≡ option_map (λ n. record { line = take n text.now; rest = drop n text.now }) result }
+    ensures line { first_line text.now
+        ≡ option_map (λ n. record { line = take n text.now; rest = drop n text.now }) result }
     ensures within { IfSome result (λ n. n ≤ length text.now) }
 {
     for (i, b) in text.iter().enumerate() {

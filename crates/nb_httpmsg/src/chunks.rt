@@ -42,22 +42,24 @@ pub struct Chunks {
 impl Model for Chunks {
     ghost use Rattle.std.specs.Prelude.{ℕ, List, ◌≤◌, vec_len, vec_capacity};
     ghost use Rattle.nb_httpmsg.specs.declared.place.Place.{Place};
-    ghost use Rattle.nb_httpmsg.specs.Reader.{Reader, Fits};
+    ghost use Rattle.nb_httpmsg.specs.Reader.{Reader, FitsPlace};
 
     ghost Value = { Reader };
 
     ghost view = { λ c. record { line = c.line.items; block = c.block.items; place = c.place } };
 
-    ghost invariant = { λ c. (vec_len c.line ≤ 16384) × (16384 ≤ vec_capacity c.line) × (vec_len c.block ≤ 4096) × (4096 ≤ vec_capacity c.block) × Fits c.place c.line.items };
+    ghost invariant = { λ c. (vec_len c.line ≤ 16384) × (16384 ≤ vec_capacity c.line)
+        × (vec_len c.block ≤ 4096) × (4096 ≤ vec_capacity c.block) × FitsPlace c.place c.line.items };
 }
 
 impl Chunks {
-    ghost use Rattle.std.specs.Prelude.{◌≡◌, ◌≤◌, ◌<◌, ◌+◌, ◌^◌, ◌++◌, [], ℕ, List, length, take, IfOk, true, false};
-    ghost use Rattle.nb_httpmsg.specs.Feeding.{StandsFor, Feeds, is_open, state_of};
+    ghost use Rattle.std.specs.Prelude.{◌≡◌, ◌≤◌, ◌<◌, ◌+◌, ◌^◌, ◌++◌, length, take, IfOk, true, false};
+    ghost use Rattle.nb_httpmsg.specs.Feeding.{IsAtStart, Gathers, TakesAtLeastOne, TakesOneWithRoom, TakesNone, TakesAll, Feeds};
+    ghost use Rattle.nb_httpmsg.specs.Feeding.{is_open, chunk_state};
 
     /// A reader at a body's first byte. It takes all the memory that it needs.
     pub fn new(alloc: Global) -> Result<Chunks, NoMemory>
-        ensures { IfOk result (λ c. (StandsFor c.place c.line [] []) × (c.block ≡ []) × (is_open c.place ≡ true)) }
+        ensures { IfOk result IsAtStart }
     {
         Ok(Chunks {
             line: Vec::with_capacity(alloc, MAX_LINES)?,
@@ -70,14 +72,15 @@ impl Chunks {
     pub fn feed(&mut self, first: &[u8], second: &[u8]) -> Fed
         requires { length first.now + length second.now < 2 ^ 32 }
         // What it took and gathered, added to all that was before, is what it stands for.
-        ensures stands { (text bytes : List ℕ) → StandsFor self.old.place self.old.line text bytes → StandsFor self.new.place self.new.line (text ++ take result.took (first.now ++ second.now)) (bytes ++ self.new.block) }
+        ensures stands { Gathers self.old self.new (take result.took (first.now ++ second.now)) }
         ensures within { result.took ≤ length (first.now ++ second.now) }
-        ensures some { is_open self.old.place ≡ true → 0 < length (first.now ++ second.now) → 0 < result.took }
+        ensures some { TakesAtLeastOne self.old (first.now ++ second.now) result.took }
+        ensures ended { TakesNone self.old self.new result.took }
         ensures bytes { result.bytes ≡ length self.new.block }
         ensures most { length self.new.block ≤ 4096 }
-        ensures state { result.state ≡ state_of self.new.place }
+        ensures state { result.state ≡ chunk_state self.new.place }
         // Bytes are left over only where the body is decided or the block is full.
-        ensures all { result.took < length (first.now ++ second.now) → is_open self.new.place ≡ true → length self.new.block ≡ 4096 }
+        ensures all { TakesAll self.new (first.now ++ second.now) result.took }
     {
         self.block.clear();
         let took = self.run_both(first, second);
@@ -97,7 +100,7 @@ impl Chunks {
     }
 
     fn state(&self) -> ChunkState
-        ensures { result ≡ state_of self.now.place }
+        ensures { result ≡ chunk_state self.now.place }
     {
         match self.place {
             Place::Whole => ChunkState::Whole,
@@ -127,8 +130,9 @@ impl Chunks {
         requires { length first.now + length second.now < 2 ^ 32 }
         ensures stands { Feeds self.old self.new (take result (first.now ++ second.now)) }
         ensures within { result ≤ length (first.now ++ second.now) }
-        ensures some { is_open self.old.place ≡ true → length self.old.block < 4096 → 0 < length (first.now ++ second.now) → 0 < result }
-        ensures all { result < length (first.now ++ second.now) → is_open self.new.place ≡ true → length self.new.block ≡ 4096 }
+        ensures some { TakesOneWithRoom self.old (first.now ++ second.now) result }
+        ensures ended { TakesNone self.old self.new result }
+        ensures all { TakesAll self.new (first.now ++ second.now) result }
     {
         let took = self.run(first);
         if took < first.len() {
@@ -141,9 +145,10 @@ impl Chunks {
     fn run(&mut self, bytes: &[u8]) -> usize
         ensures stands { Feeds self.old self.new (take result bytes.now) }
         ensures within { result ≤ length bytes.now }
-        ensures some { is_open self.old.place ≡ true → length self.old.block < 4096 → 0 < length bytes.now → 0 < result }
+        ensures some { TakesOneWithRoom self.old bytes.now result }
         ensures none { result ≡ 0 → self.new ≡ self.old }
-        ensures all { result < length bytes.now → is_open self.new.place ≡ true → length self.new.block ≡ 4096 }
+        ensures ended { TakesNone self.old self.new result }
+        ensures all { TakesAll self.new bytes.now result }
     {
         let mut at = 0;
         while at < bytes.len() {

@@ -73,7 +73,8 @@ pub fn read_head(bytes: &[u8]) -> Head
 /// What a block says, if it is a head.
 fn parse_block(block: &[u8]) -> Option<HeadInfo>
     requires { length block.now ≤ 16384 }
-    ensures { MatchOption result ((h : ResponseHead) → ¬ (IsHead block.now h)) (λ info. (h : ResponseHead) × IsInfoOf block.now h info) }
+    ensures { MatchOption result ((h : ResponseHead) → ¬ (IsHead block.now h))
+        (λ info. (h : ResponseHead) × IsInfoOf block.now h info) }
 {
     let mut spans = [EMPTY_HEADER_SPAN; MAX_FIELDS];
     let head = parsed(block, &mut spans)?;

@@ -1,7 +1,7 @@
 //! What a size line, or a trailer after one, is so far (RFC 9112, section 7.1).
 
 ghost use Rattle.std.specs.Prelude.{◌≡◌, ◌≤◌, length};
-ghost use Rattle.nb_httpmsg.specs.Feeding.{place_after, place_within, IsSizeRead, IsTrailerRead};
+ghost use Rattle.nb_httpmsg.specs.Feeding.{place_after, kept_within, IsSizeRead, IsTrailerRead};
 
 use crate::block::{BlockEnd, find_block};
 use crate::chunks::MAX_LINES;
@@ -27,7 +27,7 @@ fn after_size(len: usize, size: u64) -> Place
 
 /// A place, unless so many bytes are too many for it.
 fn within(len: usize, place: Place) -> Place
-    ensures { result ≡ place_within len place }
+    ensures { result ≡ kept_within len place }
 {
     if len < MAX_LINES {
         place

@@ -1,5 +1,3 @@
-mod PiecesLemmas
-mod FirstLineLemmas
 mod KindLemmas
 mod ListLemmas
 mod RemoveLemmas

@@ -9,18 +9,18 @@ use Rattle.std.proofs.lemmas.List.FromFn.{get_or-map-range_with_len, length-map-
 use Rattle.nb_image.specs.declared.image.Image.{Image}
 use Rattle.nb_image.specs.declared.part.PartKind.TheVariants.{InitrdName, Initrd}
 use Rattle.nb_image.specs.Images.{image_of}
-use Rattle.nb_image.specs.Parts.{part, initrd_parts, others_parts, parts, piece_at, piece_count, pieces}
+use Rattle.nb_image.specs.Parts.{part, initrd_parts, others_parts, parts, piece_at, piece_count, part_pieces}
 use Rattle.nb_image.proofs.RemoveLemmas.{other_at}
 
-pub pieces_past : (bytes : List ℕ) (p : ℕ) → piece_count (length bytes) ≤ p → slice_get (pieces bytes) p ≡ None
+pub pieces_past : (bytes : List ℕ) (p : ℕ) → piece_count (length bytes) ≤ p → slice_get (part_pieces bytes) p ≡ None
 pieces_past bytes p h =
-    slice_get_past (pieces bytes) p (omega (arith, length-map-range_with_len (piece_at bytes) 0 (piece_count (length bytes))))
+    slice_get_past (part_pieces bytes) p (omega (arith, length-map-range_with_len (piece_at bytes) 0 (piece_count (length bytes))))
 
-pub piece_is : (bytes : List ℕ) (p offset : ℕ) (part_bytes : List ℕ) → p < piece_count (length bytes) → offset ≡ 65536 * p → part_bytes ≡ take 65536 (drop offset bytes) → slice_get (pieces bytes) p ≡ Some (record { offset = offset; bytes = part_bytes })
+pub piece_is : (bytes : List ℕ) (p offset : ℕ) (part_bytes : List ℕ) → p < piece_count (length bytes) → offset ≡ 65536 * p → part_bytes ≡ take 65536 (drop offset bytes) → slice_get (part_pieces bytes) p ≡ Some (record { offset = offset; bytes = part_bytes })
 piece_is bytes p offset part_bytes h at is =
     let count = piece_count (length bytes) in
-    let long : p < length (pieces bytes) = omega (arith, length-map-range_with_len (piece_at bytes) 0 count) in
-    let there = slice_get-get_or (pieces bytes) p (piece_at bytes p) long in
+    let long : p < length (part_pieces bytes) = omega (arith, length-map-range_with_len (piece_at bytes) 0 count) in
+    let there = slice_get-get_or (part_pieces bytes) p (piece_at bytes p) long in
     let item = get_or-map-range_with_len (piece_at bytes) 0 count p p (piece_at bytes p) h (omega arith) in
     let same : piece_at bytes p ≡ record { offset = offset; bytes = part_bytes } = cc in
     there ∙ ap Some (item ∙ same)
@@ -88,7 +88,7 @@ other_body images kernel k place w before behind odd =
     others_body (remove images kernel) k odd
     ∙ ap (option_map (λ (image : Image). part Initrd (k / 2) image.body)) (other_at images kernel (k / 2) place w before behind)
 
-pub pieces_length : (bytes : List ℕ) → length (pieces bytes) ≡ piece_count (length bytes)
+pub pieces_length : (bytes : List ℕ) → length (part_pieces bytes) ≡ piece_count (length bytes)
 pieces_length bytes = length-map-range_with_len (piece_at bytes) 0 (piece_count (length bytes))
 
 others_length : (n : ℕ) (xs : List Image) → length (flat_map initrd_parts (enumerate_from n xs)) ≡ 2 * length xs

@@ -19,8 +19,8 @@ abbrev pub has_name : List ℕ → Image → Bool
 has_name name image = bytes_eq image.name name
 
 -- where the first image of a name stands
-abbrev pub place_of : List ℕ → List Image → Option ℕ
-place_of name images = position (has_name name) images
+abbrev pub image_place : List ℕ → List Image → Option ℕ
+image_place name images = position (has_name name) images
 
 abbrev pub body_len : Image → ℕ
 body_len image = length image.body
@@ -35,13 +35,13 @@ len_at None images = 0
 len_at (Some i) images = slice_index (map body_len images) i
 
 -- the images with one put at a place, or behind all where there is no place
-abbrev pub put_at : Option ℕ → Image → List Image → List Image
-put_at None image images = images ++ image ∷ []
-put_at (Some i) image images = slice_set images i image
+abbrev pub put_image : Option ℕ → Image → List Image → List Image
+put_image None image images = images ++ image ∷ []
+put_image (Some i) image images = slice_set images i image
 
 -- the images with one more: it takes the place of the image of its name, or stands behind all
 abbrev pub with_image : Image → List Image → List Image
-with_image image images = put_at (place_of image.name images) image images
+with_image image images = put_image (image_place image.name images) image images
 
 -- whether there would be a 33rd image
 abbrev pub is_too_many : Image → List Image → Bool
@@ -73,8 +73,8 @@ selection_without i None = None
 selection_without i (Some place) = if place == i then None else Some (if nat_lt i place then place - 1 else place)
 
 -- the list without the image at a place
-abbrev pub without : ℕ → ImageList → ImageList
-without i list = record { images = remove list.images i; selected = selection_without i list.selected }
+abbrev pub without_image : ℕ → ImageList → ImageList
+without_image i list = record { images = remove list.images i; selected = selection_without i list.selected }
 
 -- the selected image
 abbrev pub selected_image : ImageList → Option Image

@@ -9,12 +9,12 @@ use Rattle.nb_image.specs.declared.part.Part.{Part}
 use Rattle.nb_image.specs.declared.part.Piece.{Piece}
 
 -- the numbers by which records name the kinds
-abbrev pub number_of : PartKind → ℕ
-number_of Kernel = 0
-number_of Initrd = 1
-number_of CommandLine = 2
-number_of KernelName = 5
-number_of InitrdName = 6
+abbrev pub part_number : PartKind → ℕ
+part_number Kernel = 0
+part_number Initrd = 1
+part_number CommandLine = 2
+part_number KernelName = 5
+part_number InitrdName = 6
 
 -- a part: its kind, which of the other images it is of, and its bytes
 pub record PartText : Type 0 where
@@ -60,5 +60,5 @@ abbrev pub piece_at : List ℕ → ℕ → PieceText
 piece_at bytes p = record { offset = 65536 * p; bytes = take 65536 (drop (65536 * p) bytes) }
 
 -- the pieces of a part, by their places
-abbrev pub pieces : List ℕ → List PieceText
-pieces bytes = map (piece_at bytes) (range_with_len 0 (piece_count (length bytes)))
+abbrev pub part_pieces : List ℕ → List PieceText
+part_pieces bytes = map (piece_at bytes) (range_with_len 0 (piece_count (length bytes)))

@@ -1,6 +1,6 @@
 ghost use Rattle.std.specs.Prelude.{◌≡◌, ◌<◌, ◌≤◌, ℕ, List, [], None, Some, length, slice_get, unwrap_or, IfOk, OnOk, OnErr, IfErr, IfSome, ◌⊎◌, option_map};
 ghost use Rattle.std.specs.Option.{MatchOption};
-ghost use Rattle.nb_image.specs.Images.{image_of, place_of, with_image, with_args_at, without, selected_image, refusal};
+ghost use Rattle.nb_image.specs.Images.{image_of, image_place, with_image, with_args_at, without_image, selected_image, refusal};
 ghost use Rattle.nb_image.specs.declared.error.ImageError.TheVariants as error;
 ghost use Rattle.nb_image.specs.Kinds.{kind_of};
 
@@ -54,7 +54,7 @@ impl Images {
           images = with_image (image_of name.now body args.now uri.now) self.old.images;
           selected = self.old.selected;
         }) }
-        ensures place { IfOk result (λ i. i ≡ unwrap_or (place_of name.now self.old.images) (length self.old.images)) }
+        ensures place { IfOk result (λ i. i ≡ unwrap_or (image_place name.now self.old.images) (length self.old.images)) }
         ensures within { IfOk result (λ i. i < length self.new.images) }
         ensures fits { OnOk result (refusal (image_of name.now body args.now uri.now) self.old.images ≡ None) }
         ensures cause { IfErr result
@@ -80,7 +80,7 @@ impl Images {
 
     /// Where the image of a name stands. None where there is none.
     pub fn find(&self, name: &[u8]) -> Option<usize>
-        ensures value { result ≡ place_of name.now self.now.images }
+        ensures value { result ≡ image_place name.now self.now.images }
         ensures within { IfSome result (λ i. i < length self.now.images) }
     {
         place_of(self.images.as_slice(), name)
@@ -112,7 +112,7 @@ impl Images {
     /// Drops the image at a place. The others keep their order.
     pub fn free(&mut self, i: usize)
         requires { i < length self.old.images }
-        ensures list { self.new ≡ without i self.old }
+        ensures list { self.new ≡ without_image i self.old }
         ensures stays { (self.old.selected ≡ Some i → ⊥) → selected_image self.new ≡ selected_image self.old }
     {
         self.images.remove(i);
@@ -123,7 +123,7 @@ impl Images {
     pub fn take_out(&mut self, i: usize) -> Body
         requires { i < length self.old.images }
         ensures body { option_map (λ image. image.body) (slice_get self.old.images i) ≡ Some result }
-        ensures list { self.new ≡ without i self.old }
+        ensures list { self.new ≡ without_image i self.old }
         ensures stays { (self.old.selected ≡ Some i → ⊥) → selected_image self.new ≡ selected_image self.old }
     {
         let image = self.images.remove(i);

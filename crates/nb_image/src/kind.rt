@@ -1,7 +1,7 @@
 ghost use Rattle.std.specs.Prelude.{◌≡◌};
 ghost use Rattle.nb_image.specs.Kinds.{kind_of, is_bzimage, is_elf, is_efi};
 
-use crate::first_line::begins_script;
+use nb_script::begins_script;
 
 /// What an image is, by its content.
 #[derive(Clone, Copy, Debug, PartialEq, Eq)]

@@ -5,7 +5,6 @@
 
 mod body;
 mod error;
-mod first_line;
 mod handoff;
 mod image;
 mod images;

@@ -1,7 +1,7 @@
 ghost use Rattle.std.specs.Prelude.{◌≡◌, ◌<◌, ◌≤◌, None, Some, length, vec_len, unwrap_or, IfOk, IfErr, OnOk, OnErr};
 ghost use Rattle.std.specs.Option.{ForSome};
 ghost use Rattle.nb_image.specs.declared.image.Image.{Image};
-ghost use Rattle.nb_image.specs.Images.{place_of, has_name, put_at, total_len, len_at, is_too_many, is_too_large, refusal, selection_without};
+ghost use Rattle.nb_image.specs.Images.{image_place, has_name, put_image, total_len, len_at, is_too_many, is_too_large, refusal, selection_without};
 ghost use Rattle.nb_image.specs.declared.error.ImageError.TheVariants as error;
 
 use crate::{Body, Image, ImageError};
@@ -14,7 +14,7 @@ pub const MAX_TOTAL_LEN: usize = 536_870_912;
 
 /// Where the image of a name stands.
 pub fn place_of(images: &[Image], name: &[u8]) -> Option<usize>
-    ensures { result ≡ place_of name.now images.now }
+    ensures { result ≡ image_place name.now images.now }
 {
     images.iter().position(|image| has_name(image, name))
 }
@@ -51,7 +51,7 @@ fn len_at(images: &[Image], place: Option<usize>) -> usize
 /// Whether there would be a 33rd image, if one of the name that stands at this place were put.
 fn is_too_many(images: &[Image], place: Option<usize>) -> bool
     requires { length images.now ≤ 32 }
-    ensures { (image : Image) → place ≡ place_of image.name images.now → result ≡ is_too_many image images.now }
+    ensures { (image : Image) → place ≡ image_place image.name images.now → result ≡ is_too_many image images.now }
 {
     place.is_none() && images.len() >= MAX_IMAGES
 }
@@ -60,7 +60,7 @@ fn is_too_many(images: &[Image], place: Option<usize>) -> bool
 fn is_too_large(images: &[Image], place: Option<usize>, body: &Body) -> bool
     requires place { ForSome place (λ i. i < length images.now) }
     requires total { total_len images.now ≤ 536870912 }
-    ensures { (image : Image) → place ≡ place_of image.name images.now → image.body ≡ body.now
+    ensures { (image : Image) → place ≡ image_place image.name images.now → image.body ≡ body.now
         → result ≡ is_too_large image images.now }
 {
     total_len(images) - len_at(images, place) + body.len() > MAX_TOTAL_LEN
@@ -71,7 +71,7 @@ pub fn refusal(images: &[Image], place: Option<usize>, body: &Body) -> Option<Im
     requires place { ForSome place (λ i. i < length images.now) }
     requires len { length images.now ≤ 32 }
     requires total { total_len images.now ≤ 536870912 }
-    ensures { (image : Image) → place ≡ place_of image.name images.now → image.body ≡ body.now
+    ensures { (image : Image) → place ≡ image_place image.name images.now → image.body ≡ body.now
         → result ≡ refusal image images.now }
 {
     if is_too_many(images, place) {
@@ -86,7 +86,7 @@ pub fn refusal(images: &[Image], place: Option<usize>, body: &Body) -> Option<Im
 /// Puts an image in place of another, or behind all, and says where.
 pub fn put(images: &mut Vec<Image>, place: Option<usize>, image: Image) -> Result<usize, ImageError>
     requires { ForSome place (λ i. i < vec_len images.old) }
-    ensures ok { OnOk result (images.new.items ≡ put_at place image images.old.items) }
+    ensures ok { OnOk result (images.new.items ≡ put_image place image images.old.items) }
     ensures place { IfOk result (λ i. i ≡ unwrap_or place (vec_len images.old)) }
     ensures within { IfOk result (λ i. i < vec_len images.new) }
     ensures refused { OnErr result (images.new.items ≡ images.old.items) }

@@ -1,5 +1,5 @@
 ghost use Rattle.std.specs.Prelude.{◌≡◌, length, slice_get, option_map};
-ghost use Rattle.nb_image.specs.Parts.{number_of, piece_text, pieces, piece_count};
+ghost use Rattle.nb_image.specs.Parts.{part_number, piece_text, part_pieces, piece_count};
 
 use crate::PAGE_LEN;
 use crate::body::first_page;
@@ -20,7 +20,7 @@ pub enum PartKind {
 impl PartKind {
     /// The number by which a record names the kind.
     pub fn number(self) -> u8
-        ensures { result ≡ number_of self }
+        ensures { result ≡ part_number self }
     {
         match self {
             PartKind::Kernel => 0,
@@ -53,7 +53,7 @@ pub struct Piece<'a> {
 impl<'a> Part<'a> {
     /// Piece `p`, from 0. None behind the last.
     pub fn piece(&self, p: usize) -> Option<Piece<'a>>
-        ensures { option_map piece_text result ≡ slice_get (pieces self.now.bytes.now) p }
+        ensures { option_map piece_text result ≡ slice_get (part_pieces self.now.bytes.now) p }
     {
         if p >= piece_count(self.bytes.len()) {
             return None;
@@ -67,7 +67,7 @@ impl<'a> Part<'a> {
 
     /// How many pieces it has; one without bytes has one.
     pub fn piece_count(&self) -> usize
-        ensures { result ≡ length (pieces self.now.bytes.now) }
+        ensures { result ≡ length (part_pieces self.now.bytes.now) }
     {
         piece_count(self.bytes.len())
     }

@@ -1,2 +1,3 @@
 pub mod PacketText
 pub mod UdpText
+pub mod EchoText

@@ -115,3 +115,49 @@ fn computed_zero(rt: HostRuntime) {
     let bytes: &[u8] = &[0xff, 0xde, 0x00, 0x00, 0x00, 0x08, 0xff, 0xff];
     assert_eq!(rt; out.written(), bytes);
 }
+
+/// What `ping` on Windows sends first, and the reply to it: 32 letters, identifier 1, sequence number 1.
+/// Captures of it show the checksums 0x4d5a and 0x555a.
+const PING: [u8; 40] = [
+    8, 0, 0x4d, 0x5a, 0, 1, 0, 1, b'a', b'b', b'c', b'd', b'e', b'f', b'g', b'h', b'i', b'j', b'k',
+    b'l', b'm', b'n', b'o', b'p', b'q', b'r', b's', b't', b'u', b'v', b'w', b'a', b'b', b'c', b'd',
+    b'e', b'f', b'g', b'h', b'i',
+];
+
+#[test]
+fn ping_and_its_reply(rt: HostRuntime) {
+    let request = Echo::read(&PING).expect(&rt, "an echo");
+    assert_eq!(rt;
+        (request.kind, request.ident, request.seq),
+        (ECHO_REQUEST, 1, 1)
+    );
+    assert_eq!(rt; Some(request.body), PING.get(8..));
+
+    let reply = Echo {
+        kind: ECHO_REPLY,
+        ..request
+    };
+    let mut room = [0; 40];
+    let mut out = Out::new(&mut room);
+    assert!(rt; reply.body.len() == 32);
+    assert!(rt; reply.write(&mut out).is_ok());
+    let head: &[u8] = &[0, 0, 0x55, 0x5a, 0, 1, 0, 1];
+    assert_eq!(rt; out.written().get(..8), Some(head));
+    assert_eq!(rt; out.written().get(8..), PING.get(8..));
+    assert_eq!(rt; Echo::read(out.written()), Some(reply));
+}
+
+/// Another code, another kind, a byte too few, and a wrong checksum.
+#[test]
+fn no_echo(rt: HostRuntime) {
+    let rows: [&[u8]; 4] = [
+        &[8, 1, 0xf7, 0xfe, 0, 0, 0, 0],
+        &[3, 0, 0xfc, 0xff, 0, 0, 0, 0],
+        &[8, 0, 0xf7, 0xff, 0, 0, 0],
+        &[8, 0, 0xf7, 0xfe, 0, 0, 0, 0],
+    ];
+    for (number, bytes) in rows.iter().enumerate() {
+        assert_eq!(rt; Echo::read(bytes), None, "row {number}");
+    }
+    assert!(rt; Echo::read(&[8, 0, 0xf7, 0xff, 0, 0, 0, 0]).is_some());
+}

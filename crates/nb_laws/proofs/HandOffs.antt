@@ -10,18 +10,18 @@ use Rattle.nb_terms.specs.declared.acts.Acts.{Acts}
 use Rattle.nb_terms.specs.declared.acts.SendTo.{SendTo}
 use Rattle.nb_terms.specs.declared.cause.Cause.{Cause}
 use Rattle.nb_defs.specs.Causes.{ok, usage, is_ok_cause}
-use Rattle.nb_defs.specs.Commands.{Outcome, outcome, refused, is_option}
+use Rattle.nb_defs.specs.Commands.{CommandOutcome, command_outcome, refused, is_option}
 use Rattle.nb_defs.specs.Records.{Out, step, sent, text, command, result, script, opened, tried, advanced, ended, part, done}
 use Rattle.nb_stack.specs.Client.{Client}
 use Rattle.nb_uri.specs.Pieces.{is_slash}
 use Rattle.nb_uri.specs.Targets.{TftpTarget, tftp_target, is_too_long}
 use Rattle.nb_image.specs.declared.image.Image.{Image}
 use Rattle.nb_image.specs.declared.error.ImageError.{ImageError}
-use Rattle.nb_image.specs.Images.{ImageList, with_image, place_of, refusal}
+use Rattle.nb_image.specs.Images.{ImageList, with_image, image_place, refusal}
 use Rattle.nb_image.specs.Kinds.{kind_of}
 use Rattle.nb_engine.specs.declared.world.World.{World}
 use Rattle.nb_engine.specs.World.{unbound}
-use Rattle.nb_engine.specs.Effects.{Wanted, Effect, says, asks, asked, fetch, effect, too_long_uri, full_opens, bad_uri}
+use Rattle.nb_engine.specs.Effects.{Wanted, Effect, says, asks, asked_for, fetch, effect, too_long_uri, full_opens, bad_uri}
 use Rattle.nb_engine.specs.Opens.{has_route, send_records, sends_records, acts_records, advance_records, try_records}
 use Rattle.nb_engine.specs.Conclusions.{Conclusion, keeps, fails, boots, conclusion, stored, taken_in, selected_in, place_for, is_bootable, not_bootable, conclusion_records, handoff_records}
 use Rattle.nb_engine.specs.Honesty.{IsNoPart, HaveNoParts}
@@ -29,7 +29,7 @@ use Rattle.nb_engine.specs.Machine.{Running, prints, command_record, command_rec
 use Rattle.nb_engine.proofs.HandingLemmas.{all_append}
 use Rattle.nb_laws.specs.Events.{Event, starts, puts}
 use Rattle.nb_tftp.specs.Blocks.{is_whole}
-use Rattle.nb_laws.specs.Lists.{words_of, words_by, last_end, end_by, got, made}
+use Rattle.nb_laws.specs.Lists.{words_of, words_by, last_end, end_by, datagrams_of, made}
 use Rattle.nb_laws.specs.HandOff.{last_segment, uri_of, came_ok, last_image, image_at, images_brought, image_list}
 use Rattle.nb_laws.specs.Agreement.{AgreesImages, IsSilent}
 use Rattle.nb_laws.proofs.Histories.{gathered_one}
@@ -168,9 +168,9 @@ and_none true b x images e = ap (λ z. cond (came_ok z && b) images []) e
 and_none false b x images e = refl
 
 no_image : (es : List Event) (cause : Cause) → last_end es ≡ None → image_at es (puts (result cause)) ≡ []
-no_image es cause e = and_none (is_ok_cause cause) (is_whole (got (made es - 1) es)) (last_end es) (last_image es) e
+no_image es cause e = and_none (is_ok_cause cause) (is_whole (datagrams_of (made es - 1) es)) (last_end es) (last_image es) e
 
-pub command_keeps : (es : List Event) (s : Running) (ws : List (List ℕ)) (o : Outcome) → images_brought (es ++ told (command_records s ws o)) ≡ images_brought es
+pub command_keeps : (es : List Event) (s : Running) (ws : List (List ℕ)) (o : CommandOutcome) → images_brought (es ++ told (command_records s ws o)) ≡ images_brought es
 command_keeps es s ws o = by o.prints
   where
     by : (p : Option (List ℕ)) → images_brought (es ++ told ((command_record s ws ∷ []) ++ prints p ++ (result o.cause ∷ []))) ≡ images_brought es
@@ -193,7 +193,7 @@ no_prints (Some bytes) = (tt, tt)
 pub parts_more : (xs ys : List Out) → HaveNoParts xs → HaveNoParts ys → HaveNoParts (xs ++ ys)
 parts_more xs ys p q = all_append IsNoPart xs ys p q
 
-pub no_command : (s : Running) (ws : List (List ℕ)) (o : Outcome) → HaveNoParts (command_records s ws o)
+pub no_command : (s : Running) (ws : List (List ℕ)) (o : CommandOutcome) → HaveNoParts (command_records s ws o)
 no_command s ws o =
     parts_more ((command_record s ws ∷ []) ++ prints o.prints) (result o.cause ∷ []) (parts_more (command_record s ws ∷ []) (prints o.prints) (tt, tt) (no_prints o.prints)) (tt, tt)
 
@@ -234,13 +234,13 @@ listed_more : (images : List Image) (image : Image) → image_list (images ++ im
 listed_more images image = fold-append (λ (list : List Image) (i : Image). with_image i list) [] images (image ∷ [])
 
 -- RESULT Ok after an end that was Ok brings the last open's image
-result_brings : (es : List Event) (cause : Cause) (image : Image) → last_end es ≡ Some cause → is_ok_cause cause ≡ true → is_whole (got (made es - 1) es) ≡ true → last_image es ≡ image ∷ [] → images_brought (es ++ puts (result ok) ∷ []) ≡ images_brought es ++ image ∷ []
+result_brings : (es : List Event) (cause : Cause) (image : Image) → last_end es ≡ Some cause → is_ok_cause cause ≡ true → is_whole (datagrams_of (made es - 1) es) ≡ true → last_image es ≡ image ∷ [] → images_brought (es ++ puts (result ok) ∷ []) ≡ images_brought es ++ image ∷ []
 result_brings es cause image end is whole last =
-    brought_more es (puts (result ok)) ∙ ap (λ z. images_brought es ++ cond (came_ok z && is_whole (got (made es - 1) es)) (last_image es) []) end
-    ∙ ap (λ b. images_brought es ++ cond (b && is_whole (got (made es - 1) es)) (last_image es) []) is ∙ ap (λ b. images_brought es ++ cond b (last_image es) []) whole ∙ ap (λ z. images_brought es ++ z) last
+    brought_more es (puts (result ok)) ∙ ap (λ z. images_brought es ++ cond (came_ok z && is_whole (datagrams_of (made es - 1) es)) (last_image es) []) end
+    ∙ ap (λ b. images_brought es ++ cond (b && is_whole (datagrams_of (made es - 1) es)) (last_image es) []) is ∙ ap (λ b. images_brought es ++ cond b (last_image es) []) whole ∙ ap (λ z. images_brought es ++ z) last
 
 by_conclusion : (es : List Event) (outs : List Out) (w : World) (own : ℕ) (s : Running) (cause : Cause) (image : Image) (c : Conclusion) → IsAfter cause image w.images c →
-    last_end es ≡ Some cause → (is_ok_cause cause ≡ is_whole (got (made es - 1) es)) → last_image es ≡ image ∷ [] → w.images.images ≡ image_list (images_brought es) → HaveNoParts outs →
+    last_end es ≡ Some cause → (is_ok_cause cause ≡ is_whole (datagrams_of (made es - 1) es)) → last_image es ≡ image ∷ [] → w.images.images ≡ image_list (images_brought es) → HaveNoParts outs →
     AgreesImages (es ++ told (conclusion_records s.depth c)) (outs ++ conclusion_records s.depth c) (phase_after (unbound w own) s c)
 unfolding IsAfter
 by_conclusion es outs w own s cause image (keeps new) h end whole last is none =
@@ -252,7 +252,7 @@ by_conclusion es outs w own s cause image (fails c) h end whole last is none = p
 by_conclusion es outs w own s cause image (boots new kernel) h end whole last is none =
     let all = result_brings es cause image end h.0 (sym whole ∙ h.0) last in
     let list : new.images ≡ image_list (images_brought es ++ image ∷ []) = h.1 ∙ ap (λ z. with_image image z) is ∙ sym (listed_more (images_brought es) image) in
-    let place : kernel ≡ place_for image (record { images = image_list (images_brought es); selected = None }) = h.2 ∙ ap (λ z. unwrap_or (place_of image.name z) (length z)) is in
+    let place : kernel ≡ place_for image (record { images = image_list (images_brought es); selected = None }) = h.2 ∙ ap (λ z. unwrap_or (image_place image.name z) (length z)) is in
     record {
       earlier = images_brought es;
       last = image;
@@ -264,7 +264,7 @@ by_conclusion es outs w own s cause image (boots new kernel) h end whole last is
     }
 
 pub concluded_images : (es : List Event) (outs : List Out) (w : World) (own : ℕ) (s : Running) (cause : Cause) (booting : Bool) (image : Image) → last_end es ≡ Some cause →
-    (is_ok_cause cause ≡ is_whole (got (made es - 1) es)) → last_image es ≡ image ∷ [] → w.images.images ≡ image_list (images_brought es) → HaveNoParts outs →
+    (is_ok_cause cause ≡ is_whole (datagrams_of (made es - 1) es)) → last_image es ≡ image ∷ [] → w.images.images ≡ image_list (images_brought es) → HaveNoParts outs →
     AgreesImages (es ++ told (conclusion_records s.depth (conclusion cause booting image w.images))) (outs ++ conclusion_records s.depth (conclusion cause booting image w.images))
     (phase_after (unbound w own) s (conclusion cause booting image w.images))
 concluded_images es outs w own s cause booting image end whole last is none =
@@ -284,7 +284,7 @@ target_named true None path t e = absurd (none-some t e)
 target_named true (Some s) path t e = let same = same_Some _ t e in ap (λ (x : TftpTarget). x.name) (sym same) ∙ ap (λ (x : TftpTarget). last_segment x.path) same
 target_named false server path t e = absurd (none-some t e)
 
-target_asks : (opens : ℕ) (booting : Bool) (uri : List ℕ) (o : Option TftpTarget) → tftp_target uri ≡ o → IsAskedBy uri (option_map_or (asked opens booting uri) o (says (refused bad_uri)))
+target_asks : (opens : ℕ) (booting : Bool) (uri : List ℕ) (o : Option TftpTarget) → tftp_target uri ≡ o → IsAskedBy uri (option_map_or (asked_for opens booting uri) o (says (refused bad_uri)))
 target_asks opens booting uri None e = tt
 target_asks opens booting uri (Some target) e =
     either_asks uri (is_too_long target) (says (refused too_long_uri)) _ tt
@@ -294,7 +294,7 @@ fetch_asks : (name : List ℕ) (opens : ℕ) (booting : Bool) (args : List (List
 unfolding fetch
 fetch_asks name opens booting [] = tt
 fetch_asks name opens booting (uri ∷ []) =
-    either_asks uri (is_option uri) (says (refused usage)) (option_map_or (asked opens booting uri) (tftp_target uri) (says (refused bad_uri))) tt (target_asks opens booting uri (tftp_target uri) refl)
+    either_asks uri (is_option uri) (says (refused usage)) (option_map_or (asked_for opens booting uri) (tftp_target uri) (says (refused bad_uri))) tt (target_asks opens booting uri (tftp_target uri) refl)
 fetch_asks name opens booting (uri ∷ w ∷ ws) = tt
 
 effect_asks : (opens : ℕ) (ws : List (List ℕ)) → IsAskedBy (uri_of (Some ws)) (effect opens ws)
@@ -303,7 +303,7 @@ effect_asks opens [] = tt
 effect_asks opens (name ∷ args) =
     let uri = uri_of (Some (name ∷ args)) in
     either_asks uri (bytes_eq name (codes "imgfetch")) (fetch opens false args) _ (fetch_asks name opens false args)
-    (either_asks uri (bytes_eq name (codes "imgexec")) (fetch opens true args) (says (outcome (name ∷ args))) (fetch_asks name opens true args) tt)
+    (either_asks uri (bytes_eq name (codes "imgexec")) (fetch opens true args) (says (command_outcome (name ∷ args))) (fetch_asks name opens true args) tt)
 
 pub asks_named : (opens : ℕ) (ws : List (List ℕ)) (wanted : Wanted) → effect opens ws ≡ asks wanted → (uri_of (Some ws) ≡ wanted.uri) × (wanted.target.name ≡ last_segment wanted.target.path)
 asks_named opens ws wanted e = subst (IsAskedBy (uri_of (Some ws))) e (effect_asks opens ws)

@@ -9,14 +9,14 @@ use Rattle.nb_tftp.specs.Blocks.{is_whole}
 use Rattle.nb_tftp.specs.History.{Call, entry, got, received_by}
 use Rattle.nb_engine.specs.declared.world.World.{World}
 use Rattle.nb_engine.specs.World.{unbound}
-use Rattle.nb_engine.specs.Effects.{Wanted}
+use Rattle.nb_engine.specs.Effects.{Wanted, effect}
 use Rattle.nb_engine.specs.Opens.{Open, open_for, opened_record, with_entry, acts_records}
 use Rattle.nb_engine.specs.Conclusions.{image_from, Conclusion, keeps, fails, boots, conclusion_records}
 use Rattle.nb_engine.specs.Machine.{Phase, Running, Hears, goes_on, is_over, phase_after, concluded}
 use Rattle.nb_laws.specs.Events.{Event, puts}
 use Rattle.std.proofs.Math.Bool.{or-true}
 use Rattle.nb_laws.specs.Lists as lists
-use Rattle.nb_laws.specs.Lists.{live, last_place, words_of, time, made, gathered, Opening, opening_at, openings, is_over as is_ended, is_end_of, calls, Mark, tries, marks, mark_at}
+use Rattle.nb_laws.specs.Lists.{live, last_place, words_of, time, made, gathered, Opening, opening_at, openings, open_has_ended as is_ended, is_end_of, calls, Mark, tries, marks, mark_at}
 use Rattle.nb_laws.specs.HandOff.{images_brought, image_list, uri_of, last_segment, image_by, last_image}
 use Rattle.nb_laws.proofs.HandOffs.{opens_keep, opens_acts, opens_parts, parts_more, one_keeps, words_kept, concluded_images, last_end_more}
 use Rattle.nb_engine.specs.Honesty.{HaveNoParts}
@@ -24,11 +24,11 @@ use Rattle.nb_image.specs.Images.{image_of}
 use Rattle.nb_tftp.specs.Blocks.{file}
 use Rattle.nb_laws.specs.Progress.{IsAdvanced}
 use Rattle.nb_laws.specs.Agreement.{AgreesWorld, IsOnly, NoneLives, IsNamed, AgreesImages, AgreesPhase, opening_of}
-use Rattle.nb_laws.proofs.Histories.{client_more, time_more}
+use Rattle.nb_laws.proofs.Histories.{client_more, offset_more, time_more}
 use Rattle.nb_laws.proofs.Tellings.{told, story_still, still_aside, still_advanced, live_same, live_kept, advanced_more, made_more, kept, world_kept, Story, story_put, story_told, openings_more, calls_more, marks_more, over_more, no_more, no_or, same_number, other_number}
 use Rattle.nb_laws.proofs.Asides.{aside_acts, still_conclusion, still_handoff, silent_handoff, none_of_conclusion}
 use Rattle.nb_laws.proofs.Calls.{Comes, got_same, each_number, live_one}
-use Rattle.nb_laws.proofs.Puttings.{conclusion_writes, acts_reasons}
+use Rattle.nb_laws.proofs.Puttings.{HasBrought, conclusion_writes, acts_reasons}
 use Rattle.nb_laws.proofs.Ends.{world_taken, open_taken, goes_further, end_holds}
 
 -- a run's records have a history, with which this state agrees
@@ -47,6 +47,7 @@ ended_world es w k cause before h =
       time = time_more es e ∙ add-zero (time es) ∙ h.time;
       client = client_more es e ∙ h.client;
       opens = made_more es e ∙ add-zero (made es) ∙ h.opens;
+      offset = offset_more es e ∙ h.offset;
       unopened = λ j few. openings_more j es e ∙ append-nil (openings j es) ∙ h.unopened j few;
       unended = λ j few. over_more j es e ∙ no_or (is_ended j es) _ (other_number k j (lt_of_lt_of_le before few)) ∙ h.unended j few;
       untold = λ j few. (calls_more j es e ∙ append-nil (calls j es) ∙ (h.untold j few).0, marks_more j es e ∙ append-nil (marks j es) ∙ (h.untold j few).1);
@@ -59,7 +60,7 @@ freed o to ports e = ap (without 17 o) e ∙ ap (λ b. cond (not b) (record { pr
 -- where a conclusion leads
 pub leads : (es : List Event) (w : World) (own to : ℕ) (s : Running) (c : Conclusion) → AgreesWorld es w → NoneLives es → w.net.ports ≡ record { proto = 17; number = own; to = to } ∷ [] → AgreesPhase es (phase_after (unbound w own) s c)
 leads es w own to s (keeps list) h none ports =
-    (record { time = h.time; client = h.client; opens = h.opens; unopened = h.unopened; unended = h.unended; untold = h.untold }, freed own to w.net.ports ports, none)
+    (record { time = h.time; client = h.client; opens = h.opens; offset = h.offset; unopened = h.unopened; unended = h.unended; untold = h.untold }, freed own to w.net.ports ports, none)
 leads es w own to s (fails cause) h none ports = none
 leads es w own to s (boots list kernel) h none ports = (still_handoff kernel list.images, silent_handoff kernel list.images, none)
 
@@ -99,7 +100,7 @@ hears_tells ins outs es w s o call added phase (goes_on _ _ _ _ acts meets none)
       story = story_told ins outs es a (aside_acts w.net o.number acts) r.writes r.advances r.tries story;
       advanced = r.after;
       agrees = (world_taken es w o call acts c, open_taken es w o call acts c meets, goes_further o (entry call acts) meets c.going none, λ j other. live_kept j es a left ∙ c.only j other);
-      images = (is ∙ sym (ap image_list keep.1), parts_more outs a none_before (opens_parts a (opens_acts w.net o.number acts)), record { uri = ap uri_of keep.0 ∙ named.uri; name = named.name; latest = named.latest });
+      images = (is ∙ sym (ap image_list keep.1), parts_more outs a none_before (opens_parts a (opens_acts w.net o.number acts)), record { uri = ap uri_of keep.0 ∙ named.uri; name = named.name; latest = named.latest; words = named.words; said = keep.0 ∙ named.said; asked = named.asked });
     }
 hears_tells ins outs es w s o call added phase (is_over _ _ _ _ acts cause meets over) story c is none_before named =
     let a = acts_records w.net o.number acts in
@@ -118,7 +119,6 @@ hears_tells ins outs es w s o call added phase (is_over _ _ _ _ acts cause meets
     let story2 : Story ins ((outs ++ a) ++ ended k cause ∷ []) es2 = story_put ins (outs ++ a) es1 (ended k cause) story1 (record { read = tt; end = (holds.0, holds.1, opening_of o, live_one k es1 (opening_of o) open1.opening open1.lives); frame = tt; step = tt; advance = r.after; try = tt }) in
     let still = still_conclusion s.depth concl in
     let advanced2 = ended_advanced es1 k cause r.after in
-    let story3 : Story ins (((outs ++ a) ++ ended k cause ∷ []) ++ b) (es2 ++ told b) = story_still ins _ es2 b still (conclusion_writes es1 k s.depth cause o.wanted.boots (image_from (with_entry o e)) w.images) advanced2 story2 in
     let aside2 = still_aside b still in
     let none2 : NoneLives es2 = ended_none_live es1 k cause (λ j other. live_kept j es a left ∙ c.only j other) in
     let world2 = ended_world es1 w k cause c.number world1 in
@@ -128,12 +128,23 @@ hears_tells ins outs es w s o call added phase (is_over _ _ _ _ acts cause meets
     let words2 : uri_of (words_of es2) ≡ o.wanted.uri = ap uri_of (words_kept es1 (puts (ended k cause)) (words_of es1) refl ∙ keep.0) ∙ named.uri in
     let number2 : made es2 - 1 ≡ k = ap (λ z. z - 1) (world2.opens ∙ named.latest) ∙ omega arith in
     let opening2 : openings k es2 ≡ opening_of o ∷ [] = openings_more k es1 (puts (ended k cause)) ∙ append-nil (openings k es1) ∙ open1.opening in
-    let got2 : lists.got k es2 ≡ got (o.entries ++ e ∷ []) = ap (λ z. flat_map received_by z) (calls_more k es1 (puts (ended k cause)) ∙ append-nil (calls k es1)) ∙ got_same k es1 (o.entries ++ e ∷ []) open1.calls in
+    let got2 : lists.datagrams_of k es2 ≡ got (o.entries ++ e ∷ []) = ap (λ z. flat_map received_by z) (calls_more k es1 (puts (ended k cause)) ∙ append-nil (calls k es1)) ∙ got_same k es1 (o.entries ++ e ∷ []) open1.calls in
     let last : last_image es2 ≡ image_from (with_entry o e) ∷ [] =
-    ap (λ n. map (image_by (words_of es2) (lists.got n es2)) (openings n es2)) number2 ∙ ap (λ z. map (image_by (words_of es2) (lists.got k es2)) z) opening2
-    ∙ ap (λ u. image_of (last_segment o.wanted.target.path) (file (lists.got k es2)) [] u ∷ []) words2
+    ap (λ n. map (image_by (words_of es2) (lists.datagrams_of n es2)) (openings n es2)) number2 ∙ ap (λ z. map (image_by (words_of es2) (lists.datagrams_of k es2)) z) opening2
+    ∙ ap (λ u. image_of (last_segment o.wanted.target.path) (file (lists.datagrams_of k es2)) [] u ∷ []) words2
     ∙ ap (λ g. image_of (last_segment o.wanted.target.path) (file g) [] o.wanted.uri ∷ []) got2
     ∙ ap (λ n. image_of n (file (got (o.entries ++ e ∷ []))) [] o.wanted.uri ∷ []) (sym named.name) in
+    let brings : HasBrought es2 cause o.wanted.boots (image_from (with_entry o e)) w.images = record {
+      ended_so = last_end_more es1 (puts (ended k cause));
+      words = named.words;
+      said = words_kept es1 (puts (ended k cause)) (words_of es1) refl ∙ keep.0 ∙ named.said;
+      wanted = o.wanted;
+      asked = ap (λ n. effect n named.words) number2 ∙ named.asked;
+      boots = refl;
+      image_is = last;
+      list_is = is ∙ sym (ap image_list brought2);
+    } in
+    let story3 : Story ins (((outs ++ a) ++ ended k cause ∷ []) ++ b) (es2 ++ told b) = story_still ins _ es2 b still (conclusion_writes es2 s.depth cause o.wanted.boots (image_from (with_entry o e)) w.images brings) advanced2 story2 in
     let world3 = world_kept es2 b w (kept es2 b aside2) (λ j few. none_of_conclusion j (time es2) s.depth concl) world2 in
     record {
       events = es2 ++ told b;
@@ -142,5 +153,5 @@ hears_tells ins outs es w s o call added phase (is_over _ _ _ _ acts cause meets
       agrees = leads (es2 ++ told b) w o.begun.own_port o.number s concl world3 (λ j. live_kept j es2 b (kept es2 b aside2) ∙ none2 j) c.ports;
       images = subst (λ z. AgreesImages (es2 ++ told b) z (phase_after (unbound w o.begun.own_port) s concl)) joined
           (concluded_images es2 ((outs ++ a) ++ ended k cause ∷ []) w o.begun.own_port s cause o.wanted.boots (image_from (with_entry o e)) (last_end_more es1 (puts (ended k cause)))
-          (holds.1 ∙ ap is_whole (got_same k es1 (o.entries ++ e ∷ []) open1.calls ∙ sym got2) ∙ ap (λ n. is_whole (lists.got n es2)) (sym number2)) last (is ∙ sym (ap image_list brought2)) (parts_more (outs ++ a) (ended k cause ∷ []) (parts_more outs a none_before (opens_parts a (opens_acts w.net k acts))) (tt, tt)));
+          (holds.1 ∙ ap is_whole (got_same k es1 (o.entries ++ e ∷ []) open1.calls ∙ sym got2) ∙ ap (λ n. is_whole (lists.datagrams_of n es2)) (sym number2)) last (is ∙ sym (ap image_list brought2)) (parts_more (outs ++ a) (ended k cause ∷ []) (parts_more outs a none_before (opens_parts a (opens_acts w.net k acts))) (tt, tt)));
     }

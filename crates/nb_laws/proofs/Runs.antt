@@ -16,7 +16,7 @@ use Rattle.nb_tftp.specs.Blocks.{is_whole}
 use Rattle.nb_tftp.specs.History.{came, ticked, received_by}
 use Rattle.nb_tftp.specs.Received.{received}
 use Rattle.nb_engine.specs.declared.world.World.{World}
-use Rattle.nb_engine.specs.World.{world_of, with_net, later, with_open, own_port, host}
+use Rattle.nb_engine.specs.World.{world_of, with_net, world_later, with_open, own_port, host}
 use Rattle.nb_engine.specs.Opens.{Open, open_for, begun_for, opened_record, send_records, request_of, has_route, heard_from, is_on_its_way}
 use Rattle.nb_engine.specs.Conclusions.{fails, conclusion_records}
 use Rattle.nb_engine.specs.Machine.{Machine, Phase, Running, ready, running, waiting, handing, left, handed_off, stopped, at, Begins, runs, refuses, passes_by, brings, passes_time, switches_off, Move, passes, does, leaves, asks_for, finds_no_route, ends, hands, has_handed, Path, nothing, uses, moves, command_records, command_record, reply_records, no_route, stopped_cause}
@@ -24,7 +24,7 @@ use Rattle.nb_laws.specs.Events.{outputs, Event, starts, hears, waits, stops, pu
 use Rattle.std.proofs.lemmas.List.{map-append}
 use Rattle.std.proofs.lemmas.List.Sums.{fold-append}
 use Rattle.nb_laws.specs.Lists as lists
-use Rattle.nb_laws.specs.Lists.{live, last_place, words_of, time, made, gathered, Opening, opening_at, openings, is_over as is_ended, is_end_of, calls, Mark, tries, marks, mark_at}
+use Rattle.nb_laws.specs.Lists.{live, last_place, words_of, time, made, gathered, Opening, opening_at, openings, open_has_ended as is_ended, is_end_of, calls, Mark, tries, marks, mark_at}
 use Rattle.nb_laws.specs.HandOff.{images_brought, image_list, uri_of, HandsOff}
 use Rattle.nb_laws.proofs.HandOffs.{opens_keep, opens_send, opens_reply, opens_parts, parts_more, used_keep, one_keeps, words_now, words_kept, command_keeps, no_command, silent_image, asks_named}
 use Rattle.nb_engine.specs.Honesty.{HaveNoParts}
@@ -37,7 +37,7 @@ use Rattle.nb_laws.proofs.Tellings.{told, story_still, still_aside, still_advanc
 use Rattle.nb_laws.proofs.Asides.{more_still, aside_send, still_conclusion, still_command, still_reply, none_of_send, none_of_command, none_of_reply, own_send}
 use Rattle.nb_laws.proofs.Calls.{Comes, got_same, live_one, used_only, used_none_live, used_advanced, none_come, none_is_whole, going_not_whole, frame_brings_none, bare_brings, frame_world, frame_passes, frame_comes, time_comes}
 use Rattle.nb_laws.specs.Frames.{WritesSo}
-use Rattle.nb_laws.proofs.Puttings.{command_writes, failed_writes, reply_frames, bare_reply, request_reasons, opened_one, opened_world}
+use Rattle.nb_laws.proofs.Puttings.{command_writes, failed_writes, reply_frames, bare_reply, request_reasons, opened_one, opened_so, opened_world}
 use Rattle.nb_laws.proofs.Counts.{path_counts}
 use Rattle.nb_laws.proofs.Hearings.{Tells, ended_advanced, ended_none_live, opened_only, hears_tells}
 
@@ -82,8 +82,8 @@ last_off es n = fold-append off_by false es (stops n ∷ [])
 
 -- START
 first : (n : ℕ) (s : Start) → AgreesWorld (starts (n + 1) s ∷ puts (enter 1) ∷ []) (world_of s)
-unfolding time client made openings is_ended calls marks gathered
-first n s = record { time = refl; client = refl; opens = refl; unopened = λ k few. refl; unended = λ k few. refl; untold = λ k few. (refl, refl) }
+unfolding time client made openings is_ended calls marks gathered lists.port_offset
+first n s = record { time = refl; client = refl; opens = refl; offset = refl; unopened = λ k few. refl; unended = λ k few. refl; untold = λ k few. (refl, refl) }
 
 first_world : (n : ℕ) (s : Start) (es : List Event) → es ≡ [] → AgreesWorld ((es ++ starts (n + 1) s ∷ []) ++ told (enter 1 ∷ [])) (world_of s)
 first_world n s es e = subst (λ (z : List Event). AgreesWorld ((z ++ starts (n + 1) s ∷ []) ++ told (enter 1 ∷ [])) (world_of s)) (sym e) (first n s)
@@ -138,10 +138,10 @@ begins_tells ins outs es m r added m' (passes_by n w s o bytes reply seen net va
     ) in
     record {
       events = es1 ++ told b;
-      story = step_still (ins ++ frame bytes ∷ []) outs es1 (n + 1) b story1 still (reply_frames es (n + 1) bytes takes.message reply (takes.is_put ∙ bare_reply es w.net takes.message a.0.client)) advanced1;
+      story = step_still (ins ++ frame bytes ∷ []) outs es1 (n + 1) b story1 still (reply_frames es (n + 1) bytes takes.message reply (takes.is_put ∙ bare_reply es w.net takes.message o.begun.own_port o.number a.1.ports a.0.client)) advanced1;
       advanced = still_advanced es1 b still advanced1;
       agrees = subst (λ c. AgreesPhase (es1 ++ told b) (waiting (with_net w c) s o)) (sym takes.is_after) both;
-      images = (is.0 ∙ sym (ap image_list (keep.1 ∙ keep1.1)), parts_more outs (step (n + 1) ∷ b) is.1 (tt, opens_parts b (opens_reply reply)), record { uri = ap uri_of (keep.0 ∙ keep1.0) ∙ is.2.uri; name = is.2.name; latest = is.2.latest });
+      images = (is.0 ∙ sym (ap image_list (keep.1 ∙ keep1.1)), parts_more outs (step (n + 1) ∷ b) is.1 (tt, opens_parts b (opens_reply reply)), record { uri = ap uri_of (keep.0 ∙ keep1.0) ∙ is.2.uri; name = is.2.name; latest = is.2.latest; words = is.2.words; said = keep.0 ∙ keep1.0 ∙ is.2.said; asked = is.2.asked });
     }
 begins_tells ins outs es m r added m' (brings n w s o bytes reply seen net port body news phase valid takes some hear) story advanced counted a is =
     let e = hears (n + 1) bytes takes.message in
@@ -152,20 +152,20 @@ begins_tells ins outs es m r added m' (brings n w s o bytes reply seen net port 
     tells_step (ins ++ frame bytes ∷ []) outs (n + 1) news phase
     (hears_tells (ins ++ frame bytes ∷ []) (outs ++ step (n + 1) ∷ []) es1 (with_net w net) s o (came (received (n + 1) port body) w.time) news phase hear story1
     (subst (λ c. Comes es1 (with_net w c) o (came (received (n + 1) port body) w.time)) (sym takes.is_after) comes)
-    (is.0 ∙ sym (ap image_list (used_keep es e tt).1)) (parts_more outs (step (n + 1) ∷ []) is.1 (tt, tt)) (record { uri = ap uri_of (used_keep es e tt).0 ∙ is.2.uri; name = is.2.name; latest = is.2.latest }))
+    (is.0 ∙ sym (ap image_list (used_keep es e tt).1)) (parts_more outs (step (n + 1) ∷ []) is.1 (tt, tt)) (record { uri = ap uri_of (used_keep es e tt).0 ∙ is.2.uri; name = is.2.name; latest = is.2.latest; words = is.2.words; said = (used_keep es e tt).0 ∙ is.2.said; asked = is.2.asked }))
 begins_tells ins outs es m r added m' (passes_time n w s o ms news phase valid hear) story advanced counted a is =
     let e = waits (n + 1) ms in
     let follows = step_follows ins outs es n story counted (going_not_whole es w o a.1 a.2 a.3) in
     let es1 = es ++ e ∷ [] in
     let story1 : Story (ins ++ tick ms ∷ []) (outs ++ step (n + 1) ∷ []) es1 = story_more ins outs es e story (record { read = tt; end = tt; frame = tt; step = follows; advance = advanced; try = tt }) in
     tells_step (ins ++ tick ms ∷ []) outs (n + 1) news phase
-    (hears_tells (ins ++ tick ms ∷ []) (outs ++ step (n + 1) ∷ []) es1 (later w ms) s o (ticked (w.time + ms)) news phase hear story1 (time_comes es (n + 1) ms w o a.0 a.1 a.2 a.3 advanced)
-    (is.0 ∙ sym (ap image_list (used_keep es e tt).1)) (parts_more outs (step (n + 1) ∷ []) is.1 (tt, tt)) (record { uri = ap uri_of (used_keep es e tt).0 ∙ is.2.uri; name = is.2.name; latest = is.2.latest }))
+    (hears_tells (ins ++ tick ms ∷ []) (outs ++ step (n + 1) ∷ []) es1 (world_later w ms) s o (ticked (w.time + ms)) news phase hear story1 (time_comes es (n + 1) ms w o a.0 a.1 a.2 a.3 advanced)
+    (is.0 ∙ sym (ap image_list (used_keep es e tt).1)) (parts_more outs (step (n + 1) ∷ []) is.1 (tt, tt)) (record { uri = ap uri_of (used_keep es e tt).0 ∙ is.2.uri; name = is.2.name; latest = is.2.latest; words = is.2.words; said = (used_keep es e tt).0 ∙ is.2.said; asked = is.2.asked }))
 begins_tells ins outs es m r added m' (switches_off n w s o) story advanced counted a is =
     let e = stops (n + 1) in
     let follows = step_follows ins outs es n story counted (going_not_whole es w o a.1 a.2 a.3) in
     let advanced1 = used_advanced es e tt (λ k. refl) advanced in
-    let unfinished : is_whole (lists.got o.number (es ++ e ∷ [])) ≡ false =
+    let unfinished : is_whole (lists.datagrams_of o.number (es ++ e ∷ [])) ≡ false =
     ap (λ z. is_whole (flat_map received_by z)) (calls_more o.number es e ∙ append-nil (calls o.number es)) ∙ ap is_whole (got_same o.number es o.entries a.1.calls) ∙ a.2.unfinished in
     let es1 = es ++ e ∷ [] in
     let story1 : Story (ins ++ off ∷ []) (outs ++ step (n + 1) ∷ []) es1 = story_more ins outs es e story (record { read = tt; end = tt; frame = tt; step = follows; advance = advanced; try = tt }) in
@@ -233,7 +233,7 @@ moves_tells ins outs es m added m' (asks_for n w s line c cs wanted there are co
     let story1 : Story ins (outs ++ command ∷ []) es1 = story_still ins outs es (command ∷ []) (tt, tt) (tt, tt) advanced story in
     let advanced1 = still_advanced es (command ∷ []) (tt, tt) advanced in
     let none1 : NoneLives (es ++ told (command ∷ [])) = λ j. live_kept j es (command ∷ []) (kept es (command ∷ []) (tt, tt)) ∙ a.2 j in
-    let story2 : Story ins ((outs ++ command ∷ []) ++ opened_record w wanted ∷ []) es2 = story_put ins (outs ++ command ∷ []) es1 (opened_record w wanted) story1 (record { read = tt; end = tt; frame = tt; step = tt; advance = advanced1; try = tt }) in
+    let story2 : Story ins ((outs ++ command ∷ []) ++ opened_record w wanted ∷ []) es2 = story_put ins (outs ++ command ∷ []) es1 (opened_record w wanted) story1 (record { read = tt; end = tt; frame = opened_so es1 w (c ∷ cs) wanted world1 (words_now es s (c ∷ cs)) comes; step = tt; advance = advanced1; try = tt }) in
     let advanced2 = advanced_more es1 e (λ j. refl) (λ j. refl) advanced1 in
     let r = request_reasons es1 w wanted world1 advanced2 in
     let story3 : Story ins (((outs ++ command ∷ []) ++ opened_record w wanted ∷ []) ++ b) (es2 ++ told b) = story_told ins _ es2 b (aside_send w.net k (Some 1) request) r.writes r.advances r.tries story2 in
@@ -270,6 +270,9 @@ moves_tells ins outs es m added m' (asks_for n w s line c cs wanted there are co
           uri = ap uri_of (keep.0 ∙ words_kept es1 e (Some (c ∷ cs)) (words_now es s (c ∷ cs))) ∙ names.0;
           name = names.1;
           latest = refl;
+          words = c ∷ cs;
+          said = keep.0 ∙ words_kept es1 e (Some (c ∷ cs)) (words_now es s (c ∷ cs));
+          asked = comes;
         },
       );
     }
@@ -282,16 +285,16 @@ moves_tells ins outs es m added m' (finds_no_route n w s line c cs wanted there 
     let es1 = es ++ told (command ∷ []) in
     let es2 = es1 ++ puts o ∷ [] in
     let es3 = es2 ++ puts (ended k cause) ∷ [] in
+    let world1 = quiet_world es (command ∷ []) w (tt, tt) (λ j now. refl) a.0 in
     let story1 : Story ins (outs ++ command ∷ []) es1 = story_still ins outs es (command ∷ []) (tt, tt) (tt, tt) advanced story in
     let advanced1 = still_advanced es (command ∷ []) (tt, tt) advanced in
     let none1 : NoneLives (es ++ told (command ∷ [])) = λ j. live_kept j es (command ∷ []) (kept es (command ∷ []) (tt, tt)) ∙ a.2 j in
-    let story2 : Story ins ((outs ++ command ∷ []) ++ o ∷ []) es2 = story_put ins (outs ++ command ∷ []) es1 o story1 (record { read = tt; end = tt; frame = tt; step = tt; advance = advanced1; try = tt }) in
+    let story2 : Story ins ((outs ++ command ∷ []) ++ o ∷ []) es2 = story_put ins (outs ++ command ∷ []) es1 o story1 (record { read = tt; end = tt; frame = opened_so es1 w (c ∷ cs) wanted world1 (words_now es s (c ∷ cs)) comes; step = tt; advance = advanced1; try = tt }) in
     let advanced2 = advanced_more es1 (puts o) (λ j. refl) (λ j. refl) advanced1 in
-    let world1 = quiet_world es (command ∷ []) w (tt, tt) (λ j now. refl) a.0 in
     let world2 = opened_world es1 w wanted world1 in
     let opening = opening_of (open_for w wanted) in
     let nowhere : fate_of w.net (way_of w.net (request_of (begun_for w wanted))) ≡ fate.NoRoute = no_way _ route in
-    let empty : is_whole (lists.got k es2) ≡ false = ap (λ z. is_whole (flat_map received_by z)) (calls_more k es1 (puts o) ∙ append-nil (calls k es1) ∙ (world1.untold k (le_refl k)).0) in
+    let empty : is_whole (lists.datagrams_of k es2) ≡ false = ap (λ z. is_whole (flat_map received_by z)) (calls_more k es1 (puts o) ∙ append-nil (calls k es1) ∙ (world1.untold k (le_refl k)).0) in
     let holds : Holds k es2 cause = by_no_route opening (opened_one es1 w wanted world1) refl
     (subst (λ (x : Client). fate_of x (route_of x.up x.address (host opening.server) opening.own) ≡ fate.NoRoute) (sym world2.client) (no_way _ (bare_route w.net (request_of (begun_for w wanted)) ∙ route))) in
     let lives = live_one k es2 opening (opened_one es1 w wanted world1) (over_more k es1 (puts o) ∙ no_or (is_ended k es1) false refl ∙ world1.unended k (le_refl k)) in

@@ -7,7 +7,7 @@ use Rattle.std.proofs.lemmas.List.Concat.{flat_map-append}
 use Rattle.nb_retry.specs.declared.retry.Due.{Due}
 use Rattle.nb_retry.specs.declared.retry.Due.TheVariants.{Not, Again, Over}
 use Rattle.nb_retry.specs.Calls.{fires}
-use Rattle.nb_retry.specs.Plans.{Asked, asked}
+use Rattle.nb_retry.specs.Plans.{Asked, asked_at}
 use Rattle.nb_terms.specs.declared.acts.Acts.{Acts}
 use Rattle.nb_terms.specs.declared.cause.Cause.{Cause}
 use Rattle.nb_tftp.specs.Asks.{Begun}
@@ -40,16 +40,16 @@ more_all : (ms earlier rest more : List Mark) (first : Mark) → ms ≡ earlier 
 more_all ms earlier rest more first e = ap (λ z. z ++ more) e ∙ append_assoc earlier (first ∷ rest) more
 
 ticks_on : (ms : List Mark) (w : Watch) (now : ℕ) (try : Option ℕ) (d : Due) → said_try now d ≡ tries_in (try_marks now try) → Watched ms w →
-    Watched (ms ++ passed now ∷ try_marks now try) (record w { times = w.times ++ asked now d ∷ [] })
+    Watched (ms ++ passed now ∷ try_marks now try) (record w { times = w.times ++ asked_at now d ∷ [] })
 ticks_on ms w now try d e h = record {
   earlier = h.earlier;
   rest = h.rest ++ passed now ∷ try_marks now try;
   all = more_all ms h.earlier h.rest (passed now ∷ try_marks now try) (tries 1 w.since) h.all;
   times = flat_map-append times_of h.rest (passed now ∷ try_marks now try) ∙ ap (λ z. z ++ now ∷ times_in (try_marks now try)) h.times
-      ∙ ap (λ z. moments w ++ now ∷ z) (no_times try) ∙ sym (map-append (λ c. c.at) w.times (asked now d ∷ []));
+      ∙ ap (λ z. moments w ++ now ∷ z) (no_times try) ∙ sym (map-append (λ c. c.at) w.times (asked_at now d ∷ []));
   tried = flat_map-append tries_of h.rest (passed now ∷ try_marks now try) ∙ ap (λ z. z ++ tries_in (try_marks now try)) h.tried
       ∙ ap (λ z. said_tries w.times ++ z) (sym e ∙ sym (append-nil (said_try now d)))
-      ∙ sym (flat_map-append (λ (c : Asked). said_try c.at c.said) w.times (asked now d ∷ []));
+      ∙ sym (flat_map-append (λ (c : Asked). said_try c.at c.said) w.times (asked_at now d ∷ []));
   news = flat_map-append heard_of h.rest (passed now ∷ try_marks now try) ∙ ap (λ z. heard_in h.rest ++ z) (no_news try) ∙ append-nil (heard_in h.rest) ∙ h.news;
 }
   where
@@ -101,7 +101,7 @@ pub watch_told : (b : Begun) (start : ℕ) (h : List Entry) → EachEntry (AsksS
 watch_told b start h each =
     all_on b [] h (tries 1 start ∷ []) (watch_from start) each (record { earlier = []; rest = []; all = refl; times = refl; tried = refl; news = refl })
 
-one_filtered : (at : ℕ) (said : Due) (calls : List Asked) → said_tries (filter (λ x. fires x.said) calls) ≡ said_tries calls → said_tries (filter (λ x. fires x.said) (asked at said ∷ calls)) ≡ said_tries (asked at said ∷ calls)
+one_filtered : (at : ℕ) (said : Due) (calls : List Asked) → said_tries (filter (λ x. fires x.said) calls) ≡ said_tries calls → said_tries (filter (λ x. fires x.said) (asked_at at said ∷ calls)) ≡ said_tries (asked_at at said ∷ calls)
 one_filtered at Not calls e = e
 one_filtered at (Again n) calls e = ap (λ z. (n, at) ∷ z) e
 one_filtered at Over calls e = e

@@ -13,7 +13,7 @@ use Rattle.nb_engine.specs.Conclusions.{place_for, handoff_records}
 use Rattle.nb_engine.specs.Honesty.{HaveNoParts}
 use Rattle.nb_tftp.specs.Cuts.{CarriesFile}
 use Rattle.nb_laws.specs.Events.{Event, puts, EachEvent}
-use Rattle.nb_laws.specs.Lists.{gathered, Opening, openings, got, words_of, last_end, made}
+use Rattle.nb_laws.specs.Lists.{gathered, Opening, openings, datagrams_of, words_of, last_end, made}
 
 -- an image is named as its path ends
 abbrev pub last_segment : List ℕ → List ℕ
@@ -32,14 +32,14 @@ image_by words received o = image_of (last_segment o.target) (file received) [] 
 
 -- the image of the last open, if one was made
 abbrev pub last_image : List Event → List Image
-last_image es = map (image_by (words_of es) (got (made es - 1) es)) (openings (made es - 1) es)
+last_image es = map (image_by (words_of es) (datagrams_of (made es - 1) es)) (openings (made es - 1) es)
 
 abbrev pub came_ok : Option Cause → Bool
 came_ok None = false
 came_ok (Some cause) = is_ok_cause cause
 
 abbrev pub image_at : List Event → Event → List Image
-image_at before (puts (result cause)) = if is_ok_cause cause && (came_ok (last_end before) && is_whole (got (made before - 1) before)) then last_image before else []
+image_at before (puts (result cause)) = if is_ok_cause cause && (came_ok (last_end before) && is_whole (datagrams_of (made before - 1) before)) then last_image before else []
 image_at before (puts (step number)) = []
 image_at before _ = []
 
@@ -67,7 +67,7 @@ Store = ℕ → List ℕ → List ℕ
 
 -- What each open has received so far are blocks of the file that its server holds under its path.
 abbrev pub AreHonest : Store → List Event → Type 0
-AreHonest store es = (k : ℕ) → AllByRecursion (λ o. CarriesFile (store o.server o.target) (got k es)) (openings k es)
+AreHonest store es = (k : ℕ) → AllByRecursion (λ o. CarriesFile (store o.server o.target) (datagrams_of k es)) (openings k es)
 
 -- servers are honest at each record
 abbrev pub StayHonest : Store → List Event → Type 0

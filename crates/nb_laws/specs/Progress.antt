@@ -3,15 +3,15 @@ use Rattle.std.specs.Prelude.{◌≡◌, ℕ, ◌+◌, false, List, [], ◌∷�
 use Rattle.nb_defs.specs.Records.{step, advanced}
 use Rattle.nb_tftp.specs.Blocks.{count, is_whole}
 use Rattle.nb_laws.specs.Events.{Event, starts, hears, waits, stops, puts, inputs}
-use Rattle.nb_laws.specs.Lists.{Opening, live, got, last_place}
+use Rattle.nb_laws.specs.Lists.{Opening, live, datagrams_of, last_place}
 
 -- no live open's file is whole: an open ends in the step in which its file becomes whole
 abbrev pub NoneIsWhole : List Event → Type 0
-NoneIsWhole es = (k : ℕ) (o : Opening) → live k es ≡ o ∷ [] → is_whole (got k es) ≡ false
+NoneIsWhole es = (k : ℕ) (o : Opening) → live k es ≡ o ∷ [] → is_whole (datagrams_of k es) ≡ false
 
 -- each open's last ADVANCE has the number of its file's last block
 abbrev pub IsAdvanced : List Event → Type 0
-IsAdvanced es = (k : ℕ) → last_place k es ≡ count (got k es)
+IsAdvanced es = (k : ℕ) → last_place k es ≡ count (datagrams_of k es)
 
 -- a record is used: its STEP has its place among the records used, and no live open's file is whole
 pub record IsStep (before : List Event) (number : ℕ) : Type 0 where
@@ -28,6 +28,6 @@ StepsSo before (puts o) = Unit {0}
 -- An ADVANCE stands where its open's file has grown by a block, with that block's number. Before any other record, used or
 -- written, each open's last ADVANCE has its file's last block: so none is missing, and none stands late.
 abbrev pub AdvancesSo : List Event → Event → Type 0
-AdvancesSo before (puts (advanced k n)) = (n ≡ count (got k before)) × (n ≡ last_place k before + 1)
+AdvancesSo before (puts (advanced k n)) = (n ≡ count (datagrams_of k before)) × (n ≡ last_place k before + 1)
 AdvancesSo before (puts (step number)) = IsAdvanced before
 AdvancesSo before _ = IsAdvanced before

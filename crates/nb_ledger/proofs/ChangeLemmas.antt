@@ -13,7 +13,7 @@ use Rattle.nb_ledger.specs.declared.port.PortState.{PortState}
 use Rattle.nb_ledger.specs.declared.port.PortState.TheVariants.{Open, Closed}
 use Rattle.std.proofs.lemmas.Bool.{cases_Bool, eqb-true}
 use Rattle.nb_ledger.specs.GraphRun.{port_but, new_ports}
-use Rattle.nb_ledger.specs.Ledger.{Ledger, IsRising, found, place_in, live, holds, busy, rank, port, place, object_port, open_ports, open_count, opens, ranks}
+use Rattle.nb_ledger.specs.Ledger.{Ledger, IsRising, found, place_in, object_lives, holds, busy, rank, port, place, object_port, open_ports, open_count, opens, ranks}
 use Rattle.nb_ledger.specs.Changes.{SameObjects, SetsHolds, SetsBusy, SetsPort, Adds, Removes}
 use Rattle.nb_ledger.proofs.PlaceLemmas.{read-set, read-same, found-serial, found-place, place_found, place-set, read-push, read-remove, place-stays, place-remove}
 
@@ -46,7 +46,7 @@ module _ (l : Ledger) (v o : Object) (is : found l.objects v.id.0 ≡ Some o) (s
   at_place = let e = found-place l.objects v.id.0 o stands in cc
 
   pub SameObjects-put : SameObjects l (put_in l v)
-  unfolding live rank ranks
+  unfolding object_lives rank ranks
   SameObjects-put = record {
     same_made = refl;
     same_room = refl;
@@ -141,7 +141,7 @@ new_ports-open o k h = rw h (fresh k)
 
 -- putting a new object at the end
 pub Adds-push : (l : Ledger) (o : Object) → found l.objects o.id.0 ≡ None → o.holds ≡ 0 → o.busy ≡ false → o.ports ≡ Open ∷ Open ∷ Open ∷ Open ∷ [] → Adds l (record { made = o.id.0; room = l.room; objects = l.objects ++ o ∷ [] }) o.id.0 o.rank
-unfolding live holds busy rank ranks port
+unfolding object_lives holds busy rank ranks port
 Adds-push l o h none idle fresh = record {
   made_set = refl;
   same_room = refl;
@@ -164,7 +164,7 @@ no_object = record { id = record { 0 = 0 }; rank = 0; busy = false; holds = 0; p
 
 -- taking out the object of a serial
 pub Removes-remove : (l : Ledger) (x : ℕ) → IsRising 0 l.objects l.made → place l x < length l.objects → Removes l (record l { objects = remove l.objects (place l x) }) x
-unfolding live holds busy rank ranks port opens
+unfolding object_lives holds busy rank ranks port opens
 Removes-remove l x r h = record {
   same_made = refl;
   same_room = refl;

@@ -2,26 +2,26 @@
 use Rattle.std.proofs.Common.{◌≡◌, ℕ, ◌+◌, ◌<◌, true, false, List, ◌∷◌, refl, sym, ◌∙◌, arith, ltb}
 use Rattle.std.proofs.lemmas.Bool.{eq-eqb, ne_eqb, eqb-true, and_parts, not-true}
 use Rattle.std.proofs.lemmas.Bool.Decides.{nat_tests}
-use Rattle.nb_ledger.specs.GraphRun.{State, Frame, MustFree, with_stack, count, owed, entries}
-use Rattle.nb_ledger.specs.Ledger.{Ledger, holds, busy, ties, unused, state_of, Agrees}
+use Rattle.nb_ledger.specs.GraphRun.{GraphState, OnStack, MustFree, with_stack, object_count, owed, entries}
+use Rattle.nb_ledger.specs.Ledger.{Ledger, holds, busy, ties, unused, run_state, Agrees}
 
 -- the count of the state is what the book has and the entries on the stack
-pub count-state : (l : Ledger) (st : List Frame) (x : ℕ) → count (state_of l st) x ≡ holds l x + ties l x + entries st x
-unfolding count ties
+pub count-state : (l : Ledger) (st : List OnStack) (x : ℕ) → object_count (run_state l st) x ≡ holds l x + ties l x + entries st x
+unfolding object_count ties
 count-state l st x = refl
 
 -- at 0 it is to be freed
-pub owed-zero : (s : State) (x : ℕ) → count s x ≡ 0 → owed x s ≡ with_stack (MustFree x ∷ s.stack) s
+pub owed-zero : (s : GraphState) (x : ℕ) → object_count s x ≡ 0 → owed x s ≡ with_stack (MustFree x ∷ s.stack) s
 unfolding owed
-owed-zero s x h = rw (eq-eqb (count s x) 0 h) refl
+owed-zero s x h = rw (eq-eqb (object_count s x) 0 h) refl
 
 -- above 0 it isn't
-pub owed-some : (s : State) (x : ℕ) → 0 < count s x → owed x s ≡ s
+pub owed-some : (s : GraphState) (x : ℕ) → 0 < object_count s x → owed x s ≡ s
 unfolding owed
-owed-some s x h = rw (ne_eqb (count s x) 0 (omega arith)) refl
+owed-some s x h = rw (ne_eqb (object_count s x) 0 (omega arith)) refl
 
 -- an object that is not used is to be freed
-pub owed-unused : (l : Ledger) (st : List Frame) (x : ℕ) → Agrees l st → unused l x ≡ true → owed x (state_of l st) ≡ state_of l (MustFree x ∷ st)
+pub owed-unused : (l : Ledger) (st : List OnStack) (x : ℕ) → Agrees l st → unused l x ≡ true → owed x (run_state l st) ≡ run_state l (MustFree x ∷ st)
 unfolding unused
 owed-unused l st x a h =
     let p = and_parts _ _ h in
@@ -34,7 +34,7 @@ owed-unused l st x a h =
     owed-zero _ x (let g : entries st x ≡ 0 = grind (arith, nat_tests, e) in omega (arith, c, none, loose, g))
 
 -- an object that is used isn't
-pub owed-used : (l : Ledger) (st : List Frame) (x : ℕ) → Agrees l st → unused l x ≡ false → owed x (state_of l st) ≡ state_of l st
+pub owed-used : (l : Ledger) (st : List OnStack) (x : ℕ) → Agrees l st → unused l x ≡ false → owed x (run_state l st) ≡ run_state l st
 unfolding unused
 owed-used l st x a h =
     let e = a x in

@@ -1,4 +1,5 @@
 pub mod PlaceLemmas
+pub mod StandLemmas
 pub mod ChangeLemmas
 pub mod StepLemmas
 pub mod PortLemmas

@@ -7,7 +7,7 @@ use Rattle.std.proofs.lemmas.Bool.Decides.{nat_tests}
 use Rattle.std.proofs.lemmas.Bool.{eqb-true, eq-eqb, ne_eqb, cases_Bool, cases_lt, false≢true, lt-ltb, le-ltb}
 use Rattle.nb_ledger.specs.declared.port.ObjId.{ObjId}
 use Rattle.nb_ledger.specs.declared.object.Object.{Object}
-use Rattle.nb_ledger.specs.Ledger.{Ledger, live, least_above, place_in, found, IsRising}
+use Rattle.nb_ledger.specs.Ledger.{Ledger, object_lives, least_above, place_in, found, IsRising}
 
 -- a place is within the list, or at its end
 pub place_in-le : (os : List Object) (x : ℕ) → place_in os x ≤ length os
@@ -70,8 +70,8 @@ found-below low high (o ∷ os) x r h =
     grind (arith, nat_tests)
 
 -- a live object was made
-pub live-made : (l : Ledger) (x : ℕ) → IsRising 0 l.objects l.made → live l x ≡ true → x ≤ l.made
-unfolding live
+pub live-made : (l : Ledger) (x : ℕ) → IsRising 0 l.objects l.made → object_lives l x ≡ true → x ≤ l.made
+unfolding object_lives
 live-made l x r h = elim (cases_lt l.made x) [
   | inl a ↦ absurd (false≢true (sym (ap is_some (found-above 0 l.made l.objects x r a)) ∙ h))
   | inr b ↦ b
@@ -182,8 +182,8 @@ some-slots low high os x None i h = tt
 some-slots low high os x (Some b) i h = found-slots low high os x b.now i (sym h)
 
 -- a live object stands in the list
-pub live-stands : (l : Ledger) (x : ℕ) → live l x ≡ true → place_in l.objects x < length l.objects
-unfolding live
+pub live-stands : (l : Ledger) (x : ℕ) → object_lives l x ≡ true → place_in l.objects x < length l.objects
+unfolding object_lives
 live-stands l x h = place_found l.objects x h
 
 none-step : (o : Object) (os : List Object) (x : ℕ) → o.id.0 ≤ x → (i : Option ObjId) → IfNone i ((y : ℕ) → x < y → is_some (found os y) ≡ false) → IfNone i ((y : ℕ) → x < y → is_some (found (o ∷ os) y) ≡ false)

@@ -6,7 +6,7 @@ use Rattle.std.proofs.lemmas.Bool.Decides.{nat_tests}
 use Rattle.nb_ledger.specs.declared.object.Object.{Object}
 use Rattle.nb_ledger.specs.declared.port.PortState.TheVariants.{Open, Linked, Leaving, Closed}
 use Rattle.nb_ledger.specs.declared.port.PortState.{PortState}
-use Rattle.nb_ledger.specs.Ledger.{Ledger, found, live, holds, busy, port, ties, unused, object_port, object_unused}
+use Rattle.nb_ledger.specs.Ledger.{Ledger, found, object_lives, holds, busy, port, ties, unused, object_port, object_unused}
 use Rattle.nb_ledger.specs.GraphRun.{IsOpen}
 
 -- a state other than Closed
@@ -21,12 +21,12 @@ found_used None k h = absurd h
 found_used (Some o) k h = (refl, grind (arith, nat_tests))
 
 -- a port that isn't closed is a slot of a live object
-pub used-live : (l : Ledger) (x k : ℕ) → IsUsed (port l x k) → (live l x ≡ true) × (k < 4)
-unfolding live port
+pub used-live : (l : Ledger) (x k : ℕ) → IsUsed (port l x k) → (object_lives l x ≡ true) × (k < 4)
+unfolding object_lives port
 used-live l x k h = found_used (found l.objects x) k h
 
 -- the same, of a port that is known to be so
-pub live_by : (l : Ledger) (x k : ℕ) (v : PortState) → IsUsed v → port l x k ≡ v → (live l x ≡ true) × (k < 4)
+pub live_by : (l : Ledger) (x k : ℕ) (v : PortState) → IsUsed v → port l x k ≡ v → (object_lives l x ≡ true) × (k < 4)
 live_by l x k v u h = used-live l x k (subst IsUsed (sym h) u)
 
 found_busy : (o : Option Object) → option_map_or (λ w. w.busy) o false ≡ true → is_some o ≡ true
@@ -34,8 +34,8 @@ found_busy None h = absurd (cc)
 found_busy (Some o) h = refl
 
 -- an object of which an entry runs lives
-pub busy-live : (l : Ledger) (x : ℕ) → busy l x ≡ true → live l x ≡ true
-unfolding live busy
+pub busy-live : (l : Ledger) (x : ℕ) → busy l x ≡ true → object_lives l x ≡ true
+unfolding object_lives busy
 busy-live l x h = found_busy (found l.objects x) h
 
 open_used : (v : PortState) → IsOpen v → IsUsed v
@@ -45,12 +45,12 @@ open_used (Leaving p) h = absurd h
 open_used Closed h = absurd h
 
 -- so does one with an open port
-pub open-live : (l : Ledger) (x k : ℕ) → IsOpen (port l x k) → live l x ≡ true
+pub open-live : (l : Ledger) (x k : ℕ) → IsOpen (port l x k) → object_lives l x ≡ true
 open-live l x k h = (used-live l x k (open_used (port l x k) h)).0
 
 -- a dead object has no holds
-pub dead_holds : (l : Ledger) (x : ℕ) → live l x ≡ false → holds l x ≡ 0
-unfolding live holds
+pub dead_holds : (l : Ledger) (x : ℕ) → object_lives l x ≡ false → holds l x ≡ 0
+unfolding object_lives holds
 dead_holds l x h = no_holds (found l.objects x) h
   where
     no_holds : (o : Option Object) → is_some o ≡ false → option_map_or (λ w. w.holds) o 0 ≡ 0
@@ -58,8 +58,8 @@ dead_holds l x h = no_holds (found l.objects x) h
     no_holds (Some o) e = absurd (cc)
 
 -- an object with a hold lives
-pub held-live : (l : Ledger) (x : ℕ) → 0 < holds l x → live l x ≡ true
-held-live l x h = elim (cases_Bool (live l x)) [ inl e ↦ e | inr e ↦ absurd (let z = dead_holds l x e in omega arith) ]
+pub held-live : (l : Ledger) (x : ℕ) → 0 < holds l x → object_lives l x ≡ true
+held-live l x h = elim (cases_Bool (object_lives l x)) [ inl e ↦ e | inr e ↦ absurd (let z = dead_holds l x e in omega arith) ]
 
 -- an object that is found is unused as its entry says
 pub unused-some : (l : Ledger) (x : ℕ) (o : Object) → found l.objects x ≡ Some o → object_unused o ≡ unused l x

@@ -4,16 +4,16 @@ use Rattle.std.proofs.Common.{List, [], ◌∷◌, ◌++◌, map, Option, Some, 
 use Rattle.std.proofs.lemmas.List.{map-append}
 use Rattle.nb_terms.specs.declared.event.Event.{Event}
 use Rattle.nb_ledger.specs.declared.event.GraphEvent.{GraphEvent}
-use Rattle.nb_ledger.specs.GraphRun.{State, Step, Run}
+use Rattle.nb_ledger.specs.GraphRun.{GraphState, Step, GraphRunOf}
 use Rattle.nb_ledger.specs.Flat.{flat, Told, Tells, Given, events_part}
 
 -- a run and one from where it ends
-pub Run-append : (s m t : State) (xs ys : List GraphEvent) → Run s xs m → Run m ys t → Run s (xs ++ ys) t
-Run-append s m t [] ys r q = subst (λ u. Run u ys t) (sym r) q
+pub Run-append : (s m t : GraphState) (xs ys : List GraphEvent) → GraphRunOf s xs m → GraphRunOf m ys t → GraphRunOf s (xs ++ ys) t
+Run-append s m t [] ys r q = subst (λ u. GraphRunOf u ys t) (sym r) q
 Run-append s m t (x ∷ xs) ys r q = (r.0, r.1, Run-append r.0 m t xs ys r.2 q)
 
 -- a run of one step
-pub Run-one : (s t : State) (e : GraphEvent) → Step s e t → Run s (e ∷ []) t
+pub Run-one : (s t : GraphState) (e : GraphEvent) → Step s e t → GraphRunOf s (e ∷ []) t
 Run-one s t e h = (t, h, refl)
 
 -- told, and then told

@@ -5,13 +5,13 @@ use Rattle.nb_ledger.specs.declared.port.Port.{Port}
 use Rattle.nb_ledger.specs.declared.port.PortState.{PortState}
 use Rattle.nb_ledger.specs.declared.port.PortState.TheVariants.{Closed}
 use Rattle.nb_ledger.specs.GraphRun.{but_at, port_but, ports_but, new_ports}
-use Rattle.nb_ledger.specs.Ledger.{Ledger, live, holds, busy, rank, port, place, open_count, opens, ranks}
+use Rattle.nb_ledger.specs.Ledger.{Ledger, object_lives, holds, busy, rank, port, place, open_count, opens, ranks}
 
 -- the same objects at the same places
 pub record SameObjects (old new : Ledger) : Type 0 where
   pub same_made : new.made ≡ old.made
   pub same_room : new.room ≡ old.room
-  pub same_live : (x : ℕ) → live new x ≡ live old x
+  pub same_live : (x : ℕ) → object_lives new x ≡ object_lives old x
   pub same_rank : (x : ℕ) → rank new x ≡ rank old x
   pub same_ranks : ranks new ≡ ranks old
   pub same_place : (x : ℕ) → place new x ≡ place old x
@@ -44,10 +44,10 @@ pub record SetsPort (old new : Ledger) (p : Port) (v : PortState) : Type 0 where
 pub record Adds (old new : Ledger) (x r : ℕ) : Type 0 where
   pub made_set : new.made ≡ x
   pub same_room : new.room ≡ old.room
-  pub live_set : (y : ℕ) → live new y ≡ but_at x true (live old) y
+  pub live_set : (y : ℕ) → object_lives new y ≡ but_at x true (object_lives old) y
   pub rank_set : (y : ℕ) → rank new y ≡ but_at x r (rank old) y
   pub ranks_set : ranks new ≡ ranks old ++ r ∷ []
-  pub place_set : (y : ℕ) → live old y ≡ true → place new y ≡ place old y
+  pub place_set : (y : ℕ) → object_lives old y ≡ true → place new y ≡ place old y
   pub holds_set : (y : ℕ) → holds new y ≡ but_at x 0 (holds old) y
   pub busy_set : (y : ℕ) → busy new y ≡ but_at x false (busy old) y
   pub port_set : (y k : ℕ) → port new y k ≡ ports_but x new_ports (port old) y k
@@ -56,7 +56,7 @@ pub record Adds (old new : Ledger) (x r : ℕ) : Type 0 where
 pub record Removes (old new : Ledger) (x : ℕ) : Type 0 where
   pub same_made : new.made ≡ old.made
   pub same_room : new.room ≡ old.room
-  pub live_set : (y : ℕ) → live new y ≡ but_at x false (live old) y
+  pub live_set : (y : ℕ) → object_lives new y ≡ but_at x false (object_lives old) y
   pub rank_set : (y : ℕ) → rank new y ≡ but_at x 0 (rank old) y
   pub ranks_set : ranks new ≡ remove (ranks old) (place old x)
   pub place_set : (y : ℕ) → y ≢ x → place new y + (if nat_lt (place old x) (place old y) then 1 else 0) ≡ place old y

@@ -6,7 +6,7 @@ use Rattle.nb_ledger.specs.declared.port.Port.{Port}
 use Rattle.nb_ledger.specs.declared.port.PortState.{PortState}
 use Rattle.nb_ledger.specs.declared.port.PortState.TheVariants.{Open, Linked, Leaving, Closed}
 use Rattle.nb_ledger.specs.declared.object.Object.{Object}
-use Rattle.nb_ledger.specs.GraphRun.{State, Frame, entries, link_count, links}
+use Rattle.nb_ledger.specs.GraphRun.{GraphState, OnStack, entries, link_count, links}
 
 -- a book: how many objects were made, how many may live, and those that live, by rising serial
 pub record Ledger : Type 0 where
@@ -30,8 +30,8 @@ IsRising low [] high = low ≤ high
 IsRising low (o ∷ os) high = (low < o.id.0) × (length o.ports ≡ 4) × IsRising o.id.0 os high
 
 -- it lives
-unfoldable pub live : Ledger → ℕ → Bool
-live l x = is_some (found l.objects x)
+unfoldable pub object_lives : Ledger → ℕ → Bool
+object_lives l x = is_some (found l.objects x)
 
 -- its holds, 0 where it is dead
 unfoldable pub holds : Ledger → ℕ → ℕ
@@ -85,16 +85,16 @@ unfoldable pub ranks : Ledger → List ℕ
 ranks l = map (λ o. o.rank) l.objects
 
 -- the state of the run that a book stands for, with this stack
-abbrev pub state_of : Ledger → List Frame → State
-state_of l st = record { made = l.made; live = live l; holds = holds l; port = port l; stack = st }
+abbrev pub run_state : Ledger → List OnStack → GraphState
+run_state l st = record { made = l.made; live = object_lives l; holds = holds l; port = port l; stack = st }
 
 -- the book's flags are those of the entries on the stack
-abbrev pub Agrees : Ledger → List Frame → Type 0
+abbrev pub Agrees : Ledger → List OnStack → Type 0
 Agrees l st = (x : ℕ) → busy l x ≡ nat_lt 0 (entries st x)
 
 -- the links of an object
 unfoldable pub ties : Ledger → ℕ → ℕ
-ties l x = links (state_of l []) x
+ties l x = links (run_state l []) x
 
 -- it has no hold and no link, and no entry of it runs
 unfoldable pub unused : Ledger → ℕ → Bool
@@ -114,4 +114,4 @@ least_above (o ∷ os) x = if nat_lt x o.id.0 then Some o.id else least_above os
 
 -- i is the least live serial above x
 abbrev pub IsLeastAbove : Ledger → ℕ → ObjId → Type 0
-IsLeastAbove l x i = (x < i.0) × (i.0 ≤ l.made) × (live l i.0 ≡ true) × ((y : ℕ) → x < y → y < i.0 → live l y ≡ false)
+IsLeastAbove l x i = (x < i.0) × (i.0 ≤ l.made) × (object_lives l i.0 ≡ true) × ((y : ℕ) → x < y → y < i.0 → object_lives l y ≡ false)

@@ -1,23 +1,27 @@
 ghost use Rattle.std.specs.Prelude.{◌≡◌, ◌+◌, ◌-◌, ◌<◌, ◌≤◌, ◌^◌, ◌&&◌, ◌==◌, not, true, false, []};
 ghost use Rattle.std.specs.Prelude.{IfOk, IfSome, IfNone, ℕ, length, Some, is_some, slice_set};
-ghost use Rattle.std.specs.Prelude.{vec_len, IsTrue, ◌↔◌, nat_lt};
+ghost use Rattle.std.specs.Prelude.{vec_len, IsTrue, IsSome, ◌↔◌, nat_lt, slice_get};
+ghost use Rattle.std.specs.Bool.{OnTrue};
 ghost use Rattle.nb_ledger.specs.declared.port.PortState.TheVariants.{Open};
 ghost use Rattle.std.specs.Option.{option_copied};
 ghost use Rattle.std.specs.Vec.{vec_capacity};
-ghost use Rattle.nb_ledger.specs.Ledger.{live, holds, busy, rank, port, place, place_in, found};
+ghost use Rattle.nb_ledger.specs.Ledger.{object_lives, holds, busy, rank, port, place, place_in, found};
 ghost use Rattle.nb_ledger.specs.Ledger.{ties, unused, least_above, open_count, IsLeastAbove};
 
+use crate::keys::Keys;
 use crate::{ObjId, Object, Port, PortState};
 use nb_terms::NoMemory;
 use std::alloc::Global;
 use std::marker::Model;
 
-/// The objects that live, by rising serial, and how many were made. After `new` it takes no memory.
+/// The objects that live, by rising serial, how many were made, and the key of each object, by which
+/// it is found without a search. After `new` it takes no memory.
 #[derive(Drop)]
 pub struct Book {
     pub(crate) made: u64,
     pub(crate) room: usize,
     pub(crate) objects: Vec<Object>,
+    pub(crate) keys: Keys,
 }
 
 impl Model for Book {
@@ -40,10 +44,12 @@ impl Book {
         ensures { IfOk result (λ b. b ≡ record { made = 0; room = room; objects = [] }) }
     {
         let objects = Vec::with_capacity(alloc, room)?;
+        let keys = Keys::new(alloc, room)?;
         Ok(Book {
             made: 0,
             room,
             objects,
+            keys,
         })
     }
 
@@ -75,10 +81,32 @@ impl Book {
         place_among(&self.objects, id)
     }
 
+    /// The key of a live object, by a search; with it later calls search nothing.
+    pub fn key(&self, id: ObjId) -> usize {
+        self.keys.own(self.place(id))
+    }
+
+    /// The key of the object that a port of the object with the key `key` is linked to.
+    pub fn peer_key(&self, key: usize, slot: u8) -> usize {
+        self.keys.peer(key, slot)
+    }
+
+    /// Where an object stands, by its key, or how many live where it is dead.
+    pub fn place_at(&self, id: ObjId, key: usize) -> usize
+        ensures { result ≡ place self.now id.0 }
+    {
+        let place = self.keys.place(key);
+        if stands_at(&self.objects, id, place) {
+            place
+        } else {
+            self.place(id)
+        }
+    }
+
     /// Whether it lives.
-    #[tactic(auto, unfolding(crate::specs::Ledger::live))]
+    #[tactic(auto, unfolding(crate::specs::Ledger::object_lives))]
     pub fn is_live(&self, id: ObjId) -> bool
-        ensures { result ≡ live self.now id.0 }
+        ensures { result ≡ object_lives self.now id.0 }
     {
         match self.find(id) {
             Some(_) => true,
@@ -94,22 +122,19 @@ impl Book {
         find_among(&self.objects, id)
     }
 
-    /// The book's entry of a live object.
-    #[tactic(auto, unfolding(crate::specs::Ledger::live))]
-    pub fn object(&self, id: ObjId) -> Object
-        requires { live self.now id.0 ≡ true }
-        ensures is { found self.now.objects id.0 ≡ Some result }
-        ensures same { result.id.0 ≡ id.0 }
-        ensures made { id.0 ≤ self.now.made }
-        ensures slots { length result.ports ≡ 4 }
+    /// The same by its key.
+    fn find_at(&self, id: ObjId, key: usize) -> Option<&Object>
+        ensures is { option_copied result ≡ found self.now.objects id.0 }
+        ensures slots { IfSome result (λ o. length o.now.ports ≡ 4) }
     {
-        object_among(&self.objects, id)
+        let place = self.place_at(id, key);
+        object_at(&self.objects, place)
     }
 
     /// The holds of a live object.
     #[tactic(auto, unfolding(crate::specs::Ledger::holds))]
     pub fn holds(&self, id: ObjId) -> u32
-        requires { live self.now id.0 ≡ true }
+        requires { object_lives self.now id.0 ≡ true }
         ensures { result ≡ holds self.now id.0 }
     {
         match self.find(id) {
@@ -129,22 +154,10 @@ impl Book {
         }
     }
 
-    /// Whether an entry of a live object runs.
-    #[tactic(auto, unfolding(crate::specs::Ledger::busy))]
-    pub fn is_busy(&self, id: ObjId) -> bool
-        requires { live self.now id.0 ≡ true }
-        ensures { result ≡ busy self.now id.0 }
-    {
-        match self.find(id) {
-            Some(object) => object.busy,
-            None => false,
-        }
-    }
-
     /// The rank of a live object.
     #[tactic(auto, unfolding(crate::specs::Ledger::rank))]
     pub fn rank(&self, id: ObjId) -> u8
-        requires { live self.now id.0 ≡ true }
+        requires { object_lives self.now id.0 ≡ true }
         ensures { result ≡ rank self.now id.0 }
     {
         match self.find(id) {
@@ -164,6 +177,17 @@ impl Book {
         }
     }
 
+    /// The same by its object's key.
+    #[tactic(auto, unfolding(crate::specs::Ledger::port))]
+    pub fn port_at(&self, at: Port, key: usize) -> PortState
+        ensures { result ≡ port self.now at.obj.0 at.slot }
+    {
+        match self.find_at(at.obj, key) {
+            Some(object) => object.port(at.slot),
+            None => PortState::Closed,
+        }
+    }
+
     /// Whether a port is open and has no link.
     pub fn is_free(&self, at: Port) -> bool
         ensures { IsTrue result ↔ (port self.now at.obj.0 at.slot ≡ Open) }
@@ -176,11 +200,11 @@ impl Book {
         }
     }
 
-    /// Whether a port is open, linked or not.
-    pub fn is_open(&self, at: Port) -> bool
+    /// Whether a port is open, linked or not, by its object's key.
+    pub fn is_open_at(&self, at: Port, key: usize) -> bool
         ensures { result ≡ nat_lt 0 (open_count (port self.now at.obj.0 at.slot)) }
     {
-        match self.port(at) {
+        match self.port_at(at, key) {
             PortState::Open => true,
             PortState::Linked(_) => true,
             PortState::Leaving(_) => false,
@@ -188,12 +212,12 @@ impl Book {
         }
     }
 
-    /// Whether a live object has no hold, no link and no entry that runs.
-    pub fn is_unused(&self, id: ObjId) -> bool
-        requires { live self.now id.0 ≡ true }
+    /// Whether a live object has no hold, no link and no entry that runs, by its key.
+    pub fn is_unused_at(&self, id: ObjId, key: usize) -> bool
+        requires { object_lives self.now id.0 ≡ true }
         ensures { result ≡ unused self.now id.0 }
     {
-        match self.find(id) {
+        match self.find_at(id, key) {
             Some(object) => object.is_unused(),
             None => true,
         }
@@ -201,24 +225,11 @@ impl Book {
 
     /// The least serial of a live object above `after`.
     pub fn above(&self, after: u64) -> Option<ObjId>
-        ensures none { IfNone result ((x : ℕ) → after < x → live self.now x ≡ false) }
+        ensures none { IfNone result ((x : ℕ) → after < x → object_lives self.now x ≡ false) }
         ensures some { IfSome result (IsLeastAbove self.now after) }
-        ensures first { live self.now 0 ≡ false }
+        ensures first { object_lives self.now 0 ≡ false }
     {
         first_above(&self.objects, after)
-    }
-
-    /// Writes the entry of a live object over the one that it has.
-    #[tactic(auto, unfolding(crate::specs::Ledger::live))]
-    pub(crate) fn put(&mut self, object: Object)
-        requires lives { live self.old object.id.0 ≡ true }
-        requires slots { length object.ports ≡ 4 }
-        ensures { self.new ≡ record self.old {
-          objects = slice_set self.old.objects
-              (place self.old object.id.0) object;
-        } }
-    {
-        put_among(&mut self.objects, object);
     }
 }
 
@@ -231,6 +242,23 @@ fn place_among(objects: &[Object], id: ObjId) -> usize
         }
     }
     objects.len()
+}
+
+fn object_at(objects: &[Object], place: usize) -> Option<&Object>
+    ensures { option_copied result ≡ slice_get objects.now place }
+{
+    objects.get(place)
+}
+
+/// Whether an object stands at this place.
+fn stands_at(objects: &[Object], id: ObjId, place: usize) -> bool
+    ensures { OnTrue result (IfSome (slice_get objects.now place) (λ o. o.id.0 ≡ id.0)
+        × IsSome (slice_get objects.now place)) }
+{
+    match objects.get(place) {
+        Some(object) => object.id.0 == id.0,
+        None => false,
+    }
 }
 
 fn first_above(objects: &[Object], after: u64) -> Option<ObjId>
@@ -253,25 +281,4 @@ fn find_among(objects: &[Object], id: ObjId) -> Option<&Object>
         }
     }
     None
-}
-
-#[tactic(auto, using(crate::proofs::PlaceLemmas::place_found))]
-fn object_among(objects: &[Object], id: ObjId) -> Object
-    requires { is_some (found objects.now id.0) ≡ true }
-    ensures { found objects.now id.0 ≡ Some result }
-{
-    let at = place_among(objects, id);
-    objects[at]
-}
-
-#[tactic(auto, using(crate::proofs::PlaceLemmas::place_found))]
-fn put_among(objects: &mut Vec<Object>, object: Object)
-    requires { is_some (found objects.old.items object.id.0) ≡ true }
-    ensures items { objects.new.items ≡ slice_set objects.old.items (place_in objects.old.items
-        object.id.0) object }
-    ensures len { vec_len objects.new ≡ vec_len objects.old }
-    ensures capacity { vec_capacity objects.new ≡ vec_capacity objects.old }
-{
-    let at = place_among(objects, object.id);
-    objects[at] = object;
 }

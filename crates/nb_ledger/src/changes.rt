@@ -1,44 +1,55 @@
 ghost use Rattle.std.specs.Prelude.{◌≡◌, ◌+◌, ◌<◌, ◌^◌, true, false, length};
-ghost use Rattle.nb_ledger.specs.Ledger.{live, place};
+ghost use Rattle.nb_ledger.specs.Ledger.{busy, object_lives, place};
 ghost use Rattle.nb_ledger.specs.Changes.{SetsHolds, SetsBusy, SetsPort, Adds, Removes};
 
 use crate::{Book, ObjId, Object, Port, PortState};
 
 impl Book {
     pub(crate) fn set_holds(&mut self, id: ObjId, count: u32)
-        requires { live self.old id.0 ≡ true }
+        requires { object_lives self.old id.0 ≡ true }
         ensures { SetsHolds self.old self.new id.0 count }
     {
-        let mut object = self.object(id);
-        object.holds = count;
-        self.put(object);
+        let place = self.place(id);
+        self.objects[place].holds = count;
     }
 
-    pub(crate) fn set_busy(&mut self, id: ObjId, busy: bool)
-        requires { live self.old id.0 ≡ true }
-        ensures { SetsBusy self.old self.new id.0 busy }
+    /// Sets whether an entry of the object runs; whether one did.
+    pub(crate) fn set_busy(&mut self, id: ObjId, key: usize, runs: bool) -> bool
+        requires { object_lives self.old id.0 ≡ true }
+        ensures was { result ≡ busy self.old id.0 }
+        ensures sets { SetsBusy self.old self.new id.0 runs }
     {
-        let mut object = self.object(id);
-        object.busy = busy;
-        self.put(object);
+        let place = self.place_at(id, key);
+        let was = self.objects[place].busy;
+        self.objects[place].busy = runs;
+        was
     }
 
     pub(crate) fn set_port(&mut self, at: Port, state: PortState)
-        requires lives { live self.old at.obj.0 ≡ true }
+        requires lives { object_lives self.old at.obj.0 ≡ true }
         requires slot { at.slot < 4 }
         ensures sets { SetsPort self.old self.new at state }
         ensures made { at.obj.0 ≤ self.old.made }
     {
-        let mut object = self.object(at.obj);
-        object.ports[at.slot as usize] = state;
-        self.put(object);
+        let place = self.place(at.obj);
+        self.objects[place].ports[at.slot as usize] = state;
+    }
+
+    /// Keeps the key of each end of a link at the other.
+    pub(crate) fn join_keys(&mut self, upper: Port, lower: Port)
+        ensures { self.new ≡ self.old }
+    {
+        let high = self.key(upper.obj);
+        let low = self.key(lower.obj);
+        self.keys.join(high, upper.slot, low);
+        self.keys.join(low, lower.slot, high);
     }
 
     pub(crate) fn add(&mut self, rank: u8) -> ObjId
         requires room { length self.old.objects < self.old.room }
         requires serial { self.old.made + 1 < 2 ^ 64 }
         ensures serial { result.0 ≡ self.old.made + 1 }
-        ensures fresh { live self.old result.0 ≡ false }
+        ensures fresh { object_lives self.old result.0 ≡ false }
         ensures adds { Adds self.old self.new result.0 rank }
         ensures place { place self.new result.0 ≡ length self.old.objects }
         ensures len { length self.new.objects ≡ length self.old.objects + 1 }
@@ -54,17 +65,19 @@ impl Book {
                 ports: [PortState::Open; 4],
             },
         );
+        self.keys.add(self.objects.len() - 1);
         self.made = id.0;
         id
     }
 
     pub(crate) fn take_out(&mut self, id: ObjId)
-        requires { live self.old id.0 ≡ true }
+        requires { object_lives self.old id.0 ≡ true }
         ensures removes { Removes self.old self.new id.0 }
         ensures len { length self.new.objects + 1 ≡ length self.old.objects }
     {
         let at = self.place(id);
         let _gone = self.objects.remove(at);
+        self.keys.remove(at);
     }
 }
 

@@ -7,9 +7,9 @@ ghost use Rattle.nb_ledger.specs.declared.event.Way.TheVariants as way;
 ghost use Rattle.nb_ledger.specs.declared.port.PortState.TheVariants as state;
 ghost use Rattle.nb_ledger.specs.Flat.{Given, Tells, flat};
 ghost use Rattle.nb_ledger.specs.Flat as notice;
-ghost use Rattle.nb_ledger.specs.GraphRun.{Frame, Running, MustClose, MustEnter, MustUnplug};
+ghost use Rattle.nb_ledger.specs.GraphRun.{OnStack, Running, MustClose, MustEnter, MustUnplug};
 ghost use Rattle.nb_ledger.specs.GraphRun.{MustFree, IsIdle, MayEnter, Step, owed};
-ghost use Rattle.nb_ledger.specs.Ledger.{Ledger, live, holds, busy, port, place, state_of};
+ghost use Rattle.nb_ledger.specs.Ledger.{Ledger, object_lives, holds, busy, port, place, run_state};
 ghost use Rattle.nb_ledger.specs.Changes.{SetsHolds, SetsBusy, SetsPort, Adds, Removes};
 
 use crate::{Book, GraphEvent, ObjId, Outside, Port, PortState, Way};
@@ -24,9 +24,9 @@ impl Book {
         ensures given { Given (O.events out.old) (O.events out.new) (notice.event
             (flat (Made result kind)) ∷ []) }
         ensures serial { result.0 ≡ self.old.made + 1 }
-        ensures fresh { live self.old result.0 ≡ false }
-        ensures step { (st : List Frame) → IsIdle st → Step (state_of self.old st)
-            (Made result kind) (state_of self.new st) }
+        ensures fresh { object_lives self.old result.0 ≡ false }
+        ensures step { (st : List OnStack) → IsIdle st → Step (run_state self.old st)
+            (Made result kind) (run_state self.new st) }
         ensures adds { Adds self.old self.new result.0 rank }
         ensures place { place self.new result.0 ≡ length self.old.objects }
         ensures len { length self.new.objects ≡ length self.old.objects + 1 }
@@ -38,13 +38,13 @@ impl Book {
 
     /// Adds a hold of a live object.
     pub fn hold<O: Outside>(&mut self, id: ObjId, out: &mut O)
-        requires lives { live self.old id.0 ≡ true }
+        requires lives { object_lives self.old id.0 ≡ true }
         requires fits { holds self.old id.0 + 1 < 2 ^ 32 }
         ensures told { Tells (O.events out.old) (O.events out.new) (Held id ∷ []) }
         ensures given { Given (O.events out.old) (O.events out.new) (notice.event (flat (Held id))
             ∷ []) }
-        ensures step { (st : List Frame) → IsIdle st → Step (state_of self.old st) (Held id)
-            (state_of self.new st) }
+        ensures step { (st : List OnStack) → IsIdle st → Step (run_state self.old st) (Held id)
+            (run_state self.new st) }
         ensures sets { SetsHolds self.old self.new id.0 (holds self.old id.0 + 1) }
     {
         let count = self.holds(id);
@@ -54,13 +54,13 @@ impl Book {
 
     /// Takes a hold of a live object. What is then to be freed is the caller's to free.
     pub fn let_go<O: Outside>(&mut self, id: ObjId, out: &mut O)
-        requires lives { live self.old id.0 ≡ true }
+        requires lives { object_lives self.old id.0 ≡ true }
         requires held { 0 < holds self.old id.0 }
         ensures told { Tells (O.events out.old) (O.events out.new) (LetGo id ∷ []) }
         ensures given { Given (O.events out.old) (O.events out.new) (notice.event (flat (LetGo id))
             ∷ []) }
-        ensures step { (st : List Frame) → IsIdle st → Step (state_of self.old st) (LetGo id)
-            (owed id.0 (state_of self.new st)) }
+        ensures step { (st : List OnStack) → IsIdle st → Step (run_state self.old st) (LetGo id)
+            (owed id.0 (run_state self.new st)) }
         ensures sets { SetsHolds self.old self.new id.0 (holds self.old id.0 - 1) }
     {
         let count = self.holds(id);
@@ -77,64 +77,64 @@ impl Book {
         ensures told { Tells (O.events out.old) (O.events out.new) (Plugged upper lower ∷ []) }
         ensures given { Given (O.events out.old) (O.events out.new) (notice.event
             (flat (Plugged upper lower)) ∷ []) }
-        ensures step { (st : List Frame) → IsIdle st → Step (state_of self.old st)
-            (Plugged upper lower) (state_of self.new st) }
+        ensures step { (st : List OnStack) → IsIdle st → Step (run_state self.old st)
+            (Plugged upper lower) (run_state self.new st) }
         ensures sets { (mid : Ledger) × SetsPort self.old mid upper (state.Linked lower) × SetsPort
             mid self.new lower (state.Linked upper) }
         ensures made { (upper.obj.0 ≤ self.old.made) × (lower.obj.0 ≤ self.old.made) }
     {
         self.set_port(upper, PortState::Linked(lower));
         self.set_port(lower, PortState::Linked(upper));
+        self.join_keys(upper, lower);
         out.event(&GraphEvent::Plugged(upper, lower).spelled());
     }
 
-    /// An entry by a message or by time begins; whether one of the object ran already.
-    pub fn enter<O: Outside>(&mut self, at: Port, by: Way, out: &mut O) -> bool
-        requires { live self.old at.obj.0 ≡ true }
+    /// An entry by a message or by time begins, of the object with this key; whether one of it ran
+    /// already.
+    pub fn enter<O: Outside>(&mut self, at: Port, key: usize, by: Way, out: &mut O) -> bool
+        requires { object_lives self.old at.obj.0 ≡ true }
         ensures told { Tells (O.events out.old) (O.events out.new) (Entered at by ∷ []) }
         ensures given { Given (O.events out.old) (O.events out.new) (notice.event
             (flat (Entered at by)) ∷ []) }
         ensures was { result ≡ busy self.old at.obj.0 }
-        ensures step { (st : List Frame) → IsIdle st → MayEnter (state_of self.old st) at by
-            → Step (state_of self.old st) (Entered at by) (state_of self.new (Running at by ∷ st)) }
+        ensures step { (st : List OnStack) → IsIdle st → MayEnter (run_state self.old st) at by
+            → Step (run_state self.old st) (Entered at by) (run_state self.new (Running at by ∷ st)) }
         ensures sets { SetsBusy self.old self.new at.obj.0 true }
         ensures runs { busy self.new at.obj.0 ≡ true }
     {
-        let was = self.is_busy(at.obj);
-        self.set_busy(at.obj, true);
+        let was = self.set_busy(at.obj, key, true);
         out.event(&GraphEvent::Entered(at, by).spelled());
         was
     }
 
     /// An entry by the closing of a port begins; whether one of the object ran already.
-    pub fn enter_closed<O: Outside>(&mut self, at: Port, out: &mut O) -> bool
-        requires { live self.old at.obj.0 ≡ true }
+    pub fn enter_closed<O: Outside>(&mut self, at: Port, key: usize, out: &mut O) -> bool
+        requires { object_lives self.old at.obj.0 ≡ true }
         ensures told { Tells (O.events out.old) (O.events out.new) (Entered at way.Close ∷ []) }
         ensures given { Given (O.events out.old) (O.events out.new) (notice.event
             (flat (Entered at way.Close)) ∷ []) }
         ensures was { result ≡ busy self.old at.obj.0 }
-        ensures step { (st : List Frame) → Step (state_of self.old (MustEnter at ∷ st))
-            (Entered at way.Close) (state_of self.new (Running at way.Close ∷ st)) }
+        ensures step { (st : List OnStack) → Step (run_state self.old (MustEnter at ∷ st))
+            (Entered at way.Close) (run_state self.new (Running at way.Close ∷ st)) }
         ensures sets { SetsBusy self.old self.new at.obj.0 true }
         ensures runs { busy self.new at.obj.0 ≡ true }
     {
-        let was = self.is_busy(at.obj);
-        self.set_busy(at.obj, true);
+        let was = self.set_busy(at.obj, key, true);
         out.event(&GraphEvent::Entered(at, Way::Close).spelled());
         was
     }
 
     /// The innermost entry ends; `was` says whether one of its object ran before it.
-    pub fn leave<O: Outside>(&mut self, at: Port, was: bool, out: &mut O)
-        requires { live self.old at.obj.0 ≡ true }
+    pub fn leave<O: Outside>(&mut self, at: Port, key: usize, was: bool, out: &mut O)
+        requires { object_lives self.old at.obj.0 ≡ true }
         ensures told { Tells (O.events out.old) (O.events out.new) (Left at ∷ []) }
         ensures given { Given (O.events out.old) (O.events out.new) (notice.event (flat (Left at))
             ∷ []) }
-        ensures step { (by : _) (st : List Frame) → Step (state_of self.old (Running at by ∷ st))
-            (Left at) (owed at.obj.0 (state_of self.new st)) }
+        ensures step { (by : _) (st : List OnStack) → Step (run_state self.old (Running at by ∷ st))
+            (Left at) (owed at.obj.0 (run_state self.new st)) }
         ensures sets { SetsBusy self.old self.new at.obj.0 was }
     {
-        self.set_busy(at.obj, was);
+        self.set_busy(at.obj, key, was);
         out.event(&GraphEvent::Left(at).spelled());
     }
 
@@ -144,8 +144,8 @@ impl Book {
         ensures told { Tells (O.events out.old) (O.events out.new) (Closed at cause.now ∷ []) }
         ensures given { Given (O.events out.old) (O.events out.new) (notice.event
             (flat (Closed at cause.now)) ∷ []) }
-        ensures step { (st : List Frame) → IsIdle st → Step (state_of self.old st)
-            (Closed at cause.now) (state_of self.new st) }
+        ensures step { (st : List OnStack) → IsIdle st → Step (run_state self.old st)
+            (Closed at cause.now) (run_state self.new st) }
         ensures sets { SetsPort self.old self.new at state.Closed }
     {
         self.set_port(at, PortState::Closed);
@@ -158,9 +158,9 @@ impl Book {
         ensures told { Tells (O.events out.old) (O.events out.new) (Closed at cause.now ∷ []) }
         ensures given { Given (O.events out.old) (O.events out.new) (notice.event
             (flat (Closed at cause.now)) ∷ []) }
-        ensures step { (st : List Frame) → IsIdle st → Step (state_of self.old st)
+        ensures step { (st : List OnStack) → IsIdle st → Step (run_state self.old st)
             (Closed at cause.now)
-            (state_of self.new (MustClose peer cause.now ∷ MustEnter peer ∷ MustUnplug at peer
+            (run_state self.new (MustClose peer cause.now ∷ MustEnter peer ∷ MustUnplug at peer
             ∷ st)) }
         ensures sets { SetsPort self.old self.new at (state.Leaving peer) }
     {
@@ -174,8 +174,8 @@ impl Book {
         ensures told { Tells (O.events out.old) (O.events out.new) (Closed at cause.now ∷ []) }
         ensures given { Given (O.events out.old) (O.events out.new) (notice.event
             (flat (Closed at cause.now)) ∷ []) }
-        ensures step { (st : List Frame) → Step (state_of self.old (MustClose at cause.now ∷ st))
-            (Closed at cause.now) (state_of self.new st) }
+        ensures step { (st : List OnStack) → Step (run_state self.old (MustClose at cause.now ∷ st))
+            (Closed at cause.now) (run_state self.new st) }
         ensures sets { SetsPort self.old self.new at (state.Leaving peer) }
     {
         self.set_port(at, PortState::Leaving(peer));
@@ -189,10 +189,10 @@ impl Book {
         ensures told { Tells (O.events out.old) (O.events out.new) (Unplugged first other ∷ []) }
         ensures given { Given (O.events out.old) (O.events out.new) (notice.event
             (flat (Unplugged first other)) ∷ []) }
-        ensures step { (st : List Frame) → Step (state_of self.old (MustUnplug first other ∷ st))
+        ensures step { (st : List OnStack) → Step (run_state self.old (MustUnplug first other ∷ st))
             (Unplugged first other)
             (owed (min first.obj.0 other.obj.0) (owed (max first.obj.0 other.obj.0)
-            (state_of self.new st))) }
+            (run_state self.new st))) }
         ensures sets { (mid : Ledger) × SetsPort self.old mid first state.Closed × SetsPort mid
             self.new other state.Closed }
     {
@@ -203,12 +203,12 @@ impl Book {
 
     /// Frees an object whose count is 0.
     pub fn free<O: Outside>(&mut self, id: ObjId, out: &mut O)
-        requires { live self.old id.0 ≡ true }
+        requires { object_lives self.old id.0 ≡ true }
         ensures told { Tells (O.events out.old) (O.events out.new) (Freed id ∷ []) }
         ensures given { Given (O.events out.old) (O.events out.new) (notice.event (flat (Freed id))
             ∷ []) }
-        ensures step { (st : List Frame) → Step (state_of self.old (MustFree id.0 ∷ st)) (Freed id)
-            (state_of self.new st) }
+        ensures step { (st : List OnStack) → Step (run_state self.old (MustFree id.0 ∷ st)) (Freed id)
+            (run_state self.new st) }
         ensures removes { Removes self.old self.new id.0 }
         ensures len { length self.new.objects + 1 ≡ length self.old.objects }
     {

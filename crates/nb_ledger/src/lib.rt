@@ -9,6 +9,7 @@ mod book;
 mod changes;
 mod event;
 mod happens;
+mod keys;
 mod message;
 mod object;
 mod outside;

@@ -11,7 +11,7 @@ use Rattle.nb_tftp.proofs.PlainLaws.{asks_last}
 use Rattle.nb_tftp.proofs.TryLaws.{call_sends}
 use Rattle.nb_engine.specs.declared.world.World.{World}
 use Rattle.nb_defs.specs.Causes.{ok}
-use Rattle.nb_engine.specs.World.{unbound, with_images}
+use Rattle.nb_engine.specs.World.{unbound, world_with_images}
 use Rattle.nb_engine.specs.Opens.{Open, with_entry, body_of, has_route, request_of, acts_records, end_of}
 use Rattle.nb_engine.specs.Conclusions.{Conclusion, keeps, fails, boots, conclusion, conclusion_records, handoff_records}
 use Rattle.nb_engine.specs.Machine.{Running, further, Phase, Hears, goes_on, is_over, phase_after, concluded}
@@ -97,12 +97,12 @@ record Led (w : World) (own : ℕ) (s : Running) (c d : Conclusion) : Type 0 whe
   leads : StandsAs (phase_after (unbound w own) s c) to
 
 leads : (w : World) (own : ℕ) (s : Running) (c : Conclusion) → Led w own s c c
-leads w own s (keeps list) = record { to = running (state_in (with_images w list) []) (further s ok) []; led = (refl, refl); leads = refl }
+leads w own s (keeps list) = record { to = running (state_in (world_with_images w list) []) (further s ok) []; led = (refl, refl); leads = refl }
 leads w own s (fails cause) = record { to = left (state_in w []) [] cause; led = (refl, refl); leads = (state_in w [], refl, refl) }
 leads w own s (boots list kernel) = record {
-  to = handing (state_in (with_images w list) []) (handoff_records kernel list.images);
+  to = handing (state_in (world_with_images w list) []) (handoff_records kernel list.images);
   led = ([], all_have, refl);
-  leads = (state_in (with_images w list) [], refl, refl);
+  leads = (state_in (world_with_images w list) [], refl, refl);
 }
 
 pub heard : (w : World) (s : Running) (o : Open) (xs : List Exchange) (r : In) (call : Call) (added : List Out) (phase : Phase) → Hears w s o call added phase → Lives o xs →

@@ -20,7 +20,7 @@ use Rattle.nb_laws.proofs.Runs.{run_tells}
 use Rattle.nb_machine.specs.Lives.{Exchange, exchange, Live, open_record}
 use Rattle.nb_machine.specs.Lives as lives
 use Rattle.nb_machine.specs.Transfers.{at_first, closes}
-use Rattle.nb_machine.specs.States.{net0, state_of, with_device, with_live, with_one_made}
+use Rattle.nb_machine.specs.States.{net0, state_at_start, with_device, with_live, with_one_made}
 use Rattle.nb_machine.specs.Takings.{all_have, is_over}
 use Rattle.nb_machine.specs.Network.{Network}
 use Rattle.nb_machine.specs.Network as network
@@ -71,7 +71,7 @@ frame_passes n w s o xs bytes reply net m valid here brings put is port none =
     let to = waiting (with_device st net0 (client_after (bare w.net) m)) (waiting_in s o) in
     record {
       to = to;
-      begins = subst (λ z. StepBegins (stands n (waiting st (waiting_in s o))) (frame bytes) (step (n + 1) ∷ reply_records z) (stands (n + 1) to)) (bare_reply w.net m ∙ sym put)
+      begins = subst (λ z. StepBegins (stands n (waiting st (waiting_in s o))) (frame bytes) (step (n + 1) ∷ reply_records z) (stands (n + 1) to)) (bare_reply w.net o.begun.own_port o.number m port ∙ sym put)
           (courses.waits_on n st _ (waiting_in s o) (frame bytes) (reply_records (reply_of (bare w.net) m)) [] valid
           (network.passes_by (frame bytes) net0 bytes (bare w.net) m (network.on_net0 bytes) refl brings (for_none w.net o xs m port none)) refl);
       same = (xs, here, ap (λ c. waiting (record st { devices = c ∷ [] }) (waiting_in s o)) (bare_after w.net m ∙ ap bare (sym is)));
@@ -98,9 +98,9 @@ same_net net m port body o xs (by_datagram p d is from what) = refl
 
 step_begins : (m : Machine) (r : In) (added : List Out) (m' : Machine) (es : _) (p : Standing) → Begins m r added m' → AgreesPhase es m.phase → StandsAs m.phase p → Steps m.used p r added m'
 step_begins m r added m' es p (lone.runs n s valid plain) a same =
-    subst (λ z. Steps n z (start s) added m') (sym same) (record { to = running (state_of s) _ []; begins = courses.runs n s valid plain; same = refl })
+    subst (λ z. Steps n z (start s) added m') (sym same) (record { to = running (state_at_start s) _ []; begins = courses.runs n s valid plain; same = refl })
 step_begins m r added m' es p (lone.refuses n s valid plain) a same =
-    subst (λ z. Steps n z (start s) added m') (sym same) (record { to = left (state_of s) [] not_script; begins = courses.refuses n s valid plain; same = (state_of s, refl, refl) })
+    subst (λ z. Steps n z (start s) added m') (sym same) (record { to = left (state_at_start s) [] not_script; begins = courses.refuses n s valid plain; same = (state_at_start s, refl, refl) })
 step_begins m r added m' es p (lone.passes_by n w s o bytes reply seen net valid takes none) a (xs, here, same) =
     subst (λ z. Steps n z (frame bytes) added m') (sym same)
     (frame_passes n w s o xs bytes reply net takes.message valid here takes.brings takes.is_put takes.is_after a.1.ports (ap (heard_from o.begun.server) (sym takes.is_outcome) ∙ none))
@@ -111,9 +111,9 @@ step_begins m r added m' es p (lone.brings n w s o bytes reply seen net port bod
     (frame_comes n w s o xs bytes takes.message port body news phase valid here takes.brings for_it
     (subst (λ (c : Client). Hears (with_net w c) s o (came (received (n + 1) port body) w.time) news phase) is_net hear) a.1.route a.1.begins)
 step_begins m r added m' es p (lone.passes_time n w s o ms news phase valid hear) a (xs, here, same) =
-    let t = heard (world.later w ms) s o xs (tick ms) (ticked (w.time + ms)) news phase hear here a.1.route a.1.begins in
+    let t = heard (world.world_later w ms) s o xs (tick ms) (ticked (w.time + ms)) news phase hear here a.1.route a.1.begins in
     subst (λ z. Steps n z (tick ms) added m') (sym same)
-    (taken n w (world.later w ms) s o xs (ticked (w.time + ms)) (tick ms) news phase valid t
+    (taken n w (world.world_later w ms) s o xs (ticked (w.time + ms)) (tick ms) news phase valid t
     (network.passes_time ms t.after t.put t.over t.take))
 step_begins m r added m' es p (lone.switches_off n w s o) a (xs, here, same) =
     let st = state_in w (live_of o xs ∷ []) in

@@ -1,5 +1,5 @@
 -- Ports make no way and no frame, and the messages of a transfer whose request finds a route find one.
-use Rattle.std.proofs.Common.{◌≡◌, ℕ, true, false, cond, not, ◌||◌, List, [], ◌∷◌, ◌++◌, Option, None, refl, ◌∙◌, ap}
+use Rattle.std.proofs.Common.{◌≡◌, ℕ, true, false, cond, not, ◌||◌, List, [], ◌∷◌, ◌++◌, Option, None, refl, sym, ◌∙◌, ap}
 use Rattle.std.specs.List.{list_any}
 use Rattle.nb_wire.specs.declared.address.Ip4.{Ip4}
 use Rattle.nb_terms.specs.declared.acts.Acts.{Acts}
@@ -7,10 +7,10 @@ use Rattle.nb_terms.specs.declared.acts.SendTo.{SendTo}
 use Rattle.nb_defs.specs.Records.{sent}
 use Rattle.nb_stack.specs.Client.{Client}
 use Rattle.nb_stack.specs.Route.{route_of}
-use Rattle.nb_stack.specs.Brings.{Brought, nothing, arp_message, datagram}
+use Rattle.nb_stack.specs.Brings.{Brought, arp_message}
 use Rattle.nb_stack.specs.Takes.{client_after, reply_of}
 use Rattle.nb_stack.specs.Sends.{way_of, fate_of, put_on}
-use Rattle.nb_stack.proofs.WayLaws.{same_way, same_put}
+use Rattle.nb_stack.proofs.WayLaws.{same_way, same_put, same_reply}
 use Rattle.nb_tftp.specs.Asks.{Begun}
 use Rattle.nb_tftp.proofs.TryLaws.{Sends, sends_none, sends_one}
 use Rattle.nb_engine.specs.Opens.{is_on_its_way, has_route, request_of, try_records, send_records, sends_records, advance_records, acts_records}
@@ -20,15 +20,12 @@ use Rattle.nb_machine.specs.Transfers.{finds_none}
 pub bare_route : (c : Client) (m : SendTo) → has_route (bare c) m ≡ has_route c m
 bare_route c m = same_way is_on_its_way refl (bare c) c (way_of c m)
 
-pub bare_reply : (c : Client) (m : Brought) → reply_of (bare c) m ≡ reply_of c m
-bare_reply c nothing = refl
-bare_reply c (arp_message from arp) = refl
-bare_reply c (datagram p d) = refl
+pub bare_reply : (c : Client) (own to : ℕ) (m : Brought) → c.ports ≡ record { proto = 17; number = own; to = to } ∷ [] → reply_of (bare c) m ≡ reply_of c m
+bare_reply c own to m ports = sym (same_reply c own to m ports)
 
 pub bare_after : (c : Client) (m : Brought) → client_after (bare c) m ≡ bare (client_after c m)
-bare_after c nothing = refl
 bare_after c (arp_message from arp) = refl
-bare_after c (datagram p d) = refl
+bare_after c m = refl
 
 pub bare_send : (c : Client) (k : ℕ) (try : Option ℕ) (m : SendTo) → send_records (bare c) k try m ≡ send_records c k try m
 bare_send c k try m =
@@ -48,13 +45,14 @@ unfolding acts_records
 bare_acts c k acts = ap (λ z. advance_records k acts.advance ++ z) (bare_sends c k acts.tried acts.sends.items)
 
 -- a message to the server finds a route where the request does
-server_route : (c : Client) (b : Begun) (m : SendTo) → m.to ≡ b.server → m.own_port ≡ b.own_port → has_route c m ≡ has_route c (request_of b)
-server_route c b m to own =
-    ap (λ (x : Ip4). is_on_its_way (fate_of c (route_of c.up c.address x m.own_port))) to
-    ∙ ap (λ x. is_on_its_way (fate_of c (route_of c.up c.address b.server x))) own
+server_route : (c : Client) (b : Begun) (m : SendTo) → m.to ≡ b.server → m.own_port ≡ b.own_port → m.proto ≡ 17 → has_route c m ≡ has_route c (request_of b)
+server_route c b m to own udp =
+    ap (λ (x : Ip4). has_route c (record m { to = x })) to
+    ∙ ap (λ x. has_route c (record m { to = b.server; own_port = x })) own
+    ∙ ap (λ x. has_route c (record m { to = b.server; own_port = b.own_port; proto = x })) udp
 
 pub all_find : (c : Client) (b : Begun) (acts : Acts) → Sends b acts → has_route c (request_of b) ≡ true → finds_none (bare c) acts ≡ false
 all_find c b acts (sends_none items try) route = ap (λ ms. list_any (λ m. not (has_route (bare c) m)) ms) items
-all_find c b acts (sends_one send items to own) route =
+all_find c b acts (sends_one send items to own udp) route =
     ap (λ ms. list_any (λ m. not (has_route (bare c) m)) ms) items
-    ∙ ap (λ x. not x || false) (bare_route c send ∙ server_route c b send to own ∙ route)
+    ∙ ap (λ x. not x || false) (bare_route c send ∙ server_route c b send to own udp ∙ route)

@@ -3,15 +3,15 @@
 use Rattle.std.specs.Prelude.{◌≡◌, ℕ, ◌+◌, true, false, List, [], ◌∷◌, ◌++◌, Some, None, slice_get}
 use Rattle.nb_terms.specs.declared.cause.Cause.{Cause}
 use Rattle.nb_defs.specs.Causes.{ok, not_script}
-use Rattle.nb_defs.specs.Commands.{Outcome}
+use Rattle.nb_defs.specs.Commands.{CommandOutcome}
 use Rattle.nb_defs.specs.Records.{Start, In, start, off, IsIn, Out, step, enter, leave}
-use Rattle.nb_defs.specs.ScriptText.{is_plain, words}
+use Rattle.nb_defs.specs.ScriptText.{is_plain, line_words}
 use Rattle.nb_stack.specs.Client.{Client}
 use Rattle.nb_engine.specs.Conclusions.{Conclusion, keeps, fails, boots, conclusion_records, handoff_records}
 use Rattle.nb_engine.specs.Machine.{Running, first_script, next_line, further, command_record, command_records, ends_script, no_route, stopped_cause}
 use Rattle.nb_machine.specs.Lives.{close, Live, open_record, end_record}
 use Rattle.nb_machine.specs.Kinds.{first_records}
-use Rattle.nb_machine.specs.States.{State, state_of, with_images, with_live, with_opened, with_one_made}
+use Rattle.nb_machine.specs.States.{State, state_at_start, with_images, with_live, with_opened, with_one_made}
 use Rattle.nb_machine.specs.Takings.{Over, AllTake}
 use Rattle.nb_machine.specs.Network.{Network}
 use Rattle.nb_machine.specs.Scripts.{Job, ends, opens, doing, answer, Answer, answer_in, Waiting, concluded_by}
@@ -59,10 +59,10 @@ LeadsTo s script outer (boots list kernel) put p =
 pub data StepBegins : Progress → In → List Out → Progress → Type 0 where
   -- the first script is entered
   runs : (n : ℕ) (s : Start) → IsIn (start s) → is_plain s.script ≡ true →
-      StepBegins (stands n ready) (start s) (step (n + 1) ∷ enter 1 ∷ []) (stands (n + 1) (running (state_of s) (first_script s.script) []))
+      StepBegins (stands n ready) (start s) (step (n + 1) ∷ enter 1 ∷ []) (stands (n + 1) (running (state_at_start s) (first_script s.script) []))
   -- a text that doesn't run is entered and left at once
   refuses : (n : ℕ) (s : Start) → IsIn (start s) → is_plain s.script ≡ false →
-      StepBegins (stands n ready) (start s) (step (n + 1) ∷ enter 1 ∷ leave 1 not_script ∷ []) (stands (n + 1) (left (state_of s) [] not_script))
+      StepBegins (stands n ready) (start s) (step (n + 1) ∷ enter 1 ∷ leave 1 not_script ∷ []) (stands (n + 1) (left (state_at_start s) [] not_script))
   -- the command waits on
   waits_on : (n : ℕ) (s s' : State) (w : Waiting) (r : In) (put : List Out) (over : List Over) → IsIn r →
       Network s (n + 1) r put s' over → answer_in s' r over w.awaited ≡ None →
@@ -78,26 +78,26 @@ pub data StepBegins : Progress → In → List Out → Progress → Type 0 where
 
 -- What a run does next. Each rule has its condition, and one of them fits a script that runs and an image that is handed off.
 pub data Proceeds : Progress → List Out → Progress → Type 0 where
-  -- a line without words is nothing
-  passes : (n : ℕ) (s : State) (script : Running) (outer : List Running) (line : List ℕ) → next_line script ≡ Some line → words line ≡ [] →
+  -- a line without line_words is nothing
+  passes : (n : ℕ) (s : State) (script : Running) (outer : List Running) (line : List ℕ) → next_line script ≡ Some line → line_words line ≡ [] →
       Proceeds (stands n (running s script outer)) [] (stands n (running s (further script script.last) outer))
   -- a command after which the script goes on
-  does : (n : ℕ) (s s' : State) (script : Running) (outer : List Running) (line c : List ℕ) (cs : List (List ℕ)) (o : Outcome) →
-      next_line script ≡ Some line → words line ≡ c ∷ cs → doing s (c ∷ cs) ≡ ends o s' → ends_script o ≡ false →
+  does : (n : ℕ) (s s' : State) (script : Running) (outer : List Running) (line c : List ℕ) (cs : List (List ℕ)) (o : CommandOutcome) →
+      next_line script ≡ Some line → line_words line ≡ c ∷ cs → doing s (c ∷ cs) ≡ ends o s' → ends_script o ≡ false →
       Proceeds (stands n (running s script outer)) (command_records script (c ∷ cs) o) (stands n (running s' (further script o.cause) outer))
   -- a command with which the script is left
-  leaves : (n : ℕ) (s s' : State) (script : Running) (outer : List Running) (line c : List ℕ) (cs : List (List ℕ)) (o : Outcome) →
-      next_line script ≡ Some line → words line ≡ c ∷ cs → doing s (c ∷ cs) ≡ ends o s' → ends_script o ≡ true →
+  leaves : (n : ℕ) (s s' : State) (script : Running) (outer : List Running) (line c : List ℕ) (cs : List (List ℕ)) (o : CommandOutcome) →
+      next_line script ≡ Some line → line_words line ≡ c ∷ cs → doing s (c ∷ cs) ≡ ends o s' → ends_script o ≡ true →
       Proceeds (stands n (running s script outer)) (command_records script (c ∷ cs) o ++ (leave script.depth o.cause ∷ [])) (stands n (left s' outer o.cause))
   -- a command that opens something, and waits for it
   opens_one : (n : ℕ) (s : State) (script : Running) (outer : List Running) (line c : List ℕ) (cs : List (List ℕ)) (l : Live) (job : Job) (link : Client) (put : List Out) →
-      next_line script ≡ Some line → words line ≡ c ∷ cs → doing s (c ∷ cs) ≡ opens l job →
+      next_line script ≡ Some line → line_words line ≡ c ∷ cs → doing s (c ∷ cs) ≡ opens l job →
       slice_get s.devices l.device ≡ Some link → first_records l.kind l link ≡ Some put →
       Proceeds (stands n (running s script outer)) (command_record script (c ∷ cs) ∷ open_record l ∷ put)
       (stands n (waiting (with_opened s l) (record { script = script; outer = outer; awaited = answer l.number; job = job })))
   -- one whose server there is no way to: the open was made, and has ended
   finds_no_route : (n : ℕ) (s : State) (script : Running) (outer : List Running) (line c : List ℕ) (cs : List (List ℕ)) (l : Live) (job : Job) (link : Client) →
-      next_line script ≡ Some line → words line ≡ c ∷ cs → doing s (c ∷ cs) ≡ opens l job →
+      next_line script ≡ Some line → line_words line ≡ c ∷ cs → doing s (c ∷ cs) ≡ opens l job →
       slice_get s.devices l.device ≡ Some link → first_records l.kind l link ≡ None →
       Proceeds (stands n (running s script outer))
       (command_record script (c ∷ cs) ∷ open_record l ∷ end_record l (no_route l.server) ∷ conclusion_records script.depth (fails (no_route l.server)))

@@ -14,14 +14,14 @@ abbrev pub kind_number : OpenKind → ℕ
 kind_number tftp = 1
 
 -- what comes to an open: a message in the record of this number, from this port; a time; a close from above
-pub data Arrival : Type 0 where
-  message : (rec port : ℕ) (body : List ℕ) (now : ℕ) → Arrival
-  time : (now : ℕ) → Arrival
-  close : (cause : Cause) → Arrival
+pub data OpenInput : Type 0 where
+  message : (rec port : ℕ) (body : List ℕ) (now : ℕ) → OpenInput
+  time : (now : ℕ) → OpenInput
+  close : (cause : Cause) → OpenInput
 
 -- what came, the client as it was then, and the records that the open put
 pub record Exchange : Type 0 where
-  pub came : Arrival
+  pub came : OpenInput
   pub link : Client
   pub put : List Out
 
@@ -37,7 +37,7 @@ pub record Live : Type 0 where
   pub since : ℕ
   pub exchanges : List Exchange
 
-abbrev pub exchange : Arrival → Client → List Out → Exchange
+abbrev pub exchange : OpenInput → Client → List Out → Exchange
 exchange came link put = record { came = came; link = link; put = put }
 
 -- with one exchange more

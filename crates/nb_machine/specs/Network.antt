@@ -5,7 +5,7 @@ use Rattle.nb_defs.specs.Records.{In, frame, tick, Out}
 use Rattle.nb_ipv4.specs.PacketText.{PacketParts}
 use Rattle.nb_ipv4.specs.UdpText.{UdpParts}
 use Rattle.nb_stack.specs.Client.{Client}
-use Rattle.nb_stack.specs.Brings.{Brought, nothing, arp_message, datagram, Brings}
+use Rattle.nb_stack.specs.Brings.{Brought, datagram, Brings}
 use Rattle.nb_stack.specs.Takes.{client_after, reply_of}
 use Rattle.nb_engine.specs.Machine.{reply_records}
 use Rattle.nb_machine.specs.Lives.{message, time, Live}
@@ -15,9 +15,8 @@ use Rattle.nb_machine.specs.Takings.{Over, AllTake}
 
 -- what a frame brought is for an open that lives
 abbrev pub is_for_one : ℕ → Brought → List Live → Bool
-is_for_one device nothing live = false
-is_for_one device (arp_message from arp) live = false
 is_for_one device (datagram p d) live = list_any (is_for device p d) live
+is_for_one device m live = false
 
 -- the record brings this frame on this device
 pub data IsFrameOn : In → (device : ℕ) → List ℕ → Type 0 where

@@ -1,6 +1,6 @@
 -- Scripts: what a command does to the state, and what comes of one that waited. No word of frames.
 use Rattle.std.specs.Prelude.{ℕ, ◌==◌, Bool, List, [], Option, find, option_map}
-use Rattle.nb_defs.specs.Commands.{Outcome}
+use Rattle.nb_defs.specs.Commands.{CommandOutcome}
 use Rattle.nb_defs.specs.Records.{In}
 use Rattle.nb_image.specs.Images.{image_of}
 use Rattle.nb_engine.specs.Effects.{Wanted, Effect, says, asks, effect}
@@ -19,7 +19,7 @@ pub data Job : Type 0 where
 
 -- what a command comes to: it is over at once and leaves this state, or it opens something and waits for it
 pub data Doing : Type 0 where
-  ends : Outcome → State → Doing
+  ends : CommandOutcome → State → Doing
   opens : Live → Job → Doing
 
 -- the next open, on a device, for a file: from the client's next port to port 69 of the server

@@ -21,8 +21,8 @@ pub record State : Type 0 where
 abbrev pub net0 : ℕ
 net0 = 0
 
-abbrev pub state_of : Start → State
-state_of s = record { w = s.w; now = 0; devices = net_of s ∷ []; images = no_images; opens = 0; live = [] }
+abbrev pub state_at_start : Start → State
+state_at_start s = record { w = s.w; now = 0; devices = net_of s ∷ []; images = no_images; opens = 0; live = [] }
 
 abbrev pub with_device : State → ℕ → Client → State
 with_device s device link = record s { devices = take device s.devices ++ link ∷ drop (device + 1) s.devices }

@@ -3,7 +3,7 @@ use Rattle.std.specs.Prelude.{◌≡◌, ℕ, ◌==◌, List, [], ◌∷◌, ◌
 use Rattle.nb_terms.specs.declared.cause.Cause.{Cause}
 use Rattle.nb_defs.specs.Records.{Out, ended}
 use Rattle.nb_stack.specs.Client.{Client}
-use Rattle.nb_machine.specs.Lives.{Arrival, Live, exchange, continued}
+use Rattle.nb_machine.specs.Lives.{OpenInput, Live, exchange, continued}
 use Rattle.nb_machine.specs.Kinds.{Keeps}
 
 -- an open that has ended, and its cause
@@ -22,7 +22,7 @@ end_among k (o ∷ outs) = end_told k o (end_among k outs)
 
 -- It comes to these opens in order, each over its own device. Each puts its records, so that its promises are kept;
 -- those whose end is among them are over, the others live on.
-pub data AllTake (devices : List Client) (came : Arrival) : List Live → List Out → List Live → List Over → Type 0 where
+pub data AllTake (devices : List Client) (came : OpenInput) : List Live → List Out → List Live → List Over → Type 0 where
   all_have : AllTake devices came [] [] [] []
   lives_on : (l : Live) (ls after : List Live) (link : Client) (put more : List Out) (over : List Over) → slice_get devices l.device ≡ Some link →
       Keeps (continued l (exchange came link put)) → end_among l.number put ≡ None → AllTake devices came ls more after over →

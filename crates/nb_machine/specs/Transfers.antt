@@ -14,7 +14,7 @@ use Rattle.nb_tftp.specs.Sentences.{Meets}
 use Rattle.nb_engine.specs.World.{host}
 use Rattle.nb_engine.specs.Machine.{no_route}
 use Rattle.nb_engine.specs.Opens.{has_route, request_of, send_records, acts_records, end_of}
-use Rattle.nb_machine.specs.Lives.{Arrival, message, time, close, Exchange, exchange, Live}
+use Rattle.nb_machine.specs.Lives.{OpenInput, message, time, close, Exchange, exchange, Live}
 
 -- the request that it begins with
 abbrev pub transfer_of : Live → Begun
@@ -27,7 +27,7 @@ request_records l link =
     then Some (send_records link l.number (Some 1) (request_of (transfer_of l)))
     else None
 
-abbrev pub arrival_of : Call → Arrival
+abbrev pub arrival_of : Call → OpenInput
 arrival_of (came m now) = message m.rec m.port m.body now
 arrival_of (ticked now) = time now
 
@@ -70,7 +70,7 @@ pub record KeepsTransfer (l : Live) : Type 0 where
   pub exchanged : Exchanged l.number l.server entries l.exchanges
   pub meets : Meets (transfer_of l) l.since entries
 
-abbrev pub datagram_in : Arrival → List Received
+abbrev pub datagram_in : OpenInput → List Received
 datagram_in (message rec port body now) = received rec port body ∷ []
 datagram_in (time now) = []
 datagram_in (close cause) = []

@@ -3,7 +3,7 @@ use Rattle.std.proofs.Common.{◌≡◌, ℕ, ◌+◌, ◌-◌, ◌<◌, ◌≤�
 use Rattle.std.proofs.lemmas.Bool.{ltb-true, ltb-false}
 use Rattle.nb_streams.proofs.StreamLaws.{either}
 use Rattle.nb_reasm.specs.Slots.{slot_mark, wrapped_slot}
-use Rattle.nb_reasm.specs.Rings.{capacity, slot_of, byte_of, mark_of, held_byte, IsRing}
+use Rattle.nb_reasm.specs.Rings.{capacity, slot_of, ring_byte, ring_mark, held_byte, IsRing}
 use Rattle.nb_reasm.specs.declared.ring.Ring.{Ring}
 use Rattle.nb_reasm.proofs.SlotLemmas.{turn, same_turn, next_turn, slot_after, slot_around}
 use Rattle.nb_reasm.proofs.SpotLemmas.{held_front, held_marked, held_free, held_above, spot, is_below, is_front, is_marked, is_unmarked, is_above}
@@ -53,13 +53,13 @@ slot_reused r s count a p h l =
     offset : p - s.base ≡ (capacity r - count) + ((p - capacity r) - r.base)
     offset = omega (arith, h, a.base, most)
 
-mark_by : (r s : Ring) (count : ℕ) → Advances r s count → (p q : ℕ) → slot_of s (p - s.base) ≡ slot_of r (q - r.base) → mark_of s p ≡ mark_of r q
+mark_by : (r s : Ring) (count : ℕ) → Advances r s count → (p q : ℕ) → slot_of s (p - s.base) ≡ slot_of r (q - r.base) → ring_mark s p ≡ ring_mark r q
 mark_by r s count a p q e = ap (λ (i : ℕ). slot_mark s.marks.words.items i) e ∙ ap (λ (w : List ℕ). slot_mark w (slot_of r (q - r.base))) a.words
 
-byte_kept : (r s : Ring) (count : ℕ) → Advances r s count → (p : ℕ) → s.base ≤ p → p < r.base + capacity r → byte_of s p ≡ byte_of r p
+byte_kept : (r s : Ring) (count : ℕ) → Advances r s count → (p : ℕ) → s.base ≤ p → p < r.base + capacity r → ring_byte s p ≡ ring_byte r p
 byte_kept r s count a p h l = ap (λ (i : ℕ). get_or s.bytes.items i 0) (slot_kept r s count a p h l) ∙ ap (λ (xs : List ℕ). get_or xs (slot_of r (p - r.base)) 0) a.bytes
 
-new_unmarked : (r s : Ring) (count : ℕ) → Advances r s count → (p : ℕ) → r.base + capacity r ≤ p → p < s.base + capacity s → mark_of s p ≡ 0
+new_unmarked : (r s : Ring) (count : ℕ) → Advances r s count → (p : ℕ) → r.base + capacity r ≤ p → p < s.base + capacity s → ring_mark s p ≡ 0
 new_unmarked r s count a p h l =
     mark_by r s count a p (p - capacity r) (slot_reused r s count a p h l)
     ∙ a.ring.joinable.front (p - capacity r) (omega (arith, h)) (omega (arith, h, l, a.base, a.held, size))
@@ -90,19 +90,19 @@ advances_ring r s count a = record {
     starts : s.start < capacity s
     starts = omega (arith, size, a.start, start_within (capacity r) r.start count a.ring.joinable.start (omega (arith, a.held, a.ring.joinable.to)))
 
-    front : (p : ℕ) → s.base ≤ p → p < s.next → mark_of s p ≡ 0
+    front : (p : ℕ) → s.base ≤ p → p < s.next → ring_mark s p ≡ 0
     front p h l =
         let inside : p < r.base + capacity r = omega (arith, l, a.next, a.ring.joinable.to) in
         mark_by r s count a p p (slot_kept r s count a p h inside) ∙ a.ring.joinable.front p (omega (arith, h, a.base)) (omega (arith, l, a.next))
 
-    rest : (p : ℕ) → s.base ≤ p → p < s.base + capacity s → s.end ≤ p → mark_of s p ≡ 0
+    rest : (p : ℕ) → s.base ≤ p → p < s.base + capacity s → s.end ≤ p → ring_mark s p ≡ 0
     rest p h l e = either (nat_lt p (r.base + capacity r))
         (λ t. mark_by r s count a p p (slot_kept r s count a p h (ltb-true p (r.base + capacity r) t)) ∙ a.ring.joinable.rest p (omega (arith, h, a.base)) (ltb-true p (r.base + capacity r) t) (omega (arith, e, a.end)))
         (λ f. new_unmarked r s count a p (ltb-false p (r.base + capacity r) f) l)
 
-    here : s.next < s.base + capacity s → mark_of s s.next ≡ 0
+    here : s.next < s.base + capacity s → ring_mark s s.next ≡ 0
     here l = either (nat_lt r.next (r.base + capacity r))
-        (λ t. mark_by r s count a s.next s.next (slot_kept r s count a s.next (omega (arith, a.held, a.base, a.next)) (omega (arith, ltb-true r.next (r.base + capacity r) t, a.next))) ∙ ap (λ (q : ℕ). mark_of r q) a.next ∙ a.ring.here (ltb-true r.next (r.base + capacity r) t))
+        (λ t. mark_by r s count a s.next s.next (slot_kept r s count a s.next (omega (arith, a.held, a.base, a.next)) (omega (arith, ltb-true r.next (r.base + capacity r) t, a.next))) ∙ ap (λ (q : ℕ). ring_mark r q) a.next ∙ a.ring.here (ltb-true r.next (r.base + capacity r) t))
         (λ f. new_unmarked r s count a s.next (omega (arith, ltb-false r.next (r.base + capacity r) f, a.next)) l)
 
 pub advances_held : (r s : Ring) (count : ℕ) → Advances r s count → (p : ℕ) → s.base ≤ p → held_byte s p ≡ held_byte r p

@@ -5,7 +5,7 @@ use Rattle.std.specs.List.{slice_get}
 use Rattle.std.proofs.lemmas.Bool.{eqb-true}
 use Rattle.std.proofs.lemmas.Bool.Decides.{nat_tests}
 use Rattle.nb_streams.proofs.StreamLaws.{either, by_option}
-use Rattle.nb_reasm.specs.Rings.{capacity, held_byte, is_held, byte_of, byte_put, is_open_place, SameWindow}
+use Rattle.nb_reasm.specs.Rings.{capacity, held_byte, is_held, ring_byte, byte_put, is_open_place, SameWindow}
 use Rattle.nb_reasm.specs.Windows.{HeldWindow, window_of, is_inside, window_byte, is_new, new_count}
 use Rattle.nb_reasm.specs.declared.ring.Ring.{Ring}
 use Rattle.nb_reasm.proofs.RingLemmas.{unequal}
@@ -36,7 +36,7 @@ slice_get_other (suc i) (suc k) (x ∷ xs) apart = slice_get_other i k xs (λ e.
 -- held or not, as a test
 none_held : (r : Ring) (p : ℕ) → is_none (held_byte r p) ≡ not (is_held r p)
 unfolding held_byte
-none_held r p = tests (is_held r p) (byte_of r p)
+none_held r p = tests (is_held r p) (ring_byte r p)
   where
     tests : (t : Bool) (b : ℕ) → is_none (cond t (Some b) None) ≡ not t
     tests true b = refl

@@ -5,7 +5,7 @@ use Rattle.std.proofs.lemmas.Bool.Decides.{nat_tests}
 use Rattle.std.proofs.lemmas.List.{get_or-set_same, get_or-set_other, length-set}
 use Rattle.nb_streams.proofs.StreamLaws.{either}
 use Rattle.nb_reasm.specs.Slots.{slot_mark}
-use Rattle.nb_reasm.specs.Rings.{capacity, slot_of, byte_of, mark_of, held_byte, byte_put, is_open_place, IsJoinable}
+use Rattle.nb_reasm.specs.Rings.{capacity, slot_of, ring_byte, ring_mark, held_byte, byte_put, is_open_place, IsJoinable}
 use Rattle.nb_reasm.specs.declared.ring.Ring.{Ring}
 use Rattle.nb_reasm.proofs.MarkLemmas.{mark_bit}
 use Rattle.nb_reasm.proofs.SlotLemmas.{slot_within, slots_apart, slots_same}
@@ -35,7 +35,7 @@ marked_by words i slot b is t same = ap (λ (k : ℕ). slot_mark words k) (sym s
 -- the first place after the run is marked: it is taken over
 pub record Joins (r s : Ring) : Type 0 where
   pub room : r.next < r.base + capacity r
-  pub marked : mark_of r r.next ≡ 1
+  pub marked : ring_mark r r.next ≡ 1
   pub bytes : s.bytes.items ≡ r.bytes.items
   pub start : s.start ≡ r.start
   pub base : s.base ≡ r.base
@@ -46,18 +46,18 @@ pub record Joins (r s : Ring) : Type 0 where
   pub others : (i : ℕ) → (i ≡ slot_of r (r.next - r.base) → ⊥) → slot_mark s.marks.words.items i ≡ slot_mark r.marks.words.items i
 
 -- a marked place lies below the end
-marked_below_end : (r : Ring) (p : ℕ) → IsJoinable r → r.base ≤ p → p < r.base + capacity r → mark_of r p ≡ 1 → p < r.end
+marked_below_end : (r : Ring) (p : ℕ) → IsJoinable r → r.base ≤ p → p < r.base + capacity r → ring_mark r p ≡ 1 → p < r.end
 marked_below_end r p is h l m = either (nat_lt p r.end) (λ t. ltb-true p r.end t) (λ f. absurd (one_zero (is.rest p h l (ltb-false p r.end f))))
   where
-    one_zero : mark_of r p ≡ 0 → ⊥
+    one_zero : ring_mark r p ≡ 0 → ⊥
     one_zero z = omega (arith, m, z)
 
-pub joined_marks : (r s : Ring) → IsJoinable r → Joins r s → (p : ℕ) → r.base ≤ p → p < r.base + capacity r → (p ≡ r.next → ⊥) → mark_of s p ≡ mark_of r p
+pub joined_marks : (r s : Ring) → IsJoinable r → Joins r s → (p : ℕ) → r.base ≤ p → p < r.base + capacity r → (p ≡ r.next → ⊥) → ring_mark s p ≡ ring_mark r p
 joined_marks r s is j p h l apart =
     ap (λ (i : ℕ). slot_mark s.marks.words.items i) (slots_same r s j.start j.base (ap length j.bytes) p)
     ∙ j.others (slot_of r (p - r.base)) (λ e. places_apart r p r.next is h l is.from j.room apart e)
 
-joined_mark : (r s : Ring) → Joins r s → mark_of s r.next ≡ 0
+joined_mark : (r s : Ring) → Joins r s → ring_mark s r.next ≡ 0
 joined_mark r s j = ap (λ (i : ℕ). slot_mark s.marks.words.items i) (slots_same r s j.start j.base (ap length j.bytes) r.next) ∙ j.cleared
 
 pub joins_joinable : (r s : Ring) → IsJoinable r → Joins r s → IsJoinable s
@@ -76,13 +76,13 @@ joins_joinable r s is j =
       rest = λ p h l e. rest p (omega (arith, h, j.base)) (omega (arith, l, j.base, size)) (omega (arith, e, j.end));
     }
   where
-    front : (p : ℕ) → r.base ≤ p → p < r.next + 1 → mark_of s p ≡ 0
+    front : (p : ℕ) → r.base ≤ p → p < r.next + 1 → ring_mark s p ≡ 0
     front p h l = either (p == r.next)
-        (λ t. ap (λ (q : ℕ). mark_of s q) (eqb-true p r.next t) ∙ joined_mark r s j)
+        (λ t. ap (λ (q : ℕ). ring_mark s q) (eqb-true p r.next t) ∙ joined_mark r s j)
         (λ f. let other : p ≡ r.next → ⊥ = λ e. unequal p r.next f e in
         joined_marks r s is j p h (omega (arith, l, j.room)) other ∙ is.front p h (omega (arith, l, other)))
 
-    rest : (p : ℕ) → r.base ≤ p → p < r.base + capacity r → r.end ≤ p → mark_of s p ≡ 0
+    rest : (p : ℕ) → r.base ≤ p → p < r.base + capacity r → r.end ≤ p → ring_mark s p ≡ 0
     rest p h l e =
         let below : r.next < r.end = marked_below_end r r.next is is.from j.room j.marked in
         joined_marks r s is j p h l (λ same. omega (arith, same, below, e)) ∙ is.rest p h l e
@@ -92,7 +92,7 @@ joins_held r s is j p =
     held_kept r s j.base (ap length j.bytes) is.from (omega (arith, j.next)) (omega (arith, j.next, j.room)) p
     (λ h l. ap (λ (xs : List ℕ). get_or xs (slot_of s (p - s.base)) 0) j.bytes ∙ ap (λ (i : ℕ). get_or r.bytes.items i 0) (slots_same r s j.start j.base (ap length j.bytes) p))
     (λ n l. joined_marks r s is j p (omega (arith, n, j.next, is.from)) l (λ e. omega (arith, e, n, j.next)))
-    (λ n l. ap (λ (q : ℕ). mark_of r q) (only p n l) ∙ j.marked)
+    (λ n l. ap (λ (q : ℕ). ring_mark r q) (only p n l) ∙ j.marked)
   where
     only : (p : ℕ) → r.next ≤ p → p < s.next → p ≡ r.next
     only p n l = omega (arith, n, l, j.next)
@@ -101,7 +101,7 @@ joins_held r s is j p =
 pub record Puts (r s : Ring) (place byte : ℕ) : Type 0 where
   pub from : r.next ≤ place
   pub to : place < r.base + capacity r
-  pub unmarked : mark_of r place ≡ 0
+  pub unmarked : ring_mark r place ≡ 0
   pub bytes : s.bytes.items ≡ set r.bytes.items (slot_of r (place - r.base)) byte
   pub start : s.start ≡ r.start
   pub base : s.base ≡ r.base
@@ -131,7 +131,7 @@ puts_held r s place byte is puts p = either (p == place)
     slot : slot_of r (place - r.base) < capacity r
     slot = slot_within (capacity r) r.start (place - r.base) is.start (omega (arith, high, puts.to))
 
-    its_byte : byte_of s place ≡ byte
+    its_byte : ring_byte s place ≡ byte
     its_byte =
         ap (λ (i : ℕ). get_or s.bytes.items i 0) (slots place)
         ∙ ap (λ (xs : List ℕ). get_or xs (slot_of r (place - r.base)) 0) puts.bytes

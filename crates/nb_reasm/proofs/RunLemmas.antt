@@ -4,7 +4,7 @@ use Rattle.std.proofs.lemmas.Bool.{ltb-true, ltb-false}
 use Rattle.std.proofs.lemmas.List.{get_or-take, length-take}
 use Rattle.nb_streams.proofs.StreamLaws.{either}
 use Rattle.nb_reasm.specs.Slots.{slot_mark, wrapped_slot}
-use Rattle.nb_reasm.specs.Rings.{capacity, slot_of, byte_of, mark_of, held_byte, IsJoinable}
+use Rattle.nb_reasm.specs.Rings.{capacity, slot_of, ring_byte, ring_mark, held_byte, IsJoinable}
 use Rattle.nb_reasm.specs.declared.ring.Ring.{Ring}
 use Rattle.nb_reasm.proofs.SlotLemmas.{slot_after, slot_around, slots_same}
 use Rattle.nb_reasm.proofs.SpotLemmas.{held_below, held_front, held_free, held_above}
@@ -54,7 +54,7 @@ appends_kept r s bytes n a p l = either (nat_lt p r.base)
     around : r.base ≤ p → wrapped_slot (capacity r) (slot_of r (r.next - r.base) + ((capacity r - (r.next - r.base)) + (p - r.base))) ≡ slot_of r (p - r.base)
     around h = slot_around (capacity r) r.start (r.next - r.base) (p - r.base) a.joinable.start (omega (arith, h, l)) (omega (arith, a.joinable.to, a.joinable.from))
 
-    same : r.base ≤ p → byte_of s p ≡ byte_of r p
+    same : r.base ≤ p → ring_byte s p ≡ ring_byte r p
     same h =
         ap (λ (i : ℕ). get_or s.bytes.items i 0) (slots_same r s a.start a.base a.size p ∙ sym (around h))
         ∙ a.kept ((capacity r - (r.next - r.base)) + (p - r.base)) (omega (arith, a.fits, a.joinable.from, h)) (omega (arith, h, l, a.joinable.to, a.joinable.from))
@@ -71,7 +71,7 @@ appends_free r s bytes n a p h = either (nat_lt p (r.base + capacity r))
     (λ t. held_free s p (omega (arith, h, a.next)) (mark (ltb-true p (r.base + capacity r) t)))
     (λ f. held_above s p (omega (arith, h, a.next)) (omega (arith, ltb-false p (r.base + capacity r) f, a.base, a.size)))
   where
-    mark : p < r.base + capacity r → mark_of s p ≡ 0
+    mark : p < r.base + capacity r → ring_mark s p ≡ 0
     mark l =
         ap (λ (i : ℕ). slot_mark s.marks.words.items i) (slots_same r s a.start a.base a.size p)
         ∙ ap (λ (w : List ℕ). slot_mark w (slot_of r (p - r.base))) a.words

@@ -3,7 +3,7 @@ use Rattle.std.proofs.Common.{◌≡◌, ℕ, ◌+◌, ◌-◌, ◌<◌, ◌≤�
 use Rattle.std.proofs.lemmas.Bool.{ltb-true, ltb-false}
 use Rattle.std.proofs.lemmas.Bool.Decides.{nat_tests}
 use Rattle.nb_streams.proofs.StreamLaws.{either}
-use Rattle.nb_reasm.specs.Rings.{capacity, slot_of, byte_of, mark_of, is_held, held_byte, is_open_place, byte_put, IsJoinable}
+use Rattle.nb_reasm.specs.Rings.{capacity, slot_of, ring_byte, ring_mark, is_held, held_byte, is_open_place, byte_put, IsJoinable}
 use Rattle.nb_reasm.specs.declared.ring.Ring.{Ring}
 use Rattle.nb_reasm.proofs.MarkLemmas.{mark_bit}
 
@@ -25,40 +25,40 @@ test_free base next top mark p h m = grind (arith, nat_tests)
 test_above : (base next top mark p : ℕ) → next ≤ p → top ≤ p → test base next top mark p ≡ false
 test_above base next top mark p h l = grind (arith, nat_tests)
 
-held_if : (r : Ring) (p : ℕ) (b : Bool) → is_held r p ≡ b → held_byte r p ≡ cond b (Some (byte_of r p)) None
+held_if : (r : Ring) (p : ℕ) (b : Bool) → is_held r p ≡ b → held_byte r p ≡ cond b (Some (ring_byte r p)) None
 unfolding held_byte
-held_if r p b e = ap (λ (t : Bool). cond t (Some (byte_of r p)) None) e
+held_if r p b e = ap (λ (t : Bool). cond t (Some (ring_byte r p)) None) e
 
 pub held_below : (r : Ring) (p : ℕ) → p < r.base → held_byte r p ≡ None
-held_below r p h = held_if r p false (test_below r.base r.next (r.base + capacity r) (mark_of r p) p h)
+held_below r p h = held_if r p false (test_below r.base r.next (r.base + capacity r) (ring_mark r p) p h)
 
-pub held_front : (r : Ring) (p : ℕ) → r.base ≤ p → p < r.next → held_byte r p ≡ Some (byte_of r p)
-held_front r p h l = held_if r p true (test_front r.base r.next (r.base + capacity r) (mark_of r p) p h l)
+pub held_front : (r : Ring) (p : ℕ) → r.base ≤ p → p < r.next → held_byte r p ≡ Some (ring_byte r p)
+held_front r p h l = held_if r p true (test_front r.base r.next (r.base + capacity r) (ring_mark r p) p h l)
 
-pub held_marked : (r : Ring) (p : ℕ) → r.base ≤ p → p < r.base + capacity r → mark_of r p ≡ 1 → held_byte r p ≡ Some (byte_of r p)
-held_marked r p h l m = held_if r p true (test_marked r.base r.next (r.base + capacity r) (mark_of r p) p h l m)
+pub held_marked : (r : Ring) (p : ℕ) → r.base ≤ p → p < r.base + capacity r → ring_mark r p ≡ 1 → held_byte r p ≡ Some (ring_byte r p)
+held_marked r p h l m = held_if r p true (test_marked r.base r.next (r.base + capacity r) (ring_mark r p) p h l m)
 
-pub held_free : (r : Ring) (p : ℕ) → r.next ≤ p → mark_of r p ≡ 0 → held_byte r p ≡ None
-held_free r p h m = held_if r p false (test_free r.base r.next (r.base + capacity r) (mark_of r p) p h m)
+pub held_free : (r : Ring) (p : ℕ) → r.next ≤ p → ring_mark r p ≡ 0 → held_byte r p ≡ None
+held_free r p h m = held_if r p false (test_free r.base r.next (r.base + capacity r) (ring_mark r p) p h m)
 
 pub held_above : (r : Ring) (p : ℕ) → r.next ≤ p → r.base + capacity r ≤ p → held_byte r p ≡ None
-held_above r p h l = held_if r p false (test_above r.base r.next (r.base + capacity r) (mark_of r p) p h l)
+held_above r p h l = held_if r p false (test_above r.base r.next (r.base + capacity r) (ring_mark r p) p h l)
 
 -- where a place lies
 pub data Spot (r : Ring) (p : ℕ) : Type 0 where
   is_below : p < r.base → Spot r p
   is_front : r.base ≤ p → p < r.next → Spot r p
-  is_marked : r.base ≤ p → r.next ≤ p → p < r.base + capacity r → mark_of r p ≡ 1 → Spot r p
-  is_unmarked : r.base ≤ p → r.next ≤ p → p < r.base + capacity r → mark_of r p ≡ 0 → Spot r p
+  is_marked : r.base ≤ p → r.next ≤ p → p < r.base + capacity r → ring_mark r p ≡ 1 → Spot r p
+  is_unmarked : r.base ≤ p → r.next ≤ p → p < r.base + capacity r → ring_mark r p ≡ 0 → Spot r p
   is_above : r.base ≤ p → r.next ≤ p → r.base + capacity r ≤ p → Spot r p
 
 pub spot : (r : Ring) (p : ℕ) → Spot r p
 spot r p = either (nat_lt p r.base) (λ t. is_below (ltb-true p r.base t)) (λ b.
     either (nat_lt p r.next) (λ t. is_front (ltb-false p r.base b) (ltb-true p r.next t)) (λ n.
     either (nat_lt p (r.base + capacity r)) (λ t.
-    either (mark_of r p == 0)
-    (λ z. is_unmarked (ltb-false p r.base b) (ltb-false p r.next n) (ltb-true p (r.base + capacity r) t) (zero_mark (mark_of r p) z))
-    (λ o. is_marked (ltb-false p r.base b) (ltb-false p r.next n) (ltb-true p (r.base + capacity r) t) (one_mark (mark_of r p) o (mark_bit r.marks.words.items (slot_of r (p - r.base))))))
+    either (ring_mark r p == 0)
+    (λ z. is_unmarked (ltb-false p r.base b) (ltb-false p r.next n) (ltb-true p (r.base + capacity r) t) (zero_mark (ring_mark r p) z))
+    (λ o. is_marked (ltb-false p r.base b) (ltb-false p r.next n) (ltb-true p (r.base + capacity r) t) (one_mark (ring_mark r p) o (mark_bit r.marks.words.items (slot_of r (p - r.base))))))
     (λ f. is_above (ltb-false p r.base b) (ltb-false p r.next n) (ltb-false p (r.base + capacity r) f))))
   where
     zero_mark : (m : ℕ) → (m == 0) ≡ true → m ≡ 0
@@ -69,9 +69,9 @@ spot r p = either (nat_lt p r.base) (λ t. is_below (ltb-true p r.base t)) (λ b
 
 -- The same window, a run that reached over marked places, and the same bytes and later marks: the same is held.
 pub held_kept : (r s : Ring) → s.base ≡ r.base → capacity s ≡ capacity r → r.base ≤ r.next → r.next ≤ s.next → s.next ≤ r.base + capacity r → (p : ℕ)
-    → (r.base ≤ p → p < r.base + capacity r → byte_of s p ≡ byte_of r p)
-    → (s.next ≤ p → p < r.base + capacity r → mark_of s p ≡ mark_of r p)
-    → (r.next ≤ p → p < s.next → mark_of r p ≡ 1)
+    → (r.base ≤ p → p < r.base + capacity r → ring_byte s p ≡ ring_byte r p)
+    → (s.next ≤ p → p < r.base + capacity r → ring_mark s p ≡ ring_mark r p)
+    → (r.next ≤ p → p < s.next → ring_mark r p ≡ 1)
     → held_byte s p ≡ held_byte r p
 held_kept r s base size from grown to p bytes marks joined = elim (spot s p) [
   | is_below l ↦ held_below s p l ∙ sym (held_below r p (omega (arith, l, base)))
@@ -87,8 +87,8 @@ open_test : (base top p : ℕ) (held : Bool) → base ≤ p → p < top → held
 open_test base top p held h l f = grind (arith, nat_tests)
 
 -- an unmarked place of the window is open; no other is
-pub open_unmarked : (r : Ring) (p : ℕ) → r.base ≤ p → r.next ≤ p → p < r.base + capacity r → mark_of r p ≡ 0 → is_open_place r p ≡ true
-open_unmarked r p h n l m = open_test r.base (r.base + capacity r) p (is_held r p) h l (test_free r.base r.next (r.base + capacity r) (mark_of r p) p n m)
+pub open_unmarked : (r : Ring) (p : ℕ) → r.base ≤ p → r.next ≤ p → p < r.base + capacity r → ring_mark r p ≡ 0 → is_open_place r p ≡ true
+open_unmarked r p h n l m = open_test r.base (r.base + capacity r) p (is_held r p) h l (test_free r.base r.next (r.base + capacity r) (ring_mark r p) p n m)
 
 closed_test : (base top p : ℕ) (held : Bool) → held ≡ true → nat_le base p && (nat_lt p top && not held) ≡ false
 closed_test base top p held t = grind (arith, nat_tests)
@@ -96,7 +96,7 @@ closed_test base top p held t = grind (arith, nat_tests)
 pub closed_front : (r : Ring) (p : ℕ) → IsJoinable r → p < r.next → is_open_place r p ≡ false
 closed_front r p is l = either (nat_lt p r.base)
     (λ t. below r.base (r.base + capacity r) p (is_held r p) (ltb-true p r.base t))
-    (λ f. closed_test r.base (r.base + capacity r) p (is_held r p) (test_front r.base r.next (r.base + capacity r) (mark_of r p) p (ltb-false p r.base f) l))
+    (λ f. closed_test r.base (r.base + capacity r) p (is_held r p) (test_front r.base r.next (r.base + capacity r) (ring_mark r p) p (ltb-false p r.base f) l))
   where
     below : (base top p : ℕ) (held : Bool) → p < base → nat_le base p && (nat_lt p top && not held) ≡ false
     below base top p held h = grind (arith, nat_tests)
@@ -107,8 +107,8 @@ closed_above r p l = above r.base (r.base + capacity r) p (is_held r p) l
     above : (base top p : ℕ) (held : Bool) → top ≤ p → nat_le base p && (nat_lt p top && not held) ≡ false
     above base top p held h = grind (arith, nat_tests)
 
-pub closed_marked : (r : Ring) (p : ℕ) → r.base ≤ p → p < r.base + capacity r → mark_of r p ≡ 1 → is_open_place r p ≡ false
-closed_marked r p h l m = closed_test r.base (r.base + capacity r) p (is_held r p) (test_marked r.base r.next (r.base + capacity r) (mark_of r p) p h l m)
+pub closed_marked : (r : Ring) (p : ℕ) → r.base ≤ p → p < r.base + capacity r → ring_mark r p ≡ 1 → is_open_place r p ≡ false
+closed_marked r p h l m = closed_test r.base (r.base + capacity r) p (is_held r p) (test_marked r.base r.next (r.base + capacity r) (ring_mark r p) p h l m)
 
 -- what is held once a byte was put
 pub put_closed : (r : Ring) (place byte p : ℕ) → is_open_place r place ≡ false → byte_put r place byte p ≡ held_byte r p

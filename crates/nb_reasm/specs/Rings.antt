@@ -11,18 +11,18 @@ abbrev pub slot_of : Ring → ℕ → ℕ
 slot_of r offset = wrapped_slot (capacity r) (r.start + offset)
 
 -- the slot's byte and mark, by the place in the window
-abbrev pub byte_of : Ring → ℕ → ℕ
-byte_of r p = slice_index r.bytes.items (slot_of r (p - r.base))
+abbrev pub ring_byte : Ring → ℕ → ℕ
+ring_byte r p = slice_index r.bytes.items (slot_of r (p - r.base))
 
-abbrev pub mark_of : Ring → ℕ → ℕ
-mark_of r p = slot_mark r.marks.words.items (slot_of r (p - r.base))
+abbrev pub ring_mark : Ring → ℕ → ℕ
+ring_mark r p = slot_mark r.marks.words.items (slot_of r (p - r.base))
 
 abbrev pub is_held : Ring → ℕ → Bool
-is_held r p = nat_le r.base p && (nat_lt p r.next || (nat_lt p (r.base + capacity r) && (mark_of r p == 1)))
+is_held r p = nat_le r.base p && (nat_lt p r.next || (nat_lt p (r.base + capacity r) && (ring_mark r p == 1)))
 
 -- the byte that is held at a place, if one is
 unfoldable pub held_byte : Ring → ℕ → Option ℕ
-held_byte r p = if is_held r p then Some (byte_of r p) else None
+held_byte r p = if is_held r p then Some (ring_byte r p) else None
 
 -- a ring, maybe with a mark at the first place after the run; marks stand at later places, below the end
 pub record IsJoinable (r : Ring) : Type 0 where
@@ -34,13 +34,13 @@ pub record IsJoinable (r : Ring) : Type 0 where
   pub small : r.next < 2 ^ 31
   pub end_small : r.end < 2 ^ 31
   pub words : capacity r ≤ 64 * vec_len r.marks.words
-  pub front : (p : ℕ) → r.base ≤ p → p < r.next → mark_of r p ≡ 0
-  pub rest : (p : ℕ) → r.base ≤ p → p < r.base + capacity r → r.end ≤ p → mark_of r p ≡ 0
+  pub front : (p : ℕ) → r.base ≤ p → p < r.next → ring_mark r p ≡ 0
+  pub rest : (p : ℕ) → r.base ≤ p → p < r.base + capacity r → r.end ≤ p → ring_mark r p ≡ 0
 
 -- a ring, whose first place after the run holds nothing
 pub record IsRing (r : Ring) : Type 0 where
   pub joinable : IsJoinable r
-  pub here : r.next < r.base + capacity r → mark_of r r.next ≡ 0
+  pub here : r.next < r.base + capacity r → ring_mark r r.next ≡ 0
 
 abbrev pub SameWindow : Ring → Ring → Type 0
 SameWindow r s = (s.base ≡ r.base) × (capacity s ≡ capacity r)

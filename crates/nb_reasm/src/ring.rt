@@ -2,7 +2,7 @@
 
 ghost use Rattle.std.specs.Prelude.{◌≡◌, ℕ, Option, Some, None, ◌+◌, ◌-◌, ◌^◌, ◌<◌, ◌≤◌, ◌==◌, min, length, slice_index, IfOk};
 ghost use Rattle.std.specs.Option.{option_or};
-ghost use Rattle.nb_reasm.specs.Rings.{IsRing, IsJoinable, SameWindow, capacity, slot_of, held_byte, mark_of, byte_put, is_open_place};
+ghost use Rattle.nb_reasm.specs.Rings.{IsRing, IsJoinable, SameWindow, capacity, slot_of, held_byte, ring_mark, byte_put, is_open_place};
 ghost use Rattle.nb_reasm.specs.Windows.{window_of, window_byte, new_count};
 
 use crate::marks::Marks;

@@ -9,7 +9,7 @@ use Rattle.nb_defs.proofs.StartLaws.{fields, start_body-is, start_text-is, lengt
 use Rattle.nb_defs.proofs.RecordLaws.{type_of, body_of, in_text-is, body_fits}
 use Rattle.nb_record.specs.declared.kind.Kind.{Kind}
 use Rattle.nb_record.specs.declared.kind.Kind.TheVariants as kind
-use Rattle.nb_record.specs.Reading.{lead, length_with, ms_with, number_of, least_length, greatest_length, BodyBeginsAs, BeginsAs, CanBegin}
+use Rattle.nb_record.specs.Reading.{lead, length_with, ms_with, record_type, least_length, greatest_length, BodyBeginsAs, BeginsAs, CanBegin}
 
 -- ---- a front of what can begin can begin
 
@@ -66,7 +66,7 @@ pub begins_front : (k : Kind) (a b : List ℕ) → LeadFits (a ++ b) → BodyFit
 begins_front k a b h g p = record {
   least = omega (arith, least_front a b, p.least);
   greatest = omega (arith, greatest_front a b h, p.greatest);
-  number = default_front a b 4 (number_of k) p.number;
+  number = default_front a b 4 (record_type k) p.number;
   body = body_front k a b g p.body;
 }
 
@@ -79,7 +79,7 @@ kind_of (frame bytes) = kind.Frame
 kind_of (tick ms) = kind.Tick
 kind_of off = kind.Off
 
-type-is : (r : In) → type_of r ≡ number_of (kind_of r)
+type-is : (r : In) → type_of r ≡ record_type (kind_of r)
 type-is (start s) = refl
 type-is (frame bytes) = refl
 type-is (tick ms) = refl
@@ -102,8 +102,8 @@ text_fits (frame bytes) rest = tt
 text_fits (tick ms) rest = (omega arith, omega arith)
 text_fits off rest = tt
 
-number-in_text : (r : In) (rest : List ℕ) → get_or (in_text r ++ rest) 4 (number_of (kind_of r)) ≡ number_of (kind_of r)
-number-in_text r rest = ap (λ (x : List ℕ). get_or (x ++ rest) 4 (number_of (kind_of r))) (in_text-is r) ∙ type-is r
+number-in_text : (r : In) (rest : List ℕ) → get_or (in_text r ++ rest) 4 (record_type (kind_of r)) ≡ record_type (kind_of r)
+number-in_text r rest = ap (λ (x : List ℕ). get_or (x ++ rest) 4 (record_type (kind_of r))) (in_text-is r) ∙ type-is r
 
 -- a record's length is one of its kind
 length_in : (r : In) → IsIn r → (least_length (kind_of r) ≤ length (body_of r) + 1) × (length (body_of r) + 1 ≤ greatest_length (kind_of r))

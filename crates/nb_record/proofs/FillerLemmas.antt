@@ -4,7 +4,7 @@ use Rattle.std.proofs.lemmas.Bool.{cases_lt}
 use Rattle.std.proofs.lemmas.List.{length-replicate, get_or-drop, get_or_past, get_or_append_left, get_or-append_right, get_or-replicate}
 use Rattle.nb_record.specs.declared.kind.Kind.{Kind}
 use Rattle.nb_record.specs.declared.kind.Kind.TheVariants as kind
-use Rattle.nb_record.specs.Reading.{ms_with, number_of, least_length, greatest_length, BodyBeginsAs}
+use Rattle.nb_record.specs.Reading.{ms_with, record_type, least_length, greatest_length, BodyBeginsAs}
 use Rattle.nb_record.proofs.KnownLemmas.{IsBytes}
 
 zeros : ℕ → List ℕ
@@ -54,9 +54,9 @@ length-body_filler kind.Off n low high = omega arith
 
 -- a record of a kind and a length, with nothing in it
 pub filler : Kind → ℕ → List ℕ
-filler k n = 0 ∷ 0 ∷ 0 ∷ 0 ∷ number_of k ∷ body_filler k n
+filler k n = 0 ∷ 0 ∷ 0 ∷ 0 ∷ record_type k ∷ body_filler k n
 
-number_fits : (k : Kind) → number_of k < 256
+number_fits : (k : Kind) → record_type k < 256
 number_fits kind.Start = lit< tt
 number_fits kind.Frame = lit< tt
 number_fits kind.Tick = lit< tt
@@ -69,14 +69,14 @@ four_fits a b c d xs fa fb fc fd fits =
 pub filler_fits : (k : Kind) (n : ℕ) → IsBytes (filler k n)
 unfolding filler
 filler_fits k n =
-    four_fits 0 0 0 0 (number_of k ∷ body_filler k n) (lit< tt) (lit< tt) (lit< tt) (lit< tt)
-    (cons_fits (number_of k) (body_filler k n) (number_fits k) (body_filler_fits k n))
+    four_fits 0 0 0 0 (record_type k ∷ body_filler k n) (lit< tt) (lit< tt) (lit< tt) (lit< tt)
+    (cons_fits (record_type k) (body_filler k n) (number_fits k) (body_filler_fits k n))
 
 pub length-filler : (k : Kind) (n : ℕ) → least_length k ≤ n → n ≤ greatest_length k → length (filler k n) ≡ 4 + n
 unfolding filler
 length-filler k n low high = omega (arith, length-body_filler k n low high)
 
-pub filler-4 : (k : Kind) (n : ℕ) → get_or (filler k n) 4 (number_of k) ≡ number_of k
+pub filler-4 : (k : Kind) (n : ℕ) → get_or (filler k n) 4 (record_type k) ≡ record_type k
 unfolding filler
 filler-4 k n = refl
 

@@ -6,7 +6,7 @@ use Rattle.std.proofs.lemmas.Bool.{cases_lt}
 use Rattle.std.proofs.lemmas.List.{length-append, length-take, take-append-le, get_or-drop, get_or-take, get_or_past, get_or_default, get_or_append_left}
 use Rattle.nb_record.specs.declared.kind.Kind.{Kind}
 use Rattle.nb_record.specs.declared.kind.Kind.TheVariants as kind
-use Rattle.nb_record.specs.Reading.{lead, length_with, ms_with, number_of, least_length, greatest_length, BodyBeginsAs, BeginsAs}
+use Rattle.nb_record.specs.Reading.{lead, length_with, ms_with, record_type, least_length, greatest_length, BodyBeginsAs, BeginsAs}
 use Rattle.nb_record.proofs.BeginLemmas.{LeadFits, BodyFits}
 
 abbrev pub IsBytes : List ℕ → Type 0
@@ -93,6 +93,6 @@ begins_behind k a b h p =
     record {
       least = omega (arith, length_front 0 a b (omega arith), p.least);
       greatest = omega (arith, length_front 255 a b (omega arith), p.greatest);
-      number = sym (here a b 4 (number_of k) (omega (arith, some))) ∙ p.number;
+      number = sym (here a b 4 (record_type k) (omega (arith, some))) ∙ p.number;
       body = body_behind k a b h p.body;
     }

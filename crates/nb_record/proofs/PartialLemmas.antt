@@ -6,7 +6,7 @@ use Rattle.nb_defs.specs.Records.{IsPartial}
 use Rattle.nb_defs.proofs.RecordLaws.{in_by, partial_front, nothing_partial}
 use Rattle.nb_record.specs.declared.kind.Kind.{Kind}
 use Rattle.nb_record.specs.declared.kind.Kind.TheVariants as kind
-use Rattle.nb_record.specs.Reading.{length_with, ms_with, number_of, least_length, greatest_length, BodyBeginsAs, BeginsAs, whole_len}
+use Rattle.nb_record.specs.Reading.{length_with, ms_with, record_type, least_length, greatest_length, BodyBeginsAs, BeginsAs, whole_len}
 use Rattle.nb_record.proofs.KnownLemmas.{IsBytes, length_known, length_front, lengths}
 use Rattle.nb_record.proofs.FillerLemmas.{none_fits, four_fits, filler, filler_fits, length-filler, filler-4, at_filled, body_filled}
 use Rattle.nb_record.proofs.WholeLemmas.{IsWhole, whole_valid, whole_spelled}
@@ -42,7 +42,7 @@ filled_whole k bytes p =
       begins = record {
         least = omega (arith, same, p.begins.least);
         greatest = omega (arith, known, big);
-        number = at_filled bytes f 4 (number_of k) (λ (x : ℕ). x ≡ number_of k) p.begins.number (filler-4 k n);
+        number = at_filled bytes f 4 (record_type k) (λ (x : ℕ). x ≡ record_type k) p.begins.number (filler-4 k n);
         body = body_filled k bytes n big p.begins.least p.short p.begins.body;
       };
       fits = λ i. at_filled bytes f i 0 (λ (x : ℕ). x < 256) (p.fits i) (filler_fits k n i);
@@ -55,7 +55,7 @@ front_partial k bytes p =
     let w = filled_whole k bytes p in
     let added = drop (length bytes) (filler k (length_with 0 bytes)) in
     record {
-      becomes = in_by (number_of k) (filled k bytes);
+      becomes = in_by (record_type k) (filled k bytes);
       valid = whole_valid k (filled k bytes) w;
       more = added;
       whole = whole_spelled k (filled k bytes) w;

@@ -7,7 +7,7 @@ use Rattle.nb_defs.specs.Records.{In, IsIn, IsTick, in_text}
 use Rattle.nb_defs.proofs.RecordLaws.{type_of, body_of, in_text-is, in_by}
 use Rattle.nb_record.specs.declared.kind.Kind.{Kind}
 use Rattle.nb_record.specs.declared.kind.Kind.TheVariants as kind
-use Rattle.nb_record.specs.Reading.{length_with, ms_with, number_of, least_length, greatest_length, BodyBeginsAs, BeginsAs, whole_len}
+use Rattle.nb_record.specs.Reading.{length_with, ms_with, record_type, least_length, greatest_length, BodyBeginsAs, BeginsAs, whole_len}
 use Rattle.nb_record.specs.Held.{IsFront}
 use Rattle.nb_record.proofs.BeginLemmas.{begins_front, LeadFits, BodyFits}
 use Rattle.nb_record.proofs.KnownLemmas.{IsBytes, IsBytes-take, IsBytes-lead, IsBytes-body, lead-take, length_known, length_front, lengths}
@@ -44,17 +44,17 @@ tick-body bytes fits h =
 -- ---- a record of any kind
 
 valid_by : (k : Kind) (bytes : List ℕ) → IsBytes bytes → 4 + least_length k ≤ length bytes → length bytes ≤ 4 + greatest_length k
-    → BodyBeginsAs k bytes → IsIn (in_by (number_of k) bytes)
+    → BodyBeginsAs k bytes → IsIn (in_by (record_type k) bytes)
 unfolding in_by
 valid_by kind.Start bytes fits low high p = start_at-valid bytes fits low high p.1
 valid_by kind.Frame bytes fits low high p = record { least = omega (arith, length-drop 5 bytes); most = omega (arith, length-drop 5 bytes) }
 valid_by kind.Tick bytes fits low high p = tick-valid bytes low p
 valid_by kind.Off bytes fits low high p = tt
 
-pub whole_valid : (k : Kind) (bytes : List ℕ) → IsWhole k bytes → IsIn (in_by (number_of k) bytes)
+pub whole_valid : (k : Kind) (bytes : List ℕ) → IsWhole k bytes → IsIn (in_by (record_type k) bytes)
 whole_valid k bytes p = let b = whole_bounds k bytes p in valid_by k bytes p.fits b.0 b.1 p.begins.body
 
-type_by : (k : Kind) (bytes : List ℕ) → type_of (in_by (number_of k) bytes) ≡ number_of k
+type_by : (k : Kind) (bytes : List ℕ) → type_of (in_by (record_type k) bytes) ≡ record_type k
 unfolding in_by
 type_by kind.Start bytes = refl
 type_by kind.Frame bytes = refl
@@ -62,7 +62,7 @@ type_by kind.Tick bytes = refl
 type_by kind.Off bytes = refl
 
 body_by : (k : Kind) (bytes : List ℕ) → IsBytes bytes → 4 + least_length k ≤ length bytes → length bytes ≤ 4 + greatest_length k
-    → BodyBeginsAs k bytes → body_of (in_by (number_of k) bytes) ≡ drop 5 bytes
+    → BodyBeginsAs k bytes → body_of (in_by (record_type k) bytes) ≡ drop 5 bytes
 unfolding in_by
 body_by kind.Start bytes fits low high p = start_body-at bytes fits low p.0
 body_by kind.Frame bytes fits low high p = refl
@@ -70,15 +70,15 @@ body_by kind.Tick bytes fits low high p = tick-body bytes fits (omega arith)
 body_by kind.Off bytes fits low high p = sym (drop_all 5 bytes high)
 
 -- what is whole is spelled so
-pub whole_spelled : (k : Kind) (bytes : List ℕ) → IsWhole k bytes → bytes ≡ in_text (in_by (number_of k) bytes)
+pub whole_spelled : (k : Kind) (bytes : List ℕ) → IsWhole k bytes → bytes ≡ in_text (in_by (record_type k) bytes)
 unfolding length_with
 whole_spelled k bytes p =
     let b = whole_bounds k bytes p in
     let some = (lengths k).some in
-    let r = in_by (number_of k) bytes in
+    let r = in_by (record_type k) bytes in
     let body : body_of r ≡ drop 5 bytes = body_by k bytes p.fits b.0 b.1 p.begins.body in
     let four : drop 4 bytes ≡ type_of r ∷ body_of r =
-    drop_more bytes 4 (number_of k) (omega (arith, b.0, some))
+    drop_more bytes 4 (record_type k) (omega (arith, b.0, some))
     ∙ ap (λ (x : ℕ). x ∷ drop 5 bytes) (p.begins.number ∙ sym (type_by k bytes))
     ∙ ap (λ (x : List ℕ). type_of r ∷ x) (sym body) in
     let count : length (body_of r) + 1 ≡ length_with 0 bytes = omega (arith, ap length body, length-drop 5 bytes, p.len, b.0, some) in
@@ -114,7 +114,7 @@ front_long k bytes len begins e long =
 
 -- a whole record stands at the front
 pub front_is : (k : Kind) (bytes : List ℕ) (r : In) (len : ℕ) → BeginsAs k bytes → IsBytes bytes → len ≡ whole_len bytes → len ≤ length bytes
-    → r ≡ in_by (number_of k) (take len bytes) → IsFront bytes r len
+    → r ≡ in_by (record_type k) (take len bytes) → IsFront bytes r len
 front_is k bytes r len begins fits e long is =
     let w : IsWhole k (take len bytes) = subst (λ (n : ℕ). IsWhole k (take n bytes)) (sym e) (whole_front k bytes begins fits (omega (arith, e, long))) in
     let text : take len bytes ≡ in_text r = whole_spelled k (take len bytes) w ∙ ap (λ (r : In). in_text r) (sym is) in

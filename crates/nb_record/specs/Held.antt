@@ -25,7 +25,7 @@ pub record IsFront (bytes : List ℕ) (r : In) (len : ℕ) : Type 0 where
   pub length_is : len ≡ length (in_text r)
 
 -- what stands at the front of what is held
-abbrev pub Shows : Held → Front → Type 0
-Shows held (front.Whole r len) = IsFront held.bytes (in_of r) len
-Shows held front.Partial = IsPartial held.bytes
-Shows held (front.Broken bad) = (bad.at ≡ held.passed) × BreaksAt held.bytes bad.why
+abbrev pub ShowsFront : Held → Front → Type 0
+ShowsFront held (front.Whole r len) = IsFront held.bytes (in_of r) len
+ShowsFront held front.Partial = IsPartial held.bytes
+ShowsFront held (front.Broken bad) = (bad.at ≡ held.passed) × BreaksAt held.bytes bad.why

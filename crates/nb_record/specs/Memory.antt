@@ -11,8 +11,8 @@ abbrev pub write_fails : List ℕ → ℕ → ℕ → ℕ → Bool
 write_fails numbers call len room = fails numbers call || (nat_lt 0 len && (room == 0))
 
 -- how many bytes the read of this number may give: as many as it likes where no cut is given, or 0
-abbrev pub cut_at : List ℕ → ℕ → ℕ → ℕ
-cut_at cuts number most = if slice_index cuts number == 0 then most else min (slice_index cuts number) most
+abbrev pub cut_of_read : List ℕ → ℕ → ℕ → ℕ
+cut_of_read cuts number most = if slice_index cuts number == 0 then most else min (slice_index cuts number) most
 
 -- the output where it is told
 abbrev pub told : Bool → List ℕ → Option (List ℕ)

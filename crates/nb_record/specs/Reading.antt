@@ -6,11 +6,11 @@ use Rattle.nb_record.specs.declared.kind.Kind.{Kind}
 use Rattle.nb_record.specs.declared.kind.Kind.TheVariants as kind
 
 -- the type byte of a kind
-abbrev pub number_of : Kind → ℕ
-number_of kind.Start = 1
-number_of kind.Frame = 2
-number_of kind.Tick = 3
-number_of kind.Off = 4
+abbrev pub record_type : Kind → ℕ
+record_type kind.Start = 1
+record_type kind.Frame = 2
+record_type kind.Tick = 3
+record_type kind.Off = 4
 
 -- the least length of a record of a kind, which counts its type and its body
 abbrev pub least_length : Kind → ℕ
@@ -51,7 +51,7 @@ BodyBeginsAs kind.Off bytes = Unit {0}
 pub record BeginsAs (k : Kind) (bytes : List ℕ) : Type 0 where
   pub least : length_with 0 bytes ≤ greatest_length k
   pub greatest : least_length k ≤ length_with 255 bytes
-  pub number : slice_index_or bytes 4 (number_of k) ≡ number_of k
+  pub number : slice_index_or bytes 4 (record_type k) ≡ record_type k
   pub body : BodyBeginsAs k bytes
 
 -- a record of some kind can still begin with these bytes

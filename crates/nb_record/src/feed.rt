@@ -1,6 +1,6 @@
 ghost use Rattle.std.specs.Prelude.{◌≡◌, ◌+◌, ◌-◌, ◌^◌, ◌<◌, ◌≤◌, [], ◌++◌, ◌==◌, length, take, drop, min, IfOk, OnErr, vec_len};
 ghost use Rattle.nb_defs.specs.Records.{IsPartial};
-ghost use Rattle.nb_record.specs.Held.{Shows};
+ghost use Rattle.nb_record.specs.Held.{ShowsFront};
 ghost use Rattle.nb_record.specs.Bytes.{TakesIn};
 ghost use Rattle.nb_record.specs.Outside.{Reads, Rose, IsAtEnd};
 
@@ -133,7 +133,7 @@ impl Feed {
 
     /// What stands at the front. It stays there until it is passed.
     pub fn front(&self) -> Front<'_>
-        ensures { Shows self.now result }
+        ensures { ShowsFront self.now result }
     {
         front_of(&self.bytes.as_slice()[self.start..self.end], self.passed)
     }

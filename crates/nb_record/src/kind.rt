@@ -1,5 +1,5 @@
 ghost use Rattle.std.specs.Prelude.{◌≡◌};
-ghost use Rattle.nb_record.specs.Reading.{number_of, least_length, greatest_length};
+ghost use Rattle.nb_record.specs.Reading.{record_type, least_length, greatest_length};
 
 /// The kinds of input records.
 #[derive(Clone, Copy, Debug)]
@@ -13,7 +13,7 @@ pub enum Kind {
 impl Kind {
     /// The type byte.
     pub fn number(self) -> u8
-        ensures { result ≡ number_of self }
+        ensures { result ≡ record_type self }
     {
         match self {
             Kind::Start => 1,

@@ -1,6 +1,6 @@
 ghost use Rattle.std.specs.Prelude.{◌≡◌, ◌+◌, ◌-◌, ◌^◌, ◌<◌, ◌≤◌, ◌∷◌, [], length, take, drop, min, true, false, Some, vec_len, vec_capacity, slice_index, IfOk, OnOk, OnErr, IsOk, is_err};
 ghost use Rattle.nb_record.specs.Outside.{Attaches, Reads, Writes, IsAtEnd, Rose};
-ghost use Rattle.nb_record.specs.Memory.{fails, write_fails, cut_at};
+ghost use Rattle.nb_record.specs.Memory.{fails, write_fails, cut_of_read};
 
 use crate::memory::{copy_front, cut_len};
 use crate::{Failed, Line, Target};
@@ -109,7 +109,7 @@ impl Line for MemLine {
         ensures failed { OnErr result (Reads (mem_outside self.old) (mem_outside self.new) []
             × Rose (mem_outside self.old).read_faults (mem_outside self.new).read_faults) }
         ensures exactly { is_err result ≡ fails self.old.fail.items self.old.calls }
-        ensures cut { IfOk result (λ n. n ≡ cut_at self.old.cuts.items self.old.reads (min (length buf.old) (vec_len self.old.input - self.old.at))) }
+        ensures cut { IfOk result (λ n. n ≡ cut_of_read self.old.cuts.items self.old.reads (min (length buf.old) (vec_len self.old.input - self.old.at))) }
         ensures called { IsCalled self.old self.new × (self.new.reads ≡ min (self.old.reads + 1) (2 ^ 64 - 1)) }
     {
         let number = self.reads;

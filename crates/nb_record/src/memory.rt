@@ -1,10 +1,10 @@
 ghost use Rattle.std.specs.Prelude.{◌≡◌, ◌-◌, ◌<◌, ◌≤◌, length, take, drop, min};
-ghost use Rattle.nb_record.specs.Memory.{cut_at};
+ghost use Rattle.nb_record.specs.Memory.{cut_of_read};
 
 /// How many bytes a read gives of at most `most`: the read of this number, from 0, gives at most its cut,
 /// where one is given that isn't 0.
 pub fn cut_len(cuts: &[usize], number: u64, most: usize) -> usize
-    ensures value { result ≡ cut_at cuts.now number most }
+    ensures value { result ≡ cut_of_read cuts.now number most }
     ensures within { result ≤ most }
     ensures some { 0 < most → 0 < result }
 {

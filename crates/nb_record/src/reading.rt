@@ -2,8 +2,8 @@ ghost use Rattle.std.specs.Prelude.{◌≡◌, ◌+◌, ◌<◌, ◌≤◌, ◌�
 ghost use Rattle.nb_defs.proofs.StartLaws.{start_at};
 ghost use Rattle.nb_defs.proofs.RecordLaws.{in_by};
 ghost use Rattle.nb_record.specs.View.{start_of, in_of};
-ghost use Rattle.nb_record.specs.Reading.{number_of, least_length, length_with, ms_with, BodyBeginsAs, BeginsAs, CanBegin, whole_len};
-ghost use Rattle.nb_record.specs.Held.{BreaksAt, Shows, IsFront, part_of};
+ghost use Rattle.nb_record.specs.Reading.{record_type, least_length, length_with, ms_with, BodyBeginsAs, BeginsAs, CanBegin, whole_len};
+ghost use Rattle.nb_record.specs.Held.{BreaksAt, ShowsFront, IsFront, part_of};
 ghost use Rattle.nb_defs.specs.Records.{frame};
 
 use crate::kind::Kind;
@@ -154,7 +154,7 @@ pub fn start_fields(bytes: &[u8]) -> Start<'_>
 #[tactic(auto, unfolding(nb_defs::proofs::RecordLaws::in_by))]
 fn record_of(kind: Kind, bytes: &[u8]) -> InRec<'_>
     requires { 4 + least_length kind ≤ length bytes.now }
-    ensures { in_of result ≡ in_by (number_of kind) bytes.now }
+    ensures { in_of result ≡ in_by (record_type kind) bytes.now }
 {
     match kind {
         Kind::Start => InRec::Start(StartRecord::of(bytes)),
@@ -193,7 +193,7 @@ fn is_frame_length(len: u32) -> bool
 /// What stands at the front of the bytes, before which this many bytes of whole records were passed.
 /// Nearly all records are frames, so these are looked for first.
 pub fn front_of(bytes: &[u8], passed: u64) -> Front<'_>
-    ensures { Shows (record { bytes = bytes.now; passed = passed }) result }
+    ensures { ShowsFront (record { bytes = bytes.now; passed = passed }) result }
 {
     match frame_at(bytes) {
         Some((frame, len)) => Front::Whole(InRec::Frame(frame), len),
@@ -202,7 +202,7 @@ pub fn front_of(bytes: &[u8], passed: u64) -> Front<'_>
 }
 
 fn any_front_of(bytes: &[u8], passed: u64) -> Front<'_>
-    ensures { Shows (record { bytes = bytes.now; passed = passed }) result }
+    ensures { ShowsFront (record { bytes = bytes.now; passed = passed }) result }
 {
     let Some(kind) = kind_of(bytes) else {
         return Front::Broken(BadRecord {

@@ -1,6 +1,6 @@
 ghost use Rattle.std.specs.Prelude.{◌≡◌, ◌+◌, ◌-◌, ◌^◌, ◌<◌, ◌≤◌, [], length, take, drop, min, true, Some, vec_len, vec_capacity, IfOk, OnErr, IsOk};
 ghost use Rattle.nb_record.specs.Outside.{Attaches, Reads, Writes, IsAtEnd, Rose};
-ghost use Rattle.nb_record.specs.Memory.{cut_at, told};
+ghost use Rattle.nb_record.specs.Memory.{cut_of_read, told};
 
 use crate::memory::{copy_front, cut_len};
 use crate::{Failed, Line, Target};
@@ -80,7 +80,7 @@ impl Line for SureLine {
         ensures failed { OnErr result (Reads (sure_outside self.old) (sure_outside self.new) []
             × Rose (sure_outside self.old).read_faults (sure_outside self.new).read_faults) }
         ensures sure { IsOk result }
-        ensures cut { IfOk result (λ n. n ≡ cut_at self.old.cuts.items self.old.reads (min (length buf.old) (vec_len self.old.input - self.old.at))) }
+        ensures cut { IfOk result (λ n. n ≡ cut_of_read self.old.cuts.items self.old.reads (min (length buf.old) (vec_len self.old.input - self.old.at))) }
         ensures same { IsSame self.old self.new × (self.new.reads ≡ min (self.old.reads + 1) (2 ^ 64 - 1)) }
     {
         let most = buf.len().min(self.input.len() - self.at);

@@ -1,3 +1,10 @@
+pub mod BlockLaws
 pub mod Cases
+pub mod ChunkedLaws
+pub mod Decisions
+pub mod HeadDecisions
 pub mod LineLaws
 pub mod ResponseLaws
+pub mod SizeLines
+pub mod StayLaws
+pub mod TotalLaws

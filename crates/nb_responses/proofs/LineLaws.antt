@@ -1,17 +1,16 @@
 -- A block stays the block whatever follows it.
-use Rattle.std.proofs.Common.{◌≡◌, ◌≤◌, ◌<◌, ℕ, zero, suc, ◌+◌, ◌-◌, ◌==◌, List, [], ◌∷◌, ◌++◌, length, take, drop, Option, Some, None, Bool, true, false, refl, ap, ◌∙◌, sym, subst, arith, eqb, leb, append-nil}
-use Rattle.std.specs.Option.{option_map}
+use Rattle.std.proofs.Common.{◌≡◌, ◌≤◌, ◌<◌, ℕ, zero, suc, ◌+◌, ◌-◌, ◌==◌, List, [], ◌∷◌, ◌++◌, length, take, drop, Some, None, Bool, true, false, refl, ap, ◌∙◌, sym, subst, arith, leb, append-nil}
 use Rattle.std.proofs.lemmas.Bool.{false≢true}
 use Rattle.std.proofs.lemmas.Option.{none-some, same_Some}
-use Rattle.std.proofs.lemmas.List.{take_all, drop_at, length-append, length-take, append_assoc, nil_from_length}
+use Rattle.std.proofs.lemmas.List.{take_all, drop_at, length-append, length-take, append_assoc}
 use Rattle.httparse.specs.Ascii.{line_feed}
-use Rattle.nb_responses.specs.Lines.{FirstLine, with_byte, first_line, is_empty, LineBlock, whole, unfinished, crowded, with_line, block_by, rest_of, first_block, limit, most_lines, Found, found, missing, too_many, too_long, found_by, head_block}
+use Rattle.nb_responses.specs.Lines.{FirstLine, with_line_byte, first_line, is_empty, LineBlock, whole, unfinished, crowded, with_line, first_block, limit, most_lines, Found, found, missing, too_many, too_long, found_by, head_block}
 use Rattle.nb_responses.proofs.Cases.{either, by_option}
 
-abbrev longer : FirstLine → List ℕ → FirstLine
+abbrev pub longer : FirstLine → List ℕ → FirstLine
 longer l more = record l { rest = l.rest ++ more }
 
-first_line_more : (text more : List ℕ) (l : FirstLine) → first_line text ≡ Some l → (first_line (text ++ more) ≡ Some (longer l more)) × (text ≡ l.line ++ l.rest)
+pub first_line_more : (text more : List ℕ) (l : FirstLine) → first_line text ≡ Some l → (first_line (text ++ more) ≡ Some (longer l more)) × (text ≡ l.line ++ l.rest)
 first_line_more [] more l is = absurd (none-some l is)
 first_line_more (b ∷ bs) more l is = either (b == line_feed)
     (λ on. let same : record { line = b ∷ []; rest = bs } ≡ l = same_Some (record { line = b ∷ []; rest = bs }) l (rw on at is) in
@@ -19,11 +18,11 @@ first_line_more (b ∷ bs) more l is = either (b == line_feed)
     (λ off. by_option (first_line bs)
     (λ none. absurd (none-some l (rw (off, none) at is)))
     (λ k some.
-    let same : with_byte b k ≡ l = same_Some (with_byte b k) l (rw (off, some) at is) in
+    let same : with_line_byte b k ≡ l = same_Some (with_line_byte b k) l (rw (off, some) at is) in
     let later : (first_line (bs ++ more) ≡ Some (longer k more)) × (bs ≡ k.line ++ k.rest) = first_line_more bs more k some in
     (rw (off, later.0) (ap (λ j. Some (longer j more)) same), ap (λ ys. b ∷ ys) later.1 ∙ ap (λ j. j.line ++ j.rest) same)))
 
-pub is_whole : LineBlock → Bool
+unfoldable pub is_whole : LineBlock → Bool
 is_whole (whole block rest) = true
 is_whole unfinished = false
 is_whole crowded = false
@@ -81,19 +80,19 @@ block_more (suc n) text more block rest is = by_option (first_line text)
     })
     (λ no. absurd (false≢true (sym (with_line_whole l.line (first_block n l.rest) no) ∙ ap is_whole same)))))
 
-found_in : Found → List ℕ
+unfoldable pub found_in : Found → List ℕ
 found_in (found block rest) = block
 found_in missing = []
 found_in too_many = []
 found_in too_long = []
 
-is_found : Found → Bool
+unfoldable pub is_found : Found → Bool
 is_found (found block rest) = true
 is_found missing = false
 is_found too_many = false
 is_found too_long = false
 
-not_found : (text : List ℕ) (k : LineBlock) → is_whole k ≡ false → is_found (found_by limit text k) ≡ false
+pub not_found : (text : List ℕ) (k : LineBlock) → is_whole k ≡ false → is_found (found_by limit text k) ≡ false
 unfolding is_whole is_found
 not_found text (whole b r) is = absurd (false≢true (sym is))
 not_found text unfinished is = either (leb limit (length text)) (λ on. rw on refl) (λ off. rw off refl)
@@ -138,7 +137,7 @@ first_line_alone (b ∷ bs) rest l is = either (b == line_feed)
     (λ off. by_option (first_line bs)
     (λ none. absurd (none-some l (rw (off, none) at is)))
     (λ k some.
-    let same : with_byte b k ≡ l = same_Some (with_byte b k) l (rw (off, some) at is) in
+    let same : with_line_byte b k ≡ l = same_Some (with_line_byte b k) l (rw (off, some) at is) in
     let later : first_line (k.line ++ rest) ≡ Some (record { line = k.line; rest = rest }) = first_line_alone bs rest k some in
     let alone : first_line (b ∷ k.line ++ rest) ≡ Some (record { line = b ∷ k.line; rest = rest }) = rw (off, later) refl in
     ap (λ j. first_line (j.line ++ rest)) (sym same) ∙ alone ∙ ap (λ j. Some (record { line = j.line; rest = rest })) same))
@@ -188,17 +187,17 @@ first_line_longer [] more l none is = some_line more l is
         subst (λ k. 0 < length k.line) same (omega arith))
         (λ off. by_option (first_line bs)
         (λ none. absurd (none-some l (rw (off, none) at is)))
-        (λ k some. let same : with_byte b k ≡ l = same_Some (with_byte b k) l (rw (off, some) at is) in
+        (λ k some. let same : with_line_byte b k ≡ l = same_Some (with_line_byte b k) l (rw (off, some) at is) in
         subst (λ j. 0 < length j.line) same (omega arith)))
 first_line_longer (b ∷ bs) more l none is = either (b == line_feed)
     (λ on. absurd (none-some (record { line = b ∷ []; rest = bs }) (sym (rw on at none))))
     (λ off. by_option (first_line bs)
     (λ nothing. by_option (first_line (bs ++ more))
     (λ still. absurd (none-some l (rw (off, still) at is)))
-    (λ k some. let same : with_byte b k ≡ l = same_Some (with_byte b k) l (rw (off, some) at is) in
+    (λ k some. let same : with_line_byte b k ≡ l = same_Some (with_line_byte b k) l (rw (off, some) at is) in
     let later : length bs < length k.line = first_line_longer bs more k nothing some in
     subst (λ j. suc (length bs) < length j.line) same (omega (arith, later))))
-    (λ k some. absurd (none-some (with_byte b k) (sym (rw (off, some) at none)))))
+    (λ k some. absurd (none-some (with_line_byte b k) (sym (rw (off, some) at none)))))
 
 -- a block that becomes whole is longer than what was there
 pub block_longer : (n : ℕ) (text more block rest : List ℕ) → first_block n text ≡ unfinished → first_block n (text ++ more) ≡ whole block rest → length text < length block

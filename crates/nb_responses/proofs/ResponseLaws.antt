@@ -1,19 +1,18 @@
 -- A stream is read as one response.
-use Rattle.std.proofs.Common.{◌≡◌, ◌≤◌, ◌<◌, ℕ, zero, suc, ◌+◌, ◌-◌, ◌==◌, ◌&&◌, List, [], ◌∷◌, ◌++◌, length, take, drop, Option, Some, None, Bool, true, false, cond, refl, ap, ◌∙◌, sym, subst, arith, ltb, leb, eqb, append-nil}
+use Rattle.std.proofs.Common.{◌≡◌, ◌≤◌, ◌<◌, ℕ, List, [], ◌∷◌, ◌++◌, length, take, drop, Some, None, Bool, true, false, refl, ap, ◌∙◌, sym, subst, arith, ltb, eqb, append-nil}
 use Rattle.std.specs.List.{AllByRecursion, flat_map, concat}
 use Rattle.std.proofs.lemmas.Bool.{ne_eqb, le-ltb, false≢true}
 use Rattle.std.proofs.lemmas.Option.{none-some, same_Some}
 use Rattle.std.proofs.lemmas.List.{take_all, take_at, drop_at, length-append, append_assoc, append_cancel_left}
 use Rattle.httparse.specs.Ascii.{crlf_bytes}
-use Rattle.httparse.specs.Grammar.{ChunkLine, print_chunk_line, chunk_size, ReadsChunkLine, NeverHasChunkLine, MayBecomeChunkLine, ResponseHead, print_response, ReadsResponse}
+use Rattle.httparse.specs.Grammar.{print_chunk_line, chunk_size, NeverHasChunkLine, MayBecomeChunkLine, ResponseHead, print_response}
 use Rattle.httparse.proofs.ChunkLemmas.{chunk_line_unique}
 use Rattle.httparse.proofs.GrammarLemmas.{response_unique}
 use Rattle.nb_responses.specs.Lines.{Found, found, missing, too_many, too_long, head_block, limit}
 use Rattle.nb_responses.specs.Heads.{IsHead, Framing, sized, chunked, to_end, bad, framing, is_interim}
-use Rattle.nb_responses.specs.Chunks.{Verdict, more, long, broken, Response, response, with_bytes, Chunk, chunk_bytes, print_chunk, IsChunk, ending, tail_ending, IsLineOf, LineVerdict, short_line, long_line, bad_line, Tail, no_line, after_line, Chunked}
+use Rattle.nb_responses.specs.Chunks.{Verdict, Response, response, with_chunk, Chunk, chunk_bytes, print_chunk, IsChunk, ending, tail_ending, IsLineOf, LineVerdict, short_line, long_line, bad_line, Tail, no_line, after_line, Chunked}
 use Rattle.nb_responses.specs.Responses.{within_limit, ReadsBody, Final, no_block, no_head, by_head, by_body, head_verdict, no_block_verdict, IsInterim, ReadsSoFar, ResponseOf, by_end}
 use Rattle.nb_responses.proofs.LineLaws.{head_block_more}
-use Rattle.nb_responses.proofs.Cases.{either}
 
 never_may : (text : List ℕ) → NeverHasChunkLine text → MayBecomeChunkLine text → ⊥
 never_may text never (rest, l, reads) = never rest l [] reads
@@ -55,10 +54,10 @@ ending_none used bytes rest some =
     empty : (n : ℕ) → 0 < n → n ≡ 0 → ⊥
     empty n l e = omega (arith, l, e)
 
-chunk_apart : (c : Chunk) (later : List ℕ) → print_chunk c ++ later ≡ print_chunk_line c.line ++ (c.bytes ++ crlf_bytes ++ later)
+pub chunk_apart : (c : Chunk) (later : List ℕ) → print_chunk c ++ later ≡ print_chunk_line c.line ++ (c.bytes ++ crlf_bytes ++ later)
 chunk_apart c later = append_assoc (print_chunk_line c.line) (c.bytes ++ crlf_bytes) later
 
-begins : (c : Chunk) (text later : List ℕ) → IsChunk c → text ≡ print_chunk c ++ later → IsLineOf text c.line (c.bytes ++ crlf_bytes ++ later)
+pub begins : (c : Chunk) (text later : List ℕ) → IsChunk c → text ≡ print_chunk c ++ later → IsLineOf text c.line (c.bytes ++ crlf_bytes ++ later)
 begins c text later is e = record { reads = (is.line, e ∙ chunk_apart c later); short = is.short }
 
 no_chunk : (c : Chunk) (text later : List ℕ) (r : Response) → IsChunk c → text ≡ print_chunk c ++ later → Tail text r → ⊥
@@ -88,12 +87,12 @@ same_chunk c d text left right is also e f =
     let parts : (c.bytes ≡ d.bytes) × (crlf_bytes ++ left ≡ crlf_bytes ++ right) = same_parts c.bytes d.bytes (crlf_bytes ++ left) (crlf_bytes ++ right) (sym (append_assoc c.bytes crlf_bytes left) ∙ same.1 ∙ append_assoc d.bytes crlf_bytes right) long in
     record { bytes = parts.0; rest = append_cancel_left crlf_bytes left right parts.1 }
 
-more_bytes : (bytes : List ℕ) (cs : List Chunk) (r : Response) → with_bytes (bytes ++ flat_map chunk_bytes cs) r ≡ with_bytes bytes (with_bytes (flat_map chunk_bytes cs) r)
+more_bytes : (bytes : List ℕ) (cs : List Chunk) (r : Response) → with_chunk (bytes ++ flat_map chunk_bytes cs) r ≡ with_chunk bytes (with_chunk (flat_map chunk_bytes cs) r)
 more_bytes bytes cs r = ap (response r.verdict) (append_assoc bytes (flat_map chunk_bytes cs) r.bytes)
 
 chunks_unique : (text : List ℕ) (cs ds : List Chunk) (left right : List ℕ) (a b : Response) → AllByRecursion IsChunk cs → AllByRecursion IsChunk ds
     → text ≡ flat_map print_chunk cs ++ left → text ≡ flat_map print_chunk ds ++ right → Tail left a → Tail right b
-    → with_bytes (flat_map chunk_bytes cs) a ≡ with_bytes (flat_map chunk_bytes ds) b
+    → with_chunk (flat_map chunk_bytes cs) a ≡ with_chunk (flat_map chunk_bytes ds) b
 chunks_unique text [] [] left right a b p q e f x y = tail_unique right a b (subst (λ t. Tail t a) (sym e ∙ f) x) y
 chunks_unique text [] (d ∷ ds) left right a b p q e f x y =
     absurd (no_chunk d left (flat_map print_chunk ds ++ right) a q.0 (sym e ∙ f ∙ append_assoc (print_chunk d) (flat_map print_chunk ds) right) x)
@@ -101,8 +100,8 @@ chunks_unique text (c ∷ cs) [] left right a b p q e f x y =
     absurd (no_chunk c right (flat_map print_chunk cs ++ left) b p.0 (sym f ∙ e ∙ append_assoc (print_chunk c) (flat_map print_chunk cs) left) y)
 chunks_unique text (c ∷ cs) (d ∷ ds) left right a b p q e f x y =
     let same : SameChunk c d (flat_map print_chunk cs ++ left) (flat_map print_chunk ds ++ right) = same_chunk c d text (flat_map print_chunk cs ++ left) (flat_map print_chunk ds ++ right) p.0 q.0 (e ∙ append_assoc (print_chunk c) (flat_map print_chunk cs) left) (f ∙ append_assoc (print_chunk d) (flat_map print_chunk ds) right) in
-    let later : with_bytes (flat_map chunk_bytes cs) a ≡ with_bytes (flat_map chunk_bytes ds) b = chunks_unique (flat_map print_chunk cs ++ left) cs ds left right a b p.1 q.1 refl same.rest x y in
-    more_bytes c.bytes cs a ∙ ap (with_bytes c.bytes) later ∙ ap (λ bytes. with_bytes bytes (with_bytes (flat_map chunk_bytes ds) b)) same.bytes ∙ sym (more_bytes d.bytes ds b)
+    let later : with_chunk (flat_map chunk_bytes cs) a ≡ with_chunk (flat_map chunk_bytes ds) b = chunks_unique (flat_map print_chunk cs ++ left) cs ds left right a b p.1 q.1 refl same.rest x y in
+    more_bytes c.bytes cs a ∙ ap (with_chunk c.bytes) later ∙ ap (λ bytes. with_chunk bytes (with_chunk (flat_map chunk_bytes ds) b)) same.bytes ∙ sym (more_bytes d.bytes ds b)
 
 -- A chunked body is read in one way.
 pub chunked_unique : (text : List ℕ) (a b : Response) → Chunked text a → Chunked text b → a ≡ b
@@ -203,7 +202,7 @@ heads_unique text (c ∷ cs) (d ∷ ds) left right a b p q e f x y =
     let same : (p.0.head ≡ q.0.head) × (concat cs ++ left ≡ concat ds ++ right) = same_head text p.0.head q.0.head (concat cs ++ left) (concat ds ++ right) one other in
     heads_unique (concat cs ++ left) cs ds left right a b p.1 q.1 refl same.1 x y
 
-reads_unique : (text : List ℕ) (a b : Response) → ReadsSoFar text a → ReadsSoFar text b → a ≡ b
+pub reads_unique : (text : List ℕ) (a b : Response) → ReadsSoFar text a → ReadsSoFar text b → a ≡ b
 reads_unique text a b x y = heads_unique text x.skipped y.skipped x.rest y.rest a b x.all y.all x.stands y.stands x.ends y.ends
 
 -- A stream is read as one response.

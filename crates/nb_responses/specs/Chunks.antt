@@ -1,5 +1,5 @@
 -- RFC 9112, section 7.1: what a text is read as, and the reading of a chunked body
-use Rattle.std.specs.Prelude.{◌≡◌, ◌≤◌, ◌<◌, ℕ, ◌-◌, ◌==◌, ◌&&◌, Bool, true, false, List, [], ◌∷◌, ◌++◌, length, take, drop, Option, Some, None, nat_lt, if◌then◌else◌}
+use Rattle.std.specs.Prelude.{◌≡◌, ◌≤◌, ◌<◌, ℕ, ◌-◌, ◌==◌, ◌&&◌, List, [], ◌∷◌, ◌++◌, length, take, drop, Option, Some, None, nat_lt, if◌then◌else◌}
 use Rattle.std.specs.List.{AllByRecursion, flat_map}
 use Rattle.httparse.specs.Ascii.{crlf_bytes, carriage_return, line_feed}
 use Rattle.httparse.specs.Grammar.{ChunkLine, IsChunkLine, print_chunk_line, chunk_size, ReadsChunkLine, NeverHasChunkLine, MayBecomeChunkLine}
@@ -25,8 +25,8 @@ pub record Response : Type 0 where
 abbrev pub response : Verdict → List ℕ → Response
 response verdict bytes = record { verdict = verdict; bytes = bytes }
 
-abbrev pub with_bytes : List ℕ → Response → Response
-with_bytes bytes r = record r { bytes = bytes ++ r.bytes }
+abbrev pub with_chunk : List ℕ → Response → Response
+with_chunk bytes r = record r { bytes = bytes ++ r.bytes }
 
 -- RFC 9112, section 7.1: a chunk of a chunked body
 pub record Chunk : Type 0 where
@@ -52,24 +52,26 @@ trailer_verdict missing = more
 trailer_verdict too_many = broken
 trailer_verdict too_long = long
 
--- what stands with_line a chunk's bytes: its line end, the beginning of it, or something else
+-- what stands after a chunk's bytes: its line end, the beginning of it, or something else
 abbrev pub tail_ending : List ℕ → List ℕ → Option Response
 tail_ending bytes [] = Some (response more bytes)
 tail_ending bytes (b ∷ []) = Some (response (if b == carriage_return then more else broken) bytes)
-tail_ending bytes (b ∷ c ∷ rest) = if b == carriage_return && c == line_feed then None else Some (response broken bytes)
+tail_ending bytes (b ∷ c ∷ rest) = if b == carriage_return && c == line_feed then None
+    else Some (response broken bytes)
 
--- How the body stands with_line a size line: nothing is said where a whole chunk stands there.
+-- How the body goes on after a size line: nothing is said where a whole chunk stands there.
 abbrev pub ending : ℕ → ℕ → List ℕ → Option Response
 ending used size rest =
     if size == 0 then Some (response (trailer_verdict (trailer_block (limit - used) rest)) [])
-    else (if nat_lt (length rest) size then Some (response more rest) else tail_ending (take size rest) (drop size rest))
+    else (if nat_lt (length rest) size then Some (response more rest)
+    else tail_ending (take size rest) (drop size rest))
 
 -- a size line of the grammar, that isn't too long
 pub record IsLineOf (text : List ℕ) (l : ChunkLine) (rest : List ℕ) : Type 0 where
   pub reads : ReadsChunkLine text l rest
   pub short : length (print_chunk_line l) ≤ limit
 
--- why none is there: it may still come, it is too long, or the first bytes that a line could have can't be one
+-- why none is there: it may still come, it is too long, or its first bytes can't be one
 pub data LineVerdict (text : List ℕ) : Verdict → Type 0 where
   short_line : MayBecomeChunkLine text → length text < limit → LineVerdict text more
   long_line : MayBecomeChunkLine (take limit text) → limit ≤ length text → LineVerdict text long
@@ -77,10 +79,12 @@ pub data LineVerdict (text : List ℕ) : Verdict → Type 0 where
 
 -- a text with which no whole chunk begins
 pub data Tail (text : List ℕ) : Response → Type 0 where
-  no_line : (verdict : Verdict) → ((l : ChunkLine) (rest : List ℕ) → ¬ (IsLineOf text l rest)) → LineVerdict text verdict → Tail text (response verdict [])
-  after_line : (l : ChunkLine) (rest : List ℕ) (r : Response) → IsLineOf text l rest → ending (length (print_chunk_line l)) (chunk_size l) rest ≡ Some r → Tail text r
+  no_line : (verdict : Verdict) → ((l : ChunkLine) (rest : List ℕ) → ¬ (IsLineOf text l rest))
+      → LineVerdict text verdict → Tail text (response verdict [])
+  after_line : (l : ChunkLine) (rest : List ℕ) (r : Response) → IsLineOf text l rest
+      → ending (length (print_chunk_line l)) (chunk_size l) rest ≡ Some r → Tail text r
 
--- a chunked body: chunks, and what stands with_line them
+-- a chunked body: chunks, and what stands after them
 pub record Chunked (text : List ℕ) (r : Response) : Type 0 where
   pub chunks : List Chunk
   pub tail : List ℕ
@@ -88,4 +92,4 @@ pub record Chunked (text : List ℕ) (r : Response) : Type 0 where
   pub all : AllByRecursion IsChunk chunks
   pub stands : text ≡ flat_map print_chunk chunks ++ tail
   pub ends : Tail tail last
-  pub is : r ≡ with_bytes (flat_map chunk_bytes chunks) last
+  pub is : r ≡ with_chunk (flat_map chunk_bytes chunks) last

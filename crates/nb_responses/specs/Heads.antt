@@ -1,5 +1,5 @@
 -- RFC 9112, sections 3 to 6: what the head of a response says, and how its body is framed
-use Rattle.std.specs.Prelude.{◌≡◌, ◌≤◌, ℕ, ◌==◌, ◌&&◌, ◌||◌, not, Bool, true, false, List, [], ◌∷◌, ◌++◌, length, map, filter, Option, Some, None, nat_lt, nat_le, bytes_eq, codes, if◌then◌else◌}
+use Rattle.std.specs.Prelude.{◌≡◌, ◌≤◌, ℕ, ◌==◌, ◌&&◌, ◌||◌, Bool, false, List, [], ◌∷◌, length, map, filter, Option, Some, None, nat_lt, nat_le, codes, if◌then◌else◌}
 use Rattle.std.specs.List.{list_all}
 use Rattle.std.specs.Char.{is_ascii_digit}
 use Rattle.std.specs.Str.{str_eq_ignore_ascii_case}
@@ -40,7 +40,8 @@ has_value n digits = is_decimal digits && digits_value 10 digits == n
 -- by the values of Transfer-Encoding, which go first, and those of Content-Length
 abbrev pub framing_by : List (List ℕ) → List (List ℕ) → Framing
 framing_by [] [] = to_end
-framing_by [] (v ∷ vs) = if list_all (has_value (digits_value 10 v)) (v ∷ vs) then sized (digits_value 10 v) else bad
+framing_by [] (v ∷ vs) = if list_all (has_value (digits_value 10 v)) (v ∷ vs)
+    then sized (digits_value 10 v) else bad
 framing_by (v ∷ []) lengths = if is_same_word (codes "chunked") v then chunked else bad
 framing_by (v ∷ w ∷ vs) lengths = bad
 

@@ -1,20 +1,21 @@
 -- RFC 9112, section 2: the lines of a message, and the blocks of lines up to an empty one
-use Rattle.std.specs.Prelude.{ℕ, zero, suc, ◌+◌, ◌==◌, ◌&&◌, ◌||◌, Bool, true, false, List, [], ◌∷◌, ◌++◌, length, take, drop, Option, Some, None, nat_le, if◌then◌else◌}
+use Rattle.std.specs.Prelude.{ℕ, zero, suc, ◌+◌, ◌==◌, ◌&&◌, Bool, false, List, [], ◌∷◌, ◌++◌, length, take, drop, Option, Some, None, nat_le, if◌then◌else◌}
 use Rattle.std.specs.Option.{option_map}
 use Rattle.httparse.specs.Ascii.{line_feed, carriage_return}
 
--- a line up to and with its LF, and what stands with_line it
+-- a line up to and with its LF, and what stands after it
 pub record FirstLine : Type 0 where
   pub line : List ℕ
   pub rest : List ℕ
 
-abbrev pub with_byte : ℕ → FirstLine → FirstLine
-with_byte b l = record l { line = b ∷ l.line }
+abbrev pub with_line_byte : ℕ → FirstLine → FirstLine
+with_line_byte b l = record l { line = b ∷ l.line }
 
 -- the first line, if it is whole
 abbrev pub first_line : List ℕ → Option FirstLine
 first_line [] = None
-first_line (b ∷ bytes) = if b == line_feed then Some (record { line = b ∷ []; rest = bytes }) else option_map (with_byte b) (first_line bytes)
+first_line (b ∷ bytes) = if b == line_feed then Some (record { line = b ∷ []; rest = bytes })
+    else option_map (with_line_byte b) (first_line bytes)
 
 -- LF, or CR LF
 abbrev pub is_empty : List ℕ → Bool
@@ -47,7 +48,7 @@ abbrev pub first_block : ℕ → List ℕ → LineBlock
 first_block zero text = crowded
 first_block (suc most) text = block_by (first_line text) (first_block most (rest_of (first_line text)))
 
--- the most bytes that a head may have, or a chunk's size line and trailer together, and the most lines of a head
+-- the most bytes of a head, or of a chunk's size line and trailer together, and the most lines of a head
 abbrev pub limit : ℕ
 limit = 16384
 

@@ -19,9 +19,10 @@ sized_verdict size text = if nat_lt (length text) size then more else body
 
 -- a body of a length that the head states
 abbrev pub sized_response : ℕ → List ℕ → Response
-sized_response size text = if nat_lt most_bytes size then response large [] else response (sized_verdict size text) (take size text)
+sized_response size text = if nat_lt most_bytes size then response large []
+    else response (sized_verdict size text) (take size text)
 
--- the body with_line a head with the status 200, by its framing
+-- the body after a head with the status 200, by its framing
 abbrev pub ReadsBody : List ℕ → Framing → Response → Type 0
 ReadsBody text (sized size) r = r ≡ sized_response size text
 ReadsBody text chunked r = (read : Response) × Chunked text read × (r ≡ within_limit read)
@@ -46,11 +47,15 @@ no_block_verdict too_long = Some long
 
 -- a text with which no interim head begins
 pub data Final (text : List ℕ) : Response → Type 0 where
-  no_block : (verdict : Verdict) → no_block_verdict (head_block text) ≡ Some verdict → Final text (response verdict [])
-  no_head : (block rest : List ℕ) → head_block text ≡ found block rest → ((h : ResponseHead) → ¬ (IsHead block h)) → Final text (response broken [])
-  by_head : (block rest : List ℕ) (h : ResponseHead) (verdict : Verdict) → head_block text ≡ found block rest → IsHead block h → is_interim h ≡ false
+  no_block : (verdict : Verdict) → no_block_verdict (head_block text) ≡ Some verdict
+      → Final text (response verdict [])
+  no_head : (block rest : List ℕ) → head_block text ≡ found block rest
+      → ((h : ResponseHead) → ¬ (IsHead block h)) → Final text (response broken [])
+  by_head : (block rest : List ℕ) (h : ResponseHead) (verdict : Verdict)
+      → head_block text ≡ found block rest → IsHead block h → is_interim h ≡ false
       → head_verdict h ≡ Some verdict → Final text (response verdict [])
-  by_body : (block rest : List ℕ) (h : ResponseHead) (r : Response) → head_block text ≡ found block rest → IsHead block h → is_interim h ≡ false
+  by_body : (block rest : List ℕ) (h : ResponseHead) (r : Response)
+      → head_block text ≡ found block rest → IsHead block h → is_interim h ≡ false
       → head_verdict h ≡ None → ReadsBody rest (framing h) r → Final text r
 
 -- an interim head

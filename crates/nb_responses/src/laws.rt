@@ -1,10 +1,23 @@
 //! Laws of readings, each a function that does nothing.
 
-ghost use Rattle.std.specs.Prelude.{◌≡◌, ℕ, List, Bool};
-ghost use Rattle.nb_responses.specs.Chunks.{Response};
-ghost use Rattle.nb_responses.specs.Responses.{ResponseOf};
+ghost use Rattle.nb_responses.specs.ReadingLaws.{IsReadOnce, EachIsRead, DecidedStays, BodyGoesOn};
 
 /// A stream is read as one response.
 pub fn one_response()
-    ensures { (stream : List ℕ) (ended : Bool) (a b : Response) → ResponseOf stream ended a → ResponseOf stream ended b → a ≡ b }
+    ensures { IsReadOnce }
+{}
+
+/// Each stream is read as a response, which may say that more is to come.
+pub fn each_is_read()
+    ensures { EachIsRead }
+{}
+
+/// A response that is decided stays as it is, whatever follows: the least prefix that decides it is enough.
+pub fn decided_stays()
+    ensures { DecidedStays }
+{}
+
+/// The body of a longer stream begins with that of the shorter one.
+pub fn body_goes_on()
+    ensures { BodyGoesOn }
 {}

@@ -5,4 +5,4 @@
 
 mod laws;
 
-pub use laws::one_response;
+pub use laws::{body_goes_on, decided_stays, each_is_read, one_response};

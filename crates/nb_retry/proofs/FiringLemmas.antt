@@ -2,7 +2,7 @@
 use Rattle.std.proofs.Common.{◌≡◌, ℕ, ◌+◌, ◌<◌, ◌≤◌, List, [], ◌∷◌, Option, Some, None, Bool, true, false, refl, ap, arith, leb}
 use Rattle.std.specs.Option.{option_map_or, IfSome}
 use Rattle.std.proofs.lemmas.Bool.{lt-leb, leb-true, leb-false}
-use Rattle.nb_retry.specs.Plans.{Asked, asked, Wait, first_from, firings}
+use Rattle.nb_retry.specs.Plans.{Asked, asked_at, Wait, first_from, firings}
 
 -- every delay takes some time
 abbrev pub ArePositive : List Wait → Type 0
@@ -36,20 +36,20 @@ firings-past last time [] times positive past = refl
 firings-past last time (w ∷ ws) times positive past =
     let early : leb (last + w.delay) time ≡ false = lt-leb (last + w.delay) time (omega (arith, positive.0)) in
     rw early (option_map_or-same
-    (λ t. asked t w.says ∷ firings t ws (time ∷ times)) (λ t. asked t w.says ∷ firings t ws times)
+    (λ t. asked_at t w.says ∷ firings t ws (time ∷ times)) (λ t. asked_at t w.says ∷ firings t ws times)
     (λ t. last + w.delay ≤ t) (first_from (last + w.delay) times) (first_from-late (last + w.delay) times)
-    (λ t late. ap (λ rest. asked t w.says ∷ rest) (firings-past t time ws times positive.1 (omega arith))))
+    (λ t late. ap (λ rest. asked_at t w.says ∷ rest) (firings-past t time ws times positive.1 (omega arith))))
 
 -- nor does one before the next moment
 pub firings-early : (last time : ℕ) (w : Wait) (ws : List Wait) (times : List ℕ) → ArePositive ws → leb (last + w.delay) time ≡ false → firings last (w ∷ ws) (time ∷ times) ≡ firings last (w ∷ ws) times
 firings-early last time w ws times positive early =
     let before : time < last + w.delay = leb-false (last + w.delay) time early in
     rw early (option_map_or-same
-    (λ t. asked t w.says ∷ firings t ws (time ∷ times)) (λ t. asked t w.says ∷ firings t ws times)
+    (λ t. asked_at t w.says ∷ firings t ws (time ∷ times)) (λ t. asked_at t w.says ∷ firings t ws times)
     (λ t. last + w.delay ≤ t) (first_from (last + w.delay) times) (first_from-late (last + w.delay) times)
-    (λ t late. ap (λ rest. asked t w.says ∷ rest) (firings-past t time ws times positive (omega arith))))
+    (λ t late. ap (λ rest. asked_at t w.says ∷ rest) (firings-past t time ws times positive (omega arith))))
 
 -- at the moment or after it the wait ends, and the next one counts from there
-pub firings-due : (last time : ℕ) (w : Wait) (ws : List Wait) (times : List ℕ) → ArePositive ws → leb (last + w.delay) time ≡ true → firings last (w ∷ ws) (time ∷ times) ≡ asked time w.says ∷ firings time ws times
+pub firings-due : (last time : ℕ) (w : Wait) (ws : List Wait) (times : List ℕ) → ArePositive ws → leb (last + w.delay) time ≡ true → firings last (w ∷ ws) (time ∷ times) ≡ asked_at time w.says ∷ firings time ws times
 firings-due last time w ws times positive due =
-    rw due (ap (λ rest. asked time w.says ∷ rest) (firings-past time time ws times positive (omega arith)))
+    rw due (ap (λ rest. asked_at time w.says ∷ rest) (firings-past time time ws times positive (omega arith)))

@@ -4,16 +4,16 @@ use Rattle.nb_retry.specs.declared.retry.Due.{Due}
 use Rattle.nb_retry.specs.declared.retry.Due.TheVariants.{Not, Again, Over}
 use Rattle.nb_retry.specs.declared.retry.Retry.{Retry}
 use Rattle.nb_retry.specs.Plans.{Asked, firings, waits}
-use Rattle.nb_retry.specs.Timer.{started, answer, after}
+use Rattle.nb_retry.specs.Timer.{started, due_at, after}
 
 -- a timer that is asked at these times says this each time, and is another one in the end
-abbrev pub Says : Retry → List Asked → Retry → Type 0
-Says old [] new = new ≡ old
-Says old (call ∷ calls) new = (call.at < 2 ^ 64) × (call.said ≡ answer old call.at) × Says (after old call.at) calls new
+abbrev pub TimerSays : Retry → List Asked → Retry → Type 0
+TimerSays old [] new = new ≡ old
+TimerSays old (call ∷ calls) new = (call.at < 2 ^ 64) × (call.said ≡ due_at old call.at) × TimerSays (after old call.at) calls new
 
 -- the timer stands for these calls since its start
-abbrev pub Stands : Retry → List Asked → Type 0
-Stands retry calls = Says (started retry.since retry.plan) calls retry
+abbrev pub TimerStands : Retry → List Asked → Type 0
+TimerStands retry calls = TimerSays (started retry.since retry.plan) calls retry
 
 -- an answer that asks for something
 abbrev pub fires : Due → Bool

@@ -24,8 +24,8 @@ pub record Asked : Type 0 where
   pub at : ℕ
   pub said : Due
 
-abbrev pub asked : ℕ → Due → Asked
-asked at said = record { at = at; said = said }
+abbrev pub asked_at : ℕ → Due → Asked
+asked_at at said = record { at = at; said = said }
 
 -- a delay, and what the timer says once it has passed
 pub record Wait : Type 0 where
@@ -50,4 +50,4 @@ first_from moment times = find (λ time. nat_le moment time) times
 abbrev pub firings : ℕ → List Wait → List ℕ → List Asked
 firings last [] times = []
 firings last (w ∷ ws) times =
-    option_map_or (λ time. asked time w.says ∷ firings time ws times) (first_from (last + w.delay) times) []
+    option_map_or (λ time. asked_at time w.says ∷ firings time ws times) (first_from (last + w.delay) times) []

@@ -1,9 +1,9 @@
 //! The timer.
 
 ghost use Rattle.std.specs.Prelude.{◌≡◌, ◌∷◌, [], ◌++◌, List, None, Some, IsTrue, ◌<◌, length, slice_index, ◌↔◌};
-ghost use Rattle.nb_retry.specs.Timer.{started, answer, after, later, is_due};
-ghost use Rattle.nb_retry.specs.Calls.{Stands, FollowsPlan};
-ghost use Rattle.nb_retry.specs.Plans.{Asked, asked, delays};
+ghost use Rattle.nb_retry.specs.Timer.{started, due_at, after, moment_after, is_due};
+ghost use Rattle.nb_retry.specs.Calls.{TimerStands, FollowsPlan};
+ghost use Rattle.nb_retry.specs.Plans.{Asked, asked_at, delays};
 
 use crate::plan::Plan;
 
@@ -47,7 +47,7 @@ impl Retry {
     /// Starts the plan anew at this moment, at which the message's first sending is made.
     pub fn start(&mut self, now: u64, plan: Plan)
         ensures value { self.new ≡ started now plan }
-        ensures stands { Stands self.new [] }
+        ensures stands { TimerStands self.new [] }
     {
         *self = Retry {
             since: now,
@@ -66,17 +66,17 @@ impl Retry {
 
     /// What is to be done at this moment. An answer other than `Not` counts the try, and starts the next delay.
     pub fn due(&mut self, now: u64) -> Due
-        ensures answer { result ≡ answer self.old now }
+        ensures answer { result ≡ due_at self.old now }
         ensures after { self.new ≡ after self.old now }
         // With this call the timer stands for one call more, and its firings are the plan's times.
-        ensures stands { (calls : List Asked) → Stands self.old calls → Stands self.new (calls ++ asked now result ∷ []) }
-        ensures plan { (calls : List Asked) → Stands self.old calls → FollowsPlan self.new (calls ++ asked now result ∷ []) }
+        ensures stands { (calls : List Asked) → TimerStands self.old calls → TimerStands self.new (calls ++ asked_at now result ∷ []) }
+        ensures plan { (calls : List Asked) → TimerStands self.old calls → FollowsPlan self.new (calls ++ asked_at now result ∷ []) }
     {
         self.fire(now)
     }
 
     fn fire(&mut self, now: u64) -> Due
-        ensures answer { result ≡ answer self.old now }
+        ensures answer { result ≡ due_at self.old now }
         ensures after { self.new ≡ after self.old now }
     {
         if !self.is_due(now) {
@@ -105,7 +105,7 @@ impl Retry {
 /// The moment one delay of the plan later, the delay at this place.
 fn moment(now: u64, plan: Plan, place: usize) -> Option<u64>
     requires { place < length (delays plan) }
-    ensures { result ≡ later now (slice_index (delays plan) place) }
+    ensures { result ≡ moment_after now (slice_index (delays plan) place) }
 {
     now.checked_add(plan.delays()[place])
 }

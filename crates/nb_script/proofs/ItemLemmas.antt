@@ -4,7 +4,7 @@ use Rattle.std.proofs.lemmas.List.{append-nil, map-append, get_or-map, length-ma
 use Rattle.std.specs.Prelude.{codes, count_by}
 use Rattle.std.proofs.lemmas.Bool.{leb-true}
 use Rattle.std.specs.Str.{bytes_eq}
-use Rattle.nb_defs.specs.ScriptText.{is_join, words}
+use Rattle.nb_defs.specs.ScriptText.{is_join, line_words}
 use Rattle.nb_defs.proofs.ScriptLaws.{words_small}
 use Rattle.nb_defs.specs.ScriptLines as defs
 use Rattle.nb_defs.specs.ScriptLines.{join_of, cut_words, item, are_few, is_no_join, AreCutFrom}
@@ -70,9 +70,9 @@ unfolding join_of
 join_then word e f g = rw (e, f, g) (refl, refl)
 
 -- the commands of a line that isn't too long and has few words
-pub list_fits : (line : List ℕ) (list : List Item) → length line ≤ 4096 → are_few (words line) ≡ true → AreCutFrom (words line) (map shown_item list) → FitList list
+pub list_fits : (line : List ℕ) (list : List Item) → length line ≤ 4096 → are_few (line_words line) ≡ true → AreCutFrom (line_words line) (map shown_item list) → FitList list
 list_fits line list short few cut =
-    let ws = words line in
+    let ws = line_words line in
     let f = and_left (nat_le (count_by is_no_join ws) 64) (nat_le (count_by is_join ws) 64) few in
     let g = and_right (nat_le (count_by is_no_join ws) 64) (nat_le (count_by is_join ws) 64) few in
     let words_few : count_by is_no_join ws ≤ 64 = leb-true (count_by is_no_join ws) 64 f in

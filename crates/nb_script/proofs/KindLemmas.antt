@@ -2,18 +2,18 @@
 use Rattle.std.proofs.Common.{◌≡◌, ℕ, zero, suc, ◌+◌, ◌-◌, ◌≤◌, true, false, List, length, take, drop, refl, ap, arith}
 use Rattle.std.specs.List.{suffix_len}
 use Rattle.nb_defs.specs.ScriptText.{is_label, is_blank}
-use Rattle.nb_defs.specs.ScriptLines.{label, list, empty, is_nothing, kind_of, without_blanks_behind}
+use Rattle.nb_defs.specs.ScriptLines.{label, list, empty, is_nothing, line_kind, without_blanks_behind}
 
-pub kind_nothing : (line : List ℕ) → is_nothing line ≡ true → kind_of line ≡ empty
-unfolding kind_of
+pub kind_nothing : (line : List ℕ) → is_nothing line ≡ true → line_kind line ≡ empty
+unfolding line_kind
 kind_nothing line e = rw e refl
 
-pub kind_label : (line : List ℕ) → is_nothing line ≡ false → is_label line ≡ true → kind_of line ≡ label (drop 1 line)
-unfolding kind_of
+pub kind_label : (line : List ℕ) → is_nothing line ≡ false → is_label line ≡ true → line_kind line ≡ label (drop 1 line)
+unfolding line_kind
 kind_label line e f = rw (e, f) refl
 
-pub kind_list : (line : List ℕ) → is_nothing line ≡ false → is_label line ≡ false → kind_of line ≡ list line
-unfolding kind_of
+pub kind_list : (line : List ℕ) → is_nothing line ≡ false → is_label line ≡ false → line_kind line ≡ list line
+unfolding line_kind
 kind_list line e f = rw (e, f) refl
 
 -- the line's end, from where its last byte is no blank

@@ -1,6 +1,7 @@
 pub mod OkLemmas
 pub mod PiecesLemmas
 pub mod LinesLemmas
+pub mod FirstBytes
 pub mod WordsLemmas
 pub mod SpansLemmas
 pub mod CutLemmas

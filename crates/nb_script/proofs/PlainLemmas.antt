@@ -4,7 +4,7 @@ use Rattle.std.specs.List.{list_all, list_any}
 use Rattle.std.proofs.lemmas.Bool.{leb-true}
 use Rattle.std.proofs.lemmas.List.{get_or-map, drop-map, length-map, get_or-drop}
 use Rattle.std.proofs.lemmas.Bool.Decides.{nat_tests}
-use Rattle.nb_defs.specs.ScriptText.{has_expansion, is_label, is_join, is_line_feed, pieces, lines, words, is_joined, begins_script, is_plain, is_plain_line, is_short_line}
+use Rattle.nb_defs.specs.ScriptText.{has_expansion, is_label, is_join, is_line_feed, pieces, lines, line_words, is_joined, begins_script, is_plain, is_plain_line, is_short_line}
 use Rattle.nb_script.specs.declared.span.Span.{Span}
 use Rattle.nb_script.specs.Cut.{spanned, HasLines, can_cut}
 use Rattle.nb_script.proofs.SpansLemmas.{shorts}
@@ -81,15 +81,15 @@ line_short text spans i d has plain l =
     let e : nat_le (length (spanned text (get_or spans i d))) 4096 ≡ true = rw (line_at text spans i d has l) at short in
     grind (arith, nat_tests)
 
-few_words : (line : List ℕ) → is_plain_line line ≡ true → length (words line) ≤ 64
+few_words : (line : List ℕ) → is_plain_line line ≡ true → length (line_words line) ≤ 64
 unfolding is_plain_line
 few_words line h =
     let running = not (has_expansion line) && not (is_label line) in
-    let few = nat_le (length (words line)) 64 in
-    leb-true (length (words line)) 64 (and_right running few (and_left (running && few) (not (list_any is_join (words line))) h))
+    let few = nat_le (length (line_words line)) 64 in
+    leb-true (length (line_words line)) 64 (and_right running few (and_left (running && few) (not (list_any is_join (line_words line))) h))
 
 -- no line behind the first has too many words
-pub line_few : (text : List ℕ) (spans : List Span) (i : ℕ) (d : Span) → HasLines text spans → is_plain text ≡ true → i < length spans → 1 ≤ i → length (words (spanned text (get_or spans i d))) ≤ 64
+pub line_few : (text : List ℕ) (spans : List Span) (i : ℕ) (d : Span) → HasLines text spans → is_plain text ≡ true → i < length spans → 1 ≤ i → length (line_words (spanned text (get_or spans i d))) ≤ 64
 line_few text spans i d has plain l behind =
     let sizes = length_lines text spans has in
     let lefts = length-drop 1 (lines text) in

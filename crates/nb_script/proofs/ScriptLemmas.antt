@@ -6,21 +6,21 @@ use Rattle.std.proofs.lemmas.Option.{slice_get_cases, slice_get-get_or}
 use Rattle.std.proofs.lemmas.Bool.Decides.{nat_tests}
 use Rattle.std.proofs.lemmas.List.{length-map}
 use Rattle.nb_defs.proofs.ScriptLaws.{length-joined_lines}
-use Rattle.nb_defs.specs.ScriptText.{lines, is_line_feed, pieces, begins_script, is_short_line, words}
-use Rattle.nb_defs.specs.ScriptLines.{Line, empty, line_of, Reading, joined_lines, script_lines, reading, script, no_script, script_too_long, line_too_long, is_label_of, label_place, first_join, cut_words, are_few, items}
+use Rattle.nb_defs.specs.ScriptText.{lines, is_line_feed, pieces, begins_script, is_short_line, line_words}
+use Rattle.nb_defs.specs.ScriptLines.{Line, empty, script_line, Reading, joined_lines, script_lines, script_reading, script, no_script, script_too_long, line_too_long, is_label_of, label_place, first_join, cut_words, are_few, items}
 use Rattle.nb_script.specs.declared.kind.ScriptLine.{ScriptLine}
 use Rattle.nb_script.specs.declared.kind.ScriptLine.TheVariants as on
 use Rattle.nb_script.specs.ShownLine.{HasAtMost, is_label_at}
 use Rattle.nb_script.proofs.PlainLemmas.{and_left, and_right}
 
 -- a text whose first line isn't that of a script
-pub reads_none : (text : List ℕ) → begins_script (pieces is_line_feed text) ≡ false → reading text ≡ no_script
-unfolding reading
+pub reads_none : (text : List ℕ) → begins_script (pieces is_line_feed text) ≡ false → script_reading text ≡ no_script
+unfolding script_reading
 reads_none text begun = rw begun refl
 
 -- one that is too long
-pub reads_too_long : (text : List ℕ) → begins_script (pieces is_line_feed text) ≡ true → 1048576 < length text → reading text ≡ script_too_long
-unfolding reading
+pub reads_too_long : (text : List ℕ) → begins_script (pieces is_line_feed text) ≡ true → 1048576 < length text → script_reading text ≡ script_too_long
+unfolding script_reading
 reads_too_long text begun long =
     let e : nat_lt 1048576 (length text) ≡ true = grind (arith, nat_tests) in
     rw (begun, e) refl
@@ -35,30 +35,30 @@ is_no_longer : (text : List ℕ) → length text ≤ 1048576 → nat_lt 1048576 
 is_no_longer text fits = grind (arith, nat_tests)
 
 -- one with a line that is too long
-pub reads_line_too_long : (text : List ℕ) (lines : List (List ℕ)) → IsCut text lines → list_all is_short_line lines ≡ false → reading text ≡ line_too_long
-unfolding reading
+pub reads_line_too_long : (text : List ℕ) (lines : List (List ℕ)) → IsCut text lines → list_all is_short_line lines ≡ false → script_reading text ≡ line_too_long
+unfolding script_reading
 reads_line_too_long text lines cut long =
     rw (cut.begun, is_no_longer text cut.fits, ← cut.lines_are, long) refl
 
 -- a script
-pub reads_script : (text : List ℕ) (lines : List (List ℕ)) → IsCut text lines → list_all is_short_line lines ≡ true → reading text ≡ script (map line_of lines)
-unfolding reading script_lines
+pub reads_script : (text : List ℕ) (lines : List (List ℕ)) → IsCut text lines → list_all is_short_line lines ≡ true → script_reading text ≡ script (map script_line lines)
+unfolding script_reading script_lines
 reads_script text lines cut short =
     rw (cut.begun, is_no_longer text cut.fits, ← cut.lines_are, short) refl
 
 -- each line keeps its number
-pub keeps_numbers : (text : List ℕ) (found : List (List ℕ)) → IsCut text found → length (map line_of found) ≡ length (lines text)
-keeps_numbers text found cut = length-map found line_of ∙ ap length cut.lines_are ∙ length-joined_lines text
+pub keeps_numbers : (text : List ℕ) (found : List (List ℕ)) → IsCut text found → length (map script_line found) ≡ length (lines text)
+keeps_numbers text found cut = length-map found script_line ∙ ap length cut.lines_are ∙ length-joined_lines text
 
 neither : (r : Reading) (b : Bool) (code : List Line) → r ≡ cond (not b) line_too_long (script code) → (r ≡ no_script → ⊥) × (r ≡ script_too_long → ⊥)
 neither r true code e = (λ h. cc, λ h. cc)
 neither r false code e = (λ h. cc, λ h. cc)
 
 -- neither holds of such a text
-pub reads_lines : (text : List ℕ) → begins_script (pieces is_line_feed text) ≡ true → length text ≤ 1048576 → (reading text ≡ no_script → ⊥) × (reading text ≡ script_too_long → ⊥)
-unfolding reading
+pub reads_lines : (text : List ℕ) → begins_script (pieces is_line_feed text) ≡ true → length text ≤ 1048576 → (script_reading text ≡ no_script → ⊥) × (script_reading text ≡ script_too_long → ⊥)
+unfolding script_reading
 reads_lines text begun fits =
-    neither (reading text) (list_all is_short_line (joined_lines text)) (script_lines text) (rw (begun, is_no_longer text fits) refl)
+    neither (script_reading text) (list_all is_short_line (joined_lines text)) (script_lines text) (rw (begun, is_no_longer text fits) refl)
 
 at_none : (name : List ℕ) (o : Option Line) → o ≡ None → is_label_at name o ≡ true → ⊥
 at_none name o e h = let f : is_label_at name None ≡ true = rw e at h in cc
@@ -103,10 +103,10 @@ at_most n (on.List line) l h = omega arith
 at_most n on.Nothing l h = tt
 
 -- the commands of a list
-pub items_some : (line : List ℕ) → are_few (words line) ≡ true → items line ≡ Some (cut_words first_join (words line))
+pub items_some : (line : List ℕ) → are_few (line_words line) ≡ true → items line ≡ Some (cut_words first_join (line_words line))
 unfolding items
 items_some line e = rw e refl
 
-pub items_none : (line : List ℕ) → are_few (words line) ≡ false → items line ≡ None
+pub items_none : (line : List ℕ) → are_few (line_words line) ≡ false → items line ≡ None
 unfolding items
 items_none line e = rw e refl

@@ -4,7 +4,7 @@ use Rattle.std.specs.Prelude.{position, codes, IfSome}
 use Rattle.std.specs.List.{list_any, starts_with, position_or_len}
 use Rattle.std.specs.Borrow.{Bor}
 use Rattle.std.proofs.lemmas.List.{drop_all, length-take-le}
-use Rattle.nb_defs.specs.ScriptText.{is_blank, pieces, all_words, words, is_label, is_label_word, has_expansion, is_join, is_plain_line}
+use Rattle.nb_defs.specs.ScriptText.{is_blank, pieces, all_words, line_words, is_label, is_label_word, has_expansion, is_join, is_plain_line}
 use Rattle.nb_script.proofs.PiecesLemmas.{position_some, position_none, words_by_skip, words_by_cut, starts_at, prefix_fits}
 
 -- a line of blanks has no word
@@ -36,8 +36,8 @@ cut_at line rest start end w behind h r e f b =
     (long_word, rw (f, b, e, r) some.1)
 
 -- no word at all
-pub words_none : (line : List ℕ) → all_words line ≡ [] → words line ≡ []
-unfolding words
+pub words_none : (line : List ℕ) → all_words line ≡ [] → line_words line ≡ []
+unfolding line_words
 words_none line h = rw h refl
 
 comment_step : (w : List ℕ) (ws : List (List ℕ)) (k : ℕ) (t : Bool) → t ≡ true → take (cond (not t) (1 + k) 0) (w ∷ ws) ≡ []
@@ -45,8 +45,8 @@ comment_step w ws k true e = refl
 comment_step w ws k false e = cc
 
 -- a comment
-pub words_comment : (line w : List ℕ) (ws : List (List ℕ)) → all_words line ≡ w ∷ ws → starts_with nat_eq w (codes "#") ≡ true → words line ≡ []
-unfolding words
+pub words_comment : (line w : List ℕ) (ws : List (List ℕ)) → all_words line ≡ w ∷ ws → starts_with nat_eq w (codes "#") ≡ true → line_words line ≡ []
+unfolding line_words
 words_comment line w ws h comment = rw h (comment_step w ws _ (starts_with nat_eq w (codes "#")) comment)
 
 word_step : (w : List ℕ) (ws : List (List ℕ)) (k : ℕ) (t : Bool) → t ≡ false → take (cond (not t) (1 + k) 0) (w ∷ ws) ≡ w ∷ take k ws
@@ -56,8 +56,8 @@ word_step w ws k false e =
     rw one refl
 
 -- a word, and the words behind it
-pub words_more : (line w rest : List ℕ) → all_words line ≡ w ∷ all_words rest → starts_with nat_eq w (codes "#") ≡ false → words line ≡ w ∷ words rest
-unfolding words
+pub words_more : (line w rest : List ℕ) → all_words line ≡ w ∷ all_words rest → starts_with nat_eq w (codes "#") ≡ false → line_words line ≡ w ∷ line_words rest
+unfolding line_words
 words_more line w rest h plain = rw h (word_step w (all_words rest) _ (starts_with nat_eq w (codes "#")) plain)
 
 and_true : (t : Bool) → t ≡ (t && true)
@@ -110,6 +110,6 @@ unfolding is_plain_line
 plain_label line e f = rw (e, f) refl
 
 -- otherwise the words decide
-pub plain_words : (line : List ℕ) → has_expansion line ≡ false → is_label line ≡ false → is_plain_line line ≡ (nat_le (length (words line)) 64 && not (list_any is_join (words line)))
+pub plain_words : (line : List ℕ) → has_expansion line ≡ false → is_label line ≡ false → is_plain_line line ≡ (nat_le (length (line_words line)) 64 && not (list_any is_join (line_words line)))
 unfolding is_plain_line
 plain_words line e f = rw (e, f) refl

@@ -1,5 +1,5 @@
 ghost use Rattle.std.specs.Prelude.{◌≡◌, ℕ, ◌≤◌, List, [], ◌∷◌, ◌++◌, length, map, count_by, IfOk, OnOk};
-ghost use Rattle.nb_defs.specs.ScriptText.{words};
+ghost use Rattle.nb_defs.specs.ScriptText.{line_words};
 ghost use Rattle.nb_defs.specs.ScriptLines.{first_join, cut_words, are_few};
 ghost use Rattle.nb_script.specs.Shown.{shown_item};
 ghost use Rattle.nb_script.specs.Cutting.{commands_before, is_join_as};
@@ -28,7 +28,7 @@ struct Cutting {
 
 /// How many words of a line are joins, or how many are none.
 fn count_words(line: &[u8], joins: bool) -> usize
-    ensures { result ≡ count_by (is_join_as joins) (words line.now) }
+    ensures { result ≡ count_by (is_join_as joins) (line_words line.now) }
 {
     let mut count = 0;
     let mut rest = line;
@@ -43,7 +43,7 @@ fn count_words(line: &[u8], joins: bool) -> usize
 
 /// Whether a line has at most 64 words and at most 64 joins.
 pub fn has_few_words(line: &[u8]) -> bool
-    ensures { result ≡ are_few (words line.now) }
+    ensures { result ≡ are_few (line_words line.now) }
 {
     count_words(line, false) <= MAX_WORDS && count_words(line, true) <= MAX_WORDS
 }
@@ -109,7 +109,7 @@ impl Cutting {
 /// The commands of a list, its comment dropped.
 pub fn cut_items(alloc: Global, line: &[u8]) -> Result<Vec<Item>, NoMemory>
     requires { length line.now ≤ 4096 }
-    ensures { IfOk result (λ list. map shown_item list.items ≡ cut_words first_join (words line.now)) }
+    ensures { IfOk result (λ list. map shown_item list.items ≡ cut_words first_join (line_words line.now)) }
 {
     let mut cutting = Cutting {
         done: Vec::new(alloc),

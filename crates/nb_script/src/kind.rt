@@ -1,5 +1,5 @@
 ghost use Rattle.std.specs.Prelude.{◌≡◌, ◌≤◌, length};
-ghost use Rattle.nb_defs.specs.ScriptLines.{without_blanks_before, without_blanks_behind, is_nothing, trimmed, kind_of, line_of};
+ghost use Rattle.nb_defs.specs.ScriptLines.{without_blanks_before, without_blanks_behind, is_nothing, trimmed, line_kind, script_line};
 ghost use Rattle.nb_script.specs.ShownLine.{shown_line, HasAtMost};
 
 use crate::line::is_label;
@@ -18,7 +18,7 @@ pub enum ScriptLine<'a> {
 
 /// What stands on a line.
 pub fn line_of(line: &[u8]) -> ScriptLine<'_>
-    ensures value { shown_line result ≡ line_of line.now }
+    ensures value { shown_line result ≡ script_line line.now }
     ensures fits { HasAtMost (length line.now) result }
 {
     kind_of(without_blanks_behind(without_blanks_before(line)))
@@ -26,7 +26,7 @@ pub fn line_of(line: &[u8]) -> ScriptLine<'_>
 
 /// What a line is that has no blanks at its ends.
 fn kind_of(line: &[u8]) -> ScriptLine<'_>
-    ensures value { shown_line result ≡ kind_of line.now }
+    ensures value { shown_line result ≡ line_kind line.now }
     ensures fits { HasAtMost (length line.now) result }
 {
     if is_nothing(line) {

@@ -26,5 +26,6 @@ pub use error::{PlainError, ScriptError};
 pub use item::Item;
 pub use join::Join;
 pub use kind::ScriptLine;
+pub use line::begins_script;
 pub use plain::PlainScript;
 pub use script::Script;

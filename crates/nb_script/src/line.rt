@@ -29,6 +29,10 @@ pub fn ends_in_backslash(line: &[u8]) -> bool
 pub fn begins_script(text: &[u8]) -> bool
     ensures { result ≡ begins_script (pieces is_line_feed text.now) }
 {
+    // A kernel may have no line feed in many megabytes: only what begins as a script is searched for one.
+    if !text.starts_with(b"#!ipxe") {
+        return false;
+    }
     match line_feed(text) {
         Some(end) => is_first_line(&text[..end]),
         None => is_first_line(text),

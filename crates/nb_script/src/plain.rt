@@ -1,8 +1,8 @@
 ghost use Rattle.std.specs.Prelude.{◌≡◌, ◌<◌, ◌≤◌, ◌-◌, length, drop, map, nat_le, sum_by, true, false, slice_get, IfOk, OnOk, IfSome, IsErrOf};
 ghost use Rattle.std.specs.List.{list_all};
 ghost use Rattle.std.specs.Option.{option_copied};
-ghost use Rattle.nb_defs.specs.ScriptText.{is_plain, lines, words, is_plain_line};
-ghost use Rattle.nb_defs.specs.ScriptLines.{reading, script, line_of};
+ghost use Rattle.nb_defs.specs.ScriptText.{is_plain, lines, line_words, is_plain_line};
+ghost use Rattle.nb_defs.specs.ScriptLines.{script_reading, script, script_line};
 ghost use Rattle.nb_script.specs.Cut.{HasLines, IsWithin, spanned};
 
 use crate::PlainError;
@@ -42,7 +42,7 @@ impl PlainScript {
         ensures same { IfOk result (λ s. s ≡ text) }
         ensures plain { OnOk result (is_plain text ≡ true) }
         ensures reads { OnOk result
-            (length text ≤ 1048576 → reading text ≡ script (map line_of (lines text))) }
+            (length text ≤ 1048576 → script_reading text ≡ script (map script_line (lines text))) }
         ensures not_script { IsErrOf result PlainError.NotScript → is_plain text ≡ false }
     {
         if !begins_script(text.as_slice()) {
@@ -71,7 +71,7 @@ impl PlainScript {
         ensures value { option_copied result ≡ slice_get (lines self.now) i }
         ensures within { IfSome result (λ _. i < 4096) }
         ensures fits { IfSome result (λ line. length line.now ≤ 4096) }
-        ensures few { IfSome result (λ line. 1 ≤ i → length (words line.now) ≤ 64) }
+        ensures few { IfSome result (λ line. 1 ≤ i → length (line_words line.now) ≤ 64) }
     {
         if i >= self.spans.len() {
             return None;
@@ -83,7 +83,7 @@ impl PlainScript {
     /// The words of a line, its comment dropped. A line without words is nothing.
     pub fn list(alloc: Global, line: &[u8]) -> Result<Words, NoMemory>
         requires { length line.now ≤ 4096 }
-        ensures value { IfOk result (λ list. list ≡ words line.now) }
+        ensures value { IfOk result (λ list. list ≡ line_words line.now) }
         ensures total { IfOk result (λ list. sum_by length list ≤ length line.now) }
     {
         words_of(alloc, line)

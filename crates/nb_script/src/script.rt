@@ -1,7 +1,7 @@
 ghost use Rattle.std.specs.Prelude.{◌≡◌, ◌≤◌, ◌↔◌, length, map, slice_get, IfOk, IfErr, IfSome, IsErrOf};
 ghost use Rattle.std.specs.Option.{option_map};
-ghost use Rattle.nb_defs.specs.ScriptLines.{reading, script, no_script, script_too_long, line_too_long, label_place, items, AreCutFrom};
-ghost use Rattle.nb_defs.specs.ScriptText.{lines, words};
+ghost use Rattle.nb_defs.specs.ScriptLines.{script_reading, script, no_script, script_too_long, line_too_long, label_place, items, AreCutFrom};
+ghost use Rattle.nb_defs.specs.ScriptText.{lines, line_words};
 ghost use Rattle.nb_script.specs.ShownLine.{shown_line, HasAtMost, is_label_at};
 ghost use Rattle.nb_script.specs.Shown.{shown_item, FitList};
 ghost use Rattle.nb_script.specs.Errors.{IsOfText, IsOfList};
@@ -29,11 +29,11 @@ impl Model for Script {
     ghost use Rattle.std.specs.Prelude.{◌≡◌, ◌≤◌, List, length, map, true};
     ghost use Rattle.std.specs.List.{list_all};
     ghost use Rattle.nb_defs.specs.ScriptText.{is_short_line};
-    ghost use Rattle.nb_defs.specs.ScriptLines.{Line, line_of};
+    ghost use Rattle.nb_defs.specs.ScriptLines.{Line, script_line};
 
     ghost Value = { List Line };
 
-    ghost view = { λ s. map line_of s.lines.lines };
+    ghost view = { λ s. map script_line s.lines.lines };
 
     ghost invariant = { λ s. (list_all is_short_line s.lines.lines ≡ true)
         × (length s.lines.lines ≤ 1048576) };
@@ -43,13 +43,13 @@ impl Script {
     /// The script of a text. A text whose first line isn't `#!ipxe` is NotScript, whatever its length,
     /// and one that is too long is ScriptTooLong, whatever its lines.
     pub fn read(alloc: Global, text: Text) -> Result<Script, ScriptError>
-        ensures reads { IfOk result (λ code. reading text ≡ script code) }
+        ensures reads { IfOk result (λ code. script_reading text ≡ script code) }
         ensures numbered { IfOk result (λ code. length code ≡ length (lines text)) }
-        ensures not_script { IsErrOf result ScriptError.NotScript ↔ reading text ≡ no_script }
+        ensures not_script { IsErrOf result ScriptError.NotScript ↔ script_reading text ≡ no_script }
         ensures script_too_long { IsErrOf result ScriptError.ScriptTooLong ↔
-            reading text ≡ script_too_long }
+            script_reading text ≡ script_too_long }
         ensures line_too_long { IsErrOf result ScriptError.LineTooLong ↔
-            (reading text ≡ line_too_long) × ¬ IsErrOf result ScriptError.NoMemory }
+            (script_reading text ≡ line_too_long) × ¬ IsErrOf result ScriptError.NoMemory }
         ensures kind { IfErr result IsOfText }
     {
         if !begins_script(text.as_slice()) {
@@ -111,7 +111,7 @@ impl Script {
     pub fn list(alloc: Global, line: &[u8]) -> Result<Vec<Item>, ScriptError>
         requires { length line.now ≤ 4096 }
         ensures value { IfOk result (λ list. items line.now ≡ Some (map shown_item list.items)) }
-        ensures cut { IfOk result (λ list. AreCutFrom (words line.now) (map shown_item list.items)) }
+        ensures cut { IfOk result (λ list. AreCutFrom (line_words line.now) (map shown_item list.items)) }
         ensures fits { IfOk result (λ list. FitList list.items) }
         ensures too_many { IsErrOf result ScriptError.TooManyWords ↔ items line.now ≡ None }
         ensures kind { IfErr result IsOfList }

@@ -1,6 +1,6 @@
 ghost use Rattle.std.specs.Prelude.{◌≡◌, ◌+◌, ◌≤◌, ◌<◌, ◌∷◌, [], length, IfSome, IfOk, sum_by, position, not, ◌&&◌, nat_le};
 ghost use Rattle.std.specs.List.{list_any, position_or_len};
-ghost use Rattle.nb_defs.specs.ScriptText.{all_words, words, is_blank, is_join};
+ghost use Rattle.nb_defs.specs.ScriptText.{all_words, line_words, is_blank, is_join};
 
 use crate::join::is_join;
 use nb_terms::NoMemory;
@@ -55,8 +55,8 @@ fn word_len(line: &[u8]) -> usize
 
 /// The next word that isn't in a comment, and what stands behind it.
 pub fn next_word(line: &[u8]) -> Option<(&[u8], &[u8])>
-    ensures none { result ≡ None → words line.now ≡ [] }
-    ensures some { IfSome result (λ cut. words line.now ≡ cut.0.now ∷ words cut.1.now) }
+    ensures none { result ≡ None → line_words line.now ≡ [] }
+    ensures some { IfSome result (λ cut. line_words line.now ≡ cut.0.now ∷ line_words cut.1.now) }
     ensures sizes { IfSome result
         (λ cut. length cut.0.now + length cut.1.now ≤ length line.now) }
     ensures some_byte { IfSome result (λ cut. 0 < length cut.0.now) }
@@ -70,7 +70,7 @@ pub fn next_word(line: &[u8]) -> Option<(&[u8], &[u8])>
 
 /// Whether a line has at most 64 words and none that joins commands.
 pub fn has_plain_words(line: &[u8]) -> bool
-    ensures { result ≡ (nat_le (length (words line.now)) 64 && not (list_any is_join (words line.now))) }
+    ensures { result ≡ (nat_le (length (line_words line.now)) 64 && not (list_any is_join (line_words line.now))) }
 {
     let mut count = 0;
     let mut rest = line;
@@ -87,7 +87,7 @@ pub fn has_plain_words(line: &[u8]) -> bool
 /// The words of a line, its comment dropped, each copied into a memory of its own.
 pub fn words_of(alloc: Global, line: &[u8]) -> Result<Words, NoMemory>
     requires { length line.now ≤ 4096 }
-    ensures value { IfOk result (λ list. list ≡ words line.now) }
+    ensures value { IfOk result (λ list. list ≡ line_words line.now) }
     ensures total { IfOk result (λ list. sum_by length list ≤ length line.now) }
 {
     let mut list = Vec::new(alloc);

@@ -1,4 +1,6 @@
+pub mod AnswerLaws
 pub mod MessageLaws
 pub mod PutLaws
 pub mod ReadingLaws
+pub mod SegmentLaws
 pub mod WayLaws

@@ -1,5 +1,5 @@
 -- How long packets are that are sent, what a frame around one is, and how long that is.
-use Rattle.std.proofs.Common.{◌≡◌, ℕ, ◌+◌, ◌≤◌, List, ◌++◌, length, refl, ap, ◌∙◌, append_assoc, arith}
+use Rattle.std.proofs.Common.{◌≡◌, ◌==◌, ℕ, ◌+◌, ◌*◌, ◌≤◌, inl, inr, List, ◌++◌, length, Option, None, if◌then◌else◌, refl, ap, ◌∙◌, append_assoc, arith}
 use Rattle.std.specs.Int.{w16, to_be_bytes}
 use Rattle.std.proofs.lemmas.List.{length-append}
 use Rattle.nb_wire.specs.Checksum.{checksum}
@@ -9,9 +9,12 @@ use Rattle.nb_terms.specs.declared.acts.SendTo.{SendTo}
 use Rattle.nb_ether.specs.declared.arp.Arp.{Arp}
 use Rattle.nb_ether.specs.ArpText.{arp_text}
 use Rattle.nb_ether.specs.Frame.{Frame, frame_head, frame_text}
-use Rattle.nb_ipv4.specs.PacketText.{PacketParts, header_text, sent_header, sent_packet}
-use Rattle.nb_ipv4.specs.UdpText.{UdpParts, udp_header, udp_sum, sent_field, sent_datagram}
-use Rattle.nb_stack.specs.Sends.{arp_frame, packet_frame, datagram_frame, udp_of}
+use Rattle.nb_ipv4.specs.PacketText.{PacketParts, header_text, sent_header, sent_parts, sent_packet}
+use Rattle.nb_ipv4.specs.UdpText.{sent_datagram}
+use Rattle.nb_ipv4.specs.EchoText.{sent_echo}
+use Rattle.nb_tcpseg.specs.SegmentText.{SegmentParts, tcp_header, sent_header_len, sent_options, sent_sum, sent_segment}
+use Rattle.nb_tcpseg.proofs.HeaderLemmas.{length-tcp_header}
+use Rattle.nb_stack.specs.Sends.{arp_frame, packet_frame, message_frame, udp_of, request_echo, with_checksum, IsCarried}
 use Rattle.nb_stack.specs.Sizes.{IsFrameSize}
 
 length-sent_header : (sum : ℕ) (p : PacketParts) → length (header_text (sent_header sum) p) ≡ 20
@@ -23,16 +26,6 @@ unfolding sent_packet
 length-sent_packet p =
     let sum : ℕ = checksum (header_text (sent_header 0) p) in
     omega (arith, length-append (header_text (sent_header sum) p) p.body, length-sent_header sum p)
-
-length-udp_header : (d : UdpParts) (field : ℕ) → length (udp_header d field) ≡ 8
-unfolding udp_header
-length-udp_header d field = refl
-
-pub length-sent_datagram : (src dst : Ip4) (d : UdpParts) → length (sent_datagram src dst d) ≡ 8 + length d.body
-unfolding sent_datagram
-length-sent_datagram src dst d =
-    let field : ℕ = sent_field (udp_sum src dst d 0) in
-    omega (arith, length-append (udp_header d field) d.body, length-udp_header d field)
 
 pub length-frame_text : (f : Frame) → length f.dst.0 ≡ 6 → length f.src.0 ≡ 6 → length (frame_text f) ≡ 14 + length f.body
 length-frame_text f dst src =
@@ -72,17 +65,30 @@ unfolding packet_frame
 length-packet_frame dst src p n to from is =
     omega (arith, length-frame_text (record { dst = dst; src = src; kind = 2048; body = sent_packet p }) to from, length-sent_packet p, is)
 
--- a datagram's head and the two parts of its body, put after what stands before them
-pub datagram_put : (old heads before half new head first second : List ℕ) (dst src : Mac) (from : Ip4) (message : SendTo) → before ≡ heads ++ head → half ≡ before ++ first → new ≡ half ++ second → head ++ (first ++ second) ≡ sent_datagram from message.to (udp_of message) → heads ++ sent_datagram from message.to (udp_of message) ≡ old ++ packet_frame dst src (record { src = from; dst = message.to; proto = 17; body = sent_datagram from message.to (udp_of message) }) → new ≡ old ++ datagram_frame dst src from message
-unfolding datagram_frame
-datagram_put old heads before half new head first second dst src from message one two three text_is frame_is =
-    three
-    ∙ ap (λ (x : List ℕ). x ++ second) (two ∙ ap (λ (x : List ℕ). x ++ first) one)
-    ∙ append_assoc (heads ++ head) first second
-    ∙ append_assoc heads head (first ++ second)
-    ∙ ap (λ (x : List ℕ). heads ++ x) text_is
-    ∙ frame_is
+-- a message of a protocol is put as that protocol says
+pub message_17 : (dst src : Mac) (from : Ip4) (m : SendTo) → m.proto ≡ 17 → message_frame dst src from m ≡ packet_frame dst src (sent_parts from m.to 17 (sent_datagram from m.to (udp_of m)))
+unfolding message_frame
+message_17 dst src from m proto = ap (λ n. packet_frame dst src (sent_parts from m.to n (if n == 17 then sent_datagram from m.to (udp_of m) else (if n == 1 then sent_echo (request_echo m) else with_checksum from m.to m.body.items)))) proto
 
-pub datagram_size : (dst src : Mac) (from : Ip4) (message : SendTo) (n : ℕ) → n ≤ 1488 → length (packet_frame dst src (record { src = from; dst = message.to; proto = 17; body = sent_datagram from message.to (udp_of message) })) ≡ 34 + n → IsFrameSize (length (datagram_frame dst src from message))
-unfolding datagram_frame
-datagram_size dst src from message n short size = record { least = omega (arith, size); most = omega (arith, size, short) }
+pub message_1 : (dst src : Mac) (from : Ip4) (m : SendTo) → m.proto ≡ 1 → message_frame dst src from m ≡ packet_frame dst src (sent_parts from m.to 1 (sent_echo (request_echo m)))
+unfolding message_frame
+message_1 dst src from m proto = ap (λ n. packet_frame dst src (sent_parts from m.to n (if n == 17 then sent_datagram from m.to (udp_of m) else (if n == 1 then sent_echo (request_echo m) else with_checksum from m.to m.body.items)))) proto
+
+pub message_6 : (dst src : Mac) (from : Ip4) (m : SendTo) → m.proto ≡ 6 → message_frame dst src from m ≡ packet_frame dst src (sent_parts from m.to 6 (with_checksum from m.to m.body.items))
+unfolding message_frame
+message_6 dst src from m proto = ap (λ n. packet_frame dst src (sent_parts from m.to n (if n == 17 then sent_datagram from m.to (udp_of m) else (if n == 1 then sent_echo (request_echo m) else with_checksum from m.to m.body.items)))) proto
+
+pub carried_6 : (proto : ℕ) (body : List ℕ) → IsCarried proto body → (proto ≡ 17 → ⊥) → (proto ≡ 1 → ⊥) → (proto ≡ 6) × (20 ≤ length body)
+carried_6 proto body (inl is) no17 no1 = absurd (no17 is)
+carried_6 proto body (inr (inl is)) no17 no1 = absurd (no1 is)
+carried_6 proto body (inr (inr is)) no17 no1 = is
+
+pub length-sent_segment : (src dst : Ip4) (s : SegmentParts) → s.mss ≡ None → length s.body ≡ 0 → length (sent_segment src dst s) ≡ 20
+unfolding sent_segment
+length-sent_segment src dst s mss body =
+    let sum = sent_sum src dst s in
+    let head = tcp_header s (4 * sent_header_len s.mss) sum 0 in
+    omega (arith, length-append head (sent_options s.mss ++ s.body), length-append (sent_options s.mss) s.body, length-tcp_header s (4 * sent_header_len s.mss) sum 0, ap (λ (m : Option ℕ). length (sent_options m)) mss, body)
+
+pub header_size : (n : ℕ) → n ≡ 34 + 20 → IsFrameSize n
+header_size n is = record { least = omega (arith, is); most = omega (arith, is) }

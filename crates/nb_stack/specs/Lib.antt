@@ -4,6 +4,7 @@ pub mod Bound
 pub mod Client
 pub mod Route
 pub mod Brings
+pub mod Resets
 pub mod Sizes
 pub mod Envelope
 pub mod Sends

@@ -23,7 +23,11 @@ abbrev pub route_with : Option Addr → Ip4 → Way
 route_with None to = Nowhere
 route_with (Some address) to = hop_from address to
 
--- a device that is down has no way; what a DHCP client sends to all hosts needs no address
+-- a device that is down has no way
+abbrev pub packet_route : Bool → Option Addr → Ip4 → Way
+packet_route up address to = if up then route_with address to else Nowhere
+
+-- the way of a datagram: what a DHCP client sends to all hosts needs no address
 abbrev pub route_of : Bool → Option Addr → Ip4 → ℕ → Way
 route_of up address to own_port =
     if up

@@ -6,13 +6,13 @@ use nb_wire::Ip4;
 /// A message without its body: its protocol, whom it is for, and the ports at both ends.
 #[derive(Clone, Copy, Debug, PartialEq, Eq)]
 pub struct Envelope {
-    /// The protocol (RFC 791): 17 for UDP.
+    /// The protocol (RFC 791): 17 for UDP, 1 for an echo request, 6 for a TCP segment.
     pub proto: u8,
     /// The host that it is for.
     pub to: Ip4,
-    /// The port that it is for.
+    /// The port that it is for; of an echo the sequence number.
     pub to_port: u16,
-    /// The port that sends it.
+    /// The port that sends it; of an echo the identifier.
     pub own_port: u16,
 }
 

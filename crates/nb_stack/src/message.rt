@@ -2,7 +2,8 @@
 
 use crate::address::Addr;
 use nb_ether::Arp;
-use nb_ipv4::{Packet, Udp};
+use nb_ipv4::{Echo, Packet, Udp};
+use nb_tcpseg::Segment;
 use nb_wire::Mac;
 
 /// The message that a frame brings a client.
@@ -19,5 +20,22 @@ pub(crate) enum Message<'a> {
     HasDatagram {
         packet: Packet<'a>,
         datagram: Udp<'a>,
+    },
+    /// An echo request, in this packet, in a frame from this interface.
+    HasRequest {
+        from: Mac,
+        packet: Packet<'a>,
+        echo: Echo<'a>,
+    },
+    /// An echo reply, in this packet.
+    HasReply {
+        packet: Packet<'a>,
+        echo: Echo<'a>,
+    },
+    /// A TCP segment, in this packet, in a frame from this interface.
+    HasSegment {
+        from: Mac,
+        packet: Packet<'a>,
+        segment: Segment<'a>,
     },
 }

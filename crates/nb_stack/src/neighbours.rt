@@ -43,7 +43,7 @@ impl Model for Neighbours {
 
 impl Neighbours {
     ghost use Rattle.std.specs.Prelude.{◌≡◌, ◌<◌, [], length, slice_set};
-    ghost use Rattle.nb_stack.specs.Near.{place_of, mac_of, put_in, learned};
+    ghost use Rattle.nb_stack.specs.Near.{neighbour_place, mac_of, put_neighbour, learned};
 
     pub(crate) fn new() -> Neighbours
         ensures { result ≡ [] }
@@ -62,7 +62,7 @@ impl Neighbours {
 
     // Renews the neighbour in its place, or gives it one where it is `welcome`.
     pub(crate) fn learn(&mut self, neighbour: Neighbour, welcome: bool)
-        ensures { self.new ≡ learned (place_of neighbour.ip self.old) welcome neighbour self.old }
+        ensures { self.new ≡ learned (neighbour_place neighbour.ip self.old) welcome neighbour self.old }
     {
         match self.place(neighbour.ip) {
             Some(place) => self.renew(place, neighbour),
@@ -75,7 +75,7 @@ impl Neighbours {
     }
 
     fn place(&self, ip: Ip4) -> Option<usize>
-        ensures { result ≡ place_of ip self.now }
+        ensures { result ≡ neighbour_place ip self.now }
     {
         self.places.iter().position(|n| n.ip.0 == ip.0)
     }
@@ -88,7 +88,7 @@ impl Neighbours {
     }
 
     fn put(&mut self, neighbour: Neighbour)
-        ensures { self.new ≡ put_in neighbour self.old }
+        ensures { self.new ≡ put_neighbour neighbour self.old }
     {
         if self.places.is_full() {
             self.places.remove(0);

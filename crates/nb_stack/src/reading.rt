@@ -1,16 +1,19 @@
 //! The reading of a frame.
 
-ghost use Rattle.std.specs.Prelude.{◌≡◌, ◌⊎◌, ◌↔◌, Some, IfSome, IsSomeAnd, IsTrue};
+ghost use Rattle.std.specs.Prelude.{◌≡◌, ◌⊎◌, ◌↔◌, true, Some, IfSome, IsSomeAnd, IsTrue};
 ghost use Rattle.nb_ether.specs.Frame.{Frame, frame_of};
-ghost use Rattle.nb_ipv4.specs.PacketText.{PacketParts, IsPacket, packet_parts};
+ghost use Rattle.nb_ipv4.specs.PacketText.{IsPacket, packet_parts};
 ghost use Rattle.nb_ipv4.specs.UdpText.{UdpParts, IsUdp, udp_parts};
-ghost use Rattle.nb_stack.specs.Owns.{everyone};
-ghost use Rattle.nb_stack.specs.Brings.{IsFrameFor, IsAddressed, BringsIn, Brings, brought};
+ghost use Rattle.nb_ipv4.specs.EchoText.{EchoParts, IsEcho, IsEchoKind, echo_parts};
+ghost use Rattle.nb_tcpseg.specs.SegmentText.{SegmentParts, IsSegment, segment_parts};
+ghost use Rattle.nb_stack.specs.Owns.{owns, everyone};
+ghost use Rattle.nb_stack.specs.Brings.{IsFrameFor, IsAddressed, IsEchoOf, BringsIn, Brings, brought};
 
 use crate::address::{ALL_HOSTS, Addr, DHCP_CLIENT, EVERYONE, is_own};
 use crate::message::Message;
 use nb_ether::{Arp, EtherFrame, KIND_ARP, KIND_IPV4};
-use nb_ipv4::{PROTO_UDP, Packet, Udp};
+use nb_ipv4::{ECHO_REQUEST, Echo, PROTO_ICMP, PROTO_TCP, PROTO_UDP, Packet, Udp};
+use nb_tcpseg::Segment;
 use nb_wire::{Ip4, Mac};
 
 // The message that the bytes bring a client with these addresses, if they bring one.
@@ -50,7 +53,7 @@ fn message_in<'a>(address: Option<Addr>, frame: EtherFrame<'a>) -> Message<'a>
 {
     match frame.kind {
         KIND_ARP => arp_in(address, frame),
-        KIND_IPV4 => datagram_in(address, frame),
+        KIND_IPV4 => packet_in(address, frame),
         _ => Message::Nothing,
     }
 }
@@ -68,29 +71,76 @@ fn arp_in<'a>(address: Option<Addr>, frame: EtherFrame<'a>) -> Message<'a>
     }
 }
 
-fn datagram_in<'a>(address: Option<Addr>, frame: EtherFrame<'a>) -> Message<'a>
+fn packet_in<'a>(address: Option<Addr>, frame: EtherFrame<'a>) -> Message<'a>
     requires { frame.kind ≡ 2048 }
     ensures { BringsIn address (frame_of frame.entry) (brought result) }
 {
-    match udp_packet(frame.body) {
-        Some(packet) => match udp_for(address, packet) {
-            Some(datagram) => Message::HasDatagram { packet, datagram },
-            None => Message::Nothing,
-        },
+    match Packet::read(frame.body) {
+        Some(packet) => carried_in(address, frame, packet),
         None => Message::Nothing,
     }
 }
 
-fn udp_packet<'a>(bytes: &'a [u8]) -> Option<Packet<'a>>
-    ensures sound { IfSome result (λ p. IsPacket bytes.now (packet_parts p) × (p.proto ≡ 17)) }
-    ensures complete { (p : PacketParts) → IsPacket bytes.now p → p.proto ≡ 17
-        → IsSomeAnd result (λ q. packet_parts q ≡ p) }
+fn carried_in<'a>(address: Option<Addr>, frame: EtherFrame<'a>, packet: Packet<'a>) -> Message<'a>
+    requires kind { frame.kind ≡ 2048 }
+    requires packet { IsPacket frame.body.now (packet_parts packet) }
+    ensures { BringsIn address (frame_of frame.entry) (brought result) }
 {
-    let packet = Packet::read(bytes)?;
-    if packet.proto == PROTO_UDP {
-        Some(packet)
-    } else {
-        None
+    match packet.proto {
+        PROTO_UDP => datagram_in(address, frame, packet),
+        PROTO_ICMP => echo_in(address, frame, packet),
+        PROTO_TCP => segment_in(address, frame, packet),
+        _ => Message::Nothing,
+    }
+}
+
+fn datagram_in<'a>(address: Option<Addr>, frame: EtherFrame<'a>, packet: Packet<'a>) -> Message<'a>
+    requires kind { frame.kind ≡ 2048 }
+    requires packet { IsPacket frame.body.now (packet_parts packet) }
+    requires proto { packet.proto ≡ 17 }
+    ensures { BringsIn address (frame_of frame.entry) (brought result) }
+{
+    match udp_for(address, packet) {
+        Some(datagram) => Message::HasDatagram { packet, datagram },
+        None => Message::Nothing,
+    }
+}
+
+fn echo_in<'a>(address: Option<Addr>, frame: EtherFrame<'a>, packet: Packet<'a>) -> Message<'a>
+    requires kind { frame.kind ≡ 2048 }
+    requires packet { IsPacket frame.body.now (packet_parts packet) }
+    requires proto { packet.proto ≡ 1 }
+    ensures { BringsIn address (frame_of frame.entry) (brought result) }
+{
+    match echo_for(address, packet) {
+        Some(echo) => echo_message(frame.src, packet, echo),
+        None => Message::Nothing,
+    }
+}
+
+fn echo_message<'a>(from: Mac, packet: Packet<'a>, echo: Echo<'a>) -> Message<'a>
+    requires { IsEchoKind echo.kind }
+    ensures { IsEchoOf from (packet_parts packet.entry) (echo_parts echo.entry) (brought result) }
+{
+    match echo.kind {
+        ECHO_REQUEST => Message::HasRequest { from, packet, echo },
+        _ => Message::HasReply { packet, echo },
+    }
+}
+
+fn segment_in<'a>(address: Option<Addr>, frame: EtherFrame<'a>, packet: Packet<'a>) -> Message<'a>
+    requires kind { frame.kind ≡ 2048 }
+    requires packet { IsPacket frame.body.now (packet_parts packet) }
+    requires proto { packet.proto ≡ 6 }
+    ensures { BringsIn address (frame_of frame.entry) (brought result) }
+{
+    match segment_for(address, packet) {
+        Some(segment) => Message::HasSegment {
+            from: frame.src,
+            packet,
+            segment,
+        },
+        None => Message::Nothing,
     }
 }
 
@@ -113,4 +163,31 @@ fn is_addressed(address: Option<Addr>, dst: Ip4, port: u16) -> bool
     ensures { IsTrue result ↔ IsAddressed address dst port }
 {
     is_own(address, dst) || dst.0 == ALL_HOSTS.0 || port == DHCP_CLIENT
+}
+
+fn echo_for<'a>(address: Option<Addr>, packet: Packet<'a>) -> Option<Echo<'a>>
+    ensures sound { let p = packet_parts packet.entry in IfSome result
+        (λ e. IsEcho p.body (echo_parts e) × (owns address p.dst ≡ true)) }
+    ensures complete { let p = packet_parts packet.entry in (e : EchoParts)
+        → IsEcho p.body e → owns address p.dst ≡ true → IsSomeAnd result (λ f. echo_parts f ≡ e) }
+{
+    if is_own(address, packet.dst) {
+        Echo::read(packet.body)
+    } else {
+        None
+    }
+}
+
+fn segment_for<'a>(address: Option<Addr>, packet: Packet<'a>) -> Option<Segment<'a>>
+    ensures sound { let p = packet_parts packet.entry in IfSome result
+        (λ s. IsSegment p.src p.dst p.body (segment_parts s) × (owns address p.dst ≡ true)) }
+    ensures complete { let p = packet_parts packet.entry in (s : SegmentParts)
+        → IsSegment p.src p.dst p.body s → owns address p.dst ≡ true
+        → IsSomeAnd result (λ t. segment_parts t ≡ s) }
+{
+    if is_own(address, packet.dst) {
+        Segment::read(packet.src, packet.dst, packet.body)
+    } else {
+        None
+    }
 }

@@ -1,7 +1,7 @@
 //! The next hop of what is sent.
 
 ghost use Rattle.std.specs.Prelude.{◌≡◌};
-ghost use Rattle.nb_stack.specs.Route.{is_in_net, hop_from, route_of};
+ghost use Rattle.nb_stack.specs.Route.{is_in_net, hop_from, packet_route, route_of};
 
 use crate::address::{ALL_HOSTS, Addr, DHCP_CLIENT};
 use nb_wire::Ip4;
@@ -17,18 +17,23 @@ pub(crate) enum Way {
     Hop { from: Ip4, hop: Ip4 },
 }
 
-pub(crate) fn route(up: bool, address: Option<Addr>, to: Ip4, own_port: u16) -> Way
+// The way of a datagram.
+pub(crate) fn datagram_way(up: bool, address: Option<Addr>, to: Ip4, own_port: u16) -> Way
     ensures { result ≡ route_of up address to own_port }
 {
-    if !up {
-        return Way::Nowhere;
-    }
-    if own_port == DHCP_CLIENT && to.0 == ALL_HOSTS.0 {
+    if up && own_port == DHCP_CLIENT && to.0 == ALL_HOSTS.0 {
         return Way::Everyone;
     }
+    packet_way(up, address, to)
+}
+
+// The way of another packet.
+pub(crate) fn packet_way(up: bool, address: Option<Addr>, to: Ip4) -> Way
+    ensures { result ≡ packet_route up address to }
+{
     match address {
-        Some(address) => hop(address, to),
-        None => Way::Nowhere,
+        Some(address) if up => hop(address, to),
+        _ => Way::Nowhere,
     }
 }
 

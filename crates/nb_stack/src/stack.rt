@@ -1,16 +1,20 @@
 //! The link and network layer.
 
+ghost use Rattle.std.specs.Prelude.{◌≡◌, ◌==◌, if◌then◌else◌};
+
 use crate::address::{Addr, EVERYONE, is_own};
 use crate::envelope::Envelope;
 use crate::message::Message;
 use crate::neighbours::{Neighbour, Neighbours};
 use crate::ports::{Port, Ports};
-use crate::put::{put_arp, put_datagram};
+use crate::put::{Endpoints, put_arp, put_echo, put_header, put_message};
 use crate::reading::message;
-use crate::route::{Way, route};
+use crate::reset::{is_reset, reset_of};
+use crate::route::{Way, datagram_way, packet_way};
 use crate::taken::{Fate, Taken};
 use nb_ether::{ARP_REPLY, ARP_REQUEST, Arp};
-use nb_ipv4::{PROTO_UDP, Packet, Udp};
+use nb_ipv4::{ECHO_REPLY, Echo, PROTO_ICMP, PROTO_TCP, PROTO_UDP, Packet, Udp};
+use nb_tcpseg::Segment;
 use nb_terms::SendTo;
 use nb_wire::{Full, Ip4, Mac, Out};
 use std::marker::Model;
@@ -37,12 +41,14 @@ impl Stack {
     ghost use Rattle.std.specs.Prelude.{◌≡◌, ℕ, ◌+◌, ◌%◌, ◌≤◌, List, ◌++◌, ◌↔◌, [], None, false, length, is_some, IsErr, OnOk, OnErr};
     ghost use Rattle.nb_ipv4.specs.PacketText.{packet_parts};
     ghost use Rattle.nb_ipv4.specs.UdpText.{udp_parts};
+    ghost use Rattle.nb_ipv4.specs.EchoText.{echo_parts};
+    ghost use Rattle.nb_tcpseg.specs.SegmentText.{segment_parts};
     ghost use Rattle.nb_stack.specs.Near.{mac_of, after_arp};
     ghost use Rattle.nb_stack.specs.Bound.{owner_of, with_port, without};
-    ghost use Rattle.nb_stack.specs.Sends.{fate_of, put_on, way_of, fate_by, put_by, request_for};
+    ghost use Rattle.nb_stack.specs.Sends.{fate_of, put_on, way_of, fate_by, put_by, request_for, IsCarried};
     ghost use Rattle.nb_stack.specs.Envelope.{message_of};
-    ghost use Rattle.nb_stack.specs.Brings.{Brings, arp_message, datagram, brought};
-    ghost use Rattle.nb_stack.specs.Takes.{Takes, outcome, outcome_of, reply_of, client_after, asks, reply_to};
+    ghost use Rattle.nb_stack.specs.Brings.{Brings, arp_message, datagram, echo_request, echo_reply, segment, brought};
+    ghost use Rattle.nb_stack.specs.Takes.{Takes, outcome, outcome_of, reply_of, client_after, asks, reply_to, back_to};
     ghost use Rattle.nb_stack.specs.Sizes.{IsFrameSize, IsReplySize};
     ghost use Rattle.nb_stack.specs.declared.taken.Fate.TheVariants.{NoRoute};
 
@@ -103,10 +109,11 @@ impl Stack {
         self.ports.unbind(proto, port);
     }
 
-    /// Takes a frame. Its one message for the client, if it brings one, is noted, handed on or
-    /// replied to (RFC 826, 791, 768).
+    /// Takes a frame. Its one message for the client, if it brings one, is noted, handed on, replied to
+    /// (RFC 826, 792) or reset (RFC 9293).
     pub fn take<'a>(&mut self, frame: &'a [u8], reply: &mut Out<'_>) -> Taken<'a>
-        requires { 1522 ≤ reply.old.left }
+        requires frame { length frame.now ≤ 1522 }
+        requires room { 1522 ≤ reply.old.left }
         ensures takes { Takes self.old frame.now
             (outcome result) reply.old.written reply.new.written self.new }
         ensures size { (r : List ℕ) × (reply.new.written ≡ reply.old.written ++ r) × IsReplySize r }
@@ -119,14 +126,25 @@ impl Stack {
             Message::Nothing => Taken::Drop,
             Message::HasArp { from, arp } => self.take_arp(from, &arp, reply),
             Message::HasDatagram { packet, datagram } => self.hand_on(packet, datagram),
+            Message::HasRequest { from, packet, echo } => {
+                self.reply_echo(from, &packet, &echo, reply);
+                Taken::Reply
+            }
+            Message::HasReply { packet, echo } => self.hand_on_reply(packet, echo),
+            Message::HasSegment {
+                from,
+                packet,
+                segment,
+            } => self.take_segment(from, packet, &segment, reply),
         }
     }
 
-    /// Sends a UDP message to its next hop (RFC 1122, section 3.3.1). The try is lost where the hop is
-    /// asked for its hardware address first (RFC 826).
+    /// Sends a message to its next hop (RFC 1122, section 3.3.1): a UDP datagram, an echo request, or a
+    /// TCP segment, whose checksum is put into its place. The try is lost where the hop is asked for its
+    /// hardware address first (RFC 826).
     #[inline(always)]
     pub fn send(&mut self, s: &SendTo, out: &mut Out<'_>) -> Fate
-        requires udp { s.now.proto ≡ 17 }
+        requires carried { IsCarried s.now.proto s.now.body.items }
         requires room { 1522 ≤ out.old.left }
         ensures fate { result ≡ fate_of self.old (way_of self.old s.now) }
         ensures put { out.new.written ≡
@@ -135,11 +153,12 @@ impl Stack {
             → IsFrameSize (length (put_on self.old s.now (way_of self.old s.now))) }
         ensures same { self.new ≡ self.old }
     {
-        self.send_parts(&Envelope::of(s), &[], s.body.as_slice(), out)
+        let (first, second) = s.body.as_slice().split_at(head_len(s.proto));
+        self.send_parts(&Envelope::of(s), first, second, out)
     }
 
-    /// Sends the UDP message of this envelope as `send` does. Its body is `first` and then `second`,
-    /// which are copied once, into the room.
+    /// Sends the message of this envelope as `send` does. Its body is `first` and then `second`, which
+    /// are copied once, into the room. A TCP header lies in `first`.
     #[inline(always)]
     pub fn send_parts(
         &self,
@@ -148,7 +167,7 @@ impl Stack {
         second: &[u8],
         out: &mut Out<'_>,
     ) -> Fate
-        requires udp { envelope.now.proto ≡ 17 }
+        requires carried { IsCarried envelope.now.proto first.now }
         requires even { length first.now % 2 ≡ 0 }
         requires short { length first.now + length second.now ≤ 1480 }
         requires room { 1522 ≤ out.old.left }
@@ -159,13 +178,24 @@ impl Stack {
         ensures size { let m = message_of envelope.now first.now second.now in
             (result ≡ NoRoute → ⊥) → IsFrameSize (length (put_on self.now m (way_of self.now m))) }
     {
-        match route(self.up, self.address, envelope.to, envelope.own_port) {
+        match self.way(envelope) {
             Way::Nowhere => Fate::NoRoute,
             Way::Everyone => {
-                put_datagram(EVERYONE, self.mac, Ip4(0), envelope, first, second, out);
+                put_message(EVERYONE, self.mac, Ip4(0), envelope, first, second, out);
                 Fate::Sent
             }
             Way::Hop { from, hop } => self.send_by(from, hop, envelope, first, second, out),
+        }
+    }
+
+    #[inline(always)]
+    fn way(&self, envelope: &Envelope) -> Way
+        ensures { (first second : List ℕ)
+            → result ≡ way_of self.now (message_of envelope.now first second) }
+    {
+        match envelope.proto {
+            PROTO_UDP => datagram_way(self.up, self.address, envelope.to, envelope.own_port),
+            _ => packet_way(self.up, self.address, envelope.to),
         }
     }
 
@@ -179,6 +209,7 @@ impl Stack {
         second: &[u8],
         out: &mut Out<'_>,
     ) -> Fate
+        requires carried { IsCarried envelope.now.proto first.now }
         requires even { length first.now % 2 ≡ 0 }
         requires short { length first.now + length second.now ≤ 1480 }
         requires room { 1522 ≤ out.old.left }
@@ -190,7 +221,7 @@ impl Stack {
     {
         match self.near.mac(hop) {
             Some(mac) => {
-                put_datagram(mac, self.mac, from, envelope, first, second, out);
+                put_message(mac, self.mac, from, envelope, first, second, out);
                 Fate::Sent
             }
             None => {
@@ -280,4 +311,97 @@ impl Stack {
             None => Taken::Drop,
         }
     }
+
+    // The port of an echo reply is its identifier.
+    fn hand_on_reply<'a>(&self, packet: Packet<'a>, echo: Echo<'a>) -> Taken<'a>
+        ensures { outcome result ≡ outcome_of self.now
+            (echo_reply (packet_parts packet.entry) (echo_parts echo.entry)) }
+    {
+        match self.ports.owner(PROTO_ICMP, echo.ident) {
+            Some(to) => Taken::To {
+                to,
+                src: packet.src,
+                dst: packet.dst,
+                proto: PROTO_ICMP,
+                src_port: 0,
+                body: echo.body,
+            },
+            None => Taken::Drop,
+        }
+    }
+
+    fn reply_echo(&self, from: Mac, packet: &Packet<'_>, echo: &Echo<'_>, reply: &mut Out<'_>)
+        requires proto { packet.now.proto ≡ 1 }
+        requires short { length echo.now.body.now ≤ 1480 }
+        requires room { 1522 ≤ reply.old.left }
+        ensures put { reply.new.written ≡ reply.old.written ++ reply_of self.now
+            (echo_request from (packet_parts packet.now) (echo_parts echo.now)) }
+        ensures size { IsReplySize (reply_of self.now
+            (echo_request from (packet_parts packet.now) (echo_parts echo.now))) }
+    {
+        let ends = self.back(from, packet);
+        put_echo(
+            ends,
+            ECHO_REPLY,
+            echo.ident,
+            echo.seq,
+            &[],
+            echo.body,
+            reply,
+        );
+    }
+
+    // A segment is handed on whole. Where nobody bound its port it is reset, but for a reset.
+    fn take_segment<'a>(
+        &self,
+        from: Mac,
+        packet: Packet<'a>,
+        tcp: &Segment<'_>,
+        reply: &mut Out<'_>,
+    ) -> Taken<'a>
+        requires proto { packet.proto ≡ 6 }
+        requires short { length tcp.now.body.now ≤ 1488 }
+        requires room { 1522 ≤ reply.old.left }
+        ensures outcome { outcome result ≡ outcome_of self.now
+            (segment from (packet_parts packet.entry) (segment_parts tcp.now)) }
+        ensures put { reply.new.written ≡ reply.old.written ++ reply_of self.now
+            (segment from (packet_parts packet.entry) (segment_parts tcp.now)) }
+        ensures size { IsReplySize (reply_of self.now
+            (segment from (packet_parts packet.entry) (segment_parts tcp.now))) }
+    {
+        match self.ports.owner(PROTO_TCP, tcp.dst_port) {
+            Some(to) => Taken::To {
+                to,
+                src: packet.src,
+                dst: packet.dst,
+                proto: PROTO_TCP,
+                src_port: tcp.src_port,
+                body: packet.body,
+            },
+            None if is_reset(tcp) => Taken::Drop,
+            None => {
+                put_header(self.back(from, &packet), &reset_of(tcp), reply);
+                Taken::Reply
+            }
+        }
+    }
+
+    // The way back to the interface and the host that a packet came from.
+    fn back(&self, from: Mac, packet: &Packet<'_>) -> Endpoints
+        ensures { result ≡ back_to from self.now.mac (packet_parts packet.now) }
+    {
+        Endpoints {
+            dst: from,
+            src: self.mac,
+            from: packet.dst,
+            to: packet.src,
+        }
+    }
+}
+
+// How much of a message's body has to lie in its first part.
+fn head_len(proto: u8) -> usize
+    ensures { result ≡ if proto == 6 then 20 else 0 }
+{
+    if proto == PROTO_TCP { 20 } else { 0 }
 }

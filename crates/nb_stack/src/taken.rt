@@ -5,7 +5,7 @@ use nb_wire::Ip4;
 pub enum Taken<'a> {
     /// It brings nobody anything, or it was a message of the link, which the stack has noted.
     Drop,
-    /// It asks for a reply, which was put.
+    /// It asks for a reply, or is reset; the answer was put.
     Reply,
     /// It brings a message.
     To {
@@ -15,11 +15,12 @@ pub enum Taken<'a> {
         src: Ip4,
         /// The address that it was sent to.
         dst: Ip4,
-        /// `PROTO_UDP`.
+        /// `PROTO_UDP`, `PROTO_TCP` or `PROTO_ICMP`.
         proto: u8,
-        /// The port that it was sent from.
+        /// The port that it was sent from; 0 for an echo reply.
         src_port: u16,
-        /// What follows the UDP header.
+        /// What follows the UDP header, the whole TCP segment, or what follows the sequence number of
+        /// an echo reply.
         body: &'a [u8],
     },
 }

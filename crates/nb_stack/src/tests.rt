@@ -1,5 +1,7 @@
 ghost use Rattle.std.specs.Prelude.{◌≡◌};
 
+mod answers;
+
 use super::*;
 use arrayvec::ArrayVec;
 use nb_ipv4::PROTO_UDP;

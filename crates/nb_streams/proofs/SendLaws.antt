@@ -5,7 +5,7 @@ use Rattle.std.proofs.lemmas.Bool.{false≢true, and_parts, or_cases, ltb-true, 
 use Rattle.std.proofs.lemmas.List.{length-take, length-drop, take-append-drop, length-append}
 use Rattle.nb_streams.specs.Segments.{Incoming, Arrival}
 use Rattle.nb_streams.specs.Flows.{TcpCall, segment_came, text_came, time_came, full_window, Flow, ConnPhase, asking, flowing, conn_phase, after_tcp_call, is_taken, is_current, advance_of, advances, with_segment, size, sends_next, is_free, is_sending, going_on, after_segment, after_text, answers_syn, establishes, opened_by, established, window_bytes, is_past}
-use Rattle.nb_streams.specs.Sending.{Outgoing, segment_at, pure_ack, text_segment, rst_ack, rst_for, IsTextAt, MaySend, by_wrong_answer, by_text, by_ack, by_length, without_try, with_first_try, only_if, brings_more, taken_sends, is_answered, segment_sends, established_sends, calls_for}
+use Rattle.nb_streams.specs.Sending.{Outgoing, segment_at, pure_ack, text_segment, rst_ack, rst_for, IsTextAt, MaySend, by_wrong_answer, by_text, by_ack, by_length, without_try, with_first_try, only_if, brings_more, ongoing_sends, taken_sends, is_answered, segment_sends, established_sends, calls_for}
 use Rattle.nb_streams.proofs.StreamLaws.{either}
 use Rattle.nb_streams.proofs.TryLaws.{not_past, not_beyond, acked_now, acked_still, by_advance}
 
@@ -144,7 +144,7 @@ text_is f bytes is = going_is false (record f { text = f.text ++ bytes }) (recor
     more : (a b c : ℕ) → a ≤ b → length (f.text ++ bytes) ≡ b + c → a ≤ length (f.text ++ bytes)
     more a b c l e = omega (arith, l, e)
 
-abbrev IsPhase : ConnPhase → Type 0
+abbrev pub IsPhase : ConnPhase → Type 0
 IsPhase (asking text) = Unit {0}
 IsPhase (flowing f) = IsFlow f
 
@@ -190,18 +190,26 @@ ack_may isn all advanced f e = by_ack (going_on advanced f) f.sent e (sent_going
 text_may : (isn : ℕ) (all : List TcpCall) (f : Flow) → IsFlow f → f.acked < f.upto → conn_phase isn all ≡ flowing f → MaySend isn all (text_segment f)
 text_may isn all f is some e = by_text f f.acked (take (f.upto - f.acked) (drop f.acked f.text)) e (text_at f is some) refl
 
-taken_may : (isn : ℕ) (all : List TcpCall) (f : Flow) (s : Incoming) → IsFlow f → is_taken f s ≡ true → conn_phase isn all ≡ flowing (going_on (advances f s) (with_segment s f)) → AllByRecursion (May isn all) (taken_sends f s)
-taken_may isn all f s is taken e =
+ongoing_may : (isn : ℕ) (all : List TcpCall) (f : Flow) (s : Incoming) → IsFlow f → is_taken f s ≡ true → conn_phase isn all ≡ flowing (going_on (advances f s) (with_segment s f)) → AllByRecursion (May isn all) (ongoing_sends f s)
+ongoing_may isn all f s is taken e =
     let near : IsNearly (with_segment s f) = with_is f s is taken in
     let whole : IsFlow (going_on (advances f s) (with_segment s f)) = going_is (advances f s) (with_segment s f) near (still_some f s is taken) in
     both_may isn all _ _
-    (both_may isn all _ _
     (on_may isn all (brings_more s) (without_try (pure_ack (with_segment s f))) (λ brings. ack_may isn all (advances f s) (with_segment s f) e))
     (on_may isn all (is_sending (advances f s) (with_segment s f)) (with_first_try (text_segment (going_on (advances f s) (with_segment s f))))
-    (λ go. text_may isn all (going_on (advances f s) (with_segment s f)) whole (going_text (advances f s) (with_segment s f) near go) e)))
-    (on_may isn all (list_any is_past (window_bytes f s)) (without_try (rst_ack (going_on (advances f s) (with_segment s f))))
-    (λ past. by_length (going_on (advances f s) (with_segment s f)) e
-    (ap (λ h. list_any is_past h.pairs) (held_going (advances f s) (with_segment s f)) ∙ any_more f.held.pairs (window_bytes f s) past) refl))
+    (λ go. text_may isn all (going_on (advances f s) (with_segment s f)) whole (going_text (advances f s) (with_segment s f) near go) e))
+
+-- the reset before the text goes on
+reset_may : (isn : ℕ) (all : List TcpCall) (f : Flow) (s : Incoming) → list_any is_past (window_bytes f s) ≡ true → conn_phase isn all ≡ flowing (going_on (advances f s) (with_segment s f)) → MaySend isn all (rst_ack (with_segment s f))
+reset_may isn all f s past e = by_length (going_on (advances f s) (with_segment s f)) (with_segment s f).sent e
+    (ap (λ h. list_any is_past h.pairs) (held_going (advances f s) (with_segment s f)) ∙ any_more f.held.pairs (window_bytes f s) past)
+    (sent_going (advances f s) (with_segment s f))
+    (sym (segment_going (advances f s) (with_segment s f) 20 0 (with_segment s f).sent []))
+
+taken_may : (isn : ℕ) (all : List TcpCall) (f : Flow) (s : Incoming) → IsFlow f → is_taken f s ≡ true → conn_phase isn all ≡ flowing (going_on (advances f s) (with_segment s f)) → AllByRecursion (May isn all) (taken_sends f s)
+taken_may isn all f s is taken e = either (list_any is_past (window_bytes f s))
+    (λ past. rw past (ack_may isn all (advances f s) (with_segment s f) e, (reset_may isn all f s past e, tt)))
+    (λ short. rw short (ongoing_may isn all f s is taken e))
 
 flow_may : (isn : ℕ) (all : List TcpCall) (f : Flow) (s : Incoming) → IsFlow f → conn_phase isn all ≡ flowing (after_segment f s) → AllByRecursion (May isn all) (segment_sends f s)
 flow_may isn all f s is e = either (is_taken f s)

@@ -78,7 +78,7 @@ pub data MaySend (isn : ℕ) (calls : List TcpCall) (sent : Outgoing) : Type 0 w
   by_closing_early : (text : List ℕ) → conn_phase isn calls ≡ asking text → sent ≡ rst_asking isn → MaySend isn calls sent
   by_closing : (f : Flow) → conn_phase isn calls ≡ flowing f → has_stop f.held.stop ≡ false → sent ≡ rst_ack f → MaySend isn calls sent
   by_closing_behind : (f : Flow) → conn_phase isn calls ≡ flowing f → has_stop f.held.stop ≡ true → sent ≡ fin_ack f → MaySend isn calls sent
-  by_length : (f : Flow) → conn_phase isn calls ≡ flowing f → list_any is_past f.held.pairs ≡ true → sent ≡ rst_ack f → MaySend isn calls sent
+  by_length : (f : Flow) (place : ℕ) → conn_phase isn calls ≡ flowing f → list_any is_past f.held.pairs ≡ true → place ≤ f.sent → sent ≡ segment_at 20 0 [] place f → MaySend isn calls sent
 
 -- a segment and, where it is a message's first sending, its try
 abbrev pub without_try : Outgoing → Outgoing × Option ℕ
@@ -104,12 +104,18 @@ is_near_reset f s = nat_lt 0 (reset_distance f s) && nat_lt (reset_distance f s)
 abbrev pub brings_more : Incoming → Bool
 brings_more s = nat_lt 0 (length s.body) || s.fin
 
--- a taken segment: what it brought is acknowledged, then the text goes on; a stream that is too long is reset
-abbrev pub taken_sends : Flow → Incoming → List (Outgoing × Option ℕ)
-taken_sends f s =
+-- a taken segment: what it brought is acknowledged, then the text goes on
+abbrev pub ongoing_sends : Flow → Incoming → List (Outgoing × Option ℕ)
+ongoing_sends f s =
     only_if (brings_more s) (without_try (pure_ack (with_segment s f)))
     ++ only_if (is_sending (advances f s) (with_segment s f)) (with_first_try (text_segment (going_on (advances f s) (with_segment s f))))
-    ++ only_if (list_any is_past (window_bytes f s)) (without_try (rst_ack (going_on (advances f s) (with_segment s f))))
+
+-- a stream that is too long is acknowledged and reset, and no more text is sent
+abbrev pub too_long_sends : Flow → Incoming → List (Outgoing × Option ℕ)
+too_long_sends f s = without_try (pure_ack (with_segment s f)) ∷ without_try (rst_ack (with_segment s f)) ∷ []
+
+abbrev pub taken_sends : Flow → Incoming → List (Outgoing × Option ℕ)
+taken_sends f s = if list_any is_past (window_bytes f s) then too_long_sends f s else ongoing_sends f s
 
 -- what else is answered by an acknowledgement: a reset in the window, a SYN, and an acknowledgement of what wasn't sent
 abbrev pub is_answered : Flow → Incoming → Bool

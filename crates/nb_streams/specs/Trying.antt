@@ -5,7 +5,7 @@ use Rattle.nb_retry.specs.declared.plan.Plan.{Plan}
 use Rattle.nb_retry.specs.declared.plan.Plan.TheVariants.{Common, Probe, Dhcp}
 use Rattle.nb_retry.specs.declared.retry.Due.{Due}
 use Rattle.nb_retry.specs.declared.retry.Due.TheVariants.{Not, Again, Over}
-use Rattle.nb_retry.specs.Plans.{Asked, asked, firings, waits}
+use Rattle.nb_retry.specs.Plans.{Asked, asked_at, firings, waits}
 use Rattle.nb_streams.specs.Segments.{Incoming}
 use Rattle.nb_streams.specs.Flows.{TcpCall, segment_came, time_came, text_came, Flow, ConnPhase, asking, flowing, after_tcp_call, is_taken, advances, with_segment, is_sending, answers_syn, establishes, opened_by}
 use Rattle.nb_streams.specs.Sending.{is_reset}
@@ -74,7 +74,7 @@ due_tries w = starting_try w.plan w.since ++ flat_map try_of (fired w)
 -- the plan is over at this time
 pub record PlanIsOver (w : TryTimer) (now : ℕ) : Type 0 where
   pub earlier : List Asked
-  pub last : fired w ≡ earlier ++ asked now Over ∷ []
+  pub last : fired w ≡ earlier ++ asked_at now Over ∷ []
 
 -- what concerns an open's tries, in order: what came to it, or a try that was made, with its time
 pub data TryMark : Type 0 where

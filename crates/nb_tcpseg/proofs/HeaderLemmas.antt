@@ -8,6 +8,7 @@ use Rattle.nb_wire.proofs.BytesLaws.{IsBytes, Splits, IsBytes-front}
 use Rattle.nb_ipv4.proofs.NumberLaws.{be16_bytes, be32_bytes, elements-drop}
 use Rattle.nb_ipv4.proofs.PacketLaws.{take_take}
 use Rattle.nb_tcpseg.specs.Options.{OptionsSay}
+use Rattle.nb_tcpseg.proofs.OptionLemmas.{says_one}
 use Rattle.nb_tcpseg.specs.SegmentText.{SegmentParts, IsSegment, IsIntact, tcp_header}
 
 pub length-tcp_header : (s : SegmentParts) (offset sum urgent : ℕ) → length (tcp_header s offset sum urgent) ≡ 20
@@ -81,6 +82,16 @@ segment_found src dst fixed bytes body s src_port dst_port seq ack window len ms
     ∙ ap (λ (x : ℕ). made s.src_port s.dst_port s.seq s.ack s.flags x mss body) (window_is ∙ sym placed.window)
     ∙ ap (λ (x : Option ℕ). made s.src_port s.dst_port s.seq s.ack s.flags s.window x body) mss_is
     ∙ ap (λ (x : List ℕ). made s.src_port s.dst_port s.seq s.ack s.flags s.window s.mss x) (body_is ∙ ap (λ (n : ℕ). drop n bytes) lens ∙ sym placed.body)
+
+-- bytes are at most one segment
+pub segment_one : (src dst : Ip4) (bytes : List ℕ) (s t : SegmentParts) → IsSegment src dst bytes s → IsSegment src dst bytes t → s ≡ t
+segment_one src dst bytes s t first second =
+    let a = segment_placed src dst (take 20 bytes) bytes s refl first in
+    let b = segment_placed src dst (take 20 bytes) bytes t refl second in
+    let lens : b.len ≡ a.len = b.len_is ∙ sym a.len_is in
+    let mss : s.mss ≡ t.mss = says_one _ s.mss t.mss a.mss (subst (λ (n : ℕ). OptionsSay (drop 20 (take n bytes)) t.mss) lens b.mss) in
+    ap (λ (x : ℕ). made s.src_port s.dst_port s.seq s.ack x s.window s.mss s.body) a.flags
+    ∙ segment_found src dst (take 20 bytes) bytes s.body t s.src_port s.dst_port s.seq s.ack s.window a.len s.mss b a.src_port a.dst_port a.seq a.ack a.window mss a.len_is a.body
 
 -- the twenty bytes, by their pieces
 abbrev pub header_form : List ℕ → List ℕ → List ℕ → List ℕ → ℕ → ℕ → List ℕ → List ℕ → List ℕ → List ℕ

@@ -133,6 +133,13 @@ sent_readable src dst s body room fits =
       intact = (omega (arith, len, room, most_header s.mss), ap (λ (n : ℕ). checksum (tcp_pseudo_header src dst n ++ segment_text s sum)) len ∙ sum_closed src dst s body fits.1);
     }
 
+-- the header with checksum 0 and the body are the segment's text with that checksum
+pub unsummed_whole : (s : SegmentParts) (header : List ℕ) → header ≡ tcp_header s (4 * sent_header_len s.mss) 0 0 ++ mss_option (unwrap_or s.mss 0) → take (sent_header_len s.mss) header ++ s.body ≡ segment_text s 0
+unsummed_whole s header is =
+    ap (λ (x : List ℕ). take (sent_header_len s.mss) x ++ s.body) is
+    ∙ ap (λ (x : List ℕ). x ++ s.body) (header_taken s.mss (tcp_header s (4 * sent_header_len s.mss) 0 0) (length-tcp_header s (4 * sent_header_len s.mss) 0 0))
+    ∙ append_assoc (tcp_header s (4 * sent_header_len s.mss) 0 0) (sent_options s.mss) s.body
+
 -- what is put is the segment as it is sent
 pub sent_whole : (src dst : Ip4) (s : SegmentParts) (pseudo unsummed closed : List ℕ) (len total sum : ℕ) → len ≡ sent_header_len s.mss → total ≡ len + length s.body → pseudo ≡ tcp_pseudo_header src dst total → unsummed ≡ tcp_header s (4 * sent_header_len s.mss) 0 0 ++ mss_option (unwrap_or s.mss 0) → sum ≡ checksum (pseudo ++ take len unsummed ++ s.body) → closed ≡ tcp_header s (4 * sent_header_len s.mss) sum 0 ++ mss_option (unwrap_or s.mss 0) → take len closed ++ s.body ≡ sent_segment src dst s
 unfolding sent_segment

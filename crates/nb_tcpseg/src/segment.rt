@@ -52,7 +52,7 @@ pub struct Segment<'a> {
 }
 
 impl<'a> Segment<'a> {
-    ghost use Rattle.nb_tcpseg.specs.SegmentText.{SegmentParts, IsSegment, segment_parts, tcp_header, mss_option, sent_segment, Fits};
+    ghost use Rattle.nb_tcpseg.specs.SegmentText.{SegmentParts, IsSegment, segment_parts, segment_text, tcp_header, mss_option, sent_segment, Fits};
 
     /// The segment between these addresses that the bytes are, if they are one.
     pub fn read(src: Ip4, dst: Ip4, bytes: &'a [u8]) -> Option<Segment<'a>>
@@ -118,6 +118,22 @@ impl<'a> Segment<'a> {
         let pseudo = pseudo_bytes(src, dst, total);
         let sum = covered_sum(&pseudo, &self.header(0), header_len, self.body);
         out.put_both(&self.header(sum)[..header_len], self.body)
+    }
+
+    /// The header with checksum 0, for a layer below that fills it in: the first `header_len` bytes.
+    pub fn unsummed_header(&self) -> [u8; 24]
+        ensures { take (sent_header_len self.now.mss) result ++ self.now.body.now
+            ≡ segment_text (segment_parts self.now) 0 }
+    {
+        self.header(0)
+    }
+
+    /// How many bytes the header has with the options that are sent.
+    pub fn header_len(&self) -> usize
+        ensures value { result ≡ sent_header_len self.now.mss }
+        ensures most { result ≤ 24 }
+    {
+        sent_header_len(self.mss)
     }
 
     // The header with this checksum, and with room for the maximum segment size where there is none.

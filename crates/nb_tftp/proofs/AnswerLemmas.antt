@@ -4,12 +4,12 @@ use Rattle.std.specs.Option.{option_map_or, is_some}
 use Rattle.std.proofs.lemmas.Bool.{false≢true, eqb-true, ltb-true, ltb-false, lt-leb, le-leb}
 use Rattle.std.proofs.Math.Seq.{take-length}
 use Rattle.nb_tftpmsg.specs.Packets.{Message, rrq, block, ack, error, oack}
-use Rattle.nb_tftpmsg.specs.Reading.{reading}
+use Rattle.nb_tftpmsg.specs.Reading.{packet_read}
 use Rattle.nb_tftpmsg.proofs.PacketLemmas.{IsBytes, reading_sound}
 use Rattle.nb_tftp.specs.declared.answer.Answer.{Answer}
 use Rattle.nb_tftp.specs.declared.answer.Answer.TheVariants.{Ignored, Stranger, Again, Taken, Ended}
 use Rattle.nb_tftp.specs.Asks.{range_of_block}
-use Rattle.nb_tftp.specs.Ends.{refused}
+use Rattle.nb_tftp.specs.Ends.{refused_by}
 use Rattle.nb_tftp.specs.Decisions.{from_server, decided, block_decided}
 use Rattle.nb_tftp.specs.Received.{Received, has_number, bytes_of, is_error}
 use Rattle.nb_tftp.specs.History.{came, given_of}
@@ -68,7 +68,7 @@ packet_means fixed last rec port (block n bytes) = either_way (from_server fixed
     (λ on. subst (λ (x : Answer). Means fixed last port (Some (block n bytes)) x) (ap (λ t. cond t (block_decided fixed last rec n bytes) Stranger) (sym on)) (block_means fixed last rec port n bytes on))
     (λ off. subst (λ (x : Answer). Means fixed last port (Some (block n bytes)) x) (ap (λ t. cond t (block_decided fixed last rec n bytes) Stranger) (sym off))
     (ap (λ b. eqb n (suc last) && b) off ∙ and_off (eqb n (suc last)), no_answer fixed port (eqb n (last + 1) || false) off))
-packet_means fixed last rec port (error code text) = by_server fixed last port (error code text) (Ended (refused rec code)) Stranger (refl, refl) (λ off. (refl, no_answer fixed port true off))
+packet_means fixed last rec port (error code text) = by_server fixed last port (error code text) (Ended (refused_by rec code)) Stranger (refl, refl) (λ off. (refl, no_answer fixed port true off))
 packet_means fixed last rec port (rrq path options) = by_server fixed last port (rrq path options) Ignored Stranger (refl, and_off (from_server fixed port)) (λ off. (refl, and_off (from_server fixed port)))
 packet_means fixed last rec port (ack n) = by_server fixed last port (ack n) Ignored Stranger (refl, and_off (from_server fixed port)) (λ off. (refl, and_off (from_server fixed port)))
 packet_means fixed last rec port (oack blksize tsize) = (refl, and_off (from_server fixed port))
@@ -78,7 +78,7 @@ means fixed last rec port None = (refl, and_off (from_server fixed port))
 means fixed last rec port (Some p) = packet_means fixed last rec port p
 
 -- where a block's bytes stand in its body
-pub block_body : (body : List ℕ) (n : ℕ) (p : Option Message) → IsBytes body → reading body ≡ p → option_map_or (has_number n) p false ≡ true → drop 4 body ≡ option_map_or bytes_of p []
+pub block_body : (body : List ℕ) (n : ℕ) (p : Option Message) → IsBytes body → packet_read body ≡ p → option_map_or (has_number n) p false ≡ true → drop 4 body ≡ option_map_or bytes_of p []
 block_body body n None are is number = absurd (false≢true number)
 block_body body n (Some (block k bytes)) are is number = ap (λ b. drop 4 b) (reading_sound body (block k bytes) are is).1
 block_body body n (Some (rrq path options)) are is number = absurd (false≢true number)

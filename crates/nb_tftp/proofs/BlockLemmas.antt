@@ -5,7 +5,7 @@ use Rattle.std.proofs.lemmas.Bool.{cases_lt}
 use Rattle.std.proofs.lemmas.List.{append-nil}
 use Rattle.std.proofs.lemmas.Option.{none-some, same_Some, option_and_then_some}
 use Rattle.nb_tftp.specs.Received.{Received, block_bytes}
-use Rattle.nb_tftp.specs.Blocks.{Found, first_passing, is_block_from, if_fitting, next_block, behind_block, block_at, blocks_to, last_block}
+use Rattle.nb_tftp.specs.Blocks.{FoundBlock, first_passing, is_block_from, if_fitting, next_block, behind_block, block_at, blocks_to, last_block}
 
 -- either answer of a test
 pub either_way : {P : Type 0} (b : Bool) → (b ≡ true → P) → (b ≡ false → P) → P
@@ -13,10 +13,10 @@ either_way true on off = on refl
 either_way false on off = off refl
 
 -- a find with more datagrams behind
-abbrev pub with_more : List Received → Found → Found
+abbrev pub with_more : List Received → FoundBlock → FoundBlock
 with_more more found = record { one = found.one; behind = found.behind ++ more }
 
-pub first_passing-some : (test : Received → Bool) (ms more : List Received) (found : Found) → first_passing test ms ≡ Some found → first_passing test (ms ++ more) ≡ Some (with_more more found)
+pub first_passing-some : (test : Received → Bool) (ms more : List Received) (found : FoundBlock) → first_passing test ms ≡ Some found → first_passing test (ms ++ more) ≡ Some (with_more more found)
 first_passing-some test [] more found is = absurd (none-some found is)
 first_passing-some test (m ∷ ms) more found is = either_way (test m)
     (λ on. rw on (ap (λ f. Some (with_more more f)) (same_Some (record { one = m; behind = ms }) found (rw on at is))))
@@ -28,30 +28,30 @@ first_passing-none test (m ∷ ms) more is = either_way (test m)
     (λ on. absurd (none-some (record { one = m; behind = ms }) (sym (rw on at is))))
     (λ off. rw off (first_passing-none test ms more (rw off at is)))
 
-pub fitting_same : (found done : Found) → if_fitting found ≡ Some done → found ≡ done
+pub fitting_same : (found done : FoundBlock) → if_fitting found ≡ Some done → found ≡ done
 fitting_same found done is = either_way (leb (length (block_bytes found.one)) 512)
     (λ on. same_Some found done (rw on at is))
     (λ off. absurd (none-some done (rw off at is)))
 
-fitting_more : (found done : Found) (more : List Received) → if_fitting found ≡ Some done → if_fitting (with_more more found) ≡ Some (with_more more done)
+fitting_more : (found done : FoundBlock) (more : List Received) → if_fitting found ≡ Some done → if_fitting (with_more more found) ≡ Some (with_more more done)
 fitting_more found done more is = either_way (leb (length (block_bytes found.one)) 512)
     (λ on. rw on (ap (λ f. Some (with_more more f)) (same_Some found done (rw on at is))))
     (λ off. absurd (none-some done (rw off at is)))
 
-next_block-some : (port n : ℕ) (ms more : List Received) (found : Found) → next_block port n ms ≡ Some found → next_block port n (ms ++ more) ≡ Some (with_more more found)
+next_block-some : (port n : ℕ) (ms more : List Received) (found : FoundBlock) → next_block port n ms ≡ Some found → next_block port n (ms ++ more) ≡ Some (with_more more found)
 next_block-some port n ms more found is =
     option_and_then_some if_fitting (first_passing (is_block_from port n) ms) found is (λ first at fits.
     ap (λ f. option_and_then if_fitting f) (first_passing-some (is_block_from port n) ms more first at) ∙ fitting_more first found more fits)
 
 -- the find of block n
-abbrev pub found_at : ℕ → List Received → ℕ → Option Found
+abbrev pub found_at : ℕ → List Received → ℕ → Option FoundBlock
 found_at port got n = option_and_then (next_block port (suc n)) (behind_block port got n)
 
 pub map_some : {A B P : Type 0} (f : A → B) (o : Option A) (y : B) → option_map f o ≡ Some y → ((x : A) → o ≡ Some x → f x ≡ y → P) → P
 map_some f None y is then = absurd (none-some y is)
 map_some f (Some x) y is then = then x refl (same_Some (f x) y is)
 
-found_at_by : (port : ℕ) (got more : List Received) (n : ℕ) (found : Found) → ((ms : List Received) → behind_block port got n ≡ Some ms → behind_block port (got ++ more) n ≡ Some (ms ++ more)) → found_at port got n ≡ Some found → found_at port (got ++ more) n ≡ Some (with_more more found)
+found_at_by : (port : ℕ) (got more : List Received) (n : ℕ) (found : FoundBlock) → ((ms : List Received) → behind_block port got n ≡ Some ms → behind_block port (got ++ more) n ≡ Some (ms ++ more)) → found_at port got n ≡ Some found → found_at port (got ++ more) n ≡ Some (with_more more found)
 found_at_by port got more n found behind is =
     option_and_then_some (next_block port (suc n)) (behind_block port got n) found is (λ ms at next.
     ap (λ m. option_and_then (next_block port (suc n)) m) (behind ms at) ∙ next_block-some port (suc n) ms more found next)
@@ -60,22 +60,22 @@ found_at_by port got more n found behind is =
 pub behind_block-more : (port : ℕ) (got more : List Received) (n : ℕ) (ms : List Received) → behind_block port got n ≡ Some ms → behind_block port (got ++ more) n ≡ Some (ms ++ more)
 behind_block-more port got more zero ms is = ap (λ m. Some (m ++ more)) (same_Some got ms is)
 behind_block-more port got more (suc n) ms is =
-    map_some (λ (f : Found). f.behind) (found_at port got n) ms is (λ found at same.
-    ap (λ f. option_map (λ (x : Found). x.behind) f) (found_at_by port got more n found (λ rest before. behind_block-more port got more n rest before) at) ∙ ap (λ m. Some (m ++ more)) same)
+    map_some (λ (f : FoundBlock). f.behind) (found_at port got n) ms is (λ found at same.
+    ap (λ f. option_map (λ (x : FoundBlock). x.behind) f) (found_at_by port got more n found (λ rest before. behind_block-more port got more n rest before) at) ∙ ap (λ m. Some (m ++ more)) same)
 
-pub found_at-more : (port : ℕ) (got more : List Received) (n : ℕ) (found : Found) → found_at port got n ≡ Some found → found_at port (got ++ more) n ≡ Some (with_more more found)
+pub found_at-more : (port : ℕ) (got more : List Received) (n : ℕ) (found : FoundBlock) → found_at port got n ≡ Some found → found_at port (got ++ more) n ≡ Some (with_more more found)
 found_at-more port got more n found is = found_at_by port got more n found (λ rest before. behind_block-more port got more n rest before) is
 
 -- the blocks up to one that there is stay as they are
 pub blocks_to-more : (port : ℕ) (got more : List Received) (n : ℕ) (ms : List Received) → behind_block port got n ≡ Some ms → blocks_to port (got ++ more) n ≡ blocks_to port got n
 blocks_to-more port got more zero ms is = refl
 blocks_to-more port got more (suc n) ms is =
-    map_some (λ (f : Found). f.behind) (found_at port got n) ms is (λ found at same.
+    map_some (λ (f : FoundBlock). f.behind) (found_at port got n) ms is (λ found at same.
     option_and_then_some (next_block port (suc n)) (behind_block port got n) found at (λ rest before next.
     ap (λ bs. bs ++ option_to_list (block_at port (got ++ more) (suc n))) (blocks_to-more port got more n rest before)
     ∙ ap (λ b. blocks_to port got n ++ option_to_list b)
-    (ap (λ f. option_map (λ (x : Found). block_bytes x.one) f) (found_at-more port got more n found at)
-    ∙ sym (ap (λ f. option_map (λ (x : Found). block_bytes x.one) f) at))))
+    (ap (λ f. option_map (λ (x : FoundBlock). block_bytes x.one) f) (found_at-more port got more n found at)
+    ∙ sym (ap (λ f. option_map (λ (x : FoundBlock). block_bytes x.one) f) at))))
 
 none_from : (port : ℕ) (got : List Received) (n k : ℕ) → found_at port got n ≡ None → (n < k → behind_block port got k ≡ None) → n ≤ k → found_at port got k ≡ None
 none_from port got n k none behind below = ⊎_elim
@@ -87,7 +87,7 @@ none_from port got n k none behind below = ⊎_elim
 pub nothing_behind : (port : ℕ) (got : List Received) (n k : ℕ) → found_at port got n ≡ None → n < k → behind_block port got k ≡ None
 nothing_behind port got n zero none below = absurd (omega arith)
 nothing_behind port got n (suc k) none below =
-    ap (λ f. option_map (λ (x : Found). x.behind) f) (none_from port got n k none (λ less. nothing_behind port got n k none less) (omega arith))
+    ap (λ f. option_map (λ (x : FoundBlock). x.behind) f) (none_from port got n k none (λ less. nothing_behind port got n k none less) (omega arith))
 
 pub nothing_found : (port : ℕ) (got : List Received) (n k : ℕ) → found_at port got n ≡ None → n ≤ k → found_at port got k ≡ None
 nothing_found port got n k none below = none_from port got n k none (λ less. nothing_behind port got n k none less) below
@@ -95,7 +95,7 @@ nothing_found port got n k none below = none_from port got n k none (λ less. no
 pub blocks_to-past : (port : ℕ) (got : List Received) (n k : ℕ) → found_at port got n ≡ None → n ≤ k → blocks_to port got k ≡ blocks_to port got n
 blocks_to-past port got n zero none below = let same : n ≡ 0 = omega arith in sym (ap (λ k. blocks_to port got k) same)
 blocks_to-past port got n (suc k) none below = ⊎_elim
-    (λ less. ap (λ b. blocks_to port got k ++ option_to_list (option_map (λ (x : Found). block_bytes x.one) b)) (nothing_found port got n k none (omega arith))
+    (λ less. ap (λ b. blocks_to port got k ++ option_to_list (option_map (λ (x : FoundBlock). block_bytes x.one) b)) (nothing_found port got n k none (omega arith))
     ∙ append-nil (blocks_to port got k) ∙ blocks_to-past port got n k none (omega arith))
     (λ above. let same : n ≡ suc k = omega arith in sym (ap (λ k. blocks_to port got k) same))
     (cases_lt n (suc k))

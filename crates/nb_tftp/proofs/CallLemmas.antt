@@ -5,42 +5,42 @@ use Rattle.std.specs.List.{list_any}
 use Rattle.std.specs.Option.{option_map_or}
 use Rattle.std.proofs.lemmas.Bool.{false≢true}
 use Rattle.std.proofs.lemmas.List.{append-nil}
-use Rattle.nb_retry.specs.Calls.{Stands as TimerStands}
+use Rattle.nb_retry.specs.Calls.{TimerStands as TimerStands}
 use Rattle.nb_retry.specs.Plans.{firings, waits}
 use Rattle.nb_retry.specs.declared.retry.Due.{Due}
 use Rattle.nb_retry.specs.declared.retry.Due.TheVariants.{Not, Again as TryAgain, Over as PlanOver}
-use Rattle.nb_retry.specs.Timer.{answer, after}
+use Rattle.nb_retry.specs.Timer.{due_at, after}
 use Rattle.nb_terms.specs.declared.acts.Acts.{Acts}
 use Rattle.nb_tftpmsg.proofs.PacketLemmas.{IsBytes}
 use Rattle.nb_tftp.specs.declared.answer.Answer.TheVariants.{Ignored}
 use Rattle.nb_tftp.specs.declared.state.State.{State}
 use Rattle.nb_tftp.specs.Asks.{Begun, acts_of, due_acts, nothing}
-use Rattle.nb_tftp.specs.Decisions.{fixed_of, last_of, is_over}
-use Rattle.nb_tftp.specs.Steps.{begun_of, state_of, after_answer, after_bytes, bytes_acts, after_due, after_tick, tick_acts}
+use Rattle.nb_tftp.specs.Decisions.{fixed_of, last_of, transfer_has_ended}
+use Rattle.nb_tftp.specs.Steps.{begun_of, first_state, after_answer, after_bytes, bytes_acts, after_due, after_tick, tick_acts}
 use Rattle.nb_tftp.specs.Received.{Received, packet_in, fixed_port}
 use Rattle.nb_tftp.specs.Blocks.{blocks, count, is_whole}
 use Rattle.nb_tftp.specs.History.{Entry, entry, came, ticked, got, is_ended, ends_ok, watched, Watch}
 use Rattle.nb_tftp.specs.Sentences.{Meets, answers, answer_to}
-use Rattle.nb_tftp.specs.Stands.{Stands, Live}
+use Rattle.nb_tftp.specs.Stands.{Stands, UnderWay}
 use Rattle.nb_tftp.proofs.ReceivedLemmas.{Waits}
 use Rattle.nb_tftp.proofs.AnswerLemmas.{means}
 use Rattle.nb_tftp.proofs.HistoryLemmas.{got-append, is_ended-append, watched-append}
 use Rattle.std.proofs.Common.{lit≤}
-use Rattle.nb_retry.specs.Plans.{Asked, asked}
+use Rattle.nb_retry.specs.Plans.{Asked, asked_at}
 use Rattle.nb_retry.proofs.PlanLemmas.{Stands-append as TimerStands-append, follows_plan, after-since}
 use Rattle.nb_tftpmsg.specs.Packets.{Message}
-use Rattle.nb_tftpmsg.specs.Reading.{reading}
+use Rattle.nb_tftpmsg.specs.Reading.{packet_read}
 use Rattle.nb_tftp.specs.Decisions.{decided}
 use Rattle.nb_tftp.specs.History.{due_of}
 use Rattle.nb_tftp.specs.Steps.{packet_acts, after_packet}
 use Rattle.nb_tftp.proofs.StandsLemmas.{keeps, or_none, or_some, PlanOf, came_by}
 
 -- what a datagram asks and leaves, by its answer, while the transfer hasn't ended
-acts_by : (state : State) (rec port : ℕ) (p : Option Message) → is_over state.phase ≡ false → option_map_or (packet_acts state rec port) p nothing ≡ acts_of (begun_of state) port (option_map_or (decided (fixed_of state.phase) (last_of state.phase) rec port) p Ignored)
+acts_by : (state : State) (rec port : ℕ) (p : Option Message) → transfer_has_ended state.phase ≡ false → option_map_or (packet_acts state rec port) p nothing ≡ acts_of (begun_of state) port (option_map_or (decided (fixed_of state.phase) (last_of state.phase) rec port) p Ignored)
 acts_by state rec port None unended = refl
 acts_by state rec port (Some p) unended = ap (λ t. cond t nothing (acts_of (begun_of state) port (decided (fixed_of state.phase) (last_of state.phase) rec port p))) unended
 
-after_by : (state : State) (rec port now : ℕ) (p : Option Message) → is_over state.phase ≡ false → option_map_or (λ packet. after_packet state rec port packet now) p state ≡ after_answer state port (option_map_or (decided (fixed_of state.phase) (last_of state.phase) rec port) p Ignored) now
+after_by : (state : State) (rec port now : ℕ) (p : Option Message) → transfer_has_ended state.phase ≡ false → option_map_or (λ packet. after_packet state rec port packet now) p state ≡ after_answer state port (option_map_or (decided (fixed_of state.phase) (last_of state.phase) rec port) p Ignored) now
 after_by state rec port now None unended = refl
 after_by state rec port now (Some p) unended = ap (λ t. cond t state (after_answer state port (decided (fixed_of state.phase) (last_of state.phase) rec port p) now)) unended
 
@@ -52,7 +52,7 @@ pub came_stands : (b : Begun) (start : ℕ) (state : State) (h : List Entry) (m 
     → Stands b start state h → is_ended h ≡ false → IsBytes m.body
     → Stands b start (after_bytes state m.rec m.port m.body now) (h ++ entry (came m now) (bytes_acts state m.rec m.port m.body) ∷ [])
 came_stands b start state h m now stands unended are =
-    let running : is_over state.phase ≡ false = stands.over ∙ unended in
+    let running : transfer_has_ended state.phase ≡ false = stands.over ∙ unended in
     let live = stands.live running in
     let same = answer_same state h m live.fixed live.last in
     let acts : bytes_acts state m.rec m.port m.body ≡ acts_of b m.port (answer_to (fixed_port (got h)) (count (got h)) m) =
@@ -67,25 +67,25 @@ came_stands b start state h m now stands unended are =
 got_same : (h : List Entry) (now : ℕ) (acts : Acts) → got (h ++ entry (ticked now) acts ∷ []) ≡ got h
 got_same h now acts = got-append h (entry (ticked now) acts) ∙ append-nil (got h)
 
-timer_more : (b : Begun) (start : ℕ) (state : State) (h : List Entry) (now : ℕ) (due : Due) → Live b start state h → now < 2 ^ 64 → due ≡ answer state.retry now → TimerStands (after state.retry now) ((watched start h).times ++ asked now due ∷ [])
+timer_more : (b : Begun) (start : ℕ) (state : State) (h : List Entry) (now : ℕ) (due : Due) → UnderWay b start state h → now < 2 ^ 64 → due ≡ due_at state.retry now → TimerStands (after state.retry now) ((watched start h).times ++ asked_at now due ∷ [])
 timer_more b start state h now due live small is = TimerStands-append state.retry (after state.retry now) (watched start h).times now due small is refl live.timer
 
-plan_more : (b : Begun) (start : ℕ) (state : State) (h : List Entry) (now : ℕ) (due : Due) → Live b start state h → now < 2 ^ 64 → due ≡ answer state.retry now → PlanOf (record (watched start h) { times = (watched start h).times ++ asked now due ∷ [] })
+plan_more : (b : Begun) (start : ℕ) (state : State) (h : List Entry) (now : ℕ) (due : Due) → UnderWay b start state h → now < 2 ^ 64 → due ≡ due_at state.retry now → PlanOf (record (watched start h) { times = (watched start h).times ++ asked_at now due ∷ [] })
 plan_more b start state h now due live small is =
-    let times : List Asked = (watched start h).times ++ asked now due ∷ [] in
+    let times : List Asked = (watched start h).times ++ asked_at now due ∷ [] in
     follows_plan (after state.retry now) times (timer_more b start state h now due live small is)
     ∙ ap (λ since. firings since (waits (after state.retry now).plan) (map (λ call. call.at) times)) ((after-since state.retry now).0 ∙ live.since)
     ∙ ap (λ plan. firings (watched start h).since (waits plan) (map (λ call. call.at) times)) ((after-since state.retry now).1 ∙ live.plan)
 
 tick_meets : (b : Begun) (start : ℕ) (state : State) (h : List Entry) (now : ℕ) (due : Due) (acts : Acts)
-    → Meets b start h → Live b start state h → now < 2 ^ 64 → due ≡ answer state.retry now
+    → Meets b start h → UnderWay b start state h → now < 2 ^ 64 → due ≡ due_at state.retry now
     → acts.advance ≡ None → ends_ok acts ≡ false → due_of acts ≡ due → acts ≡ due_acts b (fixed_port (got h)) (count (got h)) due
     → Meets b start (h ++ entry (ticked now) acts ∷ [])
 tick_meets b start state h now due acts meets live small is no_place bad said asks =
     let e : Entry = entry (ticked now) acts in
     let same : blocks (got (h ++ e ∷ [])) ≡ blocks (got h) = ap blocks (got_same h now acts) in
-    let watch : watched start (h ++ e ∷ []) ≡ record (watched start h) { times = (watched start h).times ++ asked now due ∷ [] } =
-    watched-append start h e ∙ ap (λ d. record (watched start h) { times = (watched start h).times ++ asked now d ∷ [] }) said in
+    let watch : watched start (h ++ e ∷ []) ≡ record (watched start h) { times = (watched start h).times ++ asked_at now due ∷ [] } =
+    watched-append start h e ∙ ap (λ d. record (watched start h) { times = (watched start h).times ++ asked_at now d ∷ [] }) said in
     keeps b start h e meets no_place refl same
     (bad ∙ sym (ap is_whole (got_same h now acts) ∙ live.unfinished))
     (asks ∙ ap (due_acts b (fixed_port (got h)) (count (got h))) (sym said))
@@ -93,13 +93,13 @@ tick_meets b start state h now due acts meets live small is no_place bad said as
     (subst PlanOf (sym watch) (plan_more b start state h now due live small is))
 
 tick_live : (b : Begun) (start : ℕ) (state : State) (h : List Entry) (now : ℕ) (due : Due) (acts : Acts)
-    → Live b start state h → now < 2 ^ 64 → due ≡ answer state.retry now → due_of acts ≡ due
-    → Live b start (record state { retry = after state.retry now }) (h ++ entry (ticked now) acts ∷ [])
+    → UnderWay b start state h → now < 2 ^ 64 → due ≡ due_at state.retry now → due_of acts ≡ due
+    → UnderWay b start (record state { retry = after state.retry now }) (h ++ entry (ticked now) acts ∷ [])
 tick_live b start state h now due acts live small is said =
     let e : Entry = entry (ticked now) acts in
     let same = got_same h now acts in
-    let watch : watched start (h ++ e ∷ []) ≡ record (watched start h) { times = (watched start h).times ++ asked now due ∷ [] } =
-    watched-append start h e ∙ ap (λ d. record (watched start h) { times = (watched start h).times ++ asked now d ∷ [] }) said in
+    let watch : watched start (h ++ e ∷ []) ≡ record (watched start h) { times = (watched start h).times ++ asked_at now due ∷ [] } =
+    watched-append start h e ∙ ap (λ d. record (watched start h) { times = (watched start h).times ++ asked_at now d ∷ [] }) said in
     record {
       begun = live.begun;
       fixed = live.fixed ∙ sym (ap fixed_port same);
@@ -117,7 +117,7 @@ tick_live b start state h now due acts live small is said =
 
 -- a time, by what the timer says
 tick_by : (b : Begun) (start : ℕ) (state : State) (h : List Entry) (now : ℕ) (due : Due)
-    → Stands b start state h → is_over state.phase ≡ false → now < 2 ^ 64 → due ≡ answer state.retry now
+    → Stands b start state h → transfer_has_ended state.phase ≡ false → now < 2 ^ 64 → due ≡ due_at state.retry now
     → Stands b start (after_due (record state { retry = after state.retry now }) due) (h ++ entry (ticked now) (due_acts b (fixed_port (got h)) (count (got h)) due) ∷ [])
 tick_by b start state h now Not stands unended small is =
     let acts : Acts = nothing in
@@ -148,9 +148,9 @@ pub tick_stands : (b : Begun) (start : ℕ) (state : State) (h : List Entry) (no
     → Stands b start state h → is_ended h ≡ false → now < 2 ^ 64
     → Stands b start (after_tick state now) (h ++ entry (ticked now) (tick_acts state now) ∷ [])
 tick_stands b start state h now stands unended small =
-    let running : is_over state.phase ≡ false = stands.over ∙ unended in
+    let running : transfer_has_ended state.phase ≡ false = stands.over ∙ unended in
     let live = stands.live running in
-    let due : Due = answer state.retry now in
+    let due : Due = due_at state.retry now in
     let acts : tick_acts state now ≡ due_acts b (fixed_port (got h)) (count (got h)) due =
     ap (λ t. cond t nothing (due_acts (begun_of state) (fixed_of state.phase) (last_of state.phase) due)) running
     ∙ ap (λ x. due_acts x (fixed_of state.phase) (last_of state.phase) due) live.begun
@@ -163,7 +163,7 @@ tick_stands b start state h now stands unended small =
     (tick_by b start state h now due stands running small refl))
 
 -- the transfer that was just started
-pub start_stands : (b : Begun) (now : ℕ) → Stands b now (state_of b now) []
+pub start_stands : (b : Begun) (now : ℕ) → Stands b now (first_state b now) []
 start_stands b now = record {
   meets = record { advance = refl; bytes = refl; whole = tt; sending = tt; tries = refl; unanswered = tt };
   over = refl;
@@ -180,11 +180,11 @@ start_stands b now = record {
   };
 }
 
-over_after : (state : State) (rec port now : ℕ) (p : Option Message) → is_over state.phase ≡ true → option_map_or (λ packet. after_packet state rec port packet now) p state ≡ state
+over_after : (state : State) (rec port now : ℕ) (p : Option Message) → transfer_has_ended state.phase ≡ true → option_map_or (λ packet. after_packet state rec port packet now) p state ≡ state
 over_after state rec port now None over = refl
 over_after state rec port now (Some p) over = ap (λ t. cond t state (after_answer state port (decided (fixed_of state.phase) (last_of state.phase) rec port p) now)) over
 
-over_acts : (state : State) (rec port : ℕ) (p : Option Message) → is_over state.phase ≡ true → option_map_or (packet_acts state rec port) p nothing ≡ nothing
+over_acts : (state : State) (rec port : ℕ) (p : Option Message) → transfer_has_ended state.phase ≡ true → option_map_or (packet_acts state rec port) p nothing ≡ nothing
 over_acts state rec port None over = refl
 over_acts state rec port (Some p) over = ap (λ t. cond t nothing (acts_of (begun_of state) port (decided (fixed_of state.phase) (last_of state.phase) rec port p))) over
 
@@ -193,16 +193,16 @@ pub came_over : (b : Begun) (start : ℕ) (state : State) (h : List Entry) (rec 
     → Stands b start state h → is_ended h ≡ true
     → Stands b start (after_bytes state rec port body now) h × (bytes_acts state rec port body ≡ nothing)
 came_over b start state h rec port body now stands ended =
-    let over : is_over state.phase ≡ true = stands.over ∙ ended in
-    (subst (λ (x : State). Stands b start x h) (sym (over_after state rec port now (reading body) over)) stands, over_acts state rec port (reading body) over)
+    let over : transfer_has_ended state.phase ≡ true = stands.over ∙ ended in
+    (subst (λ (x : State). Stands b start x h) (sym (over_after state rec port now (packet_read body) over)) stands, over_acts state rec port (packet_read body) over)
 
 pub tick_over : (b : Begun) (start : ℕ) (state : State) (h : List Entry) (now : ℕ)
     → Stands b start state h → is_ended h ≡ true
     → Stands b start (after_tick state now) h × (tick_acts state now ≡ nothing)
 tick_over b start state h now stands ended =
-    let over : is_over state.phase ≡ true = stands.over ∙ ended in (
-      subst (λ (x : State). Stands b start x h) (sym (ap (λ t. cond t state (after_due (record state { retry = after state.retry now }) (answer state.retry now))) over)) stands,
-      ap (λ t. cond t nothing (due_acts (begun_of state) (fixed_of state.phase) (last_of state.phase) (answer state.retry now))) over,
+    let over : transfer_has_ended state.phase ≡ true = stands.over ∙ ended in (
+      subst (λ (x : State). Stands b start x h) (sym (ap (λ t. cond t state (after_due (record state { retry = after state.retry now }) (due_at state.retry now))) over)) stands,
+      ap (λ t. cond t nothing (due_acts (begun_of state) (fixed_of state.phase) (last_of state.phase) (due_at state.retry now))) over,
     )
 
 -- the same for whatever a call left and asked, where it is what the definitions say

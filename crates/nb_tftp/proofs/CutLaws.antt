@@ -7,8 +7,8 @@ use Rattle.std.proofs.lemmas.List.{append-nil, length-append, length-take, lengt
 use Rattle.std.proofs.lemmas.List.Concat.{flat_map-append}
 use Rattle.std.proofs.lemmas.Option.{none-some, same_Some, option_and_then_some}
 use Rattle.nb_tftp.specs.Received.{Received, block_bytes, fixed_port}
-use Rattle.nb_tftp.specs.Blocks.{Found, behind_block, next_block, blocks_to, blocks, count, file, is_whole, last_block}
-use Rattle.nb_tftp.specs.Cuts.{cuts, cut, IsCut, CarriesCut, CarriesFile}
+use Rattle.nb_tftp.specs.Blocks.{FoundBlock, behind_block, next_block, blocks_to, blocks, count, file, is_whole, last_block}
+use Rattle.nb_tftp.specs.Cuts.{cuts, file_block, IsCut, CarriesCut, CarriesFile}
 use Rattle.nb_tftp.proofs.BlockLemmas.{map_some, found_at, last_block-append}
 use Rattle.nb_tftp.proofs.ReceivedLemmas.{by_option, no_blocks, blocks_at}
 use Rattle.nb_tftp.proofs.FoundLemmas.{found_all, bytes_found, joined, bounded_blocks, no_last}
@@ -19,10 +19,10 @@ take_add n m xs =
     ∙ ap (λ ys. take n (take (n + m) xs) ++ ys) (sym (drop-take n m xs))
     ∙ take-append-drop n (take (n + m) xs)
 
-cut_is : (bytes : List ℕ) (n : ℕ) → cut bytes (suc n) ≡ take 512 (drop (512 * n) bytes)
+cut_is : (bytes : List ℕ) (n : ℕ) → file_block bytes (suc n) ≡ take 512 (drop (512 * n) bytes)
 cut_is bytes n = let same : suc n - 1 ≡ n = omega arith in ap (λ k. take 512 (drop (512 * k) bytes)) same
 
-found_cut : (bytes : List ℕ) (port : ℕ) (received : List Received) → AllByRecursion (CarriesCut bytes port) received → (n : ℕ) (found : Found) → found_at port received n ≡ Some found → IsCut bytes (suc n) found.one
+found_cut : (bytes : List ℕ) (port : ℕ) (received : List Received) → AllByRecursion (CarriesCut bytes port) received → (n : ℕ) (found : FoundBlock) → found_at port received n ≡ Some found → IsCut bytes (suc n) found.one
 found_cut bytes port received all n found is =
     let at = found_all (CarriesCut bytes port) port received n found all is in
     at.one (suc n) (omega arith) at.number
@@ -34,15 +34,15 @@ one_longer bs b = let all = length-append bs (b ∷ []) in omega arith
 none_missing : (port : ℕ) (received : List Received) (n : ℕ) (ms : List Received) → behind_block port received n ≡ Some ms → length (blocks_to port received n) ≡ n
 none_missing port received zero ms is = refl
 none_missing port received (suc n) ms is =
-    map_some (λ (f : Found). f.behind) (found_at port received n) ms is (λ found at same.
+    map_some (λ (f : FoundBlock). f.behind) (found_at port received n) ms is (λ found at same.
     option_and_then_some (next_block port (suc n)) (behind_block port received n) found at (λ rest before next.
     ap (λ o. length (blocks_to port received n ++ bytes_found o)) at ∙ one_longer (blocks_to port received n) (block_bytes found.one) ∙ ap suc (none_missing port received n rest before)))
 
-before_found : (port : ℕ) (received : List Received) (n : ℕ) (found : Found) → found_at port received n ≡ Some found → length (blocks_to port received n) ≡ n
+before_found : (port : ℕ) (received : List Received) (n : ℕ) (found : FoundBlock) → found_at port received n ≡ Some found → length (blocks_to port received n) ≡ n
 before_found port received n found at =
     option_and_then_some (next_block port (suc n)) (behind_block port received n) found at (λ rest before next. none_missing port received n rest before)
 
-front_more : (bytes : List ℕ) (bs : List (List ℕ)) (n : ℕ) (o : Option Found) → joined bs ≡ take (512 * length bs) bytes → ((f : Found) → o ≡ Some f → (length bs ≡ n) × (block_bytes f.one ≡ cut bytes (suc n)))
+front_more : (bytes : List ℕ) (bs : List (List ℕ)) (n : ℕ) (o : Option FoundBlock) → joined bs ≡ take (512 * length bs) bytes → ((f : FoundBlock) → o ≡ Some f → (length bs ≡ n) × (block_bytes f.one ≡ file_block bytes (suc n)))
     → joined (bs ++ bytes_found o) ≡ take (512 * length (bs ++ bytes_found o)) bytes
 front_more bytes bs n None so_far more = rw (append-nil bs) so_far
 front_more bytes bs n (Some f) so_far more =
@@ -68,32 +68,32 @@ front_of_file bytes received carries = by_option (fixed_port received)
     (λ none. rw (no_blocks received none) refl)
     (λ port some. subst (λ (bs : List (List ℕ)). joined bs ≡ take (512 * length bs) bytes) (sym (blocks_at received port some)) (front_to bytes port received (carries port some) (length received)))
 
-last_more : (bytes : List ℕ) (bs : List (List ℕ)) (n : ℕ) (o : Option Found) (last : List ℕ) → (last_block bs ≡ Some last → last ≡ cut bytes (length bs)) → ((f : Found) → o ≡ Some f → (length bs ≡ n) × (block_bytes f.one ≡ cut bytes (suc n)))
-    → last_block (bs ++ bytes_found o) ≡ Some last → last ≡ cut bytes (length (bs ++ bytes_found o))
+last_more : (bytes : List ℕ) (bs : List (List ℕ)) (n : ℕ) (o : Option FoundBlock) (last : List ℕ) → (last_block bs ≡ Some last → last ≡ file_block bytes (length bs)) → ((f : FoundBlock) → o ≡ Some f → (length bs ≡ n) × (block_bytes f.one ≡ file_block bytes (suc n)))
+    → last_block (bs ++ bytes_found o) ≡ Some last → last ≡ file_block bytes (length (bs ++ bytes_found o))
 last_more bytes bs n None last so_far more is = rw (append-nil bs) (so_far (rw (append-nil bs) at is))
 last_more bytes bs n (Some f) last so_far more is =
     let here = more f refl in
     let same : last ≡ block_bytes f.one = sym (same_Some (block_bytes f.one) last (sym (last_block-append bs (block_bytes f.one)) ∙ is)) in
-    same ∙ here.1 ∙ ap (cut bytes) (sym (one_longer bs (block_bytes f.one) ∙ ap suc here.0))
+    same ∙ here.1 ∙ ap (file_block bytes) (sym (one_longer bs (block_bytes f.one) ∙ ap suc here.0))
 
-last_to : (bytes : List ℕ) (port : ℕ) (received : List Received) → AllByRecursion (CarriesCut bytes port) received → (n : ℕ) (last : List ℕ) → last_block (blocks_to port received n) ≡ Some last → last ≡ cut bytes (length (blocks_to port received n))
+last_to : (bytes : List ℕ) (port : ℕ) (received : List Received) → AllByRecursion (CarriesCut bytes port) received → (n : ℕ) (last : List ℕ) → last_block (blocks_to port received n) ≡ Some last → last ≡ file_block bytes (length (blocks_to port received n))
 last_to bytes port received all zero last is = absurd (none-some last is)
 last_to bytes port received all (suc n) last is =
     last_more bytes (blocks_to port received n) n (found_at port received n) last (last_to bytes port received all n last)
     (λ f at. (before_found port received n f at, (found_cut bytes port received all n f at).carried)) is
 
-last_is_cut : (bytes : List ℕ) (received : List Received) → CarriesFile bytes received → (last : List ℕ) → last_block (blocks received) ≡ Some last → last ≡ cut bytes (count received)
+last_is_cut : (bytes : List ℕ) (received : List Received) → CarriesFile bytes received → (last : List ℕ) → last_block (blocks received) ≡ Some last → last ≡ file_block bytes (count received)
 last_is_cut bytes received carries last is = by_option (fixed_port received)
     (λ none. absurd (none-some last (sym (ap last_block (no_blocks received none)) ∙ is)))
     (λ port some.
     let same = blocks_at received port some in
-    last_to bytes port received (carries port some) (length received) last (sym (ap last_block same) ∙ is) ∙ ap (λ bs. cut bytes (length bs)) (sym same))
+    last_to bytes port received (carries port some) (length received) last (sym (ap last_block same) ∙ is) ∙ ap (λ bs. file_block bytes (length bs)) (sym same))
 
 some_last : (bs : List (List ℕ)) (last : List ℕ) → last_block bs ≡ Some last → 1 ≤ length bs
 some_last [] last is = absurd (none-some last is)
 some_last (b ∷ bs) last is = omega arith
 
-cut_length : (bytes : List ℕ) (n : ℕ) → (length (cut bytes n) < 512 → length bytes < 512 * (n - 1) + 512) × (length bytes < 512 * (n - 1) + 512 → length (cut bytes n) < 512)
+cut_length : (bytes : List ℕ) (n : ℕ) → (length (file_block bytes n) < 512 → length bytes < 512 * (n - 1) + 512) × (length bytes < 512 * (n - 1) + 512 → length (file_block bytes n) < 512)
 cut_length bytes n =
     let taken = length-take 512 (drop (512 * (n - 1)) bytes) in
     let left = length-drop (512 * (n - 1)) bytes in
@@ -105,7 +105,7 @@ whole_file bytes received carries whole = by_option (last_block (blocks received
     (λ none. absurd (false≢true (sym (ap (λ (o : Option (List ℕ)). option_map_or (λ block. ltb (length block) 512) o false) none) ∙ whole)))
     (λ last is.
     let short = ltb-true (length last) 512 (sym (ap (λ (o : Option (List ℕ)). option_map_or (λ block. ltb (length block) 512) o false) is) ∙ whole) in
-    let same : length last ≡ length (cut bytes (count received)) = ap length (last_is_cut bytes received carries last is) in
+    let same : length last ≡ length (file_block bytes (count received)) = ap length (last_is_cut bytes received carries last is) in
     let some = some_last (blocks received) last is in
     let few = (cut_length bytes (count received)).0 (omega arith) in
     front_of_file bytes received carries ∙ take_all (512 * count received) bytes (omega arith))
@@ -121,6 +121,6 @@ pub all_cuts : (bytes : List ℕ) (received : List Received) → CarriesFile byt
 all_cuts bytes received carries all = by_option (last_block (blocks received))
     (λ none. let empty : count received ≡ 0 = no_last (blocks received) none in absurd (omega arith))
     (λ last is.
-    let same : length last ≡ length (cut bytes (count received)) = ap length (last_is_cut bytes received carries last is) in
+    let same : length last ≡ length (file_block bytes (count received)) = ap length (last_is_cut bytes received carries last is) in
     let short = (cut_length bytes (count received)).1 (omega arith) in
     ap (λ (o : Option (List ℕ)). option_map_or (λ block. ltb (length block) 512) o false) is ∙ lt-ltb (length last) 512 (omega arith))

@@ -7,17 +7,17 @@ use Rattle.std.proofs.lemmas.Bool.{eqb-true, ltb-true, ltb-false}
 use Rattle.std.proofs.lemmas.Option.{none-some, same_Some}
 use Rattle.nb_retry.specs.declared.retry.Due.{Due}
 use Rattle.nb_retry.specs.declared.retry.Due.TheVariants.{Not, Again as TryAgain, Over as PlanOver}
-use Rattle.nb_retry.specs.Plans.{asked}
+use Rattle.nb_retry.specs.Plans.{asked_at}
 use Rattle.nb_terms.specs.declared.acts.Acts.{Acts}
 use Rattle.nb_terms.specs.declared.cause.Cause.{Cause}
 use Rattle.nb_tftpmsg.specs.Packets.{Message, rrq, block, ack, error, oack}
 use Rattle.nb_tftp.specs.declared.answer.Answer.{Answer}
 use Rattle.nb_tftp.specs.declared.answer.Answer.TheVariants.{Ignored, Stranger, Again, Taken, Ended}
-use Rattle.nb_tftp.specs.Ends.{ok, refused, timed_out, broken, too_many_blocks}
+use Rattle.nb_tftp.specs.Ends.{ok_cause, refused_by, timed_out, broken, too_many_blocks}
 use Rattle.nb_tftp.specs.Asks.{Begun, acts_of, due_acts}
 use Rattle.nb_tftp.specs.Decisions.{from_server, decided, end_of_block}
 use Rattle.nb_tftp.specs.Received.{Received, packet_in, block_bytes, has_number, bytes_of, fixed_port}
-use Rattle.nb_tftp.specs.Blocks.{Found, blocks, blocks_to, count, is_whole, last_block}
+use Rattle.nb_tftp.specs.Blocks.{FoundBlock, blocks, blocks_to, count, is_whole, last_block}
 use Rattle.nb_tftp.specs.History.{Call, came, ticked, Entry, entry, got, ends_ok, due_of, last_advance, watched, Watch}
 use Rattle.nb_tftp.specs.Sentences.{Meets, OkWhereWhole, TriesUnanswered}
 use Rattle.nb_tftp.specs.Endings.{IsFull, RanOut, Ending, by_whole_file, by_refusal, by_long_block, by_last_number, by_silence}
@@ -31,7 +31,7 @@ use Rattle.nb_tftp.proofs.SilenceLemmas.{ran_out}
 
 -- what a packet is that is answered by an end
 data Told (fixed : Option ℕ) (last rec port : ℕ) (p : Message) (a : Answer) (cause : Cause) : Type 0 where
-  told_refused : (number : ℕ) (text : List ℕ) → p ≡ error number text → from_server fixed port ≡ true → cause ≡ refused rec number → Told fixed last rec port p a cause
+  told_refused : (number : ℕ) (text : List ℕ) → p ≡ error number text → from_server fixed port ≡ true → cause ≡ refused_by rec number → Told fixed last rec port p a cause
   told_broken : (n : ℕ) (bytes : List ℕ) → p ≡ block n bytes → n ≡ last + 1 → 512 < length bytes → from_server fixed port ≡ true → cause ≡ broken rec → Told fixed last rec port p a cause
   told_taken : (n len : ℕ) → a ≡ Taken n len → end_of_block n len ≡ Some cause → Told fixed last rec port p a cause
 
@@ -47,10 +47,10 @@ block_told b fixed last rec port n bytes cause true true true again from number 
 block_told b fixed last rec port n bytes cause true true false again from number size is = told_taken n (length bytes) refl is
 
 error_told : (b : Begun) (fixed : Option ℕ) (last rec port code : ℕ) (text : List ℕ) (cause : Cause) (server : Bool) → from_server fixed port ≡ server
-    → (acts_of b port (cond server (Ended (refused rec code)) Stranger)).over ≡ Some cause
-    → Told fixed last rec port (error code text) (cond server (Ended (refused rec code)) Stranger) cause
+    → (acts_of b port (cond server (Ended (refused_by rec code)) Stranger)).over ≡ Some cause
+    → Told fixed last rec port (error code text) (cond server (Ended (refused_by rec code)) Stranger) cause
 error_told b fixed last rec port code text cause false from is = absurd (none-some cause is)
-error_told b fixed last rec port code text cause true from is = told_refused code text refl from (sym (same_Some (refused rec code) cause is))
+error_told b fixed last rec port code text cause true from is = told_refused code text refl from (sym (same_Some (refused_by rec code) cause is))
 
 none_told : {P : Type 0} (b : Begun) (port : ℕ) (cause : Cause) (server : Bool) → (acts_of b port (cond server Ignored Stranger)).over ≡ Some cause → P
 none_told b port cause true is = absurd (none-some cause is)
@@ -68,7 +68,7 @@ from_it : (fixed : Option ℕ) (port : ℕ) → from_server fixed port ≡ true 
 from_it None port is = tt
 from_it (Some p) port is = sym (eqb-true p port is)
 
-short_more : (bs : List (List ℕ)) (o : Option Found) → AllByRecursion (λ b. length b ≤ 512) bs → ((f : Found) → o ≡ Some f → length (block_bytes f.one) ≤ 512) → AllByRecursion (λ b. length b ≤ 512) (bs ++ bytes_found o)
+short_more : (bs : List (List ℕ)) (o : Option FoundBlock) → AllByRecursion (λ b. length b ≤ 512) bs → ((f : FoundBlock) → o ≡ Some f → length (block_bytes f.one) ≤ 512) → AllByRecursion (λ b. length b ≤ 512) (bs ++ bytes_found o)
 short_more [] None all short = tt
 short_more [] (Some f) all short = (short f refl, tt)
 short_more (b ∷ bs) o all short = (all.0, short_more bs o all.1 short)
@@ -106,7 +106,7 @@ taken_ends b start h m now acts n len cause meets asks ends over =
     let told : ends_ok acts ≡ (cause.code == 0) = ap (λ (o : Option Cause). option_map_or (λ c. c.code == 0) o false) over in
     either_way (ltb len 512)
     (λ short.
-    let is : cause ≡ ok = sym (same_Some ok cause (rw short at ends)) in
+    let is : cause ≡ ok_cause = sym (same_Some ok_cause cause (rw short at ends)) in
     by_whole_file is (sym whole ∙ told ∙ ap (λ (c : Cause). c.code == 0) is))
     (λ long. either_way (n == 65535)
     (λ last.
@@ -149,8 +149,8 @@ tick_ends b start h now acts cause meets over =
     let e : Entry = entry (ticked now) acts in
     let asks = asks_last b start h e meets in
     let told = due_told b (fixed_port (got h)) (count (got h)) (due_of acts) cause (sym (ap (λ (x : Acts). x.over) asks) ∙ over) in
-    let watch : Watch = record (watched start h) { times = (watched start h).times ++ asked now PlanOver ∷ [] } in
-    let same : watched start (h ++ e ∷ []) ≡ watch = watched-append start h e ∙ ap (λ d. record (watched start h) { times = (watched start h).times ++ asked now d ∷ [] }) told.0 in
+    let watch : Watch = record (watched start h) { times = (watched start h).times ++ asked_at now PlanOver ∷ [] } in
+    let same : watched start (h ++ e ∷ []) ≡ watch = watched-append start h e ∙ ap (λ d. record (watched start h) { times = (watched start h).times ++ asked_at now d ∷ [] }) told.0 in
     by_silence now refl told.1
     (subst (λ (w : Watch). RanOut w now) (sym same) (ran_out watch (watched start h).times now refl (subst PlanOf same meets.tries)))
     (EachEntry-last (TriesUnanswered start) [] h e meets.unanswered)

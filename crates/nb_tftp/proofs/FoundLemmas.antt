@@ -7,43 +7,43 @@ use Rattle.std.proofs.lemmas.List.{append-nil, length-append}
 use Rattle.std.proofs.lemmas.List.Concat.{flat_map-append}
 use Rattle.std.proofs.lemmas.Option.{none-some, same_Some, option_and_then_some}
 use Rattle.nb_tftp.specs.Received.{Received, block_bytes, fixed_port}
-use Rattle.nb_tftp.specs.Blocks.{Found, first_passing, is_block_from, if_fitting, next_block, behind_block, blocks_to, count, file, last_block}
+use Rattle.nb_tftp.specs.Blocks.{FoundBlock, first_passing, is_block_from, if_fitting, next_block, behind_block, blocks_to, count, file, last_block}
 use Rattle.nb_tftp.proofs.BlockLemmas.{either_way, fitting_same, map_some, found_at, blocks_to-past}
 use Rattle.nb_tftp.proofs.ReceivedLemmas.{by_option, no_blocks, blocks_at}
 
 -- the block of a number that is found, and the datagrams behind it, where each datagram has a property
-pub record IsFound (P : Received → Type 0) (port n : ℕ) (found : Found) : Type 0 where
+pub record IsFound (P : Received → Type 0) (port n : ℕ) (found : FoundBlock) : Type 0 where
   pub one : P found.one
   pub behind : AllByRecursion P found.behind
   pub number : is_block_from port n found.one ≡ true
   pub short : length (block_bytes found.one) ≤ 512
 
-first_found : (P : Received → Type 0) (port n : ℕ) (ms : List Received) (found : Found) → AllByRecursion P ms → first_passing (is_block_from port n) ms ≡ Some found → length (block_bytes found.one) ≤ 512 → IsFound P port n found
+first_found : (P : Received → Type 0) (port n : ℕ) (ms : List Received) (found : FoundBlock) → AllByRecursion P ms → first_passing (is_block_from port n) ms ≡ Some found → length (block_bytes found.one) ≤ 512 → IsFound P port n found
 first_found P port n [] found all is short = absurd (none-some found is)
 first_found P port n (m ∷ ms) found all is short = either_way (is_block_from port n m)
     (λ on.
     let same : record { one = m; behind = ms } ≡ found = same_Some (record { one = m; behind = ms }) found (rw on at is) in
     record {
-      one = subst (λ (f : Found). P f.one) same all.0;
-      behind = subst (λ (f : Found). AllByRecursion P f.behind) same all.1;
-      number = subst (λ (f : Found). is_block_from port n f.one ≡ true) same on;
+      one = subst (λ (f : FoundBlock). P f.one) same all.0;
+      behind = subst (λ (f : FoundBlock). AllByRecursion P f.behind) same all.1;
+      number = subst (λ (f : FoundBlock). is_block_from port n f.one ≡ true) same on;
       short = short;
     })
     (λ off. first_found P port n ms found all.1 (rw off at is) short)
 
-fits : (found done : Found) → if_fitting found ≡ Some done → length (block_bytes done.one) ≤ 512
+fits : (found done : FoundBlock) → if_fitting found ≡ Some done → length (block_bytes done.one) ≤ 512
 fits found done is =
     let same = fitting_same found done is in
     either_way (leb (length (block_bytes found.one)) 512)
-    (λ on. subst (λ (f : Found). length (block_bytes f.one) ≤ 512) same (leb-true (length (block_bytes found.one)) 512 on))
+    (λ on. subst (λ (f : FoundBlock). length (block_bytes f.one) ≤ 512) same (leb-true (length (block_bytes found.one)) 512 on))
     (λ off. absurd (none-some done (rw off at is)))
 
-next_found_by : (P : Received → Type 0) (port n : ℕ) (ms : List Received) (found : Found) → AllByRecursion P ms → next_block port n ms ≡ Some found → IsFound P port n found
+next_found_by : (P : Received → Type 0) (port n : ℕ) (ms : List Received) (found : FoundBlock) → AllByRecursion P ms → next_block port n ms ≡ Some found → IsFound P port n found
 next_found_by P port n ms found all is =
     option_and_then_some if_fitting (first_passing (is_block_from port n) ms) found is (λ first at fit.
     first_found P port n ms found all (at ∙ ap Some (fitting_same first found fit)) (fits first found fit))
 
-found_by : (P : Received → Type 0) (port : ℕ) (got : List Received) (n : ℕ) (found : Found) → ((ms : List Received) → behind_block port got n ≡ Some ms → AllByRecursion P ms) → found_at port got n ≡ Some found → IsFound P port (suc n) found
+found_by : (P : Received → Type 0) (port : ℕ) (got : List Received) (n : ℕ) (found : FoundBlock) → ((ms : List Received) → behind_block port got n ≡ Some ms → AllByRecursion P ms) → found_at port got n ≡ Some found → IsFound P port (suc n) found
 found_by P port got n found behind is =
     option_and_then_some (next_block port (suc n)) (behind_block port got n) found is (λ ms at next.
     next_found_by P port (suc n) ms found (behind ms at) next)
@@ -52,11 +52,11 @@ found_by P port got n found behind is =
 pub behind_all : (P : Received → Type 0) (port : ℕ) (got : List Received) (n : ℕ) (ms : List Received) → AllByRecursion P got → behind_block port got n ≡ Some ms → AllByRecursion P ms
 behind_all P port got zero ms all is = subst (λ (x : List Received). AllByRecursion P x) (same_Some got ms is) all
 behind_all P port got (suc n) ms all is =
-    map_some (λ (f : Found). f.behind) (found_at port got n) ms is (λ found at same.
+    map_some (λ (f : FoundBlock). f.behind) (found_at port got n) ms is (λ found at same.
     subst (λ (x : List Received). AllByRecursion P x) same (found_by P port got n found (λ rest before. behind_all P port got n rest all before) at).behind)
 
 -- and the block that is found next
-pub found_all : (P : Received → Type 0) (port : ℕ) (got : List Received) (n : ℕ) (found : Found) → AllByRecursion P got → found_at port got n ≡ Some found → IsFound P port (suc n) found
+pub found_all : (P : Received → Type 0) (port : ℕ) (got : List Received) (n : ℕ) (found : FoundBlock) → AllByRecursion P got → found_at port got n ≡ Some found → IsFound P port (suc n) found
 found_all P port got n found all is = found_by P port got n found (λ ms at. behind_all P port got n ms all at) is
 
 anything : (got : List Received) → AllByRecursion (λ m. Unit {0}) got
@@ -64,16 +64,16 @@ anything [] = tt
 anything (m ∷ ms) = (tt, anything ms)
 
 -- each block has at most 512 bytes
-pub found_short : (port : ℕ) (got : List Received) (n : ℕ) (found : Found) → found_at port got n ≡ Some found → length (block_bytes found.one) ≤ 512
+pub found_short : (port : ℕ) (got : List Received) (n : ℕ) (found : FoundBlock) → found_at port got n ≡ Some found → length (block_bytes found.one) ≤ 512
 found_short port got n found is = (found_all (λ m. Unit {0}) port got n found (anything got) is).short
 
 abbrev pub joined : List (List ℕ) → List ℕ
 joined bs = flat_map (λ block. block) bs
 
-abbrev pub bytes_found : Option Found → List (List ℕ)
+abbrev pub bytes_found : Option FoundBlock → List (List ℕ)
 bytes_found o = option_to_list (option_map (λ f. block_bytes f.one) o)
 
-one_more : (bs : List (List ℕ)) (o : Option Found) → length (joined bs) ≤ 512 * length bs → ((f : Found) → o ≡ Some f → length (block_bytes f.one) ≤ 512) → length (joined (bs ++ bytes_found o)) ≤ 512 * length (bs ++ bytes_found o)
+one_more : (bs : List (List ℕ)) (o : Option FoundBlock) → length (joined bs) ≤ 512 * length bs → ((f : FoundBlock) → o ≡ Some f → length (block_bytes f.one) ≤ 512) → length (joined (bs ++ bytes_found o)) ≤ 512 * length (bs ++ bytes_found o)
 one_more bs None so_far short = rw (append-nil bs) so_far
 one_more bs (Some f) so_far short =
     let all : length (joined (bs ++ block_bytes f.one ∷ [])) ≡ length (joined bs) + length (block_bytes f.one) =
@@ -92,7 +92,7 @@ file_fits got = by_option (fixed_port got)
     (λ none. let empty = no_blocks got none in rw empty (lit≤ tt))
     (λ port some. let same = blocks_at got port some in subst (λ (bs : List (List ℕ)). length (joined bs) ≤ 512 * length bs) (sym same) (blocks_to_fit port got (length got)))
 
-at_most_one : (bs : List (List ℕ)) (o : Option Found) (n : ℕ) → length bs ≤ n → length (bs ++ bytes_found o) ≤ suc n
+at_most_one : (bs : List (List ℕ)) (o : Option FoundBlock) (n : ℕ) → length bs ≤ n → length (bs ++ bytes_found o) ≤ suc n
 at_most_one bs None n few = rw (append-nil bs) (omega arith)
 at_most_one bs (Some f) n few = let many = length-append bs (block_bytes f.one ∷ []) in omega arith
 
@@ -101,7 +101,7 @@ few_blocks port got zero = lit≤ tt
 few_blocks port got (suc n) = at_most_one (blocks_to port got n) (found_at port got n) n (few_blocks port got n)
 
 -- where no block has a number above a bound, there are no more blocks than that
-pub bounded_blocks : (port : ℕ) (got : List Received) (bound k : ℕ) → ((n : ℕ) (found : Found) → found_at port got n ≡ Some found → suc n ≤ bound) → length (blocks_to port got k) ≤ bound
+pub bounded_blocks : (port : ℕ) (got : List Received) (bound k : ℕ) → ((n : ℕ) (found : FoundBlock) → found_at port got n ≡ Some found → suc n ≤ bound) → length (blocks_to port got k) ≤ bound
 bounded_blocks port got bound k small =
     let none : found_at port got bound ≡ None = by_option (found_at port got bound) (λ is. is) (λ found is. let above = small bound found is in absurd (omega arith)) in
     ⊎_elim

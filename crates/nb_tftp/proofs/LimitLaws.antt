@@ -5,14 +5,14 @@ use Rattle.std.proofs.lemmas.Bool.{false≢true, eqb-true, eqb-false}
 use Rattle.std.proofs.lemmas.List.{append-nil}
 use Rattle.nb_terms.specs.declared.acts.Acts.{Acts}
 use Rattle.nb_tftpmsg.specs.Packets.{Message, rrq, block, ack, error, oack}
-use Rattle.nb_tftpmsg.specs.Reading.{reading}
+use Rattle.nb_tftpmsg.specs.Reading.{packet_read}
 use Rattle.nb_tftpmsg.proofs.PacketLemmas.{IsBytes, reading_sound}
 use Rattle.nb_tftp.specs.declared.answer.Answer.{Answer}
 use Rattle.nb_tftp.specs.declared.answer.Answer.TheVariants.{Ignored, Stranger, Again, Taken, Ended}
 use Rattle.nb_tftp.specs.Asks.{Begun, acts_of}
 use Rattle.nb_tftp.specs.Decisions.{end_of_block}
 use Rattle.nb_tftp.specs.Received.{Received, packet_in, has_number, is_block, fixed_port}
-use Rattle.nb_tftp.specs.Blocks.{Found, count, file}
+use Rattle.nb_tftp.specs.Blocks.{FoundBlock, count, file}
 use Rattle.nb_tftp.specs.History.{Call, came, ticked, Entry, entry, got, is_ended, EachEntry}
 use Rattle.nb_tftp.specs.Sentences.{Meets, AsksSo, answer_to}
 use Rattle.nb_tftp.specs.Limits.{StopsAtEnd, HaveBytes}
@@ -22,7 +22,7 @@ use Rattle.nb_tftp.proofs.AnswerLemmas.{Means, means}
 use Rattle.nb_tftp.proofs.HistoryLemmas.{got-append, is_ended-append}
 use Rattle.nb_tftp.proofs.FoundLemmas.{found_all, file_fits, bounded_blocks}
 
-number_small : (body : List ℕ) (n : ℕ) (p : Option Message) → IsBytes body → reading body ≡ p → option_map_or (has_number n) p false ≡ true → n ≤ 65535
+number_small : (body : List ℕ) (n : ℕ) (p : Option Message) → IsBytes body → packet_read body ≡ p → option_map_or (has_number n) p false ≡ true → n ≤ 65535
 number_small body n None are is number = absurd (false≢true number)
 number_small body n (Some (block k bytes)) are is number =
     let small = (reading_sound body (block k bytes) are is).0 in
@@ -33,7 +33,7 @@ number_small body n (Some (ack k)) are is number = absurd (false≢true number)
 number_small body n (Some (error code text)) are is number = absurd (false≢true number)
 number_small body n (Some (oack blksize tsize)) are is number = absurd (false≢true number)
 
-found_small : (port : ℕ) (got : List Received) → HaveBytes got → (n : ℕ) (found : Found) → found_at port got n ≡ Some found → suc n ≤ 65535
+found_small : (port : ℕ) (got : List Received) → HaveBytes got → (n : ℕ) (found : FoundBlock) → found_at port got n ≡ Some found → suc n ≤ 65535
 found_small port got are n found is =
     let at = found_all (λ m. IsBytes m.body) port got n found are is in
     number_small found.one.body (suc n) (packet_in found.one) at.one refl (and_left (is_block (suc n) found.one) (port == found.one.port) at.number)

@@ -12,14 +12,14 @@ use Rattle.nb_terms.specs.declared.acts.Acts.{Acts}
 use Rattle.nb_wire.specs.declared.address.Ip4.{Ip4}
 use Rattle.nb_tftpmsg.specs.Texts.{text_at}
 use Rattle.nb_tftpmsg.specs.Packets.{Message, rrq, block, ack, error, oack, request_tail}
-use Rattle.nb_tftpmsg.specs.Reading.{Found, reading, body_reading, request_reading, block_reading, ack_reading, error_reading, oack_reading, options_reading}
+use Rattle.nb_tftpmsg.specs.Reading.{FoundValues, packet_read, body_reading, request_reading, block_reading, ack_reading, error_reading, oack_reading, options_reading}
 use Rattle.nb_tftp.specs.declared.answer.Answer.{Answer}
 use Rattle.nb_tftp.specs.declared.answer.Answer.TheVariants.{Ignored, Stranger, Again, Taken, Ended}
 use Rattle.nb_tftp.specs.Asks.{Begun, begun, acts_of, due_acts}
 use Rattle.nb_tftp.specs.Received.{Received, packet_in, has_number, bytes_of, fixed_port}
 use Rattle.nb_tftp.specs.Blocks.{count}
 use Rattle.nb_tftp.specs.History.{Call, came, ticked, Entry, entry, got, given, due_of, EachEntry}
-use Rattle.nb_tftp.specs.Sentences.{Meets, AsksSo, asks, answer_to}
+use Rattle.nb_tftp.specs.Sentences.{Meets, AsksSo, asked_in, answer_to}
 use Rattle.nb_tftp.specs.Plain.{IsPlain, IsRangeOf}
 use Rattle.nb_tftp.proofs.BlockLemmas.{either_way}
 use Rattle.nb_tftp.proofs.ReceivedLemmas.{and_left}
@@ -49,7 +49,7 @@ due_plain b None last (TryAgain n) fits = record { few = lit≤ tt; sent = (reco
 due_plain b (Some port) last (TryAgain n) fits = record { few = lit≤ tt; sent = (record { udp = refl; server = refl; own_port = refl; body = lit≤ tt }, tt); ready = refl }
 due_plain b fixed last PlanOver fits = record { few = lit≤ tt; sent = tt; ready = refl }
 
-call_plain : (b : Begun) (before : List Received) (call : Call) (acts : Acts) → length b.request ≤ 1480 → IsPlain b (asks b before call acts)
+call_plain : (b : Begun) (before : List Received) (call : Call) (acts : Acts) → length b.request ≤ 1480 → IsPlain b (asked_in b before call acts)
 call_plain b before (came m now) acts fits = answer_plain b m.port (answer_to (fixed_port before) (count before) m)
 call_plain b before (ticked now) acts fits = due_plain b (fixed_port before) (count before) (due_of acts) fits
 
@@ -102,7 +102,7 @@ error_rest [] k = tt
 error_rest (high ∷ []) k = tt
 error_rest (high ∷ low ∷ rest) k = error_found _ (text_at rest) k
 
-oack_found : (found : Option Found) (k : ℕ) → IfRead (option_map (λ f. oack f.blksize f.tsize) found) k
+oack_found : (found : Option FoundValues) (k : ℕ) → IfRead (option_map (λ f. oack f.blksize f.tsize) found) k
 oack_found None k = tt
 oack_found (Some f) k = tt
 
@@ -114,12 +114,12 @@ body_rest code body =
     (either_read (code == 5) (error_reading body) _ (length body) (error_rest body (length body))
     (either_read (code == 6) (oack_reading body) None (length body) (oack_found (options_reading body) (length body)) tt))))
 
-rest_of : (body : List ℕ) → IfRead (reading body) (length body - 2)
+rest_of : (body : List ℕ) → IfRead (packet_read body) (length body - 2)
 rest_of [] = tt
 rest_of (zero_byte ∷ []) = tt
 rest_of (zero_byte ∷ code ∷ body) =
     let less : length (zero_byte ∷ code ∷ body) - 2 ≡ length body = omega arith in
-    subst (λ (k : ℕ). IfRead (reading (zero_byte ∷ code ∷ body)) k) (sym less) (either_read (zero_byte == 0) (body_reading code body) None (length body) (body_rest code body) tt)
+    subst (λ (k : ℕ). IfRead (packet_read (zero_byte ∷ code ∷ body)) k) (sym less) (either_read (zero_byte == 0) (body_reading code body) None (length body) (body_rest code body) tt)
 
 block_long : (k n : ℕ) (p : Option Message) → IfRead p (k - 2) → option_map_or (has_number n) p false ≡ true → k ≡ 4 + length (option_map_or bytes_of p [])
 block_long k n None has number = absurd (false≢true number)

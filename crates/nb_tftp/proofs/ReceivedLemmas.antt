@@ -7,14 +7,14 @@ use Rattle.std.proofs.lemmas.List.{length-append}
 use Rattle.std.proofs.lemmas.List.Folds.{find-append}
 use Rattle.std.proofs.lemmas.Option.{none-some}
 use Rattle.nb_tftp.specs.Received.{Received, is_block, block_bytes, fixed_port}
-use Rattle.nb_tftp.specs.Blocks.{Found, first_passing, is_block_from, behind_block, blocks_to, blocks, count, next_block}
+use Rattle.nb_tftp.specs.Blocks.{FoundBlock, first_passing, is_block_from, behind_block, blocks_to, blocks, count, next_block}
 use Rattle.nb_tftp.specs.Decisions.{from_server}
-use Rattle.nb_tftp.specs.Stands.{Waiting}
+use Rattle.nb_tftp.specs.Stands.{AwaitsBlock}
 use Rattle.nb_tftp.proofs.BlockLemmas.{either_way, first_passing-none, behind_block-more, blocks_to-more, blocks_to-past, no_block, next_found, found_at}
 
 -- no later block is there, from any port that may be the server's
 abbrev pub Waits : List Received → Type 0
-Waits got = (port : ℕ) → from_server (fixed_port got) port ≡ true → Waiting got port
+Waits got = (port : ℕ) → from_server (fixed_port got) port ≡ true → AwaitsBlock got port
 
 abbrev pub is_next : List Received → Received → Bool
 is_next got m = is_block (suc (count got)) m && from_server (fixed_port got) m.port
@@ -98,7 +98,7 @@ its_server fixed q some = subst (λ (o : Option ℕ). from_server o q ≡ true) 
 none_counted : (got : List Received) → fixed_port got ≡ None → count got ≡ 0
 none_counted got none = ap length (no_blocks got none)
 
-waiting_by : (got : List Received) (port n : ℕ) → count got ≡ n → ((ms : List Received) × (behind_block port got n ≡ Some ms) × (first_passing (is_block_from port (suc n)) ms ≡ None)) → n ≤ length got → blocks_to port got n ≡ blocks got → Waiting got port
+waiting_by : (got : List Received) (port n : ℕ) → count got ≡ n → ((ms : List Received) × (behind_block port got n ≡ Some ms) × (first_passing (is_block_from port (suc n)) ms ≡ None)) → n ≤ length got → blocks_to port got n ≡ blocks got → AwaitsBlock got port
 waiting_by got port n same behind few all = record {
   behind = subst (λ (k : ℕ). (ms : List Received) × (behind_block port got k ≡ Some ms) × (first_passing (is_block_from port (suc k)) ms ≡ None)) (sym same) behind;
   few = subst (λ (k : ℕ). k ≤ length got) (sym same) few;
@@ -171,12 +171,12 @@ found_now got m waits is short =
     (ap (λ b. (b && eqb m.port m.port) && fits m) number ∙ ap (λ b. b && fits m) (eq-eqb m.port m.port refl) ∙ short)
 
 behind_now : (got : List Received) (m : Received) → Waits got → is_next got m ≡ true → fits m ≡ true → behind_block m.port (got ++ m ∷ []) (suc (count got)) ≡ Some []
-behind_now got m waits is short = ap (λ f. option_map (λ (x : Found). x.behind) f) (found_now got m waits is short)
+behind_now got m waits is short = ap (λ f. option_map (λ (x : FoundBlock). x.behind) f) (found_now got m waits is short)
 
 blocks_now : (got : List Received) (m : Received) → Waits got → is_next got m ≡ true → fits m ≡ true → blocks_to m.port (got ++ m ∷ []) (suc (count got)) ≡ blocks got ++ block_bytes m ∷ []
 blocks_now got m waits is short =
     let w = waits m.port (and_right (is_block (suc (count got)) m) (from_server (fixed_port got) m.port) is) in
-    ap (λ f. blocks_to m.port (got ++ m ∷ []) (count got) ++ option_to_list (option_map (λ (x : Found). block_bytes x.one) f)) (found_now got m waits is short)
+    ap (λ f. blocks_to m.port (got ++ m ∷ []) (count got) ++ option_to_list (option_map (λ (x : FoundBlock). block_bytes x.one) f)) (found_now got m waits is short)
     ∙ ap (λ bs. bs ++ block_bytes m ∷ []) (blocks_to-more m.port got (m ∷ []) (count got) w.behind.0 w.behind.1 ∙ w.all)
 
 pub more_blocks : (got : List Received) (m : Received) → Waits got → is_next got m ≡ true → fits m ≡ true → blocks (got ++ m ∷ []) ≡ blocks got ++ block_bytes m ∷ []
@@ -199,7 +199,7 @@ more_waits got m waits is short port server =
     let few : count got ≤ length got = w.few in
     let longer : length (got ++ m ∷ []) ≡ suc (length got) = one_longer got m in
     let same : m.port ≡ port = server_is (fixed_port (got ++ m ∷ [])) m.port port (more_port got m is) server in
-    subst (λ (q : ℕ). Waiting (got ++ m ∷ []) q) same
+    subst (λ (q : ℕ). AwaitsBlock (got ++ m ∷ []) q) same
     (waiting_by (got ++ m ∷ []) m.port (suc (count got)) (more_count got m waits is short)
     ([], behind_now got m waits is short, refl)
     (omega arith)

@@ -8,7 +8,7 @@ use Rattle.std.proofs.lemmas.List.{append-nil}
 use Rattle.std.proofs.lemmas.List.Concat.{flat_map-append}
 use Rattle.std.proofs.lemmas.List.Folds.{list_any-append}
 use Rattle.nb_retry.specs.declared.plan.Plan.TheVariants.{Common}
-use Rattle.nb_retry.specs.Calls.{fires, Stands as TimerStands}
+use Rattle.nb_retry.specs.Calls.{fires, TimerStands as TimerStands}
 use Rattle.nb_retry.specs.Plans.{firings, waits}
 use Rattle.nb_retry.specs.Timer.{started}
 use Rattle.nb_terms.specs.declared.acts.Acts.{Acts}
@@ -20,7 +20,7 @@ use Rattle.nb_tftp.specs.declared.answer.Answer.TheVariants.{Ignored, Stranger, 
 use Rattle.nb_tftp.specs.declared.answer.Phase.TheVariants.{Taking, Over}
 use Rattle.nb_tftp.specs.declared.state.State.{State}
 use Rattle.nb_tftp.specs.Asks.{Begun, acts_of, ack_of, taken, ended_by}
-use Rattle.nb_tftp.specs.Decisions.{from_server, is_over, end_of_block}
+use Rattle.nb_tftp.specs.Decisions.{from_server, transfer_has_ended, end_of_block}
 use Rattle.nb_tftp.specs.Steps.{after_answer}
 use Rattle.nb_tftp.specs.Received.{Received, packet_in, block_bytes, is_block, fixed_port}
 use Rattle.nb_tftp.specs.Blocks.{blocks, count, file, is_whole, last_block}
@@ -66,7 +66,7 @@ PlanOf w = filter (λ call. fires call.said) w.times ≡ firings w.since (waits 
 
 -- a datagram that calls for nothing, or for a message without a timer
 quiet_step : (b : Begun) (start : ℕ) (state : State) (h : List Entry) (m : Received) (now : ℕ) (acts : Acts)
-    → Stands b start state h → is_over state.phase ≡ false
+    → Stands b start state h → transfer_has_ended state.phase ≡ false
     → is_next (got h) m ≡ false → answers (fixed_port (got h)) (count (got h)) m ≡ false
     → acts.advance ≡ None → acts.give ≡ None → acts.tried ≡ None → acts.over ≡ None
     → AsksSo b h (entry (came m now) acts)
@@ -106,7 +106,7 @@ quiet_step b start state h m now acts stands unended other unanswered no_place n
 
 -- a datagram that ends the transfer, and is no block
 ended_step : (b : Begun) (start : ℕ) (state : State) (h : List Entry) (m : Received) (now : ℕ) (cause : Cause)
-    → Stands b start state h → is_over state.phase ≡ false
+    → Stands b start state h → transfer_has_ended state.phase ≡ false
     → (is_next (got h) m && fits m) ≡ false → eqb cause.code 0 ≡ false
     → AsksSo b h (entry (came m now) (ended_by cause))
     → Stands b start (record state { phase = Over }) (h ++ entry (came m now) (ended_by cause) ∷ [])
@@ -165,7 +165,7 @@ watch_anew start h m now n len send = watched-append start h (entry (came m now)
 
 -- the next block, by the end that it makes
 taken_by : (b : Begun) (start : ℕ) (state : State) (h : List Entry) (m : Received) (now n len : ℕ) (send : SendTo) (over : Option Cause)
-    → Stands b start state h → is_over state.phase ≡ false
+    → Stands b start state h → transfer_has_ended state.phase ≡ false
     → n ≡ suc (count (got h)) → len ≡ length (block_bytes m) → is_next (got h) m ≡ true → fits m ≡ true → drop 4 m.body ≡ block_bytes m
     → option_map_or (λ (c : Cause). eqb c.code 0) over false ≡ ltb len 512
     → AsksSo b h (entry (came m now) (taken send n len over))
@@ -201,7 +201,7 @@ taken_by b start state h m now n len send (Some cause) stands unended number siz
 
 -- the next block
 taken_step : (b : Begun) (start : ℕ) (state : State) (h : List Entry) (m : Received) (now n len : ℕ)
-    → Stands b start state h → is_over state.phase ≡ false
+    → Stands b start state h → transfer_has_ended state.phase ≡ false
     → n ≡ suc (count (got h)) → len ≡ length (block_bytes m) → is_next (got h) m ≡ true → fits m ≡ true → drop 4 m.body ≡ block_bytes m
     → AsksSo b h (entry (came m now) (acts_of b m.port (Taken n len)))
     → Stands b start (after_answer state m.port (Taken n len) now) (h ++ entry (came m now) (acts_of b m.port (Taken n len)) ∷ [])
@@ -210,7 +210,7 @@ taken_step b start state h m now n len stands unended number size next short the
 
 -- any datagram, by its answer
 pub came_by : (b : Begun) (start : ℕ) (state : State) (h : List Entry) (m : Received) (now : ℕ) (a : Answer)
-    → Stands b start state h → is_over state.phase ≡ false → IsBytes m.body
+    → Stands b start state h → transfer_has_ended state.phase ≡ false → IsBytes m.body
     → Means (fixed_port (got h)) (count (got h)) m.port (packet_in m) a → a ≡ answer_to (fixed_port (got h)) (count (got h)) m
     → Stands b start (after_answer state m.port a now) (h ++ entry (came m now) (acts_of b m.port a) ∷ [])
 came_by b start state h m now Ignored stands unended are means is = quiet_step b start state h m now (acts_of b m.port Ignored) stands unended means.0 means.1 refl refl refl refl (ap (acts_of b m.port) is)

@@ -5,12 +5,12 @@ use Rattle.std.specs.Option.{option_map, option_map_or, option_and_then, option_
 use Rattle.nb_tftp.specs.Received.{Received, is_block, block_bytes, fixed_port}
 
 -- a datagram, and those that came behind it
-pub record Found : Type 0 where
+pub record FoundBlock : Type 0 where
   pub one : Received
   pub behind : List Received
 
 -- the first datagram that passes a test
-abbrev pub first_passing : (Received → Bool) → List Received → Option Found
+abbrev pub first_passing : (Received → Bool) → List Received → Option FoundBlock
 first_passing test [] = None
 first_passing test (m ∷ ms) = if test m then Some (record { one = m; behind = ms }) else first_passing test ms
 
@@ -19,11 +19,11 @@ abbrev pub is_block_from : ℕ → ℕ → Received → Bool
 is_block_from port n m = is_block n m && port == m.port
 
 -- a block has at most 512 bytes
-abbrev pub if_fitting : Found → Option Found
+abbrev pub if_fitting : FoundBlock → Option FoundBlock
 if_fitting found = if nat_le (length (block_bytes found.one)) 512 then Some found else None
 
 -- the first block of this number from this port, unless it is too long
-abbrev pub next_block : ℕ → ℕ → List Received → Option Found
+abbrev pub next_block : ℕ → ℕ → List Received → Option FoundBlock
 next_block port n ms = option_and_then if_fitting (first_passing (is_block_from port n) ms)
 
 -- what came behind block n: block n is the first of its number from the port behind block n - 1

@@ -9,13 +9,13 @@ abbrev pub cuts : List ℕ → ℕ
 cuts bytes = length bytes / 512 + 1
 
 -- the bytes of block n, from 1
-abbrev pub cut : List ℕ → ℕ → List ℕ
-cut bytes n = take 512 (drop (512 * (n - 1)) bytes)
+abbrev pub file_block : List ℕ → ℕ → List ℕ
+file_block bytes n = take 512 (drop (512 * (n - 1)) bytes)
 
 -- the datagram carries block n of the file, and the file has that many
 pub record IsCut (bytes : List ℕ) (n : ℕ) (m : Received) : Type 0 where
   pub within : n ≤ cuts bytes
-  pub carried : block_bytes m ≡ cut bytes n
+  pub carried : block_bytes m ≡ file_block bytes n
 
 -- if it is a DATA from this port with a number from 1 on, it carries that block
 abbrev pub CarriesCut : List ℕ → ℕ → Received → Type 0

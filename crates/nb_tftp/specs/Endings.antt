@@ -3,10 +3,10 @@ use Rattle.std.specs.Prelude.{◌≡◌, ◌<◌, ℕ, ◌+◌, true, List, [], 
 use Rattle.std.specs.Option.{IfSome}
 use Rattle.nb_retry.specs.declared.retry.Due.TheVariants.{Again, Over}
 use Rattle.nb_retry.specs.Calls.{fires}
-use Rattle.nb_retry.specs.Plans.{asked, first_from}
+use Rattle.nb_retry.specs.Plans.{asked_at, first_from}
 use Rattle.nb_terms.specs.declared.cause.Cause.{Cause}
 use Rattle.nb_tftpmsg.specs.Packets.{error}
-use Rattle.nb_tftp.specs.Ends.{ok, refused, timed_out, broken, too_many_blocks}
+use Rattle.nb_tftp.specs.Ends.{ok_cause, refused_by, timed_out, broken, too_many_blocks}
 use Rattle.nb_tftp.specs.Received.{Received, packet_in, is_block, block_bytes, fixed_port}
 use Rattle.nb_tftp.specs.Blocks.{blocks, count, is_whole, last_block}
 use Rattle.nb_tftp.specs.History.{came, ticked, Entry, got, Watch, watched}
@@ -23,7 +23,7 @@ pub record Refuses (before : List Received) (m : Received) (number : ℕ) : Type
   pub server : IsFromServer before m
 
 -- the datagram is the DATA that would be the next block, from the server, and has more than 512 bytes
-pub record IsTooLong (before : List Received) (m : Received) : Type 0 where
+pub record IsTooLongBlock (before : List Received) (m : Received) : Type 0 where
   pub next : is_block (count before + 1) m ≡ true
   pub long : 512 < length (block_bytes m)
   pub server : IsFromServer before m
@@ -49,8 +49,8 @@ pub record RanOut (w : Watch) (now : ℕ) : Type 0 where
   pub fifth : ℕ
   pub sixth : ℕ
   pub fired : filter (λ call. fires call.said) w.times
-      ≡ asked second (Again 2) ∷ asked third (Again 3) ∷ asked fourth (Again 4)
-      ∷ asked fifth (Again 5) ∷ asked sixth (Again 6) ∷ asked now Over ∷ []
+      ≡ asked_at second (Again 2) ∷ asked_at third (Again 3) ∷ asked_at fourth (Again 4)
+      ∷ asked_at fifth (Again 5) ∷ asked_at sixth (Again 6) ∷ asked_at now Over ∷ []
   pub second_due : first_from (w.since + 250) (moments w) ≡ Some second
   pub third_due : first_from (second + 500) (moments w) ≡ Some third
   pub fourth_due : first_from (third + 1000) (moments w) ≡ Some fourth
@@ -61,13 +61,13 @@ pub record RanOut (w : Watch) (now : ℕ) : Type 0 where
 -- Why a call told this end: each cause stands in what was received and when, and there is no other.
 pub data Ending (start : ℕ) (before : List Entry) (e : Entry) (cause : Cause) : Type 0 where
   -- the file has become whole
-  by_whole_file : cause ≡ ok → is_whole (got (before ++ e ∷ [])) ≡ true → Ending start before e cause
+  by_whole_file : cause ≡ ok_cause → is_whole (got (before ++ e ∷ [])) ≡ true → Ending start before e cause
   -- this datagram refuses
-  by_refusal : (m : Received) (now number : ℕ) → e.call ≡ came m now → cause ≡ refused m.rec number
+  by_refusal : (m : Received) (now number : ℕ) → e.call ≡ came m now → cause ≡ refused_by m.rec number
       → Refuses (got before) m number → Ending start before e cause
   -- this datagram's block is too long
   by_long_block : (m : Received) (now : ℕ) → e.call ≡ came m now → cause ≡ broken m.rec
-      → IsTooLong (got before) m → Ending start before e cause
+      → IsTooLongBlock (got before) m → Ending start before e cause
   -- no number is left for the next block
   by_last_number : cause ≡ too_many_blocks → IsFull (got (before ++ e ∷ [])) → Ending start before e cause
   -- the tries have run out, and no datagram since the last first sending has answered it

@@ -7,12 +7,12 @@ use Rattle.nb_terms.specs.declared.reason.Reason.TheVariants as reason
 use Rattle.nb_terms.specs.Reasons.{as_cause}
 
 -- the file is whole
-abbrev pub ok : Cause
-ok = as_cause (reason.Plain plain.Ok)
+abbrev pub ok_cause : Cause
+ok_cause = as_cause (reason.Plain plain.Ok)
 
 -- the message in a record refuses with an error number
-abbrev pub refused : ℕ → ℕ → Cause
-refused rec error = as_cause (reason.Refused rec error)
+abbrev pub refused_by : ℕ → ℕ → Cause
+refused_by rec error = as_cause (reason.Refused rec error)
 
 -- six tries had no answer
 abbrev pub timed_out : Cause

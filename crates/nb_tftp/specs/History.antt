@@ -2,7 +2,7 @@
 use Rattle.std.specs.Prelude.{ℕ, ◌==◌, Bool, false, List, [], ◌∷◌, ◌++◌, Option, fold, slice_range, if◌then◌else◌, unwrap_or}
 use Rattle.std.specs.List.{flat_map, list_any}
 use Rattle.std.specs.Option.{option_map_or, is_some}
-use Rattle.nb_retry.specs.Plans.{Asked, asked}
+use Rattle.nb_retry.specs.Plans.{Asked, asked_at}
 use Rattle.nb_retry.specs.declared.retry.Due.{Due}
 use Rattle.nb_retry.specs.declared.retry.Due.TheVariants.{Not, Again, Over}
 use Rattle.nb_terms.specs.declared.acts.Acts.{Acts}
@@ -64,7 +64,7 @@ abbrev pub watch_from : ℕ → Watch
 watch_from now = record { since = now; times = []; heard = [] }
 
 abbrev pub watched_call : Watch → Call → Acts → Watch
-watched_call w (ticked now) acts = record w { times = w.times ++ asked now (due_of acts) ∷ [] }
+watched_call w (ticked now) acts = record w { times = w.times ++ asked_at now (due_of acts) ∷ [] }
 watched_call w (came m now) acts = if is_some acts.tried then watch_from now else record w { heard = w.heard ++ m ∷ [] }
 
 -- the watch of a transfer that was started at a time

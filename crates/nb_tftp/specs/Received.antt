@@ -3,7 +3,7 @@ use Rattle.std.specs.Prelude.{ℕ, ◌==◌, Bool, true, false, List, [], Option
 use Rattle.std.specs.List.{find}
 use Rattle.std.specs.Option.{option_map, option_map_or}
 use Rattle.nb_tftpmsg.specs.Packets.{Message, rrq, block, ack, error, oack}
-use Rattle.nb_tftpmsg.specs.Reading.{reading}
+use Rattle.nb_tftpmsg.specs.Reading.{packet_read}
 
 -- a datagram: its record, the port that it came from, and its body
 pub record Received : Type 0 where
@@ -16,7 +16,7 @@ received rec port body = record { rec = rec; port = port; body = body }
 
 -- the packet that it is, if it is one
 abbrev pub packet_in : Received → Option Message
-packet_in m = reading m.body
+packet_in m = packet_read m.body
 
 -- a packet is the block of this number
 abbrev pub has_number : ℕ → Message → Bool

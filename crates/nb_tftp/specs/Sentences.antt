@@ -20,12 +20,12 @@ answer_to fixed last m = option_map_or (decided fixed last m.rec m.port) (packet
 
 -- what a call asks, by the datagrams that came before it: for a datagram all of it, for a time what
 -- the timer's answer asks
-abbrev pub asks : Begun → List Received → Call → Acts → Acts
-asks b before (came m now) acts = acts_of b m.port (answer_to (fixed_port before) (count before) m)
-asks b before (ticked now) acts = due_acts b (fixed_port before) (count before) (due_of acts)
+abbrev pub asked_in : Begun → List Received → Call → Acts → Acts
+asked_in b before (came m now) acts = acts_of b m.port (answer_to (fixed_port before) (count before) m)
+asked_in b before (ticked now) acts = due_acts b (fixed_port before) (count before) (due_of acts)
 
 abbrev pub AsksSo : Begun → List Entry → Entry → Type 0
-AsksSo b before e = e.acts ≡ asks b (got before) e.call e.acts
+AsksSo b before e = e.acts ≡ asked_in b (got before) e.call e.acts
 
 -- an entry tells the end Ok exactly where it makes the file whole
 abbrev pub OkWhereWhole : List Entry → Entry → Type 0

@@ -13,7 +13,7 @@ abbrev pub IsRange : Option (ℕ × ℕ) → ℕ → Type 0
 IsRange range len = IfSome range (λ r. (r.0 ≤ r.1) × (r.1 ≤ len))
 
 -- at most one message, by UDP, and a range of the body's bytes
-pub record IsSound (len : ℕ) (acts : Acts) : Type 0 where
+pub record AreSoundActs (len : ℕ) (acts : Acts) : Type 0 where
   pub few : length acts.sends.items ≤ 1
   pub udp : AreUdp acts.sends.items
   pub range : IsRange acts.give len

@@ -5,22 +5,22 @@ use Rattle.std.specs.Option.{option_map_or, is_none}
 use Rattle.nb_retry.specs.declared.plan.Plan.TheVariants.{Common}
 use Rattle.nb_retry.specs.declared.retry.Due.{Due}
 use Rattle.nb_retry.specs.declared.retry.Due.TheVariants.{Not, Again as TryAgain, Over as PlanOver}
-use Rattle.nb_retry.specs.Timer.{started, answer, after}
+use Rattle.nb_retry.specs.Timer.{started, due_at, after}
 use Rattle.nb_terms.specs.declared.acts.Acts.{Acts}
 use Rattle.nb_tftpmsg.specs.Packets.{Message}
-use Rattle.nb_tftpmsg.specs.Reading.{reading}
+use Rattle.nb_tftpmsg.specs.Reading.{packet_read}
 use Rattle.nb_tftp.specs.declared.answer.Answer.{Answer}
 use Rattle.nb_tftp.specs.declared.answer.Answer.TheVariants.{Ignored, Stranger, Again, Taken, Ended}
 use Rattle.nb_tftp.specs.declared.answer.Phase.TheVariants.{Asking, Taking, Over}
 use Rattle.nb_tftp.specs.declared.state.State.{State}
 use Rattle.nb_tftp.specs.Asks.{Begun, nothing, acts_of, due_acts}
-use Rattle.nb_tftp.specs.Decisions.{fixed_of, last_of, is_over, end_of_block, decided}
+use Rattle.nb_tftp.specs.Decisions.{fixed_of, last_of, transfer_has_ended, end_of_block, decided}
 
 abbrev pub begun_of : State → Begun
 begun_of state = record { server = state.server; port = state.port; own_port = state.own_port; request = state.request.items }
 
-abbrev pub state_of : Begun → ℕ → State
-state_of b now = record { server = b.server; port = b.port; own_port = b.own_port; request = record { items = b.request }; phase = Asking; retry = started now Common }
+abbrev pub first_state : Begun → ℕ → State
+first_state b now = record { server = b.server; port = b.port; own_port = b.own_port; request = record { items = b.request }; phase = Asking; retry = started now Common }
 
 -- the state behind an answer to a packet from a port
 abbrev pub after_answer : State → ℕ → Answer → ℕ → State
@@ -38,17 +38,17 @@ answer_of state rec port packet = decided (fixed_of state.phase) (last_of state.
 
 -- a packet
 abbrev pub packet_acts : State → ℕ → ℕ → Message → Acts
-packet_acts state rec port packet = if is_over state.phase then nothing else acts_of (begun_of state) port (answer_of state rec port packet)
+packet_acts state rec port packet = if transfer_has_ended state.phase then nothing else acts_of (begun_of state) port (answer_of state rec port packet)
 
 abbrev pub after_packet : State → ℕ → ℕ → Message → ℕ → State
-after_packet state rec port packet now = if is_over state.phase then state else after_answer state port (answer_of state rec port packet) now
+after_packet state rec port packet now = if transfer_has_ended state.phase then state else after_answer state port (answer_of state rec port packet) now
 
 -- any datagram's bytes; what is no packet is ignored
 abbrev pub bytes_acts : State → ℕ → ℕ → List ℕ → Acts
-bytes_acts state rec port bytes = option_map_or (packet_acts state rec port) (reading bytes) nothing
+bytes_acts state rec port bytes = option_map_or (packet_acts state rec port) (packet_read bytes) nothing
 
 abbrev pub after_bytes : State → ℕ → ℕ → List ℕ → ℕ → State
-after_bytes state rec port bytes now = option_map_or (λ packet. after_packet state rec port packet now) (reading bytes) state
+after_bytes state rec port bytes now = option_map_or (λ packet. after_packet state rec port packet now) (packet_read bytes) state
 
 -- the state behind the timer's answer
 abbrev pub after_due : State → Due → State
@@ -58,7 +58,7 @@ after_due state PlanOver = record state { phase = Over }
 
 -- a time
 abbrev pub tick_acts : State → ℕ → Acts
-tick_acts state now = if is_over state.phase then nothing else due_acts (begun_of state) (fixed_of state.phase) (last_of state.phase) (answer state.retry now)
+tick_acts state now = if transfer_has_ended state.phase then nothing else due_acts (begun_of state) (fixed_of state.phase) (last_of state.phase) (due_at state.retry now)
 
 abbrev pub after_tick : State → ℕ → State
-after_tick state now = if is_over state.phase then state else after_due (record state { retry = after state.retry now }) (answer state.retry now)
+after_tick state now = if transfer_has_ended state.phase then state else after_due (record state { retry = after state.retry now }) (due_at state.retry now)

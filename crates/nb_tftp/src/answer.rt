@@ -1,7 +1,7 @@
 //! What a packet calls for.
 
 ghost use Rattle.std.specs.Prelude.{◌≡◌, Option, IfSome};
-ghost use Rattle.nb_tftp.specs.Decisions.{decided, block_decided, end_of_block, from_server, fixed_of, last_of, is_over};
+ghost use Rattle.nb_tftp.specs.Decisions.{decided, block_decided, end_of_block, from_server, fixed_of, last_of, transfer_has_ended};
 ghost use Rattle.nb_tftpmsg.specs.Views.{message};
 
 use nb_terms::{Cause, Long, Plain, Reason};
@@ -38,7 +38,7 @@ pub(crate) enum Answer {
 
 impl Phase {
     pub(crate) fn is_over(self) -> bool
-        ensures { result ≡ is_over self }
+        ensures { result ≡ transfer_has_ended self }
     {
         match self {
             Phase::Over => true,

@@ -5,7 +5,7 @@ ghost use Rattle.nb_tftpmsg.specs.Texts.{HasNoZero};
 ghost use Rattle.nb_tftp.specs.Decisions.{fixed_of, last_of};
 ghost use Rattle.nb_tftp.specs.Asks.{begun, datagram, last_message, acts_of, nothing, sending};
 ghost use Rattle.nb_tftpmsg.specs.Packets.{packet_text, ack, error};
-ghost use Rattle.nb_tftp.specs.Steps.{begun_of, state_of, after_answer, packet_acts, after_packet, bytes_acts, after_bytes, tick_acts, after_tick};
+ghost use Rattle.nb_tftp.specs.Steps.{begun_of, first_state, after_answer, packet_acts, after_packet, bytes_acts, after_bytes, tick_acts, after_tick};
 ghost use Rattle.nb_tftpmsg.specs.Views.{message};
 
 use crate::acts::take_block;
@@ -42,7 +42,7 @@ impl State {
     pub(crate) fn begun(server: Ip4, port: u16, own_port: u16, path: &[u8], now: u64) -> State
         requires clean { HasNoZero path.now }
         requires fits { length path.now ≤ 1024 }
-        ensures { result ≡ state_of (begun server port own_port path.now) now }
+        ensures { result ≡ first_state (begun server port own_port path.now) now }
     {
         let mut retry = Retry::stopped();
         retry.start(now, Plan::Common);

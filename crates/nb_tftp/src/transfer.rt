@@ -33,7 +33,7 @@ impl Transfer {
     ghost use Rattle.nb_tftp.specs.Received.{received};
     ghost use Rattle.nb_tftp.specs.History.{Entry, entry, came, ticked, is_ended};
     ghost use Rattle.nb_tftp.specs.Stands.{Stands};
-    ghost use Rattle.nb_tftp.specs.Sound.{IsSound};
+    ghost use Rattle.nb_tftp.specs.Sound.{AreSoundActs};
 
     /// Asks the server for the file of this path. The path holds no zero byte; one of more than 1,024
     /// bytes is too long. The open's number isn't needed here.
@@ -52,7 +52,7 @@ impl Transfer {
         // The request is sent, under a timer, and no call stands behind it.
         ensures request { OnOk result (acts.new ≡ sending (last_message (begun server port own_port path.now) None 0) (Some 1)) }
         ensures stands { IfOk result (λ t. Stands (begun server port own_port path.now) now t []) }
-        ensures sound { IsSound 0 acts.new }
+        ensures sound { AreSoundActs 0 acts.new }
     {
         if path.len() > MAX_PATH {
             acts.clear();
@@ -70,7 +70,7 @@ impl Transfer {
         // promises of all of them.
         ensures stands { (b : Begun) (start : ℕ) (h : List Entry) → Stands b start self.old h → is_ended h ≡ false → Stands b start self.new (h ++ entry (came (received rec src_port body.now) now) acts.new ∷ []) }
         // It asks for at most one message, by UDP, and gives up a range of the body.
-        ensures sound { IsSound (length body.now) acts.new }
+        ensures sound { AreSoundActs (length body.now) acts.new }
         // After its end it ignores every call.
         ensures ended { (b : Begun) (start : ℕ) (h : List Entry) → Stands b start self.old h → is_ended h ≡ true → Stands b start self.new h × (acts.new ≡ nothing) }
     {
@@ -81,7 +81,7 @@ impl Transfer {
     /// It is this time, in milliseconds since the start of the run.
     pub fn time(&mut self, now: u64, acts: &mut Acts)
         ensures stands { (b : Begun) (start : ℕ) (h : List Entry) → Stands b start self.old h → is_ended h ≡ false → Stands b start self.new (h ++ entry (ticked now) acts.new ∷ []) }
-        ensures sound { IsSound 0 acts.new }
+        ensures sound { AreSoundActs 0 acts.new }
         ensures ended { (b : Begun) (start : ℕ) (h : List Entry) → Stands b start self.old h → is_ended h ≡ true → Stands b start self.new h × (acts.new ≡ nothing) }
     {
         acts.clear();

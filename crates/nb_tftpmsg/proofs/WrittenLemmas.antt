@@ -12,7 +12,7 @@ use Rattle.std.proofs.lemmas.List.{append-nil}
 use Rattle.std.proofs.lemmas.Str.{digit_value_digit}
 use Rattle.nb_tftpmsg.specs.Texts.{HasNoZero, ended, decimal, decimal_text}
 use Rattle.nb_tftpmsg.specs.Options.{TftpOption, IsOption}
-use Rattle.nb_tftpmsg.specs.Packets.{oack, packet_text, IsPacket}
+use Rattle.nb_tftpmsg.specs.Packets.{oack, packet_text, IsTftpPacket}
 use Rattle.nb_tftpmsg.proofs.TextLemmas.{either_way}
 use Rattle.nb_tftpmsg.proofs.DecimalLemmas.{length-decimal_text-some}
 
@@ -64,7 +64,7 @@ length_option n = record { name = (lit< tt, (lit< tt, (lit< tt, (lit< tt, (lit< 
 abbrev text_of : List ℕ → ℕ → List ℕ
 text_of name n = ended name ++ ended (decimal_text n)
 
-pub oack_again : (size length : Option ℕ) → IfSome size (λ n. n < 2 ^ 16) → IfSome length (λ n. n < 2 ^ 32) → IsPacket (packet_text (oack size length)) (oack size length)
+pub oack_again : (size length : Option ℕ) → IfSome size (λ n. n < 2 ^ 16) → IfSome length (λ n. n < 2 ^ 32) → IsTftpPacket (packet_text (oack size length)) (oack size length)
 oack_again None None fits longer = ([], tt, refl, record { blksize = refl; tsize = refl })
 oack_again (Some n) None fits longer =
     (option (codes "blksize") n ∷ [], (size_option n, tt), refl, record { blksize = ap (λ d. option_map (λ x. Some x) d) (decimal_again (2 ^ 16) n fits); tsize = refl })

@@ -4,7 +4,7 @@ use Rattle.std.specs.Int.{to_be_bytes, w16}
 use Rattle.std.specs.List.{AllByRecursion}
 use Rattle.std.specs.Option.{option_map_or}
 use Rattle.nb_tftpmsg.specs.Texts.{HasNoZero, ended, decimal_text}
-use Rattle.nb_tftpmsg.specs.Options.{TftpOption, IsOption, options_text, OptionsSay}
+use Rattle.nb_tftpmsg.specs.Options.{TftpOption, IsOption, options_text, OackOptionsSay}
 
 -- a packet, without where it lies in memory
 pub data Message : Type 0 where
@@ -32,13 +32,13 @@ packet_text (error code text) = 0 ∷ 5 ∷ (to_be_bytes w16 code ++ ended text)
 packet_text (oack blksize tsize) = 0 ∷ 6 ∷ (number_option (codes "blksize") blksize ++ number_option (codes "tsize") tsize)
 
 -- the bytes spell the packet
-abbrev pub IsPacket : List ℕ → Message → Type 0
-IsPacket bytes (rrq path options) = HasNoZero path × (bytes ≡ packet_text (rrq path options))
-IsPacket bytes (block n data_bytes) = (n < 2 ^ 16) × (bytes ≡ packet_text (block n data_bytes))
-IsPacket bytes (ack n) = (n < 2 ^ 16) × (bytes ≡ packet_text (ack n))
-IsPacket bytes (error code text) = (code < 2 ^ 16) × HasNoZero text × (bytes ≡ packet_text (error code text))
-IsPacket bytes (oack blksize tsize) =
-    (options : List TftpOption) × AllByRecursion IsOption options × (bytes ≡ 0 ∷ 6 ∷ options_text options) × OptionsSay options blksize tsize
+abbrev pub IsTftpPacket : List ℕ → Message → Type 0
+IsTftpPacket bytes (rrq path options) = HasNoZero path × (bytes ≡ packet_text (rrq path options))
+IsTftpPacket bytes (block n data_bytes) = (n < 2 ^ 16) × (bytes ≡ packet_text (block n data_bytes))
+IsTftpPacket bytes (ack n) = (n < 2 ^ 16) × (bytes ≡ packet_text (ack n))
+IsTftpPacket bytes (error code text) = (code < 2 ^ 16) × HasNoZero text × (bytes ≡ packet_text (error code text))
+IsTftpPacket bytes (oack blksize tsize) =
+    (options : List TftpOption) × AllByRecursion IsOption options × (bytes ≡ 0 ∷ 6 ∷ options_text options) × OackOptionsSay options blksize tsize
 
 -- a packet that has a spelling: its texts hold no zero byte
 abbrev pub IsWritable : Message → Type 0

@@ -5,28 +5,28 @@ use Rattle.std.specs.Int.{from_be_bytes, w16}
 use Rattle.std.specs.Option.{option_map, option_and_then, is_none}
 use Rattle.std.specs.Str.{bytes_eq}
 use Rattle.nb_tftpmsg.specs.Texts.{text_at, decimal}
-use Rattle.nb_tftpmsg.specs.Options.{is_named}
+use Rattle.nb_tftpmsg.specs.Options.{is_option_name}
 use Rattle.nb_tftpmsg.specs.Packets.{Message, rrq, block, ack, error, oack, request_tail}
 
 -- the values found so far
-pub record Found : Type 0 where
+pub record FoundValues : Type 0 where
   pub blksize : Option ℕ
   pub tsize : Option ℕ
 
-abbrev pub nothing_found : Found
+abbrev pub nothing_found : FoundValues
 nothing_found = record { blksize = None; tsize = None }
 
 -- with one option more
-abbrev pub with_option : Found → List ℕ → List ℕ → Option Found
+abbrev pub with_option : FoundValues → List ℕ → List ℕ → Option FoundValues
 with_option found name value =
-    if is_none found.blksize && is_named (codes "blksize") name
+    if is_none found.blksize && is_option_name (codes "blksize") name
     then option_map (λ n. record found { blksize = Some n }) (decimal (2 ^ 16) value)
-    else (if is_none found.tsize && is_named (codes "tsize") name
+    else (if is_none found.tsize && is_option_name (codes "tsize") name
     then option_map (λ n. record found { tsize = Some n }) (decimal (2 ^ 32) value)
     else Some found)
 
 -- with the first of the options that the bytes begin with, and the bytes behind it
-abbrev pub with_first : Found → List ℕ → Option (Found × List ℕ)
+abbrev pub with_first : FoundValues → List ℕ → Option (FoundValues × List ℕ)
 with_first found bytes =
     option_and_then
     (λ name. option_and_then (λ value. option_map (λ more. (more, value.1)) (with_option found name.0 value.0)) (text_at name.1))
@@ -43,12 +43,12 @@ texts [] = Some []
 texts (byte ∷ bytes) = if byte == 0 then option_map (λ found. [] ∷ found) (texts bytes) else option_and_then (in_front byte) (texts bytes)
 
 -- names and values in turn
-abbrev pub pairs_reading : Found → List (List ℕ) → Option Found
+abbrev pub pairs_reading : FoundValues → List (List ℕ) → Option FoundValues
 pairs_reading found [] = Some found
 pairs_reading found (name ∷ []) = None
 pairs_reading found (name ∷ value ∷ rest) = option_and_then (λ more. pairs_reading more rest) (with_option found name value)
 
-abbrev pub options_reading : List ℕ → Option Found
+abbrev pub options_reading : List ℕ → Option FoundValues
 options_reading bytes = option_and_then (pairs_reading nothing_found) (texts bytes)
 
 abbrev pub request_reading : List ℕ → Option Message
@@ -90,7 +90,7 @@ body_reading code body =
     else (if code == 5 then error_reading body
     else (if code == 6 then oack_reading body else None))))
 
-abbrev pub reading : List ℕ → Option Message
-reading (zero_byte ∷ code ∷ body) = if zero_byte == 0 then body_reading code body else None
-reading (zero_byte ∷ []) = None
-reading [] = None
+abbrev pub packet_read : List ℕ → Option Message
+packet_read (zero_byte ∷ code ∷ body) = if zero_byte == 0 then body_reading code body else None
+packet_read (zero_byte ∷ []) = None
+packet_read [] = None

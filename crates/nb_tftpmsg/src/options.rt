@@ -2,7 +2,7 @@
 
 ghost use Rattle.std.specs.Prelude.{◌≡◌, ◌^◌};
 ghost use Rattle.std.specs.Option.{option_map};
-ghost use Rattle.nb_tftpmsg.specs.Options.{is_named};
+ghost use Rattle.nb_tftpmsg.specs.Options.{is_option_name};
 ghost use Rattle.nb_tftpmsg.specs.Reading.{with_option, with_first, options_reading};
 ghost use Rattle.nb_tftpmsg.specs.FoundViews.{found_of};
 
@@ -70,7 +70,7 @@ impl Options {
 
 /// Names are compared without case.
 fn is_named(name: &[u8], wanted: &[u8]) -> bool
-    ensures { result ≡ is_named wanted.now name.now }
+    ensures { result ≡ is_option_name wanted.now name.now }
 {
     name.eq_ignore_ascii_case(wanted)
 }

@@ -3,9 +3,9 @@
 ghost use Rattle.std.specs.Prelude.{◌≡◌, ◌+◌, ◌^◌, ◌<◌, ◌≤◌, Some, ◌++◌, ◌∷◌, [], ◌↔◌, length, IsErr, IfSome, IsSomeAnd, OnOk, OnErr};
 ghost use Rattle.std.specs.Option.{option_map, option_map_or};
 ghost use Rattle.arrayvec.specs.ArrayVec.{array_vec_len};
-ghost use Rattle.nb_tftpmsg.specs.Packets.{Message, IsPacket, IsWritable, packet_text, request_tail, oack};
+ghost use Rattle.nb_tftpmsg.specs.Packets.{Message, IsTftpPacket, IsWritable, packet_text, request_tail, oack};
 ghost use Rattle.nb_tftpmsg.specs.Texts.{decimal_text};
-ghost use Rattle.nb_tftpmsg.specs.Reading.{reading, body_reading, request_reading, block_reading, ack_reading, error_reading, oack_reading};
+ghost use Rattle.nb_tftpmsg.specs.Reading.{packet_read, body_reading, request_reading, block_reading, ack_reading, error_reading, oack_reading};
 ghost use Rattle.nb_tftpmsg.specs.Views.{message};
 
 use crate::decimal::decimal_text;
@@ -60,10 +60,10 @@ pub enum Tftp<'a> {
 impl<'a> Tftp<'a> {
     /// The packet that the bytes spell, or None where they are no packet.
     pub fn read(bytes: &'a [u8]) -> Option<Tftp<'a>>
-        ensures sound { IfSome result (λ packet. IsPacket bytes.now (message packet)) }
-        ensures complete { (m : Message) → IsPacket bytes.now m → option_map message result ≡ Some m }
+        ensures sound { IfSome result (λ packet. IsTftpPacket bytes.now (message packet)) }
+        ensures complete { (m : Message) → IsTftpPacket bytes.now m → option_map message result ≡ Some m }
         // The same as one equation, by the function on lists that is proved to be the grammar.
-        ensures exact { option_map message result ≡ reading bytes.now }
+        ensures exact { option_map message result ≡ packet_read bytes.now }
     {
         parsed(bytes)
     }
@@ -76,7 +76,7 @@ impl<'a> Tftp<'a> {
         ensures room { OnOk result (out.new.left + length (packet_text (message self.now)) ≡ out.old.left) }
         ensures refused { OnErr result (out.new ≡ out.old) }
         // What was put is a spelling of the packet, so `read` gives it back.
-        ensures read_back { IsPacket (packet_text (message self.now)) (message self.now) }
+        ensures read_back { IsTftpPacket (packet_text (message self.now)) (message self.now) }
     {
         match *self {
             Tftp::Rrq { path, options } => put_three(out, &[0, RRQ], path, request_tail(options)),
@@ -105,7 +105,7 @@ fn request_tail(options: bool) -> &'static [u8]
 }
 
 fn parsed(packet: &[u8]) -> Option<Tftp<'_>>
-    ensures { option_map message result ≡ reading packet.now }
+    ensures { option_map message result ≡ packet_read packet.now }
 {
     match packet {
         [0, code, body @ ..] => of_kind(*code, body),
@@ -197,7 +197,7 @@ fn oack(body: &[u8]) -> Option<Tftp<'_>>
 /// An OACK's text: two names with their zero bytes, and two numbers of at most ten digits with theirs.
 fn oack_text(blksize: Option<u16>, tsize: Option<u32>) -> ArrayVec<u8, 38>
     ensures text { result.items ≡ packet_text (oack blksize tsize) }
-    ensures read_back { IsPacket (packet_text (oack blksize tsize)) (oack blksize tsize) }
+    ensures read_back { IsTftpPacket (packet_text (oack blksize tsize)) (oack blksize tsize) }
 {
     let mut text = ArrayVec::new();
     extend(&mut text, &[0, OACK]);

@@ -4,9 +4,6 @@ use Rattle.std.specs.Char.{is_ascii_alphanumeric}
 use Rattle.std.specs.List.{list_any}
 use Rattle.std.specs.Option.{option_map}
 
-abbrev pub is_dot : ℕ → Bool
-is_dot byte = byte == 46
-
 abbrev pub is_slash : ℕ → Bool
 is_slash byte = byte == 47
 

@@ -15,6 +15,14 @@ pub(crate) fn cut(text: &[u8], separator: u8) -> Option<(&[u8], &[u8])>
     }
 }
 
+/// The same of a text.
+pub(crate) fn cut_text(text: &str, separator: char) -> Option<(&str, &str)>
+    requires { separator < 128 }
+    ensures { option_map (λ pieces. (pieces.0.now, pieces.1.now)) result ≡ cut separator text.now }
+{
+    text.split_once(separator)
+}
+
 /// The place of the first separator.
 fn first_of(text: &[u8], separator: u8) -> Option<usize>
     ensures place { result ≡ position (λ byte. byte == separator) text.now }

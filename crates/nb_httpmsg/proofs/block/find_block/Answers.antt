@@ -1,7 +1,7 @@
-use Rattle.std.proofs.Common.{◌≡◌, ◌≤◌, ◌+◌, ◌-◌, ◌∙◌, sym, ap, subst, arith, true, false, take, drop, length, List, ℕ, Some, None}
+use Rattle.std.proofs.Common.{◌≡◌, ◌≤◌, ◌∙◌, sym, subst, arith, true, false, take, drop, length, List, ℕ, None}
 use Rattle.std.proofs.lemmas.List.{length-drop}
 use Rattle.nb_responses.specs.Lines.{is_empty, first_line}
-use Rattle.nb_httpmsg.proofs.BlockLemmas.{LineOf, one_passed, passed_to_end, passed_to_no_line, all_passed, rest_all}
+use Rattle.nb_httpmsg.proofs.BlockLemmas.{LineOf, one_passed, passed_to_end, passed_to_no_line, rest_all}
 use Rattle.nb_httpmsg.proofs.block.find_block.Goals as goal
 
 pub returns-in-None-clause-block : goal.returns-in-None-clause-block

@@ -1,4 +1,4 @@
-use Rattle.std.proofs.Common.{arith, get_or}
+use Rattle.std.proofs.Common.{arith}
 use Rattle.std.proofs.lemmas.Int.Digits.{digits_value_more}
 use Rattle.nb_httpmsg.proofs.NumberLemmas.{digit_here}
 use Rattle.nb_httpmsg.proofs.number.saturated.Goals as goal

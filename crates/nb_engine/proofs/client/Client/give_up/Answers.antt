@@ -1,24 +1,21 @@
-use Rattle.std.proofs.Common.{◌≡◌, [], ◌∷◌, sym, ◌∙◌, ap, subst}
+use Rattle.std.proofs.Common.{◌≡◌, [], ◌∷◌, ◌∙◌, ap, subst}
 use Rattle.nb_defs.specs.Records.{ended, out_texts}
 use Rattle.nb_record.specs.Logged.{Puts}
 use Rattle.nb_terms.specs.declared.cause.Cause.{Cause}
-use Rattle.nb_engine.specs.declared.stage.Stage.{Stage}
-use Rattle.nb_engine.specs.declared.stage.Stage.TheVariants as stage
-use Rattle.nb_engine.specs.Advance.{IfRunning}
+use Rattle.nb_engine.specs.declared.fetch.Fetch.{Fetch}
 use Rattle.nb_engine.specs.Conclusions.{fails, conclusion_records}
-use Rattle.nb_engine.specs.Machine.{Running, no_route}
-use Rattle.nb_engine.specs.Seen.{Seen}
+use Rattle.nb_engine.specs.Machine.{no_route}
 use Rattle.nb_engine.proofs.Puts.{Puts-outs}
 use Rattle.nb_engine.proofs.client.Client.give_up.Goals as goal
 
 pub returns-clause-puts : goal.returns-clause-puts
 returns-clause-puts c =
-    let s = c.in-Running.script in
-    let cause = no_route c.args.fetch.server.0 in
-    let is : c.args.self.now.stage ≡ stage.Running s = sym (ap (λ (x : Seen). x.stage) c.self.view_is) ∙ sym c.replace.ensures.value ∙ c.in-Running.is in
-    let over : Puts c.args.log.now c.put_over.new.log (out_texts (ended c.args.fetch.number cause ∷ [])) =
-    subst (λ (x : Cause). Puts c.args.log.now c.put_over.new.log (out_texts (ended c.args.fetch.number x ∷ []))) c.from-cause.ensures c.put_over.ensures in
-    let rest : Puts c.put_over.new.log c.fail.new.log (out_texts (conclusion_records s.depth (fails cause))) =
-    subst (λ (x : Cause). Puts c.put_over.new.log c.fail.new.log (out_texts (conclusion_records s.depth (fails x)))) c.from-cause.ensures c.fail.ensures.puts in
-    subst (λ (st : Stage). IfRunning st (λ (t : Running). Puts c.args.log.now c.fail.new.log (out_texts (ended c.args.fetch.number cause ∷ conclusion_records t.depth (fails cause)))))
-    (sym is) (Puts-outs (ended c.args.fetch.number cause ∷ []) (conclusion_records s.depth (fails cause)) over rest)
+    let f = c.args.fetch in
+    let cause = no_route f.server.0 in
+    let is : c.from-cause.result ≡ cause = c.from-cause.ensures ∙ ap (λ (g : Fetch). no_route g.server.0) c.get-open.ensures in
+    let over : Puts c.args.log.now c.put_over.new.log (out_texts (ended f.number cause ∷ [])) =
+    subst (λ (x : Cause). Puts c.args.log.now c.put_over.new.log (out_texts (ended f.number x ∷ []))) is
+    (subst (λ (g : Fetch). Puts c.args.log.now c.put_over.new.log (out_texts (ended g.number c.from-cause.result ∷ []))) c.get-open.ensures c.put_over.ensures) in
+    let rest : Puts c.put_over.new.log c.fail.new.log (out_texts (conclusion_records c.args.script.depth (fails cause))) =
+    subst (λ (x : Cause). Puts c.put_over.new.log c.fail.new.log (out_texts (conclusion_records c.args.script.depth (fails x)))) is c.fail.ensures.puts in
+    Puts-outs (ended f.number cause ∷ []) (conclusion_records c.args.script.depth (fails cause)) over rest

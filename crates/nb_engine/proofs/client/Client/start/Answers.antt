@@ -15,7 +15,7 @@ returns-in-Ok c = λ n e.
     let counted : c.self.inside.used ≡ n + 1 = ap (λ (x : Seen). x.used) c.self.view_is ∙ e in
     let plain : is_plain s.script ≡ true = c.in-Ok.ensures.plain in
     let puts = subst (λ k. Puts c.args.log.now c.put_entered.new.log (out_texts (step k ∷ enter 1 ∷ []))) counted c.put_entered.ensures in
-    rw (c.requires.first, counted, c.first.ensures, c.in-Ok.ensures.same, c.of.ensures) (start_grows n c.args.self.now.world s c.requires.valid plain puts, tt)
+    rw (counted, c.in-Ok.ensures.same, c.of.ensures) (start_grows n c.args.self.now.world s c.requires.valid plain puts, tt)
 
 pub returns-in-Err-NotScript : goal.returns-in-Err-NotScript
 returns-in-Err-NotScript c = λ n e.
@@ -26,4 +26,4 @@ returns-in-Err-NotScript c = λ n e.
     let other : is_plain s.script ≡ false = refused refl in
     let both = Puts-outs (step c.self.inside.used ∷ enter 1 ∷ []) (leave 1 not_script ∷ []) c.put_entered-in-Err-NotScript.ensures c.put_refused.ensures in
     let puts = subst (λ k. Puts c.args.log.now c.put_refused.new.log (out_texts (step k ∷ enter 1 ∷ leave 1 not_script ∷ []))) counted both in
-    rw (c.requires.first, counted, world, c.cause.ensures) (tt, refusal_grows n c.self.inside.world s c.requires.valid other puts, refl)
+    rw (counted, world, c.cause.ensures) (tt, refusal_grows n c.self.inside.world s c.requires.valid other puts, refl)

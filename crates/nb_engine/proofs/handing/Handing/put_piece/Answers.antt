@@ -1,7 +1,7 @@
 use Rattle.std.proofs.Common.{◌≡◌, ◌+◌, ◌<◌, ◌∷◌, length, Some, sym, ◌∙◌, ap, subst, arith}
 use Rattle.std.specs.Prelude.{slice_get}
 use Rattle.std.specs.Option.{option_map}
-use Rattle.nb_image.specs.Parts.{parts, part_text, piece_text, pieces}
+use Rattle.nb_image.specs.Parts.{parts, part_text, piece_text, part_pieces}
 use Rattle.nb_defs.specs.Records.{out_text, part}
 use Rattle.nb_record.specs.Logged.{Puts}
 use Rattle.nb_engine.specs.Conclusions.{part_records, piece_record}
@@ -42,7 +42,7 @@ returns-then-self-piece_count c =
     let p = part_text c.in-Some.part in
     let piece = piece_text c.in-Some-piece.piece in
     let is : slice_get ps h.part ≡ Some p = sym c.part.ensures ∙ ap (λ o. option_map part_text o) c.in-Some.is in
-    let got : slice_get (pieces p.bytes) h.piece ≡ Some piece = sym c.piece.ensures ∙ ap (λ o. option_map piece_text o) c.in-Some-piece.is in
+    let got : slice_get (part_pieces p.bytes) h.piece ≡ Some piece = sym c.piece.ensures ∙ ap (λ o. option_map piece_text o) c.in-Some-piece.is in
     let last : h.piece + 1 ≡ length (part_records p) = c.if-self-piece_count.true ∙ c.piece_count.ensures ∙ sym (records_of_part p) in (
       at_next c.args.images.now h c.requires (part_within ps h.part p is),
       record {
@@ -59,7 +59,7 @@ returns-else-self-piece_count c =
     let p = part_text c.in-Some.part in
     let piece = piece_text c.in-Some-piece.piece in
     let is : slice_get ps h.part ≡ Some p = sym c.part.ensures ∙ ap (λ o. option_map part_text o) c.in-Some.is in
-    let got : slice_get (pieces p.bytes) h.piece ≡ Some piece = sym c.piece.ensures ∙ ap (λ o. option_map piece_text o) c.in-Some-piece.is in
+    let got : slice_get (part_pieces p.bytes) h.piece ≡ Some piece = sym c.piece.ensures ∙ ap (λ o. option_map piece_text o) c.in-Some-piece.is in
     let here : h.piece < length (part_records p) = rw is at c.requires.piece in
     let within : h.piece + 1 < length (part_records p) = omega (arith, here, c.if-self-piece_count.false, c.piece_count.ensures, records_of_part p) in (
       at_piece c.args.images.now h p c.requires is within,

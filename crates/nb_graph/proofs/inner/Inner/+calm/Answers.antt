@@ -2,7 +2,7 @@ use Rattle.nb_ledger.proofs.RunLemmas.{Given-none}
 use Rattle.std.proofs.Common.{refl, sym, subst, ◌∙◌, arith, ap, rules, ◌≡◌, true, append_assoc, [], ◌∷◌, ◌++◌}
 use Rattle.std.specs.Vec.{vec_capacity}
 use Rattle.nb_ledger.specs.Ledger.{busy, port, open_count}
-use Rattle.nb_graph.specs.Whole.{IsWhole, port_at}
+use Rattle.nb_graph.specs.Whole.{IsBookWhole, port_at}
 use Rattle.nb_graph.specs.Calm.{IsSteady}
 use Rattle.nb_ledger.specs.declared.port.PortState.TheVariants.{Leaving, Closed}
 use Rattle.nb_ledger.specs.declared.event.Way.TheVariants.{Down}
@@ -13,8 +13,7 @@ use Rattle.nb_graph.proofs.UnplugLemmas.{Starts-link, Starts-entry, Starts-one, 
 use Rattle.nb_graph.proofs.ShutLemmas.{shut-set, shut-link, shut-all, closes-none, closes-step, shut-still}
 use Rattle.nb_graph.proofs.MannedLemmas.{IsManned-same}
 use Rattle.nb_ledger.specs.declared.event.GraphEvent.TheVariants.{Closed as CloseEvent, Dropped, Entered}
-use Rattle.nb_graph.specs.Trace.{carried, down, in_list, part, silence, lent, loads, said, nature}
-use Rattle.nb_graph.specs.Effects.{asked_loads, asked_runs}
+use Rattle.nb_graph.specs.Trace.{carried, down, in_list, silence, lent, loads, said, nature}
 use Rattle.nb_graph.specs.Deeds.{MustUnplug as Unlinks, Closes, Gives, Sends, all_closes, arrives, closes_of, emit_of, few_of, goes_out, is_shut, no_memory, returns_of, runs_of, said_of}
 use Rattle.nb_graph.proofs.ShutLemmas.{closes_of-none, closes_of-step}
 use Rattle.nb_graph.specs.Lives.{CalmFor, Same, here}
@@ -25,7 +24,6 @@ use Rattle.nb_ledger.specs.GraphRun.{port_but}
 use Rattle.nb_graph.proofs.WholeLemmas.{but_other}
 use Rattle.nb_graph.proofs.LivesLemmas.{Lives-above, Lives-turn, Lives-weaken}
 use Rattle.nb_graph.specs.Accounts.{account, few_bytes}
-use Rattle.nb_graph.specs.declared.asking.Asked.TheVariants.{Done}
 use Rattle.nb_graph.specs.Flows.{Closing, Passing, asked_left, asked_sent, asked_whole}
 use Rattle.nb_graph.proofs.AccountLemmas.{Calms-idle, Calms-turn, Calms-plain, Mild-same}
 use Rattle.nb_graph.proofs.MildLemmas.{Lives-plain, Mild-busy, Mild-port}
@@ -45,7 +43,7 @@ use Rattle.nb_graph.proofs.inner.Inner.+calm.Goals as goal
 pub calm_effects-returns-clause-lives : goal.calm_effects-returns-clause-lives
 calm_effects-returns-clause-lives g t c =
     let k = c.run_downs.ensures.lives in
-    rw (lent-below c.args.fx _ c.requires.asks) (CalmFor-opened (λ st. ap (λ z. z ++ st) (runs-below (nature g.N.Node.kind_of g.N.Load.Parts.first g.N.Load.Parts.second) c.args.id.0 (said c.args.msg.now) c.args.fx _ c.requires.asks) ∙ append_assoc (few_of (nature g.N.Node.kind_of g.N.Load.Parts.first g.N.Load.Parts.second) c.args.id.0 (said c.args.msg.now) c.args.fx.downs) (closes_of c.args.id.0 c.args.fx.closes.items) st ∙ ap (λ z. few_of (nature g.N.Node.kind_of g.N.Load.Parts.first g.N.Load.Parts.second) c.args.id.0 (said c.args.msg.now) c.args.fx.downs ++ (closes_of c.args.id.0 z ++ st)) (sym c.as_slice.ensures.value)) (CalmFor-last (loads c.args.fx.downs) c.requires.runs k c.run_closes.ensures.lives (λ ds p q i j w v h t. let z = Downs-closing c.args.self.now.book c.run_downs.new.self.book k.lives.moved.links k.lives.moved.shuts c.args.id.0 (λ n. few_bytes (nature g.N.Node.kind_of g.N.Load.Parts.first g.N.Load.Parts.second) n (said c.args.msg.now).bytes c.args.fx.downs) p q j j w v h in (z.0, z.1, λ _. z.2))))
+    rw (lent-below c.args.fx.now _ c.requires.asks) (CalmFor-opened (λ st. ap (λ z. z ++ st) (runs-below (nature g.N.Node.kind_of g.N.Load.Parts.first g.N.Load.Parts.second) c.args.id.0 (said c.args.msg.now) c.args.fx.now _ c.requires.asks) ∙ append_assoc (few_of (nature g.N.Node.kind_of g.N.Load.Parts.first g.N.Load.Parts.second) c.args.id.0 (said c.args.msg.now) c.args.fx.now.downs) (closes_of c.args.id.0 c.args.fx.now.closes.items) st ∙ ap (λ z. few_of (nature g.N.Node.kind_of g.N.Load.Parts.first g.N.Load.Parts.second) c.args.id.0 (said c.args.msg.now) c.args.fx.now.downs ++ (closes_of c.args.id.0 z ++ st)) (sym c.as_slice.ensures.value)) (CalmFor-last (loads c.args.fx.now.downs) c.requires.runs k c.run_closes.ensures.lives (λ ds p q i j w v h t. let z = Downs-closing c.args.self.now.book c.run_downs.new.self.book k.lives.moved.links k.lives.moved.shuts c.args.id.0 (λ n. few_bytes (nature g.N.Node.kind_of g.N.Load.Parts.first g.N.Load.Parts.second) n (said c.args.msg.now).bytes c.args.fx.now.downs) p q j j w v h in (z.0, z.1, λ _. z.2))))
 
 pub close_all-returns-clause-lives : goal.close_all-returns-clause-lives
 close_all-returns-clause-lives g t c =
@@ -58,8 +56,8 @@ close_all-returns-clause-lives g t c =
     (λ ds p q i j w v h t. let z = Closing-then _ _ b.lives.moved.links b.lives.moved.shuts x p q j j w v h in (z.0, z.1, λ _. z.2)))
     (λ ds p q i j w v h t. let z = Closing-then _ _ a.lives.moved.links a.lives.moved.shuts x p q j j w v h in (z.0, z.1, λ _. z.2))
 
-pub close_link-ask_closed-fx-requires-clause-lives : goal.close_link-ask_closed-fx-requires-clause-lives
-close_link-ask_closed-fx-requires-clause-lives g t c =
+pub close_link-ask_closed-requires-clause-lives : goal.close_link-ask_closed-requires-clause-lives
+close_link-ask_closed-requires-clause-lives g t c =
     busy-live _ _ c.close_both-was.ensures.runs
 
 pub close_link-unplug-requires-clause-apart : goal.close_link-unplug-requires-clause-apart
@@ -69,20 +67,20 @@ pub close_link-returns-clause-lives : goal.close_link-returns-clause-lives
 unfolding Calm-link
 close_link-returns-clause-lives g t c =
     let b = c.close_both-was.ensures in
-    let k = rw c.ask_closed-fx.ensures.book at c.calm_effects.ensures.lives in
+    let k = rw c.ask_closed.ensures.book at c.calm_effects.ensures.lives in
     let gone = half-gone c.requires.steady.whole.links c.requires.linked b.half in
     let left = half-left c.args.self.now.book c.close_both-was.new.self.book b.half in
     record {
       calm = Calm-link c.requires.steady.whole.links c.requires.linked b.told b.run b.was b.half k.calm c.unplug.ensures.ends.0.ends;
-      lives = Lives-closed _ _ c.args.peer.obj.0 (lent c.ask_closed-fx.result) (λ st. runs_of (nature g.N.Node.kind_of g.N.Load.Parts.first g.N.Load.Parts.second) c.args.peer.obj.0 silence true c.ask_closed-fx.result ++ st) (λ st. Closes c.args.at c.args.cause.now ∷ st) (λ x n. b.half.busy_set x ∙ but_other c.args.peer.obj.0 true (busy c.args.self.now.book) x n) (b.lives c.args.now) (Lives-above (λ st. Unlinks c.args.at c.args.peer ∷ st) (rw c.ask_closed-fx.ensures.book at c.ask_closed-fx.ensures.lives (g.O.Outside.events c.close_both-was.new.out))) k.lives (c.unplug.ensures.ends.0.lives c.args.now)
-          (λ bs ds es gs h i j z. Calms-link c.args.at c.args.peer _ _ c.requires.steady.whole.links c.requires.linked gone left (λ n. below-bytes (nature g.N.Node.kind_of g.N.Load.Parts.first g.N.Load.Parts.second) [] 0 c.ask_closed-fx.result c.ask_closed-fx.ensures.asks n) (below-zero (nature g.N.Node.kind_of g.N.Load.Parts.first g.N.Load.Parts.second) [] 0 c.ask_closed-fx.result c.ask_closed-fx.ensures.asks) h i j z);
+      lives = Lives-closed _ _ c.args.peer.obj.0 (lent c.ask_closed.new.fx) (λ st. runs_of (nature g.N.Node.kind_of g.N.Load.Parts.first g.N.Load.Parts.second) c.args.peer.obj.0 silence true c.ask_closed.new.fx ++ st) (λ st. Closes c.args.at c.args.cause.now ∷ st) (λ x n. b.half.busy_set x ∙ but_other c.args.peer.obj.0 true (busy c.args.self.now.book) x n) (b.lives c.args.now) (Lives-above (λ st. Unlinks c.args.at c.args.peer ∷ st) (rw c.ask_closed.ensures.book at c.ask_closed.ensures.lives (g.O.Outside.events c.close_both-was.new.out))) k.lives (c.unplug.ensures.ends.0.lives c.args.now)
+          (λ bs ds es gs h i j z. Calms-link c.args.at c.args.peer _ _ c.requires.steady.whole.links c.requires.linked gone left (λ n. below-bytes (nature g.N.Node.kind_of g.N.Load.Parts.first g.N.Load.Parts.second) [] 0 c.ask_closed.new.fx c.ask_closed.ensures.asks n) (below-zero (nature g.N.Node.kind_of g.N.Load.Parts.first g.N.Load.Parts.second) [] 0 c.ask_closed.new.fx c.ask_closed.ensures.asks) h i j z);
     }
 
 pub close_port-returns-in-Open-clause-lives : goal.close_port-returns-in-Open-clause-lives
 unfolding Calm-alone
 close_port-returns-in-Open-clause-lives g t c = record {
   calm = Calm-alone (sym c.in-Open.ensures) c.close_alone.ensures.sets c.close_alone.ensures.told c.close_alone.ensures.step;
-  lives = Lives-weaken (λ x w v k. k.1) (λ ds k. Calms-idle k closing-idle) (Lives-plain g.N.Node.stands c.args.now _ _ (λ st. Closes c.args.at c.args.cause.now ∷ st) here (CloseEvent c.args.at c.args.cause.now) (Loses-same c.args.self.now.nodes.items c.close_alone.ensures.sets.objects) (scene-port c.close_alone.ensures.sets ∙ ap (λ v. with_ports (port_but c.args.at (shut_of v) (port c.args.self.now.book)) (scene_of c.args.self.now.book)) c.in-Open.ensures) c.close_alone.ensures.given (λ x t. refl) (λ st ds s k. ([], closes_alone c.args.at c.args.cause.now (sym c.in-Open.ensures), k)) (Calms-plain _ _ _ (CloseEvent c.args.at c.args.cause.now) (Mild-port c.close_alone.ensures.sets (λ q e. cc) (λ q e. absurd (let z = c.in-Open.ensures ∙ e in cc)) refl) (λ p a. refl)));
+  lives = Lives-weaken (λ x w v k. k.1) (λ ds k. Calms-idle k closing-idle) (Lives-plain g.N.Node.stands c.args.now _ _ (λ st. Closes c.args.at c.args.cause.now ∷ st) here (CloseEvent c.args.at c.args.cause.now) (Loses-same c.args.self.now.nodes.items c.close_alone.ensures.sets.objects) (scene-port c.close_alone.ensures.sets ∙ ap (λ v. with_ports (port_but c.args.at (shut_of v) (port c.args.self.now.book)) (scene_of c.args.self.now.book)) c.in-Open.ensures) c.close_alone.ensures.given (λ st ds s k. ([], closes_alone c.args.at c.args.cause.now (sym c.in-Open.ensures), k)) (Calms-plain _ _ _ (CloseEvent c.args.at c.args.cause.now) (Mild-port c.close_alone.ensures.sets (λ q e. cc) (λ q e. absurd (let z = c.in-Open.ensures ∙ e in cc)) refl) (λ p a. refl)));
 }
 
 pub close_port-returns-in-Open-clause-steady : goal.close_port-returns-in-Open-clause-steady
@@ -111,14 +109,14 @@ pub pass_down-returns-in-Leaving-clause-lives : goal.pass_down-returns-in-Leavin
 unfolding Calm-dropped
 pass_down-returns-in-Leaving-clause-lives g t c = record {
   calm = Calm-dropped _ _ _ c.args.at (Leaving c.in-Leaving.field-0) (sym c.in-Leaving.ensures) tt (rw c.spelled.ensures at c.event.ensures.told);
-  lives = Lives-weaken (λ x w v k. k.1) (λ ds k. Calms-idle k (λ p q x y w v i j. Passing-shut c.args.self.now.book c.args.at _ (ap open_count (sym c.in-Leaving.ensures)) p q y w v i)) (Lives-plain g.N.Node.stands c.args.now _ _ (λ st. Sends c.args.at (said c.args.msg.now) ∷ st) here (Dropped c.args.at) (Loses-refl _) refl (rw c.spelled.ensures at c.event.ensures.given) (λ x t. refl) (λ st ds s k. ([], drops c.args.at (said c.args.msg.now) (ap open_count (sym c.in-Leaving.ensures)), k)) (Calms-plain _ _ _ (Dropped c.args.at) (Mild-same refl (λ x k. refl)) (λ p a. refl)));
+  lives = Lives-weaken (λ x w v k. k.1) (λ ds k. Calms-idle k (λ p q x y w v i j. Passing-shut c.args.self.now.book c.args.at _ (ap open_count (sym c.in-Leaving.ensures)) p q y w v i)) (Lives-plain g.N.Node.stands c.args.now _ _ (λ st. Sends c.args.at (said c.args.msg.now) ∷ st) here (Dropped c.args.at) (Loses-refl _) refl (rw c.spelled.ensures at c.event.ensures.given) (λ st ds s k. ([], drops c.args.at (said c.args.msg.now) (ap open_count (sym c.in-Leaving.ensures)), k)) (Calms-plain _ _ _ (Dropped c.args.at) (Mild-same refl (λ x k. refl)) (λ p a. refl)));
 }
 
 pub pass_down-returns-in-Closed-clause-lives : goal.pass_down-returns-in-Closed-clause-lives
 unfolding Calm-dropped
 pass_down-returns-in-Closed-clause-lives g t c = record {
   calm = Calm-dropped _ _ _ c.args.at Closed (sym c.in-Closed.ensures) tt (rw c.spelled-in-Closed.ensures at c.event-in-Closed.ensures.told);
-  lives = Lives-weaken (λ x w v k. k.1) (λ ds k. Calms-idle k (λ p q x y w v i j. Passing-shut c.args.self.now.book c.args.at _ (ap open_count (sym c.in-Closed.ensures)) p q y w v i)) (Lives-plain g.N.Node.stands c.args.now _ _ (λ st. Sends c.args.at (said c.args.msg.now) ∷ st) here (Dropped c.args.at) (Loses-refl _) refl (rw c.spelled-in-Closed.ensures at c.event-in-Closed.ensures.given) (λ x t. refl) (λ st ds s k. ([], drops c.args.at (said c.args.msg.now) (ap open_count (sym c.in-Closed.ensures)), k)) (Calms-plain _ _ _ (Dropped c.args.at) (Mild-same refl (λ x k. refl)) (λ p a. refl)));
+  lives = Lives-weaken (λ x w v k. k.1) (λ ds k. Calms-idle k (λ p q x y w v i j. Passing-shut c.args.self.now.book c.args.at _ (ap open_count (sym c.in-Closed.ensures)) p q y w v i)) (Lives-plain g.N.Node.stands c.args.now _ _ (λ st. Sends c.args.at (said c.args.msg.now) ∷ st) here (Dropped c.args.at) (Loses-refl _) refl (rw c.spelled-in-Closed.ensures at c.event-in-Closed.ensures.given) (λ st ds s k. ([], drops c.args.at (said c.args.msg.now) (ap open_count (sym c.in-Closed.ensures)), k)) (Calms-plain _ _ _ (Dropped c.args.at) (Mild-same refl (λ x k. refl)) (λ p a. refl)));
 }
 
 pub run_closes-returns-in_default-clause-lives : goal.run_closes-returns-in_default-clause-lives
@@ -134,28 +132,29 @@ run_down-returns-in-None-clause-lives g t c = rw c.in-None.is (CalmFor-weaken (B
 
 pub run_downs-returns-clause-lives : goal.run_downs-returns-clause-lives
 run_downs-returns-clause-lives g t c =
-    let a = c.run_down.ensures.lives in
-    CalmFor-opened (λ st. append_assoc (emit_of (nature g.N.Node.kind_of g.N.Load.Parts.first g.N.Load.Parts.second) c.args.id.0 (said c.args.msg.now) c.args.downs.first) (emit_of (nature g.N.Node.kind_of g.N.Load.Parts.first g.N.Load.Parts.second) c.args.id.0 (said c.args.msg.now) c.args.downs.second) st) (CalmFor-back (carried c.args.downs.first) (carried c.args.downs.second) a c.run_down-2.ensures.lives
-    (λ ds p q i j w v h t. let z = Downs-few (nature g.N.Node.kind_of g.N.Load.Parts.first g.N.Load.Parts.second) _ _ _ a.lives.moved.links a.lives.moved.shuts c.args.id.0 _ c.args.downs c.requires.downs p q j (account (nature g.N.Node.kind_of g.N.Load.Parts.first g.N.Load.Parts.second) q j ds) w v h in (z.0, z.1, λ _. z.2)))
+    let a = rw c.take.ensures.value at c.run_down.ensures.lives in
+    let b = rw c.take-2.ensures.value at c.run_down-2.ensures.lives in
+    CalmFor-opened (λ st. append_assoc (emit_of (nature g.N.Node.kind_of g.N.Load.Parts.first g.N.Load.Parts.second) c.args.id.0 (said c.args.msg.now) c.args.downs.now.first) (emit_of (nature g.N.Node.kind_of g.N.Load.Parts.first g.N.Load.Parts.second) c.args.id.0 (said c.args.msg.now) c.args.downs.now.second) st) (CalmFor-back (carried c.args.downs.now.first) (carried c.args.downs.now.second) a b
+    (λ ds p q i j w v h t. let z = Downs-few (nature g.N.Node.kind_of g.N.Load.Parts.first g.N.Load.Parts.second) _ _ _ a.lives.moved.links a.lives.moved.shuts c.args.id.0 _ c.args.downs.now c.requires.downs p q j (account (nature g.N.Node.kind_of g.N.Load.Parts.first g.N.Load.Parts.second) q j ds) w v h in (z.0, z.1, λ _. z.2)))
 
 pub send_down-take_emit-requires-clause-lives : goal.send_down-take_emit-requires-clause-lives
 send_down-take_emit-requires-clause-lives g t c = busy-live _ _ (c.pass_down.ensures.lives.calm.shrinks.same_busy c.args.id.0 ∙ c.requires.runs)
 
-pub enter_down-ask_down-asked-requires-clause-lives : goal.enter_down-ask_down-asked-requires-clause-lives
-enter_down-ask_down-asked-requires-clause-lives g t c = busy-live _ _ c.enter-was.ensures.runs
+pub enter_down-ask_down-done-requires-clause-lives : goal.enter_down-ask_down-done-requires-clause-lives
+enter_down-ask_down-done-requires-clause-lives g t c = busy-live _ _ c.enter-was.ensures.runs
 
 pub enter_down-leave-requires-clause-lives : goal.enter_down-leave-requires-clause-lives
 enter_down-leave-requires-clause-lives g t c =
-    busy-live _ _ (c.after_down.ensures.lives.calm.shrinks.same_busy c.args.at.obj.0 ∙ rw c.ask_down-asked.ensures.book c.enter-was.ensures.runs)
+    busy-live _ _ (c.after_down.ensures.lives.calm.shrinks.same_busy c.args.at.obj.0 ∙ rw c.ask_down-done.ensures.book c.enter-was.ensures.runs)
 
 pub enter_down-returns-clause-lives : goal.enter_down-returns-clause-lives
 unfolding Calm-entry
 enter_down-returns-clause-lives g t c =
     let b = c.enter-was.ensures in
-    let k = rw c.ask_down-asked.ensures.book at c.after_down.ensures.lives in
+    let k = rw c.ask_down-done.ensures.book at c.after_down.ensures.lives in
     let e = c.leave.ensures.ends Down (λ e. cc) in
-    let r = Lives-entry _ _ c.args.at.obj.0 (asked_loads c.ask_down-asked.result) (λ st. asked_runs (nature g.N.Node.kind_of g.N.Load.Parts.first g.N.Load.Parts.second) c.args.at.obj.0 (said c.args.msg.now) c.ask_down-asked.result ++ st) (λ st. Gives c.args.at (said c.args.msg.now) ∷ st) (Entered c.args.at Down) (λ done fx. down (said c.args.msg.now) c.args.now done fx) (λ x n. b.sets.busy_set x ∙ but_other c.args.at.obj.0 true (busy c.args.self.now.book) x n) (Loses-same c.args.self.now.nodes.items b.sets.objects) (scene-busy b.sets) b.given (λ x t. refl) (λ st ds s k. (_, enters_down c.args.at (said c.args.msg.now) c.requires.slot c.requires.open, k)) (rw (c.ask_down-asked.ensures.book, sym c.requires.slot) at c.ask_down-asked.ensures.lives (g.O.Outside.events c.enter-was.new.out)) k.lives (e.lives c.args.now)
-    (λ ds es gs x y z. Calms-down c.args.at (asked_sent (nature g.N.Node.kind_of g.N.Load.Parts.first g.N.Load.Parts.second) (said c.args.msg.now).bytes c.ask_down-asked.result) (asked_whole (said c.args.msg.now).bytes c.ask_down-asked.result) (asked_left (said c.args.msg.now).bytes c.ask_down-asked.result) (said c.args.msg.now).bytes c.requires.slot (rw (b.sets.same_port c.args.at.obj.0 c.args.at.slot) c.requires.open) (IsWhole-enter b.sets c.requires.steady.whole).links (asked-zero (nature g.N.Node.kind_of g.N.Load.Parts.first g.N.Load.Parts.second) _ _ c.ask_down-asked.result c.ask_down-asked.ensures.asks) (whole-only _ c.ask_down-asked.result) (whole-left _ c.ask_down-asked.result) (Calms-enter _ _ _ c.args.at c.requires.slot (Mild-busy b.sets)) x y z) in (
+    let r = Lives-entry _ _ c.args.at.obj.0 (lent c.ask_down-done.new.fx) (λ st. runs_of (nature g.N.Node.kind_of g.N.Load.Parts.first g.N.Load.Parts.second) c.args.at.obj.0 (said c.args.msg.now) c.ask_down-done.result c.ask_down-done.new.fx ++ st) (λ st. Gives c.args.at (said c.args.msg.now) ∷ st) (Entered c.args.at Down) (λ done fx. down (said c.args.msg.now) c.args.now done fx) (λ x n. b.sets.busy_set x ∙ but_other c.args.at.obj.0 true (busy c.args.self.now.book) x n) (Loses-same c.args.self.now.nodes.items b.sets.objects) (scene-busy b.sets) b.given (λ st ds s k. (_, enters_down c.args.at (said c.args.msg.now) c.requires.slot c.requires.open, k)) (rw (c.ask_down-done.ensures.book, sym c.requires.slot) at c.ask_down-done.ensures.lives (g.O.Outside.events c.enter-was.new.out)) k.lives (e.lives c.args.now)
+    (λ ds es gs x y z. Calms-down c.args.at (asked_sent (nature g.N.Node.kind_of g.N.Load.Parts.first g.N.Load.Parts.second) (said c.args.msg.now).bytes c.ask_down-done.result c.ask_down-done.new.fx) (asked_whole (said c.args.msg.now).bytes c.ask_down-done.result) (asked_left (said c.args.msg.now).bytes c.ask_down-done.result) (said c.args.msg.now).bytes c.requires.slot (rw (b.sets.same_port c.args.at.obj.0 c.args.at.slot) c.requires.open) (IsWhole-enter b.sets c.requires.steady.whole).links (asked-zero (nature g.N.Node.kind_of g.N.Load.Parts.first g.N.Load.Parts.second) _ _ c.ask_down-done.result c.ask_down-done.new.fx c.ask_down-done.ensures.asks) (whole-only _ c.ask_down-done.result) (whole-left _ c.ask_down-done.result) (Calms-enter _ _ _ c.args.at c.requires.slot (Mild-busy b.sets)) x y z) in (
       record {
         calm = Calm-entry b.sets b.told b.step (λ st. (c.requires.slot, c.requires.open)) b.was k.calm e.ends;
         lives = r.0;
@@ -176,10 +175,10 @@ enter_down-after_down-requires g t c =
     let s = c.enter-was.ensures.sets in
     let r = s.objects.same_rank c.args.at.obj.0 in
     let o = s.same_opens in
-    let book = c.ask_down-asked.ensures.book in
-    let runs : busy c.ask_down-asked.new.self.book c.args.at.obj.0 ≡ true = rw book c.enter-was.ensures.runs in
-    let whole : IsWhole c.ask_down-asked.new.self.book = rw book (IsWhole-enter s c.requires.steady.whole) in
-    let steady : IsSteady g.N.Node.rank_of c.ask_down-asked.new.self.book c.ask_down-asked.new.self.nodes.items (vec_capacity c.ask_down-asked.new.self.nodes) = record { whole = whole; manned = c.ask_down-asked.ensures.manned } in
+    let book = c.ask_down-done.ensures.book in
+    let runs : busy c.ask_down-done.new.self.book c.args.at.obj.0 ≡ true = rw book c.enter-was.ensures.runs in
+    let whole : IsBookWhole c.ask_down-done.new.self.book = rw book (IsWhole-enter s c.requires.steady.whole) in
+    let steady : IsSteady g.N.Node.rank_of c.ask_down-done.new.self.book c.ask_down-done.new.self.nodes.items (vec_capacity c.ask_down-done.new.self.nodes) = record { whole = whole; manned = c.ask_down-done.ensures.manned } in
     search rules
 
 pub close_port-returns-in-Open-clause-shut : goal.close_port-returns-in-Open-clause-shut
@@ -193,7 +192,7 @@ close_port-returns-in-Closed-clause-shut g t c = ap open_count (sym c.in-Closed.
 
 pub close_link-returns-clause-shut : goal.close_link-returns-clause-shut
 close_link-returns-clause-shut g t c =
-    shut-link c.close_both-was.ensures.half (rw c.ask_closed-fx.ensures.book at c.calm_effects.ensures.lives.calm) c.unplug.ensures.ends.0.ends
+    shut-link c.close_both-was.ensures.half (rw c.ask_closed.ensures.book at c.calm_effects.ensures.lives.calm) c.unplug.ensures.ends.0.ends
 
 pub close_all-returns-clause-shut : goal.close_all-returns-clause-shut
 close_all-returns-clause-shut g t c =
@@ -207,8 +206,8 @@ pub run_closes-returns-in-len1-up-clause-shut : goal.run_closes-returns-in-len1-
 run_closes-returns-in-len1-up-clause-shut g t c =
     closes-step c.args.closes.now (0, record { code = 0; a = 0; b = 0 }) (λ k. open_count (port c.run_closes.new.self.book c.args.id.0 k) ≡ 0) c.in-len1-up.len_at_least (shut-still c.args.id.0 _ c.close_port.ensures.shut c.run_closes.ensures.lives.calm.shrinks) c.run_closes.ensures.shut
 
-pub enter_down-ask_down-asked-requires-clause-manned : goal.enter_down-ask_down-asked-requires-clause-manned
-enter_down-ask_down-asked-requires-clause-manned g t c = IsManned-same c.enter-was.ensures.sets.objects c.requires.steady.manned
+pub enter_down-ask_down-done-requires-clause-manned : goal.enter_down-ask_down-done-requires-clause-manned
+enter_down-ask_down-done-requires-clause-manned g t c = IsManned-same c.enter-was.ensures.sets.objects c.requires.steady.manned
 
 pub close_port-returns-in-Open-clause-starts : goal.close_port-returns-in-Open-clause-starts
 unfolding Starts-one
@@ -230,7 +229,7 @@ pub close_link-returns-clause-starts : goal.close_link-returns-clause-starts
 unfolding Starts-link
 close_link-returns-clause-starts g t c =
     let b = c.close_both-was.ensures in
-    let k = rw c.ask_closed-fx.ensures.book at c.calm_effects.ensures.lives.calm in
+    let k = rw c.ask_closed.ensures.book at c.calm_effects.ensures.lives.calm in
     let e = c.unplug.ensures.ends in
     Shuts-link (Starts-link c.requires.steady.whole.links c.requires.linked b.told b.run b.was b.half k e.0.ends) k.added e.1 refl
 
@@ -252,35 +251,30 @@ close_all-returns-clause-order g t c = λ q n d ps k.
 pub enter_down-returns-clause-starts : goal.enter_down-returns-clause-starts
 enter_down-returns-clause-starts g t c =
     let b = c.enter-was.ensures in
-    Starts-entry b.sets b.told b.step (λ st. (c.requires.slot, c.requires.open)) b.was (rw c.ask_down-asked.ensures.book at c.after_down.ensures.lives.calm) (c.leave.ensures.ends Down (λ e. cc)).ends
+    Starts-entry b.sets b.told b.step (λ st. (c.requires.slot, c.requires.open)) b.was (rw c.ask_down-done.ensures.book at c.after_down.ensures.lives.calm) (c.leave.ensures.ends Down (λ e. cc)).ends
 
-pub send_down-returns-in-Some-clause-lives : goal.send_down-returns-in-Some-clause-lives
-send_down-returns-in-Some-clause-lives g t c =
-    let e : said c.with_bytes-part.result ≡ said_of (nature g.N.Node.kind_of g.N.Load.Parts.first g.N.Load.Parts.second) (said c.args.msg.now) c.args.emit = c.with_bytes-part.ensures ∙ rw (c.in-Some.is, c.parts.ensures.first, c.parts.ensures.second) refl in
+pub send_down-returns-clause-lives : goal.send_down-returns-clause-lives
+send_down-returns-clause-lives g t c =
+    let e : said c.message_of-part.result ≡ said_of (nature g.N.Node.kind_of g.N.Load.Parts.first g.N.Load.Parts.second) (said c.args.msg.now) c.args.emit = c.message_of-part.ensures in
     CalmFor-regain (in_list c.args.emit.load) c.requires.runs (subst (λ m. CalmFor g.N.Node.stands (nature g.N.Node.kind_of g.N.Load.Parts.first g.N.Load.Parts.second) c.args.now c.args.self.now.book c.pass_down.new.self.book c.args.self.now.nodes.items c.pass_down.new.self.nodes.items (Same (busy c.args.self.now.book)) (Passing c.args.self.now.book (port_at c.args.id.0 c.args.emit.slot) m.bytes) (λ st. Sends (port_at c.args.id.0 c.args.emit.slot) m ∷ st) (g.O.Outside.events c.args.out.now) (g.O.Outside.events c.pass_down.new.out)) e c.pass_down.ensures.lives) c.take_emit.ensures.lives c.take_emit.ensures.book
-
-pub send_down-returns-in-None-clause-lives : goal.send_down-returns-in-None-clause-lives
-send_down-returns-in-None-clause-lives g t c =
-    let e : said c.with_bytes-part-in-None.result ≡ record { tag = c.args.emit.tag; rec = c.args.msg.now.rec; a = c.args.emit.a; b = c.args.emit.b; bytes = part (said c.args.msg.now).bytes c.args.emit.from c.args.emit.to } = c.with_bytes-part-in-None.ensures ∙ rw c.cut.ensures.bytes refl in
-    rw c.in-None.is (CalmFor-weaken (Back-none _ _ c.requires.runs) (λ p q x y w v i j. i) (subst (λ m. CalmFor g.N.Node.stands (nature g.N.Node.kind_of g.N.Load.Parts.first g.N.Load.Parts.second) c.args.now c.args.self.now.book c.pass_down-in-None.new.self.book c.args.self.now.nodes.items c.pass_down-in-None.new.self.nodes.items (Same (busy c.args.self.now.book)) (Passing c.args.self.now.book (port_at c.args.id.0 c.args.emit.slot) m.bytes) (λ st. Sends (port_at c.args.id.0 c.args.emit.slot) m ∷ st) (g.O.Outside.events c.args.out.now) (g.O.Outside.events c.pass_down-in-None.new.out)) e c.pass_down-in-None.ensures.lives))
 
 pub fail-returns-clause-lives : goal.fail-returns-clause-lives
 fail-returns-clause-lives g t c =
-    CalmFor-opened (λ st. append_assoc (returns_of c.args.id.0 (lent c.args.fx)) (all_closes c.args.id.0 no_memory) st) (CalmFor-first (λ l. Closing l c.args.id.0) (lent c.args.fx) c.requires.runs c.take_back.ensures.lives c.close_all.ensures.lives c.take_back.ensures.book (λ p q x y w v i. i) (λ ds k. Calms-fail c.close_all.ensures.shut k))
+    CalmFor-opened (λ st. append_assoc (returns_of c.args.id.0 (lent c.args.fx.now)) (all_closes c.args.id.0 no_memory) st) (CalmFor-first (λ l. Closing l c.args.id.0) (lent c.args.fx.now) c.requires.runs c.take_back.ensures.lives c.close_all.ensures.lives c.take_back.ensures.book (λ p q x y w v i. i) (λ ds k. Calms-fail c.close_all.ensures.shut k))
 
 pub pass_down-returns-in-Linked-clause-lives : goal.pass_down-returns-in-Linked-clause-lives
 pass_down-returns-in-Linked-clause-lives g t c =
     CalmFor-turned (λ st. Sends c.args.at (said c.args.msg.now) ∷ st) (arrives c.args.at c.in-Linked.peer) (Given-none _) (λ st ds s k. (_, passes c.args.at c.in-Linked.peer (said c.args.msg.now) (sym c.in-Linked.ensures), k)) (CalmFor-weaken (λ x w v i. i) (λ p q x y w v i j. Passing-giving c.args.self.now.book c.args.at c.in-Linked.peer _ c.requires.steady.whole.links c.requires.slot (sym c.in-Linked.ensures) p q y x.sent y.taken w v j i) c.enter_down.ensures.lives.0)
 
-pub after_down-returns-in-Done-clause-lives : goal.after_down-returns-in-Done-clause-lives
-after_down-returns-in-Done-clause-lives g t c =
+pub after_down-returns-then-done-clause-lives : goal.after_down-returns-then-done-clause-lives
+after_down-returns-then-done-clause-lives g t c =
     let bytes = (said c.args.msg.now).bytes in
-    let asks = rw c.in-Done.is at c.requires.asks in
-    rw c.in-Done.is (CalmFor-weaken (λ x w v i. i) (λ p q x y w v i j. following-done _ c.args.id.0 (asked_sent (nature g.N.Node.kind_of g.N.Load.Parts.first g.N.Load.Parts.second) bytes (Done c.in-Done.fx)) (λ n. few_bytes (nature g.N.Node.kind_of g.N.Load.Parts.first g.N.Load.Parts.second) n bytes c.in-Done.fx.downs) (λ n. below-bytes (nature g.N.Node.kind_of g.N.Load.Parts.first g.N.Load.Parts.second) bytes _ c.in-Done.fx asks n) p q y w v i) c.calm_effects.ensures.lives)
+    let asks = rw c.if-done.true at c.requires.asks in
+    rw c.if-done.true (CalmFor-weaken (λ x w v i. i) (λ p q x y w v i j. following-done _ c.args.id.0 (asked_sent (nature g.N.Node.kind_of g.N.Load.Parts.first g.N.Load.Parts.second) bytes true c.args.fx.now) (λ n. few_bytes (nature g.N.Node.kind_of g.N.Load.Parts.first g.N.Load.Parts.second) n bytes c.args.fx.now.downs) (λ n. below-bytes (nature g.N.Node.kind_of g.N.Load.Parts.first g.N.Load.Parts.second) bytes _ c.args.fx.now asks n) p q y w v i) c.calm_effects.ensures.lives)
 
-pub after_down-returns-in-NoMemory-clause-lives : goal.after_down-returns-in-NoMemory-clause-lives
-after_down-returns-in-NoMemory-clause-lives g t c =
-    rw c.in-NoMemory.is (CalmFor-weaken (λ x w v i. i) (λ p q x y w v i j. following-fail _ c.args.id.0 _ p q y w v i) c.fail.ensures.lives)
+pub after_down-returns-else-done-clause-lives : goal.after_down-returns-else-done-clause-lives
+after_down-returns-else-done-clause-lives g t c =
+    rw c.if-done.false (CalmFor-weaken (λ x w v i. i) (λ p q x y w v i j. following-fail _ c.args.id.0 _ p q y w v i) c.fail.ensures.lives)
 
 pub run_down-returns-in-Some-clause-lives : goal.run_down-returns-in-Some-clause-lives
 run_down-returns-in-Some-clause-lives g t c = rw c.in-Some.is c.send_down.ensures.lives

@@ -1,5 +1,4 @@
 use Rattle.nb_ledger.proofs.RunLemmas.{Given-none}
-use Rattle.nb_graph.specs.declared.asking.Asked.TheVariants.{Done}
 use Rattle.std.proofs.Common.{◌≡◌, ℕ, List, ◌<◌, ◌≤◌, sym, ◌∙◌, arith, ap, subst, rules, refl, true, None, [], ◌∷◌, append_assoc, ◌++◌}
 use Rattle.std.specs.Vec.{vec_capacity}
 use Rattle.nb_ledger.specs.declared.event.Way.TheVariants.{Up}
@@ -15,16 +14,15 @@ use Rattle.nb_graph.proofs.MannedLemmas.{IsManned-same}
 use Rattle.nb_graph.proofs.UnplugLemmas.{Calm-dropped, Calm-sent}
 use Rattle.nb_graph.proofs.LivelyLemmas.{Grows-shrinks, Grows-trans, LivelyIn-trans, LivelyIn-calm, LivelyIn-lively, Lively-calm, Lively-entry, Starts-lively}
 use Rattle.nb_ledger.specs.declared.event.GraphEvent.TheVariants.{Dropped, Entered}
-use Rattle.nb_graph.specs.Trace.{carried, in_list, left, part, lent, loads, said, up, nature}
+use Rattle.nb_graph.specs.Trace.{carried, in_list, left, lent, loads, said, up, nature}
 use Rattle.nb_graph.specs.Deeds.{Gives, Holds, Sends, arrives, closes_of, emit_of, few_of, goes_out, makes_of, said_of}
-use Rattle.nb_graph.specs.Effects.{asked_loads}
 use Rattle.nb_graph.specs.Lives.{IsUnder, LivelyFor, Same, here}
 use Rattle.nb_graph.proofs.WholeLemmas.{but_other}
 use Rattle.nb_graph.proofs.LivesLemmas.{Lives-above, Lives-turn, Lives-then, Lives-weaken}
 use Rattle.nb_graph.specs.Whole.{port_at}
 use Rattle.nb_graph.specs.Moves.{none_due}
 use Rattle.nb_graph.specs.Accounts.{few_bytes, fx_bytes}
-use Rattle.nb_graph.specs.Flows.{Delivering, Doing, Leaves, Rising, asked_behind, asked_sent, asked_taken, nothing}
+use Rattle.nb_graph.specs.Flows.{Delivering, DoesEffects, Leaves, Rising, asked_behind, asked_sent, asked_taken, by_no_slot}
 use Rattle.nb_graph.proofs.AccountLemmas.{Calms-idle, Calms-turn, Calms-plain, Calms-weaken, Mild-same}
 use Rattle.nb_graph.proofs.LivensLemmas.{Livens-calm}
 use Rattle.nb_graph.proofs.MildLemmas.{Lives-plain, Mild-busy}
@@ -44,14 +42,14 @@ pub effects-returns-clause-lives : goal.effects-returns-clause-lives
 effects-returns-clause-lives g t c =
     let bytes = (said c.args.msg.now).bytes in
     let x = c.args.id.0 in
-    let sent : ℕ → List ℕ = λ n. fx_bytes (nature g.N.Node.kind_of g.N.Load.Parts.first g.N.Load.Parts.second) n bytes c.args.fx in
+    let sent : ℕ → List ℕ = λ n. fx_bytes (nature g.N.Node.kind_of g.N.Load.Parts.first g.N.Load.Parts.second) n bytes c.args.fx.now in
     let made = c.run_make.ensures.lives in
     let downs = c.run_downs.ensures.lives in
     let ups = c.run_ups.ensures.lives in
     let asks = c.requires.asks in
-    LivelyInFor-opened (λ st. runs-then (nature g.N.Node.kind_of g.N.Load.Parts.first g.N.Load.Parts.second) x (said c.args.msg.now) c.args.fx st ∙ ap (λ z. makes_of (nature g.N.Node.kind_of g.N.Load.Parts.first g.N.Load.Parts.second) x c.args.fx.makes ++ (few_of (nature g.N.Node.kind_of g.N.Load.Parts.first g.N.Load.Parts.second) x (said c.args.msg.now) c.args.fx.downs ++ (few_of (nature g.N.Node.kind_of g.N.Load.Parts.first g.N.Load.Parts.second) x (said c.args.msg.now) c.args.fx.ups ++ (closes_of x z ++ st)))) (sym c.as_slice.ensures.value)) (LivelyInFor-effects (Leaves c.run_downs.new.self.book (port_at x 0) (few_bytes (nature g.N.Node.kind_of g.N.Load.Parts.first g.N.Load.Parts.second) 0 bytes c.args.fx.ups)) (Doing c.run_make.new.self.book x sent) (loads c.args.fx.downs) (loads c.args.fx.ups) c.requires.runs made downs ups c.run_closes.ensures.lives
+    LivelyInFor-opened (λ st. runs-then (nature g.N.Node.kind_of g.N.Load.Parts.first g.N.Load.Parts.second) x (said c.args.msg.now) c.args.fx.now st ∙ ap (λ z. makes_of x c.args.fx.now.makes ++ (few_of (nature g.N.Node.kind_of g.N.Load.Parts.first g.N.Load.Parts.second) x (said c.args.msg.now) c.args.fx.now.downs ++ (few_of (nature g.N.Node.kind_of g.N.Load.Parts.first g.N.Load.Parts.second) x (said c.args.msg.now) c.args.fx.now.ups ++ (closes_of x z ++ st)))) (sym c.as_slice.ensures.value)) (LivelyInFor-effects (Leaves c.run_downs.new.self.book (port_at x 0) (few_bytes (nature g.N.Node.kind_of g.N.Load.Parts.first g.N.Load.Parts.second) 0 bytes c.args.fx.now.ups)) (DoesEffects c.run_make.new.self.book x sent) (loads c.args.fx.now.downs) (loads c.args.fx.now.ups) c.requires.runs made downs ups c.run_closes.ensures.lives
     (λ ds es a z. Livens-ups x _ ups.lively.grows.same_busy a z)
-    (λ ds es a z. Livens-downs x sent (λ n. few_bytes (nature g.N.Node.kind_of g.N.Load.Parts.first g.N.Load.Parts.second) n bytes c.args.fx.downs) (few_bytes (nature g.N.Node.kind_of g.N.Load.Parts.first g.N.Load.Parts.second) 0 bytes c.args.fx.ups) (made.lively.grows.same_busy x ∙ c.requires.runs) (λ n o. downs-bytes (nature g.N.Node.kind_of g.N.Load.Parts.first g.N.Load.Parts.second) bytes _ c.args.fx asks.ups n o) (ups-bytes (nature g.N.Node.kind_of g.N.Load.Parts.first g.N.Load.Parts.second) bytes _ c.args.fx asks.downs) downs.calm.shrinks.same_busy a z)
+    (λ ds es a z. Livens-downs x sent (λ n. few_bytes (nature g.N.Node.kind_of g.N.Load.Parts.first g.N.Load.Parts.second) n bytes c.args.fx.now.downs) (few_bytes (nature g.N.Node.kind_of g.N.Load.Parts.first g.N.Load.Parts.second) 0 bytes c.args.fx.now.ups) (made.lively.grows.same_busy x ∙ c.requires.runs) (λ n o. downs-bytes (nature g.N.Node.kind_of g.N.Load.Parts.first g.N.Load.Parts.second) bytes _ c.args.fx.now asks.ups n o) (ups-bytes (nature g.N.Node.kind_of g.N.Load.Parts.first g.N.Load.Parts.second) bytes _ c.args.fx.now asks.downs) downs.calm.shrinks.same_busy a z)
     (λ ds es a z. Livens-effects x sent made.lively.grows.same_busy a z))
 
 pub enter_up-enter-was-requires : goal.enter_up-enter-was-requires
@@ -69,7 +67,7 @@ enter_up-returns-clause-lives g t c =
     let e = c.leave.ensures.ends Up (λ e. cc) in
     let y = c.args.at.obj.0 in
     let old = c.args.self.now.book in
-    let r = Lives-entry_up (busy old) _ y (λ st. Gives c.args.at (said c.args.msg.now) ∷ st) (Entered c.args.at Up) (λ done fx. up c.args.at.slot (said c.args.msg.now) c.args.now done fx) (λ x n. b.sets.busy_set x ∙ but_other y true (busy old) x n) (under-idle old y c.requires.under) (Loses-same c.args.self.now.nodes.items b.sets.objects) (scene-busy b.sets) b.given (λ x t. refl) (λ st ds s k. (_, enters_up c.args.at (said c.args.msg.now) c.requires.slot.0 c.requires.open, k)) (d.0.lives, d.1) (e.lives c.args.now) (λ ds es z k. Livens-entry {inner = Delivering c.enter-was.new.self c.args.at (said c.args.msg.now).bytes nothing} {outer = Rising old c.args.at (said c.args.msg.now).bytes} y (Entered c.args.at Up) (under-idle old y c.requires.under) (λ x n. b.sets.busy_set x ∙ but_other y true (busy old) x n) (Mild-busy b.sets) (up-notes c.args.at) (λ p q a w v i. rises-delivering old c.enter-was.new.self c.args.at (said c.args.msg.now).bytes (under-idle old y c.requires.under) (λ x n. b.sets.busy_set x ∙ but_other y true (busy old) x n) p q a w v i) z k) in (
+    let r = Lives-entry_up (busy old) _ y (λ st. Gives c.args.at (said c.args.msg.now) ∷ st) (Entered c.args.at Up) (λ done fx. up c.args.at.slot (said c.args.msg.now) c.args.now done fx) (λ x n. b.sets.busy_set x ∙ but_other y true (busy old) x n) (under-idle old y c.requires.under) (Loses-same c.args.self.now.nodes.items b.sets.objects) (scene-busy b.sets) b.given (λ st ds s k. (_, enters_up c.args.at (said c.args.msg.now) c.requires.slot.0 c.requires.open, k)) (d.0.lives, d.1) (e.lives c.args.now) (λ ds es z k. Livens-entry {inner = Delivering c.enter-was.new.self c.args.at (said c.args.msg.now).bytes by_no_slot} {outer = Rising old c.args.at (said c.args.msg.now).bytes} y (Entered c.args.at Up) (under-idle old y c.requires.under) (λ x n. b.sets.busy_set x ∙ but_other y true (busy old) x n) (Mild-busy b.sets) (up-notes c.args.at) (λ p q a w v i. rises-delivering old c.enter-was.new.self c.args.at (said c.args.msg.now).bytes (under-idle old y c.requires.under) (λ x n. b.sets.busy_set x ∙ but_other y true (busy old) x n) p q a w v i) z k) in (
       record {
         lively = Lively-entry b.sets b.told b.step (λ st. (c.requires.slot.0, c.requires.slot.1, c.requires.open)) b.was d.0.lively e.ends;
         lives = r.0;
@@ -132,7 +130,7 @@ unfolding Calm-dropped
 pass_up-returns-in-Leaving-clause-lives g t c =
     LivelyFor-calm (record {
       calm = Calm-dropped _ _ _ c.args.at (Leaving c.in-Leaving.field-0) (sym c.in-Leaving.ensures) tt (rw c.spelled.ensures at c.event.ensures.told);
-      lives = Lives-weaken (λ x w v k. k.1) (λ ds k. Calms-idle k (λ p q x y w v i j. Leaves-shut c.args.self.now.book c.args.at _ (ap open_count (sym c.in-Leaving.ensures)) p q y w v i)) (Lives-plain g.N.Node.stands c.args.now _ _ (λ st. Sends c.args.at (said c.args.msg.now) ∷ st) here (Dropped c.args.at) (Loses-refl _) refl (rw c.spelled.ensures at c.event.ensures.given) (λ x t. refl) (λ st ds s k. ([], drops c.args.at (said c.args.msg.now) (ap open_count (sym c.in-Leaving.ensures)), k)) (Calms-plain _ _ _ (Dropped c.args.at) (Mild-same refl (λ x k. refl)) (λ p a. refl)));
+      lives = Lives-weaken (λ x w v k. k.1) (λ ds k. Calms-idle k (λ p q x y w v i j. Leaves-shut c.args.self.now.book c.args.at _ (ap open_count (sym c.in-Leaving.ensures)) p q y w v i)) (Lives-plain g.N.Node.stands c.args.now _ _ (λ st. Sends c.args.at (said c.args.msg.now) ∷ st) here (Dropped c.args.at) (Loses-refl _) refl (rw c.spelled.ensures at c.event.ensures.given) (λ st ds s k. ([], drops c.args.at (said c.args.msg.now) (ap open_count (sym c.in-Leaving.ensures)), k)) (Calms-plain _ _ _ (Dropped c.args.at) (Mild-same refl (λ x k. refl)) (λ p a. refl)));
     })
 
 pub pass_up-returns-in-Closed-clause-lives : goal.pass_up-returns-in-Closed-clause-lives
@@ -140,13 +138,14 @@ unfolding Calm-dropped
 pass_up-returns-in-Closed-clause-lives g t c =
     LivelyFor-calm (record {
       calm = Calm-dropped _ _ _ c.args.at Closed (sym c.in-Closed.ensures) tt (rw c.spelled-in-Closed.ensures at c.event-in-Closed.ensures.told);
-      lives = Lives-weaken (λ x w v k. k.1) (λ ds k. Calms-idle k (λ p q x y w v i j. Leaves-shut c.args.self.now.book c.args.at _ (ap open_count (sym c.in-Closed.ensures)) p q y w v i)) (Lives-plain g.N.Node.stands c.args.now _ _ (λ st. Sends c.args.at (said c.args.msg.now) ∷ st) here (Dropped c.args.at) (Loses-refl _) refl (rw c.spelled-in-Closed.ensures at c.event-in-Closed.ensures.given) (λ x t. refl) (λ st ds s k. ([], drops c.args.at (said c.args.msg.now) (ap open_count (sym c.in-Closed.ensures)), k)) (Calms-plain _ _ _ (Dropped c.args.at) (Mild-same refl (λ x k. refl)) (λ p a. refl)));
+      lives = Lives-weaken (λ x w v k. k.1) (λ ds k. Calms-idle k (λ p q x y w v i j. Leaves-shut c.args.self.now.book c.args.at _ (ap open_count (sym c.in-Closed.ensures)) p q y w v i)) (Lives-plain g.N.Node.stands c.args.now _ _ (λ st. Sends c.args.at (said c.args.msg.now) ∷ st) here (Dropped c.args.at) (Loses-refl _) refl (rw c.spelled-in-Closed.ensures at c.event-in-Closed.ensures.given) (λ st ds s k. ([], drops c.args.at (said c.args.msg.now) (ap open_count (sym c.in-Closed.ensures)), k)) (Calms-plain _ _ _ (Dropped c.args.at) (Mild-same refl (λ x k. refl)) (λ p a. refl)));
     })
 
 pub run_ups-returns-clause-lives : goal.run_ups-returns-clause-lives
 run_ups-returns-clause-lives g t c =
-    let k = c.run_up.ensures.lives in
-    LivelyFor-opened (λ st. append_assoc (emit_of (nature g.N.Node.kind_of g.N.Load.Parts.first g.N.Load.Parts.second) c.args.id.0 (said c.args.msg.now) c.args.ups.first) (emit_of (nature g.N.Node.kind_of g.N.Load.Parts.first g.N.Load.Parts.second) c.args.id.0 (said c.args.msg.now) c.args.ups.second) st) (LivelyFor-back (carried c.args.ups.first) (carried c.args.ups.second) k c.run_up-2.ensures.lives (λ ds es a z. Livens-few c.args.id.0 _ _ c.requires.runs k.lively.grows.same_busy a z))
+    let k = rw c.take.ensures.value at c.run_up.ensures.lives in
+    let l = rw c.take-2.ensures.value at c.run_up-2.ensures.lives in
+    LivelyFor-opened (λ st. append_assoc (emit_of (nature g.N.Node.kind_of g.N.Load.Parts.first g.N.Load.Parts.second) c.args.id.0 (said c.args.msg.now) c.args.ups.now.first) (emit_of (nature g.N.Node.kind_of g.N.Load.Parts.first g.N.Load.Parts.second) c.args.id.0 (said c.args.msg.now) c.args.ups.now.second) st) (LivelyFor-back (carried c.args.ups.now.first) (carried c.args.ups.now.second) k l (λ ds es a z. Livens-few c.args.id.0 _ _ c.requires.runs k.lively.grows.same_busy a z))
 
 pub send_up-take_emit-requires-clause-lives : goal.send_up-take_emit-requires-clause-lives
 send_up-take_emit-requires-clause-lives g t c = busy-live _ _ (c.pass_up.ensures.lives.lively.grows.same_busy c.args.id.0 ∙ c.requires.runs)
@@ -154,15 +153,10 @@ send_up-take_emit-requires-clause-lives g t c = busy-live _ _ (c.pass_up.ensures
 pub run_up-returns-in-None-clause-lives : goal.run_up-returns-in-None-clause-lives
 run_up-returns-in-None-clause-lives g t c = rw c.in-None.is (LivelyFor-weaken (Back-none _ _ c.requires.runs) (λ p q x y w v i j. i) (LivelyFor-refl _ _ _ _ _ _ (λ p q x y w v i j. leaves-nothing _ _ p q y w v i)))
 
-pub send_up-returns-in-Some-clause-lives : goal.send_up-returns-in-Some-clause-lives
-send_up-returns-in-Some-clause-lives g t c =
-    let e : said c.with_bytes-part.result ≡ said_of (nature g.N.Node.kind_of g.N.Load.Parts.first g.N.Load.Parts.second) (said c.args.msg.now) c.args.emit = c.with_bytes-part.ensures ∙ rw (c.in-Some.is, c.parts.ensures.first, c.parts.ensures.second) refl in
+pub send_up-returns-clause-lives : goal.send_up-returns-clause-lives
+send_up-returns-clause-lives g t c =
+    let e : said c.message_of-part.result ≡ said_of (nature g.N.Node.kind_of g.N.Load.Parts.first g.N.Load.Parts.second) (said c.args.msg.now) c.args.emit = c.message_of-part.ensures in
     LivelyFor-regain (in_list c.args.emit.load) c.requires.runs (LivelyFor-weaken (λ x w v i. i) (λ p q x y w v i j. leaves-at c.args.self.now.book c.args.id c.args.emit.slot _ c.requires.up.0 p q y w v i) (subst (λ m. LivelyFor g.N.Node.stands (nature g.N.Node.kind_of g.N.Load.Parts.first g.N.Load.Parts.second) c.args.now c.args.self.now.book c.pass_up.new.self.book c.args.self.now.nodes.items c.pass_up.new.self.nodes.items (Same (busy c.args.self.now.book)) none_due (Leaves c.args.self.now.book (port_at c.args.id.0 c.args.emit.slot) m.bytes) (λ st. Sends (port_at c.args.id.0 c.args.emit.slot) m ∷ st) (g.O.Outside.events c.args.out.now) (g.O.Outside.events c.pass_up.new.out)) e c.pass_up.ensures.lives)) c.take_emit.ensures.lives c.take_emit.ensures.book
-
-pub send_up-returns-in-None-clause-lives : goal.send_up-returns-in-None-clause-lives
-send_up-returns-in-None-clause-lives g t c =
-    let e : said c.with_bytes-part-in-None.result ≡ record { tag = c.args.emit.tag; rec = c.args.msg.now.rec; a = c.args.emit.a; b = c.args.emit.b; bytes = part (said c.args.msg.now).bytes c.args.emit.from c.args.emit.to } = c.with_bytes-part-in-None.ensures ∙ rw c.cut.ensures.bytes refl in
-    rw c.in-None.is (LivelyFor-weaken (Back-none _ _ c.requires.runs) (λ p q x y w v i j. leaves-at c.args.self.now.book c.args.id c.args.emit.slot _ c.requires.up.0 p q y w v i) (subst (λ m. LivelyFor g.N.Node.stands (nature g.N.Node.kind_of g.N.Load.Parts.first g.N.Load.Parts.second) c.args.now c.args.self.now.book c.pass_up-in-None.new.self.book c.args.self.now.nodes.items c.pass_up-in-None.new.self.nodes.items (Same (busy c.args.self.now.book)) none_due (Leaves c.args.self.now.book (port_at c.args.id.0 c.args.emit.slot) m.bytes) (λ st. Sends (port_at c.args.id.0 c.args.emit.slot) m ∷ st) (g.O.Outside.events c.args.out.now) (g.O.Outside.events c.pass_up-in-None.new.out)) e c.pass_up-in-None.ensures.lives))
 
 pub run_ups-run_up-requires-2 : goal.run_ups-run_up-requires-2
 run_ups-run_up-requires-2 g t c =
@@ -182,36 +176,36 @@ run_up-returns-in-Some-clause-lives g t c =
     let up = rw c.in-Some.is at c.requires.up in
     rw (c.in-Some.is, emit-there (nature g.N.Node.kind_of g.N.Load.Parts.first g.N.Load.Parts.second) (said c.args.msg.now).bytes 0 c.in-Some.emit (sym up.0)) c.send_up.ensures.lives
 
-pub give-ask_up-asked-requires-clause-lives : goal.give-ask_up-asked-requires-clause-lives
-give-ask_up-asked-requires-clause-lives g t c = busy-live _ _ c.requires.runs
+pub give-ask_up-done-requires-clause-lives : goal.give-ask_up-done-requires-clause-lives
+give-ask_up-done-requires-clause-lives g t c = busy-live _ _ c.requires.runs
 
-pub after_up-returns-in-NoMemory-clause-grows : goal.after_up-returns-in-NoMemory-clause-grows
-after_up-returns-in-NoMemory-clause-grows g t c = Grows-shrinks c.fail.ensures.lives.calm.shrinks
+pub after_up-returns-else-done-clause-grows : goal.after_up-returns-else-done-clause-grows
+after_up-returns-else-done-clause-grows g t c = Grows-shrinks c.fail.ensures.lives.calm.shrinks
 
-pub after_up-returns-in-NoMemory-clause-goes : goal.after_up-returns-in-NoMemory-clause-goes
+pub after_up-returns-else-done-clause-goes : goal.after_up-returns-else-done-clause-goes
 unfolding LivelyIn-calm LivelyIn-lively Lively-calm
-after_up-returns-in-NoMemory-clause-goes g t c =
+after_up-returns-else-done-clause-goes g t c =
     let k = c.fail.ensures.lives in
-    rw c.in-NoMemory.is (record {
+    rw c.if-done.false (record {
       lively = LivelyIn-calm k.calm;
-      lives = Lives-weaken (AllBack-back _ c.args.at.obj.0 (lent c.in-NoMemory.fx)) (λ ds k. Livens-calm (Calms-weaken k (λ p q x y w v i j. rise-fail c.args.self.now.book c.args.at (said c.args.msg.now).bytes p q y w v i))) (Lives-above (λ st. Holds c.args.at Up None ∷ st) k.lives);
+      lives = Lives-weaken (AllBack-back _ c.args.at.obj.0 (lent c.args.fx.now)) (λ ds k. Livens-calm (Calms-weaken k (λ p q x y w v i j. rise-fail c.args.self.now.book c.args.at (said c.args.msg.now).bytes p q y w v i))) (Lives-above (λ st. Holds c.args.at Up None ∷ st) k.lives);
     })
 
-pub after_up-returns-in-Done-clause-goes : goal.after_up-returns-in-Done-clause-goes
+pub after_up-returns-then-done-clause-goes : goal.after_up-returns-then-done-clause-goes
 unfolding LivelyIn-trans
-after_up-returns-in-Done-clause-goes g t c =
+after_up-returns-then-done-clause-goes g t c =
     let e = c.effects.ensures.lives in
-    rw c.in-Done.is (GoesOn-left g.N.Node.stands (nature g.N.Node.kind_of g.N.Load.Parts.first g.N.Load.Parts.second) c.args.now c.args.at (said c.args.msg.now) c.args.self.now.book c.effects.new.self.book c.left_of.new.self.book c.args.self.now.nodes.items c.effects.new.self.nodes.items c.left_of.new.self.nodes.items _ _ _ c.in-Done.fx.took (Done c.in-Done.fx) (λ d nd after k. record {
+    rw c.if-done.true (GoesOn-left g.N.Node.stands (nature g.N.Node.kind_of g.N.Load.Parts.first g.N.Load.Parts.second) c.args.now c.args.at (said c.args.msg.now) c.args.self.now.book c.effects.new.self.book c.left_of.new.self.book c.args.self.now.nodes.items c.effects.new.self.nodes.items c.left_of.new.self.nodes.items _ _ _ c.args.fx.now.took true c.args.fx.now (λ d nd after k. record {
       lively = LivelyIn-trans e.lively k.lively;
-      lives = Lives-then (Lives-above (λ st. Holds c.args.at Up (left c.in-Done.fx.took (said c.args.msg.now)) ∷ st) e.lives) k.lives (AllBack-then _ _ c.args.at.obj.0 (lent c.in-Done.fx) e.lively.grows.same_busy) (λ ds es x z. Livens-rest c.args.at _ _ c.requires.slot c.requires.runs e.lively.grows.same_busy x z);
+      lives = Lives-then (Lives-above (λ st. Holds c.args.at Up (left c.args.fx.now.took (said c.args.msg.now)) ∷ st) e.lives) k.lives (AllBack-then _ _ c.args.at.obj.0 (lent c.args.fx.now) e.lively.grows.same_busy) (λ ds es x z. Livens-rest c.args.at _ _ c.requires.slot c.requires.runs e.lively.grows.same_busy x z);
     }) c.left_of.result (c.left_of.ensures.goes c.args.now))
 
 pub give-returns-clause-gives : goal.give-returns-clause-gives
 give-returns-clause-gives g t c =
     let bytes = (said c.args.msg.now).bytes in
-    Gives-goes g.N.Node.stands (nature g.N.Node.kind_of g.N.Load.Parts.first g.N.Load.Parts.second) c.args.now c.args.at (said c.args.msg.now) c.args.self.now.book c.args.self.now.book c.after_up.new.self.book c.args.self.now.nodes.items c.ask_up-asked.new.self.nodes.items c.after_up.new.self.nodes.items _ _ _ c.ask_up-asked.result (λ d nd after k.
-    let r = Calls-then (busy c.args.self.now.book) (busy c.args.self.now.book) c.args.at.obj.0 (asked_loads c.ask_up-asked.result) (λ done fx. up c.args.at.slot (said c.args.msg.now) c.args.now done fx) (λ x. refl) (rw c.ask_up-asked.ensures.book at c.ask_up-asked.ensures.lives (g.O.Outside.events c.args.out.now)) k.lives (λ ds es a z. Livens-ask c.args.at (asked_sent (nature g.N.Node.kind_of g.N.Load.Parts.first g.N.Load.Parts.second) bytes c.ask_up-asked.result) (asked_taken c.args.at.slot bytes c.ask_up-asked.result) (asked_taken c.args.at.slot bytes c.ask_up-asked.result c.args.at.slot) (asked_behind bytes c.ask_up-asked.result) bytes c.requires.slot c.requires.open c.requires.steady.whole.links refl (taken-only c.args.at.slot bytes c.ask_up-asked.result) (taken-all c.args.at.slot bytes c.ask_up-asked.result) a.0 a.1 z) in
-    (record { lively = k.lively; lives = r.0 }, r.1)) c.after_up.result (rw c.ask_up-asked.ensures.book at c.after_up.ensures.goes)
+    Gives-goes g.N.Node.stands (nature g.N.Node.kind_of g.N.Load.Parts.first g.N.Load.Parts.second) c.args.now c.args.at (said c.args.msg.now) c.args.self.now.book c.args.self.now.book c.after_up.new.self.book c.args.self.now.nodes.items c.ask_up-done.new.self.nodes.items c.after_up.new.self.nodes.items _ _ _ c.ask_up-done.result c.ask_up-done.new.fx (λ d nd after k.
+    let r = Calls-then (busy c.args.self.now.book) (busy c.args.self.now.book) c.args.at.obj.0 (lent c.ask_up-done.new.fx) (λ done fx. up c.args.at.slot (said c.args.msg.now) c.args.now done fx) (λ x. refl) (rw c.ask_up-done.ensures.book at c.ask_up-done.ensures.lives (g.O.Outside.events c.args.out.now)) k.lives (λ ds es a z. Livens-ask c.args.at (asked_sent (nature g.N.Node.kind_of g.N.Load.Parts.first g.N.Load.Parts.second) bytes c.ask_up-done.result c.ask_up-done.new.fx) (asked_taken c.args.at.slot bytes c.ask_up-done.result c.ask_up-done.new.fx) (asked_taken c.args.at.slot bytes c.ask_up-done.result c.ask_up-done.new.fx c.args.at.slot) (asked_behind bytes c.ask_up-done.result c.ask_up-done.new.fx) bytes c.requires.slot c.requires.open c.requires.steady.whole.links refl (taken-only c.args.at.slot bytes c.ask_up-done.result c.ask_up-done.new.fx) (taken-all c.args.at.slot bytes c.ask_up-done.result c.ask_up-done.new.fx) a.0 a.1 z) in
+    (record { lively = k.lively; lives = r.0 }, r.1)) c.after_up.result (rw c.ask_up-done.ensures.book at c.after_up.ensures.goes)
 
 pub deliver-loop-rest-preserved : goal.deliver-loop-rest-preserved
 deliver-loop-rest-preserved g t c =

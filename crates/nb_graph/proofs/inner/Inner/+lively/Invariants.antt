@@ -3,7 +3,7 @@ use Rattle.std.specs.Option.{option_map_or}
 use Rattle.std.specs.Vec.{vec_capacity}
 use Rattle.nb_ledger.specs.GraphRun.{IsOpen}
 use Rattle.nb_ledger.specs.Ledger.{port}
-use Rattle.nb_graph.specs.Lively.{Grows}
+use Rattle.nb_graph.specs.Lively.{GrowsLively}
 use Rattle.nb_graph.specs.Calm.{IsSteady}
 use Rattle.nb_graph.specs.Again.{Gives}
 use Rattle.nb_graph.specs.Trace.{nature, said}
@@ -46,6 +46,6 @@ invariant-deliver-loop-rest g l = record {
   gives : Gives g.N.Node.stands (nature g.N.Node.kind_of g.N.Load.Parts.first g.N.Load.Parts.second) l.now l.at (said l.msg) l.initial.self.book l.self.book l.initial.self.nodes.items l.self.nodes.items (g.O.Outside.events l.initial.out) (g.O.Outside.events l.out) l.rest;
   less : IfSome l.rest (λ r. length r.first.now + length r.second.now ≤ length l.msg.first.now + length l.msg.second.now);
   opened : IfSome l.rest (λ r. IsOpen (port l.self.book l.at.obj.0 l.at.slot));
-  grows : Grows l.initial.self.book l.self.book;
+  grows : GrowsLively l.initial.self.book l.self.book;
   steady : IsSteady g.N.Node.rank_of l.self.book l.self.nodes.items (vec_capacity l.self.nodes);
 }

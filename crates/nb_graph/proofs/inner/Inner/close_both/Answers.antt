@@ -53,9 +53,9 @@ returns-clause-lives g c = λ now.
     let nodes = c.args.self.now.nodes.items in
     let cause = c.args.cause.now in
     let p = c.args.peer in
-    Lives-say (Lives-both (Lives-note g.N.Node.stands now _ _ (λ st. Closes c.args.at cause ∷ st) (λ st. MustShut p cause ∷ Unlinks c.args.at p ∷ st) (Closed c.args.at cause) (Loses-same nodes c.close_first.ensures.sets.objects) (scene-port c.close_first.ensures.sets ∙ ap (λ v. with_ports (port_but c.args.at (shut_of v) (port c.args.self.now.book)) (scene_of c.args.self.now.book)) (sym c.requires.linked)) c.close_first.ensures.given (λ x t. refl) (λ st ds s k. (_, closes_link c.args.at p cause c.requires.linked, k)) {i = λ _. Unit {0}} tt)
-    (Lives-both (Lives-note g.N.Node.stands now _ _ (λ st. MustShut p cause ∷ Unlinks c.args.at p ∷ st) (λ st. Shut p cause ∷ Unlinks c.args.at p ∷ st) (Closed p cause) (Loses-same nodes c.close_peer.ensures.sets.objects) (scene-port c.close_peer.ensures.sets ∙ ap (λ v. with_ports (port_but p (shut_of v) (port c.close_first.new.self)) (scene_of c.close_first.new.self)) (sym (other-end c.requires.steady.whole.links c.requires.linked c.close_first.ensures.sets))) c.close_peer.ensures.given (λ x t. refl) (λ st ds s k. (_, peer_closes p cause, k)) {i = λ _. Unit {0}} tt)
-    (Lives-note g.N.Node.stands now _ _ (λ st. Shut p cause ∷ Unlinks c.args.at p ∷ st) (λ st. MustHear p cause ∷ Unlinks c.args.at p ∷ st) (Entered p Close) (Loses-same nodes c.enter_closed.ensures.sets.objects) (scene-busy c.enter_closed.ensures.sets) c.enter_closed.ensures.given (λ x t. refl) (λ st ds s k. (_, peer_enters p cause, k)) {i = λ _. Unit {0}} tt)
+    Lives-say (Lives-both (Lives-note g.N.Node.stands now _ _ (λ st. Closes c.args.at cause ∷ st) (λ st. MustShut p cause ∷ Unlinks c.args.at p ∷ st) (Closed c.args.at cause) (Loses-same nodes c.close_first.ensures.sets.objects) (scene-port c.close_first.ensures.sets ∙ ap (λ v. with_ports (port_but c.args.at (shut_of v) (port c.args.self.now.book)) (scene_of c.args.self.now.book)) (sym c.requires.linked)) c.close_first.ensures.given (λ st ds s k. (_, closes_link c.args.at p cause c.requires.linked, k)) {i = λ _. Unit {0}} tt)
+    (Lives-both (Lives-note g.N.Node.stands now _ _ (λ st. MustShut p cause ∷ Unlinks c.args.at p ∷ st) (λ st. Shut p cause ∷ Unlinks c.args.at p ∷ st) (Closed p cause) (Loses-same nodes c.close_peer.ensures.sets.objects) (scene-port c.close_peer.ensures.sets ∙ ap (λ v. with_ports (port_but p (shut_of v) (port c.close_first.new.self)) (scene_of c.close_first.new.self)) (sym (other-end c.requires.steady.whole.links c.requires.linked c.close_first.ensures.sets))) c.close_peer.ensures.given (λ st ds s k. (_, peer_closes p cause, k)) {i = λ _. Unit {0}} tt)
+    (Lives-note g.N.Node.stands now _ _ (λ st. Shut p cause ∷ Unlinks c.args.at p ∷ st) (λ st. MustHear p cause ∷ Unlinks c.args.at p ∷ st) (Entered p Close) (Loses-same nodes c.enter_closed.ensures.sets.objects) (scene-busy c.enter_closed.ensures.sets) c.enter_closed.ensures.given (λ st ds s k. (_, peer_enters p cause, k)) {i = λ _. Unit {0}} tt)
     (λ x w v k. (w, refl, k)))
     (λ x w v k. (w, refl, k)))
     (Calms-half _ _ _ c.args.at p cause c.requires.steady.whole.links c.requires.linked (returns-clause-half g c))

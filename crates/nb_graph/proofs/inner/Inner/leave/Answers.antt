@@ -5,7 +5,7 @@ use Rattle.nb_graph.proofs.LivesLemmas.{settles-own}
 use Rattle.std.proofs.Common.{sym, subst, ◌++◌}
 use Rattle.nb_graph.specs.Trace.{nature}
 use Rattle.nb_graph.specs.Scene.{scene_of}
-use Rattle.nb_graph.specs.Follows.{Follows, ends}
+use Rattle.nb_graph.specs.Follows.{UsesStack, ends}
 use Rattle.nb_graph.proofs.SceneLemmas.{scene-busy}
 use Rattle.nb_graph.proofs.AccountLemmas.{Calms-plain}
 use Rattle.nb_graph.proofs.MildLemmas.{Lives-next, Lives-plain, Mild-busy}
@@ -19,7 +19,7 @@ unfolding Ends-leave
 returns-clause-ends g c = λ by own. record {
   ends = Ends-leave by c.leave.ensures.sets c.leave.ensures.told c.leave.ensures.step c.settle.ensures.settles.settles;
   lives = λ now.
-      Lives-next (Lives-plain g.N.Node.stands now _ _ (λ st. Holds c.args.at by None ∷ st) (λ st. Frees c.args.at.obj.0 ∷ st) (Left c.args.at) (Loses-same c.args.self.now.nodes.items c.leave.ensures.sets.objects) (scene-busy c.leave.ensures.sets) c.leave.ensures.given (λ x t. refl) (λ st ds s k. (_, ends c.args.at by, subst (λ z. Follows (nature g.N.Node.kind_of g.N.Load.Parts.first g.N.Load.Parts.second) now (scene_of c.args.self.now.book) (z ++ st) ds s) (sym (settles-own by c.args.at.obj.0 own)) k)) (Calms-plain _ _ _ (Left c.args.at) (Mild-busy c.leave.ensures.sets) (λ p a. refl))) (c.settle.ensures.settles.lives now);
+      Lives-next (Lives-plain g.N.Node.stands now _ _ (λ st. Holds c.args.at by None ∷ st) (λ st. Frees c.args.at.obj.0 ∷ st) (Left c.args.at) (Loses-same c.args.self.now.nodes.items c.leave.ensures.sets.objects) (scene-busy c.leave.ensures.sets) c.leave.ensures.given (λ st ds s k. (_, ends c.args.at by, subst (λ z. UsesStack (nature g.N.Node.kind_of g.N.Load.Parts.first g.N.Load.Parts.second) now (scene_of c.args.self.now.book) (z ++ st) ds s) (sym (settles-own by c.args.at.obj.0 own)) k)) (Calms-plain _ _ _ (Left c.args.at) (Mild-busy c.leave.ensures.sets) (λ p a. refl))) (c.settle.ensures.settles.lives now);
 }
 
 pub returns-clause-steady : goal.returns-clause-steady

@@ -21,7 +21,7 @@ returns-clause-runs g c = record {
   added = LetGo c.args.id ∷ c.settle.ensures.settles.settles.added;
   runs = (IsRun-let_go _ _ _ _ _ _ c.args.id (IsQuiet-holds c.let_go.ensures.sets c.requires.graph.quiet) c.let_go.ensures.told c.let_go.ensures.step c.settle.ensures.settles.settles).1;
   lives = λ now.
-      Lives-next (Lives-plain g.N.Node.stands now _ _ (λ st. Wants (LetGo c.args.id) ∷ st) (λ st. Frees c.args.id.0 ∷ st) (LetGo c.args.id) (Loses-same c.args.self.now.nodes.items c.let_go.ensures.sets.objects) (scene-holds c.let_go.ensures.sets) c.let_go.ensures.given (λ x t. refl) (λ st ds s k. (_, let_go c.args.id c.requires.lives, k)) (Calms-plain _ _ _ (LetGo c.args.id) (Mild-holds c.let_go.ensures.sets) (λ p a. refl))) (c.settle.ensures.settles.lives now);
+      Lives-next (Lives-plain g.N.Node.stands now _ _ (λ st. Wants (LetGo c.args.id) ∷ st) (λ st. Frees c.args.id.0 ∷ st) (LetGo c.args.id) (Loses-same c.args.self.now.nodes.items c.let_go.ensures.sets.objects) (scene-holds c.let_go.ensures.sets) c.let_go.ensures.given (λ st ds s k. (_, let_go c.args.id c.requires.lives, k)) (Calms-plain _ _ _ (LetGo c.args.id) (Mild-holds c.let_go.ensures.sets) (λ p a. refl))) (c.settle.ensures.settles.lives now);
   lets = subst LetsHoldsGo (ap (λ l. LetGo c.args.id ∷ l) (append-nil (frees c.settle.ensures.settles.gone) ∙ sym c.settle.ensures.settles.frees)) (one c.args.id c.settle.ensures.settles.gone [] none);
 }
 

@@ -1,5 +1,5 @@
 use Rattle.nb_graph.proofs.LivedLemmas.{Lived-make}
-use Rattle.std.proofs.Common.{arith, refl, sym, subst, []}
+use Rattle.std.proofs.Common.{arith}
 use Rattle.nb_graph.proofs.SeatLemmas.{made-seat, other-seat}
 use Rattle.nb_graph.proofs.GraphLemmas.{IsGraph-make, IsMade-make, KeepsRanks-make}
 use Rattle.nb_graph.proofs.inner.Inner.make.Goals as goal
@@ -18,6 +18,6 @@ returns-clause-graph g c =
 pub returns-clause-lived : goal.returns-clause-lived
 returns-clause-lived g c = λ now.
     let manned = rw c.add-id.ensures.nodes at c.add-id.ensures.manned in
-    Lived-make g.N.Node.stands _ now c.args.self.now.nodes.items _ _ _ _ c.add-id.result _ c.requires.room c.requires.serial c.add-id.ensures.serial c.add-id.ensures.fresh c.add-id.ensures.len c.add-id.ensures.adds c.hold.ensures.sets c.add-id.ensures.told c.hold.ensures.told c.add-id.ensures.step c.hold.ensures.step c.add-id.ensures.given c.hold.ensures.given
-    (λ t n h. let e = made-seat c.hold.new.self c.args.node c.requires.graph.manned c.add-id.ensures.adds manned c.add-id.ensures.place c.hold.ensures.sets.objects.same_place n (rw c.add-id.ensures.nodes at h) in (subst (λ z. g.N.Node.stands z []) (sym e) c.requires.stands, refl))
-    (λ x t ne fit n h. fit n (other-seat c.hold.new.self c.args.node c.requires.graph.manned c.add-id.ensures.adds manned c.add-id.ensures.place c.hold.ensures.sets.objects.same_place x n ne (rw c.add-id.ensures.nodes at h)))
+    Lived-make g.N.Node.stands _ now c.args.self.now.nodes.items _ _ _ _ c.add-id.result c.args.node c.requires.stands c.requires.room c.requires.serial c.add-id.ensures.serial c.add-id.ensures.fresh c.add-id.ensures.len c.add-id.ensures.adds c.hold.ensures.sets c.add-id.ensures.told c.hold.ensures.told c.add-id.ensures.step c.hold.ensures.step c.add-id.ensures.given c.hold.ensures.given
+    (λ n h. made-seat c.hold.new.self c.args.node c.requires.graph.manned c.add-id.ensures.adds manned c.add-id.ensures.place c.hold.ensures.sets.objects.same_place n (rw c.add-id.ensures.nodes at h))
+    (λ x n ne h. other-seat c.hold.new.self c.args.node c.requires.graph.manned c.add-id.ensures.adds manned c.add-id.ensures.place c.hold.ensures.sets.objects.same_place x n ne (rw c.add-id.ensures.nodes at h))

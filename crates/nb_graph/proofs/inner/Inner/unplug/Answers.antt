@@ -50,8 +50,8 @@ returns-clause-ends g c =
         lives = λ now.
             let other = s.1.port_set c.args.peer.obj.0 c.args.peer.slot ∙ port_but-other c.args.at Closed (port c.leave.new.self) c.args.peer.obj.0 c.args.peer.slot (λ i. c.requires.apart (sym i.0)) ∙ c.leave.ensures.sets.same_port c.args.peer.obj.0 c.args.peer.slot ∙ c.requires.other in
             let first = c.leave.ensures.sets.same_port c.args.at.obj.0 c.args.at.slot ∙ c.requires.first in
-            Lives-next (Lives-plain g.N.Node.stands now _ _ (λ st. Holds c.args.peer Close None ∷ Unlinks c.args.at c.args.peer ∷ st) (λ st. Unlinks c.args.at c.args.peer ∷ st) (Left c.args.peer) (Loses-same nodes c.leave.ensures.sets.objects) (scene-busy c.leave.ensures.sets) c.leave.ensures.given (λ x t. refl) (λ st ds s k. ([], ends c.args.peer Close, k)) (Calms-plain _ _ _ (Left c.args.peer) (Mild-busy c.leave.ensures.sets) (λ p a. refl)))
-            (Lives-next (Lives-plain g.N.Node.stands now _ _ (λ st. Unlinks c.args.at c.args.peer ∷ st) (λ st. Frees (min c.args.at.obj.0 c.args.peer.obj.0) ∷ Frees (max c.args.at.obj.0 c.args.peer.obj.0) ∷ st) (Unplugged c.args.at c.args.peer) (Loses-trans (Loses-same nodes s.1.objects) (Loses-same nodes s.2.objects)) (scene-ports s.1 s.2) c.unplug.ensures.given (λ x t. refl) (λ st ds s k. (_, unplugs c.args.at c.args.peer, k)) (Calms-plain _ _ _ (Unplugged c.args.at c.args.peer) (Mild-trans (Mild-port s.1 (λ q e. cc) (λ q e. absurd (let z = sym first ∙ e in cc)) refl) (Mild-port s.2 (λ q e. cc) (λ q e. absurd (let z = sym other ∙ e in cc)) refl)) (λ p a. refl))) (c.settle_two.ensures.settles.lives now));
+            Lives-next (Lives-plain g.N.Node.stands now _ _ (λ st. Holds c.args.peer Close None ∷ Unlinks c.args.at c.args.peer ∷ st) (λ st. Unlinks c.args.at c.args.peer ∷ st) (Left c.args.peer) (Loses-same nodes c.leave.ensures.sets.objects) (scene-busy c.leave.ensures.sets) c.leave.ensures.given (λ st ds s k. ([], ends c.args.peer Close, k)) (Calms-plain _ _ _ (Left c.args.peer) (Mild-busy c.leave.ensures.sets) (λ p a. refl)))
+            (Lives-next (Lives-plain g.N.Node.stands now _ _ (λ st. Unlinks c.args.at c.args.peer ∷ st) (λ st. Frees (min c.args.at.obj.0 c.args.peer.obj.0) ∷ Frees (max c.args.at.obj.0 c.args.peer.obj.0) ∷ st) (Unplugged c.args.at c.args.peer) (Loses-trans (Loses-same nodes s.1.objects) (Loses-same nodes s.2.objects)) (scene-ports s.1 s.2) c.unplug.ensures.given (λ st ds s k. (_, unplugs c.args.at c.args.peer, k)) (Calms-plain _ _ _ (Unplugged c.args.at c.args.peer) (Mild-trans (Mild-port s.1 (λ q e. cc) (λ q e. absurd (let z = sym first ∙ e in cc)) refl) (Mild-port s.2 (λ q e. cc) (λ q e. absurd (let z = sym other ∙ e in cc)) refl)) (λ p a. refl))) (c.settle_two.ensures.settles.lives now));
       },
       (c.settle_two.ensures.settles.gone, ap (λ l. Left c.args.peer ∷ Unplugged c.args.at c.args.peer ∷ l) c.settle_two.ensures.settles.frees),
     )

@@ -1,7 +1,7 @@
 use Rattle.std.proofs.Common.{◌≡◌, ◌++◌, ◌∙◌, List, ℕ, Option, false, ap, sym, subst, take}
 use Rattle.nb_terms.specs.declared.acts.Acts.{Acts}
 use Rattle.nb_terms.specs.declared.cause.Cause.{Cause}
-use Rattle.nb_http.specs.Standing.{Core, Kept, HasRead, Takes, is_over}
+use Rattle.nb_http.specs.Standing.{Core, Kept, HasRead, TakesBytes, is_over}
 use Rattle.nb_http.specs.Giving.{TakesSo, range_given}
 use Rattle.nb_http.proofs.StandsLemmas.{range_bytes}
 use Rattle.nb_http.proofs.http.Http.bytes.Goals as goal
@@ -19,10 +19,10 @@ returns-clause-stands c = λ stream given s live.
     let unended : is_over old.state ≡ false = ap (λ (k : Core). is_over k.state) was ∙ live in
     let takes : TakesSo c.args.rec old c.take-taken.new.self.core bytes c.take-taken.result = c.take-taken.ensures.live unended in
     let up : range_given bytes c.range_to-give.result ≡ take c.take-taken.result.given bytes = ap (range_given bytes) c.range_to-give.ensures ∙ range_bytes bytes c.take-taken.result.given in
-    let step : Takes c.args.rec old new taken (take c.take-taken.result.given bytes ++ take waiting new.chunks.block) over =
-    subst (λ (k : Core). Takes c.args.rec old k taken (take c.take-taken.result.given bytes ++ take waiting k.chunks.block) over) (sym is) takes.stands in
-    let whole : Takes c.args.rec old new taken (range_given bytes c.range_to-give.result ++ take waiting new.chunks.block) over =
-    subst (λ (g : List ℕ). Takes c.args.rec old new taken (g ++ take waiting new.chunks.block) over) (sym up) step in
+    let step : TakesBytes c.args.rec old new taken (take c.take-taken.result.given bytes ++ take waiting new.chunks.block) over =
+    subst (λ (k : Core). TakesBytes c.args.rec old k taken (take c.take-taken.result.given bytes ++ take waiting k.chunks.block) over) (sym is) takes.stands in
+    let whole : TakesBytes c.args.rec old new taken (range_given bytes c.range_to-give.result ++ take waiting new.chunks.block) over =
+    subst (λ (g : List ℕ). TakesBytes c.args.rec old new taken (g ++ take waiting new.chunks.block) over) (sym up) step in
     whole stream given (subst (λ (k : Core). HasRead k stream given) (sym was) s) unended
 
 pub returns-clause-sends : goal.returns-clause-sends

@@ -1,8 +1,7 @@
-use Rattle.std.proofs.Common.{◌≡◌, ◌++◌, ◌∷◌, [], ◌∙◌, ◌≤◌, ◌<◌, ◌-◌, ◌+◌, List, ℕ, ap, sym, subst, refl, arith, take, drop, length, get_or}
-use Rattle.nb_httpmsg.specs.Reader.{Reader, Fits}
-use Rattle.nb_httpmsg.specs.Feeding.{Feeds, place_after_bytes, place_after_end}
-use Rattle.nb_httpmsg.specs.declared.place.Place.{Place}
-use Rattle.nb_httpmsg.specs.declared.place.Place.TheVariants.{Size, Bytes, End, Trailer}
+use Rattle.std.proofs.Common.{◌≡◌, ◌++◌, ◌∙◌, ◌≤◌, ◌-◌, List, ℕ, ap, sym, subst, arith, take, length}
+use Rattle.nb_httpmsg.specs.Reader.{Reader}
+use Rattle.nb_httpmsg.specs.Feeding.{Feeds, place_after_bytes}
+use Rattle.nb_httpmsg.specs.declared.place.Place.TheVariants.{Bytes}
 use Rattle.std.proofs.lemmas.List.{length-take}
 use Rattle.nb_httpmsg.proofs.FeedLemmas.{bytes_come, take_within}
 use Rattle.nb_httpmsg.proofs.chunks.Chunks.chunk_bytes.Goals as goal

@@ -1,8 +1,8 @@
-use Rattle.std.proofs.Common.{◌≡◌, ◌++◌, ◌∷◌, [], ◌∙◌, ◌≤◌, ◌<◌, ◌-◌, ◌+◌, List, ℕ, ap, sym, subst, refl, arith, take, drop, length, get_or}
-use Rattle.nb_httpmsg.specs.Reader.{Reader, Fits}
-use Rattle.nb_httpmsg.specs.Feeding.{Feeds, place_after_bytes, place_after_end}
+use Rattle.std.proofs.Common.{◌≡◌, ◌∙◌, ap, sym, subst, refl, arith, take, get_or}
+use Rattle.nb_httpmsg.specs.Reader.{Reader, FitsPlace}
+use Rattle.nb_httpmsg.specs.Feeding.{Feeds, place_after_end}
 use Rattle.nb_httpmsg.specs.declared.place.Place.{Place}
-use Rattle.nb_httpmsg.specs.declared.place.Place.TheVariants.{Size, Bytes, End, Trailer}
+use Rattle.nb_httpmsg.specs.declared.place.Place.TheVariants.{End}
 use Rattle.nb_httpmsg.proofs.FeedLemmas.{end_comes, end_fits, one_taken}
 use Rattle.nb_httpmsg.proofs.chunks.Chunks.chunk_end.Goals as goal
 
@@ -12,8 +12,8 @@ invariant_of-self c = (
   omega (arith, c.self.invariant.1, c.clear.ensures.capacity),
   c.self.invariant.2,
   c.self.invariant.3,
-  subst (λ (p : Place). Fits p c.clear.new.self.items) (sym c.after_end-self-inside.ensures)
-      (subst (Fits (place_after_end c.args.cr (get_or c.args.bytes.now 0 0))) (sym c.clear.ensures.items) (end_fits c.args.cr (get_or c.args.bytes.now 0 0))),
+  subst (λ (p : Place). FitsPlace p c.clear.new.self.items) (sym c.after_end-self-inside.ensures)
+      (subst (FitsPlace (place_after_end c.args.cr (get_or c.args.bytes.now 0 0))) (sym c.clear.ensures.items) (end_fits c.args.cr (get_or c.args.bytes.now 0 0))),
 )
 
 pub returns-clause-stands : goal.returns-clause-stands

@@ -1,6 +1,6 @@
 use Rattle.std.proofs.Common.{arith, refl, sym, subst, [], List, ℕ}
 use Rattle.nb_httpmsg.specs.Reader.{IsOpenLine}
-use Rattle.nb_httpmsg.specs.Feeding.{StandsFor}
+use Rattle.nb_httpmsg.specs.Feeding.{StandsForBody}
 use Rattle.nb_httpmsg.specs.declared.place.Place.TheVariants.{Size}
 use Rattle.nb_httpmsg.proofs.FeedLemmas.{at_first, open_at_first}
 use Rattle.nb_httpmsg.proofs.chunks.Chunks.new.Goals as goal
@@ -15,4 +15,4 @@ invariant_of-result c = (
 )
 
 pub returns : goal.returns
-returns c = (subst (λ (line : List ℕ). StandsFor Size line [] []) (sym c.in_ok-with_capacity.ensures.items) at_first, c.in_ok-with_capacity-2.ensures.items, refl)
+returns c = (subst (λ (line : List ℕ). StandsForBody Size line [] []) (sym c.in_ok-with_capacity.ensures.items) at_first, c.in_ok-with_capacity-2.ensures.items, refl)

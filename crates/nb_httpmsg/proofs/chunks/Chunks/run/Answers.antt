@@ -1,5 +1,6 @@
 use Rattle.std.proofs.Common.{◌≡◌, ◌<◌, ◌++◌, ◌-◌, ◌+◌, ◌∙◌, List, ℕ, ap, sym, subst, arith, take, drop, length}
 use Rattle.std.proofs.lemmas.List.{length-drop}
+use Rattle.std.proofs.lemmas.Bool.{false≢true}
 use Rattle.std.proofs.Common.{true}
 use Rattle.nb_httpmsg.specs.Reader.{Reader}
 use Rattle.nb_httpmsg.specs.Feeding.{Feeds, is_open}
@@ -12,12 +13,14 @@ loop-at-preserved c =
     let at : ℕ = c.loop-at.at in
     let bytes : List ℕ = c.args.bytes.now in
     let rest : List ℕ = take (length bytes - at) (drop at bytes) in
+    let still_open : is_open c.loop-at.self.place ≡ true = c.can_take.ensures.open c.if-not-can_take.false in
     let both : take at bytes ++ take c.step-at.result rest ≡ take (at + c.step-at.result) bytes = ap (λ (r : List ℕ). take at bytes ++ take c.step-at.result r) (rest_all at bytes) ∙ sym (take_plus at c.step-at.result bytes) in
     record {
       within = omega (arith, c.step-at.ensures.within, ap length (rest_all at bytes), length-drop at bytes, c.loop-at.invariant.within);
       stands = subst (λ (t : List ℕ). Feeds c.args.self.now c.step-at.new.self t) both
           (feeds_both c.args.self.now c.loop-at.self c.step-at.new.self (take at bytes) (take c.step-at.result rest) c.loop-at.invariant.stands c.step-at.ensures.stands);
       fresh = λ none. absurd (apart at c.step-at.result none c.step-at.ensures.some);
+      ended = λ closed. absurd (false≢true (sym closed ∙ ap is_open (sym (c.loop-at.invariant.ended closed).1) ∙ still_open));
     }
   where
     apart : (a b : ℕ) → a + b ≡ 0 → 0 < b → ⊥

@@ -1,4 +1,4 @@
-use Rattle.std.proofs.Common.{◌++◌, List, ℕ, subst, arith, take}
+use Rattle.std.proofs.Common.{List, ℕ, subst, arith, take}
 use Rattle.std.proofs.Common.{◌≡◌, ◌<◌, true, length, sym, length-append}
 use Rattle.nb_httpmsg.specs.Reader.{Reader}
 use Rattle.nb_httpmsg.specs.Feeding.{Feeds, is_open}

@@ -1,8 +1,8 @@
-use Rattle.std.proofs.Common.{◌≡◌, ◌++◌, ◌∷◌, [], ◌∙◌, ◌≤◌, ◌<◌, ◌-◌, ◌+◌, List, ℕ, ap, sym, subst, refl, arith, take, drop, length, get_or}
-use Rattle.nb_httpmsg.specs.Reader.{Reader, Fits}
-use Rattle.nb_httpmsg.specs.Feeding.{Feeds, place_after_bytes, place_after_end}
+use Rattle.std.proofs.Common.{◌≡◌, ◌++◌, ◌∙◌, ◌<◌, ◌-◌, List, ℕ, ap, sym, subst, refl, arith, take, length}
+use Rattle.nb_httpmsg.specs.Reader.{Reader, FitsPlace}
+use Rattle.nb_httpmsg.specs.Feeding.{Feeds}
 use Rattle.nb_httpmsg.specs.declared.place.Place.{Place}
-use Rattle.nb_httpmsg.specs.declared.place.Place.TheVariants.{Size, Bytes, End, Trailer}
+use Rattle.nb_httpmsg.specs.declared.place.Place.TheVariants.{Size}
 use Rattle.std.proofs.lemmas.List.{length-take}
 use Rattle.nb_httpmsg.proofs.FeedLemmas.{size_comes}
 use Rattle.nb_httpmsg.proofs.chunks.Chunks.size_line.Goals as goal
@@ -15,7 +15,7 @@ returns-clause-stands c =
     let line : List ℕ = c.as_slice-line.result.now in
     let at : c.self.inside.place ≡ Size = ap (λ (r : Reader). r.place) c.self.view_is ∙ c.requires.at in
     let spelled : line ≡ c.self.inside.line.items ++ take taken c.args.bytes.now = c.as_slice-line.ensures.value ∙ c.fill.ensures.items in
-    let fits : Fits Size c.self.inside.line.items = subst (λ (p : Place). Fits p c.self.inside.line.items) at c.self.invariant.4 in
+    let fits : FitsPlace Size c.self.inside.line.items = subst (λ (p : Place). FitsPlace p c.self.inside.line.items) at c.self.invariant.4 in
     let size : length c.self.inside.line.items ≡ length c.as_slice-before.result.now = sym (ap length c.as_slice-before.ensures.value) in
     let some : 0 < length (take taken c.args.bytes.now) = omega (arith, length-take taken c.args.bytes.now, c.fill.ensures.count, c.requires.some, fits.short, size, c.as_slice-before.ensures.len) in
     let far : length c.self.inside.line.items < c.read_size-read.result.len = c.read_size-read.ensures.longer c.self.inside.line.items (take taken c.args.bytes.now) spelled some fits in

@@ -1,5 +1,5 @@
 use Rattle.std.proofs.Common.{is_some, ◌+◌, arith, ap, refl}
-use Rattle.nb_ledger.specs.Ledger.{live}
+use Rattle.nb_ledger.specs.Ledger.{object_lives}
 use Rattle.nb_ledger.proofs.PlaceLemmas.{IsRising-push, found-above, place-push}
 use Rattle.nb_ledger.proofs.ChangeLemmas.{Adds-push}
 use Rattle.nb_ledger.proofs.book.Book.add.Goals as goal
@@ -11,7 +11,7 @@ invariant_of-self c =
     (rw c.push_last.ensures.items (IsRising-push 0 _ _ _ i.0 (omega arith) refl), omega (arith, rw (← c.self.view_is) at r, c.push_last.ensures.len, c.self.inside.objects.ok.0), omega arith)
 
 pub returns-clause-fresh : goal.returns-clause-fresh
-unfolding live
+unfolding object_lives
 returns-clause-fresh c =
     let none = found-above 0 _ _ (c.self.inside.made + 1) c.self.invariant.0 (omega arith) in
     rw (← c.self.view_is) (ap is_some none)

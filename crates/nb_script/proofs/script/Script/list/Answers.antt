@@ -1,6 +1,6 @@
 use Rattle.std.proofs.Common.{◌∙◌, sym, ap, refl, Some}
 use Rattle.std.proofs.lemmas.Result.{err_from_is_err_and}
-use Rattle.nb_defs.specs.ScriptText.{words}
+use Rattle.nb_defs.specs.ScriptText.{line_words}
 use Rattle.nb_defs.proofs.ItemLaws.{cut_words_are}
 use Rattle.nb_script.proofs.ItemLemmas.{list_fits}
 use Rattle.nb_script.proofs.ScriptLemmas.{items_some, items_none}
@@ -28,7 +28,7 @@ returns-clause-too_many c =
     (λ h. cc, λ h. cc)
 
 pub returns-clause-cut : goal.returns-clause-cut
-returns-clause-cut c = rw c.in_ok-cut_items.ensures (cut_words_are (words c.args.line.now))
+returns-clause-cut c = rw c.in_ok-cut_items.ensures (cut_words_are (line_words c.args.line.now))
 
 pub returns-clause-fits : goal.returns-clause-fits
 returns-clause-fits c =

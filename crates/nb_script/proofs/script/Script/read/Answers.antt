@@ -1,6 +1,6 @@
 use Rattle.std.proofs.Common.{◌∙◌, sym, refl, rules}
 use Rattle.std.proofs.lemmas.Result.{err_from_is_err_and}
-use Rattle.nb_defs.specs.ScriptLines.{reading}
+use Rattle.nb_defs.specs.ScriptLines.{script_reading}
 use Rattle.nb_script.proofs.ScriptLemmas.{IsCut, reads_none, reads_too_long, reads_lines, reads_line_too_long, reads_script, keeps_numbers}
 use Rattle.nb_script.proofs.ReadLemmas.{refused_none, refused_long, refused_line, refused_memory, refused_not}
 use Rattle.nb_script.proofs.script.Script.read.Goals as goal
@@ -8,7 +8,7 @@ use Rattle.nb_script.proofs.script.Script.read.Goals as goal
 pub returns-then-not-begins_script : goal.returns-then-not-begins_script
 returns-then-not-begins_script c =
     let none = reads_none c.args.text (rw c.as_slice.ensures at (sym c.begins_script.ensures ∙ c.if-not-begins_script.true)) in
-    let r = refused_none _ (reading c.args.text) refl none in
+    let r = refused_none _ (script_reading c.args.text) refl none in
     record {
       reads = search rules;
       numbered = search rules;
@@ -22,7 +22,7 @@ pub returns-then-len-gt-MAX_SCRIPT : goal.returns-then-len-gt-MAX_SCRIPT
 returns-then-len-gt-MAX_SCRIPT c =
     let begun = rw c.as_slice.ensures at (sym c.begins_script.ensures ∙ c.if-not-begins_script.false) in
     let long = reads_too_long c.args.text begun (rw c.len.ensures at c.if-len-gt-MAX_SCRIPT.true) in
-    let r = refused_long _ (reading c.args.text) refl long in
+    let r = refused_long _ (script_reading c.args.text) refl long in
     record {
       reads = search rules;
       numbered = search rules;
@@ -37,7 +37,7 @@ returns-in_err-lines c =
     let p = err_from_is_err_and c.from_residual.result c.from_residual.ensures.1 in
     let begun = rw c.as_slice.ensures at (sym c.begins_script.ensures ∙ c.if-not-begins_script.false) in
     let lines = reads_lines c.args.text begun (rw c.len.ensures at c.if-len-gt-MAX_SCRIPT.false) in
-    let r = refused_memory c.from_residual.result (reading c.args.text) (rw p.2 at p.1) lines in
+    let r = refused_memory c.from_residual.result (script_reading c.args.text) (rw p.2 at p.1) lines in
     record {
       reads = search rules;
       numbered = search rules;
@@ -56,7 +56,7 @@ returns-then-not-are_short c =
       lines_are = rw c.as_slice-2.ensures at c.in_ok-lines.ensures.lines;
     } in
     let long = reads_line_too_long c.args.text c.in_ok-lines.lines.lines cut (sym c.are_short.ensures ∙ c.if-not-are_short.true) in
-    let r = refused_line _ (reading c.args.text) refl long in
+    let r = refused_line _ (script_reading c.args.text) refl long in
     record {
       reads = search rules;
       numbered = search rules;
@@ -75,7 +75,7 @@ returns c =
       lines_are = rw c.as_slice-2.ensures at c.in_ok-lines.ensures.lines;
     } in
     let found = reads_script c.args.text c.in_ok-lines.lines.lines cut (sym c.are_short.ensures ∙ c.if-not-are_short.false) in
-    let r = refused_not _ (reading c.args.text) _ _ refl found in
+    let r = refused_not _ (script_reading c.args.text) _ _ refl found in
     record {
       reads = found;
       numbered = keeps_numbers c.args.text c.in_ok-lines.lines.lines cut;

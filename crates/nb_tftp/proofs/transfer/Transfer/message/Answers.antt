@@ -3,7 +3,7 @@ use Rattle.nb_tftp.specs.declared.state.State.{State}
 use Rattle.nb_tftp.specs.Received.{received}
 use Rattle.nb_tftp.specs.Stands.{Stands}
 use Rattle.nb_tftp.proofs.CallLemmas.{came_goes_on, came_stays}
-use Rattle.nb_tftp.specs.Sound.{IsSound}
+use Rattle.nb_tftp.specs.Sound.{AreSoundActs}
 use Rattle.nb_terms.specs.declared.acts.Acts.{Acts}
 use Rattle.std.specs.Prelude.{length}
 use Rattle.nb_tftp.proofs.SoundLemmas.{bytes_sound}
@@ -21,4 +21,4 @@ returns-clause-ended c = λ b start h stands ended.
 
 pub returns-clause-sound : goal.returns-clause-sound
 returns-clause-sound c =
-    subst (λ (acts : Acts). IsSound (length c.args.body.now) acts) (sym c.datagram.ensures.acts) (bytes_sound c.self.inside.state c.args.rec c.args.src_port c.args.body.now)
+    subst (λ (acts : Acts). AreSoundActs (length c.args.body.now) acts) (sym c.datagram.ensures.acts) (bytes_sound c.self.inside.state c.args.rec c.args.src_port c.args.body.now)

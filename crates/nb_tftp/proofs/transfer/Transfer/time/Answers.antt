@@ -2,7 +2,7 @@ use Rattle.std.proofs.Common.{subst, sym}
 use Rattle.nb_tftp.specs.declared.state.State.{State}
 use Rattle.nb_tftp.specs.Stands.{Stands}
 use Rattle.nb_tftp.proofs.CallLemmas.{tick_goes_on}
-use Rattle.nb_tftp.specs.Sound.{IsSound}
+use Rattle.nb_tftp.specs.Sound.{AreSoundActs}
 use Rattle.nb_terms.specs.declared.acts.Acts.{Acts}
 use Rattle.nb_tftp.proofs.SoundLemmas.{tick_sound}
 use Rattle.nb_tftp.proofs.transfer.Transfer.time.Goals as goal
@@ -14,4 +14,4 @@ returns-clause-stands c = λ b start h stands unended.
 
 pub returns-clause-sound : goal.returns-clause-sound
 returns-clause-sound c =
-    subst (λ (acts : Acts). IsSound 0 acts) (sym c.tick.ensures.acts) (tick_sound c.self.inside.state c.args.now)
+    subst (λ (acts : Acts). AreSoundActs 0 acts) (sym c.tick.ensures.acts) (tick_sound c.self.inside.state c.args.now)

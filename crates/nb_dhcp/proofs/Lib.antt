@@ -1,0 +1,5 @@
+pub mod ReplyLemmas
+pub mod LeaseHistoryLemmas
+pub mod LeaseStandsLemmas
+pub mod LeaseTimeLemmas
+pub mod LeaseLaws

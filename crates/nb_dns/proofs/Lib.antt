@@ -1,0 +1,5 @@
+pub mod WrittenLemmas
+pub mod CallsLemmas
+pub mod StandsLemmas
+pub mod LookupLaws
+pub mod SimpleLemmas

@@ -1,0 +1,7 @@
+pub mod WrittenNames
+pub mod Lookups
+pub mod LookupCalls
+pub mod LookupPromises
+pub mod LookupStands
+pub mod Steps
+pub mod LookupEndings

@@ -1,0 +1,40 @@
+//! Laws of what a look-up promises of its calls, for a caller that keeps them: each is a function that does
+//! nothing, whose contract is the law.
+
+ghost use Rattle.std.specs.Prelude.{◌≡◌, ◌⊎◌, ◌∷◌, ◌++◌, [], ℕ, List, Some, true};
+ghost use Rattle.nb_retry.specs.declared.retry.Due.TheVariants.{Again};
+ghost use Rattle.nb_terms.specs.declared.acts.Acts.{Acts};
+ghost use Rattle.nb_terms.specs.declared.cause.Cause.{Cause};
+ghost use Rattle.nb_dnsmsg.specs.declared.answer.Answer.{Answer};
+ghost use Rattle.nb_dns.specs.Lookups.{Lookup, query_to};
+ghost use Rattle.nb_dns.specs.LookupCalls.{LookupCall, DnsDatagram, LookupEntry, lookup_entry, arrived, clocked, datagrams, lookup_ended, IsSilentCall, FirstReply};
+ghost use Rattle.nb_dns.specs.LookupPromises.{LookupMeets};
+ghost use Rattle.nb_dns.specs.LookupEndings.{LookupEnding, PlanFires};
+
+/// Each cause of an end stands in what arrived and when, and no other cause comes: `LookupEnding` has what
+/// stands behind each.
+pub fn ends_for_a_cause()
+    ensures { (l : Lookup) (start : ℕ) (h : List LookupEntry) (e : LookupEntry) (cause : Cause) → LookupMeets l start (h ++ e ∷ [])
+        → e.acts.over ≡ Some cause → LookupEnding l start h e cause }
+{}
+
+/// A try is made only at a time, while no datagram has replied, and at one of the plan's times.
+pub fn tries_in_silence()
+    ensures silent { (l : Lookup) (start : ℕ) (h : List LookupEntry) (now n : ℕ) (acts : Acts) → LookupMeets l start (h ++ lookup_entry (clocked now) acts ∷ [])
+        → acts.tried ≡ Some n → IsSilentCall l (datagrams h) }
+    ensures in_time { (l : Lookup) (start : ℕ) (h : List LookupEntry) (now n : ℕ) (acts : Acts) → LookupMeets l start (h ++ lookup_entry (clocked now) acts ∷ [])
+        → acts.tried ≡ Some n → PlanFires start (h ++ lookup_entry (clocked now) acts ∷ []) now (Again n) }
+    ensures by_time { (l : Lookup) (start : ℕ) (h : List LookupEntry) (m : DnsDatagram) (now n : ℕ) (acts : Acts) → LookupMeets l start (h ++ lookup_entry (arrived m now) acts ∷ [])
+        → acts.tried ≡ Some n → ⊥ }
+{}
+
+/// The first datagram that replies ends the look-up, so none is taken after it.
+pub fn replies_end_it()
+    ensures { (l : Lookup) (start : ℕ) (h : List LookupEntry) (a : Answer) → LookupMeets l start h → FirstReply l (datagrams h) a → lookup_ended h ≡ true }
+{}
+
+/// A call sends nothing, or the query alone.
+pub fn sends_the_query_alone()
+    ensures { (l : Lookup) (start : ℕ) (h : List LookupEntry) (call : LookupCall) (acts : Acts) → LookupMeets l start (h ++ lookup_entry call acts ∷ [])
+        → (acts.sends.items ≡ []) ⊎ (acts.sends.items ≡ query_to l ∷ []) }
+{}

@@ -1,0 +1,9 @@
+pub mod RestLemmas
+pub mod WalkLemmas
+pub mod RecordLemmas
+pub mod SectionLemmas
+pub mod FoundLemmas
+pub mod NameLemmas
+pub mod MessageLemmas
+pub mod QuestionLemmas
+pub mod MessageLaws

@@ -1,0 +1,5 @@
+pub mod AskLemmas
+pub mod CarriedLemmas
+pub mod TftpLemmas
+pub mod FetchLemmas
+pub mod ObjLemmas

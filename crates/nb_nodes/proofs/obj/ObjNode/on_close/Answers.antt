@@ -1,0 +1,18 @@
+use Rattle.std.proofs.Common.{◌≡◌, sym, subst}
+use Rattle.nb_graph.specs.Trace.{closed}
+use Rattle.nb_nodes.specs.declared.obj.Obj.{Obj}
+use Rattle.nb_nodes.specs.declared.tftp.Tftp.{Tftp}
+use Rattle.nb_nodes.specs.Standing.{ObjStands}
+use Rattle.nb_nodes.specs.Conversations.{ContinuesAs}
+use Rattle.nb_nodes.proofs.TftpLemmas.{stands_more}
+use Rattle.nb_nodes.proofs.FetchLemmas.{fetch_closed}
+use Rattle.nb_nodes.proofs.obj.ObjNode.on_close.Goals as goal
+
+pub returns-in-Fetch-clause-stands : goal.returns-in-Fetch-clause-stands
+returns-in-Fetch-clause-stands c = λ t s.
+    fetch_closed c.in-Fetch.fetch c.on_close.new.self t c.args.slot c.args.cause.now c.args._now c.on_close.new.fx (subst (λ (z : Obj). ObjStands z t) c.in-Fetch.is s) c.on_close.ensures.silent c.on_close.ensures.closes c.on_close.ensures.after
+
+pub returns-in-Tftp-clause-stands : goal.returns-in-Tftp-clause-stands
+returns-in-Tftp-clause-stands c = λ t s.
+    let leads = rw c.deref_mut.ensures.value at c.on_close-in-Tftp.ensures.leads in
+    stands_more c.in-Tftp.tftp.value c.on_close-in-Tftp.new.self t (closed c.args.slot c.args.cause.now c.args._now c.on_close-in-Tftp.new.fx) (leads c.args._now) (subst (λ (z : Obj). ObjStands z t) c.in-Tftp.is s)

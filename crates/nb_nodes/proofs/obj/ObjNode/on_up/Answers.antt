@@ -1,0 +1,21 @@
+use Rattle.std.proofs.Common.{◌≡◌, sym, subst, ap, true, ◌++◌, [], ◌∷◌}
+use Rattle.std.specs.Result.{is_ok}
+use Rattle.nb_graph.specs.Trace.{up, down, time, regain, said}
+use Rattle.nb_nodes.specs.declared.obj.Obj.{Obj}
+use Rattle.nb_nodes.specs.Standing.{ObjStands}
+use Rattle.nb_nodes.proofs.TftpLemmas.{stands_more}
+use Rattle.nb_nodes.proofs.FetchLemmas.{fetch_ups}
+use Rattle.nb_nodes.proofs.ObjLemmas.{may_ask}
+use Rattle.nb_nodes.proofs.obj.ObjNode.on_up.Goals as goal
+
+pub returns-in-Fetch-clause-asks : goal.returns-in-Fetch-clause-asks
+returns-in-Fetch-clause-asks c = may_ask _ _ c.on_up.new.fx (c.on_up.ensures.within _)
+
+pub returns-in-Fetch-clause-stands : goal.returns-in-Fetch-clause-stands
+returns-in-Fetch-clause-stands c = λ t s settled.
+    fetch_ups c.on_up.result c.in-Fetch.fetch c.on_up.new.self t c.args.slot (said c.args.msg.now) c.args.now c.on_up.new.fx (subst (λ (z : Obj). ObjStands z t) c.in-Fetch.is s) c.on_up.ensures.asks c.on_up.ensures.after c.on_up.ensures.failed
+
+pub returns-in-Tftp-clause-stands : goal.returns-in-Tftp-clause-stands
+returns-in-Tftp-clause-stands c = λ t s settled.
+    let leads = rw c.deref_mut.ensures.value at c.on_up-in-Tftp.ensures.leads in
+    stands_more c.in-Tftp.tftp.value c.on_up-in-Tftp.new.self t (up c.args.slot (said c.args.msg.now) c.args.now (is_ok c.on_up-in-Tftp.result) c.on_up-in-Tftp.new.fx) leads (subst (λ (z : Obj). ObjStands z t) c.in-Tftp.is s)

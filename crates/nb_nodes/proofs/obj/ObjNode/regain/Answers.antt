@@ -1,0 +1,18 @@
+use Rattle.std.proofs.Common.{◌≡◌, sym, subst, ap, true, ◌++◌, [], ◌∷◌}
+use Rattle.std.specs.Result.{is_ok}
+use Rattle.nb_graph.specs.Trace.{up, down, time, regain, said}
+use Rattle.nb_nodes.specs.declared.obj.Obj.{Obj}
+use Rattle.nb_nodes.specs.Standing.{ObjStands}
+use Rattle.nb_nodes.proofs.TftpLemmas.{stands_more, regain_on}
+use Rattle.nb_nodes.proofs.FetchLemmas.{fetch_regain}
+use Rattle.nb_nodes.proofs.obj.ObjNode.regain.Goals as goal
+
+pub returns-in-Fetch-clause-stands : goal.returns-in-Fetch-clause-stands
+returns-in-Fetch-clause-stands c = λ t s awaits.
+    subst (λ (z : Obj). ObjStands z (t ++ regain c.args.load ∷ [])) (sym c.in-Fetch.is)
+    (fetch_regain c.in-Fetch.field-0 t c.args.load (subst (λ (z : Obj). ObjStands z t) c.in-Fetch.is s))
+
+pub returns-in-Tftp-clause-stands : goal.returns-in-Tftp-clause-stands
+returns-in-Tftp-clause-stands c = λ t s awaits.
+    let same = rw c.deref_mut.ensures.value at c.regain.ensures in
+    stands_more c.in-Tftp.tftp.value c.regain.new.self t (regain c.args.load) (regain_on c.in-Tftp.tftp.value.work c.regain.new.self.work c.args.load same) (subst (λ (z : Obj). ObjStands z t) c.in-Tftp.is s)

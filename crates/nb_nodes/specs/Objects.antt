@@ -1,0 +1,34 @@
+-- The kinds of objects and what their messages carry: our own.
+use Rattle.std.specs.Prelude.{ℕ, List, [], ◌∷◌}
+use Rattle.nb_terms.specs.declared.acts.SendTo.{SendTo}
+use Rattle.nb_graph.specs.Trace.{Nature, nature}
+use Rattle.nb_nodes.specs.declared.load.Load.{Load}
+use Rattle.nb_nodes.specs.declared.load.Load.TheVariants as load
+use Rattle.nb_nodes.specs.declared.obj.Obj.{Obj}
+use Rattle.nb_nodes.specs.declared.obj.Obj.TheVariants as obj
+
+-- the body of the first message
+abbrev pub first_body : List SendTo → List ℕ
+first_body [] = []
+first_body (send ∷ sends) = send.body.items
+
+-- the bytes of a load, in two parts
+abbrev pub first_part : Load → List ℕ
+first_part (load.Body body) = []
+first_part (load.Datagram acts) = first_body acts.value.sends.items
+
+abbrev pub second_part : Load → List ℕ
+second_part l = []
+
+-- the numbers of the kinds, and their ranks
+abbrev pub kind_of_obj : Obj → ℕ
+kind_of_obj (obj.Fetch f) = 1
+kind_of_obj (obj.Tftp p) = 4
+
+abbrev pub rank_of_obj : Obj → ℕ
+rank_of_obj (obj.Fetch f) = 5
+rank_of_obj (obj.Tftp p) = 2
+
+-- what nb_graph knows of them
+abbrev pub obj_nature : Nature Obj Load
+obj_nature = nature kind_of_obj first_part second_part

@@ -1,0 +1,167 @@
+// What a transfer's call asks for, as the effects of an entry.
+ghost use Rattle.std.specs.Prelude.{◌≡◌, ◌+◌, ◌≤◌, ℕ, [], ◌∷◌, length, min, None, Some};
+ghost use Rattle.nb_tftp.specs.Sound.{IsRange};
+ghost use Rattle.nb_graph.specs.Trace.{Said};
+ghost use Rattle.nb_nodes.specs.Carried.{up_emit, both_closes, end_closes, first_port};
+ghost use Rattle.nb_nodes.specs.Carried.{advance_emit, datagram_emit, EffectsOf, AsksNone, AsksDown};
+ghost use Rattle.nb_nodes.specs.Carried.{AsksWithin};
+
+use crate::tag::Tag;
+use crate::{Load, Obj};
+use nb_graph::{Emit, Fx, Msg};
+use nb_terms::{Acts, Cause, SendTo};
+
+/// The slot that faces the user above.
+pub(crate) const ABOVE: u8 = 0;
+
+/// The slot that faces what is below.
+pub(crate) const BELOW: u8 = 1;
+
+/// What an entry of an open's object asks for.
+pub(crate) type Effects = Fx<Obj, Load>;
+
+/// How many bytes of a message are taken where all are: at most 4,294,967,295 at once.
+pub(crate) fn length_of(msg: &Msg<'_>) -> u32
+    ensures { result ≡ min (length msg.now.first.now + length msg.now.second.now) 4294967295 }
+{
+    (msg.first.len() + msg.second.len()).min(u32::MAX as usize) as u32
+}
+
+/// Closes both ports, the one above first: its user is told before the port below is given back.
+pub(crate) fn close_both(cause: Cause, fx: &mut Effects)
+    requires { fx.old.closes.items ≡ [] }
+    ensures { fx.new ≡ record fx.old { closes = record { items = both_closes cause } } }
+{
+    fx.closes.push((ABOVE, cause));
+    fx.closes.push((BELOW, cause));
+}
+
+/// Closes both ports at an end.
+fn close_at(over: Option<Cause>, fx: &mut Effects)
+    requires { fx.old.closes.items ≡ [] }
+    ensures { fx.new ≡ record fx.old { closes = record { items = end_closes over } } }
+{
+    if let Some(cause) = over {
+        close_both(cause, fx);
+    }
+}
+
+/// The bytes of the entry's message that go up.
+fn bytes_up(give: Option<(u32, u32)>) -> Option<Emit<Load>>
+    ensures { result ≡ up_emit give }
+{
+    match give {
+        Some((from, to)) => Some(Emit {
+            slot: ABOVE,
+            tag: u8::from(Tag::Bytes),
+            a: 0,
+            b: 0,
+            from,
+            to,
+            load: None,
+        }),
+        None => None,
+    }
+}
+
+/// Tells that the place has grown.
+fn advance_down(place: u32) -> Emit<Load>
+    ensures { result ≡ advance_emit place }
+{
+    Emit {
+        slot: BELOW,
+        tag: u8::from(Tag::Advance),
+        a: place,
+        b: 0,
+        from: 0,
+        to: 0,
+        load: None,
+    }
+}
+
+/// Sends the datagram that `acts` holds to this port of the server, as a try where a timer covers it.
+/// Its bytes stay where they are: they are lent.
+fn datagram_down(to_port: u16, acts: Box<Acts>) -> Emit<Load>
+    ensures { result ≡ datagram_emit to_port acts }
+{
+    let (tag, number) = match acts.tried {
+        Some(number) => (Tag::Try, number),
+        None => (Tag::Datagram, 0),
+    };
+    Emit {
+        slot: BELOW,
+        tag: u8::from(tag),
+        a: u32::from(number),
+        b: u32::from(to_port),
+        from: 0,
+        to: 0,
+        load: Some(Load::Datagram(acts)),
+    }
+}
+
+/// The port that the first message goes to.
+fn port_of(sends: &[SendTo]) -> Option<u16>
+    ensures { result ≡ first_port sends.now }
+{
+    match sends.first() {
+        Some(send) => Some(send.to_port),
+        None => None,
+    }
+}
+
+/// Sends the datagram, after telling the place where that has grown.
+fn send(to_port: u16, acts: Box<Acts>, fx: &mut Effects)
+    requires blank { AsksNone fx.old }
+    requires few { length acts.value.sends.items ≤ 1 }
+    requires port { first_port acts.value.sends.items ≡ Some to_port }
+    ensures asks { AsksDown acts.value fx.new.downs }
+    ensures same { fx.new ≡ record fx.old { downs = fx.new.downs } }
+{
+    let advance = acts.advance;
+    let datagram = datagram_down(to_port, acts);
+    match advance {
+        Some(place) => {
+            fx.downs.first = Some(advance_down(place));
+            fx.downs.second = Some(datagram);
+        }
+        None => fx.downs.first = Some(datagram),
+    }
+}
+
+/// Asks for what goes down. What `acts` holds is lent where a datagram is sent, and else comes back at
+/// once.
+fn ask_down(acts: Box<Acts>, fx: &mut Effects) -> Option<Box<Acts>>
+    requires blank { AsksNone fx.old }
+    requires few { length acts.value.sends.items ≤ 1 }
+    ensures asks { AsksDown acts.value fx.new.downs }
+    ensures same { fx.new ≡ record fx.old { downs = fx.new.downs } }
+{
+    match port_of(acts.sends.as_slice()) {
+        Some(to_port) => {
+            send(to_port, acts, fx);
+            None
+        }
+        None => {
+            if let Some(place) = acts.advance {
+                fx.downs.first = Some(advance_down(place));
+            }
+            Some(acts)
+        }
+    }
+}
+
+/// Asks for all that a transfer's call asks for.
+pub(crate) fn ask(acts: Box<Acts>, fx: &mut Effects) -> Option<Box<Acts>>
+    requires blank { AsksNone fx.old }
+    requires few { length acts.value.sends.items ≤ 1 }
+    ensures effects { (m : Said) → EffectsOf m acts.value fx.new }
+    ensures within { (len : ℕ) → IsRange acts.value.give len → AsksWithin len fx.new }
+    ensures took { fx.new.took ≡ fx.old.took }
+{
+    let give = acts.give;
+    let over = acts.over;
+    let kept = ask_down(acts, fx);
+    fx.ups.first = bytes_up(give);
+    close_at(over, fx);
+    kept
+}

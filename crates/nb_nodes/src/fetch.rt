@@ -1,0 +1,198 @@
+ghost use Rattle.std.specs.Prelude.{◌≡◌, ◌+◌, ◌++◌, ◌<◌, ◌≤◌, ◌==◌, ◌&&◌, ℕ, [], length, OnOk, OnErr, IsErrOf, is_none};
+ghost use Rattle.std.specs.Prelude.{true, false, nat_lt};
+ghost use Rattle.nb_graph.specs.Trace.{said};
+ghost use Rattle.nb_graph.specs.Effects.{IsNothing};
+ghost use Rattle.nb_nodes.specs.declared.fetch.Fetch.TheVariants as fetch;
+ghost use Rattle.nb_nodes.specs.Carried.{AsksNone, CarriesNothing, AsksWithin};
+ghost use Rattle.nb_nodes.specs.Fetches.{FetchStands, FetchHarvests, is_gathering, is_handed};
+ghost use Rattle.nb_nodes.specs.Fetches.{after_bytes_up, after_closing, passed_close, gathered_len};
+ghost use Rattle.nb_nodes.specs.Fetches.{AsksUp, AsksHandDown, is_handed_down, ended_fetch, GathersBytes};
+ghost use Rattle.nb_image.specs.declared.error.PushError.TheVariants as PushError;
+
+use crate::Load;
+use crate::carrying::{BELOW, Effects, close_both, length_of};
+use crate::tag::{Tag, is_tag};
+use nb_graph::{Emit, Msg};
+use nb_image::{Body, PushError};
+use nb_terms::{Cause, Large, NoMemory, Plain, Reason};
+use std::alloc::Global;
+use std::mem;
+
+/// The code of Ok.
+const OK: u8 = 0;
+
+/// A file that comes up by slot 1, gathered for the user above slot 0.
+#[derive(Drop)]
+pub enum Fetch {
+    /// These bytes have come.
+    Gathering(Body),
+    /// The port below was closed with Ok: they are all.
+    Whole(Body),
+    /// They were all, and are handed out.
+    HandedOut,
+    /// A port was closed otherwise, the body is too large, or memory ran out.
+    Failed,
+}
+
+/// What became of a message from below.
+pub(crate) enum Gathered {
+    Taken(u32),
+    TooLarge,
+    /// Nothing is gathered any more.
+    Ended,
+    NoMemory,
+}
+
+impl Fetch {
+    /// A Fetch of which nothing has come.
+    pub fn new(alloc: Global) -> Fetch
+        ensures stands { FetchStands result [] }
+        ensures value { result ≡ fetch.Gathering [] }
+    {
+        Fetch::Gathering(Body::new(alloc))
+    }
+
+    /// Whether more may come.
+    fn is_gathering(&self) -> bool
+        ensures { result ≡ is_gathering self.now }
+    {
+        match self {
+            Fetch::Gathering(_) => true,
+            Fetch::Whole(_) => false,
+            Fetch::HandedOut => false,
+            Fetch::Failed => false,
+        }
+    }
+
+    /// A message from below: by slot 1 its bytes are the file's. A body of more than 268,435,456 bytes
+    /// closes both ports with TooLarge.
+    pub(crate) fn on_up(
+        &mut self,
+        slot: u8,
+        msg: &Msg<'_>,
+        fx: &mut Effects,
+    ) -> Result<(), NoMemory>
+        requires { IsNothing fx.old }
+        ensures asks { OnOk result (AsksUp (is_gathering self.old) (gathered_len self.old) slot (length (said msg.now).bytes) fx.new) }
+        ensures after { OnOk result (self.new ≡ after_bytes_up self.old slot (said msg.now).bytes) }
+        ensures failed { OnErr result ((is_gathering self.old ≡ true) × (self.new ≡ fetch.Failed)) }
+        ensures silent { CarriesNothing fx.new }
+        ensures within { (len : ℕ) → AsksWithin len fx.new }
+        ensures took { fx.new.took ≤ length msg.now.first.now + length msg.now.second.now }
+    {
+        if slot != BELOW {
+            fx.took = length_of(msg);
+            return Ok(());
+        }
+        match self.gather(msg) {
+            Gathered::Taken(length) => {
+                fx.took = length;
+                Ok(())
+            }
+            Gathered::TooLarge => {
+                close_both(Cause::from(Reason::TooLarge(Large::Image)), fx);
+                Ok(())
+            }
+            Gathered::Ended => {
+                fx.closes
+                    .push((BELOW, Cause::from(Reason::Plain(Plain::Stopped))));
+                Ok(())
+            }
+            Gathered::NoMemory => Err(NoMemory),
+        }
+    }
+
+    /// Appends the bytes of a message.
+    fn gather(&mut self, msg: &Msg<'_>) -> Gathered
+        ensures { GathersBytes self.old (said msg.now).bytes result self.new }
+    {
+        let Fetch::Gathering(body) = self else {
+            return Gathered::Ended;
+        };
+        match push_both(body, msg.first, msg.second) {
+            Ok(()) => Gathered::Taken((msg.first.len() + msg.second.len()) as u32),
+            Err(PushError::TooLarge) => {
+                *self = Fetch::Failed;
+                Gathered::TooLarge
+            }
+            Err(PushError::NoMemory) => {
+                *self = Fetch::Failed;
+                Gathered::NoMemory
+            }
+        }
+    }
+
+    /// A message from above: a `Begin` is handed down.
+    pub(crate) fn on_down(&self, msg: &Msg<'_>, fx: &mut Effects)
+        requires { AsksNone fx.old }
+        ensures { AsksHandDown (is_gathering self.now) (said msg.now) fx.new }
+    {
+        if self.is_gathering() && is_handed_down(msg) {
+            fx.downs.first = Some(Emit {
+                slot: BELOW,
+                tag: msg.tag,
+                a: msg.a,
+                b: msg.b,
+                from: 0,
+                to: length_of(msg),
+                load: None,
+            });
+        }
+    }
+
+    /// The port of this slot was closed from its other end: the one on the other side is closed too.
+    /// Where the one below was closed with Ok, the body is whole.
+    pub(crate) fn on_close(&mut self, slot: u8, cause: &Cause, fx: &mut Effects)
+        requires { AsksNone fx.old }
+        ensures closes { fx.new.closes.items ≡ passed_close (is_gathering self.old) slot cause.now }
+        ensures after { self.new ≡ after_closing self.old slot cause.now }
+        ensures silent { CarriesNothing fx.new }
+    {
+        if slot > BELOW || !self.is_gathering() {
+            return;
+        }
+        fx.closes.push((BELOW - slot, *cause));
+        self.end(slot == BELOW && cause.code == OK);
+    }
+
+    /// Nothing more is gathered.
+    fn end(&mut self, well: bool)
+        ensures { self.new ≡ ended_fetch self.old well }
+    {
+        match mem::replace(self, Fetch::Failed) {
+            Fetch::Gathering(body) if well => *self = Fetch::Whole(body),
+            _ => {}
+        }
+    }
+
+    /// The body, at the first call at which it is whole.
+    pub(crate) fn harvest(&mut self) -> Option<Load>
+        ensures { FetchHarvests self.old result self.new }
+    {
+        match mem::replace(self, Fetch::HandedOut) {
+            Fetch::Whole(body) => Some(Load::Body(body)),
+            was => {
+                *self = was;
+                None
+            }
+        }
+    }
+}
+
+/// Appends both parts, or stops at the first that isn't taken.
+fn push_both(body: &mut Body, first: &[u8], second: &[u8]) -> Result<(), PushError>
+    ensures ok { OnOk result (body.new ≡ body.old ++ (first.now ++ second.now)) }
+    ensures fits { OnOk result (length body.old + (length first.now + length second.now) ≤ 268435456) }
+    ensures too_large { IsErrOf result PushError.TooLarge
+        → 268435456 < length body.old + (length first.now + length second.now) }
+{
+    body.push(first)?;
+    body.push(second)
+}
+
+/// Whether a message is a `Begin` that can be handed down whole.
+fn is_handed_down(msg: &Msg<'_>) -> bool
+    ensures { result ≡ is_handed_down (said msg.now) }
+{
+    is_tag(msg.tag, Tag::Begin) && msg.first.len() + msg.second.len() <= u32::MAX as usize
+}

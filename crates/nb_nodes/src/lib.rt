@@ -1,0 +1,23 @@
+// The objects of an open that fetches a file, as nodes of nb_graph: a Fetch gathers the file, and a
+// Tftp plugged below it carries the transfer (RFC 1350). What each has done is said over its trace,
+// of a Tftp in terms of nb_tftp's history (specs/Conversations.antt), of a Fetch in terms of what it
+// took (specs/Fetches.antt). Names, streams, leases and drives are left out. Begin with `Obj`, then
+// `Tag`, which says what their messages are.
+#![tactic(auto)]
+
+mod ask;
+mod carrying;
+mod fetch;
+mod load;
+mod obj;
+mod tag;
+#[cfg(test)]
+mod tests;
+mod tftp;
+
+pub use ask::{Ask, MAX_PATH};
+pub use fetch::Fetch;
+pub use load::Load;
+pub use obj::Obj;
+pub use tag::{Tag, UnknownTag};
+pub use tftp::Tftp;

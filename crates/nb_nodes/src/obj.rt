@@ -1,0 +1,108 @@
+ghost use Rattle.std.specs.Prelude.{◌≡◌, [], IfOk};
+ghost use Rattle.nb_nodes.specs.Objects.{kind_of_obj, rank_of_obj};
+ghost use Rattle.nb_nodes.specs.Standing.{ObjStands, ObjHarvests};
+
+use crate::{Fetch, Load, Tftp};
+use nb_graph::{Fx, Msg, Node};
+use nb_terms::{Cause, NoMemory};
+use std::alloc::Global;
+
+/// An object of an open, as a node of the graph. A kind with much of its own is boxed.
+#[derive(Drop)]
+pub enum Obj {
+    Fetch(Fetch),
+    Tftp(Box<Tftp>),
+}
+
+impl Obj {
+    /// A Fetch of which nothing has come.
+    pub fn fetch(alloc: Global) -> Obj
+        ensures { ObjStands result [] }
+    {
+        Obj::Fetch(Fetch::new(alloc))
+    }
+
+    /// A Tftp that waits for what to ask for.
+    pub fn tftp(alloc: Global) -> Result<Obj, NoMemory>
+        ensures { IfOk result (λ o. ObjStands o []) }
+    {
+        Ok(Obj::Tftp(Box::new(alloc, Tftp::new(alloc)?)?))
+    }
+}
+
+impl Node for Obj {
+    type Load = Load;
+
+    ghost rank_of = { rank_of_obj };
+
+    ghost kind_of = { kind_of_obj };
+
+    ghost harvests = { ObjHarvests };
+
+    ghost stands = { ObjStands };
+
+    fn rank(&self) -> u8 {
+        match self {
+            Obj::Fetch(_) => 5,
+            Obj::Tftp(_) => 2,
+        }
+    }
+
+    fn kind(&self) -> u8 {
+        match self {
+            Obj::Fetch(_) => 1,
+            Obj::Tftp(_) => 4,
+        }
+    }
+
+    fn on_up(
+        &mut self,
+        slot: u8,
+        msg: &Msg<'_>,
+        now: u64,
+        fx: &mut Fx<Obj, Load>,
+    ) -> Result<(), NoMemory> {
+        match self {
+            Obj::Fetch(fetch) => fetch.on_up(slot, msg, fx),
+            Obj::Tftp(tftp) => tftp.on_up(slot, msg, now, fx),
+        }
+    }
+
+    fn on_down(&mut self, msg: &Msg<'_>, now: u64, fx: &mut Fx<Obj, Load>) -> Result<(), NoMemory> {
+        match self {
+            Obj::Fetch(fetch) => {
+                fetch.on_down(msg, fx);
+                Ok(())
+            }
+            Obj::Tftp(tftp) => tftp.on_down(msg, now, fx),
+        }
+    }
+
+    fn on_close(&mut self, slot: u8, cause: &Cause, _now: u64, fx: &mut Fx<Obj, Load>) {
+        match self {
+            Obj::Fetch(fetch) => fetch.on_close(slot, cause, fx),
+            Obj::Tftp(tftp) => tftp.on_close(slot, cause, fx),
+        }
+    }
+
+    fn on_time(&mut self, now: u64, fx: &mut Fx<Obj, Load>) -> Result<(), NoMemory> {
+        match self {
+            Obj::Fetch(_) => Ok(()),
+            Obj::Tftp(tftp) => tftp.on_time(now, fx),
+        }
+    }
+
+    fn regain(&mut self, load: Load) {
+        match self {
+            Obj::Fetch(_) => {}
+            Obj::Tftp(tftp) => tftp.regain(load),
+        }
+    }
+
+    fn harvest(&mut self) -> Option<Load> {
+        match self {
+            Obj::Fetch(fetch) => fetch.harvest(),
+            Obj::Tftp(_) => None,
+        }
+    }
+}

@@ -1,0 +1,12 @@
+use Rattle.std.proofs.Common.{arith}
+use Rattle.nb_ether.specs.Frame.{frame_of}
+use Rattle.nb_ipv4.specs.PacketText.{packet_parts}
+use Rattle.nb_stack.proofs.ReadingLaws.{only_packet}
+use Rattle.nb_stack.proofs.reading.carried_in.Goals as goal
+
+pub returns-in_default : goal.returns-in_default
+returns-in_default c =
+    only_packet _ (frame_of c.args.frame) (packet_parts c.args.packet) c.requires.kind c.requires.packet
+    (λ proto _ _ _. absurd (omega (arith, proto)))
+    (λ proto _ _ _. absurd (omega (arith, proto)))
+    (λ proto _ _ _. absurd (omega (arith, proto)))

@@ -1,0 +1,11 @@
+pub mod Arriving
+pub mod Numbers
+pub mod Messages
+pub mod Replies
+pub mod Receiving
+pub mod SegmentSteps
+pub mod ConnHistory
+pub mod ConnPromises
+pub mod ConnStanding
+pub mod OtherSteps
+pub mod MayBeSent
