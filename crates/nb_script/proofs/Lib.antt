@@ -11,3 +11,5 @@ pub mod KindLemmas
 pub mod ItemLemmas
 pub mod ScriptLemmas
 pub mod ReadLemmas
+pub mod LabelLemmas
+pub mod KeyLemmas

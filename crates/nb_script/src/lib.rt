@@ -10,6 +10,7 @@ mod item;
 mod join;
 mod joined;
 mod kind;
+mod labels;
 mod line;
 mod plain;
 #[cfg(test)]

@@ -10,6 +10,7 @@ use crate::ScriptError;
 use crate::item::{Item, cut_items, has_few_words};
 use crate::joined::{JoinedLines, join_lines};
 use crate::kind::{ScriptLine, line_of};
+use crate::labels::{Labels, labels_of};
 use crate::line::begins_script;
 use nb_wire::Text;
 use std::alloc::Global;
@@ -23,6 +24,7 @@ const MAX_SCRIPT: usize = 1_048_576;
 #[derive(Drop)]
 pub struct Script {
     lines: JoinedLines,
+    labels: Labels,
 }
 
 impl Model for Script {
@@ -30,13 +32,15 @@ impl Model for Script {
     ghost use Rattle.std.specs.List.{list_all};
     ghost use Rattle.nb_defs.specs.ScriptText.{is_short_line};
     ghost use Rattle.nb_defs.specs.ScriptLines.{Line, script_line};
+    ghost use Rattle.nb_script.specs.Labels.{FindsLabels};
 
     ghost Value = { List Line };
 
     ghost view = { λ s. map script_line s.lines.lines };
 
     ghost invariant = { λ s. (list_all is_short_line s.lines.lines ≡ true)
-        × (length s.lines.lines ≤ 1048576) };
+        × (length s.lines.lines ≤ 1048576)
+        × FindsLabels s.labels (map script_line s.lines.lines) };
 }
 
 impl Script {
@@ -62,7 +66,8 @@ impl Script {
         if !lines.are_short() {
             return Err(ScriptError::LineTooLong);
         }
-        Ok(Script { lines })
+        let labels = labels_of(alloc, &lines)?;
+        Ok(Script { lines, labels })
     }
 
     /// How many lines it has, the first line included.
@@ -88,22 +93,7 @@ impl Script {
     pub fn label(&self, name: &[u8]) -> Option<usize>
         ensures { result ≡ label_place name.now self.now }
     {
-        for i in 0..self.len() {
-            if self.is_label(i, name) {
-                return Some(i);
-            }
-        }
-        None
-    }
-
-    /// Whether line `i` is the label of this name.
-    fn is_label(&self, i: usize, name: &[u8]) -> bool
-        ensures { result ≡ is_label_at name.now (slice_get self.now i) }
-    {
-        match self.line(i) {
-            Some(ScriptLine::Label(label)) => label == name,
-            _ => false,
-        }
+        self.labels.find(name)
     }
 
     /// The commands of a list, its comment dropped. TooManyWords where it has more than 64 words or more
