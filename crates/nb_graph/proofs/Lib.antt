@@ -18,6 +18,7 @@ pub mod NodeLemmas
 pub mod HostLemmas
 pub mod LivesLemmas
 pub mod SeatLemmas
+pub mod HarvestLemmas
 pub mod OwingLemmas
 pub mod EntryLemmas
 pub mod AliveLemmas

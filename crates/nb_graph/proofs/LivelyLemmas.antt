@@ -207,13 +207,6 @@ slice_get-set (x ∷ xs) (suc i) v h = slice_get-set xs i v (omega arith)
 pub some_inj : {A : Type 0} {a b : A} → Some a ≡ Some b → a ≡ b
 some_inj {A} {a} {b} h = cc
 
--- what a node gave, at its place
-pub Harvests-set : {N L : Type 0} (gives : N → Option L → N → Type 0) (nodes : List N) (i : ℕ) (d e : N) (r : Option L) → i < length nodes → d ≡ get_or nodes i d → gives d r e → (n m : N) → slice_get nodes i ≡ Some n → slice_get (set nodes i e) i ≡ Some m → gives n r m
-Harvests-set gives nodes i d e r lt v p n m a b =
-    let x : d ≡ n = some_inj (ap Some v ∙ sym (slice_get-at nodes i d lt) ∙ a) in
-    let y : e ≡ m = some_inj (sym (slice_get-set nodes i e lt) ∙ b) in
-    subst (λ z. gives z r m) x (subst (λ z. gives d r z) y p)
-
 -- nothing stands past the end
 pub slice_get-past : {A : Type 0} (xs : List A) (i : ℕ) → length xs ≤ i → slice_get xs i ≡ None
 slice_get-past [] i h = refl

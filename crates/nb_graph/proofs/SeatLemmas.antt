@@ -27,7 +27,7 @@ no_object : Object
 no_object = record { id = record { 0 = 0 }; rank = 0; busy = false; holds = 0; ports = [] }
 
 -- two objects stand at two places
-place-apart : (l : Ledger) (x y : ℕ) → object_lives l y ≡ true → x ≢ y → place l x ≢ place l y
+pub place-apart : (l : Ledger) (x y : ℕ) → object_lives l y ≡ true → x ≢ y → place l x ≢ place l y
 place-apart l x y v n = λ e.
     let h = live-stands l y v in
     let a = serial-place l.objects y no_object h in
@@ -39,7 +39,7 @@ pub dead-past : (l : Ledger) (x : ℕ) → object_lives l x ≡ false → length
 unfolding object_lives
 dead-past l x h = ltb-false _ _ (live_place l.objects x ∙ h)
 
-slice_get-set_other : {A : Type 0} (xs : List A) (i j : ℕ) (v : A) → j ≢ i → slice_get (set xs i v) j ≡ slice_get xs j
+pub slice_get-set_other : {A : Type 0} (xs : List A) (i j : ℕ) (v : A) → j ≢ i → slice_get (set xs i v) j ≡ slice_get xs j
 slice_get-set_other [] i j v n = refl
 slice_get-set_other (x ∷ xs) zero zero v n = absurd (n refl)
 slice_get-set_other (x ∷ xs) zero (suc j) v n = refl

@@ -1,13 +1,13 @@
 -- What is true of a graph's book and nodes between events.
-use Rattle.nb_ledger.specs.Flat.{Notice}
+use Rattle.nb_ledger.specs.Flat.{Notice, Given, Tells, event, flat}
 use Rattle.std.specs.Prelude.{◌≡◌, ℕ, ◌+◌, ◌<◌, ◌≤◌, List, [], ◌∷◌, map, true, false, Option, None, Some, length, slice_get}
 use Rattle.nb_ledger.specs.declared.event.GraphEvent.{GraphEvent}
+use Rattle.nb_ledger.specs.declared.event.GraphEvent.TheVariants.{Dropped}
 use Rattle.nb_ledger.specs.declared.port.ObjId.{ObjId}
 use Rattle.nb_ledger.specs.declared.port.Port.{Port}
 use Rattle.nb_ledger.specs.declared.port.PortState.{PortState}
 use Rattle.nb_ledger.specs.declared.port.PortState.TheVariants.{Linked}
 use Rattle.nb_ledger.specs.GraphRun.{GraphRunOf}
-use Rattle.nb_ledger.specs.Flat.{Tells}
 use Rattle.nb_ledger.specs.Ledger.{Ledger, object_lives, rank, ranks, port, place, busy, leaves, unused, run_state}
 
 -- a port by its object's serial and its slot
@@ -83,10 +83,17 @@ node_of g id = slice_get g.nodes (place g.book id.0)
 abbrev pub node_at : {N : Type 0} → Objects N → ℕ → Option N
 node_at g x = slice_get g.nodes (place g.book x)
 
--- nothing changed, and no event was given
-pub record StaysSame {N : Type 0} (old new : Objects N) (before after : Option (List Notice)) : Type 0 where
+-- Nothing changed: not the objects, and not the outside, whether it tells what it is given or has stopped. It was
+-- given nothing, neither an event nor a message.
+pub record StaysSame {N O : Type 0} (notices : O → Option (List Notice)) (old new : Objects N) (before after : O) : Type 0 where
   pub objects : new ≡ old
-  pub told : Tells before after []
+  pub outside : after ≡ before
+  pub told : Given (notices before) (notices after) []
+
+-- no object changed, and the outside was given that a message was dropped at p, and nothing else
+pub record OnlyDrops {N : Type 0} (p : Port) (old new : Objects N) (before after : Option (List Notice)) : Type 0 where
+  pub objects : new ≡ old
+  pub told : Given before after (event (flat (Dropped p)) ∷ [])
 
 -- id is the next serial, of a live object with this node and rank
 pub record IsMade {N : Type 0} (old new : Objects N) (node : N) (r : ℕ) (id : ObjId) : Type 0 where
@@ -104,6 +111,10 @@ pub record Ages (old new : Ledger) : Type 0 where
 abbrev pub KeepsRanks : Ledger → Ledger → Type 0
 KeepsRanks old new = (x : ℕ) → object_lives old x ≡ true → object_lives new x ≡ true → rank new x ≡ rank old x
 
--- r is what the node of a live object gave, which left the node that it has now
-abbrev pub Harvests : {N L : Type 0} → (N → Option L → N → Type 0) → Objects N → Objects N → ObjId → Option L → Type 0
-Harvests {N} {L} gives old new id r = (n m : N) → node_of old id ≡ Some n → node_of new id ≡ Some m → gives n r m
+-- the object had a node, which gave r and left the node that the object has now
+pub record Harvests {N L : Type 0} (gives : N → Option L → N → Type 0) (old new : Objects N) (id : ObjId) (r : Option L) : Type 0 where
+  pub before : N
+  pub after : N
+  pub had : node_of old id ≡ Some before
+  pub has : node_of new id ≡ Some after
+  pub gave : gives before r after

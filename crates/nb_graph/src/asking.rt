@@ -1,6 +1,6 @@
 // A node is called.
 ghost use Rattle.std.specs.Prelude.{◌≡◌, ◌+◌, ◌<◌, ◌++◌, ◌∷◌, true, length, Some, None, [], List};
-ghost use Rattle.std.specs.Prelude.{◌-◌, Option};
+ghost use Rattle.std.specs.Prelude.{◌-◌, ◌≢◌, ℕ, Option};
 ghost use Rattle.std.specs.Vec.{vec_capacity};
 ghost use Rattle.nb_ledger.specs.GraphRun.{IsOpen};
 ghost use Rattle.nb_ledger.specs.Ledger.{port, object_lives, rank};
@@ -15,7 +15,7 @@ ghost use Rattle.nb_graph.specs.Lived.{KeepsTraces};
 ghost use Rattle.nb_ledger.specs.declared.event.Way.TheVariants.{Close, Down, Time, Up};
 ghost use Rattle.nb_ledger.specs.Flat.{Notice};
 ghost use Rattle.nb_graph.specs.Moves.{Asks, Calms};
-ghost use Rattle.nb_graph.specs.Lives.{Lends, LendsFirst, StaysTraced, nodes_at};
+ghost use Rattle.nb_graph.specs.Lives.{Lends, LendsFirst, StaysTraced, nodes_at, seat};
 
 use crate::inner::Inner;
 use crate::{Fx, Node};
@@ -181,6 +181,8 @@ impl<N: Node> Inner<N> {
               self.old.nodes.items;
         })
             (record { book = self.new.book; nodes = self.new.nodes.items }) id result }
+        ensures others { (x : ℕ) → x ≢ id.0 → seat self.new.book self.new.nodes.items x ≡ seat
+            self.old.book self.old.nodes.items x }
         ensures keeps { KeepsTraces N.stands (record {
           book = self.old.book;
           nodes =

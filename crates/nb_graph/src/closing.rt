@@ -50,7 +50,7 @@ impl<N: Node> Inner<N> {
             → ClosesOnce self.old.book self.new.book (O.events out.old) (O.events out.new) at
             cause.now }
         ensures stays { open_count (port self.old.book at.obj.0 at.slot) ≡ 0
-            → (self.new ≡ self.old) × (O.events out.new ≡ O.events out.old) }
+            → (self.new ≡ self.old) × (out.new ≡ out.old) }
         ensures steady { IsSteady N.rank_of self.new.book self.new.nodes.items
             (vec_capacity self.new.nodes) }
     {

@@ -13,7 +13,8 @@ ghost use Rattle.nb_graph.specs.Trace.{said, nature};
 ghost use Rattle.nb_graph.specs.Deeds.{Closes, Ends, LetsAllGo, MustMake, MustPlug, Offers, Ticks, Wants};
 ghost use Rattle.nb_graph.specs.Lived.{KeepsTraces};
 ghost use Rattle.nb_graph.specs.Order.{ClosesOne, EndsInOrder, LetsOneGo};
-ghost use Rattle.nb_graph.specs.Whole.{Harvests, IsMade, KeepsRanks, node_of, StaysSame};
+ghost use Rattle.nb_graph.specs.Whole.{Harvests, IsMade, KeepsRanks, OnlyDrops, node_at, node_of};
+ghost use Rattle.nb_graph.specs.Whole.{StaysSame};
 
 use crate::Node;
 use crate::inner::Inner;
@@ -77,8 +78,8 @@ impl<N: Node> Graph<N> {
         requires { N.stands node [] }
         ensures full { IsErr result ↔ ((length self.old.book.objects ≡ self.old.book.room) ⊎
             (self.old.book.made ≡ 2 ^ 64 - 1)) }
-        ensures back { IfErr result (λ n. (n ≡ node) × StaysSame self.old self.new (O.events out.old)
-            (O.events out.new)) }
+        ensures back { IfErr result (λ n. (n ≡ node) × StaysSame O.events self.old self.new
+            out.old out.new) }
         ensures made { IfOk result (IsMade self.old self.new node (N.rank_of node)) }
         ensures ranks { KeepsRanks self.old.book self.new.book }
         ensures went { IfOk result (λ id. (now : ℕ) → WentOne N.stands
@@ -106,8 +107,7 @@ impl<N: Node> Graph<N> {
             (port self.old.book lower.obj.0 0 ≢ state.Open)) }
         // Only those two are named.
         ensures named { IfErr result (λ e. (e.port ≡ upper) ⊎ (e.port ≡ lower)) }
-        ensures refused { OnErr result (StaysSame self.old self.new (O.events out.old)
-            (O.events out.new)) }
+        ensures refused { OnErr result (StaysSame O.events self.old self.new out.old out.new) }
         ensures ranks { KeepsRanks self.old.book self.new.book }
         ensures went { OnOk result ((now : ℕ) → WentOne N.stands
             (nature N.kind_of N.Load.first N.Load.second)
@@ -134,8 +134,7 @@ impl<N: Node> Graph<N> {
             (nature N.kind_of N.Load.first N.Load.second)
             now (Wants (Held id) ∷ []) self.old self.new (O.events out.old) (O.events out.new)) }
         ensures nodes { self.new.nodes ≡ self.old.nodes }
-        ensures not { OnFalse result (StaysSame self.old self.new (O.events out.old)
-            (O.events out.new)) }
+        ensures not { OnFalse result (StaysSame O.events self.old self.new out.old out.new) }
     {
         if self.inner.book.is_live(id) && self.inner.book.holds(id) < u32::MAX {
             self.inner.book.hold(id, out);
@@ -155,8 +154,7 @@ impl<N: Node> Graph<N> {
             now (Wants (LetGo id) ∷ []) self.old self.new (O.events out.old) (O.events out.new)) }
         ensures one { OnTrue result (LetsOneGo id self.old.book self.new.book (O.events out.old)
             (O.events out.new)) }
-        ensures not { OnFalse result (StaysSame self.old self.new (O.events out.old)
-            (O.events out.new)) }
+        ensures not { OnFalse result (StaysSame O.events self.old self.new out.old out.new) }
     {
         if self.inner.book.is_live(id) && self.inner.book.holds(id) > 0 {
             self.inner.let_go(id, out);
@@ -199,8 +197,8 @@ impl<N: Node> Graph<N> {
             → ClosesOne cause.now at self.old.book self.new.book (O.events out.old)
             (O.events out.new) }
         ensures shut { open_count (port self.new.book at.obj.0 at.slot) ≡ 0 }
-        ensures not { open_count (port self.old.book at.obj.0 at.slot) ≡ 0 → StaysSame self.old
-            self.new (O.events out.old) (O.events out.new) }
+        ensures not { open_count (port self.old.book at.obj.0 at.slot) ≡ 0 → StaysSame O.events
+            self.old self.new out.old out.new }
     {
         self.inner.close_port(at, cause, now, out);
     }
@@ -210,6 +208,8 @@ impl<N: Node> Graph<N> {
     pub fn down<O: Outside>(&mut self, to: Port, msg: &Msg<'_>, now: u64, out: &mut O) -> Reach
         requires { to.slot ≡ 0 }
         ensures dropped { (result ≡ reach.Dropped) ↔ (port self.old.book to.obj.0 0 ≢ state.Open) }
+        ensures not { result ≡ reach.Dropped → OnlyDrops to self.old self.new (O.events out.old)
+            (O.events out.new) }
         ensures ranks { KeepsRanks self.old.book self.new.book }
         ensures went { WentOne N.stands (nature N.kind_of N.Load.first N.Load.second)
             now (Offers to (said msg.now) ∷ []) self.old self.new (O.events out.old)
@@ -231,6 +231,8 @@ impl<N: Node> Graph<N> {
         requires { (1 ≤ to.slot) × (to.slot ≤ 3) }
         ensures dropped { (result ≡ reach.Dropped) ↔ (port self.old.book to.obj.0 to.slot ≢
             state.Open) }
+        ensures not { result ≡ reach.Dropped → OnlyDrops to self.old self.new (O.events out.old)
+            (O.events out.new) }
         ensures went { WentOne N.stands (nature N.kind_of N.Load.first N.Load.second)
             now (Offers to (said msg.now) ∷ []) self.old self.new (O.events out.old)
             (O.events out.new) }
@@ -252,8 +254,8 @@ impl<N: Node> Graph<N> {
         ensures dropped { (result ≡ reach.Dropped) ↔ (object_lives self.old.book id.0 ≡ false) }
         ensures went { WentOne N.stands (nature N.kind_of N.Load.first N.Load.second)
             now (Ticks id.0 ∷ []) self.old self.new (O.events out.old) (O.events out.new) }
-        ensures not { result ≡ reach.Dropped → StaysSame self.old self.new (O.events out.old)
-            (O.events out.new) }
+        ensures not { result ≡ reach.Dropped → StaysSame O.events self.old self.new out.old
+            out.new }
     {
         if self.inner.book.is_live(id) {
             self.inner.enter_time(id, now, out);
@@ -263,12 +265,15 @@ impl<N: Node> Graph<N> {
         }
     }
 
-    /// What the node of a live object has to hand out.
+    /// What the node of a live object has to hand out. Nothing else changes.
     pub fn harvest(&mut self, id: ObjId) -> Option<N::Load>
         ensures dead { object_lives self.old.book id.0 ≡ false → IsNone result }
+        ensures not { object_lives self.old.book id.0 ≡ false → self.new ≡ self.old }
         ensures gives { object_lives self.old.book id.0 ≡ true → Harvests N.harvests self.old self.new id
             result }
+        ensures others { (x : ℕ) → x ≢ id.0 → node_at self.new x ≡ node_at self.old x }
         ensures keeps { KeepsTraces N.stands self.old self.new }
+        // Every life, hold, rank, port and link.
         ensures book { self.new.book ≡ self.old.book }
     {
         if self.inner.book.is_live(id) {

@@ -243,10 +243,10 @@ close_all-returns-clause-order g t c = λ q n d ps k.
     let q1 = IsQuiet-shrinks a.lives.calm.shrinks q in
     let q2 = IsQuiet-shrinks b.lives.calm.shrinks q1 in
     let q3 = IsQuiet-shrinks e.lives.calm.shrinks q2 in
-    let k3 = order-port c.args.cause.now (record { obj = x; slot = 3 }) _ _ n _ _ d q3 f.starts (λ h. let i = f.stays h in (ap (λ v. v.book) i.0, i.1)) ps (order-object c.args.cause.now x.0 _ n _ d ps k) in
-    let k2 = order-port c.args.cause.now (record { obj = x; slot = 2 }) _ _ n _ _ d q2 e.starts (λ h. let i = e.stays h in (ap (λ v. v.book) i.0, i.1)) k3.0 k3.1 in
-    let k1 = order-port c.args.cause.now (record { obj = x; slot = 1 }) _ _ n _ _ d q1 b.starts (λ h. let i = b.stays h in (ap (λ v. v.book) i.0, i.1)) k2.0 k2.1 in
-    order-port c.args.cause.now (record { obj = x; slot = 0 }) _ _ n _ _ d q a.starts (λ h. let i = a.stays h in (ap (λ v. v.book) i.0, i.1)) k1.0 k1.1
+    let k3 = order-port c.args.cause.now (record { obj = x; slot = 3 }) _ _ n _ _ d q3 f.starts (λ h. let i = f.stays h in (ap (λ v. v.book) i.0, ap g.O.Outside.events i.1)) ps (order-object c.args.cause.now x.0 _ n _ d ps k) in
+    let k2 = order-port c.args.cause.now (record { obj = x; slot = 2 }) _ _ n _ _ d q2 e.starts (λ h. let i = e.stays h in (ap (λ v. v.book) i.0, ap g.O.Outside.events i.1)) k3.0 k3.1 in
+    let k1 = order-port c.args.cause.now (record { obj = x; slot = 1 }) _ _ n _ _ d q1 b.starts (λ h. let i = b.stays h in (ap (λ v. v.book) i.0, ap g.O.Outside.events i.1)) k2.0 k2.1 in
+    order-port c.args.cause.now (record { obj = x; slot = 0 }) _ _ n _ _ d q a.starts (λ h. let i = a.stays h in (ap (λ v. v.book) i.0, ap g.O.Outside.events i.1)) k1.0 k1.1
 
 pub enter_down-returns-clause-starts : goal.enter_down-returns-clause-starts
 enter_down-returns-clause-starts g t c =
