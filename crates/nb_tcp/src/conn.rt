@@ -1,6 +1,6 @@
 //! The connection.
 
-ghost use Rattle.std.specs.Prelude.{◌≡◌, ℕ, ◌+◌, ◌<◌, ◌≤◌, ◌^◌, ◌↔◌, List, [], ◌∷◌, ◌++◌, length, IfOk, IfSome, IsNone, IsOk, OnOk, OnErr, IfErr, Ok, Err, true, false};
+ghost use Rattle.std.specs.Prelude.{◌≡◌, ℕ, ◌+◌, ◌<◌, ◌≤◌, ◌^◌, ◌↔◌, List, [], ◌∷◌, ◌++◌, length, IfOk, IfSome, IsNone, IsOk, OnOk, OnErr, IfErr, Ok, Err, MatchBool, true, false};
 ghost use Rattle.nb_reasm.specs.HeldWindows.{window};
 ghost use Rattle.nb_streams.specs.Streams.{has_ended};
 ghost use Rattle.nb_streams.specs.Flows.{conn_phase, held_after, segment_came, time_came, text_came};
@@ -163,6 +163,16 @@ impl Conn {
         ensures delivered { HasDelivered self.new }
     {
         self.held = Some(passed_over(held));
+    }
+
+    /// The next segment may come: nothing is lent, and all that waited was delivered.
+    pub fn has_delivered(&self) -> bool
+        ensures { MatchBool result (HasDelivered self.now) (HasDelivered self.now → ⊥) }
+    {
+        match &self.held {
+            Some(held) => held.base() == held.next(),
+            None => false,
+        }
     }
 
     /// The peer's FIN has come, and all before it.

@@ -36,7 +36,22 @@ fn from_peer(seq: u32, ack: u32, flags: u8, body: &[u8]) -> Segment<'_> {
 
 /// Data at a place of the peer's stream, which acknowledges our SYN alone.
 fn data(place: u32, body: &[u8]) -> Segment<'_> {
-    from_peer(IRS + 1 + place, ISN + 1, PSH + ACK, body)
+    from_peer((IRS + 1).wrapping_add(place), ISN + 1, PSH + ACK, body)
+}
+
+/// A segment comes, where what waited was delivered and an IPv4 packet can carry it.
+fn give_segment(
+    conn: &mut Conn,
+    rec: u32,
+    segment: &Segment<'_>,
+    now: u64,
+    acts: &mut Acts,
+) -> Result<(), Fail> {
+    if !conn.has_delivered() || segment.body.len() >= 65_536 {
+        return Err(Fail::new("the segment may not come yet"));
+    }
+    conn.segment(rec, segment, now, acts);
+    Ok(())
 }
 
 fn asking(alloc: Global, isn: u32, acts: &mut Acts) -> Result<Conn, Fail> {
@@ -48,7 +63,7 @@ fn established(alloc: Global, isn: u32, irs: u32, acts: &mut Acts) -> Result<Con
     let mut conn = asking(alloc, isn, acts)?;
     let mut answer = from_peer(irs, isn.wrapping_add(1), SYN + ACK, b"");
     answer.mss = Some(1460);
-    conn.segment(1, &answer, 0, acts);
+    give_segment(&mut conn, 1, &answer, 0, acts)?;
     Ok(conn)
 }
 
@@ -100,7 +115,10 @@ fn as_sent(send: &SendTo) -> Option<Sent<'_>> {
         ack: u32::from_be_bytes([a0, a1, a2, a3]),
         flags,
         window: u16::from_be_bytes([w0, w1]),
-        body: send.body.as_slice().get(usize::from(offset / 16) * 4..)?,
+        body: send
+            .body
+            .as_slice()
+            .get(usize::from(offset / 16).wrapping_mul(4)..)?,
     })
 }
 
@@ -133,7 +151,7 @@ fn one(
 
 /// An acknowledgement up to a place of the peer's stream, where nothing was sent but the SYN.
 fn ack_to(place: u32) -> (Option<Sent<'static>>, Option<Sent<'static>>) {
-    one(ISN + 1, IRS + 1 + place, ACK, 65_535)
+    one(ISN + 1, (IRS + 1).wrapping_add(place), ACK, 65_535)
 }
 
 fn cause(code: u8, a: u32, b: u32) -> Option<Cause> {

@@ -1,7 +1,8 @@
 //! What comes from the peer: out of order, going round, to its end and past it.
 
 use crate::tests::{
-    IRS, ISN, Sent, ack_to, all_sent, cause, data, delivered, established, from_peer, one,
+    IRS, ISN, Sent, ack_to, all_sent, cause, data, delivered, established, from_peer, give_segment,
+    one,
 };
 use nb_tcpseg::{ACK, FIN, PSH};
 use nb_terms::Acts;
@@ -14,14 +15,14 @@ fn out_of_order(rt: HostRuntime) -> Result<(), Fail> {
     let mut acts = Acts::none();
     let mut conn = established(rt.alloc(), ISN, IRS, &mut acts)?;
     assert_eq!(rt; all_sent(&acts), ack_to(0));
-    conn.segment(2, &data(600, &[6; 400]), 0, &mut acts);
+    give_segment(&mut conn, 2, &data(600, &[6; 400]), 0, &mut acts)?;
     assert_eq!(rt; all_sent(&acts), ack_to(0));
     assert!(rt; acts.advance == None && !acts.ready);
-    conn.segment(3, &data(0, &[1; 300]), 0, &mut acts);
+    give_segment(&mut conn, 3, &data(0, &[1; 300]), 0, &mut acts)?;
     assert_eq!(rt; all_sent(&acts), ack_to(300));
     assert!(rt; acts.advance == Some(300) && acts.ready);
     assert!(rt; delivered(&mut conn, acts.advance).as_slice() == [1; 300].as_slice());
-    conn.segment(4, &data(250, &[9; 450]), 0, &mut acts);
+    give_segment(&mut conn, 4, &data(250, &[9; 450]), 0, &mut acts)?;
     assert_eq!(rt; all_sent(&acts), ack_to(1000));
     assert_eq!(rt; acts.advance, Some(1000));
     let rest = delivered(&mut conn, acts.advance);
@@ -41,14 +42,21 @@ fn out_of_order(rt: HostRuntime) -> Result<(), Fail> {
 fn numbers_go_round(rt: HostRuntime) -> Result<(), Fail> {
     let mut acts = Acts::none();
     let mut conn = established(rt.alloc(), 0xffff_fffc, 0xffff_fffd, &mut acts)?;
-    conn.segment(2, &from_peer(0, 0xffff_fffd, ACK, b"cde"), 0, &mut acts);
+    give_segment(
+        &mut conn,
+        2,
+        &from_peer(0, 0xffff_fffd, ACK, b"cde"),
+        0,
+        &mut acts,
+    )?;
     assert_eq!(rt; acts.advance, None);
-    conn.segment(
+    give_segment(
+        &mut conn,
         3,
         &from_peer(0xffff_fffe, 0xffff_fffd, ACK, b"abX"),
         0,
         &mut acts,
-    );
+    )?;
     assert_eq!(rt; acts.advance, Some(5));
     assert_eq!(rt; all_sent(&acts), one(0xffff_fffd, 3, ACK, 65_535));
     assert!(rt; delivered(&mut conn, acts.advance).as_slice() == b"abcde".as_slice());
@@ -61,7 +69,7 @@ fn numbers_go_round(rt: HostRuntime) -> Result<(), Fail> {
         body: b"GET / x",
     };
     assert_eq!(rt; all_sent(&acts), (Some(text), None));
-    conn.segment(4, &from_peer(3, 2, ACK, b""), 0, &mut acts);
+    give_segment(&mut conn, 4, &from_peer(3, 2, ACK, b""), 0, &mut acts)?;
     let rest = Sent {
         seq: 2,
         ack: 3,
@@ -79,15 +87,16 @@ fn numbers_go_round(rt: HostRuntime) -> Result<(), Fail> {
 fn half_closed(rt: HostRuntime) -> Result<(), Fail> {
     let mut acts = Acts::none();
     let mut conn = established(rt.alloc(), ISN, IRS, &mut acts)?;
-    conn.segment(
+    give_segment(
+        &mut conn,
         2,
         &from_peer(IRS + 3, ISN + 1, FIN + ACK, b"cd"),
         0,
         &mut acts,
-    );
+    )?;
     assert_eq!(rt; all_sent(&acts), ack_to(0));
     assert!(rt; !conn.at_end());
-    conn.segment(3, &data(0, b"ab"), 0, &mut acts);
+    give_segment(&mut conn, 3, &data(0, b"ab"), 0, &mut acts)?;
     assert_eq!(rt; acts.advance, Some(4));
     assert_eq!(rt;
         all_sent(&acts),
@@ -96,12 +105,13 @@ fn half_closed(rt: HostRuntime) -> Result<(), Fail> {
     );
     assert!(rt; conn.at_end());
     assert!(rt; delivered(&mut conn, acts.advance).as_slice() == b"abcd".as_slice());
-    conn.segment(
+    give_segment(
+        &mut conn,
         4,
         &from_peer(IRS + 5, ISN + 1, ACK, b"after the end"),
         0,
         &mut acts,
-    );
+    )?;
     assert!(rt;
         acts.advance == None && !acts.ready,
         "bytes after the end are ignored"
@@ -128,19 +138,21 @@ fn half_closed(rt: HostRuntime) -> Result<(), Fail> {
 fn two_ends(rt: HostRuntime) -> Result<(), Fail> {
     let mut acts = Acts::none();
     let mut conn = established(rt.alloc(), ISN, IRS, &mut acts)?;
-    conn.segment(
+    give_segment(
+        &mut conn,
         2,
         &from_peer(IRS + 101, ISN + 1, FIN + ACK, b""),
         0,
         &mut acts,
-    );
+    )?;
     assert_eq!(rt; acts.over, None);
-    conn.segment(
+    give_segment(
+        &mut conn,
         3,
         &from_peer(IRS + 1, ISN + 1, FIN + ACK, &[7; 50]),
         0,
         &mut acts,
-    );
+    )?;
     assert_eq!(rt; acts.over, cause(3, 3, 0));
     assert_eq!(rt; all_sent(&acts), ack_to(50));
     assert!(rt; delivered(&mut conn, acts.advance).as_slice() == [7; 50].as_slice());
@@ -152,21 +164,22 @@ fn two_ends(rt: HostRuntime) -> Result<(), Fail> {
 fn bytes_past_the_end(rt: HostRuntime) -> Result<(), Fail> {
     let mut acts = Acts::none();
     let mut conn = established(rt.alloc(), ISN, IRS, &mut acts)?;
-    conn.segment(2, &data(2, b"cdefgh"), 0, &mut acts);
-    conn.segment(
+    give_segment(&mut conn, 2, &data(2, b"cdefgh"), 0, &mut acts)?;
+    give_segment(
+        &mut conn,
         3,
         &from_peer(IRS + 5, ISN + 1, FIN + ACK, b""),
         0,
         &mut acts,
-    );
+    )?;
     assert_eq!(rt; all_sent(&acts), ack_to(0));
-    conn.segment(4, &data(0, b"ab"), 0, &mut acts);
+    give_segment(&mut conn, 4, &data(0, b"ab"), 0, &mut acts)?;
     assert_eq!(rt; acts.advance, Some(4));
     let held = conn.lend().expect(&rt, "it waits");
     assert_eq!(rt; held.front().0.len(), 8);
     assert!(rt; conn.lend().is_none(), "it is lent once");
     conn.regain(held);
-    conn.segment(5, &data(8, b"ij"), 0, &mut acts);
+    give_segment(&mut conn, 5, &data(8, b"ij"), 0, &mut acts)?;
     assert!(rt; acts.advance == None && !acts.ready && conn.at_end());
     Ok(())
 }

@@ -1,7 +1,8 @@
 //! What is sent: the SYN, text, tries, probes and closes.
 
 use crate::tests::{
-    IRS, ISN, Sent, all_sent, asking, cause, data, delivered, established, from_peer, one,
+    IRS, ISN, Sent, all_sent, asking, cause, data, delivered, established, from_peer, give_segment,
+    one,
 };
 use nb_tcpseg::{ACK, PSH, RST, SYN};
 use nb_terms::Acts;
@@ -42,7 +43,7 @@ fn sends_what_the_peer_takes(rt: HostRuntime) -> Result<(), Fail> {
     );
     let mut answer = from_peer(IRS, ISN + 1, SYN + ACK, b"");
     answer.mss = Some(3);
-    conn.segment(1, &answer, 0, &mut acts);
+    give_segment(&mut conn, 1, &answer, 0, &mut acts)?;
     let text = |seq, body| Some(Sent {
         seq,
         ack: IRS + 1,
@@ -80,7 +81,7 @@ fn sends_what_the_peer_takes(rt: HostRuntime) -> Result<(), Fail> {
     ] {
         let mut segment = from_peer(IRS + 1, ack, ACK, b"");
         segment.window = window;
-        conn.segment(2, &segment, 0, &mut acts);
+        give_segment(&mut conn, 2, &segment, 0, &mut acts)?;
         assert_eq!(rt; all_sent(&acts).0, body, "where {what}");
         assert_eq!(rt;
             acts.tried,
@@ -97,7 +98,7 @@ fn tries_again_and_gives_up(rt: HostRuntime) -> Result<(), Fail> {
     let mut acts = Acts::none();
     let mut conn = established(rt.alloc(), ISN, IRS, &mut acts)?;
     conn.send(b"GET", 0, &mut acts)?;
-    conn.segment(2, &data(0, b"x"), 100, &mut acts);
+    give_segment(&mut conn, 2, &data(0, b"x"), 100, &mut acts)?;
     let _ = delivered(&mut conn, acts.advance);
     let text = Sent {
         seq: ISN + 1,
@@ -121,7 +122,7 @@ fn tries_again_and_gives_up(rt: HostRuntime) -> Result<(), Fail> {
     }
     conn.time(15_750, &mut acts);
     assert_eq!(rt; acts.over, cause(2, 6, 0));
-    conn.segment(3, &data(1, b"y"), 15_750, &mut acts);
+    give_segment(&mut conn, 3, &data(1, b"y"), 15_750, &mut acts)?;
     assert!(rt;
         all_sent(&acts) == (None, None) && acts.advance == None,
         "what has ended ignores a segment"
@@ -134,7 +135,7 @@ fn tries_again_and_gives_up(rt: HostRuntime) -> Result<(), Fail> {
 fn probes_a_quiet_connection(rt: HostRuntime) -> Result<(), Fail> {
     let mut acts = Acts::none();
     let mut conn = established(rt.alloc(), ISN, IRS, &mut acts)?;
-    conn.segment(2, &data(0, b"x"), 500, &mut acts);
+    give_segment(&mut conn, 2, &data(0, b"x"), 500, &mut acts)?;
     let _ = delivered(&mut conn, acts.advance);
     for (now, tried) in [
         (15_499, None),
@@ -167,7 +168,7 @@ fn closed_from_above(rt: HostRuntime) -> Result<(), Fail> {
     conn.time(300, &mut acts);
     assert_eq!(rt; all_sent(&acts), (None, None), "no try after a close");
     let mut conn = established(rt.alloc(), ISN, IRS, &mut acts)?;
-    conn.segment(2, &data(0, b"abc"), 0, &mut acts);
+    give_segment(&mut conn, 2, &data(0, b"abc"), 0, &mut acts)?;
     conn.shut(&mut acts);
     assert_eq!(rt; all_sent(&acts), one(ISN + 1, IRS + 4, RST + ACK, 0));
     assert!(rt; acts.ready, "what waits is lent after the end too");

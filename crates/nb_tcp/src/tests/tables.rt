@@ -1,7 +1,8 @@
 //! Single segments by tables (RFC 9293, section 3.10.7).
 
 use crate::tests::{
-    IRS, ISN, ack_to, all_sent, asking, cause, data, delivered, established, from_peer, one,
+    IRS, ISN, ack_to, all_sent, asking, cause, data, delivered, established, from_peer,
+    give_segment, one,
 };
 use nb_tcpseg::{ACK, FIN, PSH, RST, SYN};
 use nb_terms::Acts;
@@ -112,9 +113,9 @@ fn one_segment_to_an_established_connection(rt: HostRuntime) -> Result<(), Fail>
     ] {
         let mut acts = Acts::none();
         let mut conn = established(rt.alloc(), ISN, IRS, &mut acts)?;
-        conn.segment(6, &data(0, b"abc"), 0, &mut acts);
+        give_segment(&mut conn, 6, &data(0, b"abc"), 0, &mut acts)?;
         let _ = delivered(&mut conn, acts.advance);
-        conn.segment(7, &segment, 0, &mut acts);
+        give_segment(&mut conn, 7, &segment, 0, &mut acts)?;
         assert_eq!(rt; all_sent(&acts), answer, "the answer to {what}");
         assert_eq!(rt; acts.over, over, "the end at {what}");
         assert_eq!(rt; acts.advance, None, "the place after {what}");
@@ -172,7 +173,7 @@ fn one_answer_to_the_syn(rt: HostRuntime) -> Result<(), Fail> {
     ] {
         let mut acts = Acts::none();
         let mut conn = asking(rt.alloc(), ISN, &mut acts)?;
-        conn.segment(3, &segment, 0, &mut acts);
+        give_segment(&mut conn, 3, &segment, 0, &mut acts)?;
         assert_eq!(rt; all_sent(&acts), answer, "the answer to {what}");
         assert_eq!(rt; acts.over, over, "the end at {what}");
         assert_eq!(rt; acts.advance, None, "the place after {what}");
