@@ -13,6 +13,7 @@ use Rattle.nb_dhcp.specs.declared.asker.Asker.{Asker}
 use Rattle.nb_dhcp.specs.declared.offer.Offer.{Offer}
 use Rattle.nb_dhcp.specs.Replies.{offer_in}
 use Rattle.nb_dhcp.specs.History.{Handed, LeaseEntry, handed_by, all_handed, Offered, offered, is_verdict, verdict_after, granted_by, granted_after, is_done, watch_call, watch_since, lease_watch, AtEach}
+use Rattle.nb_dhcp.specs.Promises.{KeepsPlan, TriesInPlan}
 use Rattle.nb_dhcp.specs.LeaseStands.{IsPending}
 
 pub all_handed-append : (h : List LeaseEntry) (e : LeaseEntry) → all_handed (h ++ e ∷ []) ≡ all_handed h ++ handed_by e.call
@@ -33,6 +34,16 @@ pub AtEach-append : (P : List LeaseEntry → LeaseEntry → Type 0) (before es :
 AtEach-append P before [] e each last = (subst (λ (h : List LeaseEntry). P h e) (append-nil before) last, tt)
 AtEach-append P before (x ∷ es) e each last =
     (each.0, AtEach-append P (before ++ x ∷ []) es e each.1 (subst (λ (h : List LeaseEntry). P h e) (sym (append_assoc before (x ∷ []) es)) last))
+
+-- a fact of one entry, out of all of them
+pub AtEach-at : (P : List LeaseEntry → LeaseEntry → Type 0) (before h : List LeaseEntry) (e : LeaseEntry) (later : List LeaseEntry) → AtEach P before (h ++ e ∷ later) → P (before ++ h) e
+AtEach-at P before [] e later each = subst (λ (h : List LeaseEntry). P h e) (sym (append-nil before)) each.0
+AtEach-at P before (x ∷ h) e later each = subst (λ (g : List LeaseEntry). P g e) (append_assoc before (x ∷ []) h) (AtEach-at P (before ++ x ∷ []) h e later each.1)
+
+-- the tries of all entries
+pub plan_kept : (start : ℕ) (before es : List LeaseEntry) → KeepsPlan (lease_watch start before) → AtEach (TriesInPlan start) before es → KeepsPlan (lease_watch start (before ++ es))
+plan_kept start before [] keeps each = subst (λ (h : List LeaseEntry). KeepsPlan (lease_watch start h)) (sym (append-nil before)) keeps
+plan_kept start before (e ∷ es) keeps each = subst (λ (h : List LeaseEntry). KeepsPlan (lease_watch start h)) (append_assoc before (e ∷ []) es) (plan_kept start (before ++ e ∷ []) es each.0 each.1)
 
 abbrev offer_first : Option Offer → List Handed → Option Offered → Option Offered
 offer_first o ms later = option_map_or (λ offer. Some (record { offer = offer; after = ms })) o later

@@ -10,7 +10,7 @@ use Rattle.std.proofs.lemmas.Option.{none-some, same_Some}
 use Rattle.std.proofs.lemmas.Slice.Eq.{bytes_eq-Decides}
 use Rattle.nb_wire.specs.declared.address.Ip4.{Ip4}
 use Rattle.nb_dhcpmsg.specs.Options.{TagValue, joined}
-use Rattle.nb_dhcpmsg.specs.Messages.{MessageParts}
+use Rattle.nb_dhcpmsg.specs.Messages.{MessageParts, IsMessage}
 use Rattle.nb_dhcpmsg.specs.Fields.{message_in, message_options, address_in}
 use Rattle.nb_dhcpmsg.proofs.FieldLemmas.{either_way}
 use Rattle.nb_dhcpmsg.proofs.ReadingLemmas.{by_option, options_have, have_options, is_message, message_is}
@@ -32,7 +32,7 @@ reply_is a m h =
     let inner = both (m.op == 2) (m.xid == a.xid) outer.0 in
     record { op = eqb-true m.op 2 inner.0; xid = eqb-true m.xid a.xid inner.1; chaddr = (bytes_eq-Decides m.chaddr a.mac.0).0 outer.1 }
 
-is_reply : (a : Asker) (m : MessageParts) → AnswersAsker a m → is_reply_to a m ≡ true
+pub is_reply : (a : Asker) (m : MessageParts) → AnswersAsker a m → is_reply_to a m ≡ true
 is_reply a m r =
     ap (λ b. b && (m.xid == a.xid) && bytes_eq m.chaddr a.mac.0) (eq-eqb m.op 2 r.op)
     ∙ ap (λ b. b && bytes_eq m.chaddr a.mac.0) (eq-eqb m.xid a.xid r.xid)
@@ -52,7 +52,7 @@ named bytes n is = by_option (message_options bytes)
     })
     (λ short. absurd (none-some n (sym (ap (λ b. cond b (Some (from_be_bytes w32 (take 4 (joined 54 os)))) None) short) ∙ at))))
 
-is_named : (bytes : List ℕ) (server : Ip4) → NamesServer bytes server → server_in bytes ≡ Some server.0
+pub is_named : (bytes : List ℕ) (server : Ip4) → NamesServer bytes server → server_in bytes ≡ Some server.0
 is_named bytes server s =
     ap (option_and_then (λ (os : List TagValue). address_in (joined 54 os))) (have_options bytes s.options s.has_options)
     ∙ ap (λ b. cond b (Some (from_be_bytes w32 (take 4 (joined 54 s.options)))) None) (le-leb 4 (length (joined 54 s.options)) s.long)
@@ -78,7 +78,7 @@ offer_from_server a bytes m o read to is = by_option (server_in bytes)
       server = subst (λ (x : Offer). NamesServer bytes x.server) same (named bytes s some);
     })
 
-offer_is : (a : Asker) (bytes : List ℕ) (o : Offer) → offer_in a bytes ≡ Some o → IsOfferTo a o bytes
+pub offer_is : (a : Asker) (bytes : List ℕ) (o : Offer) → offer_in a bytes ≡ Some o → IsOfferTo a o bytes
 offer_is a bytes o is = by_option (message_in bytes)
     (λ none. absurd (none-some o (sym (no_offer a bytes none) ∙ is)))
     (λ m some.
@@ -87,16 +87,23 @@ offer_is a bytes o is = by_option (message_in bytes)
     (λ to. offer_from_server a bytes m o some to (sym (ap (λ b. cond b (offer_of m.yiaddr (server_in bytes)) None) to) ∙ read))
     (λ other. absurd (none-some o (sym (ap (λ b. cond b (offer_of m.yiaddr (server_in bytes)) None) other) ∙ read))))
 
--- where there is no valid offer by the function, there is none by the grammar
-no_offer_is : (a : Asker) (bytes : List ℕ) (o : Offer) → offer_in a bytes ≡ None → IsOfferTo a o bytes → ⊥
-no_offer_is a bytes o none is =
+with_address : Offer → ℕ → Offer
+with_address o n = record { server = o.server; address = record { 0 = n } }
+
+-- an offer by the grammar is one by the function
+pub offer_is_read : (a : Asker) (bytes : List ℕ) (o : Offer) → IsOfferTo a o bytes → offer_in a bytes ≡ Some o
+unfolding with_address
+offer_is_read a bytes o is =
     let m = is.message in
     let to : is_offer_to a m ≡ true =
     ap (λ b. b && (m.kind == 2) && not (m.yiaddr == 0)) (is_reply a m is.reply)
     ∙ ap (λ b. b && not (m.yiaddr == 0)) (eq-eqb m.kind 2 is.kind) ∙ ap not (ne_eqb m.yiaddr 0 is.some_address) in
-    let read : offer_in a bytes ≡ offer_of m.yiaddr (Some o.server.0) =
-    offer_read a bytes m (Some o.server.0) (message_is bytes m is.is_message) (is_named bytes o.server is.server) ∙ ap (λ b. cond b (offer_of m.yiaddr (Some o.server.0)) None) to in
-    none-some (record { server = record { 0 = o.server.0 }; address = record { 0 = m.yiaddr } }) (sym none ∙ read)
+    offer_read a bytes m (Some o.server.0) (message_is bytes m is.is_message) (is_named bytes o.server is.server) ∙ ap (λ b. cond b (offer_of m.yiaddr (Some o.server.0)) None) to
+    ∙ ap (λ n. Some (with_address o n)) is.address
+
+-- where there is no valid offer by the function, there is none by the grammar
+pub no_offer_is : (a : Asker) (bytes : List ℕ) (o : Offer) → offer_in a bytes ≡ None → IsOfferTo a o bytes → ⊥
+no_offer_is a bytes o none is = none-some o (sym none ∙ offer_is_read a bytes o is)
 
 its_server : (bytes : List ℕ) (server : Ip4) → is_its server (server_in bytes) ≡ true → NamesServer bytes server
 its_server bytes server is = by_option (server_in bytes)
@@ -105,23 +112,38 @@ its_server bytes server is = by_option (server_in bytes)
     let same : s ≡ server.0 = eqb-true s server.0 (sym (ap (is_its server) some) ∙ is) in
     subst (λ n. NamesServer bytes (record { 0 = n })) same (named bytes s some))
 
-ack_is : (a : Asker) (offer : Offer) (bytes : List ℕ) → acknowledges_for a offer.server bytes ≡ true → IsAckOf a offer bytes
-ack_is a offer bytes is = by_option (message_in bytes)
-    (λ none. absurd (false≢true (sym (ap (λ k. option_map_or (λ n. n == 5) k false) (no_kind_from a offer.server bytes none)) ∙ is)))
+-- a message for this client from this server
+pub record IsFrom (a : Asker) (server : Ip4) (bytes : List ℕ) (kind : ℕ) : Type 0 where
+  pub message : MessageParts
+  pub is_message : IsMessage bytes message
+  pub reply : AnswersAsker a message
+  pub is_kind : message.kind ≡ kind
+  pub named : NamesServer bytes server
+
+pub is_from : (a : Asker) (server : Ip4) (bytes : List ℕ) (kind : ℕ) → kind_from a server bytes ≡ Some kind → IsFrom a server bytes kind
+is_from a server bytes kind is = by_option (message_in bytes)
+    (λ none. absurd (none-some kind (sym (no_kind_from a server bytes none) ∙ is)))
     (λ m some.
-    let read : kind_from a offer.server bytes ≡ cond (is_reply_to a m && is_its offer.server (server_in bytes)) (Some m.kind) None = kind_read a offer.server bytes m (server_in bytes) some refl in
-    either_way (is_reply_to a m && is_its offer.server (server_in bytes))
+    let read : kind_from a server bytes ≡ cond (is_reply_to a m && is_its server (server_in bytes)) (Some m.kind) None = kind_read a server bytes m (server_in bytes) some refl in
+    either_way (is_reply_to a m && is_its server (server_in bytes))
     (λ yes.
-    let parts = both (is_reply_to a m) (is_its offer.server (server_in bytes)) yes in
-    let kind : kind_from a offer.server bytes ≡ Some m.kind = read ∙ ap (λ b. cond b (Some m.kind) None) yes in
+    let parts = both (is_reply_to a m) (is_its server (server_in bytes)) yes in
     record {
       message = m;
       is_message = is_message bytes m some;
       reply = reply_is a m parts.0;
-      kind = eqb-true m.kind 5 (sym (ap (λ k. option_map_or (λ n. n == 5) k false) kind) ∙ is);
-      server = its_server bytes offer.server parts.1;
+      is_kind = same_Some m.kind kind (sym (read ∙ ap (λ b. cond b (Some m.kind) None) yes) ∙ is);
+      named = its_server bytes server parts.1;
     })
-    (λ no. absurd (false≢true (sym (ap (λ k. option_map_or (λ n. n == 5) k false) (read ∙ ap (λ b. cond b (Some m.kind) None) no)) ∙ is))))
+    (λ no. absurd (none-some kind (sym (read ∙ ap (λ b. cond b (Some m.kind) None) no) ∙ is))))
+
+ack_is : (a : Asker) (offer : Offer) (bytes : List ℕ) → acknowledges_for a offer.server bytes ≡ true → IsAckOf a offer bytes
+ack_is a offer bytes is = by_option (kind_from a offer.server bytes)
+    (λ none. absurd (false≢true (sym (ap (λ k. option_map_or (λ n. n == 5) k false) none) ∙ is)))
+    (λ kind some.
+    let f : IsFrom a offer.server bytes kind = is_from a offer.server bytes kind some in
+    let five : kind ≡ 5 = eqb-true kind 5 (sym (ap (λ k. option_map_or (λ n. n == 5) k false) some) ∙ is) in
+    record { message = f.message; is_message = f.is_message; reply = f.reply; kind = f.is_kind ∙ five; server = f.named })
 
 -- a first valid offer stands in its place, with no valid one before it
 pub record Found (a : Asker) (ms : List Handed) (f : Offered) : Type 0 where
@@ -131,7 +153,7 @@ pub record Found (a : Asker) (ms : List Handed) (f : Offered) : Type 0 where
   pub none_before : AllByRecursion (λ m. (other : Offer) → IsOfferTo a other m.body → ⊥) before
   pub is_offer : IsOfferTo a f.offer first.body
 
-found : (a : Asker) (ms : List Handed) (f : Offered) → offered a ms ≡ Some f → Found a ms f
+pub found : (a : Asker) (ms : List Handed) (f : Offered) → offered a ms ≡ Some f → Found a ms f
 found a [] f is = absurd (none-some f is)
 found a (m ∷ ms) f is = by_option (offer_in a m.body)
     (λ none.

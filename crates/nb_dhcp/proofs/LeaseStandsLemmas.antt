@@ -20,10 +20,10 @@ use Rattle.nb_dhcp.specs.declared.state.State.{State}
 use Rattle.nb_dhcp.specs.Replies.{offer_in, kind_from, acknowledges_for, refuses_for}
 use Rattle.nb_dhcp.specs.Acting.{no_acts, lease_asking, lease_ending, lease_ok, lease_refused, reply_acts, verdict_acts}
 use Rattle.nb_dhcp.specs.History.{Handed, replied, LeaseEntry, lease_entry, all_handed, Offered, offered, taken_offer, is_verdict, verdict_after, granted_by, granted_after, acknowledgement_in, is_done, LeaseWatch, watch_since, lease_watch}
-use Rattle.nb_dhcp.specs.Promises.{LeasePromises, ActsSo, OkWhereGranted, TriesInSilence, KeepsPlan, answers_asker}
+use Rattle.nb_dhcp.specs.Promises.{LeasePromises, ActsSo, OkWhereGranted, TriesInSilence, KeepsPlan, TriesInPlan, answers_asker}
 use Rattle.nb_dhcp.specs.LeaseSteps.{offer_at, is_over_at, kept_at, after_offered, after_verdict, after_reply, acts_on_reply}
 use Rattle.nb_dhcp.specs.LeaseStands.{IsPending, LeaseStands}
-use Rattle.nb_dhcp.proofs.LeaseHistoryLemmas.{all_handed-append, is_done-append, lease_watch-append, AtEach-append, more_after, offered_already, offered_now, verdict_more, pending_none}
+use Rattle.nb_dhcp.proofs.LeaseHistoryLemmas.{all_handed-append, is_done-append, lease_watch-append, AtEach-append, plan_kept, more_after, offered_already, offered_now, verdict_more, pending_none}
 
 pub or_none : (a : Bool) → (a || false) ≡ a
 or_none true = refl
@@ -40,7 +40,7 @@ pub promises_keep : (a : Asker) (start : ℕ) (h : List LeaseEntry) (e : LeaseEn
 promises_keep a start h e meets acts ok silent plan = record {
   sending = AtEach-append (ActsSo a) [] h e meets.sending acts;
   whole = AtEach-append (OkWhereGranted a) [] h e meets.whole ok;
-  tries = plan;
+  tries = AtEach-append (TriesInPlan start) [] h e meets.tries plan;
   unanswered = AtEach-append (TriesInSilence a start) [] h e meets.unanswered silent;
 }
 
@@ -64,7 +64,7 @@ quiet_reply a start s h m now stands unended taken pending unanswered asks =
     let none : acknowledgement_in a (all_handed (h ++ e ∷ [])) ≡ None = ap (acknowledgement_in a) more ∙ pending_none a (offered a (all_handed h ++ m ∷ [])) pending in
     let same : taken_offer a (all_handed (h ++ e ∷ [])) ≡ taken_offer a (all_handed h) = ap (taken_offer a) more ∙ taken in
     record {
-      meets = promises_keep a start h e stands.meets asks (sym (ap is_some none)) tt (subst KeepsPlan (sym watch) stands.meets.tries);
+      meets = promises_keep a start h e stands.meets asks (sym (ap is_some none)) tt (subst KeepsPlan (sym watch) (plan_kept start [] h refl stands.meets.tries));
       its = stands.its;
       over = stands.over ∙ sym (is_done-append h e ∙ or_none (is_done h));
       kept = stands.kept ∙ pending_none a (offered a (all_handed h)) live.pending ∙ sym none;
@@ -125,7 +125,7 @@ ended_reply a start s t h m now cause stands over its kept ok asks =
     let more = more_handed h m now (lease_ending cause) in
     let watch : lease_watch start (h ++ e ∷ []) ≡ record (lease_watch start h) { replies = (lease_watch start h).replies ++ m ∷ [] } = lease_watch-append start h e in
     record {
-      meets = promises_keep a start h e stands.meets asks (ok ∙ sym (ap (λ (ms : List Handed). is_some (acknowledgement_in a ms)) more)) tt (subst KeepsPlan (sym watch) stands.meets.tries);
+      meets = promises_keep a start h e stands.meets asks (ok ∙ sym (ap (λ (ms : List Handed). is_some (acknowledgement_in a ms)) more)) tt (subst KeepsPlan (sym watch) (plan_kept start [] h refl stands.meets.tries));
       its = its ∙ stands.its;
       over = over ∙ sym (is_done-append h e ∙ or_some (is_done h));
       kept = kept ∙ sym (ap (acknowledgement_in a) more);

@@ -3,3 +3,4 @@ pub mod LeaseHistoryLemmas
 pub mod LeaseStandsLemmas
 pub mod LeaseTimeLemmas
 pub mod LeaseLaws
+pub mod LeaseEndingLaws

@@ -40,6 +40,27 @@ pub record IsAckOf (a : Asker) (offer : Offer) (bytes : List ℕ) : Type 0 where
   pub kind : message.kind ≡ 5
   pub server : NamesServer bytes offer.server
 
+-- the bytes refuse (kind 6) what the client requested, and are of the server of an offer
+pub record IsNakOf (a : Asker) (offer : Offer) (bytes : List ℕ) : Type 0 where
+  pub message : MessageParts
+  pub is_message : IsMessage bytes message
+  pub reply : AnswersAsker a message
+  pub kind : message.kind ≡ 6
+  pub server : NamesServer bytes offer.server
+
+-- no datagram is a valid offer
+abbrev pub IsWithoutOffer : Asker → List Handed → Type 0
+IsWithoutOffer a ms = AllByRecursion (λ m. (other : Offer) → IsOfferTo a other m.body → ⊥) ms
+
+-- the offer is the first valid one of these datagrams
+pub record IsFirstOffer (a : Asker) (ms : List Handed) (offer : Offer) : Type 0 where
+  pub before : List Handed
+  pub first : Handed
+  pub after : List Handed
+  pub in_order : ms ≡ before ++ first ∷ after
+  pub none_before : IsWithoutOffer a before
+  pub is_offer : IsOfferTo a offer first.body
+
 -- The bytes are the lease among these datagrams: first an offer, before which no offer came, and later the
 -- acknowledgement of its server.
 pub record IsLeaseOf (a : Asker) (ms : List Handed) (bytes : List ℕ) : Type 0 where

@@ -6,3 +6,4 @@ pub mod Promises
 pub mod LeaseSteps
 pub mod LeaseStands
 pub mod Leases
+pub mod LeaseEndings

@@ -44,12 +44,16 @@ TriesInSilence a start before e = IfElapsed e.call (IsWithoutAnswer a start befo
 abbrev pub KeepsPlan : LeaseWatch → Type 0
 KeepsPlan w = filter (λ call. fires call.said) w.times ≡ firings w.since (waits Dhcp) (map (λ call. call.at) w.times)
 
+abbrev pub TriesInPlan : ℕ → List LeaseEntry → LeaseEntry → Type 0
+TriesInPlan start before e = KeepsPlan (lease_watch start (before ++ e ∷ []))
+
 -- The promises to a client that began to ask at a time.
 pub record LeasePromises (a : Asker) (start : ℕ) (entries : List LeaseEntry) : Type 0 where
   -- each call sends, tries for the first time and ends as the datagrams before it say
   pub sending : AtEach (ActsSo a) [] entries
   -- the end is Ok exactly where the acknowledgement has come
   pub whole : AtEach (OkWhereGranted a) [] entries
-  -- a try is made, and the tries are given up, at the plan's times and only while no answer has come
-  pub tries : KeepsPlan (lease_watch start entries)
+  -- after each call the tries so far, and their end, stand at the plan's times
+  pub tries : AtEach (TriesInPlan start) [] entries
+  -- a try is made, and the tries are given up, only while no answer has come
   pub unanswered : AtEach (TriesInSilence a start) [] entries

@@ -16,7 +16,7 @@ mod state;
 
 pub use asker::Asker;
 pub use dhcp::Dhcp;
-pub use laws::keeps_the_first_offers_lease;
+pub use laws::{ends_for_a_cause, keeps_the_first_offers_lease, requests_the_first_offer};
 pub use offer::Offer;
 
 #[cfg(test)]

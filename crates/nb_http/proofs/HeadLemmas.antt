@@ -1,8 +1,8 @@
 -- What the bytes of a head so far come to.
 use Rattle.std.proofs.Common.{◌≡◌, ◌≤◌, ◌<◌, inl, inr, ℕ, ◌-◌, ◌^◌, ◌&&◌, List, [], ◌++◌, length, take, drop, min, Option, Some, None, Bool, true, false, refl, ap, ◌∙◌, sym, subst, arith, eqb, ltb, leb, length-append, slice_range, if◌then◌else◌, codes}
 use Rattle.std.specs.Option.{option_map}
-use Rattle.std.proofs.lemmas.Bool.{ne_eqb, eq-eqb, lt-ltb, ltb-true, ltb-false, le-leb, lt-leb, leb-false, false≢true}
-use Rattle.std.proofs.lemmas.List.{take_all, drop_all, length-take}
+use Rattle.std.proofs.lemmas.Bool.{ne_eqb, eq-eqb, lt-ltb, ltb-true, ltb-false, le-leb, lt-leb, leb-true, leb-false, false≢true}
+use Rattle.std.proofs.lemmas.List.{take_all, drop_all, length-take, take-append-le, take-append-drop}
 use Rattle.std.specs.Prelude.{IfSome}
 use Rattle.std.proofs.lemmas.Option.{none-some, same_Some}
 use Rattle.httparse.specs.Grammar.{ResponseHead, status_code}
@@ -13,11 +13,14 @@ use Rattle.nb_responses.specs.Chunks.{Verdict, body, moved, status, broken, larg
 use Rattle.nb_responses.specs.Responses.{most_bytes, ReadsBody, verdict_by, no_block_verdict, Final, no_block, no_head, by_head, by_body}
 use Rattle.nb_responses.proofs.Cases.{either}
 use Rattle.nb_responses.proofs.LineLaws.{block_alone, block_longer, missing_unfinished}
+use Rattle.nb_responses.proofs.BlockLaws.{whole_shorter}
+use Rattle.nb_httpmsg.proofs.LeastLemmas.{less}
 use Rattle.nb_httpmsg.specs.declared.head.HeadInfo.{HeadInfo}
 use Rattle.nb_httpmsg.specs.declared.head.BodyKind.{BodyKind}
 use Rattle.nb_httpmsg.specs.declared.head.BodyKind.TheVariants as kind
 use Rattle.nb_httpmsg.specs.HeadInfos.{IsInfoOf, body_kind, BeginsWithHead, BeginsWithoutHead}
-use Rattle.nb_httpmsg.proofs.FeedLemmas.{no_longer, take_within}
+use Rattle.nb_httpmsg.proofs.FeedLemmas.{no_longer}
+use Rattle.nb_httpmsg.proofs.BlockLemmas.{take_within}
 use Rattle.nb_http.specs.declared.state.State.{State}
 use Rattle.nb_http.specs.declared.state.State.TheVariants.{Head, Sized, Chunked, ToEnd, Over}
 use Rattle.nb_http.specs.declared.head_step.HeadStep.{HeadStep}
@@ -27,6 +30,7 @@ use Rattle.nb_httpmsg.specs.declared.place.Place.{Place}
 use Rattle.nb_httpmsg.specs.declared.place.Place.TheVariants as place
 use Rattle.nb_httpmsg.specs.Feeding.{is_open, chunk_state}
 use Rattle.nb_http.specs.Giving.{KeepsFit, sized_next, to_end_next, chunk_next, chunk_next_by}
+use Rattle.nb_http.proofs.DecidedLemmas.{no_shorter, all_of, few_bytes, missing_by, missing_before, stopped}
 use Rattle.nb_http.specs.HeadReading.{HeadGoes, IsFinalHead, GoesAfter, IsHeadRead, after_length, unfinished_step}
 
 if_map : (f : ℕ × ℕ → List ℕ) (b : Bool) (x : Option (ℕ × ℕ)) (y : Option (List ℕ)) → option_map f x ≡ y → option_map f (if b then x else None) ≡ (if b then y else None)
@@ -186,6 +190,10 @@ read_whole rec bytes info r short begins goes =
       goes = subst (λ n. HeadGoes rec r.state (take n bytes) (take r.kept bytes) r.over) (sym len) (subst (λ k. HeadGoes rec r.state (take info.len bytes) k r.over) kept goes.goes);
       reach = λ before added e open_head. weaker (length before) r.len (exceeds (length before) info.len r.len len (whole_further bytes info short begins before added e open_head));
       longer = λ before added e l open_head. exceeds (length before) info.len r.len len (whole_further bytes info short begins before added e open_head);
+      least = λ before later e l.
+          let block : take info.len bytes ≡ before ++ later = ap (λ n. take n bytes) (sym len) ∙ e in
+          missing_by before (below (length before) (length (take info.len bytes)) info.len (length bytes) (less before later (take info.len bytes) block l) size begins.within short)
+          (whole_shorter most_lines bytes before later (take info.len bytes) (drop info.len bytes) begins.block block l);
     }
   where
     weaker : (a b : ℕ) → a < b → a ≤ b
@@ -194,31 +202,8 @@ read_whole rec bytes info r short begins goes =
     exceeds : (a b c : ℕ) → c ≡ b → a < b → a < c
     exceeds a b c e l = omega (arith, e, l)
 
-no_shorter : (line before added : List ℕ) → line ≡ before ++ added → length before ≤ length line
-no_shorter line before added e = omega (arith, ap length e, length-append before added)
-
-all_of : (bytes : List ℕ) → take (length bytes) bytes ≡ bytes
-all_of bytes = take_all (length bytes) bytes (omega arith)
-
--- the block of a head among few bytes
-few_bytes : (bytes : List ℕ) (k : LineBlock) → length bytes ≤ limit → first_block most_lines bytes ≡ k → head_block bytes ≡ found_by limit bytes k
-few_bytes bytes k short is = ap (λ t. found_by limit bytes (first_block most_lines t)) (take_all limit bytes short) ∙ ap (found_by limit bytes) is
-
-stopped : (rec : ℕ) (bytes : List ℕ) (verdict : Verdict) (over : Option Cause) → Final bytes (response verdict []) → is_decided verdict ≡ true → text_of verdict ≡ None → over ≡ verdict_end rec verdict
-    → IsHeadRead rec bytes (record { len = length bytes; kept = length bytes; state = Over None; over = over })
-stopped rec bytes verdict over reads decided none is = record {
-  within = omega arith;
-  goes = record { verdict = verdict; reads = subst (λ t. Final t (response verdict [])) (sym (all_of bytes)) reads; decided = decided; moves = sym none; ends = is; fits = tt };
-  reach = λ before added e _. no_shorter bytes before added e;
-  longer = λ before added e l _. no_longer bytes before added e l;
-}
-
-pub read_many : (rec : ℕ) (bytes : List ℕ) → length bytes ≤ limit → first_block most_lines bytes ≡ crowded → IsHeadRead rec bytes (record { len = length bytes; kept = length bytes; state = Over None; over = verdict_end 0 many })
-read_many rec bytes short is = stopped rec bytes many (verdict_end 0 many) (no_block many (ap no_block_verdict (few_bytes bytes crowded short is))) refl refl refl
-
-pub read_broken : (rec : ℕ) (bytes : List ℕ) → length bytes ≤ limit → BeginsWithoutHead bytes → IsHeadRead rec bytes (record { len = length bytes; kept = length bytes; state = Over None; over = verdict_end rec broken })
-read_broken rec bytes short is =
-    stopped rec bytes broken (verdict_end rec broken) (no_head (take is.len bytes) (drop (length (take is.len bytes)) bytes) (few_bytes bytes (whole (take is.len bytes) (drop is.len bytes)) short is.block) is.none) refl refl refl
+    below : (a b c d : ℕ) → a < b → b ≡ c → c ≤ d → d ≤ limit → a < limit
+    below a b c d l e m n = omega (arith, l, e, m, n)
 
 pub read_more : (rec : ℕ) (bytes : List ℕ) → length bytes ≤ limit → first_block most_lines bytes ≡ unfinished → IsHeadRead rec bytes (unfinished_step (length bytes))
 read_more rec bytes short is = either (ltb (length bytes) limit)
@@ -230,11 +215,12 @@ read_more rec bytes short is = either (ltb (length bytes) limit)
       goes = inl (refl, ap head_block (all_of bytes) ∙ open_head, refl);
       reach = λ before added e _. no_shorter bytes before added e;
       longer = λ before added e l _. no_longer bytes before added e l;
+      least = λ before later e l. missing_before bytes before later (sym (all_of bytes) ∙ e) is short l;
     }))
     (λ off.
     let full : leb limit (length bytes) ≡ true = le-leb limit (length bytes) (ltb-false (length bytes) limit off) in
     let too_many_bytes : head_block bytes ≡ too_long = few_bytes bytes unfinished short is ∙ (rw full refl) in
-    rw off (stopped rec bytes long (verdict_end 0 long) (no_block long (ap no_block_verdict too_many_bytes)) refl refl refl))
+    rw off (stopped rec bytes long (verdict_end 0 long) (no_block long (ap no_block_verdict too_many_bytes)) refl refl refl short is))
 
 is_too_long : Found → Bool
 is_too_long (found block rest) = false

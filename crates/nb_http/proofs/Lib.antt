@@ -1,4 +1,6 @@
 pub mod StandsLemmas
+pub mod LeastLemmas
 pub mod StepLemmas
+pub mod DecidedLemmas
 pub mod HeadLemmas
 pub mod RunLaws

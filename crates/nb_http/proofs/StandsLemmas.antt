@@ -9,7 +9,7 @@ use Rattle.nb_terms.specs.declared.cause.Cause.{Cause}
 use Rattle.nb_responses.specs.Lines.{head_block}
 use Rattle.nb_responses.specs.Heads.{Framing, framing, sized, chunked, to_end}
 use Rattle.nb_responses.specs.Chunks.{Verdict, more, open_body, body, broken, Response, response, Chunked as ReadsChunks}
-use Rattle.nb_responses.specs.Responses.{most_bytes, within_limit, sized_response, ReadsBody, Final, no_block, by_body, no_block_verdict, IsInterim, ResponseOf, by_end}
+use Rattle.nb_responses.specs.Responses.{most_bytes, within_limit, sized_response, ReadsBody, Final, no_block, by_body, no_block_verdict, IsInterim, ResponseOf, by_end, before_end}
 use Rattle.nb_responses.proofs.LineLaws.{head_block_more}
 use Rattle.nb_httpmsg.specs.declared.place.Place.{Place}
 use Rattle.nb_httpmsg.specs.declared.place.Place.TheVariants as place
@@ -45,16 +45,17 @@ pub record Undecided (rest given : List ℕ) : Type 0 where
   pub decided : is_decided verdict ≡ false
   pub moves : text_of verdict ≡ None
   pub quiet : (rec : ℕ) → verdict_end rec verdict ≡ None
+  pub goes_on : before_end verdict ≡ more
 
-with_more : (rest given : List ℕ) → Final rest (response more given) → Undecided rest given
-with_more rest given reads = record { verdict = more; reads = reads; decided = refl; moves = refl; quiet = λ rec. refl }
+pub with_more : (rest given : List ℕ) → Final rest (response more given) → Undecided rest given
+with_more rest given reads = record { verdict = more; reads = reads; decided = refl; moves = refl; quiet = λ rec. refl; goes_on = refl }
 
 pub head_reads : (c : Core) (rest given : List ℕ) → AtHead c rest given → Final rest (response more given)
 head_reads c rest given at =
     let here : Final c.head (response more []) = no_block more (ap no_block_verdict at.block) in
     subst (λ g. Final rest (response more g)) (sym at.none_given) (subst (λ t. Final t (response more [])) (sym at.is_rest) here)
 
-sized_reads : (left : ℕ) (c : Core) (rest given : List ℕ) → AtSized left c rest given → Final rest (response more given)
+pub sized_reads : (left : ℕ) (c : Core) (rest given : List ℕ) → AtSized left c rest given → Final rest (response more given)
 sized_reads left c rest given at =
     let size : ℕ = length given + left in
     let small : ltb most_bytes (length given + left) ≡ false = le-ltb most_bytes (length given + left) at.small in
@@ -76,7 +77,7 @@ pub undecided : (state : State) (c : Core) (rest given : List ℕ) → LiveAt st
 undecided Head c rest given at = with_more rest given (head_reads c rest given at)
 undecided (Sized left) c rest given at = with_more rest given (sized_reads left c rest given at)
 undecided (Chunked room) c rest given at = with_more rest given (chunked_reads room c rest given at)
-undecided (ToEnd room) c rest given at = record { verdict = open_body; reads = to_end_reads room c rest given at; decided = refl; moves = refl; quiet = λ rec. refl }
+undecided (ToEnd room) c rest given at = record { verdict = open_body; reads = to_end_reads room c rest given at; decided = refl; moves = refl; quiet = λ rec. refl; goes_on = refl }
 undecided (Over range) c rest given at = absurd at
 
 pub not_over : (state : State) (c : Core) (rest given : List ℕ) → LiveAt state c rest given → (is_over state ≡ false) × (range_of state ≡ None)

@@ -15,7 +15,8 @@ use Rattle.nb_httpmsg.specs.declared.place.Place.{Place}
 use Rattle.nb_httpmsg.specs.declared.place.Place.TheVariants as place
 use Rattle.nb_httpmsg.specs.declared.chunks.ChunkState.{ChunkState}
 use Rattle.nb_httpmsg.specs.Feeding.{StandsForBody, verdict_of, chunk_state, is_open}
-use Rattle.nb_httpmsg.proofs.FeedLemmas.{kept_front, take_within}
+use Rattle.nb_httpmsg.proofs.FeedLemmas.{kept_front}
+use Rattle.nb_httpmsg.proofs.BlockLemmas.{take_within}
 use Rattle.nb_http.specs.declared.state.State.{State}
 use Rattle.nb_http.specs.declared.state.State.TheVariants.{Head, Sized, Chunked, ToEnd, Over}
 use Rattle.nb_http.specs.declared.head_step.HeadStep.{HeadStep}

@@ -12,7 +12,7 @@ use Rattle.nb_http.specs.declared.state.State.TheVariants.{Head, Sized, Chunked,
 use Rattle.nb_http.specs.declared.head_step.Next.{Next}
 use Rattle.nb_http.specs.declared.http.Taken.{Taken}
 use Rattle.nb_http.specs.Ends.{verdict_end}
-use Rattle.nb_http.specs.Standing.{Core, Kept, RangeFits, TakesBytes}
+use Rattle.nb_http.specs.Standing.{Core, Kept, RangeFits, TakesBytes, DecidesLast}
 
 -- the range of the bytes that a call hands on
 abbrev pub range_given : List ℕ → Option (ℕ × ℕ) → List ℕ
@@ -117,3 +117,4 @@ pub record TakesSo (rec : ℕ) (old new : Core) (bytes : List ℕ) (r : Taken) :
   pub gathered : is_plain_body old.state ≡ false → r.given ≡ 0
   pub stands : TakesBytes rec old new (take r.len bytes) (take r.given bytes
       ++ take r.waiting new.chunks.block) r.over
+  pub least : DecidesLast old (take r.len bytes)

@@ -1,8 +1,8 @@
 -- What the bytes of a head so far come to
-use Rattle.std.specs.Prelude.{◌≡◌, ◌≤◌, ◌<◌, ◌⊎◌, ℕ, List, [], ◌++◌, length, take, Option, None, nat_lt, if◌then◌else◌, true, false}
+use Rattle.std.specs.Prelude.{◌≡◌, ◌≤◌, ◌<◌, ◌⊎◌, ℕ, ◌-◌, List, [], ◌++◌, length, take, Option, None, nat_lt, if◌then◌else◌, true, false}
 use Rattle.httparse.specs.Grammar.{ResponseHead}
 use Rattle.nb_terms.specs.declared.cause.Cause.{Cause}
-use Rattle.nb_responses.specs.Lines.{head_block, found, missing, limit}
+use Rattle.nb_responses.specs.Lines.{head_block, first_block, unfinished, found, missing, limit, most_lines}
 use Rattle.nb_responses.specs.Heads.{framing, sized, chunked, to_end, is_interim}
 use Rattle.nb_responses.specs.Chunks.{Verdict, response, body, large, long}
 use Rattle.nb_responses.specs.Responses.{most_bytes, Final, IsInterim}
@@ -70,3 +70,12 @@ pub record IsHeadRead (rec : ℕ) (bytes : List ℕ) (r : HeadStep) : Type 0 whe
       → length before ≤ r.len
   pub longer : (before added : List ℕ) → bytes ≡ before ++ added → 0 < length added
       → head_block before ≡ missing → length before < r.len
+  pub least : (before later : List ℕ) → take r.len bytes ≡ before ++ later → 0 < length later
+      → head_block before ≡ missing
+
+-- So many bytes are the least that has an empty line, or too many lines without one.
+pub record IsDecidedAt (bytes : List ℕ) (len : ℕ) : Type 0 where
+  pub within : len ≤ length bytes
+  pub some : 0 < len
+  pub decided : first_block most_lines (take len bytes) ≡ unfinished → ⊥
+  pub before : first_block most_lines (take (len - 1) bytes) ≡ unfinished

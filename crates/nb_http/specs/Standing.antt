@@ -6,7 +6,7 @@ use Rattle.httparse.specs.Grammar.{ResponseHead}
 use Rattle.nb_terms.specs.declared.cause.Cause.{Cause}
 use Rattle.nb_responses.specs.Lines.{head_block, found, missing}
 use Rattle.nb_responses.specs.Heads.{IsHead, framing, sized, chunked, to_end, is_interim}
-use Rattle.nb_responses.specs.Chunks.{Verdict, body, broken, Response, response}
+use Rattle.nb_responses.specs.Chunks.{Verdict, more, body, broken, Response, response}
 use Rattle.nb_responses.specs.Responses.{most_bytes, head_verdict, Final, IsInterim, ReadsSoFar, ResponseOf}
 use Rattle.nb_httpmsg.specs.Reader.{Reader}
 use Rattle.nb_httpmsg.specs.Feeding.{StandsForBody, is_open}
@@ -118,6 +118,13 @@ abbrev pub TakesBytes : ℕ → Core → Core → List ℕ → List ℕ → Opti
 TakesBytes rec old new taken gave over = (stream given : List ℕ) → HasRead old stream given
     → is_over old.state ≡ false
     → (s : HasRead new (stream ++ taken) (given ++ gave)) × (over ≡ verdict_end rec s.verdict)
+
+-- Only the last byte that a call takes can decide the response: after each shorter part of what it takes
+-- more of the response is to come.
+abbrev pub DecidesLast : Core → List ℕ → Type 0
+DecidesLast old taken = (stream given part later : List ℕ) → HasRead old stream given
+    → is_over old.state ≡ false → taken ≡ part ++ later → 0 < length later
+    → (some : List ℕ) × ResponseOf (stream ++ part) false (response more (given ++ some))
 
 -- what a step of a live core comes to
 pub data GoesOnOrEnds (rec : ℕ) (c : Core) (rest given : List ℕ) (over : Option Cause) : Type 0 where

@@ -1,12 +1,12 @@
 //! What the bytes of a head so far come to (RFC 9112, sections 4 and 6; RFC 9110, section 15).
 
-ghost use Rattle.std.specs.Prelude.{◌≡◌, ◌≤◌, ◌&&◌, ℕ, List, [], nat_le, nat_lt, length, Some, None, if◌then◌else◌};
+ghost use Rattle.std.specs.Prelude.{◌≡◌, ◌≤◌, ◌&&◌, true, false, ℕ, List, [], nat_le, nat_lt, length, Some, None, if◌then◌else◌};
 ghost use Rattle.nb_http.specs.declared.state.State.TheVariants.{Over};
 ghost use Rattle.httparse.specs.Grammar.{ResponseHead};
-ghost use Rattle.nb_responses.specs.Lines.{head_block, found};
+ghost use Rattle.nb_responses.specs.Lines.{head_block, first_block, most_lines, unfinished, found};
 ghost use Rattle.nb_responses.specs.Heads.{is_move, moves_to};
 ghost use Rattle.nb_httpmsg.specs.HeadInfos.{IsInfoOf};
-ghost use Rattle.nb_http.specs.HeadReading.{HeadGoes, GoesAfter, IsFinalHead, IsHeadRead, after_length, unfinished_step};
+ghost use Rattle.nb_http.specs.HeadReading.{HeadGoes, GoesAfter, IsFinalHead, IsHeadRead, IsDecidedAt, after_length, unfinished_step};
 
 use crate::causes::{not_a_response, ok, refused, too_large, too_long, too_many};
 use crate::state::State;
@@ -135,9 +135,40 @@ pub(crate) fn read(rec: u32, bytes: &[u8]) -> HeadStep
 {
     match read_head(bytes) {
         Head::More => unfinished(bytes.len()),
-        Head::TooMany => stops(bytes.len(), too_many()),
-        Head::Broken => stops(bytes.len(), not_a_response(rec)),
+        Head::TooMany => stops(deciding(bytes), too_many()),
+        Head::Broken => stops(deciding(bytes), not_a_response(rec)),
         Head::Whole(info) => whole(rec, &info),
+    }
+}
+
+/// How many bytes are the first that decide, where all of them do.
+fn deciding(bytes: &[u8]) -> usize
+    requires short { length bytes.now ≤ 16384 }
+    requires decided { first_block most_lines bytes.now ≡ unfinished → ⊥ }
+    ensures { IsDecidedAt bytes.now result }
+{
+    let mut low = 0;
+    let mut high = bytes.len();
+    while high - low > 1 {
+        let middle = low + (high - low) / 2;
+        if is_unfinished(&bytes[..middle]) {
+            low = middle;
+        } else {
+            high = middle;
+        }
+    }
+    high
+}
+
+/// Whether no empty line, and not too many lines without one, have come.
+fn is_unfinished(bytes: &[u8]) -> bool
+    requires { length bytes.now ≤ 16384 }
+    ensures yes { result ≡ true → first_block most_lines bytes.now ≡ unfinished }
+    ensures no { result ≡ false → first_block most_lines bytes.now ≡ unfinished → ⊥ }
+{
+    match read_head(bytes) {
+        Head::More => true,
+        Head::Whole(_) | Head::Broken | Head::TooMany => false,
     }
 }
 

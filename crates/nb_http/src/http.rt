@@ -81,7 +81,7 @@ impl Http {
     ghost use Rattle.std.specs.Prelude.{◌≡◌, ◌≤◌, ◌<◌, ◌+◌, ◌^◌, ◌++◌, [], ℕ, List, length, take, IfOk, true, false, slice_range, None};
     ghost use Rattle.std.specs.Option.{option_map, option_copied};
     ghost use Rattle.nb_http.specs.Requests.{request_text};
-    ghost use Rattle.nb_http.specs.Standing.{HasRead, EndsStream, is_over, moved_text};
+    ghost use Rattle.nb_http.specs.Standing.{HasRead, DecidesLast, EndsStream, is_over, moved_text};
     ghost use Rattle.nb_http.specs.Giving.{gives_none, took_nothing, HandsUp, SendsNothing, TakesFirst, TakesSo};
 
     /// Starts with an empty stream, and returns the request's text.
@@ -112,6 +112,8 @@ impl Http {
         ensures within { result ≤ length (first.now ++ second.now) }
         ensures some { is_over self.old.core.state ≡ false
             → 0 < length (first.now ++ second.now) → 0 < result }
+        // It takes none past the byte that decides the response.
+        ensures least { DecidesLast self.old.core (take result (first.now ++ second.now)) }
         ensures hands { HandsUp self.old.core self.new acts.new result }
         ensures sends { SendsNothing acts.new }
         // After its end it takes nothing, asks for nothing and stays as it is.

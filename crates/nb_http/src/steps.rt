@@ -48,6 +48,15 @@ fn after_chunks(rec: u32, room: u64, count: u64, state: ChunkState) -> Next
     }
 }
 
+/// The first bytes, at most so many.
+fn beginning(bytes: &[u8], most: u64) -> &[u8]
+    ensures value { result.now ≡ take most bytes.now }
+    ensures len { length result.now ≤ most }
+{
+    let len = most.min(bytes.len() as u64);
+    &bytes[..len as usize]
+}
+
 /// Appends bytes of both to a head, as many as it has room for, and returns how many.
 fn gather(head: &mut Vec<u8>, first: &[u8], second: &[u8]) -> usize
     requires len { vec_len head.old ≤ 16384 }
@@ -139,6 +148,9 @@ impl Http {
         requires none { self.old.waiting ≡ 0 }
         ensures { TakesSo rec self.old.core self.new.core (first.now ++ second.now) result }
     {
+        let most = room.saturating_add(1);
+        let first = beginning(first, most);
+        let second = beginning(second, most - first.len() as u64);
         let fed = self.chunks.feed(first, second);
         let count = u64::from(fed.bytes);
         let next = after_chunks(rec, room, count, fed.state);

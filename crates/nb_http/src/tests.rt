@@ -409,3 +409,44 @@ fn bytes_after_a_move(rt: HostRuntime) -> Result<(), Fail> {
     assert!(rt; ending.body.is_empty());
     Ok(())
 }
+
+/// RFC 9112, sections 4, 6 and 7.1: no byte after the one that decides is taken, in however large a piece.
+#[test]
+fn bytes_after_the_deciding_one(rt: HostRuntime) -> Result<(), Fail> {
+    let rows: [(&[u8], &[u8], End); 5] = [
+        (b"HTTP/1.1 200 OK\r\nA b\r\n\r\n", b"\r\nmore", BROKEN),
+        (
+            b"HTTP/1.1 200 OK\r\nContent-Length: 2\r\n\r\nhi",
+            b"hi",
+            OK,
+        ),
+        (
+            b"HTTP/1.1 200 OK\r\nTransfer-Encoding: chunked\r\n\r\n5z",
+            b"\r\nhello",
+            BROKEN,
+        ),
+        (
+            b"HTTP/1.1 200 OK\r\nTransfer-Encoding: chunked\r\n\r\n1\r\naX",
+            b"\r\n0\r\n\r\n",
+            BROKEN,
+        ),
+        (
+            b"HTTP/1.1 200 OK\r\nTransfer-Encoding: chunked\r\n\r\n0\r\n\r\n",
+            b"0\r\n\r\n",
+            OK,
+        ),
+    ];
+    for (row, (least, more, (code, a, b))) in rows.iter().enumerate() {
+        let mut stream = Vec::from_slice(rt.alloc(), least)?;
+        stream.extend_from_slice(more)?;
+        let ending = run(rt.alloc(), stream.as_slice(), stream.len())?;
+        assert_eq!(rt; ending.took, least.len(), "row {row}");
+        let cause = Cause {
+            code: *code,
+            a: *a,
+            b: *b,
+        };
+        assert_eq!(rt; ending.over, Some(cause), "row {row}");
+    }
+    Ok(())
+}

@@ -93,3 +93,13 @@ all_passed most i at text l passed = let e : most - i ≡ 0 = omega (arith, l) i
 -- the rest of a text, as a slice of it
 pub rest_all : (at : ℕ) (text : List ℕ) → take (length text - at) (drop at text) ≡ drop at text
 rest_all at text = take_all (length text - at) (drop at text) (omega (arith, length-drop at text))
+
+-- the first of a list's first
+pub take_within : (k n : ℕ) (xs : List ℕ) → k ≤ n → take k (take n xs) ≡ take k xs
+take_within zero n xs l = refl
+take_within (suc k) zero xs l = absurd (above k l)
+  where
+    above : (k : ℕ) → suc k ≤ 0 → ⊥
+    above k l = omega (arith, l)
+take_within (suc k) (suc n) [] l = refl
+take_within (suc k) (suc n) (x ∷ xs) l = ap (λ ys. x ∷ ys) (take_within k n xs (omega (arith, l)))

@@ -16,10 +16,12 @@ use Rattle.nb_httpmsg.specs.declared.place.Place.{Place}
 use Rattle.nb_httpmsg.specs.declared.place.Place.TheVariants.{Size, Bytes, End, Trailer, Whole, Broken, TooLong}
 use Rattle.nb_httpmsg.specs.Reader.{Reader, IsOpenLine, IsOpenTrailer, FitsPlace}
 use Rattle.nb_httpmsg.specs.declared.line.LineRead.{LineRead}
-use Rattle.nb_httpmsg.proofs.BlockLemmas.{take_plus}
+use Rattle.nb_httpmsg.proofs.BlockLemmas.{take_within}
+use Rattle.nb_httpmsg.proofs.LeastLemmas.{line_shorter, open_shorter, broken_shorter, broken_longer}
+use Rattle.nb_httpmsg.specs.Leasts.{IsBrokenAt}
 use Rattle.nb_httpmsg.specs.Feeding.{InChunk, InSize, InBytes, InEnd, InTrailer, StandsAt, verdict_of, place_after, kept_within, place_after_bytes, place_after_end, StandsForBody, Feeds, IsSizeRead, IsLast, IsTrailerRead}
 
-line_of : (text : List ℕ) (l : ChunkLine) (rest : List ℕ) → text ≡ print_chunk_line l ++ rest → InChunk l → IsLineOf text l rest
+pub line_of : (text : List ℕ) (l : ChunkLine) (rest : List ℕ) → text ≡ print_chunk_line l ++ rest → InChunk l → IsLineOf text l rest
 line_of text l rest e c = record { reads = (c.is, e); short = c.short }
 
 size_tail : (line tail part : List ℕ) → InSize line tail part → Tail tail (response more part)
@@ -87,7 +89,7 @@ tail_at Whole line tail part s = s
 tail_at Broken line tail part s = s
 tail_at TooLong line tail part s = s
 
-standing : (place : Place) (line text bytes : List ℕ) (chunks : List Chunk) (tail part : List ℕ) → AllByRecursion IsChunk chunks
+pub standing : (place : Place) (line text bytes : List ℕ) (chunks : List Chunk) (tail part : List ℕ) → AllByRecursion IsChunk chunks
     → text ≡ flat_map print_chunk chunks ++ tail → bytes ≡ flat_map chunk_bytes chunks ++ part → StandsAt place line tail part → StandsForBody place line text bytes
 standing place line text bytes chunks tail part all e f s = record {
   chunks = chunks;
@@ -229,15 +231,6 @@ bytes_come left old new taken at few after same = goes_on old new taken taken sa
 pub bytes_fit : (left : ℕ) (line : List ℕ) → FitsPlace (place_after_bytes left) line
 bytes_fit left line = either (ltb 0 left) (λ on. rw on (ltb-true 0 left on)) (λ off. rw off tt)
 
-pub take_within : (k n : ℕ) (xs : List ℕ) → k ≤ n → take k (take n xs) ≡ take k xs
-take_within zero n xs l = refl
-take_within (suc k) zero xs l = absurd (above k l)
-  where
-    above : (k : ℕ) → suc k ≤ 0 → ⊥
-    above k l = omega (arith, l)
-take_within (suc k) (suc n) [] l = refl
-take_within (suc k) (suc n) (x ∷ xs) l = ap (λ ys. x ∷ ys) (take_within k n xs (omega (arith, l)))
-
 -- a list that is longer than the first of two that it begins with
 longer_front : (xs ys us vs : List ℕ) → xs ++ ys ≡ us ++ vs → length xs ≤ length us → us ≡ xs ++ take (length us - length xs) ys
 longer_front xs ys us vs e l = sym (take_at us vs (length us) refl) ∙ ap (take (length us)) (sym e) ∙ take_front (length us) xs ys l
@@ -310,6 +303,7 @@ size_whole line len size l is short =
       stands = subst (λ t. StandsAt (place_after len size) t t []) (sym kept) (after_size_line len size l c is.len_is is.size_is);
       fits = subst (FitsPlace (place_after len size)) (sym kept) (after_size_fits len size l is.len_is);
       longer = λ before added e l' unread. omega (arith, is.len_is, line_longer before added l (drop len line) unread.none (is.reads.0, sym e ∙ is.reads.1));
+      least = λ before later e some. line_shorter l before later c (sym kept ∙ e) some;
     }
 
 -- one that may become whole
@@ -324,6 +318,7 @@ size_open line none may short =
       stands = subst (λ t. StandsAt Size t t []) (sym all) (record { is_tail = refl; is_part = refl; unread = unread });
       fits = subst IsOpenLine (sym all) unread;
       longer = λ before added e l _. no_longer line before added e l;
+      least = λ before later e some. open_shorter line before later none may short (sym all ∙ e) some;
     }))
     (λ off.
     let full : limit ≤ length line = ltb-false (length line) limit off in
@@ -333,18 +328,20 @@ size_open line none may short =
       stands = subst (λ t. Tail t (response long [])) (sym all) (no_line long (λ l rest is. none l rest is.reads) (long_line (subst MayBecomeChunkLine (sym most) may) full));
       fits = tt;
       longer = λ before added e l _. no_longer line before added e l;
+      least = λ before later e some. open_shorter line before later none may short (sym all ∙ e) some;
     }))
 
 -- one that can't
-pub size_bad : (line : List ℕ) → NeverHasChunkLine line → length line ≤ limit → IsSizeRead line (record { len = length line; place = Broken })
-size_bad line never short =
-    let all : take (length line) line ≡ line = take_all (length line) line (omega arith) in
-    let most : take limit line ≡ line = take_all limit line short in
+pub size_bad : (line : List ℕ) (len : ℕ) → IsBrokenAt line len → length line ≤ limit → IsSizeRead line (record { len = len; place = Broken })
+size_bad line len at short =
+    let few : length (take len line) ≤ limit = omega (arith, short, length-take len line) in
+    let most : take limit (take len line) ≡ take len line = take_all limit (take len line) few in
     record {
-      within = omega arith;
-      stands = subst (λ t. Tail t (response broken [])) (sym all) (no_line broken (λ l rest is. subst HasNoChunkLine (append-nil line) (never []) l rest is.reads) (bad_line (subst NeverHasChunkLine (sym most) never)));
+      within = at.within;
+      stands = no_line broken (λ l rest is. subst HasNoChunkLine (append-nil (take len line)) (at.never []) l rest is.reads) (bad_line (subst NeverHasChunkLine (sym most) at.never));
       fits = tt;
-      longer = λ before added e l _. no_longer line before added e l;
+      longer = λ before added e some unread. broken_longer line before added len at e unread;
+      least = λ before later e some. broken_shorter line before later len at short e some;
     }
 
 -- a line of which a reader keeps what it read
@@ -362,112 +359,6 @@ size_comes old new line bytes taken r at spelled read far after kept same = goes
     (subst (λ t. StandsAt r.place t (tail ++ take (r.len - length old.line) bytes) part) (sym kept)
     (subst (λ t. StandsAt r.place (take r.len line) t part) e
     (subst (λ q. StandsAt r.place (take r.len line) (take r.len line) q) (sym here.is_part) read.stands))))
-
-trailer_ends : (l : ChunkLine) (text rest : List ℕ) (verdict : Verdict) → InChunk l → chunk_size l ≡ 0 → text ≡ print_chunk_line l ++ rest → length text ≤ limit
-    → trailer_verdict (found_by (limit - length (print_chunk_line l)) rest (first_block (limit - length (print_chunk_line l) + 1) rest)) ≡ verdict → Tail text (response verdict [])
-trailer_ends l text rest verdict c nothing e short is =
-    let exact : length text ≡ length (print_chunk_line l) + length rest = ap length e ∙ length-append (print_chunk_line l) rest in
-    after_line l rest (response verdict []) (line_of text l rest e c)
-    (ending_last (length (print_chunk_line l)) (chunk_size l) rest nothing (omega (arith, exact, short)) ∙ ap (λ v. Some (response v [])) is)
-
-last_rest : (used : ℕ) (line : List ℕ) (t : IsLast used line) → drop used line ≡ t.rest
-last_rest used line t = ap (drop used) t.is_line ∙ drop_at (print_chunk_line t.last) t.rest used (sym t.is_used)
-
-last_block : (used : ℕ) (line : List ℕ) (t : IsLast used line) → first_block (limit - length (print_chunk_line t.last) + 1) t.rest ≡ first_block (limit - used + 1) (drop used line)
-last_block used line t = ap (λ n. first_block (limit - n + 1) t.rest) (sym t.is_used) ∙ ap (first_block (limit - used + 1)) (sym (last_rest used line t))
-
-block_in_trailer : (used : ℕ) (before added : List ℕ) → used ≤ length before → drop used (before ++ added) ≡ drop used before ++ added
-block_in_trailer used before added l = drop-append-le used before added l
-
--- a trailer that isn't whole
-pub trailer_open : (used : ℕ) (line : List ℕ) → used ≤ length line → length line ≤ limit → first_block (limit - used + 1) (drop used line) ≡ unfinished
-    → IsTrailerRead used line (record { len = length line; place = kept_within (length line) (Trailer used) })
-trailer_open used line within short unended =
-    let all : take (length line) line ≡ line = take_all (length line) line (omega arith) in
-    either (ltb (length line) limit)
-    (λ on. rw on (record {
-      within = omega arith;
-      stands = λ t. subst (λ ys. StandsAt (Trailer used) ys ys []) (sym all) (record {
-        last = t.last;
-        rest = t.rest;
-        chunk = t.chunk;
-        is_line = t.is_line;
-        is_tail = refl;
-        is_part = refl;
-        is_used = t.is_used;
-        size = t.size;
-        unended = ap (first_block (limit - used + 1)) (sym (last_rest used line t)) ∙ unended;
-        short = ltb-true (length line) limit on;
-      });
-      fits = subst (IsOpenTrailer used) (sym all) (record { within = within; unended = unended; short = ltb-true (length line) limit on });
-      longer = λ before added e l _. no_longer line before added e l;
-    }))
-    (λ off. rw off (record {
-      within = omega arith;
-      stands = λ t.
-          let exact : length line ≡ length (print_chunk_line t.last) + length t.rest = ap length t.is_line ∙ length-append (print_chunk_line t.last) t.rest in
-          let enough : leb (limit - length (print_chunk_line t.last)) (length t.rest) ≡ true = le-leb _ _ (omega (arith, exact, ltb-false (length line) limit off)) in
-          subst (λ ys. Tail ys (response long [])) (sym all)
-          (trailer_ends t.last line t.rest long t.chunk t.size t.is_line short
-          (ap (λ b. trailer_verdict (found_by (limit - length (print_chunk_line t.last)) t.rest b)) (last_block used line t ∙ unended) ∙ (rw enough refl)));
-      fits = tt;
-      longer = λ before added e l _. no_longer line before added e l;
-    }))
-
-pub trailer_crowded : (used : ℕ) (line : List ℕ) → length line ≤ limit → first_block (limit - used + 1) (drop used line) ≡ crowded
-    → IsTrailerRead used line (record { len = length line; place = Broken })
-trailer_crowded used line short full =
-    let all : take (length line) line ≡ line = take_all (length line) line (omega arith) in
-    record {
-      within = omega arith;
-      stands = λ t. subst (λ ys. Tail ys (response broken [])) (sym all)
-          (trailer_ends t.last line t.rest broken t.chunk t.size t.is_line short
-          (ap (λ b. trailer_verdict (found_by (limit - length (print_chunk_line t.last)) t.rest b)) (last_block used line t ∙ full)));
-      fits = tt;
-      longer = λ before added e l _. no_longer line before added e l;
-    }
-
--- a whole one
-pub trailer_whole : (used len : ℕ) (line : List ℕ) → used ≤ length line → length line ≤ limit → len ≤ length (drop used line)
-    → first_block (limit - used + 1) (drop used line) ≡ whole (take len (drop used line)) (drop len (drop used line))
-    → IsTrailerRead used line (record { len = used + len; place = Whole })
-trailer_whole used len line within short reach is =
-    let behind_it : length (drop used line) + used ≡ length line = omega (arith, length-drop used line, within) in
-    let alone : first_block (limit - used + 1) (take len (drop used line)) ≡ whole (take len (drop used line)) [] = block_alone (limit - used + 1) (drop used line) (take len (drop used line)) (drop len (drop used line)) is in
-    record {
-      within = omega (arith, behind_it, reach);
-      stands = λ t.
-          let rest_is : drop used line ≡ t.rest = last_rest used line t in
-          let spelled : take (used + len) line ≡ print_chunk_line t.last ++ take len t.rest = take_plus used len line ∙ ap (λ ys. take used line ++ take len ys) rest_is
-          ∙ ap (λ ys. ys ++ take len t.rest) (ap (take used) t.is_line ∙ take_at (print_chunk_line t.last) t.rest used (sym t.is_used)) in
-          let ends : first_block (limit - length (print_chunk_line t.last) + 1) (take len t.rest) ≡ whole (take len (drop used line)) [] =
-          ap (λ n. first_block (limit - n + 1) (take len t.rest)) (sym t.is_used) ∙ ap (λ ys. first_block (limit - used + 1) (take len ys)) (sym rest_is) ∙ alone in
-          trailer_ends t.last (take (used + len) line) (take len t.rest) body t.chunk t.size spelled (omega (arith, short, length-take (used + len) line))
-          (ap (λ b. trailer_verdict (found_by (limit - length (print_chunk_line t.last)) (take len t.rest) b)) ends);
-      fits = tt;
-      longer = λ before added e l open_one.
-          let there : drop used line ≡ drop used before ++ added = ap (drop used) e ∙ block_in_trailer used before added open_one.within in
-          let here : first_block (limit - used + 1) (drop used before ++ added) ≡ whole (take len (drop used line)) (drop len (drop used line)) = ap (first_block (limit - used + 1)) (sym there) ∙ is in
-          omega (arith, block_longer (limit - used + 1) (drop used before) added (take len (drop used line)) (drop len (drop used line)) open_one.unended here, length-take len (drop used line), length-drop used before, open_one.within);
-    }
-
-pub trailer_comes : (used : ℕ) (old new : Reader) (line bytes : List ℕ) (taken : ℕ) (r : LineRead) → old.place ≡ Trailer used → line ≡ old.line ++ take taken bytes → IsTrailerRead used line r → length old.line < r.len
-    → new.place ≡ r.place → new.line ≡ take r.len line → new.block ≡ old.block → Feeds old new (take (r.len - length old.line) bytes)
-trailer_comes used old new line bytes taken r at spelled read far after kept same = goes_on_without old new (take (r.len - length old.line) bytes) same (λ tail part s.
-    let here : InTrailer used old.line tail part = subst (λ p. StandsAt p old.line tail part) at s in
-    let whole_line : IsLast used line = record {
-      last = here.last;
-      rest = here.rest ++ take taken bytes;
-      chunk = here.chunk;
-      is_line = spelled ∙ ap (λ t. t ++ take taken bytes) here.is_line ∙ append_assoc (print_chunk_line here.last) here.rest (take taken bytes);
-      is_used = here.is_used;
-      size = here.size;
-    } in
-    let e : take r.len line ≡ tail ++ take (r.len - length old.line) bytes = kept_front line old.line bytes taken r.len spelled read.within (omega (arith, far)) ∙ ap (λ t. t ++ take (r.len - length old.line) bytes) (sym here.is_tail) in
-    subst (λ p. StandsAt p new.line (tail ++ take (r.len - length old.line) bytes) part) (sym after)
-    (subst (λ t. StandsAt r.place t (tail ++ take (r.len - length old.line) bytes) part) (sym kept)
-    (subst (λ t. StandsAt r.place (take r.len line) t part) e
-    (subst (λ q. StandsAt r.place (take r.len line) (take r.len line) q) (sym here.is_part) (read.stands whole_line)))))
 
 pub both_taken : (a b : ℕ) (xs ys : List ℕ) → a ≡ length xs → take a xs ++ take b ys ≡ take (a + b) (xs ++ ys)
 both_taken a b xs ys e =

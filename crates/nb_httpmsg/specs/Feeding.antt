@@ -160,6 +160,8 @@ pub record IsSizeRead (line : List ℕ) (r : LineRead) : Type 0 where
   pub fits : FitsPlace r.place (take r.len line)
   pub longer : (before added : List ℕ) → line ≡ before ++ added → 0 < length added
       → IsOpenLine before → length before < r.len
+  pub least : (before later : List ℕ) → take r.len line ≡ before ++ later → 0 < length later
+      → IsOpenLine before
 
 -- a last size line of so many bytes, and what follows it
 pub record IsLast (used : ℕ) (line : List ℕ) : Type 0 where
@@ -177,3 +179,5 @@ pub record IsTrailerRead (used : ℕ) (line : List ℕ) (r : LineRead) : Type 0 
   pub fits : FitsPlace r.place (take r.len line)
   pub longer : (before added : List ℕ) → line ≡ before ++ added → 0 < length added
       → IsOpenTrailer used before → length before < r.len
+  pub least : (before later : List ℕ) → take r.len line ≡ before ++ later → 0 < length later
+      → used ≤ length before → IsOpenTrailer used before

@@ -3,3 +3,4 @@ pub mod Fields
 pub mod HeadInfos
 pub mod Reader
 pub mod Feeding
+pub mod Leasts

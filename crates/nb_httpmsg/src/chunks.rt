@@ -56,6 +56,7 @@ impl Chunks {
     ghost use Rattle.std.specs.Prelude.{◌≡◌, ◌≤◌, ◌<◌, ◌+◌, ◌^◌, ◌++◌, length, take, IfOk, true, false};
     ghost use Rattle.nb_httpmsg.specs.Feeding.{IsAtStart, Gathers, TakesAtLeastOne, TakesOneWithRoom, TakesNone, TakesAll, Feeds};
     ghost use Rattle.nb_httpmsg.specs.Feeding.{is_open, chunk_state};
+    ghost use Rattle.nb_httpmsg.specs.Leasts.{TakesLeast, FeedsLeast};
 
     /// A reader at a body's first byte. It takes all the memory that it needs.
     pub fn new(alloc: Global) -> Result<Chunks, NoMemory>
@@ -81,6 +82,8 @@ impl Chunks {
         ensures state { result.state ≡ chunk_state self.new.place }
         // Bytes are left over only where the body is decided or the block is full.
         ensures all { TakesAll self.new (first.now ++ second.now) result.took }
+        // None is taken past the one that decides the body or fills the block.
+        ensures least { TakesLeast self.old (take result.took (first.now ++ second.now)) }
     {
         self.block.clear();
         let took = self.run_both(first, second);
@@ -133,6 +136,7 @@ impl Chunks {
         ensures some { TakesOneWithRoom self.old (first.now ++ second.now) result }
         ensures ended { TakesNone self.old self.new result }
         ensures all { TakesAll self.new (first.now ++ second.now) result }
+        ensures least { FeedsLeast self.old self.new (take result (first.now ++ second.now)) }
     {
         let took = self.run(first);
         if took < first.len() {
@@ -149,6 +153,7 @@ impl Chunks {
         ensures none { result ≡ 0 → self.new ≡ self.old }
         ensures ended { TakesNone self.old self.new result }
         ensures all { TakesAll self.new bytes.now result }
+        ensures least { FeedsLeast self.old self.new (take result bytes.now) }
     {
         let mut at = 0;
         while at < bytes.len() {

@@ -1,7 +1,9 @@
 //! What a size line, or a trailer after one, is so far (RFC 9112, section 7.1).
 
-ghost use Rattle.std.specs.Prelude.{◌≡◌, ◌≤◌, length};
+ghost use Rattle.std.specs.Prelude.{◌≡◌, ◌≤◌, length, true, false};
+ghost use Rattle.httparse.specs.Grammar.{NeverHasChunkLine};
 ghost use Rattle.nb_httpmsg.specs.Feeding.{place_after, kept_within, IsSizeRead, IsTrailerRead};
+ghost use Rattle.nb_httpmsg.specs.Leasts.{IsBrokenAt};
 
 use crate::block::{BlockEnd, find_block};
 use crate::chunks::MAX_LINES;
@@ -51,9 +53,39 @@ pub(crate) fn read_size(line: &[u8]) -> LineRead
             place: within(line.len(), Place::Size),
         },
         Err(_) => LineRead {
-            len: line.len(),
+            len: broken_len(line),
             place: Place::Broken,
         },
+    }
+}
+
+/// How many bytes of what can't become a size line are enough to see that.
+fn broken_len(line: &[u8]) -> usize
+    requires { NeverHasChunkLine line.now }
+    ensures { IsBrokenAt line.now result }
+{
+    let mut low = 0;
+    let mut high = line.len();
+    while high - low > 1 {
+        let middle = low + (high - low) / 2;
+        if may_be_size(&line[..middle]) {
+            low = middle;
+        } else {
+            high = middle;
+        }
+    }
+    high
+}
+
+/// Whether bytes begin with a size line, or may become one.
+fn may_be_size(line: &[u8]) -> bool
+    ensures may { result ≡ true → NeverHasChunkLine line.now → ⊥ }
+    ensures never { result ≡ false → NeverHasChunkLine line.now }
+{
+    match parse_chunk_size(line) {
+        Ok(Status::Complete(_)) => true,
+        Ok(Status::Partial) => true,
+        Err(_) => false,
     }
 }
 

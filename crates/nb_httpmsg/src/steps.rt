@@ -2,6 +2,7 @@
 
 ghost use Rattle.std.specs.Prelude.{◌≡◌, ◌≤◌, ◌<◌, ◌-◌, ◌++◌, length, take, min, true, vec_len, vec_capacity};
 ghost use Rattle.nb_httpmsg.specs.Feeding.{Feeds, is_open, place_after_bytes, place_after_end};
+ghost use Rattle.nb_httpmsg.specs.Leasts.{FeedsLeast};
 ghost use Rattle.nb_httpmsg.specs.declared.place.Place.TheVariants.{Size, Bytes, End, Trailer};
 
 use crate::chunks::{BLOCK, Chunks, MAX_LINES};
@@ -64,6 +65,7 @@ impl Chunks {
         ensures stands { Feeds self.old self.new (take result bytes.now) }
         ensures within { result ≤ length bytes.now }
         ensures some { 0 < result }
+        ensures least { FeedsLeast self.old self.new (take result bytes.now) }
     {
         match self.place {
             Place::Size => self.size_line(bytes),
@@ -78,9 +80,11 @@ impl Chunks {
     fn size_line(&mut self, bytes: &[u8]) -> usize
         requires at { self.old.place ≡ Size }
         requires some { 0 < length bytes.now }
+        requires room { length self.old.block < 4096 }
         ensures stands { Feeds self.old self.new (take result bytes.now) }
         ensures within { result ≤ length bytes.now }
         ensures some { 0 < result }
+        ensures least { FeedsLeast self.old self.new (take result bytes.now) }
     {
         let before = self.line.as_slice();
         let old = before.len();
@@ -100,6 +104,7 @@ impl Chunks {
         ensures stands { Feeds self.old self.new (take result bytes.now) }
         ensures within { result ≤ length bytes.now }
         ensures some { 0 < result }
+        ensures least { FeedsLeast self.old self.new (take result bytes.now) }
     {
         let most = left.min(BLOCK as u64) as usize;
         let most = most.min(bytes.len());
@@ -112,9 +117,11 @@ impl Chunks {
     fn chunk_end(&mut self, cr: bool, bytes: &[u8]) -> usize
         requires at { self.old.place ≡ End cr }
         requires some { 0 < length bytes.now }
+        requires room { length self.old.block < 4096 }
         ensures stands { Feeds self.old self.new (take result bytes.now) }
         ensures within { result ≤ length bytes.now }
         ensures some { 0 < result }
+        ensures least { FeedsLeast self.old self.new (take result bytes.now) }
     {
         self.place = after_end(cr, bytes[0]);
         self.line.clear();
@@ -125,9 +132,11 @@ impl Chunks {
     fn trailer(&mut self, used: usize, bytes: &[u8]) -> usize
         requires at { self.old.place ≡ Trailer used }
         requires some { 0 < length bytes.now }
+        requires room { length self.old.block < 4096 }
         ensures stands { Feeds self.old self.new (take result bytes.now) }
         ensures within { result ≤ length bytes.now }
         ensures some { 0 < result }
+        ensures least { FeedsLeast self.old self.new (take result bytes.now) }
     {
         let before = self.line.as_slice();
         let old = before.len();

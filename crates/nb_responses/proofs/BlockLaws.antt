@@ -1,10 +1,10 @@
 -- What is found of a block of lines stays so, whatever follows.
-use Rattle.std.proofs.Common.{◌≡◌, ◌≢◌, ◌≤◌, ℕ, zero, suc, ◌+◌, ◌-◌, List, [], ◌++◌, length, take, Some, Bool, true, false, refl, ap, ◌∙◌, sym, arith, leb, append-nil}
+use Rattle.std.proofs.Common.{◌≡◌, ◌≢◌, ◌≤◌, ◌<◌, ℕ, zero, suc, ◌+◌, ◌-◌, List, [], ◌++◌, length, take, Some, Bool, true, false, refl, ap, ◌∙◌, sym, arith, leb, append-nil, append_assoc}
 use Rattle.std.proofs.lemmas.Bool.{false≢true, le-leb, leb-true, leb-false}
 use Rattle.std.proofs.lemmas.List.{take_all, take-append-le, drop-append-le, length-append, length-take}
 use Rattle.nb_responses.specs.Lines.{first_line, is_empty, LineBlock, whole, unfinished, crowded, with_line, first_block, Found, found, missing, too_many, too_long, found_by, trailer_block}
 use Rattle.nb_responses.specs.Chunks.{more, trailer_verdict}
-use Rattle.nb_responses.proofs.LineLaws.{longer, first_line_more, Stays, block_more, take_front}
+use Rattle.nb_responses.proofs.LineLaws.{longer, first_line_more, first_line_longer, is_whole, Stays, block_more, take_front}
 use Rattle.nb_responses.proofs.Cases.{either, by_option}
 
 is_crowded : LineBlock → Bool
@@ -86,3 +86,54 @@ trailer_stays most text later some =
     same missing = refl
     same too_many = refl
     same too_long = refl
+
+-- the three ends of a search, each with its equation
+by_end : {Z : Type 0} (k : LineBlock) → ((b r : List ℕ) → k ≡ whole b r → Z) → (k ≡ unfinished → Z) → (k ≡ crowded → Z) → Z
+by_end (whole b r) f g h = f b r refl
+by_end unfinished f g h = g refl
+by_end crowded f g h = h refl
+
+-- without an empty line in the longer text there is none in its beginning
+pub unfinished_shorter : (n : ℕ) (text later : List ℕ) → first_block n (text ++ later) ≡ unfinished → first_block n text ≡ unfinished
+unfolding is_whole is_crowded
+unfinished_shorter n text later is = by_end (first_block n text)
+    (λ b r there. absurd (false≢true (ap is_whole (sym is ∙ (block_more n text later b r there).longer_too))))
+    (λ there. there)
+    (λ there. absurd (false≢true (ap is_crowded (sym is ∙ crowded_more n text later there))))
+
+block_of : LineBlock → List ℕ
+block_of (whole b r) = b
+block_of unfinished = []
+block_of crowded = []
+
+-- nor is there one in the beginning of a block
+pub whole_shorter : (n : ℕ) (text before later block rest : List ℕ) → first_block n text ≡ whole block rest → block ≡ before ++ later → 0 < length later → first_block n before ≡ unfinished
+unfolding is_crowded block_of
+whole_shorter n text before later block rest is spelled some =
+    let all : text ≡ before ++ (later ++ rest) = (block_more n text [] block rest is).stands ∙ ap (λ t. t ++ rest) spelled ∙ append_assoc before later rest in
+    let there : first_block n (before ++ (later ++ rest)) ≡ whole block rest = ap (first_block n) (sym all) ∙ is in
+    by_end (first_block n before)
+    (λ b r whole_yet.
+    let stays : Stays n before (later ++ rest) b r = block_more n before (later ++ rest) b r whole_yet in
+    absurd (too_short (length b) (length r) (length later) (length before) (ap length stays.stands ∙ length-append b r)
+    (ap (λ k. length (block_of k)) (sym stays.longer_too ∙ there) ∙ ap length spelled ∙ length-append before later) some))
+    (λ here. here)
+    (λ full. absurd (false≢true (ap is_crowded (sym there ∙ crowded_more n before (later ++ rest) full))))
+  where
+    too_short : (b r l t : ℕ) → t ≡ b + r → b ≡ t + l → 0 < l → ⊥
+    too_short b r l t e f some = omega (arith, e, f, some)
+
+-- so many lines have at least as many bytes
+pub crowded_long : (n : ℕ) (text : List ℕ) → first_block n text ≡ crowded → n ≤ length text
+unfolding is_crowded
+crowded_long zero text is = omega arith
+crowded_long (suc n) text is = by_option (first_line text)
+    (λ none. let no : unfinished ≡ crowded = rw none at is in absurd (false≢true (ap is_crowded no)))
+    (λ l some.
+    let line : (first_line (text ++ []) ≡ Some (longer l [])) × (text ≡ l.line ++ l.rest) = first_line_more text [] l some in
+    let one : 0 < length l.line = first_line_longer [] text l refl some in
+    either (is_empty l.line)
+    (λ on. let no : whole l.line l.rest ≡ crowded = rw (some, on) at is in absurd (false≢true (ap is_crowded no)))
+    (λ off.
+    let left : first_block n l.rest ≡ crowded = crowded_line l.line (first_block n l.rest) (rw (some, off) at is) in
+    omega (arith, one, crowded_long n l.rest left, ap length line.1, length-append l.line l.rest)))

@@ -177,7 +177,7 @@ with_line_unfinished line unfinished is = refl
 with_line_unfinished line crowded is = absurd (false≢true (ap is_unfinished is))
 
 -- a line that becomes whole is longer than what was there
-first_line_longer : (text more : List ℕ) (l : FirstLine) → first_line text ≡ None → first_line (text ++ more) ≡ Some l → length text < length l.line
+pub first_line_longer : (text more : List ℕ) (l : FirstLine) → first_line text ≡ None → first_line (text ++ more) ≡ Some l → length text < length l.line
 first_line_longer [] more l none is = some_line more l is
   where
     some_line : (text : List ℕ) (l : FirstLine) → first_line text ≡ Some l → 0 < length l.line

@@ -2,7 +2,8 @@ use Rattle.std.proofs.Common.{sym, subst, Option, None, length, take}
 use Rattle.nb_terms.specs.declared.cause.Cause.{Cause}
 use Rattle.nb_http.specs.declared.state.State.TheVariants.{Over}
 use Rattle.nb_http.specs.HeadReading.{IsHeadRead}
-use Rattle.nb_http.proofs.HeadLemmas.{read_more, read_many, read_broken, read_whole, alone_block}
+use Rattle.nb_http.proofs.DecidedLemmas.{read_many, read_broken}
+use Rattle.nb_http.proofs.HeadLemmas.{read_more, read_whole, alone_block}
 use Rattle.nb_http.proofs.head_step.read.Goals as goal
 
 pub returns-in-More : goal.returns-in-More
@@ -11,12 +12,14 @@ returns-in-More c = subst (IsHeadRead c.args.rec c.args.bytes.now) (sym c.unfini
 pub returns-in-TooMany : goal.returns-in-TooMany
 returns-in-TooMany c =
     subst (IsHeadRead c.args.rec c.args.bytes.now) (sym c.stops.ensures)
-    (subst (λ (o : Option Cause). IsHeadRead c.args.rec c.args.bytes.now (record { len = length c.args.bytes.now; kept = length c.args.bytes.now; state = Over None; over = o })) (sym c.too_many.ensures) (read_many c.args.rec c.args.bytes.now c.requires c.in-TooMany.ensures))
+    (subst (λ (o : Option Cause). IsHeadRead c.args.rec c.args.bytes.now (record { len = c.deciding.result; kept = c.deciding.result; state = Over None; over = o })) (sym c.too_many.ensures)
+    (read_many c.args.rec c.args.bytes.now c.deciding.result c.deciding.ensures c.requires c.in-TooMany.ensures))
 
 pub returns-in-Broken : goal.returns-in-Broken
 returns-in-Broken c =
     subst (IsHeadRead c.args.rec c.args.bytes.now) (sym c.stops-in-Broken.ensures)
-    (subst (λ (o : Option Cause). IsHeadRead c.args.rec c.args.bytes.now (record { len = length c.args.bytes.now; kept = length c.args.bytes.now; state = Over None; over = o })) (sym c.not_a_response.ensures) (read_broken c.args.rec c.args.bytes.now c.requires c.in-Broken.ensures))
+    (subst (λ (o : Option Cause). IsHeadRead c.args.rec c.args.bytes.now (record { len = c.deciding-in-Broken.result; kept = c.deciding-in-Broken.result; state = Over None; over = o })) (sym c.not_a_response.ensures)
+    (read_broken c.args.rec c.args.bytes.now c.deciding-in-Broken.result c.deciding-in-Broken.ensures c.requires c.in-Broken.ensures))
 
 pub returns-in-Whole : goal.returns-in-Whole
 returns-in-Whole c =

@@ -6,7 +6,7 @@ use Rattle.nb_httpmsg.proofs.FeedLemmas.{size_whole, size_open, size_bad}
 use Rattle.nb_httpmsg.proofs.line.read_size.Goals as goal
 
 pub returns-in-Err : goal.returns-in-Err
-returns-in-Err c = size_bad c.args.line.now c.in-Err.ensures.invalid c.requires
+returns-in-Err c = size_bad c.args.line.now c.broken_len.result c.broken_len.ensures c.requires
 
 pub returns-in-Ok-Partial : goal.returns-in-Ok-Partial
 returns-in-Ok-Partial c =

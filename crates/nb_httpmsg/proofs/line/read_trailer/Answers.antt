@@ -3,7 +3,7 @@ use Rattle.nb_responses.specs.Lines.{first_block, whole, unfinished, crowded, li
 use Rattle.nb_httpmsg.specs.declared.place.Place.{Place}
 use Rattle.nb_httpmsg.specs.Feeding.{IsTrailerRead}
 use Rattle.nb_httpmsg.proofs.BlockLemmas.{rest_all}
-use Rattle.nb_httpmsg.proofs.FeedLemmas.{trailer_whole, trailer_open, trailer_crowded}
+use Rattle.nb_httpmsg.proofs.TrailerLemmas.{trailer_whole, trailer_open, trailer_crowded}
 use Rattle.nb_httpmsg.proofs.line.read_trailer.Goals as goal
 
 pub returns-in-Whole : goal.returns-in-Whole

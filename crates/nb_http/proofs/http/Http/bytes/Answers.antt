@@ -32,3 +32,11 @@ pub returns-clause-stays : goal.returns-clause-stays
 returns-clause-stays c = λ ended.
     let was : record { head = c.self.inside.head.items; chunks = c.self.inside.chunks; state = c.self.inside.state } ≡ c.args.self.now.core = ap (λ (k : Kept). k.core) c.self.view_is in
     ap (λ (k : Kept). k.core) c.self-2.view_is ∙ ap (λ (k : Kept). k.core) (c.take-taken.ensures.ended (ap (λ (k : Core). is_over k.state) was ∙ ended)).1 ∙ was
+
+pub returns-clause-least : goal.returns-clause-least
+returns-clause-least c = λ stream given part later s live e l.
+    let bytes : List ℕ = c.args.first.now ++ c.args.second.now in
+    let old : Core = record { head = c.self.inside.head.items; chunks = c.self.inside.chunks; state = c.self.inside.state } in
+    let was : old ≡ c.args.self.now.core = ap (λ (k : Kept). k.core) c.self.view_is in
+    let unended : is_over old.state ≡ false = ap (λ (k : Core). is_over k.state) was ∙ live in
+    (c.take-taken.ensures.live unended).least stream given part later (subst (λ (k : Core). HasRead k stream given) (sym was) s) unended e l

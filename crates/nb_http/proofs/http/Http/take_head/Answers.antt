@@ -3,10 +3,11 @@ use Rattle.std.proofs.lemmas.List.{length-append, length-take}
 use Rattle.std.proofs.lemmas.Bool.{false≢true}
 use Rattle.nb_http.specs.declared.state.State.{State}
 use Rattle.nb_http.specs.declared.state.State.TheVariants.{Head}
-use Rattle.nb_http.specs.Standing.{Core, Kept, TakesBytes}
+use Rattle.nb_http.specs.Standing.{Core, Kept, TakesBytes, DecidesLast}
 use Rattle.nb_http.specs.Giving.{is_plain_body, KeepsFit}
 use Rattle.nb_http.proofs.StandsLemmas.{takes}
 use Rattle.nb_http.proofs.StepLemmas.{head_comes}
+use Rattle.nb_http.proofs.LeastLemmas.{decides_last, head_least}
 use Rattle.nb_http.proofs.HeadLemmas.{goes_fit}
 use Rattle.nb_http.proofs.http.Http.take_head.Goals as goal
 
@@ -50,4 +51,7 @@ returns c =
       gathered = λ _. refl;
       stands = subst (λ (k : Kept). TakesBytes c.args.rec k.core new (take (c.read-step.result.len - length c.as_slice-before.result.now) bytes) [] c.read-step.result.over) c.self.view_is
           (subst (λ (n : ℕ). TakesBytes c.args.rec old new (take (c.read-step.result.len - n) bytes) [] c.read-step.result.over) size comes);
+      least = subst (λ (k : Kept). DecidesLast k.core (take (c.read-step.result.len - length c.as_slice-before.result.now) bytes)) c.self.view_is
+          (subst (λ (n : ℕ). DecidesLast old (take (c.read-step.result.len - n) bytes)) size
+          (decides_last old (take (c.read-step.result.len - length c.self.inside.head.items) bytes) (head_least old line bytes taken c.args.rec c.read-step.result at spelled c.read-step.ensures reach)));
     }

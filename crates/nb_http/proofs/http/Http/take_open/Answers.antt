@@ -1,13 +1,14 @@
 use Rattle.std.proofs.Common.{◌≡◌, ◌++◌, [], ◌∙◌, ◌+◌, List, ℕ, Option, ap, sym, subst, refl, arith, take, length, min, append-nil}
-use Rattle.std.proofs.lemmas.List.{length-append}
+use Rattle.std.proofs.lemmas.List.{length-append, length-take}
 use Rattle.nb_terms.specs.declared.cause.Cause.{Cause}
 use Rattle.std.proofs.lemmas.Bool.{true≢false}
 use Rattle.nb_http.specs.declared.state.State.{State}
 use Rattle.nb_http.specs.declared.state.State.TheVariants.{ToEnd}
-use Rattle.nb_http.specs.Standing.{Core, Kept, TakesBytes}
+use Rattle.nb_http.specs.Standing.{Core, Kept, TakesBytes, DecidesLast}
 use Rattle.nb_http.specs.Giving.{is_plain_body, KeepsFit, to_end_next}
 use Rattle.nb_http.proofs.StandsLemmas.{takes}
 use Rattle.nb_http.proofs.StepLemmas.{open_comes}
+use Rattle.nb_http.proofs.LeastLemmas.{decides_last, open_least}
 use Rattle.nb_http.proofs.HeadLemmas.{open_fit}
 use Rattle.nb_http.proofs.http.Http.take_open.Goals as goal
 
@@ -40,4 +41,6 @@ returns c =
           (subst (λ (g : List ℕ). TakesBytes c.args.rec old new (take c.min-len.result bytes) g over) (sym (append-nil (take c.min-given.result bytes)))
           (subst (λ (n : ℕ). TakesBytes c.args.rec old new (take n bytes) (take c.min-given.result bytes) over) len
           (subst (λ (n : ℕ). TakesBytes c.args.rec old new (take (min (length bytes) (room + 1)) bytes) (take n bytes) over) given comes)));
+      least = subst (λ (k : Kept). DecidesLast k.core (take c.min-len.result bytes)) c.self.view_is
+          (decides_last old (take c.min-len.result bytes) (open_least room old (take c.min-len.result bytes) at (omega (arith, len, length-take c.min-len.result bytes))));
     }

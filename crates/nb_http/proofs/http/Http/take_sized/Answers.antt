@@ -1,12 +1,13 @@
 use Rattle.std.proofs.Common.{◌≡◌, ◌++◌, [], ◌∙◌, ◌<◌, ◌-◌, ◌+◌, List, ℕ, ap, sym, subst, refl, arith, take, length, append-nil}
-use Rattle.std.proofs.lemmas.List.{length-append}
+use Rattle.std.proofs.lemmas.List.{length-append, length-take}
 use Rattle.std.proofs.lemmas.Bool.{true≢false}
 use Rattle.nb_http.specs.declared.state.State.{State}
 use Rattle.nb_http.specs.declared.state.State.TheVariants.{Sized}
-use Rattle.nb_http.specs.Standing.{Core, Kept, TakesBytes}
+use Rattle.nb_http.specs.Standing.{Core, Kept, TakesBytes, DecidesLast}
 use Rattle.nb_http.specs.Giving.{is_plain_body, KeepsFit}
 use Rattle.nb_http.proofs.StandsLemmas.{takes}
 use Rattle.nb_http.proofs.StepLemmas.{sized_comes}
+use Rattle.nb_http.proofs.LeastLemmas.{decides_last, sized_least}
 use Rattle.nb_http.proofs.HeadLemmas.{sized_fit}
 use Rattle.nb_http.proofs.http.Http.take_sized.Goals as goal
 
@@ -34,4 +35,6 @@ returns c =
           (subst (λ (g : List ℕ). TakesBytes c.args.rec old new (take taken bytes) g c.after_sized-next.result.over) (sym (append-nil (take taken bytes)))
           (takes c.args.rec old new (take taken bytes) (take taken bytes) c.after_sized-next.result.over
           (sized_comes c.args.rec c.args.left old new bytes taken c.after_sized-next.result.over at (omega (arith, c.min-taken.ensures)) (omega (arith, c.min-taken.ensures, size)) (ap (λ n. n.state) c.after_sized-next.ensures) (ap (λ n. n.over) c.after_sized-next.ensures) refl)));
+      least = subst (λ (k : Kept). DecidesLast k.core (take taken bytes)) c.self.view_is
+          (decides_last old (take taken bytes) (sized_least c.args.left old (take taken bytes) at (omega (arith, c.min-taken.ensures, length-take taken bytes))));
     }

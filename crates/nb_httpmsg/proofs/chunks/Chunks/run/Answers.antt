@@ -1,12 +1,23 @@
-use Rattle.std.proofs.Common.{◌≡◌, ◌<◌, ◌++◌, ◌-◌, ◌+◌, ◌∙◌, List, ℕ, ap, sym, subst, arith, take, drop, length}
+use Rattle.std.proofs.Common.{◌≡◌, ◌<◌, ◌++◌, ◌-◌, ◌+◌, ◌∙◌, refl, List, ℕ, ap, sym, subst, arith, take, drop, length}
 use Rattle.std.proofs.lemmas.List.{length-drop}
 use Rattle.std.proofs.lemmas.Bool.{false≢true}
 use Rattle.std.proofs.Common.{true}
 use Rattle.nb_httpmsg.specs.Reader.{Reader}
 use Rattle.nb_httpmsg.specs.Feeding.{Feeds, is_open}
 use Rattle.nb_httpmsg.proofs.BlockLemmas.{rest_all, take_plus}
-use Rattle.nb_httpmsg.proofs.FeedLemmas.{feeds_both}
+use Rattle.nb_httpmsg.specs.Leasts.{FeedsLeast}
+use Rattle.nb_httpmsg.proofs.FeedLeastLemmas.{both_least, nothing_least}
+use Rattle.nb_httpmsg.proofs.FeedLemmas.{feeds_both, feeds_nothing}
 use Rattle.nb_httpmsg.proofs.chunks.Chunks.run.Goals as goal
+
+pub loop-at-init : goal.loop-at-init
+loop-at-init c = record {
+  within = omega arith;
+  stands = feeds_nothing c.args.self.now;
+  fresh = λ _. refl;
+  least = nothing_least c.args.self.now;
+  ended = λ _. (refl, refl, refl);
+}
 
 pub loop-at-preserved : goal.loop-at-preserved
 loop-at-preserved c =
@@ -19,6 +30,8 @@ loop-at-preserved c =
       within = omega (arith, c.step-at.ensures.within, ap length (rest_all at bytes), length-drop at bytes, c.loop-at.invariant.within);
       stands = subst (λ (t : List ℕ). Feeds c.args.self.now c.step-at.new.self t) both
           (feeds_both c.args.self.now c.loop-at.self c.step-at.new.self (take at bytes) (take c.step-at.result rest) c.loop-at.invariant.stands c.step-at.ensures.stands);
+      least = subst (λ (t : List ℕ). FeedsLeast c.args.self.now c.step-at.new.self t) both
+          (both_least c.args.self.now c.loop-at.self c.step-at.new.self (take at bytes) (take c.step-at.result rest) c.loop-at.invariant.stands c.loop-at.invariant.least c.step-at.ensures.least);
       fresh = λ none. absurd (apart at c.step-at.result none c.step-at.ensures.some);
       ended = λ closed. absurd (false≢true (sym closed ∙ ap is_open (sym (c.loop-at.invariant.ended closed).1) ∙ still_open));
     }

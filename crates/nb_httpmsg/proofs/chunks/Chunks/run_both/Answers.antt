@@ -2,6 +2,8 @@ use Rattle.std.proofs.Common.{List, ℕ, subst, arith, take}
 use Rattle.std.proofs.Common.{◌≡◌, ◌<◌, true, length, sym, length-append}
 use Rattle.nb_httpmsg.specs.Reader.{Reader}
 use Rattle.nb_httpmsg.specs.Feeding.{Feeds, is_open}
+use Rattle.nb_httpmsg.specs.Leasts.{FeedsLeast}
+use Rattle.nb_httpmsg.proofs.FeedLeastLemmas.{both_least}
 use Rattle.nb_httpmsg.proofs.FeedLemmas.{feeds_both, both_taken, both_some}
 use Rattle.nb_httpmsg.proofs.chunks.Chunks.run_both.Goals as goal
 
@@ -17,3 +19,9 @@ returns-clause-some c = λ unended room some.
     (λ e l. c.run.ensures.some
     (subst (λ (r : Reader). is_open r.place ≡ true) (sym (c.run-took.ensures.none e)) unended)
     (subst (λ (r : Reader). length r.block < 4096) (sym (c.run-took.ensures.none e)) room) l)
+
+pub returns-clause-least : goal.returns-clause-least
+returns-clause-least c =
+    subst (λ (t : List ℕ). FeedsLeast c.args.self.now c.run.new.self t)
+    (both_taken c.run-took.result c.run.result c.args.first.now c.args.second.now (omega (arith, c.if-took-first.false, c.run-took.ensures.within)))
+    (both_least c.args.self.now c.run-took.new.self c.run.new.self (take c.run-took.result c.args.first.now) (take c.run.result c.args.second.now) c.run-took.ensures.stands c.run-took.ensures.least c.run.ensures.least)

@@ -4,7 +4,9 @@ use Rattle.nb_httpmsg.specs.Feeding.{Feeds}
 use Rattle.nb_httpmsg.specs.declared.place.Place.{Place}
 use Rattle.nb_httpmsg.specs.declared.place.Place.TheVariants.{Trailer}
 use Rattle.std.proofs.lemmas.List.{length-take}
-use Rattle.nb_httpmsg.proofs.FeedLemmas.{trailer_comes}
+use Rattle.nb_httpmsg.specs.Leasts.{FeedsLeast}
+use Rattle.nb_httpmsg.proofs.FeedLeastLemmas.{trailer_least}
+use Rattle.nb_httpmsg.proofs.TrailerLemmas.{trailer_comes}
 use Rattle.nb_httpmsg.proofs.chunks.Chunks.trailer.Goals as goal
 
 pub returns-clause-stands : goal.returns-clause-stands
@@ -22,3 +24,20 @@ returns-clause-stands c =
     subst (λ (r : Reader). Feeds r new (take (c.read_trailer-read.result.len - length c.as_slice-before.result.now) c.args.bytes.now)) c.self.view_is
     (subst (λ n. Feeds old new (take (c.read_trailer-read.result.len - n) c.args.bytes.now)) size
     (trailer_comes c.args.used old new line c.args.bytes.now taken c.read_trailer-read.result at spelled c.read_trailer-read.ensures far refl (c.truncate.ensures.items ∙ ap (λ (t : List ℕ). take c.read_trailer-read.result.len t) (sym c.as_slice-line.ensures.value)) refl))
+
+pub returns-clause-least : goal.returns-clause-least
+returns-clause-least c =
+    let old : Reader = record { line = c.self.inside.line.items; block = c.self.inside.block.items; place = c.self.inside.place } in
+    let new : Reader = record { line = c.truncate.new.self.items; block = c.self.inside.block.items; place = c.read_trailer-read.result.place } in
+    let taken : ℕ = c.fill.result in
+    let line : List ℕ = c.as_slice-line.result.now in
+    let at : c.self.inside.place ≡ (Trailer c.args.used) = ap (λ (r : Reader). r.place) c.self.view_is ∙ c.requires.at in
+    let spelled : line ≡ c.self.inside.line.items ++ take taken c.args.bytes.now = c.as_slice-line.ensures.value ∙ c.fill.ensures.items in
+    let fits : FitsPlace (Trailer c.args.used) c.self.inside.line.items = subst (λ (p : Place). FitsPlace p c.self.inside.line.items) at c.self.invariant.4 in
+    let size : length c.self.inside.line.items ≡ length c.as_slice-before.result.now = sym (ap length c.as_slice-before.ensures.value) in
+    let some : 0 < length (take taken c.args.bytes.now) = omega (arith, length-take taken c.args.bytes.now, c.fill.ensures.count, c.requires.some, fits.short, size, c.as_slice-before.ensures.len) in
+    let far : length c.self.inside.line.items < c.read_trailer-read.result.len = c.read_trailer-read.ensures.longer c.self.inside.line.items (take taken c.args.bytes.now) spelled some fits in
+    let room : length c.self.inside.block.items < 4096 = subst (λ (r : Reader). length r.block < 4096) (sym c.self.view_is) c.requires.room in
+    subst (λ (r : Reader). FeedsLeast r new (take (c.read_trailer-read.result.len - length c.as_slice-before.result.now) c.args.bytes.now)) c.self.view_is
+    (subst (λ n. FeedsLeast old new (take (c.read_trailer-read.result.len - n) c.args.bytes.now)) size
+    (trailer_least c.args.used old new line c.args.bytes.now taken c.read_trailer-read.result at spelled c.read_trailer-read.ensures far refl room))
