@@ -7,3 +7,6 @@ pub mod NameLemmas
 pub mod OrderLemmas
 pub mod LookupLemmas
 pub mod TableLemmas
+pub mod LeaseLemmas
+pub mod LeaseTableLemmas
+pub mod LeaseStepLemmas

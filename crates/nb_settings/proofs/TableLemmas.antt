@@ -18,11 +18,11 @@ use Rattle.nb_settings.specs.Tables.{TableLists, IsTable, is_of, is_setting, is_
 use Rattle.nb_settings.proofs.FindLemmas.{either_way, find-passes}
 
 -- counting, head by head
-count : {A : Type 0} → (A → Bool) → List A → ℕ
+unfoldable pub count : {A : Type 0} → (A → Bool) → List A → ℕ
 count p [] = 0
 count p (x ∷ xs) = cond (p x) (1 + count p xs) (count p xs)
 
-count_is : {A : Type 0} (p : A → Bool) (xs : List A) → count p xs ≡ count_by p xs
+pub count_is : {A : Type 0} (p : A → Bool) (xs : List A) → count p xs ≡ count_by p xs
 unfolding count
 count_is p xs = is_count_by (count p) p refl (λ x xs. refl) xs
 
@@ -144,7 +144,7 @@ kept_put_or table s place new (Ok x) is none at ok err =
 kept_put_or table s place new (Err e) is none at ok err =
     subst (λ (xs : List Setting). IsTable (record { blocks = table.blocks; settings = xs })) (sym err) is
 
-fewer : (q : Setting → Bool) (b : List ℕ) (settings : List Setting) → count_of b settings ≤ 128 → count_of b (filter q settings) ≤ 128
+pub fewer : (q : Setting → Bool) (b : List ℕ) (settings : List Setting) → count_of b settings ≤ 128 → count_of b (filter q settings) ≤ 128
 fewer q b settings most =
     let less = count-filter (is_of b) q settings in
     omega (arith, count_is (is_of b) (filter q settings), count_is (is_of b) settings)

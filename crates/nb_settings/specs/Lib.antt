@@ -5,3 +5,4 @@ pub mod Lines
 pub mod Names
 pub mod Tables
 pub mod Order
+pub mod LeaseSettings

@@ -1,7 +1,7 @@
 // The settings of a client, after ipxe.org's settings: the grammar of their names, the listed names with
 // their kinds and their tags, which are options of DHCP (RFC 2132), and the table of blocks with its
-// look-up by priority. How a value is printed and read from text is left to the crate above. The
-// settings of a lease are still left out. Begin with `Name`, then `Table`.
+// look-up by priority, with the settings that a lease gives a block. How a value is printed and read from
+// text is left to the crate above. Begin with `Name`, then `Table`.
 #![tactic(auto)]
 
 mod block;
@@ -9,6 +9,7 @@ mod cut;
 mod error;
 mod key;
 mod kind;
+mod lease;
 mod list;
 mod listed;
 mod lookup;
@@ -24,5 +25,7 @@ pub use name::Name;
 pub use setting::Value;
 pub use table::{MAX_BLOCKS, MAX_SETTINGS, MAX_VALUE, Table};
 
+#[cfg(test)]
+mod lease_tests;
 #[cfg(test)]
 mod tests;

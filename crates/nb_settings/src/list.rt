@@ -1,4 +1,4 @@
-ghost use Rattle.std.specs.Prelude.{◌≡◌, ◌<◌, find, length, vec_len, IfErr, IfSome, OnOk, OnErr};
+ghost use Rattle.std.specs.Prelude.{◌≡◌, ◌<◌, ◌≤◌, ◌+◌, ◌++◌, find, length, vec_len, vec_capacity, IfErr, IfSome, OnOk, OnErr};
 ghost use Rattle.std.specs.List.{list_any};
 ghost use Rattle.std.specs.Option.{ForSome, option_copied};
 ghost use Rattle.nb_settings.specs.Keys.{key_of};
@@ -107,4 +107,14 @@ pub fn drop_setting(settings: &mut Vec<Setting>, block: &[u8], key: &Key<'_>)
     ensures { settings.new.items ≡ without_setting block.now (key_of key.now) settings.old.items }
 {
     settings.retain(|setting| !setting.is(block, key));
+}
+
+/// Puts these settings after those of the other blocks, in place of the block's own.
+pub fn replace_settings(settings: &mut Vec<Setting>, block: &[u8], new: Vec<Setting>)
+    requires { vec_len settings.old + vec_len new ≤ vec_capacity settings.old }
+    ensures { settings.new.items ≡ without_block block.now settings.old.items ++ new.items }
+{
+    let mut new = new;
+    settings.retain(|setting| !setting.is_of(block));
+    let _ = settings.append(&mut new);
 }

@@ -1,18 +1,23 @@
-ghost use Rattle.std.specs.Prelude.{◌≡◌, ◌≤◌, ◌⊎◌, None, Some, true, false, length, OnOk, OnErr, IfErr, IfSome, option_map};
+ghost use Rattle.std.specs.Prelude.{◌≡◌, ◌≤◌, ◌⊎◌, None, Some, true, false, length, OnOk, OnErr, IfErr, IfSome, IsSome, option_map};
 ghost use Rattle.std.specs.Option.{option_copied};
 ghost use Rattle.std.specs.Result.{MatchResult};
 ghost use Rattle.nb_settings.specs.Keys.{key_of};
 ghost use Rattle.nb_settings.specs.Tables.{root_alone, value_of, block_of, setting_of, look, own_value, count_in, registered, register_refusal, with_value, put_refusal, cleared, has_block};
+ghost use Rattle.nb_dhcpmsg.specs.Fields.{message_in};
+ghost use Rattle.nb_settings.specs.LeaseSettings.{leased, lease_refusal, fill_refusal};
 ghost use Rattle.nb_settings.specs.Order.{value_behind};
 ghost use Rattle.nb_settings.specs.declared.error.SetError.TheVariants as error;
 
 use crate::block::Block;
+use crate::lease::{lease_priority, lease_settings};
 use crate::list::{
-    count_of, drop_setting, empty_block, has_block, is_full, place_of, put, put_block, setting_of,
+    count_of, drop_setting, empty_block, has_block, is_full, place_of, put, put_block,
+    replace_settings, setting_of,
 };
 use crate::lookup::first_behind;
 use crate::setting::Setting;
 use crate::{Key, Kind, SetError, Value};
+use nb_dhcpmsg::DhcpMsg;
 use std::alloc::Global;
 use std::marker::Model;
 
@@ -93,6 +98,27 @@ impl Table {
         put(&mut self.settings, place, setting)
     }
 
+    /// Registers a block with the settings of a lease, all of them or none: those that its acknowledgement, a
+    /// DHCP message, gives (RFC 2131). A block that is there loses its own settings.
+    pub fn lease(&mut self, alloc: Global, block: &[u8], ack: &[u8]) -> Result<(), SetError>
+        requires { IsSome (message_in ack.now) }
+        ensures ok { OnOk result (self.new ≡ leased block.now ack.now self.old) }
+        ensures fits { OnOk result (lease_refusal block.now ack.now self.old ≡ None) }
+        ensures cause { IfErr result (λ e. (e ≡ error.NoMemory)
+            ⊎ (lease_refusal block.now ack.now self.old ≡ Some e)) }
+        ensures refused { OnErr result (self.new ≡ self.old) }
+    {
+        let Some(message) = DhcpMsg::read(ack) else {
+            unreachable!()
+        };
+        let lease = lease_settings(alloc, block, &message)?;
+        self.check_fill(block, lease.as_slice())?;
+        self.settings.reserve(lease.len())?;
+        put_block(&mut self.blocks, alloc, block, lease_priority(&message))?;
+        replace_settings(&mut self.settings, block, lease);
+        Ok(())
+    }
+
     /// Drops a setting, where there is one. It takes no memory.
     pub fn clear(&mut self, block: &[u8], key: &Key<'_>) -> Result<(), SetError>
         ensures ok { OnOk result (self.new ≡ cleared block.now (key_of key.now) self.old) }
@@ -151,6 +177,16 @@ impl Table {
             return Err(SetError::TooMany);
         }
         Ok(())
+    }
+
+    fn check_fill(&self, block: &[u8], settings: &[Setting]) -> Result<(), SetError>
+        ensures { MatchResult result (λ _. fill_refusal block.now settings.now self.now ≡ None)
+            (λ e. fill_refusal block.now settings.now self.now ≡ Some e) }
+    {
+        if settings.len() > MAX_SETTINGS {
+            return Err(SetError::TooMany);
+        }
+        self.check_register(block)
     }
 
     fn check_put(&self, block: &[u8], key: &Key<'_>, bytes: &[u8]) -> Result<(), SetError>
