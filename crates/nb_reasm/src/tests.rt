@@ -52,16 +52,23 @@ fn out_of_order(rt: HostRuntime) -> Result<(), NoMemory> {
     Ok(())
 }
 
-/// The window moves on by one place a million times; no byte is moved.
+/// A full window moves on by one place a million times, and is filled up at its end each time. Were its
+/// bytes moved, that wouldn't end in time.
 #[test]
-fn advanced_by_one(rt: HostRuntime) -> Result<(), NoMemory> {
+fn moves_on_by_one(rt: HostRuntime) -> Result<(), NoMemory> {
     let mut held = Held::new(rt.alloc(), MAX_CAPACITY)?;
-    for place in 0..MAX_CAPACITY {
-        let _ = held.put(place, &[7]);
+    for piece in 0..1024 {
+        let _ = held.put(piece * 1024, &[7; 1024]);
+    }
+    assert_eq!(rt; held.next(), MAX_CAPACITY);
+    for step in 0..MAX_CAPACITY {
         if held.base() < held.next() {
             held.advance(1);
         }
+        let _ = held.put(MAX_CAPACITY + step, &[9]);
     }
-    assert!(rt; held.base() == MAX_CAPACITY && held.next() == MAX_CAPACITY);
+    assert!(rt; held.base() == MAX_CAPACITY && held.next() == 2 * MAX_CAPACITY);
+    let (first, second) = held.front();
+    assert!(rt; first.len() + second.len() == 1_048_576 && first.iter().all(|byte| *byte == 9));
     Ok(())
 }

@@ -18,3 +18,4 @@ pub mod SegmentStandsLemmas
 pub mod CallStandsLemmas
 pub mod ConnLaws
 pub mod MaySendLaws
+pub mod KeptWindowLemmas

@@ -1,5 +1,6 @@
 -- What a connection stands for: all the calls since its start
 use Rattle.std.specs.Prelude.{◌≡◌, ◌≤◌, ◌<◌, ℕ, ◌+◌, ◌^◌, Bool, true, false, List, [], ◌∷◌, ◌++◌, length, take, drop, map, Option, Some, None, nat_lt, slice_index, ◌-◌}
+use Rattle.std.specs.Option.{is_some}
 use Rattle.nb_retry.specs.Calls.{TimerStands as TimerStands}
 use Rattle.nb_retry.specs.Plans.{Asked}
 use Rattle.nb_retry.specs.declared.plan.Plan.TheVariants.{Common}
@@ -97,6 +98,15 @@ pub record ConnStands (l : Link) (start : ℕ) (c : Conn) (entries : List ConnEn
 -- the next segment may come: nothing is lent, and all that waited was delivered
 abbrev pub HasDelivered : Conn → Type 0
 HasDelivered c = IsDelivered c.held
+
+-- its window isn't lent
+abbrev pub has_window : Conn → Bool
+has_window c = is_some c.held
+
+-- A call that brings nothing leaves the window as it was: lent or not, and delivered if it was.
+pub record KeepsWindow (old new : Conn) : Type 0 where
+  pub window : has_window new ≡ has_window old
+  pub delivered : HasDelivered old → HasDelivered new
 
 -- The window was lent by a connection that stood for these calls, and these bytes of it go up.
 pub record IsLent (l : Link) (start : ℕ) (entries : List ConnEntry) (w : HeldWindow) (after : Conn) : Type 0 where

@@ -1,6 +1,7 @@
 //! The connection.
 
 ghost use Rattle.std.specs.Prelude.{◌≡◌, ℕ, ◌+◌, ◌<◌, ◌≤◌, ◌^◌, ◌↔◌, List, [], ◌∷◌, ◌++◌, length, IfOk, IfSome, IsNone, IsOk, OnOk, OnErr, IfErr, Ok, Err, MatchBool, true, false};
+ghost use Rattle.std.specs.Option.{is_some};
 ghost use Rattle.nb_reasm.specs.HeldWindows.{window};
 ghost use Rattle.nb_streams.specs.Streams.{has_ended};
 ghost use Rattle.nb_streams.specs.Flows.{conn_phase, held_after, segment_came, time_came, text_came};
@@ -10,7 +11,7 @@ ghost use Rattle.nb_tcp.specs.Arriving.{incoming};
 ghost use Rattle.nb_tcp.specs.Replies.{only_ready};
 ghost use Rattle.nb_tcp.specs.ConnHistory.{ConnEntry, conn_entry, calls_in, comes_back, closes_from_above, tcp_calls, is_waiting_after, is_lent_after, has_ended_after};
 ghost use Rattle.nb_tcp.specs.ConnPromises.{starting_acts, text_in};
-ghost use Rattle.nb_tcp.specs.ConnStanding.{WindowStands, HasDelivered, IsLent, IsConnAsking, ConnStands};
+ghost use Rattle.nb_tcp.specs.ConnStanding.{WindowStands, HasDelivered, has_window, KeepsWindow, IsLent, IsConnAsking, ConnStands};
 
 use crate::link::Link;
 use crate::receiving::passed_over;
@@ -75,6 +76,7 @@ impl Conn {
         ensures syn { OnOk result (acts.new ≡ starting_acts (record { own_port = own_port; peer = peer; peer_port = peer_port; isn = isn })) }
         ensures stands { IfOk result (λ c. ConnStands (record { own_port = own_port; peer = peer; peer_port = peer_port; isn = isn }) now c []) }
         ensures delivered { IfOk result (λ c. HasDelivered c) }
+        ensures window { IfOk result (λ c. has_window c ≡ true) }
         ensures refused { OnErr result (acts.new ≡ only_ready false) }
     {
         acts.clear();
@@ -102,6 +104,10 @@ impl Conn {
             → ConnStands l start self.new (h ++ conn_entry (calls_in (segment_came (record { rec = rec; segment = incoming segment.now }) now)) acts.new ∷ []) }
         // After its end it ignores every call.
         ensures ended { (l : Link) (start : ℕ) (h : List ConnEntry) → ConnStands l start self.old h → has_ended_after h ≡ true → ConnStands l start self.new h × (acts.new ≡ only_ready false) }
+        // Exactly where it doesn't ask `ready` all was delivered, and the next segment may come. Else what
+        // waits can be lent, and once that came back the next one may come.
+        ensures waits { (l : Link) (start : ℕ) (h : List ConnEntry) → ConnStands l start self.old h → MatchBool acts.new.ready (HasDelivered self.new → ⊥) (HasDelivered self.new) }
+        ensures window { has_window self.new ≡ true }
     {
         acts.clear();
         self.come(rec, segment, now, acts);
@@ -112,7 +118,7 @@ impl Conn {
         ensures stands { (l : Link) (start : ℕ) (h : List ConnEntry) → ConnStands l start self.old h → has_ended_after h ≡ false
             → ConnStands l start self.new (h ++ conn_entry (calls_in (time_came now)) acts.new ∷ []) }
         ensures ended { (l : Link) (start : ℕ) (h : List ConnEntry) → ConnStands l start self.old h → has_ended_after h ≡ true → ConnStands l start self.new h × (acts.new ≡ only_ready (is_waiting_after h)) }
-        ensures delivered { HasDelivered self.old → HasDelivered self.new }
+        ensures held { KeepsWindow self.old self.new }
     {
         acts.clear();
         self.tick(now, acts);
@@ -129,7 +135,7 @@ impl Conn {
             → 2 ^ 31 ≤ length (text_in (conn_phase l.isn (tcp_calls h))) + length bytes.now → result ≡ Err SendError.TooLong }
         ensures fits { result ≡ Err SendError.TooLong → (l : Link) (start : ℕ) (h : List ConnEntry) → ConnStands l start self.old h
             → 2 ^ 31 ≤ length (text_in (conn_phase l.isn (tcp_calls h))) + length bytes.now }
-        ensures delivered { HasDelivered self.old → HasDelivered self.new }
+        ensures held { KeepsWindow self.old self.new }
     {
         acts.clear();
         self.give(bytes, now, acts)
@@ -140,7 +146,7 @@ impl Conn {
         ensures stands { (l : Link) (start : ℕ) (h : List ConnEntry) → ConnStands l start self.old h → has_ended_after h ≡ false
             → ConnStands l start self.new (h ++ conn_entry closes_from_above acts.new ∷ []) }
         ensures ended { (l : Link) (start : ℕ) (h : List ConnEntry) → ConnStands l start self.old h → has_ended_after h ≡ true → ConnStands l start self.new h × (acts.new ≡ only_ready (is_waiting_after h)) }
-        ensures delivered { HasDelivered self.old → HasDelivered self.new }
+        ensures held { KeepsWindow self.old self.new }
     {
         acts.clear();
         self.close(acts);
@@ -152,6 +158,8 @@ impl Conn {
         ensures stands { (l : Link) (start : ℕ) (h : List ConnEntry) → ConnStands l start self.old h → IfSome result (λ w. IsLent l start h (window w) self.new) }
         ensures none { (l : Link) (start : ℕ) (h : List ConnEntry) → ConnStands l start self.old h → is_lent_after h ≡ true → IsNone result × ConnStands l start self.new h }
         ensures lent { (l : Link) (start : ℕ) (h : List ConnEntry) → ConnStands l start self.old h → IsNone result → is_lent_after h ≡ true }
+        ensures exact { is_some result ≡ has_window self.old }
+        ensures gone { has_window self.new ≡ false }
     {
         self.held.take()
     }
@@ -161,6 +169,7 @@ impl Conn {
         ensures stands { (l : Link) (start : ℕ) (h : List ConnEntry) → ConnStands l start self.old h → is_lent_after h ≡ true → WindowStands (window held) (held_after l.isn (tcp_calls h))
             → ConnStands l start self.new (h ++ conn_entry comes_back (only_ready false) ∷ []) }
         ensures delivered { HasDelivered self.new }
+        ensures window { has_window self.new ≡ true }
     {
         self.held = Some(passed_over(held));
     }

@@ -106,15 +106,11 @@ words_of : (mss : Option ℕ) → 20 + length (sent_options mss) ≡ 4 * (4 * se
 words_of None = refl
 words_of (Some m) = refl
 
-most_header : (mss : Option ℕ) → sent_header_len mss ≤ 24
-most_header None = omega arith
-most_header (Some m) = omega arith
-
 mss_fits : (mss : Option ℕ) → unwrap_or mss 0 < 2 ^ 16 → (m : ℕ) → mss ≡ Some m → m < 2 ^ 16
 mss_fits None small m e = cc
 mss_fits (Some n) small m e = let same : n ≡ m = cc in subst (λ (k : ℕ). k < 2 ^ 16) same small
 
-pub sent_readable : (src dst : Ip4) (s : SegmentParts) → IsBytes s.body → length s.body ≤ 65511 → Fits s × (s.flags < 256) × (unwrap_or s.mss 0 < 2 ^ 16) → IsSegment src dst (sent_segment src dst s) s
+pub sent_readable : (src dst : Ip4) (s : SegmentParts) → IsBytes s.body → sent_header_len s.mss + length s.body < 2 ^ 16 → Fits s × (s.flags < 256) × (unwrap_or s.mss 0 < 2 ^ 16) → IsSegment src dst (sent_segment src dst s) s
 unfolding sent_segment
 sent_readable src dst s body room fits =
     let sum = sent_sum src dst s in
@@ -130,7 +126,7 @@ sent_readable src dst s body room fits =
       words = words_of s.mss;
       spelled = refl;
       mss = sent_says s.mss (mss_fits s.mss fits.2);
-      intact = (omega (arith, len, room, most_header s.mss), ap (λ (n : ℕ). checksum (tcp_pseudo_header src dst n ++ segment_text s sum)) len ∙ sum_closed src dst s body fits.1);
+      intact = (omega (arith, len, room), ap (λ (n : ℕ). checksum (tcp_pseudo_header src dst n ++ segment_text s sum)) len ∙ sum_closed src dst s body fits.1);
     }
 
 -- the header with checksum 0 and the body are the segment's text with that checksum

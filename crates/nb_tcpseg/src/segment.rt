@@ -100,9 +100,10 @@ impl<'a> Segment<'a> {
     }
 
     /// Puts the segment's bytes with its checksum between these addresses: the header, with the maximum
-    /// segment size as its only option, and the body.
+    /// segment size as its only option, and the body. Their length is a number of 16 bits, as the
+    /// pseudo-header has it, and that of an IPv4 packet.
     pub fn write(&self, src: Ip4, dst: Ip4, out: &mut Out<'_>) -> Result<(), Full>
-        requires { length self.now.body.now ≤ 65511 }
+        requires { sent_header_len self.now.mss + length self.now.body.now < 2 ^ 16 }
         ensures full { IsErr result
             ↔ (out.old.left < sent_header_len self.now.mss + length self.now.body.now) }
         ensures appended { OnOk result
@@ -205,7 +206,7 @@ fn is_intact(src: Ip4, dst: Ip4, bytes: &[u8]) -> bool
 fn covered_sum(pseudo: &[u8; 12], header: &[u8; 24], header_len: usize, body: &[u8]) -> u16
     requires least { header_len ≤ 24 }
     requires even { header_len % 4 ≡ 0 }
-    requires room { length body.now ≤ 65511 }
+    requires room { header_len + length body.now < 2 ^ 16 }
     ensures value { result ≡ checksum (pseudo.now ++ take header_len header.now ++ body.now) }
     ensures bytes { (i : ℕ) → slice_index body.now i < 256 }
 {

@@ -1,5 +1,6 @@
 use Rattle.std.proofs.Common.{length, ◌∙◌}
 use Rattle.nb_tcp.proofs.CallStandsLemmas.{on_ok, on_err, text_stands, text_ignored, text_refused, too_long_is, long_is}
+use Rattle.nb_tcp.proofs.KeptWindowLemmas.{keeps_by, given_held}
 use Rattle.nb_tcp.proofs.conn.Conn.send.Goals as goal
 
 pub returns-clause-stands : goal.returns-clause-stands
@@ -16,3 +17,6 @@ returns-clause-too_long c = λ l start h was alive long. c.give.ensures.refused 
 
 pub returns-clause-fits : goal.returns-clause-fits
 returns-clause-fits c = λ is l start h was. long_is l start c.args.self.now h (length c.args.bytes.now) c.give.result c.give.ensures.long c.give.ensures.ended is was
+
+pub returns-clause-held : goal.returns-clause-held
+returns-clause-held c = keeps_by c.args.self.now c.give.new.self (given_held c.give.result c.args.self.now c.give.new.self c.args.bytes.now c.args.now c.give.new.acts c.give.ensures.ok c.give.ensures.err)
