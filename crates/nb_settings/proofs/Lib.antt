@@ -7,6 +7,7 @@ pub mod NameLemmas
 pub mod OrderLemmas
 pub mod LookupLemmas
 pub mod TableLemmas
+pub mod NullLemmas
 pub mod LeaseLemmas
 pub mod LeaseTableLemmas
 pub mod LeaseStepLemmas

@@ -1,4 +1,5 @@
 use crate::{Key, Kind, SetError, Table, Value};
+use nb_dhcpmsg::DhcpMsg;
 use std::alloc::{AllocError, Global};
 use std::process::Abort;
 use std::test::Fail;
@@ -25,6 +26,14 @@ fn acknowledgement(
     Ok(bytes)
 }
 
+/// Fills `net0.dhcp` from these bytes, which are a message.
+fn lease(table: &mut Table, alloc: Global, ack: &[u8]) -> Result<Result<(), SetError>, Fail> {
+    match DhcpMsg::read(ack) {
+        Some(_) => Ok(table.lease(alloc, b"net0.dhcp", ack)),
+        None => Err(Fail::new("no message")),
+    }
+}
+
 /// The setting of this key in the block is this one.
 fn has(rt: &impl Abort, table: &Table, key: Key<'_>, wanted: Option<(Kind, &[u8])>) {
     let wanted = wanted.map(|(kind, bytes)| Value { kind, bytes });
@@ -41,7 +50,7 @@ fn fills_a_block_from_a_lease(rt: HostRuntime) -> Result<(), Fail> {
     let ack = acknowledgement(alloc, b"\x0a\0\0\x02\0\0\0\0", b"", options)?;
     let mut table = Table::new(alloc);
     table.register(alloc, b"net0", 0)?;
-    table.lease(alloc, b"net0.dhcp", ack.as_slice())?;
+    lease(&mut table, alloc, ack.as_slice())??;
     for (key, kind, bytes) in [
         (Key::Tag(1), Kind::Ipv4, b"\xff\xff\xff\0".as_slice()),
         (Key::Tag(12), Kind::Str, b"pc\0-1"),
@@ -83,8 +92,8 @@ fn a_lease_takes_the_place_of_another(rt: HostRuntime) -> Result<(), Fail> {
         b"\x43\x01f\x0c\x01h\xff",
     )?;
     let second = acknowledgement(alloc, b"\x0a\0\0\x03\x0a\0\0\x08", b"n", b"\x43\x01f\xff")?;
-    table.lease(alloc, b"net0.dhcp", first.as_slice())?;
-    table.lease(alloc, b"net0.dhcp", second.as_slice())?;
+    lease(&mut table, alloc, first.as_slice())??;
+    lease(&mut table, alloc, second.as_slice())??;
     has(&rt, &table, Key::Tag(67), Some((Kind::Str, b"n")));
     has(&rt, &table, Key::Tag(12), None);
     has(
@@ -109,12 +118,12 @@ fn a_lease_of_too_many_settings(rt: HostRuntime) -> Result<(), Fail> {
         }
     }
     let most = acknowledgement(alloc, b"\x0a\0\0\x02\x0a\0\0\x09", b"", options.as_slice())?;
-    table.lease(alloc, b"net0.dhcp", most.as_slice())?;
+    lease(&mut table, alloc, most.as_slice())??;
     assert_eq!(rt; table.count(b"net0.dhcp"), Some(128));
     options.extend_from_slice(&[200, 0])?;
     let over = acknowledgement(alloc, b"\x0a\0\0\x03\x0a\0\0\x09", b"", options.as_slice())?;
     assert_eq!(rt;
-        table.lease(alloc, b"net0.dhcp", over.as_slice()),
+        lease(&mut table, alloc, over.as_slice())?,
         Err(SetError::TooMany)
     );
     has(

@@ -1,5 +1,5 @@
 use Rattle.std.proofs.Common.{◌≡◌, ◌∙◌, sym}
-use Rattle.nb_settings.proofs.LeaseLemmas.{nulls_shorter, nulls_none}
+use Rattle.nb_settings.proofs.NullLemmas.{nulls_shorter, nulls_none}
 use Rattle.nb_settings.proofs.lease.without_nulls.Goals as goal
 
 pub loop-kept-preserved : goal.loop-kept-preserved
