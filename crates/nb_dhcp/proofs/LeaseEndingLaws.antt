@@ -1,13 +1,12 @@
 -- Laws of what a client promises: why it ends, and what it sends.
-use Rattle.std.proofs.Common.{◌≡◌, ℕ, ◌==◌, ◌&&◌, ◌||◌, Bool, true, false, cond, List, [], ◌∷◌, ◌++◌, Option, Some, None, refl, sym, ◌∙◌, ap, subst, eq-eqb}
+use Rattle.std.proofs.Common.{◌≡◌, ℕ, ◌==◌, ◌&&◌, ◌||◌, true, false, cond, List, [], ◌∷◌, ◌++◌, Option, Some, None, refl, sym, ◌∙◌, ap, subst, eq-eqb}
 use Rattle.std.specs.Prelude.{filter}
 use Rattle.std.specs.List.{AllByRecursion, list_any}
-use Rattle.std.specs.Option.{option_map, option_map_or, is_some}
+use Rattle.std.specs.Option.{option_map, option_map_or}
 use Rattle.std.proofs.lemmas.Bool.{eqb-true, false≢true}
 use Rattle.std.proofs.lemmas.List.{append-nil, append_assoc}
 use Rattle.std.proofs.lemmas.List.Elements.{filter-append}
 use Rattle.std.proofs.lemmas.Option.{none-some, same_Some}
-use Rattle.nb_wire.specs.declared.address.Ip4.{Ip4}
 use Rattle.nb_retry.specs.declared.retry.Due.{Due}
 use Rattle.nb_retry.specs.declared.retry.Due.TheVariants.{Not, Again, Over}
 use Rattle.nb_retry.specs.Calls.{fires}
@@ -19,11 +18,11 @@ use Rattle.nb_dhcpmsg.proofs.FieldLemmas.{either_way}
 use Rattle.nb_dhcpmsg.proofs.ReadingLemmas.{by_option, message_is}
 use Rattle.nb_dhcp.specs.declared.asker.Asker.{Asker}
 use Rattle.nb_dhcp.specs.declared.offer.Offer.{Offer}
-use Rattle.nb_dhcp.specs.Replies.{is_reply_to, is_its, offer_in, kind_from, acknowledges_for, refuses_for}
+use Rattle.nb_dhcp.specs.Replies.{is_its, offer_in, kind_from}
 use Rattle.nb_dhcp.specs.Acting.{no_acts, lease_asking, lease_ending, lease_ok, lease_refused, lease_timed_out, reply_acts, verdict_acts, timer_acts}
 use Rattle.nb_dhcp.specs.History.{Handed, LeaseCall, replied, elapsed, LeaseEntry, lease_entry, all_handed, Offered, offered, taken_offer, is_verdict, timer_said, LeaseWatch, lease_watch}
-use Rattle.nb_dhcp.specs.Promises.{LeasePromises, call_acts, ActsSo, IfElapsed, TriesInSilence, TriesInPlan, IsWithoutAnswer, answers_asker}
-use Rattle.nb_dhcp.specs.Leases.{AnswersAsker, NamesServer, IsOfferTo, IsAckOf, IsNakOf, IsWithoutOffer, IsFirstOffer}
+use Rattle.nb_dhcp.specs.Promises.{LeasePromises, ActsSo, TriesInSilence, TriesInPlan, IsWithoutAnswer, answers_asker}
+use Rattle.nb_dhcp.specs.Leases.{AnswersAsker, NamesServer, IsOfferTo, IsWithoutOffer, IsFirstOffer}
 use Rattle.nb_dhcp.specs.LeaseEndings.{LeaseFires, IsNoVerdict, IsSilence, no_offer, no_verdict, LeaseEnding, by_acknowledgement, by_refusal, by_no_answer, LeaseSending, sends_nothing, sends_discover, sends_request}
 use Rattle.nb_dhcp.proofs.ReplyLemmas.{kind_read}
 use Rattle.nb_dhcp.proofs.LeaseHistoryLemmas.{all_handed-append, lease_watch-append, AtEach-at, offered_now}
@@ -73,9 +72,9 @@ kind_is a offer bytes m is reply named =
 no_verdict_is : (a : Asker) (offer : Offer) (m : Handed) → is_verdict a offer m ≡ false → IsNoVerdict a offer m
 no_verdict_is a offer m is = (
   λ ack. let kind : kind_from a offer.server m.body ≡ Some 5 = kind_is a offer m.body ack.message ack.is_message ack.reply ack.server ∙ ap (λ n. Some n) ack.kind in
-  false≢true (sym is ∙ ap (λ k. option_map_or (λ n. n == 5) k false || option_map_or (λ n. n == 6) k false) kind),
+      false≢true (sym is ∙ ap (λ k. option_map_or (λ n. n == 5) k false || option_map_or (λ n. n == 6) k false) kind),
   λ nak. let kind : kind_from a offer.server m.body ≡ Some 6 = kind_is a offer m.body nak.message nak.is_message nak.reply nak.server ∙ ap (λ n. Some n) nak.kind in
-  false≢true (sym is ∙ ap (λ k. option_map_or (λ n. n == 5) k false || option_map_or (λ n. n == 6) k false) kind),
+      false≢true (sym is ∙ ap (λ k. option_map_or (λ n. n == 5) k false || option_map_or (λ n. n == 6) k false) kind),
 )
 
 all_no_verdict : (a : Asker) (offer : Offer) (ms : List Handed) → list_any (is_verdict a offer) ms ≡ false → AllByRecursion (IsNoVerdict a offer) ms
