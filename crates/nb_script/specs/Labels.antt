@@ -8,8 +8,8 @@ use Rattle.nb_script.specs.declared.labels.Labels.{Labels}
 use Rattle.nb_script.specs.ShownLine.{is_label_at}
 
 -- the place that is kept under a name
-abbrev pub place_in : Labels → List ℕ → Option ℕ
-place_in labels name = get_by (λ key. slice_cmp nat_cmp name key.items) labels.places
+abbrev pub place_under : Labels → List ℕ → Option ℕ
+place_under labels name = get_by (λ key. slice_cmp nat_cmp name key.items) labels.places
 
 abbrev pub place_if : Bool → ℕ → Option ℕ
 place_if true place = Some place
@@ -17,7 +17,7 @@ place_if false place = None
 
 -- under each name the first line's place that is its label
 abbrev pub FindsLabels : Labels → List Line → Type 0
-FindsLabels labels code = (name : List ℕ) → place_in labels name ≡ label_place name code
+FindsLabels labels code = (name : List ℕ) → place_under labels name ≡ label_place name code
 
 abbrev pub NoneIsLabel : List ℕ → List Line → ℕ → Type 0
 NoneIsLabel name code n = (k : ℕ) → k < n → is_label_at name (slice_get code k) ≡ false

@@ -1,7 +1,7 @@
 ghost use Rattle.std.specs.Prelude.{◌≡◌, ℕ, List, map, bytes_eq, OnOk, IfOk, Some, None};
 ghost use Rattle.std.specs.Option.{option_or};
 ghost use Rattle.nb_defs.specs.ScriptLines.{label_place, script_line};
-ghost use Rattle.nb_script.specs.Labels.{place_in, place_if, FindsLabels};
+ghost use Rattle.nb_script.specs.Labels.{place_under, place_if, FindsLabels};
 ghost use Rattle.nb_script.specs.ShownLine.{shown_line, is_label_at};
 
 use crate::joined::JoinedLines;
@@ -18,7 +18,7 @@ pub struct Labels {
 
 impl Labels {
     fn new(alloc: Global) -> Labels
-        ensures { (name : List ℕ) → place_in result name ≡ None }
+        ensures { (name : List ℕ) → place_under result name ≡ None }
     {
         Labels {
             places: BTreeMap::new(alloc),
@@ -27,15 +27,15 @@ impl Labels {
 
     /// The place of the first line that is the label of this name.
     pub fn find(&self, name: &[u8]) -> Option<usize>
-        ensures { result ≡ place_in self.now name.now }
+        ensures { result ≡ place_under self.now name.now }
     {
         self.places.get(name).copied()
     }
 
     /// Adds a label at a place, where none of its name was added before.
     fn add(&mut self, alloc: Global, name: &[u8], place: usize) -> Result<(), NoMemory>
-        ensures { OnOk result ((other : List ℕ) → place_in self.new other
-            ≡ option_or (place_in self.old other) (place_if (bytes_eq name.now other) place)) }
+        ensures { OnOk result ((other : List ℕ) → place_under self.new other
+            ≡ option_or (place_under self.old other) (place_if (bytes_eq name.now other) place)) }
     {
         if !self.places.contains_key(name) {
             let mut key = Vec::new(alloc);
@@ -52,8 +52,8 @@ impl Labels {
         line: ScriptLine<'_>,
         place: usize,
     ) -> Result<(), NoMemory>
-        ensures { OnOk result ((name : List ℕ) → place_in self.new name
-            ≡ option_or (place_in self.old name)
+        ensures { OnOk result ((name : List ℕ) → place_under self.new name
+            ≡ option_or (place_under self.old name)
             (place_if (is_label_at name (Some (shown_line line.entry))) place)) }
     {
         match line {
