@@ -4,7 +4,7 @@ use Rattle.nb_defs.specs.Records.{In, in_texts}
 use Rattle.nb_record.specs.Outside.{Outside}
 use Rattle.nb_record.specs.Logged.{Logged}
 use Rattle.nb_engine.specs.Seen.{Seen}
-use Rattle.nb_engine.specs.Turns.{Grows, Acts, IsEnd, IsOverWith}
+use Rattle.nb_engine.specs.Turns.{Grows, AnswersTurn, IsEnd, IsOverWith}
 use Rattle.nb_engine.specs.declared.status.Status.{Status}
 use Rattle.nb_engine.specs.declared.status.Status.TheVariants as status
 use Rattle.nb_engine.specs.declared.client.Turn.TheVariants as turn
@@ -37,7 +37,7 @@ pub keeps_leads : (used : List In) (before now : Outside) (old mid new : Logged)
 keeps_leads used before now old mid new c c1 c' k g number = λ ins rest first r. going_grows used ins rest first now mid new c1 c' g number (k ins (in_texts used ++ rest) first r)
 
 -- a turn that ended the run, memory aside
-over_acts : (s : Status) (used : List In) (c c' : Seen) (old new : Logged) → (s ≡ status.NoMemory → ⊥) → Acts (turn.Over s) used c c' old new →
+over_acts : (s : Status) (used : List In) (c c' : Seen) (old new : Logged) → (s ≡ status.NoMemory → ⊥) → AnswersTurn (turn.Over s) used c c' old new →
     IsEnd s × Grows used c c' old new × IsOverWith c'.stage s
 over_acts status.NoMemory used c c' old new ne a = absurd (ne refl)
 over_acts status.HandedOff used c c' old new ne a = a
@@ -53,7 +53,7 @@ over_acts status.TooManyRecords used c c' old new ne a = a
 
 -- the run is over, or memory ran out, behind one that went on
 pub over_steps : (e : StepEnd) (s : Status) (used : List In) (before now : Outside) (old mid new : Logged) (c c1 c' : Seen) → Keeps before now old mid c c1 →
-    Acts (turn.Over s) used c1 c' mid new → HasNumber used c1.used → IsEndOf s e → StepsTo e used before now old new c c'
+    AnswersTurn (turn.Over s) used c1 c' mid new → HasNumber used c1.used → IsEndOf s e → StepsTo e used before now old new c c'
 over_steps ending.Waits s used before now old mid new c c1 c' k a number e = absurd e
 over_steps (ending.Over t) s used before now old mid new c c1 c' k a number e =
     let d = over_acts s used c1 c' mid new e.1 a in

@@ -20,7 +20,7 @@ use Rattle.nb_engine.specs.Opens.{Open, heard_from}
 use Rattle.nb_engine.specs.Machine.{Running, Machine, at, ready, running, waiting, left, stopped, Begins, runs, refuses, passes_by, brings, passes_time, switches_off, first_script, reply_records, stopped_cause}
 use Rattle.nb_engine.specs.Seen.{Seen, seen, as_running, as_waiting, as_left, as_stopped}
 use Rattle.nb_engine.specs.Heeding.{Heeds, Follows, Comes}
-use Rattle.nb_engine.specs.Turns.{Grows, Acts}
+use Rattle.nb_engine.specs.Turns.{Grows, AnswersTurn}
 use Rattle.nb_engine.proofs.Standing.{stands_at}
 
 -- from a state to the next by a record
@@ -127,7 +127,7 @@ off_grows n w s f p = record {
 
 -- what follows from a datagram or a time, as a turn
 pub heeds_acts : (t : Turn) (old new : Logged) (used : List In) (s : Running) (P : Open → Call → Type 0) (mid before after : Seen) →
-    (Follows s P mid after old new → Grows used before after old new) → Heeds t s P mid after old new → Acts t used before after old new
+    (Follows s P mid after old new → Grows used before after old new) → Heeds t s P mid after old new → AnswersTurn t used before after old new
 heeds_acts turn.More old new used s P mid before after g h = (g h.0, h.1)
 heeds_acts turn.Waiting old new used s P mid before after g h = (g h.0, h.1)
 heeds_acts (turn.Over status.NoMemory) old new used s P mid before after g h = h

@@ -32,7 +32,7 @@ use Rattle.nb_engine.specs.declared.client.Turn.TheVariants as turn
 use Rattle.nb_engine.specs.Advance.{Requested as AskedFor, waits, fails_so, SettlesScript}
 use Rattle.nb_engine.specs.Concluding.{IsTurn}
 use Rattle.nb_stack.specs.Client.{Client}
-use Rattle.nb_engine.specs.Turns.{Acts, IsNearer}
+use Rattle.nb_engine.specs.Turns.{AnswersTurn, IsNearer}
 use Rattle.nb_engine.proofs.Puts.{Puts-nothing, Puts-outs}
 use Rattle.nb_engine.proofs.TurnLemmas.{turn_acts}
 use Rattle.nb_engine.proofs.Standing.{stands_at}
@@ -119,7 +119,7 @@ pub asked_acts : (t : Turn) {old mid new : Logged} (n : ℕ) (w : World) (s : Ru
     HasWords s ws → 0 < length ws → effect w.opens ws ≡ asks wanted → IsLive f (open_for w wanted) → acts.tried ≡ Some 1 →
     Puts old mid (out_texts (command_record s ws ∷ opened_record w wanted ∷ [])) →
     AskedFor t s f acts (request_of (begun_for w wanted)) (seen n w (stage.Running s)) after mid new →
-    Acts t [] (seen n w (stage.Running s)) after old new
+    AnswersTurn t [] (seen n w (stage.Running s)) after old new
 asked_acts t {old} {mid} {new} n w s f ws wanted acts after h some e live tried p (waits route is q to) =
     let sends : Puts mid new (out_texts (send_records w.net w.opens (Some 1) (request_of (begun_for w wanted)))) =
     subst (λ k. Puts mid new (out_texts (send_records w.net k (Some 1) (request_of (begun_for w wanted))))) live.fetch.number
@@ -179,7 +179,7 @@ nothing_sent {old} {new} net number tried send route p =
 -- a command was over at once, and the script goes on or was left
 pub settled_acts : (left : Option Cause) (t : Turn) (old new : Logged) (n : ℕ) (w : World) (s s' : Running) (ws : List (List ℕ)) (o : CommandOutcome) (at after : Seen) →
     HasWords s ws → 0 < length ws → effect w.opens ws ≡ says o → Does ws o left s s' old new → at.used ≡ n → at.world ≡ w → SettlesScript left t s' at after →
-    Acts t [] (seen n w (stage.Running s)) after old new
+    AnswersTurn t [] (seen n w (stage.Running s)) after old new
 settled_acts None t old new n w s s' ws o at after h some e d used world settles =
     rw (settles.0, settles.1, used, world) (does_grows n w s s' ws o h some e d, tt)
 settled_acts (Some cause) t old new n w s s' ws o at after h some e d used world settles =

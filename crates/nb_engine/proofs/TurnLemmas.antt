@@ -9,7 +9,7 @@ use Rattle.nb_engine.specs.declared.client.Turn.{Turn}
 use Rattle.nb_engine.specs.declared.client.Turn.TheVariants as turn
 use Rattle.nb_engine.specs.Seen.{Seen}
 use Rattle.nb_engine.specs.Concluding.{IsTurn}
-use Rattle.nb_engine.specs.Turns.{Grows, Acts, IsEnd}
+use Rattle.nb_engine.specs.Turns.{Grows, AnswersTurn, IsEnd}
 
 -- a run whose first script was left
 pub left_end : (s : Status) → IsLeftEnd s → IsEnd s
@@ -26,7 +26,7 @@ left_end status.AttachFault e = absurd e
 left_end status.TooManyRecords e = absurd e
 
 -- what a turn says of the stage, with the growth, is what the call does
-pub turn_acts : (t : Turn) (old new : Logged) (used : List In) (before after : Seen) → IsTurn t after.stage → Grows used before after old new → Acts t used before after old new
+pub turn_acts : (t : Turn) (old new : Logged) (used : List In) (before after : Seen) → IsTurn t after.stage → Grows used before after old new → AnswersTurn t used before after old new
 turn_acts turn.More old new used before after is g = (g, is)
 turn_acts turn.Waiting old new used before after is g = (g, is)
 turn_acts (turn.Over status.NoMemory) old new used before after is g = absurd is.0

@@ -9,7 +9,7 @@ use Rattle.nb_engine.specs.Machine.{Running, Phase, Hears, at}
 use Rattle.nb_engine.specs.Opens.{Open, with_entry, body_of, end_of, is_over_limit, heard_from}
 use Rattle.nb_engine.specs.Fetches.{IsFetchOf, IsLive}
 use Rattle.nb_engine.specs.Seen.{Seen, seen, StandsFor}
-use Rattle.nb_engine.specs.Turns.{Acts, IsBusy, IsWaiting, IsOverWith, IsEnd}
+use Rattle.nb_engine.specs.Turns.{AnswersTurn, IsBusy, IsWaiting, IsOverWith, IsEnd}
 use Rattle.nb_engine.specs.declared.fetch.Fetch.{Fetch}
 use Rattle.nb_engine.specs.declared.fetch.Heard.{Heard}
 use Rattle.nb_engine.specs.declared.status.Status.TheVariants as status
@@ -20,7 +20,7 @@ use Rattle.nb_engine.specs.declared.client.Turn.TheVariants as turn
 
 -- a record is used by a client that has counted it already
 abbrev pub Uses : Turn → In → Seen → Seen → Logged → Logged → Type 0
-Uses t r before after old new = (n : ℕ) → before.used ≡ n + 1 → Acts t (r ∷ []) (seen n before.world before.stage) after old new
+Uses t r before after old new = (n : ℕ) → before.used ≡ n + 1 → AnswersTurn t (r ∷ []) (seen n before.world before.stage) after old new
 
 -- the step's records were put: what comes to the open is what they say, for each open of which P holds
 pub record Follows (s : Running) (P : Open → Call → Type 0) (before after : Seen) (old new : Logged) : Type 0 where

@@ -86,11 +86,11 @@ IsEnd status.Unfinished = Unit {0}
 IsEnd _ = ⊥
 
 -- A call of the client: where memory ran out nothing was put, else it grew by these records.
-abbrev pub Acts : Turn → List In → Seen → Seen → Logged → Logged → Type 0
-Acts turn.More used before after old new = Grows used before after old new × IsBusy after.stage
-Acts turn.Waiting used before after old new = Grows used before after old new × IsWaiting after.stage
-Acts (turn.Over status.NoMemory) used before after old new = new ≡ old
-Acts (turn.Over s) used before after old new = IsEnd s × Grows used before after old new × IsOverWith after.stage s
+abbrev pub AnswersTurn : Turn → List In → Seen → Seen → Logged → Logged → Type 0
+AnswersTurn turn.More used before after old new = Grows used before after old new × IsBusy after.stage
+AnswersTurn turn.Waiting used before after old new = Grows used before after old new × IsWaiting after.stage
+AnswersTurn (turn.Over status.NoMemory) used before after old new = new ≡ old
+AnswersTurn (turn.Over s) used before after old new = IsEnd s × Grows used before after old new × IsOverWith after.stage s
 
 -- how many moves are left at most
 abbrev pub moves_at : Stage → Seen → ℕ

@@ -1,7 +1,7 @@
 ghost use Rattle.std.specs.Prelude.{◌≡◌, ◌<◌, ◌≤◌, ◌∷◌, [], length};
 ghost use Rattle.nb_defs.specs.Records.{out_texts, ended};
 ghost use Rattle.nb_record.specs.Logged.{Puts};
-ghost use Rattle.nb_engine.specs.Turns.{Acts, IsNearer};
+ghost use Rattle.nb_engine.specs.Turns.{AnswersTurn, IsNearer};
 ghost use Rattle.nb_engine.specs.Seen.{IsSound, seen, standing};
 ghost use Rattle.nb_engine.specs.Machine.{further, no_route};
 ghost use Rattle.nb_engine.specs.declared.client.Turn.TheVariants as turn;
@@ -52,7 +52,7 @@ impl Client {
     /// Does the script's next line.
     pub(crate) fn advance(&mut self, script: RunningScript, log: &mut Log) -> Turn
         requires sound { IsSound self.old.used self.old.world (stage.Running script) }
-        ensures does { Acts result [] (standing self.old (stage.Running script)) self.new log.old log.new }
+        ensures does { AnswersTurn result [] (standing self.old (stage.Running script)) self.new log.old log.new }
         ensures nearer { IsNearer result (standing self.old (stage.Running script)) self.new }
     {
         match script.next(self.alloc) {
@@ -71,7 +71,7 @@ impl Client {
     fn line(&mut self, script: RunningScript, words: &[Word], log: &mut Log) -> Turn
         requires sound { IsSound self.old.used self.old.world (stage.Running script) }
         requires words { HasWords script words.now }
-        ensures does { Acts result [] (standing self.old (stage.Running script)) self.new log.old log.new }
+        ensures does { AnswersTurn result [] (standing self.old (stage.Running script)) self.new log.old log.new }
         ensures nearer { IsNearer result (standing self.old (stage.Running script)) self.new }
     {
         if words.is_empty() {
@@ -109,7 +109,7 @@ impl Client {
         requires local { IsLocal command }
         requires fewer { TakesFewer words.now command }
         requires value { effect self.old.world.opens words.now ≡ effect_of command }
-        ensures does { Acts result [] (standing self.old (stage.Running script)) self.new log.old log.new }
+        ensures does { AnswersTurn result [] (standing self.old (stage.Running script)) self.new log.old log.new }
         ensures nearer { IsNearer result (standing self.old (stage.Running script)) self.new }
     {
         match carry_out(self.alloc, command) {
@@ -151,7 +151,7 @@ impl Client {
         requires some { 0 < length words.now }
         requires value { effect self.old.world.opens words.now ≡ asks (wanted_of wanted.now) }
         requires file { CanFetch self.old.world.opens wanted.now }
-        ensures does { Acts result [] (standing self.old (stage.Running script)) self.new log.old log.new }
+        ensures does { AnswersTurn result [] (standing self.old (stage.Running script)) self.new log.old log.new }
         ensures nearer { IsNearer result (standing self.old (stage.Running script)) self.new }
     {
         let Ok(mut desk) = lent(self.alloc, self.desk.take()) else {
@@ -176,7 +176,7 @@ impl Client {
         requires some { 0 < length words.now }
         requires value { effect self.old.world.opens words.now ≡ asks (wanted_of wanted.now) }
         requires file { CanFetch self.old.world.opens wanted.now }
-        ensures does { Acts result [] (standing self.old (stage.Running script)) self.new log.old log.new }
+        ensures does { AnswersTurn result [] (standing self.old (stage.Running script)) self.new log.old log.new }
         ensures nearer { IsNearer result (standing self.old (stage.Running script)) self.new }
     {
         let number = self.world.opens;
@@ -282,7 +282,7 @@ impl Client {
     /// Puts the next piece of the hand-off.
     pub(crate) fn hand_on(&mut self, mut handing: Handing, log: &mut Log) -> Turn
         requires at { IsAt self.old.world.images handing }
-        ensures does { Acts result [] (standing self.old (stage.HandingOff handing)) self.new log.old log.new }
+        ensures does { AnswersTurn result [] (standing self.old (stage.HandingOff handing)) self.new log.old log.new }
         ensures nearer { IsNearer result (standing self.old (stage.HandingOff handing)) self.new }
     {
         if handing.put_piece(&self.world.images, log) {

@@ -3,7 +3,7 @@ ghost use Rattle.nb_defs.specs.Records.{IsIn, IsStart, out_texts};
 ghost use Rattle.nb_record.specs.View.{in_of, start_of};
 ghost use Rattle.nb_record.specs.Logged.{Puts};
 ghost use Rattle.nb_engine.specs.StatusNumber.{status_number};
-ghost use Rattle.nb_engine.specs.Turns.{Acts, IsBusy, IsNearer, MayUse, closing_records};
+ghost use Rattle.nb_engine.specs.Turns.{AnswersTurn, IsBusy, IsNearer, MayUse, closing_records};
 ghost use Rattle.nb_engine.specs.declared.stage.Stage.TheVariants as stage;
 
 use crate::desk::Desk;
@@ -69,7 +69,7 @@ impl Client {
         requires valid { IsIn (in_of entry.now) }
         requires fits { MayUse (in_of entry.now) self.old.stage }
         requires few { self.old.used < 2 ^ 32 - 1 }
-        ensures { Acts result (in_of entry.now ∷ []) self.old self.new log.old log.new }
+        ensures { AnswersTurn result (in_of entry.now ∷ []) self.old self.new log.old log.new }
     {
         self.used += 1;
         match (mem::replace(&mut self.stage, Stage::Stopped), entry) {
@@ -87,7 +87,7 @@ impl Client {
     /// memory runs out nothing is put.
     pub fn more(&mut self, log: &mut Log) -> Turn
         requires { IsBusy self.old.stage }
-        ensures does { Acts result [] self.old self.new log.old log.new }
+        ensures does { AnswersTurn result [] self.old self.new log.old log.new }
         ensures nearer { IsNearer result self.old self.new }
     {
         match mem::replace(&mut self.stage, Stage::Stopped) {
