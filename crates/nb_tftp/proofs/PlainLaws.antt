@@ -14,12 +14,12 @@ use Rattle.nb_tftpmsg.specs.Texts.{text_at}
 use Rattle.nb_tftpmsg.specs.Packets.{Message, rrq, block, ack, error, oack, request_tail}
 use Rattle.nb_tftpmsg.specs.Reading.{FoundValues, packet_read, body_reading, request_reading, block_reading, ack_reading, error_reading, oack_reading, options_reading}
 use Rattle.nb_tftp.specs.declared.answer.Answer.{Answer}
-use Rattle.nb_tftp.specs.declared.answer.Answer.TheVariants.{Ignored, Stranger, Again, Taken, Ended}
-use Rattle.nb_tftp.specs.Asks.{Begun, begun, acts_of, due_acts}
-use Rattle.nb_tftp.specs.Received.{Received, packet_in, has_number, bytes_of, fixed_port}
-use Rattle.nb_tftp.specs.Blocks.{count}
+use Rattle.nb_tftp.specs.declared.answer.Answer.TheVariants.{Ignored, Stranger, Again, Agreed, Declined, Taken, Ended}
+use Rattle.nb_tftp.specs.Asks.{Begun, begun_asking, acts_of, due_acts}
+use Rattle.nb_tftp.specs.Received.{Received, packet_in, has_number, bytes_of, port_with, size_with}
+use Rattle.nb_tftp.specs.Blocks.{count_with}
 use Rattle.nb_tftp.specs.History.{Call, came, ticked, Entry, entry, got, given, due_of, EachEntry}
-use Rattle.nb_tftp.specs.Sentences.{Meets, AsksSo, asked_in, answer_to}
+use Rattle.nb_tftp.specs.Sentences.{MeetsWith, AsksSoWith, asked_in, answer_to}
 use Rattle.nb_tftp.specs.Plain.{IsPlain, IsRangeOf}
 use Rattle.nb_tftp.proofs.BlockLemmas.{either_way}
 use Rattle.nb_tftp.proofs.ReceivedLemmas.{and_left}
@@ -33,14 +33,16 @@ EachEntry-last P before [] e each = subst (λ (x : List Entry). P x e) (sym (app
 EachEntry-last P before (x ∷ h) e each = subst (λ (y : List Entry). P y e) (append_assoc before (x ∷ []) h) (EachEntry-last P (before ++ x ∷ []) h e each.1)
 
 -- what the last call asks
-pub asks_last : (b : Begun) (start : ℕ) (h : List Entry) (e : Entry) → Meets b start (h ++ e ∷ []) → AsksSo b h e
-asks_last b start h e meets = EachEntry-last (AsksSo b) [] h e meets.sending
+pub asks_last : (opts : Bool) (b : Begun) (start : ℕ) (h : List Entry) (e : Entry) → MeetsWith opts b start (h ++ e ∷ []) → AsksSoWith opts b h e
+asks_last opts b start h e meets = EachEntry-last (AsksSoWith opts b) [] h e meets.sending
 
 answer_plain : (b : Begun) (port : ℕ) (a : Answer) → IsPlain b (acts_of b port a)
 answer_plain b port Ignored = record { few = lit≤ tt; sent = tt; ready = refl }
 answer_plain b port Stranger = record { few = lit≤ tt; sent = (record { udp = refl; server = refl; own_port = refl; body = lit≤ tt }, tt); ready = refl }
 answer_plain b port (Again n) = record { few = lit≤ tt; sent = (record { udp = refl; server = refl; own_port = refl; body = lit≤ tt }, tt); ready = refl }
-answer_plain b port (Taken n len) = record { few = lit≤ tt; sent = (record { udp = refl; server = refl; own_port = refl; body = lit≤ tt }, tt); ready = refl }
+answer_plain b port (Agreed size) = record { few = lit≤ tt; sent = (record { udp = refl; server = refl; own_port = refl; body = lit≤ tt }, tt); ready = refl }
+answer_plain b port (Declined rec) = record { few = lit≤ tt; sent = (record { udp = refl; server = refl; own_port = refl; body = lit≤ tt }, tt); ready = refl }
+answer_plain b port (Taken n len over) = record { few = lit≤ tt; sent = (record { udp = refl; server = refl; own_port = refl; body = lit≤ tt }, tt); ready = refl }
 answer_plain b port (Ended cause) = record { few = lit≤ tt; sent = tt; ready = refl }
 
 due_plain : (b : Begun) (fixed : Option ℕ) (last : ℕ) (due : Due) → length b.request ≤ 1480 → IsPlain b (due_acts b fixed last due)
@@ -49,18 +51,19 @@ due_plain b None last (TryAgain n) fits = record { few = lit≤ tt; sent = (reco
 due_plain b (Some port) last (TryAgain n) fits = record { few = lit≤ tt; sent = (record { udp = refl; server = refl; own_port = refl; body = lit≤ tt }, tt); ready = refl }
 due_plain b fixed last PlanOver fits = record { few = lit≤ tt; sent = tt; ready = refl }
 
-call_plain : (b : Begun) (before : List Received) (call : Call) (acts : Acts) → length b.request ≤ 1480 → IsPlain b (asked_in b before call acts)
-call_plain b before (came m now) acts fits = answer_plain b m.port (answer_to (fixed_port before) (count before) m)
-call_plain b before (ticked now) acts fits = due_plain b (fixed_port before) (count before) (due_of acts) fits
+call_plain : (opts : Bool) (b : Begun) (before : List Received) (call : Call) (acts : Acts) → length b.request ≤ 1480 → IsPlain b (asked_in opts b before call acts)
+call_plain opts b before (came m now) acts fits = answer_plain b m.port (answer_to opts (port_with opts before) (size_with opts before) (count_with opts before) m)
+call_plain opts b before (ticked now) acts fits = due_plain b (port_with opts before) (count_with opts before) (due_of acts) fits
 
 -- each call sends at most one message, to the server
-pub asks_plainly : (b : Begun) (start : ℕ) (h : List Entry) (e : Entry) → length b.request ≤ 1480 → Meets b start (h ++ e ∷ []) → IsPlain b e.acts
-asks_plainly b start h e fits meets =
-    subst (λ (acts : Acts). IsPlain b acts) (sym (asks_last b start h e meets)) (call_plain b (got h) e.call e.acts fits)
+pub asks_plainly : (opts : Bool) (b : Begun) (start : ℕ) (h : List Entry) (e : Entry) → length b.request ≤ 1480 → MeetsWith opts b start (h ++ e ∷ []) → IsPlain b e.acts
+asks_plainly opts b start h e fits meets =
+    subst (λ (acts : Acts). IsPlain b acts) (sym (asks_last opts b start h e meets)) (call_plain opts b (got h) e.call e.acts fits)
 
 -- the request for a path that a transfer takes
-pub request_fits : (server : Ip4) (port own_port : ℕ) (path : List ℕ) → length path ≤ 1024 → length (begun server port own_port path).request ≤ 1480
-request_fits server port own_port path short = let all = length-append path (0 ∷ request_tail false) in omega arith
+pub request_fits : (asked : Bool) (server : Ip4) (port own_port : ℕ) (path : List ℕ) → length path ≤ 1024 → length (begun_asking asked server port own_port path).request ≤ 1480
+request_fits false server port own_port path short = let all = length-append path (0 ∷ request_tail false) in omega arith
+request_fits true server port own_port path short = let all = length-append path (0 ∷ request_tail true) in omega arith
 
 -- a packet that is a block has two bytes less than this, which stand for its number
 abbrev HasRest : Message → ℕ → Type 0
@@ -133,14 +136,16 @@ block_long k n (Some (oack blksize tsize)) has number = absurd (false≢true num
 pub block_length : (m : Received) (n : ℕ) → option_map_or (has_number n) (packet_in m) false ≡ true → length m.body ≡ 4 + length (option_map_or bytes_of (packet_in m) [])
 block_length m n number = block_long (length m.body) n (packet_in m) (rest_of m.body) number
 
-answer_range : (b : Begun) (fixed : Option ℕ) (last : ℕ) (m : Received) (a : Answer) (from to : ℕ) → Means fixed last m.port (packet_in m) a → (acts_of b m.port a).give ≡ Some (from, to) → IsRangeOf m.body from to
-answer_range b fixed last m Ignored from to means is = absurd (none-some (from, to) is)
-answer_range b fixed last m Stranger from to means is = absurd (none-some (from, to) is)
-answer_range b fixed last m (Again n) from to means is = absurd (none-some (from, to) is)
-answer_range b fixed last m (Ended cause) from to means is = absurd (none-some (from, to) is)
-answer_range b fixed last m (Taken n len) from to means is =
+answer_range : (opts : Bool) (b : Begun) (fixed : Option ℕ) (size last : ℕ) (m : Received) (a : Answer) (from to : ℕ) → Means opts fixed size last m.port (packet_in m) a → (acts_of b m.port a).give ≡ Some (from, to) → IsRangeOf m.body from to
+answer_range opts b fixed size last m Ignored from to means is = absurd (none-some (from, to) is)
+answer_range opts b fixed size last m Stranger from to means is = absurd (none-some (from, to) is)
+answer_range opts b fixed size last m (Again n) from to means is = absurd (none-some (from, to) is)
+answer_range opts b fixed size last m (Ended cause) from to means is = absurd (none-some (from, to) is)
+answer_range opts b fixed size last m (Agreed granted) from to means is = absurd (none-some (from, to) is)
+answer_range opts b fixed size last m (Declined rec) from to means is = absurd (none-some (from, to) is)
+answer_range opts b fixed size last m (Taken n len over) from to means is =
     let all = block_length m (suc last) (and_left (option_map_or (has_number (suc last)) (packet_in m) false) (from_server fixed m.port) means.2) in
-    let size = means.1 in
+    let many = means.1 in
     either_way (len == 0)
     (λ none. absurd (none-some (from, to) (rw none at is)))
     (λ some.
@@ -150,11 +155,11 @@ answer_range b fixed last m (Taken n len) from to means is =
     record { ordered = omega arith; within = omega arith })
 
 -- the range that a datagram gives up lies within its body
-pub gives_range : (b : Begun) (start : ℕ) (h : List Entry) (m : Received) (now : ℕ) (acts : Acts) (from to : ℕ) → Meets b start (h ++ entry (came m now) acts ∷ []) → acts.give ≡ Some (from, to) → IsRangeOf m.body from to
-gives_range b start h m now acts from to meets is =
-    answer_range b (fixed_port (got h)) (count (got h)) m (answer_to (fixed_port (got h)) (count (got h)) m) from to
-    (means (fixed_port (got h)) (count (got h)) m.rec m.port (packet_in m))
-    (sym (ap (λ (x : Acts). x.give) (asks_last b start h (entry (came m now) acts) meets)) ∙ is)
+pub gives_range : (opts : Bool) (b : Begun) (start : ℕ) (h : List Entry) (m : Received) (now : ℕ) (acts : Acts) (from to : ℕ) → MeetsWith opts b start (h ++ entry (came m now) acts ∷ []) → acts.give ≡ Some (from, to) → IsRangeOf m.body from to
+gives_range opts b start h m now acts from to meets is =
+    answer_range opts b (port_with opts (got h)) (size_with opts (got h)) (count_with opts (got h)) m (answer_to opts (port_with opts (got h)) (size_with opts (got h)) (count_with opts (got h)) m) from to
+    (means opts (port_with opts (got h)) (size_with opts (got h)) (count_with opts (got h)) m.rec m.port (packet_in m))
+    (sym (ap (λ (x : Acts). x.give) (asks_last opts b start h (entry (came m now) acts) meets)) ∙ is)
 
 -- and goes up behind what went up before
 pub given_range : (h : List Entry) (m : Received) (now : ℕ) (acts : Acts) (from to : ℕ) → acts.give ≡ Some (from, to) → given (h ++ entry (came m now) acts ∷ []) ≡ given h ++ slice_range m.body from to
@@ -175,6 +180,6 @@ due_gives b fixed last (TryAgain n) = refl
 due_gives b fixed last PlanOver = refl
 
 -- a time gives nothing
-pub tick_gives : (b : Begun) (start : ℕ) (h : List Entry) (now : ℕ) (acts : Acts) → Meets b start (h ++ entry (ticked now) acts ∷ []) → acts.give ≡ None
-tick_gives b start h now acts meets =
-    ap (λ (x : Acts). x.give) (asks_last b start h (entry (ticked now) acts) meets) ∙ due_gives b (fixed_port (got h)) (count (got h)) (due_of acts)
+pub tick_gives : (opts : Bool) (b : Begun) (start : ℕ) (h : List Entry) (now : ℕ) (acts : Acts) → MeetsWith opts b start (h ++ entry (ticked now) acts ∷ []) → acts.give ≡ None
+tick_gives opts b start h now acts meets =
+    ap (λ (x : Acts). x.give) (asks_last opts b start h (entry (ticked now) acts) meets) ∙ due_gives b (port_with opts (got h)) (count_with opts (got h)) (due_of acts)

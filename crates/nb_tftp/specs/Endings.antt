@@ -1,5 +1,5 @@
--- RFC 1350, sections 2, 4, 5 and 7: what stands behind each end of a transfer, in what it received and when
-use Rattle.std.specs.Prelude.{◌≡◌, ◌<◌, ℕ, ◌+◌, true, List, [], ◌∷◌, ◌++◌, length, Some, map, filter}
+-- RFC 1350, sections 2, 4, 5 and 7, and RFC 2347: what stands behind each end of a transfer, in what it received and when
+use Rattle.std.specs.Prelude.{◌≡◌, ◌<◌, ℕ, ◌+◌, Bool, true, false, List, None, [], ◌∷◌, ◌++◌, length, Some, map, filter}
 use Rattle.std.specs.Option.{IfSome}
 use Rattle.nb_retry.specs.declared.retry.Due.TheVariants.{Again, Over}
 use Rattle.nb_retry.specs.Calls.{fires}
@@ -7,33 +7,51 @@ use Rattle.nb_retry.specs.Plans.{asked_at, first_from}
 use Rattle.nb_terms.specs.declared.cause.Cause.{Cause}
 use Rattle.nb_tftpmsg.specs.Packets.{error}
 use Rattle.nb_tftp.specs.Ends.{ok_cause, refused_by, timed_out, broken, too_many_blocks}
-use Rattle.nb_tftp.specs.Received.{Received, packet_in, is_block, block_bytes, fixed_port}
-use Rattle.nb_tftp.specs.Blocks.{blocks, count, is_whole, last_block}
+use Rattle.nb_tftp.specs.Received.{Received, packet_in, is_block, block_bytes, is_grant, size_in, port_with, size_with}
+use Rattle.nb_tftp.specs.Blocks.{blocks_with, count_with, whole_with, last_block}
+use Rattle.nb_tftp.specs.Decisions.{is_block_size}
 use Rattle.nb_tftp.specs.History.{came, ticked, Entry, got, Watch, watched}
-use Rattle.nb_tftp.specs.Sentences.{IsUnanswered}
+use Rattle.nb_tftp.specs.Sentences.{IsUnansweredWith}
 
--- it comes from the server: from the port that is fixed, or from any where none is yet
-abbrev pub IsFromServer : List Received → Received → Type 0
-IsFromServer before m = IfSome (fixed_port before) (λ port. m.port ≡ port)
+-- it comes from the server: from the port that is agreed, or from any where none is yet
+abbrev pub IsFromServer : Bool → List Received → Received → Type 0
+IsFromServer options before m = IfSome (port_with options before) (λ port. m.port ≡ port)
 
 -- the datagram is an ERROR packet of this number, from the server
-pub record Refuses (before : List Received) (m : Received) (number : ℕ) : Type 0 where
+pub record RefusesWith (options : Bool) (before : List Received) (m : Received) (number : ℕ) : Type 0 where
   pub text : List ℕ
   pub packet : packet_in m ≡ Some (error number text)
-  pub server : IsFromServer before m
+  pub server : IsFromServer options before m
 
--- the datagram is the DATA that would be the next block, from the server, and has more than 512 bytes
-pub record IsTooLongBlock (before : List Received) (m : Received) : Type 0 where
-  pub next : is_block (count before + 1) m ≡ true
-  pub long : 512 < length (block_bytes m)
-  pub server : IsFromServer before m
+-- the datagram is the DATA that would be the next block, from the server, and has more bytes than was agreed
+pub record IsTooLongWith (options : Bool) (before : List Received) (m : Received) : Type 0 where
+  pub next : is_block (count_with options before + 1) m ≡ true
+  pub long : size_with options before < length (block_bytes m)
+  pub server : IsFromServer options before m
+
+-- the datagram is the first to grant the options that were asked for, and its size is none to agree on
+pub record IsUnfitGrant (options : Bool) (before : List Received) (m : Received) : Type 0 where
+  pub asked : options ≡ true
+  pub first : port_with options before ≡ None
+  pub grant : is_grant m ≡ true
+  pub unfit : is_block_size (size_in m) ≡ false
 
 -- each block that can have a number has come, and the last one is full, so more of the file is left
-pub record IsFull (received : List Received) : Type 0 where
-  pub all : count received ≡ 65535
+pub record IsFullWith (options : Bool) (received : List Received) : Type 0 where
+  pub all : count_with options received ≡ 65535
   pub last : List ℕ
-  pub is_last : last_block (blocks received) ≡ Some last
-  pub full : length last ≡ 512
+  pub is_last : last_block (blocks_with options received) ≡ Some last
+  pub full : length last ≡ size_with options received
+
+-- the same without options, where blocks have 512 bytes
+abbrev pub Refuses : List Received → Received → ℕ → Type 0
+Refuses before m number = RefusesWith false before m number
+
+abbrev pub IsTooLongBlock : List Received → Received → Type 0
+IsTooLongBlock before m = IsTooLongWith false before m
+
+abbrev pub IsFull : List Received → Type 0
+IsFull received = IsFullWith false received
 
 -- the moments of a watch
 abbrev pub moments : Watch → List ℕ
@@ -59,17 +77,24 @@ pub record RanOut (w : Watch) (now : ℕ) : Type 0 where
   pub over_due : first_from (sixth + 8000) (moments w) ≡ Some now
 
 -- Why a call told this end: each cause stands in what was received and when, and there is no other.
-pub data Ending (start : ℕ) (before : List Entry) (e : Entry) (cause : Cause) : Type 0 where
+pub data EndingWith (options : Bool) (start : ℕ) (before : List Entry) (e : Entry) (cause : Cause) : Type 0 where
   -- the file has become whole
-  by_whole_file : cause ≡ ok_cause → is_whole (got (before ++ e ∷ [])) ≡ true → Ending start before e cause
+  by_whole_file : cause ≡ ok_cause → whole_with options (got (before ++ e ∷ [])) ≡ true → EndingWith options start before e cause
   -- this datagram refuses
   by_refusal : (m : Received) (now number : ℕ) → e.call ≡ came m now → cause ≡ refused_by m.rec number
-      → Refuses (got before) m number → Ending start before e cause
+      → RefusesWith options (got before) m number → EndingWith options start before e cause
   -- this datagram's block is too long
   by_long_block : (m : Received) (now : ℕ) → e.call ≡ came m now → cause ≡ broken m.rec
-      → IsTooLongBlock (got before) m → Ending start before e cause
+      → IsTooLongWith options (got before) m → EndingWith options start before e cause
+  -- this datagram grants a size that is none to agree on
+  by_unfit_size : (m : Received) (now : ℕ) → e.call ≡ came m now → cause ≡ broken m.rec
+      → IsUnfitGrant options (got before) m → EndingWith options start before e cause
   -- no number is left for the next block
-  by_last_number : cause ≡ too_many_blocks → IsFull (got (before ++ e ∷ [])) → Ending start before e cause
+  by_last_number : cause ≡ too_many_blocks → IsFullWith options (got (before ++ e ∷ [])) → EndingWith options start before e cause
   -- the tries have run out, and no datagram since the last first sending has answered it
   by_silence : (now : ℕ) → e.call ≡ ticked now → cause ≡ timed_out
-      → RanOut (watched start (before ++ e ∷ [])) now → IsUnanswered start before → Ending start before e cause
+      → RanOut (watched start (before ++ e ∷ [])) now → IsUnansweredWith options start before → EndingWith options start before e cause
+
+-- without options
+abbrev pub Ending : ℕ → List Entry → Entry → Cause → Type 0
+Ending start before e cause = EndingWith false start before e cause

@@ -1,6 +1,6 @@
 -- One call of a transfer: what it asks, and what it is afterwards. What this amounts to over all calls
 -- is said in Sentences.
-use Rattle.std.specs.Prelude.{ℕ, List, if◌then◌else◌}
+use Rattle.std.specs.Prelude.{ℕ, Bool, List, if◌then◌else◌}
 use Rattle.std.specs.Option.{option_map_or, is_none}
 use Rattle.nb_retry.specs.declared.plan.Plan.TheVariants.{Common}
 use Rattle.nb_retry.specs.declared.retry.Due.{Due}
@@ -10,23 +10,26 @@ use Rattle.nb_terms.specs.declared.acts.Acts.{Acts}
 use Rattle.nb_tftpmsg.specs.Packets.{Message}
 use Rattle.nb_tftpmsg.specs.Reading.{packet_read}
 use Rattle.nb_tftp.specs.declared.answer.Answer.{Answer}
-use Rattle.nb_tftp.specs.declared.answer.Answer.TheVariants.{Ignored, Stranger, Again, Taken, Ended}
+use Rattle.nb_tftp.specs.declared.answer.Answer.TheVariants.{Ignored, Stranger, Again, Agreed, Declined, Taken, Ended}
 use Rattle.nb_tftp.specs.declared.answer.Phase.TheVariants.{Asking, Taking, Over}
 use Rattle.nb_tftp.specs.declared.state.State.{State}
 use Rattle.nb_tftp.specs.Asks.{Begun, nothing, acts_of, due_acts}
-use Rattle.nb_tftp.specs.Decisions.{fixed_of, last_of, transfer_has_ended, end_of_block, decided}
+use Rattle.nb_tftp.specs.Decisions.{fixed_of, block_size_of, last_of, transfer_has_ended, decided}
 
 abbrev pub begun_of : State → Begun
 begun_of state = record { server = state.server; port = state.port; own_port = state.own_port; request = state.request.items }
 
-abbrev pub first_state : Begun → ℕ → State
-first_state b now = record { server = b.server; port = b.port; own_port = b.own_port; request = record { items = b.request }; phase = Asking; retry = started now Common }
+abbrev pub first_state : Bool → Begun → ℕ → State
+first_state options b now =
+    record { server = b.server; port = b.port; own_port = b.own_port; options = options; request = record { items = b.request }; phase = Asking; retry = started now Common }
 
 -- the state behind an answer to a packet from a port
 abbrev pub after_answer : State → ℕ → Answer → ℕ → State
-after_answer state port (Taken n len) now =
-    if is_none (end_of_block n len)
-    then record state { phase = Taking port n; retry = started now Common }
+after_answer state port (Agreed size) now = record state { phase = Taking port size 0; retry = started now Common }
+after_answer state port (Declined rec) now = record state { phase = Over }
+after_answer state port (Taken n len over) now =
+    if is_none over
+    then record state { phase = Taking port (block_size_of state.phase) n; retry = started now Common }
     else record state { phase = Over }
 after_answer state port (Ended cause) now = record state { phase = Over }
 after_answer state port Ignored now = state
@@ -34,7 +37,8 @@ after_answer state port Stranger now = state
 after_answer state port (Again n) now = state
 
 abbrev pub answer_of : State → ℕ → ℕ → Message → Answer
-answer_of state rec port packet = decided (fixed_of state.phase) (last_of state.phase) rec port packet
+answer_of state rec port packet =
+    decided state.options (fixed_of state.phase) (block_size_of state.phase) (last_of state.phase) rec port packet
 
 -- a packet
 abbrev pub packet_acts : State → ℕ → ℕ → Message → Acts

@@ -1,22 +1,26 @@
 //! What a packet calls for.
 
 ghost use Rattle.std.specs.Prelude.{◌≡◌, Option, IfSome};
-ghost use Rattle.nb_tftp.specs.Decisions.{decided, block_decided, end_of_block, from_server, fixed_of, last_of, transfer_has_ended};
+ghost use Rattle.nb_tftp.specs.Decisions.{decided, block_decided, grant_decided, end_of_block, is_block_size, from_server, fixed_of, block_size_of, last_of, transfer_has_ended};
 ghost use Rattle.nb_tftpmsg.specs.Views.{message};
 
 use nb_terms::{Cause, Long, Plain, Reason};
 use nb_tftpmsg::Tftp;
 
-/// The most bytes of a block where no option was granted (RFC 1350, section 2).
-pub(crate) const BLOCK_SIZE: usize = 512;
+/// The size of blocks where no option was granted (RFC 1350, section 2).
+const BLOCK_SIZE: u16 = 512;
+/// The least size of blocks (RFC 2348).
+const LEAST_SIZE: u16 = 8;
+/// The size that is asked for, and the most that is taken (RFC 2348).
+const MOST_SIZE: u16 = 1432;
 
 /// How far a transfer is.
 #[derive(Clone, Copy, Debug, PartialEq, Eq, Drop)]
 pub(crate) enum Phase {
     /// The request is out.
     Asking,
-    /// Blocks come from this port; the last one taken has this number.
-    Taking { port: u16, last: u16 },
+    /// Blocks of this size come from this port; the last one taken has this number, 0 where none is.
+    Taking { port: u16, size: u16, last: u16 },
     /// It has ended.
     Over,
 }
@@ -29,9 +33,23 @@ pub(crate) enum Answer {
     /// It comes from another port than the server's: error 5.
     Stranger,
     /// It is the last block again: its acknowledgement again.
-    Again { block: u16 },
-    /// It is the next block, with this many bytes.
-    Taken { block: u16, len: u16 },
+    Again {
+        block: u16,
+    },
+    /// It grants the options that were asked for, with blocks of this size: acknowledgement 0 (RFC 2347).
+    Agreed {
+        size: u16,
+    },
+    /// It grants a size that is none to agree on: error 8, and the end (RFC 2347).
+    Declined {
+        rec: u32,
+    },
+    /// It is the next block, with this many bytes, and the end that it makes, if it makes one.
+    Taken {
+        block: u16,
+        len: u16,
+        over: Option<Cause>,
+    },
     /// The transfer ends.
     Ended(Cause),
 }
@@ -46,12 +64,15 @@ impl Phase {
         }
     }
 
-    /// What a packet of this port calls for in this phase, which isn't the end.
-    pub(crate) fn decide(self, rec: u32, from: u16, packet: &Tftp<'_>) -> Answer
-        ensures { result ≡ decided (fixed_of self) (last_of self) rec from (message packet.now) }
+    /// What a packet of this port calls for in this phase, which isn't the end, with or without options.
+    pub(crate) fn decide(self, options: bool, rec: u32, from: u16, packet: &Tftp<'_>) -> Answer
+        ensures { result ≡ decided options (fixed_of self) (block_size_of self) (last_of self) rec from (message packet.now) }
     {
         match packet {
-            Tftp::Oack { .. } => Answer::Ignored,
+            Tftp::Oack { .. } if !options => Answer::Ignored,
+            Tftp::Oack { blksize, .. } if self.is_from_server(from) => {
+                self.decide_grant(rec, blksize.unwrap_or(BLOCK_SIZE))
+            }
             Tftp::Error { code, .. } if self.is_from_server(from) => {
                 Answer::Ended(Cause::from(Reason::Refused { rec, code: *code }))
             }
@@ -74,20 +95,45 @@ impl Phase {
     }
 
     fn decide_block(self, rec: u32, block: u16, bytes: &[u8]) -> Answer
-        ensures { result ≡ block_decided (fixed_of self) (last_of self) rec block bytes.now }
+        ensures { result ≡ block_decided (fixed_of self) (block_size_of self) (last_of self) rec block bytes.now }
     {
         if u32::from(block) == u32::from(self.last()) + 1 {
-            if bytes.len() > BLOCK_SIZE {
+            let size = self.block_size();
+            if bytes.len() > usize::from(size) {
                 return Answer::Ended(Cause::from(Reason::Broken { rec }));
             }
+            let len = bytes.len() as u16;
             return Answer::Taken {
                 block,
-                len: bytes.len() as u16,
+                len,
+                over: end_of_block(size, block, len),
             };
         }
         match self {
-            Phase::Taking { last, .. } if last == block => Answer::Again { block },
+            Phase::Taking { last, .. } if block != 0 && last == block => Answer::Again { block },
             _ => Answer::Ignored,
+        }
+    }
+
+    /// What an OACK from the server calls for that grants this size.
+    fn decide_grant(self, rec: u32, size: u16) -> Answer
+        ensures { result ≡ grant_decided (fixed_of self) (last_of self) rec size }
+    {
+        match self {
+            Phase::Taking { last: 0, .. } => Answer::Again { block: 0 },
+            Phase::Taking { .. } => Answer::Ignored,
+            _ if is_block_size(size) => Answer::Agreed { size },
+            _ => Answer::Declined { rec },
+        }
+    }
+
+    /// The size of blocks: what was agreed, 512 before.
+    pub(crate) fn block_size(self) -> u16
+        ensures { result ≡ block_size_of self }
+    {
+        match self {
+            Phase::Taking { size, .. } => size,
+            _ => BLOCK_SIZE,
         }
     }
 
@@ -102,11 +148,18 @@ impl Phase {
     }
 }
 
-/// The end that a block makes, if it makes one.
-pub(crate) fn end_of_block(block: u16, len: u16) -> Option<Cause>
-    ensures { result ≡ end_of_block block len }
+/// The sizes of blocks that a transfer agrees to.
+fn is_block_size(size: u16) -> bool
+    ensures { result ≡ is_block_size size }
 {
-    if (len as usize) < BLOCK_SIZE {
+    LEAST_SIZE <= size && size <= MOST_SIZE
+}
+
+/// The end that a block makes where blocks have this size, if it makes one.
+fn end_of_block(size: u16, block: u16, len: u16) -> Option<Cause>
+    ensures { result ≡ end_of_block size block len }
+{
+    if len < size {
         return Some(Cause::from(Reason::Plain(Plain::Ok)));
     }
     if block == u16::MAX {

@@ -3,13 +3,16 @@
 ghost use Rattle.std.specs.Prelude.{◌≡◌, ◌≤◌, length, [], None};
 ghost use Rattle.nb_tftpmsg.specs.Texts.{HasNoZero};
 ghost use Rattle.nb_tftp.specs.Decisions.{fixed_of, last_of};
-ghost use Rattle.nb_tftp.specs.Asks.{begun, datagram, last_message, acts_of, nothing, sending};
+ghost use Rattle.nb_tftp.specs.Asks.{begun_asking, datagram, last_message, acts_of, nothing, sending};
 ghost use Rattle.nb_tftpmsg.specs.Packets.{packet_text, ack, error};
 ghost use Rattle.nb_tftp.specs.Steps.{begun_of, first_state, after_answer, packet_acts, after_packet, bytes_acts, after_bytes, tick_acts, after_tick};
 ghost use Rattle.nb_tftpmsg.specs.Views.{message};
+ghost use Rattle.nb_tftp.specs.declared.answer.Phase.TheVariants.{Taking};
+ghost use Rattle.nb_retry.specs.declared.plan.Plan.TheVariants.{Common};
+ghost use Rattle.nb_retry.specs.Timer.{started};
 
 use crate::acts::take_block;
-use crate::answer::{Answer, Phase, end_of_block};
+use crate::answer::{Answer, Phase};
 use crate::request::request_bytes;
 use arrayvec::ArrayVec;
 use nb_retry::{Due, Plan, Retry};
@@ -21,6 +24,8 @@ use nb_wire::Ip4;
 const UDP: u8 = 17;
 /// "Unknown transfer ID" (RFC 1350, appendix).
 const UNKNOWN_TRANSFER: u16 = 5;
+/// The options that were granted are refused (RFC 2347).
+const OPTIONS_REFUSED: u16 = 8;
 /// The plan's tries had no answer.
 const TIMED_OUT: Reason = Reason::TimedOut { tries: 6 };
 
@@ -31,6 +36,8 @@ pub(crate) struct State {
     /// The port that was asked.
     pub(crate) port: u16,
     pub(crate) own_port: u16,
+    /// Options were asked for.
+    pub(crate) options: bool,
     /// The request's packet.
     pub(crate) request: ArrayVec<u8, 1480>,
     pub(crate) phase: Phase,
@@ -38,11 +45,18 @@ pub(crate) struct State {
 }
 
 impl State {
-    /// A transfer whose request is out.
-    pub(crate) fn begun(server: Ip4, port: u16, own_port: u16, path: &[u8], now: u64) -> State
+    /// A transfer whose request is out, with or without options.
+    pub(crate) fn begun(
+        options: bool,
+        server: Ip4,
+        port: u16,
+        own_port: u16,
+        path: &[u8],
+        now: u64,
+    ) -> State
         requires clean { HasNoZero path.now }
         requires fits { length path.now ≤ 1024 }
-        ensures { result ≡ first_state (begun server port own_port path.now) now }
+        ensures { result ≡ first_state options (begun_asking options server port own_port path.now) now }
     {
         let mut retry = Retry::stopped();
         retry.start(now, Plan::Common);
@@ -50,7 +64,8 @@ impl State {
             server,
             port,
             own_port,
-            request: request_bytes(path),
+            options,
+            request: request_bytes(path, options),
             phase: Phase::Asking,
             retry,
         }
@@ -76,7 +91,7 @@ impl State {
         if self.phase.is_over() {
             return;
         }
-        let answer = self.phase.decide(rec, from, packet);
+        let answer = self.phase.decide(self.options, rec, from, packet);
         self.follow(from, answer, now);
         self.ask(from, answer, acts);
     }
@@ -106,7 +121,7 @@ impl State {
         ensures { acts.new ≡ sending (last_message (begun_of self.now) (fixed_of self.now.phase) (last_of self.now.phase)) tried }
     {
         match self.phase {
-            Phase::Taking { port, last } => self.send_to(port, &ack_bytes(last), acts),
+            Phase::Taking { port, last, .. } => self.send_to(port, &ack_bytes(last), acts),
             _ => self.send_to(self.port, self.request.as_slice(), acts),
         }
         acts.tried = tried;
@@ -117,16 +132,25 @@ impl State {
         ensures { self.new ≡ after_answer self.old from answer now }
     {
         match answer {
-            Answer::Taken { block, len } if end_of_block(block, len).is_none() => {
-                self.phase = Phase::Taking {
-                    port: from,
-                    last: block,
-                };
-                self.retry.start(now, Plan::Common);
+            Answer::Agreed { size } => self.await_block(from, size, 0, now),
+            Answer::Taken {
+                block,
+                over: None,
+                ..
+            } => self.await_block(from, self.phase.block_size(), block, now),
+            Answer::Taken { .. } | Answer::Declined { .. } | Answer::Ended(_) => {
+                self.phase = Phase::Over;
             }
-            Answer::Taken { .. } | Answer::Ended(_) => self.phase = Phase::Over,
             _ => {}
         }
+    }
+
+    /// Blocks of this size come from this port, behind this one. The timer starts anew.
+    fn await_block(&mut self, port: u16, size: u16, last: u16, now: u64)
+        ensures { self.new ≡ record self.old { phase = Taking port size last; retry = started now Common } }
+    {
+        self.phase = Phase::Taking { port, size, last };
+        self.retry.start(now, Plan::Common);
     }
 
     /// What an answer asks of the caller.
@@ -138,9 +162,17 @@ impl State {
             Answer::Ignored => {}
             Answer::Stranger => self.send_to(from, &refusal_bytes(UNKNOWN_TRANSFER), acts),
             Answer::Again { block } => self.send_to(from, &ack_bytes(block), acts),
-            Answer::Taken { block, len } => {
+            Answer::Agreed { .. } => {
+                self.send_to(from, &ack_bytes(0), acts);
+                acts.tried = Some(1);
+            }
+            Answer::Declined { rec } => {
+                self.send_to(from, &refusal_bytes(OPTIONS_REFUSED), acts);
+                acts.over = Some(Cause::from(Reason::Broken { rec }));
+            }
+            Answer::Taken { block, len, over } => {
                 self.send_to(from, &ack_bytes(block), acts);
-                take_block(block, len, end_of_block(block, len), acts);
+                take_block(block, len, over, acts);
             }
             Answer::Ended(cause) => acts.over = Some(cause),
         }

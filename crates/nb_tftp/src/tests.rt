@@ -46,11 +46,11 @@ fn ended(code: u8, a: u32, b: u32) -> Option<Cause> {
 #[test]
 fn starts_with_a_request(rt: HostRuntime) -> Result<(), Fail> {
     let mut acts = Acts::none();
-    let _transfer = Transfer::start(0, SERVER, 69, OWN_PORT, b"f", 0, &mut acts)?;
+    let _transfer = Transfer::start_plain(0, SERVER, 69, OWN_PORT, b"f", 0, &mut acts)?;
     assert!(rt; sends_to(&acts, 69, REQUEST));
     assert_eq!(rt; acts.tried, Some(1));
     let path = [b'p'; 1025];
-    let refused = Transfer::start(0, SERVER, 69, OWN_PORT, &path, 0, &mut acts);
+    let refused = Transfer::start_plain(0, SERVER, 69, OWN_PORT, &path, 0, &mut acts);
     assert_eq!(rt; refused.err(), Some(TooLong));
     assert!(rt; sends_to(&acts, 69, b""));
     Ok(())
@@ -60,7 +60,7 @@ fn starts_with_a_request(rt: HostRuntime) -> Result<(), Fail> {
 #[test]
 fn takes_each_block_once(rt: HostRuntime) -> Result<(), Fail> {
     let mut acts = Acts::none();
-    let mut transfer = Transfer::start(0, SERVER, 69, OWN_PORT, b"f", 0, &mut acts)?;
+    let mut transfer = Transfer::start_plain(0, SERVER, 69, OWN_PORT, b"f", 0, &mut acts)?;
     for (n, len, reply, give, tried, advance, over) in [
         (
             1,
@@ -108,7 +108,7 @@ fn takes_each_block_once(rt: HostRuntime) -> Result<(), Fail> {
 #[test]
 fn ends_at_an_empty_block(rt: HostRuntime) -> Result<(), Fail> {
     let mut acts = Acts::none();
-    let mut transfer = Transfer::start(0, SERVER, 69, OWN_PORT, b"f", 0, &mut acts)?;
+    let mut transfer = Transfer::start_plain(0, SERVER, 69, OWN_PORT, b"f", 0, &mut acts)?;
     for (n, len, over) in [(1, 512, None), (2, 512, None), (3, 0, ended(0, 0, 0))] {
         transfer.message(1, 2000, block(n, len).as_slice(), 0, &mut acts);
         assert_eq!(rt; acts.over, over, "the end at block {n}");
@@ -136,7 +136,7 @@ fn ends_where_a_datagram_ends_it(rt: HostRuntime) -> Result<(), Fail> {
         (b"\x00\x07\x00\x00", None, "no packet"),
     ] {
         let mut acts = Acts::none();
-        let mut transfer = Transfer::start(0, SERVER, 69, OWN_PORT, b"f", 0, &mut acts)?;
+        let mut transfer = Transfer::start_plain(0, SERVER, 69, OWN_PORT, b"f", 0, &mut acts)?;
         transfer.message(9, 2000, bytes, 0, &mut acts);
         assert_eq!(rt; acts.over, over, "{what}");
         assert!(rt; sends_to(&acts, 2000, b""), "no reply to {what}");
@@ -147,7 +147,7 @@ fn ends_where_a_datagram_ends_it(rt: HostRuntime) -> Result<(), Fail> {
 #[test]
 fn tells_strangers_so(rt: HostRuntime) -> Result<(), Fail> {
     let mut acts = Acts::none();
-    let mut transfer = Transfer::start(0, SERVER, 69, OWN_PORT, b"f", 0, &mut acts)?;
+    let mut transfer = Transfer::start_plain(0, SERVER, 69, OWN_PORT, b"f", 0, &mut acts)?;
     transfer.message(1, 2000, block(1, 512).as_slice(), 0, &mut acts);
     let next = block(2, 512);
     for (bytes, reply, what) in [
@@ -169,7 +169,7 @@ fn tells_strangers_so(rt: HostRuntime) -> Result<(), Fail> {
 #[test]
 fn gives_up_after_six_tries(rt: HostRuntime) -> Result<(), Fail> {
     let mut acts = Acts::none();
-    let mut transfer = Transfer::start(0, SERVER, 69, OWN_PORT, b"f", 0, &mut acts)?;
+    let mut transfer = Transfer::start_plain(0, SERVER, 69, OWN_PORT, b"f", 0, &mut acts)?;
     for step in 1_u64..63 {
         transfer.time(step * 250, &mut acts);
         let tried = match step {
@@ -194,7 +194,7 @@ fn gives_up_after_six_tries(rt: HostRuntime) -> Result<(), Fail> {
 fn has_room_for_65535_blocks(rt: HostRuntime) -> Result<(), Fail> {
     for (len, over) in [(512, ended(5, 4, 0)), (511, ended(0, 0, 0))] {
         let mut acts = Acts::none();
-        let mut transfer = Transfer::start(0, SERVER, 69, OWN_PORT, b"f", 0, &mut acts)?;
+        let mut transfer = Transfer::start_plain(0, SERVER, 69, OWN_PORT, b"f", 0, &mut acts)?;
         for n in 1..65_535 {
             transfer.message(1, 2000, block(n, 512).as_slice(), 0, &mut acts);
             assert_eq!(rt; acts.over, None, "block {n}");
@@ -204,5 +204,123 @@ fn has_room_for_65535_blocks(rt: HostRuntime) -> Result<(), Fail> {
         assert!(rt; sends_to(&acts, 2000, b"\x00\x04\xff\xff"));
         assert_eq!(rt; acts.advance, Some(65_535));
     }
+    Ok(())
+}
+
+/// A transfer with options, with its request out.
+fn with_options(acts: &mut Acts) -> Result<Transfer, TooLong> {
+    Transfer::start(0, SERVER, 69, OWN_PORT, b"f", 0, acts)
+}
+
+// The grant of blksize alone is RFC 2347's example; that of both options is written by hand from RFC 2349. A file of
+// 1,432 bytes comes in blocks of 1,432 and 0.
+#[test]
+fn takes_blocks_of_the_size_granted(rt: HostRuntime) -> Result<(), Fail> {
+    for grant in [
+        b"\x00\x06blksize\x001432\x00tsize\x001432\x00".as_slice(),
+        b"\x00\x06blksize\x001432\x00",
+    ] {
+        let mut acts = Acts::none();
+        let mut transfer = with_options(&mut acts)?;
+        let request = b"\x00\x01f\x00octet\x00blksize\x001432\x00tsize\x000\x00";
+        assert!(rt; sends_to(&acts, 69, request));
+        transfer.message(1, 2000, grant, 10, &mut acts);
+        assert!(rt;
+            sends_to(&acts, 2000, b"\x00\x04\x00\x00"),
+            "acknowledgement 0"
+        );
+        assert_eq!(rt; acts.tried, Some(1));
+        assert_eq!(rt; acts.advance, None);
+        transfer.message(2, 2000, block(1, 1432).as_slice(), 10, &mut acts);
+        assert!(rt; sends_to(&acts, 2000, b"\x00\x04\x00\x01"));
+        assert_eq!(rt; acts.give, Some((4, 1436)));
+        assert_eq!(rt; acts.over, None);
+        transfer.message(3, 2000, block(2, 0).as_slice(), 10, &mut acts);
+        assert!(rt; sends_to(&acts, 2000, b"\x00\x04\x00\x02"));
+        assert_eq!(rt; acts.over, ended(0, 0, 0));
+    }
+    Ok(())
+}
+
+// A server that ignores options: a file of 1,024 bytes in blocks of 512, 512 and 0 bytes. A longer block is none.
+#[test]
+fn goes_on_without_a_grant(rt: HostRuntime) -> Result<(), Fail> {
+    let mut acts = Acts::none();
+    let mut transfer = with_options(&mut acts)?;
+    for (n, len, reply, over) in [
+        (1, 512, b"\x00\x04\x00\x01".as_slice(), None),
+        (2, 512, b"\x00\x04\x00\x02", None),
+        (3, 0, b"\x00\x04\x00\x03", ended(0, 0, 0)),
+    ] {
+        transfer.message(1, 2000, block(n, len).as_slice(), 0, &mut acts);
+        assert!(rt; sends_to(&acts, 2000, reply), "the reply to block {n}");
+        assert_eq!(rt; acts.over, over, "the end at block {n}");
+    }
+    let mut transfer = with_options(&mut acts)?;
+    transfer.message(7, 2000, block(1, 1432).as_slice(), 0, &mut acts);
+    assert_eq!(rt; acts.over, ended(3, 7, 0), "1,432 bytes without an OACK");
+    Ok(())
+}
+
+// RFC 2347, "Negotiation Protocol": a value that was not asked for ends in error 8. RFC 2348: 8 is the least.
+#[test]
+fn declines_other_sizes(rt: HostRuntime) -> Result<(), Fail> {
+    for (grant, taken) in [
+        (b"\x00\x06blksize\x002000\x00".as_slice(), false),
+        (b"\x00\x06blksize\x001433\x00", false),
+        (b"\x00\x06blksize\x007\x00", false),
+        (b"\x00\x06blksize\x008\x00", true),
+        (b"\x00\x06tsize\x005\x00", true),
+        (b"\x00\x06", true),
+    ] {
+        let mut acts = Acts::none();
+        let mut transfer = with_options(&mut acts)?;
+        transfer.message(4, 2000, grant, 0, &mut acts);
+        if taken {
+            assert!(rt; sends_to(&acts, 2000, b"\x00\x04\x00\x00"));
+            assert_eq!(rt; acts.over, None);
+        } else {
+            assert!(rt; sends_to(&acts, 2000, b"\x00\x05\x00\x08\x00"));
+            assert_eq!(rt; acts.over, ended(3, 4, 0));
+        }
+    }
+    Ok(())
+}
+
+// The first OACK is the agreement: what comes after it changes neither port nor size nor timer.
+#[test]
+fn agrees_once(rt: HostRuntime) -> Result<(), Fail> {
+    let mut acts = Acts::none();
+    let mut transfer = with_options(&mut acts)?;
+    let grant = b"\x00\x06blksize\x001024\x00".as_slice();
+    transfer.message(1, 2000, grant, 0, &mut acts);
+    for (port, bytes, reply, what) in [
+        (
+            2000,
+            grant,
+            b"\x00\x04\x00\x00".as_slice(),
+            "the OACK again",
+        ),
+        (
+            2000,
+            b"\x00\x06blksize\x008\x00",
+            b"\x00\x04\x00\x00",
+            "another OACK",
+        ),
+        (2001, grant, UNKNOWN_TRANSFER, "an OACK from another port"),
+        (2000, b"\x00\x03\x00\x00", b"", "block 0"),
+    ] {
+        transfer.message(2, port, bytes, 100, &mut acts);
+        assert!(rt; sends_to(&acts, port, reply), "{what}");
+        assert_eq!(rt; acts.tried, None, "{what}");
+        assert_eq!(rt; acts.over, None, "{what}");
+    }
+    transfer.time(250, &mut acts);
+    assert_eq!(rt; acts.tried, Some(2), "the timer of the first OACK");
+    assert!(rt; sends_to(&acts, 2000, b"\x00\x04\x00\x00"));
+    transfer.message(3, 2000, block(1, 1024).as_slice(), 300, &mut acts);
+    assert_eq!(rt; acts.over, None, "a full block");
+    transfer.message(4, 2000, grant, 300, &mut acts);
+    assert!(rt; sends_to(&acts, 2000, b""), "an OACK behind block 1");
     Ok(())
 }

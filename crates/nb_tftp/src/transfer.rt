@@ -27,17 +27,39 @@ impl Model for Transfer {
 }
 
 impl Transfer {
-    ghost use Rattle.std.specs.Prelude.{◌≡◌, ◌<◌, ◌∷◌, ◌++◌, ◌↔◌, [], ℕ, List, length, IsErr, IfOk, OnErr, OnOk, Some, None, true, false};
+    ghost use Rattle.std.specs.Prelude.{◌≡◌, ◌<◌, ◌∷◌, ◌++◌, ◌↔◌, [], ℕ, Bool, List, length, IsErr, IfOk, OnErr, OnOk, Some, None, true, false};
     ghost use Rattle.nb_tftpmsg.specs.Texts.{HasNoZero};
-    ghost use Rattle.nb_tftp.specs.Asks.{Begun, begun, nothing, sending, last_message};
+    ghost use Rattle.nb_tftp.specs.Asks.{Begun, begun, begun_asking, nothing, sending, last_message};
     ghost use Rattle.nb_tftp.specs.Received.{received};
     ghost use Rattle.nb_tftp.specs.History.{Entry, entry, came, ticked, is_ended};
-    ghost use Rattle.nb_tftp.specs.Stands.{Stands};
+    ghost use Rattle.nb_tftp.specs.Stands.{Stands, StandsWith};
     ghost use Rattle.nb_tftp.specs.Sound.{AreSoundActs};
 
-    /// Asks the server for the file of this path. The path holds no zero byte; one of more than 1,024
-    /// bytes is too long. The open's number isn't needed here.
+    /// Asks the server for the file of this path with options: blocks of 1,432 bytes (RFC 2348), and the file's
+    /// size (RFC 2349). The path holds no zero byte; one of more than 1,024 bytes is too long. The open's number
+    /// isn't needed here.
     pub fn start(
+        _number: u16,
+        server: Ip4,
+        port: u16,
+        own_port: u16,
+        path: &[u8],
+        now: u64,
+        acts: &mut Acts,
+    ) -> Result<Transfer, TooLong>
+        requires { HasNoZero path.now }
+        ensures too_long { IsErr result ↔ (1024 < length path.now) }
+        ensures refused { OnErr result (acts.new ≡ nothing) }
+        // The request is sent, under a timer, and no call stands behind it.
+        ensures request { OnOk result (acts.new ≡ sending (last_message (begun_asking true server port own_port path.now) None 0) (Some 1)) }
+        ensures stands { IfOk result (λ t. StandsWith true (begun_asking true server port own_port path.now) now t []) }
+        ensures sound { AreSoundActs 0 acts.new }
+    {
+        Transfer::ask(true, server, port, own_port, path, now, acts)
+    }
+
+    /// The same without options, so blocks have 512 bytes.
+    pub fn start_plain(
         _number: u16,
         server: Ip4,
         port: u16,
@@ -54,11 +76,31 @@ impl Transfer {
         ensures stands { IfOk result (λ t. Stands (begun server port own_port path.now) now t []) }
         ensures sound { AreSoundActs 0 acts.new }
     {
+        Transfer::ask(false, server, port, own_port, path, now, acts)
+    }
+
+    /// Asks the server for the file of this path, with or without options.
+    fn ask(
+        options: bool,
+        server: Ip4,
+        port: u16,
+        own_port: u16,
+        path: &[u8],
+        now: u64,
+        acts: &mut Acts,
+    ) -> Result<Transfer, TooLong>
+        requires { HasNoZero path.now }
+        ensures too_long { IsErr result ↔ (1024 < length path.now) }
+        ensures refused { OnErr result (acts.new ≡ nothing) }
+        ensures request { OnOk result (acts.new ≡ sending (last_message (begun_asking options server port own_port path.now) None 0) (Some 1)) }
+        ensures stands { IfOk result (λ t. StandsWith options (begun_asking options server port own_port path.now) now t []) }
+        ensures sound { AreSoundActs 0 acts.new }
+    {
         if path.len() > MAX_PATH {
             acts.clear();
             return Err(TooLong);
         }
-        let state = State::begun(server, port, own_port, path, now);
+        let state = State::begun(options, server, port, own_port, path, now);
         acts.clear();
         state.ask_last(Some(1), acts);
         Ok(Transfer { state })
@@ -68,11 +110,11 @@ impl Transfer {
     pub fn message(&mut self, rec: u32, src_port: u16, body: &[u8], now: u64, acts: &mut Acts)
         // With this call and what it asks, the transfer stands for one call more. `Stands` has what it
         // promises of all of them.
-        ensures stands { (b : Begun) (start : ℕ) (h : List Entry) → Stands b start self.old h → is_ended h ≡ false → Stands b start self.new (h ++ entry (came (received rec src_port body.now) now) acts.new ∷ []) }
+        ensures stands { (options : Bool) (b : Begun) (start : ℕ) (h : List Entry) → StandsWith options b start self.old h → is_ended h ≡ false → StandsWith options b start self.new (h ++ entry (came (received rec src_port body.now) now) acts.new ∷ []) }
         // It asks for at most one message, by UDP, and gives up a range of the body.
         ensures sound { AreSoundActs (length body.now) acts.new }
         // After its end it ignores every call.
-        ensures ended { (b : Begun) (start : ℕ) (h : List Entry) → Stands b start self.old h → is_ended h ≡ true → Stands b start self.new h × (acts.new ≡ nothing) }
+        ensures ended { (options : Bool) (b : Begun) (start : ℕ) (h : List Entry) → StandsWith options b start self.old h → is_ended h ≡ true → StandsWith options b start self.new h × (acts.new ≡ nothing) }
     {
         acts.clear();
         self.state.datagram(rec, src_port, body, now, acts);
@@ -80,9 +122,9 @@ impl Transfer {
 
     /// It is this time, in milliseconds since the start of the run.
     pub fn time(&mut self, now: u64, acts: &mut Acts)
-        ensures stands { (b : Begun) (start : ℕ) (h : List Entry) → Stands b start self.old h → is_ended h ≡ false → Stands b start self.new (h ++ entry (ticked now) acts.new ∷ []) }
+        ensures stands { (options : Bool) (b : Begun) (start : ℕ) (h : List Entry) → StandsWith options b start self.old h → is_ended h ≡ false → StandsWith options b start self.new (h ++ entry (ticked now) acts.new ∷ []) }
         ensures sound { AreSoundActs 0 acts.new }
-        ensures ended { (b : Begun) (start : ℕ) (h : List Entry) → Stands b start self.old h → is_ended h ≡ true → Stands b start self.new h × (acts.new ≡ nothing) }
+        ensures ended { (options : Bool) (b : Begun) (start : ℕ) (h : List Entry) → StandsWith options b start self.old h → is_ended h ≡ true → StandsWith options b start self.new h × (acts.new ≡ nothing) }
     {
         acts.clear();
         self.state.tick(now, acts);

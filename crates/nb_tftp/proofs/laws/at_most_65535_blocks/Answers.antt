@@ -1,5 +1,6 @@
-use Rattle.nb_tftp.proofs.LimitLaws.{few_of_bytes, size_of_bytes, few_of_calls, size_of_calls}
+use Rattle.std.proofs.Common.{false}
+use Rattle.nb_tftp.proofs.LimitLaws.{few_of_bytes, few_of_calls}
 use Rattle.nb_tftp.proofs.laws.at_most_65535_blocks.Goals as goal
 
 pub returns : goal.returns
-returns c = record { blocks = few_of_calls; size = size_of_calls; numbers = few_of_bytes; bytes = size_of_bytes }
+returns c = record { blocks = few_of_calls; numbers = few_of_bytes; plain = few_of_calls false }
