@@ -88,7 +88,7 @@ impl Fetch {
         let target = &wanted.target;
         let name = copy(alloc, target.name)?;
         let uri = copy(alloc, wanted.uri)?;
-        match Transfer::start(
+        match Transfer::start_plain(
             number,
             target.server,
             TFTP_PORT,

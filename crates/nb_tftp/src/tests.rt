@@ -212,8 +212,8 @@ fn with_options(acts: &mut Acts) -> Result<Transfer, TooLong> {
     Transfer::start(0, SERVER, 69, OWN_PORT, b"f", 0, acts)
 }
 
-// The grant of blksize alone is RFC 2347's example; that of both options is written by hand from RFC 2349. A file of
-// 1,432 bytes comes in blocks of 1,432 and 0.
+// A file of 1,432 bytes comes in blocks of 1,432 and 0. The OACK of both options is what dnsmasq 2.90 and tftpd-hpa
+// 5.2 answered this request for such a file, captured on loopback; that of blksize alone is RFC 2347's example.
 #[test]
 fn takes_blocks_of_the_size_granted(rt: HostRuntime) -> Result<(), Fail> {
     for grant in [

@@ -1,3 +1,4 @@
+use Rattle.std.proofs.Common.{false}
 use Rattle.nb_engine.proofs.fetch.Fetch.time.Goals as goal
 
 pub returns-clause-heard : goal.returns-clause-heard
@@ -5,7 +6,7 @@ returns-clause-heard c =
     let done = c.in_ok-end.ensures in
     record {
       same = record { number = done.same.number; server = done.same.server; own_port = done.same.own_port; name = done.same.name; uri = done.same.uri; boots = done.same.boots };
-      core = λ b start h stands lives. rw done.transfer (c.time.ensures.stands b start h stands lives);
+      core = λ b start h stands lives. rw done.transfer (c.time.ensures.stands false b start h stands lives);
       sound = (_, c.time.ensures.sound);
       ends = done.end;
       short = done.short;
