@@ -82,11 +82,13 @@ chunks_least room old taken at few least = λ rest given part later live e l.
     let here : AtChunked room old rest given = subst (λ s. LiveAt s old rest given) at live in
     let short : length part < length taken = less part later taken e l in
     let w : IsNotEnough here.body given 0 part = least here.body given part later here.stands e l in
-    let fits : length (given ++ w.gathered) ≤ most_bytes = omega (arith, length-append given w.gathered, w.among, short, few, here.fits) in
-    (w.gathered, with_more (rest ++ part) (given ++ w.gathered)
-        (body_reads old.head (rest ++ part) (here.body ++ part) here.h chunked (response more (given ++ w.gathered)) here.head
-        (ap (λ t. t ++ part) here.is_rest ∙ append_assoc old.head here.body part) here.frames
-        (response more (given ++ w.gathered), w.reads, unlimited more (given ++ w.gathered) fits)))
+    let fits : length (given ++ w.gathered) ≤ most_bytes = omega (arith, length-append given w.gathered, w.among, short, few, here.fits) in (
+      w.gathered,
+      with_more (rest ++ part) (given ++ w.gathered)
+          (body_reads old.head (rest ++ part) (here.body ++ part) here.h chunked (response more (given ++ w.gathered)) here.head
+          (ap (λ t. t ++ part) here.is_rest ∙ append_assoc old.head here.body part) here.frames
+          (response more (given ++ w.gathered), w.reads, unlimited more (given ++ w.gathered) fits)),
+    )
 
 -- a list's first, of as many as there are
 pub take_min : (n : ℕ) (xs : List ℕ) → take (min n (length xs)) xs ≡ take n xs

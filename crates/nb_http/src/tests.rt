@@ -415,11 +415,7 @@ fn bytes_after_a_move(rt: HostRuntime) -> Result<(), Fail> {
 fn bytes_after_the_deciding_one(rt: HostRuntime) -> Result<(), Fail> {
     let rows: [(&[u8], &[u8], End); 5] = [
         (b"HTTP/1.1 200 OK\r\nA b\r\n\r\n", b"\r\nmore", BROKEN),
-        (
-            b"HTTP/1.1 200 OK\r\nContent-Length: 2\r\n\r\nhi",
-            b"hi",
-            OK,
-        ),
+        (b"HTTP/1.1 200 OK\r\nContent-Length: 2\r\n\r\nhi", b"hi", OK),
         (
             b"HTTP/1.1 200 OK\r\nTransfer-Encoding: chunked\r\n\r\n5z",
             b"\r\nhello",

@@ -29,9 +29,9 @@ module _ {K X : Type 0} (bytes : K → List ℕ) where
   pub bytes_updated : (bs : List ℕ) (m n : BTreeMap K X) (w : Option X) → UpdatesBy (λ x y. slice_cmp nat_cmp (bytes x) (bytes y)) (λ k. slice_cmp nat_cmp bs (bytes k)) m n w
       → (cs : List ℕ) → at_bytes n cs ≡ cond (bytes_eq bs cs) w (at_bytes m cs)
   bytes_updated bs m n w h cs = elim (cases_Bool (bytes_eq bs cs)) [
-      | inl y ↦ subst (λ l. at_bytes n l ≡ w) ((bytes_decides bs cs).0 y) h.1 ∙ sym (cond-true (bytes_eq bs cs) w (at_bytes m cs) y)
-      | inr apart_is ↦ others_stay bs cs m.entries n.entries h.3 apart_is ∙ sym (cond-false (bytes_eq bs cs) w (at_bytes m cs) apart_is)
-    ]
+    | inl y ↦ subst (λ l. at_bytes n l ≡ w) ((bytes_decides bs cs).0 y) h.1 ∙ sym (cond-true (bytes_eq bs cs) w (at_bytes m cs) y)
+    | inr apart_is ↦ others_stay bs cs m.entries n.entries h.3 apart_is ∙ sym (cond-false (bytes_eq bs cs) w (at_bytes m cs) apart_is)
+  ]
 
 none_of : {X : Type 0} (o : Option X) → is_some o ≡ false → o ≡ None
 none_of None e = refl
@@ -45,8 +45,8 @@ or_none (Some x) = refl
 pub adds_place : (old_at : List ℕ → Option ℕ) (name other : List ℕ) (place : ℕ) (new : Option ℕ) → is_some (old_at name) ≡ false → new ≡ cond (bytes_eq name other) (Some place) (old_at other)
     → new ≡ option_or (old_at other) (place_if (bytes_eq name other) place)
 adds_place old_at name other place new absent e = elim (cases_Bool (bytes_eq name other)) [
-    | inl y ↦
-        let here : old_at other ≡ None = subst (λ l. old_at l ≡ None) ((bytes_decides name other).0 y) (none_of (old_at name) absent) in
-        rw (e, here, y) refl
-    | inr apart_is ↦ rw (e, apart_is) (or_none (old_at other))
-  ]
+  | inl y ↦
+      let here : old_at other ≡ None = subst (λ l. old_at l ≡ None) ((bytes_decides name other).0 y) (none_of (old_at name) absent) in
+      rw (e, here, y) refl
+  | inr apart_is ↦ rw (e, apart_is) (or_none (old_at other))
+]

@@ -9,7 +9,7 @@ use Rattle.nb_script.specs.ShownLine.{is_label_at}
 use Rattle.nb_script.proofs.ScriptLemmas.{label_first, label_none}
 
 none_goes_on : (name : List ℕ) (code : List Line) (n : ℕ) → NoneIsLabel name code n → is_label_at name (slice_get code n) ≡ false → NoneIsLabel name code (n + 1)
-none_goes_on name code n before here = λ k h. elim (cases_lt k n) [ | inl less ↦ before k less | inr past ↦ let same : k ≡ n = omega (arith, h, past) in rw same here ]
+none_goes_on name code n before here = λ k h. elim (cases_lt k n) [ inl less ↦ before k less | inr past ↦ let same : k ≡ n = omega (arith, h, past) in rw same here ]
 
 -- the first place, after one more line
 pub first_goes_on : (name : List ℕ) (code : List Line) (n : ℕ) (b : Bool) (o : Option ℕ) → is_label_at name (slice_get code n) ≡ b → IsFirstBefore name code n o
