@@ -16,7 +16,7 @@ use Rattle.nb_tftp.specs.declared.answer.Answer.TheVariants.{Ignored, Stranger, 
 use Rattle.nb_tftp.specs.Ends.{ok_cause, refused_by, timed_out, broken, too_many_blocks}
 use Rattle.nb_tftp.specs.Asks.{Begun, acts_of, due_acts}
 use Rattle.nb_tftp.specs.Decisions.{from_server, decided, end_of_block, is_block_size}
-use Rattle.nb_tftp.specs.Received.{Received, packet_in, block_bytes, has_number, bytes_of, is_oack, stated_size, size_in, is_grant, port_with, size_with}
+use Rattle.nb_tftp.specs.Received.{Received, packet_in, block_bytes, has_number, bytes_of, is_oack, stated_size, port_with, size_with}
 use Rattle.nb_tftp.specs.Blocks.{FoundBlock, blocks_with, blocks_to, count_with, whole_with, last_block}
 use Rattle.nb_tftp.specs.History.{Call, came, ticked, Entry, entry, got, ends_ok, due_of, last_advance, watched, Watch}
 use Rattle.nb_tftp.specs.Sentences.{MeetsWith, OkWhereWholeWith, TriesUnanswered}

@@ -19,7 +19,7 @@ use Rattle.nb_tftp.specs.declared.answer.Answer.{Answer}
 use Rattle.nb_tftp.specs.declared.answer.Answer.TheVariants.{Ignored, Stranger, Again, Agreed, Declined, Taken, Ended}
 use Rattle.nb_tftp.specs.declared.answer.Phase.TheVariants.{Taking, Over}
 use Rattle.nb_tftp.specs.declared.state.State.{State}
-use Rattle.nb_tftp.specs.Asks.{Begun, acts_of, ack_of, taken, sending}
+use Rattle.nb_tftp.specs.Asks.{Begun, acts_of, ack_of, taken}
 use Rattle.nb_tftp.specs.Ends.{broken}
 use Rattle.nb_tftp.specs.Decisions.{from_server, block_size_of, transfer_has_ended, end_of_block}
 use Rattle.nb_tftp.specs.Steps.{after_answer}
