@@ -107,6 +107,56 @@ fn joins_a_value_over_overloaded_fields(rt: HostRuntime) -> Result<(), Fail> {
     has_value(&rt, bytes.as_slice(), 66, None)
 }
 
+/// The fields of an acknowledgement of ISC dhcpd 4.4.3 to a client that takes messages of 576 bytes.
+const OVERLOADED: &[u8] =
+    b"\x02\x01\x06\x00\x39\x03\x6b\xa1\x00\x00\x80\x00\x00\x00\x00\x00\x0a\x09\x00\x0a\x0a\x09\x00\x01\x00\x00\x00\x00\x02\x00\x00\x00\x00\x01";
+
+/// Its options field, before the first of three parts of option 224, which has 376 bytes.
+const OVERLOADED_OPTIONS: &[u8] =
+    b"\x63\x82\x53\x63\x35\x01\x05\x36\x04\x0a\x09\x00\x01\x33\x04\x00\x00\x02\x58\x01\x04\xff\xff\xff\x00\x03\x04\x0a\x09\x00\x01\x06\x04\x0a\x09\x00\x35\x0f\x0cboot.example\x11\x2aiscsi:10.9.0.1::::iqn.2002-02.example:disk";
+
+/// These bytes, so many of another, and these.
+fn filled(before: &[u8], byte: u8, count: usize, after: &[u8]) -> ArrayVec<u8, 512> {
+    let mut bytes = ArrayVec::new();
+    let _ = bytes.try_extend_from_slice(before);
+    for _ in 0..count {
+        let _ = bytes.try_push(byte);
+    }
+    let _ = bytes.try_extend_from_slice(after);
+    bytes
+}
+
+// An acknowledgement of ISC dhcpd 4.4.3 over a pair of interfaces: the overload stands last, without an end mark
+// after it, and a value is split over all three fields.
+#[test]
+fn reads_an_overloaded_acknowledgement_of_dhcpd(rt: HostRuntime) -> Result<(), Fail> {
+    let options = filled(b"\xe0\xd4", b'm', 212, b"\x34\x01\x03");
+    let mut rest: ArrayVec<u8, 512> = ArrayVec::new();
+    let _ = rest.try_extend_from_slice(OVERLOADED_OPTIONS);
+    let _ = rest.try_extend_from_slice(options.as_slice());
+    let file = filled(b"\xe0\x7d", b'f', 125, b"\xff");
+    let sname = filled(b"\xe0\x27", b's', 39, b"\xff");
+    let bytes = message_of(
+        OVERLOADED,
+        rest.as_slice(),
+        file.as_slice(),
+        sname.as_slice(),
+    );
+    assert_eq!(rt; bytes.len(), 548);
+    let long = filled(
+        filled(&[b'm'; 212], b'f', 125, b"").as_slice(),
+        b's',
+        39,
+        b"",
+    );
+    has_value(&rt, bytes.as_slice(), 224, Some(long.as_slice()))?;
+    has_value(&rt, bytes.as_slice(), 15, Some(b"boot.example"))?;
+    let message = read(bytes.as_slice())?;
+    assert_eq!(rt; (message.kind, message.yiaddr), (5, Ip4(0x0a09_000a)));
+    assert_eq!(rt; message.file(), b"".as_slice(), "the field holds options");
+    Ok(())
+}
+
 // RFC 3396, section 8: the name of a file as it is split there.
 #[test]
 fn joins_a_split_name(rt: HostRuntime) -> Result<(), Fail> {
