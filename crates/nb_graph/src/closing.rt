@@ -192,10 +192,10 @@ impl<N: Node> Inner<N> {
         ensures steady { IsSteady N.rank_of self.new.book self.new.nodes.items
             (vec_capacity self.new.nodes) }
     {
-        let key = self.book.key(low);
-        self.settle(low, key, out);
-        let key = self.book.key(high);
-        self.settle(high, key, out);
+        let unused = self.book.is_unused_at(low, self.book.key(low));
+        self.settle(low, unused, out);
+        let unused = self.book.is_unused_at(high, self.book.key(high));
+        self.settle(high, unused, out);
     }
 
     #[cycle(calm)]
