@@ -117,7 +117,7 @@ impl<N: Node> Inner<N> {
             (vec_capacity self.new.nodes) }
     {
         self.run_downs(id, key, msg, &mut fx.downs, now, out);
-        self.run_closes(id, fx.closes.as_slice(), now, out);
+        self.close_asked(id, fx.closes.as_slice(), now, out);
     }
 
     #[inline(always)]
@@ -184,7 +184,7 @@ impl<N: Node> Inner<N> {
         }
     }
 
-    #[inline(never)]
+    #[inline(always)]
     #[cycle(calm)]
     fn send_down<O: Outside>(
         &mut self,
@@ -221,6 +221,7 @@ impl<N: Node> Inner<N> {
     }
 
     /// A message leaves by one of the slots 1 to 3.
+    #[inline(always)]
     #[cycle(calm)]
     fn pass_down<O: Outside>(&mut self, at: Port, key: usize, msg: &Msg<'_>, now: u64, out: &mut O)
         requires slot { 1 ≤ at.slot }

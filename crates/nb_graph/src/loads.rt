@@ -16,6 +16,7 @@ use nb_ledger::ObjId;
 
 impl<N: Node> Inner<N> {
     /// Gives a lent load back to its node.
+    #[inline(always)]
     pub(crate) fn give_back(&mut self, id: ObjId, key: usize, load: N::Load)
         requires lives { object_lives self.old.book id.0 ≡ true }
         requires manned { IsManned N.rank_of self.old.book self.old.nodes.items
@@ -121,7 +122,7 @@ impl<N: Node> Inner<N> {
         }
     }
 
-    #[inline(never)]
+    #[inline(always)]
     fn take_lent(&mut self, id: ObjId, key: usize, load: Option<N::Load>)
         requires lives { object_lives self.old.book id.0 ≡ true }
         requires manned { IsManned N.rank_of self.old.book self.old.nodes.items

@@ -252,7 +252,7 @@ impl<N: Node> Inner<N> {
         self.run_make(id, &mut fx.makes, now, out);
         self.run_downs(id, key, msg, &mut fx.downs, now, out);
         self.run_ups(id, key, msg, &mut fx.ups, now, out);
-        self.run_closes(id, fx.closes.as_slice(), now, out);
+        self.close_asked(id, fx.closes.as_slice(), now, out);
     }
 
     #[inline(always)]

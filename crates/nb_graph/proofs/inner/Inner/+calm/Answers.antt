@@ -43,7 +43,7 @@ use Rattle.nb_graph.proofs.inner.Inner.+calm.Goals as goal
 pub calm_effects-returns-clause-lives : goal.calm_effects-returns-clause-lives
 calm_effects-returns-clause-lives g t c =
     let k = c.run_downs.ensures.lives in
-    rw (lent-below c.args.fx.now _ c.requires.asks) (CalmFor-opened (λ st. ap (λ z. z ++ st) (runs-below (nature g.N.Node.kind_of g.N.Load.Parts.first g.N.Load.Parts.second) c.args.id.0 (said c.args.msg.now) c.args.fx.now _ c.requires.asks) ∙ append_assoc (few_of (nature g.N.Node.kind_of g.N.Load.Parts.first g.N.Load.Parts.second) c.args.id.0 (said c.args.msg.now) c.args.fx.now.downs) (closes_of c.args.id.0 c.args.fx.now.closes.items) st ∙ ap (λ z. few_of (nature g.N.Node.kind_of g.N.Load.Parts.first g.N.Load.Parts.second) c.args.id.0 (said c.args.msg.now) c.args.fx.now.downs ++ (closes_of c.args.id.0 z ++ st)) (sym c.as_slice.ensures.value)) (CalmFor-last (loads c.args.fx.now.downs) c.requires.runs k c.run_closes.ensures.lives (λ ds p q i j w v h t. let z = Downs-closing c.args.self.now.book c.run_downs.new.self.book k.lives.moved.links k.lives.moved.shuts c.args.id.0 (λ n. few_bytes (nature g.N.Node.kind_of g.N.Load.Parts.first g.N.Load.Parts.second) n (said c.args.msg.now).bytes c.args.fx.now.downs) p q j j w v h in (z.0, z.1, λ _. z.2))))
+    rw (lent-below c.args.fx.now _ c.requires.asks) (CalmFor-opened (λ st. ap (λ z. z ++ st) (runs-below (nature g.N.Node.kind_of g.N.Load.Parts.first g.N.Load.Parts.second) c.args.id.0 (said c.args.msg.now) c.args.fx.now _ c.requires.asks) ∙ append_assoc (few_of (nature g.N.Node.kind_of g.N.Load.Parts.first g.N.Load.Parts.second) c.args.id.0 (said c.args.msg.now) c.args.fx.now.downs) (closes_of c.args.id.0 c.args.fx.now.closes.items) st ∙ ap (λ z. few_of (nature g.N.Node.kind_of g.N.Load.Parts.first g.N.Load.Parts.second) c.args.id.0 (said c.args.msg.now) c.args.fx.now.downs ++ (closes_of c.args.id.0 z ++ st)) (sym c.as_slice.ensures.value)) (CalmFor-last (loads c.args.fx.now.downs) c.requires.runs k c.close_asked.ensures.lives (λ ds p q i j w v h t. let z = Downs-closing c.args.self.now.book c.run_downs.new.self.book k.lives.moved.links k.lives.moved.shuts c.args.id.0 (λ n. few_bytes (nature g.N.Node.kind_of g.N.Load.Parts.first g.N.Load.Parts.second) n (said c.args.msg.now).bytes c.args.fx.now.downs) p q j j w v h in (z.0, z.1, λ _. z.2))))
 
 pub close_all-returns-clause-lives : goal.close_all-returns-clause-lives
 close_all-returns-clause-lives g t c =
@@ -278,3 +278,10 @@ after_down-returns-else-done-clause-lives g t c =
 
 pub run_down-returns-in-Some-clause-lives : goal.run_down-returns-in-Some-clause-lives
 run_down-returns-in-Some-clause-lives g t c = rw c.in-Some.is c.send_down.ensures.lives
+
+pub close_asked-returns-in_default-clause-lives : goal.close_asked-returns-in_default-clause-lives
+close_asked-returns-in_default-clause-lives g t c = CalmFor-opened (λ st. ap (λ z. z ++ st) (closes_of-none c.args.id.0 c.args.closes.now c.in_default.len_below)) (CalmFor-refl _ _ _ _ _ _ closing-idle)
+
+pub close_asked-returns-in_default-clause-shut : goal.close_asked-returns-in_default-clause-shut
+close_asked-returns-in_default-clause-shut g t c =
+    closes-none c.args.closes.now (λ k. open_count (port c.args.self.now.book c.args.id.0 k) ≡ 0) c.in_default.len_below

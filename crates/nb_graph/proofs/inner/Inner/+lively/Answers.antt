@@ -47,7 +47,7 @@ effects-returns-clause-lives g t c =
     let downs = c.run_downs.ensures.lives in
     let ups = c.run_ups.ensures.lives in
     let asks = c.requires.asks in
-    LivelyInFor-opened (λ st. runs-then (nature g.N.Node.kind_of g.N.Load.Parts.first g.N.Load.Parts.second) x (said c.args.msg.now) c.args.fx.now st ∙ ap (λ z. makes_of x c.args.fx.now.makes ++ (few_of (nature g.N.Node.kind_of g.N.Load.Parts.first g.N.Load.Parts.second) x (said c.args.msg.now) c.args.fx.now.downs ++ (few_of (nature g.N.Node.kind_of g.N.Load.Parts.first g.N.Load.Parts.second) x (said c.args.msg.now) c.args.fx.now.ups ++ (closes_of x z ++ st)))) (sym c.as_slice.ensures.value)) (LivelyInFor-effects (Leaves c.run_downs.new.self.book (port_at x 0) (few_bytes (nature g.N.Node.kind_of g.N.Load.Parts.first g.N.Load.Parts.second) 0 bytes c.args.fx.now.ups)) (DoesEffects c.run_make.new.self.book x sent) (loads c.args.fx.now.downs) (loads c.args.fx.now.ups) c.requires.runs made downs ups c.run_closes.ensures.lives
+    LivelyInFor-opened (λ st. runs-then (nature g.N.Node.kind_of g.N.Load.Parts.first g.N.Load.Parts.second) x (said c.args.msg.now) c.args.fx.now st ∙ ap (λ z. makes_of x c.args.fx.now.makes ++ (few_of (nature g.N.Node.kind_of g.N.Load.Parts.first g.N.Load.Parts.second) x (said c.args.msg.now) c.args.fx.now.downs ++ (few_of (nature g.N.Node.kind_of g.N.Load.Parts.first g.N.Load.Parts.second) x (said c.args.msg.now) c.args.fx.now.ups ++ (closes_of x z ++ st)))) (sym c.as_slice.ensures.value)) (LivelyInFor-effects (Leaves c.run_downs.new.self.book (port_at x 0) (few_bytes (nature g.N.Node.kind_of g.N.Load.Parts.first g.N.Load.Parts.second) 0 bytes c.args.fx.now.ups)) (DoesEffects c.run_make.new.self.book x sent) (loads c.args.fx.now.downs) (loads c.args.fx.now.ups) c.requires.runs made downs ups c.close_asked.ensures.lives
     (λ ds es a z. Livens-ups x _ ups.lively.grows.same_busy a z)
     (λ ds es a z. Livens-downs x sent (λ n. few_bytes (nature g.N.Node.kind_of g.N.Load.Parts.first g.N.Load.Parts.second) n bytes c.args.fx.now.downs) (few_bytes (nature g.N.Node.kind_of g.N.Load.Parts.first g.N.Load.Parts.second) 0 bytes c.args.fx.now.ups) (made.lively.grows.same_busy x ∙ c.requires.runs) (λ n o. downs-bytes (nature g.N.Node.kind_of g.N.Load.Parts.first g.N.Load.Parts.second) bytes _ c.args.fx.now asks.ups n o) (ups-bytes (nature g.N.Node.kind_of g.N.Load.Parts.first g.N.Load.Parts.second) bytes _ c.args.fx.now asks.downs) downs.calm.shrinks.same_busy a z)
     (λ ds es a z. Livens-effects x sent made.lively.grows.same_busy a z))
