@@ -8,6 +8,7 @@ from contextlib import redirect_stdout
 from unittest.mock import patch
 
 from bench import below, lay_out
+from blocks import BLOCKS, measure_blocks
 from entries import ENTRIES, measure_entries
 from stream import STREAM, measure_stream
 from tests.case import Case
@@ -24,20 +25,21 @@ class Laying(Case):
         within = {
             "stream": {"nb_tcp", "nb_reasm", "nb_streams", "nb_wire"},
             "entries": {"nb_graph", "nb_ledger", "nb_terms"},
+            "blocks": {"nb_nodes", "nb_graph", "nb_tftp", "nb_image"},
         }
-        for bench in (STREAM, ENTRIES):
+        for bench in (STREAM, ENTRIES, BLOCKS):
             folder = self.folder / f"of-{bench.name}"
             folder.mkdir()
             crate = lay_out(bench, folder)
             self.assertEqual(crate, folder / "crates" / bench.name)
             laid = {path.name for path in (folder / "crates").iterdir()}
             self.assertLessEqual({bench.name} | within[bench.name], laid)
-            self.assertFalse({"nb_stack", "nb_nodes", "nb_boot", "netboot"} & laid)
+            self.assertFalse({"nb_stack", "nb_boot", "netboot"} & laid)
             for name in laid:
                 self.assertTrue((folder / "crates" / name / "src").is_dir(), name)
 
     def test_missing_tools_are_named_in_a_line(self) -> None:
-        for measure in (measure_stream, measure_entries):
+        for measure in (measure_stream, measure_entries, measure_blocks):
             printed = io.StringIO()
             with patch.dict(os.environ, PATH="/none"), redirect_stdout(printed):
                 measure([])

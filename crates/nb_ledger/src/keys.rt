@@ -6,8 +6,8 @@ const ROW: usize = 64;
 
 /// Where objects stand, without a search. An object's place stands in a slab, under a number that stays as
 /// long as it lives, and that number in a table, by the last bits of its serial. No proof relies on a
-/// place that is found so: a wrong one, as of two objects whose serials share those bits, costs the book a
-/// search.
+/// place that is found so: a wrong one costs the book a search, as of an object whose bits a later serial
+/// shares.
 #[derive(Drop)]
 pub(crate) struct Keys {
     /// The slab's numbers of the objects, by place.
