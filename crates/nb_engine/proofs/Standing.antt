@@ -1,5 +1,5 @@
 -- The states of the machine for which a client stands, by its stage.
-use Rattle.std.proofs.Common.{◌≡◌, ℕ, [], ◌∷◌, refl, ap}
+use Rattle.std.proofs.Common.{◌≡◌, ℕ, [], ◌∷◌, refl}
 use Rattle.nb_defs.specs.Records.{done}
 use Rattle.nb_engine.specs.declared.world.World.{World}
 use Rattle.nb_engine.specs.declared.fetch.Fetch.{Fetch}
@@ -11,7 +11,7 @@ use Rattle.nb_engine.specs.Opens.{Open}
 use Rattle.nb_engine.specs.Fetches.{IsLive}
 use Rattle.nb_engine.specs.Handings.{records_left}
 use Rattle.nb_engine.specs.Seen.{Seen, StandsFor, as_ready, as_running, as_waiting, as_yielded, as_handing, as_left, as_handed_off, as_stopped}
-use Rattle.nb_engine.specs.Turns.{IsWaiting, closing_records}
+use Rattle.nb_engine.specs.Turns.{closing_records}
 
 abbrev pub StandsAt : Stage → ℕ → World → Machine → Type 0
 StandsAt stage.Ready n w m = m ≡ at n ready
