@@ -47,7 +47,8 @@ fn go_on<L: Line>(client: &mut Client, log: &mut Log, line: &mut L) -> StepEnd
         }
         match client.more(log) {
             Turn::More => {}
-            Turn::Waiting | Turn::Yielded => return StepEnd::Waits,
+            Turn::Waiting => return StepEnd::Waits,
+            Turn::Yielded => return StepEnd::Waits,
             Turn::Over(status) => return end_of(status),
         }
     }
@@ -66,7 +67,8 @@ fn take<L: Line>(client: &mut Client, entry: &InRec<'_>, log: &mut Log, line: &m
     }
     match client.step(entry, log) {
         Turn::More => go_on(client, log, line),
-        Turn::Waiting | Turn::Yielded => StepEnd::Waits,
+        Turn::Waiting => StepEnd::Waits,
+        Turn::Yielded => StepEnd::Waits,
         Turn::Over(status) => end_of(status),
     }
 }
