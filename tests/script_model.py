@@ -5,6 +5,7 @@ Its commands are `echo`, `exit`, `goto`, those that there aren't, and fetches of
 
 from __future__ import annotations
 
+import random
 from ipaddress import IPv4Address
 from typing import Iterator, NamedTuple
 
@@ -204,3 +205,36 @@ class Model:
         server, own = IPv4Address("10.0.0.1"), 49_152 + number
         opened = Open(number, OpenKind.TFTP, server, 69, own, b"f")
         return NO_ROUTE, [opened, Ended(number, NO_ROUTE)]
+
+
+COMMANDS = (
+    b"echo", b"echo x", b"echo -n y", b"echo -n -n", b"foo", b"x", b"a;b", b"&&&", b"\\", b"exit", b"exit 0",
+    b"exit 3", b"exit 00", b"exit 256", b"goto a", b"goto b", b"goto none", b"goto", b"goto --a", b"goto -n",
+    b"goto a b", b"imgfetch", b"imgfetch " + FILE, b":a", b"#", b"#c",
+)  # fmt: skip
+OTHER_LINES = (b":a", b":b", b" :a\t", b":", b":a b", b":-n", b":a # c", b"", b"  ", b"# c", b" # x ; y")
+LONG_LISTS = (
+    b"echo" + b" x" * 63, b"echo" + b" x" * 64, b"; " * 64, b"; " * 65, b"foo" + b" ;" * 64 + b" echo z"
+)  # fmt: skip
+
+
+def random_line(chance: random.Random) -> bytes:
+    kind = chance.random()
+    if kind < 0.3:
+        return chance.choice(OTHER_LINES)
+    if kind < 0.33:
+        return chance.choice(LONG_LISTS)
+    words = (*COMMANDS, *[b"&&", b"||", b";"] * 3)
+    blanks = (b" ", b"\t", b"  ")
+    count = chance.randint(1, 8)
+    line = b"".join(chance.choice(words) + chance.choice(blanks) for _ in range(count))
+    return line + chance.choice((b"", b";", b"||", b"; echo end", b"|| echo end"))
+
+
+def random_script(chance: random.Random) -> bytes:
+    """A script of a few lines, most of which run into each other in some way."""
+    script = b"#!ipxe" + chance.choice((b"", b" \t", b"\r")) + b"\n"
+    ends = (*[b"\n"] * 8, b"\r\n", b"\\\n", b"\\\r\n", b"\\\\\n")
+    for _ in range(chance.randint(1, 10)):
+        script += random_line(chance) + chance.choice(ends)
+    return script[:-1] if chance.random() < 0.3 else script
