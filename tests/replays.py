@@ -93,6 +93,7 @@ def _read(path: Path) -> bytes | None:
 def replayed() -> dict[str, Replayed]:
     """The runs that the tests of whole outputs and of the program look at, for one compiling."""
     from tests.test_program import INPUTS, WORDS
-    from tests.test_replay import all_inputs
+    from tests import test_replay, test_scripts
 
-    return replay_all({**all_inputs(), **INPUTS}, WORDS)
+    recordings = {**test_replay.all_inputs(), **test_scripts.all_inputs(), **INPUTS}
+    return replay_all(recordings, WORDS)

@@ -5,8 +5,9 @@ from __future__ import annotations
 import hashlib
 import unittest
 
+from shared.causes import OK
 from shared.kinds import PartKind, Status
-from shared.records import Done, Part, Step, Text
+from shared.records import Done, Part, Result, Step, Text, Tick
 from tests import made
 from tests.case import Case
 
@@ -52,6 +53,18 @@ class Showing(Case):
         )
         self.assertEqual(len(self.works("tools/show.py boot.rec --type FRAME").splitlines()), 3)
         self.fails("tools/show.py boot.rec --type FRAMES", "FRAMES is none of", 2)
+
+    def test_a_step_after_4096_commands(self) -> None:
+        goes = [made.command(b"goto a", 3), Result(OK)]
+        begins = [Step(1), made.enter(), *goes * 4_096, Step(2)]
+        self.put("loop.rec", [made.start(b"#!ipxe\n:a\ngoto a\n"), Tick(20)])
+        self.put("loop.out", [*begins, *goes * 4_095, Step(3), *goes, Done(Status.UNFINISHED)])
+        printed = self.works("tools/show.py loop.out --type STEP").splitlines()
+        why = "after 4096 commands in step 1, the most that may begin in one"
+        self.assertEqual(printed, ["STEP 1", f"STEP 2, {why}", "STEP 3"])
+        self.put("loop.out", [*begins, Done(Status.UNFINISHED)])
+        printed = self.works("tools/show.py loop.out --input loop.rec").splitlines()
+        self.assertEqual(printed[-2], f"STEP 2 at 20 ms, on TICK 20, {why}")
 
     def test_texts(self) -> None:
         texts = (b"a", b"b\nc\t\x1b\n", b"", b"\n", b"\xff")

@@ -52,13 +52,15 @@ class Examples(Case):
         )
         return done.stdout
 
-    def test_the_tftp_boot_is_made_anew(self) -> None:
+    def test_the_boots_are_made_anew(self) -> None:
         (self.folder / "inner").mkdir()
-        shutil.copy(EXAMPLES / "make_tftp_boot.py", self.folder / "inner")
-        with self.start("inner/make_tftp_boot.py") as maker:
-            self.assertEqual(maker.communicate()[1], "")
-        made_anew = self.get("inner/tftp-boot.rec")
-        self.assertEqual(made_anew, (EXAMPLES / "tftp-boot.rec").read_bytes())
+        shutil.copy(EXAMPLES / "fallback.ipxe", self.folder / "inner")
+        for maker, name in (("make_tftp_boot", "tftp-boot"), ("make_fallback", "fallback")):
+            shutil.copy(EXAMPLES / f"{maker}.py", self.folder / "inner")
+            with self.start(f"inner/{maker}.py") as process:
+                self.assertEqual(process.communicate()[1], "")
+            made_anew = self.get(f"inner/{name}.rec")
+            self.assertEqual(made_anew, (EXAMPLES / f"{name}.rec").read_bytes())
 
     def test_frames_of_the_tftp_boot(self) -> None:
         """Each block's frame is written out from the RFCs, its sums added up word by word."""

@@ -11,7 +11,8 @@ from pathlib import Path
 from shared.causes import OK, Cause, Code
 from shared.command_line import Refused
 from shared.kinds import OpenKind, ScriptMove, Status
-from shared.records import Advance, Done, Ended, Off, Open, Record, Result, Sent, Step, Tick, Try
+from shared.records import Advance, Command, Done, Ended, Off, Open, Record, Result, Sent, Step
+from shared.records import Tick, Try
 from tests import made
 from shared.why import reasons
 from shared.wire import arp_request, tftp_ack, tftp_data, tftp_error, tftp_request, udp_frame
@@ -81,18 +82,123 @@ class LocalCommands(unittest.TestCase):
         self.assertEqual(why(outputs)[1], "the script failed in step 1: NotScript")
         for script, said, line in (
             (b"echo hi\n", 'line 1 is "echo hi", and a script begins with the line `#!ipxe`', 1),
+            (b"#!ipxe\\\n", 'line 1 is "#!ipxe\\\\", and a script begins with the line `#!ipxe`', 1),
             (b"", "the script is empty, and no script is built in yet", 1),
-            (b"#!ipxe\n\n\necho a || echo b\n", "line 4 has `||`, which isn't run yet", 4),
-            (b"#!ipxe\n:again\n", "line 2 is the label `:again`, and labels aren't run yet", 2),
-            (b"#!ipxe\n#\necho ${ip}", "line 3 has `${`, and settings aren't expanded yet", 3),
-            (b"#!ipxe\necho a\\\nb", "line 2 ends in a backslash, and lines aren't joined yet", 2),
-            (b"#!ipxe\necho" + b" x" * 64, "line 2 has 65 words, more than 64", 2),
-            (b"#!ipxe\n" + b"x" * 4_097, "line 2 has 4097 bytes, more than 4096", 2),
-            (b"#!ipxe\n" * 4_097, "the script has more than 4096 lines", 4_097),
+            (b"#!ipxe\n#${a}\n:${b}\necho ${ip}",
+             "line 4 has `${`, and settings aren't expanded yet", 4),
+        ):
+            with self.subTest(script=script):
+                lines = why(outputs, [made.start(script)])
+                self.assertEqual(lines[0], said)
+                shown = [line for line in lines if "script line" in line]
+                self.assertTrue(shown == [] if not script else shown[0].startswith(
+                    f"  script line {line}: "), shown)
+        lines = why(outputs, [made.start(b"#!ipxe\necho a\\\r\n ${b}\n")])
+        said = "lines 2 to 3, joined, have `${`, and settings aren't expanded yet"
+        self.assertEqual((lines[0], lines[3]), (said, '  script lines 2 to 3: "echo a ${b}"'))
+
+    def test_a_text_that_is_too_long(self) -> None:
+        cause = Cause(Code.TOO_LONG, 1)
+        outputs = [Step(1), made.enter(), made.leave(cause), Done(Status.SCRIPT_FAILED)]
+        said = "a text is longer than its limit: TooLong(1: line or expanded words)"
+        self.assertEqual(sentence(outputs), said)
+        for script, said in (
+            (b"#!ipxe\n" + b"x" * 4_097, "line 2 has 4097 bytes, more than 4096"),
+            (b"#!ipxe" + b" " * 4_091, "line 1 has 4097 bytes, more than 4096"),
+            (b"#!ipxe\n\n" + b"x" * 4_000 + b"\\\n" + b"y" * 97 + b"\r\n",
+             "lines 3 to 4, joined, have 4097 bytes, more than 4096"),
+            # judged before `${`
+            (b"#!ipxe\necho ${ip}\n#" + b" " * 4_096, "line 3 has 4097 bytes, more than 4096"),
+        ):
+            self.assertEqual(sentence(outputs, [made.start(script)]), said)
+
+    def test_a_list_of_too_many_words_or_joins(self) -> None:
+        cause = Cause(Code.TOO_MANY, 1)
+        end = [made.leave(cause), Done(Status.SCRIPT_FAILED)]
+        words, joins = b"echo" + b" x" * 64, b"; " * 65
+        outputs = [Step(1), made.enter(), *end]
+        said = "there are more of these than their limit: TooMany(1: words or joins)"
+        self.assertEqual(sentence(outputs), said)
+        for script, said in (
+            (b"#!ipxe\n\n" + words + b"\n", "line 3 has 65 words, more than 64"),
+            (b"#!ipxe\n" + joins, "line 2 has 65 joins (`&&`, `||` and `;`), more than 64"),
+            # 64 of each are few enough, and a comment's words don't count
+            (b"#!ipxe\n" + b"; " * 64 + b"# " + joins + b"\n" + b"foo\\\n" + words + b"\n",
+             "lines 3 to 4, joined, have 65 words, more than 64"),
         ):
             lines = why(outputs, [made.start(script)])
             self.assertEqual(lines[0], said)
-            self.assertTrue(lines[3].startswith(f"  script line {line}: "), lines[3])
+            self.assertEqual(lines[1], "the script failed in step 1 at 0 ms: TooMany(1: words or joins)")
+
+    def test_the_list_of_too_many_words_that_was_met(self) -> None:
+        """The first after the command that ended last, or after the label that it went to."""
+        cause, words = Cause(Code.TOO_MANY, 1), b"echo" + b" x" * 64 + b"\n"
+        script = b"#!ipxe\ngoto b ;\n" + words + b":b\n" + words
+        for result, line in ((OK, 5), (Cause(Code.NO_LABEL), 3)):
+            outputs = [Step(1), made.enter(), made.command(b"goto b"), Result(result)]
+            outputs += [made.leave(cause), Done(Status.SCRIPT_FAILED)]
+            said = f"line {line} has 65 words, more than 64"
+            self.assertEqual(sentence(outputs, [made.start(script)]), said)
+
+    def test_a_label_that_is_not_there(self) -> None:
+        outputs = local_failure(b"goto again", Cause(Code.NO_LABEL))
+        said = "line 2: the script has no line `:again` to go to"
+        self.assertEqual(sentence(outputs), said)
+        for lines, hint in (
+            (b":agains\n", ""),
+            (b":again # and again\n", "; line 3 has more than the label, and so is none"),
+            (b"\n :Again\t\n", "; line 4 is :Again"),
+        ):
+            script = b"#!ipxe\ngoto again\n" + lines
+            self.assertEqual(sentence(outputs, [made.start(script)]), said + hint)
+        outputs = local_failure(b":again", Cause(Code.UNKNOWN))
+        said = "line 2: :again is a label only where nothing else stands on its line"
+        self.assertEqual(sentence(outputs), said)
+
+    def test_a_command_later_in_its_list(self) -> None:
+        """Its place counts what was skipped, and what has no words."""
+        cause = Cause(Code.UNKNOWN)
+        outputs = [
+            Step(1),
+            made.enter(),
+            made.command(b"echo a"),
+            Result(OK),
+            Command(1, 2, 3, True, (b"foo",)),
+            Result(cause),
+            made.leave(cause),
+            Done(Status.SCRIPT_FAILED),
+        ]
+        script = b"#!ipxe\necho a || echo \\\n  b ; ; foo\n"
+        self.assertEqual(
+            why(outputs, [made.start(script)]),
+            [
+                "command 4 of line 2: there is no command foo",
+                "command 4 of line 2 failed in step 1 at 0 ms: Unknown",
+                "  meaning: there is no such command",
+                "  step 1 at 0 ms: command 4 of line 2 begins: foo",
+                '  script lines 2 to 3: "echo a || echo   b ; ; foo"',
+            ],
+        )
+
+    def test_a_step_of_4096_commands(self) -> None:
+        goes = [made.command(b"goto a", 3), Result(OK)]
+        outputs = [Step(1), made.enter(), *goes * 4_096, Done(Status.UNFINISHED)]
+        inputs = [made.start(b"#!ipxe\n:a\ngoto a\n"), Tick(20), Off()]
+        said = [
+            "  step 1 at 0 ms: 4096 commands began, and no more may begin in one step",
+            "  the script goes on with the next frame or time; the last was line 3: goto a",
+            '  script line 3: "goto a"',
+        ]
+        ends = "the recording ends after 0 s, and the script had more to do"
+        self.assertEqual(why(outputs, inputs[:1]), [ends, *said])
+        off = [*outputs[:-1], Step(2), *goes * 4_096, Step(3), outputs[-1]]
+        lines = why(off, inputs)
+        said[0] = said[0].replace("step 1 at 0 ms", "step 2 at 20 ms")
+        ends = "the power was switched off after 0.02 s, and the script had more to do"
+        self.assertEqual(lines, [ends, *said])
+        for number, end in ((4_096, [made.leave(OK), Done(Status.ENDED)]), (4_095, [outputs[-1]])):
+            lines = why([Step(1), made.enter(), *goes * number, *end], inputs[:1])
+            self.assertEqual(len(lines), 1, lines)
 
     def test_sentences_on_commands(self) -> None:
         for words, cause, said in (
@@ -122,6 +228,10 @@ class LocalCommands(unittest.TestCase):
         lines = why(outputs)
         self.assertEqual(lines[0], "the script ended well; 1 command failed on the way")
         self.assertEqual(len([line for line in lines if "failed in" in line]), 1)
+        boot = [Result(cause), made.command(b"imgexec tftp://10.0.0.1/k"), *made.BOOT_OUTPUT[3:]]
+        lines = why([Step(1), made.enter(), made.command(b"iseq a b"), *boot])
+        said = "the boot succeeded: k, 516 bytes, was handed off; 1 command failed on the way"
+        self.assertEqual(lines[0], said)
 
     def test_a_script_that_a_command_ran(self) -> None:
         cause = Cause(Code.EXIT, 2)

@@ -31,7 +31,7 @@ STATUSES = {
     0: "an image was handed off",
     3: "the script ended in Ok",
     4: "the script ended in a failure",
-    5: "the input ended, or the power was switched off, while a command waited",
+    5: "the input ended, or the power was switched off, before the script had ended",
     6: "the next bytes of the input are no record that may come",
     7: "a read failed",
     8: "a write failed",

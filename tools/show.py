@@ -11,6 +11,7 @@ from typing import BinaryIO, Iterable, Iterator
 from shared.command_line import Refused, read_stream, run
 from shared.describe import Lines
 from shared.frames import ends_of, packet_of
+from shared.full_steps import MOST_COMMANDS, FullSteps
 from shared.parts import write_parts
 from shared.recordings import Timed, input_of, open_recording, read_input, read_output
 from shared.records import (
@@ -105,13 +106,14 @@ def output_lines(
     records: Iterable[Record], inputs: Iterator[Timed] | None, arguments: argparse.Namespace
 ) -> Iterator[str]:
     """A line for each chosen record, indented under its step."""
-    lines = Lines()
+    lines, full = Lines(), FullSteps()
     of_open = None if arguments.open is None else OfOpen(arguments.open)
     waiting_step = None
     for record in records:
         is_chosen = of_open is None or of_open.has(record)
+        full.take(record)
         if isinstance(record, Step):
-            text = step_line(record, inputs, lines)
+            text = step_line(record, inputs, lines) + after_full(full.before)
             waiting_step = text if of_open else None
         else:
             text = f"  {lines.of(record)}"
@@ -131,6 +133,13 @@ def step_line(step: Step, inputs: Iterator[Timed] | None, lines: Lines) -> str:
     if timed is None:
         raise Refused(f"the input recording has no record {step.number}: it is another run's")
     return f"{lines.of(step)} at {timed.time} ms, on {lines.of(timed.record)}"
+
+
+def after_full(step: int | None) -> str:
+    """Why a script went on in a step without having waited for anything."""
+    if step is None:
+        return ""
+    return f", after {MOST_COMMANDS} commands in step {step}, the most that may begin in one"
 
 
 def is_of_type(record: Record, names: list[str]) -> bool:

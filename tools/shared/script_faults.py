@@ -1,17 +1,20 @@
-"""Why a text isn't run: its first line that has what no plain script has (docs/DEFINITIONS.md)."""
+"""Why a script is left by its own text, and not by a command: the line that is to blame (docs/RECORDS.md)."""
 
 from __future__ import annotations
 
 import re
 from typing import NamedTuple
 
+from shared.causes import OK, Cause, Code
+from shared.records import Command
+from shared.script_text import JOINS, Line, lines_of, words_of
 from shared.texts import word
 
-MOST_LINES = 4_096
+MOST_SCRIPT = 1_048_576
 MOST_BYTES = 4_096
 MOST_WORDS = 64
-JOINS = (b"&&", b"||", b";")
 FIRST_LINE = re.compile(rb"#!ipxe[ \t]*\r?")
+TOO_MANY_WORDS = Cause(Code.TOO_MANY, 1)
 
 
 class Fault(NamedTuple):
@@ -21,52 +24,59 @@ class Fault(NamedTuple):
     why: str
 
 
-def script_fault(text: bytes) -> Fault:
-    """What makes this text no script that is run today."""
-    lines = text.split(b"\n")
-    if not text:
-        return Fault(1, "the script is empty, and no script is built in yet")
-    if not FIRST_LINE.fullmatch(lines[0]):
-        first = word(lines[0][:60])
-        return Fault(1, f"line 1 is {first}, and a script begins with the line `#!ipxe`")
-    for number, line in enumerate(lines, 1):
-        why = _line_fault(number, line, number == len(lines))
-        if why:
-            return Fault(number, f"line {number} {why}")
-    if len(lines) - (lines[-1] == b"") > MOST_LINES:
-        return Fault(MOST_LINES + 1, f"the script has more than {MOST_LINES} lines")
-    return Fault(1, "the script has what isn't run yet")
+def fault_of(text: bytes, cause: Cause, last: Command | None, result: Cause) -> Fault | None:
+    """Why a script of this text was left with this cause.
 
-
-def _line_fault(number: int, line: bytes, is_last: bool) -> str | None:
-    line = line if is_last else line.removesuffix(b"\r")
-    if len(line) > MOST_BYTES:
-        return f"has {len(line)} bytes, more than {MOST_BYTES}"
-    if not is_last and line.endswith(b"\\"):
-        return "ends in a backslash, and lines aren't joined yet"
-    return _words_fault(line) if number > 1 else None
-
-
-def _words_fault(line: bytes) -> str | None:
-    if b"${" in line:
-        return "has `${`, and settings aren't expanded yet"
-    trimmed = line.strip(b" \t\r")
-    if re.fullmatch(rb":[^ \t]+", trimmed):
-        return f"is the label `{trimmed.decode(errors='replace')}`, and labels aren't run yet"
-    words = _words(line)
-    for found in words:
-        if found in JOINS:
-            return f"has `{found.decode()}`, which isn't run yet"
-    if len(words) > MOST_WORDS:
-        return f"has {len(words)} words, more than {MOST_WORDS}"
+    `last` is the command that ended last in it, with its result.
+    """
+    if cause.code in (Code.NOT_SCRIPT, Code.TOO_LONG):
+        return script_fault(text)
+    if cause == TOO_MANY_WORDS:
+        return _list_fault(text, _passed(text, last, result))
     return None
 
 
-def _words(line: bytes) -> list[bytes]:
-    words = []
-    for found in re.split(rb"[ \t]+", line.strip(b" \t\r")):
-        if found.startswith(b"#"):
-            break
-        if found:
-            words.append(found)
-    return words
+def script_fault(text: bytes) -> Fault | None:
+    """What makes this text no script that is run today."""
+    first = text.split(b"\n", 1)[0]
+    if not text:
+        return Fault(1, "the script is empty, and no script is built in yet")
+    if not FIRST_LINE.fullmatch(first):
+        return Fault(1, f"line 1 is {word(first[:60])}, and a script begins with the line `#!ipxe`")
+    if len(text) > MOST_SCRIPT:
+        return Fault(1, f"the script has {len(text)} bytes, more than {MOST_SCRIPT}")
+    lines = list(lines_of(text))
+    for line in lines:
+        if len(line.text) > MOST_BYTES:
+            why = f"{line.has()} {len(line.text)} bytes, more than {MOST_BYTES}"
+            return Fault(line.first, why)
+    for line in lines:
+        if line.is_list() and b"${" in line.text:
+            return Fault(line.first, f"{line.has()} `${{`, and settings aren't expanded yet")
+    return None
+
+
+def _passed(text: bytes, last: Command | None, result: Cause) -> int:
+    """The number of the last line that was passed before a list that isn't run."""
+    if last is None:
+        return 1
+    if last.words[0] == b"goto" and result == OK:
+        labels = (line.first for line in lines_of(text) if line.label() == last.words[-1])
+        return next(labels, last.line)
+    return last.line
+
+
+def _list_fault(text: bytes, passed: int) -> Fault | None:
+    """The first list after this line that has too many words or joins."""
+    for line in lines_of(text):
+        if line.first <= passed or not line.is_list():
+            continue
+        words = words_of(line.text)
+        joins = sum(found in JOINS for found in words)
+        if len(words) - joins > MOST_WORDS:
+            said = f"{len(words) - joins} words, more than {MOST_WORDS}"
+            return Fault(line.first, f"{line.has()} {said}")
+        if joins > MOST_WORDS:
+            said = f"{joins} joins (`&&`, `||` and `;`), more than {MOST_WORDS}"
+            return Fault(line.first, f"{line.has()} {said}")
+    return None

@@ -5,10 +5,10 @@ from __future__ import annotations
 import re
 from ipaddress import IPv4Address, IPv4Network
 
-from shared.causes import MEANING, Cause, Code
+from shared.causes import MEANING, WHAT, Cause, Code
 from shared.frames import datagram_of, ends_of, packet_of
 from shared.records import Command, Open, Start
-from shared.script_faults import script_fault
+from shared.script_text import lines_of
 from shared.texts import word
 from shared.wire import ARP, PROTOCOL_UDP, Opcode
 
@@ -33,6 +33,7 @@ TFTP_ERRORS = {
 USAGES = {
     b"echo": "echo [-n] [text]",
     b"exit": "exit [n], n from 0 to 255",
+    b"goto": "goto LABEL",
     b"imgfetch": "imgfetch URI",
     b"imgexec": "imgexec URI",
 }
@@ -60,16 +61,18 @@ def seconds(milliseconds: int) -> str:
 
 def of_local(cause: Cause, command: Command | None, start: Start | None) -> str:
     """On a failure that no server took part in."""
-    if cause.code is Code.NOT_SCRIPT and command is None and start is not None:
-        return script_fault(start.script).why
     if cause.code is Code.NO_ROUTE:
         return _no_route(IPv4Address(cause.a), start)
     if command is None:
-        return MEANING[cause.code]
+        return f"{MEANING[cause.code]}: {cause}" if cause.code in WHAT else MEANING[cause.code]
     name = command.words[0]
     match cause.code:
         case Code.BAD_URI:
             return _bad_uri(command.words[-1])
+        case Code.NO_LABEL:
+            return _no_label(command, start)
+        case Code.UNKNOWN if name.startswith(b":"):
+            return f"{word(name)} is a label only where nothing else stands on its line"
         case Code.UNKNOWN if name in KNOWN:
             return f"the command `{name.decode()}` isn't built yet"
         case Code.UNKNOWN:
@@ -82,6 +85,21 @@ def of_local(cause: Cause, command: Command | None, start: Start | None) -> str:
             kinds = "a kernel for x86, an ELF file or an EFI program"
             return f"{word(command.words[-1])} can't be booted: it isn't {kinds}"
     return f"{word(name)}: {MEANING[cause.code]}"
+
+
+def _no_label(command: Command, start: Start | None) -> str:
+    """On a `goto` whose label isn't there, with a line that is nearly it."""
+    name = command.words[-1]
+    said = f"the script has no line `:{name.decode('utf-8', 'backslashreplace')}` to go to"
+    if start is None or command.depth != 1:
+        return said
+    for line in lines_of(start.script):
+        label = line.label()
+        if label and label.lower() == name.lower():
+            return f"{said}; line {line.first} is {word(b':' + label)}"
+        if label is None and line.content().startswith((b":" + name + b" ", b":" + name + b"\t")):
+            return f"{said}; line {line.first} has more than the label, and so is none"
+    return said
 
 
 def _no_route(address: IPv4Address, start: Start | None) -> str:

@@ -7,6 +7,7 @@ from dataclasses import dataclass, field, replace
 
 from shared.causes import OK, Cause, Code
 from shared.command_line import Refused
+from shared.full_steps import FullSteps
 from shared.kinds import OpenKind, PartKind, ScriptMove
 from shared.records import (
     Advance,
@@ -80,11 +81,16 @@ class CommandStory:
 
 @dataclass(slots=True)
 class Failure:
-    """A failed RESULT with its command, or a script that failed before any command."""
+    """A failed RESULT with its command, or a script that was left by its text.
+
+    Of such a script, `last` is the command that ended last, and `result` its result.
+    """
 
     what: Evidence
     cause: Cause
     story: CommandStory | None = None
+    last: Command | None = None
+    result: Cause = OK
 
     def opens(self) -> list[OpenStory]:
         """The opens that show the cause: a command's last, or each where moves were too many."""
@@ -121,12 +127,15 @@ class Trace:
         self.kernel: bytes = b""
         self.sizes: dict[PartKind, int] = {}
         self.done: Done | None = None
+        self.full = FullSteps()
+        self.last: Command | None = None
         self._last_cause: Cause | None = None
         self._last_try: Evidence | None = None
 
     def take(self, record: Record) -> None:
         here = Evidence(self.step, record)
         last_try, self._last_try = self._last_try, None
+        self.full.take(record)
         match record:
             case Step():
                 self.step = record.number
@@ -167,7 +176,7 @@ class Trace:
         if not self.running:
             raise Refused(f"a RESULT without its COMMAND in step {self.step}")
         story = self.running.pop()
-        self._last_cause = cause
+        self.last, self._last_cause = story.words, cause
         self.waiting = None
         if cause != OK:
             self._fail(Failure(here, cause, story))
@@ -178,11 +187,12 @@ class Trace:
 
     def _script(self, here: Evidence, script: Script) -> None:
         if script.move is not ScriptMove.LEAVE:
-            self._last_cause = None
+            self.last, self._last_cause = None, None
         elif self.running:
             self.running[-1].left = here
         elif script.cause not in (OK, self._last_cause):
-            self._fail(Failure(here, script.cause))
+            result = self._last_cause or OK
+            self._fail(Failure(here, script.cause, None, self.last, result))
 
     def _open(self, here: Evidence, opened: Open) -> None:
         here.record = replace(opened, target=opened.target[:MOST_TEXT])

@@ -10,6 +10,7 @@ from shared.causes import MEANING, Code
 from shared.command_line import Refused, read_stream
 from shared.describe import Lines
 from shared.fields import CutOff
+from shared.full_steps import MOST_COMMANDS
 from shared.kinds import PartKind, Status
 from shared.meanwhile import Meanwhile
 from shared.recordings import Timed, input_of, read_output
@@ -25,7 +26,8 @@ from shared.records import (
     Start,
     Try,
 )
-from shared.script_faults import script_fault
+from shared.script_faults import Fault, fault_of
+from shared.script_text import lines_of
 from shared.sentences import (
     error_text,
     of_local,
@@ -95,11 +97,20 @@ class Inputs:
         return f"the input recording has no record {number}: it is another run's"
 
     def script_line(self, depth: int, line: int) -> list[str]:
-        """A line of the first script, where the script of that depth is known."""
-        script_lines = self.start.script.split(b"\n") if self.start else []
-        if depth != 1 or not 1 <= line <= len(script_lines):
+        """A line of the first script, joined to those after it, where the script of that depth is known."""
+        if depth != 1 or self.start is None:
             return []
-        return [f"  script line {line}: {word(script_lines[line - 1])}"]
+        for found in lines_of(self.start.script):
+            if found.first == line:
+                numbers = f"lines {line} to {found.last}" if found.last > line else f"line {line}"
+                return [f"  script {numbers}: {word(found.text)}"]
+        return []
+
+    def fault(self, failure: Failure) -> Fault | None:
+        """What is wrong with the first script's text, where that is why it was left."""
+        if failure.story or self.start is None:
+            return None
+        return fault_of(self.start.script, failure.cause, failure.last, failure.result)
 
 
 class Account:
@@ -140,6 +151,8 @@ class Account:
                 found.add(failure.cause.a)
         if self.trace.waiting:
             found.update(evidence.step for evidence in self._wait_evidence(self.trace.waiting))
+        if self.trace.full.last():
+            found.add(self.trace.full.last())
         if self.is_bad:
             found.add(self.trace.step + 1)
         return found
@@ -148,6 +161,7 @@ class Account:
         yield self.sentence()
         if self.trace.waiting and not self._decisive():
             yield from self._waiting(self.trace.waiting)
+        yield from self._full_step()
         if self.trace.failed > len(self.trace.failures):
             last = len(self.trace.failures)
             yield f"{self.trace.failed} commands failed; these are the last {last}"
@@ -162,11 +176,9 @@ class Account:
             return self._cut_off()
         match done.status:
             case Status.HANDED_OFF:
-                return self._handed_off()
+                return self._handed_off() + self._on_the_way()
             case Status.ENDED:
-                failed = self.trace.failed
-                on_the_way = f"; {count(failed, 'command')} failed on the way" if failed else ""
-                return f"the script ended well{on_the_way}"
+                return f"the script ended well{self._on_the_way()}"
             case Status.SCRIPT_FAILED:
                 return self._failure_sentence()
             case Status.UNFINISHED:
@@ -174,6 +186,10 @@ class Account:
             case Status.BAD_RECORD:
                 return self._bad_record()
         return "4294967295 records were used, the most that there can be, and more follows"
+
+    def _on_the_way(self) -> str:
+        failed = self.trace.failed
+        return f"; {count(failed, 'command')} failed on the way" if failed else ""
 
     def _cut_off(self) -> str:
         how = self.cut_off or "it ends without DONE, as where a read or a write failed"
@@ -206,6 +222,9 @@ class Account:
         if opens and failure.cause.code is Code.BROKEN:
             message = self.inputs.lines.get(failure.cause.a, f"record {failure.cause.a}")
             return f"{opens[-1].open.server} sent what isn't allowed in its place: {message}"
+        fault = self.inputs.fault(failure)
+        if fault:
+            return fault.why
         command = failure.story.words if failure.story else None
         sentence = of_local(failure.cause, command, self.inputs.start)
         return f"{_line_of(failure.story)}: {sentence}" if failure.story else sentence
@@ -226,6 +245,8 @@ class Account:
             what = "the power was switched off" if is_off else "the recording ends"
             when = f" after {seconds(self.inputs.times[step])}"
         running, waiting = self._running(), self.trace.waiting
+        if self.trace.full.last():
+            return f"{what}{when}, and the script had more to do"
         if running is None:
             return f"{what}{when}, before the script's end"
         if waiting is None:
@@ -254,8 +275,8 @@ class Account:
             yield f"  {self.inputs.at(evidence.step)}: {self._plainly(evidence)}"
             if isinstance(evidence.record, Command):
                 yield from self.inputs.script_line(evidence.record.depth, evidence.record.line)
-        if failure.story is None and self.inputs.start:
-            fault = script_fault(self.inputs.start.script)
+        fault = self.inputs.fault(failure)
+        if fault:
             yield from self.inputs.script_line(1, fault.line)
         if failure.cause.code in BY_MESSAGE:
             yield self._message(failure.cause.a)
@@ -284,6 +305,17 @@ class Account:
         if self.inputs.start and not is_off and self.trace.done:
             yield f"  a silent server is given up after some 16 s: record.py --until {PATIENCE}"
 
+    def _full_step(self) -> Iterator[str]:
+        """Of a script that had more to do: why its last step ended, and its last command."""
+        step = self.trace.full.last()
+        if step is None or self.trace.done is None or self.trace.last is None:
+            return
+        last = self.trace.last
+        why = f"{MOST_COMMANDS} commands began, and no more may begin in one step"
+        yield f"  {self.inputs.at(step)}: {why}"
+        yield f"  the script goes on with the next frame or time; the last was {_command(last)}"
+        yield from self.inputs.script_line(last.depth, last.line)
+
     def _meanwhile(self) -> Iterator[str]:
         meanwhile = self.inputs.meanwhile
         if meanwhile is None:
@@ -299,8 +331,7 @@ class Account:
         """A record in plain words."""
         match evidence.record:
             case Command() as command:
-                words = " ".join(word(text) for text in command.words)
-                return f"{_place_of(command)} begins: {words}"
+                return f"{_place_of(command)} begins: {_words(command)}"
             case Open() as opened:
                 target = f"{word(opened.target)} is asked for: " if opened.target else ""
                 ports = f"port {opened.port}, from our port {opened.own}"
@@ -316,17 +347,30 @@ class Account:
                 return self.lines.of(evidence.record)
 
 
+def _words(command: Command) -> str:
+    return " ".join(word(text) for text in command.words)
+
+
+def _command(command: Command) -> str:
+    return f"{_place_of(command)}: {_words(command)}"
+
+
+def _number(command: Command) -> str:
+    """A command's line, and its place there where it isn't the first; skipped ones count too."""
+    line = f"line {command.line}"
+    return f"command {command.place + 1} of {line}" if command.place else line
+
+
 def _place_of(command: Command) -> str:
     """Where a command stands: its line, and what else is needed to find it."""
-    place = f", command {command.place + 1} of the line" if command.place else ""
     depth = f" of the script that line runs, {command.depth - 1} deep" if command.depth > 1 else ""
-    return f"line {command.line}{place}{depth}"
+    return f"{_number(command)}{depth}"
 
 
 def _line_of(story: CommandStory) -> str:
     command = story.words
     inner = " of an inner script" if command.depth > 1 else ""
-    return f"line {command.line}{inner}"
+    return f"{_number(command)}{inner}"
 
 
 def reasons(path: Path, stream: BinaryIO, input_path: Path | None) -> Iterator[str]:

@@ -1,0 +1,73 @@
+#!/usr/bin/env python3
+"""Makes fallback.rec: what a client meets that runs fallback.ipxe, and whose server has one file of three.
+
+The server is 10.0.0.1 and speaks TFTP without options (RFC 1350). It refuses `initrd` and `mine`,
+and sends `k`, which is shorter than a block. Everything here is fixed, so each run makes the same
+bytes.
+"""
+
+from __future__ import annotations
+
+import sys
+from ipaddress import IPv4Address
+from pathlib import Path
+from typing import Iterator
+from uuid import UUID
+
+HERE = Path(__file__).resolve().parent
+sys.path.insert(0, str(HERE.parent / "tools"))
+
+from shared.records import Received, Record, Start, Tick, spell  # noqa: E402
+from shared.wire import Station, arp_reply, padded, tftp_data, tftp_error, udp_frame  # noqa: E402
+
+CLIENT = Station(bytes.fromhex("525400000001"), IPv4Address("10.0.0.2"))
+SERVER = Station(bytes.fromhex("525400000002"), IPv4Address("10.0.0.1"))
+FIRST_OWN_PORT = 49_152
+SERVER_PORT = 40_000
+NOT_FOUND = 1
+KERNEL = b"\x7fELF\x02\x01\x01" + b"a kernel that is shorter than a block"
+
+
+def start(script: bytes) -> Start:
+    return Start(
+        version=1,
+        mac=CLIENT.mac,
+        uuid=UUID(int=0),
+        key=bytes(32),
+        arch=0,
+        w=0,
+        ip=CLIENT.ip,
+        mask=IPv4Address("255.255.255.0"),
+        gateway=IPv4Address(0),
+        dns=IPv4Address(0),
+        script=script,
+    )
+
+
+def answer(number: int, body: bytes) -> Received:
+    """The server's answer to the open of this number, by a port of its own."""
+    ports = (SERVER_PORT + number, FIRST_OWN_PORT + number)
+    return Received(padded(udp_frame(SERVER, CLIENT, ports, body, number)))
+
+
+def records(script: bytes) -> Iterator[Record]:
+    """The recording: in comments what the client does."""
+    yield start(script)  # asks by ARP for the server's address
+    yield Received(padded(arp_reply(SERVER, CLIENT)))
+    yield Tick(250)  # its first try was never sent: now it asks for initrd
+    yield answer(0, tftp_error(NOT_FOUND, b"File not found"))  # goes on after ||, asks for mine
+    yield Tick(1)
+    yield answer(1, tftp_error(NOT_FOUND, b"File not found"))  # goes to :all, asks for k
+    yield Tick(1)
+    yield answer(2, tftp_data(1, KERNEL))  # the last block: acknowledges 1, hands off
+
+
+def main() -> None:
+    recording = HERE / "fallback.rec"
+    script = (HERE / "fallback.ipxe").read_bytes()
+    recording.write_bytes(b"".join(spell(record) for record in records(script)))
+    print(f"wrote {recording.name}, with a kernel of {len(KERNEL)} bytes")
+
+
+if __name__ == "__main__":
+    main()
