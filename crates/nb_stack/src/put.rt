@@ -268,8 +268,34 @@ fn put_heads(ends: Endpoints, proto: u8, len: u16, out: &mut Out<'_>)
         → length (packet_between ends proto body) ≡ 34 + len }
     ensures room { out.new.left + 34 ≡ out.old.left }
 {
-    put(&EtherFrame::head(ends.dst, ends.src, KIND_IPV4), out);
-    put(&Packet::head(ends.from, ends.to, proto, len), out);
+    put(&frame_heads(ends, proto, len), out);
+}
+
+// The heads of a frame and of the packet in it, whose body has `len` bytes.
+#[inline(always)]
+fn frame_heads(ends: Endpoints, proto: u8, len: u16) -> [u8; 34]
+    requires { len ≤ 1488 }
+    ensures put { (body : List ℕ) → length body ≡ len
+        → result ++ body ≡ packet_between ends proto body }
+    ensures size { (body : List ℕ) → length body ≡ len
+        → length (packet_between ends proto body) ≡ 34 + len }
+{
+    let link = EtherFrame::head(ends.dst, ends.src, KIND_IPV4);
+    let packet = Packet::head(ends.from, ends.to, proto, len);
+    joined(link, packet)
+}
+
+// Both heads as one array, which takes one look at the room.
+#[inline(always)]
+fn joined(link: [u8; 14], packet: [u8; 20]) -> [u8; 34]
+    ensures { result ≡ link ++ packet }
+{
+    let [l0, l1, l2, l3, l4, l5, l6, l7, l8, l9, m0, m1, m2, m3] = link;
+    let [a, b, c, d, e, f, g, h, i, j, k, l, m, n, o, p, q, r, s, t] = packet;
+    [
+        l0, l1, l2, l3, l4, l5, l6, l7, l8, l9, m0, m1, m2, m3, a, b, c, d, e, f, g, h, i, j, k, l,
+        m, n, o, p, q, r, s, t,
+    ]
 }
 
 #[inline(always)]
