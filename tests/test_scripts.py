@@ -17,11 +17,13 @@ from shared.kinds import OpenKind, PartKind, Status
 from shared.recordings import read_input
 from shared.records import Advance, Command, Done, Ended, Off, Open, Part, Received, Record, Result
 from shared.records import Sent, Start, Step, Text, Tick, Try
+from shared.script_faults import script_fault
+from shared.script_text import lines_of
 from shared.wire import arp_reply, arp_request, tftp_ack, tftp_data, tftp_request, udp_frame
 from tests import made
 from tests.case import TOP
 from tests.replays import Replayed, can_run, replayed
-from tests.script_model import FILE, Model, random_script
+from tests.script_model import FILE, Model, numbered, random_script, refusal
 from tests.test_replay import read_all
 
 FIRST = b"#!ipxe\n"
@@ -437,7 +439,15 @@ class Scripts(unittest.TestCase):
 
 
 class Readings(unittest.TestCase):
-    """What is written by hand, and the second reading of the rules, are one."""
+    """What is written by hand, the second reading of the rules, and that of `show.py --why` are one."""
+
+    def test_the_tools_read_the_same_lines(self) -> None:
+        for name, row in {**ROWS, **CHANCES}.items():
+            with self.subTest(name):
+                script = row.inputs[0].script
+                found = {line.first: line.text for line in lines_of(script)}
+                self.assertEqual(found, numbered(script))
+                self.assertEqual(script_fault(script) is None, refusal(script) is None)
 
     def test_the_model_answers_the_rows(self) -> None:
         for name, row in {**joins(), **labels(), **lines(), **limits()}.items():
