@@ -1,5 +1,5 @@
 #!/usr/bin/env python3
-"""Makes fallback.rec: what a client meets that runs fallback.ipxe, and whose server has one file of three.
+"""Makes fallback.rec: what a client meets that runs fallback.ipxe, where one file of three is there.
 
 The server is 10.0.0.1 and speaks TFTP without options (RFC 1350). It refuses `initrd` and `mine`,
 and sends `k`, which is shorter than a block. Everything here is fixed, so each run makes the same

@@ -1,4 +1,4 @@
-"""A second reading of the rules of scripts (docs/RECORDS.md): what a run of one writes, for the program's tests.
+"""A second reading of the rules of scripts (docs/SCRIPTS.md): what a run of one writes.
 
 Its commands are `echo`, `exit`, `goto`, those that there aren't, and fetches of a client without an address.
 """

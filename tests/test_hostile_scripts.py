@@ -53,10 +53,10 @@ ENDING = {
 ENDLESS = {
     "a short loop": FIRST + b":a\ngoto a\n",
     "the last of many labels": FIRST + NAMES + b":a\ngoto a\n",
-    "a loop of many lines": FIRST + b":a\n" + b"\n" * 100 + b"goto a\n",
-    "a loop of joins": FIRST + b":a\n" + b"; " * 60 + b" goto a\n",
-    "many words": FIRST + b":a\nx" + b" y" * 60 + b" || goto a\n",
-    "many lines and a long name": filled(b"\n")[:-1_010] + b":%b\ngoto %b\n" % (b"a" * 500, b"a" * 500),
+    "a loop of many lines": FIRST + b":a\n" + b"\n" * 60 + b"goto a\n",
+    "a loop of joins": FIRST + b":a\n" + b"; " * 20 + b" goto a\n",
+    "many words": FIRST + b":a\nx" + b" y" * 30 + b" || goto a\n",
+    "many lines and a long name": filled(b"\n")[:-1_010] + b":%b\ngoto %b\n" % (b"a" * 250, b"a" * 250),
 }
 
 

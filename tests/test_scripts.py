@@ -17,11 +17,13 @@ from shared.kinds import OpenKind, PartKind, Status
 from shared.recordings import read_input
 from shared.records import Advance, Command, Done, Ended, Off, Open, Part, Received, Record, Result
 from shared.records import Sent, Start, Step, Text, Tick, Try
+from shared.script_faults import script_fault
+from shared.script_text import lines_of
 from shared.wire import arp_reply, arp_request, tftp_ack, tftp_data, tftp_request, udp_frame
 from tests import made
 from tests.case import TOP
 from tests.replays import Replayed, can_run, replayed
-from tests.script_model import FILE, Model, random_script
+from tests.script_model import FILE, Model, numbered, random_script, refusal
 from tests.test_replay import read_all
 
 FIRST = b"#!ipxe\n"
@@ -316,6 +318,79 @@ def fallback() -> Row:
         return Row([timed.record for timed in read_input(stream)], outputs)
 
 
+def opens_next(number: int, words: bytes, line: int, place: int = 0) -> list[Record]:
+    """A fetch begins, by the own port of its number."""
+    opened = replace(made.tftp_open(words[-1:]), number=number, own=made.OWN_PORT + number)
+    return [Command(1, line, place, True, tuple(words.split(b" "))), opened, Try(number, 1)]
+
+
+def block(number: int, body: bytes) -> Record:
+    ends = (made.SERVER_PORT, made.OWN_PORT + number)
+    return Received(udp_frame(made.SERVER, made.CLIENT, ends, body))
+
+
+def took(number: int) -> list[Record]:
+    """The one block of an open is taken, and acknowledged."""
+    ends = (made.OWN_PORT + number, made.SERVER_PORT)
+    acknowledged = Sent(udp_frame(made.CLIENT, made.SERVER, ends, tftp_ack(1)))
+    return [Advance(number, 1), acknowledged, Ended(number, OK)]
+
+
+def transfers() -> dict[str, Row]:
+    first, second = b"imgfetch tftp://10.0.0.1/f", b"imgfetch tftp://10.0.0.1/g"
+    boots = b"imgexec tftp://10.0.0.1/k"
+    stopped = [Ended(1, Cause(Code.STOPPED)), UNFINISHED]
+    inputs, silent = made.silent_run()
+    silent[2] = replace(silent[2], line=3)
+    script = made.start(FIRST + b":a\n" + first + b" || goto a\n")
+    timed_out = Cause(Code.TIMED_OUT, 6)
+    again = [
+        *silent[:-4],
+        *[Ended(0, timed_out), Result(timed_out)],
+        *ran(b"goto a", line=3, place=1),
+        *[*opens_next(1, first, 3), made.asked()],
+        *[Step(65), Try(1, 2), made.asked(), Step(66), *stopped],
+    ]
+
+    def asks(number: int, path: bytes) -> Record:
+        ends = (made.OWN_PORT + number, 69)
+        return Sent(udp_frame(made.CLIENT, made.SERVER, ends, tftp_request(path)))
+
+    def begins(words: bytes) -> list[Record]:
+        path = words[-1:]
+        return [*made.fetch_begins(words, path), Step(2), Step(3), Try(0, 2), asks(0, path), Step(4)]
+
+    answered = [made.found(), Tick(250), block(0, tftp_data(1, b"a"))]
+    other = Cause(Code.NOT_BOOTABLE)
+    chain = [made.start(FIRST + first + b" && " + second + b" ; " + boots), *answered]
+    chained = [
+        *[*begins(first), *took(0), Result(OK)],
+        *[*opens_next(1, second, 2, 1), asks(1, b"g"), Step(5), *took(1), Result(OK)],
+        *[*opens_next(2, boots, 2, 2), asks(2, b"k"), Step(6), *took(2), Result(OK)],
+        *[Part(PartKind.KERNEL_NAME, 0, 0, b"k"), Part(PartKind.KERNEL, 0, 0, b"\x7fELF")],
+        Part(PartKind.COMMAND_LINE, 0, 0, b""),
+        *[Part(PartKind.INITRD_NAME, 0, 0, b"f"), Part(PartKind.INITRD, 0, 0, b"a")],
+        *[Part(PartKind.INITRD_NAME, 1, 0, b"g"), Part(PartKind.INITRD, 1, 0, b"b")],
+        Done(Status.HANDED_OFF),
+    ]
+    return {
+        "again_after_silence": Row([script, *inputs[1:], Tick(250), Off()], again),
+        "not_bootable": Row(
+            [made.start(FIRST + boots + b" || echo no"), *answered],
+            [*begins(boots), *took(0), Result(other), *ran(b"echo no", place=1),
+             made.leave(OK), Done(Status.ENDED)],
+        ),
+        "skipped_after_a_fetch": Row(
+            [made.start(FIRST + first + b" || goto a ; && exit 7"), *answered],
+            [*begins(first), *took(0), Result(OK), *ran(b"exit 7", Cause(Code.EXIT, 7), 2, 3),
+             made.leave(Cause(Code.EXIT, 7)), Done(Status.SCRIPT_FAILED)],
+        ),
+        "a_chain_of_fetches": Row(
+            [*chain, block(1, tftp_data(1, b"b")), block(2, tftp_data(1, b"\x7fELF"))], chained
+        ),
+    }
+
+
 def by_chance() -> dict[str, Row]:
     chance = random.Random(SEED)
     rows = {}
@@ -326,7 +401,8 @@ def by_chance() -> dict[str, Row]:
     return rows
 
 
-ROWS = {**joins(), **labels(), **lines(), **limits(), **steps(), "fallback": fallback()}
+ROWS = {**joins(), **labels(), **lines(), **limits(), **steps(), **transfers()}
+ROWS["fallback"] = fallback()
 CHANCES = by_chance()
 
 
@@ -363,7 +439,15 @@ class Scripts(unittest.TestCase):
 
 
 class Readings(unittest.TestCase):
-    """What is written by hand, and the second reading of the rules, are one."""
+    """What is written by hand, the second reading of the rules, and that of `show.py --why` are one."""
+
+    def test_the_tools_read_the_same_lines(self) -> None:
+        for name, row in {**ROWS, **CHANCES}.items():
+            with self.subTest(name):
+                script = row.inputs[0].script
+                found = {line.first: line.text for line in lines_of(script)}
+                self.assertEqual(found, numbered(script))
+                self.assertEqual(script_fault(script) is None, refusal(script) is None)
 
     def test_the_model_answers_the_rows(self) -> None:
         for name, row in {**joins(), **labels(), **lines(), **limits()}.items():

@@ -1,4 +1,4 @@
-"""Why a script is left by its own text, and not by a command: the line that is to blame (docs/RECORDS.md)."""
+"""Why a script was left by its own text, and not by a command: the line to blame (docs/SCRIPTS.md)."""
 
 from __future__ import annotations
 

@@ -27,7 +27,7 @@ from shared.records import (
     Try,
 )
 from shared.script_faults import Fault, fault_of
-from shared.script_text import lines_of
+from shared.script_text import Line, lines_of
 from shared.sentences import (
     error_text,
     of_local,
@@ -54,6 +54,8 @@ class Inputs:
     records: dict[int, Record] = field(default_factory=dict)
     lines: dict[int, str] = field(default_factory=dict)
     start: Start | None = None
+    # the first script's lines, by their numbers
+    script: dict[int, Line] = field(default_factory=dict)
     meanwhile: Meanwhile | None = None
     damage: str | None = None
 
@@ -75,6 +77,7 @@ class Inputs:
     ) -> None:
         if isinstance(timed.record, Start):
             self.start = timed.record
+            self.script = {line.first: line for line in lines_of(timed.record.script)}
             if waited:
                 self.meanwhile = Meanwhile(timed.record, waited.open)
         text = lines.of(timed.record)
@@ -97,14 +100,12 @@ class Inputs:
         return f"the input recording has no record {number}: it is another run's"
 
     def script_line(self, depth: int, line: int) -> list[str]:
-        """A line of the first script, joined to those after it, where the script of that depth is known."""
-        if depth != 1 or self.start is None:
+        """A line of the first script with those joined to it, where that depth's script is known."""
+        found = self.script.get(line)
+        if depth != 1 or found is None:
             return []
-        for found in lines_of(self.start.script):
-            if found.first == line:
-                numbers = f"lines {line} to {found.last}" if found.last > line else f"line {line}"
-                return [f"  script {numbers}: {word(found.text)}"]
-        return []
+        numbers = f"lines {line} to {found.last}" if found.last > line else f"line {line}"
+        return [f"  script {numbers}: {word(found.text)}"]
 
     def fault(self, failure: Failure) -> Fault | None:
         """What is wrong with the first script's text, where that is why it was left."""
