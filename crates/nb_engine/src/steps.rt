@@ -297,7 +297,8 @@ impl Client {
         Turn::Over(Status::Unfinished)
     }
 
-    /// A frame arrives, while a script goes on with its commands in this step.
+    /// A frame arrives, while a script goes on with its commands in this step. That is rare, and stands apart.
+    #[inline(never)]
     pub(crate) fn frame_anew(&mut self, script: RunningScript, bytes: &[u8], log: &mut Log) -> Turn
         requires valid { IsFrameRecord bytes.now }
         requires sound { IsSound self.old.used self.old.world (stage.Yielded script) }
