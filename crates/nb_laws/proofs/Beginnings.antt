@@ -14,7 +14,7 @@ use Rattle.nb_engine.specs.Machine.{Machine, Phase, running, waiting, Begins, ru
 use Rattle.nb_laws.specs.Events.{Event, starts, hears, waits, stops, puts, EachEvent, client}
 use Rattle.std.proofs.lemmas.List.Sums.{fold-append}
 use Rattle.nb_laws.specs.Lists as lists
-use Rattle.nb_laws.specs.Lists.{live, last_place, words_of, time, made, gathered, Opening, opening_at, openings, open_has_ended as is_ended, is_end_of, calls, Mark, tries, marks, mark_at}
+use Rattle.nb_laws.specs.Lists.{live, last_place, words_of, commands_begun, time, made, gathered, Opening, opening_at, openings, open_has_ended as is_ended, is_end_of, calls, Mark, tries, marks, mark_at}
 use Rattle.nb_laws.specs.HandOff.{images_brought, image_list, uri_of}
 use Rattle.nb_laws.proofs.HandOffs.{opens_keep, opens_reply, opens_parts, parts_more, used_keep}
 use Rattle.nb_laws.specs.Progress.{IsAdvanced, NoneIsWhole, IsStep}
@@ -23,6 +23,7 @@ use Rattle.nb_laws.specs.Endings.{by_stop, is_off, off_by}
 use Rattle.nb_laws.proofs.Tellings.{told, story_still, still_aside, still_advanced, live_kept, Kept, kept, world_kept, tries_by, Story, story_more, story_put, openings_more, calls_more, over_more, no_more, no_or}
 use Rattle.nb_laws.specs.Code.{code_read}
 use Rattle.nb_laws.proofs.Codes.{code_more, told_code}
+use Rattle.nb_laws.proofs.Commands.{told_begun, begun_more, opens_begin, script_used, script_told}
 use Rattle.nb_laws.proofs.Asides.{still_reply, none_of_reply}
 use Rattle.nb_laws.proofs.Calls.{Comes, ports_after, world_used, got_same, live_one, used_only, used_none_live, used_advanced, none_come, none_is_whole, going_not_whole, frame_brings_none, bare_brings, frame_world, frame_passes, frame_comes, time_comes}
 use Rattle.nb_laws.specs.Frames.{WritesSo}
@@ -87,7 +88,7 @@ begins_tells ins outs es m r added m' (runs n s code valid reading) story advanc
     let follows = step_follows ins outs es n story counted (none_is_whole es none) in
     let story1 : Story (ins ++ start s ∷ []) (outs ++ step (n + 1) ∷ []) es1 = story_more ins outs es e story (record { read = tt; end = tt; frame = tt; step = follows; advance = advanced; try = tt }) in
     let story2 = step_still (ins ++ start s ∷ []) outs es1 (n + 1) (enter 1 ∷ []) story1 (tt, tt) (tt, tt) advanced1 in
-    record { events = es1 ++ told (enter 1 ∷ []); story = story2; advanced = still_advanced es1 (enter 1 ∷ []) (tt, tt) advanced1; agrees = (first_world n s es a, refl, λ j. live_kept j es1 (enter 1 ∷ []) (kept es1 (enter 1 ∷ []) (tt, tt)) ∙ none1 j, sym (told_code es1 (enter 1 ∷ []) ∙ code_more es e ∙ ap code_read reading)); images = (started s (n + 1) es a, parts_more outs (step (n + 1) ∷ enter 1 ∷ []) is (tt, (tt, tt))) }
+    record { events = es1 ++ told (enter 1 ∷ []); story = story2; advanced = still_advanced es1 (enter 1 ∷ []) (tt, tt) advanced1; agrees = (first_world n s es a, refl, λ j. live_kept j es1 (enter 1 ∷ []) (kept es1 (enter 1 ∷ []) (tt, tt)) ∙ none1 j, record { code = sym (told_code es1 (enter 1 ∷ []) ∙ code_more es e ∙ ap code_read reading); begun = told_begun es1 (enter 1 ∷ []) ∙ begun_more es e }); images = (started s (n + 1) es a, parts_more outs (step (n + 1) ∷ enter 1 ∷ []) is (tt, (tt, tt))) }
 begins_tells ins outs es m r added m' (refuses n s cause valid refusal) story advanced counted a is =
     let e = starts (n + 1) s in
     let es1 = es ++ e ∷ [] in
@@ -123,7 +124,7 @@ begins_tells ins outs es m r added m' (passes_by n w s o bytes reply seen net va
       open_kept es1 b _ o k (none_of_reply o.number (time es1) reply) open1,
       a.2,
       λ j other. live_kept j es1 b k ∙ used_only es e o.number tt a.3 j other,
-      a.4 ∙ sym (told_code es1 b ∙ code_more es e),
+      script_told es1 b (anew s) (opens_begin (commands_begun es1) b (opens_reply reply)) (script_used es e s refl refl a.4),
     ) in
     record {
       events = es1 ++ told b;
@@ -140,7 +141,7 @@ begins_tells ins outs es m r added m' (brings n w s o bytes reply seen net port 
     let comes = frame_comes es (n + 1) bytes takes.message w o port body a.0 a.1 a.2 a.3 advanced (ap (heard_from o.begun.server) (sym takes.is_outcome) ∙ some) in
     tells_step (ins ++ frame bytes ∷ []) outs (n + 1) news phase
     (hears_tells (ins ++ frame bytes ∷ []) (outs ++ step (n + 1) ∷ []) es1 (with_net w net) (anew s) o (came (received (n + 1) port body) w.time) news phase hear story1
-    (subst (λ c. Comes es1 (with_net w c) o (came (received (n + 1) port body) w.time)) (sym takes.is_after) comes) (a.4 ∙ sym (code_more es e))
+    (subst (λ c. Comes es1 (with_net w c) o (came (received (n + 1) port body) w.time)) (sym takes.is_after) comes) (script_used es e s refl refl a.4)
     (is.0 ∙ sym (ap image_list (used_keep es e tt).1)) (parts_more outs (step (n + 1) ∷ []) is.1 (tt, tt)) (record { uri = ap uri_of (used_keep es e tt).0 ∙ is.2.uri; name = is.2.name; latest = is.2.latest; words = is.2.words; said = (used_keep es e tt).0 ∙ is.2.said; asked = is.2.asked }))
 begins_tells ins outs es m r added m' (passes_time n w s o ms news phase valid hear) story advanced counted a is =
     let e = waits (n + 1) ms in
@@ -148,7 +149,7 @@ begins_tells ins outs es m r added m' (passes_time n w s o ms news phase valid h
     let es1 = es ++ e ∷ [] in
     let story1 : Story (ins ++ tick ms ∷ []) (outs ++ step (n + 1) ∷ []) es1 = story_more ins outs es e story (record { read = tt; end = tt; frame = tt; step = follows; advance = advanced; try = tt }) in
     tells_step (ins ++ tick ms ∷ []) outs (n + 1) news phase
-    (hears_tells (ins ++ tick ms ∷ []) (outs ++ step (n + 1) ∷ []) es1 (world_later w ms) (anew s) o (ticked (w.time + ms)) news phase hear story1 (time_comes es (n + 1) ms w o a.0 a.1 a.2 a.3 advanced) (a.4 ∙ sym (code_more es e))
+    (hears_tells (ins ++ tick ms ∷ []) (outs ++ step (n + 1) ∷ []) es1 (world_later w ms) (anew s) o (ticked (w.time + ms)) news phase hear story1 (time_comes es (n + 1) ms w o a.0 a.1 a.2 a.3 advanced) (script_used es e s refl refl a.4)
     (is.0 ∙ sym (ap image_list (used_keep es e tt).1)) (parts_more outs (step (n + 1) ∷ []) is.1 (tt, tt)) (record { uri = ap uri_of (used_keep es e tt).0 ∙ is.2.uri; name = is.2.name; latest = is.2.latest; words = is.2.words; said = (used_keep es e tt).0 ∙ is.2.said; asked = is.2.asked }))
 begins_tells ins outs es m r added m' (switches_off n w s o) story advanced counted a is =
     let e = stops (n + 1) in
@@ -185,7 +186,7 @@ begins_tells ins outs es m r added m' (goes_on_by_frame n w s bytes reply seen n
       world_kept es1 b _ k (λ j few. none_of_reply j (time es1) reply) world1,
       ports_after w.net takes.message ∙ a.1,
       λ j. live_kept j es1 b k ∙ none1 j,
-      a.3 ∙ sym (told_code es1 b ∙ code_more es e),
+      script_told es1 b (anew s) (opens_begin (commands_begun es1) b (opens_reply reply)) (script_used es e s refl refl a.3),
     ) in
     record {
       events = es1 ++ told b;
@@ -201,7 +202,7 @@ begins_tells ins outs es m r added m' (goes_on_by_tick n w s ms valid) story adv
       events = es ++ e ∷ [];
       story = story_more ins outs es e story (record { read = tt; end = tt; frame = tt; step = follows; advance = advanced; try = tt });
       advanced = used_advanced es e tt (none_come es e tt a.2) advanced;
-      agrees = (world_used es e w (world_later w ms) tt a.0 refl refl refl a.0.client, a.1, used_none_live es e tt a.2, a.3 ∙ sym (code_more es e));
+      agrees = (world_used es e w (world_later w ms) tt a.0 refl refl refl a.0.client, a.1, used_none_live es e tt a.2, script_used es e s refl refl a.3);
       images = (is.0 ∙ sym (ap image_list (used_keep es e tt).1), parts_more outs (step (n + 1) ∷ []) is.1 (tt, tt));
     }
 begins_tells ins outs es m r added m' (goes_off n w s) story advanced counted a is =

@@ -39,7 +39,7 @@ use Rattle.nb_laws.proofs.Tellings.{told}
 use Rattle.nb_laws.proofs.Calls.{IsUsed}
 
 -- a FRAME, a TRY or an ADVANCE
-pub IsOpens : Out → Type 0
+unfoldable pub IsOpens : Out → Type 0
 IsOpens (sent bytes) = Unit {0}
 IsOpens (tried number count) = Unit {0}
 IsOpens (advanced number place) = Unit {0}

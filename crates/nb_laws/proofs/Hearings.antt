@@ -2,6 +2,7 @@
 use Rattle.std.proofs.Common.{◌≡◌, ℕ, ◌-◌, ◌<◌, true, false, cond, not, ◌||◌, List, [], ◌∷◌, ◌++◌, refl, sym, ◌∙◌, ap, subst, append_assoc, append-nil, add-zero, arith, map, lt_of_lt_of_le, ne_eqb}
 use Rattle.std.specs.List.{flat_map}
 use Rattle.nb_terms.specs.declared.cause.Cause.{Cause}
+use Rattle.nb_defs.specs.Causes.{ok}
 use Rattle.nb_defs.specs.Records.{In, Out, ended}
 use Rattle.nb_stack.specs.Bound.{without}
 use Rattle.nb_stack.specs.declared.ports.Port.{Port}
@@ -12,12 +13,12 @@ use Rattle.nb_engine.specs.World.{unbound}
 use Rattle.nb_engine.specs.Effects.{Wanted, effect}
 use Rattle.nb_engine.specs.Opens.{Open, open_for, opened_record, with_entry, acts_records}
 use Rattle.nb_engine.specs.Conclusions.{image_from, Conclusion, keeps, fails, boots, conclusion_records}
-use Rattle.nb_engine.specs.Running.{Running}
+use Rattle.nb_engine.specs.Running.{Running, with_result}
 use Rattle.nb_engine.specs.Machine.{Phase, Hears, goes_on, is_over, phase_after, concluded}
 use Rattle.nb_laws.specs.Events.{Event, puts}
 use Rattle.std.proofs.Math.Bool.{or-true}
 use Rattle.nb_laws.specs.Lists as lists
-use Rattle.nb_laws.specs.Lists.{live, last_place, words_of, time, made, gathered, Opening, opening_at, openings, open_has_ended as is_ended, is_end_of, calls, Mark, tries, marks, mark_at}
+use Rattle.nb_laws.specs.Lists.{live, last_place, words_of, commands_begun, time, made, gathered, Opening, opening_at, openings, open_has_ended as is_ended, is_end_of, calls, Mark, tries, marks, mark_at}
 use Rattle.nb_laws.specs.HandOff.{images_brought, image_list, uri_of, last_segment, image_by, last_image}
 use Rattle.nb_laws.proofs.HandOffs.{opens_keep, opens_acts, opens_parts, parts_more, one_keeps, words_kept, concluded_images, last_end_more}
 use Rattle.nb_engine.specs.Honesty.{HaveNoParts}
@@ -27,7 +28,7 @@ use Rattle.nb_laws.specs.Progress.{IsAdvanced}
 use Rattle.nb_laws.specs.Agreement.{AgreesWorld, AgreesScript, IsOnly, NoneLives, IsNamed, AgreesImages, AgreesPhase, opening_of}
 use Rattle.nb_laws.proofs.Histories.{client_more, offset_more, time_more}
 use Rattle.nb_laws.proofs.Tellings.{told, story_still, still_aside, still_advanced, live_same, live_kept, advanced_more, made_more, kept, world_kept, Story, story_put, story_told, openings_more, calls_more, marks_more, over_more, no_more, no_or, same_number, other_number}
-use Rattle.nb_laws.proofs.Codes.{code_more, told_code}
+use Rattle.nb_laws.proofs.Commands.{opens_begin, conclusion_begins, script_as, script_told}
 use Rattle.nb_laws.proofs.Asides.{aside_acts, still_conclusion, still_handoff, silent_handoff, none_of_conclusion}
 use Rattle.nb_laws.proofs.Calls.{Comes, got_same, each_number, live_one}
 use Rattle.nb_laws.proofs.Puttings.{HasBrought, conclusion_writes, acts_reasons}
@@ -61,11 +62,11 @@ freed o to ports e = ap (without 17 o) e ∙ ap (λ b. cond (not b) (record { pr
 
 -- where a conclusion leads
 pub leads : (es : List Event) (w : World) (own to : ℕ) (s : Running) (c : Conclusion) → AgreesWorld es w → NoneLives es → AgreesScript es s → w.net.ports ≡ record { proto = 17; number = own; to = to } ∷ [] → AgreesPhase es (phase_after (unbound w own) s c)
-leads es w own to s (keeps list) h none code ports =
-    (record { time = h.time; client = h.client; opens = h.opens; offset = h.offset; unopened = h.unopened; unended = h.unended; untold = h.untold }, freed own to w.net.ports ports, none, code)
-leads es w own to s (fails cause) h none code ports =
-    (record { time = h.time; client = h.client; opens = h.opens; offset = h.offset; unopened = h.unopened; unended = h.unended; untold = h.untold }, freed own to w.net.ports ports, none, code)
-leads es w own to s (boots list kernel) h none code ports = (still_handoff kernel list.images, silent_handoff kernel list.images, none)
+leads es w own to s (keeps list) h none script ports =
+    (record { time = h.time; client = h.client; opens = h.opens; offset = h.offset; unopened = h.unopened; unended = h.unended; untold = h.untold }, freed own to w.net.ports ports, none, script_as es s (with_result s ok) refl refl script)
+leads es w own to s (fails cause) h none script ports =
+    (record { time = h.time; client = h.client; opens = h.opens; offset = h.offset; unopened = h.unopened; unended = h.unended; untold = h.untold }, freed own to w.net.ports ports, none, script_as es s (with_result s cause) refl refl script)
+leads es w own to s (boots list kernel) h none script ports = (still_handoff kernel list.images, silent_handoff kernel list.images, none)
 
 pub ended_advanced : (es : List Event) (k : ℕ) (cause : Cause) → IsAdvanced es → IsAdvanced (es ++ puts (ended k cause) ∷ [])
 ended_advanced es k cause a = advanced_more es (puts (ended k cause)) (λ j. refl) (λ j. refl) a
@@ -93,7 +94,7 @@ opened_only es w wanted none = λ j other.
 -- what came is taken
 pub hears_tells : (ins : List In) (outs : List Out) (es : List Event) (w : World) (s : Running) (o : Open) (call : Call) (added : List Out) (phase : Phase) →
     Hears w s o call added phase → Story ins outs es → Comes es w o call → AgreesScript es s → w.images.images ≡ image_list (images_brought es) → HaveNoParts outs → IsNamed es w o → Tells ins (outs ++ added) phase
-hears_tells ins outs es w s o call added phase (goes_on _ _ _ _ acts meets none) story c code is none_before named =
+hears_tells ins outs es w s o call added phase (goes_on _ _ _ _ acts meets none) story c script is none_before named =
     let a = acts_records w.net o.number acts in
     let r = acts_reasons es w o call acts c meets in
     let left = kept es a (aside_acts w.net o.number acts) in
@@ -102,10 +103,10 @@ hears_tells ins outs es w s o call added phase (goes_on _ _ _ _ acts meets none)
       events = es ++ told a;
       story = story_told ins outs es a (aside_acts w.net o.number acts) r.writes r.advances r.tries story;
       advanced = r.after;
-      agrees = (world_taken es w o call acts c, open_taken es w o call acts c meets, goes_further o (entry call acts) meets c.going none, λ j other. live_kept j es a left ∙ c.only j other, code ∙ sym (told_code es a));
+      agrees = (world_taken es w o call acts c, open_taken es w o call acts c meets, goes_further o (entry call acts) meets c.going none, λ j other. live_kept j es a left ∙ c.only j other, script_told es a s (opens_begin (commands_begun es) a (opens_acts w.net o.number acts)) script);
       images = (is ∙ sym (ap image_list keep.1), parts_more outs a none_before (opens_parts a (opens_acts w.net o.number acts)), record { uri = ap uri_of keep.0 ∙ named.uri; name = named.name; latest = named.latest; words = named.words; said = keep.0 ∙ named.said; asked = named.asked });
     }
-hears_tells ins outs es w s o call added phase (is_over _ _ _ _ acts cause meets over) story c code is none_before named =
+hears_tells ins outs es w s o call added phase (is_over _ _ _ _ acts cause meets over) story c script is none_before named =
     let a = acts_records w.net o.number acts in
     let k = o.number in
     let e = entry call acts in
@@ -154,7 +155,7 @@ hears_tells ins outs es w s o call added phase (is_over _ _ _ _ acts cause meets
       story = subst (λ z. Story ins z (es2 ++ told b)) joined story3;
       advanced = still_advanced es2 b still advanced2;
       agrees = leads (es2 ++ told b) w o.begun.own_port o.number s concl world3 (λ j. live_kept j es2 b (kept es2 b aside2) ∙ none2 j)
-          (code ∙ sym (told_code es2 b ∙ code_more es1 (puts (ended k cause)) ∙ told_code es a)) c.ports;
+          (script_told es2 b s (conclusion_begins (commands_begun es2) concl) (script_told es1 (ended k cause ∷ []) s refl (script_told es a s (opens_begin (commands_begun es) a (opens_acts w.net k acts)) script))) c.ports;
       images = subst (λ z. AgreesImages (es2 ++ told b) z (phase_after (unbound w o.begun.own_port) s concl)) joined
           (concluded_images es2 ((outs ++ a) ++ ended k cause ∷ []) w o.begun.own_port s cause o.wanted.boots (image_from (with_entry o e)) (last_end_more es1 (puts (ended k cause)))
           (holds.1 ∙ ap is_whole (got_same k es1 (o.entries ++ e ∷ []) open1.calls ∙ sym got2) ∙ ap (λ n. is_whole (lists.datagrams_of n es2)) (sym number2)) last (is ∙ sym (ap image_list brought2)) (parts_more (outs ++ a) (ended k cause ∷ []) (parts_more outs a none_before (opens_parts a (opens_acts w.net k acts))) (tt, tt)));

@@ -1,5 +1,5 @@
 -- The machine moves: the history that agrees with the state afterwards.
-use Rattle.std.proofs.Common.{◌≡◌, ℕ, false, List, [], ◌∷◌, ◌++◌, Some, refl, sym, ◌∙◌, ap, subst, append_assoc, append-nil, arith, le_refl}
+use Rattle.std.proofs.Common.{◌≡◌, ℕ, ◌+◌, false, List, [], ◌∷◌, ◌++◌, Some, refl, sym, ◌∙◌, ap, subst, append_assoc, append-nil, arith, le_refl}
 use Rattle.std.specs.List.{flat_map}
 use Rattle.nb_terms.specs.declared.acts.SendTo.{SendTo}
 use Rattle.nb_terms.specs.declared.cause.Cause.{Cause}
@@ -18,12 +18,12 @@ use Rattle.nb_engine.specs.declared.world.World.{World}
 use Rattle.nb_engine.specs.World.{with_open, with_ended_open, own_port, host}
 use Rattle.nb_engine.specs.Opens.{open_for, begun_for, opened_record, send_records, request_of, has_route, is_on_its_way}
 use Rattle.nb_engine.specs.Conclusions.{fails, conclusion_records}
-use Rattle.nb_engine.specs.Running.{Running, no_label}
+use Rattle.nb_engine.specs.Running.{Running, entered, further, behind_line, no_label}
 use Rattle.nb_engine.specs.Machine.{Machine, running, Move, passes, is_left, yields, does, leaves, jumps, finds_no_label, asks_for, finds_no_route, hands, has_handed, command_records, command_record, no_route}
 use Rattle.nb_laws.specs.Events.{Event, puts, EachEvent}
 use Rattle.std.proofs.lemmas.List.{map-append}
 use Rattle.nb_laws.specs.Lists as lists
-use Rattle.nb_laws.specs.Lists.{live, last_place, words_of, time, made, gathered, Opening, opening_at, openings, open_has_ended as is_ended, is_end_of, calls, Mark, tries, marks, mark_at}
+use Rattle.nb_laws.specs.Lists.{live, last_place, words_of, commands_begun, time, made, gathered, Opening, opening_at, openings, open_has_ended as is_ended, is_end_of, calls, Mark, tries, marks, mark_at}
 use Rattle.nb_laws.specs.HandOff.{image_list, uri_of, HandsOff}
 use Rattle.nb_laws.proofs.HandOffs.{opens_keep, opens_send, opens_parts, parts_more, one_keeps, words_now, words_kept, command_keeps, no_command, failed_image, silent_image, asks_named}
 use Rattle.nb_engine.specs.Honesty.{HaveNoParts}
@@ -32,7 +32,7 @@ use Rattle.nb_laws.specs.Agreement.{AgreesWorld, NoneLives, AgreesImages, Agrees
 use Rattle.nb_laws.specs.Endings.{Holds, by_no_route}
 use Rattle.nb_laws.proofs.Histories.{each_append}
 use Rattle.nb_laws.proofs.Tellings.{told, story_still, still_aside, still_advanced, live_kept, advanced_more, silent_frames, kept, world_kept, tries_by, Story, story_put, story_told, calls_more, marks_more, over_more, no_or, other_number}
-use Rattle.nb_laws.proofs.Codes.{code_more, told_code, coming_code}
+use Rattle.nb_laws.proofs.Commands.{opens_begin, conclusion_begins, command_begins, may_begin, script_passes, script_told, script_begins}
 use Rattle.nb_laws.proofs.Asides.{more_still, none_of_conclusion, aside_send, still_conclusion, still_command, none_of_send, none_of_command, own_send}
 use Rattle.nb_laws.proofs.Calls.{live_one}
 use Rattle.nb_laws.specs.Frames.{WritesSo}
@@ -56,12 +56,13 @@ leave_writes es b depth cause h = subst (λ z. EachEvent WritesSo es z) (sym (ma
 bare_route : (net : Client) (send : SendTo) → has_route (bare net) send ≡ has_route net send
 bare_route net send = same_way is_on_its_way refl (bare net) net (way_of net send)
 
--- a command that is over at once leaves all as it was
-command_agrees : (es : List Event) (w : World) (s : Running) (ws : List (List ℕ)) (o : CommandOutcome) → AgreesPhase es (running w s) → AgreesPhase (es ++ told (command_records s ws o)) (running w s)
-command_agrees es w s ws o a =
+-- a command that is over at once leaves all as it was, and counts
+command_agrees : (es : List Event) (w : World) (s t : Running) (ws : List (List ℕ)) (o : CommandOutcome) → t.code ≡ s.code → t.begun ≡ s.begun + 1 →
+    AgreesPhase es (running w s) → AgreesPhase (es ++ told (command_records s ws o)) (running w t)
+command_agrees es w s t ws o code begun a =
     let b = command_records s ws o in
     let h = still_aside b (still_command s ws o) in
-    (quiet_world es b w h (λ k now. none_of_command k now s ws o) a.0, a.1, λ j. live_kept j es b (kept es b h) ∙ a.2 j, a.3 ∙ sym (told_code es b))
+    (quiet_world es b w h (λ k now. none_of_command k now s ws o) a.0, a.1, λ j. live_kept j es b (kept es b h) ∙ a.2 j, script_begins es b s t (command_begins (commands_begun es) s ws o) code begun a.3)
 
 -- an open that was made, and whose port isn't bound
 made_world : (es : List Event) (w : World) → AgreesWorld es (with_open w) → AgreesWorld es (with_ended_open w)
@@ -70,7 +71,7 @@ made_world es w h = record { time = h.time; client = h.client; opens = h.opens; 
 pub moves_tells : (ins : List In) (outs : List Out) (es : List Event) (m : Machine) (added : List Out) (m' : Machine) →
     Move m added m' → Story ins outs es → IsAdvanced es → AgreesPhase es m.phase → AgreesImages es outs m.phase → Tells ins (outs ++ added) m'.phase
 moves_tells ins outs es m added m' (passes n w s t comes) story advanced a is =
-    record { events = es; story = subst (λ z. Story ins z es) (sym (append-nil outs)) story; advanced = advanced; agrees = (a.0, a.1, a.2, coming_code s t comes ∙ a.3); images = (is.0, subst HaveNoParts (sym (append-nil outs)) is.1) }
+    record { events = es; story = subst (λ z. Story ins z es) (sym (append-nil outs)) story; advanced = advanced; agrees = (a.0, a.1, a.2, script_passes es s t comes a.3); images = (is.0, subst HaveNoParts (sym (append-nil outs)) is.1) }
 moves_tells ins outs es m added m' (is_left n w s cause comes) story advanced a is =
     let b = leave s.depth cause ∷ [] in
     record { events = es ++ told b; story = story_still ins outs es b (tt, tt) (tt, tt) advanced story; advanced = still_advanced es b (tt, tt) advanced; agrees = λ j. live_kept j es b (kept es b (tt, tt)) ∙ a.2 j; images = parts_more outs b is.1 (tt, tt) }
@@ -81,9 +82,9 @@ moves_tells ins outs es m added m' (does n w s c cs o begins few comes stays) st
     let h = still_command s (c ∷ cs) o in
     record {
       events = es ++ told b;
-      story = story_still ins outs es b h (command_writes es w s (c ∷ cs) o a.0 comes) advanced story;
+      story = story_still ins outs es b h (command_writes es w s (c ∷ cs) o a.0 comes (may_begin es s a.3 few)) advanced story;
       advanced = still_advanced es b h advanced;
-      agrees = command_agrees es w s (c ∷ cs) o a;
+      agrees = command_agrees es w s (further s o.cause) (c ∷ cs) o refl refl a;
       images = (is.0 ∙ sym (ap image_list (command_keeps es s (c ∷ cs) o)), parts_more outs b is.1 (no_command s (c ∷ cs) o));
     }
 moves_tells ins outs es m added m' (leaves n w s c cs o begins few comes goes_out) story advanced a is =
@@ -91,7 +92,7 @@ moves_tells ins outs es m added m' (leaves n w s c cs o begins few comes goes_ou
     let h = more_still (command_records s (c ∷ cs) o) (leave s.depth o.cause ∷ []) (still_command s (c ∷ cs) o) (tt, tt) in
     record {
       events = es ++ told b;
-      story = story_still ins outs es b h (leave_writes es (command_records s (c ∷ cs) o) s.depth o.cause (command_writes es w s (c ∷ cs) o a.0 comes)) advanced story;
+      story = story_still ins outs es b h (leave_writes es (command_records s (c ∷ cs) o) s.depth o.cause (command_writes es w s (c ∷ cs) o a.0 comes (may_begin es s a.3 few))) advanced story;
       advanced = still_advanced es b h advanced;
       agrees = λ j. live_kept j es b (kept es b (still_aside b h)) ∙ a.2 j;
       images = parts_more outs b is.1 (parts_more (command_records s (c ∷ cs) o) (leave s.depth o.cause ∷ []) (no_command s (c ∷ cs) o) (tt, tt));
@@ -102,9 +103,9 @@ moves_tells ins outs es m added m' (jumps n w s c cs name line begins few comes 
     let h = still_command s (c ∷ cs) o in
     record {
       events = es ++ told b;
-      story = story_still ins outs es b h (jump_writes es w s (c ∷ cs) name line a.0 a.3 comes there) advanced story;
+      story = story_still ins outs es b h (jump_writes es w s (c ∷ cs) name line a.0 a.3 comes there (may_begin es s a.3 few)) advanced story;
       advanced = still_advanced es b h advanced;
-      agrees = command_agrees es w s (c ∷ cs) o a;
+      agrees = command_agrees es w s (behind_line s line) (c ∷ cs) o refl refl a;
       images = (is.0 ∙ sym (ap image_list (command_keeps es s (c ∷ cs) o)), parts_more outs b is.1 (no_command s (c ∷ cs) o));
     }
 moves_tells ins outs es m added m' (finds_no_label n w s c cs name begins few comes none) story advanced a is =
@@ -113,9 +114,9 @@ moves_tells ins outs es m added m' (finds_no_label n w s c cs name begins few co
     let h = still_command s (c ∷ cs) o in
     record {
       events = es ++ told b;
-      story = story_still ins outs es b h (no_label_writes es w s (c ∷ cs) name a.0 a.3 comes none) advanced story;
+      story = story_still ins outs es b h (no_label_writes es w s (c ∷ cs) name a.0 a.3 comes none (may_begin es s a.3 few)) advanced story;
       advanced = still_advanced es b h advanced;
-      agrees = command_agrees es w s (c ∷ cs) o a;
+      agrees = command_agrees es w s (further s no_label) (c ∷ cs) o refl refl a;
       images = (is.0 ∙ sym (ap image_list (command_keeps es s (c ∷ cs) o)), parts_more outs b is.1 (no_command s (c ∷ cs) o));
     }
 moves_tells ins outs es m added m' (asks_for n w s c cs wanted begins few comes route) story advanced a is =
@@ -127,7 +128,7 @@ moves_tells ins outs es m added m' (asks_for n w s c cs wanted begins few comes 
     let es1 = es ++ told (command ∷ []) in
     let es2 = es1 ++ e ∷ [] in
     let world1 = quiet_world es (command ∷ []) w (tt, tt) (λ j now. refl) a.0 in
-    let story1 : Story ins (outs ++ command ∷ []) es1 = story_still ins outs es (command ∷ []) (tt, tt) (tt, tt) advanced story in
+    let story1 : Story ins (outs ++ command ∷ []) es1 = story_still ins outs es (command ∷ []) (tt, tt) (may_begin es s a.3 few, tt) advanced story in
     let advanced1 = still_advanced es (command ∷ []) (tt, tt) advanced in
     let none1 : NoneLives (es ++ told (command ∷ [])) = λ j. live_kept j es (command ∷ []) (kept es (command ∷ []) (tt, tt)) ∙ a.2 j in
     let story2 : Story ins ((outs ++ command ∷ []) ++ opened_record w wanted ∷ []) es2 = story_put ins (outs ++ command ∷ []) es1 (opened_record w wanted) story1 (record { read = tt; end = tt; frame = opened_so es1 w (c ∷ cs) wanted world1 (words_now es s (c ∷ cs)) comes; step = tt; advance = advanced1; try = tt }) in
@@ -159,7 +160,8 @@ moves_tells ins outs es m added m' (asks_for n w s c cs wanted begins few comes 
         },
         record { placed = refl; unfinished = refl; running = refl; stops = tt },
         λ j other. live_kept j es2 b left ∙ opened_only es1 w wanted none1 j other,
-        a.3 ∙ sym (told_code es2 b ∙ code_more es1 e ∙ told_code es (command ∷ [])),
+        script_told es2 b (entered s) (opens_begin (commands_begun es2) b (opens_send w.net k (Some 1) request))
+            (script_told es1 (opened_record w wanted ∷ []) (entered s) refl (script_begins es (command ∷ []) s (entered s) refl refl refl a.3)),
       );
       images = (
         is.0 ∙ sym (ap image_list (keep.1 ∙ one_keeps es1 (opened_record w wanted) refl ∙ one_keeps es command refl)),
@@ -184,7 +186,7 @@ moves_tells ins outs es m added m' (finds_no_route n w s c cs wanted begins few 
     let es2 = es1 ++ puts o ∷ [] in
     let es3 = es2 ++ puts (ended k cause) ∷ [] in
     let world1 = quiet_world es (command ∷ []) w (tt, tt) (λ j now. refl) a.0 in
-    let story1 : Story ins (outs ++ command ∷ []) es1 = story_still ins outs es (command ∷ []) (tt, tt) (tt, tt) advanced story in
+    let story1 : Story ins (outs ++ command ∷ []) es1 = story_still ins outs es (command ∷ []) (tt, tt) (may_begin es s a.3 few, tt) advanced story in
     let advanced1 = still_advanced es (command ∷ []) (tt, tt) advanced in
     let none1 : NoneLives (es ++ told (command ∷ [])) = λ j. live_kept j es (command ∷ []) (kept es (command ∷ []) (tt, tt)) ∙ a.2 j in
     let story2 : Story ins ((outs ++ command ∷ []) ++ o ∷ []) es2 = story_put ins (outs ++ command ∷ []) es1 o story1 (record { read = tt; end = tt; frame = opened_so es1 w (c ∷ cs) wanted world1 (words_now es s (c ∷ cs)) comes; step = tt; advance = advanced1; try = tt }) in
@@ -210,7 +212,8 @@ moves_tells ins outs es m added m' (finds_no_route n w s c cs wanted begins few 
         world_kept es3 b (with_ended_open w) (kept es3 b (still_aside b still)) (λ j more. none_of_conclusion j (time es3) (fails cause)) world3,
         a.1,
         λ j. live_kept j es3 b (kept es3 b (still_aside b still)) ∙ none3 j,
-        a.3 ∙ sym (told_code es3 b ∙ code_more es2 (puts (ended k cause)) ∙ code_more es1 (puts o) ∙ told_code es (command ∷ [])),
+        script_told es3 b (further s cause) (conclusion_begins (commands_begun es3) (fails cause))
+            (script_told es2 (ended k cause ∷ []) (further s cause) refl (script_told es1 (o ∷ []) (further s cause) refl (script_begins es (command ∷ []) s (further s cause) refl refl refl a.3))),
       );
       images = (
         is.0 ∙ sym (ap image_list (one_keeps es3 (result cause) (failed_image es3 cause refl) ∙ one_keeps es2 (ended k cause) refl ∙ one_keeps es1 o refl ∙ one_keeps es command refl)),

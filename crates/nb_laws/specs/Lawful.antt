@@ -18,7 +18,7 @@ pub record IsLawful (es : List Event) : Type 0 where
   -- each ENDED has its cause in the records so far, and is Ok exactly where the open's file is whole
   pub ends : EachEvent EndsSo [] es
   -- each RESULT has its cause in the records so far; each FRAME is a reply to its step's record, once, a message that a live
-  -- open may send, or the ARP request for its next hop; no DONE stands before the end
+  -- open may send, or the ARP request for its next hop; no step has more than 4,096 COMMANDs; no DONE stands before the end
   pub writes : EachEvent WritesSo [] es
   -- each TRY has its FRAME, or the ARP request for its next hop, directly after it
   pub tries : EachThen TriesSo [] es
