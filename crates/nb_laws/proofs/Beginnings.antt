@@ -9,7 +9,7 @@ use Rattle.nb_tftp.specs.Received.{received}
 use Rattle.nb_engine.specs.declared.world.World.{World}
 use Rattle.nb_engine.specs.World.{world_of, with_net, world_later}
 use Rattle.nb_engine.specs.Opens.{Open, heard_from}
-use Rattle.nb_engine.specs.Running.{anew}
+use Rattle.nb_engine.specs.Running.{Running, anew}
 use Rattle.nb_engine.specs.Machine.{Machine, Phase, running, waiting, Begins, runs, refuses, passes_by, brings, passes_time, switches_off, goes_on_by_frame, goes_on_by_tick, goes_off, reply_records, stopped_cause}
 use Rattle.nb_laws.specs.Events.{Event, starts, hears, waits, stops, puts, EachEvent, client}
 use Rattle.std.proofs.lemmas.List.Sums.{fold-append}
@@ -17,8 +17,8 @@ use Rattle.nb_laws.specs.Lists as lists
 use Rattle.nb_laws.specs.Lists.{live, last_place, words_of, commands_begun, time, made, gathered, Opening, opening_at, openings, open_has_ended as is_ended, is_end_of, calls, Mark, tries, marks, mark_at}
 use Rattle.nb_laws.specs.HandOff.{images_brought, image_list, uri_of}
 use Rattle.nb_laws.proofs.HandOffs.{opens_keep, opens_reply, opens_parts, parts_more, used_keep}
-use Rattle.nb_laws.specs.Progress.{IsAdvanced, NoneIsWhole, IsStep}
-use Rattle.nb_laws.specs.Agreement.{AgreesWorld, AgreesOpen, NoneLives, AgreesImages, AgreesPhase, AreStill, opening_of}
+use Rattle.nb_laws.specs.Progress.{IsAdvanced, NoneIsWhole, IsStep, IsResumed, by_live, by_count}
+use Rattle.nb_laws.specs.Agreement.{AgreesWorld, AgreesOpen, AgreesScript, IsGoing, IsOnly, NoneLives, AgreesImages, AgreesPhase, AreStill, opening_of}
 use Rattle.nb_laws.specs.Endings.{by_stop, is_off, off_by}
 use Rattle.nb_laws.proofs.Tellings.{told, story_still, still_aside, still_advanced, live_kept, Kept, kept, world_kept, tries_by, Story, story_more, story_put, openings_more, calls_more, over_more, no_more, no_or}
 use Rattle.nb_laws.specs.Code.{code_read}
@@ -48,6 +48,18 @@ none_at_start = λ j. refl
 -- a record is used, with its number
 step_follows : (ins : List In) (outs : List Out) (es : List Event) (n : ℕ) → Story ins outs es → n ≡ length ins → NoneIsWhole es → IsStep es (n + 1)
 step_follows ins outs es n story counted none = record { counted = ap (λ z. z + 1) (counted ∙ ap length story.history.used); unfinished = none }
+
+step_first : (ins : List In) (outs : List Out) (es : List Event) (n : ℕ) → Story ins outs es → n ≡ length ins → NoneLives es → es ≡ [] → IsStep es (n + 1) × (es ≡ [])
+step_first ins outs es n story counted none empty = (step_follows ins outs es n story counted (none_is_whole es none), empty)
+
+step_waits : (ins : List In) (outs : List Out) (es : List Event) (n : ℕ) (w : World) (o : Open) → Story ins outs es → n ≡ length ins → AgreesOpen es w o → IsGoing o → IsOnly o.number es →
+    IsStep es (n + 1) × IsResumed es
+step_waits ins outs es n w o story counted h going only =
+    (step_follows ins outs es n story counted (going_not_whole es w o h going only), by_live o.number (opening_of o) (live_one o.number es (opening_of o) h.opening h.lives))
+
+step_resumes : (ins : List In) (outs : List Out) (es : List Event) (n : ℕ) (s : Running) → Story ins outs es → n ≡ length ins → NoneLives es → AgreesScript es s → s.begun ≡ 4096 →
+    IsStep es (n + 1) × IsResumed es
+step_resumes ins outs es n s story counted none script full = (step_follows ins outs es n story counted (none_is_whole es none), by_count (script.begun ∙ full))
 
 tells_step : (ins : List In) (outs : List Out) (n : ℕ) (added : List Out) (phase : Phase) → Tells ins ((outs ++ step n ∷ []) ++ added) phase → Tells ins (outs ++ step n ∷ added) phase
 tells_step ins outs n added phase t = subst (λ z. Tells ins z phase) (append_assoc outs (step n ∷ []) added) t
@@ -85,7 +97,7 @@ begins_tells ins outs es m r added m' (runs n s code valid reading) story advanc
     let none = subst NoneLives (sym a) none_at_start in
     let advanced1 = used_advanced es e tt (none_come es e tt none) advanced in
     let none1 = used_none_live es e tt none in
-    let follows = step_follows ins outs es n story counted (none_is_whole es none) in
+    let follows = step_first ins outs es n story counted none a in
     let story1 : Story (ins ++ start s ∷ []) (outs ++ step (n + 1) ∷ []) es1 = story_more ins outs es e story (record { read = tt; end = tt; frame = tt; step = follows; advance = advanced; try = tt }) in
     let story2 = step_still (ins ++ start s ∷ []) outs es1 (n + 1) (enter 1 ∷ []) story1 (tt, tt) (tt, tt) advanced1 in
     record { events = es1 ++ told (enter 1 ∷ []); story = story2; advanced = still_advanced es1 (enter 1 ∷ []) (tt, tt) advanced1; agrees = (first_world n s es a, refl, λ j. live_kept j es1 (enter 1 ∷ []) (kept es1 (enter 1 ∷ []) (tt, tt)) ∙ none1 j, record { code = sym (told_code es1 (enter 1 ∷ []) ∙ code_more es e ∙ ap code_read reading); begun = told_begun es1 (enter 1 ∷ []) ∙ begun_more es e }); images = (started s (n + 1) es a, parts_more outs (step (n + 1) ∷ enter 1 ∷ []) is (tt, (tt, tt))) }
@@ -96,7 +108,7 @@ begins_tells ins outs es m r added m' (refuses n s cause valid refusal) story ad
     let advanced1 = used_advanced es e tt (none_come es e tt none) advanced in
     let none1 = used_none_live es e tt none in
     let b = enter 1 ∷ leave 1 cause ∷ [] in
-    let follows = step_follows ins outs es n story counted (none_is_whole es none) in
+    let follows = step_first ins outs es n story counted none a in
     let story1 : Story (ins ++ start s ∷ []) (outs ++ step (n + 1) ∷ []) es1 = story_more ins outs es e story (record { read = tt; end = tt; frame = tt; step = follows; advance = advanced; try = tt }) in
     record {
       events = es1 ++ told b;
@@ -107,7 +119,7 @@ begins_tells ins outs es m r added m' (refuses n s cause valid refusal) story ad
     }
 begins_tells ins outs es m r added m' (passes_by n w s o bytes reply seen net valid takes none) story advanced counted a is =
     let e = hears (n + 1) bytes takes.message in
-    let follows = step_follows ins outs es n story counted (going_not_whole es w o a.1 a.2 a.3) in
+    let follows = step_waits ins outs es n w o story counted a.1 a.2 a.3 in
     let es1 = es ++ e ∷ [] in
     let story1 : Story (ins ++ frame bytes ∷ []) (outs ++ step (n + 1) ∷ []) es1 = story_more ins outs es e story (record { read = bare_brings es w.net bytes takes.message a.0.client takes.brings; end = tt; frame = tt; step = follows; advance = advanced; try = tt }) in
     let heard_none = ap (heard_from o.begun.server) (sym takes.is_outcome) ∙ none in
@@ -135,7 +147,7 @@ begins_tells ins outs es m r added m' (passes_by n w s o bytes reply seen net va
     }
 begins_tells ins outs es m r added m' (brings n w s o bytes reply seen net port body news phase valid takes some hear) story advanced counted a is =
     let e = hears (n + 1) bytes takes.message in
-    let follows = step_follows ins outs es n story counted (going_not_whole es w o a.1 a.2 a.3) in
+    let follows = step_waits ins outs es n w o story counted a.1 a.2 a.3 in
     let es1 = es ++ e ∷ [] in
     let story1 : Story (ins ++ frame bytes ∷ []) (outs ++ step (n + 1) ∷ []) es1 = story_more ins outs es e story (record { read = bare_brings es w.net bytes takes.message a.0.client takes.brings; end = tt; frame = tt; step = follows; advance = advanced; try = tt }) in
     let comes = frame_comes es (n + 1) bytes takes.message w o port body a.0 a.1 a.2 a.3 advanced (ap (heard_from o.begun.server) (sym takes.is_outcome) ∙ some) in
@@ -145,7 +157,7 @@ begins_tells ins outs es m r added m' (brings n w s o bytes reply seen net port 
     (is.0 ∙ sym (ap image_list (used_keep es e tt).1)) (parts_more outs (step (n + 1) ∷ []) is.1 (tt, tt)) (record { uri = ap uri_of (used_keep es e tt).0 ∙ is.2.uri; name = is.2.name; latest = is.2.latest; words = is.2.words; said = (used_keep es e tt).0 ∙ is.2.said; asked = is.2.asked }))
 begins_tells ins outs es m r added m' (passes_time n w s o ms news phase valid hear) story advanced counted a is =
     let e = waits (n + 1) ms in
-    let follows = step_follows ins outs es n story counted (going_not_whole es w o a.1 a.2 a.3) in
+    let follows = step_waits ins outs es n w o story counted a.1 a.2 a.3 in
     let es1 = es ++ e ∷ [] in
     let story1 : Story (ins ++ tick ms ∷ []) (outs ++ step (n + 1) ∷ []) es1 = story_more ins outs es e story (record { read = tt; end = tt; frame = tt; step = follows; advance = advanced; try = tt }) in
     tells_step (ins ++ tick ms ∷ []) outs (n + 1) news phase
@@ -153,7 +165,7 @@ begins_tells ins outs es m r added m' (passes_time n w s o ms news phase valid h
     (is.0 ∙ sym (ap image_list (used_keep es e tt).1)) (parts_more outs (step (n + 1) ∷ []) is.1 (tt, tt)) (record { uri = ap uri_of (used_keep es e tt).0 ∙ is.2.uri; name = is.2.name; latest = is.2.latest; words = is.2.words; said = (used_keep es e tt).0 ∙ is.2.said; asked = is.2.asked }))
 begins_tells ins outs es m r added m' (switches_off n w s o) story advanced counted a is =
     let e = stops (n + 1) in
-    let follows = step_follows ins outs es n story counted (going_not_whole es w o a.1 a.2 a.3) in
+    let follows = step_waits ins outs es n w o story counted a.1 a.2 a.3 in
     let advanced1 = used_advanced es e tt (λ k. refl) advanced in
     let unfinished : is_whole (lists.datagrams_of o.number (es ++ e ∷ [])) ≡ false =
     ap (λ z. is_whole (flat_map received_by z)) (calls_more o.number es e ∙ append-nil (calls o.number es)) ∙ ap is_whole (got_same o.number es o.entries a.1.calls) ∙ a.2.unfinished in
@@ -171,7 +183,7 @@ begins_tells ins outs es m r added m' (switches_off n w s o) story advanced coun
     }
 begins_tells ins outs es m r added m' (goes_on_by_frame n w s bytes reply seen net valid takes) story advanced counted a is =
     let e = hears (n + 1) bytes takes.message in
-    let follows = step_follows ins outs es n story counted (none_is_whole es a.2) in
+    let follows = step_resumes ins outs es n s story counted a.2 a.3 a.4 in
     let es1 = es ++ e ∷ [] in
     let story1 : Story (ins ++ frame bytes ∷ []) (outs ++ step (n + 1) ∷ []) es1 = story_more ins outs es e story (record { read = bare_brings es w.net bytes takes.message a.0.client takes.brings; end = tt; frame = tt; step = follows; advance = advanced; try = tt }) in
     let advanced1 = used_advanced es e tt (none_come es e tt a.2) advanced in
@@ -197,7 +209,7 @@ begins_tells ins outs es m r added m' (goes_on_by_frame n w s bytes reply seen n
     }
 begins_tells ins outs es m r added m' (goes_on_by_tick n w s ms valid) story advanced counted a is =
     let e = waits (n + 1) ms in
-    let follows = step_follows ins outs es n story counted (none_is_whole es a.2) in
+    let follows = step_resumes ins outs es n s story counted a.2 a.3 a.4 in
     record {
       events = es ++ e ∷ [];
       story = story_more ins outs es e story (record { read = tt; end = tt; frame = tt; step = follows; advance = advanced; try = tt });
@@ -207,7 +219,7 @@ begins_tells ins outs es m r added m' (goes_on_by_tick n w s ms valid) story adv
     }
 begins_tells ins outs es m r added m' (goes_off n w s) story advanced counted a is =
     let e = stops (n + 1) in
-    let follows = step_follows ins outs es n story counted (none_is_whole es a.2) in
+    let follows = step_resumes ins outs es n s story counted a.2 a.3 a.4 in
     record {
       events = es ++ e ∷ [];
       story = story_more ins outs es e story (record { read = tt; end = tt; frame = tt; step = follows; advance = advanced; try = tt });

@@ -76,7 +76,7 @@ moves_tells ins outs es m added m' (is_left n w s cause comes) story advanced a 
     let b = leave s.depth cause ∷ [] in
     record { events = es ++ told b; story = story_still ins outs es b (tt, tt) (tt, tt) advanced story; advanced = still_advanced es b (tt, tt) advanced; agrees = λ j. live_kept j es b (kept es b (tt, tt)) ∙ a.2 j; images = parts_more outs b is.1 (tt, tt) }
 moves_tells ins outs es m added m' (yields n w s c cs comes full) story advanced a is =
-    record { events = es; story = subst (λ z. Story ins z es) (sym (append-nil outs)) story; advanced = advanced; agrees = a; images = (is.0, subst HaveNoParts (sym (append-nil outs)) is.1) }
+    record { events = es; story = subst (λ z. Story ins z es) (sym (append-nil outs)) story; advanced = advanced; agrees = (a.0, a.1, a.2, a.3, full); images = (is.0, subst HaveNoParts (sym (append-nil outs)) is.1) }
 moves_tells ins outs es m added m' (does n w s c cs o begins few comes stays) story advanced a is =
     let b = command_records s (c ∷ cs) o in
     let h = still_command s (c ∷ cs) o in

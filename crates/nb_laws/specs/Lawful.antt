@@ -13,7 +13,8 @@ abbrev pub HandsAsBrought : List Event → List Out → Type 0
 HandsAsBrought es outs = HaveNoParts outs ⊎ ((rest : List Out) × HandsOff es outs rest)
 
 pub record IsLawful (es : List Event) : Type 0 where
-  -- each STEP has its record's place among those used, and no live open's file is whole when a record is used
+  -- each STEP has its record's place among those used, and no live open's file is whole when a record is used; START is used first,
+  -- and each other record while an open lives, or where the step before had 4,096 COMMANDs
   pub steps : EachEvent StepsSo [] es
   -- each ENDED has its cause in the records so far, and is Ok exactly where the open's file is whole
   pub ends : EachEvent EndsSo [] es

@@ -3,7 +3,7 @@ use Rattle.std.specs.Prelude.{◌≡◌, ℕ, ◌+◌, false, List, [], ◌∷�
 use Rattle.nb_defs.specs.Records.{step, advanced}
 use Rattle.nb_tftp.specs.Blocks.{count, is_whole}
 use Rattle.nb_laws.specs.Events.{Event, starts, hears, waits, stops, puts, inputs}
-use Rattle.nb_laws.specs.Lists.{Opening, live, datagrams_of, last_place}
+use Rattle.nb_laws.specs.Lists.{Opening, live, datagrams_of, last_place, commands_begun}
 
 -- no live open's file is whole: an open ends in the step in which its file becomes whole
 abbrev pub NoneIsWhole : List Event → Type 0
@@ -18,11 +18,19 @@ pub record IsStep (before : List Event) (number : ℕ) : Type 0 where
   pub counted : number ≡ length (inputs before) + 1
   pub unfinished : NoneIsWhole before
 
+-- why a record other than START may be used
+pub data IsResumed (before : List Event) : Type 0 where
+  -- an open lives
+  by_live : (k : ℕ) (o : Opening) → live k before ≡ o ∷ [] → IsResumed before
+  -- the step before had all the commands that it may have
+  by_count : commands_begun before ≡ 4096 → IsResumed before
+
+-- START is used first; each other record while an open lives, or where the step before had 4,096 COMMANDs
 abbrev pub StepsSo : List Event → Event → Type 0
-StepsSo before (starts n s) = IsStep before n
-StepsSo before (hears n bytes m) = IsStep before n
-StepsSo before (waits n ms) = IsStep before n
-StepsSo before (stops n) = IsStep before n
+StepsSo before (starts n s) = IsStep before n × (before ≡ [])
+StepsSo before (hears n bytes m) = IsStep before n × IsResumed before
+StepsSo before (waits n ms) = IsStep before n × IsResumed before
+StepsSo before (stops n) = IsStep before n × IsResumed before
 StepsSo before (puts o) = Unit {0}
 
 -- An ADVANCE stands where its open's file has grown by a block, with that block's number. Before any other record, used or
