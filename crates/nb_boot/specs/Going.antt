@@ -99,7 +99,7 @@ abbrev pub Stops : Status → List In → Outside → Outside → Logged → See
 Stops s used before now old c =
     (ins : List In) (rest : List ℕ) (first : Outside) → Goes ins (in_texts used ++ rest) first before old c → Shows s first now
 
--- how a step ends, with these records used: a command waits, the run is over, or it was cut short
+-- how a step ends, with these records used: the next is waited for, the run is over, or it was cut short
 abbrev pub StepsTo : StepEnd → List In → Outside → Outside → Logged → Logged → Seen → Seen → Type 0
 StepsTo ending.Waits used before now old new c c' = IsResting c'.stage × LeadsOn used before now old new c c'
 StepsTo (ending.Over s) used before now old new c c' = IsEnd s × IsOverWith c'.stage s × LeadsOn used before now old new c c'
@@ -111,12 +111,12 @@ IsEndOf s ending.Waits = ⊥
 IsEndOf s (ending.Over t) = (t ≡ s) × (s ≡ status.NoMemory → ⊥)
 IsEndOf s (ending.Cut f) = (s ≡ status.NoMemory) × (f ≡ flaw.NoMemory)
 
--- a record was used and a command waits, or the run is over with this status
+-- a record was used and the next is waited for, or the run is over with this status
 abbrev pub UsesRecord : Option Status → In → Outside → Outside → Logged → Logged → Seen → Seen → Type 0
 UsesRecord None r before now old new c c' = IsResting c'.stage × LeadsOn (r ∷ []) before now old new c c'
 UsesRecord (Some s) r before now old new c c' = Stops s (r ∷ []) before now old c
 
--- one record more was used and a command waits, or the run is over with this status
+-- one record more was used and the next is waited for, or the run is over with this status
 abbrev pub UsesNext : Option Status → List ℕ → List ℕ → Outside → Outside → Logged → Logged → Seen → Seen → Type 0
 UsesNext None held held' before now old new c c' =
     IsResting c'.stage × ((n : ℕ) (first : Outside) → Waits n held first before old c → Waits (n + 1) held' first now new c')
@@ -133,7 +133,7 @@ IsClosing status.BadRecord = Unit {0}
 IsClosing status.TooManyRecords = Unit {0}
 IsClosing _ = ⊥
 
--- a client was made, and used START: a command waits
+-- a client was made, and used START: the next record is waited for
 abbrev pub Opens : List ℕ → List ℕ → Outside → Outside → Logged → Logged → Seen → Type 0
 Opens held held' before now old new c = IsResting c.stage × ((first : Outside) → Going [] held first before old fresh → Waits 1 held' first now new c)
 
@@ -146,7 +146,7 @@ abbrev pub TellsFirst : Bool → In → Type 0
 TellsFirst true r = IsFirst r
 TellsFirst false r = IsOther r
 
--- the status of a run whose input ended where a command waits: no byte is left, or a front of a record
+-- the status of a run whose input ended where the next record is waited for: no byte is left, or a front of one
 abbrev pub IsEndStatus : Status → List ℕ → Type 0
 IsEndStatus s [] = s ≡ status.Unfinished
 IsEndStatus s (b ∷ bytes) = s ≡ status.BadRecord

@@ -83,9 +83,10 @@ pub fn netboot<L: Line>(alloc: Global, words: &[String], line: &mut L) -> Status
     ensures course { AreWords (map string_bytes words.now) → ShowsCourse result (L.outside line.old) (L.outside line.new) }
     // They are a run of the engine's own machine, in which a command waits for one transfer.
     ensures run { AreWords (map string_bytes words.now) → Shows result (L.outside line.old) (L.outside line.new) }
-    // Each record of the output has its reason in the records so far, as the two lists say alone.
+    // Each end, result, frame, try, advance, open and part has its reason in the records so far, as the two lists
+    // say alone.
     ensures lawful { AreWords (map string_bytes words.now) → AreLawful (L.outside line.old) (L.outside line.new) }
-    // With no fault and memory enough a START and other records end the script, hand off, or leave a command waiting.
+    // With no fault and memory enough a START and other records end the script, hand off, or wait for one more.
     ensures complete { AreWords (map string_bytes words.now) → Completes result (L.outside line.old) (L.outside line.new) }
     // With no fault and memory enough the input alone says the status, where a run on it is over or waits at its end.
     ensures alone { AreWords (map string_bytes words.now) → CompletesRun result (L.outside line.old) (L.outside line.new) }

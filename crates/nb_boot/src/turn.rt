@@ -12,7 +12,7 @@ use crate::play::{finish, use_record};
 use nb_engine::Client;
 use nb_record::{Feed, Front, Line, Log};
 
-/// The status of a run whose input ended while a command waits.
+/// The status of a run whose input ended while the next record is waited for.
 fn status_at_end(feed: &Feed) -> Status
     ensures { IsEndStatus result feed.now.bytes }
 {
