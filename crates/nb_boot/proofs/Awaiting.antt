@@ -2,19 +2,22 @@
 use Rattle.std.proofs.Common.{◌≡◌, ℕ, List, ◌∷◌, refl, subst, arith}
 use Rattle.nb_defs.specs.Records.{In, Out}
 use Rattle.nb_record.specs.Outside.{Outside}
-use Rattle.nb_engine.specs.Machine.{Machine, Phase, ready, running, waiting, handing, left, handed_off, stopped, Path, Begins, runs, refuses, passes_by, brings, passes_time, switches_off}
+use Rattle.nb_engine.specs.Machine.{Machine, Phase, ready, running, waiting, yielded, handing, left, handed_off, stopped, Path, Begins, runs, refuses, passes_by, brings, passes_time, switches_off, goes_on_by_frame, goes_on_by_tick, goes_off}
 use Rattle.nb_boot.specs.Run.{IsBadRest, Awaits}
 use Rattle.nb_boot.specs.Laws.{IsAtRest}
 use Rattle.nb_boot.proofs.Spelled.{HasUsed, path_used}
 use Rattle.nb_laws.proofs.Counts.{path_counts}
 
 pub begins_awaits : (m : Machine) (r : In) (added : List Out) (m' : Machine) → Begins m r added m' → (m.phase ≡ ready → ⊥) → Awaits m.phase
-begins_awaits m r added m' (runs n s valid plain) rises = absurd (rises refl)
-begins_awaits m r added m' (refuses n s valid plain) rises = absurd (rises refl)
+begins_awaits m r added m' (runs n s code valid plain) rises = absurd (rises refl)
+begins_awaits m r added m' (refuses n s cause valid plain) rises = absurd (rises refl)
 begins_awaits m r added m' (passes_by n w s o bytes reply seen net valid t h) rises = tt
 begins_awaits m r added m' (brings n w s o bytes reply seen net port body added' phase valid t h k) rises = tt
 begins_awaits m r added m' (passes_time n w s o ms added' phase valid h) rises = tt
 begins_awaits m r added m' (switches_off n w s o) rises = tt
+begins_awaits m r added m' (goes_on_by_frame n w s bytes reply seen net valid t) rises = tt
+begins_awaits m r added m' (goes_on_by_tick n w s ms valid) rises = tt
+begins_awaits m r added m' (goes_off n w s) rises = tt
 
 -- where records were used, the machine is no more ready
 pub not_ready : (r : In) (rs : List In) (outs : List Out) (m : Machine) → Path (r ∷ rs) outs m → m.phase ≡ ready → ⊥
@@ -26,6 +29,7 @@ pub awaits_rests : (phase : Phase) → Awaits phase → IsAtRest phase
 awaits_rests ready a = absurd a
 awaits_rests (running w s) a = absurd a
 awaits_rests (waiting w s o) a = tt
+awaits_rests (yielded w s) a = tt
 awaits_rests (handing rest) a = absurd a
 awaits_rests (left cause) a = absurd a
 awaits_rests handed_off a = absurd a
@@ -35,6 +39,7 @@ pub bad_awaits : (phase : Phase) (rest : List ℕ) (o : Outside) → IsBadRest p
 bad_awaits ready rest o b rises = absurd (rises refl)
 bad_awaits (running w s) rest o b rises = b
 bad_awaits (waiting w s x) rest o b rises = tt
+bad_awaits (yielded w s) rest o b rises = tt
 bad_awaits (handing more) rest o b rises = b
 bad_awaits (left cause) rest o b rises = b
 bad_awaits handed_off rest o b rises = b

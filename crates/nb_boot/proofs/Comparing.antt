@@ -2,7 +2,7 @@
 use Rattle.std.proofs.Common.{◌≡◌, ℕ, List, [], ◌∷◌, ◌++◌, length, refl, sym, ◌∙◌, ap, subst, arith, append_assoc}
 use Rattle.nb_defs.specs.Records.{Start, In, start, in_text, in_texts, Out}
 use Rattle.nb_defs.proofs.RecordLaws.{in_text_apart}
-use Rattle.nb_engine.specs.Machine.{Machine, ready, Path, nothing, uses, moves, Begins, runs, refuses, passes_by, brings, passes_time, switches_off}
+use Rattle.nb_engine.specs.Machine.{Machine, ready, Path, nothing, uses, moves, Begins, runs, refuses, passes_by, brings, passes_time, switches_off, goes_on_by_frame, goes_on_by_tick, goes_off}
 use Rattle.nb_boot.specs.Run.{IsOther, Awaits}
 use Rattle.nb_boot.proofs.OneRun.{path_unused}
 use Rattle.nb_boot.proofs.OneRuns.{snoc_one, waits_behind}
@@ -34,12 +34,15 @@ ending q (r ∷ qs) = let k = ending r qs in (q ∷ k.0, k.1, ap (λ z. q ∷ z)
 
 -- a record that comes where a command waits is no START
 begins_other : (m : Machine) (r : In) (a : List Out) (m' : Machine) → Begins m r a m' → Awaits m.phase → IsOther r
-begins_other m r a m' (runs n s valid plain) k = absurd k
-begins_other m r a m' (refuses n s valid plain) k = absurd k
+begins_other m r a m' (runs n s code valid plain) k = absurd k
+begins_other m r a m' (refuses n s cause valid plain) k = absurd k
 begins_other m r a m' (passes_by n w s o bytes reply seen net valid t h) k = tt
 begins_other m r a m' (brings n w s o bytes reply seen net port body added phase valid t h g) k = tt
 begins_other m r a m' (passes_time n w s o ms added phase valid g) k = tt
 begins_other m r a m' (switches_off n w s o) k = tt
+begins_other m r a m' (goes_on_by_frame n w s bytes reply seen net valid t) k = tt
+begins_other m r a m' (goes_on_by_tick n w s ms valid) k = tt
+begins_other m r a m' (goes_off n w s) k = tt
 
 -- a run behind some records, where a command waits for another one
 pub record Passed (ins : List In) (q : In) : Type 0 where
@@ -67,12 +70,15 @@ passed all outs m (moves ins' outs' m0 added m' p v) x xs q qs e = passed ins' o
 
 -- the first record is a START
 begins_first : (m : Machine) (r : In) (a : List Out) (m' : Machine) → Begins m r a m' → m.phase ≡ ready → (s : Start) × (r ≡ start s)
-begins_first m r a m' (runs n s valid plain) e = (s, refl)
-begins_first m r a m' (refuses n s valid plain) e = (s, refl)
+begins_first m r a m' (runs n s code valid plain) e = (s, refl)
+begins_first m r a m' (refuses n s cause valid plain) e = (s, refl)
 begins_first m r a m' (passes_by n w s o bytes reply seen net valid t h) e = absurd (cc)
 begins_first m r a m' (brings n w s o bytes reply seen net port body added phase valid t h g) e = absurd (cc)
 begins_first m r a m' (passes_time n w s o ms added phase valid g) e = absurd (cc)
 begins_first m r a m' (switches_off n w s o) e = absurd (cc)
+begins_first m r a m' (goes_on_by_frame n w s bytes reply seen net valid t) e = absurd (cc)
+begins_first m r a m' (goes_on_by_tick n w s ms valid) e = absurd (cc)
+begins_first m r a m' (goes_off n w s) e = absurd (cc)
 
 pub starts : (all : List In) (outs : List Out) (m : Machine) → Path all outs m → (q : In) (qs : List In) → all ≡ q ∷ qs → (s : Start) × (q ≡ start s)
 starts all outs m nothing q qs e = absurd (omega (arith, ap length e))

@@ -23,7 +23,8 @@ use Rattle.nb_engine.specs.declared.world.World.{World}
 use Rattle.nb_engine.specs.World.{unbound}
 use Rattle.nb_engine.specs.Opens.{Open, acts_records, body_of, end_of, with_entry}
 use Rattle.nb_engine.specs.Conclusions.{conclusion_records}
-use Rattle.nb_engine.specs.Machine.{Running, Phase, waiting, Hears, goes_on, is_over, phase_after, concluded}
+use Rattle.nb_engine.specs.Running.{Running}
+use Rattle.nb_engine.specs.Machine.{Phase, waiting, Hears, goes_on, is_over, phase_after, concluded}
 
 -- a fact of the last entry
 each_last : (P : List Entry → Entry → Type 0) (before es : List Entry) (e : Entry) → EachEntry P before (es ++ e ∷ []) → P (before ++ es) e
@@ -85,7 +86,7 @@ pub record HeardOne (a b : List Out) (p q : Phase) : Type 0 where
 hears_also : (w : World) (s : Running) (o : Open) (call : Call) (acts : Acts) → Meets o.begun o.start (o.entries ++ entry call acts ∷ []) → (b : List Out) (q : Phase) → Hears w s o call b q →
     (acts' : Acts) × (acts' ≡ acts) × (((end_of (body_of (with_entry o (entry call acts'))) acts' ≡ None) × HeardOne b (acts_records w.net o.number acts') q (waiting w s (with_entry o (entry call acts'))))
     ⊎ ((cause : Cause) × (end_of (body_of (with_entry o (entry call acts'))) acts' ≡ Some cause) × HeardOne b
-    (acts_records w.net o.number acts' ++ (ended o.number cause ∷ []) ++ conclusion_records s.depth (concluded w (with_entry o (entry call acts')) cause))
+    (acts_records w.net o.number acts' ++ (ended o.number cause ∷ []) ++ conclusion_records (concluded w (with_entry o (entry call acts')) cause))
     q (phase_after (unbound w o.begun.own_port) s (concluded w (with_entry o (entry call acts')) cause))))
 hears_also w s o call acts m b q (goes_on _ _ _ _ acts' m' e) = (acts', one_answer o.begun o.start o.entries call acts' acts m' m, inl (e, record { records = refl; phases = refl }))
 hears_also w s o call acts m b q (is_over _ _ _ _ acts' cause m' e) = (acts', one_answer o.begun o.start o.entries call acts' acts m' m, inr (cause, e, record { records = refl; phases = refl }))
@@ -95,7 +96,7 @@ abbrev end_by : Open → Call → Acts → Option Cause
 end_by o call acts = end_of (body_of (with_entry o (entry call acts))) acts
 
 abbrev over_records : World → Running → Open → Call → Acts → Cause → List Out
-over_records w s o call acts cause = acts_records w.net o.number acts ++ (ended o.number cause ∷ []) ++ conclusion_records s.depth (concluded w (with_entry o (entry call acts)) cause)
+over_records w s o call acts cause = acts_records w.net o.number acts ++ (ended o.number cause ∷ []) ++ conclusion_records (concluded w (with_entry o (entry call acts)) cause)
 
 abbrev over_phase : World → Running → Open → Call → Acts → Cause → Phase
 over_phase w s o call acts cause = phase_after (unbound w o.begun.own_port) s (concluded w (with_entry o (entry call acts)) cause)

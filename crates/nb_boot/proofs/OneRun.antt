@@ -1,15 +1,18 @@
 -- There is at most one run of the machine on a record that comes to rest.
-use Rattle.std.proofs.Common.{◌≡◌, ℕ, ◌+◌, true, false, Bool, ◌⊎◌, inl, inr, List, [], ◌∷◌, ◌++◌, length, Option, Some, None, refl, sym, ◌∙◌, ap, subst, arith, append_assoc, append-nil, length-append}
-use Rattle.nb_defs.specs.Causes.{ok, not_script}
-use Rattle.nb_defs.specs.Commands.{CommandOutcome}
+use Rattle.std.proofs.Common.{◌≡◌, ℕ, ◌+◌, ◌<◌, ◌==◌, true, false, Bool, ◌⊎◌, inl, inr, List, [], ◌∷◌, ◌++◌, length, Option, Some, None, refl, sym, ◌∙◌, ap, subst, arith, append_assoc, append-nil, length-append, eq-eqb, ne_eqb}
+use Rattle.nb_terms.specs.declared.cause.Cause.{Cause}
+use Rattle.nb_defs.specs.Causes.{ok}
+use Rattle.nb_defs.specs.Commands.{CommandOutcome, refused}
 use Rattle.nb_defs.specs.Records.{Start, In, start, frame, tick, off, Out, step, enter, leave, ended}
-use Rattle.nb_defs.specs.ScriptText.{is_plain, line_words}
+use Rattle.nb_defs.specs.ScriptLines.{Reading, script, no_script, script_too_long, line_too_long, label_place}
 use Rattle.nb_engine.specs.declared.world.World.{World}
-use Rattle.nb_engine.specs.World.{world_of, with_open}
-use Rattle.nb_engine.specs.Effects.{Wanted, Effect, says, asks, effect}
+use Rattle.nb_engine.specs.World.{world_of, with_open, with_ended_open}
+use Rattle.nb_engine.specs.FirstText.{first_reading, text_refusal}
+use Rattle.nb_engine.specs.Running.{Running, Coming, coming, passing, leaving, beginning, first_script, entered, further, behind_line, no_label}
+use Rattle.nb_engine.specs.Effects.{Wanted, Effect, says, asks, goes, effect}
 use Rattle.nb_engine.specs.Opens.{open_for, request_of, has_route, send_records, opened_record, begun_for}
 use Rattle.nb_engine.specs.Conclusions.{fails, conclusion_records}
-use Rattle.nb_engine.specs.Machine.{Machine, Running, Phase, ready, running, waiting, handing, left, handed_off, stopped, at, fresh, Path, nothing, uses, moves, Begins, runs, refuses, passes_by, brings, passes_time, switches_off, Move, passes, does, leaves, asks_for, finds_no_route, ends, hands, has_handed, next_line, further, command_record, command_records, ends_script, first_script, no_route}
+use Rattle.nb_engine.specs.Machine.{Machine, Phase, ready, running, waiting, yielded, handing, left, handed_off, stopped, at, fresh, Path, nothing, uses, moves, Begins, runs, refuses, passes_by, brings, passes_time, switches_off, goes_on_by_frame, goes_on_by_tick, goes_off, Move, passes, is_left, yields, does, leaves, jumps, finds_no_label, asks_for, finds_no_route, hands, has_handed, command_record, command_records, no_route}
 use Rattle.nb_boot.specs.Laws.{IsAtRest, SameRun}
 
 -- records, and where they lead
@@ -25,24 +28,32 @@ abbrev outcome_move : ℕ → World → Running → List (List ℕ) → CommandO
 outcome_move n w s ws o true = reached (command_records s ws o ++ (leave s.depth o.cause ∷ [])) (at n (left o.cause))
 outcome_move n w s ws o false = reached (command_records s ws o) (at n (running w (further s o.cause)))
 
+abbrev label_move : ℕ → World → Running → List (List ℕ) → Option ℕ → Reached
+label_move n w s ws None = reached (command_records s ws (refused no_label)) (at n (running w (further s no_label)))
+label_move n w s ws (Some line) = reached (command_records s ws (refused ok)) (at n (running w (behind_line s line)))
+
 abbrev route_move : ℕ → World → Running → List (List ℕ) → Wanted → Bool → Reached
 route_move n w s ws wanted true =
-    reached (command_record s ws ∷ opened_record w wanted ∷ send_records w.net w.opens (Some 1) (request_of (begun_for w wanted))) (at n (waiting (with_open w) s (open_for w wanted)))
+    reached (command_record s ws ∷ opened_record w wanted ∷ send_records w.net w.opens (Some 1) (request_of (begun_for w wanted)))
+    (at n (waiting (with_open w) (entered s) (open_for w wanted)))
 route_move n w s ws wanted false =
-    reached (command_record s ws ∷ opened_record w wanted ∷ ended w.opens (no_route wanted.target.server) ∷ conclusion_records s.depth (fails (no_route wanted.target.server)))
-    (at n (left (no_route wanted.target.server)))
+    reached (command_record s ws ∷ opened_record w wanted ∷ ended w.opens (no_route wanted.target.server) ∷ conclusion_records (fails (no_route wanted.target.server)))
+    (at n (running (with_ended_open w) (further s (no_route wanted.target.server))))
 
 abbrev effect_move : ℕ → World → Running → List (List ℕ) → Effect → Reached
-effect_move n w s ws (says o) = outcome_move n w s ws o (ends_script o)
+effect_move n w s ws (says o) = outcome_move n w s ws o o.leaves
 effect_move n w s ws (asks wanted) = route_move n w s ws wanted (has_route w.net (request_of (begun_for w wanted)))
+effect_move n w s ws (goes name) = label_move n w s ws (label_place name s.code)
 
-abbrev words_move : ℕ → World → Running → List (List ℕ) → Reached
-words_move n w s [] = reached [] (at n (running w (further s s.last)))
-words_move n w s (c ∷ cs) = effect_move n w s (c ∷ cs) (effect w.opens (c ∷ cs))
+-- whether the step has had all its commands
+abbrev full_move : ℕ → World → Running → List (List ℕ) → Bool → Reached
+full_move n w s ws true = reached [] (at n (yielded w s))
+full_move n w s ws false = effect_move n w s ws (effect w.opens ws)
 
-abbrev line_move : ℕ → World → Running → Option (List ℕ) → Reached
-line_move n w s None = reached (leave s.depth ok ∷ []) (at n (left ok))
-line_move n w s (Some line) = words_move n w s (line_words line)
+abbrev coming_move : ℕ → World → Running → Coming → Reached
+coming_move n w s (passing t) = reached [] (at n (running w t))
+coming_move n w s (leaving cause) = reached (leave s.depth cause ∷ []) (at n (left cause))
+coming_move n w s (beginning c cs) = full_move n w s (c ∷ cs) (s.begun == 4096)
 
 abbrev hand_move : ℕ → List Out → Reached
 hand_move n [] = reached [] (at n handed_off)
@@ -50,29 +61,37 @@ hand_move n (r ∷ rest) = reached (r ∷ []) (at n (handing rest))
 
 abbrev phase_move : ℕ → Phase → Option Reached
 phase_move n ready = None
-phase_move n (running w s) = Some (line_move n w s (next_line s))
+phase_move n (running w s) = Some (coming_move n w s (coming s))
 phase_move n (waiting w s o) = None
+phase_move n (yielded w s) = None
 phase_move n (handing rest) = Some (hand_move n rest)
 phase_move n (left cause) = None
 phase_move n handed_off = None
 phase_move n stopped = None
 
+is_full : (n : ℕ) → n ≡ 4096 → (n == 4096) ≡ true
+is_full n e = eq-eqb n 4096 e
+
+not_full : (n : ℕ) → n < 4096 → (n == 4096) ≡ false
+not_full n h = ne_eqb n 4096 (λ e. omega (arith, h, e))
+
+-- a command that begins
+begun_move : (n : ℕ) (w : World) (s : Running) (c : List ℕ) (cs : List (List ℕ)) (x : Effect) → coming s ≡ beginning c cs → s.begun < 4096 → effect w.opens (c ∷ cs) ≡ x →
+    coming_move n w s (coming s) ≡ effect_move n w s (c ∷ cs) x
+begun_move n w s c cs x h early e =
+    ap (λ y. coming_move n w s y) h ∙ ap (λ b. full_move n w s (c ∷ cs) b) (not_full s.begun early) ∙ ap (λ y. effect_move n w s (c ∷ cs) y) e
+
 -- each move is what that function says
 move_is : (m : Machine) (a : List Out) (m' : Machine) → Move m a m' → phase_move m.used m.phase ≡ Some (reached a m')
-move_is m a m' (passes n w s line h g) = ap (λ l. Some (line_move n w s l)) h ∙ ap (λ ws. Some (words_move n w s ws)) g
-move_is m a m' (does n w s line c cs o h g e k) =
-    ap (λ l. Some (line_move n w s l)) h ∙ ap (λ ws. Some (words_move n w s ws)) g ∙ ap (λ x. Some (effect_move n w s (c ∷ cs) x)) e
-    ∙ ap (λ b. Some (outcome_move n w s (c ∷ cs) o b)) k
-move_is m a m' (leaves n w s line c cs o h g e k) =
-    ap (λ l. Some (line_move n w s l)) h ∙ ap (λ ws. Some (words_move n w s ws)) g ∙ ap (λ x. Some (effect_move n w s (c ∷ cs) x)) e
-    ∙ ap (λ b. Some (outcome_move n w s (c ∷ cs) o b)) k
-move_is m a m' (asks_for n w s line c cs wanted h g e k) =
-    ap (λ l. Some (line_move n w s l)) h ∙ ap (λ ws. Some (words_move n w s ws)) g ∙ ap (λ x. Some (effect_move n w s (c ∷ cs) x)) e
-    ∙ ap (λ b. Some (route_move n w s (c ∷ cs) wanted b)) k
-move_is m a m' (finds_no_route n w s line c cs wanted h g e k) =
-    ap (λ l. Some (line_move n w s l)) h ∙ ap (λ ws. Some (words_move n w s ws)) g ∙ ap (λ x. Some (effect_move n w s (c ∷ cs) x)) e
-    ∙ ap (λ b. Some (route_move n w s (c ∷ cs) wanted b)) k
-move_is m a m' (ends n w s h) = ap (λ l. Some (line_move n w s l)) h
+move_is m a m' (passes n w s t h) = ap (λ x. Some (coming_move n w s x)) h
+move_is m a m' (is_left n w s cause h) = ap (λ x. Some (coming_move n w s x)) h
+move_is m a m' (yields n w s c cs h full) = ap (λ x. Some (coming_move n w s x)) h ∙ ap (λ b. Some (full_move n w s (c ∷ cs) b)) (is_full s.begun full)
+move_is m a m' (does n w s c cs o h early e k) = ap (λ x. Some x) (begun_move n w s c cs (says o) h early e) ∙ ap (λ b. Some (outcome_move n w s (c ∷ cs) o b)) k
+move_is m a m' (leaves n w s c cs o h early e k) = ap (λ x. Some x) (begun_move n w s c cs (says o) h early e) ∙ ap (λ b. Some (outcome_move n w s (c ∷ cs) o b)) k
+move_is m a m' (jumps n w s c cs name line h early e k) = ap (λ x. Some x) (begun_move n w s c cs (goes name) h early e) ∙ ap (λ l. Some (label_move n w s (c ∷ cs) l)) k
+move_is m a m' (finds_no_label n w s c cs name h early e k) = ap (λ x. Some x) (begun_move n w s c cs (goes name) h early e) ∙ ap (λ l. Some (label_move n w s (c ∷ cs) l)) k
+move_is m a m' (asks_for n w s c cs wanted h early e k) = ap (λ x. Some x) (begun_move n w s c cs (asks wanted) h early e) ∙ ap (λ b. Some (route_move n w s (c ∷ cs) wanted b)) k
+move_is m a m' (finds_no_route n w s c cs wanted h early e k) = ap (λ x. Some x) (begun_move n w s c cs (asks wanted) h early e) ∙ ap (λ b. Some (route_move n w s (c ∷ cs) wanted b)) k
 move_is m a m' (hands n r rest) = refl
 move_is m a m' (has_handed n) = refl
 
@@ -104,6 +123,7 @@ rest_still : (phase : Phase) (n : ℕ) → IsAtRest phase → phase_move n phase
 rest_still ready n o = absurd o
 rest_still (running w s) n o = absurd o
 rest_still (waiting w s x) n o = refl
+rest_still (yielded w s) n o = refl
 rest_still (handing rest) n o = absurd o
 rest_still (left cause) n o = refl
 rest_still handed_off n o = refl
@@ -201,26 +221,42 @@ path_behind ins outs m (moves ins' outs' m0 added m' p v) r e =
     }
 
 -- how a first record begins is its own doing
-begun_of : Bool → Start → Reached
-begun_of true s = reached (step 1 ∷ enter 1 ∷ []) (at 1 (running (world_of s) (first_script s.script)))
-begun_of false s = reached (step 1 ∷ enter 1 ∷ leave 1 not_script ∷ []) (at 1 (left not_script))
+refused_as : Option Cause → Reached
+refused_as None = reached [] fresh
+refused_as (Some cause) = reached (step 1 ∷ enter 1 ∷ leave 1 cause ∷ []) (at 1 (left cause))
+
+begun_of : Reading → Start → Reached
+begun_of (script code) s = reached (step 1 ∷ enter 1 ∷ []) (at 1 (running (world_of s) (first_script code)))
+begun_of no_script s = refused_as (text_refusal no_script)
+begun_of script_too_long s = refused_as (text_refusal script_too_long)
+begun_of line_too_long s = refused_as (text_refusal line_too_long)
 
 begun_by : In → Reached
-begun_by (start s) = begun_of (is_plain s.script) s
+begun_by (start s) = begun_of (first_reading s.script) s
 begun_by (frame bytes) = reached [] fresh
 begun_by (tick ms) = reached [] fresh
 begun_by off = reached [] fresh
 
+refused_is : (r : Reading) (s : Start) (cause : Cause) → text_refusal r ≡ Some cause → begun_of r s ≡ refused_as (Some cause)
+unfolding begun_of
+refused_is (script code) s cause e = absurd (let no : None ≡ Some cause = e in cc)
+refused_is no_script s cause e = ap refused_as e
+refused_is script_too_long s cause e = ap refused_as e
+refused_is line_too_long s cause e = ap refused_as e
+
 begins_is : (m : Machine) (r : In) (added : List Out) (m' : Machine) → m ≡ fresh → Begins m r added m' → begun_by r ≡ reached added m'
-unfolding begun_by begun_of
-begins_is m r added m' z (runs n s valid plain) =
-    ap (λ b. begun_of b s) plain ∙ ap (λ (x : Machine). reached (step (x.used + 1) ∷ enter 1 ∷ []) (at (x.used + 1) (running (world_of s) (first_script s.script)))) (sym z)
-begins_is m r added m' z (refuses n s valid other) =
-    ap (λ b. begun_of b s) other ∙ ap (λ (x : Machine). reached (step (x.used + 1) ∷ enter 1 ∷ leave 1 not_script ∷ []) (at (x.used + 1) (left not_script))) (sym z)
+unfolding begun_by begun_of refused_as
+begins_is m r added m' z (runs n s code valid reads) =
+    ap (λ x. begun_of x s) reads ∙ ap (λ (x : Machine). reached (step (x.used + 1) ∷ enter 1 ∷ []) (at (x.used + 1) (running (world_of s) (first_script code)))) (sym z)
+begins_is m r added m' z (refuses n s cause valid other) =
+    refused_is (first_reading s.script) s cause other ∙ ap (λ (x : Machine). reached (step (x.used + 1) ∷ enter 1 ∷ leave 1 cause ∷ []) (at (x.used + 1) (left cause))) (sym z)
 begins_is m r added m' z (passes_by n w s o bytes reply seen net valid t h) = let no : waiting w s o ≡ ready = ap (λ (x : Machine). x.phase) z in cc
 begins_is m r added m' z (brings n w s o bytes reply seen net port body added' phase valid t h k) = let no : waiting w s o ≡ ready = ap (λ (x : Machine). x.phase) z in cc
 begins_is m r added m' z (passes_time n w s o ms added' phase valid h) = let no : waiting w s o ≡ ready = ap (λ (x : Machine). x.phase) z in cc
 begins_is m r added m' z (switches_off n w s o) = let no : waiting w s o ≡ ready = ap (λ (x : Machine). x.phase) z in cc
+begins_is m r added m' z (goes_on_by_frame n w s bytes reply seen net valid t) = let no : yielded w s ≡ ready = ap (λ (x : Machine). x.phase) z in cc
+begins_is m r added m' z (goes_on_by_tick n w s ms valid) = let no : yielded w s ≡ ready = ap (λ (x : Machine). x.phase) z in cc
+begins_is m r added m' z (goes_off n w s) = let no : yielded w s ≡ ready = ap (λ (x : Machine). x.phase) z in cc
 
 -- two runs on one record that come to rest are one
 pub one_run_of : (r : In) (outs outs' : List Out) (m m' : Machine) → Path (r ∷ []) outs m → Path (r ∷ []) outs' m' → IsAtRest m.phase → IsAtRest m'.phase → SameRun outs outs' m m'

@@ -7,7 +7,8 @@ use Rattle.nb_defs.specs.Records.{In, start, frame, tick, off, Out, step, ended}
 use Rattle.nb_engine.specs.declared.world.World.{World}
 use Rattle.nb_engine.specs.World.{with_net, world_later}
 use Rattle.nb_engine.specs.Opens.{Open, heard_from}
-use Rattle.nb_engine.specs.Machine.{Machine, Running, Phase, ready, running, waiting, handing, left, handed_off, stopped, at, Begins, runs, refuses, passes_by, brings, passes_time, switches_off, Hears, reply_records, stopped_cause}
+use Rattle.nb_engine.specs.Running.{Running, anew}
+use Rattle.nb_engine.specs.Machine.{Machine, Phase, ready, running, waiting, yielded, handing, left, handed_off, stopped, at, Begins, runs, refuses, passes_by, brings, passes_time, switches_off, goes_on_by_frame, goes_on_by_tick, goes_off, Hears, reply_records, stopped_cause}
 use Rattle.nb_boot.specs.Run.{Awaits}
 use Rattle.nb_boot.proofs.OneAnswer.{takes_one, hears_one}
 
@@ -19,18 +20,18 @@ pub record BegunOne (a b : List Out) (m m' : Machine) : Type 0 where
 -- what a step that begins where a command waits amounts to
 data Waits (n : ℕ) (w : World) (s : Running) (o : Open) (r : In) (a : List Out) (m : Machine) : Type 0 where
   was_passed : (bytes reply : List ℕ) (seen : Outcome) (net : Client) → r ≡ frame bytes → Takes w.net bytes seen [] reply net → heard_from o.begun.server seen ≡ None →
-      a ≡ step (n + 1) ∷ reply_records reply → m ≡ at (n + 1) (waiting (with_net w net) s o) → Waits n w s o r a m
+      a ≡ step (n + 1) ∷ reply_records reply → m ≡ at (n + 1) (waiting (with_net w net) (anew s) o) → Waits n w s o r a m
   was_brought : (bytes reply : List ℕ) (seen : Outcome) (net : Client) (port : ℕ) (body : List ℕ) (added : List Out) (phase : Phase) → r ≡ frame bytes →
       Takes w.net bytes seen [] reply net → heard_from o.begun.server seen ≡ Some (port, body) →
-      Hears (with_net w net) s o (came (record { rec = n + 1; port = port; body = body }) w.time) added phase →
+      Hears (with_net w net) (anew s) o (came (record { rec = n + 1; port = port; body = body }) w.time) added phase →
       a ≡ step (n + 1) ∷ added → m ≡ at (n + 1) phase → Waits n w s o r a m
-  was_ticked : (ms : ℕ) (added : List Out) (phase : Phase) → r ≡ tick ms → Hears (world_later w ms) s o (ticked (w.time + ms)) added phase →
+  was_ticked : (ms : ℕ) (added : List Out) (phase : Phase) → r ≡ tick ms → Hears (world_later w ms) (anew s) o (ticked (w.time + ms)) added phase →
       a ≡ step (n + 1) ∷ added → m ≡ at (n + 1) phase → Waits n w s o r a m
   was_off : r ≡ off → a ≡ step (n + 1) ∷ ended o.number stopped_cause ∷ [] → m ≡ at (n + 1) stopped → Waits n w s o r a m
 
 waits_by : (m : Machine) (r : In) (a : List Out) (m' : Machine) → Begins m r a m' → (n : ℕ) (w : World) (s : Running) (o : Open) → m ≡ at n (waiting w s o) → Waits n w s o r a m'
-waits_by m r a m' (runs k i valid plain) n w s o e = let z : ready ≡ waiting w s o = ap (λ (x : Machine). x.phase) e in absurd (cc)
-waits_by m r a m' (refuses k i valid plain) n w s o e = let z : ready ≡ waiting w s o = ap (λ (x : Machine). x.phase) e in absurd (cc)
+waits_by m r a m' (runs k i code valid plain) n w s o e = let z : ready ≡ waiting w s o = ap (λ (x : Machine). x.phase) e in absurd (cc)
+waits_by m r a m' (refuses k i cause valid plain) n w s o e = let z : ready ≡ waiting w s o = ap (λ (x : Machine). x.phase) e in absurd (cc)
 waits_by m r a m' (passes_by k v i x bytes reply seen net valid t h) n w s o e =
     let ek : k ≡ n = ap (λ (y : Machine). y.used) e in
     let z : waiting v i x ≡ waiting w s o = ap (λ (y : Machine). y.phase) e in
@@ -45,10 +46,10 @@ waits_by m r a m' (brings k v i x bytes reply seen net port body added phase val
     let ei : i ≡ s = cc in
     let ex : x ≡ o = cc in
     was_brought bytes reply seen net port body added phase refl (subst (λ y. Takes y.net bytes seen [] reply net) ev t) (subst (λ y. heard_from y.begun.server seen ≡ Some (port, body)) ex h)
-    (subst (λ y. Hears (with_net y net) s o (came (record { rec = n + 1; port = port; body = body }) y.time) added phase) ev
-    (subst (λ y. Hears (with_net v net) y o (came (record { rec = n + 1; port = port; body = body }) v.time) added phase) ei
-    (subst (λ y. Hears (with_net v net) i y (came (record { rec = n + 1; port = port; body = body }) v.time) added phase) ex
-    (subst (λ y. Hears (with_net v net) i x (came (record { rec = y + 1; port = port; body = body }) v.time) added phase) ek g))))
+    (subst (λ y. Hears (with_net y net) (anew s) o (came (record { rec = n + 1; port = port; body = body }) y.time) added phase) ev
+    (subst (λ y. Hears (with_net v net) (anew y) o (came (record { rec = n + 1; port = port; body = body }) v.time) added phase) ei
+    (subst (λ y. Hears (with_net v net) (anew i) y (came (record { rec = n + 1; port = port; body = body }) v.time) added phase) ex
+    (subst (λ y. Hears (with_net v net) (anew i) x (came (record { rec = y + 1; port = port; body = body }) v.time) added phase) ek g))))
     (ap (λ y. step (y + 1) ∷ added) ek) (ap (λ y. at (y + 1) phase) ek)
 waits_by m r a m' (passes_time k v i x ms added phase valid g) n w s o e =
     let ek : k ≡ n = ap (λ (y : Machine). y.used) e in
@@ -57,15 +58,48 @@ waits_by m r a m' (passes_time k v i x ms added phase valid g) n w s o e =
     let ei : i ≡ s = cc in
     let ex : x ≡ o = cc in
     was_ticked ms added phase refl
-    (subst (λ y. Hears (world_later y ms) s o (ticked (y.time + ms)) added phase) ev
-    (subst (λ y. Hears (world_later v ms) y o (ticked (v.time + ms)) added phase) ei
-    (subst (λ y. Hears (world_later v ms) i y (ticked (v.time + ms)) added phase) ex g)))
+    (subst (λ y. Hears (world_later y ms) (anew s) o (ticked (y.time + ms)) added phase) ev
+    (subst (λ y. Hears (world_later v ms) (anew y) o (ticked (v.time + ms)) added phase) ei
+    (subst (λ y. Hears (world_later v ms) (anew i) y (ticked (v.time + ms)) added phase) ex g)))
     (ap (λ y. step (y + 1) ∷ added) ek) (ap (λ y. at (y + 1) phase) ek)
 waits_by m r a m' (switches_off k v i x) n w s o e =
     let ek : k ≡ n = ap (λ (y : Machine). y.used) e in
     let z : waiting v i x ≡ waiting w s o = ap (λ (y : Machine). y.phase) e in
     let ex : x ≡ o = cc in
     was_off refl (ap (λ y. step (y + 1) ∷ ended x.number stopped_cause ∷ []) ek ∙ ap (λ y. step (n + 1) ∷ ended y.number stopped_cause ∷ []) ex) (ap (λ y. at (y + 1) stopped) ek)
+waits_by m r a m' (goes_on_by_frame k v i bytes reply seen net valid t) n w s o e = let z : yielded v i ≡ waiting w s o = ap (λ (x : Machine). x.phase) e in absurd (cc)
+waits_by m r a m' (goes_on_by_tick k v i ms valid) n w s o e = let z : yielded v i ≡ waiting w s o = ap (λ (x : Machine). x.phase) e in absurd (cc)
+waits_by m r a m' (goes_off k v i) n w s o e = let z : yielded v i ≡ waiting w s o = ap (λ (x : Machine). x.phase) e in absurd (cc)
+
+-- what a step that begins with a script that has yielded amounts to
+data Resumes (n : ℕ) (w : World) (s : Running) (r : In) (a : List Out) (m : Machine) : Type 0 where
+  by_frame : (bytes reply : List ℕ) (seen : Outcome) (net : Client) → r ≡ frame bytes → Takes w.net bytes seen [] reply net →
+      a ≡ step (n + 1) ∷ reply_records reply → m ≡ at (n + 1) (running (with_net w net) (anew s)) → Resumes n w s r a m
+  by_tick : (ms : ℕ) → r ≡ tick ms → a ≡ step (n + 1) ∷ [] → m ≡ at (n + 1) (running (world_later w ms) (anew s)) → Resumes n w s r a m
+  by_off : r ≡ off → a ≡ step (n + 1) ∷ [] → m ≡ at (n + 1) stopped → Resumes n w s r a m
+
+resumes_by : (m : Machine) (r : In) (a : List Out) (m' : Machine) → Begins m r a m' → (n : ℕ) (w : World) (s : Running) → m ≡ at n (yielded w s) → Resumes n w s r a m'
+resumes_by m r a m' (runs k i code valid plain) n w s e = let z : ready ≡ yielded w s = ap (λ (x : Machine). x.phase) e in absurd (cc)
+resumes_by m r a m' (refuses k i cause valid plain) n w s e = let z : ready ≡ yielded w s = ap (λ (x : Machine). x.phase) e in absurd (cc)
+resumes_by m r a m' (passes_by k v i x bytes reply seen net valid t h) n w s e = let z : waiting v i x ≡ yielded w s = ap (λ (y : Machine). y.phase) e in absurd (cc)
+resumes_by m r a m' (brings k v i x bytes reply seen net port body added phase valid t h g) n w s e = let z : waiting v i x ≡ yielded w s = ap (λ (y : Machine). y.phase) e in absurd (cc)
+resumes_by m r a m' (passes_time k v i x ms added phase valid g) n w s e = let z : waiting v i x ≡ yielded w s = ap (λ (y : Machine). y.phase) e in absurd (cc)
+resumes_by m r a m' (switches_off k v i x) n w s e = let z : waiting v i x ≡ yielded w s = ap (λ (y : Machine). y.phase) e in absurd (cc)
+resumes_by m r a m' (goes_on_by_frame k v i bytes reply seen net valid t) n w s e =
+    let ek : k ≡ n = ap (λ (y : Machine). y.used) e in
+    let z : yielded v i ≡ yielded w s = ap (λ (y : Machine). y.phase) e in
+    let ev : v ≡ w = cc in
+    let ei : i ≡ s = cc in
+    by_frame bytes reply seen net refl (subst (λ y. Takes y.net bytes seen [] reply net) ev t) (ap (λ y. step (y + 1) ∷ reply_records reply) ek) (cc)
+resumes_by m r a m' (goes_on_by_tick k v i ms valid) n w s e =
+    let ek : k ≡ n = ap (λ (y : Machine). y.used) e in
+    let z : yielded v i ≡ yielded w s = ap (λ (y : Machine). y.phase) e in
+    let ev : v ≡ w = cc in
+    let ei : i ≡ s = cc in
+    by_tick ms refl (ap (λ y. step (y + 1) ∷ []) ek) (cc)
+resumes_by m r a m' (goes_off k v i) n w s e =
+    let ek : k ≡ n = ap (λ (y : Machine). y.used) e in
+    by_off refl (ap (λ y. step (y + 1) ∷ []) ek) (ap (λ y. at (y + 1) stopped) ek)
 
 -- the bytes of a frame
 bytes_in : In → List ℕ
@@ -105,7 +139,7 @@ heard_one n w s o call a b added added' m m' p q h g ea em eb en =
 waits_one : (n : ℕ) (w : World) (s : Running) (o : Open) (r : In) (a b : List Out) (m m' : Machine) → Waits n w s o r a m → Waits n w s o r b m' → BegunOne a b m m'
 waits_one n w s o r a b m m' (was_passed x reply seen net er t h ea em) (was_passed y reply' seen' net' fr u g eb en) =
     let k = takes_one w.net x seen seen' reply reply' net net' t (subst (λ z. Takes w.net z seen' [] reply' net') (same_bytes r y x fr er) u) in
-    record { records = ea ∙ ap (λ z. step (n + 1) ∷ reply_records z) k.replies ∙ sym eb; machines = em ∙ ap (λ z. at (n + 1) (waiting (with_net w z) s o)) k.clients ∙ sym en }
+    record { records = ea ∙ ap (λ z. step (n + 1) ∷ reply_records z) k.replies ∙ sym eb; machines = em ∙ ap (λ z. at (n + 1) (waiting (with_net w z) (anew s) o)) k.clients ∙ sym en }
 waits_one n w s o r a b m m' (was_passed x reply seen net er t h ea em) (was_brought y reply' seen' net' port body added phase fr u g hr eb en) =
     let k = takes_one w.net x seen seen' reply reply' net net' t (subst (λ z. Takes w.net z seen' [] reply' net') (same_bytes r y x fr er) u) in
     absurd (let z : None ≡ Some (port, body) = sym h ∙ ap (heard_from o.begun.server) k.outcomes ∙ g in cc)
@@ -118,10 +152,10 @@ waits_one n w s o r a b m m' (was_brought x reply seen net port body added phase
     let both = same_pair port port' body body' z in
     let ep = sym both.0 in
     let eb' = sym both.1 in
-    heard_one n (with_net w net) s o (came (record { rec = n + 1; port = port; body = body }) w.time) a b added added' m m' phase phase' hr
-    (subst (λ v. Hears (with_net w v) s o (came (record { rec = n + 1; port = port; body = body }) w.time) added' phase') (sym k.clients)
-    (subst (λ v. Hears (with_net w net') s o (came (record { rec = n + 1; port = port; body = v }) w.time) added' phase') eb'
-    (subst (λ v. Hears (with_net w net') s o (came (record { rec = n + 1; port = v; body = body' }) w.time) added' phase') ep hs)))
+    heard_one n (with_net w net) (anew s) o (came (record { rec = n + 1; port = port; body = body }) w.time) a b added added' m m' phase phase' hr
+    (subst (λ v. Hears (with_net w v) (anew s) o (came (record { rec = n + 1; port = port; body = body }) w.time) added' phase') (sym k.clients)
+    (subst (λ v. Hears (with_net w net') (anew s) o (came (record { rec = n + 1; port = port; body = v }) w.time) added' phase') eb'
+    (subst (λ v. Hears (with_net w net') (anew s) o (came (record { rec = n + 1; port = v; body = body' }) w.time) added' phase') ep hs)))
     ea em eb en
 waits_one n w s o r a b m m' (was_passed x reply seen net er t h ea em) (was_ticked ms added phase fr hr eb en) = absurd (let z : frame x ≡ tick ms = sym er ∙ fr in cc)
 waits_one n w s o r a b m m' (was_passed x reply seen net er t h ea em) (was_off fr eb en) = absurd (let z : frame x ≡ off = sym er ∙ fr in cc)
@@ -131,14 +165,28 @@ waits_one n w s o r a b m m' (was_ticked ms added phase er hr ea em) (was_passed
 waits_one n w s o r a b m m' (was_ticked ms added phase er hr ea em) (was_brought y reply' seen' net' port' body' added' phase' fr u g hs eb en) = absurd (let z : tick ms ≡ frame y = sym er ∙ fr in cc)
 waits_one n w s o r a b m m' (was_ticked ms added phase er hr ea em) (was_ticked ms' added' phase' fr hs eb en) =
     let e = same_time r ms' ms fr er in
-    heard_one n (world_later w ms) s o (ticked (w.time + ms)) a b added added' m m' phase phase' hr (subst (λ v. Hears (world_later w v) s o (ticked (w.time + v)) added' phase') e hs) ea em eb en
+    heard_one n (world_later w ms) (anew s) o (ticked (w.time + ms)) a b added added' m m' phase phase' hr (subst (λ v. Hears (world_later w v) (anew s) o (ticked (w.time + v)) added' phase') e hs) ea em eb en
 waits_one n w s o r a b m m' (was_ticked ms added phase er hr ea em) (was_off fr eb en) = absurd (let z : tick ms ≡ off = sym er ∙ fr in cc)
 waits_one n w s o r a b m m' (was_off er ea em) (was_passed y reply' seen' net' fr u g eb en) = absurd (let z : off ≡ frame y = sym er ∙ fr in cc)
 waits_one n w s o r a b m m' (was_off er ea em) (was_brought y reply' seen' net' port' body' added' phase' fr u g hs eb en) = absurd (let z : off ≡ frame y = sym er ∙ fr in cc)
 waits_one n w s o r a b m m' (was_off er ea em) (was_ticked ms added phase fr hr eb en) = absurd (let z : off ≡ tick ms = sym er ∙ fr in cc)
 waits_one n w s o r a b m m' (was_off er ea em) (was_off fr eb en) = record { records = ea ∙ sym eb; machines = em ∙ sym en }
 
--- a machine where a command waits begins one step on one record
+resumes_one : (n : ℕ) (w : World) (s : Running) (r : In) (a b : List Out) (m m' : Machine) → Resumes n w s r a m → Resumes n w s r b m' → BegunOne a b m m'
+resumes_one n w s r a b m m' (by_frame x reply seen net er t ea em) (by_frame y reply' seen' net' fr u eb en) =
+    let k = takes_one w.net x seen seen' reply reply' net net' t (subst (λ z. Takes w.net z seen' [] reply' net') (same_bytes r y x fr er) u) in
+    record { records = ea ∙ ap (λ z. step (n + 1) ∷ reply_records z) k.replies ∙ sym eb; machines = em ∙ ap (λ z. at (n + 1) (running (with_net w z) (anew s))) k.clients ∙ sym en }
+resumes_one n w s r a b m m' (by_frame x reply seen net er t ea em) (by_tick ms fr eb en) = absurd (let z : frame x ≡ tick ms = sym er ∙ fr in cc)
+resumes_one n w s r a b m m' (by_frame x reply seen net er t ea em) (by_off fr eb en) = absurd (let z : frame x ≡ off = sym er ∙ fr in cc)
+resumes_one n w s r a b m m' (by_tick ms er ea em) (by_frame y reply' seen' net' fr u eb en) = absurd (let z : tick ms ≡ frame y = sym er ∙ fr in cc)
+resumes_one n w s r a b m m' (by_tick ms er ea em) (by_tick ms' fr eb en) =
+    record { records = ea ∙ sym eb; machines = em ∙ ap (λ z. at (n + 1) (running (world_later w z) (anew s))) (same_time r ms ms' er fr) ∙ sym en }
+resumes_one n w s r a b m m' (by_tick ms er ea em) (by_off fr eb en) = absurd (let z : tick ms ≡ off = sym er ∙ fr in cc)
+resumes_one n w s r a b m m' (by_off er ea em) (by_frame y reply' seen' net' fr u eb en) = absurd (let z : off ≡ frame y = sym er ∙ fr in cc)
+resumes_one n w s r a b m m' (by_off er ea em) (by_tick ms fr eb en) = absurd (let z : off ≡ tick ms = sym er ∙ fr in cc)
+resumes_one n w s r a b m m' (by_off er ea em) (by_off fr eb en) = record { records = ea ∙ sym eb; machines = em ∙ sym en }
+
+-- a machine that waits for the next record begins one step on one record
 pub begins_one : (m : Machine) (r : In) (a b : List Out) (m1 m2 : Machine) → Awaits m.phase → Begins m r a m1 → Begins m r b m2 → BegunOne a b m1 m2
 begins_one m r a b m1 m2 k p q = go m.phase refl k
   where
@@ -148,6 +196,9 @@ begins_one m r a b m1 m2 k p q = go m.phase refl k
     go (waiting w s o) e h =
         let is : m ≡ at m.used (waiting w s o) = ap (at m.used) e in
         waits_one m.used w s o r a b m1 m2 (waits_by m r a m1 p m.used w s o is) (waits_by m r b m2 q m.used w s o is)
+    go (yielded w s) e h =
+        let is : m ≡ at m.used (yielded w s) = ap (at m.used) e in
+        resumes_one m.used w s r a b m1 m2 (resumes_by m r a m1 p m.used w s is) (resumes_by m r b m2 q m.used w s is)
     go (handing rest) e h = absurd h
     go (left cause) e h = absurd h
     go handed_off e h = absurd h

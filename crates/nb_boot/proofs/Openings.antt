@@ -6,7 +6,7 @@ use Rattle.nb_record.specs.Outside.{Outside}
 use Rattle.nb_record.specs.Logged.{Logged}
 use Rattle.nb_engine.specs.Machine.{fresh}
 use Rattle.nb_engine.specs.Seen.{Seen, seen, StandsFor, as_ready}
-use Rattle.nb_engine.specs.Turns.{IsWaiting}
+use Rattle.nb_engine.specs.Turns.{IsResting}
 use Rattle.nb_engine.specs.declared.stage.Stage.TheVariants as stage
 use Rattle.nb_engine.specs.declared.status.Status.{Status}
 use Rattle.nb_boot.specs.Going.{KeepsRun, LeadsOn, Stops, Opens, RefusesRun}
@@ -18,7 +18,7 @@ fresh_stands c e h =
 
 -- START was used, and a command waits
 pub opens_used : (r : In) (rest : List ℕ) (before now : Outside) (old new : Logged) (c c' : Seen) → c.used ≡ 0 → c.stage ≡ stage.Ready →
-    IsWaiting c'.stage × LeadsOn (r ∷ []) before now old new c c' → Opens (in_texts (r ∷ []) ++ rest) rest before now old new c'
+    IsResting c'.stage × LeadsOn (r ∷ []) before now old new c c' → Opens (in_texts (r ∷ []) ++ rest) rest before now old new c'
 opens_used r rest before now old new c c' e h (w, l) =
     (w, λ first g. record { ins = r ∷ []; counted = refl; goes = l [] rest first (record { machine = fresh; stands = fresh_stands c e h; going = g }) })
 

@@ -6,7 +6,8 @@ use Rattle.nb_tftp.specs.History.{Call, entry}
 use Rattle.nb_engine.specs.declared.world.World.{World}
 use Rattle.nb_engine.specs.Opens.{Open, with_entry}
 use Rattle.nb_engine.specs.Conclusions.{Conclusion, keeps, fails, boots}
-use Rattle.nb_engine.specs.Machine.{Machine, Running, Phase, ready, running, waiting, handing, left, handed_off, stopped, phase_after, concluded, Hears, goes_on, is_over, Path, nothing, uses, moves, Begins, runs, refuses, passes_by, brings, passes_time, switches_off, Move, passes, does, leaves, asks_for, finds_no_route, ends, hands, has_handed}
+use Rattle.nb_engine.specs.Running.{Running}
+use Rattle.nb_engine.specs.Machine.{Machine, Phase, ready, running, waiting, yielded, handing, left, handed_off, stopped, phase_after, concluded, Hears, goes_on, is_over, Path, nothing, uses, moves, Begins, runs, refuses, passes_by, brings, passes_time, switches_off, goes_on_by_frame, goes_on_by_tick, goes_off, Move, passes, is_left, yields, does, leaves, jumps, finds_no_label, asks_for, finds_no_route, hands, has_handed}
 use Rattle.nb_engine.specs.World.{unbound}
 use Rattle.nb_boot.specs.Complete.{AreOthers}
 
@@ -20,12 +21,15 @@ are_in_then [] r a v = (v, tt)
 are_in_then (q ∷ qs) r a v = (a.0, are_in_then qs r a.1 v)
 
 begins_in : (m : Machine) (r : In) (added : List Out) (m' : Machine) → Begins m r added m' → IsIn r
-begins_in m r added m' (runs n s valid plain) = valid
-begins_in m r added m' (refuses n s valid plain) = valid
+begins_in m r added m' (runs n s code valid plain) = valid
+begins_in m r added m' (refuses n s cause valid plain) = valid
 begins_in m r added m' (passes_by n w s o bytes reply seen net valid t h) = valid
 begins_in m r added m' (brings n w s o bytes reply seen net port body added' phase valid t h k) = valid
 begins_in m r added m' (passes_time n w s o ms added' phase valid h) = valid
 begins_in m r added m' (switches_off n w s o) = tt
+begins_in m r added m' (goes_on_by_frame n w s bytes reply seen net valid t) = valid
+begins_in m r added m' (goes_on_by_tick n w s ms valid) = valid
+begins_in m r added m' (goes_off n w s) = tt
 
 -- the records used have spellings
 pub path_in : (ins : List In) (outs : List Out) (m : Machine) → Path ins outs m → AreIn ins
@@ -38,6 +42,7 @@ abbrev pub HasUsed : ℕ → Phase → Type 0
 HasUsed n ready = n ≡ 0
 HasUsed n (running w s) = 0 < n
 HasUsed n (waiting w s o) = 0 < n
+HasUsed n (yielded w s) = 0 < n
 HasUsed n (handing rest) = 0 < n
 HasUsed n (left cause) = 0 < n
 HasUsed n handed_off = 0 < n
@@ -54,20 +59,26 @@ hears_used n w s o call added phase (is_over w' s' o' call' acts cause meets end
     after_used n (unbound w' o'.begun.own_port) s' (concluded w' (with_entry o' (entry call' acts)) cause) h
 
 begins_used : (m : Machine) (r : In) (added : List Out) (m' : Machine) → Begins m r added m' → HasUsed m'.used m'.phase
-begins_used m r added m' (runs n s valid plain) = omega arith
-begins_used m r added m' (refuses n s valid plain) = omega arith
+begins_used m r added m' (runs n s code valid plain) = omega arith
+begins_used m r added m' (refuses n s cause valid plain) = omega arith
 begins_used m r added m' (passes_by n w s o bytes reply seen net valid t h) = omega arith
 begins_used m r added m' (brings n w s o bytes reply seen net port body added' phase valid t h k) = hears_used (n + 1) _ _ _ _ _ phase k (omega arith)
 begins_used m r added m' (passes_time n w s o ms added' phase valid h) = hears_used (n + 1) _ _ _ _ _ phase h (omega arith)
 begins_used m r added m' (switches_off n w s o) = omega arith
+begins_used m r added m' (goes_on_by_frame n w s bytes reply seen net valid t) = omega arith
+begins_used m r added m' (goes_on_by_tick n w s ms valid) = omega arith
+begins_used m r added m' (goes_off n w s) = omega arith
 
 move_used : (m : Machine) (added : List Out) (m' : Machine) → Move m added m' → HasUsed m.used m.phase → HasUsed m'.used m'.phase
-move_used m added m' (passes n w s line h g) u = u
-move_used m added m' (does n w s line x xs o h g k l) u = u
-move_used m added m' (leaves n w s line x xs o h g k l) u = u
-move_used m added m' (asks_for n w s line x xs wanted h g k l) u = u
-move_used m added m' (finds_no_route n w s line x xs wanted h g k l) u = u
-move_used m added m' (ends n w s h) u = u
+move_used m added m' (passes n w s t h) u = u
+move_used m added m' (is_left n w s cause h) u = u
+move_used m added m' (yields n w s x xs h full) u = u
+move_used m added m' (does n w s x xs o h early k l) u = u
+move_used m added m' (leaves n w s x xs o h early k l) u = u
+move_used m added m' (jumps n w s x xs name line h early k l) u = u
+move_used m added m' (finds_no_label n w s x xs name h early k l) u = u
+move_used m added m' (asks_for n w s x xs wanted h early k l) u = u
+move_used m added m' (finds_no_route n w s x xs wanted h early k l) u = u
 move_used m added m' (hands n r rest) u = u
 move_used m added m' (has_handed n) u = u
 

@@ -5,9 +5,9 @@ use Rattle.nb_record.specs.Outside.{Outside, IsAtEnd}
 use Rattle.nb_record.specs.Logged.{Logged}
 use Rattle.nb_laws.proofs.Counts.{path_counts}
 use Rattle.nb_engine.specs.Machine.{Machine, shutdown_records, stopped_cause}
-use Rattle.nb_engine.specs.Seen.{Seen, StandsFor, as_ready, as_running, as_waiting, as_handing, as_left, as_handed_off, as_stopped}
+use Rattle.nb_engine.specs.Seen.{Seen, StandsFor, as_ready, as_running, as_waiting, as_yielded, as_handing, as_left, as_handed_off, as_stopped}
 use Rattle.nb_engine.specs.StatusNumber.{status_number}
-use Rattle.nb_engine.specs.Turns.{IsEnd, IsWaiting, IsOverWith, MayUse, closing_records}
+use Rattle.nb_engine.specs.Turns.{IsEnd, IsResting, IsOverWith, MayUse, closing_records}
 use Rattle.nb_engine.specs.declared.stage.Stage.{Stage}
 use Rattle.nb_engine.specs.declared.status.Status.{Status}
 use Rattle.nb_engine.specs.declared.status.Status.TheVariants as status
@@ -19,6 +19,7 @@ pub stands_used : (c : Seen) (m : Machine) → StandsFor c m → m.used ≡ c.us
 stands_used c m (as_ready n w) = refl
 stands_used c m (as_running n w s) = refl
 stands_used c m (as_waiting n w s f o live) = refl
+stands_used c m (as_yielded n w s) = refl
 stands_used c m (as_handing n w h rest e) = refl
 stands_used c m (as_left n w cause) = refl
 stands_used c m (as_handed_off n w) = refl
@@ -29,30 +30,33 @@ pub goes_counts : (ins : List In) (held : List ℕ) (first now : Outside) (log :
 goes_counts ins held first now log c g = sym (stands_used c g.machine g.stands) ∙ path_counts ins g.going.outs g.machine g.going.path
 
 -- where a client's command waits, the machine's does
-pub stands_awaits : (c : Seen) (m : Machine) → StandsFor c m → IsWaiting c.stage → Awaits m.phase
+pub stands_awaits : (c : Seen) (m : Machine) → StandsFor c m → IsResting c.stage → Awaits m.phase
 stands_awaits c m (as_ready n w) h = absurd h
 stands_awaits c m (as_running n w s) h = absurd h
 stands_awaits c m (as_waiting n w s f o live) h = tt
+stands_awaits c m (as_yielded n w s) h = tt
 stands_awaits c m (as_handing n w x rest e) h = absurd h
 stands_awaits c m (as_left n w cause) h = absurd h
 stands_awaits c m (as_handed_off n w) h = absurd h
 stands_awaits c m (as_stopped n w) h = absurd h
 
-pub stands_between : (c : Seen) (m : Machine) → StandsFor c m → IsWaiting c.stage → IsBetween m.phase
+pub stands_between : (c : Seen) (m : Machine) → StandsFor c m → IsResting c.stage → IsBetween m.phase
 stands_between c m (as_ready n w) h = absurd h
 stands_between c m (as_running n w s) h = absurd h
 stands_between c m (as_waiting n w s f o live) h = tt
+stands_between c m (as_yielded n w s) h = tt
 stands_between c m (as_handing n w x rest e) h = absurd h
 stands_between c m (as_left n w cause) h = absurd h
 stands_between c m (as_handed_off n w) h = absurd h
 stands_between c m (as_stopped n w) h = absurd h
 
 -- no record may come where a command waits
-pub stands_bad : (c : Seen) (m : Machine) (rest : List ℕ) (o : Outside) → StandsFor c m → IsWaiting c.stage →
+pub stands_bad : (c : Seen) (m : Machine) (rest : List ℕ) (o : Outside) → StandsFor c m → IsResting c.stage →
     IsBroken rest ⊎ (BeginsWith rest IsFirst ⊎ (IsPartial rest × (0 < length rest) × IsAtEnd o)) → IsBadRest m.phase rest o
 stands_bad c m rest o (as_ready n w) h b = absurd h
 stands_bad c m rest o (as_running n w s) h b = absurd h
 stands_bad c m rest o (as_waiting n w s f op live) h b = b
+stands_bad c m rest o (as_yielded n w s) h b = b
 stands_bad c m rest o (as_handing n w x left1 e) h b = absurd h
 stands_bad c m rest o (as_left n w cause) h b = absurd h
 stands_bad c m rest o (as_handed_off n w) h b = absurd h
@@ -63,6 +67,7 @@ pub over_ends : (s : Status) (c : Seen) (m : Machine) (rest : List ℕ) (o : Out
 over_ends s c m rest o (as_ready n w) h = absurd h
 over_ends s c m rest o (as_running n w r) h = absurd h
 over_ends s c m rest o (as_waiting n w r f op live) h = absurd h
+over_ends s c m rest o (as_yielded n w r) h = absurd h
 over_ends s c m rest o (as_handing n w x left1 e) h = absurd h
 over_ends s c m rest o (as_left n w cause) h = was_left cause refl h
 over_ends s c m rest o (as_handed_off n w) h = was_handed refl (ap status_number h)
@@ -87,13 +92,14 @@ pub closing_is : (c : Seen) (m : Machine) (number : ℕ) → StandsFor c m → c
 closing_is c m number (as_ready n w) = refl
 closing_is c m number (as_running n w s) = refl
 closing_is c m number (as_waiting n w s f o live) = ap (λ k. ended k stopped_cause ∷ done number ∷ []) live.fetch.number
+closing_is c m number (as_yielded n w s) = refl
 closing_is c m number (as_handing n w h rest e) = refl
 closing_is c m number (as_left n w cause) = refl
 closing_is c m number (as_handed_off n w) = refl
 closing_is c m number (as_stopped n w) = refl
 
 -- where a command waits, each record but START may be used
-pub may_use : (r : In) (st : Stage) → IsOther r → IsWaiting st → MayUse r st
+pub may_use : (r : In) (st : Stage) → IsOther r → IsResting st → MayUse r st
 may_use (start s) st o w = absurd o
 may_use (frame bytes) st o w = w
 may_use (tick ms) st o w = w

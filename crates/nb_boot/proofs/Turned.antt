@@ -4,7 +4,9 @@ use Rattle.nb_defs.specs.Records.{In, in_texts}
 use Rattle.nb_record.specs.Outside.{Outside}
 use Rattle.nb_record.specs.Logged.{Logged}
 use Rattle.nb_engine.specs.Seen.{Seen}
-use Rattle.nb_engine.specs.Turns.{Grows, AnswersTurn, IsEnd, IsOverWith}
+use Rattle.nb_engine.specs.Turns.{Grows, AnswersTurn, IsWaiting, HasYielded, IsResting, IsEnd, IsOverWith}
+use Rattle.nb_engine.specs.declared.stage.Stage.{Stage}
+use Rattle.nb_engine.specs.declared.stage.Stage.TheVariants as stage
 use Rattle.nb_engine.specs.declared.status.Status.{Status}
 use Rattle.nb_engine.specs.declared.status.Status.TheVariants as status
 use Rattle.nb_engine.specs.declared.client.Turn.TheVariants as turn
@@ -14,6 +16,27 @@ use Rattle.nb_boot.specs.declared.play.StepEnd.{StepEnd}
 use Rattle.nb_boot.specs.declared.play.StepEnd.TheVariants as ending
 use Rattle.nb_boot.proofs.Goings.{going_grows}
 use Rattle.nb_boot.proofs.Cuttings.{memory_shows}
+
+-- where a command waits, or a script has yielded, the next record is waited for
+pub waits_rests : (st : Stage) → IsWaiting st → IsResting st
+waits_rests (stage.Waiting s f) h = tt
+waits_rests (stage.Yielded s) h = absurd h
+waits_rests stage.Ready h = absurd h
+waits_rests (stage.Running s) h = absurd h
+waits_rests (stage.HandingOff h1) h = absurd h
+waits_rests (stage.Left cause) h = absurd h
+waits_rests stage.HandedOff h = absurd h
+waits_rests stage.Stopped h = absurd h
+
+pub yields_rests : (st : Stage) → HasYielded st → IsResting st
+yields_rests (stage.Yielded s) h = tt
+yields_rests (stage.Waiting s f) h = absurd h
+yields_rests stage.Ready h = absurd h
+yields_rests (stage.Running s) h = absurd h
+yields_rests (stage.HandingOff h1) h = absurd h
+yields_rests (stage.Left cause) h = absurd h
+yields_rests stage.HandedOff h = absurd h
+yields_rests stage.Stopped h = absurd h
 
 -- whatever run of a client went on before goes on afterwards, by no record
 abbrev pub Keeps : Outside → Outside → Logged → Logged → Seen → Seen → Type 0

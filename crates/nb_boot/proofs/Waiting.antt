@@ -5,7 +5,7 @@ use Rattle.nb_record.specs.Outside.{Outside, IsAtEnd}
 use Rattle.nb_record.specs.Logged.{Logged}
 use Rattle.nb_engine.specs.Seen.{Seen}
 use Rattle.nb_engine.specs.StatusNumber.{status_number}
-use Rattle.nb_engine.specs.Turns.{IsWaiting}
+use Rattle.nb_engine.specs.Turns.{IsResting}
 use Rattle.nb_engine.specs.declared.status.Status.{Status}
 use Rattle.nb_boot.specs.Run.{IsFirst, BeginsWith, Ends, ran_out, was_bad, was_full}
 use Rattle.nb_boot.specs.Going.{Waits, IsEndStatus, IsClosing}
@@ -13,24 +13,24 @@ use Rattle.nb_boot.proofs.Standing.{stands_used, stands_awaits, stands_bad}
 use Rattle.nb_laws.proofs.Counts.{path_counts}
 
 -- no record may come
-pub waits_bad : (n : ℕ) (held : List ℕ) (first now : Outside) (log : Logged) (c : Seen) (w : Waits n held first now log c) → IsWaiting c.stage → c.used < 4294967295 →
+pub waits_bad : (n : ℕ) (held : List ℕ) (first now : Outside) (log : Logged) (c : Seen) (w : Waits n held first now log c) → IsResting c.stage → c.used < 4294967295 →
     IsBroken held ⊎ (BeginsWith held IsFirst ⊎ (IsPartial held × (0 < length held) × IsAtEnd now)) → Ends w.goes.machine held now 6
 waits_bad n held first now log c w h few b =
     was_bad (omega (arith, stands_used c w.goes.machine w.goes.stands, few)) (stands_bad c w.goes.machine held now w.goes.stands h b) refl
 
 -- the input was used to its end
-pub waits_out : (n : ℕ) (held : List ℕ) (first now : Outside) (log : Logged) (c : Seen) (w : Waits n held first now log c) → IsWaiting c.stage →
+pub waits_out : (n : ℕ) (held : List ℕ) (first now : Outside) (log : Logged) (c : Seen) (w : Waits n held first now log c) → IsResting c.stage →
     held ≡ [] → IsAtEnd now → Ends w.goes.machine held now 5
 waits_out n held first now log c w h none end = ran_out (stands_awaits c w.goes.machine w.goes.stands h) none end refl
 
 -- every record number was given
-pub waits_full : (held : List ℕ) (first now : Outside) (log : Logged) (c : Seen) (w : Waits 4294967295 held first now log c) → IsWaiting c.stage →
+pub waits_full : (held : List ℕ) (first now : Outside) (log : Logged) (c : Seen) (w : Waits 4294967295 held first now log c) → IsResting c.stage →
     0 < length held → Ends w.goes.machine held now 11
 waits_full held first now log c w h some =
     was_full (path_counts w.ins w.goes.going.outs w.goes.machine w.goes.going.path ∙ w.counted) (stands_awaits c w.goes.machine w.goes.stands h) some refl
 
 -- the input ended
-pub waits_end : (s : Status) (n : ℕ) (held : List ℕ) (first now : Outside) (log : Logged) (c : Seen) (w : Waits n held first now log c) → IsWaiting c.stage →
+pub waits_end : (s : Status) (n : ℕ) (held : List ℕ) (first now : Outside) (log : Logged) (c : Seen) (w : Waits n held first now log c) → IsResting c.stage →
     c.used < 4294967295 → IsPartial held → IsAtEnd now → IsEndStatus s held → Ends w.goes.machine held now (status_number s)
 waits_end s n [] first now log c w h few partial end e = rw e (waits_out n [] first now log c w h refl end)
 waits_end s n (b ∷ bytes) first now log c w h few partial end e =

@@ -3,7 +3,7 @@ use Rattle.std.specs.Prelude.{◌≡◌, ◌<◌, ◌≤◌, ℕ, ◌+◌, Bool,
 use Rattle.nb_defs.specs.Records.{In, in_texts, Out, out_texts, IsPartial}
 use Rattle.nb_engine.specs.Machine.{Machine, Path, fresh}
 use Rattle.nb_engine.specs.Seen.{Seen, StandsFor}
-use Rattle.nb_engine.specs.Turns.{IsEnd, IsWaiting, IsOverWith}
+use Rattle.nb_engine.specs.Turns.{IsEnd, IsResting, IsOverWith}
 use Rattle.nb_record.specs.Outside.{Outside, Passes, Rose, IsAtEnd}
 use Rattle.nb_record.specs.Logged.{Logged}
 use Rattle.nb_boot.specs.Run.{Shows, IsBetween, IsFirst, IsOther}
@@ -101,7 +101,7 @@ Stops s used before now old c =
 
 -- how a step ends, with these records used: a command waits, the run is over, or it was cut short
 abbrev pub StepsTo : StepEnd → List In → Outside → Outside → Logged → Logged → Seen → Seen → Type 0
-StepsTo ending.Waits used before now old new c c' = IsWaiting c'.stage × LeadsOn used before now old new c c'
+StepsTo ending.Waits used before now old new c c' = IsResting c'.stage × LeadsOn used before now old new c c'
 StepsTo (ending.Over s) used before now old new c c' = IsEnd s × IsOverWith c'.stage s × LeadsOn used before now old new c c'
 StepsTo (ending.Cut f) used before now old new c c' = Stops (flaw_status f) used before now old c
 
@@ -113,13 +113,13 @@ IsEndOf s (ending.Cut f) = (s ≡ status.NoMemory) × (f ≡ flaw.NoMemory)
 
 -- a record was used and a command waits, or the run is over with this status
 abbrev pub UsesRecord : Option Status → In → Outside → Outside → Logged → Logged → Seen → Seen → Type 0
-UsesRecord None r before now old new c c' = IsWaiting c'.stage × LeadsOn (r ∷ []) before now old new c c'
+UsesRecord None r before now old new c c' = IsResting c'.stage × LeadsOn (r ∷ []) before now old new c c'
 UsesRecord (Some s) r before now old new c c' = Stops s (r ∷ []) before now old c
 
 -- one record more was used and a command waits, or the run is over with this status
 abbrev pub UsesNext : Option Status → List ℕ → List ℕ → Outside → Outside → Logged → Logged → Seen → Seen → Type 0
 UsesNext None held held' before now old new c c' =
-    IsWaiting c'.stage × ((n : ℕ) (first : Outside) → Waits n held first before old c → Waits (n + 1) held' first now new c')
+    IsResting c'.stage × ((n : ℕ) (first : Outside) → Waits n held first before old c → Waits (n + 1) held' first now new c')
 UsesNext (Some s) held held' before now old new c c' =
     (n : ℕ) (first : Outside) → Waits n held first before old c → Shows s first now
 
@@ -135,7 +135,7 @@ IsClosing _ = ⊥
 
 -- a client was made, and used START: a command waits
 abbrev pub Opens : List ℕ → List ℕ → Outside → Outside → Logged → Logged → Seen → Type 0
-Opens held held' before now old new c = IsWaiting c.stage × ((first : Outside) → Going [] held first before old fresh → Waits 1 held' first now new c)
+Opens held held' before now old new c = IsResting c.stage × ((first : Outside) → Going [] held first before old fresh → Waits 1 held' first now new c)
 
 -- the run is over, before START or in its step
 abbrev pub RefusesRun : Status → List ℕ → Outside → Outside → Logged → Type 0

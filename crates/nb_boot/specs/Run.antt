@@ -2,17 +2,18 @@
 use Rattle.std.specs.Prelude.{◌≡◌, ℕ, ◌<◌, ◌≤◌, ◌⊎◌, List, [], ◌∷◌, ◌++◌, length}
 use Rattle.nb_terms.specs.declared.cause.Cause.{Cause}
 use Rattle.nb_defs.specs.Records.{In, start, frame, tick, off, IsIn, in_text, in_texts, IsPartial, IsBroken, Out, out_texts, done}
-use Rattle.nb_engine.specs.Machine.{Machine, Phase, ready, running, waiting, handing, left, handed_off, stopped, Path, status_of, shutdown_records}
+use Rattle.nb_engine.specs.Machine.{Machine, Phase, ready, running, waiting, yielded, handing, left, handed_off, stopped, Path, status_of, shutdown_records}
 use Rattle.nb_engine.specs.Honesty.{Honest, HandsFiles}
 use Rattle.nb_record.specs.Outside.{Outside, Passes, Rose, IsAtEnd}
 use Rattle.nb_engine.specs.declared.status.Status.{Status}
 use Rattle.nb_engine.specs.declared.status.Status.TheVariants as status
 
--- a command waits
+-- the next record is waited for: by a command, or by a script that had all the commands of a step
 abbrev pub Awaits : Phase → Type 0
 Awaits ready = ⊥
 Awaits (running w s) = ⊥
 Awaits (waiting w s o) = Unit {0}
+Awaits (yielded w s) = Unit {0}
 Awaits (handing rest) = ⊥
 Awaits (left cause) = ⊥
 Awaits handed_off = ⊥
@@ -23,6 +24,7 @@ abbrev pub IsBetween : Phase → Type 0
 IsBetween ready = Unit {0}
 IsBetween (running w s) = ⊥
 IsBetween (waiting w s o) = Unit {0}
+IsBetween (yielded w s) = Unit {0}
 IsBetween (handing rest) = ⊥
 IsBetween (left cause) = ⊥
 IsBetween handed_off = ⊥
@@ -51,11 +53,12 @@ pub record BeginsWith (bytes : List ℕ) (Kind : In → Type 0) : Type 0 where
   pub spelled : bytes ≡ in_text entry ++ more
 
 -- Behind the records used no record may come. What is there begins none; or another than START comes
--- first, or the input ended before START. Where a command waits: a second START comes, or the input ended
--- inside a record.
+-- first, or the input ended before START. Where the next record is waited for: a second START comes, or the
+-- input ended inside a record.
 abbrev pub IsBadRest : Phase → List ℕ → Outside → Type 0
 IsBadRest ready rest o = IsBroken rest ⊎ (BeginsWith rest IsOther ⊎ (IsPartial rest × IsAtEnd o))
 IsBadRest (waiting w s open1) rest o = IsBroken rest ⊎ (BeginsWith rest IsFirst ⊎ (IsPartial rest × (0 < length rest) × IsAtEnd o))
+IsBadRest (yielded w s) rest o = IsBroken rest ⊎ (BeginsWith rest IsFirst ⊎ (IsPartial rest × (0 < length rest) × IsAtEnd o))
 IsBadRest (running w s) rest o = ⊥
 IsBadRest (handing left1) rest o = ⊥
 IsBadRest (left cause) rest o = ⊥
@@ -71,11 +74,11 @@ pub data Ends (m : Machine) (rest : List ℕ) (o : Outside) (number : ℕ) : Typ
   was_handed : m.phase ≡ handed_off → number ≡ 0 → Ends m rest o number
   -- the power was switched off
   was_stopped : m.phase ≡ stopped → number ≡ 5 → Ends m rest o number
-  -- the input was used to its end, where a command waits
+  -- the input was used to its end, where the next record is waited for
   ran_out : Awaits m.phase → rest ≡ [] → IsAtEnd o → number ≡ 5 → Ends m rest o number
   -- no record may come
   was_bad : m.used < 4294967295 → IsBadRest m.phase rest o → number ≡ 6 → Ends m rest o number
-  -- every record number was given, a command waits, and another byte follows
+  -- every record number was given, the next record is waited for, and another byte follows
   was_full : m.used ≡ 4294967295 → Awaits m.phase → 0 < length rest → number ≡ 11 → Ends m rest o number
 
 -- What closes an output: nothing while the run goes on; where it is over, the end of the open that a

@@ -7,18 +7,19 @@ use Rattle.nb_engine.specs.Honesty.{Honest, HandsFiles}
 use Rattle.nb_record.specs.Outside.{Outside, Passes, Rose, IsAtEnd}
 use Rattle.nb_engine.specs.declared.status.Status.{Status}
 use Rattle.nb_engine.specs.declared.status.Status.TheVariants as status
-use Rattle.nb_machine.specs.Courses.{Standing, ready, running, waiting, handing, left, handed_off, stopped, Progress, Course}
+use Rattle.nb_machine.specs.Courses.{Standing, ready, running, waiting, yielded, handing, left, handed_off, stopped, Progress, Course}
 use Rattle.nb_laws.specs.Events.{Event, IsHistory}
 use Rattle.nb_laws.specs.Lawful.{IsLawful}
 use Rattle.nb_machine.specs.States.{State}
 use Rattle.nb_machine.specs.Closings.{Shuts}
 use Rattle.nb_boot.specs.Run.{IsOther, IsFirst, BeginsWith}
 
--- a command waits
+-- the next record is waited for: by a command, or by scripts that had all the commands of a step
 abbrev pub CommandWaits : Standing → Type 0
 CommandWaits ready = ⊥
 CommandWaits (running s script outer) = ⊥
 CommandWaits (waiting s w) = Unit {0}
+CommandWaits (yielded s script outer) = Unit {0}
 CommandWaits (handing s rest) = ⊥
 CommandWaits (left s outer cause) = ⊥
 CommandWaits (handed_off s) = ⊥
@@ -29,16 +30,18 @@ abbrev pub MayGoOn : Standing → Type 0
 MayGoOn ready = Unit {0}
 MayGoOn (running s script outer) = ⊥
 MayGoOn (waiting s w) = Unit {0}
+MayGoOn (yielded s script outer) = Unit {0}
 MayGoOn (handing s rest) = ⊥
 MayGoOn (left s outer cause) = ⊥
 MayGoOn (handed_off s) = ⊥
 MayGoOn (stopped s) = ⊥
 
 -- After the records used no record may come. What is there begins none; or another than START comes first, or the
--- input ended before START. Where a command waits: a second START comes, or the input ended inside a record.
+-- input ended before START. Where the next record is waited for: a second START comes, or the input ended inside one.
 abbrev pub NoneMayCome : Standing → List ℕ → Outside → Type 0
 NoneMayCome ready rest o = IsBroken rest ⊎ (BeginsWith rest IsOther ⊎ (IsPartial rest × IsAtEnd o))
 NoneMayCome (waiting s w) rest o = IsBroken rest ⊎ (BeginsWith rest IsFirst ⊎ (IsPartial rest × (0 < length rest) × IsAtEnd o))
+NoneMayCome (yielded s script outer) rest o = IsBroken rest ⊎ (BeginsWith rest IsFirst ⊎ (IsPartial rest × (0 < length rest) × IsAtEnd o))
 NoneMayCome (running s script outer) rest o = ⊥
 NoneMayCome (handing s more) rest o = ⊥
 NoneMayCome (left s outer cause) rest o = ⊥
@@ -53,11 +56,11 @@ pub data EndsWhere (p : Progress) (rest : List ℕ) (o : Outside) (number : ℕ)
   was_handed : (s : State) → p.standing ≡ handed_off s → number ≡ 0 → EndsWhere p rest o number
   -- the power was switched off
   was_stopped : (s : State) → p.standing ≡ stopped s → number ≡ 5 → EndsWhere p rest o number
-  -- the input was used to its end, where a command waits
+  -- the input was used to its end, where the next record is waited for
   ran_out : CommandWaits p.standing → rest ≡ [] → IsAtEnd o → number ≡ 5 → EndsWhere p rest o number
   -- no record may come
   was_bad : p.used < 4294967295 → NoneMayCome p.standing rest o → number ≡ 6 → EndsWhere p rest o number
-  -- every record number was given, a command waits, and another byte follows
+  -- every record number was given, the next record is waited for, and another byte follows
   was_full : p.used ≡ 4294967295 → CommandWaits p.standing → 0 < length rest → number ≡ 11 → EndsWhere p rest o number
 
 -- What closes an output: nothing while the run goes on; where it has ended, the ends of the opens that live, and DONE

@@ -17,7 +17,7 @@ use nb_record::{InRec, Line, Log};
 /// How the step of a record ended.
 #[derive(Clone, Copy, Debug, PartialEq, Eq)]
 pub enum StepEnd {
-    /// A command waits.
+    /// The next record is waited for: by a command, or by a script that had all its commands.
     Waits,
     /// The run is over.
     Over(Status),
@@ -48,6 +48,7 @@ fn go_on<L: Line>(client: &mut Client, log: &mut Log, line: &mut L) -> StepEnd
         match client.more(log) {
             Turn::More => {}
             Turn::Waiting => return StepEnd::Waits,
+            Turn::Yielded => return StepEnd::Waits,
             Turn::Over(status) => return end_of(status),
         }
     }
@@ -67,6 +68,7 @@ fn take<L: Line>(client: &mut Client, entry: &InRec<'_>, log: &mut Log, line: &m
     match client.step(entry, log) {
         Turn::More => go_on(client, log, line),
         Turn::Waiting => StepEnd::Waits,
+        Turn::Yielded => StepEnd::Waits,
         Turn::Over(status) => end_of(status),
     }
 }

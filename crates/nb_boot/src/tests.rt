@@ -156,6 +156,94 @@ fn scripts(rt: HostRuntime) -> Result<(), Fail> {
     Ok(())
 }
 
+// Joins, labels, `goto` and joined lines, by the script: what stands behind SCRIPT enter.
+#[test]
+fn lists(rt: HostRuntime) -> Result<(), Fail> {
+    for (script, status, behind) in [
+        // What `&&` skips isn't traced; the result before it stays.
+        (
+            b"#!ipxe\nfoo && echo x || echo y\n".as_slice(),
+            Status::Ended,
+            b"\x00\x00\x00\x0e\x84\x01\x00\x00\x00\x02\x00\x01\x01\x00\x03foo\
+\x00\x00\x00\x0a\x85\x13\x00\x00\x00\x00\x00\x00\x00\x00\
+\x00\x00\x00\x12\x84\x01\x00\x00\x00\x02\x02\x01\x02\x00\x04echo\x00\x01y\
+\x00\x00\x00\x03\x83y\n\
+\x00\x00\x00\x0a\x85\x00\x00\x00\x00\x00\x00\x00\x00\x00\
+\x00\x00\x00\x0c\x86\x01\x01\x00\x00\x00\x00\x00\x00\x00\x00\x00\
+\x00\x00\x00\x02\x8d\x03"
+                .as_slice(),
+        ),
+        // A line that was joined has the first one's number; a command without words is Ok.
+        (
+            b"#!ipxe\necho a \\\n b ; ; echo c\n",
+            Status::Ended,
+            b"\x00\x00\x00\x15\x84\x01\x00\x00\x00\x02\x00\x01\x03\x00\x04echo\x00\x01a\x00\x01b\
+\x00\x00\x00\x05\x83a b\n\
+\x00\x00\x00\x0a\x85\x00\x00\x00\x00\x00\x00\x00\x00\x00\
+\x00\x00\x00\x12\x84\x01\x00\x00\x00\x02\x02\x01\x02\x00\x04echo\x00\x01c\
+\x00\x00\x00\x03\x83c\n\
+\x00\x00\x00\x0a\x85\x00\x00\x00\x00\x00\x00\x00\x00\x00\
+\x00\x00\x00\x0c\x86\x01\x01\x00\x00\x00\x00\x00\x00\x00\x00\x00\
+\x00\x00\x00\x02\x8d\x03",
+        ),
+        // The first of two labels counts.
+        (
+            b"#!ipxe\ngoto b ; foo\n:a\nexit\n:b\ngoto a\n:a\n",
+            Status::Ended,
+            b"\x00\x00\x00\x12\x84\x01\x00\x00\x00\x02\x00\x01\x02\x00\x04goto\x00\x01b\
+\x00\x00\x00\x0a\x85\x00\x00\x00\x00\x00\x00\x00\x00\x00\
+\x00\x00\x00\x12\x84\x01\x00\x00\x00\x06\x00\x01\x02\x00\x04goto\x00\x01a\
+\x00\x00\x00\x0a\x85\x00\x00\x00\x00\x00\x00\x00\x00\x00\
+\x00\x00\x00\x0f\x84\x01\x00\x00\x00\x04\x00\x01\x01\x00\x04exit\
+\x00\x00\x00\x0a\x85\x00\x00\x00\x00\x00\x00\x00\x00\x00\
+\x00\x00\x00\x0c\x86\x01\x01\x00\x00\x00\x00\x00\x00\x00\x00\x00\
+\x00\x00\x00\x02\x8d\x03",
+        ),
+        // There is no such label, and the list ends in that failure.
+        (
+            b"#!ipxe\ngoto c\n",
+            Status::ScriptFailed,
+            b"\x00\x00\x00\x12\x84\x01\x00\x00\x00\x02\x00\x01\x02\x00\x04goto\x00\x01c\
+\x00\x00\x00\x0a\x85\x0d\x00\x00\x00\x00\x00\x00\x00\x00\
+\x00\x00\x00\x0c\x86\x01\x01\x0d\x00\x00\x00\x00\x00\x00\x00\x00\
+\x00\x00\x00\x02\x8d\x04",
+        ),
+    ] {
+        let input = start_of(rt.alloc(), script)?;
+        let done = ran(rt.alloc(), input.as_slice(), &[], &[], 1000)?;
+        assert_eq!(rt; done.status, status);
+        assert!(rt; done.output.as_slice().starts_with(ENTERED));
+        assert!(rt; done.output.as_slice().ends_with(behind));
+        assert_eq!(rt; done.output.len(), ENTERED.len() + behind.len());
+    }
+    Ok(())
+}
+
+// 65 words that join leave the script with TooMany 1; `goto` without end has 4,096 commands in each step.
+#[test]
+fn limits(rt: HostRuntime) -> Result<(), Fail> {
+    let mut script = Vec::from_slice(rt.alloc(), b"#!ipxe\n")?;
+    for _ in 0..65 {
+        script.extend_from_slice(b"; ")?;
+    }
+    let input = start_of(rt.alloc(), script.as_slice())?;
+    let done = ran(rt.alloc(), input.as_slice(), &[], &[], 1000)?;
+    assert_eq!(rt; done.status, Status::ScriptFailed);
+    assert!(rt;
+        done.output.as_slice().ends_with(
+            b"\x00\x00\x00\x0c\x86\x01\x01\x07\x00\x00\x00\x01\x00\x00\x00\x00\
+\x00\x00\x00\x02\x8d\x04"
+        )
+    );
+    let mut input = start_of(rt.alloc(), b"#!ipxe\n:a\ngoto a")?;
+    input.extend_from_slice(b"\x00\x00\x00\x03\x03\x00\x01")?;
+    let done = ran(rt.alloc(), input.as_slice(), &[], &[], 1_000_000)?;
+    assert_eq!(rt; done.status, Status::Unfinished);
+    // Two STEPs, SCRIPT enter, 8,192 times COMMAND and RESULT, and DONE.
+    assert_eq!(rt; done.output.len(), 18 + 16 + 8192 * (22 + 14) + 6);
+    Ok(())
+}
+
 // Each fault has its status, and leaves a front of the output.
 #[test]
 fn faults(rt: HostRuntime) -> Result<(), Fail> {

@@ -1,8 +1,9 @@
 -- A client grows by the records of a step.
-use Rattle.std.proofs.Common.{◌≡◌, ℕ, ◌+◌, true, false, List, [], ◌∷◌, Some, None, refl, sym, subst}
-use Rattle.nb_defs.specs.Causes.{not_script}
+use Rattle.std.proofs.Common.{◌≡◌, ℕ, ◌+◌, List, [], ◌∷◌, Some, None, refl, sym, ap, subst}
+use Rattle.nb_terms.specs.declared.cause.Cause.{Cause}
 use Rattle.nb_defs.specs.Records.{Start, In, start, frame, tick, off, IsIn, Out, out_texts, step, enter, leave, ended}
-use Rattle.nb_defs.specs.ScriptText.{is_plain}
+use Rattle.nb_defs.specs.Causes.{not_script}
+use Rattle.nb_defs.specs.ScriptLines.{Line, Reading, script, no_script, script_too_long, line_too_long}
 use Rattle.nb_record.specs.Logged.{Logged, Puts}
 use Rattle.nb_stack.specs.Client.{Client}
 use Rattle.nb_stack.specs.Takes.{Outcome, Takes}
@@ -17,7 +18,9 @@ use Rattle.nb_engine.specs.declared.client.Turn.{Turn}
 use Rattle.nb_engine.specs.declared.client.Turn.TheVariants as turn
 use Rattle.nb_engine.specs.World.{world_of, with_net, world_later}
 use Rattle.nb_engine.specs.Opens.{Open, heard_from}
-use Rattle.nb_engine.specs.Machine.{Running, Machine, at, ready, running, waiting, left, stopped, Begins, runs, refuses, passes_by, brings, passes_time, switches_off, first_script, reply_records, stopped_cause}
+use Rattle.nb_engine.specs.FirstText.{first_reading, text_refusal, long_script, long_line}
+use Rattle.nb_engine.specs.Running.{Running, first_script, anew}
+use Rattle.nb_engine.specs.Machine.{Machine, at, ready, running, waiting, yielded, left, stopped, Begins, runs, refuses, passes_by, brings, passes_time, switches_off, goes_on_by_frame, goes_on_by_tick, goes_off, reply_records, stopped_cause, status_of}
 use Rattle.nb_engine.specs.Seen.{Seen, seen, as_running, as_waiting, as_left, as_stopped}
 use Rattle.nb_engine.specs.Heeding.{Heeds, Follows, Comes}
 use Rattle.nb_engine.specs.Turns.{Grows, AnswersTurn}
@@ -28,52 +31,99 @@ begins_from : (m m0 m' : Machine) (r : In) (added : List Out) → m ≡ m0 → B
 begins_from m m0 m' r added e b = subst (λ x. Begins x r added m') (sym e) b
 
 -- a START whose text runs
-pub start_grows : {old new : Logged} (n : ℕ) (w : World) (s : Start) → IsIn (start s) → is_plain s.script ≡ true → Puts old new (out_texts (step (n + 1) ∷ enter 1 ∷ [])) →
-    Grows (start s ∷ []) (seen n w stage.Ready) (seen (n + 1) (world_of s) (stage.Running (first_script s.script))) old new
-start_grows n w s valid plain p = record {
+pub start_grows : {old new : Logged} (n : ℕ) (w : World) (s : Start) (code : List Line) → IsIn (start s) → first_reading s.script ≡ script code → Puts old new (out_texts (step (n + 1) ∷ enter 1 ∷ [])) →
+    Grows (start s ∷ []) (seen n w stage.Ready) (seen (n + 1) (world_of s) (stage.Running (first_script code))) old new
+start_grows n w s code valid reads p = record {
   added = step (n + 1) ∷ enter 1 ∷ [];
   puts = p;
   leads = λ m stands. record {
-    machine = at (n + 1) (running (world_of s) (first_script s.script));
-    steps = begins_from m (at n ready) _ (start s) _ (stands_at (seen n w stage.Ready) m stands) (runs n s valid plain);
-    stands = as_running (n + 1) (world_of s) (first_script s.script);
+    machine = at (n + 1) (running (world_of s) (first_script code));
+    steps = begins_from m (at n ready) _ (start s) _ (stands_at (seen n w stage.Ready) m stands) (runs n s code valid reads);
+    stands = as_running (n + 1) (world_of s) (first_script code);
   };
 }
 
--- a START whose text is none
-pub refusal_grows : {old new : Logged} (n : ℕ) (w : World) (s : Start) → IsIn (start s) → is_plain s.script ≡ false → Puts old new (out_texts (step (n + 1) ∷ enter 1 ∷ leave 1 not_script ∷ [])) →
-    Grows (start s ∷ []) (seen n w stage.Ready) (seen (n + 1) w (stage.Left not_script)) old new
-refusal_grows n w s valid other p = record {
-  added = step (n + 1) ∷ enter 1 ∷ leave 1 not_script ∷ [];
+-- a text that doesn't run is left with a failure
+pub refusal_fails : (r : Reading) (cause : Cause) → text_refusal r ≡ Some cause → status_of cause ≡ 4
+refusal_fails (script code) cause e = absurd (let no : None ≡ Some cause = e in cc)
+refusal_fails no_script cause e = let same : not_script ≡ cause = cc in ap status_of (sym same)
+refusal_fails script_too_long cause e = let same : long_script ≡ cause = cc in ap status_of (sym same)
+refusal_fails line_too_long cause e = let same : long_line ≡ cause = cc in ap status_of (sym same)
+
+-- a START whose text doesn't run
+pub refusal_grows : {old new : Logged} (n : ℕ) (w : World) (s : Start) (cause : Cause) → IsIn (start s) → text_refusal (first_reading s.script) ≡ Some cause → Puts old new (out_texts (step (n + 1) ∷ enter 1 ∷ leave 1 cause ∷ [])) →
+    Grows (start s ∷ []) (seen n w stage.Ready) (seen (n + 1) w (stage.Left cause)) old new
+refusal_grows n w s cause valid other p = record {
+  added = step (n + 1) ∷ enter 1 ∷ leave 1 cause ∷ [];
   puts = p;
   leads = λ m stands. record {
-    machine = at (n + 1) (left not_script);
-    steps = begins_from m (at n ready) _ (start s) _ (stands_at (seen n w stage.Ready) m stands) (refuses n s valid other);
-    stands = as_left (n + 1) w not_script;
+    machine = at (n + 1) (left cause);
+    steps = begins_from m (at n ready) _ (start s) _ (stands_at (seen n w stage.Ready) m stands) (refuses n s cause valid other);
+    stands = as_left (n + 1) w cause;
+  };
+}
+
+-- a script that had all its commands goes on with a frame
+pub frame_anew_grows : {old new : Logged} (n : ℕ) (w : World) (s : Running) (bytes reply : List ℕ) (out : Outcome) (net : Client) → IsIn (frame bytes) →
+    Takes w.net bytes out [] reply net → Puts old new (out_texts (step (n + 1) ∷ reply_records reply)) →
+    Grows (frame bytes ∷ []) (seen n w (stage.Yielded s)) (seen (n + 1) (with_net w net) (stage.Running (anew s))) old new
+frame_anew_grows n w s bytes reply out net valid takes p = record {
+  added = step (n + 1) ∷ reply_records reply;
+  puts = p;
+  leads = λ m stands. record {
+    machine = at (n + 1) (running (with_net w net) (anew s));
+    steps = begins_from m (at n (yielded w s)) _ (frame bytes) _ (stands_at (seen n w (stage.Yielded s)) m stands) (goes_on_by_frame n w s bytes reply out net valid takes);
+    stands = as_running (n + 1) (with_net w net) (anew s);
+  };
+}
+
+-- or with a time
+pub tick_anew_grows : {old new : Logged} (n : ℕ) (w : World) (s : Running) (ms : ℕ) → IsIn (tick ms) → Puts old new (out_texts (step (n + 1) ∷ [])) →
+    Grows (tick ms ∷ []) (seen n w (stage.Yielded s)) (seen (n + 1) (world_later w ms) (stage.Running (anew s))) old new
+tick_anew_grows n w s ms valid p = record {
+  added = step (n + 1) ∷ [];
+  puts = p;
+  leads = λ m stands. record {
+    machine = at (n + 1) (running (world_later w ms) (anew s));
+    steps = begins_from m (at n (yielded w s)) _ (tick ms) _ (stands_at (seen n w (stage.Yielded s)) m stands) (goes_on_by_tick n w s ms valid);
+    stands = as_running (n + 1) (world_later w ms) (anew s);
+  };
+}
+
+-- or the power is switched off
+pub off_anew_grows : {old new : Logged} (n : ℕ) (w : World) (s : Running) → Puts old new (out_texts (step (n + 1) ∷ [])) →
+    Grows (off ∷ []) (seen n w (stage.Yielded s)) (seen (n + 1) w stage.Stopped) old new
+off_anew_grows n w s p = record {
+  added = step (n + 1) ∷ [];
+  puts = p;
+  leads = λ m stands. record {
+    machine = at (n + 1) stopped;
+    steps = begins_from m (at n (yielded w s)) _ off _ (stands_at (seen n w (stage.Yielded s)) m stands) (goes_off n w s);
+    stands = as_stopped (n + 1) w;
   };
 }
 
 -- a frame that brings the open nothing
 pub pass_by_grows : {old new : Logged} (n : ℕ) (w : World) (s : Running) (f : Fetch) (bytes reply : List ℕ) (out : Outcome) (net : Client) → IsIn (frame bytes) →
     Takes w.net bytes out [] reply net → heard_from f.server out ≡ None → Puts old new (out_texts (step (n + 1) ∷ reply_records reply)) →
-    Grows (frame bytes ∷ []) (seen n w (stage.Waiting s f)) (seen (n + 1) (with_net w net) (stage.Waiting s f)) old new
+    Grows (frame bytes ∷ []) (seen n w (stage.Waiting s f)) (seen (n + 1) (with_net w net) (stage.Waiting (anew s) f)) old new
 pass_by_grows n w s f bytes reply out net valid takes none p = record {
   added = step (n + 1) ∷ reply_records reply;
   puts = p;
   leads = λ m stands.
       let is = stands_at (seen n w (stage.Waiting s f)) m stands in
       record {
-        machine = at (n + 1) (waiting (with_net w net) s is.0);
+        machine = at (n + 1) (waiting (with_net w net) (anew s) is.0);
         steps = begins_from m (at n (waiting w s is.0)) _ (frame bytes) _ is.1
             (passes_by n w s is.0 bytes reply out net valid takes (rw (← is.2.fetch.server) none));
-        stands = as_waiting (n + 1) (with_net w net) s f is.0 is.2;
+        stands = as_waiting (n + 1) (with_net w net) (anew s) f is.0 is.2;
       };
 }
 
 -- a frame that brings it a datagram
 pub frame_grows : {old new : Logged} (n : ℕ) (w : World) (s : Running) (f : Fetch) (st : Stage) (after : Seen) (bytes reply : List ℕ) (out : Outcome) (net : Client) (port : ℕ) (body : List ℕ) →
     IsIn (frame bytes) → Takes w.net bytes out [] reply net → heard_from f.server out ≡ Some (port, body) →
-    Follows s (Comes (came (received (n + 1) port body) w.time) f) (seen (n + 1) (with_net w net) st) after old new →
+    Follows (anew s) (Comes (came (received (n + 1) port body) w.time) f) (seen (n + 1) (with_net w net) st) after old new →
     Grows (frame bytes ∷ []) (seen n w (stage.Waiting s f)) after old new
 frame_grows n w s f st after bytes reply out net port body valid takes heard fo = record {
   added = step (n + 1) ∷ fo.added;
@@ -91,7 +141,7 @@ frame_grows n w s f st after bytes reply out net port body valid takes heard fo 
 
 -- time passes
 pub tick_grows : {old new : Logged} (n : ℕ) (w : World) (s : Running) (f : Fetch) (st : Stage) (after : Seen) (ms : ℕ) → IsIn (tick ms) →
-    Follows s (Comes (ticked (w.time + ms)) f) (seen (n + 1) (world_later w ms) st) after old new →
+    Follows (anew s) (Comes (ticked (w.time + ms)) f) (seen (n + 1) (world_later w ms) st) after old new →
     Grows (tick ms ∷ []) (seen n w (stage.Waiting s f)) after old new
 tick_grows n w s f st after ms valid fo = record {
   added = step (n + 1) ∷ fo.added;
@@ -130,6 +180,7 @@ pub heeds_acts : (t : Turn) (old new : Logged) (used : List In) (s : Running) (P
     (Follows s P mid after old new → Grows used before after old new) → Heeds t s P mid after old new → AnswersTurn t used before after old new
 heeds_acts turn.More old new used s P mid before after g h = (g h.0, h.1)
 heeds_acts turn.Waiting old new used s P mid before after g h = (g h.0, h.1)
+heeds_acts turn.Yielded old new used s P mid before after g h = (g h.0, h.1)
 heeds_acts (turn.Over status.NoMemory) old new used s P mid before after g h = h
 heeds_acts (turn.Over status.HandedOff) old new used s P mid before after g h = (h.0, g h.1, h.2)
 heeds_acts (turn.Over status.Ended) old new used s P mid before after g h = (h.0, g h.1, h.2)

@@ -19,8 +19,11 @@ use Rattle.nb_defs.specs.Causes.{ok}
 use Rattle.nb_engine.specs.World.{unbound, world_with_images}
 use Rattle.nb_engine.specs.Opens.{Open, with_entry, body_of, end_of, is_over_limit, acts_records, too_large_image}
 use Rattle.nb_engine.specs.Conclusions.{Conclusion, conclusion, conclusion_records, image_from, fails, keeps, boots}
-use Rattle.nb_engine.specs.Machine.{Running, Hears, goes_on, is_over, waiting, at, phase_after, concluded, running, further}
-use Rattle.nb_engine.specs.Fetches.{IsLive, IsFetchOf, IsSameFetch}
+use Rattle.nb_engine.specs.Running.{Running, with_result}
+use Rattle.nb_engine.specs.Machine.{Hears, goes_on, is_over, waiting, at, phase_after, concluded, running}
+use Rattle.nb_engine.specs.declared.conclusion.Conclusion.{Conclusion as Concluded}
+use Rattle.nb_engine.specs.declared.conclusion.Conclusion.TheVariants as concluded
+use Rattle.nb_engine.specs.Fetches.{IsLive, IsFetchOf, IsSameFetch, HasKept, conclusion_of}
 use Rattle.nb_engine.specs.Seen.{Seen, seen, StandsFor, as_waiting, IsSound}
 use Rattle.nb_engine.specs.Heeding.{Heeds, Follows, HasHeard}
 use Rattle.nb_engine.specs.Concluding.{EndsOpen, IsTurn}
@@ -85,13 +88,13 @@ same_conclusion w f o acts cause is e (inr over) =
 -- the open ends, and its command with it
 pub ends_follow : {old new : Logged} (n : ℕ) (w : World) (s : Running) (f : Fetch) (heard : Heard) (cause : Cause) (after : Seen) → heard.end ≡ Some cause →
     Puts old new (out_texts (step n ∷ (acts_records w.net f.number heard.acts ++ (ended f.number cause ∷ [])
-    ++ conclusion_records s.depth (conclusion cause f.boots (image_of f.name f.body [] f.uri) w.images)))) →
+    ++ conclusion_records (conclusion cause f.boots (image_of f.name f.body [] f.uri) w.images)))) →
     StandsFor after (at n (phase_after (unbound w f.own_port) s (conclusion cause f.boots (image_of f.name f.body [] f.uri) w.images))) →
     Follows s (HasHeard heard f) (seen n w (stage.Waiting s f)) after old new
 ends_follow {old} {new} n w s f heard cause after is p stands =
     let comes : Conclusion = conclusion cause f.boots (image_of f.name f.body [] f.uri) w.images in
     record {
-      added = acts_records w.net f.number heard.acts ++ (ended f.number cause ∷ []) ++ conclusion_records s.depth comes;
+      added = acts_records w.net f.number heard.acts ++ (ended f.number cause ∷ []) ++ conclusion_records comes;
       puts = p;
       hears = λ o call h.
           let e = entry call heard.acts in
@@ -99,7 +102,7 @@ ends_follow {old} {new} n w s f heard cause after is p stands =
           let ends : end_of (body_of o') heard.acts ≡ Some cause = sym h.ends ∙ is in
           let same : comes ≡ concluded w o' cause = same_conclusion w f o' heard.acts cause h.fetch ends h.body in
           let hears : Hears w s o call
-          (acts_records w.net o.number heard.acts ++ (ended o.number cause ∷ []) ++ conclusion_records s.depth (concluded w o' cause))
+          (acts_records w.net o.number heard.acts ++ (ended o.number cause ∷ []) ++ conclusion_records (concluded w o' cause))
           (phase_after (unbound w o.begun.own_port) s (concluded w o' cause)) =
           is_over w s o call heard.acts cause h.fetch.core.meets ends in (
             phase_after (unbound w f.own_port) s comes,
@@ -114,6 +117,7 @@ pub ends_heeds : (t : Turn) (old new : Logged) (n : ℕ) (w : World) (s : Runnin
     Heeds t s (HasHeard heard f) (seen n w (stage.Waiting s f)) after old new
 ends_heeds turn.More old new n w s f heard cause after is e = (ends_follow n w s f heard cause after is e.1 e.2, e.0)
 ends_heeds turn.Waiting old new n w s f heard cause after is e = (ends_follow n w s f heard cause after is e.1 e.2, e.0)
+ends_heeds turn.Yielded old new n w s f heard cause after is e = (ends_follow n w s f heard cause after is e.1 e.2, e.0)
 ends_heeds (turn.Over status.NoMemory) old new n w s f heard cause after is e = e
 ends_heeds (turn.Over status.HandedOff) old new n w s f heard cause after is e = (e.0.0, ends_follow n w s f heard cause after is e.1 e.2, e.0.1)
 ends_heeds (turn.Over status.Ended) old new n w s f heard cause after is e = (e.0.0, ends_follow n w s f heard cause after is e.1 e.2, e.0.1)
@@ -135,6 +139,7 @@ pub heeds_less : (t : Turn) (old new : Logged) (s : Running) (P Q : Open → Cal
     ((o : Open) (call : Call) → Q o call → P o call) → Heeds t s P (seen n w st) after old new → Heeds t s Q (seen n w st') after old new
 heeds_less turn.More old new s P Q n w st st' after less h = (follows_less s P Q n w st st' after less h.0, h.1)
 heeds_less turn.Waiting old new s P Q n w st st' after less h = (follows_less s P Q n w st st' after less h.0, h.1)
+heeds_less turn.Yielded old new s P Q n w st st' after less h = (follows_less s P Q n w st st' after less h.0, h.1)
 heeds_less (turn.Over status.NoMemory) old new s P Q n w st st' after less h = h
 heeds_less (turn.Over status.HandedOff) old new s P Q n w st st' after less h = (h.0, follows_less s P Q n w st st' after less h.1, h.2)
 heeds_less (turn.Over status.Ended) old new s P Q n w st st' after less h = (h.0, follows_less s P Q n w st st' after less h.1, h.2)
@@ -155,18 +160,19 @@ still_sound n w s f f1 sound same short = record {
   w = sound.w;
   opens = sound.opens;
   ports = rw (same.own_port, same.number) sound.ports;
-  well = (sound.well.0, rw same.name sound.well.1, short);
+  well = (rw same.name sound.well.0, short);
   short = sound.short;
 }
 
 -- an open's end, by the turn
 pub ends_of : (t : Turn) (old new : Logged) (acts : Acts) (cause : Cause) (s : Running) (f : Fetch) (before after : Seen) → IsTurn t after.stage →
     Puts old new (out_texts (step before.used ∷ (acts_records before.world.net f.number acts ++ (ended f.number cause ∷ [])
-    ++ conclusion_records s.depth (conclusion cause f.boots (image_of f.name f.body [] f.uri) before.world.images)))) →
+    ++ conclusion_records (conclusion cause f.boots (image_of f.name f.body [] f.uri) before.world.images)))) →
     StandsFor after (at before.used (phase_after (unbound before.world f.own_port) s (conclusion cause f.boots (image_of f.name f.body [] f.uri) before.world.images))) →
     EndsOpen t acts cause s f before after old new
 ends_of turn.More old new acts cause s f before after is p st = (is, p, st)
 ends_of turn.Waiting old new acts cause s f before after is p st = (is, p, st)
+ends_of turn.Yielded old new acts cause s f before after is p st = (is, p, st)
 ends_of (turn.Over status.NoMemory) old new acts cause s f before after is p st = absurd is.0
 ends_of (turn.Over status.HandedOff) old new acts cause s f before after is p st = (is, p, st)
 ends_of (turn.Over status.Ended) old new acts cause s f before after is p st = (is, p, st)
@@ -179,8 +185,20 @@ ends_of (turn.Over status.WriteFault) old new acts cause s f before after is p s
 ends_of (turn.Over status.AttachFault) old new acts cause s f before after is p st = (is, p, st)
 ends_of (turn.Over status.TooManyRecords) old new acts cause s f before after is p st = (is, p, st)
 
--- the phase behind a conclusion doesn't depend on the images before it
-pub same_phase : (w v : World) (s : Running) (c : Conclusion) → ((list : ImageList) → world_with_images w list ≡ world_with_images v list) → phase_after w s c ≡ phase_after v s c
-same_phase w v s (keeps list) e = ap (λ x. running x (further s ok)) (e list)
-same_phase w v s (fails cause) e = refl
-same_phase w v s (boots list kernel) e = refl
+-- where a command fails this holds
+abbrev pub IfFails : Conclusion → Type 0 → Type 0
+IfFails (keeps list) T = Unit {0}
+IfFails (fails cause) T = T
+IfFails (boots list kernel) T = Unit {0}
+
+-- the phase behind a conclusion doesn't depend on the images before it, unless it fails
+pub same_phase : (w v : World) (s : Running) (c : Conclusion) → ((list : ImageList) → world_with_images w list ≡ world_with_images v list) → IfFails c (w ≡ v) → phase_after w s c ≡ phase_after v s c
+same_phase w v s (keeps list) e same = ap (λ x. running x (with_result s ok)) (e list)
+same_phase w v s (fails cause) e same = ap (λ x. running x (with_result s cause)) same
+same_phase w v s (boots list kernel) e same = refl
+
+-- a command that fails leaves the images
+pub fails_keeps : (c : Concluded) (before after : ImageList) (w v : World) → HasKept c before after → (after ≡ before → w ≡ v) → IfFails (conclusion_of c after) (w ≡ v)
+fails_keeps concluded.Keeps before after w v kept same = tt
+fails_keeps (concluded.Fails cause) before after w v kept same = same kept
+fails_keeps (concluded.Boots kernel) before after w v kept same = tt

@@ -7,7 +7,7 @@ use Rattle.std.proofs.lemmas.Option.{same_Some}
 use Rattle.nb_terms.specs.declared.cause.Cause.{Cause}
 use Rattle.nb_terms.specs.declared.acts.Acts.{Acts}
 use Rattle.nb_terms.specs.declared.acts.SendTo.{SendTo}
-use Rattle.nb_defs.specs.Causes.{is_ok_cause, usage}
+use Rattle.nb_defs.specs.Causes.{ok, is_ok_cause, usage}
 use Rattle.nb_defs.specs.Commands.{CommandOutcome as Result, command_outcome, refused, is_option}
 use Rattle.nb_defs.specs.Records.{In, frame, Out, step, sent, enter, result, ended}
 use Rattle.nb_stack.specs.Client.{Client}
@@ -26,10 +26,11 @@ use Rattle.nb_image.specs.Images.{ImageList, image_place, put_image, refusal}
 use Rattle.nb_image.specs.Kinds.{kind_of}
 use Rattle.nb_engine.specs.declared.world.World.{World}
 use Rattle.nb_engine.specs.World.{with_net, world_later, unbound}
-use Rattle.nb_engine.specs.Effects.{Wanted, Effect, says, asks, asked_for, fetch, effect, too_long_uri, full_opens, bad_uri}
+use Rattle.nb_engine.specs.Running.{Running, anew, no_label}
+use Rattle.nb_engine.specs.Effects.{Wanted, Effect, says, asks, goes, asked_for, fetch, goto_label, effect, too_long_uri, full_opens, bad_uri}
 use Rattle.nb_engine.specs.Opens.{Open, with_entry, body_of, acts_records, advance_records, sends_records, send_records, try_records, has_route, end_of, is_over_limit, too_large_image, request_of, begun_for, opened_record}
 use Rattle.nb_engine.specs.Conclusions.{Conclusion, keeps, fails, boots, conclusion, stored, taken_in, selected_in, place_for, image_from, conclusion_records, handoff_records, is_bootable, not_bootable}
-use Rattle.nb_engine.specs.Machine.{Machine, Phase, Running, ready, running, waiting, handing, left, handed_off, stopped, Hears, goes_on, is_over, Begins, runs, refuses, passes_by, brings, passes_time, switches_off, Move, passes, does, leaves, asks_for, finds_no_route, ends, hands, has_handed, Path, nothing, uses, moves, phase_after, concluded, command_records, command_record, prints, reply_records}
+use Rattle.nb_engine.specs.Machine.{Machine, Phase, ready, running, waiting, yielded, handing, left, handed_off, stopped, Hears, goes_on, is_over, Begins, runs, refuses, passes_by, brings, passes_time, switches_off, goes_on_by_frame, goes_on_by_tick, goes_off, Move, passes, is_left, yields, does, leaves, jumps, finds_no_label, asks_for, finds_no_route, no_route, hands, has_handed, Path, nothing, uses, moves, phase_after, concluded, command_records, command_record, prints, reply_records}
 use Rattle.nb_engine.specs.Honesty.{file_of, Honest, IsServers, AreServers, IsNoPart, HaveNoParts, HandsFiles}
 use Rattle.nb_engine.proofs.HandingLemmas.{all_append, all_set}
 
@@ -57,6 +58,7 @@ Holds : Store → List Out → Phase → Type 0
 Holds store outs ready = HaveNoParts outs
 Holds store outs (running w s) = AreServers store w.images.images × HaveNoParts outs
 Holds store outs (waiting w s o) = AreServers store w.images.images × (HaveNoParts outs × Asks store o)
+Holds store outs (yielded w s) = AreServers store w.images.images × HaveNoParts outs
 Holds store outs (handing rest) = Hands store outs rest
 Holds store outs (left cause) = Unit {0}
 Holds store outs handed_off = Hands store outs []
@@ -90,10 +92,10 @@ no_acts : (net : Client) (k : ℕ) (acts : Acts) → HaveNoParts (acts_records n
 unfolding acts_records
 no_acts net k acts = more (advance_records k acts.advance) (sends_records net k acts.tried acts.sends.items) (no_advance k acts.advance) (no_sends net k acts.tried acts.sends.items)
 
-no_conclusion : (depth : ℕ) (c : Conclusion) → HaveNoParts (conclusion_records depth c)
-no_conclusion depth (keeps list) = (tt, tt)
-no_conclusion depth (fails cause) = (tt, (tt, tt))
-no_conclusion depth (boots list kernel) = (tt, tt)
+no_conclusion : (c : Conclusion) → HaveNoParts (conclusion_records c)
+no_conclusion (keeps list) = (tt, tt)
+no_conclusion (fails cause) = (tt, tt)
+no_conclusion (boots list kernel) = (tt, tt)
 
 no_prints : (p : Option (List ℕ)) → HaveNoParts (prints p)
 no_prints None = tt
@@ -110,6 +112,7 @@ no_reply (b ∷ bytes) = (tt, tt)
 abbrev Names : Effect → Type 0
 Names (says o) = Unit {0}
 Names (asks wanted) = tftp_target wanted.uri ≡ Some wanted.target
+Names (goes name) = Unit {0}
 
 either_names : (t : Bool) (a b : Effect) → Names a → Names b → Names (cond t a b)
 either_names true a b p q = p
@@ -131,12 +134,18 @@ fetch_names opens booting (uri ∷ []) =
     either_names (is_option uri) (says (refused usage)) (option_map_or (asked_for opens booting uri) (tftp_target uri) (says (refused bad_uri))) tt (target_names opens booting uri (tftp_target uri) refl)
 fetch_names opens booting (uri ∷ w ∷ ws) = tt
 
+goto_names : (args : List (List ℕ)) → Names (goto_label args)
+goto_names [] = tt
+goto_names (name ∷ []) = either_names (is_option name) (says (refused usage)) (goes name) tt tt
+goto_names (name ∷ w ∷ ws) = tt
+
 effect_names : (opens : ℕ) (ws : List (List ℕ)) → Names (effect opens ws)
 unfolding effect
 effect_names opens [] = tt
 effect_names opens (name ∷ args) =
     either_names (bytes_eq name (codes "imgfetch")) (fetch opens false args) _ (fetch_names opens false args)
-    (either_names (bytes_eq name (codes "imgexec")) (fetch opens true args) (says (command_outcome (name ∷ args))) (fetch_names opens true args) tt)
+    (either_names (bytes_eq name (codes "imgexec")) (fetch opens true args) _ (fetch_names opens true args)
+    (either_names (bytes_eq name (codes "goto")) (goto_label args) (says (command_outcome (name ∷ args))) (goto_names args) tt))
 
 wanted_names : (opens : ℕ) (ws : List (List ℕ)) (wanted : Wanted) → effect opens ws ≡ asks wanted → tftp_target wanted.uri ≡ Some wanted.target
 wanted_names opens ws wanted e = subst Names e (effect_names opens ws)
@@ -201,11 +210,11 @@ image_is store o e cause named carries meets over k = record {
 }
 
 -- where a conclusion leads
-leads_on : (store : Store) (outs : List Out) (w : World) (s : Running) (c : Conclusion) → Leaves store c → HaveNoParts outs → Holds store outs (phase_after w s c)
+leads_on : (store : Store) (outs : List Out) (w : World) (s : Running) (c : Conclusion) → Leaves store c → AreServers store w.images.images → HaveNoParts outs → Holds store outs (phase_after w s c)
 unfolding Holds
-leads_on store outs w s (keeps list) p none = (p, none)
-leads_on store outs w s (fails cause) p none = tt
-leads_on store outs w s (boots list kernel) p none =
+leads_on store outs w s (keeps list) p files none = (p, none)
+leads_on store outs w s (fails cause) p files none = (files, none)
+leads_on store outs w s (boots list kernel) p files none =
     record { images = list.images; kernel = kernel; files = p; before = outs; behind = []; none = none; whole = sym (append-nil outs); records = refl }
 
 -- a datagram or a time
@@ -226,12 +235,12 @@ hears_holds store outs k w s o call news phase (is_over _ _ _ _ acts cause meets
     let all = subst (CarriesFile (file_of store o.wanted.target)) (sym (got-append o.entries e)) carries in
     let c = concluded w (with_entry o e) cause in
     let left_with : Leaves store c = conclusion_leaves store cause o.wanted.boots (image_from (with_entry o e)) w.images (image_is store o e cause named all meets over) files in
-    let parts_none : HaveNoParts (step k ∷ (acts_records w.net o.number acts ++ (ended o.number cause ∷ []) ++ conclusion_records s.depth c)) = (
+    let parts_none : HaveNoParts (step k ∷ (acts_records w.net o.number acts ++ (ended o.number cause ∷ []) ++ conclusion_records c)) = (
       tt,
-      more (acts_records w.net o.number acts ++ (ended o.number cause ∷ [])) (conclusion_records s.depth c)
-          (more (acts_records w.net o.number acts) (ended o.number cause ∷ []) (no_acts w.net o.number acts) (tt, tt)) (no_conclusion s.depth c),
+      more (acts_records w.net o.number acts ++ (ended o.number cause ∷ [])) (conclusion_records c)
+          (more (acts_records w.net o.number acts) (ended o.number cause ∷ []) (no_acts w.net o.number acts) (tt, tt)) (no_conclusion c),
     ) in
-    leads_on store _ (unbound w o.begun.own_port) s c left_with (more outs _ none parts_none)
+    leads_on store _ (unbound w o.begun.own_port) s c left_with files (more outs _ none parts_none)
 
 -- nothing was received: that is a part of any file
 nothing_carried : (bytes : List ℕ) → CarriesFile bytes []
@@ -241,33 +250,43 @@ nothing_carried bytes = λ port fixed. tt
 begins_holds : (store : Store) (ins : List In) (outs : List Out) (m : Machine) (r : In) (news : List Out) (m' : Machine) → Begins m r news m' → Path ins outs m →
     Honest store (ins ++ r ∷ []) → Holds store outs m.phase → Holds store (outs ++ news) m'.phase
 unfolding Holds
-begins_holds store ins outs m r news m' (runs n s valid plain) path honest h = (tt, more outs (step (n + 1) ∷ enter 1 ∷ []) h (tt, (tt, tt)))
-begins_holds store ins outs m r news m' (refuses n s valid plain) path honest h = tt
+begins_holds store ins outs m r news m' (runs n s code valid reading) path honest h = (tt, more outs (step (n + 1) ∷ enter 1 ∷ []) h (tt, (tt, tt)))
+begins_holds store ins outs m r news m' (refuses n s cause valid refusal) path honest h = tt
 begins_holds store ins outs m r news m' (passes_by n w s o bytes reply out net valid takes none) path honest h =
     (h.0, (more outs (step (n + 1) ∷ reply_records reply) h.1.0 (tt, no_reply reply), h.1.1))
 begins_holds store ins outs m r news m' (brings n w s o bytes reply out net port body a phase valid takes heard hears) path honest h =
-    hears_holds store outs (n + 1) (with_net w net) s o (came (received (n + 1) port body) w.time) a phase hears h.0 h.1.0 h.1.1.named
+    hears_holds store outs (n + 1) (with_net w net) (anew s) o (came (received (n + 1) port body) w.time) a phase hears h.0 h.1.0 h.1.1.named
     (honest ins [] bytes reply body outs n w s o out net port refl path takes heard)
 begins_holds store ins outs m r news m' (passes_time n w s o ms a phase valid hears) path honest h =
-    hears_holds store outs (n + 1) (world_later w ms) s o (ticked (w.time + ms)) a phase hears h.0 h.1.0 h.1.1.named
+    hears_holds store outs (n + 1) (world_later w ms) (anew s) o (ticked (w.time + ms)) a phase hears h.0 h.1.0 h.1.1.named
     (subst (CarriesFile (file_of store o.wanted.target)) (sym (append-nil (got o.entries))) h.1.1.carries)
 begins_holds store ins outs m r news m' (switches_off n w s o) path honest h = tt
+begins_holds store ins outs m r news m' (goes_on_by_frame n w s bytes reply seen net valid takes) path honest h =
+    (h.0, more outs (step (n + 1) ∷ reply_records reply) h.1 (tt, no_reply reply))
+begins_holds store ins outs m r news m' (goes_on_by_tick n w s ms valid) path honest h = (h.0, more outs (step (n + 1) ∷ []) h.1 (tt, tt))
+begins_holds store ins outs m r news m' (goes_off n w s) path honest h = tt
 
 -- a move
 moves_holds : (store : Store) (outs : List Out) (m : Machine) (news : List Out) (m' : Machine) → Move m news m' → Holds store outs m.phase → Holds store (outs ++ news) m'.phase
 unfolding Holds
-moves_holds store outs m news m' (passes n w s line there none) h = (h.0, more outs [] h.1 tt)
-moves_holds store outs m news m' (does n w s line c cs o there are comes stays) h = (h.0, more outs (command_records s (c ∷ cs) o) h.1 (no_command s (c ∷ cs) o))
-moves_holds store outs m news m' (leaves n w s line c cs o there are comes goes) h = tt
-moves_holds store outs m news m' (asks_for n w s line c cs wanted there are comes route) h = (
+moves_holds store outs m news m' (passes n w s t comes) h = (h.0, more outs [] h.1 tt)
+moves_holds store outs m news m' (is_left n w s cause comes) h = tt
+moves_holds store outs m news m' (yields n w s c cs comes full) h = (h.0, more outs [] h.1 tt)
+moves_holds store outs m news m' (does n w s c cs o comes few is stays) h = (h.0, more outs (command_records s (c ∷ cs) o) h.1 (no_command s (c ∷ cs) o))
+moves_holds store outs m news m' (leaves n w s c cs o comes few is goes_out) h = tt
+moves_holds store outs m news m' (jumps n w s c cs name line comes few is there) h =
+    (h.0, more outs (command_records s (c ∷ cs) (refused ok)) h.1 (no_command s (c ∷ cs) (refused ok)))
+moves_holds store outs m news m' (finds_no_label n w s c cs name comes few is none) h =
+    (h.0, more outs (command_records s (c ∷ cs) (refused no_label)) h.1 (no_command s (c ∷ cs) (refused no_label)))
+moves_holds store outs m news m' (asks_for n w s c cs wanted comes few is route) h = (
   h.0,
   (
     more outs (command_record s (c ∷ cs) ∷ opened_record w wanted ∷ send_records w.net w.opens (Some 1) (request_of (begun_for w wanted))) h.1 (tt, (tt, no_send w.net w.opens (Some 1) (request_of (begun_for w wanted)))),
-    record { named = wanted_names w.opens (c ∷ cs) wanted comes; carries = nothing_carried (file_of store wanted.target) },
+    record { named = wanted_names w.opens (c ∷ cs) wanted is; carries = nothing_carried (file_of store wanted.target) },
   ),
 )
-moves_holds store outs m news m' (finds_no_route n w s line c cs wanted there are comes route) h = tt
-moves_holds store outs m news m' (ends n w s there) h = tt
+moves_holds store outs m news m' (finds_no_route n w s c cs wanted comes few is route) h =
+    (h.0, more outs (command_record s (c ∷ cs) ∷ opened_record w wanted ∷ ended w.opens (no_route wanted.target.server) ∷ conclusion_records (fails (no_route wanted.target.server))) h.1 (tt, (tt, (tt, (tt, tt)))))
 moves_holds store outs m news m' (hands n r rest) h = record {
   images = h.images;
   kernel = h.kernel;

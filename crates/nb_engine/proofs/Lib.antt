@@ -6,6 +6,8 @@ pub mod TurnLemmas
 pub mod Hearings
 pub mod Heedings
 pub mod Growth
+pub mod Measures
+pub mod Comings
 pub mod Moves
 pub mod HandingLemmas
 pub mod HonestyLaws

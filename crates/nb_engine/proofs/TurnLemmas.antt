@@ -29,6 +29,7 @@ left_end status.TooManyRecords e = absurd e
 pub turn_acts : (t : Turn) (old new : Logged) (used : List In) (before after : Seen) → IsTurn t after.stage → Grows used before after old new → AnswersTurn t used before after old new
 turn_acts turn.More old new used before after is g = (g, is)
 turn_acts turn.Waiting old new used before after is g = (g, is)
+turn_acts turn.Yielded old new used before after is g = (g, is)
 turn_acts (turn.Over status.NoMemory) old new used before after is g = absurd is.0
 turn_acts (turn.Over status.HandedOff) old new used before after is g = (is.0, g, is.1)
 turn_acts (turn.Over status.Ended) old new used before after is g = (is.0, g, is.1)

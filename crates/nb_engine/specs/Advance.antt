@@ -9,10 +9,11 @@ use Rattle.nb_engine.specs.declared.world.World.{World}
 use Rattle.nb_engine.specs.declared.fetch.Fetch.{Fetch}
 use Rattle.nb_engine.specs.declared.client.Turn.{Turn}
 use Rattle.nb_engine.specs.declared.client.Turn.TheVariants as turn
-use Rattle.nb_engine.specs.World.{own_port, with_open}
+use Rattle.nb_engine.specs.World.{own_port, with_open, with_ended_open}
 use Rattle.nb_engine.specs.Opens.{has_route, send_records}
 use Rattle.nb_engine.specs.Conclusions.{fails, conclusion_records}
-use Rattle.nb_engine.specs.Machine.{Running, no_route}
+use Rattle.nb_engine.specs.Running.{Running, entered, further}
+use Rattle.nb_engine.specs.Machine.{no_route}
 use Rattle.nb_engine.specs.Seen.{Seen, seen, standing}
 use Rattle.nb_engine.specs.Concluding.{IsTurn}
 use Rattle.nb_engine.specs.declared.stage.Stage.{Stage}
@@ -35,14 +36,14 @@ abbrev pub IfOne : List SendTo → (SendTo → Type 0) → Type 0
 IfOne [] P = ⊥
 IfOne (send ∷ sends) P = P send
 
--- the request was put and the command waits, or there is no way and the script was left
+-- the request was put and the command waits, or there is no way and the list goes on
 pub data Requested (t : Turn) (s : Running) (f : Fetch) (acts : Acts) (send : SendTo) (before after : Seen) (old new : Logged) : Type 0 where
   waits : has_route before.world.net send ≡ true → t ≡ turn.Waiting →
       Puts old new (out_texts (send_records before.world.net f.number acts.tried send)) →
-      after ≡ seen before.used (with_open before.world) (stage.Waiting s f) → Requested t s f acts send before after old new
-  fails_so : has_route before.world.net send ≡ false → IsTurn t (stage.Left (no_route f.server.0)) →
-      Puts old new (out_texts (ended f.number (no_route f.server.0) ∷ conclusion_records s.depth (fails (no_route f.server.0)))) →
-      after ≡ seen before.used before.world (stage.Left (no_route f.server.0)) → Requested t s f acts send before after old new
+      after ≡ seen before.used (with_open before.world) (stage.Waiting (entered s) f) → Requested t s f acts send before after old new
+  fails_so : has_route before.world.net send ≡ false → t ≡ turn.More →
+      Puts old new (out_texts (ended f.number (no_route f.server.0) ∷ conclusion_records (fails (no_route f.server.0)))) →
+      after ≡ seen before.used (with_ended_open before.world) (stage.Running (further s (no_route f.server.0))) → Requested t s f acts send before after old new
 
 abbrev pub Requests : Turn → Running → Fetch → Acts → Seen → Seen → Logged → Logged → Type 0
 Requests t s f acts before after old new = IfOne acts.sends.items (λ send. Requested t s f acts send before after old new)

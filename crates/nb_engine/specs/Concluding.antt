@@ -5,13 +5,14 @@ use Rattle.nb_terms.specs.declared.acts.Acts.{Acts}
 use Rattle.nb_defs.specs.Records.{out_texts, step, ended}
 use Rattle.nb_record.specs.Logged.{Logged, Puts}
 use Rattle.nb_image.specs.Images.{ImageList, image_of}
-use Rattle.nb_engine.specs.Machine.{Running, phase_after, at}
+use Rattle.nb_engine.specs.Machine.{phase_after, at}
+use Rattle.nb_engine.specs.Running.{Running}
 use Rattle.nb_engine.specs.Opens.{acts_records}
 use Rattle.nb_engine.specs.Conclusions.{conclusion, conclusion_records}
 use Rattle.nb_engine.specs.World.{unbound}
 use Rattle.nb_engine.specs.Fetches.{conclusion_of}
 use Rattle.nb_engine.specs.Seen.{Seen, StandsFor}
-use Rattle.nb_engine.specs.Turns.{IsBusy, IsWaiting, IsOverWith, IsEnd}
+use Rattle.nb_engine.specs.Turns.{IsBusy, IsWaiting, HasYielded, IsOverWith, IsEnd}
 use Rattle.nb_engine.specs.declared.conclusion.Conclusion.{Conclusion as Concluded}
 use Rattle.nb_engine.specs.declared.conclusion.Conclusion.TheVariants as concluded
 use Rattle.nb_engine.specs.declared.fetch.Fetch.{Fetch}
@@ -30,11 +31,12 @@ IsPlaceFor (concluded.Boots kernel) list = kernel < length list.images
 abbrev pub IsTurn : Turn → Stage → Type 0
 IsTurn turn.More st = IsBusy st
 IsTurn turn.Waiting st = IsWaiting st
+IsTurn turn.Yielded st = HasYielded st
 IsTurn (turn.Over s) st = IsEnd s × IsOverWith st s
 
 -- the command's result was put, and the client stands where the conclusion leads
 pub record Concludes (t : Turn) (s : Running) (c : Concluded) (before after : Seen) (old new : Logged) : Type 0 where
-  pub puts : Puts old new (out_texts (conclusion_records s.depth (conclusion_of c before.world.images)))
+  pub puts : Puts old new (out_texts (conclusion_records (conclusion_of c before.world.images)))
   pub is_turn : IsTurn t after.stage
   pub stands : StandsFor after (at before.used (phase_after before.world s (conclusion_of c before.world.images)))
 
@@ -44,6 +46,6 @@ EndsOpen (turn.Over status.NoMemory) acts cause s f before after old new = new �
 EndsOpen t acts cause s f before after old new =
     IsTurn t after.stage
     × Puts old new (out_texts (step before.used ∷ (acts_records before.world.net f.number acts ++ (ended f.number cause ∷ [])
-    ++ conclusion_records s.depth (conclusion cause f.boots (image_of f.name f.body [] f.uri) before.world.images))))
+    ++ conclusion_records (conclusion cause f.boots (image_of f.name f.body [] f.uri) before.world.images))))
     × StandsFor after (at before.used (phase_after (unbound before.world f.own_port) s
     (conclusion cause f.boots (image_of f.name f.body [] f.uri) before.world.images)))

@@ -3,7 +3,7 @@ use Rattle.std.specs.Prelude.{ℕ, Bool, true, false, List, [], ◌∷◌, lengt
 use Rattle.std.specs.List.{flat_map}
 use Rattle.nb_terms.specs.declared.cause.Cause.{Cause}
 use Rattle.nb_defs.specs.Causes.{ok, plain_cause, is_ok_cause}
-use Rattle.nb_defs.specs.Records.{Out, result, leave, part}
+use Rattle.nb_defs.specs.Records.{Out, result, part}
 use Rattle.nb_image.specs.declared.image.Image.{Image}
 use Rattle.nb_image.specs.declared.error.ImageError.{ImageError}
 use Rattle.nb_image.specs.declared.error.ImageError.TheVariants as error
@@ -67,11 +67,11 @@ stored None booting image list = taken_in booting image list
 abbrev pub conclusion : Cause → Bool → Image → ImageList → Conclusion
 conclusion cause booting image list = if is_ok_cause cause then stored (refusal image list.images) booting image list else fails cause
 
--- the result of the command; a failed one leaves its script
-abbrev pub conclusion_records : ℕ → Conclusion → List Out
-conclusion_records depth (keeps list) = result ok ∷ []
-conclusion_records depth (fails cause) = result cause ∷ leave depth cause ∷ []
-conclusion_records depth (boots list kernel) = result ok ∷ []
+-- the result of the command
+abbrev pub conclusion_records : Conclusion → List Out
+conclusion_records (keeps list) = result ok ∷ []
+conclusion_records (fails cause) = result cause ∷ []
+conclusion_records (boots list kernel) = result ok ∷ []
 
 -- a piece of a part of the hand-off
 abbrev pub piece_record : PartText → PieceText → Out

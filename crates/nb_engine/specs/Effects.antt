@@ -1,4 +1,4 @@
--- What a command comes to: it is over with an outcome, or it asks for a file.
+-- What a command comes to: it is over with an outcome, it asks for a file, or it goes to a label.
 use Rattle.std.specs.Prelude.{ℕ, ◌==◌, Bool, true, false, List, [], ◌∷◌, if◌then◌else◌, codes}
 use Rattle.std.specs.Option.{option_map_or}
 use Rattle.std.specs.Str.{bytes_eq}
@@ -28,6 +28,7 @@ pub record Wanted : Type 0 where
 pub data Effect : Type 0 where
   says : CommandOutcome → Effect
   asks : Wanted → Effect
+  goes : (name : List ℕ) → Effect
 
 -- the refusals in their order
 abbrev pub asked_for : ℕ → Bool → List ℕ → TftpTarget → Effect
@@ -42,10 +43,17 @@ fetch opens boots [] = says (refused usage)
 fetch opens boots (uri ∷ []) = if is_option uri then says (refused usage) else option_map_or (asked_for opens boots uri) (tftp_target uri) (says (refused bad_uri))
 fetch opens boots (uri ∷ w ∷ ws) = says (refused usage)
 
+-- `goto label`
+abbrev pub goto_label : List (List ℕ) → Effect
+goto_label [] = says (refused usage)
+goto_label (name ∷ []) = if is_option name then says (refused usage) else goes name
+goto_label (name ∷ w ∷ ws) = says (refused usage)
+
 -- what a command comes to, by its words and how many opens were made
 unfoldable pub effect : ℕ → List (List ℕ) → Effect
 effect opens [] = says (refused ok)
 effect opens (name ∷ args) =
     if bytes_eq name (codes "imgfetch") then fetch opens false args
     else if bytes_eq name (codes "imgexec") then fetch opens true args
+    else if bytes_eq name (codes "goto") then goto_label args
     else says (command_outcome (name ∷ args))

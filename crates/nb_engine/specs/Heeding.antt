@@ -5,11 +5,12 @@ use Rattle.nb_defs.specs.Records.{In, Out, out_texts, step, IsFrameRecord}
 use Rattle.nb_record.specs.Logged.{Logged, Puts}
 use Rattle.nb_stack.specs.Takes.{Outcome}
 use Rattle.nb_tftp.specs.History.{Call, entry, is_ended}
-use Rattle.nb_engine.specs.Machine.{Running, Phase, Hears, at}
+use Rattle.nb_engine.specs.Machine.{Phase, Hears, at}
+use Rattle.nb_engine.specs.Running.{Running}
 use Rattle.nb_engine.specs.Opens.{Open, with_entry, body_of, end_of, is_over_limit, heard_from}
 use Rattle.nb_engine.specs.Fetches.{IsFetchOf, IsLive}
 use Rattle.nb_engine.specs.Seen.{Seen, seen, StandsFor}
-use Rattle.nb_engine.specs.Turns.{AnswersTurn, IsBusy, IsWaiting, IsOverWith, IsEnd}
+use Rattle.nb_engine.specs.Turns.{AnswersTurn, IsBusy, IsWaiting, HasYielded, IsOverWith, IsEnd}
 use Rattle.nb_engine.specs.declared.fetch.Fetch.{Fetch}
 use Rattle.nb_engine.specs.declared.fetch.Heard.{Heard}
 use Rattle.nb_engine.specs.declared.status.Status.TheVariants as status
@@ -32,6 +33,7 @@ pub record Follows (s : Running) (P : Open → Call → Type 0) (before after : 
 abbrev pub Heeds : Turn → Running → (Open → Call → Type 0) → Seen → Seen → Logged → Logged → Type 0
 Heeds turn.More s P before after old new = Follows s P before after old new × IsBusy after.stage
 Heeds turn.Waiting s P before after old new = Follows s P before after old new × IsWaiting after.stage
+Heeds turn.Yielded s P before after old new = Follows s P before after old new × HasYielded after.stage
 Heeds (turn.Over status.NoMemory) s P before after old new = new ≡ old
 Heeds (turn.Over t) s P before after old new = IsEnd t × Follows s P before after old new × IsOverWith after.stage t
 

@@ -12,7 +12,8 @@ use Rattle.nb_uri.specs.Targets.{TftpTarget, tftp_target}
 use Rattle.nb_engine.specs.declared.world.World.{World}
 use Rattle.nb_engine.specs.Opens.{Open, heard_from}
 use Rattle.nb_engine.specs.Conclusions.{handoff_records}
-use Rattle.nb_engine.specs.Machine.{Running, at, waiting, Path}
+use Rattle.nb_engine.specs.Machine.{at, waiting, Path}
+use Rattle.nb_engine.specs.Running.{Running}
 
 -- the file that a server holds under a path
 abbrev pub file_of : (ℕ → List ℕ → List ℕ) → TftpTarget → List ℕ

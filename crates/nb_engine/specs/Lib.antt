@@ -2,11 +2,14 @@ pub mod World
 pub mod Effects
 pub mod Opens
 pub mod Conclusions
+pub mod FirstText
+pub mod Running
 pub mod Machine
 pub mod StatusNumber
 pub mod CommandWords
-pub mod NextLine
 pub mod Steps
+pub mod NextCommand
+pub mod FirstScript
 pub mod Handings
 pub mod Fetches
 pub mod Seen

@@ -1,29 +1,24 @@
 -- The script machine: from which state which output records lead to which state, and the path of a
 -- whole run. It reads whole lists of records, and knows nothing of bytes, buffers or calls.
-use Rattle.std.specs.Prelude.{◌≡◌, ℕ, ◌+◌, Bool, true, false, not, ◌||◌, List, [], ◌∷◌, ◌++◌, Option, Some, None, slice_get, if◌then◌else◌}
+use Rattle.std.specs.Prelude.{◌≡◌, ◌<◌, ℕ, ◌+◌, true, false, List, [], ◌∷◌, ◌++◌, Option, Some, None, if◌then◌else◌}
 use Rattle.nb_terms.specs.declared.cause.Cause.{Cause}
 use Rattle.nb_terms.specs.declared.acts.Acts.{Acts}
-use Rattle.nb_defs.specs.Causes.{ok, not_script, is_ok_cause, plain_cause}
+use Rattle.nb_defs.specs.Causes.{ok, is_ok_cause, plain_cause}
 use Rattle.nb_defs.specs.Records.{Start, In, start, frame, tick, off, IsIn, Out, step, sent, text, command, result, enter, leave, ended}
-use Rattle.nb_defs.specs.ScriptText.{is_plain, lines, line_words}
-use Rattle.nb_defs.specs.Commands.{CommandOutcome}
+use Rattle.nb_defs.specs.ScriptLines.{Line, script, label_place}
+use Rattle.nb_defs.specs.Commands.{CommandOutcome, refused}
 use Rattle.nb_stack.specs.Client.{Client}
 use Rattle.nb_stack.specs.Takes.{Outcome as TakeOutcome, Takes}
 use Rattle.nb_tftp.specs.Received.{received}
 use Rattle.nb_tftp.specs.History.{Call, came, ticked, entry}
 use Rattle.nb_tftp.specs.Sentences.{Meets}
 use Rattle.nb_engine.specs.declared.world.World.{World}
-use Rattle.nb_engine.specs.World.{world_of, with_net, world_later, world_with_images, with_open, unbound}
-use Rattle.nb_engine.specs.Effects.{Wanted, says, asks, effect}
+use Rattle.nb_engine.specs.World.{world_of, with_net, world_later, world_with_images, with_open, with_ended_open, unbound}
+use Rattle.nb_engine.specs.FirstText.{first_reading, text_refusal}
+use Rattle.nb_engine.specs.Running.{Running, first_script, coming, passing, leaving, beginning, entered, further, behind_line, with_result, anew, no_label}
+use Rattle.nb_engine.specs.Effects.{Wanted, says, asks, goes, effect}
 use Rattle.nb_engine.specs.Opens.{Open, open_for, with_entry, body_of, request_of, has_route, send_records, acts_records, opened_record, heard_from, end_of, begun_for}
 use Rattle.nb_engine.specs.Conclusions.{Conclusion, keeps, fails, boots, conclusion, image_from, conclusion_records, handoff_records}
-
--- a script that runs: its depth, its text, how many of its lines were passed, and the last result
-pub record Running : Type 0 where
-  pub depth : ℕ
-  pub code : List ℕ
-  pub passed : ℕ
-  pub last : Cause
 
 -- where a run stands
 pub data Phase : Type 0 where
@@ -31,8 +26,10 @@ pub data Phase : Type 0 where
   ready : Phase
   -- this script runs
   running : World → Running → Phase
-  -- the command on the script's next line waits for this open
+  -- its last command waits for this open
   waiting : World → Running → Open → Phase
+  -- 4,096 commands began in this step, and another is to begin
+  yielded : World → Running → Phase
   -- an image is handed off, of which these records are still to come
   handing : (rest : List Out) → Phase
   -- the first script was left with this cause
@@ -54,33 +51,18 @@ fresh = record { used = 0; phase = ready }
 abbrev pub at : ℕ → Phase → Machine
 at used phase = record { used = used; phase = phase }
 
--- the first script, its first line passed
-abbrev pub first_script : List ℕ → Running
-first_script code = record { depth = 1; code = code; passed = 1; last = ok }
-
--- the line that a script comes to next
-abbrev pub next_line : Running → Option (List ℕ)
-next_line s = slice_get (lines s.code) s.passed
-
--- a line further, with this last result
-abbrev pub further : Running → Cause → Running
-further s last = record { depth = s.depth; code = s.code; passed = s.passed + 1; last = last }
-
+-- what a command prints
 abbrev pub prints : Option (List ℕ) → List Out
 prints None = []
 prints (Some bytes) = text bytes ∷ []
 
--- a command begins, on the line behind those passed
+-- a command begins, on the line passed last
 abbrev pub command_record : Running → List (List ℕ) → Out
-command_record s ws = command s.depth (s.passed + 1) 0 true ws
+command_record s ws = command s.depth s.passed s.place true ws
 
 -- the records of a command that is over at once: COMMAND, what it prints, RESULT
 abbrev pub command_records : Running → List (List ℕ) → CommandOutcome → List Out
 command_records s ws o = (command_record s ws ∷ []) ++ prints o.prints ++ (result o.cause ∷ [])
-
--- whether the script is left after a command: it says so, or it failed and nothing is joined to it
-abbrev pub ends_script : CommandOutcome → Bool
-ends_script o = o.leaves || not (is_ok_cause o.cause)
 
 -- there is no way to this server
 abbrev pub no_route : ℕ → Cause
@@ -90,10 +72,10 @@ no_route server = record { code = 9; a = server; b = 0 }
 abbrev pub stopped_cause : Cause
 stopped_cause = plain_cause 26
 
--- the run goes on, is over, or hands off
+-- the script goes on, or an image is handed off
 abbrev pub phase_after : World → Running → Conclusion → Phase
-phase_after w s (keeps list) = running (world_with_images w list) (further s ok)
-phase_after w s (fails cause) = left cause
+phase_after w s (keeps list) = running (world_with_images w list) (with_result s ok)
+phase_after w s (fails cause) = running w (with_result s cause)
 phase_after w s (boots list kernel) = handing (handoff_records kernel list.images)
 
 -- the command's conclusion where its open, which has come to its last datagram or time, ended with a cause
@@ -112,7 +94,7 @@ pub data Hears : World → Running → Open → Call → List Out → Phase → 
       Meets o.begun o.start (o.entries ++ entry call acts ∷ []) →
       end_of (body_of (with_entry o (entry call acts))) acts ≡ Some cause →
       Hears w s o call
-      (acts_records w.net o.number acts ++ (ended o.number cause ∷ []) ++ conclusion_records s.depth (concluded w (with_entry o (entry call acts)) cause))
+      (acts_records w.net o.number acts ++ (ended o.number cause ∷ []) ++ conclusion_records (concluded w (with_entry o (entry call acts)) cause))
       (phase_after (unbound w o.begun.own_port) s (concluded w (with_entry o (entry call acts)) cause))
 
 -- a reply to a frame, if there is one
@@ -121,61 +103,81 @@ reply_records [] = []
 reply_records (b ∷ bytes) = sent (b ∷ bytes) ∷ []
 
 -- A record is used, and its step begins: STEP with the record's number, and then what the record brings.
--- A first record comes before any other; each later one comes while a command waits.
+-- A first record comes before any other; each later one comes while a command waits, or where a step had all the
+-- commands that it may have.
 pub data Begins : Machine → In → List Out → Machine → Type 0 where
   -- the first script is entered
-  runs : (n : ℕ) (s : Start) → IsIn (start s) → is_plain s.script ≡ true →
-      Begins (at n ready) (start s) (step (n + 1) ∷ enter 1 ∷ []) (at (n + 1) (running (world_of s) (first_script s.script)))
+  runs : (n : ℕ) (s : Start) (code : List Line) → IsIn (start s) → first_reading s.script ≡ script code →
+      Begins (at n ready) (start s) (step (n + 1) ∷ enter 1 ∷ []) (at (n + 1) (running (world_of s) (first_script code)))
   -- a text that doesn't run is entered and left at once
-  refuses : (n : ℕ) (s : Start) → IsIn (start s) → is_plain s.script ≡ false →
-      Begins (at n ready) (start s) (step (n + 1) ∷ enter 1 ∷ leave 1 not_script ∷ []) (at (n + 1) (left not_script))
+  refuses : (n : ℕ) (s : Start) (cause : Cause) → IsIn (start s) → text_refusal (first_reading s.script) ≡ Some cause →
+      Begins (at n ready) (start s) (step (n + 1) ∷ enter 1 ∷ leave 1 cause ∷ []) (at (n + 1) (left cause))
   -- a frame brings the open nothing: it may change the neighbours, and be replied to
   passes_by : (n : ℕ) (w : World) (s : Running) (o : Open) (bytes reply : List ℕ) (seen : TakeOutcome) (net : Client) → IsIn (frame bytes) →
       Takes w.net bytes seen [] reply net → heard_from o.begun.server seen ≡ None →
-      Begins (at n (waiting w s o)) (frame bytes) (step (n + 1) ∷ reply_records reply) (at (n + 1) (waiting (with_net w net) s o))
+      Begins (at n (waiting w s o)) (frame bytes) (step (n + 1) ∷ reply_records reply) (at (n + 1) (waiting (with_net w net) (anew s) o))
   -- a frame brings it a datagram from its server
   brings : (n : ℕ) (w : World) (s : Running) (o : Open) (bytes reply : List ℕ) (seen : TakeOutcome) (net : Client) (port : ℕ) (body : List ℕ)
       (added : List Out) (phase : Phase) → IsIn (frame bytes) →
       Takes w.net bytes seen [] reply net → heard_from o.begun.server seen ≡ Some (port, body) →
-      Hears (with_net w net) s o (came (received (n + 1) port body) w.time) added phase →
+      Hears (with_net w net) (anew s) o (came (received (n + 1) port body) w.time) added phase →
       Begins (at n (waiting w s o)) (frame bytes) (step (n + 1) ∷ added) (at (n + 1) phase)
   -- time passes
   passes_time : (n : ℕ) (w : World) (s : Running) (o : Open) (ms : ℕ) (added : List Out) (phase : Phase) → IsIn (tick ms) →
-      Hears (world_later w ms) s o (ticked (w.time + ms)) added phase →
+      Hears (world_later w ms) (anew s) o (ticked (w.time + ms)) added phase →
       Begins (at n (waiting w s o)) (tick ms) (step (n + 1) ∷ added) (at (n + 1) phase)
   -- the power is switched off: the open ends, and the command gives no result
   switches_off : (n : ℕ) (w : World) (s : Running) (o : Open) →
       Begins (at n (waiting w s o)) off (step (n + 1) ∷ ended o.number stopped_cause ∷ []) (at (n + 1) stopped)
+  -- a script that had all its commands goes on with a frame
+  goes_on_by_frame : (n : ℕ) (w : World) (s : Running) (bytes reply : List ℕ) (seen : TakeOutcome) (net : Client) → IsIn (frame bytes) →
+      Takes w.net bytes seen [] reply net →
+      Begins (at n (yielded w s)) (frame bytes) (step (n + 1) ∷ reply_records reply) (at (n + 1) (running (with_net w net) (anew s)))
+  -- or with a time
+  goes_on_by_tick : (n : ℕ) (w : World) (s : Running) (ms : ℕ) → IsIn (tick ms) →
+      Begins (at n (yielded w s)) (tick ms) (step (n + 1) ∷ []) (at (n + 1) (running (world_later w ms) (anew s)))
+  -- or the power is switched off
+  goes_off : (n : ℕ) (w : World) (s : Running) → Begins (at n (yielded w s)) off (step (n + 1) ∷ []) (at (n + 1) stopped)
 
 -- What a run does next. Each rule has its condition, and one of them fits a script that runs and an image that is handed off.
 pub data Move : Machine → List Out → Machine → Type 0 where
-  -- a line without line_words is nothing
-  passes : (n : ℕ) (w : World) (s : Running) (line : List ℕ) → next_line s ≡ Some line → line_words line ≡ [] →
-      Move (at n (running w s)) [] (at n (running w (further s s.last)))
-  -- a command after which the script goes on
-  does : (n : ℕ) (w : World) (s : Running) (line : List ℕ) (c : List ℕ) (cs : List (List ℕ)) (o : CommandOutcome) → next_line s ≡ Some line → line_words line ≡ c ∷ cs →
-      effect w.opens (c ∷ cs) ≡ says o → ends_script o ≡ false →
+  -- the script passes a line or a command
+  passes : (n : ℕ) (w : World) (s t : Running) → coming s ≡ passing t → Move (at n (running w s)) [] (at n (running w t))
+  -- it is left
+  is_left : (n : ℕ) (w : World) (s : Running) (cause : Cause) → coming s ≡ leaving cause →
+      Move (at n (running w s)) (leave s.depth cause ∷ []) (at n (left cause))
+  -- its next command has to wait for the next step
+  yields : (n : ℕ) (w : World) (s : Running) (c : List ℕ) (cs : List (List ℕ)) → coming s ≡ beginning c cs → s.begun ≡ 4096 →
+      Move (at n (running w s)) [] (at n (yielded w s))
+  -- a command after which the list goes on
+  does : (n : ℕ) (w : World) (s : Running) (c : List ℕ) (cs : List (List ℕ)) (o : CommandOutcome) → coming s ≡ beginning c cs → s.begun < 4096 →
+      effect w.opens (c ∷ cs) ≡ says o → o.leaves ≡ false →
       Move (at n (running w s)) (command_records s (c ∷ cs) o) (at n (running w (further s o.cause)))
   -- a command with which the script is left
-  leaves : (n : ℕ) (w : World) (s : Running) (line : List ℕ) (c : List ℕ) (cs : List (List ℕ)) (o : CommandOutcome) → next_line s ≡ Some line → line_words line ≡ c ∷ cs →
-      effect w.opens (c ∷ cs) ≡ says o → ends_script o ≡ true →
+  leaves : (n : ℕ) (w : World) (s : Running) (c : List ℕ) (cs : List (List ℕ)) (o : CommandOutcome) → coming s ≡ beginning c cs → s.begun < 4096 →
+      effect w.opens (c ∷ cs) ≡ says o → o.leaves ≡ true →
       Move (at n (running w s)) (command_records s (c ∷ cs) o ++ (leave s.depth o.cause ∷ [])) (at n (left o.cause))
+  -- `goto`: the script goes on after the first line that is the label
+  jumps : (n : ℕ) (w : World) (s : Running) (c : List ℕ) (cs : List (List ℕ)) (name : List ℕ) (line : ℕ) → coming s ≡ beginning c cs → s.begun < 4096 →
+      effect w.opens (c ∷ cs) ≡ goes name → label_place name s.code ≡ Some line →
+      Move (at n (running w s)) (command_records s (c ∷ cs) (refused ok)) (at n (running w (behind_line s line)))
+  -- there is no such label
+  finds_no_label : (n : ℕ) (w : World) (s : Running) (c : List ℕ) (cs : List (List ℕ)) (name : List ℕ) → coming s ≡ beginning c cs → s.begun < 4096 →
+      effect w.opens (c ∷ cs) ≡ goes name → label_place name s.code ≡ None →
+      Move (at n (running w s)) (command_records s (c ∷ cs) (refused no_label)) (at n (running w (further s no_label)))
   -- a command that asks for a file: its open begins, and it waits
-  asks_for : (n : ℕ) (w : World) (s : Running) (line : List ℕ) (c : List ℕ) (cs : List (List ℕ)) (wanted : Wanted) → next_line s ≡ Some line → line_words line ≡ c ∷ cs →
+  asks_for : (n : ℕ) (w : World) (s : Running) (c : List ℕ) (cs : List (List ℕ)) (wanted : Wanted) → coming s ≡ beginning c cs → s.begun < 4096 →
       effect w.opens (c ∷ cs) ≡ asks wanted → has_route w.net (request_of (begun_for w wanted)) ≡ true →
       Move (at n (running w s))
       (command_record s (c ∷ cs) ∷ opened_record w wanted ∷ send_records w.net w.opens (Some 1) (request_of (begun_for w wanted)))
-      (at n (waiting (with_open w) s (open_for w wanted)))
-  -- a command that asks for a file of a server to which there is no way
-  finds_no_route : (n : ℕ) (w : World) (s : Running) (line : List ℕ) (c : List ℕ) (cs : List (List ℕ)) (wanted : Wanted) → next_line s ≡ Some line → line_words line ≡ c ∷ cs →
+      (at n (waiting (with_open w) (entered s) (open_for w wanted)))
+  -- a command that asks for a file of a server to which there is no way: the open was made, and has ended
+  finds_no_route : (n : ℕ) (w : World) (s : Running) (c : List ℕ) (cs : List (List ℕ)) (wanted : Wanted) → coming s ≡ beginning c cs → s.begun < 4096 →
       effect w.opens (c ∷ cs) ≡ asks wanted → has_route w.net (request_of (begun_for w wanted)) ≡ false →
       Move (at n (running w s))
       (command_record s (c ∷ cs) ∷ opened_record w wanted ∷ ended w.opens (no_route wanted.target.server)
-      ∷ conclusion_records s.depth (fails (no_route wanted.target.server)))
-      (at n (left (no_route wanted.target.server)))
-  -- behind the last line the script is left with Ok
-  ends : (n : ℕ) (w : World) (s : Running) → next_line s ≡ None →
-      Move (at n (running w s)) (leave s.depth ok ∷ []) (at n (left ok))
+      ∷ conclusion_records (fails (no_route wanted.target.server)))
+      (at n (running (with_ended_open w) (further s (no_route wanted.target.server))))
   -- a piece of the image is handed off
   hands : (n : ℕ) (r : Out) (rest : List Out) → Move (at n (handing (r ∷ rest))) (r ∷ []) (at n (handing rest))
   -- all was handed off
@@ -198,6 +200,7 @@ abbrev pub shutdown_records : Phase → List Out
 shutdown_records ready = []
 shutdown_records (running w s) = []
 shutdown_records (waiting w s o) = ended o.number stopped_cause ∷ []
+shutdown_records (yielded w s) = []
 shutdown_records (handing rest) = []
 shutdown_records (left cause) = []
 shutdown_records handed_off = []

@@ -10,7 +10,8 @@ use Rattle.nb_engine.specs.declared.fetch.Fetch.{Fetch}
 use Rattle.nb_engine.specs.declared.handing.Handing.{Handing}
 use Rattle.nb_engine.specs.declared.stage.Stage.{Stage}
 use Rattle.nb_engine.specs.declared.stage.Stage.TheVariants as stage
-use Rattle.nb_engine.specs.Machine.{Running, Machine, at, ready, running, waiting, handing, left, handed_off, stopped}
+use Rattle.nb_engine.specs.Running.{Running}
+use Rattle.nb_engine.specs.Machine.{Machine, at, ready, running, waiting, yielded, handing, left, handed_off, stopped}
 use Rattle.nb_engine.specs.Opens.{Open}
 use Rattle.nb_engine.specs.Fetches.{IsLive}
 use Rattle.nb_engine.specs.Handings.{IsAt, records_left, AreShort}
@@ -33,16 +34,18 @@ abbrev pub HasPorts : Stage → List Port → Type 0
 HasPorts stage.Ready ports = Unit {0}
 HasPorts (stage.Running s) ports = ports ≡ []
 HasPorts (stage.Waiting s f) ports = ports ≡ with_port 17 f.own_port f.number []
+HasPorts (stage.Yielded s) ports = ports ≡ []
 HasPorts (stage.HandingOff h) ports = Unit {0}
 HasPorts (stage.Left cause) ports = Unit {0}
 HasPorts stage.HandedOff ports = Unit {0}
 HasPorts stage.Stopped ports = Unit {0}
 
--- a script that waits isn't at its end, and its fetch's name and body are an image's
+-- a fetch's name and body are an image's
 abbrev pub StandsWell : Stage → ImageList → Type 0
 StandsWell stage.Ready list = Unit {0}
 StandsWell (stage.Running s) list = Unit {0}
-StandsWell (stage.Waiting s f) list = (s.passed ≤ 4096) × (length f.name ≤ 268435456) × (length f.body ≤ 268435456)
+StandsWell (stage.Waiting s f) list = (length f.name ≤ 268435456) × (length f.body ≤ 268435456)
+StandsWell (stage.Yielded s) list = Unit {0}
 StandsWell (stage.HandingOff h) list = IsAt list h
 StandsWell (stage.Left cause) list = Unit {0}
 StandsWell stage.HandedOff list = Unit {0}
@@ -64,6 +67,7 @@ pub data StandsFor : Seen → Machine → Type 0 where
   as_running : (n : ℕ) (w : World) (s : Running) → StandsFor (seen n w (stage.Running s)) (at n (running w s))
   as_waiting : (n : ℕ) (w : World) (s : Running) (f : Fetch) (o : Open) → IsLive f o →
       StandsFor (seen n w (stage.Waiting s f)) (at n (waiting w s o))
+  as_yielded : (n : ℕ) (w : World) (s : Running) → StandsFor (seen n w (stage.Yielded s)) (at n (yielded w s))
   as_handing : (n : ℕ) (w : World) (h : Handing) (rest : List Out) → rest ≡ records_left w.images.images h →
       StandsFor (seen n w (stage.HandingOff h)) (at n (handing rest))
   as_left : (n : ℕ) (w : World) (cause : Cause) → StandsFor (seen n w (stage.Left cause)) (at n (left cause))

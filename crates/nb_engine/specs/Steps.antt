@@ -1,19 +1,30 @@
--- What a command that is over at once does to its script and to the log.
-use Rattle.std.specs.Prelude.{◌≡◌, ℕ, ◌-◌, length, true, false, List, [], ◌∷◌, ◌++◌, Option, Some, None}
+-- What a command that is over at once does to its script and to the log, and how many moves a script has left in a step.
+use Rattle.std.specs.Prelude.{◌≡◌, ℕ, ◌+◌, ◌-◌, ◌*◌, length, true, false, List, [], ◌∷◌, ◌++◌, Option, Some, None}
 use Rattle.nb_terms.specs.declared.cause.Cause.{Cause}
+use Rattle.nb_defs.specs.Causes.{ok}
 use Rattle.nb_record.specs.Logged.{Logged, Puts}
 use Rattle.nb_defs.specs.Records.{out_texts, leave}
-use Rattle.nb_defs.specs.Commands.{CommandOutcome}
-use Rattle.nb_defs.specs.ScriptText.{lines}
-use Rattle.nb_engine.specs.Machine.{Running, further, ends_script, command_records}
+use Rattle.nb_defs.specs.Commands.{CommandOutcome, refused}
+use Rattle.nb_engine.specs.Running.{Running, further, behind_line, no_label}
+use Rattle.nb_engine.specs.Machine.{command_records}
 
--- its records are put, and the script goes on or is left with its cause
+-- its records are put, and the list goes on, or the script is left with its cause
 abbrev pub Does : List (List ℕ) → CommandOutcome → Option Cause → Running → Running → Logged → Logged → Type 0
-Does ws o None s t old new = (ends_script o ≡ false) × (t ≡ further s o.cause)
+Does ws o None s t old new = (o.leaves ≡ false) × (t ≡ further s o.cause)
     × Puts old new (out_texts (command_records s ws o))
-Does ws o (Some cause) s t old new = (ends_script o ≡ true) × (cause ≡ o.cause) × (t ≡ s)
+Does ws o (Some cause) s t old new = (o.leaves ≡ true) × (cause ≡ o.cause)
     × Puts old new (out_texts (command_records s ws o ++ (leave s.depth cause ∷ [])))
 
--- how many lines a script has left
-abbrev pub lines_left : Running → ℕ
-lines_left s = length (lines s.code) - s.passed
+-- `goto` is put, and the script goes on after the line at the label's place, or in its list where there is none
+abbrev pub GoesTo : List (List ℕ) → Option ℕ → Running → Running → Logged → Logged → Type 0
+GoesTo ws (Some line) s t old new = (t ≡ behind_line s line)
+    × Puts old new (out_texts (command_records s ws (refused ok)))
+GoesTo ws None s t old new = (t ≡ further s no_label) × Puts old new (out_texts (command_records s ws (refused no_label)))
+
+-- how many moves stand at most between two commands: a list has at most 65
+abbrev pub moves_between : Running → ℕ
+moves_between s = length s.code * 67 + 67
+
+-- how many moves a script has left in this step at most
+abbrev pub moves_in : Running → ℕ
+moves_in s = (4096 - s.begun) * moves_between s + (length s.code - s.passed) * 67 + length s.rest

@@ -5,7 +5,7 @@ use Rattle.nb_defs.specs.Records.{In, start, frame, tick, off, Out, out_texts, e
 use Rattle.nb_record.specs.Logged.{Logged, Puts}
 use Rattle.nb_engine.specs.Machine.{Machine, Begins, Move, status_of, stopped_cause}
 use Rattle.nb_engine.specs.StatusNumber.{status_number}
-use Rattle.nb_engine.specs.Steps.{lines_left}
+use Rattle.nb_engine.specs.Steps.{moves_in}
 use Rattle.nb_engine.specs.Handings.{records_left}
 use Rattle.nb_engine.specs.Seen.{Seen, StandsFor}
 use Rattle.nb_engine.specs.declared.status.Status.{Status}
@@ -21,6 +21,7 @@ IsBusy (stage.Running s) = Unit {0}
 IsBusy (stage.HandingOff h) = Unit {0}
 IsBusy stage.Ready = ⊥
 IsBusy (stage.Waiting s f) = ⊥
+IsBusy (stage.Yielded s) = ⊥
 IsBusy (stage.Left cause) = ⊥
 IsBusy stage.HandedOff = ⊥
 IsBusy stage.Stopped = ⊥
@@ -30,10 +31,33 @@ abbrev pub IsWaiting : Stage → Type 0
 IsWaiting (stage.Waiting s f) = Unit {0}
 IsWaiting stage.Ready = ⊥
 IsWaiting (stage.Running s) = ⊥
+IsWaiting (stage.Yielded s) = ⊥
 IsWaiting (stage.HandingOff h) = ⊥
 IsWaiting (stage.Left cause) = ⊥
 IsWaiting stage.HandedOff = ⊥
 IsWaiting stage.Stopped = ⊥
+
+-- 4,096 commands began in this step, and another is to begin
+abbrev pub HasYielded : Stage → Type 0
+HasYielded (stage.Yielded s) = Unit {0}
+HasYielded stage.Ready = ⊥
+HasYielded (stage.Running s) = ⊥
+HasYielded (stage.Waiting s f) = ⊥
+HasYielded (stage.HandingOff h) = ⊥
+HasYielded (stage.Left cause) = ⊥
+HasYielded stage.HandedOff = ⊥
+HasYielded stage.Stopped = ⊥
+
+-- the next record is waited for
+abbrev pub IsResting : Stage → Type 0
+IsResting (stage.Waiting s f) = Unit {0}
+IsResting (stage.Yielded s) = Unit {0}
+IsResting stage.Ready = ⊥
+IsResting (stage.Running s) = ⊥
+IsResting (stage.HandingOff h) = ⊥
+IsResting (stage.Left cause) = ⊥
+IsResting stage.HandedOff = ⊥
+IsResting stage.Stopped = ⊥
 
 -- the run is over, with this status
 abbrev pub IsOverWith : Stage → Status → Type 0
@@ -43,20 +67,22 @@ IsOverWith stage.Stopped s = s ≡ status.Unfinished
 IsOverWith stage.Ready s = ⊥
 IsOverWith (stage.Running r) s = ⊥
 IsOverWith (stage.Waiting r f) s = ⊥
+IsOverWith (stage.Yielded r) s = ⊥
 IsOverWith (stage.HandingOff h) s = ⊥
 
--- the record may be used: START first, and each other record while a command waits
+-- the record may be used: START first, and each other one where the next is waited for
 abbrev pub MayUse : In → Stage → Type 0
 MayUse (start s) stage.Ready = Unit {0}
 MayUse (start s) (stage.Running r) = ⊥
 MayUse (start s) (stage.Waiting r f) = ⊥
+MayUse (start s) (stage.Yielded r) = ⊥
 MayUse (start s) (stage.HandingOff h) = ⊥
 MayUse (start s) (stage.Left cause) = ⊥
 MayUse (start s) stage.HandedOff = ⊥
 MayUse (start s) stage.Stopped = ⊥
-MayUse (frame bytes) st = IsWaiting st
-MayUse (tick ms) st = IsWaiting st
-MayUse off st = IsWaiting st
+MayUse (frame bytes) st = IsResting st
+MayUse (tick ms) st = IsResting st
+MayUse off st = IsResting st
 
 -- a record is used, or the machine moves
 abbrev pub Steps : List In → Machine → List Out → Machine → Type 0
@@ -89,15 +115,17 @@ IsEnd _ = ⊥
 abbrev pub AnswersTurn : Turn → List In → Seen → Seen → Logged → Logged → Type 0
 AnswersTurn turn.More used before after old new = Grows used before after old new × IsBusy after.stage
 AnswersTurn turn.Waiting used before after old new = Grows used before after old new × IsWaiting after.stage
+AnswersTurn turn.Yielded used before after old new = Grows used before after old new × HasYielded after.stage
 AnswersTurn (turn.Over status.NoMemory) used before after old new = new ≡ old
 AnswersTurn (turn.Over s) used before after old new = IsEnd s × Grows used before after old new × IsOverWith after.stage s
 
 -- how many moves are left at most
 abbrev pub moves_at : Stage → Seen → ℕ
-moves_at (stage.Running s) c = lines_left s
+moves_at (stage.Running s) c = moves_in s
 moves_at (stage.HandingOff h) c = length (records_left c.world.images.images h) + 1
 moves_at stage.Ready c = 0
 moves_at (stage.Waiting s f) c = 0
+moves_at (stage.Yielded s) c = 0
 moves_at (stage.Left cause) c = 0
 moves_at stage.HandedOff c = 0
 moves_at stage.Stopped c = 0
@@ -109,6 +137,7 @@ moves_left c = moves_at c.stage c
 abbrev pub IsNearer : Turn → Seen → Seen → Type 0
 IsNearer turn.More before after = moves_left after < moves_left before
 IsNearer turn.Waiting before after = Unit {0}
+IsNearer turn.Yielded before after = Unit {0}
 IsNearer (turn.Over s) before after = Unit {0}
 
 -- what a run that ends has still to close, and DONE
@@ -116,6 +145,7 @@ abbrev pub closing_records : Stage → ℕ → List Out
 closing_records (stage.Waiting s f) number = ended f.number stopped_cause ∷ done number ∷ []
 closing_records stage.Ready number = done number ∷ []
 closing_records (stage.Running s) number = done number ∷ []
+closing_records (stage.Yielded s) number = done number ∷ []
 closing_records (stage.HandingOff h) number = done number ∷ []
 closing_records (stage.Left cause) number = done number ∷ []
 closing_records stage.HandedOff number = done number ∷ []

@@ -60,3 +60,7 @@ with_open w = record {
 -- with a port freed
 abbrev pub unbound : World → ℕ → World
 unbound w own = with_net w (record w.net { ports = without 17 own w.net.ports })
+
+-- with one more open that was made, and has ended
+abbrev pub with_ended_open : World → World
+with_ended_open w = record { w = w.w; time = w.time; net = w.net; opens = w.opens + 1; images = w.images }

@@ -1,14 +1,15 @@
 ghost use Rattle.std.specs.Prelude.{◌≡◌, ◌<◌, ◌≤◌, ◌∷◌, [], length};
-ghost use Rattle.nb_defs.specs.Records.{out_texts, ended};
+ghost use Rattle.nb_defs.specs.Records.{out_texts, ended, leave};
 ghost use Rattle.nb_record.specs.Logged.{Puts};
 ghost use Rattle.nb_engine.specs.Turns.{AnswersTurn, IsNearer};
 ghost use Rattle.nb_engine.specs.Seen.{IsSound, seen, standing};
-ghost use Rattle.nb_engine.specs.Machine.{further, no_route};
+ghost use Rattle.nb_engine.specs.Machine.{no_route};
+ghost use Rattle.nb_engine.specs.Running.{entered, further};
 ghost use Rattle.nb_engine.specs.declared.client.Turn.TheVariants as turn;
-ghost use Rattle.nb_engine.specs.Effects.{effect, asks};
+ghost use Rattle.nb_engine.specs.Effects.{effect, asks, goes};
 ghost use Rattle.nb_engine.specs.CommandWords.{effect_of, wanted_of, TakesFewer, IsLocal, CanFetch};
-ghost use Rattle.nb_engine.specs.NextLine.{HasWords};
-ghost use Rattle.nb_engine.specs.World.{with_open, own_port as own_port_of};
+ghost use Rattle.nb_engine.specs.NextCommand.{HasCommand};
+ghost use Rattle.nb_engine.specs.World.{with_open, with_ended_open, own_port as own_port_of};
 ghost use Rattle.nb_engine.specs.Opens.{opened_record, has_route, send_records};
 ghost use Rattle.nb_engine.specs.Conclusions.{fails, conclusion_records};
 ghost use Rattle.nb_engine.specs.Concluding.{IsTurn};
@@ -25,7 +26,7 @@ use crate::world::own_port;
 use crate::{Client, Fetch, Handing, KeptFetch, RunningScript, Stage, Status, Turn};
 use nb_record::{Acts as Asked, Cause, Log, NoMemory, OutRec};
 use nb_stack::Stack;
-use nb_terms::{Plain, Reason};
+use nb_terms::Reason;
 use nb_uri::TFTP_PORT;
 use nb_wire::Word;
 
@@ -49,50 +50,75 @@ fn put_request(net: &mut Stack, number: u16, acts: &Asked, room: &mut Room, log:
 }
 
 impl Client {
-    /// Does the script's next line.
-    pub(crate) fn advance(&mut self, script: RunningScript, log: &mut Log) -> Turn
+    /// The script goes on: it passes a line or a command, does a command, or is left.
+    pub(crate) fn advance(&mut self, mut script: RunningScript, log: &mut Log) -> Turn
         requires sound { IsSound self.old.used self.old.world (stage.Running script) }
         ensures does { AnswersTurn result [] (standing self.old (stage.Running script)) self.new log.old log.new }
         ensures nearer { IsNearer result (standing self.old (stage.Running script)) self.new }
     {
         match script.next(self.alloc) {
-            Ok(Next::End) => {
-                let ok = Plain::Ok.cause();
-                script.put_leave(ok, log);
-                self.stage = Stage::Left(ok);
-                Turn::Over(Status::Ended)
+            Ok(Next::Passed) => self.run_on(script),
+            Ok(Next::Left(cause)) => self.leave(script, cause, log),
+            Ok(Next::Begins(list)) => self.command(script, list.as_slice(), log),
+            Ok(Next::Full) => {
+                self.stage = Stage::Yielded(script);
+                Turn::Yielded
             }
-            Ok(Next::List(list)) => self.line(script, list.as_slice(), log),
             Err(NoMemory) => Turn::Over(Status::NoMemory),
         }
     }
 
-    /// Does the words of the script's next line.
-    fn line(&mut self, script: RunningScript, words: &[Word], log: &mut Log) -> Turn
+    /// The script goes on.
+    fn run_on(&mut self, script: RunningScript) -> Turn
         requires sound { IsSound self.old.used self.old.world (stage.Running script) }
-        requires words { HasWords script words.now }
+        ensures turn { result ≡ turn.More }
+        ensures after { self.new ≡ standing self.old (stage.Running script) }
+    {
+        self.stage = Stage::Running(script);
+        Turn::More
+    }
+
+    /// The script is left with this cause.
+    fn leave(&mut self, script: RunningScript, cause: Cause, log: &mut Log) -> Turn
+        ensures turn { IsTurn result (stage.Left cause) }
+        ensures puts { Puts log.old log.new (out_texts (leave script.depth cause ∷ [])) }
+        ensures after { self.new ≡ standing self.old (stage.Left cause) }
+    {
+        script.put_leave(cause, log);
+        self.stage = Stage::Left(cause);
+        Turn::Over(status_after(cause))
+    }
+
+    /// Does a command of these words.
+    fn command(&mut self, script: RunningScript, words: &[Word], log: &mut Log) -> Turn
+        requires sound { IsSound self.old.used self.old.world (stage.Running script) }
+        requires words { HasCommand script words.now }
         ensures does { AnswersTurn result [] (standing self.old (stage.Running script)) self.new log.old log.new }
         ensures nearer { IsNearer result (standing self.old (stage.Running script)) self.new }
     {
-        if words.is_empty() {
-            return self.pass(script);
-        }
         match read_command(self.world.opens, words) {
             Ok(Command::Fetch(wanted)) => self.fetch(script, words, &wanted, log),
+            Ok(Command::Goto(label)) => self.go_to(script, words, label, log),
             command => self.carry_out(script, words, command, log),
         }
     }
 
-    /// Passes a line that is nothing.
-    fn pass(&mut self, mut script: RunningScript) -> Turn
+    /// Goes on after the label of this name.
+    fn go_to(
+        &mut self,
+        mut script: RunningScript,
+        words: &[Word],
+        label: &[u8],
+        log: &mut Log,
+    ) -> Turn
         requires sound { IsSound self.old.used self.old.world (stage.Running script) }
-        requires words { HasWords script [] }
-        ensures turn { result ≡ turn.More }
-        ensures after { self.new ≡ standing self.old (stage.Running (further script script.last)) }
+        requires words { HasCommand script words.now }
+        requires value { effect self.old.world.opens words.now ≡ goes label.now }
+        ensures does { AnswersTurn result [] (standing self.old (stage.Running script)) self.new log.old log.new }
+        ensures nearer { IsNearer result (standing self.old (stage.Running script)) self.new }
     {
-        script.pass();
-        self.stage = Stage::Running(script);
-        Turn::More
+        script.go_to(words, label, log);
+        self.run_on(script)
     }
 
     /// Does a command that is over at once.
@@ -104,8 +130,7 @@ impl Client {
         log: &mut Log,
     ) -> Turn
         requires sound { IsSound self.old.used self.old.world (stage.Running script) }
-        requires words { HasWords script words.now }
-        requires some { 0 < length words.now }
+        requires words { HasCommand script words.now }
         requires local { IsLocal command }
         requires fewer { TakesFewer words.now command }
         requires value { effect self.old.world.opens words.now ≡ effect_of command }
@@ -131,10 +156,7 @@ impl Client {
                 self.stage = Stage::Left(cause);
                 Turn::Over(status_after(cause))
             }
-            None => {
-                self.stage = Stage::Running(script);
-                Turn::More
-            }
+            None => self.run_on(script),
         }
     }
 
@@ -147,8 +169,7 @@ impl Client {
         log: &mut Log,
     ) -> Turn
         requires sound { IsSound self.old.used self.old.world (stage.Running script) }
-        requires words { HasWords script words.now }
-        requires some { 0 < length words.now }
+        requires words { HasCommand script words.now }
         requires value { effect self.old.world.opens words.now ≡ asks (wanted_of wanted.now) }
         requires file { CanFetch self.old.world.opens wanted.now }
         ensures does { AnswersTurn result [] (standing self.old (stage.Running script)) self.new log.old log.new }
@@ -172,8 +193,7 @@ impl Client {
         log: &mut Log,
     ) -> Turn
         requires sound { IsSound self.old.used self.old.world (stage.Running script) }
-        requires words { HasWords script words.now }
-        requires some { 0 < length words.now }
+        requires words { HasCommand script words.now }
         requires value { effect self.old.world.opens words.now ≡ asks (wanted_of wanted.now) }
         requires file { CanFetch self.old.world.opens wanted.now }
         ensures does { AnswersTurn result [] (standing self.old (stage.Running script)) self.new log.old log.new }
@@ -214,7 +234,7 @@ impl Client {
         });
     }
 
-    /// Sends the request. Without a way to the server the open has ended, and the script is left.
+    /// Sends the request. Without a way to the server the open has ended, and the script goes on.
     fn ask(
         &mut self,
         script: RunningScript,
@@ -223,8 +243,9 @@ impl Client {
         room: &mut Room,
         log: &mut Log,
     ) -> Turn
-        requires line { script.passed ≤ 4096 }
-        requires ports { self.old.world.net.ports ≡ [] }
+        requires early { script.begun < 4096 }
+        requires there { 0 < length script.rest }
+        requires sound { IsSound self.old.used self.old.world (stage.Running script) }
         requires own { IsNextFetch self.old.world fetch }
         requires udp { IsOneUdp acts.now }
         ensures { Requests result script fetch acts.now (standing self.old (stage.Running script)) self.new log.old log.new }
@@ -237,12 +258,13 @@ impl Client {
     }
 
     /// The script's command waits for this fetch, whose port is bound.
-    fn wait(&mut self, script: RunningScript, fetch: KeptFetch) -> Turn
-        requires line { script.passed ≤ 4096 }
+    fn wait(&mut self, mut script: RunningScript, fetch: KeptFetch) -> Turn
+        requires early { script.begun < 4096 }
+        requires there { 0 < length script.rest }
         requires ports { self.old.world.net.ports ≡ [] }
         requires own { IsNextFetch self.old.world fetch }
         ensures turn { result ≡ turn.Waiting }
-        ensures after { self.new ≡ seen self.old.used (with_open self.old.world) (stage.Waiting script fetch) }
+        ensures after { self.new ≡ seen self.old.used (with_open self.old.world) (stage.Waiting (entered script) fetch) }
     {
         let open = fetch.get();
         let _ = self
@@ -250,33 +272,30 @@ impl Client {
             .net
             .bind(UDP, open.own_port, u64::from(open.number));
         self.world.opens += 1;
+        script.enter();
         self.stage = Stage::Waiting(script, fetch);
         Turn::Waiting
     }
 
-    /// There is no way to the fetch's server: its open has ended.
-    fn give_up(&mut self, script: RunningScript, fetch: KeptFetch, log: &mut Log) -> Turn
-        ensures turn { IsTurn result (stage.Left (no_route fetch.server.0)) }
+    /// There is no way to the fetch's server: its open was made, and has ended.
+    fn give_up(&mut self, mut script: RunningScript, fetch: KeptFetch, log: &mut Log) -> Turn
+        requires early { script.begun < 4096 }
+        requires there { 0 < length script.rest }
+        requires ports { self.old.world.net.ports ≡ [] }
+        requires few { self.old.world.opens < 16384 }
+        ensures turn { result ≡ turn.More }
         ensures puts { Puts log.old log.new
-            (out_texts (ended fetch.number (no_route fetch.server.0) ∷ conclusion_records script.depth (fails (no_route fetch.server.0)))) }
-        ensures after { self.new ≡ standing self.old (stage.Left (no_route fetch.server.0)) }
+            (out_texts (ended fetch.number (no_route fetch.server.0) ∷ conclusion_records (fails (no_route fetch.server.0)))) }
+        ensures after { self.new ≡ seen self.old.used (with_ended_open self.old.world) (stage.Running (further script (no_route fetch.server.0))) }
     {
         let open = fetch.get();
         let cause = Cause::from(Reason::NoRoute(open.server));
         put_over(open.number, cause, log);
-        self.fail(script, cause, log)
-    }
-
-    /// The script's command fails, and the script is left.
-    pub(crate) fn fail(&mut self, script: RunningScript, cause: Cause, log: &mut Log) -> Turn
-        ensures turn { IsTurn result (stage.Left cause) }
-        ensures puts { Puts log.old log.new (out_texts (conclusion_records script.depth (fails cause))) }
-        ensures after { self.new ≡ standing self.old (stage.Left cause) }
-    {
         put_result(cause, log);
-        script.put_leave(cause, log);
-        self.stage = Stage::Left(cause);
-        Turn::Over(status_after(cause))
+        self.world.opens += 1;
+        script.enter();
+        script.end_with(cause);
+        self.run_on(script)
     }
 
     /// Puts the next piece of the hand-off.

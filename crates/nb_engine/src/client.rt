@@ -18,10 +18,12 @@ use std::mem;
 /// How a call of the client ended.
 #[derive(Clone, Copy, Debug, PartialEq, Eq)]
 pub enum Turn {
-    /// A line or a piece is done, and the step isn't over: call `more`.
+    /// A line, a command or a piece is done, and the step isn't over: call `more`.
     More,
     /// A command waits: the step is over.
     Waiting,
+    /// 4,096 commands began in this step, and another is to begin: the step is over.
+    Yielded,
     /// The run is over.
     Over(Status),
 }
@@ -63,8 +65,8 @@ impl Client {
         })
     }
 
-    /// Uses a record: START is the first, and each other one comes while a command waits. Where memory runs out
-    /// nothing is put, and the client is of no use any more.
+    /// Uses a record: START is the first, and each other one comes while a command waits, or where the last step
+    /// has yielded. Where memory runs out nothing is put, and the client is of no use any more.
     pub fn step(&mut self, entry: &InRec<'_>, log: &mut Log) -> Turn
         requires valid { IsIn (in_of entry.now) }
         requires fits { MayUse (in_of entry.now) self.old.stage }
@@ -79,12 +81,15 @@ impl Client {
             }
             (Stage::Waiting(script, fetch), InRec::Tick(ms)) => self.tick(script, fetch, *ms, log),
             (Stage::Waiting(_, fetch), InRec::Off) => self.switch_off(fetch, log),
+            (Stage::Yielded(script), InRec::Frame(bytes)) => self.frame_anew(script, bytes, log),
+            (Stage::Yielded(script), InRec::Tick(ms)) => self.tick_anew(script, *ms, log),
+            (Stage::Yielded(_), InRec::Off) => self.off_anew(log),
             _ => unreachable!(),
         }
     }
 
-    /// Goes on in the step: does the next line of the script, or puts the next piece of the hand-off. Where
-    /// memory runs out nothing is put.
+    /// Goes on in the step: the script passes a line or does a command, or the next piece of the hand-off is put.
+    /// Where memory runs out nothing is put.
     pub fn more(&mut self, log: &mut Log) -> Turn
         requires { IsBusy self.old.stage }
         ensures does { AnswersTurn result [] self.old self.new log.old log.new }

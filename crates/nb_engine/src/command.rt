@@ -4,8 +4,7 @@ ghost use Rattle.std.specs.Str.{bytes_eq};
 ghost use Rattle.std.specs.Option.{option_map_or};
 ghost use Rattle.nb_defs.specs.Commands.{command_outcome, echo, exit, refused, is_option, begins_with_option, number_of};
 ghost use Rattle.nb_uri.specs.Targets.{tftp_target};
-ghost use Rattle.nb_engine.specs.Effects.{effect, fetch, asked_for, says, bad_uri};
-ghost use Rattle.nb_engine.specs.Machine.{ends_script};
+ghost use Rattle.nb_engine.specs.Effects.{effect, fetch, goto_label, asked_for, says, bad_uri};
 ghost use Rattle.nb_defs.specs.Causes.{exit_cause};
 ghost use Rattle.nb_engine.specs.CommandWords.{effect_of, cause_of, done_of, line_end, TakesWithin, TakesFewer, IsLocal, PrintsWithin, spaced, IfFetch, CanFetch};
 
@@ -26,6 +25,8 @@ pub enum Command<'a> {
     Echo { newline: bool, text: &'a [Word] },
     /// Leaves the script; a number that isn't 0 is a failure.
     Exit(u8),
+    /// Goes on after the label of this name.
+    Goto(&'a [u8]),
     /// Fetches a file.
     Fetch(Wanted<'a>),
 }
@@ -82,11 +83,15 @@ impl Refusal {
 }
 
 impl Done {
-    /// Whether the script is left: the command says so, or it failed.
-    pub fn ends(&self) -> bool
-        ensures { result ≡ ends_script (done_of self.now) }
+    /// It printed nothing, has this result, and leaves nothing.
+    pub fn with(cause: Cause) -> Done
+        ensures { done_of result ≡ refused cause }
     {
-        self.leaves || self.cause.code != 0
+        Done {
+            prints: None,
+            cause,
+            leaves: false,
+        }
     }
 }
 
@@ -199,8 +204,20 @@ pub fn read_command(opens: u16, words: &[Word]) -> Result<Command<'_>, Refusal>
         read_fetch(opens, false, args)
     } else if is_word(name, b"imgexec".as_slice()) {
         read_fetch(opens, true, args)
+    } else if is_word(name, b"goto".as_slice()) {
+        read_goto(args)
     } else {
         read_local(words)
+    }
+}
+
+fn read_goto(args: &[Word]) -> Result<Command<'_>, Refusal>
+    ensures value { goto_label args.now ≡ effect_of result }
+    ensures within { TakesFewer args.now result }
+{
+    match args {
+        [name] if !is_dashed(name) => Ok(Command::Goto(name.as_slice())),
+        _ => Err(Refusal::Usage),
     }
 }
 
@@ -290,11 +307,7 @@ pub fn carry_out(alloc: Global, command: Result<Command<'_>, Refusal>) -> Result
             cause: exit_result(n),
             leaves: true,
         }),
-        Ok(Command::Fetch(_)) => unreachable!(),
-        Err(refusal) => Ok(Done {
-            prints: None,
-            cause: refusal.cause(),
-            leaves: false,
-        }),
+        Ok(Command::Goto(_)) | Ok(Command::Fetch(_)) => unreachable!(),
+        Err(refusal) => Ok(Done::with(refusal.cause())),
     }
 }

@@ -1,8 +1,7 @@
 ghost use Rattle.std.specs.Prelude.{◌≡◌, ◌≤◌, ℕ, ◌∷◌, []};
-ghost use Rattle.nb_defs.specs.Causes.{ok};
-ghost use Rattle.nb_defs.specs.Records.{out_texts, step};
+ghost use Rattle.nb_defs.specs.Records.{out_texts, step, result as result_record};
 ghost use Rattle.nb_record.specs.Logged.{Puts};
-ghost use Rattle.nb_engine.specs.Machine.{further};
+ghost use Rattle.nb_engine.specs.Running.{with_result};
 ghost use Rattle.nb_engine.specs.Opens.{acts_records};
 ghost use Rattle.nb_engine.specs.Seen.{IsSound, standing};
 ghost use Rattle.nb_engine.specs.Heeding.{Heeds, HasHeard};
@@ -14,7 +13,6 @@ ghost use Rattle.nb_engine.specs.declared.stage.Stage.TheVariants as stage;
 use crate::conclusion::{Conclusion, conclude};
 use crate::desk::Desk;
 use crate::put::{put_acts, put_over, put_result, put_step};
-use crate::status::status_after;
 use crate::{Client, Handing, KeptFetch, RunningScript, Stage, Status, Turn};
 use nb_record::{Cause, Log, NoMemory};
 use nb_terms::Plain;
@@ -103,17 +101,13 @@ impl Client {
 
     /// Puts the result of the script's command, and goes on as that says.
     fn conclude(&mut self, script: RunningScript, conclusion: Conclusion, log: &mut Log) -> Turn
-        requires line { script.passed ≤ 4096 }
         requires ports { self.old.world.net.ports ≡ [] }
         requires place { IsPlaceFor conclusion self.old.world.images }
         ensures { Concludes result script conclusion self.old self.new log.old log.new }
     {
         match conclusion {
-            Conclusion::Keeps => {
-                put_result(Plain::Ok.cause(), log);
-                self.resume(script)
-            }
-            Conclusion::Fails(cause) => self.fail(script, cause, log),
+            Conclusion::Keeps => self.resume(script, Plain::Ok.cause(), log),
+            Conclusion::Fails(cause) => self.resume(script, cause, log),
             Conclusion::Boots(kernel) => {
                 put_result(Plain::Ok.cause(), log);
                 self.stage = Stage::HandingOff(Handing::of(kernel));
@@ -122,14 +116,15 @@ impl Client {
         }
     }
 
-    /// The script goes on behind its line.
-    fn resume(&mut self, mut script: RunningScript) -> Turn
-        requires line { script.passed ≤ 4096 }
+    /// The script's command has this result, and the script goes on.
+    fn resume(&mut self, mut script: RunningScript, cause: Cause, log: &mut Log) -> Turn
         requires ports { self.old.world.net.ports ≡ [] }
         ensures turn { result ≡ turn.More }
-        ensures after { self.new ≡ standing self.old (stage.Running (further script ok)) }
+        ensures puts { Puts log.old log.new (out_texts (result_record cause ∷ [])) }
+        ensures after { self.new ≡ standing self.old (stage.Running (with_result script cause)) }
     {
-        script.pass_with(Plain::Ok.cause());
+        put_result(cause, log);
+        script.end_with(cause);
         self.stage = Stage::Running(script);
         Turn::More
     }

@@ -1,7 +1,7 @@
 // The engine of a run: a client that uses records, runs its script, fetches files and hands an image off.
 // Its contract is the script machine of specs/Machine.antt: each call's records are a step of it. It leaves
-// out all commands but `echo`, `exit`, `imgfetch` and `imgexec` with a TFTP server's address, and what
-// scripts have beside plain lines. Begin with `Client`.
+// out all commands but `echo`, `exit`, `goto`, and `imgfetch` and `imgexec` with a TFTP server's address, and
+// the expansion of words. Begin with `Client`.
 #![tactic(auto)]
 
 mod advancing;

@@ -8,8 +8,10 @@ pub enum Stage {
     Ready,
     /// A script runs.
     Running(RunningScript),
-    /// The command on the script's next line waits for a fetch.
+    /// The script's last command waits for a fetch.
     Waiting(RunningScript, KeptFetch),
+    /// 4,096 commands of the script began in this step, and another is to begin.
+    Yielded(RunningScript),
     /// An image is handed off.
     HandingOff(Handing),
     /// The first script was left with this cause.

@@ -1,15 +1,19 @@
-ghost use Rattle.std.specs.Prelude.{◌≡◌, ◌+◌, ◌*◌, ◌≤◌, [], ◌∷◌, true, false, IfOk, OnOk, IsErrOf};
+ghost use Rattle.std.specs.Prelude.{◌≡◌, ◌+◌, ◌*◌, ◌≤◌, length, slice_get, [], ◌∷◌, true, false, IfOk, IfErr};
 ghost use Rattle.nb_defs.specs.Records.{IsStart, IsFrameRecord, IsTick, out_texts, step, enter, leave};
 ghost use Rattle.nb_defs.specs.Records as defs;
-ghost use Rattle.nb_defs.specs.Causes.{not_script};
-ghost use Rattle.nb_defs.specs.ScriptText.{is_plain};
 ghost use Rattle.nb_record.specs.View.{start_of};
 ghost use Rattle.nb_record.specs.Logged.{Puts};
 ghost use Rattle.std.specs.Option.{option_map};
 ghost use Rattle.nb_stack.specs.Takes.{outcome};
 ghost use Rattle.nb_tftp.specs.Received.{received};
 ghost use Rattle.nb_tftp.specs.History.{came, ticked};
-ghost use Rattle.nb_engine.specs.Machine.{Running, first_script, reply_records};
+ghost use Rattle.std.specs.List.{list_any};
+ghost use Rattle.nb_script.specs.Errors.{IsOfText};
+ghost use Rattle.nb_engine.specs.Machine.{reply_records};
+ghost use Rattle.nb_engine.specs.Running.{Running, anew};
+ghost use Rattle.nb_defs.specs.ScriptText.{has_expansion};
+ghost use Rattle.nb_engine.specs.FirstText.{has_parts, has_parts_in};
+ghost use Rattle.nb_engine.specs.FirstScript.{RunsFirst, IsRefusalOf, IsUnread};
 ghost use Rattle.nb_engine.specs.Opens.{heard_from};
 ghost use Rattle.nb_engine.specs.Seen.{IsSound, standing};
 ghost use Rattle.nb_engine.specs.Heeding.{Uses, Heeds, Comes, IsReply};
@@ -19,25 +23,84 @@ ghost use Rattle.nb_engine.specs.declared.client.Turn.TheVariants as turn;
 use crate::desk::{Desk, lent};
 use crate::put::{put_over, put_reply, put_step};
 use crate::{Client, KeptFetch, RunningScript, Stage, Status, Turn, World};
-use nb_record::{Log, NoMemory, OutRec, Start};
-use nb_script::{PlainError, PlainScript};
+use nb_record::{Cause, Log, NoMemory, OutRec, Start};
+use nb_script::{Script, ScriptError, ScriptLine};
 use nb_stack::Taken;
-use nb_terms::Plain;
+use nb_terms::{Long, Plain, Reason};
 use nb_wire::{Ip4, Text};
 use std::alloc::Global;
 
-/// The script of these bytes, copied; its first line is passed.
-fn read_script(alloc: Global, bytes: &[u8]) -> Result<RunningScript, PlainError>
-    ensures same { IfOk result (λ s. s ≡ first_script bytes.now) }
-    ensures plain { OnOk result (is_plain bytes.now ≡ true) }
-    ensures not_script { IsErrOf result PlainError.NotScript → is_plain bytes.now ≡ false }
+/// Why the first script's text doesn't run.
+enum Unread {
+    /// It is refused with this cause.
+    Refused(Cause),
+    /// Memory ran out.
+    NoMemory,
+}
+
+/// The cause of a text that is refused.
+fn refused_text(error: ScriptError) -> Unread
+    requires { IsOfText error }
+    ensures { IsUnread error result }
+{
+    match error {
+        ScriptError::ScriptTooLong => Unread::Refused(Cause::from(Reason::TooLong(Long::Script))),
+        ScriptError::LineTooLong => Unread::Refused(Cause::from(Reason::TooLong(Long::Line))),
+        ScriptError::NoMemory => Unread::NoMemory,
+        _ => Unread::Refused(Plain::NotScript.cause()),
+    }
+}
+
+/// Whether a text has a `${`.
+fn has_expansion(text: &[u8]) -> bool
+    ensures { result ≡ has_expansion text.now }
+{
+    for i in 0..text.len() {
+        if text[i..].starts_with(b"${") {
+            return true;
+        }
+    }
+    false
+}
+
+/// Whether a `${` stands in the list of the line at this place.
+fn has_parts_at(script: &Script, place: usize) -> bool
+    ensures { result ≡ has_parts_in (slice_get script.now place) }
+{
+    match script.line(place) {
+        Some(ScriptLine::List(text)) => has_expansion(text),
+        _ => false,
+    }
+}
+
+/// Whether a `${` stands in a list of the script.
+fn expands(script: &Script) -> bool
+    ensures value { result ≡ list_any has_parts script.now }
+    ensures fits { length script.now ≤ 1048576 }
+{
+    for i in 0..script.len() {
+        if has_parts_at(script, i) {
+            return true;
+        }
+    }
+    false
+}
+
+/// The script of these bytes, copied, before its first line.
+fn read_script(alloc: Global, bytes: &[u8]) -> Result<RunningScript, Unread>
+    ensures runs { IfOk result (RunsFirst bytes.now) }
+    ensures refused { IfErr result (IsRefusalOf bytes.now) }
 {
     let Ok(copy) = Vec::from_slice(alloc, bytes) else {
-        return Err(PlainError::NoMemory);
+        return Err(Unread::NoMemory);
     };
-    match RunningScript::first(alloc, PlainScript::read(alloc, Text::from_vec(copy))?) {
-        Ok(script) => Ok(script),
-        Err(NoMemory) => Err(PlainError::NoMemory),
+    match Script::read(alloc, Text::from_vec(copy)) {
+        Ok(script) if expands(&script) => Err(Unread::Refused(Plain::NotScript.cause())),
+        Ok(script) => match RunningScript::first(alloc, script) {
+            Ok(script) => Ok(script),
+            Err(NoMemory) => Err(Unread::NoMemory),
+        },
+        Err(error) => Err(refused_text(error)),
     }
 }
 
@@ -53,14 +116,14 @@ fn put_entered(number: u32, log: &mut Log)
     });
 }
 
-/// Puts that the first script is left, since its text is none.
-fn put_refused(log: &mut Log)
-    ensures { Puts log.old log.new (out_texts (leave 1 not_script ∷ [])) }
+/// Puts that the first script is left, since its text doesn't run.
+fn put_refused(cause: Cause, log: &mut Log)
+    ensures { Puts log.old log.new (out_texts (leave 1 cause ∷ [])) }
 {
     log.put(&OutRec::Script {
         what: 1,
         depth: 1,
-        cause: Plain::NotScript.cause(),
+        cause,
     });
 }
 
@@ -92,20 +155,20 @@ impl Client {
                 self.stage = Stage::Running(script);
                 Turn::More
             }
-            Err(PlainError::NotScript) => {
+            Err(Unread::Refused(cause)) => {
                 put_entered(self.used, log);
-                put_refused(log);
-                self.stage = Stage::Left(Plain::NotScript.cause());
+                put_refused(cause, log);
+                self.stage = Stage::Left(cause);
                 Turn::Over(Status::ScriptFailed)
             }
-            Err(PlainError::NoMemory) => Turn::Over(Status::NoMemory),
+            Err(Unread::NoMemory) => Turn::Over(Status::NoMemory),
         }
     }
 
     /// A frame arrives, while the script's command waits for this fetch.
     pub(crate) fn frame(
         &mut self,
-        script: RunningScript,
+        mut script: RunningScript,
         fetch: KeptFetch,
         bytes: &[u8],
         log: &mut Log,
@@ -117,6 +180,7 @@ impl Client {
         let Ok(mut desk) = lent(self.alloc, self.desk.take()) else {
             return Turn::Over(Status::NoMemory);
         };
+        script.begin_step();
         let turn = self.receive(script, fetch, bytes, &mut desk, log);
         self.desk = Some(desk);
         turn
@@ -133,7 +197,7 @@ impl Client {
     ) -> Turn
         requires valid { IsFrameRecord bytes.now }
         requires sound { IsSound self.old.used self.old.world (stage.Waiting script fetch) }
-        ensures { Uses result (defs.frame bytes.now) (standing self.old (stage.Waiting script fetch)) self.new log.old log.new }
+        ensures { (s : Running) → script ≡ anew s → Uses result (defs.frame bytes.now) (standing self.old (stage.Waiting s fetch)) self.new log.old log.new }
     {
         let mut reply = desk.room.out();
         let taken = self.world.net.take(bytes, &mut reply);
@@ -186,7 +250,7 @@ impl Client {
     /// So many milliseconds pass, while the script's command waits for this fetch.
     pub(crate) fn tick(
         &mut self,
-        script: RunningScript,
+        mut script: RunningScript,
         fetch: KeptFetch,
         ms: u16,
         log: &mut Log,
@@ -200,6 +264,7 @@ impl Client {
             return Turn::Over(Status::NoMemory);
         };
         self.world.time += u64::from(ms);
+        script.begin_step();
         let turn = self.pass_time(script, fetch, &mut desk, log);
         self.desk = Some(desk);
         turn
@@ -230,5 +295,56 @@ impl Client {
         put_over(fetch.get().number, Plain::Stopped.cause(), log);
         self.stage = Stage::Stopped;
         Turn::Over(Status::Unfinished)
+    }
+
+    /// A frame arrives, while a script goes on with its commands in this step. That is rare, and stands apart.
+    #[inline(never)]
+    pub(crate) fn frame_anew(&mut self, script: RunningScript, bytes: &[u8], log: &mut Log) -> Turn
+        requires valid { IsFrameRecord bytes.now }
+        requires sound { IsSound self.old.used self.old.world (stage.Yielded script) }
+        ensures { Uses result (defs.frame bytes.now) (standing self.old (stage.Yielded script)) self.new log.old log.new }
+    {
+        let Ok(mut desk) = lent(self.alloc, self.desk.take()) else {
+            return Turn::Over(Status::NoMemory);
+        };
+        let mut reply = desk.room.out();
+        self.world.net.take(bytes, &mut reply);
+        put_step(self.used, log);
+        put_reply(reply.written(), log);
+        self.desk = Some(desk);
+        self.run_anew(script)
+    }
+
+    /// So many milliseconds pass, and a script goes on with its commands.
+    pub(crate) fn tick_anew(&mut self, script: RunningScript, ms: u16, log: &mut Log) -> Turn
+        requires valid { IsTick ms }
+        requires sound { IsSound self.old.used self.old.world (stage.Yielded script) }
+        requires early { self.old.world.time + 60000 ≤ 60000 * self.old.used }
+        ensures { Uses result (defs.tick ms) (standing self.old (stage.Yielded script)) self.new log.old log.new }
+    {
+        let passed = u64::from(ms);
+        self.world.time += passed;
+        put_step(self.used, log);
+        self.run_anew(script)
+    }
+
+    /// The power is switched off, where a script was to go on.
+    pub(crate) fn off_anew(&mut self, log: &mut Log) -> Turn
+        ensures { (s : Running) → Uses result defs.off (standing self.old (stage.Yielded s)) self.new log.old log.new }
+    {
+        put_step(self.used, log);
+        self.stage = Stage::Stopped;
+        Turn::Over(Status::Unfinished)
+    }
+
+    /// The script goes on in a new step.
+    fn run_anew(&mut self, mut script: RunningScript) -> Turn
+        requires sound { IsSound self.old.used self.old.world (stage.Yielded script) }
+        ensures turn { result ≡ turn.More }
+        ensures after { self.new ≡ standing self.old (stage.Running (anew script)) }
+    {
+        script.begin_step();
+        self.stage = Stage::Running(script);
+        Turn::More
     }
 }

@@ -1,4 +1,5 @@
 pub mod Numbers
+pub mod Integers
 pub mod Pairs
 pub mod Addresses
 pub mod Uris

@@ -17,8 +17,10 @@ mod values;
 
 pub use error::{ExpandError, ParseError};
 pub use expansion::expand;
+pub use number::integer;
 pub use parsing::parse;
 pub use printing::print;
+pub use values::text_of_name;
 
 #[cfg(test)]
 mod tests;

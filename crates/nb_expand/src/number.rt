@@ -1,13 +1,34 @@
-ghost use Rattle.std.specs.Prelude.{◌≡◌, ◌+◌, ◌-◌, ◌^◌, ◌<◌, ◌≤◌, length, IfOk};
+ghost use Rattle.std.specs.Prelude.{◌≡◌, ◌+◌, ◌-◌, ◌^◌, ◌<◌, ◌≤◌, length, IfOk, IfSome, pos, negsuc, ◌≤ℤ◌};
 ghost use Rattle.std.specs.Int.{cast_unsigned, w32};
 ghost use Rattle.std.specs.Option.{option_map};
 ghost use Rattle.nb_defs.specs.Commands.{number_of};
 ghost use Rattle.nb_expand.specs.Numbers.{last_bytes, filled, sign_fill, signed_of, unsigned_of, printed_signed, printed_unsigned, within, signed_number_of};
+ghost use Rattle.nb_expand.specs.Integers.{integer_of};
 ghost use Rattle.nb_numerals.specs.Numbers.{below};
 
 use nb_numerals::number;
+use nb_settings::Kind;
 use nb_terms::NoMemory;
 use std::alloc::Global;
+
+/// The number that a value is of an integer kind: its last bytes, as many as the kind has, and a shorter value
+/// extended by its sign or by zeros; no bytes are 0. None of another kind.
+#[tactic(auto, unfolding(crate::specs::Integers::integer_of))]
+pub fn integer(kind: Kind, bytes: &[u8]) -> Option<i64>
+    ensures value { result ≡ integer_of kind bytes.now }
+    ensures low { IfSome result (λ n. negsuc 2147483647 ≤ℤ n) }
+    ensures high { IfSome result (λ n. n ≤ℤ pos 4294967295) }
+{
+    match kind {
+        Kind::Int8 => Some(i64::from(signed(last_bytes(1, bytes)))),
+        Kind::Int16 => Some(i64::from(signed(last_bytes(2, bytes)))),
+        Kind::Int32 => Some(i64::from(signed(last_bytes(4, bytes)))),
+        Kind::Uint8 => Some(i64::from(unsigned(last_bytes(1, bytes)))),
+        Kind::Uint16 => Some(i64::from(unsigned(last_bytes(2, bytes)))),
+        Kind::Uint32 => Some(i64::from(unsigned(last_bytes(4, bytes)))),
+        _ => None,
+    }
+}
 
 /// A value's last bytes, at most `size`, as a number with a sign. No bytes print nothing.
 pub(crate) fn print_signed(alloc: Global, size: usize, bytes: &[u8]) -> Result<Vec<u8>, NoMemory>
@@ -29,7 +50,7 @@ pub(crate) fn print_unsigned(alloc: Global, size: usize, bytes: &[u8]) -> Result
     if bytes.is_empty() {
         return Ok(Vec::new(alloc));
     }
-    let number = u32::from_be_bytes(filled(0, last_bytes(size, bytes)));
+    let number = unsigned(last_bytes(size, bytes));
     Ok(format!(in alloc; "0x{number:x}")?.into_bytes())
 }
 
@@ -46,6 +67,14 @@ fn signed(bytes: &[u8]) -> i32
     ensures { result ≡ signed_of bytes.now }
 {
     i32::from_be_bytes(filled(sign_fill(bytes), bytes))
+}
+
+/// The number of big-endian bytes.
+fn unsigned(bytes: &[u8]) -> u32
+    requires { length bytes.now ≤ 4 }
+    ensures { result ≡ unsigned_of bytes.now }
+{
+    u32::from_be_bytes(filled(0, bytes))
 }
 
 /// What extends a number by its sign.

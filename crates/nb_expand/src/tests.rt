@@ -1,7 +1,7 @@
 //! Values of each kind by tables: the worked examples, vectors of RFC 3986, RFC 4648 and RFC 9562,
 //! and the limits of each kind.
 
-use crate::{ParseError, parse, print};
+use crate::{ParseError, integer, parse, print};
 use nb_settings::Kind;
 use std::test::Fail;
 
@@ -52,6 +52,25 @@ fn prints_and_reads_values(rt: HostRuntime) -> Result<(), Fail> {
         assert_eq!(rt; shown.as_slice(), text.as_bytes(), "{kind:?} {text}");
         let read = parse(rt.alloc(), kind, text.as_bytes())?;
         assert_eq!(rt; read.as_slice(), bytes, "{kind:?} {text}");
+    }
+    Ok(())
+}
+
+#[test]
+fn numbers_of_values(rt: HostRuntime) -> Result<(), Fail> {
+    for (kind, bytes, number) in [
+        (Kind::Int8, b"\x80".as_slice(), Some(-128)),
+        (Kind::Int8, b"\x01\xff", Some(-1)),
+        (Kind::Int16, b"\xff", Some(-1)),
+        (Kind::Int32, b"\x80\x00\x00\x00", Some(-2_147_483_648)),
+        (Kind::Int32, b"", Some(0)),
+        (Kind::Uint8, b"\xff", Some(255)),
+        (Kind::Uint16, b"\x01", Some(1)),
+        (Kind::Uint32, b"\xff\xff\xff\xff", Some(4_294_967_295)),
+        (Kind::Str, b"5", None),
+        (Kind::Hex, b"\x05", None),
+    ] {
+        assert_eq!(rt; integer(kind, bytes), number, "{kind:?} {bytes:?}");
     }
     Ok(())
 }

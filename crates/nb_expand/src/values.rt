@@ -22,7 +22,9 @@ pub(crate) fn named_text(alloc: Global, bytes: &[u8], table: &Table) -> Result<T
     }
 }
 
-fn text_of_name(alloc: Global, name: &Name<'_>, table: &Table) -> Result<Text, NoMemory>
+/// The value of the setting that a name finds, as text by the kind that the name gives, or else by its own. An
+/// unset setting, and an absent block, give nothing.
+pub fn text_of_name(alloc: Global, name: &Name<'_>, table: &Table) -> Result<Text, NoMemory>
     ensures { IfOk result (λ text. text ≡ text_of_name table.now (name_of name.now)) }
 {
     match table.find(name.block, &name.key) {

@@ -15,6 +15,11 @@ slice_get-in [] i h = absurd (omega arith)
 slice_get-in (x ∷ xs) zero h = refl
 slice_get-in (x ∷ xs) (suc i) h = slice_get-in xs i (omega arith)
 
+-- where there is not something, there is nothing
+pub nothing-there : {A : Type 0} (o : Option A) → is_some o ≡ false → o ≡ None
+nothing-there None h = refl
+nothing-there (Some a) h = absurd (cc)
+
 -- a dead object stands at no place
 dead-past : (l : Ledger) (x : ℕ) → object_lives l x ≡ false → length l.objects ≤ place l x
 unfolding object_lives

@@ -57,6 +57,7 @@ impl<N: Node> Inner<N> {
     }
 
     /// Calls the node that a message enters from above; false where it ran out of memory.
+    #[inline(always)]
     pub(crate) fn ask_down(
         &mut self,
         id: ObjId,
@@ -93,6 +94,7 @@ impl<N: Node> Inner<N> {
 
     /// Calls the node that a message, or the rest of one, enters from below; false where it ran out
     /// of memory.
+    #[inline(always)]
     pub(crate) fn ask_up(
         &mut self,
         at: Port,

@@ -192,20 +192,43 @@ impl<N: Node> Inner<N> {
         ensures steady { IsSteady N.rank_of self.new.book self.new.nodes.items
             (vec_capacity self.new.nodes) }
     {
-        let key = self.book.key(low);
-        self.settle(low, key, out);
-        let key = self.book.key(high);
-        self.settle(high, key, out);
+        let unused = self.book.is_unused_at(low, self.book.key(low));
+        self.settle(low, unused, out);
+        let unused = self.book.is_unused_at(high, self.book.key(high));
+        self.settle(high, unused, out);
     }
 
+    /// Closes the ports that an entry asks for, with its causes.
+    #[inline(always)]
     #[cycle(calm)]
-    pub(crate) fn run_closes<O: Outside>(
+    pub(crate) fn close_asked<O: Outside>(
         &mut self,
         id: ObjId,
         closes: &[(u8, Cause)],
         now: u64,
         out: &mut O,
     )
+        requires few { length closes.now ≤ 4 }
+        requires steady { IsSteady N.rank_of self.old.book self.old.nodes.items
+            (vec_capacity self.old.nodes) }
+        ensures shut { (k : ℕ) → ClosesSlot k closes.now → open_count (port self.new.book id.0 k) ≡
+            0 }
+        ensures lives { CalmFor N.stands (nature N.kind_of N.Load.first N.Load.second) now
+            self.old.book
+            self.new.book self.old.nodes.items self.new.nodes.items (Same (busy self.old.book))
+            (Closing self.old.book id.0) (λ st. closes_of id.0 closes.now ++ st)
+            (O.events out.old) (O.events out.new) }
+        ensures steady { IsSteady N.rank_of self.new.book self.new.nodes.items
+            (vec_capacity self.new.nodes) }
+    {
+        if let [_, ..] = closes {
+            self.run_closes(id, closes, now, out);
+        }
+    }
+
+    /// The same, one after the other.
+    #[cycle(calm)]
+    fn run_closes<O: Outside>(&mut self, id: ObjId, closes: &[(u8, Cause)], now: u64, out: &mut O)
         requires few { length closes.now ≤ 4 }
         requires steady { IsSteady N.rank_of self.old.book self.old.nodes.items
             (vec_capacity self.old.nodes) }

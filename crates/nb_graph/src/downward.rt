@@ -117,9 +117,10 @@ impl<N: Node> Inner<N> {
             (vec_capacity self.new.nodes) }
     {
         self.run_downs(id, key, msg, &mut fx.downs, now, out);
-        self.run_closes(id, fx.closes.as_slice(), now, out);
+        self.close_asked(id, fx.closes.as_slice(), now, out);
     }
 
+    #[inline(always)]
     #[cycle(calm)]
     pub(crate) fn run_downs<O: Outside>(
         &mut self,
@@ -146,33 +147,34 @@ impl<N: Node> Inner<N> {
         ensures steady { IsSteady N.rank_of self.new.book self.new.nodes.items
             (vec_capacity self.new.nodes) }
     {
-        self.run_down(id, key, msg, downs.first.take(), now, out);
-        self.run_down(id, key, msg, downs.second.take(), now, out);
+        self.run_down(id, key, msg, &mut downs.first, now, out);
+        self.run_down(id, key, msg, &mut downs.second, now, out);
     }
 
+    #[inline(always)]
     #[cycle(calm)]
     fn run_down<O: Outside>(
         &mut self,
         id: ObjId,
         key: usize,
         msg: &Msg<'_>,
-        emit: Option<Emit<N::Load>>,
+        emit: &mut Option<Emit<N::Load>>,
         now: u64,
         out: &mut O,
     )
         requires runs { busy self.old.book id.0 ≡ true }
-        requires down { IfSome emit (IsDown (length msg.now.first.now + length
+        requires down { IfSome emit.old (IsDown (length msg.now.first.now + length
             msg.now.second.now)) }
         requires steady { IsSteady N.rank_of self.old.book self.old.nodes.items
             (vec_capacity self.old.nodes) }
         ensures lives { CalmFor N.stands (nature N.kind_of N.Load.first N.Load.second) now
             self.old.book
             self.new.book self.old.nodes.items self.new.nodes.items
-            (Back (busy self.old.book) id.0 (carried emit))
+            (Back (busy self.old.book) id.0 (carried emit.old))
             (Emitting self.old.book id.0 (nature N.kind_of N.Load.first N.Load.second)
             (said msg.now).bytes
-            emit) (λ st. emit_of (nature N.kind_of N.Load.first N.Load.second) id.0
-            (said msg.now) emit ++ st) (O.events out.old) (O.events out.new) }
+            emit.old) (λ st. emit_of (nature N.kind_of N.Load.first N.Load.second) id.0
+            (said msg.now) emit.old ++ st) (O.events out.old) (O.events out.new) }
         ensures steady { IsSteady N.rank_of self.new.book self.new.nodes.items
             (vec_capacity self.new.nodes) }
     {
@@ -182,29 +184,30 @@ impl<N: Node> Inner<N> {
         }
     }
 
+    #[inline(always)]
     #[cycle(calm)]
     fn send_down<O: Outside>(
         &mut self,
         id: ObjId,
         key: usize,
         msg: &Msg<'_>,
-        emit: Emit<N::Load>,
+        emit: &mut Emit<N::Load>,
         now: u64,
         out: &mut O,
     )
         requires runs { busy self.old.book id.0 ≡ true }
-        requires down { IsDown (length msg.now.first.now + length msg.now.second.now) emit }
+        requires down { IsDown (length msg.now.first.now + length msg.now.second.now) emit.old }
         requires steady { IsSteady N.rank_of self.old.book self.old.nodes.items
             (vec_capacity self.old.nodes) }
         ensures lives { CalmFor N.stands (nature N.kind_of N.Load.first N.Load.second) now
             self.old.book
             self.new.book self.old.nodes.items self.new.nodes.items
-            (Back (busy self.old.book) id.0 (in_list emit.load))
-            (Passing self.old.book (port_at id.0 emit.slot)
+            (Back (busy self.old.book) id.0 (in_list emit.old.load))
+            (Passing self.old.book (port_at id.0 emit.old.slot)
             (carries (nature N.kind_of N.Load.first N.Load.second)
-            (said msg.now).bytes emit.from emit.to
-            emit.load)) (λ st. emit_of (nature N.kind_of N.Load.first N.Load.second) id.0
-            (said msg.now) (Some emit) ++ st) (O.events out.old) (O.events out.new) }
+            (said msg.now).bytes emit.old.from emit.old.to
+            emit.old.load)) (λ st. emit_of (nature N.kind_of N.Load.first N.Load.second) id.0
+            (said msg.now) (Some emit.old) ++ st) (O.events out.old) (O.events out.new) }
         ensures steady { IsSteady N.rank_of self.new.book self.new.nodes.items
             (vec_capacity self.new.nodes) }
     {
@@ -212,12 +215,13 @@ impl<N: Node> Inner<N> {
             obj: id,
             slot: emit.slot,
         };
-        let part = message_of::<N>(&emit, msg.rec, msg.first, msg.second);
+        let part = message_of::<N>(emit, msg.rec, msg.first, msg.second);
         self.pass_down(at, key, &part, now, out);
-        self.take_emit(id, key, emit);
+        self.take_load(id, key, &mut emit.load);
     }
 
     /// A message leaves by one of the slots 1 to 3.
+    #[inline(always)]
     #[cycle(calm)]
     fn pass_down<O: Outside>(&mut self, at: Port, key: usize, msg: &Msg<'_>, now: u64, out: &mut O)
         requires slot { 1 ≤ at.slot }
@@ -234,7 +238,7 @@ impl<N: Node> Inner<N> {
         match self.book.port_at(at, key) {
             PortState::Open => out.send(at, msg),
             PortState::Linked(peer) => {
-                let other = self.book.peer_key(key, at.slot);
+                let other = self.book.key(peer.obj);
                 self.enter_down(peer, other, msg, now, out);
             }
             PortState::Leaving(_) => out.event(&GraphEvent::Dropped(at).spelled()),

@@ -215,8 +215,8 @@ impl<N: Node> Graph<N> {
             now (Offers to (said msg.now) ∷ []) self.old self.new (O.events out.old)
             (O.events out.new) }
     {
-        if self.inner.book.is_free(to) {
-            let key = self.inner.book.key(to.obj);
+        let key = self.inner.book.key(to.obj);
+        if self.inner.book.is_free_at(to, key) {
             self.inner.enter_down(to, key, msg, now, out);
             Reach::Entered
         } else {
@@ -238,8 +238,8 @@ impl<N: Node> Graph<N> {
             (O.events out.new) }
     {
         let _length = (msg.first.len(), msg.second.len());
-        if self.inner.book.is_free(to) {
-            let key = self.inner.book.key(to.obj);
+        let key = self.inner.book.key(to.obj);
+        if self.inner.book.is_free_at(to, key) {
             self.inner.enter_up(to, key, msg, now, out);
             Reach::Entered
         } else {

@@ -9,6 +9,7 @@ ghost use Rattle.nb_ledger.specs.Flat.{Given, Tells, flat};
 ghost use Rattle.nb_ledger.specs.Flat as notice;
 ghost use Rattle.nb_ledger.specs.GraphRun.{OnStack, IsIdle, Step};
 ghost use Rattle.nb_ledger.specs.Ledger.{object_lives, place, run_state};
+ghost use Rattle.nb_ledger.specs.Ledger.{unused as is_unused};
 ghost use Rattle.nb_ledger.specs.Changes.{Adds};
 ghost use Rattle.nb_graph.specs.Order.{LetsOneGo};
 ghost use Rattle.nb_graph.specs.Deeds.{MustMake, Wants};
@@ -29,9 +30,11 @@ pub(crate) struct Inner<N: Node> {
 }
 
 impl<N: Node> Inner<N> {
-    /// Frees a live object where its count is 0.
-    pub(crate) fn settle<O: Outside>(&mut self, id: ObjId, key: usize, out: &mut O)
+    /// Frees a live object where its count is 0, which `unused` says.
+    #[inline(always)]
+    pub(crate) fn settle<O: Outside>(&mut self, id: ObjId, unused: bool, out: &mut O)
         requires lives { object_lives self.old.book id.0 ≡ true }
+        requires unused { unused ≡ is_unused self.old.book id.0 }
         requires manned { IsManned N.rank_of self.old.book self.old.nodes.items
             (vec_capacity self.old.nodes) }
         ensures settles { SettlesFor N.stands (nature N.kind_of N.Load.first N.Load.second)
@@ -41,11 +44,12 @@ impl<N: Node> Inner<N> {
         ensures manned { IsManned N.rank_of self.new.book self.new.nodes.items
             (vec_capacity self.new.nodes) }
     {
-        if self.book.is_unused_at(id, key) {
+        if unused {
             self.free(id, out);
         }
     }
 
+    #[inline(never)]
     fn free<O: Outside>(&mut self, id: ObjId, out: &mut O)
         requires lives { object_lives self.old.book id.0 ≡ true }
         requires manned { IsManned N.rank_of self.old.book self.old.nodes.items
@@ -145,8 +149,8 @@ impl<N: Node> Inner<N> {
             (vec_capacity self.new.nodes) }
     {
         self.book.let_go(id, out);
-        let key = self.book.key(id);
-        self.settle(id, key, out);
+        let unused = self.book.is_unused_at(id, self.book.key(id));
+        self.settle(id, unused, out);
     }
 }
 

@@ -16,6 +16,7 @@ use nb_ledger::{Outside, Port};
 
 impl<N: Node> Inner<N> {
     /// Ends an entry, and frees its object if that was the last of its count.
+    #[inline(always)]
     pub(crate) fn leave<O: Outside>(&mut self, at: Port, key: usize, was: bool, out: &mut O)
         requires lives { object_lives self.old.book at.obj.0 ≡ true }
         requires steady { IsSteady N.rank_of self.old.book self.old.nodes.items
@@ -28,7 +29,7 @@ impl<N: Node> Inner<N> {
         ensures steady { IsSteady N.rank_of self.new.book self.new.nodes.items
             (vec_capacity self.new.nodes) }
     {
-        self.book.leave(at, key, was, out);
-        self.settle(at.obj, key, out);
+        let unused = self.book.leave(at, key, was, out);
+        self.settle(at.obj, unused, out);
     }
 }

@@ -16,6 +16,7 @@ use nb_ledger::ObjId;
 
 impl<N: Node> Inner<N> {
     /// Gives a lent load back to its node.
+    #[inline(always)]
     pub(crate) fn give_back(&mut self, id: ObjId, key: usize, load: N::Load)
         requires lives { object_lives self.old.book id.0 ≡ true }
         requires manned { IsManned N.rank_of self.old.book self.old.nodes.items
@@ -72,11 +73,11 @@ impl<N: Node> Inner<N> {
         ensures manned { IsManned N.rank_of self.new.book self.new.nodes.items
             (vec_capacity self.new.nodes) }
     {
-        self.take_one(id, key, few.first.take());
-        self.take_one(id, key, few.second.take());
+        self.take_one(id, key, &mut few.first);
+        self.take_one(id, key, &mut few.second);
     }
 
-    fn take_one(&mut self, id: ObjId, key: usize, emit: Option<Emit<N::Load>>)
+    fn take_one(&mut self, id: ObjId, key: usize, emit: &mut Option<Emit<N::Load>>)
         requires lives { object_lives self.old.book id.0 ≡ true }
         requires manned { IsManned N.rank_of self.old.book self.old.nodes.items
             (vec_capacity self.old.nodes) }
@@ -85,21 +86,22 @@ impl<N: Node> Inner<N> {
             (nature N.kind_of N.Load.first N.Load.second) now
             (nodes_at self.old.book self.old.nodes.items u)
             (nodes_at self.new.book self.new.nodes.items u)
-            (Back (busy self.old.book) id.0 (carried emit)) (λ st. returns_of id.0
-            (carried emit) ++ st) here
+            (Back (busy self.old.book) id.0 (carried emit.old)) (λ st. returns_of id.0
+            (carried emit.old) ++ st) here
             (Calms (nature N.kind_of N.Load.first N.Load.second) self.old.book self.old.book Still)
             [] }
         ensures manned { IsManned N.rank_of self.new.book self.new.nodes.items
             (vec_capacity self.new.nodes) }
     {
         match emit {
-            Some(emit) => self.take_emit(id, key, emit),
+            Some(emit) => self.take_load(id, key, &mut emit.load),
             None => {}
         }
     }
 
     /// Gives the load of a message that an entry asked for back to its node.
-    pub(crate) fn take_emit(&mut self, id: ObjId, key: usize, emit: Emit<N::Load>)
+    #[inline(always)]
+    pub(crate) fn take_load(&mut self, id: ObjId, key: usize, load: &mut Option<N::Load>)
         requires lives { object_lives self.old.book id.0 ≡ true }
         requires manned { IsManned N.rank_of self.old.book self.old.nodes.items
             (vec_capacity self.old.nodes) }
@@ -108,26 +110,20 @@ impl<N: Node> Inner<N> {
             (nature N.kind_of N.Load.first N.Load.second) now
             (nodes_at self.old.book self.old.nodes.items u)
             (nodes_at self.new.book self.new.nodes.items u)
-            (Back (busy self.old.book) id.0 (in_list emit.load)) (λ st. returns_of id.0
-            (in_list emit.load) ++ st) here
+            (Back (busy self.old.book) id.0 (in_list load.old)) (λ st. returns_of id.0
+            (in_list load.old) ++ st) here
             (Calms (nature N.kind_of N.Load.first N.Load.second) self.old.book self.old.book Still)
             [] }
         ensures manned { IsManned N.rank_of self.new.book self.new.nodes.items
             (vec_capacity self.new.nodes) }
     {
-        let Emit {
-            slot: _,
-            tag: _,
-            a: _,
-            b: _,
-            from: _,
-            to: _,
-            load,
-        } = emit;
-        self.take_load(id, key, load);
+        if load.is_some() {
+            self.take_lent(id, key, load.take());
+        }
     }
 
-    fn take_load(&mut self, id: ObjId, key: usize, load: Option<N::Load>)
+    #[inline(always)]
+    fn take_lent(&mut self, id: ObjId, key: usize, load: Option<N::Load>)
         requires lives { object_lives self.old.book id.0 ≡ true }
         requires manned { IsManned N.rank_of self.old.book self.old.nodes.items
             (vec_capacity self.old.nodes) }

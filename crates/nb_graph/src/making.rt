@@ -36,6 +36,7 @@ impl<N: Node> Inner<N> {
     }
 
     /// Makes what an entry asks for.
+    #[inline(always)]
     pub(crate) fn run_make<O: Outside>(
         &mut self,
         id: ObjId,
@@ -55,7 +56,26 @@ impl<N: Node> Inner<N> {
         ensures steady { IsSteady N.rank_of self.new.book self.new.nodes.items
             (vec_capacity self.new.nodes) }
     {
-        match makes.take() {
+        if makes.is_some() {
+            self.make_asked(id, makes.take(), now, out);
+        }
+    }
+
+    #[inline(never)]
+    fn make_asked<O: Outside>(&mut self, id: ObjId, makes: Option<Make<N>>, now: u64, out: &mut O)
+        requires runs { busy self.old.book id.0 ≡ true }
+        requires make { IfSome makes (IsMake N.rank_of N.stands (rank self.old.book id.0)) }
+        requires steady { IsSteady N.rank_of self.old.book self.old.nodes.items
+            (vec_capacity self.old.nodes) }
+        ensures lives { LivelyInFor N.stands (nature N.kind_of N.Load.first N.Load.second) now id.0
+            self.old.book self.new.book self.old.nodes.items self.new.nodes.items
+            (Same (busy self.old.book)) always (asked_due id.0) (Making self.old.book id.0)
+            (λ st. makes_of id.0 makes ++ st) here
+            (O.events out.old) (O.events out.new) }
+        ensures steady { IsSteady N.rank_of self.new.book self.new.nodes.items
+            (vec_capacity self.new.nodes) }
+    {
+        match makes {
             Some(Make { node, slot }) => self.make_at(Port { obj: id, slot }, node, now, out),
             None => {}
         }

@@ -17,6 +17,7 @@ pub(crate) const NOTHING: Msg<'static> = Msg {
 };
 
 /// The message that an entry asks for, of a message of the record `rec` with these bytes.
+#[inline(always)]
 pub(crate) fn message_of<'m, N: Node>(
     emit: &'m Emit<N::Load>,
     rec: u32,
@@ -66,6 +67,7 @@ fn with_bytes<'m, L>(emit: &Emit<L>, rec: u32, first: &'m [u8], second: &'m [u8]
 }
 
 /// Bytes `from` to `to` of a message's two parts, in two parts.
+#[inline(always)]
 fn cut<'m>(first: &'m [u8], second: &'m [u8], from: u32, to: u32) -> (&'m [u8], &'m [u8])
     requires order { from ≤ to }
     requires within { to ≤ length first.now + length second.now }
@@ -75,6 +77,9 @@ fn cut<'m>(first: &'m [u8], second: &'m [u8], from: u32, to: u32) -> (&'m [u8], 
     let seam = first.len();
     let from = from as usize;
     let to = to as usize;
+    if to <= seam {
+        return (&first[from..to], &[]);
+    }
     let front = &first[from.min(seam)..to.min(seam)];
     let back = &second[from.saturating_sub(seam)..to.saturating_sub(seam)];
     (front, back)

@@ -58,8 +58,39 @@ impl<N: Node> Inner<N> {
     }
 
     /// A message is given to the node of an entry from below, and what it leaves of it again.
+    #[inline(always)]
     #[cycle(lively)]
     fn deliver<O: Outside>(&mut self, at: Port, key: usize, msg: &Msg<'_>, now: u64, out: &mut O)
+        requires slot { 1 ≤ at.slot }
+        requires open { IsOpen (port self.old.book at.obj.0 at.slot) }
+        requires runs { busy self.old.book at.obj.0 ≡ true }
+        requires small { length msg.now.first.now + length msg.now.second.now < 2 ^ 65 }
+        requires below { IsBelow (rank self.old.book at.obj.0) self.old.book }
+        requires steady { IsSteady N.rank_of self.old.book self.old.nodes.items
+            (vec_capacity self.old.nodes) }
+        ensures lives { Delivered N.stands (nature N.kind_of N.Load.first N.Load.second) now at
+            (said msg.now) self.old.book self.new.book self.old.nodes.items self.new.nodes.items
+            (O.events out.old) (O.events out.new) }
+        ensures steady { IsSteady N.rank_of self.new.book self.new.nodes.items
+            (vec_capacity self.new.nodes) }
+    {
+        match self.give(at, key, msg, now, out) {
+            Some(rest) => self.deliver_rest(at, key, &rest, now, out),
+            None => {}
+        }
+    }
+
+    /// The same of what a node left: it is given again until nothing is left.
+    #[inline(never)]
+    #[cycle(lively)]
+    fn deliver_rest<O: Outside>(
+        &mut self,
+        at: Port,
+        key: usize,
+        msg: &Msg<'_>,
+        now: u64,
+        out: &mut O,
+    )
         requires slot { 1 ≤ at.slot }
         requires open { IsOpen (port self.old.book at.obj.0 at.slot) }
         requires runs { busy self.old.book at.obj.0 ≡ true }
@@ -80,6 +111,7 @@ impl<N: Node> Inner<N> {
     }
 
     /// Gives a message once, and answers what is left of it, if it is to be given again.
+    #[inline(always)]
     #[cycle(lively)]
     fn give<'m, O: Outside>(
         &mut self,
@@ -111,6 +143,7 @@ impl<N: Node> Inner<N> {
         self.after_up(at, key, msg, done, &mut fx, now, out)
     }
 
+    #[inline(always)]
     #[cycle(lively)]
     fn after_up<'m, O: Outside>(
         &mut self,
@@ -152,6 +185,7 @@ impl<N: Node> Inner<N> {
     }
 
     /// What the node left of a message, if its port is still open; else it is dropped.
+    #[inline(always)]
     fn left_of<'m, O: Outside>(
         &mut self,
         at: Port,
@@ -184,6 +218,7 @@ impl<N: Node> Inner<N> {
     }
 
     /// Runs the effects of an entry from below or by time: makes, downs, ups, closes.
+    #[inline(always)]
     #[cycle(lively)]
     pub(crate) fn effects<O: Outside>(
         &mut self,
@@ -217,9 +252,10 @@ impl<N: Node> Inner<N> {
         self.run_make(id, &mut fx.makes, now, out);
         self.run_downs(id, key, msg, &mut fx.downs, now, out);
         self.run_ups(id, key, msg, &mut fx.ups, now, out);
-        self.run_closes(id, fx.closes.as_slice(), now, out);
+        self.close_asked(id, fx.closes.as_slice(), now, out);
     }
 
+    #[inline(always)]
     #[cycle(lively)]
     fn run_ups<O: Outside>(
         &mut self,
@@ -246,33 +282,34 @@ impl<N: Node> Inner<N> {
         ensures steady { IsSteady N.rank_of self.new.book self.new.nodes.items
             (vec_capacity self.new.nodes) }
     {
-        self.run_up(id, key, msg, ups.first.take(), now, out);
-        self.run_up(id, key, msg, ups.second.take(), now, out);
+        self.run_up(id, key, msg, &mut ups.first, now, out);
+        self.run_up(id, key, msg, &mut ups.second, now, out);
     }
 
+    #[inline(always)]
     #[cycle(lively)]
     fn run_up<O: Outside>(
         &mut self,
         id: ObjId,
         key: usize,
         msg: &Msg<'_>,
-        emit: Option<Emit<N::Load>>,
+        emit: &mut Option<Emit<N::Load>>,
         now: u64,
         out: &mut O,
     )
         requires runs { busy self.old.book id.0 ≡ true }
-        requires up { IfSome emit (IsUp (length msg.now.first.now + length msg.now.second.now)) }
+        requires up { IfSome emit.old (IsUp (length msg.now.first.now + length msg.now.second.now)) }
         requires below { IsBelow (rank self.old.book id.0) self.old.book }
         requires steady { IsSteady N.rank_of self.old.book self.old.nodes.items
             (vec_capacity self.old.nodes) }
         ensures lives { LivelyFor N.stands (nature N.kind_of N.Load.first N.Load.second) now
             self.old.book
             self.new.book self.old.nodes.items self.new.nodes.items
-            (Back (busy self.old.book) id.0 (carried emit)) none_due
+            (Back (busy self.old.book) id.0 (carried emit.old)) none_due
             (Leaves self.old.book (port_at id.0 0) (emit_bytes
             (nature N.kind_of N.Load.first N.Load.second)
-            0 (said msg.now).bytes emit)) (λ st. emit_of (nature N.kind_of N.Load.first
-            N.Load.second) id.0 (said msg.now) emit ++ st) (O.events out.old) (O.events out.new) }
+            0 (said msg.now).bytes emit.old)) (λ st. emit_of (nature N.kind_of N.Load.first
+            N.Load.second) id.0 (said msg.now) emit.old ++ st) (O.events out.old) (O.events out.new) }
         ensures steady { IsSteady N.rank_of self.new.book self.new.nodes.items
             (vec_capacity self.new.nodes) }
     {
@@ -282,29 +319,30 @@ impl<N: Node> Inner<N> {
         }
     }
 
+    #[inline(always)]
     #[cycle(lively)]
     fn send_up<O: Outside>(
         &mut self,
         id: ObjId,
         key: usize,
         msg: &Msg<'_>,
-        emit: Emit<N::Load>,
+        emit: &mut Emit<N::Load>,
         now: u64,
         out: &mut O,
     )
         requires runs { busy self.old.book id.0 ≡ true }
-        requires up { IsUp (length msg.now.first.now + length msg.now.second.now) emit }
+        requires up { IsUp (length msg.now.first.now + length msg.now.second.now) emit.old }
         requires below { IsBelow (rank self.old.book id.0) self.old.book }
         requires steady { IsSteady N.rank_of self.old.book self.old.nodes.items
             (vec_capacity self.old.nodes) }
         ensures lives { LivelyFor N.stands (nature N.kind_of N.Load.first N.Load.second) now
             self.old.book
             self.new.book self.old.nodes.items self.new.nodes.items
-            (Back (busy self.old.book) id.0 (in_list emit.load)) none_due
+            (Back (busy self.old.book) id.0 (in_list emit.old.load)) none_due
             (Leaves self.old.book (port_at id.0 0) (carries (nature N.kind_of N.Load.first
             N.Load.second)
-            (said msg.now).bytes emit.from emit.to emit.load)) (λ st. emit_of
-            (nature N.kind_of N.Load.first N.Load.second) id.0 (said msg.now) (Some emit) ++ st)
+            (said msg.now).bytes emit.old.from emit.old.to emit.old.load)) (λ st. emit_of
+            (nature N.kind_of N.Load.first N.Load.second) id.0 (said msg.now) (Some emit.old) ++ st)
             (O.events out.old) (O.events out.new) }
         ensures steady { IsSteady N.rank_of self.new.book self.new.nodes.items
             (vec_capacity self.new.nodes) }
@@ -313,12 +351,13 @@ impl<N: Node> Inner<N> {
             obj: id,
             slot: emit.slot,
         };
-        let part = message_of::<N>(&emit, msg.rec, msg.first, msg.second);
+        let part = message_of::<N>(emit, msg.rec, msg.first, msg.second);
         self.pass_up(at, key, &part, now, out);
-        self.take_emit(id, key, emit);
+        self.take_load(id, key, &mut emit.load);
     }
 
     /// A message leaves by slot 0.
+    #[inline(always)]
     #[cycle(lively)]
     fn pass_up<O: Outside>(&mut self, at: Port, key: usize, msg: &Msg<'_>, now: u64, out: &mut O)
         requires slot { at.slot ≡ 0 }
@@ -339,7 +378,7 @@ impl<N: Node> Inner<N> {
         match self.book.port_at(at, key) {
             PortState::Open => out.send(at, msg),
             PortState::Linked(peer) => {
-                let other = self.book.peer_key(key, at.slot);
+                let other = self.book.key(peer.obj);
                 self.enter_up(peer, other, msg, now, out);
             }
             PortState::Leaving(_) => out.event(&GraphEvent::Dropped(at).spelled()),

@@ -1,23 +1,29 @@
 -- The machine counts the records used.
 use Rattle.std.proofs.Common.{◌≡◌, ◌+◌, List, [], ◌∷◌, length, refl, ◌∙◌, arith, length-append}
 use Rattle.nb_defs.specs.Records.{In, Out}
-use Rattle.nb_engine.specs.Machine.{Machine, Path, nothing, uses, moves, Begins, runs, refuses, passes_by, brings, passes_time, switches_off, Move, passes, does, leaves, asks_for, finds_no_route, ends, hands, has_handed}
+use Rattle.nb_engine.specs.Machine.{Machine, Path, nothing, uses, moves, Begins, runs, refuses, passes_by, brings, passes_time, switches_off, goes_on_by_frame, goes_on_by_tick, goes_off, Move, passes, is_left, yields, does, leaves, jumps, finds_no_label, asks_for, finds_no_route, hands, has_handed}
 
 pub begins_counts : (m : Machine) (r : In) (added : List Out) (m' : Machine) → Begins m r added m' → m'.used ≡ m.used + 1
-begins_counts m r added m' (runs n s valid plain) = refl
-begins_counts m r added m' (refuses n s valid plain) = refl
+begins_counts m r added m' (runs n s code valid reading) = refl
+begins_counts m r added m' (refuses n s cause valid refusal) = refl
 begins_counts m r added m' (passes_by n w s o bytes reply seen net valid t h) = refl
 begins_counts m r added m' (brings n w s o bytes reply seen net port body added' phase valid t h k) = refl
 begins_counts m r added m' (passes_time n w s o ms added' phase valid h) = refl
 begins_counts m r added m' (switches_off n w s o) = refl
+begins_counts m r added m' (goes_on_by_frame n w s bytes reply seen net valid t) = refl
+begins_counts m r added m' (goes_on_by_tick n w s ms valid) = refl
+begins_counts m r added m' (goes_off n w s) = refl
 
 pub move_counts : (m : Machine) (added : List Out) (m' : Machine) → Move m added m' → m'.used ≡ m.used
-move_counts m added m' (passes n w s line h g) = refl
-move_counts m added m' (does n w s line x xs o h g k l) = refl
-move_counts m added m' (leaves n w s line x xs o h g k l) = refl
-move_counts m added m' (asks_for n w s line x xs wanted h g k l) = refl
-move_counts m added m' (finds_no_route n w s line x xs wanted h g k l) = refl
-move_counts m added m' (ends n w s h) = refl
+move_counts m added m' (passes n w s t h) = refl
+move_counts m added m' (is_left n w s cause h) = refl
+move_counts m added m' (yields n w s x xs h g) = refl
+move_counts m added m' (does n w s x xs o h g k l) = refl
+move_counts m added m' (leaves n w s x xs o h g k l) = refl
+move_counts m added m' (jumps n w s x xs name line h g k l) = refl
+move_counts m added m' (finds_no_label n w s x xs name h g k l) = refl
+move_counts m added m' (asks_for n w s x xs wanted h g k l) = refl
+move_counts m added m' (finds_no_route n w s x xs wanted h g k l) = refl
 move_counts m added m' (hands n r rest) = refl
 move_counts m added m' (has_handed n) = refl
 

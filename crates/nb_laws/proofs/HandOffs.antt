@@ -17,15 +17,17 @@ use Rattle.nb_uri.specs.Pieces.{is_slash}
 use Rattle.nb_uri.specs.Targets.{TftpTarget, tftp_target, is_too_long}
 use Rattle.nb_image.specs.declared.image.Image.{Image}
 use Rattle.nb_image.specs.declared.error.ImageError.{ImageError}
+use Rattle.nb_image.specs.declared.error.ImageError.TheVariants as error
 use Rattle.nb_image.specs.Images.{ImageList, with_image, image_place, refusal}
 use Rattle.nb_image.specs.Kinds.{kind_of}
 use Rattle.nb_engine.specs.declared.world.World.{World}
 use Rattle.nb_engine.specs.World.{unbound}
-use Rattle.nb_engine.specs.Effects.{Wanted, Effect, says, asks, asked_for, fetch, effect, too_long_uri, full_opens, bad_uri}
+use Rattle.nb_engine.specs.Effects.{Wanted, Effect, says, asks, goes, asked_for, fetch, goto_label, effect, too_long_uri, full_opens, bad_uri}
 use Rattle.nb_engine.specs.Opens.{has_route, send_records, sends_records, acts_records, advance_records, try_records}
-use Rattle.nb_engine.specs.Conclusions.{Conclusion, keeps, fails, boots, conclusion, stored, taken_in, selected_in, place_for, is_bootable, not_bootable, conclusion_records, handoff_records}
+use Rattle.nb_engine.specs.Conclusions.{Conclusion, keeps, fails, boots, conclusion, stored, taken_in, selected_in, place_for, is_bootable, not_bootable, cause_of_error, conclusion_records, handoff_records}
 use Rattle.nb_engine.specs.Honesty.{IsNoPart, HaveNoParts}
-use Rattle.nb_engine.specs.Machine.{Running, prints, command_record, command_records, reply_records, phase_after}
+use Rattle.nb_engine.specs.Running.{Running}
+use Rattle.nb_engine.specs.Machine.{prints, command_record, command_records, reply_records, phase_after}
 use Rattle.nb_engine.proofs.HandingLemmas.{all_append}
 use Rattle.nb_laws.specs.Events.{Event, starts, puts}
 use Rattle.nb_tftp.specs.Blocks.{is_whole}
@@ -197,15 +199,10 @@ pub no_command : (s : Running) (ws : List (List ℕ)) (o : CommandOutcome) → H
 no_command s ws o =
     parts_more ((command_record s ws ∷ []) ++ prints o.prints) (result o.cause ∷ []) (parts_more (command_record s ws ∷ []) (prints o.prints) (tt, tt) (no_prints o.prints)) (tt, tt)
 
-no_conclusion : (depth : ℕ) (c : Conclusion) → HaveNoParts (conclusion_records depth c)
-no_conclusion depth (keeps list) = (tt, tt)
-no_conclusion depth (fails cause) = (tt, (tt, tt))
-no_conclusion depth (boots list kernel) = (tt, tt)
-
 -- what a conclusion does to the list
 IsAfter : Cause → Image → ImageList → Conclusion → Type 0
 IsAfter cause image list (keeps new) = (is_ok_cause cause ≡ true) × (new.images ≡ with_image image list.images)
-IsAfter cause image list (fails c) = Unit {0}
+IsAfter cause image list (fails c) = is_ok_cause c ≡ false
 IsAfter cause image list (boots new kernel) = (is_ok_cause cause ≡ true) × (new.images ≡ with_image image list.images) × (kernel ≡ place_for image list)
 
 taken_after : (c : Cause) (booting : Bool) (image : Image) (list : ImageList) → is_ok_cause c ≡ true → IsAfter c image list (taken_in booting image list)
@@ -215,11 +212,16 @@ taken_after c true image list e = by (is_bootable (kind_of image.body))
   where
     by : (b : Bool) → IsAfter c image list (cond b (boots (selected_in image list) (place_for image list)) (fails not_bootable))
     by true = (e, refl, refl)
-    by false = tt
+    by false = refl
+
+error_fails : (e : ImageError) → is_ok_cause (cause_of_error e) ≡ false
+error_fails error.TooMany = refl
+error_fails error.TooLarge = refl
+error_fails error.NoMemory = refl
 
 stored_after : (c : Cause) (x : Option ImageError) (booting : Bool) (image : Image) (list : ImageList) → is_ok_cause c ≡ true → IsAfter c image list (stored x booting image list)
 unfolding IsAfter
-stored_after c (Some x) booting image list e = tt
+stored_after c (Some x) booting image list e = error_fails x
 stored_after c None booting image list e = taken_after c booting image list e
 
 conclusion_after : (c : Cause) (booting : Bool) (image : Image) (list : ImageList) → IsAfter c image list (conclusion c booting image list)
@@ -228,10 +230,14 @@ conclusion_after c booting image list = by (is_ok_cause c) refl
   where
     by : (b : Bool) → is_ok_cause c ≡ b → IsAfter c image list (cond b (stored (refusal image list.images) booting image list) (fails c))
     by true e = stored_after c (refusal image list.images) booting image list e
-    by false e = tt
+    by false e = e
 
 listed_more : (images : List Image) (image : Image) → image_list (images ++ image ∷ []) ≡ with_image image (image_list images)
 listed_more images image = fold-append (λ (list : List Image) (i : Image). with_image i list) [] images (image ∷ [])
+
+-- a RESULT that isn't Ok brings none
+pub failed_image : (es : List Event) (cause : Cause) → is_ok_cause cause ≡ false → image_at es (puts (result cause)) ≡ []
+failed_image es cause e = ap (λ b. cond (b && (came_ok (last_end es) && is_whole (datagrams_of (made es - 1) es))) (last_image es) []) e
 
 -- RESULT Ok after an end that was Ok brings the last open's image
 result_brings : (es : List Event) (cause : Cause) (image : Image) → last_end es ≡ Some cause → is_ok_cause cause ≡ true → is_whole (datagrams_of (made es - 1) es) ≡ true → last_image es ≡ image ∷ [] → images_brought (es ++ puts (result ok) ∷ []) ≡ images_brought es ++ image ∷ []
@@ -241,14 +247,15 @@ result_brings es cause image end is whole last =
 
 by_conclusion : (es : List Event) (outs : List Out) (w : World) (own : ℕ) (s : Running) (cause : Cause) (image : Image) (c : Conclusion) → IsAfter cause image w.images c →
     last_end es ≡ Some cause → (is_ok_cause cause ≡ is_whole (datagrams_of (made es - 1) es)) → last_image es ≡ image ∷ [] → w.images.images ≡ image_list (images_brought es) → HaveNoParts outs →
-    AgreesImages (es ++ told (conclusion_records s.depth c)) (outs ++ conclusion_records s.depth c) (phase_after (unbound w own) s c)
+    AgreesImages (es ++ told (conclusion_records c)) (outs ++ conclusion_records c) (phase_after (unbound w own) s c)
 unfolding IsAfter
 by_conclusion es outs w own s cause image (keeps new) h end whole last is none =
     let all = result_brings es cause image end h.0 (sym whole ∙ h.0) last in (
       h.1 ∙ ap (λ z. with_image image z) is ∙ sym (ap image_list all ∙ listed_more (images_brought es) image),
       parts_more outs (result ok ∷ []) none (tt, tt),
     )
-by_conclusion es outs w own s cause image (fails c) h end whole last is none = parts_more outs (conclusion_records s.depth (fails c)) none (tt, (tt, tt))
+by_conclusion es outs w own s cause image (fails c) h end whole last is none =
+    (is ∙ sym (ap image_list (one_keeps es (result c) (failed_image es c h))), parts_more outs (result c ∷ []) none (tt, tt))
 by_conclusion es outs w own s cause image (boots new kernel) h end whole last is none =
     let all = result_brings es cause image end h.0 (sym whole ∙ h.0) last in
     let list : new.images ≡ image_list (images_brought es ++ image ∷ []) = h.1 ∙ ap (λ z. with_image image z) is ∙ sym (listed_more (images_brought es) image) in
@@ -265,7 +272,7 @@ by_conclusion es outs w own s cause image (boots new kernel) h end whole last is
 
 pub concluded_images : (es : List Event) (outs : List Out) (w : World) (own : ℕ) (s : Running) (cause : Cause) (booting : Bool) (image : Image) → last_end es ≡ Some cause →
     (is_ok_cause cause ≡ is_whole (datagrams_of (made es - 1) es)) → last_image es ≡ image ∷ [] → w.images.images ≡ image_list (images_brought es) → HaveNoParts outs →
-    AgreesImages (es ++ told (conclusion_records s.depth (conclusion cause booting image w.images))) (outs ++ conclusion_records s.depth (conclusion cause booting image w.images))
+    AgreesImages (es ++ told (conclusion_records (conclusion cause booting image w.images))) (outs ++ conclusion_records (conclusion cause booting image w.images))
     (phase_after (unbound w own) s (conclusion cause booting image w.images))
 concluded_images es outs w own s cause booting image end whole last is none =
     by_conclusion es outs w own s cause image (conclusion cause booting image w.images) (conclusion_after cause booting image w.images) end whole last is none
@@ -274,6 +281,7 @@ concluded_images es outs w own s cause booting image end whole last is none =
 abbrev IsAskedBy : List ℕ → Effect → Type 0
 IsAskedBy uri (says o) = Unit {0}
 IsAskedBy uri (asks wanted) = (uri ≡ wanted.uri) × (wanted.target.name ≡ last_segment wanted.target.path)
+IsAskedBy uri (goes name) = Unit {0}
 
 either_asks : (uri : List ℕ) (t : Bool) (a b : Effect) → IsAskedBy uri a → IsAskedBy uri b → IsAskedBy uri (cond t a b)
 either_asks uri true a b p q = p
@@ -297,13 +305,19 @@ fetch_asks name opens booting (uri ∷ []) =
     either_asks uri (is_option uri) (says (refused usage)) (option_map_or (asked_for opens booting uri) (tftp_target uri) (says (refused bad_uri))) tt (target_asks opens booting uri (tftp_target uri) refl)
 fetch_asks name opens booting (uri ∷ w ∷ ws) = tt
 
+goto_asks : (uri : List ℕ) (args : List (List ℕ)) → IsAskedBy uri (goto_label args)
+goto_asks uri [] = tt
+goto_asks uri (name ∷ []) = either_asks uri (is_option name) (says (refused usage)) (goes name) tt tt
+goto_asks uri (name ∷ w ∷ ws) = tt
+
 effect_asks : (opens : ℕ) (ws : List (List ℕ)) → IsAskedBy (uri_of (Some ws)) (effect opens ws)
 unfolding effect
 effect_asks opens [] = tt
 effect_asks opens (name ∷ args) =
     let uri = uri_of (Some (name ∷ args)) in
     either_asks uri (bytes_eq name (codes "imgfetch")) (fetch opens false args) _ (fetch_asks name opens false args)
-    (either_asks uri (bytes_eq name (codes "imgexec")) (fetch opens true args) (says (command_outcome (name ∷ args))) (fetch_asks name opens true args) tt)
+    (either_asks uri (bytes_eq name (codes "imgexec")) (fetch opens true args) _ (fetch_asks name opens true args)
+    (either_asks uri (bytes_eq name (codes "goto")) (goto_label args) (says (command_outcome (name ∷ args))) (goto_asks uri args) tt))
 
 pub asks_named : (opens : ℕ) (ws : List (List ℕ)) (wanted : Wanted) → effect opens ws ≡ asks wanted → (uri_of (Some ws) ≡ wanted.uri) × (wanted.target.name ≡ last_segment wanted.target.path)
 asks_named opens ws wanted e = subst (IsAskedBy (uri_of (Some ws))) e (effect_asks opens ws)

@@ -12,7 +12,8 @@ use Rattle.nb_engine.specs.World.{unbound}
 use Rattle.nb_engine.specs.Effects.{Wanted, effect}
 use Rattle.nb_engine.specs.Opens.{Open, open_for, opened_record, with_entry, acts_records}
 use Rattle.nb_engine.specs.Conclusions.{image_from, Conclusion, keeps, fails, boots, conclusion_records}
-use Rattle.nb_engine.specs.Machine.{Phase, Running, Hears, goes_on, is_over, phase_after, concluded}
+use Rattle.nb_engine.specs.Running.{Running}
+use Rattle.nb_engine.specs.Machine.{Phase, Hears, goes_on, is_over, phase_after, concluded}
 use Rattle.nb_laws.specs.Events.{Event, puts}
 use Rattle.std.proofs.Math.Bool.{or-true}
 use Rattle.nb_laws.specs.Lists as lists
@@ -23,9 +24,10 @@ use Rattle.nb_engine.specs.Honesty.{HaveNoParts}
 use Rattle.nb_image.specs.Images.{image_of}
 use Rattle.nb_tftp.specs.Blocks.{file}
 use Rattle.nb_laws.specs.Progress.{IsAdvanced}
-use Rattle.nb_laws.specs.Agreement.{AgreesWorld, IsOnly, NoneLives, IsNamed, AgreesImages, AgreesPhase, opening_of}
+use Rattle.nb_laws.specs.Agreement.{AgreesWorld, AgreesScript, IsOnly, NoneLives, IsNamed, AgreesImages, AgreesPhase, opening_of}
 use Rattle.nb_laws.proofs.Histories.{client_more, offset_more, time_more}
 use Rattle.nb_laws.proofs.Tellings.{told, story_still, still_aside, still_advanced, live_same, live_kept, advanced_more, made_more, kept, world_kept, Story, story_put, story_told, openings_more, calls_more, marks_more, over_more, no_more, no_or, same_number, other_number}
+use Rattle.nb_laws.proofs.Codes.{code_more, told_code}
 use Rattle.nb_laws.proofs.Asides.{aside_acts, still_conclusion, still_handoff, silent_handoff, none_of_conclusion}
 use Rattle.nb_laws.proofs.Calls.{Comes, got_same, each_number, live_one}
 use Rattle.nb_laws.proofs.Puttings.{HasBrought, conclusion_writes, acts_reasons}
@@ -58,11 +60,12 @@ pub freed : (o : ℕ) (to : ℕ) (ports : List Port) → ports ≡ record { prot
 freed o to ports e = ap (without 17 o) e ∙ ap (λ b. cond (not b) (record { proto = 17; number = o; to = to } ∷ []) []) (same_number o)
 
 -- where a conclusion leads
-pub leads : (es : List Event) (w : World) (own to : ℕ) (s : Running) (c : Conclusion) → AgreesWorld es w → NoneLives es → w.net.ports ≡ record { proto = 17; number = own; to = to } ∷ [] → AgreesPhase es (phase_after (unbound w own) s c)
-leads es w own to s (keeps list) h none ports =
-    (record { time = h.time; client = h.client; opens = h.opens; offset = h.offset; unopened = h.unopened; unended = h.unended; untold = h.untold }, freed own to w.net.ports ports, none)
-leads es w own to s (fails cause) h none ports = none
-leads es w own to s (boots list kernel) h none ports = (still_handoff kernel list.images, silent_handoff kernel list.images, none)
+pub leads : (es : List Event) (w : World) (own to : ℕ) (s : Running) (c : Conclusion) → AgreesWorld es w → NoneLives es → AgreesScript es s → w.net.ports ≡ record { proto = 17; number = own; to = to } ∷ [] → AgreesPhase es (phase_after (unbound w own) s c)
+leads es w own to s (keeps list) h none code ports =
+    (record { time = h.time; client = h.client; opens = h.opens; offset = h.offset; unopened = h.unopened; unended = h.unended; untold = h.untold }, freed own to w.net.ports ports, none, code)
+leads es w own to s (fails cause) h none code ports =
+    (record { time = h.time; client = h.client; opens = h.opens; offset = h.offset; unopened = h.unopened; unended = h.unended; untold = h.untold }, freed own to w.net.ports ports, none, code)
+leads es w own to s (boots list kernel) h none code ports = (still_handoff kernel list.images, silent_handoff kernel list.images, none)
 
 pub ended_advanced : (es : List Event) (k : ℕ) (cause : Cause) → IsAdvanced es → IsAdvanced (es ++ puts (ended k cause) ∷ [])
 ended_advanced es k cause a = advanced_more es (puts (ended k cause)) (λ j. refl) (λ j. refl) a
@@ -89,8 +92,8 @@ opened_only es w wanted none = λ j other.
 
 -- what came is taken
 pub hears_tells : (ins : List In) (outs : List Out) (es : List Event) (w : World) (s : Running) (o : Open) (call : Call) (added : List Out) (phase : Phase) →
-    Hears w s o call added phase → Story ins outs es → Comes es w o call → w.images.images ≡ image_list (images_brought es) → HaveNoParts outs → IsNamed es w o → Tells ins (outs ++ added) phase
-hears_tells ins outs es w s o call added phase (goes_on _ _ _ _ acts meets none) story c is none_before named =
+    Hears w s o call added phase → Story ins outs es → Comes es w o call → AgreesScript es s → w.images.images ≡ image_list (images_brought es) → HaveNoParts outs → IsNamed es w o → Tells ins (outs ++ added) phase
+hears_tells ins outs es w s o call added phase (goes_on _ _ _ _ acts meets none) story c code is none_before named =
     let a = acts_records w.net o.number acts in
     let r = acts_reasons es w o call acts c meets in
     let left = kept es a (aside_acts w.net o.number acts) in
@@ -99,17 +102,17 @@ hears_tells ins outs es w s o call added phase (goes_on _ _ _ _ acts meets none)
       events = es ++ told a;
       story = story_told ins outs es a (aside_acts w.net o.number acts) r.writes r.advances r.tries story;
       advanced = r.after;
-      agrees = (world_taken es w o call acts c, open_taken es w o call acts c meets, goes_further o (entry call acts) meets c.going none, λ j other. live_kept j es a left ∙ c.only j other);
+      agrees = (world_taken es w o call acts c, open_taken es w o call acts c meets, goes_further o (entry call acts) meets c.going none, λ j other. live_kept j es a left ∙ c.only j other, code ∙ sym (told_code es a));
       images = (is ∙ sym (ap image_list keep.1), parts_more outs a none_before (opens_parts a (opens_acts w.net o.number acts)), record { uri = ap uri_of keep.0 ∙ named.uri; name = named.name; latest = named.latest; words = named.words; said = keep.0 ∙ named.said; asked = named.asked });
     }
-hears_tells ins outs es w s o call added phase (is_over _ _ _ _ acts cause meets over) story c is none_before named =
+hears_tells ins outs es w s o call added phase (is_over _ _ _ _ acts cause meets over) story c code is none_before named =
     let a = acts_records w.net o.number acts in
     let k = o.number in
     let e = entry call acts in
     let concl = concluded w (with_entry o e) cause in
     let es1 = es ++ told a in
     let es2 = es1 ++ puts (ended k cause) ∷ [] in
-    let b = conclusion_records s.depth concl in
+    let b = conclusion_records concl in
     let world1 = world_taken es w o call acts c in
     let open1 = open_taken es w o call acts c meets in
     let left = kept es a (aside_acts w.net k acts) in
@@ -117,7 +120,7 @@ hears_tells ins outs es w s o call added phase (is_over _ _ _ _ acts cause meets
     let r = acts_reasons es w o call acts c meets in
     let story1 : Story ins (outs ++ a) es1 = story_told ins outs es a (aside_acts w.net k acts) r.writes r.advances r.tries story in
     let story2 : Story ins ((outs ++ a) ++ ended k cause ∷ []) es2 = story_put ins (outs ++ a) es1 (ended k cause) story1 (record { read = tt; end = (holds.0, holds.1, opening_of o, live_one k es1 (opening_of o) open1.opening open1.lives); frame = tt; step = tt; advance = r.after; try = tt }) in
-    let still = still_conclusion s.depth concl in
+    let still = still_conclusion concl in
     let advanced2 = ended_advanced es1 k cause r.after in
     let aside2 = still_aside b still in
     let none2 : NoneLives es2 = ended_none_live es1 k cause (λ j other. live_kept j es a left ∙ c.only j other) in
@@ -144,13 +147,14 @@ hears_tells ins outs es w s o call added phase (is_over _ _ _ _ acts cause meets
       image_is = last;
       list_is = is ∙ sym (ap image_list brought2);
     } in
-    let story3 : Story ins (((outs ++ a) ++ ended k cause ∷ []) ++ b) (es2 ++ told b) = story_still ins _ es2 b still (conclusion_writes es2 s.depth cause o.wanted.boots (image_from (with_entry o e)) w.images brings) advanced2 story2 in
-    let world3 = world_kept es2 b w (kept es2 b aside2) (λ j few. none_of_conclusion j (time es2) s.depth concl) world2 in
+    let story3 : Story ins (((outs ++ a) ++ ended k cause ∷ []) ++ b) (es2 ++ told b) = story_still ins _ es2 b still (conclusion_writes es2 cause o.wanted.boots (image_from (with_entry o e)) w.images brings) advanced2 story2 in
+    let world3 = world_kept es2 b w (kept es2 b aside2) (λ j few. none_of_conclusion j (time es2) concl) world2 in
     record {
       events = es2 ++ told b;
       story = subst (λ z. Story ins z (es2 ++ told b)) joined story3;
       advanced = still_advanced es2 b still advanced2;
-      agrees = leads (es2 ++ told b) w o.begun.own_port o.number s concl world3 (λ j. live_kept j es2 b (kept es2 b aside2) ∙ none2 j) c.ports;
+      agrees = leads (es2 ++ told b) w o.begun.own_port o.number s concl world3 (λ j. live_kept j es2 b (kept es2 b aside2) ∙ none2 j)
+          (code ∙ sym (told_code es2 b ∙ code_more es1 (puts (ended k cause)) ∙ told_code es a)) c.ports;
       images = subst (λ z. AgreesImages (es2 ++ told b) z (phase_after (unbound w o.begun.own_port) s concl)) joined
           (concluded_images es2 ((outs ++ a) ++ ended k cause ∷ []) w o.begun.own_port s cause o.wanted.boots (image_from (with_entry o e)) (last_end_more es1 (puts (ended k cause)))
           (holds.1 ∙ ap is_whole (got_same k es1 (o.entries ++ e ∷ []) open1.calls ∙ sym got2) ∙ ap (λ n. is_whole (lists.datagrams_of n es2)) (sym number2)) last (is ∙ sym (ap image_list brought2)) (parts_more (outs ++ a) (ended k cause ∷ []) (parts_more outs a none_before (opens_parts a (opens_acts w.net k acts))) (tt, tt)));

@@ -11,11 +11,12 @@ use Rattle.nb_ledger.specs.declared.object.Object.{Object}
 use Rattle.nb_ledger.specs.declared.port.Port.{Port}
 use Rattle.nb_ledger.specs.declared.port.PortState.{PortState}
 use Rattle.nb_ledger.specs.declared.port.PortState.TheVariants.{Open, Closed}
-use Rattle.std.proofs.lemmas.Bool.{cases_Bool, eqb-true}
+use Rattle.std.proofs.lemmas.Bool.{cases_Bool, eq-eqb, eqb-true}
 use Rattle.nb_ledger.specs.GraphRun.{port_but, new_ports}
-use Rattle.nb_ledger.specs.Ledger.{Ledger, IsRising, found, place_in, object_lives, holds, busy, rank, port, place, object_port, open_ports, open_count, opens, ranks}
+use Rattle.nb_ledger.specs.Ledger.{Ledger, IsRising, found, place_in, object_lives, holds, busy, rank, port, place, object_port, object_unused, open_ports, open_count, opens, ranks, unused}
 use Rattle.nb_ledger.specs.Changes.{SameObjects, SetsHolds, SetsBusy, SetsPort, Adds, Removes}
-use Rattle.nb_ledger.proofs.PlaceLemmas.{read-set, read-same, found-serial, found-place, place_found, place-set, read-push, read-remove, place-stays, place-remove}
+use Rattle.nb_ledger.proofs.PortLemmas.{unused-some}
+use Rattle.nb_ledger.proofs.PlaceLemmas.{found-set, read-set, read-same, found-serial, found-place, place_found, place-set, read-push, read-remove, place-stays, place-remove}
 
 -- l, with v over the object of its serial
 abbrev pub put_in : Ledger → Object → Ledger
@@ -93,6 +94,13 @@ SetsBusy-put l o x b h =
       same_port = λ y k. read-same (object_port k) Closed l.objects v o y is refl;
       same_opens = let e = opens-put l v o is in omega (arith, e);
     }
+
+-- what is written is unused as its entry says
+pub put-unused : (l : Ledger) (o : Object) (x : ℕ) (b : Bool) → found l.objects x ≡ Some o → object_unused (record o { busy = b }) ≡ unused (put_in l (record o { busy = b })) x
+put-unused l o x b h =
+    let v : Object = record o { busy = b } in
+    let is : found l.objects v.id.0 ≡ Some o = found-own l.objects x o h in
+    unused-some (put_in l v) x v (found-set l.objects v x (place_found l.objects v.id.0 (ap is_some is)) ∙ rw (eq-eqb x o.id.0 (sym (found-serial l.objects x o h))) refl)
 
 -- the object's own ports are those found
 own-port : (l : Ledger) (o : Object) (p : Port) (s : PortState) (y k : ℕ) → found l.objects p.obj.0 ≡ Some o → cond (eqb y p.obj.0) (cond (eqb k p.slot) s (object_port k o)) (port l y k) ≡ port_but p s (port l) y k

@@ -14,8 +14,8 @@ use nb_terms::NoMemory;
 use std::alloc::Global;
 use std::marker::Model;
 
-/// The objects that live, by rising serial, how many were made, and the key of each object, by which
-/// it is found without a search. After `new` it takes no memory.
+/// The objects that live, by rising serial, how many were made, and where each of them is likely to stand,
+/// by which it is found without a search. After `new` it takes no memory.
 #[derive(Drop)]
 pub struct Book {
     pub(crate) made: u64,
@@ -81,23 +81,19 @@ impl Book {
         place_among(&self.objects, id)
     }
 
-    /// The key of a live object, by a search; with it later calls search nothing.
+    /// The key of an object: where it is likely to stand. With it calls search nothing where it is right.
+    #[inline(always)]
     pub fn key(&self, id: ObjId) -> usize {
-        self.keys.own(self.place(id))
-    }
-
-    /// The key of the object that a port of the object with the key `key` is linked to.
-    pub fn peer_key(&self, key: usize, slot: u8) -> usize {
-        self.keys.peer(key, slot)
+        self.keys.place(id.0)
     }
 
     /// Where an object stands, by its key, or how many live where it is dead.
+    #[inline(always)]
     pub fn place_at(&self, id: ObjId, key: usize) -> usize
         ensures { result ≡ place self.now id.0 }
     {
-        let place = self.keys.place(key);
-        if stands_at(&self.objects, id, place) {
-            place
+        if stands_at(&self.objects, id, key) {
+            key
         } else {
             self.place(id)
         }
@@ -192,7 +188,15 @@ impl Book {
     pub fn is_free(&self, at: Port) -> bool
         ensures { IsTrue result ↔ (port self.now at.obj.0 at.slot ≡ Open) }
     {
-        match self.port(at) {
+        self.is_free_at(at, self.key(at.obj))
+    }
+
+    /// The same by its object's key.
+    #[inline(always)]
+    pub fn is_free_at(&self, at: Port, key: usize) -> bool
+        ensures { IsTrue result ↔ (port self.now at.obj.0 at.slot ≡ Open) }
+    {
+        match self.port_at(at, key) {
             PortState::Open => true,
             PortState::Linked(_) => false,
             PortState::Leaving(_) => false,
@@ -233,6 +237,7 @@ impl Book {
     }
 }
 
+#[inline(never)]
 fn place_among(objects: &[Object], id: ObjId) -> usize
     ensures { result ≡ place_in objects.now id.0 }
 {

@@ -1,5 +1,5 @@
 ghost use Rattle.std.specs.Prelude.{◌≡◌, ◌+◌, ◌<◌, ◌^◌, true, false, length};
-ghost use Rattle.nb_ledger.specs.Ledger.{busy, object_lives, place};
+ghost use Rattle.nb_ledger.specs.Ledger.{busy, object_lives, place, unused};
 ghost use Rattle.nb_ledger.specs.Changes.{SetsHolds, SetsBusy, SetsPort, Adds, Removes};
 
 use crate::{Book, ObjId, Object, Port, PortState};
@@ -14,6 +14,7 @@ impl Book {
     }
 
     /// Sets whether an entry of the object runs; whether one did.
+    #[inline(always)]
     pub(crate) fn set_busy(&mut self, id: ObjId, key: usize, runs: bool) -> bool
         requires { object_lives self.old id.0 ≡ true }
         ensures was { result ≡ busy self.old id.0 }
@@ -25,6 +26,19 @@ impl Book {
         was
     }
 
+    /// The same where an entry ends; whether the object is then unused.
+    #[inline(always)]
+    pub(crate) fn end_entry(&mut self, id: ObjId, key: usize, runs: bool) -> bool
+        requires { object_lives self.old id.0 ≡ true }
+        ensures sets { SetsBusy self.old self.new id.0 runs }
+        ensures unused { result ≡ unused self.new id.0 }
+    {
+        let place = self.place_at(id, key);
+        let object = &mut self.objects[place];
+        object.busy = runs;
+        object.is_unused()
+    }
+
     pub(crate) fn set_port(&mut self, at: Port, state: PortState)
         requires lives { object_lives self.old at.obj.0 ≡ true }
         requires slot { at.slot < 4 }
@@ -33,16 +47,6 @@ impl Book {
     {
         let place = self.place(at.obj);
         self.objects[place].ports[at.slot as usize] = state;
-    }
-
-    /// Keeps the key of each end of a link at the other.
-    pub(crate) fn join_keys(&mut self, upper: Port, lower: Port)
-        ensures { self.new ≡ self.old }
-    {
-        let high = self.key(upper.obj);
-        let low = self.key(lower.obj);
-        self.keys.join(high, upper.slot, low);
-        self.keys.join(low, lower.slot, high);
     }
 
     pub(crate) fn add(&mut self, rank: u8) -> ObjId
@@ -65,7 +69,7 @@ impl Book {
                 ports: [PortState::Open; 4],
             },
         );
-        self.keys.add(self.objects.len() - 1);
+        self.keys.add(self.objects.len() - 1, id.0);
         self.made = id.0;
         id
     }

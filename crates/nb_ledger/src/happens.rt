@@ -10,6 +10,7 @@ ghost use Rattle.nb_ledger.specs.Flat as notice;
 ghost use Rattle.nb_ledger.specs.GraphRun.{OnStack, Running, MustClose, MustEnter, MustUnplug};
 ghost use Rattle.nb_ledger.specs.GraphRun.{MustFree, IsIdle, MayEnter, Step, owed};
 ghost use Rattle.nb_ledger.specs.Ledger.{Ledger, object_lives, holds, busy, port, place, run_state};
+ghost use Rattle.nb_ledger.specs.Ledger.{unused};
 ghost use Rattle.nb_ledger.specs.Changes.{SetsHolds, SetsBusy, SetsPort, Adds, Removes};
 
 use crate::{Book, GraphEvent, ObjId, Outside, Port, PortState, Way};
@@ -85,12 +86,12 @@ impl Book {
     {
         self.set_port(upper, PortState::Linked(lower));
         self.set_port(lower, PortState::Linked(upper));
-        self.join_keys(upper, lower);
         out.event(&GraphEvent::Plugged(upper, lower).spelled());
     }
 
     /// An entry by a message or by time begins, of the object with this key; whether one of it ran
     /// already.
+    #[inline(always)]
     pub fn enter<O: Outside>(&mut self, at: Port, key: usize, by: Way, out: &mut O) -> bool
         requires { object_lives self.old at.obj.0 ≡ true }
         ensures told { Tells (O.events out.old) (O.events out.new) (Entered at by ∷ []) }
@@ -124,8 +125,10 @@ impl Book {
         was
     }
 
-    /// The innermost entry ends; `was` says whether one of its object ran before it.
-    pub fn leave<O: Outside>(&mut self, at: Port, key: usize, was: bool, out: &mut O)
+    /// The innermost entry ends; `was` says whether one of its object ran before it. Returns whether the
+    /// object is then unused.
+    #[inline(always)]
+    pub fn leave<O: Outside>(&mut self, at: Port, key: usize, was: bool, out: &mut O) -> bool
         requires { object_lives self.old at.obj.0 ≡ true }
         ensures told { Tells (O.events out.old) (O.events out.new) (Left at ∷ []) }
         ensures given { Given (O.events out.old) (O.events out.new) (notice.event (flat (Left at))
@@ -133,9 +136,11 @@ impl Book {
         ensures step { (by : _) (st : List OnStack) → Step (run_state self.old (Running at by ∷ st))
             (Left at) (owed at.obj.0 (run_state self.new st)) }
         ensures sets { SetsBusy self.old self.new at.obj.0 was }
+        ensures unused { result ≡ unused self.new at.obj.0 }
     {
-        self.set_busy(at.obj, key, was);
+        let unused = self.end_entry(at.obj, key, was);
         out.event(&GraphEvent::Left(at).spelled());
+        unused
     }
 
     /// Closes an open port without a link.

@@ -1,102 +1,89 @@
 use slab::Slab;
 use std::alloc::{AllocError, Global};
 
-/// By its key in a slab, where an object stands, and the keys of those that its ports are linked
-/// to. A key stays as long as its object lives. No proof relies on a key: a wrong one costs the book
-/// a search.
+/// How many serials in a row have entries of their own in the table: as many as objects may live.
+const ROW: usize = 64;
+
+/// Where objects stand, without a search. An object's place stands in a slab, under a number that stays as
+/// long as it lives, and that number in a table, by the last bits of its serial. No proof relies on a
+/// place that is found so: a wrong one costs the book a search, as of an object whose bits a later serial
+/// shares.
 #[derive(Drop)]
 pub(crate) struct Keys {
+    /// The slab's numbers of the objects, by place.
     own: Vec<usize>,
-    spots: Slab<Spot>,
-}
-
-/// Where an object stands, and the keys of its peers by its slots.
-#[derive(Clone, Copy, Debug)]
-struct Spot {
-    place: usize,
-    peers: [usize; 4],
+    places: Slab<usize>,
+    /// The slab's number that was given last for a serial with these bits.
+    recent: Vec<usize>,
 }
 
 impl Keys {
-    /// Room for the keys of `room` objects; no more memory is taken later.
+    /// Room for the places of `room` objects; no more memory is taken later.
     pub(crate) fn new(alloc: Global, room: usize) -> Result<Keys, AllocError> {
         let own = Vec::with_capacity(alloc, room)?;
-        let spots = Slab::with_capacity(alloc, room)?;
-        Ok(Keys { own, spots })
+        let places = Slab::with_capacity(alloc, room)?;
+        let recent = Vec::from_elem(alloc, 0, ROW)?;
+        Ok(Keys {
+            own,
+            places,
+            recent,
+        })
     }
 
-    /// The place of the object with this key.
-    pub(crate) fn place(&self, key: usize) -> usize {
-        match self.spots.get(key) {
-            Some(spot) => spot.place,
+    /// Where the object with this serial is likely to stand.
+    #[inline(always)]
+    pub(crate) fn place(&self, serial: u64) -> usize {
+        match self.recent.get(serial as usize % ROW) {
+            Some(number) => self.place_of(*number),
             None => 0,
         }
     }
 
-    /// The key of the object at this place.
-    pub(crate) fn own(&self, place: usize) -> usize {
+    #[inline(always)]
+    fn place_of(&self, number: usize) -> usize {
+        match self.places.get(number) {
+            Some(place) => *place,
+            None => 0,
+        }
+    }
+
+    fn own(&self, place: usize) -> usize {
         match self.own.get(place) {
-            Some(key) => *key,
+            Some(number) => *number,
             None => 0,
         }
     }
 
-    /// The key of the object that this one's slot is linked to.
-    pub(crate) fn peer(&self, key: usize, slot: u8) -> usize {
-        match self.spots.get(key) {
-            Some(spot) => spot.peer(slot),
-            None => 0,
+    /// The object with this serial comes to this place, the last.
+    pub(crate) fn add(&mut self, place: usize, serial: u64) {
+        if self.places.len() < self.places.capacity() && self.own.len() < self.own.capacity() {
+            let number = self.places.insert_reserved(place);
+            let _ = self.own.push(number);
+            self.note(serial, number);
         }
     }
 
-    /// Gives a key to the object that comes to this place, the last.
-    pub(crate) fn add(&mut self, place: usize) {
-        if self.spots.len() < self.spots.capacity() && self.own.len() < self.own.capacity() {
-            let key = self.spots.insert_reserved(Spot {
-                place,
-                peers: [0; 4],
-            });
-            let _ = self.own.push(key);
-        }
-    }
-
-    /// The slot is linked to the object with the key `peer`.
-    pub(crate) fn join(&mut self, key: usize, slot: u8, peer: usize) {
-        if let Some(spot) = self.spots.get_mut(key) {
-            spot.join(slot, peer);
+    fn note(&mut self, serial: u64, number: usize) {
+        if let Some(kept) = self.recent.get_mut(serial as usize % ROW) {
+            *kept = number;
         }
     }
 
     /// The object at this place goes, and those after it move down by one.
     pub(crate) fn remove(&mut self, place: usize) {
         if place < self.own.len() {
-            let key = self.own.remove(place);
-            let _gone = self.spots.try_remove(key);
+            let number = self.own.remove(place);
+            let _gone = self.places.try_remove(number);
             self.move_down(place);
         }
     }
 
     fn move_down(&mut self, from: usize) {
         for place in from..self.own.len() {
-            let key = self.own(place);
-            if let Some(spot) = self.spots.get_mut(key) {
-                spot.place = place;
+            let number = self.own(place);
+            if let Some(kept) = self.places.get_mut(number) {
+                *kept = place;
             }
-        }
-    }
-}
-
-impl Spot {
-    fn peer(&self, slot: u8) -> usize {
-        match self.peers.get(slot as usize) {
-            Some(key) => *key,
-            None => 0,
-        }
-    }
-
-    fn join(&mut self, slot: u8, peer: usize) {
-        if let Some(key) = self.peers.get_mut(slot as usize) {
-            *key = peer;
         }
     }
 }

@@ -53,6 +53,11 @@ for_none net o xs (datagram p d) e none =
     ap (λ b. b || false) (not_some (is_for net0 p d (live_of o xs)) (d.src_port, d.body) (sym (received_as net o xs p d e) ∙ none))
 for_none net o xs m e none = refl
 
+-- where no open lives, a message is for none
+pub for_nobody : (device : ℕ) (m : Brought) → is_for_one device m [] ≡ false
+for_nobody device (datagram p d) = refl
+for_nobody device m = refl
+
 -- what is received is a datagram for it
 pub data ForOpen (o : Open) (xs : List Exchange) (port : ℕ) (body : List ℕ) : Brought → Type 0 where
   by_datagram : (p : PacketParts) (d : UdpParts) → is_for net0 p d (live_of o xs) ≡ true → port ≡ d.src_port → body ≡ d.body → ForOpen o xs port body (datagram p d)

@@ -14,7 +14,8 @@ use Rattle.nb_defs.specs.Causes.{ok}
 use Rattle.nb_engine.specs.World.{unbound, world_with_images}
 use Rattle.nb_engine.specs.Opens.{Open, with_entry, body_of, has_route, request_of, acts_records, end_of}
 use Rattle.nb_engine.specs.Conclusions.{Conclusion, keeps, fails, boots, conclusion, conclusion_records, handoff_records}
-use Rattle.nb_engine.specs.Machine.{Running, further, Phase, Hears, goes_on, is_over, phase_after, concluded}
+use Rattle.nb_engine.specs.Running.{Running, with_result}
+use Rattle.nb_engine.specs.Machine.{Phase, Hears, goes_on, is_over, phase_after, concluded}
 use Rattle.nb_laws.specs.Agreement.{bare, opening_of}
 use Rattle.nb_laws.specs.Frames.{begun_by}
 use Rattle.nb_laws.proofs.Asides.{aside_acts}
@@ -24,7 +25,7 @@ use Rattle.nb_machine.specs.Transfers.{arrival_of, end_records, transfer_records
 use Rattle.nb_machine.specs.Takings.{Over, AllTake, all_have, lives_on}
 use Rattle.nb_machine.specs.Takings as takings
 use Rattle.nb_machine.specs.Scripts.{fetch, answer, Answer, by_end, answer_in, concluded_by}
-use Rattle.nb_machine.specs.Courses.{Standing, running, waiting, handing, left, LeadsTo}
+use Rattle.nb_machine.specs.Courses.{Standing, running, waiting, handing, LeadsTo}
 use Rattle.nb_machine.specs.Carried.{live_of, state_in, waiting_in, Lives, StandsAs}
 use Rattle.nb_machine.proofs.Told.{routed, end_put, all_came}
 
@@ -32,7 +33,7 @@ use Rattle.nb_machine.proofs.Told.{routed, end_put, all_came}
 pub record Answered (w : World) (s : Running) (o : Open) (r : In) (added put : List Out) (after : List Live) (over : List Over) (phase : Phase) : Type 0 where
   pub given : Answer
   pub is_given : answer_in (state_in w after) r over (answer o.number) ≡ Some given
-  pub records : added ≡ put ++ conclusion_records s.depth (concluded_by (state_in w after) (fetch o.wanted) given)
+  pub records : added ≡ put ++ conclusion_records (concluded_by (state_in w after) (fetch o.wanted) given)
   pub to : Standing
   pub led : LeadsTo (state_in w after) s [] (concluded_by (state_in w after) (fetch o.wanted) given) [] to
   pub leads : StandsAs phase to
@@ -97,8 +98,8 @@ record Led (w : World) (own : ℕ) (s : Running) (c d : Conclusion) : Type 0 whe
   leads : StandsAs (phase_after (unbound w own) s c) to
 
 leads : (w : World) (own : ℕ) (s : Running) (c : Conclusion) → Led w own s c c
-leads w own s (keeps list) = record { to = running (state_in (world_with_images w list) []) (further s ok) []; led = (refl, refl); leads = refl }
-leads w own s (fails cause) = record { to = left (state_in w []) [] cause; led = (refl, refl); leads = (state_in w [], refl, refl) }
+leads w own s (keeps list) = record { to = running (state_in (world_with_images w list) []) (with_result s ok) []; led = (refl, refl); leads = refl }
+leads w own s (fails cause) = record { to = running (state_in w []) (with_result s cause) []; led = (refl, refl); leads = refl }
 leads w own s (boots list kernel) = record {
   to = handing (state_in (world_with_images w list) []) (handoff_records kernel list.images);
   led = ([], all_have, refl);
@@ -143,8 +144,8 @@ heard w s o xs r call added phase (is_over _ _ _ _ acts cause meets over) lives 
         given = by_end gone;
         is_given = ap (λ b. option_map by_end (cond b (Some gone) None)) (same_number o.number);
         records =
-            ap (λ z. z ++ conclusion_records s.depth (concluded w (with_entry o e) cause)) (sym told)
-            ∙ ap (λ c. (x.put ++ []) ++ conclusion_records s.depth c) so;
+            ap (λ z. z ++ conclusion_records (concluded w (with_entry o e) cause)) (sym told)
+            ∙ ap (λ c. (x.put ++ []) ++ conclusion_records c) so;
         to = l2.to;
         led = l2.led;
         leads = l2.leads;

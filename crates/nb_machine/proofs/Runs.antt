@@ -1,6 +1,5 @@
 -- A run of the engine's machine is a course of the machine of many opens.
 use Rattle.std.proofs.Common.{◌≡◌, ℕ, ◌+◌, true, cond, List, [], ◌∷◌, ◌++◌, Some, None, refl, sym, ◌∙◌, ap, subst, append-nil}
-use Rattle.nb_defs.specs.Causes.{ok, not_script}
 use Rattle.nb_defs.specs.Records.{In, start, frame, tick, off, IsIn, Out, step, ended}
 use Rattle.nb_stack.specs.Client.{Client}
 use Rattle.nb_stack.specs.Brings.{Brought, Brings}
@@ -12,7 +11,8 @@ use Rattle.nb_engine.specs.declared.world.World.{World}
 use Rattle.nb_engine.specs.World.{world_of, with_net, with_open}
 use Rattle.nb_engine.specs.World as world
 use Rattle.nb_engine.specs.Opens.{Open, has_route, request_of, begun_for, open_for, send_records, heard_from}
-use Rattle.nb_engine.specs.Machine.{Machine, Phase, Running, at, Hears, Begins, Move, Path, reply_records, command_record, stopped_cause}
+use Rattle.nb_engine.specs.Running.{Running, anew, further, entered}
+use Rattle.nb_engine.specs.Machine.{Machine, Phase, at, Hears, Begins, Move, Path, reply_records, command_record, stopped_cause}
 use Rattle.nb_engine.specs.Machine as lone
 use Rattle.nb_laws.specs.Agreement.{bare, opening_of, AgreesPhase}
 use Rattle.nb_laws.specs.Frames.{begun_by}
@@ -25,14 +25,14 @@ use Rattle.nb_machine.specs.Takings.{all_have, is_over}
 use Rattle.nb_machine.specs.Network.{Network}
 use Rattle.nb_machine.specs.Network as network
 use Rattle.nb_machine.specs.Scripts.{fetch, doing_by, transfer_for, concluded_by}
-use Rattle.nb_machine.specs.Courses.{Standing, Progress, stands, ready, running, waiting, handing, left, handed_off, stopped, StepBegins, Proceeds, Course, begins, uses, goes_on}
+use Rattle.nb_machine.specs.Courses.{Standing, Progress, stands, ready, running, waiting, yielded, handing, left, handed_off, stopped, StepBegins, Proceeds, Course, begins, uses, goes_on}
 use Rattle.nb_machine.specs.Courses as courses
 use Rattle.nb_machine.specs.Carried.{live_of, state_in, waiting_in, Lives, StandsAs, Carries}
 use Rattle.nb_laws.proofs.Tellings.{same_number}
-use Rattle.nb_machine.proofs.Ways.{bare_route, bare_reply, bare_after, bare_send}
+use Rattle.nb_machine.proofs.Ways.{bare_route, free_reply, bare_reply, bare_after, bare_send}
 use Rattle.nb_machine.proofs.Told.{meets_nothing}
 use Rattle.nb_machine.proofs.Heard.{Taking, Result, waits_on, is_answered, heard, keeps_now}
-use Rattle.nb_machine.proofs.Frames.{HasPort, for_none, for_open, ForOpen, by_datagram}
+use Rattle.nb_machine.proofs.Frames.{HasPort, for_nobody, for_none, for_open, ForOpen, by_datagram}
 
 -- a step of one machine is one of the other, which comes to the same place
 record Steps (n : ℕ) (p : Standing) (r : In) (added : List Out) (m' : Machine) : Type 0 where
@@ -41,20 +41,20 @@ record Steps (n : ℕ) (p : Standing) (r : In) (added : List Out) (m' : Machine)
   same : StandsAs m'.phase to
 
 -- what came is taken by the network, and the command waits on or is answered
-taken : (n : ℕ) (w v : World) (s : Running) (o : Open) (xs : List Exchange) (call : Call) (r : In) (added : List Out) (phase : Phase) → IsIn r → (t : Taking v s o xs r call added phase) →
+taken : (n : ℕ) (w v : World) (s : Running) (o : Open) (xs : List Exchange) (call : Call) (r : In) (added : List Out) (phase : Phase) → IsIn r → (t : Taking v (anew s) o xs r call added phase) →
     Network (state_in w (live_of o xs ∷ [])) (n + 1) r t.put (state_in v t.after) t.over →
     Steps n (waiting (state_in w (live_of o xs ∷ [])) (waiting_in s o)) r (step (n + 1) ∷ added) (at (n + 1) phase)
 taken n w v s o xs call r added phase valid t net = by_result t.result
   where
-    by_result : Result v s o r added t.put t.after t.over phase → Steps n (waiting (state_in w (live_of o xs ∷ [])) (waiting_in s o)) r (step (n + 1) ∷ added) (at (n + 1) phase)
+    by_result : Result v (anew s) o r added t.put t.after t.over phase → Steps n (waiting (state_in w (live_of o xs ∷ [])) (waiting_in s o)) r (step (n + 1) ∷ added) (at (n + 1) phase)
     by_result (waits_on u) = record {
-      to = waiting (state_in v t.after) (waiting_in s o);
-      begins = subst (λ z. StepBegins (stands n (waiting (state_in w (live_of o xs ∷ [])) (waiting_in s o))) r (step (n + 1) ∷ z) (stands (n + 1) (waiting (state_in v t.after) (waiting_in s o)))) (sym u.records)
+      to = waiting (state_in v t.after) (waiting_in (anew s) o);
+      begins = subst (λ z. StepBegins (stands n (waiting (state_in w (live_of o xs ∷ [])) (waiting_in s o))) r (step (n + 1) ∷ z) (stands (n + 1) (waiting (state_in v t.after) (waiting_in (anew s) o)))) (sym u.records)
           (courses.waits_on n (state_in w (live_of o xs ∷ [])) (state_in v t.after) (waiting_in s o) r t.put t.over valid net u.none);
       same = u.leads;
     }
     by_result (is_answered a) =
-        let c = conclusion_records s.depth (concluded_by (state_in v t.after) (fetch o.wanted) a.given) in
+        let c = conclusion_records (concluded_by (state_in v t.after) (fetch o.wanted) a.given) in
         record {
           to = a.to;
           begins = subst (λ z. StepBegins (stands n (waiting (state_in w (live_of o xs ∷ [])) (waiting_in s o))) r (step (n + 1) ∷ z) (stands (n + 1) a.to)) (append-nil (t.put ++ c) ∙ sym a.records)
@@ -65,30 +65,30 @@ taken n w v s o xs call r added phase valid t net = by_result t.result
 -- a frame for no open
 frame_passes : (n : ℕ) (w : World) (s : Running) (o : Open) (xs : List Exchange) (bytes reply : List ℕ) (net : Client) (m : Brought) → IsIn (frame bytes) → Lives o xs →
     Brings w.net.up w.net.mac w.net.address bytes m → reply ≡ reply_of w.net m → net ≡ client_after w.net m → HasPort w.net o → heard_from o.begun.server (outcome_of w.net m) ≡ None →
-    Steps n (waiting (state_in w (live_of o xs ∷ [])) (waiting_in s o)) (frame bytes) (step (n + 1) ∷ reply_records reply) (at (n + 1) (lone.waiting (with_net w net) s o))
+    Steps n (waiting (state_in w (live_of o xs ∷ [])) (waiting_in s o)) (frame bytes) (step (n + 1) ∷ reply_records reply) (at (n + 1) (lone.waiting (with_net w net) (anew s) o))
 frame_passes n w s o xs bytes reply net m valid here brings put is port none =
     let st = state_in w (live_of o xs ∷ []) in
-    let to = waiting (with_device st net0 (client_after (bare w.net) m)) (waiting_in s o) in
+    let to = waiting (with_device st net0 (client_after (bare w.net) m)) (waiting_in (anew s) o) in
     record {
       to = to;
       begins = subst (λ z. StepBegins (stands n (waiting st (waiting_in s o))) (frame bytes) (step (n + 1) ∷ reply_records z) (stands (n + 1) to)) (bare_reply w.net o.begun.own_port o.number m port ∙ sym put)
           (courses.waits_on n st _ (waiting_in s o) (frame bytes) (reply_records (reply_of (bare w.net) m)) [] valid
           (network.passes_by (frame bytes) net0 bytes (bare w.net) m (network.on_net0 bytes) refl brings (for_none w.net o xs m port none)) refl);
-      same = (xs, here, ap (λ c. waiting (record st { devices = c ∷ [] }) (waiting_in s o)) (bare_after w.net m ∙ ap bare (sym is)));
+      same = (xs, here, ap (λ c. waiting (record st { devices = c ∷ [] }) (waiting_in (anew s) o)) (bare_after w.net m ∙ ap bare (sym is)));
     }
 
 -- a datagram for the open
 frame_comes : (n : ℕ) (w : World) (s : Running) (o : Open) (xs : List Exchange) (bytes : List ℕ) (m : Brought) (port : ℕ) (body : List ℕ) (added : List Out) (phase : Phase) → IsIn (frame bytes) → Lives o xs →
-    Brings w.net.up w.net.mac w.net.address bytes m → ForOpen o xs port body m → Hears w s o (came (received (n + 1) port body) w.time) added phase →
+    Brings w.net.up w.net.mac w.net.address bytes m → ForOpen o xs port body m → Hears w (anew s) o (came (received (n + 1) port body) w.time) added phase →
     has_route w.net (request_of o.begun) ≡ true → o.begun ≡ begun_by (opening_of o) →
     Steps n (waiting (state_in w (live_of o xs ∷ [])) (waiting_in s o)) (frame bytes) (step (n + 1) ∷ added) (at (n + 1) phase)
 frame_comes n w s o xs bytes m port body added phase valid here brings (by_datagram p d is from what) hears route is_begun =
-    let heard_it : Hears w s o (came (received (n + 1) d.src_port d.body) w.time) added phase =
-    subst (λ (z : List ℕ). Hears w s o (came (received (n + 1) d.src_port z) w.time) added phase) what (subst (λ (z : ℕ). Hears w s o (came (received (n + 1) z body) w.time) added phase) from hears) in
-    let t = heard w s o xs (frame bytes) (came (received (n + 1) d.src_port d.body) w.time) added phase heard_it here route is_begun in
+    let heard_it : Hears w (anew s) o (came (received (n + 1) d.src_port d.body) w.time) added phase =
+    subst (λ (z : List ℕ). Hears w (anew s) o (came (received (n + 1) d.src_port z) w.time) added phase) what (subst (λ (z : ℕ). Hears w (anew s) o (came (received (n + 1) z body) w.time) added phase) from hears) in
+    let t = heard w (anew s) o xs (frame bytes) (came (received (n + 1) d.src_port d.body) w.time) added phase heard_it here route is_begun in
     taken n w w s o xs (came (received (n + 1) d.src_port d.body) w.time) (frame bytes) added phase valid t (comes t)
   where
-    comes : (t : Taking w s o xs (frame bytes) (came (received (n + 1) d.src_port d.body) w.time) added phase) → Network (state_in w (live_of o xs ∷ [])) (n + 1) (frame bytes) t.put (state_in w t.after) t.over
+    comes : (t : Taking w (anew s) o xs (frame bytes) (came (received (n + 1) d.src_port d.body) w.time) added phase) → Network (state_in w (live_of o xs ∷ [])) (n + 1) (frame bytes) t.put (state_in w t.after) t.over
     comes t =
         subst (λ (z : List Live). Network (state_in w (live_of o xs ∷ [])) (n + 1) (frame bytes) t.put (state_in w z) t.over) (append-nil t.after)
         (network.brings (frame bytes) net0 bytes (bare w.net) p d [] [] t.after (live_of o xs) t.put t.over (network.on_net0 bytes) refl brings refl is t.take)
@@ -96,11 +96,26 @@ frame_comes n w s o xs bytes m port body added phase valid here brings (by_datag
 same_net : (net : Client) (m : Brought) (port : ℕ) (body : List ℕ) (o : Open) (xs : List Exchange) → ForOpen o xs port body m → client_after net m ≡ net
 same_net net m port body o xs (by_datagram p d is from what) = refl
 
+-- a script that had all its commands goes on with a frame
+frame_resumes : (n : ℕ) (w : World) (s : Running) (bytes reply : List ℕ) (net : Client) (m : Brought) → IsIn (frame bytes) → Brings w.net.up w.net.mac w.net.address bytes m →
+    reply ≡ reply_of w.net m → net ≡ client_after w.net m → w.net.ports ≡ [] →
+    Steps n (yielded (state_in w []) s []) (frame bytes) (step (n + 1) ∷ reply_records reply) (at (n + 1) (lone.running (with_net w net) (anew s)))
+frame_resumes n w s bytes reply net m valid brings put is free =
+    let st = state_in w [] in
+    let to = running (with_device st net0 (client_after (bare w.net) m)) (anew s) [] in
+    record {
+      to = to;
+      begins = subst (λ z. StepBegins (stands n (yielded st s [])) (frame bytes) (step (n + 1) ∷ reply_records z) (stands (n + 1) to)) (free_reply w.net m free ∙ sym put)
+          (courses.resumes n st _ s [] (frame bytes) (reply_records (reply_of (bare w.net) m)) [] valid
+          (network.passes_by (frame bytes) net0 bytes (bare w.net) m (network.on_net0 bytes) refl brings (for_nobody net0 m)));
+      same = ap (λ c. running (record st { devices = c ∷ [] }) (anew s) []) (bare_after w.net m ∙ ap bare (sym is));
+    }
+
 step_begins : (m : Machine) (r : In) (added : List Out) (m' : Machine) (es : _) (p : Standing) → Begins m r added m' → AgreesPhase es m.phase → StandsAs m.phase p → Steps m.used p r added m'
-step_begins m r added m' es p (lone.runs n s valid plain) a same =
-    subst (λ z. Steps n z (start s) added m') (sym same) (record { to = running (state_at_start s) _ []; begins = courses.runs n s valid plain; same = refl })
-step_begins m r added m' es p (lone.refuses n s valid plain) a same =
-    subst (λ z. Steps n z (start s) added m') (sym same) (record { to = left (state_at_start s) [] not_script; begins = courses.refuses n s valid plain; same = (state_at_start s, refl, refl) })
+step_begins m r added m' es p (lone.runs n s code valid reading) a same =
+    subst (λ z. Steps n z (start s) added m') (sym same) (record { to = running (state_at_start s) _ []; begins = courses.runs n s code valid reading; same = refl })
+step_begins m r added m' es p (lone.refuses n s cause valid refusal) a same =
+    subst (λ z. Steps n z (start s) added m') (sym same) (record { to = left (state_at_start s) [] cause; begins = courses.refuses n s cause valid refusal; same = (state_at_start s, refl, refl) })
 step_begins m r added m' es p (lone.passes_by n w s o bytes reply seen net valid takes none) a (xs, here, same) =
     subst (λ z. Steps n z (frame bytes) added m') (sym same)
     (frame_passes n w s o xs bytes reply net takes.message valid here takes.brings takes.is_put takes.is_after a.1.ports (ap (heard_from o.begun.server) (sym takes.is_outcome) ∙ none))
@@ -109,9 +124,9 @@ step_begins m r added m' es p (lone.brings n w s o bytes reply seen net port bod
     let is_net : net ≡ w.net = takes.is_after ∙ same_net w.net takes.message port body o xs for_it in
     subst (λ z. Steps n z (frame bytes) added m') (sym same)
     (frame_comes n w s o xs bytes takes.message port body news phase valid here takes.brings for_it
-    (subst (λ (c : Client). Hears (with_net w c) s o (came (received (n + 1) port body) w.time) news phase) is_net hear) a.1.route a.1.begins)
+    (subst (λ (c : Client). Hears (with_net w c) (anew s) o (came (received (n + 1) port body) w.time) news phase) is_net hear) a.1.route a.1.begins)
 step_begins m r added m' es p (lone.passes_time n w s o ms news phase valid hear) a (xs, here, same) =
-    let t = heard (world.world_later w ms) s o xs (tick ms) (ticked (w.time + ms)) news phase hear here a.1.route a.1.begins in
+    let t = heard (world.world_later w ms) (anew s) o xs (tick ms) (ticked (w.time + ms)) news phase hear here a.1.route a.1.begins in
     subst (λ z. Steps n z (tick ms) added m') (sym same)
     (taken n w (world.world_later w ms) s o xs (ticked (w.time + ms)) (tick ms) news phase valid t
     (network.passes_time ms t.after t.put t.over t.take))
@@ -127,6 +142,14 @@ step_begins m r added m' es p (lone.switches_off n w s o) a (xs, here, same) =
           (ap (λ b. cond b (Some stopped_cause) None) (same_number o.number)) all_have);
       same = (with_live st [], refl, refl);
     })
+step_begins m r added m' es p (lone.goes_on_by_frame n w s bytes reply seen net valid takes) a same =
+    subst (λ z. Steps n z (frame bytes) added m') (sym same) (frame_resumes n w s bytes reply net takes.message valid takes.brings takes.is_put takes.is_after a.1)
+step_begins m r added m' es p (lone.goes_on_by_tick n w s ms valid) a same =
+    subst (λ z. Steps n z (tick ms) added m') (sym same)
+    (record { to = running (state_in (world.world_later w ms) []) (anew s) []; begins = courses.resumes n (state_in w []) _ s [] (tick ms) [] [] valid (network.passes_time ms [] [] [] all_have); same = refl })
+step_begins m r added m' es p (lone.goes_off n w s) a same =
+    subst (λ z. Steps n z off added m') (sym same)
+    (record { to = stopped (state_in w []); begins = courses.goes_off n (state_in w []) s [] [] [] all_have; same = (state_in w [], refl, refl) })
 
 -- what a run does next
 record Goes (n : ℕ) (p : Standing) (added : List Out) (m' : Machine) : Type 0 where
@@ -135,40 +158,46 @@ record Goes (n : ℕ) (p : Standing) (added : List Out) (m' : Machine) : Type 0 
   same : StandsAs m'.phase to
 
 move_goes : (m : Machine) (added : List Out) (m' : Machine) (p : Standing) → Move m added m' → StandsAs m.phase p → Goes m.used p added m'
-move_goes m added m' p (lone.passes n w s line there none) same =
-    subst (λ z. Goes n z added m') (sym same) (record { to = _; does = courses.passes n (state_in w []) s [] line there none; same = refl })
-move_goes m added m' p (lone.does n w s line c cs o there are comes stays) same =
-    subst (λ z. Goes n z added m') (sym same) (record { to = _; does = courses.does n (state_in w []) (state_in w []) s [] line c cs o there are (ap (doing_by (state_in w [])) comes) stays; same = refl })
-move_goes m added m' p (lone.leaves n w s line c cs o there are comes goes) same =
+move_goes m added m' p (lone.passes n w s t comes) same =
+    subst (λ z. Goes n z added m') (sym same) (record { to = _; does = courses.passes n (state_in w []) s t [] comes; same = refl })
+move_goes m added m' p (lone.is_left n w s cause comes) same =
+    subst (λ z. Goes n z added m') (sym same) (record { to = left (state_in w []) [] cause; does = courses.is_left n (state_in w []) s [] cause comes; same = (state_in w [], refl, refl) })
+move_goes m added m' p (lone.yields n w s c cs comes full) same =
+    subst (λ z. Goes n z added m') (sym same) (record { to = _; does = courses.yields n (state_in w []) s [] c cs comes full; same = refl })
+move_goes m added m' p (lone.does n w s c cs o comes few is stays) same =
+    subst (λ z. Goes n z added m') (sym same) (record { to = _; does = courses.does n (state_in w []) (state_in w []) s [] c cs o comes few (ap (doing_by (state_in w [])) is) stays; same = refl })
+move_goes m added m' p (lone.leaves n w s c cs o comes few is goes_out) same =
     subst (λ z. Goes n z added m') (sym same)
-    (record { to = left (state_in w []) [] o.cause; does = courses.leaves n (state_in w []) (state_in w []) s [] line c cs o there are (ap (doing_by (state_in w [])) comes) goes; same = (state_in w [], refl, refl) })
-move_goes m added m' p (lone.asks_for n w s line c cs wanted there are comes route) same =
+    (record { to = left (state_in w []) [] o.cause; does = courses.leaves n (state_in w []) (state_in w []) s [] c cs o comes few (ap (doing_by (state_in w [])) is) goes_out; same = (state_in w [], refl, refl) })
+move_goes m added m' p (lone.jumps n w s c cs name line comes few is there) same =
+    subst (λ z. Goes n z added m') (sym same) (record { to = _; does = courses.jumps n (state_in w []) s [] c cs name line comes few (ap (doing_by (state_in w [])) is) there; same = refl })
+move_goes m added m' p (lone.finds_no_label n w s c cs name comes few is none) same =
+    subst (λ z. Goes n z added m') (sym same) (record { to = _; does = courses.finds_no_label n (state_in w []) s [] c cs name comes few (ap (doing_by (state_in w [])) is) none; same = refl })
+move_goes m added m' p (lone.asks_for n w s c cs wanted comes few is route) same =
     let st = state_in w [] in
     let l = transfer_for st wanted in
     let request = request_of (begun_for w wanted) in
     let put = send_records (bare w.net) w.opens (Some 1) request in
-    let to = waiting (state_in (with_open w) (live_of (open_for w wanted) [] ∷ [])) (waiting_in s (open_for w wanted)) in
+    let to = waiting (state_in (with_open w) (live_of (open_for w wanted) [] ∷ [])) (waiting_in (entered s) (open_for w wanted)) in
     subst (λ z. Goes n z added m') (sym same)
     (record {
       to = to;
       does = subst (λ z. Proceeds (stands n (running st s [])) (command_record s (c ∷ cs) ∷ open_record l ∷ z) (stands n to)) (bare_send w.net w.opens (Some 1) request)
-          (courses.opens_one n st s [] line c cs l (fetch wanted) (bare w.net) put there are (ap (doing_by st) comes) refl
+          (courses.opens_one n st s [] c cs l (fetch wanted) (bare w.net) put comes few (ap (doing_by st) is) refl
           (ap (λ b. cond b (Some put) None) (bare_route w.net request ∙ route)));
       same = ([], record { exchanged = at_first; meets = meets_nothing (begun_for w wanted) w.time }, refl);
     })
-move_goes m added m' p (lone.finds_no_route n w s line c cs wanted there are comes route) same =
+move_goes m added m' p (lone.finds_no_route n w s c cs wanted comes few is route) same =
     let st = state_in w [] in
     let l = transfer_for st wanted in
     let request = request_of (begun_for w wanted) in
     subst (λ z. Goes n z added m') (sym same)
     (record {
-      to = left (with_one_made st) [] (lone.no_route wanted.target.server);
-      does = courses.finds_no_route n st s [] line c cs l (fetch wanted) (bare w.net) there are (ap (doing_by st) comes) refl
+      to = running (with_one_made st) (further s (lone.no_route wanted.target.server)) [];
+      does = courses.finds_no_route n st s [] c cs l (fetch wanted) (bare w.net) comes few (ap (doing_by st) is) refl
           (ap (λ b. cond b (Some (send_records (bare w.net) w.opens (Some 1) request)) None) (bare_route w.net request ∙ route));
-      same = (with_one_made st, refl, refl);
+      same = refl;
     })
-move_goes m added m' p (lone.ends n w s there) same =
-    subst (λ z. Goes n z added m') (sym same) (record { to = left (state_in w []) [] ok; does = courses.ends_well n (state_in w []) s [] there; same = (state_in w [], refl, refl) })
 move_goes m added m' p (lone.hands n r rest) (s, none_lives, same) =
     subst (λ z. Goes n z added m') (sym same) (record { to = handing s rest; does = courses.hands n s r rest; same = (s, none_lives, refl) })
 move_goes m added m' p (lone.has_handed n) (s, none_lives, same) =

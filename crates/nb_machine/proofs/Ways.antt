@@ -6,10 +6,9 @@ use Rattle.nb_terms.specs.declared.acts.Acts.{Acts}
 use Rattle.nb_terms.specs.declared.acts.SendTo.{SendTo}
 use Rattle.nb_defs.specs.Records.{sent}
 use Rattle.nb_stack.specs.Client.{Client}
-use Rattle.nb_stack.specs.Route.{route_of}
 use Rattle.nb_stack.specs.Brings.{Brought, arp_message}
 use Rattle.nb_stack.specs.Takes.{client_after, reply_of}
-use Rattle.nb_stack.specs.Sends.{way_of, fate_of, put_on}
+use Rattle.nb_stack.specs.Sends.{way_of, put_on}
 use Rattle.nb_stack.proofs.WayLaws.{same_way, same_put, same_reply}
 use Rattle.nb_tftp.specs.Asks.{Begun}
 use Rattle.nb_tftp.proofs.TryLaws.{Sends, sends_none, sends_one}
@@ -22,6 +21,9 @@ bare_route c m = same_way is_on_its_way refl (bare c) c (way_of c m)
 
 pub bare_reply : (c : Client) (own to : ℕ) (m : Brought) → c.ports ≡ record { proto = 17; number = own; to = to } ∷ [] → reply_of (bare c) m ≡ reply_of c m
 bare_reply c own to m ports = sym (same_reply c own to m ports)
+
+pub free_reply : (c : Client) (m : Brought) → c.ports ≡ [] → reply_of (bare c) m ≡ reply_of c m
+free_reply c m ports = sym (ap (λ z. reply_of (record c { ports = z }) m) ports)
 
 pub bare_after : (c : Client) (m : Brought) → client_after (bare c) m ≡ bare (client_after c m)
 bare_after c (arp_message from arp) = refl

@@ -3,14 +3,15 @@ use Rattle.std.specs.Prelude.{◌≡◌, List, [], ◌∷◌}
 use Rattle.nb_tftp.specs.Sentences.{Meets}
 use Rattle.nb_engine.specs.declared.world.World.{World}
 use Rattle.nb_engine.specs.Opens.{Open}
-use Rattle.nb_engine.specs.Machine.{Machine, Phase, Running}
+use Rattle.nb_engine.specs.Running.{Running}
+use Rattle.nb_engine.specs.Machine.{Machine, Phase}
 use Rattle.nb_engine.specs.Machine as lone
 use Rattle.nb_laws.specs.Agreement.{bare}
 use Rattle.nb_machine.specs.Lives.{tftp, Exchange, Live}
 use Rattle.nb_machine.specs.Transfers.{Exchanged}
 use Rattle.nb_machine.specs.States.{State, net0}
 use Rattle.nb_machine.specs.Scripts.{fetch, answer, Waiting}
-use Rattle.nb_machine.specs.Courses.{Standing, ready, running, waiting, handing, left, handed_off, stopped, Progress}
+use Rattle.nb_machine.specs.Courses.{Standing, ready, running, waiting, yielded, handing, left, handed_off, stopped, Progress}
 
 abbrev pub live_of : Open → List Exchange → Live
 live_of o xs = record {
@@ -40,6 +41,7 @@ abbrev pub StandsAs : Phase → Standing → Type 0
 StandsAs lone.ready p = p ≡ ready
 StandsAs (lone.running w s) p = p ≡ running (state_in w []) s []
 StandsAs (lone.waiting w s o) p = (xs : List Exchange) × Lives o xs × (p ≡ waiting (state_in w (live_of o xs ∷ [])) (waiting_in s o))
+StandsAs (lone.yielded w s) p = p ≡ yielded (state_in w []) s []
 StandsAs (lone.handing rest) p = (s : State) × (s.live ≡ []) × (p ≡ handing s rest)
 StandsAs (lone.left cause) p = (s : State) × (s.live ≡ []) × (p ≡ left s [] cause)
 StandsAs lone.handed_off p = (s : State) × (s.live ≡ []) × (p ≡ handed_off s)

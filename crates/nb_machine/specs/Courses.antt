@@ -1,20 +1,22 @@
 -- The machine over a whole run: records used and records written, by the network and the scripts. It reads whole
 -- lists, and knows nothing of bytes, buffers or calls.
-use Rattle.std.specs.Prelude.{◌≡◌, ℕ, ◌+◌, true, false, List, [], ◌∷◌, ◌++◌, Some, None, slice_get}
+use Rattle.std.specs.Prelude.{◌≡◌, ◌<◌, ℕ, ◌+◌, true, false, List, [], ◌∷◌, ◌++◌, Some, None, slice_get}
 use Rattle.nb_terms.specs.declared.cause.Cause.{Cause}
-use Rattle.nb_defs.specs.Causes.{ok, not_script}
-use Rattle.nb_defs.specs.Commands.{CommandOutcome}
+use Rattle.nb_defs.specs.Causes.{ok}
+use Rattle.nb_defs.specs.Commands.{CommandOutcome, refused}
 use Rattle.nb_defs.specs.Records.{Start, In, start, off, IsIn, Out, step, enter, leave}
-use Rattle.nb_defs.specs.ScriptText.{is_plain, line_words}
+use Rattle.nb_defs.specs.ScriptLines.{Line, script, label_place}
 use Rattle.nb_stack.specs.Client.{Client}
 use Rattle.nb_engine.specs.Conclusions.{Conclusion, keeps, fails, boots, conclusion_records, handoff_records}
-use Rattle.nb_engine.specs.Machine.{Running, first_script, next_line, further, command_record, command_records, ends_script, no_route, stopped_cause}
+use Rattle.nb_engine.specs.FirstText.{first_reading, text_refusal}
+use Rattle.nb_engine.specs.Running.{Running, first_script, coming, passing, leaving, beginning, entered, further, behind_line, with_result, anew, no_label}
+use Rattle.nb_engine.specs.Machine.{command_record, command_records, no_route, stopped_cause}
 use Rattle.nb_machine.specs.Lives.{close, Live, open_record, end_record}
 use Rattle.nb_machine.specs.Kinds.{first_records}
 use Rattle.nb_machine.specs.States.{State, state_at_start, with_images, with_live, with_opened, with_one_made}
 use Rattle.nb_machine.specs.Takings.{Over, AllTake}
 use Rattle.nb_machine.specs.Network.{Network}
-use Rattle.nb_machine.specs.Scripts.{Job, ends, opens, doing, answer, Answer, answer_in, Waiting, concluded_by}
+use Rattle.nb_machine.specs.Scripts.{Job, ends, opens, goes_to, doing, answer, Answer, answer_in, Waiting, waiting_anew, concluded_by}
 
 -- where a run stands
 pub data Standing : Type 0 where
@@ -24,6 +26,8 @@ pub data Standing : Type 0 where
   running : State → Running → (outer : List Running) → Standing
   -- a command of the innermost waits
   waiting : State → Waiting → Standing
+  -- the innermost had all the commands of a step, and another is to begin
+  yielded : State → Running → (outer : List Running) → Standing
   -- an image is handed off, of which these records are still to come
   handing : State → (rest : List Out) → Standing
   -- the innermost script was left with this cause, and those outside it stand still
@@ -45,66 +49,85 @@ stands used standing = record { used = used; standing = standing }
 abbrev pub nowhere : Progress
 nowhere = stands 0 ready
 
--- Where a conclusion leads, and the records put there: the script goes on, or is left; or an image is handed off, once all that
--- lives is closed.
+-- Where a conclusion leads, and the records put there: the script goes on, with the command's result; or an image is handed off,
+-- once all that lives is closed.
 abbrev pub LeadsTo : State → Running → List Running → Conclusion → List Out → Standing → Type 0
-LeadsTo s script outer (keeps list) put p = (put ≡ []) × (p ≡ running (with_images s list) (further script ok) outer)
-LeadsTo s script outer (fails cause) put p = (put ≡ []) × (p ≡ left s outer cause)
-LeadsTo s script outer (boots list kernel) put p =
+LeadsTo s inner outer (keeps list) put p = (put ≡ []) × (p ≡ running (with_images s list) (with_result inner ok) outer)
+LeadsTo s inner outer (fails cause) put p = (put ≡ []) × (p ≡ running s (with_result inner cause) outer)
+LeadsTo s inner outer (boots list kernel) put p =
     (over : List Over) × AllTake s.devices (close stopped_cause) s.live put [] over
     × (p ≡ handing (with_live (with_images s list) []) (handoff_records kernel list.images))
 
 -- A record is used, and its step begins. A first record comes before any other; each later one comes while a command
--- waits. What it does, the network says; what comes of the command, the scripts.
+-- waits, or where a script had all the commands of a step. What it does, the network says; what comes of the command, the scripts.
 pub data StepBegins : Progress → In → List Out → Progress → Type 0 where
   -- the first script is entered
-  runs : (n : ℕ) (s : Start) → IsIn (start s) → is_plain s.script ≡ true →
-      StepBegins (stands n ready) (start s) (step (n + 1) ∷ enter 1 ∷ []) (stands (n + 1) (running (state_at_start s) (first_script s.script) []))
+  runs : (n : ℕ) (s : Start) (code : List Line) → IsIn (start s) → first_reading s.script ≡ script code →
+      StepBegins (stands n ready) (start s) (step (n + 1) ∷ enter 1 ∷ []) (stands (n + 1) (running (state_at_start s) (first_script code) []))
   -- a text that doesn't run is entered and left at once
-  refuses : (n : ℕ) (s : Start) → IsIn (start s) → is_plain s.script ≡ false →
-      StepBegins (stands n ready) (start s) (step (n + 1) ∷ enter 1 ∷ leave 1 not_script ∷ []) (stands (n + 1) (left (state_at_start s) [] not_script))
+  refuses : (n : ℕ) (s : Start) (cause : Cause) → IsIn (start s) → text_refusal (first_reading s.script) ≡ Some cause →
+      StepBegins (stands n ready) (start s) (step (n + 1) ∷ enter 1 ∷ leave 1 cause ∷ []) (stands (n + 1) (left (state_at_start s) [] cause))
   -- the command waits on
   waits_on : (n : ℕ) (s s' : State) (w : Waiting) (r : In) (put : List Out) (over : List Over) → IsIn r →
       Network s (n + 1) r put s' over → answer_in s' r over w.awaited ≡ None →
-      StepBegins (stands n (waiting s w)) r (step (n + 1) ∷ put) (stands (n + 1) (waiting s' w))
+      StepBegins (stands n (waiting s w)) r (step (n + 1) ∷ put) (stands (n + 1) (waiting s' (waiting_anew w)))
   -- what it waits for has come
   is_answered : (n : ℕ) (s s' : State) (w : Waiting) (r : In) (put more : List Out) (over : List Over) (a : Answer) (p : Standing) → IsIn r →
-      Network s (n + 1) r put s' over → answer_in s' r over w.awaited ≡ Some a → LeadsTo s' w.script w.outer (concluded_by s' w.job a) more p →
-      StepBegins (stands n (waiting s w)) r (step (n + 1) ∷ put ++ conclusion_records w.script.depth (concluded_by s' w.job a) ++ more) (stands (n + 1) p)
+      Network s (n + 1) r put s' over → answer_in s' r over w.awaited ≡ Some a → LeadsTo s' (anew w.script) w.outer (concluded_by s' w.job a) more p →
+      StepBegins (stands n (waiting s w)) r (step (n + 1) ∷ put ++ conclusion_records (concluded_by s' w.job a) ++ more) (stands (n + 1) p)
   -- the power is switched off: every open is closed, and the command gives no result
   switches_off : (n : ℕ) (s : State) (w : Waiting) (put : List Out) (over : List Over) →
       AllTake s.devices (close stopped_cause) s.live put [] over →
       StepBegins (stands n (waiting s w)) off (step (n + 1) ∷ put) (stands (n + 1) (stopped (with_live s [])))
+  -- a script that had all its commands goes on, whatever the record does
+  resumes : (n : ℕ) (s s' : State) (inner : Running) (outer : List Running) (r : In) (put : List Out) (over : List Over) → IsIn r →
+      Network s (n + 1) r put s' over →
+      StepBegins (stands n (yielded s inner outer)) r (step (n + 1) ∷ put) (stands (n + 1) (running s' (anew inner) outer))
+  -- or the power is switched off
+  goes_off : (n : ℕ) (s : State) (inner : Running) (outer : List Running) (put : List Out) (over : List Over) →
+      AllTake s.devices (close stopped_cause) s.live put [] over →
+      StepBegins (stands n (yielded s inner outer)) off (step (n + 1) ∷ put) (stands (n + 1) (stopped (with_live s [])))
 
 -- What a run does next. Each rule has its condition, and one of them fits a script that runs and an image that is handed off.
 pub data Proceeds : Progress → List Out → Progress → Type 0 where
-  -- a line without line_words is nothing
-  passes : (n : ℕ) (s : State) (script : Running) (outer : List Running) (line : List ℕ) → next_line script ≡ Some line → line_words line ≡ [] →
-      Proceeds (stands n (running s script outer)) [] (stands n (running s (further script script.last) outer))
-  -- a command after which the script goes on
-  does : (n : ℕ) (s s' : State) (script : Running) (outer : List Running) (line c : List ℕ) (cs : List (List ℕ)) (o : CommandOutcome) →
-      next_line script ≡ Some line → line_words line ≡ c ∷ cs → doing s (c ∷ cs) ≡ ends o s' → ends_script o ≡ false →
-      Proceeds (stands n (running s script outer)) (command_records script (c ∷ cs) o) (stands n (running s' (further script o.cause) outer))
+  -- the script passes a line or a command
+  passes : (n : ℕ) (s : State) (inner next : Running) (outer : List Running) → coming inner ≡ passing next →
+      Proceeds (stands n (running s inner outer)) [] (stands n (running s next outer))
+  -- it is left
+  is_left : (n : ℕ) (s : State) (inner : Running) (outer : List Running) (cause : Cause) → coming inner ≡ leaving cause →
+      Proceeds (stands n (running s inner outer)) (leave inner.depth cause ∷ []) (stands n (left s outer cause))
+  -- its next command has to wait for the next step
+  yields : (n : ℕ) (s : State) (inner : Running) (outer : List Running) (c : List ℕ) (cs : List (List ℕ)) → coming inner ≡ beginning c cs → inner.begun ≡ 4096 →
+      Proceeds (stands n (running s inner outer)) [] (stands n (yielded s inner outer))
+  -- a command after which the list goes on
+  does : (n : ℕ) (s s' : State) (inner : Running) (outer : List Running) (c : List ℕ) (cs : List (List ℕ)) (o : CommandOutcome) →
+      coming inner ≡ beginning c cs → inner.begun < 4096 → doing s (c ∷ cs) ≡ ends o s' → o.leaves ≡ false →
+      Proceeds (stands n (running s inner outer)) (command_records inner (c ∷ cs) o) (stands n (running s' (further inner o.cause) outer))
   -- a command with which the script is left
-  leaves : (n : ℕ) (s s' : State) (script : Running) (outer : List Running) (line c : List ℕ) (cs : List (List ℕ)) (o : CommandOutcome) →
-      next_line script ≡ Some line → line_words line ≡ c ∷ cs → doing s (c ∷ cs) ≡ ends o s' → ends_script o ≡ true →
-      Proceeds (stands n (running s script outer)) (command_records script (c ∷ cs) o ++ (leave script.depth o.cause ∷ [])) (stands n (left s' outer o.cause))
+  leaves : (n : ℕ) (s s' : State) (inner : Running) (outer : List Running) (c : List ℕ) (cs : List (List ℕ)) (o : CommandOutcome) →
+      coming inner ≡ beginning c cs → inner.begun < 4096 → doing s (c ∷ cs) ≡ ends o s' → o.leaves ≡ true →
+      Proceeds (stands n (running s inner outer)) (command_records inner (c ∷ cs) o ++ (leave inner.depth o.cause ∷ [])) (stands n (left s' outer o.cause))
+  -- `goto`: the script goes on after the first line that is the label
+  jumps : (n : ℕ) (s : State) (inner : Running) (outer : List Running) (c : List ℕ) (cs : List (List ℕ)) (name : List ℕ) (line : ℕ) →
+      coming inner ≡ beginning c cs → inner.begun < 4096 → doing s (c ∷ cs) ≡ goes_to name → label_place name inner.code ≡ Some line →
+      Proceeds (stands n (running s inner outer)) (command_records inner (c ∷ cs) (refused ok)) (stands n (running s (behind_line inner line) outer))
+  -- there is no such label
+  finds_no_label : (n : ℕ) (s : State) (inner : Running) (outer : List Running) (c : List ℕ) (cs : List (List ℕ)) (name : List ℕ) →
+      coming inner ≡ beginning c cs → inner.begun < 4096 → doing s (c ∷ cs) ≡ goes_to name → label_place name inner.code ≡ None →
+      Proceeds (stands n (running s inner outer)) (command_records inner (c ∷ cs) (refused no_label)) (stands n (running s (further inner no_label) outer))
   -- a command that opens something, and waits for it
-  opens_one : (n : ℕ) (s : State) (script : Running) (outer : List Running) (line c : List ℕ) (cs : List (List ℕ)) (l : Live) (job : Job) (link : Client) (put : List Out) →
-      next_line script ≡ Some line → line_words line ≡ c ∷ cs → doing s (c ∷ cs) ≡ opens l job →
+  opens_one : (n : ℕ) (s : State) (inner : Running) (outer : List Running) (c : List ℕ) (cs : List (List ℕ)) (l : Live) (job : Job) (link : Client) (put : List Out) →
+      coming inner ≡ beginning c cs → inner.begun < 4096 → doing s (c ∷ cs) ≡ opens l job →
       slice_get s.devices l.device ≡ Some link → first_records l.kind l link ≡ Some put →
-      Proceeds (stands n (running s script outer)) (command_record script (c ∷ cs) ∷ open_record l ∷ put)
-      (stands n (waiting (with_opened s l) (record { script = script; outer = outer; awaited = answer l.number; job = job })))
+      Proceeds (stands n (running s inner outer)) (command_record inner (c ∷ cs) ∷ open_record l ∷ put)
+      (stands n (waiting (with_opened s l) (record { script = entered inner; outer = outer; awaited = answer l.number; job = job })))
   -- one whose server there is no way to: the open was made, and has ended
-  finds_no_route : (n : ℕ) (s : State) (script : Running) (outer : List Running) (line c : List ℕ) (cs : List (List ℕ)) (l : Live) (job : Job) (link : Client) →
-      next_line script ≡ Some line → line_words line ≡ c ∷ cs → doing s (c ∷ cs) ≡ opens l job →
+  finds_no_route : (n : ℕ) (s : State) (inner : Running) (outer : List Running) (c : List ℕ) (cs : List (List ℕ)) (l : Live) (job : Job) (link : Client) →
+      coming inner ≡ beginning c cs → inner.begun < 4096 → doing s (c ∷ cs) ≡ opens l job →
       slice_get s.devices l.device ≡ Some link → first_records l.kind l link ≡ None →
-      Proceeds (stands n (running s script outer))
-      (command_record script (c ∷ cs) ∷ open_record l ∷ end_record l (no_route l.server) ∷ conclusion_records script.depth (fails (no_route l.server)))
-      (stands n (left (with_one_made s) outer (no_route l.server)))
-  -- after the last line the script is left with Ok
-  ends_well : (n : ℕ) (s : State) (script : Running) (outer : List Running) → next_line script ≡ None →
-      Proceeds (stands n (running s script outer)) (leave script.depth ok ∷ []) (stands n (left s outer ok))
+      Proceeds (stands n (running s inner outer))
+      (command_record inner (c ∷ cs) ∷ open_record l ∷ end_record l (no_route l.server) ∷ conclusion_records (fails (no_route l.server)))
+      (stands n (running (with_one_made s) (further inner (no_route l.server)) outer))
   -- a piece of the image is handed off
   hands : (n : ℕ) (s : State) (r : Out) (rest : List Out) → Proceeds (stands n (handing s (r ∷ rest))) (r ∷ []) (stands n (handing s rest))
   -- all was handed off

@@ -3,10 +3,10 @@ use Rattle.std.specs.Prelude.{ℕ, ◌==◌, Bool, List, [], Option, find, optio
 use Rattle.nb_defs.specs.Commands.{CommandOutcome}
 use Rattle.nb_defs.specs.Records.{In}
 use Rattle.nb_image.specs.Images.{image_of}
-use Rattle.nb_engine.specs.Effects.{Wanted, Effect, says, asks, effect}
+use Rattle.nb_engine.specs.Effects.{Wanted, Effect, says, asks, goes, effect}
 use Rattle.nb_engine.specs.Conclusions.{Conclusion, conclusion}
 use Rattle.nb_engine.specs.World.{own_port}
-use Rattle.nb_engine.specs.Machine.{Running}
+use Rattle.nb_engine.specs.Running.{Running, anew}
 use Rattle.nb_machine.specs.Lives.{tftp, Live}
 use Rattle.nb_machine.specs.Kinds.{fetched}
 use Rattle.nb_machine.specs.States.{State, net0}
@@ -17,10 +17,11 @@ pub data Job : Type 0 where
   -- the file becomes an image, or is booted
   fetch : Wanted → Job
 
--- what a command comes to: it is over at once and leaves this state, or it opens something and waits for it
+-- what a command comes to: it is over at once and leaves this state, it opens something and waits for it, or it goes to a label
 pub data Doing : Type 0 where
   ends : CommandOutcome → State → Doing
   opens : Live → Job → Doing
+  goes_to : (name : List ℕ) → Doing
 
 -- the next open, on a device, for a file: from the client's next port to port 69 of the server
 abbrev pub transfer_for : State → Wanted → Live
@@ -39,6 +40,7 @@ transfer_for s wanted = record {
 abbrev pub doing_by : State → Effect → Doing
 doing_by s (says o) = ends o s
 doing_by s (asks wanted) = opens (transfer_for s wanted) (fetch wanted)
+doing_by s (goes name) = goes_to name
 
 -- by its words and the state
 abbrev pub doing : State → List (List ℕ) → Doing
@@ -65,6 +67,10 @@ pub record Waiting : Type 0 where
   pub outer : List Running
   pub awaited : Awaited
   pub job : Job
+
+-- the same, as a step begins
+abbrev pub waiting_anew : Waiting → Waiting
+waiting_anew w = record w { script = anew w.script }
 
 -- what a job comes to by its answer, in this state
 abbrev pub concluded_by : State → Job → Answer → Conclusion

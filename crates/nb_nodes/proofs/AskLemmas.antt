@@ -1,5 +1,5 @@
 -- A path without a zero byte, by the test of each byte.
-use Rattle.std.proofs.Common.{◌≡◌, ℕ, ◌<◌, ◌&&◌, Bool, true, false, List, [], ◌∷◌, refl, nat_lt, nat_le, length, ◌≤◌, arith}
+use Rattle.std.proofs.Common.{◌≡◌, ℕ, ◌&&◌, Bool, true, false, List, [], ◌∷◌, refl, nat_lt, nat_le, length, ◌≤◌}
 use Rattle.std.proofs.lemmas.Bool.{ltb-true, leb-true}
 use Rattle.std.specs.List.{list_all}
 use Rattle.nb_tftpmsg.specs.Texts.{HasNoZero}

@@ -1,5 +1,5 @@
 -- What is asked for, as messages, and within what an entry may ask for.
-use Rattle.std.proofs.Common.{◌≡◌, ℕ, zero, suc, ◌+◌, ◌≤◌, ◌<◌, map, List, [], ◌∷◌, ◌++◌, length, Option, Some, None, refl, ap, sym, ◌∙◌, subst, arith, rules}
+use Rattle.std.proofs.Common.{◌≡◌, ℕ, zero, suc, ◌≤◌, map, List, [], ◌∷◌, ◌++◌, length, Option, Some, None, refl, ap, sym, ◌∙◌, subst, arith}
 use Rattle.std.proofs.lemmas.List.{append-nil}
 use Rattle.std.specs.Global.{Box}
 use Rattle.nb_terms.specs.declared.acts.Acts.{Acts}
@@ -10,14 +10,14 @@ use Rattle.nb_graph.specs.declared.effects.Few.{Few}
 use Rattle.nb_graph.specs.declared.effects.Fx.{Fx}
 use Rattle.nb_graph.specs.Trace.{Said, bytes_between}
 use Rattle.nb_graph.specs.Deeds.{said_of}
-use Rattle.nb_graph.specs.Effects.{IsUp, AreUps, IsDown, AreDowns, AreCloses}
+use Rattle.nb_graph.specs.Effects.{AreUps, AreCloses}
 use Rattle.nb_tftp.specs.Sound.{IsRange}
 use Rattle.nb_nodes.specs.declared.load.Load.{Load}
 use Rattle.nb_nodes.specs.declared.obj.Obj.{Obj}
 use Rattle.nb_nodes.specs.declared.tag.Tag.TheVariants.{Advance}
 use Rattle.nb_nodes.specs.Tags.{tag_number}
 use Rattle.nb_nodes.specs.Objects.{obj_nature, first_body}
-use Rattle.nb_nodes.specs.Carried.{advance_emit, datagram_emit, advance_said, datagram_said, try_tag, try_number, downs_of, said_all, first_port, up_emit, both_closes, end_closes, AsksDown, AsksWithin, EffectsOf}
+use Rattle.nb_nodes.specs.Carried.{advance_emit, datagram_emit, advance_said, datagram_said, try_tag, try_number, downs_of, first_port, up_emit, both_closes, end_closes, AsksDown, AsksWithin, EffectsOf}
 
 -- at most one message, to this port
 one_send : (xs : List SendTo) (port : ℕ) → length xs ≤ 1 → first_port xs ≡ Some port → (s : SendTo) × (xs ≡ s ∷ []) × (s.to_port ≡ port)

@@ -1,7 +1,7 @@
 -- What one entry of a Fetch makes of its trace.
-use Rattle.std.proofs.Common.{◌≡◌, ℕ, zero, suc, ◌<◌, ◌≤◌, ◌+◌, ◌++◌, ◌&&◌, ◌||◌, ◌==◌, Bool, true, false, not, cond, List, [], ◌∷◌, length, min, take, Option, Some, None, refl, ap, sym, ◌∙◌, subst, append_assoc, if◌then◌else◌, nat_lt, arith}
+use Rattle.std.proofs.Common.{◌≡◌, ℕ, ◌+◌, ◌++◌, ◌&&◌, ◌==◌, Bool, true, false, not, cond, List, [], ◌∷◌, length, min, take, Option, Some, None, refl, ap, sym, ◌∙◌, subst, append_assoc, if◌then◌else◌, nat_lt, arith}
 use Rattle.std.specs.Prelude.{Result, Ok, Err, OnOk, OnErr, is_ok}
-use Rattle.std.specs.List.{find, flat_map}
+use Rattle.std.specs.List.{find}
 use Rattle.std.specs.Option.{is_none, option_or, option_map_or}
 use Rattle.std.proofs.lemmas.List.{append-nil}
 use Rattle.std.proofs.lemmas.List.Concat.{flat_map-append}
@@ -16,7 +16,7 @@ use Rattle.nb_nodes.specs.declared.fetch.Fetch.TheVariants.{Gathering, Whole, Ha
 use Rattle.nb_nodes.specs.declared.load.Load.{Load}
 use Rattle.nb_nodes.specs.declared.obj.Obj.{Obj}
 use Rattle.nb_nodes.specs.Carried.{CarriesNothing, AsksNone, both_closes}
-use Rattle.nb_nodes.specs.Fetches.{body_too_large, stop_cause, is_gathering, is_complete, HasBody, ends_fetch, first_end, is_ok_close, closed_well, gathers, taken_below, passed_close, AsksUp, AsksHandDown, AsksOfFetch, EachOf, FetchStands, after_bytes_up, after_closing, gathered_len}
+use Rattle.nb_nodes.specs.Fetches.{body_too_large, is_gathering, is_complete, HasBody, ends_fetch, first_end, is_ok_close, closed_well, gathers, taken_below, passed_close, AsksUp, AsksHandDown, AsksOfFetch, EachOf, FetchStands, after_bytes_up, after_closing, gathered_len}
 
 -- a trace with one entry more
 taken_more : (t : List (NodeEntry Obj Load)) (e : NodeEntry Obj Load) → taken_below (t ++ e ∷ []) ≡ taken_below t ++ taken_by 1 e

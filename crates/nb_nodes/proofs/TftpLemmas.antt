@@ -24,8 +24,8 @@ use Rattle.nb_nodes.specs.Asking.{AskValue, ask_in, begun_with}
 use Rattle.std.specs.Prelude.{IfSome}
 use Rattle.nb_graph.specs.declared.effects.Emit.{Emit}
 use Rattle.nb_graph.specs.Effects.{IsDown, IsUp, AreCloses}
-use Rattle.nb_nodes.specs.Carried.{EffectsOf, CarriesNothing, AsksNone, AsksWithin}
-use Rattle.nb_nodes.specs.Conversations.{Conversation, unbegun, under_way, over, cancelled, is_unbegun, is_under_way, talk_has_ended, ended_of, talk_went_on, is_datagram, is_begin, first_acts, is_idle, is_fatal, TakesWhole, AsksOfIdle, PassesClose, Continues, begins, receives, ticks, ends, rests, RunsTo, WorksAt, waits, runs, stays, never, is_waiting, talk_is_done, TftpStands, ContinuesAs}
+use Rattle.nb_nodes.specs.Carried.{EffectsOf, AsksNone, AsksWithin}
+use Rattle.nb_nodes.specs.Conversations.{Conversation, unbegun, under_way, over, cancelled, talk_has_ended, ended_of, talk_went_on, is_datagram, is_begin, first_acts, is_idle, is_fatal, TakesWhole, AsksOfIdle, PassesClose, Continues, begins, receives, ticks, ends, rests, RunsTo, WorksAt, waits, runs, stays, never, is_waiting, talk_is_done, TftpStands, ContinuesAs}
 
 and_off : (a : Bool) → (a && false) ≡ false
 and_off true = refl

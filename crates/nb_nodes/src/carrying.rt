@@ -21,6 +21,7 @@ pub(crate) const BELOW: u8 = 1;
 pub(crate) type Effects = Fx<Obj, Load>;
 
 /// How many bytes of a message are taken where all are: at most 4,294,967,295 at once.
+#[inline(always)]
 pub(crate) fn length_of(msg: &Msg<'_>) -> u32
     ensures { result ≡ min (length msg.now.first.now + length msg.now.second.now) 4294967295 }
 {
@@ -28,6 +29,7 @@ pub(crate) fn length_of(msg: &Msg<'_>) -> u32
 }
 
 /// Closes both ports, the one above first: its user is told before the port below is given back.
+#[inline(always)]
 pub(crate) fn close_both(cause: Cause, fx: &mut Effects)
     requires { fx.old.closes.items ≡ [] }
     ensures { fx.new ≡ record fx.old { closes = record { items = both_closes cause } } }
@@ -37,6 +39,7 @@ pub(crate) fn close_both(cause: Cause, fx: &mut Effects)
 }
 
 /// Closes both ports at an end.
+#[inline(always)]
 fn close_at(over: Option<Cause>, fx: &mut Effects)
     requires { fx.old.closes.items ≡ [] }
     ensures { fx.new ≡ record fx.old { closes = record { items = end_closes over } } }
@@ -47,6 +50,7 @@ fn close_at(over: Option<Cause>, fx: &mut Effects)
 }
 
 /// The bytes of the entry's message that go up.
+#[inline(always)]
 fn bytes_up(give: Option<(u32, u32)>) -> Option<Emit<Load>>
     ensures { result ≡ up_emit give }
 {
@@ -65,6 +69,7 @@ fn bytes_up(give: Option<(u32, u32)>) -> Option<Emit<Load>>
 }
 
 /// Tells that the place has grown.
+#[inline(always)]
 fn advance_down(place: u32) -> Emit<Load>
     ensures { result ≡ advance_emit place }
 {
@@ -81,6 +86,7 @@ fn advance_down(place: u32) -> Emit<Load>
 
 /// Sends the datagram that `acts` holds to this port of the server, as a try where a timer covers it.
 /// Its bytes stay where they are: they are lent.
+#[inline(always)]
 fn datagram_down(to_port: u16, acts: Box<Acts>) -> Emit<Load>
     ensures { result ≡ datagram_emit to_port acts }
 {
@@ -100,6 +106,7 @@ fn datagram_down(to_port: u16, acts: Box<Acts>) -> Emit<Load>
 }
 
 /// The port that the first message goes to.
+#[inline(always)]
 fn port_of(sends: &[SendTo]) -> Option<u16>
     ensures { result ≡ first_port sends.now }
 {
@@ -110,6 +117,7 @@ fn port_of(sends: &[SendTo]) -> Option<u16>
 }
 
 /// Sends the datagram, after telling the place where that has grown.
+#[inline(always)]
 fn send(to_port: u16, acts: Box<Acts>, fx: &mut Effects)
     requires blank { AsksNone fx.old }
     requires few { length acts.value.sends.items ≤ 1 }
@@ -130,6 +138,7 @@ fn send(to_port: u16, acts: Box<Acts>, fx: &mut Effects)
 
 /// Asks for what goes down. What `acts` holds is lent where a datagram is sent, and else comes back at
 /// once.
+#[inline(always)]
 fn ask_down(acts: Box<Acts>, fx: &mut Effects) -> Option<Box<Acts>>
     requires blank { AsksNone fx.old }
     requires few { length acts.value.sends.items ≤ 1 }
@@ -151,6 +160,7 @@ fn ask_down(acts: Box<Acts>, fx: &mut Effects) -> Option<Box<Acts>>
 }
 
 /// Asks for all that a transfer's call asks for.
+#[inline(always)]
 pub(crate) fn ask(acts: Box<Acts>, fx: &mut Effects) -> Option<Box<Acts>>
     requires blank { AsksNone fx.old }
     requires few { length acts.value.sends.items ≤ 1 }

@@ -66,6 +66,7 @@ impl Fetch {
 
     /// A message from below: by slot 1 its bytes are the file's. A body of more than 268,435,456 bytes
     /// closes both ports with TooLarge.
+    #[inline(always)]
     pub(crate) fn on_up(
         &mut self,
         slot: u8,
@@ -103,6 +104,7 @@ impl Fetch {
     }
 
     /// Appends the bytes of a message.
+    #[inline(always)]
     fn gather(&mut self, msg: &Msg<'_>) -> Gathered
         ensures { GathersBytes self.old (said msg.now).bytes result self.new }
     {
@@ -180,6 +182,7 @@ impl Fetch {
 }
 
 /// Appends both parts, or stops at the first that isn't taken.
+#[inline(always)]
 fn push_both(body: &mut Body, first: &[u8], second: &[u8]) -> Result<(), PushError>
     ensures ok { OnOk result (body.new ≡ body.old ++ (first.now ++ second.now)) }
     ensures fits { OnOk result (length body.old + (length first.now + length second.now) ≤ 268435456) }
@@ -187,6 +190,9 @@ fn push_both(body: &mut Body, first: &[u8], second: &[u8]) -> Result<(), PushErr
         → 268435456 < length body.old + (length first.now + length second.now) }
 {
     body.push(first)?;
+    if second.is_empty() {
+        return Ok(());
+    }
     body.push(second)
 }
 

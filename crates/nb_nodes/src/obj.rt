@@ -55,6 +55,7 @@ impl Node for Obj {
         }
     }
 
+    #[inline(always)]
     fn on_up(
         &mut self,
         slot: u8,

@@ -49,6 +49,7 @@ fn joined(alloc: Global, msg: &Msg<'_>) -> Result<Vec<u8>, NoMemory>
 }
 
 /// The port that a message from below comes from, where it is a datagram of the transfer.
+#[inline(always)]
 fn source_port(slot: u8, msg: &Msg<'_>) -> Option<u16>
     ensures some { IfSome result (λ port. (is_datagram slot (said msg.now) ≡ true) × (port ≡ msg.now.a)) }
     ensures none { IfNone result (is_datagram slot (said msg.now) ≡ false) }
@@ -73,6 +74,7 @@ impl Tftp {
     }
 
     /// A message from below, of which all bytes are taken.
+    #[inline(always)]
     pub(crate) fn on_up(
         &mut self,
         slot: u8,
@@ -93,6 +95,7 @@ impl Tftp {
     }
 
     /// A datagram comes from this port of the server.
+    #[inline(always)]
     fn receive(
         &mut self,
         port: u16,
@@ -117,6 +120,7 @@ impl Tftp {
     }
 
     /// The transfer is handed a datagram of these bytes.
+    #[inline(always)]
     fn message(
         &mut self,
         rec: u32,
@@ -261,6 +265,7 @@ impl Tftp {
     }
 
     /// Asks for what the transfer's call asks for, and has ended where that says so.
+    #[inline(always)]
     fn carry_out(&mut self, acts: Box<Acts>, fx: &mut Effects)
         requires blank { AsksNone fx.old }
         requires few { length acts.value.sends.items ≤ 1 }

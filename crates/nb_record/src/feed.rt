@@ -132,6 +132,7 @@ impl Feed {
     }
 
     /// What stands at the front. It stays there until it is passed.
+    #[inline(always)]
     pub fn front(&self) -> Front<'_>
         ensures { ShowsFront self.now result }
     {

@@ -165,6 +165,7 @@ fn record_of(kind: Kind, bytes: &[u8]) -> InRec<'_>
 }
 
 /// The frame that stands whole at the front, and how many bytes its record has, if one does.
+#[inline(always)]
 fn frame_at(bytes: &[u8]) -> Option<(&[u8], usize)>
     ensures { IfSome result (λ f. IsFront bytes.now (frame f.0.now) f.1) }
 {
@@ -192,6 +193,7 @@ fn is_frame_length(len: u32) -> bool
 
 /// What stands at the front of the bytes, before which this many bytes of whole records were passed.
 /// Nearly all records are frames, so these are looked for first.
+#[inline(always)]
 pub fn front_of(bytes: &[u8], passed: u64) -> Front<'_>
     ensures { ShowsFront (record { bytes = bytes.now; passed = passed }) result }
 {
@@ -201,6 +203,7 @@ pub fn front_of(bytes: &[u8], passed: u64) -> Front<'_>
     }
 }
 
+#[inline(never)]
 fn any_front_of(bytes: &[u8], passed: u64) -> Front<'_>
     ensures { ShowsFront (record { bytes = bytes.now; passed = passed }) result }
 {

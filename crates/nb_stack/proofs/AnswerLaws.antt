@@ -1,5 +1,5 @@
 -- What answers a frame is never answered itself, and a segment that is sent is the one that is written.
-use Rattle.std.proofs.Common.{◌≡◌, ℕ, ◌+◌, ◌*◌, ◌%◌, ◌^◌, Bool, true, false, cond, List, ◌++◌, length, take, drop, Option, Some, None, refl, sym, ap, ◌∙◌, arith}
+use Rattle.std.proofs.Common.{◌≡◌, ℕ, ◌+◌, ◌*◌, ◌%◌, ◌^◌, Bool, true, false, cond, ◌++◌, length, take, drop, Option, Some, None, refl, ap, arith}
 use Rattle.std.specs.Int.{w16, to_be_bytes}
 use Rattle.std.proofs.lemmas.List.{length-append}
 use Rattle.nb_wire.specs.Checksum.{checksum}
@@ -12,9 +12,9 @@ use Rattle.nb_tcpseg.specs.SegmentText.{SegmentParts, tcp_header, tcp_pseudo_hea
 use Rattle.nb_tcpseg.proofs.HeaderLemmas.{length-tcp_header}
 use Rattle.nb_stack.specs.Client.{Client}
 use Rattle.nb_stack.specs.Bound.{owner_of}
-use Rattle.nb_stack.specs.Brings.{Brought, arp_message, echo_reply, segment}
+use Rattle.nb_stack.specs.Brings.{arp_message, echo_reply, segment}
 use Rattle.nb_stack.specs.Resets.{has_flag, sequence_length, segment_answer, reset_of}
-use Rattle.nb_stack.specs.Takes.{Outcome, dropped, replied, handed, reply_to, echo_to, segment_to, outcome_of}
+use Rattle.nb_stack.specs.Takes.{Outcome, dropped, replied, reply_to, echo_to, segment_to, outcome_of}
 use Rattle.nb_stack.specs.Sends.{checksum_of, with_checksum}
 
 abbrev is_reply : Outcome → Bool

@@ -12,6 +12,7 @@ use Rattle.nb_ether.specs.Frame.{Frame, frame_head, frame_text}
 use Rattle.nb_ipv4.specs.PacketText.{PacketParts, header_text, sent_header, sent_parts, sent_packet}
 use Rattle.nb_ipv4.specs.UdpText.{sent_datagram}
 use Rattle.nb_ipv4.specs.EchoText.{sent_echo}
+use Rattle.nb_ipv4.proofs.NumberLaws.{elements, elements-drop}
 use Rattle.nb_tcpseg.specs.SegmentText.{SegmentParts, tcp_header, sent_header_len, sent_options, sent_sum, sent_segment}
 use Rattle.nb_tcpseg.proofs.HeaderLemmas.{length-tcp_header}
 use Rattle.nb_stack.specs.Sends.{arp_frame, packet_frame, message_frame, udp_of, request_echo, with_checksum, IsCarried}
@@ -51,14 +52,19 @@ arp_size dst arp to from short =
     frame_size _ _ (length-frame_text (record { dst = dst; src = arp.sha; kind = 2054; body = arp_text arp }) to from) (omega (arith, short))
 
 -- what stands before a packet's body makes the packet's frame with it
-pub heads_put : (old before new link head body : List ℕ) (dst src : Mac) (p : PacketParts) → before ≡ old ++ link → new ≡ before ++ head → link ≡ frame_head dst src 2048 → head ++ body ≡ sent_packet p → new ++ body ≡ old ++ packet_frame dst src p
+pub heads_frame : (heads link head body : List ℕ) (dst src : Mac) (p : PacketParts) → heads ≡ link ++ head → link ≡ frame_head dst src 2048 → head ++ body ≡ sent_packet p → heads ++ body ≡ packet_frame dst src p
 unfolding packet_frame
-heads_put old before new link head body dst src p first second link_is packet_is =
-    ap (λ (x : List ℕ). x ++ body) (second ∙ ap (λ (x : List ℕ). x ++ head) first)
-    ∙ append_assoc (old ++ link) head body
-    ∙ append_assoc old link (head ++ body)
-    ∙ ap (λ (x : List ℕ). old ++ (x ++ (head ++ body))) link_is
-    ∙ ap (λ (x : List ℕ). old ++ (frame_head dst src 2048 ++ x)) packet_is
+heads_frame heads link head body dst src p both link_is packet_is =
+    ap (λ (x : List ℕ). x ++ body) both
+    ∙ append_assoc link head body
+    ∙ ap (λ (x : List ℕ). x ++ (head ++ body)) link_is
+    ∙ ap (λ (x : List ℕ). frame_head dst src 2048 ++ x) packet_is
+
+-- two lists of known lengths are their elements
+pub both_spelled : (m n : ℕ) (xs ys : List ℕ) → length xs ≡ m → length ys ≡ n → elements m 0 xs ++ elements n 0 ys ≡ xs ++ ys
+both_spelled m n xs ys first second =
+    ap (λ (x : List ℕ). x ++ elements n 0 ys) (elements-drop m 0 xs (omega (arith, first)))
+    ∙ ap (λ (x : List ℕ). xs ++ x) (elements-drop n 0 ys (omega (arith, second)))
 
 pub length-packet_frame : (dst src : Mac) (p : PacketParts) (n : ℕ) → length dst.0 ≡ 6 → length src.0 ≡ 6 → length p.body ≡ n → length (packet_frame dst src p) ≡ 34 + n
 unfolding packet_frame

@@ -69,8 +69,36 @@ pub(crate) fn put_message(
     }
 }
 
+// A transfer's acknowledgements have four bytes. They go by themselves, since sums and copies of a known
+// length cost less.
 #[inline(always)]
 fn put_datagram(
+    ends: Endpoints,
+    own_port: u16,
+    to_port: u16,
+    first: &[u8],
+    second: &[u8],
+    out: &mut Out<'_>,
+)
+    requires even { length first.now % 2 ≡ 0 }
+    requires short { length first.now + length second.now ≤ 1480 }
+    requires room { 1522 ≤ out.old.left }
+    ensures put { let d = sent_udp own_port to_port first.now second.now in
+        out.new.written
+        ≡ out.old.written ++ packet_between ends 17 (sent_datagram ends.from ends.to d) }
+    ensures size { let d = sent_udp own_port to_port first.now second.now in
+        IsFrameSize (length (packet_between ends 17 (sent_datagram ends.from ends.to d))) }
+{
+    match (first, second) {
+        ([], [a, b, c, d]) => {
+            put_any_datagram(ends, own_port, to_port, &[], &[*a, *b, *c, *d], out)
+        }
+        _ => put_any_datagram(ends, own_port, to_port, first, second, out),
+    }
+}
+
+#[inline(always)]
+fn put_any_datagram(
     ends: Endpoints,
     own_port: u16,
     to_port: u16,
@@ -240,8 +268,34 @@ fn put_heads(ends: Endpoints, proto: u8, len: u16, out: &mut Out<'_>)
         → length (packet_between ends proto body) ≡ 34 + len }
     ensures room { out.new.left + 34 ≡ out.old.left }
 {
-    put(&EtherFrame::head(ends.dst, ends.src, KIND_IPV4), out);
-    put(&Packet::head(ends.from, ends.to, proto, len), out);
+    put(&frame_heads(ends, proto, len), out);
+}
+
+// The heads of a frame and of the packet in it, whose body has `len` bytes.
+#[inline(always)]
+fn frame_heads(ends: Endpoints, proto: u8, len: u16) -> [u8; 34]
+    requires { len ≤ 1488 }
+    ensures put { (body : List ℕ) → length body ≡ len
+        → result ++ body ≡ packet_between ends proto body }
+    ensures size { (body : List ℕ) → length body ≡ len
+        → length (packet_between ends proto body) ≡ 34 + len }
+{
+    let link = EtherFrame::head(ends.dst, ends.src, KIND_IPV4);
+    let packet = Packet::head(ends.from, ends.to, proto, len);
+    joined(link, packet)
+}
+
+// Both heads as one array, which takes one look at the room.
+#[inline(always)]
+fn joined(link: [u8; 14], packet: [u8; 20]) -> [u8; 34]
+    ensures { result ≡ link ++ packet }
+{
+    let [l0, l1, l2, l3, l4, l5, l6, l7, l8, l9, m0, m1, m2, m3] = link;
+    let [a, b, c, d, e, f, g, h, i, j, k, l, m, n, o, p, q, r, s, t] = packet;
+    [
+        l0, l1, l2, l3, l4, l5, l6, l7, l8, l9, m0, m1, m2, m3, a, b, c, d, e, f, g, h, i, j, k, l,
+        m, n, o, p, q, r, s, t,
+    ]
 }
 
 #[inline(always)]

@@ -111,6 +111,7 @@ impl Stack {
 
     /// Takes a frame. Its one message for the client, if it brings one, is noted, handed on, replied to
     /// (RFC 826, 792) or reset (RFC 9293).
+    #[inline(always)]
     pub fn take<'a>(&mut self, frame: &'a [u8], reply: &mut Out<'_>) -> Taken<'a>
         requires frame { length frame.now ≤ 1522 }
         requires room { 1522 ≤ reply.old.left }

@@ -44,6 +44,12 @@ is_block_size size = nat_le 8 size && nat_le size 1432
 abbrev pub end_of_block : ℕ → ℕ → ℕ → Option Cause
 end_of_block size n len = if nat_lt len size then Some ok_cause else (if n == 65535 then Some too_many_blocks else None)
 
+-- the next block comes from this port in its full size, and more can follow it
+abbrev pub awaits_full : Phase → ℕ → ℕ → ℕ → Bool
+awaits_full Asking from n len = false
+awaits_full (Taking port size last) from n len = port == from && (size == len && (nat_lt n 65535 && n == last + 1))
+awaits_full Over from n len = false
+
 -- a block from the server: the next one is taken, unless it is too long, the last one is acknowledged again;
 -- there is no block 0
 abbrev pub block_decided : Option ℕ → ℕ → ℕ → ℕ → ℕ → List ℕ → Answer

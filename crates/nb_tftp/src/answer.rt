@@ -1,7 +1,7 @@
 //! What a packet calls for.
 
-ghost use Rattle.std.specs.Prelude.{◌≡◌, Option, IfSome};
-ghost use Rattle.nb_tftp.specs.Decisions.{decided, block_decided, grant_decided, end_of_block, is_block_size, from_server, fixed_of, block_size_of, last_of, transfer_has_ended};
+ghost use Rattle.std.specs.Prelude.{◌≡◌, ◌≤◌, Option, IfSome, IsTrue};
+ghost use Rattle.nb_tftp.specs.Decisions.{awaits_full, decided, block_decided, grant_decided, end_of_block, is_block_size, from_server, fixed_of, block_size_of, last_of, transfer_has_ended};
 ghost use Rattle.nb_tftpmsg.specs.Views.{message};
 
 use nb_terms::{Cause, Long, Plain, Reason};
@@ -60,6 +60,22 @@ impl Phase {
     {
         match self {
             Phase::Over => true,
+            _ => false,
+        }
+    }
+
+    /// The next block comes from this port in its full size, and more can follow it.
+    pub(crate) fn awaits_full(self, from: u16, block: u16, len: usize) -> bool
+        ensures value { result ≡ awaits_full self from block len }
+        ensures fits { IsTrue result → len ≤ 65535 }
+    {
+        match self {
+            Phase::Taking { port, size, last } => {
+                port == from
+                    && usize::from(size) == len
+                    && block < u16::MAX
+                    && u32::from(block) == u32::from(last) + 1
+            }
             _ => false,
         }
     }

@@ -3,7 +3,7 @@
 ghost use Rattle.std.specs.Prelude.{◌≡◌, ◌≤◌, length, [], None};
 ghost use Rattle.nb_tftpmsg.specs.Texts.{HasNoZero};
 ghost use Rattle.nb_tftp.specs.Decisions.{fixed_of, last_of};
-ghost use Rattle.nb_tftp.specs.Asks.{begun_asking, datagram, last_message, acts_of, nothing, sending};
+ghost use Rattle.nb_tftp.specs.Asks.{begun_asking, datagram, last_message, acts_of, ack_of, taken, nothing, sending};
 ghost use Rattle.nb_tftpmsg.specs.Packets.{packet_text, ack, error};
 ghost use Rattle.nb_tftp.specs.Steps.{begun_of, first_state, after_answer, packet_acts, after_packet, bytes_acts, after_bytes, tick_acts, after_tick};
 ghost use Rattle.nb_tftpmsg.specs.Views.{message};
@@ -88,10 +88,37 @@ impl State {
         ensures acts { acts.new ≡ packet_acts self.old rec from (message packet.now) }
         ensures after { self.new ≡ after_packet self.old rec from (message packet.now) now }
     {
+        if let Tftp::Block { n, bytes } = packet {
+            if self.phase.awaits_full(from, *n, bytes.len()) {
+                return self.take_full(from, bytes.len() as u16, *n, now, acts);
+            }
+        }
+        self.answer(rec, from, *packet, now, acts);
+    }
+
+    /// The next block comes in its full size, and more can follow it.
+    fn take_full(&mut self, port: u16, size: u16, block: u16, now: u64, acts: &mut Acts)
+        requires { acts.old ≡ nothing }
+        ensures acts { acts.new ≡ taken (ack_of (begun_of self.old) port block) block size None }
+        ensures after { self.new ≡ record self.old { phase = Taking port size block; retry = started now Common } }
+    {
+        self.send_to(port, &ack_bytes(block), acts);
+        take_block(block, size, None, acts);
+        self.await_block(port, size, block, now);
+    }
+
+    /// Any packet. It stands apart and takes a copy, so that a full block costs less.
+    #[cold]
+    #[inline(never)]
+    fn answer(&mut self, rec: u32, from: u16, packet: Tftp<'_>, now: u64, acts: &mut Acts)
+        requires { acts.old ≡ nothing }
+        ensures acts { acts.new ≡ packet_acts self.old rec from (message packet.entry) }
+        ensures after { self.new ≡ after_packet self.old rec from (message packet.entry) now }
+    {
         if self.phase.is_over() {
             return;
         }
-        let answer = self.phase.decide(self.options, rec, from, packet);
+        let answer = self.phase.decide(self.options, rec, from, &packet);
         self.follow(from, answer, now);
         self.ask(from, answer, acts);
     }

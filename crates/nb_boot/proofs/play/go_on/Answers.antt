@@ -1,6 +1,6 @@
 use Rattle.std.proofs.Common.{[]}
 use Rattle.nb_boot.specs.Going.{flaw_status}
-use Rattle.nb_boot.proofs.Turned.{keeps_nothing, keeps_log, keeps_then, grow_keeps, keeps_leads, over_steps, cut_stops}
+use Rattle.nb_boot.proofs.Turned.{waits_rests, yields_rests, keeps_nothing, keeps_log, keeps_then, grow_keeps, keeps_leads, over_steps, cut_stops}
 use Rattle.nb_boot.proofs.play.go_on.Goals as goal
 
 pub moves-init : goal.moves-init
@@ -28,8 +28,18 @@ returns-in-Waiting g c =
     let now = g.L.Line.outside c.make_room.new.line in
     let kept = keeps_then first (g.L.Line.outside c.moves.line) now c.args.log.now c.moves.log c.make_room.new.log c.args.client.now c.moves.client c.moves.client
     c.moves.invariant.1 (keeps_log (g.L.Line.outside c.moves.line) now c.moves.log c.make_room.new.log c.moves.client c.in-Ok.ensures.ok) in (
-      c.in-Waiting.ensures.does.1,
+      waits_rests c.more.new.self.stage c.in-Waiting.ensures.does.1,
       keeps_leads [] first now c.args.log.now c.make_room.new.log c.more.new.log c.args.client.now c.moves.client c.more.new.self kept c.in-Waiting.ensures.does.0 tt,
+    )
+
+pub returns-in-Yielded : goal.returns-in-Yielded
+returns-in-Yielded g c =
+    let first = g.L.Line.outside c.args.line.now in
+    let now = g.L.Line.outside c.make_room.new.line in
+    let kept = keeps_then first (g.L.Line.outside c.moves.line) now c.args.log.now c.moves.log c.make_room.new.log c.args.client.now c.moves.client c.moves.client
+    c.moves.invariant.1 (keeps_log (g.L.Line.outside c.moves.line) now c.moves.log c.make_room.new.log c.moves.client c.in-Ok.ensures.ok) in (
+      yields_rests c.more.new.self.stage c.in-Yielded.ensures.does.1,
+      keeps_leads [] first now c.args.log.now c.make_room.new.log c.more.new.log c.args.client.now c.moves.client c.more.new.self kept c.in-Yielded.ensures.does.0 tt,
     )
 
 pub returns-in-Over : goal.returns-in-Over

@@ -1,7 +1,7 @@
 use Rattle.std.proofs.Common.{[], ◌∷◌, arith}
 use Rattle.nb_record.specs.View.{in_of}
 use Rattle.nb_boot.specs.Going.{flaw_status}
-use Rattle.nb_boot.proofs.Turned.{keeps_nothing, keeps_log, keeps_leads, over_steps, cut_stops, after_steps}
+use Rattle.nb_boot.proofs.Turned.{waits_rests, yields_rests, keeps_nothing, keeps_log, keeps_leads, over_steps, cut_stops, after_steps}
 use Rattle.nb_boot.proofs.play.take.Goals as goal
 
 pub returns-in-Err : goal.returns-in-Err
@@ -27,8 +27,18 @@ returns-in-Waiting g c =
     let first = g.L.Line.outside c.args.line.now in
     let now = g.L.Line.outside c.make_room.new.line in
     let kept = keeps_log first now c.args.log.now c.make_room.new.log c.args.client.now c.in-Ok.ensures.ok in (
-      c.in-Waiting.ensures.1,
+      waits_rests c.step.new.self.stage c.in-Waiting.ensures.1,
       keeps_leads used first now c.args.log.now c.make_room.new.log c.step.new.log c.args.client.now c.args.client.now c.step.new.self kept c.in-Waiting.ensures.0 (omega (arith, c.requires.few)),
+    )
+
+pub returns-in-Yielded : goal.returns-in-Yielded
+returns-in-Yielded g c =
+    let used = in_of c.args.entry.now ∷ [] in
+    let first = g.L.Line.outside c.args.line.now in
+    let now = g.L.Line.outside c.make_room.new.line in
+    let kept = keeps_log first now c.args.log.now c.make_room.new.log c.args.client.now c.in-Ok.ensures.ok in (
+      yields_rests c.step.new.self.stage c.in-Yielded.ensures.1,
+      keeps_leads used first now c.args.log.now c.make_room.new.log c.step.new.log c.args.client.now c.args.client.now c.step.new.self kept c.in-Yielded.ensures.0 (omega (arith, c.requires.few)),
     )
 
 pub returns-in-Over : goal.returns-in-Over

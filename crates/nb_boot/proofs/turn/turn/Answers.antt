@@ -2,7 +2,7 @@ use Rattle.std.proofs.Common.{◌<◌, inl, inr, drop, refl, sym, subst, arith}
 use Rattle.nb_defs.proofs.RecordLaws.{partial_short}
 use Rattle.nb_record.specs.View.{in_of}
 use Rattle.nb_engine.specs.Seen.{Seen}
-use Rattle.nb_engine.specs.Turns.{IsWaiting}
+use Rattle.nb_engine.specs.Turns.{IsResting}
 use Rattle.nb_engine.specs.declared.status.Status.{Status}
 use Rattle.nb_boot.specs.Run.{Shows, IsFirst}
 use Rattle.nb_boot.proofs.Standing.{may_use, stands_between}
@@ -16,7 +16,7 @@ returns-then-is_first g c = λ n first v.
     let held = c.reads.feed.bytes in
     let mid = g.L.Line.outside c.reads.line in
     let h = c.reads.invariant in
-    let waits : IsWaiting c.reads.client.stage = subst (λ (x : Seen). IsWaiting x.stage) (sym h.1) c.requires.waits in
+    let waits : IsResting c.reads.client.stage = subst (λ (x : Seen). IsResting x.stage) (sym h.1) c.requires.waits in
     let few : c.reads.client.used < 4294967295 = subst (λ (x : Seen). x.used < 4294967295) (sym h.1) c.requires.few in
     let w = waits_there n c.args.feed.now.bytes held first (g.L.Line.outside c.args.line.now) mid c.args.log.now c.reads.log c.args.client.now c.reads.client h.0 h.1 v in
     c.finish.ensures w.ins held first w.goes.machine w.goes.stands w.goes.going
@@ -25,7 +25,7 @@ returns-then-is_first g c = λ n first v.
 
 pub use_record-over-requires-clause-fits : goal.use_record-over-requires-clause-fits
 use_record-over-requires-clause-fits g c =
-    let waits : IsWaiting c.reads.client.stage = subst (λ (x : Seen). IsWaiting x.stage) (sym c.reads.invariant.1) c.requires.waits in
+    let waits : IsResting c.reads.client.stage = subst (λ (x : Seen). IsResting x.stage) (sym c.reads.invariant.1) c.requires.waits in
     may_use (in_of c.in-Whole.entry) c.reads.client.stage c.if-is_first.ensures waits
 
 pub use_record-over-requires-clause-few : goal.use_record-over-requires-clause-few
@@ -49,7 +49,7 @@ returns-in-Broken g c = λ n first v.
     let held = c.reads.feed.bytes in
     let mid = g.L.Line.outside c.reads.line in
     let h = c.reads.invariant in
-    let waits : IsWaiting c.reads.client.stage = subst (λ (x : Seen). IsWaiting x.stage) (sym h.1) c.requires.waits in
+    let waits : IsResting c.reads.client.stage = subst (λ (x : Seen). IsResting x.stage) (sym h.1) c.requires.waits in
     let few : c.reads.client.used < 4294967295 = subst (λ (x : Seen). x.used < 4294967295) (sym h.1) c.requires.few in
     let w = waits_there n c.args.feed.now.bytes held first (g.L.Line.outside c.args.line.now) mid c.args.log.now c.reads.log c.args.client.now c.reads.client h.0 h.1 v in
     c.finish-in-Broken.ensures w.ins held first w.goes.machine w.goes.stands w.goes.going
@@ -67,7 +67,7 @@ returns-in-Ended g c = λ n first v.
     let held = c.reads.feed.bytes in
     let mid = g.L.Line.outside c.reads.line in
     let h = c.reads.invariant in
-    let waits : IsWaiting c.reads.client.stage = subst (λ (x : Seen). IsWaiting x.stage) (sym h.1) c.requires.waits in
+    let waits : IsResting c.reads.client.stage = subst (λ (x : Seen). IsResting x.stage) (sym h.1) c.requires.waits in
     let few : c.reads.client.used < 4294967295 = subst (λ (x : Seen). x.used < 4294967295) (sym h.1) c.requires.few in
     let w = waits_there n c.args.feed.now.bytes held first (g.L.Line.outside c.args.line.now) mid c.args.log.now c.reads.log c.args.client.now c.reads.client h.0 h.1 v in
     let rest = c.refill.new.feed.bytes in
@@ -82,7 +82,7 @@ returns-in-Fault g c = λ n first v.
     let held = c.reads.feed.bytes in
     let mid = g.L.Line.outside c.reads.line in
     let h = c.reads.invariant in
-    let waits : IsWaiting c.reads.client.stage = subst (λ (x : Seen). IsWaiting x.stage) (sym h.1) c.requires.waits in
+    let waits : IsResting c.reads.client.stage = subst (λ (x : Seen). IsResting x.stage) (sym h.1) c.requires.waits in
     let w = waits_there n c.args.feed.now.bytes held first (g.L.Line.outside c.args.line.now) mid c.args.log.now c.reads.log c.args.client.now c.reads.client h.0 h.1 v in
     c.in-Fault.ensures.fills w.ins first w.goes.machine (stands_between c.reads.client w.goes.machine w.goes.stands waits) w.goes.going
 

@@ -1,4 +1,4 @@
-use Rattle.std.proofs.Common.{◌≡◌, ℕ, Option, Some, None, subst, sym, ap, ◌∙◌, arith}
+use Rattle.std.proofs.Common.{◌≡◌, None, subst, sym, arith}
 use Rattle.nb_graph.specs.declared.effects.Emit.{Emit}
 use Rattle.nb_graph.specs.declared.effects.Few.{Few}
 use Rattle.nb_nodes.specs.declared.load.Load.{Load}

@@ -1,8 +1,7 @@
-use Rattle.std.proofs.Common.{◌≡◌, ℕ, Option, Some, None, subst, sym, ap, ◌∙◌, arith}
+use Rattle.std.proofs.Common.{◌≡◌, Some, subst, sym, arith}
 use Rattle.nb_graph.specs.declared.effects.Emit.{Emit}
-use Rattle.nb_graph.specs.declared.effects.Few.{Few}
 use Rattle.nb_nodes.specs.declared.load.Load.{Load}
-use Rattle.nb_nodes.specs.Carried.{AsksDown, advance_emit, datagram_emit}
+use Rattle.nb_nodes.specs.Carried.{AsksDown, advance_emit}
 use Rattle.nb_nodes.proofs.CarriedLemmas.{sends_both}
 use Rattle.nb_nodes.proofs.carrying.send.Goals as goal
 

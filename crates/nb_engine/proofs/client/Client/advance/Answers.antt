@@ -1,10 +1,30 @@
-use Rattle.std.proofs.Common.{◌≡◌, refl, None}
-use Rattle.nb_engine.specs.Machine.{next_line}
-use Rattle.nb_engine.proofs.Moves.{end_grows}
+use Rattle.std.proofs.Common.{◌≡◌, [], ◌∷◌, subst}
+use Rattle.nb_defs.specs.Records.{out_texts, leave}
+use Rattle.nb_record.specs.Logged.{Puts}
+use Rattle.nb_engine.specs.Running.{Running}
+use Rattle.nb_engine.specs.Seen.{seen}
+use Rattle.nb_engine.specs.declared.stage.Stage.TheVariants as stage
+use Rattle.nb_engine.proofs.Moves.{pass_grows, left_grows, yield_grows}
+use Rattle.nb_engine.proofs.TurnLemmas.{turn_acts}
 use Rattle.nb_engine.proofs.client.Client.advance.Goals as goal
 
-pub returns-in-Ok-End-clause-does : goal.returns-in-Ok-End-clause-does
-returns-in-Ok-End-clause-does c =
+pub returns-in-Ok-Passed-clause-does : goal.returns-in-Ok-Passed-clause-does
+returns-in-Ok-Passed-clause-does c =
+    let now = c.args.self.now in
+    let passed = rw c.in-Ok-Passed.field-0-is at c.in-Ok-Passed.ensures in
+    rw (c.run_on.ensures.turn, c.run_on.ensures.after) (pass_grows now.used now.world c.args.script c.next.new.self passed.comes, tt)
+
+pub returns-in-Ok-Left-clause-does : goal.returns-in-Ok-Left-clause-does
+returns-in-Ok-Left-clause-does c =
+    let now = c.args.self.now in
     let s = c.args.script in
-    let none : next_line s ≡ None = rw c.in-Ok-End.field-0-is at c.in-Ok-End.ensures in
-    rw (← c.self.view_is, c.cause-ok.ensures) (tt, end_grows c.self.inside.used c.self.inside.world s none (rw c.cause-ok.ensures at c.put_leave.ensures), refl)
+    let cause = c.in-Ok-Left.cause in
+    let left = rw c.in-Ok-Left.field-0-is at c.in-Ok-Left.ensures in
+    let puts = subst (λ (x : Running). Puts c.args.log.now c.leave.new.log (out_texts (leave x.depth cause ∷ []))) left.0 c.leave.ensures.puts in
+    rw c.leave.ensures.after (turn_acts c.leave.result c.args.log.now c.leave.new.log [] (seen now.used now.world (stage.Running s)) (seen now.used now.world (stage.Left cause))
+    c.leave.ensures.turn (left_grows now.used now.world s cause left.1 puts))
+
+pub returns-in-Ok-Full-clause-does : goal.returns-in-Ok-Full-clause-does
+returns-in-Ok-Full-clause-does c =
+    let full = rw c.in-Ok-Full.field-0-is at c.in-Ok-Full.ensures in
+    rw (← c.self.view_is, full.0) (yield_grows c.self.inside.used c.self.inside.world c.args.script full.1, tt)

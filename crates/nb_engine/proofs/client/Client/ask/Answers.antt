@@ -5,7 +5,8 @@ use Rattle.nb_defs.specs.Records.{out_texts, ended}
 use Rattle.nb_engine.specs.declared.fetch.Fetch.{Fetch}
 use Rattle.nb_engine.specs.declared.stage.Stage.TheVariants as stage
 use Rattle.nb_stack.specs.Client.{Client}
-use Rattle.nb_engine.specs.World.{with_net}
+use Rattle.nb_engine.specs.World.{with_net, with_ended_open}
+use Rattle.nb_engine.specs.Running.{further}
 use Rattle.nb_engine.specs.Conclusions.{fails, conclusion_records}
 use Rattle.nb_engine.specs.Machine.{no_route}
 use Rattle.nb_engine.specs.Opens.{has_route, send_records}
@@ -31,8 +32,9 @@ returns-else-put_request c =
     let route : has_route w.net send ≡ false = sym found ∙ c.if-put_request.false in
     let puts = subst (λ (xs : List SendTo). IfOne xs (λ m. Puts c.args.log.now c.put_request.new.log (out_texts (send_records w.net c.get.result.now.number acts.tried m)))) items c.put_request.ensures.puts in
     let nothing = nothing_sent w.net c.get.result.now.number acts.tried send route puts in
-    let records = ended f.number cause ∷ conclusion_records s.depth (fails cause) in
-    let after : c.give_up.new.self ≡ seen n w (stage.Left cause) = c.give_up.ensures.after ∙ ap (λ (net : Client). seen n (with_net w net) (stage.Left cause)) c.put_request.ensures.same in
+    let records = ended f.number cause ∷ conclusion_records (fails cause) in
+    let after : c.give_up.new.self ≡ seen n (with_ended_open w) (stage.Running (further s cause)) = c.give_up.ensures.after
+    ∙ ap (λ (net : Client). seen n (with_ended_open (with_net w net)) (stage.Running (further s cause))) c.put_request.ensures.same in
     let asked : Requested c.give_up.result s f acts send x c.give_up.new.self c.args.log.now c.give_up.new.log =
     fails_so route c.give_up.ensures.turn (Puts-outs [] records nothing c.give_up.ensures.puts) after in
     subst (λ (xs : List SendTo). IfOne xs (λ m. Requested c.give_up.result s f acts m x c.give_up.new.self c.args.log.now c.give_up.new.log)) (sym items) asked)

@@ -12,7 +12,7 @@ use Rattle.nb_engine.specs.Opens.{request_of, begun_for, open_for, opened_record
 use Rattle.nb_engine.specs.Advance.{IfOne, Requests, Requested as AskedFor}
 use Rattle.nb_engine.specs.Seen.{Seen, seen, standing}
 use Rattle.nb_engine.proofs.Puts.{Puts-outs}
-use Rattle.nb_engine.proofs.Moves.{asked_acts}
+use Rattle.nb_engine.proofs.Moves.{asked_acts, asked_nearer}
 use Rattle.nb_engine.proofs.client.Client.begin.Goals as goal
 
 pub ask-requires-clause-udp : goal.ask-requires-clause-udp
@@ -40,4 +40,12 @@ returns-in-Ok-clause-does c =
     subst (λ sends. IfOne sends (λ send. AskedFor c.ask.result s f acts send x c.ask.new.self c.put_opened.new.log c.ask.new.log)) (ap (λ (a : Asked). a.sends.items) request
     ∙ ap (λ own. request_of (begun c.args.wanted.now.target.server 69 own c.args.wanted.now.target.path.now) ∷ []) c.own_port-own_port.ensures)
     (subst (λ (y : Seen). Requests c.ask.result s f acts (standing y (stage.Running s)) c.ask.new.self c.put_opened.new.log c.ask.new.log) (sym c.self.view_is) c.ask.ensures) in
-    asked_acts c.ask.result n w s f c.args.words.now wanted acts c.ask.new.self c.requires.words c.requires.some comes live (ap (λ (a : Asked). a.tried) request) opened one)
+    asked_acts c.ask.result n w s f c.args.words.now wanted acts c.ask.new.self c.requires.words comes live (ap (λ (a : Asked). a.tried) request) opened one)
+
+pub returns-in-Ok-clause-nearer : goal.returns-in-Ok-clause-nearer
+returns-in-Ok-clause-nearer c =
+    let x = standing c.args.self.now (stage.Running c.args.script) in
+    let acts = c.begin.new.acts in
+    let request = c.in-Ok.ensures.request in
+    asked_nearer c.ask.result c.put_opened.new.log c.ask.new.log c.args.script c.in-Ok.fetch acts _ x c.ask.new.self c.requires.words.early refl
+    (subst (λ sends. IfOne sends (λ send. AskedFor c.ask.result c.args.script c.in-Ok.fetch acts send x c.ask.new.self c.put_opened.new.log c.ask.new.log)) (ap (λ (a : Asked). a.sends.items) request) c.ask.ensures)

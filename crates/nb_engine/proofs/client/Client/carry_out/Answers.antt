@@ -15,7 +15,7 @@ returns-in-Ok-clause-does c =
     let settled : SettlesScript c.finish-left.result c.settle.result c.finish-left.new.self (seen n w c.self.inside.stage) c.settle.new.self =
     subst (λ (x : Seen). SettlesScript c.finish-left.result c.settle.result c.finish-left.new.self x c.settle.new.self) (sym c.self.view_is) c.settle.ensures in
     rw (← c.self.view_is) (settled_acts c.finish-left.result c.settle.result c.args.log.now c.finish-left.new.log n w c.args.script c.finish-left.new.self c.args.words.now o (seen n w c.self.inside.stage) c.settle.new.self
-    c.requires.words c.requires.some comes c.finish-left.ensures refl refl settled)
+    c.requires.words comes c.finish-left.ensures refl refl settled)
 
 pub returns-in-Ok-clause-nearer : goal.returns-in-Ok-clause-nearer
 returns-in-Ok-clause-nearer c =

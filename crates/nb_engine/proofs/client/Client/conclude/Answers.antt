@@ -1,8 +1,8 @@
 use Rattle.std.proofs.Common.{◌<◌, length, refl, sym, subst}
 use Rattle.nb_defs.specs.Causes.{ok}
 use Rattle.nb_engine.specs.Conclusions.{handoff_records}
-use Rattle.nb_engine.specs.Machine.{further}
-use Rattle.nb_engine.specs.Seen.{Seen, as_running, as_left, as_handing}
+use Rattle.nb_engine.specs.Running.{with_result}
+use Rattle.nb_engine.specs.Seen.{Seen, as_running, as_handing}
 use Rattle.nb_engine.specs.Concluding.{IsPlaceFor}
 use Rattle.nb_engine.proofs.HandingLemmas.{begins_at}
 use Rattle.nb_engine.proofs.client.Client.conclude.Goals as goal
@@ -25,18 +25,18 @@ pub returns-in-Keeps : goal.returns-in-Keeps
 returns-in-Keeps c =
     let now = c.args.self.now in
     rw (c.in-Keeps.is, c.resume.ensures.turn, c.resume.ensures.after) (record {
-      puts = rw c.cause.ensures at c.put_result.ensures;
+      puts = rw c.cause.ensures at c.resume.ensures.puts;
       is_turn = tt;
-      stands = as_running now.used now.world (further c.args.script ok);
+      stands = rw c.cause.ensures (as_running now.used now.world (with_result c.args.script ok));
     })
 
 pub returns-in-Fails : goal.returns-in-Fails
 returns-in-Fails c =
     let now = c.args.self.now in
-    rw (c.in-Fails.is, c.fail.ensures.after) (record {
-      puts = c.fail.ensures.puts;
-      is_turn = c.fail.ensures.turn;
-      stands = as_left now.used now.world c.in-Fails.cause;
+    rw (c.in-Fails.is, c.resume-in-Fails.ensures.turn, c.resume-in-Fails.ensures.after) (record {
+      puts = c.resume-in-Fails.ensures.puts;
+      is_turn = tt;
+      stands = as_running now.used now.world (with_result c.args.script c.in-Fails.cause);
     })
 
 pub returns-in-Boots : goal.returns-in-Boots
@@ -44,7 +44,7 @@ returns-in-Boots c =
     let n = c.self.inside.used in
     let w = c.self.inside.world in
     rw (c.in-Boots.is, ← c.self.view_is, c.of.ensures) (record {
-      puts = rw c.cause-in-Boots.ensures at c.put_result-in-Boots.ensures;
+      puts = rw c.cause-in-Boots.ensures at c.put_result.ensures;
       is_turn = tt;
       stands = as_handing n w (record { kernel = c.in-Boots.kernel; part = 0; piece = 0 }) (handoff_records c.in-Boots.kernel w.images.images) refl;
     })

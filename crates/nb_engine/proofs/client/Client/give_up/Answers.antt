@@ -16,6 +16,6 @@ returns-clause-puts c =
     let over : Puts c.args.log.now c.put_over.new.log (out_texts (ended f.number cause ∷ [])) =
     subst (λ (x : Cause). Puts c.args.log.now c.put_over.new.log (out_texts (ended f.number x ∷ []))) is
     (subst (λ (g : Fetch). Puts c.args.log.now c.put_over.new.log (out_texts (ended g.number c.from-cause.result ∷ []))) c.get-open.ensures c.put_over.ensures) in
-    let rest : Puts c.put_over.new.log c.fail.new.log (out_texts (conclusion_records c.args.script.depth (fails cause))) =
-    subst (λ (x : Cause). Puts c.put_over.new.log c.fail.new.log (out_texts (conclusion_records c.args.script.depth (fails x)))) is c.fail.ensures.puts in
-    Puts-outs (ended f.number cause ∷ []) (conclusion_records c.args.script.depth (fails cause)) over rest
+    let rest : Puts c.put_over.new.log c.put_result.new.log (out_texts (conclusion_records (fails cause))) =
+    subst (λ (x : Cause). Puts c.put_over.new.log c.put_result.new.log (out_texts (conclusion_records (fails x)))) is c.put_result.ensures in
+    Puts-outs (ended f.number cause ∷ []) (conclusion_records (fails cause)) over rest

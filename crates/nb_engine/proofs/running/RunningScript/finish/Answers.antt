@@ -1,16 +1,15 @@
-use Rattle.std.proofs.Common.{[], ◌∷◌, refl, sym, ◌∙◌}
+use Rattle.std.proofs.Common.{[], ◌∷◌, refl}
 use Rattle.nb_defs.specs.Records.{leave}
 use Rattle.nb_engine.specs.CommandWords.{done_of}
 use Rattle.nb_engine.specs.Machine.{command_records}
 use Rattle.nb_engine.proofs.Puts.{Puts-outs}
 use Rattle.nb_engine.proofs.running.RunningScript.finish.Goals as goal
 
-pub returns-then-ends : goal.returns-then-ends
-returns-then-ends c =
+pub returns-then-done : goal.returns-then-done
+returns-then-done c =
     let s = c.args.self.now in
     let done = c.args.done.now in (
-      sym c.ends.ensures ∙ c.if-ends.true,
-      refl,
+      c.if-done.true,
       refl,
       Puts-outs (command_records s c.args.words.now (done_of done)) (leave s.depth done.cause ∷ []) c.put_command.ensures c.put_leave.ensures,
     )

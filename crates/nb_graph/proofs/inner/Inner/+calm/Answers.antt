@@ -43,7 +43,7 @@ use Rattle.nb_graph.proofs.inner.Inner.+calm.Goals as goal
 pub calm_effects-returns-clause-lives : goal.calm_effects-returns-clause-lives
 calm_effects-returns-clause-lives g t c =
     let k = c.run_downs.ensures.lives in
-    rw (lent-below c.args.fx.now _ c.requires.asks) (CalmFor-opened (λ st. ap (λ z. z ++ st) (runs-below (nature g.N.Node.kind_of g.N.Load.Parts.first g.N.Load.Parts.second) c.args.id.0 (said c.args.msg.now) c.args.fx.now _ c.requires.asks) ∙ append_assoc (few_of (nature g.N.Node.kind_of g.N.Load.Parts.first g.N.Load.Parts.second) c.args.id.0 (said c.args.msg.now) c.args.fx.now.downs) (closes_of c.args.id.0 c.args.fx.now.closes.items) st ∙ ap (λ z. few_of (nature g.N.Node.kind_of g.N.Load.Parts.first g.N.Load.Parts.second) c.args.id.0 (said c.args.msg.now) c.args.fx.now.downs ++ (closes_of c.args.id.0 z ++ st)) (sym c.as_slice.ensures.value)) (CalmFor-last (loads c.args.fx.now.downs) c.requires.runs k c.run_closes.ensures.lives (λ ds p q i j w v h t. let z = Downs-closing c.args.self.now.book c.run_downs.new.self.book k.lives.moved.links k.lives.moved.shuts c.args.id.0 (λ n. few_bytes (nature g.N.Node.kind_of g.N.Load.Parts.first g.N.Load.Parts.second) n (said c.args.msg.now).bytes c.args.fx.now.downs) p q j j w v h in (z.0, z.1, λ _. z.2))))
+    rw (lent-below c.args.fx.now _ c.requires.asks) (CalmFor-opened (λ st. ap (λ z. z ++ st) (runs-below (nature g.N.Node.kind_of g.N.Load.Parts.first g.N.Load.Parts.second) c.args.id.0 (said c.args.msg.now) c.args.fx.now _ c.requires.asks) ∙ append_assoc (few_of (nature g.N.Node.kind_of g.N.Load.Parts.first g.N.Load.Parts.second) c.args.id.0 (said c.args.msg.now) c.args.fx.now.downs) (closes_of c.args.id.0 c.args.fx.now.closes.items) st ∙ ap (λ z. few_of (nature g.N.Node.kind_of g.N.Load.Parts.first g.N.Load.Parts.second) c.args.id.0 (said c.args.msg.now) c.args.fx.now.downs ++ (closes_of c.args.id.0 z ++ st)) (sym c.as_slice.ensures.value)) (CalmFor-last (loads c.args.fx.now.downs) c.requires.runs k c.close_asked.ensures.lives (λ ds p q i j w v h t. let z = Downs-closing c.args.self.now.book c.run_downs.new.self.book k.lives.moved.links k.lives.moved.shuts c.args.id.0 (λ n. few_bytes (nature g.N.Node.kind_of g.N.Load.Parts.first g.N.Load.Parts.second) n (said c.args.msg.now).bytes c.args.fx.now.downs) p q j j w v h in (z.0, z.1, λ _. z.2))))
 
 pub close_all-returns-clause-lives : goal.close_all-returns-clause-lives
 close_all-returns-clause-lives g t c =
@@ -132,13 +132,13 @@ run_down-returns-in-None-clause-lives g t c = rw c.in-None.is (CalmFor-weaken (B
 
 pub run_downs-returns-clause-lives : goal.run_downs-returns-clause-lives
 run_downs-returns-clause-lives g t c =
-    let a = rw c.take.ensures.value at c.run_down.ensures.lives in
-    let b = rw c.take-2.ensures.value at c.run_down-2.ensures.lives in
+    let a = c.run_down.ensures.lives in
+    let b = c.run_down-2.ensures.lives in
     CalmFor-opened (λ st. append_assoc (emit_of (nature g.N.Node.kind_of g.N.Load.Parts.first g.N.Load.Parts.second) c.args.id.0 (said c.args.msg.now) c.args.downs.now.first) (emit_of (nature g.N.Node.kind_of g.N.Load.Parts.first g.N.Load.Parts.second) c.args.id.0 (said c.args.msg.now) c.args.downs.now.second) st) (CalmFor-back (carried c.args.downs.now.first) (carried c.args.downs.now.second) a b
     (λ ds p q i j w v h t. let z = Downs-few (nature g.N.Node.kind_of g.N.Load.Parts.first g.N.Load.Parts.second) _ _ _ a.lives.moved.links a.lives.moved.shuts c.args.id.0 _ c.args.downs.now c.requires.downs p q j (account (nature g.N.Node.kind_of g.N.Load.Parts.first g.N.Load.Parts.second) q j ds) w v h in (z.0, z.1, λ _. z.2)))
 
-pub send_down-take_emit-requires-clause-lives : goal.send_down-take_emit-requires-clause-lives
-send_down-take_emit-requires-clause-lives g t c = busy-live _ _ (c.pass_down.ensures.lives.calm.shrinks.same_busy c.args.id.0 ∙ c.requires.runs)
+pub send_down-take_load-requires-clause-lives : goal.send_down-take_load-requires-clause-lives
+send_down-take_load-requires-clause-lives g t c = busy-live _ _ (c.pass_down.ensures.lives.calm.shrinks.same_busy c.args.id.0 ∙ c.requires.runs)
 
 pub enter_down-ask_down-done-requires-clause-lives : goal.enter_down-ask_down-done-requires-clause-lives
 enter_down-ask_down-done-requires-clause-lives g t c = busy-live _ _ c.enter-was.ensures.runs
@@ -255,8 +255,8 @@ enter_down-returns-clause-starts g t c =
 
 pub send_down-returns-clause-lives : goal.send_down-returns-clause-lives
 send_down-returns-clause-lives g t c =
-    let e : said c.message_of-part.result ≡ said_of (nature g.N.Node.kind_of g.N.Load.Parts.first g.N.Load.Parts.second) (said c.args.msg.now) c.args.emit = c.message_of-part.ensures in
-    CalmFor-regain (in_list c.args.emit.load) c.requires.runs (subst (λ m. CalmFor g.N.Node.stands (nature g.N.Node.kind_of g.N.Load.Parts.first g.N.Load.Parts.second) c.args.now c.args.self.now.book c.pass_down.new.self.book c.args.self.now.nodes.items c.pass_down.new.self.nodes.items (Same (busy c.args.self.now.book)) (Passing c.args.self.now.book (port_at c.args.id.0 c.args.emit.slot) m.bytes) (λ st. Sends (port_at c.args.id.0 c.args.emit.slot) m ∷ st) (g.O.Outside.events c.args.out.now) (g.O.Outside.events c.pass_down.new.out)) e c.pass_down.ensures.lives) c.take_emit.ensures.lives c.take_emit.ensures.book
+    let e : said c.message_of-part.result ≡ said_of (nature g.N.Node.kind_of g.N.Load.Parts.first g.N.Load.Parts.second) (said c.args.msg.now) c.args.emit.now = c.message_of-part.ensures in
+    CalmFor-regain (in_list c.args.emit.now.load) c.requires.runs (subst (λ m. CalmFor g.N.Node.stands (nature g.N.Node.kind_of g.N.Load.Parts.first g.N.Load.Parts.second) c.args.now c.args.self.now.book c.pass_down.new.self.book c.args.self.now.nodes.items c.pass_down.new.self.nodes.items (Same (busy c.args.self.now.book)) (Passing c.args.self.now.book (port_at c.args.id.0 c.args.emit.now.slot) m.bytes) (λ st. Sends (port_at c.args.id.0 c.args.emit.now.slot) m ∷ st) (g.O.Outside.events c.args.out.now) (g.O.Outside.events c.pass_down.new.out)) e c.pass_down.ensures.lives) c.take_load.ensures.lives c.take_load.ensures.book
 
 pub fail-returns-clause-lives : goal.fail-returns-clause-lives
 fail-returns-clause-lives g t c =
@@ -278,3 +278,10 @@ after_down-returns-else-done-clause-lives g t c =
 
 pub run_down-returns-in-Some-clause-lives : goal.run_down-returns-in-Some-clause-lives
 run_down-returns-in-Some-clause-lives g t c = rw c.in-Some.is c.send_down.ensures.lives
+
+pub close_asked-returns-in_default-clause-lives : goal.close_asked-returns-in_default-clause-lives
+close_asked-returns-in_default-clause-lives g t c = CalmFor-opened (λ st. ap (λ z. z ++ st) (closes_of-none c.args.id.0 c.args.closes.now c.in_default.len_below)) (CalmFor-refl _ _ _ _ _ _ closing-idle)
+
+pub close_asked-returns-in_default-clause-shut : goal.close_asked-returns-in_default-clause-shut
+close_asked-returns-in_default-clause-shut g t c =
+    closes-none c.args.closes.now (λ k. open_count (port c.args.self.now.book c.args.id.0 k) ≡ 0) c.in_default.len_below

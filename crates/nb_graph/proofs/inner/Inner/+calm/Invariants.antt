@@ -33,6 +33,9 @@ decreases-fail g l = distance (opens l.self.now.book) 0 7
 abbrev pub decreases-close_all : goal.decreases-close_all
 decreases-close_all g l = distance (opens l.self.now.book) 0 6
 
+abbrev pub decreases-close_asked : goal.decreases-close_asked
+decreases-close_asked g l = distance (opens l.self.now.book) 0 (3 + length l.closes.now)
+
 abbrev pub decreases-run_closes : goal.decreases-run_closes
 decreases-run_closes g l = distance (opens l.self.now.book) 0 (2 + length l.closes.now)
 

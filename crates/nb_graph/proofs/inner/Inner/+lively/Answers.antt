@@ -47,7 +47,7 @@ effects-returns-clause-lives g t c =
     let downs = c.run_downs.ensures.lives in
     let ups = c.run_ups.ensures.lives in
     let asks = c.requires.asks in
-    LivelyInFor-opened (λ st. runs-then (nature g.N.Node.kind_of g.N.Load.Parts.first g.N.Load.Parts.second) x (said c.args.msg.now) c.args.fx.now st ∙ ap (λ z. makes_of x c.args.fx.now.makes ++ (few_of (nature g.N.Node.kind_of g.N.Load.Parts.first g.N.Load.Parts.second) x (said c.args.msg.now) c.args.fx.now.downs ++ (few_of (nature g.N.Node.kind_of g.N.Load.Parts.first g.N.Load.Parts.second) x (said c.args.msg.now) c.args.fx.now.ups ++ (closes_of x z ++ st)))) (sym c.as_slice.ensures.value)) (LivelyInFor-effects (Leaves c.run_downs.new.self.book (port_at x 0) (few_bytes (nature g.N.Node.kind_of g.N.Load.Parts.first g.N.Load.Parts.second) 0 bytes c.args.fx.now.ups)) (DoesEffects c.run_make.new.self.book x sent) (loads c.args.fx.now.downs) (loads c.args.fx.now.ups) c.requires.runs made downs ups c.run_closes.ensures.lives
+    LivelyInFor-opened (λ st. runs-then (nature g.N.Node.kind_of g.N.Load.Parts.first g.N.Load.Parts.second) x (said c.args.msg.now) c.args.fx.now st ∙ ap (λ z. makes_of x c.args.fx.now.makes ++ (few_of (nature g.N.Node.kind_of g.N.Load.Parts.first g.N.Load.Parts.second) x (said c.args.msg.now) c.args.fx.now.downs ++ (few_of (nature g.N.Node.kind_of g.N.Load.Parts.first g.N.Load.Parts.second) x (said c.args.msg.now) c.args.fx.now.ups ++ (closes_of x z ++ st)))) (sym c.as_slice.ensures.value)) (LivelyInFor-effects (Leaves c.run_downs.new.self.book (port_at x 0) (few_bytes (nature g.N.Node.kind_of g.N.Load.Parts.first g.N.Load.Parts.second) 0 bytes c.args.fx.now.ups)) (DoesEffects c.run_make.new.self.book x sent) (loads c.args.fx.now.downs) (loads c.args.fx.now.ups) c.requires.runs made downs ups c.close_asked.ensures.lives
     (λ ds es a z. Livens-ups x _ ups.lively.grows.same_busy a z)
     (λ ds es a z. Livens-downs x sent (λ n. few_bytes (nature g.N.Node.kind_of g.N.Load.Parts.first g.N.Load.Parts.second) n bytes c.args.fx.now.downs) (few_bytes (nature g.N.Node.kind_of g.N.Load.Parts.first g.N.Load.Parts.second) 0 bytes c.args.fx.now.ups) (made.lively.grows.same_busy x ∙ c.requires.runs) (λ n o. downs-bytes (nature g.N.Node.kind_of g.N.Load.Parts.first g.N.Load.Parts.second) bytes _ c.args.fx.now asks.ups n o) (ups-bytes (nature g.N.Node.kind_of g.N.Load.Parts.first g.N.Load.Parts.second) bytes _ c.args.fx.now asks.downs) downs.calm.shrinks.same_busy a z)
     (λ ds es a z. Livens-effects x sent made.lively.grows.same_busy a z))
@@ -143,20 +143,20 @@ pass_up-returns-in-Closed-clause-lives g t c =
 
 pub run_ups-returns-clause-lives : goal.run_ups-returns-clause-lives
 run_ups-returns-clause-lives g t c =
-    let k = rw c.take.ensures.value at c.run_up.ensures.lives in
-    let l = rw c.take-2.ensures.value at c.run_up-2.ensures.lives in
+    let k = c.run_up.ensures.lives in
+    let l = c.run_up-2.ensures.lives in
     LivelyFor-opened (λ st. append_assoc (emit_of (nature g.N.Node.kind_of g.N.Load.Parts.first g.N.Load.Parts.second) c.args.id.0 (said c.args.msg.now) c.args.ups.now.first) (emit_of (nature g.N.Node.kind_of g.N.Load.Parts.first g.N.Load.Parts.second) c.args.id.0 (said c.args.msg.now) c.args.ups.now.second) st) (LivelyFor-back (carried c.args.ups.now.first) (carried c.args.ups.now.second) k l (λ ds es a z. Livens-few c.args.id.0 _ _ c.requires.runs k.lively.grows.same_busy a z))
 
-pub send_up-take_emit-requires-clause-lives : goal.send_up-take_emit-requires-clause-lives
-send_up-take_emit-requires-clause-lives g t c = busy-live _ _ (c.pass_up.ensures.lives.lively.grows.same_busy c.args.id.0 ∙ c.requires.runs)
+pub send_up-take_load-requires-clause-lives : goal.send_up-take_load-requires-clause-lives
+send_up-take_load-requires-clause-lives g t c = busy-live _ _ (c.pass_up.ensures.lives.lively.grows.same_busy c.args.id.0 ∙ c.requires.runs)
 
 pub run_up-returns-in-None-clause-lives : goal.run_up-returns-in-None-clause-lives
 run_up-returns-in-None-clause-lives g t c = rw c.in-None.is (LivelyFor-weaken (Back-none _ _ c.requires.runs) (λ p q x y w v i j. i) (LivelyFor-refl _ _ _ _ _ _ (λ p q x y w v i j. leaves-nothing _ _ p q y w v i)))
 
 pub send_up-returns-clause-lives : goal.send_up-returns-clause-lives
 send_up-returns-clause-lives g t c =
-    let e : said c.message_of-part.result ≡ said_of (nature g.N.Node.kind_of g.N.Load.Parts.first g.N.Load.Parts.second) (said c.args.msg.now) c.args.emit = c.message_of-part.ensures in
-    LivelyFor-regain (in_list c.args.emit.load) c.requires.runs (LivelyFor-weaken (λ x w v i. i) (λ p q x y w v i j. leaves-at c.args.self.now.book c.args.id c.args.emit.slot _ c.requires.up.0 p q y w v i) (subst (λ m. LivelyFor g.N.Node.stands (nature g.N.Node.kind_of g.N.Load.Parts.first g.N.Load.Parts.second) c.args.now c.args.self.now.book c.pass_up.new.self.book c.args.self.now.nodes.items c.pass_up.new.self.nodes.items (Same (busy c.args.self.now.book)) none_due (Leaves c.args.self.now.book (port_at c.args.id.0 c.args.emit.slot) m.bytes) (λ st. Sends (port_at c.args.id.0 c.args.emit.slot) m ∷ st) (g.O.Outside.events c.args.out.now) (g.O.Outside.events c.pass_up.new.out)) e c.pass_up.ensures.lives)) c.take_emit.ensures.lives c.take_emit.ensures.book
+    let e : said c.message_of-part.result ≡ said_of (nature g.N.Node.kind_of g.N.Load.Parts.first g.N.Load.Parts.second) (said c.args.msg.now) c.args.emit.now = c.message_of-part.ensures in
+    LivelyFor-regain (in_list c.args.emit.now.load) c.requires.runs (LivelyFor-weaken (λ x w v i. i) (λ p q x y w v i j. leaves-at c.args.self.now.book c.args.id c.args.emit.now.slot _ c.requires.up.0 p q y w v i) (subst (λ m. LivelyFor g.N.Node.stands (nature g.N.Node.kind_of g.N.Load.Parts.first g.N.Load.Parts.second) c.args.now c.args.self.now.book c.pass_up.new.self.book c.args.self.now.nodes.items c.pass_up.new.self.nodes.items (Same (busy c.args.self.now.book)) none_due (Leaves c.args.self.now.book (port_at c.args.id.0 c.args.emit.now.slot) m.bytes) (λ st. Sends (port_at c.args.id.0 c.args.emit.now.slot) m ∷ st) (g.O.Outside.events c.args.out.now) (g.O.Outside.events c.pass_up.new.out)) e c.pass_up.ensures.lives)) c.take_load.ensures.lives c.take_load.ensures.book
 
 pub run_ups-run_up-requires-2 : goal.run_ups-run_up-requires-2
 run_ups-run_up-requires-2 g t c =
@@ -207,8 +207,8 @@ give-returns-clause-gives g t c =
     let r = Calls-then (busy c.args.self.now.book) (busy c.args.self.now.book) c.args.at.obj.0 (lent c.ask_up-done.new.fx) (λ done fx. up c.args.at.slot (said c.args.msg.now) c.args.now done fx) (λ x. refl) (rw c.ask_up-done.ensures.book at c.ask_up-done.ensures.lives (g.O.Outside.events c.args.out.now)) k.lives (λ ds es a z. Livens-ask c.args.at (asked_sent (nature g.N.Node.kind_of g.N.Load.Parts.first g.N.Load.Parts.second) bytes c.ask_up-done.result c.ask_up-done.new.fx) (asked_taken c.args.at.slot bytes c.ask_up-done.result c.ask_up-done.new.fx) (asked_taken c.args.at.slot bytes c.ask_up-done.result c.ask_up-done.new.fx c.args.at.slot) (asked_behind bytes c.ask_up-done.result c.ask_up-done.new.fx) bytes c.requires.slot c.requires.open c.requires.steady.whole.links refl (taken-only c.args.at.slot bytes c.ask_up-done.result c.ask_up-done.new.fx) (taken-all c.args.at.slot bytes c.ask_up-done.result c.ask_up-done.new.fx) a.0 a.1 z) in
     (record { lively = k.lively; lives = r.0 }, r.1)) c.after_up.result (rw c.ask_up-done.ensures.book at c.after_up.ensures.goes)
 
-pub deliver-loop-rest-preserved : goal.deliver-loop-rest-preserved
-deliver-loop-rest-preserved g t c =
+pub deliver_rest-loop-rest-preserved : goal.deliver_rest-loop-rest-preserved
+deliver_rest-loop-rest-preserved g t c =
     let i = c.loop-rest.invariant in
     let gives = rw c.in-Some.is at i.gives in
     let less = rw c.in-Some.is at i.less in
@@ -219,3 +219,11 @@ deliver-loop-rest-preserved g t c =
       grows = Grows-trans i.grows c.give-rest.ensures.grows;
       steady = c.give-rest.ensures.steady;
     }
+
+pub deliver-returns-in-None-clause-lives : goal.deliver-returns-in-None-clause-lives
+deliver-returns-in-None-clause-lives g t c = rw c.in-None.is at c.give.ensures.gives
+
+pub deliver-returns-in-Some-clause-lives : goal.deliver-returns-in-Some-clause-lives
+deliver-returns-in-Some-clause-lives g t c =
+    let gives = rw c.in-Some.is at c.give.ensures.gives in
+    gives _ _ _ c.deliver_rest.ensures.lives

@@ -17,6 +17,9 @@ decreases-enter_up g l = reach (rank l.self.now.book l.at.obj.0) (length l.msg.n
 abbrev pub decreases-deliver : goal.decreases-deliver
 decreases-deliver g l = reach (rank l.self.now.book l.at.obj.0) (length l.msg.now.first.now + length l.msg.now.second.now) 9
 
+abbrev pub decreases-deliver_rest : goal.decreases-deliver_rest
+decreases-deliver_rest g l = reach (rank l.self.now.book l.at.obj.0) (length l.msg.now.first.now + length l.msg.now.second.now) 9
+
 abbrev pub decreases-after_up : goal.decreases-after_up
 decreases-after_up g l = reach (rank l.self.now.book l.at.obj.0) (length l.msg.now.first.now + length l.msg.now.second.now) 7
 
@@ -38,11 +41,11 @@ decreases-pass_up g l = reach (rank l.self.now.book l.at.obj.0) 0 2
 abbrev pub decreases-give : goal.decreases-give
 decreases-give g l = reach (rank l.self.now.book l.at.obj.0) (length l.msg.now.first.now + length l.msg.now.second.now) 8
 
-abbrev pub decreases-deliver-loop-rest : goal.decreases-deliver-loop-rest
-decreases-deliver-loop-rest g l = option_map_or (λ r. 1 + length r.first.now + length r.second.now) l.rest 0
+abbrev pub decreases-deliver_rest-loop-rest : goal.decreases-deliver_rest-loop-rest
+decreases-deliver_rest-loop-rest g l = option_map_or (λ r. 1 + length r.first.now + length r.second.now) l.rest 0
 
-abbrev pub invariant-deliver-loop-rest : goal.invariant-deliver-loop-rest
-invariant-deliver-loop-rest g l = record {
+abbrev pub invariant-deliver_rest-loop-rest : goal.invariant-deliver_rest-loop-rest
+invariant-deliver_rest-loop-rest g l = record {
   gives : Gives g.N.Node.stands (nature g.N.Node.kind_of g.N.Load.Parts.first g.N.Load.Parts.second) l.now l.at (said l.msg) l.initial.self.book l.self.book l.initial.self.nodes.items l.self.nodes.items (g.O.Outside.events l.initial.out) (g.O.Outside.events l.out) l.rest;
   less : IfSome l.rest (λ r. length r.first.now + length r.second.now ≤ length l.msg.first.now + length l.msg.second.now);
   opened : IfSome l.rest (λ r. IsOpen (port l.self.book l.at.obj.0 l.at.slot));

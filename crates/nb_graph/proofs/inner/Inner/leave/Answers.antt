@@ -17,16 +17,16 @@ use Rattle.nb_graph.proofs.inner.Inner.leave.Goals as goal
 pub returns-clause-ends : goal.returns-clause-ends
 unfolding Ends-leave
 returns-clause-ends g c = λ by own. record {
-  ends = Ends-leave by c.leave.ensures.sets c.leave.ensures.told c.leave.ensures.step c.settle.ensures.settles.settles;
+  ends = Ends-leave by c.leave-unused.ensures.sets c.leave-unused.ensures.told c.leave-unused.ensures.step c.settle.ensures.settles.settles;
   lives = λ now.
-      Lives-next (Lives-plain g.N.Node.stands now _ _ (λ st. Holds c.args.at by None ∷ st) (λ st. Frees c.args.at.obj.0 ∷ st) (Left c.args.at) (Loses-same c.args.self.now.nodes.items c.leave.ensures.sets.objects) (scene-busy c.leave.ensures.sets) c.leave.ensures.given (λ st ds s k. (_, ends c.args.at by, subst (λ z. UsesStack (nature g.N.Node.kind_of g.N.Load.Parts.first g.N.Load.Parts.second) now (scene_of c.args.self.now.book) (z ++ st) ds s) (sym (settles-own by c.args.at.obj.0 own)) k)) (Calms-plain _ _ _ (Left c.args.at) (Mild-busy c.leave.ensures.sets) (λ p a. refl))) (c.settle.ensures.settles.lives now);
+      Lives-next (Lives-plain g.N.Node.stands now _ _ (λ st. Holds c.args.at by None ∷ st) (λ st. Frees c.args.at.obj.0 ∷ st) (Left c.args.at) (Loses-same c.args.self.now.nodes.items c.leave-unused.ensures.sets.objects) (scene-busy c.leave-unused.ensures.sets) c.leave-unused.ensures.given (λ st ds s k. (_, ends c.args.at by, subst (λ z. UsesStack (nature g.N.Node.kind_of g.N.Load.Parts.first g.N.Load.Parts.second) now (scene_of c.args.self.now.book) (z ++ st) ds s) (sym (settles-own by c.args.at.obj.0 own)) k)) (Calms-plain _ _ _ (Left c.args.at) (Mild-busy c.leave-unused.ensures.sets) (λ p a. refl))) (c.settle.ensures.settles.lives now);
 }
 
 pub returns-clause-steady : goal.returns-clause-steady
 returns-clause-steady g c = record {
-  whole = IsWhole-leave c.leave.ensures.sets c.settle.ensures.settles.settles c.requires.steady.whole;
+  whole = IsWhole-leave c.leave-unused.ensures.sets c.settle.ensures.settles.settles c.requires.steady.whole;
   manned = c.settle.ensures.manned;
 }
 
 pub settle-requires-clause-manned : goal.settle-requires-clause-manned
-settle-requires-clause-manned g c = IsManned-same c.leave.ensures.sets.objects c.requires.steady.manned
+settle-requires-clause-manned g c = IsManned-same c.leave-unused.ensures.sets.objects c.requires.steady.manned

@@ -12,10 +12,10 @@ use Rattle.nb_graph.proofs.AccountLemmas.{Calms-turn, Calms-plain}
 use Rattle.nb_graph.proofs.MildLemmas.{Lives-plain, Mild-settle}
 use Rattle.nb_graph.proofs.inner.Inner.settle.Goals as goal
 
-pub returns-then-is_unused_at-clause-settles : goal.returns-then-is_unused_at-clause-settles
+pub returns-then-unused-clause-settles : goal.returns-then-unused-clause-settles
 unfolding Settles-free
-returns-then-is_unused_at-clause-settles g c =
-    let s = Settles-free _ _ _ _ c.args.id (sym c.is_unused_at.ensures ∙ c.if-is_unused_at.true) c.free.ensures.told c.free.ensures.step c.free.ensures.removes in
+returns-then-unused-clause-settles g c =
+    let s = Settles-free _ _ _ _ c.args.id (sym c.requires.unused ∙ c.if-unused.true) c.free.ensures.told c.free.ensures.step c.free.ensures.removes in
     record {
       settles = s;
       gone = c.args.id ∷ [];
@@ -24,10 +24,10 @@ returns-then-is_unused_at-clause-settles g c =
       lives = λ now. Lives-plain g.N.Node.stands now _ _ (λ st. Frees c.args.id.0 ∷ st) here (Freed c.args.id) c.free.ensures.loses (scene-removes c.args.id c.free.ensures.removes c.free.ensures.len) c.free.ensures.given (λ st ds s k. ([], frees c.args.id, k)) (Calms-plain _ _ _ (Freed c.args.id) (Mild-settle s) (λ p a. refl));
     }
 
-pub returns-else-is_unused_at-clause-settles : goal.returns-else-is_unused_at-clause-settles
+pub returns-else-unused-clause-settles : goal.returns-else-unused-clause-settles
 unfolding Settles-stay
-returns-else-is_unused_at-clause-settles g c = record {
-  settles = Settles-stay _ _ c.args.id (sym c.is_unused_at.ensures ∙ c.if-is_unused_at.false);
+returns-else-unused-clause-settles g c = record {
+  settles = Settles-stay _ _ c.args.id (sym c.requires.unused ∙ c.if-unused.false);
   gone = [];
   frees = refl;
   loses = Loses-refl _;

@@ -9,4 +9,4 @@ use Rattle.nb_graph.proofs.OwingLemmas.{Back-then}
 use Rattle.nb_graph.proofs.inner.Inner.take_few.Goals as goal
 
 pub returns-clause-lives : goal.returns-clause-lives
-returns-clause-lives g c = λ now u. Lives-opened (returns-both c.args.id.0 _ _) (Lives-then (Lives-above (λ st. returns_of c.args.id.0 (carried c.args.few.now.second) ++ st) (rw c.take.ensures.value at c.take_one.ensures.lives now u)) (rw c.take-2.ensures.value at c.take_one-2.ensures.lives now u) (Back-then _ _ _ _ _ (λ x. ap (λ b. busy b x) c.take_one.ensures.book)) (λ ds es x y. Still-both x (Calms-at c.take_one.ensures.book y)))
+returns-clause-lives g c = λ now u. Lives-opened (returns-both c.args.id.0 _ _) (Lives-then (Lives-above (λ st. returns_of c.args.id.0 (carried c.args.few.now.second) ++ st) (c.take_one.ensures.lives now u)) (c.take_one-2.ensures.lives now u) (Back-then _ _ _ _ _ (λ x. ap (λ b. busy b x) c.take_one.ensures.book)) (λ ds es x y. Still-both x (Calms-at c.take_one.ensures.book y)))

@@ -7,4 +7,4 @@ pub returns-in-None-clause-lives : goal.returns-in-None-clause-lives
 returns-in-None-clause-lives g c = λ now u. rw c.in-None.is (Lives-weaken (Back-stays _ _) (λ ds k. k) (Lives-none _ now _ (Calms-none _ _)))
 
 pub returns-in-Some-clause-lives : goal.returns-in-Some-clause-lives
-returns-in-Some-clause-lives g c = λ now u. rw c.in-Some.is (c.take_emit.ensures.lives now u)
+returns-in-Some-clause-lives g c = λ now u. rw c.in-Some.is (c.take_load.ensures.lives now u)

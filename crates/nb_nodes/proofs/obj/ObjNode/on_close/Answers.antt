@@ -1,9 +1,7 @@
-use Rattle.std.proofs.Common.{◌≡◌, sym, subst}
+use Rattle.std.proofs.Common.{subst}
 use Rattle.nb_graph.specs.Trace.{closed}
 use Rattle.nb_nodes.specs.declared.obj.Obj.{Obj}
-use Rattle.nb_nodes.specs.declared.tftp.Tftp.{Tftp}
 use Rattle.nb_nodes.specs.Standing.{ObjStands}
-use Rattle.nb_nodes.specs.Conversations.{ContinuesAs}
 use Rattle.nb_nodes.proofs.TftpLemmas.{stands_more}
 use Rattle.nb_nodes.proofs.FetchLemmas.{fetch_closed}
 use Rattle.nb_nodes.proofs.obj.ObjNode.on_close.Goals as goal

@@ -1,6 +1,6 @@
-use Rattle.std.proofs.Common.{◌≡◌, sym, subst, ap, true, ◌++◌, [], ◌∷◌}
+use Rattle.std.proofs.Common.{subst}
 use Rattle.std.specs.Result.{is_ok}
-use Rattle.nb_graph.specs.Trace.{up, down, time, regain, said}
+use Rattle.nb_graph.specs.Trace.{down, said}
 use Rattle.nb_nodes.specs.declared.obj.Obj.{Obj}
 use Rattle.nb_nodes.specs.Standing.{ObjStands}
 use Rattle.nb_nodes.proofs.TftpLemmas.{stands_more}

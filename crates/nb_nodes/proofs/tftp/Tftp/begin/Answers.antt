@@ -1,4 +1,4 @@
-use Rattle.std.proofs.Common.{◌≡◌, ap, not, sym, ◌∙◌, subst, if◌then◌else◌, Some, None, true}
+use Rattle.std.proofs.Common.{◌≡◌, ap, not, sym, ◌∙◌, subst, if◌then◌else◌, true}
 use Rattle.std.specs.Option.{is_some, option_map}
 use Rattle.nb_graph.specs.Trace.{down, silence}
 use Rattle.nb_nodes.specs.declared.tftp.Work.{Work}

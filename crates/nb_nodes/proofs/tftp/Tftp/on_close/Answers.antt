@@ -1,4 +1,4 @@
-use Rattle.std.proofs.Common.{◌≡◌, ap, not, sym, ◌∙◌, arith, nat_lt, true, false, List, [], ◌∷◌, ◌-◌}
+use Rattle.std.proofs.Common.{sym, ◌∙◌, arith}
 use Rattle.nb_nodes.proofs.TftpLemmas.{rests_on, ends_on, idle_close, idle_close_over, fatal_close, not_below_two, below_two}
 use Rattle.nb_nodes.proofs.tftp.Tftp.on_close.Goals as goal
 use Rattle.nb_nodes.proofs.tftp.Tftp.on_close.Goals.{then-slot-gt-BELOW-via-then-slot-gt-BELOW, then-slot-gt-BELOW-via-else-slot-gt-BELOW+then-is_over}

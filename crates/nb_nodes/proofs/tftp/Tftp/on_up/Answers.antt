@@ -1,4 +1,3 @@
-use Rattle.std.proofs.Common.{ap, not, sym, ◌∙◌}
 use Rattle.nb_graph.specs.Trace.{said}
 use Rattle.nb_nodes.proofs.TftpLemmas.{rests_on, idle_up, took_all}
 use Rattle.nb_nodes.proofs.tftp.Tftp.on_up.Goals as goal

@@ -1,0 +1,31 @@
+-- A value put where its block and its length allow it.
+use Rattle.std.proofs.Common.{◌≡◌, ◌⊎◌, inl, inr, ℕ, List, Option, Some, None, Ok, Err, refl}
+use Rattle.nb_settings.specs.declared.error.SetError.{SetError}
+use Rattle.nb_settings.specs.declared.error.SetError.TheVariants as set_error
+use Rattle.nb_settings.specs.declared.kind.Kind.{Kind}
+use Rattle.nb_settings.specs.declared.setting.OwnedKey.{OwnedKey}
+use Rattle.nb_settings.specs.Tables.{TableLists, setting_of, with_value, put_refusal}
+use Rattle.nb_command.specs.declared.error.ApplyError.TheVariants as failure
+use Rattle.nb_command.specs.Failures.{set_failure}
+use Rattle.nb_command.specs.Settings.{put_answer, put_value}
+
+answer_done : (why : Option SetError) (given new : TableLists) → why ≡ None → new ≡ given → put_answer why given ≡ Ok new
+answer_done why given new none same = rw (none, same) refl
+
+answer_refused : (refusal : Option SetError) (given : TableLists) (why : SetError) → refusal ≡ Some why → put_answer refusal given ≡ Err (set_failure why)
+answer_refused refusal given why is = rw is refl
+
+module _ (block at : List ℕ) (key : OwnedKey) (kind : Kind) (value : Option (List ℕ)) (bytes given : List ℕ) (table : TableLists) (same_block : at ≡ block) (same_bytes : given ≡ bytes) (read : value ≡ Some bytes) where
+  -- the table with the value
+  pub put_done : (new : TableLists) → put_refusal at key given table ≡ None → new ≡ with_value (setting_of at key kind given) table → put_value block key kind value table ≡ Ok new
+  put_done new fits is =
+      let fits_here = rw (same_block, same_bytes) at fits in
+      let is_here = rw (same_block, same_bytes) at is in
+      rw read (answer_done (put_refusal block key bytes table) (with_value (setting_of block key kind bytes) table) new fits_here is_here)
+
+  -- why it isn't put
+  pub put_refused : (why : SetError) → (why ≡ set_error.NoMemory) ⊎ (put_refusal at key given table ≡ Some why) → (set_failure why ≡ failure.NoMemory) ⊎ (put_value block key kind value table ≡ Err (set_failure why))
+  put_refused why (inl none) = inl (rw none refl)
+  put_refused why (inr is) =
+      let is_here = rw (same_block, same_bytes) at is in
+      inr (rw read (answer_refused (put_refusal block key bytes table) (with_value (setting_of block key kind bytes) table) why is_here))

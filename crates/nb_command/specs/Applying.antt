@@ -1,0 +1,64 @@
+-- own, after ipxe.org's commands: what a command comes to, and the state that it leaves
+use Rattle.std.specs.Prelude.{ℕ, List, Bool, Result, Ok, Err, if◌then◌else◌}
+use Rattle.std.specs.Result.{result_map_both}
+use Rattle.std.specs.Str.{bytes_eq}
+use Rattle.nb_terms.specs.declared.cause.Cause.{Cause}
+use Rattle.nb_settings.specs.Tables.{TableLists}
+use Rattle.nb_command.specs.declared.command_plan.CommandPlan.{CommandPlan}
+use Rattle.nb_command.specs.declared.command_plan.CommandPlan.TheVariants as plan
+use Rattle.nb_command.specs.declared.error.ApplyError.{ApplyError}
+use Rattle.nb_command.specs.declared.error.ApplyError.TheVariants.{False, NoMemory}
+use Rattle.nb_command.specs.declared.outcome.After.TheVariants.{Keep, Run}
+use Rattle.nb_command.specs.declared.outcome.Job.{Job}
+use Rattle.nb_command.specs.declared.outcome.Job.TheVariants as job
+use Rattle.nb_command.specs.declared.outcome.Outcome.{Outcome}
+use Rattle.nb_command.specs.declared.outcome.Outcome.TheVariants.{Done, Text, Goto, Leave, Wait}
+use Rattle.nb_command.specs.declared.state.State.{State}
+use Rattle.nb_command.specs.Failures.{apply_cause}
+use Rattle.nb_command.specs.Echo.{echoed}
+use Rattle.nb_command.specs.Isset.{is_word_set}
+use Rattle.nb_command.specs.Set.{set_table}
+use Rattle.nb_command.specs.Clear.{cleared_table}
+use Rattle.nb_command.specs.Show.{setting_shown}
+use Rattle.nb_command.specs.Inc.{increased_table}
+use Rattle.nb_command.specs.Fetching.{fetch_job}
+
+abbrev pub out_of_memory : Cause
+out_of_memory = apply_cause NoMemory
+
+-- Ok where it is true, else False
+abbrev pub truth : Bool → Result Outcome ApplyError
+truth is_true = if is_true then Ok Done else Err False
+
+-- an outcome that leaves the state as it was
+abbrev pub in_state : State → Result Outcome ApplyError → Result (Outcome × State) ApplyError
+in_state s answer = result_map_both (λ outcome. (outcome, s)) (λ why. why) answer
+
+-- a command that leaves another table, and all else of the state as it was
+abbrev pub with_table : State → Result TableLists ApplyError → Result (Outcome × State) ApplyError
+with_table s answer =
+    result_map_both (λ table. (Done, record s { table = table })) (λ why. why) answer
+
+abbrev pub text_outcome : Result (List ℕ) ApplyError → Result Outcome ApplyError
+text_outcome answer = result_map_both (λ text. Text text) (λ why. why) answer
+
+abbrev pub waits_for : Result Job ApplyError → Result Outcome ApplyError
+waits_for answer = result_map_both (λ wanted. Wait wanted) (λ why. why) answer
+
+abbrev pub carried_out : CommandPlan → State → Result (Outcome × State) ApplyError
+carried_out (plan.Echo newline text) s = Ok (Text (echoed newline text), s)
+carried_out (plan.Goto label) s = Ok (Goto label, s)
+carried_out (plan.Exit n) s = Ok (Leave n, s)
+carried_out (plan.Isset word) s = in_state s (truth (is_word_set word))
+carried_out (plan.Iseq a b) s = in_state s (truth (bytes_eq a b))
+carried_out (plan.Set name value) s = with_table s (set_table name value s.table)
+carried_out (plan.Clear name) s = with_table s (cleared_table name s.table)
+carried_out (plan.Show name) s = in_state s (text_outcome (setting_shown name s.table))
+carried_out (plan.Inc name by) s = with_table s (increased_table name by s.table)
+carried_out (plan.Fetch uri) s = in_state s (waits_for (fetch_job Keep uri))
+carried_out (plan.Exec uri) s = in_state s (waits_for (fetch_job Run uri))
+carried_out (plan.Sleep seconds) s = Ok (Wait (job.Sleep seconds), s)
+
+-- the outcome and the state after it, or the cause of the refusal, which leaves the state as it was
+unfoldable pub applied : CommandPlan → State → Result (Outcome × State) Cause
+applied p s = result_map_both (λ after. after) apply_cause (carried_out p s)

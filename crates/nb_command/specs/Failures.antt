@@ -1,0 +1,35 @@
+-- The causes with which commands fail, and what a refused change of the table means for a command.
+use Rattle.nb_terms.specs.declared.cause.Cause.{Cause}
+use Rattle.nb_terms.specs.declared.reason.Long.TheVariants as long
+use Rattle.nb_terms.specs.declared.reason.Many.TheVariants as many
+use Rattle.nb_terms.specs.declared.reason.Plain.TheVariants as plain
+use Rattle.nb_terms.specs.declared.reason.Reason.TheVariants as reason
+use Rattle.nb_terms.specs.Reasons.{as_cause}
+use Rattle.nb_settings.specs.declared.error.SetError.{SetError}
+use Rattle.nb_settings.specs.declared.error.SetError.TheVariants as set_error
+use Rattle.nb_expand.specs.declared.error.ParseError.{ParseError}
+use Rattle.nb_expand.specs.declared.error.ParseError.TheVariants as parse_error
+use Rattle.nb_command.specs.declared.error.ApplyError.{ApplyError}
+use Rattle.nb_command.specs.declared.error.ApplyError.TheVariants.{BadName, BadValue, False}
+use Rattle.nb_command.specs.declared.error.ApplyError.TheVariants.{LongValue, ManySettings}
+use Rattle.nb_command.specs.declared.error.ApplyError.TheVariants.{BadUri, LongPath, NoMemory}
+
+abbrev pub apply_cause : ApplyError → Cause
+apply_cause BadName = as_cause (reason.Plain plain.BadName)
+apply_cause BadValue = as_cause (reason.Plain plain.BadValue)
+apply_cause False = as_cause (reason.Plain plain.False)
+apply_cause LongValue = as_cause (reason.TooLong long.Value)
+apply_cause ManySettings = as_cause (reason.TooMany many.Settings)
+apply_cause BadUri = as_cause (reason.Plain plain.BadUri)
+apply_cause LongPath = as_cause (reason.TooLong long.Path)
+apply_cause NoMemory = as_cause (reason.Plain plain.NoMemory)
+
+abbrev pub set_failure : SetError → ApplyError
+set_failure set_error.BadName = BadName
+set_failure set_error.TooMany = ManySettings
+set_failure set_error.TooLong = LongValue
+set_failure set_error.NoMemory = NoMemory
+
+abbrev pub parse_failure : ParseError → ApplyError
+parse_failure parse_error.BadValue = BadValue
+parse_failure parse_error.NoMemory = NoMemory

@@ -1,0 +1,45 @@
+-- own, after ipxe.org's commands: the command that words say, its name first
+use Rattle.std.specs.Prelude.{ℕ, List, [], ◌∷◌, Option, Some, None, Result, Err}
+use Rattle.nb_command.specs.declared.command_name.CommandName.{CommandName}
+use Rattle.nb_command.specs.declared.command_name.CommandName.TheVariants.{Echo, Goto, Exit}
+use Rattle.nb_command.specs.declared.command_name.CommandName.TheVariants.{Isset, Iseq, Set}
+use Rattle.nb_command.specs.declared.command_name.CommandName.TheVariants.{Clear, Show, Inc}
+use Rattle.nb_command.specs.declared.command_name.CommandName.TheVariants.{Imgfetch, Imgexec, Sleep}
+use Rattle.nb_command.specs.declared.command_plan.CommandPlan.{CommandPlan}
+use Rattle.nb_command.specs.declared.error.PlanError.{PlanError}
+use Rattle.nb_command.specs.declared.error.PlanError.TheVariants.{Unknown}
+use Rattle.nb_command.specs.CommandNames.{command_named}
+use Rattle.nb_command.specs.Echo.{echo_plan}
+use Rattle.nb_command.specs.Goto.{goto_plan}
+use Rattle.nb_command.specs.Exit.{exit_plan}
+use Rattle.nb_command.specs.Isset.{isset_plan}
+use Rattle.nb_command.specs.Iseq.{iseq_plan}
+use Rattle.nb_command.specs.Set.{set_plan}
+use Rattle.nb_command.specs.Clear.{clear_plan}
+use Rattle.nb_command.specs.Show.{show_plan}
+use Rattle.nb_command.specs.Inc.{inc_plan}
+use Rattle.nb_command.specs.Fetching.{imgfetch_plan, imgexec_plan}
+use Rattle.nb_command.specs.Sleep.{sleep_plan}
+
+abbrev pub plan_named : CommandName → List (List ℕ) → Result CommandPlan PlanError
+plan_named Echo args = echo_plan args
+plan_named Goto args = goto_plan args
+plan_named Exit args = exit_plan args
+plan_named Isset args = isset_plan args
+plan_named Iseq args = iseq_plan args
+plan_named Set args = set_plan args
+plan_named Clear args = clear_plan args
+plan_named Show args = show_plan args
+plan_named Inc args = inc_plan args
+plan_named Imgfetch args = imgfetch_plan args
+plan_named Imgexec args = imgexec_plan args
+plan_named Sleep args = sleep_plan args
+
+abbrev pub plan_where : Option CommandName → List (List ℕ) → Result CommandPlan PlanError
+plan_where None args = Err Unknown
+plan_where (Some command) args = plan_named command args
+
+-- the command, or why the words are none
+unfoldable pub planned : List (List ℕ) → Result CommandPlan PlanError
+planned [] = Err Unknown
+planned (name ∷ args) = plan_where (command_named name) args

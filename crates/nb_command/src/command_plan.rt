@@ -1,0 +1,30 @@
+use nb_wire::{Word, Words};
+
+/// A command whose words fit it.
+#[derive(Debug, Drop)]
+pub enum CommandPlan {
+    /// Prints words, joined by one space, and a line feed where `newline` is set.
+    Echo { newline: bool, text: Words },
+    /// Goes on after a label.
+    Goto(Word),
+    /// Leaves the script; a number that isn't 0 is a failure.
+    Exit(u8),
+    /// Asks whether a word is there and isn't empty.
+    Isset(Option<Word>),
+    /// Asks whether two words are equal.
+    Iseq(Word, Word),
+    /// Sets a setting to words, joined by one space, and clears it where that is empty.
+    Set { name: Word, value: Words },
+    /// Clears a setting.
+    Clear(Word),
+    /// Prints a setting.
+    Show(Word),
+    /// Adds to a setting that is an integer.
+    Inc { name: Word, by: i32 },
+    /// Fetches a file into the list of images.
+    Fetch { uri: Word },
+    /// Fetches a file and executes it.
+    Exec { uri: Word },
+    /// Waits, in seconds.
+    Sleep(u32),
+}

@@ -1,0 +1,106 @@
+ghost use Rattle.std.specs.Prelude.{◌≡◌};
+ghost use Rattle.nb_command.specs.Failures.{apply_cause, set_failure, parse_failure};
+ghost use Rattle.nb_command.specs.declared.error.ApplyError.TheVariants as failure;
+ghost use Rattle.nb_command.specs.declared.error.PlanError.TheVariants as plan_error;
+
+use nb_expand::ParseError;
+use nb_settings::SetError;
+use nb_terms::{Cause, Long, Many, NoMemory, Plain, Reason};
+use std::alloc::{AllocError, AllocFailed};
+
+/// Why words are no plan.
+#[derive(Clone, Copy, Debug, PartialEq, Eq)]
+pub enum PlanError {
+    /// There is no command of that name.
+    Unknown,
+    /// The words don't fit the command.
+    Usage,
+    /// Memory ran out.
+    NoMemory,
+}
+
+impl From<NoMemory> for PlanError {
+    ghost from_gives = { λ _ e. e ≡ plan_error.NoMemory };
+
+    fn from(_: NoMemory) -> PlanError {
+        PlanError::NoMemory
+    }
+}
+
+/// Why a plan isn't carried out.
+#[derive(Clone, Copy, Debug, PartialEq, Eq)]
+pub(crate) enum ApplyError {
+    /// It is no name of a setting, or its block isn't there.
+    BadName,
+    /// The value isn't one of the setting's kind.
+    BadValue,
+    /// What was asked isn't so.
+    False,
+    /// The value has more than 1,024 bytes.
+    LongValue,
+    /// The block has 128 settings.
+    ManySettings,
+    /// The URI isn't one that is fetched.
+    BadUri,
+    /// The path or the image's name is too long.
+    LongPath,
+    /// Memory ran out.
+    NoMemory,
+}
+
+impl ApplyError {
+    pub(crate) fn cause(self) -> Cause
+        ensures { result ≡ apply_cause self }
+    {
+        match self {
+            ApplyError::BadName => Plain::BadName.cause(),
+            ApplyError::BadValue => Plain::BadValue.cause(),
+            ApplyError::False => Plain::False.cause(),
+            ApplyError::LongValue => Cause::from(Reason::TooLong(Long::Value)),
+            ApplyError::ManySettings => Cause::from(Reason::TooMany(Many::Settings)),
+            ApplyError::BadUri => Plain::BadUri.cause(),
+            ApplyError::LongPath => Cause::from(Reason::TooLong(Long::Path)),
+            ApplyError::NoMemory => Plain::NoMemory.cause(),
+        }
+    }
+}
+
+impl From<NoMemory> for ApplyError {
+    ghost from_gives = { λ _ e. e ≡ failure.NoMemory };
+
+    fn from(_: NoMemory) -> ApplyError {
+        ApplyError::NoMemory
+    }
+}
+
+impl From<AllocError> for ApplyError {
+    ghost from_gives = { λ _ e. e ≡ failure.NoMemory };
+
+    fn from(_: AllocError) -> ApplyError {
+        ApplyError::NoMemory
+    }
+}
+
+impl From<SetError> for ApplyError {
+    ghost from_gives = { λ why e. e ≡ set_failure why };
+
+    fn from(why: SetError) -> ApplyError {
+        match why {
+            SetError::BadName => ApplyError::BadName,
+            SetError::TooMany => ApplyError::ManySettings,
+            SetError::TooLong => ApplyError::LongValue,
+            SetError::NoMemory => ApplyError::NoMemory,
+        }
+    }
+}
+
+impl From<ParseError> for ApplyError {
+    ghost from_gives = { λ why e. e ≡ parse_failure why };
+
+    fn from(why: ParseError) -> ApplyError {
+        match why {
+            ParseError::BadValue => ApplyError::BadValue,
+            ParseError::NoMemory => ApplyError::NoMemory,
+        }
+    }
+}

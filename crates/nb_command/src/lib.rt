@@ -1,0 +1,40 @@
+// The commands of a script, after ipxe.org's references: `plan` reads the words of a command, which
+// are expanded already, and `apply` carries the plan out on the client's state. What ends at once
+// has its outcome; what takes time is a `Job` for the client. Here are echo, exit, goto, isset, iseq,
+// set, clear, show, inc and sleep, and imgfetch and imgexec with a URI alone. Left out are all other
+// commands, and each option that begins with `--`. Begin with `CommandPlan`, `plan` and `apply`.
+#![tactic(auto)]
+
+mod applying;
+mod clear;
+mod command_name;
+mod command_plan;
+mod copies;
+mod echo;
+mod error;
+mod exit;
+mod fetching;
+mod goto;
+mod inc;
+mod iseq;
+mod isset;
+mod laws;
+mod outcome;
+mod planning;
+mod set;
+mod setting;
+mod show;
+mod sleep;
+mod state;
+mod words;
+
+pub use applying::apply;
+pub use command_plan::CommandPlan;
+pub use error::PlanError;
+pub use laws::echo_and_exit_have_same_outcomes;
+pub use outcome::{After, Job, Outcome};
+pub use planning::plan;
+pub use state::State;
+
+#[cfg(test)]
+mod tests;

@@ -1,0 +1,39 @@
+use nb_uri::UriTarget;
+use nb_wire::{Text, Word};
+
+/// What a command that didn't fail comes to.
+#[derive(Debug, Drop)]
+pub enum Outcome {
+    /// It is done, and its result is Ok.
+    Done,
+    /// The same, and it prints this.
+    Text(Text),
+    /// The script goes on after the first line that is this label. Where there is none, it failed.
+    Goto(Word),
+    /// The script is left: with Ok where the number is 0, else with Exit and the number.
+    Leave(u8),
+    /// It waits for this.
+    Wait(Job),
+}
+
+/// What a command waits for.
+#[derive(Debug, Drop)]
+pub enum Job {
+    /// A file, and what is done with the image of this name.
+    Fetch {
+        target: UriTarget,
+        name: Text,
+        after: After,
+    },
+    /// Time, in seconds.
+    Sleep(u32),
+}
+
+/// What is done with an image that was fetched.
+#[derive(Clone, Copy, Debug, PartialEq, Eq)]
+pub enum After {
+    /// It is kept in the list.
+    Keep,
+    /// It is kept and executed.
+    Run,
+}

@@ -1,0 +1,56 @@
+ghost use Rattle.std.specs.Prelude.{◌≡◌, Ok, Err, IfOk, IsErrOf};
+ghost use Rattle.nb_command.specs.Plans.{PlansAs};
+ghost use Rattle.nb_command.specs.Planning.{plan_named, planned};
+
+use crate::clear::plan_clear;
+use crate::command_name::CommandName;
+use crate::echo::plan_echo;
+use crate::exit::plan_exit;
+use crate::fetching::{plan_imgexec, plan_imgfetch};
+use crate::goto::plan_goto;
+use crate::inc::plan_inc;
+use crate::iseq::plan_iseq;
+use crate::isset::plan_isset;
+use crate::set::plan_set;
+use crate::show::plan_show;
+use crate::sleep::plan_sleep;
+use crate::{CommandPlan, PlanError};
+use nb_wire::Word;
+use std::alloc::Global;
+
+/// The command that words say, its name first. They are expanded already.
+#[tactic(auto, unfolding(crate::specs::Planning::planned))]
+pub fn plan(alloc: Global, words: &[Word]) -> Result<CommandPlan, PlanError>
+    ensures value { IfOk result (λ plan. planned words.now ≡ Ok plan) }
+    // No words name no command.
+    ensures unknown { IsErrOf result PlanError.Unknown → planned words.now ≡ Err PlanError.Unknown }
+    ensures usage { IsErrOf result PlanError.Usage → planned words.now ≡ Err PlanError.Usage }
+{
+    let Some((name, args)) = words.split_first() else {
+        return Err(PlanError::Unknown);
+    };
+    match CommandName::named(name.as_slice()) {
+        Some(command) => plan_named(alloc, command, args),
+        None => Err(PlanError::Unknown),
+    }
+}
+
+/// The command of a name with the words after it.
+fn plan_named(alloc: Global, command: CommandName, args: &[Word]) -> Result<CommandPlan, PlanError>
+    ensures { PlansAs result (plan_named command args.now) }
+{
+    match command {
+        CommandName::Echo => plan_echo(alloc, args),
+        CommandName::Goto => plan_goto(alloc, args),
+        CommandName::Exit => plan_exit(args),
+        CommandName::Isset => plan_isset(alloc, args),
+        CommandName::Iseq => plan_iseq(alloc, args),
+        CommandName::Set => plan_set(alloc, args),
+        CommandName::Clear => plan_clear(alloc, args),
+        CommandName::Show => plan_show(alloc, args),
+        CommandName::Inc => plan_inc(alloc, args),
+        CommandName::Imgfetch => plan_imgfetch(alloc, args),
+        CommandName::Imgexec => plan_imgexec(alloc, args),
+        CommandName::Sleep => plan_sleep(args),
+    }
+}

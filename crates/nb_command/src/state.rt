@@ -1,0 +1,9 @@
+use nb_image::Images;
+use nb_settings::Table;
+
+/// What commands read and change.
+#[derive(Debug, Drop)]
+pub struct State {
+    pub table: Table,
+    pub images: Images,
+}

@@ -1,0 +1,216 @@
+-- A record is used: the history that agrees with the state afterwards.
+use Rattle.std.proofs.Common.{◌≡◌, ℕ, ◌+◌, true, false, List, [], ◌∷◌, ◌++◌, refl, sym, ◌∙◌, ap, subst, append_assoc, append-nil, length}
+use Rattle.std.specs.List.{flat_map}
+use Rattle.nb_defs.specs.Records.{Start, In, start, frame, tick, off, Out, step, enter, leave, ended}
+use Rattle.nb_stack.specs.Takes.{client_after}
+use Rattle.nb_tftp.specs.Blocks.{is_whole}
+use Rattle.nb_tftp.specs.History.{came, ticked, received_by}
+use Rattle.nb_tftp.specs.Received.{received}
+use Rattle.nb_engine.specs.declared.world.World.{World}
+use Rattle.nb_engine.specs.World.{world_of, with_net, world_later}
+use Rattle.nb_engine.specs.Opens.{Open, heard_from}
+use Rattle.nb_engine.specs.Running.{anew}
+use Rattle.nb_engine.specs.Machine.{Machine, Phase, running, waiting, Begins, runs, refuses, passes_by, brings, passes_time, switches_off, goes_on_by_frame, goes_on_by_tick, goes_off, reply_records, stopped_cause}
+use Rattle.nb_laws.specs.Events.{Event, starts, hears, waits, stops, puts, EachEvent, client}
+use Rattle.std.proofs.lemmas.List.Sums.{fold-append}
+use Rattle.nb_laws.specs.Lists as lists
+use Rattle.nb_laws.specs.Lists.{live, last_place, words_of, time, made, gathered, Opening, opening_at, openings, open_has_ended as is_ended, is_end_of, calls, Mark, tries, marks, mark_at}
+use Rattle.nb_laws.specs.HandOff.{images_brought, image_list, uri_of}
+use Rattle.nb_laws.proofs.HandOffs.{opens_keep, opens_reply, opens_parts, parts_more, used_keep}
+use Rattle.nb_laws.specs.Progress.{IsAdvanced, NoneIsWhole, IsStep}
+use Rattle.nb_laws.specs.Agreement.{AgreesWorld, AgreesOpen, NoneLives, AgreesImages, AgreesPhase, AreStill, opening_of}
+use Rattle.nb_laws.specs.Endings.{by_stop, is_off, off_by}
+use Rattle.nb_laws.proofs.Tellings.{told, story_still, still_aside, still_advanced, live_kept, Kept, kept, world_kept, tries_by, Story, story_more, story_put, openings_more, calls_more, over_more, no_more, no_or}
+use Rattle.nb_laws.specs.Code.{code_read}
+use Rattle.nb_laws.proofs.Codes.{code_more, told_code}
+use Rattle.nb_laws.proofs.Asides.{still_reply, none_of_reply}
+use Rattle.nb_laws.proofs.Calls.{Comes, ports_after, world_used, got_same, live_one, used_only, used_none_live, used_advanced, none_come, none_is_whole, going_not_whole, frame_brings_none, bare_brings, frame_world, frame_passes, frame_comes, time_comes}
+use Rattle.nb_laws.specs.Frames.{WritesSo}
+use Rattle.nb_laws.proofs.Puttings.{reply_frames, free_reply, bare_reply}
+use Rattle.nb_laws.proofs.Hearings.{Tells, ended_advanced, ended_none_live, hears_tells}
+
+-- records aside, in a step
+step_still : (ins : List In) (outs : List Out) (es : List Event) (n : ℕ) (b : List Out) → Story ins (outs ++ step n ∷ []) es → AreStill b → EachEvent WritesSo es (told b) → IsAdvanced es → Story ins (outs ++ (step n ∷ b)) (es ++ told b)
+step_still ins outs es n b s h f a = subst (λ z. Story ins z (es ++ told b)) (append_assoc outs (step n ∷ []) b) (story_still ins (outs ++ step n ∷ []) es b h f a s)
+
+none_brought : (s : Start) (n : ℕ) → [] ≡ image_list (images_brought (starts n s ∷ told (enter 1 ∷ [])))
+unfolding images_brought gathered
+none_brought s n = refl
+
+started : (s : Start) (n : ℕ) (es : List Event) → es ≡ [] → [] ≡ image_list (images_brought ((es ++ starts n s ∷ []) ++ told (enter 1 ∷ [])))
+started s n es e = subst (λ (z : List Event). [] ≡ image_list (images_brought ((z ++ starts n s ∷ []) ++ told (enter 1 ∷ [])))) (sym e) (none_brought s n)
+
+pub none_at_start : NoneLives []
+unfolding live openings is_ended gathered
+none_at_start = λ j. refl
+
+-- a record is used, with its number
+step_follows : (ins : List In) (outs : List Out) (es : List Event) (n : ℕ) → Story ins outs es → n ≡ length ins → NoneIsWhole es → IsStep es (n + 1)
+step_follows ins outs es n story counted none = record { counted = ap (λ z. z + 1) (counted ∙ ap length story.history.used); unfinished = none }
+
+tells_step : (ins : List In) (outs : List Out) (n : ℕ) (added : List Out) (phase : Phase) → Tells ins ((outs ++ step n ∷ []) ++ added) phase → Tells ins (outs ++ step n ∷ added) phase
+tells_step ins outs n added phase t = subst (λ z. Tells ins z phase) (append_assoc outs (step n ∷ []) added) t
+
+-- the open agrees after records that tell none of its tries
+open_kept : (a : List Event) (outs : List Out) (w : World) (o : Open) → Kept a outs → tries_by o.number (time a) outs ≡ [] → AgreesOpen a w o → AgreesOpen (a ++ told outs) w o
+open_kept a outs w o k quiet h = record {
+  ports = h.ports;
+  number = h.number;
+  opening = k.openings_is o.number ∙ h.opening;
+  lives = k.over_is o.number ∙ h.lives;
+  calls = k.calls_is o.number ∙ h.calls;
+  marks = k.marks_is o.number ∙ no_more (marks o.number a) _ quiet ∙ h.marks;
+  route = h.route;
+  begins = h.begins;
+}
+
+last_off : (es : List Event) (n : ℕ) → is_off (es ++ stops n ∷ []) ≡ true
+unfolding is_off
+last_off es n = fold-append off_by false es (stops n ∷ [])
+
+-- START
+first : (n : ℕ) (s : Start) → AgreesWorld (starts (n + 1) s ∷ puts (enter 1) ∷ []) (world_of s)
+unfolding time client made openings is_ended calls marks gathered lists.port_offset
+first n s = record { time = refl; client = refl; opens = refl; offset = refl; unopened = λ k few. refl; unended = λ k few. refl; untold = λ k few. (refl, refl) }
+
+first_world : (n : ℕ) (s : Start) (es : List Event) → es ≡ [] → AgreesWorld ((es ++ starts (n + 1) s ∷ []) ++ told (enter 1 ∷ [])) (world_of s)
+first_world n s es e = subst (λ (z : List Event). AgreesWorld ((z ++ starts (n + 1) s ∷ []) ++ told (enter 1 ∷ [])) (world_of s)) (sym e) (first n s)
+
+pub begins_tells : (ins : List In) (outs : List Out) (es : List Event) (m : Machine) (r : In) (added : List Out) (m' : Machine) →
+    Begins m r added m' → Story ins outs es → IsAdvanced es → m.used ≡ length ins → AgreesPhase es m.phase → AgreesImages es outs m.phase → Tells (ins ++ r ∷ []) (outs ++ added) m'.phase
+begins_tells ins outs es m r added m' (runs n s code valid reading) story advanced counted a is =
+    let e = starts (n + 1) s in
+    let es1 = es ++ e ∷ [] in
+    let none = subst NoneLives (sym a) none_at_start in
+    let advanced1 = used_advanced es e tt (none_come es e tt none) advanced in
+    let none1 = used_none_live es e tt none in
+    let follows = step_follows ins outs es n story counted (none_is_whole es none) in
+    let story1 : Story (ins ++ start s ∷ []) (outs ++ step (n + 1) ∷ []) es1 = story_more ins outs es e story (record { read = tt; end = tt; frame = tt; step = follows; advance = advanced; try = tt }) in
+    let story2 = step_still (ins ++ start s ∷ []) outs es1 (n + 1) (enter 1 ∷ []) story1 (tt, tt) (tt, tt) advanced1 in
+    record { events = es1 ++ told (enter 1 ∷ []); story = story2; advanced = still_advanced es1 (enter 1 ∷ []) (tt, tt) advanced1; agrees = (first_world n s es a, refl, λ j. live_kept j es1 (enter 1 ∷ []) (kept es1 (enter 1 ∷ []) (tt, tt)) ∙ none1 j, sym (told_code es1 (enter 1 ∷ []) ∙ code_more es e ∙ ap code_read reading)); images = (started s (n + 1) es a, parts_more outs (step (n + 1) ∷ enter 1 ∷ []) is (tt, (tt, tt))) }
+begins_tells ins outs es m r added m' (refuses n s cause valid refusal) story advanced counted a is =
+    let e = starts (n + 1) s in
+    let es1 = es ++ e ∷ [] in
+    let none = subst NoneLives (sym a) none_at_start in
+    let advanced1 = used_advanced es e tt (none_come es e tt none) advanced in
+    let none1 = used_none_live es e tt none in
+    let b = enter 1 ∷ leave 1 cause ∷ [] in
+    let follows = step_follows ins outs es n story counted (none_is_whole es none) in
+    let story1 : Story (ins ++ start s ∷ []) (outs ++ step (n + 1) ∷ []) es1 = story_more ins outs es e story (record { read = tt; end = tt; frame = tt; step = follows; advance = advanced; try = tt }) in
+    record {
+      events = es1 ++ told b;
+      story = step_still (ins ++ start s ∷ []) outs es1 (n + 1) b story1 (tt, (tt, tt)) (tt, (tt, tt)) advanced1;
+      advanced = still_advanced es1 b (tt, (tt, tt)) advanced1;
+      agrees = λ j. live_kept j es1 b (kept es1 b (tt, (tt, tt))) ∙ none1 j;
+      images = parts_more outs (step (n + 1) ∷ b) is (tt, (tt, (tt, tt)));
+    }
+begins_tells ins outs es m r added m' (passes_by n w s o bytes reply seen net valid takes none) story advanced counted a is =
+    let e = hears (n + 1) bytes takes.message in
+    let follows = step_follows ins outs es n story counted (going_not_whole es w o a.1 a.2 a.3) in
+    let es1 = es ++ e ∷ [] in
+    let story1 : Story (ins ++ frame bytes ∷ []) (outs ++ step (n + 1) ∷ []) es1 = story_more ins outs es e story (record { read = bare_brings es w.net bytes takes.message a.0.client takes.brings; end = tt; frame = tt; step = follows; advance = advanced; try = tt }) in
+    let heard_none = ap (heard_from o.begun.server) (sym takes.is_outcome) ∙ none in
+    let advanced1 = used_advanced es e tt (frame_brings_none es (n + 1) bytes takes.message w o a.0 a.1 a.3 heard_none) advanced in
+    let b = reply_records reply in
+    let still = still_reply reply in
+    let keep1 = used_keep es e tt in
+    let keep = opens_keep es1 b (opens_reply reply) in
+    let k = kept es1 b (still_aside b still) in
+    let world1 = frame_world es (n + 1) bytes takes.message w a.0 in
+    let open1 = frame_passes es (n + 1) bytes takes.message w o a.0 a.1 heard_none in
+    let both : AgreesPhase (es1 ++ told b) (waiting (with_net w (client_after w.net takes.message)) (anew s) o) = (
+      world_kept es1 b _ k (λ j few. none_of_reply j (time es1) reply) world1,
+      open_kept es1 b _ o k (none_of_reply o.number (time es1) reply) open1,
+      a.2,
+      λ j other. live_kept j es1 b k ∙ used_only es e o.number tt a.3 j other,
+      a.4 ∙ sym (told_code es1 b ∙ code_more es e),
+    ) in
+    record {
+      events = es1 ++ told b;
+      story = step_still (ins ++ frame bytes ∷ []) outs es1 (n + 1) b story1 still (reply_frames es (n + 1) bytes takes.message reply (takes.is_put ∙ bare_reply es w.net takes.message o.begun.own_port o.number a.1.ports a.0.client)) advanced1;
+      advanced = still_advanced es1 b still advanced1;
+      agrees = subst (λ c. AgreesPhase (es1 ++ told b) (waiting (with_net w c) (anew s) o)) (sym takes.is_after) both;
+      images = (is.0 ∙ sym (ap image_list (keep.1 ∙ keep1.1)), parts_more outs (step (n + 1) ∷ b) is.1 (tt, opens_parts b (opens_reply reply)), record { uri = ap uri_of (keep.0 ∙ keep1.0) ∙ is.2.uri; name = is.2.name; latest = is.2.latest; words = is.2.words; said = keep.0 ∙ keep1.0 ∙ is.2.said; asked = is.2.asked });
+    }
+begins_tells ins outs es m r added m' (brings n w s o bytes reply seen net port body news phase valid takes some hear) story advanced counted a is =
+    let e = hears (n + 1) bytes takes.message in
+    let follows = step_follows ins outs es n story counted (going_not_whole es w o a.1 a.2 a.3) in
+    let es1 = es ++ e ∷ [] in
+    let story1 : Story (ins ++ frame bytes ∷ []) (outs ++ step (n + 1) ∷ []) es1 = story_more ins outs es e story (record { read = bare_brings es w.net bytes takes.message a.0.client takes.brings; end = tt; frame = tt; step = follows; advance = advanced; try = tt }) in
+    let comes = frame_comes es (n + 1) bytes takes.message w o port body a.0 a.1 a.2 a.3 advanced (ap (heard_from o.begun.server) (sym takes.is_outcome) ∙ some) in
+    tells_step (ins ++ frame bytes ∷ []) outs (n + 1) news phase
+    (hears_tells (ins ++ frame bytes ∷ []) (outs ++ step (n + 1) ∷ []) es1 (with_net w net) (anew s) o (came (received (n + 1) port body) w.time) news phase hear story1
+    (subst (λ c. Comes es1 (with_net w c) o (came (received (n + 1) port body) w.time)) (sym takes.is_after) comes) (a.4 ∙ sym (code_more es e))
+    (is.0 ∙ sym (ap image_list (used_keep es e tt).1)) (parts_more outs (step (n + 1) ∷ []) is.1 (tt, tt)) (record { uri = ap uri_of (used_keep es e tt).0 ∙ is.2.uri; name = is.2.name; latest = is.2.latest; words = is.2.words; said = (used_keep es e tt).0 ∙ is.2.said; asked = is.2.asked }))
+begins_tells ins outs es m r added m' (passes_time n w s o ms news phase valid hear) story advanced counted a is =
+    let e = waits (n + 1) ms in
+    let follows = step_follows ins outs es n story counted (going_not_whole es w o a.1 a.2 a.3) in
+    let es1 = es ++ e ∷ [] in
+    let story1 : Story (ins ++ tick ms ∷ []) (outs ++ step (n + 1) ∷ []) es1 = story_more ins outs es e story (record { read = tt; end = tt; frame = tt; step = follows; advance = advanced; try = tt }) in
+    tells_step (ins ++ tick ms ∷ []) outs (n + 1) news phase
+    (hears_tells (ins ++ tick ms ∷ []) (outs ++ step (n + 1) ∷ []) es1 (world_later w ms) (anew s) o (ticked (w.time + ms)) news phase hear story1 (time_comes es (n + 1) ms w o a.0 a.1 a.2 a.3 advanced) (a.4 ∙ sym (code_more es e))
+    (is.0 ∙ sym (ap image_list (used_keep es e tt).1)) (parts_more outs (step (n + 1) ∷ []) is.1 (tt, tt)) (record { uri = ap uri_of (used_keep es e tt).0 ∙ is.2.uri; name = is.2.name; latest = is.2.latest; words = is.2.words; said = (used_keep es e tt).0 ∙ is.2.said; asked = is.2.asked }))
+begins_tells ins outs es m r added m' (switches_off n w s o) story advanced counted a is =
+    let e = stops (n + 1) in
+    let follows = step_follows ins outs es n story counted (going_not_whole es w o a.1 a.2 a.3) in
+    let advanced1 = used_advanced es e tt (λ k. refl) advanced in
+    let unfinished : is_whole (lists.datagrams_of o.number (es ++ e ∷ [])) ≡ false =
+    ap (λ z. is_whole (flat_map received_by z)) (calls_more o.number es e ∙ append-nil (calls o.number es)) ∙ ap is_whole (got_same o.number es o.entries a.1.calls) ∙ a.2.unfinished in
+    let es1 = es ++ e ∷ [] in
+    let story1 : Story (ins ++ off ∷ []) (outs ++ step (n + 1) ∷ []) es1 = story_more ins outs es e story (record { read = tt; end = tt; frame = tt; step = follows; advance = advanced; try = tt }) in
+    let lives = live_one o.number es1 (opening_of o) (openings_more o.number es e ∙ append-nil (openings o.number es) ∙ a.1.opening) (over_more o.number es e ∙ no_or (is_ended o.number es) false refl ∙ a.1.lives) in
+    let story2 = story_put (ins ++ off ∷ []) (outs ++ step (n + 1) ∷ []) es1 (ended o.number stopped_cause) story1
+    (record { read = tt; end = (by_stop refl (last_off es (n + 1)), sym unfinished, opening_of o, lives); frame = tt; step = tt; advance = advanced1; try = tt }) in
+    record {
+      events = es1 ++ puts (ended o.number stopped_cause) ∷ [];
+      story = subst (λ z. Story (ins ++ off ∷ []) z (es1 ++ puts (ended o.number stopped_cause) ∷ [])) (append_assoc outs (step (n + 1) ∷ []) (ended o.number stopped_cause ∷ [])) story2;
+      advanced = ended_advanced es1 o.number stopped_cause advanced1;
+      agrees = ended_none_live es1 o.number stopped_cause (used_only es e o.number tt a.3);
+      images = parts_more outs (step (n + 1) ∷ ended o.number stopped_cause ∷ []) is.1 (tt, (tt, tt));
+    }
+begins_tells ins outs es m r added m' (goes_on_by_frame n w s bytes reply seen net valid takes) story advanced counted a is =
+    let e = hears (n + 1) bytes takes.message in
+    let follows = step_follows ins outs es n story counted (none_is_whole es a.2) in
+    let es1 = es ++ e ∷ [] in
+    let story1 : Story (ins ++ frame bytes ∷ []) (outs ++ step (n + 1) ∷ []) es1 = story_more ins outs es e story (record { read = bare_brings es w.net bytes takes.message a.0.client takes.brings; end = tt; frame = tt; step = follows; advance = advanced; try = tt }) in
+    let advanced1 = used_advanced es e tt (none_come es e tt a.2) advanced in
+    let none1 = used_none_live es e tt a.2 in
+    let b = reply_records reply in
+    let still = still_reply reply in
+    let keep1 = used_keep es e tt in
+    let keep = opens_keep es1 b (opens_reply reply) in
+    let k = kept es1 b (still_aside b still) in
+    let world1 = frame_world es (n + 1) bytes takes.message w a.0 in
+    let both : AgreesPhase (es1 ++ told b) (running (with_net w (client_after w.net takes.message)) (anew s)) = (
+      world_kept es1 b _ k (λ j few. none_of_reply j (time es1) reply) world1,
+      ports_after w.net takes.message ∙ a.1,
+      λ j. live_kept j es1 b k ∙ none1 j,
+      a.3 ∙ sym (told_code es1 b ∙ code_more es e),
+    ) in
+    record {
+      events = es1 ++ told b;
+      story = step_still (ins ++ frame bytes ∷ []) outs es1 (n + 1) b story1 still (reply_frames es (n + 1) bytes takes.message reply (takes.is_put ∙ free_reply es w.net takes.message a.1 a.0.client)) advanced1;
+      advanced = still_advanced es1 b still advanced1;
+      agrees = subst (λ c. AgreesPhase (es1 ++ told b) (running (with_net w c) (anew s))) (sym takes.is_after) both;
+      images = (is.0 ∙ sym (ap image_list (keep.1 ∙ keep1.1)), parts_more outs (step (n + 1) ∷ b) is.1 (tt, opens_parts b (opens_reply reply)));
+    }
+begins_tells ins outs es m r added m' (goes_on_by_tick n w s ms valid) story advanced counted a is =
+    let e = waits (n + 1) ms in
+    let follows = step_follows ins outs es n story counted (none_is_whole es a.2) in
+    record {
+      events = es ++ e ∷ [];
+      story = story_more ins outs es e story (record { read = tt; end = tt; frame = tt; step = follows; advance = advanced; try = tt });
+      advanced = used_advanced es e tt (none_come es e tt a.2) advanced;
+      agrees = (world_used es e w (world_later w ms) tt a.0 refl refl refl a.0.client, a.1, used_none_live es e tt a.2, a.3 ∙ sym (code_more es e));
+      images = (is.0 ∙ sym (ap image_list (used_keep es e tt).1), parts_more outs (step (n + 1) ∷ []) is.1 (tt, tt));
+    }
+begins_tells ins outs es m r added m' (goes_off n w s) story advanced counted a is =
+    let e = stops (n + 1) in
+    let follows = step_follows ins outs es n story counted (none_is_whole es a.2) in
+    record {
+      events = es ++ e ∷ [];
+      story = story_more ins outs es e story (record { read = tt; end = tt; frame = tt; step = follows; advance = advanced; try = tt });
+      advanced = used_advanced es e tt (none_come es e tt a.2) advanced;
+      agrees = used_none_live es e tt a.2;
+      images = parts_more outs (step (n + 1) ∷ []) is.1 (tt, tt);
+    }

@@ -1,0 +1,47 @@
+"""The programs that count what calls of some crates cost, and the folders that they are built in."""
+
+from __future__ import annotations
+
+import io
+import os
+from contextlib import redirect_stdout
+from unittest.mock import patch
+
+from bench import below, lay_out
+from blocks import BLOCKS, measure_blocks
+from entries import ENTRIES, measure_entries
+from stream import STREAM, measure_stream
+from tests.case import Case
+
+
+class Laying(Case):
+    def test_what_lies_below(self) -> None:
+        uses = {"high": ["low", "other"], "low": ["lowest", "std"], "lowest": [], "far": ["low"]}
+        self.assertEqual(below(("low",), uses), {"low", "lowest"})
+        self.assertEqual(below(("high", "std"), uses), {"high", "low", "lowest"})
+
+    def test_the_repository_of_a_program(self) -> None:
+        """It has what the program uses, and nothing that uses those."""
+        within = {
+            "stream": {"nb_tcp", "nb_reasm", "nb_streams", "nb_wire"},
+            "entries": {"nb_graph", "nb_ledger", "nb_terms"},
+            "blocks": {"nb_nodes", "nb_graph", "nb_tftp", "nb_image"},
+        }
+        for bench in (STREAM, ENTRIES, BLOCKS):
+            folder = self.folder / f"of-{bench.name}"
+            folder.mkdir()
+            crate = lay_out(bench, folder)
+            self.assertEqual(crate, folder / "crates" / bench.name)
+            laid = {path.name for path in (folder / "crates").iterdir()}
+            self.assertLessEqual({bench.name} | within[bench.name], laid)
+            self.assertFalse({"nb_stack", "nb_boot", "netboot"} & laid)
+            for name in laid:
+                self.assertTrue((folder / "crates" / name / "src").is_dir(), name)
+
+    def test_missing_tools_are_named_in_a_line(self) -> None:
+        for measure in (measure_stream, measure_entries, measure_blocks):
+            printed = io.StringIO()
+            with patch.dict(os.environ, PATH="/none"), redirect_stdout(printed):
+                measure([])
+            said = "instructions aren't counted, as these are missing: valgrind, cc, rt\n"
+            self.assertEqual(printed.getvalue(), said)
