@@ -445,6 +445,16 @@ class Waiting(unittest.TestCase):
         without = "the run was ended from outside, while line 2 waited for the hardware address of"
         self.assertIn(without, sentence(outputs))
 
+    def test_a_fetch_that_began_later(self) -> None:
+        """A silent server is given up some 16 s after that."""
+        cause = Cause(Code.TIMED_OUT, 6)
+        again = [Ended(0, cause), Result(cause), made.command(b"imgfetch tftp://10.0.0.1/f")]
+        opened = Open(1, OpenKind.TFTP, made.SERVER.ip, 69, made.OWN_PORT + 1, b"f")
+        outputs = [*self.begins(), Step(2), *again, opened, Try(1, 1), made.asked()]
+        outputs += [Ended(1, Cause(Code.STOPPED)), Done(Status.UNFINISHED)]
+        lines = why(outputs, [self.START, Tick(15_750)])
+        self.assertIn("  a silent server is given up after some 16 s: record.py --until 32", lines)
+
     def test_the_hardware_address_came_and_no_more(self) -> None:
         outputs = [*self.begins(), Step(2), Step(3), *self.STOPPED]
         said = "next try, as 10.0.0.1 had only said its hardware address: f is asked for then"

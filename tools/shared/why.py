@@ -304,7 +304,8 @@ class Account:
             yield f"  {self.inputs.at(evidence.step)}: {self._plainly(evidence)}"
         is_off = isinstance(self.inputs.records.get(self.trace.step), Off)
         if self.inputs.start and not is_off and self.trace.done:
-            yield f"  a silent server is given up after some 16 s: record.py --until {PATIENCE}"
+            until = self.inputs.times[story.opened.step] // 1_000 + PATIENCE
+            yield f"  a silent server is given up after some 16 s: record.py --until {until}"
 
     def _full_step(self) -> Iterator[str]:
         """Of a script that had more to do: why its last step ended, and its last command."""
