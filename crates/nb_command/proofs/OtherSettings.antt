@@ -1,23 +1,21 @@
 -- A command changes no setting but the one that it names.
-use Rattle.std.proofs.Common.{◌≡◌, ℕ, Bool, true, false, not, ◌&&◌, List, [], ◌∷◌, ◌++◌, get_or, Option, Some, None, Ok, Err, ℤ, ◌+ℤ◌, refl, ap, ◌∙◌, sym, subst, arith}
-use Rattle.std.specs.Prelude.{filter, find, ◌==◌, option_map, if◌then◌else◌}
+use Rattle.std.proofs.Common.{◌≡◌, ℕ, Bool, true, false, not, ◌&&◌, List, [], ◌∷◌, ◌++◌, get_or, Option, Some, None, Ok, Err, ℤ, ◌+ℤ◌, refl, ap, ◌∙◌, sym, subst}
+use Rattle.std.specs.Prelude.{filter, find, option_map, if◌then◌else◌}
 use Rattle.std.specs.Fmt.{signed_decimal}
 use Rattle.std.specs.declared.result.Result.{Result}
 use Rattle.std.specs.Str.{bytes_eq}
-use Rattle.std.proofs.lemmas.Bool.{eq-eqb}
-use Rattle.std.proofs.lemmas.Bool.Decides.{nat_tests}
 use Rattle.std.proofs.lemmas.List.Folds.{find_past}
 use Rattle.std.proofs.lemmas.List.Quantifiers.{position-Some}
 use Rattle.std.proofs.lemmas.Slice.Eq.{bytes_eq-Decides}
 use Rattle.nb_settings.specs.declared.error.SetError.{SetError}
 use Rattle.nb_settings.specs.declared.kind.Kind.{Kind}
 use Rattle.nb_settings.specs.declared.setting.OwnedKey.{OwnedKey}
-use Rattle.nb_settings.specs.declared.setting.OwnedKey.TheVariants.{Tag, Sub, Free}
 use Rattle.nb_settings.specs.declared.setting.Setting.{Setting}
 use Rattle.nb_settings.specs.Keys.{same_key}
 use Rattle.nb_settings.specs.Names.{SettingName}
 use Rattle.nb_settings.specs.Tables.{TableLists, is_of, is_setting, own_value, setting_of, setting_value, place_of, put_at, with_value, cleared, put_refusal, has_block}
-use Rattle.nb_settings.proofs.FindLemmas.{either_way}
+use Rattle.nb_settings.proofs.FindLemmas.{either_way, both}
+use Rattle.nb_settings.proofs.OneKeyLemmas.{one_key, same_as_itself}
 use Rattle.nb_expand.specs.Reading.{parsed}
 use Rattle.nb_command.specs.declared.error.ApplyError.{ApplyError}
 use Rattle.nb_command.specs.declared.error.ApplyError.TheVariants.{BadName}
@@ -26,34 +24,8 @@ use Rattle.nb_command.specs.Others.{is_meant}
 use Rattle.nb_command.specs.Set.{set_kind, set_value}
 use Rattle.nb_command.specs.Inc.{sum_put}
 
-both : (a b : Bool) → (a && b) ≡ true → (a ≡ true) × (b ≡ true)
-both true true h = (refl, refl)
-both true false h = absurd cc
-both false b h = absurd cc
-
 pub same_Ok : {T E : Type 0} (x y : T) → ◌≡◌ {A = Result T E} (Ok x) (Ok y) → x ≡ y
 same_Ok x y is = cc
-
--- equal keys are one key
-one_key : (a b : OwnedKey) → same_key a b ≡ true → a ≡ b
-one_key (Tag n) (Tag m) is = let e : n ≡ m = grind (arith, nat_tests) in ap (λ x. Tag x) e
-one_key (Tag n) (Sub o i) is = absurd cc
-one_key (Tag n) (Free t) is = absurd cc
-one_key (Sub o i) (Tag m) is = absurd cc
-one_key (Sub o i) (Sub p j) is =
-    let h = both (o == p) (i == j) is in
-    let first : o ≡ p = grind (arith, nat_tests) in
-    let second : i ≡ j = grind (arith, nat_tests) in
-    ap (λ x. Sub x i) first ∙ ap (λ x. Sub p x) second
-one_key (Sub o i) (Free t) is = absurd cc
-one_key (Free t) (Tag m) is = absurd cc
-one_key (Free t) (Sub o i) is = absurd cc
-one_key (Free t) (Free u) is = ap (λ x. Free x) ((bytes_eq-Decides t u).0 is)
-
-same_as_itself : (a : OwnedKey) → same_key a a ≡ true
-same_as_itself (Tag n) = eq-eqb n n refl
-same_as_itself (Sub o i) = rw (eq-eqb o o refl, eq-eqb i i refl) refl
-same_as_itself (Free t) = (bytes_eq-Decides t t).1 refl
 
 meant : (block other : List ℕ) (key another : OwnedKey) → block ≡ other → key ≡ another → (bytes_eq block other && same_key key another) ≡ true
 meant block other key another b k =

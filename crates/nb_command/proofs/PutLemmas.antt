@@ -24,8 +24,8 @@ module _ (block at : List ℕ) (key : OwnedKey) (kind : Kind) (value : Option (L
       rw read (answer_done (put_refusal block key bytes table) (with_value (setting_of block key kind bytes) table) new fits_here is_here)
 
   -- why it isn't put
-  pub put_refused : (why : SetError) → (why ≡ set_error.NoMemory) ⊎ (put_refusal at key given table ≡ Some why) → (set_failure why ≡ failure.NoMemory) ⊎ (put_value block key kind value table ≡ Err (set_failure why))
-  put_refused why (inl none) = inl (rw none refl)
+  pub put_refused : (why : SetError) → ((why ≡ set_error.NoMemory) × (put_refusal at key given table ≡ None)) ⊎ (put_refusal at key given table ≡ Some why) → (set_failure why ≡ failure.NoMemory) ⊎ (put_value block key kind value table ≡ Err (set_failure why))
+  put_refused why (inl none) = inl (rw none.0 refl)
   put_refused why (inr is) =
       let is_here = rw (same_block, same_bytes) at is in
       inr (rw read (answer_refused (put_refusal block key bytes table) (with_value (setting_of block key kind bytes) table) why is_here))

@@ -9,7 +9,7 @@ use Rattle.nb_settings.specs.declared.setting.OwnedKey.{OwnedKey}
 use Rattle.nb_settings.specs.declared.setting.OwnedKey.TheVariants.{Tag, Sub, Free}
 use Rattle.nb_settings.specs.Listed.{key_named}
 use Rattle.nb_settings.specs.Names.{is_word_byte, is_word, IsBlockName, IsNumber, IsTagText, IsKeyText, cut_at, number_read, two_words, is_block_name, word_read, tag_or_word, undotted_or_sub, key_read}
-use Rattle.nb_settings.proofs.FindLemmas.{either_way}
+use Rattle.nb_settings.proofs.FindLemmas.{either_way, both}
 use Rattle.nb_settings.proofs.CutLemmas.{cut, has_no, has_no-from_all, has_no-append, cut_at-front, cut_at-without, cut_at-stands}
 use Rattle.nb_settings.proofs.NumberLemmas.{number_read-decimal, number_read-some, number_read-none, decimal_digits}
 
@@ -116,11 +116,6 @@ is_block_name-complete text is = elim is [
       let some = ap (cut_at 46) two.4 ∙ cut_at-front 46 two.0 two.1 (word_no 46 two.0 refl two.2) in
       rw some (rw (two.2, two.3) refl)
 ]
-
-both : (a b : Bool) → (a && b) ≡ true → (a ≡ true) × (b ≡ true)
-both true true h = (refl, refl)
-both true false h = absurd cc
-both false b h = absurd cc
 
 block_cut : (text : List ℕ) (found : Option (List ℕ × List ℕ)) → cut_at 46 text ≡ found → two_words found text ≡ true → IsBlockName text
 block_cut text None at is = inl is

@@ -1,5 +1,5 @@
 -- The settings of a lease: how they are gathered, and that they fit into a block.
-use Rattle.std.proofs.Common.{◌≡◌, ◌∙◌, ap, sym, subst, refl, arith, ℕ, zero, suc, ◌+◌, ◌-◌, ◌<◌, ◌≤◌, List, [], ◌∷◌, ◌++◌, length, get_or, take, drop, Bool, true, false, ◌&&◌, cond, Some, None, Option, length-append}
+use Rattle.std.proofs.Common.{◌≡◌, ◌∙◌, ap, sym, subst, refl, arith, ℕ, zero, suc, ◌+◌, ◌≤◌, List, [], ◌∷◌, ◌++◌, length, take, drop, Bool, true, false, ◌&&◌, Some, None, Option}
 use Rattle.std.specs.Prelude.{nat_le, nat_lt, ◌==◌, if◌then◌else◌, position, unwrap_or}
 use Rattle.std.specs.List.{flat_map, list_all, range_with_len}
 use Rattle.std.specs.Str.{bytes_eq}
@@ -10,12 +10,12 @@ use Rattle.std.proofs.lemmas.List.Folds.{list_all-append}
 use Rattle.std.proofs.lemmas.Slice.Eq.{bytes_eq-Decides}
 use Rattle.nb_dhcpmsg.specs.Options.{TagValue, is_there, joined}
 use Rattle.nb_dhcpmsg.specs.Messages.{MessageParts, IsMessage, HasOptions, is_value, field, has_file}
-use Rattle.nb_dhcpmsg.specs.Fields.{message_options, file_name, inner_options, overload_in, up_to_zero}
+use Rattle.nb_dhcpmsg.specs.Fields.{file_name, overload_in}
 use Rattle.nb_dhcpmsg.proofs.ReadingLemmas.{have_options}
 use Rattle.nb_settings.specs.declared.error.SetError.{SetError}
 use Rattle.nb_settings.specs.declared.error.SetError.TheVariants.{TooMany}
 use Rattle.nb_settings.specs.declared.setting.OwnedKey.{OwnedKey}
-use Rattle.nb_settings.specs.declared.setting.OwnedKey.TheVariants.{Tag, Sub, Free}
+use Rattle.nb_settings.specs.declared.setting.OwnedKey.TheVariants.{Tag, Sub}
 use Rattle.nb_settings.specs.declared.setting.Setting.{Setting}
 use Rattle.nb_settings.specs.Tables.{TableLists, is_of, register_refusal}
 use Rattle.nb_settings.specs.LeaseSettings.{numbered, fill_refusal, is_text_kind, option_kind, option_bytes, option_setting, value_settings, options_in, tag_settings, is_left_out, is_named_file, inner_settings, options_within, address_settings, address_setting, address_at, lease_settings}

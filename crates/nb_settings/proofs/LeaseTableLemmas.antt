@@ -1,15 +1,16 @@
 -- A table stays one with the settings of a lease.
-use Rattle.std.proofs.Common.{◌≡◌, ◌∙◌, ap, sym, subst, refl, arith, ℕ, ◌+◌, ◌≤◌, List, [], ◌∷◌, ◌++◌, length, Bool, true, false, not, ◌&&◌, cond, None}
-use Rattle.std.specs.Prelude.{filter, nat_le, nat_lt, count_by}
-use Rattle.std.specs.List.{list_all, list_any}
+use Rattle.std.proofs.Common.{◌≡◌, ◌∙◌, ap, sym, subst, refl, arith, ℕ, ◌+◌, ◌≤◌, List, [], ◌∷◌, ◌++◌, length, Bool, true, false, not, ◌&&◌, Some, None}
+use Rattle.std.specs.Prelude.{filter, nat_le}
+use Rattle.std.specs.List.{All, AllPairs, list_all, list_any}
 use Rattle.std.specs.Str.{bytes_eq}
-use Rattle.std.proofs.lemmas.Bool.Decides.{nat_tests}
+use Rattle.std.proofs.lemmas.List.Elements.{All-weaker}
 use Rattle.std.proofs.lemmas.Slice.Eq.{bytes_eq-Decides}
 use Rattle.nb_settings.specs.declared.block.Block.{Block}
 use Rattle.nb_settings.specs.declared.setting.Setting.{Setting}
-use Rattle.nb_settings.specs.Tables.{TableLists, IsTable, is_of, is_root, is_named, has_block, count_of, with_block, without_block, registered, register_refusal}
+use Rattle.nb_settings.specs.Tables.{TableLists, IsTable, is_of, is_root, is_named, has_block, count_of, count_in, with_block, without_block, registered, register_refusal}
 use Rattle.nb_settings.proofs.FindLemmas.{either_way}
 use Rattle.nb_settings.proofs.TableLemmas.{count, count_is, fewer, kept_register}
+use Rattle.nb_settings.proofs.DoublesLemmas.{OtherKey, all_pass, keys_filled}
 use Rattle.nb_settings.proofs.LeaseLemmas.{all_both, fits_in}
 
 count-append : {A : Type 0} (p : A → Bool) (xs ys : List A) → count p (xs ++ ys) ≡ count p xs + count p ys
@@ -66,6 +67,13 @@ there_now b blocks = either_way (is_root b.name)
     (λ root. rw root refl)
     (λ named. rw named (any_last b.name b (filter (λ other. not (is_named b.name other)) blocks) ((bytes_eq-Decides b.name b.name).1 refl)))
 
+-- and has no settings
+pub emptied_now : (b : Block) (table : TableLists) → count_in b.name (registered b table) ≡ Some 0
+emptied_now b table =
+    let none : count_of b.name (without_block b.name table.settings) ≡ 0 =
+    sym (count_is (is_of b.name) (without_block b.name table.settings)) ∙ count-left (is_of b.name) table.settings in
+    rw (there_now b table.blocks) (ap (λ (n : ℕ). Some n) none)
+
 -- the settings of other blocks, and at most 128 of this one
 at_most_filled : (x block : List ℕ) (settings new : List Setting) → count_of x settings ≤ 128 → list_all (fits_in block) new ≡ true → length new ≤ 128 → count_of x (without_block block settings ++ new) ≤ 128
 at_most_filled x block settings new most fits few =
@@ -87,15 +95,26 @@ at_most_filled x block settings new most fits few =
 all_filled : (p : Setting → Bool) (old new : List Setting) → list_all p old ≡ true → list_all p new ≡ true → list_all p (old ++ new) ≡ true
 all_filled p old new one other = all_both p old new one other
 
--- a table stays one with a block that was registered, and at most 128 settings in it
-pub kept_filled : (table : TableLists) (b : Block) (new : List Setting) → IsTable table → register_refusal b.name table ≡ None → list_all (fits_in b.name) new ≡ true → length new ≤ 128 → IsTable (record { blocks = with_block b table.blocks; settings = without_block b.name table.settings ++ new })
-kept_filled table b new is none fits few =
+-- each is of the block
+all_its : (block : List ℕ) (ss : List Setting) → list_all (fits_in block) ss ≡ true → All (λ (s : Setting). s.block ≡ block) ss
+all_its block ss fits =
+    All-weaker (λ (s : Setting). fits_in block s ≡ true) (λ (s : Setting). s.block ≡ block)
+    (λ s on. (bytes_eq-Decides s.block block).0 (first_true (is_of block s) (nat_le (length s.bytes) 1024) on)) ss (all_pass (fits_in block) ss fits)
+
+-- a table stays one with a block that was registered, and at most 128 settings in it, each with a key of its own
+pub kept_filled : (table : TableLists) (b : Block) (new : List Setting) → IsTable table → register_refusal b.name table ≡ None → list_all (fits_in b.name) new ≡ true → AllPairs OtherKey new → length new ≤ 128 → IsTable (record { blocks = with_block b table.blocks; settings = without_block b.name table.settings ++ new })
+kept_filled table b new is none fits apart few =
     let emptied = kept_register table b is none in
     record {
       few = emptied.few;
       at_most = λ x. at_most_filled x b.name table.settings new (is.at_most x) fits few;
       short = all_filled (λ (x : Setting). nat_le (length x.bytes) 1024) (without_block b.name table.settings) new emptied.short (all_weaker (fits_in b.name) (λ (x : Setting). nat_le (length x.bytes) 1024) new (λ s on. second_true (is_of b.name s) (nat_le (length s.bytes) 1024) on) fits);
-      within = all_filled (λ (x : Setting). has_block x.block (with_block b table.blocks)) (without_block b.name table.settings) new emptied.within
-          (all_weaker (fits_in b.name) (λ (x : Setting). has_block x.block (with_block b table.blocks)) new
-          (λ s on. ap (λ (n : List ℕ). has_block n (with_block b table.blocks)) ((bytes_eq-Decides s.block b.name).0 (first_true (is_of b.name s) (nat_le (length s.bytes) 1024) on)) ∙ there_now b table.blocks) fits);
+      no_doubles = record {
+        names = emptied.no_doubles.names;
+        one_root = emptied.no_doubles.one_root;
+        keys = keys_filled b.name table.settings new is.no_doubles.keys apart (all_its b.name new fits);
+        within = all_filled (λ (x : Setting). has_block x.block (with_block b table.blocks)) (without_block b.name table.settings) new emptied.no_doubles.within
+            (all_weaker (fits_in b.name) (λ (x : Setting). has_block x.block (with_block b table.blocks)) new
+            (λ s on. ap (λ (n : List ℕ). has_block n (with_block b table.blocks)) ((bytes_eq-Decides s.block b.name).0 (first_true (is_of b.name s) (nat_le (length s.bytes) 1024) on)) ∙ there_now b table.blocks) fits);
+      };
     }

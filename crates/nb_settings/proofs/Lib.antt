@@ -6,8 +6,12 @@ pub mod KeyLemmas
 pub mod NameLemmas
 pub mod OrderLemmas
 pub mod LookupLemmas
+pub mod OneKeyLemmas
+pub mod DoublesLemmas
 pub mod TableLemmas
 pub mod NullLemmas
 pub mod LeaseLemmas
+pub mod LeaseKeysLemmas
 pub mod LeaseTableLemmas
 pub mod LeaseStepLemmas
+pub mod ByTagLemmas

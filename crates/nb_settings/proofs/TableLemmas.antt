@@ -15,7 +15,8 @@ use Rattle.nb_settings.specs.declared.setting.OwnedKey.{OwnedKey}
 use Rattle.nb_settings.specs.declared.setting.Setting.{Setting}
 use Rattle.nb_settings.specs.Keys.{same_key}
 use Rattle.nb_settings.specs.Tables.{TableLists, IsTable, is_of, is_setting, is_root, is_named, has_block, count_of, place_of, put_at, with_setting, with_value, with_block, registered, is_full, put_refusal, register_refusal}
-use Rattle.nb_settings.proofs.FindLemmas.{either_way, find-passes}
+use Rattle.nb_settings.proofs.FindLemmas.{either_way, find-passes, both}
+use Rattle.nb_settings.proofs.DoublesLemmas.{keys_put, keys_filtered, names_kept, root_kept}
 
 -- counting, head by head
 unfoldable pub count : {A : Type 0} → (A → Bool) → List A → ℕ
@@ -86,11 +87,6 @@ pub put_tests : (block : List ℕ) (key : OwnedKey) (bytes : List ℕ) (table : 
 put_tests block key bytes table none =
     three_tests (has_block block table.blocks) (nat_lt 1024 (length bytes)) (is_full block key table.settings) none
 
-both : (a b : Bool) → (a && b) ≡ true → (a ≡ true) × (b ≡ true)
-both true true h = (refl, refl)
-both true false h = absurd cc
-both false b h = absurd cc
-
 not_both : (a b : Bool) → (a && b) ≡ false → a ≡ true → b ≡ false
 not_both true b h on = h
 not_both false b h on = absurd cc
@@ -133,7 +129,12 @@ kept_put table s is none =
       few = is.few;
       at_most = λ b. at_most_put b s table.settings place refl tests.2 is.at_most;
       short = all-put_at (λ (x : Setting). nat_le (length x.bytes) 1024) place s table.settings is.short short;
-      within = all-put_at (λ (x : Setting). has_block x.block table.blocks) place s table.settings is.within tests.0;
+      no_doubles = record {
+        names = is.no_doubles.names;
+        one_root = is.no_doubles.one_root;
+        keys = keys_put s table.settings place refl is.no_doubles.keys;
+        within = all-put_at (λ (x : Setting). has_block x.block table.blocks) place s table.settings is.no_doubles.within tests.0;
+      };
     }
 
 -- also where memory runs out, and nothing is put
@@ -155,7 +156,12 @@ kept_filter table q is = record {
   few = is.few;
   at_most = λ b. fewer q b table.settings (is.at_most b);
   short = all-filter (λ (x : Setting). nat_le (length x.bytes) 1024) q table.settings is.short;
-  within = all-filter (λ (x : Setting). has_block x.block table.blocks) q table.settings is.within;
+  no_doubles = record {
+    names = is.no_doubles.names;
+    one_root = is.no_doubles.one_root;
+    keys = keys_filtered q table.settings is.no_doubles.keys;
+    within = all-filter (λ (x : Setting). has_block x.block table.blocks) q table.settings is.no_doubles.within;
+  };
 }
 
 filter-le : {A : Type 0} (q : A → Bool) (xs : List A) → length (filter q xs) ≤ length xs
@@ -224,9 +230,14 @@ kept_register table b is none =
       few = few_with b table.blocks is.few room;
       at_most = λ x. fewer others x table.settings (is.at_most x);
       short = all-filter (λ (x : Setting). nat_le (length x.bytes) 1024) others table.settings is.short;
-      within =
-          all-filter_then (λ (x : Setting). has_block x.block table.blocks) (λ (x : Setting). has_block x.block (with_block b table.blocks)) others table.settings
-          (λ x other there. still_there x.block b table.blocks other there) is.within;
+      no_doubles = record {
+        names = names_kept b table.blocks is.no_doubles.names;
+        one_root = root_kept b table.blocks is.no_doubles.one_root;
+        keys = keys_filtered others table.settings is.no_doubles.keys;
+        within =
+            all-filter_then (λ (x : Setting). has_block x.block table.blocks) (λ (x : Setting). has_block x.block (with_block b table.blocks)) others table.settings
+            (λ x other there. still_there x.block b table.blocks other there) is.no_doubles.within;
+      };
     }
 
 -- what is found passes a test that all pass
@@ -246,7 +257,7 @@ found_short table q s is found =
 -- no setting is found in a block that isn't there
 pub absent_none : (table : TableLists) (block : List ℕ) (key : OwnedKey) (s : Setting) → IsTable table → has_block block table.blocks ≡ false → find (is_setting block key) table.settings ≡ Some s → ⊥
 absent_none table block key s is absent found =
-    let there = found-all (λ (x : Setting). has_block x.block table.blocks) (is_setting block key) table.settings s is.within found in
+    let there = found-all (λ (x : Setting). has_block x.block table.blocks) (is_setting block key) table.settings s is.no_doubles.within found in
     let same = (bytes_eq-Decides s.block block).0 (both (is_of block s) (same_key s.key key) (find-passes (is_setting block key) table.settings s found)).0 in
     let wrong : true ≡ false = sym there ∙ ap (λ (x : List ℕ). has_block x table.blocks) same ∙ absent in
     absurd cc

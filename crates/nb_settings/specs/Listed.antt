@@ -1,5 +1,5 @@
 -- own: the names that are listed, each with its tag and its kind; tags are options of RFC 2132, with the inner options of 175
-use Rattle.std.specs.Prelude.{ℕ, List, [], ◌∷◌, Option, codes, find}
+use Rattle.std.specs.Prelude.{◌≡◌, ℕ, List, [], ◌∷◌, Option, codes, find}
 use Rattle.std.specs.Option.{option_map, option_map_or}
 use Rattle.std.specs.Str.{bytes_eq}
 use Rattle.nb_settings.specs.declared.kind.Kind.{Kind}
@@ -53,6 +53,12 @@ listed =
 -- the key of a word: that of the list, or the word itself
 unfoldable pub key_named : List ℕ → OwnedKey
 key_named name = option_map_or (λ found. found.key) (find (λ row. bytes_eq name row.name) listed) (Free name)
+
+-- the key is no name that is listed with a tag: such a setting is meant by its tag alone
+abbrev pub IsByTag : OwnedKey → Type 0
+IsByTag (Tag number) = Unit {0}
+IsByTag (Sub outer inner) = Unit {0}
+IsByTag (Free name) = key_named name ≡ Free name
 
 -- the kind that the list gives a key
 unfoldable pub listed_kind : OwnedKey → Option Kind

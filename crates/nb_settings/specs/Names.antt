@@ -23,6 +23,10 @@ pub record SettingName : Type 0 where
 abbrev pub name_of : Name → SettingName
 name_of name = record { block = option_copied name.block; key = key_of name.key; kind = name.kind }
 
+-- a name of a key, without a block and a kind
+abbrev pub key_alone : OwnedKey → SettingName
+key_alone key = record { block = None; key = key; kind = None }
+
 -- a letter, a digit, `-` or `_`
 abbrev pub is_word_byte : ℕ → Bool
 is_word_byte byte = is_ascii_alphanumeric byte || (byte == 45) || (byte == 95)

@@ -1,6 +1,6 @@
 -- own, after ipxe.org's settings: the table of blocks and settings, its look-up, and what the calls do to it
-use Rattle.std.specs.Prelude.{◌≡◌, ℕ, ◌+◌, ◌≤◌, ℤ, int_lt, ◌==◌, ◌&&◌, ◌||◌, Bool, true, not, List, [], ◌∷◌, ◌++◌, length, map, filter, count_by, find, position, nat_eq, nat_lt, nat_le, Option, Some, None, option_map, is_none, unwrap_or, slice_index, slice_get, slice_set, if◌then◌else◌}
-use Rattle.std.specs.List.{flat_map, list_all, list_any, starts_with}
+use Rattle.std.specs.Prelude.{◌≡◌, ◌≢◌, ℕ, ◌+◌, ◌≤◌, ℤ, int_lt, ◌==◌, ◌&&◌, ◌||◌, Bool, true, not, List, [], ◌∷◌, ◌++◌, length, map, filter, count_by, find, position, nat_eq, nat_lt, nat_le, Option, Some, None, option_map, is_none, unwrap_or, slice_index, slice_get, slice_set, if◌then◌else◌}
+use Rattle.std.specs.List.{All, AllPairs, flat_map, list_all, list_any, starts_with}
 use Rattle.std.specs.Str.{bytes_eq}
 use Rattle.nb_settings.specs.declared.block.Block.{Block}
 use Rattle.nb_settings.specs.declared.error.SetError.{SetError}
@@ -10,6 +10,7 @@ use Rattle.nb_settings.specs.declared.setting.OwnedKey.{OwnedKey}
 use Rattle.nb_settings.specs.declared.setting.Setting.{Setting}
 use Rattle.nb_settings.specs.declared.setting.Value.{Value}
 use Rattle.nb_settings.specs.Keys.{same_key}
+use Rattle.nb_settings.specs.Listed.{IsByTag}
 
 -- the blocks beside the root, in the order in which they were registered, and the settings of all blocks;
 -- the root is the block with the empty name, and is always there
@@ -160,10 +161,24 @@ without_setting block key settings = filter (λ setting. not (is_setting block k
 abbrev pub cleared : List ℕ → OwnedKey → TableLists → TableLists
 cleared block key table = record { blocks = table.blocks; settings = without_setting block key table.settings }
 
--- at most 16 blocks with the root; each has at most 128 settings, and each value at most 1,024 bytes; there
--- is no setting of a block that isn't there
+-- WHAT HOLDS OF EVERY TABLE
+
+-- no two blocks have one name, and none beside the root the root's empty name; no two settings of one block have
+-- one key; and there is no setting of a block that isn't there
+pub record HasNoDoubles (table : TableLists) : Type 0 where
+  pub names : AllPairs (λ one other. one.name ≢ other.name) table.blocks
+  pub one_root : All (λ block. block.name ≢ []) table.blocks
+  pub keys : AllPairs (λ one other. one.block ≡ other.block → one.key ≢ other.key) table.settings
+  pub within : list_all (λ setting. has_block setting.block table.blocks) table.settings ≡ true
+
+-- each setting that has a tag is kept by its tag, so that it isn't there by its name as well
+abbrev pub KeepsByTag : TableLists → Type 0
+KeepsByTag table = All (λ setting. IsByTag setting.key) table.settings
+
+-- at most 16 blocks with the root; each has at most 128 settings, and each value at most 1,024 bytes; and nothing
+-- stands twice
 pub record IsTable (table : TableLists) : Type 0 where
   pub few : length table.blocks ≤ 15
   pub at_most : (block : List ℕ) → count_of block table.settings ≤ 128
   pub short : list_all (λ setting. nat_le (length setting.bytes) 1024) table.settings ≡ true
-  pub within : list_all (λ setting. has_block setting.block table.blocks) table.settings ≡ true
+  pub no_doubles : HasNoDoubles table

@@ -1,6 +1,9 @@
 ghost use Rattle.std.specs.Prelude.{◌≡◌, Some, IfSome, option_map};
 ghost use Rattle.std.specs.Option.{option_copied};
-ghost use Rattle.nb_settings.specs.Names.{SettingName, IsName, name_of, name_read, tail_read};
+ghost use Rattle.std.specs.List.{Contains};
+ghost use Rattle.nb_settings.specs.Keys.{key_of};
+ghost use Rattle.nb_settings.specs.Listed.{Listed, listed, IsByTag};
+ghost use Rattle.nb_settings.specs.Names.{SettingName, IsName, key_alone, name_of, name_read, tail_read};
 
 use crate::cut::cut_at;
 use crate::word::is_block_name;
@@ -22,6 +25,9 @@ impl<'a> Name<'a> {
             → option_map name_of result ≡ Some name }
         // The same as one equation, by the function on lists that is proved to be the grammar.
         ensures exact { option_map name_of result ≡ name_read text.now }
+        ensures listed { (row : Listed) → Contains listed row → text.now ≡ row.name
+            → option_map name_of result ≡ Some (key_alone row.key) }
+        ensures by_tag { IfSome result (λ name. IsByTag (key_of name.key)) }
     {
         parsed(text)
     }

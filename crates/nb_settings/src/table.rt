@@ -2,7 +2,8 @@ ghost use Rattle.std.specs.Prelude.{◌≡◌, ◌≤◌, ◌⊎◌, None, Some,
 ghost use Rattle.std.specs.Option.{option_copied};
 ghost use Rattle.std.specs.Result.{MatchResult};
 ghost use Rattle.nb_settings.specs.Keys.{key_of};
-ghost use Rattle.nb_settings.specs.Tables.{root_alone, value_of, block_of, setting_of, look, own_value, count_in, registered, register_refusal, with_value, put_refusal, cleared, has_block};
+ghost use Rattle.nb_settings.specs.Listed.{IsByTag};
+ghost use Rattle.nb_settings.specs.Tables.{IsTable, KeepsByTag, root_alone, value_of, block_of, setting_of, look, own_value, count_in, registered, register_refusal, with_value, put_refusal, cleared, has_block};
 ghost use Rattle.nb_dhcpmsg.specs.Fields.{message_in};
 ghost use Rattle.nb_settings.specs.LeaseSettings.{leased, lease_refusal, fill_refusal};
 ghost use Rattle.nb_settings.specs.Order.{value_behind};
@@ -53,7 +54,8 @@ impl Model for Table {
 impl Table {
     /// The root alone, without settings.
     pub fn new(alloc: Global) -> Table
-        ensures { result ≡ root_alone }
+        ensures value { result ≡ root_alone }
+        ensures by_tag { KeepsByTag result }
     {
         Table {
             blocks: Vec::new(alloc),
@@ -61,14 +63,24 @@ impl Table {
         }
     }
 
+    /// What holds of every table, whatever calls were made on it: it is within the limits, no two blocks have one
+    /// name, no two settings of one block have one key, and each setting's block is there.
+    pub fn well_formed(&self)
+        ensures { IsTable self.now }
+    {
+        let _ = &self.blocks;
+    }
+
     /// Adds a block without settings, as the latest. One that is there is emptied, and gets this priority;
     /// the root, whose name is empty, is looked up first whatever its priority.
     pub fn register(&mut self, alloc: Global, block: &[u8], priority: i8) -> Result<(), SetError>
         ensures ok { OnOk result (self.new ≡ registered (block_of block.now priority) self.old) }
         ensures fits { OnOk result (register_refusal block.now self.old ≡ None) }
-        ensures cause { IfErr result
-            (λ e. (e ≡ error.NoMemory) ⊎ (register_refusal block.now self.old ≡ Some e)) }
+        ensures cause { IfErr result (λ e. ((e ≡ error.NoMemory) × (register_refusal block.now self.old ≡ None))
+            ⊎ (register_refusal block.now self.old ≡ Some e)) }
         ensures refused { OnErr result (self.new ≡ self.old) }
+        ensures emptied { OnOk result (count_in block.now self.new ≡ Some 0) }
+        ensures by_tag { KeepsByTag self.old → KeepsByTag self.new }
     {
         self.check_register(block)?;
         put_block(&mut self.blocks, alloc, block, priority)?;
@@ -76,7 +88,8 @@ impl Table {
         Ok(())
     }
 
-    /// Sets a value, in place of the one of its block and key where there is one.
+    /// Sets a value, in place of the one of its block and key where there is one. The key of a name that is listed
+    /// with a tag is to be the tag, as `Name::read` gives it: one given as a free word is another setting.
     pub fn put(
         &mut self,
         alloc: Global,
@@ -88,9 +101,11 @@ impl Table {
         ensures ok { OnOk result
             (self.new ≡ with_value (setting_of block.now (key_of key.now) kind bytes.now) self.old) }
         ensures fits { OnOk result (put_refusal block.now (key_of key.now) bytes.now self.old ≡ None) }
-        ensures cause { IfErr result (λ e. (e ≡ error.NoMemory)
+        ensures cause { IfErr result
+            (λ e. ((e ≡ error.NoMemory) × (put_refusal block.now (key_of key.now) bytes.now self.old ≡ None))
             ⊎ (put_refusal block.now (key_of key.now) bytes.now self.old ≡ Some e)) }
         ensures refused { OnErr result (self.new ≡ self.old) }
+        ensures by_tag { IsByTag (key_of key.now) → KeepsByTag self.old → KeepsByTag self.new }
     {
         self.check_put(block, key, bytes)?;
         let place = place_of(self.settings.as_slice(), block, key);
@@ -107,6 +122,7 @@ impl Table {
         ensures cause { IfErr result (λ e. (e ≡ error.NoMemory)
             ⊎ (lease_refusal block.now ack.now self.old ≡ Some e)) }
         ensures refused { OnErr result (self.new ≡ self.old) }
+        ensures by_tag { KeepsByTag self.old → KeepsByTag self.new }
     {
         let Some(message) = DhcpMsg::read(ack) else {
             unreachable!()
@@ -125,6 +141,7 @@ impl Table {
         ensures cause { MatchResult result (λ _. has_block block.now self.old.blocks ≡ true)
             (λ e. (e ≡ error.BadName) × (has_block block.now self.old.blocks ≡ false)) }
         ensures refused { OnErr result (self.new ≡ self.old) }
+        ensures by_tag { KeepsByTag self.old → KeepsByTag self.new }
     {
         if !has_block(self.blocks.as_slice(), block) {
             return Err(SetError::BadName);

@@ -240,6 +240,7 @@ fn registered_again(rt: HostRuntime) -> Result<(), Fail> {
     assert!(rt; finds(&table, None, Some(b"b")));
     put_x(&mut table, alloc, b"")?;
     table.register(alloc, b"", 0)?;
+    table.well_formed();
     assert_eq!(rt; table.count(b""), Some(0));
     assert!(rt; table.own(b"a", &Key::Free(b"x")).is_some());
     Ok(())

@@ -1,4 +1,4 @@
-use Rattle.std.proofs.Common.{◌≡◌, ◌∙◌, ap, sym, not, List, ℕ, length, ◌&&◌}
+use Rattle.std.proofs.Common.{◌≡◌, ◌∙◌, ap, not, List, ℕ, length}
 use Rattle.std.specs.Prelude.{◌==◌}
 use Rattle.nb_dhcpmsg.specs.Fields.{file_name}
 use Rattle.nb_dhcpmsg.specs.Views.{parts_of}

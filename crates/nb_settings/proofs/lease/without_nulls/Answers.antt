@@ -1,4 +1,4 @@
-use Rattle.std.proofs.Common.{◌≡◌, ◌∙◌, sym}
+use Rattle.std.proofs.Common.{◌∙◌, sym}
 use Rattle.nb_settings.proofs.NullLemmas.{nulls_shorter, nulls_none}
 use Rattle.nb_settings.proofs.lease.without_nulls.Goals as goal
 
