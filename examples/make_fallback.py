@@ -9,39 +9,20 @@ bytes.
 from __future__ import annotations
 
 import sys
-from ipaddress import IPv4Address
 from pathlib import Path
 from typing import Iterator
-from uuid import UUID
 
 HERE = Path(__file__).resolve().parent
 sys.path.insert(0, str(HERE.parent / "tools"))
 
-from shared.records import Received, Record, Start, Tick, spell  # noqa: E402
-from shared.wire import Station, arp_reply, padded, tftp_data, tftp_error, udp_frame  # noqa: E402
+from shared.records import Received, Record, Tick, spell  # noqa: E402
+from shared.wire import arp_reply, padded, tftp_data, tftp_error, udp_frame  # noqa: E402
+from stations import CLIENT, SERVER, start  # noqa: E402
 
-CLIENT = Station(bytes.fromhex("525400000001"), IPv4Address("10.0.0.2"))
-SERVER = Station(bytes.fromhex("525400000002"), IPv4Address("10.0.0.1"))
 FIRST_OWN_PORT = 49_152
 SERVER_PORT = 40_000
 NOT_FOUND = 1
 KERNEL = b"\x7fELF\x02\x01\x01" + b"a kernel that is shorter than a block"
-
-
-def start(script: bytes) -> Start:
-    return Start(
-        version=1,
-        mac=CLIENT.mac,
-        uuid=UUID(int=0),
-        key=bytes(32),
-        arch=0,
-        w=0,
-        ip=CLIENT.ip,
-        mask=IPv4Address("255.255.255.0"),
-        gateway=IPv4Address(0),
-        dns=IPv4Address(0),
-        script=script,
-    )
 
 
 def answer(number: int, body: bytes) -> Received:

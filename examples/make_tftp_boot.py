@@ -10,19 +10,16 @@ block 4 are swapped on their way. Everything here is fixed, so each run makes th
 from __future__ import annotations
 
 import sys
-from ipaddress import IPv4Address
 from pathlib import Path
 from typing import Iterator
-from uuid import UUID
 
 HERE = Path(__file__).resolve().parent
 sys.path.insert(0, str(HERE.parent / "tools"))
 
-from shared.records import Received, Record, Start, Tick, spell  # noqa: E402
-from shared.wire import Station, arp_reply, padded, tftp_data, udp_frame  # noqa: E402
+from shared.records import Received, Record, Tick, spell  # noqa: E402
+from shared.wire import arp_reply, padded, tftp_data, udp_frame  # noqa: E402
+from stations import CLIENT, SERVER, start  # noqa: E402
 
-CLIENT = Station(bytes.fromhex("525400000001"), IPv4Address("10.0.0.2"))
-SERVER = Station(bytes.fromhex("525400000002"), IPv4Address("10.0.0.1"))
 CLIENT_PORT = 49_152
 SERVER_PORT = 40_000
 BLOCK = 512
@@ -34,22 +31,6 @@ def kernel() -> bytes:
     """A file that begins as a 64-bit ELF file does, and goes on with a fixed pattern."""
     head = b"\x7fELF\x02\x01\x01"
     return head + bytes((31 * place + 7) % 256 for place in range(len(head), KERNEL_LENGTH))
-
-
-def start() -> Start:
-    return Start(
-        version=1,
-        mac=CLIENT.mac,
-        uuid=UUID(int=0),
-        key=bytes(32),
-        arch=0,
-        w=0,
-        ip=CLIENT.ip,
-        mask=IPv4Address("255.255.255.0"),
-        gateway=IPv4Address(0),
-        dns=IPv4Address(0),
-        script=SCRIPT,
-    )
 
 
 class Server:
@@ -69,7 +50,7 @@ class Server:
 def records() -> Iterator[Record]:
     """The recording: in comments what the client does."""
     server = Server()
-    yield start()  # asks by ARP for the server's address
+    yield start(SCRIPT)  # asks by ARP for the server's address
     yield Received(padded(arp_reply(SERVER, CLIENT)))
     yield Tick(250)  # its first try was never sent: now it sends the read request
     yield Tick(2)

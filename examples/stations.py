@@ -1,0 +1,36 @@
+"""The two machines of the made recordings, and the client's first record.
+
+The client is 10.0.0.2 and takes what it needs from START, so nothing of it comes by DHCP.
+"""
+
+from __future__ import annotations
+
+import sys
+from ipaddress import IPv4Address
+from pathlib import Path
+from uuid import UUID
+
+HERE = Path(__file__).resolve().parent
+sys.path.insert(0, str(HERE.parent / "tools"))
+
+from shared.records import Start  # noqa: E402
+from shared.wire import Station  # noqa: E402
+
+CLIENT = Station(bytes.fromhex("525400000001"), IPv4Address("10.0.0.2"))
+SERVER = Station(bytes.fromhex("525400000002"), IPv4Address("10.0.0.1"))
+
+
+def start(script: bytes) -> Start:
+    return Start(
+        version=1,
+        mac=CLIENT.mac,
+        uuid=UUID(int=0),
+        key=bytes(32),
+        arch=0,
+        w=0,
+        ip=CLIENT.ip,
+        mask=IPv4Address("255.255.255.0"),
+        gateway=IPv4Address(0),
+        dns=IPv4Address(0),
+        script=script,
+    )
