@@ -5,7 +5,7 @@ use Rattle.nb_defs.specs.Records.{In, in_text, in_texts, Out, out_text, out_text
 use Rattle.nb_record.specs.Outside.{Outside, Passes}
 use Rattle.nb_record.specs.Logged.{Logged}
 use Rattle.nb_record.proofs.OutsideLemmas.{Passes-nothing, Passes-then}
-use Rattle.nb_engine.specs.Machine.{Machine, Path, uses, moves, fresh, nothing}
+use Rattle.nb_engine.specs.Machine.{Machine, Moves, rests, moves_on, Path, uses, moves, fresh, nothing}
 use Rattle.nb_engine.specs.Seen.{Seen, StandsFor}
 use Rattle.nb_engine.specs.Turns.{Steps, Grows}
 use Rattle.nb_engine.proofs.Puts.{is_either}
@@ -42,15 +42,24 @@ end_of_front added part lost old new whole front fronts =
 read_again : (ins used : List In) (rest : List ℕ) → in_texts ins ++ (in_texts used ++ rest) ≡ in_texts (ins ++ used) ++ rest
 read_again ins used rest = sym (append_assoc (in_texts ins) (in_texts used) rest) ∙ ap (λ t. t ++ rest) (sym (flat_map-append in_text ins used))
 
+moves_count : (m : Machine) (added : List Out) (m' : Machine) → Moves m added m' → m'.used ≡ m.used
+moves_count m added m' (rests _) = refl
+moves_count m added m' (moves_on _ mid _ first more v vs) = moves_count mid more m' vs ∙ move_counts m first mid v
+
+path_moves : (ins : List In) (outs added : List Out) (m m' : Machine) → Path ins outs m → Moves m added m' → Path ins (outs ++ added) m'
+path_moves ins outs added m m' p (rests _) = subst (λ xs. Path ins xs m) (sym (append-nil outs)) p
+path_moves ins outs added m m' p (moves_on _ mid _ first more v vs) =
+    subst (λ xs. Path ins xs m') (append_assoc outs first more) (path_moves ins (outs ++ first) more mid m' (moves ins outs m first mid p v) vs)
+
 -- it numbers the record with 32 bits
 steps_few : (used : List In) (outs : List Out) (m m' : Machine) → Steps used m outs m' → HasNumber used m.used → m.used ≤ 4294967295 → m'.used ≤ 4294967295
-steps_few [] outs m m' s number few = subst (λ n. n ≤ 4294967295) (sym (move_counts m outs m' s)) few
+steps_few [] outs m m' s number few = subst (λ n. n ≤ 4294967295) (sym (moves_count m outs m' s)) few
 steps_few (r ∷ []) outs m m' s number few = omega (arith, begins_counts m r outs m' s, number)
 steps_few (r ∷ q ∷ rs) outs m m' s number few = absurd s
 
 -- the path goes on by a step
 path_steps : (used ins : List In) (outs added : List Out) (m m' : Machine) → Path ins outs m → Steps used m added m' → Path (ins ++ used) (outs ++ added) m'
-path_steps [] ins outs added m m' p s = subst (λ xs. Path xs (outs ++ added) m') (sym (append-nil ins)) (moves ins outs m added m' p s)
+path_steps [] ins outs added m m' p s = subst (λ xs. Path xs (outs ++ added) m') (sym (append-nil ins)) (path_moves ins outs added m m' p s)
 path_steps (r ∷ []) ins outs added m m' p s = uses ins outs m r added m' p s
 path_steps (r ∷ q ∷ rs) ins outs added m m' p s = absurd s
 

@@ -1,18 +1,18 @@
 -- There is at most one run of the machine on a record that comes to rest.
-use Rattle.std.proofs.Common.{◌≡◌, ℕ, ◌+◌, ◌<◌, ◌==◌, true, false, Bool, ◌⊎◌, inl, inr, List, [], ◌∷◌, ◌++◌, length, Option, Some, None, refl, sym, ◌∙◌, ap, subst, arith, append_assoc, append-nil, length-append, eq-eqb, ne_eqb}
+use Rattle.std.proofs.Common.{◌≡◌, ℕ, ◌+◌, ◌*◌, ◌<◌, ◌==◌, true, false, Bool, ◌⊎◌, inl, inr, List, [], ◌∷◌, ◌++◌, length, Option, Some, None, refl, sym, ◌∙◌, ap, subst, arith, append_assoc, append-nil, length-append, eq-eqb, ne_eqb}
 use Rattle.nb_terms.specs.declared.cause.Cause.{Cause}
 use Rattle.nb_defs.specs.Causes.{ok}
 use Rattle.nb_defs.specs.Commands.{CommandOutcome, refused}
 use Rattle.nb_defs.specs.Records.{Start, In, start, frame, tick, off, Out, step, enter, leave, ended}
 use Rattle.nb_defs.specs.ScriptLines.{Reading, script, no_script, script_too_long, line_too_long, label_place}
 use Rattle.nb_engine.specs.declared.world.World.{World}
-use Rattle.nb_engine.specs.World.{world_of, with_open, with_ended_open}
+use Rattle.nb_engine.specs.World.{world_of, world_with_table, with_open, with_ended_open}
 use Rattle.nb_engine.specs.FirstText.{first_reading, text_refusal}
 use Rattle.nb_engine.specs.Running.{Running, Coming, coming, passing, leaving, beginning, first_script, entered, further, behind_line, no_label}
-use Rattle.nb_engine.specs.Effects.{Wanted, Effect, says, asks, goes, effect}
+use Rattle.nb_engine.specs.Effects.{Wanted, Effect, says, asks, goes, sleeps, effect, table_after, shown_words}
 use Rattle.nb_engine.specs.Opens.{open_for, request_of, has_route, send_records, opened_record, begun_for}
 use Rattle.nb_engine.specs.Conclusions.{fails, conclusion_records}
-use Rattle.nb_engine.specs.Machine.{Machine, Phase, ready, running, waiting, yielded, handing, left, handed_off, stopped, at, fresh, Path, nothing, uses, moves, Begins, runs, refuses, passes_by, brings, passes_time, switches_off, goes_on_by_frame, goes_on_by_tick, goes_off, Move, passes, is_left, yields, does, leaves, jumps, finds_no_label, asks_for, finds_no_route, hands, has_handed, command_record, command_records, no_route}
+use Rattle.nb_engine.specs.Machine.{Machine, Phase, ready, running, waiting, sleeping, yielded, handing, left, handed_off, stopped, at, fresh, Path, nothing, uses, moves, Begins, runs, refuses, passes_by, brings, passes_time, switches_off, sleeps_through_frame, sleeps_on, wakes, goes_off_asleep, goes_on_by_frame, goes_on_by_tick, goes_off, Move, Moves, rests, moves_on, passes, is_left, yields, does, leaves, jumps, finds_no_label, falls_asleep, asks_for, finds_no_route, hands, has_handed, command_record, command_records, no_route}
 use Rattle.nb_boot.specs.Laws.{IsAtRest, SameRun}
 
 -- records, and where they lead
@@ -25,30 +25,33 @@ reached records machine = record { records = records; machine = machine }
 
 -- what a run does next, as a function
 abbrev outcome_move : ℕ → World → Running → List (List ℕ) → CommandOutcome → Bool → Reached
-outcome_move n w s ws o true = reached (command_records s ws o ++ (leave s.depth o.cause ∷ [])) (at n (left o.cause))
-outcome_move n w s ws o false = reached (command_records s ws o) (at n (running w (further s o.cause)))
+outcome_move n w s ws o true = reached (command_records s (shown_words w.state.table ws) o ++ (leave s.depth o.cause ∷ [])) (at n (left o.cause))
+outcome_move n w s ws o false =
+    reached (command_records s (shown_words w.state.table ws) o) (at n (running (world_with_table w (table_after w.state.table ws)) (further s o.cause)))
 
 abbrev label_move : ℕ → World → Running → List (List ℕ) → Option ℕ → Reached
-label_move n w s ws None = reached (command_records s ws (refused no_label)) (at n (running w (further s no_label)))
-label_move n w s ws (Some line) = reached (command_records s ws (refused ok)) (at n (running w (behind_line s line)))
+label_move n w s ws None = reached (command_records s (shown_words w.state.table ws) (refused no_label)) (at n (running w (further s no_label)))
+label_move n w s ws (Some line) = reached (command_records s (shown_words w.state.table ws) (refused ok)) (at n (running w (behind_line s line)))
 
 abbrev route_move : ℕ → World → Running → List (List ℕ) → Wanted → Bool → Reached
 route_move n w s ws wanted true =
-    reached (command_record s ws ∷ opened_record w wanted ∷ send_records w.net w.opens (Some 1) (request_of (begun_for w wanted)))
+    reached (command_record s (shown_words w.state.table ws) ∷ opened_record w wanted ∷ send_records w.net w.opens (Some 1) (request_of (begun_for w wanted)))
     (at n (waiting (with_open w) (entered s) (open_for w wanted)))
 route_move n w s ws wanted false =
-    reached (command_record s ws ∷ opened_record w wanted ∷ ended w.opens (no_route wanted.target.server) ∷ conclusion_records (fails (no_route wanted.target.server)))
+    reached (command_record s (shown_words w.state.table ws) ∷ opened_record w wanted ∷ ended w.opens (no_route wanted.target.server) ∷ conclusion_records (fails (no_route wanted.target.server)))
     (at n (running (with_ended_open w) (further s (no_route wanted.target.server))))
 
 abbrev effect_move : ℕ → World → Running → List (List ℕ) → Effect → Reached
 effect_move n w s ws (says o) = outcome_move n w s ws o o.leaves
 effect_move n w s ws (asks wanted) = route_move n w s ws wanted (has_route w.net (request_of (begun_for w wanted)))
 effect_move n w s ws (goes name) = label_move n w s ws (label_place name s.code)
+effect_move n w s ws (sleeps seconds) =
+    reached (command_record s (shown_words w.state.table ws) ∷ []) (at n (sleeping w (entered s) (w.time + 1000 * seconds)))
 
 -- whether the step has had all its commands
 abbrev full_move : ℕ → World → Running → List (List ℕ) → Bool → Reached
 full_move n w s ws true = reached [] (at n (yielded w s))
-full_move n w s ws false = effect_move n w s ws (effect w.opens ws)
+full_move n w s ws false = effect_move n w s ws (effect w.opens w.state.table ws)
 
 abbrev coming_move : ℕ → World → Running → Coming → Reached
 coming_move n w s (passing t) = reached [] (at n (running w t))
@@ -63,6 +66,7 @@ abbrev phase_move : ℕ → Phase → Option Reached
 phase_move n ready = None
 phase_move n (running w s) = Some (coming_move n w s (coming s))
 phase_move n (waiting w s o) = None
+phase_move n (sleeping w s until) = None
 phase_move n (yielded w s) = None
 phase_move n (handing rest) = Some (hand_move n rest)
 phase_move n (left cause) = None
@@ -76,7 +80,7 @@ not_full : (n : ℕ) → n < 4096 → (n == 4096) ≡ false
 not_full n h = ne_eqb n 4096 (λ e. omega (arith, h, e))
 
 -- a command that begins
-begun_move : (n : ℕ) (w : World) (s : Running) (c : List ℕ) (cs : List (List ℕ)) (x : Effect) → coming s ≡ beginning c cs → s.begun < 4096 → effect w.opens (c ∷ cs) ≡ x →
+begun_move : (n : ℕ) (w : World) (s : Running) (c : List ℕ) (cs : List (List ℕ)) (x : Effect) → coming s ≡ beginning c cs → s.begun < 4096 → effect w.opens w.state.table (c ∷ cs) ≡ x →
     coming_move n w s (coming s) ≡ effect_move n w s (c ∷ cs) x
 begun_move n w s c cs x h early e =
     ap (λ y. coming_move n w s y) h ∙ ap (λ b. full_move n w s (c ∷ cs) b) (not_full s.begun early) ∙ ap (λ y. effect_move n w s (c ∷ cs) y) e
@@ -90,39 +94,36 @@ move_is m a m' (does n w s c cs o h early e k) = ap (λ x. Some x) (begun_move n
 move_is m a m' (leaves n w s c cs o h early e k) = ap (λ x. Some x) (begun_move n w s c cs (says o) h early e) ∙ ap (λ b. Some (outcome_move n w s (c ∷ cs) o b)) k
 move_is m a m' (jumps n w s c cs name line h early e k) = ap (λ x. Some x) (begun_move n w s c cs (goes name) h early e) ∙ ap (λ l. Some (label_move n w s (c ∷ cs) l)) k
 move_is m a m' (finds_no_label n w s c cs name h early e k) = ap (λ x. Some x) (begun_move n w s c cs (goes name) h early e) ∙ ap (λ l. Some (label_move n w s (c ∷ cs) l)) k
+move_is m a m' (falls_asleep n w s c cs seconds h early e) = ap (λ x. Some x) (begun_move n w s c cs (sleeps seconds) h early e)
 move_is m a m' (asks_for n w s c cs wanted h early e k) = ap (λ x. Some x) (begun_move n w s c cs (asks wanted) h early e) ∙ ap (λ b. Some (route_move n w s (c ∷ cs) wanted b)) k
 move_is m a m' (finds_no_route n w s c cs wanted h early e k) = ap (λ x. Some x) (begun_move n w s c cs (asks wanted) h early e) ∙ ap (λ b. Some (route_move n w s (c ∷ cs) wanted b)) k
 move_is m a m' (hands n r rest) = refl
 move_is m a m' (has_handed n) = refl
 
--- moves one after another, the first in front
-pub data Goes : Machine → List Out → Machine → Type 0 where
-  stays : (m : Machine) → Goes m [] m
-  first : (m mid m' : Machine) (a outs : List Out) → Move m a mid → Goes mid outs m' → Goes m (a ++ outs) m'
-
 -- one move more at the end
-pub goes_then : (m m1 m2 : Machine) (outs a : List Out) → Goes m outs m1 → Move m1 a m2 → Goes m (outs ++ a) m2
-goes_then m m1 m2 outs a (stays _) v = subst (λ xs. Goes m xs m2) (append-nil a) (first m m2 m2 a [] v (stays m2))
-goes_then m m1 m2 outs a (first _ mid _ b rest u g) v =
-    subst (λ xs. Goes m xs m2) (sym (append_assoc b rest a)) (first m mid m2 b (rest ++ a) u (goes_then mid m1 m2 rest a g v))
+pub goes_then : (m m1 m2 : Machine) (outs a : List Out) → Moves m outs m1 → Move m1 a m2 → Moves m (outs ++ a) m2
+goes_then m m1 m2 outs a (rests _) v = subst (λ xs. Moves m xs m2) (append-nil a) (moves_on m m2 m2 a [] v (rests m2))
+goes_then m m1 m2 outs a (moves_on _ mid _ b rest u g) v =
+    subst (λ xs. Moves m xs m2) (sym (append_assoc b rest a)) (moves_on m mid m2 b (rest ++ a) u (goes_then mid m1 m2 rest a g v))
 
 record FirstMove (m : Machine) (outs : List Out) (m2 : Machine) : Type 0 where
   a : List Out
   rest : List Out
   mid : Machine
   does_first : Move m a mid
-  then_goes : Goes mid rest m2
+  then_goes : Moves mid rest m2
   whole : outs ≡ a ++ rest
 
-goes_cases : (m m2 : Machine) (outs : List Out) → Goes m outs m2 → ((outs ≡ []) × (m ≡ m2)) ⊎ FirstMove m outs m2
-goes_cases m m2 outs (stays _) = inl (refl, refl)
-goes_cases m m2 outs (first _ mid _ a rest v g) = inr (record { a = a; rest = rest; mid = mid; does_first = v; then_goes = g; whole = refl })
+goes_cases : (m m2 : Machine) (outs : List Out) → Moves m outs m2 → ((outs ≡ []) × (m ≡ m2)) ⊎ FirstMove m outs m2
+goes_cases m m2 outs (rests _) = inl (refl, refl)
+goes_cases m m2 outs (moves_on _ mid _ a rest v g) = inr (record { a = a; rest = rest; mid = mid; does_first = v; then_goes = g; whole = refl })
 
 -- a machine at rest doesn't move
 rest_still : (phase : Phase) (n : ℕ) → IsAtRest phase → phase_move n phase ≡ None
 rest_still ready n o = absurd o
 rest_still (running w s) n o = absurd o
 rest_still (waiting w s x) n o = refl
+rest_still (sleeping w s until) n o = refl
 rest_still (yielded w s) n o = refl
 rest_still (handing rest) n o = absurd o
 rest_still (left cause) n o = refl
@@ -146,19 +147,19 @@ unfolding reached_in
 same_reached x y e = ap (reached_in x) e
 
 -- two runs of moves that come to rest are one
-pub one_way : (m m1 : Machine) (outs : List Out) → Goes m outs m1 → IsAtRest m1.phase → (m2 : Machine) (outs' : List Out) → Goes m outs' m2 → IsAtRest m2.phase →
+pub one_way : (m m1 : Machine) (outs : List Out) → Moves m outs m1 → IsAtRest m1.phase → (m2 : Machine) (outs' : List Out) → Moves m outs' m2 → IsAtRest m2.phase →
     SameRun outs outs' m1 m2
-one_way m m1 outs (stays _) o m2 outs' g p =
+one_way m m1 outs (rests _) o m2 outs' g p =
     elim (goes_cases m m2 outs' g) [
       | inl e ↦ record { records = sym e.0; state = e.1 }
       | inr f ↦ absurd (no_move m f.a f.mid (rest_still m.phase m.used o) f.does_first)
     ]
-one_way m m1 outs (first _ mid _ a rest v h) o m2 outs' g p =
+one_way m m1 outs (moves_on _ mid _ a rest v h) o m2 outs' g p =
     elim (goes_cases m m2 outs' g) [
       | inl e ↦ absurd (no_move m a mid (rest_still m.phase m.used (subst (λ x. IsAtRest x.phase) (sym e.1) p)) v)
       | inr f ↦
           let same = same_reached (reached a mid) (reached f.a f.mid) (one_move m a f.a mid f.mid v f.does_first) in
-          let there : Goes mid f.rest m2 = subst (λ x. Goes x f.rest m2) (sym (ap (λ (r : Reached). r.machine) same)) f.then_goes in
+          let there : Moves mid f.rest m2 = subst (λ x. Moves x f.rest m2) (sym (ap (λ (r : Reached). r.machine) same)) f.then_goes in
           let rest_same = one_way mid m1 rest h o m2 f.rest there p in
           record {
             records = ap (λ xs. xs ++ rest) (ap (λ (r : Reached). r.records) same) ∙ ap (λ xs. f.a ++ xs) rest_same.records ∙ sym f.whole;
@@ -184,7 +185,7 @@ record Behind (r : In) (outs : List Out) (m : Machine) : Type 0 where
   rest : List Out
   mid : Machine
   begins : Begins fresh r begun mid
-  then_goes : Goes mid rest m
+  then_goes : Moves mid rest m
   whole : outs ≡ begun ++ rest
 
 head_or : In → List In → In
@@ -206,7 +207,7 @@ path_behind ins outs m (uses ins' outs' m0 q added m' p b) r e =
       rest = [];
       mid = m;
       begins = subst (λ x. Begins x r added m) unused.is_fresh (subst (λ x. Begins m0 x added m) one.1 b);
-      then_goes = stays m;
+      then_goes = rests m;
       whole = ap (λ xs. xs ++ added) unused.none ∙ sym (append-nil added);
     }
 path_behind ins outs m (moves ins' outs' m0 added m' p v) r e =
@@ -254,6 +255,10 @@ begins_is m r added m' z (passes_by n w s o bytes reply seen net valid t h) = le
 begins_is m r added m' z (brings n w s o bytes reply seen net port body added' phase valid t h k) = let no : waiting w s o ≡ ready = ap (λ (x : Machine). x.phase) z in cc
 begins_is m r added m' z (passes_time n w s o ms added' phase valid h) = let no : waiting w s o ≡ ready = ap (λ (x : Machine). x.phase) z in cc
 begins_is m r added m' z (switches_off n w s o) = let no : waiting w s o ≡ ready = ap (λ (x : Machine). x.phase) z in cc
+begins_is m r added m' z (sleeps_through_frame n w s until bytes reply seen net valid t) = let no : sleeping w s until ≡ ready = ap (λ (x : Machine). x.phase) z in cc
+begins_is m r added m' z (sleeps_on n w s until ms valid early) = let no : sleeping w s until ≡ ready = ap (λ (x : Machine). x.phase) z in cc
+begins_is m r added m' z (wakes n w s until ms valid late) = let no : sleeping w s until ≡ ready = ap (λ (x : Machine). x.phase) z in cc
+begins_is m r added m' z (goes_off_asleep n w s until) = let no : sleeping w s until ≡ ready = ap (λ (x : Machine). x.phase) z in cc
 begins_is m r added m' z (goes_on_by_frame n w s bytes reply seen net valid t) = let no : yielded w s ≡ ready = ap (λ (x : Machine). x.phase) z in cc
 begins_is m r added m' z (goes_on_by_tick n w s ms valid) = let no : yielded w s ≡ ready = ap (λ (x : Machine). x.phase) z in cc
 begins_is m r added m' z (goes_off n w s) = let no : yielded w s ≡ ready = ap (λ (x : Machine). x.phase) z in cc
@@ -264,7 +269,7 @@ one_run_of r outs outs' m m' p q o o' =
     let b = path_behind (r ∷ []) outs m p r refl in
     let c = path_behind (r ∷ []) outs' m' q r refl in
     let same : reached b.begun b.mid ≡ reached c.begun c.mid = sym (begins_is fresh r b.begun b.mid refl b.begins) ∙ begins_is fresh r c.begun c.mid refl c.begins in
-    let there : Goes b.mid c.rest m' = subst (λ x. Goes x c.rest m') (sym (ap (λ (x : Reached). x.machine) same)) c.then_goes in
+    let there : Moves b.mid c.rest m' = subst (λ x. Moves x c.rest m') (sym (ap (λ (x : Reached). x.machine) same)) c.then_goes in
     let rest_same = one_way b.mid m b.rest b.then_goes o m' c.rest there o' in
     record {
       records = b.whole ∙ ap (λ xs. xs ++ b.rest) (ap (λ (x : Reached). x.records) same) ∙ ap (λ xs. c.begun ++ xs) rest_same.records ∙ sym c.whole;

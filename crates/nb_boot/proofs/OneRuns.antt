@@ -1,10 +1,10 @@
 -- There is at most one run of the machine on any records that comes to rest.
 use Rattle.std.proofs.Common.{◌≡◌, List, [], ◌∷◌, ◌++◌, length, refl, sym, ◌∙◌, ap, subst, arith, append_assoc, append-nil, length-append}
 use Rattle.nb_defs.specs.Records.{In, Out}
-use Rattle.nb_engine.specs.Machine.{Machine, Path, nothing, uses, moves, Begins}
+use Rattle.nb_engine.specs.Machine.{Machine, Path, nothing, uses, moves, Begins, Moves, rests}
 use Rattle.nb_boot.specs.Laws.{IsAtRest, SameRun}
 use Rattle.nb_boot.specs.Run.{Awaits}
-use Rattle.nb_boot.proofs.OneRun.{Goes, stays, goes_then, one_way, one_run_of, path_unused}
+use Rattle.nb_boot.proofs.OneRun.{goes_then, one_way, one_run_of, path_unused}
 use Rattle.nb_boot.proofs.Awaiting.{awaits_rests, begins_awaits, not_ready}
 use Rattle.nb_boot.proofs.OneStep.{begins_one}
 
@@ -17,7 +17,7 @@ record Behind (ins : List In) (r : In) (outs : List Out) (m : Machine) : Type 0 
   mid : Machine
   path : Path ins before rested
   begins : Begins rested r begun mid
-  then_goes : Goes mid rest m
+  then_goes : Moves mid rest m
   whole : outs ≡ before ++ (begun ++ rest)
 
 pub snoc_one : (xs ys : List In) (x y : In) → xs ++ x ∷ [] ≡ ys ++ y ∷ [] → (xs ≡ ys) × (x ≡ y)
@@ -42,7 +42,7 @@ behind all outs m (uses ins' outs' m0 q added m' p b) ins r e =
       mid = m;
       path = subst (λ z. Path z outs' m0) k.0 p;
       begins = subst (λ z. Begins m0 z added m) k.1 b;
-      then_goes = stays m;
+      then_goes = rests m;
       whole = ap (λ z. outs' ++ z) (sym (append-nil added));
     }
 behind all outs m (moves ins' outs' m0 added m' p v) ins r e =
@@ -76,7 +76,7 @@ more_one x xs r one outs outs' m m' p q o o' =
     let wc = waits_behind x xs r c.before c.rested c.mid c.begun c.path c.begins in
     let same = one b.before c.before b.rested c.rested b.path c.path (awaits_rests b.rested.phase wb) (awaits_rests c.rested.phase wc) in
     let steps = begins_one b.rested r b.begun c.begun b.mid c.mid wb b.begins (subst (λ z. Begins z r c.begun c.mid) (sym same.state) c.begins) in
-    let there : Goes b.mid c.rest m' = subst (λ z. Goes z c.rest m') (sym steps.machines) c.then_goes in
+    let there : Moves b.mid c.rest m' = subst (λ z. Moves z c.rest m') (sym steps.machines) c.then_goes in
     let last = one_way b.mid m b.rest b.then_goes o m' c.rest there o' in
     record {
       records = b.whole ∙ ap (λ z. z ++ (b.begun ++ b.rest)) same.records ∙ ap (λ z. c.before ++ (z ++ b.rest)) steps.records ∙ ap (λ z. c.before ++ (c.begun ++ z)) last.records ∙ sym c.whole;

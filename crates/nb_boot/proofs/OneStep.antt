@@ -1,14 +1,15 @@
 -- A record begins one step.
-use Rattle.std.proofs.Common.{◌≡◌, ℕ, ◌+◌, List, [], ◌∷◌, Option, Some, None, refl, sym, ◌∙◌, ap, subst}
+use Rattle.std.proofs.Common.{◌≡◌, ℕ, ◌+◌, ◌<◌, ◌≤◌, arith, List, [], ◌∷◌, Option, Some, None, refl, sym, ◌∙◌, ap, subst}
 use Rattle.nb_tftp.specs.History.{Call, came, ticked}
 use Rattle.nb_stack.specs.Client.{Client}
 use Rattle.nb_stack.specs.Takes.{Outcome, Takes}
-use Rattle.nb_defs.specs.Records.{In, start, frame, tick, off, Out, step, ended}
+use Rattle.nb_defs.specs.Records.{In, start, frame, tick, off, Out, step, ended, result}
 use Rattle.nb_engine.specs.declared.world.World.{World}
 use Rattle.nb_engine.specs.World.{with_net, world_later}
 use Rattle.nb_engine.specs.Opens.{Open, heard_from}
-use Rattle.nb_engine.specs.Running.{Running, anew}
-use Rattle.nb_engine.specs.Machine.{Machine, Phase, ready, running, waiting, yielded, handing, left, handed_off, stopped, at, Begins, runs, refuses, passes_by, brings, passes_time, switches_off, goes_on_by_frame, goes_on_by_tick, goes_off, Hears, reply_records, stopped_cause}
+use Rattle.nb_defs.specs.Causes.{ok}
+use Rattle.nb_engine.specs.Running.{Running, anew, with_result}
+use Rattle.nb_engine.specs.Machine.{Machine, Phase, ready, running, waiting, sleeping, yielded, handing, left, handed_off, stopped, at, Begins, runs, refuses, passes_by, brings, passes_time, switches_off, sleeps_through_frame, sleeps_on, wakes, goes_off_asleep, goes_on_by_frame, goes_on_by_tick, goes_off, Hears, reply_records, stopped_cause}
 use Rattle.nb_boot.specs.Run.{Awaits}
 use Rattle.nb_boot.proofs.OneAnswer.{takes_one, hears_one}
 
@@ -67,6 +68,10 @@ waits_by m r a m' (switches_off k v i x) n w s o e =
     let z : waiting v i x ≡ waiting w s o = ap (λ (y : Machine). y.phase) e in
     let ex : x ≡ o = cc in
     was_off refl (ap (λ y. step (y + 1) ∷ ended x.number stopped_cause ∷ []) ek ∙ ap (λ y. step (n + 1) ∷ ended y.number stopped_cause ∷ []) ex) (ap (λ y. at (y + 1) stopped) ek)
+waits_by m r a m' (sleeps_through_frame k v i until bytes reply seen net valid t) n w s o e = let z : sleeping v i until ≡ waiting w s o = ap (λ (x : Machine). x.phase) e in absurd (cc)
+waits_by m r a m' (sleeps_on k v i until ms valid early) n w s o e = let z : sleeping v i until ≡ waiting w s o = ap (λ (x : Machine). x.phase) e in absurd (cc)
+waits_by m r a m' (wakes k v i until ms valid late) n w s o e = let z : sleeping v i until ≡ waiting w s o = ap (λ (x : Machine). x.phase) e in absurd (cc)
+waits_by m r a m' (goes_off_asleep k v i until) n w s o e = let z : sleeping v i until ≡ waiting w s o = ap (λ (x : Machine). x.phase) e in absurd (cc)
 waits_by m r a m' (goes_on_by_frame k v i bytes reply seen net valid t) n w s o e = let z : yielded v i ≡ waiting w s o = ap (λ (x : Machine). x.phase) e in absurd (cc)
 waits_by m r a m' (goes_on_by_tick k v i ms valid) n w s o e = let z : yielded v i ≡ waiting w s o = ap (λ (x : Machine). x.phase) e in absurd (cc)
 waits_by m r a m' (goes_off k v i) n w s o e = let z : yielded v i ≡ waiting w s o = ap (λ (x : Machine). x.phase) e in absurd (cc)
@@ -85,6 +90,10 @@ resumes_by m r a m' (passes_by k v i x bytes reply seen net valid t h) n w s e =
 resumes_by m r a m' (brings k v i x bytes reply seen net port body added phase valid t h g) n w s e = let z : waiting v i x ≡ yielded w s = ap (λ (y : Machine). y.phase) e in absurd (cc)
 resumes_by m r a m' (passes_time k v i x ms added phase valid g) n w s e = let z : waiting v i x ≡ yielded w s = ap (λ (y : Machine). y.phase) e in absurd (cc)
 resumes_by m r a m' (switches_off k v i x) n w s e = let z : waiting v i x ≡ yielded w s = ap (λ (y : Machine). y.phase) e in absurd (cc)
+resumes_by m r a m' (sleeps_through_frame k v i until bytes reply seen net valid t) n w s e = let z : sleeping v i until ≡ yielded w s = ap (λ (y : Machine). y.phase) e in absurd (cc)
+resumes_by m r a m' (sleeps_on k v i until ms valid early) n w s e = let z : sleeping v i until ≡ yielded w s = ap (λ (y : Machine). y.phase) e in absurd (cc)
+resumes_by m r a m' (wakes k v i until ms valid late) n w s e = let z : sleeping v i until ≡ yielded w s = ap (λ (y : Machine). y.phase) e in absurd (cc)
+resumes_by m r a m' (goes_off_asleep k v i until) n w s e = let z : sleeping v i until ≡ yielded w s = ap (λ (y : Machine). y.phase) e in absurd (cc)
 resumes_by m r a m' (goes_on_by_frame k v i bytes reply seen net valid t) n w s e =
     let ek : k ≡ n = ap (λ (y : Machine). y.used) e in
     let z : yielded v i ≡ yielded w s = ap (λ (y : Machine). y.phase) e in
@@ -100,6 +109,50 @@ resumes_by m r a m' (goes_on_by_tick k v i ms valid) n w s e =
 resumes_by m r a m' (goes_off k v i) n w s e =
     let ek : k ≡ n = ap (λ (y : Machine). y.used) e in
     by_off refl (ap (λ y. step (y + 1) ∷ []) ek) (ap (λ y. at (y + 1) stopped) ek)
+
+-- what a step that begins while a command sleeps amounts to
+data SleepsOn (n : ℕ) (w : World) (s : Running) (until : ℕ) (r : In) (a : List Out) (m : Machine) : Type 0 where
+  slept_through : (bytes reply : List ℕ) (seen : Outcome) (net : Client) → r ≡ frame bytes → Takes w.net bytes seen [] reply net →
+      a ≡ step (n + 1) ∷ reply_records reply → m ≡ at (n + 1) (sleeping (with_net w net) (anew s) until) → SleepsOn n w s until r a m
+  slept_on : (ms : ℕ) → r ≡ tick ms → w.time + ms < until → a ≡ step (n + 1) ∷ [] → m ≡ at (n + 1) (sleeping (world_later w ms) (anew s) until) → SleepsOn n w s until r a m
+  was_woken : (ms : ℕ) → r ≡ tick ms → until ≤ w.time + ms → a ≡ step (n + 1) ∷ result ok ∷ [] →
+      m ≡ at (n + 1) (running (world_later w ms) (with_result (anew s) ok)) → SleepsOn n w s until r a m
+  was_off_asleep : r ≡ off → a ≡ step (n + 1) ∷ [] → m ≡ at (n + 1) stopped → SleepsOn n w s until r a m
+
+sleeps_by : (m : Machine) (r : In) (a : List Out) (m' : Machine) → Begins m r a m' → (n : ℕ) (w : World) (s : Running) (until : ℕ) → m ≡ at n (sleeping w s until) → SleepsOn n w s until r a m'
+sleeps_by m r a m' (runs k i code valid plain) n w s until e = let z : ready ≡ sleeping w s until = ap (λ (y : Machine). y.phase) e in absurd (cc)
+sleeps_by m r a m' (refuses k i cause valid plain) n w s until e = let z : ready ≡ sleeping w s until = ap (λ (y : Machine). y.phase) e in absurd (cc)
+sleeps_by m r a m' (passes_by k v i x bytes reply seen net valid t h) n w s until e = let z : waiting v i x ≡ sleeping w s until = ap (λ (y : Machine). y.phase) e in absurd (cc)
+sleeps_by m r a m' (brings k v i x bytes reply seen net port body added phase valid t h g) n w s until e = let z : waiting v i x ≡ sleeping w s until = ap (λ (y : Machine). y.phase) e in absurd (cc)
+sleeps_by m r a m' (passes_time k v i x ms added phase valid g) n w s until e = let z : waiting v i x ≡ sleeping w s until = ap (λ (y : Machine). y.phase) e in absurd (cc)
+sleeps_by m r a m' (switches_off k v i x) n w s until e = let z : waiting v i x ≡ sleeping w s until = ap (λ (y : Machine). y.phase) e in absurd (cc)
+sleeps_by m r a m' (goes_on_by_frame k v i bytes reply seen net valid t) n w s until e = let z : yielded v i ≡ sleeping w s until = ap (λ (y : Machine). y.phase) e in absurd (cc)
+sleeps_by m r a m' (goes_on_by_tick k v i ms valid) n w s until e = let z : yielded v i ≡ sleeping w s until = ap (λ (y : Machine). y.phase) e in absurd (cc)
+sleeps_by m r a m' (goes_off k v i) n w s until e = let z : yielded v i ≡ sleeping w s until = ap (λ (y : Machine). y.phase) e in absurd (cc)
+sleeps_by m r a m' (sleeps_through_frame k v i u bytes reply seen net valid t) n w s until e =
+    let ek : k ≡ n = ap (λ (y : Machine). y.used) e in
+    let z : sleeping v i u ≡ sleeping w s until = ap (λ (y : Machine). y.phase) e in
+    let ev : v ≡ w = cc in
+    let ei : i ≡ s = cc in
+    let eu : u ≡ until = cc in
+    slept_through bytes reply seen net refl (subst (λ y. Takes y.net bytes seen [] reply net) ev t) (ap (λ y. step (y + 1) ∷ reply_records reply) ek) (cc)
+sleeps_by m r a m' (sleeps_on k v i u ms valid early) n w s until e =
+    let ek : k ≡ n = ap (λ (y : Machine). y.used) e in
+    let z : sleeping v i u ≡ sleeping w s until = ap (λ (y : Machine). y.phase) e in
+    let ev : v ≡ w = cc in
+    let ei : i ≡ s = cc in
+    let eu : u ≡ until = cc in
+    slept_on ms refl (subst (λ y. w.time + ms < y) eu (subst (λ y. y.time + ms < u) ev early)) (ap (λ y. step (y + 1) ∷ []) ek) (cc)
+sleeps_by m r a m' (wakes k v i u ms valid late) n w s until e =
+    let ek : k ≡ n = ap (λ (y : Machine). y.used) e in
+    let z : sleeping v i u ≡ sleeping w s until = ap (λ (y : Machine). y.phase) e in
+    let ev : v ≡ w = cc in
+    let ei : i ≡ s = cc in
+    let eu : u ≡ until = cc in
+    was_woken ms refl (subst (λ y. y ≤ w.time + ms) eu (subst (λ y. u ≤ y.time + ms) ev late)) (ap (λ y. step (y + 1) ∷ result ok ∷ []) ek) (cc)
+sleeps_by m r a m' (goes_off_asleep k v i u) n w s until e =
+    let ek : k ≡ n = ap (λ (y : Machine). y.used) e in
+    was_off_asleep refl (ap (λ y. step (y + 1) ∷ []) ek) (ap (λ y. at (y + 1) stopped) ek)
 
 -- the bytes of a frame
 bytes_in : In → List ℕ
@@ -186,6 +239,28 @@ resumes_one n w s r a b m m' (by_off er ea em) (by_frame y reply' seen' net' fr 
 resumes_one n w s r a b m m' (by_off er ea em) (by_tick ms fr eb en) = absurd (let z : off ≡ tick ms = sym er ∙ fr in cc)
 resumes_one n w s r a b m m' (by_off er ea em) (by_off fr eb en) = record { records = ea ∙ sym eb; machines = em ∙ sym en }
 
+sleeps_one : (n : ℕ) (w : World) (s : Running) (until : ℕ) (r : In) (a b : List Out) (m m' : Machine) → SleepsOn n w s until r a m → SleepsOn n w s until r b m' → BegunOne a b m m'
+sleeps_one n w s until r a b m m' (slept_through x replyx seenx netx ex tx eax emx) (slept_through y replyy seeny nety ey ty eay emy) =
+    let k = takes_one w.net x seenx seeny replyx replyy netx nety tx (subst (λ z. Takes w.net z seeny [] replyy nety) (same_bytes r y x ey ex) ty) in
+    record { records = eax ∙ ap (λ z. step (n + 1) ∷ reply_records z) k.replies ∙ sym eay; machines = emx ∙ ap (λ z. at (n + 1) (sleeping (with_net w z) (anew s) until)) k.clients ∙ sym emy }
+sleeps_one n w s until r a b m m' (slept_through x replyx seenx netx ex tx eax emx) (slept_on y ey hy eay emy) = absurd (let z : frame x ≡ tick y = sym ex ∙ ey in cc)
+sleeps_one n w s until r a b m m' (slept_through x replyx seenx netx ex tx eax emx) (was_woken y ey hy eay emy) = absurd (let z : frame x ≡ tick y = sym ex ∙ ey in cc)
+sleeps_one n w s until r a b m m' (slept_through x replyx seenx netx ex tx eax emx) (was_off_asleep ey eay emy) = absurd (let z : frame x ≡ off = sym ex ∙ ey in cc)
+sleeps_one n w s until r a b m m' (slept_on x ex hx eax emx) (slept_through y replyy seeny nety ey ty eay emy) = absurd (let z : tick x ≡ frame y = sym ex ∙ ey in cc)
+sleeps_one n w s until r a b m m' (slept_on x ex hx eax emx) (slept_on y ey hy eay emy) =
+    record { records = eax ∙ sym eay; machines = emx ∙ ap (λ z. at (n + 1) (sleeping (world_later w z) (anew s) until)) (same_time r x y ex ey) ∙ sym emy }
+sleeps_one n w s until r a b m m' (slept_on x ex hx eax emx) (was_woken y ey hy eay emy) = let same : x ≡ y = same_time r x y ex ey in absurd (omega (arith, hx, hy, same))
+sleeps_one n w s until r a b m m' (slept_on x ex hx eax emx) (was_off_asleep ey eay emy) = absurd (let z : tick x ≡ off = sym ex ∙ ey in cc)
+sleeps_one n w s until r a b m m' (was_woken x ex hx eax emx) (slept_through y replyy seeny nety ey ty eay emy) = absurd (let z : tick x ≡ frame y = sym ex ∙ ey in cc)
+sleeps_one n w s until r a b m m' (was_woken x ex hx eax emx) (slept_on y ey hy eay emy) = let same : x ≡ y = same_time r x y ex ey in absurd (omega (arith, hx, hy, same))
+sleeps_one n w s until r a b m m' (was_woken x ex hx eax emx) (was_woken y ey hy eay emy) =
+    record { records = eax ∙ sym eay; machines = emx ∙ ap (λ z. at (n + 1) (running (world_later w z) (with_result (anew s) ok))) (same_time r x y ex ey) ∙ sym emy }
+sleeps_one n w s until r a b m m' (was_woken x ex hx eax emx) (was_off_asleep ey eay emy) = absurd (let z : tick x ≡ off = sym ex ∙ ey in cc)
+sleeps_one n w s until r a b m m' (was_off_asleep ex eax emx) (slept_through y replyy seeny nety ey ty eay emy) = absurd (let z : off ≡ frame y = sym ex ∙ ey in cc)
+sleeps_one n w s until r a b m m' (was_off_asleep ex eax emx) (slept_on y ey hy eay emy) = absurd (let z : off ≡ tick y = sym ex ∙ ey in cc)
+sleeps_one n w s until r a b m m' (was_off_asleep ex eax emx) (was_woken y ey hy eay emy) = absurd (let z : off ≡ tick y = sym ex ∙ ey in cc)
+sleeps_one n w s until r a b m m' (was_off_asleep ex eax emx) (was_off_asleep ey eay emy) = record { records = eax ∙ sym eay; machines = emx ∙ sym emy }
+
 -- a machine that waits for the next record begins one step on one record
 pub begins_one : (m : Machine) (r : In) (a b : List Out) (m1 m2 : Machine) → Awaits m.phase → Begins m r a m1 → Begins m r b m2 → BegunOne a b m1 m2
 begins_one m r a b m1 m2 k p q = go m.phase refl k
@@ -196,6 +271,9 @@ begins_one m r a b m1 m2 k p q = go m.phase refl k
     go (waiting w s o) e h =
         let is : m ≡ at m.used (waiting w s o) = ap (at m.used) e in
         waits_one m.used w s o r a b m1 m2 (waits_by m r a m1 p m.used w s o is) (waits_by m r b m2 q m.used w s o is)
+    go (sleeping w s until) e h =
+        let is : m ≡ at m.used (sleeping w s until) = ap (at m.used) e in
+        sleeps_one m.used w s until r a b m1 m2 (sleeps_by m r a m1 p m.used w s until is) (sleeps_by m r b m2 q m.used w s until is)
     go (yielded w s) e h =
         let is : m ≡ at m.used (yielded w s) = ap (at m.used) e in
         resumes_one m.used w s r a b m1 m2 (resumes_by m r a m1 p m.used w s is) (resumes_by m r b m2 q m.used w s is)

@@ -20,6 +20,7 @@ waits : (phase : Phase) (p : Standing) → StandsAs phase p → Awaits phase →
 waits lone.ready p same h = absurd h
 waits (lone.running w s) p same h = absurd h
 waits (lone.waiting w s o) p (xs, here, same) h = subst CommandWaits (sym same) tt
+waits (lone.sleeping w s until) p same h = subst CommandWaits (sym same.1) tt
 waits (lone.yielded w s) p same h = subst CommandWaits (sym same) tt
 waits (lone.handing rest) p same h = absurd h
 waits (lone.left cause) p same h = absurd h
@@ -30,6 +31,7 @@ between : (phase : Phase) (p : Standing) → StandsAs phase p → IsBetween phas
 between lone.ready p same h = subst MayGoOn (sym same) tt
 between (lone.running w s) p same h = absurd h
 between (lone.waiting w s o) p (xs, here, same) h = subst MayGoOn (sym same) tt
+between (lone.sleeping w s until) p same h = subst MayGoOn (sym same.1) tt
 between (lone.yielded w s) p same h = subst MayGoOn (sym same) tt
 between (lone.handing rest) p same h = absurd h
 between (lone.left cause) p same h = absurd h
@@ -40,6 +42,7 @@ bad : (phase : Phase) (p : Standing) (rest : List ℕ) (o : Outside) → StandsA
 bad lone.ready p rest o same h = subst (λ z. NoneMayCome z rest o) (sym same) h
 bad (lone.running w s) p rest o same h = absurd h
 bad (lone.waiting w s l) p rest o (xs, here, same) h = subst (λ z. NoneMayCome z rest o) (sym same) h
+bad (lone.sleeping w s until) p rest o same h = subst (λ z. NoneMayCome z rest o) (sym same.1) h
 bad (lone.yielded w s) p rest o same h = subst (λ z. NoneMayCome z rest o) (sym same) h
 bad (lone.handing more) p rest o same h = absurd h
 bad (lone.left cause) p rest o same h = absurd h

@@ -29,6 +29,7 @@ shuts_by (lone.waiting w s o) p es a (xs, here, same) =
       is_over (live_of o xs) [] [] (bare w.net) (ended o.number stopped_cause ∷ []) [] [] stopped_cause refl (keeps_now o (xs ++ x ∷ []) now a.1.begins)
           (ap (λ b. cond b (Some stopped_cause) None) (same_number o.number)) all_have,
     )
+shuts_by (lone.sleeping w s until) p es a same = subst (λ z. Shuts z []) (sym same.1) ([], all_have)
 shuts_by (lone.yielded w s) p es a same = subst (λ z. Shuts z []) (sym same) ([], all_have)
 shuts_by (lone.handing rest) p es a (s, none, same) = subst (λ z. Shuts z []) (sym same) (none_close s none)
 shuts_by (lone.left cause) p es a (s, none, same) = subst (λ z. Shuts z []) (sym same) (none_close s none)

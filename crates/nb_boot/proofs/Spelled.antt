@@ -7,7 +7,7 @@ use Rattle.nb_engine.specs.declared.world.World.{World}
 use Rattle.nb_engine.specs.Opens.{Open, with_entry}
 use Rattle.nb_engine.specs.Conclusions.{Conclusion, keeps, fails, boots}
 use Rattle.nb_engine.specs.Running.{Running}
-use Rattle.nb_engine.specs.Machine.{Machine, Phase, ready, running, waiting, yielded, handing, left, handed_off, stopped, phase_after, concluded, Hears, goes_on, is_over, Path, nothing, uses, moves, Begins, runs, refuses, passes_by, brings, passes_time, switches_off, goes_on_by_frame, goes_on_by_tick, goes_off, Move, passes, is_left, yields, does, leaves, jumps, finds_no_label, asks_for, finds_no_route, hands, has_handed}
+use Rattle.nb_engine.specs.Machine.{Machine, Phase, ready, running, waiting, sleeping, yielded, handing, left, handed_off, stopped, phase_after, concluded, Hears, goes_on, is_over, Path, nothing, uses, moves, Begins, runs, refuses, passes_by, brings, passes_time, switches_off, sleeps_through_frame, sleeps_on, wakes, goes_off_asleep, goes_on_by_frame, goes_on_by_tick, goes_off, Move, passes, is_left, yields, does, leaves, jumps, finds_no_label, falls_asleep, asks_for, finds_no_route, hands, has_handed}
 use Rattle.nb_engine.specs.World.{unbound}
 use Rattle.nb_boot.specs.Complete.{AreOthers}
 
@@ -27,6 +27,10 @@ begins_in m r added m' (passes_by n w s o bytes reply seen net valid t h) = vali
 begins_in m r added m' (brings n w s o bytes reply seen net port body added' phase valid t h k) = valid
 begins_in m r added m' (passes_time n w s o ms added' phase valid h) = valid
 begins_in m r added m' (switches_off n w s o) = tt
+begins_in m r added m' (sleeps_through_frame n w s until bytes reply seen net valid t) = valid
+begins_in m r added m' (sleeps_on n w s until ms valid early) = valid
+begins_in m r added m' (wakes n w s until ms valid late) = valid
+begins_in m r added m' (goes_off_asleep n w s until) = tt
 begins_in m r added m' (goes_on_by_frame n w s bytes reply seen net valid t) = valid
 begins_in m r added m' (goes_on_by_tick n w s ms valid) = valid
 begins_in m r added m' (goes_off n w s) = tt
@@ -42,6 +46,7 @@ abbrev pub HasUsed : ℕ → Phase → Type 0
 HasUsed n ready = n ≡ 0
 HasUsed n (running w s) = 0 < n
 HasUsed n (waiting w s o) = 0 < n
+HasUsed n (sleeping w s until) = 0 < n
 HasUsed n (yielded w s) = 0 < n
 HasUsed n (handing rest) = 0 < n
 HasUsed n (left cause) = 0 < n
@@ -65,6 +70,10 @@ begins_used m r added m' (passes_by n w s o bytes reply seen net valid t h) = om
 begins_used m r added m' (brings n w s o bytes reply seen net port body added' phase valid t h k) = hears_used (n + 1) _ _ _ _ _ phase k (omega arith)
 begins_used m r added m' (passes_time n w s o ms added' phase valid h) = hears_used (n + 1) _ _ _ _ _ phase h (omega arith)
 begins_used m r added m' (switches_off n w s o) = omega arith
+begins_used m r added m' (sleeps_through_frame n w s until bytes reply seen net valid t) = omega arith
+begins_used m r added m' (sleeps_on n w s until ms valid early) = omega arith
+begins_used m r added m' (wakes n w s until ms valid late) = omega arith
+begins_used m r added m' (goes_off_asleep n w s until) = omega arith
 begins_used m r added m' (goes_on_by_frame n w s bytes reply seen net valid t) = omega arith
 begins_used m r added m' (goes_on_by_tick n w s ms valid) = omega arith
 begins_used m r added m' (goes_off n w s) = omega arith
@@ -77,6 +86,7 @@ move_used m added m' (does n w s x xs o h early k l) u = u
 move_used m added m' (leaves n w s x xs o h early k l) u = u
 move_used m added m' (jumps n w s x xs name line h early k l) u = u
 move_used m added m' (finds_no_label n w s x xs name h early k l) u = u
+move_used m added m' (falls_asleep n w s x xs seconds h early k) u = u
 move_used m added m' (asks_for n w s x xs wanted h early k l) u = u
 move_used m added m' (finds_no_route n w s x xs wanted h early k l) u = u
 move_used m added m' (hands n r rest) u = u

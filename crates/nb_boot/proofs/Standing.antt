@@ -5,7 +5,7 @@ use Rattle.nb_record.specs.Outside.{Outside, IsAtEnd}
 use Rattle.nb_record.specs.Logged.{Logged}
 use Rattle.nb_laws.proofs.Counts.{path_counts}
 use Rattle.nb_engine.specs.Machine.{Machine, shutdown_records, stopped_cause}
-use Rattle.nb_engine.specs.Seen.{Seen, StandsFor, as_ready, as_running, as_waiting, as_yielded, as_handing, as_left, as_handed_off, as_stopped}
+use Rattle.nb_engine.specs.Seen.{Seen, StandsFor, as_ready, as_running, as_waiting, as_sleeping, as_yielded, as_handing, as_left, as_handed_off, as_stopped}
 use Rattle.nb_engine.specs.StatusNumber.{status_number}
 use Rattle.nb_engine.specs.Turns.{IsEnd, IsResting, IsOverWith, MayUse, closing_records}
 use Rattle.nb_engine.specs.declared.stage.Stage.{Stage}
@@ -19,6 +19,7 @@ pub stands_used : (c : Seen) (m : Machine) → StandsFor c m → m.used ≡ c.us
 stands_used c m (as_ready n w) = refl
 stands_used c m (as_running n w s) = refl
 stands_used c m (as_waiting n w s f o live) = refl
+stands_used c m (as_sleeping n w s until) = refl
 stands_used c m (as_yielded n w s) = refl
 stands_used c m (as_handing n w h rest e) = refl
 stands_used c m (as_left n w cause) = refl
@@ -34,6 +35,7 @@ pub stands_awaits : (c : Seen) (m : Machine) → StandsFor c m → IsResting c.s
 stands_awaits c m (as_ready n w) h = absurd h
 stands_awaits c m (as_running n w s) h = absurd h
 stands_awaits c m (as_waiting n w s f o live) h = tt
+stands_awaits c m (as_sleeping n w s until) h = tt
 stands_awaits c m (as_yielded n w s) h = tt
 stands_awaits c m (as_handing n w x rest e) h = absurd h
 stands_awaits c m (as_left n w cause) h = absurd h
@@ -44,6 +46,7 @@ pub stands_between : (c : Seen) (m : Machine) → StandsFor c m → IsResting c.
 stands_between c m (as_ready n w) h = absurd h
 stands_between c m (as_running n w s) h = absurd h
 stands_between c m (as_waiting n w s f o live) h = tt
+stands_between c m (as_sleeping n w s until) h = tt
 stands_between c m (as_yielded n w s) h = tt
 stands_between c m (as_handing n w x rest e) h = absurd h
 stands_between c m (as_left n w cause) h = absurd h
@@ -56,6 +59,7 @@ pub stands_bad : (c : Seen) (m : Machine) (rest : List ℕ) (o : Outside) → St
 stands_bad c m rest o (as_ready n w) h b = absurd h
 stands_bad c m rest o (as_running n w s) h b = absurd h
 stands_bad c m rest o (as_waiting n w s f op live) h b = b
+stands_bad c m rest o (as_sleeping n w s until) h b = b
 stands_bad c m rest o (as_yielded n w s) h b = b
 stands_bad c m rest o (as_handing n w x left1 e) h b = absurd h
 stands_bad c m rest o (as_left n w cause) h b = absurd h
@@ -67,6 +71,7 @@ pub over_ends : (s : Status) (c : Seen) (m : Machine) (rest : List ℕ) (o : Out
 over_ends s c m rest o (as_ready n w) h = absurd h
 over_ends s c m rest o (as_running n w r) h = absurd h
 over_ends s c m rest o (as_waiting n w r f op live) h = absurd h
+over_ends s c m rest o (as_sleeping n w r until) h = absurd h
 over_ends s c m rest o (as_yielded n w r) h = absurd h
 over_ends s c m rest o (as_handing n w x left1 e) h = absurd h
 over_ends s c m rest o (as_left n w cause) h = was_left cause refl h
@@ -92,6 +97,7 @@ pub closing_is : (c : Seen) (m : Machine) (number : ℕ) → StandsFor c m → c
 closing_is c m number (as_ready n w) = refl
 closing_is c m number (as_running n w s) = refl
 closing_is c m number (as_waiting n w s f o live) = ap (λ k. ended k stopped_cause ∷ done number ∷ []) live.fetch.number
+closing_is c m number (as_sleeping n w s until) = refl
 closing_is c m number (as_yielded n w s) = refl
 closing_is c m number (as_handing n w h rest e) = refl
 closing_is c m number (as_left n w cause) = refl

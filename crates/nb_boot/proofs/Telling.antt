@@ -6,7 +6,7 @@ use Rattle.nb_defs.proofs.RecordLaws.{partial_not_whole, length-in_text}
 use Rattle.nb_record.specs.Outside.{Outside, IsAtEnd}
 use Rattle.nb_engine.specs.declared.status.Status.{Status}
 use Rattle.nb_engine.specs.declared.status.Status.TheVariants as status
-use Rattle.nb_engine.specs.Machine.{Machine, Phase, ready, running, waiting, yielded, handing, left, handed_off, stopped, Path}
+use Rattle.nb_engine.specs.Machine.{Machine, Phase, ready, running, waiting, sleeping, yielded, handing, left, handed_off, stopped, Path}
 use Rattle.nb_boot.specs.Run.{Run, Shows, IsOther, IsFirst, BeginsWith, IsBadRest, Awaits, Ends, was_left, was_handed, was_stopped, ran_out, was_bad, was_full}
 use Rattle.nb_boot.specs.Complete.{CompletesRun, SaysStatus}
 use Rattle.nb_boot.specs.Laws.{IsAtRest}
@@ -39,6 +39,7 @@ says_rests : (phase : Phase) (more : List ℕ) (number : ℕ) → SaysStatus pha
 says_rests ready more number h = absurd h
 says_rests (running w s) more number h = absurd h
 says_rests (waiting w s o) more number h = tt
+says_rests (sleeping w s until) more number h = tt
 says_rests (yielded w s) more number h = tt
 says_rests (handing rest) more number h = absurd h
 says_rests (left cause) more number h = tt
@@ -49,6 +50,7 @@ says_waits : (phase : Phase) (more : List ℕ) (number : ℕ) → Awaits phase �
 says_waits ready more number a h = absurd a
 says_waits (running w s) more number a h = absurd a
 says_waits (waiting w s o) more number a h = h
+says_waits (sleeping w s until) more number a h = h
 says_waits (yielded w s) more number a h = h
 says_waits (handing rest) more number a h = absurd a
 says_waits (left cause) more number a h = absurd a
@@ -59,6 +61,7 @@ bad_waits : (phase : Phase) (rest : List ℕ) (o : Outside) → Awaits phase →
 bad_waits ready rest o a b = absurd a
 bad_waits (running w s) rest o a b = absurd a
 bad_waits (waiting w s x) rest o a b = b
+bad_waits (sleeping w s until) rest o a b = b
 bad_waits (yielded w s) rest o a b = b
 bad_waits (handing more) rest o a b = absurd a
 bad_waits (left cause) rest o a b = absurd a

@@ -2,7 +2,7 @@
 use Rattle.std.specs.Prelude.{◌≡◌, ℕ, ◌<◌, ◌≤◌, ◌⊎◌, List, [], ◌∷◌, ◌++◌, length}
 use Rattle.nb_terms.specs.declared.cause.Cause.{Cause}
 use Rattle.nb_defs.specs.Records.{In, start, frame, tick, off, IsIn, in_text, in_texts, IsPartial, IsBroken, Out, out_texts, done}
-use Rattle.nb_engine.specs.Machine.{Machine, Phase, ready, running, waiting, yielded, handing, left, handed_off, stopped, Path, status_of, shutdown_records}
+use Rattle.nb_engine.specs.Machine.{Machine, Phase, ready, running, waiting, sleeping, yielded, handing, left, handed_off, stopped, Path, status_of, shutdown_records}
 use Rattle.nb_engine.specs.Honesty.{Honest, HandsFiles}
 use Rattle.nb_record.specs.Outside.{Outside, Passes, Rose, IsAtEnd}
 use Rattle.nb_engine.specs.declared.status.Status.{Status}
@@ -13,6 +13,7 @@ abbrev pub Awaits : Phase → Type 0
 Awaits ready = ⊥
 Awaits (running w s) = ⊥
 Awaits (waiting w s o) = Unit {0}
+Awaits (sleeping w s until) = Unit {0}
 Awaits (yielded w s) = Unit {0}
 Awaits (handing rest) = ⊥
 Awaits (left cause) = ⊥
@@ -24,6 +25,7 @@ abbrev pub IsBetween : Phase → Type 0
 IsBetween ready = Unit {0}
 IsBetween (running w s) = ⊥
 IsBetween (waiting w s o) = Unit {0}
+IsBetween (sleeping w s until) = Unit {0}
 IsBetween (yielded w s) = Unit {0}
 IsBetween (handing rest) = ⊥
 IsBetween (left cause) = ⊥
@@ -58,6 +60,7 @@ pub record BeginsWith (bytes : List ℕ) (Kind : In → Type 0) : Type 0 where
 abbrev pub IsBadRest : Phase → List ℕ → Outside → Type 0
 IsBadRest ready rest o = IsBroken rest ⊎ (BeginsWith rest IsOther ⊎ (IsPartial rest × IsAtEnd o))
 IsBadRest (waiting w s open1) rest o = IsBroken rest ⊎ (BeginsWith rest IsFirst ⊎ (IsPartial rest × (0 < length rest) × IsAtEnd o))
+IsBadRest (sleeping w s until) rest o = IsBroken rest ⊎ (BeginsWith rest IsFirst ⊎ (IsPartial rest × (0 < length rest) × IsAtEnd o))
 IsBadRest (yielded w s) rest o = IsBroken rest ⊎ (BeginsWith rest IsFirst ⊎ (IsPartial rest × (0 < length rest) × IsAtEnd o))
 IsBadRest (running w s) rest o = ⊥
 IsBadRest (handing left1) rest o = ⊥

@@ -4,4 +4,4 @@ pub mod PositionLemmas
 pub mod PutLemmas
 pub mod OtherSettings
 pub mod OtherCommands
-pub mod SameOutcomeLemmas
+pub mod PrintedLemmas

@@ -16,4 +16,4 @@ pub mod Sleep
 pub mod Planning
 pub mod Applying
 pub mod Others
-pub mod SameOutcomes
+pub mod Printed

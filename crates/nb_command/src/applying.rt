@@ -1,9 +1,10 @@
-ghost use Rattle.std.specs.Prelude.{◌≡◌, ◌⊎◌, ℕ, List, false, Ok, Err, IfOk, IfErr, OnErr};
+ghost use Rattle.std.specs.Prelude.{◌≡◌, ◌⊎◌, ℕ, List, false, Ok, Err, IfOk, IfErr, OnErr, ◌≤◌, length};
 ghost use Rattle.std.specs.Result.{result_map_both};
 ghost use Rattle.nb_settings.specs.Tables.{own_value};
 ghost use Rattle.nb_settings.specs.declared.setting.OwnedKey.{OwnedKey};
 ghost use Rattle.nb_command.specs.Applying.{out_of_memory, truth, carried_out, applied};
 ghost use Rattle.nb_command.specs.Others.{may_change};
+ghost use Rattle.nb_command.specs.Printed.{most_printed, IfText};
 ghost use Rattle.nb_command.specs.declared.error.ApplyError.TheVariants as failure;
 ghost use Rattle.nb_command.specs.declared.outcome.Outcome.TheVariants as outcome;
 
@@ -32,6 +33,9 @@ pub fn apply(alloc: Global, p: &CommandPlan, s: &mut State) -> Result<Outcome, C
     ensures others { (block : List ℕ) (key : OwnedKey) → may_change p.now block key ≡ false
         → own_value block key s.new.table ≡ own_value block key s.old.table }
     ensures images { s.new.images ≡ s.old.images }
+    // It prints at most so many bytes, whatever the settings are.
+    ensures fits { IfOk result
+        (λ outcome. IfText outcome (λ text. length text ≤ most_printed p.now)) }
 {
     match carry_out(alloc, p, s) {
         Ok(outcome) => Ok(outcome),
@@ -45,6 +49,8 @@ fn carry_out(alloc: Global, p: &CommandPlan, s: &mut State) -> Result<Outcome, A
         (λ why. (why ≡ failure.NoMemory) ⊎ (carried_out p.now s.old ≡ Err why)) }
     ensures refused { OnErr result (s.new ≡ s.old) }
     ensures images { s.new.images ≡ s.old.images }
+    ensures fits { IfOk result
+        (λ outcome. IfText outcome (λ text. length text ≤ most_printed p.now)) }
 {
     let table = &mut s.table;
     match p {

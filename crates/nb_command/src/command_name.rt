@@ -5,7 +5,7 @@ ghost use Rattle.nb_command.specs.declared.command_name.CommandName.{CommandName
 
 /// Which command a name names.
 #[derive(Clone, Copy, Debug, PartialEq, Eq)]
-pub(crate) enum CommandName {
+pub enum CommandName {
     Echo,
     Goto,
     Exit,

@@ -27,9 +27,9 @@ impl From<NoMemory> for PlanError {
     }
 }
 
-/// Why a plan isn't carried out.
+/// Why a plan isn't carried out. `apply` answers its cause.
 #[derive(Clone, Copy, Debug, PartialEq, Eq)]
-pub(crate) enum ApplyError {
+pub enum ApplyError {
     /// It is no name of a setting, or its block isn't there.
     BadName,
     /// The value isn't one of the setting's kind.

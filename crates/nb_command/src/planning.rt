@@ -1,6 +1,7 @@
-ghost use Rattle.std.specs.Prelude.{◌≡◌, Ok, Err, IfOk, IsErrOf};
+ghost use Rattle.std.specs.Prelude.{◌≡◌, ◌≤◌, Ok, Err, IfOk, IsErrOf, length, sum_by};
 ghost use Rattle.nb_command.specs.Plans.{PlansAs};
 ghost use Rattle.nb_command.specs.Planning.{plan_named, planned};
+ghost use Rattle.nb_command.specs.Printed.{most_printed};
 
 use crate::clear::plan_clear;
 use crate::command_name::CommandName;
@@ -25,6 +26,9 @@ pub fn plan(alloc: Global, words: &[Word]) -> Result<CommandPlan, PlanError>
     // No words name no command.
     ensures unknown { IsErrOf result PlanError.Unknown → planned words.now ≡ Err PlanError.Unknown }
     ensures usage { IsErrOf result PlanError.Usage → planned words.now ≡ Err PlanError.Usage }
+    // What the command of a line prints fits a record.
+    ensures small { length words.now ≤ 64 → sum_by length words.now ≤ 4096
+        → IfOk result (λ plan. most_printed plan ≤ 4160) }
 {
     let Some((name, args)) = words.split_first() else {
         return Err(PlanError::Unknown);

@@ -1,6 +1,6 @@
 //! `show name`: prints the name and the value of a setting.
 
-ghost use Rattle.std.specs.Prelude.{◌≡◌, ◌⊎◌, ◌++◌, Ok, Err, IfOk, IfErr, codes};
+ghost use Rattle.std.specs.Prelude.{◌≡◌, ◌⊎◌, ◌++◌, ◌≤◌, ◌+◌, Ok, Err, IfOk, IfErr, codes, length};
 ghost use Rattle.nb_command.specs.Plans.{PlansAs};
 ghost use Rattle.nb_command.specs.Show.{show_plan, setting_line, setting_shown};
 ghost use Rattle.nb_command.specs.declared.error.ApplyError.TheVariants as failure;
@@ -30,6 +30,8 @@ pub(crate) fn show_setting(alloc: Global, name: &Word, table: &Table) -> Result<
     ensures ok { IfOk result (λ text. setting_shown name.now table.now ≡ Ok text) }
     ensures cause { IfErr result (λ why. (why ≡ failure.NoMemory)
         ⊎ (setting_shown name.now table.now ≡ Err why)) }
+    // A name has at most 201 bytes, and a value as text 3,108.
+    ensures fits { IfOk result (λ text. length text ≤ 3313) }
 {
     let Some(read) = Name::read(name.as_slice()) else {
         return Err(ApplyError::BadName);
@@ -39,7 +41,8 @@ pub(crate) fn show_setting(alloc: Global, name: &Word, table: &Table) -> Result<
 }
 
 fn line(alloc: Global, name: &[u8], value: &[u8]) -> Result<Text, NoMemory>
-    ensures { IfOk result (λ text. text ≡ setting_line name.now value.now) }
+    ensures value { IfOk result (λ text. text ≡ setting_line name.now value.now) }
+    ensures long { IfOk result (λ text. length text ≡ length name.now + length value.now + 4) }
 {
     let mut text = Vec::from_slice(alloc, name)?;
     text.extend_from_slice(b" = ")?;

@@ -1,12 +1,11 @@
 -- Laws of scripts: how the lines after joining stand to the lines of the text, and how large words are.
-use Rattle.std.proofs.Common.{◌≡◌, ℕ, suc, ◌+◌, ◌-◌, ◌≤◌, Bool, true, false, not, ◌&&◌, ◌||◌, cond, List, [], ◌∷◌, length, take, drop, map, filter, refl, ap, arith, nat_lt, nat_le, cond}
+use Rattle.std.proofs.Common.{◌≡◌, ℕ, suc, ◌+◌, ◌-◌, ◌≤◌, Bool, true, false, not, cond, List, [], ◌∷◌, length, take, filter, refl, arith, cond}
 use Rattle.std.specs.Prelude.{sum_by}
-use Rattle.std.specs.List.{list_all, prefix_len}
+use Rattle.std.specs.List.{prefix_len}
 use Rattle.std.proofs.lemmas.List.Sums.{sum_by-take-le, sum_by-cons}
 use Rattle.std.proofs.lemmas.List.Filters.{sum_by-filter_both}
-use Rattle.std.proofs.lemmas.Bool.Decides.{nat_tests}
-use Rattle.nb_defs.specs.ScriptText.{is_line_feed, is_blank, pieces, onto_first, without_cr, line_contents, lines, all_words, line_words, is_some_byte, is_before_comment, is_joined, ends_in_backslash, is_plain, begins_script, is_short_line, is_plain_line}
-use Rattle.nb_defs.specs.ScriptLines.{joined_onto, line_before, joined_contents, joined_lines, script_line, script_lines, script_reading, script}
+use Rattle.nb_defs.specs.ScriptText.{is_line_feed, is_blank, pieces, onto_first, without_cr, line_contents, lines, all_words, line_words, is_some_byte, is_before_comment, ends_in_backslash}
+use Rattle.nb_defs.specs.ScriptLines.{joined_onto, line_before, joined_contents, joined_lines}
 
 length_onto : (front : List ℕ) (behind : List (List ℕ)) → length (joined_onto front behind) ≡ length behind + 1
 length_onto front [] = refl
@@ -31,53 +30,6 @@ length_contents (p ∷ q ∷ ps) =
 pub length-joined_lines : (text : List ℕ) → length (joined_lines text) ≡ length (lines text)
 unfolding joined_lines lines
 length-joined_lines text = length_contents (pieces is_line_feed text)
-
-or_left : (a b : Bool) → (a || b) ≡ false → a ≡ false
-or_left true b h = h
-or_left false b h = refl
-
-or_right : (a b : Bool) → (a || b) ≡ false → b ≡ false
-or_right true b h = cc
-or_right false b h = h
-
-whole_contents : (ps : List (List ℕ)) → is_joined ps ≡ false → joined_contents ps ≡ line_contents ps
-unfolding joined_contents line_contents is_joined
-whole_contents [] h = refl
-whole_contents (p ∷ []) h = refl
-whole_contents (p ∷ q ∷ ps) h =
-    rw (or_left (ends_in_backslash (without_cr p)) (is_joined (q ∷ ps)) h)
-    (ap (λ ls. without_cr p ∷ ls) (whole_contents (q ∷ ps) (or_right (ends_in_backslash (without_cr p)) (is_joined (q ∷ ps)) h)))
-
--- where no line is joined to the next, the lines are those of the text
-pub joined_lines_whole : (text : List ℕ) → is_joined (pieces is_line_feed text) ≡ false → joined_lines text ≡ lines text
-unfolding joined_lines lines
-joined_lines_whole text h = whole_contents (pieces is_line_feed text) h
-
-and_left : (a b : Bool) → (a && b) ≡ true → a ≡ true
-and_left true b h = refl
-and_left false b h = h
-
-and_right : (a b : Bool) → (a && b) ≡ true → b ≡ true
-and_right true b h = h
-and_right false b h = cc
-
-not_true : (a : Bool) → not a ≡ true → a ≡ false
-not_true true h = cc
-not_true false h = refl
-
--- a plain text that isn't too long is a script, of the same lines
-pub plain_reads : (text : List ℕ) → is_plain text ≡ true → length text ≤ 1048576 → script_reading text ≡ script (map script_line (lines text))
-unfolding script_reading script_lines is_plain
-plain_reads text plain fits =
-    let begun = begins_script (pieces is_line_feed text) in
-    let whole = not (is_joined (pieces is_line_feed text)) in
-    let few = nat_le (length (lines text)) 4096 in
-    let short = list_all is_short_line (lines text) in
-    let four = and_left (begun && whole && few && short) (list_all is_plain_line (drop 1 (lines text))) plain in
-    let three = and_left (begun && whole && few) short four in
-    let two = and_left (begun && whole) few three in
-    let e : nat_lt 1048576 (length text) ≡ false = grind (arith, nat_tests) in
-    rw (and_left begun whole two, e, joined_lines_whole text (not_true (is_joined (pieces is_line_feed text)) (and_right begun whole two)), and_right (begun && whole && few) short four) refl
 
 onto_small : (b : ℕ) (ps : List (List ℕ)) → sum_by length (onto_first b ps) ≤ 1 + sum_by length ps
 onto_small b [] = omega arith

@@ -1,10 +1,10 @@
--- What the commands do, as a function of their words.
-use Rattle.std.specs.Prelude.{ℕ, ◌+◌, ◌*◌, Bool, true, false, not, ◌&&◌, ◌||◌, ◌==◌, nat_lt, nat_le, nat_eq, List, [], ◌∷◌, ◌++◌, length, drop, fold, Option, Some, None, if◌then◌else◌, codes}
-use Rattle.std.specs.List.{list_all, starts_with, join_with_byte}
+-- What a command comes to, and the numbers and options among its words.
+use Rattle.std.specs.Prelude.{ℕ, ◌+◌, ◌*◌, Bool, false, not, ◌&&◌, ◌||◌, ◌==◌, nat_lt, nat_eq, List, [], ◌∷◌, length, drop, fold, Option, Some, None, if◌then◌else◌, codes}
+use Rattle.std.specs.List.{list_all, starts_with}
 use Rattle.std.specs.Char.{digit_value, is_digit}
 use Rattle.std.specs.Str.{bytes_eq}
 use Rattle.nb_terms.specs.declared.cause.Cause.{Cause}
-use Rattle.nb_defs.specs.Causes.{ok, unknown, usage, exit_cause}
+use Rattle.nb_defs.specs.Causes.{ok}
 
 -- what a command comes to: what it prints, its result, and whether it leaves the script in any case
 pub record CommandOutcome : Type 0 where
@@ -44,29 +44,3 @@ is_option w = starts_with nat_eq w (codes "--")
 abbrev pub begins_with_option : List (List ℕ) → Bool
 begins_with_option [] = false
 begins_with_option (w ∷ ws) = bytes_eq w (codes "-n") || is_option w
-
--- `echo [-n] [text]`: the words joined by one space, and a line feed unless `-n`
-unfoldable pub echo : List (List ℕ) → CommandOutcome
-echo [] = prints_text (10 ∷ [])
-echo (w ∷ ws) =
-    if bytes_eq w (codes "-n") then (if begins_with_option ws then refused usage else prints_text (join_with_byte 32 ws))
-    else if is_option w then refused usage
-    else prints_text (join_with_byte 32 (w ∷ ws) ++ (10 ∷ []))
-
-abbrev pub exit_with : Option ℕ → CommandOutcome
-exit_with None = refused usage
-exit_with (Some n) = if nat_le n 255 then record { prints = None; cause = exit_cause n; leaves = true } else refused usage
-
--- `exit [n]`: leaves the script, with Ok where n is 0 or absent; n is 0 to 255
-unfoldable pub exit : List (List ℕ) → CommandOutcome
-exit [] = exit_with (Some 0)
-exit (w ∷ []) = exit_with (number_of w)
-exit (w ∷ v ∷ ws) = refused usage
-
--- what a command does, by its name
-unfoldable pub command_outcome : List (List ℕ) → CommandOutcome
-command_outcome [] = refused ok
-command_outcome (name ∷ args) =
-    if bytes_eq name (codes "echo") then echo args
-    else if bytes_eq name (codes "exit") then exit args
-    else refused unknown

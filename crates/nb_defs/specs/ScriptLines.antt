@@ -1,6 +1,6 @@
 -- Own, after the ipxe.org references on scripts: which texts are scripts, their lines as numbered, and
 -- how a list of commands is cut.
-use Rattle.std.specs.Prelude.{◌≡◌, ℕ, ◌+◌, ◌-◌, ◌≤◌, Bool, true, false, not, ◌&&◌, ◌==◌, nat_lt, nat_le, List, [], ◌∷◌, ◌++◌, length, take, drop, map, count_by, sum_by, position, slice_get, All, IfSome, Option, Some, None, if◌then◌else◌, codes}
+use Rattle.std.specs.Prelude.{◌≡◌, ℕ, ◌+◌, ◌-◌, ◌≤◌, Bool, true, false, not, ◌&&◌, ◌||◌, ◌==◌, nat_lt, nat_le, List, [], ◌∷◌, ◌++◌, length, take, drop, map, count_by, sum_by, position, slice_get, All, IfSome, Option, Some, None, if◌then◌else◌, codes}
 use Rattle.std.specs.List.{list_all, position_or_len, suffix_len}
 use Rattle.std.specs.Str.{bytes_eq}
 use Rattle.nb_defs.specs.ScriptText.{is_line_feed, is_blank, pieces, without_cr, ends_in_backslash, begins_script, is_short_line, line_words, is_label, is_join}
@@ -163,3 +163,37 @@ are_few ws = nat_le (count_by is_no_join ws) 64 && nat_le (count_by is_join ws) 
 -- the commands of a list, its comment dropped; None where it has too many words or joins
 unfoldable pub items : List ℕ → Option (List Item)
 items line = if are_few (line_words line) then Some (cut_words first_join (line_words line)) else None
+
+abbrev pub is_or_join : Join → Bool
+is_or_join first_join = false
+is_or_join and_join = false
+is_or_join or_join = true
+is_or_join then_join = false
+
+abbrev pub is_no_word : List (List ℕ) → Bool
+is_no_word [] = true
+is_no_word (word ∷ ws) = false
+
+abbrev pub has_no_words : Item → Bool
+has_no_words i = is_no_word i.words
+
+-- a command that comes to nothing after a success: it has no words, or runs after a failure alone
+abbrev pub is_idle_item : Item → Bool
+is_idle_item i = is_or_join i.join || has_no_words i
+
+-- whether all commands of a list come to nothing: the first has no words, which is a success, and each
+-- of the others comes to nothing after one
+unfoldable pub is_idle_list : List Item → Bool
+is_idle_list [] = true
+is_idle_list (i ∷ others) = has_no_words i && list_all is_idle_item others
+
+-- the same of a list as it was cut: one with too many words or joins is refused, so it isn't idle
+abbrev pub is_idle_cut : Option (List Item) → Bool
+is_idle_cut None = false
+is_idle_cut (Some cut) = is_idle_list cut
+
+-- whether nothing is to be done on a line: it is a label, nothing, or a list that comes to nothing
+abbrev pub is_idle_line : Line → Bool
+is_idle_line (label name) = true
+is_idle_line (list text) = is_idle_cut (items text)
+is_idle_line empty = true

@@ -1,6 +1,6 @@
 -- The text of a script, as a function of the whole text: its lines, their words, and which texts run today.
 use Rattle.std.specs.Prelude.{ℕ, Bool, true, false, not, ◌&&◌, ◌||◌, ◌==◌, nat_lt, nat_le, nat_eq, List, [], ◌∷◌, length, drop, filter, take_while, if◌then◌else◌, codes}
-use Rattle.std.specs.List.{list_any, list_all, starts_with}
+use Rattle.std.specs.List.{list_all, starts_with}
 use Rattle.std.specs.Str.{bytes_eq}
 
 abbrev pub is_line_feed : ℕ → Bool
@@ -64,23 +64,11 @@ is_label line = is_label_word (all_words line)
 abbrev pub is_join : List ℕ → Bool
 is_join w = bytes_eq w (codes "&&") || bytes_eq w (codes "||") || bytes_eq w (codes ";")
 
--- whether `${` stands in a line
-unfoldable pub has_expansion : List ℕ → Bool
-has_expansion [] = false
-has_expansion (b ∷ bytes) = starts_with nat_eq (b ∷ bytes) (codes "${") || has_expansion bytes
-
 -- whether the last byte is a backslash
 unfoldable pub ends_in_backslash : List ℕ → Bool
 ends_in_backslash [] = false
 ends_in_backslash (b ∷ []) = b == 92
 ends_in_backslash (b ∷ c ∷ bytes) = ends_in_backslash (c ∷ bytes)
-
--- whether a line is joined to the next: a backslash stands directly before its end. At the text's end
--- a backslash is a character.
-unfoldable pub is_joined : List (List ℕ) → Bool
-is_joined [] = false
-is_joined (p ∷ []) = false
-is_joined (p ∷ q ∷ ps) = ends_in_backslash (without_cr p) || is_joined (q ∷ ps)
 
 -- `#!ipxe`, then blanks, then at most one carriage return
 unfoldable pub is_first_line : List ℕ → Bool
@@ -90,17 +78,5 @@ abbrev pub begins_script : List (List ℕ) → Bool
 begins_script [] = false
 begins_script (p ∷ ps) = is_first_line p
 
--- a line that runs today: one command or nothing, its comment aside
-unfoldable pub is_plain_line : List ℕ → Bool
-is_plain_line line = not (has_expansion line) && not (is_label line) && nat_le (length (line_words line)) 64 && not (list_any is_join (line_words line))
-
 abbrev pub is_short_line : List ℕ → Bool
 is_short_line line = nat_le (length line) 4096
-
--- a text that runs today
-unfoldable pub is_plain : List ℕ → Bool
-is_plain bytes = begins_script (pieces is_line_feed bytes)
-    && not (is_joined (pieces is_line_feed bytes))
-    && nat_le (length (lines bytes)) 4096
-    && list_all is_short_line (lines bytes)
-    && list_all is_plain_line (drop 1 (lines bytes))

@@ -1,18 +1,18 @@
 -- What a script comes to next, case by case.
-use Rattle.std.specs.Prelude.{IfSome}
-use Rattle.std.specs.List.{list_any}
-use Rattle.std.proofs.lemmas.List.{drop_more}
-use Rattle.std.proofs.lemmas.Option.{slice_get-get_or}
+use Rattle.std.specs.Prelude.{IfSome, IfOk}
 use Rattle.std.proofs.lemmas.List.Quantifiers.{position-Some}
-use Rattle.nb_engine.specs.FirstText.{has_parts, has_parts_in}
-use Rattle.std.proofs.Common.{◌≡◌, ℕ, ◌+◌, ◌||◌, ◌<◌, ◌≤◌, ◌==◌, length, true, false, cond, List, [], ◌∷◌, Option, Some, None, slice_get, drop, arith, refl, sym, ◌∙◌, ap, subst}
+use Rattle.std.proofs.Common.{◌≡◌, ℕ, ◌<◌, ◌≤◌, ◌==◌, length, true, false, cond, List, [], ◌∷◌, Option, Some, None, Result, Ok, Err, slice_get, drop, arith, refl, sym, ◌∙◌, ap, subst}
 use Rattle.std.specs.Prelude.{slice_index_or, All}
 use Rattle.nb_defs.specs.Causes.{is_ok_cause}
 use Rattle.nb_defs.specs.ScriptLines.{Item, Line, label, list, empty, items, label_place, is_label_of}
 use Rattle.nb_script.specs.declared.item.Item.{Item as ItemHeld}
 use Rattle.nb_script.specs.Shown.{FitList, IsSmallItem}
-use Rattle.nb_engine.specs.Running.{Running, coming, Coming, passing, leaving, beginning, rest_comes, line_comes, list_comes, words_come, lets_run, behind_command, onto_line}
-use Rattle.nb_engine.specs.NextCommand.{list_of}
+use Rattle.nb_engine.specs.Running.{Running, coming, passing, leaving, beginning, rest_comes, line_comes, list_comes, words_come, lets_run, behind_command, onto_line}
+use Rattle.nb_settings.specs.Tables.{TableLists}
+use Rattle.nb_engine.specs.Effects.{expansion}
+use Rattle.nb_engine.specs.declared.running.Next.{Next}
+use Rattle.nb_engine.specs.declared.running.Next.TheVariants as next
+use Rattle.nb_engine.specs.NextCommand.{IsReady, IsExpansion, IsNext, list_of}
 
 -- a label's line is one of the script's
 pub label_within : (name : List ℕ) (code : List Line) → IfSome (label_place name code) (λ line. line < length code)
@@ -29,12 +29,6 @@ label_small name code few = less (label_place name code) (label_within name code
     less : (o : Option ℕ) → IfSome o (λ line. line < length code) → IfSome o (λ line. line < 1048576)
     less None h = tt
     less (Some i) h = omega (arith, h, few)
-
--- whether a list has a `${`, from a line on
-pub expands_at : (code : List Line) (i : ℕ) → i < length code → list_any has_parts (drop i code) ≡ (has_parts_in (slice_get code i) || list_any has_parts (drop (i + 1) code))
-expands_at code i h =
-    ap (list_any has_parts) (drop_more code i empty h)
-    ∙ ap (λ x. has_parts_in x || list_any has_parts (drop (i + 1) code)) (sym (slice_get-get_or code i empty h))
 
 -- the front of some commands
 pub front_is : (items : List ItemHeld) (x : ItemHeld) → 0 < length items → x ≡ slice_index_or items 0 x → items ≡ x ∷ drop 1 items
@@ -84,6 +78,41 @@ below_full n h not = grind arith
 -- the first of small commands is small
 pub first_small : (items : List ItemHeld) (x : ItemHeld) (behind : List ItemHeld) → items ≡ x ∷ behind → FitList items → IsSmallItem x
 first_small items x behind e f = subst (λ (xs : List ItemHeld). All IsSmallItem xs) e f.small 0 x (omega arith)
+
+-- the words of a command that begins, expanded or not
+pub expansion_next : (next : Next) (s : Running) (table : TableLists) (name : List ℕ) (args : List (List ℕ)) (written : List (List ℕ)) → coming s ≡ beginning name args → written ≡ name ∷ args → IsReady s written →
+    IsExpansion next table written → IsNext next table s s
+expansion_next (next.Begins ws) s table name args written comes are r e = (
+  refl,
+  record {
+    name = name;
+    args = args;
+    comes = comes;
+    expands = subst (λ x. expansion table x ≡ Ok ws) are e.0;
+    is_ready = record { early = r.early; there = r.there; few = e.1; total = e.2 };
+  },
+)
+expansion_next (next.Refused ws cause) s table name args written comes are r e = (
+  refl,
+  record {
+    name = name;
+    args = args;
+    comes = comes;
+    are = e.0 ∙ are;
+    why = e.1;
+    refuses = subst (λ x. expansion table x ≡ Err e.1) are e.2;
+    cause_is = e.3;
+    is_ready = subst (IsReady s) (sym e.0) r;
+  },
+)
+expansion_next next.Passed s table name args written comes are r e = absurd e
+expansion_next (next.Left cause) s table name args written comes are r e = absurd e
+expansion_next next.Full s table name args written comes are r e = absurd e
+
+pub expansion_next_ok : {E : Type 0} (r : Result Next E) (s : Running) (table : TableLists) (name : List ℕ) (args : List (List ℕ)) (written : List (List ℕ)) → coming s ≡ beginning name args → written ≡ name ∷ args → IsReady s written →
+    IfOk r (λ next. IsExpansion next table written) → IfOk r (λ next. IsNext next table s s)
+expansion_next_ok (Ok next) s table name args written comes are r e = expansion_next next s table name args written comes are r e
+expansion_next_ok (Err why) s table name args written comes are r e = tt
 
 -- a line without a list is passed
 pub no_list_comes : (s : Running) (line : Line) → list_of line ≡ None → line_comes s (Some line) ≡ passing (onto_line s [])

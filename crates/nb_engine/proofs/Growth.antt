@@ -1,8 +1,8 @@
 -- A client grows by the records of a step.
-use Rattle.std.proofs.Common.{◌≡◌, ℕ, ◌+◌, List, [], ◌∷◌, Some, None, refl, sym, ap, subst}
+use Rattle.std.proofs.Common.{◌≡◌, ℕ, ◌+◌, ◌<◌, ◌≤◌, List, [], ◌∷◌, Some, None, refl, sym, ap, subst}
 use Rattle.nb_terms.specs.declared.cause.Cause.{Cause}
-use Rattle.nb_defs.specs.Records.{Start, In, start, frame, tick, off, IsIn, Out, out_texts, step, enter, leave, ended}
-use Rattle.nb_defs.specs.Causes.{not_script}
+use Rattle.nb_defs.specs.Records.{Start, In, start, frame, tick, off, IsIn, Out, out_texts, step, enter, leave, ended, result}
+use Rattle.nb_defs.specs.Causes.{ok, not_script}
 use Rattle.nb_defs.specs.ScriptLines.{Line, Reading, script, no_script, script_too_long, line_too_long}
 use Rattle.nb_record.specs.Logged.{Logged, Puts}
 use Rattle.nb_stack.specs.Client.{Client}
@@ -19,9 +19,9 @@ use Rattle.nb_engine.specs.declared.client.Turn.TheVariants as turn
 use Rattle.nb_engine.specs.World.{world_of, with_net, world_later}
 use Rattle.nb_engine.specs.Opens.{Open, heard_from}
 use Rattle.nb_engine.specs.FirstText.{first_reading, text_refusal, long_script, long_line}
-use Rattle.nb_engine.specs.Running.{Running, first_script, anew}
-use Rattle.nb_engine.specs.Machine.{Machine, at, ready, running, waiting, yielded, left, stopped, Begins, runs, refuses, passes_by, brings, passes_time, switches_off, goes_on_by_frame, goes_on_by_tick, goes_off, reply_records, stopped_cause, status_of}
-use Rattle.nb_engine.specs.Seen.{Seen, seen, as_running, as_waiting, as_left, as_stopped}
+use Rattle.nb_engine.specs.Running.{Running, first_script, anew, with_result}
+use Rattle.nb_engine.specs.Machine.{Machine, at, ready, running, waiting, sleeping, yielded, left, stopped, Begins, runs, refuses, passes_by, brings, passes_time, switches_off, goes_on_by_frame, goes_on_by_tick, goes_off, sleeps_through_frame, sleeps_on, wakes, goes_off_asleep, reply_records, stopped_cause, status_of}
+use Rattle.nb_engine.specs.Seen.{Seen, seen, as_running, as_waiting, as_sleeping, as_left, as_stopped}
 use Rattle.nb_engine.specs.Heeding.{Heeds, Follows, Comes}
 use Rattle.nb_engine.specs.Turns.{Grows, AnswersTurn}
 use Rattle.nb_engine.proofs.Standing.{stands_at}
@@ -99,6 +99,59 @@ off_anew_grows n w s p = record {
   leads = λ m stands. record {
     machine = at (n + 1) stopped;
     steps = begins_from m (at n (yielded w s)) _ off _ (stands_at (seen n w (stage.Yielded s)) m stands) (goes_off n w s);
+    stands = as_stopped (n + 1) w;
+  };
+}
+
+-- a command sleeps on through a frame
+pub frame_asleep_grows : {old new : Logged} (n : ℕ) (w : World) (s : Running) (until : ℕ) (bytes reply : List ℕ) (out : Outcome) (net : Client) → IsIn (frame bytes) →
+    Takes w.net bytes out [] reply net → Puts old new (out_texts (step (n + 1) ∷ reply_records reply)) →
+    Grows (frame bytes ∷ []) (seen n w (stage.Sleeping s until)) (seen (n + 1) (with_net w net) (stage.Sleeping (anew s) until)) old new
+frame_asleep_grows n w s until bytes reply out net valid takes p = record {
+  added = step (n + 1) ∷ reply_records reply;
+  puts = p;
+  leads = λ m stands. record {
+    machine = at (n + 1) (sleeping (with_net w net) (anew s) until);
+    steps = begins_from m (at n (sleeping w s until)) _ (frame bytes) _ (stands_at (seen n w (stage.Sleeping s until)) m stands) (sleeps_through_frame n w s until bytes reply out net valid takes);
+    stands = as_sleeping (n + 1) (with_net w net) (anew s) until;
+  };
+}
+
+-- or through a time
+pub sleep_on_grows : {old new : Logged} (n : ℕ) (w : World) (s : Running) (until ms : ℕ) → IsIn (tick ms) → w.time + ms < until → Puts old new (out_texts (step (n + 1) ∷ [])) →
+    Grows (tick ms ∷ []) (seen n w (stage.Sleeping s until)) (seen (n + 1) (world_later w ms) (stage.Sleeping (anew s) until)) old new
+sleep_on_grows n w s until ms valid early p = record {
+  added = step (n + 1) ∷ [];
+  puts = p;
+  leads = λ m stands. record {
+    machine = at (n + 1) (sleeping (world_later w ms) (anew s) until);
+    steps = begins_from m (at n (sleeping w s until)) _ (tick ms) _ (stands_at (seen n w (stage.Sleeping s until)) m stands) (sleeps_on n w s until ms valid early);
+    stands = as_sleeping (n + 1) (world_later w ms) (anew s) until;
+  };
+}
+
+-- its time has come
+pub wake_grows : {old new : Logged} (n : ℕ) (w : World) (s : Running) (until ms : ℕ) → IsIn (tick ms) → until ≤ w.time + ms → Puts old new (out_texts (step (n + 1) ∷ result ok ∷ [])) →
+    Grows (tick ms ∷ []) (seen n w (stage.Sleeping s until)) (seen (n + 1) (world_later w ms) (stage.Running (with_result (anew s) ok))) old new
+wake_grows n w s until ms valid late p = record {
+  added = step (n + 1) ∷ result ok ∷ [];
+  puts = p;
+  leads = λ m stands. record {
+    machine = at (n + 1) (running (world_later w ms) (with_result (anew s) ok));
+    steps = begins_from m (at n (sleeping w s until)) _ (tick ms) _ (stands_at (seen n w (stage.Sleeping s until)) m stands) (wakes n w s until ms valid late);
+    stands = as_running (n + 1) (world_later w ms) (with_result (anew s) ok);
+  };
+}
+
+-- the power is switched off while it sleeps
+pub off_asleep_grows : {old new : Logged} (n : ℕ) (w : World) (s : Running) (until : ℕ) → Puts old new (out_texts (step (n + 1) ∷ [])) →
+    Grows (off ∷ []) (seen n w (stage.Sleeping s until)) (seen (n + 1) w stage.Stopped) old new
+off_asleep_grows n w s until p = record {
+  added = step (n + 1) ∷ [];
+  puts = p;
+  leads = λ m stands. record {
+    machine = at (n + 1) stopped;
+    steps = begins_from m (at n (sleeping w s until)) _ off _ (stands_at (seen n w (stage.Sleeping s until)) m stands) (goes_off_asleep n w s until);
     stands = as_stopped (n + 1) w;
   };
 }

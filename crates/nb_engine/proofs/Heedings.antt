@@ -78,8 +78,8 @@ same_image f o is same = rw (is.name, is.uri, same) refl
 
 pub same_conclusion : (w : World) (f : Fetch) (o : Open) (acts : Acts) (cause : Cause) → IsFetchOf f o → end_of (body_of o) acts ≡ Some cause →
     ((f.body ≡ body_of o) ⊎ (is_over_limit (body_of o) ≡ true)) →
-    conclusion cause f.boots (image_of f.name f.body [] f.uri) w.images ≡ concluded w o cause
-same_conclusion w f o acts cause is e (inl same) = ap (λ i. conclusion cause f.boots i w.images) (same_image f o is same) ∙ ap (λ b. conclusion cause b (image_from o) w.images) is.boots
+    conclusion cause f.boots (image_of f.name f.body [] f.uri) w.state.images ≡ concluded w o cause
+same_conclusion w f o acts cause is e (inl same) = ap (λ i. conclusion cause f.boots i w.state.images) (same_image f o is same) ∙ ap (λ b. conclusion cause b (image_from o) w.state.images) is.boots
 same_conclusion w f o acts cause is e (inr over) =
     let too_large : Some too_large_image ≡ Some cause = rw over at e in
     let c : too_large_image ≡ cause = some_same too_large in
@@ -88,11 +88,11 @@ same_conclusion w f o acts cause is e (inr over) =
 -- the open ends, and its command with it
 pub ends_follow : {old new : Logged} (n : ℕ) (w : World) (s : Running) (f : Fetch) (heard : Heard) (cause : Cause) (after : Seen) → heard.end ≡ Some cause →
     Puts old new (out_texts (step n ∷ (acts_records w.net f.number heard.acts ++ (ended f.number cause ∷ [])
-    ++ conclusion_records (conclusion cause f.boots (image_of f.name f.body [] f.uri) w.images)))) →
-    StandsFor after (at n (phase_after (unbound w f.own_port) s (conclusion cause f.boots (image_of f.name f.body [] f.uri) w.images))) →
+    ++ conclusion_records (conclusion cause f.boots (image_of f.name f.body [] f.uri) w.state.images)))) →
+    StandsFor after (at n (phase_after (unbound w f.own_port) s (conclusion cause f.boots (image_of f.name f.body [] f.uri) w.state.images))) →
     Follows s (HasHeard heard f) (seen n w (stage.Waiting s f)) after old new
 ends_follow {old} {new} n w s f heard cause after is p stands =
-    let comes : Conclusion = conclusion cause f.boots (image_of f.name f.body [] f.uri) w.images in
+    let comes : Conclusion = conclusion cause f.boots (image_of f.name f.body [] f.uri) w.state.images in
     record {
       added = acts_records w.net f.number heard.acts ++ (ended f.number cause ∷ []) ++ conclusion_records comes;
       puts = p;
@@ -167,8 +167,8 @@ still_sound n w s f f1 sound same short = record {
 -- an open's end, by the turn
 pub ends_of : (t : Turn) (old new : Logged) (acts : Acts) (cause : Cause) (s : Running) (f : Fetch) (before after : Seen) → IsTurn t after.stage →
     Puts old new (out_texts (step before.used ∷ (acts_records before.world.net f.number acts ++ (ended f.number cause ∷ [])
-    ++ conclusion_records (conclusion cause f.boots (image_of f.name f.body [] f.uri) before.world.images)))) →
-    StandsFor after (at before.used (phase_after (unbound before.world f.own_port) s (conclusion cause f.boots (image_of f.name f.body [] f.uri) before.world.images))) →
+    ++ conclusion_records (conclusion cause f.boots (image_of f.name f.body [] f.uri) before.world.state.images)))) →
+    StandsFor after (at before.used (phase_after (unbound before.world f.own_port) s (conclusion cause f.boots (image_of f.name f.body [] f.uri) before.world.state.images))) →
     EndsOpen t acts cause s f before after old new
 ends_of turn.More old new acts cause s f before after is p st = (is, p, st)
 ends_of turn.Waiting old new acts cause s f before after is p st = (is, p, st)

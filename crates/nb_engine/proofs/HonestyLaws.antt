@@ -1,14 +1,12 @@
 -- Where servers send what they hold, what is handed off is theirs.
 use Rattle.std.proofs.Common.{◌≡◌, ℕ, ◌+◌, ◌==◌, Bool, true, false, cond, List, [], ◌∷◌, ◌++◌, Option, Some, None, refl, sym, ◌∙◌, ap, subst, append_assoc, append-nil}
-use Rattle.std.specs.Prelude.{codes}
 use Rattle.std.specs.Option.{option_map_or}
-use Rattle.std.specs.Str.{bytes_eq}
 use Rattle.std.proofs.lemmas.Option.{same_Some}
 use Rattle.nb_terms.specs.declared.cause.Cause.{Cause}
 use Rattle.nb_terms.specs.declared.acts.Acts.{Acts}
 use Rattle.nb_terms.specs.declared.acts.SendTo.{SendTo}
-use Rattle.nb_defs.specs.Causes.{ok, is_ok_cause, usage}
-use Rattle.nb_defs.specs.Commands.{CommandOutcome as Result, command_outcome, refused, is_option}
+use Rattle.nb_defs.specs.Causes.{ok, is_ok_cause}
+use Rattle.nb_defs.specs.Commands.{CommandOutcome as Result, refused}
 use Rattle.nb_defs.specs.Records.{In, frame, Out, step, sent, enter, result, ended}
 use Rattle.nb_stack.specs.Client.{Client}
 use Rattle.nb_tftp.specs.Received.{received}
@@ -27,10 +25,12 @@ use Rattle.nb_image.specs.Kinds.{kind_of}
 use Rattle.nb_engine.specs.declared.world.World.{World}
 use Rattle.nb_engine.specs.World.{with_net, world_later, unbound}
 use Rattle.nb_engine.specs.Running.{Running, anew, no_label}
-use Rattle.nb_engine.specs.Effects.{Wanted, Effect, says, asks, goes, asked_for, fetch, goto_label, effect, too_long_uri, full_opens, bad_uri}
+use Rattle.nb_settings.specs.Tables.{TableLists}
+use Rattle.nb_engine.specs.Effects.{Wanted, Effect, says, asks, goes, sleeps, asked_for, effect, ShownWords, shown_words, too_long_uri, full_opens, bad_uri}
+use Rattle.nb_engine.proofs.CommandLaws.{Covers, effect_covered}
 use Rattle.nb_engine.specs.Opens.{Open, with_entry, body_of, acts_records, advance_records, sends_records, send_records, try_records, has_route, end_of, is_over_limit, too_large_image, request_of, begun_for, opened_record}
 use Rattle.nb_engine.specs.Conclusions.{Conclusion, keeps, fails, boots, conclusion, stored, taken_in, selected_in, place_for, image_from, conclusion_records, handoff_records, is_bootable, not_bootable}
-use Rattle.nb_engine.specs.Machine.{Machine, Phase, ready, running, waiting, yielded, handing, left, handed_off, stopped, Hears, goes_on, is_over, Begins, runs, refuses, passes_by, brings, passes_time, switches_off, goes_on_by_frame, goes_on_by_tick, goes_off, Move, passes, is_left, yields, does, leaves, jumps, finds_no_label, asks_for, finds_no_route, no_route, hands, has_handed, Path, nothing, uses, moves, phase_after, concluded, command_records, command_record, prints, reply_records}
+use Rattle.nb_engine.specs.Machine.{Machine, Phase, ready, running, waiting, sleeping, yielded, handing, left, handed_off, stopped, Hears, goes_on, is_over, Begins, runs, refuses, passes_by, brings, passes_time, switches_off, sleeps_through_frame, sleeps_on, wakes, goes_off_asleep, goes_on_by_frame, goes_on_by_tick, goes_off, Move, passes, is_left, yields, does, leaves, jumps, finds_no_label, falls_asleep, asks_for, finds_no_route, no_route, hands, has_handed, Path, nothing, uses, moves, phase_after, concluded, command_records, command_record, prints, reply_records}
 use Rattle.nb_engine.specs.Honesty.{file_of, Honest, IsServers, AreServers, IsNoPart, HaveNoParts, HandsFiles}
 use Rattle.nb_engine.proofs.HandingLemmas.{all_append, all_set}
 
@@ -56,9 +56,10 @@ record Asks (store : Store) (o : Open) : Type 0 where
 -- what holds of each state of a run
 Holds : Store → List Out → Phase → Type 0
 Holds store outs ready = HaveNoParts outs
-Holds store outs (running w s) = AreServers store w.images.images × HaveNoParts outs
-Holds store outs (waiting w s o) = AreServers store w.images.images × (HaveNoParts outs × Asks store o)
-Holds store outs (yielded w s) = AreServers store w.images.images × HaveNoParts outs
+Holds store outs (running w s) = AreServers store w.state.images.images × HaveNoParts outs
+Holds store outs (waiting w s o) = AreServers store w.state.images.images × (HaveNoParts outs × Asks store o)
+Holds store outs (sleeping w s until) = AreServers store w.state.images.images × HaveNoParts outs
+Holds store outs (yielded w s) = AreServers store w.state.images.images × HaveNoParts outs
 Holds store outs (handing rest) = Hands store outs rest
 Holds store outs (left cause) = Unit {0}
 Holds store outs handed_off = Hands store outs []
@@ -101,8 +102,8 @@ no_prints : (p : Option (List ℕ)) → HaveNoParts (prints p)
 no_prints None = tt
 no_prints (Some bytes) = (tt, tt)
 
-no_command : (s : Running) (ws : List (List ℕ)) (o : Result) → HaveNoParts (command_records s ws o)
-no_command s ws o = more ((command_record s ws ∷ []) ++ prints o.prints) (result o.cause ∷ []) (more (command_record s ws ∷ []) (prints o.prints) (tt, tt) (no_prints o.prints)) (tt, tt)
+no_command : (s : Running) (shown : ShownWords) (o : Result) → HaveNoParts (command_records s shown o)
+no_command s shown o = more ((command_record s shown ∷ []) ++ prints o.prints) (result o.cause ∷ []) (more (command_record s shown ∷ []) (prints o.prints) (tt, tt) (no_prints o.prints)) (tt, tt)
 
 no_reply : (bytes : List ℕ) → HaveNoParts (reply_records bytes)
 no_reply [] = tt
@@ -113,6 +114,7 @@ abbrev Names : Effect → Type 0
 Names (says o) = Unit {0}
 Names (asks wanted) = tftp_target wanted.uri ≡ Some wanted.target
 Names (goes name) = Unit {0}
+Names (sleeps seconds) = Unit {0}
 
 either_names : (t : Bool) (a b : Effect) → Names a → Names b → Names (cond t a b)
 either_names true a b p q = p
@@ -127,28 +129,16 @@ target_names : (opens : ℕ) (booting : Bool) (uri : List ℕ) (o : Option TftpT
 target_names opens booting uri None e = tt
 target_names opens booting uri (Some target) e = asked_names opens booting uri target e
 
-fetch_names : (opens : ℕ) (booting : Bool) (args : List (List ℕ)) → Names (fetch opens booting args)
-unfolding fetch
-fetch_names opens booting [] = tt
-fetch_names opens booting (uri ∷ []) =
-    either_names (is_option uri) (says (refused usage)) (option_map_or (asked_for opens booting uri) (tftp_target uri) (says (refused bad_uri))) tt (target_names opens booting uri (tftp_target uri) refl)
-fetch_names opens booting (uri ∷ w ∷ ws) = tt
+all_named : Covers Names
+all_named = record {
+  of_says = λ o. tt;
+  of_goes = λ name. tt;
+  of_sleep = λ seconds. either_names (seconds == 0) (says (refused ok)) (sleeps seconds) tt tt;
+  of_fetch = λ opens boots uri. target_names opens boots uri (tftp_target uri) refl;
+}
 
-goto_names : (args : List (List ℕ)) → Names (goto_label args)
-goto_names [] = tt
-goto_names (name ∷ []) = either_names (is_option name) (says (refused usage)) (goes name) tt tt
-goto_names (name ∷ w ∷ ws) = tt
-
-effect_names : (opens : ℕ) (ws : List (List ℕ)) → Names (effect opens ws)
-unfolding effect
-effect_names opens [] = tt
-effect_names opens (name ∷ args) =
-    either_names (bytes_eq name (codes "imgfetch")) (fetch opens false args) _ (fetch_names opens false args)
-    (either_names (bytes_eq name (codes "imgexec")) (fetch opens true args) _ (fetch_names opens true args)
-    (either_names (bytes_eq name (codes "goto")) (goto_label args) (says (command_outcome (name ∷ args))) (goto_names args) tt))
-
-wanted_names : (opens : ℕ) (ws : List (List ℕ)) (wanted : Wanted) → effect opens ws ≡ asks wanted → tftp_target wanted.uri ≡ Some wanted.target
-wanted_names opens ws wanted e = subst Names e (effect_names opens ws)
+wanted_names : (opens : ℕ) (table : TableLists) (ws : List (List ℕ)) (wanted : Wanted) → effect opens table ws ≡ asks wanted → tftp_target wanted.uri ≡ Some wanted.target
+wanted_names opens table ws wanted e = subst Names e (effect_covered Names all_named opens table ws)
 
 -- one image more
 put_servers : (store : Store) (place : Option ℕ) (image : Image) (images : List Image) → IsServers store image → AreServers store images → AreServers store (put_image place image images)
@@ -210,7 +200,7 @@ image_is store o e cause named carries meets over k = record {
 }
 
 -- where a conclusion leads
-leads_on : (store : Store) (outs : List Out) (w : World) (s : Running) (c : Conclusion) → Leaves store c → AreServers store w.images.images → HaveNoParts outs → Holds store outs (phase_after w s c)
+leads_on : (store : Store) (outs : List Out) (w : World) (s : Running) (c : Conclusion) → Leaves store c → AreServers store w.state.images.images → HaveNoParts outs → Holds store outs (phase_after w s c)
 unfolding Holds
 leads_on store outs w s (keeps list) p files none = (p, none)
 leads_on store outs w s (fails cause) p files none = (files, none)
@@ -219,7 +209,7 @@ leads_on store outs w s (boots list kernel) p files none =
 
 -- a datagram or a time
 hears_holds : (store : Store) (outs : List Out) (k : ℕ) (w : World) (s : Running) (o : Open) (call : Call) (news : List Out) (phase : Phase) → Hears w s o call news phase →
-    AreServers store w.images.images → HaveNoParts outs → tftp_target o.wanted.uri ≡ Some o.wanted.target →
+    AreServers store w.state.images.images → HaveNoParts outs → tftp_target o.wanted.uri ≡ Some o.wanted.target →
     CarriesFile (file_of store o.wanted.target) (got o.entries ++ received_by call) → Holds store (outs ++ step k ∷ news) phase
 unfolding Holds
 hears_holds store outs k w s o call news phase (goes_on _ _ _ _ acts meets open1) files none named carries =
@@ -234,7 +224,7 @@ hears_holds store outs k w s o call news phase (is_over _ _ _ _ acts cause meets
     let e = entry call acts in
     let all = subst (CarriesFile (file_of store o.wanted.target)) (sym (got-append o.entries e)) carries in
     let c = concluded w (with_entry o e) cause in
-    let left_with : Leaves store c = conclusion_leaves store cause o.wanted.boots (image_from (with_entry o e)) w.images (image_is store o e cause named all meets over) files in
+    let left_with : Leaves store c = conclusion_leaves store cause o.wanted.boots (image_from (with_entry o e)) w.state.images (image_is store o e cause named all meets over) files in
     let parts_none : HaveNoParts (step k ∷ (acts_records w.net o.number acts ++ (ended o.number cause ∷ []) ++ conclusion_records c)) = (
       tt,
       more (acts_records w.net o.number acts ++ (ended o.number cause ∷ [])) (conclusion_records c)
@@ -261,6 +251,11 @@ begins_holds store ins outs m r news m' (passes_time n w s o ms a phase valid he
     hears_holds store outs (n + 1) (world_later w ms) (anew s) o (ticked (w.time + ms)) a phase hears h.0 h.1.0 h.1.1.named
     (subst (CarriesFile (file_of store o.wanted.target)) (sym (append-nil (got o.entries))) h.1.1.carries)
 begins_holds store ins outs m r news m' (switches_off n w s o) path honest h = tt
+begins_holds store ins outs m r news m' (sleeps_through_frame n w s until bytes reply seen net valid takes) path honest h =
+    (h.0, more outs (step (n + 1) ∷ reply_records reply) h.1 (tt, no_reply reply))
+begins_holds store ins outs m r news m' (sleeps_on n w s until ms valid early) path honest h = (h.0, more outs (step (n + 1) ∷ []) h.1 (tt, tt))
+begins_holds store ins outs m r news m' (wakes n w s until ms valid late) path honest h = (h.0, more outs (step (n + 1) ∷ result ok ∷ []) h.1 (tt, (tt, tt)))
+begins_holds store ins outs m r news m' (goes_off_asleep n w s until) path honest h = tt
 begins_holds store ins outs m r news m' (goes_on_by_frame n w s bytes reply seen net valid takes) path honest h =
     (h.0, more outs (step (n + 1) ∷ reply_records reply) h.1 (tt, no_reply reply))
 begins_holds store ins outs m r news m' (goes_on_by_tick n w s ms valid) path honest h = (h.0, more outs (step (n + 1) ∷ []) h.1 (tt, tt))
@@ -272,21 +267,23 @@ unfolding Holds
 moves_holds store outs m news m' (passes n w s t comes) h = (h.0, more outs [] h.1 tt)
 moves_holds store outs m news m' (is_left n w s cause comes) h = tt
 moves_holds store outs m news m' (yields n w s c cs comes full) h = (h.0, more outs [] h.1 tt)
-moves_holds store outs m news m' (does n w s c cs o comes few is stays) h = (h.0, more outs (command_records s (c ∷ cs) o) h.1 (no_command s (c ∷ cs) o))
+moves_holds store outs m news m' (does n w s c cs o comes few is stays) h = (h.0, more outs (command_records s (shown_words w.state.table (c ∷ cs)) o) h.1 (no_command s (shown_words w.state.table (c ∷ cs)) o))
 moves_holds store outs m news m' (leaves n w s c cs o comes few is goes_out) h = tt
 moves_holds store outs m news m' (jumps n w s c cs name line comes few is there) h =
-    (h.0, more outs (command_records s (c ∷ cs) (refused ok)) h.1 (no_command s (c ∷ cs) (refused ok)))
+    (h.0, more outs (command_records s (shown_words w.state.table (c ∷ cs)) (refused ok)) h.1 (no_command s (shown_words w.state.table (c ∷ cs)) (refused ok)))
 moves_holds store outs m news m' (finds_no_label n w s c cs name comes few is none) h =
-    (h.0, more outs (command_records s (c ∷ cs) (refused no_label)) h.1 (no_command s (c ∷ cs) (refused no_label)))
+    (h.0, more outs (command_records s (shown_words w.state.table (c ∷ cs)) (refused no_label)) h.1 (no_command s (shown_words w.state.table (c ∷ cs)) (refused no_label)))
+moves_holds store outs m news m' (falls_asleep n w s c cs seconds comes few is) h =
+    (h.0, more outs (command_record s (shown_words w.state.table (c ∷ cs)) ∷ []) h.1 (tt, tt))
 moves_holds store outs m news m' (asks_for n w s c cs wanted comes few is route) h = (
   h.0,
   (
-    more outs (command_record s (c ∷ cs) ∷ opened_record w wanted ∷ send_records w.net w.opens (Some 1) (request_of (begun_for w wanted))) h.1 (tt, (tt, no_send w.net w.opens (Some 1) (request_of (begun_for w wanted)))),
-    record { named = wanted_names w.opens (c ∷ cs) wanted is; carries = nothing_carried (file_of store wanted.target) },
+    more outs (command_record s (shown_words w.state.table (c ∷ cs)) ∷ opened_record w wanted ∷ send_records w.net w.opens (Some 1) (request_of (begun_for w wanted))) h.1 (tt, (tt, no_send w.net w.opens (Some 1) (request_of (begun_for w wanted)))),
+    record { named = wanted_names w.opens w.state.table (c ∷ cs) wanted is; carries = nothing_carried (file_of store wanted.target) },
   ),
 )
 moves_holds store outs m news m' (finds_no_route n w s c cs wanted comes few is route) h =
-    (h.0, more outs (command_record s (c ∷ cs) ∷ opened_record w wanted ∷ ended w.opens (no_route wanted.target.server) ∷ conclusion_records (fails (no_route wanted.target.server))) h.1 (tt, (tt, (tt, (tt, tt)))))
+    (h.0, more outs (command_record s (shown_words w.state.table (c ∷ cs)) ∷ opened_record w wanted ∷ ended w.opens (no_route wanted.target.server) ∷ conclusion_records (fails (no_route wanted.target.server))) h.1 (tt, (tt, (tt, (tt, tt)))))
 moves_holds store outs m news m' (hands n r rest) h = record {
   images = h.images;
   kernel = h.kernel;

@@ -8,6 +8,8 @@ pub mod Heedings
 pub mod Growth
 pub mod Measures
 pub mod Comings
+pub mod CommandLaws
+pub mod Idles
 pub mod Moves
 pub mod HandingLemmas
 pub mod HonestyLaws

@@ -1,5 +1,5 @@
 -- Each move of a script brings the end of its step nearer.
-use Rattle.std.proofs.Common.{◌≡◌, ℕ, ◌+◌, ◌-◌, ◌*◌, ◌<◌, ◌≤◌, List, [], ◌∷◌, length, drop, refl, sym, ◌∙◌, ap, arith, length-drop}
+use Rattle.std.proofs.Common.{◌≡◌, ℕ, ◌+◌, ◌-◌, ◌*◌, ◌<◌, ◌≤◌, List, [], length, ◌∙◌, ap, arith, length-drop}
 use Rattle.nb_terms.specs.declared.cause.Cause.{Cause}
 use Rattle.nb_defs.specs.ScriptLines.{Item}
 use Rattle.nb_engine.specs.Running.{Running, onto_line, behind_command, further, behind_line}

@@ -36,9 +36,9 @@ IsTurn (turn.Over s) st = IsEnd s × IsOverWith st s
 
 -- the command's result was put, and the client stands where the conclusion leads
 pub record Concludes (t : Turn) (s : Running) (c : Concluded) (before after : Seen) (old new : Logged) : Type 0 where
-  pub puts : Puts old new (out_texts (conclusion_records (conclusion_of c before.world.images)))
+  pub puts : Puts old new (out_texts (conclusion_records (conclusion_of c before.world.state.images)))
   pub is_turn : IsTurn t after.stage
-  pub stands : StandsFor after (at before.used (phase_after before.world s (conclusion_of c before.world.images)))
+  pub stands : StandsFor after (at before.used (phase_after before.world s (conclusion_of c before.world.state.images)))
 
 -- the open has ended: what was asked, its end and the result were put, unless memory ran out
 abbrev pub EndsOpen : Turn → Acts → Cause → Running → Fetch → Seen → Seen → Logged → Logged → Type 0
@@ -46,6 +46,6 @@ EndsOpen (turn.Over status.NoMemory) acts cause s f before after old new = new �
 EndsOpen t acts cause s f before after old new =
     IsTurn t after.stage
     × Puts old new (out_texts (step before.used ∷ (acts_records before.world.net f.number acts ++ (ended f.number cause ∷ [])
-    ++ conclusion_records (conclusion cause f.boots (image_of f.name f.body [] f.uri) before.world.images))))
+    ++ conclusion_records (conclusion cause f.boots (image_of f.name f.body [] f.uri) before.world.state.images))))
     × StandsFor after (at before.used (phase_after (unbound before.world f.own_port) s
-    (conclusion cause f.boots (image_of f.name f.body [] f.uri) before.world.images)))
+    (conclusion cause f.boots (image_of f.name f.body [] f.uri) before.world.state.images)))

@@ -1,11 +1,37 @@
--- What a command comes to: it is over with an outcome, it asks for a file, or it goes to a label.
-use Rattle.std.specs.Prelude.{ℕ, ◌==◌, Bool, true, false, List, [], ◌∷◌, if◌then◌else◌, codes}
+-- What a command comes to: it is over with an outcome, it asks for a file, it goes to a label, or it sleeps; and
+-- what it does to the settings. Its words are expanded first.
+use Rattle.std.specs.Prelude.{ℕ, ◌==◌, Bool, true, false, List, None, Result, Ok, Err, if◌then◌else◌}
 use Rattle.std.specs.Option.{option_map_or}
 use Rattle.std.specs.Str.{bytes_eq}
 use Rattle.nb_terms.specs.declared.cause.Cause.{Cause}
-use Rattle.nb_defs.specs.Causes.{ok, usage, plain_cause}
-use Rattle.nb_defs.specs.Commands.{CommandOutcome, refused, command_outcome, is_option}
+use Rattle.nb_terms.specs.declared.reason.Long.TheVariants as long
+use Rattle.nb_terms.specs.declared.reason.Plain.TheVariants as plain
+use Rattle.nb_terms.specs.declared.reason.Reason.TheVariants as reason
+use Rattle.nb_terms.specs.Reasons.{as_cause}
+use Rattle.nb_defs.specs.Causes.{ok, unknown, usage, exit_cause, plain_cause}
+use Rattle.nb_defs.specs.Commands.{CommandOutcome, refused, prints_text}
+use Rattle.nb_settings.specs.Tables.{TableLists}
+use Rattle.nb_expand.specs.declared.error.ExpandError.{ExpandError}
+use Rattle.nb_expand.specs.declared.error.ExpandError.TheVariants as expand_error
+use Rattle.nb_expand.specs.Values.{named_text}
+use Rattle.nb_expand.specs.WordsExpansion.{expanded_words}
 use Rattle.nb_uri.specs.Targets.{TftpTarget, tftp_target, is_too_long}
+use Rattle.nb_command.specs.declared.command_plan.CommandPlan.{CommandPlan}
+use Rattle.nb_command.specs.declared.command_plan.CommandPlan.TheVariants as plan
+use Rattle.nb_command.specs.declared.error.ApplyError.{ApplyError}
+use Rattle.nb_command.specs.declared.error.ApplyError.TheVariants.{False}
+use Rattle.nb_command.specs.declared.error.PlanError.{PlanError}
+use Rattle.nb_command.specs.declared.error.PlanError.TheVariants as plan_error
+use Rattle.nb_command.specs.Failures.{apply_cause}
+use Rattle.nb_command.specs.Applying.{out_of_memory}
+use Rattle.nb_command.specs.Planning.{planned}
+use Rattle.nb_command.specs.Settings.{Change}
+use Rattle.nb_command.specs.Echo.{echoed}
+use Rattle.nb_command.specs.Isset.{is_word_set}
+use Rattle.nb_command.specs.Set.{set_table}
+use Rattle.nb_command.specs.Clear.{cleared_table}
+use Rattle.nb_command.specs.Show.{setting_shown}
+use Rattle.nb_command.specs.Inc.{increased_table}
 
 -- the URI is none that is fetched
 abbrev pub bad_uri : Cause
@@ -29,6 +55,7 @@ pub data Effect : Type 0 where
   says : CommandOutcome → Effect
   asks : Wanted → Effect
   goes : (name : List ℕ) → Effect
+  sleeps : (seconds : ℕ) → Effect
 
 -- the refusals in their order
 abbrev pub asked_for : ℕ → Bool → List ℕ → TftpTarget → Effect
@@ -37,23 +64,122 @@ asked_for opens boots uri target =
     else if opens == 16384 then says (refused full_opens)
     else asks (record { uri = uri; target = target; boots = boots })
 
--- one word, a URI; a word that begins with `--` is an option, of which there is none
-unfoldable pub fetch : ℕ → Bool → List (List ℕ) → Effect
-fetch opens boots [] = says (refused usage)
-fetch opens boots (uri ∷ []) = if is_option uri then says (refused usage) else option_map_or (asked_for opens boots uri) (tftp_target uri) (says (refused bad_uri))
-fetch opens boots (uri ∷ w ∷ ws) = says (refused usage)
+-- the file of a URI, of a run in which so many opens were made
+abbrev pub fetch : ℕ → Bool → List ℕ → Effect
+fetch opens boots uri = option_map_or (asked_for opens boots uri) (tftp_target uri) (says (refused bad_uri))
 
--- `goto label`
-abbrev pub goto_label : List (List ℕ) → Effect
-goto_label [] = says (refused usage)
-goto_label (name ∷ []) = if is_option name then says (refused usage) else goes name
-goto_label (name ∷ w ∷ ws) = says (refused usage)
+-- `exit n`
+abbrev pub leaves_with : ℕ → CommandOutcome
+leaves_with n = record { prints = None; cause = exit_cause n; leaves = true }
 
--- what a command comes to, by its words and how many opens were made
-unfoldable pub effect : ℕ → List (List ℕ) → Effect
-effect opens [] = says (refused ok)
-effect opens (name ∷ args) =
-    if bytes_eq name (codes "imgfetch") then fetch opens false args
-    else if bytes_eq name (codes "imgexec") then fetch opens true args
-    else if bytes_eq name (codes "goto") then goto_label args
-    else says (command_outcome (name ∷ args))
+abbrev pub truth_outcome : Bool → CommandOutcome
+truth_outcome is_true = if is_true then refused ok else refused (apply_cause False)
+
+abbrev pub text_told : Result (List ℕ) ApplyError → CommandOutcome
+text_told (Ok text) = prints_text text
+text_told (Err why) = refused (apply_cause why)
+
+abbrev pub change_outcome : Change → CommandOutcome
+change_outcome (Ok table) = refused ok
+change_outcome (Err why) = refused (apply_cause why)
+
+-- `sleep 0` is over at once
+abbrev pub sleeping_for : ℕ → Effect
+sleeping_for seconds = if seconds == 0 then says (refused ok) else sleeps seconds
+
+-- what a command comes to, by how many opens were made and the settings
+abbrev pub plan_effect : ℕ → TableLists → CommandPlan → Effect
+plan_effect opens table (plan.Echo newline text) = says (prints_text (echoed newline text))
+plan_effect opens table (plan.Goto label) = goes label
+plan_effect opens table (plan.Exit n) = says (leaves_with n)
+plan_effect opens table (plan.Isset word) = says (truth_outcome (is_word_set word))
+plan_effect opens table (plan.Iseq a b) = says (truth_outcome (bytes_eq a b))
+plan_effect opens table (plan.Set name value) = says (change_outcome (set_table name value table))
+plan_effect opens table (plan.Clear name) = says (change_outcome (cleared_table name table))
+plan_effect opens table (plan.Show name) = says (text_told (setting_shown name table))
+plan_effect opens table (plan.Inc name by) = says (change_outcome (increased_table name by table))
+plan_effect opens table (plan.Fetch uri) = fetch opens false uri
+plan_effect opens table (plan.Exec uri) = fetch opens true uri
+plan_effect opens table (plan.Sleep seconds) = sleeping_for seconds
+
+-- the settings that a change leaves
+abbrev pub changed : TableLists → Change → TableLists
+changed table (Ok other) = other
+changed table (Err why) = table
+
+-- the settings that a command leaves
+abbrev pub plan_table : CommandPlan → TableLists → TableLists
+plan_table (plan.Set name value) table = changed table (set_table name value table)
+plan_table (plan.Clear name) table = changed table (cleared_table name table)
+plan_table (plan.Inc name by) table = changed table (increased_table name by table)
+plan_table (plan.Echo newline text) table = table
+plan_table (plan.Goto label) table = table
+plan_table (plan.Exit n) table = table
+plan_table (plan.Isset word) table = table
+plan_table (plan.Iseq a b) table = table
+plan_table (plan.Show name) table = table
+plan_table (plan.Fetch uri) table = table
+plan_table (plan.Exec uri) table = table
+plan_table (plan.Sleep seconds) table = table
+
+-- why words are no command
+abbrev pub plan_cause : PlanError → Cause
+plan_cause plan_error.Unknown = unknown
+plan_cause plan_error.Usage = usage
+plan_cause plan_error.NoMemory = out_of_memory
+
+abbrev pub planned_effect : ℕ → TableLists → Result CommandPlan PlanError → Effect
+planned_effect opens table (Ok p) = plan_effect opens table p
+planned_effect opens table (Err why) = says (refused (plan_cause why))
+
+abbrev pub planned_table : TableLists → Result CommandPlan PlanError → TableLists
+planned_table table (Ok p) = plan_table p table
+planned_table table (Err why) = table
+
+-- what expanded words come to
+unfoldable pub words_effect : ℕ → TableLists → List (List ℕ) → Effect
+words_effect opens table ws = planned_effect opens table (planned ws)
+
+unfoldable pub words_table : TableLists → List (List ℕ) → TableLists
+words_table table ws = planned_table table (planned ws)
+
+-- why words aren't expanded
+abbrev pub expand_cause : ExpandError → Cause
+expand_cause expand_error.BadName = as_cause (reason.Plain plain.BadName)
+expand_cause expand_error.TooLong = as_cause (reason.TooLong long.Line)
+expand_cause expand_error.NoMemory = out_of_memory
+
+-- the words of a command, each `${name}` in them replaced by what it stands for
+abbrev pub expansion : TableLists → List (List ℕ) → Result (List (List ℕ)) ExpandError
+expansion table ws = expanded_words (named_text table) ws
+
+abbrev pub expanded_effect : ℕ → TableLists → Result (List (List ℕ)) ExpandError → Effect
+expanded_effect opens table (Ok ws) = words_effect opens table ws
+expanded_effect opens table (Err why) = says (refused (expand_cause why))
+
+abbrev pub expanded_table : TableLists → Result (List (List ℕ)) ExpandError → TableLists
+expanded_table table (Ok ws) = words_table table ws
+expanded_table table (Err why) = table
+
+-- what a command comes to, by its words as the script has them
+unfoldable pub effect : ℕ → TableLists → List (List ℕ) → Effect
+effect opens table ws = expanded_effect opens table (expansion table ws)
+
+-- the settings that it leaves
+unfoldable pub table_after : TableLists → List (List ℕ) → TableLists
+table_after table ws = expanded_table table (expansion table ws)
+
+-- the words that COMMAND shows: expanded, or as they are written where that is refused
+pub record ShownWords : Type 0 where
+  pub expanded : Bool
+  pub words : List (List ℕ)
+
+abbrev pub shown_as : Bool → List (List ℕ) → ShownWords
+shown_as expanded ws = record { expanded = expanded; words = ws }
+
+abbrev pub shown_by : List (List ℕ) → Result (List (List ℕ)) ExpandError → ShownWords
+shown_by written (Ok ws) = shown_as true ws
+shown_by written (Err why) = shown_as false written
+
+unfoldable pub shown_words : TableLists → List (List ℕ) → ShownWords
+shown_words table ws = shown_by ws (expansion table ws)

@@ -1,30 +1,22 @@
 -- What the first script's text is.
-use Rattle.std.specs.Prelude.{ℕ, Bool, false, List, Option, Some, None, if◌then◌else◌}
-use Rattle.std.specs.List.{list_any}
+use Rattle.std.specs.Prelude.{ℕ, List, [], ◌∷◌, ◌++◌, Option, Some, None, codes}
 use Rattle.nb_terms.specs.declared.cause.Cause.{Cause}
 use Rattle.nb_defs.specs.Causes.{not_script}
-use Rattle.nb_defs.specs.ScriptText.{has_expansion}
-use Rattle.nb_defs.specs.ScriptLines.{Line, label, list, empty, Reading, script, no_script, script_too_long, line_too_long, script_reading}
+use Rattle.nb_defs.specs.ScriptLines.{Reading, script, no_script, script_too_long, line_too_long, script_reading}
 
--- whether a list has a `${`, which isn't expanded yet
-abbrev pub has_parts : Line → Bool
-has_parts (label name) = false
-has_parts (list text) = has_expansion text
-has_parts empty = false
+-- the script that is built in
+unfoldable pub built_in : List ℕ
+built_in =
+    codes "#!ipxe\ndhcp || exit 1\nisset ${filename} || goto san\nchain ${filename} && exit 0 || goto san\n"
+    ++ codes ":san\nisset ${root-path} || exit 1\nsanboot ${root-path}\n"
 
-abbrev pub has_parts_in : Option Line → Bool
-has_parts_in None = false
-has_parts_in (Some line) = has_parts line
-
--- a script with a `${` doesn't run yet
-abbrev pub without_parts : Reading → Reading
-without_parts (script code) = if list_any has_parts code then no_script else script code
-without_parts no_script = no_script
-without_parts script_too_long = script_too_long
-without_parts line_too_long = line_too_long
+-- it runs where START gives no text
+abbrev pub first_text : List ℕ → List ℕ
+first_text [] = built_in
+first_text (b ∷ bytes) = b ∷ bytes
 
 abbrev pub first_reading : List ℕ → Reading
-first_reading text = without_parts (script_reading text)
+first_reading text = script_reading (first_text text)
 
 -- the text has more than 1,048,576 bytes
 abbrev pub long_script : Cause

@@ -1,21 +1,20 @@
 -- What a datagram or a time does to a client whose command waits.
-use Rattle.std.specs.Prelude.{◌≡◌, ◌⊎◌, ℕ, ◌+◌, ◌==◌, Bool, true, false, List, [], ◌∷◌, Option, None}
-use Rattle.nb_wire.specs.declared.address.Ip4.{Ip4}
+use Rattle.std.specs.Prelude.{◌≡◌, ◌⊎◌, ℕ, ◌+◌, true, false, List, [], ◌∷◌}
 use Rattle.nb_defs.specs.Records.{In, Out, out_texts, step, IsFrameRecord}
 use Rattle.nb_record.specs.Logged.{Logged, Puts}
-use Rattle.nb_stack.specs.Takes.{Outcome}
+use Rattle.nb_stack.specs.Client.{Client}
+use Rattle.nb_stack.specs.Takes.{Outcome, Takes}
 use Rattle.nb_tftp.specs.History.{Call, entry, is_ended}
-use Rattle.nb_engine.specs.Machine.{Phase, Hears, at}
+use Rattle.nb_engine.specs.World.{with_net}
+use Rattle.nb_engine.specs.Machine.{Phase, Hears, at, reply_records}
 use Rattle.nb_engine.specs.Running.{Running}
-use Rattle.nb_engine.specs.Opens.{Open, with_entry, body_of, end_of, is_over_limit, heard_from}
+use Rattle.nb_engine.specs.Opens.{Open, with_entry, body_of, end_of, is_over_limit}
 use Rattle.nb_engine.specs.Fetches.{IsFetchOf, IsLive}
 use Rattle.nb_engine.specs.Seen.{Seen, seen, StandsFor}
 use Rattle.nb_engine.specs.Turns.{AnswersTurn, IsBusy, IsWaiting, HasYielded, IsOverWith, IsEnd}
 use Rattle.nb_engine.specs.declared.fetch.Fetch.{Fetch}
 use Rattle.nb_engine.specs.declared.fetch.Heard.{Heard}
 use Rattle.nb_engine.specs.declared.status.Status.TheVariants as status
-use Rattle.nb_engine.specs.declared.stage.Stage.{Stage}
-use Rattle.nb_engine.specs.declared.stage.Stage.TheVariants as stage
 use Rattle.nb_engine.specs.declared.client.Turn.{Turn}
 use Rattle.nb_engine.specs.declared.client.Turn.TheVariants as turn
 
@@ -47,6 +46,16 @@ pub record HasHeard (heard : Heard) (f : Fetch) (o : Open) (call : Call) : Type 
   pub ends : heard.end ≡ end_of (body_of (with_entry o (entry call heard.acts))) heard.acts
   pub body : (f.body ≡ body_of (with_entry o (entry call heard.acts))) ⊎ (is_over_limit (body_of (with_entry o (entry call heard.acts))) ≡ true)
   pub lives : is_ended o.entries ≡ false
+
+-- a frame was taken by a client for which no open lives: its step was begun, and the reply put, if there is one
+pub record TakesFrame (bytes : List ℕ) (before after : Seen) (old new : Logged) : Type 0 where
+  pub seen_as : Outcome
+  pub reply : List ℕ
+  pub net : Client
+  pub takes : Takes before.world.net bytes seen_as [] reply net
+  pub puts : Puts old new (out_texts (step before.used ∷ reply_records reply))
+  pub after_is : after ≡ seen before.used (with_net before.world net) after.stage
+  pub ports : net.ports ≡ []
 
 -- nothing, or a frame
 abbrev pub IsReply : List ℕ → Type 0

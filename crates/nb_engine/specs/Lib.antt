@@ -1,3 +1,4 @@
+pub mod StartTable
 pub mod World
 pub mod Effects
 pub mod Opens

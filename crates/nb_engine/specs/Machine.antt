@@ -1,6 +1,6 @@
 -- The script machine: from which state which output records lead to which state, and the path of a
 -- whole run. It reads whole lists of records, and knows nothing of bytes, buffers or calls.
-use Rattle.std.specs.Prelude.{◌≡◌, ◌<◌, ℕ, ◌+◌, true, false, List, [], ◌∷◌, ◌++◌, Option, Some, None, if◌then◌else◌}
+use Rattle.std.specs.Prelude.{◌≡◌, ◌<◌, ◌≤◌, ℕ, ◌+◌, ◌*◌, true, false, List, [], ◌∷◌, ◌++◌, Option, Some, None, if◌then◌else◌}
 use Rattle.nb_terms.specs.declared.cause.Cause.{Cause}
 use Rattle.nb_terms.specs.declared.acts.Acts.{Acts}
 use Rattle.nb_defs.specs.Causes.{ok, is_ok_cause, plain_cause}
@@ -13,10 +13,10 @@ use Rattle.nb_tftp.specs.Received.{received}
 use Rattle.nb_tftp.specs.History.{Call, came, ticked, entry}
 use Rattle.nb_tftp.specs.Sentences.{Meets}
 use Rattle.nb_engine.specs.declared.world.World.{World}
-use Rattle.nb_engine.specs.World.{world_of, with_net, world_later, world_with_images, with_open, with_ended_open, unbound}
+use Rattle.nb_engine.specs.World.{world_of, with_net, world_later, world_with_images, world_with_table, with_open, with_ended_open, unbound}
 use Rattle.nb_engine.specs.FirstText.{first_reading, text_refusal}
 use Rattle.nb_engine.specs.Running.{Running, first_script, coming, passing, leaving, beginning, entered, further, behind_line, with_result, anew, no_label}
-use Rattle.nb_engine.specs.Effects.{Wanted, says, asks, goes, effect}
+use Rattle.nb_engine.specs.Effects.{Wanted, says, asks, goes, sleeps, effect, table_after, ShownWords, shown_words}
 use Rattle.nb_engine.specs.Opens.{Open, open_for, with_entry, body_of, request_of, has_route, send_records, acts_records, opened_record, heard_from, end_of, begun_for}
 use Rattle.nb_engine.specs.Conclusions.{Conclusion, keeps, fails, boots, conclusion, image_from, conclusion_records, handoff_records}
 
@@ -28,6 +28,8 @@ pub data Phase : Type 0 where
   running : World → Running → Phase
   -- its last command waits for this open
   waiting : World → Running → Open → Phase
+  -- its last command sleeps until this time, in milliseconds
+  sleeping : World → Running → (until : ℕ) → Phase
   -- 4,096 commands began in this step, and another is to begin
   yielded : World → Running → Phase
   -- an image is handed off, of which these records are still to come
@@ -57,12 +59,12 @@ prints None = []
 prints (Some bytes) = text bytes ∷ []
 
 -- a command begins, on the line passed last
-abbrev pub command_record : Running → List (List ℕ) → Out
-command_record s ws = command s.depth s.passed s.place true ws
+abbrev pub command_record : Running → ShownWords → Out
+command_record s t = command s.depth s.passed s.place t.expanded t.words
 
 -- the records of a command that is over at once: COMMAND, what it prints, RESULT
-abbrev pub command_records : Running → List (List ℕ) → CommandOutcome → List Out
-command_records s ws o = (command_record s ws ∷ []) ++ prints o.prints ++ (result o.cause ∷ [])
+abbrev pub command_records : Running → ShownWords → CommandOutcome → List Out
+command_records s t o = (command_record s t ∷ []) ++ prints o.prints ++ (result o.cause ∷ [])
 
 -- there is no way to this server
 abbrev pub no_route : ℕ → Cause
@@ -80,7 +82,7 @@ phase_after w s (boots list kernel) = handing (handoff_records kernel list.image
 
 -- the command's conclusion where its open, which has come to its last datagram or time, ended with a cause
 abbrev pub concluded : World → Open → Cause → Conclusion
-concluded w o cause = conclusion cause o.wanted.boots (image_from o) w.images
+concluded w o cause = conclusion cause o.wanted.boots (image_from o) w.state.images
 
 -- A datagram or a time comes to the open that a command waits for. What the transfer asks then is such
 -- that it meets its promises over all that has come to it since it was begun. Where that ends the open,
@@ -103,8 +105,8 @@ reply_records [] = []
 reply_records (b ∷ bytes) = sent (b ∷ bytes) ∷ []
 
 -- A record is used, and its step begins: STEP with the record's number, and then what the record brings.
--- A first record comes before any other; each later one comes while a command waits, or where a step had all the
--- commands that it may have.
+-- A first record comes before any other; each later one comes while a command waits or sleeps, or where a step had all
+-- the commands that it may have.
 pub data Begins : Machine → In → List Out → Machine → Type 0 where
   -- the first script is entered
   runs : (n : ℕ) (s : Start) (code : List Line) → IsIn (start s) → first_reading s.script ≡ script code →
@@ -129,6 +131,18 @@ pub data Begins : Machine → In → List Out → Machine → Type 0 where
   -- the power is switched off: the open ends, and the command gives no result
   switches_off : (n : ℕ) (w : World) (s : Running) (o : Open) →
       Begins (at n (waiting w s o)) off (step (n + 1) ∷ ended o.number stopped_cause ∷ []) (at (n + 1) stopped)
+  -- a command sleeps on through a frame
+  sleeps_through_frame : (n : ℕ) (w : World) (s : Running) (until : ℕ) (bytes reply : List ℕ) (seen : TakeOutcome) (net : Client) → IsIn (frame bytes) →
+      Takes w.net bytes seen [] reply net →
+      Begins (at n (sleeping w s until)) (frame bytes) (step (n + 1) ∷ reply_records reply) (at (n + 1) (sleeping (with_net w net) (anew s) until))
+  -- or through a time
+  sleeps_on : (n : ℕ) (w : World) (s : Running) (until ms : ℕ) → IsIn (tick ms) → w.time + ms < until →
+      Begins (at n (sleeping w s until)) (tick ms) (step (n + 1) ∷ []) (at (n + 1) (sleeping (world_later w ms) (anew s) until))
+  -- its time has come: the command is over
+  wakes : (n : ℕ) (w : World) (s : Running) (until ms : ℕ) → IsIn (tick ms) → until ≤ w.time + ms →
+      Begins (at n (sleeping w s until)) (tick ms) (step (n + 1) ∷ result ok ∷ []) (at (n + 1) (running (world_later w ms) (with_result (anew s) ok)))
+  -- the power is switched off while it sleeps
+  goes_off_asleep : (n : ℕ) (w : World) (s : Running) (until : ℕ) → Begins (at n (sleeping w s until)) off (step (n + 1) ∷ []) (at (n + 1) stopped)
   -- a script that had all its commands goes on with a frame
   goes_on_by_frame : (n : ℕ) (w : World) (s : Running) (bytes reply : List ℕ) (seen : TakeOutcome) (net : Client) → IsIn (frame bytes) →
       Takes w.net bytes seen [] reply net →
@@ -151,31 +165,36 @@ pub data Move : Machine → List Out → Machine → Type 0 where
       Move (at n (running w s)) [] (at n (yielded w s))
   -- a command after which the list goes on
   does : (n : ℕ) (w : World) (s : Running) (c : List ℕ) (cs : List (List ℕ)) (o : CommandOutcome) → coming s ≡ beginning c cs → s.begun < 4096 →
-      effect w.opens (c ∷ cs) ≡ says o → o.leaves ≡ false →
-      Move (at n (running w s)) (command_records s (c ∷ cs) o) (at n (running w (further s o.cause)))
+      effect w.opens w.state.table (c ∷ cs) ≡ says o → o.leaves ≡ false →
+      Move (at n (running w s)) (command_records s (shown_words w.state.table (c ∷ cs)) o)
+      (at n (running (world_with_table w (table_after w.state.table (c ∷ cs))) (further s o.cause)))
   -- a command with which the script is left
   leaves : (n : ℕ) (w : World) (s : Running) (c : List ℕ) (cs : List (List ℕ)) (o : CommandOutcome) → coming s ≡ beginning c cs → s.begun < 4096 →
-      effect w.opens (c ∷ cs) ≡ says o → o.leaves ≡ true →
-      Move (at n (running w s)) (command_records s (c ∷ cs) o ++ (leave s.depth o.cause ∷ [])) (at n (left o.cause))
+      effect w.opens w.state.table (c ∷ cs) ≡ says o → o.leaves ≡ true →
+      Move (at n (running w s)) (command_records s (shown_words w.state.table (c ∷ cs)) o ++ (leave s.depth o.cause ∷ [])) (at n (left o.cause))
   -- `goto`: the script goes on after the first line that is the label
   jumps : (n : ℕ) (w : World) (s : Running) (c : List ℕ) (cs : List (List ℕ)) (name : List ℕ) (line : ℕ) → coming s ≡ beginning c cs → s.begun < 4096 →
-      effect w.opens (c ∷ cs) ≡ goes name → label_place name s.code ≡ Some line →
-      Move (at n (running w s)) (command_records s (c ∷ cs) (refused ok)) (at n (running w (behind_line s line)))
+      effect w.opens w.state.table (c ∷ cs) ≡ goes name → label_place name s.code ≡ Some line →
+      Move (at n (running w s)) (command_records s (shown_words w.state.table (c ∷ cs)) (refused ok)) (at n (running w (behind_line s line)))
   -- there is no such label
   finds_no_label : (n : ℕ) (w : World) (s : Running) (c : List ℕ) (cs : List (List ℕ)) (name : List ℕ) → coming s ≡ beginning c cs → s.begun < 4096 →
-      effect w.opens (c ∷ cs) ≡ goes name → label_place name s.code ≡ None →
-      Move (at n (running w s)) (command_records s (c ∷ cs) (refused no_label)) (at n (running w (further s no_label)))
+      effect w.opens w.state.table (c ∷ cs) ≡ goes name → label_place name s.code ≡ None →
+      Move (at n (running w s)) (command_records s (shown_words w.state.table (c ∷ cs)) (refused no_label)) (at n (running w (further s no_label)))
+  -- a command that sleeps
+  falls_asleep : (n : ℕ) (w : World) (s : Running) (c : List ℕ) (cs : List (List ℕ)) (seconds : ℕ) → coming s ≡ beginning c cs → s.begun < 4096 →
+      effect w.opens w.state.table (c ∷ cs) ≡ sleeps seconds →
+      Move (at n (running w s)) (command_record s (shown_words w.state.table (c ∷ cs)) ∷ []) (at n (sleeping w (entered s) (w.time + 1000 * seconds)))
   -- a command that asks for a file: its open begins, and it waits
   asks_for : (n : ℕ) (w : World) (s : Running) (c : List ℕ) (cs : List (List ℕ)) (wanted : Wanted) → coming s ≡ beginning c cs → s.begun < 4096 →
-      effect w.opens (c ∷ cs) ≡ asks wanted → has_route w.net (request_of (begun_for w wanted)) ≡ true →
+      effect w.opens w.state.table (c ∷ cs) ≡ asks wanted → has_route w.net (request_of (begun_for w wanted)) ≡ true →
       Move (at n (running w s))
-      (command_record s (c ∷ cs) ∷ opened_record w wanted ∷ send_records w.net w.opens (Some 1) (request_of (begun_for w wanted)))
+      (command_record s (shown_words w.state.table (c ∷ cs)) ∷ opened_record w wanted ∷ send_records w.net w.opens (Some 1) (request_of (begun_for w wanted)))
       (at n (waiting (with_open w) (entered s) (open_for w wanted)))
   -- a command that asks for a file of a server to which there is no way: the open was made, and has ended
   finds_no_route : (n : ℕ) (w : World) (s : Running) (c : List ℕ) (cs : List (List ℕ)) (wanted : Wanted) → coming s ≡ beginning c cs → s.begun < 4096 →
-      effect w.opens (c ∷ cs) ≡ asks wanted → has_route w.net (request_of (begun_for w wanted)) ≡ false →
+      effect w.opens w.state.table (c ∷ cs) ≡ asks wanted → has_route w.net (request_of (begun_for w wanted)) ≡ false →
       Move (at n (running w s))
-      (command_record s (c ∷ cs) ∷ opened_record w wanted ∷ ended w.opens (no_route wanted.target.server)
+      (command_record s (shown_words w.state.table (c ∷ cs)) ∷ opened_record w wanted ∷ ended w.opens (no_route wanted.target.server)
       ∷ conclusion_records (fails (no_route wanted.target.server)))
       (at n (running (with_ended_open w) (further s (no_route wanted.target.server))))
   -- a piece of the image is handed off
@@ -191,6 +210,11 @@ pub data Path : List In → List Out → Machine → Type 0 where
   moves : (ins : List In) (outs : List Out) (m : Machine) (added : List Out) (m' : Machine) →
       Path ins outs m → Move m added m' → Path ins (outs ++ added) m'
 
+-- What a run does in several moves.
+pub data Moves : Machine → List Out → Machine → Type 0 where
+  rests : (m : Machine) → Moves m [] m
+  moves_on : (m m' m'' : Machine) (added more : List Out) → Move m added m' → Moves m' more m'' → Moves m (added ++ more) m''
+
 -- the status of a run whose first script was left with this cause: Ended or ScriptFailed
 abbrev pub status_of : Cause → ℕ
 status_of cause = if is_ok_cause cause then 3 else 4
@@ -200,6 +224,7 @@ abbrev pub shutdown_records : Phase → List Out
 shutdown_records ready = []
 shutdown_records (running w s) = []
 shutdown_records (waiting w s o) = ended o.number stopped_cause ∷ []
+shutdown_records (sleeping w s until) = []
 shutdown_records (yielded w s) = []
 shutdown_records (handing rest) = []
 shutdown_records (left cause) = []

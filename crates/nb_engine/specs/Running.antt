@@ -1,5 +1,5 @@
 -- A script that runs, by its lines and the commands of their lists: what it comes to next. No word of records used.
-use Rattle.std.specs.Prelude.{ℕ, ◌+◌, Bool, true, false, not, List, [], ◌∷◌, Option, Some, None, slice_get, drop, if◌then◌else◌}
+use Rattle.std.specs.Prelude.{◌≡◌, ℕ, ◌+◌, Bool, true, not, List, [], ◌∷◌, Option, Some, None, slice_get, drop, if◌then◌else◌}
 use Rattle.nb_terms.specs.declared.cause.Cause.{Cause}
 use Rattle.nb_defs.specs.Causes.{ok, is_ok_cause}
 use Rattle.nb_defs.specs.ScriptLines.{Line, label, list, empty, Join, first_join, and_join, or_join, then_join, Item, items}
@@ -26,12 +26,20 @@ first_script code = record { depth = 1; code = code; passed = 0; rest = []; plac
 abbrev pub onto_line : Running → List Item → Running
 onto_line s commands = record s { passed = s.passed + 1; rest = commands; place = 0 }
 
+-- behind lines that were passed, up to this place
+abbrev pub behind_lines : Running → ℕ → Running
+behind_lines s line = record s { passed = line }
+
 -- a command further
 abbrev pub behind_command : Running → Running
 behind_command s = record s { rest = drop 1 s.rest; place = s.place + 1 }
 
+-- a result, as a script keeps it: a success has no numbers
+abbrev pub kept_result : Cause → Cause
+kept_result cause = if is_ok_cause cause then ok else cause
+
 abbrev pub with_result : Running → Cause → Running
-with_result s cause = record s { last = cause }
+with_result s cause = record s { last = kept_result cause }
 
 -- a command has begun
 abbrev pub entered : Running → Running
@@ -97,3 +105,8 @@ rest_comes s (i ∷ behind) = if lets_run i.join s.last then words_come s i.word
 
 unfoldable pub coming : Running → Coming
 coming s = rest_comes s s.rest
+
+-- a script passes lines and commands, or none
+pub data PassesOn : Running → Running → Type 0 where
+  here : (s : Running) → PassesOn s s
+  further_on : (s t u : Running) → coming s ≡ passing t → PassesOn t u → PassesOn s u

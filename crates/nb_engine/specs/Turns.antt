@@ -3,7 +3,7 @@
 use Rattle.std.specs.Prelude.{◌≡◌, ℕ, ◌+◌, ◌<◌, List, [], ◌∷◌, length}
 use Rattle.nb_defs.specs.Records.{In, start, frame, tick, off, Out, out_texts, ended, done}
 use Rattle.nb_record.specs.Logged.{Logged, Puts}
-use Rattle.nb_engine.specs.Machine.{Machine, Begins, Move, status_of, stopped_cause}
+use Rattle.nb_engine.specs.Machine.{Machine, Begins, Moves, status_of, stopped_cause}
 use Rattle.nb_engine.specs.StatusNumber.{status_number}
 use Rattle.nb_engine.specs.Steps.{moves_in}
 use Rattle.nb_engine.specs.Handings.{records_left}
@@ -21,14 +21,16 @@ IsBusy (stage.Running s) = Unit {0}
 IsBusy (stage.HandingOff h) = Unit {0}
 IsBusy stage.Ready = ⊥
 IsBusy (stage.Waiting s f) = ⊥
+IsBusy (stage.Sleeping s until) = ⊥
 IsBusy (stage.Yielded s) = ⊥
 IsBusy (stage.Left cause) = ⊥
 IsBusy stage.HandedOff = ⊥
 IsBusy stage.Stopped = ⊥
 
--- a command waits
+-- a command waits or sleeps
 abbrev pub IsWaiting : Stage → Type 0
 IsWaiting (stage.Waiting s f) = Unit {0}
+IsWaiting (stage.Sleeping s until) = Unit {0}
 IsWaiting stage.Ready = ⊥
 IsWaiting (stage.Running s) = ⊥
 IsWaiting (stage.Yielded s) = ⊥
@@ -43,6 +45,7 @@ HasYielded (stage.Yielded s) = Unit {0}
 HasYielded stage.Ready = ⊥
 HasYielded (stage.Running s) = ⊥
 HasYielded (stage.Waiting s f) = ⊥
+HasYielded (stage.Sleeping s until) = ⊥
 HasYielded (stage.HandingOff h) = ⊥
 HasYielded (stage.Left cause) = ⊥
 HasYielded stage.HandedOff = ⊥
@@ -51,6 +54,7 @@ HasYielded stage.Stopped = ⊥
 -- the next record is waited for
 abbrev pub IsResting : Stage → Type 0
 IsResting (stage.Waiting s f) = Unit {0}
+IsResting (stage.Sleeping s until) = Unit {0}
 IsResting (stage.Yielded s) = Unit {0}
 IsResting stage.Ready = ⊥
 IsResting (stage.Running s) = ⊥
@@ -67,6 +71,7 @@ IsOverWith stage.Stopped s = s ≡ status.Unfinished
 IsOverWith stage.Ready s = ⊥
 IsOverWith (stage.Running r) s = ⊥
 IsOverWith (stage.Waiting r f) s = ⊥
+IsOverWith (stage.Sleeping r until) s = ⊥
 IsOverWith (stage.Yielded r) s = ⊥
 IsOverWith (stage.HandingOff h) s = ⊥
 
@@ -75,6 +80,7 @@ abbrev pub MayUse : In → Stage → Type 0
 MayUse (start s) stage.Ready = Unit {0}
 MayUse (start s) (stage.Running r) = ⊥
 MayUse (start s) (stage.Waiting r f) = ⊥
+MayUse (start s) (stage.Sleeping r until) = ⊥
 MayUse (start s) (stage.Yielded r) = ⊥
 MayUse (start s) (stage.HandingOff h) = ⊥
 MayUse (start s) (stage.Left cause) = ⊥
@@ -84,9 +90,9 @@ MayUse (frame bytes) st = IsResting st
 MayUse (tick ms) st = IsResting st
 MayUse off st = IsResting st
 
--- a record is used, or the machine moves
+-- a record is used, or the machine makes moves
 abbrev pub Steps : List In → Machine → List Out → Machine → Type 0
-Steps [] before added after = Move before added after
+Steps [] before added after = Moves before added after
 Steps (r ∷ []) before added after = Begins before r added after
 Steps (r ∷ q ∷ rs) before added after = ⊥
 
@@ -122,9 +128,10 @@ AnswersTurn (turn.Over s) used before after old new = IsEnd s × Grows used befo
 -- how many moves are left at most
 abbrev pub moves_at : Stage → Seen → ℕ
 moves_at (stage.Running s) c = moves_in s
-moves_at (stage.HandingOff h) c = length (records_left c.world.images.images h) + 1
+moves_at (stage.HandingOff h) c = length (records_left c.world.state.images.images h) + 1
 moves_at stage.Ready c = 0
 moves_at (stage.Waiting s f) c = 0
+moves_at (stage.Sleeping s until) c = 0
 moves_at (stage.Yielded s) c = 0
 moves_at (stage.Left cause) c = 0
 moves_at stage.HandedOff c = 0
@@ -145,6 +152,7 @@ abbrev pub closing_records : Stage → ℕ → List Out
 closing_records (stage.Waiting s f) number = ended f.number stopped_cause ∷ done number ∷ []
 closing_records stage.Ready number = done number ∷ []
 closing_records (stage.Running s) number = done number ∷ []
+closing_records (stage.Sleeping s until) number = done number ∷ []
 closing_records (stage.Yielded s) number = done number ∷ []
 closing_records (stage.HandingOff h) number = done number ∷ []
 closing_records (stage.Left cause) number = done number ∷ []

@@ -1,4 +1,4 @@
--- What a run has beside its script, as START gives it: the client's link, its clock, its opens and its images.
+-- What a run has beside its script, as START gives it: the client's link, its clock, its opens, its settings and its images.
 use Rattle.std.specs.Prelude.{ℕ, ◌+◌, ◌%◌, ◌==◌, not, [], Option, Some, None, if◌then◌else◌}
 use Rattle.nb_defs.specs.Records.{Start}
 use Rattle.nb_wire.specs.declared.address.Ip4.{Ip4}
@@ -6,6 +6,9 @@ use Rattle.nb_stack.specs.declared.address.Addr.{Addr}
 use Rattle.nb_stack.specs.Client.{Client}
 use Rattle.nb_stack.specs.Bound.{with_port, without}
 use Rattle.nb_image.specs.Images.{ImageList}
+use Rattle.nb_settings.specs.Tables.{TableLists, root_alone}
+use Rattle.nb_command.specs.declared.state.State.{State}
+use Rattle.nb_engine.specs.StartTable.{start_table}
 use Rattle.nb_engine.specs.declared.world.World.{World}
 
 -- an address as a number
@@ -30,22 +33,33 @@ net_of s = record { mac = record { 0 = s.mac }; address = address_of s; up = not
 abbrev pub no_images : ImageList
 no_images = record { images = []; selected = None }
 
+-- settings and images
+abbrev pub state_of : TableLists → ImageList → State
+state_of table images = record { table = table; images = images }
+
+-- before START was used there are no settings
+abbrev pub bare_world : Start → World
+bare_world s = record { w = s.w; time = 0; net = net_of s; opens = 0; state = state_of root_alone no_images }
+
 abbrev pub world_of : Start → World
-world_of s = record { w = s.w; time = 0; net = net_of s; opens = 0; images = no_images }
+world_of s = record { w = s.w; time = 0; net = net_of s; opens = 0; state = state_of (start_table s) no_images }
 
 -- the client's port of the open of this number
 abbrev pub own_port : ℕ → ℕ → ℕ
 own_port w number = 49152 + (w + number) % 16384
 
--- the same, with another link, so many milliseconds later, with other images
+-- the same, with another link, so many milliseconds later, with other images, with other settings
 abbrev pub with_net : World → Client → World
-with_net w net = record { w = w.w; time = w.time; net = net; opens = w.opens; images = w.images }
+with_net w net = record { w = w.w; time = w.time; net = net; opens = w.opens; state = w.state }
 
 abbrev pub world_later : World → ℕ → World
-world_later w ms = record { w = w.w; time = w.time + ms; net = w.net; opens = w.opens; images = w.images }
+world_later w ms = record { w = w.w; time = w.time + ms; net = w.net; opens = w.opens; state = w.state }
 
 abbrev pub world_with_images : World → ImageList → World
-world_with_images w images = record { w = w.w; time = w.time; net = w.net; opens = w.opens; images = images }
+world_with_images w images = record { w = w.w; time = w.time; net = w.net; opens = w.opens; state = state_of w.state.table images }
+
+abbrev pub world_with_table : World → TableLists → World
+world_with_table w table = record { w = w.w; time = w.time; net = w.net; opens = w.opens; state = state_of table w.state.images }
 
 -- with one more open, whose port is bound
 abbrev pub with_open : World → World
@@ -54,7 +68,7 @@ with_open w = record {
   time = w.time;
   net = record w.net { ports = with_port 17 (own_port w.w w.opens) w.opens w.net.ports };
   opens = w.opens + 1;
-  images = w.images;
+  state = w.state;
 }
 
 -- with a port freed
@@ -63,4 +77,4 @@ unbound w own = with_net w (record w.net { ports = without 17 own w.net.ports })
 
 -- with one more open that was made, and has ended
 abbrev pub with_ended_open : World → World
-with_ended_open w = record { w = w.w; time = w.time; net = w.net; opens = w.opens + 1; images = w.images }
+with_ended_open w = record { w = w.w; time = w.time; net = w.net; opens = w.opens + 1; state = w.state }

@@ -1,32 +1,37 @@
-ghost use Rattle.std.specs.Prelude.{◌≡◌, ◌<◌, ◌≤◌, ◌∷◌, [], length};
+ghost use Rattle.std.specs.Prelude.{◌≡◌, ◌<◌, ◌≤◌, ◌+◌, ◌*◌, ◌∷◌, [], length, true, Ok};
+ghost use Rattle.nb_defs.specs.Commands.{refused};
 ghost use Rattle.nb_defs.specs.Records.{out_texts, ended, leave};
 ghost use Rattle.nb_record.specs.Logged.{Puts};
 ghost use Rattle.nb_engine.specs.Turns.{AnswersTurn, IsNearer};
 ghost use Rattle.nb_engine.specs.Seen.{IsSound, seen, standing};
-ghost use Rattle.nb_engine.specs.Machine.{no_route};
+ghost use Rattle.nb_engine.specs.Machine.{no_route, command_record};
 ghost use Rattle.nb_engine.specs.Running.{entered, further};
 ghost use Rattle.nb_engine.specs.declared.client.Turn.TheVariants as turn;
-ghost use Rattle.nb_engine.specs.Effects.{effect, asks, goes};
-ghost use Rattle.nb_engine.specs.CommandWords.{effect_of, wanted_of, TakesFewer, IsLocal, CanFetch};
-ghost use Rattle.nb_engine.specs.NextCommand.{HasCommand};
+ghost use Rattle.nb_command.specs.Planning.{planned};
+ghost use Rattle.nb_command.specs.Printed.{most_printed};
+ghost use Rattle.nb_engine.specs.declared.world.World.{World};
+ghost use Rattle.nb_engine.specs.Effects.{words_effect, words_table, asks, fetch, shown_as};
+ghost use Rattle.nb_engine.specs.CommandWords.{wanted_of, IsLocal, CanFetch, PrintsAtMost};
+ghost use Rattle.nb_engine.specs.NextCommand.{HasCommand, IsReady};
 ghost use Rattle.nb_engine.specs.World.{with_open, with_ended_open, own_port as own_port_of};
 ghost use Rattle.nb_engine.specs.Opens.{opened_record, has_route, send_records};
 ghost use Rattle.nb_engine.specs.Conclusions.{fails, conclusion_records};
 ghost use Rattle.nb_engine.specs.Concluding.{IsTurn};
-ghost use Rattle.nb_engine.specs.Advance.{IsNextFetch, IsOneUdp, IfOne, Requests, SettlesScript};
+ghost use Rattle.nb_engine.specs.Advance.{EndsAtOnce, HasCarriedOut, IsNextFetch, IsOneUdp, IfOne, Requests, SettlesScript};
 ghost use Rattle.nb_engine.specs.Handings.{IsAt};
 ghost use Rattle.nb_engine.specs.declared.stage.Stage.TheVariants as stage;
 
-use crate::command::{Command, Refusal, Wanted, carry_out, read_command};
+use crate::command::{Deed, Done, Wanted, carry_out, read_uri};
 use crate::desk::{Desk, Room, lent};
 use crate::put::{put_over, put_result, put_send};
 use crate::running::Next;
 use crate::status::status_after;
 use crate::world::own_port;
 use crate::{Client, Fetch, Handing, KeptFetch, RunningScript, Stage, Status, Turn};
+use nb_command::{CommandPlan, PlanError, plan};
 use nb_record::{Acts as Asked, Cause, Log, NoMemory, OutRec};
 use nb_stack::Stack;
-use nb_terms::Reason;
+use nb_terms::{Plain, Reason};
 use nb_uri::TFTP_PORT;
 use nb_wire::Word;
 
@@ -56,10 +61,13 @@ impl Client {
         ensures does { AnswersTurn result [] (standing self.old (stage.Running script)) self.new log.old log.new }
         ensures nearer { IsNearer result (standing self.old (stage.Running script)) self.new }
     {
-        match script.next(self.alloc) {
+        match script.next(self.alloc, &self.world.state.table) {
             Ok(Next::Passed) => self.run_on(script),
             Ok(Next::Left(cause)) => self.leave(script, cause, log),
             Ok(Next::Begins(list)) => self.command(script, list.as_slice(), log),
+            Ok(Next::Refused(list, cause)) => {
+                self.refuse(script, false, list.as_slice(), cause, log)
+            }
             Ok(Next::Full) => {
                 self.stage = Stage::Yielded(script);
                 Turn::Yielded
@@ -89,61 +97,137 @@ impl Client {
         Turn::Over(status_after(cause))
     }
 
-    /// Does a command of these words.
+    /// Does a command of these words, which were expanded.
     fn command(&mut self, script: RunningScript, words: &[Word], log: &mut Log) -> Turn
         requires sound { IsSound self.old.used self.old.world (stage.Running script) }
-        requires words { HasCommand script words.now }
+        requires words { HasCommand script self.old.world.state.table words.now }
         ensures does { AnswersTurn result [] (standing self.old (stage.Running script)) self.new log.old log.new }
         ensures nearer { IsNearer result (standing self.old (stage.Running script)) self.new }
     {
-        match read_command(self.world.opens, words) {
-            Ok(Command::Fetch(wanted)) => self.fetch(script, words, &wanted, log),
-            Ok(Command::Goto(label)) => self.go_to(script, words, label, log),
-            command => self.carry_out(script, words, command, log),
+        match plan(self.alloc, words) {
+            Ok(CommandPlan::Fetch { uri }) => {
+                self.ask_for(script, words, uri.as_slice(), false, log)
+            }
+            Ok(CommandPlan::Exec { uri }) => self.ask_for(script, words, uri.as_slice(), true, log),
+            Ok(plan) => self.carry_out(script, words, &plan, log),
+            Err(PlanError::NoMemory) => Turn::Over(Status::NoMemory),
+            Err(PlanError::Unknown) => {
+                self.refuse(script, true, words, Plain::Unknown.cause(), log)
+            }
+            Err(PlanError::Usage) => self.refuse(script, true, words, Plain::Usage.cause(), log),
         }
     }
 
-    /// Goes on after the label of this name.
-    fn go_to(
+    /// Asks for the file of a URI.
+    fn ask_for(
         &mut self,
-        mut script: RunningScript,
+        script: RunningScript,
         words: &[Word],
-        label: &[u8],
+        uri: &[u8],
+        boots: bool,
         log: &mut Log,
     ) -> Turn
         requires sound { IsSound self.old.used self.old.world (stage.Running script) }
-        requires words { HasCommand script words.now }
-        requires value { effect self.old.world.opens words.now ≡ goes label.now }
+        requires words { HasCommand script self.old.world.state.table words.now }
+        requires value { words_effect self.old.world.opens self.old.world.state.table words.now ≡ fetch self.old.world.opens boots uri.now }
+        requires same { words_table self.old.world.state.table words.now ≡ self.old.world.state.table }
         ensures does { AnswersTurn result [] (standing self.old (stage.Running script)) self.new log.old log.new }
         ensures nearer { IsNearer result (standing self.old (stage.Running script)) self.new }
     {
-        script.go_to(words, label, log);
-        self.run_on(script)
+        match read_uri(self.world.opens, boots, uri) {
+            Ok(wanted) => self.fetch(script, words, &wanted, log),
+            Err(refusal) => self.refuse(script, true, words, refusal.cause(), log),
+        }
     }
 
-    /// Does a command that is over at once.
+    /// A command is refused with this cause, and the script goes on.
+    fn refuse(
+        &mut self,
+        mut script: RunningScript,
+        expanded: bool,
+        words: &[Word],
+        cause: Cause,
+        log: &mut Log,
+    ) -> Turn
+        requires sound { IsSound self.old.used self.old.world (stage.Running script) }
+        requires words { IsReady script words.now }
+        requires refused { EndsAtOnce script self.old.world (shown_as expanded words.now) (refused cause) self.old.world.state.table }
+        ensures does { AnswersTurn result [] (standing self.old (stage.Running script)) self.new log.old log.new }
+        ensures nearer { IsNearer result (standing self.old (stage.Running script)) self.new }
+    {
+        let left = script.finish(expanded, words, &Done::with(cause), log);
+        self.settle(script, left)
+    }
+
+    /// Does a command that asks for no file.
     fn carry_out(
         &mut self,
-        mut script: RunningScript,
+        script: RunningScript,
         words: &[Word],
-        command: Result<Command<'_>, Refusal>,
+        plan: &CommandPlan,
         log: &mut Log,
     ) -> Turn
         requires sound { IsSound self.old.used self.old.world (stage.Running script) }
-        requires words { HasCommand script words.now }
-        requires local { IsLocal command }
-        requires fewer { TakesFewer words.now command }
-        requires value { effect self.old.world.opens words.now ≡ effect_of command }
+        requires words { HasCommand script self.old.world.state.table words.now }
+        requires value { planned words.now ≡ Ok plan.now }
+        requires local { IsLocal plan.now }
+        requires printed { most_printed plan.now ≤ 4160 }
         ensures does { AnswersTurn result [] (standing self.old (stage.Running script)) self.new log.old log.new }
         ensures nearer { IsNearer result (standing self.old (stage.Running script)) self.new }
     {
-        match carry_out(self.alloc, command) {
-            Ok(done) => {
-                let left = script.finish(words, &done, log);
-                self.settle(script, left)
-            }
+        match carry_out(self.alloc, plan, &mut self.world.state) {
+            Ok(deed) => self.go_by(script, words, &deed, log),
             Err(NoMemory) => Turn::Over(Status::NoMemory),
         }
+    }
+
+    /// Goes on as a command was carried out.
+    fn go_by(
+        &mut self,
+        mut script: RunningScript,
+        words: &[Word],
+        deed: &Deed,
+        log: &mut Log,
+    ) -> Turn
+        requires sound { IsSound self.old.used self.old.world (stage.Running script) }
+        requires words { IsReady script words.now }
+        requires printed { PrintsAtMost deed.now 4160 }
+        ensures { (w : World) → HasCarriedOut w deed.now script words.now self.old
+            → AnswersTurn result [] (seen self.old.used w (stage.Running script)) self.new log.old log.new
+            × IsNearer result (seen self.old.used w (stage.Running script)) self.new }
+    {
+        match deed {
+            Deed::Ends(done) => {
+                let left = script.finish(true, words, done, log);
+                self.settle(script, left)
+            }
+            Deed::Goes(label) => {
+                script.go_to(words, label.as_slice(), log);
+                self.run_on(script)
+            }
+            Deed::Sleeps(seconds) => self.sleep(script, words, *seconds, log),
+        }
+    }
+
+    /// The script's command sleeps for so many seconds.
+    fn sleep(
+        &mut self,
+        mut script: RunningScript,
+        words: &[Word],
+        seconds: u32,
+        log: &mut Log,
+    ) -> Turn
+        requires sound { IsSound self.old.used self.old.world (stage.Running script) }
+        requires words { IsReady script words.now }
+        ensures turn { result ≡ turn.Waiting }
+        ensures puts { Puts log.old log.new (out_texts (command_record script (shown_as true words.now) ∷ [])) }
+        ensures after { self.new ≡ standing self.old (stage.Sleeping (entered script) (self.old.world.time + 1000 * seconds)) }
+    {
+        script.put_begun(true, words, log);
+        script.enter();
+        let until = self.world.time + 1000 * u64::from(seconds);
+        self.stage = Stage::Sleeping(script, until);
+        Turn::Waiting
     }
 
     /// The script goes on after a command, or was left with a cause.
@@ -169,8 +253,8 @@ impl Client {
         log: &mut Log,
     ) -> Turn
         requires sound { IsSound self.old.used self.old.world (stage.Running script) }
-        requires words { HasCommand script words.now }
-        requires value { effect self.old.world.opens words.now ≡ asks (wanted_of wanted.now) }
+        requires words { HasCommand script self.old.world.state.table words.now }
+        requires value { words_effect self.old.world.opens self.old.world.state.table words.now ≡ asks (wanted_of wanted.now) }
         requires file { CanFetch self.old.world.opens wanted.now }
         ensures does { AnswersTurn result [] (standing self.old (stage.Running script)) self.new log.old log.new }
         ensures nearer { IsNearer result (standing self.old (stage.Running script)) self.new }
@@ -193,8 +277,8 @@ impl Client {
         log: &mut Log,
     ) -> Turn
         requires sound { IsSound self.old.used self.old.world (stage.Running script) }
-        requires words { HasCommand script words.now }
-        requires value { effect self.old.world.opens words.now ≡ asks (wanted_of wanted.now) }
+        requires words { HasCommand script self.old.world.state.table words.now }
+        requires value { words_effect self.old.world.opens self.old.world.state.table words.now ≡ asks (wanted_of wanted.now) }
         requires file { CanFetch self.old.world.opens wanted.now }
         ensures does { AnswersTurn result [] (standing self.old (stage.Running script)) self.new log.old log.new }
         ensures nearer { IsNearer result (standing self.old (stage.Running script)) self.new }
@@ -210,7 +294,7 @@ impl Client {
             &mut desk.heard.acts,
         ) {
             Ok(fetch) => {
-                script.put_begun(words, log);
+                script.put_begun(true, words, log);
                 self.put_opened(wanted, own_port, log);
                 self.ask(script, fetch, &desk.heard.acts, &mut desk.room, log)
             }
@@ -300,11 +384,11 @@ impl Client {
 
     /// Puts the next piece of the hand-off.
     pub(crate) fn hand_on(&mut self, mut handing: Handing, log: &mut Log) -> Turn
-        requires at { IsAt self.old.world.images handing }
+        requires at { IsAt self.old.world.state.images handing }
         ensures does { AnswersTurn result [] (standing self.old (stage.HandingOff handing)) self.new log.old log.new }
         ensures nearer { IsNearer result (standing self.old (stage.HandingOff handing)) self.new }
     {
-        if handing.put_piece(&self.world.images, log) {
+        if handing.put_piece(&self.world.state.images, log) {
             self.stage = Stage::HandingOff(handing);
             Turn::More
         } else {

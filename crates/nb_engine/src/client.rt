@@ -20,7 +20,7 @@ use std::mem;
 pub enum Turn {
     /// A line, a command or a piece is done, and the step isn't over: call `more`.
     More,
-    /// A command waits: the step is over.
+    /// A command waits or sleeps: the step is over.
     Waiting,
     /// 4,096 commands began in this step, and another is to begin: the step is over.
     Yielded,
@@ -59,14 +59,14 @@ impl Client {
         Ok(Client {
             alloc,
             used: 0,
-            world: World::of(alloc, start),
+            world: World::bare(alloc, start),
             stage: Stage::Ready,
             desk: None,
         })
     }
 
-    /// Uses a record: START is the first, and each other one comes while a command waits, or where the last step
-    /// has yielded. Where memory runs out nothing is put, and the client is of no use any more.
+    /// Uses a record: START is the first, and each other one comes while a command waits or sleeps, or where the last
+    /// step has yielded. Where memory runs out nothing is put, and the client is of no use any more.
     pub fn step(&mut self, entry: &InRec<'_>, log: &mut Log) -> Turn
         requires valid { IsIn (in_of entry.now) }
         requires fits { MayUse (in_of entry.now) self.old.stage }
@@ -81,6 +81,13 @@ impl Client {
             }
             (Stage::Waiting(script, fetch), InRec::Tick(ms)) => self.tick(script, fetch, *ms, log),
             (Stage::Waiting(_, fetch), InRec::Off) => self.switch_off(fetch, log),
+            (Stage::Sleeping(script, until), InRec::Frame(bytes)) => {
+                self.frame_asleep(script, until, bytes, log)
+            }
+            (Stage::Sleeping(script, until), InRec::Tick(ms)) => {
+                self.tick_asleep(script, until, *ms, log)
+            }
+            (Stage::Sleeping(..), InRec::Off) => self.off_asleep(log),
             (Stage::Yielded(script), InRec::Frame(bytes)) => self.frame_anew(script, bytes, log),
             (Stage::Yielded(script), InRec::Tick(ms)) => self.tick_anew(script, *ms, log),
             (Stage::Yielded(_), InRec::Off) => self.off_anew(log),

@@ -81,7 +81,7 @@ impl Client {
         let open = fetch.get();
         let (number, own_port) = (open.number, open.own_port);
         self.stage = Stage::Stopped;
-        match conclude(self.alloc, &mut self.world.images, &mut fetch, cause) {
+        match conclude(self.alloc, &mut self.world.state.images, &mut fetch, cause) {
             Ok(conclusion) => {
                 put_step(self.used, log);
                 put_acts(
@@ -102,7 +102,7 @@ impl Client {
     /// Puts the result of the script's command, and goes on as that says.
     fn conclude(&mut self, script: RunningScript, conclusion: Conclusion, log: &mut Log) -> Turn
         requires ports { self.old.world.net.ports ≡ [] }
-        requires place { IsPlaceFor conclusion self.old.world.images }
+        requires place { IsPlaceFor conclusion self.old.world.state.images }
         ensures { Concludes result script conclusion self.old self.new log.old log.new }
     {
         match conclusion {

@@ -1,7 +1,6 @@
 // The engine of a run: a client that uses records, runs its script, fetches files and hands an image off.
-// Its contract is the script machine of specs/Machine.antt: each call's records are a step of it. It leaves
-// out all commands but `echo`, `exit`, `goto`, and `imgfetch` and `imgexec` with a TFTP server's address, and
-// the expansion of words. Begin with `Client`.
+// Its contract is the script machine of specs/Machine.antt: each call's records are steps of it. Its commands
+// are those of nb_command; of files it fetches those of a TFTP server given by its address. Begin with `Client`.
 #![tactic(auto)]
 
 mod advancing;
@@ -16,6 +15,7 @@ mod kept;
 mod laws;
 mod put;
 mod running;
+mod settings;
 mod stage;
 mod status;
 mod steps;

@@ -4,20 +4,24 @@ ghost use Rattle.nb_defs.specs.Records.{out_texts, leave};
 ghost use Rattle.nb_defs.specs.Causes.{ok};
 ghost use Rattle.nb_defs.specs.ScriptLines.{label_place};
 ghost use Rattle.nb_record.specs.Logged.{Puts};
+ghost use Rattle.nb_settings.specs.Tables.{TableLists};
 ghost use Rattle.nb_script.specs.Shown.{shown_item, FitList};
 ghost use Rattle.nb_script.specs.ShownJoin.{shown_join};
 ghost use Rattle.nb_script.specs.ShownLine.{shown_line, HasAtMost};
-ghost use Rattle.nb_engine.specs.Running.{Running, first_script, lets_run, onto_line, behind_command, entered, further, with_result, behind_line, anew};
+ghost use Rattle.nb_engine.specs.Running.{Running, first_script, kept_result, lets_run, onto_line, behind_lines, behind_command, entered, further, with_result, behind_line, anew};
 ghost use Rattle.nb_engine.specs.declared.running.Next.TheVariants as next;
+ghost use Rattle.nb_engine.specs.Effects.{shown_as};
 ghost use Rattle.nb_engine.specs.Machine.{command_record, command_records, prints};
 ghost use Rattle.nb_engine.specs.Steps.{Does, GoesTo};
-ghost use Rattle.nb_engine.specs.NextCommand.{HasCommand, IsNext, list_of};
+ghost use Rattle.nb_engine.specs.NextCommand.{IsReady, IsNext, IsExpansion, list_of};
 ghost use Rattle.nb_engine.specs.CommandWords.{done_of};
 
 use crate::command::Done;
+use nb_expand::{ExpandError, expand_words};
 use nb_record::{Cause, Log, NoMemory, OutRec};
 use nb_script::{Item, Join, Script, ScriptError, ScriptLine};
-use nb_terms::{Many, Plain, Reason};
+use nb_settings::Table;
+use nb_terms::{Long, Many, Plain, Reason};
 use nb_wire::{Text, Word, Words};
 use std::alloc::Global;
 use std::collections::VecDeque;
@@ -48,8 +52,9 @@ pub struct RunningScript {
 }
 
 impl Model for RunningScript {
-    ghost use Rattle.std.specs.Prelude.{◌≤◌, ◌+◌, length, map};
+    ghost use Rattle.std.specs.Prelude.{◌≡◌, ◌≤◌, ◌+◌, length, map, true};
     ghost use Rattle.nb_script.specs.Shown.{shown_item, FitList};
+    ghost use Rattle.nb_defs.specs.Causes.{ok, is_ok_cause};
     ghost use Rattle.nb_engine.specs.Running.{Running};
 
     ghost Value = { Running };
@@ -60,6 +65,7 @@ impl Model for RunningScript {
         × (s.place.value.passed ≤ length s.place.value.script)
         × (length s.place.value.script ≤ 1048576)
         × (s.place.value.place + length s.place.value.rest.items ≤ 65)
+        × (is_ok_cause s.place.value.last ≡ true → s.place.value.last ≡ ok)
         × FitList s.place.value.rest.items };
 }
 
@@ -70,8 +76,10 @@ pub enum Next {
     Passed,
     /// It is left with this cause.
     Left(Cause),
-    /// A command with these words begins.
+    /// A command begins, with these words, which were expanded.
     Begins(Words),
+    /// A command begins with these words, and they aren't expanded, for this cause.
+    Refused(Words, Cause),
     /// A command is to begin, and 4,096 began in this step.
     Full,
 }
@@ -84,6 +92,17 @@ fn lets_run(join: Join, last: Cause) -> bool
         Join::First | Join::Then => true,
         Join::And => last.code == 0,
         Join::Or => last.code != 0,
+    }
+}
+
+/// A result, as a script keeps it: a success has no numbers.
+fn kept_result(cause: Cause) -> Cause
+    ensures { result ≡ kept_result cause }
+{
+    if cause.code == 0 {
+        Plain::Ok.cause()
+    } else {
+        cause
     }
 }
 
@@ -107,6 +126,20 @@ fn copy_words(alloc: Global, words: &[Word]) -> Result<Words, NoMemory>
         copy.push(Word::from_vec(Vec::from_slice(alloc, word.as_slice())?))?;
     }
     Ok(Words::from_vec(copy))
+}
+
+/// A command of these words begins, once they are expanded by these settings.
+fn expanded(alloc: Global, words: &[Word], table: &Table) -> Result<Next, NoMemory>
+    requires { length words.now ≤ 64 }
+    ensures { IfOk result (λ next. IsExpansion next table.now words.now) }
+{
+    let cause = match expand_words(alloc, words, table) {
+        Ok(list) => return Ok(Next::Begins(list)),
+        Err(ExpandError::BadName) => Plain::BadName.cause(),
+        Err(ExpandError::TooLong) => Cause::from(Reason::TooLong(Long::Line)),
+        Err(ExpandError::NoMemory) => return Err(NoMemory),
+    };
+    Ok(Next::Refused(copy_words(alloc, words)?, cause))
 }
 
 /// Puts what a command prints.
@@ -139,9 +172,10 @@ impl RunningScript {
         })
     }
 
-    /// What the script comes to next. A line, or a command that doesn't run or has no words, is passed.
-    pub fn next(&mut self, alloc: Global) -> Result<Next, NoMemory>
-        ensures { IfOk result (λ next. IsNext next self.old self.new) }
+    /// What the script comes to next, with these settings. A line, or a command that doesn't run or has no words, is
+    /// passed.
+    pub fn next(&mut self, alloc: Global, table: &Table) -> Result<Next, NoMemory>
+        ensures { IfOk result (λ next. IsNext next table.now self.old self.new) }
     {
         let place: &Progress = &self.place;
         let Some(item) = place.rest.front() else {
@@ -156,25 +190,27 @@ impl RunningScript {
         if place.begun == MOST_COMMANDS {
             return Ok(Next::Full);
         }
-        Ok(Next::Begins(copy_words(alloc, item.words.as_slice())?))
+        expanded(alloc, item.words.as_slice(), table)
     }
 
-    /// Passes the next line, and cuts its list. The list before it is over: where it ended in failure, the script is left.
+    /// Passes lines on which nothing is to be done and the one behind them, and cuts its list. The list before them is
+    /// over: where it ended in failure, the script is left.
     fn next_line(&mut self, alloc: Global) -> Result<Next, NoMemory>
         requires { self.old.rest ≡ [] }
-        ensures { IfOk result (λ next. IsNext next self.old self.new) }
+        ensures { (table : TableLists) → IfOk result (λ next. IsNext next table self.old self.new) }
     {
         let place: &Progress = &self.place;
         if place.last.code != 0 {
             return Ok(Next::Left(place.last));
         }
-        let Some(line) = place.script.line(place.passed) else {
+        let busy = place.script.next_busy(place.passed);
+        let Some(line) = place.script.line(busy) else {
             return Ok(Next::Left(Plain::Ok.cause()));
         };
         match list_on(line) {
-            None => Ok(self.pass(VecDeque::new(alloc))),
+            None => Ok(self.pass(busy, VecDeque::new(alloc))),
             Some(text) => match Script::list(alloc, text) {
-                Ok(list) => Ok(self.pass(VecDeque::from(list))),
+                Ok(list) => Ok(self.pass(busy, VecDeque::from(list))),
                 Err(ScriptError::TooManyWords) => {
                     Ok(Next::Left(Cause::from(Reason::TooMany(Many::Words))))
                 }
@@ -183,16 +219,17 @@ impl RunningScript {
         }
     }
 
-    /// Passes a line with these commands.
-    fn pass(&mut self, list: VecDeque<Item>) -> Next
-        requires there { self.old.passed < length self.old.code }
+    /// Passes the lines up to this one, which has these commands. The list before them succeeded.
+    fn pass(&mut self, line: usize, list: VecDeque<Item>) -> Next
+        requires there { line < length self.old.code }
         requires fits { FitList list.items }
         ensures result { result ≡ next.Passed }
-        ensures after { self.new ≡ onto_line self.old (map shown_item list.items) }
+        ensures after { self.new ≡ with_result (onto_line (behind_lines self.old line) (map shown_item list.items)) ok }
     {
-        self.place.passed += 1;
-        self.place.rest = list;
         self.place.place = 0;
+        self.place.passed = line + 1;
+        self.place.rest = list;
+        self.end_with(Plain::Ok.cause());
         Next::Passed
     }
 
@@ -232,7 +269,7 @@ impl RunningScript {
     pub fn end_with(&mut self, cause: Cause)
         ensures { self.new ≡ with_result self.old cause }
     {
-        self.place.last = cause;
+        self.place.last = kept_result(cause);
     }
 
     /// A step begins.
@@ -267,29 +304,29 @@ impl RunningScript {
         self.end_with(Plain::Ok.cause());
     }
 
-    /// Puts that a command begins.
-    pub fn put_begun(&self, words: &[Word], log: &mut Log)
+    /// Puts that a command begins, whose words were expanded or stand as they are written.
+    pub fn put_begun(&self, expanded: bool, words: &[Word], log: &mut Log)
         requires few { length words.now ≤ 64 }
         requires total { sum_by length words.now ≤ 4096 }
-        ensures { Puts log.old log.new (out_texts (command_record self.now words.now ∷ [])) }
+        ensures { Puts log.old log.new (out_texts (command_record self.now (shown_as expanded words.now) ∷ [])) }
     {
         log.put(&OutRec::Command {
             depth: self.place.depth,
             line: self.place.passed as u32,
             place: self.place.place,
-            expanded: true,
+            expanded,
             words,
         });
     }
 
     /// Puts COMMAND, what the command prints, and its result.
-    fn put_command(&self, words: &[Word], done: &Done, log: &mut Log)
+    fn put_command(&self, expanded: bool, words: &[Word], done: &Done, log: &mut Log)
         requires few { length words.now ≤ 64 }
         requires total { sum_by length words.now ≤ 4096 }
         requires printed { IfSome done.now.prints (λ text. length text ≤ 4160) }
-        ensures { Puts log.old log.new (out_texts (command_records self.now words.now (done_of done.now))) }
+        ensures { Puts log.old log.new (out_texts (command_records self.now (shown_as expanded words.now) (done_of done.now))) }
     {
-        self.put_begun(words, log);
+        self.put_begun(expanded, words, log);
         put_prints(&done.prints, log);
         log.put(&OutRec::Result(done.cause));
     }
@@ -307,27 +344,33 @@ impl RunningScript {
 
     /// Does `goto` of this label: goes on after it, or fails where there is none.
     pub fn go_to(&mut self, words: &[Word], label: &[u8], log: &mut Log)
-        requires { HasCommand self.old words.now }
-        ensures { GoesTo words.now (label_place label.now self.old.code) self.old self.new log.old log.new }
+        requires { IsReady self.old words.now }
+        ensures { GoesTo (shown_as true words.now) (label_place label.now self.old.code) self.old self.new log.old log.new }
     {
         match self.label(label) {
             Some(line) => {
-                self.put_command(words, &Done::with(Plain::Ok.cause()), log);
+                self.put_command(true, words, &Done::with(Plain::Ok.cause()), log);
                 self.jump(line);
             }
             None => {
-                self.finish(words, &Done::with(Plain::NoLabel.cause()), log);
+                self.finish(true, words, &Done::with(Plain::NoLabel.cause()), log);
             }
         }
     }
 
     /// Puts a command that is over. Some cause where the script is left with it.
-    pub fn finish(&mut self, words: &[Word], done: &Done, log: &mut Log) -> Option<Cause>
-        requires command { HasCommand self.old words.now }
+    pub fn finish(
+        &mut self,
+        expanded: bool,
+        words: &[Word],
+        done: &Done,
+        log: &mut Log,
+    ) -> Option<Cause>
+        requires command { IsReady self.old words.now }
         requires printed { IfSome done.now.prints (λ text. length text ≤ 4160) }
-        ensures { Does words.now (done_of done.now) result self.old self.new log.old log.new }
+        ensures { Does (shown_as expanded words.now) (done_of done.now) result self.old self.new log.old log.new }
     {
-        self.put_command(words, done, log);
+        self.put_command(expanded, words, done, log);
         if done.leaves {
             self.put_leave(done.cause, log);
             return Some(done.cause);

@@ -10,6 +10,8 @@ pub enum Stage {
     Running(RunningScript),
     /// The script's last command waits for a fetch.
     Waiting(RunningScript, KeptFetch),
+    /// The script's last command sleeps until this time, in milliseconds since the run's start.
+    Sleeping(RunningScript, u64),
     /// 4,096 commands of the script began in this step, and another is to begin.
     Yielded(RunningScript),
     /// An image is handed off.

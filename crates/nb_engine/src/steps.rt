@@ -1,5 +1,6 @@
-ghost use Rattle.std.specs.Prelude.{◌≡◌, ◌+◌, ◌*◌, ◌≤◌, length, slice_get, [], ◌∷◌, true, false, IfOk, IfErr};
-ghost use Rattle.nb_defs.specs.Records.{IsStart, IsFrameRecord, IsTick, out_texts, step, enter, leave};
+ghost use Rattle.std.specs.Prelude.{◌≡◌, ℕ, ◌+◌, ◌*◌, ◌≤◌, length, [], ◌∷◌, IfOk, IfErr, OnOk, OnErr};
+ghost use Rattle.nb_defs.specs.Causes.{ok};
+ghost use Rattle.nb_defs.specs.Records.{IsStart, IsFrameRecord, IsTick, out_texts, step, enter, leave, result as result_record};
 ghost use Rattle.nb_defs.specs.Records as defs;
 ghost use Rattle.nb_record.specs.View.{start_of};
 ghost use Rattle.nb_record.specs.Logged.{Puts};
@@ -7,28 +8,36 @@ ghost use Rattle.std.specs.Option.{option_map};
 ghost use Rattle.nb_stack.specs.Takes.{outcome};
 ghost use Rattle.nb_tftp.specs.Received.{received};
 ghost use Rattle.nb_tftp.specs.History.{came, ticked};
-ghost use Rattle.std.specs.List.{list_any};
 ghost use Rattle.nb_script.specs.Errors.{IsOfText};
 ghost use Rattle.nb_engine.specs.Machine.{reply_records};
-ghost use Rattle.nb_engine.specs.Running.{Running, anew};
-ghost use Rattle.nb_defs.specs.ScriptText.{has_expansion};
-ghost use Rattle.nb_engine.specs.FirstText.{has_parts, has_parts_in};
+ghost use Rattle.nb_engine.specs.Running.{Running, anew, with_result};
+ghost use Rattle.nb_engine.specs.FirstText.{first_text};
 ghost use Rattle.nb_engine.specs.FirstScript.{RunsFirst, IsRefusalOf, IsUnread};
 ghost use Rattle.nb_engine.specs.Opens.{heard_from};
 ghost use Rattle.nb_engine.specs.Seen.{IsSound, standing};
-ghost use Rattle.nb_engine.specs.Heeding.{Uses, Heeds, Comes, IsReply};
+ghost use Rattle.nb_engine.specs.Heeding.{Uses, Heeds, Comes, IsReply, TakesFrame};
 ghost use Rattle.nb_engine.specs.declared.stage.Stage.TheVariants as stage;
 ghost use Rattle.nb_engine.specs.declared.client.Turn.TheVariants as turn;
 
 use crate::desk::{Desk, lent};
-use crate::put::{put_over, put_reply, put_step};
+use crate::put::{put_over, put_reply, put_result, put_step};
 use crate::{Client, KeptFetch, RunningScript, Stage, Status, Turn, World};
 use nb_record::{Cause, Log, NoMemory, OutRec, Start};
-use nb_script::{Script, ScriptError, ScriptLine};
+use nb_script::{Script, ScriptError};
 use nb_stack::Taken;
 use nb_terms::{Long, Plain, Reason};
 use nb_wire::{Ip4, Text};
 use std::alloc::Global;
+
+/// The script that runs where START gives none.
+const BUILT_IN: &[u8] = b"#!ipxe
+dhcp || exit 1
+isset ${filename} || goto san
+chain ${filename} && exit 0 || goto san
+:san
+isset ${root-path} || exit 1
+sanboot ${root-path}
+";
 
 /// Why the first script's text doesn't run.
 enum Unread {
@@ -51,51 +60,22 @@ fn refused_text(error: ScriptError) -> Unread
     }
 }
 
-/// Whether a text has a `${`.
-fn has_expansion(text: &[u8]) -> bool
-    ensures { result ≡ has_expansion text.now }
+/// The first script's text: START's, or where that is empty the one that is built in.
+fn first_text<'a>(given: &'a [u8]) -> &'a [u8]
+    ensures { result.now ≡ first_text given.now }
 {
-    for i in 0..text.len() {
-        if text[i..].starts_with(b"${") {
-            return true;
-        }
-    }
-    false
+    if given.is_empty() { BUILT_IN } else { given }
 }
 
-/// Whether a `${` stands in the list of the line at this place.
-fn has_parts_at(script: &Script, place: usize) -> bool
-    ensures { result ≡ has_parts_in (slice_get script.now place) }
+/// The first script, its text copied, before its first line.
+fn read_script(alloc: Global, given: &[u8]) -> Result<RunningScript, Unread>
+    ensures runs { IfOk result (RunsFirst given.now) }
+    ensures refused { IfErr result (IsRefusalOf given.now) }
 {
-    match script.line(place) {
-        Some(ScriptLine::List(text)) => has_expansion(text),
-        _ => false,
-    }
-}
-
-/// Whether a `${` stands in a list of the script.
-fn expands(script: &Script) -> bool
-    ensures value { result ≡ list_any has_parts script.now }
-    ensures fits { length script.now ≤ 1048576 }
-{
-    for i in 0..script.len() {
-        if has_parts_at(script, i) {
-            return true;
-        }
-    }
-    false
-}
-
-/// The script of these bytes, copied, before its first line.
-fn read_script(alloc: Global, bytes: &[u8]) -> Result<RunningScript, Unread>
-    ensures runs { IfOk result (RunsFirst bytes.now) }
-    ensures refused { IfErr result (IsRefusalOf bytes.now) }
-{
-    let Ok(copy) = Vec::from_slice(alloc, bytes) else {
+    let Ok(copy) = Vec::from_slice(alloc, first_text(given)) else {
         return Err(Unread::NoMemory);
     };
     match Script::read(alloc, Text::from_vec(copy)) {
-        Ok(script) if expands(&script) => Err(Unread::Refused(Plain::NotScript.cause())),
         Ok(script) => match RunningScript::first(alloc, script) {
             Ok(script) => Ok(script),
             Err(NoMemory) => Err(Unread::NoMemory),
@@ -148,10 +128,13 @@ impl Client {
         requires valid { IsStart (start_of start.now) }
         ensures { Uses result (defs.start (start_of start.now)) (standing self.old stage.Ready) self.new log.old log.new }
     {
+        let Ok(world) = World::of(self.alloc, start) else {
+            return Turn::Over(Status::NoMemory);
+        };
         match read_script(self.alloc, start.script) {
             Ok(script) => {
                 put_entered(self.used, log);
-                self.world = World::of(self.alloc, start);
+                self.world = world;
                 self.stage = Stage::Running(script);
                 Turn::More
             }
@@ -297,22 +280,34 @@ impl Client {
         Turn::Over(Status::Unfinished)
     }
 
-    /// A frame arrives, while a script goes on with its commands in this step. That is rare, and stands apart.
+    /// A frame arrives while no open lives: it may change the neighbours, and be replied to. That is rare, and
+    /// stands apart.
     #[inline(never)]
-    pub(crate) fn frame_anew(&mut self, script: RunningScript, bytes: &[u8], log: &mut Log) -> Turn
+    fn take_frame(&mut self, bytes: &[u8], log: &mut Log) -> Result<(), NoMemory>
         requires valid { IsFrameRecord bytes.now }
-        requires sound { IsSound self.old.used self.old.world (stage.Yielded script) }
-        ensures { Uses result (defs.frame bytes.now) (standing self.old (stage.Yielded script)) self.new log.old log.new }
+        requires ports { self.old.world.net.ports ≡ [] }
+        ensures takes { OnOk result (TakesFrame bytes.now self.old self.new log.old log.new) }
+        ensures nothing { OnErr result (log.new ≡ log.old) }
     {
-        let Ok(mut desk) = lent(self.alloc, self.desk.take()) else {
-            return Turn::Over(Status::NoMemory);
-        };
+        let mut desk = lent(self.alloc, self.desk.take())?;
         let mut reply = desk.room.out();
         self.world.net.take(bytes, &mut reply);
         put_step(self.used, log);
         put_reply(reply.written(), log);
         self.desk = Some(desk);
-        self.run_anew(script)
+        Ok(())
+    }
+
+    /// A frame arrives, while a script goes on with its commands in this step.
+    pub(crate) fn frame_anew(&mut self, script: RunningScript, bytes: &[u8], log: &mut Log) -> Turn
+        requires valid { IsFrameRecord bytes.now }
+        requires sound { IsSound self.old.used self.old.world (stage.Yielded script) }
+        ensures { Uses result (defs.frame bytes.now) (standing self.old (stage.Yielded script)) self.new log.old log.new }
+    {
+        match self.take_frame(bytes, log) {
+            Ok(()) => self.run_anew(script),
+            Err(NoMemory) => Turn::Over(Status::NoMemory),
+        }
     }
 
     /// So many milliseconds pass, and a script goes on with its commands.
@@ -346,5 +341,80 @@ impl Client {
         script.begin_step();
         self.stage = Stage::Running(script);
         Turn::More
+    }
+
+    /// A frame arrives, while the script's command sleeps until this time.
+    pub(crate) fn frame_asleep(
+        &mut self,
+        script: RunningScript,
+        until: u64,
+        bytes: &[u8],
+        log: &mut Log,
+    ) -> Turn
+        requires valid { IsFrameRecord bytes.now }
+        requires sound { IsSound self.old.used self.old.world (stage.Sleeping script until) }
+        ensures { Uses result (defs.frame bytes.now) (standing self.old (stage.Sleeping script until)) self.new log.old log.new }
+    {
+        match self.take_frame(bytes, log) {
+            Ok(()) => self.sleep_on(script, until),
+            Err(NoMemory) => Turn::Over(Status::NoMemory),
+        }
+    }
+
+    /// So many milliseconds pass, while the script's command sleeps until this time.
+    pub(crate) fn tick_asleep(
+        &mut self,
+        script: RunningScript,
+        until: u64,
+        ms: u16,
+        log: &mut Log,
+    ) -> Turn
+        requires valid { IsTick ms }
+        requires sound { IsSound self.old.used self.old.world (stage.Sleeping script until) }
+        requires early { self.old.world.time + 60000 ≤ 60000 * self.old.used }
+        ensures { Uses result (defs.tick ms) (standing self.old (stage.Sleeping script until)) self.new log.old log.new }
+    {
+        let passed = u64::from(ms);
+        self.world.time += passed;
+        put_step(self.used, log);
+        if self.world.time < until {
+            self.sleep_on(script, until)
+        } else {
+            self.wake(script, log)
+        }
+    }
+
+    /// The command sleeps on in a new step.
+    fn sleep_on(&mut self, mut script: RunningScript, until: u64) -> Turn
+        requires sound { IsSound self.old.used self.old.world (stage.Sleeping script until) }
+        ensures turn { result ≡ turn.Waiting }
+        ensures after { self.new ≡ standing self.old (stage.Sleeping (anew script) until) }
+    {
+        script.begin_step();
+        self.stage = Stage::Sleeping(script, until);
+        Turn::Waiting
+    }
+
+    /// The command is over, and its script goes on in a new step.
+    fn wake(&mut self, mut script: RunningScript, log: &mut Log) -> Turn
+        requires sound { IsSound self.old.used self.old.world (stage.Running script) }
+        ensures turn { result ≡ turn.More }
+        ensures puts { Puts log.old log.new (out_texts (result_record ok ∷ [])) }
+        ensures after { self.new ≡ standing self.old (stage.Running (with_result (anew script) ok)) }
+    {
+        put_result(Plain::Ok.cause(), log);
+        script.begin_step();
+        script.end_with(Plain::Ok.cause());
+        self.stage = Stage::Running(script);
+        Turn::More
+    }
+
+    /// The power is switched off, while the script's command sleeps.
+    pub(crate) fn off_asleep(&mut self, log: &mut Log) -> Turn
+        ensures { (s : Running) (until : ℕ) → Uses result defs.off (standing self.old (stage.Sleeping s until)) self.new log.old log.new }
+    {
+        put_step(self.used, log);
+        self.stage = Stage::Stopped;
+        Turn::Over(Status::Unfinished)
     }
 }

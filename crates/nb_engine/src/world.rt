@@ -1,14 +1,17 @@
-ghost use Rattle.std.specs.Prelude.{◌≡◌, ◌<◌, ◌≤◌};
+ghost use Rattle.std.specs.Prelude.{◌≡◌, ◌<◌, IfOk};
 ghost use Rattle.nb_record.specs.View.{start_of};
-ghost use Rattle.nb_engine.specs.World.{mask_of, gateway_of, address_of, world_of, own_port};
+ghost use Rattle.nb_engine.specs.World.{mask_of, gateway_of, address_of, bare_world, world_of, own_port};
 
+use crate::settings::start_table;
+use nb_command::State;
 use nb_image::Images;
-use nb_record::Start;
+use nb_record::{NoMemory, Start};
+use nb_settings::Table;
 use nb_stack::{Addr, Stack};
 use nb_wire::Ip4;
 use std::alloc::Global;
 
-/// What a run has beside its script: its link, its clock, its opens and its images.
+/// What a run has beside its script: its link, its clock, its opens, its settings and its images.
 #[derive(Drop)]
 pub struct World {
     /// The number from which the ports of the opens count.
@@ -18,7 +21,8 @@ pub struct World {
     pub(crate) net: Stack,
     /// How many opens were made.
     pub(crate) opens: u16,
-    pub(crate) images: Images,
+    /// Its settings and its images.
+    pub(crate) state: State,
 }
 
 /// The net's mask where START gives none.
@@ -65,9 +69,9 @@ pub fn own_port(w: u16, number: u16) -> u16
 }
 
 impl World {
-    /// The world of a run that begins with this START.
-    pub fn of(alloc: Global, start: &Start<'_>) -> World
-        ensures { result ≡ world_of (start_of start.now) }
+    /// The world before START was used: it has no settings yet, and takes no memory.
+    pub fn bare(alloc: Global, start: &Start<'_>) -> World
+        ensures { result ≡ bare_world (start_of start.now) }
     {
         let mut net = Stack::new(start.mac);
         net.set_address(address_of(start));
@@ -77,7 +81,19 @@ impl World {
             time: 0,
             net,
             opens: 0,
-            images: Images::new(alloc),
+            state: State {
+                table: Table::new(alloc),
+                images: Images::new(alloc),
+            },
         }
+    }
+
+    /// The world of a run that begins with this START.
+    pub fn of(alloc: Global, start: &Start<'_>) -> Result<World, NoMemory>
+        ensures { IfOk result (λ w. w ≡ world_of (start_of start.now)) }
+    {
+        let mut world = World::bare(alloc, start);
+        world.state.table = start_table(alloc, start)?;
+        Ok(world)
     }
 }

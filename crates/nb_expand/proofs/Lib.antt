@@ -4,6 +4,8 @@ pub mod UriLemmas
 pub mod PairLemmas
 pub mod AddressLemmas
 pub mod NameLemmas
+pub mod WordsExpansionLemmas
 pub mod NumberBackLemmas
 pub mod BytesBackLemmas
 pub mod ReadBackLemmas
+pub mod PrintedLengthLemmas

@@ -161,10 +161,14 @@ nothing : {A : Type 0} (o : Option A) → ((x : A) → o ≡ Some x → ⊥) →
 nothing None never = refl
 nothing (Some x) never = absurd (never x refl)
 
+-- a name is short
+pub name_short : (text : List ℕ) (name : SettingName) → name_read text ≡ Some name → length text ≤ 201
+unfolding name_read
+name_short text name h = block_cut-short (cut_at 47 text) text name refl h
+
 -- a longer text is no name
 read_none : (text : List ℕ) → 201 < length text → name_read text ≡ None
-unfolding name_read
-read_none text long = nothing (name_read text) (λ name h. omega (arith, long, block_cut-short (cut_at 47 text) text name refl h))
+read_none text long = nothing (name_read text) (λ name h. omega (arith, long, name_short text name h))
 
 pub named_text-knows : (table : TableLists) → KnowsNames (named_text table)
 unfolding named_text

@@ -6,5 +6,6 @@ pub mod Uris
 pub mod Printing
 pub mod Reading
 pub mod Expansion
+pub mod WordsExpansion
 pub mod Gathering
 pub mod Values

@@ -14,6 +14,7 @@ mod parsing;
 mod printing;
 mod token;
 mod values;
+mod words_expansion;
 
 pub use error::{ExpandError, ParseError};
 pub use expansion::expand;
@@ -21,6 +22,7 @@ pub use number::integer;
 pub use parsing::parse;
 pub use printing::print;
 pub use values::text_of_name;
+pub use words_expansion::expand_words;
 
 #[cfg(test)]
 mod tests;

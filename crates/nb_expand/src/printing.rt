@@ -1,4 +1,4 @@
-ghost use Rattle.std.specs.Prelude.{◌≡◌, Some, IfOk};
+ghost use Rattle.std.specs.Prelude.{◌≡◌, ◌+◌, ◌*◌, ◌≤◌, Some, IfOk, length};
 ghost use Rattle.uuid.specs.Text.{hyphenated_text};
 ghost use Rattle.hex.specs.Hex.{encode_lower};
 ghost use Rattle.base64.specs.Engines.{standard};
@@ -34,6 +34,7 @@ pub fn print(alloc: Global, kind: Kind, bytes: &[u8]) -> Result<Text, NoMemory>
     // A value of its kind's length, printed and read again, is the same value.
     ensures read_back { IsWhole kind bytes.now
         → parsed kind (printed kind bytes.now) ≡ Some bytes.now }
+    ensures short { IfOk result (λ text. length text ≤ 3 * length bytes.now + 36) }
 {
     Ok(Text::from_vec(print_bytes(alloc, kind, bytes)?))
 }

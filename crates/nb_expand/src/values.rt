@@ -1,4 +1,4 @@
-ghost use Rattle.std.specs.Prelude.{◌≡◌, ◌≢◌, Some, None, Err, IfOk, IsErrOf};
+ghost use Rattle.std.specs.Prelude.{◌≡◌, ◌≢◌, ◌≤◌, Some, None, Err, IfOk, IsErrOf, length};
 ghost use Rattle.nb_settings.specs.Names.{name_of};
 ghost use Rattle.nb_expand.specs.Values.{named_text, text_of_name};
 
@@ -25,7 +25,9 @@ pub(crate) fn named_text(alloc: Global, bytes: &[u8], table: &Table) -> Result<T
 /// The value of the setting that a name finds, as text by the kind that the name gives, or else by its own. An
 /// unset setting, and an absent block, give nothing.
 pub fn text_of_name(alloc: Global, name: &Name<'_>, table: &Table) -> Result<Text, NoMemory>
-    ensures { IfOk result (λ text. text ≡ text_of_name table.now (name_of name.now)) }
+    ensures value { IfOk result (λ text. text ≡ text_of_name table.now (name_of name.now)) }
+    // A value has at most 1,024 bytes, and prints as three for each and 36 more.
+    ensures short { IfOk result (λ text. length text ≤ 3108) }
 {
     match table.find(name.block, &name.key) {
         Some(value) => print(alloc, name.kind.unwrap_or(value.kind), value.bytes),

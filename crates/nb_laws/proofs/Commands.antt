@@ -4,6 +4,7 @@ use Rattle.std.proofs.lemmas.List.Sums.{fold-append}
 use Rattle.nb_defs.specs.Commands.{CommandOutcome}
 use Rattle.nb_defs.specs.Records.{Out, sent, tried, advanced, result}
 use Rattle.nb_engine.specs.Conclusions.{Conclusion, keeps, fails, boots, conclusion_records}
+use Rattle.nb_engine.specs.Effects.{ShownWords}
 use Rattle.nb_engine.specs.Running.{Running, passing, coming, anew}
 use Rattle.nb_engine.specs.Machine.{prints, command_record, command_records}
 use Rattle.nb_laws.specs.Events.{Event, puts}
@@ -38,10 +39,10 @@ conclusion_begins n (keeps list) = refl
 conclusion_begins n (fails cause) = refl
 conclusion_begins n (boots list kernel) = refl
 
-pub command_begins : (n : ℕ) (s : Running) (ws : List (List ℕ)) (o : CommandOutcome) → fold commands_by n (told (command_records s ws o)) ≡ n + 1
-command_begins n s ws o = by o.prints
+pub command_begins : (n : ℕ) (s : Running) (shown : ShownWords) (o : CommandOutcome) → fold commands_by n (told (command_records s shown o)) ≡ n + 1
+command_begins n s shown o = by o.prints
   where
-    by : (p : Option (List ℕ)) → fold commands_by n (told ((command_record s ws ∷ []) ++ prints p ++ (result o.cause ∷ []))) ≡ n + 1
+    by : (p : Option (List ℕ)) → fold commands_by n (told ((command_record s shown ∷ []) ++ prints p ++ (result o.cause ∷ []))) ≡ n + 1
     by None = refl
     by (Some bytes) = refl
 

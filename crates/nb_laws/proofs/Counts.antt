@@ -1,7 +1,7 @@
 -- The machine counts the records used.
 use Rattle.std.proofs.Common.{◌≡◌, ◌+◌, List, [], ◌∷◌, length, refl, ◌∙◌, arith, length-append}
 use Rattle.nb_defs.specs.Records.{In, Out}
-use Rattle.nb_engine.specs.Machine.{Machine, Path, nothing, uses, moves, Begins, runs, refuses, passes_by, brings, passes_time, switches_off, goes_on_by_frame, goes_on_by_tick, goes_off, Move, passes, is_left, yields, does, leaves, jumps, finds_no_label, asks_for, finds_no_route, hands, has_handed}
+use Rattle.nb_engine.specs.Machine.{Machine, Path, nothing, uses, moves, Begins, runs, refuses, passes_by, brings, passes_time, switches_off, goes_on_by_frame, goes_on_by_tick, goes_off, sleeps_through_frame, sleeps_on, wakes, goes_off_asleep, Move, passes, is_left, yields, does, leaves, jumps, finds_no_label, falls_asleep, asks_for, finds_no_route, hands, has_handed}
 
 pub begins_counts : (m : Machine) (r : In) (added : List Out) (m' : Machine) → Begins m r added m' → m'.used ≡ m.used + 1
 begins_counts m r added m' (runs n s code valid reading) = refl
@@ -13,6 +13,10 @@ begins_counts m r added m' (switches_off n w s o) = refl
 begins_counts m r added m' (goes_on_by_frame n w s bytes reply seen net valid t) = refl
 begins_counts m r added m' (goes_on_by_tick n w s ms valid) = refl
 begins_counts m r added m' (goes_off n w s) = refl
+begins_counts m r added m' (sleeps_through_frame n w s until bytes reply seen net valid t) = refl
+begins_counts m r added m' (sleeps_on n w s until ms valid early) = refl
+begins_counts m r added m' (wakes n w s until ms valid late) = refl
+begins_counts m r added m' (goes_off_asleep n w s until) = refl
 
 pub move_counts : (m : Machine) (added : List Out) (m' : Machine) → Move m added m' → m'.used ≡ m.used
 move_counts m added m' (passes n w s t h) = refl
@@ -22,6 +26,7 @@ move_counts m added m' (does n w s x xs o h g k l) = refl
 move_counts m added m' (leaves n w s x xs o h g k l) = refl
 move_counts m added m' (jumps n w s x xs name line h g k l) = refl
 move_counts m added m' (finds_no_label n w s x xs name h g k l) = refl
+move_counts m added m' (falls_asleep n w s x xs seconds h g k) = refl
 move_counts m added m' (asks_for n w s x xs wanted h g k l) = refl
 move_counts m added m' (finds_no_route n w s x xs wanted h g k l) = refl
 move_counts m added m' (hands n r rest) = refl

@@ -1,20 +1,15 @@
 -- The machine's images are those that the history says were brought.
-use Rattle.std.proofs.Common.{◌≡◌, ℕ, ◌-◌, ◌==◌, ◌&&◌, Bool, true, false, cond, List, [], ◌∷◌, ◌++◌, Option, Some, None, refl, sym, ◌∙◌, ap, subst, append_assoc, append-nil, length, if◌then◌else◌}
-use Rattle.std.specs.Prelude.{codes, unwrap_or}
-use Rattle.std.specs.List.{AllByRecursion, after_last}
-use Rattle.std.specs.Option.{option_map, option_map_or}
-use Rattle.std.specs.Str.{bytes_eq}
-use Rattle.std.proofs.lemmas.Option.{none-some, same_Some}
+use Rattle.std.proofs.Common.{◌≡◌, ℕ, ◌-◌, ◌&&◌, Bool, true, false, cond, List, [], ◌∷◌, ◌++◌, Option, Some, None, refl, sym, ◌∙◌, ap, append_assoc, append-nil, length, if◌then◌else◌}
+use Rattle.std.specs.Prelude.{unwrap_or}
+use Rattle.std.specs.List.{AllByRecursion}
 use Rattle.std.proofs.lemmas.List.Sums.{fold-append}
 use Rattle.nb_terms.specs.declared.acts.Acts.{Acts}
 use Rattle.nb_terms.specs.declared.acts.SendTo.{SendTo}
 use Rattle.nb_terms.specs.declared.cause.Cause.{Cause}
-use Rattle.nb_defs.specs.Causes.{ok, usage, is_ok_cause}
-use Rattle.nb_defs.specs.Commands.{CommandOutcome, command_outcome, refused, is_option}
+use Rattle.nb_defs.specs.Causes.{ok, is_ok_cause}
+use Rattle.nb_defs.specs.Commands.{CommandOutcome}
 use Rattle.nb_defs.specs.Records.{Out, step, sent, text, command, result, script, opened, tried, advanced, ended, part, done}
 use Rattle.nb_stack.specs.Client.{Client}
-use Rattle.nb_uri.specs.Pieces.{is_slash}
-use Rattle.nb_uri.specs.Targets.{TftpTarget, tftp_target, is_too_long}
 use Rattle.nb_image.specs.declared.image.Image.{Image}
 use Rattle.nb_image.specs.declared.error.ImageError.{ImageError}
 use Rattle.nb_image.specs.declared.error.ImageError.TheVariants as error
@@ -22,7 +17,7 @@ use Rattle.nb_image.specs.Images.{ImageList, with_image, image_place, refusal}
 use Rattle.nb_image.specs.Kinds.{kind_of}
 use Rattle.nb_engine.specs.declared.world.World.{World}
 use Rattle.nb_engine.specs.World.{unbound}
-use Rattle.nb_engine.specs.Effects.{Wanted, Effect, says, asks, goes, asked_for, fetch, goto_label, effect, too_long_uri, full_opens, bad_uri}
+use Rattle.nb_engine.specs.Effects.{ShownWords}
 use Rattle.nb_engine.specs.Opens.{has_route, send_records, sends_records, acts_records, advance_records, try_records}
 use Rattle.nb_engine.specs.Conclusions.{Conclusion, keeps, fails, boots, conclusion, stored, taken_in, selected_in, place_for, is_bootable, not_bootable, cause_of_error, conclusion_records, handoff_records}
 use Rattle.nb_engine.specs.Honesty.{IsNoPart, HaveNoParts}
@@ -32,7 +27,7 @@ use Rattle.nb_engine.proofs.HandingLemmas.{all_append}
 use Rattle.nb_laws.specs.Events.{Event, starts, puts}
 use Rattle.nb_tftp.specs.Blocks.{is_whole}
 use Rattle.nb_laws.specs.Lists.{words_of, words_by, last_end, end_by, datagrams_of, made}
-use Rattle.nb_laws.specs.HandOff.{last_segment, uri_of, came_ok, last_image, image_at, images_brought, image_list}
+use Rattle.nb_laws.specs.HandOff.{came_ok, last_image, image_at, images_brought, image_list}
 use Rattle.nb_laws.specs.Agreement.{AgreesImages, IsSilent}
 use Rattle.nb_laws.proofs.Histories.{gathered_one}
 use Rattle.nb_laws.proofs.Tellings.{told}
@@ -124,6 +119,23 @@ pub opens_parts : (outs : List Out) → AreOpens outs → HaveNoParts outs
 opens_parts [] h = tt
 opens_parts (o ∷ outs) h = (opens_part o h.0, opens_parts outs h.1)
 
+pub last_end_more : (es : List Event) (e : Event) → last_end (es ++ e ∷ []) ≡ end_by (last_end es) e
+unfolding last_end
+last_end_more es e = fold-append end_by None es (e ∷ [])
+
+opens_end : (last : Option Cause) (o : Out) → IsOpens o → end_by last (puts o) ≡ last
+unfolding IsOpens
+opens_end last (sent bytes) h = refl
+opens_end last (tried number count) h = refl
+opens_end last (advanced number place) h = refl
+opens_end last _ h = absurd h
+
+pub opens_keep_end : (es : List Event) (outs : List Out) → AreOpens outs → last_end (es ++ told outs) ≡ last_end es
+opens_keep_end es [] h = ap last_end (append-nil es)
+opens_keep_end es (o ∷ outs) h =
+    ap last_end (sym (append_assoc es (puts o ∷ []) (told outs))) ∙ opens_keep_end (es ++ puts o ∷ []) outs h.1
+    ∙ last_end_more es (puts o) ∙ opens_end (last_end es) o h.0
+
 pub opens_keep : (es : List Event) (outs : List Out) → AreOpens outs → (words_of (es ++ told outs) ≡ words_of es) × (images_brought (es ++ told outs) ≡ images_brought es)
 opens_keep es [] h = (ap words_of (append-nil es), ap images_brought (append-nil es))
 opens_keep es (o ∷ outs) h =
@@ -154,39 +166,35 @@ used_keep es e h = (
 pub one_keeps : (es : List Event) (o : Out) → image_at es (puts o) ≡ [] → images_brought (es ++ puts o ∷ []) ≡ images_brought es
 one_keeps es o none = brought_more es (puts o) ∙ ap (λ z. images_brought es ++ z) none ∙ append-nil (images_brought es)
 
-pub words_now : (es : List Event) (s : Running) (ws : List (List ℕ)) → words_of (es ++ puts (command_record s ws) ∷ []) ≡ Some ws
-words_now es s ws = words_more es (puts (command_record s ws))
+pub words_now : (es : List Event) (s : Running) (shown : ShownWords) → words_of (es ++ puts (command_record s shown) ∷ []) ≡ Some shown.words
+words_now es s shown = words_more es (puts (command_record s shown))
 
 pub words_kept : (es : List Event) (e : Event) (ws : Option (List (List ℕ))) → words_by (words_of es) e ≡ ws → words_of (es ++ e ∷ []) ≡ ws
 words_kept es e ws is = words_more es e ∙ is
 
 -- a command that is over at once brings no image
-pub last_end_more : (es : List Event) (e : Event) → last_end (es ++ e ∷ []) ≡ end_by (last_end es) e
-unfolding last_end
-last_end_more es e = fold-append end_by None es (e ∷ [])
-
 and_none : (a b : Bool) (x : Option Cause) (images : List Image) → x ≡ None → (if a && (came_ok x && b) then images else []) ≡ []
 and_none true b x images e = ap (λ z. cond (came_ok z && b) images []) e
 and_none false b x images e = refl
 
-no_image : (es : List Event) (cause : Cause) → last_end es ≡ None → image_at es (puts (result cause)) ≡ []
+pub no_image : (es : List Event) (cause : Cause) → last_end es ≡ None → image_at es (puts (result cause)) ≡ []
 no_image es cause e = and_none (is_ok_cause cause) (is_whole (datagrams_of (made es - 1) es)) (last_end es) (last_image es) e
 
-pub command_keeps : (es : List Event) (s : Running) (ws : List (List ℕ)) (o : CommandOutcome) → images_brought (es ++ told (command_records s ws o)) ≡ images_brought es
-command_keeps es s ws o = by o.prints
+pub command_keeps : (es : List Event) (s : Running) (shown : ShownWords) (o : CommandOutcome) → images_brought (es ++ told (command_records s shown o)) ≡ images_brought es
+command_keeps es s shown o = by o.prints
   where
-    by : (p : Option (List ℕ)) → images_brought (es ++ told ((command_record s ws ∷ []) ++ prints p ++ (result o.cause ∷ []))) ≡ images_brought es
+    by : (p : Option (List ℕ)) → images_brought (es ++ told ((command_record s shown ∷ []) ++ prints p ++ (result o.cause ∷ []))) ≡ images_brought es
     by None =
-        let e = puts (command_record s ws) in
+        let e = puts (command_record s shown) in
         ap images_brought (sym (append_assoc es (e ∷ []) (puts (result o.cause) ∷ [])))
-        ∙ one_keeps (es ++ e ∷ []) (result o.cause) (no_image (es ++ e ∷ []) o.cause (last_end_more es e)) ∙ one_keeps es (command_record s ws) refl
+        ∙ one_keeps (es ++ e ∷ []) (result o.cause) (no_image (es ++ e ∷ []) o.cause (last_end_more es e)) ∙ one_keeps es (command_record s shown) refl
     by (Some bytes) =
-        let e = puts (command_record s ws) in
+        let e = puts (command_record s shown) in
         let es1 = es ++ e ∷ [] in
         let es2 = es1 ++ puts (text bytes) ∷ [] in
         ap images_brought (sym (append_assoc es (e ∷ []) (puts (text bytes) ∷ puts (result o.cause) ∷ [])) ∙ sym (append_assoc es1 (puts (text bytes) ∷ []) (puts (result o.cause) ∷ [])))
         ∙ one_keeps es2 (result o.cause) (no_image es2 o.cause (last_end_more es1 (puts (text bytes)) ∙ last_end_more es e))
-        ∙ one_keeps es1 (text bytes) refl ∙ one_keeps es (command_record s ws) refl
+        ∙ one_keeps es1 (text bytes) refl ∙ one_keeps es (command_record s shown) refl
 
 no_prints : (p : Option (List ℕ)) → HaveNoParts (prints p)
 no_prints None = tt
@@ -195,9 +203,9 @@ no_prints (Some bytes) = (tt, tt)
 pub parts_more : (xs ys : List Out) → HaveNoParts xs → HaveNoParts ys → HaveNoParts (xs ++ ys)
 parts_more xs ys p q = all_append IsNoPart xs ys p q
 
-pub no_command : (s : Running) (ws : List (List ℕ)) (o : CommandOutcome) → HaveNoParts (command_records s ws o)
-no_command s ws o =
-    parts_more ((command_record s ws ∷ []) ++ prints o.prints) (result o.cause ∷ []) (parts_more (command_record s ws ∷ []) (prints o.prints) (tt, tt) (no_prints o.prints)) (tt, tt)
+pub no_command : (s : Running) (shown : ShownWords) (o : CommandOutcome) → HaveNoParts (command_records s shown o)
+no_command s shown o =
+    parts_more ((command_record s shown ∷ []) ++ prints o.prints) (result o.cause ∷ []) (parts_more (command_record s shown ∷ []) (prints o.prints) (tt, tt) (no_prints o.prints)) (tt, tt)
 
 -- what a conclusion does to the list
 IsAfter : Cause → Image → ImageList → Conclusion → Type 0
@@ -245,8 +253,8 @@ result_brings es cause image end is whole last =
     brought_more es (puts (result ok)) ∙ ap (λ z. images_brought es ++ cond (came_ok z && is_whole (datagrams_of (made es - 1) es)) (last_image es) []) end
     ∙ ap (λ b. images_brought es ++ cond (b && is_whole (datagrams_of (made es - 1) es)) (last_image es) []) is ∙ ap (λ b. images_brought es ++ cond b (last_image es) []) whole ∙ ap (λ z. images_brought es ++ z) last
 
-by_conclusion : (es : List Event) (outs : List Out) (w : World) (own : ℕ) (s : Running) (cause : Cause) (image : Image) (c : Conclusion) → IsAfter cause image w.images c →
-    last_end es ≡ Some cause → (is_ok_cause cause ≡ is_whole (datagrams_of (made es - 1) es)) → last_image es ≡ image ∷ [] → w.images.images ≡ image_list (images_brought es) → HaveNoParts outs →
+by_conclusion : (es : List Event) (outs : List Out) (w : World) (own : ℕ) (s : Running) (cause : Cause) (image : Image) (c : Conclusion) → IsAfter cause image w.state.images c →
+    last_end es ≡ Some cause → (is_ok_cause cause ≡ is_whole (datagrams_of (made es - 1) es)) → last_image es ≡ image ∷ [] → w.state.images.images ≡ image_list (images_brought es) → HaveNoParts outs →
     AgreesImages (es ++ told (conclusion_records c)) (outs ++ conclusion_records c) (phase_after (unbound w own) s c)
 unfolding IsAfter
 by_conclusion es outs w own s cause image (keeps new) h end whole last is none =
@@ -271,56 +279,11 @@ by_conclusion es outs w own s cause image (boots new kernel) h end whole last is
     }
 
 pub concluded_images : (es : List Event) (outs : List Out) (w : World) (own : ℕ) (s : Running) (cause : Cause) (booting : Bool) (image : Image) → last_end es ≡ Some cause →
-    (is_ok_cause cause ≡ is_whole (datagrams_of (made es - 1) es)) → last_image es ≡ image ∷ [] → w.images.images ≡ image_list (images_brought es) → HaveNoParts outs →
-    AgreesImages (es ++ told (conclusion_records (conclusion cause booting image w.images))) (outs ++ conclusion_records (conclusion cause booting image w.images))
-    (phase_after (unbound w own) s (conclusion cause booting image w.images))
+    (is_ok_cause cause ≡ is_whole (datagrams_of (made es - 1) es)) → last_image es ≡ image ∷ [] → w.state.images.images ≡ image_list (images_brought es) → HaveNoParts outs →
+    AgreesImages (es ++ told (conclusion_records (conclusion cause booting image w.state.images))) (outs ++ conclusion_records (conclusion cause booting image w.state.images))
+    (phase_after (unbound w own) s (conclusion cause booting image w.state.images))
 concluded_images es outs w own s cause booting image end whole last is none =
-    by_conclusion es outs w own s cause image (conclusion cause booting image w.images) (conclusion_after cause booting image w.images) end whole last is none
-
--- a command's URI and its image's name
-abbrev IsAskedBy : List ℕ → Effect → Type 0
-IsAskedBy uri (says o) = Unit {0}
-IsAskedBy uri (asks wanted) = (uri ≡ wanted.uri) × (wanted.target.name ≡ last_segment wanted.target.path)
-IsAskedBy uri (goes name) = Unit {0}
-
-either_asks : (uri : List ℕ) (t : Bool) (a b : Effect) → IsAskedBy uri a → IsAskedBy uri b → IsAskedBy uri (cond t a b)
-either_asks uri true a b p q = p
-either_asks uri false a b p q = q
-
-target_named : (b : Bool) (server : Option ℕ) (path : List ℕ) (t : TftpTarget) → cond b (option_map (λ s. record { server = s; path = path; name = after_last is_slash path }) server) None ≡ Some t → t.name ≡ last_segment t.path
-target_named true None path t e = absurd (none-some t e)
-target_named true (Some s) path t e = let same = same_Some _ t e in ap (λ (x : TftpTarget). x.name) (sym same) ∙ ap (λ (x : TftpTarget). last_segment x.path) same
-target_named false server path t e = absurd (none-some t e)
-
-target_asks : (opens : ℕ) (booting : Bool) (uri : List ℕ) (o : Option TftpTarget) → tftp_target uri ≡ o → IsAskedBy uri (option_map_or (asked_for opens booting uri) o (says (refused bad_uri)))
-target_asks opens booting uri None e = tt
-target_asks opens booting uri (Some target) e =
-    either_asks uri (is_too_long target) (says (refused too_long_uri)) _ tt
-    (either_asks uri (opens == 16384) (says (refused full_opens)) (asks (record { uri = uri; target = target; boots = booting })) tt (refl, target_named _ _ _ target e))
-
-fetch_asks : (name : List ℕ) (opens : ℕ) (booting : Bool) (args : List (List ℕ)) → IsAskedBy (uri_of (Some (name ∷ args))) (fetch opens booting args)
-unfolding fetch
-fetch_asks name opens booting [] = tt
-fetch_asks name opens booting (uri ∷ []) =
-    either_asks uri (is_option uri) (says (refused usage)) (option_map_or (asked_for opens booting uri) (tftp_target uri) (says (refused bad_uri))) tt (target_asks opens booting uri (tftp_target uri) refl)
-fetch_asks name opens booting (uri ∷ w ∷ ws) = tt
-
-goto_asks : (uri : List ℕ) (args : List (List ℕ)) → IsAskedBy uri (goto_label args)
-goto_asks uri [] = tt
-goto_asks uri (name ∷ []) = either_asks uri (is_option name) (says (refused usage)) (goes name) tt tt
-goto_asks uri (name ∷ w ∷ ws) = tt
-
-effect_asks : (opens : ℕ) (ws : List (List ℕ)) → IsAskedBy (uri_of (Some ws)) (effect opens ws)
-unfolding effect
-effect_asks opens [] = tt
-effect_asks opens (name ∷ args) =
-    let uri = uri_of (Some (name ∷ args)) in
-    either_asks uri (bytes_eq name (codes "imgfetch")) (fetch opens false args) _ (fetch_asks name opens false args)
-    (either_asks uri (bytes_eq name (codes "imgexec")) (fetch opens true args) _ (fetch_asks name opens true args)
-    (either_asks uri (bytes_eq name (codes "goto")) (goto_label args) (says (command_outcome (name ∷ args))) (goto_asks uri args) tt))
-
-pub asks_named : (opens : ℕ) (ws : List (List ℕ)) (wanted : Wanted) → effect opens ws ≡ asks wanted → (uri_of (Some ws) ≡ wanted.uri) × (wanted.target.name ≡ last_segment wanted.target.path)
-asks_named opens ws wanted e = subst (IsAskedBy (uri_of (Some ws))) e (effect_asks opens ws)
+    by_conclusion es outs w own s cause image (conclusion cause booting image w.state.images) (conclusion_after cause booting image w.state.images) end whole last is none
 
 -- no image comes but with a RESULT
 pub silent_image : (es : List Event) (o : Out) → IsSilent o → image_at es (puts o) ≡ []

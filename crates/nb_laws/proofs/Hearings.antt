@@ -7,10 +7,12 @@ use Rattle.nb_defs.specs.Records.{In, Out, ended}
 use Rattle.nb_stack.specs.Bound.{without}
 use Rattle.nb_stack.specs.declared.ports.Port.{Port}
 use Rattle.nb_tftp.specs.Blocks.{is_whole}
-use Rattle.nb_tftp.specs.History.{Call, entry, got, received_by}
+use Rattle.nb_tftp.specs.History.{Call, Entry, entry, got, received_by}
 use Rattle.nb_engine.specs.declared.world.World.{World}
 use Rattle.nb_engine.specs.World.{unbound}
-use Rattle.nb_engine.specs.Effects.{Wanted, effect}
+use Rattle.nb_engine.specs.Effects.{Wanted, asks}
+use Rattle.nb_laws.specs.CommandsSoFar.{CommandsSoFar, so_far, shown_effect}
+use Rattle.nb_laws.proofs.SoFar.{so_far_more, opens_so_far, conclusion_so_far, settings_as, settings_over, asks_as}
 use Rattle.nb_engine.specs.Opens.{Open, open_for, opened_record, with_entry, acts_records}
 use Rattle.nb_engine.specs.Conclusions.{image_from, Conclusion, keeps, fails, boots, conclusion_records}
 use Rattle.nb_engine.specs.Running.{Running, with_result}
@@ -25,7 +27,7 @@ use Rattle.nb_engine.specs.Honesty.{HaveNoParts}
 use Rattle.nb_image.specs.Images.{image_of}
 use Rattle.nb_tftp.specs.Blocks.{file}
 use Rattle.nb_laws.specs.Progress.{IsAdvanced}
-use Rattle.nb_laws.specs.Agreement.{AgreesWorld, AgreesScript, IsOnly, NoneLives, IsNamed, AgreesImages, AgreesPhase, opening_of}
+use Rattle.nb_laws.specs.Agreement.{AgreesWorld, AgreesScript, AgreesSettings, AsksFor, IsOnly, NoneLives, IsNamed, AgreesImages, AgreesPhase, opening_of}
 use Rattle.nb_laws.proofs.Histories.{client_more, offset_more, time_more}
 use Rattle.nb_laws.proofs.Tellings.{told, story_still, still_aside, still_advanced, live_same, live_kept, advanced_more, made_more, kept, world_kept, Story, story_put, story_told, openings_more, calls_more, marks_more, over_more, no_more, no_or, same_number, other_number}
 use Rattle.nb_laws.proofs.Commands.{opens_begin, conclusion_begins, script_as, script_told}
@@ -61,12 +63,12 @@ pub freed : (o : ℕ) (to : ℕ) (ports : List Port) → ports ≡ record { prot
 freed o to ports e = ap (without 17 o) e ∙ ap (λ b. cond (not b) (record { proto = 17; number = o; to = to } ∷ []) []) (same_number o)
 
 -- where a conclusion leads
-pub leads : (es : List Event) (w : World) (own to : ℕ) (s : Running) (c : Conclusion) → AgreesWorld es w → NoneLives es → AgreesScript es s → w.net.ports ≡ record { proto = 17; number = own; to = to } ∷ [] → AgreesPhase es (phase_after (unbound w own) s c)
-leads es w own to s (keeps list) h none script ports =
-    (record { time = h.time; client = h.client; opens = h.opens; offset = h.offset; unopened = h.unopened; unended = h.unended; untold = h.untold }, freed own to w.net.ports ports, none, script_as es s (with_result s ok) refl refl script)
-leads es w own to s (fails cause) h none script ports =
-    (record { time = h.time; client = h.client; opens = h.opens; offset = h.offset; unopened = h.unopened; unended = h.unended; untold = h.untold }, freed own to w.net.ports ports, none, script_as es s (with_result s cause) refl refl script)
-leads es w own to s (boots list kernel) h none script ports = (still_handoff kernel list.images, silent_handoff kernel list.images, none)
+pub leads : (es : List Event) (w : World) (own to : ℕ) (s : Running) (c : Conclusion) → AgreesWorld es w → NoneLives es → AgreesScript es s → AgreesSettings (so_far es) w false → w.net.ports ≡ record { proto = 17; number = own; to = to } ∷ [] → AgreesPhase es (phase_after (unbound w own) s c)
+leads es w own to s (keeps list) h none script settings ports =
+    (record { time = h.time; client = h.client; opens = h.opens; offset = h.offset; unopened = h.unopened; unended = h.unended; untold = h.untold }, freed own to w.net.ports ports, none, script_as es s (with_result s ok) refl refl script, record { table = settings.table; now = settings.now; is_open = settings.is_open })
+leads es w own to s (fails cause) h none script settings ports =
+    (record { time = h.time; client = h.client; opens = h.opens; offset = h.offset; unopened = h.unopened; unended = h.unended; untold = h.untold }, freed own to w.net.ports ports, none, script_as es s (with_result s cause) refl refl script, record { table = settings.table; now = settings.now; is_open = settings.is_open })
+leads es w own to s (boots list kernel) h none script settings ports = (still_handoff kernel list.images, silent_handoff kernel list.images, none, settings.is_open)
 
 pub ended_advanced : (es : List Event) (k : ℕ) (cause : Cause) → IsAdvanced es → IsAdvanced (es ++ puts (ended k cause) ∷ [])
 ended_advanced es k cause a = advanced_more es (puts (ended k cause)) (λ j. refl) (λ j. refl) a
@@ -91,10 +93,14 @@ opened_only es w wanted none = λ j other.
     (openings_more j es e ∙ no_more (openings j es) _ (ap (λ b. cond b (record (opening_of (open_for w wanted)) { since = time es } ∷ []) []) (ne_eqb w.opens j (λ x. other (sym x)))))
     (over_more j es e ∙ no_or (is_ended j es) false refl) ∙ none j
 
+-- the command asks for the same file when its open has come further
+asks_with : {m : CommandsSoFar} (o : Open) (e : Entry) → AsksFor m o → AsksFor m (with_entry o e)
+asks_with o e a = record { shown = a.shown; said = a.said; asked = a.asked }
+
 -- what came is taken
 pub hears_tells : (ins : List In) (outs : List Out) (es : List Event) (w : World) (s : Running) (o : Open) (call : Call) (added : List Out) (phase : Phase) →
-    Hears w s o call added phase → Story ins outs es → Comes es w o call → AgreesScript es s → w.images.images ≡ image_list (images_brought es) → HaveNoParts outs → IsNamed es w o → Tells ins (outs ++ added) phase
-hears_tells ins outs es w s o call added phase (goes_on _ _ _ _ acts meets none) story c script is none_before named =
+    Hears w s o call added phase → Story ins outs es → Comes es w o call → AgreesScript es s → AgreesSettings (so_far es) w true → AsksFor (so_far es) o → w.state.images.images ≡ image_list (images_brought es) → HaveNoParts outs → IsNamed es w o → Tells ins (outs ++ added) phase
+hears_tells ins outs es w s o call added phase (goes_on _ _ _ _ acts meets none) story c script settings asked is none_before named =
     let a = acts_records w.net o.number acts in
     let r = acts_reasons es w o call acts c meets in
     let left = kept es a (aside_acts w.net o.number acts) in
@@ -103,10 +109,10 @@ hears_tells ins outs es w s o call added phase (goes_on _ _ _ _ acts meets none)
       events = es ++ told a;
       story = story_told ins outs es a (aside_acts w.net o.number acts) r.writes r.advances r.tries story;
       advanced = r.after;
-      agrees = (world_taken es w o call acts c, open_taken es w o call acts c meets, goes_further o (entry call acts) meets c.going none, λ j other. live_kept j es a left ∙ c.only j other, script_told es a s (opens_begin (commands_begun es) a (opens_acts w.net o.number acts)) script);
-      images = (is ∙ sym (ap image_list keep.1), parts_more outs a none_before (opens_parts a (opens_acts w.net o.number acts)), record { uri = ap uri_of keep.0 ∙ named.uri; name = named.name; latest = named.latest; words = named.words; said = keep.0 ∙ named.said; asked = named.asked });
+      agrees = (world_taken es w o call acts c, open_taken es w o call acts c meets, goes_further o (entry call acts) meets c.going none, λ j other. live_kept j es a left ∙ c.only j other, script_told es a s (opens_begin (commands_begun es) a (opens_acts w.net o.number acts)) script, settings_as w true (opens_so_far es a (opens_acts w.net o.number acts)) settings, asks_with o (entry call acts) (asks_as o (opens_so_far es a (opens_acts w.net o.number acts)) asked));
+      images = (is ∙ sym (ap image_list keep.1), parts_more outs a none_before (opens_parts a (opens_acts w.net o.number acts)), record { uri = ap uri_of keep.0 ∙ named.uri; name = named.name; latest = named.latest });
     }
-hears_tells ins outs es w s o call added phase (is_over _ _ _ _ acts cause meets over) story c script is none_before named =
+hears_tells ins outs es w s o call added phase (is_over _ _ _ _ acts cause meets over) story c script settings asked is none_before named =
     let a = acts_records w.net o.number acts in
     let k = o.number in
     let e = entry call acts in
@@ -129,6 +135,9 @@ hears_tells ins outs es w s o call added phase (is_over _ _ _ _ acts cause meets
     let joined = ap (λ x. x ++ b) (append_assoc outs a (ended k cause ∷ [])) ∙ append_assoc outs (a ++ ended k cause ∷ []) b in
     let keep = opens_keep es a (opens_acts w.net k acts) in
     let brought2 : images_brought es2 ≡ images_brought es = one_keeps es1 (ended k cause) refl ∙ keep.1 in
+    let so_far2 : so_far es2 ≡ so_far es = so_far_more es1 (puts (ended k cause)) ∙ opens_so_far es a (opens_acts w.net k acts) in
+    let asked2 : AsksFor (so_far es2) o = asks_as o so_far2 asked in
+    let settings3 : AgreesSettings (so_far (es2 ++ told b)) w false = settings_over w o (conclusion_so_far es2 concl) (settings_as w true so_far2 settings) asked2 in
     let words2 : uri_of (words_of es2) ≡ o.wanted.uri = ap uri_of (words_kept es1 (puts (ended k cause)) (words_of es1) refl ∙ keep.0) ∙ named.uri in
     let number2 : made es2 - 1 ≡ k = ap (λ z. z - 1) (world2.opens ∙ named.latest) ∙ omega arith in
     let opening2 : openings k es2 ≡ opening_of o ∷ [] = openings_more k es1 (puts (ended k cause)) ∙ append-nil (openings k es1) ∙ open1.opening in
@@ -138,24 +147,23 @@ hears_tells ins outs es w s o call added phase (is_over _ _ _ _ acts cause meets
     ∙ ap (λ u. image_of (last_segment o.wanted.target.path) (file (lists.datagrams_of k es2)) [] u ∷ []) words2
     ∙ ap (λ g. image_of (last_segment o.wanted.target.path) (file g) [] o.wanted.uri ∷ []) got2
     ∙ ap (λ n. image_of n (file (got (o.entries ++ e ∷ []))) [] o.wanted.uri ∷ []) (sym named.name) in
-    let brings : HasBrought es2 cause o.wanted.boots (image_from (with_entry o e)) w.images = record {
+    let brings : HasBrought es2 cause o.wanted.boots (image_from (with_entry o e)) w.state.images = record {
       ended_so = last_end_more es1 (puts (ended k cause));
-      words = named.words;
-      said = words_kept es1 (puts (ended k cause)) (words_of es1) refl ∙ keep.0 ∙ named.said;
+      is_open = ap (λ (m : CommandsSoFar). m.is_open) so_far2 ∙ settings.is_open;
       wanted = o.wanted;
-      asked = ap (λ n. effect n named.words) number2 ∙ named.asked;
+      asked = (asked2.shown, asked2.said, subst (λ n. shown_effect n (so_far es2).table asked2.shown ≡ asks o.wanted) (sym number2) asked2.asked);
       boots = refl;
       image_is = last;
       list_is = is ∙ sym (ap image_list brought2);
     } in
-    let story3 : Story ins (((outs ++ a) ++ ended k cause ∷ []) ++ b) (es2 ++ told b) = story_still ins _ es2 b still (conclusion_writes es2 cause o.wanted.boots (image_from (with_entry o e)) w.images brings) advanced2 story2 in
+    let story3 : Story ins (((outs ++ a) ++ ended k cause ∷ []) ++ b) (es2 ++ told b) = story_still ins _ es2 b still (conclusion_writes es2 cause o.wanted.boots (image_from (with_entry o e)) w.state.images brings) advanced2 story2 in
     let world3 = world_kept es2 b w (kept es2 b aside2) (λ j few. none_of_conclusion j (time es2) concl) world2 in
     record {
       events = es2 ++ told b;
       story = subst (λ z. Story ins z (es2 ++ told b)) joined story3;
       advanced = still_advanced es2 b still advanced2;
       agrees = leads (es2 ++ told b) w o.begun.own_port o.number s concl world3 (λ j. live_kept j es2 b (kept es2 b aside2) ∙ none2 j)
-          (script_told es2 b s (conclusion_begins (commands_begun es2) concl) (script_told es1 (ended k cause ∷ []) s refl (script_told es a s (opens_begin (commands_begun es) a (opens_acts w.net k acts)) script))) c.ports;
+          (script_told es2 b s (conclusion_begins (commands_begun es2) concl) (script_told es1 (ended k cause ∷ []) s refl (script_told es a s (opens_begin (commands_begun es) a (opens_acts w.net k acts)) script))) settings3 c.ports;
       images = subst (λ z. AgreesImages (es2 ++ told b) z (phase_after (unbound w o.begun.own_port) s concl)) joined
           (concluded_images es2 ((outs ++ a) ++ ended k cause ∷ []) w o.begun.own_port s cause o.wanted.boots (image_from (with_entry o e)) (last_end_more es1 (puts (ended k cause)))
           (holds.1 ∙ ap is_whole (got_same k es1 (o.entries ++ e ∷ []) open1.calls ∙ sym got2) ∙ ap (λ n. is_whole (lists.datagrams_of n es2)) (sym number2)) last (is ∙ sym (ap image_list brought2)) (parts_more (outs ++ a) (ended k cause ∷ []) (parts_more outs a none_before (opens_parts a (opens_acts w.net k acts))) (tt, tt)));

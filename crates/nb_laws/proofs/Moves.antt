@@ -15,17 +15,23 @@ use Rattle.nb_stack.proofs.WayLaws.{same_way}
 use Rattle.nb_tftp.specs.Blocks.{is_whole}
 use Rattle.nb_tftp.specs.History.{received_by}
 use Rattle.nb_engine.specs.declared.world.World.{World}
-use Rattle.nb_engine.specs.World.{with_open, with_ended_open, own_port, host}
+use Rattle.nb_settings.specs.Tables.{TableLists}
+use Rattle.nb_engine.specs.World.{with_open, with_ended_open, world_with_table, own_port, host}
+use Rattle.nb_engine.specs.Effects.{asks, goes, ShownWords, shown_words, table_after}
+use Rattle.nb_engine.proofs.CommandLaws.{same_world, world_stays}
 use Rattle.nb_engine.specs.Opens.{open_for, begun_for, opened_record, send_records, request_of, has_route, is_on_its_way}
 use Rattle.nb_engine.specs.Conclusions.{fails, conclusion_records}
 use Rattle.nb_engine.specs.Running.{Running, entered, further, behind_line, no_label}
-use Rattle.nb_engine.specs.Machine.{Machine, running, Move, passes, is_left, yields, does, leaves, jumps, finds_no_label, asks_for, finds_no_route, hands, has_handed, command_records, command_record, no_route}
+use Rattle.nb_engine.specs.Machine.{Machine, running, Move, passes, is_left, yields, does, leaves, jumps, finds_no_label, falls_asleep, asks_for, finds_no_route, hands, has_handed, command_records, command_record, no_route}
 use Rattle.nb_laws.specs.Events.{Event, puts, EachEvent}
 use Rattle.std.proofs.lemmas.List.{map-append}
 use Rattle.nb_laws.specs.Lists as lists
 use Rattle.nb_laws.specs.Lists.{live, last_place, words_of, commands_begun, time, made, gathered, Opening, opening_at, openings, open_has_ended as is_ended, is_end_of, calls, Mark, tries, marks, mark_at}
 use Rattle.nb_laws.specs.HandOff.{image_list, uri_of, HandsOff}
-use Rattle.nb_laws.proofs.HandOffs.{opens_keep, opens_send, opens_parts, parts_more, one_keeps, words_now, words_kept, command_keeps, no_command, failed_image, silent_image, asks_named}
+use Rattle.nb_laws.proofs.HandOffs.{opens_keep, opens_send, opens_parts, parts_more, one_keeps, words_now, words_kept, command_keeps, no_command, failed_image, silent_image, last_end_more}
+use Rattle.nb_laws.specs.CommandsSoFar.{CommandsSoFar, so_far}
+use Rattle.nb_laws.proofs.SoFar.{so_far_more, opens_so_far, begun_so_far, begins_so_far, command_so_far, conclusion_so_far, silent_so_far, settings_done, settings_begun, settings_over, settings_open, asks_begun, sleep_begun}
+use Rattle.nb_laws.proofs.Plans.{shown_names}
 use Rattle.nb_engine.specs.Honesty.{HaveNoParts}
 use Rattle.nb_laws.specs.Progress.{IsAdvanced}
 use Rattle.nb_laws.specs.Agreement.{AgreesWorld, NoneLives, AgreesImages, AgreesPhase, AreAside, AreStill, bare, opening_of}
@@ -36,7 +42,7 @@ use Rattle.nb_laws.proofs.Commands.{opens_begin, conclusion_begins, command_begi
 use Rattle.nb_laws.proofs.Asides.{more_still, none_of_conclusion, aside_send, still_conclusion, still_command, none_of_send, none_of_command, own_send}
 use Rattle.nb_laws.proofs.Calls.{live_one}
 use Rattle.nb_laws.specs.Frames.{WritesSo}
-use Rattle.nb_laws.proofs.Puttings.{command_writes, jump_writes, no_label_writes, failed_writes, request_reasons, opened_one, opened_so, opened_world}
+use Rattle.nb_laws.proofs.Puttings.{begins_so, command_comes, command_writes, jump_writes, no_label_writes, failed_writes, request_reasons, opened_one, opened_so, opened_world}
 use Rattle.nb_laws.proofs.Hearings.{Tells, ended_world, ended_advanced, ended_none_live, opened_only}
 
 -- the world agrees after records that tell no try
@@ -56,13 +62,38 @@ leave_writes es b depth cause h = subst (λ z. EachEvent WritesSo es z) (sym (ma
 bare_route : (net : Client) (send : SendTo) → has_route (bare net) send ≡ has_route net send
 bare_route net send = same_way is_on_its_way refl (bare net) net (way_of net send)
 
--- a command that is over at once leaves all as it was, and counts
-command_agrees : (es : List Event) (w : World) (s t : Running) (ws : List (List ℕ)) (o : CommandOutcome) → t.code ≡ s.code → t.begun ≡ s.begun + 1 →
-    AgreesPhase es (running w s) → AgreesPhase (es ++ told (command_records s ws o)) (running w t)
-command_agrees es w s t ws o code begun a =
-    let b = command_records s ws o in
-    let h = still_aside b (still_command s ws o) in
-    (quiet_world es b w h (λ k now. none_of_command k now s ws o) a.0, a.1, λ j. live_kept j es b (kept es b h) ∙ a.2 j, script_begins es b s t (command_begins (commands_begun es) s ws o) code begun a.3)
+-- the world agrees with other settings too: they are said apart
+table_world : (es : List Event) (w : World) (table : TableLists) → AgreesWorld es w → AgreesWorld es (world_with_table w table)
+table_world es w table h = record { time = h.time; client = h.client; opens = h.opens; offset = h.offset; unopened = h.unopened; unended = h.unended; untold = h.untold }
+
+-- a command that is over at once leaves the settings that it says, and counts
+command_agrees : (es : List Event) (w : World) (table : TableLists) (s t : Running) (ws : List (List ℕ)) (o : CommandOutcome) → t.code ≡ s.code → t.begun ≡ s.begun + 1 → table_after w.state.table ws ≡ table →
+    AgreesPhase es (running w s) → AgreesPhase (es ++ told (command_records s (shown_words w.state.table ws) o)) (running (world_with_table w table) t)
+command_agrees es w table s t ws o code begun remains a =
+    let shown = shown_words w.state.table ws in
+    let b = command_records s shown o in
+    let h = still_aside b (still_command s shown o) in
+    let v = world_with_table w table in (
+      table_world _ w table (quiet_world es b w h (λ k now. none_of_command k now s shown o) a.0),
+      a.1,
+      λ j. live_kept j es b (kept es b h) ∙ a.2 j,
+      script_begins es b s t (command_begins (commands_begun es) s shown o) code begun a.3,
+      settings_done w v ws (command_so_far es s shown o) a.4 remains refl,
+    )
+
+-- one that leaves the settings
+command_keeps_agreeing : (es : List Event) (w : World) (s t : Running) (ws : List (List ℕ)) (o : CommandOutcome) → t.code ≡ s.code → t.begun ≡ s.begun + 1 → table_after w.state.table ws ≡ w.state.table →
+    AgreesPhase es (running w s) → AgreesPhase (es ++ told (command_records s (shown_words w.state.table ws) o)) (running w t)
+command_keeps_agreeing es w s t ws o code begun remains a =
+    subst (λ v. AgreesPhase (es ++ told (command_records s (shown_words w.state.table ws) o)) (running v t)) (world_stays w w.state.table refl) (command_agrees es w w.state.table s t ws o code begun remains a)
+
+-- a command that was over at once, with which its script is left, has its result
+left_over : (es : List Event) (s : Running) (shown : ShownWords) (o : CommandOutcome) → (so_far (es ++ told (command_records s shown o ++ leave s.depth o.cause ∷ []))).is_open ≡ false
+left_over es s shown o =
+    ap (λ (z : List Event). (so_far (es ++ z)).is_open) (map-append puts (command_records s shown o) (leave s.depth o.cause ∷ []))
+    ∙ ap (λ (z : List Event). (so_far z).is_open) (sym (append_assoc es (told (command_records s shown o)) (puts (leave s.depth o.cause) ∷ [])))
+    ∙ ap (λ (m : CommandsSoFar). m.is_open) (so_far_more (es ++ told (command_records s shown o)) (puts (leave s.depth o.cause)))
+    ∙ ap (λ (m : CommandsSoFar). m.is_open) (command_so_far es s shown o)
 
 -- an open that was made, and whose port isn't bound
 made_world : (es : List Event) (w : World) → AgreesWorld es (with_open w) → AgreesWorld es (with_ended_open w)
@@ -71,75 +102,95 @@ made_world es w h = record { time = h.time; client = h.client; opens = h.opens; 
 pub moves_tells : (ins : List In) (outs : List Out) (es : List Event) (m : Machine) (added : List Out) (m' : Machine) →
     Move m added m' → Story ins outs es → IsAdvanced es → AgreesPhase es m.phase → AgreesImages es outs m.phase → Tells ins (outs ++ added) m'.phase
 moves_tells ins outs es m added m' (passes n w s t comes) story advanced a is =
-    record { events = es; story = subst (λ z. Story ins z es) (sym (append-nil outs)) story; advanced = advanced; agrees = (a.0, a.1, a.2, script_passes es s t comes a.3); images = (is.0, subst HaveNoParts (sym (append-nil outs)) is.1) }
+    record { events = es; story = subst (λ z. Story ins z es) (sym (append-nil outs)) story; advanced = advanced; agrees = (a.0, a.1, a.2, script_passes es s t comes a.3, a.4); images = (is.0, subst HaveNoParts (sym (append-nil outs)) is.1) }
 moves_tells ins outs es m added m' (is_left n w s cause comes) story advanced a is =
     let b = leave s.depth cause ∷ [] in
-    record { events = es ++ told b; story = story_still ins outs es b (tt, tt) (tt, tt) advanced story; advanced = still_advanced es b (tt, tt) advanced; agrees = λ j. live_kept j es b (kept es b (tt, tt)) ∙ a.2 j; images = parts_more outs b is.1 (tt, tt) }
+    record { events = es ++ told b; story = story_still ins outs es b (tt, tt) (tt, tt) advanced story; advanced = still_advanced es b (tt, tt) advanced; agrees = (λ j. live_kept j es b (kept es b (tt, tt)) ∙ a.2 j, ap (λ (x : CommandsSoFar). x.is_open) (so_far_more es (puts (leave s.depth cause))) ∙ a.4.is_open); images = parts_more outs b is.1 (tt, tt) }
 moves_tells ins outs es m added m' (yields n w s c cs comes full) story advanced a is =
-    record { events = es; story = subst (λ z. Story ins z es) (sym (append-nil outs)) story; advanced = advanced; agrees = (a.0, a.1, a.2, a.3, full); images = (is.0, subst HaveNoParts (sym (append-nil outs)) is.1) }
+    record { events = es; story = subst (λ z. Story ins z es) (sym (append-nil outs)) story; advanced = advanced; agrees = (a.0, a.1, a.2, a.3, a.4, full); images = (is.0, subst HaveNoParts (sym (append-nil outs)) is.1) }
 moves_tells ins outs es m added m' (does n w s c cs o begins few comes stays) story advanced a is =
-    let b = command_records s (c ∷ cs) o in
-    let h = still_command s (c ∷ cs) o in
+    let b = command_records s (shown_words w.state.table (c ∷ cs)) o in
+    let h = still_command s (shown_words w.state.table (c ∷ cs)) o in
     record {
       events = es ++ told b;
-      story = story_still ins outs es b h (command_writes es w s (c ∷ cs) o a.0 comes (may_begin es s a.3 few)) advanced story;
+      story = story_still ins outs es b h (command_writes es w s (c ∷ cs) o a.0 a.3 a.4 comes (may_begin es s a.3 few)) advanced story;
       advanced = still_advanced es b h advanced;
-      agrees = command_agrees es w s (further s o.cause) (c ∷ cs) o refl refl a;
-      images = (is.0 ∙ sym (ap image_list (command_keeps es s (c ∷ cs) o)), parts_more outs b is.1 (no_command s (c ∷ cs) o));
+      agrees = command_agrees es w (table_after w.state.table (c ∷ cs)) s (further s o.cause) (c ∷ cs) o refl refl refl a;
+      images = (is.0 ∙ sym (ap image_list (command_keeps es s (shown_words w.state.table (c ∷ cs)) o)), parts_more outs b is.1 (no_command s (shown_words w.state.table (c ∷ cs)) o));
     }
 moves_tells ins outs es m added m' (leaves n w s c cs o begins few comes goes_out) story advanced a is =
-    let b = command_records s (c ∷ cs) o ++ (leave s.depth o.cause ∷ []) in
-    let h = more_still (command_records s (c ∷ cs) o) (leave s.depth o.cause ∷ []) (still_command s (c ∷ cs) o) (tt, tt) in
+    let b = command_records s (shown_words w.state.table (c ∷ cs)) o ++ (leave s.depth o.cause ∷ []) in
+    let h = more_still (command_records s (shown_words w.state.table (c ∷ cs)) o) (leave s.depth o.cause ∷ []) (still_command s (shown_words w.state.table (c ∷ cs)) o) (tt, tt) in
     record {
       events = es ++ told b;
-      story = story_still ins outs es b h (leave_writes es (command_records s (c ∷ cs) o) s.depth o.cause (command_writes es w s (c ∷ cs) o a.0 comes (may_begin es s a.3 few))) advanced story;
+      story = story_still ins outs es b h (leave_writes es (command_records s (shown_words w.state.table (c ∷ cs)) o) s.depth o.cause (command_writes es w s (c ∷ cs) o a.0 a.3 a.4 comes (may_begin es s a.3 few))) advanced story;
       advanced = still_advanced es b h advanced;
-      agrees = λ j. live_kept j es b (kept es b (still_aside b h)) ∙ a.2 j;
-      images = parts_more outs b is.1 (parts_more (command_records s (c ∷ cs) o) (leave s.depth o.cause ∷ []) (no_command s (c ∷ cs) o) (tt, tt));
+      agrees = (λ j. live_kept j es b (kept es b (still_aside b h)) ∙ a.2 j, left_over es s (shown_words w.state.table (c ∷ cs)) o);
+      images = parts_more outs b is.1 (parts_more (command_records s (shown_words w.state.table (c ∷ cs)) o) (leave s.depth o.cause ∷ []) (no_command s (shown_words w.state.table (c ∷ cs)) o) (tt, tt));
     }
 moves_tells ins outs es m added m' (jumps n w s c cs name line begins few comes there) story advanced a is =
     let o = refused ok in
-    let b = command_records s (c ∷ cs) o in
-    let h = still_command s (c ∷ cs) o in
+    let b = command_records s (shown_words w.state.table (c ∷ cs)) o in
+    let h = still_command s (shown_words w.state.table (c ∷ cs)) o in
     record {
       events = es ++ told b;
-      story = story_still ins outs es b h (jump_writes es w s (c ∷ cs) name line a.0 a.3 comes there (may_begin es s a.3 few)) advanced story;
+      story = story_still ins outs es b h (jump_writes es w s (c ∷ cs) name line a.0 a.3 a.4 comes there (may_begin es s a.3 few)) advanced story;
       advanced = still_advanced es b h advanced;
-      agrees = command_agrees es w s (behind_line s line) (c ∷ cs) o refl refl a;
-      images = (is.0 ∙ sym (ap image_list (command_keeps es s (c ∷ cs) o)), parts_more outs b is.1 (no_command s (c ∷ cs) o));
+      agrees = command_keeps_agreeing es w s (behind_line s line) (c ∷ cs) o refl refl (same_world w (goes name) (c ∷ cs) comes) a;
+      images = (is.0 ∙ sym (ap image_list (command_keeps es s (shown_words w.state.table (c ∷ cs)) o)), parts_more outs b is.1 (no_command s (shown_words w.state.table (c ∷ cs)) o));
     }
 moves_tells ins outs es m added m' (finds_no_label n w s c cs name begins few comes none) story advanced a is =
     let o = refused no_label in
-    let b = command_records s (c ∷ cs) o in
-    let h = still_command s (c ∷ cs) o in
+    let b = command_records s (shown_words w.state.table (c ∷ cs)) o in
+    let h = still_command s (shown_words w.state.table (c ∷ cs)) o in
     record {
       events = es ++ told b;
-      story = story_still ins outs es b h (no_label_writes es w s (c ∷ cs) name a.0 a.3 comes none (may_begin es s a.3 few)) advanced story;
+      story = story_still ins outs es b h (no_label_writes es w s (c ∷ cs) name a.0 a.3 a.4 comes none (may_begin es s a.3 few)) advanced story;
       advanced = still_advanced es b h advanced;
-      agrees = command_agrees es w s (further s no_label) (c ∷ cs) o refl refl a;
-      images = (is.0 ∙ sym (ap image_list (command_keeps es s (c ∷ cs) o)), parts_more outs b is.1 (no_command s (c ∷ cs) o));
+      agrees = command_keeps_agreeing es w s (further s no_label) (c ∷ cs) o refl refl (same_world w (goes name) (c ∷ cs) comes) a;
+      images = (is.0 ∙ sym (ap image_list (command_keeps es s (shown_words w.state.table (c ∷ cs)) o)), parts_more outs b is.1 (no_command s (shown_words w.state.table (c ∷ cs)) o));
+    }
+moves_tells ins outs es m added m' (falls_asleep n w s c cs seconds begins few comes) story advanced a is =
+    let shown = shown_words w.state.table (c ∷ cs) in
+    let command = command_record s shown in
+    let b = command ∷ [] in
+    record {
+      events = es ++ told b;
+      story = story_still ins outs es b (tt, tt) (begins_so es w s (c ∷ cs) a.4 (may_begin es s a.3 few), tt) advanced story;
+      advanced = still_advanced es b (tt, tt) advanced;
+      agrees = (
+        quiet_world es b w (tt, tt) (λ j now. refl) a.0,
+        a.1,
+        λ j. live_kept j es b (kept es b (tt, tt)) ∙ a.2 j,
+        script_begins es b s (entered s) refl refl refl a.3,
+        settings_begun w shown (begins_so_far es s shown) a.4,
+        sleep_begun w (c ∷ cs) seconds (begins_so_far es s shown) a.4 comes,
+      );
+      images = (is.0 ∙ sym (ap image_list (one_keeps es command refl)), parts_more outs b is.1 (tt, tt), last_end_more es (puts command));
     }
 moves_tells ins outs es m added m' (asks_for n w s c cs wanted begins few comes route) story advanced a is =
     let k = w.opens in
-    let command = command_record s (c ∷ cs) in
+    let shown = shown_words w.state.table (c ∷ cs) in
+    let command = command_record s shown in
     let request = request_of (begun_for w wanted) in
     let b = send_records w.net k (Some 1) request in
     let e = puts (opened_record w wanted) in
     let es1 = es ++ told (command ∷ []) in
     let es2 = es1 ++ e ∷ [] in
     let world1 = quiet_world es (command ∷ []) w (tt, tt) (λ j now. refl) a.0 in
-    let story1 : Story ins (outs ++ command ∷ []) es1 = story_still ins outs es (command ∷ []) (tt, tt) (may_begin es s a.3 few, tt) advanced story in
+    let story1 : Story ins (outs ++ command ∷ []) es1 = story_still ins outs es (command ∷ []) (tt, tt) (begins_so es w s (c ∷ cs) a.4 (may_begin es s a.3 few), tt) advanced story in
     let advanced1 = still_advanced es (command ∷ []) (tt, tt) advanced in
     let none1 : NoneLives (es ++ told (command ∷ [])) = λ j. live_kept j es (command ∷ []) (kept es (command ∷ []) (tt, tt)) ∙ a.2 j in
-    let story2 : Story ins ((outs ++ command ∷ []) ++ opened_record w wanted ∷ []) es2 = story_put ins (outs ++ command ∷ []) es1 (opened_record w wanted) story1 (record { read = tt; end = tt; frame = opened_so es1 w (c ∷ cs) wanted world1 (words_now es s (c ∷ cs)) comes; step = tt; advance = advanced1; try = tt }) in
+    let story2 : Story ins ((outs ++ command ∷ []) ++ opened_record w wanted ∷ []) es2 = story_put ins (outs ++ command ∷ []) es1 (opened_record w wanted) story1 (record { read = tt; end = tt; frame = opened_so es1 w wanted world1 (command_comes es w s (c ∷ cs) (asks wanted) a.4 comes); step = tt; advance = advanced1; try = tt }) in
     let advanced2 = advanced_more es1 e (λ j. refl) (λ j. refl) advanced1 in
     let r = request_reasons es1 w wanted world1 advanced2 in
     let story3 : Story ins (((outs ++ command ∷ []) ++ opened_record w wanted ∷ []) ++ b) (es2 ++ told b) = story_told ins _ es2 b (aside_send w.net k (Some 1) request) r.writes r.advances r.tries story2 in
     let world2 = opened_world es1 w wanted world1 in
     let keep = opens_keep es2 b (opens_send w.net k (Some 1) request) in
-    let names = asks_named w.opens (c ∷ cs) wanted comes in
+    let names = shown_names w.opens w.state.table (c ∷ cs) wanted comes in
     let left = kept es2 b (aside_send w.net k (Some 1) request) in
     let untold1 = world1.untold k (le_refl k) in
+    let so_far2 : so_far (es2 ++ told b) ≡ begun_so_far (so_far es) shown = opens_so_far es2 b (opens_send w.net k (Some 1) request) ∙ so_far_more es1 e ∙ begins_so_far es s shown in
     let world3 : AgreesWorld (es2 ++ told b) (with_open w) = world_kept es2 b (with_open w) left (λ j few. none_of_send j (time es2) w.net k (Some 1) request (other_number k j (omega arith))) world2 in
     record {
       events = es2 ++ told b;
@@ -162,23 +213,23 @@ moves_tells ins outs es m added m' (asks_for n w s c cs wanted begins few comes 
         λ j other. live_kept j es2 b left ∙ opened_only es1 w wanted none1 j other,
         script_told es2 b (entered s) (opens_begin (commands_begun es2) b (opens_send w.net k (Some 1) request))
             (script_told es1 (opened_record w wanted ∷ []) (entered s) refl (script_begins es (command ∷ []) s (entered s) refl refl refl a.3)),
+        settings_open w (with_open w) refl refl (settings_begun w shown so_far2 a.4),
+        asks_begun (so_far es) w (c ∷ cs) (open_for w wanted) so_far2 a.4.table refl comes,
       );
       images = (
         is.0 ∙ sym (ap image_list (keep.1 ∙ one_keeps es1 (opened_record w wanted) refl ∙ one_keeps es command refl)),
         parts_more outs (command ∷ opened_record w wanted ∷ b) is.1 (tt, (tt, opens_parts b (opens_send w.net k (Some 1) request))),
         record {
-          uri = ap uri_of (keep.0 ∙ words_kept es1 e (Some (c ∷ cs)) (words_now es s (c ∷ cs))) ∙ names.0;
+          uri = ap uri_of (keep.0 ∙ words_kept es1 e (Some shown.words) (words_now es s shown)) ∙ names.0;
           name = names.1;
           latest = refl;
-          words = c ∷ cs;
-          said = keep.0 ∙ words_kept es1 e (Some (c ∷ cs)) (words_now es s (c ∷ cs));
-          asked = comes;
         },
       );
     }
 moves_tells ins outs es m added m' (finds_no_route n w s c cs wanted begins few comes route) story advanced a is =
     let k = w.opens in
-    let command = command_record s (c ∷ cs) in
+    let shown = shown_words w.state.table (c ∷ cs) in
+    let command = command_record s shown in
     let cause = no_route wanted.target.server in
     let b = conclusion_records (fails cause) in
     let o = opened_record w wanted in
@@ -186,10 +237,10 @@ moves_tells ins outs es m added m' (finds_no_route n w s c cs wanted begins few 
     let es2 = es1 ++ puts o ∷ [] in
     let es3 = es2 ++ puts (ended k cause) ∷ [] in
     let world1 = quiet_world es (command ∷ []) w (tt, tt) (λ j now. refl) a.0 in
-    let story1 : Story ins (outs ++ command ∷ []) es1 = story_still ins outs es (command ∷ []) (tt, tt) (may_begin es s a.3 few, tt) advanced story in
+    let story1 : Story ins (outs ++ command ∷ []) es1 = story_still ins outs es (command ∷ []) (tt, tt) (begins_so es w s (c ∷ cs) a.4 (may_begin es s a.3 few), tt) advanced story in
     let advanced1 = still_advanced es (command ∷ []) (tt, tt) advanced in
     let none1 : NoneLives (es ++ told (command ∷ [])) = λ j. live_kept j es (command ∷ []) (kept es (command ∷ []) (tt, tt)) ∙ a.2 j in
-    let story2 : Story ins ((outs ++ command ∷ []) ++ o ∷ []) es2 = story_put ins (outs ++ command ∷ []) es1 o story1 (record { read = tt; end = tt; frame = opened_so es1 w (c ∷ cs) wanted world1 (words_now es s (c ∷ cs)) comes; step = tt; advance = advanced1; try = tt }) in
+    let story2 : Story ins ((outs ++ command ∷ []) ++ o ∷ []) es2 = story_put ins (outs ++ command ∷ []) es1 o story1 (record { read = tt; end = tt; frame = opened_so es1 w wanted world1 (command_comes es w s (c ∷ cs) (asks wanted) a.4 comes); step = tt; advance = advanced1; try = tt }) in
     let advanced2 = advanced_more es1 (puts o) (λ j. refl) (λ j. refl) advanced1 in
     let world2 = opened_world es1 w wanted world1 in
     let opening = opening_of (open_for w wanted) in
@@ -201,9 +252,11 @@ moves_tells ins outs es m added m' (finds_no_route n w s c cs wanted begins few 
     let story3 : Story ins (((outs ++ command ∷ []) ++ o ∷ []) ++ ended k cause ∷ []) es3 = story_put ins _ es2 (ended k cause) story2 (record { read = tt; end = (holds, sym empty, opening, lives); frame = tt; step = tt; advance = advanced2; try = tt }) in
     let advanced3 = ended_advanced es2 k cause advanced2 in
     let still = still_conclusion (fails cause) in
+    let so_far2 : so_far es2 ≡ begun_so_far (so_far es) shown = so_far_more es1 (puts o) ∙ begins_so_far es s shown in
+    let so_far3 : so_far es3 ≡ begun_so_far (so_far es) shown = so_far_more es2 (puts (ended k cause)) ∙ so_far2 in
     let none3 = ended_none_live es2 k cause (opened_only es1 w wanted none1) in
     let world3 = ended_world es2 (with_ended_open w) k cause (omega arith) (made_world es2 w world2) in
-    let story4 = story_still ins _ es3 b still (failed_writes es2 k cause refl) advanced3 story3 in
+    let story4 = story_still ins _ es3 b still (failed_writes es2 k cause (ap (λ (m : CommandsSoFar). m.is_open) so_far2) refl) advanced3 story3 in
     record {
       events = es3 ++ told b;
       story = subst (λ z. Story ins z (es3 ++ told b)) (append_assoc ((outs ++ command ∷ []) ++ o ∷ []) (ended k cause ∷ []) b ∙ append_assoc (outs ++ command ∷ []) (o ∷ []) (ended k cause ∷ b) ∙ append_assoc outs (command ∷ []) (o ∷ ended k cause ∷ b)) story4;
@@ -214,6 +267,7 @@ moves_tells ins outs es m added m' (finds_no_route n w s c cs wanted begins few 
         λ j. live_kept j es3 b (kept es3 b (still_aside b still)) ∙ none3 j,
         script_told es3 b (further s cause) (conclusion_begins (commands_begun es3) (fails cause))
             (script_told es2 (ended k cause ∷ []) (further s cause) refl (script_told es1 (o ∷ []) (further s cause) refl (script_begins es (command ∷ []) s (further s cause) refl refl refl a.3))),
+        settings_open w (with_ended_open w) refl refl (settings_over w (open_for w wanted) (conclusion_so_far es3 (fails cause)) (settings_begun w shown so_far3 a.4) (asks_begun (so_far es) w (c ∷ cs) (open_for w wanted) so_far3 a.4.table refl comes)),
       );
       images = (
         is.0 ∙ sym (ap image_list (one_keeps es3 (result cause) (failed_image es3 cause refl) ∙ one_keeps es2 (ended k cause) refl ∙ one_keeps es1 o refl ∙ one_keeps es command refl)),
@@ -227,7 +281,7 @@ moves_tells ins outs es m added m' (hands n r rest) story advanced a is =
       events = es ++ told b;
       story = story_still ins outs es b h (silent_frames es b (a.1.0, tt)) advanced story;
       advanced = still_advanced es b h advanced;
-      agrees = (a.0.1, a.1.1, λ j. live_kept j es b (kept es b (still_aside b h)) ∙ a.2 j);
+      agrees = (a.0.1, a.1.1, λ j. live_kept j es b (kept es b (still_aside b h)) ∙ a.2 j, ap (λ (m : CommandsSoFar). m.is_open) (so_far_more es (puts r) ∙ silent_so_far (so_far es) r a.1.0) ∙ a.3);
       images = record {
         earlier = is.earlier;
         last = is.last;
@@ -238,4 +292,4 @@ moves_tells ins outs es m added m' (hands n r rest) story advanced a is =
       };
     }
 moves_tells ins outs es m added m' (has_handed n) story advanced a is =
-    record { events = es; story = subst (λ z. Story ins z es) (sym (append-nil outs)) story; advanced = advanced; agrees = a.2; images = subst (λ z. HandsOff es z []) (sym (append-nil outs)) is }
+    record { events = es; story = subst (λ z. Story ins z es) (sym (append-nil outs)) story; advanced = advanced; agrees = (a.2, a.3); images = subst (λ z. HandsOff es z []) (sym (append-nil outs)) is }

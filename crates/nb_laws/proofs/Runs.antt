@@ -4,18 +4,19 @@ use Rattle.nb_defs.specs.Records.{In, Out}
 use Rattle.nb_engine.specs.declared.world.World.{World}
 use Rattle.nb_engine.specs.Opens.{Open}
 use Rattle.nb_engine.specs.Running.{Running}
-use Rattle.nb_engine.specs.Machine.{Machine, Phase, ready, running, waiting, yielded, handing, left, handed_off, stopped, at, Path, nothing, uses, moves}
+use Rattle.nb_engine.specs.Machine.{Machine, Phase, ready, running, waiting, sleeping, yielded, handing, left, handed_off, stopped, at, Path, nothing, uses, moves}
 use Rattle.nb_laws.specs.Events.{outputs, Event, IsHistory}
 use Rattle.nb_laws.specs.Lists.{last_place, gathered, calls}
 use Rattle.nb_laws.specs.HandOff.{HandsOff}
 use Rattle.nb_laws.specs.Lawful.{IsLawful, HandsAsBrought}
-use Rattle.nb_laws.specs.Progress.{IsAdvanced, NoneIsWhole}
+use Rattle.nb_laws.specs.Progress.{IsAdvanced, NoneIsWhole, NoneOversleeps}
 use Rattle.nb_laws.specs.Agreement.{IsWorld, NoneLives, AgreesImages, AgreesPhase}
 use Rattle.nb_laws.proofs.Histories.{one_history}
 use Rattle.nb_laws.proofs.Calls.{got_same, none_is_whole, going_not_whole}
 use Rattle.nb_laws.proofs.Counts.{path_counts}
 use Rattle.nb_laws.proofs.Hearings.{Tells}
-use Rattle.nb_laws.proofs.Beginnings.{none_at_start, begins_tells}
+use Rattle.nb_laws.proofs.Beginnings.{none_at_start, nothing_open, begins_tells}
+use Rattle.nb_laws.proofs.SoFar.{over_rests, asking_rests, sleeping_rests}
 use Rattle.nb_laws.proofs.Moves.{moves_tells}
 
 advanced_at_start : IsAdvanced []
@@ -41,16 +42,29 @@ none_whole : (es : List Event) (phase : Phase) → AgreesPhase es phase → None
 none_whole es ready a = none_is_whole es (subst NoneLives (sym a) none_at_start)
 none_whole es (running w s) a = none_is_whole es a.2
 none_whole es (waiting w s o) a = going_not_whole es w o a.1 a.2 a.3
+none_whole es (sleeping w s until) a = none_is_whole es a.2
 none_whole es (yielded w s) a = none_is_whole es a.2
 none_whole es (handing rest) a = none_is_whole es a.2
-none_whole es (left cause) a = none_is_whole es a
-none_whole es handed_off a = none_is_whole es a
-none_whole es stopped a = none_is_whole es a
+none_whole es (left cause) a = none_is_whole es a.0
+none_whole es handed_off a = none_is_whole es a.0
+none_whole es stopped a = none_is_whole es a.0
+
+none_oversleeps : (es : List Event) (phase : Phase) → AgreesPhase es phase → NoneOversleeps es
+none_oversleeps es ready a = over_rests es (nothing_open es a)
+none_oversleeps es (running w s) a = over_rests es a.4.is_open
+none_oversleeps es (waiting w s o) a = asking_rests es o a.6
+none_oversleeps es (sleeping w s until) a = sleeping_rests es w until a.0.opens a.4.now a.5
+none_oversleeps es (yielded w s) a = over_rests es a.4.is_open
+none_oversleeps es (handing rest) a = over_rests es a.3
+none_oversleeps es (left cause) a = over_rests es a.1
+none_oversleeps es handed_off a = over_rests es a.1
+none_oversleeps es stopped a = a.1
 
 hands_as_brought : (es : List Event) (outs : List Out) (phase : Phase) → AgreesImages es outs phase → HandsAsBrought es outs
 hands_as_brought es outs ready a = inl a
 hands_as_brought es outs (running w s) a = inl a.1
 hands_as_brought es outs (waiting w s o) a = inl a.1
+hands_as_brought es outs (sleeping w s until) a = inl a.1
 hands_as_brought es outs (yielded w s) a = inl a.1
 hands_as_brought es outs (handing rest) a = inr (rest, a)
 hands_as_brought es outs (left cause) a = inl a
@@ -70,6 +84,7 @@ lawful_run ins outs m path =
         advances = t.story.advances;
         advanced = t.advanced;
         unfinished = none_whole t.events m.phase t.agrees;
+        rested = none_oversleeps t.events m.phase t.agrees;
         parts = hands_as_brought t.events (outputs t.events) m.phase (subst (λ z. AgreesImages t.events z m.phase) t.story.history.written t.images);
       },
       t.agrees,

@@ -1,9 +1,11 @@
 -- How far a run is at each event: which record is used, whether a file is whole, and what ADVANCE tells.
-use Rattle.std.specs.Prelude.{◌≡◌, ℕ, ◌+◌, false, List, [], ◌∷◌, length}
+use Rattle.std.specs.Prelude.{◌≡◌, ℕ, ◌+◌, ◌*◌, ◌<◌, true, false, List, [], ◌∷◌, length}
 use Rattle.nb_defs.specs.Records.{step, advanced}
 use Rattle.nb_tftp.specs.Blocks.{count, is_whole}
+use Rattle.nb_engine.specs.Effects.{sleeps}
+use Rattle.nb_laws.specs.CommandsSoFar.{so_far, ComesTo}
 use Rattle.nb_laws.specs.Events.{Event, starts, hears, waits, stops, puts, inputs}
-use Rattle.nb_laws.specs.Lists.{Opening, live, datagrams_of, last_place, commands_begun}
+use Rattle.nb_laws.specs.Lists.{Opening, live, datagrams_of, last_place, made, commands_begun}
 
 -- no live open's file is whole: an open ends in the step in which its file becomes whole
 abbrev pub NoneIsWhole : List Event → Type 0
@@ -13,10 +15,15 @@ NoneIsWhole es = (k : ℕ) (o : Opening) → live k es ≡ o ∷ [] → is_whole
 abbrev pub IsAdvanced : List Event → Type 0
 IsAdvanced es = (k : ℕ) → last_place k es ≡ count (datagrams_of k es)
 
--- a record is used: its STEP has its place among the records used, and no live open's file is whole
+-- a command that sleeps has its result once its time has come
+abbrev pub NoneOversleeps : List Event → Type 0
+NoneOversleeps es = (seconds : ℕ) → (so_far es).is_open ≡ true → ComesTo es (made es) (sleeps seconds) → (so_far es).now < (so_far es).since + 1000 * seconds
+
+-- a record is used: its STEP has its place among the records used, no live open's file is whole, and no sleep is over
 pub record IsStep (before : List Event) (number : ℕ) : Type 0 where
   pub counted : number ≡ length (inputs before) + 1
   pub unfinished : NoneIsWhole before
+  pub rested : NoneOversleeps before
 
 -- why a record other than START may be used
 pub data IsResumed (before : List Event) : Type 0 where
@@ -24,8 +31,10 @@ pub data IsResumed (before : List Event) : Type 0 where
   by_live : (k : ℕ) (o : Opening) → live k before ≡ o ∷ [] → IsResumed before
   -- the step before had all the commands that it may have
   by_count : commands_begun before ≡ 4096 → IsResumed before
+  -- a command sleeps
+  by_sleep : (seconds : ℕ) → (so_far before).is_open ≡ true → ComesTo before (made before) (sleeps seconds) → IsResumed before
 
--- START is used first; each other record while an open lives, or where the step before had 4,096 COMMANDs
+-- START is used first; each other record while an open lives or a command sleeps, or where the step before had 4,096 COMMANDs
 abbrev pub StepsSo : List Event → Event → Type 0
 StepsSo before (starts n s) = IsStep before n × (before ≡ [])
 StepsSo before (hears n bytes m) = IsStep before n × IsResumed before

@@ -89,7 +89,7 @@ end_is w o call acts x put e =
 concluded_so : (w : World) (o : Open) (xs : List Exchange) (cause : Cause) → Lives o xs →
     concluded w o cause ≡ concluded_by (state_in w []) (fetch o.wanted) (by_end (record { live = live_of o xs; cause = cause }))
 concluded_so w o xs cause lives =
-    ap (λ gs. conclusion cause o.wanted.boots (image_of o.wanted.target.name (file gs) [] o.wanted.uri) w.images) (sym (all_came o.number o.begun.server.0 o.entries xs lives.exchanged))
+    ap (λ gs. conclusion cause o.wanted.boots (image_of o.wanted.target.name (file gs) [] o.wanted.uri) w.state.images) (sym (all_came o.number o.begun.server.0 o.entries xs lives.exchanged))
 
 -- where a conclusion leads the engine's machine, it leads this one
 record Led (w : World) (own : ℕ) (s : Running) (c d : Conclusion) : Type 0 where

@@ -1,5 +1,6 @@
 -- A run of the engine's machine is a course of the machine of many opens.
-use Rattle.std.proofs.Common.{◌≡◌, ℕ, ◌+◌, true, cond, List, [], ◌∷◌, ◌++◌, Some, None, refl, sym, ◌∙◌, ap, subst, append-nil}
+use Rattle.std.proofs.Common.{◌≡◌, ℕ, ◌+◌, ◌*◌, ◌<◌, ◌≤◌, nat_le, arith, true, cond, List, [], ◌∷◌, ◌++◌, Some, None, refl, sym, ◌∙◌, ap, subst, append-nil}
+use Rattle.std.proofs.lemmas.Bool.{lt-leb, le-leb}
 use Rattle.nb_defs.specs.Records.{In, start, frame, tick, off, IsIn, Out, step, ended}
 use Rattle.nb_stack.specs.Client.{Client}
 use Rattle.nb_stack.specs.Brings.{Brought, Brings}
@@ -11,7 +12,10 @@ use Rattle.nb_engine.specs.declared.world.World.{World}
 use Rattle.nb_engine.specs.World.{world_of, with_net, with_open}
 use Rattle.nb_engine.specs.World as world
 use Rattle.nb_engine.specs.Opens.{Open, has_route, request_of, begun_for, open_for, send_records, heard_from}
-use Rattle.nb_engine.specs.Running.{Running, anew, further, entered}
+use Rattle.nb_defs.specs.Causes.{ok}
+use Rattle.nb_engine.specs.Effects.{shown_words, table_after}
+use Rattle.nb_engine.specs.Running.{Running, anew, further, entered, with_result}
+use Rattle.nb_engine.proofs.CommandLaws.{sleeps_some}
 use Rattle.nb_engine.specs.Machine.{Machine, Phase, at, Hears, Begins, Move, Path, reply_records, command_record, stopped_cause}
 use Rattle.nb_engine.specs.Machine as lone
 use Rattle.nb_laws.specs.Agreement.{bare, opening_of, AgreesPhase}
@@ -24,10 +28,10 @@ use Rattle.nb_machine.specs.States.{net0, state_at_start, with_device, with_live
 use Rattle.nb_machine.specs.Takings.{all_have, is_over}
 use Rattle.nb_machine.specs.Network.{Network}
 use Rattle.nb_machine.specs.Network as network
-use Rattle.nb_machine.specs.Scripts.{fetch, doing_by, transfer_for, concluded_by}
+use Rattle.nb_machine.specs.Scripts.{fetch, by_time, doing_by, transfer_for, concluded_by}
 use Rattle.nb_machine.specs.Courses.{Standing, Progress, stands, ready, running, waiting, yielded, handing, left, handed_off, stopped, StepBegins, Proceeds, Course, begins, uses, goes_on}
 use Rattle.nb_machine.specs.Courses as courses
-use Rattle.nb_machine.specs.Carried.{live_of, state_in, waiting_in, Lives, StandsAs, Carries}
+use Rattle.nb_machine.specs.Carried.{live_of, state_in, waiting_in, sleeping_in, Lives, StandsAs, Carries}
 use Rattle.nb_laws.proofs.Tellings.{same_number}
 use Rattle.nb_machine.proofs.Ways.{bare_route, free_reply, bare_reply, bare_after, bare_send}
 use Rattle.nb_machine.proofs.Told.{meets_nothing}
@@ -111,6 +115,28 @@ frame_resumes n w s bytes reply net m valid brings put is free =
       same = ap (λ c. running (record st { devices = c ∷ [] }) (anew s) []) (bare_after w.net m ∙ ap bare (sym is));
     }
 
+-- a time that hasn't come, and one that has
+not_yet : (until now : ℕ) → now < until → cond (nat_le until now) (Some by_time) None ≡ None
+not_yet until now h = ap (λ b. cond b (Some by_time) None) (lt-leb until now h)
+
+by_now : (until now : ℕ) → until ≤ now → cond (nat_le until now) (Some by_time) None ≡ Some by_time
+by_now until now h = ap (λ b. cond b (Some by_time) None) (le-leb until now h)
+
+-- a command sleeps on through a frame
+frame_sleeps : (n : ℕ) (w : World) (s : Running) (until : ℕ) (bytes reply : List ℕ) (net : Client) (m : Brought) → IsIn (frame bytes) → w.time < until → Brings w.net.up w.net.mac w.net.address bytes m →
+    reply ≡ reply_of w.net m → net ≡ client_after w.net m → w.net.ports ≡ [] →
+    Steps n (waiting (state_in w []) (sleeping_in s until)) (frame bytes) (step (n + 1) ∷ reply_records reply) (at (n + 1) (lone.sleeping (with_net w net) (anew s) until))
+frame_sleeps n w s until bytes reply net m valid early brings put is free =
+    let st = state_in w [] in
+    let to = waiting (with_device st net0 (client_after (bare w.net) m)) (sleeping_in (anew s) until) in
+    record {
+      to = to;
+      begins = subst (λ z. StepBegins (stands n (waiting st (sleeping_in s until))) (frame bytes) (step (n + 1) ∷ reply_records z) (stands (n + 1) to)) (free_reply w.net m free ∙ sym put)
+          (courses.waits_on n st _ (sleeping_in s until) (frame bytes) (reply_records (reply_of (bare w.net) m)) [] valid
+          (network.passes_by (frame bytes) net0 bytes (bare w.net) m (network.on_net0 bytes) refl brings (for_nobody net0 m)) (not_yet until w.time early));
+      same = (early, ap (λ c. waiting (record st { devices = c ∷ [] }) (sleeping_in (anew s) until)) (bare_after w.net m ∙ ap bare (sym is)));
+    }
+
 step_begins : (m : Machine) (r : In) (added : List Out) (m' : Machine) (es : _) (p : Standing) → Begins m r added m' → AgreesPhase es m.phase → StandsAs m.phase p → Steps m.used p r added m'
 step_begins m r added m' es p (lone.runs n s code valid reading) a same =
     subst (λ z. Steps n z (start s) added m') (sym same) (record { to = running (state_at_start s) _ []; begins = courses.runs n s code valid reading; same = refl })
@@ -142,6 +168,26 @@ step_begins m r added m' es p (lone.switches_off n w s o) a (xs, here, same) =
           (ap (λ b. cond b (Some stopped_cause) None) (same_number o.number)) all_have);
       same = (with_live st [], refl, refl);
     })
+step_begins m r added m' es p (lone.sleeps_through_frame n w s until bytes reply seen net valid takes) a (early, same) =
+    subst (λ z. Steps n z (frame bytes) added m') (sym same) (frame_sleeps n w s until bytes reply net takes.message valid early takes.brings takes.is_put takes.is_after a.1)
+step_begins m r added m' es p (lone.sleeps_on n w s until ms valid early) a (before, same) =
+    subst (λ z. Steps n z (tick ms) added m') (sym same)
+    (record {
+      to = waiting (state_in (world.world_later w ms) []) (sleeping_in (anew s) until);
+      begins = courses.waits_on n (state_in w []) (state_in (world.world_later w ms) []) (sleeping_in s until) (tick ms) [] [] valid (network.passes_time ms [] [] [] all_have) (not_yet until (w.time + ms) early);
+      same = (early, refl);
+    })
+step_begins m r added m' es p (lone.wakes n w s until ms valid late) a (before, same) =
+    subst (λ z. Steps n z (tick ms) added m') (sym same)
+    (record {
+      to = running (state_in (world.world_later w ms) []) (with_result (anew s) ok) [];
+      begins = courses.is_answered n (state_in w []) (state_in (world.world_later w ms) []) (sleeping_in s until) (tick ms) [] [] [] by_time _ valid (network.passes_time ms [] [] [] all_have) (by_now until (w.time + ms) late)
+          (refl, refl);
+      same = refl;
+    })
+step_begins m r added m' es p (lone.goes_off_asleep n w s until) a (before, same) =
+    subst (λ z. Steps n z off added m') (sym same)
+    (record { to = stopped (state_in w []); begins = courses.switches_off n (state_in w []) (sleeping_in s until) [] [] all_have; same = (state_in w [], refl, refl) })
 step_begins m r added m' es p (lone.goes_on_by_frame n w s bytes reply seen net valid takes) a same =
     subst (λ z. Steps n z (frame bytes) added m') (sym same) (frame_resumes n w s bytes reply net takes.message valid takes.brings takes.is_put takes.is_after a.1)
 step_begins m r added m' es p (lone.goes_on_by_tick n w s ms valid) a same =
@@ -150,6 +196,9 @@ step_begins m r added m' es p (lone.goes_on_by_tick n w s ms valid) a same =
 step_begins m r added m' es p (lone.goes_off n w s) a same =
     subst (λ z. Steps n z off added m') (sym same)
     (record { to = stopped (state_in w []); begins = courses.goes_off n (state_in w []) s [] [] [] all_have; same = (state_in w [], refl, refl) })
+
+later : (now seconds : ℕ) → 0 < seconds → now < now + 1000 * seconds
+later now seconds h = omega (arith, h)
 
 -- what a run does next
 record Goes (n : ℕ) (p : Standing) (added : List Out) (m' : Machine) : Type 0 where
@@ -165,14 +214,22 @@ move_goes m added m' p (lone.is_left n w s cause comes) same =
 move_goes m added m' p (lone.yields n w s c cs comes full) same =
     subst (λ z. Goes n z added m') (sym same) (record { to = _; does = courses.yields n (state_in w []) s [] c cs comes full; same = refl })
 move_goes m added m' p (lone.does n w s c cs o comes few is stays) same =
-    subst (λ z. Goes n z added m') (sym same) (record { to = _; does = courses.does n (state_in w []) (state_in w []) s [] c cs o comes few (ap (doing_by (state_in w [])) is) stays; same = refl })
+    subst (λ z. Goes n z added m') (sym same) (record { to = _; does = courses.does n (state_in w []) (state_in (world.world_with_table w (table_after w.state.table (c ∷ cs))) []) s [] c cs o comes few (ap (doing_by (state_in w []) (table_after w.state.table (c ∷ cs))) is) stays; same = refl })
 move_goes m added m' p (lone.leaves n w s c cs o comes few is goes_out) same =
     subst (λ z. Goes n z added m') (sym same)
-    (record { to = left (state_in w []) [] o.cause; does = courses.leaves n (state_in w []) (state_in w []) s [] c cs o comes few (ap (doing_by (state_in w [])) is) goes_out; same = (state_in w [], refl, refl) })
+    (let next = state_in (world.world_with_table w (table_after w.state.table (c ∷ cs))) [] in
+    record { to = left next [] o.cause; does = courses.leaves n (state_in w []) next s [] c cs o comes few (ap (doing_by (state_in w []) (table_after w.state.table (c ∷ cs))) is) goes_out; same = (next, refl, refl) })
 move_goes m added m' p (lone.jumps n w s c cs name line comes few is there) same =
-    subst (λ z. Goes n z added m') (sym same) (record { to = _; does = courses.jumps n (state_in w []) s [] c cs name line comes few (ap (doing_by (state_in w [])) is) there; same = refl })
+    subst (λ z. Goes n z added m') (sym same) (record { to = _; does = courses.jumps n (state_in w []) s [] c cs name line comes few (ap (doing_by (state_in w []) (table_after w.state.table (c ∷ cs))) is) there; same = refl })
 move_goes m added m' p (lone.finds_no_label n w s c cs name comes few is none) same =
-    subst (λ z. Goes n z added m') (sym same) (record { to = _; does = courses.finds_no_label n (state_in w []) s [] c cs name comes few (ap (doing_by (state_in w [])) is) none; same = refl })
+    subst (λ z. Goes n z added m') (sym same) (record { to = _; does = courses.finds_no_label n (state_in w []) s [] c cs name comes few (ap (doing_by (state_in w []) (table_after w.state.table (c ∷ cs))) is) none; same = refl })
+move_goes m added m' p (lone.falls_asleep n w s c cs seconds comes few is) same =
+    subst (λ z. Goes n z added m') (sym same)
+    (record {
+      to = waiting (state_in w []) (sleeping_in (entered s) (w.time + 1000 * seconds));
+      does = courses.falls_asleep n (state_in w []) s [] c cs (w.time + 1000 * seconds) comes few (ap (doing_by (state_in w []) (table_after w.state.table (c ∷ cs))) is);
+      same = (later w.time seconds (sleeps_some w.opens w.state.table (c ∷ cs) seconds is), refl);
+    })
 move_goes m added m' p (lone.asks_for n w s c cs wanted comes few is route) same =
     let st = state_in w [] in
     let l = transfer_for st wanted in
@@ -182,8 +239,8 @@ move_goes m added m' p (lone.asks_for n w s c cs wanted comes few is route) same
     subst (λ z. Goes n z added m') (sym same)
     (record {
       to = to;
-      does = subst (λ z. Proceeds (stands n (running st s [])) (command_record s (c ∷ cs) ∷ open_record l ∷ z) (stands n to)) (bare_send w.net w.opens (Some 1) request)
-          (courses.opens_one n st s [] c cs l (fetch wanted) (bare w.net) put comes few (ap (doing_by st) is) refl
+      does = subst (λ z. Proceeds (stands n (running st s [])) (command_record s (shown_words w.state.table (c ∷ cs)) ∷ open_record l ∷ z) (stands n to)) (bare_send w.net w.opens (Some 1) request)
+          (courses.opens_one n st s [] c cs l (fetch wanted) (bare w.net) put comes few (ap (doing_by st (table_after w.state.table (c ∷ cs))) is) refl
           (ap (λ b. cond b (Some put) None) (bare_route w.net request ∙ route)));
       same = ([], record { exchanged = at_first; meets = meets_nothing (begun_for w wanted) w.time }, refl);
     })
@@ -194,7 +251,7 @@ move_goes m added m' p (lone.finds_no_route n w s c cs wanted comes few is route
     subst (λ z. Goes n z added m') (sym same)
     (record {
       to = running (with_one_made st) (further s (lone.no_route wanted.target.server)) [];
-      does = courses.finds_no_route n st s [] c cs l (fetch wanted) (bare w.net) comes few (ap (doing_by st) is) refl
+      does = courses.finds_no_route n st s [] c cs l (fetch wanted) (bare w.net) comes few (ap (doing_by st (table_after w.state.table (c ∷ cs))) is) refl
           (ap (λ b. cond b (Some (send_records (bare w.net) w.opens (Some 1) request)) None) (bare_route w.net request ∙ route));
       same = refl;
     })

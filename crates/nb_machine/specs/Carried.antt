@@ -1,5 +1,5 @@
 -- How the machine of one waiting transfer, by which the engine is proved, is carried by the machine of many opens.
-use Rattle.std.specs.Prelude.{◌≡◌, List, [], ◌∷◌}
+use Rattle.std.specs.Prelude.{◌≡◌, ◌<◌, ℕ, List, [], ◌∷◌}
 use Rattle.nb_tftp.specs.Sentences.{Meets}
 use Rattle.nb_engine.specs.declared.world.World.{World}
 use Rattle.nb_engine.specs.Opens.{Open}
@@ -10,7 +10,7 @@ use Rattle.nb_laws.specs.Agreement.{bare}
 use Rattle.nb_machine.specs.Lives.{tftp, Exchange, Live}
 use Rattle.nb_machine.specs.Transfers.{Exchanged}
 use Rattle.nb_machine.specs.States.{State, net0}
-use Rattle.nb_machine.specs.Scripts.{fetch, answer, Waiting}
+use Rattle.nb_machine.specs.Scripts.{fetch, sleep, answer, moment, Waiting}
 use Rattle.nb_machine.specs.Courses.{Standing, ready, running, waiting, yielded, handing, left, handed_off, stopped, Progress}
 
 abbrev pub live_of : Open → List Exchange → Live
@@ -27,10 +27,13 @@ live_of o xs = record {
 }
 
 abbrev pub state_in : World → List Live → State
-state_in w live = record { w = w.w; now = w.time; devices = bare w.net ∷ []; images = w.images; opens = w.opens; live = live }
+state_in w live = record { w = w.w; now = w.time; devices = bare w.net ∷ []; table = w.state.table; images = w.state.images; opens = w.opens; live = live }
 
 abbrev pub waiting_in : Running → Open → Waiting
 waiting_in s o = record { script = s; outer = []; awaited = answer o.number; job = fetch o.wanted }
+
+abbrev pub sleeping_in : Running → ℕ → Waiting
+sleeping_in s until = record { script = s; outer = []; awaited = moment until; job = sleep }
 
 -- an open that lives with these exchanges
 pub record Lives (o : Open) (xs : List Exchange) : Type 0 where
@@ -41,6 +44,7 @@ abbrev pub StandsAs : Phase → Standing → Type 0
 StandsAs lone.ready p = p ≡ ready
 StandsAs (lone.running w s) p = p ≡ running (state_in w []) s []
 StandsAs (lone.waiting w s o) p = (xs : List Exchange) × Lives o xs × (p ≡ waiting (state_in w (live_of o xs ∷ [])) (waiting_in s o))
+StandsAs (lone.sleeping w s until) p = (w.time < until) × (p ≡ waiting (state_in w []) (sleeping_in s until))
 StandsAs (lone.yielded w s) p = p ≡ yielded (state_in w []) s []
 StandsAs (lone.handing rest) p = (s : State) × (s.live ≡ []) × (p ≡ handing s rest)
 StandsAs (lone.left cause) p = (s : State) × (s.live ≡ []) × (p ≡ left s [] cause)

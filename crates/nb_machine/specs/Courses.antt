@@ -8,6 +8,7 @@ use Rattle.nb_defs.specs.Records.{Start, In, start, off, IsIn, Out, step, enter,
 use Rattle.nb_defs.specs.ScriptLines.{Line, script, label_place}
 use Rattle.nb_stack.specs.Client.{Client}
 use Rattle.nb_engine.specs.Conclusions.{Conclusion, keeps, fails, boots, conclusion_records, handoff_records}
+use Rattle.nb_engine.specs.Effects.{shown_words}
 use Rattle.nb_engine.specs.FirstText.{first_reading, text_refusal}
 use Rattle.nb_engine.specs.Running.{Running, first_script, coming, passing, leaving, beginning, entered, further, behind_line, with_result, anew, no_label}
 use Rattle.nb_engine.specs.Machine.{command_record, command_records, no_route, stopped_cause}
@@ -16,7 +17,7 @@ use Rattle.nb_machine.specs.Kinds.{first_records}
 use Rattle.nb_machine.specs.States.{State, state_at_start, with_images, with_live, with_opened, with_one_made}
 use Rattle.nb_machine.specs.Takings.{Over, AllTake}
 use Rattle.nb_machine.specs.Network.{Network}
-use Rattle.nb_machine.specs.Scripts.{Job, ends, opens, goes_to, doing, answer, Answer, answer_in, Waiting, waiting_anew, concluded_by}
+use Rattle.nb_machine.specs.Scripts.{Job, sleep, ends, opens, goes_to, waits_until, doing, answer, moment, Answer, answer_in, Waiting, waiting_anew, concluded_by}
 
 -- where a run stands
 pub data Standing : Type 0 where
@@ -102,31 +103,36 @@ pub data Proceeds : Progress → List Out → Progress → Type 0 where
   -- a command after which the list goes on
   does : (n : ℕ) (s s' : State) (inner : Running) (outer : List Running) (c : List ℕ) (cs : List (List ℕ)) (o : CommandOutcome) →
       coming inner ≡ beginning c cs → inner.begun < 4096 → doing s (c ∷ cs) ≡ ends o s' → o.leaves ≡ false →
-      Proceeds (stands n (running s inner outer)) (command_records inner (c ∷ cs) o) (stands n (running s' (further inner o.cause) outer))
+      Proceeds (stands n (running s inner outer)) (command_records inner (shown_words s.table (c ∷ cs)) o) (stands n (running s' (further inner o.cause) outer))
   -- a command with which the script is left
   leaves : (n : ℕ) (s s' : State) (inner : Running) (outer : List Running) (c : List ℕ) (cs : List (List ℕ)) (o : CommandOutcome) →
       coming inner ≡ beginning c cs → inner.begun < 4096 → doing s (c ∷ cs) ≡ ends o s' → o.leaves ≡ true →
-      Proceeds (stands n (running s inner outer)) (command_records inner (c ∷ cs) o ++ (leave inner.depth o.cause ∷ [])) (stands n (left s' outer o.cause))
+      Proceeds (stands n (running s inner outer)) (command_records inner (shown_words s.table (c ∷ cs)) o ++ (leave inner.depth o.cause ∷ [])) (stands n (left s' outer o.cause))
   -- `goto`: the script goes on after the first line that is the label
   jumps : (n : ℕ) (s : State) (inner : Running) (outer : List Running) (c : List ℕ) (cs : List (List ℕ)) (name : List ℕ) (line : ℕ) →
       coming inner ≡ beginning c cs → inner.begun < 4096 → doing s (c ∷ cs) ≡ goes_to name → label_place name inner.code ≡ Some line →
-      Proceeds (stands n (running s inner outer)) (command_records inner (c ∷ cs) (refused ok)) (stands n (running s (behind_line inner line) outer))
+      Proceeds (stands n (running s inner outer)) (command_records inner (shown_words s.table (c ∷ cs)) (refused ok)) (stands n (running s (behind_line inner line) outer))
   -- there is no such label
   finds_no_label : (n : ℕ) (s : State) (inner : Running) (outer : List Running) (c : List ℕ) (cs : List (List ℕ)) (name : List ℕ) →
       coming inner ≡ beginning c cs → inner.begun < 4096 → doing s (c ∷ cs) ≡ goes_to name → label_place name inner.code ≡ None →
-      Proceeds (stands n (running s inner outer)) (command_records inner (c ∷ cs) (refused no_label)) (stands n (running s (further inner no_label) outer))
+      Proceeds (stands n (running s inner outer)) (command_records inner (shown_words s.table (c ∷ cs)) (refused no_label)) (stands n (running s (further inner no_label) outer))
+  -- a command that waits for a time
+  falls_asleep : (n : ℕ) (s : State) (inner : Running) (outer : List Running) (c : List ℕ) (cs : List (List ℕ)) (time : ℕ) →
+      coming inner ≡ beginning c cs → inner.begun < 4096 → doing s (c ∷ cs) ≡ waits_until time →
+      Proceeds (stands n (running s inner outer)) (command_record inner (shown_words s.table (c ∷ cs)) ∷ [])
+      (stands n (waiting s (record { script = entered inner; outer = outer; awaited = moment time; job = sleep })))
   -- a command that opens something, and waits for it
   opens_one : (n : ℕ) (s : State) (inner : Running) (outer : List Running) (c : List ℕ) (cs : List (List ℕ)) (l : Live) (job : Job) (link : Client) (put : List Out) →
       coming inner ≡ beginning c cs → inner.begun < 4096 → doing s (c ∷ cs) ≡ opens l job →
       slice_get s.devices l.device ≡ Some link → first_records l.kind l link ≡ Some put →
-      Proceeds (stands n (running s inner outer)) (command_record inner (c ∷ cs) ∷ open_record l ∷ put)
+      Proceeds (stands n (running s inner outer)) (command_record inner (shown_words s.table (c ∷ cs)) ∷ open_record l ∷ put)
       (stands n (waiting (with_opened s l) (record { script = entered inner; outer = outer; awaited = answer l.number; job = job })))
   -- one whose server there is no way to: the open was made, and has ended
   finds_no_route : (n : ℕ) (s : State) (inner : Running) (outer : List Running) (c : List ℕ) (cs : List (List ℕ)) (l : Live) (job : Job) (link : Client) →
       coming inner ≡ beginning c cs → inner.begun < 4096 → doing s (c ∷ cs) ≡ opens l job →
       slice_get s.devices l.device ≡ Some link → first_records l.kind l link ≡ None →
       Proceeds (stands n (running s inner outer))
-      (command_record inner (c ∷ cs) ∷ open_record l ∷ end_record l (no_route l.server) ∷ conclusion_records (fails (no_route l.server)))
+      (command_record inner (shown_words s.table (c ∷ cs)) ∷ open_record l ∷ end_record l (no_route l.server) ∷ conclusion_records (fails (no_route l.server)))
       (stands n (running (with_one_made s) (further inner (no_route l.server)) outer))
   -- a piece of the image is handed off
   hands : (n : ℕ) (s : State) (r : Out) (rest : List Out) → Proceeds (stands n (handing s (r ∷ rest))) (r ∷ []) (stands n (handing s rest))

@@ -3,16 +3,19 @@ use Rattle.std.specs.Prelude.{ℕ, ◌+◌, List, [], ◌∷◌, ◌++◌, take,
 use Rattle.nb_defs.specs.Records.{Start}
 use Rattle.nb_image.specs.Images.{ImageList}
 use Rattle.nb_stack.specs.Client.{Client}
+use Rattle.nb_settings.specs.Tables.{TableLists}
+use Rattle.nb_engine.specs.StartTable.{start_table}
 use Rattle.nb_engine.specs.World.{net_of, no_images}
 use Rattle.nb_machine.specs.Lives.{Live}
 
 -- The time in milliseconds; the devices, net0 first, each as the client that stands on it (ports aren't kept: an open
--- has its own); the images; how many opens were made; and the opens that live, by rising number. `w` is START's,
--- from which own ports are counted.
+-- has its own); the settings; the images; how many opens were made; and the opens that live, by rising number. `w` is
+-- START's, from which own ports are counted.
 pub record State : Type 0 where
   pub w : ℕ
   pub now : ℕ
   pub devices : List Client
+  pub table : TableLists
   pub images : ImageList
   pub opens : ℕ
   pub live : List Live
@@ -22,7 +25,7 @@ abbrev pub net0 : ℕ
 net0 = 0
 
 abbrev pub state_at_start : Start → State
-state_at_start s = record { w = s.w; now = 0; devices = net_of s ∷ []; images = no_images; opens = 0; live = [] }
+state_at_start s = record { w = s.w; now = 0; devices = net_of s ∷ []; table = start_table s; images = no_images; opens = 0; live = [] }
 
 abbrev pub with_device : State → ℕ → Client → State
 with_device s device link = record s { devices = take device s.devices ++ link ∷ drop (device + 1) s.devices }
@@ -32,6 +35,9 @@ with_live s live = record s { live = live }
 
 abbrev pub with_images : State → ImageList → State
 with_images s images = record s { images = images }
+
+abbrev pub with_table : State → TableLists → State
+with_table s table = record s { table = table }
 
 abbrev pub later_by : State → ℕ → State
 later_by s ms = record s { now = s.now + ms }

@@ -2,7 +2,7 @@
 use Rattle.std.proofs.Common.{◌≡◌, ℕ, true, false, List, [], ◌∷◌, ◌++◌, map, refl, ap, append_assoc, length, ◌≤◌, nat_le, arith}
 use Rattle.std.proofs.lemmas.List.{append-nil, map-append, get_or-map, length-map}
 use Rattle.std.specs.Prelude.{codes, count_by}
-use Rattle.std.proofs.lemmas.Bool.{leb-true}
+use Rattle.std.proofs.lemmas.Bool.{leb-true, and_parts}
 use Rattle.std.specs.Str.{bytes_eq}
 use Rattle.nb_defs.specs.ScriptText.{is_join, line_words}
 use Rattle.nb_defs.proofs.ScriptLaws.{words_small}
@@ -14,7 +14,6 @@ use Rattle.nb_script.specs.declared.join.Join.{Join}
 use Rattle.nb_script.specs.ShownJoin.{shown_join}
 use Rattle.nb_script.specs.Shown.{shown_item, FitList}
 use Rattle.nb_script.specs.Cutting.{words_onto, commands_before}
-use Rattle.nb_script.proofs.PlainLemmas.{and_left, and_right}
 
 onto_none : (behind : List defs.Item) → words_onto [] behind ≡ behind
 onto_none [] = refl
@@ -73,8 +72,8 @@ join_then word e f g = rw (e, f, g) (refl, refl)
 pub list_fits : (line : List ℕ) (list : List Item) → length line ≤ 4096 → are_few (line_words line) ≡ true → AreCutFrom (line_words line) (map shown_item list) → FitList list
 list_fits line list short few cut =
     let ws = line_words line in
-    let f = and_left (nat_le (count_by is_no_join ws) 64) (nat_le (count_by is_join ws) 64) few in
-    let g = and_right (nat_le (count_by is_no_join ws) 64) (nat_le (count_by is_join ws) 64) few in
+    let f = (and_parts (nat_le (count_by is_no_join ws) 64) (nat_le (count_by is_join ws) 64) few).0 in
+    let g = (and_parts (nat_le (count_by is_no_join ws) 64) (nat_le (count_by is_join ws) 64) few).1 in
     let words_few : count_by is_no_join ws ≤ 64 = leb-true (count_by is_no_join ws) 64 f in
     let joins_few : count_by is_join ws ≤ 64 = leb-true (count_by is_join ws) 64 g in
     record {

@@ -4,8 +4,6 @@ pub mod LinesLemmas
 pub mod FirstBytes
 pub mod WordsLemmas
 pub mod SpansLemmas
-pub mod CutLemmas
-pub mod PlainLemmas
 pub mod JoinedLemmas
 pub mod KindLemmas
 pub mod ItemLemmas
@@ -13,3 +11,5 @@ pub mod ScriptLemmas
 pub mod ReadLemmas
 pub mod LabelLemmas
 pub mod KeyLemmas
+pub mod IdleLemmas
+pub mod BusyLemmas

@@ -1,70 +1,13 @@
 -- What the lines of a text are, line by line.
-use Rattle.std.proofs.Common.{◌≡◌, ℕ, suc, ◌+◌, ◌-◌, ◌≤◌, Bool, true, false, cond, ◌||◌, ◌&&◌, ◌==◌, List, [], ◌∷◌, ◌++◌, length, take, drop, Option, Some, None, refl, ap, ◌∙◌, arith, nat_eq}
+use Rattle.std.proofs.Common.{◌≡◌, ℕ, suc, ◌+◌, ◌-◌, Bool, true, false, cond, ◌&&◌, ◌==◌, List, [], ◌∷◌, length, take, drop, Option, Some, None, refl, ap, ◌∙◌, arith, nat_eq}
 use Rattle.std.specs.Prelude.{position, codes}
 use Rattle.std.specs.List.{ends_with, list_all}
 use Rattle.std.specs.Option.{MatchOption, unwrap_or}
 use Rattle.std.specs.Cmp.Lexicographic.{pointwise}
 use Rattle.std.proofs.lemmas.Bool.Decides.{nat_tests}
 use Rattle.std.specs.Borrow.{Bor}
-use Rattle.nb_defs.specs.ScriptText.{is_line_feed, pieces, lines, line_contents, without_cr, is_joined, ends_in_backslash, is_first_line, begins_script, is_blank}
-use Rattle.nb_script.proofs.PiecesLemmas.{pieces_some, pieces_none, pieces_cons, position_none}
-
-contents_cons : (p : List ℕ) (ps : List (List ℕ)) (q : List ℕ) (qs : List (List ℕ)) → ps ≡ q ∷ qs → line_contents (p ∷ ps) ≡ without_cr p ∷ line_contents ps
-unfolding line_contents
-contents_cons p ps q qs e = rw e refl
-
--- the first line of a text with a line feed, and the lines behind it
-pub lines_some : (text : List ℕ) (n : ℕ) → position is_line_feed text ≡ Some n → lines text ≡ without_cr (take n text) ∷ lines (drop (n + 1) text)
-unfolding lines
-lines_some text n h =
-    let rest = pieces is_line_feed (drop (n + 1) text) in
-    let some = pieces_cons is_line_feed (drop (n + 1) text) in
-    rw (pieces_some is_line_feed text n h) (contents_cons (take n text) rest some.0 some.1 some.2)
-
--- a text with no line feed is a line, where it isn't empty
-pub lines_none : (text : List ℕ) → position is_line_feed text ≡ None → lines text ≡ cond (length text == 0) [] (text ∷ [])
-unfolding lines line_contents
-lines_none text h = rw (pieces_none is_line_feed text (position_none is_line_feed text h)) refl
-
-joined_cons : (p : List ℕ) (ps : List (List ℕ)) (q : List ℕ) (qs : List (List ℕ)) → ps ≡ q ∷ qs → is_joined (p ∷ ps) ≡ (ends_in_backslash (without_cr p) || is_joined ps)
-unfolding is_joined
-joined_cons p ps q qs e = rw e refl
-
-pub joined_some : (text : List ℕ) (n : ℕ) → position is_line_feed text ≡ Some n → is_joined (pieces is_line_feed text) ≡ (ends_in_backslash (without_cr (take n text)) || is_joined (pieces is_line_feed (drop (n + 1) text)))
-joined_some text n h =
-    let rest = pieces is_line_feed (drop (n + 1) text) in
-    let some = pieces_cons is_line_feed (drop (n + 1) text) in
-    rw (pieces_some is_line_feed text n h) (joined_cons (take n text) rest some.0 some.1 some.2)
-
-pub joined_none : (text : List ℕ) → position is_line_feed text ≡ None → is_joined (pieces is_line_feed text) ≡ false
-unfolding is_joined
-joined_none text h = rw (pieces_none is_line_feed text (position_none is_line_feed text h)) refl
-
--- a line with one more byte, less its carriage return
-pub without_cr_push : (front : List ℕ) (b : ℕ) → without_cr (front ++ b ∷ []) ≡ cond (b == 13) front (front ++ b ∷ [])
-unfolding without_cr
-without_cr_push [] b = refl
-without_cr_push (a ∷ []) b = elim (b == 13) as (λ t. a ∷ cond t [] (b ∷ []) ≡ cond t (a ∷ []) (a ∷ b ∷ [])) [ true ↦ refl | false ↦ refl ]
-without_cr_push (a ∷ c ∷ front) b =
-    rw (without_cr_push (c ∷ front) b)
-    (elim (b == 13) as (λ t. a ∷ cond t (c ∷ front) (c ∷ front ++ b ∷ []) ≡ cond t (a ∷ c ∷ front) (a ∷ c ∷ front ++ b ∷ [])) [ true ↦ refl | false ↦ refl ])
-
-pub without_cr_nil : without_cr [] ≡ []
-unfolding without_cr
-without_cr_nil = refl
-
--- it is a front of the line
-pub without_cr_front : (p : List ℕ) → take (length (without_cr p)) p ≡ without_cr p
-unfolding without_cr
-without_cr_front [] = refl
-without_cr_front (b ∷ []) = elim (b == 13) as (λ t. take (length (cond t [] (b ∷ []))) (b ∷ []) ≡ cond t [] (b ∷ [])) [ true ↦ refl | false ↦ refl ]
-without_cr_front (b ∷ c ∷ p) = ap (λ q. b ∷ q) (without_cr_front (c ∷ p))
-
-pub length-without_cr : (p : List ℕ) → length (without_cr p) ≤ length p
-unfolding without_cr
-length-without_cr [] = omega arith
-length-without_cr (b ∷ []) = elim (b == 13) as (λ t. length (cond t [] (b ∷ [])) ≤ 1) [ true ↦ omega arith | false ↦ omega arith ]
-length-without_cr (b ∷ c ∷ p) = let ih = length-without_cr (c ∷ p) in omega arith
+use Rattle.nb_defs.specs.ScriptText.{is_line_feed, pieces, without_cr, ends_in_backslash, is_first_line, begins_script, is_blank}
+use Rattle.nb_script.proofs.PiecesLemmas.{pieces_some, pieces_none, position_none}
 
 last_of : (b c : ℕ) (bs : List ℕ) → drop (length (b ∷ c ∷ bs) - 1) (b ∷ c ∷ bs) ≡ drop (length (c ∷ bs) - 1) (c ∷ bs)
 last_of b c bs =

@@ -3,6 +3,7 @@ use Rattle.std.proofs.Common.{◌≡◌, ℕ, zero, suc, ◌<◌, ◌≤◌, Boo
 use Rattle.std.specs.List.{list_all, slice_get, position_or_len}
 use Rattle.std.proofs.lemmas.List.Sums.{position_or_len_is}
 use Rattle.std.proofs.lemmas.Option.{slice_get_cases, slice_get-get_or}
+use Rattle.std.proofs.lemmas.Bool.{and_parts}
 use Rattle.std.proofs.lemmas.Bool.Decides.{nat_tests}
 use Rattle.std.proofs.lemmas.List.{length-map}
 use Rattle.nb_defs.proofs.ScriptLaws.{length-joined_lines}
@@ -11,7 +12,6 @@ use Rattle.nb_defs.specs.ScriptLines.{Line, empty, script_line, Reading, joined_
 use Rattle.nb_script.specs.declared.kind.ScriptLine.{ScriptLine}
 use Rattle.nb_script.specs.declared.kind.ScriptLine.TheVariants as on
 use Rattle.nb_script.specs.ShownLine.{HasAtMost, is_label_at}
-use Rattle.nb_script.proofs.PlainLemmas.{and_left, and_right}
 
 -- a text whose first line isn't that of a script
 pub reads_none : (text : List ℕ) → begins_script (pieces is_line_feed text) ≡ false → script_reading text ≡ no_script
@@ -92,10 +92,10 @@ pub short_at : (lines : List (List ℕ)) (i : ℕ) (line : List ℕ) → list_al
 short_at [] i line h e = cc
 short_at (l ∷ lines) zero line h e =
     let here : l ≡ line = cc in
-    let short : nat_le (length l) 4096 ≡ true = and_left (nat_le (length l) 4096) (list_all is_short_line lines) h in
+    let short : nat_le (length l) 4096 ≡ true = (and_parts (nat_le (length l) 4096) (list_all is_short_line lines) h).0 in
     let fits : length l ≤ 4096 = grind (arith, nat_tests) in
     rw (← here) fits
-short_at (l ∷ lines) (suc i) line h e = short_at lines i line (and_right (nat_le (length l) 4096) (list_all is_short_line lines) h) e
+short_at (l ∷ lines) (suc i) line h e = short_at lines i line (and_parts (nat_le (length l) 4096) (list_all is_short_line lines) h).1 e
 
 pub at_most : (n : ℕ) (line : ScriptLine) → n ≤ 4096 → HasAtMost n line → HasAtMost 4096 line
 at_most n (on.Label name) l h = omega arith

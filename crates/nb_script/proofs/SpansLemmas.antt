@@ -5,7 +5,7 @@ use Rattle.std.proofs.lemmas.List.{length-take-le, take-append-le, drop-append-l
 use Rattle.std.proofs.lemmas.List.Elements.{All-push}
 use Rattle.nb_defs.specs.ScriptText.{is_short_line}
 use Rattle.nb_script.specs.declared.span.Span.{Span}
-use Rattle.nb_script.specs.Cut.{spanned, IsWithin}
+use Rattle.nb_script.specs.Spans.{spanned, IsWithin}
 
 pub within_first : (text : List ℕ) (span : Span) (spans : List Span) → IsWithin text (span ∷ spans) → (span.from ≤ span.to) × (span.to ≤ length text)
 within_first text span spans h = h 0 span (omega arith)

@@ -1,10 +1,10 @@
 -- What the words of a line are, word by word.
-use Rattle.std.proofs.Common.{◌≡◌, ℕ, suc, ◌+◌, ◌<◌, Bool, true, false, not, cond, ◌&&◌, List, [], ◌∷◌, length, take, drop, Option, Some, None, refl, ◌∙◌, arith, nat_eq, nat_lt, nat_le, is_none}
+use Rattle.std.proofs.Common.{◌≡◌, ℕ, suc, ◌+◌, ◌<◌, Bool, true, false, not, cond, ◌&&◌, List, [], ◌∷◌, length, take, drop, Option, Some, None, refl, ◌∙◌, arith, nat_eq, nat_lt, is_none}
 use Rattle.std.specs.Prelude.{position, codes, IfSome}
-use Rattle.std.specs.List.{list_any, starts_with, position_or_len}
+use Rattle.std.specs.List.{starts_with, position_or_len}
 use Rattle.std.specs.Borrow.{Bor}
 use Rattle.std.proofs.lemmas.List.{drop_all, length-take-le}
-use Rattle.nb_defs.specs.ScriptText.{is_blank, pieces, all_words, line_words, is_label, is_label_word, has_expansion, is_join, is_plain_line}
+use Rattle.nb_defs.specs.ScriptText.{is_blank, pieces, all_words, line_words, is_label, is_label_word}
 use Rattle.nb_script.proofs.PiecesLemmas.{position_some, position_none, words_by_skip, words_by_cut, starts_at, prefix_fits}
 
 -- a line of blanks has no word
@@ -86,30 +86,3 @@ label_is line w rest (Some cut) h none some = rw (h, some) (and_false _)
 pub label_none : (line : List ℕ) → all_words line ≡ [] → is_label line ≡ false
 unfolding is_label
 label_none line h = rw h refl
-
--- `${` stands here
-pub expands_here : (line : List ℕ) → 0 < length line → starts_with nat_eq line (codes "${") ≡ true → has_expansion line ≡ true
-unfolding has_expansion
-expands_here [] h e = absurd (omega arith)
-expands_here (b ∷ line) h e = rw e refl
-
--- or behind, or not at all
-pub expands_behind : (line : List ℕ) → starts_with nat_eq line (codes "${") ≡ false → has_expansion line ≡ has_expansion (drop 1 line)
-unfolding has_expansion
-expands_behind [] e = refl
-expands_behind (b ∷ line) e = rw e refl
-
--- a line with `${`
-pub plain_expands : (line : List ℕ) → has_expansion line ≡ true → is_plain_line line ≡ false
-unfolding is_plain_line
-plain_expands line e = rw e refl
-
--- a label
-pub plain_label : (line : List ℕ) → has_expansion line ≡ false → is_label line ≡ true → is_plain_line line ≡ false
-unfolding is_plain_line
-plain_label line e f = rw (e, f) refl
-
--- otherwise the words decide
-pub plain_words : (line : List ℕ) → has_expansion line ≡ false → is_label line ≡ false → is_plain_line line ≡ (nat_le (length (line_words line)) 64 && not (list_any is_join (line_words line)))
-unfolding is_plain_line
-plain_words line e f = rw (e, f) refl

@@ -1,9 +1,7 @@
 ghost use Rattle.std.specs.Prelude.{◌≡◌};
-ghost use Rattle.nb_script.specs.declared.error.PlainError.TheVariants as plain;
 ghost use Rattle.nb_script.specs.declared.error.ScriptError.TheVariants as script;
 
 use nb_terms::NoMemory;
-use std::alloc::AllocFailed;
 
 /// Why a text isn't taken as a script, or a line not as a list.
 #[derive(Clone, Copy, Debug, PartialEq, Eq)]
@@ -20,27 +18,10 @@ pub enum ScriptError {
     NoMemory,
 }
 
-/// Why a text isn't taken as a plain script.
-#[derive(Clone, Copy, Debug, PartialEq, Eq)]
-pub enum PlainError {
-    /// Its first line isn't `#!ipxe`, or it has what a plain script hasn't.
-    NotScript,
-    /// Memory ran out.
-    NoMemory,
-}
-
 impl From<NoMemory> for ScriptError {
     ghost from_gives = { λ _ e. e ≡ script.NoMemory };
 
     fn from(_: NoMemory) -> ScriptError {
         ScriptError::NoMemory
-    }
-}
-
-impl<T: Drop> From<AllocFailed<T>> for PlainError {
-    ghost from_gives = { λ _ e. e ≡ plain.NoMemory };
-
-    fn from(_: AllocFailed<T>) -> PlainError {
-        PlainError::NoMemory
     }
 }

@@ -26,7 +26,7 @@ pub struct JoinedLines {
 impl Model for JoinedLines {
     ghost use Rattle.std.specs.Prelude.{◌≤◌, map, drop, vec_len};
     ghost use Rattle.nb_script.specs.Joined.{Joined};
-    ghost use Rattle.nb_script.specs.Cut.{spanned, IsWithin};
+    ghost use Rattle.nb_script.specs.Spans.{spanned, IsWithin};
 
     ghost Value = { Joined };
 

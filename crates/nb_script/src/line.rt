@@ -1,8 +1,8 @@
 ghost use Rattle.std.specs.Prelude.{◌≡◌, ◌&&◌, length, nat_eq, nat_lt, codes, position};
 ghost use Rattle.std.specs.List.{list_all, starts_with};
-ghost use Rattle.nb_defs.specs.ScriptText.{is_line_feed, is_blank, without_cr, ends_in_backslash, is_first_line, begins_script, pieces, has_expansion, is_label, is_plain_line};
+ghost use Rattle.nb_defs.specs.ScriptText.{is_line_feed, is_blank, without_cr, ends_in_backslash, is_first_line, begins_script, pieces, is_label};
 
-use crate::word::{cut_word, has_plain_words, is_blank};
+use crate::word::{cut_word, is_blank};
 
 /// Where the first line feed stands.
 pub fn line_feed(text: &[u8]) -> Option<usize>
@@ -54,18 +54,6 @@ fn are_blank(line: &[u8]) -> bool
     line.iter().all(|b| is_blank(*b))
 }
 
-/// Whether a line has a `${`.
-fn has_expansion(line: &[u8]) -> bool
-    ensures { result ≡ has_expansion line.now }
-{
-    for i in 0..line.len() {
-        if line[i..].starts_with(b"${") {
-            return true;
-        }
-    }
-    false
-}
-
 /// Whether a word is a colon and a name.
 fn is_label_name(word: &[u8]) -> bool
     ensures { result ≡ (starts_with nat_eq word.now (codes ":") && nat_lt 1 (length word.now)) }
@@ -81,11 +69,4 @@ pub fn is_label(line: &[u8]) -> bool
         Some((word, rest)) => is_label_name(word) && cut_word(rest).is_none(),
         None => false,
     }
-}
-
-/// Whether a line runs today: one command or nothing, its comment aside.
-pub fn is_plain_line(line: &[u8]) -> bool
-    ensures { result ≡ is_plain_line line.now }
-{
-    !has_expansion(line) && !is_label(line) && has_plain_words(line)
 }

@@ -1,12 +1,13 @@
-ghost use Rattle.std.specs.Prelude.{◌≡◌, ◌≤◌, ◌↔◌, length, map, slice_get, IfOk, IfErr, IfSome, IsErrOf};
+ghost use Rattle.std.specs.Prelude.{◌≡◌, ◌≤◌, ◌<◌, ◌↔◌, ℕ, true, false, length, map, slice_get, IfOk, IfErr, IfSome, IsErrOf};
 ghost use Rattle.std.specs.Option.{option_map};
-ghost use Rattle.nb_defs.specs.ScriptLines.{script_reading, script, no_script, script_too_long, line_too_long, label_place, items, AreCutFrom};
+ghost use Rattle.nb_defs.specs.ScriptLines.{script_reading, script, no_script, script_too_long, line_too_long, label_place, items, is_idle_line, AreCutFrom};
 ghost use Rattle.nb_defs.specs.ScriptText.{lines, line_words};
 ghost use Rattle.nb_script.specs.ShownLine.{shown_line, HasAtMost, is_label_at};
 ghost use Rattle.nb_script.specs.Shown.{shown_item, FitList};
 ghost use Rattle.nb_script.specs.Errors.{IsOfText, IsOfList};
 
 use crate::ScriptError;
+use crate::busy::{BusyLines, busy_of};
 use crate::item::{Item, cut_items, has_few_words};
 use crate::joined::{JoinedLines, join_lines};
 use crate::kind::{ScriptLine, line_of};
@@ -25,6 +26,7 @@ const MAX_SCRIPT: usize = 1_048_576;
 pub struct Script {
     lines: JoinedLines,
     labels: Labels,
+    busy: BusyLines,
 }
 
 impl Model for Script {
@@ -33,6 +35,7 @@ impl Model for Script {
     ghost use Rattle.nb_defs.specs.ScriptText.{is_short_line};
     ghost use Rattle.nb_defs.specs.ScriptLines.{Line, script_line};
     ghost use Rattle.nb_script.specs.Labels.{FindsLabels};
+    ghost use Rattle.nb_script.specs.Busy.{HasBusyLines};
 
     ghost Value = { List Line };
 
@@ -40,7 +43,8 @@ impl Model for Script {
 
     ghost invariant = { λ s. (list_all is_short_line s.lines.lines ≡ true)
         × (length s.lines.lines ≤ 1048576)
-        × FindsLabels s.labels (map script_line s.lines.lines) };
+        × FindsLabels s.labels (map script_line s.lines.lines)
+        × HasBusyLines (map script_line s.lines.lines) (length s.lines.lines) s.busy };
 }
 
 impl Script {
@@ -67,7 +71,12 @@ impl Script {
             return Err(ScriptError::LineTooLong);
         }
         let labels = labels_of(alloc, &lines)?;
-        Ok(Script { lines, labels })
+        let busy = busy_of(alloc, &lines)?;
+        Ok(Script {
+            lines,
+            labels,
+            busy,
+        })
     }
 
     /// How many lines it has, the first line included.
@@ -94,6 +103,23 @@ impl Script {
         ensures { result ≡ label_place name.now self.now }
     {
         self.labels.find(name)
+    }
+
+    /// The place of the first line at or after this one on which something is to be done: a list that has
+    /// a command to run, or is refused. The count of lines where there is none. The lines between change
+    /// nothing, and are passed without a look at them.
+    pub fn next_busy(&self, from: usize) -> usize
+        requires { from ≤ length self.now }
+        ensures reached { from ≤ result }
+        ensures within { result ≤ length self.now }
+        ensures idle { (k : ℕ) → from ≤ k → k < result →
+            IfSome (slice_get self.now k) (λ line. is_idle_line line ≡ true) }
+        ensures busy { IfSome (slice_get self.now result) (λ line. is_idle_line line ≡ false) }
+    {
+        match self.busy.first_from(from) {
+            Some(place) => place,
+            None => self.len(),
+        }
     }
 
     /// The commands of a list, its comment dropped. TooManyWords where it has more than 64 words or more

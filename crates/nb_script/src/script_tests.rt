@@ -211,3 +211,57 @@ fn counts_words_and_joins(rt: HostRuntime) -> Result<(), Fail> {
     }
     Ok(())
 }
+
+/// The place of the next busy line, searched from the count of lines where `from` is past it.
+fn next_busy(script: &Script, from: usize) -> usize {
+    script.next_busy(from.min(script.len()))
+}
+
+#[test]
+fn finds_busy_lines(rt: HostRuntime) -> Result<(), Fail> {
+    let text = "#!ipxe\n\n:a\necho a\n# b\n&& ; ||\necho a\\\n && b\n:c\n";
+    let script = read(rt.alloc(), text)?;
+    let wanted = [3, 3, 3, 3, 6, 6, 6, 9, 9, 9];
+    for (from, place) in wanted.iter().enumerate() {
+        assert_eq!(rt; next_busy(&script, from), *place, "from {from}");
+    }
+    Ok(())
+}
+
+#[test]
+fn tells_busy_lines_from_idle_ones(rt: HostRuntime) -> Result<(), Fail> {
+    let cases = [
+        ("", " ", 9, "", 2),
+        ("# a", " && b", 9, "", 2),
+        (":a", "", 0, "", 2),
+        (":a", "", 0, " b", 1),
+        (":", "", 0, "", 1),
+        ("a", "", 0, "", 1),
+        ("&&", "", 0, "", 2),
+        ("&& a", "", 0, "", 1),
+        ("; a", "", 0, "", 1),
+        ("|| a", "", 0, "", 2),
+        ("|| a b", " || c", 9, "", 2),
+        ("|| a && ; || b ; # c", "", 0, "", 2),
+        ("|| a && b", "", 0, "", 1),
+        ("|| a ; b", "", 0, "", 1),
+        ("a || b", "", 0, "", 1),
+        ("", "; ", 64, "", 2),
+        ("", "; ", 65, "", 1),
+        ("|| a", " a", 63, "", 2),
+        ("|| a", " a", 64, "", 1),
+        ("", "\n", 200_000, "a", 200_001),
+    ];
+    for (head, piece, count, tail, wanted) in cases {
+        let line = repeated(rt.alloc(), head, piece, count, tail)?;
+        let mut text = Vec::from_slice(rt.alloc(), b"#!ipxe\n")?;
+        text.extend_from_slice(line.as_slice())?;
+        let script = Script::read(rt.alloc(), Text::from_vec(text))?;
+        assert_eq!(rt;
+            next_busy(&script, 0),
+            wanted,
+            "at {head:?}, {piece:?}, {count}, {tail:?}"
+        );
+    }
+    Ok(())
+}

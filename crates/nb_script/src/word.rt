@@ -1,11 +1,6 @@
-ghost use Rattle.std.specs.Prelude.{◌≡◌, ◌+◌, ◌≤◌, ◌<◌, ◌∷◌, [], length, IfSome, IfOk, sum_by, position, not, ◌&&◌, nat_le};
-ghost use Rattle.std.specs.List.{list_any, position_or_len};
-ghost use Rattle.nb_defs.specs.ScriptText.{all_words, line_words, is_blank, is_join};
-
-use crate::join::is_join;
-use nb_terms::NoMemory;
-use nb_wire::{Word, Words};
-use std::alloc::Global;
+ghost use Rattle.std.specs.Prelude.{◌≡◌, ◌+◌, ◌≤◌, ◌<◌, ◌∷◌, [], length, IfSome, position, not};
+ghost use Rattle.std.specs.List.{position_or_len};
+ghost use Rattle.nb_defs.specs.ScriptText.{all_words, line_words, is_blank};
 
 /// The most words that a line may have, and the most joins.
 pub const MAX_WORDS: usize = 64;
@@ -66,35 +61,4 @@ pub fn next_word(line: &[u8]) -> Option<(&[u8], &[u8])>
         return None;
     }
     Some((word, rest))
-}
-
-/// Whether a line has at most 64 words and none that joins commands.
-pub fn has_plain_words(line: &[u8]) -> bool
-    ensures { result ≡ (nat_le (length (line_words line.now)) 64 && not (list_any is_join (line_words line.now))) }
-{
-    let mut count = 0;
-    let mut rest = line;
-    while let Some((word, behind)) = next_word(rest) {
-        if count == MAX_WORDS || is_join(word) {
-            return false;
-        }
-        count += 1;
-        rest = behind;
-    }
-    true
-}
-
-/// The words of a line, its comment dropped, each copied into a memory of its own.
-pub fn words_of(alloc: Global, line: &[u8]) -> Result<Words, NoMemory>
-    requires { length line.now ≤ 4096 }
-    ensures value { IfOk result (λ list. list ≡ line_words line.now) }
-    ensures total { IfOk result (λ list. sum_by length list ≤ length line.now) }
-{
-    let mut list = Vec::new(alloc);
-    let mut rest = line;
-    while let Some((word, behind)) = next_word(rest) {
-        list.push(Word::from_vec(Vec::from_slice(alloc, word)?))?;
-        rest = behind;
-    }
-    Ok(Words::from_vec(list))
 }

@@ -244,6 +244,7 @@ impl Stack {
         }
     }
 
+    #[inline(always)]
     fn message<'a>(&self, frame: &'a [u8]) -> Message<'a>
         ensures { Brings self.now.up self.now.mac self.now.address frame.now (brought result) }
     {

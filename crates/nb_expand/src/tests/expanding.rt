@@ -1,7 +1,8 @@
 //! Words with `${..}` by tables.
 
-use crate::{ExpandError, expand};
+use crate::{ExpandError, expand, expand_words};
 use nb_settings::{Kind, Name, SetError, Table};
+use nb_wire::{MAX_WORD, Word};
 use std::alloc::Global;
 use std::test::Fail;
 
@@ -157,6 +158,52 @@ fn keeps_the_limits(rt: HostRuntime) -> Result<(), Fail> {
         let text = repeated(rt.alloc(), head, piece, tail)?;
         let word = expand(rt.alloc(), text.as_slice(), &table);
         assert_eq!(rt; word.map(|word| word.len()), wanted, "{what}");
+    }
+    Ok(())
+}
+
+fn word(alloc: Global, text: &[u8]) -> Result<Word, ExpandError> {
+    if text.len() > MAX_WORD {
+        return Err(ExpandError::TooLong);
+    }
+    Ok(Word::from_vec(Vec::from_slice(alloc, text)?))
+}
+
+/// The words of a line, one space between each two, expanded; a comma stands behind each.
+fn expanded_line(alloc: Global, line: &[u8], table: &Table) -> Result<Vec<u8>, ExpandError> {
+    let mut words = Vec::new(alloc);
+    for part in line.split(|byte| *byte == b' ') {
+        words.push(word(alloc, part)?)?;
+    }
+    let mut text = Vec::new(alloc);
+    for word in expand_words(alloc, words.as_slice(), table)?.as_slice() {
+        text.extend_from_slice(word.as_slice())?;
+        text.push(b',')?;
+    }
+    Ok(text)
+}
+
+#[test]
+fn expands_the_words_of_a_command(rt: HostRuntime) -> Result<(), Fail> {
+    let table = table(rt.alloc())?;
+    for (line, wanted) in [
+        ("echo", "echo,"),
+        ("echo ${x} a}", "echo,0xff,a},"),
+        ("set a${y} ${dollar}{x} $x", "set,a-1,${x},$x,"),
+        ("${empty} ${nothing}", ",,"),
+    ] {
+        let text = expanded_line(rt.alloc(), line.as_bytes(), &table)?;
+        assert_eq!(rt; text.as_slice(), wanted.as_bytes(), "at {line}");
+    }
+    for (line, wanted) in [
+        ("${long}${long} ${long}${long} ", Ok(4099)),
+        ("${long}${long} ${long}${long} a", TOO_LONG),
+        ("${long}${long} ${long}${long} a ${}", BAD_NAME),
+        ("${} ${long}${long}${long}${long}${long}", BAD_NAME),
+        ("${long}${long}${long}${long}${long} ${}", TOO_LONG),
+    ] {
+        let text = expanded_line(rt.alloc(), line.as_bytes(), &table);
+        assert_eq!(rt; text.map(|text| text.len()), wanted, "at {line}");
     }
     Ok(())
 }

@@ -1,4 +1,4 @@
-use Rattle.std.proofs.Common.{◌≡◌, [], ◌∷◌, subst}
+use Rattle.std.proofs.Common.{[], ◌∷◌, subst}
 use Rattle.nb_defs.specs.Records.{out_texts, leave}
 use Rattle.nb_record.specs.Logged.{Puts}
 use Rattle.nb_engine.specs.Running.{Running}
@@ -6,13 +6,14 @@ use Rattle.nb_engine.specs.Seen.{seen}
 use Rattle.nb_engine.specs.declared.stage.Stage.TheVariants as stage
 use Rattle.nb_engine.proofs.Moves.{pass_grows, left_grows, yield_grows}
 use Rattle.nb_engine.proofs.TurnLemmas.{turn_acts}
+use Rattle.nb_engine.proofs.CommandLaws.{ends_unexpanded}
 use Rattle.nb_engine.proofs.client.Client.advance.Goals as goal
 
 pub returns-in-Ok-Passed-clause-does : goal.returns-in-Ok-Passed-clause-does
 returns-in-Ok-Passed-clause-does c =
     let now = c.args.self.now in
     let passed = rw c.in-Ok-Passed.field-0-is at c.in-Ok-Passed.ensures in
-    rw (c.run_on.ensures.turn, c.run_on.ensures.after) (pass_grows now.used now.world c.args.script c.next.new.self passed.comes, tt)
+    rw (c.run_on.ensures.turn, c.run_on.ensures.after) (pass_grows now.used now.world c.args.script c.next.new.self passed.passes, tt)
 
 pub returns-in-Ok-Left-clause-does : goal.returns-in-Ok-Left-clause-does
 returns-in-Ok-Left-clause-does c =
@@ -28,3 +29,13 @@ pub returns-in-Ok-Full-clause-does : goal.returns-in-Ok-Full-clause-does
 returns-in-Ok-Full-clause-does c =
     let full = rw c.in-Ok-Full.field-0-is at c.in-Ok-Full.ensures in
     rw (← c.self.view_is, full.0) (yield_grows c.self.inside.used c.self.inside.world c.args.script full.1, tt)
+
+pub refuse-requires-clause-words : goal.refuse-requires-clause-words
+refuse-requires-clause-words c =
+    let is_refused = rw c.in-Ok-Refused.field-0-is at c.in-Ok-Refused.ensures in
+    rw (c.as_slice-in-Ok-Refused.ensures, is_refused.0) is_refused.1.is_ready
+
+pub refuse-requires-clause-refused : goal.refuse-requires-clause-refused
+refuse-requires-clause-refused c =
+    let is_refused = rw c.in-Ok-Refused.field-0-is at c.in-Ok-Refused.ensures in
+    rw (c.as_slice-in-Ok-Refused.ensures, is_refused.0, ← c.self.view_is) (ends_unexpanded c.args.script c.self.inside.world c.in-Ok-Refused.list c.in-Ok-Refused.cause is_refused.1)

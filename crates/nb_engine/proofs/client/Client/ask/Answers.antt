@@ -2,7 +2,6 @@ use Rattle.std.proofs.Common.{◌≡◌, false, List, [], ◌∷◌, sym, ◌∙
 use Rattle.nb_terms.specs.declared.acts.SendTo.{SendTo}
 use Rattle.nb_record.specs.Logged.{Puts}
 use Rattle.nb_defs.specs.Records.{out_texts, ended}
-use Rattle.nb_engine.specs.declared.fetch.Fetch.{Fetch}
 use Rattle.nb_engine.specs.declared.stage.Stage.TheVariants as stage
 use Rattle.nb_stack.specs.Client.{Client}
 use Rattle.nb_engine.specs.World.{with_net, with_ended_open}

@@ -10,14 +10,14 @@ use Rattle.nb_engine.proofs.client.Client.conclude.Goals as goal
 pub invariant_of-self : goal.invariant_of-self
 invariant_of-self c =
     let sound = c.self.invariant in
-    let there : c.in-Boots.kernel < length c.args.self.now.world.images.images = subst (λ k. IsPlaceFor k c.args.self.now.world.images) c.in-Boots.is c.requires.place in
-    let place : c.in-Boots.kernel < length c.self.inside.world.images.images = subst (λ (x : Seen). c.in-Boots.kernel < length x.world.images.images) (sym c.self.view_is) there in
+    let there : c.in-Boots.kernel < length c.args.self.now.world.state.images.images = subst (λ k. IsPlaceFor k c.args.self.now.world.state.images) c.in-Boots.is c.requires.place in
+    let place : c.in-Boots.kernel < length c.self.inside.world.state.images.images = subst (λ (x : Seen). c.in-Boots.kernel < length x.world.state.images.images) (sym c.self.view_is) there in
     record {
       time = sound.time;
       w = sound.w;
       opens = sound.opens;
       ports = tt;
-      well = rw c.of.ensures (begins_at c.self.inside.world.images c.in-Boots.kernel place sound.short);
+      well = rw c.of.ensures (begins_at c.self.inside.world.state.images c.in-Boots.kernel place sound.short);
       short = sound.short;
     }
 
@@ -46,5 +46,5 @@ returns-in-Boots c =
     rw (c.in-Boots.is, ← c.self.view_is, c.of.ensures) (record {
       puts = rw c.cause-in-Boots.ensures at c.put_result.ensures;
       is_turn = tt;
-      stands = as_handing n w (record { kernel = c.in-Boots.kernel; part = 0; piece = 0 }) (handoff_records c.in-Boots.kernel w.images.images) refl;
+      stands = as_handing n w (record { kernel = c.in-Boots.kernel; part = 0; piece = 0 }) (handoff_records c.in-Boots.kernel w.state.images.images) refl;
     })

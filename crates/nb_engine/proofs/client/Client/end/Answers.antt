@@ -10,7 +10,7 @@ use Rattle.nb_engine.specs.Conclusions.{Conclusion, conclusion, conclusion_recor
 use Rattle.nb_engine.specs.Fetches.{conclusion_of}
 use Rattle.nb_engine.specs.Machine.{at, phase_after}
 use Rattle.nb_engine.specs.Opens.{acts_records}
-use Rattle.nb_engine.specs.World.{unbound}
+use Rattle.nb_engine.specs.World.{unbound, state_of}
 use Rattle.nb_engine.specs.Seen.{seen, StandsFor}
 use Rattle.nb_engine.proofs.Puts.{Puts-outs}
 use Rattle.nb_engine.proofs.Heedings.{ends_of, IfFails, fails_keeps, same_phase}
@@ -30,7 +30,7 @@ returns-in-Ok c =
     let cause = c.args.cause in
     let g = c.args.fetch in
     let s = c.args.script in
-    let comes : Conclusion = conclusion cause g.boots (image_of g.name g.body [] g.uri) w.images in
+    let comes : Conclusion = conclusion cause g.boots (image_of g.name g.body [] g.uri) w.state.images in
     let concludes = c.conclude-in-Ok.ensures in
     let same : comes ≡ conclusion_of c.in-Ok.conclusion c.conclude.new.images = c.in-Ok.ensures.concludes.same in
     let tail : Puts c.put_over.new.log c.conclude-in-Ok.new.log (out_texts (conclusion_records comes)) = rw same concludes.puts in
@@ -42,16 +42,16 @@ returns-in-Ok c =
     let puts : Puts c.args.log.now c.conclude-in-Ok.new.log (out_texts (step n ∷ (front ++ conclusion_records comes))) =
     Puts-outs (step n ∷ []) (front ++ conclusion_records comes) c.put_step.ensures both in
     let net_is : c.unbind.new.self ≡ (unbound w g.own_port).net = c.unbind.ensures
-    ∙ ap (λ (x : Client). (unbound (record { w = w.w; time = w.time; net = x; opens = w.opens; images = w.images }) c.get-open.result.now.own_port).net) c.put_acts.ensures.same
+    ∙ ap (λ (x : Client). (unbound (record { w = w.w; time = w.time; net = x; opens = w.opens; state = state_of w.state.table w.state.images }) c.get-open.result.now.own_port).net) c.put_acts.ensures.same
     ∙ ap (λ (x : Fetch). (unbound w x.own_port).net) c.get-open.ensures in
-    let v : World = record { w = w.w; time = w.time; net = c.unbind.new.self; opens = w.opens; images = c.conclude.new.images } in
+    let v : World = record { w = w.w; time = w.time; net = c.unbind.new.self; opens = w.opens; state = state_of w.state.table c.conclude.new.images } in
     let stands : StandsFor c.conclude-in-Ok.new.self (at n (phase_after (unbound w g.own_port) s comes)) =
     subst (λ p. StandsFor c.conclude-in-Ok.new.self (at n p))
     (ap (λ x. phase_after v s x) (sym same)
-    ∙ same_phase v (unbound w g.own_port) s comes (λ list. ap (λ (x : Client). record { w = w.w; time = w.time; net = x; opens = w.opens; images = list }) net_is)
+    ∙ same_phase v (unbound w g.own_port) s comes (λ list. ap (λ (x : Client). record { w = w.w; time = w.time; net = x; opens = w.opens; state = state_of w.state.table list }) net_is)
     (subst (λ k. IfFails k (v ≡ unbound w g.own_port)) (sym same)
-    (fails_keeps c.in-Ok.conclusion w.images c.conclude.new.images v (unbound w g.own_port) c.in-Ok.ensures.concludes.kept
-    (λ kept. ap (λ (x : ImageList). record { w = w.w; time = w.time; net = c.unbind.new.self; opens = w.opens; images = x }) kept
-    ∙ ap (λ (x : Client). record { w = w.w; time = w.time; net = x; opens = w.opens; images = w.images }) net_is))))
+    (fails_keeps c.in-Ok.conclusion w.state.images c.conclude.new.images v (unbound w g.own_port) c.in-Ok.ensures.concludes.kept
+    (λ kept. ap (λ (x : ImageList). record { w = w.w; time = w.time; net = c.unbind.new.self; opens = w.opens; state = state_of w.state.table x }) kept
+    ∙ ap (λ (x : Client). record { w = w.w; time = w.time; net = x; opens = w.opens; state = state_of w.state.table w.state.images }) net_is))))
     concludes.stands in
     ends_of c.conclude-in-Ok.result c.args.log.now c.conclude-in-Ok.new.log acts cause s g (seen n w (stage.Waiting s g)) c.conclude-in-Ok.new.self concludes.is_turn puts stands)

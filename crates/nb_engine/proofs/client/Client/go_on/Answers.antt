@@ -1,4 +1,4 @@
-use Rattle.std.proofs.Common.{◌≡◌, [], ◌∷◌, subst}
+use Rattle.std.proofs.Common.{[], ◌∷◌, subst}
 use Rattle.nb_defs.specs.Records.{step, out_texts}
 use Rattle.nb_record.specs.Logged.{Puts}
 use Rattle.nb_engine.specs.declared.fetch.Fetch.{Fetch}

@@ -1,4 +1,4 @@
-use Rattle.std.proofs.Common.{◌≡◌, ◌+◌, [], ◌∷◌, refl, sym, ◌∙◌, ap, subst, Some}
+use Rattle.std.proofs.Common.{◌≡◌, ◌+◌, [], ◌∷◌, sym, ◌∙◌, ap, subst, Some}
 use Rattle.nb_defs.specs.Records.{step, enter, leave, out_texts}
 use Rattle.nb_record.specs.Logged.{Puts}
 use Rattle.nb_record.specs.View.{start_of}
@@ -8,13 +8,13 @@ use Rattle.nb_engine.proofs.Puts.{Puts-outs}
 use Rattle.nb_engine.proofs.Growth.{start_grows, refusal_grows, refusal_fails}
 use Rattle.nb_engine.proofs.client.Client.start.Goals as goal
 
-pub returns-in-Ok : goal.returns-in-Ok
-returns-in-Ok c = λ n e.
+pub returns-in-Ok-read_script : goal.returns-in-Ok-read_script
+returns-in-Ok-read_script c = λ n e.
     let s = start_of c.args.start.now in
     let counted : c.self.inside.used ≡ n + 1 = ap (λ (x : Seen). x.used) c.self.view_is ∙ e in
-    let first = c.in-Ok.ensures.runs in
+    let first = c.in-Ok-read_script.ensures.runs in
     let puts = subst (λ k. Puts c.args.log.now c.put_entered.new.log (out_texts (step k ∷ enter 1 ∷ []))) counted c.put_entered.ensures in
-    rw (counted, first.same, c.of.ensures) (start_grows n c.args.self.now.world s first.code c.requires.valid first.reads puts, tt)
+    rw (counted, first.same, c.in-Ok.ensures) (start_grows n c.args.self.now.world s first.code c.requires.valid first.reads puts, tt)
 
 pub returns-in-Err-Refused : goal.returns-in-Err-Refused
 returns-in-Err-Refused c = λ n e.

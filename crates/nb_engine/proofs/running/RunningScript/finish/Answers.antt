@@ -1,6 +1,7 @@
 use Rattle.std.proofs.Common.{[], ◌∷◌, refl}
 use Rattle.nb_defs.specs.Records.{leave}
 use Rattle.nb_engine.specs.CommandWords.{done_of}
+use Rattle.nb_engine.specs.Effects.{shown_as}
 use Rattle.nb_engine.specs.Machine.{command_records}
 use Rattle.nb_engine.proofs.Puts.{Puts-outs}
 use Rattle.nb_engine.proofs.running.RunningScript.finish.Goals as goal
@@ -11,5 +12,5 @@ returns-then-done c =
     let done = c.args.done.now in (
       c.if-done.true,
       refl,
-      Puts-outs (command_records s c.args.words.now (done_of done)) (leave s.depth done.cause ∷ []) c.put_command.ensures c.put_leave.ensures,
+      Puts-outs (command_records s (shown_as c.args.expanded c.args.words.now) (done_of done)) (leave s.depth done.cause ∷ []) c.put_command.ensures c.put_leave.ensures,
     )

@@ -1,12 +1,9 @@
-use Rattle.std.proofs.Common.{◌≡◌, ◌<◌, true, false, List, [], ◌∷◌, ℕ, length, map, drop, refl, sym, ◌∙◌, ap, subst, arith, ◌==◌, ne_eqb}
+use Rattle.std.proofs.Common.{◌≡◌, ◌<◌, true, false, List, [], ◌∷◌, ℕ, length, map, drop, refl, sym, ◌∙◌, ap, subst, arith, ◌==◌}
 use Rattle.std.proofs.lemmas.Bool.{eqb-true}
-use Rattle.std.specs.Prelude.{slice_index_or}
-use Rattle.nb_defs.specs.ScriptLines as defs
 use Rattle.nb_script.specs.Shown.{shown_item, IsSmallItem}
-use Rattle.nb_script.specs.declared.item.Item.{Item}
-use Rattle.nb_engine.specs.Running.{Running, lets_run}
+use Rattle.nb_engine.specs.Running.{Running, here, further_on, lets_run}
 use Rattle.nb_engine.specs.declared.running.Progress.{Progress}
-use Rattle.nb_engine.proofs.Comings.{front_is, passes_command, runs_command, beginning_words, no_words, below_full, first_small}
+use Rattle.nb_engine.proofs.Comings.{front_is, passes_command, runs_command, beginning_words, no_words, below_full, first_small, expansion_next_ok}
 use Rattle.nb_engine.proofs.Measures.{command_nearer}
 use Rattle.nb_engine.proofs.running.RunningScript.next.Goals as goal
 
@@ -23,7 +20,7 @@ returns-then-not-lets_run c =
     subst (λ (x : Running). lets_run (shown_item item).join x.last ≡ false) c.self.view_is
     (subst (λ (q : Progress). lets_run (shown_item item).join q.last ≡ false) c.deref-place.ensures (sym c.lets_run.ensures ∙ c.if-not-lets_run.true)) in
     rw (c.skip.ensures.result, c.skip.ensures.after) (record {
-      comes = passes_command c.args.self.now (shown_item item) behind there runs;
+      passes = further_on c.args.self.now _ _ (passes_command c.args.self.now (shown_item item) behind there runs) (here _);
       nearer = command_nearer c.args.self.now (rw there (omega arith));
     })
 
@@ -41,7 +38,7 @@ returns-then-is_empty c =
     (subst (λ (q : Progress). lets_run (shown_item item).join q.last ≡ true) c.deref-place.ensures (sym c.lets_run.ensures ∙ c.if-not-lets_run.false)) in
     let none : item.words ≡ [] = no_words item.words (eqb-true (length item.words) 0 (subst (λ (ws : List (List ℕ)). (length ws == 0) ≡ true) c.as_slice.ensures (sym c.is_empty.ensures ∙ c.if-is_empty.true))) in
     rw (c.succeed.ensures.result, c.succeed.ensures.after) (record {
-      comes = runs_command c.args.self.now (shown_item item) behind [] there runs none;
+      passes = further_on c.args.self.now _ _ (runs_command c.args.self.now (shown_item item) behind [] there runs none) (here _);
       nearer = command_nearer c.args.self.now (rw there (omega arith));
     })
 
@@ -83,17 +80,11 @@ returns c =
     let begun_is : c.args.self.now.begun ≡ p.begun = sym (ap (λ (x : Running). x.begun) c.self.view_is) in
     let less : p.begun ≡ 4096 → ⊥ = λ e. c.if-place-eq-MOST_COMMANDS.false (subst (λ (q : Progress). q.begun ≡ 4096) (sym c.deref-place.ensures) e) in
     let early : p.begun < 4096 = below_full p.begun inv.0 less in
-    let small : IsSmallItem item = first_small p.rest.items item (drop 1 p.rest.items) front1 inv.4 in
-    let copied : c.in_ok-copy_words.field-0 ≡ item.words = c.in_ok-copy_words.ensures ∙ c.as_slice-2.ensures in (
-      refl,
-      rw copied (record {
-        name = begins.0;
-        args = begins.1;
-        comes = begins.2;
-        are = begins.3;
-        early = rw begun_is early;
-        there = rw there (omega arith);
-        few = small.0;
-        total = small.1;
-      }),
-    )
+    let small : IsSmallItem item = first_small p.rest.items item (drop 1 p.rest.items) front1 inv.5 in
+    expansion_next_ok c.expanded.result c.args.self.now c.args.table.now begins.0 begins.1 c.as_slice-2.result.now begins.2 (c.as_slice-2.ensures ∙ begins.3)
+    (record {
+      early = rw begun_is early;
+      there = rw there (omega arith);
+      few = rw c.as_slice-2.ensures small.0;
+      total = rw c.as_slice-2.ensures small.1;
+    }) c.expanded.ensures

@@ -1,12 +1,13 @@
 use Rattle.std.proofs.Common.{[], ◌∷◌, ◌++◌}
 use Rattle.nb_defs.specs.Records.{result}
+use Rattle.nb_engine.specs.Effects.{shown_as}
 use Rattle.nb_engine.specs.Machine.{prints, command_record}
 use Rattle.nb_engine.proofs.Puts.{Puts-one, Puts-outs}
 use Rattle.nb_engine.proofs.running.RunningScript.put_command.Goals as goal
 
 pub returns : goal.returns
 returns c =
-    let head = command_record c.args.self.now c.args.words.now in
+    let head = command_record c.args.self.now (shown_as c.args.expanded c.args.words.now) in
     let printed = prints c.args.done.now.prints in
     let tail = result c.args.done.now.cause in
     Puts-outs ((head ∷ []) ++ printed) (tail ∷ [])

@@ -81,6 +81,21 @@ returns-in_err-labels c =
       kind = search rules;
     }
 
+pub returns-in_err-busy : goal.returns-in_err-busy
+returns-in_err-busy c =
+    let p = err_from_is_err_and c.from_residual-in_err-busy.result c.from_residual-in_err-busy.ensures.1 in
+    let begun = rw c.as_slice.ensures at (sym c.begins_script.ensures ∙ c.if-not-begins_script.false) in
+    let lines = reads_lines c.args.text begun (rw c.len.ensures at c.if-len-gt-MAX_SCRIPT.false) in
+    let r = refused_memory c.from_residual-in_err-busy.result (script_reading c.args.text) (rw p.2 at p.1) lines in
+    record {
+      reads = search rules;
+      numbered = search rules;
+      not_script = r.not_script;
+      script_too_long = r.script_too_long;
+      line_too_long = r.line_too_long;
+      kind = search rules;
+    }
+
 pub returns : goal.returns
 returns c =
     let cut : IsCut c.args.text c.in_ok-lines.lines.lines =

@@ -1,0 +1,354 @@
+-- What commands come to, by their words before and after expansion, and what carrying them out does.
+use Rattle.std.proofs.Common.{◌≡◌, ℕ, ◌<◌, ◌==◌, Bool, true, false, cond, List, ◌∷◌, Option, Some, None, Result, Ok, Err, arith, refl, sym, ◌∙◌, ap, subst}
+use Rattle.std.specs.Result.{result_map_both}
+use Rattle.std.specs.Option.{option_map_or}
+use Rattle.std.proofs.lemmas.Bool.{eqb-false}
+use Rattle.std.specs.Str.{bytes_eq}
+use Rattle.nb_terms.specs.declared.cause.Cause.{Cause}
+use Rattle.nb_defs.specs.Causes.{ok}
+use Rattle.nb_defs.specs.Commands.{CommandOutcome, refused}
+use Rattle.nb_settings.specs.Tables.{TableLists}
+use Rattle.nb_expand.specs.declared.error.ExpandError.{ExpandError}
+use Rattle.nb_command.specs.declared.command_plan.CommandPlan.{CommandPlan}
+use Rattle.nb_command.specs.declared.command_plan.CommandPlan.TheVariants as plan
+use Rattle.nb_command.specs.declared.error.ApplyError.{ApplyError}
+use Rattle.nb_command.specs.declared.error.ApplyError.TheVariants.{False}
+use Rattle.nb_command.specs.declared.error.PlanError.{PlanError}
+use Rattle.nb_command.specs.declared.outcome.Outcome.{Outcome}
+use Rattle.nb_command.specs.declared.outcome.Outcome.TheVariants as outcome
+use Rattle.nb_command.specs.declared.state.State.{State}
+use Rattle.nb_command.specs.Failures.{apply_cause}
+use Rattle.nb_command.specs.Applying.{applied, truth, in_state, with_table, text_outcome}
+use Rattle.nb_command.specs.Planning.{planned}
+use Rattle.nb_command.specs.Settings.{Change}
+use Rattle.nb_command.specs.Isset.{is_word_set}
+use Rattle.nb_command.specs.Set.{set_table}
+use Rattle.nb_command.specs.Clear.{cleared_table}
+use Rattle.nb_command.specs.Show.{setting_shown}
+use Rattle.nb_command.specs.Inc.{increased_table}
+use Rattle.nb_engine.specs.declared.world.World.{World}
+use Rattle.nb_engine.specs.World.{state_of, world_with_table}
+use Rattle.nb_uri.specs.Targets.{TftpTarget, tftp_target, is_too_long}
+use Rattle.nb_engine.specs.Effects.{Wanted, fetch, asked_for, bad_uri, too_long_uri, full_opens, Effect, says, asks, goes, sleeps, sleeping_for, plan_effect, plan_table, planned_effect, planned_table, words_effect, words_table, expansion, expanded_effect, expanded_table, expand_cause, effect, table_after, shown_words, shown_by, shown_as, truth_outcome, text_told, change_outcome, changed, plan_cause}
+use Rattle.nb_engine.specs.CommandWords.{IsLocal, IsLocalOutcome, outcome_effect, deed_effect}
+use Rattle.nb_engine.specs.declared.command.Deed.{Deed}
+use Rattle.nb_engine.specs.Running.{Running}
+use Rattle.nb_engine.specs.NextCommand.{HasCommand, HasRefused}
+use Rattle.nb_engine.specs.Advance.{EndsAtOnce, HasCarriedOut}
+use Rattle.nb_engine.specs.Seen.{Seen}
+
+-- expanded words say the effect
+pub effect_of_words : (opens : ℕ) (table : TableLists) (written ws : List (List ℕ)) → expansion table written ≡ Ok ws → effect opens table written ≡ words_effect opens table ws
+unfolding effect
+effect_of_words opens table written ws e = ap (expanded_effect opens table) e
+
+pub table_of_words : (table : TableLists) (written ws : List (List ℕ)) → expansion table written ≡ Ok ws → table_after table written ≡ words_table table ws
+unfolding table_after
+table_of_words table written ws e = ap (expanded_table table) e
+
+pub shown_of_words : (table : TableLists) (written ws : List (List ℕ)) → expansion table written ≡ Ok ws → shown_words table written ≡ shown_as true ws
+unfolding shown_words
+shown_of_words table written ws e = ap (shown_by written) e
+
+-- words that aren't expanded
+pub effect_of_refused : (opens : ℕ) (table : TableLists) (written : List (List ℕ)) (why : ExpandError) → expansion table written ≡ Err why → effect opens table written ≡ says (refused (expand_cause why))
+unfolding effect
+effect_of_refused opens table written why e = ap (expanded_effect opens table) e
+
+pub table_of_refused : (table : TableLists) (written : List (List ℕ)) (why : ExpandError) → expansion table written ≡ Err why → table_after table written ≡ table
+unfolding table_after
+table_of_refused table written why e = ap (expanded_table table) e
+
+pub shown_of_refused : (table : TableLists) (written : List (List ℕ)) (why : ExpandError) → expansion table written ≡ Err why → shown_words table written ≡ shown_as false written
+unfolding shown_words
+shown_of_refused table written why e = ap (shown_by written) e
+
+-- a planned command says the effect
+pub effect_of_plan : (opens : ℕ) (table : TableLists) (ws : List (List ℕ)) (q : Result CommandPlan PlanError) → planned ws ≡ q → words_effect opens table ws ≡ planned_effect opens table q
+unfolding words_effect
+effect_of_plan opens table ws q e = ap (planned_effect opens table) e
+
+pub table_of_plan : (table : TableLists) (ws : List (List ℕ)) (q : Result CommandPlan PlanError) → planned ws ≡ q → words_table table ws ≡ planned_table table q
+unfolding words_table
+table_of_plan table ws q e = ap (planned_table table) e
+
+-- THE SETTINGS STAY, BUT FOR A COMMAND THAT IS OVER AT ONCE
+
+abbrev pub KeepsTable : Effect → TableLists → TableLists → Type 0
+KeepsTable (says o) table other = Unit {0}
+KeepsTable (asks wanted) table other = other ≡ table
+KeepsTable (goes name) table other = other ≡ table
+KeepsTable (sleeps seconds) table other = other ≡ table
+
+keeps_same : (e : Effect) (table : TableLists) → KeepsTable e table table
+keeps_same (says o) table = tt
+keeps_same (asks wanted) table = refl
+keeps_same (goes name) table = refl
+keeps_same (sleeps seconds) table = refl
+
+keeps_plan : (opens : ℕ) (table : TableLists) (p : CommandPlan) → KeepsTable (plan_effect opens table p) table (plan_table p table)
+keeps_plan opens table (plan.Echo newline text) = tt
+keeps_plan opens table (plan.Goto label) = refl
+keeps_plan opens table (plan.Exit n) = tt
+keeps_plan opens table (plan.Isset word) = tt
+keeps_plan opens table (plan.Iseq a b) = tt
+keeps_plan opens table (plan.Set name value) = tt
+keeps_plan opens table (plan.Clear name) = tt
+keeps_plan opens table (plan.Show name) = tt
+keeps_plan opens table (plan.Inc name by) = tt
+keeps_plan opens table (plan.Fetch uri) = keeps_same (plan_effect opens table (plan.Fetch uri)) table
+keeps_plan opens table (plan.Exec uri) = keeps_same (plan_effect opens table (plan.Exec uri)) table
+keeps_plan opens table (plan.Sleep seconds) = keeps_same (plan_effect opens table (plan.Sleep seconds)) table
+
+keeps_planned : (opens : ℕ) (table : TableLists) (q : Result CommandPlan PlanError) → KeepsTable (planned_effect opens table q) table (planned_table table q)
+keeps_planned opens table (Ok p) = keeps_plan opens table p
+keeps_planned opens table (Err why) = tt
+
+pub keeps_words : (opens : ℕ) (table : TableLists) (ws : List (List ℕ)) → KeepsTable (words_effect opens table ws) table (words_table table ws)
+unfolding words_effect words_table
+keeps_words opens table ws = keeps_planned opens table (planned ws)
+
+keeps_expanded : (opens : ℕ) (table : TableLists) (r : Result (List (List ℕ)) ExpandError) → KeepsTable (expanded_effect opens table r) table (expanded_table table r)
+keeps_expanded opens table (Ok ws) = keeps_words opens table ws
+keeps_expanded opens table (Err why) = tt
+
+pub keeps_table : (opens : ℕ) (table : TableLists) (ws : List (List ℕ)) → KeepsTable (effect opens table ws) table (table_after table ws)
+unfolding effect table_after
+keeps_table opens table ws = keeps_expanded opens table (expansion table ws)
+
+-- so does the world
+pub same_world : (w : World) (e : Effect) (ws : List (List ℕ)) → effect w.opens w.state.table ws ≡ e → KeepsTable e w.state.table (table_after w.state.table ws)
+same_world w e ws is = subst (λ x. KeepsTable x w.state.table (table_after w.state.table ws)) is (keeps_table w.opens w.state.table ws)
+
+pub world_stays : (w : World) (table : TableLists) → table ≡ w.state.table → world_with_table w table ≡ w
+world_stays w table e = rw e refl
+
+-- WHAT A FILE'S COMMAND AND A SLEEP COME TO
+
+either_of : (P : Effect → Type 0) (b : Bool) (e f : Effect) → P e → P f → P (cond b e f)
+either_of P true e f p q = p
+either_of P false e f p q = q
+
+-- a command that fetches is refused, or asks for its file
+pub fetch_either : (P : Effect → Type 0) → ((o : CommandOutcome) → P (says o)) → ((wanted : Wanted) → P (asks wanted)) → (opens : ℕ) (boots : Bool) (uri : List ℕ) → P (fetch opens boots uri)
+fetch_either P said asked opens boots uri = by_target (tftp_target uri)
+  where
+    by_target : (o : Option TftpTarget) → P (option_map_or (asked_for opens boots uri) o (says (refused bad_uri)))
+    by_target None = said (refused bad_uri)
+    by_target (Some target) =
+        either_of P (is_too_long target) _ _ (said (refused too_long_uri)) (either_of P (opens == 16384) _ _ (said (refused full_opens)) (asked _))
+
+-- a fact of each effect that a command may have
+pub record Covers (P : Effect → Type 0) : Type 0 where
+  pub of_says : (o : CommandOutcome) → P (says o)
+  pub of_goes : (name : List ℕ) → P (goes name)
+  pub of_sleep : (seconds : ℕ) → P (sleeping_for seconds)
+  pub of_fetch : (opens : ℕ) (boots : Bool) (uri : List ℕ) → P (fetch opens boots uri)
+
+plan_covered : (P : Effect → Type 0) → Covers P → (opens : ℕ) (table : TableLists) (p : CommandPlan) → P (plan_effect opens table p)
+plan_covered P c opens table (plan.Echo newline text) = c.of_says _
+plan_covered P c opens table (plan.Goto label) = c.of_goes label
+plan_covered P c opens table (plan.Exit n) = c.of_says _
+plan_covered P c opens table (plan.Isset word) = c.of_says _
+plan_covered P c opens table (plan.Iseq a b) = c.of_says _
+plan_covered P c opens table (plan.Set name value) = c.of_says _
+plan_covered P c opens table (plan.Clear name) = c.of_says _
+plan_covered P c opens table (plan.Show name) = c.of_says _
+plan_covered P c opens table (plan.Inc name by) = c.of_says _
+plan_covered P c opens table (plan.Fetch uri) = c.of_fetch opens false uri
+plan_covered P c opens table (plan.Exec uri) = c.of_fetch opens true uri
+plan_covered P c opens table (plan.Sleep seconds) = c.of_sleep seconds
+
+planned_covered : (P : Effect → Type 0) → Covers P → (opens : ℕ) (table : TableLists) (q : Result CommandPlan PlanError) → P (planned_effect opens table q)
+planned_covered P c opens table (Ok p) = plan_covered P c opens table p
+planned_covered P c opens table (Err why) = c.of_says _
+
+words_covered : (P : Effect → Type 0) → Covers P → (opens : ℕ) (table : TableLists) (ws : List (List ℕ)) → P (words_effect opens table ws)
+unfolding words_effect
+words_covered P c opens table ws = planned_covered P c opens table (planned ws)
+
+expanded_covered : (P : Effect → Type 0) → Covers P → (opens : ℕ) (table : TableLists) (r : Result (List (List ℕ)) ExpandError) → P (expanded_effect opens table r)
+expanded_covered P c opens table (Ok ws) = words_covered P c opens table ws
+expanded_covered P c opens table (Err why) = c.of_says _
+
+pub effect_covered : (P : Effect → Type 0) → Covers P → (opens : ℕ) (table : TableLists) (ws : List (List ℕ)) → P (effect opens table ws)
+unfolding effect
+effect_covered P c opens table ws = expanded_covered P c opens table (expansion table ws)
+
+abbrev IsRested : Effect → Type 0
+IsRested (sleeps seconds) = 0 < seconds
+IsRested (says o) = Unit {0}
+IsRested (asks wanted) = Unit {0}
+IsRested (goes name) = Unit {0}
+
+rested_for : (seconds : ℕ) (b : Bool) → (seconds == 0) ≡ b → IsRested (cond b (says (refused ok)) (sleeps seconds))
+rested_for seconds true is = tt
+rested_for seconds false is = let some : seconds ≡ 0 → ⊥ = eqb-false seconds 0 is in grind arith
+
+all_rested : Covers IsRested
+all_rested = record {
+  of_says = λ o. tt;
+  of_goes = λ name. tt;
+  of_sleep = λ seconds. rested_for seconds (seconds == 0) refl;
+  of_fetch = λ opens boots uri. fetch_either IsRested (λ o. tt) (λ wanted. tt) opens boots uri;
+}
+
+-- a command that sleeps does so for some time
+pub sleeps_some : (opens : ℕ) (table : TableLists) (ws : List (List ℕ)) (seconds : ℕ) → effect opens table ws ≡ sleeps seconds → 0 < seconds
+sleeps_some opens table ws seconds is = subst IsRested is (effect_covered IsRested all_rested opens table ws)
+
+-- WHAT CARRYING A COMMAND OUT DOES
+
+pub record IsCarriedOut (p : CommandPlan) (o : Outcome) (s s' : State) : Type 0 where
+  pub comes_to : (opens : ℕ) → plan_effect opens s.table p ≡ outcome_effect o
+  pub state_is : s' ≡ state_of (plan_table p s.table) s.images
+  pub is_local : IsLocalOutcome o
+
+-- an answer with an outcome and a state
+same_outcome : (o o' : Outcome) (s s' : State) → ◌≡◌ {A = Result (Outcome × State) Cause} (Ok (o, s)) (Ok (o', s')) → (o ≡ o') × (s ≡ s')
+same_outcome o o' s s' e =
+    let same : (o, s) ≡ (o', s') = cc in
+    (ap (λ (x : Outcome × State). x.0) same, ap (λ (x : Outcome × State). x.1) same)
+
+abbrev Answered : Result (Outcome × State) ApplyError → Result (Outcome × State) Cause
+Answered answer = result_map_both (λ after. after) apply_cause answer
+
+-- a command that leaves the state as it was
+keeps_state : (p : CommandPlan) (o0 o : Outcome) (s s' : State) → plan_table p s.table ≡ s.table → ((opens : ℕ) → plan_effect opens s.table p ≡ outcome_effect o0) → IsLocalOutcome o0 →
+    ◌≡◌ {A = Result (Outcome × State) Cause} (Ok (o0, s)) (Ok (o, s')) → IsCarriedOut p o s s'
+keeps_state p o0 o s s' same comes here e =
+    let both = same_outcome o0 o s s' e in
+    record {
+      comes_to = λ opens. comes opens ∙ ap outcome_effect both.0;
+      state_is = sym both.1 ∙ ap (λ table. state_of table s.images) (sym same);
+      is_local = subst IsLocalOutcome both.0 here;
+    }
+
+-- one that asks whether something is so
+truth_ok : (p : CommandPlan) (b : Bool) (o : Outcome) (s s' : State) → plan_table p s.table ≡ s.table → ((opens : ℕ) → plan_effect opens s.table p ≡ says (truth_outcome b)) →
+    Answered (in_state s (truth b)) ≡ Ok (o, s') → IsCarriedOut p o s s'
+truth_ok p true o s s' same comes e = keeps_state p outcome.Done o s s' same comes tt e
+truth_ok p false o s s' same comes e = absurd (cc)
+
+-- one that prints a setting
+text_ok : (p : CommandPlan) (r : Result (List ℕ) ApplyError) (o : Outcome) (s s' : State) → plan_table p s.table ≡ s.table → ((opens : ℕ) → plan_effect opens s.table p ≡ says (text_told r)) →
+    Answered (in_state s (text_outcome r)) ≡ Ok (o, s') → IsCarriedOut p o s s'
+text_ok p (Ok text) o s s' same comes e = keeps_state p (outcome.Text text) o s s' same comes tt e
+text_ok p (Err why) o s s' same comes e = absurd (cc)
+
+-- one that changes the settings
+change_ok : (p : CommandPlan) (r : Change) (o : Outcome) (s s' : State) → plan_table p s.table ≡ changed s.table r → ((opens : ℕ) → plan_effect opens s.table p ≡ says (change_outcome r)) →
+    Answered (with_table s r) ≡ Ok (o, s') → IsCarriedOut p o s s'
+change_ok p (Ok table) o s s' same comes e =
+    let both = same_outcome outcome.Done o (state_of table s.images) s' e in
+    record {
+      comes_to = λ opens. comes opens ∙ ap outcome_effect both.0;
+      state_is = sym both.1 ∙ ap (λ t. state_of t s.images) (sym same);
+      is_local = subst IsLocalOutcome both.0 tt;
+    }
+change_ok p (Err why) o s s' same comes e = absurd (cc)
+
+pub carried_ok : (p : CommandPlan) (o : Outcome) (s s' : State) → IsLocal p → applied p s ≡ Ok (o, s') → IsCarriedOut p o s s'
+unfolding applied
+carried_ok (plan.Echo newline text) o s s' here e = keeps_state (plan.Echo newline text) _ o s s' refl (λ opens. refl) tt e
+carried_ok (plan.Goto label) o s s' here e = keeps_state (plan.Goto label) _ o s s' refl (λ opens. refl) tt e
+carried_ok (plan.Exit n) o s s' here e = keeps_state (plan.Exit n) _ o s s' refl (λ opens. refl) tt e
+carried_ok (plan.Isset word) o s s' here e = truth_ok (plan.Isset word) (is_word_set word) o s s' refl (λ opens. refl) e
+carried_ok (plan.Iseq a b) o s s' here e = truth_ok (plan.Iseq a b) (bytes_eq a b) o s s' refl (λ opens. refl) e
+carried_ok (plan.Set name value) o s s' here e = change_ok (plan.Set name value) (set_table name value s.table) o s s' refl (λ opens. refl) e
+carried_ok (plan.Clear name) o s s' here e = change_ok (plan.Clear name) (cleared_table name s.table) o s s' refl (λ opens. refl) e
+carried_ok (plan.Show name) o s s' here e = text_ok (plan.Show name) (setting_shown name s.table) o s s' refl (λ opens. refl) e
+carried_ok (plan.Inc name by) o s s' here e = change_ok (plan.Inc name by) (increased_table name by s.table) o s s' refl (λ opens. refl) e
+carried_ok (plan.Sleep seconds) o s s' here e = keeps_state (plan.Sleep seconds) _ o s s' refl (λ opens. refl) tt e
+carried_ok (plan.Fetch uri) o s s' here e = absurd here
+carried_ok (plan.Exec uri) o s s' here e = absurd here
+
+-- a command that is refused
+pub record IsRefusedSo (p : CommandPlan) (s : State) (cause : Cause) : Type 0 where
+  pub comes_to : (opens : ℕ) → plan_effect opens s.table p ≡ says (refused cause)
+  pub table_stays : plan_table p s.table ≡ s.table
+
+same_cause : (c c' : Cause) → ◌≡◌ {A = Result (Outcome × State) Cause} (Err c) (Err c') → c ≡ c'
+same_cause c c' e = cc
+
+fails_so : (p : CommandPlan) (s : State) (why : ApplyError) (cause : Cause) → plan_table p s.table ≡ s.table → ((opens : ℕ) → plan_effect opens s.table p ≡ says (refused (apply_cause why))) →
+    ◌≡◌ {A = Result (Outcome × State) Cause} (Err (apply_cause why)) (Err cause) → IsRefusedSo p s cause
+fails_so p s why cause same comes e = record { comes_to = λ opens. comes opens ∙ ap (λ c. says (refused c)) (same_cause (apply_cause why) cause e); table_stays = same }
+
+truth_err : (p : CommandPlan) (b : Bool) (s : State) (cause : Cause) → plan_table p s.table ≡ s.table → ((opens : ℕ) → plan_effect opens s.table p ≡ says (truth_outcome b)) →
+    Answered (in_state s (truth b)) ≡ Err cause → IsRefusedSo p s cause
+truth_err p true s cause same comes e = absurd (cc)
+truth_err p false s cause same comes e = fails_so p s False cause same comes e
+
+text_err : (p : CommandPlan) (r : Result (List ℕ) ApplyError) (s : State) (cause : Cause) → plan_table p s.table ≡ s.table → ((opens : ℕ) → plan_effect opens s.table p ≡ says (text_told r)) →
+    Answered (in_state s (text_outcome r)) ≡ Err cause → IsRefusedSo p s cause
+text_err p (Ok text) s cause same comes e = absurd (cc)
+text_err p (Err why) s cause same comes e = fails_so p s why cause same comes e
+
+change_err : (p : CommandPlan) (r : Change) (s : State) (cause : Cause) → plan_table p s.table ≡ changed s.table r → ((opens : ℕ) → plan_effect opens s.table p ≡ says (change_outcome r)) →
+    Answered (with_table s r) ≡ Err cause → IsRefusedSo p s cause
+change_err p (Ok table) s cause same comes e = absurd (cc)
+change_err p (Err why) s cause same comes e = fails_so p s why cause same comes e
+
+never_fails : (p : CommandPlan) (o : Outcome) (s s' : State) (cause : Cause) → ◌≡◌ {A = Result (Outcome × State) Cause} (Ok (o, s')) (Err cause) → IsRefusedSo p s cause
+never_fails p o s s' cause e = absurd (cc)
+
+pub carried_err : (p : CommandPlan) (s : State) (cause : Cause) → IsLocal p → applied p s ≡ Err cause → IsRefusedSo p s cause
+unfolding applied
+carried_err (plan.Echo newline text) s cause here e = never_fails (plan.Echo newline text) _ s s cause e
+carried_err (plan.Goto label) s cause here e = never_fails (plan.Goto label) _ s s cause e
+carried_err (plan.Exit n) s cause here e = never_fails (plan.Exit n) _ s s cause e
+carried_err (plan.Isset word) s cause here e = truth_err (plan.Isset word) (is_word_set word) s cause refl (λ opens. refl) e
+carried_err (plan.Iseq a b) s cause here e = truth_err (plan.Iseq a b) (bytes_eq a b) s cause refl (λ opens. refl) e
+carried_err (plan.Set name value) s cause here e = change_err (plan.Set name value) (set_table name value s.table) s cause refl (λ opens. refl) e
+carried_err (plan.Clear name) s cause here e = change_err (plan.Clear name) (cleared_table name s.table) s cause refl (λ opens. refl) e
+carried_err (plan.Show name) s cause here e = text_err (plan.Show name) (setting_shown name s.table) s cause refl (λ opens. refl) e
+carried_err (plan.Inc name by) s cause here e = change_err (plan.Inc name by) (increased_table name by s.table) s cause refl (λ opens. refl) e
+carried_err (plan.Sleep seconds) s cause here e = never_fails (plan.Sleep seconds) _ s s cause e
+carried_err (plan.Fetch uri) s cause here e = absurd here
+carried_err (plan.Exec uri) s cause here e = absurd here
+
+-- COMMANDS THAT BEGIN
+
+-- a command whose words are expanded ends at once
+pub ends_expanded : (s : Running) (w : World) (ws : List (List ℕ)) (o : CommandOutcome) (table : TableLists) → HasCommand s w.state.table ws →
+    words_effect w.opens w.state.table ws ≡ says o → words_table w.state.table ws ≡ table → EndsAtOnce s w (shown_as true ws) o table
+ends_expanded s w ws o table h e t = record {
+  name = h.name;
+  args = h.args;
+  comes = h.comes;
+  ends = effect_of_words w.opens w.state.table (h.name ∷ h.args) ws h.expands ∙ e;
+  shows = shown_of_words w.state.table (h.name ∷ h.args) ws h.expands;
+  leaves = table_of_words w.state.table (h.name ∷ h.args) ws h.expands ∙ t;
+}
+
+-- so does one whose words aren't
+pub ends_unexpanded : (s : Running) (w : World) (ws : List (List ℕ)) (cause : Cause) → HasRefused s w.state.table ws cause →
+    EndsAtOnce s w (shown_as false ws) (refused cause) w.state.table
+ends_unexpanded s w ws cause h = record {
+  name = h.name;
+  args = h.args;
+  comes = h.comes;
+  ends = effect_of_refused w.opens w.state.table (h.name ∷ h.args) h.why h.refuses ∙ ap (λ c. says (refused c)) (sym h.cause_is);
+  shows = shown_of_refused w.state.table (h.name ∷ h.args) h.why h.refuses ∙ ap (shown_as false) (sym h.are);
+  leaves = table_of_refused w.state.table (h.name ∷ h.args) h.why h.refuses;
+}
+
+-- words that are no command
+pub ends_unplanned : (s : Running) (w : World) (ws : List (List ℕ)) (why : PlanError) → HasCommand s w.state.table ws → planned ws ≡ Err why →
+    EndsAtOnce s w (shown_as true ws) (refused (plan_cause why)) w.state.table
+ends_unplanned s w ws why h e =
+    ends_expanded s w ws (refused (plan_cause why)) w.state.table h (effect_of_plan w.opens w.state.table ws (Err why) e) (table_of_plan w.state.table ws (Err why) e)
+
+-- a command that was carried out, in the world that it leaves
+pub carried_deed : (s : Running) (w : World) (ws : List (List ℕ)) (p : CommandPlan) (d : Deed) (now : Seen) → HasCommand s w.state.table ws → planned ws ≡ Ok p →
+    plan_effect w.opens w.state.table p ≡ deed_effect d → now.world ≡ world_with_table w (plan_table p w.state.table) → HasCarriedOut w d s ws now
+carried_deed s w ws p d now h is e world = record {
+  name = h.name;
+  args = h.args;
+  comes = h.comes;
+  deed_is = effect_of_words w.opens w.state.table (h.name ∷ h.args) ws h.expands ∙ effect_of_plan w.opens w.state.table ws (Ok p) is ∙ e;
+  shows = shown_of_words w.state.table (h.name ∷ h.args) ws h.expands;
+  world_is = world
+      ∙ ap (world_with_table w) (sym (table_of_words w.state.table (h.name ∷ h.args) ws h.expands ∙ table_of_plan w.state.table ws (Ok p) is));
+}

@@ -1,0 +1,59 @@
+use Rattle.std.proofs.Common.{◌≡◌, true, ◌∷◌, refl, ◌∙◌, ap, subst}
+use Rattle.nb_defs.specs.ScriptLines.{label_place}
+use Rattle.nb_engine.specs.declared.command.Deed.{Deed}
+use Rattle.nb_engine.specs.CommandWords.{done_of, deed_effect}
+use Rattle.nb_engine.specs.Effects.{goes, sleeps, effect, shown_as, table_after}
+use Rattle.nb_engine.specs.Steps.{GoesTo}
+use Rattle.nb_engine.specs.Advance.{EndsAtOnce}
+use Rattle.nb_engine.proofs.CommandLaws.{same_world, world_stays}
+use Rattle.nb_engine.proofs.Moves.{settled_acts, settled_nearer, goes_grows, goes_nearer, sleeps_grows}
+use Rattle.nb_engine.proofs.client.Client.go_by.Goals as goal
+
+pub returns-in-Ends : goal.returns-in-Ends
+returns-in-Ends c = λ w h.
+    let now = c.args.self.now in
+    let shown = shown_as true c.args.words.now in
+    let o = done_of c.in-Ends.done in
+    let table = table_after w.state.table (h.name ∷ h.args) in
+    let ends : EndsAtOnce c.args.script w shown o table = record {
+      name = h.name;
+      args = h.args;
+      comes = h.comes;
+      ends = h.deed_is ∙ ap (λ (d : Deed). deed_effect d) c.in-Ends.is;
+      shows = h.shows;
+      leaves = refl;
+    } in (
+      settled_acts c.finish-left.result c.settle.result c.args.log.now c.finish-left.new.log now.used w c.args.script c.finish-left.new.self shown o table now c.settle.new.self
+          ends c.requires.words.early c.finish-left.ensures refl h.world_is c.settle.ensures,
+      settled_nearer c.finish-left.result c.settle.result c.args.log.now c.finish-left.new.log now.used w c.args.script c.finish-left.new.self shown o now c.settle.new.self
+          c.requires.words.early c.finish-left.ensures c.settle.ensures,
+    )
+
+-- the world is the same where the command leaves its settings
+pub returns-in-Goes : goal.returns-in-Goes
+returns-in-Goes c = λ w h.
+    let now = c.args.self.now in
+    let s = c.args.script in
+    let shown = shown_as true c.args.words.now in
+    let name = c.in-Goes.label in
+    let comes : effect w.opens w.state.table (h.name ∷ h.args) ≡ goes name = h.deed_is ∙ ap (λ (d : Deed). deed_effect d) c.in-Goes.is in
+    let same : now.world ≡ w = h.world_is ∙ world_stays w _ (same_world w (goes name) (h.name ∷ h.args) comes) in
+    let went : GoesTo shown (label_place name s.code) s c.go_to.new.self c.args.log.now c.go_to.new.log =
+    subst (λ b. GoesTo shown (label_place b s.code) s c.go_to.new.self c.args.log.now c.go_to.new.log) c.as_slice.ensures.value c.go_to.ensures in
+    rw (c.run_on.ensures.turn, c.run_on.ensures.after, same) (
+      (goes_grows now.used w s c.go_to.new.self shown h.name h.args name (label_place name s.code) h.comes c.requires.words.early comes h.shows refl went, tt),
+      goes_nearer (label_place name s.code) c.args.log.now c.go_to.new.log s c.go_to.new.self shown c.requires.words.early went,
+    )
+
+pub returns-in-Sleeps : goal.returns-in-Sleeps
+returns-in-Sleeps c = λ w h.
+    let now = c.args.self.now in
+    let s = c.args.script in
+    let shown = shown_as true c.args.words.now in
+    let seconds = c.in-Sleeps.seconds in
+    let comes : effect w.opens w.state.table (h.name ∷ h.args) ≡ sleeps seconds = h.deed_is ∙ ap (λ (d : Deed). deed_effect d) c.in-Sleeps.is in
+    let same : now.world ≡ w = h.world_is ∙ world_stays w _ (same_world w (sleeps seconds) (h.name ∷ h.args) comes) in
+    rw (c.sleep.ensures.turn, c.sleep.ensures.after, same) (
+      (sleeps_grows now.used w s shown h.name h.args seconds h.comes c.requires.words.early comes h.shows c.sleep.ensures.puts, tt),
+      tt,
+    )

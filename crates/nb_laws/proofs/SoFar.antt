@@ -1,0 +1,290 @@
+-- The command that began last and the settings, by the history: one more event, and what a command's records do to them.
+use Rattle.std.proofs.Common.{◌≡◌, ℕ, ◌+◌, ◌*◌, ◌<◌, Bool, true, false, List, [], ◌∷◌, ◌++◌, Option, Some, None, Result, Ok, Err, refl, sym, ◌∙◌, ap, subst, fold, arith}
+use Rattle.std.proofs.lemmas.List.Sums.{fold-append}
+use Rattle.nb_defs.specs.Commands.{CommandOutcome}
+use Rattle.nb_defs.specs.Records.{Out, step, command, sent, tried, advanced, result}
+use Rattle.nb_settings.specs.Tables.{TableLists}
+use Rattle.nb_expand.specs.declared.error.ExpandError.{ExpandError}
+use Rattle.nb_command.specs.declared.command_plan.CommandPlan.{CommandPlan}
+use Rattle.nb_command.specs.declared.command_plan.CommandPlan.TheVariants as plan
+use Rattle.nb_command.specs.declared.error.PlanError.{PlanError}
+use Rattle.nb_command.specs.Planning.{planned}
+use Rattle.nb_engine.specs.declared.world.World.{World}
+use Rattle.nb_engine.specs.Effects.{Effect, says, asks, goes, sleeps, ShownWords, shown_as, shown_words, effect, words_effect, words_table, table_after, expansion, expanded_effect, plan_effect, planned_effect}
+use Rattle.nb_engine.specs.Conclusions.{Conclusion, keeps, fails, boots, conclusion_records}
+use Rattle.nb_engine.specs.Opens.{Open}
+use Rattle.nb_engine.specs.Running.{Running}
+use Rattle.nb_engine.specs.Machine.{prints, command_record, command_records}
+use Rattle.nb_defs.specs.Records.{Start}
+use Rattle.nb_engine.specs.StartTable.{start_table}
+use Rattle.nb_engine.specs.World.{world_of, with_net, world_later}
+use Rattle.nb_engine.proofs.CommandLaws.{effect_of_words, table_of_words, shown_of_words, shown_of_refused, table_of_refused, fetch_either, sleeps_some, KeepsTable, keeps_words}
+use Rattle.nb_stack.specs.Client.{Client}
+use Rattle.nb_laws.specs.Events.{Event, puts}
+use Rattle.nb_laws.specs.Lists.{made}
+use Rattle.nb_laws.specs.CommandsSoFar.{CommandsSoFar, so_far, so_far_by, no_commands, shown_effect, shown_table, ComesTo}
+use Rattle.nb_laws.specs.Progress.{NoneOversleeps}
+use Rattle.nb_laws.specs.Agreement.{IsSilent, AgreesSettings, AgreesSleep, AsksFor}
+use Rattle.nb_laws.proofs.Tellings.{told}
+use Rattle.nb_laws.proofs.HandOffs.{IsOpens, AreOpens}
+
+pub so_far_more : (es : List Event) (e : Event) → so_far (es ++ e ∷ []) ≡ so_far_by (so_far es) e
+unfolding so_far
+so_far_more es e = fold-append so_far_by no_commands es (e ∷ [])
+
+pub told_so_far : (es : List Event) (outs : List Out) → so_far (es ++ told outs) ≡ fold so_far_by (so_far es) (told outs)
+unfolding so_far
+told_so_far es outs = fold-append so_far_by no_commands es (told outs)
+
+-- frames, tries and advances leave it as it was
+opens_one : (m : CommandsSoFar) (o : Out) → IsOpens o → so_far_by m (puts o) ≡ m
+unfolding IsOpens
+opens_one m (sent bytes) h = refl
+opens_one m (tried number count) h = refl
+opens_one m (advanced number place) h = refl
+opens_one m _ h = absurd h
+
+opens_all : (m : CommandsSoFar) (outs : List Out) → AreOpens outs → fold so_far_by m (told outs) ≡ m
+opens_all m [] h = refl
+opens_all m (o ∷ outs) h = ap (λ z. fold so_far_by z (told outs)) (opens_one m o h.0) ∙ opens_all m outs h.1
+
+pub opens_so_far : (es : List Event) (outs : List Out) → AreOpens outs → so_far (es ++ told outs) ≡ so_far es
+opens_so_far es outs h = told_so_far es outs ∙ opens_all (so_far es) outs h
+
+-- so do the records of a hand-off
+pub silent_so_far : (m : CommandsSoFar) (o : Out) → IsSilent o → so_far_by m (puts o) ≡ m
+silent_so_far m (command depth line place expanded words) h = absurd h
+silent_so_far m (result cause) h = absurd h
+silent_so_far m (step number) h = refl
+silent_so_far m _ h = refl
+
+-- a command is over
+abbrev pub ended_so_far : CommandsSoFar → CommandsSoFar
+ended_so_far m = record m { table = shown_table m.table m.shown; is_open = false }
+
+pub conclusion_so_far : (es : List Event) (c : Conclusion) → so_far (es ++ told (conclusion_records c)) ≡ ended_so_far (so_far es)
+conclusion_so_far es (keeps list) = told_so_far es (result _ ∷ [])
+conclusion_so_far es (fails cause) = told_so_far es (result cause ∷ [])
+conclusion_so_far es (boots list kernel) = told_so_far es (result _ ∷ [])
+
+-- a command begins
+abbrev pub begun_so_far : CommandsSoFar → ShownWords → CommandsSoFar
+begun_so_far m shown = record m { shown = Some shown; since = m.now; is_open = true }
+
+pub begins_so_far : (es : List Event) (s : Running) (shown : ShownWords) → so_far (es ++ puts (command_record s shown) ∷ []) ≡ begun_so_far (so_far es) shown
+begins_so_far es s shown = so_far_more es (puts (command_record s shown))
+
+pub command_so_far : (es : List Event) (s : Running) (shown : ShownWords) (o : CommandOutcome) → so_far (es ++ told (command_records s shown o)) ≡ ended_so_far (begun_so_far (so_far es) shown)
+command_so_far es s shown o = told_so_far es (command_records s shown o) ∙ by o.prints
+  where
+    by : (p : Option (List ℕ)) → fold so_far_by (so_far es) (told ((command_record s shown ∷ []) ++ prints p ++ (result o.cause ∷ []))) ≡ ended_so_far (begun_so_far (so_far es) shown)
+    by None = refl
+    by (Some bytes) = refl
+
+-- THE WORDS THAT A RECORD SHOWS SAY WHAT THE SCRIPT'S WORDS SAY
+
+pub shown_effect_is : (opens : ℕ) (table : TableLists) (ws : List (List ℕ)) → shown_effect opens table (shown_words table ws) ≡ effect opens table ws
+shown_effect_is opens table ws = by (expansion table ws) refl
+  where
+    by : (r : Result (List (List ℕ)) ExpandError) → expansion table ws ≡ r → shown_effect opens table (shown_words table ws) ≡ effect opens table ws
+    by (Ok xs) e = ap (shown_effect opens table) (shown_of_words table ws xs e) ∙ sym (effect_of_words opens table ws xs e)
+    by (Err why) e = ap (shown_effect opens table) (shown_of_refused table ws why e)
+
+pub shown_table_is : (table : TableLists) (ws : List (List ℕ)) → shown_table table (Some (shown_words table ws)) ≡ table_after table ws
+shown_table_is table ws = by (expansion table ws) refl
+  where
+    by : (r : Result (List (List ℕ)) ExpandError) → expansion table ws ≡ r → shown_table table (Some (shown_words table ws)) ≡ table_after table ws
+    by (Ok xs) e = ap (λ x. shown_table table (Some x)) (shown_of_words table ws xs e) ∙ sym (table_of_words table ws xs e)
+    by (Err why) e = ap (λ x. shown_table table (Some x)) (shown_of_refused table ws why e) ∙ sym (table_of_refused table ws why e)
+
+-- words that stand as they are written were refused
+abbrev IsRefused : TableLists → ShownWords → Type 0
+IsRefused table shown = shown.expanded ≡ false → (why : ExpandError) × (expansion table shown.words ≡ Err why)
+
+pub shown_refused : (table : TableLists) (ws : List (List ℕ)) → (shown_words table ws).expanded ≡ false → (why : ExpandError) × (expansion table (shown_words table ws).words ≡ Err why)
+shown_refused table ws = by (expansion table ws) refl
+  where
+    by : (r : Result (List (List ℕ)) ExpandError) → expansion table ws ≡ r → IsRefused table (shown_words table ws)
+    by (Ok xs) e = subst (IsRefused table) (sym (shown_of_words table ws xs e)) (λ no. absurd (let impossible : true ≡ false = no in cc))
+    by (Err why) e = subst (IsRefused table) (sym (shown_of_refused table ws why e)) (λ off. (why, e))
+
+-- A COMMAND THAT SLEEPS DOES SO HOWEVER MANY OPENS WERE MADE
+
+abbrev IsAwake : Effect → Type 0
+IsAwake (sleeps seconds) = ⊥
+IsAwake (says o) = Unit {0}
+IsAwake (asks wanted) = Unit {0}
+IsAwake (goes name) = Unit {0}
+
+plan_sleeps : (k j : ℕ) (table : TableLists) (p : CommandPlan) (n : ℕ) → plan_effect k table p ≡ sleeps n → plan_effect j table p ≡ sleeps n
+plan_sleeps k j table (plan.Echo newline text) n e = e
+plan_sleeps k j table (plan.Goto label) n e = e
+plan_sleeps k j table (plan.Exit x) n e = e
+plan_sleeps k j table (plan.Isset word) n e = e
+plan_sleeps k j table (plan.Iseq a b) n e = e
+plan_sleeps k j table (plan.Set name value) n e = e
+plan_sleeps k j table (plan.Clear name) n e = e
+plan_sleeps k j table (plan.Show name) n e = e
+plan_sleeps k j table (plan.Inc name by) n e = e
+plan_sleeps k j table (plan.Fetch uri) n e = absurd (subst IsAwake e (fetch_either IsAwake (λ o. tt) (λ wanted. tt) k false uri))
+plan_sleeps k j table (plan.Exec uri) n e = absurd (subst IsAwake e (fetch_either IsAwake (λ o. tt) (λ wanted. tt) k true uri))
+plan_sleeps k j table (plan.Sleep seconds) n e = e
+
+planned_sleeps : (k j : ℕ) (table : TableLists) (q : Result CommandPlan PlanError) (n : ℕ) → planned_effect k table q ≡ sleeps n → planned_effect j table q ≡ sleeps n
+planned_sleeps k j table (Ok p) n e = plan_sleeps k j table p n e
+planned_sleeps k j table (Err why) n e = e
+
+words_sleep : (k j : ℕ) (table : TableLists) (ws : List (List ℕ)) (n : ℕ) → words_effect k table ws ≡ sleeps n → words_effect j table ws ≡ sleeps n
+unfolding words_effect
+words_sleep k j table ws n e = planned_sleeps k j table (planned ws) n e
+
+expanded_sleep : (k j : ℕ) (table : TableLists) (r : Result (List (List ℕ)) ExpandError) (n : ℕ) → expanded_effect k table r ≡ sleeps n → expanded_effect j table r ≡ sleeps n
+expanded_sleep k j table (Ok ws) n e = words_sleep k j table ws n e
+expanded_sleep k j table (Err why) n e = e
+
+written_sleep : (k j : ℕ) (table : TableLists) (ws : List (List ℕ)) (n : ℕ) → effect k table ws ≡ sleeps n → effect j table ws ≡ sleeps n
+unfolding effect
+written_sleep k j table ws n e = expanded_sleep k j table (expansion table ws) n e
+
+shown_sleeps : (k j : ℕ) (table : TableLists) (expanded : Bool) (ws : List (List ℕ)) (n : ℕ) → shown_effect k table (shown_as expanded ws) ≡ sleeps n → shown_effect j table (shown_as expanded ws) ≡ sleeps n
+shown_sleeps k j table true ws n e = words_sleep k j table ws n e
+shown_sleeps k j table false ws n e = written_sleep k j table ws n e
+
+same_seconds : (n n' : ℕ) → sleeps n ≡ sleeps n' → n ≡ n'
+same_seconds n n' e = cc
+
+same_shown : (o : Option ShownWords) (x y : ShownWords) → o ≡ Some x → o ≡ Some y → x ≡ y
+same_shown o x y p q = let both : Some x ≡ Some y = sym p ∙ q in cc
+
+-- NO COMMAND OVERSLEEPS
+
+-- one that has its result doesn't
+pub over_rests : (es : List Event) → (so_far es).is_open ≡ false → NoneOversleeps es
+over_rests es over = λ seconds still comes. absurd (let impossible : false ≡ true = sym over ∙ still in cc)
+
+-- nor one that waits for an open
+pub asking_rests : (es : List Event) (o : Open) → AsksFor (so_far es) o → NoneOversleeps es
+asking_rests es o a = λ seconds still comes.
+    let (shown, is, sleeps_so) = comes in
+    let same : shown ≡ a.shown = same_shown (so_far es).shown shown a.shown is a.said in
+    let asleep : shown_effect (made es) (so_far es).table a.shown ≡ sleeps seconds = subst (λ x. shown_effect (made es) (so_far es).table x ≡ sleeps seconds) same sleeps_so in
+    let again : shown_effect o.number (so_far es).table a.shown ≡ sleeps seconds = shown_sleeps (made es) o.number (so_far es).table a.shown.expanded a.shown.words seconds asleep in
+    absurd (let impossible : asks o.wanted ≡ sleeps seconds = sym a.asked ∙ again in cc)
+
+-- nor one whose time hasn't come
+pub sleeping_rests : (es : List Event) (w : World) (until : ℕ) → made es ≡ w.opens → (so_far es).now ≡ w.time → AgreesSleep (so_far es) w until → NoneOversleeps es
+sleeping_rests es w until opens now a = λ seconds still comes.
+    let (shown, is, sleeps_so) = comes in
+    let same : shown ≡ a.shown = same_shown (so_far es).shown shown a.shown is a.is_shown in
+    let here : shown_effect w.opens (so_far es).table a.shown ≡ sleeps seconds = subst (λ x. shown_effect w.opens (so_far es).table x ≡ sleeps seconds) same (subst (λ k. shown_effect k (so_far es).table shown ≡ sleeps seconds) opens sleeps_so) in
+    let seconds_are : a.seconds ≡ seconds = same_seconds a.seconds seconds (sym a.sleeps_so ∙ here) in
+    let due : until ≡ (so_far es).since + 1000 * seconds = a.until_is ∙ ap (λ n. (so_far es).since + 1000 * n) seconds_are in
+    subst (λ t. t < (so_far es).since + 1000 * seconds) (sym now) (subst (λ u. w.time < u) due a.early)
+
+-- and it is that command that sleeps
+pub sleeping_comes : (es : List Event) (w : World) (until : ℕ) → made es ≡ w.opens → (a : AgreesSleep (so_far es) w until) → ComesTo es (made es) (sleeps a.seconds)
+sleeping_comes es w until opens a = (a.shown, a.is_shown, subst (λ k. shown_effect k (so_far es).table a.shown ≡ sleeps a.seconds) (sym opens) a.sleeps_so)
+
+-- THE WORLD'S SETTINGS
+
+pub settings_as : {m m' : CommandsSoFar} (w : World) (still : Bool) → m' ≡ m → AgreesSettings m w still → AgreesSettings m' w still
+settings_as w still e a = subst (λ x. AgreesSettings x w still) (sym e) a
+
+pub asks_as : {m m' : CommandsSoFar} (o : Open) → m' ≡ m → AsksFor m o → AsksFor m' o
+asks_as o e a = subst (λ x. AsksFor x o) (sym e) a
+
+-- a command that asked for a file is over: it leaves the settings as they were
+asking_keeps : (m : CommandsSoFar) (o : Open) → AsksFor m o → shown_table m.table m.shown ≡ m.table
+asking_keeps m o a = ap (shown_table m.table) a.said ∙ by a.shown.expanded a.shown.words a.asked
+  where
+    by : (expanded : Bool) (ws : List (List ℕ)) → shown_effect o.number m.table (shown_as expanded ws) ≡ asks o.wanted → shown_table m.table (Some (shown_as expanded ws)) ≡ m.table
+    by true ws e = subst (λ x. KeepsTable x m.table (words_table m.table ws)) e (keeps_words o.number m.table ws)
+    by false ws e = refl
+
+pub settings_over : {m m' : CommandsSoFar} (w : World) (o : Open) → m' ≡ ended_so_far m → AgreesSettings m w true → AsksFor m o → AgreesSettings m' w false
+settings_over {m} {m'} w o e settings a =
+    subst (λ x. AgreesSettings x w false) (sym e) (record { table = asking_keeps m o a ∙ settings.table; now = settings.now; is_open = refl })
+
+-- a command that is over at once
+pub settings_done : {m m' : CommandsSoFar} (w v : World) (ws : List (List ℕ)) → m' ≡ ended_so_far (begun_so_far m (shown_words w.state.table ws)) → AgreesSettings m w false →
+    table_after w.state.table ws ≡ v.state.table → v.time ≡ w.time → AgreesSettings m' v false
+settings_done {m} {m'} w v ws e settings leaves time =
+    subst (λ x. AgreesSettings x v false) (sym e) (record {
+      table = ap (λ t. shown_table t (Some (shown_words w.state.table ws))) settings.table ∙ shown_table_is w.state.table ws ∙ leaves;
+      now = settings.now ∙ sym time;
+      is_open = refl;
+    })
+
+-- a command has begun
+pub settings_begun : {m m' : CommandsSoFar} (w : World) (shown : ShownWords) → m' ≡ begun_so_far m shown → AgreesSettings m w false → AgreesSettings m' w true
+settings_begun {m} {m'} w shown e settings = subst (λ x. AgreesSettings x w true) (sym e) (record { table = settings.table; now = settings.now; is_open = refl })
+
+-- the world has the same settings and time
+pub settings_open : {m : CommandsSoFar} {still : Bool} (w v : World) → v.state.table ≡ w.state.table → v.time ≡ w.time → AgreesSettings m w still → AgreesSettings m v still
+settings_open w v table time settings = record { table = settings.table ∙ sym table; now = settings.now ∙ sym time; is_open = settings.is_open }
+
+-- it asks for the next open's file
+pub asks_begun : (m : CommandsSoFar) {m' : CommandsSoFar} (w : World) (ws : List (List ℕ)) (o : Open) → m' ≡ begun_so_far m (shown_words w.state.table ws) → m.table ≡ w.state.table → o.number ≡ w.opens →
+    effect w.opens w.state.table ws ≡ asks o.wanted → AsksFor m' o
+asks_begun m {m'} w ws o e settings number comes =
+    subst (λ x. AsksFor x o) (sym e) (record {
+      shown = shown_words w.state.table ws;
+      said = refl;
+      asked = ap (λ t. shown_effect o.number t (shown_words w.state.table ws)) settings ∙ ap (λ n. shown_effect n w.state.table (shown_words w.state.table ws)) number
+          ∙ shown_effect_is w.opens w.state.table ws ∙ comes;
+    })
+
+-- it sleeps
+pub sleep_begun : {m m' : CommandsSoFar} (w : World) (ws : List (List ℕ)) (seconds : ℕ) → m' ≡ begun_so_far m (shown_words w.state.table ws) → AgreesSettings m w false →
+    effect w.opens w.state.table ws ≡ sleeps seconds → AgreesSleep m' w (w.time + 1000 * seconds)
+sleep_begun {m} {m'} w ws seconds e settings comes =
+    let some : 0 < seconds = sleeps_some w.opens w.state.table ws seconds comes in
+    subst (λ x. AgreesSleep x w (w.time + 1000 * seconds)) (sym e) (record {
+      shown = shown_words w.state.table ws;
+      is_shown = refl;
+      seconds = seconds;
+      sleeps_so = ap (λ t. shown_effect w.opens t (shown_words w.state.table ws)) settings.table ∙ shown_effect_is w.opens w.state.table ws ∙ comes;
+      until_is = ap (λ t. t + 1000 * seconds) (sym settings.now);
+      early = omega (arith, some);
+    })
+
+-- time passes while it sleeps: its time hasn't come
+pub sleep_later : {m m' : CommandsSoFar} (w : World) (until ms : ℕ) → m' ≡ record m { now = m.now + ms } → AgreesSleep m w until → w.time + ms < until → AgreesSleep m' (world_later w ms) until
+sleep_later {m} {m'} w until ms e a early =
+    subst (λ x. AgreesSleep x (world_later w ms) until) (sym e) (record { shown = a.shown; is_shown = a.is_shown; seconds = a.seconds; sleeps_so = a.sleeps_so; until_is = a.until_is; early = early })
+
+-- a frame comes while it sleeps
+pub sleep_through : {m m' : CommandsSoFar} (w : World) (net : Client) (until : ℕ) → m' ≡ m → AgreesSleep m w until → AgreesSleep m' (with_net w net) until
+sleep_through {m} {m'} w net until e a =
+    subst (λ x. AgreesSleep x (with_net w net) until) (sym e) (record { shown = a.shown; is_shown = a.is_shown; seconds = a.seconds; sleeps_so = a.sleeps_so; until_is = a.until_is; early = a.early })
+
+-- time passes
+pub settings_later : {m m' : CommandsSoFar} (w : World) (ms : ℕ) (still : Bool) → m' ≡ record m { now = m.now + ms } → AgreesSettings m w still → AgreesSettings m' (world_later w ms) still
+settings_later {m} {m'} w ms still e settings =
+    subst (λ x. AgreesSettings x (world_later w ms) still) (sym e) (record { table = settings.table; now = ap (λ t. t + ms) settings.now; is_open = settings.is_open })
+
+pub asks_later : {m m' : CommandsSoFar} (o : Open) (ms : ℕ) → m' ≡ record m { now = m.now + ms } → AsksFor m o → AsksFor m' o
+asks_later {m} {m'} o ms e a = subst (λ x. AsksFor x o) (sym e) (record { shown = a.shown; said = a.said; asked = a.asked })
+
+-- the link changes
+pub settings_net : {m m' : CommandsSoFar} (w : World) (net : Client) (still : Bool) → m' ≡ m → AgreesSettings m w still → AgreesSettings m' (with_net w net) still
+settings_net {m} {m'} w net still e settings =
+    subst (λ x. AgreesSettings x (with_net w net) still) (sym e) (record { table = settings.table; now = settings.now; is_open = settings.is_open })
+
+-- a command that sleeps leaves the settings as they were
+sleeping_keeps : (m : CommandsSoFar) (w : World) (until : ℕ) → AgreesSleep m w until → shown_table m.table m.shown ≡ m.table
+sleeping_keeps m w until a = ap (shown_table m.table) a.is_shown ∙ by a.shown.expanded a.shown.words a.sleeps_so
+  where
+    by : (expanded : Bool) (ws : List (List ℕ)) → shown_effect w.opens m.table (shown_as expanded ws) ≡ sleeps a.seconds → shown_table m.table (Some (shown_as expanded ws)) ≡ m.table
+    by true ws e = subst (λ x. KeepsTable x m.table (words_table m.table ws)) e (keeps_words w.opens m.table ws)
+    by false ws e = refl
+
+-- a sleep is over
+pub settings_awake : {m m' : CommandsSoFar} (w : World) (until ms : ℕ) → m' ≡ ended_so_far (record m { now = m.now + ms }) → AgreesSettings m w true → AgreesSleep m w until →
+    AgreesSettings m' (world_later w ms) false
+settings_awake {m} {m'} w until ms e settings a =
+    subst (λ x. AgreesSettings x (world_later w ms) false) (sym e) (record { table = sleeping_keeps m w until a ∙ settings.table; now = ap (λ t. t + ms) settings.now; is_open = refl })
+
+-- START gives the first settings
+pub settings_first : {m : CommandsSoFar} (s : Start) → m ≡ record no_commands { table = start_table s } → AgreesSettings m (world_of s) false
+settings_first {m} s e = subst (λ x. AgreesSettings x (world_of s) false) (sym e) (record { table = refl; now = refl; is_open = refl })
