@@ -12,11 +12,13 @@ from shared.command_line import Refused, read_stream, run
 from shared.describe import Lines
 from shared.frames import ends_of, packet_of
 from shared.full_steps import MOST_COMMANDS, FullSteps
+from shared.script_text import Line, command_of, script_of
 from shared.parts import write_parts
 from shared.recordings import Timed, input_of, open_recording, read_input, read_output
 from shared.records import (
     KINDS,
     Advance,
+    Command,
     Direction,
     Ended,
     Open,
@@ -28,7 +30,7 @@ from shared.records import (
     Text,
     Try,
 )
-from shared.texts import PrintedText
+from shared.texts import PrintedText, word
 from shared.why import reasons
 
 FIRST_OWN_PORT = 49_152
@@ -91,6 +93,29 @@ class OfOpen:
         return ends.source_port == self.own and ends.target == self.opened.server
 
 
+class Written:
+    """Shows how the words of a command are written in the first script, where they were expanded."""
+
+    def __init__(self) -> None:
+        self.script: dict[int, Line] = {}
+
+    def watch(self, inputs: Iterator[Timed]) -> Iterator[Timed]:
+        for timed in inputs:
+            if isinstance(timed.record, Start):
+                self.script = script_of(timed.record.script)
+            yield timed
+
+    def of(self, record: Record) -> str:
+        """A further line for a command of other words than are written; else nothing."""
+        if not isinstance(record, Command) or not record.expanded or record.depth != 1:
+            return ""
+        line = self.script.get(record.line)
+        written = command_of(line.text, record.place) if line else ()
+        if written in ((), record.words):
+            return ""
+        return "\n    written as: " + " ".join(word(text) for text in written)
+
+
 def input_lines(records: Iterable[Timed], arguments: argparse.Namespace) -> Iterator[str]:
     """A line for each chosen record, with its number and time."""
     lines = Lines()
@@ -106,7 +131,8 @@ def output_lines(
     records: Iterable[Record], inputs: Iterator[Timed] | None, arguments: argparse.Namespace
 ) -> Iterator[str]:
     """A line for each chosen record, indented under its step."""
-    lines, full = Lines(), FullSteps()
+    lines, full, script = Lines(), FullSteps(), Written()
+    inputs = script.watch(inputs) if inputs else None
     of_open = None if arguments.open is None else OfOpen(arguments.open)
     waiting_step = None
     for record in records:
@@ -116,7 +142,7 @@ def output_lines(
             text = step_line(record, inputs, lines) + after_full(full.before)
             waiting_step = text if of_open else None
         else:
-            text = f"  {lines.of(record)}"
+            text = f"  {lines.of(record)}{script.of(record)}"
         if not is_chosen or not is_of_type(record, arguments.type):
             continue
         if waiting_step and not arguments.type:

@@ -90,7 +90,7 @@ MEANING: dict[Code, str] = {
     Code.NO_SECRET: "the target asks for CHAP, and username or password is not set",
     Code.NO_IMAGE: "there is no image of that name, or none is selected",
     Code.NO_LABEL: "the script has no line that is this label",
-    Code.NOT_SCRIPT: "the text does not begin with the line #!ipxe, or has ${, which isn't run yet",
+    Code.NOT_SCRIPT: "the text does not begin with the line #!ipxe",
     Code.BAD_URI: "the word is no URI that is read here",
     Code.NO_SCHEME: "the URI's scheme is not one of this command's",
     Code.BAD_NAME: "a setting, device or host has no such name",

@@ -47,7 +47,7 @@ def _start(start: Start) -> str:
 
 def _command(command: Command) -> str:
     words = " ".join(word(text) for text in command.words)
-    unexpanded = "" if command.expanded else ", words not expanded"
+    unexpanded = "" if command.expanded else ", not expanded, words as written"
     place = f"depth {command.depth}, line {command.line}, place {command.place}"
     return f"COMMAND {place}{unexpanded}: {words}"
 

@@ -10,6 +10,7 @@ from typing import TextIO
 from shared.causes import MEANING, OK
 from shared.kinds import OpenKind
 from shared.records import Advance, Command, Ended, Open, Record, Text
+from shared.sentences import seconds_of_sleep
 from shared.texts import PrintedText, count, word
 
 # IPv4 without options, UDP, and what stands before a DATA's bytes (RFC 1350, section 5).
@@ -62,11 +63,18 @@ class Progress:
             case Text():
                 self._print(record.text)
             case Command():
-                self._say(b" ".join(record.words).decode("utf-8", "backslashreplace"))
+                self._command(record)
             case Open():
                 self.fetches[record.number] = Fetch(record, time.monotonic())
             case Ended():
                 self._ended(record)
+
+    def _command(self, command: Command) -> None:
+        words = b" ".join(command.words).decode("utf-8", "backslashreplace")
+        time = seconds_of_sleep(command)
+        if not command.expanded:
+            words += ": its words can't be expanded"
+        self._say(words if time is None else f"{words}: goes on after {time} s")
 
     def _print(self, text: bytes) -> None:
         self._close_line()

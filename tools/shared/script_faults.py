@@ -37,22 +37,18 @@ def fault_of(text: bytes, cause: Cause, last: Command | None, result: Cause) -> 
 
 
 def script_fault(text: bytes) -> Fault | None:
-    """What makes this text no script that is run today."""
+    """What makes this text no script; the empty one stands for the built-in one."""
     first = text.split(b"\n", 1)[0]
     if not text:
-        return Fault(1, "the script is empty, and no script is built in yet")
+        return None
     if not FIRST_LINE.fullmatch(first):
         return Fault(1, f"line 1 is {word(first[:60])}, and a script begins with the line `#!ipxe`")
     if len(text) > MOST_SCRIPT:
         return Fault(1, f"the script has {len(text)} bytes, more than {MOST_SCRIPT}")
-    lines = list(lines_of(text))
-    for line in lines:
+    for line in lines_of(text):
         if len(line.text) > MOST_BYTES:
             why = f"{line.has()} {len(line.text)} bytes, more than {MOST_BYTES}"
             return Fault(line.first, why)
-    for line in lines:
-        if line.is_list() and b"${" in line.text:
-            return Fault(line.first, f"{line.has()} `${{`, and settings aren't expanded yet")
     return None
 
 

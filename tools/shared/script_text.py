@@ -8,6 +8,15 @@ from typing import Iterator, NamedTuple
 BLANKS = b" \t"
 JOINS = (b"&&", b"||", b";")
 LABEL = re.compile(rb":([^ \t]+)")
+# what an empty script stands for
+BUILT_IN = b"""#!ipxe
+dhcp || exit 1
+isset ${filename} || goto san
+chain ${filename} && exit 0 || goto san
+:san
+isset ${root-path} || exit 1
+sanboot ${root-path}
+"""
 
 
 class Line(NamedTuple):
@@ -51,6 +60,22 @@ def lines_of(text: bytes) -> Iterator[Line]:
     if rest or first:
         last = len(ended) + bool(rest)
         yield Line(first or last, last, front + rest)
+
+
+def script_of(text: bytes) -> dict[int, Line]:
+    """The lines of START's script, or of the built-in one, by their numbers."""
+    return {line.first: line for line in lines_of(text or BUILT_IN)}
+
+
+def command_of(text: bytes, place: int) -> tuple[bytes, ...]:
+    """The words, as they are written, of the command at a place of a list."""
+    commands: list[list[bytes]] = [[]]
+    for found in words_of(text):
+        if found in JOINS:
+            commands.append([])
+        else:
+            commands[-1].append(found)
+    return tuple(commands[place]) if place < len(commands) else ()
 
 
 def words_of(text: bytes) -> list[bytes]:

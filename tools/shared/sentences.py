@@ -9,12 +9,18 @@ from shared.causes import MEANING, WHAT, Cause, Code
 from shared.frames import datagram_of, ends_of, packet_of
 from shared.records import Command, Open, Start
 from shared.script_text import lines_of
+from shared.setting_names import BLOCKS, MOST_SETTINGS, MOST_VALUE, READS, kind_of, name_fault
+from shared.setting_names import part_fault, place_of
 from shared.texts import word
 from shared.wire import ARP, PROTOCOL_UDP, Opcode
 
 NUMBERS = ("no", "one", "two", "three", "four", "five", "six", "seven", "eight", "nine", "ten")
 TIMES = ("never", "once", "twice")
 UNSET = IPv4Address(0)
+MOST_WORDS_BYTES = 4_096
+# the numbers of TooLong and TooMany for a setting
+LONG_VALUE, MANY_SETTINGS = 2, 5
+OF_SETTINGS = (b"set", b"clear", b"show", b"inc")
 # START's mask of 0 stands for this one
 USUAL_MASK = IPv4Address("255.255.255.0")
 
@@ -36,17 +42,28 @@ USAGES = {
     b"goto": "goto LABEL",
     b"imgfetch": "imgfetch URI",
     b"imgexec": "imgexec URI",
+    b"isset": "isset [WORD]",
+    b"iseq": "iseq A B",
+    b"set": "set NAME [VALUE]",
+    b"clear": "clear NAME",
+    b"show": "show NAME",
+    b"inc": "inc NAME [n], n from -2147483648 to 2147483647",
+    b"sleep": "sleep SECONDS, from 0 to 4000000",
 }
 
 # Commands of iPXE, so that one that isn't built is known from one that is misspelled.
 KNOWN = frozenset(
-    b"autoboot boot chain choose clear colour config console cpair cpuid dhcp form goto ifclose "
-    b"ifconf ifopen iflinkwait ifstat imgargs imgdecrypt imgextract imgfree imgload imgmem "
-    b"imgselect imgstat imgtrust imgverify inc initrd iseq isset item kernel login lotest menu "
-    b"module nslookup ntp nstat param params pciscan ping poweroff present profstat prompt read "
-    b"reboot route sanboot sanhook sanunhook set shell shim show sleep sync time vcreate "
-    b"vdestroy".split()
+    b"autoboot boot chain choose colour config console cpair cpuid dhcp form ifclose ifconf "
+    b"ifopen iflinkwait ifstat imgargs imgdecrypt imgextract imgfree imgload imgmem imgselect "
+    b"imgstat imgtrust imgverify initrd item kernel login lotest menu module nslookup ntp nstat "
+    b"param params pciscan ping poweroff present profstat prompt read reboot route sanboot sanhook "
+    b"sanunhook shell shim sync time vcreate vdestroy".split()
 )
+
+
+def shown(name: bytes) -> str:
+    """A name within a sentence."""
+    return name.decode("utf-8", "backslashreplace")
 
 
 def times(number: int) -> str:
@@ -66,11 +83,26 @@ def of_local(cause: Cause, command: Command | None, start: Start | None) -> str:
     if command is None:
         return f"{MEANING[cause.code]}: {cause}" if cause.code in WHAT else MEANING[cause.code]
     name = command.words[0]
+    if not command.expanded:
+        return _unexpanded(cause, command)
     match cause.code:
         case Code.BAD_URI:
             return _bad_uri(command.words[-1])
         case Code.NO_LABEL:
             return _no_label(command, start)
+        case Code.BAD_NAME if name in OF_SETTINGS and len(command.words) > 1:
+            return _bad_name(command.words[1])
+        case Code.BAD_VALUE if name in OF_SETTINGS and len(command.words) > 1:
+            return _bad_value(command.words)
+        case Code.FALSE:
+            return _false(command.words)
+        case Code.TOO_LONG if cause.a == LONG_VALUE and len(command.words) > 1:
+            return f"the value for `{shown(command.words[1])}` has more than {MOST_VALUE} bytes"
+        case Code.TOO_MANY if cause.a == MANY_SETTINGS and len(command.words) > 1:
+            place = place_of(command.words[1])
+            return f"{place} has {MOST_SETTINGS} settings, the most, and `{shown(command.words[1])}` is another"
+        case Code.UNKNOWN if not name:
+            return "the command has no name: its first word is empty, as expanded"
         case Code.UNKNOWN if name.startswith(b":"):
             return f"{word(name)} is a label only where nothing else stands on its line"
         case Code.UNKNOWN if name in KNOWN:
@@ -80,11 +112,64 @@ def of_local(cause: Cause, command: Command | None, start: Start | None) -> str:
         case Code.USAGE if name in USAGES:
             return f"the words don't fit the command: `{USAGES[name]}`"
         case Code.EXIT:
-            return f"the script left by `exit {cause.a}`"
+            is_built_in = command.depth == 1 and start is not None and not start.script
+            which = "built-in script" if is_built_in else "script itself"
+            return f"the {which} ended in failure, by `exit {cause.a}`"
         case Code.NOT_BOOTABLE:
             kinds = "a kernel for x86, an ELF file or an EFI program"
             return f"{word(command.words[-1])} can't be booted: it isn't {kinds}"
     return f"{word(name)}: {MEANING[cause.code]}"
+
+
+def _unexpanded(cause: Cause, command: Command) -> str:
+    """On a command whose words stand as they are written."""
+    if cause.code is Code.BAD_NAME:
+        why = part_fault(command.words) or "a part `${..}` comes to no name of a setting"
+    else:
+        why = f"as expanded they have more than {MOST_WORDS_BYTES} bytes"
+    return f"the words can't be expanded: {why}"
+
+
+def _bad_name(name: bytes) -> str:
+    """On a command of settings whose name is none, or whose block isn't there."""
+    fault = name_fault(name)
+    if fault:
+        return fault
+    blocks = " and ".join(f"`{shown(block)}`" for block in BLOCKS)
+    return f"{place_of(name)} isn't there, so nothing is set in it: there is the root, without a name, and {blocks}"
+
+
+def _bad_value(words: tuple[bytes, ...]) -> str:
+    name = shown(words[1])
+    if words[0] == b"inc":
+        by = shown(words[2]) if len(words) > 2 else "1"
+        return f"`{name}` can't grow by {by}: it is no number, or the sum is out of its kind's range"
+    kind = kind_of(words[1])
+    what = f"which takes {READS[kind]}" if kind in READS else "which there isn't"
+    return f"{word(b' '.join(words[2:]))} is no value for `{name}` of the kind {shown(kind)}, {what}"
+
+
+def _false(words: tuple[bytes, ...]) -> str:
+    """On a test that isn't true; it is no fault where its list goes on."""
+    if words[0] == b"iseq" and len(words) > 2:
+        return f"{word(words[1])} and {word(words[2])} aren't equal"
+    return "nothing is set there: the word of `isset` is empty"
+
+
+def seconds_of_sleep(command: Command) -> int | None:
+    """How long a command sleeps, where it is one that does."""
+    if command.words[0] != b"sleep" or len(command.words) != 2 or not command.expanded:
+        return None
+    found = re.fullmatch(rb"0x[0-9A-Fa-f]+|0|[1-9][0-9]*", command.words[1])
+    return int(found[0], 0) if found else None
+
+
+def of_sleep(command: Command, passed: int | None) -> str | None:
+    """On a command that sleeps: how much of its time has passed, where that is known."""
+    total = seconds_of_sleep(command)
+    if total is None:
+        return None
+    return f"was in a sleep of {total} s" if passed is None else f"slept: {seconds(passed)} of {total} s had passed"
 
 
 def _no_label(command: Command, start: Start | None) -> str:

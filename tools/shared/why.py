@@ -27,14 +27,16 @@ from shared.records import (
     Try,
 )
 from shared.script_faults import Fault, fault_of
-from shared.script_text import Line, lines_of
+from shared.script_text import Line, command_of, script_of, words_of
 from shared.sentences import (
     error_text,
     of_local,
     of_refusal,
     of_silence,
+    of_sleep,
     of_wait,
     seconds,
+    seconds_of_sleep,
 )
 from shared.stories import CommandStory, Evidence, Failure, OpenStory, Trace
 from shared.texts import count, word
@@ -77,7 +79,7 @@ class Inputs:
     ) -> None:
         if isinstance(timed.record, Start):
             self.start = timed.record
-            self.script = {line.first: line for line in lines_of(timed.record.script)}
+            self.script = script_of(timed.record.script)
             if waited:
                 self.meanwhile = Meanwhile(timed.record, waited.open)
         text = lines.of(timed.record)
@@ -105,7 +107,17 @@ class Inputs:
         if depth != 1 or found is None:
             return []
         numbers = f"lines {line} to {found.last}" if found.last > line else f"line {line}"
-        return [f"  script {numbers}: {word(found.text)}"]
+        built_in = "" if self.start and self.start.script else "built-in "
+        return [f"  {built_in}script {numbers}: {word(found.text)}"]
+
+    def command_lines(self, command: Command) -> list[str]:
+        """A command's line, and its words as they are written, where they were expanded to others."""
+        lines = self.script_line(command.depth, command.line)
+        written = command_of(self.script[command.line].text, command.place) if lines else ()
+        is_alone = lines and written == tuple(words_of(self.script[command.line].text))
+        if written and command.expanded and written != command.words and not is_alone:
+            lines.append(f"  written there: {_joined(written)}")
+        return lines
 
     def fault(self, failure: Failure) -> Fault | None:
         """What is wrong with the first script's text, where that is why it was left."""
@@ -152,6 +164,7 @@ class Account:
                 found.add(failure.cause.a)
         if self.trace.waiting:
             found.update(evidence.step for evidence in self._wait_evidence(self.trace.waiting))
+        found.update(story.command.step for story in self.trace.running[-1:])
         if self.trace.full.last():
             found.add(self.trace.full.last())
         if self.is_bad:
@@ -162,6 +175,8 @@ class Account:
         yield self.sentence()
         if self.trace.waiting and not self._decisive():
             yield from self._waiting(self.trace.waiting)
+        elif self._slept():
+            yield from self._sleeping(self.trace.running[-1])
         yield from self._full_step()
         if self.trace.failed > len(self.trace.failures):
             last = len(self.trace.failures)
@@ -251,10 +266,27 @@ class Account:
         if running is None:
             return f"{what}{when}, before the script's end"
         if waiting is None:
-            return f"{what}{when}, while {running} was running"
+            return f"{what}{when}, while {running} {self._slept() or 'was running'}"
         known = self.inputs.meanwhile.hosts if self.inputs.meanwhile else set()
         wanted = of_wait(waiting.open, waiting.asked(), waiting.block, known)
         return f"{what}{when}, while {running} waited for {wanted}"
+
+    def _slept(self) -> str | None:
+        """How long the command that runs has slept, where it sleeps."""
+        if not self.trace.running:
+            return None
+        story, times = self.trace.running[-1], self.inputs.times
+        begun, now = times.get(story.command.step), times.get(self.trace.step)
+        return of_sleep(story.words, None if begun is None or now is None else now - begun)
+
+    def _sleeping(self, story: CommandStory) -> Iterator[str]:
+        """The command that sleeps, and until when."""
+        yield f"  {self.inputs.at(story.command.step)}: {self._plainly(story.command)}"
+        yield from self.inputs.command_lines(story.words)
+        if story.command.step in self.inputs.times and self.trace.done:
+            slept = seconds_of_sleep(story.words) or 0
+            end = self.inputs.times[story.command.step] / 1_000 + slept
+            yield f"  it goes on at {end:g} s: record.py --until {end:g}"
 
     def _bad_record(self) -> str:
         number = self.trace.step + 1
@@ -275,7 +307,7 @@ class Account:
         for evidence in failure.evidence():
             yield f"  {self.inputs.at(evidence.step)}: {self._plainly(evidence)}"
             if isinstance(evidence.record, Command):
-                yield from self.inputs.script_line(evidence.record.depth, evidence.record.line)
+                yield from self.inputs.command_lines(evidence.record)
         fault = self.inputs.fault(failure)
         if fault:
             yield from self.inputs.script_line(1, fault.line)
@@ -298,8 +330,7 @@ class Account:
     def _waiting(self, story: OpenStory) -> Iterator[str]:
         """What a command waited for, and the records that show it."""
         if self.trace.running:
-            command = self.trace.running[-1].words
-            yield from self.inputs.script_line(command.depth, command.line)
+            yield from self.inputs.command_lines(self.trace.running[-1].words)
         for evidence in self._wait_evidence(story):
             yield f"  {self.inputs.at(evidence.step)}: {self._plainly(evidence)}"
         is_off = isinstance(self.inputs.records.get(self.trace.step), Off)
@@ -316,7 +347,7 @@ class Account:
         why = f"{MOST_COMMANDS} commands began, and no more may begin in one step"
         yield f"  {self.inputs.at(step)}: {why}"
         yield f"  the script goes on with the next frame or time; the last was {_command(last)}"
-        yield from self.inputs.script_line(last.depth, last.line)
+        yield from self.inputs.command_lines(last)
 
     def _meanwhile(self) -> Iterator[str]:
         meanwhile = self.inputs.meanwhile
@@ -333,7 +364,8 @@ class Account:
         """A record in plain words."""
         match evidence.record:
             case Command() as command:
-                return f"{_place_of(command)} begins: {_words(command)}"
+                as_written = "" if command.expanded else " (as written, since they can't be expanded)"
+                return f"{_place_of(command)} begins: {_words(command)}{as_written}"
             case Open() as opened:
                 target = f"{word(opened.target)} is asked for: " if opened.target else ""
                 ports = f"port {opened.port}, from our port {opened.own}"
@@ -349,8 +381,12 @@ class Account:
                 return self.lines.of(evidence.record)
 
 
+def _joined(words: tuple[bytes, ...]) -> str:
+    return " ".join(word(text) for text in words)
+
+
 def _words(command: Command) -> str:
-    return " ".join(word(text) for text in command.words)
+    return _joined(command.words)
 
 
 def _command(command: Command) -> str:
