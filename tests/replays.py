@@ -93,7 +93,8 @@ def _read(path: Path) -> bytes | None:
 def replayed() -> dict[str, Replayed]:
     """The runs that the tests of whole outputs and of the program look at, for one compiling."""
     from tests.test_program import INPUTS, WORDS
-    from tests import test_replay, test_scripts
+    from tests import test_replay, test_scripts, test_settings, test_sleep
 
-    recordings = {**test_replay.all_inputs(), **test_scripts.all_inputs(), **INPUTS}
+    scripts = {**test_scripts.all_inputs(), **test_settings.all_inputs(), **test_sleep.all_inputs()}
+    recordings = {**test_replay.all_inputs(), **scripts, **INPUTS}
     return replay_all(recordings, WORDS)

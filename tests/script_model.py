@@ -1,26 +1,39 @@
 """A second reading of the rules of scripts (docs/SCRIPTS.md): what a run of one writes.
 
-Its commands are `echo`, `exit`, `goto`, those that there aren't, and fetches of a client without an address.
+Its fetches are of a client without an address, and the only frames that bring it anything are ARP requests.
 """
 
 from __future__ import annotations
 
-import random
 from ipaddress import IPv4Address
-from typing import Iterator, NamedTuple
+from typing import Iterable, Iterator, NamedTuple
 
 from shared.causes import OK, Cause, Code
 from shared.kinds import OpenKind, Status
-from shared.records import Command, Done, Ended, Open, Record, Result, Step, Text
+from shared.records import Command, Done, Ended, Off, Open, Received, Record, Result, Sent, Start
+from shared.records import Step, Text, Tick
+from shared.wire import Station, arp_reply, arp_request
 from tests import made
+from tests.settings_model import Refusal, Table, expand_all, name_of, number_of
 
 MOST_COMMANDS = 4_096
 MOST_OPENS = 16_384
+MOST_SECONDS = 4_000_000
+LEAST_STEP, MOST_STEP = -(1 << 31), (1 << 31) - 1
 NOT_SCRIPT = Cause(Code.NOT_SCRIPT)
 LONG_LINE = Cause(Code.TOO_LONG, 1)
 TOO_MANY_WORDS = Cause(Code.TOO_MANY, 1)
 NO_ROUTE = Cause(Code.NO_ROUTE, 0x0A000001)
+UNKNOWN, USAGE = Cause(Code.UNKNOWN), Cause(Code.USAGE)
 FILE = b"tftp://10.0.0.1/f"
+BUILT_IN = b"""#!ipxe
+dhcp || exit 1
+isset ${filename} || goto san
+chain ${filename} && exit 0 || goto san
+:san
+isset ${root-path} || exit 1
+sanboot ${root-path}
+"""
 
 
 def numbered(text: bytes) -> dict[int, bytes]:
@@ -48,8 +61,6 @@ def refusal(text: bytes) -> Cause | None:
     lines = numbered(text)
     if any(len(line) > 4_096 for line in lines.values()):
         return LONG_LINE
-    if any(b"${" in line for line in lines.values() if is_list(line)):
-        return NOT_SCRIPT
     return None
 
 
@@ -92,41 +103,85 @@ class Left(Exception):
     """The script is left with a cause."""
 
 
-class Model:
-    """Runs a script."""
+class Over(Exception):
+    """The run is ended from outside, with this status."""
 
-    def __init__(self, text: bytes) -> None:
-        self.text = text
-        self.lines = numbered(text)
+
+class Ran(NamedTuple):
+    """A command: its COMMAND with what it puts before its RESULT, how long it sleeps, and its result."""
+
+    begins: list[Record]
+    sleep: int
+    result: Cause
+
+
+class Model:
+    """Runs the script of a START over the records after it."""
+
+    def __init__(self, start: Start) -> None:
+        self.text = start.script or BUILT_IN
+        self.lines = numbered(self.text)
+        self.end = max(self.lines, default=0)
+        self.table = Table(start)
         self.last = OK
         self.opens = 0
         self.target: int | None = None
+        self.is_left = False
+        self.asked = Received(arp_request(made.SERVER, start.ip))
+        self.replied = Sent(arp_reply(Station(start.mac, start.ip), made.SERVER))
+        self.answers = start.ip != IPv4Address(0)
+        self.time = self.begun = 0
+        self.step = 1
 
-    def run(self, ticks: int) -> list[Record]:
-        """The output of a run that has so many TICKs after its START."""
-        records: list[Record] = [Step(1), made.enter()]
-        begun, steps = 0, 1
+    def run(self, later: Iterable[Record] = ()) -> list[Record]:
+        """The output of a run."""
+        self.later = iter(later)
+        self.records: list[Record] = [Step(1), made.enter()]
         try:
-            for written in self.commands():
-                if begun == MOST_COMMANDS:
-                    if steps > ticks:
-                        return [*records, Done(Status.UNFINISHED)]
-                    begun, steps = 0, steps + 1
-                    records.append(Step(steps))
-                begun += 1
-                records += written
+            for ran in self.commands():
+                self.put(ran)
         except Left as left:
             [cause] = left.args
-        status = Status.ENDED if cause == OK else Status.SCRIPT_FAILED
-        return [*records, made.leave(cause), Done(status)]
+            status = Status.ENDED if cause == OK else Status.SCRIPT_FAILED
+            self.records += [made.leave(cause), Done(status)]
+        except Over as over:
+            self.records.append(Done(*over.args))
+        return self.records
 
-    def commands(self) -> Iterator[list[Record]]:
-        """The records of each command that runs, until the script is left."""
+    def put(self, ran: Ran) -> None:
+        """Puts a command, which may have to wait for its step and for its end."""
+        if self.begun == MOST_COMMANDS:
+            self.use_record()
+        self.begun += 1
+        self.records += ran.begins
+        due = self.time + ran.sleep
+        while self.time < due:
+            self.use_record()
+        self.records.append(Result(ran.result))
+
+    def use_record(self) -> None:
+        """The next record comes, and so begins a step."""
+        record = next(self.later, None)
+        if record is None:
+            raise Over(Status.UNFINISHED)
+        if isinstance(record, Start):
+            raise Over(Status.BAD_RECORD)
+        self.step, self.begun = self.step + 1, 0
+        self.records.append(Step(self.step))
+        if isinstance(record, Off):
+            raise Over(Status.UNFINISHED)
+        if isinstance(record, Tick):
+            self.time += record.milliseconds
+        elif self.answers and record == self.asked:
+            self.records.append(self.replied)
+
+    def commands(self) -> Iterator[Ran]:
+        """The commands that run, until the script is left."""
         cause = refusal(self.text)
         if cause:
             raise Left(cause)
         number = 1
-        while number < max(self.lines, default=0):
+        while number < self.end:
             number += 1
             if is_list(self.lines.get(number, b"")):
                 yield from self.list(number)
@@ -136,7 +191,7 @@ class Model:
                 raise Left(self.last)
         raise Left(OK)
 
-    def list(self, number: int) -> Iterator[list[Record]]:
+    def list(self, number: int) -> Iterator[Ran]:
         found = items(self.lines[number])
         if found is None:
             raise Left(TOO_MANY_WORDS)
@@ -147,94 +202,116 @@ class Model:
             if not item.words:
                 self.last = OK
                 continue
-            self.last, printed = self.does(item.words)
-            begins = Command(1, number, item.place, True, item.words)
-            yield [begins, *printed, Result(self.last)]
+            ran = self.command(number, item)
+            self.last = ran.result
+            yield ran
             if self.is_left:
                 raise Left(self.last)
             if self.target is not None:
                 return
 
-    def does(self, words: tuple[bytes, ...]) -> tuple[Cause, list[Record]]:
-        """A command's result, and what it writes before that."""
-        name, *others = words
-        self.is_left = False
-        if name == b"echo":
-            return self.echo(others)
-        if name == b"exit":
-            return self.exit(others), []
-        if name == b"goto":
-            return self.goto(others), []
-        if name == b"imgfetch":
-            return self.fetch(others)
-        return Cause(Code.UNKNOWN), []
+    def command(self, number: int, item: Item) -> Ran:
+        """A command's words are expanded, and then it is carried out."""
+        self.printed: list[Record] = []
+        self.sleep = 0
+        words, is_expanded, result = item.words, False, OK
+        try:
+            words, is_expanded = expand_all(words, self.table), True
+            self.does(words[0], list(words[1:]))
+        except Refusal as refused:
+            [result] = refused.args
+        begins = Command(1, number, item.place, is_expanded, words)
+        return Ran([begins, *self.printed], self.sleep, result)
 
-    def echo(self, words: list[bytes]) -> tuple[Cause, list[Record]]:
+    def does(self, name: bytes, words: list[bytes]) -> None:
+        commands = {
+            b"echo": self.echo, b"exit": self.exit, b"goto": self.goto, b"imgfetch": self.fetch,
+            b"set": self.set, b"clear": self.clear, b"show": self.show, b"inc": self.inc,
+            b"isset": self.isset, b"iseq": self.iseq, b"sleep": self.sleeps,
+        }  # fmt: skip
+        if name not in commands:
+            raise Refusal(UNKNOWN)
+        if words and words[0][:2] == b"--":
+            raise Refusal(USAGE)
+        commands[name](words)
+
+    def echo(self, words: list[bytes]) -> None:
         end = b"\n"
         if words[:1] == [b"-n"]:
             end, words = b"", words[1:]
         if words and (words[0][:2] == b"--" or words[0] == b"-n"):
-            return Cause(Code.USAGE), []
-        return OK, [Text(b" ".join(words) + end)]
+            raise Refusal(USAGE)
+        self.printed = [Text(b" ".join(words) + end)]
 
-    def exit(self, words: list[bytes]) -> Cause:
-        number = words[0].decode("latin-1") if words else "0"
-        if len(words) > 1 or number not in map(str, range(256)):
-            return Cause(Code.USAGE)
+    def exit(self, words: list[bytes]) -> None:
+        fits(words, 0, 1)
+        number = number_in(words[0] if words else b"0", 0, 255)
         self.is_left = True
-        return Cause(Code.EXIT, int(number)) if int(number) else OK
+        if number:
+            raise Refusal(Cause(Code.EXIT, number))
 
-    def goto(self, words: list[bytes]) -> Cause:
-        if len(words) != 1 or words[0][:2] == b"--":
-            return Cause(Code.USAGE)
+    def goto(self, words: list[bytes]) -> None:
+        fits(words, 1, 1)
         for number, line in sorted(self.lines.items()):
             if label_of(line) == words[0]:
                 self.target = number
-                return OK
-        return Cause(Code.NO_LABEL)
+                return
+        raise Refusal(Cause(Code.NO_LABEL))
 
-    def fetch(self, words: list[bytes]) -> tuple[Cause, list[Record]]:
-        if len(words) != 1 or words[0][:2] == b"--":
-            return Cause(Code.USAGE), []
+    def set(self, words: list[bytes]) -> None:
+        fits(words, 1, 64)
+        self.table.set(name_of(words[0]), b" ".join(words[1:]))
+
+    def clear(self, words: list[bytes]) -> None:
+        fits(words, 1, 1)
+        name = name_of(words[0])
+        self.table.named(name).pop(name.key, None)
+
+    def show(self, words: list[bytes]) -> None:
+        fits(words, 1, 1)
+        value = self.table.shown(name_of(words[0]))
+        self.printed = [Text(words[0] + b" = " + value + b"\n")]
+
+    def inc(self, words: list[bytes]) -> None:
+        fits(words, 1, 2)
+        number = number_in(words[1] if len(words) > 1 else b"1", LEAST_STEP, MOST_STEP)
+        self.table.add(name_of(words[0]), number)
+
+    def isset(self, words: list[bytes]) -> None:
+        fits(words, 0, 1)
+        if words in ([], [b""]):
+            raise Refusal(Cause(Code.FALSE))
+
+    def iseq(self, words: list[bytes]) -> None:
+        fits(words, 2, 2)
+        if words[0] != words[1]:
+            raise Refusal(Cause(Code.FALSE))
+
+    def sleeps(self, words: list[bytes]) -> None:
+        fits(words, 1, 1)
+        self.sleep = 1_000 * number_in(words[0], 0, MOST_SECONDS)
+
+    def fetch(self, words: list[bytes]) -> None:
+        fits(words, 1, 1)
         if words != [FILE]:
-            return Cause(Code.BAD_URI), []
+            raise Refusal(Cause(Code.BAD_URI))
         number = self.opens
         if number == MOST_OPENS:
-            return Cause(Code.FULL, 2), []
+            raise Refusal(Cause(Code.FULL, 2))
         self.opens += 1
         server, own = IPv4Address("10.0.0.1"), 49_152 + number
         opened = Open(number, OpenKind.TFTP, server, 69, own, b"f")
-        return NO_ROUTE, [opened, Ended(number, NO_ROUTE)]
+        self.printed = [opened, Ended(number, NO_ROUTE)]
+        raise Refusal(NO_ROUTE)
 
 
-COMMANDS = (
-    b"echo", b"echo x", b"echo -n y", b"echo -n -n", b"foo", b"x", b"a;b", b"&&&", b"\\", b"exit", b"exit 0",
-    b"exit 3", b"exit 00", b"exit 256", b"goto a", b"goto b", b"goto none", b"goto", b"goto --a", b"goto -n",
-    b"goto a b", b"imgfetch", b"imgfetch " + FILE, b":a", b"#", b"#c",
-)  # fmt: skip
-OTHER_LINES = (b":a", b":b", b" :a\t", b":", b":a b", b":-n", b":a # c", b"", b"  ", b"# c", b" # x ; y")
-LONG_LISTS = (
-    b"echo" + b" x" * 63, b"echo" + b" x" * 64, b"; " * 64, b"; " * 65, b"foo" + b" ;" * 64 + b" echo z"
-)  # fmt: skip
+def fits(words: list[bytes], least: int, most: int) -> None:
+    if not least <= len(words) <= most:
+        raise Refusal(USAGE)
 
 
-def random_line(chance: random.Random) -> bytes:
-    kind = chance.random()
-    if kind < 0.3:
-        return chance.choice(OTHER_LINES)
-    if kind < 0.33:
-        return chance.choice(LONG_LISTS)
-    words = (*COMMANDS, *[b"&&", b"||", b";"] * 3)
-    blanks = (b" ", b"\t", b"  ")
-    count = chance.randint(1, 8)
-    line = b"".join(chance.choice(words) + chance.choice(blanks) for _ in range(count))
-    return line + chance.choice((b"", b";", b"||", b"; echo end", b"|| echo end"))
-
-
-def random_script(chance: random.Random) -> bytes:
-    """A script of a few lines, most of which run into each other in some way."""
-    script = b"#!ipxe" + chance.choice((b"", b" \t", b"\r")) + b"\n"
-    ends = (*[b"\n"] * 8, b"\r\n", b"\\\n", b"\\\r\n", b"\\\\\n")
-    for _ in range(chance.randint(1, 10)):
-        script += random_line(chance) + chance.choice(ends)
-    return script[:-1] if chance.random() < 0.3 else script
+def number_in(text: bytes, least: int, most: int) -> int:
+    number = number_of(text, least, most)
+    if number is None:
+        raise Refusal(USAGE)
+    return number

@@ -18,7 +18,8 @@ from shared.devices import completed
 from shared.kinds import Status
 from shared.live_session import ClientFault, Kept, Records, Session
 from shared.progress import Progress
-from shared.records import Direction, Off, Received, Record, Sent, Step, Tick, read_records
+from shared.records import Command, Direction, Off, Received, Record, Sent, Step, Tick
+from shared.records import read_records
 from shared.wire import ARP, Opcode, arp_reply, padded, tftp_data, udp_frame
 from tests import TOP, made
 from tests.replays import replay_all, run_all
@@ -101,6 +102,16 @@ class Bridged(unittest.TestCase):
         self.listener = socket.create_server(("127.0.0.1", 0))
         self.addCleanup(self.listener.close)
         self.port = self.listener.getsockname()[1]
+
+    def test_commands_while_they_begin(self) -> None:
+        for command in (
+            made.command(b"sleep 0x5"),
+            made.command(b"sleep 05"),
+            Command(1, 2, 0, False, (b"sleep", b"${}")),
+        ):
+            self.progress.take(0, command)
+        said = ["sleep 0x5: goes on after 5 s", "sleep 05", "sleep ${}: its words can't be expanded"]
+        self.assertEqual(self.said.getvalue().splitlines(), said)
 
     def session(self) -> Session:
         client, _ = self.listener.accept()

@@ -1,15 +1,13 @@
 """Scripts with lists, labels, `goto` and joined lines: the program's whole output, record by record.
 
-What is expected is written by hand from docs/SCRIPTS.md and docs/RECORDS.md. Scripts made by chance are
-compared with a second reading of those rules. The built program is run, or, where it isn't fresh, what the
-toolchain's `rt try` compiles once for all recordings.
+What is expected is written by hand from docs/SCRIPTS.md and docs/RECORDS.md. The built program is run, or,
+where it isn't fresh, what the toolchain's `rt try` compiles once for all recordings.
 """
 
 from __future__ import annotations
 
-import random
 import unittest
-from dataclasses import dataclass, replace
+from dataclasses import replace
 from ipaddress import IPv4Address
 
 from shared.causes import OK, Cause, Code
@@ -17,53 +15,17 @@ from shared.kinds import OpenKind, PartKind, Status
 from shared.recordings import read_input
 from shared.records import Advance, Command, Done, Ended, Off, Open, Part, Received, Record, Result
 from shared.records import Sent, Start, Step, Text, Tick, Try
-from shared.script_faults import script_fault
-from shared.script_text import lines_of
 from shared.wire import arp_reply, arp_request, tftp_ack, tftp_data, tftp_request, udp_frame
 from tests import made
 from tests.case import TOP
-from tests.replays import Replayed, can_run, replayed
-from tests.script_model import FILE, Model, numbered, random_script, refusal
-from tests.test_replay import read_all
+from tests.replays import can_run
+from tests.script_model import FILE, Model
+from tests.script_rows import FIRST, MOST, UNFINISHED, Row, RowCase, ran, row, same_lines, text
 
-FIRST = b"#!ipxe\n"
 UNKNOWN, USAGE, NO_LABEL = Cause(Code.UNKNOWN), Cause(Code.USAGE), Cause(Code.NO_LABEL)
 NOT_SCRIPT, LONG_LINE = Cause(Code.NOT_SCRIPT), Cause(Code.TOO_LONG, 1)
 TOO_MANY = Cause(Code.TOO_MANY, 1)
 NO_ROUTE = Cause(Code.NO_ROUTE, 0x0A000001)
-UNFINISHED = Done(Status.UNFINISHED)
-# as many commands as may begin in one step
-MOST = 4_096
-BY_CHANCE = 60
-SEED = 17
-
-
-@dataclass(frozen=True)
-class Row:
-    """An input recording, and the output recording that answers it."""
-
-    inputs: list[Record]
-    outputs: list[Record]
-
-
-def ran(words: bytes, result: Cause = OK, line: int = 2, place: int = 0) -> list[Record]:
-    """A command that is over at once; an `echo` that is Ok prints what its words say."""
-    cut = tuple(words.split(b" "))
-    printed = [Text(b" ".join(cut[1:]) + b"\n")] if cut[0] == b"echo" and result == OK else []
-    return [Command(1, line, place, True, cut), *printed, Result(result)]
-
-
-def row(script: bytes, *commands: list[Record], cause: Cause = OK) -> Row:
-    """A script after its first line, its commands, and the cause with which it is left."""
-    return text(FIRST + script, *commands, cause=cause)
-
-
-def text(script: bytes, *commands: list[Record], cause: Cause = OK) -> Row:
-    """The same, of a whole text."""
-    status = Status.ENDED if cause == OK else Status.SCRIPT_FAILED
-    records = [record for command in commands for record in command]
-    outputs = [Step(1), made.enter(), *records, made.leave(cause), Done(status)]
-    return Row([made.start(script)], outputs)
 
 
 def joins() -> dict[str, Row]:
@@ -151,8 +113,8 @@ def lines() -> dict[str, Row]:
         "first_line_and_a_late_blank": text(b"#!ipxe\r \nexit", cause=NOT_SCRIPT),
         "first_line_joined": text(b"#!ipxe\\\n\nexit", cause=NOT_SCRIPT),
         "first_line_late": text(b"\n#!ipxe\nexit", cause=NOT_SCRIPT),
-        "dollar_in_a_list": row(b"echo a\n; echo ${b}\n", cause=NOT_SCRIPT),
-        "dollar_joined": row(b"echo a$\\\n{b}\n", cause=NOT_SCRIPT),
+        "dollar_in_a_list": row(b"echo a\n; echo ${b}\n", ran(b"echo a"), ran(b"echo ", line=3, place=1)),
+        "dollar_joined": row(b"echo a$\\\n{b}c\n", ran(b"echo ac")),
         "dollar_in_a_comment": row(b"# ${a}\necho $ {a} $\n", ran(b"echo $ {a} $", line=3)),
         "many_lines": row(b"\n" * 4_997 + b"echo a\n", ran(b"echo a", line=4_999)),
     }
@@ -391,68 +353,34 @@ def transfers() -> dict[str, Row]:
     }
 
 
-def by_chance() -> dict[str, Row]:
-    chance = random.Random(SEED)
-    rows = {}
-    for number in range(BY_CHANCE):
-        script = random_script(chance)
-        inputs = [without_address(script), Tick(1), Tick(1)]
-        rows[f"chance_{number}"] = Row(inputs, Model(script).run(2))
-    return rows
-
-
 ROWS = {**joins(), **labels(), **lines(), **limits(), **steps(), **transfers()}
 ROWS["fallback"] = fallback()
-CHANCES = by_chance()
 
 
 def all_inputs() -> dict[str, bytes]:
-    rows = {**ROWS, **CHANCES}
-    return {f"script_{name}": made.spelled(row.inputs) for name, row in rows.items()}
+    return {f"script_{name}": made.spelled(row.inputs) for name, row in ROWS.items()}
 
 
 @unittest.skipUnless(can_run(), "the program isn't built, and the toolchain's rt is missing")
-class Scripts(unittest.TestCase):
-    maxDiff = 2_000
-    replayed: dict[str, Replayed]
-
-    @classmethod
-    def setUpClass(cls) -> None:
-        cls.replayed = {name: replayed()[name] for name in all_inputs()}
-
-    def same(self, name: str, row: Row) -> None:
-        run = self.replayed[f"script_{name}"]
-        self.assertEqual(run.ending, "ended")
-        self.assertEqual(run.status, row.outputs[-1].status)
-        if run.output != made.spelled(row.outputs):
-            self.assertEqual(read_all(run.output), row.outputs)
-
+class Scripts(RowCase):
     def test_rows(self) -> None:
         for name, row in ROWS.items():
             with self.subTest(name):
-                self.same(name, row)
-
-    def test_scripts_by_chance(self) -> None:
-        for name, row in CHANCES.items():
-            with self.subTest(name, script=row.inputs[0].script):
-                self.same(name, row)
+                self.same(f"script_{name}", row)
 
 
 class Readings(unittest.TestCase):
     """What is written by hand, the second reading of the rules, and that of `show.py --why` are one."""
 
     def test_the_tools_read_the_same_lines(self) -> None:
-        for name, row in {**ROWS, **CHANCES}.items():
+        for name, row in ROWS.items():
             with self.subTest(name):
-                script = row.inputs[0].script
-                found = {line.first: line.text for line in lines_of(script)}
-                self.assertEqual(found, numbered(script))
-                self.assertEqual(script_fault(script) is None, refusal(script) is None)
+                same_lines(self, row.inputs[0].script)
 
     def test_the_model_answers_the_rows(self) -> None:
         for name, row in {**joins(), **labels(), **lines(), **limits()}.items():
             with self.subTest(name):
-                self.assertEqual(Model(row.inputs[0].script).run(0), row.outputs)
+                self.assertEqual(Model(row.inputs[0]).run(row.inputs[1:]), row.outputs)
 
 
 if __name__ == "__main__":

@@ -7,7 +7,7 @@ import unittest
 
 from shared.causes import OK
 from shared.kinds import PartKind, Status
-from shared.records import Done, Part, Result, Step, Text, Tick
+from shared.records import Command, Done, Part, Result, Step, Text, Tick
 from tests import made
 from tests.case import Case
 
@@ -65,6 +65,30 @@ class Showing(Case):
         self.put("loop.out", [*begins, Done(Status.UNFINISHED)])
         printed = self.works("tools/show.py loop.out --input loop.rec").splitlines()
         self.assertEqual(printed[-2], f"STEP 2 at 20 ms, on TICK 20, {why}")
+
+    def test_words_as_they_are_written(self) -> None:
+        """Where they are expanded to others, in the first script; where they can't be expanded it is said."""
+        begins = [Step(1), made.enter(), made.command(b"echo a", 2), Result(OK)]
+        refused = Command(1, 3, 1, False, (b"echo", b"${x+}"))
+        outputs = [*begins, Command(1, 3, 0, True, (b"echo", b"a")), Result(OK), refused]
+        self.put("words.out", [*outputs, Command(2, 3, 0, True, (b"echo", b"a"))])
+        self.put("words.rec", [made.start(b"#!ipxe\necho a # ${x}\necho ${x} ; echo ${x+}\n")])
+        printed = self.works("tools/show.py words.out --input words.rec --type COMMAND").splitlines()
+        self.assertEqual(
+            printed,
+            [
+                "  COMMAND depth 1, line 2, place 0: echo a",
+                "  COMMAND depth 1, line 3, place 0: echo a",
+                "    written as: echo ${x}",
+                "  COMMAND depth 1, line 3, place 1, not expanded, words as written: echo ${x+}",
+                "  COMMAND depth 2, line 3, place 0: echo a",
+            ],
+        )
+        self.assertNotIn("written as", self.works("tools/show.py words.out --type COMMAND"))
+        self.put("words.rec", [made.start(b"")])
+        self.put("words.out", [Step(1), made.enter(), Command(1, 3, 0, True, (b"isset", b""))])
+        printed = self.works("tools/show.py words.out --input words.rec")
+        self.assertIn('place 0: isset ""\n    written as: isset ${filename}\n', printed)
 
     def test_texts(self) -> None:
         texts = (b"a", b"b\nc\t\x1b\n", b"", b"\n", b"\xff")

@@ -54,9 +54,10 @@ class Examples(Case):
 
     def test_the_boots_are_made_anew(self) -> None:
         (self.folder / "inner").mkdir()
-        shutil.copy(EXAMPLES / "fallback.ipxe", self.folder / "inner")
-        shutil.copy(EXAMPLES / "stations.py", self.folder / "inner")
-        for maker, name in (("make_tftp_boot", "tftp-boot"), ("make_fallback", "fallback")):
+        for name in ("fallback.ipxe", "settings.ipxe", "stations.py"):
+            shutil.copy(EXAMPLES / name, self.folder / "inner")
+        for name in ("tftp-boot", "fallback", "settings"):
+            maker = f"make_{name.replace('-', '_')}"
             shutil.copy(EXAMPLES / f"{maker}.py", self.folder / "inner")
             with self.start(f"inner/{maker}.py") as process:
                 self.assertEqual(process.communicate()[1], "")

@@ -64,6 +64,7 @@ class LocalCommands(unittest.TestCase):
     def test_without_the_input(self) -> None:
         for words, cause, title in (
             (b"exit 3", Cause(Code.EXIT, 3), "Exit(n 3)"),
+            (b"isset a", Cause(Code.FALSE), "False"),
             (b"echo --n", Cause(Code.USAGE), "Usage"),
             (b"iseq a b", Cause(Code.FALSE), "False"),
         ):
@@ -83,19 +84,12 @@ class LocalCommands(unittest.TestCase):
         for script, said, line in (
             (b"echo hi\n", 'line 1 is "echo hi", and a script begins with the line `#!ipxe`', 1),
             (b"#!ipxe\\\n", 'line 1 is "#!ipxe\\\\", and a script begins with the line `#!ipxe`', 1),
-            (b"", "the script is empty, and no script is built in yet", 1),
-            (b"#!ipxe\n#${a}\n:${b}\necho ${ip}",
-             "line 4 has `${`, and settings aren't expanded yet", 4),
         ):
             with self.subTest(script=script):
                 lines = why(outputs, [made.start(script)])
                 self.assertEqual(lines[0], said)
                 shown = [line for line in lines if "script line" in line]
-                self.assertTrue(shown == [] if not script else shown[0].startswith(
-                    f"  script line {line}: "), shown)
-        lines = why(outputs, [made.start(b"#!ipxe\necho a\\\r\n ${b}\n")])
-        said = "lines 2 to 3, joined, have `${`, and settings aren't expanded yet"
-        self.assertEqual((lines[0], lines[3]), (said, '  script lines 2 to 3: "echo a ${b}"'))
+                self.assertTrue(shown[0].startswith(f"  script line {line}: "), shown)
 
     def test_a_text_that_is_too_long(self) -> None:
         cause = Cause(Code.TOO_LONG, 1)
@@ -210,11 +204,78 @@ class LocalCommands(unittest.TestCase):
             (b"imgexec tftp://10.0.0.1/", Cause(Code.BAD_URI),
              "tftp://10.0.0.1/ is no URI that is read here; `tftp://ADDRESS/PATH` is"),
             (b"imgexec", Cause(Code.USAGE), "the words don't fit the command: `imgexec URI`"),
-            (b"exit 3", Cause(Code.EXIT, 3), "the script left by `exit 3`"),
+            (b"exit 3", Cause(Code.EXIT, 3), "the script itself ended in failure, by `exit 3`"),
+            (b"set y:int8 200", Cause(Code.BAD_VALUE), "200 is no value for `y:int8` of the kind int8, which "
+             "takes a number from -128 to 127"),
+            (b"set dns a b", Cause(Code.BAD_VALUE), '"a b" is no value for `dns` of the kind ipv4, which takes '
+             "an address of four decimals"),
+            (b"inc n", Cause(Code.BAD_VALUE), "`n` can't grow by 1: it is no number, or the sum is out of its "
+             "kind's range"),
+            (b"set net9/a b", Cause(Code.BAD_NAME), "the block net9 isn't there, so nothing is set in it: there is "
+             "the root, without a name, and `net0`"),
+            (b"clear x:y", Cause(Code.BAD_NAME), "x:y has a kind that there isn't: y"),
+            (b"show 255", Cause(Code.BAD_NAME), "255 is no name of a setting: `[block/]name[:kind]`, the name of "
+             "letters, digits, `-` and `_`, or a tag as `67` and `175.190`"),
+            (b"iseq a b", Cause(Code.FALSE), "a and b aren't equal"),
+            (b"isset", Cause(Code.FALSE), "nothing is set there: the word of `isset` is empty"),
+            (b"set x y", Cause(Code.TOO_LONG, 2), "the value for `x` has more than 1024 bytes"),
+            (b"set x y", Cause(Code.TOO_MANY, 5), "the root has 128 settings, the most, and `x` is another"),
+            (b"set net0/x y", Cause(Code.TOO_MANY, 5),
+             "the block net0 has 128 settings, the most, and `net0/x` is another"),
+            (b"set", Cause(Code.USAGE), "the words don't fit the command: `set NAME [VALUE]`"),
+            (b" a", Cause(Code.UNKNOWN), "the command has no name: its first word is empty, as expanded"),
             (b"imgexec tftp://10.0.0.1/k", Cause(Code.NOT_BOOTABLE), "tftp://10.0.0.1/k can't be "
              "booted: it isn't a kernel for x86, an ELF file or an EFI program"),
         ):
             self.assertEqual(sentence(local_failure(words, cause)), f"line 2: {said}")
+
+    def test_words_that_can_not_be_expanded(self) -> None:
+        for words, cause, said in (
+            (b"echo ${x} ${a+}", Cause(Code.BAD_NAME), "a+ is no name of a setting: `[block/]name[:kind]`, the "
+             "name of letters, digits, `-` and `_`, or a tag as `67` and `175.190`"),
+            (b"set x ${${x}+}", Cause(Code.BAD_NAME), "a part `${..}` comes to no name of a setting"),
+            (b"echo ${x}", Cause(Code.TOO_LONG, 1), "as expanded they have more than 4096 bytes"),
+        ):
+            outputs = local_failure(words, cause)
+            outputs[2] = Command(1, 2, 0, False, tuple(words.split(b" ")))
+            lines = why(outputs, [made.start(b"#!ipxe\n" + words)])
+            self.assertEqual(lines[0], f"line 2: the words can't be expanded: {said}")
+            begins = f"line 2 begins: {words.decode()} (as written, since they can't be expanded)"
+            self.assertEqual(lines[3], f"  step 1 at 0 ms: {begins}")
+
+    def test_words_as_they_are_written(self) -> None:
+        """They are shown where they are others, and the list has more than them."""
+        outputs = local_failure(b"iseq a b", Cause(Code.FALSE))
+        for line, written in ((b"iseq ${x} b", []), (b"iseq ${x} b # c", []), (b"iseq a b && foo", []),
+                              (b"iseq ${x} b && foo", ["  written there: iseq ${x} b"])):
+            lines = why(outputs, [made.start(b"#!ipxe\n" + line)])
+            self.assertEqual(lines[5:], written)
+
+    def test_the_built_in_script(self) -> None:
+        cause = Cause(Code.EXIT, 1)
+        outputs = [*local_failure(b"dhcp", Cause(Code.UNKNOWN))[:4], Command(1, 2, 1, True, (b"exit", b"1"))]
+        outputs += [Result(cause), made.leave(cause), Done(Status.SCRIPT_FAILED)]
+        lines = why(outputs, [made.start(b"")])
+        self.assertEqual(lines[0], "command 2 of line 2: the built-in script ended in failure, by `exit 1`")
+        self.assertEqual(lines[-1], '  built-in script line 2: "dhcp || exit 1"')
+
+    def test_a_command_that_sleeps(self) -> None:
+        begins = [Step(1), made.enter(), Command(1, 2, 0, True, (b"sleep", b"0x2")), Step(2)]
+        inputs = [made.start(b"#!ipxe\nsleep ${n}\n"), Tick(500), Off()]
+        lines = why([*begins, Done(Status.UNFINISHED)], inputs)
+        self.assertEqual(
+            lines,
+            [
+                "the recording ends after 0.5 s, while line 2 slept: 0.5 s of 2 s had passed",
+                "  step 1 at 0 ms: line 2 begins: sleep 0x2",
+                '  script line 2: "sleep ${n}"',
+                "  it goes on at 2 s: record.py --until 2",
+            ],
+        )
+        off = [*begins, Step(3), Done(Status.UNFINISHED)]
+        said = "the power was switched off after 0.5 s, while line 2 slept: 0.5 s of 2 s had passed"
+        self.assertEqual(sentence(off, inputs), said)
+        self.assertEqual(sentence(off), "the run was ended from outside, while line 2 was in a sleep of 2 s")
 
     def test_a_list_that_goes_on_after_a_failure(self) -> None:
         cause = Cause(Code.FALSE)
@@ -246,7 +307,8 @@ class LocalCommands(unittest.TestCase):
             Done(Status.SCRIPT_FAILED),
         ]
         lines = why(outputs)
-        self.assertEqual(lines[0], "line 5 of an inner script: the script left by `exit 2`")
+        said = "line 5 of an inner script: the script itself ended in failure, by `exit 2`"
+        self.assertEqual(lines[0], said)
         self.assertIn("  step 2: line 5 of the script that line runs, 1 deep begins: exit 2", lines)
         self.assertEqual(
             lines[-2:],
