@@ -16,19 +16,11 @@ HERE = Path(__file__).resolve().parent
 sys.path.insert(0, str(HERE.parent / "tools"))
 
 from shared.records import Received, Record, Tick, spell  # noqa: E402
-from shared.wire import arp_reply, padded, tftp_data, tftp_error, udp_frame  # noqa: E402
-from stations import CLIENT, SERVER, start  # noqa: E402
+from shared.wire import arp_reply, padded, tftp_data, tftp_error  # noqa: E402
+from stations import CLIENT, SERVER, answer, start  # noqa: E402
 
-FIRST_OWN_PORT = 49_152
-SERVER_PORT = 40_000
 NOT_FOUND = 1
 KERNEL = b"\x7fELF\x02\x01\x01" + b"a kernel that is shorter than a block"
-
-
-def answer(number: int, body: bytes) -> Received:
-    """The server's answer to the open of this number, by a port of its own."""
-    ports = (SERVER_PORT + number, FIRST_OWN_PORT + number)
-    return Received(padded(udp_frame(SERVER, CLIENT, ports, body, number)))
 
 
 def records(script: bytes) -> Iterator[Record]:

@@ -13,11 +13,20 @@ from uuid import UUID
 HERE = Path(__file__).resolve().parent
 sys.path.insert(0, str(HERE.parent / "tools"))
 
-from shared.records import Start  # noqa: E402
-from shared.wire import Station  # noqa: E402
+from shared.records import Received, Start  # noqa: E402
+from shared.wire import Station, padded, udp_frame  # noqa: E402
 
 CLIENT = Station(bytes.fromhex("525400000001"), IPv4Address("10.0.0.2"))
 SERVER = Station(bytes.fromhex("525400000002"), IPv4Address("10.0.0.1"))
+
+FIRST_OWN_PORT = 49_152
+SERVER_PORT = 40_000
+
+
+def answer(number: int, body: bytes) -> Received:
+    """The server's answer by TFTP to the open of this number, by a port of its own."""
+    ports = (SERVER_PORT + number, FIRST_OWN_PORT + number)
+    return Received(padded(udp_frame(SERVER, CLIENT, ports, body, number)))
 
 
 def start(script: bytes) -> Start:
