@@ -13,7 +13,7 @@ plain_cause code = record { code = code; a = 0; b = 0 }
 abbrev pub ok : Cause
 ok = as_cause (reason.Plain plain.Ok)
 
--- the first line isn't `#!ipxe`, or the text isn't one that runs today
+-- the first line isn't `#!ipxe`
 abbrev pub not_script : Cause
 not_script = as_cause (reason.Plain plain.NotScript)
 

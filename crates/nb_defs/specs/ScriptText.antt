@@ -1,4 +1,4 @@
--- The text of a script, as a function of the whole text: its lines, their words, and which texts run today.
+-- The text of a script, as a function of the whole text: its lines, their words, and which texts run.
 use Rattle.std.specs.Prelude.{ℕ, Bool, true, false, not, ◌&&◌, ◌||◌, ◌==◌, nat_lt, nat_le, nat_eq, List, [], ◌∷◌, length, drop, filter, take_while, if◌then◌else◌, codes}
 use Rattle.std.specs.List.{list_all, starts_with}
 use Rattle.std.specs.Str.{bytes_eq}

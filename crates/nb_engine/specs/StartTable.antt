@@ -24,10 +24,12 @@ net0_alone = registered (block_of (codes "net0") (pos 0)) root_alone
 abbrev pub with_names : Start → TableLists → TableLists
 with_names s table = with_own (Free (codes "uuid")) Uuid s.uuid (with_own (Free (codes "mac")) Hex s.mac table)
 
--- with the addresses of the client, its mask, its gateway and its name server: the last three have tags of RFC 2132
+-- with the addresses of the client, its mask, its gateway and its name server: the last three have tags of RFC 2132, and are ignored
+-- where the client has none
 abbrev pub with_addresses : Start → TableLists → TableLists
 with_addresses s table =
-    with_address (Tag 6) s.dns (with_address (Tag 3) s.gateway (with_address (Tag 1) s.mask (with_address (Free (codes "ip")) s.ip table)))
+    if s.ip == 0 then table
+    else with_address (Tag 6) s.dns (with_address (Tag 3) s.gateway (with_address (Tag 1) s.mask (with_address (Free (codes "ip")) s.ip table)))
 
 unfoldable pub start_table : Start → TableLists
 start_table s = with_addresses s (with_names s net0_alone)

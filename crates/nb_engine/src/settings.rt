@@ -54,10 +54,13 @@ fn put_names(alloc: Global, table: &mut Table, start: &Start<'_>) -> Result<(), 
     put_own(alloc, table, Key::Free(b"uuid"), Kind::Uuid, &start.uuid)
 }
 
-/// Puts the addresses that aren't 0.
+/// Puts the addresses that aren't 0. Where the client has none, the others are ignored.
 fn put_addresses(alloc: Global, table: &mut Table, start: &Start<'_>) -> Result<(), NoMemory>
     ensures { OnOk result (table.new ≡ with_addresses (start_of start.now) table.old) }
 {
+    if start.ip.0 == 0 {
+        return Ok(());
+    }
     put_address(alloc, table, Key::Free(b"ip"), start.ip)?;
     put_address(alloc, table, MASK, start.mask)?;
     put_address(alloc, table, GATEWAY, start.gateway)?;
