@@ -58,11 +58,13 @@ SEEDS = (
     b"set x:int8 127", b"set x:uint8 255", b"set y:int16 -1", b"set idx:int32 0", b"set net0/x a b", b"set x filename",
     b"set filename pxe/kernel", b"set x ${y", b"set x:uristring %24%7By%7d", b"set x:uristring %26%26",
     b"set f " + FILE, b"set x:hex 00:01:02:03:04:05:06:07:08:09:0a:0b:0c:0d:0e:0f", b"set san-drive 128",
-    b"set x:uristring a%20b ; set y net0/ip", b"set big " + b"b" * 1_024, b"set big ${big}${big}", b"set y:base64 /w==",
+    b"set x:uristring a%20b ; set y net0/ip", b"set big " + b"b" * 1_024, b"set big ${big}${big}",
+    b"set y:base64 /w==",
     b"set big " + b"c" * 1_025, b"set big:hexraw " + b"0a" * 1_024, b"echo ${big}${big}${big}${big}",
     b"echo ${big}${big}${big} ${big}", b"echo ${big} ${big} ${big} ${big:uristring}", b"show big", b"show big:base64",
     b"echo ${big}${big}${big}${big}${big} ${x:}", b"echo ${x:} ${big:hex}${big:hex}", b"${x}", b"set e ${none}",
-    b"echo ${${big}${big}${big}${big}${big}}", b"echo ${${big}${big}${big}${big}${big}", b"${none}", b"echo a ${none} b",
+    b"echo ${${big}${big}${big}${big}${big}}", b"echo ${${big}${big}${big}${big}${big}", b"${none}",
+    b"echo a ${none} b",
     b"echo ${${big:hex}${big:hex}${x:}", b"echo ${${big:hex}${big:hex}${y}",
 )  # fmt: skip
 # whole scripts after their first line, each of which takes a rule to its limit

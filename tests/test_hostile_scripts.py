@@ -1,7 +1,7 @@
 """Scripts that are made to keep the built program busy: each run ends within seconds of the processor's time.
 
-Scripts of settings are compared with a plain one of the same length: they take at most so many times as long.
-A loop of `goto` over very many lines isn't here, since each line that is passed costs time, and no step ends there.
+Scripts of settings, and loops, are compared with a plain one of the same length: they take at most so many times
+as long.
 
 START holds a script of at most 130,996 bytes, so of at most 130,990 lines. Where the program isn't built
 the tests are skipped, saying so.
@@ -55,8 +55,22 @@ ENDING = {
     "words": (filled(b"x " * 2_048 + b"\n"), TOO_MANY),
 }
 
+
+
+def loop_over(lines: bytes) -> bytes:
+    """The longest loop of `goto` over such lines."""
+    head, end = FIRST + b":a\n", b"goto a\n"
+    return head + lines * ((MOST_BYTES - len(head) - len(end)) // len(lines)) + end
+
+
 # each goes on for ever, by `goto`
 ENDLESS = {
+    "a loop over empty lines": loop_over(b"\n"),
+    "a loop over comments": loop_over(b"#\n"),
+    "a loop over labels": loop_over(b":b\n"),
+    "a loop over lists of empty commands": loop_over(b"; ;\n"),
+    "a loop over commands that are skipped": loop_over(b"|| x\n"),
+    "a loop over long lists that are skipped": loop_over(b"|| x " * 31 + b"\n"),
     "a short loop": FIRST + b":a\ngoto a\n",
     "the last of many labels": FIRST + NAMES + b":a\ngoto a\n",
     "a loop of many lines": FIRST + b":a\n" + b"\n" * 60 + b"goto a\n",
@@ -132,10 +146,23 @@ class Hostile(Case):
                 self.assertEqual(begun, 2 * MOST_COMMANDS)
                 self.assertEqual(records[-1].status, Status.UNFINISHED)
 
-    def test_scripts_of_settings(self) -> None:
-        """Each costs at most a hundred times what a plain script of its length costs."""
+    def plain_time(self) -> float:
+        """What a plain script of the greatest length costs."""
         plain, records = self.run_timed(PLAIN, ENOUGH_TICKS)
         self.assertEqual(records[-1].status, Status.ENDED)
+        return plain
+
+    def test_loops(self) -> None:
+        """Two steps of 4,096 commands cost at most a hundred times what a plain script costs."""
+        plain = self.plain_time()
+        for name, script in ENDLESS.items():
+            with self.subTest(name):
+                taken, _ = self.run_timed(script, 1)
+                self.assertLess(taken, MOST_TIMES * plain)
+
+    def test_scripts_of_settings(self) -> None:
+        """Each costs at most a hundred times what a plain script of its length costs."""
+        plain = self.plain_time()
         for name, script in OF_SETTINGS.items():
             with self.subTest(name):
                 self.assertLessEqual(len(script), MOST_BYTES)

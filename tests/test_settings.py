@@ -137,7 +137,8 @@ def kinds() -> dict[str, Row]:
             (b"${x:ipv4}", b""), (b"${x:uuid}", b""), (b"${x:uristring}", b"%00%FF"), (b"${x:uint16}", b"0xff"),
         ),
         "an_int8": echoes(
-            [b"set y:int8 -1", b"set z:int8 -0x80"], (b"${y}", b"-1"), (b"${y:uint8}", b"0xff"), (b"${y:uint16}", b"0xff"),
+            [b"set y:int8 -1", b"set z:int8 -0x80"], (b"${y}", b"-1"), (b"${y:uint8}", b"0xff"),
+            (b"${y:uint16}", b"0xff"),
             (b"${y:int32}", b"-1"), (b"${y:hex}", b"ff"), (b"${z}", b"-128"), (b"${z:int16}", b"-128"),
             (b"${z:uint32}", b"0x80"),
         ),
@@ -150,9 +151,11 @@ def kinds() -> dict[str, Row]:
         "no_numbers": refusals(
             [b"set y:int8 5"],
             *[(b"set y:int8 " + number, BAD_VALUE)
-              for number in (b"200", b"128", b"-129", b"0x80", b"07", b"+1", b"0X1", b"0x", b"-", b"1.", b"1 2", b"1" * 40)],
+              for number in (b"200", b"128", b"-129", b"0x80", b"07", b"+1", b"0X1", b"0x", b"-", b"1.", b"1 2",
+              b"1" * 40)],
             *[(b"set y:uint8 " + number, BAD_VALUE) for number in (b"256", b"-1", b"-0", b"0x100", b"00")],
-            (b"set y:uint16 65536", BAD_VALUE), (b"set y:int16 32768", BAD_VALUE), (b"set y:uint32 4294967296", BAD_VALUE),
+            (b"set y:uint16 65536", BAD_VALUE), (b"set y:int16 32768", BAD_VALUE),
+            (b"set y:uint32 4294967296", BAD_VALUE),
             (b"set y:int32 2147483648", BAD_VALUE),
         ),
         "bytes": echoes(
@@ -167,15 +170,19 @@ def kinds() -> dict[str, Row]:
             [b"set x a"],
             *[(b"set x:" + words, BAD_VALUE) for words in (
                 b"hex 0a0b", b"hex 0a-0b", b"hex a:b", b"hex 0a:", b"hexhyp 0a:0b", b"hexraw 0a:0b", b"hexraw abc",
-                b"hex 0g", b"base64 YWI", b"base64 YR==", b"base64 YWI==", b"base64 =", b"base64 YW I=", b"base64 -_==",
+                b"hex 0g", b"base64 YWI", b"base64 YR==", b"base64 YWI==", b"base64 =", b"base64 YW I=",
+                b"base64 -_==",
                 b"uuid " + uuid.replace(b"-", b""), b"uuid " + uuid[:-1], b"uuid " + uuid.replace(b"ab-", b"-ab"),
-                b"ipv4 1.2.3", b"ipv4 1.2.3.4.5", b"ipv4 256.0.0.0", b"ipv4 01.2.3.4", b"ipv4 0x1.2.3.4", b"ipv4 1.2.3.",
+                b"ipv4 1.2.3", b"ipv4 1.2.3.4.5", b"ipv4 256.0.0.0", b"ipv4 01.2.3.4", b"ipv4 0x1.2.3.4",
+                b"ipv4 1.2.3.",
                 b"ipv4 a",
             )],
         ),
         "addresses_and_uuids": echoes(
-            [b"set a:ipv4 10.0.0.1", b"set u:uuid " + uuid.upper()], (b"${a}", b"10.0.0.1"), (b"${a:hex}", b"0a:00:00:01"),
-            (b"${a:int32}", b"167772161"), (b"${a:uint8}", b"0x1"), (b"${u}", uuid), (b"${u:hexraw}", uuid.replace(b"-", b"")),
+            [b"set a:ipv4 10.0.0.1", b"set u:uuid " + uuid.upper()], (b"${a}", b"10.0.0.1"),
+            (b"${a:hex}", b"0a:00:00:01"),
+            (b"${a:int32}", b"167772161"), (b"${a:uint8}", b"0x1"), (b"${u}", uuid),
+            (b"${u:hexraw}", uuid.replace(b"-", b"")),
             (b"${u:ipv4}", b"1.35.69.103"), (b"${u:int32}", b"-1985229329"),
         ),
     }  # fmt: skip
@@ -226,7 +233,8 @@ def commands() -> dict[str, Row]:
         "set_and_show": row(b"set a one two\nshow a", ran(b"set a one two"), printed(b"show a", b"a = one two\n", 3)),
         "show": row(
             b"set x:int8 7 ; show x ; show x:hex ; show none ; show net9/x:uuid ; show net0/x ; show net0/mac ; show 67\n",
-            ran(b"set x:int8 7"), printed(b"show x", b"x = 7\n", place=1), printed(b"show x:hex", b"x:hex = 07\n", place=2),
+            ran(b"set x:int8 7"), printed(b"show x", b"x = 7\n", place=1),
+            printed(b"show x:hex", b"x:hex = 07\n", place=2),
             printed(b"show none", b"none = \n", place=3), printed(b"show net9/x:uuid", b"net9/x:uuid = \n", place=4),
             printed(b"show net0/x", b"net0/x = \n", place=5),
             printed(b"show net0/mac", b"net0/mac = " + MAC + b"\n", place=6), printed(b"show 67", b"67 = \n", place=7),
@@ -251,7 +259,8 @@ def commands() -> dict[str, Row]:
             b"set x:int8 5 ; set x 5 ; show x:hex ; set busid:string 5 ; set busid 05 ; show busid:hex ; inc x\n",
             ran(b"set x:int8 5"), ran(b"set x 5", place=1), printed(b"show x:hex", b"x:hex = 35\n", place=2),
             ran(b"set busid:string 5", place=3), ran(b"set busid 05", place=4),
-            printed(b"show busid:hex", b"busid:hex = 05\n", place=5), ran(b"inc x", BAD_VALUE, place=6), cause=BAD_VALUE,
+            printed(b"show busid:hex", b"busid:hex = 05\n", place=5), ran(b"inc x", BAD_VALUE, place=6),
+            cause=BAD_VALUE,
         ),
         "a_failed_set_changes_nothing": row(
             b"set x:int8 5 ; set x:int8 200 ; show x ; set x:uuid y ; show x\n", ran(b"set x:int8 5"),
@@ -282,7 +291,8 @@ def commands() -> dict[str, Row]:
         ),
         "inc_to_the_limits": row(
             b"inc x 2147483647 ; inc x ; show x ; inc y -2147483648 ; inc y -1 ; show y ; inc san-drive ; show san-drive\n",
-            ran(b"inc x 2147483647"), ran(b"inc x", BAD_VALUE, place=1), printed(b"show x", b"x = 2147483647\n", place=2),
+            ran(b"inc x 2147483647"), ran(b"inc x", BAD_VALUE, place=1),
+            printed(b"show x", b"x = 2147483647\n", place=2),
             ran(b"inc y -2147483648", place=3), ran(b"inc y -1", BAD_VALUE, place=4),
             printed(b"show y", b"y = -2147483648\n", place=5), ran(b"inc san-drive", place=6),
             printed(b"show san-drive", b"san-drive = 1\n", place=7),
@@ -320,12 +330,15 @@ def order() -> dict[str, Row]:
     filled += ran(b"set 127a 127", MANY_SETTINGS, 4)
     return {
         "refusals_in_their_order": refusals(
-            [b"set x:int8 5"], (b"foo ${x+}", BAD_NAME), (b"${} --x", BAD_NAME), (b"foo --x", UNKNOWN), (b"set", USAGE),
+            [b"set x:int8 5"], (b"foo ${x+}", BAD_NAME), (b"${} --x", BAD_NAME), (b"foo --x", UNKNOWN),
+            (b"set", USAGE),
             (b"set --x", USAGE), (b"clear", USAGE), (b"clear x+ y", USAGE), (b"show", USAGE), (b"show a b", USAGE),
             (b"show --x", USAGE), (b"inc", USAGE), (b"inc x 1 2", USAGE), (b"inc net9/x 2147483648", USAGE),
             (b"inc x+ 1.5", USAGE), (b"inc x -2147483649", USAGE), (b"inc x 01", USAGE), (b"isset a b", USAGE),
-            (b"isset --a", USAGE), (b"iseq", USAGE), (b"iseq a", USAGE), (b"iseq a b c", USAGE), (b"iseq --a --a", USAGE),
-            (b"iseq a --a", FALSE), (b"sleep", USAGE), (b"sleep 1 1", USAGE), (b"sleep -1", USAGE), (b"sleep 4000001", USAGE),
+            (b"isset --a", USAGE), (b"iseq", USAGE), (b"iseq a", USAGE), (b"iseq a b c", USAGE),
+            (b"iseq --a --a", USAGE),
+            (b"iseq a --a", FALSE), (b"sleep", USAGE), (b"sleep 1 1", USAGE), (b"sleep -1", USAGE),
+            (b"sleep 4000001", USAGE),
             (b"sleep 01", USAGE), (b"sleep 0.5", USAGE), (b"sleep --1", USAGE), (b"set x+:int8 300", BAD_NAME),
             (b"set net9/x:int8 300", BAD_NAME), (b"set x:int64 5", BAD_NAME), (b"set x:int8 300", BAD_VALUE),
             (b"set net9/x", BAD_NAME), (b"set a.b", BAD_NAME), (b"clear x:y", BAD_NAME), (b"clear net9/x", BAD_NAME),
@@ -335,7 +348,8 @@ def order() -> dict[str, Row]:
             (b"imgfetch", USAGE), (b"imgfetch foo", BAD_URI), (b"exit 256", USAGE),
         ),
         "values_of_1024": row(
-            b"set x " + BIG + b" ; set x:hexraw " + b"0a" * 1_024 + b" ; iseq ${x:string} a ||\n", ran(b"set x " + BIG),
+            b"set x " + BIG + b" ; set x:hexraw " + b"0a" * 1_024 + b" ; iseq ${x:string} a ||\n",
+            ran(b"set x " + BIG),
             ran(b"set x:hexraw " + b"0a" * 1_024, place=1),
             [Command(1, 2, 2, True, (b"iseq", b"\n" * 1_024, b"a")), Result(FALSE)],
         ),
@@ -348,8 +362,10 @@ def order() -> dict[str, Row]:
         ),
         "a_long_value_before_too_many": row(
             fill + b"set k " + long + b" || set k a ||\nclear 5a ; inc j && show j ; set 5a x\n",
-            filled, ran(b"set k " + long, LONG_VALUE, 5), ran(b"set k a", MANY_SETTINGS, 5, 1), ran(b"clear 5a", line=6),
-            ran(b"inc j", line=6, place=1), printed(b"show j", b"j = 1\n", 6, 2), ran(b"set 5a x", MANY_SETTINGS, 6, 3),
+            filled, ran(b"set k " + long, LONG_VALUE, 5), ran(b"set k a", MANY_SETTINGS, 5, 1),
+            ran(b"clear 5a", line=6),
+            ran(b"inc j", line=6, place=1), printed(b"show j", b"j = 1\n", 6, 2),
+            ran(b"set 5a x", MANY_SETTINGS, 6, 3),
             cause=MANY_SETTINGS,
         ),
     }  # fmt: skip
@@ -364,7 +380,8 @@ def all_kinds() -> dict[str, Row]:
         lines = [b"set x:%b %b && echo ${x} %b || show x" % (kind, value, shown) for value in values]
         scripts[f"kind_{kind.decode()}"] = b"\n".join(lines)
     for number, name in enumerate([*NAMES, *ABSENT, *WRONG_NAMES]):
-        uses = [b"show %b", b"echo ${%b} ${%b:hex}", b"set %b 10.0.0.9", b"set %b 3", b"set %b a b", b"show %b", b"inc %b",
+        uses = [b"show %b", b"echo ${%b} ${%b:hex}", b"set %b 10.0.0.9", b"set %b 3", b"set %b a b", b"show %b",
+                b"inc %b",
                 b"show %b:uint8", b"isset ${%b}", b"clear %b", b"show %b"]
         lines = [use.replace(b"%b", name) + b" ||" for use in uses]
         scripts[f"name_{number}"] = b"\n".join(lines)

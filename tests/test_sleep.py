@@ -52,10 +52,12 @@ def sleeping() -> dict[str, Row]:
         "sleep_0": row(b"sleep 0 ; sleep 0x0 ; echo a", ran(b"sleep 0"), ran(b"sleep 0x0", place=1),
                        ran(b"echo a", place=2)),
         "sleep_over_frames": sleeps(
-            b"sleep 1", (asked, replied), (Tick(999), []), (asked, replied), (Tick(60_000), [*over, *ENDED]), first=begins
+            b"sleep 1", (asked, replied), (Tick(999), []), (asked, replied), (Tick(60_000), [*over, *ENDED]),
+            first=begins
         ),
         "two_sleeps": sleeps(
-            two, (Tick(5_000), [*over, *second]), (Tick(1_999), []), (Tick(1), [*over, *ran(b"echo a", place=2), *ENDED]),
+            two, (Tick(5_000), [*over, *second]), (Tick(1_999), []),
+            (Tick(1), [*over, *ran(b"echo a", place=2), *ENDED]),
             first=begins,
         ),
         "sleep_and_power_off": sleeps(b"sleep 1 || echo a", (Tick(1), []), (Off(), [UNFINISHED]), first=begins),

@@ -7,7 +7,7 @@ from typing import NamedTuple
 
 from shared.causes import OK, Cause, Code
 from shared.records import Command
-from shared.script_text import JOINS, Line, lines_of, words_of
+from shared.script_text import JOINS, lines_of, words_of
 from shared.texts import word
 
 MOST_SCRIPT = 1_048_576
