@@ -14,9 +14,9 @@ from typing import Iterator
 HERE = Path(__file__).resolve().parent
 sys.path.insert(0, str(HERE.parent / "tools"))
 
-from shared.records import Received, Record, Tick, spell  # noqa: E402
+from shared.records import Received, Record, Tick  # noqa: E402
 from shared.wire import arp_reply, padded, tftp_data, tftp_error  # noqa: E402
-from stations import CLIENT, SERVER, answer, start  # noqa: E402
+from stations import CLIENT, SERVER, answer, start, write  # noqa: E402
 
 NOT_FOUND = 1
 KERNEL = b"\x7fELF\x02\x01\x01" + b"a kernel that came late"
@@ -34,12 +34,5 @@ def records(script: bytes) -> Iterator[Record]:
     yield answer(1, tftp_data(1, KERNEL))  # the last block: acknowledges 1, hands off
 
 
-def main() -> None:
-    recording = HERE / "settings.rec"
-    script = (HERE / "settings.ipxe").read_bytes()
-    recording.write_bytes(b"".join(spell(record) for record in records(script)))
-    print(f"wrote {recording.name}, with a kernel of {len(KERNEL)} bytes")
-
-
 if __name__ == "__main__":
-    main()
+    write("settings", records)

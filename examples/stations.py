@@ -8,12 +8,13 @@ from __future__ import annotations
 import sys
 from ipaddress import IPv4Address
 from pathlib import Path
+from typing import Callable, Iterable
 from uuid import UUID
 
 HERE = Path(__file__).resolve().parent
 sys.path.insert(0, str(HERE.parent / "tools"))
 
-from shared.records import Received, Start  # noqa: E402
+from shared.records import Received, Record, Start, spell  # noqa: E402
 from shared.wire import Station, padded, udp_frame  # noqa: E402
 
 CLIENT = Station(bytes.fromhex("525400000001"), IPv4Address("10.0.0.2"))
@@ -43,3 +44,10 @@ def start(script: bytes) -> Start:
         dns=IPv4Address(0),
         script=script,
     )
+
+
+def write(name: str, records: Callable[[bytes], Iterable[Record]]) -> None:
+    """Writes the recording of the script of this name, both beside this file."""
+    script = (HERE / f"{name}.ipxe").read_bytes()
+    (HERE / f"{name}.rec").write_bytes(b"".join(spell(record) for record in records(script)))
+    print(f"wrote {name}.rec")
