@@ -42,7 +42,7 @@ pub record IsSteady {N : Type 0} (rank_of : N → ℕ) (l : Ledger) (nodes : Lis
 
 -- how far a calm call has to go: by open ports, then by rank, then by the place in the code
 abbrev pub distance : ℕ → ℕ → ℕ → ℕ
-distance open_ports r place = 4096 * open_ports + 16 * r + place
+distance open_ports r place = 8192 * open_ports + 32 * r + place
 
 -- both ends of a link are closed, and the peer's object is entered
 pub record HalfCloses (old new : Ledger) (at peer : Port) : Type 0 where

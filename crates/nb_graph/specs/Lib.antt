@@ -13,6 +13,7 @@ pub mod Order
 pub mod Laws
 pub mod Counted
 -- of the inside
+pub mod Asked
 pub mod Calm
 pub mod Ending
 pub mod Lively

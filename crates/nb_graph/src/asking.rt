@@ -3,7 +3,7 @@ ghost use Rattle.std.specs.Prelude.{◌≡◌, ◌+◌, ◌<◌, ◌++◌, ◌�
 ghost use Rattle.std.specs.Prelude.{◌-◌, ◌≢◌, ℕ, Option};
 ghost use Rattle.std.specs.Vec.{vec_capacity};
 ghost use Rattle.nb_ledger.specs.GraphRun.{IsOpen};
-ghost use Rattle.nb_ledger.specs.Ledger.{port, object_lives, rank};
+ghost use Rattle.nb_ledger.specs.Ledger.{place, port, object_lives, rank};
 ghost use Rattle.nb_graph.specs.Whole.{port_at, Harvests, IsManned};
 ghost use Rattle.nb_graph.specs.Flows.{asked_sent, by_no_slot, Asking, asked_taken, asked_whole};
 ghost use Rattle.nb_graph.specs.Trace.{down, lent, said, nature, silence, up, time};
@@ -61,12 +61,13 @@ impl<N: Node> Inner<N> {
     pub(crate) fn ask_down(
         &mut self,
         id: ObjId,
-        key: usize,
+        index: usize,
         msg: &Msg<'_>,
         now: u64,
         fx: &mut Fx<N, N::Load>,
     ) -> bool
         requires nothing { IsNothing fx.old }
+        requires place { index ≡ place self.old.book id.0 }
         requires lives { object_lives self.old.book id.0 ≡ true }
         requires manned { IsManned N.rank_of self.old.book self.old.nodes.items
             (vec_capacity self.old.nodes) }
@@ -85,8 +86,7 @@ impl<N: Node> Inner<N> {
         ensures manned { IsManned N.rank_of self.new.book self.new.nodes.items
             (vec_capacity self.new.nodes) }
     {
-        let place = self.book.place_at(id, key);
-        match self.nodes[place].on_down(msg, now, fx) {
+        match self.nodes[index].on_down(msg, now, fx) {
             Ok(()) => true,
             Err(_) => false,
         }
@@ -98,12 +98,13 @@ impl<N: Node> Inner<N> {
     pub(crate) fn ask_up(
         &mut self,
         at: Port,
-        key: usize,
+        index: usize,
         msg: &Msg<'_>,
         now: u64,
         fx: &mut Fx<N, N::Load>,
     ) -> bool
         requires nothing { IsNothing fx.old }
+        requires place { index ≡ place self.old.book at.obj.0 }
         requires lives { object_lives self.old.book at.obj.0 ≡ true }
         requires open { IsOpen (port self.old.book at.obj.0 at.slot) }
         requires manned { IsManned N.rank_of self.old.book self.old.nodes.items
@@ -128,8 +129,7 @@ impl<N: Node> Inner<N> {
         ensures manned { IsManned N.rank_of self.new.book self.new.nodes.items
             (vec_capacity self.new.nodes) }
     {
-        let place = self.book.place_at(at.obj, key);
-        match self.nodes[place].on_up(at.slot, msg, now, fx) {
+        match self.nodes[index].on_up(at.slot, msg, now, fx) {
             Ok(()) => true,
             Err(_) => false,
         }

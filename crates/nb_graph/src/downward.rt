@@ -2,7 +2,7 @@
 ghost use Rattle.std.specs.Prelude.{◌≡◌, ◌+◌, ◌<◌, ◌≤◌, ◌++◌, ◌∷◌, true, length, IfSome, Some};
 ghost use Rattle.std.specs.Vec.{vec_capacity};
 ghost use Rattle.nb_ledger.specs.GraphRun.{IsOpen};
-ghost use Rattle.nb_ledger.specs.Ledger.{busy, port};
+ghost use Rattle.nb_ledger.specs.Ledger.{busy, place, port};
 ghost use Rattle.nb_graph.specs.Whole.{port_at};
 ghost use Rattle.nb_graph.specs.Accounts.{few_bytes};
 ghost use Rattle.nb_graph.specs.Flows.{Downs, Emitting, Following, Giving, Passing, asked_left};
@@ -17,23 +17,25 @@ ghost use Rattle.nb_graph.specs.Effects.{MayAskBelow, MayAskDown};
 ghost use Rattle.nb_graph.specs.Effects.{AreDowns, IsDown};
 
 use crate::inner::Inner;
-use crate::message::message_of;
-use crate::{Emit, Few, Fx, Node};
+use crate::message::bytes_of;
+use crate::{Asked, Emit, Few, Fx, Node};
 use nb_ledger::{GraphEvent, Msg, ObjId, Outside, Port, PortState, Way};
 
 impl<N: Node> Inner<N> {
-    /// A message enters an object from above. Here and below `key` is the key of the object in the
-    /// book.
+    /// A message enters an object from above, which stands at this place of the book. Below `key` is
+    /// its key there.
+    #[inline(always)]
     #[cycle(calm)]
     pub(crate) fn enter_down<O: Outside>(
         &mut self,
         at: Port,
-        key: usize,
+        index: usize,
         msg: &Msg<'_>,
         now: u64,
         out: &mut O,
     )
         requires slot { at.slot ≡ 0 }
+        requires place { index ≡ place self.old.book at.obj.0 }
         requires open { IsOpen (port self.old.book at.obj.0 at.slot) }
         requires steady { IsSteady N.rank_of self.old.book self.old.nodes.items
             (vec_capacity self.old.nodes) }
@@ -48,11 +50,78 @@ impl<N: Node> Inner<N> {
         ensures steady { IsSteady N.rank_of self.new.book self.new.nodes.items
             (vec_capacity self.new.nodes) }
     {
-        let was = self.book.enter(at, key, Way::Down, out);
+        match self.spare.pop() {
+            Some(mut fx) => {
+                self.enter_down_by(at, index, msg, &mut fx, now, out);
+                self.keep(fx);
+            }
+            None => self.enter_down_anew(at, index, msg, now, out),
+        }
+    }
+
+    /// The same where all effects that are kept run.
+    #[inline(never)]
+    #[cycle(calm)]
+    fn enter_down_anew<O: Outside>(
+        &mut self,
+        at: Port,
+        index: usize,
+        msg: &Msg<'_>,
+        now: u64,
+        out: &mut O,
+    )
+        requires slot { at.slot ≡ 0 }
+        requires place { index ≡ place self.old.book at.obj.0 }
+        requires open { IsOpen (port self.old.book at.obj.0 at.slot) }
+        requires steady { IsSteady N.rank_of self.old.book self.old.nodes.items
+            (vec_capacity self.old.nodes) }
+        ensures lives { (k : CalmFor N.stands (nature N.kind_of N.Load.first N.Load.second) now
+            self.old.book self.new.book self.old.nodes.items self.new.nodes.items
+            (Same (busy self.old.book)) (Giving self.old.book at (said msg.now).bytes)
+            (λ st. Gives at (said msg.now) ∷ st) (O.events out.old) (O.events out.new))
+            × Hands (Entered at way.Down) at.obj.0 (λ done fx. down (said msg.now) now done fx)
+            k.lives.deeds }
+        ensures starts { Starts self.old.book self.new.book (O.events out.old) (O.events out.new)
+            (Entered at way.Down) }
+        ensures steady { IsSteady N.rank_of self.new.book self.new.nodes.items
+            (vec_capacity self.new.nodes) }
+    {
         let mut fx = Fx::none();
-        let done = self.ask_down(at.obj, key, msg, now, &mut fx);
-        self.after_down(at.obj, key, msg, done, &mut fx, now, out);
-        self.leave(at, key, was, out);
+        self.enter_down_by(at, index, msg, &mut fx, now, out);
+    }
+
+    /// The same with these effects, whatever they are.
+    #[cycle(calm)]
+    fn enter_down_by<O: Outside>(
+        &mut self,
+        at: Port,
+        index: usize,
+        msg: &Msg<'_>,
+        fx: &mut Fx<N, N::Load>,
+        now: u64,
+        out: &mut O,
+    )
+        requires slot { at.slot ≡ 0 }
+        requires place { index ≡ place self.old.book at.obj.0 }
+        requires open { IsOpen (port self.old.book at.obj.0 at.slot) }
+        requires steady { IsSteady N.rank_of self.old.book self.old.nodes.items
+            (vec_capacity self.old.nodes) }
+        ensures lives { (k : CalmFor N.stands (nature N.kind_of N.Load.first N.Load.second) now
+            self.old.book self.new.book self.old.nodes.items self.new.nodes.items
+            (Same (busy self.old.book)) (Giving self.old.book at (said msg.now).bytes)
+            (λ st. Gives at (said msg.now) ∷ st) (O.events out.old) (O.events out.new))
+            × Hands (Entered at way.Down) at.obj.0 (λ done fx. down (said msg.now) now done fx)
+            k.lives.deeds }
+        ensures starts { Starts self.old.book self.new.book (O.events out.old) (O.events out.new)
+            (Entered at way.Down) }
+        ensures steady { IsSteady N.rank_of self.new.book self.new.nodes.items
+            (vec_capacity self.new.nodes) }
+    {
+        let was = self.book.enter_in(at, index, Way::Down, out);
+        fx.empty();
+        let done = self.ask_down(at.obj, index, msg, now, fx);
+        self.after_down(at.obj, index, msg, done, fx, now, out);
+        self.leave(at, index, was, out);
     }
 
     #[cycle(calm)]
@@ -158,7 +227,7 @@ impl<N: Node> Inner<N> {
         id: ObjId,
         key: usize,
         msg: &Msg<'_>,
-        emit: &mut Option<Emit<N::Load>>,
+        emit: &mut Asked<Emit<N::Load>>,
         now: u64,
         out: &mut O,
     )
@@ -178,9 +247,8 @@ impl<N: Node> Inner<N> {
         ensures steady { IsSteady N.rank_of self.new.book self.new.nodes.items
             (vec_capacity self.new.nodes) }
     {
-        match emit {
-            Some(emit) => self.send_down(id, key, msg, emit, now, out),
-            None => {}
+        if emit.is {
+            self.send_down(id, key, msg, &mut emit.what, now, out);
         }
     }
 
@@ -215,7 +283,15 @@ impl<N: Node> Inner<N> {
             obj: id,
             slot: emit.slot,
         };
-        let part = message_of::<N>(emit, msg.rec, msg.first, msg.second);
+        let (first, second) = bytes_of::<N>(emit, msg.first, msg.second);
+        let part = Msg {
+            tag: emit.tag,
+            rec: msg.rec,
+            a: emit.a,
+            b: emit.b,
+            first,
+            second,
+        };
         self.pass_down(at, key, &part, now, out);
         self.take_load(id, key, &mut emit.load);
     }
@@ -238,7 +314,7 @@ impl<N: Node> Inner<N> {
         match self.book.port_at(at, key) {
             PortState::Open => out.send(at, msg),
             PortState::Linked(peer) => {
-                let other = self.book.key(peer.obj);
+                let other = self.book.seek(peer.obj);
                 self.enter_down(peer, other, msg, now, out);
             }
             PortState::Leaving(_) => out.event(&GraphEvent::Dropped(at).spelled()),

@@ -1,5 +1,7 @@
+ghost use Rattle.std.specs.Prelude.{◌≡◌, None};
 ghost use Rattle.nb_graph.specs.Effects.{IsNothing};
 
+use crate::Asked;
 use arrayvec::ArrayVec;
 use nb_terms::Cause;
 
@@ -28,8 +30,23 @@ pub struct Make<N> {
 /// At most two; `second` is None where `first` is.
 #[derive(Drop)]
 pub struct Few<E> {
-    pub first: Option<E>,
-    pub second: Option<E>,
+    pub first: Asked<E>,
+    pub second: Asked<E>,
+}
+
+impl<L> Emit<L> {
+    /// A message that isn't asked for.
+    fn blank() -> Emit<L> {
+        Emit {
+            slot: 0,
+            tag: 0,
+            a: 0,
+            b: 0,
+            from: 0,
+            to: 0,
+            load: None,
+        }
+    }
 }
 
 /// What an entry asks for. It runs in the order makes, downs, ups, closes. `took` says how many
@@ -52,15 +69,35 @@ impl<N, L> Fx<N, L> {
         Fx {
             makes: None,
             downs: Few {
-                first: None,
-                second: None,
+                first: Asked::none(Emit::blank()),
+                second: Asked::none(Emit::blank()),
             },
             ups: Few {
-                first: None,
-                second: None,
+                first: Asked::none(Emit::blank()),
+                second: Asked::none(Emit::blank()),
             },
             closes: ArrayVec::new(),
             took: 0,
         }
+    }
+}
+
+impl<N: Drop, L: Drop> Fx<N, L> {
+    /// Asks for nothing any more. Where nothing is asked for that is all that is read.
+    #[inline(always)]
+    pub(crate) fn empty(&mut self)
+        ensures { IsNothing self.new }
+    {
+        if self.makes.is_some() {
+            self.makes = None;
+        }
+        self.downs.first.clear();
+        self.downs.second.clear();
+        self.ups.first.clear();
+        self.ups.second.clear();
+        if !self.closes.is_empty() {
+            self.closes.clear();
+        }
+        self.took = 0;
     }
 }

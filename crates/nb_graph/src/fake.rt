@@ -139,9 +139,9 @@ impl Node for Fake {
             Deed::Take => {}
             Deed::TakeAtMost(most) => fx.took = fx.took.min(u32::from(most.max(1))),
             Deed::Fail => return Err(NoMemory),
-            Deed::PassUp => fx.ups.first = Some(pass_on(msg.tag, fx.took)),
+            Deed::PassUp => fx.ups.first.put(pass_on(msg.tag, fx.took)),
             Deed::PassUpAndClose(slot) => {
-                fx.ups.first = Some(pass_on(msg.tag, fx.took));
+                fx.ups.first.put(pass_on(msg.tag, fx.took));
                 fx.closes.push((slot.min(3), WHY));
             }
             Deed::Close(slot) => fx.closes.push((slot.min(3), WHY)),
@@ -176,7 +176,7 @@ impl Node for Fake {
                 fx.closes.push((1, WHY));
             }
             Deed::LendDown => {
-                fx.downs.first = Some(Emit {
+                fx.downs.first.put(Emit {
                     slot: 2,
                     tag: 0,
                     a: 0,

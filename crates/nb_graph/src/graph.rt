@@ -17,7 +17,7 @@ ghost use Rattle.nb_graph.specs.Whole.{Harvests, IsMade, KeepsRanks, OnlyDrops, 
 ghost use Rattle.nb_graph.specs.Whole.{StaysSame};
 
 use crate::Node;
-use crate::inner::Inner;
+use crate::inner::{Inner, spare_effects};
 use nb_ledger::{Book, GraphEvent, Msg, ObjId, Outside, Port};
 use nb_terms::{Cause, NoMemory};
 use std::alloc::Global;
@@ -68,8 +68,9 @@ impl<N: Node> Graph<N> {
     {
         let book = Book::new(alloc, cap)?;
         let nodes = Vec::with_capacity(alloc, cap)?;
+        let spare = spare_effects(alloc)?;
         Ok(Graph {
-            inner: Inner { book, nodes },
+            inner: Inner { book, nodes, spare },
         })
     }
 
@@ -215,9 +216,9 @@ impl<N: Node> Graph<N> {
             now (Offers to (said msg.now) ∷ []) self.old self.new (O.events out.old)
             (O.events out.new) }
     {
-        let key = self.inner.book.key(to.obj);
-        if self.inner.book.is_free_at(to, key) {
-            self.inner.enter_down(to, key, msg, now, out);
+        let place = self.inner.book.seek(to.obj);
+        if self.inner.book.is_free_in(to, place) {
+            self.inner.enter_down(to, place, msg, now, out);
             Reach::Entered
         } else {
             out.event(&GraphEvent::Dropped(to).spelled());
@@ -238,9 +239,9 @@ impl<N: Node> Graph<N> {
             (O.events out.new) }
     {
         let _length = (msg.first.len(), msg.second.len());
-        let key = self.inner.book.key(to.obj);
-        if self.inner.book.is_free_at(to, key) {
-            self.inner.enter_up(to, key, msg, now, out);
+        let place = self.inner.book.seek(to.obj);
+        if self.inner.book.is_free_in(to, place) {
+            self.inner.enter_up(to, place, msg, now, out);
             Reach::Entered
         } else {
             out.event(&GraphEvent::Dropped(to).spelled());

@@ -19,14 +19,30 @@ ghost use Rattle.nb_graph.specs.Whole.{IsManned};
 ghost use Rattle.std.specs.Option.{option_copied};
 ghost use Rattle.std.specs.Prelude.{slice_get};
 
-use crate::Node;
+use crate::{Fx, Node};
 use nb_ledger::{Book, ObjId, Outside};
+use nb_terms::NoMemory;
+use std::alloc::Global;
 
 /// The book and the nodes of its objects, in the same order.
 #[derive(Drop)]
 pub(crate) struct Inner<N: Node> {
     pub(crate) book: Book,
     pub(crate) nodes: Vec<N>,
+    /// The effects of entries that don't run. Whoever takes one empties it first.
+    pub(crate) spare: Vec<Box<Fx<N, N::Load>>>,
+}
+
+/// How many entries that run at once have effects that are kept; those beyond make their own.
+const SPARE: usize = 8;
+
+/// The effects that a new graph keeps.
+pub(crate) fn spare_effects<N: Node>(alloc: Global) -> Result<Vec<Box<Fx<N, N::Load>>>, NoMemory> {
+    let mut spare = Vec::with_capacity(alloc, SPARE)?;
+    for _ in 0..SPARE {
+        spare.push(Box::new(alloc, Fx::none())?)?;
+    }
+    Ok(spare)
 }
 
 impl<N: Node> Inner<N> {
@@ -69,6 +85,15 @@ impl<N: Node> Inner<N> {
         let place = self.book.place(id);
         self.book.free(id, out);
         let _node = self.nodes.remove(place);
+    }
+
+    /// Keeps effects that were run for another entry.
+    #[inline(always)]
+    pub(crate) fn keep(&mut self, fx: Box<Fx<N, N::Load>>)
+        ensures book { self.new.book ≡ self.old.book }
+        ensures nodes { self.new.nodes ≡ self.old.nodes }
+    {
+        let _ = self.spare.push(fx);
     }
 
     /// Makes an object with this node.

@@ -6,6 +6,7 @@
 // has them by cases. Begin with `Node`, then `Graph`.
 #![tactic(auto)]
 
+mod asked;
 mod asking;
 mod closing;
 mod downward;
@@ -20,11 +21,13 @@ mod loads;
 mod making;
 mod message;
 mod node;
+mod rising;
 #[cfg(test)]
 mod tests;
 mod timing;
 mod upward;
 
+pub use asked::Asked;
 pub use effects::{Emit, Few, Fx, Make};
 pub use graph::{Graph, NotOpen, Reach, entries_are_the_nodes_own, one_after_another};
 pub use nb_ledger::{GraphEvent, Msg, ObjId, Outside, Port, Way};

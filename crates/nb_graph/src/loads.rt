@@ -11,7 +11,7 @@ ghost use Rattle.nb_graph.specs.Flows.{Still};
 ghost use Rattle.nb_graph.specs.Moves.{Calms};
 
 use crate::inner::Inner;
-use crate::{Emit, Few, Fx, Node};
+use crate::{Asked, Emit, Few, Fx, Node};
 use nb_ledger::ObjId;
 
 impl<N: Node> Inner<N> {
@@ -77,7 +77,7 @@ impl<N: Node> Inner<N> {
         self.take_one(id, key, &mut few.second);
     }
 
-    fn take_one(&mut self, id: ObjId, key: usize, emit: &mut Option<Emit<N::Load>>)
+    fn take_one(&mut self, id: ObjId, key: usize, emit: &mut Asked<Emit<N::Load>>)
         requires lives { object_lives self.old.book id.0 ≡ true }
         requires manned { IsManned N.rank_of self.old.book self.old.nodes.items
             (vec_capacity self.old.nodes) }
@@ -93,9 +93,8 @@ impl<N: Node> Inner<N> {
         ensures manned { IsManned N.rank_of self.new.book self.new.nodes.items
             (vec_capacity self.new.nodes) }
     {
-        match emit {
-            Some(emit) => self.take_load(id, key, &mut emit.load),
-            None => {}
+        if emit.is {
+            self.take_load(id, key, &mut emit.what.load);
         }
     }
 

@@ -1,7 +1,9 @@
 // The messages that entries ask for, and those that they leave.
 ghost use Rattle.std.specs.Prelude.{◌≡◌, ◌+◌, ◌<◌, ◌≤◌, ◌++◌, length, [], ◌-◌};
 ghost use Rattle.nb_graph.specs.Effects.{IsPartOf};
-ghost use Rattle.nb_graph.specs.Trace.{carries, nature, bytes_between, said, said_behind};
+ghost use Rattle.nb_graph.specs.Trace.{carries, nature, bytes_between, left, said, said_behind};
+ghost use Rattle.std.specs.Prelude.{IfSome};
+ghost use Rattle.std.specs.Option.{option_map};
 
 use crate::{Emit, Node, Parts};
 use nb_ledger::Msg;
@@ -16,53 +18,20 @@ pub(crate) const NOTHING: Msg<'static> = Msg {
     second: &[],
 };
 
-/// The message that an entry asks for, of a message of the record `rec` with these bytes.
+/// The bytes of the message that an entry asks for, of a message with these bytes.
 #[inline(always)]
-pub(crate) fn message_of<'m, N: Node>(
+pub(crate) fn bytes_of<'m, N: Node>(
     emit: &'m Emit<N::Load>,
-    rec: u32,
     first: &'m [u8],
     second: &'m [u8],
-) -> Msg<'m>
+) -> (&'m [u8], &'m [u8])
     requires { IsPartOf (length first.now + length second.now) emit.now }
-    ensures { said result ≡ record {
-      tag = emit.now.tag;
-      rec = rec;
-      a = emit.now.a;
-      b = emit.now.b;
-      bytes = carries (nature N.kind_of N.Load.first N.Load.second) (first.now ++ second.now)
-          emit.now.from emit.now.to emit.now.load;
-    } }
+    ensures { result.0.now ++ result.1.now ≡ carries (nature N.kind_of N.Load.first N.Load.second)
+        (first.now ++ second.now) emit.now.from emit.now.to emit.now.load }
 {
     match &emit.load {
-        Some(load) => {
-            let (first, second) = load.parts();
-            with_bytes(emit, rec, first, second)
-        }
-        None => {
-            let (first, second) = cut(first, second, emit.from, emit.to);
-            with_bytes(emit, rec, first, second)
-        }
-    }
-}
-
-/// The same of these bytes.
-fn with_bytes<'m, L>(emit: &Emit<L>, rec: u32, first: &'m [u8], second: &'m [u8]) -> Msg<'m>
-    ensures { said result ≡ record {
-      tag = emit.now.tag;
-      rec = rec;
-      a = emit.now.a;
-      b = emit.now.b;
-      bytes = first.now ++ second.now;
-    } }
-{
-    Msg {
-        tag: emit.tag,
-        rec,
-        a: emit.a,
-        b: emit.b,
-        first,
-        second,
+        Some(load) => load.parts(),
+        None => cut(first, second, emit.from, emit.to),
     }
 }
 
@@ -83,6 +52,28 @@ fn cut<'m>(first: &'m [u8], second: &'m [u8], from: u32, to: u32) -> (&'m [u8], 
     let front = &first[from.min(seam)..to.min(seam)];
     let back = &second[from.saturating_sub(seam)..to.saturating_sub(seam)];
     (front, back)
+}
+
+/// How many bytes a message has.
+#[inline(always)]
+pub(crate) fn length_of(msg: &Msg<'_>) -> usize
+    ensures { result ≡ length msg.now.first.now + length msg.now.second.now }
+{
+    msg.first.len() + msg.second.len()
+}
+
+/// What is left of a message of which so many bytes were taken.
+pub(crate) fn rest_of<'m>(msg: &Msg<'m>, took: usize) -> Option<Msg<'m>>
+    ensures said { option_map said result ≡ left took (said msg.now) }
+    ensures some { IfSome result (λ r. (length r.first.now + length r.second.now + took ≡ length
+        msg.now.first.now + length msg.now.second.now) × (took < length msg.now.first.now + length
+        msg.now.second.now)) }
+{
+    if took < length_of(msg) {
+        Some(behind(msg, took))
+    } else {
+        None
+    }
 }
 
 /// A message without its first `took` bytes.

@@ -99,6 +99,14 @@ impl Book {
         }
     }
 
+    /// Where an object stands, found by its key.
+    #[inline(always)]
+    pub fn seek(&self, id: ObjId) -> usize
+        ensures { result ≡ place self.now id.0 }
+    {
+        self.place_at(id, self.key(id))
+    }
+
     /// Whether it lives.
     #[tactic(auto, unfolding(crate::specs::Ledger::object_lives))]
     pub fn is_live(&self, id: ObjId) -> bool
@@ -123,8 +131,16 @@ impl Book {
         ensures is { option_copied result ≡ found self.now.objects id.0 }
         ensures slots { IfSome result (λ o. length o.now.ports ≡ 4) }
     {
-        let place = self.place_at(id, key);
-        object_at(&self.objects, place)
+        self.find_in(id, self.place_at(id, key))
+    }
+
+    /// The same by its place.
+    fn find_in(&self, id: ObjId, index: usize) -> Option<&Object>
+        requires { index ≡ place self.now id.0 }
+        ensures is { option_copied result ≡ found self.now.objects id.0 }
+        ensures slots { IfSome result (λ o. length o.now.ports ≡ 4) }
+    {
+        object_at(&self.objects, index)
     }
 
     /// The holds of a live object.
@@ -184,6 +200,19 @@ impl Book {
         }
     }
 
+    /// The same by its object's place.
+    #[inline(always)]
+    #[tactic(auto, unfolding(crate::specs::Ledger::port))]
+    pub fn port_in(&self, at: Port, index: usize) -> PortState
+        requires { index ≡ place self.now at.obj.0 }
+        ensures { result ≡ port self.now at.obj.0 at.slot }
+    {
+        match self.find_in(at.obj, index) {
+            Some(object) => object.port(at.slot),
+            None => PortState::Closed,
+        }
+    }
+
     /// Whether a port is open and has no link.
     pub fn is_free(&self, at: Port) -> bool
         ensures { IsTrue result ↔ (port self.now at.obj.0 at.slot ≡ Open) }
@@ -191,8 +220,21 @@ impl Book {
         self.is_free_at(at, self.key(at.obj))
     }
 
-    /// The same by its object's key.
+    /// The same by its object's place.
     #[inline(always)]
+    pub fn is_free_in(&self, at: Port, index: usize) -> bool
+        requires { index ≡ place self.now at.obj.0 }
+        ensures { IsTrue result ↔ (port self.now at.obj.0 at.slot ≡ Open) }
+    {
+        match self.port_in(at, index) {
+            PortState::Open => true,
+            PortState::Linked(_) => false,
+            PortState::Leaving(_) => false,
+            PortState::Closed => false,
+        }
+    }
+
+    /// The same by its object's key.
     pub fn is_free_at(&self, at: Port, key: usize) -> bool
         ensures { IsTrue result ↔ (port self.now at.obj.0 at.slot ≡ Open) }
     {

@@ -13,16 +13,16 @@ impl Book {
         self.objects[place].holds = count;
     }
 
-    /// Sets whether an entry of the object runs; whether one did.
+    /// Sets whether an entry of the object at this place runs; whether one did.
     #[inline(always)]
-    pub(crate) fn set_busy(&mut self, id: ObjId, key: usize, runs: bool) -> bool
-        requires { object_lives self.old id.0 ≡ true }
+    pub(crate) fn set_busy(&mut self, id: ObjId, index: usize, runs: bool) -> bool
+        requires lives { object_lives self.old id.0 ≡ true }
+        requires place { index ≡ place self.old id.0 }
         ensures was { result ≡ busy self.old id.0 }
         ensures sets { SetsBusy self.old self.new id.0 runs }
     {
-        let place = self.place_at(id, key);
-        let was = self.objects[place].busy;
-        self.objects[place].busy = runs;
+        let was = self.objects[index].busy;
+        self.objects[index].busy = runs;
         was
     }
 

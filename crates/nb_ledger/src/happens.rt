@@ -103,7 +103,24 @@ impl Book {
         ensures sets { SetsBusy self.old self.new at.obj.0 true }
         ensures runs { busy self.new at.obj.0 ≡ true }
     {
-        let was = self.set_busy(at.obj, key, true);
+        self.enter_in(at, self.place_at(at.obj, key), by, out)
+    }
+
+    /// The same of the object at this place.
+    #[inline(always)]
+    pub fn enter_in<O: Outside>(&mut self, at: Port, index: usize, by: Way, out: &mut O) -> bool
+        requires lives { object_lives self.old at.obj.0 ≡ true }
+        requires place { index ≡ place self.old at.obj.0 }
+        ensures told { Tells (O.events out.old) (O.events out.new) (Entered at by ∷ []) }
+        ensures given { Given (O.events out.old) (O.events out.new) (notice.event
+            (flat (Entered at by)) ∷ []) }
+        ensures was { result ≡ busy self.old at.obj.0 }
+        ensures step { (st : List OnStack) → IsIdle st → MayEnter (run_state self.old st) at by
+            → Step (run_state self.old st) (Entered at by) (run_state self.new (Running at by ∷ st)) }
+        ensures sets { SetsBusy self.old self.new at.obj.0 true }
+        ensures runs { busy self.new at.obj.0 ≡ true }
+    {
+        let was = self.set_busy(at.obj, index, true);
         out.event(&GraphEvent::Entered(at, by).spelled());
         was
     }
@@ -120,7 +137,8 @@ impl Book {
         ensures sets { SetsBusy self.old self.new at.obj.0 true }
         ensures runs { busy self.new at.obj.0 ≡ true }
     {
-        let was = self.set_busy(at.obj, key, true);
+        let place = self.place_at(at.obj, key);
+        let was = self.set_busy(at.obj, place, true);
         out.event(&GraphEvent::Entered(at, Way::Close).spelled());
         was
     }

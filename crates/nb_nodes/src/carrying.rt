@@ -51,11 +51,12 @@ fn close_at(over: Option<Cause>, fx: &mut Effects)
 
 /// The bytes of the entry's message that go up.
 #[inline(always)]
-fn bytes_up(give: Option<(u32, u32)>) -> Option<Emit<Load>>
-    ensures { result ≡ up_emit give }
+fn ask_up(give: Option<(u32, u32)>, fx: &mut Effects)
+    requires { fx.old.ups.first ≡ None }
+    ensures { fx.new ≡ record fx.old { ups = record fx.old.ups { first = up_emit give } } }
 {
-    match give {
-        Some((from, to)) => Some(Emit {
+    if let Some((from, to)) = give {
+        fx.ups.first.put(Emit {
             slot: ABOVE,
             tag: u8::from(Tag::Bytes),
             a: 0,
@@ -63,8 +64,7 @@ fn bytes_up(give: Option<(u32, u32)>) -> Option<Emit<Load>>
             from,
             to,
             load: None,
-        }),
-        None => None,
+        });
     }
 }
 
@@ -129,10 +129,10 @@ fn send(to_port: u16, acts: Box<Acts>, fx: &mut Effects)
     let datagram = datagram_down(to_port, acts);
     match advance {
         Some(place) => {
-            fx.downs.first = Some(advance_down(place));
-            fx.downs.second = Some(datagram);
+            fx.downs.first.put(advance_down(place));
+            fx.downs.second.put(datagram);
         }
-        None => fx.downs.first = Some(datagram),
+        None => fx.downs.first.put(datagram),
     }
 }
 
@@ -151,8 +151,8 @@ fn ask_down(acts: Box<Acts>, fx: &mut Effects) -> Option<Box<Acts>>
             None
         }
         None => {
-            if let Some(place) = acts.advance {
-                fx.downs.first = Some(advance_down(place));
+            if let Some(grown) = acts.advance {
+                fx.downs.first.put(advance_down(grown));
             }
             Some(acts)
         }
@@ -171,7 +171,7 @@ pub(crate) fn ask(acts: Box<Acts>, fx: &mut Effects) -> Option<Box<Acts>>
     let give = acts.give;
     let over = acts.over;
     let kept = ask_down(acts, fx);
-    fx.ups.first = bytes_up(give);
+    ask_up(give, fx);
     close_at(over, fx);
     kept
 }

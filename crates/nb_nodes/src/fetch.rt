@@ -130,7 +130,7 @@ impl Fetch {
         ensures { AsksHandDown (is_gathering self.now) (said msg.now) fx.new }
     {
         if self.is_gathering() && is_handed_down(msg) {
-            fx.downs.first = Some(Emit {
+            fx.downs.first.put(Emit {
                 slot: BELOW,
                 tag: msg.tag,
                 a: msg.a,

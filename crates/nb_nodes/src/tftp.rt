@@ -255,6 +255,7 @@ impl Tftp {
     }
 
     /// What was lent comes back.
+    #[inline(always)]
     pub(crate) fn regain(&mut self, load: Load)
         ensures { self.new.work ≡ self.old.work }
     {

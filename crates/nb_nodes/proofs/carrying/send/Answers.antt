@@ -1,4 +1,4 @@
-use Rattle.std.proofs.Common.{◌≡◌, Some, subst, sym, arith}
+use Rattle.std.proofs.Common.{◌≡◌, Option, Some, subst, sym, arith}
 use Rattle.nb_graph.specs.declared.effects.Emit.{Emit}
 use Rattle.nb_nodes.specs.declared.load.Load.{Load}
 use Rattle.nb_nodes.specs.Carried.{AsksDown, advance_emit}
@@ -8,6 +8,8 @@ use Rattle.nb_nodes.proofs.carrying.send.Goals as goal
 pub returns-in-Some-clause-asks : goal.returns-in-Some-clause-asks
 returns-in-Some-clause-asks c =
     let grown : c.args.acts.value.advance ≡ Some c.in-Some.place = grind arith in
-    subst (λ (z : Emit Load). AsksDown c.args.acts.value (record { first = Some z; second = Some c.datagram_down-datagram.result })) (sym c.advance_down.ensures)
+    subst (λ (z : Option (Emit Load)). AsksDown c.args.acts.value (record { first = z; second = c.put-in-Some.new.self })) (sym c.put.ensures)
+    (subst (λ (z : Option (Emit Load)). AsksDown c.args.acts.value (record { first = Some c.advance_down.result; second = z })) (sym c.put-in-Some.ensures)
+    (subst (λ (z : Emit Load). AsksDown c.args.acts.value (record { first = Some z; second = Some c.datagram_down-datagram.result })) (sym c.advance_down.ensures)
     (subst (λ (z : Emit Load). AsksDown c.args.acts.value (record { first = Some (advance_emit c.in-Some.place); second = Some z })) (sym c.datagram_down-datagram.ensures)
-    (sends_both c.args.acts c.in-Some.place c.args.to_port c.requires.few c.requires.port grown))
+    (sends_both c.args.acts c.in-Some.place c.args.to_port c.requires.few c.requires.port grown))))

@@ -1,5 +1,5 @@
 use Rattle.nb_ledger.proofs.RunLemmas.{Given-none}
-use Rattle.std.proofs.Common.{refl, sym, subst, ◌∙◌, arith, ap, rules, ◌≡◌, true, append_assoc, [], ◌∷◌, ◌++◌}
+use Rattle.std.proofs.Common.{ℕ, List, refl, sym, subst, ◌∙◌, arith, ap, rules, ◌≡◌, true, Some, None, append_assoc, [], ◌∷◌, ◌++◌}
 use Rattle.std.specs.Vec.{vec_capacity}
 use Rattle.nb_ledger.specs.Ledger.{busy, port, open_count}
 use Rattle.nb_graph.specs.Whole.{IsBookWhole, port_at}
@@ -8,22 +8,24 @@ use Rattle.nb_ledger.specs.declared.port.PortState.TheVariants.{Leaving, Closed}
 use Rattle.nb_ledger.specs.declared.event.Way.TheVariants.{Down}
 use Rattle.nb_ledger.proofs.PortLemmas.{busy-live, open-live}
 use Rattle.nb_graph.proofs.ShrinkLemmas.{ranks_fall}
-use Rattle.nb_graph.proofs.CalmLemmas.{linked-apart, IsWhole-enter}
+use Rattle.nb_graph.proofs.CalmLemmas.{leaving-is, linked-apart, IsWhole-enter}
 use Rattle.nb_graph.proofs.UnplugLemmas.{Starts-link, Starts-entry, Starts-one, Calm-link, Calm-entry, Calm-dropped, Calm-sent, Calm-alone, IsWhole-alone}
 use Rattle.nb_graph.proofs.ShutLemmas.{shut-set, shut-link, shut-all, closes-none, closes-step, shut-still}
 use Rattle.nb_graph.proofs.MannedLemmas.{IsManned-same}
 use Rattle.nb_ledger.specs.declared.event.GraphEvent.TheVariants.{Closed as CloseEvent, Dropped, Entered}
-use Rattle.nb_graph.specs.Trace.{carried, down, in_list, silence, lent, loads, said, nature}
+use Rattle.nb_graph.specs.Trace.{Said, carried, down, in_list, silence, lent, loads, said, nature}
 use Rattle.nb_graph.specs.Deeds.{MustUnplug as Unlinks, Closes, Gives, Sends, all_closes, arrives, closes_of, emit_of, few_of, goes_out, is_shut, no_memory, returns_of, runs_of, said_of}
 use Rattle.nb_graph.proofs.ShutLemmas.{closes_of-none, closes_of-step}
 use Rattle.nb_graph.specs.Lives.{CalmFor, Same, here}
 use Rattle.nb_graph.specs.Scene.{scene_of, shut_of, with_ports}
 use Rattle.nb_graph.specs.Follows.{closes_alone, closes_none, passes, leaves, drops, enters_down}
+use Rattle.nb_ledger.specs.Ledger.{leaves as leaving_to}
 use Rattle.nb_graph.proofs.SceneLemmas.{scene-busy, scene-port}
 use Rattle.nb_ledger.specs.GraphRun.{port_but}
 use Rattle.nb_graph.proofs.WholeLemmas.{but_other}
 use Rattle.nb_graph.proofs.LivesLemmas.{Lives-above, Lives-turn, Lives-weaken}
 use Rattle.nb_graph.specs.Accounts.{account, few_bytes}
+use Rattle.nb_graph.specs.Asked.{asked}
 use Rattle.nb_graph.specs.Flows.{Closing, Passing, asked_left, asked_sent, asked_whole}
 use Rattle.nb_graph.proofs.AccountLemmas.{Calms-idle, Calms-turn, Calms-plain, Mild-same}
 use Rattle.nb_graph.proofs.MildLemmas.{Lives-plain, Mild-busy, Mild-port}
@@ -60,6 +62,18 @@ pub close_link-ask_closed-requires-clause-lives : goal.close_link-ask_closed-req
 close_link-ask_closed-requires-clause-lives g t c =
     busy-live _ _ c.close_both-was.ensures.runs
 
+pub close_link-unplug-requires-clause-first : goal.close_link-unplug-requires-clause-first
+close_link-unplug-requires-clause-first g t c =
+    let gone = half-gone c.requires.steady.whole.links c.requires.linked c.close_both-was.ensures.half in
+    let k = rw c.ask_closed.ensures.book at c.calm_effects.ensures.lives in
+    leaving-is _ c.args.peer (k.calm.shrinks.same_leaves c.args.at.obj.0 c.args.at.slot ∙ ap leaving_to gone)
+
+pub close_link-unplug-requires-clause-other : goal.close_link-unplug-requires-clause-other
+close_link-unplug-requires-clause-other g t c =
+    let left = half-left c.args.self.now.book c.close_both-was.new.self.book c.close_both-was.ensures.half in
+    let k = rw c.ask_closed.ensures.book at c.calm_effects.ensures.lives in
+    leaving-is _ c.args.at (k.calm.shrinks.same_leaves c.args.peer.obj.0 c.args.peer.slot ∙ ap leaving_to left)
+
 pub close_link-unplug-requires-clause-apart : goal.close_link-unplug-requires-clause-apart
 close_link-unplug-requires-clause-apart g t c = linked-apart _ c.args.at c.args.peer c.requires.steady.whole.links c.requires.linked
 
@@ -95,8 +109,8 @@ close_port-returns-in-Leaving-clause-lives g t c = CalmFor-turn _ _ _ _ _ _ (λ 
 pub close_port-returns-in-Closed-clause-lives : goal.close_port-returns-in-Closed-clause-lives
 close_port-returns-in-Closed-clause-lives g t c = CalmFor-turn _ _ _ _ _ _ (λ st. Closes c.args.at c.args.cause.now ∷ st) (is_shut c.args.at) (Given-none _) (λ st ds s k. ([], closes_none c.args.at c.args.cause.now (ap open_count (sym c.in-Closed.ensures)), k)) closing-idle
 
-pub enter_down-enter-was-requires : goal.enter_down-enter-was-requires
-enter_down-enter-was-requires g t c = open-live _ _ _ c.requires.open
+pub enter_down_by-enter_in-was-requires : goal.enter_down_by-enter_in-was-requires
+enter_down_by-enter_in-was-requires g t c = record { lives = open-live _ _ _ c.requires.open; place = c.requires.place }
 
 pub fail-take_back-requires-clause-lives : goal.fail-take_back-requires-clause-lives
 fail-take_back-requires-clause-lives g t c = busy-live _ _ c.requires.runs
@@ -127,8 +141,10 @@ run_closes-returns-in-len1-up-clause-lives g t c =
     let a = c.close_port.ensures.lives in
     CalmFor-opened (λ st. ap (λ z. z ++ st) (closes_of-step c.args.id.0 c.args.closes.now (0, record { code = 0; a = 0; b = 0 }) c.in-len1-up.len_at_least)) (CalmFor-same a c.run_closes.ensures.lives (λ ds p q i j w v h t. let z = Closing-then _ _ a.lives.moved.links a.lives.moved.shuts c.args.id.0 p q j j w v h in (z.0, z.1, λ _. z.2)))
 
-pub run_down-returns-in-None-clause-lives : goal.run_down-returns-in-None-clause-lives
-run_down-returns-in-None-clause-lives g t c = rw c.in-None.is (CalmFor-weaken (Back-none _ _ c.requires.runs) (λ p q x y w v i j. i) (CalmFor-refl _ _ _ _ _ _ (λ p q x y w v i j. i)))
+pub run_down-returns-else-emit-clause-lives : goal.run_down-returns-else-emit-clause-lives
+run_down-returns-else-emit-clause-lives g t c =
+    let e : c.args.emit.now ≡ None = sym c.emit.view_is ∙ ap (λ z. asked z c.emit.inside.what) c.if-emit.false in
+    rw e (CalmFor-weaken (Back-none _ _ c.requires.runs) (λ p q x y w v i j. i) (CalmFor-refl _ _ _ _ _ _ (λ p q x y w v i j. i)))
 
 pub run_downs-returns-clause-lives : goal.run_downs-returns-clause-lives
 run_downs-returns-clause-lives g t c =
@@ -140,20 +156,20 @@ run_downs-returns-clause-lives g t c =
 pub send_down-take_load-requires-clause-lives : goal.send_down-take_load-requires-clause-lives
 send_down-take_load-requires-clause-lives g t c = busy-live _ _ (c.pass_down.ensures.lives.calm.shrinks.same_busy c.args.id.0 ∙ c.requires.runs)
 
-pub enter_down-ask_down-done-requires-clause-lives : goal.enter_down-ask_down-done-requires-clause-lives
-enter_down-ask_down-done-requires-clause-lives g t c = busy-live _ _ c.enter-was.ensures.runs
+pub enter_down_by-ask_down-done-requires-clause-lives : goal.enter_down_by-ask_down-done-requires-clause-lives
+enter_down_by-ask_down-done-requires-clause-lives g t c = busy-live _ _ c.enter_in-was.ensures.runs
 
-pub enter_down-leave-requires-clause-lives : goal.enter_down-leave-requires-clause-lives
-enter_down-leave-requires-clause-lives g t c =
-    busy-live _ _ (c.after_down.ensures.lives.calm.shrinks.same_busy c.args.at.obj.0 ∙ rw c.ask_down-done.ensures.book c.enter-was.ensures.runs)
+pub enter_down_by-leave-requires-clause-lives : goal.enter_down_by-leave-requires-clause-lives
+enter_down_by-leave-requires-clause-lives g t c =
+    busy-live _ _ (c.after_down.ensures.lives.calm.shrinks.same_busy c.args.at.obj.0 ∙ rw c.ask_down-done.ensures.book c.enter_in-was.ensures.runs)
 
-pub enter_down-returns-clause-lives : goal.enter_down-returns-clause-lives
+pub enter_down_by-returns-clause-lives : goal.enter_down_by-returns-clause-lives
 unfolding Calm-entry
-enter_down-returns-clause-lives g t c =
-    let b = c.enter-was.ensures in
+enter_down_by-returns-clause-lives g t c =
+    let b = c.enter_in-was.ensures in
     let k = rw c.ask_down-done.ensures.book at c.after_down.ensures.lives in
     let e = c.leave.ensures.ends Down (λ e. cc) in
-    let r = Lives-entry _ _ c.args.at.obj.0 (lent c.ask_down-done.new.fx) (λ st. runs_of (nature g.N.Node.kind_of g.N.Load.Parts.first g.N.Load.Parts.second) c.args.at.obj.0 (said c.args.msg.now) c.ask_down-done.result c.ask_down-done.new.fx ++ st) (λ st. Gives c.args.at (said c.args.msg.now) ∷ st) (Entered c.args.at Down) (λ done fx. down (said c.args.msg.now) c.args.now done fx) (λ x n. b.sets.busy_set x ∙ but_other c.args.at.obj.0 true (busy c.args.self.now.book) x n) (Loses-same c.args.self.now.nodes.items b.sets.objects) (scene-busy b.sets) b.given (λ st ds s k. (_, enters_down c.args.at (said c.args.msg.now) c.requires.slot c.requires.open, k)) (rw (c.ask_down-done.ensures.book, sym c.requires.slot) at c.ask_down-done.ensures.lives (g.O.Outside.events c.enter-was.new.out)) k.lives (e.lives c.args.now)
+    let r = Lives-entry _ _ c.args.at.obj.0 (lent c.ask_down-done.new.fx) (λ st. runs_of (nature g.N.Node.kind_of g.N.Load.Parts.first g.N.Load.Parts.second) c.args.at.obj.0 (said c.args.msg.now) c.ask_down-done.result c.ask_down-done.new.fx ++ st) (λ st. Gives c.args.at (said c.args.msg.now) ∷ st) (Entered c.args.at Down) (λ done fx. down (said c.args.msg.now) c.args.now done fx) (λ x n. b.sets.busy_set x ∙ but_other c.args.at.obj.0 true (busy c.args.self.now.book) x n) (Loses-same c.args.self.now.nodes.items b.sets.objects) (scene-busy b.sets) b.given (λ st ds s k. (_, enters_down c.args.at (said c.args.msg.now) c.requires.slot c.requires.open, k)) (rw (c.ask_down-done.ensures.book, sym c.requires.slot) at c.ask_down-done.ensures.lives (g.O.Outside.events c.enter_in-was.new.out)) k.lives (e.lives c.args.now)
     (λ ds es gs x y z. Calms-down c.args.at (asked_sent (nature g.N.Node.kind_of g.N.Load.Parts.first g.N.Load.Parts.second) (said c.args.msg.now).bytes c.ask_down-done.result c.ask_down-done.new.fx) (asked_whole (said c.args.msg.now).bytes c.ask_down-done.result) (asked_left (said c.args.msg.now).bytes c.ask_down-done.result) (said c.args.msg.now).bytes c.requires.slot (rw (b.sets.same_port c.args.at.obj.0 c.args.at.slot) c.requires.open) (IsWhole-enter b.sets c.requires.steady.whole).links (asked-zero (nature g.N.Node.kind_of g.N.Load.Parts.first g.N.Load.Parts.second) _ _ c.ask_down-done.result c.ask_down-done.new.fx c.ask_down-done.ensures.asks) (whole-only _ c.ask_down-done.result) (whole-left _ c.ask_down-done.result) (Calms-enter _ _ _ c.args.at c.requires.slot (Mild-busy b.sets)) x y z) in (
       record {
         calm = Calm-entry b.sets b.told b.step (λ st. (c.requires.slot, c.requires.open)) b.was k.calm e.ends;
@@ -170,13 +186,13 @@ run_downs-run_down-requires-2 g t c =
     let runs = k.same_busy c.args.id.0 ∙ c.requires.runs in
     search rules
 
-pub enter_down-after_down-requires : goal.enter_down-after_down-requires
-enter_down-after_down-requires g t c =
-    let s = c.enter-was.ensures.sets in
+pub enter_down_by-after_down-requires : goal.enter_down_by-after_down-requires
+enter_down_by-after_down-requires g t c =
+    let s = c.enter_in-was.ensures.sets in
     let r = s.objects.same_rank c.args.at.obj.0 in
     let o = s.same_opens in
     let book = c.ask_down-done.ensures.book in
-    let runs : busy c.ask_down-done.new.self.book c.args.at.obj.0 ≡ true = rw book c.enter-was.ensures.runs in
+    let runs : busy c.ask_down-done.new.self.book c.args.at.obj.0 ≡ true = rw book c.enter_in-was.ensures.runs in
     let whole : IsBookWhole c.ask_down-done.new.self.book = rw book (IsWhole-enter s c.requires.steady.whole) in
     let steady : IsSteady g.N.Node.rank_of c.ask_down-done.new.self.book c.ask_down-done.new.self.nodes.items (vec_capacity c.ask_down-done.new.self.nodes) = record { whole = whole; manned = c.ask_down-done.ensures.manned } in
     search rules
@@ -206,8 +222,8 @@ pub run_closes-returns-in-len1-up-clause-shut : goal.run_closes-returns-in-len1-
 run_closes-returns-in-len1-up-clause-shut g t c =
     closes-step c.args.closes.now (0, record { code = 0; a = 0; b = 0 }) (λ k. open_count (port c.run_closes.new.self.book c.args.id.0 k) ≡ 0) c.in-len1-up.len_at_least (shut-still c.args.id.0 _ c.close_port.ensures.shut c.run_closes.ensures.lives.calm.shrinks) c.run_closes.ensures.shut
 
-pub enter_down-ask_down-done-requires-clause-manned : goal.enter_down-ask_down-done-requires-clause-manned
-enter_down-ask_down-done-requires-clause-manned g t c = IsManned-same c.enter-was.ensures.sets.objects c.requires.steady.manned
+pub enter_down_by-ask_down-done-requires-clause-manned : goal.enter_down_by-ask_down-done-requires-clause-manned
+enter_down_by-ask_down-done-requires-clause-manned g t c = IsManned-same c.enter_in-was.ensures.sets.objects c.requires.steady.manned
 
 pub close_port-returns-in-Open-clause-starts : goal.close_port-returns-in-Open-clause-starts
 unfolding Starts-one
@@ -248,14 +264,15 @@ close_all-returns-clause-order g t c = λ q n d ps k.
     let k1 = order-port c.args.cause.now (record { obj = x; slot = 1 }) _ _ n _ _ d q1 b.starts (λ h. let i = b.stays h in (ap (λ v. v.book) i.0, ap g.O.Outside.events i.1)) k2.0 k2.1 in
     order-port c.args.cause.now (record { obj = x; slot = 0 }) _ _ n _ _ d q a.starts (λ h. let i = a.stays h in (ap (λ v. v.book) i.0, ap g.O.Outside.events i.1)) k1.0 k1.1
 
-pub enter_down-returns-clause-starts : goal.enter_down-returns-clause-starts
-enter_down-returns-clause-starts g t c =
-    let b = c.enter-was.ensures in
+pub enter_down_by-returns-clause-starts : goal.enter_down_by-returns-clause-starts
+enter_down_by-returns-clause-starts g t c =
+    let b = c.enter_in-was.ensures in
     Starts-entry b.sets b.told b.step (λ st. (c.requires.slot, c.requires.open)) b.was (rw c.ask_down-done.ensures.book at c.after_down.ensures.lives.calm) (c.leave.ensures.ends Down (λ e. cc)).ends
 
 pub send_down-returns-clause-lives : goal.send_down-returns-clause-lives
 send_down-returns-clause-lives g t c =
-    let e : said c.message_of-part.result ≡ said_of (nature g.N.Node.kind_of g.N.Load.Parts.first g.N.Load.Parts.second) (said c.args.msg.now) c.args.emit.now = c.message_of-part.ensures in
+    let part : Said = record { tag = c.args.emit.now.tag; rec = c.args.msg.now.rec; a = c.args.emit.now.a; b = c.args.emit.now.b; bytes = c.bytes_of.result.0.now ++ c.bytes_of.result.1.now } in
+    let e : part ≡ said_of (nature g.N.Node.kind_of g.N.Load.Parts.first g.N.Load.Parts.second) (said c.args.msg.now) c.args.emit.now = ap (λ (z : List ℕ). record part { bytes = z }) c.bytes_of.ensures in
     CalmFor-regain (in_list c.args.emit.now.load) c.requires.runs (subst (λ m. CalmFor g.N.Node.stands (nature g.N.Node.kind_of g.N.Load.Parts.first g.N.Load.Parts.second) c.args.now c.args.self.now.book c.pass_down.new.self.book c.args.self.now.nodes.items c.pass_down.new.self.nodes.items (Same (busy c.args.self.now.book)) (Passing c.args.self.now.book (port_at c.args.id.0 c.args.emit.now.slot) m.bytes) (λ st. Sends (port_at c.args.id.0 c.args.emit.now.slot) m ∷ st) (g.O.Outside.events c.args.out.now) (g.O.Outside.events c.pass_down.new.out)) e c.pass_down.ensures.lives) c.take_load.ensures.lives c.take_load.ensures.book
 
 pub fail-returns-clause-lives : goal.fail-returns-clause-lives
@@ -276,8 +293,10 @@ pub after_down-returns-else-done-clause-lives : goal.after_down-returns-else-don
 after_down-returns-else-done-clause-lives g t c =
     rw c.if-done.false (CalmFor-weaken (λ x w v i. i) (λ p q x y w v i j. following-fail _ c.args.id.0 _ p q y w v i) c.fail.ensures.lives)
 
-pub run_down-returns-in-Some-clause-lives : goal.run_down-returns-in-Some-clause-lives
-run_down-returns-in-Some-clause-lives g t c = rw c.in-Some.is c.send_down.ensures.lives
+pub run_down-returns-then-emit-clause-lives : goal.run_down-returns-then-emit-clause-lives
+run_down-returns-then-emit-clause-lives g t c =
+    let e : c.args.emit.now ≡ Some c.emit.inside.what = sym c.emit.view_is ∙ ap (λ z. asked z c.emit.inside.what) c.if-emit.true in
+    rw e c.send_down.ensures.lives
 
 pub close_asked-returns-in_default-clause-lives : goal.close_asked-returns-in_default-clause-lives
 close_asked-returns-in_default-clause-lives g t c = CalmFor-opened (λ st. ap (λ z. z ++ st) (closes_of-none c.args.id.0 c.args.closes.now c.in_default.len_below)) (CalmFor-refl _ _ _ _ _ _ closing-idle)
@@ -285,3 +304,6 @@ close_asked-returns-in_default-clause-lives g t c = CalmFor-opened (λ st. ap (�
 pub close_asked-returns-in_default-clause-shut : goal.close_asked-returns-in_default-clause-shut
 close_asked-returns-in_default-clause-shut g t c =
     closes-none c.args.closes.now (λ k. open_count (port c.args.self.now.book c.args.id.0 k) ≡ 0) c.in_default.len_below
+
+pub enter_down-returns-in-Some-clause-lives : goal.enter_down-returns-in-Some-clause-lives
+enter_down-returns-in-Some-clause-lives g t c = rw (c.keep.ensures.book, c.keep.ensures.nodes) c.enter_down_by.ensures.lives

@@ -1,5 +1,5 @@
 use Rattle.nb_ledger.proofs.RunLemmas.{Given-none}
-use Rattle.std.proofs.Common.{◌≡◌, ℕ, List, ◌<◌, ◌≤◌, sym, ◌∙◌, arith, ap, subst, rules, refl, true, None, [], ◌∷◌, append_assoc, ◌++◌}
+use Rattle.std.proofs.Common.{◌≡◌, ℕ, List, ◌<◌, ◌≤◌, sym, ◌∙◌, arith, ap, subst, rules, refl, true, Some, None, [], ◌∷◌, append_assoc, ◌++◌, length-append}
 use Rattle.std.specs.Vec.{vec_capacity}
 use Rattle.nb_ledger.specs.declared.event.Way.TheVariants.{Up}
 use Rattle.nb_ledger.specs.declared.port.PortState.TheVariants.{Linked, Leaving, Closed}
@@ -14,12 +14,14 @@ use Rattle.nb_graph.proofs.MannedLemmas.{IsManned-same}
 use Rattle.nb_graph.proofs.UnplugLemmas.{Calm-dropped, Calm-sent}
 use Rattle.nb_graph.proofs.LivelyLemmas.{Grows-shrinks, Grows-trans, LivelyIn-trans, LivelyIn-calm, LivelyIn-lively, Lively-calm, Lively-entry, Starts-lively}
 use Rattle.nb_ledger.specs.declared.event.GraphEvent.TheVariants.{Dropped, Entered}
-use Rattle.nb_graph.specs.Trace.{carried, in_list, left, lent, loads, said, up, nature}
+use Rattle.nb_graph.specs.Trace.{Said, carried, in_list, left, lent, loads, said, up, nature}
 use Rattle.nb_graph.specs.Deeds.{Gives, Holds, Sends, arrives, closes_of, emit_of, few_of, goes_out, makes_of, said_of}
 use Rattle.nb_graph.specs.Lives.{IsUnder, LivelyFor, Same, here}
 use Rattle.nb_graph.proofs.WholeLemmas.{but_other}
 use Rattle.nb_graph.proofs.LivesLemmas.{Lives-above, Lives-turn, Lives-then, Lives-weaken}
 use Rattle.nb_graph.specs.Whole.{port_at}
+use Rattle.nb_graph.specs.Again.{Delivered}
+use Rattle.nb_graph.specs.Asked.{asked}
 use Rattle.nb_graph.specs.Moves.{none_due}
 use Rattle.nb_graph.specs.Accounts.{few_bytes, fx_bytes}
 use Rattle.nb_graph.specs.Flows.{Delivering, DoesEffects, Leaves, Rising, asked_behind, asked_sent, asked_taken, by_no_slot}
@@ -33,8 +35,8 @@ use Rattle.nb_graph.proofs.RiseLemmas.{Leaves-open, Leaves-rising, Leaves-shut, 
 use Rattle.nb_graph.proofs.OwingLemmas.{AllBack-back, AllBack-then, Back-none}
 use Rattle.nb_graph.proofs.SeatLemmas.{Loses-refl, Loses-same}
 use Rattle.nb_graph.proofs.EntryLemmas.{Calls-then, Lives-entry_up}
-use Rattle.nb_graph.proofs.LivelyForLemmas.{runs-then, LivelyFor-opened, LivelyFor-turned, LivelyInFor-opened, IsBelow-enter, IsBelow-grows, LivelyFor-back, LivelyFor-calm, LivelyFor-refl, LivelyFor-regain, LivelyFor-weaken, LivelyInFor-effects, under-idle}
-use Rattle.nb_graph.proofs.AgainLemmas.{less-then, GoesOn-left, Gives-goes, Gives-then}
+use Rattle.nb_graph.proofs.LivelyForLemmas.{runs-then, LivelyFor-opened, LivelyFor-turned, LivelyInFor-opened, IsBelow-enter, IsBelow-grows, LivelyFor-back, LivelyFor-calm, LivelyFor-refl, LivelyFor-regain, LivelyFor-weaken, LivelyInFor-effects, left-none, left-some, under-idle}
+use Rattle.nb_graph.proofs.AgainLemmas.{less-then, open-then, GoesOn-left, Gives-goes, Gives-then}
 use Rattle.std.proofs.Common.{length, ◌+◌}
 use Rattle.nb_graph.proofs.inner.Inner.+lively.Goals as goal
 
@@ -52,22 +54,22 @@ effects-returns-clause-lives g t c =
     (λ ds es a z. Livens-downs x sent (λ n. few_bytes (nature g.N.Node.kind_of g.N.Load.Parts.first g.N.Load.Parts.second) n bytes c.args.fx.now.downs) (few_bytes (nature g.N.Node.kind_of g.N.Load.Parts.first g.N.Load.Parts.second) 0 bytes c.args.fx.now.ups) (made.lively.grows.same_busy x ∙ c.requires.runs) (λ n o. downs-bytes (nature g.N.Node.kind_of g.N.Load.Parts.first g.N.Load.Parts.second) bytes _ c.args.fx.now asks.ups n o) (ups-bytes (nature g.N.Node.kind_of g.N.Load.Parts.first g.N.Load.Parts.second) bytes _ c.args.fx.now asks.downs) downs.calm.shrinks.same_busy a z)
     (λ ds es a z. Livens-effects x sent made.lively.grows.same_busy a z))
 
-pub enter_up-enter-was-requires : goal.enter_up-enter-was-requires
-enter_up-enter-was-requires g t c = open-live _ _ _ c.requires.open
+pub enter_up_by-enter_in-was-requires : goal.enter_up_by-enter_in-was-requires
+enter_up_by-enter_in-was-requires g t c = record { lives = open-live _ _ _ c.requires.open; place = c.requires.place }
 
-pub enter_up-leave-requires-clause-lives : goal.enter_up-leave-requires-clause-lives
-enter_up-leave-requires-clause-lives g t c =
-    busy-live _ _ (c.deliver.ensures.lives.0.lively.grows.same_busy c.args.at.obj.0 ∙ c.enter-was.ensures.runs)
+pub enter_up_by-leave-requires-clause-lives : goal.enter_up_by-leave-requires-clause-lives
+enter_up_by-leave-requires-clause-lives g t c =
+    busy-live _ _ (c.deliver.ensures.lives.0.lively.grows.same_busy c.args.at.obj.0 ∙ c.enter_in-was.ensures.runs)
 
-pub enter_up-returns-clause-lives : goal.enter_up-returns-clause-lives
+pub enter_up_by-returns-clause-lives : goal.enter_up_by-returns-clause-lives
 unfolding Lively-entry
-enter_up-returns-clause-lives g t c =
-    let b = c.enter-was.ensures in
+enter_up_by-returns-clause-lives g t c =
+    let b = c.enter_in-was.ensures in
     let d = c.deliver.ensures.lives in
     let e = c.leave.ensures.ends Up (λ e. cc) in
     let y = c.args.at.obj.0 in
     let old = c.args.self.now.book in
-    let r = Lives-entry_up (busy old) _ y (λ st. Gives c.args.at (said c.args.msg.now) ∷ st) (Entered c.args.at Up) (λ done fx. up c.args.at.slot (said c.args.msg.now) c.args.now done fx) (λ x n. b.sets.busy_set x ∙ but_other y true (busy old) x n) (under-idle old y c.requires.under) (Loses-same c.args.self.now.nodes.items b.sets.objects) (scene-busy b.sets) b.given (λ st ds s k. (_, enters_up c.args.at (said c.args.msg.now) c.requires.slot.0 c.requires.open, k)) (d.0.lives, d.1) (e.lives c.args.now) (λ ds es z k. Livens-entry {inner = Delivering c.enter-was.new.self c.args.at (said c.args.msg.now).bytes by_no_slot} {outer = Rising old c.args.at (said c.args.msg.now).bytes} y (Entered c.args.at Up) (under-idle old y c.requires.under) (λ x n. b.sets.busy_set x ∙ but_other y true (busy old) x n) (Mild-busy b.sets) (up-notes c.args.at) (λ p q a w v i. rises-delivering old c.enter-was.new.self c.args.at (said c.args.msg.now).bytes (under-idle old y c.requires.under) (λ x n. b.sets.busy_set x ∙ but_other y true (busy old) x n) p q a w v i) z k) in (
+    let r = Lives-entry_up (busy old) _ y (λ st. Gives c.args.at (said c.args.msg.now) ∷ st) (Entered c.args.at Up) (λ done fx. up c.args.at.slot (said c.args.msg.now) c.args.now done fx) (λ x n. b.sets.busy_set x ∙ but_other y true (busy old) x n) (under-idle old y c.requires.under) (Loses-same c.args.self.now.nodes.items b.sets.objects) (scene-busy b.sets) b.given (λ st ds s k. (_, enters_up c.args.at (said c.args.msg.now) c.requires.slot.0 c.requires.open, k)) (d.0.lives, d.1) (e.lives c.args.now) (λ ds es z k. Livens-entry {inner = Delivering c.enter_in-was.new.self c.args.at (said c.args.msg.now).bytes by_no_slot} {outer = Rising old c.args.at (said c.args.msg.now).bytes} y (Entered c.args.at Up) (under-idle old y c.requires.under) (λ x n. b.sets.busy_set x ∙ but_other y true (busy old) x n) (Mild-busy b.sets) (up-notes c.args.at) (λ p q a w v i. rises-delivering old c.enter_in-was.new.self c.args.at (said c.args.msg.now).bytes (under-idle old y c.requires.under) (λ x n. b.sets.busy_set x ∙ but_other y true (busy old) x n) p q a w v i) z k) in (
       record {
         lively = Lively-entry b.sets b.told b.step (λ st. (c.requires.slot.0, c.requires.slot.1, c.requires.open)) b.was d.0.lively e.ends;
         lives = r.0;
@@ -75,18 +77,19 @@ enter_up-returns-clause-lives g t c =
       r.1,
     )
 
-pub enter_up-returns-clause-starts : goal.enter_up-returns-clause-starts
-enter_up-returns-clause-starts g t c =
-    let b = c.enter-was.ensures in
+pub enter_up_by-returns-clause-starts : goal.enter_up_by-returns-clause-starts
+enter_up_by-returns-clause-starts g t c =
+    let b = c.enter_in-was.ensures in
     Starts-lively b.sets b.told b.step (λ st. (c.requires.slot.0, c.requires.slot.1, c.requires.open)) b.was c.deliver.ensures.lives.0.lively (c.leave.ensures.ends Up (λ e. cc)).ends
 
-pub enter_up-deliver-requires : goal.enter_up-deliver-requires
-enter_up-deliver-requires g t c =
-    let s = c.enter-was.ensures.sets in
+pub enter_up_by-deliver-requires : goal.enter_up_by-deliver-requires
+enter_up_by-deliver-requires g t c =
+    let s = c.enter_in-was.ensures.sets in
     let r = s.objects.same_rank c.args.at.obj.0 in
-    let runs = c.enter-was.ensures.runs in
-    let below = IsBelow-enter c.args.self.now.book c.enter-was.new.self c.args.at.obj.0 (λ x n. s.busy_set x ∙ but_other c.args.at.obj.0 true (busy c.args.self.now.book) x n) s.objects.same_rank c.requires.under in
-    let steady : IsSteady g.N.Node.rank_of c.enter-was.new.self c.args.self.now.nodes.items (vec_capacity c.args.self.now.nodes) = record { whole = IsWhole-enter s c.requires.steady.whole; manned = IsManned-same s.objects c.requires.steady.manned } in
+    let runs = c.enter_in-was.ensures.runs in
+    let below = IsBelow-enter c.args.self.now.book c.enter_in-was.new.self c.args.at.obj.0 (λ x n. s.busy_set x ∙ but_other c.args.at.obj.0 true (busy c.args.self.now.book) x n) s.objects.same_rank c.requires.under in
+    let place = c.requires.place ∙ sym (s.objects.same_place c.args.at.obj.0) in
+    let steady : IsSteady g.N.Node.rank_of c.enter_in-was.new.self c.args.self.now.nodes.items (vec_capacity c.args.self.now.nodes) = record { whole = IsWhole-enter s c.requires.steady.whole; manned = IsManned-same s.objects c.requires.steady.manned } in
     search rules
 
 pub effects-run_ups-requires : goal.effects-run_ups-requires
@@ -150,12 +153,15 @@ run_ups-returns-clause-lives g t c =
 pub send_up-take_load-requires-clause-lives : goal.send_up-take_load-requires-clause-lives
 send_up-take_load-requires-clause-lives g t c = busy-live _ _ (c.pass_up.ensures.lives.lively.grows.same_busy c.args.id.0 ∙ c.requires.runs)
 
-pub run_up-returns-in-None-clause-lives : goal.run_up-returns-in-None-clause-lives
-run_up-returns-in-None-clause-lives g t c = rw c.in-None.is (LivelyFor-weaken (Back-none _ _ c.requires.runs) (λ p q x y w v i j. i) (LivelyFor-refl _ _ _ _ _ _ (λ p q x y w v i j. leaves-nothing _ _ p q y w v i)))
+pub run_up-returns-else-emit-clause-lives : goal.run_up-returns-else-emit-clause-lives
+run_up-returns-else-emit-clause-lives g t c =
+    let e : c.args.emit.now ≡ None = sym c.emit.view_is ∙ ap (λ z. asked z c.emit.inside.what) c.if-emit.false in
+    rw e (LivelyFor-weaken (Back-none _ _ c.requires.runs) (λ p q x y w v i j. i) (LivelyFor-refl _ _ _ _ _ _ (λ p q x y w v i j. leaves-nothing _ _ p q y w v i)))
 
 pub send_up-returns-clause-lives : goal.send_up-returns-clause-lives
 send_up-returns-clause-lives g t c =
-    let e : said c.message_of-part.result ≡ said_of (nature g.N.Node.kind_of g.N.Load.Parts.first g.N.Load.Parts.second) (said c.args.msg.now) c.args.emit.now = c.message_of-part.ensures in
+    let part : Said = record { tag = c.args.emit.now.tag; rec = c.args.msg.now.rec; a = c.args.emit.now.a; b = c.args.emit.now.b; bytes = c.bytes_of.result.0.now ++ c.bytes_of.result.1.now } in
+    let e : part ≡ said_of (nature g.N.Node.kind_of g.N.Load.Parts.first g.N.Load.Parts.second) (said c.args.msg.now) c.args.emit.now = ap (λ (z : List ℕ). record part { bytes = z }) c.bytes_of.ensures in
     LivelyFor-regain (in_list c.args.emit.now.load) c.requires.runs (LivelyFor-weaken (λ x w v i. i) (λ p q x y w v i j. leaves-at c.args.self.now.book c.args.id c.args.emit.now.slot _ c.requires.up.0 p q y w v i) (subst (λ m. LivelyFor g.N.Node.stands (nature g.N.Node.kind_of g.N.Load.Parts.first g.N.Load.Parts.second) c.args.now c.args.self.now.book c.pass_up.new.self.book c.args.self.now.nodes.items c.pass_up.new.self.nodes.items (Same (busy c.args.self.now.book)) none_due (Leaves c.args.self.now.book (port_at c.args.id.0 c.args.emit.now.slot) m.bytes) (λ st. Sends (port_at c.args.id.0 c.args.emit.now.slot) m ∷ st) (g.O.Outside.events c.args.out.now) (g.O.Outside.events c.pass_up.new.out)) e c.pass_up.ensures.lives)) c.take_load.ensures.lives c.take_load.ensures.book
 
 pub run_ups-run_up-requires-2 : goal.run_ups-run_up-requires-2
@@ -171,10 +177,11 @@ pub pass_up-returns-in-Linked-clause-lives : goal.pass_up-returns-in-Linked-clau
 pass_up-returns-in-Linked-clause-lives g t c =
     LivelyFor-turned (λ st. Sends c.args.at (said c.args.msg.now) ∷ st) (arrives c.args.at c.in-Linked.peer) (Given-none _) (λ st ds s k. (_, passes c.args.at c.in-Linked.peer (said c.args.msg.now) (sym c.in-Linked.ensures), k)) (LivelyFor-weaken (λ x w v i. i) (λ p q x y w v i j. Leaves-rising c.args.self.now.book c.args.at c.in-Linked.peer _ c.requires.steady.whole.links c.requires.slot (sym c.in-Linked.ensures) p q y x.sent y.taken w v j i) c.enter_up.ensures.lives.0)
 
-pub run_up-returns-in-Some-clause-lives : goal.run_up-returns-in-Some-clause-lives
-run_up-returns-in-Some-clause-lives g t c =
-    let up = rw c.in-Some.is at c.requires.up in
-    rw (c.in-Some.is, emit-there (nature g.N.Node.kind_of g.N.Load.Parts.first g.N.Load.Parts.second) (said c.args.msg.now).bytes 0 c.in-Some.emit (sym up.0)) c.send_up.ensures.lives
+pub run_up-returns-then-emit-clause-lives : goal.run_up-returns-then-emit-clause-lives
+run_up-returns-then-emit-clause-lives g t c =
+    let e : c.args.emit.now ≡ Some c.emit.inside.what = sym c.emit.view_is ∙ ap (λ z. asked z c.emit.inside.what) c.if-emit.true in
+    let up = rw e at c.requires.up in
+    rw (e, emit-there (nature g.N.Node.kind_of g.N.Load.Parts.first g.N.Load.Parts.second) (said c.args.msg.now).bytes 0 c.emit.inside.what (sym up.0)) c.send_up.ensures.lives
 
 pub give-ask_up-done-requires-clause-lives : goal.give-ask_up-done-requires-clause-lives
 give-ask_up-done-requires-clause-lives g t c = busy-live _ _ c.requires.runs
@@ -186,10 +193,11 @@ pub after_up-returns-else-done-clause-goes : goal.after_up-returns-else-done-cla
 unfolding LivelyIn-calm LivelyIn-lively Lively-calm
 after_up-returns-else-done-clause-goes g t c =
     let k = c.fail.ensures.lives in
-    rw c.if-done.false (record {
+    let all = length-append c.args.msg.now.first.now c.args.msg.now.second.now in
+    rw c.if-done.false (rw (left-none c.length_of.result (said c.args.msg.now) (omega arith)) (record {
       lively = LivelyIn-calm k.calm;
       lives = Lives-weaken (AllBack-back _ c.args.at.obj.0 (lent c.args.fx.now)) (λ ds k. Livens-calm (Calms-weaken k (λ p q x y w v i j. rise-fail c.args.self.now.book c.args.at (said c.args.msg.now).bytes p q y w v i))) (Lives-above (λ st. Holds c.args.at Up None ∷ st) k.lives);
-    })
+    }))
 
 pub after_up-returns-then-done-clause-goes : goal.after_up-returns-then-done-clause-goes
 unfolding LivelyIn-trans
@@ -198,32 +206,43 @@ after_up-returns-then-done-clause-goes g t c =
     rw c.if-done.true (GoesOn-left g.N.Node.stands (nature g.N.Node.kind_of g.N.Load.Parts.first g.N.Load.Parts.second) c.args.now c.args.at (said c.args.msg.now) c.args.self.now.book c.effects.new.self.book c.left_of.new.self.book c.args.self.now.nodes.items c.effects.new.self.nodes.items c.left_of.new.self.nodes.items _ _ _ c.args.fx.now.took true c.args.fx.now (λ d nd after k. record {
       lively = LivelyIn-trans e.lively k.lively;
       lives = Lives-then (Lives-above (λ st. Holds c.args.at Up (left c.args.fx.now.took (said c.args.msg.now)) ∷ st) e.lives) k.lives (AllBack-then _ _ c.args.at.obj.0 (lent c.args.fx.now) e.lively.grows.same_busy) (λ ds es x z. Livens-rest c.args.at _ _ c.requires.slot c.requires.runs e.lively.grows.same_busy x z);
-    }) c.left_of.result (c.left_of.ensures.goes c.args.now))
+    }) (left c.left_of.result (said c.args.msg.now)) (c.left_of.ensures.goes c.args.now))
 
 pub give-returns-clause-gives : goal.give-returns-clause-gives
 give-returns-clause-gives g t c =
     let bytes = (said c.args.msg.now).bytes in
     Gives-goes g.N.Node.stands (nature g.N.Node.kind_of g.N.Load.Parts.first g.N.Load.Parts.second) c.args.now c.args.at (said c.args.msg.now) c.args.self.now.book c.args.self.now.book c.after_up.new.self.book c.args.self.now.nodes.items c.ask_up-done.new.self.nodes.items c.after_up.new.self.nodes.items _ _ _ c.ask_up-done.result c.ask_up-done.new.fx (λ d nd after k.
     let r = Calls-then (busy c.args.self.now.book) (busy c.args.self.now.book) c.args.at.obj.0 (lent c.ask_up-done.new.fx) (λ done fx. up c.args.at.slot (said c.args.msg.now) c.args.now done fx) (λ x. refl) (rw c.ask_up-done.ensures.book at c.ask_up-done.ensures.lives (g.O.Outside.events c.args.out.now)) k.lives (λ ds es a z. Livens-ask c.args.at (asked_sent (nature g.N.Node.kind_of g.N.Load.Parts.first g.N.Load.Parts.second) bytes c.ask_up-done.result c.ask_up-done.new.fx) (asked_taken c.args.at.slot bytes c.ask_up-done.result c.ask_up-done.new.fx) (asked_taken c.args.at.slot bytes c.ask_up-done.result c.ask_up-done.new.fx c.args.at.slot) (asked_behind bytes c.ask_up-done.result c.ask_up-done.new.fx) bytes c.requires.slot c.requires.open c.requires.steady.whole.links refl (taken-only c.args.at.slot bytes c.ask_up-done.result c.ask_up-done.new.fx) (taken-all c.args.at.slot bytes c.ask_up-done.result c.ask_up-done.new.fx) a.0 a.1 z) in
-    (record { lively = k.lively; lives = r.0 }, r.1)) c.after_up.result (rw c.ask_up-done.ensures.book at c.after_up.ensures.goes)
+    (record { lively = k.lively; lives = r.0 }, r.1)) (left c.after_up.result (said c.args.msg.now)) (rw c.ask_up-done.ensures.book at c.after_up.ensures.goes)
 
-pub deliver_rest-loop-rest-preserved : goal.deliver_rest-loop-rest-preserved
-deliver_rest-loop-rest-preserved g t c =
+pub deliver_again-loop-rest-preserved : goal.deliver_again-loop-rest-preserved
+deliver_again-loop-rest-preserved g t c =
     let i = c.loop-rest.invariant in
     let gives = rw c.in-Some.is at i.gives in
     let less = rw c.in-Some.is at i.less in
+    let some = c.rest_of-rest.ensures.some in
     record {
-      gives = Gives-then g.N.Node.stands (nature g.N.Node.kind_of g.N.Load.Parts.first g.N.Load.Parts.second) c.args.now c.args.at (said c.args.msg.now) c.args.self.now.book c.loop-rest.self.book c.give-rest.new.self.book c.args.self.now.nodes.items c.loop-rest.self.nodes.items c.give-rest.new.self.nodes.items _ _ _ (said c.in-Some.part) gives c.give-rest.result c.give-rest.ensures.gives;
-      less = less-then c.give-rest.result (length c.in-Some.part.first.now + length c.in-Some.part.second.now) _ less c.give-rest.ensures.less;
-      opened = c.give-rest.ensures.open;
-      grows = Grows-trans i.grows c.give-rest.ensures.grows;
-      steady = c.give-rest.ensures.steady;
+      gives = rw c.rest_of-rest.ensures.said (Gives-then g.N.Node.stands (nature g.N.Node.kind_of g.N.Load.Parts.first g.N.Load.Parts.second) c.args.now c.args.at (said c.args.msg.now) c.args.self.now.book c.loop-rest.self.book c.give-took.new.self.book c.args.self.now.nodes.items c.loop-rest.self.nodes.items c.give-took.new.self.nodes.items _ _ _ (said c.in-Some.part) gives _ c.give-took.ensures.gives);
+      less = less-then c.rest_of-rest.result (length c.in-Some.part.first.now + length c.in-Some.part.second.now) c.give-took.result _ less some;
+      opened = open-then c.rest_of-rest.result (length c.in-Some.part.first.now + length c.in-Some.part.second.now) c.give-took.result some c.give-took.ensures.more;
+      grows = Grows-trans i.grows c.give-took.ensures.grows;
+      steady = c.give-took.ensures.steady;
     }
 
-pub deliver-returns-in-None-clause-lives : goal.deliver-returns-in-None-clause-lives
-deliver-returns-in-None-clause-lives g t c = rw c.in-None.is at c.give.ensures.gives
-
-pub deliver-returns-in-Some-clause-lives : goal.deliver-returns-in-Some-clause-lives
-deliver-returns-in-Some-clause-lives g t c =
-    let gives = rw c.in-Some.is at c.give.ensures.gives in
+pub deliver-returns-then-took-length_of-clause-lives : goal.deliver-returns-then-took-length_of-clause-lives
+deliver-returns-then-took-length_of-clause-lives g t c =
+    let all = length-append c.args.msg.now.first.now c.args.msg.now.second.now in
+    let gives = rw (left-some c.give-took.result (said c.args.msg.now) (omega arith)) at c.give-took.ensures.gives in
     gives _ _ _ c.deliver_rest.ensures.lives
+
+pub deliver-returns-else-took-length_of-clause-lives : goal.deliver-returns-else-took-length_of-clause-lives
+deliver-returns-else-took-length_of-clause-lives g t c =
+    let all = length-append c.args.msg.now.first.now c.args.msg.now.second.now in
+    rw (left-none c.give-took.result (said c.args.msg.now) (omega arith)) at c.give-took.ensures.gives
+
+pub deliver_rest-returns-clause-lives : goal.deliver_rest-returns-clause-lives
+deliver_rest-returns-clause-lives g t c =
+    subst (λ m. Delivered g.N.Node.stands (nature g.N.Node.kind_of g.N.Load.Parts.first g.N.Load.Parts.second) c.args.now c.args.at m c.args.self.now.book c.deliver_again.new.self.book c.args.self.now.nodes.items c.deliver_again.new.self.nodes.items (g.O.Outside.events c.args.out.now) (g.O.Outside.events c.deliver_again.new.out)) c.behind.ensures.bytes c.deliver_again.ensures.lives
+
+pub enter_up-returns-in-Some-clause-lives : goal.enter_up-returns-in-Some-clause-lives
+enter_up-returns-in-Some-clause-lives g t c = rw (c.keep.ensures.book, c.keep.ensures.nodes) c.enter_up_by.ensures.lives

@@ -1,5 +1,5 @@
 use Rattle.std.proofs.Common.{◌+◌, ◌≤◌, length, IfSome}
-use Rattle.std.specs.Option.{option_map_or}
+use Rattle.std.specs.Option.{option_map, option_map_or}
 use Rattle.std.specs.Vec.{vec_capacity}
 use Rattle.nb_ledger.specs.GraphRun.{IsOpen}
 use Rattle.nb_ledger.specs.Ledger.{port}
@@ -12,13 +12,22 @@ use Rattle.nb_graph.specs.Lively.{reach}
 use Rattle.nb_graph.proofs.inner.Inner.+lively.Given as goal
 
 abbrev pub decreases-enter_up : goal.decreases-enter_up
-decreases-enter_up g l = reach (rank l.self.now.book l.at.obj.0) (length l.msg.now.first.now + length l.msg.now.second.now) 10
+decreases-enter_up g l = reach (rank l.self.now.book l.at.obj.0) (length l.msg.now.first.now + length l.msg.now.second.now) 15
+
+abbrev pub decreases-enter_up_anew : goal.decreases-enter_up_anew
+decreases-enter_up_anew g l = reach (rank l.self.now.book l.at.obj.0) (length l.msg.now.first.now + length l.msg.now.second.now) 14
+
+abbrev pub decreases-enter_up_by : goal.decreases-enter_up_by
+decreases-enter_up_by g l = reach (rank l.self.now.book l.at.obj.0) (length l.msg.now.first.now + length l.msg.now.second.now) 13
 
 abbrev pub decreases-deliver : goal.decreases-deliver
-decreases-deliver g l = reach (rank l.self.now.book l.at.obj.0) (length l.msg.now.first.now + length l.msg.now.second.now) 9
+decreases-deliver g l = reach (rank l.self.now.book l.at.obj.0) (length l.msg.now.first.now + length l.msg.now.second.now) 12
 
 abbrev pub decreases-deliver_rest : goal.decreases-deliver_rest
-decreases-deliver_rest g l = reach (rank l.self.now.book l.at.obj.0) (length l.msg.now.first.now + length l.msg.now.second.now) 9
+decreases-deliver_rest g l = reach (rank l.self.now.book l.at.obj.0) (length l.msg.now.first.now + length l.msg.now.second.now) 11
+
+abbrev pub decreases-deliver_again : goal.decreases-deliver_again
+decreases-deliver_again g l = reach (rank l.self.now.book l.at.obj.0) (length l.msg.now.first.now + length l.msg.now.second.now) 10
 
 abbrev pub decreases-after_up : goal.decreases-after_up
 decreases-after_up g l = reach (rank l.self.now.book l.at.obj.0) (length l.msg.now.first.now + length l.msg.now.second.now) 7
@@ -39,14 +48,14 @@ abbrev pub decreases-pass_up : goal.decreases-pass_up
 decreases-pass_up g l = reach (rank l.self.now.book l.at.obj.0) 0 2
 
 abbrev pub decreases-give : goal.decreases-give
-decreases-give g l = reach (rank l.self.now.book l.at.obj.0) (length l.msg.now.first.now + length l.msg.now.second.now) 8
+decreases-give g l = reach (rank l.self.now.book l.at.obj.0) (length l.msg.now.first.now + length l.msg.now.second.now) 9
 
-abbrev pub decreases-deliver_rest-loop-rest : goal.decreases-deliver_rest-loop-rest
-decreases-deliver_rest-loop-rest g l = option_map_or (λ r. 1 + length r.first.now + length r.second.now) l.rest 0
+abbrev pub decreases-deliver_again-loop-rest : goal.decreases-deliver_again-loop-rest
+decreases-deliver_again-loop-rest g l = option_map_or (λ r. 1 + length r.first.now + length r.second.now) l.rest 0
 
-abbrev pub invariant-deliver_rest-loop-rest : goal.invariant-deliver_rest-loop-rest
-invariant-deliver_rest-loop-rest g l = record {
-  gives : Gives g.N.Node.stands (nature g.N.Node.kind_of g.N.Load.Parts.first g.N.Load.Parts.second) l.now l.at (said l.msg) l.initial.self.book l.self.book l.initial.self.nodes.items l.self.nodes.items (g.O.Outside.events l.initial.out) (g.O.Outside.events l.out) l.rest;
+abbrev pub invariant-deliver_again-loop-rest : goal.invariant-deliver_again-loop-rest
+invariant-deliver_again-loop-rest g l = record {
+  gives : Gives g.N.Node.stands (nature g.N.Node.kind_of g.N.Load.Parts.first g.N.Load.Parts.second) l.now l.at (said l.msg) l.initial.self.book l.self.book l.initial.self.nodes.items l.self.nodes.items (g.O.Outside.events l.initial.out) (g.O.Outside.events l.out) (option_map said l.rest);
   less : IfSome l.rest (λ r. length r.first.now + length r.second.now ≤ length l.msg.first.now + length l.msg.second.now);
   opened : IfSome l.rest (λ r. IsOpen (port l.self.book l.at.obj.0 l.at.slot));
   grows : GrowsLively l.initial.self.book l.self.book;

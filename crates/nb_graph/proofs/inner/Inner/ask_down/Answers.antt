@@ -13,21 +13,21 @@ use Rattle.nb_graph.proofs.inner.Inner.ask_down.Goals as goal
 pub index_mut-requires : goal.index_mut-requires
 index_mut-requires g c =
     let h = manned-place c.args.id.0 c.requires.manned c.requires.lives in
-    omega (arith, h, c.place_at-place.ensures, c.args.self.now.nodes.ok.0)
+    omega (arith, h, c.requires.place, c.args.self.now.nodes.ok.0)
 
 pub returns-in-Ok-clause-manned : goal.returns-in-Ok-clause-manned
 returns-in-Ok-clause-manned g c =
     let h = manned-place c.args.id.0 c.requires.manned c.requires.lives in
-    IsManned-node c.place_at-place.result c.on_down.new.self c.index_mut.result.now (omega (arith, h, c.place_at-place.ensures)) c.index_mut.ensures.value c.on_down.ensures.rank c.requires.manned
+    IsManned-node c.args.index c.on_down.new.self c.index_mut.result.now (omega (arith, h, c.requires.place)) c.index_mut.ensures.value c.on_down.ensures.rank c.requires.manned
 
 pub returns-in-Err-clause-manned : goal.returns-in-Err-clause-manned
 returns-in-Err-clause-manned g c =
     let h = manned-place c.args.id.0 c.requires.manned c.requires.lives in
-    IsManned-node c.place_at-place.result c.on_down.new.self c.index_mut.result.now (omega (arith, h, c.place_at-place.ensures)) c.index_mut.ensures.value c.on_down.ensures.rank c.requires.manned
+    IsManned-node c.args.index c.on_down.new.self c.index_mut.result.now (omega (arith, h, c.requires.place)) c.index_mut.ensures.value c.on_down.ensures.rank c.requires.manned
 
 pub returns-in-Ok-clause-lives : goal.returns-in-Ok-clause-lives
 returns-in-Ok-clause-lives g c = λ u.
-    Calls-seat g.N.Node.stands c.args.now _ _ _ c.args.id.0 c.place_at-place.result (λ done fx. down (said c.args.msg.now) c.args.now done fx) true c.on_down.new.fx c.index_mut.result.now c.on_down.new.self c.requires.manned c.requires.lives c.place_at-place.ensures c.index_mut.ensures.value
+    Calls-seat g.N.Node.stands c.args.now _ _ _ c.args.id.0 c.args.index (λ done fx. down (said c.args.msg.now) c.args.now done fx) true c.on_down.new.fx c.index_mut.result.now c.on_down.new.self c.requires.manned c.requires.lives c.requires.place c.index_mut.ensures.value
     (λ w v k. k.0 refl)
     (λ x w v n k. k.1 n)
     (λ t s i. c.in-Ok.ensures.stands t s)
@@ -37,7 +37,7 @@ returns-in-Ok-clause-lives g c = λ u.
 
 pub returns-in-Err-clause-lives : goal.returns-in-Err-clause-lives
 returns-in-Err-clause-lives g c = λ u.
-    Calls-seat g.N.Node.stands c.args.now _ _ _ c.args.id.0 c.place_at-place.result (λ done fx. down (said c.args.msg.now) c.args.now done fx) false c.on_down.new.fx c.index_mut.result.now c.on_down.new.self c.requires.manned c.requires.lives c.place_at-place.ensures c.index_mut.ensures.value
+    Calls-seat g.N.Node.stands c.args.now _ _ _ c.args.id.0 c.args.index (λ done fx. down (said c.args.msg.now) c.args.now done fx) false c.on_down.new.fx c.index_mut.result.now c.on_down.new.self c.requires.manned c.requires.lives c.requires.place c.index_mut.ensures.value
     (λ w v k. k.0 refl)
     (λ x w v n k. k.1 n)
     (λ t s i. c.in-Err.ensures.stands t s)

@@ -14,27 +14,27 @@ use Rattle.nb_graph.proofs.inner.Inner.ask_up.Goals as goal
 pub index_mut-requires : goal.index_mut-requires
 index_mut-requires g c =
     let h = manned-place c.args.at.obj.0 c.requires.manned c.requires.lives in
-    omega (arith, h, c.place_at-place.ensures, c.args.self.now.nodes.ok.0)
+    omega (arith, h, c.requires.place, c.args.self.now.nodes.ok.0)
 
 pub returns-in-Ok-clause-asks : goal.returns-in-Ok-clause-asks
 returns-in-Ok-clause-asks g c =
     let h = manned-place c.args.at.obj.0 c.requires.manned c.requires.lives in
-    let e = manned-rank c.args.at.obj.0 c.index_mut.result.now c.requires.manned c.requires.lives h (rw c.place_at-place.ensures at c.index_mut.ensures.value) in
+    let e = manned-rank c.args.at.obj.0 c.index_mut.result.now c.requires.manned c.requires.lives h (rw c.requires.place at c.index_mut.ensures.value) in
     (rw e c.in-Ok.ensures.asks, c.in-Ok.ensures.took, c.in-Ok.ensures.takes)
 
 pub returns-in-Ok-clause-manned : goal.returns-in-Ok-clause-manned
 returns-in-Ok-clause-manned g c =
     let h = manned-place c.args.at.obj.0 c.requires.manned c.requires.lives in
-    IsManned-node c.place_at-place.result c.on_up.new.self c.index_mut.result.now (omega (arith, h, c.place_at-place.ensures)) c.index_mut.ensures.value c.on_up.ensures.rank c.requires.manned
+    IsManned-node c.args.index c.on_up.new.self c.index_mut.result.now (omega (arith, h, c.requires.place)) c.index_mut.ensures.value c.on_up.ensures.rank c.requires.manned
 
 pub returns-in-Err-clause-manned : goal.returns-in-Err-clause-manned
 returns-in-Err-clause-manned g c =
     let h = manned-place c.args.at.obj.0 c.requires.manned c.requires.lives in
-    IsManned-node c.place_at-place.result c.on_up.new.self c.index_mut.result.now (omega (arith, h, c.place_at-place.ensures)) c.index_mut.ensures.value c.on_up.ensures.rank c.requires.manned
+    IsManned-node c.args.index c.on_up.new.self c.index_mut.result.now (omega (arith, h, c.requires.place)) c.index_mut.ensures.value c.on_up.ensures.rank c.requires.manned
 
 pub returns-in-Ok-clause-lives : goal.returns-in-Ok-clause-lives
 returns-in-Ok-clause-lives g c = λ u.
-    Calls-seat g.N.Node.stands c.args.now _ _ _ c.args.at.obj.0 c.place_at-place.result (λ done fx. up c.args.at.slot (said c.args.msg.now) c.args.now done fx) true c.on_up.new.fx c.index_mut.result.now c.on_up.new.self c.requires.manned c.requires.lives c.place_at-place.ensures c.index_mut.ensures.value
+    Calls-seat g.N.Node.stands c.args.now _ _ _ c.args.at.obj.0 c.args.index (λ done fx. up c.args.at.slot (said c.args.msg.now) c.args.now done fx) true c.on_up.new.fx c.index_mut.result.now c.on_up.new.self c.requires.manned c.requires.lives c.requires.place c.index_mut.ensures.value
     (λ w v k. let b = k.0 refl in b.1 ∙ ap (λ z. z ++ lent c.on_up.new.fx) (sym b.0))
     (λ x w v n k. k.1 n)
     c.in-Ok.ensures.stands
@@ -44,7 +44,7 @@ returns-in-Ok-clause-lives g c = λ u.
 
 pub returns-in-Err-clause-lives : goal.returns-in-Err-clause-lives
 returns-in-Err-clause-lives g c = λ u.
-    Calls-seat g.N.Node.stands c.args.now _ _ _ c.args.at.obj.0 c.place_at-place.result (λ done fx. up c.args.at.slot (said c.args.msg.now) c.args.now done fx) false c.on_up.new.fx c.index_mut.result.now c.on_up.new.self c.requires.manned c.requires.lives c.place_at-place.ensures c.index_mut.ensures.value
+    Calls-seat g.N.Node.stands c.args.now _ _ _ c.args.at.obj.0 c.args.index (λ done fx. up c.args.at.slot (said c.args.msg.now) c.args.now done fx) false c.on_up.new.fx c.index_mut.result.now c.on_up.new.self c.requires.manned c.requires.lives c.requires.place c.index_mut.ensures.value
     (λ w v k. let b = k.0 refl in b.1 ∙ ap (λ z. z ++ lent c.on_up.new.fx) (sym b.0))
     (λ x w v n k. k.1 n)
     c.in-Err.ensures.stands
