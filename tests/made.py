@@ -13,7 +13,6 @@ from shared.records import (
     Advance,
     Command,
     Done,
-    Ended,
     Open,
     Part,
     Received,
@@ -29,6 +28,7 @@ from shared.records import (
 )
 from shared.wire import Station, arp_reply, arp_request, tftp_ack, tftp_data, tftp_request
 from shared.wire import udp_frame
+from tests import graph_records
 
 CLIENT = Station(bytes.fromhex("525400000001"), IPv4Address("10.0.0.2"))
 SERVER = Station(bytes.fromhex("525400000002"), IPv4Address("10.0.0.1"))
@@ -101,12 +101,13 @@ def command(words: bytes, line: int = 2, depth: int = 1) -> Command:
 
 def fetch_begins(words: bytes, path: bytes) -> list[Record]:
     """The first step of a script whose first command fetches by TFTP."""
-    return [Step(1), enter(), command(words), tftp_open(path), Try(0, 1), asked()]
+    begins = graph_records.asked(tftp_open(path), Try(0, 1), asked())
+    return [Step(1), enter(), command(words), *begins]
 
 
 def fails(cause: Cause) -> list[Record]:
-    """A running open ends, and with it the command, the script and the run."""
-    return [Ended(0, cause), Result(cause), leave(cause), Done(Status.SCRIPT_FAILED)]
+    """A command fails, and with it the script and the run."""
+    return [Result(cause), leave(cause), Done(Status.SCRIPT_FAILED)]
 
 
 KERNEL = b"\x7fELF" + bytes(range(256)) * 2
@@ -122,17 +123,13 @@ BOOT_OUTPUT: list[Record] = [
     *fetch_begins(b"imgexec tftp://10.0.0.1/k", b"k"),
     Step(2),
     Step(3),
-    Try(0, 2),
-    to_server(tftp_request(b"k"), 69),
+    *graph_records.passed(0, Try(0, 2), to_server(tftp_request(b"k"), 69)),
     Step(4),
-    Advance(0, 1),
-    Try(0, 1),
-    to_server(tftp_ack(1)),
+    *graph_records.came(0, Advance(0, 1), Try(0, 1), to_server(tftp_ack(1)), gives=True),
     Step(5),
+    *graph_records.passed(0),
     Step(6),
-    Advance(0, 2),
-    to_server(tftp_ack(2)),
-    Ended(0, OK),
+    *graph_records.came(0, Advance(0, 2), to_server(tftp_ack(2)), gives=True, over=OK),
     Result(OK),
     Part(PartKind.KERNEL_NAME, 0, 0, b"k"),
     Part(PartKind.KERNEL, 0, 0, KERNEL),
@@ -144,10 +141,11 @@ BOOT_OUTPUT: list[Record] = [
 def silent_run() -> tuple[list[Record], list[Record]]:
     """A fetch that nobody answers, with 63 TICKs of 250 ms: six tries and their times."""
     tries = {1: 1, 2: 2, 4: 3, 8: 4, 16: 5, 32: 6}
+    timed_out = Cause(Code.TIMED_OUT, 6)
     inputs = [start(b"#!ipxe\nimgfetch tftp://10.0.0.1/f\n"), *[Tick(250)] * 63]
     outputs = fetch_begins(b"imgfetch tftp://10.0.0.1/f", b"f")
-    for step in range(2, 65):
-        outputs.append(Step(step))
-        if step in tries:
-            outputs += [Try(0, tries[step]), asked()]
-    return inputs, outputs + fails(Cause(Code.TIMED_OUT, 6))
+    for step in range(2, 64):
+        put = [Try(0, tries[step]), asked()] if step in tries else []
+        outputs += [Step(step), *graph_records.passed(0, *put)]
+    outputs += [Step(64), *graph_records.passed(0, over=timed_out)]
+    return inputs, outputs + fails(timed_out)

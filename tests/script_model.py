@@ -10,10 +10,10 @@ from typing import Iterable, Iterator, NamedTuple
 
 from shared.causes import OK, Cause, Code
 from shared.kinds import OpenKind, Status
-from shared.records import Command, Done, Ended, Off, Open, Received, Record, Result, Sent, Start
+from shared.records import Command, Done, Off, Open, Received, Record, Result, Sent, Start
 from shared.records import Step, Text, Tick
 from shared.wire import Station, arp_reply, arp_request
-from tests import made
+from tests import graph_records, made
 from tests.settings_model import Refusal, Table, expand_all, name_of, number_of
 
 MOST_COMMANDS = 4_096
@@ -301,7 +301,7 @@ class Model:
         self.opens += 1
         server, own = IPv4Address("10.0.0.1"), 49_152 + number
         opened = Open(number, OpenKind.TFTP, server, 69, own, b"f")
-        self.printed = [opened, Ended(number, NO_ROUTE)]
+        self.printed = graph_records.turned_back(opened, NO_ROUTE)
         raise Refusal(NO_ROUTE)
 
 

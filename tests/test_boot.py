@@ -19,6 +19,7 @@ from shared.records import Done
 from shared.wire import arp_request, padded, tftp_data, tftp_request, udp_frame
 from tests import TOP, made
 from tests.case import Case
+from tests.graph_run import fault_in
 from tests.test_record import pcap_file
 
 def is_running(pid: int) -> bool:
@@ -198,8 +199,10 @@ class Runs(Launched):
     def test_a_capture_of_a_silent_server(self) -> None:
         self.put("s.pcap", pcap_file(SILENT))
         self.put("f.ipxe", b"#!ipxe\nimgfetch tftp://10.0.0.1/f\n")
-        printed, _, status = self.ends("tools/boot.py f.ipxe --capture s.pcap --ip 10.0.0.2/24")
+        line = "tools/boot.py f.ipxe --capture s.pcap --ip 10.0.0.2/24 --output kept.out"
+        printed, _, status = self.ends(line)
         self.assertEqual(status, 4)
+        self.assertIsNone(fault_in(self.get("kept.out")))
         said = "10.0.0.1 never answered: its hardware address was asked for six times in 15.75 s"
         self.assertIn(f"-- why\n{said}\n", printed)
         self.assertIn(": TimedOut(tries 6)\n", printed)
@@ -214,8 +217,9 @@ class Runs(Launched):
         ]
         frames = [made.found().frame, asked, *map(padded, blocks)]
         self.put("s.pcap", pcap_file([(n * 300_000, frame) for n, frame in enumerate(frames)]))
-        printed, said, status = self.ends("tools/boot.py s.pcap --map-ports")
+        printed, said, status = self.ends("tools/boot.py s.pcap --map-ports --output kept.out")
         self.assertEqual(status, 0, said)
+        self.assertIsNone(fault_in(self.get("kept.out")))
         line = "the capture's first request: imgexec tftp://10.0.0.1/k"
         self.assertIn(line, said)
         self.assertIn("  PART kernel, 604 bytes from 0\n", printed)

@@ -22,6 +22,7 @@ from shared.records import Command, Direction, Off, Received, Record, Sent, Step
 from shared.records import read_records
 from shared.wire import ARP, Opcode, arp_reply, padded, tftp_data, udp_frame
 from tests import TOP, made
+from tests.graph_run import fault_in
 from tests.replays import replay_all, run_all
 
 MOST_SECONDS = 30
@@ -203,6 +204,7 @@ class Bridged(unittest.TestCase):
                       self.said.getvalue())
         replayed = replay_all({"kept": self.input.getvalue()}, {})["kept"]
         self.assertEqual((replayed.status, replayed.output), (0, self.output.getvalue()))
+        self.assertIsNone(fault_in(self.output.getvalue()))
 
 
 class Checksums(unittest.TestCase):

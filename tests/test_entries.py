@@ -11,8 +11,8 @@ from entries import ENTRIES
 from instructions import missing
 from tests.counting import Counting
 
-MOST_AN_ENTRY = 400
-MOST_A_BLOCK = 1_000
+MOST_AN_ENTRY = 330
+MOST_A_BLOCK = 800
 
 
 @unittest.skipIf(missing() or not shutil.which("rt"), "valgrind, cc or rt is missing")

@@ -20,6 +20,7 @@ from shared.recordings import read_output
 from shared.records import Command, Record, Script, Tick
 from tests import made
 from tests.case import Case
+from tests.graph_run import fault_of
 
 FIRST = b"#!ipxe\n"
 MOST_BYTES = 130_996
@@ -121,6 +122,7 @@ class Hostile(Case):
         with (self.folder / "out.rec").open("rb") as stream:
             records = list(read_output(stream))
         self.assertEqual(records[-1].status, done.returncode)
+        self.assertIsNone(fault_of(records))
         return taken, records
 
     def run_in_time(self, script: bytes, ticks: int = 0) -> list[Record]:

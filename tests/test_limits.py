@@ -21,6 +21,7 @@ from shared.recordings import read_output
 from shared.records import Done, Ended, Part, Received, Record, spell
 from shared.wire import arp_request
 from tests.case import Case
+from tests.graph_run import fault_of
 
 # blocks have numbers from 1 to 65,535, and the last is shorter than 512 bytes (RFC 1350)
 MOST_BLOCKS = 65_535
@@ -53,7 +54,9 @@ class Limits(Case):
         """How the boot of a kernel of this length ended, and its output."""
         done = subprocess.run(self.recorded(length), check=False)
         with (self.folder / "out.rec").open("rb") as stream:
-            return done.returncode, list(read_output(stream))
+            output = list(read_output(stream))
+        self.assertIsNone(fault_of(output))
+        return done.returncode, output
 
     def test_the_longest_file_is_handed_off(self) -> None:
         status, output = self.boot(LONGEST)
@@ -84,7 +87,9 @@ class Limits(Case):
         done = subprocess.run(words, preexec_fn=prepare, check=False)
         self.assertEqual(done.returncode, 5)
         with (self.folder / "out.rec").open("rb") as stream:
-            self.assertEqual(list(read_output(stream))[-1], Done(Status.UNFINISHED))
+            output = list(read_output(stream))
+        self.assertEqual(output[-1], Done(Status.UNFINISHED))
+        self.assertIsNone(fault_of(output))
 
     def test_one_byte_more_is_too_long(self) -> None:
         status, output = self.boot(LONGEST + 1)

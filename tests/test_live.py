@@ -10,6 +10,7 @@ from typing import Callable
 
 from shared.records import Off, Tick, spell
 from tests import made
+from tests.graph_run import fault_in
 from tests.replays import Replayed, can_run, replay_all
 
 MOST_SECONDS = 30
@@ -152,6 +153,12 @@ class Live(unittest.TestCase):
             with self.subTest(case):
                 self.assertFalse(self.peers[case].thread.is_alive(), "the peer waits for its end")
                 self.ended(case, status, first, second)
+
+    def test_each_is_a_run_of_the_graph(self) -> None:
+        """As far as it was received, where the peer vanished."""
+        for case, peer in self.peers.items():
+            with self.subTest(case):
+                self.assertIsNone(fault_in(bytes(peer.taken)))
 
     def test_nobody_there(self) -> None:
         self.ended("closed", 10, "netboot: cannot attach", "Connection refused (os error 111)")

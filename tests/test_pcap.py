@@ -13,6 +13,7 @@ from shared.records import Received
 from shared.wire import tftp_data
 from tests import TOP, made
 from tests.case import Case
+from tests.graph_run import fault_in
 
 
 class Captures(Case):
@@ -81,6 +82,7 @@ class Readers(Case):
         if is_built():
             words = [BUILT, "replay", TOP / "examples" / "tftp-boot.rec", "example.out"]
             subprocess.run(words, cwd=self.folder, check=True)
+            self.assertIsNone(fault_in(self.get("example.out")))
             self.works("tools/pcap.py examples/tftp-boot.rec example.out --to example.pcap")
             self.pcaps.append("example.pcap")
 

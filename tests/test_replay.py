@@ -14,10 +14,11 @@ from ipaddress import IPv4Address
 from shared.causes import OK, Cause, Code
 from shared.kinds import OpenKind, PartKind, Status
 from shared.recordings import read_input, read_output
-from shared.records import Advance, Done, Ended, Off, Open, Part, Received, Record, Result
+from shared.records import Advance, Done, Off, Open, Part, Received, Record, Result
 from shared.records import Sent, Step, Tick, Try
 from tests import made
 from tests.case import TOP
+from tests.graph_records import asked, came, passed, shut, turned_back
 from tests.replays import Replayed, can_run, replayed
 from shared.wire import BROADCAST, PROTOCOL_ICMP, PROTOCOL_TCP, Station, arp_reply, arp_request
 from shared.wire import echo, ethernet, ipv4, packet_frame, segment, tftp_ack, tftp_data
@@ -25,8 +26,8 @@ from shared.wire import tftp_error, tftp_request, udp, udp_frame
 
 FETCH = b"imgfetch tftp://10.0.0.1/f"
 EXEC = b"imgexec tftp://10.0.0.1/k"
-# where OPEN stands in the output: after STEP, SCRIPT and COMMAND
-OPEN_PLACE = 3
+# where OPEN stands in the output: after STEP, SCRIPT, COMMAND and the five GRAPH records that make its objects
+OPEN_PLACE = 8
 FOREIGN_PORT = made.SERVER_PORT + 1
 NEIGHBOUR = Station(bytes.fromhex("525400000003"), IPv4Address("10.0.0.3"))
 FULL = bytes(range(256)) * 2
@@ -57,24 +58,24 @@ def data(block: int, content: bytes, port: int = made.SERVER_PORT) -> Record:
 
 def took(block: int) -> list[Record]:
     """A block is taken that isn't the last."""
-    return [Advance(0, block), Try(0, 1), made.to_server(tftp_ack(block))]
+    return came(0, Advance(0, block), Try(0, 1), made.to_server(tftp_ack(block)), gives=True)
 
 
-def took_last(block: int) -> list[Record]:
-    """The last block is taken: its acknowledgement waits for nothing."""
-    return [Advance(0, block), made.to_server(tftp_ack(block)), Ended(0, OK)]
+def took_last(block: int, gives: bool = True) -> list[Record]:
+    """The last block is taken: its acknowledgement waits for nothing. Its bytes go up, if it has some."""
+    return came(0, Advance(0, block), made.to_server(tftp_ack(block)), gives=gives, over=OK)
+
+
+def foreign() -> list[Record]:
+    """A datagram came from another port of the server, which is said to it."""
+    return came(0, made.to_server(UNKNOWN_TRANSFER, FOREIGN_PORT))
 
 
 def fetches(received: list[Record], *steps: list[Record], line: bytes = FETCH) -> Row:
     """A fetch whose request is out in step 3, and then these records with what each brings."""
     path = line[-1:]
-    outputs = [
-        *made.fetch_begins(line, path),
-        Step(2),
-        Step(3),
-        Try(0, 2),
-        made.to_server(tftp_request(path), 69),
-    ]
+    request = made.to_server(tftp_request(path), 69)
+    outputs = [*made.fetch_begins(line, path), Step(2), Step(3), *passed(0, Try(0, 2), request)]
     for number, step in enumerate(steps, 4):
         outputs += [Step(number), *step]
     return Row([start(line), made.found(), Tick(250), *received], outputs)
@@ -100,8 +101,8 @@ def unreached(address: str) -> Row:
     cause = Cause(Code.NO_ROUTE, int(server))
     command = b"imgfetch tftp://%s/f" % address.encode()
     opened = Open(0, OpenKind.TFTP, server, 69, made.OWN_PORT, b"f")
-    outputs = [Step(1), made.enter(), made.command(command), opened, *made.fails(cause)]
-    return Row([start(command)], outputs)
+    begins = [Step(1), made.enter(), made.command(command)]
+    return Row([start(command)], [*begins, *turned_back(opened, cause), *made.fails(cause)])
 
 
 def without_address(row: Row) -> Row:
@@ -128,11 +129,12 @@ def blocks() -> dict[str, Row]:
     return {
         "an_empty_last_block": ends_well(
             fetches(
-                [data(1, FULL), data(2, FULL), data(3, b"")], took(1), took(2), took_last(3)
+                [data(1, FULL), data(2, FULL), data(3, b"")], took(1), took(2), took_last(3, gives=False)
             )
         ),
         "a_block_too_long": ends(
-            fetches([data(1, bytes(1432))], []), *made.fails(Cause(Code.BROKEN, 4))
+            fetches([data(1, bytes(1432))], came(0, over=Cause(Code.BROKEN, 4))),
+            *made.fails(Cause(Code.BROKEN, 4)),
         ),
         "twice_and_late": ends_well(
             fetches(
@@ -145,19 +147,19 @@ def blocks() -> dict[str, Row]:
                 ],
                 took(1),
                 took(2),
-                [made.to_server(tftp_ack(2))],
-                [],
+                came(0, made.to_server(tftp_ack(2))),
+                came(0),
                 took_last(3),
             )
         ),
         "block_2_first": ends_well(
-            fetches([data(2, FULL), data(1, b"a")], [], took_last(1))
+            fetches([data(2, FULL), data(1, b"a")], came(0), took_last(1))
         ),
         "a_foreign_port": ends_well(
             fetches(
                 [data(1, FULL), data(2, b"no", FOREIGN_PORT), data(2, b"yes")],
                 took(1),
-                [made.to_server(UNKNOWN_TRANSFER, FOREIGN_PORT)],
+                foreign(),
                 took_last(2),
             )
         ),
@@ -165,26 +167,27 @@ def blocks() -> dict[str, Row]:
 
 
 def errors() -> dict[str, Row]:
+    at_once, later = Cause(Code.REFUSED, 4, 1), Cause(Code.REFUSED, 5, 3)
+    full = datagram(tftp_error(3, b"Disk full"))
     return {
         "refused_at_once": ends(
-            fetches([datagram(tftp_error(1, b"File not found"))], []),
-            *made.fails(Cause(Code.REFUSED, 4, 1)),
+            fetches([datagram(tftp_error(1, b"File not found"))], came(0, over=at_once)),
+            *made.fails(at_once),
         ),
         "refused_later": ends(
-            fetches([data(1, FULL), datagram(tftp_error(3, b"Disk full"))], took(1), []),
-            *made.fails(Cause(Code.REFUSED, 5, 3)),
+            fetches([data(1, FULL), full], took(1), came(0, over=later)), *made.fails(later)
         ),
         "a_foreign_error": ends_well(
             fetches(
                 [data(1, FULL), datagram(tftp_error(1, b"no"), FOREIGN_PORT), data(2, b"a")],
                 took(1),
-                [made.to_server(UNKNOWN_TRANSFER, FOREIGN_PORT)],
+                foreign(),
                 took_last(2),
             )
         ),
         "not_bootable": ends(
             fetches([data(1, b"hello")], took_last(1), line=EXEC),
-            *made.fails(Cause(Code.NOT_BOOTABLE))[1:],
+            *made.fails(Cause(Code.NOT_BOOTABLE)),
         ),
         "no_route": unreached("10.0.1.1"),
         "no_address": without_address(unreached("10.0.0.1")),
@@ -205,6 +208,7 @@ def frames() -> dict[str, Row]:
     ports = (made.SERVER_PORT, made.OWN_PORT)
     other_server = udp_frame(NEIGHBOUR, made.CLIENT, ports, tftp_data(1, b"a"))
     other_client = udp_frame(made.SERVER, NEIGHBOUR, ports, tftp_data(1, b"a"))
+    # these reach no transfer
     ignored = [
         Received(other_mac),
         flipped(good, 24),  # the IPv4 header's checksum
@@ -215,16 +219,20 @@ def frames() -> dict[str, Row]:
         Received(other_server),
         Received(made.CLIENT.mac + other_client[6:]),
         datagram(tftp_data(1, b"a"), own=made.OWN_PORT + 1),
-        datagram(b""),
-        datagram(b"\0\3\0"),
-        datagram(b"\0\x09\0\1"),
     ]
-    asked = Received(arp_request(made.SERVER, made.CLIENT.ip))
+    # these do, and say nothing to it
+    empty = [datagram(b""), datagram(b"\0\3\0"), datagram(b"\0\x09\0\1")]
+    wanted = Received(arp_request(made.SERVER, made.CLIENT.ip))
     replied = Sent(arp_reply(made.CLIENT, made.SERVER))
-    begun = [start(FETCH), asked, Tick(250), data(1, b"a")]
+    begun = [start(FETCH), wanted, Tick(250), data(1, b"a")]
     return {
         "frames_that_bring_nothing": ends_well(
-            fetches([*ignored, data(1, b"a")], *[[]] * len(ignored), took_last(1))
+            fetches(
+                [*ignored, *empty, data(1, b"a")],
+                *[[]] * len(ignored),
+                *[came(0)] * len(empty),
+                took_last(1),
+            )
         ),
         "no_checksum": ends_well(fetches([without_sum(1, b"a")], took_last(1))),
         "a_request_is_answered": ends_well(
@@ -235,8 +243,7 @@ def frames() -> dict[str, Row]:
                     Step(2),
                     replied,
                     Step(3),
-                    Try(0, 2),
-                    made.to_server(tftp_request(b"f"), 69),
+                    *passed(0, Try(0, 2), made.to_server(tftp_request(b"f"), 69)),
                     Step(4),
                     *took_last(1),
                 ],
@@ -314,7 +321,7 @@ def two_files() -> Row:
     first, second = 65_535, made.OWN_PORT
     began = replace(start(FETCH, EXEC), w=16_383)
     ack = udp_frame(made.CLIENT, made.SERVER, (first, made.SERVER_PORT), tftp_ack(1))
-    asked = udp_frame(made.CLIENT, made.SERVER, (first, 69), tftp_request(b"f"))
+    request = udp_frame(made.CLIENT, made.SERVER, (first, 69), tftp_request(b"f"))
     inputs = [
         began,
         made.found(),
@@ -323,26 +330,20 @@ def two_files() -> Row:
         datagram(tftp_data(1, b"late"), own=first),
         datagram(tftp_data(1, kernel), own=second),
     ]
+    opened = Open(1, OpenKind.TFTP, made.SERVER.ip, 69, second, b"k")
     outputs = [
         *made.fetch_begins(FETCH, b"f"),
         Step(2),
         Step(3),
-        Try(0, 2),
-        Sent(asked),
+        *passed(0, Try(0, 2), Sent(request)),
         Step(4),
-        Advance(0, 1),
-        Sent(ack),
-        Ended(0, OK),
+        *came(0, Advance(0, 1), Sent(ack), gives=True, over=OK),
         Result(OK),
         made.command(EXEC, 3),
-        Open(1, OpenKind.TFTP, made.SERVER.ip, 69, second, b"k"),
-        Try(1, 1),
-        made.to_server(tftp_request(b"k"), 69),
+        *asked(opened, Try(1, 1), made.to_server(tftp_request(b"k"), 69)),
         Step(5),
         Step(6),
-        Advance(1, 1),
-        made.to_server(tftp_ack(1)),
-        Ended(1, OK),
+        *came(1, Advance(1, 1), made.to_server(tftp_ack(1)), gives=True, over=OK),
         Result(OK),
         Part(PartKind.KERNEL_NAME, 0, 0, b"k"),
         Part(PartKind.KERNEL, 0, 0, kernel),
@@ -356,15 +357,19 @@ def two_files() -> Row:
 
 
 def runs() -> dict[str, Row]:
-    stopped = Ended(0, Cause(Code.STOPPED))
     again = fetches([start(FETCH)])
+    begins = Row([start(FETCH)], made.fetch_begins(FETCH, b"f"))
     return {
         "a_boot": Row(made.BOOT_INPUT, made.BOOT_OUTPUT),
         "silence": Row(*made.silent_run()),
         "two_files": two_files(),
-        "power_off": ends(fetches([Off()], []), stopped, Done(Status.UNFINISHED)),
-        "input_ends": ends(fetches([]), stopped, Done(Status.UNFINISHED)),
-        "a_second_start": ends(again, stopped, Done(Status.BAD_RECORD)),
+        "power_off": ends(fetches([Off()], shut(0)), Done(Status.UNFINISHED)),
+        "input_ends": ends(fetches([]), *shut(0), Done(Status.UNFINISHED)),
+        "a_second_start": ends(again, *shut(0), Done(Status.BAD_RECORD)),
+        "power_off_at_once": Row(
+            [*begins.inputs, Off()], [*begins.outputs, Step(2), *shut(0), Done(Status.UNFINISHED)]
+        ),
+        "input_ends_at_once": ends(begins, *shut(0), Done(Status.UNFINISHED)),
         "after_the_end": ends_well(
             fetches([data(1, b"a"), start(FETCH), Off()], took_last(1))
         ),
@@ -391,8 +396,8 @@ def read_all(output: bytes) -> list[Record]:
 
 def without_closing(records: list[Record]) -> list[Record]:
     """A run's records but for those that end it from outside."""
-    closing = [Ended(0, Cause(Code.STOPPED)), records[-1]]
-    return records[:-2] if records[-2:] == closing else records[:-1]
+    closing = [*shut(0), records[-1]]
+    return records[: -len(closing)] if records[-len(closing) :] == closing else records[:-1]
 
 
 @unittest.skipUnless(can_run(), "the program isn't built, and the toolchain's rt is missing")

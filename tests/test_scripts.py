@@ -13,11 +13,12 @@ from ipaddress import IPv4Address
 from shared.causes import OK, Cause, Code
 from shared.kinds import OpenKind, PartKind, Status
 from shared.recordings import read_input
-from shared.records import Advance, Command, Done, Ended, Off, Open, Part, Received, Record, Result
+from shared.records import Advance, Command, Done, Off, Open, Part, Received, Record, Result
 from shared.records import Sent, Start, Step, Text, Tick, Try
 from shared.wire import arp_reply, arp_request, tftp_ack, tftp_data, tftp_request, udp_frame
 from tests import made
 from tests.case import TOP
+from tests.graph_records import asked, came, passed, shut, turned_back
 from tests.replays import can_run
 from tests.script_model import FILE, Model
 from tests.script_rows import FIRST, MOST, UNFINISHED, Row, RowCase, ran, row, same_lines, text
@@ -154,7 +155,7 @@ GOES = ran(b"goto a", line=3) * MOST
 
 def steps() -> dict[str, Row]:
     begins = [Step(1), made.enter(), *GOES]
-    asked = Received(arp_request(made.SERVER, made.CLIENT.ip))
+    wanted = Received(arp_request(made.SERVER, made.CLIENT.ip))
     replied = Sent(arp_reply(made.CLIENT, made.SERVER))
     quiet = b"echo -n\n" * (MOST - 1) + b"echo -n || foo\n:a\n; ; #\n\n"
     prints = [Command(1, 2, 0, True, (b"echo", b"-n")), Text(b""), Result(OK)]
@@ -164,7 +165,7 @@ def steps() -> dict[str, Row]:
     return {
         "input_ends": Row([LOOP], [*begins, UNFINISHED]),
         "time_passes": Row([LOOP, Tick(1)], [*begins, Step(2), *GOES, UNFINISHED]),
-        "a_frame_comes": Row([LOOP, asked], [*begins, Step(2), replied, *GOES, UNFINISHED]),
+        "a_frame_comes": Row([LOOP, wanted], [*begins, Step(2), replied, *GOES, UNFINISHED]),
         "power_off": Row([LOOP, Off(), Tick(1)], [*begins, Step(2), UNFINISHED]),
         "power_off_later": Row([LOOP, Tick(9), Off()],
                                [*begins, Step(2), *GOES, Step(3), UNFINISHED]),
@@ -192,12 +193,9 @@ def after_a_fetch() -> Row:
         *made.fetch_begins(fetch, b"f"),
         Step(2),
         Step(3),
-        Try(0, 2),
-        made.to_server(tftp_request(b"f"), 69),
+        *passed(0, Try(0, 2), made.to_server(tftp_request(b"f"), 69)),
         Step(4),
-        Advance(0, 1),
-        made.to_server(tftp_ack(1)),
-        Ended(0, OK),
+        *came(0, Advance(0, 1), made.to_server(tftp_ack(1)), gives=True, over=OK),
         Result(OK),
         *ran(b"goto a", line=4) * MOST,
         UNFINISHED,
@@ -220,7 +218,7 @@ def all_opens() -> Row:
         own = 49_152 + number
         opened = Open(number, OpenKind.TFTP, made.SERVER.ip, 69, own, b"f")
         is_open = number < 16_384
-        outputs += [begins, *([opened, Ended(number, NO_ROUTE)] if is_open else [])]
+        outputs += [begins, *(turned_back(opened, NO_ROUTE) if is_open else [])]
         outputs += [Result(NO_ROUTE if is_open else Cause(Code.FULL, 2))]
         outputs += ran(b"goto a", line=3, place=1)
     return Row([without_address(script), *[Tick(1)] * 8], [*outputs, UNFINISHED])
@@ -231,45 +229,43 @@ def fallback() -> Row:
     refused = [Cause(Code.REFUSED, number, 1) for number in (4, 6)]
     kernel = b"\x7fELF\x02\x01\x01a kernel that is shorter than a block"
 
-    def opens(number: int, path: bytes) -> list[Record]:
-        own = made.OWN_PORT + number
-        return [Open(number, OpenKind.TFTP, made.SERVER.ip, 69, own, path), Try(number, 1)]
-
     def sends(number: int, port: int, body: bytes) -> Record:
         ends = (made.OWN_PORT + number, port)
         return Sent(udp_frame(made.CLIENT, made.SERVER, ends, body))
+
+    def opens(number: int, path: bytes) -> list[Record]:
+        """Only of the first the hardware address isn't known."""
+        opened = replace(made.tftp_open(path), number=number, own=made.OWN_PORT + number)
+        request = sends(number, 69, tftp_request(path)) if number else made.asked()
+        return asked(opened, Try(number, 1), request)
 
     outputs: list[Record] = [
         Step(1),
         made.enter(),
         made.command(b"imgfetch tftp://10.0.0.1/initrd", 4),
         *opens(0, b"initrd"),
-        made.asked(),
         Step(2),
         Step(3),
-        Try(0, 2),
-        sends(0, 69, tftp_request(b"initrd")),
+        *passed(0, Try(0, 2), sends(0, 69, tftp_request(b"initrd"))),
         Step(4),
-        Ended(0, refused[0]),
+        *came(0, over=refused[0]),
         Result(refused[0]),
         *ran(b"echo no initrd: going on without one", line=4, place=2),
         made.command(b"imgexec tftp://10.0.0.1/mine", 6),
         *opens(1, b"mine"),
-        sends(1, 69, tftp_request(b"mine")),
         Step(5),
+        *passed(1),
         Step(6),
-        Ended(1, refused[1]),
+        *came(1, over=refused[1]),
         Result(refused[1]),
         *ran(b"goto all", line=6, place=1),
         *ran(b"echo no kernel of its own", line=12),
         made.command(b"imgexec tftp://10.0.0.1/k", 13),
         *opens(2, b"k"),
-        sends(2, 69, tftp_request(b"k")),
         Step(7),
+        *passed(2),
         Step(8),
-        Advance(2, 1),
-        sends(2, 40_002, tftp_ack(1)),
-        Ended(2, OK),
+        *came(2, Advance(2, 1), sends(2, 40_002, tftp_ack(1)), gives=True, over=OK),
         Result(OK),
         Part(PartKind.KERNEL_NAME, 0, 0, b"k"),
         Part(PartKind.KERNEL, 0, 0, kernel),
@@ -280,10 +276,11 @@ def fallback() -> Row:
         return Row([timed.record for timed in read_input(stream)], outputs)
 
 
-def opens_next(number: int, words: bytes, line: int, place: int = 0) -> list[Record]:
-    """A fetch begins, by the own port of its number."""
+def opens_next(number: int, words: bytes, line: int, place: int, sent: Record) -> list[Record]:
+    """A fetch begins, by the own port of its number, and this is sent as its first try."""
     opened = replace(made.tftp_open(words[-1:]), number=number, own=made.OWN_PORT + number)
-    return [Command(1, line, place, True, tuple(words.split(b" "))), opened, Try(number, 1)]
+    begins = Command(1, line, place, True, tuple(words.split(b" ")))
+    return [begins, *asked(opened, Try(number, 1), sent)]
 
 
 def block(number: int, body: bytes) -> Record:
@@ -295,23 +292,23 @@ def took(number: int) -> list[Record]:
     """The one block of an open is taken, and acknowledged."""
     ends = (made.OWN_PORT + number, made.SERVER_PORT)
     acknowledged = Sent(udp_frame(made.CLIENT, made.SERVER, ends, tftp_ack(1)))
-    return [Advance(number, 1), acknowledged, Ended(number, OK)]
+    return came(number, Advance(number, 1), acknowledged, gives=True, over=OK)
 
 
 def transfers() -> dict[str, Row]:
     first, second = b"imgfetch tftp://10.0.0.1/f", b"imgfetch tftp://10.0.0.1/g"
     boots = b"imgexec tftp://10.0.0.1/k"
-    stopped = [Ended(1, Cause(Code.STOPPED)), UNFINISHED]
+    stopped = [*shut(1), UNFINISHED]
     inputs, silent = made.silent_run()
     silent[2] = replace(silent[2], line=3)
     script = made.start(FIRST + b":a\n" + first + b" || goto a\n")
     timed_out = Cause(Code.TIMED_OUT, 6)
     again = [
-        *silent[:-4],
-        *[Ended(0, timed_out), Result(timed_out)],
+        *silent[:-3],
+        Result(timed_out),
         *ran(b"goto a", line=3, place=1),
-        *[*opens_next(1, first, 3), made.asked()],
-        *[Step(65), Try(1, 2), made.asked(), Step(66), *stopped],
+        *opens_next(1, first, 3, 0, made.asked()),
+        *[Step(65), *passed(1, Try(1, 2), made.asked()), Step(66), *stopped],
     ]
 
     def asks(number: int, path: bytes) -> Record:
@@ -320,15 +317,16 @@ def transfers() -> dict[str, Row]:
 
     def begins(words: bytes) -> list[Record]:
         path = words[-1:]
-        return [*made.fetch_begins(words, path), Step(2), Step(3), Try(0, 2), asks(0, path), Step(4)]
+        tried = passed(0, Try(0, 2), asks(0, path))
+        return [*made.fetch_begins(words, path), Step(2), Step(3), *tried, Step(4)]
 
     answered = [made.found(), Tick(250), block(0, tftp_data(1, b"a"))]
     other = Cause(Code.NOT_BOOTABLE)
     chain = [made.start(FIRST + first + b" && " + second + b" ; " + boots), *answered]
     chained = [
         *[*begins(first), *took(0), Result(OK)],
-        *[*opens_next(1, second, 2, 1), asks(1, b"g"), Step(5), *took(1), Result(OK)],
-        *[*opens_next(2, boots, 2, 2), asks(2, b"k"), Step(6), *took(2), Result(OK)],
+        *[*opens_next(1, second, 2, 1, asks(1, b"g")), Step(5), *took(1), Result(OK)],
+        *[*opens_next(2, boots, 2, 2, asks(2, b"k")), Step(6), *took(2), Result(OK)],
         *[Part(PartKind.KERNEL_NAME, 0, 0, b"k"), Part(PartKind.KERNEL, 0, 0, b"\x7fELF")],
         Part(PartKind.COMMAND_LINE, 0, 0, b""),
         *[Part(PartKind.INITRD_NAME, 0, 0, b"f"), Part(PartKind.INITRD, 0, 0, b"a")],

@@ -7,7 +7,7 @@ import unittest
 
 from shared.causes import OK
 from shared.kinds import PartKind, Status
-from shared.records import Command, Done, Part, Result, Step, Text, Tick
+from shared.records import Command, Done, Graph, Part, Result, Step, Text, Tick
 from tests import made
 from tests.case import Case
 
@@ -111,13 +111,14 @@ class Showing(Case):
         steps = [line.split(",")[0] for line in printed if line.startswith("STEP")]
         self.assertEqual(
             steps,
-            ["STEP 1 at 0 ms", "STEP 3 at 250 ms", "STEP 4 at 250 ms", "STEP 6 at 253 ms"],
+            [f"STEP {step} at {time} ms" for step, time in ((1, 0), (3, 250), (4, 250), (5, 253), (6, 253))],
         )
         names = [line.split()[0] for line in printed if not line.startswith("STEP")]
         self.assertEqual(
-            names,
+            [name for name in names if name != "GRAPH"],
             "OPEN TRY FRAME TRY FRAME ADVANCE TRY FRAME ADVANCE FRAME ENDED".split(),
         )
+        self.assertEqual(names.count("GRAPH"), sum(isinstance(one, Graph) for one in made.BOOT_OUTPUT))
         self.assertEqual(self.works("tools/show.py boot.out --open 1"), "")
         received = self.works("tools/show.py boot.rec --open 0")
         self.assertEqual(received.count("TFTP DATA"), 2)

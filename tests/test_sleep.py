@@ -11,11 +11,12 @@ from dataclasses import replace
 from shared.causes import OK, Cause, Code
 from shared.kinds import PartKind, Status
 from shared.recordings import read_input
-from shared.records import Advance, Command, Done, Ended, Off, Part, Received, Record, Result, Sent
+from shared.records import Advance, Command, Done, Off, Part, Received, Record, Result, Sent
 from shared.records import Step, Text, Tick, Try
 from shared.wire import arp_reply, arp_request, tftp_ack, tftp_request, udp_frame
 from tests import made
 from tests.case import TOP
+from tests.graph_records import asked, came, passed, shut
 from tests.replays import can_run
 from tests.script_model import Model
 from tests.script_rows import FIRST, MOST, UNFINISHED, Row, RowCase, ran, row
@@ -37,7 +38,7 @@ def with_end(row: Row, *end: Record) -> Row:
 
 def sleeping() -> dict[str, Row]:
     begins = [made.command(b"sleep 1")]
-    asked = Received(arp_request(made.SERVER, made.CLIENT.ip))
+    wanted = Received(arp_request(made.SERVER, made.CLIENT.ip))
     replied = [Sent(arp_reply(made.CLIENT, made.SERVER))]
     over = [Result(OK)]
     two = b"sleep 1 && sleep 2 ; echo a"
@@ -52,7 +53,7 @@ def sleeping() -> dict[str, Row]:
         "sleep_0": row(b"sleep 0 ; sleep 0x0 ; echo a", ran(b"sleep 0"), ran(b"sleep 0x0", place=1),
                        ran(b"echo a", place=2)),
         "sleep_over_frames": sleeps(
-            b"sleep 1", (asked, replied), (Tick(999), []), (asked, replied), (Tick(60_000), [*over, *ENDED]),
+            b"sleep 1", (wanted, replied), (Tick(999), []), (wanted, replied), (Tick(60_000), [*over, *ENDED]),
             first=begins
         ),
         "two_sleeps": sleeps(
@@ -72,7 +73,7 @@ def sleeping() -> dict[str, Row]:
             first=[*ran(b"set n:uint8 2"), Command(1, 2, 1, True, (b"sleep", b"0x2"))],
         ),
         "4096_after_a_sleep": with_end(
-            sleeps(b"sleep 1\n:a\ngoto a", (Tick(1_000), [*over, *goes * MOST]), (asked, [*replied, *goes * MOST]),
+            sleeps(b"sleep 1\n:a\ngoto a", (Tick(1_000), [*over, *goes * MOST]), (wanted, [*replied, *goes * MOST]),
                    first=begins),
             UNFINISHED,
         ),
@@ -85,16 +86,17 @@ def sleeping() -> dict[str, Row]:
         ),
         "a_fetch_after_a_sleep": with_end(
             sleeps(b"sleep 1\n" + fetch, (made.found(), []), (Tick(1_000), [*over, *fetch_after()]),
-                   (Tick(249), []), (Tick(1), [Try(0, 2), made.to_server(tftp_request(b"f"), 69)]), first=begins),
-            made.fails(Cause(Code.STOPPED))[0], UNFINISHED,
+                   (Tick(249), passed(0)),
+                   (Tick(1), passed(0, Try(0, 2), made.to_server(tftp_request(b"f"), 69))), first=begins),
+            *shut(0), UNFINISHED,
         ),
     }  # fmt: skip
 
 
 def fetch_after() -> list[Record]:
     """A fetch begins whose server's hardware address is known."""
-    fetch = b"imgfetch tftp://10.0.0.1/f"
-    return [made.command(fetch, 3), made.tftp_open(b"f"), Try(0, 1), made.to_server(tftp_request(b"f"), 69)]
+    request = made.to_server(tftp_request(b"f"), 69)
+    return [made.command(b"imgfetch tftp://10.0.0.1/f", 3), *asked(made.tftp_open(b"f"), Try(0, 1), request)]
 
 
 def example() -> Row:
@@ -112,13 +114,15 @@ def example() -> Row:
     outputs = [
         *[Step(1), made.enter(), *ran(b"set server " + server, line=8), *ran(tries[0], line=9)],
         *ran(b"echo 52:54:00:00:00:01 has the address 10.0.0.2, which is 0a:00:00:02", line=10),
-        *[*ran(b"inc tries", line=13), made.command(boots, 14), made.tftp_open(path), Try(0, 1), made.asked()],
-        *[Step(2), Step(3), Try(0, 2), sends(0, 69, tftp_request(path))],
-        *[Step(4), Ended(0, refused), Result(refused), *ran(tries[1], line=14, place=1)],
+        *[*ran(b"inc tries", line=13), made.command(boots, 14)],
+        *asked(made.tftp_open(path), Try(0, 1), made.asked()),
+        *[Step(2), Step(3), *passed(0, Try(0, 2), sends(0, 69, tftp_request(path)))],
+        *[Step(4), *came(0, over=refused), Result(refused), *ran(tries[1], line=14, place=1)],
         *[*ran(tries[2], Cause(Code.FALSE), 15), made.command(b"sleep 2", 16)],
         *[Step(5), Step(6), Result(OK), *ran(b"goto again", line=17), *ran(b"inc tries", line=13)],
-        *[made.command(boots, 14), opened, Try(1, 1), sends(1, 69, tftp_request(path))],
-        *[Step(7), Step(8), Advance(1, 1), sends(1, 40_001, tftp_ack(1)), Ended(1, OK), Result(OK)],
+        *[made.command(boots, 14), *asked(opened, Try(1, 1), sends(1, 69, tftp_request(path)))],
+        *[Step(7), *passed(1)],
+        *[Step(8), *came(1, Advance(1, 1), sends(1, 40_001, tftp_ack(1)), gives=True, over=OK), Result(OK)],
         *[Part(PartKind.KERNEL_NAME, 0, 0, path), Part(PartKind.KERNEL, 0, 0, kernel)],
         *[Part(PartKind.COMMAND_LINE, 0, 0, b""), Done(Status.HANDED_OFF)],
     ]

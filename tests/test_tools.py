@@ -14,6 +14,7 @@ from shared.recordings import read_input
 from shared.records import Received
 from tests import TOP, made
 from tests.case import Case
+from tests.graph_run import fault_in
 
 EXAMPLES = TOP / "examples"
 
@@ -38,6 +39,10 @@ class Examples(Case):
                 continue
             for line, printed in re.findall(r"^\$ (.*)\n((?:(?!\$ ).*\n)*)", text, re.M):
                 self.assertEqual(self.printed(line), printed, line)
+        kept = list(self.folder.glob("*.out"))
+        self.assertGreaterEqual(len(kept), 5)
+        for path in kept:
+            self.assertIsNone(fault_in(path.read_bytes()), path.name)
 
     def printed(self, line: str) -> str:
         """What a shell shows of a command line: standard output and standard error."""

@@ -10,9 +10,11 @@ from typing import BinaryIO, Iterable, Iterator
 
 from shared.command_line import Refused, read_stream, run
 from shared.describe import Lines
+from shared.drawing import pictures
 from shared.frames import ends_of, packet_of
 from shared.full_steps import MOST_COMMANDS, FullSteps
 from shared.script_text import Line, command_of, script_of
+from shared.objects import objects_of
 from shared.parts import write_parts
 from shared.recordings import Timed, input_of, open_recording, read_input, read_output
 from shared.records import (
@@ -21,6 +23,7 @@ from shared.records import (
     Command,
     Direction,
     Ended,
+    Graph,
     Open,
     Received,
     Record,
@@ -49,11 +52,12 @@ examples:
   show.py boot.out --type TRY --type ENDED only records of these types
   show.py boot.out --open 0                what belongs to its first open
   show.py boot.out --input boot.rec --why  how it ended, in a sentence, and why
+  show.py boot.out --graph                 a picture of the objects of each open
   show.py boot.out --parts parts           writes kernel, initrds and command line into parts/"""
 
 
 class OfOpen:
-    """Tells which records belong to an open: its own, and the frames between its ends.
+    """Tells which records belong to an open: its own, its objects', and the frames between its ends.
 
     In an output recording the ends are those of its OPEN record. An input recording shows only
     its own port, which the START record and the open's number give.
@@ -71,6 +75,8 @@ class OfOpen:
             self.own = FIRST_OWN_PORT + (record.w + self.number) % OWN_PORTS
         if isinstance(record, (Open, Try, Advance, Ended)):
             return self._has_own(record)
+        if isinstance(record, Graph):
+            return record.object in objects_of(self.number)
         if isinstance(record, Sent):
             return was_tried or self._has_frame(record.frame)
         return isinstance(record, Received) and self._has_frame(record.frame)
@@ -211,7 +217,7 @@ def add_filters(parser: argparse.ArgumentParser) -> None:
         "--open",
         type=int,
         metavar="N",
-        help="only records of open N, counted from 0, and its frames",
+        help="only records of open N, counted from 0, of its objects, and its frames",
     )
 
 
@@ -227,6 +233,11 @@ def add_reports(parser: argparse.ArgumentParser) -> None:
         help="how the run ended: a sentence, and then the records that show it",
     )
     reports.add_argument(
+        "--graph",
+        action="store_true",
+        help="the objects of each open: from when to when they lived, their links, and what closed them",
+    )
+    reports.add_argument(
         "--parts",
         type=Path,
         metavar="DIR",
@@ -235,7 +246,7 @@ def add_reports(parser: argparse.ArgumentParser) -> None:
 
 
 def refuse_for_input(arguments: argparse.Namespace) -> None:
-    for name in ("text", "why", "parts", "input"):
+    for name in ("text", "why", "graph", "parts", "input"):
         if getattr(arguments, name):
             raise Refused(f"--{name} needs an output recording, and this is an input recording")
 
@@ -254,6 +265,8 @@ def report(arguments: argparse.Namespace, records: Iterator[Record]) -> Iterable
     if arguments.parts:
         return write_parts(records, arguments.parts)
     inputs = input_of(arguments.input) if arguments.input else None
+    if arguments.graph:
+        return pictures(records, inputs, arguments.open)
     return output_lines(records, inputs, arguments)
 
 

@@ -5,7 +5,8 @@ from __future__ import annotations
 from typing import Any, Callable
 
 from shared.frames import Summaries
-from shared.kinds import GraphEvent, ObjectKind, PartKind, ScriptMove, Way
+from shared.kinds import GraphEvent, PartKind, ScriptMove, Way
+from shared.objects import Names, title
 from shared.records import (
     Advance,
     Command,
@@ -28,12 +29,8 @@ from shared.records import (
 )
 from shared.texts import count, mac, quoted, word
 
-# The object's port 4 stands for its timer.
-TIMER_SLOT = 4
-
-
-def _title(name: str) -> str:
-    return name.replace("_", " ").lower()
+# by time an object is entered at its timer alone
+ENTERED = {Way.UP: " from below", Way.DOWN: " from above", Way.CLOSE: " by a close", Way.TIME: ""}
 
 
 def _start(start: Start) -> str:
@@ -54,7 +51,7 @@ def _command(command: Command) -> str:
 
 def _script(script: Script) -> str:
     cause = f", {script.cause}" if script.move is ScriptMove.LEAVE else ""
-    return f"SCRIPT {_title(script.move.name)}, depth {script.depth}{cause}"
+    return f"SCRIPT {title(script.move.name)}, depth {script.depth}{cause}"
 
 
 def _open(opened: Open) -> str:
@@ -65,34 +62,34 @@ def _open(opened: Open) -> str:
     )
 
 
-def _port(number: int, slot: int) -> str:
-    return f"{number} timer" if slot == TIMER_SLOT else f"{number}.{slot}"
-
-
-def _graph(graph: Graph) -> str:
-    port = _port(graph.object, graph.slot)
-    other = _port(graph.other, graph.other_slot)
+def _graph(graph: Graph, names: Names) -> str:
+    """An event in words; an object whose Made wasn't read has a number and no kind."""
+    name, port = names.of(graph.object), names.port(graph.object, graph.slot)
     match graph.event:
-        case GraphEvent.MADE:
-            what = f"object {graph.object}, a {_title(ObjectKind(graph.other).name)}"
-        case GraphEvent.HELD | GraphEvent.LET_GO | GraphEvent.FREED:
-            what = f"object {graph.object}"
-        case GraphEvent.PLUGGED | GraphEvent.UNPLUGGED:
-            what = f"port {port} and port {other}"
+        case GraphEvent.MADE | GraphEvent.HELD | GraphEvent.FREED:
+            what = f"{title(graph.event.name)} {name}"
+        case GraphEvent.LET_GO:
+            what = f"let go of {name}"
+        case GraphEvent.PLUGGED:
+            what = f"plugged {port} to {names.port(graph.other, graph.other_slot)}"
+        case GraphEvent.UNPLUGGED:
+            what = f"unplugged {port} from {names.port(graph.other, graph.other_slot)}"
         case GraphEvent.ENTERED:
-            what = f"port {port}, {_title(Way(graph.other_slot).name)}"
+            what = f"entered {port}{ENTERED[Way(graph.other_slot)]}"
+        case GraphEvent.LEFT:
+            what = f"left {port}"
+        case GraphEvent.DROPPED:
+            what = f"dropped a message at {port}"
         case GraphEvent.CLOSED:
-            what = f"port {port}, {graph.cause}"
-        case _:
-            what = f"port {port}"
-    return f"GRAPH {_title(graph.event.name)}: {what}"
+            what = f"closed {port}: {graph.cause}"
+    return f"GRAPH {what}"
 
 
 def _part(part: Part) -> str:
     index = f" {part.index}" if part.kind in (PartKind.INITRD, PartKind.INITRD_NAME) else ""
     size = count(len(part.piece), "byte")
     text = f": {quoted(part.piece)}" if part.kind in TEXT_PARTS else ""
-    return f"PART {_title(part.kind.name)}{index}, {size} from {part.offset}{text}"
+    return f"PART {title(part.kind.name)}{index}, {size} from {part.offset}{text}"
 
 
 TEXT_PARTS = (PartKind.COMMAND_LINE, PartKind.KERNEL_NAME, PartKind.INITRD_NAME)
@@ -110,20 +107,25 @@ LINES: dict[type[Record], Callable[[Any], str]] = {
     Try: lambda record: f"TRY {record.attempt} of open {record.number}",
     Advance: lambda record: f"ADVANCE of open {record.number} to {record.place}",
     Ended: lambda record: f"ENDED open {record.number}, {record.cause}",
-    Graph: _graph,
     Part: _part,
-    Done: lambda done: f"DONE {done.status.value} {_title(done.status.name)}",
+    Done: lambda done: f"DONE {done.status.value} {title(done.status.name)}",
 }
 
 
 class Lines:
-    """Lines on records in order; it remembers what the summaries of frames need."""
+    """Lines on records in order; it remembers what the summaries of frames, and objects' names, need."""
 
     def __init__(self) -> None:
         self.summaries = Summaries()
+        self.names = Names()
 
     def of(self, record: Record) -> str:
         if isinstance(record, (Received, Sent)):
             summary = self.summaries.of(record.frame)
             return f"FRAME {summary}; {len(record.frame)} bytes"
+        if isinstance(record, Graph):
+            self.names.take(record)
+            line = _graph(record, self.names)
+            self.names.drop(record)
+            return line
         return LINES[type(record)](record)

@@ -9,6 +9,7 @@ from __future__ import annotations
 import dataclasses
 from dataclasses import dataclass
 from enum import Enum
+from functools import lru_cache
 from ipaddress import IPv4Address
 from typing import BinaryIO, ClassVar, Iterator, NamedTuple
 from uuid import UUID
@@ -38,6 +39,7 @@ MIN_FRAME = 14
 MAX_FRAME = 1_522
 MAX_TICK = 60_000
 MAX_PIECE = 65_536
+MOST_REPEATED = 256
 
 
 class Direction(Enum):
@@ -387,6 +389,21 @@ def record_of(kinds: dict[int, type[Record]], content: bytes, offset: int) -> Re
     kind = kinds.get(content[0])
     if kind is None:
         raise Damaged(offset, f"type 0x{content[0]:02x} is not one of this recording's")
+    if kind is not Graph:
+        return _read(kind, content, offset)
+    try:
+        return _graph_of(content)
+    except Damaged as damage:
+        raise Damaged(damage.offset + offset, damage.why) from None
+
+
+@lru_cache(maxsize=MOST_REPEATED)
+def _graph_of(content: bytes) -> Record:
+    """A GRAPH record: a fetch has the same few for each of its blocks, which are read once."""
+    return _read(Graph, content, 0)
+
+
+def _read(kind: type[Record], content: bytes, offset: int) -> Record:
     body = Body(content[1:], offset + 1)
     record = kind(*[field.read(body) for field in kind.LAYOUT])
     if body.left:

@@ -9,11 +9,13 @@ from shared.causes import OK, Cause, Code
 from shared.command_line import Refused
 from shared.full_steps import FullSteps
 from shared.kinds import OpenKind, PartKind, ScriptMove
+from shared.objects import Close, Objects, When
 from shared.records import (
     Advance,
     Command,
     Done,
     Ended,
+    Graph,
     Open,
     Part,
     Record,
@@ -34,11 +36,13 @@ MOST_TEXT = 256
 
 @dataclass(slots=True)
 class Evidence:
-    """An output record with the step that it stands in, and the frame directly after a TRY."""
+    """An output record with the step that it stands in, the frame directly after a TRY, and the first
+    close of the objects of the open that an ENDED is of."""
 
     step: int
     record: Record
     frame: Sent | None = None
+    closed: Close | None = None
 
 
 @dataclass(slots=True)
@@ -121,6 +125,7 @@ class Trace:
         self.step = 0
         self.running: list[CommandStory] = []
         self.live: dict[int, OpenStory] = {}
+        self.objects = Objects()
         self.failures: deque[Failure] = deque(maxlen=MOST_FAILURES)
         self.failed = 0
         self.waiting: OpenStory | None = None
@@ -155,6 +160,8 @@ class Trace:
                 self._story(record.number).block = record.place
             case Ended():
                 self._ended(here, record)
+            case Graph():
+                self.objects.take(When(self.step), record)
             case Part():
                 self._part(record)
             case Done():
@@ -196,6 +203,7 @@ class Trace:
 
     def _open(self, here: Evidence, opened: Open) -> None:
         here.record = replace(opened, target=opened.target[:MOST_TEXT])
+        self.objects.take(When(self.step), here.record)
         story = OpenStory(here)
         self.live[opened.number] = self.waiting = story
         if self.running:
@@ -215,6 +223,8 @@ class Trace:
         self._last_try = here
 
     def _ended(self, here: Evidence, ended: Ended) -> None:
+        family = self.objects.take(When(self.step), ended)
+        here.closed = family.first if family else None
         self._story(ended.number).ended = here
         del self.live[ended.number]
 

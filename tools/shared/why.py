@@ -6,13 +6,14 @@ from dataclasses import dataclass, field
 from pathlib import Path
 from typing import BinaryIO, Iterator
 
-from shared.causes import MEANING, Code
+from shared.causes import MEANING, Cause, Code
 from shared.command_line import Refused, read_stream
 from shared.describe import Lines
 from shared.fields import CutOff
 from shared.full_steps import MOST_COMMANDS
 from shared.kinds import PartKind, Status
 from shared.meanwhile import Meanwhile
+from shared.objects import ending
 from shared.recordings import Timed, input_of, read_output
 from shared.records import (
     Advance,
@@ -305,7 +306,7 @@ class Account:
         yield f"{what} failed in {self.inputs.at(failure.what.step)}: {failure.cause}"
         yield f"  meaning: {MEANING[failure.cause.code]}"
         for evidence in failure.evidence():
-            yield f"  {self.inputs.at(evidence.step)}: {self._plainly(evidence)}"
+            yield f"  {self.inputs.at(evidence.step)}: {self._plainly(evidence, failure.cause)}"
             if isinstance(evidence.record, Command):
                 yield from self.inputs.command_lines(evidence.record)
         fault = self.inputs.fault(failure)
@@ -325,7 +326,7 @@ class Account:
         return f"  record {number} at {self.inputs.times[number]} ms: {self.inputs.lines[number]}"
 
     def _wait_evidence(self, story: OpenStory) -> list[Evidence]:
-        return [story.opened, *story.tries]
+        return [story.opened, *story.tries, *([story.ended] if story.ended else [])]
 
     def _waiting(self, story: OpenStory) -> Iterator[str]:
         """What a command waited for, and the records that show it."""
@@ -360,8 +361,8 @@ class Account:
         else:
             yield "nothing came meanwhile"
 
-    def _plainly(self, evidence: Evidence) -> str:
-        """A record in plain words."""
+    def _plainly(self, evidence: Evidence, said: Cause | None = None) -> str:
+        """A record in plain words; the meaning of an end's cause too, unless it is one whose meaning was said."""
         match evidence.record:
             case Command() as command:
                 as_written = "" if command.expanded else " (as written, since they can't be expanded)"
@@ -374,7 +375,8 @@ class Account:
                 frame = self.lines.of(evidence.frame) if evidence.frame else "FRAME missing"
                 return f"try {tried.attempt}: {frame.removeprefix('FRAME ')}"
             case Ended() as ended:
-                return f"that ends: {ended.cause}"
+                meaning = "" if ended.cause == said else f"; {MEANING[ended.cause.code]}"
+                return f"that ends: {ending(ended.cause, evidence.closed)}{meaning}"
             case Script() as script:
                 return f"its script ends: {script.cause}"
             case Advance() | _:

@@ -5,6 +5,7 @@ use Rattle.nb_defs.specs.Causes.{is_ok_cause}
 use Rattle.nb_defs.specs.Records.{Start, In, start, frame, tick, off, IsIn, in_text, in_texts, IsPartial, IsBroken}
 use Rattle.nb_defs.proofs.RecordLaws.{in_text_apart, partial_not_whole, length-in_text}
 use Rattle.nb_engine.specs.Machine.{Machine, Phase, ready, running, waiting, sleeping, yielded, handing, left, handed_off, stopped}
+use Rattle.nb_opens.specs.Graphs.{without_graph}
 use Rattle.nb_record.specs.Outside.{Outside, Gave, IsAtEnd}
 use Rattle.nb_boot.specs.Run.{Run, Shows, IsOther, IsFirst, BeginsWith, IsBadRest, Ends, was_left, was_handed, was_stopped, ran_out, was_bad, was_full}
 use Rattle.nb_boot.specs.Complete.{Completes, AreOthers}
@@ -125,7 +126,7 @@ told before after r s others valid a e some =
     record {
       behind = t.0;
       now = t.1;
-      rest = spelled_rest r.ins (start s ∷ others) (r.rest ++ t.0) (path_in r.ins r.outs r.machine r.path) (valid, others_in others a) all;
+      rest = spelled_rest r.ins (start s ∷ others) (r.rest ++ t.0) (path_in r.ins (without_graph r.outs) r.machine r.path) (valid, others_in others a) all;
     }
 
 -- records that spell more bytes are some
@@ -141,7 +142,7 @@ completes status.Unfinished before after (r, o) = λ s others valid a e some non
 completes status.BadRecord before after (r, o) = λ s others valid a e some none memory.
     let t = told before after r s others valid a e some in
     let used : HasUsed (length r.ins) r.machine.phase =
-    subst (λ n. HasUsed n r.machine.phase) (path_counts r.ins r.outs r.machine r.path) (path_used r.ins r.outs r.machine r.path) in
+    subst (λ n. HasUsed n r.machine.phase) (path_counts r.ins (without_graph r.outs) r.machine r.path) (path_used r.ins (without_graph r.outs) r.machine r.path) in
     no_bad r.machine.phase s others r.ins r.rest t.behind after valid a t.rest used t.now (ends_bad r.machine r.rest after o.ends)
 completes status.TooManyRecords before after (r, o) = λ s others valid a e some none memory.
     let t = told before after r s others valid a e some in
@@ -149,7 +150,7 @@ completes status.TooManyRecords before after (r, o) = λ s others valid a e some
     omega (
       arith,
       full.0,
-      path_counts r.ins r.outs r.machine r.path,
+      path_counts r.ins (without_graph r.outs) r.machine r.path,
       some_more t.rest.more r.rest t.behind t.rest.spelled full.1,
       ap length t.rest.are,
       length-append r.ins t.rest.more,

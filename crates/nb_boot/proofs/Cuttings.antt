@@ -5,6 +5,8 @@ use Rattle.nb_record.specs.Outside.{Outside, Passes, Rose}
 use Rattle.nb_record.specs.Logged.{Logged}
 use Rattle.nb_record.proofs.OutsideLemmas.{Passes-nothing}
 use Rattle.nb_engine.specs.Machine.{Machine}
+use Rattle.nb_opens.specs.Graphs.{Graphs, GraphAt, without_graph}
+use Rattle.nb_opens.proofs.Tracing.{graphs_are_traced}
 use Rattle.nb_engine.specs.declared.status.Status.TheVariants as status
 use Rattle.nb_boot.specs.Run.{Run, Shows, IsBetween, goes_on}
 use Rattle.nb_boot.specs.Going.{Going, Stopped, IsFlaw, CutsAll, flaw_status}
@@ -15,9 +17,9 @@ use Rattle.nb_boot.proofs.Goings.{passes_wrote}
 use Rattle.nb_boot.proofs.Written.{rose_later}
 
 -- a write failed: a front of the output was written
-abbrev pub stopped_run : (ins : List In) (held : List ℕ) (first before now : Outside) (log : Logged) (m : Machine) → Stopped before now log.bytes →
-    Going ins held first before log m → Run first now
-stopped_run ins held first before now log m s r = record {
+abbrev pub stopped_run : (ins : List In) (held : List ℕ) (first before now : Outside) (log : Logged) (m : Machine) (at : GraphAt) → Stopped before now log.bytes →
+    Going ins held first before log m at → Run first now
+stopped_run ins held first before now log m at s r = record {
   ins = ins;
   outs = r.outs;
   machine = m;
@@ -30,15 +32,19 @@ stopped_run ins held first before now log m s r = record {
   spelled = refl;
   path = r.path;
   closes = goes_on m held now;
-  few = subst (λ n. n ≤ 4294967295) (path_counts ins r.outs m r.path) r.few;
+  alone = λ _. refl;
+  at = at;
+  graphs = subst (λ xs. Graphs xs at) (sym (append-nil r.outs)) r.graphs;
+  traced = graphs_are_traced (r.outs ++ []) at (subst (λ xs. Graphs xs at) (sym (append-nil r.outs)) r.graphs);
+  few = subst (λ n. n ≤ 4294967295) (path_counts ins (without_graph r.outs) m r.path) r.few;
   texts = ap out_texts (append-nil r.outs) ∙ r.texts ∙ ap (λ t. (r.written ++ t) ++ r.lost) s.fronts
       ∙ ap (λ t. t ++ r.lost) (sym (append_assoc r.written s.part s.lost)) ∙ append_assoc (r.written ++ s.part) s.lost r.lost;
 }
 
 -- memory ran out: what was written is a front of the output
-abbrev pub short_run : (ins : List In) (held : List ℕ) (first before now : Outside) (log : Logged) (m : Machine) → Passes before now [] [] →
-    Going ins held first before log m → Run first now
-short_run ins held first before now log m p r = record {
+abbrev pub short_run : (ins : List In) (held : List ℕ) (first before now : Outside) (log : Logged) (m : Machine) (at : GraphAt) → Passes before now [] [] →
+    Going ins held first before log m at → Run first now
+short_run ins held first before now log m at p r = record {
   ins = ins;
   outs = r.outs;
   machine = m;
@@ -51,27 +57,31 @@ short_run ins held first before now log m p r = record {
   spelled = refl;
   path = r.path;
   closes = goes_on m held now;
-  few = subst (λ n. n ≤ 4294967295) (path_counts ins r.outs m r.path) r.few;
+  alone = λ _. refl;
+  at = at;
+  graphs = subst (λ xs. Graphs xs at) (sym (append-nil r.outs)) r.graphs;
+  traced = graphs_are_traced (r.outs ++ []) at (subst (λ xs. Graphs xs at) (sym (append-nil r.outs)) r.graphs);
+  few = subst (λ n. n ≤ 4294967295) (path_counts ins (without_graph r.outs) m r.path) r.few;
   texts = ap out_texts (append-nil r.outs) ∙ r.texts ∙ append_assoc r.written log.bytes r.lost ∙ ap (λ t. t ++ (log.bytes ++ r.lost)) (sym (append-nil r.written));
 }
 
 -- a log that couldn't be written out cuts a run short
 pub flaw_cuts : (f : Flaw) (before now : Outside) (log : Logged) → IsFlaw f before now log → CutsAll (flaw_status f) before now log
-flaw_cuts flaw.WriteFault before now log s = λ held ins first m r. (
-  stopped_run ins held first before now log m s.1 r,
+flaw_cuts flaw.WriteFault before now log s = λ held ins first m at r. (
+  stopped_run ins held first before now log m at s.1 r,
   (rose_later first.write_faults before.write_faults now.write_faults r.passes.counts.write_count s.1.rose, omega (arith, s.1.missing, length-append s.1.lost r.lost)),
 )
-flaw_cuts flaw.NoMemory before now log p = λ held ins first m r. (short_run ins held first before now log m p r, inl refl)
+flaw_cuts flaw.NoMemory before now log p = λ held ins first m at r. (short_run ins held first before now log m at p r, inl refl)
 
 -- memory ran out in the client
-pub memory_shows : (ins : List In) (held : List ℕ) (first now : Outside) (log : Logged) (m : Machine) → Going ins held first now log m → Shows status.NoMemory first now
-memory_shows ins held first now log m r = (short_run ins held first now now log m (Passes-nothing now) r, inl refl)
+pub memory_shows : (ins : List In) (held : List ℕ) (first now : Outside) (log : Logged) (m : Machine) (at : GraphAt) → Going ins held first now log m at → Shows status.NoMemory first now
+memory_shows ins held first now log m at r = (short_run ins held first now now log m at (Passes-nothing now) r, inl refl)
 
 -- a read failed behind a log that was written out
-pub unread_shows : (ins : List In) (held : List ℕ) (first before now : Outside) (room : ℕ) (m : Machine) → IsBetween m.phase → IsPartial held →
+pub unread_shows : (ins : List In) (held : List ℕ) (first before now : Outside) (room : ℕ) (m : Machine) (at : GraphAt) → IsBetween m.phase → IsPartial held →
     Passes before now [] [] → Rose before.read_faults now.read_faults →
-    Going ins held first before (record { bytes = []; room = room; is_short = false }) m → Shows status.ReadFault first now
-unread_shows ins held first before now room m between partial p rose r = (
+    Going ins held first before (record { bytes = []; room = room; is_short = false }) m at → Shows status.ReadFault first now
+unread_shows ins held first before now room m at between partial p rose r = (
   record {
     ins = ins;
     outs = r.outs;
@@ -85,7 +95,11 @@ unread_shows ins held first before now room m between partial p rose r = (
     spelled = refl;
     path = r.path;
     closes = goes_on m held now;
-    few = subst (λ n. n ≤ 4294967295) (path_counts ins r.outs m r.path) r.few;
+    alone = λ _. refl;
+    at = at;
+    graphs = subst (λ xs. Graphs xs at) (sym (append-nil r.outs)) r.graphs;
+    traced = graphs_are_traced (r.outs ++ []) at (subst (λ xs. Graphs xs at) (sym (append-nil r.outs)) r.graphs);
+    few = subst (λ n. n ≤ 4294967295) (path_counts ins (without_graph r.outs) m r.path) r.few;
     texts = ap out_texts (append-nil r.outs) ∙ r.texts ∙ ap (λ t. (r.written ++ []) ++ t) (r.whole refl);
   },
   record {

@@ -36,7 +36,13 @@ pub waits_filled : (n : ℕ) (held held' : List ℕ) (first before now : Outside
 waits_filled n held held' first before now old new c h w = record {
   ins = w.ins;
   counted = w.counted;
-  goes = record { machine = w.goes.machine; stands = w.goes.stands; going = h w.ins first w.goes.machine w.goes.going };
+  goes = record {
+    machine = w.goes.machine;
+    at = w.goes.at;
+    stands = w.goes.stands;
+    fits = w.goes.fits;
+    going = h w.ins first w.goes.machine w.goes.at w.goes.going;
+  };
 }
 
 pub uses_filled : (r : Option Status) (a b d : List ℕ) (before mid now : Outside) (old log new : Logged) (c c' : Seen) → KeepsRun a b before mid old log →

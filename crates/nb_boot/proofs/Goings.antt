@@ -6,9 +6,12 @@ use Rattle.nb_record.specs.Outside.{Outside, Passes}
 use Rattle.nb_record.specs.Logged.{Logged}
 use Rattle.nb_record.proofs.OutsideLemmas.{Passes-nothing, Passes-then}
 use Rattle.nb_engine.specs.Machine.{Machine, Moves, rests, moves_on, Path, uses, moves, fresh, nothing}
-use Rattle.nb_engine.specs.Seen.{Seen, StandsFor}
+use Rattle.nb_engine.specs.Seen.{Seen, StandsFor, Fits}
 use Rattle.nb_engine.specs.Turns.{Steps, Grows}
 use Rattle.nb_engine.proofs.Puts.{is_either}
+use Rattle.nb_opens.specs.Graphs.{GraphAt, bare, without_graph}
+use Rattle.nb_opens.specs.Graphs as order
+use Rattle.nb_opens.proofs.Plain.{plain_append}
 use Rattle.nb_boot.specs.Going.{Going, Goes, Wrote, HasNumber}
 use Rattle.nb_laws.proofs.Counts.{begins_counts, move_counts}
 use Rattle.nb_boot.proofs.Standing.{stands_used}
@@ -63,44 +66,58 @@ path_steps [] ins outs added m m' p s = subst (λ xs. Path xs (outs ++ added) m'
 path_steps (r ∷ []) ins outs added m m' p s = uses ins outs m r added m' p s
 path_steps (r ∷ q ∷ rs) ins outs added m m' p s = absurd s
 
-grows_whole : (used ins : List In) (rest : List ℕ) (first now : Outside) (old new : Logged) (c c' : Seen) (m : Machine) → old.is_short ≡ false → Grows used c c' old new → HasNumber used c.used →
-    StandsFor c m → Going ins (in_texts used ++ rest) first now old m → Goes (ins ++ used) rest first now new c'
-grows_whole used ins rest first now old new c c' m e g number st r =
+-- so it does without the records of the graph
+path_on : (used ins : List In) (outs added : List Out) (m m' : Machine) → Path ins (without_graph outs) m → Steps used m (without_graph added) m' →
+    Path (ins ++ used) (without_graph (outs ++ added)) m'
+path_on used ins outs added m m' p s =
+    subst (λ xs. Path (ins ++ used) xs m') (sym (plain_append outs added)) (path_steps used ins (without_graph outs) (without_graph added) m m' p s)
+
+grows_whole : (used ins : List In) (rest : List ℕ) (first now : Outside) (old new : Logged) (c c' : Seen) (m : Machine) (p : GraphAt) → old.is_short ≡ false → Grows used c c' old new → HasNumber used c.used →
+    StandsFor c m → Fits c p → Going ins (in_texts used ++ rest) first now old m p → Goes (ins ++ used) rest first now new c'
+grows_whole used ins rest first now old new c c' m p e g number st fit r =
     let none : r.lost ≡ [] = r.whole e in
     let start : out_texts r.outs ≡ (r.written ++ old.bytes) ++ [] = rw (← none) r.texts in
     let l = g.leads m st in
+    let at = g.graphs r.outs p r.graphs fit in
     record {
       machine = l.machine;
+      at = at.0;
       stands = l.stands;
+      fits = at.2;
       going = record {
         outs = r.outs ++ g.added;
         written = r.written;
         lost = g.puts.lost;
         passes = subst (λ xs. Passes first now xs r.written) (read_again ins used rest) r.passes;
-        path = path_steps used ins r.outs g.added m l.machine r.path l.steps;
+        path = path_on used ins r.outs g.added m l.machine r.path l.steps;
+        graphs = at.1;
         texts = rw g.puts.appended (join_whole r.outs g.added r.written old.bytes g.puts.part g.puts.lost start g.puts.fronts);
-        few = steps_few used g.added m l.machine l.steps (subst (λ n. HasNumber used n) (sym (stands_used c m st)) number) r.few;
+        few = steps_few used (without_graph g.added) m l.machine l.steps (subst (λ n. HasNumber used n) (sym (stands_used c m st)) number) r.few;
         whole = λ f. end_of_front g.added g.puts.part g.puts.lost old.bytes new.bytes (g.puts.whole f).1 g.puts.appended g.puts.fronts;
       };
     }
 
-grows_short : (used ins : List In) (rest : List ℕ) (first now : Outside) (old new : Logged) (c c' : Seen) (m : Machine) → old.is_short ≡ true → Grows used c c' old new → HasNumber used c.used →
-    StandsFor c m → Going ins (in_texts used ++ rest) first now old m → Goes (ins ++ used) rest first now new c'
-grows_short used ins rest first now old new c c' m e g number st r =
+grows_short : (used ins : List In) (rest : List ℕ) (first now : Outside) (old new : Logged) (c c' : Seen) (m : Machine) (p : GraphAt) → old.is_short ≡ true → Grows used c c' old new → HasNumber used c.used →
+    StandsFor c m → Fits c p → Going ins (in_texts used ++ rest) first now old m p → Goes (ins ++ used) rest first now new c'
+grows_short used ins rest first now old new c c' m p e g number st fit r =
     let same : new ≡ old = g.puts.stays e in
     let short : new.is_short ≡ true = ap (λ (l : Logged). l.is_short) same ∙ e in
     let l = g.leads m st in
+    let at = g.graphs r.outs p r.graphs fit in
     record {
       machine = l.machine;
+      at = at.0;
       stands = l.stands;
+      fits = at.2;
       going = record {
         outs = r.outs ++ g.added;
         written = r.written;
         lost = r.lost ++ out_texts g.added;
         passes = subst (λ xs. Passes first now xs r.written) (read_again ins used rest) r.passes;
-        path = path_steps used ins r.outs g.added m l.machine r.path l.steps;
+        path = path_on used ins r.outs g.added m l.machine r.path l.steps;
+        graphs = at.1;
         texts = rw (ap (λ (l : Logged). l.bytes) same) (join_short r.outs g.added r.written old.bytes r.lost r.texts);
-        few = steps_few used g.added m l.machine l.steps (subst (λ n. HasNumber used n) (sym (stands_used c m st)) number) r.few;
+        few = steps_few used (without_graph g.added) m l.machine l.steps (subst (λ n. HasNumber used n) (sym (stands_used c m st)) number) r.few;
         whole = λ f. let no : true ≡ false = sym short ∙ f in cc;
       };
     }
@@ -110,18 +127,19 @@ pub going_grows : (used ins : List In) (rest : List ℕ) (first now : Outside) (
     Goes ins (in_texts used ++ rest) first now old c → Goes (ins ++ used) rest first now new c'
 going_grows used ins rest first now old new c c' g number r =
     elim (is_either old.is_short) [
-      | inl e ↦ grows_short used ins rest first now old new c c' r.machine e g number r.stands r.going
-      | inr e ↦ grows_whole used ins rest first now old new c c' r.machine e g number r.stands r.going
+      | inl e ↦ grows_short used ins rest first now old new c c' r.machine r.at e g number r.stands r.fits r.going
+      | inr e ↦ grows_whole used ins rest first now old new c c' r.machine r.at e g number r.stands r.fits r.going
     ]
 
 -- nothing was read and written yet
-pub going_fresh : (now : Outside) (log : Logged) → log.bytes ≡ [] → Going [] [] now now log fresh
+pub going_fresh : (now : Outside) (log : Logged) → log.bytes ≡ [] → Going [] [] now now log fresh (bare 0)
 going_fresh now log h = record {
   outs = [];
   written = [];
   lost = [];
   passes = Passes-nothing now;
   path = nothing;
+  graphs = order.nothing;
   texts = rw h refl;
   few = lit≤ tt;
   whole = λ _. refl;
@@ -132,23 +150,24 @@ pub passes_wrote : (a b c : Outside) (read written more : List ℕ) → Passes a
 passes_wrote a b c read written more p q = subst (λ xs. Passes a c xs (written ++ more)) (append-nil read) (Passes-then a b c read written [] more p q)
 
 -- the log was written out
-pub going_flushed : (ins : List In) (held : List ℕ) (first before now : Outside) (log : Logged) (m : Machine) (room : ℕ) → log.is_short ≡ false → Wrote before now log.bytes →
-    Going ins held first before log m → Going ins held first now (record { bytes = []; room = room; is_short = false }) m
-going_flushed ins held first before now log m room e w r = record {
+pub going_flushed : (ins : List In) (held : List ℕ) (first before now : Outside) (log : Logged) (m : Machine) (p : GraphAt) (room : ℕ) → log.is_short ≡ false → Wrote before now log.bytes →
+    Going ins held first before log m p → Going ins held first now (record { bytes = []; room = room; is_short = false }) m p
+going_flushed ins held first before now log m p room e w r = record {
   outs = r.outs;
   written = r.written ++ log.bytes;
   lost = r.lost;
   passes = passes_wrote first before now (in_texts ins ++ held) r.written log.bytes r.passes w;
   path = r.path;
+  graphs = r.graphs;
   texts = r.texts ∙ ap (λ t. t ++ r.lost) (sym (append-nil (r.written ++ log.bytes)));
   few = r.few;
   whole = λ _. r.whole e;
 }
 
 -- more was read, and is held
-pub going_read : (ins : List In) (held bytes : List ℕ) (first before now : Outside) (log : Logged) (m : Machine) → Passes before now bytes [] →
-    Going ins held first before log m → Going ins (held ++ bytes) first now log m
-going_read ins held bytes first before now log m p r = record {
+pub going_read : (ins : List In) (held bytes : List ℕ) (first before now : Outside) (log : Logged) (m : Machine) (at : GraphAt) → Passes before now bytes [] →
+    Going ins held first before log m at → Going ins (held ++ bytes) first now log m at
+going_read ins held bytes first before now log m at p r = record {
   outs = r.outs;
   written = r.written;
   lost = r.lost;
@@ -156,6 +175,7 @@ going_read ins held bytes first before now log m p r = record {
       (subst (λ ws. Passes first now ((in_texts ins ++ held) ++ bytes) ws) (append-nil r.written)
       (Passes-then first before now (in_texts ins ++ held) r.written bytes [] r.passes p));
   path = r.path;
+  graphs = r.graphs;
   texts = r.texts;
   few = r.few;
   whole = r.whole;

@@ -4,6 +4,7 @@ pub mod Cuttings
 pub mod Refills
 pub mod Turned
 pub mod Standing
+pub mod Last
 pub mod Closings
 pub mod BadRests
 pub mod Waiting

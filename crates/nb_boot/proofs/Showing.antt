@@ -6,6 +6,7 @@ use Rattle.nb_engine.specs.declared.status.Status.{Status}
 use Rattle.nb_engine.specs.declared.status.Status.TheVariants as status
 use Rattle.nb_engine.specs.Machine.{Machine, Phase, shutdown_records}
 use Rattle.nb_engine.specs.Machine as lone
+use Rattle.nb_opens.specs.Graphs.{without_graph}
 use Rattle.nb_machine.specs.Courses.{Standing, Progress, Course}
 use Rattle.nb_machine.specs.Carried.{StandsAs, Carries}
 use Rattle.nb_machine.specs.Closings.{Shuts}
@@ -62,7 +63,7 @@ closed_same m p rest o closing c shut (run.goes_on _ _ _) = goes_on
 closed_same m p rest o closing c shut (run.is_over _ _ _ number ends) = has_ended number (shutdown_records m.phase) (ends_same m p rest o number c ends) shut
 
 -- the run, with its course
-abbrev with_course : (before after : Outside) (r : Run before after) (p : Progress) → Course r.ins r.outs p → Carries r.machine p → Shuts p.standing (shutdown_records r.machine.phase) → Shown before after
+abbrev with_course : (before after : Outside) (r : Run before after) (p : Progress) → Course r.ins (without_graph r.outs) p → Carries r.machine p → Shuts p.standing (shutdown_records r.machine.phase) → Shown before after
 with_course before after r p course c shut = record {
   ins = r.ins;
   outs = r.outs;
@@ -75,25 +76,33 @@ with_course before after r p course c shut = record {
   passes = r.passes;
   spelled = r.spelled;
   course = course;
-  closed = closed_same r.machine p r.rest after r.closing c shut r.closes;
+  closed = closed_same r.machine p r.rest after (without_graph r.closing) c shut r.closes;
+  alone = r.alone;
+  at = r.at;
+  graphs = r.graphs;
+  traced = r.traced;
   texts = r.texts;
   few = r.few;
-  history = (lawful_run r.ins r.outs r.machine r.path).0;
-  is_history = (lawful_run r.ins r.outs r.machine r.path).1;
-  is_lawful = (lawful_run r.ins r.outs r.machine r.path).2;
+  history = (lawful_run r.ins (without_graph r.outs) r.machine r.path).0;
+  is_history = (lawful_run r.ins (without_graph r.outs) r.machine r.path).1;
+  is_lawful = (lawful_run r.ins (without_graph r.outs) r.machine r.path).2;
 }
 
-ended_same : (before after : Outside) (r : Run before after) (p : Progress) (course : Course r.ins r.outs p) (c : Carries r.machine p) (shut : Shuts p.standing (shutdown_records r.machine.phase)) (number : ℕ) →
+ended_same : (before after : Outside) (r : Run before after) (p : Progress) (course : Course r.ins (without_graph r.outs) p) (c : Carries r.machine p) (shut : Shuts p.standing (shutdown_records r.machine.phase)) (number : ℕ) →
     IsOver before after r number → HasEnded before after (with_course before after r p course c shut) number
 ended_same before after r p course c shut number h = record {
   ends = ends_same r.machine p r.rest after number c h.ends;
   put = shutdown_records r.machine.phase;
   shuts = shut;
   closing = h.closed;
+  front = h.front;
+  last = h.last;
+  opens = h.opens;
+  none = h.none;
   all = h.all;
 }
 
-said : (s : Status) (before after : Outside) (r : Run before after) (p : Progress) (course : Course r.ins r.outs p) (c : Carries r.machine p) (shut : Shuts p.standing (shutdown_records r.machine.phase)) →
+said : (s : Status) (before after : Outside) (r : Run before after) (p : Progress) (course : Course r.ins (without_graph r.outs) p) (c : Carries r.machine p) (shut : Shuts p.standing (shutdown_records r.machine.phase)) →
     Says s before after r → IsSaid s before after (with_course before after r p course c shut)
 said status.HandedOff before after r p course c shut h = (ended_same before after r p course c shut 0 h.0, h.1)
 said status.Ended before after r p course c shut h = ended_same before after r p course c shut 3 h
@@ -111,6 +120,6 @@ said status.BadWords before after r p course c shut h = absurd h
 pub shows_course : (s : Status) (before after : Outside) → Shows s before after → ShowsCourse s before after
 shows_course s before after shows =
     let r = shows.0 in
-    let (p, course, c) = runs_are_courses r.ins r.outs r.machine r.path in
-    let shut = shuts r.ins r.outs r.machine p.standing r.path c.standing in
+    let (p, course, c) = runs_are_courses r.ins (without_graph r.outs) r.machine r.path in
+    let shut = shuts r.ins (without_graph r.outs) r.machine p.standing r.path c.standing in
     (with_course before after r p course c shut, said s before after r p course c shut shows.1)

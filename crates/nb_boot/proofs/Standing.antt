@@ -1,13 +1,14 @@
 -- What is known of the machine's state for which a client stands.
-use Rattle.std.proofs.Common.{◌≡◌, ℕ, ◌<◌, ◌⊎◌, List, [], ◌∷◌, ◌++◌, length, refl, sym, ◌∙◌, ap}
-use Rattle.nb_defs.specs.Records.{In, start, frame, tick, off, IsPartial, IsBroken, ended, done}
+use Rattle.std.proofs.Common.{◌≡◌, ℕ, ◌<◌, ◌⊎◌, List, length, refl, sym, ◌∙◌, ap}
+use Rattle.nb_defs.specs.Records.{In, start, frame, tick, off, IsPartial, IsBroken}
 use Rattle.nb_record.specs.Outside.{Outside, IsAtEnd}
 use Rattle.nb_record.specs.Logged.{Logged}
 use Rattle.nb_laws.proofs.Counts.{path_counts}
-use Rattle.nb_engine.specs.Machine.{Machine, shutdown_records, stopped_cause}
+use Rattle.nb_engine.specs.Machine.{Machine}
+use Rattle.nb_opens.specs.Graphs.{without_graph}
 use Rattle.nb_engine.specs.Seen.{Seen, StandsFor, as_ready, as_running, as_waiting, as_sleeping, as_yielded, as_handing, as_left, as_handed_off, as_stopped}
 use Rattle.nb_engine.specs.StatusNumber.{status_number}
-use Rattle.nb_engine.specs.Turns.{IsEnd, IsResting, IsOverWith, MayUse, closing_records}
+use Rattle.nb_engine.specs.Turns.{IsEnd, IsResting, IsOverWith, MayUse}
 use Rattle.nb_engine.specs.declared.stage.Stage.{Stage}
 use Rattle.nb_engine.specs.declared.status.Status.{Status}
 use Rattle.nb_engine.specs.declared.status.Status.TheVariants as status
@@ -16,67 +17,67 @@ use Rattle.nb_boot.specs.Going.{Goes, IsClosing}
 
 -- it used as many records
 pub stands_used : (c : Seen) (m : Machine) → StandsFor c m → m.used ≡ c.used
-stands_used c m (as_ready n w) = refl
-stands_used c m (as_running n w s) = refl
-stands_used c m (as_waiting n w s f o live) = refl
-stands_used c m (as_sleeping n w s until) = refl
-stands_used c m (as_yielded n w s) = refl
-stands_used c m (as_handing n w h rest e) = refl
-stands_used c m (as_left n w cause) = refl
-stands_used c m (as_handed_off n w) = refl
-stands_used c m (as_stopped n w) = refl
+stands_used c m (as_ready n w g) = refl
+stands_used c m (as_running n w g s) = refl
+stands_used c m (as_waiting n w g s f o live) = refl
+stands_used c m (as_sleeping n w g s until) = refl
+stands_used c m (as_yielded n w g s) = refl
+stands_used c m (as_handing n w g h rest e) = refl
+stands_used c m (as_left n w g cause) = refl
+stands_used c m (as_handed_off n w g) = refl
+stands_used c m (as_stopped n w g) = refl
 
 -- so does its client
 pub goes_counts : (ins : List In) (held : List ℕ) (first now : Outside) (log : Logged) (c : Seen) → Goes ins held first now log c → c.used ≡ length ins
-goes_counts ins held first now log c g = sym (stands_used c g.machine g.stands) ∙ path_counts ins g.going.outs g.machine g.going.path
+goes_counts ins held first now log c g = sym (stands_used c g.machine g.stands) ∙ path_counts ins (without_graph g.going.outs) g.machine g.going.path
 
 -- where a client's command waits, the machine's does
 pub stands_awaits : (c : Seen) (m : Machine) → StandsFor c m → IsResting c.stage → Awaits m.phase
-stands_awaits c m (as_ready n w) h = absurd h
-stands_awaits c m (as_running n w s) h = absurd h
-stands_awaits c m (as_waiting n w s f o live) h = tt
-stands_awaits c m (as_sleeping n w s until) h = tt
-stands_awaits c m (as_yielded n w s) h = tt
-stands_awaits c m (as_handing n w x rest e) h = absurd h
-stands_awaits c m (as_left n w cause) h = absurd h
-stands_awaits c m (as_handed_off n w) h = absurd h
-stands_awaits c m (as_stopped n w) h = absurd h
+stands_awaits c m (as_ready n w g) h = absurd h
+stands_awaits c m (as_running n w g s) h = absurd h
+stands_awaits c m (as_waiting n w g s f o live) h = tt
+stands_awaits c m (as_sleeping n w g s until) h = tt
+stands_awaits c m (as_yielded n w g s) h = tt
+stands_awaits c m (as_handing n w g x rest e) h = absurd h
+stands_awaits c m (as_left n w g cause) h = absurd h
+stands_awaits c m (as_handed_off n w g) h = absurd h
+stands_awaits c m (as_stopped n w g) h = absurd h
 
 pub stands_between : (c : Seen) (m : Machine) → StandsFor c m → IsResting c.stage → IsBetween m.phase
-stands_between c m (as_ready n w) h = absurd h
-stands_between c m (as_running n w s) h = absurd h
-stands_between c m (as_waiting n w s f o live) h = tt
-stands_between c m (as_sleeping n w s until) h = tt
-stands_between c m (as_yielded n w s) h = tt
-stands_between c m (as_handing n w x rest e) h = absurd h
-stands_between c m (as_left n w cause) h = absurd h
-stands_between c m (as_handed_off n w) h = absurd h
-stands_between c m (as_stopped n w) h = absurd h
+stands_between c m (as_ready n w g) h = absurd h
+stands_between c m (as_running n w g s) h = absurd h
+stands_between c m (as_waiting n w g s f o live) h = tt
+stands_between c m (as_sleeping n w g s until) h = tt
+stands_between c m (as_yielded n w g s) h = tt
+stands_between c m (as_handing n w g x rest e) h = absurd h
+stands_between c m (as_left n w g cause) h = absurd h
+stands_between c m (as_handed_off n w g) h = absurd h
+stands_between c m (as_stopped n w g) h = absurd h
 
 -- no record may come where a command waits
 pub stands_bad : (c : Seen) (m : Machine) (rest : List ℕ) (o : Outside) → StandsFor c m → IsResting c.stage →
     IsBroken rest ⊎ (BeginsWith rest IsFirst ⊎ (IsPartial rest × (0 < length rest) × IsAtEnd o)) → IsBadRest m.phase rest o
-stands_bad c m rest o (as_ready n w) h b = absurd h
-stands_bad c m rest o (as_running n w s) h b = absurd h
-stands_bad c m rest o (as_waiting n w s f op live) h b = b
-stands_bad c m rest o (as_sleeping n w s until) h b = b
-stands_bad c m rest o (as_yielded n w s) h b = b
-stands_bad c m rest o (as_handing n w x left1 e) h b = absurd h
-stands_bad c m rest o (as_left n w cause) h b = absurd h
-stands_bad c m rest o (as_handed_off n w) h b = absurd h
-stands_bad c m rest o (as_stopped n w) h b = absurd h
+stands_bad c m rest o (as_ready n w g) h b = absurd h
+stands_bad c m rest o (as_running n w g s) h b = absurd h
+stands_bad c m rest o (as_waiting n w g s f op live) h b = b
+stands_bad c m rest o (as_sleeping n w g s until) h b = b
+stands_bad c m rest o (as_yielded n w g s) h b = b
+stands_bad c m rest o (as_handing n w g x left1 e) h b = absurd h
+stands_bad c m rest o (as_left n w g cause) h b = absurd h
+stands_bad c m rest o (as_handed_off n w g) h b = absurd h
+stands_bad c m rest o (as_stopped n w g) h b = absurd h
 
 -- a client whose run is over stands for a machine whose run is
 pub over_ends : (s : Status) (c : Seen) (m : Machine) (rest : List ℕ) (o : Outside) → StandsFor c m → IsOverWith c.stage s → Ends m rest o (status_number s)
-over_ends s c m rest o (as_ready n w) h = absurd h
-over_ends s c m rest o (as_running n w r) h = absurd h
-over_ends s c m rest o (as_waiting n w r f op live) h = absurd h
-over_ends s c m rest o (as_sleeping n w r until) h = absurd h
-over_ends s c m rest o (as_yielded n w r) h = absurd h
-over_ends s c m rest o (as_handing n w x left1 e) h = absurd h
-over_ends s c m rest o (as_left n w cause) h = was_left cause refl h
-over_ends s c m rest o (as_handed_off n w) h = was_handed refl (ap status_number h)
-over_ends s c m rest o (as_stopped n w) h = was_stopped refl (ap status_number h)
+over_ends s c m rest o (as_ready n w g) h = absurd h
+over_ends s c m rest o (as_running n w g r) h = absurd h
+over_ends s c m rest o (as_waiting n w g r f op live) h = absurd h
+over_ends s c m rest o (as_sleeping n w g r until) h = absurd h
+over_ends s c m rest o (as_yielded n w g r) h = absurd h
+over_ends s c m rest o (as_handing n w g x left1 e) h = absurd h
+over_ends s c m rest o (as_left n w g cause) h = was_left cause refl h
+over_ends s c m rest o (as_handed_off n w g) h = was_handed refl (ap status_number h)
+over_ends s c m rest o (as_stopped n w g) h = was_stopped refl (ap status_number h)
 
 -- DONE tells the end of a client
 pub end_closes : (s : Status) → IsEnd s → IsClosing s
@@ -91,18 +92,6 @@ end_closes status.WriteFault e = absurd e
 end_closes status.NoMemory e = absurd e
 end_closes status.AttachFault e = absurd e
 end_closes status.TooManyRecords e = absurd e
-
--- a client closes what its machine closes
-pub closing_is : (c : Seen) (m : Machine) (number : ℕ) → StandsFor c m → closing_records c.stage number ≡ shutdown_records m.phase ++ done number ∷ []
-closing_is c m number (as_ready n w) = refl
-closing_is c m number (as_running n w s) = refl
-closing_is c m number (as_waiting n w s f o live) = ap (λ k. ended k stopped_cause ∷ done number ∷ []) live.fetch.number
-closing_is c m number (as_sleeping n w s until) = refl
-closing_is c m number (as_yielded n w s) = refl
-closing_is c m number (as_handing n w h rest e) = refl
-closing_is c m number (as_left n w cause) = refl
-closing_is c m number (as_handed_off n w) = refl
-closing_is c m number (as_stopped n w) = refl
 
 -- where a command waits, each record but START may be used
 pub may_use : (r : In) (st : Stage) → IsOther r → IsResting st → MayUse r st

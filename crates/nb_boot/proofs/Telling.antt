@@ -3,6 +3,7 @@ use Rattle.std.proofs.Common.{◌≡◌, ℕ, ◌<◌, ◌≤◌, ◌⊎◌, inl
 use Rattle.std.specs.Prelude.{IsSome}
 use Rattle.nb_defs.specs.Records.{In, off, IsIn, in_text, in_texts, Out, IsPartial, IsBroken}
 use Rattle.nb_defs.proofs.RecordLaws.{partial_not_whole, length-in_text}
+use Rattle.nb_opens.specs.Graphs.{without_graph}
 use Rattle.nb_record.specs.Outside.{Outside, IsAtEnd}
 use Rattle.nb_engine.specs.declared.status.Status.{Status}
 use Rattle.nb_engine.specs.declared.status.Status.TheVariants as status
@@ -162,7 +163,7 @@ over : (before after : Outside) (r : Run before after) (number' : ℕ) → Ends 
     before.left ≡ Some (in_texts ins ++ more) → Path ins outs m → SaysStatus m.phase more number → IsSome after.left → number' ≡ number
 over before after r number' c ins more outs m number few e path says some =
     let t = gave_told before.left after.left (in_texts ins ++ more) r.read e some r.passes.gave in
-    ends_so ins r.ins more r.rest t.0 after outs r.outs m r.machine number number' few path says t.1 r.path (t.2 ∙ ap (λ z. z ++ t.0) r.spelled ∙ append_assoc (in_texts r.ins) r.rest t.0) c
+    ends_so ins r.ins more r.rest t.0 after outs (without_graph r.outs) m r.machine number number' few path says t.1 r.path (t.2 ∙ ap (λ z. z ++ t.0) r.spelled ∙ append_assoc (in_texts r.ins) r.rest t.0) c
 
 pub completes_run : (s : Status) (before after : Outside) → Shows s before after → CompletesRun s before after
 completes_run status.HandedOff before after (r, o) = λ ins more outs m number few e path says some none memory. over before after r 0 o.0.ends ins more outs m number few e path says some

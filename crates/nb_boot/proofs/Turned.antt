@@ -46,7 +46,8 @@ Keeps before now old new c c' = (ins : List In) (held : List ℕ) (first : Outsi
 
 -- a log that was written out keeps a run
 pub keeps_log : (before now : Outside) (old new : Logged) (c : Seen) → ((held : List ℕ) → KeepsRun held held before now old new) → Keeps before now old new c c
-keeps_log before now old new c h = λ ins held first g. record { machine = g.machine; stands = g.stands; going = h held ins first g.machine g.going }
+keeps_log before now old new c h = λ ins held first g.
+    record { machine = g.machine; at = g.at; stands = g.stands; fits = g.fits; going = h held ins first g.machine g.at g.going }
 
 -- one after the other
 pub keeps_then : (a b d : Outside) (old mid new : Logged) (c c1 c' : Seen) → Keeps a b old mid c c1 → Keeps b d mid new c1 c' → Keeps a d old new c c'
@@ -87,13 +88,13 @@ over_steps (ending.Over t) s used before now old mid new c c1 c' k a number e =
 over_steps (ending.Cut f) s used before now old mid new c c1 c' k a number e =
     let P : Flaw → Type 0 = λ x. Stops (flaw_status x) used before now old c in
     subst P (sym e.1) (λ ins rest first r.
-    let g = k ins (in_texts used ++ rest) first r in memory_shows ins (in_texts used ++ rest) first now mid g.machine g.going)
+    let g = k ins (in_texts used ++ rest) first r in memory_shows ins (in_texts used ++ rest) first now mid g.machine g.at g.going)
 
 -- the log couldn't be written out, behind a run that went on
 pub cut_stops : (s : Status) (used : List In) (before mid now : Outside) (old log : Logged) (c c1 : Seen) → Keeps before mid old log c c1 → CutsAll s mid now log →
     Stops s used before now old c
 cut_stops s used before mid now old log c c1 k x = λ ins rest first r.
-    let g = k ins (in_texts used ++ rest) first r in x (in_texts used ++ rest) ins first g.machine g.going
+    let g = k ins (in_texts used ++ rest) first r in x (in_texts used ++ rest) ins first g.machine g.at g.going
 
 -- a run that goes on where it went on
 pub keeps_nothing : (now : Outside) (log : Logged) (c : Seen) → Keeps now now log log c c

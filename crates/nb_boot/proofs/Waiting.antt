@@ -6,6 +6,7 @@ use Rattle.nb_record.specs.Logged.{Logged}
 use Rattle.nb_engine.specs.Seen.{Seen}
 use Rattle.nb_engine.specs.StatusNumber.{status_number}
 use Rattle.nb_engine.specs.Turns.{IsResting}
+use Rattle.nb_opens.specs.Graphs.{without_graph}
 use Rattle.nb_engine.specs.declared.status.Status.{Status}
 use Rattle.nb_boot.specs.Run.{IsFirst, BeginsWith, Ends, ran_out, was_bad, was_full}
 use Rattle.nb_boot.specs.Going.{Waits, IsEndStatus, IsClosing}
@@ -27,7 +28,7 @@ waits_out n held first now log c w h none end = ran_out (stands_awaits c w.goes.
 pub waits_full : (held : List ℕ) (first now : Outside) (log : Logged) (c : Seen) (w : Waits 4294967295 held first now log c) → IsResting c.stage →
     0 < length held → Ends w.goes.machine held now 11
 waits_full held first now log c w h some =
-    was_full (path_counts w.ins w.goes.going.outs w.goes.machine w.goes.going.path ∙ w.counted) (stands_awaits c w.goes.machine w.goes.stands h) some refl
+    was_full (path_counts w.ins (without_graph w.goes.going.outs) w.goes.machine w.goes.going.path ∙ w.counted) (stands_awaits c w.goes.machine w.goes.stands h) some refl
 
 -- the input ended
 pub waits_end : (s : Status) (n : ℕ) (held : List ℕ) (first now : Outside) (log : Logged) (c : Seen) (w : Waits n held first now log c) → IsResting c.stage →
@@ -44,7 +45,7 @@ rest_closes s (b ∷ bytes) e = rw e tt
 -- the client counts the records used
 pub waits_counts : (n : ℕ) (held : List ℕ) (first now : Outside) (log : Logged) (c : Seen) → Waits n held first now log c → c.used ≡ n
 waits_counts n held first now log c w =
-    sym (stands_used c w.goes.machine w.goes.stands) ∙ path_counts w.ins w.goes.going.outs w.goes.machine w.goes.going.path ∙ w.counted
+    sym (stands_used c w.goes.machine w.goes.stands) ∙ path_counts w.ins (without_graph w.goes.going.outs) w.goes.machine w.goes.going.path ∙ w.counted
 
 -- a list of no length is empty
 no_length : (n : ℕ) → (n == 0) ≡ true → n ≡ 0

@@ -2,8 +2,9 @@
 use Rattle.std.specs.Prelude.{◌≡◌, ◌<◌, ◌≤◌, ℕ, ◌+◌, Bool, true, false, List, [], ◌∷◌, ◌++◌, length, Option, Some, None}
 use Rattle.nb_defs.specs.Records.{In, in_texts, Out, out_texts, IsPartial}
 use Rattle.nb_engine.specs.Machine.{Machine, Path, fresh}
-use Rattle.nb_engine.specs.Seen.{Seen, StandsFor}
+use Rattle.nb_engine.specs.Seen.{Seen, StandsFor, Fits}
 use Rattle.nb_engine.specs.Turns.{IsEnd, IsResting, IsOverWith}
+use Rattle.nb_opens.specs.Graphs.{Graphs, GraphAt, bare, without_graph}
 use Rattle.nb_record.specs.Outside.{Outside, Passes, Rose, IsAtEnd}
 use Rattle.nb_record.specs.Logged.{Logged}
 use Rattle.nb_boot.specs.Run.{Shows, IsBetween, IsFirst, IsOther}
@@ -16,23 +17,26 @@ use Rattle.nb_boot.specs.declared.feeding.Filled.TheVariants as filled
 use Rattle.nb_boot.specs.declared.play.StepEnd.{StepEnd}
 use Rattle.nb_boot.specs.declared.play.StepEnd.TheVariants as ending
 
--- The records used led the machine here, and their output was written, or stands in the log. Of what was
+-- The records used led the machine and the graph here, and their output was written, or stands in the log. Of what was
 -- read these bytes are held.
-pub record Going (ins : List In) (held : List ℕ) (first now : Outside) (log : Logged) (m : Machine) : Type 0 where
+pub record Going (ins : List In) (held : List ℕ) (first now : Outside) (log : Logged) (m : Machine) (p : GraphAt) : Type 0 where
   pub outs : List Out
   pub written : List ℕ
   pub lost : List ℕ
   pub passes : Passes first now (in_texts ins ++ held) written
-  pub path : Path ins outs m
+  pub path : Path ins (without_graph outs) m
+  pub graphs : Graphs outs p
   pub texts : out_texts outs ≡ (written ++ log.bytes) ++ lost
   pub whole : log.is_short ≡ false → lost ≡ []
   pub few : m.used ≤ 4294967295
 
--- a run that goes on with a client, which stands for its state
+-- a run that goes on with a client, which stands for its state, and whose graph stands there
 pub record Goes (ins : List In) (held : List ℕ) (first now : Outside) (log : Logged) (c : Seen) : Type 0 where
   pub machine : Machine
+  pub at : GraphAt
   pub stands : StandsFor c machine
-  pub going : Going ins held first now log machine
+  pub fits : Fits c at
+  pub going : Going ins held first now log machine at
 
 -- a run that goes on behind so many records
 pub record Waits (count : ℕ) (held : List ℕ) (first now : Outside) (log : Logged) (c : Seen) : Type 0 where
@@ -66,11 +70,11 @@ IsFlaw flaw.NoMemory before after log = Passes before after [] []
 -- whatever run went on before, it goes on afterwards, with this held of what was read
 abbrev pub KeepsRun : List ℕ → List ℕ → Outside → Outside → Logged → Logged → Type 0
 KeepsRun held held' before now old new =
-    (ins : List In) (first : Outside) (m : Machine) → Going ins held first before old m → Going ins held' first now new m
+    (ins : List In) (first : Outside) (m : Machine) (p : GraphAt) → Going ins held first before old m p → Going ins held' first now new m p
 
 -- whatever run went on before, this is its status
 abbrev pub Cuts : Status → List ℕ → Outside → Outside → Logged → Type 0
-Cuts s held before now old = (ins : List In) (first : Outside) (m : Machine) → Going ins held first before old m → Shows s first now
+Cuts s held before now old = (ins : List In) (first : Outside) (m : Machine) (p : GraphAt) → Going ins held first before old m p → Shows s first now
 
 -- the same, of any bytes held
 abbrev pub CutsAll : Status → Outside → Outside → Logged → Type 0
@@ -81,7 +85,7 @@ abbrev pub Fills : Filled → List ℕ → List ℕ → Outside → Outside → 
 Fills filled.More held held' before now old new = KeepsRun held held' before now old new
 Fills filled.Ended held held' before now old new = KeepsRun held held' before now old new × IsPartial held' × IsAtEnd now
 Fills filled.Fault held held' before now old new =
-    (ins : List In) (first : Outside) (m : Machine) → IsBetween m.phase → Going ins held first before old m → Shows status.ReadFault first now
+    (ins : List In) (first : Outside) (m : Machine) (p : GraphAt) → IsBetween m.phase → Going ins held first before old m p → Shows status.ReadFault first now
 Fills (filled.Cut f) held held' before now old new = Cuts (flaw_status f) held before now old
 
 -- a record has a number of 32 bits
@@ -135,11 +139,11 @@ IsClosing _ = ⊥
 
 -- a client was made, and used START: the next record is waited for
 abbrev pub Opens : List ℕ → List ℕ → Outside → Outside → Logged → Logged → Seen → Type 0
-Opens held held' before now old new c = IsResting c.stage × ((first : Outside) → Going [] held first before old fresh → Waits 1 held' first now new c)
+Opens held held' before now old new c = IsResting c.stage × ((first : Outside) → Going [] held first before old fresh (bare 0) → Waits 1 held' first now new c)
 
 -- the run is over, before START or in its step
 abbrev pub RefusesRun : Status → List ℕ → Outside → Outside → Logged → Type 0
-RefusesRun s held before now old = (first : Outside) → Going [] held first before old fresh → Shows s first now
+RefusesRun s held before now old = (first : Outside) → Going [] held first before old fresh (bare 0) → Shows s first now
 
 -- whether a record is a START
 abbrev pub TellsFirst : Bool → In → Type 0

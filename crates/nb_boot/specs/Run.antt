@@ -4,6 +4,8 @@ use Rattle.nb_terms.specs.declared.cause.Cause.{Cause}
 use Rattle.nb_defs.specs.Records.{In, start, frame, tick, off, IsIn, in_text, in_texts, IsPartial, IsBroken, Out, out_texts, done}
 use Rattle.nb_engine.specs.Machine.{Machine, Phase, ready, running, waiting, sleeping, yielded, handing, left, handed_off, stopped, Path, status_of, shutdown_records}
 use Rattle.nb_engine.specs.Honesty.{Honest, HandsFiles}
+use Rattle.nb_opens.specs.Graphs.{Graphs, GraphAt, bare, without_graph}
+use Rattle.nb_opens.specs.Traces.{AreTraced}
 use Rattle.nb_record.specs.Outside.{Outside, Passes, Rose, IsAtEnd}
 use Rattle.nb_engine.specs.declared.status.Status.{Status}
 use Rattle.nb_engine.specs.declared.status.Status.TheVariants as status
@@ -90,8 +92,9 @@ pub data Closes : Machine → List ℕ → Outside → List Out → Type 0 where
   goes_on : (m : Machine) (rest : List ℕ) (o : Outside) → Closes m rest o []
   is_over : (m : Machine) (rest : List ℕ) (o : Outside) (number : ℕ) → Ends m rest o number → Closes m rest o (shutdown_records m.phase ++ done number ∷ [])
 
--- The records used are those that the bytes read spell, up to a rest; the records written are the script
--- machine's path on them, with what closes it; the bytes taken are a front of their spelling.
+-- The records used are those that the bytes read spell, up to a rest; the records written, without those of the object
+-- graph, are the script machine's path on them, with what closes it; those of the graph stand among them as `Graphs` has
+-- it; the bytes taken are a front of the spelling of all.
 pub record Run (before after : Outside) : Type 0 where
   pub ins : List In
   pub outs : List Out
@@ -103,16 +106,26 @@ pub record Run (before after : Outside) : Type 0 where
   pub lost : List ℕ
   pub passes : Passes before after read written
   pub spelled : read ≡ in_texts ins ++ rest
-  pub path : Path ins outs machine
-  pub closes : Closes machine rest after closing
+  pub path : Path ins (without_graph outs) machine
+  pub closes : Closes machine rest after (without_graph closing)
+  -- records of the graph alone close nothing
+  pub alone : without_graph closing ≡ [] → closing ≡ []
+  pub at : GraphAt
+  pub graphs : Graphs (outs ++ closing) at
   pub texts : out_texts (outs ++ closing) ≡ written ++ lost
   -- each record used has a number of 32 bits
   pub few : length ins ≤ 4294967295
+  -- what the records of the graph say of it
+  pub traced : AreTraced (outs ++ closing) at
 
--- the run is over, for a cause of this number, and all was taken, DONE last
+-- the run is over, for a cause of this number, and all was taken, DONE last; no object of the graph lives then
 pub record IsOver (before after : Outside) (r : Run before after) (number : ℕ) : Type 0 where
   pub ends : Ends r.machine r.rest after number
-  pub closed : r.closing ≡ shutdown_records r.machine.phase ++ done number ∷ []
+  pub closed : without_graph r.closing ≡ shutdown_records r.machine.phase ++ done number ∷ []
+  pub front : List Out
+  pub last : r.closing ≡ front ++ done number ∷ []
+  pub opens : ℕ
+  pub none : r.at ≡ bare opens
   pub all : r.lost ≡ []
 
 -- a read failed between two steps: every whole record read was used, and their whole output was taken
@@ -125,7 +138,7 @@ pub record IsUnread (before after : Outside) (r : Run before after) : Type 0 whe
 
 -- Where servers send what they hold, each image handed off is, byte for byte, its server's file.
 abbrev pub HandsTheirs : (before after : Outside) → Run before after → Type 0
-HandsTheirs before after r = (store : ℕ → List ℕ → List ℕ) → Honest store r.ins → HandsFiles store r.outs
+HandsTheirs before after r = (store : ℕ → List ℕ → List ℕ) → Honest store r.ins → HandsFiles store (without_graph r.outs)
 
 -- memory ran out: nothing closes the output, or some of it is missing
 abbrev pub IsUnclosed : (before after : Outside) → Run before after → Type 0

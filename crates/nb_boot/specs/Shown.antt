@@ -4,6 +4,8 @@ use Rattle.nb_terms.specs.declared.cause.Cause.{Cause}
 use Rattle.nb_defs.specs.Records.{In, in_texts, IsPartial, IsBroken, Out, out_texts, done}
 use Rattle.nb_engine.specs.Machine.{status_of}
 use Rattle.nb_engine.specs.Honesty.{Honest, HandsFiles}
+use Rattle.nb_opens.specs.Graphs.{Graphs, GraphAt, bare, without_graph}
+use Rattle.nb_opens.specs.Traces.{AreTraced}
 use Rattle.nb_record.specs.Outside.{Outside, Passes, Rose, IsAtEnd}
 use Rattle.nb_engine.specs.declared.status.Status.{Status}
 use Rattle.nb_engine.specs.declared.status.Status.TheVariants as status
@@ -69,8 +71,9 @@ pub data ClosedBy (p : Progress) (rest : List ℕ) (o : Outside) : List Out → 
   goes_on : ClosedBy p rest o []
   has_ended : (number : ℕ) (put : List Out) → EndsWhere p rest o number → Shuts p.standing put → ClosedBy p rest o (put ++ done number ∷ [])
 
--- The records used are those that the bytes read spell, up to a rest; the records written are the machine's course on
--- them, with what closes it; the bytes taken are a prefix of their spelling.
+-- The records used are those that the bytes read spell, up to a rest; the records written, without those of the object
+-- graph, are the machine's course on them, with what closes it; those of the graph stand among them as `Graphs` has it;
+-- the bytes taken are a prefix of the spelling of all.
 pub record Shown (before after : Outside) : Type 0 where
   pub ins : List In
   pub outs : List Out
@@ -82,22 +85,32 @@ pub record Shown (before after : Outside) : Type 0 where
   pub lost : List ℕ
   pub passes : Passes before after read written
   pub spelled : read ≡ in_texts ins ++ rest
-  pub course : Course ins outs progress
-  pub closed : ClosedBy progress rest after closing
+  pub course : Course ins (without_graph outs) progress
+  pub closed : ClosedBy progress rest after (without_graph closing)
+  -- records of the graph alone close nothing
+  pub alone : without_graph closing ≡ [] → closing ≡ []
+  pub at : GraphAt
+  pub graphs : Graphs (outs ++ closing) at
   pub texts : out_texts (outs ++ closing) ≡ written ++ lost
   -- each record used has a number of 32 bits
   pub few : length ins ≤ 4294967295
-  -- both lists have one history, and it is lawful
+  -- what the records of the graph say of it
+  pub traced : AreTraced (outs ++ closing) at
+  -- both lists, without the records of the graph, have one history, and it is lawful
   pub history : List Event
-  pub is_history : IsHistory ins outs history
+  pub is_history : IsHistory ins (without_graph outs) history
   pub is_lawful : IsLawful history
 
--- the run has ended, for a cause of this number, and all was taken, DONE last
+-- the run has ended, for a cause of this number, and all was taken, DONE last; no object of the graph lives then
 pub record HasEnded (before after : Outside) (r : Shown before after) (number : ℕ) : Type 0 where
   pub ends : EndsWhere r.progress r.rest after number
   pub put : List Out
   pub shuts : Shuts r.progress.standing put
-  pub closing : r.closing ≡ put ++ done number ∷ []
+  pub closing : without_graph r.closing ≡ put ++ done number ∷ []
+  pub front : List Out
+  pub last : r.closing ≡ front ++ done number ∷ []
+  pub opens : ℕ
+  pub none : r.at ≡ bare opens
   pub all : r.lost ≡ []
 
 -- a read failed between two steps: every whole record read was used, and their whole output was taken
@@ -110,7 +123,7 @@ pub record WasUnread (before after : Outside) (r : Shown before after) : Type 0 
 
 -- Where servers send what they hold, each image handed off is, byte for byte, its server's file.
 abbrev pub HandsTrueFiles : (before after : Outside) → Shown before after → Type 0
-HandsTrueFiles before after r = (store : ℕ → List ℕ → List ℕ) → Honest store r.ins → HandsFiles store r.outs
+HandsTrueFiles before after r = (store : ℕ → List ℕ → List ℕ) → Honest store r.ins → HandsFiles store (without_graph r.outs)
 
 -- memory ran out: nothing closes the output, or some of it is missing
 abbrev pub LeftUnclosed : (before after : Outside) → Shown before after → Type 0

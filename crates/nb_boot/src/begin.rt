@@ -3,6 +3,7 @@ ghost use Rattle.nb_defs.specs.Records.{IsIn, IsPartial, in_texts};
 ghost use Rattle.nb_record.specs.Outside.{Outside};
 ghost use Rattle.nb_record.specs.View.{in_of};
 ghost use Rattle.nb_engine.specs.Machine.{fresh, ready};
+ghost use Rattle.nb_opens.specs.Graphs.{bare};
 ghost use Rattle.nb_boot.specs.Run.{Shows, IsBadRest, IsFirst};
 ghost use Rattle.nb_boot.specs.Going.{Going, Opens, RefusesRun, TellsFirst};
 
@@ -23,7 +24,7 @@ pub fn is_first(entry: &InRec<'_>) -> bool
 
 /// Ends a run in which no record was used: DONE alone is written.
 fn refuse<L: Line>(log: &mut Log, line: &mut L) -> Status
-    ensures { (rest : List ℕ) (first : Outside) → Going [] rest first (L.outside line.old) log.old fresh
+    ensures { (rest : List ℕ) (first : Outside) → Going [] rest first (L.outside line.old) log.old fresh (bare 0)
         → IsBadRest ready rest (L.outside line.old) → Shows result first (L.outside line.new) }
 {
     log.put(&OutRec::Done(Status::BadRecord.number()));

@@ -4,15 +4,16 @@ ghost use Rattle.nb_record.specs.Outside.{Outside};
 ghost use Rattle.nb_record.specs.View.{in_of};
 ghost use Rattle.nb_engine.specs.StatusNumber.{status_number};
 ghost use Rattle.nb_engine.specs.Machine.{Machine};
-ghost use Rattle.nb_engine.specs.Seen.{StandsFor};
+ghost use Rattle.nb_engine.specs.Seen.{StandsFor, Fits};
 ghost use Rattle.nb_engine.specs.Turns.{IsBusy, MayUse};
+ghost use Rattle.nb_opens.specs.Graphs.{GraphAt};
 ghost use Rattle.nb_boot.specs.Run.{Ends, Shows};
 ghost use Rattle.nb_boot.specs.Going.{StepsTo, IsEndOf, UsesRecord, Going, IsClosing};
 
 use crate::Status;
 use crate::output::{Flaw, flush, make_room};
 use nb_engine::{Client, Turn};
-use nb_record::{InRec, Line, Log};
+use nb_record::{InRec, Line, Log, NoMemory};
 
 /// How the step of a record ended.
 #[derive(Clone, Copy, Debug, PartialEq, Eq)]
@@ -73,14 +74,18 @@ fn take<L: Line>(client: &mut Client, entry: &InRec<'_>, log: &mut Log, line: &m
     }
 }
 
-/// Ends a run: puts the end of an open that is left, and DONE, and writes the rest of the output.
+/// Ends a run: puts the end of an open that is left, and DONE, and writes the rest of the output. Where memory runs out
+/// neither is put.
 pub fn finish<L: Line>(client: &mut Client, status: Status, log: &mut Log, line: &mut L) -> Status
     requires { IsClosing status }
-    ensures { (ins : List In) (rest : List ℕ) (first : Outside) (m : Machine) → StandsFor client.old m
-        → Going ins rest first (L.outside line.old) log.old m → Ends m rest (L.outside line.old) (status_number status)
+    ensures { (ins : List In) (rest : List ℕ) (first : Outside) (m : Machine) (p : GraphAt) → StandsFor client.old m → Fits client.old p
+        → Going ins rest first (L.outside line.old) log.old m p → Ends m rest (L.outside line.old) (status_number status)
         → Shows result first (L.outside line.new) }
 {
-    client.finish(status, log);
+    match client.finish(status, log) {
+        Ok(()) => {}
+        Err(NoMemory) => return Status::NoMemory,
+    }
     match flush(log, line) {
         Ok(()) => status,
         Err(flaw) => flaw.status(),

@@ -74,6 +74,20 @@ pub fn datagram(alloc: Global, port: u16, body: &[u8]) -> Result<Vec<u8>, AllocE
     Ok(bytes)
 }
 
+/// The bodies of the GRAPH records of these events: each is its number, the object and its slot, and the other
+/// end. A close has this cause.
+pub fn events(alloc: Global, rows: &[[u8; 5]], cause: [u8; 9]) -> Result<Vec<u8>, AllocError> {
+    let mut bodies = Vec::new(alloc);
+    for row in rows {
+        let [event, object, slot, other, other_slot] = *row;
+        let spelled = if event == 8 { cause } else { [0; 9] };
+        bodies.extend_from_slice(&[event, 0, 0, 0, 0, 0, 0, 0, object, slot])?;
+        bodies.extend_from_slice(&[0, 0, 0, 0, 0, 0, 0, other, other_slot])?;
+        bodies.extend_from_slice(&spelled)?;
+    }
+    Ok(bodies)
+}
+
 /// The next record: its type and its body.
 fn next_record<'a>(view: &mut View<'a>) -> Option<(u8, &'a [u8])> {
     let len = view.u32()? as usize;

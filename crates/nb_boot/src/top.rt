@@ -78,10 +78,11 @@ pub fn netboot<L: Line>(alloc: Global, words: &[String], line: &mut L) -> Status
     // The words are of no form exactly where the answer is BadWords, and then nothing was attached.
     ensures bad_words { IsBadWords result ↔ (AreWords (map string_bytes words.now) → ⊥) }
     ensures untouched { IsBadWords result → line.new ≡ line.old }
-    // The records used are those read, the records written are the machine's course on them, and the status is true
-    // of them.
+    // The records used are those read; those written, without GRAPH, are the machine's course on them; and the status is
+    // true of them. The GRAPH records are a legal run of the object graph, which is empty at DONE. Each open's objects are
+    // made before its OPEN, and freed before its ENDED, whose cause is that of the first close behind the OPEN.
     ensures course { AreWords (map string_bytes words.now) → ShowsCourse result (L.outside line.old) (L.outside line.new) }
-    // They are a run of the engine's own machine, in which a command waits for one transfer.
+    // They are, without GRAPH, a run of the engine's own machine, in which a command waits for one transfer.
     ensures run { AreWords (map string_bytes words.now) → Shows result (L.outside line.old) (L.outside line.new) }
     // Each end, result, frame, try, advance, open and part has its reason in the records so far, as the two lists
     // say alone.

@@ -2,8 +2,9 @@
 -- which counts what follows it, a type of one byte, and the body. Numbers are big-endian.
 use Rattle.std.specs.Prelude.{◌≡◌, ℕ, ◌+◌, ◌<◌, ◌≤◌, ◌^◌, List, [], ◌∷◌, ◌++◌, length, Bool, if◌then◌else◌}
 use Rattle.std.specs.List.{flat_map}
-use Rattle.std.specs.Int.{w16, w32, to_be_bytes}
+use Rattle.std.specs.Int.{w16, w32, w64, to_be_bytes}
 use Rattle.nb_terms.specs.declared.cause.Cause.{Cause}
+use Rattle.nb_terms.specs.declared.event.Event.{Event}
 
 -- what a START record says
 pub record Start : Type 0 where
@@ -113,6 +114,8 @@ pub data Out : Type 0 where
   advanced : (number place : ℕ) → Out
   -- the open has ended with this cause
   ended : (number : ℕ) (cause : Cause) → Out
+  -- what happens to an object of the graph
+  graph : (happens : Event) → Out
   -- a piece of a part of the hand-off, which begins at an offset
   part : (kind index offset : ℕ) (bytes : List ℕ) → Out
   -- the run's status, the last record
@@ -127,6 +130,11 @@ leave depth cause = script 1 depth cause
 -- a cause: code, and the two numbers
 unfoldable pub cause_text : Cause → List ℕ
 cause_text c = c.code ∷ (to_be_bytes w32 c.a ++ to_be_bytes w32 c.b)
+
+-- an event of the graph: its number, the object and its slot, the other object and its slot, and a cause
+unfoldable pub event_text : Event → List ℕ
+event_text e =
+    (e.event ∷ []) ++ to_be_bytes w64 e.object ++ (e.slot ∷ []) ++ to_be_bytes w64 e.other ++ (e.other_slot ∷ []) ++ cause_text e.cause
 
 -- a word of a command: two bytes of length, and its bytes
 unfoldable pub word_text : List ℕ → List ℕ
@@ -151,6 +159,7 @@ out_text (opened number kind server port own target) =
 out_text (tried number count) = record_text 0x88 (to_be_bytes w16 number ++ (count ∷ []))
 out_text (advanced number place) = record_text 0x89 (to_be_bytes w16 number ++ to_be_bytes w32 place)
 out_text (ended number cause) = record_text 0x8a (to_be_bytes w16 number ++ cause_text cause)
+out_text (graph happens) = record_text 0x8b (event_text happens)
 out_text (part kind index offset bytes) =
     record_text 0x8c ((kind ∷ []) ++ to_be_bytes w16 index ++ to_be_bytes w32 offset ++ bytes)
 out_text (done status) = record_text 0x8d (status ∷ [])
@@ -171,5 +180,6 @@ IsOut (opened number kind server port own target) = length target ≤ 65535
 IsOut (tried number count) = Unit {0}
 IsOut (advanced number place) = Unit {0}
 IsOut (ended number cause) = Unit {0}
+IsOut (graph happens) = Unit {0}
 IsOut (part kind index offset bytes) = length bytes ≤ 65536
 IsOut (done status) = Unit {0}

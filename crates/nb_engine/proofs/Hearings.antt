@@ -1,36 +1,43 @@
--- What a fetch has heard, for the open that it is of.
-use Rattle.std.proofs.Common.{◌≡◌, ◌⊎◌, inl, inr, ℕ, true, List, ◌++◌, sym, ◌∙◌, ap}
-use Rattle.nb_tftp.specs.History.{Call, entry, given, given_of}
-use Rattle.nb_tftp.proofs.HistoryLemmas.{given-append}
+-- What came to a fetch's objects came to its open.
+use Rattle.std.proofs.Common.{◌≡◌, ℕ, List, [], Option, Some, subst, ◌∙◌, ap}
+use Rattle.nb_ledger.specs.Flat.{Notice, Given}
+use Rattle.nb_ledger.specs.declared.port.Port.{Port}
+use Rattle.nb_ledger.specs.declared.event.Way.{Way}
+use Rattle.nb_graph.specs.Whole.{Objects}
+use Rattle.nb_nodes.specs.declared.obj.Obj.{Obj}
+use Rattle.nb_tftp.specs.Asks.{Begun}
+use Rattle.nb_tftp.specs.History.{Call, Entry}
+use Rattle.nb_opens.specs.Graphs.{fetch_of, tftp_of, IsEntry}
+use Rattle.nb_opens.specs.Pairs.{Downloads, CallDoes, IsDownloading}
 use Rattle.nb_engine.specs.declared.fetch.Fetch.{Fetch}
-use Rattle.nb_engine.specs.declared.fetch.Heard.{Heard}
-use Rattle.nb_engine.specs.Opens.{Open, with_entry, body_of, end_of, is_over_limit}
-use Rattle.nb_engine.specs.Fetches.{IsLive, TakesCall}
-use Rattle.nb_engine.specs.Heeding.{HasHeard}
+use Rattle.nb_engine.specs.Opens.{Open, body_of}
+use Rattle.nb_engine.specs.Fetches.{IsLive}
+use Rattle.nb_engine.specs.Heeding.{HasHeard, WasCalled}
 
-body_either : (x y z : List ℕ) → y ≡ z → ((x ≡ y) ⊎ (is_over_limit y ≡ true)) → (x ≡ z) ⊎ (is_over_limit z ≡ true)
-body_either x y z e (inl same) = inl (same ∙ e)
-body_either x y z e (inr over) = inr (rw (← e) over)
+-- what a call does to each transfer that may be under way
+abbrev pub DoesEach : Objects Obj → Objects Obj → ℕ → Port → Way → ℕ → Call → List Notice → Type 0
+DoesEach old new k p by rec call ns =
+    (b : Begun) (start : ℕ) (calls : List Entry) (body : List ℕ) → Downloads old (fetch_of k) (tftp_of k) b start calls body → CallDoes new (fetch_of k) (tftp_of k) b start calls body p by rec call ns
 
--- what came to a fetch came to its open
-pub heard_of : (f f1 : Fetch) (o : Open) (call : Call) (heard : Heard) → IsLive f o → TakesCall f f1 call heard → HasHeard heard f1 o call
-heard_of f f1 o call heard live takes =
-    let e = entry call heard.acts in
-    let stands = takes.core o.begun o.start o.entries live.fetch.core live.lives in
-    let before : f.body ≡ given o.entries = live.body ∙ sym live.fetch.core.meets.bytes in
-    let now : f.body ++ given_of call heard.acts.give ≡ body_of (with_entry o e) =
-    ap (λ t. t ++ given_of call heard.acts.give) before ∙ sym (given-append o.entries e) ∙ stands.meets.bytes in
-    record {
-      fetch = record {
-        number = takes.same.number ∙ live.fetch.number;
-        server = takes.same.server ∙ live.fetch.server;
-        own_port = takes.same.own_port ∙ live.fetch.own_port;
-        name = takes.same.name ∙ live.fetch.name;
-        uri = takes.same.uri ∙ live.fetch.uri;
-        boots = takes.same.boots ∙ live.fetch.boots;
-        core = stands;
-      };
-      ends = takes.ends ∙ ap (λ t. end_of t heard.acts) now;
-      body = body_either f1.body (f.body ++ given_of call heard.acts.give) (body_of (with_entry o e)) now takes.body;
-      lives = live.lives;
-    }
+pub heard_of : (g h : Objects Obj) (f : Fetch) (p : Port) (by : Way) (rec : ℕ) (call : Call) (ns : List Notice) (o : Open) → DoesEach g h f.number p by rec call ns → IsLive g f o → HasHeard h f p by rec ns o call
+heard_of g h f p by rec call ns o does live = record {
+  fetch = live.fetch;
+  request = live.request;
+  meets = live.downloads.meets;
+  does = (subst (λ k. DoesEach g h k p by rec call ns) live.fetch.number does) o.begun o.start o.entries (body_of o) live.downloads;
+}
+
+pub called_of : (g h : Objects Obj) (k : ℕ) (p : Port) (by : Way) (rec : ℕ) (call : Call) (ns : List Notice) → IsEntry (tftp_of k) p by → DoesEach g h k p by rec call ns → IsDownloading g (fetch_of k) (tftp_of k) → WasCalled h k p by rec ns
+called_of g h k p by rec call ns enters does going = record {
+  begun = going.0;
+  start = going.1;
+  calls = going.2;
+  body = going.3;
+  call = call;
+  entry = enters;
+  does = does going.0 going.1 going.2 going.3 going.4;
+}
+
+-- what an outlet that was cleared was given is what it was told
+pub given_is : (told : Option (List Notice)) (ns all : List Notice) → Given (Some []) told ns → told ≡ Some all → told ≡ Some ns
+given_is told ns all g e = e ∙ ap Some (subst (λ t. Given (Some []) t ns) e g)

@@ -1,189 +1,347 @@
--- What comes of a datagram or a time, by what was heard.
-use Rattle.std.proofs.Common.{◌≡◌, ◌⊎◌, inl, inr, ℕ, ◌≤◌, length, Bool, true, false, cond, List, [], ◌∷◌, ◌++◌, Option, Some, None, refl, sym, ◌∙◌, ap}
-use Rattle.std.specs.Option.{is_some}
+-- What comes of a datagram or a time, by what the objects told.
+use Rattle.std.proofs.Common.{◌≡◌, ◌⊎◌, inl, inr, ℕ, ◌+◌, ◌==◌, ◌<◌, ◌≤◌, length, Bool, true, false, cond, List, [], ◌∷◌, ◌++◌, Option, Some, None, refl, sym, ◌∙◌, ap, subst, arith, append_assoc}
+use Rattle.std.proofs.lemmas.Bool.Decides.{nat_tests}
 use Rattle.nb_terms.specs.declared.cause.Cause.{Cause}
 use Rattle.nb_terms.specs.declared.acts.Acts.{Acts}
-use Rattle.nb_defs.specs.Records.{out_texts, step, ended}
+use Rattle.nb_defs.specs.Causes.{ok, is_ok_cause}
+use Rattle.nb_defs.specs.Records.{Out, out_texts, step, ended}
 use Rattle.nb_record.specs.Logged.{Logged, Puts}
+use Rattle.nb_image.specs.declared.image.Image.{Image}
 use Rattle.nb_image.specs.Images.{ImageList, image_of}
-use Rattle.nb_tftp.specs.History.{Call, entry}
+use Rattle.nb_ledger.specs.Flat.{Notice}
+use Rattle.nb_ledger.specs.declared.port.Port.{Port}
+use Rattle.nb_ledger.specs.declared.event.Way.{Way}
+use Rattle.nb_graph.specs.Deeds.{no_memory}
+use Rattle.nb_graph.specs.Whole.{Objects}
+use Rattle.nb_nodes.specs.declared.obj.Obj.{Obj}
+use Rattle.nb_nodes.specs.Fetches.{body_too_large}
+use Rattle.nb_tftp.specs.Asks.{Begun}
+use Rattle.nb_tftp.specs.History.{Call, Entry, entry, given_of}
+use Rattle.nb_tftp.specs.Sentences.{Meets}
+use Rattle.nb_tftp.proofs.HistoryLemmas.{given-append}
+use Rattle.nb_opens.specs.Graphs.{Graphs, GraphAt, bare, holding, aside, IsEntry, fetch_of, tftp_of, without_graph}
+use Rattle.nb_opens.specs.Notices.{first_close, freed_notices}
+use Rattle.nb_opens.specs.Pairs.{CallDoes, goes_on as call_goes_on, is_over as call_is_over, is_too_large as call_too_large, fails as call_fails, Downloads, HasEnded, IsEnded, body_at_end}
 use Rattle.nb_engine.specs.declared.world.World.{World}
 use Rattle.nb_engine.specs.declared.fetch.Fetch.{Fetch}
-use Rattle.nb_engine.specs.declared.fetch.Heard.{Heard}
 use Rattle.nb_engine.specs.declared.stage.Stage.{Stage}
 use Rattle.nb_engine.specs.declared.stage.Stage.TheVariants as stage
 use Rattle.nb_engine.specs.declared.status.Status.TheVariants as status
 use Rattle.nb_engine.specs.declared.client.Turn.{Turn}
 use Rattle.nb_engine.specs.declared.client.Turn.TheVariants as turn
-use Rattle.nb_defs.specs.Causes.{ok}
 use Rattle.nb_engine.specs.World.{unbound, world_with_images}
 use Rattle.nb_engine.specs.Opens.{Open, with_entry, body_of, end_of, is_over_limit, acts_records, too_large_image}
 use Rattle.nb_engine.specs.Conclusions.{Conclusion, conclusion, conclusion_records, image_from, fails, keeps, boots}
 use Rattle.nb_engine.specs.Running.{Running, with_result}
-use Rattle.nb_engine.specs.Machine.{Hears, goes_on, is_over, waiting, at, phase_after, concluded, running}
+use Rattle.nb_engine.specs.Machine.{Phase, Hears, goes_on, is_over, waiting, at, phase_after, concluded, running}
 use Rattle.nb_engine.specs.declared.conclusion.Conclusion.{Conclusion as Concluded}
 use Rattle.nb_engine.specs.declared.conclusion.Conclusion.TheVariants as concluded
-use Rattle.nb_engine.specs.Fetches.{IsLive, IsFetchOf, IsSameFetch, HasKept, conclusion_of}
-use Rattle.nb_engine.specs.Seen.{Seen, seen, StandsFor, as_waiting, IsSound}
-use Rattle.nb_engine.specs.Heeding.{Heeds, Follows, HasHeard}
-use Rattle.nb_engine.specs.Concluding.{EndsOpen, IsTurn}
-use Rattle.nb_tftp.proofs.HistoryLemmas.{is_ended-append}
+use Rattle.nb_engine.specs.Objects.{IsFile}
+use Rattle.nb_engine.specs.Tellings.{told_records}
+use Rattle.nb_engine.specs.Fetches.{IsLive, IsFetchOf, HasKept, conclusion_of, speaker_of}
+use Rattle.nb_engine.specs.Seen.{Seen, seen, StandsFor, as_waiting, IsSound, FitsAt, KeepsOrder}
+use Rattle.nb_engine.specs.Heeding.{Heeds, Follows, HasHeard, WasCalled, IsCalled}
+use Rattle.nb_engine.specs.Notes.{WasTold}
+use Rattle.nb_engine.specs.Concluding.{EndsOpen, HasEndedOpen, end_records, comes_to}
+use Rattle.nb_engine.proofs.Puts.{is_either}
+use Rattle.nb_engine.proofs.TellingLemmas.{SpeaksFor, without-append, without_aside}
+use Rattle.nb_engine.proofs.Sides.{aside_conclusion}
+use Rattle.nb_engine.proofs.CallLemmas.{call_closes, large_closes, meets_sends, call_others, large_others, freed_others, goes_order, ends_order, large_order, ending}
 
-no_end_by : (t : Bool) (over : Option Cause) → cond t (Some too_large_image) over ≡ None → (t ≡ false) × (over ≡ None)
-no_end_by true over e = let no : Some too_large_image ≡ None = e in cc
-no_end_by false over e = (refl, e)
-
--- an end that none is: the body isn't too large, and the transfer told none
-no_end : (body : List ℕ) (acts : Acts) → end_of body acts ≡ None → (is_over_limit body ≡ false) × (acts.over ≡ None)
-no_end body acts e = no_end_by (is_over_limit body) acts.over e
-
-none_is : (x : Option Cause) → x ≡ None → is_some x ≡ false
-none_is x e = rw e refl
-
-not_over : (x y : List ℕ) → is_over_limit y ≡ false → ((x ≡ y) ⊎ (is_over_limit y ≡ true)) → x ≡ y
-not_over x y e (inl same) = same
-not_over x y e (inr over) = let no : true ≡ false = sym over ∙ e in cc
-
--- the open goes on
-pub goes_heeds : {old new : Logged} (n : ℕ) (w : World) (s : Running) (f : Fetch) (heard : Heard) → heard.end ≡ None →
-    Puts old new (out_texts (step n ∷ acts_records w.net f.number heard.acts)) →
-    Follows s (HasHeard heard f) (seen n w (stage.Waiting s f)) (seen n w (stage.Waiting s f)) old new
-goes_heeds n w s f heard none p = record {
-  added = acts_records w.net f.number heard.acts;
-  puts = p;
-  hears = λ o call h.
-      let e = entry call heard.acts in
-      let o' = with_entry o e in
-      let goes = no_end (body_of o') heard.acts (sym h.ends ∙ none) in
-      let live : IsLive f o' = record {
-        fetch = h.fetch;
-        body = not_over f.body (body_of o') goes.0 h.body;
-        lives = is_ended-append o.entries e ∙ rw (h.lives, none_is heard.acts.over goes.1) refl;
-      } in
-      let hears : Hears w s o call (acts_records w.net o.number heard.acts) (waiting w s o') =
-      goes_on w s o call heard.acts h.fetch.core.meets (sym h.ends ∙ none) in
-      (waiting w s o', rw h.fetch.number hears, as_waiting n w s f o' live);
-}
-
-abbrev or_else : Cause → Option Cause → Cause
-or_else d None = d
-or_else d (Some x) = x
+abbrev or_cause : Cause → Option Cause → Cause
+or_cause d None = d
+or_cause d (Some x) = x
 
 some_same : {x y : Cause} → Some x ≡ Some y → x ≡ y
-some_same {x} {y} e = ap (λ o. or_else x o) e
+some_same {x} {y} e = ap (λ o. or_cause x o) e
 
--- the image that a fetch has is the open's, unless it has grown too large: then it doesn't matter
-same_image : (f : Fetch) (o : Open) → IsFetchOf f o → f.body ≡ body_of o → image_of f.name f.body [] f.uri ≡ image_from o
-same_image f o is same = rw (is.name, is.uri, same) refl
+-- the fetch of an open to which a call came
+same_fetch : (f : Fetch) (o : Open) (e : Entry) → IsFetchOf f o → IsFetchOf f (with_entry o e)
+same_fetch f o e is = record { number = is.number; server = is.server; own_port = is.own_port; name = is.name; uri = is.uri; boots = is.boots }
 
-pub same_conclusion : (w : World) (f : Fetch) (o : Open) (acts : Acts) (cause : Cause) → IsFetchOf f o → end_of (body_of o) acts ≡ Some cause →
-    ((f.body ≡ body_of o) ⊎ (is_over_limit (body_of o) ≡ true)) →
-    conclusion cause f.boots (image_of f.name f.body [] f.uri) w.state.images ≡ concluded w o cause
-same_conclusion w f o acts cause is e (inl same) = ap (λ i. conclusion cause f.boots i w.state.images) (same_image f o is same) ∙ ap (λ b. conclusion cause b (image_from o) w.state.images) is.boots
-same_conclusion w f o acts cause is e (inr over) =
-    let too_large : Some too_large_image ≡ Some cause = rw over at e in
-    let c : too_large_image ≡ cause = some_same too_large in
-    rw (← c) refl
+speaks : (f : Fetch) (o : Open) → IsFetchOf f o → SpeaksFor (speaker_of f) o.begun
+speaks f o is = record { server = is.server; own_port = is.own_port }
+
+-- its body now
+body_now : (o : Open) (call : Call) (acts : Acts) → Meets o.begun o.start o.entries → Meets o.begun o.start (o.entries ++ entry call acts ∷ []) →
+    body_of o ++ given_of call acts.give ≡ body_of (with_entry o (entry call acts))
+body_now o call acts before now =
+    ap (λ t. t ++ given_of call acts.give) (sym before.bytes) ∙ sym (given-append o.entries (entry call acts)) ∙ now.bytes
+
+within_limit : (body : List ℕ) → length body ≤ 268435456 → is_over_limit body ≡ false
+within_limit body h = grind (arith, nat_tests)
+
+beyond_limit : (body : List ℕ) → 268435456 < length body → is_over_limit body ≡ true
+beyond_limit body h = grind (arith, nat_tests)
+
+end_within : (body : List ℕ) (acts : Acts) → length body ≤ 268435456 → end_of body acts ≡ acts.over
+end_within body acts h = ap (λ b. cond b (Some too_large_image) acts.over) (within_limit body h)
+
+end_beyond : (body : List ℕ) (acts : Acts) → 268435456 < length body → end_of body acts ≡ Some body_too_large
+end_beyond body acts h = ap (λ b. cond b (Some too_large_image) acts.over) (beyond_limit body h)
+
+-- the open goes on: for each open that the fetch may be of
+goes_by : (n : ℕ) (w : World) (s : Running) (g : Objects Obj) (f : Fetch) (p : Port) (by : Way) (rec : ℕ) (ns : List Notice) (o : Open) (call : Call) → IsFetchOf f o → length o.begun.request ≤ 1480 → Meets o.begun o.start o.entries →
+    CallDoes g (fetch_of o.number) (tftp_of o.number) o.begun o.start o.entries (body_of o) p by rec call ns → first_close ns ≡ None →
+    (phase : Phase) × Hears w s o call (without_graph (told_records w.net (speaker_of f) ns)) phase × StandsFor (seen n w g (stage.Waiting s f)) (at n phase)
+goes_by n w s g f p by rec ns o call is short before (call_goes_on acts meets over fits same downloads) none =
+    let e = entry call acts in
+    let o' = with_entry o e in
+    let body = body_now o call acts before meets in
+    let ends : end_of (body_of o') acts ≡ None = end_within (body_of o') acts (subst (λ b. length b ≤ 268435456) body fits) ∙ over in
+    let others : without_graph (told_records w.net (speaker_of f) ns) ≡ acts_records w.net o.number acts =
+    ap (λ x. without_graph (told_records w.net (speaker_of f) x)) same
+    ∙ call_others w.net (speaker_of f) o.begun (fetch_of o.number) (tftp_of o.number) p by rec acts (speaks f o is) (meets_sends o.begun o.start o.entries call acts short meets)
+    ∙ ap (λ k. acts_records w.net k acts) is.number in
+    let live : IsLive g f o' = record { fetch = same_fetch f o e is; request = short; downloads = subst (Downloads g (fetch_of o.number) (tftp_of o.number) o.begun o.start (o.entries ++ e ∷ [])) body downloads } in
+    (waiting w s o', rw others (goes_on w s o call acts meets ends), as_waiting n w g s f o' live)
+goes_by n w s g f p by rec ns o call is short before (call_is_over acts c meets over fits same ended_so) none =
+    absurd (let no : Some c ≡ None = sym over ∙ sym (call_closes (fetch_of o.number) (tftp_of o.number) p by rec acts) ∙ ap first_close (sym same) ∙ none in cc)
+goes_by n w s g f p by rec ns o call is short before (call_too_large acts meets long same ended_so) none =
+    absurd (let no : Some body_too_large ≡ None = sym (large_closes (fetch_of o.number) (tftp_of o.number) p by rec acts) ∙ ap first_close (sym same) ∙ none in cc)
+goes_by n w s g f p by rec ns o call is short before (call_fails memory) none =
+    absurd (let no : Some no_memory ≡ None = sym memory ∙ none in cc)
+
+-- its records are in the graph's order
+goes_order_by : (n : ℕ) (w : World) (g : Objects Obj) (f : Fetch) (k : ℕ) (b : Begun) (start : ℕ) (calls : List Entry) (body : List ℕ) (p : Port) (by : Way) (rec : ℕ) (call : Call) (ns : List Notice) (outs : List Out) →
+    IsEntry (tftp_of k) p by → CallDoes g (fetch_of k) (tftp_of k) b start calls body p by rec call ns → first_close ns ≡ None → Graphs outs (holding k) →
+    Graphs (outs ++ (step n ∷ told_records w.net (speaker_of f) ns)) (holding k)
+goes_order_by n w g f k b start calls body p by rec call ns outs enters (call_goes_on acts meets over fits same downloads) none graphs =
+    rw same (goes_order w.net (speaker_of f) outs n k p by rec acts enters over graphs)
+goes_order_by n w g f k b start calls body p by rec call ns outs enters (call_is_over acts c meets over fits same ended_so) none graphs =
+    absurd (let no : Some c ≡ None = sym over ∙ sym (call_closes (fetch_of k) (tftp_of k) p by rec acts) ∙ ap first_close (sym same) ∙ none in cc)
+goes_order_by n w g f k b start calls body p by rec call ns outs enters (call_too_large acts meets long same ended_so) none graphs =
+    absurd (let no : Some body_too_large ≡ None = sym (large_closes (fetch_of k) (tftp_of k) p by rec acts) ∙ ap first_close (sym same) ∙ none in cc)
+goes_order_by n w g f k b start calls body p by rec call ns outs enters (call_fails memory) none graphs =
+    absurd (let no : Some no_memory ≡ None = sym memory ∙ none in cc)
+
+goes_kept : (n : ℕ) (w : World) (s : Running) (g : Objects Obj) (f : Fetch) (p : Port) (by : Way) (rec : ℕ) (ns : List Notice) → WasCalled g f.number p by rec ns → first_close ns ≡ None →
+    KeepsOrder (seen n w g (stage.Waiting s f)) (step n ∷ told_records w.net (speaker_of f) ns) (seen n w g (stage.Waiting s f))
+goes_kept n w s g f p by rec ns was none outs (bare k) graphs fit = absurd fit
+goes_kept n w s g f p by rec ns was none outs (holding k) graphs fit =
+    let at_k : Graphs outs (holding f.number) = subst (λ x. Graphs outs (holding x)) (sym fit.0) graphs in (
+      holding k,
+      subst (λ x. Graphs (outs ++ (step n ∷ told_records w.net (speaker_of f) ns)) (holding x)) fit.0
+          (goes_order_by n w g f f.number was.begun was.start was.calls was.body p by rec was.call ns outs was.entry was.does none at_k),
+      fit,
+    )
+
+-- the open goes on
+pub goes_heeds : {old new : Logged} (n : ℕ) (w : World) (s : Running) (g : Objects Obj) (f : Fetch) (p : Port) (by : Way) (rec : ℕ) (ns : List Notice) → WasCalled g f.number p by rec ns → first_close ns ≡ None →
+    Puts old new (out_texts (step n ∷ told_records w.net (speaker_of f) ns)) →
+    Follows s (HasHeard g f p by rec ns) (seen n w g (stage.Waiting s f)) (seen n w g (stage.Waiting s f)) old new
+goes_heeds n w s g f p by rec ns was none put = record {
+  added = told_records w.net (speaker_of f) ns;
+  puts = put;
+  hears = λ o call h. goes_by n w s g f p by rec ns o call h.fetch h.request h.meets h.does none;
+  graphs = goes_kept n w s g f p by rec ns was none;
+}
+
+-- what goes on is under way
+pub goes_under_way : (g : Objects Obj) (k : ℕ) (b : Begun) (start : ℕ) (calls : List Entry) (body : List ℕ) (p : Port) (by : Way) (rec : ℕ) (call : Call) (ns : List Notice) →
+    CallDoes g (fetch_of k) (tftp_of k) b start calls body p by rec call ns → first_close ns ≡ None → (acts : Acts) × Downloads g (fetch_of k) (tftp_of k) b start (calls ++ entry call acts ∷ []) (body ++ given_of call acts.give)
+goes_under_way g k b start calls body p by rec call ns (call_goes_on acts meets over fits same downloads) none = (acts, downloads)
+goes_under_way g k b start calls body p by rec call ns (call_is_over acts c meets over fits same ended_so) none =
+    absurd (let no : Some c ≡ None = sym over ∙ sym (call_closes (fetch_of k) (tftp_of k) p by rec acts) ∙ ap first_close (sym same) ∙ none in cc)
+goes_under_way g k b start calls body p by rec call ns (call_too_large acts meets long same ended_so) none =
+    absurd (let no : Some body_too_large ≡ None = sym (large_closes (fetch_of k) (tftp_of k) p by rec acts) ∙ ap first_close (sym same) ∙ none in cc)
+goes_under_way g k b start calls body p by rec call ns (call_fails memory) none = absurd (let no : Some no_memory ≡ None = sym memory ∙ none in cc)
+
+-- what has a first close has ended, unless memory ran out
+pub ends_ended : (g : Objects Obj) (k : ℕ) (b : Begun) (start : ℕ) (calls : List Entry) (body : List ℕ) (p : Port) (by : Way) (rec : ℕ) (call : Call) (ns : List Notice) (cause : Cause) →
+    CallDoes g (fetch_of k) (tftp_of k) b start calls body p by rec call ns → first_close ns ≡ Some cause → (Some cause ≡ Some no_memory → ⊥) →
+    (file : Option (List ℕ)) × HasEnded g (fetch_of k) (tftp_of k) file
+ends_ended g k b start calls body p by rec call ns cause (call_goes_on acts meets over fits same downloads) is other =
+    absurd (let no : None ≡ Some cause = sym over ∙ sym (call_closes (fetch_of k) (tftp_of k) p by rec acts) ∙ ap first_close (sym same) ∙ is in cc)
+ends_ended g k b start calls body p by rec call ns cause (call_is_over acts c meets over fits same ended_so) is other = (_, ended_so)
+ends_ended g k b start calls body p by rec call ns cause (call_too_large acts meets long same ended_so) is other = (None, ended_so)
+ends_ended g k b start calls body p by rec call ns cause (call_fails memory) is other = absurd (other (sym is ∙ memory))
+
+-- the conclusion of an end that isn't Ok doesn't depend on the image
+same_comes : (cause : Cause) (b b' : Bool) (i i' : Image) (list : ImageList) → b ≡ b' → (cause.code ≡ 0 → i ≡ i') → conclusion cause b i list ≡ conclusion cause b' i' list
+same_comes cause b b' i i' list eb ei = by (is_either (is_ok_cause cause))
+  where
+    by : (is_ok_cause cause ≡ true) ⊎ (is_ok_cause cause ≡ false) → conclusion cause b i list ≡ conclusion cause b' i' list
+    by (inl well) = let zero : cause.code ≡ 0 = grind (arith, nat_tests, well) in rw (eb, ei zero) refl
+    by (inr ill) = rw ill refl
+
+some_list : {x y : List ℕ} → Some x ≡ Some y → x ≡ y
+some_list {x} {y} e = cc
+
+file_is : (cause : Cause) (whole body : List ℕ) → IsFile cause (body_at_end cause whole) body → cause.code ≡ 0 → body ≡ whole
+file_is cause whole body is zero =
+    let there : body_at_end cause whole ≡ Some whole = ap (λ k. cond (k == 0) (Some whole) None) zero in
+    some_list (sym (is zero) ∙ there)
+
+-- the open ends: for each open that the fetch may be of
+ends_by : {old new : Logged} (t : Turn) (n : ℕ) (w : World) (s : Running) (g : Objects Obj) (f : Fetch) (p : Port) (by : Way) (rec : ℕ) (ns : List Notice) (cause : Cause) (after : Seen) (o : Open) (call : Call) →
+    IsFetchOf f o → length o.begun.request ≤ 1480 → Meets o.begun o.start o.entries → CallDoes g (fetch_of o.number) (tftp_of o.number) o.begun o.start o.entries (body_of o) p by rec call ns →
+    first_close ns ≡ Some cause → (Some cause ≡ Some no_memory → ⊥) → (e : HasEndedOpen t ns cause s f (seen n w g (stage.Waiting s f)) after old new) →
+    (acts : Acts) × Meets o.begun o.start (o.entries ++ entry call acts ∷ []) × (end_of (body_of (with_entry o (entry call acts))) acts ≡ Some cause)
+    × (without_graph (told_records w.net (speaker_of f) ns) ≡ acts_records w.net o.number acts)
+    × (comes_to (seen n w g (stage.Waiting s f)) e.body f cause ≡ concluded w (with_entry o (entry call acts)) cause)
+ends_by t n w s g f p by rec ns cause after o call is short before (call_goes_on acts meets over fits same downloads) closed other e =
+    absurd (let no : None ≡ Some cause = sym over ∙ sym (call_closes (fetch_of o.number) (tftp_of o.number) p by rec acts) ∙ ap first_close (sym same) ∙ closed in cc)
+ends_by t n w s g f p by rec ns cause after o call is short before (call_is_over acts c meets over fits same ended_so) closed other e =
+    let o' = with_entry o (entry call acts) in
+    let body = body_now o call acts before meets in
+    let whole = body_of o ++ given_of call acts.give in
+    let over_is : acts.over ≡ Some cause = sym (call_closes (fetch_of o.number) (tftp_of o.number) p by rec acts) ∙ ap first_close (sym same) ∙ closed in
+    let c_is : c ≡ cause = some_same (sym over ∙ over_is) in
+    let at_f : HasEnded g (fetch_of f.number) (tftp_of f.number) (body_at_end cause whole) =
+    subst (λ k. HasEnded g (fetch_of k) (tftp_of k) (body_at_end cause whole)) (sym is.number) (subst (λ x. HasEnded g (fetch_of o.number) (tftp_of o.number) (body_at_end x whole)) c_is ended_so) in
+    let file : IsFile cause (body_at_end cause whole) e.body = e.is_file (body_at_end cause whole) at_f in
+    let image : cause.code ≡ 0 → image_of f.name e.body [] f.uri ≡ image_from o' = λ zero. rw (is.name, is.uri, file_is cause whole e.body file zero, body) refl in (
+      acts,
+      meets,
+      end_within (body_of o') acts (subst (λ b. length b ≤ 268435456) body fits) ∙ over_is,
+      ap (λ x. without_graph (told_records w.net (speaker_of f) x)) same
+          ∙ call_others w.net (speaker_of f) o.begun (fetch_of o.number) (tftp_of o.number) p by rec acts (speaks f o is) (meets_sends o.begun o.start o.entries call acts short meets)
+          ∙ ap (λ k. acts_records w.net k acts) is.number,
+      same_comes cause f.boots o.wanted.boots (image_of f.name e.body [] f.uri) (image_from o') w.state.images is.boots image,
+    )
+ends_by t n w s g f p by rec ns cause after o call is short before (call_too_large acts meets long same ended_so) closed other e =
+    let o' = with_entry o (entry call acts) in
+    let body = body_now o call acts before meets in
+    let c_is : body_too_large ≡ cause = some_same (sym (large_closes (fetch_of o.number) (tftp_of o.number) p by rec acts) ∙ ap first_close (sym same) ∙ closed) in
+    let image : cause.code ≡ 0 → image_of f.name e.body [] f.uri ≡ image_from o' = λ zero. absurd (let no : 6 ≡ 0 = ap (λ (x : Cause). x.code) c_is ∙ zero in cc) in (
+      acts,
+      meets,
+      end_beyond (body_of o') acts (subst (λ b. 268435456 < length b) body long) ∙ ap Some c_is,
+      ap (λ x. without_graph (told_records w.net (speaker_of f) x)) same
+          ∙ large_others w.net (speaker_of f) o.begun (fetch_of o.number) (tftp_of o.number) p by rec acts (speaks f o is) (meets_sends o.begun o.start o.entries call acts short meets)
+          ∙ ap (λ k. acts_records w.net k acts) is.number,
+      same_comes cause f.boots o.wanted.boots (image_of f.name e.body [] f.uri) (image_from o') w.state.images is.boots image,
+    )
+ends_by t n w s g f p by rec ns cause after o call is short before (call_fails memory) closed other e = absurd (other (sym closed ∙ memory))
+
+-- its records are in the graph's order
+ends_order_by : (n : ℕ) (w : World) (g : Objects Obj) (f : Fetch) (k : ℕ) (b : Begun) (start : ℕ) (calls : List Entry) (body : List ℕ) (p : Port) (by : Way) (rec : ℕ) (call : Call) (ns : List Notice) (cause : Cause) (outs : List Out) →
+    IsEntry (tftp_of k) p by → CallDoes g (fetch_of k) (tftp_of k) b start calls body p by rec call ns → first_close ns ≡ Some cause → (Some cause ≡ Some no_memory → ⊥) → Graphs outs (holding k) →
+    Graphs (outs ++ (step n ∷ ending w.net (speaker_of f) k ns cause)) (bare (k + 1))
+ends_order_by n w g f k b start calls body p by rec call ns cause outs enters (call_goes_on acts meets over fits same downloads) closed other graphs =
+    absurd (let no : None ≡ Some cause = sym over ∙ sym (call_closes (fetch_of k) (tftp_of k) p by rec acts) ∙ ap first_close (sym same) ∙ closed in cc)
+ends_order_by n w g f k b start calls body p by rec call ns cause outs enters (call_is_over acts c meets over fits same ended_so) closed other graphs =
+    let over_is : acts.over ≡ Some cause = sym (call_closes (fetch_of k) (tftp_of k) p by rec acts) ∙ ap first_close (sym same) ∙ closed in
+    rw same (ends_order w.net (speaker_of f) outs n k p by rec acts cause enters over_is graphs)
+ends_order_by n w g f k b start calls body p by rec call ns cause outs enters (call_too_large acts meets long same ended_so) closed other graphs =
+    let c_is : body_too_large ≡ cause = some_same (sym (large_closes (fetch_of k) (tftp_of k) p by rec acts) ∙ ap first_close (sym same) ∙ closed) in
+    rw (same, ← c_is) (large_order w.net (speaker_of f) outs n k p by rec acts enters graphs)
+ends_order_by n w g f k b start calls body p by rec call ns cause outs enters (call_fails memory) closed other graphs = absurd (other (sym closed ∙ memory))
+
+ends_kept : {old new : Logged} (t : Turn) (n : ℕ) (w : World) (s : Running) (g : Objects Obj) (f : Fetch) (p : Port) (by : Way) (rec : ℕ) (ns : List Notice) (cause : Cause) (after : Seen) →
+    WasCalled g f.number p by rec ns → first_close ns ≡ Some cause → (Some cause ≡ Some no_memory → ⊥) → (e : HasEndedOpen t ns cause s f (seen n w g (stage.Waiting s f)) after old new) →
+    KeepsOrder (seen n w g (stage.Waiting s f)) (end_records (seen n w g (stage.Waiting s f)) ns f cause (comes_to (seen n w g (stage.Waiting s f)) e.body f cause)) after
+ends_kept t n w s g f p by rec ns cause after was closed other e outs (bare k) graphs fit = absurd fit
+ends_kept t n w s g f p by rec ns cause after was closed other e outs (holding k) graphs fit =
+    let comes = comes_to (seen n w g (stage.Waiting s f)) e.body f cause in
+    let at_k : Graphs outs (holding f.number) = subst (λ x. Graphs outs (holding x)) (sym fit.0) graphs in
+    let told = told_records w.net (speaker_of f) (ns ++ freed_notices (fetch_of f.number) (tftp_of f.number)) in
+    let last : List Out = ended f.number cause ∷ [] in
+    let ends : Graphs (outs ++ (step n ∷ (told ++ last))) (bare (f.number + 1)) =
+    ends_order_by n w g f f.number was.begun was.start was.calls was.body p by rec was.call ns cause outs was.entry was.does closed other at_k in
+    let all : Graphs ((outs ++ (step n ∷ (told ++ last))) ++ conclusion_records comes) (bare (f.number + 1)) =
+    aside (outs ++ (step n ∷ (told ++ last))) (conclusion_records comes) (bare (f.number + 1)) ends (aside_conclusion comes) in
+    let same : (outs ++ (step n ∷ (told ++ last))) ++ conclusion_records comes ≡ outs ++ (step n ∷ (told ++ (last ++ conclusion_records comes))) =
+    append_assoc outs (step n ∷ (told ++ last)) (conclusion_records comes) ∙ ap (λ xs. outs ++ (step n ∷ xs)) (append_assoc told last (conclusion_records comes)) in
+    let next : w.opens ≡ f.number + 1 = fit.1 ∙ ap (λ x. x + 1) (sym fit.0) in
+    (bare w.opens, subst (λ x. Graphs (outs ++ end_records (seen n w g (stage.Waiting s f)) ns f cause comes) (bare x)) (sym next) (subst (λ xs. Graphs xs (bare (f.number + 1))) same all), e.fits)
 
 -- the open ends, and its command with it
-pub ends_follow : {old new : Logged} (n : ℕ) (w : World) (s : Running) (f : Fetch) (heard : Heard) (cause : Cause) (after : Seen) → heard.end ≡ Some cause →
-    Puts old new (out_texts (step n ∷ (acts_records w.net f.number heard.acts ++ (ended f.number cause ∷ [])
-    ++ conclusion_records (conclusion cause f.boots (image_of f.name f.body [] f.uri) w.state.images)))) →
-    StandsFor after (at n (phase_after (unbound w f.own_port) s (conclusion cause f.boots (image_of f.name f.body [] f.uri) w.state.images))) →
-    Follows s (HasHeard heard f) (seen n w (stage.Waiting s f)) after old new
-ends_follow {old} {new} n w s f heard cause after is p stands =
-    let comes : Conclusion = conclusion cause f.boots (image_of f.name f.body [] f.uri) w.state.images in
+pub ends_follow : {old new : Logged} (t : Turn) (n : ℕ) (w : World) (s : Running) (g : Objects Obj) (f : Fetch) (p : Port) (by : Way) (rec : ℕ) (ns : List Notice) (cause : Cause) (after : Seen) →
+    WasCalled g f.number p by rec ns → first_close ns ≡ Some cause → (Some cause ≡ Some no_memory → ⊥) → HasEndedOpen t ns cause s f (seen n w g (stage.Waiting s f)) after old new →
+    Follows s (HasHeard g f p by rec ns) (seen n w g (stage.Waiting s f)) after old new
+ends_follow {old} {new} t n w s g f p by rec ns cause after was closed other e =
+    let comes : Conclusion = comes_to (seen n w g (stage.Waiting s f)) e.body f cause in
+    let told = told_records w.net (speaker_of f) (ns ++ freed_notices (fetch_of f.number) (tftp_of f.number)) in
+    let last : List Out = ended f.number cause ∷ [] in
+    let others : without_graph (told ++ (last ++ conclusion_records comes)) ≡ without_graph (told_records w.net (speaker_of f) ns) ++ (last ++ conclusion_records comes) =
+    without-append told (last ++ conclusion_records comes)
+    ∙ ap (λ xs. xs ++ without_graph (last ++ conclusion_records comes)) (freed_others w.net (speaker_of f) (fetch_of f.number) (tftp_of f.number) ns)
+    ∙ ap (λ xs. without_graph (told_records w.net (speaker_of f) ns) ++ (last ++ xs)) (without_aside (conclusion_records comes) (aside_conclusion comes)) in
     record {
-      added = acts_records w.net f.number heard.acts ++ (ended f.number cause ∷ []) ++ conclusion_records comes;
-      puts = p;
+      added = told ++ (last ++ conclusion_records comes);
+      puts = e.puts;
       hears = λ o call h.
-          let e = entry call heard.acts in
-          let o' = with_entry o e in
-          let ends : end_of (body_of o') heard.acts ≡ Some cause = sym h.ends ∙ is in
-          let same : comes ≡ concluded w o' cause = same_conclusion w f o' heard.acts cause h.fetch ends h.body in
+          let by_o = ends_by t n w s g f p by rec ns cause after o call h.fetch h.request h.meets h.does closed other e in
+          let acts = by_o.0 in
+          let o' = with_entry o (entry call acts) in
           let hears : Hears w s o call
-          (acts_records w.net o.number heard.acts ++ (ended o.number cause ∷ []) ++ conclusion_records (concluded w o' cause))
+          (acts_records w.net o.number acts ++ (ended o.number cause ∷ []) ++ conclusion_records (concluded w o' cause))
           (phase_after (unbound w o.begun.own_port) s (concluded w o' cause)) =
-          is_over w s o call heard.acts cause h.fetch.core.meets ends in (
+          is_over w s o call acts cause by_o.1 by_o.2 in
+          let front = acts_records w.net o.number acts in
+          let there = concluded w o' cause in
+          let outs_are : without_graph (told ++ (last ++ conclusion_records comes)) ≡ (front ++ (ended o.number cause ∷ [])) ++ conclusion_records there =
+          others ∙ ap (λ xs. xs ++ (last ++ conclusion_records comes)) by_o.3 ∙ ap (λ k. front ++ ((ended k cause ∷ []) ++ conclusion_records comes)) h.fetch.number
+          ∙ ap (λ x. front ++ ((ended o.number cause ∷ []) ++ conclusion_records x)) by_o.4 ∙ sym (append_assoc front (ended o.number cause ∷ []) (conclusion_records there)) in
+          let phase_is : phase_after (unbound w f.own_port) s comes ≡ phase_after (unbound w o.begun.own_port) s there =
+          ap (λ x. phase_after (unbound w f.own_port) s x) by_o.4 ∙ ap (λ k. phase_after (unbound w k) s there) h.fetch.own_port in (
             phase_after (unbound w f.own_port) s comes,
-            rw (h.fetch.number, h.fetch.own_port, same) hears,
-            stands,
+            subst (λ xs. Hears w s o call xs (phase_after (unbound w f.own_port) s comes)) (sym outs_are)
+                (subst (λ x. Hears w s o call ((front ++ (ended o.number cause ∷ [])) ++ conclusion_records there) x) (sym phase_is) hears),
+            e.stands,
           );
+      graphs = ends_kept t n w s g f p by rec ns cause after was closed other e;
     }
 
 -- by the turn
-pub ends_heeds : (t : Turn) (old new : Logged) (n : ℕ) (w : World) (s : Running) (f : Fetch) (heard : Heard) (cause : Cause) (after : Seen) → heard.end ≡ Some cause →
-    EndsOpen t heard.acts cause s f (seen n w (stage.Waiting s f)) after old new →
-    Heeds t s (HasHeard heard f) (seen n w (stage.Waiting s f)) after old new
-ends_heeds turn.More old new n w s f heard cause after is e = (ends_follow n w s f heard cause after is e.1 e.2, e.0)
-ends_heeds turn.Waiting old new n w s f heard cause after is e = (ends_follow n w s f heard cause after is e.1 e.2, e.0)
-ends_heeds turn.Yielded old new n w s f heard cause after is e = (ends_follow n w s f heard cause after is e.1 e.2, e.0)
-ends_heeds (turn.Over status.NoMemory) old new n w s f heard cause after is e = e
-ends_heeds (turn.Over status.HandedOff) old new n w s f heard cause after is e = (e.0.0, ends_follow n w s f heard cause after is e.1 e.2, e.0.1)
-ends_heeds (turn.Over status.Ended) old new n w s f heard cause after is e = (e.0.0, ends_follow n w s f heard cause after is e.1 e.2, e.0.1)
-ends_heeds (turn.Over status.ScriptFailed) old new n w s f heard cause after is e = (e.0.0, ends_follow n w s f heard cause after is e.1 e.2, e.0.1)
-ends_heeds (turn.Over status.Unfinished) old new n w s f heard cause after is e = (e.0.0, ends_follow n w s f heard cause after is e.1 e.2, e.0.1)
-ends_heeds (turn.Over status.BadWords) old new n w s f heard cause after is e = absurd e.0.0
-ends_heeds (turn.Over status.BadRecord) old new n w s f heard cause after is e = absurd e.0.0
-ends_heeds (turn.Over status.ReadFault) old new n w s f heard cause after is e = absurd e.0.0
-ends_heeds (turn.Over status.WriteFault) old new n w s f heard cause after is e = absurd e.0.0
-ends_heeds (turn.Over status.AttachFault) old new n w s f heard cause after is e = absurd e.0.0
-ends_heeds (turn.Over status.TooManyRecords) old new n w s f heard cause after is e = absurd e.0.0
+pub ends_heeds : (t : Turn) (old new : Logged) (s : Running) (P : Open → Call → Type 0) (f : Fetch) (ns : List Notice) (cause : Cause) (before after : Seen) →
+    (HasEndedOpen t ns cause s f before after old new → Follows s P before after old new) → EndsOpen t ns cause s f before after old new → Heeds t s P before after old new
+ends_heeds turn.More old new s P f ns cause before after g e = (g e, e.is_turn)
+ends_heeds turn.Waiting old new s P f ns cause before after g e = (g e, e.is_turn)
+ends_heeds turn.Yielded old new s P f ns cause before after g e = (g e, e.is_turn)
+ends_heeds (turn.Over status.NoMemory) old new s P f ns cause before after g e = e
+ends_heeds (turn.Over status.HandedOff) old new s P f ns cause before after g e = (e.is_turn.0, g e, e.is_turn.1)
+ends_heeds (turn.Over status.Ended) old new s P f ns cause before after g e = (e.is_turn.0, g e, e.is_turn.1)
+ends_heeds (turn.Over status.ScriptFailed) old new s P f ns cause before after g e = (e.is_turn.0, g e, e.is_turn.1)
+ends_heeds (turn.Over status.Unfinished) old new s P f ns cause before after g e = (e.is_turn.0, g e, e.is_turn.1)
+ends_heeds (turn.Over status.BadWords) old new s P f ns cause before after g e = absurd e.is_turn.0
+ends_heeds (turn.Over status.BadRecord) old new s P f ns cause before after g e = absurd e.is_turn.0
+ends_heeds (turn.Over status.ReadFault) old new s P f ns cause before after g e = absurd e.is_turn.0
+ends_heeds (turn.Over status.WriteFault) old new s P f ns cause before after g e = absurd e.is_turn.0
+ends_heeds (turn.Over status.AttachFault) old new s P f ns cause before after g e = absurd e.is_turn.0
+ends_heeds (turn.Over status.TooManyRecords) old new s P f ns cause before after g e = absurd e.is_turn.0
+
+-- and back
+pub ends_of : (t : Turn) (old new : Logged) (ns : List Notice) (cause : Cause) (s : Running) (f : Fetch) (before after : Seen) → HasEndedOpen t ns cause s f before after old new →
+    EndsOpen t ns cause s f before after old new
+ends_of turn.More old new ns cause s f before after e = e
+ends_of turn.Waiting old new ns cause s f before after e = e
+ends_of turn.Yielded old new ns cause s f before after e = e
+ends_of (turn.Over status.NoMemory) old new ns cause s f before after e = absurd e.is_turn.0
+ends_of (turn.Over status.HandedOff) old new ns cause s f before after e = e
+ends_of (turn.Over status.Ended) old new ns cause s f before after e = e
+ends_of (turn.Over status.ScriptFailed) old new ns cause s f before after e = e
+ends_of (turn.Over status.Unfinished) old new ns cause s f before after e = e
+ends_of (turn.Over status.BadWords) old new ns cause s f before after e = e
+ends_of (turn.Over status.BadRecord) old new ns cause s f before after e = e
+ends_of (turn.Over status.ReadFault) old new ns cause s f before after e = e
+ends_of (turn.Over status.WriteFault) old new ns cause s f before after e = e
+ends_of (turn.Over status.AttachFault) old new ns cause s f before after e = e
+ends_of (turn.Over status.TooManyRecords) old new ns cause s f before after e = e
 
 -- what holds of fewer opens follows too
-follows_less : {old new : Logged} (s : Running) (P Q : Open → Call → Type 0) (n : ℕ) (w : World) (st st' : Stage) (after : Seen) →
-    ((o : Open) (call : Call) → Q o call → P o call) → Follows s P (seen n w st) after old new → Follows s Q (seen n w st') after old new
-follows_less s P Q n w st st' after less f = record { added = f.added; puts = f.puts; hears = λ o call q. f.hears o call (less o call q) }
+follows_less : {old new : Logged} (s : Running) (P Q : Open → Call → Type 0) (n : ℕ) (w : World) (h h' : Objects Obj) (st st' : Stage) (after : Seen) → ((q : GraphAt) → FitsAt st' w.opens q → FitsAt st w.opens q) →
+    ((o : Open) (call : Call) → Q o call → P o call) → Follows s P (seen n w h st) after old new → Follows s Q (seen n w h' st') after old new
+follows_less s P Q n w h h' st st' after same less f = record { added = f.added; puts = f.puts; hears = λ o call q. f.hears o call (less o call q); graphs = λ outs q graphs fit. f.graphs outs q graphs (same q fit) }
 
-pub heeds_less : (t : Turn) (old new : Logged) (s : Running) (P Q : Open → Call → Type 0) (n : ℕ) (w : World) (st st' : Stage) (after : Seen) →
-    ((o : Open) (call : Call) → Q o call → P o call) → Heeds t s P (seen n w st) after old new → Heeds t s Q (seen n w st') after old new
-heeds_less turn.More old new s P Q n w st st' after less h = (follows_less s P Q n w st st' after less h.0, h.1)
-heeds_less turn.Waiting old new s P Q n w st st' after less h = (follows_less s P Q n w st st' after less h.0, h.1)
-heeds_less turn.Yielded old new s P Q n w st st' after less h = (follows_less s P Q n w st st' after less h.0, h.1)
-heeds_less (turn.Over status.NoMemory) old new s P Q n w st st' after less h = h
-heeds_less (turn.Over status.HandedOff) old new s P Q n w st st' after less h = (h.0, follows_less s P Q n w st st' after less h.1, h.2)
-heeds_less (turn.Over status.Ended) old new s P Q n w st st' after less h = (h.0, follows_less s P Q n w st st' after less h.1, h.2)
-heeds_less (turn.Over status.ScriptFailed) old new s P Q n w st st' after less h = (h.0, follows_less s P Q n w st st' after less h.1, h.2)
-heeds_less (turn.Over status.Unfinished) old new s P Q n w st st' after less h = (h.0, follows_less s P Q n w st st' after less h.1, h.2)
-heeds_less (turn.Over status.BadWords) old new s P Q n w st st' after less h = absurd h.0
-heeds_less (turn.Over status.BadRecord) old new s P Q n w st st' after less h = absurd h.0
-heeds_less (turn.Over status.ReadFault) old new s P Q n w st st' after less h = absurd h.0
-heeds_less (turn.Over status.WriteFault) old new s P Q n w st st' after less h = absurd h.0
-heeds_less (turn.Over status.AttachFault) old new s P Q n w st st' after less h = absurd h.0
-heeds_less (turn.Over status.TooManyRecords) old new s P Q n w st st' after less h = absurd h.0
-
--- a fetch to which something came is as sound as before
-pub still_sound : (n : ℕ) (w : World) (s : Running) (f f1 : Fetch) → IsSound n w (stage.Waiting s f) → IsSameFetch f f1 → length f1.body ≤ 268435456 →
-    IsSound n w (stage.Waiting s f1)
-still_sound n w s f f1 sound same short = record {
-  time = sound.time;
-  w = sound.w;
-  opens = sound.opens;
-  ports = rw (same.own_port, same.number) sound.ports;
-  well = (rw same.name sound.well.0, short);
-  short = sound.short;
-}
-
--- an open's end, by the turn
-pub ends_of : (t : Turn) (old new : Logged) (acts : Acts) (cause : Cause) (s : Running) (f : Fetch) (before after : Seen) → IsTurn t after.stage →
-    Puts old new (out_texts (step before.used ∷ (acts_records before.world.net f.number acts ++ (ended f.number cause ∷ [])
-    ++ conclusion_records (conclusion cause f.boots (image_of f.name f.body [] f.uri) before.world.state.images)))) →
-    StandsFor after (at before.used (phase_after (unbound before.world f.own_port) s (conclusion cause f.boots (image_of f.name f.body [] f.uri) before.world.state.images))) →
-    EndsOpen t acts cause s f before after old new
-ends_of turn.More old new acts cause s f before after is p st = (is, p, st)
-ends_of turn.Waiting old new acts cause s f before after is p st = (is, p, st)
-ends_of turn.Yielded old new acts cause s f before after is p st = (is, p, st)
-ends_of (turn.Over status.NoMemory) old new acts cause s f before after is p st = absurd is.0
-ends_of (turn.Over status.HandedOff) old new acts cause s f before after is p st = (is, p, st)
-ends_of (turn.Over status.Ended) old new acts cause s f before after is p st = (is, p, st)
-ends_of (turn.Over status.ScriptFailed) old new acts cause s f before after is p st = (is, p, st)
-ends_of (turn.Over status.Unfinished) old new acts cause s f before after is p st = (is, p, st)
-ends_of (turn.Over status.BadWords) old new acts cause s f before after is p st = (is, p, st)
-ends_of (turn.Over status.BadRecord) old new acts cause s f before after is p st = (is, p, st)
-ends_of (turn.Over status.ReadFault) old new acts cause s f before after is p st = (is, p, st)
-ends_of (turn.Over status.WriteFault) old new acts cause s f before after is p st = (is, p, st)
-ends_of (turn.Over status.AttachFault) old new acts cause s f before after is p st = (is, p, st)
-ends_of (turn.Over status.TooManyRecords) old new acts cause s f before after is p st = (is, p, st)
+pub heeds_less : (t : Turn) (old new : Logged) (s : Running) (P Q : Open → Call → Type 0) (n : ℕ) (w : World) (h h' : Objects Obj) (st st' : Stage) (after : Seen) → ((q : GraphAt) → FitsAt st' w.opens q → FitsAt st w.opens q) →
+    ((o : Open) (call : Call) → Q o call → P o call) → Heeds t s P (seen n w h st) after old new → Heeds t s Q (seen n w h' st') after old new
+heeds_less turn.More old new s P Q n w h h' st st' after same less hs = (follows_less s P Q n w h h' st st' after same less hs.0, hs.1)
+heeds_less turn.Waiting old new s P Q n w h h' st st' after same less hs = (follows_less s P Q n w h h' st st' after same less hs.0, hs.1)
+heeds_less turn.Yielded old new s P Q n w h h' st st' after same less hs = (follows_less s P Q n w h h' st st' after same less hs.0, hs.1)
+heeds_less (turn.Over status.NoMemory) old new s P Q n w h h' st st' after same less hs = hs
+heeds_less (turn.Over status.HandedOff) old new s P Q n w h h' st st' after same less hs = (hs.0, follows_less s P Q n w h h' st st' after same less hs.1, hs.2)
+heeds_less (turn.Over status.Ended) old new s P Q n w h h' st st' after same less hs = (hs.0, follows_less s P Q n w h h' st st' after same less hs.1, hs.2)
+heeds_less (turn.Over status.ScriptFailed) old new s P Q n w h h' st st' after same less hs = (hs.0, follows_less s P Q n w h h' st st' after same less hs.1, hs.2)
+heeds_less (turn.Over status.Unfinished) old new s P Q n w h h' st st' after same less hs = (hs.0, follows_less s P Q n w h h' st st' after same less hs.1, hs.2)
+heeds_less (turn.Over status.BadWords) old new s P Q n w h h' st st' after same less hs = absurd hs.0
+heeds_less (turn.Over status.BadRecord) old new s P Q n w h h' st st' after same less hs = absurd hs.0
+heeds_less (turn.Over status.ReadFault) old new s P Q n w h h' st st' after same less hs = absurd hs.0
+heeds_less (turn.Over status.WriteFault) old new s P Q n w h h' st st' after same less hs = absurd hs.0
+heeds_less (turn.Over status.AttachFault) old new s P Q n w h h' st st' after same less hs = absurd hs.0
+heeds_less (turn.Over status.TooManyRecords) old new s P Q n w h h' st st' after same less hs = absurd hs.0
 
 -- where a command fails this holds
 abbrev pub IfFails : Conclusion → Type 0 → Type 0
@@ -202,3 +360,36 @@ pub fails_keeps : (c : Concluded) (before after : ImageList) (w v : World) → H
 fails_keeps concluded.Keeps before after w v kept same = tt
 fails_keeps (concluded.Fails cause) before after w v kept same = same kept
 fails_keeps (concluded.Boots kernel) before after w v kept same = tt
+
+-- what was told is one list
+pub same_told : {a b : List Notice} {told : Option (List Notice)} → told ≡ Some a → told ≡ Some b → a ≡ b
+same_told {a} {b} {told} e g = ap (λ o. or_notices o) (sym e ∙ g)
+  where
+    or_notices : Option (List Notice) → List Notice
+    or_notices None = []
+    or_notices (Some ns) = ns
+
+-- the first close of what was told
+pub same_close : {told : Option (List Notice)} {ns : List Notice} {cause : Option Cause} → WasTold told cause → told ≡ Some ns → first_close ns ≡ cause
+same_close was is = ap first_close (same_told is was.1) ∙ was.2
+
+-- a fetch whose open goes on is as sound as before
+pub goes_sound : (n : ℕ) (w : World) (g h : Objects Obj) (s : Running) (f : Fetch) (told : Option (List Notice)) → IsSound n w g (stage.Waiting s f) → WasTold told None → IsCalled h f.number told →
+    IsSound n w h (stage.Waiting s f)
+goes_sound n w g h s f told sound was called =
+    let it = called.5 in
+    let way = goes_under_way h f.number it.begun it.start it.calls it.body called.0 called.1 called.2 it.call called.3 it.does (same_close was called.4) in
+    record {
+      time = sound.time;
+      w = sound.w;
+      opens = sound.opens;
+      ports = sound.ports;
+      objects = ((it.begun, it.start, (it.calls ++ entry it.call way.0 ∷ []), (it.body ++ given_of it.call way.0.give), way.1), sound.objects.1);
+      well = sound.well;
+      short = sound.short;
+    }
+
+pub called_ended : (h : Objects Obj) (k : ℕ) (told : Option (List Notice)) (cause : Cause) → WasTold told (Some cause) → IsCalled h k told → IsEnded h (fetch_of k) (tftp_of k)
+called_ended h k told cause was called =
+    let it = called.5 in
+    ends_ended h k it.begun it.start it.calls it.body called.0 called.1 called.2 it.call called.3 cause it.does (same_close was called.4) was.3

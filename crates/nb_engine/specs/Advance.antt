@@ -1,24 +1,30 @@
 -- A client whose script runs, or whose image is handed off.
-use Rattle.std.specs.Prelude.{◌≡◌, ◌<◌, ◌≤◌, ℕ, length, List, [], ◌∷◌, true, false, Option, Some, None}
+use Rattle.std.specs.Prelude.{◌≡◌, ◌<◌, ◌≤◌, ℕ, length, List, [], ◌∷◌, ◌++◌, true, Option, Some, None}
 use Rattle.nb_terms.specs.declared.cause.Cause.{Cause}
-use Rattle.nb_terms.specs.declared.acts.Acts.{Acts}
-use Rattle.nb_terms.specs.declared.acts.SendTo.{SendTo}
 use Rattle.nb_defs.specs.Records.{out_texts, ended}
 use Rattle.nb_record.specs.Logged.{Logged, Puts}
+use Rattle.nb_ledger.specs.Flat.{Notice}
+use Rattle.nb_nodes.specs.Conversations.{first_acts}
+use Rattle.nb_tftp.specs.Asks.{begun}
+use Rattle.nb_opens.specs.Graphs.{fetch_of, tftp_of}
+use Rattle.nb_opens.specs.Notices.{made_notices, begun_notices, closed_notices, freed_notices}
 use Rattle.nb_engine.specs.declared.world.World.{World}
 use Rattle.nb_engine.specs.declared.fetch.Fetch.{Fetch}
+use Rattle.nb_engine.specs.declared.status.Status.TheVariants as status
 use Rattle.nb_engine.specs.declared.client.Turn.{Turn}
 use Rattle.nb_engine.specs.declared.client.Turn.TheVariants as turn
 use Rattle.nb_settings.specs.Tables.{TableLists}
 use Rattle.nb_engine.specs.declared.command.Deed.{Deed}
 use Rattle.nb_engine.specs.CommandWords.{deed_effect}
-use Rattle.nb_engine.specs.Effects.{effect, says, ShownWords, shown_words, shown_as, table_after}
-use Rattle.nb_engine.specs.World.{own_port, with_open, with_ended_open, world_with_table}
-use Rattle.nb_engine.specs.Opens.{has_route, send_records}
+use Rattle.nb_engine.specs.Effects.{Wanted, effect, says, ShownWords, shown_words, shown_as, table_after}
+use Rattle.nb_engine.specs.World.{own_port, with_ended_open, world_with_table}
+use Rattle.nb_engine.specs.Opens.{opened_record}
 use Rattle.nb_engine.specs.Conclusions.{fails, conclusion_records}
+use Rattle.nb_engine.specs.Fetches.{speaker_of}
+use Rattle.nb_engine.specs.Tellings.{told_records}
 use Rattle.nb_defs.specs.Commands.{CommandOutcome}
-use Rattle.nb_engine.specs.Running.{Running, entered, further, coming, beginning}
-use Rattle.nb_engine.specs.Machine.{no_route}
+use Rattle.nb_engine.specs.Running.{Running, further, coming, beginning}
+use Rattle.nb_engine.specs.Machine.{no_route, command_record}
 use Rattle.nb_engine.specs.Seen.{Seen, seen, standing}
 use Rattle.nb_engine.specs.Concluding.{IsTurn}
 use Rattle.nb_engine.specs.declared.stage.Stage.TheVariants as stage
@@ -29,28 +35,28 @@ pub record IsNextFetch (w : World) (f : Fetch) : Type 0 where
   pub own_port : f.own_port ≡ own_port w.w w.opens
   pub few : w.opens < 16384
   pub name : length f.name ≤ 268435456
-  pub body : length f.body ≤ 268435456
 
--- one message, by UDP
-abbrev pub IsOneUdp : Acts → Type 0
-IsOneUdp acts = (send : SendTo) × (acts.sends.items ≡ send ∷ []) × (send.proto ≡ 17)
+-- a command's records were put as far as its open has begun, in the record rec, and then these notices
+abbrev pub PutsBegun : Running → List (List ℕ) → World → Wanted → Fetch → ℕ → Logged → Logged → List Notice → Type 0
+PutsBegun s ws w wanted f rec old new more =
+    Puts old new (out_texts ((command_record s (shown_as true ws) ∷ [])
+    ++ (told_records w.net (speaker_of f) (made_notices (fetch_of f.number) (tftp_of f.number))
+    ++ ((opened_record w wanted ∷ [])
+    ++ told_records w.net (speaker_of f) (begun_notices (fetch_of f.number) (tftp_of f.number) rec (first_acts (begun f.server 69 f.own_port wanted.target.path)) ++ more)))))
 
--- of one message this holds
-abbrev pub IfOne : List SendTo → (SendTo → Type 0) → Type 0
-IfOne [] P = ⊥
-IfOne (send ∷ sends) P = P send
+-- an open that was begun was closed, since there is no way to its server, and its command's list goes on
+pub record HasTurnedBack (t : Turn) (s : Running) (ws : List (List ℕ)) (wanted : Wanted) (f : Fetch) (before after : Seen) (old new : Logged) : Type 0 where
+  pub turn_is : t ≡ turn.More
+  pub middle : Logged
+  pub begun_so : PutsBegun s ws before.world wanted f before.used old middle
+      (closed_notices (fetch_of f.number) (tftp_of f.number) (no_route f.server.0) ++ freed_notices (fetch_of f.number) (tftp_of f.number))
+  pub puts : Puts middle new (out_texts (ended f.number (no_route f.server.0) ∷ conclusion_records (fails (no_route f.server.0))))
+  pub after_is : after ≡ seen before.used (with_ended_open before.world) after.graph (stage.Running (further s (no_route f.server.0)))
 
--- the request was put and the command waits, or there is no way and the list goes on
-pub data Requested (t : Turn) (s : Running) (f : Fetch) (acts : Acts) (send : SendTo) (before after : Seen) (old new : Logged) : Type 0 where
-  waits : has_route before.world.net send ≡ true → t ≡ turn.Waiting →
-      Puts old new (out_texts (send_records before.world.net f.number acts.tried send)) →
-      after ≡ seen before.used (with_open before.world) (stage.Waiting (entered s) f) → Requested t s f acts send before after old new
-  fails_so : has_route before.world.net send ≡ false → t ≡ turn.More →
-      Puts old new (out_texts (ended f.number (no_route f.server.0) ∷ conclusion_records (fails (no_route f.server.0)))) →
-      after ≡ seen before.used (with_ended_open before.world) (stage.Running (further s (no_route f.server.0))) → Requested t s f acts send before after old new
-
-abbrev pub Requests : Turn → Running → Fetch → Acts → Seen → Seen → Logged → Logged → Type 0
-Requests t s f acts before after old new = IfOne acts.sends.items (λ send. Requested t s f acts send before after old new)
+-- so it was, unless memory ran out and nothing was put
+abbrev pub TurnsBack : Turn → Running → List (List ℕ) → Wanted → Fetch → Seen → Seen → Logged → Logged → Type 0
+TurnsBack (turn.Over status.NoMemory) s ws wanted f before after old new = new ≡ old
+TurnsBack t s ws wanted f before after old new = HasTurnedBack t s ws wanted f before after old new
 
 -- a command ends so at once, in this world: its words are shown so, and it leaves these settings
 pub record EndsAtOnce (s : Running) (w : World) (shown : ShownWords) (o : CommandOutcome) (table : TableLists) : Type 0 where

@@ -1,17 +1,21 @@
 -- What the end of an open does to a client, part by part.
-use Rattle.std.specs.Prelude.{◌≡◌, ◌<◌, length, [], ◌∷◌, ◌++◌}
+use Rattle.std.specs.Prelude.{◌≡◌, ◌<◌, ℕ, length, List, [], ◌∷◌, ◌++◌, Option}
 use Rattle.nb_terms.specs.declared.cause.Cause.{Cause}
-use Rattle.nb_terms.specs.declared.acts.Acts.{Acts}
-use Rattle.nb_defs.specs.Records.{out_texts, step, ended}
+use Rattle.nb_ledger.specs.Flat.{Notice}
+use Rattle.nb_defs.specs.Records.{Out, out_texts, step, ended}
 use Rattle.nb_record.specs.Logged.{Logged, Puts}
 use Rattle.nb_image.specs.Images.{ImageList, image_of}
 use Rattle.nb_engine.specs.Machine.{phase_after, at}
 use Rattle.nb_engine.specs.Running.{Running}
-use Rattle.nb_engine.specs.Opens.{acts_records}
-use Rattle.nb_engine.specs.Conclusions.{conclusion, conclusion_records}
+use Rattle.nb_engine.specs.Conclusions.{Conclusion, conclusion, conclusion_records}
 use Rattle.nb_engine.specs.World.{unbound}
-use Rattle.nb_engine.specs.Fetches.{conclusion_of}
-use Rattle.nb_engine.specs.Seen.{Seen, StandsFor}
+use Rattle.nb_engine.specs.Fetches.{conclusion_of, speaker_of}
+use Rattle.nb_engine.specs.Tellings.{told_records}
+use Rattle.nb_opens.specs.Graphs.{bare, fetch_of, tftp_of}
+use Rattle.nb_opens.specs.Notices.{freed_notices}
+use Rattle.nb_opens.specs.Pairs.{HasEnded}
+use Rattle.nb_engine.specs.Seen.{Seen, StandsFor, Fits}
+use Rattle.nb_engine.specs.Objects.{IsFile}
 use Rattle.nb_engine.specs.Turns.{IsBusy, IsWaiting, HasYielded, IsOverWith, IsEnd}
 use Rattle.nb_engine.specs.declared.conclusion.Conclusion.{Conclusion as Concluded}
 use Rattle.nb_engine.specs.declared.conclusion.Conclusion.TheVariants as concluded
@@ -38,14 +42,29 @@ IsTurn (turn.Over s) st = IsEnd s × IsOverWith st s
 pub record Concludes (t : Turn) (s : Running) (c : Concluded) (before after : Seen) (old new : Logged) : Type 0 where
   pub puts : Puts old new (out_texts (conclusion_records (conclusion_of c before.world.state.images)))
   pub is_turn : IsTurn t after.stage
+  pub fits : Fits after (bare before.world.opens)
   pub stands : StandsFor after (at before.used (phase_after before.world s (conclusion_of c before.world.state.images)))
 
--- the open has ended: what was asked, its end and the result were put, unless memory ran out
-abbrev pub EndsOpen : Turn → Acts → Cause → Running → Fetch → Seen → Seen → Logged → Logged → Type 0
-EndsOpen (turn.Over status.NoMemory) acts cause s f before after old new = new ≡ old
-EndsOpen t acts cause s f before after old new =
-    IsTurn t after.stage
-    × Puts old new (out_texts (step before.used ∷ (acts_records before.world.net f.number acts ++ (ended f.number cause ∷ [])
-    ++ conclusion_records (conclusion cause f.boots (image_of f.name f.body [] f.uri) before.world.state.images))))
-    × StandsFor after (at before.used (phase_after (unbound before.world f.own_port) s
-    (conclusion cause f.boots (image_of f.name f.body [] f.uri) before.world.state.images)))
+-- the records of an open's end, of which this was told, and of the command that waited for it
+abbrev pub end_records : Seen → List Notice → Fetch → Cause → Conclusion → List Out
+end_records c ns f cause comes =
+    step c.used ∷ (told_records c.world.net (speaker_of f) (ns ++ freed_notices (fetch_of f.number) (tftp_of f.number))
+    ++ ((ended f.number cause ∷ []) ++ conclusion_records comes))
+
+-- what the command comes to, whose open has ended with this cause and file
+abbrev pub comes_to : Seen → List ℕ → Fetch → Cause → Conclusion
+comes_to c body f cause = conclusion cause f.boots (image_of f.name body [] f.uri) c.world.state.images
+
+-- the open has ended, with its file where it ended well: what was told, its end and the result were put
+pub record HasEndedOpen (t : Turn) (ns : List Notice) (cause : Cause) (s : Running) (f : Fetch) (before after : Seen) (old new : Logged) : Type 0 where
+  pub body : List ℕ
+  pub is_file : (file : Option (List ℕ)) → HasEnded before.graph (fetch_of f.number) (tftp_of f.number) file → IsFile cause file body
+  pub is_turn : IsTurn t after.stage
+  pub puts : Puts old new (out_texts (end_records before ns f cause (comes_to before body f cause)))
+  pub fits : Fits after (bare before.world.opens)
+  pub stands : StandsFor after (at before.used (phase_after (unbound before.world f.own_port) s (comes_to before body f cause)))
+
+-- so it is, unless memory ran out and nothing was put
+abbrev pub EndsOpen : Turn → List Notice → Cause → Running → Fetch → Seen → Seen → Logged → Logged → Type 0
+EndsOpen (turn.Over status.NoMemory) ns cause s f before after old new = new ≡ old
+EndsOpen t ns cause s f before after old new = HasEndedOpen t ns cause s f before after old new

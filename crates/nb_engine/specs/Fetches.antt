@@ -1,42 +1,28 @@
--- What a fetch stands for, and what a datagram or a time does to it.
-use Rattle.std.specs.Prelude.{◌≡◌, ◌⊎◌, ℕ, ◌<◌, ◌≤◌, length, Bool, true, false, List, [], ◌∷◌, ◌++◌, Option, Some}
-use Rattle.std.specs.Option.{option_map_or}
-use Rattle.std.specs.List.{slice_range}
-use Rattle.nb_tftp.specs.Asks.{Begun}
-use Rattle.nb_tftp.specs.History.{Call, Entry, entry, given_of, is_ended}
-use Rattle.nb_tftp.specs.Stands.{Stands}
-use Rattle.nb_tftp.specs.Sound.{AreSoundActs}
+-- What a fetch stands for: the open that it is of, and its two objects on the graph.
+use Rattle.std.specs.Prelude.{◌≡◌, ◌<◌, ◌≤◌, ℕ, length, Bool, true, false, Some}
+use Rattle.nb_graph.specs.Whole.{Objects}
+use Rattle.nb_nodes.specs.declared.obj.Obj.{Obj}
 use Rattle.nb_image.specs.Images.{ImageList}
+use Rattle.nb_opens.specs.Graphs.{fetch_of, tftp_of}
+use Rattle.nb_opens.specs.Pairs.{Downloads}
 use Rattle.nb_engine.specs.declared.fetch.Fetch.{Fetch}
-use Rattle.nb_engine.specs.declared.fetch.Heard.{Heard}
 use Rattle.nb_engine.specs.declared.conclusion.Conclusion.{Conclusion as Concluded}
 use Rattle.nb_engine.specs.declared.conclusion.Conclusion.TheVariants as concluded
 use Rattle.nb_engine.specs.Handings.{AreShort}
-use Rattle.nb_engine.specs.Opens.{Open, body_of, end_of, is_over_limit}
+use Rattle.nb_engine.specs.Opens.{Open, body_of}
+use Rattle.nb_engine.specs.World.{host}
+use Rattle.nb_engine.specs.Effects.{Wanted}
 use Rattle.nb_engine.specs.Conclusions.{Conclusion, keeps, fails, boots}
+use Rattle.nb_engine.specs.Tellings.{Speaker}
 
--- the bytes of a message that go up
-abbrev pub given_bytes : Option (ℕ × ℕ) → List ℕ → List ℕ
-given_bytes give body = option_map_or (λ r. slice_range body r.0 r.1) give []
+-- a fetch of this file, of the open of this number
+abbrev pub fetch_for : ℕ → ℕ → Wanted → Fetch
+fetch_for number own_port wanted =
+    record { number = number; server = host wanted.target.server; own_port = own_port; name = wanted.target.name; uri = wanted.uri; boots = wanted.boots }
 
--- two fetches differ in their transfers and bodies alone
-pub record IsSameFetch (old new : Fetch) : Type 0 where
-  pub number : new.number ≡ old.number
-  pub server : new.server ≡ old.server
-  pub own_port : new.own_port ≡ old.own_port
-  pub name : new.name ≡ old.name
-  pub uri : new.uri ≡ old.uri
-  pub boots : new.boots ≡ old.boots
-
--- a datagram or a time came to the fetch, and this was heard
-pub record TakesCall (old new : Fetch) (call : Call) (heard : Heard) : Type 0 where
-  pub same : IsSameFetch old new
-  pub core : (b : Begun) (start : ℕ) (h : List Entry) → Stands b start old.transfer h → is_ended h ≡ false →
-      Stands b start new.transfer (h ++ entry call heard.acts ∷ [])
-  pub sound : (len : ℕ) × AreSoundActs len heard.acts
-  pub ends : heard.end ≡ end_of (old.body ++ given_of call heard.acts.give) heard.acts
-  pub short : length new.body ≤ 268435456
-  pub body : (new.body ≡ old.body ++ given_of call heard.acts.give) ⊎ (is_over_limit (old.body ++ given_of call heard.acts.give) ≡ true)
+-- who speaks for a fetch
+abbrev pub speaker_of : Fetch → Speaker
+speaker_of f = record { number = f.number; server = f.server; own_port = f.own_port }
 
 -- the fetch is the open's
 pub record IsFetchOf (f : Fetch) (o : Open) : Type 0 where
@@ -46,13 +32,12 @@ pub record IsFetchOf (f : Fetch) (o : Open) : Type 0 where
   pub name : f.name ≡ o.wanted.target.name
   pub uri : f.uri ≡ o.wanted.uri
   pub boots : f.boots ≡ o.wanted.boots
-  pub core : Stands o.begun o.start f.transfer o.entries
 
--- the fetch goes on, and holds what has come of the file
-pub record IsLive (f : Fetch) (o : Open) : Type 0 where
+-- the fetch goes on, and its objects hold what has come of the file
+pub record IsLive (g : Objects Obj) (f : Fetch) (o : Open) : Type 0 where
   pub fetch : IsFetchOf f o
-  pub body : f.body ≡ body_of o
-  pub lives : is_ended o.entries ≡ false
+  pub request : length o.begun.request ≤ 1480
+  pub downloads : Downloads g (fetch_of o.number) (tftp_of o.number) o.begun o.start o.entries (body_of o)
 
 -- a conclusion of the program, with the list of images that it leaves
 abbrev pub conclusion_of : Concluded → ImageList → Conclusion

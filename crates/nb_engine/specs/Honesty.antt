@@ -1,7 +1,7 @@
 -- Servers that send what they hold, and what is handed off then.
 use Rattle.std.specs.Prelude.{◌≡◌, ℕ, ◌+◌, List, [], ◌∷◌, ◌++◌, Some}
 use Rattle.std.specs.List.{AllByRecursion}
-use Rattle.nb_defs.specs.Records.{In, frame, Out, step, sent, text, command, result, script, opened, tried, advanced, ended, part, done}
+use Rattle.nb_defs.specs.Records.{In, frame, Out, step, sent, text, command, result, script, opened, tried, advanced, ended, graph, part, done}
 use Rattle.nb_stack.specs.Client.{Client}
 use Rattle.nb_stack.specs.Takes.{Outcome, Takes}
 use Rattle.nb_tftp.specs.Received.{received}
@@ -51,6 +51,7 @@ IsNoPart (opened number kind server port own target) = Unit {0}
 IsNoPart (tried number count) = Unit {0}
 IsNoPart (advanced number place) = Unit {0}
 IsNoPart (ended number cause) = Unit {0}
+IsNoPart (graph happens) = Unit {0}
 IsNoPart (done status) = Unit {0}
 
 abbrev pub HaveNoParts : List Out → Type 0

@@ -11,6 +11,9 @@ pub mod CommandWords
 pub mod Steps
 pub mod NextCommand
 pub mod FirstScript
+pub mod Tellings
+pub mod Notes
+pub mod Objects
 pub mod Handings
 pub mod Fetches
 pub mod Seen

@@ -1,13 +1,15 @@
 -- What a call of the client does, by its turn: between the client and the two lists of records, those
 -- used and those written.
-use Rattle.std.specs.Prelude.{◌≡◌, ℕ, ◌+◌, ◌<◌, List, [], ◌∷◌, length}
+use Rattle.std.specs.Prelude.{◌≡◌, ℕ, ◌+◌, ◌<◌, List, [], ◌∷◌, ◌++◌, length}
 use Rattle.nb_defs.specs.Records.{In, start, frame, tick, off, Out, out_texts, ended, done}
 use Rattle.nb_record.specs.Logged.{Logged, Puts}
 use Rattle.nb_engine.specs.Machine.{Machine, Begins, Moves, status_of, stopped_cause}
 use Rattle.nb_engine.specs.StatusNumber.{status_number}
 use Rattle.nb_engine.specs.Steps.{moves_in}
 use Rattle.nb_engine.specs.Handings.{records_left}
-use Rattle.nb_engine.specs.Seen.{Seen, StandsFor}
+use Rattle.nb_opens.specs.Graphs.{fetch_of, tftp_of, traced, without_graph}
+use Rattle.nb_opens.specs.PairEvents.{shut_events}
+use Rattle.nb_engine.specs.Seen.{Seen, StandsFor, KeepsOrder}
 use Rattle.nb_engine.specs.declared.status.Status.{Status}
 use Rattle.nb_engine.specs.declared.status.Status.TheVariants as status
 use Rattle.nb_engine.specs.declared.stage.Stage.{Stage}
@@ -103,11 +105,12 @@ pub record Leads (used : List In) (before : Machine) (added : List Out) (after :
   pub stands : StandsFor after machine
 
 -- From a client to one that stands for the state after a step, whose records were put: for each state for
--- which it stood.
+-- which it stood. The graph's records stand in its order among them, and the others are the machine's.
 pub record Grows (used : List In) (before after : Seen) (old new : Logged) : Type 0 where
   pub added : List Out
   pub puts : Puts old new (out_texts added)
-  pub leads : (m : Machine) → StandsFor before m → Leads used m added after
+  pub leads : (m : Machine) → StandsFor before m → Leads used m (without_graph added) after
+  pub graphs : KeepsOrder before added after
 
 -- the statuses with which a client ends a run
 abbrev pub IsEnd : Status → Type 0
@@ -147,9 +150,13 @@ IsNearer turn.Waiting before after = Unit {0}
 IsNearer turn.Yielded before after = Unit {0}
 IsNearer (turn.Over s) before after = Unit {0}
 
+-- the open of this number is shut down with the run
+abbrev pub shut_records : ℕ → List Out
+shut_records k = traced (shut_events (fetch_of k) (tftp_of k) stopped_cause) ++ (ended k stopped_cause ∷ [])
+
 -- what a run that ends has still to close, and DONE
 abbrev pub closing_records : Stage → ℕ → List Out
-closing_records (stage.Waiting s f) number = ended f.number stopped_cause ∷ done number ∷ []
+closing_records (stage.Waiting s f) number = shut_records f.number ++ (done number ∷ [])
 closing_records stage.Ready number = done number ∷ []
 closing_records (stage.Running s) number = done number ∷ []
 closing_records (stage.Sleeping s until) number = done number ∷ []

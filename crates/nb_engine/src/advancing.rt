@@ -1,4 +1,4 @@
-ghost use Rattle.std.specs.Prelude.{◌≡◌, ◌<◌, ◌≤◌, ◌+◌, ◌*◌, ◌∷◌, [], length, true, Ok};
+ghost use Rattle.std.specs.Prelude.{◌≡◌, ◌<◌, ◌≤◌, ◌+◌, ◌*◌, ◌∷◌, ◌++◌, List, [], length, true, Ok, Some, IfOk};
 ghost use Rattle.nb_defs.specs.Commands.{refused};
 ghost use Rattle.nb_defs.specs.Records.{out_texts, ended, leave};
 ghost use Rattle.nb_record.specs.Logged.{Puts};
@@ -14,23 +14,33 @@ ghost use Rattle.nb_engine.specs.Effects.{words_effect, words_table, asks, fetch
 ghost use Rattle.nb_engine.specs.CommandWords.{wanted_of, IsLocal, CanFetch, PrintsAtMost};
 ghost use Rattle.nb_engine.specs.NextCommand.{HasCommand, IsReady};
 ghost use Rattle.nb_engine.specs.World.{with_open, with_ended_open, own_port as own_port_of};
-ghost use Rattle.nb_engine.specs.Opens.{opened_record, has_route, send_records};
+ghost use Rattle.nb_engine.specs.Opens.{opened_record};
 ghost use Rattle.nb_engine.specs.Conclusions.{fails, conclusion_records};
+ghost use Rattle.nb_ledger.specs.Flat.{Notice};
+ghost use Rattle.nb_nodes.specs.Asking.{is_path};
+ghost use Rattle.nb_tftp.specs.Asks.{begun};
+ghost use Rattle.nb_opens.specs.Pairs.{IsEmpty};
+ghost use Rattle.nb_engine.specs.Objects.{BeginsOpen};
+ghost use Rattle.nb_graph.specs.Whole.{Objects};
+ghost use Rattle.nb_nodes.specs.declared.obj.Obj.{Obj as Object};
+ghost use Rattle.nb_engine.specs.Fetches.{fetch_for, speaker_of};
+ghost use Rattle.nb_engine.specs.Tellings.{told_records};
 ghost use Rattle.nb_engine.specs.Concluding.{IsTurn};
-ghost use Rattle.nb_engine.specs.Advance.{EndsAtOnce, HasCarriedOut, IsNextFetch, IsOneUdp, IfOne, Requests, SettlesScript};
+ghost use Rattle.nb_engine.specs.Advance.{EndsAtOnce, HasCarriedOut, IsNextFetch, PutsBegun, TurnsBack, SettlesScript};
 ghost use Rattle.nb_engine.specs.Handings.{IsAt};
 ghost use Rattle.nb_engine.specs.declared.stage.Stage.TheVariants as stage;
 
 use crate::command::{Deed, Done, Wanted, carry_out, read_uri};
-use crate::desk::{Desk, Room, lent};
-use crate::put::{put_over, put_result, put_send};
+use crate::desk::{Desk, lent};
+use crate::objects::{begin, turn_back};
+use crate::put::{has_route, put_over, put_result, put_told};
 use crate::running::Next;
 use crate::status::status_after;
 use crate::world::own_port;
 use crate::{Client, Fetch, Handing, KeptFetch, RunningScript, Stage, Status, Turn};
 use nb_command::{CommandPlan, PlanError, plan};
-use nb_record::{Acts as Asked, Cause, Log, NoMemory, OutRec};
-use nb_stack::Stack;
+use nb_nodes::Ask;
+use nb_record::{Cause, Log, NoMemory, OutRec};
 use nb_terms::{Plain, Reason};
 use nb_uri::TFTP_PORT;
 use nb_wire::Word;
@@ -41,23 +51,10 @@ const UDP: u8 = 17;
 /// The kind of an open by TFTP, as its record names it.
 const TFTP: u8 = 1;
 
-/// Puts the request of an open, its first try. False where there is no way to the server.
-fn put_request(net: &mut Stack, number: u16, acts: &Asked, room: &mut Room, log: &mut Log) -> bool
-    requires { IsOneUdp acts.now }
-    ensures route { IfOne acts.now.sends.items (λ send. result ≡ has_route net.old send) }
-    ensures puts { IfOne acts.now.sends.items (λ send. Puts log.old log.new (out_texts (send_records net.old number acts.now.tried send))) }
-    ensures same { net.new ≡ net.old }
-{
-    match acts.sends.as_slice().first() {
-        Some(send) => put_send(net, number, acts.tried, send, room, log),
-        None => false,
-    }
-}
-
 impl Client {
     /// The script goes on: it passes a line or a command, does a command, or is left.
     pub(crate) fn advance(&mut self, mut script: RunningScript, log: &mut Log) -> Turn
-        requires sound { IsSound self.old.used self.old.world (stage.Running script) }
+        requires sound { IsSound self.old.used self.old.world self.old.graph (stage.Running script) }
         ensures does { AnswersTurn result [] (standing self.old (stage.Running script)) self.new log.old log.new }
         ensures nearer { IsNearer result (standing self.old (stage.Running script)) self.new }
     {
@@ -78,7 +75,7 @@ impl Client {
 
     /// The script goes on.
     fn run_on(&mut self, script: RunningScript) -> Turn
-        requires sound { IsSound self.old.used self.old.world (stage.Running script) }
+        requires sound { IsSound self.old.used self.old.world self.old.graph (stage.Running script) }
         ensures turn { result ≡ turn.More }
         ensures after { self.new ≡ standing self.old (stage.Running script) }
     {
@@ -99,7 +96,7 @@ impl Client {
 
     /// Does a command of these words, which were expanded.
     fn command(&mut self, script: RunningScript, words: &[Word], log: &mut Log) -> Turn
-        requires sound { IsSound self.old.used self.old.world (stage.Running script) }
+        requires sound { IsSound self.old.used self.old.world self.old.graph (stage.Running script) }
         requires words { HasCommand script self.old.world.state.table words.now }
         ensures does { AnswersTurn result [] (standing self.old (stage.Running script)) self.new log.old log.new }
         ensures nearer { IsNearer result (standing self.old (stage.Running script)) self.new }
@@ -127,7 +124,7 @@ impl Client {
         boots: bool,
         log: &mut Log,
     ) -> Turn
-        requires sound { IsSound self.old.used self.old.world (stage.Running script) }
+        requires sound { IsSound self.old.used self.old.world self.old.graph (stage.Running script) }
         requires words { HasCommand script self.old.world.state.table words.now }
         requires value { words_effect self.old.world.opens self.old.world.state.table words.now ≡ fetch self.old.world.opens boots uri.now }
         requires same { words_table self.old.world.state.table words.now ≡ self.old.world.state.table }
@@ -149,7 +146,7 @@ impl Client {
         cause: Cause,
         log: &mut Log,
     ) -> Turn
-        requires sound { IsSound self.old.used self.old.world (stage.Running script) }
+        requires sound { IsSound self.old.used self.old.world self.old.graph (stage.Running script) }
         requires words { IsReady script words.now }
         requires refused { EndsAtOnce script self.old.world (shown_as expanded words.now) (refused cause) self.old.world.state.table }
         ensures does { AnswersTurn result [] (standing self.old (stage.Running script)) self.new log.old log.new }
@@ -167,7 +164,7 @@ impl Client {
         plan: &CommandPlan,
         log: &mut Log,
     ) -> Turn
-        requires sound { IsSound self.old.used self.old.world (stage.Running script) }
+        requires sound { IsSound self.old.used self.old.world self.old.graph (stage.Running script) }
         requires words { HasCommand script self.old.world.state.table words.now }
         requires value { planned words.now ≡ Ok plan.now }
         requires local { IsLocal plan.now }
@@ -189,12 +186,12 @@ impl Client {
         deed: &Deed,
         log: &mut Log,
     ) -> Turn
-        requires sound { IsSound self.old.used self.old.world (stage.Running script) }
+        requires sound { IsSound self.old.used self.old.world self.old.graph (stage.Running script) }
         requires words { IsReady script words.now }
         requires printed { PrintsAtMost deed.now 4160 }
         ensures { (w : World) → HasCarriedOut w deed.now script words.now self.old
-            → AnswersTurn result [] (seen self.old.used w (stage.Running script)) self.new log.old log.new
-            × IsNearer result (seen self.old.used w (stage.Running script)) self.new }
+            → AnswersTurn result [] (seen self.old.used w self.old.graph (stage.Running script)) self.new log.old log.new
+            × IsNearer result (seen self.old.used w self.old.graph (stage.Running script)) self.new }
     {
         match deed {
             Deed::Ends(done) => {
@@ -217,7 +214,7 @@ impl Client {
         seconds: u32,
         log: &mut Log,
     ) -> Turn
-        requires sound { IsSound self.old.used self.old.world (stage.Running script) }
+        requires sound { IsSound self.old.used self.old.world self.old.graph (stage.Running script) }
         requires words { IsReady script words.now }
         ensures turn { result ≡ turn.Waiting }
         ensures puts { Puts log.old log.new (out_texts (command_record script (shown_as true words.now) ∷ [])) }
@@ -232,7 +229,7 @@ impl Client {
 
     /// The script goes on after a command, or was left with a cause.
     fn settle(&mut self, script: RunningScript, left: Option<Cause>) -> Turn
-        requires sound { IsSound self.old.used self.old.world (stage.Running script) }
+        requires sound { IsSound self.old.used self.old.world self.old.graph (stage.Running script) }
         ensures { SettlesScript left result script self.old self.new }
     {
         match left {
@@ -252,31 +249,7 @@ impl Client {
         wanted: &Wanted<'_>,
         log: &mut Log,
     ) -> Turn
-        requires sound { IsSound self.old.used self.old.world (stage.Running script) }
-        requires words { HasCommand script self.old.world.state.table words.now }
-        requires value { words_effect self.old.world.opens self.old.world.state.table words.now ≡ asks (wanted_of wanted.now) }
-        requires file { CanFetch self.old.world.opens wanted.now }
-        ensures does { AnswersTurn result [] (standing self.old (stage.Running script)) self.new log.old log.new }
-        ensures nearer { IsNearer result (standing self.old (stage.Running script)) self.new }
-    {
-        let Ok(mut desk) = lent(self.alloc, self.desk.take()) else {
-            return Turn::Over(Status::NoMemory);
-        };
-        let turn = self.begin(script, words, wanted, &mut desk, log);
-        self.desk = Some(desk);
-        turn
-    }
-
-    /// Begins it on this desk.
-    fn begin(
-        &mut self,
-        script: RunningScript,
-        words: &[Word],
-        wanted: &Wanted<'_>,
-        desk: &mut Desk,
-        log: &mut Log,
-    ) -> Turn
-        requires sound { IsSound self.old.used self.old.world (stage.Running script) }
+        requires sound { IsSound self.old.used self.old.world self.old.graph (stage.Running script) }
         requires words { HasCommand script self.old.world.state.table words.now }
         requires value { words_effect self.old.world.opens self.old.world.state.table words.now ≡ asks (wanted_of wanted.now) }
         requires file { CanFetch self.old.world.opens wanted.now }
@@ -285,21 +258,98 @@ impl Client {
     {
         let number = self.world.opens;
         let own_port = own_port(self.world.w, number);
-        match Fetch::begin(
-            self.alloc,
-            number,
-            own_port,
-            wanted,
-            self.world.time,
-            &mut desk.heard.acts,
-        ) {
-            Ok(fetch) => {
-                script.put_begun(true, words, log);
-                self.put_opened(wanted, own_port, log);
-                self.ask(script, fetch, &desk.heard.acts, &mut desk.room, log)
-            }
-            Err(NoMemory) => Turn::Over(Status::NoMemory),
+        let Ok(fetch) = Fetch::of(self.alloc, number, own_port, wanted) else {
+            return Turn::Over(Status::NoMemory);
+        };
+        let Ok(mut desk) = self.begin(fetch.get(), wanted.target.path) else {
+            return Turn::Over(Status::NoMemory);
+        };
+        let turn = self.go_out(script, words, wanted, fetch, &mut desk, log);
+        self.desk = Some(desk);
+        turn
+    }
+
+    /// The request of an open that was begun leaves, if there is a way to its server.
+    fn go_out(
+        &mut self,
+        script: RunningScript,
+        words: &[Word],
+        wanted: &Wanted<'_>,
+        fetch: KeptFetch,
+        desk: &mut Desk,
+        log: &mut Log,
+    ) -> Turn
+        requires words { HasCommand script self.old.world.state.table words.now }
+        requires value { words_effect self.old.world.opens self.old.world.state.table words.now ≡ asks (wanted_of wanted.now) }
+        requires file { CanFetch self.old.world.opens wanted.now }
+        requires next { fetch ≡ fetch_for self.old.world.opens (own_port_of self.old.world.w self.old.world.opens) (wanted_of wanted.now) }
+        requires ports { self.old.world.net.ports ≡ [] }
+        requires begins { BeginsOpen self.old.graph fetch.number (begun fetch.server 69 fetch.own_port wanted.now.target.path.now)
+            self.old.world.time self.old.used desk.old.made desk.old.told }
+        ensures does { (g : Objects Object) → AnswersTurn result [] (seen self.old.used self.old.world g (stage.Running script)) self.new log.old log.new }
+        ensures nearer { (g : Objects Object) → IsNearer result (seen self.old.used self.old.world g (stage.Running script)) self.new }
+    {
+        if has_route(&self.world.net, fetch.get(), &mut desk.room) {
+            self.ask(script, words, wanted, fetch, desk, log)
+        } else {
+            self.turn_back(script, words, wanted, fetch, desk, log)
         }
+    }
+
+    /// Makes the objects of this fetch, and begins its transfer. What they told stands on the desk that is
+    /// given back.
+    fn begin(&mut self, fetch: &Fetch, path: &[u8]) -> Result<Box<Desk>, NoMemory>
+        requires empty { IsEmpty self.old.graph (2 * fetch.now.number) }
+        requires path { is_path path.now ≡ true }
+        ensures begins { IfOk result (λ desk. BeginsOpen self.new.graph fetch.now.number (begun fetch.now.server 69 fetch.now.own_port path.now)
+            self.old.world.time self.old.used desk.value.made desk.value.told) }
+        ensures same { self.new ≡ seen self.old.used self.old.world self.new.graph stage.Stopped }
+    {
+        self.stage = Stage::Stopped;
+        let mut desk = lent(self.alloc, self.desk.take())?;
+        let ask = Ask {
+            server: fetch.server,
+            port: TFTP_PORT,
+            own_port: fetch.own_port,
+            path,
+        };
+        begin(
+            self.alloc,
+            &mut self.graph,
+            fetch.number,
+            self.used,
+            &ask,
+            self.world.time,
+            &mut desk,
+        )?;
+        Ok(desk)
+    }
+
+    /// Puts that a command begins, its fetch, and what the open's objects told.
+    fn put_begun(
+        &self,
+        script: &RunningScript,
+        words: &[Word],
+        wanted: &Wanted<'_>,
+        fetch: &Fetch,
+        desk: &mut Desk,
+        log: &mut Log,
+    )
+        requires words { IsReady script.now words.now }
+        requires fits { length wanted.now.target.path.now ≤ 1024 }
+        requires own { fetch.now.own_port ≡ own_port_of self.now.world.w self.now.world.opens }
+        requires made { (ns : List Notice) × (desk.old.made ≡ Some ns) }
+        requires told { (ns : List Notice) × (desk.old.told ≡ Some ns) }
+        ensures { (made told : List Notice) → desk.old.made ≡ Some made → desk.old.told ≡ Some told
+            → Puts log.old log.new (out_texts ((command_record script.now (shown_as true words.now) ∷ [])
+            ++ (told_records self.now.world.net (speaker_of fetch.now) made
+            ++ ((opened_record self.now.world (wanted_of wanted.now) ∷ [])
+            ++ told_records self.now.world.net (speaker_of fetch.now) told)))) }
+    {
+        script.put_begun(true, words, log);
+        put_told(&desk.made, &self.world.net, fetch, &mut desk.room, log);
+        self.put_opened(wanted, fetch.own_port, log);
+        put_told(&desk.told, &self.world.net, fetch, &mut desk.room, log);
     }
 
     /// Puts the open.
@@ -318,39 +368,28 @@ impl Client {
         });
     }
 
-    /// Sends the request. Without a way to the server the open has ended, and the script goes on.
+    /// The request has left: the script's command waits for this fetch, whose port is bound.
     fn ask(
         &mut self,
-        script: RunningScript,
+        mut script: RunningScript,
+        words: &[Word],
+        wanted: &Wanted<'_>,
         fetch: KeptFetch,
-        acts: &Asked,
-        room: &mut Room,
+        desk: &mut Desk,
         log: &mut Log,
     ) -> Turn
-        requires early { script.begun < 4096 }
-        requires there { 0 < length script.rest }
-        requires sound { IsSound self.old.used self.old.world (stage.Running script) }
+        requires words { IsReady script words.now }
         requires own { IsNextFetch self.old.world fetch }
-        requires udp { IsOneUdp acts.now }
-        ensures { Requests result script fetch acts.now (standing self.old (stage.Running script)) self.new log.old log.new }
-    {
-        if put_request(&mut self.world.net, fetch.get().number, acts, room, log) {
-            self.wait(script, fetch)
-        } else {
-            self.give_up(script, fetch, log)
-        }
-    }
-
-    /// The script's command waits for this fetch, whose port is bound.
-    fn wait(&mut self, mut script: RunningScript, fetch: KeptFetch) -> Turn
-        requires early { script.begun < 4096 }
-        requires there { 0 < length script.rest }
+        requires fits { length wanted.now.target.path.now ≤ 1024 }
         requires ports { self.old.world.net.ports ≡ [] }
-        requires own { IsNextFetch self.old.world fetch }
+        requires begins { BeginsOpen self.old.graph fetch.number (begun fetch.server 69 fetch.own_port wanted.now.target.path.now)
+            self.old.world.time self.old.used desk.old.made desk.old.told }
         ensures turn { result ≡ turn.Waiting }
-        ensures after { self.new ≡ seen self.old.used (with_open self.old.world) (stage.Waiting (entered script) fetch) }
+        ensures puts { PutsBegun script words.now self.old.world (wanted_of wanted.now) fetch self.old.used log.old log.new [] }
+        ensures after { self.new ≡ seen self.old.used (with_open self.old.world) self.old.graph (stage.Waiting (entered script) fetch) }
     {
         let open = fetch.get();
+        self.put_begun(&script, words, wanted, open, desk, log);
         let _ = self
             .world
             .net
@@ -361,21 +400,53 @@ impl Client {
         Turn::Waiting
     }
 
-    /// There is no way to the fetch's server: its open was made, and has ended.
+    /// There is no way to the fetch's server: its user closes the open, which has ended.
+    fn turn_back(
+        &mut self,
+        script: RunningScript,
+        words: &[Word],
+        wanted: &Wanted<'_>,
+        fetch: KeptFetch,
+        desk: &mut Desk,
+        log: &mut Log,
+    ) -> Turn
+        requires words { IsReady script words.now }
+        requires own { IsNextFetch self.old.world fetch }
+        requires fits { length wanted.now.target.path.now ≤ 1024 }
+        requires ports { self.old.world.net.ports ≡ [] }
+        requires begins { BeginsOpen self.old.graph fetch.number (begun fetch.server 69 fetch.own_port wanted.now.target.path.now)
+            self.old.world.time self.old.used desk.old.made desk.old.told }
+        ensures { TurnsBack result script words.now (wanted_of wanted.now) fetch self.old self.new log.old log.new }
+    {
+        let open = fetch.get();
+        let cause = Cause::from(Reason::NoRoute(open.server));
+        self.stage = Stage::Stopped;
+        let (number, now) = (open.number, self.world.time);
+        let Ok(()) = turn_back(&mut self.graph, number, &cause, now, &mut desk.told) else {
+            return Turn::Over(Status::NoMemory);
+        };
+        self.put_begun(&script, words, wanted, open, desk, log);
+        self.give_up(script, fetch, log)
+    }
+
+    /// There is no way to the fetch's server: its open was closed, and has ended.
     fn give_up(&mut self, mut script: RunningScript, fetch: KeptFetch, log: &mut Log) -> Turn
         requires early { script.begun < 4096 }
         requires there { 0 < length script.rest }
         requires ports { self.old.world.net.ports ≡ [] }
         requires few { self.old.world.opens < 16384 }
+        requires empty { IsEmpty self.old.graph (2 * (self.old.world.opens + 1)) }
         ensures turn { result ≡ turn.More }
         ensures puts { Puts log.old log.new
             (out_texts (ended fetch.number (no_route fetch.server.0) ∷ conclusion_records (fails (no_route fetch.server.0)))) }
-        ensures after { self.new ≡ seen self.old.used (with_ended_open self.old.world) (stage.Running (further script (no_route fetch.server.0))) }
+        ensures after { self.new ≡ seen self.old.used (with_ended_open self.old.world) self.old.graph
+            (stage.Running (further script (no_route fetch.server.0))) }
     {
         let open = fetch.get();
         let cause = Cause::from(Reason::NoRoute(open.server));
         put_over(open.number, cause, log);
         put_result(cause, log);
+        self.stage = Stage::Stopped;
         self.world.opens += 1;
         script.enter();
         script.end_with(cause);

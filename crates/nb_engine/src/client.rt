@@ -1,4 +1,4 @@
-ghost use Rattle.std.specs.Prelude.{◌≡◌, ◌<◌, ◌-◌, ◌^◌, [], ◌∷◌, IsOkAnd};
+ghost use Rattle.std.specs.Prelude.{◌≡◌, ◌<◌, ◌-◌, ◌^◌, [], ◌∷◌, IfOk, OnOk, OnErr};
 ghost use Rattle.nb_defs.specs.Records.{IsIn, IsStart, out_texts};
 ghost use Rattle.nb_record.specs.View.{in_of, start_of};
 ghost use Rattle.nb_record.specs.Logged.{Puts};
@@ -7,13 +7,16 @@ ghost use Rattle.nb_engine.specs.Turns.{AnswersTurn, IsBusy, IsNearer, MayUse, c
 ghost use Rattle.nb_engine.specs.declared.stage.Stage.TheVariants as stage;
 
 use crate::desk::Desk;
-use crate::put::put_over;
 use crate::{Stage, Status, World};
+use nb_graph::Graph;
+use nb_nodes::Obj;
 use nb_record::{InRec, Log, NoMemory, OutRec, Start};
-use nb_terms::Plain;
 use std::alloc::Global;
 use std::marker::Model;
 use std::mem;
+
+/// The most objects that a run has at a time.
+const OBJECTS: usize = 12;
 
 /// How a call of the client ended.
 #[derive(Clone, Copy, Debug, PartialEq, Eq)]
@@ -34,6 +37,8 @@ pub struct Client {
     pub(crate) alloc: Global,
     pub(crate) used: u32,
     pub(crate) world: World,
+    /// The objects of the open that a command waits for.
+    pub(crate) graph: Graph<Obj>,
     pub(crate) stage: Stage,
     /// What the next step works on; None before the first, and while it is lent to one.
     pub(crate) desk: Option<Box<Desk>>,
@@ -44,22 +49,24 @@ impl Model for Client {
 
     ghost Value = { Seen };
 
-    ghost view = { λ c. seen c.used c.world c.stage };
+    ghost view = { λ c. seen c.used c.world c.graph c.stage };
 
-    ghost invariant = { λ c. IsSound c.used c.world c.stage };
+    ghost invariant = { λ c. IsSound c.used c.world c.graph c.stage };
 }
 
 impl Client {
     /// A client for this START, before any record. It keeps the allocator.
     pub fn new(alloc: Global, start: &Start<'_>) -> Result<Client, NoMemory>
         requires { IsStart (start_of start.now) }
-        ensures used { IsOkAnd result (λ c. c.used ≡ 0) }
-        ensures ready { IsOkAnd result (λ c. c.stage ≡ stage.Ready) }
+        ensures used { IfOk result (λ c. c.used ≡ 0) }
+        ensures ready { IfOk result (λ c. c.stage ≡ stage.Ready) }
+        ensures opens { IfOk result (λ c. c.world.opens ≡ 0) }
     {
         Ok(Client {
             alloc,
             used: 0,
             world: World::bare(alloc, start),
+            graph: Graph::new(alloc, OBJECTS)?,
             stage: Stage::Ready,
             desk: None,
         })
@@ -109,14 +116,18 @@ impl Client {
         }
     }
 
-    /// Puts the end of an open that is left, and DONE with the run's status, the last record.
-    pub fn finish(&mut self, status: Status, log: &mut Log)
-        ensures puts { Puts log.old log.new (out_texts (closing_records self.old.stage (status_number status))) }
-        ensures same { self.new ≡ self.old }
+    /// Ends the run: closes and frees the objects of an open that is left, and puts that, its end, and DONE with
+    /// the run's status, the last record. Where memory runs out nothing is put.
+    pub fn finish(&mut self, status: Status, log: &mut Log) -> Result<(), NoMemory>
+        ensures puts { OnOk result (Puts log.old log.new (out_texts (closing_records self.old.stage (status_number status)))) }
+        ensures nothing { OnErr result (log.new ≡ log.old) }
+        ensures stopped { self.new.stage ≡ stage.Stopped }
     {
-        if let Stage::Waiting(_, fetch) = &self.stage {
-            put_over(fetch.get().number, Plain::Stopped.cause(), log);
+        if let Stage::Waiting(_, fetch) = mem::replace(&mut self.stage, Stage::Stopped) {
+            let mut desk = self.shut(fetch.get())?;
+            self.put_shut(fetch.get(), &mut desk, log);
         }
         log.put(&OutRec::Done(status.number()));
+        Ok(())
     }
 }

@@ -4,8 +4,8 @@ ghost use Rattle.nb_image.specs.Kinds.{kind_of};
 ghost use Rattle.nb_engine.specs.Conclusions.{conclusion, taken_in, cause_of_error, is_bootable};
 ghost use Rattle.nb_engine.specs.Fetches.{IsConclusion, Chooses};
 
-use crate::KeptFetch;
-use nb_image::{ImageError, ImageKind, Images};
+use crate::Fetch;
+use nb_image::{Body, ImageError, ImageKind, Images};
 use nb_record::{Cause, NoMemory};
 use nb_terms::{Large, Many, Plain, Reason};
 use std::alloc::Global;
@@ -47,46 +47,47 @@ fn is_bootable(kind: ImageKind) -> bool
 pub fn conclude(
     alloc: Global,
     images: &mut Images,
-    fetch: &mut KeptFetch,
+    fetch: &Fetch,
+    body: Body,
     cause: Cause,
 ) -> Result<Conclusion, NoMemory>
-    requires name { length fetch.old.name ≤ 268435456 }
-    requires body { length fetch.old.body ≤ 268435456 }
+    requires name { length fetch.now.name ≤ 268435456 }
     ensures refused { OnErr result (images.new ≡ images.old) }
-    ensures concludes { IfOk result (λ c. IsConclusion c (conclusion cause fetch.old.boots (image_of fetch.old.name fetch.old.body [] fetch.old.uri) images.old) images.old images.new) }
+    ensures concludes { IfOk result (λ c. IsConclusion c (conclusion cause fetch.now.boots (image_of fetch.now.name body [] fetch.now.uri) images.old) images.old images.new) }
 {
     if cause.code != 0 {
         return Ok(Conclusion::Fails(cause));
     }
-    let ended = fetch.get();
-    if let Some(error) = images.refuses(ended.name.as_slice(), &ended.body) {
+    if let Some(error) = images.refuses(fetch.name.as_slice(), &body) {
         return Ok(Conclusion::Fails(cause_of(error)));
     }
-    if ended.boots && !is_bootable(ended.body.kind()) {
+    if fetch.boots && !is_bootable(body.kind()) {
         return Ok(Conclusion::Fails(Plain::NotBootable.cause()));
     }
-    store(alloc, images, fetch)
+    store(alloc, images, fetch, body)
 }
 
 /// Takes the image into the list, which doesn't refuse it.
-fn store(alloc: Global, images: &mut Images, fetch: &mut KeptFetch) -> Result<Conclusion, NoMemory>
-    requires room { refusal (image_of fetch.old.name fetch.old.body [] fetch.old.uri) images.old.images ≡ None }
-    requires name { length fetch.old.name ≤ 268435456 }
-    requires body { length fetch.old.body ≤ 268435456 }
-    requires kind { fetch.old.boots ≡ true → is_bootable (kind_of fetch.old.body) ≡ true }
+fn store(
+    alloc: Global,
+    images: &mut Images,
+    fetch: &Fetch,
+    body: Body,
+) -> Result<Conclusion, NoMemory>
+    requires room { refusal (image_of fetch.now.name body [] fetch.now.uri) images.old.images ≡ None }
+    requires name { length fetch.now.name ≤ 268435456 }
+    requires kind { fetch.now.boots ≡ true → is_bootable (kind_of body) ≡ true }
     ensures refused { OnErr result (images.new ≡ images.old) }
-    ensures concludes { IfOk result (λ c. IsConclusion c (taken_in fetch.old.boots (image_of fetch.old.name fetch.old.body [] fetch.old.uri) images.old) images.old images.new) }
+    ensures concludes { IfOk result (λ c. IsConclusion c (taken_in fetch.now.boots (image_of fetch.now.name body [] fetch.now.uri) images.old) images.old images.new) }
 {
-    let body = fetch.take_body(alloc);
-    let ended = fetch.get();
     match images.add(
         alloc,
-        ended.name.as_slice(),
+        fetch.name.as_slice(),
         body,
         b"",
-        ended.uri.as_slice(),
+        fetch.uri.as_slice(),
     ) {
-        Ok(place) => Ok(choose(images, ended.boots, place)),
+        Ok(place) => Ok(choose(images, fetch.boots, place)),
         Err(_) => Err(NoMemory),
     }
 }

@@ -1,7 +1,7 @@
 ghost use Rattle.std.specs.Prelude.{◌≡◌, []};
 
-use crate::fetch::Heard;
-use nb_record::{Acts, NoMemory};
+use crate::outlet::Outlet;
+use nb_record::NoMemory;
 use nb_wire::Out;
 use std::alloc::Global;
 
@@ -14,11 +14,14 @@ pub struct Room {
     bytes: [u8; MAX_FRAME],
 }
 
-/// What a client works on: what was heard last, and the room for its frames. It is made once, and lent to
+/// What a client works on: what the graph told, and the room for its frames. It is made once, and lent to
 /// each record's step.
 #[derive(Drop)]
 pub struct Desk {
-    pub(crate) heard: Heard,
+    /// What was told of objects that were made.
+    pub(crate) made: Outlet,
+    /// What was told since.
+    pub(crate) told: Outlet,
     pub(crate) room: Room,
 }
 
@@ -33,16 +36,14 @@ impl Room {
 }
 
 impl Desk {
-    fn new() -> Desk {
-        Desk {
-            heard: Heard {
-                acts: Acts::none(),
-                end: None,
-            },
+    fn new(alloc: Global) -> Result<Desk, NoMemory> {
+        Ok(Desk {
+            made: Outlet::new(alloc)?,
+            told: Outlet::new(alloc)?,
             room: Room {
                 bytes: [0; MAX_FRAME],
             },
-        }
+        })
     }
 }
 
@@ -50,6 +51,6 @@ impl Desk {
 pub fn lent(alloc: Global, kept: Option<Box<Desk>>) -> Result<Box<Desk>, NoMemory> {
     match kept {
         Some(desk) => Ok(desk),
-        None => Ok(Box::new(alloc, Desk::new())?),
+        None => Ok(Box::new(alloc, Desk::new(alloc)?)?),
     }
 }

@@ -1,19 +1,31 @@
-ghost use Rattle.std.specs.Prelude.{◌≡◌, ◌≤◌, ℕ, ◌∷◌, []};
-ghost use Rattle.nb_defs.specs.Records.{out_texts, step, result as result_record};
+ghost use Rattle.std.specs.Prelude.{◌≡◌, ℕ, List, ◌∷◌, [], Some, IfOk, ◌*◌};
+ghost use Rattle.nb_defs.specs.Records.{out_texts, step, ended, result as result_record};
 ghost use Rattle.nb_record.specs.Logged.{Puts};
+ghost use Rattle.nb_ledger.specs.Flat.{Notice};
+ghost use Rattle.nb_ledger.specs.declared.port.Port.{Port};
+ghost use Rattle.nb_ledger.specs.declared.event.Way.{Way};
+ghost use Rattle.nb_graph.specs.Whole.{Objects};
+ghost use Rattle.nb_nodes.specs.declared.obj.Obj.{Obj as Object};
+ghost use Rattle.nb_opens.specs.Graphs.{fetch_of, tftp_of};
+ghost use Rattle.nb_opens.specs.Notices.{shut_notices};
+ghost use Rattle.nb_opens.specs.Pairs.{IsEnded, IsEmpty, IsDownloading};
+ghost use Rattle.nb_engine.specs.Machine.{stopped_cause};
 ghost use Rattle.nb_engine.specs.Running.{with_result};
-ghost use Rattle.nb_engine.specs.Opens.{acts_records};
-ghost use Rattle.nb_engine.specs.Seen.{IsSound, standing};
-ghost use Rattle.nb_engine.specs.Heeding.{Heeds, HasHeard};
+ghost use Rattle.nb_engine.specs.Tellings.{told_records};
+ghost use Rattle.nb_engine.specs.Fetches.{speaker_of};
+ghost use Rattle.nb_engine.specs.Notes.{WasTold};
+ghost use Rattle.nb_engine.specs.Seen.{IsSound, seen, standing};
+ghost use Rattle.nb_engine.specs.Heeding.{Heeds, HasHeard, WasCalled, IsCalled};
+ghost use Rattle.nb_engine.specs.Turns.{shut_records};
 ghost use Rattle.nb_engine.specs.Concluding.{Concludes, EndsOpen, IsPlaceFor};
 ghost use Rattle.nb_engine.specs.declared.client.Turn.TheVariants as turn;
-ghost use Rattle.nb_tftp.specs.Sound.{AreSoundActs as AreSound};
 ghost use Rattle.nb_engine.specs.declared.stage.Stage.TheVariants as stage;
 
 use crate::conclusion::{Conclusion, conclude};
-use crate::desk::Desk;
-use crate::put::{put_acts, put_over, put_result, put_step};
-use crate::{Client, Handing, KeptFetch, RunningScript, Stage, Status, Turn};
+use crate::desk::{Desk, lent};
+use crate::objects::{end, shut};
+use crate::put::{put_over, put_result, put_step, put_told};
+use crate::{Client, Fetch, Handing, KeptFetch, RunningScript, Stage, Status, Turn};
 use nb_record::{Cause, Log, NoMemory};
 use nb_terms::Plain;
 
@@ -21,19 +33,24 @@ use nb_terms::Plain;
 const UDP: u8 = 17;
 
 impl Client {
-    /// Puts what a datagram or a time has brought the fetch, and where it ended the open, what comes of its command.
+    /// Puts what a datagram or a time has brought the fetch, whose objects told the cause of a first close or
+    /// none. Where that ended the open, puts what comes of its command.
     pub(crate) fn heed(
         &mut self,
         script: RunningScript,
         fetch: KeptFetch,
+        closed: Option<Cause>,
         desk: &mut Desk,
         log: &mut Log,
     ) -> Turn
-        requires sound { IsSound self.old.used self.old.world (stage.Waiting script fetch) }
-        requires acts { (len : ℕ) × AreSound len desk.old.heard.acts }
-        ensures { Heeds result script (HasHeard desk.old.heard fetch) (standing self.old (stage.Waiting script fetch)) self.new log.old log.new }
+        requires sound { (g : Objects Object) × IsSound self.old.used self.old.world g (stage.Waiting script fetch) }
+        requires told { WasTold desk.old.told closed }
+        requires called { IsCalled self.old.graph fetch.number desk.old.told }
+        ensures { (p : Port) (by : Way) (rec : ℕ) (ns : List Notice) → desk.old.told ≡ Some ns
+            → WasCalled self.old.graph fetch.number p by rec ns
+            → Heeds result script (HasHeard self.old.graph fetch p by rec ns) (standing self.old (stage.Waiting script fetch)) self.new log.old log.new }
     {
-        match desk.heard.end {
+        match closed {
             None => self.go_on(script, fetch, desk, log),
             Some(cause) => self.end(script, fetch, cause, desk, log),
         }
@@ -47,17 +64,18 @@ impl Client {
         desk: &mut Desk,
         log: &mut Log,
     ) -> Turn
-        requires sound { IsSound self.old.used self.old.world (stage.Waiting script fetch) }
-        requires acts { (len : ℕ) × AreSound len desk.old.heard.acts }
+        requires sound { IsSound self.old.used self.old.world self.old.graph (stage.Waiting script fetch) }
+        requires told { (ns : List Notice) × (desk.old.told ≡ Some ns) }
         ensures turn { result ≡ turn.Waiting }
-        ensures puts { Puts log.old log.new (out_texts (step self.old.used ∷ acts_records self.old.world.net fetch.number desk.old.heard.acts)) }
+        ensures puts { (ns : List Notice) → desk.old.told ≡ Some ns
+            → Puts log.old log.new (out_texts (step self.old.used ∷ told_records self.old.world.net (speaker_of fetch) ns)) }
         ensures after { self.new ≡ standing self.old (stage.Waiting script fetch) }
     {
         put_step(self.used, log);
-        put_acts(
-            &mut self.world.net,
-            fetch.get().number,
-            &desk.heard.acts,
+        put_told(
+            &desk.told,
+            &self.world.net,
+            fetch.get(),
             &mut desk.room,
             log,
         );
@@ -69,39 +87,67 @@ impl Client {
     fn end(
         &mut self,
         script: RunningScript,
-        mut fetch: KeptFetch,
+        fetch: KeptFetch,
         cause: Cause,
         desk: &mut Desk,
         log: &mut Log,
     ) -> Turn
-        requires sound { IsSound self.old.used self.old.world (stage.Waiting script fetch) }
-        requires acts { (len : ℕ) × AreSound len desk.old.heard.acts }
-        ensures { EndsOpen result desk.old.heard.acts cause script fetch (standing self.old (stage.Waiting script fetch)) self.new log.old log.new }
+        requires sound { (g : Objects Object) × IsSound self.old.used self.old.world g (stage.Waiting script fetch) }
+        requires told { (ns : List Notice) × (desk.old.told ≡ Some ns) }
+        requires ended { IsEnded self.old.graph (fetch_of fetch.number) (tftp_of fetch.number) }
+        ensures { (ns : List Notice) → desk.old.told ≡ Some ns
+            → EndsOpen result ns cause script fetch (standing self.old (stage.Waiting script fetch)) self.new log.old log.new }
     {
-        let open = fetch.get();
-        let (number, own_port) = (open.number, open.own_port);
         self.stage = Stage::Stopped;
-        match conclude(self.alloc, &mut self.world.state.images, &mut fetch, cause) {
+        let open = fetch.get();
+        let (alloc, number) = (self.alloc, open.number);
+        let Ok(body) = end(alloc, &mut self.graph, number, cause, &mut desk.told) else {
+            return Turn::Over(Status::NoMemory);
+        };
+        match conclude(alloc, &mut self.world.state.images, open, body, cause) {
             Ok(conclusion) => {
                 put_step(self.used, log);
-                put_acts(
-                    &mut self.world.net,
-                    number,
-                    &desk.heard.acts,
-                    &mut desk.room,
-                    log,
-                );
+                put_told(&desk.told, &self.world.net, open, &mut desk.room, log);
                 put_over(number, cause, log);
-                self.world.net.unbind(UDP, own_port);
+                self.world.net.unbind(UDP, open.own_port);
                 self.conclude(script, conclusion, log)
             }
             Err(NoMemory) => Turn::Over(Status::NoMemory),
         }
     }
 
+    /// The run ends, and the objects of this fetch with it. What they told stands on the desk that is given
+    /// back.
+    pub(crate) fn shut(&mut self, fetch: &Fetch) -> Result<Box<Desk>, NoMemory>
+        requires going { IsDownloading self.old.graph (fetch_of fetch.now.number) (tftp_of fetch.now.number) }
+        ensures told { IfOk result (λ desk. desk.value.told ≡ Some (shut_notices (fetch_of fetch.now.number) (tftp_of fetch.now.number) stopped_cause)) }
+        ensures same { self.new ≡ seen self.old.used self.old.world self.new.graph stage.Stopped }
+    {
+        self.stage = Stage::Stopped;
+        let mut desk = lent(self.alloc, self.desk.take())?;
+        shut(
+            &mut self.graph,
+            fetch.number,
+            &Plain::Stopped.cause(),
+            self.world.time,
+            &mut desk.told,
+        )?;
+        Ok(desk)
+    }
+
+    /// Puts what the objects of a fetch told when the run ended, and that its open has ended.
+    pub(crate) fn put_shut(&self, fetch: &Fetch, desk: &mut Desk, log: &mut Log)
+        requires told { desk.old.told ≡ Some (shut_notices (fetch_of fetch.now.number) (tftp_of fetch.now.number) stopped_cause) }
+        ensures { Puts log.old log.new (out_texts (shut_records fetch.now.number)) }
+    {
+        put_told(&desk.told, &self.world.net, fetch, &mut desk.room, log);
+        put_over(fetch.number, Plain::Stopped.cause(), log);
+    }
+
     /// Puts the result of the script's command, and goes on as that says.
     fn conclude(&mut self, script: RunningScript, conclusion: Conclusion, log: &mut Log) -> Turn
         requires ports { self.old.world.net.ports ≡ [] }
+        requires objects { IsEmpty self.old.graph (2 * self.old.world.opens) }
         requires place { IsPlaceFor conclusion self.old.world.state.images }
         ensures { Concludes result script conclusion self.old self.new log.old log.new }
     {
@@ -119,6 +165,7 @@ impl Client {
     /// The script's command has this result, and the script goes on.
     fn resume(&mut self, mut script: RunningScript, cause: Cause, log: &mut Log) -> Turn
         requires ports { self.old.world.net.ports ≡ [] }
+        requires objects { IsEmpty self.old.graph (2 * self.old.world.opens) }
         ensures turn { result ≡ turn.More }
         ensures puts { Puts log.old log.new (out_texts (result_record cause ∷ [])) }
         ensures after { self.new ≡ standing self.old (stage.Running (with_result script cause)) }

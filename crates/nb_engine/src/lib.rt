@@ -13,6 +13,8 @@ mod handing;
 mod heeding;
 mod kept;
 mod laws;
+mod objects;
+mod outlet;
 mod put;
 mod running;
 mod settings;

@@ -1,14 +1,23 @@
-ghost use Rattle.std.specs.Prelude.{◌≡◌, ◌≤◌, ℕ, [], ◌∷◌, ◌++◌, length, Some, true};
-ghost use Rattle.nb_defs.specs.Records.{out_texts, step, ended, enter, leave, result as result_record};
+ghost use Rattle.std.specs.Prelude.{◌≡◌, ◌≤◌, ℕ, List, [], ◌∷◌, length, Some};
+ghost use Rattle.nb_defs.specs.Records.{out_texts, step, ended, result as result_record};
 ghost use Rattle.nb_record.specs.Logged.{Puts};
-ghost use Rattle.nb_engine.specs.Opens.{try_records, send_records, sends_records, advance_records, acts_records, has_route};
+ghost use Rattle.nb_ledger.specs.Flat.{Notice};
+ghost use Rattle.nb_engine.specs.Opens.{try_records, send_records, has_route};
 ghost use Rattle.nb_engine.specs.Machine.{reply_records};
 ghost use Rattle.nb_engine.specs.Heeding.{IsReply};
-ghost use Rattle.nb_tftp.specs.Sound.{AreSoundActs, AreUdp};
+ghost use Rattle.nb_engine.specs.Fetches.{speaker_of};
+ghost use Rattle.nb_engine.specs.Notes.{AreNotesWithin, IsNoteWithin, notice_of, notices_of};
+ghost use Rattle.nb_engine.specs.Tellings.{datagram_of, notice_records, told_records};
 
+use crate::Fetch;
 use crate::desk::Room;
-use nb_record::{Acts, Cause, Log, OutRec, SendTo};
-use nb_stack::{Fate, Stack};
+use crate::outlet::{Note, Outlet};
+use nb_record::{Cause, Log, OutRec};
+use nb_stack::{Envelope, Fate, Stack};
+use nb_uri::TFTP_PORT;
+
+/// UDP (RFC 768).
+const UDP: u8 = 17;
 
 /// Puts that the step of this record begins.
 pub fn put_step(number: u32, log: &mut Log)
@@ -41,27 +50,6 @@ pub fn put_reply(reply: &[u8], log: &mut Log)
     }
 }
 
-/// Puts what a transfer asks: the place to which it has come, and its messages.
-#[tactic(auto, unfolding(crate::specs::Opens::acts_records))]
-#[inline(always)]
-pub fn put_acts(net: &mut Stack, number: u16, acts: &Acts, room: &mut Room, log: &mut Log)
-    requires { (len : ℕ) × AreSoundActs len acts.now }
-    ensures puts { Puts log.old log.new (out_texts (acts_records net.old number acts.now)) }
-    ensures same { net.new ≡ net.old }
-{
-    put_advance(number, acts.advance, log);
-    put_sends(net, number, acts.tried, acts.sends.as_slice(), room, log);
-}
-
-#[inline(always)]
-fn put_advance(number: u16, place: Option<u32>, log: &mut Log)
-    ensures { Puts log.old log.new (out_texts (advance_records number place)) }
-{
-    if let Some(place) = place {
-        log.put(&OutRec::Advance { number, place });
-    }
-}
-
 #[inline(always)]
 fn put_try(number: u16, tried: Option<u8>, log: &mut Log)
     ensures { Puts log.old log.new (out_texts (try_records number tried)) }
@@ -71,48 +59,96 @@ fn put_try(number: u16, tried: Option<u8>, log: &mut Log)
     }
 }
 
-/// Puts messages, of which a timer covers the last.
-#[tactic(auto, unfolding(crate::specs::Opens::sends_records))]
+/// The envelope of a datagram to this port of a fetch's server.
 #[inline(always)]
-fn put_sends(
-    net: &mut Stack,
-    number: u16,
-    tried: Option<u8>,
-    sends: &[SendTo],
-    room: &mut Room,
-    log: &mut Log,
-)
-    requires few { length sends.now ≤ 1 }
-    requires udp { AreUdp sends.now }
-    ensures puts { Puts log.old log.new (out_texts (sends_records net.old number tried sends.now)) }
-    ensures same { net.new ≡ net.old }
+fn envelope(fetch: &Fetch, port: u16) -> Envelope
+    ensures { result ≡ record { proto = 17; to = fetch.now.server; to_port = port; own_port = fetch.now.own_port } }
 {
-    if let Some(send) = sends.first() {
-        put_send(net, number, tried, send, room, log);
+    Envelope {
+        proto: UDP,
+        to: fetch.server,
+        to_port: port,
+        own_port: fetch.own_port,
     }
 }
 
-/// Puts a message's frame, or the ARP request for its next hop, behind its try. Nothing is put where it
+/// Whether a fetch's datagrams find a route.
+pub fn has_route(net: &Stack, fetch: &Fetch, room: &mut Room) -> bool
+    ensures { (port : ℕ) (bytes : List ℕ) → result ≡ has_route net.now (datagram_of (speaker_of fetch.now) port bytes) }
+{
+    let fate = net.send_parts(&envelope(fetch, TFTP_PORT), b"", b"", &mut room.out());
+    fate != Fate::NoRoute
+}
+
+/// Puts a datagram's frame, or the ARP request for its next hop, behind its try. Nothing is put where it
 /// finds no route.
 #[inline(always)]
-pub fn put_send(
-    net: &mut Stack,
-    number: u16,
+fn put_datagram(
+    net: &Stack,
+    fetch: &Fetch,
     tried: Option<u8>,
-    send: &SendTo,
+    port: u16,
+    body: &[u8],
     room: &mut Room,
     log: &mut Log,
-) -> bool
-    requires udp { send.now.proto ≡ 17 }
-    ensures route { result ≡ has_route net.old send.now }
-    ensures puts { Puts log.old log.new (out_texts (send_records net.old number tried send.now)) }
-    ensures same { net.new ≡ net.old }
+)
+    requires short { length body.now ≤ 1480 }
+    ensures { Puts log.old log.new (out_texts (send_records net.now fetch.now.number tried (datagram_of (speaker_of fetch.now) port body.now))) }
 {
     let mut out = room.out();
-    if let Fate::NoRoute = net.send(send, &mut out) {
-        return false;
+    if let Fate::NoRoute = net.send_parts(&envelope(fetch, port), b"", body, &mut out) {
+        return;
     }
-    put_try(number, tried, log);
+    put_try(fetch.number, tried, log);
     log.put(&OutRec::Frame(out.written()));
-    true
+}
+
+/// Puts what a note says.
+#[inline(always)]
+fn put_note(note: &Note, bytes: &[u8], net: &Stack, fetch: &Fetch, room: &mut Room, log: &mut Log)
+    requires within { IsNoteWithin (length bytes.now) note.now }
+    ensures { Puts log.old log.new (out_texts (notice_records net.now (speaker_of fetch.now) (notice_of bytes.now note.now))) }
+{
+    match *note {
+        Note::Event(event) => log.put(&OutRec::Graph(event)),
+        Note::Advance(_, _, place) => log.put(&OutRec::Advance {
+            number: fetch.number,
+            place,
+        }),
+        Note::Datagram(_, _, tried, port, start, end) => {
+            put_datagram(net, fetch, tried, port, &bytes[start..end], room, log)
+        }
+    }
+}
+
+/// Puts what notes say, in order.
+fn put_notes(
+    notes: &[Note],
+    bytes: &[u8],
+    net: &Stack,
+    fetch: &Fetch,
+    room: &mut Room,
+    log: &mut Log,
+)
+    requires within { AreNotesWithin (length bytes.now) notes.now }
+    ensures { Puts log.old log.new (out_texts (told_records net.now (speaker_of fetch.now) (notices_of bytes.now notes.now))) }
+{
+    for note in notes {
+        put_note(note, bytes, net, fetch, room, log);
+    }
+}
+
+/// Puts what the graph told of a fetch, of which nothing is lost: its events, and its messages.
+pub fn put_told(told: &Outlet, net: &Stack, fetch: &Fetch, room: &mut Room, log: &mut Log)
+    requires whole { (ns : List Notice) × (told.now ≡ Some ns) }
+    ensures { (ns : List Notice) → told.now ≡ Some ns → Puts log.old log.new (out_texts (told_records net.now (speaker_of fetch.now) ns)) }
+{
+    put_notes(
+        told.notes.as_slice(),
+        told.bytes.as_slice(),
+        net,
+        fetch,
+        room,
+        log,
+    );
 }

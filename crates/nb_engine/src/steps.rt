@@ -8,6 +8,8 @@ ghost use Rattle.std.specs.Option.{option_map};
 ghost use Rattle.nb_stack.specs.Takes.{outcome};
 ghost use Rattle.nb_tftp.specs.Received.{received};
 ghost use Rattle.nb_tftp.specs.History.{came, ticked};
+ghost use Rattle.nb_opens.specs.Graphs.{fetch_of, tftp_of};
+ghost use Rattle.nb_opens.specs.Pairs.{IsDownloading};
 ghost use Rattle.nb_script.specs.Errors.{IsOfText};
 ghost use Rattle.nb_engine.specs.Machine.{reply_records};
 ghost use Rattle.nb_engine.specs.Running.{Running, anew, with_result};
@@ -20,7 +22,8 @@ ghost use Rattle.nb_engine.specs.declared.stage.Stage.TheVariants as stage;
 ghost use Rattle.nb_engine.specs.declared.client.Turn.TheVariants as turn;
 
 use crate::desk::{Desk, lent};
-use crate::put::{put_over, put_reply, put_result, put_step};
+use crate::objects::{pass_time, receive};
+use crate::put::{put_reply, put_result, put_step};
 use crate::{Client, KeptFetch, RunningScript, Stage, Status, Turn, World};
 use nb_record::{Cause, Log, NoMemory, OutRec, Start};
 use nb_script::{Script, ScriptError};
@@ -126,6 +129,7 @@ impl Client {
     /// Enters the first script; where the text is none, it is left at once. The record was counted.
     pub(crate) fn start(&mut self, start: &Start<'_>, log: &mut Log) -> Turn
         requires valid { IsStart (start_of start.now) }
+        requires sound { IsSound self.old.used self.old.world self.old.graph stage.Ready }
         ensures { Uses result (defs.start (start_of start.now)) (standing self.old stage.Ready) self.new log.old log.new }
     {
         let Ok(world) = World::of(self.alloc, start) else {
@@ -157,7 +161,7 @@ impl Client {
         log: &mut Log,
     ) -> Turn
         requires valid { IsFrameRecord bytes.now }
-        requires sound { IsSound self.old.used self.old.world (stage.Waiting script fetch) }
+        requires sound { IsSound self.old.used self.old.world self.old.graph (stage.Waiting script fetch) }
         ensures { Uses result (defs.frame bytes.now) (standing self.old (stage.Waiting script fetch)) self.new log.old log.new }
     {
         let Ok(mut desk) = lent(self.alloc, self.desk.take()) else {
@@ -179,7 +183,7 @@ impl Client {
         log: &mut Log,
     ) -> Turn
         requires valid { IsFrameRecord bytes.now }
-        requires sound { IsSound self.old.used self.old.world (stage.Waiting script fetch) }
+        requires sound { IsSound self.old.used self.old.world self.old.graph (stage.Waiting script fetch) }
         ensures { (s : Running) → script ≡ anew s → Uses result (defs.frame bytes.now) (standing self.old (stage.Waiting s fetch)) self.new log.old log.new }
     {
         let mut reply = desk.room.out();
@@ -198,7 +202,7 @@ impl Client {
         reply: &[u8],
         log: &mut Log,
     ) -> Turn
-        requires sound { IsSound self.old.used self.old.world (stage.Waiting script fetch) }
+        requires sound { IsSound self.old.used self.old.world self.old.graph (stage.Waiting script fetch) }
         requires reply { IsReply reply.now }
         ensures turn { result ≡ turn.Waiting }
         ensures puts { Puts log.old log.new (out_texts (step self.old.used ∷ reply_records reply.now)) }
@@ -214,18 +218,29 @@ impl Client {
     fn hear(
         &mut self,
         script: RunningScript,
-        mut fetch: KeptFetch,
+        fetch: KeptFetch,
         port: u16,
         body: &[u8],
         desk: &mut Desk,
         log: &mut Log,
     ) -> Turn
-        requires sound { IsSound self.old.used self.old.world (stage.Waiting script fetch) }
-        ensures { Heeds result script (Comes (came (received self.old.used port body.now) self.old.world.time) fetch) (standing self.old (stage.Waiting script fetch)) self.new log.old log.new }
+        requires short { length body.now ≤ 65535 }
+        requires sound { IsSound self.old.used self.old.world self.old.graph (stage.Waiting script fetch) }
+        ensures { Heeds result script (Comes self.old.graph (came (received self.old.used port body.now) self.old.world.time) fetch) (standing self.old (stage.Waiting script fetch)) self.new log.old log.new }
     {
-        let now = self.world.time;
-        match fetch.message(self.used, port, body, now, &mut desk.heard) {
-            Ok(()) => self.heed(script, fetch, desk, log),
+        self.stage = Stage::Stopped;
+        let number = fetch.get().number;
+        receive(
+            &mut self.graph,
+            number,
+            self.used,
+            port,
+            body,
+            self.world.time,
+            &mut desk.told,
+        );
+        match desk.told.first_close() {
+            Ok(closed) => self.heed(script, fetch, closed, desk, log),
             Err(NoMemory) => Turn::Over(Status::NoMemory),
         }
     }
@@ -239,7 +254,7 @@ impl Client {
         log: &mut Log,
     ) -> Turn
         requires valid { IsTick ms }
-        requires sound { IsSound self.old.used self.old.world (stage.Waiting script fetch) }
+        requires sound { IsSound self.old.used self.old.world self.old.graph (stage.Waiting script fetch) }
         requires early { self.old.world.time + 60000 ≤ 60000 * self.old.used }
         ensures { Uses result (defs.tick ms) (standing self.old (stage.Waiting script fetch)) self.new log.old log.new }
     {
@@ -257,26 +272,32 @@ impl Client {
     fn pass_time(
         &mut self,
         script: RunningScript,
-        mut fetch: KeptFetch,
+        fetch: KeptFetch,
         desk: &mut Desk,
         log: &mut Log,
     ) -> Turn
-        requires sound { IsSound self.old.used self.old.world (stage.Waiting script fetch) }
-        ensures { Heeds result script (Comes (ticked self.old.world.time) fetch) (standing self.old (stage.Waiting script fetch)) self.new log.old log.new }
+        requires sound { IsSound self.old.used self.old.world self.old.graph (stage.Waiting script fetch) }
+        ensures { Heeds result script (Comes self.old.graph (ticked self.old.world.time) fetch) (standing self.old (stage.Waiting script fetch)) self.new log.old log.new }
     {
-        match fetch.time(self.world.time, &mut desk.heard) {
-            Ok(()) => self.heed(script, fetch, desk, log),
+        self.stage = Stage::Stopped;
+        let number = fetch.get().number;
+        pass_time(&mut self.graph, number, self.world.time, &mut desk.told);
+        match desk.told.first_close() {
+            Ok(closed) => self.heed(script, fetch, closed, desk, log),
             Err(NoMemory) => Turn::Over(Status::NoMemory),
         }
     }
 
     /// The power is switched off: the open of this fetch ends.
     pub(crate) fn switch_off(&mut self, fetch: KeptFetch, log: &mut Log) -> Turn
+        requires going { IsDownloading self.old.graph (fetch_of fetch.number) (tftp_of fetch.number) }
         ensures { (s : Running) → Uses result defs.off (standing self.old (stage.Waiting s fetch)) self.new log.old log.new }
     {
+        let Ok(mut desk) = self.shut(fetch.get()) else {
+            return Turn::Over(Status::NoMemory);
+        };
         put_step(self.used, log);
-        put_over(fetch.get().number, Plain::Stopped.cause(), log);
-        self.stage = Stage::Stopped;
+        self.put_shut(fetch.get(), &mut desk, log);
         Turn::Over(Status::Unfinished)
     }
 
@@ -301,7 +322,7 @@ impl Client {
     /// A frame arrives, while a script goes on with its commands in this step.
     pub(crate) fn frame_anew(&mut self, script: RunningScript, bytes: &[u8], log: &mut Log) -> Turn
         requires valid { IsFrameRecord bytes.now }
-        requires sound { IsSound self.old.used self.old.world (stage.Yielded script) }
+        requires sound { IsSound self.old.used self.old.world self.old.graph (stage.Yielded script) }
         ensures { Uses result (defs.frame bytes.now) (standing self.old (stage.Yielded script)) self.new log.old log.new }
     {
         match self.take_frame(bytes, log) {
@@ -313,7 +334,7 @@ impl Client {
     /// So many milliseconds pass, and a script goes on with its commands.
     pub(crate) fn tick_anew(&mut self, script: RunningScript, ms: u16, log: &mut Log) -> Turn
         requires valid { IsTick ms }
-        requires sound { IsSound self.old.used self.old.world (stage.Yielded script) }
+        requires sound { IsSound self.old.used self.old.world self.old.graph (stage.Yielded script) }
         requires early { self.old.world.time + 60000 ≤ 60000 * self.old.used }
         ensures { Uses result (defs.tick ms) (standing self.old (stage.Yielded script)) self.new log.old log.new }
     {
@@ -334,7 +355,7 @@ impl Client {
 
     /// The script goes on in a new step.
     fn run_anew(&mut self, mut script: RunningScript) -> Turn
-        requires sound { IsSound self.old.used self.old.world (stage.Yielded script) }
+        requires sound { IsSound self.old.used self.old.world self.old.graph (stage.Yielded script) }
         ensures turn { result ≡ turn.More }
         ensures after { self.new ≡ standing self.old (stage.Running (anew script)) }
     {
@@ -352,7 +373,7 @@ impl Client {
         log: &mut Log,
     ) -> Turn
         requires valid { IsFrameRecord bytes.now }
-        requires sound { IsSound self.old.used self.old.world (stage.Sleeping script until) }
+        requires sound { IsSound self.old.used self.old.world self.old.graph (stage.Sleeping script until) }
         ensures { Uses result (defs.frame bytes.now) (standing self.old (stage.Sleeping script until)) self.new log.old log.new }
     {
         match self.take_frame(bytes, log) {
@@ -370,7 +391,7 @@ impl Client {
         log: &mut Log,
     ) -> Turn
         requires valid { IsTick ms }
-        requires sound { IsSound self.old.used self.old.world (stage.Sleeping script until) }
+        requires sound { IsSound self.old.used self.old.world self.old.graph (stage.Sleeping script until) }
         requires early { self.old.world.time + 60000 ≤ 60000 * self.old.used }
         ensures { Uses result (defs.tick ms) (standing self.old (stage.Sleeping script until)) self.new log.old log.new }
     {
@@ -386,7 +407,7 @@ impl Client {
 
     /// The command sleeps on in a new step.
     fn sleep_on(&mut self, mut script: RunningScript, until: u64) -> Turn
-        requires sound { IsSound self.old.used self.old.world (stage.Sleeping script until) }
+        requires sound { IsSound self.old.used self.old.world self.old.graph (stage.Sleeping script until) }
         ensures turn { result ≡ turn.Waiting }
         ensures after { self.new ≡ standing self.old (stage.Sleeping (anew script) until) }
     {
@@ -397,7 +418,7 @@ impl Client {
 
     /// The command is over, and its script goes on in a new step.
     fn wake(&mut self, mut script: RunningScript, log: &mut Log) -> Turn
-        requires sound { IsSound self.old.used self.old.world (stage.Running script) }
+        requires sound { IsSound self.old.used self.old.world self.old.graph (stage.Running script) }
         ensures turn { result ≡ turn.More }
         ensures puts { Puts log.old log.new (out_texts (result_record ok ∷ [])) }
         ensures after { self.new ≡ standing self.old (stage.Running (with_result (anew script) ok)) }

@@ -16,6 +16,7 @@ pub mod EndLemmas
 pub mod LivelyLemmas
 pub mod NodeLemmas
 pub mod HostLemmas
+pub mod MarkLemmas
 pub mod LivesLemmas
 pub mod SeatLemmas
 pub mod HarvestLemmas

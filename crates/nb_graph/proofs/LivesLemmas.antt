@@ -61,7 +61,7 @@ Lives-then {known = known} {stands = stands} {now = now} {f = f} {g = g} {h = h}
   keeps = λ x t w v k fit.
       let u = split x w v k in
       subst (λ z. NodeFits stands h x z v) (sym (trace-append x t a.deeds b.deeds)) (b.keeps x (trace_after x t a.deeds) u.0 v u.2 (a.keeps x t w u.0 u.1 fit));
-  hosts = hosts-append stands f.node g.node h.node a.deeds b.deeds a.hosts b.hosts;
+  hosts = hosts-append known stands f.node g.node h.node a.deeds b.deeds a.hosts b.hosts;
   suits = λ x t w v k fit.
       let u = split x w v k in
       suited-append x t a.deeds b.deeds (a.suits x t w u.0 u.1 fit) (b.suits x (trace_after x t a.deeds) u.0 v u.2 (a.keeps x t w u.0 u.1 fit));
@@ -130,7 +130,7 @@ Lives-note {known = known} stands now f g o n e loses scene given notes moves = 
 }
 
 -- a call of a node, or a load that comes back to it
-unfoldable pub Lives-call : {N L : Type 0} {known : Nature N L} (stands : N → List (NodeEntry N L) → Type 0) (now : ℕ) (f g : Seats N) (owing : ℕ → List L → List L → Type 0) (o n : List (Stage N L) → List (Stage N L)) (y : ℕ) (i : NodeEntry N L) (d c : N) → f.scene ≡ g.scene → Given f.told g.told [] → f.node y ≡ Some d → ((m : N) → g.node y ≡ Some m → m ≡ c) → ((x : ℕ) (m : N) → x ≢ y → g.node x ≡ Some m → f.node x ≡ Some m) → ((w v : List L) → owing y w v → Owes1 w i v) → ((x : ℕ) (w v : List L) → x ≢ y → owing x w v → w ≡ v) → Performs stands d i c → ((t : List (NodeEntry N L)) (w v : List L) → owing y w v → Owes [] t w → Suits t i) → ((st : List (Stage N L)) (ds : List (Deed N L)) (s : Scene) → UsesStack known now f.scene (n st) ds s → UsesStack known now f.scene (o st) (calls y i ∷ ds) s) → {z : List (Deed N L) → Type 0} → z (calls y i ∷ []) → StaysTraced stands known now f g owing o n z []
+unfoldable pub Lives-call : {N L : Type 0} {known : Nature N L} (stands : N → List (NodeEntry N L) → Type 0) (now : ℕ) (f g : Seats N) (owing : ℕ → List L → List L → Type 0) (o n : List (Stage N L) → List (Stage N L)) (y : ℕ) (i : NodeEntry N L) (d c : N) → f.scene ≡ g.scene → Given f.told g.told [] → f.node y ≡ Some d → ((m : N) → g.node y ≡ Some m → m ≡ c) → ((x : ℕ) (m : N) → x ≢ y → g.node x ≡ Some m → f.node x ≡ Some m) → ((w v : List L) → owing y w v → Owes1 w i v) → ((x : ℕ) (w v : List L) → x ≢ y → owing x w v → w ≡ v) → Performs known stands d i c → ((t : List (NodeEntry N L)) (w v : List L) → owing y w v → Owes [] t w → Suits t i) → ((st : List (Stage N L)) (ds : List (Deed N L)) (s : Scene) → UsesStack known now f.scene (n st) ds s → UsesStack known now f.scene (o st) (calls y i ∷ ds) s) → {z : List (Deed N L) → Type 0} → z (calls y i ∷ []) → StaysTraced stands known now f g owing o n z []
 Lives-call {N} {L} {known = known} stands now f g owing o n y i d c scene given is there others owes stay performs suit hears moves = record {
   deeds = calls y i ∷ [];
   events = refl;
@@ -158,7 +158,7 @@ Lives-call {N} {L} {known = known} stands now f g owing o n y i d c scene given 
     called x t w v k fit m h e =
         let ky : owing y w v = subst (λ z. owing z w v) e k in
         let was = fit d (ap f.node e ∙ is) in (
-          subst (λ z. stands z (t ++ i ∷ [])) (sym (there m (sym (ap g.node e) ∙ h))) (performs t was.0 (suit t w v ky was.1)),
+          subst (λ z. stands z (t ++ i ∷ [])) (sym (there m (sym (ap g.node e) ∙ h))) (performs.1 t was.0 (suit t w v ky was.1)),
           Owes-append [] w v t (i ∷ []) was.1 (v, owes w v ky, refl),
         )
 

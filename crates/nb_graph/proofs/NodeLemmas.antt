@@ -6,6 +6,7 @@ use Rattle.std.proofs.lemmas.Bool.{cases_Bool, false≢true, ltb-false}
 use Rattle.nb_ledger.specs.Ledger.{Ledger, object_lives, rank, place}
 use Rattle.nb_ledger.proofs.PlaceLemmas.{live_place}
 use Rattle.nb_graph.specs.Whole.{IsManned}
+use Rattle.nb_graph.specs.Noded.{HasNode}
 use Rattle.nb_graph.proofs.MannedLemmas.{manned-length, manned-place}
 use Rattle.nb_graph.proofs.LivelyLemmas.{manned-rank, slice_get-at, slice_get-past, some_inj}
 
@@ -48,3 +49,15 @@ node-rank {N} {rank_of} {l} {nodes} {cap} x (Some b) m e = elim (cases_Bool (obj
       sym (manned-rank x b.now m v h d)
   | inr d ↦ absurd (let h = dead-past l x d in let k = manned-length m in let p = slice_get-past nodes (place l x) (omega arith) in cc)
 ]
+
+-- each live object has a node, of the rank that the book has
+pub are-noded : {N : Type 0} {rank_of : N → ℕ} {l : Ledger} {nodes : List N} {cap : ℕ} → IsManned rank_of l nodes cap → (x : ℕ) → object_lives l x ≡ true → HasNode rank_of (record { book = l; nodes = nodes }) x
+are-noded {N} {rank_of} {l} {nodes} {cap} m x v = there (slice_get nodes (place l x)) refl (slice_get-in nodes (place l x) (manned-place x m v))
+  where
+    there : (o : Option N) → o ≡ slice_get nodes (place l x) → is_some o ≡ true → HasNode rank_of (record { book = l; nodes = nodes }) x
+    there None e h = absurd (false≢true h)
+    there (Some n) e h = record {
+      node = n;
+      is_node = sym e;
+      at_rank = sym (manned-rank x n m v (manned-place x m v) (some_inj (e ∙ slice_get-at nodes (place l x) n (manned-place x m v))));
+    }

@@ -37,7 +37,7 @@ each-append known s t u (c ∷ cs) bs (d ∷ ds) es p q = (p.0, p.1, each-append
 
 -- a call's
 pub Went-one : {N L : Type 0} {stands : N → List (NodeEntry N L) → Type 0} {known : Nature N L} {now : ℕ} {asked : List (Stage N L)} {old new : Objects N} {before after : Option (List Notice)} → Lived stands known now asked old new before after → Went stands known (record { now = now; asks = asked } ∷ []) old new before after
-Went-one {stands = stands} {old = old} {new = new} {before = before} {after = after} k = record {
+Went-one {stands = stands} {known = known} {old = old} {new = new} {before = before} {after = after} k = record {
   added = k.added;
   runs = k.runs;
   deeds = k.deeds ∷ [];
@@ -46,7 +46,7 @@ Went-one {stands = stands} {old = old} {new = new} {before = before} {after = af
   ages = k.ages;
   each = (scene_of new.book, k.follows, refl);
   keeps = λ x t h. subst (λ z. ObjectStands stands new x (trace_after x t z)) (sym (append-nil k.deeds)) (k.keeps x t h);
-  hosts = subst (λ z. Hosts stands (node_at old) z (node_at new)) (sym (append-nil k.deeds)) k.hosts;
+  hosts = subst (λ z. Hosts known stands (node_at old) z (node_at new)) (sym (append-nil k.deeds)) k.hosts;
   suits = λ x t h. subst (Suited x t) (sym (append-nil k.deeds)) (k.suits x t h);
   midway = λ p q a b bal. (k.midway p q a b bal, tt);
   balances = k.balances;
@@ -64,7 +64,7 @@ Went-then {stands = stands} {known = known} {cs = cs} {bs = bs} {a = a} {b = b} 
   ages = Ages-trans k.ages l.ages;
   each = each-append known (scene_of a.book) (scene_of b.book) (scene_of c.book) cs bs k.deeds l.deeds k.each l.each;
   keeps = λ x t h. subst (λ z. ObjectStands stands c x z) (sym (trace-append x t (all_of k.deeds) (all_of l.deeds)) ∙ ap (trace_after x t) (sym (all-append k.deeds l.deeds))) (l.keeps x _ (k.keeps x t h));
-  hosts = subst (λ z. Hosts stands (node_at a) z (node_at c)) (sym (all-append k.deeds l.deeds)) (hosts-append stands (node_at a) (node_at b) (node_at c) (all_of k.deeds) (all_of l.deeds) k.hosts l.hosts);
+  hosts = subst (λ z. Hosts known stands (node_at a) z (node_at c)) (sym (all-append k.deeds l.deeds)) (hosts-append known stands (node_at a) (node_at b) (node_at c) (all_of k.deeds) (all_of l.deeds) k.hosts l.hosts);
   suits = λ x t h. subst (Suited x t) (sym (all-append k.deeds l.deeds)) (suited-append x t (all_of k.deeds) (all_of l.deeds) (k.suits x t h) (l.suits x (trace_after x t (all_of k.deeds)) (k.keeps x t h)));
   midway = λ p q i j h. midways-append known p q i j k.deeds l.deeds (k.midway p q i j h) (l.midway p q _ _ (k.balances p q i j h));
   balances = λ p q i j h. rw (accounts-append known p i k.deeds l.deeds, accounts-append known q j k.deeds l.deeds) (l.balances p q _ _ (k.balances p q i j h));

@@ -14,10 +14,12 @@ pub mod Laws
 pub mod Counted
 -- of the inside
 pub mod Asked
+pub mod Sending
 pub mod Calm
 pub mod Ending
 pub mod Lively
 pub mod Lives
 pub mod Flows
 pub mod Moves
+pub mod Noded
 pub mod Again

@@ -33,7 +33,7 @@ pub record Lived {N L : Type 0} (stands : N → List (NodeEntry N L) → Type 0)
   pub tells : Given before after (told_of deeds)
   pub follows : UsesStack known now (scene_of old.book) asked deeds (scene_of new.book)
   pub keeps : (x : ℕ) (t : List (NodeEntry N L)) → ObjectStands stands old x t → ObjectStands stands new x (trace_after x t deeds)
-  pub hosts : Hosts stands (node_at old) deeds (node_at new)
+  pub hosts : Hosts known stands (node_at old) deeds (node_at new)
   pub suits : (x : ℕ) (t : List (NodeEntry N L)) → ObjectStands stands old x t → Suited x t deeds
   pub midway : (p q : Port) (a b : Account) → Balanced old.book p q a b → Midway known p q (rests a) (rests b) deeds
   pub balances : (p q : Port) (a b : Account) → Balanced old.book p q a b → Balanced new.book p q (account known p (rests a) deeds) (account known q (rests b) deeds)

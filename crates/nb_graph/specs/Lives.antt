@@ -50,7 +50,7 @@ pub record StaysTraced {N L : Type 0} (stands : N → List (NodeEntry N L) → T
   pub tells : Given f.told g.told (told_of deeds)
   pub follows : (st : List (Stage N L)) (ds : List (Deed N L)) (s : Scene) → UsesStack known now g.scene (ended st) ds s → UsesStack known now f.scene (opened st) (deeds ++ ds) s
   pub keeps : (x : ℕ) (t : List (NodeEntry N L)) (w v : List L) → owing x w v → NodeFits stands f x t w → NodeFits stands g x (trace_after x t deeds) v
-  pub hosts : Hosts stands f.node deeds g.node
+  pub hosts : Hosts known stands f.node deeds g.node
   pub suits : (x : ℕ) (t : List (NodeEntry N L)) (w v : List L) → owing x w v → NodeFits stands f x t w → Suited x t deeds
   pub moved : moves deeds
 

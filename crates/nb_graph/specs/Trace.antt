@@ -82,14 +82,16 @@ silence = record { tag = 0; rec = 0; a = 0; b = 0; bytes = [] }
 abbrev pub bytes_between : List ℕ → ℕ → ℕ → List ℕ
 bytes_between bytes from to = take (to - from) (drop from bytes)
 
--- what is known of a type of nodes: the number of each one's kind, and the bytes of a load
+-- what is known of a type of nodes: the number of each one's kind, its mark, which no entry changes, and the bytes of
+-- a load
 pub record Nature (N L : Type 0) : Type 0 where
   pub kind : N → ℕ
+  pub mark : N → ℕ
   pub bytes : L → List ℕ
 
 -- a load's bytes are its two parts
-abbrev pub nature : {N L : Type 0} → (N → ℕ) → (L → List ℕ) → (L → List ℕ) → Nature N L
-nature kind first second = record { kind = kind; bytes = λ load. first load ++ second load }
+abbrev pub nature : {N L : Type 0} → (N → ℕ) → (N → ℕ) → (L → List ℕ) → (L → List ℕ) → Nature N L
+nature kind mark first second = record { kind = kind; mark = mark; bytes = λ load. first load ++ second load }
 
 -- the bytes of a message that an entry asks for: its load's, or without one some of those of its own message
 abbrev pub carries : {N L : Type 0} → Nature N L → List ℕ → ℕ → ℕ → Option L → List ℕ

@@ -55,7 +55,7 @@ pub record Went {N L : Type 0} (stands : N → List (NodeEntry N L) → Type 0) 
   pub tells : Given before after (told_of (all_of deeds))
   pub each : Each known (scene_of old.book) calls deeds (scene_of new.book)
   pub keeps : (x : ℕ) (t : List (NodeEntry N L)) → ObjectStands stands old x t → ObjectStands stands new x (trace_after x t (all_of deeds))
-  pub hosts : Hosts stands (node_at old) (all_of deeds) (node_at new)
+  pub hosts : Hosts known stands (node_at old) (all_of deeds) (node_at new)
   pub suits : (x : ℕ) (t : List (NodeEntry N L)) → ObjectStands stands old x t → Suited x t (all_of deeds)
   pub midway : (p q : Port) (a b : Account) → Balanced old.book p q a b → Midways known p q a b deeds
   pub balances : (p q : Port) (a b : Account) → Balanced old.book p q a b → Balanced new.book p q (accounts known p a deeds) (accounts known q b deeds)

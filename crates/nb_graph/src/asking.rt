@@ -39,14 +39,14 @@ impl<N: Node> Inner<N> {
         ensures asks { MayAskBelow 0 fx.new }
         ensures book { self.new.book ≡ self.old.book }
         ensures lives { (u : Option (List Notice)) → StaysTraced N.stands
-            (nature N.kind_of N.Load.first N.Load.second) now
+            (nature N.kind_of N.mark_of N.Load.first N.Load.second) now
             (nodes_at self.old.book self.old.nodes.items u)
             (nodes_at self.new.book self.new.nodes.items u) (Lends at.obj.0 (lent fx.new))
             (λ st. MustHear at cause.now ∷ st) (λ st. runs_of
-            (nature N.kind_of N.Load.first N.Load.second) at.obj.0 silence true fx.new ++ Holds at
+            (nature N.kind_of N.mark_of N.Load.first N.Load.second) at.obj.0 silence true fx.new ++ Holds at
             Close None ∷ st)
-            (Calms (nature N.kind_of N.Load.first N.Load.second) self.old.book self.old.book
-            (Asking self.old.book at.obj.0 (λ k. fx_bytes (nature N.kind_of N.Load.first
+            (Calms (nature N.kind_of N.mark_of N.Load.first N.Load.second) self.old.book self.old.book
+            (Asking self.old.book at.obj.0 (λ k. fx_bytes (nature N.kind_of N.mark_of N.Load.first
             N.Load.second) k []
             fx.new) by_no_slot)) [] }
         ensures manned { IsManned N.rank_of self.new.book self.new.nodes.items
@@ -74,13 +74,13 @@ impl<N: Node> Inner<N> {
         ensures asks { MayAskDown (length msg.now.first.now + length msg.now.second.now) result fx.new }
         ensures book { self.new.book ≡ self.old.book }
         ensures lives { (u : Option (List Notice)) → (k : StaysTraced N.stands
-            (nature N.kind_of N.Load.first N.Load.second) now
+            (nature N.kind_of N.mark_of N.Load.first N.Load.second) now
             (nodes_at self.old.book self.old.nodes.items u)
             (nodes_at self.new.book self.new.nodes.items u) (Lends id.0 (lent fx.new))
             (λ st. Holds (port_at id.0 0) Down (Some (said msg.now)) ∷ st)
-            (λ st. runs_of (nature N.kind_of N.Load.first N.Load.second) id.0 (said msg.now) result fx.new ++ Holds (port_at id.0 0) Down None ∷ st)
-            (Calms (nature N.kind_of N.Load.first N.Load.second) self.old.book self.old.book
-            (Asking self.old.book id.0 (asked_sent (nature N.kind_of N.Load.first N.Load.second)
+            (λ st. runs_of (nature N.kind_of N.mark_of N.Load.first N.Load.second) id.0 (said msg.now) result fx.new ++ Holds (port_at id.0 0) Down None ∷ st)
+            (Calms (nature N.kind_of N.mark_of N.Load.first N.Load.second) self.old.book self.old.book
+            (Asking self.old.book id.0 (asked_sent (nature N.kind_of N.mark_of N.Load.first N.Load.second)
             (said msg.now).bytes result fx.new) (asked_whole (said msg.now).bytes result))) [])
             × Calls id.0 (λ done fx. down (said msg.now) now done fx) k.deeds }
         ensures manned { IsManned N.rank_of self.new.book self.new.nodes.items
@@ -113,17 +113,17 @@ impl<N: Node> Inner<N> {
             (length msg.now.first.now + length msg.now.second.now) result fx.new }
         ensures book { self.new.book ≡ self.old.book }
         ensures lives { (u : Option (List Notice)) → (k : StaysTraced N.stands
-            (nature N.kind_of N.Load.first N.Load.second) now
+            (nature N.kind_of N.mark_of N.Load.first N.Load.second) now
             (nodes_at self.old.book self.old.nodes.items u)
             (nodes_at self.new.book self.new.nodes.items u) (LendsFirst at.obj.0
             (lent fx.new))
             (λ st. Holds at Up (Some (said msg.now)) ∷ st)
-            (λ st. runs_of (nature N.kind_of N.Load.first N.Load.second) at.obj.0 (said msg.now) result fx.new ++ Holds at Up (rest (said msg.now) result fx.new) ∷ st)
-            (λ ds. Calms (nature N.kind_of N.Load.first N.Load.second) self.old.book self.old.book
-            (Asking self.old.book at.obj.0 (asked_sent (nature N.kind_of N.Load.first N.Load.second)
+            (λ st. runs_of (nature N.kind_of N.mark_of N.Load.first N.Load.second) at.obj.0 (said msg.now) result fx.new ++ Holds at Up (rest (said msg.now) result fx.new) ∷ st)
+            (λ ds. Calms (nature N.kind_of N.mark_of N.Load.first N.Load.second) self.old.book self.old.book
+            (Asking self.old.book at.obj.0 (asked_sent (nature N.kind_of N.mark_of N.Load.first N.Load.second)
             (said msg.now).bytes result fx.new) (asked_taken at.slot (said msg.now).bytes result fx.new)) ds ×
-            Asks (nature N.kind_of N.Load.first N.Load.second) at.obj.0
-            (asked_sent (nature N.kind_of N.Load.first N.Load.second)
+            Asks (nature N.kind_of N.mark_of N.Load.first N.Load.second) at.obj.0
+            (asked_sent (nature N.kind_of N.mark_of N.Load.first N.Load.second)
             (said msg.now).bytes result fx.new) ds) [])
             × Calls at.obj.0 (λ done fx. up at.slot (said msg.now) now done fx) k.deeds }
         ensures manned { IsManned N.rank_of self.new.book self.new.nodes.items
@@ -150,17 +150,17 @@ impl<N: Node> Inner<N> {
         ensures asks { MayAskTime N.rank_of N.stands (rank self.old.book id.0) result fx.new }
         ensures book { self.new.book ≡ self.old.book }
         ensures lives { (u : Option (List Notice)) → (k : StaysTraced N.stands
-            (nature N.kind_of N.Load.first N.Load.second) now
+            (nature N.kind_of N.mark_of N.Load.first N.Load.second) now
             (nodes_at self.old.book self.old.nodes.items u)
             (nodes_at self.new.book self.new.nodes.items u) (LendsFirst id.0 (lent fx.new))
             (λ st. Holds (port_at id.0 4) Time (Some silence) ∷ st)
-            (λ st. runs_of (nature N.kind_of N.Load.first N.Load.second) id.0 silence result fx.new ++
+            (λ st. runs_of (nature N.kind_of N.mark_of N.Load.first N.Load.second) id.0 silence result fx.new ++
             Holds (port_at id.0 4) Time None ∷ st)
-            (λ ds. Calms (nature N.kind_of N.Load.first N.Load.second) self.old.book self.old.book
-            (Asking self.old.book id.0 (asked_sent (nature N.kind_of N.Load.first N.Load.second) []
+            (λ ds. Calms (nature N.kind_of N.mark_of N.Load.first N.Load.second) self.old.book self.old.book
+            (Asking self.old.book id.0 (asked_sent (nature N.kind_of N.mark_of N.Load.first N.Load.second) []
             result fx.new)
-            by_no_slot) ds × Asks (nature N.kind_of N.Load.first N.Load.second) id.0
-            (asked_sent (nature N.kind_of N.Load.first N.Load.second) [] result fx.new) ds) [])
+            by_no_slot) ds × Asks (nature N.kind_of N.mark_of N.Load.first N.Load.second) id.0
+            (asked_sent (nature N.kind_of N.mark_of N.Load.first N.Load.second) [] result fx.new) ds) [])
             × Calls id.0 (λ done fx. time now done fx) k.deeds }
         ensures manned { IsManned N.rank_of self.new.book self.new.nodes.items
             (vec_capacity self.new.nodes) }

@@ -4,7 +4,7 @@ ghost use Rattle.std.specs.Prelude.{List, ◌-◌};
 ghost use Rattle.std.specs.Vec.{vec_capacity};
 ghost use Rattle.nb_ledger.specs.declared.port.PortState.TheVariants.{Linked, Leaving};
 ghost use Rattle.nb_ledger.specs.declared.port.PortState.TheVariants.{Closed as Shut};
-ghost use Rattle.nb_ledger.specs.Ledger.{busy, port, open_count, object_lives, rank, run_state};
+ghost use Rattle.nb_ledger.specs.Ledger.{busy, place, port, open_count, object_lives, rank, run_state};
 ghost use Rattle.nb_graph.specs.Whole.{IsQuiet, IsManned, IsLinked, CountedButTwo};
 ghost use Rattle.nb_graph.specs.Order.{ClosesOnce, ShutsObject, EndsLink};
 ghost use Rattle.nb_graph.specs.Flows.{Closing, Failing, Still};
@@ -41,7 +41,7 @@ impl<N: Node> Inner<N> {
         requires steady { IsSteady N.rank_of self.old.book self.old.nodes.items
             (vec_capacity self.old.nodes) }
         ensures shut { open_count (port self.new.book at.obj.0 at.slot) ≡ 0 }
-        ensures lives { CalmFor N.stands (nature N.kind_of N.Load.first N.Load.second) now
+        ensures lives { CalmFor N.stands (nature N.kind_of N.mark_of N.Load.first N.Load.second) now
             self.old.book
             self.new.book self.old.nodes.items self.new.nodes.items (Same (busy self.old.book))
             (Closing self.old.book at.obj.0) (λ st. Closes at cause.now ∷ st) (O.events out.old)
@@ -69,7 +69,7 @@ impl<N: Node> Inner<N> {
         requires steady { IsSteady N.rank_of self.old.book self.old.nodes.items
             (vec_capacity self.old.nodes) }
         ensures shut { open_count (port self.new.book at.obj.0 at.slot) ≡ 0 }
-        ensures lives { CalmFor N.stands (nature N.kind_of N.Load.first N.Load.second) now
+        ensures lives { CalmFor N.stands (nature N.kind_of N.mark_of N.Load.first N.Load.second) now
             self.old.book
             self.new.book self.old.nodes.items self.new.nodes.items (Same (busy self.old.book))
             (Closing self.old.book at.obj.0) (λ st. Closes at cause.now ∷ st) (O.events out.old)
@@ -83,8 +83,9 @@ impl<N: Node> Inner<N> {
         let was = self.close_both(at, peer, key, cause, out);
         let mut fx = Fx::none();
         self.ask_closed(peer, key, cause, now, &mut fx);
-        self.calm_effects(peer.obj, key, &NOTHING, &mut fx, now, out);
-        self.unplug(at, peer, key, was, out);
+        let index = self.book.place_at(peer.obj, key);
+        let place = self.calm_effects(peer.obj, index, &NOTHING, &mut fx, &mut None, now, out);
+        self.unplug(at, peer, place, was, out);
     }
 
     /// Closes both ends of a link and begins the peer's entry; whether one of its object ran
@@ -105,12 +106,12 @@ impl<N: Node> Inner<N> {
         ensures run { (st : List OnStack) → IsIdle st → GraphRunOf (run_state self.old.book st)
             (Closed at cause.now ∷ Closed peer cause.now ∷ Entered peer Close ∷ [])
             (run_state self.new.book (Running peer Close ∷ MustUnplug at peer ∷ st)) }
-        ensures lives { (now : ℕ) → StaysTraced N.stands (nature N.kind_of N.Load.first N.Load.second)
+        ensures lives { (now : ℕ) → StaysTraced N.stands (nature N.kind_of N.mark_of N.Load.first N.Load.second)
             now (nodes_at self.old.book self.old.nodes.items (O.events out.old))
             (nodes_at self.new.book self.new.nodes.items (O.events out.new)) Stays
             (λ st. Closes at cause.now ∷ st)
             (λ st. MustHear peer cause.now ∷ Unlinks at peer ∷ st) (Calms
-            (nature N.kind_of N.Load.first N.Load.second)
+            (nature N.kind_of N.mark_of N.Load.first N.Load.second)
             self.old.book self.new.book Still) (Closed at cause.now ∷ Closed peer cause.now ∷
             Entered peer Close ∷ []) }
         ensures was { result ≡ busy self.old.book peer.obj.0 }
@@ -129,16 +130,17 @@ impl<N: Node> Inner<N> {
         &mut self,
         at: Port,
         peer: Port,
-        key: usize,
+        index: usize,
         was: bool,
         out: &mut O,
     )
+        requires place { index ≡ place self.old.book peer.obj.0 }
         requires first { port self.old.book at.obj.0 at.slot ≡ Leaving peer }
         requires other { port self.old.book peer.obj.0 peer.slot ≡ Leaving at }
         requires apart { at.obj.0 ≢ peer.obj.0 }
         requires steady { IsSteady N.rank_of self.old.book self.old.nodes.items
             (vec_capacity self.old.nodes) }
-        ensures ends { (e : EndsFor N.stands (nature N.kind_of N.Load.first N.Load.second)
+        ensures ends { (e : EndsFor N.stands (nature N.kind_of N.mark_of N.Load.first N.Load.second)
             self.old.book
             self.new.book self.old.nodes.items self.new.nodes.items (O.events out.old)
             (O.events out.new) peer.obj.0 was
@@ -148,7 +150,7 @@ impl<N: Node> Inner<N> {
         ensures steady { IsSteady N.rank_of self.new.book self.new.nodes.items
             (vec_capacity self.new.nodes) }
     {
-        self.book.leave(peer, key, was, out);
+        self.book.leave(peer, index, was, out);
         self.book.unplug(at, peer, out);
         self.settle_two(at.obj, peer.obj, out);
     }
@@ -162,7 +164,7 @@ impl<N: Node> Inner<N> {
         requires links { IsLinked (port self.old.book) (rank self.old.book) }
         requires counted { CountedButTwo first.0 other.0 self.old.book }
         requires small { (x : ℕ) → rank self.old.book x < 256 }
-        ensures settles { SettlesTwoFor N.stands (nature N.kind_of N.Load.first N.Load.second)
+        ensures settles { SettlesTwoFor N.stands (nature N.kind_of N.mark_of N.Load.first N.Load.second)
             self.old.book
             self.new.book self.old.nodes.items self.new.nodes.items (O.events out.old)
             (O.events out.new) first other }
@@ -185,7 +187,7 @@ impl<N: Node> Inner<N> {
         requires links { IsLinked (port self.old.book) (rank self.old.book) }
         requires counted { CountedButTwo low.0 high.0 self.old.book }
         requires small { (x : ℕ) → rank self.old.book x < 256 }
-        ensures settles { SettlesTwoFor N.stands (nature N.kind_of N.Load.first N.Load.second)
+        ensures settles { SettlesTwoFor N.stands (nature N.kind_of N.mark_of N.Load.first N.Load.second)
             self.old.book
             self.new.book self.old.nodes.items self.new.nodes.items (O.events out.old)
             (O.events out.new) low high }
@@ -204,16 +206,19 @@ impl<N: Node> Inner<N> {
     pub(crate) fn close_asked<O: Outside>(
         &mut self,
         id: ObjId,
+        index: usize,
         closes: &[(u8, Cause)],
         now: u64,
         out: &mut O,
-    )
+    ) -> usize
+        requires place { index ≡ place self.old.book id.0 }
         requires few { length closes.now ≤ 4 }
         requires steady { IsSteady N.rank_of self.old.book self.old.nodes.items
             (vec_capacity self.old.nodes) }
+        ensures place { result ≡ place self.new.book id.0 }
         ensures shut { (k : ℕ) → ClosesSlot k closes.now → open_count (port self.new.book id.0 k) ≡
             0 }
-        ensures lives { CalmFor N.stands (nature N.kind_of N.Load.first N.Load.second) now
+        ensures lives { CalmFor N.stands (nature N.kind_of N.mark_of N.Load.first N.Load.second) now
             self.old.book
             self.new.book self.old.nodes.items self.new.nodes.items (Same (busy self.old.book))
             (Closing self.old.book id.0) (λ st. closes_of id.0 closes.now ++ st)
@@ -223,6 +228,9 @@ impl<N: Node> Inner<N> {
     {
         if let [_, ..] = closes {
             self.run_closes(id, closes, now, out);
+            self.book.place_at(id, index)
+        } else {
+            index
         }
     }
 
@@ -234,7 +242,7 @@ impl<N: Node> Inner<N> {
             (vec_capacity self.old.nodes) }
         ensures shut { (k : ℕ) → ClosesSlot k closes.now → open_count (port self.new.book id.0 k) ≡
             0 }
-        ensures lives { CalmFor N.stands (nature N.kind_of N.Load.first N.Load.second) now
+        ensures lives { CalmFor N.stands (nature N.kind_of N.mark_of N.Load.first N.Load.second) now
             self.old.book
             self.new.book self.old.nodes.items self.new.nodes.items (Same (busy self.old.book))
             (Closing self.old.book id.0) (λ st. closes_of id.0 closes.now ++ st)
@@ -262,7 +270,7 @@ impl<N: Node> Inner<N> {
         requires steady { IsSteady N.rank_of self.old.book self.old.nodes.items
             (vec_capacity self.old.nodes) }
         ensures shut { (k : ℕ) → open_count (port self.new.book id.0 k) ≡ 0 }
-        ensures lives { CalmFor N.stands (nature N.kind_of N.Load.first N.Load.second) now
+        ensures lives { CalmFor N.stands (nature N.kind_of N.mark_of N.Load.first N.Load.second) now
             self.old.book
             self.new.book self.old.nodes.items self.new.nodes.items (Same (busy self.old.book))
             (Closing self.old.book id.0) (λ st. all_closes id.0 cause.now ++ st)
@@ -283,15 +291,17 @@ impl<N: Node> Inner<N> {
     pub(crate) fn fail<O: Outside>(
         &mut self,
         id: ObjId,
-        key: usize,
+        index: usize,
         fx: &mut Fx<N, N::Load>,
         now: u64,
         out: &mut O,
-    )
+    ) -> usize
+        requires place { index ≡ place self.old.book id.0 }
         requires runs { busy self.old.book id.0 ≡ true }
         requires steady { IsSteady N.rank_of self.old.book self.old.nodes.items
             (vec_capacity self.old.nodes) }
-        ensures lives { CalmFor N.stands (nature N.kind_of N.Load.first N.Load.second) now
+        ensures place { result ≡ place self.new.book id.0 }
+        ensures lives { CalmFor N.stands (nature N.kind_of N.mark_of N.Load.first N.Load.second) now
             self.old.book
             self.new.book self.old.nodes.items self.new.nodes.items
             (Back (busy self.old.book) id.0 (lent fx.old)) (Failing self.old.book id.0)
@@ -300,7 +310,8 @@ impl<N: Node> Inner<N> {
         ensures steady { IsSteady N.rank_of self.new.book self.new.nodes.items
             (vec_capacity self.new.nodes) }
     {
-        self.take_back(id, key, fx);
+        self.take_back(id, index, fx);
         self.close_all(id, &NO_MEMORY, now, out);
+        self.book.place_at(id, index)
     }
 }

@@ -28,7 +28,7 @@ impl<N: Node> Inner<N> {
     )
         requires steady { IsSteady N.rank_of self.old.book self.old.nodes.items
             (vec_capacity self.old.nodes) }
-        ensures lives { CalmFor N.stands (nature N.kind_of N.Load.first N.Load.second) now
+        ensures lives { CalmFor N.stands (nature N.kind_of N.mark_of N.Load.first N.Load.second) now
             self.old.book
             self.new.book self.old.nodes.items self.new.nodes.items (Same (busy self.old.book))
             Empty (λ st. Ends after cause.now ∷ st) (O.events out.old) (O.events out.new) }
@@ -53,7 +53,7 @@ impl<N: Node> Inner<N> {
             (vec_capacity self.old.nodes) }
         ensures graph { IsGraph N.rank_of self.new.book self.new.nodes.items
             (vec_capacity self.new.nodes) }
-        ensures runs { RunFor N.stands (nature N.kind_of N.Load.first N.Load.second) self.old.book
+        ensures runs { RunFor N.stands (nature N.kind_of N.mark_of N.Load.first N.Load.second) self.old.book
             self.new.book self.old.nodes.items self.new.nodes.items (λ st. LetsAllGo ∷ st)
             (λ st. LetsAllGo ∷ st) (O.events out.old)
             (O.events out.new) }
@@ -71,7 +71,7 @@ impl<N: Node> Inner<N> {
             (vec_capacity self.old.nodes) }
         ensures graph { IsGraph N.rank_of self.new.book self.new.nodes.items
             (vec_capacity self.new.nodes) }
-        ensures runs { RunFor N.stands (nature N.kind_of N.Load.first N.Load.second) self.old.book
+        ensures runs { RunFor N.stands (nature N.kind_of N.mark_of N.Load.first N.Load.second) self.old.book
             self.new.book self.old.nodes.items self.new.nodes.items (λ st. LetsAllGo ∷ st) here
             (O.events out.old)
             (O.events out.new) }

@@ -110,6 +110,8 @@ impl Node for Fake {
 
     ghost kind_of = { λ _. 7 };
 
+    ghost mark_of = { λ _. 0 };
+
     ghost harvests = { λ _ r _. r ≡ None };
 
     ghost stands = { λ n t. (n.calls ≡ min (ups t) 4294967295) × (n.back ≡ min (regains t) 255) };

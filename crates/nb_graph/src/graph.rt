@@ -12,12 +12,14 @@ ghost use Rattle.nb_ledger.specs.Ledger.{object_lives, holds, port, rank, open_c
 ghost use Rattle.nb_graph.specs.Trace.{said, nature};
 ghost use Rattle.nb_graph.specs.Deeds.{Closes, Ends, LetsAllGo, MustMake, MustPlug, Offers, Ticks, Wants};
 ghost use Rattle.nb_graph.specs.Lived.{KeepsTraces};
+ghost use Rattle.nb_graph.specs.Noded.{AreNoded};
 ghost use Rattle.nb_graph.specs.Order.{ClosesOne, EndsInOrder, LetsOneGo};
 ghost use Rattle.nb_graph.specs.Whole.{Harvests, IsMade, KeepsRanks, OnlyDrops, node_at, node_of};
 ghost use Rattle.nb_graph.specs.Whole.{StaysSame};
 
 use crate::Node;
-use crate::inner::{Inner, spare_effects};
+use crate::inner::Inner;
+use crate::spare::{Spare, spare_effects};
 use nb_ledger::{Book, GraphEvent, Msg, ObjId, Outside, Port};
 use nb_terms::{Cause, NoMemory};
 use std::alloc::Global;
@@ -27,6 +29,7 @@ use std::marker::Model;
 #[derive(Drop)]
 pub struct Graph<N: Node> {
     inner: Inner<N>,
+    spare: Option<Box<Spare<N>>>,
 }
 
 /// This port is dead, closed or plugged.
@@ -70,7 +73,8 @@ impl<N: Node> Graph<N> {
         let nodes = Vec::with_capacity(alloc, cap)?;
         let spare = spare_effects(alloc)?;
         Ok(Graph {
-            inner: Inner { book, nodes, spare },
+            inner: Inner { book, nodes },
+            spare,
         })
     }
 
@@ -84,7 +88,7 @@ impl<N: Node> Graph<N> {
         ensures made { IfOk result (IsMade self.old self.new node (N.rank_of node)) }
         ensures ranks { KeepsRanks self.old.book self.new.book }
         ensures went { IfOk result (λ id. (now : ℕ) → WentOne N.stands
-            (nature N.kind_of N.Load.first N.Load.second)
+            (nature N.kind_of N.mark_of N.Load.first N.Load.second)
             now (MustMake id node ∷ Wants (Held id) ∷ []) self.old self.new
             (O.events out.old) (O.events out.new)) }
     {
@@ -111,7 +115,7 @@ impl<N: Node> Graph<N> {
         ensures refused { OnErr result (StaysSame O.events self.old self.new out.old out.new) }
         ensures ranks { KeepsRanks self.old.book self.new.book }
         ensures went { OnOk result ((now : ℕ) → WentOne N.stands
-            (nature N.kind_of N.Load.first N.Load.second)
+            (nature N.kind_of N.mark_of N.Load.first N.Load.second)
             now (MustPlug upper lower ∷ []) self.old self.new (O.events out.old)
             (O.events out.new)) }
         ensures nodes { self.new.nodes ≡ self.old.nodes }
@@ -132,7 +136,7 @@ impl<N: Node> Graph<N> {
             (holds self.old.book id.0 < 2 ^ 32 - 1)) }
         ensures ranks { KeepsRanks self.old.book self.new.book }
         ensures went { OnTrue result ((now : ℕ) → WentOne N.stands
-            (nature N.kind_of N.Load.first N.Load.second)
+            (nature N.kind_of N.mark_of N.Load.first N.Load.second)
             now (Wants (Held id) ∷ []) self.old self.new (O.events out.old) (O.events out.new)) }
         ensures nodes { self.new.nodes ≡ self.old.nodes }
         ensures not { OnFalse result (StaysSame O.events self.old self.new out.old out.new) }
@@ -151,7 +155,7 @@ impl<N: Node> Graph<N> {
             (0 < holds self.old.book id.0)) }
         ensures ranks { KeepsRanks self.old.book self.new.book }
         ensures went { OnTrue result ((now : ℕ) → WentOne N.stands
-            (nature N.kind_of N.Load.first N.Load.second)
+            (nature N.kind_of N.mark_of N.Load.first N.Load.second)
             now (Wants (LetGo id) ∷ []) self.old self.new (O.events out.old) (O.events out.new)) }
         ensures one { OnTrue result (LetsOneGo id self.old.book self.new.book (O.events out.old)
             (O.events out.new)) }
@@ -174,6 +178,14 @@ impl<N: Node> Graph<N> {
         self.inner.node(id)
     }
 
+    /// What is true of every graph: each live object has a node, of the rank that the book has. It does nothing.
+    #[inline(always)]
+    pub fn has_nodes(&self)
+        ensures { AreNoded N.rank_of self.now }
+    {
+        let _inner = &self.inner;
+    }
+
     /// How many objects live.
     pub fn live(&self) -> usize
         ensures { result ≡ length self.now.book.objects }
@@ -192,7 +204,7 @@ impl<N: Node> Graph<N> {
     /// Closes a port, and its peer if it is linked. Nothing happens at a closed or dead one.
     pub fn close<O: Outside>(&mut self, at: Port, cause: &Cause, now: u64, out: &mut O)
         ensures ranks { KeepsRanks self.old.book self.new.book }
-        ensures went { WentOne N.stands (nature N.kind_of N.Load.first N.Load.second)
+        ensures went { WentOne N.stands (nature N.kind_of N.mark_of N.Load.first N.Load.second)
             now (Closes at cause.now ∷ []) self.old self.new (O.events out.old) (O.events out.new) }
         ensures one { 0 < open_count (port self.old.book at.obj.0 at.slot)
             → ClosesOne cause.now at self.old.book self.new.book (O.events out.old)
@@ -212,13 +224,14 @@ impl<N: Node> Graph<N> {
         ensures not { result ≡ reach.Dropped → OnlyDrops to self.old self.new (O.events out.old)
             (O.events out.new) }
         ensures ranks { KeepsRanks self.old.book self.new.book }
-        ensures went { WentOne N.stands (nature N.kind_of N.Load.first N.Load.second)
+        ensures went { WentOne N.stands (nature N.kind_of N.mark_of N.Load.first N.Load.second)
             now (Offers to (said msg.now) ∷ []) self.old self.new (O.events out.old)
             (O.events out.new) }
     {
         let place = self.inner.book.seek(to.obj);
         if self.inner.book.is_free_in(to, place) {
-            self.inner.enter_down(to, place, msg, now, out);
+            self.inner
+                .enter_down(to, place, msg, &mut self.spare, now, out);
             Reach::Entered
         } else {
             out.event(&GraphEvent::Dropped(to).spelled());
@@ -234,14 +247,15 @@ impl<N: Node> Graph<N> {
             state.Open) }
         ensures not { result ≡ reach.Dropped → OnlyDrops to self.old self.new (O.events out.old)
             (O.events out.new) }
-        ensures went { WentOne N.stands (nature N.kind_of N.Load.first N.Load.second)
+        ensures went { WentOne N.stands (nature N.kind_of N.mark_of N.Load.first N.Load.second)
             now (Offers to (said msg.now) ∷ []) self.old self.new (O.events out.old)
             (O.events out.new) }
     {
         let _length = (msg.first.len(), msg.second.len());
         let place = self.inner.book.seek(to.obj);
         if self.inner.book.is_free_in(to, place) {
-            self.inner.enter_up(to, place, msg, now, out);
+            self.inner
+                .enter_up(to, place, msg, &mut self.spare, now, out);
             Reach::Entered
         } else {
             out.event(&GraphEvent::Dropped(to).spelled());
@@ -253,13 +267,13 @@ impl<N: Node> Graph<N> {
     /// happens.
     pub fn time<O: Outside>(&mut self, id: ObjId, now: u64, out: &mut O) -> Reach
         ensures dropped { (result ≡ reach.Dropped) ↔ (object_lives self.old.book id.0 ≡ false) }
-        ensures went { WentOne N.stands (nature N.kind_of N.Load.first N.Load.second)
+        ensures went { WentOne N.stands (nature N.kind_of N.mark_of N.Load.first N.Load.second)
             now (Ticks id.0 ∷ []) self.old self.new (O.events out.old) (O.events out.new) }
         ensures not { result ≡ reach.Dropped → StaysSame O.events self.old self.new out.old
             out.new }
     {
         if self.inner.book.is_live(id) {
-            self.inner.enter_time(id, now, out);
+            self.inner.enter_time(id, &mut self.spare, now, out);
             Reach::Entered
         } else {
             Reach::Dropped
@@ -286,7 +300,7 @@ impl<N: Node> Graph<N> {
 
     /// Closes all ports by rising serial and slot, and lets all holds go. Nothing lives after it.
     pub fn shutdown<O: Outside>(&mut self, cause: &Cause, now: u64, out: &mut O)
-        ensures went { WentOne N.stands (nature N.kind_of N.Load.first N.Load.second)
+        ensures went { WentOne N.stands (nature N.kind_of N.mark_of N.Load.first N.Load.second)
             now (Ends 0 cause.now ∷ LetsAllGo ∷ []) self.old self.new (O.events out.old)
             (O.events out.new) }
         ensures none { length self.new.book.objects ≡ 0 }
@@ -309,9 +323,9 @@ ghost use Rattle.nb_ledger.specs.Flat.{Notice};
 /// What happens in calls and in those that come then happens in all of them.
 pub fn one_after_another<N: Node>()
     ensures { (cs bs : List (GraphCall N N.Load)) (a b c : Objects N) (m n o : Option (List Notice))
-        → Went N.stands (nature N.kind_of N.Load.first N.Load.second) cs a b m n
-        → Went N.stands (nature N.kind_of N.Load.first N.Load.second) bs b c n o
-        → Went N.stands (nature N.kind_of N.Load.first N.Load.second) (cs ++ bs) a c m o }
+        → Went N.stands (nature N.kind_of N.mark_of N.Load.first N.Load.second) cs a b m n
+        → Went N.stands (nature N.kind_of N.mark_of N.Load.first N.Load.second) bs b c n o
+        → Went N.stands (nature N.kind_of N.mark_of N.Load.first N.Load.second) (cs ++ bs) a c m o }
 {}
 
 /// Each entry of an object in some calls, also of one that is freed, is one of its node, which
@@ -319,6 +333,6 @@ pub fn one_after_another<N: Node>()
 pub fn entries_are_the_nodes_own<N: Node>()
     ensures { (cs : List (GraphCall N N.Load)) (a b : Objects N) (m n : Option (List Notice)) (x : ℕ)
         (t : List (NodeEntry N N.Load)) → ObjectStands N.stands a x t
-        → (k : Went N.stands (nature N.kind_of N.Load.first N.Load.second) cs a b m n)
+        → (k : Went N.stands (nature N.kind_of N.mark_of N.Load.first N.Load.second) cs a b m n)
         → Stood N.stands x t (all_of k.deeds) }
 {}

@@ -19,30 +19,14 @@ ghost use Rattle.nb_graph.specs.Whole.{IsManned};
 ghost use Rattle.std.specs.Option.{option_copied};
 ghost use Rattle.std.specs.Prelude.{slice_get};
 
-use crate::{Fx, Node};
+use crate::Node;
 use nb_ledger::{Book, ObjId, Outside};
-use nb_terms::NoMemory;
-use std::alloc::Global;
 
 /// The book and the nodes of its objects, in the same order.
 #[derive(Drop)]
 pub(crate) struct Inner<N: Node> {
     pub(crate) book: Book,
     pub(crate) nodes: Vec<N>,
-    /// The effects of entries that don't run. Whoever takes one empties it first.
-    pub(crate) spare: Vec<Box<Fx<N, N::Load>>>,
-}
-
-/// How many entries that run at once have effects that are kept; those beyond make their own.
-const SPARE: usize = 8;
-
-/// The effects that a new graph keeps.
-pub(crate) fn spare_effects<N: Node>(alloc: Global) -> Result<Vec<Box<Fx<N, N::Load>>>, NoMemory> {
-    let mut spare = Vec::with_capacity(alloc, SPARE)?;
-    for _ in 0..SPARE {
-        spare.push(Box::new(alloc, Fx::none())?)?;
-    }
-    Ok(spare)
 }
 
 impl<N: Node> Inner<N> {
@@ -53,7 +37,7 @@ impl<N: Node> Inner<N> {
         requires unused { unused ≡ is_unused self.old.book id.0 }
         requires manned { IsManned N.rank_of self.old.book self.old.nodes.items
             (vec_capacity self.old.nodes) }
-        ensures settles { SettlesFor N.stands (nature N.kind_of N.Load.first N.Load.second)
+        ensures settles { SettlesFor N.stands (nature N.kind_of N.mark_of N.Load.first N.Load.second)
             self.old.book
             self.new.book self.old.nodes.items self.new.nodes.items (O.events out.old)
             (O.events out.new) id }
@@ -85,15 +69,6 @@ impl<N: Node> Inner<N> {
         let place = self.book.place(id);
         self.book.free(id, out);
         let _node = self.nodes.remove(place);
-    }
-
-    /// Keeps effects that were run for another entry.
-    #[inline(always)]
-    pub(crate) fn keep(&mut self, fx: Box<Fx<N, N::Load>>)
-        ensures book { self.new.book ≡ self.old.book }
-        ensures nodes { self.new.nodes ≡ self.old.nodes }
-    {
-        let _ = self.spare.push(fx);
     }
 
     /// Makes an object with this node.
@@ -138,7 +113,7 @@ impl<N: Node> Inner<N> {
         requires stands { N.stands node [] }
         requires graph { IsGraph N.rank_of self.old.book self.old.nodes.items
             (vec_capacity self.old.nodes) }
-        ensures lived { (now : ℕ) → Lived N.stands (nature N.kind_of N.Load.first N.Load.second) now
+        ensures lived { (now : ℕ) → Lived N.stands (nature N.kind_of N.mark_of N.Load.first N.Load.second) now
             (MustMake result node ∷ Wants (Held result) ∷ [])
             (record { book = self.old.book; nodes = self.old.nodes.items })
             (record { book = self.new.book; nodes = self.new.nodes.items }) (O.events out.old)
@@ -161,7 +136,7 @@ impl<N: Node> Inner<N> {
         requires held { 0 < holds self.old.book id.0 }
         requires graph { IsGraph N.rank_of self.old.book self.old.nodes.items
             (vec_capacity self.old.nodes) }
-        ensures runs { RunFor N.stands (nature N.kind_of N.Load.first N.Load.second) self.old.book
+        ensures runs { RunFor N.stands (nature N.kind_of N.mark_of N.Load.first N.Load.second) self.old.book
             self.new.book self.old.nodes.items self.new.nodes.items (λ st. Wants
             (event.LetGo id) ∷ st) here (O.events out.old)
             (O.events out.new) }

@@ -22,6 +22,7 @@ mod making;
 mod message;
 mod node;
 mod rising;
+mod spare;
 #[cfg(test)]
 mod tests;
 mod timing;

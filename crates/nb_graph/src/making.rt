@@ -4,7 +4,7 @@ ghost use Rattle.std.specs.Prelude.{true, ℕ, [], ◌∷◌, ◌++◌};
 ghost use Rattle.std.specs.Bool.{OnFalse};
 ghost use Rattle.std.specs.Vec.{vec_capacity};
 ghost use Rattle.nb_ledger.specs.declared.port.PortState.TheVariants as state;
-ghost use Rattle.nb_ledger.specs.Ledger.{object_lives, busy, rank, port};
+ghost use Rattle.nb_ledger.specs.Ledger.{object_lives, busy, place, rank, port};
 ghost use Rattle.nb_graph.specs.Trace.{nature};
 ghost use Rattle.nb_graph.specs.Flows.{Making};
 ghost use Rattle.nb_graph.specs.Moves.{always, asked_due};
@@ -40,15 +40,18 @@ impl<N: Node> Inner<N> {
     pub(crate) fn run_make<O: Outside>(
         &mut self,
         id: ObjId,
+        index: usize,
         makes: &mut Option<Make<N>>,
         now: u64,
         out: &mut O,
-    )
+    ) -> usize
+        requires place { index ≡ place self.old.book id.0 }
         requires runs { busy self.old.book id.0 ≡ true }
         requires make { IfSome makes.old (IsMake N.rank_of N.stands (rank self.old.book id.0)) }
         requires steady { IsSteady N.rank_of self.old.book self.old.nodes.items
             (vec_capacity self.old.nodes) }
-        ensures lives { LivelyInFor N.stands (nature N.kind_of N.Load.first N.Load.second) now id.0
+        ensures place { result ≡ place self.new.book id.0 }
+        ensures lives { LivelyInFor N.stands (nature N.kind_of N.mark_of N.Load.first N.Load.second) now id.0
             self.old.book self.new.book self.old.nodes.items self.new.nodes.items
             (Same (busy self.old.book)) always (asked_due id.0) (Making self.old.book id.0)
             (λ st. makes_of id.0 makes.old ++ st) here
@@ -57,25 +60,34 @@ impl<N: Node> Inner<N> {
             (vec_capacity self.new.nodes) }
     {
         if makes.is_some() {
-            self.make_asked(id, makes.take(), now, out);
+            self.make_asked(id, makes, now, out);
+            self.book.place_at(id, index)
+        } else {
+            index
         }
     }
 
     #[inline(never)]
-    fn make_asked<O: Outside>(&mut self, id: ObjId, makes: Option<Make<N>>, now: u64, out: &mut O)
+    fn make_asked<O: Outside>(
+        &mut self,
+        id: ObjId,
+        makes: &mut Option<Make<N>>,
+        now: u64,
+        out: &mut O,
+    )
         requires runs { busy self.old.book id.0 ≡ true }
-        requires make { IfSome makes (IsMake N.rank_of N.stands (rank self.old.book id.0)) }
+        requires make { IfSome makes.old (IsMake N.rank_of N.stands (rank self.old.book id.0)) }
         requires steady { IsSteady N.rank_of self.old.book self.old.nodes.items
             (vec_capacity self.old.nodes) }
-        ensures lives { LivelyInFor N.stands (nature N.kind_of N.Load.first N.Load.second) now id.0
+        ensures lives { LivelyInFor N.stands (nature N.kind_of N.mark_of N.Load.first N.Load.second) now id.0
             self.old.book self.new.book self.old.nodes.items self.new.nodes.items
             (Same (busy self.old.book)) always (asked_due id.0) (Making self.old.book id.0)
-            (λ st. makes_of id.0 makes ++ st) here
+            (λ st. makes_of id.0 makes.old ++ st) here
             (O.events out.old) (O.events out.new) }
         ensures steady { IsSteady N.rank_of self.new.book self.new.nodes.items
             (vec_capacity self.new.nodes) }
     {
-        match makes {
+        match makes.take() {
             Some(Make { node, slot }) => self.make_at(Port { obj: id, slot }, node, now, out),
             None => {}
         }
@@ -87,7 +99,7 @@ impl<N: Node> Inner<N> {
         requires lower { N.rank_of node < rank self.old.book at.obj.0 }
         requires steady { IsSteady N.rank_of self.old.book self.old.nodes.items
             (vec_capacity self.old.nodes) }
-        ensures lives { LivelyInFor N.stands (nature N.kind_of N.Load.first N.Load.second) now
+        ensures lives { LivelyInFor N.stands (nature N.kind_of N.mark_of N.Load.first N.Load.second) now
             at.obj.0
             self.old.book self.new.book self.old.nodes.items self.new.nodes.items
             (Same (busy self.old.book)) always (asked_due at.obj.0) (Making self.old.book at.obj.0)
@@ -115,7 +127,7 @@ impl<N: Node> Inner<N> {
         requires lower { N.rank_of node < rank self.old.book at.obj.0 }
         requires steady { IsSteady N.rank_of self.old.book self.old.nodes.items
             (vec_capacity self.old.nodes) }
-        ensures lives { (now : ℕ) → LivelyFor N.stands (nature N.kind_of N.Load.first
+        ensures lives { (now : ℕ) → LivelyFor N.stands (nature N.kind_of N.mark_of N.Load.first
             N.Load.second) now
             self.old.book self.new.book self.old.nodes.items self.new.nodes.items
             (Same (busy self.old.book)) (asked_due at.obj.0) (Making self.old.book at.obj.0)

@@ -2,11 +2,13 @@
 ghost use Rattle.std.specs.Prelude.{◌≡◌, ◌+◌, ◌<◌, ◌≤◌, ◌++◌, length, [], ◌-◌};
 ghost use Rattle.nb_graph.specs.Effects.{IsPartOf};
 ghost use Rattle.nb_graph.specs.Trace.{carries, nature, bytes_between, left, said, said_behind};
-ghost use Rattle.std.specs.Prelude.{IfSome};
+ghost use Rattle.std.specs.Prelude.{IfSome, ◌∷◌};
+ghost use Rattle.nb_ledger.specs.Flat.{Given, Told};
+ghost use Rattle.nb_ledger.specs.Flat as notice;
 ghost use Rattle.std.specs.Option.{option_map};
 
 use crate::{Emit, Node, Parts};
-use nb_ledger::Msg;
+use nb_ledger::{Msg, Outside, Port};
 
 /// The message of an entry that has none.
 pub(crate) const NOTHING: Msg<'static> = Msg {
@@ -26,13 +28,38 @@ pub(crate) fn bytes_of<'m, N: Node>(
     second: &'m [u8],
 ) -> (&'m [u8], &'m [u8])
     requires { IsPartOf (length first.now + length second.now) emit.now }
-    ensures { result.0.now ++ result.1.now ≡ carries (nature N.kind_of N.Load.first N.Load.second)
+    ensures { result.0.now ++ result.1.now ≡ carries (nature N.kind_of N.mark_of N.Load.first N.Load.second)
         (first.now ++ second.now) emit.now.from emit.now.to emit.now.load }
 {
     match &emit.load {
         Some(load) => load.parts(),
         None => cut(first, second, emit.from, emit.to),
     }
+}
+
+/// Gives the outside the message that is asked for, with this record and these bytes.
+#[inline(always)]
+pub(crate) fn send_part<N: Node, O: Outside>(
+    at: Port,
+    emit: &Emit<N::Load>,
+    rec: u32,
+    first: &[u8],
+    second: &[u8],
+    out: &mut O,
+)
+    ensures told { Told (O.events out.old) (O.events out.new) [] }
+    ensures given { Given (O.events out.old) (O.events out.new) (notice.message at emit.now.tag rec
+        emit.now.a emit.now.b (first.now ++ second.now) ∷ []) }
+{
+    let part = Msg {
+        tag: emit.tag,
+        rec,
+        a: emit.a,
+        b: emit.b,
+        first,
+        second,
+    };
+    out.send(at, &part);
 }
 
 /// Bytes `from` to `to` of a message's two parts, in two parts.

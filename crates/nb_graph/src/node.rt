@@ -31,6 +31,9 @@ pub trait Node: Sized + Drop {
     /// The number of its kind.
     ghost kind_of: { Self → ℕ };
 
+    /// A number that no entry changes, and a harvest may.
+    ghost mark_of: { Self → ℕ };
+
     /// What `harvest` gives, and what it leaves.
     ghost harvests: { Self → Option Self.Load → Self → Type 0 };
 
@@ -59,6 +62,7 @@ pub trait Node: Sized + Drop {
         requires { IsNothing fx.old }
         ensures rank { rank_of self.new ≡ rank_of self.old }
         ensures kind { kind_of self.new ≡ kind_of self.old }
+        ensures mark { mark_of self.new ≡ mark_of self.old }
         ensures asks { MayAsk rank_of stands (rank_of self.old)
             (length msg.now.first.now + length msg.now.second.now) fx.new }
         ensures took { fx.new.took ≤ length msg.now.first.now + length msg.now.second.now }
@@ -77,6 +81,7 @@ pub trait Node: Sized + Drop {
         requires { IsNothing fx.old }
         ensures rank { rank_of self.new ≡ rank_of self.old }
         ensures kind { kind_of self.new ≡ kind_of self.old }
+        ensures mark { mark_of self.new ≡ mark_of self.old }
         ensures asks { MayAskBelow (length msg.now.first.now + length msg.now.second.now) fx.new }
         ensures stands { (t : List (NodeEntry Self Self.Load)) → stands self.old t
             → stands self.new (t ++ down (said msg.now) now (is_ok result) fx.new ∷ []) };
@@ -86,6 +91,7 @@ pub trait Node: Sized + Drop {
         requires { IsNothing fx.old }
         ensures rank { rank_of self.new ≡ rank_of self.old }
         ensures kind { kind_of self.new ≡ kind_of self.old }
+        ensures mark { mark_of self.new ≡ mark_of self.old }
         ensures asks { MayAskBelow 0 fx.new }
         ensures stands { (t : List (NodeEntry Self Self.Load)) → stands self.old t
             → stands self.new (t ++ closed slot cause.now now fx.new ∷ []) };
@@ -95,6 +101,7 @@ pub trait Node: Sized + Drop {
         requires { IsNothing fx.old }
         ensures rank { rank_of self.new ≡ rank_of self.old }
         ensures kind { kind_of self.new ≡ kind_of self.old }
+        ensures mark { mark_of self.new ≡ mark_of self.old }
         ensures asks { MayAsk rank_of stands (rank_of self.old) 0 fx.new }
         ensures stands { (t : List (NodeEntry Self Self.Load)) → stands self.old t → IsSettled t
             → stands self.new (t ++ time now (is_ok result) fx.new ∷ []) };
@@ -103,6 +110,7 @@ pub trait Node: Sized + Drop {
     fn regain(&mut self, load: Self::Load)
         ensures rank { rank_of self.new ≡ rank_of self.old }
         ensures kind { kind_of self.new ≡ kind_of self.old }
+        ensures mark { mark_of self.new ≡ mark_of self.old }
         ensures stands { (t : List (NodeEntry Self Self.Load)) → stands self.old t → LacksLoad t load
             → stands self.new (t ++ regain load ∷ []) };
 

@@ -19,12 +19,19 @@ ghost use Rattle.nb_graph.specs.Lively.{GrowsLively};
 
 use crate::inner::Inner;
 use crate::message::{behind, length_of, rest_of};
+use crate::spare::Spare;
 use crate::{Fx, Node};
 use nb_ledger::{GraphEvent, Msg, Outside, Port, Way};
 
+/// How many bytes of a message count as taken, and where the object that it was given to stands then.
+#[derive(Clone, Copy)]
+pub(crate) struct Uptake {
+    took: usize,
+    place: usize,
+}
+
 impl<N: Node> Inner<N> {
-    /// A message enters an object from below, which stands at this place of the book. Below `key` is
-    /// its key there.
+    /// A message enters an object from below, which stands at this place of the book.
     #[inline(always)]
     #[cycle(lively)]
     pub(crate) fn enter_up<O: Outside>(
@@ -32,6 +39,7 @@ impl<N: Node> Inner<N> {
         at: Port,
         index: usize,
         msg: &Msg<'_>,
+        spare: &mut Option<Box<Spare<N>>>,
         now: u64,
         out: &mut O,
     )
@@ -42,7 +50,7 @@ impl<N: Node> Inner<N> {
         requires under { IsUnder (rank self.old.book at.obj.0) self.old.book }
         requires steady { IsSteady N.rank_of self.old.book self.old.nodes.items
             (vec_capacity self.old.nodes) }
-        ensures lives { (k : LivelyFor N.stands (nature N.kind_of N.Load.first N.Load.second) now
+        ensures lives { (k : LivelyFor N.stands (nature N.kind_of N.mark_of N.Load.first N.Load.second) now
             self.old.book self.new.book self.old.nodes.items self.new.nodes.items
             (Same (busy self.old.book)) none_due (Rising self.old.book at (said msg.now).bytes)
             (λ st. Gives at (said msg.now) ∷ st) (O.events out.old) (O.events out.new))
@@ -53,11 +61,8 @@ impl<N: Node> Inner<N> {
         ensures steady { IsSteady N.rank_of self.new.book self.new.nodes.items
             (vec_capacity self.new.nodes) }
     {
-        match self.spare.pop() {
-            Some(mut fx) => {
-                self.enter_up_by(at, index, msg, &mut fx, now, out);
-                self.keep(fx);
-            }
+        match spare {
+            Some(own) => self.enter_up_by(at, index, msg, own, now, out),
             None => self.enter_up_anew(at, index, msg, now, out),
         }
     }
@@ -80,7 +85,7 @@ impl<N: Node> Inner<N> {
         requires under { IsUnder (rank self.old.book at.obj.0) self.old.book }
         requires steady { IsSteady N.rank_of self.old.book self.old.nodes.items
             (vec_capacity self.old.nodes) }
-        ensures lives { (k : LivelyFor N.stands (nature N.kind_of N.Load.first N.Load.second) now
+        ensures lives { (k : LivelyFor N.stands (nature N.kind_of N.mark_of N.Load.first N.Load.second) now
             self.old.book self.new.book self.old.nodes.items self.new.nodes.items
             (Same (busy self.old.book)) none_due (Rising self.old.book at (said msg.now).bytes)
             (λ st. Gives at (said msg.now) ∷ st) (O.events out.old) (O.events out.new))
@@ -91,18 +96,21 @@ impl<N: Node> Inner<N> {
         ensures steady { IsSteady N.rank_of self.new.book self.new.nodes.items
             (vec_capacity self.new.nodes) }
     {
-        let mut fx = Fx::none();
-        self.enter_up_by(at, index, msg, &mut fx, now, out);
+        let mut own = Spare {
+            fx: Fx::none(),
+            within: None,
+        };
+        self.enter_up_by(at, index, msg, &mut own, now, out);
     }
 
-    /// The same with these effects, whatever they are.
+    /// The same with these effects, whatever they are. No other entry of the object runs.
     #[cycle(lively)]
     fn enter_up_by<O: Outside>(
         &mut self,
         at: Port,
         index: usize,
         msg: &Msg<'_>,
-        fx: &mut Fx<N, N::Load>,
+        own: &mut Spare<N>,
         now: u64,
         out: &mut O,
     )
@@ -113,7 +121,7 @@ impl<N: Node> Inner<N> {
         requires under { IsUnder (rank self.old.book at.obj.0) self.old.book }
         requires steady { IsSteady N.rank_of self.old.book self.old.nodes.items
             (vec_capacity self.old.nodes) }
-        ensures lives { (k : LivelyFor N.stands (nature N.kind_of N.Load.first N.Load.second) now
+        ensures lives { (k : LivelyFor N.stands (nature N.kind_of N.mark_of N.Load.first N.Load.second) now
             self.old.book self.new.book self.old.nodes.items self.new.nodes.items
             (Same (busy self.old.book)) none_due (Rising self.old.book at (said msg.now).bytes)
             (λ st. Gives at (said msg.now) ∷ st) (O.events out.old) (O.events out.new))
@@ -124,9 +132,9 @@ impl<N: Node> Inner<N> {
         ensures steady { IsSteady N.rank_of self.new.book self.new.nodes.items
             (vec_capacity self.new.nodes) }
     {
-        let was = self.book.enter_in(at, index, Way::Up, out);
-        self.deliver(at, index, msg, fx, now, out);
-        self.leave(at, index, was, out);
+        let _was = self.book.enter_in(at, index, Way::Up, out);
+        let place = self.deliver(at, index, msg, &mut own.fx, &mut own.within, now, out);
+        self.leave(at, place, false, out);
     }
 
     /// A message is given to the node of an entry from below, and what it leaves of it again.
@@ -138,9 +146,10 @@ impl<N: Node> Inner<N> {
         index: usize,
         msg: &Msg<'_>,
         fx: &mut Fx<N, N::Load>,
+        spare: &mut Option<Box<Spare<N>>>,
         now: u64,
         out: &mut O,
-    )
+    ) -> usize
         requires slot { 1 ≤ at.slot }
         requires place { index ≡ place self.old.book at.obj.0 }
         requires open { IsOpen (port self.old.book at.obj.0 at.slot) }
@@ -149,15 +158,18 @@ impl<N: Node> Inner<N> {
         requires below { IsBelow (rank self.old.book at.obj.0) self.old.book }
         requires steady { IsSteady N.rank_of self.old.book self.old.nodes.items
             (vec_capacity self.old.nodes) }
-        ensures lives { Delivered N.stands (nature N.kind_of N.Load.first N.Load.second) now at
+        ensures place { result ≡ place self.new.book at.obj.0 }
+        ensures lives { Delivered N.stands (nature N.kind_of N.mark_of N.Load.first N.Load.second) now at
             (said msg.now) self.old.book self.new.book self.old.nodes.items self.new.nodes.items
             (O.events out.old) (O.events out.new) }
         ensures steady { IsSteady N.rank_of self.new.book self.new.nodes.items
             (vec_capacity self.new.nodes) }
     {
-        let took = self.give(at, index, msg, fx, now, out);
-        if took < length_of(msg) {
-            self.deliver_rest(at, index, msg, took, fx, now, out);
+        let given = self.give(at, index, msg, fx, spare, now, out);
+        if given.took < length_of(msg) {
+            self.deliver_rest(at, given.place, msg, given.took, fx, spare, now, out)
+        } else {
+            given.place
         }
     }
 
@@ -171,9 +183,10 @@ impl<N: Node> Inner<N> {
         msg: &Msg<'_>,
         took: usize,
         fx: &mut Fx<N, N::Load>,
+        spare: &mut Option<Box<Spare<N>>>,
         now: u64,
         out: &mut O,
-    )
+    ) -> usize
         requires took { took ≤ length msg.now.first.now + length msg.now.second.now }
         requires slot { 1 ≤ at.slot }
         requires open { IsOpen (port self.old.book at.obj.0 at.slot) }
@@ -182,13 +195,15 @@ impl<N: Node> Inner<N> {
         requires below { IsBelow (rank self.old.book at.obj.0) self.old.book }
         requires steady { IsSteady N.rank_of self.old.book self.old.nodes.items
             (vec_capacity self.old.nodes) }
-        ensures lives { Delivered N.stands (nature N.kind_of N.Load.first N.Load.second) now at
+        ensures place { result ≡ place self.new.book at.obj.0 }
+        ensures lives { Delivered N.stands (nature N.kind_of N.mark_of N.Load.first N.Load.second) now at
             (said_behind took (said msg.now)) self.old.book self.new.book self.old.nodes.items
             self.new.nodes.items (O.events out.old) (O.events out.new) }
         ensures steady { IsSteady N.rank_of self.new.book self.new.nodes.items
             (vec_capacity self.new.nodes) }
     {
-        self.deliver_again(at, key, &behind(msg, took), fx, now, out);
+        self.deliver_again(at, key, &behind(msg, took), fx, spare, now, out);
+        self.book.place_at(at.obj, key)
     }
 
     /// A message is given until nothing is left of it.
@@ -199,6 +214,7 @@ impl<N: Node> Inner<N> {
         key: usize,
         msg: &Msg<'_>,
         fx: &mut Fx<N, N::Load>,
+        spare: &mut Option<Box<Spare<N>>>,
         now: u64,
         out: &mut O,
     )
@@ -209,7 +225,7 @@ impl<N: Node> Inner<N> {
         requires below { IsBelow (rank self.old.book at.obj.0) self.old.book }
         requires steady { IsSteady N.rank_of self.old.book self.old.nodes.items
             (vec_capacity self.old.nodes) }
-        ensures lives { Delivered N.stands (nature N.kind_of N.Load.first N.Load.second) now at
+        ensures lives { Delivered N.stands (nature N.kind_of N.mark_of N.Load.first N.Load.second) now at
             (said msg.now) self.old.book self.new.book self.old.nodes.items self.new.nodes.items
             (O.events out.old) (O.events out.new) }
         ensures steady { IsSteady N.rank_of self.new.book self.new.nodes.items
@@ -218,8 +234,8 @@ impl<N: Node> Inner<N> {
         let mut rest = Some(*msg);
         while let Some(part) = rest {
             let index = self.book.place_at(at.obj, key);
-            let took = self.give(at, index, &part, fx, now, out);
-            rest = rest_of(&part, took);
+            let given = self.give(at, index, &part, fx, spare, now, out);
+            rest = rest_of(&part, given.took);
         }
     }
 
@@ -232,9 +248,10 @@ impl<N: Node> Inner<N> {
         index: usize,
         msg: &Msg<'_>,
         fx: &mut Fx<N, N::Load>,
+        spare: &mut Option<Box<Spare<N>>>,
         now: u64,
         out: &mut O,
-    ) -> usize
+    ) -> Uptake
         requires slot { 1 ≤ at.slot }
         requires place { index ≡ place self.old.book at.obj.0 }
         requires open { IsOpen (port self.old.book at.obj.0 at.slot) }
@@ -243,18 +260,19 @@ impl<N: Node> Inner<N> {
         requires below { IsBelow (rank self.old.book at.obj.0) self.old.book }
         requires steady { IsSteady N.rank_of self.old.book self.old.nodes.items
             (vec_capacity self.old.nodes) }
-        ensures gives { GivesAll N.stands (nature N.kind_of N.Load.first N.Load.second) now at
+        ensures gives { GivesAll N.stands (nature N.kind_of N.mark_of N.Load.first N.Load.second) now at
             (said msg.now) self.old.book self.new.book self.old.nodes.items self.new.nodes.items
-            (O.events out.old) (O.events out.new) (left result (said msg.now)) }
-        ensures more { result < length msg.now.first.now + length msg.now.second.now
-            → (0 < result) × IsOpen (port self.new.book at.obj.0 at.slot) }
+            (O.events out.old) (O.events out.new) (left result.took (said msg.now)) }
+        ensures place { result.place ≡ place self.new.book at.obj.0 }
+        ensures more { result.took < length msg.now.first.now + length msg.now.second.now
+            → (0 < result.took) × IsOpen (port self.new.book at.obj.0 at.slot) }
         ensures grows { GrowsLively self.old.book self.new.book }
         ensures steady { IsSteady N.rank_of self.new.book self.new.nodes.items
             (vec_capacity self.new.nodes) }
     {
         fx.empty();
         let done = self.ask_up(at, index, msg, now, fx);
-        self.after_up(at, index, msg, done, fx, now, out)
+        self.after_up(at, index, msg, done, fx, spare, now, out)
     }
 
     #[inline(always)]
@@ -262,14 +280,16 @@ impl<N: Node> Inner<N> {
     fn after_up<O: Outside>(
         &mut self,
         at: Port,
-        key: usize,
+        index: usize,
         msg: &Msg<'_>,
         done: bool,
         fx: &mut Fx<N, N::Load>,
+        spare: &mut Option<Box<Spare<N>>>,
         now: u64,
         out: &mut O,
-    ) -> usize
+    ) -> Uptake
         requires slot { 1 ≤ at.slot }
+        requires place { index ≡ place self.old.book at.obj.0 }
         requires runs { busy self.old.book at.obj.0 ≡ true }
         requires asks { MayAskUp N.rank_of N.stands (rank self.old.book at.obj.0) at.slot
             (length msg.now.first.now + length msg.now.second.now) done fx.old }
@@ -277,23 +297,30 @@ impl<N: Node> Inner<N> {
         requires below { IsBelow (rank self.old.book at.obj.0) self.old.book }
         requires steady { IsSteady N.rank_of self.old.book self.old.nodes.items
             (vec_capacity self.old.nodes) }
-        ensures goes { GoesOn N.stands (nature N.kind_of N.Load.first N.Load.second) now at
+        ensures goes { GoesOn N.stands (nature N.kind_of N.mark_of N.Load.first N.Load.second) now at
             (said msg.now) done fx.old self.old.book self.new.book self.old.nodes.items
             self.new.nodes.items
-            (O.events out.old) (O.events out.new) (left result (said msg.now)) }
-        ensures more { result < length msg.now.first.now + length msg.now.second.now
-            → (0 < result) × IsOpen (port self.new.book at.obj.0 at.slot) }
+            (O.events out.old) (O.events out.new) (left result.took (said msg.now)) }
+        ensures place { result.place ≡ place self.new.book at.obj.0 }
+        ensures more { result.took < length msg.now.first.now + length msg.now.second.now
+            → (0 < result.took) × IsOpen (port self.new.book at.obj.0 at.slot) }
         ensures grows { GrowsLively self.old.book self.new.book }
         ensures steady { IsSteady N.rank_of self.new.book self.new.nodes.items
             (vec_capacity self.new.nodes) }
     {
         if done {
             let took = fx.took as usize;
-            self.effects(at.obj, key, msg, fx, now, out);
-            self.left_of(at, key, msg, took, out)
+            let place = self.effects(at.obj, index, msg, fx, spare, now, out);
+            Uptake {
+                took: self.left_of(at, place, msg, took, out),
+                place,
+            }
         } else {
-            self.fail(at.obj, key, fx, now, out);
-            length_of(msg)
+            let place = self.fail(at.obj, index, fx, now, out);
+            Uptake {
+                took: length_of(msg),
+                place,
+            }
         }
     }
 
@@ -311,7 +338,7 @@ impl<N: Node> Inner<N> {
         requires took { took ≤ length msg.now.first.now + length msg.now.second.now }
         requires some { took ≡ 0 → 0 < length msg.now.first.now + length msg.now.second.now →
             open_count (port self.old.book at.obj.0 at.slot) ≡ 0 }
-        ensures goes { (now : ℕ) → LeftOn N.stands (nature N.kind_of N.Load.first N.Load.second)
+        ensures goes { (now : ℕ) → LeftOn N.stands (nature N.kind_of N.mark_of N.Load.first N.Load.second)
             now at
             took (said msg.now) self.old.book self.new.book self.old.nodes.items
             self.new.nodes.items (O.events out.old) (O.events out.new)
@@ -322,7 +349,7 @@ impl<N: Node> Inner<N> {
     {
         let whole = length_of(msg);
         if took == whole {
-            return took;
+            return whole;
         }
         if self.book.is_open_at(at, key) {
             return took;

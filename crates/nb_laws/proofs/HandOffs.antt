@@ -8,7 +8,7 @@ use Rattle.nb_terms.specs.declared.acts.SendTo.{SendTo}
 use Rattle.nb_terms.specs.declared.cause.Cause.{Cause}
 use Rattle.nb_defs.specs.Causes.{ok, is_ok_cause}
 use Rattle.nb_defs.specs.Commands.{CommandOutcome}
-use Rattle.nb_defs.specs.Records.{Out, step, sent, text, command, result, script, opened, tried, advanced, ended, part, done}
+use Rattle.nb_defs.specs.Records.{Out, step, sent, text, command, result, script, opened, tried, advanced, ended, graph, part, done}
 use Rattle.nb_stack.specs.Client.{Client}
 use Rattle.nb_image.specs.declared.image.Image.{Image}
 use Rattle.nb_image.specs.declared.error.ImageError.{ImageError}
@@ -45,6 +45,7 @@ IsOpens (result cause) = ⊥
 IsOpens (script what depth cause) = ⊥
 IsOpens (opened number kind server port own target) = ⊥
 IsOpens (ended number cause) = ⊥
+IsOpens (graph happens) = ⊥
 IsOpens (part kind index offset bytes) = ⊥
 IsOpens (done status) = ⊥
 

@@ -213,6 +213,17 @@ impl Book {
         }
     }
 
+    /// The same of a live object, by its place.
+    #[inline(always)]
+    pub fn port_of_live(&self, at: Port, index: usize) -> PortState
+        requires lives { object_lives self.now at.obj.0 ≡ true }
+        requires place { index ≡ place self.now at.obj.0 }
+        requires slot { at.slot < 4 }
+        ensures { result ≡ port self.now at.obj.0 at.slot }
+    {
+        self.objects[index].port_below_four(at.slot)
+    }
+
     /// Whether a port is open and has no link.
     pub fn is_free(&self, at: Port) -> bool
         ensures { IsTrue result ↔ (port self.now at.obj.0 at.slot ≡ Open) }
@@ -227,6 +238,22 @@ impl Book {
         ensures { IsTrue result ↔ (port self.now at.obj.0 at.slot ≡ Open) }
     {
         match self.port_in(at, index) {
+            PortState::Open => true,
+            PortState::Linked(_) => false,
+            PortState::Leaving(_) => false,
+            PortState::Closed => false,
+        }
+    }
+
+    /// The same of a live object, by its place.
+    #[inline(always)]
+    pub fn is_free_of_live(&self, at: Port, index: usize) -> bool
+        requires lives { object_lives self.now at.obj.0 ≡ true }
+        requires place { index ≡ place self.now at.obj.0 }
+        requires slot { at.slot < 4 }
+        ensures { IsTrue result ↔ (port self.now at.obj.0 at.slot ≡ Open) }
+    {
+        match self.port_of_live(at, index) {
             PortState::Open => true,
             PortState::Linked(_) => false,
             PortState::Leaving(_) => false,

@@ -28,13 +28,13 @@ impl Book {
 
     /// The same where an entry ends; whether the object is then unused.
     #[inline(always)]
-    pub(crate) fn end_entry(&mut self, id: ObjId, key: usize, runs: bool) -> bool
-        requires { object_lives self.old id.0 ≡ true }
+    pub(crate) fn end_entry(&mut self, id: ObjId, index: usize, runs: bool) -> bool
+        requires lives { object_lives self.old id.0 ≡ true }
+        requires place { index ≡ place self.old id.0 }
         ensures sets { SetsBusy self.old self.new id.0 runs }
         ensures unused { result ≡ unused self.new id.0 }
     {
-        let place = self.place_at(id, key);
-        let object = &mut self.objects[place];
+        let object = &mut self.objects[index];
         object.busy = runs;
         object.is_unused()
     }

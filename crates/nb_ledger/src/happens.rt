@@ -143,11 +143,12 @@ impl Book {
         was
     }
 
-    /// The innermost entry ends; `was` says whether one of its object ran before it. Returns whether the
-    /// object is then unused.
+    /// The innermost entry ends, of the object at this place; `was` says whether one of it ran before.
+    /// Returns whether the object is then unused.
     #[inline(always)]
-    pub fn leave<O: Outside>(&mut self, at: Port, key: usize, was: bool, out: &mut O) -> bool
-        requires { object_lives self.old at.obj.0 ≡ true }
+    pub fn leave<O: Outside>(&mut self, at: Port, index: usize, was: bool, out: &mut O) -> bool
+        requires lives { object_lives self.old at.obj.0 ≡ true }
+        requires place { index ≡ place self.old at.obj.0 }
         ensures told { Tells (O.events out.old) (O.events out.new) (Left at ∷ []) }
         ensures given { Given (O.events out.old) (O.events out.new) (notice.event (flat (Left at))
             ∷ []) }
@@ -156,7 +157,7 @@ impl Book {
         ensures sets { SetsBusy self.old self.new at.obj.0 was }
         ensures unused { result ≡ unused self.new at.obj.0 }
     {
-        let unused = self.end_entry(at.obj, key, was);
+        let unused = self.end_entry(at.obj, index, was);
         out.event(&GraphEvent::Left(at).spelled());
         unused
     }

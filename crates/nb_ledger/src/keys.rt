@@ -14,7 +14,7 @@ pub(crate) struct Keys {
     own: Vec<usize>,
     places: Slab<usize>,
     /// The slab's number that was given last for a serial with these bits.
-    recent: Vec<usize>,
+    recent: [usize; ROW],
 }
 
 impl Keys {
@@ -22,21 +22,17 @@ impl Keys {
     pub(crate) fn new(alloc: Global, room: usize) -> Result<Keys, AllocError> {
         let own = Vec::with_capacity(alloc, room)?;
         let places = Slab::with_capacity(alloc, room)?;
-        let recent = Vec::from_elem(alloc, 0, ROW)?;
         Ok(Keys {
             own,
             places,
-            recent,
+            recent: [0; ROW],
         })
     }
 
     /// Where the object with this serial is likely to stand.
     #[inline(always)]
     pub(crate) fn place(&self, serial: u64) -> usize {
-        match self.recent.get(serial as usize % ROW) {
-            Some(number) => self.place_of(*number),
-            None => 0,
-        }
+        self.place_of(self.recent[serial as usize % ROW])
     }
 
     #[inline(always)]
@@ -64,9 +60,7 @@ impl Keys {
     }
 
     fn note(&mut self, serial: u64, number: usize) {
-        if let Some(kept) = self.recent.get_mut(serial as usize % ROW) {
-            *kept = number;
-        }
+        self.recent[serial as usize % ROW] = number;
     }
 
     /// The object at this place goes, and those after it move down by one.

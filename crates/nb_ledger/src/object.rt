@@ -11,7 +11,7 @@ pub struct Object {
     pub ports: [PortState; 4],
 }
 
-ghost use Rattle.std.specs.Prelude.{◌≡◌, ◌≤◌, length};
+ghost use Rattle.std.specs.Prelude.{◌≡◌, ◌<◌, ◌≤◌, length};
 ghost use Rattle.nb_ledger.specs.GraphRun.{link_count};
 ghost use Rattle.nb_ledger.specs.Ledger.{object_port, object_ties, object_unused};
 
@@ -26,6 +26,16 @@ impl Object {
         } else {
             PortState::Closed
         }
+    }
+
+    /// The same of a slot that there is.
+    #[inline(always)]
+    pub(crate) fn port_below_four(&self, slot: u8) -> PortState
+        requires ports { length self.now.ports ≡ 4 }
+        requires slot { slot < 4 }
+        ensures { result ≡ object_port slot self.now }
+    {
+        self.ports[slot as usize]
     }
 
     /// Whether it has no hold, no link and no entry that runs.

@@ -1,5 +1,5 @@
 -- What is asked for, as messages, and within what an entry may ask for.
-use Rattle.std.proofs.Common.{◌≡◌, ℕ, zero, suc, ◌≤◌, map, List, [], ◌∷◌, ◌++◌, length, Option, Some, None, refl, ap, sym, ◌∙◌, subst, arith}
+use Rattle.std.proofs.Common.{◌≡◌, ℕ, zero, suc, ◌≤◌, map, List, [], ◌∷◌, ◌++◌, length, Option, Some, None, is_some, false, refl, ap, sym, ◌∙◌, subst, arith}
 use Rattle.std.proofs.lemmas.List.{append-nil}
 use Rattle.std.specs.Global.{Box}
 use Rattle.nb_terms.specs.declared.acts.Acts.{Acts}
@@ -99,3 +99,8 @@ all_within acts fx len no_make asks ups closes range =
 -- nothing goes up
 pub no_ups : (m : Said) (acts : Acts) (fx : Fx Obj Load) → EffectsOf m acts fx → acts.give ≡ None → (fx.ups.first ≡ None) × (fx.ups.second ≡ None)
 no_ups m acts fx effects none = (ap (λ z. z.first) effects.ups ∙ ap up_emit none, ap (λ z. z.second) effects.ups)
+
+-- where a call doesn't end the transfer it closes nothing
+pub end_none : (over : Option Cause) → is_some over ≡ false → end_closes over ≡ []
+end_none None h = refl
+end_none (Some cause) h = absurd (cc)

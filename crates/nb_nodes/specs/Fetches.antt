@@ -42,12 +42,6 @@ is_complete (Whole body) = true
 is_complete HandedOut = true
 is_complete Failed = false
 
-abbrev pub is_handed : Fetch → Bool
-is_handed (Gathering body) = false
-is_handed (Whole body) = false
-is_handed HandedOut = true
-is_handed Failed = false
-
 -- its body, while it has one, is this
 abbrev pub HasBody : Fetch → List ℕ → Type 0
 HasBody (Gathering body) bytes = body ≡ bytes

@@ -1,7 +1,9 @@
 -- The kinds of objects and what their messages carry: our own.
-use Rattle.std.specs.Prelude.{ℕ, List, [], ◌∷◌}
+use Rattle.std.specs.Prelude.{ℕ, Bool, true, false, List, [], ◌∷◌, if◌then◌else◌}
 use Rattle.nb_terms.specs.declared.acts.SendTo.{SendTo}
 use Rattle.nb_graph.specs.Trace.{Nature, nature}
+use Rattle.nb_nodes.specs.declared.fetch.Fetch.{Fetch}
+use Rattle.nb_nodes.specs.declared.fetch.Fetch.TheVariants.{Gathering, Whole, HandedOut, Failed}
 use Rattle.nb_nodes.specs.declared.load.Load.{Load}
 use Rattle.nb_nodes.specs.declared.load.Load.TheVariants as load
 use Rattle.nb_nodes.specs.declared.obj.Obj.{Obj}
@@ -29,6 +31,18 @@ abbrev pub rank_of_obj : Obj → ℕ
 rank_of_obj (obj.Fetch f) = 5
 rank_of_obj (obj.Tftp p) = 2
 
+-- its body was whole, and is handed out
+abbrev pub is_handed : Fetch → Bool
+is_handed (Gathering body) = false
+is_handed (Whole body) = false
+is_handed HandedOut = true
+is_handed Failed = false
+
+-- their marks: 1 where a body is handed out, which only a harvest does
+abbrev pub mark_of_obj : Obj → ℕ
+mark_of_obj (obj.Fetch f) = if is_handed f then 1 else 0
+mark_of_obj (obj.Tftp p) = 0
+
 -- what nb_graph knows of them
 abbrev pub obj_nature : Nature Obj Load
-obj_nature = nature kind_of_obj first_part second_part
+obj_nature = nature kind_of_obj mark_of_obj first_part second_part

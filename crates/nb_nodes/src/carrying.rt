@@ -1,5 +1,5 @@
 // What a transfer's call asks for, as the effects of an entry.
-ghost use Rattle.std.specs.Prelude.{◌≡◌, ◌+◌, ◌≤◌, ℕ, [], ◌∷◌, length, min, None, Some};
+ghost use Rattle.std.specs.Prelude.{◌≡◌, ◌+◌, ◌≤◌, ℕ, [], ◌∷◌, length, min, None, Some, is_some, false};
 ghost use Rattle.nb_tftp.specs.Sound.{IsRange};
 ghost use Rattle.nb_graph.specs.Trace.{Said};
 ghost use Rattle.nb_nodes.specs.Carried.{up_emit, both_closes, end_closes, first_port};
@@ -159,8 +159,23 @@ fn ask_down(acts: Box<Acts>, fx: &mut Effects) -> Option<Box<Acts>>
     }
 }
 
-/// Asks for all that a transfer's call asks for.
+/// Asks for all that a call asks for of a transfer that goes on.
 #[inline(always)]
+pub(crate) fn ask_on(acts: Box<Acts>, fx: &mut Effects) -> Option<Box<Acts>>
+    requires blank { AsksNone fx.old }
+    requires few { length acts.value.sends.items ≤ 1 }
+    requires goes { is_some acts.value.over ≡ false }
+    ensures effects { (m : Said) → EffectsOf m acts.value fx.new }
+    ensures within { (len : ℕ) → IsRange acts.value.give len → AsksWithin len fx.new }
+    ensures took { fx.new.took ≡ fx.old.took }
+{
+    let give = acts.give;
+    let kept = ask_down(acts, fx);
+    ask_up(give, fx);
+    kept
+}
+
+/// Asks for all that a transfer's call asks for.
 pub(crate) fn ask(acts: Box<Acts>, fx: &mut Effects) -> Option<Box<Acts>>
     requires blank { AsksNone fx.old }
     requires few { length acts.value.sends.items ≤ 1 }

@@ -4,10 +4,13 @@ ghost use Rattle.nb_graph.specs.Trace.{said};
 ghost use Rattle.nb_graph.specs.Effects.{IsNothing};
 ghost use Rattle.nb_nodes.specs.declared.fetch.Fetch.TheVariants as fetch;
 ghost use Rattle.nb_nodes.specs.Carried.{AsksNone, CarriesNothing, AsksWithin};
-ghost use Rattle.nb_nodes.specs.Fetches.{FetchStands, FetchHarvests, is_gathering, is_handed};
+ghost use Rattle.nb_nodes.specs.Fetches.{FetchStands, FetchHarvests, is_gathering};
 ghost use Rattle.nb_nodes.specs.Fetches.{after_bytes_up, after_closing, passed_close, gathered_len};
 ghost use Rattle.nb_nodes.specs.Fetches.{AsksUp, AsksHandDown, is_handed_down, ended_fetch, GathersBytes};
+ghost use Rattle.nb_nodes.specs.Fetches.{body_too_large, stop_cause};
+ghost use Rattle.nb_nodes.specs.Carried.{both_closes};
 ghost use Rattle.nb_image.specs.declared.error.PushError.TheVariants as PushError;
+ghost use Rattle.std.specs.Prelude.{◌∷◌};
 
 use crate::Load;
 use crate::carrying::{BELOW, Effects, close_both, length_of};
@@ -91,12 +94,11 @@ impl Fetch {
                 Ok(())
             }
             Gathered::TooLarge => {
-                close_both(Cause::from(Reason::TooLarge(Large::Image)), fx);
+                refuse(fx);
                 Ok(())
             }
             Gathered::Ended => {
-                fx.closes
-                    .push((BELOW, Cause::from(Reason::Plain(Plain::Stopped))));
+                stop(fx);
                 Ok(())
             }
             Gathered::NoMemory => Err(NoMemory),
@@ -179,6 +181,25 @@ impl Fetch {
             }
         }
     }
+}
+
+/// Closes both ports, since the body would be too large. Not inlined, as it is rare.
+#[inline(never)]
+fn refuse(fx: &mut Effects)
+    requires { fx.old.closes.items ≡ [] }
+    ensures { fx.new ≡ record fx.old { closes = record { items = both_closes body_too_large } } }
+{
+    close_both(Cause::from(Reason::TooLarge(Large::Image)), fx);
+}
+
+/// Closes the port below, since nothing is gathered any more. Not inlined, as it is rare.
+#[inline(never)]
+fn stop(fx: &mut Effects)
+    requires { fx.old.closes.items ≡ [] }
+    ensures { fx.new ≡ record fx.old { closes = record { items = (1, stop_cause) ∷ [] } } }
+{
+    fx.closes
+        .push((BELOW, Cause::from(Reason::Plain(Plain::Stopped))));
 }
 
 /// Appends both parts, or stops at the first that isn't taken.

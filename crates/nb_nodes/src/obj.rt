@@ -1,5 +1,5 @@
 ghost use Rattle.std.specs.Prelude.{◌≡◌, [], IfOk};
-ghost use Rattle.nb_nodes.specs.Objects.{kind_of_obj, rank_of_obj};
+ghost use Rattle.nb_nodes.specs.Objects.{kind_of_obj, mark_of_obj, rank_of_obj};
 ghost use Rattle.nb_nodes.specs.Standing.{ObjStands, ObjHarvests};
 
 use crate::{Fetch, Load, Tftp};
@@ -17,14 +17,19 @@ pub enum Obj {
 impl Obj {
     /// A Fetch of which nothing has come.
     pub fn fetch(alloc: Global) -> Obj
-        ensures { ObjStands result [] }
+        ensures stands { ObjStands result [] }
+        ensures rank { rank_of_obj result ≡ 5 }
+        ensures kind { kind_of_obj result ≡ 1 }
+        ensures mark { mark_of_obj result ≡ 0 }
     {
         Obj::Fetch(Fetch::new(alloc))
     }
 
     /// A Tftp that waits for what to ask for.
     pub fn tftp(alloc: Global) -> Result<Obj, NoMemory>
-        ensures { IfOk result (λ o. ObjStands o []) }
+        ensures stands { IfOk result (λ o. ObjStands o []) }
+        ensures rank { IfOk result (λ o. rank_of_obj o ≡ 2) }
+        ensures kind { IfOk result (λ o. kind_of_obj o ≡ 4) }
     {
         Ok(Obj::Tftp(Box::new(alloc, Tftp::new(alloc)?)?))
     }
@@ -36,6 +41,8 @@ impl Node for Obj {
     ghost rank_of = { rank_of_obj };
 
     ghost kind_of = { kind_of_obj };
+
+    ghost mark_of = { mark_of_obj };
 
     ghost harvests = { ObjHarvests };
 

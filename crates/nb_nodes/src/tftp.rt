@@ -6,13 +6,14 @@ ghost use Rattle.nb_nodes.specs.declared.tftp.Work.TheVariants as work;
 ghost use Rattle.nb_nodes.specs.Carried.{AsksNone, AsksWithin, EffectsOf};
 ghost use Rattle.nb_nodes.specs.Conversations.{TftpStands, is_datagram, ContinuesAs, is_waiting, talk_is_done};
 
-use crate::carrying::{BELOW, Effects, ask, length_of};
+use crate::carrying::{BELOW, Effects, ask, ask_on, length_of};
 use crate::tag::{Tag, is_tag};
 use crate::{Ask, Load};
 use nb_graph::Msg;
 use nb_terms::{Acts, Cause, NoMemory};
 use nb_tftp::Transfer;
 use std::alloc::Global;
+use std::mem;
 
 /// How far a Tftp is.
 #[derive(Drop)]
@@ -113,6 +114,25 @@ impl Tftp {
         if msg.second.is_empty() {
             return self.message(msg.rec, port, msg.first, now, fx);
         }
+        self.receive_parts(port, msg, now, fx)
+    }
+
+    /// The same of one in two parts. Not inlined, as it is rare.
+    #[inline(never)]
+    fn receive_parts(
+        &mut self,
+        port: u16,
+        msg: &Msg<'_>,
+        now: u64,
+        fx: &mut Effects,
+    ) -> Result<(), NoMemory>
+        requires { AsksNone fx.old }
+        ensures leads { (slot : ℕ) → is_datagram slot (said msg.now) ≡ true → msg.now.a ≡ port
+            → fx.old.took ≡ min (length msg.now.first.now + length msg.now.second.now) 4294967295
+            → ContinuesAs self.old.work self.new.work (up slot (said msg.now) now (is_ok result) fx.new) }
+        ensures within { AsksWithin (length msg.now.first.now + length msg.now.second.now) fx.new }
+        ensures took { fx.new.took ≡ fx.old.took }
+    {
         match joined(self.alloc, msg) {
             Ok(body) => self.message(msg.rec, port, body.as_slice(), now, fx),
             Err(_) => self.give_up(),
@@ -260,7 +280,8 @@ impl Tftp {
         ensures { self.new.work ≡ self.old.work }
     {
         match load {
-            Load::Datagram(acts) => self.acts = Some(acts),
+            // While it was lent, nothing stood here that is to be dropped.
+            Load::Datagram(acts) => mem::forget(mem::replace(&mut self.acts, Some(acts))),
             Load::Body(_) => {}
         }
     }
@@ -276,8 +297,48 @@ impl Tftp {
         ensures took { fx.new.took ≡ fx.old.took }
     {
         if acts.over.is_some() {
-            self.work = Work::Over;
+            self.end(acts, fx);
+        } else {
+            self.go_on(acts, fx);
         }
+    }
+
+    /// The same where it hasn't ended.
+    #[inline(always)]
+    fn go_on(&mut self, acts: Box<Acts>, fx: &mut Effects)
+        requires blank { AsksNone fx.old }
+        requires few { length acts.value.sends.items ≤ 1 }
+        requires goes { is_some acts.value.over ≡ false }
+        ensures work { self.new.work ≡ self.old.work }
+        ensures effects { (m : Said) → EffectsOf m acts.value fx.new }
+        ensures within { (len : ℕ) → IsRange acts.value.give len → AsksWithin len fx.new }
+        ensures took { fx.new.took ≡ fx.old.took }
+    {
+        let kept = ask_on(acts, fx);
+        self.keep(kept);
+    }
+
+    /// Keeps what wasn't lent.
+    #[inline(always)]
+    fn keep(&mut self, acts: Option<Box<Acts>>)
+        ensures { self.new.work ≡ self.old.work }
+    {
+        if acts.is_some() {
+            self.acts = acts;
+        }
+    }
+
+    /// The same where it has ended. Not inlined, as it is rare.
+    #[inline(never)]
+    fn end(&mut self, acts: Box<Acts>, fx: &mut Effects)
+        requires blank { AsksNone fx.old }
+        requires few { length acts.value.sends.items ≤ 1 }
+        ensures work { self.new.work ≡ work.Over }
+        ensures effects { (m : Said) → EffectsOf m acts.value fx.new }
+        ensures within { (len : ℕ) → IsRange acts.value.give len → AsksWithin len fx.new }
+        ensures took { fx.new.took ≡ fx.old.took }
+    {
+        self.work = Work::Over;
         self.acts = ask(acts, fx);
     }
 

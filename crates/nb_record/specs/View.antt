@@ -37,5 +37,6 @@ out_of (output.Opened number kind server port own target) = defs.opened number k
 out_of (output.Try number n) = defs.tried number n
 out_of (output.Advance number place) = defs.advanced number place
 out_of (output.Over number cause) = defs.ended number cause
+out_of (output.Graph happens) = defs.graph happens
 out_of (output.Part kind index offset bytes) = defs.part kind index offset bytes.now
 out_of (output.Done status) = defs.done status

@@ -1,7 +1,6 @@
 // The records of an input and of an output, the feed that cuts bytes into records, the log that
 // gathers output, and `Line`, the outside: what is read from and written to, and its faults. Formats
-// stand in docs/RECORDS.md; of the output's records GRAPH is left out. Begin with `InRec` and
-// `OutRec`, then `Line`.
+// stand in docs/RECORDS.md. Begin with `InRec` and `OutRec`, then `Line`.
 #![tactic(auto)]
 
 mod feed;

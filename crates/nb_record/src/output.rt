@@ -1,4 +1,4 @@
-use nb_terms::Cause;
+use nb_terms::{Cause, Event};
 use nb_wire::{Ip4, Word};
 
 /// A record of the output.
@@ -52,6 +52,8 @@ pub enum OutRec<'a> {
         number: u16,
         cause: Cause,
     },
+    /// What happened to an object of the graph.
+    Graph(Event),
     /// A piece of a part of the hand-off, at most 65,536 bytes, and how many bytes of the part come before it.
     Part {
         kind: u8,

@@ -1,6 +1,6 @@
 ghost use Rattle.std.specs.Prelude.{◌≡◌, ◌≤◌, length, IfOk};
 
-use crate::{Cause, Log, OutRec};
+use crate::{Cause, Event, Log, OutRec};
 use nb_wire::{Ip4, Word};
 use std::alloc::{AllocError, Global};
 use std::test::*;
@@ -113,6 +113,85 @@ fn spelled_opens(rt: HostRuntime) -> Result<(), Fail> {
         ),
     ];
     let mut log = Log::new(rt.alloc(), 26)?;
+    for (number, (entry, bytes)) in rows.iter().enumerate() {
+        log.clear();
+        log.put(entry);
+        assert_eq!(rt; log.bytes(), *bytes, "row {number}");
+        assert!(rt; !log.short());
+    }
+    Ok(())
+}
+
+/// Events of the graph: an object is made, two ports are plugged, time enters, a port is closed, and a link is gone.
+#[test]
+fn spelled_events(rt: HostRuntime) -> Result<(), Fail> {
+    let rows: [(OutRec<'_>, &[u8]); 5] = [
+        (
+            OutRec::Graph(Event {
+                event: 1,
+                object: 1,
+                slot: 0,
+                other: 4,
+                other_slot: 0,
+                cause: OK,
+            }),
+            b"\x00\x00\x00\x1d\x8b\x01\x00\x00\x00\x00\x00\x00\x00\x01\x00\
+\x00\x00\x00\x00\x00\x00\x00\x04\x00\x00\x00\x00\x00\x00\x00\x00\x00\x00",
+        ),
+        (
+            OutRec::Graph(Event {
+                event: 4,
+                object: 1,
+                slot: 1,
+                other: 2,
+                other_slot: 0,
+                cause: OK,
+            }),
+            b"\x00\x00\x00\x1d\x8b\x04\x00\x00\x00\x00\x00\x00\x00\x01\x01\
+\x00\x00\x00\x00\x00\x00\x00\x02\x00\x00\x00\x00\x00\x00\x00\x00\x00\x00",
+        ),
+        (
+            OutRec::Graph(Event {
+                event: 5,
+                object: 0x0102_0304_0506_0708,
+                slot: 4,
+                other: 0,
+                other_slot: 3,
+                cause: OK,
+            }),
+            b"\x00\x00\x00\x1d\x8b\x05\x01\x02\x03\x04\x05\x06\x07\x08\x04\
+\x00\x00\x00\x00\x00\x00\x00\x00\x03\x00\x00\x00\x00\x00\x00\x00\x00\x00",
+        ),
+        (
+            OutRec::Graph(Event {
+                event: 8,
+                object: 2,
+                slot: 1,
+                other: 0,
+                other_slot: 0,
+                cause: Cause {
+                    code: 1,
+                    a: 258,
+                    b: 3,
+                },
+            }),
+            b"\x00\x00\x00\x1d\x8b\x08\x00\x00\x00\x00\x00\x00\x00\x02\x01\
+\x00\x00\x00\x00\x00\x00\x00\x00\x00\x01\x00\x00\x01\x02\x00\x00\x00\x03",
+        ),
+        (
+            OutRec::Graph(Event {
+                event: 9,
+                object: 2,
+                slot: 0,
+                other: 1,
+                other_slot: 1,
+                cause: OK,
+            }),
+            b"\x00\x00\x00\x1d\x8b\x09\x00\x00\x00\x00\x00\x00\x00\x02\x00\
+\x00\x00\x00\x00\x00\x00\x00\x01\x01\x00\x00\x00\x00\x00\x00\x00\x00\x00",
+        ),
+    ];
+    let mut log = Log::new(rt.alloc(), 33)?;
     for (number, (entry, bytes)) in rows.iter().enumerate() {
         log.clear();
         log.put(entry);

@@ -19,7 +19,7 @@ returns-then-is_first g c = λ n first v.
     let waits : IsResting c.reads.client.stage = subst (λ (x : Seen). IsResting x.stage) (sym h.1) c.requires.waits in
     let few : c.reads.client.used < 4294967295 = subst (λ (x : Seen). x.used < 4294967295) (sym h.1) c.requires.few in
     let w = waits_there n c.args.feed.now.bytes held first (g.L.Line.outside c.args.line.now) mid c.args.log.now c.reads.log c.args.client.now c.reads.client h.0 h.1 v in
-    c.finish.ensures w.ins held first w.goes.machine w.goes.stands w.goes.going
+    c.finish.ensures w.ins held first w.goes.machine w.goes.at w.goes.stands w.goes.fits w.goes.going
     (waits_bad n held first mid c.reads.log c.reads.client w waits few
     (inr (inl (front_begins held (in_of c.in-Whole.entry) c.in-Whole.len IsFirst c.in-Whole.ensures c.if-is_first.ensures))))
 
@@ -52,12 +52,12 @@ returns-in-Broken g c = λ n first v.
     let waits : IsResting c.reads.client.stage = subst (λ (x : Seen). IsResting x.stage) (sym h.1) c.requires.waits in
     let few : c.reads.client.used < 4294967295 = subst (λ (x : Seen). x.used < 4294967295) (sym h.1) c.requires.few in
     let w = waits_there n c.args.feed.now.bytes held first (g.L.Line.outside c.args.line.now) mid c.args.log.now c.reads.log c.args.client.now c.reads.client h.0 h.1 v in
-    c.finish-in-Broken.ensures w.ins held first w.goes.machine w.goes.stands w.goes.going
+    c.finish-in-Broken.ensures w.ins held first w.goes.machine w.goes.at w.goes.stands w.goes.fits w.goes.going
     (waits_bad n held first mid c.reads.log c.reads.client w waits few
     (inl (breaks_broken held c.in-Broken.field-0.why c.in-Broken.ensures.1)))
 
 pub reads-preserved : goal.reads-preserved
-reads-preserved g c = (λ ins first m r. c.in-More.ensures.fills ins first m (c.reads.invariant.0 ins first m r), c.reads.invariant.1)
+reads-preserved g c = (λ ins first m p r. c.in-More.ensures.fills ins first m p (c.reads.invariant.0 ins first m p r), c.reads.invariant.1)
 
 pub reads-smaller : goal.reads-smaller
 reads-smaller g c = omega (arith, partial_short c.reads.feed.bytes c.in-Partial.ensures, c.in-More.ensures.grows refl)
@@ -74,7 +74,7 @@ returns-in-Ended g c = λ n first v.
     let now = g.L.Line.outside c.refill.new.line in
     let f = c.in-Ended.ensures.fills in
     let u = waits_filled n held rest first mid now c.reads.log c.refill.new.log c.reads.client f.0 w in
-    c.finish-in-Ended.ensures u.ins rest first u.goes.machine u.goes.stands u.goes.going
+    c.finish-in-Ended.ensures u.ins rest first u.goes.machine u.goes.at u.goes.stands u.goes.fits u.goes.going
     (waits_end c.status_at_end.result n rest first now c.refill.new.log c.reads.client u waits few f.1 f.2 c.status_at_end.ensures)
 
 pub returns-in-Fault : goal.returns-in-Fault
@@ -84,7 +84,7 @@ returns-in-Fault g c = λ n first v.
     let h = c.reads.invariant in
     let waits : IsResting c.reads.client.stage = subst (λ (x : Seen). IsResting x.stage) (sym h.1) c.requires.waits in
     let w = waits_there n c.args.feed.now.bytes held first (g.L.Line.outside c.args.line.now) mid c.args.log.now c.reads.log c.args.client.now c.reads.client h.0 h.1 v in
-    c.in-Fault.ensures.fills w.ins first w.goes.machine (stands_between c.reads.client w.goes.machine w.goes.stands waits) w.goes.going
+    c.in-Fault.ensures.fills w.ins first w.goes.machine w.goes.at (stands_between c.reads.client w.goes.machine w.goes.stands waits) w.goes.going
 
 pub returns-in-Cut : goal.returns-in-Cut
 returns-in-Cut g c = λ n first v.
@@ -93,4 +93,4 @@ returns-in-Cut g c = λ n first v.
     let h = c.reads.invariant in
     let w = waits_there n c.args.feed.now.bytes held first (g.L.Line.outside c.args.line.now) mid c.args.log.now c.reads.log c.args.client.now c.reads.client h.0 h.1 v in
     let P : Status → Type 0 = λ s. Shows s first (g.L.Line.outside c.refill.new.line) in
-    subst P (sym c.status.ensures) (c.in-Cut.ensures.fills w.ins first w.goes.machine w.goes.going)
+    subst P (sym c.status.ensures) (c.in-Cut.ensures.fills w.ins first w.goes.machine w.goes.at w.goes.going)

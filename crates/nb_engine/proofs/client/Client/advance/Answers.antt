@@ -13,7 +13,7 @@ pub returns-in-Ok-Passed-clause-does : goal.returns-in-Ok-Passed-clause-does
 returns-in-Ok-Passed-clause-does c =
     let now = c.args.self.now in
     let passed = rw c.in-Ok-Passed.field-0-is at c.in-Ok-Passed.ensures in
-    rw (c.run_on.ensures.turn, c.run_on.ensures.after) (pass_grows now.used now.world c.args.script c.next.new.self passed.passes, tt)
+    rw (c.run_on.ensures.turn, c.run_on.ensures.after) (pass_grows now.used now.world now.graph c.args.script c.next.new.self passed.passes, tt)
 
 pub returns-in-Ok-Left-clause-does : goal.returns-in-Ok-Left-clause-does
 returns-in-Ok-Left-clause-does c =
@@ -22,13 +22,13 @@ returns-in-Ok-Left-clause-does c =
     let cause = c.in-Ok-Left.cause in
     let left = rw c.in-Ok-Left.field-0-is at c.in-Ok-Left.ensures in
     let puts = subst (λ (x : Running). Puts c.args.log.now c.leave.new.log (out_texts (leave x.depth cause ∷ []))) left.0 c.leave.ensures.puts in
-    rw c.leave.ensures.after (turn_acts c.leave.result c.args.log.now c.leave.new.log [] (seen now.used now.world (stage.Running s)) (seen now.used now.world (stage.Left cause))
-    c.leave.ensures.turn (left_grows now.used now.world s cause left.1 puts))
+    rw c.leave.ensures.after (turn_acts c.leave.result c.args.log.now c.leave.new.log [] (seen now.used now.world now.graph (stage.Running s)) (seen now.used now.world now.graph (stage.Left cause))
+    c.leave.ensures.turn (left_grows now.used now.world now.graph s cause left.1 puts))
 
 pub returns-in-Ok-Full-clause-does : goal.returns-in-Ok-Full-clause-does
 returns-in-Ok-Full-clause-does c =
     let full = rw c.in-Ok-Full.field-0-is at c.in-Ok-Full.ensures in
-    rw (← c.self.view_is, full.0) (yield_grows c.self.inside.used c.self.inside.world c.args.script full.1, tt)
+    rw (← c.self.view_is, full.0) (yield_grows c.self.inside.used c.self.inside.world c.self.inside.graph c.args.script full.1, tt)
 
 pub refuse-requires-clause-words : goal.refuse-requires-clause-words
 refuse-requires-clause-words c =

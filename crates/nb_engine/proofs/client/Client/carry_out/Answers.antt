@@ -13,7 +13,7 @@ returns-in-Ok-clause-does c =
     let ws = c.args.words.now in
     let v : World = record { w = w.w; time = w.time; net = w.net; opens = w.opens; state = c.carry_out.new.state } in
     let command = subst (λ (x : Seen). HasCommand c.args.script x.world.state.table ws) (sym c.self.view_is) c.requires.words in
-    let out : HasCarriedOut w c.in-Ok.deed c.args.script ws (seen c.self.inside.used v c.self.inside.stage) =
+    let out : HasCarriedOut w c.in-Ok.deed c.args.script ws (seen c.self.inside.used v c.self.inside.graph c.self.inside.stage) =
     carried_deed c.args.script w ws c.args.plan.now c.in-Ok.deed _ command c.requires.value (c.in-Ok.ensures.value w.opens)
     (ap (λ (st : State). record { w = w.w; time = w.time; net = w.net; opens = w.opens; state = st }) c.in-Ok.ensures.table) in
     rw (← c.self.view_is) (c.go_by.ensures w out).0
@@ -24,7 +24,7 @@ returns-in-Ok-clause-nearer c =
     let ws = c.args.words.now in
     let v : World = record { w = w.w; time = w.time; net = w.net; opens = w.opens; state = c.carry_out.new.state } in
     let command = subst (λ (x : Seen). HasCommand c.args.script x.world.state.table ws) (sym c.self.view_is) c.requires.words in
-    let out : HasCarriedOut w c.in-Ok.deed c.args.script ws (seen c.self.inside.used v c.self.inside.stage) =
+    let out : HasCarriedOut w c.in-Ok.deed c.args.script ws (seen c.self.inside.used v c.self.inside.graph c.self.inside.stage) =
     carried_deed c.args.script w ws c.args.plan.now c.in-Ok.deed _ command c.requires.value (c.in-Ok.ensures.value w.opens)
     (ap (λ (st : State). record { w = w.w; time = w.time; net = w.net; opens = w.opens; state = st }) c.in-Ok.ensures.table) in
     rw (← c.self.view_is) (c.go_by.ensures w out).1

@@ -17,6 +17,7 @@ invariant_of-self c =
       w = sound.w;
       opens = sound.opens;
       ports = tt;
+      objects = tt;
       well = rw c.of.ensures (begins_at c.self.inside.world.state.images c.in-Boots.kernel place sound.short);
       short = sound.short;
     }
@@ -27,7 +28,8 @@ returns-in-Keeps c =
     rw (c.in-Keeps.is, c.resume.ensures.turn, c.resume.ensures.after) (record {
       puts = rw c.cause.ensures at c.resume.ensures.puts;
       is_turn = tt;
-      stands = rw c.cause.ensures (as_running now.used now.world (with_result c.args.script ok));
+      fits = refl;
+      stands = rw c.cause.ensures (as_running now.used now.world now.graph (with_result c.args.script ok));
     })
 
 pub returns-in-Fails : goal.returns-in-Fails
@@ -36,7 +38,8 @@ returns-in-Fails c =
     rw (c.in-Fails.is, c.resume-in-Fails.ensures.turn, c.resume-in-Fails.ensures.after) (record {
       puts = c.resume-in-Fails.ensures.puts;
       is_turn = tt;
-      stands = as_running now.used now.world (with_result c.args.script c.in-Fails.cause);
+      fits = refl;
+      stands = as_running now.used now.world now.graph (with_result c.args.script c.in-Fails.cause);
     })
 
 pub returns-in-Boots : goal.returns-in-Boots
@@ -46,5 +49,6 @@ returns-in-Boots c =
     rw (c.in-Boots.is, ← c.self.view_is, c.of.ensures) (record {
       puts = rw c.cause-in-Boots.ensures at c.put_result.ensures;
       is_turn = tt;
-      stands = as_handing n w (record { kernel = c.in-Boots.kernel; part = 0; piece = 0 }) (handoff_records c.in-Boots.kernel w.state.images.images) refl;
+      fits = refl;
+      stands = as_handing n w c.self.inside.graph (record { kernel = c.in-Boots.kernel; part = 0; piece = 0 }) (handoff_records c.in-Boots.kernel w.state.images.images) refl;
     })

@@ -23,9 +23,9 @@ returns-in-Ends c = λ w h.
       shows = h.shows;
       leaves = refl;
     } in (
-      settled_acts c.finish-left.result c.settle.result c.args.log.now c.finish-left.new.log now.used w c.args.script c.finish-left.new.self shown o table now c.settle.new.self
-          ends c.requires.words.early c.finish-left.ensures refl h.world_is c.settle.ensures,
-      settled_nearer c.finish-left.result c.settle.result c.args.log.now c.finish-left.new.log now.used w c.args.script c.finish-left.new.self shown o now c.settle.new.self
+      settled_acts c.finish-left.result c.settle.result c.args.log.now c.finish-left.new.log now.used w now.graph c.args.script c.finish-left.new.self shown o table now c.settle.new.self
+          ends c.requires.words.early c.finish-left.ensures refl h.world_is refl c.settle.ensures,
+      settled_nearer c.finish-left.result c.settle.result c.args.log.now c.finish-left.new.log now.used w now.graph c.args.script c.finish-left.new.self shown o now c.settle.new.self
           c.requires.words.early c.finish-left.ensures c.settle.ensures,
     )
 
@@ -41,7 +41,7 @@ returns-in-Goes c = λ w h.
     let went : GoesTo shown (label_place name s.code) s c.go_to.new.self c.args.log.now c.go_to.new.log =
     subst (λ b. GoesTo shown (label_place b s.code) s c.go_to.new.self c.args.log.now c.go_to.new.log) c.as_slice.ensures.value c.go_to.ensures in
     rw (c.run_on.ensures.turn, c.run_on.ensures.after, same) (
-      (goes_grows now.used w s c.go_to.new.self shown h.name h.args name (label_place name s.code) h.comes c.requires.words.early comes h.shows refl went, tt),
+      (goes_grows now.used w now.graph s c.go_to.new.self shown h.name h.args name (label_place name s.code) h.comes c.requires.words.early comes h.shows refl went, tt),
       goes_nearer (label_place name s.code) c.args.log.now c.go_to.new.log s c.go_to.new.self shown c.requires.words.early went,
     )
 
@@ -54,6 +54,6 @@ returns-in-Sleeps c = λ w h.
     let comes : effect w.opens w.state.table (h.name ∷ h.args) ≡ sleeps seconds = h.deed_is ∙ ap (λ (d : Deed). deed_effect d) c.in-Sleeps.is in
     let same : now.world ≡ w = h.world_is ∙ world_stays w _ (same_world w (sleeps seconds) (h.name ∷ h.args) comes) in
     rw (c.sleep.ensures.turn, c.sleep.ensures.after, same) (
-      (sleeps_grows now.used w s shown h.name h.args seconds h.comes c.requires.words.early comes h.shows c.sleep.ensures.puts, tt),
+      (sleeps_grows now.used w now.graph s shown h.name h.args seconds h.comes c.requires.words.early comes h.shows c.sleep.ensures.puts, tt),
       tt,
     )

@@ -9,4 +9,4 @@ pub returns : goal.returns
 returns c = λ s n e.
     let counted : c.self.inside.used ≡ n + 1 = ap (λ (x : Seen). x.used) c.self.view_is ∙ e in
     let puts = subst (λ k. Puts c.args.log.now c.put_step.new.log (out_texts (step k ∷ []))) counted c.put_step.ensures in
-    rw (← c.self.view_is, counted) (tt, off_anew_grows n c.self.inside.world s puts, refl)
+    rw (← c.self.view_is, counted) (tt, off_anew_grows n c.self.inside.world c.self.inside.graph s puts, refl)

@@ -14,6 +14,7 @@ use Rattle.nb_engine.specs.Heeding.{Heeds, Comes}
 use Rattle.nb_engine.specs.Seen.{Seen, seen}
 use Rattle.nb_engine.specs.Machine.{reply_records}
 use Rattle.nb_engine.proofs.Growth.{frame_grows, pass_by_grows, heeds_acts}
+use Rattle.nb_engine.proofs.Sides.{keep_waiting}
 use Rattle.nb_engine.proofs.client.Client.receive.Goals as goal
 
 pub returns-in-Some : goal.returns-in-Some
@@ -31,11 +32,12 @@ returns-in-Some c = λ s same n e.
     let brought : Some (c.in-Some.port, c.in-Some.body.now) ≡ heard_from c.get.result.now.server out = rw c.in-Some.is at c.datagram_of.ensures in
     let heard : heard_from f.server out ≡ Some (c.in-Some.port, c.in-Some.body.now) =
     sym (subst (λ (g : Fetch). Some (c.in-Some.port, c.in-Some.body.now) ≡ heard_from g.server out) c.get.ensures brought) in
-    let at_n = subst (λ k. Heeds c.hear.result s1 (Comes (came (received k c.in-Some.port c.in-Some.body.now) w.time) f) (seen k (with_net w net) st) c.hear.new.self c.args.log.now c.hear.new.log) counted c.hear.ensures in
-    let at_anew = subst (λ x. Heeds c.hear.result x (Comes (came (received (n + 1) c.in-Some.port c.in-Some.body.now) w.time) f) (seen (n + 1) (with_net w net) st) c.hear.new.self c.args.log.now c.hear.new.log) same at_n in
-    rw (← c.self.view_is) (heeds_acts c.hear.result c.args.log.now c.hear.new.log (defs.frame bytes ∷ []) (anew s) (Comes (came (received (n + 1) c.in-Some.port c.in-Some.body.now) w.time) f)
-    (seen (n + 1) (with_net w net) st) (seen n w (stage.Waiting s f)) c.hear.new.self
-    (λ fo. frame_grows n w s f st c.hear.new.self bytes c.take-taken.new.reply.written out net c.in-Some.port c.in-Some.body.now c.requires.valid takes heard fo) at_anew)
+    let g = c.self.inside.graph in
+    let at_n = subst (λ k. Heeds c.hear.result s1 (Comes g (came (received k c.in-Some.port c.in-Some.body.now) w.time) f) (seen k (with_net w net) g st) c.hear.new.self c.args.log.now c.hear.new.log) counted c.hear.ensures in
+    let at_anew = subst (λ x. Heeds c.hear.result x (Comes g (came (received (n + 1) c.in-Some.port c.in-Some.body.now) w.time) f) (seen (n + 1) (with_net w net) g st) c.hear.new.self c.args.log.now c.hear.new.log) same at_n in
+    rw (← c.self.view_is) (heeds_acts c.hear.result c.args.log.now c.hear.new.log (defs.frame bytes ∷ []) (anew s) (Comes g (came (received (n + 1) c.in-Some.port c.in-Some.body.now) w.time) f)
+    (seen (n + 1) (with_net w net) g st) (seen n w g (stage.Waiting s f)) c.hear.new.self
+    (λ fo. frame_grows n w g s f g st c.hear.new.self bytes c.take-taken.new.reply.written out net c.in-Some.port c.in-Some.body.now c.requires.valid takes heard (keep_waiting s s1 f w.opens) fo) at_anew)
 
 pub returns-in-None : goal.returns-in-None
 returns-in-None c = λ s same n e.
@@ -52,4 +54,4 @@ returns-in-None c = λ s same n e.
     let none : heard_from f.server out ≡ None = sym (subst (λ (g : Fetch). None ≡ heard_from g.server out) c.get.ensures brought) in
     let puts = subst (λ b. Puts c.args.log.now c.pass_by.new.log (out_texts (step c.self.inside.used ∷ reply_records b))) c.written.ensures c.pass_by.ensures.puts in
     let at_n = subst (λ k. Puts c.args.log.now c.pass_by.new.log (out_texts (step k ∷ reply_records reply))) counted puts in
-    rw (← c.self.view_is, c.pass_by.ensures.turn, c.pass_by.ensures.after, counted, same) (pass_by_grows n w s f bytes reply out net c.requires.valid takes none at_n, tt)
+    rw (← c.self.view_is, c.pass_by.ensures.turn, c.pass_by.ensures.after, counted, same) (pass_by_grows n w c.self.inside.graph s f bytes reply out net c.requires.valid takes none at_n, tt)

@@ -1,17 +1,30 @@
-use Rattle.std.proofs.Common.{◌≡◌, ◌+◌, [], ◌∷◌, refl, ◌∙◌, ap, subst}
-use Rattle.nb_defs.specs.Records.{step, ended, out_texts}
+use Rattle.std.proofs.Common.{◌≡◌, ◌+◌, [], ◌∷◌, refl, sym, ◌∙◌, ap, subst}
+use Rattle.nb_defs.specs.Records.{step, out_texts}
+use Rattle.nb_defs.specs.Records as defs
 use Rattle.nb_record.specs.Logged.{Puts}
-use Rattle.nb_engine.specs.Machine.{stopped_cause}
-use Rattle.nb_engine.specs.Seen.{Seen}
+use Rattle.nb_engine.specs.declared.fetch.Fetch.{Fetch}
+use Rattle.nb_engine.specs.declared.stage.Stage.TheVariants as stage
+use Rattle.nb_engine.specs.Seen.{Seen, seen}
+use Rattle.nb_engine.specs.Turns.{Grows, IsOverWith, shut_records}
+use Rattle.nb_engine.specs.declared.status.Status.TheVariants as status
 use Rattle.nb_engine.proofs.Puts.{Puts-outs}
 use Rattle.nb_engine.proofs.Growth.{off_grows}
 use Rattle.nb_engine.proofs.client.Client.switch_off.Goals as goal
 
 pub returns : goal.returns
 returns c = λ s n e.
+    let now = c.args.self.now in
     let f = c.args.fetch in
-    let counted : c.self.inside.used ≡ n + 1 = ap (λ (x : Seen). x.used) c.self.view_is ∙ e in
-    let over : Puts c.put_step.new.log c.put_over.new.log (out_texts (ended f.number stopped_cause ∷ [])) = rw (c.get.ensures, c.cause.ensures) at c.put_over.ensures in
-    let both = Puts-outs (step c.self.inside.used ∷ []) (ended f.number stopped_cause ∷ []) c.put_step.ensures over in
-    let puts = subst (λ k. Puts c.args.log.now c.put_over.new.log (out_texts (step k ∷ ended f.number stopped_cause ∷ []))) counted both in
-    rw (← c.self.view_is, counted) (tt, off_grows n c.self.inside.world s f puts, refl)
+    let h = c.shut.new.self.graph in
+    let same = c.shut.ensures.same in
+    let counted : c.self.inside.used ≡ n + 1 = ap (λ (x : Seen). x.used) c.self.view_is ∙ ap (λ (x : Seen). x.used) same ∙ e in
+    let over : Puts c.put_step.new.log c.put_shut.new.log (out_texts (shut_records f.number)) =
+    subst (λ (x : Fetch). Puts c.put_step.new.log c.put_shut.new.log (out_texts (shut_records x.number))) c.get-2.ensures c.put_shut.ensures in
+    let both = Puts-outs (step c.self.inside.used ∷ []) (shut_records f.number) c.put_step.ensures over in
+    let puts = subst (λ k. Puts c.args.log.now c.put_shut.new.log (out_texts (step k ∷ shut_records f.number))) counted both in
+    let grows : Grows (defs.off ∷ []) (seen n now.world now.graph (stage.Waiting s f)) (seen now.used now.world h stage.Stopped) c.args.log.now c.put_shut.new.log =
+    subst (λ k. Grows (defs.off ∷ []) (seen n now.world now.graph (stage.Waiting s f)) (seen k now.world h stage.Stopped) c.args.log.now c.put_shut.new.log) (sym e) (off_grows n now.world now.graph h s f puts) in (
+      tt,
+      subst (λ x. Grows (defs.off ∷ []) (seen n now.world now.graph (stage.Waiting s f)) x c.args.log.now c.put_shut.new.log) (sym same) grows,
+      subst (λ (x : Seen). IsOverWith x.stage status.Unfinished) (sym same) refl,
+    )

@@ -7,19 +7,21 @@ use Rattle.nb_engine.specs.Running.{anew}
 use Rattle.nb_engine.specs.Heeding.{Heeds, Comes}
 use Rattle.nb_engine.specs.Seen.{Seen, seen}
 use Rattle.nb_engine.proofs.Growth.{tick_grows, heeds_acts}
+use Rattle.nb_engine.proofs.Sides.{keep_waiting}
 use Rattle.nb_engine.proofs.client.Client.tick.Goals as goal
 
 pub returns : goal.returns
 returns c = λ n e.
     let w = c.self.inside.world in
+    let g = c.self.inside.graph in
     let ms = c.args.ms in
     let s = c.args.script in
     let s1 = c.begin_step.new.self in
     let f = c.args.fetch in
     let st = stage.Waiting s1 f in
     let counted : c.self.inside.used ≡ n + 1 = ap (λ (x : Seen). x.used) c.self.view_is ∙ e in
-    let at_ms = subst (λ k. Heeds c.pass_time-turn.result s1 (Comes (ticked (w.time + k)) f) (seen c.self.inside.used (world_later w k) st) c.pass_time-turn.new.self c.args.log.now c.pass_time-turn.new.log) c.from.ensures c.pass_time-turn.ensures in
-    let at_n = subst (λ k. Heeds c.pass_time-turn.result s1 (Comes (ticked (w.time + ms)) f) (seen k (world_later w ms) st) c.pass_time-turn.new.self c.args.log.now c.pass_time-turn.new.log) counted at_ms in
-    let at_anew = subst (λ x. Heeds c.pass_time-turn.result x (Comes (ticked (w.time + ms)) f) (seen (n + 1) (world_later w ms) st) c.pass_time-turn.new.self c.args.log.now c.pass_time-turn.new.log) c.begin_step.ensures at_n in
-    rw (← c.self.view_is, c.self-2.view_is) (heeds_acts c.pass_time-turn.result c.args.log.now c.pass_time-turn.new.log (defs.tick ms ∷ []) (anew s) (Comes (ticked (w.time + ms)) f) (seen (n + 1) (world_later w ms) st) (seen n w (stage.Waiting s f)) c.pass_time-turn.new.self
-    (λ fo. tick_grows n w s f st c.pass_time-turn.new.self ms c.requires.valid fo) at_anew)
+    let at_ms = subst (λ k. Heeds c.pass_time-turn.result s1 (Comes g (ticked (w.time + k)) f) (seen c.self.inside.used (world_later w k) g st) c.pass_time-turn.new.self c.args.log.now c.pass_time-turn.new.log) c.from.ensures c.pass_time-turn.ensures in
+    let at_n = subst (λ k. Heeds c.pass_time-turn.result s1 (Comes g (ticked (w.time + ms)) f) (seen k (world_later w ms) g st) c.pass_time-turn.new.self c.args.log.now c.pass_time-turn.new.log) counted at_ms in
+    let at_anew = subst (λ x. Heeds c.pass_time-turn.result x (Comes g (ticked (w.time + ms)) f) (seen (n + 1) (world_later w ms) g st) c.pass_time-turn.new.self c.args.log.now c.pass_time-turn.new.log) c.begin_step.ensures at_n in
+    rw (← c.self.view_is, c.self-2.view_is) (heeds_acts c.pass_time-turn.result c.args.log.now c.pass_time-turn.new.log (defs.tick ms ∷ []) (anew s) (Comes g (ticked (w.time + ms)) f) (seen (n + 1) (world_later w ms) g st) (seen n w g (stage.Waiting s f)) c.pass_time-turn.new.self
+    (λ fo. tick_grows n w g s f g st c.pass_time-turn.new.self ms c.requires.valid (keep_waiting s s1 f w.opens) fo) at_anew)

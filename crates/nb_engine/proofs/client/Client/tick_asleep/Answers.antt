@@ -13,7 +13,7 @@ returns-then-self-until c = λ n e.
     let counted : c.self.inside.used ≡ n + 1 = ap (λ (x : Seen). x.used) c.self.view_is ∙ e in
     let at_n = subst (λ k. Puts c.args.log.now c.put_step.new.log (out_texts (step k ∷ []))) counted c.put_step.ensures in
     let early : w.time + c.args.ms < c.args.until = subst (λ x. w.time + x < c.args.until) c.from-passed.ensures c.if-self-until.true in
-    rw (← c.self.view_is, c.sleep_on.ensures.turn, c.sleep_on.ensures.after, c.from-passed.ensures, counted) (sleep_on_grows n w c.args.script c.args.until c.args.ms c.requires.valid early at_n, tt)
+    rw (← c.self.view_is, c.sleep_on.ensures.turn, c.sleep_on.ensures.after, c.from-passed.ensures, counted) (sleep_on_grows n w c.self.inside.graph c.args.script c.args.until c.args.ms c.requires.valid early at_n, tt)
 
 pub returns-else-self-until : goal.returns-else-self-until
 returns-else-self-until c = λ n e.
@@ -22,4 +22,4 @@ returns-else-self-until c = λ n e.
     let both = Puts-outs (step c.self.inside.used ∷ []) (result ok ∷ []) c.put_step.ensures c.wake.ensures.puts in
     let at_n = subst (λ k. Puts c.args.log.now c.wake.new.log (out_texts (step k ∷ result ok ∷ []))) counted both in
     let late : c.args.until ≤ w.time + c.args.ms = subst (λ x. c.args.until ≤ w.time + x) c.from-passed.ensures c.if-self-until.false in
-    rw (← c.self.view_is, c.wake.ensures.turn, c.wake.ensures.after, c.from-passed.ensures, counted) (wake_grows n w c.args.script c.args.until c.args.ms c.requires.valid late at_n, tt)
+    rw (← c.self.view_is, c.wake.ensures.turn, c.wake.ensures.after, c.from-passed.ensures, counted) (wake_grows n w c.self.inside.graph c.args.script c.args.until c.args.ms c.requires.valid late at_n, tt)

@@ -1,7 +1,7 @@
 use Rattle.nb_ledger.proofs.RunLemmas.{Given-none}
 use Rattle.std.proofs.Common.{ℕ, List, refl, sym, subst, ◌∙◌, arith, ap, rules, ◌≡◌, true, Some, None, append_assoc, [], ◌∷◌, ◌++◌}
 use Rattle.std.specs.Vec.{vec_capacity}
-use Rattle.nb_ledger.specs.Ledger.{busy, port, open_count}
+use Rattle.nb_ledger.specs.Ledger.{busy, place, port, open_count}
 use Rattle.nb_graph.specs.Whole.{IsBookWhole, port_at}
 use Rattle.nb_graph.specs.Calm.{IsSteady}
 use Rattle.nb_ledger.specs.declared.port.PortState.TheVariants.{Leaving, Closed}
@@ -26,6 +26,7 @@ use Rattle.nb_graph.proofs.WholeLemmas.{but_other}
 use Rattle.nb_graph.proofs.LivesLemmas.{Lives-above, Lives-turn, Lives-weaken}
 use Rattle.nb_graph.specs.Accounts.{account, few_bytes}
 use Rattle.nb_graph.specs.Asked.{asked}
+use Rattle.nb_graph.specs.Sending.{said_with}
 use Rattle.nb_graph.specs.Flows.{Closing, Passing, asked_left, asked_sent, asked_whole}
 use Rattle.nb_graph.proofs.AccountLemmas.{Calms-idle, Calms-turn, Calms-plain, Mild-same}
 use Rattle.nb_graph.proofs.MildLemmas.{Lives-plain, Mild-busy, Mild-port}
@@ -44,8 +45,8 @@ use Rattle.nb_graph.proofs.inner.Inner.+calm.Goals as goal
 
 pub calm_effects-returns-clause-lives : goal.calm_effects-returns-clause-lives
 calm_effects-returns-clause-lives g t c =
-    let k = c.run_downs.ensures.lives in
-    rw (lent-below c.args.fx.now _ c.requires.asks) (CalmFor-opened (λ st. ap (λ z. z ++ st) (runs-below (nature g.N.Node.kind_of g.N.Load.Parts.first g.N.Load.Parts.second) c.args.id.0 (said c.args.msg.now) c.args.fx.now _ c.requires.asks) ∙ append_assoc (few_of (nature g.N.Node.kind_of g.N.Load.Parts.first g.N.Load.Parts.second) c.args.id.0 (said c.args.msg.now) c.args.fx.now.downs) (closes_of c.args.id.0 c.args.fx.now.closes.items) st ∙ ap (λ z. few_of (nature g.N.Node.kind_of g.N.Load.Parts.first g.N.Load.Parts.second) c.args.id.0 (said c.args.msg.now) c.args.fx.now.downs ++ (closes_of c.args.id.0 z ++ st)) (sym c.as_slice.ensures.value)) (CalmFor-last (loads c.args.fx.now.downs) c.requires.runs k c.close_asked.ensures.lives (λ ds p q i j w v h t. let z = Downs-closing c.args.self.now.book c.run_downs.new.self.book k.lives.moved.links k.lives.moved.shuts c.args.id.0 (λ n. few_bytes (nature g.N.Node.kind_of g.N.Load.Parts.first g.N.Load.Parts.second) n (said c.args.msg.now).bytes c.args.fx.now.downs) p q j j w v h in (z.0, z.1, λ _. z.2))))
+    let k = c.run_downs-place.ensures.lives in
+    rw (lent-below c.args.fx.now _ c.requires.asks) (CalmFor-opened (λ st. ap (λ z. z ++ st) (runs-below (nature g.N.Node.kind_of g.N.Node.mark_of g.N.Load.Parts.first g.N.Load.Parts.second) c.args.id.0 (said c.args.msg.now) c.args.fx.now _ c.requires.asks) ∙ append_assoc (few_of (nature g.N.Node.kind_of g.N.Node.mark_of g.N.Load.Parts.first g.N.Load.Parts.second) c.args.id.0 (said c.args.msg.now) c.args.fx.now.downs) (closes_of c.args.id.0 c.args.fx.now.closes.items) st ∙ ap (λ z. few_of (nature g.N.Node.kind_of g.N.Node.mark_of g.N.Load.Parts.first g.N.Load.Parts.second) c.args.id.0 (said c.args.msg.now) c.args.fx.now.downs ++ (closes_of c.args.id.0 z ++ st)) (sym c.as_slice.ensures.value)) (CalmFor-last (loads c.args.fx.now.downs) c.requires.runs k c.close_asked.ensures.lives (λ ds p q i j w v h t. let z = Downs-closing c.args.self.now.book c.run_downs-place.new.self.book k.lives.moved.links k.lives.moved.shuts c.args.id.0 (λ n. few_bytes (nature g.N.Node.kind_of g.N.Node.mark_of g.N.Load.Parts.first g.N.Load.Parts.second) n (said c.args.msg.now).bytes c.args.fx.now.downs) p q j j w v h in (z.0, z.1, λ _. z.2))))
 
 pub close_all-returns-clause-lives : goal.close_all-returns-clause-lives
 close_all-returns-clause-lives g t c =
@@ -65,13 +66,13 @@ close_link-ask_closed-requires-clause-lives g t c =
 pub close_link-unplug-requires-clause-first : goal.close_link-unplug-requires-clause-first
 close_link-unplug-requires-clause-first g t c =
     let gone = half-gone c.requires.steady.whole.links c.requires.linked c.close_both-was.ensures.half in
-    let k = rw c.ask_closed.ensures.book at c.calm_effects.ensures.lives in
+    let k = rw c.ask_closed.ensures.book at c.calm_effects-place.ensures.lives in
     leaving-is _ c.args.peer (k.calm.shrinks.same_leaves c.args.at.obj.0 c.args.at.slot ∙ ap leaving_to gone)
 
 pub close_link-unplug-requires-clause-other : goal.close_link-unplug-requires-clause-other
 close_link-unplug-requires-clause-other g t c =
     let left = half-left c.args.self.now.book c.close_both-was.new.self.book c.close_both-was.ensures.half in
-    let k = rw c.ask_closed.ensures.book at c.calm_effects.ensures.lives in
+    let k = rw c.ask_closed.ensures.book at c.calm_effects-place.ensures.lives in
     leaving-is _ c.args.at (k.calm.shrinks.same_leaves c.args.peer.obj.0 c.args.peer.slot ∙ ap leaving_to left)
 
 pub close_link-unplug-requires-clause-apart : goal.close_link-unplug-requires-clause-apart
@@ -81,13 +82,13 @@ pub close_link-returns-clause-lives : goal.close_link-returns-clause-lives
 unfolding Calm-link
 close_link-returns-clause-lives g t c =
     let b = c.close_both-was.ensures in
-    let k = rw c.ask_closed.ensures.book at c.calm_effects.ensures.lives in
+    let k = rw c.ask_closed.ensures.book at c.calm_effects-place.ensures.lives in
     let gone = half-gone c.requires.steady.whole.links c.requires.linked b.half in
     let left = half-left c.args.self.now.book c.close_both-was.new.self.book b.half in
     record {
       calm = Calm-link c.requires.steady.whole.links c.requires.linked b.told b.run b.was b.half k.calm c.unplug.ensures.ends.0.ends;
-      lives = Lives-closed _ _ c.args.peer.obj.0 (lent c.ask_closed.new.fx) (λ st. runs_of (nature g.N.Node.kind_of g.N.Load.Parts.first g.N.Load.Parts.second) c.args.peer.obj.0 silence true c.ask_closed.new.fx ++ st) (λ st. Closes c.args.at c.args.cause.now ∷ st) (λ x n. b.half.busy_set x ∙ but_other c.args.peer.obj.0 true (busy c.args.self.now.book) x n) (b.lives c.args.now) (Lives-above (λ st. Unlinks c.args.at c.args.peer ∷ st) (rw c.ask_closed.ensures.book at c.ask_closed.ensures.lives (g.O.Outside.events c.close_both-was.new.out))) k.lives (c.unplug.ensures.ends.0.lives c.args.now)
-          (λ bs ds es gs h i j z. Calms-link c.args.at c.args.peer _ _ c.requires.steady.whole.links c.requires.linked gone left (λ n. below-bytes (nature g.N.Node.kind_of g.N.Load.Parts.first g.N.Load.Parts.second) [] 0 c.ask_closed.new.fx c.ask_closed.ensures.asks n) (below-zero (nature g.N.Node.kind_of g.N.Load.Parts.first g.N.Load.Parts.second) [] 0 c.ask_closed.new.fx c.ask_closed.ensures.asks) h i j z);
+      lives = Lives-closed _ _ c.args.peer.obj.0 (lent c.ask_closed.new.fx) (λ st. runs_of (nature g.N.Node.kind_of g.N.Node.mark_of g.N.Load.Parts.first g.N.Load.Parts.second) c.args.peer.obj.0 silence true c.ask_closed.new.fx ++ st) (λ st. Closes c.args.at c.args.cause.now ∷ st) (λ x n. b.half.busy_set x ∙ but_other c.args.peer.obj.0 true (busy c.args.self.now.book) x n) (b.lives c.args.now) (Lives-above (λ st. Unlinks c.args.at c.args.peer ∷ st) (rw c.ask_closed.ensures.book at c.ask_closed.ensures.lives (g.O.Outside.events c.close_both-was.new.out))) k.lives (c.unplug.ensures.ends.0.lives c.args.now)
+          (λ bs ds es gs h i j z. Calms-link c.args.at c.args.peer _ _ c.requires.steady.whole.links c.requires.linked gone left (λ n. below-bytes (nature g.N.Node.kind_of g.N.Node.mark_of g.N.Load.Parts.first g.N.Load.Parts.second) [] 0 c.ask_closed.new.fx c.ask_closed.ensures.asks n) (below-zero (nature g.N.Node.kind_of g.N.Node.mark_of g.N.Load.Parts.first g.N.Load.Parts.second) [] 0 c.ask_closed.new.fx c.ask_closed.ensures.asks) h i j z);
     }
 
 pub close_port-returns-in-Open-clause-lives : goal.close_port-returns-in-Open-clause-lives
@@ -109,28 +110,28 @@ close_port-returns-in-Leaving-clause-lives g t c = CalmFor-turn _ _ _ _ _ _ (λ 
 pub close_port-returns-in-Closed-clause-lives : goal.close_port-returns-in-Closed-clause-lives
 close_port-returns-in-Closed-clause-lives g t c = CalmFor-turn _ _ _ _ _ _ (λ st. Closes c.args.at c.args.cause.now ∷ st) (is_shut c.args.at) (Given-none _) (λ st ds s k. ([], closes_none c.args.at c.args.cause.now (ap open_count (sym c.in-Closed.ensures)), k)) closing-idle
 
-pub enter_down_by-enter_in-was-requires : goal.enter_down_by-enter_in-was-requires
-enter_down_by-enter_in-was-requires g t c = record { lives = open-live _ _ _ c.requires.open; place = c.requires.place }
+pub enter_down_with-enter_in-was-requires : goal.enter_down_with-enter_in-was-requires
+enter_down_with-enter_in-was-requires g t c = record { lives = open-live _ _ _ c.requires.open; place = c.requires.place }
 
 pub fail-take_back-requires-clause-lives : goal.fail-take_back-requires-clause-lives
 fail-take_back-requires-clause-lives g t c = busy-live _ _ c.requires.runs
 
-pub pass_down-returns-in-Open-clause-lives : goal.pass_down-returns-in-Open-clause-lives
+pub pass_down-returns-then-is_free_of_live-clause-lives : goal.pass_down-returns-then-is_free_of_live-clause-lives
 unfolding Calm-sent
-pass_down-returns-in-Open-clause-lives g t c = record { calm = Calm-sent _ _ _ c.send.ensures.told; lives = Lives-weaken (λ x w v k. k.1) (λ ds k. k) (Lives-turn _ c.args.now _ _ (λ st. Sends c.args.at (said c.args.msg.now) ∷ st) here (goes_out c.args.at (said c.args.msg.now)) c.send.ensures.given (λ st ds s k. ([], leaves c.args.at (said c.args.msg.now) (sym c.in-Open.ensures), k)) (Calms-idle (Calms-turn _ _ _) (λ p q x y w v i j. Passing-open c.args.self.now.book c.args.at _ (sym c.in-Open.ensures) p q y x.sent y.taken w v j i))) }
+pass_down-returns-then-is_free_of_live-clause-lives g t c = record { calm = Calm-sent _ _ _ c.send_part.ensures.told; lives = Lives-weaken (λ x w v k. k.1) (λ ds k. k) (Lives-turn _ c.args.now _ _ (λ st. Sends c.args.at (said_with c.args.emit.now c.args.rec (c.args.first.now ++ c.args.second.now)) ∷ st) here (goes_out c.args.at (said_with c.args.emit.now c.args.rec (c.args.first.now ++ c.args.second.now))) c.send_part.ensures.given (λ st ds s k. ([], leaves c.args.at (said_with c.args.emit.now c.args.rec (c.args.first.now ++ c.args.second.now)) (c.is_free_of_live.ensures.0 c.if-is_free_of_live.true), k)) (Calms-idle (Calms-turn _ _ _) (λ p q x y w v i j. Passing-open c.args.self.now.book c.args.at _ (c.is_free_of_live.ensures.0 c.if-is_free_of_live.true) p q y x.sent y.taken w v j i))) }
 
-pub pass_down-returns-in-Leaving-clause-lives : goal.pass_down-returns-in-Leaving-clause-lives
+pub hand_down-returns-in-Leaving-clause-lives : goal.hand_down-returns-in-Leaving-clause-lives
 unfolding Calm-dropped
-pass_down-returns-in-Leaving-clause-lives g t c = record {
+hand_down-returns-in-Leaving-clause-lives g t c = record {
   calm = Calm-dropped _ _ _ c.args.at (Leaving c.in-Leaving.field-0) (sym c.in-Leaving.ensures) tt (rw c.spelled.ensures at c.event.ensures.told);
-  lives = Lives-weaken (λ x w v k. k.1) (λ ds k. Calms-idle k (λ p q x y w v i j. Passing-shut c.args.self.now.book c.args.at _ (ap open_count (sym c.in-Leaving.ensures)) p q y w v i)) (Lives-plain g.N.Node.stands c.args.now _ _ (λ st. Sends c.args.at (said c.args.msg.now) ∷ st) here (Dropped c.args.at) (Loses-refl _) refl (rw c.spelled.ensures at c.event.ensures.given) (λ st ds s k. ([], drops c.args.at (said c.args.msg.now) (ap open_count (sym c.in-Leaving.ensures)), k)) (Calms-plain _ _ _ (Dropped c.args.at) (Mild-same refl (λ x k. refl)) (λ p a. refl)));
+  lives = Lives-weaken (λ x w v k. k.1) (λ ds k. Calms-idle k (λ p q x y w v i j. Passing-shut c.args.self.now.book c.args.at _ (ap open_count (sym c.in-Leaving.ensures)) p q y w v i)) (Lives-plain g.N.Node.stands c.args.now _ _ (λ st. Sends c.args.at (said_with c.args.emit.now c.args.rec (c.args.first.now ++ c.args.second.now)) ∷ st) here (Dropped c.args.at) (Loses-refl _) refl (rw c.spelled.ensures at c.event.ensures.given) (λ st ds s k. ([], drops c.args.at (said_with c.args.emit.now c.args.rec (c.args.first.now ++ c.args.second.now)) (ap open_count (sym c.in-Leaving.ensures)), k)) (Calms-plain _ _ _ (Dropped c.args.at) (Mild-same refl (λ x k. refl)) (λ p a. refl)));
 }
 
-pub pass_down-returns-in-Closed-clause-lives : goal.pass_down-returns-in-Closed-clause-lives
+pub hand_down-returns-in-Closed-clause-lives : goal.hand_down-returns-in-Closed-clause-lives
 unfolding Calm-dropped
-pass_down-returns-in-Closed-clause-lives g t c = record {
+hand_down-returns-in-Closed-clause-lives g t c = record {
   calm = Calm-dropped _ _ _ c.args.at Closed (sym c.in-Closed.ensures) tt (rw c.spelled-in-Closed.ensures at c.event-in-Closed.ensures.told);
-  lives = Lives-weaken (λ x w v k. k.1) (λ ds k. Calms-idle k (λ p q x y w v i j. Passing-shut c.args.self.now.book c.args.at _ (ap open_count (sym c.in-Closed.ensures)) p q y w v i)) (Lives-plain g.N.Node.stands c.args.now _ _ (λ st. Sends c.args.at (said c.args.msg.now) ∷ st) here (Dropped c.args.at) (Loses-refl _) refl (rw c.spelled-in-Closed.ensures at c.event-in-Closed.ensures.given) (λ st ds s k. ([], drops c.args.at (said c.args.msg.now) (ap open_count (sym c.in-Closed.ensures)), k)) (Calms-plain _ _ _ (Dropped c.args.at) (Mild-same refl (λ x k. refl)) (λ p a. refl)));
+  lives = Lives-weaken (λ x w v k. k.1) (λ ds k. Calms-idle k (λ p q x y w v i j. Passing-shut c.args.self.now.book c.args.at _ (ap open_count (sym c.in-Closed.ensures)) p q y w v i)) (Lives-plain g.N.Node.stands c.args.now _ _ (λ st. Sends c.args.at (said_with c.args.emit.now c.args.rec (c.args.first.now ++ c.args.second.now)) ∷ st) here (Dropped c.args.at) (Loses-refl _) refl (rw c.spelled-in-Closed.ensures at c.event-in-Closed.ensures.given) (λ st ds s k. ([], drops c.args.at (said_with c.args.emit.now c.args.rec (c.args.first.now ++ c.args.second.now)) (ap open_count (sym c.in-Closed.ensures)), k)) (Calms-plain _ _ _ (Dropped c.args.at) (Mild-same refl (λ x k. refl)) (λ p a. refl)));
 }
 
 pub run_closes-returns-in_default-clause-lives : goal.run_closes-returns-in_default-clause-lives
@@ -148,29 +149,29 @@ run_down-returns-else-emit-clause-lives g t c =
 
 pub run_downs-returns-clause-lives : goal.run_downs-returns-clause-lives
 run_downs-returns-clause-lives g t c =
-    let a = c.run_down.ensures.lives in
-    let b = c.run_down-2.ensures.lives in
-    CalmFor-opened (λ st. append_assoc (emit_of (nature g.N.Node.kind_of g.N.Load.Parts.first g.N.Load.Parts.second) c.args.id.0 (said c.args.msg.now) c.args.downs.now.first) (emit_of (nature g.N.Node.kind_of g.N.Load.Parts.first g.N.Load.Parts.second) c.args.id.0 (said c.args.msg.now) c.args.downs.now.second) st) (CalmFor-back (carried c.args.downs.now.first) (carried c.args.downs.now.second) a b
-    (λ ds p q i j w v h t. let z = Downs-few (nature g.N.Node.kind_of g.N.Load.Parts.first g.N.Load.Parts.second) _ _ _ a.lives.moved.links a.lives.moved.shuts c.args.id.0 _ c.args.downs.now c.requires.downs p q j (account (nature g.N.Node.kind_of g.N.Load.Parts.first g.N.Load.Parts.second) q j ds) w v h in (z.0, z.1, λ _. z.2)))
+    let a = c.run_down-place.ensures.lives in
+    let b = c.run_down.ensures.lives in
+    CalmFor-opened (λ st. append_assoc (emit_of (nature g.N.Node.kind_of g.N.Node.mark_of g.N.Load.Parts.first g.N.Load.Parts.second) c.args.id.0 (said c.args.msg.now) c.args.downs.now.first) (emit_of (nature g.N.Node.kind_of g.N.Node.mark_of g.N.Load.Parts.first g.N.Load.Parts.second) c.args.id.0 (said c.args.msg.now) c.args.downs.now.second) st) (CalmFor-back (carried c.args.downs.now.first) (carried c.args.downs.now.second) a b
+    (λ ds p q i j w v h t. let z = Downs-few (nature g.N.Node.kind_of g.N.Node.mark_of g.N.Load.Parts.first g.N.Load.Parts.second) _ _ _ a.lives.moved.links a.lives.moved.shuts c.args.id.0 _ c.args.downs.now c.requires.downs p q j (account (nature g.N.Node.kind_of g.N.Node.mark_of g.N.Load.Parts.first g.N.Load.Parts.second) q j ds) w v h in (z.0, z.1, λ _. z.2)))
 
 pub send_down-take_load-requires-clause-lives : goal.send_down-take_load-requires-clause-lives
-send_down-take_load-requires-clause-lives g t c = busy-live _ _ (c.pass_down.ensures.lives.calm.shrinks.same_busy c.args.id.0 ∙ c.requires.runs)
+send_down-take_load-requires-clause-lives g t c = busy-live _ _ (c.pass_down-place.ensures.lives.calm.shrinks.same_busy c.args.id.0 ∙ c.requires.runs)
 
-pub enter_down_by-ask_down-done-requires-clause-lives : goal.enter_down_by-ask_down-done-requires-clause-lives
-enter_down_by-ask_down-done-requires-clause-lives g t c = busy-live _ _ c.enter_in-was.ensures.runs
+pub enter_down_with-ask_down-done-requires-clause-lives : goal.enter_down_with-ask_down-done-requires-clause-lives
+enter_down_with-ask_down-done-requires-clause-lives g t c = busy-live _ _ c.enter_in-was.ensures.runs
 
-pub enter_down_by-leave-requires-clause-lives : goal.enter_down_by-leave-requires-clause-lives
-enter_down_by-leave-requires-clause-lives g t c =
-    busy-live _ _ (c.after_down.ensures.lives.calm.shrinks.same_busy c.args.at.obj.0 ∙ rw c.ask_down-done.ensures.book c.enter_in-was.ensures.runs)
+pub enter_down_with-leave-requires-clause-lives : goal.enter_down_with-leave-requires-clause-lives
+enter_down_with-leave-requires-clause-lives g t c =
+    busy-live _ _ (c.after_down-place.ensures.lives.calm.shrinks.same_busy c.args.at.obj.0 ∙ rw c.ask_down-done.ensures.book c.enter_in-was.ensures.runs)
 
-pub enter_down_by-returns-clause-lives : goal.enter_down_by-returns-clause-lives
+pub enter_down_with-returns-clause-lives : goal.enter_down_with-returns-clause-lives
 unfolding Calm-entry
-enter_down_by-returns-clause-lives g t c =
+enter_down_with-returns-clause-lives g t c =
     let b = c.enter_in-was.ensures in
-    let k = rw c.ask_down-done.ensures.book at c.after_down.ensures.lives in
+    let k = rw c.ask_down-done.ensures.book at c.after_down-place.ensures.lives in
     let e = c.leave.ensures.ends Down (λ e. cc) in
-    let r = Lives-entry _ _ c.args.at.obj.0 (lent c.ask_down-done.new.fx) (λ st. runs_of (nature g.N.Node.kind_of g.N.Load.Parts.first g.N.Load.Parts.second) c.args.at.obj.0 (said c.args.msg.now) c.ask_down-done.result c.ask_down-done.new.fx ++ st) (λ st. Gives c.args.at (said c.args.msg.now) ∷ st) (Entered c.args.at Down) (λ done fx. down (said c.args.msg.now) c.args.now done fx) (λ x n. b.sets.busy_set x ∙ but_other c.args.at.obj.0 true (busy c.args.self.now.book) x n) (Loses-same c.args.self.now.nodes.items b.sets.objects) (scene-busy b.sets) b.given (λ st ds s k. (_, enters_down c.args.at (said c.args.msg.now) c.requires.slot c.requires.open, k)) (rw (c.ask_down-done.ensures.book, sym c.requires.slot) at c.ask_down-done.ensures.lives (g.O.Outside.events c.enter_in-was.new.out)) k.lives (e.lives c.args.now)
-    (λ ds es gs x y z. Calms-down c.args.at (asked_sent (nature g.N.Node.kind_of g.N.Load.Parts.first g.N.Load.Parts.second) (said c.args.msg.now).bytes c.ask_down-done.result c.ask_down-done.new.fx) (asked_whole (said c.args.msg.now).bytes c.ask_down-done.result) (asked_left (said c.args.msg.now).bytes c.ask_down-done.result) (said c.args.msg.now).bytes c.requires.slot (rw (b.sets.same_port c.args.at.obj.0 c.args.at.slot) c.requires.open) (IsWhole-enter b.sets c.requires.steady.whole).links (asked-zero (nature g.N.Node.kind_of g.N.Load.Parts.first g.N.Load.Parts.second) _ _ c.ask_down-done.result c.ask_down-done.new.fx c.ask_down-done.ensures.asks) (whole-only _ c.ask_down-done.result) (whole-left _ c.ask_down-done.result) (Calms-enter _ _ _ c.args.at c.requires.slot (Mild-busy b.sets)) x y z) in (
+    let r = Lives-entry _ _ c.args.at.obj.0 (lent c.ask_down-done.new.fx) (λ st. runs_of (nature g.N.Node.kind_of g.N.Node.mark_of g.N.Load.Parts.first g.N.Load.Parts.second) c.args.at.obj.0 (said c.args.msg.now) c.ask_down-done.result c.ask_down-done.new.fx ++ st) (λ st. Gives c.args.at (said c.args.msg.now) ∷ st) (Entered c.args.at Down) (λ done fx. down (said c.args.msg.now) c.args.now done fx) (λ x n. b.sets.busy_set x ∙ but_other c.args.at.obj.0 true (busy c.args.self.now.book) x n) (Loses-same c.args.self.now.nodes.items b.sets.objects) (scene-busy b.sets) b.given (λ st ds s k. (_, enters_down c.args.at (said c.args.msg.now) c.requires.slot c.requires.open, k)) (rw (c.ask_down-done.ensures.book, sym c.requires.slot) at c.ask_down-done.ensures.lives (g.O.Outside.events c.enter_in-was.new.out)) k.lives (e.lives c.args.now)
+    (λ ds es gs x y z. Calms-down c.args.at (asked_sent (nature g.N.Node.kind_of g.N.Node.mark_of g.N.Load.Parts.first g.N.Load.Parts.second) (said c.args.msg.now).bytes c.ask_down-done.result c.ask_down-done.new.fx) (asked_whole (said c.args.msg.now).bytes c.ask_down-done.result) (asked_left (said c.args.msg.now).bytes c.ask_down-done.result) (said c.args.msg.now).bytes c.requires.slot (rw (b.sets.same_port c.args.at.obj.0 c.args.at.slot) c.requires.open) (IsWhole-enter b.sets c.requires.steady.whole).links (asked-zero (nature g.N.Node.kind_of g.N.Node.mark_of g.N.Load.Parts.first g.N.Load.Parts.second) _ _ c.ask_down-done.result c.ask_down-done.new.fx c.ask_down-done.ensures.asks) (whole-only _ c.ask_down-done.result) (whole-left _ c.ask_down-done.result) (Calms-enter _ _ _ c.args.at c.requires.slot (Mild-busy b.sets)) x y z) in (
       record {
         calm = Calm-entry b.sets b.told b.step (λ st. (c.requires.slot, c.requires.open)) b.was k.calm e.ends;
         lives = r.0;
@@ -178,16 +179,16 @@ enter_down_by-returns-clause-lives g t c =
       r.1,
     )
 
-pub run_downs-run_down-requires-2 : goal.run_downs-run_down-requires-2
-run_downs-run_down-requires-2 g t c =
-    let k = c.run_down.ensures.lives.calm.shrinks in
+pub run_downs-run_down-requires : goal.run_downs-run_down-requires
+run_downs-run_down-requires g t c =
+    let k = c.run_down-place.ensures.lives.calm.shrinks in
     let lower = ranks_fall c.args.id.0 k in
     let fewer = k.opens_fall in
     let runs = k.same_busy c.args.id.0 ∙ c.requires.runs in
     search rules
 
-pub enter_down_by-after_down-requires : goal.enter_down_by-after_down-requires
-enter_down_by-after_down-requires g t c =
+pub enter_down_with-after_down-place-requires : goal.enter_down_with-after_down-place-requires
+enter_down_with-after_down-place-requires g t c =
     let s = c.enter_in-was.ensures.sets in
     let r = s.objects.same_rank c.args.at.obj.0 in
     let o = s.same_opens in
@@ -195,6 +196,7 @@ enter_down_by-after_down-requires g t c =
     let runs : busy c.ask_down-done.new.self.book c.args.at.obj.0 ≡ true = rw book c.enter_in-was.ensures.runs in
     let whole : IsBookWhole c.ask_down-done.new.self.book = rw book (IsWhole-enter s c.requires.steady.whole) in
     let steady : IsSteady g.N.Node.rank_of c.ask_down-done.new.self.book c.ask_down-done.new.self.nodes.items (vec_capacity c.ask_down-done.new.self.nodes) = record { whole = whole; manned = c.ask_down-done.ensures.manned } in
+    let stands : c.args.index ≡ place c.ask_down-done.new.self.book c.args.at.obj.0 = rw book (c.requires.place ∙ sym (s.objects.same_place c.args.at.obj.0)) in
     search rules
 
 pub close_port-returns-in-Open-clause-shut : goal.close_port-returns-in-Open-clause-shut
@@ -208,7 +210,7 @@ close_port-returns-in-Closed-clause-shut g t c = ap open_count (sym c.in-Closed.
 
 pub close_link-returns-clause-shut : goal.close_link-returns-clause-shut
 close_link-returns-clause-shut g t c =
-    shut-link c.close_both-was.ensures.half (rw c.ask_closed.ensures.book at c.calm_effects.ensures.lives.calm) c.unplug.ensures.ends.0.ends
+    shut-link c.close_both-was.ensures.half (rw c.ask_closed.ensures.book at c.calm_effects-place.ensures.lives.calm) c.unplug.ensures.ends.0.ends
 
 pub close_all-returns-clause-shut : goal.close_all-returns-clause-shut
 close_all-returns-clause-shut g t c =
@@ -222,8 +224,8 @@ pub run_closes-returns-in-len1-up-clause-shut : goal.run_closes-returns-in-len1-
 run_closes-returns-in-len1-up-clause-shut g t c =
     closes-step c.args.closes.now (0, record { code = 0; a = 0; b = 0 }) (λ k. open_count (port c.run_closes.new.self.book c.args.id.0 k) ≡ 0) c.in-len1-up.len_at_least (shut-still c.args.id.0 _ c.close_port.ensures.shut c.run_closes.ensures.lives.calm.shrinks) c.run_closes.ensures.shut
 
-pub enter_down_by-ask_down-done-requires-clause-manned : goal.enter_down_by-ask_down-done-requires-clause-manned
-enter_down_by-ask_down-done-requires-clause-manned g t c = IsManned-same c.enter_in-was.ensures.sets.objects c.requires.steady.manned
+pub enter_down_with-ask_down-done-requires-clause-manned : goal.enter_down_with-ask_down-done-requires-clause-manned
+enter_down_with-ask_down-done-requires-clause-manned g t c = IsManned-same c.enter_in-was.ensures.sets.objects c.requires.steady.manned
 
 pub close_port-returns-in-Open-clause-starts : goal.close_port-returns-in-Open-clause-starts
 unfolding Starts-one
@@ -245,7 +247,7 @@ pub close_link-returns-clause-starts : goal.close_link-returns-clause-starts
 unfolding Starts-link
 close_link-returns-clause-starts g t c =
     let b = c.close_both-was.ensures in
-    let k = rw c.ask_closed.ensures.book at c.calm_effects.ensures.lives.calm in
+    let k = rw c.ask_closed.ensures.book at c.calm_effects-place.ensures.lives.calm in
     let e = c.unplug.ensures.ends in
     Shuts-link (Starts-link c.requires.steady.whole.links c.requires.linked b.told b.run b.was b.half k e.0.ends) k.added e.1 refl
 
@@ -264,30 +266,30 @@ close_all-returns-clause-order g t c = λ q n d ps k.
     let k1 = order-port c.args.cause.now (record { obj = x; slot = 1 }) _ _ n _ _ d q1 b.starts (λ h. let i = b.stays h in (ap (λ v. v.book) i.0, ap g.O.Outside.events i.1)) k2.0 k2.1 in
     order-port c.args.cause.now (record { obj = x; slot = 0 }) _ _ n _ _ d q a.starts (λ h. let i = a.stays h in (ap (λ v. v.book) i.0, ap g.O.Outside.events i.1)) k1.0 k1.1
 
-pub enter_down_by-returns-clause-starts : goal.enter_down_by-returns-clause-starts
-enter_down_by-returns-clause-starts g t c =
+pub enter_down_with-returns-clause-starts : goal.enter_down_with-returns-clause-starts
+enter_down_with-returns-clause-starts g t c =
     let b = c.enter_in-was.ensures in
-    Starts-entry b.sets b.told b.step (λ st. (c.requires.slot, c.requires.open)) b.was (rw c.ask_down-done.ensures.book at c.after_down.ensures.lives.calm) (c.leave.ensures.ends Down (λ e. cc)).ends
+    Starts-entry b.sets b.told b.step (λ st. (c.requires.slot, c.requires.open)) b.was (rw c.ask_down-done.ensures.book at c.after_down-place.ensures.lives.calm) (c.leave.ensures.ends Down (λ e. cc)).ends
 
 pub send_down-returns-clause-lives : goal.send_down-returns-clause-lives
 send_down-returns-clause-lives g t c =
     let part : Said = record { tag = c.args.emit.now.tag; rec = c.args.msg.now.rec; a = c.args.emit.now.a; b = c.args.emit.now.b; bytes = c.bytes_of.result.0.now ++ c.bytes_of.result.1.now } in
-    let e : part ≡ said_of (nature g.N.Node.kind_of g.N.Load.Parts.first g.N.Load.Parts.second) (said c.args.msg.now) c.args.emit.now = ap (λ (z : List ℕ). record part { bytes = z }) c.bytes_of.ensures in
-    CalmFor-regain (in_list c.args.emit.now.load) c.requires.runs (subst (λ m. CalmFor g.N.Node.stands (nature g.N.Node.kind_of g.N.Load.Parts.first g.N.Load.Parts.second) c.args.now c.args.self.now.book c.pass_down.new.self.book c.args.self.now.nodes.items c.pass_down.new.self.nodes.items (Same (busy c.args.self.now.book)) (Passing c.args.self.now.book (port_at c.args.id.0 c.args.emit.now.slot) m.bytes) (λ st. Sends (port_at c.args.id.0 c.args.emit.now.slot) m ∷ st) (g.O.Outside.events c.args.out.now) (g.O.Outside.events c.pass_down.new.out)) e c.pass_down.ensures.lives) c.take_load.ensures.lives c.take_load.ensures.book
+    let e : part ≡ said_of (nature g.N.Node.kind_of g.N.Node.mark_of g.N.Load.Parts.first g.N.Load.Parts.second) (said c.args.msg.now) c.args.emit.now = ap (λ (z : List ℕ). record part { bytes = z }) c.bytes_of.ensures in
+    CalmFor-regain (in_list c.args.emit.now.load) c.requires.runs (subst (λ m. CalmFor g.N.Node.stands (nature g.N.Node.kind_of g.N.Node.mark_of g.N.Load.Parts.first g.N.Load.Parts.second) c.args.now c.args.self.now.book c.pass_down-place.new.self.book c.args.self.now.nodes.items c.pass_down-place.new.self.nodes.items (Same (busy c.args.self.now.book)) (Passing c.args.self.now.book (port_at c.args.id.0 c.args.emit.now.slot) m.bytes) (λ st. Sends (port_at c.args.id.0 c.args.emit.now.slot) m ∷ st) (g.O.Outside.events c.args.out.now) (g.O.Outside.events c.pass_down-place.new.out)) e c.pass_down-place.ensures.lives) c.take_load.ensures.lives c.take_load.ensures.book
 
 pub fail-returns-clause-lives : goal.fail-returns-clause-lives
 fail-returns-clause-lives g t c =
     CalmFor-opened (λ st. append_assoc (returns_of c.args.id.0 (lent c.args.fx.now)) (all_closes c.args.id.0 no_memory) st) (CalmFor-first (λ l. Closing l c.args.id.0) (lent c.args.fx.now) c.requires.runs c.take_back.ensures.lives c.close_all.ensures.lives c.take_back.ensures.book (λ p q x y w v i. i) (λ ds k. Calms-fail c.close_all.ensures.shut k))
 
-pub pass_down-returns-in-Linked-clause-lives : goal.pass_down-returns-in-Linked-clause-lives
-pass_down-returns-in-Linked-clause-lives g t c =
-    CalmFor-turned (λ st. Sends c.args.at (said c.args.msg.now) ∷ st) (arrives c.args.at c.in-Linked.peer) (Given-none _) (λ st ds s k. (_, passes c.args.at c.in-Linked.peer (said c.args.msg.now) (sym c.in-Linked.ensures), k)) (CalmFor-weaken (λ x w v i. i) (λ p q x y w v i j. Passing-giving c.args.self.now.book c.args.at c.in-Linked.peer _ c.requires.steady.whole.links c.requires.slot (sym c.in-Linked.ensures) p q y x.sent y.taken w v j i) c.enter_down.ensures.lives.0)
+pub hand_down-returns-in-Linked-clause-lives : goal.hand_down-returns-in-Linked-clause-lives
+hand_down-returns-in-Linked-clause-lives g t c =
+    CalmFor-turned (λ st. Sends c.args.at (said_with c.args.emit.now c.args.rec (c.args.first.now ++ c.args.second.now)) ∷ st) (arrives c.args.at c.in-Linked.peer) (Given-none _) (λ st ds s k. (_, passes c.args.at c.in-Linked.peer (said_with c.args.emit.now c.args.rec (c.args.first.now ++ c.args.second.now)) (sym c.in-Linked.ensures), k)) (CalmFor-weaken (λ x w v i. i) (λ p q x y w v i j. Passing-giving c.args.self.now.book c.args.at c.in-Linked.peer _ c.requires.steady.whole.links c.requires.slot.0 (sym c.in-Linked.ensures) p q y x.sent y.taken w v j i) c.hand_down_to.ensures.lives)
 
 pub after_down-returns-then-done-clause-lives : goal.after_down-returns-then-done-clause-lives
 after_down-returns-then-done-clause-lives g t c =
     let bytes = (said c.args.msg.now).bytes in
     let asks = rw c.if-done.true at c.requires.asks in
-    rw c.if-done.true (CalmFor-weaken (λ x w v i. i) (λ p q x y w v i j. following-done _ c.args.id.0 (asked_sent (nature g.N.Node.kind_of g.N.Load.Parts.first g.N.Load.Parts.second) bytes true c.args.fx.now) (λ n. few_bytes (nature g.N.Node.kind_of g.N.Load.Parts.first g.N.Load.Parts.second) n bytes c.args.fx.now.downs) (λ n. below-bytes (nature g.N.Node.kind_of g.N.Load.Parts.first g.N.Load.Parts.second) bytes _ c.args.fx.now asks n) p q y w v i) c.calm_effects.ensures.lives)
+    rw c.if-done.true (CalmFor-weaken (λ x w v i. i) (λ p q x y w v i j. following-done _ c.args.id.0 (asked_sent (nature g.N.Node.kind_of g.N.Node.mark_of g.N.Load.Parts.first g.N.Load.Parts.second) bytes true c.args.fx.now) (λ n. few_bytes (nature g.N.Node.kind_of g.N.Node.mark_of g.N.Load.Parts.first g.N.Load.Parts.second) n bytes c.args.fx.now.downs) (λ n. below-bytes (nature g.N.Node.kind_of g.N.Node.mark_of g.N.Load.Parts.first g.N.Load.Parts.second) bytes _ c.args.fx.now asks n) p q y w v i) c.calm_effects.ensures.lives)
 
 pub after_down-returns-else-done-clause-lives : goal.after_down-returns-else-done-clause-lives
 after_down-returns-else-done-clause-lives g t c =
@@ -305,5 +307,5 @@ pub close_asked-returns-in_default-clause-shut : goal.close_asked-returns-in_def
 close_asked-returns-in_default-clause-shut g t c =
     closes-none c.args.closes.now (λ k. open_count (port c.args.self.now.book c.args.id.0 k) ≡ 0) c.in_default.len_below
 
-pub enter_down-returns-in-Some-clause-lives : goal.enter_down-returns-in-Some-clause-lives
-enter_down-returns-in-Some-clause-lives g t c = rw (c.keep.ensures.book, c.keep.ensures.nodes) c.enter_down_by.ensures.lives
+pub send_down-pass_down-place-requires : goal.send_down-pass_down-place-requires
+send_down-pass_down-place-requires g t c = let lives = busy-live _ _ c.requires.runs in search rules

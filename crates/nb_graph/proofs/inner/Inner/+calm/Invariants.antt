@@ -24,14 +24,23 @@ decreases-send_down g l = distance (opens l.self.now.book) (rank l.self.now.book
 abbrev pub decreases-pass_down : goal.decreases-pass_down
 decreases-pass_down g l = distance (opens l.self.now.book) (rank l.self.now.book l.at.obj.0) 8
 
+abbrev pub decreases-hand_down : goal.decreases-hand_down
+decreases-hand_down g l = distance (opens l.self.now.book) (rank l.self.now.book l.at.obj.0) 7
+
+abbrev pub decreases-hand_down_to : goal.decreases-hand_down_to
+decreases-hand_down_to g l = distance (opens l.self.now.book) (rank l.self.now.book l.at.obj.0) 18
+
 abbrev pub decreases-enter_down : goal.decreases-enter_down
-decreases-enter_down g l = distance (opens l.self.now.book) (rank l.self.now.book l.at.obj.0) 16
+decreases-enter_down g l = distance (opens l.self.now.book) (rank l.self.now.book l.at.obj.0) 17
 
 abbrev pub decreases-enter_down_anew : goal.decreases-enter_down_anew
-decreases-enter_down_anew g l = distance (opens l.self.now.book) (rank l.self.now.book l.at.obj.0) 15
+decreases-enter_down_anew g l = distance (opens l.self.now.book) (rank l.self.now.book l.at.obj.0) 16
 
 abbrev pub decreases-enter_down_by : goal.decreases-enter_down_by
-decreases-enter_down_by g l = distance (opens l.self.now.book) (rank l.self.now.book l.at.obj.0) 14
+decreases-enter_down_by g l = distance (opens l.self.now.book) (rank l.self.now.book l.at.obj.0) 15
+
+abbrev pub decreases-enter_down_with : goal.decreases-enter_down_with
+decreases-enter_down_with g l = distance (opens l.self.now.book) (rank l.self.now.book l.at.obj.0) 14
 
 abbrev pub decreases-fail : goal.decreases-fail
 decreases-fail g l = distance (opens l.self.now.book) 0 7

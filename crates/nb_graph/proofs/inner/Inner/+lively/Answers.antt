@@ -22,6 +22,7 @@ use Rattle.nb_graph.proofs.LivesLemmas.{Lives-above, Lives-turn, Lives-then, Liv
 use Rattle.nb_graph.specs.Whole.{port_at}
 use Rattle.nb_graph.specs.Again.{Delivered}
 use Rattle.nb_graph.specs.Asked.{asked}
+use Rattle.nb_graph.specs.Sending.{said_with}
 use Rattle.nb_graph.specs.Moves.{none_due}
 use Rattle.nb_graph.specs.Accounts.{few_bytes, fx_bytes}
 use Rattle.nb_graph.specs.Flows.{Delivering, DoesEffects, Leaves, Rising, asked_behind, asked_sent, asked_taken, by_no_slot}
@@ -44,14 +45,14 @@ pub effects-returns-clause-lives : goal.effects-returns-clause-lives
 effects-returns-clause-lives g t c =
     let bytes = (said c.args.msg.now).bytes in
     let x = c.args.id.0 in
-    let sent : ℕ → List ℕ = λ n. fx_bytes (nature g.N.Node.kind_of g.N.Load.Parts.first g.N.Load.Parts.second) n bytes c.args.fx.now in
-    let made = c.run_make.ensures.lives in
-    let downs = c.run_downs.ensures.lives in
-    let ups = c.run_ups.ensures.lives in
+    let sent : ℕ → List ℕ = λ n. fx_bytes (nature g.N.Node.kind_of g.N.Node.mark_of g.N.Load.Parts.first g.N.Load.Parts.second) n bytes c.args.fx.now in
+    let made = c.run_make-place.ensures.lives in
+    let downs = c.run_downs-place.ensures.lives in
+    let ups = c.run_ups-place.ensures.lives in
     let asks = c.requires.asks in
-    LivelyInFor-opened (λ st. runs-then (nature g.N.Node.kind_of g.N.Load.Parts.first g.N.Load.Parts.second) x (said c.args.msg.now) c.args.fx.now st ∙ ap (λ z. makes_of x c.args.fx.now.makes ++ (few_of (nature g.N.Node.kind_of g.N.Load.Parts.first g.N.Load.Parts.second) x (said c.args.msg.now) c.args.fx.now.downs ++ (few_of (nature g.N.Node.kind_of g.N.Load.Parts.first g.N.Load.Parts.second) x (said c.args.msg.now) c.args.fx.now.ups ++ (closes_of x z ++ st)))) (sym c.as_slice.ensures.value)) (LivelyInFor-effects (Leaves c.run_downs.new.self.book (port_at x 0) (few_bytes (nature g.N.Node.kind_of g.N.Load.Parts.first g.N.Load.Parts.second) 0 bytes c.args.fx.now.ups)) (DoesEffects c.run_make.new.self.book x sent) (loads c.args.fx.now.downs) (loads c.args.fx.now.ups) c.requires.runs made downs ups c.close_asked.ensures.lives
+    LivelyInFor-opened (λ st. runs-then (nature g.N.Node.kind_of g.N.Node.mark_of g.N.Load.Parts.first g.N.Load.Parts.second) x (said c.args.msg.now) c.args.fx.now st ∙ ap (λ z. makes_of x c.args.fx.now.makes ++ (few_of (nature g.N.Node.kind_of g.N.Node.mark_of g.N.Load.Parts.first g.N.Load.Parts.second) x (said c.args.msg.now) c.args.fx.now.downs ++ (few_of (nature g.N.Node.kind_of g.N.Node.mark_of g.N.Load.Parts.first g.N.Load.Parts.second) x (said c.args.msg.now) c.args.fx.now.ups ++ (closes_of x z ++ st)))) (sym c.as_slice.ensures.value)) (LivelyInFor-effects (Leaves c.run_downs-place.new.self.book (port_at x 0) (few_bytes (nature g.N.Node.kind_of g.N.Node.mark_of g.N.Load.Parts.first g.N.Load.Parts.second) 0 bytes c.args.fx.now.ups)) (DoesEffects c.run_make-place.new.self.book x sent) (loads c.args.fx.now.downs) (loads c.args.fx.now.ups) c.requires.runs made downs ups c.close_asked.ensures.lives
     (λ ds es a z. Livens-ups x _ ups.lively.grows.same_busy a z)
-    (λ ds es a z. Livens-downs x sent (λ n. few_bytes (nature g.N.Node.kind_of g.N.Load.Parts.first g.N.Load.Parts.second) n bytes c.args.fx.now.downs) (few_bytes (nature g.N.Node.kind_of g.N.Load.Parts.first g.N.Load.Parts.second) 0 bytes c.args.fx.now.ups) (made.lively.grows.same_busy x ∙ c.requires.runs) (λ n o. downs-bytes (nature g.N.Node.kind_of g.N.Load.Parts.first g.N.Load.Parts.second) bytes _ c.args.fx.now asks.ups n o) (ups-bytes (nature g.N.Node.kind_of g.N.Load.Parts.first g.N.Load.Parts.second) bytes _ c.args.fx.now asks.downs) downs.calm.shrinks.same_busy a z)
+    (λ ds es a z. Livens-downs x sent (λ n. few_bytes (nature g.N.Node.kind_of g.N.Node.mark_of g.N.Load.Parts.first g.N.Load.Parts.second) n bytes c.args.fx.now.downs) (few_bytes (nature g.N.Node.kind_of g.N.Node.mark_of g.N.Load.Parts.first g.N.Load.Parts.second) 0 bytes c.args.fx.now.ups) (made.lively.grows.same_busy x ∙ c.requires.runs) (λ n o. downs-bytes (nature g.N.Node.kind_of g.N.Node.mark_of g.N.Load.Parts.first g.N.Load.Parts.second) bytes _ c.args.fx.now asks.ups n o) (ups-bytes (nature g.N.Node.kind_of g.N.Node.mark_of g.N.Load.Parts.first g.N.Load.Parts.second) bytes _ c.args.fx.now asks.downs) downs.calm.shrinks.same_busy a z)
     (λ ds es a z. Livens-effects x sent made.lively.grows.same_busy a z))
 
 pub enter_up_by-enter_in-was-requires : goal.enter_up_by-enter_in-was-requires
@@ -59,19 +60,19 @@ enter_up_by-enter_in-was-requires g t c = record { lives = open-live _ _ _ c.req
 
 pub enter_up_by-leave-requires-clause-lives : goal.enter_up_by-leave-requires-clause-lives
 enter_up_by-leave-requires-clause-lives g t c =
-    busy-live _ _ (c.deliver.ensures.lives.0.lively.grows.same_busy c.args.at.obj.0 ∙ c.enter_in-was.ensures.runs)
+    busy-live _ _ (c.deliver-place.ensures.lives.0.lively.grows.same_busy c.args.at.obj.0 ∙ c.enter_in-was.ensures.runs)
 
 pub enter_up_by-returns-clause-lives : goal.enter_up_by-returns-clause-lives
 unfolding Lively-entry
 enter_up_by-returns-clause-lives g t c =
     let b = c.enter_in-was.ensures in
-    let d = c.deliver.ensures.lives in
+    let d = c.deliver-place.ensures.lives in
     let e = c.leave.ensures.ends Up (λ e. cc) in
     let y = c.args.at.obj.0 in
     let old = c.args.self.now.book in
     let r = Lives-entry_up (busy old) _ y (λ st. Gives c.args.at (said c.args.msg.now) ∷ st) (Entered c.args.at Up) (λ done fx. up c.args.at.slot (said c.args.msg.now) c.args.now done fx) (λ x n. b.sets.busy_set x ∙ but_other y true (busy old) x n) (under-idle old y c.requires.under) (Loses-same c.args.self.now.nodes.items b.sets.objects) (scene-busy b.sets) b.given (λ st ds s k. (_, enters_up c.args.at (said c.args.msg.now) c.requires.slot.0 c.requires.open, k)) (d.0.lives, d.1) (e.lives c.args.now) (λ ds es z k. Livens-entry {inner = Delivering c.enter_in-was.new.self c.args.at (said c.args.msg.now).bytes by_no_slot} {outer = Rising old c.args.at (said c.args.msg.now).bytes} y (Entered c.args.at Up) (under-idle old y c.requires.under) (λ x n. b.sets.busy_set x ∙ but_other y true (busy old) x n) (Mild-busy b.sets) (up-notes c.args.at) (λ p q a w v i. rises-delivering old c.enter_in-was.new.self c.args.at (said c.args.msg.now).bytes (under-idle old y c.requires.under) (λ x n. b.sets.busy_set x ∙ but_other y true (busy old) x n) p q a w v i) z k) in (
       record {
-        lively = Lively-entry b.sets b.told b.step (λ st. (c.requires.slot.0, c.requires.slot.1, c.requires.open)) b.was d.0.lively e.ends;
+        lively = Lively-entry b.sets b.told b.step (λ st. (c.requires.slot.0, c.requires.slot.1, c.requires.open)) (sym (under-idle c.args.self.now.book c.args.at.obj.0 c.requires.under)) d.0.lively e.ends;
         lives = r.0;
       },
       r.1,
@@ -80,10 +81,10 @@ enter_up_by-returns-clause-lives g t c =
 pub enter_up_by-returns-clause-starts : goal.enter_up_by-returns-clause-starts
 enter_up_by-returns-clause-starts g t c =
     let b = c.enter_in-was.ensures in
-    Starts-lively b.sets b.told b.step (λ st. (c.requires.slot.0, c.requires.slot.1, c.requires.open)) b.was c.deliver.ensures.lives.0.lively (c.leave.ensures.ends Up (λ e. cc)).ends
+    Starts-lively b.sets b.told b.step (λ st. (c.requires.slot.0, c.requires.slot.1, c.requires.open)) (sym (under-idle c.args.self.now.book c.args.at.obj.0 c.requires.under)) c.deliver-place.ensures.lives.0.lively (c.leave.ensures.ends Up (λ e. cc)).ends
 
-pub enter_up_by-deliver-requires : goal.enter_up_by-deliver-requires
-enter_up_by-deliver-requires g t c =
+pub enter_up_by-deliver-place-requires : goal.enter_up_by-deliver-place-requires
+enter_up_by-deliver-place-requires g t c =
     let s = c.enter_in-was.ensures.sets in
     let r = s.objects.same_rank c.args.at.obj.0 in
     let runs = c.enter_in-was.ensures.runs in
@@ -92,11 +93,11 @@ enter_up_by-deliver-requires g t c =
     let steady : IsSteady g.N.Node.rank_of c.enter_in-was.new.self c.args.self.now.nodes.items (vec_capacity c.args.self.now.nodes) = record { whole = IsWhole-enter s c.requires.steady.whole; manned = IsManned-same s.objects c.requires.steady.manned } in
     search rules
 
-pub effects-run_ups-requires : goal.effects-run_ups-requires
-effects-run_ups-requires g t c =
+pub effects-run_ups-place-requires : goal.effects-run_ups-place-requires
+effects-run_ups-place-requires g t c =
     let x = c.args.id.0 in
-    let m = c.run_make.ensures.lives.lively.grows in
-    let k = c.run_downs.ensures.lives.calm.shrinks in
+    let m = c.run_make-place.ensures.lives.lively.grows in
+    let k = c.run_downs-place.ensures.lives.calm.shrinks in
     let first = m.kept x c.requires.runs in
     let then = m.same_busy x ∙ c.requires.runs in
     let runs = k.same_busy x ∙ then in
@@ -104,8 +105,8 @@ effects-run_ups-requires g t c =
     let below = IsBelow-grows x (Grows-trans m (Grows-shrinks k)) c.requires.runs c.requires.below in
     search rules
 
-pub pass_up-enter_up-requires : goal.pass_up-enter_up-requires
-pass_up-enter_up-requires g t c =
+pub hand_up-hand_up_to-requires : goal.hand_up-hand_up_to-requires
+hand_up-hand_up_to-requires g t c =
     let b = c.args.self.now.book in
     let p = c.args.at in
     let q = c.in-Linked.peer in
@@ -123,76 +124,88 @@ pass_up-enter_up-requires g t c =
     let under : IsUnder (rank b q.obj.0) b = λ x h. let i = c.requires.below x h in omega arith in
     search rules
 
-pub pass_up-returns-in-Open-clause-lives : goal.pass_up-returns-in-Open-clause-lives
+pub pass_up-returns-then-is_free_of_live-clause-lives : goal.pass_up-returns-then-is_free_of_live-clause-lives
 unfolding Calm-sent
-pass_up-returns-in-Open-clause-lives g t c =
-    LivelyFor-calm (record { calm = Calm-sent _ _ _ c.send.ensures.told; lives = Lives-weaken (λ x w v k. k.1) (λ ds k. k) (Lives-turn _ c.args.now _ _ (λ st. Sends c.args.at (said c.args.msg.now) ∷ st) here (goes_out c.args.at (said c.args.msg.now)) c.send.ensures.given (λ st ds s k. ([], leaves c.args.at (said c.args.msg.now) (sym c.in-Open.ensures), k)) (Calms-idle (Calms-turn _ _ _) (λ p q x y w v i j. Leaves-open c.args.self.now.book c.args.at _ (sym c.in-Open.ensures) p q y x.sent y.taken w v j i))) })
+pass_up-returns-then-is_free_of_live-clause-lives g t c =
+    LivelyFor-calm (record { calm = Calm-sent _ _ _ c.send_part.ensures.told; lives = Lives-weaken (λ x w v k. k.1) (λ ds k. k) (Lives-turn _ c.args.now _ _ (λ st. Sends c.args.at (said_with c.args.emit.now c.args.rec (c.args.first.now ++ c.args.second.now)) ∷ st) here (goes_out c.args.at (said_with c.args.emit.now c.args.rec (c.args.first.now ++ c.args.second.now))) c.send_part.ensures.given (λ st ds s k. ([], leaves c.args.at (said_with c.args.emit.now c.args.rec (c.args.first.now ++ c.args.second.now)) (c.is_free_of_live.ensures.0 c.if-is_free_of_live.true), k)) (Calms-idle (Calms-turn _ _ _) (λ p q x y w v i j. Leaves-open c.args.self.now.book c.args.at _ (c.is_free_of_live.ensures.0 c.if-is_free_of_live.true) p q y x.sent y.taken w v j i))) })
 
-pub pass_up-returns-in-Leaving-clause-lives : goal.pass_up-returns-in-Leaving-clause-lives
+pub hand_up-returns-in-Leaving-clause-lives : goal.hand_up-returns-in-Leaving-clause-lives
 unfolding Calm-dropped
-pass_up-returns-in-Leaving-clause-lives g t c =
+hand_up-returns-in-Leaving-clause-lives g t c =
     LivelyFor-calm (record {
       calm = Calm-dropped _ _ _ c.args.at (Leaving c.in-Leaving.field-0) (sym c.in-Leaving.ensures) tt (rw c.spelled.ensures at c.event.ensures.told);
-      lives = Lives-weaken (λ x w v k. k.1) (λ ds k. Calms-idle k (λ p q x y w v i j. Leaves-shut c.args.self.now.book c.args.at _ (ap open_count (sym c.in-Leaving.ensures)) p q y w v i)) (Lives-plain g.N.Node.stands c.args.now _ _ (λ st. Sends c.args.at (said c.args.msg.now) ∷ st) here (Dropped c.args.at) (Loses-refl _) refl (rw c.spelled.ensures at c.event.ensures.given) (λ st ds s k. ([], drops c.args.at (said c.args.msg.now) (ap open_count (sym c.in-Leaving.ensures)), k)) (Calms-plain _ _ _ (Dropped c.args.at) (Mild-same refl (λ x k. refl)) (λ p a. refl)));
+      lives = Lives-weaken (λ x w v k. k.1) (λ ds k. Calms-idle k (λ p q x y w v i j. Leaves-shut c.args.self.now.book c.args.at _ (ap open_count (sym c.in-Leaving.ensures)) p q y w v i)) (Lives-plain g.N.Node.stands c.args.now _ _ (λ st. Sends c.args.at (said_with c.args.emit.now c.args.rec (c.args.first.now ++ c.args.second.now)) ∷ st) here (Dropped c.args.at) (Loses-refl _) refl (rw c.spelled.ensures at c.event.ensures.given) (λ st ds s k. ([], drops c.args.at (said_with c.args.emit.now c.args.rec (c.args.first.now ++ c.args.second.now)) (ap open_count (sym c.in-Leaving.ensures)), k)) (Calms-plain _ _ _ (Dropped c.args.at) (Mild-same refl (λ x k. refl)) (λ p a. refl)));
     })
 
-pub pass_up-returns-in-Closed-clause-lives : goal.pass_up-returns-in-Closed-clause-lives
+pub hand_up-returns-in-Closed-clause-lives : goal.hand_up-returns-in-Closed-clause-lives
 unfolding Calm-dropped
-pass_up-returns-in-Closed-clause-lives g t c =
+hand_up-returns-in-Closed-clause-lives g t c =
     LivelyFor-calm (record {
       calm = Calm-dropped _ _ _ c.args.at Closed (sym c.in-Closed.ensures) tt (rw c.spelled-in-Closed.ensures at c.event-in-Closed.ensures.told);
-      lives = Lives-weaken (λ x w v k. k.1) (λ ds k. Calms-idle k (λ p q x y w v i j. Leaves-shut c.args.self.now.book c.args.at _ (ap open_count (sym c.in-Closed.ensures)) p q y w v i)) (Lives-plain g.N.Node.stands c.args.now _ _ (λ st. Sends c.args.at (said c.args.msg.now) ∷ st) here (Dropped c.args.at) (Loses-refl _) refl (rw c.spelled-in-Closed.ensures at c.event-in-Closed.ensures.given) (λ st ds s k. ([], drops c.args.at (said c.args.msg.now) (ap open_count (sym c.in-Closed.ensures)), k)) (Calms-plain _ _ _ (Dropped c.args.at) (Mild-same refl (λ x k. refl)) (λ p a. refl)));
+      lives = Lives-weaken (λ x w v k. k.1) (λ ds k. Calms-idle k (λ p q x y w v i j. Leaves-shut c.args.self.now.book c.args.at _ (ap open_count (sym c.in-Closed.ensures)) p q y w v i)) (Lives-plain g.N.Node.stands c.args.now _ _ (λ st. Sends c.args.at (said_with c.args.emit.now c.args.rec (c.args.first.now ++ c.args.second.now)) ∷ st) here (Dropped c.args.at) (Loses-refl _) refl (rw c.spelled-in-Closed.ensures at c.event-in-Closed.ensures.given) (λ st ds s k. ([], drops c.args.at (said_with c.args.emit.now c.args.rec (c.args.first.now ++ c.args.second.now)) (ap open_count (sym c.in-Closed.ensures)), k)) (Calms-plain _ _ _ (Dropped c.args.at) (Mild-same refl (λ x k. refl)) (λ p a. refl)));
     })
 
 pub run_ups-returns-clause-lives : goal.run_ups-returns-clause-lives
 run_ups-returns-clause-lives g t c =
-    let k = c.run_up.ensures.lives in
-    let l = c.run_up-2.ensures.lives in
-    LivelyFor-opened (λ st. append_assoc (emit_of (nature g.N.Node.kind_of g.N.Load.Parts.first g.N.Load.Parts.second) c.args.id.0 (said c.args.msg.now) c.args.ups.now.first) (emit_of (nature g.N.Node.kind_of g.N.Load.Parts.first g.N.Load.Parts.second) c.args.id.0 (said c.args.msg.now) c.args.ups.now.second) st) (LivelyFor-back (carried c.args.ups.now.first) (carried c.args.ups.now.second) k l (λ ds es a z. Livens-few c.args.id.0 _ _ c.requires.runs k.lively.grows.same_busy a z))
+    let k = c.run_up-place.ensures.lives in
+    let l = c.run_late_up.ensures.lives in
+    LivelyFor-opened (λ st. append_assoc (emit_of (nature g.N.Node.kind_of g.N.Node.mark_of g.N.Load.Parts.first g.N.Load.Parts.second) c.args.id.0 (said c.args.msg.now) c.args.ups.now.first) (emit_of (nature g.N.Node.kind_of g.N.Node.mark_of g.N.Load.Parts.first g.N.Load.Parts.second) c.args.id.0 (said c.args.msg.now) c.args.ups.now.second) st) (LivelyFor-back (carried c.args.ups.now.first) (carried c.args.ups.now.second) k l (λ ds es a z. Livens-few c.args.id.0 _ _ c.requires.runs k.lively.grows.same_busy a z))
 
 pub send_up-take_load-requires-clause-lives : goal.send_up-take_load-requires-clause-lives
-send_up-take_load-requires-clause-lives g t c = busy-live _ _ (c.pass_up.ensures.lives.lively.grows.same_busy c.args.id.0 ∙ c.requires.runs)
+send_up-take_load-requires-clause-lives g t c = busy-live _ _ (c.pass_up-place.ensures.lives.lively.grows.same_busy c.args.id.0 ∙ c.requires.runs)
 
 pub run_up-returns-else-emit-clause-lives : goal.run_up-returns-else-emit-clause-lives
 run_up-returns-else-emit-clause-lives g t c =
     let e : c.args.emit.now ≡ None = sym c.emit.view_is ∙ ap (λ z. asked z c.emit.inside.what) c.if-emit.false in
     rw e (LivelyFor-weaken (Back-none _ _ c.requires.runs) (λ p q x y w v i j. i) (LivelyFor-refl _ _ _ _ _ _ (λ p q x y w v i j. leaves-nothing _ _ p q y w v i)))
 
+pub run_late_up-returns-else-emit-clause-lives : goal.run_late_up-returns-else-emit-clause-lives
+run_late_up-returns-else-emit-clause-lives g t c =
+    let e : c.args.emit.now ≡ None = sym c.emit.view_is ∙ ap (λ z. asked z c.emit.inside.what) c.if-emit.false in
+    rw e (LivelyFor-weaken (Back-none _ _ c.requires.runs) (λ p q x y w v i j. i) (LivelyFor-refl _ _ _ _ _ _ (λ p q x y w v i j. leaves-nothing _ _ p q y w v i)))
+
 pub send_up-returns-clause-lives : goal.send_up-returns-clause-lives
 send_up-returns-clause-lives g t c =
     let part : Said = record { tag = c.args.emit.now.tag; rec = c.args.msg.now.rec; a = c.args.emit.now.a; b = c.args.emit.now.b; bytes = c.bytes_of.result.0.now ++ c.bytes_of.result.1.now } in
-    let e : part ≡ said_of (nature g.N.Node.kind_of g.N.Load.Parts.first g.N.Load.Parts.second) (said c.args.msg.now) c.args.emit.now = ap (λ (z : List ℕ). record part { bytes = z }) c.bytes_of.ensures in
-    LivelyFor-regain (in_list c.args.emit.now.load) c.requires.runs (LivelyFor-weaken (λ x w v i. i) (λ p q x y w v i j. leaves-at c.args.self.now.book c.args.id c.args.emit.now.slot _ c.requires.up.0 p q y w v i) (subst (λ m. LivelyFor g.N.Node.stands (nature g.N.Node.kind_of g.N.Load.Parts.first g.N.Load.Parts.second) c.args.now c.args.self.now.book c.pass_up.new.self.book c.args.self.now.nodes.items c.pass_up.new.self.nodes.items (Same (busy c.args.self.now.book)) none_due (Leaves c.args.self.now.book (port_at c.args.id.0 c.args.emit.now.slot) m.bytes) (λ st. Sends (port_at c.args.id.0 c.args.emit.now.slot) m ∷ st) (g.O.Outside.events c.args.out.now) (g.O.Outside.events c.pass_up.new.out)) e c.pass_up.ensures.lives)) c.take_load.ensures.lives c.take_load.ensures.book
+    let e : part ≡ said_of (nature g.N.Node.kind_of g.N.Node.mark_of g.N.Load.Parts.first g.N.Load.Parts.second) (said c.args.msg.now) c.args.emit.now = ap (λ (z : List ℕ). record part { bytes = z }) c.bytes_of.ensures in
+    let there = subst (λ k. LivelyFor g.N.Node.stands (nature g.N.Node.kind_of g.N.Node.mark_of g.N.Load.Parts.first g.N.Load.Parts.second) c.args.now c.args.self.now.book c.pass_up-place.new.self.book c.args.self.now.nodes.items c.pass_up-place.new.self.nodes.items (Same (busy c.args.self.now.book)) none_due (Leaves c.args.self.now.book (port_at c.args.id.0 k) part.bytes) (λ st. Sends (port_at c.args.id.0 k) part ∷ st) (g.O.Outside.events c.args.out.now) (g.O.Outside.events c.pass_up-place.new.out)) (sym c.requires.up.0) c.pass_up-place.ensures.lives in
+    LivelyFor-regain (in_list c.args.emit.now.load) c.requires.runs (LivelyFor-weaken (λ x w v i. i) (λ p q x y w v i j. leaves-at c.args.self.now.book c.args.id c.args.emit.now.slot _ c.requires.up.0 p q y w v i) (subst (λ m. LivelyFor g.N.Node.stands (nature g.N.Node.kind_of g.N.Node.mark_of g.N.Load.Parts.first g.N.Load.Parts.second) c.args.now c.args.self.now.book c.pass_up-place.new.self.book c.args.self.now.nodes.items c.pass_up-place.new.self.nodes.items (Same (busy c.args.self.now.book)) none_due (Leaves c.args.self.now.book (port_at c.args.id.0 c.args.emit.now.slot) m.bytes) (λ st. Sends (port_at c.args.id.0 c.args.emit.now.slot) m ∷ st) (g.O.Outside.events c.args.out.now) (g.O.Outside.events c.pass_up-place.new.out)) e there)) c.take_load.ensures.lives c.take_load.ensures.book
 
-pub run_ups-run_up-requires-2 : goal.run_ups-run_up-requires-2
-run_ups-run_up-requires-2 g t c =
-    let k = c.run_up.ensures.lives.lively.grows in
+pub run_ups-run_late_up-requires : goal.run_ups-run_late_up-requires
+run_ups-run_late_up-requires g t c =
+    let k = c.run_up-place.ensures.lives.lively.grows in
     let x = c.args.id.0 in
     let same = k.kept x c.requires.runs in
     let runs = k.same_busy x ∙ c.requires.runs in
     let below = IsBelow-grows x k c.requires.runs c.requires.below in
     search rules
 
-pub pass_up-returns-in-Linked-clause-lives : goal.pass_up-returns-in-Linked-clause-lives
-pass_up-returns-in-Linked-clause-lives g t c =
-    LivelyFor-turned (λ st. Sends c.args.at (said c.args.msg.now) ∷ st) (arrives c.args.at c.in-Linked.peer) (Given-none _) (λ st ds s k. (_, passes c.args.at c.in-Linked.peer (said c.args.msg.now) (sym c.in-Linked.ensures), k)) (LivelyFor-weaken (λ x w v i. i) (λ p q x y w v i j. Leaves-rising c.args.self.now.book c.args.at c.in-Linked.peer _ c.requires.steady.whole.links c.requires.slot (sym c.in-Linked.ensures) p q y x.sent y.taken w v j i) c.enter_up.ensures.lives.0)
+pub hand_up-returns-in-Linked-clause-lives : goal.hand_up-returns-in-Linked-clause-lives
+hand_up-returns-in-Linked-clause-lives g t c =
+    LivelyFor-turned (λ st. Sends c.args.at (said_with c.args.emit.now c.args.rec (c.args.first.now ++ c.args.second.now)) ∷ st) (arrives c.args.at c.in-Linked.peer) (Given-none _) (λ st ds s k. (_, passes c.args.at c.in-Linked.peer (said_with c.args.emit.now c.args.rec (c.args.first.now ++ c.args.second.now)) (sym c.in-Linked.ensures), k)) (LivelyFor-weaken (λ x w v i. i) (λ p q x y w v i j. Leaves-rising c.args.self.now.book c.args.at c.in-Linked.peer _ c.requires.steady.whole.links c.requires.slot (sym c.in-Linked.ensures) p q y x.sent y.taken w v j i) c.hand_up_to.ensures.lives)
 
 pub run_up-returns-then-emit-clause-lives : goal.run_up-returns-then-emit-clause-lives
 run_up-returns-then-emit-clause-lives g t c =
     let e : c.args.emit.now ≡ Some c.emit.inside.what = sym c.emit.view_is ∙ ap (λ z. asked z c.emit.inside.what) c.if-emit.true in
     let up = rw e at c.requires.up in
-    rw (e, emit-there (nature g.N.Node.kind_of g.N.Load.Parts.first g.N.Load.Parts.second) (said c.args.msg.now).bytes 0 c.emit.inside.what (sym up.0)) c.send_up.ensures.lives
+    rw (e, emit-there (nature g.N.Node.kind_of g.N.Node.mark_of g.N.Load.Parts.first g.N.Load.Parts.second) (said c.args.msg.now).bytes 0 c.emit.inside.what (sym up.0)) c.send_up.ensures.lives
+
+pub run_late_up-returns-then-emit-clause-lives : goal.run_late_up-returns-then-emit-clause-lives
+run_late_up-returns-then-emit-clause-lives g t c =
+    let e : c.args.emit.now ≡ Some c.emit.inside.what = sym c.emit.view_is ∙ ap (λ z. asked z c.emit.inside.what) c.if-emit.true in
+    let up = rw e at c.requires.up in
+    rw (e, emit-there (nature g.N.Node.kind_of g.N.Node.mark_of g.N.Load.Parts.first g.N.Load.Parts.second) (said c.args.msg.now).bytes 0 c.emit.inside.what (sym up.0)) c.send_late_up.ensures.lives
 
 pub give-ask_up-done-requires-clause-lives : goal.give-ask_up-done-requires-clause-lives
 give-ask_up-done-requires-clause-lives g t c = busy-live _ _ c.requires.runs
 
 pub after_up-returns-else-done-clause-grows : goal.after_up-returns-else-done-clause-grows
-after_up-returns-else-done-clause-grows g t c = Grows-shrinks c.fail.ensures.lives.calm.shrinks
+after_up-returns-else-done-clause-grows g t c = Grows-shrinks c.fail-place.ensures.lives.calm.shrinks
 
 pub after_up-returns-else-done-clause-goes : goal.after_up-returns-else-done-clause-goes
 unfolding LivelyIn-calm LivelyIn-lively Lively-calm
 after_up-returns-else-done-clause-goes g t c =
-    let k = c.fail.ensures.lives in
+    let k = c.fail-place.ensures.lives in
     let all = length-append c.args.msg.now.first.now c.args.msg.now.second.now in
     rw c.if-done.false (rw (left-none c.length_of.result (said c.args.msg.now) (omega arith)) (record {
       lively = LivelyIn-calm k.calm;
@@ -202,8 +215,8 @@ after_up-returns-else-done-clause-goes g t c =
 pub after_up-returns-then-done-clause-goes : goal.after_up-returns-then-done-clause-goes
 unfolding LivelyIn-trans
 after_up-returns-then-done-clause-goes g t c =
-    let e = c.effects.ensures.lives in
-    rw c.if-done.true (GoesOn-left g.N.Node.stands (nature g.N.Node.kind_of g.N.Load.Parts.first g.N.Load.Parts.second) c.args.now c.args.at (said c.args.msg.now) c.args.self.now.book c.effects.new.self.book c.left_of.new.self.book c.args.self.now.nodes.items c.effects.new.self.nodes.items c.left_of.new.self.nodes.items _ _ _ c.args.fx.now.took true c.args.fx.now (λ d nd after k. record {
+    let e = c.effects-place.ensures.lives in
+    rw c.if-done.true (GoesOn-left g.N.Node.stands (nature g.N.Node.kind_of g.N.Node.mark_of g.N.Load.Parts.first g.N.Load.Parts.second) c.args.now c.args.at (said c.args.msg.now) c.args.self.now.book c.effects-place.new.self.book c.left_of.new.self.book c.args.self.now.nodes.items c.effects-place.new.self.nodes.items c.left_of.new.self.nodes.items _ _ _ c.args.fx.now.took true c.args.fx.now (λ d nd after k. record {
       lively = LivelyIn-trans e.lively k.lively;
       lives = Lives-then (Lives-above (λ st. Holds c.args.at Up (left c.args.fx.now.took (said c.args.msg.now)) ∷ st) e.lives) k.lives (AllBack-then _ _ c.args.at.obj.0 (lent c.args.fx.now) e.lively.grows.same_busy) (λ ds es x z. Livens-rest c.args.at _ _ c.requires.slot c.requires.runs e.lively.grows.same_busy x z);
     }) (left c.left_of.result (said c.args.msg.now)) (c.left_of.ensures.goes c.args.now))
@@ -211,9 +224,9 @@ after_up-returns-then-done-clause-goes g t c =
 pub give-returns-clause-gives : goal.give-returns-clause-gives
 give-returns-clause-gives g t c =
     let bytes = (said c.args.msg.now).bytes in
-    Gives-goes g.N.Node.stands (nature g.N.Node.kind_of g.N.Load.Parts.first g.N.Load.Parts.second) c.args.now c.args.at (said c.args.msg.now) c.args.self.now.book c.args.self.now.book c.after_up.new.self.book c.args.self.now.nodes.items c.ask_up-done.new.self.nodes.items c.after_up.new.self.nodes.items _ _ _ c.ask_up-done.result c.ask_up-done.new.fx (λ d nd after k.
-    let r = Calls-then (busy c.args.self.now.book) (busy c.args.self.now.book) c.args.at.obj.0 (lent c.ask_up-done.new.fx) (λ done fx. up c.args.at.slot (said c.args.msg.now) c.args.now done fx) (λ x. refl) (rw c.ask_up-done.ensures.book at c.ask_up-done.ensures.lives (g.O.Outside.events c.args.out.now)) k.lives (λ ds es a z. Livens-ask c.args.at (asked_sent (nature g.N.Node.kind_of g.N.Load.Parts.first g.N.Load.Parts.second) bytes c.ask_up-done.result c.ask_up-done.new.fx) (asked_taken c.args.at.slot bytes c.ask_up-done.result c.ask_up-done.new.fx) (asked_taken c.args.at.slot bytes c.ask_up-done.result c.ask_up-done.new.fx c.args.at.slot) (asked_behind bytes c.ask_up-done.result c.ask_up-done.new.fx) bytes c.requires.slot c.requires.open c.requires.steady.whole.links refl (taken-only c.args.at.slot bytes c.ask_up-done.result c.ask_up-done.new.fx) (taken-all c.args.at.slot bytes c.ask_up-done.result c.ask_up-done.new.fx) a.0 a.1 z) in
-    (record { lively = k.lively; lives = r.0 }, r.1)) (left c.after_up.result (said c.args.msg.now)) (rw c.ask_up-done.ensures.book at c.after_up.ensures.goes)
+    Gives-goes g.N.Node.stands (nature g.N.Node.kind_of g.N.Node.mark_of g.N.Load.Parts.first g.N.Load.Parts.second) c.args.now c.args.at (said c.args.msg.now) c.args.self.now.book c.args.self.now.book c.after_up.new.self.book c.args.self.now.nodes.items c.ask_up-done.new.self.nodes.items c.after_up.new.self.nodes.items _ _ _ c.ask_up-done.result c.ask_up-done.new.fx (λ d nd after k.
+    let r = Calls-then (busy c.args.self.now.book) (busy c.args.self.now.book) c.args.at.obj.0 (lent c.ask_up-done.new.fx) (λ done fx. up c.args.at.slot (said c.args.msg.now) c.args.now done fx) (λ x. refl) (rw c.ask_up-done.ensures.book at c.ask_up-done.ensures.lives (g.O.Outside.events c.args.out.now)) k.lives (λ ds es a z. Livens-ask c.args.at (asked_sent (nature g.N.Node.kind_of g.N.Node.mark_of g.N.Load.Parts.first g.N.Load.Parts.second) bytes c.ask_up-done.result c.ask_up-done.new.fx) (asked_taken c.args.at.slot bytes c.ask_up-done.result c.ask_up-done.new.fx) (asked_taken c.args.at.slot bytes c.ask_up-done.result c.ask_up-done.new.fx c.args.at.slot) (asked_behind bytes c.ask_up-done.result c.ask_up-done.new.fx) bytes c.requires.slot c.requires.open c.requires.steady.whole.links refl (taken-only c.args.at.slot bytes c.ask_up-done.result c.ask_up-done.new.fx) (taken-all c.args.at.slot bytes c.ask_up-done.result c.ask_up-done.new.fx) a.0 a.1 z) in
+    (record { lively = k.lively; lives = r.0 }, r.1)) (left c.after_up.result.took (said c.args.msg.now)) (rw c.ask_up-done.ensures.book at c.after_up.ensures.goes)
 
 pub deliver_again-loop-rest-preserved : goal.deliver_again-loop-rest-preserved
 deliver_again-loop-rest-preserved g t c =
@@ -222,27 +235,27 @@ deliver_again-loop-rest-preserved g t c =
     let less = rw c.in-Some.is at i.less in
     let some = c.rest_of-rest.ensures.some in
     record {
-      gives = rw c.rest_of-rest.ensures.said (Gives-then g.N.Node.stands (nature g.N.Node.kind_of g.N.Load.Parts.first g.N.Load.Parts.second) c.args.now c.args.at (said c.args.msg.now) c.args.self.now.book c.loop-rest.self.book c.give-took.new.self.book c.args.self.now.nodes.items c.loop-rest.self.nodes.items c.give-took.new.self.nodes.items _ _ _ (said c.in-Some.part) gives _ c.give-took.ensures.gives);
-      less = less-then c.rest_of-rest.result (length c.in-Some.part.first.now + length c.in-Some.part.second.now) c.give-took.result _ less some;
-      opened = open-then c.rest_of-rest.result (length c.in-Some.part.first.now + length c.in-Some.part.second.now) c.give-took.result some c.give-took.ensures.more;
-      grows = Grows-trans i.grows c.give-took.ensures.grows;
-      steady = c.give-took.ensures.steady;
+      gives = rw c.rest_of-rest.ensures.said (Gives-then g.N.Node.stands (nature g.N.Node.kind_of g.N.Node.mark_of g.N.Load.Parts.first g.N.Load.Parts.second) c.args.now c.args.at (said c.args.msg.now) c.args.self.now.book c.loop-rest.self.book c.give-given.new.self.book c.args.self.now.nodes.items c.loop-rest.self.nodes.items c.give-given.new.self.nodes.items _ _ _ (said c.in-Some.part) gives _ c.give-given.ensures.gives);
+      less = less-then c.rest_of-rest.result (length c.in-Some.part.first.now + length c.in-Some.part.second.now) c.give-given.result.took _ less some;
+      opened = open-then c.rest_of-rest.result (length c.in-Some.part.first.now + length c.in-Some.part.second.now) c.give-given.result.took some c.give-given.ensures.more;
+      grows = Grows-trans i.grows c.give-given.ensures.grows;
+      steady = c.give-given.ensures.steady;
     }
 
-pub deliver-returns-then-took-length_of-clause-lives : goal.deliver-returns-then-took-length_of-clause-lives
-deliver-returns-then-took-length_of-clause-lives g t c =
+pub deliver-returns-then-given-length_of-clause-lives : goal.deliver-returns-then-given-length_of-clause-lives
+deliver-returns-then-given-length_of-clause-lives g t c =
     let all = length-append c.args.msg.now.first.now c.args.msg.now.second.now in
-    let gives = rw (left-some c.give-took.result (said c.args.msg.now) (omega arith)) at c.give-took.ensures.gives in
+    let gives = rw (left-some c.give-given.result.took (said c.args.msg.now) (omega arith)) at c.give-given.ensures.gives in
     gives _ _ _ c.deliver_rest.ensures.lives
 
-pub deliver-returns-else-took-length_of-clause-lives : goal.deliver-returns-else-took-length_of-clause-lives
-deliver-returns-else-took-length_of-clause-lives g t c =
+pub deliver-returns-else-given-length_of-clause-lives : goal.deliver-returns-else-given-length_of-clause-lives
+deliver-returns-else-given-length_of-clause-lives g t c =
     let all = length-append c.args.msg.now.first.now c.args.msg.now.second.now in
-    rw (left-none c.give-took.result (said c.args.msg.now) (omega arith)) at c.give-took.ensures.gives
+    rw (left-none c.give-given.result.took (said c.args.msg.now) (omega arith)) at c.give-given.ensures.gives
 
 pub deliver_rest-returns-clause-lives : goal.deliver_rest-returns-clause-lives
 deliver_rest-returns-clause-lives g t c =
-    subst (λ m. Delivered g.N.Node.stands (nature g.N.Node.kind_of g.N.Load.Parts.first g.N.Load.Parts.second) c.args.now c.args.at m c.args.self.now.book c.deliver_again.new.self.book c.args.self.now.nodes.items c.deliver_again.new.self.nodes.items (g.O.Outside.events c.args.out.now) (g.O.Outside.events c.deliver_again.new.out)) c.behind.ensures.bytes c.deliver_again.ensures.lives
+    subst (λ m. Delivered g.N.Node.stands (nature g.N.Node.kind_of g.N.Node.mark_of g.N.Load.Parts.first g.N.Load.Parts.second) c.args.now c.args.at m c.args.self.now.book c.deliver_again.new.self.book c.args.self.now.nodes.items c.deliver_again.new.self.nodes.items (g.O.Outside.events c.args.out.now) (g.O.Outside.events c.deliver_again.new.out)) c.behind.ensures.bytes c.deliver_again.ensures.lives
 
-pub enter_up-returns-in-Some-clause-lives : goal.enter_up-returns-in-Some-clause-lives
-enter_up-returns-in-Some-clause-lives g t c = rw (c.keep.ensures.book, c.keep.ensures.nodes) c.enter_up_by.ensures.lives
+pub send_up-pass_up-place-requires : goal.send_up-pass_up-place-requires
+send_up-pass_up-place-requires g t c = let lives = busy-live _ _ c.requires.runs in search rules

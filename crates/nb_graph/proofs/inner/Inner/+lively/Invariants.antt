@@ -41,11 +41,23 @@ decreases-run_ups g l = reach (rank l.self.now.book l.id.0) 0 5
 abbrev pub decreases-run_up : goal.decreases-run_up
 decreases-run_up g l = reach (rank l.self.now.book l.id.0) 0 4
 
+abbrev pub decreases-run_late_up : goal.decreases-run_late_up
+decreases-run_late_up g l = reach (rank l.self.now.book l.id.0) 0 4
+
+abbrev pub decreases-send_late_up : goal.decreases-send_late_up
+decreases-send_late_up g l = reach (rank l.self.now.book l.id.0) 0 3
+
 abbrev pub decreases-send_up : goal.decreases-send_up
-decreases-send_up g l = reach (rank l.self.now.book l.id.0) 0 3
+decreases-send_up g l = reach (rank l.self.now.book l.id.0) 0 2
 
 abbrev pub decreases-pass_up : goal.decreases-pass_up
-decreases-pass_up g l = reach (rank l.self.now.book l.at.obj.0) 0 2
+decreases-pass_up g l = reach (rank l.self.now.book l.at.obj.0) 0 1
+
+abbrev pub decreases-hand_up : goal.decreases-hand_up
+decreases-hand_up g l = reach (rank l.self.now.book l.at.obj.0) 0 0
+
+abbrev pub decreases-hand_up_to : goal.decreases-hand_up_to
+decreases-hand_up_to g l = reach (rank l.self.now.book l.at.obj.0) (length l.first.now + length l.second.now) 16
 
 abbrev pub decreases-give : goal.decreases-give
 decreases-give g l = reach (rank l.self.now.book l.at.obj.0) (length l.msg.now.first.now + length l.msg.now.second.now) 9
@@ -55,7 +67,7 @@ decreases-deliver_again-loop-rest g l = option_map_or (λ r. 1 + length r.first.
 
 abbrev pub invariant-deliver_again-loop-rest : goal.invariant-deliver_again-loop-rest
 invariant-deliver_again-loop-rest g l = record {
-  gives : Gives g.N.Node.stands (nature g.N.Node.kind_of g.N.Load.Parts.first g.N.Load.Parts.second) l.now l.at (said l.msg) l.initial.self.book l.self.book l.initial.self.nodes.items l.self.nodes.items (g.O.Outside.events l.initial.out) (g.O.Outside.events l.out) (option_map said l.rest);
+  gives : Gives g.N.Node.stands (nature g.N.Node.kind_of g.N.Node.mark_of g.N.Load.Parts.first g.N.Load.Parts.second) l.now l.at (said l.msg) l.initial.self.book l.self.book l.initial.self.nodes.items l.self.nodes.items (g.O.Outside.events l.initial.out) (g.O.Outside.events l.out) (option_map said l.rest);
   less : IfSome l.rest (λ r. length r.first.now + length r.second.now ≤ length l.msg.first.now + length l.msg.second.now);
   opened : IfSome l.rest (λ r. IsOpen (port l.self.book l.at.obj.0 l.at.slot));
   grows : GrowsLively l.initial.self.book l.self.book;

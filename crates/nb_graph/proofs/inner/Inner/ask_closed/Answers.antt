@@ -25,7 +25,7 @@ returns-clause-lives g c = λ u.
     Lives-seat g.N.Node.stands c.args.now _ _ _ c.args.at.obj.0 c.place_at-place.result (closed c.args.at.slot c.args.cause.now c.args.now c.on_close.new.fx) c.index_mut.result.now c.on_close.new.self c.requires.manned c.requires.lives c.place_at-place.ensures c.index_mut.ensures.value
     (λ w v k. k.0 refl)
     (λ x w v n k. k.1 n)
-    (λ t s i. c.on_close.ensures.stands t s)
+    (c.on_close.ensures.mark, λ t s i. c.on_close.ensures.stands t s)
     (λ t w v k o. tt)
-    (λ st ds s k. (_, peer_hears c.args.at.obj.0 c.args.at.slot c.args.cause.now c.on_close.new.fx, Follows-called _ _ _ _ (runs_of (nature g.N.Node.kind_of g.N.Load.Parts.first g.N.Load.Parts.second) c.args.at.obj.0 silence true c.on_close.new.fx) st _ ds k))
+    (λ st ds s k. (_, peer_hears c.args.at.obj.0 c.args.at.slot c.args.cause.now c.on_close.new.fx, Follows-called _ _ _ _ (runs_of (nature g.N.Node.kind_of g.N.Node.mark_of g.N.Load.Parts.first g.N.Load.Parts.second) c.args.at.obj.0 silence true c.on_close.new.fx) st _ ds k))
     (Calms-call _ _ c.args.at.obj.0 (closed c.args.at.slot c.args.cause.now c.args.now c.on_close.new.fx) _ _ (λ k. refl) (λ k. refl))

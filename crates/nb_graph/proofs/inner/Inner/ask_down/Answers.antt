@@ -30,9 +30,9 @@ returns-in-Ok-clause-lives g c = λ u.
     Calls-seat g.N.Node.stands c.args.now _ _ _ c.args.id.0 c.args.index (λ done fx. down (said c.args.msg.now) c.args.now done fx) true c.on_down.new.fx c.index_mut.result.now c.on_down.new.self c.requires.manned c.requires.lives c.requires.place c.index_mut.ensures.value
     (λ w v k. k.0 refl)
     (λ x w v n k. k.1 n)
-    (λ t s i. c.in-Ok.ensures.stands t s)
+    (c.on_down.ensures.mark, λ t s i. c.in-Ok.ensures.stands t s)
     (λ t w v k o. tt)
-    (λ st ds s k. (_, takes_down c.args.id.0 (said c.args.msg.now) true c.on_down.new.fx, Follows-called _ _ _ _ (runs_of (nature g.N.Node.kind_of g.N.Load.Parts.first g.N.Load.Parts.second) c.args.id.0 (said c.args.msg.now) true c.on_down.new.fx) st _ ds k))
+    (λ st ds s k. (_, takes_down c.args.id.0 (said c.args.msg.now) true c.on_down.new.fx, Follows-called _ _ _ _ (runs_of (nature g.N.Node.kind_of g.N.Node.mark_of g.N.Load.Parts.first g.N.Load.Parts.second) c.args.id.0 (said c.args.msg.now) true c.on_down.new.fx) st _ ds k))
     (Calms-call _ _ c.args.id.0 (down (said c.args.msg.now) c.args.now true c.on_down.new.fx) _ _ (λ k. refl) (λ k. refl))
 
 pub returns-in-Err-clause-lives : goal.returns-in-Err-clause-lives
@@ -40,7 +40,7 @@ returns-in-Err-clause-lives g c = λ u.
     Calls-seat g.N.Node.stands c.args.now _ _ _ c.args.id.0 c.args.index (λ done fx. down (said c.args.msg.now) c.args.now done fx) false c.on_down.new.fx c.index_mut.result.now c.on_down.new.self c.requires.manned c.requires.lives c.requires.place c.index_mut.ensures.value
     (λ w v k. k.0 refl)
     (λ x w v n k. k.1 n)
-    (λ t s i. c.in-Err.ensures.stands t s)
+    (c.on_down.ensures.mark, λ t s i. c.in-Err.ensures.stands t s)
     (λ t w v k o. tt)
-    (λ st ds s k. (_, takes_down c.args.id.0 (said c.args.msg.now) false c.on_down.new.fx, Follows-called _ _ _ _ (runs_of (nature g.N.Node.kind_of g.N.Load.Parts.first g.N.Load.Parts.second) c.args.id.0 (said c.args.msg.now) false c.on_down.new.fx) st _ ds k))
+    (λ st ds s k. (_, takes_down c.args.id.0 (said c.args.msg.now) false c.on_down.new.fx, Follows-called _ _ _ _ (runs_of (nature g.N.Node.kind_of g.N.Node.mark_of g.N.Load.Parts.first g.N.Load.Parts.second) c.args.id.0 (said c.args.msg.now) false c.on_down.new.fx) st _ ds k))
     (Calms-call _ _ c.args.id.0 (down (said c.args.msg.now) c.args.now false c.on_down.new.fx) _ _ (λ k. refl) (λ k. refl))

@@ -37,17 +37,17 @@ returns-in-Ok-clause-lives g c = λ u.
     Calls-seat g.N.Node.stands c.args.now _ _ _ c.args.id.0 c.place_at-place.result (λ done fx. time c.args.now done fx) true c.on_time.new.fx c.index_mut.result.now c.on_time.new.self c.requires.manned c.requires.lives c.place_at-place.ensures c.index_mut.ensures.value
     (λ w v k. let b = k.0 refl in b.1 ∙ ap (λ z. z ++ lent c.on_time.new.fx) (sym b.0))
     (λ x w v n k. k.1 n)
-    c.in-Ok.ensures.stands
+    (c.on_time.ensures.mark, c.in-Ok.ensures.stands)
     (λ t w v k o. subst (Owes [] t) (k.0 refl).0 o)
-    (λ st ds s k. (_, takes_time c.args.id.0 true c.on_time.new.fx, Follows-called _ _ _ _ (runs_of (nature g.N.Node.kind_of g.N.Load.Parts.first g.N.Load.Parts.second) c.args.id.0 silence true c.on_time.new.fx) st _ ds k))
-    (Calms-call _ _ c.args.id.0 (time c.args.now true c.on_time.new.fx) _ _ (λ k. refl) (λ k. refl), Asks-call (nature g.N.Node.kind_of g.N.Load.Parts.first g.N.Load.Parts.second) c.args.id.0 (time c.args.now true c.on_time.new.fx) _ (λ k. refl))
+    (λ st ds s k. (_, takes_time c.args.id.0 true c.on_time.new.fx, Follows-called _ _ _ _ (runs_of (nature g.N.Node.kind_of g.N.Node.mark_of g.N.Load.Parts.first g.N.Load.Parts.second) c.args.id.0 silence true c.on_time.new.fx) st _ ds k))
+    (Calms-call _ _ c.args.id.0 (time c.args.now true c.on_time.new.fx) _ _ (λ k. refl) (λ k. refl), Asks-call (nature g.N.Node.kind_of g.N.Node.mark_of g.N.Load.Parts.first g.N.Load.Parts.second) c.args.id.0 (time c.args.now true c.on_time.new.fx) _ (λ k. refl))
 
 pub returns-in-Err-clause-lives : goal.returns-in-Err-clause-lives
 returns-in-Err-clause-lives g c = λ u.
     Calls-seat g.N.Node.stands c.args.now _ _ _ c.args.id.0 c.place_at-place.result (λ done fx. time c.args.now done fx) false c.on_time.new.fx c.index_mut.result.now c.on_time.new.self c.requires.manned c.requires.lives c.place_at-place.ensures c.index_mut.ensures.value
     (λ w v k. let b = k.0 refl in b.1 ∙ ap (λ z. z ++ lent c.on_time.new.fx) (sym b.0))
     (λ x w v n k. k.1 n)
-    c.in-Err.ensures.stands
+    (c.on_time.ensures.mark, c.in-Err.ensures.stands)
     (λ t w v k o. subst (Owes [] t) (k.0 refl).0 o)
-    (λ st ds s k. (_, takes_time c.args.id.0 false c.on_time.new.fx, Follows-called _ _ _ _ (runs_of (nature g.N.Node.kind_of g.N.Load.Parts.first g.N.Load.Parts.second) c.args.id.0 silence false c.on_time.new.fx) st _ ds k))
-    (Calms-call _ _ c.args.id.0 (time c.args.now false c.on_time.new.fx) _ _ (λ k. refl) (λ k. refl), Asks-call (nature g.N.Node.kind_of g.N.Load.Parts.first g.N.Load.Parts.second) c.args.id.0 (time c.args.now false c.on_time.new.fx) _ (λ k. refl))
+    (λ st ds s k. (_, takes_time c.args.id.0 false c.on_time.new.fx, Follows-called _ _ _ _ (runs_of (nature g.N.Node.kind_of g.N.Node.mark_of g.N.Load.Parts.first g.N.Load.Parts.second) c.args.id.0 silence false c.on_time.new.fx) st _ ds k))
+    (Calms-call _ _ c.args.id.0 (time c.args.now false c.on_time.new.fx) _ _ (λ k. refl) (λ k. refl), Asks-call (nature g.N.Node.kind_of g.N.Node.mark_of g.N.Load.Parts.first g.N.Load.Parts.second) c.args.id.0 (time c.args.now false c.on_time.new.fx) _ (λ k. refl))

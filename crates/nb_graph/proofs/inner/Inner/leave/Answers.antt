@@ -19,7 +19,7 @@ unfolding Ends-leave
 returns-clause-ends g c = λ by own. record {
   ends = Ends-leave by c.leave-unused.ensures.sets c.leave-unused.ensures.told c.leave-unused.ensures.step c.settle.ensures.settles.settles;
   lives = λ now.
-      Lives-next (Lives-plain g.N.Node.stands now _ _ (λ st. Holds c.args.at by None ∷ st) (λ st. Frees c.args.at.obj.0 ∷ st) (Left c.args.at) (Loses-same c.args.self.now.nodes.items c.leave-unused.ensures.sets.objects) (scene-busy c.leave-unused.ensures.sets) c.leave-unused.ensures.given (λ st ds s k. (_, ends c.args.at by, subst (λ z. UsesStack (nature g.N.Node.kind_of g.N.Load.Parts.first g.N.Load.Parts.second) now (scene_of c.args.self.now.book) (z ++ st) ds s) (sym (settles-own by c.args.at.obj.0 own)) k)) (Calms-plain _ _ _ (Left c.args.at) (Mild-busy c.leave-unused.ensures.sets) (λ p a. refl))) (c.settle.ensures.settles.lives now);
+      Lives-next (Lives-plain g.N.Node.stands now _ _ (λ st. Holds c.args.at by None ∷ st) (λ st. Frees c.args.at.obj.0 ∷ st) (Left c.args.at) (Loses-same c.args.self.now.nodes.items c.leave-unused.ensures.sets.objects) (scene-busy c.leave-unused.ensures.sets) c.leave-unused.ensures.given (λ st ds s k. (_, ends c.args.at by, subst (λ z. UsesStack (nature g.N.Node.kind_of g.N.Node.mark_of g.N.Load.Parts.first g.N.Load.Parts.second) now (scene_of c.args.self.now.book) (z ++ st) ds s) (sym (settles-own by c.args.at.obj.0 own)) k)) (Calms-plain _ _ _ (Left c.args.at) (Mild-busy c.leave-unused.ensures.sets) (λ p a. refl))) (c.settle.ensures.settles.lives now);
 }
 
 pub returns-clause-steady : goal.returns-clause-steady

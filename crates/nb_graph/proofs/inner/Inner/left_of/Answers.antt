@@ -24,8 +24,7 @@ returns-then-took-whole-clause-goes g c = λ now.
     let m = said c.args.msg.now in
     let all = length-append c.args.msg.now.first.now c.args.msg.now.second.now in
     let gone = drop_all c.args.took m.bytes (omega arith) in
-    let e = left-none c.args.took m (omega arith) in
-    rw e (rw e (record {
+    rw (left-none c.length_of-whole.result m (omega arith)) (rw (left-none c.args.took m (omega arith)) (record {
       lively = LivelyIn-refl _ _ _;
       lives = Lives-weaken (AllBack-stays _ c.args.at.obj.0) (λ ds k. Livens-calm k) (Lives-under (λ st. Holds c.args.at Up None ∷ st) (Lives-none _ now _ (Calms-idle (Calms-none _ _) (λ p q x y w v i j. inr (rest-none c.args.self.now.book c.args.at _ p q y w v gone i)))));
     }))

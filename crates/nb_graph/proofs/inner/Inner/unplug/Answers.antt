@@ -18,7 +18,7 @@ use Rattle.nb_graph.proofs.MannedLemmas.{IsManned-same}
 use Rattle.nb_graph.proofs.inner.Inner.unplug.Goals as goal
 
 pub leave-requires : goal.leave-requires
-leave-requires g c = (live_by _ _ _ (Leaving c.args.at) tt c.requires.other).0
+leave-requires g c = record { lives = (live_by _ _ _ (Leaving c.args.at) tt c.requires.other).0; place = c.requires.place }
 
 pub settle_two-requires-clause-first : goal.settle_two-requires-clause-first
 settle_two-requires-clause-first g c =

@@ -1,10 +1,15 @@
-use Rattle.std.proofs.Common.{subst}
+use Rattle.std.proofs.Common.{subst, sym, ap, ◌∙◌}
 use Rattle.nb_graph.specs.Trace.{closed}
 use Rattle.nb_nodes.specs.declared.obj.Obj.{Obj}
+use Rattle.nb_nodes.specs.Objects.{mark_of_obj}
 use Rattle.nb_nodes.specs.Standing.{ObjStands}
 use Rattle.nb_nodes.proofs.TftpLemmas.{stands_more}
 use Rattle.nb_nodes.proofs.FetchLemmas.{fetch_closed}
+use Rattle.nb_nodes.proofs.ObjLemmas.{mark_closed}
 use Rattle.nb_nodes.proofs.obj.ObjNode.on_close.Goals as goal
+
+pub returns-in-Fetch-clause-mark : goal.returns-in-Fetch-clause-mark
+returns-in-Fetch-clause-mark c = mark_closed c.in-Fetch.fetch c.on_close.new.self c.args.slot c.args.cause.now c.on_close.ensures.after ∙ sym (ap mark_of_obj c.in-Fetch.is)
 
 pub returns-in-Fetch-clause-stands : goal.returns-in-Fetch-clause-stands
 returns-in-Fetch-clause-stands c = λ t s.

@@ -1,15 +1,20 @@
-use Rattle.std.proofs.Common.{subst}
+use Rattle.std.proofs.Common.{subst, sym, ap, ◌∙◌}
 use Rattle.std.specs.Result.{is_ok}
 use Rattle.nb_graph.specs.Trace.{up, said}
 use Rattle.nb_nodes.specs.declared.obj.Obj.{Obj}
+use Rattle.nb_nodes.specs.Objects.{mark_of_obj}
 use Rattle.nb_nodes.specs.Standing.{ObjStands}
 use Rattle.nb_nodes.proofs.TftpLemmas.{stands_more}
 use Rattle.nb_nodes.proofs.FetchLemmas.{fetch_ups}
-use Rattle.nb_nodes.proofs.ObjLemmas.{may_ask}
+use Rattle.nb_nodes.proofs.ObjLemmas.{may_ask, mark_up}
 use Rattle.nb_nodes.proofs.obj.ObjNode.on_up.Goals as goal
 
 pub returns-in-Fetch-clause-asks : goal.returns-in-Fetch-clause-asks
 returns-in-Fetch-clause-asks c = may_ask _ _ c.on_up.new.fx (c.on_up.ensures.within _)
+
+pub returns-in-Fetch-clause-mark : goal.returns-in-Fetch-clause-mark
+returns-in-Fetch-clause-mark c =
+    mark_up c.on_up.result c.in-Fetch.fetch c.on_up.new.self c.args.slot (said c.args.msg.now).bytes c.on_up.ensures.after c.on_up.ensures.failed ∙ sym (ap mark_of_obj c.in-Fetch.is)
 
 pub returns-in-Fetch-clause-stands : goal.returns-in-Fetch-clause-stands
 returns-in-Fetch-clause-stands c = λ t s settled.

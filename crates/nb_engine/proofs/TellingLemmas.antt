@@ -1,0 +1,211 @@
+-- The records of what the graph tells in a call.
+use Rattle.std.proofs.Common.{◌≡◌, ℕ, ◌+◌, ◌<◌, ◌==◌, length, take, get_or, subst, Bool, true, false, cond, List, [], ◌∷◌, ◌++◌, map, Option, Some, None, refl, sym, ◌∙◌, ap, append-nil}
+use Rattle.std.proofs.lemmas.Grind.{flat_map-append}
+use Rattle.std.proofs.lemmas.List.Elements.{filter-append}
+use Rattle.std.proofs.lemmas.List.{map-append, take_more}
+use Rattle.nb_engine.specs.declared.outlet.Note.{Note}
+use Rattle.nb_engine.specs.Notes.{notice_of, notices_of}
+use Rattle.nb_terms.specs.declared.cause.Cause.{Cause}
+use Rattle.nb_terms.specs.declared.acts.Acts.{Acts}
+use Rattle.nb_terms.specs.declared.acts.SendTo.{SendTo}
+use Rattle.nb_record.specs.Logged.{Logged, Puts}
+use Rattle.nb_engine.proofs.Puts.{Puts-outs}
+use Rattle.nb_defs.specs.Records.{Out, out_texts, step, sent, text, command, result, script, opened, tried, advanced, ended, graph, part, done}
+use Rattle.nb_ledger.specs.Flat.{Notice}
+use Rattle.nb_ledger.specs.declared.port.Port.{Port}
+use Rattle.nb_ledger.specs.declared.event.Way.{Way}
+use Rattle.nb_ledger.specs.declared.event.GraphEvent.{GraphEvent}
+use Rattle.nb_graph.specs.Trace.{Said}
+use Rattle.nb_graph.specs.Whole.{port_at}
+use Rattle.nb_nodes.specs.Tags.{tag_number}
+use Rattle.nb_nodes.specs.declared.tag.Tag.TheVariants.{Advance, Try}
+use Rattle.nb_nodes.specs.Carried.{advance_said, datagram_said}
+use Rattle.nb_nodes.specs.Fetches.{body_too_large}
+use Rattle.nb_tftp.specs.Asks.{Begun, datagram}
+use Rattle.nb_opens.specs.Graphs.{traced, without_graph, IsAside, AreAside}
+use Rattle.nb_opens.specs.Notices.{tells, made_notices, sent_from, down_notices, up_notices, end_notices, call_notices, passed_on, closed_late, large_notices, begun_notices, closed_notices, freed_notices, shut_notices}
+use Rattle.nb_opens.specs.PairEvents.{made_events, begun_front, begun_back, call_front, up_events, end_events, call_back, passed_events, late_events, large_front, large_back, closed_events, freed_events, shut_events}
+use Rattle.nb_stack.specs.Client.{Client}
+use Rattle.nb_stack.specs.Sends.{put_on, way_of}
+use Rattle.nb_engine.specs.Opens.{has_route, try_records, send_records, sends_records, advance_records, acts_records}
+use Rattle.nb_engine.specs.Tellings.{Speaker, datagram_of, message_records, notice_records, told_records}
+
+pub told-append : (net : Client) (who : Speaker) (xs ys : List Notice) → told_records net who (xs ++ ys) ≡ told_records net who xs ++ told_records net who ys
+told-append net who xs ys = flat_map-append (notice_records net who) xs ys
+
+-- of one note more
+pub told_more : (net : Client) (who : Speaker) (bytes : List ℕ) (notes more : List Note) (n : Note) → more ≡ notes ++ n ∷ [] →
+    told_records net who (notices_of bytes more) ≡ told_records net who (notices_of bytes notes) ++ notice_records net who (notice_of bytes n)
+told_more net who bytes notes more n e =
+    ap (λ x. told_records net who (notices_of bytes x)) e ∙ ap (told_records net who) (map-append (notice_of bytes) notes (n ∷ []))
+    ∙ told-append net who (notices_of bytes notes) (notice_of bytes n ∷ []) ∙ ap (λ x. told_records net who (notices_of bytes notes) ++ x) (append-nil (notice_records net who (notice_of bytes n)))
+
+pub puts_more : {a b c : Logged} (net : Client) (who : Speaker) (bytes : List ℕ) (notes : List Note) (i : ℕ) (d : Note) → i < length notes →
+    Puts a b (out_texts (told_records net who (notices_of bytes (take i notes)))) → Puts b c (out_texts (notice_records net who (notice_of bytes (get_or notes i d)))) →
+    Puts a c (out_texts (told_records net who (notices_of bytes (take (i + 1) notes))))
+puts_more {a} {b} {c} net who bytes notes i d h p q =
+    subst (λ x. Puts a c (out_texts x)) (sym (told_more net who bytes (take i notes) (take (i + 1) notes) (get_or notes i d) (take_more notes i d h)))
+    (Puts-outs (told_records net who (notices_of bytes (take i notes))) (notice_records net who (notice_of bytes (get_or notes i d))) p q)
+
+-- records that aren't the graph's stay, and those that are go
+pub without-append : (xs ys : List Out) → without_graph (xs ++ ys) ≡ without_graph xs ++ without_graph ys
+without-append xs ys = filter-append _ xs ys
+
+pub without_traced : (es : List GraphEvent) → without_graph (traced es) ≡ []
+without_traced [] = refl
+without_traced (e ∷ es) = without_traced es
+
+aside_stays : (o : Out) (outs : List Out) → IsAside o → without_graph (o ∷ outs) ≡ o ∷ without_graph outs
+aside_stays (graph happens) outs a = absurd a
+aside_stays (opened number kind server port own target) outs a = absurd a
+aside_stays (ended number cause) outs a = absurd a
+aside_stays (step number) outs a = refl
+aside_stays (sent bytes) outs a = refl
+aside_stays (text bytes) outs a = refl
+aside_stays (command depth line place expanded words) outs a = refl
+aside_stays (result cause) outs a = refl
+aside_stays (script what depth cause) outs a = refl
+aside_stays (tried number count) outs a = refl
+aside_stays (advanced number place) outs a = refl
+aside_stays (part kind index offset bytes) outs a = refl
+aside_stays (done status) outs a = refl
+
+pub without_aside : (outs : List Out) → AreAside outs → without_graph outs ≡ outs
+without_aside [] a = refl
+without_aside (o ∷ outs) a = aside_stays o outs a.0 ∙ ap (λ r. o ∷ r) (without_aside outs a.1)
+
+pub aside-append : (xs ys : List Out) → AreAside xs → AreAside ys → AreAside (xs ++ ys)
+aside-append [] ys a b = b
+aside-append (x ∷ xs) ys a b = (a.0, aside-append xs ys a.1 b)
+
+aside_try : (number : ℕ) (try : Option ℕ) → AreAside (try_records number try)
+aside_try number None = tt
+aside_try number (Some n) = (tt, tt)
+
+pub aside_send : (net : Client) (number : ℕ) (try : Option ℕ) (m : SendTo) → AreAside (send_records net number try m)
+aside_send net number try m = by (has_route net m)
+  where
+    by : (r : Bool) → AreAside (cond r (try_records number try ++ (sent (put_on net m (way_of net m)) ∷ [])) [])
+    by true = aside-append (try_records number try) (sent (put_on net m (way_of net m)) ∷ []) (aside_try number try) (tt, tt)
+    by false = tt
+
+aside_message : (net : Client) (who : Speaker) (tag a b : ℕ) (bytes : List ℕ) → AreAside (message_records net who tag a b bytes)
+aside_message net who tag a b bytes = by (tag == tag_number Advance)
+  where
+    by : (r : Bool) → AreAside (cond r (advanced who.number a ∷ []) (send_records net who.number (cond (tag == tag_number Try) (Some a) None) (datagram_of who b bytes)))
+    by true = (tt, tt)
+    by false = aside_send net who.number (cond (tag == tag_number Try) (Some a) None) (datagram_of who b bytes)
+
+-- messages are no records of the graph
+pub aside_messages : (net : Client) (who : Speaker) (p : Port) (ms : List Said) → AreAside (told_records net who (map (sent_from p) ms))
+aside_messages net who p [] = tt
+aside_messages net who p (m ∷ ms) =
+    aside-append (message_records net who m.tag m.a m.b m.bytes) (told_records net who (map (sent_from p) ms)) (aside_message net who m.tag m.a m.b m.bytes) (aside_messages net who p ms)
+
+-- the messages of a transfer: at most one, to its server and from its port
+pub data AreSendsOf (b : Begun) : List SendTo → Type 0 where
+  none : AreSendsOf b []
+  one : (port : ℕ) (body : List ℕ) → AreSendsOf b (datagram b port body ∷ [])
+
+-- the speaker is the open's that was begun so
+pub record SpeaksFor (who : Speaker) (b : Begun) : Type 0 where
+  pub server : who.server ≡ b.server
+  pub own_port : who.own_port ≡ b.own_port
+
+same_datagram : (who : Speaker) (b : Begun) (port : ℕ) (body : List ℕ) → SpeaksFor who b → datagram_of who port body ≡ datagram b port body
+same_datagram who b port body is = rw (is.server, is.own_port) refl
+
+pub send_told : (net : Client) (who : Speaker) (b : Begun) (p : Port) (rec : ℕ) (try : Option ℕ) (port : ℕ) (body : List ℕ) → SpeaksFor who b →
+    told_records net who (map (sent_from p) (map (datagram_said rec try) (datagram b port body ∷ []))) ≡ send_records net who.number try (datagram b port body)
+send_told net who b p rec None port body is =
+    append-nil (send_records net who.number None (datagram_of who port body)) ∙ ap (λ m. send_records net who.number None m) (same_datagram who b port body is)
+send_told net who b p rec (Some n) port body is =
+    append-nil (send_records net who.number (Some n) (datagram_of who port body)) ∙ ap (λ m. send_records net who.number (Some n) m) (same_datagram who b port body is)
+
+sends_told : (net : Client) (who : Speaker) (b : Begun) (p : Port) (rec : ℕ) (try : Option ℕ) (sends : List SendTo) → SpeaksFor who b → AreSendsOf b sends →
+    told_records net who (map (sent_from p) (map (datagram_said rec try) sends)) ≡ sends_records net who.number try sends
+unfolding sends_records
+sends_told net who b p rec try sends is none = refl
+sends_told net who b p rec try sends is (one port body) = send_told net who b p rec try port body is
+
+-- what goes down of what a transfer asks are its records
+pub down_told : (net : Client) (who : Speaker) (b : Begun) (t rec : ℕ) (acts : Acts) → SpeaksFor who b → AreSendsOf b acts.sends.items →
+    told_records net who (down_notices t rec acts) ≡ acts_records net who.number acts
+unfolding acts_records
+down_told net who b t rec acts is sends = by acts.advance
+  where
+    by : (advance : Option ℕ) → told_records net who (map (sent_from (port_at t 1)) (advance_said rec advance ++ map (datagram_said rec acts.tried) acts.sends.items))
+        ≡ advance_records who.number advance ++ sends_records net who.number acts.tried acts.sends.items
+    by None = sends_told net who b (port_at t 1) rec acts.tried acts.sends.items is sends
+    by (Some place) = ap (λ r. advanced who.number place ∷ r) (sends_told net who b (port_at t 1) rec acts.tried acts.sends.items is sends)
+
+up_told : (net : Client) (who : Speaker) (f : ℕ) (give : Option (ℕ × ℕ)) → told_records net who (up_notices f give) ≡ traced (up_events f give)
+up_told net who f None = refl
+up_told net who f (Some range) = refl
+
+end_told : (net : Client) (who : Speaker) (f t : ℕ) (over : Option Cause) → told_records net who (end_notices f t over) ≡ traced (end_events f t over)
+end_told net who f t None = refl
+end_told net who f t (Some c) = refl
+
+passed_told : (net : Client) (who : Speaker) (t : ℕ) (over : Option Cause) → told_records net who (passed_on t over) ≡ traced (passed_events t body_too_large over)
+passed_told net who t None = refl
+passed_told net who t (Some c) = refl
+
+late_told : (net : Client) (who : Speaker) (t : ℕ) (over : Option Cause) → told_records net who (closed_late t over) ≡ traced (late_events t over)
+late_told net who t None = refl
+late_told net who t (Some c) = refl
+
+-- the records of two parts
+told_two : (net : Client) (who : Speaker) (xs ys : List Notice) (as' bs : List Out) → told_records net who xs ≡ as' → told_records net who ys ≡ bs → told_records net who (xs ++ ys) ≡ as' ++ bs
+told_two net who xs ys as' bs e g = rw (told-append net who xs ys, e, g) refl
+
+-- what is told in a call
+pub call_told : (net : Client) (who : Speaker) (f t : ℕ) (p : Port) (by : Way) (rec : ℕ) (acts : Acts) →
+    told_records net who (call_notices f t p by rec acts)
+    ≡ traced (call_front p by) ++ (told_records net who (down_notices t rec acts) ++ (traced (up_events f acts.give) ++ (traced (end_events f t acts.over) ++ traced (call_back p))))
+call_told net who f t p by rec acts =
+    let down = down_notices t rec acts in
+    let up = up_notices f acts.give in
+    let end = end_notices f t acts.over in
+    let back = map tells (call_back p) in
+    told_two net who (map tells (call_front p by)) (down ++ (up ++ (end ++ back))) (traced (call_front p by)) _ refl
+    (told_two net who down (up ++ (end ++ back)) _ _ refl
+    (told_two net who up (end ++ back) _ _ (up_told net who f acts.give)
+    (told_two net who end back _ (traced (call_back p)) (end_told net who f t acts.over) refl)))
+
+pub large_told : (net : Client) (who : Speaker) (f t : ℕ) (p : Port) (by : Way) (rec : ℕ) (acts : Acts) →
+    told_records net who (large_notices f t p by rec acts)
+    ≡ traced (call_front p by) ++ (told_records net who (down_notices t rec acts) ++ (traced (large_front f t body_too_large)
+    ++ (traced (passed_events t body_too_large acts.over) ++ (traced (large_back f t) ++ (traced (late_events t acts.over) ++ traced (call_back p))))))
+large_told net who f t p by rec acts =
+    let down = down_notices t rec acts in
+    let front = map tells (large_front f t body_too_large) in
+    let passed = passed_on t acts.over in
+    let middle = map tells (large_back f t) in
+    let late = closed_late t acts.over in
+    let back = map tells (call_back p) in
+    told_two net who (map tells (call_front p by)) (down ++ (front ++ (passed ++ (middle ++ (late ++ back))))) (traced (call_front p by)) _ refl
+    (told_two net who down (front ++ (passed ++ (middle ++ (late ++ back)))) _ _ refl
+    (told_two net who front (passed ++ (middle ++ (late ++ back))) (traced (large_front f t body_too_large)) _ refl
+    (told_two net who passed (middle ++ (late ++ back)) _ _ (passed_told net who t acts.over)
+    (told_two net who middle (late ++ back) (traced (large_back f t)) _ refl
+    (told_two net who late back _ (traced (call_back p)) (late_told net who t acts.over) refl)))))
+
+pub begun_told : (net : Client) (who : Speaker) (f t rec : ℕ) (acts : Acts) →
+    told_records net who (begun_notices f t rec acts) ≡ traced (begun_front f t) ++ (told_records net who (down_notices t rec acts) ++ traced (begun_back f t))
+begun_told net who f t rec acts =
+    let down = down_notices t rec acts in
+    told_two net who (map tells (begun_front f t)) (down ++ map tells (begun_back f t)) (traced (begun_front f t)) _ refl
+    (told_two net who down (map tells (begun_back f t)) _ (traced (begun_back f t)) refl refl)
+
+pub made_told : (net : Client) (who : Speaker) (f t : ℕ) → told_records net who (made_notices f t) ≡ traced (made_events f t)
+made_told net who f t = refl
+
+pub closed_told : (net : Client) (who : Speaker) (f t : ℕ) (c : Cause) → told_records net who (closed_notices f t c) ≡ traced (closed_events f t c)
+closed_told net who f t c = refl
+
+pub freed_told : (net : Client) (who : Speaker) (f t : ℕ) → told_records net who (freed_notices f t) ≡ traced (freed_events f t)
+freed_told net who f t = refl
+
+pub shut_told : (net : Client) (who : Speaker) (f t : ℕ) (c : Cause) → told_records net who (shut_notices f t c) ≡ traced (shut_events f t c)
+shut_told net who f t c = refl

@@ -1,0 +1,25 @@
+use Rattle.std.proofs.Common.{[], sym, subst}
+use Rattle.nb_engine.specs.declared.stage.Stage.TheVariants as stage
+use Rattle.nb_engine.specs.Seen.{Seen, seen, standing}
+use Rattle.nb_engine.specs.Turns.{AnswersTurn, IsNearer}
+use Rattle.nb_engine.proofs.Asking.{is_a_path}
+use Rattle.nb_engine.proofs.client.Client.fetch.Goals as goal
+
+pub begin-requires-clause-path : goal.begin-requires-clause-path
+begin-requires-clause-path c = is_a_path c.args.wanted.now.target.path.now c.requires.file.clean c.requires.file.path
+
+pub returns-clause-does : goal.returns-clause-does
+returns-clause-does c =
+    let now = c.args.self.now in
+    let t = c.go_out-turn.result in
+    let new = c.go_out-turn.new in
+    subst (λ y. AnswersTurn t [] (standing now (stage.Running c.args.script)) y c.args.log.now new.log) (sym c.self-2.view_is)
+    (subst (λ (x : Seen). AnswersTurn t [] (seen x.used x.world now.graph (stage.Running c.args.script)) new.self c.args.log.now new.log) c.begin.ensures.same (c.go_out-turn.ensures.does now.graph))
+
+pub returns-clause-nearer : goal.returns-clause-nearer
+returns-clause-nearer c =
+    let now = c.args.self.now in
+    let t = c.go_out-turn.result in
+    let new = c.go_out-turn.new in
+    subst (λ y. IsNearer t (standing now (stage.Running c.args.script)) y) (sym c.self-2.view_is)
+    (subst (λ (x : Seen). IsNearer t (seen x.used x.world now.graph (stage.Running c.args.script)) new.self) c.begin.ensures.same (c.go_out-turn.ensures.nearer now.graph))

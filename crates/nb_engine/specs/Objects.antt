@@ -1,0 +1,25 @@
+-- What the two objects of an open have done, and what was told of it.
+use Rattle.std.specs.Prelude.{◌≡◌, ℕ, List, [], ◌++◌, Option, Some}
+use Rattle.nb_terms.specs.declared.cause.Cause.{Cause}
+use Rattle.nb_ledger.specs.Flat.{Notice}
+use Rattle.nb_graph.specs.Whole.{Objects}
+use Rattle.nb_nodes.specs.declared.obj.Obj.{Obj}
+use Rattle.nb_nodes.specs.Conversations.{first_acts}
+use Rattle.nb_tftp.specs.Asks.{Begun}
+use Rattle.nb_opens.specs.Graphs.{fetch_of, tftp_of}
+use Rattle.nb_opens.specs.Notices.{made_notices, begun_notices}
+use Rattle.nb_opens.specs.Pairs.{Downloads}
+
+-- the objects of an open were made, and its transfer was begun in the record rec, at a time
+pub record BeginsOpen (g : Objects Obj) (k : ℕ) (b : Begun) (now rec : ℕ) (made told : Option (List Notice)) : Type 0 where
+  pub made_so : made ≡ Some (made_notices (fetch_of k) (tftp_of k))
+  pub told_so : told ≡ Some (begun_notices (fetch_of k) (tftp_of k) rec (first_acts b))
+  pub downloads : Downloads g (fetch_of k) (tftp_of k) b now [] []
+
+-- this was told behind what was told before
+abbrev pub TellsMore : Option (List Notice) → Option (List Notice) → List Notice → Type 0
+TellsMore before after more = (ns : List Notice) → before ≡ Some ns → after ≡ Some (ns ++ more)
+
+-- where an open ended well, this is its file
+abbrev pub IsFile : Cause → Option (List ℕ) → List ℕ → Type 0
+IsFile cause file body = cause.code ≡ 0 → file ≡ Some body

@@ -1,0 +1,6 @@
+pub mod Entries
+pub mod Notices
+pub mod Pairs
+pub mod PairEvents
+pub mod Graphs
+pub mod Traces

@@ -1,0 +1,162 @@
+-- The two objects of an open, a Fetch f and the Tftp t plugged to it, on a graph on which nothing else lives. Our own.
+use Rattle.std.specs.Prelude.{◌≡◌, ◌⊎◌, ◌<◌, ◌≤◌, ◌+◌, ℕ, ◌==◌, true, false, List, [], ◌∷◌, ◌++◌, length, Option, Some, None, IfSome, if◌then◌else◌}
+use Rattle.std.specs.Option.{is_some}
+use Rattle.nb_terms.specs.declared.acts.Acts.{Acts}
+use Rattle.nb_terms.specs.declared.cause.Cause.{Cause}
+use Rattle.nb_ledger.specs.declared.port.Port.{Port}
+use Rattle.nb_ledger.specs.declared.port.PortState.TheVariants.{Open, Linked, Closed}
+use Rattle.nb_ledger.specs.declared.event.Way.{Way}
+use Rattle.nb_ledger.specs.Flat.{Notice, Given}
+use Rattle.nb_ledger.specs.Ledger.{port, holds, rank, object_lives}
+use Rattle.nb_graph.specs.Deeds.{Closes, no_memory}
+use Rattle.nb_graph.specs.Lived.{ObjectStands}
+use Rattle.nb_graph.specs.Trace.{NodeEntry}
+use Rattle.nb_graph.specs.Went.{WentOne}
+use Rattle.nb_graph.specs.Whole.{Objects, port_at, node_at}
+use Rattle.nb_tftp.specs.Asks.{Begun}
+use Rattle.nb_tftp.specs.History.{Call, Entry, entry, given_of}
+use Rattle.nb_tftp.specs.Sentences.{Meets}
+use Rattle.nb_nodes.specs.declared.load.Load.{Load}
+use Rattle.nb_nodes.specs.declared.load.Load.TheVariants as load
+use Rattle.nb_nodes.specs.declared.obj.Obj.{Obj}
+use Rattle.nb_nodes.specs.Conversations.{unbegun, under_way, RunsTo, first_acts}
+use Rattle.nb_nodes.specs.Fetches.{gathers, closed_well, taken_below}
+use Rattle.nb_nodes.specs.Objects.{obj_nature, mark_of_obj}
+use Rattle.nb_nodes.specs.Standing.{ObjStands}
+use Rattle.nb_opens.specs.Notices.{call_notices, large_notices, begun_notices, first_close}
+
+-- nothing lives, so many were made, and there is room for two
+pub record IsEmpty (g : Objects Obj) (made : ℕ) : Type 0 where
+  pub made_are : g.book.made ≡ made
+  pub dead : (x : ℕ) → object_lives g.book x ≡ false
+  pub none : length g.book.objects ≡ 0
+  pub room : 2 ≤ g.book.room
+
+-- both live, with a hold each, and nothing else does; their slots 2 and 3 are open
+pub record AreTwo (g : Objects Obj) (f t : ℕ) : Type 0 where
+  pub next : t ≡ f + 1
+  pub last : g.book.made ≡ t
+  pub room : 2 ≤ g.book.room
+  pub fetch_lives : object_lives g.book f ≡ true
+  pub tftp_lives : object_lives g.book t ≡ true
+  pub alone : (x : ℕ) → (x ≡ f → ⊥) → (x ≡ t → ⊥) → object_lives g.book x ≡ false
+  pub fetch_held : holds g.book f ≡ 1
+  pub tftp_held : holds g.book t ≡ 1
+  pub fetch_rank : rank g.book f ≡ 5
+  pub tftp_rank : rank g.book t ≡ 2
+  pub fetch_2 : port g.book f 2 ≡ Open
+  pub fetch_3 : port g.book f 3 ≡ Open
+  pub tftp_2 : port g.book t 2 ≡ Open
+  pub tftp_3 : port g.book t 3 ≡ Open
+
+-- the Tftp is plugged to the Fetch, and the outer ports are open
+pub record AreJoined (g : Objects Obj) (f t : ℕ) : Type 0 where
+  pub two : AreTwo g f t
+  pub user : port g.book f 0 ≡ Open
+  pub link : port g.book f 1 ≡ Linked (port_at t 0)
+  pub back : port g.book t 0 ≡ Linked (port_at f 1)
+  pub below : port g.book t 1 ≡ Open
+
+-- no body of the Fetch was handed out
+abbrev pub IsUnharvested : Objects Obj → ℕ → Type 0
+IsUnharvested g f = (n : Obj) → node_at g f ≡ Some n → mark_of_obj n ≡ 0
+
+-- nothing was asked of them yet
+pub record AreMade (g : Objects Obj) (f t : ℕ) : Type 0 where
+  pub joined : AreJoined g f t
+  pub fetch : ObjectStands ObjStands g f []
+  pub tftp : ObjectStands ObjStands g t []
+  pub unharvested : IsUnharvested g f
+
+-- an image has at most 268,435,456 bytes
+abbrev pub Fits : List ℕ → Type 0
+Fits body = length body ≤ 268435456
+
+-- the body in what an object hands out
+abbrev pub body_in : Option Load → Option (List ℕ)
+body_in None = None
+body_in (Some (load.Body body)) = Some body
+body_in (Some (load.Datagram acts)) = None
+
+-- A transfer is under way: it was begun so, at a time; these calls were made of it, with what it asked; and these bytes
+-- of the file have come.
+pub record Downloads (g : Objects Obj) (f t : ℕ) (b : Begun) (start : ℕ) (calls : List Entry) (body : List ℕ) : Type 0 where
+  pub joined : AreJoined g f t
+  pub above : List (NodeEntry Obj Load)
+  pub below : List (NodeEntry Obj Load)
+  pub fetch : ObjectStands ObjStands g f above
+  pub tftp : ObjectStands ObjStands g t below
+  pub gathering : gathers above ≡ true
+  pub taken : taken_below above ≡ body
+  pub fits : Fits body
+  pub talk : RunsTo unbegun below (under_way b start calls)
+  pub meets : Meets b start calls
+  pub unharvested : IsUnharvested g f
+
+-- the four ports between the user and what is below are closed
+pub record AreShut (g : Objects Obj) (f t : ℕ) : Type 0 where
+  pub two : AreTwo g f t
+  pub user : port g.book f 0 ≡ Closed
+  pub link : port g.book f 1 ≡ Closed
+  pub back : port g.book t 0 ≡ Closed
+  pub below : port g.book t 1 ≡ Closed
+
+-- The open has ended, and the Fetch has this body to hand out, or none.
+pub record HasEnded (g : Objects Obj) (f t : ℕ) (body : Option (List ℕ)) : Type 0 where
+  pub shut : AreShut g f t
+  pub above : List (NodeEntry Obj Load)
+  pub fetch : ObjectStands ObjStands g f above
+  pub well : closed_well above ≡ is_some body
+  pub taken : IfSome body (λ bytes. taken_below above ≡ bytes)
+  pub unharvested : IsUnharvested g f
+
+-- the body of an open that ended with this cause
+abbrev pub body_at_end : Cause → List ℕ → Option (List ℕ)
+body_at_end c body = if c.code == 0 then Some body else None
+
+-- What a datagram or a time does to the two, by what the transfer asks then, and what the outside is told. Want of
+-- memory shows in the first close.
+pub data CallDoes (g : Objects Obj) (f t : ℕ) (b : Begun) (start : ℕ) (calls : List Entry) (body : List ℕ) (p : Port) (by : Way) (rec : ℕ) (call : Call) (ns : List Notice) : Type 0 where
+  goes_on : (acts : Acts) → Meets b start (calls ++ entry call acts ∷ []) → acts.over ≡ None → Fits (body ++ given_of call acts.give) →
+      ns ≡ call_notices f t p by rec acts → Downloads g f t b start (calls ++ entry call acts ∷ []) (body ++ given_of call acts.give) →
+      CallDoes g f t b start calls body p by rec call ns
+  is_over : (acts : Acts) (c : Cause) → Meets b start (calls ++ entry call acts ∷ []) → acts.over ≡ Some c → Fits (body ++ given_of call acts.give) →
+      ns ≡ call_notices f t p by rec acts → HasEnded g f t (body_at_end c (body ++ given_of call acts.give)) →
+      CallDoes g f t b start calls body p by rec call ns
+  is_too_large : (acts : Acts) → Meets b start (calls ++ entry call acts ∷ []) → 268435456 < length (body ++ given_of call acts.give) →
+      ns ≡ large_notices f t p by rec acts → HasEnded g f t None →
+      CallDoes g f t b start calls body p by rec call ns
+  fails : first_close ns ≡ Some no_memory → CallDoes g f t b start calls body p by rec call ns
+
+-- some transfer is under way
+abbrev pub IsDownloading : Objects Obj → ℕ → ℕ → Type 0
+IsDownloading g f t = (b : Begun) × (start : ℕ) × (calls : List Entry) × (body : List ℕ) × Downloads g f t b start calls body
+
+-- two that were made, or of which a transfer is under way
+abbrev pub AreGoing : Objects Obj → ℕ → ℕ → Type 0
+AreGoing g f t = AreMade g f t ⊎ IsDownloading g f t
+
+-- an open has ended, with some body or none
+abbrev pub IsEnded : Objects Obj → ℕ → ℕ → Type 0
+IsEnded g f t = (body : Option (List ℕ)) × HasEnded g f t body
+
+-- what a datagram or a time does, for each transfer that may be under way
+abbrev pub DoesCall : Objects Obj → Objects Obj → ℕ → ℕ → Port → Way → ℕ → Call → Option (List Notice) → Option (List Notice) → Type 0
+DoesCall old new f t p by rec call before after =
+    (ns : List Notice) × Given before after ns
+    × ((b : Begun) (start : ℕ) (calls : List Entry) (body : List ℕ) → Downloads old f t b start calls body → CallDoes new f t b start calls body p by rec call ns)
+
+-- what the user's asking does, by what the outside is told: the request leaves, or memory runs out
+pub data BeginDoes (g : Objects Obj) (f t : ℕ) (b : Begun) (now rec : ℕ) (ns : List Notice) : Type 0 where
+  begins : ns ≡ begun_notices f t rec (first_acts b) → Downloads g f t b now [] [] → BeginDoes g f t b now rec ns
+  fails_at_once : first_close ns ≡ Some no_memory → BeginDoes g f t b now rec ns
+
+abbrev pub DoesBegin : Objects Obj → ℕ → ℕ → Begun → ℕ → ℕ → Option (List Notice) → Option (List Notice) → Type 0
+DoesBegin new f t b now rec before after = (ns : List Notice) × Given before after ns × BeginDoes new f t b now rec ns
+
+-- slots 2 and 3 of an object are closed, one after the other
+abbrev pub ClosesFree : Objects Obj → Objects Obj → Option (List Notice) → Option (List Notice) → ℕ → ℕ → Cause → Type 0
+ClosesFree old new before after x now cause =
+    (mid : Objects Obj) × (told : Option (List Notice))
+    × WentOne ObjStands obj_nature now (Closes (port_at x 2) cause ∷ []) old mid before told
+    × WentOne ObjStands obj_nature now (Closes (port_at x 3) cause ∷ []) mid new told after

@@ -1,0 +1,162 @@
+ghost use Rattle.std.specs.Prelude.{◌≡◌, IfOk, None};
+ghost use Rattle.nb_opens.specs.Pairs.{IsEmpty};
+
+use crate::Download;
+use nb_graph::{Graph, Msg, Outside, Port};
+use nb_nodes::{Ask, Obj};
+use nb_terms::{Cause, Event, NoMemory};
+use nb_wire::Ip4;
+use std::process::Abort;
+use std::test::Fail;
+
+/// The request for `f` in mode octet (RFC 1350, section 5).
+const REQUEST_LEN: usize = 10;
+
+const STOPPED: Cause = Cause {
+    code: 26,
+    a: 0,
+    b: 0,
+};
+
+/// What an outside is told: an event, by its number, object, slot and cause's code, or a message, by
+/// its tag, record, numbers and how many bytes it has.
+#[derive(Clone, Copy, Debug, PartialEq, Eq)]
+enum Note {
+    Event(u8, u64, u8, u8),
+    Sent(u8, u32, u32, u32, usize),
+}
+
+#[derive(Drop)]
+struct Tape {
+    notes: Vec<Note>,
+}
+
+impl Outside for Tape {
+    ghost events = { λ _. None };
+
+    fn event(&mut self, e: &Event) {
+        let _ = self
+            .notes
+            .push(Note::Event(e.event, e.object, e.slot, e.cause.code));
+    }
+
+    fn send(&mut self, _from: Port, msg: &Msg<'_>) {
+        let length = msg.first.len() + msg.second.len();
+        let _ = self
+            .notes
+            .push(Note::Sent(msg.tag, msg.rec, msg.a, msg.b, length));
+    }
+}
+
+/// The notes since the last look are these.
+fn noted(rt: &impl Abort, tape: &mut Tape, expected: &[Note]) {
+    assert_eq!(rt; tape.notes.len(), expected.len());
+    for (note, other) in tape.notes.iter().zip(expected) {
+        assert_eq!(rt; note, other);
+    }
+    tape.notes.clear();
+}
+
+fn empty_tape(rt: &HostRuntime) -> Tape {
+    Tape {
+        notes: Vec::new(rt.alloc()),
+    }
+}
+
+fn empty_graph(rt: &HostRuntime) -> Result<Graph<Obj>, NoMemory>
+    ensures made { IfOk result (λ g. g.book.made ≡ 0) }
+    ensures empty { IfOk result (λ g. IsEmpty g g.book.made) }
+{
+    Graph::new(rt.alloc(), 2)
+}
+
+// The request leaves by the Tftp's port below, as try 1, in the user's record.
+#[test]
+fn begins(rt: HostRuntime) -> Result<(), Fail> {
+    let mut tape = empty_tape(&rt);
+    let mut graph = empty_graph(&rt)?;
+    let open = Download::make(rt.alloc(), &mut graph, &mut tape)?;
+    noted(
+        &rt,
+        &mut tape,
+        &[
+            Note::Event(1, 1, 0, 0),
+            Note::Event(2, 1, 0, 0),
+            Note::Event(1, 2, 0, 0),
+            Note::Event(2, 2, 0, 0),
+            Note::Event(4, 1, 1, 0),
+        ],
+    );
+    let ask = Ask {
+        server: Ip4(0x0a00_0001),
+        port: 69,
+        own_port: 49_152,
+        path: b"f",
+    };
+    open.begin(&mut graph, 7, &ask, 0, &mut tape);
+    noted(
+        &rt,
+        &mut tape,
+        &[
+            Note::Event(5, 1, 0, 0),
+            Note::Event(5, 2, 0, 0),
+            Note::Sent(3, 7, 1, 69, REQUEST_LEN),
+            Note::Event(6, 2, 0, 0),
+            Note::Event(6, 1, 0, 0),
+        ],
+    );
+    Ok(())
+}
+
+// Both ports of the Fetch are closed, and the Tftp passes the close on; there is no body.
+#[test]
+fn closes_and_releases(rt: HostRuntime) -> Result<(), Fail> {
+    let mut tape = empty_tape(&rt);
+    let mut graph = empty_graph(&rt)?;
+    let open = Download::make(rt.alloc(), &mut graph, &mut tape)?;
+    tape.notes.clear();
+    open.close(&mut graph, &STOPPED, 0, &mut tape);
+    noted(
+        &rt,
+        &mut tape,
+        &[
+            Note::Event(8, 1, 0, 26),
+            Note::Event(8, 1, 1, 26),
+            Note::Event(8, 2, 0, 26),
+            Note::Event(5, 2, 0, 0),
+            Note::Event(8, 2, 1, 26),
+            Note::Event(6, 2, 0, 0),
+            Note::Event(9, 1, 1, 0),
+        ],
+    );
+    assert!(rt; open.harvest(&mut graph).is_none());
+    open.release(&mut graph, &mut tape);
+    noted(
+        &rt,
+        &mut tape,
+        &[
+            Note::Event(3, 1, 0, 0),
+            Note::Event(10, 1, 0, 0),
+            Note::Event(3, 2, 0, 0),
+            Note::Event(10, 2, 0, 0),
+        ],
+    );
+    assert_eq!(rt; graph.live(), 0);
+    Ok(())
+}
+
+// The end of the graph closes the free slots too, and lets both go. Another open is made after it.
+#[test]
+fn shuts_down(rt: HostRuntime) -> Result<(), Fail> {
+    let mut tape = empty_tape(&rt);
+    let mut graph = empty_graph(&rt)?;
+    let open = Download::make(rt.alloc(), &mut graph, &mut tape)?;
+    tape.notes.clear();
+    open.shut_down(&mut graph, &STOPPED, 0, &mut tape);
+    assert_eq!(rt; tape.notes.len(), 15);
+    assert_eq!(rt; tape.notes.get(10).copied(), Some(Note::Event(8, 2, 3, 26)));
+    assert_eq!(rt; graph.live(), 0);
+    let other = Download::make(rt.alloc(), &mut graph, &mut tape)?;
+    assert_eq!(rt; (other.fetch.0, other.tftp.0), (3, 4));
+    Ok(())
+}
