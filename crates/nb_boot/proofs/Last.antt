@@ -31,14 +31,14 @@ done_closes m k number none = record {
   plain = sym (ap (λ t. t ++ done number ∷ []) none);
   front = [];
   last = refl;
-  graphs = λ outs g. (k, aside outs (done number ∷ []) (bare k) g (tt, tt));
+  graphs = λ outs g. (k, aside outs (done number ∷ []) k g (tt, tt));
 }
 
 -- DONE, where the open of this number is shut down
 shut_graphs : (outs : List Out) (k number : ℕ) → Graphs outs (holding k) → Graphs (outs ++ (shut_records k ++ (done number ∷ []))) (bare (k + 1))
 shut_graphs outs k number g =
     subst (λ xs. Graphs xs (bare (k + 1))) (append_assoc outs (shut_records k) (done number ∷ []))
-    (aside (outs ++ shut_records k) (done number ∷ []) (bare (k + 1)) (is_shut_down outs stopped_cause k g) (tt, tt))
+    (aside (outs ++ shut_records k) (done number ∷ []) (k + 1) (is_shut_down outs k g) (tt, tt))
 
 -- what closes a client closes its machine, and its graph
 pub client_closes : (c : Seen) (m : Machine) (p : GraphAt) (number : ℕ) → StandsFor c m → Fits c p → ClosesAll m p number (closing_records c.stage number)

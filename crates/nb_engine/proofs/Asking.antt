@@ -42,7 +42,7 @@ use Rattle.nb_engine.proofs.CommandLaws.{effect_of_words, shown_of_words}
 use Rattle.nb_engine.proofs.Puts.{Puts-outs}
 use Rattle.nb_engine.proofs.Standing.{stands_at}
 use Rattle.nb_engine.proofs.Moves.{move_from}
-use Rattle.nb_engine.proofs.TellingLemmas.{SpeaksFor, send_told, told-append, begun_told, without-append, without_traced, without_aside, aside_messages}
+use Rattle.nb_engine.proofs.TellingLemmas.{SpeaksFor, send_told, told-append, begun_told, without-append, without_traced, without_aside, aside_messages, sent_messages}
 
 -- the fetch of the next open
 abbrev pub next_fetch : World → Wanted → Fetch
@@ -133,7 +133,7 @@ asks_grows {old} {new} n w g h s ws wanted has e route short downloads p =
         let at_w : Graphs outs (bare w.opens) = subst (λ x. Graphs outs (bare x)) (sym fit) graphs in
         let asked = asked_records w wanted n in
         let all = begins outs asked (command_record s (shown_as true ws)) (opened_record w wanted) w.opens at_w tt refl
-        (aside_messages w.net (speaker_of (next_fetch w wanted)) (port_at (tftp_of w.opens) 1) (downs_of n (first_acts (begun_for w wanted)))) in
+        (sent_messages w.net (speaker_of (next_fetch w wanted)) (port_at (tftp_of w.opens) 1) (downs_of n (first_acts (begun_for w wanted)))) in
         (holding w.opens, rw (append-nil (traced (begun_back (fetch_of w.opens) (tftp_of w.opens)))) all, (refl, refl))
 
 -- without a way nothing of the request is put
@@ -191,7 +191,7 @@ no_route_grows {old} {middle} {new} n w g h s ws wanted has e route p q =
         let all = turns_back outs c (opened_record w wanted) w.opens cause at_w tt refl in
         let front = begun_records w wanted n c (back_events w.opens cause) in
         let whole : Graphs ((outs ++ (front ++ (ended w.opens cause ∷ []))) ++ conclusion_records (fails cause)) (bare (w.opens + 1)) =
-        aside (outs ++ (front ++ (ended w.opens cause ∷ []))) (conclusion_records (fails cause)) (bare (w.opens + 1)) (rw (nothing_asked w wanted n route) all) (tt, tt) in (
+        aside (outs ++ (front ++ (ended w.opens cause ∷ []))) (conclusion_records (fails cause)) (w.opens + 1) (rw (nothing_asked w wanted n route) all) (tt, tt) in (
           bare (w.opens + 1),
           subst (λ xs. Graphs xs (bare (w.opens + 1))) (append_assoc outs (front ++ (ended w.opens cause ∷ [])) (conclusion_records (fails cause))
               ∙ ap (λ x. outs ++ x) (append_assoc front (ended w.opens cause ∷ []) (conclusion_records (fails cause)))) whole,

@@ -20,14 +20,14 @@ use Rattle.nb_tftp.specs.Plain.{IsToServer}
 use Rattle.nb_tftp.specs.History.{Call, Entry, entry}
 use Rattle.nb_tftp.specs.Sentences.{Meets}
 use Rattle.nb_tftp.proofs.PlainLaws.{asks_plainly}
-use Rattle.nb_opens.specs.Graphs.{Graphs, GraphAt, bare, holding, aside, goes_on, ends, grows_too_large, IsEntry, traced, without_graph, fetch_of, tftp_of}
+use Rattle.nb_opens.specs.Graphs.{Graphs, GraphAt, bare, holding, passes as step_passes, goes_on, ends, grows_too_large, IsEntry, traced, without_graph, fetch_of, tftp_of}
 use Rattle.nb_opens.specs.PairEvents.{call_front, up_events, end_events, call_back, passed_events, late_events, large_front, large_back, freed_events}
 use Rattle.nb_opens.specs.Notices.{tells, or_else, first_close, sent_from, down_notices, up_notices, end_notices, call_notices, passed_on, closed_late, large_notices, freed_notices}
 use Rattle.nb_stack.specs.Client.{Client}
 use Rattle.nb_engine.specs.Opens.{acts_records}
 use Rattle.nb_engine.specs.Tellings.{Speaker, told_records}
 use Rattle.nb_engine.proofs.NoteLemmas.{first_close-append}
-use Rattle.nb_engine.proofs.TellingLemmas.{AreSendsOf, none, one, SpeaksFor, told-append, call_told, large_told, down_told, aside_messages, without-append, without_traced, without_aside}
+use Rattle.nb_engine.proofs.TellingLemmas.{AreSendsOf, none, one, SpeaksFor, told-append, call_told, large_told, down_told, aside_messages, sent_messages, without-append, without_traced, without_aside}
 
 -- what goes down closes nothing
 down_closes : (p : Port) (ms : List Said) → first_close (map (sent_from p) ms) ≡ None
@@ -110,7 +110,7 @@ freed_others net who f t ns =
 
 -- behind STEP
 behind_step : (outs : List Out) (n k : ℕ) → Graphs outs (holding k) → Graphs (outs ++ (step n ∷ [])) (holding k)
-behind_step outs n k graphs = aside outs (step n ∷ []) (holding k) graphs (tt, tt)
+behind_step outs n k graphs = step_passes outs [] n k graphs tt
 
 joined : (outs xs : List Out) (n : ℕ) (q : GraphAt) → Graphs ((outs ++ (step n ∷ [])) ++ xs) q → Graphs (outs ++ (step n ∷ xs)) q
 joined outs xs n q graphs = subst (λ ys. Graphs ys q) (append_assoc outs (step n ∷ []) xs) graphs
@@ -135,7 +135,7 @@ goes_order net who outs n k p by rec acts enters over graphs =
     let same : told_records net who (call_notices (fetch_of k) (tftp_of k) p by rec acts) ≡ traced (call_front p by) ++ (down ++ (traced (up_events (fetch_of k) acts.give) ++ traced (call_back p))) =
     call_told net who (fetch_of k) (tftp_of k) p by rec acts
     ∙ ap (λ o. traced (call_front p by) ++ (down ++ (traced (up_events (fetch_of k) acts.give) ++ (traced (end_events (fetch_of k) (tftp_of k) o) ++ traced (call_back p))))) over in
-    joined outs _ n (holding k) (rw same (goes_on (outs ++ (step n ∷ [])) down p by acts.give k (behind_step outs n k graphs) enters (aside_messages net who (port_at (tftp_of k) 1) (downs_of rec acts))))
+    joined outs _ n (holding k) (rw same (goes_on (outs ++ (step n ∷ [])) down p by acts.give k (behind_step outs n k graphs) (outs, n, refl) enters (sent_messages net who (port_at (tftp_of k) 1) (downs_of rec acts))))
 
 -- the records of an end: of the call, of what is freed, and ENDED
 abbrev pub ending : Client → Speaker → ℕ → List Notice → Cause → List Out
@@ -157,7 +157,7 @@ ends_order net who outs n k p by rec acts c enters over graphs =
     ap (λ x. x ++ last) (told-append net who ns (freed_notices (fetch_of k) (tftp_of k)) ∙ ap (λ x. x ++ freed) (call_told net who (fetch_of k) (tftp_of k) p by rec acts
     ∙ ap (λ o. front ++ (down ++ (up ++ (traced (end_events (fetch_of k) (tftp_of k) o) ++ back)))) over)) ∙ join_seven front down up end back freed last in
     subst (λ xs. Graphs (outs ++ (step n ∷ xs)) (bare (k + 1))) (sym same) (joined outs (front ++ (down ++ (up ++ (end ++ (back ++ (freed ++ last)))))) n (bare (k + 1))
-    (ends (outs ++ (step n ∷ [])) down p by acts.give c k (behind_step outs n k graphs) enters (aside_messages net who (port_at (tftp_of k) 1) (downs_of rec acts))))
+    (ends (outs ++ (step n ∷ [])) down p by acts.give c k (behind_step outs n k graphs) (outs, n, refl) enters (sent_messages net who (port_at (tftp_of k) 1) (downs_of rec acts))))
 
 -- and one that makes the body too large
 pub large_order : (net : Client) (who : Speaker) (outs : List Out) (n k : ℕ) (p : Port) (by : Way) (rec : ℕ) (acts : Acts) → IsEntry (tftp_of k) p by → Graphs outs (holding k) →
@@ -178,4 +178,4 @@ large_order net who outs n k p by rec acts enters graphs =
     let same : ending net who k ns body_too_large ≡ enter ++ (down ++ (front ++ (passed ++ (back ++ (late ++ (leaves ++ (freed ++ last))))))) =
     ap (λ x. x ++ last) (told-append net who ns (freed_notices f t) ∙ ap (λ x. x ++ freed) (large_told net who f t p by rec acts)) ∙ join_nine enter down front passed back late leaves freed last in
     subst (λ xs. Graphs (outs ++ (step n ∷ xs)) (bare (k + 1))) (sym same) (joined outs (enter ++ (down ++ (front ++ (passed ++ (back ++ (late ++ (leaves ++ (freed ++ last)))))))) n (bare (k + 1))
-    (grows_too_large (outs ++ (step n ∷ [])) down p by acts.over k (behind_step outs n k graphs) enters (aside_messages net who (port_at t 1) (downs_of rec acts))))
+    (grows_too_large (outs ++ (step n ∷ [])) down p by acts.over k (behind_step outs n k graphs) (outs, n, refl) enters (sent_messages net who (port_at t 1) (downs_of rec acts))))

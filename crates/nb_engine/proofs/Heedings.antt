@@ -241,7 +241,7 @@ ends_kept t n w s g f p by rec ns cause after was closed other e outs (holding k
     let ends : Graphs (outs ++ (step n ∷ (told ++ last))) (bare (f.number + 1)) =
     ends_order_by n w g f f.number was.begun was.start was.calls was.body p by rec was.call ns cause outs was.entry was.does closed other at_k in
     let all : Graphs ((outs ++ (step n ∷ (told ++ last))) ++ conclusion_records comes) (bare (f.number + 1)) =
-    aside (outs ++ (step n ∷ (told ++ last))) (conclusion_records comes) (bare (f.number + 1)) ends (aside_conclusion comes) in
+    aside (outs ++ (step n ∷ (told ++ last))) (conclusion_records comes) (f.number + 1) ends (aside_conclusion comes) in
     let same : (outs ++ (step n ∷ (told ++ last))) ++ conclusion_records comes ≡ outs ++ (step n ∷ (told ++ (last ++ conclusion_records comes))) =
     append_assoc outs (step n ∷ (told ++ last)) (conclusion_records comes) ∙ ap (λ xs. outs ++ (step n ∷ xs)) (append_assoc told last (conclusion_records comes)) in
     let next : w.opens ≡ f.number + 1 = fit.1 ∙ ap (λ x. x + 1) (sym fit.0) in

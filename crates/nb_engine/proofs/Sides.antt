@@ -1,10 +1,10 @@
 -- Records that don't concern the graph, and where a client stands with it.
-use Rattle.std.proofs.Common.{◌≡◌, ℕ, List, [], ◌∷◌, refl, sym, ap, subst}
+use Rattle.std.proofs.Common.{◌≡◌, ℕ, List, [], ◌∷◌, ◌++◌, refl, sym, ap, subst}
 use Rattle.nb_defs.specs.Records.{In, Out, out_texts}
 use Rattle.nb_defs.specs.Commands.{CommandOutcome}
 use Rattle.std.specs.Prelude.{Option, Some, None}
 use Rattle.nb_record.specs.Logged.{Logged, Puts}
-use Rattle.nb_opens.specs.Graphs.{GraphAt, bare, holding, aside, AreAside}
+use Rattle.nb_opens.specs.Graphs.{Graphs, GraphAt, bare, holding, aside, AreAside}
 use Rattle.nb_engine.specs.declared.stage.Stage.{Stage}
 use Rattle.nb_engine.specs.declared.stage.Stage.TheVariants as stage
 use Rattle.nb_engine.specs.declared.fetch.Fetch.{Fetch}
@@ -66,14 +66,18 @@ pub keep_waiting : (s t : Running) (f : Fetch) (x : ℕ) (q : GraphAt) → FitsA
 keep_waiting s t f x (bare k) e = absurd e
 keep_waiting s t f x (holding k) e = e
 
--- a client grows by records that don't concern the graph
-pub aside_grows : {old new : Logged} (used : List In) (before after : Seen) (added : List Out) → AreAside added → Puts old new (out_texts added) →
+aside_at : (outs added : List Out) (q : GraphAt) (x : ℕ) → q ≡ bare x → Graphs outs q → AreAside added → Graphs (outs ++ added) q
+aside_at outs added q x e graphs are =
+    subst (λ p. Graphs outs p → Graphs (outs ++ added) p) (sym e) (λ g. aside outs added x g are) graphs
+
+-- a client for which no command waits grows by records that don't concern the graph
+pub aside_grows : {old new : Logged} (used : List In) (before after : Seen) (added : List Out) → NotWaiting before.stage → AreAside added → Puts old new (out_texts added) →
     ((q : GraphAt) → Fits before q → Fits after q) → ((m : Machine) → StandsFor before m → Leads used m added after) → Grows used before after old new
-aside_grows used before after added are p fits leads = record {
+aside_grows used before after added rests are p fits leads = record {
   added = added;
   puts = p;
   leads = λ m stands. rw (without_aside added are) (leads m stands);
-  graphs = λ outs q graphs fit. (q, aside outs added q graphs are, fits q fit);
+  graphs = λ outs q graphs fit. (q, aside_at outs added q before.world.opens (to_bare before.stage before.world.opens rests q fit) graphs are, fits q fit);
 }
 
 pub aside_reply : (reply : List ℕ) → AreAside (reply_records reply)

@@ -22,7 +22,8 @@ use Rattle.nb_nodes.specs.declared.tag.Tag.TheVariants.{Advance, Try}
 use Rattle.nb_nodes.specs.Carried.{advance_said, datagram_said}
 use Rattle.nb_nodes.specs.Fetches.{body_too_large}
 use Rattle.nb_tftp.specs.Asks.{Begun, datagram}
-use Rattle.nb_opens.specs.Graphs.{traced, without_graph, IsAside, AreAside}
+use Rattle.nb_opens.proofs.RecordLemmas.{sent_aside}
+use Rattle.nb_opens.specs.Graphs.{traced, without_graph, IsAside, AreAside, AreSent}
 use Rattle.nb_opens.specs.Notices.{tells, made_notices, sent_from, down_notices, up_notices, end_notices, call_notices, passed_on, closed_late, large_notices, begun_notices, closed_notices, freed_notices, shut_notices}
 use Rattle.nb_opens.specs.PairEvents.{made_events, begun_front, begun_back, call_front, up_events, end_events, call_back, passed_events, late_events, large_front, large_back, closed_events, freed_events, shut_events}
 use Rattle.nb_stack.specs.Client.{Client}
@@ -78,29 +79,36 @@ pub aside-append : (xs ys : List Out) → AreAside xs → AreAside ys → AreAsi
 aside-append [] ys a b = b
 aside-append (x ∷ xs) ys a b = (a.0, aside-append xs ys a.1 b)
 
-aside_try : (number : ℕ) (try : Option ℕ) → AreAside (try_records number try)
-aside_try number None = tt
-aside_try number (Some n) = (tt, tt)
+sent-append : (xs ys : List Out) → AreSent xs → AreSent ys → AreSent (xs ++ ys)
+sent-append [] ys a b = b
+sent-append (x ∷ xs) ys a b = (a.0, sent-append xs ys a.1 b)
 
-pub aside_send : (net : Client) (number : ℕ) (try : Option ℕ) (m : SendTo) → AreAside (send_records net number try m)
-aside_send net number try m = by (has_route net m)
+sent_try : (number : ℕ) (try : Option ℕ) → AreSent (try_records number try)
+sent_try number None = tt
+sent_try number (Some n) = (tt, tt)
+
+sent_send : (net : Client) (number : ℕ) (try : Option ℕ) (m : SendTo) → AreSent (send_records net number try m)
+sent_send net number try m = by (has_route net m)
   where
-    by : (r : Bool) → AreAside (cond r (try_records number try ++ (sent (put_on net m (way_of net m)) ∷ [])) [])
-    by true = aside-append (try_records number try) (sent (put_on net m (way_of net m)) ∷ []) (aside_try number try) (tt, tt)
+    by : (r : Bool) → AreSent (cond r (try_records number try ++ (sent (put_on net m (way_of net m)) ∷ [])) [])
+    by true = sent-append (try_records number try) (sent (put_on net m (way_of net m)) ∷ []) (sent_try number try) (tt, tt)
     by false = tt
 
-aside_message : (net : Client) (who : Speaker) (tag a b : ℕ) (bytes : List ℕ) → AreAside (message_records net who tag a b bytes)
-aside_message net who tag a b bytes = by (tag == tag_number Advance)
+sent_message : (net : Client) (who : Speaker) (tag a b : ℕ) (bytes : List ℕ) → AreSent (message_records net who tag a b bytes)
+sent_message net who tag a b bytes = by (tag == tag_number Advance)
   where
-    by : (r : Bool) → AreAside (cond r (advanced who.number a ∷ []) (send_records net who.number (cond (tag == tag_number Try) (Some a) None) (datagram_of who b bytes)))
+    by : (r : Bool) → AreSent (cond r (advanced who.number a ∷ []) (send_records net who.number (cond (tag == tag_number Try) (Some a) None) (datagram_of who b bytes)))
     by true = (tt, tt)
-    by false = aside_send net who.number (cond (tag == tag_number Try) (Some a) None) (datagram_of who b bytes)
+    by false = sent_send net who.number (cond (tag == tag_number Try) (Some a) None) (datagram_of who b bytes)
 
 -- messages are no records of the graph
+pub sent_messages : (net : Client) (who : Speaker) (p : Port) (ms : List Said) → AreSent (told_records net who (map (sent_from p) ms))
+sent_messages net who p [] = tt
+sent_messages net who p (m ∷ ms) =
+    sent-append (message_records net who m.tag m.a m.b m.bytes) (told_records net who (map (sent_from p) ms)) (sent_message net who m.tag m.a m.b m.bytes) (sent_messages net who p ms)
+
 pub aside_messages : (net : Client) (who : Speaker) (p : Port) (ms : List Said) → AreAside (told_records net who (map (sent_from p) ms))
-aside_messages net who p [] = tt
-aside_messages net who p (m ∷ ms) =
-    aside-append (message_records net who m.tag m.a m.b m.bytes) (told_records net who (map (sent_from p) ms)) (aside_message net who m.tag m.a m.b m.bytes) (aside_messages net who p ms)
+aside_messages net who p ms = sent_aside (told_records net who (map (sent_from p) ms)) (sent_messages net who p ms)
 
 -- the messages of a transfer: at most one, to its server and from its port
 pub data AreSendsOf (b : Begun) : List SendTo → Type 0 where

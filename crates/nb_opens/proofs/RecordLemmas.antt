@@ -2,13 +2,13 @@
 use Rattle.std.proofs.Common.{◌≡◌, ℕ, List, [], ◌∷◌, ◌++◌, map, Option, Some, None, refl, sym, ◌∙◌, ap, subst, append_assoc, append-nil}
 use Rattle.std.proofs.lemmas.List.{map-append}
 use Rattle.nb_terms.specs.declared.cause.Cause.{Cause}
-use Rattle.nb_defs.specs.Records.{Out, step, opened, ended, graph}
+use Rattle.nb_defs.specs.Records.{Out, step, sent, text, command, result, script, opened, tried, advanced, ended, graph, part, done}
 use Rattle.nb_ledger.specs.Flat.{flat}
 use Rattle.nb_ledger.specs.declared.event.GraphEvent.{GraphEvent}
 use Rattle.nb_ledger.specs.GraphRun.{GraphState}
 use Rattle.nb_ledger.proofs.RunLemmas.{Run-append}
 use Rattle.nb_opens.specs.PairEvents.{RunsTo, freed_events}
-use Rattle.nb_opens.specs.Graphs.{GraphAt, traced, fetch_of, tftp_of, IsAside, AreAside, IsCommand, IsOpening}
+use Rattle.nb_opens.specs.Graphs.{GraphAt, traced, fetch_of, tftp_of, IsAside, AreAside, IsSent, AreSent, IsReply, IsCommand, IsOpening}
 use Rattle.nb_opens.specs.Traces.{event_in, events_in, close_in, first_of, first_closed, no_objects, StandsAt, AreRun, HasBegun, EndsBy, IsMadeFor, EndTheirOpens, HaveObjects}
 
 -- a COMMAND concerns nothing of the graph
@@ -234,3 +234,40 @@ each_has_objects outs e = λ before after o k h at.
 
 pub each_ends : (outs : List Out) → EachOut [] outs → EndTheirOpens outs
 each_ends outs e = λ before after k cause at. says_at [] before after (ended k cause) (subst (λ z. EachSays [] z) at e.each)
+
+-- what is sent doesn't begin or end an open
+sent_one : (o : Out) → IsSent o → IsAside o
+sent_one (sent bytes) h = tt
+sent_one (tried number count) h = tt
+sent_one (advanced number place) h = tt
+sent_one (graph happens) h = absurd h
+sent_one (opened number kind server port own target) h = absurd h
+sent_one (ended number cause) h = absurd h
+sent_one (step number) h = absurd h
+sent_one (text bytes) h = absurd h
+sent_one (command depth line place expanded words) h = absurd h
+sent_one (result cause) h = absurd h
+sent_one (script what depth cause) h = absurd h
+sent_one (part kind index offset bytes) h = absurd h
+sent_one (done status) h = absurd h
+
+pub sent_aside : (outs : List Out) → AreSent outs → AreAside outs
+sent_aside [] h = tt
+sent_aside (o ∷ outs) h = (sent_one o h.0, sent_aside outs h.1)
+
+pub reply_aside : (outs : List Out) → IsReply outs → AreAside outs
+reply_aside [] h = tt
+reply_aside (sent bytes ∷ []) h = (tt, tt)
+reply_aside (sent bytes ∷ o ∷ outs) h = absurd h
+reply_aside (graph happens ∷ outs) h = absurd h
+reply_aside (opened number kind server port own target ∷ outs) h = absurd h
+reply_aside (ended number cause ∷ outs) h = absurd h
+reply_aside (step number ∷ outs) h = absurd h
+reply_aside (text bytes ∷ outs) h = absurd h
+reply_aside (command depth line place expanded words ∷ outs) h = absurd h
+reply_aside (result cause ∷ outs) h = absurd h
+reply_aside (script what depth cause ∷ outs) h = absurd h
+reply_aside (tried number count ∷ outs) h = absurd h
+reply_aside (advanced number place ∷ outs) h = absurd h
+reply_aside (part kind index offset bytes ∷ outs) h = absurd h
+reply_aside (done status ∷ outs) h = absurd h

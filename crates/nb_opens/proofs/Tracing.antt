@@ -1,17 +1,17 @@
 -- What an output says of the object graph, from the order of its records.
 use Rattle.std.proofs.Common.{◌≡◌, ℕ, ◌+◌, ◌*◌, List, [], ◌∷◌, ◌++◌, Option, Some, None, refl, subst, append_assoc, append-nil, arith}
 use Rattle.nb_terms.specs.declared.cause.Cause.{Cause}
-use Rattle.nb_defs.specs.Records.{Out, ended}
+use Rattle.nb_defs.specs.Records.{Out, step, ended}
 use Rattle.nb_ledger.specs.declared.port.Port.{Port}
 use Rattle.nb_ledger.specs.declared.event.Way.{Way}
 use Rattle.nb_ledger.specs.declared.event.GraphEvent.{GraphEvent}
 use Rattle.nb_ledger.specs.GraphRun.{GraphState}
 use Rattle.nb_nodes.specs.Fetches.{body_too_large}
 use Rattle.nb_opens.specs.PairEvents.{made_events, begun_front, begun_back, call_front, up_events, end_events, call_back, large_front, passed_events, large_back, late_events, large_events, closed_events, freed_events, spare_events, shut_events, IsNone, IsJoined, IsShutPair, CallsBy, RunsTo}
-use Rattle.nb_opens.specs.Graphs.{Graphs, nothing, aside, begins, turns_back, goes_on, ends, grows_too_large, is_shut_down, GraphAt, bare, holding, traced, fetch_of, tftp_of, AreAside, IsCommand, IsOpening, IsEntry, by_datagram, by_time}
+use Rattle.nb_opens.specs.Graphs.{Graphs, nothing, aside, passes, stopped, begins, turns_back, goes_on, ends, grows_too_large, is_shut_down, GraphAt, bare, holding, traced, fetch_of, tftp_of, AreAside, IsCommand, IsOpening, IsEntry, by_datagram, by_time}
 use Rattle.nb_opens.specs.Traces.{AreRun, EndsBy, IsMadeFor, AreTraced, first_closed, no_objects}
 use Rattle.nb_opens.proofs.PairRuns.{run_then, run_made, run_begun, run_call, run_end, run_large, run_closed, run_freed, run_shut}
-use Rattle.nb_opens.proofs.RecordLemmas.{command_aside, Spells, spells_none, spells_ended, spells_traced, spells_append, spells_aside, spells_opening, run_on, Quiet, quiet_aside, quiet_append, Begun, begun_on, closes_in, closes_on, ends_by, EachOut, each_nothing, each_append, each_aside, each_traced, each_opening, each_ended, each_has_objects, each_ends}
+use Rattle.nb_opens.proofs.RecordLemmas.{command_aside, sent_aside, reply_aside, Spells, spells_none, spells_ended, spells_traced, spells_append, spells_aside, spells_opening, run_on, Quiet, quiet_aside, quiet_append, Begun, begun_on, closes_in, closes_on, ends_by, EachOut, each_nothing, each_append, each_aside, each_traced, each_opening, each_ended, each_has_objects, each_ends}
 
 -- the open that lives has begun, and nothing was closed since
 abbrev Holds : List Out → GraphAt → Type 0
@@ -244,13 +244,14 @@ by_shutting outs cause k s =
 
 graphs_stand : (outs : List Out) (p : GraphAt) → Graphs outs p → Stands outs p
 graphs_stand outs p nothing = at_start
-graphs_stand outs p (aside outs0 added p0 g h) = by_aside outs0 added p0 (graphs_stand outs0 p0 g) h
-graphs_stand outs p (begins outs0 asked c o k g ic io h) = by_beginning outs0 asked c o k (graphs_stand outs0 (bare k) g) ic io h
+graphs_stand outs p (aside outs0 added k g h) = by_aside outs0 added (bare k) (graphs_stand outs0 (bare k) g) h
+graphs_stand outs p (passes outs0 reply n k g h) = by_aside outs0 (step n ∷ reply) (holding k) (graphs_stand outs0 (holding k) g) (tt, reply_aside reply h)
+graphs_stand outs p (begins outs0 asked c o k g ic io h) = by_beginning outs0 asked c o k (graphs_stand outs0 (bare k) g) ic io (sent_aside asked h)
 graphs_stand outs p (turns_back outs0 c o k cause g ic io) = by_turning outs0 c o k cause (graphs_stand outs0 (bare k) g) ic io
-graphs_stand outs p (goes_on outs0 put q by give k g at h) = by_going_on outs0 put q by give k (graphs_stand outs0 (holding k) g) at h
-graphs_stand outs p (ends outs0 put q by give cause k g at h) = by_ending outs0 put q by give cause k (graphs_stand outs0 (holding k) g) at h
-graphs_stand outs p (grows_too_large outs0 put q by over k g at h) = by_growing outs0 put q by over k (graphs_stand outs0 (holding k) g) at h
-graphs_stand outs p (is_shut_down outs0 cause k g) = by_shutting outs0 cause k (graphs_stand outs0 (holding k) g)
+graphs_stand outs p (goes_on outs0 put q by give k g st at h) = by_going_on outs0 put q by give k (graphs_stand outs0 (holding k) g) at (sent_aside put h)
+graphs_stand outs p (ends outs0 put q by give cause k g st at h) = by_ending outs0 put q by give cause k (graphs_stand outs0 (holding k) g) at (sent_aside put h)
+graphs_stand outs p (grows_too_large outs0 put q by over k g st at h) = by_growing outs0 put q by over k (graphs_stand outs0 (holding k) g) at (sent_aside put h)
+graphs_stand outs p (is_shut_down outs0 k g) = by_shutting outs0 stopped k (graphs_stand outs0 (holding k) g)
 
 -- each output in which the graph's records stand in that order says what a run of the graph says
 pub graphs_are_traced : (outs : List Out) (p : GraphAt) → Graphs outs p → AreTraced outs p

@@ -61,6 +61,39 @@ IsAside (done status) = Unit {0}
 abbrev pub AreAside : List Out → Type 0
 AreAside outs = AllByRecursion IsAside outs
 
+-- a message of an open that leaves, its count of tries, or how far its file has come
+abbrev pub IsSent : Out → Type 0
+IsSent (sent bytes) = Unit {0}
+IsSent (tried number count) = Unit {0}
+IsSent (advanced number place) = Unit {0}
+IsSent (graph happens) = ⊥
+IsSent (opened number kind server port own target) = ⊥
+IsSent (ended number cause) = ⊥
+IsSent (step number) = ⊥
+IsSent (text bytes) = ⊥
+IsSent (command depth line place expanded words) = ⊥
+IsSent (result cause) = ⊥
+IsSent (script what depth cause) = ⊥
+IsSent (part kind index offset bytes) = ⊥
+IsSent (done status) = ⊥
+
+abbrev pub AreSent : List Out → Type 0
+AreSent outs = AllByRecursion IsSent outs
+
+-- no record, or one frame
+abbrev pub IsReply : List Out → Type 0
+IsReply [] = Unit {0}
+IsReply (sent bytes ∷ []) = Unit {0}
+IsReply _ = ⊥
+
+-- the output ends with a STEP
+abbrev pub IsAtStep : List Out → Type 0
+IsAtStep outs = (front : List Out) × (number : ℕ) × (outs ≡ front ++ (step number ∷ []))
+
+-- the run was ended from outside
+abbrev pub stopped : Cause
+stopped = record { code = 26; a = 0; b = 0 }
+
 abbrev pub IsCommand : Out → Type 0
 IsCommand (command depth line place expanded words) = Unit {0}
 IsCommand (step number) = ⊥
@@ -83,15 +116,17 @@ pub data GraphAt : Type 0 where
   holding : (number : ℕ) → GraphAt
 
 -- An output, as far as the graph is concerned, and where the graph stands then. An open's objects are made between the
--- COMMAND and the OPEN; each datagram and each time enters its Tftp, and what that sends stands within the entry; the end
--- of the open stands after both objects were freed, with the cause of the first close.
+-- COMMAND and the OPEN. While it lives, a step has a reply at most, or begins with an entry of its Tftp, in which what
+-- that sends stands. The end of the open stands after both objects were freed, with the cause of the first close.
 pub data Graphs : List Out → GraphAt → Type 0 where
   -- before any record
   nothing : Graphs [] (bare 0)
-  -- records that don't concern it
-  aside : (outs added : List Out) (p : GraphAt) → Graphs outs p → AreAside added → Graphs (outs ++ added) p
-  -- an open begins, and its request leaves
-  begins : (outs asked : List Out) (c o : Out) (k : ℕ) → Graphs outs (bare k) → IsCommand c → IsOpening k o → AreAside asked →
+  -- records that don't concern it, where no object lives
+  aside : (outs added : List Out) (k : ℕ) → Graphs outs (bare k) → AreAside added → Graphs (outs ++ added) (bare k)
+  -- a step that doesn't concern an open that lives, so far, with a reply at most
+  passes : (outs reply : List Out) (n k : ℕ) → Graphs outs (holding k) → IsReply reply → Graphs (outs ++ (step n ∷ reply)) (holding k)
+  -- an open begins, and what it sends first leaves
+  begins : (outs asked : List Out) (c o : Out) (k : ℕ) → Graphs outs (bare k) → IsCommand c → IsOpening k o → AreSent asked →
       Graphs (outs ++ ((c ∷ []) ++ (traced (made_events (fetch_of k) (tftp_of k)) ++ ((o ∷ []) ++ (traced (begun_front (fetch_of k) (tftp_of k))
       ++ (asked ++ traced (begun_back (fetch_of k) (tftp_of k)))))))) (holding k)
   -- one begins to whose server there is no way: its user closes it with that cause
@@ -99,20 +134,23 @@ pub data Graphs : List Out → GraphAt → Type 0 where
       Graphs (outs ++ ((c ∷ []) ++ (traced (made_events (fetch_of k) (tftp_of k)) ++ ((o ∷ []) ++ (traced (begun_front (fetch_of k) (tftp_of k))
       ++ (traced (begun_back (fetch_of k) (tftp_of k)) ++ (traced (closed_events (fetch_of k) (tftp_of k) cause)
       ++ (traced (freed_events (fetch_of k) (tftp_of k)) ++ (ended k cause ∷ []))))))))) (bare (k + 1))
-  -- a datagram or a time comes to it
-  goes_on : (outs put : List Out) (p : Port) (by : Way) (give : Option (ℕ × ℕ)) (k : ℕ) → Graphs outs (holding k) → IsEntry (tftp_of k) p by → AreAside put →
+  -- a datagram or a time comes to it, first in a step
+  goes_on : (outs put : List Out) (p : Port) (by : Way) (give : Option (ℕ × ℕ)) (k : ℕ) → Graphs outs (holding k) → IsAtStep outs →
+      IsEntry (tftp_of k) p by → AreSent put →
       Graphs (outs ++ (traced (call_front p by) ++ (put ++ (traced (up_events (fetch_of k) give) ++ traced (call_back p))))) (holding k)
   -- and ends it
-  ends : (outs put : List Out) (p : Port) (by : Way) (give : Option (ℕ × ℕ)) (cause : Cause) (k : ℕ) → Graphs outs (holding k) → IsEntry (tftp_of k) p by → AreAside put →
+  ends : (outs put : List Out) (p : Port) (by : Way) (give : Option (ℕ × ℕ)) (cause : Cause) (k : ℕ) → Graphs outs (holding k) → IsAtStep outs →
+      IsEntry (tftp_of k) p by → AreSent put →
       Graphs (outs ++ (traced (call_front p by) ++ (put ++ (traced (up_events (fetch_of k) give)
       ++ (traced (end_events (fetch_of k) (tftp_of k) (Some cause)) ++ (traced (call_back p)
       ++ (traced (freed_events (fetch_of k) (tftp_of k)) ++ (ended k cause ∷ [])))))))) (bare (k + 1))
   -- or makes its body too large
-  grows_too_large : (outs put : List Out) (p : Port) (by : Way) (over : Option Cause) (k : ℕ) → Graphs outs (holding k) → IsEntry (tftp_of k) p by → AreAside put →
+  grows_too_large : (outs put : List Out) (p : Port) (by : Way) (over : Option Cause) (k : ℕ) → Graphs outs (holding k) → IsAtStep outs →
+      IsEntry (tftp_of k) p by → AreSent put →
       Graphs (outs ++ (traced (call_front p by) ++ (put ++ (traced (large_front (fetch_of k) (tftp_of k) body_too_large)
       ++ (traced (passed_events (tftp_of k) body_too_large over) ++ (traced (large_back (fetch_of k) (tftp_of k))
       ++ (traced (late_events (tftp_of k) over) ++ (traced (call_back p)
       ++ (traced (freed_events (fetch_of k) (tftp_of k)) ++ (ended k body_too_large ∷ [])))))))))) (bare (k + 1))
   -- the run ends, and the graph with it
-  is_shut_down : (outs : List Out) (cause : Cause) (k : ℕ) → Graphs outs (holding k) →
-      Graphs (outs ++ (traced (shut_events (fetch_of k) (tftp_of k) cause) ++ (ended k cause ∷ []))) (bare (k + 1))
+  is_shut_down : (outs : List Out) (k : ℕ) → Graphs outs (holding k) →
+      Graphs (outs ++ (traced (shut_events (fetch_of k) (tftp_of k) stopped) ++ (ended k stopped ∷ []))) (bare (k + 1))
