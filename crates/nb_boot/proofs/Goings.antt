@@ -6,7 +6,7 @@ use Rattle.nb_record.specs.Outside.{Outside, Passes}
 use Rattle.nb_record.specs.Logged.{Logged}
 use Rattle.nb_record.proofs.OutsideLemmas.{Passes-nothing, Passes-then}
 use Rattle.nb_engine.specs.Machine.{Machine, Moves, rests, moves_on, Path, uses, moves, fresh, nothing}
-use Rattle.nb_engine.specs.Seen.{Seen, StandsFor, Fits}
+use Rattle.nb_engine.specs.Seen.{Seen, StandsFor, FitsGraph}
 use Rattle.nb_engine.specs.Turns.{Steps, Grows}
 use Rattle.nb_engine.proofs.Puts.{is_either}
 use Rattle.nb_opens.specs.Graphs.{GraphAt, bare, without_graph}
@@ -73,7 +73,7 @@ path_on used ins outs added m m' p s =
     subst (λ xs. Path (ins ++ used) xs m') (sym (plain_append outs added)) (path_steps used ins (without_graph outs) (without_graph added) m m' p s)
 
 grows_whole : (used ins : List In) (rest : List ℕ) (first now : Outside) (old new : Logged) (c c' : Seen) (m : Machine) (p : GraphAt) → old.is_short ≡ false → Grows used c c' old new → HasNumber used c.used →
-    StandsFor c m → Fits c p → Going ins (in_texts used ++ rest) first now old m p → Goes (ins ++ used) rest first now new c'
+    StandsFor c m → FitsGraph c p → Going ins (in_texts used ++ rest) first now old m p → Goes (ins ++ used) rest first now new c'
 grows_whole used ins rest first now old new c c' m p e g number st fit r =
     let none : r.lost ≡ [] = r.whole e in
     let start : out_texts r.outs ≡ (r.written ++ old.bytes) ++ [] = rw (← none) r.texts in
@@ -98,7 +98,7 @@ grows_whole used ins rest first now old new c c' m p e g number st fit r =
     }
 
 grows_short : (used ins : List In) (rest : List ℕ) (first now : Outside) (old new : Logged) (c c' : Seen) (m : Machine) (p : GraphAt) → old.is_short ≡ true → Grows used c c' old new → HasNumber used c.used →
-    StandsFor c m → Fits c p → Going ins (in_texts used ++ rest) first now old m p → Goes (ins ++ used) rest first now new c'
+    StandsFor c m → FitsGraph c p → Going ins (in_texts used ++ rest) first now old m p → Goes (ins ++ used) rest first now new c'
 grows_short used ins rest first now old new c c' m p e g number st fit r =
     let same : new ≡ old = g.puts.stays e in
     let short : new.is_short ≡ true = ap (λ (l : Logged). l.is_short) same ∙ e in

@@ -6,7 +6,7 @@ use Rattle.nb_opens.specs.PairEvents.{shut_events}
 use Rattle.nb_opens.specs.Graphs.{Graphs, aside, is_shut_down, GraphAt, bare, holding, without_graph, fetch_of, tftp_of}
 use Rattle.nb_opens.proofs.Plain.{plain_append, plain_behind}
 use Rattle.nb_engine.specs.Machine.{Machine, at, fresh, ready, running, sleeping, yielded, handing, left, handed_off, stopped, shutdown_records, stopped_cause}
-use Rattle.nb_engine.specs.Seen.{Seen, Fits, StandsFor, as_ready, as_running, as_waiting, as_sleeping, as_yielded, as_handing, as_left, as_handed_off, as_stopped}
+use Rattle.nb_engine.specs.Seen.{Seen, FitsGraph, StandsFor, as_ready, as_running, as_waiting, as_sleeping, as_yielded, as_handing, as_left, as_handed_off, as_stopped}
 use Rattle.nb_engine.specs.Turns.{closing_records, shut_records}
 
 -- the records that close a run of a machine
@@ -41,7 +41,7 @@ shut_graphs outs k number g =
     (aside (outs ++ shut_records k) (done number ∷ []) (k + 1) (is_shut_down outs k g) (tt, tt))
 
 -- what closes a client closes its machine, and its graph
-pub client_closes : (c : Seen) (m : Machine) (p : GraphAt) (number : ℕ) → StandsFor c m → Fits c p → ClosesAll m p number (closing_records c.stage number)
+pub client_closes : (c : Seen) (m : Machine) (p : GraphAt) (number : ℕ) → StandsFor c m → FitsGraph c p → ClosesAll m p number (closing_records c.stage number)
 client_closes c m (bare k) number (as_ready n w g) fit = done_closes (at n ready) k number refl
 client_closes c m (bare k) number (as_running n w g s) fit = done_closes (at n (running w s)) k number refl
 client_closes c m (bare k) number (as_waiting n w g s f o live) fit = absurd fit

@@ -5,7 +5,7 @@ use Rattle.nb_defs.specs.Records.{In, in_texts}
 use Rattle.nb_record.specs.Outside.{Outside}
 use Rattle.nb_record.specs.Logged.{Logged}
 use Rattle.nb_engine.specs.Machine.{fresh}
-use Rattle.nb_engine.specs.Seen.{Seen, seen, StandsFor, as_ready, Fits, FitsAt}
+use Rattle.nb_engine.specs.Seen.{Seen, seen, StandsFor, as_ready, FitsGraph, FitsAt}
 use Rattle.nb_opens.specs.Graphs.{bare}
 use Rattle.nb_engine.specs.Turns.{IsResting}
 use Rattle.nb_engine.specs.declared.stage.Stage.TheVariants as stage
@@ -18,7 +18,7 @@ fresh_stands c e h =
     subst (λ n. StandsFor (seen n c.world c.graph c.stage) fresh) (sym e)
     (subst (λ st. StandsFor (seen 0 c.world c.graph st) fresh) (sym h) (as_ready 0 c.world c.graph))
 
-fresh_fits : (c : Seen) → c.stage ≡ stage.Ready → c.world.opens ≡ 0 → Fits c (bare 0)
+fresh_fits : (c : Seen) → c.stage ≡ stage.Ready → c.world.opens ≡ 0 → FitsGraph c (bare 0)
 fresh_fits c h none = subst (λ st. FitsAt st c.world.opens (bare 0)) (sym h) none
 
 -- START was used, and a command waits

@@ -2,7 +2,7 @@
 use Rattle.std.specs.Prelude.{◌≡◌, ◌<◌, ◌≤◌, ℕ, ◌+◌, Bool, true, false, List, [], ◌∷◌, ◌++◌, length, Option, Some, None}
 use Rattle.nb_defs.specs.Records.{In, in_texts, Out, out_texts, IsPartial}
 use Rattle.nb_engine.specs.Machine.{Machine, Path, fresh}
-use Rattle.nb_engine.specs.Seen.{Seen, StandsFor, Fits}
+use Rattle.nb_engine.specs.Seen.{Seen, StandsFor, FitsGraph}
 use Rattle.nb_engine.specs.Turns.{IsEnd, IsResting, IsOverWith}
 use Rattle.nb_opens.specs.Graphs.{Graphs, GraphAt, bare, without_graph}
 use Rattle.nb_record.specs.Outside.{Outside, Passes, Rose, IsAtEnd}
@@ -35,7 +35,7 @@ pub record Goes (ins : List In) (held : List ℕ) (first now : Outside) (log : L
   pub machine : Machine
   pub at : GraphAt
   pub stands : StandsFor c machine
-  pub fits : Fits c at
+  pub fits : FitsGraph c at
   pub going : Going ins held first now log machine at
 
 -- a run that goes on behind so many records

@@ -4,7 +4,7 @@ ghost use Rattle.nb_record.specs.Outside.{Outside};
 ghost use Rattle.nb_record.specs.View.{in_of};
 ghost use Rattle.nb_engine.specs.StatusNumber.{status_number};
 ghost use Rattle.nb_engine.specs.Machine.{Machine};
-ghost use Rattle.nb_engine.specs.Seen.{StandsFor, Fits};
+ghost use Rattle.nb_engine.specs.Seen.{StandsFor, FitsGraph};
 ghost use Rattle.nb_engine.specs.Turns.{IsBusy, MayUse};
 ghost use Rattle.nb_opens.specs.Graphs.{GraphAt};
 ghost use Rattle.nb_boot.specs.Run.{Ends, Shows};
@@ -78,7 +78,7 @@ fn take<L: Line>(client: &mut Client, entry: &InRec<'_>, log: &mut Log, line: &m
 /// neither is put.
 pub fn finish<L: Line>(client: &mut Client, status: Status, log: &mut Log, line: &mut L) -> Status
     requires { IsClosing status }
-    ensures { (ins : List In) (rest : List ℕ) (first : Outside) (m : Machine) (p : GraphAt) → StandsFor client.old m → Fits client.old p
+    ensures { (ins : List In) (rest : List ℕ) (first : Outside) (m : Machine) (p : GraphAt) → StandsFor client.old m → FitsGraph client.old p
         → Going ins rest first (L.outside line.old) log.old m p → Ends m rest (L.outside line.old) (status_number status)
         → Shows result first (L.outside line.new) }
 {

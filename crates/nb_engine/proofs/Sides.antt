@@ -12,7 +12,7 @@ use Rattle.nb_engine.specs.Running.{Running}
 use Rattle.nb_engine.specs.Effects.{ShownWords}
 use Rattle.nb_engine.specs.Conclusions.{Conclusion, keeps, fails, boots, conclusion_records}
 use Rattle.nb_engine.specs.Machine.{Machine, reply_records, prints, command_records}
-use Rattle.nb_engine.specs.Seen.{Seen, StandsFor, FitsAt, Fits}
+use Rattle.nb_engine.specs.Seen.{Seen, StandsFor, FitsAt, FitsGraph}
 use Rattle.nb_engine.specs.Turns.{Grows, Leads}
 use Rattle.nb_engine.proofs.TellingLemmas.{without_aside, aside-append}
 
@@ -72,7 +72,7 @@ aside_at outs added q x e graphs are =
 
 -- a client for which no command waits grows by records that don't concern the graph
 pub aside_grows : {old new : Logged} (used : List In) (before after : Seen) (added : List Out) → NotWaiting before.stage → AreAside added → Puts old new (out_texts added) →
-    ((q : GraphAt) → Fits before q → Fits after q) → ((m : Machine) → StandsFor before m → Leads used m added after) → Grows used before after old new
+    ((q : GraphAt) → FitsGraph before q → FitsGraph after q) → ((m : Machine) → StandsFor before m → Leads used m added after) → Grows used before after old new
 aside_grows used before after added rests are p fits leads = record {
   added = added;
   puts = p;

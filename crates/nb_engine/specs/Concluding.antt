@@ -14,7 +14,7 @@ use Rattle.nb_engine.specs.Tellings.{told_records}
 use Rattle.nb_opens.specs.Graphs.{bare, fetch_of, tftp_of}
 use Rattle.nb_opens.specs.Notices.{freed_notices}
 use Rattle.nb_opens.specs.Pairs.{HasEnded}
-use Rattle.nb_engine.specs.Seen.{Seen, StandsFor, Fits}
+use Rattle.nb_engine.specs.Seen.{Seen, StandsFor, FitsGraph}
 use Rattle.nb_engine.specs.Objects.{IsFile}
 use Rattle.nb_engine.specs.Turns.{IsBusy, IsWaiting, HasYielded, IsOverWith, IsEnd}
 use Rattle.nb_engine.specs.declared.conclusion.Conclusion.{Conclusion as Concluded}
@@ -42,7 +42,7 @@ IsTurn (turn.Over s) st = IsEnd s × IsOverWith st s
 pub record Concludes (t : Turn) (s : Running) (c : Concluded) (before after : Seen) (old new : Logged) : Type 0 where
   pub puts : Puts old new (out_texts (conclusion_records (conclusion_of c before.world.state.images)))
   pub is_turn : IsTurn t after.stage
-  pub fits : Fits after (bare before.world.opens)
+  pub fits : FitsGraph after (bare before.world.opens)
   pub stands : StandsFor after (at before.used (phase_after before.world s (conclusion_of c before.world.state.images)))
 
 -- the records of an open's end, of which this was told, and of the command that waited for it
@@ -61,7 +61,7 @@ pub record HasEndedOpen (t : Turn) (ns : List Notice) (cause : Cause) (s : Runni
   pub is_file : (file : Option (List ℕ)) → HasEnded before.graph (fetch_of f.number) (tftp_of f.number) file → IsFile cause file body
   pub is_turn : IsTurn t after.stage
   pub puts : Puts old new (out_texts (end_records before ns f cause (comes_to before body f cause)))
-  pub fits : Fits after (bare before.world.opens)
+  pub fits : FitsGraph after (bare before.world.opens)
   pub stands : StandsFor after (at before.used (phase_after (unbound before.world f.own_port) s (comes_to before body f cause)))
 
 -- so it is, unless memory ran out and nothing was put

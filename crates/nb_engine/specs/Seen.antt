@@ -117,9 +117,9 @@ FitsAt stage.HandedOff opens (holding k) = ⊥
 FitsAt stage.Stopped opens (bare k) = opens ≡ k
 FitsAt stage.Stopped opens (holding k) = ⊥
 
-abbrev pub Fits : Seen → GraphAt → Type 0
-Fits c p = FitsAt c.stage c.world.opens p
+abbrev pub FitsGraph : Seen → GraphAt → Type 0
+FitsGraph c p = FitsAt c.stage c.world.opens p
 
 -- the records that a step puts behind an output are in the graph's order with it
 abbrev pub KeepsOrder : Seen → List Out → Seen → Type 0
-KeepsOrder before added after = (outs : List Out) (p : GraphAt) → Graphs outs p → Fits before p → (q : GraphAt) × Graphs (outs ++ added) q × Fits after q
+KeepsOrder before added after = (outs : List Out) (p : GraphAt) → Graphs outs p → FitsGraph before p → (q : GraphAt) × Graphs (outs ++ added) q × FitsGraph after q

@@ -17,7 +17,7 @@ use Rattle.nb_nodes.specs.declared.load.Load.{Load}
 use Rattle.nb_nodes.specs.declared.obj.Obj.{Obj}
 use Rattle.nb_nodes.specs.Carried.{CarriesNothing, both_closes}
 use Rattle.nb_nodes.specs.Fetches.{body_too_large, ends_fetch, first_end, is_ok_close, closed_well, gathers, taken_below, passed_close, AsksUp, AsksOfFetch}
-use Rattle.nb_opens.specs.Pairs.{Fits}
+use Rattle.nb_opens.specs.Pairs.{BodyFits}
 
 taken_more : (t : List (NodeEntry Obj Load)) (e : NodeEntry Obj Load) → taken_below (t ++ e ∷ []) ≡ taken_below t ++ taken_by 1 e
 taken_more t e = flat_map-append (λ (x : NodeEntry Obj Load). taken_by 1 x) t (e ∷ []) ∙ ap (λ z. taken_below t ++ z) (append-nil (taken_by 1 e))
@@ -94,7 +94,7 @@ pub record TakesNone (t : List (NodeEntry Obj Load)) (m : Said) (now : ℕ) (fx 
   pub well : closed_well (t ++ up 1 m now true fx ∷ []) ≡ false
 
 pub takes_none : (t : List (NodeEntry Obj Load)) (body : List ℕ) (m : Said) (now : ℕ) (fx : Fx Obj Load) → gathers t ≡ true → taken_below t ≡ body → AsksOfFetch t (up 1 m now true fx)
-    → Fits body → 268435456 < length (body ++ m.bytes) → TakesNone t m now fx
+    → BodyFits body → 268435456 < length (body ++ m.bytes) → TakesNone t m now fx
 takes_none t body m now fx h k asks fits large =
     let q = asks_up t body m now fx h k asks in
     let big : nat_lt 268435456 (length body + length m.bytes) ≡ true = lt-ltb 268435456 (length body + length m.bytes) (omega (arith, length-append body m.bytes, large)) in

@@ -27,7 +27,7 @@ use Rattle.nb_nodes.specs.Carried.{EffectsOf, both_closes, up_emit, end_closes, 
 use Rattle.nb_nodes.specs.Conversations.{Conversation, under_way, over, talk_went_on}
 use Rattle.nb_nodes.specs.Fetches.{AsksOfFetch, body_too_large, gathers, taken_below, closed_well}
 use Rattle.nb_opens.specs.Notices.{tells, sent_from, up_notices, end_notices, down_notices, call_notices, large_notices, passed_on, closed_late, close_of, or_else, first_close}
-use Rattle.nb_opens.specs.Pairs.{Fits}
+use Rattle.nb_opens.specs.Pairs.{BodyFits}
 use Rattle.nb_opens.proofs.Going.{Case, sends-up, closes-up}
 use Rattle.nb_opens.proofs.Scenes.{Sees}
 use Rattle.nb_opens.proofs.Effects.{At, then_at, as_stages, past_close, past_fetch_end, past_returns, past_returns_above, sends_few, runs_closes, runs_effects}
@@ -50,13 +50,13 @@ large_part f t p o =
 
 -- what becomes of it, by what was told after `front`
 pub data Rises (c : Case) (o : Option Cause) (give : Option (ℕ × ℕ)) (p : Port) (v last : Conversation) (body : List ℕ) (front ns : List Notice) : Type 0 where
-  fits : Fits body → ns ≡ front ++ (up_notices c.fetch give ++ (end_notices c.fetch c.tftp o ++ tells (Left p) ∷ [])) → Finishes c o v body → Rises c o give p v last body front ns
+  fits : BodyFits body → ns ≡ front ++ (up_notices c.fetch give ++ (end_notices c.fetch c.tftp o ++ tells (Left p) ∷ [])) → Finishes c o v body → Rises c o give p v last body front ns
   large : 268435456 < length body → ns ≡ front ++ large_part c.fetch c.tftp p o → Sees c.end c.fetch c.tftp Shut Shut Shut Shut → closed_well c.above ≡ false → last ≡ c.talk → Rises c o give p v last body front ns
   breaks : (more : List Notice) → ns ≡ front ++ (tells (Entered (port_at c.fetch 1) way.Up) ∷ tells (Closed (port_at c.fetch 0) no_memory) ∷ more) → Rises c o give p v last body front ns
 
 module _ (c : Case) (s : Scene) (a : List (NodeEntry Obj Load)) (b : Begun) (start : ℕ) (calls : List Step) (ns : List Notice) (ds : List (Deed Obj Load)) (p : Port) (by : Way) (o : Option Cause) (body : List ℕ)
     (lasts : settles_by {N = Obj} {L = Load} by p.obj.0 ≡ Settles c.tftp ∷ []) (seen : Sees s c.fetch c.tftp Open (Linked (port_at c.tftp 0)) (Linked (port_at c.fetch 1)) Open)
-    (going : gathers a ≡ true) (taken : taken_below a ≡ body) (fit : Fits body) where
+    (going : gathers a ≡ true) (taken : taken_below a ≡ body) (fit : BodyFits body) where
   abbrev talk : Conversation
   talk = if is_some o then over b start calls else under_way b start calls
 
@@ -120,7 +120,7 @@ module _ (c : Case) (s : Scene) (a : List (NodeEntry Obj Load)) (b : Begun) (sta
       → Rises c o give p talk (over b start calls) (body ++ goes_up m.bytes give) ns (told_of ds)
   rises m None k =
       let r = finishes c s a talk ns ds p by (body ++ []) o lasts seen going (taken ∙ sym (append-nil body)) k in
-      fits (subst Fits (sym (append-nil body)) fit) r.0 r.1
+      fits (subst BodyFits (sym (append-nil body)) fit) r.0 r.1
   rises m (Some range) k =
       let x = sends-up c s others a k.below talk k.left 0 1 (up_said m range) seen.tftp_0 (omega arith) k.goes in
       rises_called m range x.0 x.1 x.2
@@ -144,7 +144,7 @@ no_close_sent p (m ∷ ms) = no_close_sent p ms
 
 -- what a call that was done leaves of the two, by what was told in all
 pub data Does (c : Case) (rec : ℕ) (p : Port) (by : Way) (acts : Acts) (v last : Conversation) (body : List ℕ) (ns : List Notice) : Type 0 where
-  does : Fits body → ns ≡ call_notices c.fetch c.tftp p by rec acts → Finishes c acts.over v body → Does c rec p by acts v last body ns
+  does : BodyFits body → ns ≡ call_notices c.fetch c.tftp p by rec acts → Finishes c acts.over v body → Does c rec p by acts v last body ns
   grows : 268435456 < length body → ns ≡ large_notices c.fetch c.tftp p by rec acts → Sees c.end c.fetch c.tftp Shut Shut Shut Shut → closed_well c.above ≡ false → last ≡ c.talk → Does c rec p by acts v last body ns
   gives_up : first_close ns ≡ Some no_memory → Does c rec p by acts v last body ns
 
@@ -162,7 +162,7 @@ does_so c rec p by acts v last body ns (breaks more told) =
 
 -- the entry of a transfer's call
 pub runs_call : (c : Case) (s : Scene) (a : List (NodeEntry Obj Load)) (b : Begun) (start : ℕ) (calls : List Step) (ds : List (Deed Obj Load)) (p : Port) (by : Way) (acts : Acts) (m : Said) (fx : Fx Obj Load) (body : List ℕ)
-    → settles_by {N = Obj} {L = Load} by p.obj.0 ≡ Settles c.tftp ∷ [] → Sees s c.fetch c.tftp Open (Linked (port_at c.tftp 0)) (Linked (port_at c.fetch 1)) Open → gathers a ≡ true → taken_below a ≡ body → Fits body
+    → settles_by {N = Obj} {L = Load} by p.obj.0 ≡ Settles c.tftp ∷ [] → Sees s c.fetch c.tftp Open (Linked (port_at c.tftp 0)) (Linked (port_at c.fetch 1)) Open → gathers a ≡ true → taken_below a ≡ body → BodyFits body
     → EffectsOf m acts fx → At c s (runs_of obj_nature c.tftp m true fx ++ Holds p by None ∷ []) a (talk_went_on b start calls acts) (tells (Entered p by) ∷ []) ds
     → Does c m.rec p by acts (talk_went_on b start calls acts) (over b start calls) (body ++ goes_up m.bytes acts.give) (told_of ds)
 runs_call c s a b start calls ds p by acts m fx body lasts seen going taken fit effects k =

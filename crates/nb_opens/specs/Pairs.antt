@@ -69,8 +69,8 @@ pub record AreMade (g : Objects Obj) (f t : ℕ) : Type 0 where
   pub unharvested : IsUnharvested g f
 
 -- an image has at most 268,435,456 bytes
-abbrev pub Fits : List ℕ → Type 0
-Fits body = length body ≤ 268435456
+abbrev pub BodyFits : List ℕ → Type 0
+BodyFits body = length body ≤ 268435456
 
 -- the body in what an object hands out
 abbrev pub body_in : Option Load → Option (List ℕ)
@@ -88,7 +88,7 @@ pub record Downloads (g : Objects Obj) (f t : ℕ) (b : Begun) (start : ℕ) (ca
   pub tftp : ObjectStands ObjStands g t below
   pub gathering : gathers above ≡ true
   pub taken : taken_below above ≡ body
-  pub fits : Fits body
+  pub fits : BodyFits body
   pub talk : RunsTo unbegun below (under_way b start calls)
   pub meets : Meets b start calls
   pub unharvested : IsUnharvested g f
@@ -117,10 +117,10 @@ body_at_end c body = if c.code == 0 then Some body else None
 -- What a datagram or a time does to the two, by what the transfer asks then, and what the outside is told. Want of
 -- memory shows in the first close.
 pub data CallDoes (g : Objects Obj) (f t : ℕ) (b : Begun) (start : ℕ) (calls : List Entry) (body : List ℕ) (p : Port) (by : Way) (rec : ℕ) (call : Call) (ns : List Notice) : Type 0 where
-  goes_on : (acts : Acts) → Meets b start (calls ++ entry call acts ∷ []) → acts.over ≡ None → Fits (body ++ given_of call acts.give) →
+  goes_on : (acts : Acts) → Meets b start (calls ++ entry call acts ∷ []) → acts.over ≡ None → BodyFits (body ++ given_of call acts.give) →
       ns ≡ call_notices f t p by rec acts → Downloads g f t b start (calls ++ entry call acts ∷ []) (body ++ given_of call acts.give) →
       CallDoes g f t b start calls body p by rec call ns
-  is_over : (acts : Acts) (c : Cause) → Meets b start (calls ++ entry call acts ∷ []) → acts.over ≡ Some c → Fits (body ++ given_of call acts.give) →
+  is_over : (acts : Acts) (c : Cause) → Meets b start (calls ++ entry call acts ∷ []) → acts.over ≡ Some c → BodyFits (body ++ given_of call acts.give) →
       ns ≡ call_notices f t p by rec acts → HasEnded g f t (body_at_end c (body ++ given_of call acts.give)) →
       CallDoes g f t b start calls body p by rec call ns
   is_too_large : (acts : Acts) → Meets b start (calls ++ entry call acts ∷ []) → 268435456 < length (body ++ given_of call acts.give) →
