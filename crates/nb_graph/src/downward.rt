@@ -20,10 +20,10 @@ ghost use Rattle.nb_graph.specs.Effects.{MayAskBelow, MayAskDown};
 ghost use Rattle.nb_graph.specs.Effects.{AreDowns, IsDown};
 
 use crate::inner::Inner;
-use crate::message::{bytes_of, send_part};
+use crate::message::{bytes_of, drop_message, send_part};
 use crate::spare::Spare;
 use crate::{Asked, Emit, Few, Fx, Node};
-use nb_ledger::{GraphEvent, Msg, ObjId, Outside, Port, PortState, Way};
+use nb_ledger::{Msg, ObjId, Outside, Port, PortState, Way};
 
 impl<N: Node> Inner<N> {
     /// A message enters an object from above, which stands at this place of the book.
@@ -414,11 +414,11 @@ impl<N: Node> Inner<N> {
                 self.book.place_at(at.obj, index)
             }
             PortState::Leaving(_) => {
-                out.event(&GraphEvent::Dropped(at).spelled());
+                drop_message(at, out);
                 index
             }
             PortState::Closed => {
-                out.event(&GraphEvent::Dropped(at).spelled());
+                drop_message(at, out);
                 index
             }
         }

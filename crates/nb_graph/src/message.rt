@@ -3,12 +3,13 @@ ghost use Rattle.std.specs.Prelude.{◌≡◌, ◌+◌, ◌<◌, ◌≤◌, ◌+
 ghost use Rattle.nb_graph.specs.Effects.{IsPartOf};
 ghost use Rattle.nb_graph.specs.Trace.{carries, nature, bytes_between, left, said, said_behind};
 ghost use Rattle.std.specs.Prelude.{IfSome, ◌∷◌};
-ghost use Rattle.nb_ledger.specs.Flat.{Given, Told};
+ghost use Rattle.nb_ledger.specs.Flat.{Given, Told, Tells, flat};
+ghost use Rattle.nb_ledger.specs.declared.event.GraphEvent.TheVariants.{Dropped};
 ghost use Rattle.nb_ledger.specs.Flat as notice;
 ghost use Rattle.std.specs.Option.{option_map};
 
 use crate::{Emit, Node, Parts};
-use nb_ledger::{Msg, Outside, Port};
+use nb_ledger::{GraphEvent, Msg, Outside, Port};
 
 /// The message of an entry that has none.
 pub(crate) const NOTHING: Msg<'static> = Msg {
@@ -60,6 +61,16 @@ pub(crate) fn send_part<N: Node, O: Outside>(
         second,
     };
     out.send(at, &part);
+}
+
+/// Tells the outside that a message is dropped at this port.
+#[cold]
+#[inline(never)]
+pub(crate) fn drop_message<O: Outside>(at: Port, out: &mut O)
+    ensures told { Tells (O.events out.old) (O.events out.new) (Dropped at ∷ []) }
+    ensures given { Given (O.events out.old) (O.events out.new) (notice.event (flat (Dropped at)) ∷ []) }
+{
+    out.event(&GraphEvent::Dropped(at).spelled());
 }
 
 /// Bytes `from` to `to` of a message's two parts, in two parts.

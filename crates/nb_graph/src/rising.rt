@@ -18,10 +18,10 @@ ghost use Rattle.nb_graph.specs.Flows.{DoesEffects, Leaves, Rising};
 ghost use Rattle.nb_graph.specs.Moves.{HasAsked, none_due};
 
 use crate::inner::Inner;
-use crate::message::{bytes_of, send_part};
+use crate::message::{bytes_of, drop_message, send_part};
 use crate::spare::Spare;
 use crate::{Asked, Emit, Few, Fx, Node};
-use nb_ledger::{GraphEvent, Msg, ObjId, Outside, Port, PortState};
+use nb_ledger::{Msg, ObjId, Outside, Port, PortState};
 
 impl<N: Node> Inner<N> {
     /// Runs the effects of an entry from below or by time: makes, downs, ups, closes.
@@ -204,14 +204,16 @@ impl<N: Node> Inner<N> {
         ensures steady { IsSteady N.rank_of self.new.book self.new.nodes.items
             (vec_capacity self.new.nodes) }
     {
+        if emit.load.is_some() {
+            return self.send_late_up(id, index, msg, emit, spare, now, out);
+        }
         let at = Port { obj: id, slot: 0 };
         let (first, second) = bytes_of::<N>(emit, msg.first, msg.second);
-        let place = self.pass_up(at, index, emit, msg.rec, first, second, spare, now, out);
-        self.take_load(id, place, &mut emit.load);
-        place
+        self.pass_up(at, index, emit, msg.rec, first, second, spare, now, out)
     }
 
-    /// The same, not inlined, as few entries ask for two: else the rest of an entry is two functions.
+    /// The same, not inlined, as few entries ask for two or lend a load to one above: else the rest of an entry
+    /// is two functions.
     #[inline(never)]
     #[cycle(lively)]
     fn send_late_up<O: Outside>(
@@ -243,7 +245,11 @@ impl<N: Node> Inner<N> {
         ensures steady { IsSteady N.rank_of self.new.book self.new.nodes.items
             (vec_capacity self.new.nodes) }
     {
-        self.send_up(id, index, msg, emit, spare, now, out)
+        let at = Port { obj: id, slot: 0 };
+        let (first, second) = bytes_of::<N>(emit, msg.first, msg.second);
+        let place = self.pass_up(at, index, emit, msg.rec, first, second, spare, now, out);
+        self.take_load(id, place, &mut emit.load);
+        place
     }
 
     /// A message that is asked for leaves by slot 0, with this record and these bytes.
@@ -325,11 +331,11 @@ impl<N: Node> Inner<N> {
                 self.book.place_at(at.obj, index)
             }
             PortState::Leaving(_) => {
-                out.event(&GraphEvent::Dropped(at).spelled());
+                drop_message(at, out);
                 index
             }
             PortState::Closed => {
-                out.event(&GraphEvent::Dropped(at).spelled());
+                drop_message(at, out);
                 index
             }
         }
