@@ -2,6 +2,7 @@ mod BeginLemmas
 mod BreakLemmas
 mod FeedLemmas
 mod FillerLemmas
+mod FixedLemmas
 mod KnownLemmas
 pub mod LogLemmas
 pub mod OutsideLemmas

@@ -4,6 +4,7 @@
 #![tactic(auto)]
 
 mod feed;
+mod fixed;
 mod input;
 mod kind;
 mod line;

@@ -1,5 +1,0 @@
-use Rattle.nb_record.proofs.LogLemmas.{Puts-same}
-use Rattle.nb_record.proofs.log.Log.put_step.Goals as goal
-
-pub returns : goal.returns
-returns c = Puts-same _ _ _ _ c.step_bytes.ensures c.add.ensures
