@@ -1,4 +1,4 @@
-ghost use Rattle.std.specs.Prelude.{◌≡◌, ◌≤◌, ◌+◌, ◌<◌, ◌^◌, ◌∷◌, [], length, None, Some, IfSome, IfOk};
+ghost use Rattle.std.specs.Prelude.{◌≡◌, ◌≤◌, ◌+◌, ◌<◌, ◌^◌, ◌∷◌, ◌++◌, [], length, true, None, Some, IfSome, IfOk};
 ghost use Rattle.nb_ledger.specs.Flat as notice;
 ghost use Rattle.nb_opens.specs.Notices.{close_of, or_else};
 ghost use Rattle.nb_nodes.specs.Carried.{try_tag, try_number};
@@ -143,6 +143,18 @@ fn note_of(from: Port, msg: &Msg<'_>, start: usize) -> Option<Note>
     }
 }
 
+/// Appends bytes. False where memory runs out. Most messages have none, or the four of an acknowledgement.
+#[inline(always)]
+fn extend(bytes: &mut Vec<u8>, piece: &[u8]) -> bool
+    ensures appended { result ≡ true → bytes.new.items ≡ bytes.old.items ++ piece.now }
+{
+    match piece {
+        [] => true,
+        [a, b, c, d] => bytes.extend_from_slice(&[*a, *b, *c, *d]).is_ok(),
+        _ => bytes.extend_from_slice(piece).is_ok(),
+    }
+}
+
 impl Outside for Outlet {
     ghost events = { λ told. told };
 
@@ -154,9 +166,7 @@ impl Outside for Outlet {
 
     fn send(&mut self, from: Port, msg: &Msg<'_>) {
         let start = self.bytes.as_slice().len();
-        if self.bytes.extend_from_slice(msg.first).is_err()
-            || self.bytes.extend_from_slice(msg.second).is_err()
-        {
+        if !extend(&mut self.bytes, msg.first) || !extend(&mut self.bytes, msg.second) {
             self.lost = true;
             return;
         }

@@ -8,11 +8,11 @@ pub invariant_of-self-in-Some : goal.invariant_of-self-in-Some
 invariant_of-self-in-Some c =
     let inside = c.self.inside in
     let m = c.args.msg.now in
-    let first : c.extend_from_slice.new.self.items ≡ inside.bytes.items ++ m.first.now = search rules in
-    let both : c.extend_from_slice-else-is_err.new.self.items ≡ c.extend_from_slice.new.self.items ++ m.second.now = search rules in
+    let first : c.extend.new.bytes.items ≡ inside.bytes.items ++ m.first.now = search rules in
+    let both : c.extend-else-not-extend.new.bytes.items ≡ c.extend.new.bytes.items ++ m.second.now = search rules in
     let start : length c.as_slice-start.result.now ≡ length inside.bytes.items = ap length c.as_slice-start.ensures.value in
     let note : IsNoteFor c.args.from m (length inside.bytes.items) c.in-Some.note = subst (λ k. IsNoteFor c.args.from m k c.in-Some.note) start c.in-Some.ensures in
-    message_keeps inside.lost c.is_ok-is_kept.result inside.bytes.items c.extend_from_slice-else-is_err.new.self.items inside.notes.items c.push.new.self.items c.args.from m c.in-Some.note inside.closed
+    message_keeps inside.lost c.is_ok-is_kept.result inside.bytes.items c.extend-else-not-extend.new.bytes.items inside.notes.items c.push.new.self.items c.args.from m c.in-Some.note inside.closed
     note (bytes_two inside.bytes.items m.first.now m.second.now _ _ first both)
     (c.push.ensures.items ∙ ap (λ b. is_added b inside.notes.items c.in-Some.note) (sym c.is_ok-is_kept.ensures.value)) c.self.invariant
 
@@ -20,12 +20,12 @@ pub returns-in-Some-clause-told : goal.returns-in-Some-clause-told
 returns-in-Some-clause-told c =
     let inside = c.self.inside in
     let m = c.args.msg.now in
-    let first : c.extend_from_slice.new.self.items ≡ inside.bytes.items ++ m.first.now = search rules in
-    let both : c.extend_from_slice-else-is_err.new.self.items ≡ c.extend_from_slice.new.self.items ++ m.second.now = search rules in
+    let first : c.extend.new.bytes.items ≡ inside.bytes.items ++ m.first.now = search rules in
+    let both : c.extend-else-not-extend.new.bytes.items ≡ c.extend.new.bytes.items ++ m.second.now = search rules in
     let start : length c.as_slice-start.result.now ≡ length inside.bytes.items = ap length c.as_slice-start.ensures.value in
     let note : IsNoteFor c.args.from m (length inside.bytes.items) c.in-Some.note = subst (λ k. IsNoteFor c.args.from m k c.in-Some.note) start c.in-Some.ensures in
     rw (← c.self.view_is) (given_told _ _ (message c.args.from m.tag m.rec m.a m.b (m.first.now ++ m.second.now) ∷ [])
-    (message_given inside.lost c.is_ok-is_kept.result inside.bytes.items c.extend_from_slice-else-is_err.new.self.items inside.notes.items c.push.new.self.items c.args.from m c.in-Some.note inside.closed
+    (message_given inside.lost c.is_ok-is_kept.result inside.bytes.items c.extend-else-not-extend.new.bytes.items inside.notes.items c.push.new.self.items c.args.from m c.in-Some.note inside.closed
     note (bytes_two inside.bytes.items m.first.now m.second.now _ _ first both)
     (c.push.ensures.items ∙ ap (λ b. is_added b inside.notes.items c.in-Some.note) (sym c.is_ok-is_kept.ensures.value)) c.self.invariant))
 
@@ -33,10 +33,10 @@ pub returns-in-Some-clause-given : goal.returns-in-Some-clause-given
 returns-in-Some-clause-given c =
     let inside = c.self.inside in
     let m = c.args.msg.now in
-    let first : c.extend_from_slice.new.self.items ≡ inside.bytes.items ++ m.first.now = search rules in
-    let both : c.extend_from_slice-else-is_err.new.self.items ≡ c.extend_from_slice.new.self.items ++ m.second.now = search rules in
+    let first : c.extend.new.bytes.items ≡ inside.bytes.items ++ m.first.now = search rules in
+    let both : c.extend-else-not-extend.new.bytes.items ≡ c.extend.new.bytes.items ++ m.second.now = search rules in
     let start : length c.as_slice-start.result.now ≡ length inside.bytes.items = ap length c.as_slice-start.ensures.value in
     let note : IsNoteFor c.args.from m (length inside.bytes.items) c.in-Some.note = subst (λ k. IsNoteFor c.args.from m k c.in-Some.note) start c.in-Some.ensures in
-    rw (← c.self.view_is) (message_given inside.lost c.is_ok-is_kept.result inside.bytes.items c.extend_from_slice-else-is_err.new.self.items inside.notes.items c.push.new.self.items c.args.from m c.in-Some.note inside.closed
+    rw (← c.self.view_is) (message_given inside.lost c.is_ok-is_kept.result inside.bytes.items c.extend-else-not-extend.new.bytes.items inside.notes.items c.push.new.self.items c.args.from m c.in-Some.note inside.closed
     note (bytes_two inside.bytes.items m.first.now m.second.now _ _ first both)
     (c.push.ensures.items ∙ ap (λ b. is_added b inside.notes.items c.in-Some.note) (sym c.is_ok-is_kept.ensures.value)) c.self.invariant)
