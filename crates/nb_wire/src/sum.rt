@@ -1,5 +1,5 @@
 ghost use Rattle.std.specs.Prelude.{◌≡◌, ℕ, ◌+◌, ◌-◌, ◌*◌, ◌%◌, ◌^◌, ◌<◌, ◌≤◌, List, ◌++◌, length, slice_index, sum};
-ghost use Rattle.std.specs.Int.{w32, to_be_bytes};
+ghost use Rattle.std.specs.Int.{w32, to_be_bytes, from_bool};
 ghost use Rattle.nb_wire.specs.Checksum.{words, checksum, SameSum, HasSum, sum_word};
 
 use crate::Ip4;
@@ -60,31 +60,41 @@ fn total(bytes: &[u8]) -> u64
     ensures room { result < 2 ^ 50 }
     ensures bytes { (i : ℕ) → slice_index bytes.now i < 256 }
 {
-    let mut total: u128 = 0;
+    let mut total: u64 = 0;
     let mut rest = bytes;
     'wide: while let Some((block, after)) = rest.split_first_chunk::<64>() {
-        total += turned_sum(block);
+        total = turned_sum(total, block);
         rest = after;
     }
     let (front, last) = rest.split_at(rest.len() / 8 * 8);
-    total += turned_sum(front);
-    256 * folded(total) + rest_words(last)
+    256 * folded(turned_sum(total, front)) + rest_words(last)
 }
 
-// The sum of words with their bytes turned round, four at a time, carries counted as 1.
+// The sum `before` and that of words with their bytes turned round, four at a time. The carry of each
+// addition goes into the next one, which the processor does by itself.
 #[inline(always)]
-fn turned_sum(bytes: &[u8]) -> u128
+fn turned_sum(before: u64, bytes: &[u8]) -> u64
     requires eights { length bytes.now % 8 ≡ 0 }
-    ensures same { SameSum (256 * result) (sum (words bytes.now)) }
-    ensures room { result ≤ 2 ^ 64 * length bytes.now }
+    ensures { SameSum (256 * result) (256 * before + sum (words bytes.now)) }
 {
-    let mut total: u128 = 0;
+    let mut total = before;
+    let mut carry = false;
     let mut rest = bytes;
     'eights: while let Some((chunk, after)) = rest.split_first_chunk::<8>() {
-        total += u128::from(turned(chunk));
+        (total, carry) = carried(total, turned(chunk), carry);
         rest = after;
     }
-    total
+    total + u64::from(carry)
+}
+
+// The sum of both numbers and a carry, and the carry that it leaves.
+#[inline(always)]
+fn carried(left: u64, right: u64, carry: bool) -> (u64, bool)
+    ensures { result.0 + 2 ^ 64 * from_bool result.1 ≡ left + right + from_bool carry }
+{
+    let both = left.wrapping_add(right);
+    let total = both.wrapping_add(u64::from(carry));
+    (total, (both < right) | (total < both))
 }
 
 // The sum of the four words of eight bytes, their bytes turned round.
@@ -96,17 +106,13 @@ fn turned(chunk: &[u8; 8]) -> u64
 }
 
 #[inline(always)]
-fn folded(total: u128) -> u64
-    requires { total < 2 ^ 83 }
+fn folded(total: u64) -> u64
     ensures same { result % 65535 ≡ total % 65535 }
     ensures zero { result ≡ 0 → total ≡ 0 }
     ensures none { total ≡ 0 → result ≡ 0 }
-    ensures room { result < 2 ^ 35 }
+    ensures room { result < 2 ^ 33 }
 {
-    let low = total % 0x1_0000_0000;
-    let mid = total / 0x1_0000_0000 % 0x1_0000_0000;
-    let high = total / 0x1_0000_0000_0000_0000;
-    (low + mid + high) as u64
+    total % 0x1_0000_0000 + total / 0x1_0000_0000
 }
 
 fn rest_words(rest: &[u8]) -> u64

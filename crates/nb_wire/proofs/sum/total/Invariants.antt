@@ -1,12 +1,9 @@
-use Rattle.std.proofs.Common.{◌+◌, ◌*◌, ◌≤◌, length, sum}
+use Rattle.std.proofs.Common.{◌+◌, ◌*◌, length, sum}
 use Rattle.nb_wire.specs.Checksum.{words, SameSum}
 use Rattle.nb_wire.proofs.sum.total.Given as goal
 
 abbrev pub invariant-wide : goal.invariant-wide
-invariant-wide l = record {
-  same : SameSum (256 * l.total + sum (words l.rest)) (sum (words l.bytes));
-  room : l.total + 18446744073709551616 * length l.rest ≤ 18446744073709551616 * length l.bytes;
-}
+invariant-wide l = SameSum (256 * l.total + sum (words l.rest)) (sum (words l.bytes))
 
 abbrev pub decreases-wide : goal.decreases-wide
 decreases-wide l = length l.rest
