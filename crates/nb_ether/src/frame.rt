@@ -25,6 +25,7 @@ impl<'a> EtherFrame<'a> {
     ghost use Rattle.nb_ether.specs.Frame.{Frame, IsFrame, frame_of, frame_head, frame_text};
 
     /// The frame that the bytes are, if they are one.
+    #[inline(always)]
     pub fn read(bytes: &'a [u8]) -> Option<EtherFrame<'a>>
         ensures sound { IfSome result (λ f. IsFrame bytes.now (frame_of f)) }
         ensures complete { (f : Frame) → IsFrame bytes.now f

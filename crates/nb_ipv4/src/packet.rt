@@ -1,4 +1,5 @@
 ghost use Rattle.std.specs.Prelude.{◌≡◌, ℕ, List, ◌+◌, ◌-◌, ◌*◌, ◌%◌, ◌<◌, ◌≤◌, ◌^◌, ◌++◌, ◌↔◌, ◌⊎◌, length, IfSome, IsSomeAnd, IsErr, OnOk, OnErr, IfNone, MatchBool};
+ghost use Rattle.std.specs.Int.{w32, to_be_bytes};
 ghost use Rattle.nb_wire.specs.Checksum.{checksum, HasSum};
 ghost use Rattle.nb_ipv4.specs.PacketText.{sent_parts, header_text, sent_header};
 
@@ -30,6 +31,7 @@ impl<'a> Packet<'a> {
     ghost use Rattle.nb_ipv4.specs.PacketText.{PacketParts, IsPacket, packet_parts, sent_packet};
 
     /// The packet that the bytes are, if they are one. Padding may follow it.
+    #[inline(always)]
     pub fn read(bytes: &'a [u8]) -> Option<Packet<'a>>
         ensures sound { IfSome result (λ p. IsPacket bytes.now (packet_parts p)) }
         ensures complete { (p : PacketParts) → IsPacket bytes.now p
@@ -107,9 +109,7 @@ fn header_bytes(src: Ip4, dst: Ip4, proto: u8, len: u16, checksum: u16) -> [u8; 
 {
     let [t0, t1] = (20 + len).to_be_bytes();
     let [c0, c1] = checksum.to_be_bytes();
-    let [s0, s1, s2, s3] = src.0.to_be_bytes();
-    let [d0, d1, d2, d3] = dst.0.to_be_bytes();
-    [
+    let mut header = [
         LEAST_FIRST,
         0,
         t0,
@@ -122,15 +122,28 @@ fn header_bytes(src: Ip4, dst: Ip4, proto: u8, len: u16, checksum: u16) -> [u8; 
         proto,
         c0,
         c1,
-        s0,
-        s1,
-        s2,
-        s3,
-        d0,
-        d1,
-        d2,
-        d3,
-    ]
+        0,
+        0,
+        0,
+        0,
+        0,
+        0,
+        0,
+        0,
+    ];
+    *header.last_chunk_mut().unwrap() = addresses(src, dst);
+    header
+}
+
+// Both addresses as a header has them. Each is stored as one number, and not byte by byte.
+#[inline(always)]
+fn addresses(src: Ip4, dst: Ip4) -> [u8; 8]
+    ensures { result ≡ to_be_bytes w32 src.0 ++ to_be_bytes w32 dst.0 }
+{
+    let mut both = [0; 8];
+    *both.last_chunk_mut().unwrap() = dst.0.to_be_bytes();
+    *both.first_chunk_mut().unwrap() = src.0.to_be_bytes();
+    both
 }
 
 /// The first byte of a header without options: version 4 and a length of five words.

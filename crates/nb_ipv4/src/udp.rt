@@ -24,6 +24,7 @@ impl<'a> Udp<'a> {
 
     /// The datagram between these addresses that the body of an IPv4 packet is, if it is one. Bytes
     /// may follow it.
+    #[inline(always)]
     pub fn read(src: Ip4, dst: Ip4, bytes: &'a [u8]) -> Option<Udp<'a>>
         ensures sound { IfSome result (λ d. IsUdp src dst bytes.now (udp_parts d)) }
         ensures complete { (d : UdpParts) → IsUdp src dst bytes.now d

@@ -12,7 +12,6 @@ use Rattle.nb_ether.specs.Frame.{Frame, frame_head, frame_text}
 use Rattle.nb_ipv4.specs.PacketText.{PacketParts, header_text, sent_header, sent_parts, sent_packet}
 use Rattle.nb_ipv4.specs.UdpText.{sent_datagram}
 use Rattle.nb_ipv4.specs.EchoText.{sent_echo}
-use Rattle.nb_ipv4.proofs.NumberLaws.{elements, elements-drop}
 use Rattle.nb_tcpseg.specs.SegmentText.{SegmentParts, tcp_header, sent_header_len, sent_options, sent_sum, sent_segment}
 use Rattle.nb_tcpseg.proofs.HeaderLemmas.{length-tcp_header}
 use Rattle.nb_stack.specs.Sends.{arp_frame, packet_frame, message_frame, udp_of, request_echo, with_checksum, IsCarried}
@@ -60,11 +59,11 @@ heads_frame heads link head body dst src p both link_is packet_is =
     ∙ ap (λ (x : List ℕ). x ++ (head ++ body)) link_is
     ∙ ap (λ (x : List ℕ). frame_head dst src 2048 ++ x) packet_is
 
--- two lists of known lengths are their elements
-pub both_spelled : (m n : ℕ) (xs ys : List ℕ) → length xs ≡ m → length ys ≡ n → elements m 0 xs ++ elements n 0 ys ≡ xs ++ ys
-both_spelled m n xs ys first second =
-    ap (λ (x : List ℕ). x ++ elements n 0 ys) (elements-drop m 0 xs (omega (arith, first)))
-    ∙ ap (λ (x : List ℕ). xs ++ x) (elements-drop n 0 ys (omega (arith, second)))
+-- both heads at once, and the two parts of a body after them
+pub head_between : (old heads head first second new frame : List ℕ) → new ≡ ((old ++ (heads ++ head)) ++ first) ++ second → heads ++ (head ++ (first ++ second)) ≡ frame → new ≡ old ++ frame
+head_between old heads head first second new frame is heads_is =
+    let right : ((old ++ (heads ++ head)) ++ first) ++ second ≡ old ++ (heads ++ (head ++ (first ++ second))) = simp append_assoc in
+    is ∙ right ∙ ap (λ (x : List ℕ). old ++ x) heads_is
 
 pub length-packet_frame : (dst src : Mac) (p : PacketParts) (n : ℕ) → length dst.0 ≡ 6 → length src.0 ≡ 6 → length p.body ≡ n → length (packet_frame dst src p) ≡ 34 + n
 unfolding packet_frame

@@ -14,12 +14,24 @@ use Rattle.nb_stack.proofs.PutLaws.{length-frame_text}
 use Rattle.nb_stack.specs.declared.address.Addr.{Addr}
 use Rattle.nb_stack.specs.Owns.{owns}
 use Rattle.nb_stack.specs.Brings.{Brought, nothing, echo_request, segment, IsFrameFor, IsAddressed, BringsNone, BringsIn, Brings}
+use Rattle.nb_stack.specs.Client.{Client}
+use Rattle.nb_stack.specs.Takes.{Outcome, Takes, TakesAddressed}
 
 pub brings_of : (up : Bool) (mac : Mac) (address : Option Addr) (bytes : List ℕ) (f : Frame) (message : Brought) → IsFrameFor up mac bytes f → ((g : Frame) → IsFrameFor up mac bytes g → f ≡ g) → BringsIn address f message → Brings up mac address bytes message
 brings_of up mac address bytes f nothing is one brings = λ g for_g.
     let P : Frame → Type 0 = λ x. BringsIn address x nothing in
     subst P (one g for_g) brings
 brings_of up mac address bytes f message is one brings = (f, is, brings)
+
+-- what a client makes of the frame for it, it makes of the bytes
+pub takes_of : (client : Client) (bytes : List ℕ) (f : Frame) (seen : Outcome) (put put_after : List ℕ) (after : Client) → IsFrameFor client.up client.mac bytes f → ((g : Frame) → IsFrameFor client.up client.mac bytes g → f ≡ g) → TakesAddressed client f seen put put_after after → Takes client bytes seen put put_after after
+takes_of client bytes f seen put put_after after is one takes = record {
+  message = takes.message;
+  brings = brings_of client.up client.mac client.address bytes f takes.message is one takes.brings;
+  is_outcome = takes.is_outcome;
+  is_put = takes.is_put;
+  is_after = takes.is_after;
+}
 
 -- a frame for packets that has none brings nothing
 pub no_packet : (address : Option Addr) (f : Frame) → f.kind ≡ 2048 → ((p : PacketParts) → IsPacket f.body p → ⊥) → BringsNone address f
@@ -64,13 +76,13 @@ body_short bytes f p frame packet =
     omega (arith, ap length frame.spelled, length-frame_text f frame.dst frame.src, ap length packet.spelled, length-append (header ++ p.body) packet.padding, length-append header p.body, length-header_text packet.header p)
 
 -- what an echo request of a frame brings back fits into a frame
-pub request_short : (up : Bool) (mac : Mac) (address : Option Addr) (bytes : List ℕ) (from : Mac) (p : PacketParts) (e : EchoParts) → Brings up mac address bytes (echo_request from p e) → length bytes ≤ 1522 → length e.body ≤ 1480
-request_short up mac address bytes from p e brings short =
-    let echo = brings.2.0.echo in
-    omega (arith, short, body_short bytes brings.0 p brings.1.frame brings.2.0.packet, ap length echo.spelled, length-append (echo_header e echo.sum) e.body, length-echo_header e echo.sum)
+pub request_short : (address : Option Addr) (bytes : List ℕ) (f : Frame) (from : Mac) (p : PacketParts) (e : EchoParts) → IsFrame bytes f → BringsIn address f (echo_request from p e) → length bytes ≤ 1522 → length e.body ≤ 1480
+request_short address bytes f from p e frame brings short =
+    let echo = brings.0.echo in
+    omega (arith, short, body_short bytes f p frame brings.0.packet, ap length echo.spelled, length-append (echo_header e echo.sum) e.body, length-echo_header e echo.sum)
 
-pub segment_short : (up : Bool) (mac : Mac) (address : Option Addr) (bytes : List ℕ) (from : Mac) (p : PacketParts) (s : SegmentParts) → Brings up mac address bytes (segment from p s) → length bytes ≤ 1522 → length s.body ≤ 1488
-segment_short up mac address bytes from p s brings short =
-    let is = brings.2.0.segment in
+pub segment_short : (address : Option Addr) (bytes : List ℕ) (f : Frame) (from : Mac) (p : PacketParts) (s : SegmentParts) → IsFrame bytes f → BringsIn address f (segment from p s) → length bytes ≤ 1522 → length s.body ≤ 1488
+segment_short address bytes f from p s frame brings short =
+    let is = brings.0.segment in
     let head = tcp_header s is.offset is.sum is.urgent in
-    omega (arith, short, body_short bytes brings.0 p brings.1.frame brings.2.0.packet, ap length is.spelled, length-append head (is.options ++ s.body), length-append is.options s.body, length-tcp_header s is.offset is.sum is.urgent)
+    omega (arith, short, body_short bytes f p frame brings.0.packet, ap length is.spelled, length-append head (is.options ++ s.body), length-append is.options s.body, length-tcp_header s is.offset is.sum is.urgent)

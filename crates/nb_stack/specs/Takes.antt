@@ -3,6 +3,7 @@ use Rattle.std.specs.Prelude.{◌≡◌, ◌==◌, ◌&&◌, ◌++◌, ℕ, Bool
 use Rattle.nb_wire.specs.declared.address.Ip4.{Ip4}
 use Rattle.nb_wire.specs.declared.address.Mac.{Mac}
 use Rattle.nb_ether.specs.declared.arp.Arp.{Arp}
+use Rattle.nb_ether.specs.Frame.{Frame}
 use Rattle.nb_ipv4.specs.PacketText.{PacketParts}
 use Rattle.nb_ipv4.specs.UdpText.{UdpParts}
 use Rattle.nb_ipv4.specs.EchoText.{EchoParts, sent_echo}
@@ -15,7 +16,7 @@ use Rattle.nb_stack.specs.Client.{Client}
 use Rattle.nb_stack.specs.Near.{after_arp}
 use Rattle.nb_stack.specs.Owns.{owns}
 use Rattle.nb_stack.specs.Bound.{owner_of}
-use Rattle.nb_stack.specs.Brings.{Brought, nothing, arp_message, datagram, echo_request, echo_reply, segment, Brings}
+use Rattle.nb_stack.specs.Brings.{Brought, nothing, arp_message, datagram, echo_request, echo_reply, segment, Brings, BringsIn}
 use Rattle.nb_stack.specs.Resets.{has_flag, reset_of}
 use Rattle.nb_stack.specs.Sends.{arp_frame, packet_between}
 
@@ -94,6 +95,14 @@ client_after client message = client
 pub record Takes (client : Client) (bytes : List ℕ) (seen : Outcome) (put put_after : List ℕ) (after : Client) : Type 0 where
   pub message : Brought
   pub brings : Brings client.up client.mac client.address bytes message
+  pub is_outcome : seen ≡ outcome_of client message
+  pub is_put : put_after ≡ put ++ reply_of client message
+  pub is_after : after ≡ client_after client message
+
+-- a client took this frame, which is for it, with this outcome
+pub record TakesAddressed (client : Client) (f : Frame) (seen : Outcome) (put put_after : List ℕ) (after : Client) : Type 0 where
+  pub message : Brought
+  pub brings : BringsIn client.address f message
   pub is_outcome : seen ≡ outcome_of client message
   pub is_put : put_after ≡ put ++ reply_of client message
   pub is_after : after ≡ client_after client message

@@ -19,6 +19,9 @@ use nb_wire::{Ip4, Mac, Out, sum_of_address, sum16_after};
 /// The bytes of a TCP header without options.
 const SEGMENT_HEAD: u16 = 20;
 
+/// The bytes of a UDP header.
+const DATAGRAM_HEAD: u16 = 8;
+
 /// Between whom a packet goes: the interfaces that its frame names, and the two hosts.
 #[derive(Clone, Copy, Debug, PartialEq, Eq)]
 pub(crate) struct Endpoints {
@@ -116,11 +119,26 @@ fn put_any_datagram(
         IsFrameSize (length (packet_between ends 17 (sent_datagram ends.from ends.to d))) }
 {
     let head = Udp::head(ends.from, ends.to, own_port, to_port, first, second);
-    put_packet(ends, PROTO_UDP, &head, first, second, out)
+    let len = DATAGRAM_HEAD + (first.len() + second.len()) as u16;
+    let heads = frame_heads(ends, PROTO_UDP, len);
+    put(&with_head(heads, head), out);
+    put(first, out);
+    put(second, out);
+}
+
+// These heads and a datagram's as one array, which is stored at once.
+#[inline(always)]
+fn with_head(heads: [u8; 34], head: [u8; 8]) -> [u8; 42]
+    ensures { result ≡ heads ++ head }
+{
+    let mut both = [0; 42];
+    *both.last_chunk_mut().unwrap() = head;
+    *both.first_chunk_mut().unwrap() = heads;
+    both
 }
 
 // Puts an echo of this kind, identifier and sequence number.
-#[inline(always)]
+#[inline(never)]
 pub(crate) fn put_echo(
     ends: Endpoints,
     kind: u8,
@@ -144,7 +162,7 @@ pub(crate) fn put_echo(
 }
 
 // Puts the segment that these bytes are but for its checksum. Its header lies in `first`.
-#[inline(always)]
+#[inline(never)]
 fn put_segment(ends: Endpoints, first: &[u8], second: &[u8], out: &mut Out<'_>)
     requires whole { 20 ≤ length first.now }
     requires even { length first.now % 2 ≡ 0 }
@@ -285,17 +303,15 @@ fn frame_heads(ends: Endpoints, proto: u8, len: u16) -> [u8; 34]
     joined(link, packet)
 }
 
-// Both heads as one array, which takes one look at the room.
+// Both heads as one array, which is stored at once.
 #[inline(always)]
 fn joined(link: [u8; 14], packet: [u8; 20]) -> [u8; 34]
     ensures { result ≡ link ++ packet }
 {
-    let [l0, l1, l2, l3, l4, l5, l6, l7, l8, l9, m0, m1, m2, m3] = link;
-    let [a, b, c, d, e, f, g, h, i, j, k, l, m, n, o, p, q, r, s, t] = packet;
-    [
-        l0, l1, l2, l3, l4, l5, l6, l7, l8, l9, m0, m1, m2, m3, a, b, c, d, e, f, g, h, i, j, k, l,
-        m, n, o, p, q, r, s, t,
-    ]
+    let mut both = [0; 34];
+    *both.last_chunk_mut().unwrap() = packet;
+    *both.first_chunk_mut().unwrap() = link;
+    both
 }
 
 #[inline(always)]

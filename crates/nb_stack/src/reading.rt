@@ -1,13 +1,13 @@
 //! The reading of a frame.
 
-ghost use Rattle.std.specs.Prelude.{◌≡◌, ◌⊎◌, ◌↔◌, true, Some, IfSome, IsSomeAnd, IsTrue};
+ghost use Rattle.std.specs.Prelude.{◌≡◌, ◌⊎◌, ◌↔◌, true, Some, IsSome, IfSome, IfNone, IsSomeAnd, IsTrue};
 ghost use Rattle.nb_ether.specs.Frame.{Frame, frame_of};
 ghost use Rattle.nb_ipv4.specs.PacketText.{IsPacket, packet_parts};
-ghost use Rattle.nb_ipv4.specs.UdpText.{UdpParts, IsUdp, udp_parts};
+ghost use Rattle.nb_ipv4.specs.UdpText.{udp_parts};
 ghost use Rattle.nb_ipv4.specs.EchoText.{EchoParts, IsEcho, IsEchoKind, echo_parts};
 ghost use Rattle.nb_tcpseg.specs.SegmentText.{SegmentParts, IsSegment, segment_parts};
 ghost use Rattle.nb_stack.specs.Owns.{owns, everyone};
-ghost use Rattle.nb_stack.specs.Brings.{IsFrameFor, IsAddressed, IsEchoOf, BringsIn, Brings, brought};
+ghost use Rattle.nb_stack.specs.Brings.{IsFrameFor, IsAddressed, IsEchoOf, BringsIn, BringsNone, datagram, brought};
 
 use crate::address::{ALL_HOSTS, Addr, DHCP_CLIENT, EVERYONE, is_own};
 use crate::message::Message;
@@ -16,17 +16,12 @@ use nb_ipv4::{ECHO_REQUEST, Echo, PROTO_ICMP, PROTO_TCP, PROTO_UDP, Packet, Udp}
 use nb_tcpseg::Segment;
 use nb_wire::{Ip4, Mac};
 
-// The message that the bytes bring a client with these addresses, if they bring one.
-pub(crate) fn message<'a>(up: bool, mac: Mac, address: Option<Addr>, bytes: &'a [u8]) -> Message<'a>
-    ensures { Brings up mac address bytes.now (brought result) }
-{
-    match frame_for(up, mac, bytes) {
-        Some(frame) => message_in(address, frame),
-        None => Message::Nothing,
-    }
-}
+/// Where an IPv4 header names the protocol.
+const PROTO_AT: usize = 9;
 
-fn frame_for<'a>(up: bool, mac: Mac, bytes: &'a [u8]) -> Option<EtherFrame<'a>>
+// The frame that the bytes are, if it is for a client with these addresses.
+#[inline(always)]
+pub(crate) fn frame_for<'a>(up: bool, mac: Mac, bytes: &'a [u8]) -> Option<EtherFrame<'a>>
     ensures sound { IfSome result (λ f. IsFrameFor up mac bytes.now (frame_of f)) }
     ensures complete { (f : Frame) → IsFrameFor up mac bytes.now f
         → IsSomeAnd result (λ g. frame_of g ≡ f) }
@@ -48,7 +43,50 @@ fn is_for(mac: Mac, dst: Mac) -> bool
     dst == mac || dst == EVERYONE
 }
 
-fn message_in<'a>(address: Option<Addr>, frame: EtherFrame<'a>) -> Message<'a>
+// The UDP packet that the frame has, if the packet is one.
+#[inline(always)]
+pub(crate) fn udp_packet_in<'a>(frame: EtherFrame<'a>) -> Option<Packet<'a>>
+    ensures kind { IsSome result → frame.entry.kind ≡ 2048 }
+    ensures packet { IfSome result (λ p. IsPacket frame.entry.body.now (packet_parts p)) }
+    ensures proto { IfSome result (λ p. p.proto ≡ 17) }
+{
+    if frame.kind != KIND_IPV4 || frame.body.get(PROTO_AT) != Some(&PROTO_UDP) {
+        return None;
+    }
+    let packet = Packet::read(frame.body)?;
+    if packet.proto == PROTO_UDP {
+        Some(packet)
+    } else {
+        None
+    }
+}
+
+// The datagram that a frame has in this packet, if it is for a client with this address.
+#[inline(always)]
+pub(crate) fn datagram_of<'a>(
+    address: Option<Addr>,
+    frame: EtherFrame<'a>,
+    packet: Packet<'a>,
+) -> Option<Udp<'a>>
+    requires kind { frame.kind ≡ 2048 }
+    requires packet { IsPacket frame.body.now (packet_parts packet) }
+    requires proto { packet.proto ≡ 17 }
+    ensures sound { IfSome result (λ d. BringsIn address (frame_of frame.entry)
+        (datagram (packet_parts packet.entry) (udp_parts d))) }
+    ensures none { IfNone result (BringsNone address (frame_of frame.entry)) }
+{
+    let Some(datagram) = Udp::read(packet.src, packet.dst, packet.body) else {
+        return None;
+    };
+    if is_addressed(address, packet.dst, datagram.dst_port) {
+        Some(datagram)
+    } else {
+        None
+    }
+}
+
+// The message that a frame for a client with this address brings it.
+pub(crate) fn message_in<'a>(address: Option<Addr>, frame: EtherFrame<'a>) -> Message<'a>
     ensures { BringsIn address (frame_of frame.entry) (brought result) }
 {
     match frame.kind {
@@ -100,7 +138,7 @@ fn datagram_in<'a>(address: Option<Addr>, frame: EtherFrame<'a>, packet: Packet<
     requires proto { packet.proto ≡ 17 }
     ensures { BringsIn address (frame_of frame.entry) (brought result) }
 {
-    match udp_for(address, packet) {
+    match datagram_of(address, frame, packet) {
         Some(datagram) => Message::HasDatagram { packet, datagram },
         None => Message::Nothing,
     }
@@ -141,21 +179,6 @@ fn segment_in<'a>(address: Option<Addr>, frame: EtherFrame<'a>, packet: Packet<'
             segment,
         },
         None => Message::Nothing,
-    }
-}
-
-fn udp_for<'a>(address: Option<Addr>, packet: Packet<'a>) -> Option<Udp<'a>>
-    ensures sound { let p = packet_parts packet.entry in IfSome result
-        (λ d. IsUdp p.src p.dst p.body (udp_parts d) × IsAddressed address p.dst d.dst_port) }
-    ensures complete { let p = packet_parts packet.entry in (d : UdpParts)
-        → IsUdp p.src p.dst p.body d → IsAddressed address p.dst d.dst_port
-        → IsSomeAnd result (λ e. udp_parts e ≡ d) }
-{
-    let datagram = Udp::read(packet.src, packet.dst, packet.body)?;
-    if is_addressed(address, packet.dst, datagram.dst_port) {
-        Some(datagram)
-    } else {
-        None
     }
 }
 

@@ -8,11 +8,11 @@ use crate::message::Message;
 use crate::neighbours::{Neighbour, Neighbours};
 use crate::ports::{Port, Ports};
 use crate::put::{Endpoints, put_arp, put_echo, put_header, put_message};
-use crate::reading::message;
+use crate::reading::{datagram_of, frame_for, message_in, udp_packet_in};
 use crate::reset::{is_reset, reset_of};
 use crate::route::{Way, datagram_way, packet_way};
 use crate::taken::{Fate, Taken};
-use nb_ether::{ARP_REPLY, ARP_REQUEST, Arp};
+use nb_ether::{ARP_REPLY, ARP_REQUEST, Arp, EtherFrame};
 use nb_ipv4::{ECHO_REPLY, Echo, PROTO_ICMP, PROTO_TCP, PROTO_UDP, Packet, Udp};
 use nb_tcpseg::Segment;
 use nb_terms::SendTo;
@@ -38,8 +38,9 @@ impl Model for Stack {
 }
 
 impl Stack {
-    ghost use Rattle.std.specs.Prelude.{◌≡◌, ℕ, ◌+◌, ◌%◌, ◌≤◌, List, ◌++◌, ◌↔◌, [], None, false, length, is_some, IsErr, OnOk, OnErr};
-    ghost use Rattle.nb_ipv4.specs.PacketText.{packet_parts};
+    ghost use Rattle.std.specs.Prelude.{◌≡◌, ℕ, ◌+◌, ◌%◌, ◌≤◌, List, ◌++◌, ◌↔◌, [], None, false, length, is_some, IfSome, IfNone, IsSomeAnd, IsErr, OnOk, OnErr};
+    ghost use Rattle.nb_ether.specs.Frame.{Frame, IsFrame, frame_of};
+    ghost use Rattle.nb_ipv4.specs.PacketText.{IsPacket, packet_parts};
     ghost use Rattle.nb_ipv4.specs.UdpText.{udp_parts};
     ghost use Rattle.nb_ipv4.specs.EchoText.{echo_parts};
     ghost use Rattle.nb_tcpseg.specs.SegmentText.{segment_parts};
@@ -47,8 +48,8 @@ impl Stack {
     ghost use Rattle.nb_stack.specs.Bound.{owner_of, with_port, without};
     ghost use Rattle.nb_stack.specs.Sends.{fate_of, put_on, way_of, fate_by, put_by, request_for, IsCarried};
     ghost use Rattle.nb_stack.specs.Envelope.{message_of};
-    ghost use Rattle.nb_stack.specs.Brings.{Brings, arp_message, datagram, echo_request, echo_reply, segment, brought};
-    ghost use Rattle.nb_stack.specs.Takes.{Takes, outcome, outcome_of, reply_of, client_after, asks, reply_to, back_to};
+    ghost use Rattle.nb_stack.specs.Brings.{IsFrameFor, BringsIn, BringsNone, arp_message, datagram, echo_request, echo_reply, segment, brought};
+    ghost use Rattle.nb_stack.specs.Takes.{Takes, TakesAddressed, outcome, outcome_of, reply_of, client_after, asks, reply_to, back_to};
     ghost use Rattle.nb_stack.specs.Sizes.{IsFrameSize, IsReplySize};
     ghost use Rattle.nb_stack.specs.declared.taken.Fate.TheVariants.{NoRoute};
 
@@ -116,6 +117,65 @@ impl Stack {
         requires frame { length frame.now ≤ 1522 }
         requires room { 1522 ≤ reply.old.left }
         ensures takes { Takes self.old frame.now
+            (outcome result) reply.old.written reply.new.written self.new }
+        ensures size { (r : List ℕ) × (reply.new.written ≡ reply.old.written ++ r) × IsReplySize r }
+        ensures mac { self.new.mac ≡ self.old.mac }
+        ensures address { self.new.address ≡ self.old.address }
+        ensures up { self.new.up ≡ self.old.up }
+        ensures ports { self.new.ports ≡ self.old.ports }
+    {
+        let Some(frame) = self.frame_for(frame) else {
+            return Taken::Drop;
+        };
+        match udp_packet_in(frame) {
+            Some(packet) => self.take_datagram(frame, packet),
+            None => self.take_other(frame, reply),
+        }
+    }
+
+    #[inline(always)]
+    fn frame_for<'a>(&self, bytes: &'a [u8]) -> Option<EtherFrame<'a>>
+        ensures sound { IfSome result
+            (λ f. IsFrameFor self.now.up self.now.mac bytes.now (frame_of f)) }
+        ensures complete { (f : Frame) → IsFrameFor self.now.up self.now.mac bytes.now f
+            → IsSomeAnd result (λ g. frame_of g ≡ f) }
+    {
+        frame_for(self.up, self.mac, bytes)
+    }
+
+    // Most frames of a transfer are datagrams, so they go by themselves, and no message is made of them.
+    #[inline(always)]
+    fn take_datagram<'a>(&self, frame: EtherFrame<'a>, packet: Packet<'a>) -> Taken<'a>
+        requires kind { frame.kind ≡ 2048 }
+        requires packet { IsPacket frame.body.now (packet_parts packet) }
+        requires proto { packet.proto ≡ 17 }
+        ensures { (put : List ℕ)
+            → TakesAddressed self.now (frame_of frame.entry) (outcome result) put put self.now }
+    {
+        match self.datagram_of(frame, packet) {
+            Some(udp) => self.hand_on(packet, udp),
+            None => Taken::Drop,
+        }
+    }
+
+    #[inline(always)]
+    fn datagram_of<'a>(&self, frame: EtherFrame<'a>, packet: Packet<'a>) -> Option<Udp<'a>>
+        requires kind { frame.kind ≡ 2048 }
+        requires packet { IsPacket frame.body.now (packet_parts packet) }
+        requires proto { packet.proto ≡ 17 }
+        ensures sound { IfSome result (λ d. BringsIn self.now.address (frame_of frame.entry)
+            (datagram (packet_parts packet.entry) (udp_parts d))) }
+        ensures none { IfNone result (BringsNone self.now.address (frame_of frame.entry)) }
+    {
+        datagram_of(self.address, frame, packet)
+    }
+
+    // Of every other frame the message is made first.
+    #[inline(never)]
+    fn take_other<'a>(&mut self, frame: EtherFrame<'a>, reply: &mut Out<'_>) -> Taken<'a>
+        requires frame { (bytes : List ℕ) × IsFrame bytes (frame_of frame) × (length bytes ≤ 1522) }
+        requires room { 1522 ≤ reply.old.left }
+        ensures takes { TakesAddressed self.old (frame_of frame.entry)
             (outcome result) reply.old.written reply.new.written self.new }
         ensures size { (r : List ℕ) × (reply.new.written ≡ reply.old.written ++ r) × IsReplySize r }
         ensures mac { self.new.mac ≡ self.old.mac }
@@ -244,11 +304,10 @@ impl Stack {
         }
     }
 
-    #[inline(always)]
-    fn message<'a>(&self, frame: &'a [u8]) -> Message<'a>
-        ensures { Brings self.now.up self.now.mac self.now.address frame.now (brought result) }
+    fn message<'a>(&self, frame: EtherFrame<'a>) -> Message<'a>
+        ensures { BringsIn self.now.address (frame_of frame.entry) (brought result) }
     {
-        message(self.up, self.mac, self.address, frame)
+        message_in(self.address, frame)
     }
 
     // The sender is noted, and a request for us is replied to.
@@ -297,6 +356,7 @@ impl Stack {
         }
     }
 
+    #[inline(always)]
     fn hand_on<'a>(&self, packet: Packet<'a>, udp: Udp<'a>) -> Taken<'a>
         ensures { outcome result ≡ outcome_of self.now
             (datagram (packet_parts packet.entry) (udp_parts udp.entry)) }

@@ -1,8 +1,11 @@
-use Rattle.nb_stack.proofs.ReadingLaws.{request_short, segment_short}
+use Rattle.nb_ether.specs.Frame.{frame_of}
+use Rattle.nb_stack.proofs.ReadingLaws.{takes_of}
 use Rattle.nb_stack.proofs.stack.Stack.take.Goals as goal
 
-pub reply_echo-requires-clause-short : goal.reply_echo-requires-clause-short
-reply_echo-requires-clause-short c = request_short _ _ _ _ _ _ _ c.in-HasRequest.ensures c.requires.frame
+pub returns-in-Some-udp_packet_in-clause-takes : goal.returns-in-Some-udp_packet_in-clause-takes
+returns-in-Some-udp_packet_in-clause-takes c =
+    takes_of _ _ (frame_of c.in-Some.frame) _ _ _ _ c.in-Some.ensures.sound c.in-Some.ensures.complete (c.take_datagram.ensures c.args.reply.now.written)
 
-pub take_segment-requires-clause-short : goal.take_segment-requires-clause-short
-take_segment-requires-clause-short c = segment_short _ _ _ _ _ _ _ c.in-HasSegment.ensures c.requires.frame
+pub returns-in-None-clause-takes : goal.returns-in-None-clause-takes
+returns-in-None-clause-takes c =
+    takes_of _ _ (frame_of c.in-Some.frame) _ _ _ _ c.in-Some.ensures.sound c.in-Some.ensures.complete c.take_other.ensures.takes
