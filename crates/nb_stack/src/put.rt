@@ -320,5 +320,5 @@ fn put(bytes: &[u8], out: &mut Out<'_>)
     ensures put { out.new.written ≡ out.old.written ++ bytes.now }
     ensures room { out.new.left + length bytes.now ≡ out.old.left }
 {
-    out.put(bytes).unwrap();
+    out.push(bytes)
 }

@@ -1,4 +1,4 @@
-ghost use Rattle.std.specs.Prelude.{◌≡◌, ◌+◌, ◌<◌, ◌++◌, ◌↔◌, [], length, IsErr, OnOk, OnErr};
+ghost use Rattle.std.specs.Prelude.{◌≡◌, ◌+◌, ◌<◌, ◌≤◌, ◌++◌, ◌↔◌, [], length, IsErr, OnOk, OnErr};
 
 use std::marker::Model;
 
@@ -45,10 +45,20 @@ impl<'b> Out<'b> {
         if self.buffer.len() - self.len < bytes.len() {
             return Err(Full);
         }
+        self.push(bytes);
+        Ok(())
+    }
+
+    /// Puts the bytes behind those that stand there, where their room is known.
+    #[inline(always)]
+    pub fn push(&mut self, bytes: &[u8])
+        requires { length bytes.now ≤ self.old.left }
+        ensures appended { self.new.written ≡ self.old.written ++ bytes.now }
+        ensures room { self.new.left + length bytes.now ≡ self.old.left }
+    {
         let end = self.len + bytes.len();
         self.buffer[self.len..end].copy_from_slice(bytes);
         self.len = end;
-        Ok(())
     }
 
     /// Puts the bytes of both, one after the other, or none of them.
