@@ -6,13 +6,13 @@ use Rattle.nb_defs.specs.Commands.{CommandOutcome, refused}
 use Rattle.nb_defs.specs.Records.{Start, In, start, frame, tick, off, Out, step, enter, leave, ended}
 use Rattle.nb_defs.specs.ScriptLines.{Reading, script, no_script, script_too_long, line_too_long, label_place}
 use Rattle.nb_engine.specs.declared.world.World.{World}
-use Rattle.nb_engine.specs.World.{world_of, world_with_table, with_open, with_ended_open}
+use Rattle.nb_engine.specs.World.{world_of, with_open, with_ended_open}
 use Rattle.nb_engine.specs.FirstText.{first_reading, text_refusal}
 use Rattle.nb_engine.specs.Running.{Running, Coming, coming, passing, leaving, beginning, first_script, entered, further, behind_line, no_label}
-use Rattle.nb_engine.specs.Effects.{Wanted, Effect, says, asks, goes, sleeps, effect, table_after, shown_words}
+use Rattle.nb_engine.specs.Effects.{Wanted, Effect, says, asks, goes, sleeps, shuts_device, effect, shown_words}
 use Rattle.nb_engine.specs.Opens.{open_for, request_of, has_route, send_records, opened_record, begun_for}
 use Rattle.nb_engine.specs.Conclusions.{fails, conclusion_records}
-use Rattle.nb_engine.specs.Machine.{Machine, Phase, ready, running, waiting, sleeping, yielded, handing, left, handed_off, stopped, at, fresh, Path, nothing, uses, moves, Begins, runs, refuses, passes_by, brings, passes_time, switches_off, sleeps_through_frame, sleeps_on, wakes, goes_off_asleep, goes_on_by_frame, goes_on_by_tick, goes_off, Move, Moves, rests, moves_on, passes, is_left, yields, does, leaves, jumps, finds_no_label, falls_asleep, asks_for, finds_no_route, hands, has_handed, command_record, command_records, no_route}
+use Rattle.nb_engine.specs.Machine.{Machine, Phase, ready, running, waiting, sleeping, yielded, handing, left, handed_off, stopped, at, fresh, Path, nothing, uses, moves, Begins, runs, refuses, passes_by, brings, passes_time, switches_off, sleeps_through_frame, sleeps_on, wakes, goes_off_asleep, goes_on_by_frame, goes_on_by_tick, goes_off, Move, Moves, rests, moves_on, passes, is_left, yields, does, closes_device, leaves, jumps, finds_no_label, falls_asleep, asks_for, finds_no_route, hands, has_handed, command_record, command_records, no_route, world_after}
 use Rattle.nb_boot.specs.Laws.{IsAtRest, SameRun}
 
 -- records, and where they lead
@@ -27,7 +27,7 @@ reached records machine = record { records = records; machine = machine }
 abbrev outcome_move : ℕ → World → Running → List (List ℕ) → CommandOutcome → Bool → Reached
 outcome_move n w s ws o true = reached (command_records s (shown_words w.state.table ws) o ++ (leave s.depth o.cause ∷ [])) (at n (left o.cause))
 outcome_move n w s ws o false =
-    reached (command_records s (shown_words w.state.table ws) o) (at n (running (world_with_table w (table_after w.state.table ws)) (further s o.cause)))
+    reached (command_records s (shown_words w.state.table ws) o) (at n (running (world_after w ws) (further s o.cause)))
 
 abbrev label_move : ℕ → World → Running → List (List ℕ) → Option ℕ → Reached
 label_move n w s ws None = reached (command_records s (shown_words w.state.table ws) (refused no_label)) (at n (running w (further s no_label)))
@@ -44,6 +44,7 @@ route_move n w s ws wanted false =
 abbrev effect_move : ℕ → World → Running → List (List ℕ) → Effect → Reached
 effect_move n w s ws (says o) = outcome_move n w s ws o o.leaves
 effect_move n w s ws (asks wanted) = route_move n w s ws wanted (has_route w.net (request_of (begun_for w wanted)))
+effect_move n w s ws shuts_device = reached (command_records s (shown_words w.state.table ws) (refused ok)) (at n (running (world_after w ws) (further s ok)))
 effect_move n w s ws (goes name) = label_move n w s ws (label_place name s.code)
 effect_move n w s ws (sleeps seconds) =
     reached (command_record s (shown_words w.state.table ws) ∷ []) (at n (sleeping w (entered s) (w.time + 1000 * seconds)))
@@ -91,6 +92,7 @@ move_is m a m' (passes n w s t h) = ap (λ x. Some (coming_move n w s x)) h
 move_is m a m' (is_left n w s cause h) = ap (λ x. Some (coming_move n w s x)) h
 move_is m a m' (yields n w s c cs h full) = ap (λ x. Some (coming_move n w s x)) h ∙ ap (λ b. Some (full_move n w s (c ∷ cs) b)) (is_full s.begun full)
 move_is m a m' (does n w s c cs o h early e k) = ap (λ x. Some x) (begun_move n w s c cs (says o) h early e) ∙ ap (λ b. Some (outcome_move n w s (c ∷ cs) o b)) k
+move_is m a m' (closes_device n w s c cs h early e) = ap (λ x. Some x) (begun_move n w s c cs shuts_device h early e)
 move_is m a m' (leaves n w s c cs o h early e k) = ap (λ x. Some x) (begun_move n w s c cs (says o) h early e) ∙ ap (λ b. Some (outcome_move n w s (c ∷ cs) o b)) k
 move_is m a m' (jumps n w s c cs name line h early e k) = ap (λ x. Some x) (begun_move n w s c cs (goes name) h early e) ∙ ap (λ l. Some (label_move n w s (c ∷ cs) l)) k
 move_is m a m' (finds_no_label n w s c cs name h early e k) = ap (λ x. Some x) (begun_move n w s c cs (goes name) h early e) ∙ ap (λ l. Some (label_move n w s (c ∷ cs) l)) k

@@ -7,7 +7,7 @@ use Rattle.nb_engine.specs.declared.world.World.{World}
 use Rattle.nb_engine.specs.Opens.{Open, with_entry}
 use Rattle.nb_engine.specs.Conclusions.{Conclusion, keeps, fails, boots}
 use Rattle.nb_engine.specs.Running.{Running}
-use Rattle.nb_engine.specs.Machine.{Machine, Phase, ready, running, waiting, sleeping, yielded, handing, left, handed_off, stopped, phase_after, concluded, Hears, goes_on, is_over, Path, nothing, uses, moves, Begins, runs, refuses, passes_by, brings, passes_time, switches_off, sleeps_through_frame, sleeps_on, wakes, goes_off_asleep, goes_on_by_frame, goes_on_by_tick, goes_off, Move, passes, is_left, yields, does, leaves, jumps, finds_no_label, falls_asleep, asks_for, finds_no_route, hands, has_handed}
+use Rattle.nb_engine.specs.Machine.{Machine, Phase, ready, running, waiting, sleeping, yielded, handing, left, handed_off, stopped, phase_after, concluded, Hears, goes_on, is_over, Path, nothing, uses, moves, Begins, runs, refuses, passes_by, brings, passes_time, switches_off, sleeps_through_frame, sleeps_on, wakes, goes_off_asleep, goes_on_by_frame, goes_on_by_tick, goes_off, Move, passes, is_left, yields, does, closes_device, leaves, jumps, finds_no_label, falls_asleep, asks_for, finds_no_route, hands, has_handed}
 use Rattle.nb_engine.specs.World.{unbound}
 use Rattle.nb_boot.specs.Complete.{AreOthers}
 
@@ -84,6 +84,7 @@ move_used m added m' (is_left n w s cause h) u = u
 move_used m added m' (yields n w s x xs h full) u = u
 move_used m added m' (does n w s x xs o h early k l) u = u
 move_used m added m' (leaves n w s x xs o h early k l) u = u
+move_used m added m' (closes_device n w s x xs h early k) u = u
 move_used m added m' (jumps n w s x xs name line h early k l) u = u
 move_used m added m' (finds_no_label n w s x xs name h early k l) u = u
 move_used m added m' (falls_asleep n w s x xs seconds h early k) u = u

@@ -3,7 +3,8 @@ use Rattle.std.specs.Prelude.{◌≡◌, List, []}
 use Rattle.nb_record.specs.Outside.{Outside}
 use Rattle.nb_engine.specs.Machine.{handed_off}
 use Rattle.nb_opens.specs.Graphs.{without_graph}
-use Rattle.nb_laws.specs.Events.{Event, IsHistory}
+use Rattle.nb_laws.specs.Events.{Event}
+use Rattle.nb_laws.specs.Histories.{IsHistory}
 use Rattle.nb_laws.specs.Lawful.{IsLawful}
 use Rattle.nb_laws.specs.HandOff.{HandsOff, BringTheirs}
 use Rattle.nb_boot.specs.Run.{Run}

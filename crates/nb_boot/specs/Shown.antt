@@ -10,7 +10,8 @@ use Rattle.nb_record.specs.Outside.{Outside, Passes, Rose, IsAtEnd}
 use Rattle.nb_engine.specs.declared.status.Status.{Status}
 use Rattle.nb_engine.specs.declared.status.Status.TheVariants as status
 use Rattle.nb_machine.specs.Courses.{Standing, ready, running, waiting, yielded, handing, left, handed_off, stopped, Progress, Course}
-use Rattle.nb_laws.specs.Events.{Event, IsHistory}
+use Rattle.nb_laws.specs.Events.{Event}
+use Rattle.nb_laws.specs.Histories.{IsHistory}
 use Rattle.nb_laws.specs.Lawful.{IsLawful}
 use Rattle.nb_machine.specs.States.{State}
 use Rattle.nb_machine.specs.Closings.{Shuts}

@@ -1,5 +1,5 @@
 -- Each command by itself changes no setting but the one that it names.
-use Rattle.std.proofs.Common.{◌≡◌, ℕ, false, List, Option, Ok, Err, refl, subst}
+use Rattle.std.proofs.Common.{◌≡◌, ℕ, Bool, false, List, Option, Ok, Err, refl, subst}
 use Rattle.std.specs.declared.result.Result.{Result}
 use Rattle.std.specs.List.{join_with_byte}
 use Rattle.nb_settings.specs.declared.setting.OwnedKey.{OwnedKey}
@@ -9,9 +9,9 @@ use Rattle.nb_command.specs.declared.command_plan.CommandPlan.{CommandPlan}
 use Rattle.nb_command.specs.declared.command_plan.CommandPlan.TheVariants as plan
 use Rattle.nb_command.specs.declared.error.ApplyError.{ApplyError}
 use Rattle.nb_command.specs.declared.outcome.Outcome.{Outcome}
-use Rattle.nb_command.specs.declared.outcome.Outcome.TheVariants.{Done}
+use Rattle.nb_command.specs.declared.outcome.Outcome.TheVariants.{Done, Down}
 use Rattle.nb_command.specs.declared.state.State.{State}
-use Rattle.nb_command.specs.Applying.{carried_out, in_state, with_table}
+use Rattle.nb_command.specs.Applying.{carried_out, in_state, with_table, with_up}
 use Rattle.nb_command.specs.Inc.{named_count, sum_put, increased_table}
 use Rattle.nb_command.specs.Others.{is_meant, may_change}
 use Rattle.nb_command.specs.Set.{set_value, set_table}
@@ -35,6 +35,11 @@ with_table_stays s (Ok new) after name is stays block key off =
     subst (λ (x : Outcome × State). Finds s x.1 block key) (same_Ok (Done, record s { table = new }) after is) (stays new refl block key off)
 with_table_stays s (Err why) after name is stays block key off = absurd cc
 
+with_up_stays : (s : State) (outcome : Outcome) (answer : Result Bool ApplyError) (after : Outcome × State) → with_up outcome s answer ≡ Ok after → (block : List ℕ) (key : OwnedKey) → Finds s after.1 block key
+with_up_stays s outcome (Ok up) after is block key =
+    subst (λ (x : Outcome × State). Finds s x.1 block key) (same_Ok (outcome, record s { up = up }) after is) refl
+with_up_stays s outcome (Err why) after is block key = absurd cc
+
 pub others_stay : (p : CommandPlan) (s : State) (after : Outcome × State) → carried_out p s ≡ Ok after → (block : List ℕ) (key : OwnedKey) → may_change p block key ≡ false → own_value block key after.1.table ≡ own_value block key s.table
 others_stay (plan.Echo newline text) s after is block key off = as_it_was s _ after is block key
 others_stay (plan.Goto label) s after is block key off = as_it_was s _ after is block key
@@ -44,6 +49,8 @@ others_stay (plan.Iseq a b) s after is block key off = in_state_stays s _ after 
 others_stay (plan.Show name) s after is block key off = in_state_stays s _ after is block key
 others_stay (plan.Fetch uri) s after is block key off = in_state_stays s _ after is block key
 others_stay (plan.Exec uri) s after is block key off = in_state_stays s _ after is block key
+others_stay (plan.Ifopen device) s after is block key off = with_up_stays s Done _ after is block key
+others_stay (plan.Ifclose device) s after is block key off = with_up_stays s Down _ after is block key
 others_stay (plan.Sleep seconds) s after is block key off = as_it_was s _ after is block key
 others_stay (plan.Set name value) s after is block key off =
     with_table_stays s (set_table name value s.table) after (name_read name) is

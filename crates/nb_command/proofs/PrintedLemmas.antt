@@ -14,6 +14,8 @@ use Rattle.nb_command.specs.declared.command_plan.CommandPlan.TheVariants as pla
 use Rattle.nb_command.specs.declared.error.PlanError.{PlanError}
 use Rattle.nb_command.specs.Echo.{echo_plan, unbroken_plan, echoed}
 use Rattle.nb_command.specs.Exit.{exit_plan}
+use Rattle.nb_command.specs.Ifopen.{ifopen_plan}
+use Rattle.nb_command.specs.Ifclose.{ifclose_plan}
 use Rattle.nb_command.specs.Inc.{inc_plan}
 use Rattle.nb_command.specs.Iseq.{iseq_plan}
 use Rattle.nb_command.specs.Isset.{isset_plan}
@@ -73,6 +75,18 @@ isset_short [] = omega arith
 isset_short (word ∷ []) = if_short (is_option word) _ _ tt (omega arith)
 isset_short (word ∷ second ∷ others) = tt
 
+ifopen_short : (args : List (List ℕ)) → IsShort (ifopen_plan args)
+unfolding ifopen_plan
+ifopen_short [] = omega arith
+ifopen_short (word ∷ []) = if_short (is_option word) _ _ tt (omega arith)
+ifopen_short (word ∷ second ∷ others) = tt
+
+ifclose_short : (args : List (List ℕ)) → IsShort (ifclose_plan args)
+unfolding ifclose_plan
+ifclose_short [] = omega arith
+ifclose_short (word ∷ []) = if_short (is_option word) _ _ tt (omega arith)
+ifclose_short (word ∷ second ∷ others) = tt
+
 iseq_short : (args : List (List ℕ)) → IsShort (iseq_plan args)
 unfolding iseq_plan
 iseq_short [] = tt
@@ -111,6 +125,8 @@ named_short command.Show args few short = with_short _ (one_word args) (λ x. om
 named_short command.Inc args few short = inc_short args
 named_short command.Imgfetch args few short = with_short _ (one_word args) (λ x. omega arith)
 named_short command.Imgexec args few short = with_short _ (one_word args) (λ x. omega arith)
+named_short command.Ifopen args few short = ifopen_short args
+named_short command.Ifclose args few short = ifclose_short args
 named_short command.Sleep args few short = sleep_short args
 
 -- what a plan prints that is made of such words

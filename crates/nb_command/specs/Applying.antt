@@ -1,5 +1,5 @@
 -- own, after ipxe.org's commands: what a command comes to, and the state that it leaves
-use Rattle.std.specs.Prelude.{ℕ, List, Bool, Result, Ok, Err, if◌then◌else◌}
+use Rattle.std.specs.Prelude.{ℕ, List, Bool, true, false, Result, Ok, Err, if◌then◌else◌}
 use Rattle.std.specs.Result.{result_map_both}
 use Rattle.std.specs.Str.{bytes_eq}
 use Rattle.nb_terms.specs.declared.cause.Cause.{Cause}
@@ -12,7 +12,7 @@ use Rattle.nb_command.specs.declared.outcome.After.TheVariants.{Keep, Run}
 use Rattle.nb_command.specs.declared.outcome.Job.{Job}
 use Rattle.nb_command.specs.declared.outcome.Job.TheVariants as job
 use Rattle.nb_command.specs.declared.outcome.Outcome.{Outcome}
-use Rattle.nb_command.specs.declared.outcome.Outcome.TheVariants.{Done, Text, Goto, Leave, Wait}
+use Rattle.nb_command.specs.declared.outcome.Outcome.TheVariants.{Done, Text, Goto, Leave, Wait, Down}
 use Rattle.nb_command.specs.declared.state.State.{State}
 use Rattle.nb_command.specs.Failures.{apply_cause}
 use Rattle.nb_command.specs.Echo.{echoed}
@@ -22,6 +22,7 @@ use Rattle.nb_command.specs.Clear.{cleared_table}
 use Rattle.nb_command.specs.Show.{setting_shown}
 use Rattle.nb_command.specs.Inc.{increased_table}
 use Rattle.nb_command.specs.Fetching.{fetch_job}
+use Rattle.nb_command.specs.Device.{device_change}
 
 abbrev pub out_of_memory : Cause
 out_of_memory = apply_cause NoMemory
@@ -38,6 +39,11 @@ in_state s answer = result_map_both (λ outcome. (outcome, s)) (λ why. why) ans
 abbrev pub with_table : State → Result TableLists ApplyError → Result (Outcome × State) ApplyError
 with_table s answer =
     result_map_both (λ table. (Done, record s { table = table })) (λ why. why) answer
+
+-- a command that sets the device up or down, and leaves all else of the state as it was
+abbrev pub with_up : Outcome → State → Result Bool ApplyError → Result (Outcome × State) ApplyError
+with_up outcome s answer =
+    result_map_both (λ up. (outcome, record s { up = up })) (λ why. why) answer
 
 abbrev pub text_outcome : Result (List ℕ) ApplyError → Result Outcome ApplyError
 text_outcome answer = result_map_both (λ text. Text text) (λ why. why) answer
@@ -57,6 +63,8 @@ carried_out (plan.Show name) s = in_state s (text_outcome (setting_shown name s.
 carried_out (plan.Inc name by) s = with_table s (increased_table name by s.table)
 carried_out (plan.Fetch uri) s = in_state s (waits_for (fetch_job Keep uri))
 carried_out (plan.Exec uri) s = in_state s (waits_for (fetch_job Run uri))
+carried_out (plan.Ifopen device) s = with_up Done s (device_change device true)
+carried_out (plan.Ifclose device) s = with_up Down s (device_change device false)
 carried_out (plan.Sleep seconds) s = Ok (Wait (job.Sleep seconds), s)
 
 -- the outcome and the state after it, or the cause of the refusal, which leaves the state as it was

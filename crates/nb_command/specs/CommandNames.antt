@@ -6,6 +6,7 @@ use Rattle.nb_command.specs.declared.command_name.CommandName.TheVariants.{Echo,
 use Rattle.nb_command.specs.declared.command_name.CommandName.TheVariants.{Isset, Iseq, Set}
 use Rattle.nb_command.specs.declared.command_name.CommandName.TheVariants.{Clear, Show, Inc}
 use Rattle.nb_command.specs.declared.command_name.CommandName.TheVariants.{Imgfetch, Imgexec, Sleep}
+use Rattle.nb_command.specs.declared.command_name.CommandName.TheVariants.{Ifopen, Ifclose}
 
 abbrev pub command_text : CommandName → List ℕ
 command_text Echo = codes "echo"
@@ -19,11 +20,13 @@ command_text Show = codes "show"
 command_text Inc = codes "inc"
 command_text Imgfetch = codes "imgfetch"
 command_text Imgexec = codes "imgexec"
+command_text Ifopen = codes "ifopen"
+command_text Ifclose = codes "ifclose"
 command_text Sleep = codes "sleep"
 
 abbrev pub all_commands : List CommandName
 all_commands =
-    Echo ∷ Goto ∷ Exit ∷ Isset ∷ Iseq ∷ Set ∷ Clear ∷ Show ∷ Inc ∷ Imgfetch ∷ Imgexec ∷ Sleep ∷ []
+    Echo ∷ Goto ∷ Exit ∷ Isset ∷ Iseq ∷ Set ∷ Clear ∷ Show ∷ Inc ∷ Imgfetch ∷ Imgexec ∷ Ifopen ∷ Ifclose ∷ Sleep ∷ []
 
 -- the command of a name
 unfoldable pub command_named : List ℕ → Option CommandName

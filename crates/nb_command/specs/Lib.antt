@@ -12,6 +12,9 @@ pub mod Clear
 pub mod Show
 pub mod Inc
 pub mod Fetching
+pub mod Device
+pub mod Ifopen
+pub mod Ifclose
 pub mod Sleep
 pub mod Planning
 pub mod Applying

@@ -26,4 +26,6 @@ may_change (plan.Iseq a b) block key = false
 may_change (plan.Show name) block key = false
 may_change (plan.Fetch uri) block key = false
 may_change (plan.Exec uri) block key = false
+may_change (plan.Ifopen device) block key = false
+may_change (plan.Ifclose device) block key = false
 may_change (plan.Sleep seconds) block key = false

@@ -5,6 +5,7 @@ use Rattle.nb_command.specs.declared.command_name.CommandName.TheVariants.{Echo,
 use Rattle.nb_command.specs.declared.command_name.CommandName.TheVariants.{Isset, Iseq, Set}
 use Rattle.nb_command.specs.declared.command_name.CommandName.TheVariants.{Clear, Show, Inc}
 use Rattle.nb_command.specs.declared.command_name.CommandName.TheVariants.{Imgfetch, Imgexec, Sleep}
+use Rattle.nb_command.specs.declared.command_name.CommandName.TheVariants.{Ifopen, Ifclose}
 use Rattle.nb_command.specs.declared.command_plan.CommandPlan.{CommandPlan}
 use Rattle.nb_command.specs.declared.error.PlanError.{PlanError}
 use Rattle.nb_command.specs.declared.error.PlanError.TheVariants.{Unknown}
@@ -19,6 +20,8 @@ use Rattle.nb_command.specs.Clear.{clear_plan}
 use Rattle.nb_command.specs.Show.{show_plan}
 use Rattle.nb_command.specs.Inc.{inc_plan}
 use Rattle.nb_command.specs.Fetching.{imgfetch_plan, imgexec_plan}
+use Rattle.nb_command.specs.Ifopen.{ifopen_plan}
+use Rattle.nb_command.specs.Ifclose.{ifclose_plan}
 use Rattle.nb_command.specs.Sleep.{sleep_plan}
 
 abbrev pub plan_named : CommandName → List (List ℕ) → Result CommandPlan PlanError
@@ -33,6 +36,8 @@ plan_named Show args = show_plan args
 plan_named Inc args = inc_plan args
 plan_named Imgfetch args = imgfetch_plan args
 plan_named Imgexec args = imgexec_plan args
+plan_named Ifopen args = ifopen_plan args
+plan_named Ifclose args = ifclose_plan args
 plan_named Sleep args = sleep_plan args
 
 abbrev pub plan_where : Option CommandName → List (List ℕ) → Result CommandPlan PlanError

@@ -3,7 +3,7 @@ use Rattle.std.specs.Prelude.{ℕ, ◌+◌, List, length, sum_by}
 use Rattle.nb_command.specs.declared.command_plan.CommandPlan.{CommandPlan}
 use Rattle.nb_command.specs.declared.command_plan.CommandPlan.TheVariants as plan
 use Rattle.nb_command.specs.declared.outcome.Outcome.{Outcome}
-use Rattle.nb_command.specs.declared.outcome.Outcome.TheVariants.{Done, Text, Goto, Leave, Wait}
+use Rattle.nb_command.specs.declared.outcome.Outcome.TheVariants.{Done, Text, Goto, Leave, Wait, Down}
 
 -- The most bytes that a command prints. Of `echo` the words, a byte after each, and a line feed; of
 -- `show` a name of 201 bytes, ` = `, the text of a value, 3,108 bytes, and a line feed.
@@ -19,6 +19,8 @@ most_printed (plan.Clear name) = 0
 most_printed (plan.Inc name by) = 0
 most_printed (plan.Fetch uri) = 0
 most_printed (plan.Exec uri) = 0
+most_printed (plan.Ifopen device) = 0
+most_printed (plan.Ifclose device) = 0
 most_printed (plan.Sleep seconds) = 0
 
 -- a fact on the text that is printed, where a command prints
@@ -28,3 +30,4 @@ IfText Done P = Unit {0}
 IfText (Goto label) P = Unit {0}
 IfText (Leave n) P = Unit {0}
 IfText (Wait job) P = Unit {0}
+IfText Down P = Unit {0}

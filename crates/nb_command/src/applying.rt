@@ -10,6 +10,7 @@ ghost use Rattle.nb_command.specs.declared.outcome.Outcome.TheVariants as outcom
 
 use crate::clear::clear_setting;
 use crate::copies::copy_word;
+use crate::device::set_device;
 use crate::echo::echo_text;
 use crate::error::ApplyError;
 use crate::fetching::fetch_job;
@@ -67,6 +68,8 @@ fn carry_out(alloc: Global, p: &CommandPlan, s: &mut State) -> Result<Outcome, A
         CommandPlan::Inc { name, by } => done(inc_setting(alloc, name, *by, table)),
         CommandPlan::Fetch { uri } => Ok(Outcome::Wait(fetch_job(alloc, uri, After::Keep)?)),
         CommandPlan::Exec { uri } => Ok(Outcome::Wait(fetch_job(alloc, uri, After::Run)?)),
+        CommandPlan::Ifopen(device) => done(set_device(device, true, &mut s.up)),
+        CommandPlan::Ifclose(device) => down(set_device(device, false, &mut s.up)),
         CommandPlan::Sleep(seconds) => Ok(Outcome::Wait(Job::Sleep(*seconds))),
     }
 }
@@ -82,10 +85,18 @@ fn truth(is_true: bool) -> Result<Outcome, ApplyError>
     }
 }
 
-/// Done where the table was changed.
+/// Done where the state was changed.
 fn done(change: Result<(), ApplyError>) -> Result<Outcome, ApplyError>
     ensures { result ≡ result_map_both (λ _. outcome.Done) (λ why. why) change }
 {
     change?;
     Ok(Outcome::Done)
+}
+
+/// The same for a device that was set down: what is open there is to be closed.
+fn down(change: Result<(), ApplyError>) -> Result<Outcome, ApplyError>
+    ensures { result ≡ result_map_both (λ _. outcome.Down) (λ why. why) change }
+{
+    change?;
+    Ok(Outcome::Down)
 }

@@ -17,10 +17,12 @@ pub enum CommandName {
     Inc,
     Imgfetch,
     Imgexec,
+    Ifopen,
+    Ifclose,
     Sleep,
 }
 
-const COMMANDS: [CommandName; 12] = [
+const COMMANDS: [CommandName; 14] = [
     CommandName::Echo,
     CommandName::Goto,
     CommandName::Exit,
@@ -32,6 +34,8 @@ const COMMANDS: [CommandName; 12] = [
     CommandName::Inc,
     CommandName::Imgfetch,
     CommandName::Imgexec,
+    CommandName::Ifopen,
+    CommandName::Ifclose,
     CommandName::Sleep,
 ];
 
@@ -52,6 +56,8 @@ impl CommandName {
             CommandName::Inc => b"inc",
             CommandName::Imgfetch => b"imgfetch",
             CommandName::Imgexec => b"imgexec",
+            CommandName::Ifopen => b"ifopen",
+            CommandName::Ifclose => b"ifclose",
             CommandName::Sleep => b"sleep",
         }
     }

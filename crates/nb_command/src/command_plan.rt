@@ -25,6 +25,10 @@ pub enum CommandPlan {
     Fetch { uri: Word },
     /// Fetches a file and executes it.
     Exec { uri: Word },
+    /// Sets a device up; net0 where none is named.
+    Ifopen(Option<Word>),
+    /// Sets a device down, and closes what is open there; net0 where none is named.
+    Ifclose(Option<Word>),
     /// Waits, in seconds.
     Sleep(u32),
 }

@@ -1,7 +1,7 @@
 // The commands of a script, after ipxe.org's references: `plan` reads the words of a command, which
 // are expanded already, and `apply` carries the plan out on the client's state. What ends at once
 // has its outcome; what takes time is a `Job` for the client. Here are echo, exit, goto, isset, iseq,
-// set, clear, show, inc and sleep, and imgfetch and imgexec with a URI alone. Left out are all other
+// set, clear, show, inc, ifopen, ifclose and sleep, and imgfetch and imgexec with a URI alone. Left out are all other
 // commands, and each option that begins with `--`. Begin with `CommandPlan`, `plan` and `apply`.
 #![tactic(auto)]
 
@@ -10,11 +10,14 @@ mod clear;
 mod command_name;
 mod command_plan;
 mod copies;
+mod device;
 mod echo;
 mod error;
 mod exit;
 mod fetching;
 mod goto;
+mod ifclose;
+mod ifopen;
 mod inc;
 mod iseq;
 mod isset;

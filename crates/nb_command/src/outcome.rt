@@ -14,6 +14,8 @@ pub enum Outcome {
     Leave(u8),
     /// It waits for this.
     Wait(Job),
+    /// The device went down, and its result is Ok. What is open there is to be closed.
+    Down,
 }
 
 /// What a command waits for.

@@ -9,6 +9,8 @@ use crate::echo::plan_echo;
 use crate::exit::plan_exit;
 use crate::fetching::{plan_imgexec, plan_imgfetch};
 use crate::goto::plan_goto;
+use crate::ifclose::plan_ifclose;
+use crate::ifopen::plan_ifopen;
 use crate::inc::plan_inc;
 use crate::iseq::plan_iseq;
 use crate::isset::plan_isset;
@@ -55,6 +57,8 @@ fn plan_named(alloc: Global, command: CommandName, args: &[Word]) -> Result<Comm
         CommandName::Inc => plan_inc(alloc, args),
         CommandName::Imgfetch => plan_imgfetch(alloc, args),
         CommandName::Imgexec => plan_imgexec(alloc, args),
+        CommandName::Ifopen => plan_ifopen(alloc, args),
+        CommandName::Ifclose => plan_ifclose(alloc, args),
         CommandName::Sleep => plan_sleep(args),
     }
 }

@@ -6,4 +6,6 @@ use nb_settings::Table;
 pub struct State {
     pub table: Table,
     pub images: Images,
+    /// Whether the device net0 is up.
+    pub up: bool,
 }

@@ -18,6 +18,7 @@ enum Expected<'a> {
     GoesTo(&'a [u8]),
     Leaves(u8),
     Sleeps(u32),
+    Closes,
     Fetches(&'a [u8], &'a [u8], &'a [u8], After),
     Unplanned(PlanError),
     Refused(Reason),
@@ -43,6 +44,7 @@ impl Expected<'_> {
             (Expected::GoesTo(text), Ok(Outcome::Goto(label))) => label.as_slice() == text,
             (Expected::Leaves(number), Ok(Outcome::Leave(n))) => *n == number,
             (Expected::Sleeps(number), Ok(Outcome::Wait(Job::Sleep(n)))) => *n == number,
+            (Expected::Closes, Ok(Outcome::Down)) => true,
             (Expected::Refused(reason), Err(cause)) => *cause == Cause::from(reason),
             (Expected::Fetches(..), Ok(Outcome::Wait(job))) => self.is_fetch(job),
             _ => false,
@@ -92,6 +94,7 @@ fn state(alloc: Global) -> Result<State, Fail> {
     Ok(State {
         table,
         images: Images::new(alloc),
+        up: false,
     })
 }
 
@@ -346,5 +349,32 @@ fn limits(rt: HostRuntime) -> Result<(), Fail> {
     }
     assert_eq!(rt; state.table.count(b""), Some(128));
     assert_eq!(rt; state.images.len(), 0);
+    Ok(())
+}
+
+#[test]
+fn the_device_goes_up_and_down(rt: HostRuntime) -> Result<(), Fail> {
+    let alloc = rt.alloc();
+    let mut state = state(alloc)?;
+    let rows: [(&[u8], Expected<'_>, bool); 11] = [
+        (b"ifopen", Expected::Done, true),
+        (b"ifclose", Expected::Closes, false),
+        (b"ifopen net0", Expected::Done, true),
+        (b"ifopen net0", Expected::Done, true),
+        (b"ifclose net1", BAD_NAME, true),
+        (b"ifclose net0 net0", USAGE, true),
+        (b"ifclose --x", USAGE, true),
+        (b"ifclose net0", Expected::Closes, false),
+        (b"ifclose net0", Expected::Closes, false),
+        (b"ifopen NET0", BAD_NAME, false),
+        (b"ifopen --x", USAGE, false),
+    ];
+    for (line, expected, up) in rows {
+        assert!(rt;
+            comes_to(alloc, &mut state, line, expected)?,
+            "{line:?} {expected:?}"
+        );
+        assert_eq!(rt; state.up, up, "{line:?}");
+    }
     Ok(())
 }

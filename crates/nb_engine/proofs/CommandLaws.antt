@@ -18,7 +18,7 @@ use Rattle.nb_command.specs.declared.outcome.Outcome.{Outcome}
 use Rattle.nb_command.specs.declared.outcome.Outcome.TheVariants as outcome
 use Rattle.nb_command.specs.declared.state.State.{State}
 use Rattle.nb_command.specs.Failures.{apply_cause}
-use Rattle.nb_command.specs.Applying.{applied, truth, in_state, with_table, text_outcome}
+use Rattle.nb_command.specs.Applying.{applied, truth, in_state, with_table, with_up, text_outcome}
 use Rattle.nb_command.specs.Planning.{planned}
 use Rattle.nb_command.specs.Settings.{Change}
 use Rattle.nb_command.specs.Isset.{is_word_set}
@@ -26,10 +26,15 @@ use Rattle.nb_command.specs.Set.{set_table}
 use Rattle.nb_command.specs.Clear.{cleared_table}
 use Rattle.nb_command.specs.Show.{setting_shown}
 use Rattle.nb_command.specs.Inc.{increased_table}
+use Rattle.nb_command.specs.Device.{device_change}
+use Rattle.nb_stack.specs.declared.address.Addr.{Addr}
+use Rattle.nb_stack.specs.Client.{Client}
 use Rattle.nb_engine.specs.declared.world.World.{World}
-use Rattle.nb_engine.specs.World.{state_of, world_with_table}
+use Rattle.nb_engine.specs.Link.{link_by}
+use Rattle.nb_engine.specs.World.{IsLinked, state_of, world_with}
+use Rattle.nb_engine.specs.Machine.{world_after}
 use Rattle.nb_uri.specs.Targets.{TftpTarget, tftp_target, is_too_long}
-use Rattle.nb_engine.specs.Effects.{Wanted, fetch, asked_for, bad_uri, too_long_uri, full_opens, Effect, says, asks, goes, sleeps, sleeping_for, plan_effect, plan_table, planned_effect, planned_table, words_effect, words_table, expansion, expanded_effect, expanded_table, expand_cause, effect, table_after, shown_words, shown_by, shown_as, truth_outcome, text_told, change_outcome, changed, plan_cause}
+use Rattle.nb_engine.specs.Effects.{Wanted, fetch, asked_for, bad_uri, too_long_uri, full_opens, Effect, says, asks, goes, sleeps, shuts_device, sleeping_for, device_effect, plan_effect, plan_table, plan_up, set_up, planned_effect, planned_table, planned_up, words_effect, words_table, words_up, expansion, expanded_effect, expanded_table, expanded_up, expand_cause, effect, table_after, up_after, shown_words, shown_by, shown_as, truth_outcome, text_told, change_outcome, changed, plan_cause}
 use Rattle.nb_engine.specs.CommandWords.{IsLocal, IsLocalOutcome, outcome_effect, deed_effect}
 use Rattle.nb_engine.specs.declared.command.Deed.{Deed}
 use Rattle.nb_engine.specs.Running.{Running}
@@ -46,6 +51,10 @@ pub table_of_words : (table : TableLists) (written ws : List (List ℕ)) → exp
 unfolding table_after
 table_of_words table written ws e = ap (expanded_table table) e
 
+pub up_of_words : (table : TableLists) (up : Bool) (written ws : List (List ℕ)) → expansion table written ≡ Ok ws → up_after table up written ≡ words_up up ws
+unfolding up_after
+up_of_words table up written ws e = ap (expanded_up up) e
+
 pub shown_of_words : (table : TableLists) (written ws : List (List ℕ)) → expansion table written ≡ Ok ws → shown_words table written ≡ shown_as true ws
 unfolding shown_words
 shown_of_words table written ws e = ap (shown_by written) e
@@ -58,6 +67,10 @@ effect_of_refused opens table written why e = ap (expanded_effect opens table) e
 pub table_of_refused : (table : TableLists) (written : List (List ℕ)) (why : ExpandError) → expansion table written ≡ Err why → table_after table written ≡ table
 unfolding table_after
 table_of_refused table written why e = ap (expanded_table table) e
+
+pub up_of_refused : (table : TableLists) (up : Bool) (written : List (List ℕ)) (why : ExpandError) → expansion table written ≡ Err why → up_after table up written ≡ up
+unfolding up_after
+up_of_refused table up written why e = ap (expanded_up up) e
 
 pub shown_of_refused : (table : TableLists) (written : List (List ℕ)) (why : ExpandError) → expansion table written ≡ Err why → shown_words table written ≡ shown_as false written
 unfolding shown_words
@@ -72,6 +85,10 @@ pub table_of_plan : (table : TableLists) (ws : List (List ℕ)) (q : Result Comm
 unfolding words_table
 table_of_plan table ws q e = ap (planned_table table) e
 
+pub up_of_plan : (up : Bool) (ws : List (List ℕ)) (q : Result CommandPlan PlanError) → planned ws ≡ q → words_up up ws ≡ planned_up up q
+unfolding words_up
+up_of_plan up ws q e = ap (planned_up up) e
+
 -- THE SETTINGS STAY, BUT FOR A COMMAND THAT IS OVER AT ONCE
 
 abbrev pub KeepsTable : Effect → TableLists → TableLists → Type 0
@@ -79,12 +96,14 @@ KeepsTable (says o) table other = Unit {0}
 KeepsTable (asks wanted) table other = other ≡ table
 KeepsTable (goes name) table other = other ≡ table
 KeepsTable (sleeps seconds) table other = other ≡ table
+KeepsTable shuts_device table other = Unit {0}
 
 keeps_same : (e : Effect) (table : TableLists) → KeepsTable e table table
 keeps_same (says o) table = tt
 keeps_same (asks wanted) table = refl
 keeps_same (goes name) table = refl
 keeps_same (sleeps seconds) table = refl
+keeps_same shuts_device table = tt
 
 keeps_plan : (opens : ℕ) (table : TableLists) (p : CommandPlan) → KeepsTable (plan_effect opens table p) table (plan_table p table)
 keeps_plan opens table (plan.Echo newline text) = tt
@@ -98,6 +117,8 @@ keeps_plan opens table (plan.Show name) = tt
 keeps_plan opens table (plan.Inc name by) = tt
 keeps_plan opens table (plan.Fetch uri) = keeps_same (plan_effect opens table (plan.Fetch uri)) table
 keeps_plan opens table (plan.Exec uri) = keeps_same (plan_effect opens table (plan.Exec uri)) table
+keeps_plan opens table (plan.Ifopen device) = keeps_same (plan_effect opens table (plan.Ifopen device)) table
+keeps_plan opens table (plan.Ifclose device) = keeps_same (plan_effect opens table (plan.Ifclose device)) table
 keeps_plan opens table (plan.Sleep seconds) = keeps_same (plan_effect opens table (plan.Sleep seconds)) table
 
 keeps_planned : (opens : ℕ) (table : TableLists) (q : Result CommandPlan PlanError) → KeepsTable (planned_effect opens table q) table (planned_table table q)
@@ -116,12 +137,73 @@ pub keeps_table : (opens : ℕ) (table : TableLists) (ws : List (List ℕ)) → 
 unfolding effect table_after
 keeps_table opens table ws = keeps_expanded opens table (expansion table ws)
 
+-- THE DEVICE STAYS UP OR DOWN, BUT FOR A COMMAND THAT IS OVER AT ONCE
+
+abbrev pub KeepsUp : Effect → Bool → Bool → Type 0
+KeepsUp (says o) up other = Unit {0}
+KeepsUp (asks wanted) up other = other ≡ up
+KeepsUp (goes name) up other = other ≡ up
+KeepsUp (sleeps seconds) up other = other ≡ up
+KeepsUp shuts_device up other = Unit {0}
+
+keeps_same_up : (e : Effect) (up : Bool) → KeepsUp e up up
+keeps_same_up (says o) up = tt
+keeps_same_up (asks wanted) up = refl
+keeps_same_up (goes name) up = refl
+keeps_same_up (sleeps seconds) up = refl
+keeps_same_up shuts_device up = tt
+
+device_keeps : (e : Effect) (r : Result Bool ApplyError) (up : Bool) → ((other : Bool) → KeepsUp e up other) → KeepsUp (device_effect e r) up (set_up up r)
+device_keeps e (Ok other) up k = k other
+device_keeps e (Err why) up k = tt
+
+keeps_plan_up : (opens : ℕ) (table : TableLists) (up : Bool) (p : CommandPlan) → KeepsUp (plan_effect opens table p) up (plan_up p up)
+keeps_plan_up opens table up (plan.Echo newline text) = keeps_same_up (plan_effect opens table (plan.Echo newline text)) up
+keeps_plan_up opens table up (plan.Goto label) = keeps_same_up (plan_effect opens table (plan.Goto label)) up
+keeps_plan_up opens table up (plan.Exit n) = keeps_same_up (plan_effect opens table (plan.Exit n)) up
+keeps_plan_up opens table up (plan.Isset word) = keeps_same_up (plan_effect opens table (plan.Isset word)) up
+keeps_plan_up opens table up (plan.Iseq a b) = keeps_same_up (plan_effect opens table (plan.Iseq a b)) up
+keeps_plan_up opens table up (plan.Set name value) = keeps_same_up (plan_effect opens table (plan.Set name value)) up
+keeps_plan_up opens table up (plan.Clear name) = keeps_same_up (plan_effect opens table (plan.Clear name)) up
+keeps_plan_up opens table up (plan.Show name) = keeps_same_up (plan_effect opens table (plan.Show name)) up
+keeps_plan_up opens table up (plan.Inc name by) = keeps_same_up (plan_effect opens table (plan.Inc name by)) up
+keeps_plan_up opens table up (plan.Fetch uri) = keeps_same_up (plan_effect opens table (plan.Fetch uri)) up
+keeps_plan_up opens table up (plan.Exec uri) = keeps_same_up (plan_effect opens table (plan.Exec uri)) up
+keeps_plan_up opens table up (plan.Sleep seconds) = keeps_same_up (plan_effect opens table (plan.Sleep seconds)) up
+keeps_plan_up opens table up (plan.Ifopen device) = device_keeps (says (refused ok)) (device_change device true) up (λ other. tt)
+keeps_plan_up opens table up (plan.Ifclose device) = device_keeps shuts_device (device_change device false) up (λ other. tt)
+
+keeps_planned_up : (opens : ℕ) (table : TableLists) (up : Bool) (q : Result CommandPlan PlanError) → KeepsUp (planned_effect opens table q) up (planned_up up q)
+keeps_planned_up opens table up (Ok p) = keeps_plan_up opens table up p
+keeps_planned_up opens table up (Err why) = tt
+
+pub keeps_words_up : (opens : ℕ) (table : TableLists) (up : Bool) (ws : List (List ℕ)) → KeepsUp (words_effect opens table ws) up (words_up up ws)
+unfolding words_effect words_up
+keeps_words_up opens table up ws = keeps_planned_up opens table up (planned ws)
+
+keeps_expanded_up : (opens : ℕ) (table : TableLists) (up : Bool) (r : Result (List (List ℕ)) ExpandError) → KeepsUp (expanded_effect opens table r) up (expanded_up up r)
+keeps_expanded_up opens table up (Ok ws) = keeps_words_up opens table up ws
+keeps_expanded_up opens table up (Err why) = tt
+
+pub keeps_up : (opens : ℕ) (table : TableLists) (up : Bool) (ws : List (List ℕ)) → KeepsUp (effect opens table ws) up (up_after table up ws)
+unfolding effect up_after
+keeps_up opens table up ws = keeps_expanded_up opens table up (expansion table ws)
+
 -- so does the world
 pub same_world : (w : World) (e : Effect) (ws : List (List ℕ)) → effect w.opens w.state.table ws ≡ e → KeepsTable e w.state.table (table_after w.state.table ws)
 same_world w e ws is = subst (λ x. KeepsTable x w.state.table (table_after w.state.table ws)) is (keeps_table w.opens w.state.table ws)
 
-pub world_stays : (w : World) (table : TableLists) → table ≡ w.state.table → world_with_table w table ≡ w
-world_stays w table e = rw e refl
+pub same_up : (w : World) (e : Effect) (ws : List (List ℕ)) → effect w.opens w.state.table ws ≡ e → KeepsUp e w.state.up (up_after w.state.table w.state.up ws)
+same_up w e ws is = subst (λ x. KeepsUp x w.state.up (up_after w.state.table w.state.up ws)) is (keeps_up w.opens w.state.table w.state.up ws)
+
+-- a link that has its address and its state already
+link_stays : (net : Client) (address : Option Addr) (up : Bool) → net.address ≡ address → net.up ≡ up → ◌≡◌ {A = Client} (record net { address = address; up = up }) net
+link_stays net address up a u =
+    subst (λ x. ◌≡◌ {A = Client} (record net { address = x; up = up }) net) a (subst (λ y. ◌≡◌ {A = Client} (record net { address = net.address; up = y }) net) u refl)
+
+pub world_stays : (w : World) (table : TableLists) (up : Bool) → IsLinked w → table ≡ w.state.table → up ≡ w.state.up → world_with w table up ≡ w
+world_stays w table up linked e u =
+    rw (e, u) (ap (λ (net : Client). record { w = w.w; time = w.time; net = net; opens = w.opens; state = w.state }) (link_stays w.net _ w.state.up linked.address linked.up))
 
 -- WHAT A FILE'S COMMAND AND A SLEEP COME TO
 
@@ -143,7 +225,12 @@ pub record Covers (P : Effect → Type 0) : Type 0 where
   pub of_says : (o : CommandOutcome) → P (says o)
   pub of_goes : (name : List ℕ) → P (goes name)
   pub of_sleep : (seconds : ℕ) → P (sleeping_for seconds)
+  pub of_shut : P shuts_device
   pub of_fetch : (opens : ℕ) (boots : Bool) (uri : List ℕ) → P (fetch opens boots uri)
+
+device_covered : (P : Effect → Type 0) → Covers P → (e : Effect) → P e → (r : Result Bool ApplyError) → P (device_effect e r)
+device_covered P c e is (Ok up) = is
+device_covered P c e is (Err why) = c.of_says _
 
 plan_covered : (P : Effect → Type 0) → Covers P → (opens : ℕ) (table : TableLists) (p : CommandPlan) → P (plan_effect opens table p)
 plan_covered P c opens table (plan.Echo newline text) = c.of_says _
@@ -157,6 +244,8 @@ plan_covered P c opens table (plan.Show name) = c.of_says _
 plan_covered P c opens table (plan.Inc name by) = c.of_says _
 plan_covered P c opens table (plan.Fetch uri) = c.of_fetch opens false uri
 plan_covered P c opens table (plan.Exec uri) = c.of_fetch opens true uri
+plan_covered P c opens table (plan.Ifopen device) = device_covered P c (says (refused ok)) (c.of_says _) (device_change device true)
+plan_covered P c opens table (plan.Ifclose device) = device_covered P c shuts_device c.of_shut (device_change device false)
 plan_covered P c opens table (plan.Sleep seconds) = c.of_sleep seconds
 
 planned_covered : (P : Effect → Type 0) → Covers P → (opens : ℕ) (table : TableLists) (q : Result CommandPlan PlanError) → P (planned_effect opens table q)
@@ -180,6 +269,7 @@ IsRested (sleeps seconds) = 0 < seconds
 IsRested (says o) = Unit {0}
 IsRested (asks wanted) = Unit {0}
 IsRested (goes name) = Unit {0}
+IsRested shuts_device = Unit {0}
 
 rested_for : (seconds : ℕ) (b : Bool) → (seconds == 0) ≡ b → IsRested (cond b (says (refused ok)) (sleeps seconds))
 rested_for seconds true is = tt
@@ -189,6 +279,7 @@ all_rested : Covers IsRested
 all_rested = record {
   of_says = λ o. tt;
   of_goes = λ name. tt;
+  of_shut = tt;
   of_sleep = λ seconds. rested_for seconds (seconds == 0) refl;
   of_fetch = λ opens boots uri. fetch_either IsRested (λ o. tt) (λ wanted. tt) opens boots uri;
 }
@@ -201,7 +292,7 @@ sleeps_some opens table ws seconds is = subst IsRested is (effect_covered IsRest
 
 pub record IsCarriedOut (p : CommandPlan) (o : Outcome) (s s' : State) : Type 0 where
   pub comes_to : (opens : ℕ) → plan_effect opens s.table p ≡ outcome_effect o
-  pub state_is : s' ≡ state_of (plan_table p s.table) s.images
+  pub state_is : s' ≡ state_of (plan_table p s.table) s.images (plan_up p s.up)
   pub is_local : IsLocalOutcome o
 
 -- an answer with an outcome and a state
@@ -214,52 +305,66 @@ abbrev Answered : Result (Outcome × State) ApplyError → Result (Outcome × St
 Answered answer = result_map_both (λ after. after) apply_cause answer
 
 -- a command that leaves the state as it was
-keeps_state : (p : CommandPlan) (o0 o : Outcome) (s s' : State) → plan_table p s.table ≡ s.table → ((opens : ℕ) → plan_effect opens s.table p ≡ outcome_effect o0) → IsLocalOutcome o0 →
+keeps_state : (p : CommandPlan) (o0 o : Outcome) (s s' : State) → plan_table p s.table ≡ s.table → plan_up p s.up ≡ s.up → ((opens : ℕ) → plan_effect opens s.table p ≡ outcome_effect o0) → IsLocalOutcome o0 →
     ◌≡◌ {A = Result (Outcome × State) Cause} (Ok (o0, s)) (Ok (o, s')) → IsCarriedOut p o s s'
-keeps_state p o0 o s s' same comes here e =
+keeps_state p o0 o s s' same still comes here e =
     let both = same_outcome o0 o s s' e in
     record {
       comes_to = λ opens. comes opens ∙ ap outcome_effect both.0;
-      state_is = sym both.1 ∙ ap (λ table. state_of table s.images) (sym same);
+      state_is = sym both.1 ∙ (ap (λ t. state_of t s.images s.up) (sym same) ∙ ap (λ u. state_of (plan_table p s.table) s.images u) (sym still));
       is_local = subst IsLocalOutcome both.0 here;
     }
 
 -- one that asks whether something is so
-truth_ok : (p : CommandPlan) (b : Bool) (o : Outcome) (s s' : State) → plan_table p s.table ≡ s.table → ((opens : ℕ) → plan_effect opens s.table p ≡ says (truth_outcome b)) →
+truth_ok : (p : CommandPlan) (b : Bool) (o : Outcome) (s s' : State) → plan_table p s.table ≡ s.table → plan_up p s.up ≡ s.up → ((opens : ℕ) → plan_effect opens s.table p ≡ says (truth_outcome b)) →
     Answered (in_state s (truth b)) ≡ Ok (o, s') → IsCarriedOut p o s s'
-truth_ok p true o s s' same comes e = keeps_state p outcome.Done o s s' same comes tt e
-truth_ok p false o s s' same comes e = absurd (cc)
+truth_ok p true o s s' same still comes e = keeps_state p outcome.Done o s s' same still comes tt e
+truth_ok p false o s s' same still comes e = absurd (cc)
 
 -- one that prints a setting
-text_ok : (p : CommandPlan) (r : Result (List ℕ) ApplyError) (o : Outcome) (s s' : State) → plan_table p s.table ≡ s.table → ((opens : ℕ) → plan_effect opens s.table p ≡ says (text_told r)) →
+text_ok : (p : CommandPlan) (r : Result (List ℕ) ApplyError) (o : Outcome) (s s' : State) → plan_table p s.table ≡ s.table → plan_up p s.up ≡ s.up → ((opens : ℕ) → plan_effect opens s.table p ≡ says (text_told r)) →
     Answered (in_state s (text_outcome r)) ≡ Ok (o, s') → IsCarriedOut p o s s'
-text_ok p (Ok text) o s s' same comes e = keeps_state p (outcome.Text text) o s s' same comes tt e
-text_ok p (Err why) o s s' same comes e = absurd (cc)
+text_ok p (Ok text) o s s' same still comes e = keeps_state p (outcome.Text text) o s s' same still comes tt e
+text_ok p (Err why) o s s' same still comes e = absurd (cc)
 
 -- one that changes the settings
-change_ok : (p : CommandPlan) (r : Change) (o : Outcome) (s s' : State) → plan_table p s.table ≡ changed s.table r → ((opens : ℕ) → plan_effect opens s.table p ≡ says (change_outcome r)) →
+change_ok : (p : CommandPlan) (r : Change) (o : Outcome) (s s' : State) → plan_table p s.table ≡ changed s.table r → plan_up p s.up ≡ s.up → ((opens : ℕ) → plan_effect opens s.table p ≡ says (change_outcome r)) →
     Answered (with_table s r) ≡ Ok (o, s') → IsCarriedOut p o s s'
-change_ok p (Ok table) o s s' same comes e =
-    let both = same_outcome outcome.Done o (state_of table s.images) s' e in
+change_ok p (Ok table) o s s' same still comes e =
+    let both = same_outcome outcome.Done o (state_of table s.images s.up) s' e in
     record {
       comes_to = λ opens. comes opens ∙ ap outcome_effect both.0;
-      state_is = sym both.1 ∙ ap (λ t. state_of t s.images) (sym same);
+      state_is = sym both.1 ∙ (ap (λ t. state_of t s.images s.up) (sym same) ∙ ap (λ u. state_of (plan_table p s.table) s.images u) (sym still));
       is_local = subst IsLocalOutcome both.0 tt;
     }
-change_ok p (Err why) o s s' same comes e = absurd (cc)
+change_ok p (Err why) o s s' same still comes e = absurd (cc)
+
+-- one that sets the device up or down
+device_ok : (p : CommandPlan) (wanted : Outcome) (r : Result Bool ApplyError) (o : Outcome) (s s' : State) → plan_table p s.table ≡ s.table → plan_up p s.up ≡ set_up s.up r →
+    ((opens : ℕ) → plan_effect opens s.table p ≡ device_effect (outcome_effect wanted) r) → IsLocalOutcome wanted → Answered (with_up wanted s r) ≡ Ok (o, s') → IsCarriedOut p o s s'
+device_ok p wanted (Ok up) o s s' same still comes here e =
+    let both = same_outcome wanted o (state_of s.table s.images up) s' e in
+    record {
+      comes_to = λ opens. comes opens ∙ ap outcome_effect both.0;
+      state_is = sym both.1 ∙ (ap (λ t. state_of t s.images up) (sym same) ∙ ap (λ u. state_of (plan_table p s.table) s.images u) (sym still));
+      is_local = subst IsLocalOutcome both.0 here;
+    }
+device_ok p wanted (Err why) o s s' same still comes here e = absurd (cc)
 
 pub carried_ok : (p : CommandPlan) (o : Outcome) (s s' : State) → IsLocal p → applied p s ≡ Ok (o, s') → IsCarriedOut p o s s'
 unfolding applied
-carried_ok (plan.Echo newline text) o s s' here e = keeps_state (plan.Echo newline text) _ o s s' refl (λ opens. refl) tt e
-carried_ok (plan.Goto label) o s s' here e = keeps_state (plan.Goto label) _ o s s' refl (λ opens. refl) tt e
-carried_ok (plan.Exit n) o s s' here e = keeps_state (plan.Exit n) _ o s s' refl (λ opens. refl) tt e
-carried_ok (plan.Isset word) o s s' here e = truth_ok (plan.Isset word) (is_word_set word) o s s' refl (λ opens. refl) e
-carried_ok (plan.Iseq a b) o s s' here e = truth_ok (plan.Iseq a b) (bytes_eq a b) o s s' refl (λ opens. refl) e
-carried_ok (plan.Set name value) o s s' here e = change_ok (plan.Set name value) (set_table name value s.table) o s s' refl (λ opens. refl) e
-carried_ok (plan.Clear name) o s s' here e = change_ok (plan.Clear name) (cleared_table name s.table) o s s' refl (λ opens. refl) e
-carried_ok (plan.Show name) o s s' here e = text_ok (plan.Show name) (setting_shown name s.table) o s s' refl (λ opens. refl) e
-carried_ok (plan.Inc name by) o s s' here e = change_ok (plan.Inc name by) (increased_table name by s.table) o s s' refl (λ opens. refl) e
-carried_ok (plan.Sleep seconds) o s s' here e = keeps_state (plan.Sleep seconds) _ o s s' refl (λ opens. refl) tt e
+carried_ok (plan.Echo newline text) o s s' here e = keeps_state (plan.Echo newline text) _ o s s' refl refl (λ opens. refl) tt e
+carried_ok (plan.Goto label) o s s' here e = keeps_state (plan.Goto label) _ o s s' refl refl (λ opens. refl) tt e
+carried_ok (plan.Exit n) o s s' here e = keeps_state (plan.Exit n) _ o s s' refl refl (λ opens. refl) tt e
+carried_ok (plan.Isset word) o s s' here e = truth_ok (plan.Isset word) (is_word_set word) o s s' refl refl (λ opens. refl) e
+carried_ok (plan.Iseq a b) o s s' here e = truth_ok (plan.Iseq a b) (bytes_eq a b) o s s' refl refl (λ opens. refl) e
+carried_ok (plan.Set name value) o s s' here e = change_ok (plan.Set name value) (set_table name value s.table) o s s' refl refl (λ opens. refl) e
+carried_ok (plan.Clear name) o s s' here e = change_ok (plan.Clear name) (cleared_table name s.table) o s s' refl refl (λ opens. refl) e
+carried_ok (plan.Show name) o s s' here e = text_ok (plan.Show name) (setting_shown name s.table) o s s' refl refl (λ opens. refl) e
+carried_ok (plan.Inc name by) o s s' here e = change_ok (plan.Inc name by) (increased_table name by s.table) o s s' refl refl (λ opens. refl) e
+carried_ok (plan.Ifopen device) o s s' here e = device_ok (plan.Ifopen device) outcome.Done (device_change device true) o s s' refl refl (λ opens. refl) tt e
+carried_ok (plan.Ifclose device) o s s' here e = device_ok (plan.Ifclose device) outcome.Down (device_change device false) o s s' refl refl (λ opens. refl) tt e
+carried_ok (plan.Sleep seconds) o s s' here e = keeps_state (plan.Sleep seconds) _ o s s' refl refl (λ opens. refl) tt e
 carried_ok (plan.Fetch uri) o s s' here e = absurd here
 carried_ok (plan.Exec uri) o s s' here e = absurd here
 
@@ -267,28 +372,34 @@ carried_ok (plan.Exec uri) o s s' here e = absurd here
 pub record IsRefusedSo (p : CommandPlan) (s : State) (cause : Cause) : Type 0 where
   pub comes_to : (opens : ℕ) → plan_effect opens s.table p ≡ says (refused cause)
   pub table_stays : plan_table p s.table ≡ s.table
+  pub up_stays : plan_up p s.up ≡ s.up
 
 same_cause : (c c' : Cause) → ◌≡◌ {A = Result (Outcome × State) Cause} (Err c) (Err c') → c ≡ c'
 same_cause c c' e = cc
 
-fails_so : (p : CommandPlan) (s : State) (why : ApplyError) (cause : Cause) → plan_table p s.table ≡ s.table → ((opens : ℕ) → plan_effect opens s.table p ≡ says (refused (apply_cause why))) →
+fails_so : (p : CommandPlan) (s : State) (why : ApplyError) (cause : Cause) → plan_table p s.table ≡ s.table → plan_up p s.up ≡ s.up → ((opens : ℕ) → plan_effect opens s.table p ≡ says (refused (apply_cause why))) →
     ◌≡◌ {A = Result (Outcome × State) Cause} (Err (apply_cause why)) (Err cause) → IsRefusedSo p s cause
-fails_so p s why cause same comes e = record { comes_to = λ opens. comes opens ∙ ap (λ c. says (refused c)) (same_cause (apply_cause why) cause e); table_stays = same }
+fails_so p s why cause same still comes e = record { comes_to = λ opens. comes opens ∙ ap (λ c. says (refused c)) (same_cause (apply_cause why) cause e); table_stays = same; up_stays = still }
 
-truth_err : (p : CommandPlan) (b : Bool) (s : State) (cause : Cause) → plan_table p s.table ≡ s.table → ((opens : ℕ) → plan_effect opens s.table p ≡ says (truth_outcome b)) →
+truth_err : (p : CommandPlan) (b : Bool) (s : State) (cause : Cause) → plan_table p s.table ≡ s.table → plan_up p s.up ≡ s.up → ((opens : ℕ) → plan_effect opens s.table p ≡ says (truth_outcome b)) →
     Answered (in_state s (truth b)) ≡ Err cause → IsRefusedSo p s cause
-truth_err p true s cause same comes e = absurd (cc)
-truth_err p false s cause same comes e = fails_so p s False cause same comes e
+truth_err p true s cause same still comes e = absurd (cc)
+truth_err p false s cause same still comes e = fails_so p s False cause same still comes e
 
-text_err : (p : CommandPlan) (r : Result (List ℕ) ApplyError) (s : State) (cause : Cause) → plan_table p s.table ≡ s.table → ((opens : ℕ) → plan_effect opens s.table p ≡ says (text_told r)) →
+text_err : (p : CommandPlan) (r : Result (List ℕ) ApplyError) (s : State) (cause : Cause) → plan_table p s.table ≡ s.table → plan_up p s.up ≡ s.up → ((opens : ℕ) → plan_effect opens s.table p ≡ says (text_told r)) →
     Answered (in_state s (text_outcome r)) ≡ Err cause → IsRefusedSo p s cause
-text_err p (Ok text) s cause same comes e = absurd (cc)
-text_err p (Err why) s cause same comes e = fails_so p s why cause same comes e
+text_err p (Ok text) s cause same still comes e = absurd (cc)
+text_err p (Err why) s cause same still comes e = fails_so p s why cause same still comes e
 
-change_err : (p : CommandPlan) (r : Change) (s : State) (cause : Cause) → plan_table p s.table ≡ changed s.table r → ((opens : ℕ) → plan_effect opens s.table p ≡ says (change_outcome r)) →
+change_err : (p : CommandPlan) (r : Change) (s : State) (cause : Cause) → plan_table p s.table ≡ changed s.table r → plan_up p s.up ≡ s.up → ((opens : ℕ) → plan_effect opens s.table p ≡ says (change_outcome r)) →
     Answered (with_table s r) ≡ Err cause → IsRefusedSo p s cause
-change_err p (Ok table) s cause same comes e = absurd (cc)
-change_err p (Err why) s cause same comes e = fails_so p s why cause same comes e
+change_err p (Ok table) s cause same still comes e = absurd (cc)
+change_err p (Err why) s cause same still comes e = fails_so p s why cause same still comes e
+
+device_err : (p : CommandPlan) (wanted : Outcome) (r : Result Bool ApplyError) (e : Effect) (s : State) (cause : Cause) → plan_table p s.table ≡ s.table → plan_up p s.up ≡ set_up s.up r →
+    ((opens : ℕ) → plan_effect opens s.table p ≡ device_effect e r) → Answered (with_up wanted s r) ≡ Err cause → IsRefusedSo p s cause
+device_err p wanted (Ok up) e s cause same still comes is = absurd (cc)
+device_err p wanted (Err why) e s cause same still comes is = fails_so p s why cause same still comes is
 
 never_fails : (p : CommandPlan) (o : Outcome) (s s' : State) (cause : Cause) → ◌≡◌ {A = Result (Outcome × State) Cause} (Ok (o, s')) (Err cause) → IsRefusedSo p s cause
 never_fails p o s s' cause e = absurd (cc)
@@ -298,57 +409,61 @@ unfolding applied
 carried_err (plan.Echo newline text) s cause here e = never_fails (plan.Echo newline text) _ s s cause e
 carried_err (plan.Goto label) s cause here e = never_fails (plan.Goto label) _ s s cause e
 carried_err (plan.Exit n) s cause here e = never_fails (plan.Exit n) _ s s cause e
-carried_err (plan.Isset word) s cause here e = truth_err (plan.Isset word) (is_word_set word) s cause refl (λ opens. refl) e
-carried_err (plan.Iseq a b) s cause here e = truth_err (plan.Iseq a b) (bytes_eq a b) s cause refl (λ opens. refl) e
-carried_err (plan.Set name value) s cause here e = change_err (plan.Set name value) (set_table name value s.table) s cause refl (λ opens. refl) e
-carried_err (plan.Clear name) s cause here e = change_err (plan.Clear name) (cleared_table name s.table) s cause refl (λ opens. refl) e
-carried_err (plan.Show name) s cause here e = text_err (plan.Show name) (setting_shown name s.table) s cause refl (λ opens. refl) e
-carried_err (plan.Inc name by) s cause here e = change_err (plan.Inc name by) (increased_table name by s.table) s cause refl (λ opens. refl) e
+carried_err (plan.Isset word) s cause here e = truth_err (plan.Isset word) (is_word_set word) s cause refl refl (λ opens. refl) e
+carried_err (plan.Iseq a b) s cause here e = truth_err (plan.Iseq a b) (bytes_eq a b) s cause refl refl (λ opens. refl) e
+carried_err (plan.Set name value) s cause here e = change_err (plan.Set name value) (set_table name value s.table) s cause refl refl (λ opens. refl) e
+carried_err (plan.Clear name) s cause here e = change_err (plan.Clear name) (cleared_table name s.table) s cause refl refl (λ opens. refl) e
+carried_err (plan.Show name) s cause here e = text_err (plan.Show name) (setting_shown name s.table) s cause refl refl (λ opens. refl) e
+carried_err (plan.Inc name by) s cause here e = change_err (plan.Inc name by) (increased_table name by s.table) s cause refl refl (λ opens. refl) e
+carried_err (plan.Ifopen device) s cause here e = device_err (plan.Ifopen device) outcome.Done (device_change device true) (says (refused ok)) s cause refl refl (λ opens. refl) e
+carried_err (plan.Ifclose device) s cause here e = device_err (plan.Ifclose device) outcome.Down (device_change device false) shuts_device s cause refl refl (λ opens. refl) e
 carried_err (plan.Sleep seconds) s cause here e = never_fails (plan.Sleep seconds) _ s s cause e
 carried_err (plan.Fetch uri) s cause here e = absurd here
 carried_err (plan.Exec uri) s cause here e = absurd here
 
 -- COMMANDS THAT BEGIN
 
--- a command whose words are expanded ends at once
-pub ends_expanded : (s : Running) (w : World) (ws : List (List ℕ)) (o : CommandOutcome) (table : TableLists) → HasCommand s w.state.table ws →
-    words_effect w.opens w.state.table ws ≡ says o → words_table w.state.table ws ≡ table → EndsAtOnce s w (shown_as true ws) o table
-ends_expanded s w ws o table h e t = record {
+-- a command whose words are expanded ends at once, and leaves the world as it was
+pub ends_expanded : (s : Running) (w : World) (ws : List (List ℕ)) (o : CommandOutcome) → IsLinked w → HasCommand s w.state.table ws →
+    words_effect w.opens w.state.table ws ≡ says o → words_table w.state.table ws ≡ w.state.table → words_up w.state.up ws ≡ w.state.up → EndsAtOnce s w (shown_as true ws) o w
+ends_expanded s w ws o linked h e t u = record {
   name = h.name;
   args = h.args;
   comes = h.comes;
   ends = effect_of_words w.opens w.state.table (h.name ∷ h.args) ws h.expands ∙ e;
   shows = shown_of_words w.state.table (h.name ∷ h.args) ws h.expands;
-  leaves = table_of_words w.state.table (h.name ∷ h.args) ws h.expands ∙ t;
+  leaves = world_stays w _ _ linked (table_of_words w.state.table (h.name ∷ h.args) ws h.expands ∙ t) (up_of_words w.state.table w.state.up (h.name ∷ h.args) ws h.expands ∙ u);
 }
 
 -- so does one whose words aren't
-pub ends_unexpanded : (s : Running) (w : World) (ws : List (List ℕ)) (cause : Cause) → HasRefused s w.state.table ws cause →
-    EndsAtOnce s w (shown_as false ws) (refused cause) w.state.table
-ends_unexpanded s w ws cause h = record {
+pub ends_unexpanded : (s : Running) (w : World) (ws : List (List ℕ)) (cause : Cause) → IsLinked w → HasRefused s w.state.table ws cause →
+    EndsAtOnce s w (shown_as false ws) (refused cause) w
+ends_unexpanded s w ws cause linked h = record {
   name = h.name;
   args = h.args;
   comes = h.comes;
   ends = effect_of_refused w.opens w.state.table (h.name ∷ h.args) h.why h.refuses ∙ ap (λ c. says (refused c)) (sym h.cause_is);
   shows = shown_of_refused w.state.table (h.name ∷ h.args) h.why h.refuses ∙ ap (shown_as false) (sym h.are);
-  leaves = table_of_refused w.state.table (h.name ∷ h.args) h.why h.refuses;
+  leaves = world_stays w _ _ linked (table_of_refused w.state.table (h.name ∷ h.args) h.why h.refuses) (up_of_refused w.state.table w.state.up (h.name ∷ h.args) h.why h.refuses);
 }
 
 -- words that are no command
-pub ends_unplanned : (s : Running) (w : World) (ws : List (List ℕ)) (why : PlanError) → HasCommand s w.state.table ws → planned ws ≡ Err why →
-    EndsAtOnce s w (shown_as true ws) (refused (plan_cause why)) w.state.table
-ends_unplanned s w ws why h e =
-    ends_expanded s w ws (refused (plan_cause why)) w.state.table h (effect_of_plan w.opens w.state.table ws (Err why) e) (table_of_plan w.state.table ws (Err why) e)
+pub ends_unplanned : (s : Running) (w : World) (ws : List (List ℕ)) (why : PlanError) → IsLinked w → HasCommand s w.state.table ws → planned ws ≡ Err why →
+    EndsAtOnce s w (shown_as true ws) (refused (plan_cause why)) w
+ends_unplanned s w ws why linked h e =
+    ends_expanded s w ws (refused (plan_cause why)) linked h (effect_of_plan w.opens w.state.table ws (Err why) e) (table_of_plan w.state.table ws (Err why) e) (up_of_plan w.state.up ws (Err why) e)
 
 -- a command that was carried out, in the world that it leaves
-pub carried_deed : (s : Running) (w : World) (ws : List (List ℕ)) (p : CommandPlan) (d : Deed) (now : Seen) → HasCommand s w.state.table ws → planned ws ≡ Ok p →
-    plan_effect w.opens w.state.table p ≡ deed_effect d → now.world ≡ world_with_table w (plan_table p w.state.table) → HasCarriedOut w d s ws now
-carried_deed s w ws p d now h is e world = record {
+pub carried_deed : (s : Running) (w : World) (ws : List (List ℕ)) (p : CommandPlan) (d : Deed) (now : Seen) → IsLinked w → HasCommand s w.state.table ws → planned ws ≡ Ok p →
+    plan_effect w.opens w.state.table p ≡ deed_effect d → now.world ≡ world_with w (plan_table p w.state.table) (plan_up p w.state.up) → HasCarriedOut w d s ws now
+carried_deed s w ws p d now linked h is e world = record {
   name = h.name;
   args = h.args;
   comes = h.comes;
   deed_is = effect_of_words w.opens w.state.table (h.name ∷ h.args) ws h.expands ∙ effect_of_plan w.opens w.state.table ws (Ok p) is ∙ e;
   shows = shown_of_words w.state.table (h.name ∷ h.args) ws h.expands;
   world_is = world
-      ∙ ap (world_with_table w) (sym (table_of_words w.state.table (h.name ∷ h.args) ws h.expands ∙ table_of_plan w.state.table ws (Ok p) is));
+      ∙ (ap (λ table. world_with w table (plan_up p w.state.up)) (sym (table_of_words w.state.table (h.name ∷ h.args) ws h.expands ∙ table_of_plan w.state.table ws (Ok p) is))
+      ∙ ap (λ up. world_with w (table_after w.state.table (h.name ∷ h.args)) up) (sym (up_of_words w.state.table w.state.up (h.name ∷ h.args) ws h.expands ∙ up_of_plan w.state.up ws (Ok p) is)));
+  was_linked = linked;
 }

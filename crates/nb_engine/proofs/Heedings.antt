@@ -387,6 +387,7 @@ goes_sound n w g h s f told sound was called =
       objects = ((it.begun, it.start, (it.calls ++ entry it.call way.0 ∷ []), (it.body ++ given_of it.call way.0.give), way.1), sound.objects.1);
       well = sound.well;
       short = sound.short;
+      linked = sound.linked;
     }
 
 pub called_ended : (h : Objects Obj) (k : ℕ) (told : Option (List Notice)) (cause : Cause) → WasTold told (Some cause) → IsCalled h k told → IsEnded h (fetch_of k) (tftp_of k)

@@ -26,11 +26,11 @@ use Rattle.nb_engine.specs.declared.world.World.{World}
 use Rattle.nb_engine.specs.World.{with_net, world_later, unbound}
 use Rattle.nb_engine.specs.Running.{Running, anew, no_label}
 use Rattle.nb_settings.specs.Tables.{TableLists}
-use Rattle.nb_engine.specs.Effects.{Wanted, Effect, says, asks, goes, sleeps, asked_for, effect, ShownWords, shown_words, too_long_uri, full_opens, bad_uri}
+use Rattle.nb_engine.specs.Effects.{Wanted, Effect, says, asks, goes, sleeps, shuts_device, asked_for, effect, ShownWords, shown_words, too_long_uri, full_opens, bad_uri}
 use Rattle.nb_engine.proofs.CommandLaws.{Covers, effect_covered}
 use Rattle.nb_engine.specs.Opens.{Open, with_entry, body_of, acts_records, advance_records, sends_records, send_records, try_records, has_route, end_of, is_over_limit, too_large_image, request_of, begun_for, opened_record}
 use Rattle.nb_engine.specs.Conclusions.{Conclusion, keeps, fails, boots, conclusion, stored, taken_in, selected_in, place_for, image_from, conclusion_records, handoff_records, is_bootable, not_bootable}
-use Rattle.nb_engine.specs.Machine.{Machine, Phase, ready, running, waiting, sleeping, yielded, handing, left, handed_off, stopped, Hears, goes_on, is_over, Begins, runs, refuses, passes_by, brings, passes_time, switches_off, sleeps_through_frame, sleeps_on, wakes, goes_off_asleep, goes_on_by_frame, goes_on_by_tick, goes_off, Move, passes, is_left, yields, does, leaves, jumps, finds_no_label, falls_asleep, asks_for, finds_no_route, no_route, hands, has_handed, Path, nothing, uses, moves, phase_after, concluded, command_records, command_record, prints, reply_records}
+use Rattle.nb_engine.specs.Machine.{Machine, Phase, ready, running, waiting, sleeping, yielded, handing, left, handed_off, stopped, Hears, goes_on, is_over, Begins, runs, refuses, passes_by, brings, passes_time, switches_off, sleeps_through_frame, sleeps_on, wakes, goes_off_asleep, goes_on_by_frame, goes_on_by_tick, goes_off, Move, passes, is_left, yields, does, closes_device, leaves, jumps, finds_no_label, falls_asleep, asks_for, finds_no_route, no_route, hands, has_handed, Path, nothing, uses, moves, phase_after, concluded, command_records, command_record, prints, reply_records}
 use Rattle.nb_engine.specs.Honesty.{file_of, Honest, IsServers, AreServers, IsNoPart, HaveNoParts, HandsFiles}
 use Rattle.nb_engine.proofs.HandingLemmas.{all_append, all_set}
 
@@ -115,6 +115,7 @@ Names (says o) = Unit {0}
 Names (asks wanted) = tftp_target wanted.uri ≡ Some wanted.target
 Names (goes name) = Unit {0}
 Names (sleeps seconds) = Unit {0}
+Names shuts_device = Unit {0}
 
 either_names : (t : Bool) (a b : Effect) → Names a → Names b → Names (cond t a b)
 either_names true a b p q = p
@@ -133,6 +134,7 @@ all_named : Covers Names
 all_named = record {
   of_says = λ o. tt;
   of_goes = λ name. tt;
+  of_shut = tt;
   of_sleep = λ seconds. either_names (seconds == 0) (says (refused ok)) (sleeps seconds) tt tt;
   of_fetch = λ opens boots uri. target_names opens boots uri (tftp_target uri) refl;
 }
@@ -270,6 +272,8 @@ moves_holds store outs m news m' (yields n w s c cs comes full) h = (h.0, more o
 moves_holds store outs m news m' (does n w s c cs o comes few is stays) h = (h.0, more outs (command_records s (shown_words w.state.table (c ∷ cs)) o) h.1 (no_command s (shown_words w.state.table (c ∷ cs)) o))
 moves_holds store outs m news m' (leaves n w s c cs o comes few is goes_out) h = tt
 moves_holds store outs m news m' (jumps n w s c cs name line comes few is there) h =
+    (h.0, more outs (command_records s (shown_words w.state.table (c ∷ cs)) (refused ok)) h.1 (no_command s (shown_words w.state.table (c ∷ cs)) (refused ok)))
+moves_holds store outs m news m' (closes_device n w s c cs comes few is) h =
     (h.0, more outs (command_records s (shown_words w.state.table (c ∷ cs)) (refused ok)) h.1 (no_command s (shown_words w.state.table (c ∷ cs)) (refused ok)))
 moves_holds store outs m news m' (finds_no_label n w s c cs name comes few is none) h =
     (h.0, more outs (command_records s (shown_words w.state.table (c ∷ cs)) (refused no_label)) h.1 (no_command s (shown_words w.state.table (c ∷ cs)) (refused no_label)))

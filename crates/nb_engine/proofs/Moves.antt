@@ -14,12 +14,10 @@ use Rattle.nb_image.specs.Parts.{PartText, PieceText, parts, part_pieces}
 use Rattle.nb_opens.specs.Graphs.{AreAside}
 use Rattle.nb_engine.specs.declared.world.World.{World}
 use Rattle.nb_engine.specs.declared.stage.Stage.TheVariants as stage
-use Rattle.nb_settings.specs.Tables.{TableLists}
-use Rattle.nb_engine.specs.World.{world_with_table}
-use Rattle.nb_engine.specs.Effects.{goes, sleeps, effect, table_after, ShownWords, shown_words}
+use Rattle.nb_engine.specs.Effects.{goes, sleeps, shuts_device, effect, ShownWords, shown_words}
 use Rattle.nb_engine.specs.Conclusions.{part_records, piece_record}
 use Rattle.nb_engine.specs.Running.{Running, PassesOn, here, further_on, coming, beginning, entered, further, behind_line, no_label}
-use Rattle.nb_engine.specs.Machine.{Machine, at, running, sleeping, yielded, left, Move, Moves, rests, moves_on, passes, is_left, yields, does, leaves, jumps, finds_no_label, falls_asleep, command_record, command_records, handing, handed_off, hands, has_handed}
+use Rattle.nb_engine.specs.Machine.{Machine, at, running, sleeping, yielded, left, Move, Moves, rests, moves_on, passes, is_left, yields, does, closes_device, leaves, jumps, finds_no_label, falls_asleep, world_after, command_record, command_records, handing, handed_off, hands, has_handed}
 use Rattle.nb_engine.specs.NextCommand.{IsFull, IsLeft}
 use Rattle.nb_engine.specs.declared.handing.Handing.{Handing}
 use Rattle.nb_engine.specs.Handings.{records_left, PutsNext}
@@ -114,26 +112,37 @@ pub yield_grows : {old : Logged} (n : ℕ) (w : World) (g : Objects Obj) (s : Ru
 yield_grows n w g s full = move_grows n w g s [] (at n (yielded w s)) (seen n w g (stage.Yielded s)) tt tt refl Puts-nothing (yields n w s full.name full.args full.comes full.full) (as_yielded n w g s)
 
 -- a command after which the list goes on
-pub does_grows : {old new : Logged} (n : ℕ) (w : World) (g : Objects Obj) (s t : Running) (shown : ShownWords) (o : CommandOutcome) (table : TableLists) → EndsAtOnce s w shown o table → s.begun < 4096 →
-    Does shown o None s t old new → Grows [] (seen n w g (stage.Running s)) (seen n (world_with_table w table) g (stage.Running t)) old new
-does_grows {old} {new} n w g s t shown o table e early d =
+pub does_grows : {old new : Logged} (n : ℕ) (w : World) (g : Objects Obj) (s t : Running) (shown : ShownWords) (o : CommandOutcome) (next : World) → EndsAtOnce s w shown o next → s.begun < 4096 →
+    Does shown o None s t old new → Grows [] (seen n w g (stage.Running s)) (seen n next g (stage.Running t)) old new
+does_grows {old} {new} n w g s t shown o next e early d =
     let ws = e.name ∷ e.args in
-    let next = world_with_table w (table_after w.state.table ws) in
+    let after = world_after w ws in
     let puts : Puts old new (out_texts (command_records s (shown_words w.state.table ws) o)) = subst (λ x. Puts old new (out_texts (command_records s x o))) (sym e.shows) d.2 in
-    let grows : Grows [] (seen n w g (stage.Running s)) (seen n next g (stage.Running (further s o.cause))) old new =
-    move_grows n w g s (command_records s (shown_words w.state.table ws) o) (at n (running next (further s o.cause))) (seen n next g (stage.Running (further s o.cause))) (aside_command s (shown_words w.state.table ws) o) tt refl puts
-    (does n w s e.name e.args o e.comes early e.ends d.0) (as_running n next g (further s o.cause)) in
-    rw d.1 (subst (λ x. Grows [] (seen n w g (stage.Running s)) (seen n (world_with_table w x) g (stage.Running (further s o.cause))) old new) e.leaves grows)
+    let grows : Grows [] (seen n w g (stage.Running s)) (seen n after g (stage.Running (further s o.cause))) old new =
+    move_grows n w g s (command_records s (shown_words w.state.table ws) o) (at n (running after (further s o.cause))) (seen n after g (stage.Running (further s o.cause))) (aside_command s (shown_words w.state.table ws) o) tt refl puts
+    (does n w s e.name e.args o e.comes early e.ends d.0) (as_running n after g (further s o.cause)) in
+    rw d.1 (subst (λ x. Grows [] (seen n w g (stage.Running s)) (seen n x g (stage.Running (further s o.cause))) old new) e.leaves grows)
+
+-- `ifclose`, after which the list goes on
+pub shuts_grows : {old new : Logged} (n : ℕ) (w : World) (g : Objects Obj) (s t : Running) (shown : ShownWords) (c : List ℕ) (cs : List (List ℕ)) → coming s ≡ beginning c cs → s.begun < 4096 →
+    effect w.opens w.state.table (c ∷ cs) ≡ shuts_device → shown_words w.state.table (c ∷ cs) ≡ shown → Does shown (refused ok) None s t old new →
+    Grows [] (seen n w g (stage.Running s)) (seen n (world_after w (c ∷ cs)) g (stage.Running t)) old new
+shuts_grows {old} {new} n w g s t shown c cs comes early e shows d =
+    let ws = c ∷ cs in
+    let after = world_after w ws in
+    let puts : Puts old new (out_texts (command_records s (shown_words w.state.table ws) (refused ok))) = subst (λ x. Puts old new (out_texts (command_records s x (refused ok)))) (sym shows) d.2 in
+    rw d.1 (move_grows n w g s (command_records s (shown_words w.state.table ws) (refused ok)) (at n (running after (further s ok))) (seen n after g (stage.Running (further s ok))) (aside_command s (shown_words w.state.table ws) (refused ok)) tt refl puts
+    (closes_device n w s c cs comes early e) (as_running n after g (further s ok)))
 
 -- a command with which the script is left
-pub leaves_grows : {old new : Logged} (n : ℕ) (w : World) (g : Objects Obj) (s t : Running) (shown : ShownWords) (o : CommandOutcome) (table : TableLists) (cause : Cause) → EndsAtOnce s w shown o table → s.begun < 4096 →
-    Does shown o (Some cause) s t old new → Grows [] (seen n w g (stage.Running s)) (seen n (world_with_table w table) g (stage.Left cause)) old new
-leaves_grows {old} {new} n w g s t shown o table cause e early d =
+pub leaves_grows : {old new : Logged} (n : ℕ) (w : World) (g : Objects Obj) (s t : Running) (shown : ShownWords) (o : CommandOutcome) (next : World) (cause : Cause) → EndsAtOnce s w shown o next → s.begun < 4096 →
+    Does shown o (Some cause) s t old new → Grows [] (seen n w g (stage.Running s)) (seen n next g (stage.Left cause)) old new
+leaves_grows {old} {new} n w g s t shown o next cause e early d =
     let ws = e.name ∷ e.args in
     let P : ShownWords → Cause → Type 0 = λ x k. Puts old new (out_texts (command_records s x o ++ (leave s.depth k ∷ []))) in
     let puts : P (shown_words w.state.table ws) o.cause = subst (λ x. P x o.cause) (sym e.shows) (subst (P shown) d.1 d.2) in
-    rw d.1 (move_grows n w g s (command_records s (shown_words w.state.table ws) o ++ (leave s.depth o.cause ∷ [])) (at n (left o.cause)) (seen n (world_with_table w table) g (stage.Left o.cause)) (aside-append (command_records s (shown_words w.state.table ws) o) (leave s.depth o.cause ∷ []) (aside_command s (shown_words w.state.table ws) o) (tt, tt)) tt refl puts
-    (leaves n w s e.name e.args o e.comes early e.ends d.0) (as_left n (world_with_table w table) g o.cause))
+    rw d.1 (move_grows n w g s (command_records s (shown_words w.state.table ws) o ++ (leave s.depth o.cause ∷ [])) (at n (left o.cause)) (seen n next g (stage.Left o.cause)) (aside-append (command_records s (shown_words w.state.table ws) o) (leave s.depth o.cause ∷ []) (aside_command s (shown_words w.state.table ws) o) (tt, tt)) tt (subst (λ (x : World). x.opens ≡ w.opens) e.leaves refl) puts
+    (leaves n w s e.name e.args o e.comes early e.ends d.0) (as_left n next g o.cause))
 
 -- `goto`
 pub goes_grows : {old new : Logged} (n : ℕ) (w : World) (g : Objects Obj) (s t : Running) (shown : ShownWords) (c : List ℕ) (cs : List (List ℕ)) (name : List ℕ) (place : Option ℕ) → coming s ≡ beginning c cs → s.begun < 4096 →
@@ -183,14 +192,23 @@ handed_grows n w g h none =
     })
 
 -- a command was over at once, and the script goes on or was left
-pub settled_acts : (left : Option Cause) (t : Turn) (old new : Logged) (n : ℕ) (w : World) (g : Objects Obj) (s s' : Running) (shown : ShownWords) (o : CommandOutcome) (table : TableLists) (at after : Seen) →
-    EndsAtOnce s w shown o table → s.begun < 4096 → Does shown o left s s' old new → at.used ≡ n → at.world ≡ world_with_table w table → at.graph ≡ g → SettlesScript left t s' at after →
+pub settled_acts : (left : Option Cause) (t : Turn) (old new : Logged) (n : ℕ) (w : World) (g : Objects Obj) (s s' : Running) (shown : ShownWords) (o : CommandOutcome) (next : World) (at after : Seen) →
+    EndsAtOnce s w shown o next → s.begun < 4096 → Does shown o left s s' old new → at.used ≡ n → at.world ≡ next → at.graph ≡ g → SettlesScript left t s' at after →
     AnswersTurn t [] (seen n w g (stage.Running s)) after old new
-settled_acts None t old new n w g s s' shown o table at after e early d used world graph settles =
-    rw (settles.0, settles.1, used, world, graph) (does_grows n w g s s' shown o table e early d, tt)
-settled_acts (Some cause) t old new n w g s s' shown o table at after e early d used world graph settles =
+settled_acts None t old new n w g s s' shown o next at after e early d used world graph settles =
+    rw (settles.0, settles.1, used, world, graph) (does_grows n w g s s' shown o next e early d, tt)
+settled_acts (Some cause) t old new n w g s s' shown o next at after e early d used world graph settles =
     turn_acts t old new [] (seen n w g (stage.Running s)) after (rw settles.1 settles.0)
-    (rw (settles.1, used, world, graph) (leaves_grows n w g s s' shown o table cause e early d))
+    (rw (settles.1, used, world, graph) (leaves_grows n w g s s' shown o next cause e early d))
+
+-- `ifclose` was over at once, and the script goes on
+pub shut_acts : (left : Option Cause) (t : Turn) (old new : Logged) (n : ℕ) (w : World) (g : Objects Obj) (s s' : Running) (shown : ShownWords) (c : List ℕ) (cs : List (List ℕ)) (at after : Seen) → coming s ≡ beginning c cs → s.begun < 4096 →
+    effect w.opens w.state.table (c ∷ cs) ≡ shuts_device → shown_words w.state.table (c ∷ cs) ≡ shown → Does shown (refused ok) left s s' old new →
+    at.used ≡ n → at.world ≡ world_after w (c ∷ cs) → at.graph ≡ g → SettlesScript left t s' at after →
+    AnswersTurn t [] (seen n w g (stage.Running s)) after old new
+shut_acts None t old new n w g s s' shown c cs at after comes early e shows d used world graph settles =
+    rw (settles.0, settles.1, used, world, graph) (shuts_grows n w g s s' shown c cs comes early e shows d, tt)
+shut_acts (Some cause) t old new n w g s s' shown c cs at after comes early e shows d used world graph settles = absurd (cc)
 
 -- a turn that ends a run brings nothing nearer
 pub nearer_left : (t : Turn) (before after : Seen) (cause : Cause) → IsTurn t (stage.Left cause) → IsNearer t before after

@@ -13,18 +13,17 @@ use Rattle.nb_engine.specs.declared.fetch.Fetch.{Fetch}
 use Rattle.nb_engine.specs.declared.status.Status.TheVariants as status
 use Rattle.nb_engine.specs.declared.client.Turn.{Turn}
 use Rattle.nb_engine.specs.declared.client.Turn.TheVariants as turn
-use Rattle.nb_settings.specs.Tables.{TableLists}
 use Rattle.nb_engine.specs.declared.command.Deed.{Deed}
 use Rattle.nb_engine.specs.CommandWords.{deed_effect}
-use Rattle.nb_engine.specs.Effects.{Wanted, effect, says, ShownWords, shown_words, shown_as, table_after}
-use Rattle.nb_engine.specs.World.{own_port, with_ended_open, world_with_table}
+use Rattle.nb_engine.specs.Effects.{Wanted, effect, says, ShownWords, shown_words, shown_as}
+use Rattle.nb_engine.specs.World.{IsLinked, own_port, with_ended_open}
 use Rattle.nb_engine.specs.Opens.{opened_record}
 use Rattle.nb_engine.specs.Conclusions.{fails, conclusion_records}
 use Rattle.nb_engine.specs.Fetches.{speaker_of}
 use Rattle.nb_engine.specs.Tellings.{told_records}
 use Rattle.nb_defs.specs.Commands.{CommandOutcome}
 use Rattle.nb_engine.specs.Running.{Running, further, coming, beginning}
-use Rattle.nb_engine.specs.Machine.{no_route, command_record}
+use Rattle.nb_engine.specs.Machine.{no_route, command_record, world_after}
 use Rattle.nb_engine.specs.Seen.{Seen, seen, standing}
 use Rattle.nb_engine.specs.Concluding.{IsTurn}
 use Rattle.nb_engine.specs.declared.stage.Stage.TheVariants as stage
@@ -58,14 +57,14 @@ abbrev pub TurnsBack : Turn → Running → List (List ℕ) → Wanted → Fetch
 TurnsBack (turn.Over status.NoMemory) s ws wanted f before after old new = new ≡ old
 TurnsBack t s ws wanted f before after old new = HasTurnedBack t s ws wanted f before after old new
 
--- a command ends so at once, in this world: its words are shown so, and it leaves these settings
-pub record EndsAtOnce (s : Running) (w : World) (shown : ShownWords) (o : CommandOutcome) (table : TableLists) : Type 0 where
+-- a command ends so at once, in this world: its words are shown so, and it leaves this world
+pub record EndsAtOnce (s : Running) (w : World) (shown : ShownWords) (o : CommandOutcome) (after : World) : Type 0 where
   pub name : List ℕ
   pub args : List (List ℕ)
   pub comes : coming s ≡ beginning name args
   pub ends : effect w.opens w.state.table (name ∷ args) ≡ says o
   pub shows : shown_words w.state.table (name ∷ args) ≡ shown
-  pub leaves : table_after w.state.table (name ∷ args) ≡ table
+  pub leaves : world_after w (name ∷ args) ≡ after
 
 -- a command whose words are expanded was carried out in this world, and came to this
 pub record HasCarriedOut (w : World) (d : Deed) (s : Running) (ws : List (List ℕ)) (now : Seen) : Type 0 where
@@ -74,7 +73,8 @@ pub record HasCarriedOut (w : World) (d : Deed) (s : Running) (ws : List (List �
   pub comes : coming s ≡ beginning name args
   pub deed_is : effect w.opens w.state.table (name ∷ args) ≡ deed_effect d
   pub shows : shown_words w.state.table (name ∷ args) ≡ shown_as true ws
-  pub world_is : now.world ≡ world_with_table w (table_after w.state.table (name ∷ args))
+  pub world_is : now.world ≡ world_after w (name ∷ args)
+  pub was_linked : IsLinked w
 
 -- the script goes on, or was left with this cause
 abbrev pub SettlesScript : Option Cause → Turn → Running → Seen → Seen → Type 0

@@ -10,7 +10,7 @@ use Rattle.nb_command.specs.declared.command_plan.CommandPlan.TheVariants as pla
 use Rattle.nb_command.specs.declared.outcome.Outcome.{Outcome}
 use Rattle.nb_command.specs.declared.outcome.Outcome.TheVariants as outcome
 use Rattle.nb_command.specs.declared.outcome.Job.TheVariants as job
-use Rattle.nb_engine.specs.Effects.{Effect, says, asks, goes, sleeps, leaves_with, sleeping_for, bad_uri, too_long_uri, full_opens}
+use Rattle.nb_engine.specs.Effects.{Effect, says, asks, goes, sleeps, shuts_device, leaves_with, sleeping_for, bad_uri, too_long_uri, full_opens}
 use Rattle.nb_engine.specs.Effects as defs
 use Rattle.nb_engine.specs.declared.command.Deed.{Deed}
 use Rattle.nb_engine.specs.declared.command.Deed.TheVariants as deed
@@ -40,6 +40,7 @@ abbrev pub deed_effect : Deed → Effect
 deed_effect (deed.Ends d) = says (done_of d)
 deed_effect (deed.Goes label) = goes label
 deed_effect (deed.Sleeps seconds) = sleeps seconds
+deed_effect deed.Shuts = shuts_device
 
 -- what a command that was carried out comes to
 abbrev pub outcome_effect : Outcome → Effect
@@ -49,12 +50,14 @@ outcome_effect (outcome.Goto label) = goes label
 outcome_effect (outcome.Leave n) = says (leaves_with n)
 outcome_effect (outcome.Wait (job.Sleep seconds)) = sleeping_for seconds
 outcome_effect (outcome.Wait (job.Fetch target name after)) = says (refused ok)
+outcome_effect outcome.Down = shuts_device
 
 -- what it prints has at most so many bytes
 abbrev pub PrintsAtMost : Deed → ℕ → Type 0
 PrintsAtMost (deed.Ends d) most = IfSome d.prints (λ text. length text ≤ most)
 PrintsAtMost (deed.Goes label) most = Unit {0}
 PrintsAtMost (deed.Sleeps seconds) most = Unit {0}
+PrintsAtMost deed.Shuts most = Unit {0}
 
 -- a plan that asks for no file
 abbrev pub IsLocal : CommandPlan → Type 0
@@ -67,6 +70,8 @@ IsLocal (plan.Set name value) = Unit {0}
 IsLocal (plan.Clear name) = Unit {0}
 IsLocal (plan.Show name) = Unit {0}
 IsLocal (plan.Inc name by) = Unit {0}
+IsLocal (plan.Ifopen device) = Unit {0}
+IsLocal (plan.Ifclose device) = Unit {0}
 IsLocal (plan.Sleep seconds) = Unit {0}
 IsLocal (plan.Fetch uri) = ⊥
 IsLocal (plan.Exec uri) = ⊥
@@ -78,6 +83,7 @@ IsLocalOutcome (outcome.Text text) = Unit {0}
 IsLocalOutcome (outcome.Goto label) = Unit {0}
 IsLocalOutcome (outcome.Leave n) = Unit {0}
 IsLocalOutcome (outcome.Wait (job.Sleep seconds)) = Unit {0}
+IsLocalOutcome outcome.Down = Unit {0}
 IsLocalOutcome (outcome.Wait (job.Fetch target name after)) = ⊥
 
 -- an open may be made, and the file's path and name are of the sizes that a transfer and an image take

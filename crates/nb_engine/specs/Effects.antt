@@ -1,5 +1,5 @@
--- What a command comes to: it is over with an outcome, it asks for a file, it goes to a label, or it sleeps; and
--- what it does to the settings. Its words are expanded first.
+-- What a command comes to: it is over with an outcome, it asks for a file, it goes to a label, it sleeps, or it shuts the
+-- device; and what it does to the settings and the device. Its words are expanded first.
 use Rattle.std.specs.Prelude.{ℕ, ◌==◌, Bool, true, false, List, None, Result, Ok, Err, if◌then◌else◌}
 use Rattle.std.specs.Option.{option_map_or}
 use Rattle.std.specs.Str.{bytes_eq}
@@ -32,6 +32,7 @@ use Rattle.nb_command.specs.Set.{set_table}
 use Rattle.nb_command.specs.Clear.{cleared_table}
 use Rattle.nb_command.specs.Show.{setting_shown}
 use Rattle.nb_command.specs.Inc.{increased_table}
+use Rattle.nb_command.specs.Device.{device_change}
 
 -- the URI is none that is fetched
 abbrev pub bad_uri : Cause
@@ -56,6 +57,8 @@ pub data Effect : Type 0 where
   asks : Wanted → Effect
   goes : (name : List ℕ) → Effect
   sleeps : (seconds : ℕ) → Effect
+  -- the device goes down: what is open there is closed, and the command is over with Ok
+  shuts_device : Effect
 
 -- the refusals in their order
 abbrev pub asked_for : ℕ → Bool → List ℕ → TftpTarget → Effect
@@ -87,6 +90,11 @@ change_outcome (Err why) = refused (apply_cause why)
 abbrev pub sleeping_for : ℕ → Effect
 sleeping_for seconds = if seconds == 0 then says (refused ok) else sleeps seconds
 
+-- what a command comes to that sets the device up or down; another device is refused
+abbrev pub device_effect : Effect → Result Bool ApplyError → Effect
+device_effect done (Ok up) = done
+device_effect done (Err why) = says (refused (apply_cause why))
+
 -- what a command comes to, by how many opens were made and the settings
 abbrev pub plan_effect : ℕ → TableLists → CommandPlan → Effect
 plan_effect opens table (plan.Echo newline text) = says (prints_text (echoed newline text))
@@ -100,6 +108,8 @@ plan_effect opens table (plan.Show name) = says (text_told (setting_shown name t
 plan_effect opens table (plan.Inc name by) = says (change_outcome (increased_table name by table))
 plan_effect opens table (plan.Fetch uri) = fetch opens false uri
 plan_effect opens table (plan.Exec uri) = fetch opens true uri
+plan_effect opens table (plan.Ifopen device) = device_effect (says (refused ok)) (device_change device true)
+plan_effect opens table (plan.Ifclose device) = device_effect shuts_device (device_change device false)
 plan_effect opens table (plan.Sleep seconds) = sleeping_for seconds
 
 -- the settings that a change leaves
@@ -120,7 +130,31 @@ plan_table (plan.Iseq a b) table = table
 plan_table (plan.Show name) table = table
 plan_table (plan.Fetch uri) table = table
 plan_table (plan.Exec uri) table = table
+plan_table (plan.Ifopen device) table = table
+plan_table (plan.Ifclose device) table = table
 plan_table (plan.Sleep seconds) table = table
+
+-- whether the device is up after it was set so
+abbrev pub set_up : Bool → Result Bool ApplyError → Bool
+set_up up (Ok other) = other
+set_up up (Err why) = up
+
+-- whether it is up after a command
+abbrev pub plan_up : CommandPlan → Bool → Bool
+plan_up (plan.Ifopen device) up = set_up up (device_change device true)
+plan_up (plan.Ifclose device) up = set_up up (device_change device false)
+plan_up (plan.Echo newline text) up = up
+plan_up (plan.Goto label) up = up
+plan_up (plan.Exit n) up = up
+plan_up (plan.Isset word) up = up
+plan_up (plan.Iseq a b) up = up
+plan_up (plan.Set name value) up = up
+plan_up (plan.Clear name) up = up
+plan_up (plan.Show name) up = up
+plan_up (plan.Inc name by) up = up
+plan_up (plan.Fetch uri) up = up
+plan_up (plan.Exec uri) up = up
+plan_up (plan.Sleep seconds) up = up
 
 -- why words are no command
 abbrev pub plan_cause : PlanError → Cause
@@ -136,12 +170,19 @@ abbrev pub planned_table : TableLists → Result CommandPlan PlanError → Table
 planned_table table (Ok p) = plan_table p table
 planned_table table (Err why) = table
 
+abbrev pub planned_up : Bool → Result CommandPlan PlanError → Bool
+planned_up up (Ok p) = plan_up p up
+planned_up up (Err why) = up
+
 -- what expanded words come to
 unfoldable pub words_effect : ℕ → TableLists → List (List ℕ) → Effect
 words_effect opens table ws = planned_effect opens table (planned ws)
 
 unfoldable pub words_table : TableLists → List (List ℕ) → TableLists
 words_table table ws = planned_table table (planned ws)
+
+unfoldable pub words_up : Bool → List (List ℕ) → Bool
+words_up up ws = planned_up up (planned ws)
 
 -- why words aren't expanded
 abbrev pub expand_cause : ExpandError → Cause
@@ -161,6 +202,10 @@ abbrev pub expanded_table : TableLists → Result (List (List ℕ)) ExpandError 
 expanded_table table (Ok ws) = words_table table ws
 expanded_table table (Err why) = table
 
+abbrev pub expanded_up : Bool → Result (List (List ℕ)) ExpandError → Bool
+expanded_up up (Ok ws) = words_up up ws
+expanded_up up (Err why) = up
+
 -- what a command comes to, by its words as the script has them
 unfoldable pub effect : ℕ → TableLists → List (List ℕ) → Effect
 effect opens table ws = expanded_effect opens table (expansion table ws)
@@ -168,6 +213,10 @@ effect opens table ws = expanded_effect opens table (expansion table ws)
 -- the settings that it leaves
 unfoldable pub table_after : TableLists → List (List ℕ) → TableLists
 table_after table ws = expanded_table table (expansion table ws)
+
+-- whether the device is up then
+unfoldable pub up_after : TableLists → Bool → List (List ℕ) → Bool
+up_after table up ws = expanded_up up (expansion table ws)
 
 -- the words that COMMAND shows: expanded, or as they are written where that is refused
 pub record ShownWords : Type 0 where

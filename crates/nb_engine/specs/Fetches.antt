@@ -10,7 +10,7 @@ use Rattle.nb_engine.specs.declared.conclusion.Conclusion.{Conclusion as Conclud
 use Rattle.nb_engine.specs.declared.conclusion.Conclusion.TheVariants as concluded
 use Rattle.nb_engine.specs.Handings.{AreShort}
 use Rattle.nb_engine.specs.Opens.{Open, body_of}
-use Rattle.nb_engine.specs.World.{host}
+use Rattle.nb_engine.specs.Link.{host}
 use Rattle.nb_engine.specs.Effects.{Wanted}
 use Rattle.nb_engine.specs.Conclusions.{Conclusion, keeps, fails, boots}
 use Rattle.nb_engine.specs.Tellings.{Speaker}

@@ -1,4 +1,5 @@
 pub mod StartTable
+pub mod Link
 pub mod World
 pub mod Effects
 pub mod Opens

@@ -13,10 +13,10 @@ use Rattle.nb_tftp.specs.Received.{received}
 use Rattle.nb_tftp.specs.History.{Call, came, ticked, entry}
 use Rattle.nb_tftp.specs.Sentences.{Meets}
 use Rattle.nb_engine.specs.declared.world.World.{World}
-use Rattle.nb_engine.specs.World.{world_of, with_net, world_later, world_with_images, world_with_table, with_open, with_ended_open, unbound}
+use Rattle.nb_engine.specs.World.{world_of, with_net, world_later, world_with_images, world_with, with_open, with_ended_open, unbound}
 use Rattle.nb_engine.specs.FirstText.{first_reading, text_refusal}
 use Rattle.nb_engine.specs.Running.{Running, first_script, coming, passing, leaving, beginning, entered, further, behind_line, with_result, anew, no_label}
-use Rattle.nb_engine.specs.Effects.{Wanted, says, asks, goes, sleeps, effect, table_after, ShownWords, shown_words}
+use Rattle.nb_engine.specs.Effects.{Wanted, says, asks, goes, sleeps, shuts_device, effect, table_after, up_after, ShownWords, shown_words}
 use Rattle.nb_engine.specs.Opens.{Open, open_for, with_entry, body_of, request_of, has_route, send_records, acts_records, opened_record, heard_from, end_of, begun_for}
 use Rattle.nb_engine.specs.Conclusions.{Conclusion, keeps, fails, boots, conclusion, image_from, conclusion_records, handoff_records}
 
@@ -65,6 +65,10 @@ command_record s t = command s.depth s.passed s.place t.expanded t.words
 -- the records of a command that is over at once: COMMAND, what it prints, RESULT
 abbrev pub command_records : Running → ShownWords → CommandOutcome → List Out
 command_records s t o = (command_record s t ∷ []) ++ prints o.prints ++ (result o.cause ∷ [])
+
+-- the world that a command leaves: its settings, and the link that they and the device's state say
+abbrev pub world_after : World → List (List ℕ) → World
+world_after w ws = world_with w (table_after w.state.table ws) (up_after w.state.table w.state.up ws)
 
 -- there is no way to this server
 abbrev pub no_route : ℕ → Cause
@@ -167,7 +171,11 @@ pub data Move : Machine → List Out → Machine → Type 0 where
   does : (n : ℕ) (w : World) (s : Running) (c : List ℕ) (cs : List (List ℕ)) (o : CommandOutcome) → coming s ≡ beginning c cs → s.begun < 4096 →
       effect w.opens w.state.table (c ∷ cs) ≡ says o → o.leaves ≡ false →
       Move (at n (running w s)) (command_records s (shown_words w.state.table (c ∷ cs)) o)
-      (at n (running (world_with_table w (table_after w.state.table (c ∷ cs))) (further s o.cause)))
+      (at n (running (world_after w (c ∷ cs)) (further s o.cause)))
+  -- `ifclose`: the device goes down, and no open lives that would be closed
+  closes_device : (n : ℕ) (w : World) (s : Running) (c : List ℕ) (cs : List (List ℕ)) → coming s ≡ beginning c cs → s.begun < 4096 →
+      effect w.opens w.state.table (c ∷ cs) ≡ shuts_device →
+      Move (at n (running w s)) (command_records s (shown_words w.state.table (c ∷ cs)) (refused ok)) (at n (running (world_after w (c ∷ cs)) (further s ok)))
   -- a command with which the script is left
   leaves : (n : ℕ) (w : World) (s : Running) (c : List ℕ) (cs : List (List ℕ)) (o : CommandOutcome) → coming s ≡ beginning c cs → s.begun < 4096 →
       effect w.opens w.state.table (c ∷ cs) ≡ says o → o.leaves ≡ true →

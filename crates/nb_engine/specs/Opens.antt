@@ -14,7 +14,8 @@ use Rattle.nb_tftp.specs.Asks.{Begun, begun, last_message}
 use Rattle.nb_tftp.specs.History.{Entry, got}
 use Rattle.nb_tftp.specs.Blocks.{file}
 use Rattle.nb_engine.specs.declared.world.World.{World}
-use Rattle.nb_engine.specs.World.{host, own_port}
+use Rattle.nb_engine.specs.Link.{host}
+use Rattle.nb_engine.specs.World.{own_port}
 use Rattle.nb_engine.specs.Effects.{Wanted}
 
 -- An open: its number, the file that it asks for, what its transfer was begun with and when, and all

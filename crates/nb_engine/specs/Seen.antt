@@ -10,6 +10,7 @@ use Rattle.nb_stack.specs.declared.ports.Port.{Port}
 use Rattle.nb_stack.specs.Bound.{with_port}
 use Rattle.nb_image.specs.Images.{ImageList}
 use Rattle.nb_engine.specs.declared.world.World.{World}
+use Rattle.nb_engine.specs.World.{IsLinked}
 use Rattle.nb_engine.specs.declared.fetch.Fetch.{Fetch}
 use Rattle.nb_engine.specs.declared.handing.Handing.{Handing}
 use Rattle.nb_engine.specs.declared.stage.Stage.{Stage}
@@ -80,6 +81,7 @@ pub record IsSound (used : ℕ) (world : World) (graph : Objects Obj) (stage : S
   pub objects : HasObjects stage world.opens graph
   pub well : StandsWell stage world.state.images
   pub short : AreShort world.state.images.images
+  pub linked : IsLinked world
 
 -- the states of the machine for which a client stands: those that agree with it, with an open whose
 -- history is one of the objects on the client's graph, and with the records that its hand-off has left

@@ -10,7 +10,7 @@ ghost use Rattle.nb_engine.specs.declared.client.Turn.TheVariants as turn;
 ghost use Rattle.nb_command.specs.Planning.{planned};
 ghost use Rattle.nb_command.specs.Printed.{most_printed};
 ghost use Rattle.nb_engine.specs.declared.world.World.{World};
-ghost use Rattle.nb_engine.specs.Effects.{words_effect, words_table, asks, fetch, shown_as};
+ghost use Rattle.nb_engine.specs.Effects.{words_effect, words_table, words_up, asks, fetch, shown_as};
 ghost use Rattle.nb_engine.specs.CommandWords.{wanted_of, IsLocal, CanFetch, PrintsAtMost};
 ghost use Rattle.nb_engine.specs.NextCommand.{HasCommand, IsReady};
 ghost use Rattle.nb_engine.specs.World.{with_open, with_ended_open, own_port as own_port_of};
@@ -30,7 +30,7 @@ ghost use Rattle.nb_engine.specs.Advance.{EndsAtOnce, HasCarriedOut, IsNextFetch
 ghost use Rattle.nb_engine.specs.Handings.{IsAt};
 ghost use Rattle.nb_engine.specs.declared.stage.Stage.TheVariants as stage;
 
-use crate::command::{Deed, Done, Wanted, carry_out, read_uri};
+use crate::command::{Deed, Done, Wanted, read_uri};
 use crate::desk::{Desk, lent};
 use crate::objects::{begin, turn_back};
 use crate::put::{has_route, put_over, put_result, put_told};
@@ -128,6 +128,7 @@ impl Client {
         requires words { HasCommand script self.old.world.state.table words.now }
         requires value { words_effect self.old.world.opens self.old.world.state.table words.now ≡ fetch self.old.world.opens boots uri.now }
         requires same { words_table self.old.world.state.table words.now ≡ self.old.world.state.table }
+        requires up { words_up self.old.world.state.up words.now ≡ self.old.world.state.up }
         ensures does { AnswersTurn result [] (standing self.old (stage.Running script)) self.new log.old log.new }
         ensures nearer { IsNearer result (standing self.old (stage.Running script)) self.new }
     {
@@ -148,7 +149,7 @@ impl Client {
     ) -> Turn
         requires sound { IsSound self.old.used self.old.world self.old.graph (stage.Running script) }
         requires words { IsReady script words.now }
-        requires refused { EndsAtOnce script self.old.world (shown_as expanded words.now) (refused cause) self.old.world.state.table }
+        requires refused { EndsAtOnce script self.old.world (shown_as expanded words.now) (refused cause) self.old.world }
         ensures does { AnswersTurn result [] (standing self.old (stage.Running script)) self.new log.old log.new }
         ensures nearer { IsNearer result (standing self.old (stage.Running script)) self.new }
     {
@@ -172,7 +173,7 @@ impl Client {
         ensures does { AnswersTurn result [] (standing self.old (stage.Running script)) self.new log.old log.new }
         ensures nearer { IsNearer result (standing self.old (stage.Running script)) self.new }
     {
-        match carry_out(self.alloc, plan, &mut self.world.state) {
+        match self.world.carry_out(self.alloc, plan) {
             Ok(deed) => self.go_by(script, words, &deed, log),
             Err(NoMemory) => Turn::Over(Status::NoMemory),
         }
@@ -203,6 +204,10 @@ impl Client {
                 self.run_on(script)
             }
             Deed::Sleeps(seconds) => self.sleep(script, words, *seconds, log),
+            Deed::Shuts => {
+                let left = script.finish(true, words, &Done::with(Plain::Ok.cause()), log);
+                self.settle(script, left)
+            }
         }
     }
 

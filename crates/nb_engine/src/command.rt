@@ -1,10 +1,10 @@
-ghost use Rattle.std.specs.Prelude.{◌≡◌, ◌≤◌, ℕ, length, IfOk, OnOk};
+ghost use Rattle.std.specs.Prelude.{◌≡◌, ◌≤◌, ℕ, length, IfOk, OnOk, OnErr};
 ghost use Rattle.std.specs.Option.{option_map_or};
 ghost use Rattle.nb_defs.specs.Causes.{exit_cause};
 ghost use Rattle.nb_defs.specs.Commands.{refused, prints_text};
 ghost use Rattle.nb_uri.specs.Targets.{tftp_target};
 ghost use Rattle.nb_command.specs.Printed.{most_printed, IfText};
-ghost use Rattle.nb_engine.specs.Effects.{plan_effect, plan_table, fetch, leaves_with};
+ghost use Rattle.nb_engine.specs.Effects.{plan_effect, plan_table, plan_up, fetch, leaves_with};
 ghost use Rattle.nb_engine.specs.World.{state_of};
 ghost use Rattle.nb_engine.specs.CommandWords.{asked_of, cause_of, done_of, deed_effect, outcome_effect, IsLocal, IsLocalOutcome, PrintsAtMost, CanFetch};
 
@@ -60,6 +60,8 @@ pub enum Deed {
     Goes(Word),
     /// It sleeps for so many seconds.
     Sleeps(u32),
+    /// The device went down: what is open there is to be closed, and it is over with Ok.
+    Shuts,
 }
 
 impl Refusal {
@@ -145,6 +147,7 @@ fn deed_of(outcome: Outcome) -> Deed
         Outcome::Goto(label) => Deed::Goes(label),
         Outcome::Leave(n) => Deed::Ends(Done::leaving(n)),
         Outcome::Wait(Job::Sleep(seconds)) => Deed::Sleeps(seconds),
+        Outcome::Down => Deed::Shuts,
         Outcome::Wait(Job::Fetch { .. }) => unreachable!(),
     }
 }
@@ -153,8 +156,8 @@ fn deed_of(outcome: Outcome) -> Deed
 pub fn carry_out(alloc: Global, plan: &CommandPlan, state: &mut State) -> Result<Deed, NoMemory>
     requires { IsLocal plan.now }
     ensures value { IfOk result (λ deed. (opens : ℕ) → plan_effect opens state.old.table plan.now ≡ deed_effect deed) }
-    ensures table { OnOk result (state.new ≡ state_of (plan_table plan.now state.old.table) state.old.images) }
-    ensures images { state.new.images ≡ state.old.images }
+    ensures after { OnOk result (state.new ≡ state_of (plan_table plan.now state.old.table) state.old.images (plan_up plan.now state.old.up)) }
+    ensures same { OnErr result (state.new ≡ state.old) }
     ensures printed { IfOk result (λ deed. PrintsAtMost deed (most_printed plan.now)) }
 {
     match apply(alloc, plan, state) {

@@ -13,6 +13,7 @@ mod handing;
 mod heeding;
 mod kept;
 mod laws;
+mod link;
 mod objects;
 mod outlet;
 mod put;

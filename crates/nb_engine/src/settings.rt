@@ -5,19 +5,13 @@ ghost use Rattle.nb_settings.specs.Keys.{key_of};
 ghost use Rattle.nb_record.specs.View.{start_of};
 ghost use Rattle.nb_engine.specs.StartTable.{with_own, with_address, with_names, with_addresses, net0_alone, start_table};
 
+use crate::link::{GATEWAY, MASK, NET0};
 use nb_record::{NoMemory, Start};
 use nb_settings::{Key, Kind, Table};
 use nb_wire::Ip4;
 use std::alloc::Global;
 
-/// The block of the one device.
-const NET0: &[u8] = b"net0";
-
-/// The options of RFC 2132 that are addresses of START: the net's mask, its gateway, and its name server.
-const MASK: Key<'static> = Key::Tag(1);
-
-const GATEWAY: Key<'static> = Key::Tag(3);
-
+/// The option of RFC 2132 that is the name server.
 const DNS: Key<'static> = Key::Tag(6);
 
 /// Puts a value into the block. It is there, and is far from full, so only memory may be wanting.

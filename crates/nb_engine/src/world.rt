@@ -1,14 +1,19 @@
-ghost use Rattle.std.specs.Prelude.{◌≡◌, ◌<◌, IfOk};
+ghost use Rattle.std.specs.Prelude.{◌≡◌, ◌<◌, ℕ, Bool, false, IfOk, OnOk, OnErr};
 ghost use Rattle.nb_record.specs.View.{start_of};
-ghost use Rattle.nb_engine.specs.World.{mask_of, gateway_of, address_of, bare_world, world_of, own_port};
+ghost use Rattle.nb_command.specs.Printed.{most_printed};
+ghost use Rattle.nb_settings.specs.Tables.{TableLists};
+ghost use Rattle.nb_engine.specs.Effects.{plan_effect, plan_table, plan_up};
+ghost use Rattle.nb_engine.specs.CommandWords.{deed_effect, IsLocal, PrintsAtMost};
+ghost use Rattle.nb_engine.specs.World.{IsLinked, bare_world, world_of, world_with, own_port};
 
+use crate::command::{Deed, carry_out};
+use crate::link::address_in;
 use crate::settings::start_table;
-use nb_command::State;
+use nb_command::{CommandPlan, State};
 use nb_image::Images;
 use nb_record::{NoMemory, Start};
 use nb_settings::Table;
-use nb_stack::{Addr, Stack};
-use nb_wire::Ip4;
+use nb_stack::Stack;
 use std::alloc::Global;
 
 /// What a run has beside its script: its link, its clock, its opens, its settings and its images.
@@ -21,43 +26,15 @@ pub struct World {
     pub(crate) net: Stack,
     /// How many opens were made.
     pub(crate) opens: u16,
-    /// Its settings and its images.
+    /// Its settings, its images, and whether its device is up.
     pub(crate) state: State,
 }
-
-/// The net's mask where START gives none.
-const CLASS_C: u32 = 0xffff_ff00;
 
 /// The first port of an open; the others are the 16,383 behind it.
 const FIRST_PORT: u16 = 49_152;
 
 /// How many ports the opens have.
 const PORTS: u16 = 16_384;
-
-fn mask_of(mask: Ip4) -> Ip4
-    ensures { result ≡ mask_of mask.0 }
-{
-    if mask.0 == 0 { Ip4(CLASS_C) } else { mask }
-}
-
-fn gateway_of(gateway: Ip4) -> Option<Ip4>
-    ensures { result ≡ gateway_of gateway.0 }
-{
-    if gateway.0 == 0 { None } else { Some(gateway) }
-}
-
-fn address_of(start: &Start<'_>) -> Option<Addr>
-    ensures { result ≡ address_of (start_of start.now) }
-{
-    if start.ip.0 == 0 {
-        return None;
-    }
-    Some(Addr {
-        ip: start.ip,
-        mask: mask_of(start.mask),
-        gateway: gateway_of(start.gateway),
-    })
-}
 
 /// The client's port of the open of this number: no other open of a run has it.
 pub fn own_port(w: u16, number: u16) -> u16
@@ -73,27 +50,70 @@ impl World {
     pub fn bare(alloc: Global, start: &Start<'_>) -> World
         ensures { result ≡ bare_world (start_of start.now) }
     {
-        let mut net = Stack::new(start.mac);
-        net.set_address(address_of(start));
-        net.set_up(start.ip.0 != 0);
-        World {
+        let mut world = World {
             w: start.w,
             time: 0,
-            net,
+            net: Stack::new(start.mac),
             opens: 0,
             state: State {
                 table: Table::new(alloc),
                 images: Images::new(alloc),
+                up: false,
             },
-        }
+        };
+        world.follow();
+        world
     }
 
-    /// The world of a run that begins with this START.
+    /// The world of a run that begins with this START. Its device is up where START has an address.
     pub fn of(alloc: Global, start: &Start<'_>) -> Result<World, NoMemory>
         ensures { IfOk result (λ w. w ≡ world_of (start_of start.now)) }
     {
         let mut world = World::bare(alloc, start);
         world.state.table = start_table(alloc, start)?;
+        world.state.up = start.ip.0 != 0;
+        world.follow();
         Ok(world)
     }
+
+    /// The link follows the settings and the device's state.
+    fn follow(&mut self)
+        ensures { self.new ≡ world_with self.old self.old.state.table self.old.state.up }
+    {
+        self.net.set_address(address_in(&self.state.table));
+        self.net.set_up(self.state.up);
+    }
+
+    /// Carries a command out that asks for no file. The link follows what it changed.
+    pub(crate) fn carry_out(&mut self, alloc: Global, plan: &CommandPlan) -> Result<Deed, NoMemory>
+        requires local { IsLocal plan.now }
+        requires linked { IsLinked self.old }
+        ensures value { IfOk result (λ deed. (opens : ℕ) → plan_effect opens self.old.state.table plan.now ≡ deed_effect deed) }
+        ensures after { OnOk result
+            (self.new ≡ world_with self.old (plan_table plan.now self.old.state.table) (plan_up plan.now self.old.state.up)) }
+        ensures linked { IsLinked self.new }
+        ensures same { OnErr result (self.new ≡ self.old) }
+        ensures printed { IfOk result (λ deed. PrintsAtMost deed (most_printed plan.now)) }
+    {
+        let deed = carry_out(alloc, plan, &mut self.state)?;
+        if may_move_link(plan) {
+            self.follow();
+        }
+        Ok(deed)
+    }
+}
+
+/// Whether a command may change settings or the device's state.
+fn may_move_link(plan: &CommandPlan) -> bool
+    ensures table { result ≡ false → (table : TableLists) → plan_table plan.now table ≡ table }
+    ensures up { result ≡ false → (up : Bool) → plan_up plan.now up ≡ up }
+{
+    matches!(
+        plan,
+        CommandPlan::Set { .. }
+            | CommandPlan::Clear(_)
+            | CommandPlan::Inc { .. }
+            | CommandPlan::Ifopen(_)
+            | CommandPlan::Ifclose(_)
+    )
 }

@@ -7,14 +7,15 @@ use Rattle.nb_tftp.specs.Blocks.{is_whole}
 use Rattle.nb_tftp.specs.History.{came, ticked, received_by}
 use Rattle.nb_tftp.specs.Received.{received}
 use Rattle.nb_engine.specs.declared.world.World.{World}
-use Rattle.nb_engine.specs.World.{world_of, with_net, world_later}
+use Rattle.nb_engine.specs.World.{is_up, world_of, with_net, world_later}
 use Rattle.nb_engine.specs.Opens.{Open, heard_from}
 use Rattle.nb_defs.specs.Causes.{ok}
 use Rattle.nb_engine.specs.Effects.{ShownWords, sleeps}
 use Rattle.nb_engine.specs.StartTable.{start_table}
 use Rattle.nb_engine.specs.Running.{Running, anew, with_result}
 use Rattle.nb_engine.specs.Machine.{Machine, Phase, running, waiting, sleeping, Begins, runs, refuses, passes_by, brings, passes_time, switches_off, goes_on_by_frame, goes_on_by_tick, goes_off, sleeps_through_frame, sleeps_on, wakes, goes_off_asleep, reply_records, stopped_cause}
-use Rattle.nb_laws.specs.Events.{Event, starts, hears, waits, stops, puts, EachEvent, client}
+use Rattle.nb_laws.specs.Events.{Event, starts, hears, waits, stops, puts, EachEvent}
+use Rattle.nb_laws.specs.Histories.{client}
 use Rattle.std.proofs.lemmas.List.Sums.{fold-append}
 use Rattle.nb_laws.specs.Lists as lists
 use Rattle.nb_laws.specs.Lists.{live, last_place, words_of, commands_begun, time, made, gathered, Opening, opening_at, openings, open_has_ended as is_ended, is_end_of, calls, Mark, tries, marks, mark_at}
@@ -25,10 +26,11 @@ use Rattle.nb_laws.specs.Agreement.{AgreesWorld, AgreesOpen, AgreesScript, Agree
 use Rattle.nb_laws.specs.Endings.{by_stop, is_off, off_by}
 use Rattle.nb_laws.proofs.Tellings.{told, story_still, still_aside, still_advanced, live_kept, Kept, kept, world_kept, tries_by, Story, story_more, story_put, openings_more, calls_more, over_more, no_more, no_or}
 use Rattle.nb_laws.specs.Code.{code_read}
+use Rattle.nb_laws.proofs.Histories.{client_waits, client_stops}
 use Rattle.nb_laws.proofs.Codes.{code_more, told_code}
 use Rattle.nb_laws.proofs.Commands.{told_begun, begun_more, opens_begin, script_as, script_used, script_told}
 use Rattle.nb_laws.specs.CommandsSoFar.{CommandsSoFar, so_far, so_far_by, no_commands, shown_effect, ComesTo}
-use Rattle.nb_laws.proofs.SoFar.{so_far_more, opens_so_far, ended_so_far, over_rests, asking_rests, sleeping_rests, sleeping_comes, asks_as, asks_later, settings_first, settings_net, settings_later, settings_awake, sleep_through, sleep_later}
+use Rattle.nb_laws.proofs.SoFar.{so_far_more, client_opens, client_stays, opens_so_far, ended_so_far, over_rests, asking_rests, sleeping_rests, sleeping_comes, asks_as, asks_later, settings_first, settings_net, settings_later, settings_awake, sleep_through, sleep_later}
 use Rattle.nb_laws.proofs.Asides.{still_reply, none_of_reply}
 use Rattle.nb_laws.proofs.Calls.{Comes, ports_after, world_used, got_same, live_one, used_only, used_none_live, used_advanced, none_come, none_is_whole, going_not_whole, frame_brings_none, bare_brings, frame_world, frame_passes, frame_comes, time_comes}
 use Rattle.nb_laws.specs.Frames as results
@@ -119,9 +121,9 @@ first_world n s es e = subst (λ (z : List Event). AgreesWorld ((z ++ starts (n 
 
 -- and its settings
 first_over : (n : ℕ) (s : Start) (es : List Event) (more : List Out) → es ≡ [] → fold so_far_by (so_far_by no_commands (starts (n + 1) s)) (told more) ≡ so_far_by no_commands (starts (n + 1) s) →
-    so_far ((es ++ starts (n + 1) s ∷ []) ++ told more) ≡ record no_commands { table = start_table s }
+    so_far ((es ++ starts (n + 1) s ∷ []) ++ told more) ≡ record no_commands { table = start_table s; up = is_up s }
 unfolding so_far
-first_over n s es more e same = subst (λ (z : List Event). so_far ((z ++ starts (n + 1) s ∷ []) ++ told more) ≡ record no_commands { table = start_table s }) (sym e) same
+first_over n s es more e same = subst (λ (z : List Event). so_far ((z ++ starts (n + 1) s ∷ []) ++ told more) ≡ record no_commands { table = start_table s; up = is_up s }) (sym e) same
 
 pub begins_tells : (ins : List In) (outs : List Out) (es : List Event) (m : Machine) (r : In) (added : List Out) (m' : Machine) →
     Begins m r added m' → Story ins outs es → IsAdvanced es → m.used ≡ length ins → AgreesPhase es m.phase → AgreesImages es outs m.phase → Tells (ins ++ r ∷ []) (outs ++ added) m'.phase
@@ -166,7 +168,7 @@ begins_tells ins outs es m r added m' (passes_by n w s o bytes reply seen net va
     let world1 = frame_world es (n + 1) bytes takes.message w a.0 in
     let open1 = frame_passes es (n + 1) bytes takes.message w o a.0 a.1 heard_none in
     let both : AgreesPhase (es1 ++ told b) (waiting (with_net w (client_after w.net takes.message)) (anew s) o) = (
-      world_kept es1 b _ k (λ j few. none_of_reply j (time es1) reply) world1,
+      world_kept es1 b _ k (λ j few. none_of_reply j (time es1) reply) (client_opens es1 b (opens_reply reply) ∙ world1.client) world1,
       open_kept es1 b _ o k (none_of_reply o.number (time es1) reply) open1,
       a.2,
       λ j other. live_kept j es1 b k ∙ used_only es e o.number tt a.3 j other,
@@ -236,7 +238,7 @@ begins_tells ins outs es m r added m' (goes_on_by_frame n w s bytes reply seen n
     let k = kept es1 b (still_aside b still) in
     let world1 = frame_world es (n + 1) bytes takes.message w a.0 in
     let both : AgreesPhase (es1 ++ told b) (running (with_net w (client_after w.net takes.message)) (anew s)) = (
-      world_kept es1 b _ k (λ j few. none_of_reply j (time es1) reply) world1,
+      world_kept es1 b _ k (λ j few. none_of_reply j (time es1) reply) (client_opens es1 b (opens_reply reply) ∙ world1.client) world1,
       ports_after w.net takes.message ∙ a.1,
       λ j. live_kept j es1 b k ∙ none1 j,
       script_told es1 b (anew s) (opens_begin (commands_begun es1) b (opens_reply reply)) (script_used es e s refl refl a.3),
@@ -256,7 +258,7 @@ begins_tells ins outs es m r added m' (goes_on_by_tick n w s ms valid) story adv
       events = es ++ e ∷ [];
       story = story_more ins outs es e story (record { read = tt; end = tt; frame = tt; step = follows; advance = advanced; try = tt });
       advanced = used_advanced es e tt (none_come es e tt a.2) advanced;
-      agrees = (world_used es e w (world_later w ms) tt a.0 refl refl refl a.0.client, a.1, used_none_live es e tt a.2, script_used es e s refl refl a.3, settings_later w ms false (so_far_more es e) a.4);
+      agrees = (world_used es e w (world_later w ms) tt a.0 refl refl refl (client_waits es (n + 1) ms ∙ a.0.client), a.1, used_none_live es e tt a.2, script_used es e s refl refl a.3, settings_later w ms false (so_far_more es e) a.4);
       images = (is.0 ∙ sym (ap image_list (used_keep es e tt).1), parts_more outs (step (n + 1) ∷ []) is.1 (tt, tt));
     }
 begins_tells ins outs es m r added m' (goes_off n w s) story advanced counted a is =
@@ -283,7 +285,7 @@ begins_tells ins outs es m r added m' (sleeps_through_frame n w s until bytes re
     let k = kept es1 b (still_aside b still) in
     let same = opens_so_far es1 b (opens_reply reply) ∙ so_far_more es e in
     let both : AgreesPhase (es1 ++ told b) (sleeping (with_net w (client_after w.net takes.message)) (anew s) until) = (
-      world_kept es1 b _ k (λ j few. none_of_reply j (time es1) reply) (frame_world es (n + 1) bytes takes.message w a.0),
+      world_kept es1 b _ k (λ j few. none_of_reply j (time es1) reply) (client_opens es1 b (opens_reply reply) ∙ (frame_world es (n + 1) bytes takes.message w a.0).client) (frame_world es (n + 1) bytes takes.message w a.0),
       ports_after w.net takes.message ∙ a.1,
       λ j. live_kept j es1 b k ∙ none1 j,
       script_told es1 b (anew s) (opens_begin (commands_begun es1) b (opens_reply reply)) (script_used es e s refl refl a.3),
@@ -305,7 +307,7 @@ begins_tells ins outs es m r added m' (sleeps_on n w s until ms valid early) sto
       story = story_more ins outs es e story (record { read = tt; end = tt; frame = tt; step = follows; advance = advanced; try = tt });
       advanced = used_advanced es e tt (none_come es e tt a.2) advanced;
       agrees = (
-        world_used es e w (world_later w ms) tt a.0 refl refl refl a.0.client,
+        world_used es e w (world_later w ms) tt a.0 refl refl refl (client_waits es (n + 1) ms ∙ a.0.client),
         a.1,
         used_none_live es e tt a.2,
         script_used es e s refl refl a.3,
@@ -322,18 +324,19 @@ begins_tells ins outs es m r added m' (wakes n w s until ms valid late) story ad
     let story1 : Story (ins ++ tick ms ∷ []) (outs ++ step (n + 1) ∷ []) es1 = story_more ins outs es e story (record { read = tt; end = tt; frame = tt; step = follows; advance = advanced; try = tt }) in
     let advanced1 = used_advanced es e tt (none_come es e tt a.2) advanced in
     let none1 = used_none_live es e tt a.2 in
-    let world1 = world_used es e w (world_later w ms) tt a.0 refl refl refl a.0.client in
+    let world1 = world_used es e w (world_later w ms) tt a.0 refl refl refl (client_waits es (n + 1) ms ∙ a.0.client) in
     let k = kept es1 b (tt, tt) in
+    let settings1 = settings_awake w until ms (so_far_more es1 (puts (result ok)) ∙ ap ended_so_far (so_far_more es e)) a.4 a.5 in
     record {
       events = es1 ++ told b;
       story = step_still (ins ++ tick ms ∷ []) outs es1 (n + 1) b story1 (tt, tt) (woken es es1 w until ms (so_far_more es e) world1.opens a.4 a.5 late, tt) advanced1;
       advanced = still_advanced es1 b (tt, tt) advanced1;
       agrees = (
-        world_kept es1 b _ k (λ j few. refl) world1,
+        world_kept es1 b _ k (λ j few. refl) (client_stays es1 b _ _ world1.client (settings_later w ms true (so_far_more es e) a.4) settings1 refl refl) world1,
         a.1,
         λ j. live_kept j es1 b k ∙ none1 j,
         script_as (es1 ++ told b) (anew s) (with_result (anew s) ok) refl refl (script_told es1 b (anew s) refl (script_used es e s refl refl a.3)),
-        settings_awake w until ms (so_far_more es1 (puts (result ok)) ∙ ap ended_so_far (so_far_more es e)) a.4 a.5,
+        settings1,
       );
       images = (
         is.0 ∙ sym (ap image_list (one_keeps es1 (result ok) (no_image es1 ok (last_end_more es e ∙ is.2)) ∙ (used_keep es e tt).1)),
@@ -349,7 +352,7 @@ begins_tells ins outs es m r added m' (goes_off_asleep n w s until) story advanc
       advanced = used_advanced es e tt (none_come es e tt a.2) advanced;
       agrees = (
         used_none_live es e tt a.2,
-        sleeping_rests (es ++ e ∷ []) w until (world_used es e w w tt a.0 refl refl (omega arith) a.0.client).opens (ap (λ (x : CommandsSoFar). x.now) (so_far_more es e) ∙ a.4.now)
+        sleeping_rests (es ++ e ∷ []) w until (world_used es e w w tt a.0 refl refl (omega arith) (client_stops es (n + 1) ∙ a.0.client)).opens (ap (λ (x : CommandsSoFar). x.now) (so_far_more es e) ∙ a.4.now)
             (subst (λ x. AgreesSleep x w until) (sym (so_far_more es e)) a.5),
       );
       images = parts_more outs (step (n + 1) ∷ []) is.1 (tt, tt);

@@ -1,7 +1,7 @@
 -- The machine counts the records used.
 use Rattle.std.proofs.Common.{◌≡◌, ◌+◌, List, [], ◌∷◌, length, refl, ◌∙◌, arith, length-append}
 use Rattle.nb_defs.specs.Records.{In, Out}
-use Rattle.nb_engine.specs.Machine.{Machine, Path, nothing, uses, moves, Begins, runs, refuses, passes_by, brings, passes_time, switches_off, goes_on_by_frame, goes_on_by_tick, goes_off, sleeps_through_frame, sleeps_on, wakes, goes_off_asleep, Move, passes, is_left, yields, does, leaves, jumps, finds_no_label, falls_asleep, asks_for, finds_no_route, hands, has_handed}
+use Rattle.nb_engine.specs.Machine.{Machine, Path, nothing, uses, moves, Begins, runs, refuses, passes_by, brings, passes_time, switches_off, goes_on_by_frame, goes_on_by_tick, goes_off, sleeps_through_frame, sleeps_on, wakes, goes_off_asleep, Move, passes, is_left, yields, does, closes_device, leaves, jumps, finds_no_label, falls_asleep, asks_for, finds_no_route, hands, has_handed}
 
 pub begins_counts : (m : Machine) (r : In) (added : List Out) (m' : Machine) → Begins m r added m' → m'.used ≡ m.used + 1
 begins_counts m r added m' (runs n s code valid reading) = refl
@@ -23,6 +23,7 @@ move_counts m added m' (passes n w s t h) = refl
 move_counts m added m' (is_left n w s cause h) = refl
 move_counts m added m' (yields n w s x xs h g) = refl
 move_counts m added m' (does n w s x xs o h g k l) = refl
+move_counts m added m' (closes_device n w s x xs h g k) = refl
 move_counts m added m' (leaves n w s x xs o h g k l) = refl
 move_counts m added m' (jumps n w s x xs name line h g k l) = refl
 move_counts m added m' (finds_no_label n w s x xs name h g k l) = refl

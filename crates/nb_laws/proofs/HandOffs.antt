@@ -55,7 +55,7 @@ AreOpens outs = AllByRecursion IsOpens outs
 more : (xs ys : List Out) → AreOpens xs → AreOpens ys → AreOpens (xs ++ ys)
 more xs ys p q = all_append IsOpens xs ys p q
 
-opens_try : (k : ℕ) (try : Option ℕ) → AreOpens (try_records k try)
+pub opens_try : (k : ℕ) (try : Option ℕ) → AreOpens (try_records k try)
 unfolding IsOpens
 opens_try k None = tt
 opens_try k (Some n) = (tt, tt)
@@ -74,7 +74,7 @@ opens_sends net k try [] = tt
 opens_sends net k try (m ∷ []) = opens_send net k try m
 opens_sends net k try (m ∷ n ∷ ms) = more (send_records net k None m) (sends_records net k try (n ∷ ms)) (opens_send net k None m) (opens_sends net k try (n ∷ ms))
 
-opens_advance : (k : ℕ) (place : Option ℕ) → AreOpens (advance_records k place)
+pub opens_advance : (k : ℕ) (place : Option ℕ) → AreOpens (advance_records k place)
 unfolding IsOpens
 opens_advance k None = tt
 opens_advance k (Some place) = (tt, tt)

@@ -12,7 +12,7 @@ use Rattle.nb_engine.specs.declared.world.World.{World}
 use Rattle.nb_engine.specs.World.{unbound}
 use Rattle.nb_engine.specs.Effects.{Wanted, asks}
 use Rattle.nb_laws.specs.CommandsSoFar.{CommandsSoFar, so_far, shown_effect}
-use Rattle.nb_laws.proofs.SoFar.{so_far_more, opens_so_far, conclusion_so_far, settings_as, settings_over, asks_as}
+use Rattle.nb_laws.proofs.SoFar.{so_far_more, client_stays, opens_so_far, conclusion_so_far, settings_as, settings_over, asks_as}
 use Rattle.nb_engine.specs.Opens.{Open, open_for, opened_record, with_entry, acts_records}
 use Rattle.nb_engine.specs.Conclusions.{image_from, Conclusion, keeps, fails, boots, conclusion_records}
 use Rattle.nb_engine.specs.Running.{Running, with_result}
@@ -28,7 +28,7 @@ use Rattle.nb_image.specs.Images.{image_of}
 use Rattle.nb_tftp.specs.Blocks.{file}
 use Rattle.nb_laws.specs.Progress.{IsAdvanced}
 use Rattle.nb_laws.specs.Agreement.{AgreesWorld, AgreesScript, AgreesSettings, AsksFor, IsOnly, NoneLives, IsNamed, AgreesImages, AgreesPhase, opening_of}
-use Rattle.nb_laws.proofs.Histories.{client_more, offset_more, time_more}
+use Rattle.nb_laws.proofs.Histories.{client_put, offset_more, time_more}
 use Rattle.nb_laws.proofs.Tellings.{told, story_still, still_aside, still_advanced, live_same, live_kept, advanced_more, made_more, kept, world_kept, Story, story_put, story_told, openings_more, calls_more, marks_more, over_more, no_more, no_or, same_number, other_number}
 use Rattle.nb_laws.proofs.Commands.{opens_begin, conclusion_begins, script_as, script_told}
 use Rattle.nb_laws.proofs.Asides.{aside_acts, still_conclusion, still_handoff, silent_handoff, none_of_conclusion}
@@ -50,7 +50,7 @@ ended_world es w k cause before h =
     let e = puts (ended k cause) in
     record {
       time = time_more es e ∙ add-zero (time es) ∙ h.time;
-      client = client_more es e ∙ h.client;
+      client = client_put es (ended k cause) refl ∙ h.client;
       opens = made_more es e ∙ add-zero (made es) ∙ h.opens;
       offset = offset_more es e ∙ h.offset;
       unopened = λ j few. openings_more j es e ∙ append-nil (openings j es) ∙ h.unopened j few;
@@ -65,9 +65,9 @@ freed o to ports e = ap (without 17 o) e ∙ ap (λ b. cond (not b) (record { pr
 -- where a conclusion leads
 pub leads : (es : List Event) (w : World) (own to : ℕ) (s : Running) (c : Conclusion) → AgreesWorld es w → NoneLives es → AgreesScript es s → AgreesSettings (so_far es) w false → w.net.ports ≡ record { proto = 17; number = own; to = to } ∷ [] → AgreesPhase es (phase_after (unbound w own) s c)
 leads es w own to s (keeps list) h none script settings ports =
-    (record { time = h.time; client = h.client; opens = h.opens; offset = h.offset; unopened = h.unopened; unended = h.unended; untold = h.untold }, freed own to w.net.ports ports, none, script_as es s (with_result s ok) refl refl script, record { table = settings.table; now = settings.now; is_open = settings.is_open })
+    (record { time = h.time; client = h.client; opens = h.opens; offset = h.offset; unopened = h.unopened; unended = h.unended; untold = h.untold }, freed own to w.net.ports ports, none, script_as es s (with_result s ok) refl refl script, record { table = settings.table; up = settings.up; now = settings.now; is_open = settings.is_open })
 leads es w own to s (fails cause) h none script settings ports =
-    (record { time = h.time; client = h.client; opens = h.opens; offset = h.offset; unopened = h.unopened; unended = h.unended; untold = h.untold }, freed own to w.net.ports ports, none, script_as es s (with_result s cause) refl refl script, record { table = settings.table; now = settings.now; is_open = settings.is_open })
+    (record { time = h.time; client = h.client; opens = h.opens; offset = h.offset; unopened = h.unopened; unended = h.unended; untold = h.untold }, freed own to w.net.ports ports, none, script_as es s (with_result s cause) refl refl script, record { table = settings.table; up = settings.up; now = settings.now; is_open = settings.is_open })
 leads es w own to s (boots list kernel) h none script settings ports = (still_handoff kernel list.images, silent_handoff kernel list.images, none, settings.is_open)
 
 pub ended_advanced : (es : List Event) (k : ℕ) (cause : Cause) → IsAdvanced es → IsAdvanced (es ++ puts (ended k cause) ∷ [])
@@ -157,7 +157,7 @@ hears_tells ins outs es w s o call added phase (is_over _ _ _ _ acts cause meets
       list_is = is ∙ sym (ap image_list brought2);
     } in
     let story3 : Story ins (((outs ++ a) ++ ended k cause ∷ []) ++ b) (es2 ++ told b) = story_still ins _ es2 b still (conclusion_writes es2 cause o.wanted.boots (image_from (with_entry o e)) w.state.images brings) advanced2 story2 in
-    let world3 = world_kept es2 b w (kept es2 b aside2) (λ j few. none_of_conclusion j (time es2) concl) world2 in
+    let world3 = world_kept es2 b w (kept es2 b aside2) (λ j few. none_of_conclusion j (time es2) concl) (client_stays es2 b w w world2.client (settings_as w true so_far2 settings) settings3 refl refl) world2 in
     record {
       events = es2 ++ told b;
       story = subst (λ z. Story ins z (es2 ++ told b)) joined story3;

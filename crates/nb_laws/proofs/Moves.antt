@@ -1,5 +1,5 @@
 -- The machine moves: the history that agrees with the state afterwards.
-use Rattle.std.proofs.Common.{◌≡◌, ℕ, ◌+◌, false, List, [], ◌∷◌, ◌++◌, Some, refl, sym, ◌∙◌, ap, subst, append_assoc, append-nil, arith, le_refl}
+use Rattle.std.proofs.Common.{◌≡◌, ℕ, ◌+◌, Bool, true, false, List, [], ◌∷◌, ◌++◌, Some, refl, sym, ◌∙◌, ap, subst, append_assoc, append-nil, arith, le_refl}
 use Rattle.std.specs.List.{flat_map}
 use Rattle.nb_terms.specs.declared.acts.SendTo.{SendTo}
 use Rattle.nb_terms.specs.declared.cause.Cause.{Cause}
@@ -16,13 +16,15 @@ use Rattle.nb_tftp.specs.Blocks.{is_whole}
 use Rattle.nb_tftp.specs.History.{received_by}
 use Rattle.nb_engine.specs.declared.world.World.{World}
 use Rattle.nb_settings.specs.Tables.{TableLists}
-use Rattle.nb_engine.specs.World.{with_open, with_ended_open, world_with_table, own_port, host}
-use Rattle.nb_engine.specs.Effects.{asks, goes, ShownWords, shown_words, table_after}
-use Rattle.nb_engine.proofs.CommandLaws.{same_world, world_stays}
+use Rattle.nb_engine.specs.Link.{host, link_by}
+use Rattle.nb_laws.specs.Histories.{client}
+use Rattle.nb_engine.specs.World.{with_open, with_ended_open, world_with, own_port}
+use Rattle.nb_engine.specs.Effects.{asks, goes, sleeps, ShownWords, shown_words, table_after, up_after}
+use Rattle.nb_engine.proofs.CommandLaws.{same_world, same_up}
 use Rattle.nb_engine.specs.Opens.{open_for, begun_for, opened_record, send_records, request_of, has_route, is_on_its_way}
 use Rattle.nb_engine.specs.Conclusions.{fails, conclusion_records}
 use Rattle.nb_engine.specs.Running.{Running, entered, further, behind_line, no_label}
-use Rattle.nb_engine.specs.Machine.{Machine, running, Move, passes, is_left, yields, does, leaves, jumps, finds_no_label, falls_asleep, asks_for, finds_no_route, hands, has_handed, command_records, command_record, no_route}
+use Rattle.nb_engine.specs.Machine.{Machine, running, Move, passes, is_left, yields, does, closes_device, leaves, jumps, finds_no_label, falls_asleep, asks_for, finds_no_route, hands, has_handed, world_after, command_records, command_record, no_route}
 use Rattle.nb_laws.specs.Events.{Event, puts, EachEvent}
 use Rattle.std.proofs.lemmas.List.{map-append}
 use Rattle.nb_laws.specs.Lists as lists
@@ -30,11 +32,11 @@ use Rattle.nb_laws.specs.Lists.{live, last_place, words_of, commands_begun, time
 use Rattle.nb_laws.specs.HandOff.{image_list, uri_of, HandsOff}
 use Rattle.nb_laws.proofs.HandOffs.{opens_keep, opens_send, opens_parts, parts_more, one_keeps, words_now, words_kept, command_keeps, no_command, failed_image, silent_image, last_end_more}
 use Rattle.nb_laws.specs.CommandsSoFar.{CommandsSoFar, so_far}
-use Rattle.nb_laws.proofs.SoFar.{so_far_more, opens_so_far, begun_so_far, begins_so_far, command_so_far, conclusion_so_far, silent_so_far, settings_done, settings_begun, settings_over, settings_open, asks_begun, sleep_begun}
+use Rattle.nb_laws.proofs.SoFar.{so_far_more, opens_so_far, begun_so_far, begins_so_far, command_so_far, conclusion_so_far, silent_so_far, client_opens, client_moved, client_stays, settings_done, settings_begun, settings_over, settings_open, asks_begun, sleep_begun}
 use Rattle.nb_laws.proofs.Plans.{shown_names}
 use Rattle.nb_engine.specs.Honesty.{HaveNoParts}
 use Rattle.nb_laws.specs.Progress.{IsAdvanced}
-use Rattle.nb_laws.specs.Agreement.{AgreesWorld, NoneLives, AgreesImages, AgreesPhase, AreAside, AreStill, bare, opening_of}
+use Rattle.nb_laws.specs.Agreement.{AgreesWorld, AgreesSettings, NoneLives, AgreesImages, AgreesPhase, AreAside, AreStill, bare, opening_of}
 use Rattle.nb_laws.specs.Endings.{Holds, by_no_route}
 use Rattle.nb_laws.proofs.Histories.{each_append}
 use Rattle.nb_laws.proofs.Tellings.{told, story_still, still_aside, still_advanced, live_kept, advanced_more, silent_frames, kept, world_kept, tries_by, Story, story_put, story_told, calls_more, marks_more, over_more, no_or, other_number}
@@ -42,12 +44,12 @@ use Rattle.nb_laws.proofs.Commands.{opens_begin, conclusion_begins, command_begi
 use Rattle.nb_laws.proofs.Asides.{more_still, none_of_conclusion, aside_send, still_conclusion, still_command, none_of_send, none_of_command, own_send}
 use Rattle.nb_laws.proofs.Calls.{live_one}
 use Rattle.nb_laws.specs.Frames.{WritesSo}
-use Rattle.nb_laws.proofs.Puttings.{begins_so, command_comes, command_writes, jump_writes, no_label_writes, failed_writes, request_reasons, opened_one, opened_so, opened_world}
+use Rattle.nb_laws.proofs.Puttings.{begins_so, command_comes, command_writes, shut_writes, jump_writes, no_label_writes, failed_writes, request_reasons, opened_one, opened_so, opened_world}
 use Rattle.nb_laws.proofs.Hearings.{Tells, ended_world, ended_advanced, ended_none_live, opened_only}
 
 -- the world agrees after records that tell no try
-quiet_world : (es : List Event) (outs : List Out) (w : World) → AreAside outs → ((k now : ℕ) → tries_by k now outs ≡ []) → AgreesWorld es w → AgreesWorld (es ++ told outs) w
-quiet_world es outs w h none a = world_kept es outs w (kept es outs h) (λ k few. none k (time es)) a
+quiet_world : (es : List Event) (outs : List Out) (w : World) → AreAside outs → ((k now : ℕ) → tries_by k now outs ≡ []) → client (es ++ told outs) ≡ bare w.net → AgreesWorld es w → AgreesWorld (es ++ told outs) w
+quiet_world es outs w h none is a = world_kept es outs w (kept es outs h) (λ k few. none k (time es)) is a
 
 -- a message that finds no way
 no_way : (f : Fate) → is_on_its_way f ≡ false → f ≡ fate.NoRoute
@@ -62,30 +64,50 @@ leave_writes es b depth cause h = subst (λ z. EachEvent WritesSo es z) (sym (ma
 bare_route : (net : Client) (send : SendTo) → has_route (bare net) send ≡ has_route net send
 bare_route net send = same_way is_on_its_way refl (bare net) net (way_of net send)
 
--- the world agrees with other settings too: they are said apart
-table_world : (es : List Event) (w : World) (table : TableLists) → AgreesWorld es w → AgreesWorld es (world_with_table w table)
-table_world es w table h = record { time = h.time; client = h.client; opens = h.opens; offset = h.offset; unopened = h.unopened; unended = h.unended; untold = h.untold }
+-- a world with other settings, and the link that they give, agrees after records that tell no try
+moved_world : (es : List Event) (outs : List Out) (w : World) (table : TableLists) (up : Bool) → AreAside outs → ((k now : ℕ) → tries_by k now outs ≡ []) → client (es ++ told outs) ≡ bare (link_by table up w.net) → AgreesWorld es w →
+    AgreesWorld (es ++ told outs) (world_with w table up)
+moved_world es outs w table up h none is a =
+    let k = kept es outs h in
+    record {
+      time = k.time_is ∙ a.time;
+      client = is;
+      opens = k.made_is ∙ a.opens;
+      offset = k.offset_is ∙ a.offset;
+      unopened = λ j more. k.openings_is j ∙ a.unopened j more;
+      unended = λ j more. k.over_is j ∙ a.unended j more;
+      untold = λ j more. (k.calls_is j ∙ (a.untold j more).0, k.marks_is j ∙ ap (λ z. z ++ tries_by j (time es) outs) (a.untold j more).1 ∙ none j (time es));
+    }
 
--- a command that is over at once leaves the settings that it says, and counts
-command_agrees : (es : List Event) (w : World) (table : TableLists) (s t : Running) (ws : List (List ℕ)) (o : CommandOutcome) → t.code ≡ s.code → t.begun ≡ s.begun + 1 → table_after w.state.table ws ≡ table →
-    AgreesPhase es (running w s) → AgreesPhase (es ++ told (command_records s (shown_words w.state.table ws) o)) (running (world_with_table w table) t)
-command_agrees es w table s t ws o code begun remains a =
+-- a command that is over at once leaves the world that it says, and counts
+command_agrees : (es : List Event) (w : World) (s t : Running) (ws : List (List ℕ)) (o : CommandOutcome) → t.code ≡ s.code → t.begun ≡ s.begun + 1 →
+    AgreesPhase es (running w s) → AgreesPhase (es ++ told (command_records s (shown_words w.state.table ws) o)) (running (world_after w ws) t)
+command_agrees es w s t ws o code begun a =
     let shown = shown_words w.state.table ws in
     let b = command_records s shown o in
     let h = still_aside b (still_command s shown o) in
-    let v = world_with_table w table in (
-      table_world _ w table (quiet_world es b w h (λ k now. none_of_command k now s shown o) a.0),
+    let later : AgreesSettings (so_far (es ++ told b)) (world_after w ws) false = settings_done w (world_after w ws) ws (command_so_far es s shown o) a.4 refl refl refl in (
+      moved_world es b w _ _ h (λ k now. none_of_command k now s shown o) (client_moved es b w.net (world_after w ws) a.0.client later) a.0,
       a.1,
       λ j. live_kept j es b (kept es b h) ∙ a.2 j,
       script_begins es b s t (command_begins (commands_begun es) s shown o) code begun a.3,
-      settings_done w v ws (command_so_far es s shown o) a.4 remains refl,
+      later,
     )
 
--- one that leaves the settings
+-- one that leaves the world
 command_keeps_agreeing : (es : List Event) (w : World) (s t : Running) (ws : List (List ℕ)) (o : CommandOutcome) → t.code ≡ s.code → t.begun ≡ s.begun + 1 → table_after w.state.table ws ≡ w.state.table →
-    AgreesPhase es (running w s) → AgreesPhase (es ++ told (command_records s (shown_words w.state.table ws) o)) (running w t)
-command_keeps_agreeing es w s t ws o code begun remains a =
-    subst (λ v. AgreesPhase (es ++ told (command_records s (shown_words w.state.table ws) o)) (running v t)) (world_stays w w.state.table refl) (command_agrees es w w.state.table s t ws o code begun remains a)
+    up_after w.state.table w.state.up ws ≡ w.state.up → AgreesPhase es (running w s) → AgreesPhase (es ++ told (command_records s (shown_words w.state.table ws) o)) (running w t)
+command_keeps_agreeing es w s t ws o code begun remains still a =
+    let shown = shown_words w.state.table ws in
+    let b = command_records s shown o in
+    let h = still_aside b (still_command s shown o) in
+    let later : AgreesSettings (so_far (es ++ told b)) w false = settings_done w w ws (command_so_far es s shown o) a.4 remains still refl in (
+      quiet_world es b w h (λ k now. none_of_command k now s shown o) (client_stays es b w w a.0.client a.4 later refl refl) a.0,
+      a.1,
+      λ j. live_kept j es b (kept es b h) ∙ a.2 j,
+      script_begins es b s t (command_begins (commands_begun es) s shown o) code begun a.3,
+      later,
+    )
 
 -- a command that was over at once, with which its script is left, has its result
 left_over : (es : List Event) (s : Running) (shown : ShownWords) (o : CommandOutcome) → (so_far (es ++ told (command_records s shown o ++ leave s.depth o.cause ∷ []))).is_open ≡ false
@@ -115,7 +137,18 @@ moves_tells ins outs es m added m' (does n w s c cs o begins few comes stays) st
       events = es ++ told b;
       story = story_still ins outs es b h (command_writes es w s (c ∷ cs) o a.0 a.3 a.4 comes (may_begin es s a.3 few)) advanced story;
       advanced = still_advanced es b h advanced;
-      agrees = command_agrees es w (table_after w.state.table (c ∷ cs)) s (further s o.cause) (c ∷ cs) o refl refl refl a;
+      agrees = command_agrees es w s (further s o.cause) (c ∷ cs) o refl refl a;
+      images = (is.0 ∙ sym (ap image_list (command_keeps es s (shown_words w.state.table (c ∷ cs)) o)), parts_more outs b is.1 (no_command s (shown_words w.state.table (c ∷ cs)) o));
+    }
+moves_tells ins outs es m added m' (closes_device n w s c cs begins few comes) story advanced a is =
+    let o = refused ok in
+    let b = command_records s (shown_words w.state.table (c ∷ cs)) o in
+    let h = still_command s (shown_words w.state.table (c ∷ cs)) o in
+    record {
+      events = es ++ told b;
+      story = story_still ins outs es b h (shut_writes es w s (c ∷ cs) a.0 a.3 a.4 comes (may_begin es s a.3 few)) advanced story;
+      advanced = still_advanced es b h advanced;
+      agrees = command_agrees es w s (further s ok) (c ∷ cs) o refl refl a;
       images = (is.0 ∙ sym (ap image_list (command_keeps es s (shown_words w.state.table (c ∷ cs)) o)), parts_more outs b is.1 (no_command s (shown_words w.state.table (c ∷ cs)) o));
     }
 moves_tells ins outs es m added m' (leaves n w s c cs o begins few comes goes_out) story advanced a is =
@@ -136,7 +169,7 @@ moves_tells ins outs es m added m' (jumps n w s c cs name line begins few comes 
       events = es ++ told b;
       story = story_still ins outs es b h (jump_writes es w s (c ∷ cs) name line a.0 a.3 a.4 comes there (may_begin es s a.3 few)) advanced story;
       advanced = still_advanced es b h advanced;
-      agrees = command_keeps_agreeing es w s (behind_line s line) (c ∷ cs) o refl refl (same_world w (goes name) (c ∷ cs) comes) a;
+      agrees = command_keeps_agreeing es w s (behind_line s line) (c ∷ cs) o refl refl (same_world w (goes name) (c ∷ cs) comes) (same_up w (goes name) (c ∷ cs) comes) a;
       images = (is.0 ∙ sym (ap image_list (command_keeps es s (shown_words w.state.table (c ∷ cs)) o)), parts_more outs b is.1 (no_command s (shown_words w.state.table (c ∷ cs)) o));
     }
 moves_tells ins outs es m added m' (finds_no_label n w s c cs name begins few comes none) story advanced a is =
@@ -147,23 +180,24 @@ moves_tells ins outs es m added m' (finds_no_label n w s c cs name begins few co
       events = es ++ told b;
       story = story_still ins outs es b h (no_label_writes es w s (c ∷ cs) name a.0 a.3 a.4 comes none (may_begin es s a.3 few)) advanced story;
       advanced = still_advanced es b h advanced;
-      agrees = command_keeps_agreeing es w s (further s no_label) (c ∷ cs) o refl refl (same_world w (goes name) (c ∷ cs) comes) a;
+      agrees = command_keeps_agreeing es w s (further s no_label) (c ∷ cs) o refl refl (same_world w (goes name) (c ∷ cs) comes) (same_up w (goes name) (c ∷ cs) comes) a;
       images = (is.0 ∙ sym (ap image_list (command_keeps es s (shown_words w.state.table (c ∷ cs)) o)), parts_more outs b is.1 (no_command s (shown_words w.state.table (c ∷ cs)) o));
     }
 moves_tells ins outs es m added m' (falls_asleep n w s c cs seconds begins few comes) story advanced a is =
     let shown = shown_words w.state.table (c ∷ cs) in
     let command = command_record s shown in
     let b = command ∷ [] in
+    let later : AgreesSettings (so_far (es ++ told b)) w true = settings_begun w (c ∷ cs) (begins_so_far es s shown) (same_up w (sleeps seconds) (c ∷ cs) comes) a.4 in
     record {
       events = es ++ told b;
       story = story_still ins outs es b (tt, tt) (begins_so es w s (c ∷ cs) a.4 (may_begin es s a.3 few), tt) advanced story;
       advanced = still_advanced es b (tt, tt) advanced;
       agrees = (
-        quiet_world es b w (tt, tt) (λ j now. refl) a.0,
+        quiet_world es b w (tt, tt) (λ j now. refl) (client_stays es b w w a.0.client a.4 later refl refl) a.0,
         a.1,
         λ j. live_kept j es b (kept es b (tt, tt)) ∙ a.2 j,
         script_begins es b s (entered s) refl refl refl a.3,
-        settings_begun w shown (begins_so_far es s shown) a.4,
+        later,
         sleep_begun w (c ∷ cs) seconds (begins_so_far es s shown) a.4 comes,
       );
       images = (is.0 ∙ sym (ap image_list (one_keeps es command refl)), parts_more outs b is.1 (tt, tt), last_end_more es (puts command));
@@ -177,7 +211,9 @@ moves_tells ins outs es m added m' (asks_for n w s c cs wanted begins few comes 
     let e = puts (opened_record w wanted) in
     let es1 = es ++ told (command ∷ []) in
     let es2 = es1 ++ e ∷ [] in
-    let world1 = quiet_world es (command ∷ []) w (tt, tt) (λ j now. refl) a.0 in
+    let unmoved = same_up w (asks wanted) (c ∷ cs) comes in
+    let later1 : AgreesSettings (so_far (es ++ told (command ∷ []))) w true = settings_begun w (c ∷ cs) (begins_so_far es s shown) unmoved a.4 in
+    let world1 = quiet_world es (command ∷ []) w (tt, tt) (λ j now. refl) (client_stays es (command ∷ []) w w a.0.client a.4 later1 refl refl) a.0 in
     let story1 : Story ins (outs ++ command ∷ []) es1 = story_still ins outs es (command ∷ []) (tt, tt) (begins_so es w s (c ∷ cs) a.4 (may_begin es s a.3 few), tt) advanced story in
     let advanced1 = still_advanced es (command ∷ []) (tt, tt) advanced in
     let none1 : NoneLives (es ++ told (command ∷ [])) = λ j. live_kept j es (command ∷ []) (kept es (command ∷ []) (tt, tt)) ∙ a.2 j in
@@ -191,7 +227,8 @@ moves_tells ins outs es m added m' (asks_for n w s c cs wanted begins few comes 
     let left = kept es2 b (aside_send w.net k (Some 1) request) in
     let untold1 = world1.untold k (le_refl k) in
     let so_far2 : so_far (es2 ++ told b) ≡ begun_so_far (so_far es) shown = opens_so_far es2 b (opens_send w.net k (Some 1) request) ∙ so_far_more es1 e ∙ begins_so_far es s shown in
-    let world3 : AgreesWorld (es2 ++ told b) (with_open w) = world_kept es2 b (with_open w) left (λ j few. none_of_send j (time es2) w.net k (Some 1) request (other_number k j (omega arith))) world2 in
+    let world3 : AgreesWorld (es2 ++ told b) (with_open w) = world_kept es2 b (with_open w) left (λ j few. none_of_send j (time es2) w.net k (Some 1) request (other_number k j (omega arith)))
+    (client_opens es2 b (opens_send w.net k (Some 1) request) ∙ world2.client) world2 in
     record {
       events = es2 ++ told b;
       story = subst (λ z. Story ins z (es2 ++ told b)) (append_assoc (outs ++ command ∷ []) (opened_record w wanted ∷ []) b ∙ append_assoc outs (command ∷ []) (opened_record w wanted ∷ b)) story3;
@@ -213,7 +250,7 @@ moves_tells ins outs es m added m' (asks_for n w s c cs wanted begins few comes 
         λ j other. live_kept j es2 b left ∙ opened_only es1 w wanted none1 j other,
         script_told es2 b (entered s) (opens_begin (commands_begun es2) b (opens_send w.net k (Some 1) request))
             (script_told es1 (opened_record w wanted ∷ []) (entered s) refl (script_begins es (command ∷ []) s (entered s) refl refl refl a.3)),
-        settings_open w (with_open w) refl refl (settings_begun w shown so_far2 a.4),
+        settings_open w (with_open w) refl refl refl (settings_begun w (c ∷ cs) so_far2 unmoved a.4),
         asks_begun (so_far es) w (c ∷ cs) (open_for w wanted) so_far2 a.4.table refl comes,
       );
       images = (
@@ -236,7 +273,9 @@ moves_tells ins outs es m added m' (finds_no_route n w s c cs wanted begins few 
     let es1 = es ++ told (command ∷ []) in
     let es2 = es1 ++ puts o ∷ [] in
     let es3 = es2 ++ puts (ended k cause) ∷ [] in
-    let world1 = quiet_world es (command ∷ []) w (tt, tt) (λ j now. refl) a.0 in
+    let unmoved = same_up w (asks wanted) (c ∷ cs) comes in
+    let later1 : AgreesSettings (so_far (es ++ told (command ∷ []))) w true = settings_begun w (c ∷ cs) (begins_so_far es s shown) unmoved a.4 in
+    let world1 = quiet_world es (command ∷ []) w (tt, tt) (λ j now. refl) (client_stays es (command ∷ []) w w a.0.client a.4 later1 refl refl) a.0 in
     let story1 : Story ins (outs ++ command ∷ []) es1 = story_still ins outs es (command ∷ []) (tt, tt) (begins_so es w s (c ∷ cs) a.4 (may_begin es s a.3 few), tt) advanced story in
     let advanced1 = still_advanced es (command ∷ []) (tt, tt) advanced in
     let none1 : NoneLives (es ++ told (command ∷ [])) = λ j. live_kept j es (command ∷ []) (kept es (command ∷ []) (tt, tt)) ∙ a.2 j in
@@ -256,18 +295,20 @@ moves_tells ins outs es m added m' (finds_no_route n w s c cs wanted begins few 
     let so_far3 : so_far es3 ≡ begun_so_far (so_far es) shown = so_far_more es2 (puts (ended k cause)) ∙ so_far2 in
     let none3 = ended_none_live es2 k cause (opened_only es1 w wanted none1) in
     let world3 = ended_world es2 (with_ended_open w) k cause (omega arith) (made_world es2 w world2) in
+    let v = with_ended_open w in
+    let later3 : AgreesSettings (so_far (es3 ++ told b)) v false = settings_open w v refl refl refl (settings_over w (open_for w wanted) (conclusion_so_far es3 (fails cause)) (settings_begun w (c ∷ cs) so_far3 unmoved a.4) (asks_begun (so_far es) w (c ∷ cs) (open_for w wanted) so_far3 a.4.table refl comes)) in
     let story4 = story_still ins _ es3 b still (failed_writes es2 k cause (ap (λ (m : CommandsSoFar). m.is_open) so_far2) refl) advanced3 story3 in
     record {
       events = es3 ++ told b;
       story = subst (λ z. Story ins z (es3 ++ told b)) (append_assoc ((outs ++ command ∷ []) ++ o ∷ []) (ended k cause ∷ []) b ∙ append_assoc (outs ++ command ∷ []) (o ∷ []) (ended k cause ∷ b) ∙ append_assoc outs (command ∷ []) (o ∷ ended k cause ∷ b)) story4;
       advanced = still_advanced es3 b still advanced3;
       agrees = (
-        world_kept es3 b (with_ended_open w) (kept es3 b (still_aside b still)) (λ j more. none_of_conclusion j (time es3) (fails cause)) world3,
+        world_kept es3 b (with_ended_open w) (kept es3 b (still_aside b still)) (λ j more. none_of_conclusion j (time es3) (fails cause)) (client_stays es3 b v v world3.client (settings_open w v refl refl refl (settings_begun w (c ∷ cs) so_far3 unmoved a.4)) later3 refl refl) world3,
         a.1,
         λ j. live_kept j es3 b (kept es3 b (still_aside b still)) ∙ none3 j,
         script_told es3 b (further s cause) (conclusion_begins (commands_begun es3) (fails cause))
             (script_told es2 (ended k cause ∷ []) (further s cause) refl (script_told es1 (o ∷ []) (further s cause) refl (script_begins es (command ∷ []) s (further s cause) refl refl refl a.3))),
-        settings_open w (with_ended_open w) refl refl (settings_over w (open_for w wanted) (conclusion_so_far es3 (fails cause)) (settings_begun w shown so_far3 a.4) (asks_begun (so_far es) w (c ∷ cs) (open_for w wanted) so_far3 a.4.table refl comes)),
+        later3,
       );
       images = (
         is.0 ∙ sym (ap image_list (one_keeps es3 (result cause) (failed_image es3 cause refl) ∙ one_keeps es2 (ended k cause) refl ∙ one_keeps es1 o refl ∙ one_keeps es command refl)),

@@ -4,6 +4,7 @@ use Rattle.std.specs.List.{after_last}
 use Rattle.std.specs.Option.{option_map, option_map_or}
 use Rattle.std.proofs.lemmas.Option.{none-some, same_Some}
 use Rattle.nb_defs.specs.Commands.{is_option, begins_with_option, refused}
+use Rattle.nb_defs.specs.Causes.{ok}
 use Rattle.nb_uri.specs.Pieces.{is_slash}
 use Rattle.nb_uri.specs.Targets.{TftpTarget, tftp_target, is_too_long}
 use Rattle.std.specs.Str.{bytes_eq}
@@ -26,9 +27,13 @@ use Rattle.nb_command.specs.Exit.{exit_plan}
 use Rattle.nb_command.specs.Isset.{isset_plan}
 use Rattle.nb_command.specs.Iseq.{iseq_plan}
 use Rattle.nb_command.specs.Set.{set_plan}
+use Rattle.nb_command.specs.Ifopen.{ifopen_plan}
+use Rattle.nb_command.specs.Ifclose.{ifclose_plan}
+use Rattle.nb_command.specs.Device.{device_change}
+use Rattle.nb_command.specs.declared.error.ApplyError.{ApplyError}
 use Rattle.nb_command.specs.Inc.{inc_plan, inc_plan_by}
 use Rattle.nb_command.specs.Sleep.{sleep_plan}
-use Rattle.nb_engine.specs.Effects.{Wanted, Effect, says, asks, goes, sleeps, asked_for, fetch, bad_uri, too_long_uri, full_opens, plan_effect, planned_effect, words_effect, ShownWords, shown_words, effect, expansion, expand_cause}
+use Rattle.nb_engine.specs.Effects.{Wanted, Effect, says, asks, goes, sleeps, shuts_device, device_effect, asked_for, fetch, bad_uri, too_long_uri, full_opens, plan_effect, planned_effect, words_effect, ShownWords, shown_words, effect, expansion, expand_cause}
 use Rattle.nb_expand.specs.declared.error.ExpandError.{ExpandError}
 use Rattle.nb_engine.proofs.CommandLaws.{effect_of_words, effect_of_refused, shown_of_words}
 use Rattle.nb_laws.specs.HandOff.{last_segment, uri_of}
@@ -46,6 +51,8 @@ FileIs uri (Ok (plan.Set setting value)) = Unit {0}
 FileIs uri (Ok (plan.Clear setting)) = Unit {0}
 FileIs uri (Ok (plan.Show setting)) = Unit {0}
 FileIs uri (Ok (plan.Inc setting by)) = Unit {0}
+FileIs uri (Ok (plan.Ifopen device)) = Unit {0}
+FileIs uri (Ok (plan.Ifclose device)) = Unit {0}
 FileIs uri (Ok (plan.Sleep seconds)) = Unit {0}
 FileIs uri (Err why) = Unit {0}
 
@@ -75,6 +82,18 @@ unfolding isset_plan
 isset_file uri [] = tt
 isset_file uri (word ∷ []) = file_if uri (is_option word) (Err Usage) (Ok (plan.Isset (Some word))) tt tt
 isset_file uri (word ∷ second ∷ others) = tt
+
+ifopen_file : (uri : List ℕ) (args : List (List ℕ)) → FileIs uri (ifopen_plan args)
+unfolding ifopen_plan
+ifopen_file uri [] = tt
+ifopen_file uri (word ∷ []) = file_if uri (is_option word) (Err Usage) (Ok (plan.Ifopen (Some word))) tt tt
+ifopen_file uri (word ∷ second ∷ others) = tt
+
+ifclose_file : (uri : List ℕ) (args : List (List ℕ)) → FileIs uri (ifclose_plan args)
+unfolding ifclose_plan
+ifclose_file uri [] = tt
+ifclose_file uri (word ∷ []) = file_if uri (is_option word) (Err Usage) (Ok (plan.Ifclose (Some word))) tt tt
+ifclose_file uri (word ∷ second ∷ others) = tt
 
 iseq_file : (uri : List ℕ) (args : List (List ℕ)) → FileIs uri (iseq_plan args)
 unfolding iseq_plan
@@ -125,6 +144,8 @@ named_file first name.Show args = file_with _ (λ setting. plan.Show setting) (o
 named_file first name.Inc args = inc_file _ args
 named_file first name.Imgfetch args = fetch_file first (λ uri. plan.Fetch uri) args (λ u. refl)
 named_file first name.Imgexec args = fetch_file first (λ uri. plan.Exec uri) args (λ u. refl)
+named_file first name.Ifopen args = ifopen_file _ args
+named_file first name.Ifclose args = ifclose_file _ args
 named_file first name.Sleep args = sleep_file _ args
 
 where_file : (first : List ℕ) (command : Option CommandName) (args : List (List ℕ)) → FileIs (uri_of (Some (first ∷ args))) (plan_where command args)
@@ -142,6 +163,11 @@ IsAskedBy uri (says o) = Unit {0}
 IsAskedBy uri (asks wanted) = (uri ≡ wanted.uri) × (wanted.target.name ≡ last_segment wanted.target.path)
 IsAskedBy uri (goes label) = Unit {0}
 IsAskedBy uri (sleeps seconds) = Unit {0}
+IsAskedBy uri shuts_device = Unit {0}
+
+device_asks : (uri : List ℕ) (e : Effect) → IsAskedBy uri e → (r : Result Bool ApplyError) → IsAskedBy uri (device_effect e r)
+device_asks uri e is (Ok up) = is
+device_asks uri e is (Err why) = tt
 
 either_asks : (uri : List ℕ) (t : Bool) (a b : Effect) → IsAskedBy uri a → IsAskedBy uri b → IsAskedBy uri (cond t a b)
 either_asks uri true a b p q = p
@@ -173,6 +199,8 @@ plan_asks opens table uri (plan.Set setting value) is = tt
 plan_asks opens table uri (plan.Clear setting) is = tt
 plan_asks opens table uri (plan.Show setting) is = tt
 plan_asks opens table uri (plan.Inc setting by) is = tt
+plan_asks opens table uri (plan.Ifopen device) is = device_asks uri (says (refused ok)) tt (device_change device true)
+plan_asks opens table uri (plan.Ifclose device) is = device_asks uri shuts_device tt (device_change device false)
 plan_asks opens table uri (plan.Sleep seconds) is = either_asks uri (seconds == 0) (says (refused _)) (sleeps seconds) tt tt
 
 planned_asks : (opens : ℕ) (table : TableLists) (uri : List ℕ) (q : Result CommandPlan PlanError) → FileIs uri q → IsAskedBy uri (planned_effect opens table q)

@@ -5,7 +5,8 @@ use Rattle.nb_engine.specs.declared.world.World.{World}
 use Rattle.nb_engine.specs.Opens.{Open}
 use Rattle.nb_engine.specs.Running.{Running}
 use Rattle.nb_engine.specs.Machine.{Machine, Phase, ready, running, waiting, sleeping, yielded, handing, left, handed_off, stopped, at, Path, nothing, uses, moves}
-use Rattle.nb_laws.specs.Events.{outputs, Event, IsHistory}
+use Rattle.nb_laws.specs.Events.{outputs, Event}
+use Rattle.nb_laws.specs.Histories.{IsHistory}
 use Rattle.nb_laws.specs.Lists.{last_place, gathered, calls}
 use Rattle.nb_laws.specs.HandOff.{HandsOff}
 use Rattle.nb_laws.specs.Lawful.{IsLawful, HandsAsBrought}

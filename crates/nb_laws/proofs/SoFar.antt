@@ -10,22 +10,25 @@ use Rattle.nb_command.specs.declared.command_plan.CommandPlan.TheVariants as pla
 use Rattle.nb_command.specs.declared.error.PlanError.{PlanError}
 use Rattle.nb_command.specs.Planning.{planned}
 use Rattle.nb_engine.specs.declared.world.World.{World}
-use Rattle.nb_engine.specs.Effects.{Effect, says, asks, goes, sleeps, ShownWords, shown_as, shown_words, effect, words_effect, words_table, table_after, expansion, expanded_effect, plan_effect, planned_effect}
+use Rattle.nb_engine.specs.Effects.{Effect, says, asks, goes, sleeps, shuts_device, ShownWords, shown_as, shown_words, effect, words_effect, words_table, table_after, up_after, expansion, expanded_effect, plan_effect, planned_effect}
 use Rattle.nb_engine.specs.Conclusions.{Conclusion, keeps, fails, boots, conclusion_records}
 use Rattle.nb_engine.specs.Opens.{Open}
 use Rattle.nb_engine.specs.Running.{Running}
 use Rattle.nb_engine.specs.Machine.{prints, command_record, command_records}
 use Rattle.nb_defs.specs.Records.{Start}
 use Rattle.nb_engine.specs.StartTable.{start_table}
-use Rattle.nb_engine.specs.World.{world_of, with_net, world_later}
-use Rattle.nb_engine.proofs.CommandLaws.{effect_of_words, table_of_words, shown_of_words, shown_of_refused, table_of_refused, fetch_either, sleeps_some, KeepsTable, keeps_words}
+use Rattle.nb_engine.specs.World.{is_up, world_of, with_net, world_later}
+use Rattle.nb_engine.proofs.CommandLaws.{effect_of_words, table_of_words, up_of_words, shown_of_words, shown_of_refused, table_of_refused, up_of_refused, fetch_either, sleeps_some, KeepsTable, keeps_words}
 use Rattle.nb_stack.specs.Client.{Client}
 use Rattle.nb_laws.specs.Events.{Event, puts}
+use Rattle.nb_engine.specs.Link.{link_by}
+use Rattle.nb_laws.specs.Histories.{client}
 use Rattle.nb_laws.specs.Lists.{made}
-use Rattle.nb_laws.specs.CommandsSoFar.{CommandsSoFar, so_far, so_far_by, no_commands, shown_effect, shown_table, ComesTo}
+use Rattle.nb_laws.specs.CommandsSoFar.{CommandsSoFar, so_far, so_far_by, no_commands, shown_effect, shown_table, shown_up, ComesTo}
 use Rattle.nb_laws.specs.Progress.{NoneOversleeps}
-use Rattle.nb_laws.specs.Agreement.{IsSilent, AgreesSettings, AgreesSleep, AsksFor}
-use Rattle.nb_laws.proofs.Tellings.{told}
+use Rattle.nb_laws.specs.Agreement.{IsSilent, bare, AgreesSettings, AgreesSleep, AsksFor}
+use Rattle.nb_laws.proofs.Histories.{client_linked}
+use Rattle.nb_laws.proofs.Tellings.{told, client_told}
 use Rattle.nb_laws.proofs.HandOffs.{IsOpens, AreOpens}
 
 pub so_far_more : (es : List Event) (e : Event) → so_far (es ++ e ∷ []) ≡ so_far_by (so_far es) e
@@ -69,7 +72,7 @@ conclusion_so_far es (boots list kernel) = told_so_far es (result _ ∷ [])
 
 -- a command begins
 abbrev pub begun_so_far : CommandsSoFar → ShownWords → CommandsSoFar
-begun_so_far m shown = record m { shown = Some shown; since = m.now; is_open = true }
+begun_so_far m shown = record m { up = shown_up m.up shown; shown = Some shown; since = m.now; is_open = true }
 
 pub begins_so_far : (es : List Event) (s : Running) (shown : ShownWords) → so_far (es ++ puts (command_record s shown) ∷ []) ≡ begun_so_far (so_far es) shown
 begins_so_far es s shown = so_far_more es (puts (command_record s shown))
@@ -97,6 +100,13 @@ shown_table_is table ws = by (expansion table ws) refl
     by (Ok xs) e = ap (λ x. shown_table table (Some x)) (shown_of_words table ws xs e) ∙ sym (table_of_words table ws xs e)
     by (Err why) e = ap (λ x. shown_table table (Some x)) (shown_of_refused table ws why e) ∙ sym (table_of_refused table ws why e)
 
+pub shown_up_is : (table : TableLists) (up : Bool) (ws : List (List ℕ)) → shown_up up (shown_words table ws) ≡ up_after table up ws
+shown_up_is table up ws = by (expansion table ws) refl
+  where
+    by : (r : Result (List (List ℕ)) ExpandError) → expansion table ws ≡ r → shown_up up (shown_words table ws) ≡ up_after table up ws
+    by (Ok xs) e = ap (shown_up up) (shown_of_words table ws xs e) ∙ sym (up_of_words table up ws xs e)
+    by (Err why) e = ap (shown_up up) (shown_of_refused table ws why e) ∙ sym (up_of_refused table up ws why e)
+
 -- words that stand as they are written were refused
 abbrev IsRefused : TableLists → ShownWords → Type 0
 IsRefused table shown = shown.expanded ≡ false → (why : ExpandError) × (expansion table shown.words ≡ Err why)
@@ -115,6 +125,7 @@ IsAwake (sleeps seconds) = ⊥
 IsAwake (says o) = Unit {0}
 IsAwake (asks wanted) = Unit {0}
 IsAwake (goes name) = Unit {0}
+IsAwake shuts_device = Unit {0}
 
 plan_sleeps : (k j : ℕ) (table : TableLists) (p : CommandPlan) (n : ℕ) → plan_effect k table p ≡ sleeps n → plan_effect j table p ≡ sleeps n
 plan_sleeps k j table (plan.Echo newline text) n e = e
@@ -128,6 +139,8 @@ plan_sleeps k j table (plan.Show name) n e = e
 plan_sleeps k j table (plan.Inc name by) n e = e
 plan_sleeps k j table (plan.Fetch uri) n e = absurd (subst IsAwake e (fetch_either IsAwake (λ o. tt) (λ wanted. tt) k false uri))
 plan_sleeps k j table (plan.Exec uri) n e = absurd (subst IsAwake e (fetch_either IsAwake (λ o. tt) (λ wanted. tt) k true uri))
+plan_sleeps k j table (plan.Ifopen device) n e = e
+plan_sleeps k j table (plan.Ifclose device) n e = e
 plan_sleeps k j table (plan.Sleep seconds) n e = e
 
 planned_sleeps : (k j : ℕ) (table : TableLists) (q : Result CommandPlan PlanError) (n : ℕ) → planned_effect k table q ≡ sleeps n → planned_effect j table q ≡ sleeps n
@@ -203,25 +216,32 @@ asking_keeps m o a = ap (shown_table m.table) a.said ∙ by a.shown.expanded a.s
 
 pub settings_over : {m m' : CommandsSoFar} (w : World) (o : Open) → m' ≡ ended_so_far m → AgreesSettings m w true → AsksFor m o → AgreesSettings m' w false
 settings_over {m} {m'} w o e settings a =
-    subst (λ x. AgreesSettings x w false) (sym e) (record { table = asking_keeps m o a ∙ settings.table; now = settings.now; is_open = refl })
+    subst (λ x. AgreesSettings x w false) (sym e) (record { table = asking_keeps m o a ∙ settings.table; up = settings.up; now = settings.now; is_open = refl })
 
 -- a command that is over at once
 pub settings_done : {m m' : CommandsSoFar} (w v : World) (ws : List (List ℕ)) → m' ≡ ended_so_far (begun_so_far m (shown_words w.state.table ws)) → AgreesSettings m w false →
-    table_after w.state.table ws ≡ v.state.table → v.time ≡ w.time → AgreesSettings m' v false
-settings_done {m} {m'} w v ws e settings leaves time =
+    table_after w.state.table ws ≡ v.state.table → up_after w.state.table w.state.up ws ≡ v.state.up → v.time ≡ w.time → AgreesSettings m' v false
+settings_done {m} {m'} w v ws e settings leaves up time =
     subst (λ x. AgreesSettings x v false) (sym e) (record {
       table = ap (λ t. shown_table t (Some (shown_words w.state.table ws))) settings.table ∙ shown_table_is w.state.table ws ∙ leaves;
+      up = ap (λ u. shown_up u (shown_words w.state.table ws)) settings.up ∙ shown_up_is w.state.table w.state.up ws ∙ up;
       now = settings.now ∙ sym time;
       is_open = refl;
     })
 
 -- a command has begun
-pub settings_begun : {m m' : CommandsSoFar} (w : World) (shown : ShownWords) → m' ≡ begun_so_far m shown → AgreesSettings m w false → AgreesSettings m' w true
-settings_begun {m} {m'} w shown e settings = subst (λ x. AgreesSettings x w true) (sym e) (record { table = settings.table; now = settings.now; is_open = refl })
+pub settings_begun : {m m' : CommandsSoFar} (w : World) (ws : List (List ℕ)) → m' ≡ begun_so_far m (shown_words w.state.table ws) → up_after w.state.table w.state.up ws ≡ w.state.up → AgreesSettings m w false → AgreesSettings m' w true
+settings_begun {m} {m'} w ws e still settings =
+    subst (λ x. AgreesSettings x w true) (sym e) (record {
+      table = settings.table;
+      up = ap (λ u. shown_up u (shown_words w.state.table ws)) settings.up ∙ shown_up_is w.state.table w.state.up ws ∙ still;
+      now = settings.now;
+      is_open = refl;
+    })
 
 -- the world has the same settings and time
-pub settings_open : {m : CommandsSoFar} {still : Bool} (w v : World) → v.state.table ≡ w.state.table → v.time ≡ w.time → AgreesSettings m w still → AgreesSettings m v still
-settings_open w v table time settings = record { table = settings.table ∙ sym table; now = settings.now ∙ sym time; is_open = settings.is_open }
+pub settings_open : {m : CommandsSoFar} {still : Bool} (w v : World) → v.state.table ≡ w.state.table → v.state.up ≡ w.state.up → v.time ≡ w.time → AgreesSettings m w still → AgreesSettings m v still
+settings_open w v table up time settings = record { table = settings.table ∙ sym table; up = settings.up ∙ sym up; now = settings.now ∙ sym time; is_open = settings.is_open }
 
 -- it asks for the next open's file
 pub asks_begun : (m : CommandsSoFar) {m' : CommandsSoFar} (w : World) (ws : List (List ℕ)) (o : Open) → m' ≡ begun_so_far m (shown_words w.state.table ws) → m.table ≡ w.state.table → o.number ≡ w.opens →
@@ -261,7 +281,7 @@ sleep_through {m} {m'} w net until e a =
 -- time passes
 pub settings_later : {m m' : CommandsSoFar} (w : World) (ms : ℕ) (still : Bool) → m' ≡ record m { now = m.now + ms } → AgreesSettings m w still → AgreesSettings m' (world_later w ms) still
 settings_later {m} {m'} w ms still e settings =
-    subst (λ x. AgreesSettings x (world_later w ms) still) (sym e) (record { table = settings.table; now = ap (λ t. t + ms) settings.now; is_open = settings.is_open })
+    subst (λ x. AgreesSettings x (world_later w ms) still) (sym e) (record { table = settings.table; up = settings.up; now = ap (λ t. t + ms) settings.now; is_open = settings.is_open })
 
 pub asks_later : {m m' : CommandsSoFar} (o : Open) (ms : ℕ) → m' ≡ record m { now = m.now + ms } → AsksFor m o → AsksFor m' o
 asks_later {m} {m'} o ms e a = subst (λ x. AsksFor x o) (sym e) (record { shown = a.shown; said = a.said; asked = a.asked })
@@ -269,7 +289,7 @@ asks_later {m} {m'} o ms e a = subst (λ x. AsksFor x o) (sym e) (record { shown
 -- the link changes
 pub settings_net : {m m' : CommandsSoFar} (w : World) (net : Client) (still : Bool) → m' ≡ m → AgreesSettings m w still → AgreesSettings m' (with_net w net) still
 settings_net {m} {m'} w net still e settings =
-    subst (λ x. AgreesSettings x (with_net w net) still) (sym e) (record { table = settings.table; now = settings.now; is_open = settings.is_open })
+    subst (λ x. AgreesSettings x (with_net w net) still) (sym e) (record { table = settings.table; up = settings.up; now = settings.now; is_open = settings.is_open })
 
 -- a command that sleeps leaves the settings as they were
 sleeping_keeps : (m : CommandsSoFar) (w : World) (until : ℕ) → AgreesSleep m w until → shown_table m.table m.shown ≡ m.table
@@ -283,8 +303,33 @@ sleeping_keeps m w until a = ap (shown_table m.table) a.is_shown ∙ by a.shown.
 pub settings_awake : {m m' : CommandsSoFar} (w : World) (until ms : ℕ) → m' ≡ ended_so_far (record m { now = m.now + ms }) → AgreesSettings m w true → AgreesSleep m w until →
     AgreesSettings m' (world_later w ms) false
 settings_awake {m} {m'} w until ms e settings a =
-    subst (λ x. AgreesSettings x (world_later w ms) false) (sym e) (record { table = sleeping_keeps m w until a ∙ settings.table; now = ap (λ t. t + ms) settings.now; is_open = refl })
+    subst (λ x. AgreesSettings x (world_later w ms) false) (sym e) (record { table = sleeping_keeps m w until a ∙ settings.table; up = settings.up; now = ap (λ t. t + ms) settings.now; is_open = refl })
 
 -- START gives the first settings
-pub settings_first : {m : CommandsSoFar} (s : Start) → m ≡ record no_commands { table = start_table s } → AgreesSettings m (world_of s) false
-settings_first {m} s e = subst (λ x. AgreesSettings x (world_of s) false) (sym e) (record { table = refl; now = refl; is_open = refl })
+pub settings_first : {m : CommandsSoFar} (s : Start) → m ≡ record no_commands { table = start_table s; up = is_up s } → AgreesSettings m (world_of s) false
+settings_first {m} s e = subst (λ x. AgreesSettings x (world_of s) false) (sym e) (record { table = refl; up = refl; now = refl; is_open = refl })
+
+-- THE CLIENT AFTER RECORDS
+
+-- frames, tries and advances leave it as it was
+pub client_opens : (es : List Event) (outs : List Out) → AreOpens outs → client (es ++ told outs) ≡ client es
+client_opens es outs h =
+    client_told es outs ∙ ap (λ (m : CommandsSoFar). link_by m.table m.up (client es)) (opens_so_far es outs h) ∙ client_linked es
+
+-- with the settings and the device's state of another world it has that world's link
+pub client_moved : {still : Bool} (es : List Event) (outs : List Out) (net : Client) (v : World) → client es ≡ bare net → AgreesSettings (so_far (es ++ told outs)) v still →
+    client (es ++ told outs) ≡ bare (link_by v.state.table v.state.up net)
+client_moved es outs net v is settings =
+    client_told es outs
+    ∙ ap (λ t. link_by t (so_far (es ++ told outs)).up (client es)) settings.table
+    ∙ ap (λ u. link_by v.state.table u (client es)) settings.up
+    ∙ ap (λ (c : Client). link_by v.state.table v.state.up c) is
+
+-- with those of the world that it agrees with it stays
+pub client_stays : {before after : Bool} (es : List Event) (outs : List Out) (w v : World) → client es ≡ bare w.net → AgreesSettings (so_far es) w before → AgreesSettings (so_far (es ++ told outs)) v after →
+    v.state.table ≡ w.state.table → v.state.up ≡ w.state.up → client (es ++ told outs) ≡ bare w.net
+client_stays es outs w v is settings later table up =
+    client_told es outs
+    ∙ ap (λ t. link_by t (so_far (es ++ told outs)).up (client es)) (later.table ∙ table ∙ sym settings.table)
+    ∙ ap (λ u. link_by (so_far es).table u (client es)) (later.up ∙ up ∙ sym settings.up)
+    ∙ client_linked es ∙ is

@@ -13,10 +13,10 @@ use Rattle.nb_engine.specs.World.{world_of, with_net, with_open}
 use Rattle.nb_engine.specs.World as world
 use Rattle.nb_engine.specs.Opens.{Open, has_route, request_of, begun_for, open_for, send_records, heard_from}
 use Rattle.nb_defs.specs.Causes.{ok}
-use Rattle.nb_engine.specs.Effects.{shown_words, table_after}
+use Rattle.nb_engine.specs.Effects.{shown_words, table_after, up_after}
 use Rattle.nb_engine.specs.Running.{Running, anew, further, entered, with_result}
 use Rattle.nb_engine.proofs.CommandLaws.{sleeps_some}
-use Rattle.nb_engine.specs.Machine.{Machine, Phase, at, Hears, Begins, Move, Path, reply_records, command_record, stopped_cause}
+use Rattle.nb_engine.specs.Machine.{Machine, Phase, at, Hears, Begins, Move, Path, reply_records, command_record, stopped_cause, world_after}
 use Rattle.nb_engine.specs.Machine as lone
 use Rattle.nb_laws.specs.Agreement.{bare, opening_of, AgreesPhase}
 use Rattle.nb_laws.specs.Frames.{begun_by}
@@ -214,20 +214,28 @@ move_goes m added m' p (lone.is_left n w s cause comes) same =
 move_goes m added m' p (lone.yields n w s c cs comes full) same =
     subst (λ z. Goes n z added m') (sym same) (record { to = _; does = courses.yields n (state_in w []) s [] c cs comes full; same = refl })
 move_goes m added m' p (lone.does n w s c cs o comes few is stays) same =
-    subst (λ z. Goes n z added m') (sym same) (record { to = _; does = courses.does n (state_in w []) (state_in (world.world_with_table w (table_after w.state.table (c ∷ cs))) []) s [] c cs o comes few (ap (doing_by (state_in w []) (table_after w.state.table (c ∷ cs))) is) stays; same = refl })
+    subst (λ z. Goes n z added m') (sym same) (record { to = _; does = courses.does n (state_in w []) (state_in (world_after w (c ∷ cs)) []) s [] c cs o comes few (ap (doing_by (state_in w []) (table_after w.state.table (c ∷ cs)) (up_after w.state.table w.state.up (c ∷ cs))) is) stays; same = refl })
+move_goes m added m' p (lone.closes_device n w s c cs comes few is) same =
+    subst (λ z. Goes n z added m') (sym same)
+    (let next = state_in (world_after w (c ∷ cs)) [] in
+    record {
+      to = running next (further s ok) [];
+      does = courses.closes_device n (state_in w []) next s [] c cs [] [] comes few (ap (doing_by (state_in w []) (table_after w.state.table (c ∷ cs)) (up_after w.state.table w.state.up (c ∷ cs))) is) all_have;
+      same = refl;
+    })
 move_goes m added m' p (lone.leaves n w s c cs o comes few is goes_out) same =
     subst (λ z. Goes n z added m') (sym same)
-    (let next = state_in (world.world_with_table w (table_after w.state.table (c ∷ cs))) [] in
-    record { to = left next [] o.cause; does = courses.leaves n (state_in w []) next s [] c cs o comes few (ap (doing_by (state_in w []) (table_after w.state.table (c ∷ cs))) is) goes_out; same = (next, refl, refl) })
+    (let next = state_in (world_after w (c ∷ cs)) [] in
+    record { to = left next [] o.cause; does = courses.leaves n (state_in w []) next s [] c cs o comes few (ap (doing_by (state_in w []) (table_after w.state.table (c ∷ cs)) (up_after w.state.table w.state.up (c ∷ cs))) is) goes_out; same = (next, refl, refl) })
 move_goes m added m' p (lone.jumps n w s c cs name line comes few is there) same =
-    subst (λ z. Goes n z added m') (sym same) (record { to = _; does = courses.jumps n (state_in w []) s [] c cs name line comes few (ap (doing_by (state_in w []) (table_after w.state.table (c ∷ cs))) is) there; same = refl })
+    subst (λ z. Goes n z added m') (sym same) (record { to = _; does = courses.jumps n (state_in w []) s [] c cs name line comes few (ap (doing_by (state_in w []) (table_after w.state.table (c ∷ cs)) (up_after w.state.table w.state.up (c ∷ cs))) is) there; same = refl })
 move_goes m added m' p (lone.finds_no_label n w s c cs name comes few is none) same =
-    subst (λ z. Goes n z added m') (sym same) (record { to = _; does = courses.finds_no_label n (state_in w []) s [] c cs name comes few (ap (doing_by (state_in w []) (table_after w.state.table (c ∷ cs))) is) none; same = refl })
+    subst (λ z. Goes n z added m') (sym same) (record { to = _; does = courses.finds_no_label n (state_in w []) s [] c cs name comes few (ap (doing_by (state_in w []) (table_after w.state.table (c ∷ cs)) (up_after w.state.table w.state.up (c ∷ cs))) is) none; same = refl })
 move_goes m added m' p (lone.falls_asleep n w s c cs seconds comes few is) same =
     subst (λ z. Goes n z added m') (sym same)
     (record {
       to = waiting (state_in w []) (sleeping_in (entered s) (w.time + 1000 * seconds));
-      does = courses.falls_asleep n (state_in w []) s [] c cs (w.time + 1000 * seconds) comes few (ap (doing_by (state_in w []) (table_after w.state.table (c ∷ cs))) is);
+      does = courses.falls_asleep n (state_in w []) s [] c cs (w.time + 1000 * seconds) comes few (ap (doing_by (state_in w []) (table_after w.state.table (c ∷ cs)) (up_after w.state.table w.state.up (c ∷ cs))) is);
       same = (later w.time seconds (sleeps_some w.opens w.state.table (c ∷ cs) seconds is), refl);
     })
 move_goes m added m' p (lone.asks_for n w s c cs wanted comes few is route) same =
@@ -240,7 +248,7 @@ move_goes m added m' p (lone.asks_for n w s c cs wanted comes few is route) same
     (record {
       to = to;
       does = subst (λ z. Proceeds (stands n (running st s [])) (command_record s (shown_words w.state.table (c ∷ cs)) ∷ open_record l ∷ z) (stands n to)) (bare_send w.net w.opens (Some 1) request)
-          (courses.opens_one n st s [] c cs l (fetch wanted) (bare w.net) put comes few (ap (doing_by st (table_after w.state.table (c ∷ cs))) is) refl
+          (courses.opens_one n st s [] c cs l (fetch wanted) (bare w.net) put comes few (ap (doing_by st (table_after w.state.table (c ∷ cs)) (up_after w.state.table w.state.up (c ∷ cs))) is) refl
           (ap (λ b. cond b (Some put) None) (bare_route w.net request ∙ route)));
       same = ([], record { exchanged = at_first; meets = meets_nothing (begun_for w wanted) w.time }, refl);
     })
@@ -251,7 +259,7 @@ move_goes m added m' p (lone.finds_no_route n w s c cs wanted comes few is route
     subst (λ z. Goes n z added m') (sym same)
     (record {
       to = running (with_one_made st) (further s (lone.no_route wanted.target.server)) [];
-      does = courses.finds_no_route n st s [] c cs l (fetch wanted) (bare w.net) comes few (ap (doing_by st (table_after w.state.table (c ∷ cs))) is) refl
+      does = courses.finds_no_route n st s [] c cs l (fetch wanted) (bare w.net) comes few (ap (doing_by st (table_after w.state.table (c ∷ cs)) (up_after w.state.table w.state.up (c ∷ cs))) is) refl
           (ap (λ b. cond b (Some (send_records (bare w.net) w.opens (Some 1) request)) None) (bare_route w.net request ∙ route));
       same = refl;
     })

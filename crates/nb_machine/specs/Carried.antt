@@ -27,7 +27,7 @@ live_of o xs = record {
 }
 
 abbrev pub state_in : World → List Live → State
-state_in w live = record { w = w.w; now = w.time; devices = bare w.net ∷ []; table = w.state.table; images = w.state.images; opens = w.opens; live = live }
+state_in w live = record { w = w.w; now = w.time; devices = bare w.net ∷ []; up = w.state.up; table = w.state.table; images = w.state.images; opens = w.opens; live = live }
 
 abbrev pub waiting_in : Running → Open → Waiting
 waiting_in s o = record { script = s; outer = []; awaited = answer o.number; job = fetch o.wanted }

@@ -2,9 +2,9 @@
 -- lists, and knows nothing of bytes, buffers or calls.
 use Rattle.std.specs.Prelude.{◌≡◌, ◌<◌, ℕ, ◌+◌, true, false, List, [], ◌∷◌, ◌++◌, Some, None, slice_get}
 use Rattle.nb_terms.specs.declared.cause.Cause.{Cause}
-use Rattle.nb_defs.specs.Causes.{ok}
+use Rattle.nb_defs.specs.Causes.{ok, plain_cause}
 use Rattle.nb_defs.specs.Commands.{CommandOutcome, refused}
-use Rattle.nb_defs.specs.Records.{Start, In, start, off, IsIn, Out, step, enter, leave}
+use Rattle.nb_defs.specs.Records.{Start, In, start, off, IsIn, Out, step, enter, leave, result}
 use Rattle.nb_defs.specs.ScriptLines.{Line, script, label_place}
 use Rattle.nb_stack.specs.Client.{Client}
 use Rattle.nb_engine.specs.Conclusions.{Conclusion, keeps, fails, boots, conclusion_records, handoff_records}
@@ -17,7 +17,11 @@ use Rattle.nb_machine.specs.Kinds.{first_records}
 use Rattle.nb_machine.specs.States.{State, state_at_start, with_images, with_live, with_opened, with_one_made}
 use Rattle.nb_machine.specs.Takings.{Over, AllTake}
 use Rattle.nb_machine.specs.Network.{Network}
-use Rattle.nb_machine.specs.Scripts.{Job, sleep, ends, opens, goes_to, waits_until, doing, answer, moment, Answer, answer_in, Waiting, waiting_anew, concluded_by}
+use Rattle.nb_machine.specs.Scripts.{Job, sleep, ends, opens, goes_to, waits_until, shuts, doing, answer, moment, Answer, answer_in, Waiting, waiting_anew, concluded_by}
+
+-- the device went down
+abbrev pub down_cause : Cause
+down_cause = plain_cause 25
 
 -- where a run stands
 pub data Standing : Type 0 where
@@ -104,6 +108,11 @@ pub data Proceeds : Progress → List Out → Progress → Type 0 where
   does : (n : ℕ) (s s' : State) (inner : Running) (outer : List Running) (c : List ℕ) (cs : List (List ℕ)) (o : CommandOutcome) →
       coming inner ≡ beginning c cs → inner.begun < 4096 → doing s (c ∷ cs) ≡ ends o s' → o.leaves ≡ false →
       Proceeds (stands n (running s inner outer)) (command_records inner (shown_words s.table (c ∷ cs)) o) (stands n (running s' (further inner o.cause) outer))
+  -- `ifclose`: the device is down, and then all that lives is closed with Down
+  closes_device : (n : ℕ) (s s' : State) (inner : Running) (outer : List Running) (c : List ℕ) (cs : List (List ℕ)) (put : List Out) (over : List Over) →
+      coming inner ≡ beginning c cs → inner.begun < 4096 → doing s (c ∷ cs) ≡ shuts s' → AllTake s'.devices (close down_cause) s'.live put [] over →
+      Proceeds (stands n (running s inner outer)) (command_record inner (shown_words s.table (c ∷ cs)) ∷ put ++ (result ok ∷ []))
+      (stands n (running (with_live s' []) (further inner ok) outer))
   -- a command with which the script is left
   leaves : (n : ℕ) (s s' : State) (inner : Running) (outer : List Running) (c : List ℕ) (cs : List (List ℕ)) (o : CommandOutcome) →
       coming inner ≡ beginning c cs → inner.begun < 4096 → doing s (c ∷ cs) ≡ ends o s' → o.leaves ≡ true →

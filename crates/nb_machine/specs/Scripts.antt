@@ -4,13 +4,13 @@ use Rattle.nb_defs.specs.Commands.{CommandOutcome}
 use Rattle.nb_defs.specs.Records.{In}
 use Rattle.nb_image.specs.Images.{image_of}
 use Rattle.nb_settings.specs.Tables.{TableLists}
-use Rattle.nb_engine.specs.Effects.{Wanted, Effect, says, asks, goes, sleeps, effect, table_after}
+use Rattle.nb_engine.specs.Effects.{Wanted, Effect, says, asks, goes, sleeps, shuts_device, effect, table_after, up_after}
 use Rattle.nb_engine.specs.Conclusions.{Conclusion, keeps, conclusion}
 use Rattle.nb_engine.specs.World.{own_port}
 use Rattle.nb_engine.specs.Running.{Running, anew}
 use Rattle.nb_machine.specs.Lives.{tftp, Live}
 use Rattle.nb_machine.specs.Kinds.{fetched}
-use Rattle.nb_machine.specs.States.{State, net0, with_table}
+use Rattle.nb_machine.specs.States.{State, net0, with_settings}
 use Rattle.nb_machine.specs.Takings.{Over}
 
 -- what a command does once what it waits for has come
@@ -20,13 +20,14 @@ pub data Job : Type 0 where
   -- nothing
   sleep : Job
 
--- what a command comes to: it is over at once and leaves this state, it opens something and waits for it, it goes to a label, or it
--- waits for this time
+-- what a command comes to: it is over at once and leaves this state, it opens something and waits for it, it goes to a label, it
+-- waits for this time, or it sets the device down, closes all that lives and leaves this state
 pub data Doing : Type 0 where
   ends : CommandOutcome → State → Doing
   opens : Live → Job → Doing
   goes_to : (name : List ℕ) → Doing
   waits_until : (time : ℕ) → Doing
+  shuts : State → Doing
 
 -- the next open, on a device, for a file: from the client's next port to port 69 of the server
 abbrev pub transfer_for : State → Wanted → Live
@@ -42,16 +43,17 @@ transfer_for s wanted = record {
   exchanges = [];
 }
 
--- by its effect and the settings that it leaves
-abbrev pub doing_by : State → TableLists → Effect → Doing
-doing_by s table (says o) = ends o (with_table s table)
-doing_by s table (asks wanted) = opens (transfer_for s wanted) (fetch wanted)
-doing_by s table (goes name) = goes_to name
-doing_by s table (sleeps seconds) = waits_until (s.now + 1000 * seconds)
+-- by its effect, and the settings that it leaves and whether the device is up then
+abbrev pub doing_by : State → TableLists → Bool → Effect → Doing
+doing_by s table up (says o) = ends o (with_settings s table up)
+doing_by s table up shuts_device = shuts (with_settings s table up)
+doing_by s table up (asks wanted) = opens (transfer_for s wanted) (fetch wanted)
+doing_by s table up (goes name) = goes_to name
+doing_by s table up (sleeps seconds) = waits_until (s.now + 1000 * seconds)
 
 -- by its words, as the script has them, and the state
 abbrev pub doing : State → List (List ℕ) → Doing
-doing s words = doing_by s (table_after s.table words) (effect s.opens s.table words)
+doing s words = doing_by s (table_after s.table words) (up_after s.table s.up words) (effect s.opens s.table words)
 
 -- what a command waits for: the answer of the open of this number, or a time
 pub data Awaited : Type 0 where

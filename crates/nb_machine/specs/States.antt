@@ -1,20 +1,22 @@
 -- What a run has beside its scripts. Every phase from START on keeps it.
-use Rattle.std.specs.Prelude.{ℕ, ◌+◌, List, [], ◌∷◌, ◌++◌, take, drop}
+use Rattle.std.specs.Prelude.{ℕ, ◌+◌, Bool, List, [], ◌∷◌, ◌++◌, take, drop}
 use Rattle.nb_defs.specs.Records.{Start}
 use Rattle.nb_image.specs.Images.{ImageList}
 use Rattle.nb_stack.specs.Client.{Client}
 use Rattle.nb_settings.specs.Tables.{TableLists}
 use Rattle.nb_engine.specs.StartTable.{start_table}
-use Rattle.nb_engine.specs.World.{net_of, no_images}
+use Rattle.nb_engine.specs.Link.{link_by}
+use Rattle.nb_engine.specs.World.{is_up, net_of, no_images}
 use Rattle.nb_machine.specs.Lives.{Live}
 
 -- The time in milliseconds; the devices, net0 first, each as the client that stands on it (ports aren't kept: an open
--- has its own); the settings; the images; how many opens were made; and the opens that live, by rising number. `w` is
+-- has its own); whether net0 is up; the settings; the images; how many opens were made; and the opens that live, by rising number. `w` is
 -- START's, from which own ports are counted.
 pub record State : Type 0 where
   pub w : ℕ
   pub now : ℕ
   pub devices : List Client
+  pub up : Bool
   pub table : TableLists
   pub images : ImageList
   pub opens : ℕ
@@ -25,7 +27,7 @@ abbrev pub net0 : ℕ
 net0 = 0
 
 abbrev pub state_at_start : Start → State
-state_at_start s = record { w = s.w; now = 0; devices = net_of s ∷ []; table = start_table s; images = no_images; opens = 0; live = [] }
+state_at_start s = record { w = s.w; now = 0; devices = net_of s ∷ []; up = is_up s; table = start_table s; images = no_images; opens = 0; live = [] }
 
 abbrev pub with_device : State → ℕ → Client → State
 with_device s device link = record s { devices = take device s.devices ++ link ∷ drop (device + 1) s.devices }
@@ -36,8 +38,14 @@ with_live s live = record s { live = live }
 abbrev pub with_images : State → ImageList → State
 with_images s images = record s { images = images }
 
-abbrev pub with_table : State → TableLists → State
-with_table s table = record s { table = table }
+-- net0's client with the address that the settings give it, up or down
+abbrev pub following : TableLists → Bool → List Client → List Client
+following table up [] = []
+following table up (link ∷ others) = link_by table up link ∷ others
+
+-- with other settings, and net0 up or down, which its client follows
+abbrev pub with_settings : State → TableLists → Bool → State
+with_settings s table up = record s { devices = following table up s.devices; up = up; table = table }
 
 abbrev pub later_by : State → ℕ → State
 later_by s ms = record s { now = s.now + ms }

@@ -1,6 +1,6 @@
 use Rattle.std.proofs.Common.{◌≡◌, ◌&&◌, ◌==◌, true, false, inl, inr, refl, sym, ◌∙◌, ap, eq-eqb}
 use Rattle.nb_terms.specs.declared.cause.Cause.{Cause}
-use Rattle.nb_engine.specs.Effects.{says}
+use Rattle.nb_engine.specs.Effects.{says, plan_table}
 use Rattle.nb_engine.specs.World.{state_of}
 use Rattle.nb_engine.proofs.CommandLaws.{carried_ok, carried_err}
 use Rattle.nb_engine.proofs.command.carry_out.Goals as goal
@@ -11,8 +11,8 @@ deed_of-requires c = (carried_ok c.args.plan.now c.in-Ok.outcome c.args.state.no
 pub returns-in-Ok-clause-value : goal.returns-in-Ok-clause-value
 returns-in-Ok-clause-value c = λ opens. (carried_ok c.args.plan.now c.in-Ok.outcome c.args.state.now c.apply.new.s c.requires c.in-Ok.ensures.value).comes_to opens ∙ sym c.deed_of.ensures.value
 
-pub returns-in-Ok-clause-table : goal.returns-in-Ok-clause-table
-returns-in-Ok-clause-table c = (carried_ok c.args.plan.now c.in-Ok.outcome c.args.state.now c.apply.new.s c.requires c.in-Ok.ensures.value).state_is
+pub returns-in-Ok-clause-after : goal.returns-in-Ok-clause-after
+returns-in-Ok-clause-after c = (carried_ok c.args.plan.now c.in-Ok.outcome c.args.state.now c.apply.new.s c.requires c.in-Ok.ensures.value).state_is
 
 -- two causes that are the same are found so
 found_same : (x y : Cause) → x ≡ y → ((x.code == y.code) && ((x.a == y.a) && (x.b == y.b))) ≡ true
@@ -25,9 +25,12 @@ returns-in-Err-2-clause-value c = λ opens.
       | inr e ↦ (carried_err c.args.plan.now c.args.state.now c.in-Err.cause c.requires e).comes_to opens ∙ ap says (sym c.with.ensures)
     ]
 
-pub returns-in-Err-2-clause-table : goal.returns-in-Err-2-clause-table
-returns-in-Err-2-clause-table c =
+pub returns-in-Err-2-clause-after : goal.returns-in-Err-2-clause-after
+returns-in-Err-2-clause-after c =
     elim c.in-Err.ensures.cause [
       | inl e ↦ absurd (let no : true ≡ false = sym (c.eq.ensures ∙ found_same c.in-Err.cause c.cause.result (e ∙ sym c.cause.ensures)) ∙ c.if-eq.false in cc)
-      | inr e ↦ c.in-Err.ensures.refused ∙ ap (λ table. state_of table c.args.state.now.images) (sym (carried_err c.args.plan.now c.args.state.now c.in-Err.cause c.requires e).table_stays)
+      | inr e ↦
+          let old = c.args.state.now in
+          let stays = carried_err c.args.plan.now old c.in-Err.cause c.requires e in
+          c.in-Err.ensures.refused ∙ (ap (λ table. state_of table old.images old.up) (sym stays.table_stays) ∙ ap (λ up. state_of (plan_table c.args.plan.now old.table) old.images up) (sym stays.up_stays))
     ]

@@ -1,8 +1,9 @@
-use Rattle.std.proofs.Common.{[], ◌∷◌, subst}
+use Rattle.std.proofs.Common.{[], ◌∷◌, sym, subst}
 use Rattle.nb_defs.specs.Records.{out_texts, leave}
 use Rattle.nb_record.specs.Logged.{Puts}
 use Rattle.nb_engine.specs.Running.{Running}
-use Rattle.nb_engine.specs.Seen.{seen}
+use Rattle.nb_engine.specs.World.{IsLinked}
+use Rattle.nb_engine.specs.Seen.{Seen, seen}
 use Rattle.nb_engine.specs.declared.stage.Stage.TheVariants as stage
 use Rattle.nb_engine.proofs.Moves.{pass_grows, left_grows, yield_grows}
 use Rattle.nb_engine.proofs.TurnLemmas.{turn_acts}
@@ -38,4 +39,4 @@ refuse-requires-clause-words c =
 pub refuse-requires-clause-refused : goal.refuse-requires-clause-refused
 refuse-requires-clause-refused c =
     let is_refused = rw c.in-Ok-Refused.field-0-is at c.in-Ok-Refused.ensures in
-    rw (c.as_slice-in-Ok-Refused.ensures, is_refused.0, ← c.self.view_is) (ends_unexpanded c.args.script c.self.inside.world c.in-Ok-Refused.list c.in-Ok-Refused.cause is_refused.1)
+    rw (c.as_slice-in-Ok-Refused.ensures, is_refused.0, ← c.self.view_is) (ends_unexpanded c.args.script c.self.inside.world c.in-Ok-Refused.list c.in-Ok-Refused.cause (subst (λ (x : Seen). IsLinked x.world) (sym c.self.view_is) c.requires.sound.linked) is_refused.1)

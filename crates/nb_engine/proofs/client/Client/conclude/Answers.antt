@@ -20,6 +20,7 @@ invariant_of-self c =
       objects = tt;
       well = rw c.of.ensures (begins_at c.self.inside.world.state.images c.in-Boots.kernel place sound.short);
       short = sound.short;
+      linked = sound.linked;
     }
 
 pub returns-in-Keeps : goal.returns-in-Keeps

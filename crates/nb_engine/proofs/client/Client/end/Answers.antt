@@ -46,15 +46,15 @@ returns-in-Ok-conclude c = λ ns is.
     let puts : Puts c.args.log.now new.log (out_texts (step n ∷ (told_records w.net (speaker_of g) all ++ (last ++ conclusion_records comes)))) =
     Puts-outs (step n ∷ []) (told_records w.net (speaker_of g) all ++ (last ++ conclusion_records comes)) c.put_step.ensures both in
     let net_is : c.unbind.new.self ≡ (unbound w g.own_port).net = c.unbind.ensures in
-    let v : World = record { w = w.w; time = w.time; net = c.unbind.new.self; opens = w.opens; state = state_of w.state.table c.conclude.new.images } in
+    let v : World = record { w = w.w; time = w.time; net = c.unbind.new.self; opens = w.opens; state = state_of w.state.table c.conclude.new.images w.state.up } in
     let stands : StandsFor new.self (at n (phase_after (unbound w g.own_port) s comes)) =
     subst (λ p. StandsFor new.self (at n p))
     (ap (λ x. phase_after v s x) (sym same)
-    ∙ same_phase v (unbound w g.own_port) s comes (λ list. ap (λ (x : Client). record { w = w.w; time = w.time; net = x; opens = w.opens; state = state_of w.state.table list }) net_is)
+    ∙ same_phase v (unbound w g.own_port) s comes (λ list. ap (λ (x : Client). record { w = w.w; time = w.time; net = x; opens = w.opens; state = state_of w.state.table list w.state.up }) net_is)
     (subst (λ k. IfFails k (v ≡ unbound w g.own_port)) (sym same)
     (fails_keeps c.in-Ok-conclude.conclusion w.state.images c.conclude.new.images v (unbound w g.own_port) kept.kept
-    (λ kept. ap (λ (x : ImageList). record { w = w.w; time = w.time; net = c.unbind.new.self; opens = w.opens; state = state_of w.state.table x }) kept
-    ∙ ap (λ (x : Client). record { w = w.w; time = w.time; net = x; opens = w.opens; state = state_of w.state.table w.state.images }) net_is))))
+    (λ kept. ap (λ (x : ImageList). record { w = w.w; time = w.time; net = c.unbind.new.self; opens = w.opens; state = state_of w.state.table x w.state.up }) kept
+    ∙ ap (λ (x : Client). record { w = w.w; time = w.time; net = x; opens = w.opens; state = state_of w.state.table w.state.images w.state.up }) net_is))))
     concludes.stands in
     let at_g : EndsOpen c.conclude-in-Ok-conclude.result ns cause s g (seen n w h (stage.Waiting s g)) new.self c.args.log.now new.log =
     ends_of c.conclude-in-Ok-conclude.result c.args.log.now new.log ns cause s g (seen n w h (stage.Waiting s g)) new.self (record {

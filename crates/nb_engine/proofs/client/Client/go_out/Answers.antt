@@ -13,7 +13,8 @@ use Rattle.nb_engine.specs.Running.{entered}
 use Rattle.nb_engine.specs.Seen.{Seen, seen}
 use Rattle.nb_engine.specs.Tellings.{datagram_of}
 use Rattle.nb_engine.specs.Turns.{Grows}
-use Rattle.nb_engine.specs.World.{host, own_port, with_open}
+use Rattle.nb_engine.specs.Link.{host}
+use Rattle.nb_engine.specs.World.{own_port, with_open}
 use Rattle.nb_engine.proofs.Asking.{next_fetch, asks_grows, turned_acts, turned_nearer}
 use Rattle.nb_engine.proofs.client.Client.go_out.Goals as goal
 

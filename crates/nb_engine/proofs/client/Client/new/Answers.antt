@@ -13,4 +13,5 @@ invariant_of-result c =
       objects = (record { made_are = refl; dead = λ x. refl; none = refl; room = lit≤ tt }, refl);
       well = tt;
       short = tt;
+      linked = record { address = refl; up = refl };
     })

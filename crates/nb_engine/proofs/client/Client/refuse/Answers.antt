@@ -1,8 +1,7 @@
-use Rattle.std.proofs.Common.{refl, sym, subst}
+use Rattle.std.proofs.Common.{refl, subst}
 use Rattle.nb_defs.specs.Commands.{CommandOutcome, refused}
 use Rattle.nb_engine.specs.Effects.{shown_as}
 use Rattle.nb_engine.specs.Steps.{Does}
-use Rattle.nb_engine.proofs.CommandLaws.{world_stays}
 use Rattle.nb_engine.proofs.Moves.{settled_acts, settled_nearer}
 use Rattle.nb_engine.proofs.client.Client.refuse.Goals as goal
 
@@ -12,8 +11,8 @@ returns-clause-does c =
     let shown = shown_as c.args.expanded c.args.words.now in
     let did : Does shown (refused c.args.cause) c.finish-left.result c.args.script c.finish-left.new.self c.args.log.now c.finish-left.new.log =
     subst (λ (o : CommandOutcome). Does shown o c.finish-left.result c.args.script c.finish-left.new.self c.args.log.now c.finish-left.new.log) c.with.ensures c.finish-left.ensures in
-    settled_acts c.finish-left.result c.settle.result c.args.log.now c.finish-left.new.log now.used now.world now.graph c.args.script c.finish-left.new.self shown (refused c.args.cause) now.world.state.table now c.settle.new.self
-    c.requires.refused c.requires.words.early did refl (sym (world_stays now.world now.world.state.table refl)) refl c.settle.ensures
+    settled_acts c.finish-left.result c.settle.result c.args.log.now c.finish-left.new.log now.used now.world now.graph c.args.script c.finish-left.new.self shown (refused c.args.cause) now.world now c.settle.new.self
+    c.requires.refused c.requires.words.early did refl refl refl c.settle.ensures
 
 pub returns-clause-nearer : goal.returns-clause-nearer
 returns-clause-nearer c =
