@@ -3,3 +3,7 @@ pub mod CarriedLemmas
 pub mod TftpLemmas
 pub mod FetchLemmas
 pub mod ObjLemmas
+pub mod ExchangeLemmas
+pub mod GivingLemmas
+pub mod EchoExchangeLemmas
+pub mod ReadBackLemmas

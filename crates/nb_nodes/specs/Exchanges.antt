@@ -1,18 +1,20 @@
 -- What an object has done over its trace that asks and is answered, in terms of its core's history: our own.
-use Rattle.std.specs.Prelude.{◌≡◌, ℕ, ◌==◌, ◌&&◌, Bool, true, false, not, List, [], ◌∷◌, ◌++◌, nat_lt, Option, Some, None, if◌then◌else◌}
+use Rattle.std.specs.Prelude.{◌≡◌, ℕ, ◌==◌, ◌&&◌, Bool, true, false, not, List, [], ◌∷◌, ◌++◌, nat_lt, map, Option, Some, None, if◌then◌else◌}
 use Rattle.std.specs.Option.{is_some}
 use Rattle.std.specs.List.{AllByRecursion}
 use Rattle.nb_terms.specs.declared.acts.Acts.{Acts}
 use Rattle.nb_terms.specs.declared.cause.Cause.{Cause}
 use Rattle.nb_graph.specs.declared.effects.Emit.{Emit}
 use Rattle.nb_graph.specs.declared.effects.Fx.{Fx}
-use Rattle.nb_graph.specs.Trace.{Said, NodeEntry, up, down, closed, time, regain, silence}
+use Rattle.nb_graph.specs.Trace.{Said, NodeEntry, up, down, closed, time, regain, silence, in_list}
+use Rattle.nb_graph.specs.Deeds.{said_of}
 use Rattle.nb_nodes.specs.declared.load.Load.{Load}
 use Rattle.nb_nodes.specs.declared.obj.Obj.{Obj}
 use Rattle.nb_nodes.specs.declared.stage.Stage.{Stage}
 use Rattle.nb_nodes.specs.declared.stage.Stage.TheVariants.{Waiting, Running, Over}
 use Rattle.nb_nodes.specs.declared.tag.Tag.TheVariants.{Begin}
 use Rattle.nb_nodes.specs.Tags.{tag_number}
+use Rattle.nb_nodes.specs.Objects.{obj_nature}
 use Rattle.nb_nodes.specs.Carried.{said_all, emits, downs_of, end_closes, LeavesByOne}
 use Rattle.nb_nodes.specs.Conversations.{TakesWhole, AsksOfIdle, PassesClose}
 
@@ -90,6 +92,10 @@ ends_exchange v (regain load) = false
 abbrev pub LeavesByZero : Emit Load → Type 0
 LeavesByZero e = e.slot ≡ 0
 
+-- what goes up by this, if it is anything
+abbrev pub said_up : Said → Option (Emit Load) → List Said
+said_up m given = map (said_of obj_nature m) (in_list given)
+
 -- The effects of an entry with the message m are what a core's call asks for: downs by slot 1, and at its end the closes
 -- of slots 0 and 1 with its cause; and this goes up by slot 0.
 pub record AsksAndGives (m : Said) (acts : Acts) (given : List Said) (fx : Fx Obj Load) : Type 0 where
@@ -135,10 +141,10 @@ stage_is_over Over = true
 
 -- what the core itself is meanwhile
 pub data IsAt {S B C : Type 0} (s : Service S B C) : Stage S → Exchange B C → Type 0 where
-  waits : IsAt s Waiting not_begun
-  runs : (b : B) (start : ℕ) (calls : List C) (core : S) → s.stands b start core calls → s.has_ended calls ≡ false → IsAt s (Running core) (asking b start calls)
-  stays : (b : B) (start : ℕ) (calls : List C) → s.meets b start calls → IsAt s Over (finished b start calls)
-  never : IsAt s Over called_off
+  before_it : IsAt s Waiting not_begun
+  during_it : (b : B) (start : ℕ) (calls : List C) (core : S) → s.stands b start core calls → s.has_ended calls ≡ false → IsAt s (Running core) (asking b start calls)
+  after_it : (b : B) (start : ℕ) (calls : List C) → s.meets b start calls → IsAt s Over (finished b start calls)
+  without_it : IsAt s Over called_off
 
 -- An object at this stage stands for a trace whose entries lead from the beginning to where its core is.
 pub record StandsBy {S B C : Type 0} (s : Service S B C) (stage : Stage S) (t : List (NodeEntry Obj Load)) : Type 0 where

@@ -4,4 +4,6 @@ pub mod Objects
 pub mod Carried
 pub mod Conversations
 pub mod Fetches
+pub mod Exchanges
+pub mod EchoExchanges
 pub mod Standing

@@ -10,6 +10,9 @@ mod carrying;
 mod fetch;
 mod load;
 mod obj;
+mod ping;
+mod ping_ask;
+mod stage;
 mod tag;
 #[cfg(test)]
 mod tests;
@@ -19,5 +22,7 @@ pub use ask::{Ask, MAX_PATH};
 pub use fetch::Fetch;
 pub use load::Load;
 pub use obj::Obj;
+pub use ping::Ping;
+pub use ping_ask::PingAsk;
 pub use tag::{Tag, UnknownTag};
 pub use tftp::Tftp;
