@@ -6,4 +6,5 @@ pub mod ObjLemmas
 pub mod ExchangeLemmas
 pub mod GivingLemmas
 pub mod EchoExchangeLemmas
+pub mod LookupExchangeLemmas
 pub mod ReadBackLemmas

@@ -6,4 +6,5 @@ pub mod Conversations
 pub mod Fetches
 pub mod Exchanges
 pub mod EchoExchanges
+pub mod LookupExchanges
 pub mod Standing

@@ -1,7 +1,7 @@
 // What a transfer's call asks for, as the effects of an entry.
 ghost use Rattle.std.specs.Prelude.{◌≡◌, ◌+◌, ◌≤◌, ℕ, [], ◌∷◌, length, min, None, Some, is_some, false};
 ghost use Rattle.nb_tftp.specs.Sound.{IsRange};
-ghost use Rattle.std.specs.Prelude.{◌++◌, IfOk, IfSome, IfNone, true};
+ghost use Rattle.std.specs.Prelude.{◌++◌, ◌&&◌, ◌==◌, IfOk, IfSome, IfNone, true};
 ghost use Rattle.nb_graph.specs.Trace.{Said, said};
 ghost use Rattle.nb_graph.specs.Effects.{IsUp};
 ghost use Rattle.nb_nodes.specs.Conversations.{is_datagram};
@@ -245,5 +245,15 @@ pub(crate) fn source_port(slot: u8, msg: &Msg<'_>) -> Option<u16>
         u16::try_from(msg.a).ok()
     } else {
         None
+    }
+}
+
+/// Whether a message from below is a datagram from this port.
+pub(crate) fn comes_from(port: u16, slot: u8, msg: &Msg<'_>) -> bool
+    ensures { result ≡ (is_datagram slot (said msg.now) && (msg.now.a == port)) }
+{
+    match source_port(slot, msg) {
+        Some(source) => source == port,
+        None => false,
     }
 }
