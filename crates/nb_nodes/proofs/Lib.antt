@@ -7,4 +7,5 @@ pub mod ExchangeLemmas
 pub mod GivingLemmas
 pub mod EchoExchangeLemmas
 pub mod LookupExchangeLemmas
+pub mod LeaseExchangeLemmas
 pub mod ReadBackLemmas

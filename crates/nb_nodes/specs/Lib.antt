@@ -7,4 +7,5 @@ pub mod Fetches
 pub mod Exchanges
 pub mod EchoExchanges
 pub mod LookupExchanges
+pub mod LeaseExchanges
 pub mod Standing

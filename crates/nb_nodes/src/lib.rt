@@ -7,7 +7,9 @@
 
 mod ask;
 mod carrying;
+mod dhcp;
 mod fetch;
+mod lease_ask;
 mod load;
 mod lookup_ask;
 mod obj;
@@ -21,7 +23,9 @@ mod tests;
 mod tftp;
 
 pub use ask::{Ask, MAX_PATH};
+pub use dhcp::Dhcp;
 pub use fetch::Fetch;
+pub use lease_ask::LeaseAsk;
 pub use load::Load;
 pub use lookup_ask::LookupAsk;
 pub use obj::Obj;
