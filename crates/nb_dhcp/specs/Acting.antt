@@ -1,5 +1,6 @@
 -- What a core asks of its caller
-use Rattle.std.specs.Prelude.{ℕ, ◌==◌, false, List, [], ◌∷◌, Option, Some, None, if◌then◌else◌}
+use Rattle.std.specs.Prelude.{◌≡◌, ◌≤◌, ℕ, ◌==◌, false, List, [], ◌∷◌, length, Option, Some, None, if◌then◌else◌}
+use Rattle.std.specs.List.{AllByRecursion}
 use Rattle.std.specs.Option.{option_map_or}
 use Rattle.nb_terms.specs.declared.acts.Acts.{Acts}
 use Rattle.nb_terms.specs.declared.acts.SendTo.{SendTo}
@@ -33,6 +34,12 @@ to_servers body = record { proto = 17; to = record { 0 = 4294967295 }; to_port =
 
 abbrev pub no_acts : Acts
 no_acts = record { sends = record { items = [] }; tried = None; advance = None; give = None; ready = false; over = None }
+
+-- a call asks for at most one message, by UDP (protocol 17), and gives no bytes up
+pub record AsksSimply (acts : Acts) : Type 0 where
+  pub few : length acts.sends.items ≤ 1
+  pub udp : AllByRecursion (λ send. send.proto ≡ 17) acts.sends.items
+  pub gives : acts.give ≡ None
 
 -- a DISCOVER or a REQUEST is sent, as this try
 abbrev pub lease_asking : Asker → Option Offer → ℕ → Acts

@@ -21,10 +21,10 @@ impl Model for Dhcp {
 }
 
 impl Dhcp {
-    ghost use Rattle.std.specs.Prelude.{◌≡◌, ◌≤◌, ◌∷◌, ◌++◌, [], ℕ, List, length, None, true, false};
+    ghost use Rattle.std.specs.Prelude.{◌≡◌, ◌≤◌, ◌∷◌, ◌++◌, [], ℕ, List, length, None, Some, true, false};
     ghost use Rattle.std.specs.Option.{option_copied};
     ghost use Rattle.nb_dhcp.specs.declared.asker.Asker.{Asker};
-    ghost use Rattle.nb_dhcp.specs.Acting.{no_acts, lease_asking};
+    ghost use Rattle.nb_dhcp.specs.Acting.{no_acts, lease_asking, AsksSimply};
     ghost use Rattle.nb_dhcp.specs.History.{LeaseEntry, lease_entry, replied, elapsed, handed_body, all_handed, acknowledgement_in, is_done};
     ghost use Rattle.nb_dhcp.specs.LeaseStands.{LeaseStands};
 
@@ -41,6 +41,7 @@ impl Dhcp {
         // The DISCOVER is sent, under a timer, and no call was made yet.
         ensures discover { acts.new ≡ lease_asking (record { mac = mac; uuid = uuid; arch = arch; xid = xid }) None 1 }
         ensures stands { LeaseStands (record { mac = mac; uuid = uuid; arch = arch; xid = xid }) now result [] }
+        ensures simple { AsksSimply acts.new }
     {
         let asker = Asker {
             mac,
@@ -61,6 +62,10 @@ impl Dhcp {
         // With this call and what it asks, the core stands for one call more. `LeaseStands` has what it
         // promises of all of them.
         ensures stands { (a : Asker) (start : ℕ) (h : List LeaseEntry) → LeaseStands a start self.old h → is_done h ≡ false → LeaseStands a start self.new (h ++ lease_entry (replied (handed_body rec body.now) now) acts.new ∷ []) }
+        // It asks for at most one message, by UDP, and gives no bytes up.
+        ensures simple { AsksSimply acts.new }
+        // An acknowledgement that comes by this call is the datagram's body.
+        ensures granted { (a : Asker) (start : ℕ) (h : List LeaseEntry) (bytes : List ℕ) → LeaseStands a start self.old h → is_done h ≡ false → acknowledgement_in a (all_handed (h ++ lease_entry (replied (handed_body rec body.now) now) acts.new ∷ [])) ≡ Some bytes → bytes ≡ body.now }
         // After its end it ignores every call.
         ensures ended { (a : Asker) (start : ℕ) (h : List LeaseEntry) → LeaseStands a start self.old h → is_done h ≡ true → LeaseStands a start self.new h × (acts.new ≡ no_acts) }
     {
@@ -71,6 +76,9 @@ impl Dhcp {
     /// It is this time, in milliseconds since the start of the run.
     pub fn time(&mut self, now: u64, acts: &mut Acts)
         ensures stands { (a : Asker) (start : ℕ) (h : List LeaseEntry) → LeaseStands a start self.old h → is_done h ≡ false → LeaseStands a start self.new (h ++ lease_entry (elapsed now) acts.new ∷ []) }
+        ensures simple { AsksSimply acts.new }
+        // None has come while it goes on.
+        ensures ungranted { (a : Asker) (start : ℕ) (h : List LeaseEntry) → LeaseStands a start self.old h → is_done h ≡ false → acknowledgement_in a (all_handed (h ++ lease_entry (elapsed now) acts.new ∷ [])) ≡ None }
         ensures ended { (a : Asker) (start : ℕ) (h : List LeaseEntry) → LeaseStands a start self.old h → is_done h ≡ true → LeaseStands a start self.new h × (acts.new ≡ no_acts) }
     {
         acts.clear();

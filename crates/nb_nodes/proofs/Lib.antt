@@ -3,3 +3,9 @@ pub mod CarriedLemmas
 pub mod TftpLemmas
 pub mod FetchLemmas
 pub mod ObjLemmas
+pub mod ExchangeLemmas
+pub mod GivingLemmas
+pub mod EchoExchangeLemmas
+pub mod LookupExchangeLemmas
+pub mod LeaseExchangeLemmas
+pub mod ReadBackLemmas

@@ -4,4 +4,8 @@ pub mod Objects
 pub mod Carried
 pub mod Conversations
 pub mod Fetches
+pub mod Exchanges
+pub mod EchoExchanges
+pub mod LookupExchanges
+pub mod LeaseExchanges
 pub mod Standing

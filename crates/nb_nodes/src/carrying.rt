@@ -1,15 +1,20 @@
 // What a transfer's call asks for, as the effects of an entry.
 ghost use Rattle.std.specs.Prelude.{◌≡◌, ◌+◌, ◌≤◌, ℕ, [], ◌∷◌, length, min, None, Some, is_some, false};
 ghost use Rattle.nb_tftp.specs.Sound.{IsRange};
-ghost use Rattle.nb_graph.specs.Trace.{Said};
+ghost use Rattle.std.specs.Prelude.{◌++◌, ◌&&◌, ◌==◌, IfOk, IfSome, IfNone, true};
+ghost use Rattle.nb_graph.specs.Trace.{Said, said};
+ghost use Rattle.nb_graph.specs.Effects.{IsUp};
+ghost use Rattle.nb_nodes.specs.Conversations.{is_datagram};
+ghost use Rattle.nb_nodes.specs.Exchanges.{AsksAndGives, LeavesByZero, said_up};
 ghost use Rattle.nb_nodes.specs.Carried.{up_emit, both_closes, end_closes, first_port};
 ghost use Rattle.nb_nodes.specs.Carried.{advance_emit, datagram_emit, EffectsOf, AsksNone, AsksDown};
 ghost use Rattle.nb_nodes.specs.Carried.{AsksWithin};
 
-use crate::tag::Tag;
+use crate::tag::{Tag, is_tag};
 use crate::{Load, Obj};
 use nb_graph::{Emit, Fx, Msg};
-use nb_terms::{Acts, Cause, SendTo};
+use nb_terms::{Acts, Cause, NoMemory, SendTo};
+use std::alloc::Global;
 
 /// The slot that faces the user above.
 pub(crate) const ABOVE: u8 = 0;
@@ -189,4 +194,66 @@ pub(crate) fn ask(acts: Box<Acts>, fx: &mut Effects) -> Option<Box<Acts>>
     ask_up(give, fx);
     close_at(over, fx);
     kept
+}
+
+/// Asks for what a core's call asks for, and gives this up.
+pub(crate) fn ask_giving(
+    acts: Box<Acts>,
+    given: Option<Emit<Load>>,
+    fx: &mut Effects,
+) -> Option<Box<Acts>>
+    requires blank { AsksNone fx.old }
+    requires few { length acts.value.sends.items ≤ 1 }
+    requires none { acts.value.give ≡ None }
+    requires above { IfSome given LeavesByZero }
+    ensures effects { (m : Said) → AsksAndGives m acts.value (said_up m given) fx.new }
+    ensures within { (len : ℕ) → IfSome given (IsUp len) → AsksWithin len fx.new }
+    ensures ups { fx.new.ups ≡ record { first = given; second = None } }
+    ensures took { fx.new.took ≡ fx.old.took }
+{
+    let kept = ask(acts, fx);
+    give(given, fx);
+    kept
+}
+
+/// Gives this up.
+fn give(given: Option<Emit<Load>>, fx: &mut Effects)
+    requires { fx.old.ups.first ≡ None }
+    ensures { fx.new ≡ record fx.old { ups = record fx.old.ups { first = given } } }
+{
+    if let Some(emit) = given {
+        fx.ups.first.put(emit);
+    }
+}
+
+/// The bytes of a message in one piece.
+pub(crate) fn joined(alloc: Global, msg: &Msg<'_>) -> Result<Vec<u8>, NoMemory>
+    ensures { IfOk result (λ v. v.items ≡ msg.now.first.now ++ msg.now.second.now) }
+{
+    let mut bytes = Vec::from_slice(alloc, msg.first)?;
+    bytes.extend_from_slice(msg.second)?;
+    Ok(bytes)
+}
+
+/// The port that a message from below comes from, where it is a datagram.
+#[inline(always)]
+pub(crate) fn source_port(slot: u8, msg: &Msg<'_>) -> Option<u16>
+    ensures some { IfSome result (λ port. (is_datagram slot (said msg.now) ≡ true) × (port ≡ msg.now.a)) }
+    ensures none { IfNone result (is_datagram slot (said msg.now) ≡ false) }
+{
+    if slot == BELOW && is_tag(msg.tag, Tag::Datagram) {
+        u16::try_from(msg.a).ok()
+    } else {
+        None
+    }
+}
+
+/// Whether a message from below is a datagram from this port.
+pub(crate) fn comes_from(port: u16, slot: u8, msg: &Msg<'_>) -> bool
+    ensures { result ≡ (is_datagram slot (said msg.now) && (msg.now.a == port)) }
+{
+    match source_port(slot, msg) {
+        Some(source) => source == port,
+        None => false,
+    }
 }

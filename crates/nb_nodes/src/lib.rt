@@ -7,17 +7,30 @@
 
 mod ask;
 mod carrying;
+mod dhcp;
 mod fetch;
+mod lease_ask;
 mod load;
+mod lookup_ask;
 mod obj;
+mod ping;
+mod ping_ask;
+mod resolver;
+mod stage;
 mod tag;
 #[cfg(test)]
 mod tests;
 mod tftp;
 
 pub use ask::{Ask, MAX_PATH};
+pub use dhcp::Dhcp;
 pub use fetch::Fetch;
+pub use lease_ask::LeaseAsk;
 pub use load::Load;
+pub use lookup_ask::LookupAsk;
 pub use obj::Obj;
+pub use ping::Ping;
+pub use ping_ask::PingAsk;
+pub use resolver::Resolver;
 pub use tag::{Tag, UnknownTag};
 pub use tftp::Tftp;

@@ -4,17 +4,19 @@ ghost use Rattle.nb_nodes.specs.Tags.{tag_number, IsTagOf};
 /// What a message of an open's objects is. Its number is the message's tag.
 #[derive(Clone, Copy, Debug, PartialEq, Eq)]
 pub enum Tag {
-    /// Down: the open begins. The bytes are an `Ask`.
+    /// Down: the open begins. The bytes are an `Ask`, or the like of another kind.
     Begin,
-    /// A datagram's body. From below `a` is the port that it came from. Down it is one that no timer
-    /// covers, and `b` is the port that it goes to.
+    /// A datagram's body. From below `a` is the port that it came from, of an echo reply its identifier, and
+    /// `b` the address. Down it is one that no timer covers, and `b` is the port that it goes to.
     Datagram,
     /// Down: a datagram's body that is sent as try `a`, to the port `b`.
     Try,
     /// Down: the place has grown to `a`. There are no bytes.
     Advance,
-    /// Up: bytes of the file.
+    /// Up: bytes of the file, or of what was asked for.
     Bytes,
+    /// Up: the address that a name has is `a`. There are no bytes.
+    Address,
 }
 
 /// A number that is no message's tag.
@@ -31,6 +33,7 @@ impl From<Tag> for u8 {
             Tag::Try => 3,
             Tag::Advance => 4,
             Tag::Bytes => 5,
+            Tag::Address => 6,
         }
     }
 }
@@ -47,6 +50,7 @@ impl TryFrom<u8> for Tag {
             3 => Ok(Tag::Try),
             4 => Ok(Tag::Advance),
             5 => Ok(Tag::Bytes),
+            6 => Ok(Tag::Address),
             _ => Err(UnknownTag(number)),
         }
     }

@@ -270,12 +270,12 @@ fn asks_again_and_gives_up(rt: HostRuntime) -> Result<(), Fail> {
 
 #[test]
 fn tags_are_numbers(rt: HostRuntime) -> Result<(), Fail> {
-    for number in 1..6_u8 {
+    for number in 1..7_u8 {
         let tag = Tag::try_from(number).ok().ok_or("no tag")?;
         assert_eq!(rt; u8::from(tag), number);
     }
     assert!(rt; Tag::try_from(0).is_err());
-    assert!(rt; Tag::try_from(6).is_err());
+    assert!(rt; Tag::try_from(7).is_err());
     assert!(rt; size_of::<Obj>() <= 64, "an object is moved by value");
     Ok(())
 }

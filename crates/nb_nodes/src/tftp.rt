@@ -6,7 +6,7 @@ ghost use Rattle.nb_nodes.specs.declared.tftp.Work.TheVariants as work;
 ghost use Rattle.nb_nodes.specs.Carried.{AsksNone, AsksWithin, EffectsOf};
 ghost use Rattle.nb_nodes.specs.Conversations.{TftpStands, is_datagram, ContinuesAs, is_waiting, talk_is_done};
 
-use crate::carrying::{BELOW, Effects, ask, ask_on, length_of};
+use crate::carrying::{BELOW, Effects, ask, ask_on, joined, length_of, source_port};
 use crate::tag::{Tag, is_tag};
 use crate::{Ask, Load};
 use nb_graph::Msg;
@@ -38,28 +38,6 @@ pub struct Tftp {
     pub(crate) work: Work,
     /// What the transfer fills at each call. None while its datagram is lent.
     acts: Option<Box<Acts>>,
-}
-
-/// The bytes of a message in one piece.
-fn joined(alloc: Global, msg: &Msg<'_>) -> Result<Vec<u8>, NoMemory>
-    ensures { IfOk result (λ v. v.items ≡ msg.now.first.now ++ msg.now.second.now) }
-{
-    let mut bytes = Vec::from_slice(alloc, msg.first)?;
-    bytes.extend_from_slice(msg.second)?;
-    Ok(bytes)
-}
-
-/// The port that a message from below comes from, where it is a datagram of the transfer.
-#[inline(always)]
-fn source_port(slot: u8, msg: &Msg<'_>) -> Option<u16>
-    ensures some { IfSome result (λ port. (is_datagram slot (said msg.now) ≡ true) × (port ≡ msg.now.a)) }
-    ensures none { IfNone result (is_datagram slot (said msg.now) ≡ false) }
-{
-    if slot == BELOW && is_tag(msg.tag, Tag::Datagram) {
-        u16::try_from(msg.a).ok()
-    } else {
-        None
-    }
 }
 
 impl Tftp {

@@ -1,0 +1,4 @@
+pub mod PingCallsLemmas
+pub mod PingStandsLemmas
+pub mod PingLaws
+pub mod PingSimpleLemmas
