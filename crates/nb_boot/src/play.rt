@@ -37,6 +37,7 @@ fn end_of(status: Status) -> StepEnd
 }
 
 /// Goes on until the step is over, and writes output whenever the log is nearly full.
+#[inline(never)]
 fn go_on<L: Line>(client: &mut Client, log: &mut Log, line: &mut L) -> StepEnd
     requires { IsBusy client.old.stage }
     ensures { StepsTo result [] (L.outside line.old) (L.outside line.new) log.old log.new client.old client.new }
@@ -56,6 +57,7 @@ fn go_on<L: Line>(client: &mut Client, log: &mut Log, line: &mut L) -> StepEnd
 }
 
 /// Uses a record, and goes on until its step is over.
+#[inline(always)]
 fn take<L: Line>(client: &mut Client, entry: &InRec<'_>, log: &mut Log, line: &mut L) -> StepEnd
     requires valid { IsIn (in_of entry.now) }
     requires fits { MayUse (in_of entry.now) client.old.stage }
@@ -76,6 +78,7 @@ fn take<L: Line>(client: &mut Client, entry: &InRec<'_>, log: &mut Log, line: &m
 
 /// Ends a run: puts the end of an open that is left, and DONE, and writes the rest of the output. Where memory runs out
 /// neither is put.
+#[inline(never)]
 pub fn finish<L: Line>(client: &mut Client, status: Status, log: &mut Log, line: &mut L) -> Status
     requires { IsClosing status }
     ensures { (ins : List In) (rest : List ℕ) (first : Outside) (m : Machine) (p : GraphAt) → StandsFor client.old m → FitsGraph client.old p
@@ -93,6 +96,7 @@ pub fn finish<L: Line>(client: &mut Client, status: Status, log: &mut Log, line:
 }
 
 /// Uses a record. Where the run is over with its step, it ends it, and says its status.
+#[inline(always)]
 pub fn use_record<L: Line>(
     client: &mut Client,
     entry: &InRec<'_>,

@@ -35,6 +35,7 @@ const UDP: u8 = 17;
 impl Client {
     /// Puts what a datagram or a time has brought the fetch, whose objects told the cause of a first close or
     /// none. Where that ended the open, puts what comes of its command.
+    #[inline(always)]
     pub(crate) fn heed(
         &mut self,
         script: RunningScript,
@@ -57,6 +58,7 @@ impl Client {
     }
 
     /// The open goes on.
+    #[inline(always)]
     fn go_on(
         &mut self,
         script: RunningScript,
@@ -84,6 +86,7 @@ impl Client {
     }
 
     /// The open ends with this cause.
+    #[inline(never)]
     fn end(
         &mut self,
         script: RunningScript,

@@ -127,6 +127,7 @@ fn datagram_of<'a>(server: Ip4, taken: Taken<'a>) -> Option<(u16, &'a [u8])>
 
 impl Client {
     /// Enters the first script; where the text is none, it is left at once. The record was counted.
+    #[inline(never)]
     pub(crate) fn start(&mut self, start: &Start<'_>, log: &mut Log) -> Turn
         requires valid { IsStart (start_of start.now) }
         requires sound { IsSound self.old.used self.old.world self.old.graph stage.Ready }
@@ -153,6 +154,7 @@ impl Client {
     }
 
     /// A frame arrives, while the script's command waits for this fetch.
+    #[inline(always)]
     pub(crate) fn frame(
         &mut self,
         mut script: RunningScript,
@@ -174,6 +176,7 @@ impl Client {
     }
 
     /// A frame arrives, while this desk is lent.
+    #[inline(always)]
     fn receive(
         &mut self,
         script: RunningScript,
@@ -195,6 +198,7 @@ impl Client {
     }
 
     /// A frame brings the open nothing.
+    #[inline(never)]
     fn pass_by(
         &mut self,
         script: RunningScript,
@@ -215,6 +219,7 @@ impl Client {
     }
 
     /// A datagram comes to the open, from this port of its server.
+    #[inline(always)]
     fn hear(
         &mut self,
         script: RunningScript,
@@ -246,6 +251,7 @@ impl Client {
     }
 
     /// So many milliseconds pass, while the script's command waits for this fetch.
+    #[inline(never)]
     pub(crate) fn tick(
         &mut self,
         mut script: RunningScript,
@@ -289,6 +295,7 @@ impl Client {
     }
 
     /// The power is switched off: the open of this fetch ends.
+    #[inline(never)]
     pub(crate) fn switch_off(&mut self, fetch: KeptFetch, log: &mut Log) -> Turn
         requires going { IsDownloading self.old.graph (fetch_of fetch.number) (tftp_of fetch.number) }
         ensures { (s : Running) → Uses result defs.off (standing self.old (stage.Waiting s fetch)) self.new log.old log.new }
@@ -320,6 +327,7 @@ impl Client {
     }
 
     /// A frame arrives, while a script goes on with its commands in this step.
+    #[inline(never)]
     pub(crate) fn frame_anew(&mut self, script: RunningScript, bytes: &[u8], log: &mut Log) -> Turn
         requires valid { IsFrameRecord bytes.now }
         requires sound { IsSound self.old.used self.old.world self.old.graph (stage.Yielded script) }
@@ -332,6 +340,7 @@ impl Client {
     }
 
     /// So many milliseconds pass, and a script goes on with its commands.
+    #[inline(never)]
     pub(crate) fn tick_anew(&mut self, script: RunningScript, ms: u16, log: &mut Log) -> Turn
         requires valid { IsTick ms }
         requires sound { IsSound self.old.used self.old.world self.old.graph (stage.Yielded script) }
@@ -345,6 +354,7 @@ impl Client {
     }
 
     /// The power is switched off, where a script was to go on.
+    #[inline(never)]
     pub(crate) fn off_anew(&mut self, log: &mut Log) -> Turn
         ensures { (s : Running) → Uses result defs.off (standing self.old (stage.Yielded s)) self.new log.old log.new }
     {
@@ -365,6 +375,7 @@ impl Client {
     }
 
     /// A frame arrives, while the script's command sleeps until this time.
+    #[inline(never)]
     pub(crate) fn frame_asleep(
         &mut self,
         script: RunningScript,
@@ -383,6 +394,7 @@ impl Client {
     }
 
     /// So many milliseconds pass, while the script's command sleeps until this time.
+    #[inline(never)]
     pub(crate) fn tick_asleep(
         &mut self,
         script: RunningScript,
@@ -431,6 +443,7 @@ impl Client {
     }
 
     /// The power is switched off, while the script's command sleeps.
+    #[inline(never)]
     pub(crate) fn off_asleep(&mut self, log: &mut Log) -> Turn
         ensures { (s : Running) (until : ℕ) → Uses result defs.off (standing self.old (stage.Sleeping s until)) self.new log.old log.new }
     {

@@ -20,18 +20,6 @@ const GRAPH: u8 = 0x8b;
 /// How many bytes the longest of these records has.
 pub(crate) const ROOM: usize = 33;
 
-/// Appends bytes for which there is room.
-#[inline(always)]
-fn append(out: &mut Out<'_>, bytes: &[u8])
-    requires room { length bytes.now ≤ out.old.left }
-    ensures appended { out.new.written ≡ out.old.written ++ bytes.now }
-    ensures room { out.new.left + length bytes.now ≡ out.old.left }
-{
-    if out.put(bytes).is_err() {
-        unreachable!();
-    }
-}
-
 /// Appends a STEP.
 #[tactic(auto, unfolding(nb_defs::specs::Records::out_text, nb_defs::specs::Records::record_text))]
 #[inline(always)]
@@ -39,8 +27,8 @@ pub(crate) fn append_step(number: u32, out: &mut Out<'_>)
     requires room { 33 ≤ out.old.left }
     ensures { out.new.written ≡ out.old.written ++ out_text (defs.step number) }
 {
-    append(out, &[0, 0, 0, 5, STEP]);
-    append(out, &number.to_be_bytes());
+    out.push(&[0, 0, 0, 5, STEP]);
+    out.push(&number.to_be_bytes());
 }
 
 /// Appends a TRY.
@@ -50,9 +38,9 @@ pub(crate) fn append_try(number: u16, n: u8, out: &mut Out<'_>)
     requires room { 33 ≤ out.old.left }
     ensures { out.new.written ≡ out.old.written ++ out_text (defs.tried number n) }
 {
-    append(out, &[0, 0, 0, 4, TRY]);
-    append(out, &number.to_be_bytes());
-    append(out, &[n]);
+    out.push(&[0, 0, 0, 4, TRY]);
+    out.push(&number.to_be_bytes());
+    out.push(&[n]);
 }
 
 /// Appends an ADVANCE.
@@ -62,9 +50,9 @@ pub(crate) fn append_advance(number: u16, place: u32, out: &mut Out<'_>)
     requires room { 33 ≤ out.old.left }
     ensures { out.new.written ≡ out.old.written ++ out_text (defs.advanced number place) }
 {
-    append(out, &[0, 0, 0, 7, ADVANCE]);
-    append(out, &number.to_be_bytes());
-    append(out, &place.to_be_bytes());
+    out.push(&[0, 0, 0, 7, ADVANCE]);
+    out.push(&number.to_be_bytes());
+    out.push(&place.to_be_bytes());
 }
 
 /// Appends a cause.
@@ -74,9 +62,9 @@ fn append_cause(cause: &Cause, out: &mut Out<'_>)
     requires room { 9 ≤ out.old.left }
     ensures appended { out.new.written ≡ out.old.written ++ cause_text cause.now }
 {
-    append(out, &[cause.code]);
-    append(out, &cause.a.to_be_bytes());
-    append(out, &cause.b.to_be_bytes());
+    out.push(&[cause.code]);
+    out.push(&cause.a.to_be_bytes());
+    out.push(&cause.b.to_be_bytes());
 }
 
 /// Appends one end of what an event tells: an object and its slot.
@@ -86,8 +74,8 @@ fn append_end(object: u64, slot: u8, out: &mut Out<'_>)
     ensures appended { out.new.written ≡ out.old.written ++ (to_be_bytes w64 object ++ (slot ∷ [])) }
     ensures room { out.new.left + 9 ≡ out.old.left }
 {
-    append(out, &object.to_be_bytes());
-    append(out, &[slot]);
+    out.push(&object.to_be_bytes());
+    out.push(&[slot]);
 }
 
 /// Appends a GRAPH.
@@ -97,7 +85,7 @@ pub(crate) fn append_graph(happens: &Event, out: &mut Out<'_>)
     requires room { 33 ≤ out.old.left }
     ensures { out.new.written ≡ out.old.written ++ out_text (defs.graph happens.now) }
 {
-    append(out, &[0, 0, 0, 29, GRAPH, happens.event]);
+    out.push(&[0, 0, 0, 29, GRAPH, happens.event]);
     append_end(happens.object, happens.slot, out);
     append_end(happens.other, happens.other_slot, out);
     append_cause(&happens.cause, out);
