@@ -36,6 +36,7 @@ impl Room {
 }
 
 impl Desk {
+    #[inline(never)]
     fn new(alloc: Global) -> Result<Desk, NoMemory> {
         Ok(Desk {
             made: Outlet::new(alloc)?,
@@ -48,6 +49,7 @@ impl Desk {
 }
 
 /// The desk that was kept, or a new one.
+#[inline(always)]
 pub fn lent(alloc: Global, kept: Option<Box<Desk>>) -> Result<Box<Desk>, NoMemory> {
     match kept {
         Some(desk) => Ok(desk),

@@ -64,6 +64,7 @@ pub fn begin(
 }
 
 /// A datagram comes from this port of the server to the open of this number, in the record `rec`.
+#[inline(always)]
 pub fn receive(
     graph: &mut Graph<Obj>,
     number: u16,

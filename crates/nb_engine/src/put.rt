@@ -20,6 +20,7 @@ use nb_uri::TFTP_PORT;
 const UDP: u8 = 17;
 
 /// Puts that the step of this record begins.
+#[inline(always)]
 pub fn put_step(number: u32, log: &mut Log)
     ensures { Puts log.old log.new (out_texts (step number ∷ [])) }
 {
