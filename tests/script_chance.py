@@ -17,6 +17,8 @@ COMMANDS = (
     b"exit 3", b"exit 00", b"exit 256", b"exit 0x1f", b"exit -0", b"goto a", b"goto b", b"goto none", b"goto",
     b"goto --a", b"goto -n", b"goto a b", b":a", b"#", b"#c",
 )  # fmt: skip
+DEVICES = (b"ifclose", b"ifclose net0", b"ifclose net1", b"ifopen net1", b"ifopen --x", b"ifclose a b")
+OPENS = (b"ifopen", b"ifopen net0", b"ifopen ${x}")
 FETCHES = (b"imgfetch", b"imgfetch " + FILE, b"imgfetch ${f}", b"imgfetch ${f:uristring}")
 OTHER_LINES = (b":a", b":b", b" :a\t", b":", b":a b", b":-n", b":a # c", b"", b"  ", b"# c", b" # x ; y",
                b":${x}", b"# ${x")  # fmt: skip
@@ -133,6 +135,8 @@ def random_command(chance: random.Random, fetches: bool) -> bytes:
         return random_word(chance)
     if kind < 0.93 and fetches:
         return chance.choice(FETCHES)
+    if kind < 0.95:
+        return chance.choice(DEVICES if fetches else DEVICES + OPENS)
     return chance.choice(COMMANDS)
 
 

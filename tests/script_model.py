@@ -1,6 +1,6 @@
 """A second reading of the rules of scripts (docs/SCRIPTS.md): what a run of one writes.
 
-Its fetches are of a client without an address, and the only frames that bring it anything are ARP requests.
+Its fetches are of a client whose device is down, and the only frames that bring it anything are ARP requests.
 """
 
 from __future__ import annotations
@@ -127,9 +127,8 @@ class Model:
         self.opens = 0
         self.target: int | None = None
         self.is_left = False
-        self.asked = Received(arp_request(made.SERVER, start.ip))
-        self.replied = Sent(arp_reply(Station(start.mac, start.ip), made.SERVER))
-        self.answers = start.ip != IPv4Address(0)
+        self.mac = start.mac
+        self.is_up = start.ip != IPv4Address(0)
         self.time = self.begun = 0
         self.step = 1
 
@@ -172,8 +171,21 @@ class Model:
             raise Over(Status.UNFINISHED)
         if isinstance(record, Tick):
             self.time += record.milliseconds
-        elif self.answers and record == self.asked:
-            self.records.append(self.replied)
+        else:
+            self.records += self.replies(record)
+
+    def replies(self, record: Record) -> list[Record]:
+        """What a frame is replied by: a request for the client's address by an ARP reply."""
+        client = Station(self.mac, self.address())
+        asks = record == Received(arp_request(made.SERVER, client.ip))
+        is_there = self.is_up and client.ip != IPv4Address(0)
+        return [Sent(arp_reply(client, made.SERVER))] if asks and is_there else []
+
+    def address(self) -> IPv4Address:
+        """The first four bytes of net0's `ip`, which is 0 where there are none."""
+        value = self.table.find(name_of(b"net0/ip"))
+        found = value.bytes[:4] if value else b""
+        return IPv4Address(found if len(found) == 4 else 0)
 
     def commands(self) -> Iterator[Ran]:
         """The commands that run, until the script is left."""
@@ -228,6 +240,7 @@ class Model:
             b"echo": self.echo, b"exit": self.exit, b"goto": self.goto, b"imgfetch": self.fetch,
             b"set": self.set, b"clear": self.clear, b"show": self.show, b"inc": self.inc,
             b"isset": self.isset, b"iseq": self.iseq, b"sleep": self.sleeps,
+            b"ifopen": self.ifopen, b"ifclose": self.ifclose,
         }  # fmt: skip
         if name not in commands:
             raise Refusal(UNKNOWN)
@@ -290,6 +303,18 @@ class Model:
     def sleeps(self, words: list[bytes]) -> None:
         fits(words, 1, 1)
         self.sleep = 1_000 * number_in(words[0], 0, MOST_SECONDS)
+
+    def ifopen(self, words: list[bytes]) -> None:
+        self.sets_device(words, True)
+
+    def ifclose(self, words: list[bytes]) -> None:
+        self.sets_device(words, False)
+
+    def sets_device(self, words: list[bytes], is_up: bool) -> None:
+        fits(words, 0, 1)
+        if words not in ([], [b"net0"]):
+            raise Refusal(Cause(Code.BAD_NAME))
+        self.is_up = is_up
 
     def fetch(self, words: list[bytes]) -> None:
         fits(words, 1, 1)

@@ -12,7 +12,8 @@ from shared.kinds import GraphEvent, ObjectKind, Way
 from shared.recordings import read_input
 from shared.records import Advance, Done, Ended, Graph, Record, Sent, Step
 from shared.wire import tftp_ack
-from tests import graph_records, made, test_replay, test_scripts, test_settings, test_sleep
+from tests import graph_records, made, test_device, test_replay, test_scripts, test_settings
+from tests import test_sleep
 from tests.graph_entries import entries_fault
 from tests.graph_run import NotLegal, Run, fault_of
 from tests.replays import can_run, replayed
@@ -122,12 +123,13 @@ def graph_of(records: list[Record]) -> list[Record]:
 
 def expected() -> dict[str, Row]:
     """All rows that are written by hand."""
-    return {**test_replay.ROWS, **test_scripts.ROWS, **test_sleep.ROWS}
+    return {**test_device.ROWS, **test_replay.ROWS, **test_scripts.ROWS, **test_sleep.ROWS}
 
 
 def all_inputs() -> dict[str, bytes]:
     """All recordings that are replayed."""
-    scripts = {**test_scripts.all_inputs(), **test_settings.all_inputs(), **test_sleep.all_inputs()}
+    scripts = {**test_device.all_inputs(), **test_scripts.all_inputs(), **test_settings.all_inputs()}
+    scripts |= test_sleep.all_inputs()
     return {**test_replay.all_inputs(), **scripts, **INPUTS}
 
 

@@ -219,6 +219,7 @@ class LocalCommands(unittest.TestCase):
             (b"set x y", Cause(Code.TOO_MANY, 5), "the root has 128 settings, the most, and `x` is another"),
             (b"set net0/x y", Cause(Code.TOO_MANY, 5),
              "the block net0 has 128 settings, the most, and `net0/x` is another"),
+            (b"ifclose net1", Cause(Code.BAD_NAME), "there is no device net1, only `net0`"),
             (b"set", Cause(Code.USAGE), "the words don't fit the command: `set NAME [VALUE]`"),
             (b" a", Cause(Code.UNKNOWN), "the command has no name: its first word is empty, as expanded"),
             (b"imgexec tftp://10.0.0.1/k", Cause(Code.NOT_BOOTABLE), "tftp://10.0.0.1/k can't be "

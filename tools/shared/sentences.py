@@ -21,6 +21,9 @@ MOST_WORDS_BYTES = 4_096
 # the numbers of TooLong and TooMany for a setting
 LONG_VALUE, MANY_SETTINGS = 2, 5
 OF_SETTINGS = (b"set", b"clear", b"show", b"inc")
+OF_DEVICES = (b"ifopen", b"ifclose")
+# texts of a script that may change the link which START gives
+OF_LINK = (*OF_DEVICES, b"net0")
 # START's mask of 0 stands for this one
 USUAL_MASK = IPv4Address("255.255.255.0")
 
@@ -48,13 +51,15 @@ USAGES = {
     b"clear": "clear NAME",
     b"show": "show NAME",
     b"inc": "inc NAME [n], n from -2147483648 to 2147483647",
+    b"ifopen": "ifopen [net0]",
+    b"ifclose": "ifclose [net0]",
     b"sleep": "sleep SECONDS, from 0 to 4000000",
 }
 
 # Commands of iPXE, so that one that isn't built is known from one that is misspelled.
 KNOWN = frozenset(
-    b"autoboot boot chain choose colour config console cpair cpuid dhcp form ifclose ifconf "
-    b"ifopen iflinkwait ifstat imgargs imgdecrypt imgextract imgfree imgload imgmem imgselect "
+    b"autoboot boot chain choose colour config console cpair cpuid dhcp form ifconf "
+    b"iflinkwait ifstat imgargs imgdecrypt imgextract imgfree imgload imgmem imgselect "
     b"imgstat imgtrust imgverify initrd item kernel login lotest menu module nslookup ntp nstat "
     b"param params pciscan ping poweroff present profstat prompt read reboot route sanboot sanhook "
     b"sanunhook shell shim sync time vcreate vdestroy".split()
@@ -92,6 +97,8 @@ def of_local(cause: Cause, command: Command | None, start: Start | None) -> str:
             return _no_label(command, start)
         case Code.BAD_NAME if name in OF_SETTINGS and len(command.words) > 1:
             return _bad_name(command.words[1])
+        case Code.BAD_NAME if name in OF_DEVICES:
+            return f"there is no device {word(command.words[-1])}, only `net0`"
         case Code.BAD_VALUE if name in OF_SETTINGS and len(command.words) > 1:
             return _bad_value(command.words)
         case Code.FALSE:
@@ -190,6 +197,8 @@ def _no_label(command: Command, start: Start | None) -> str:
 def _no_route(address: IPv4Address, start: Start | None) -> str:
     if start is None:
         return f"there is no route to {address}"
+    if any(text in start.script for text in OF_LINK):
+        return f"there was no route to {address} then: the device was down, or net0's settings lead there by none"
     if start.ip == UNSET:
         return f"the client has no address, so it can't reach {address}: give one by --ip"
     mask = USUAL_MASK if start.mask == UNSET else start.mask

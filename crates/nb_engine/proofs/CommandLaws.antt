@@ -30,9 +30,7 @@ use Rattle.nb_command.specs.Device.{device_change}
 use Rattle.nb_stack.specs.declared.address.Addr.{Addr}
 use Rattle.nb_stack.specs.Client.{Client}
 use Rattle.nb_engine.specs.declared.world.World.{World}
-use Rattle.nb_engine.specs.Link.{link_by}
 use Rattle.nb_engine.specs.World.{IsLinked, state_of, world_with}
-use Rattle.nb_engine.specs.Machine.{world_after}
 use Rattle.nb_uri.specs.Targets.{TftpTarget, tftp_target, is_too_long}
 use Rattle.nb_engine.specs.Effects.{Wanted, fetch, asked_for, bad_uri, too_long_uri, full_opens, Effect, says, asks, goes, sleeps, shuts_device, sleeping_for, device_effect, plan_effect, plan_table, plan_up, set_up, planned_effect, planned_table, planned_up, words_effect, words_table, words_up, expansion, expanded_effect, expanded_table, expanded_up, expand_cause, effect, table_after, up_after, shown_words, shown_by, shown_as, truth_outcome, text_told, change_outcome, changed, plan_cause}
 use Rattle.nb_engine.specs.CommandWords.{IsLocal, IsLocalOutcome, outcome_effect, deed_effect}

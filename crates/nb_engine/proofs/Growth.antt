@@ -30,7 +30,7 @@ use Rattle.nb_engine.specs.Heeding.{Heeds, Follows, Comes}
 use Rattle.nb_engine.specs.Turns.{Grows, AnswersTurn, shut_records}
 use Rattle.nb_engine.proofs.Standing.{stands_at}
 use Rattle.nb_engine.proofs.TellingLemmas.{without-append, without_traced, without_aside}
-use Rattle.nb_engine.proofs.Sides.{aside_grows, aside_reply, keep, keep_waiting}
+use Rattle.nb_engine.proofs.Sides.{aside_grows, aside_reply, keep}
 
 -- from a state to the next by a record
 begins_from : (m m0 m' : Machine) (r : In) (added : List Out) → m ≡ m0 → Begins m0 r added m' → Begins m r added m'

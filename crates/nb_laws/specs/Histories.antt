@@ -1,5 +1,5 @@
 -- The client by the history, and which events are the history of two lists of records.
-use Rattle.std.specs.Prelude.{◌≡◌, ℕ, List, [], None, false, fold}
+use Rattle.std.specs.Prelude.{◌≡◌, List, [], None, false, fold}
 use Rattle.nb_defs.specs.Records.{In, Out, step, sent, text, command, result, script, opened, tried, advanced, ended, graph, part, done}
 use Rattle.nb_stack.specs.Client.{Client}
 use Rattle.nb_stack.specs.Brings.{Brings}
