@@ -1,11 +1,12 @@
 //! Laws of what a look-up promises of its calls, for a caller that keeps them: each is a function that does
 //! nothing, whose contract is the law.
 
-ghost use Rattle.std.specs.Prelude.{◌≡◌, ◌⊎◌, ◌∷◌, ◌++◌, [], ℕ, List, Some, true};
+ghost use Rattle.std.specs.Prelude.{◌≡◌, ◌⊎◌, ◌↔◌, ◌∷◌, ◌++◌, [], ℕ, List, Some, true};
 ghost use Rattle.nb_retry.specs.declared.retry.Due.TheVariants.{Again};
 ghost use Rattle.nb_terms.specs.declared.acts.Acts.{Acts};
 ghost use Rattle.nb_terms.specs.declared.cause.Cause.{Cause};
 ghost use Rattle.nb_dnsmsg.specs.declared.answer.Answer.{Answer};
+ghost use Rattle.nb_dns.specs.WrittenNames.{IsLookupName, is_lookup_name};
 ghost use Rattle.nb_dns.specs.Lookups.{Lookup, query_to};
 ghost use Rattle.nb_dns.specs.LookupCalls.{LookupCall, DnsDatagram, LookupEntry, lookup_entry, arrived, clocked, datagrams, lookup_ended, IsSilentCall, FirstReply};
 ghost use Rattle.nb_dns.specs.LookupPromises.{LookupMeets};
@@ -37,4 +38,9 @@ pub fn replies_end_it()
 pub fn sends_the_query_alone()
     ensures { (l : Lookup) (start : ℕ) (h : List LookupEntry) (call : LookupCall) (acts : Acts) → LookupMeets l start (h ++ lookup_entry call acts ∷ [])
         → (acts.sends.items ≡ []) ⊎ (acts.sends.items ≡ query_to l ∷ []) }
+{}
+
+/// The test for names that can be looked up passes exactly those (RFC 1035, section 2.3.4).
+pub fn names_are_tested()
+    ensures { (text : List ℕ) → (is_lookup_name text ≡ true) ↔ IsLookupName text }
 {}

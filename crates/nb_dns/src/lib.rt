@@ -12,7 +12,10 @@ mod state;
 mod written;
 
 pub use dns::{BadName, Dns};
-pub use laws::{ends_for_a_cause, replies_end_it, sends_the_query_alone, tries_in_silence};
+pub use laws::{
+    ends_for_a_cause, names_are_tested, replies_end_it, sends_the_query_alone, tries_in_silence,
+};
+pub use written::is_name;
 
 #[cfg(test)]
 mod tests;
