@@ -20,7 +20,7 @@ use Rattle.nb_dns.specs.declared.state.LookupPhase.TheVariants.{Asking, Found, F
 use Rattle.nb_dns.specs.Lookups.{Lookup, to_port_53, asks_nothing, asks_try, asks_end, asks_by, lookup_cause, address_given}
 use Rattle.nb_dns.specs.LookupCalls.{DnsDatagram, arrived, clocked, LookupEntry, lookup_entry, datagrams, lookup_times, said_by, lookup_ended, IsReplyTo, IsNoReply, IsSilentCall, FirstReply}
 use Rattle.nb_dns.specs.LookupPromises.{LookupMeets, AsksInTurn}
-use Rattle.nb_dns.specs.LookupStands.{lookup_has_ended, address_found, lookup_of, LookupStands}
+use Rattle.nb_dns.specs.LookupStands.{lookup_has_ended, phase_address, lookup_of, LookupStands}
 use Rattle.nb_dns.specs.Steps.{phase_with, IsDatagramStep, after_end, no_reply, reply, lookup_due, after_saying, clock_acts, after_clock}
 use Rattle.nb_dns.proofs.CallsLemmas.{datagrams-append, lookup_times-append, lookup_ended-append, each-append, silent-append, silent-last, no_first, first_is_last}
 
@@ -69,7 +69,7 @@ ignored_stands l start s h m now stands running none =
       none = λ _. stands.none looking.silent;
     }
 
-kept_address : (o : Option Ip4) → address_found (option_map_or (λ address. Found address) o Failed) ≡ o
+kept_address : (o : Option Ip4) → phase_address (option_map_or (λ address. Found address) o Failed) ≡ o
 kept_address None = refl
 kept_address (Some address) = refl
 

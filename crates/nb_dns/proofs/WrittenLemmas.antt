@@ -1,10 +1,10 @@
 -- A written name, cut at its dots.
 use Rattle.std.proofs.Common.{◌≡◌, ℕ, suc, ◌+◌, ◌<◌, ◌≤◌, List, [], ◌∷◌, ◌++◌, Some, None, Bool, true, false, cond, refl, ap, subst, sym, ◌∙◌, arith, eqb, ltb, take, drop, length, length-append, append_assoc}
-use Rattle.std.proofs.lemmas.Bool.{lt-ltb, le-ltb, ltb-true, ltb-false}
+use Rattle.std.proofs.lemmas.Bool.{lt-ltb, le-ltb, ltb-true, ltb-false, le-leb, leb-true, and_parts, and_from}
 use Rattle.std.proofs.lemmas.Option.{none-some, same_Some}
-use Rattle.std.specs.List.{position, position_or_len, AllByRecursion}
+use Rattle.std.specs.List.{position, position_or_len, AllByRecursion, list_all}
 use Rattle.nb_dnsmsg.specs.Names.{IsLabel, name_text, IsDnsName}
-use Rattle.nb_dns.specs.WrittenNames.{without_final_dot, before_first, labels_at_dots, name_labels, IsLookupName}
+use Rattle.nb_dns.specs.WrittenNames.{without_final_dot, before_first, labels_at_dots, name_labels, IsLookupName, has_label_length, is_lookup_name}
 
 -- either answer of a test
 pub either_way : {P : Type 0} (b : Bool) → (b ≡ true → P) → (b ≡ false → P) → P
@@ -109,3 +109,33 @@ name_on_wire text is = record {
   text = refl;
   short = let size = text_size (without_final_dot text) in let short = is.short in omega (arith, size, short);
 }
+
+label_tested : (label : List ℕ) → has_label_length label ≡ true → IsLabel label
+label_tested label is =
+    let (some, few) = and_parts _ _ is in
+    let most = leb-true (length label) 63 few in
+    record { some = ltb-true 0 (length label) some; few = omega (arith, most) }
+
+label_passes : (label : List ℕ) → IsLabel label → has_label_length label ≡ true
+label_passes label is =
+    let some = is.some in let few = is.few in
+    and_from _ _ (lt-ltb 0 (length label) some) (le-leb (length label) 63 (omega (arith, few)))
+
+labels_tested : (labels : List (List ℕ)) → list_all has_label_length labels ≡ true → AllByRecursion IsLabel labels
+labels_tested [] all = tt
+labels_tested (label ∷ labels) all = let (first, rest) = and_parts _ _ all in (label_tested label first, labels_tested labels rest)
+
+labels_pass : (labels : List (List ℕ)) → AllByRecursion IsLabel labels → list_all has_label_length labels ≡ true
+labels_pass [] are = refl
+labels_pass (label ∷ labels) (first, are) = and_from _ _ (label_passes label first) (labels_pass labels are)
+
+pub name_tested : (text : List ℕ) → is_lookup_name text ≡ true → IsLookupName text
+name_tested text is =
+    let (all, few) = and_parts _ _ is in
+    record { are = labels_tested (name_labels text) all; short = leb-true (length (without_final_dot text)) 253 few }
+
+pub name_passes : (text : List ℕ) → IsLookupName text → is_lookup_name text ≡ true
+name_passes text is = and_from _ _ (labels_pass (name_labels text) is.are) (le-leb (length (without_final_dot text)) 253 is.short)
+
+pub name_fails : (text : List ℕ) → (IsLookupName text → ⊥) → is_lookup_name text ≡ false
+name_fails text none = either_way (is_lookup_name text) (λ on. absurd (none (name_tested text on))) (λ off. off)

@@ -17,10 +17,10 @@ lookup_has_ended Asking = false
 lookup_has_ended (Found address) = true
 lookup_has_ended Failed = true
 
-abbrev pub address_found : LookupPhase → Option Ip4
-address_found Asking = None
-address_found (Found address) = Some address
-address_found Failed = None
+abbrev pub phase_address : LookupPhase → Option Ip4
+phase_address Asking = None
+phase_address (Found address) = Some address
+phase_address Failed = None
 
 abbrev pub lookup_of : State → Lookup
 lookup_of s = record { server = s.server; own_port = s.own_port; id = s.id; name = s.name.items }
@@ -40,5 +40,5 @@ pub record LookupStands (l : Lookup) (start : ℕ) (s : State) (entries : List L
   pub query : s.query.items ≡ question_text l.id l.name
   pub over : lookup_has_ended s.phase ≡ lookup_ended entries
   pub looking : lookup_has_ended s.phase ≡ false → IsLooking l start s entries
-  pub found : (a : Answer) → FirstReply l (datagrams entries) a → address_found s.phase ≡ address_given a
-  pub none : IsSilentCall l (datagrams entries) → address_found s.phase ≡ None
+  pub found : (a : Answer) → FirstReply l (datagrams entries) a → phase_address s.phase ≡ address_given a
+  pub none : IsSilentCall l (datagrams entries) → phase_address s.phase ≡ None

@@ -1,6 +1,6 @@
 -- RFC 1035, sections 2.3.1 and 2.3.4: the labels of a name as it is written
-use Rattle.std.specs.Prelude.{◌≤◌, ◌-◌, ◌==◌, ℕ, List, [], ◌∷◌, length, take, slice_index, if◌then◌else◌}
-use Rattle.std.specs.List.{AllByRecursion}
+use Rattle.std.specs.Prelude.{◌≤◌, ◌-◌, ◌==◌, ◌&&◌, ℕ, Bool, List, [], ◌∷◌, length, take, nat_le, nat_lt, slice_index, if◌then◌else◌}
+use Rattle.std.specs.List.{AllByRecursion, list_all}
 use Rattle.nb_dnsmsg.specs.Names.{IsLabel}
 
 -- the text without a dot (46) at its end
@@ -25,3 +25,11 @@ name_labels text = labels_at_dots (without_final_dot text)
 pub record IsLookupName (text : List ℕ) : Type 0 where
   pub are : AllByRecursion IsLabel (name_labels text)
   pub short : length (without_final_dot text) ≤ 253
+
+-- a label has 1 to 63 bytes
+abbrev pub has_label_length : List ℕ → Bool
+has_label_length label = nat_lt 0 (length label) && nat_le (length label) 63
+
+-- the test for a name that can be looked up
+abbrev pub is_lookup_name : List ℕ → Bool
+is_lookup_name text = list_all has_label_length (name_labels text) && nat_le (length (without_final_dot text)) 253

@@ -31,6 +31,7 @@ impl Dns {
     ghost use Rattle.nb_dns.specs.WrittenNames.{IsLookupName};
     ghost use Rattle.nb_dns.specs.Lookups.{AsksSimply, Lookup, lookup, query_to, asks_nothing, asks_try, address_given};
     ghost use Rattle.nb_dns.specs.LookupCalls.{LookupEntry, lookup_entry, arrived, clocked, dns_datagram, datagrams, lookup_ended, IsSilentCall, FirstReply};
+    ghost use Rattle.nb_dns.specs.LookupReplies.{address_found};
     ghost use Rattle.nb_dns.specs.LookupStands.{LookupStands};
 
     /// Asks the server for the addresses of a name. The open's number isn't needed here.
@@ -92,6 +93,8 @@ impl Dns {
         // It is that of the first reply, where this has a response code of 0.
         ensures found { (l : Lookup) (start : ℕ) (h : List LookupEntry) (a : Answer) → LookupStands l start self.now h → FirstReply l (datagrams h) a → result ≡ address_given a }
         ensures none { (l : Lookup) (start : ℕ) (h : List LookupEntry) → LookupStands l start self.now h → IsSilentCall l (datagrams h) → result ≡ None }
+        // In all, what arrived determines it.
+        ensures by_calls { (l : Lookup) (start : ℕ) (h : List LookupEntry) → LookupStands l start self.now h → result ≡ address_found l (datagrams h) }
     {
         self.state.phase.address()
     }

@@ -12,7 +12,11 @@ mod state;
 mod written;
 
 pub use dns::{BadName, Dns};
-pub use laws::{ends_for_a_cause, replies_end_it, sends_the_query_alone, tries_in_silence};
+pub use laws::{
+    ends_for_a_cause, names_are_tested, one_lookup_answer, replies_are_read_by_the_grammar,
+    replies_end_it, sends_the_query_alone, tries_in_silence,
+};
+pub use written::is_name;
 
 #[cfg(test)]
 mod tests;

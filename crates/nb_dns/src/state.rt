@@ -8,7 +8,7 @@ ghost use Rattle.nb_dnsmsg.specs.Messages.{question_text};
 ghost use Rattle.nb_dns.specs.declared.state.LookupPhase.TheVariants.{Asking};
 ghost use Rattle.nb_dns.specs.Lookups.{to_port_53, asks_nothing, asks_try, lookup_cause};
 ghost use Rattle.nb_dns.specs.LookupCalls.{dns_datagram};
-ghost use Rattle.nb_dns.specs.LookupStands.{lookup_has_ended, address_found};
+ghost use Rattle.nb_dns.specs.LookupStands.{lookup_has_ended, phase_address};
 ghost use Rattle.nb_dns.specs.Steps.{IsDatagramStep, phase_with, clock_acts, after_clock};
 
 use arrayvec::ArrayVec;
@@ -139,7 +139,7 @@ impl LookupPhase {
 
     /// The address that was found.
     pub(crate) fn address(self) -> Option<Ip4>
-        ensures { result ≡ address_found self }
+        ensures { result ≡ phase_address self }
     {
         match self {
             LookupPhase::Found(address) => Some(address),

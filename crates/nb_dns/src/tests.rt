@@ -1,4 +1,4 @@
-use crate::{BadName, Dns};
+use crate::{BadName, Dns, is_name};
 use arrayvec::ArrayVec;
 use nb_terms::{Acts, Cause};
 use nb_wire::Ip4;
@@ -78,6 +78,7 @@ fn refuses_bad_names(rt: HostRuntime) -> Result<(), Fail> {
     let mut acts = Acts::none();
     for name in [b"".as_slice(), b".", b"a..b", b".a", b"a..", b".."] {
         assert_eq!(rt; started(name, &mut acts).err(), Some(BadName));
+        assert!(rt; !is_name(name));
         assert_eq!(rt; acts.sends.as_slice().len(), 0);
     }
     for (labels, bytes, is_good) in [
@@ -91,6 +92,11 @@ fn refuses_bad_names(rt: HostRuntime) -> Result<(), Fail> {
         let name = long_name(labels, bytes);
         let is_started = started(name.as_slice(), &mut acts).is_ok();
         assert_eq!(rt; is_started, is_good, "{labels} labels and {bytes} bytes");
+        assert_eq!(rt;
+            is_name(name.as_slice()),
+            is_good,
+            "the test of {labels} labels and {bytes} bytes"
+        );
     }
     Ok(())
 }

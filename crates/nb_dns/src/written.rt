@@ -2,7 +2,7 @@
 
 ghost use Rattle.std.specs.Prelude.{◌≡◌, ◌<◌, ◌≤◌, ◌+◌, ◌==◌, ◌∷◌, ◌++◌, length, MatchBool, position, IfSome};
 ghost use Rattle.nb_dnsmsg.specs.Names.{IsLabel};
-ghost use Rattle.nb_dns.specs.WrittenNames.{without_final_dot};
+ghost use Rattle.nb_dns.specs.WrittenNames.{without_final_dot, is_lookup_name};
 ghost use Rattle.nb_dns.specs.Steps.{IsCutAt, IsWireName};
 
 use arrayvec::ArrayVec;
@@ -21,6 +21,17 @@ pub(crate) enum Cut<'a> {
     Label(&'a [u8], &'a [u8]),
     /// The last label.
     Last(&'a [u8]),
+}
+
+/// The text is a name that can be looked up: its labels have 1 to 63 bytes, and without a dot at its end it
+/// has at most 253 (RFC 1035, section 2.3.4).
+pub fn is_name(text: &[u8]) -> bool
+    ensures { result ≡ is_lookup_name text.now }
+{
+    match wire_name(text) {
+        Some(_) => true,
+        None => false,
+    }
 }
 
 /// The text on the wire of a name as it is written. None where a label is empty, one dot at the end aside,

@@ -7,3 +7,6 @@ pub mod NameLemmas
 pub mod MessageLemmas
 pub mod QuestionLemmas
 pub mod MessageLaws
+pub mod NameReadingLemmas
+pub mod RecordReadingLemmas
+pub mod MessageReadingLemmas

@@ -4,3 +4,4 @@ pub mod Messages
 pub mod Walks
 pub mod Views
 pub mod Sections
+pub mod Reading

@@ -1,13 +1,14 @@
 //! Laws of messages, for what stands on them: each is a function that does nothing, whose contract is the
 //! law.
 
-ghost use Rattle.std.specs.Prelude.{◌≡◌, ◌≤◌, ◌<◌, ◌+◌, ◌-◌, ◌*◌, ◌∷◌, ℕ, List, length, drop, Some};
+ghost use Rattle.std.specs.Prelude.{◌≡◌, ◌≤◌, ◌<◌, ◌+◌, ◌-◌, ◌*◌, ◌∷◌, ◌↔◌, ℕ, List, length, drop, Some};
 ghost use Rattle.std.specs.List.{AllByRecursion};
 ghost use Rattle.nb_wire.specs.declared.address.Ip4.{Ip4};
 ghost use Rattle.nb_dnsmsg.specs.declared.answer.Answer.{Answer};
 ghost use Rattle.nb_dnsmsg.specs.Names.{IsLabel, name_text, IsDnsName, IsNameAt};
 ghost use Rattle.nb_dnsmsg.specs.Records.{ResourceRecord};
 ghost use Rattle.nb_dnsmsg.specs.Messages.{DnsMessage, IsDnsMessage, IsAnswer};
+ghost use Rattle.nb_dnsmsg.specs.Reading.{dns_answer};
 ghost use Rattle.nb_dnsmsg.specs.Sections.{StandsWithAddress};
 
 /// At a place stands at most one name, and a message has at most one reading and one answer.
@@ -37,4 +38,11 @@ pub fn pointers_go_backwards()
 pub fn address_stands_in_the_message()
     ensures { (bytes : List ℕ) (id : ℕ) (name : List ℕ) (answer : Answer) (address : Ip4) → IsAnswer bytes id name answer
         → answer.address ≡ Some address → StandsWithAddress bytes address }
+{}
+
+/// The answer that bytes are is a function of them: it is read where they are an answer, as that one, and
+/// nowhere else (RFC 1035, section 4.1).
+pub fn answers_are_read_by_the_grammar()
+    ensures { (bytes : List ℕ) (id : ℕ) (name : List ℕ) (answer : Answer)
+        → (dns_answer bytes id name ≡ Some answer) ↔ IsAnswer bytes id name answer }
 {}

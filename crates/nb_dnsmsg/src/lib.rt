@@ -15,7 +15,10 @@ mod section;
 mod walk;
 
 pub use answer::Answer;
-pub use laws::{address_stands_in_the_message, one_reading, pointers_go_backwards};
+pub use laws::{
+    address_stands_in_the_message, answers_are_read_by_the_grammar, one_reading,
+    pointers_go_backwards,
+};
 pub use question::Question;
 
 #[cfg(test)]
