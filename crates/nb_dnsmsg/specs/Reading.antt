@@ -54,7 +54,7 @@ unfoldable pub rest_read : ℕ → List ℕ → ℕ → ℕ → Option (List ℕ
 rest_read zero message part place = None
 rest_read (suc n) message part place = rest_by (rest_read n message) part place (piece_of (drop place message))
 
--- a name has fewer pieces than this: each label goes on in its part, and each pointer leads to an earlier one
+-- a name has no more pieces than this: each label goes on in its part, and each pointer leads to an earlier one
 abbrev pub most_pieces : List ℕ → ℕ → ℕ
 most_pieces message place = suc place * suc (length message)
 
