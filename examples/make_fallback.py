@@ -1,7 +1,7 @@
 #!/usr/bin/env python3
 """Makes fallback.rec: what a client meets that runs fallback.ipxe, where one file of three is there.
 
-The server is 10.0.0.1 and speaks TFTP without options (RFC 1350). It refuses `initrd` and `mine`,
+The server is 10.0.0.1, speaks TFTP and knows no options (RFC 1350). It refuses `initrd` and `mine`,
 and sends `k`, which is shorter than a block. Everything here is fixed, so each run makes the same
 bytes.
 """

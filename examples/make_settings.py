@@ -1,7 +1,7 @@
 #!/usr/bin/env python3
 """Makes settings.rec: what a client meets that runs settings.ipxe, where its kernel is there after a while.
 
-The server is 10.0.0.1 and speaks TFTP without options (RFC 1350). It refuses the first request, and answers
+The server is 10.0.0.1, speaks TFTP and knows no options (RFC 1350). It refuses the first request, and answers
 the second, which comes two seconds later. Everything here is fixed, so each run makes the same bytes.
 """
 

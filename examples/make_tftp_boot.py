@@ -1,7 +1,7 @@
 #!/usr/bin/env python3
 """Makes tftp-boot.rec: what a client meets that boots a small kernel by TFTP over a bad network.
 
-The server is 10.0.0.1 and speaks TFTP without options (RFC 1350). The kernel looks like an ELF
+The server is 10.0.0.1, speaks TFTP and knows no options (RFC 1350). The kernel looks like an ELF
 file and has five blocks. Block 2 comes twice. Block 3 is lost; the server sends it again after
 a second, and once more because the client repeated its acknowledgement. That last copy and
 block 4 are swapped on their way. Everything here is fixed, so each run makes the same bytes.

@@ -1,6 +1,7 @@
 /* A client of a bridge that only acknowledges: it speaks records as `netboot live` does, asks a TFTP server
- * for one file, and acknowledges block after block. It checks, keeps and traces nothing. It ends with 0 once
- * the last block came.   acknowledge HOST PORT SERVER PATH */
+ * for one file in blocks of 1,432 bytes, and acknowledges block after block. It checks, keeps and traces nothing,
+ * and takes an OACK to grant what was asked. It ends with 0 once the last block came.
+ *   acknowledge HOST PORT SERVER PATH */
 #include <arpa/inet.h>
 #include <netinet/tcp.h>
 #include <stdint.h>
@@ -13,7 +14,7 @@ enum { ETHERNET = 14, IP = 20, UDP = 8, FIRST_PORT = 49152, MOST_SECONDS = 120, 
 
 static int peer;
 static uint8_t mac[6], own[4], server[4], server_mac[6];
-static uint16_t server_port = 69, own_port;
+static uint16_t server_port = 69, own_port, block = 512;
 
 static void put16(uint8_t *at, unsigned value) { at[0] = value >> 8; at[1] = value; }
 static unsigned get16(const uint8_t *at) { return at[0] << 8 | at[1]; }
@@ -86,12 +87,13 @@ static void send_datagram(const uint8_t *body, size_t length) {
 }
 
 static void request(const char *path) {
+    static const char rest[] = "octet\0blksize\0" "1432\0tsize\0" "0";
     uint8_t body[600] = {0, 1};
     size_t length = strlen(path);
     if (length > 500) exit(2);
     memcpy(body + 2, path, length);
-    memcpy(body + 2 + length + 1, "octet", 5);
-    send_datagram(body, 2 + length + 1 + 6);
+    memcpy(body + 2 + length + 1, rest, sizeof rest);
+    send_datagram(body, 2 + length + 1 + sizeof rest);
 }
 
 /* 1 once the last block came. */
@@ -105,11 +107,14 @@ static int take_frame(const uint8_t *frame, size_t length, const char *path) {
         }
     }
     if (length < ETHERNET + IP + UDP + 4 || get16(frame + 12) != 0x0800 || ip[9] != 17) return 0;
-    if (get16(udp + 2) != own_port || get16(udp + UDP) != 3) return 0;
+    unsigned opcode = get16(udp + UDP);
+    if (get16(udp + 2) != own_port || (opcode != 3 && opcode != 6)) return 0;
     server_port = get16(udp);
-    uint8_t body[4] = {0, 4, udp[UDP + 2], udp[UDP + 3]};
+    uint8_t body[4] = {0, 4};
+    if (opcode == 3) memcpy(body + 2, udp + UDP + 2, 2);
+    else block = 1432;
     send_datagram(body, sizeof body);
-    return get16(udp + 4) < UDP + 4 + 512;
+    return opcode == 3 && get16(udp + 4) < UDP + 4 + block;
 }
 
 static int take_record(const uint8_t *content, size_t length, const char *path) {

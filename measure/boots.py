@@ -1,4 +1,4 @@
-"""Boots by TFTP without options, as input recordings of any length."""
+"""Boots by TFTP from a server that grants no options, as input recordings of any length."""
 
 from __future__ import annotations
 
@@ -18,7 +18,7 @@ OWN_PORT = 49_152
 SERVER_PORT = 40_000
 BLOCK = 512
 MEGABYTE = 1_048_576
-# a transfer without options has at most 65,535 blocks (RFC 1350)
+# blocks have numbers from 1 to 65,535 (RFC 1350)
 MOST_MEGABYTES = 31
 SCRIPT = b"#!ipxe\nimgexec tftp://10.0.0.1/k\n"
 

@@ -31,6 +31,8 @@ from shared.servers import Tftp, dnsmasq  # noqa: E402
 
 ELF = b"\x7fELF"
 MEBIBYTE = 1 << 20
+# both clients ask for blocks of this size, and dnsmasq grants it (RFC 2348)
+BLOCK = 1432
 MOST_MEBIBYTES = 31
 PEER_HOST, PEER_PORT = "127.0.0.1", 7000
 HERE = Path(__file__).resolve().parent
@@ -97,7 +99,7 @@ def fetch(joined: Network, script: Path, client: list[str], number: int) -> Fetc
 
 
 def report(name: str, length: int, best: Fetched) -> None:
-    blocks = length // 512 + 1
+    blocks = length // BLOCK + 1
     print(f"{name}: {best.seconds:.2f} s, {length / best.seconds / 1e6:.2f} MB/s, "
           f"{best.seconds / blocks * 1e6:.0f} us a block; processor: client {best.client:.2f} s, "
           f"bridge {best.bridge:.2f} s")

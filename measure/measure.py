@@ -21,7 +21,7 @@ from shared.command_line import Refused, run  # noqa: E402
 MOST_FUNCTIONS = 10
 
 DESCRIPTION = """\
-Measures the built program on recorded boots by TFTP without options: the peak of its memory, its
+Measures the built program on recorded boots by TFTP in blocks of 512 bytes: the peak of its memory, its
 processor time, and its instructions for each byte, beside those of a C loop that only checks sums
 and copies, and the ten functions that cost most. Memory and time are measured where cc is
 installed, instructions counted where valgrind is too. `rt run` in crates/netboot proves and builds

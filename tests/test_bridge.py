@@ -20,7 +20,7 @@ from shared.live_session import ClientFault, Kept, Records, Session
 from shared.progress import Progress
 from shared.records import Command, Direction, Off, Received, Record, Sent, Step, Tick
 from shared.records import read_records
-from shared.wire import ARP, Opcode, arp_reply, padded, tftp_data, udp_frame
+from shared.wire import ARP, Opcode, arp_reply, padded, tftp_data, tftp_oack, udp_frame
 from tests import TOP, made
 from tests.graph_run import fault_in
 from tests.replays import replay_all, run_all
@@ -54,10 +54,14 @@ class Wire:
 
 
 class Server(threading.Thread):
-    """Answers at the wire's other end: ARP, and TFTP for one file; it loses the first DATA 2."""
+    """Answers at the wire's other end: ARP, and TFTP for one file; it loses the first DATA 2.
 
-    def __init__(self, wire: Wire) -> None:
+    It grants blocks of a size, or knows no options.
+    """
+
+    def __init__(self, wire: Wire, granted: int | None) -> None:
         super().__init__(daemon=True)
+        self.granted, self.size = granted, granted or 512
         self.wire, self.is_over, self.has_lost = wire, False, False
 
     def run(self) -> None:
@@ -75,22 +79,24 @@ class Server(threading.Thread):
             return
         body = frame[42:]
         opcode = int.from_bytes(body[:2], "big")
-        if opcode == Opcode.RRQ:
+        if opcode == Opcode.RRQ and self.granted:
+            self.send(tftp_oack(blksize=self.granted, tsize=len(FILE)))
+        elif opcode == Opcode.RRQ:
             self.give(1)
         elif opcode == Opcode.ACK:
             self.give(int.from_bytes(body[2:4], "big") + 1)
 
     def give(self, block: int) -> None:
-        data = FILE[(block - 1) * 512 : block * 512]
-        if block * 512 - 512 > len(FILE):
+        if (block - 1) * self.size > len(FILE):
             return
         if block == 2 and not self.has_lost:
             self.has_lost = True
             return
+        self.send(tftp_data(block, FILE[(block - 1) * self.size : block * self.size]))
+
+    def send(self, body: bytes) -> None:
         ports = (made.SERVER_PORT, made.OWN_PORT)
-        self.wire.outer.send(
-            padded(udp_frame(made.SERVER, made.CLIENT, ports, tftp_data(block, data)))
-        )
+        self.wire.outer.send(padded(udp_frame(made.SERVER, made.CLIENT, ports, body)))
 
 
 class Bridged(unittest.TestCase):
@@ -186,11 +192,17 @@ class Bridged(unittest.TestCase):
     @unittest.skipUnless(is_built(), "the program isn't built: a boot through a bridge in memory")
     def test_program(self) -> None:
         """The program boots over it; what was kept replays to what it wrote, byte for byte."""
+        self.boot(Server(self.wire, None))
+
+    @unittest.skipUnless(is_built(), "the program isn't built: a boot through a bridge in memory")
+    def test_program_with_granted_blocks(self) -> None:
+        self.boot(Server(self.wire, 1432))
+
+    def boot(self, server: Server) -> None:
         ran = {}
         words = {"live": ["live", f"127.0.0.1:{self.port}"]}
         thread = threading.Thread(target=lambda: ran.update(run_all(words)), daemon=True)
         thread.start()
-        server = Server(self.wire)
         server.start()
         session = self.session()
         session.run(made.spelled([made.start(SCRIPT)]))
@@ -200,8 +212,9 @@ class Bridged(unittest.TestCase):
         self.assertEqual((session.status, ran["live"].status), (Status.HANDED_OFF, 0))
         self.assertTrue(server.has_lost)
         self.assertEqual(self.printed.getvalue(), "one moment\n")
-        self.assertIn(f"k from 10.0.0.1:69: {len(FILE) // 512 + 1} blocks, {len(FILE)} bytes",
-                      self.said.getvalue())
+        blocks = len(FILE) // server.size + 1
+        said = f"k from 10.0.0.1:69: {blocks} blocks, {len(FILE)} bytes"
+        self.assertIn(said, self.said.getvalue())
         replayed = replay_all({"kept": self.input.getvalue()}, {})["kept"]
         self.assertEqual((replayed.status, replayed.output), (0, self.output.getvalue()))
         self.assertIsNone(fault_in(self.output.getvalue()))

@@ -24,6 +24,7 @@ from shared.wire import (
     tftp_ack,
     tftp_data,
     tftp_error,
+    tftp_oack,
     tftp_request,
     udp_frame,
 )
@@ -38,8 +39,9 @@ ARP_REPLY = bytes.fromhex(
 )
 READ_REQUEST = bytes.fromhex(
     "525400000002 525400000001 0800"
-    "4500 0026 0000 4000 4011 26c5 0a000002 0a000001"
-    "c000 0045 0012 68b7 0001 6b00 6f6374657400"
+    "4500 003b 0000 4000 4011 26b0 0a000002 0a000001"
+    "c000 0045 0027 7959 0001 6b00 6f6374657400"
+    "626c6b73697a6500 3134333200 7473697a6500 3000"
 )
 ANY = Station(bytes([0xFF] * 6), IPv4Address("255.255.255.255"))
 UNSET = Station(CLIENT.mac, IPv4Address(0))
@@ -82,7 +84,7 @@ class Written(unittest.TestCase):
         self.assertEqual(arp_reply(SERVER, CLIENT), ARP_REPLY)
         frame = udp_frame(CLIENT, SERVER, (49_152, 69), tftp_request(b"k"))
         self.assertEqual(frame, READ_REQUEST)
-        self.assertEqual(len(frame), 52)
+        self.assertEqual(len(frame), 73)
 
     def test_padding(self) -> None:
         self.assertEqual(len(padded(ARP_REPLY)), 60)
@@ -111,16 +113,19 @@ class Summary(unittest.TestCase):
 
     def test_tftp(self) -> None:
         ends = "10.0.0.1:40000 > 10.0.0.2:49152"
-        options = b"\0\x06blksize\x001432\0tsize\x002248\0"
-        with_options = tftp_request(b"a b") + b"blksize\x001432\0tsize\x000\0"
-        rows = [(READ_REQUEST, "10.0.0.2:49152 > 10.0.0.1:69 TFTP RRQ k octet")]
+        options = tftp_oack(blksize=1432, tsize=2248)
+        self.assertEqual(options, b"\0\x06blksize\x001432\0tsize\x002248\0")
+        plain = b"\0\x01a b\0octet\0"
+        asks = "10.0.0.2:49152 > 10.0.0.1:69 TFTP RRQ k octet blksize=1432 tsize=0"
+        rows = [(READ_REQUEST, asks)]
         for body, said in (
             (tftp_data(7, bytes(512)), "TFTP DATA 7 of 512 bytes"),
             (tftp_data(8, b"a"), "TFTP DATA 8 of 1 byte"),
             (tftp_ack(65_535), "TFTP ACK 65535"),
             (tftp_error(1, b"File not found"), 'TFTP ERROR 1 "File not found"'),
             (options, "TFTP OACK blksize=1432 tsize=2248"),
-            (with_options, 'TFTP RRQ "a b" octet blksize=1432 tsize=0'),
+            (plain, 'TFTP RRQ "a b" octet'),
+            (tftp_request(b"a b"), 'TFTP RRQ "a b" octet blksize=1432 tsize=0'),
             (b"\0\x07ab", "UDP, 4 bytes"),
         ):
             rows.append((udp_frame(SERVER, CLIENT, (40_000, 49_152), body), f"{ends} {said}"))
@@ -128,14 +133,15 @@ class Summary(unittest.TestCase):
 
     def test_wrong_sums_are_named(self) -> None:
         head = "10.0.0.2:49152 > 10.0.0.1:69 TFTP RRQ"
-        turned = READ_REQUEST.replace(b"k", b"l")
+        asked = "octet blksize=1432 tsize=0"
+        turned = READ_REQUEST.replace(b"k\0", b"l\0")
         other_life = READ_REQUEST.replace(b"\x40\x11", b"\x3f\x11")
-        without = READ_REQUEST.replace(b"\x68\xb7", b"\0\0")
+        without = READ_REQUEST.replace(b"\x79\x59", b"\0\0")
         self.check(
             [
-                (turned, f"{head} l octet, wrong checksum"),
-                (other_life, f"{head} k octet, wrong header checksum"),
-                (without, f"{head} k octet"),
+                (turned, f"{head} l {asked}, wrong checksum"),
+                (other_life, f"{head} k {asked}, wrong header checksum"),
+                (without, f"{head} k {asked}"),
             ]
         )
 

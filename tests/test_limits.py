@@ -1,4 +1,4 @@
-"""The longest file by TFTP without options, over the built program: its end, bytes and memory.
+"""The longest file in blocks of 512 bytes, over the built program: its end, bytes and memory.
 
 `rt run` in crates/netboot, and the gate where it proves anew, build the program. Where it isn't
 built the tests are skipped, saying so; without a C compiler the memory's is.

@@ -1,6 +1,6 @@
 """Boots by TFTP over good and hostile recordings: the program's whole output, record by record.
 
-What is expected is written from docs/RECORDS.md, RFC 1350, 826, 792 and 9293. The built program is run, or,
+What is expected is written from docs/RECORDS.md, RFC 1350, 2347 to 2349, 826, 792 and 9293. The built program is run, or,
 where it isn't fresh, what the toolchain's `rt try` compiles once for all recordings.
 """
 
@@ -22,7 +22,7 @@ from tests.graph_records import asked, came, passed, shut, turned_back
 from tests.replays import Replayed, can_run, replayed
 from shared.wire import BROADCAST, PROTOCOL_ICMP, PROTOCOL_TCP, Station, arp_reply, arp_request
 from shared.wire import echo, ethernet, ipv4, packet_frame, segment, tftp_ack, tftp_data
-from shared.wire import tftp_error, tftp_request, udp, udp_frame
+from shared.wire import tftp_error, tftp_oack, tftp_request, udp, udp_frame
 
 FETCH = b"imgfetch tftp://10.0.0.1/f"
 EXEC = b"imgexec tftp://10.0.0.1/k"
@@ -33,6 +33,7 @@ NEIGHBOUR = Station(bytes.fromhex("525400000003"), IPv4Address("10.0.0.3"))
 FULL = bytes(range(256)) * 2
 FIN, SYN, RST, ACK = 1, 2, 4, 16
 UNKNOWN_TRANSFER = tftp_error(5, b"")
+OPTIONS_REFUSED = tftp_error(8, b"")
 ENDED_WELL = [made.leave(OK), Done(Status.ENDED)]
 
 
@@ -64,6 +65,16 @@ def took(block: int) -> list[Record]:
 def took_last(block: int, gives: bool = True) -> list[Record]:
     """The last block is taken: its acknowledgement waits for nothing. Its bytes go up, if it has some."""
     return came(0, Advance(0, block), made.to_server(tftp_ack(block)), gives=gives, over=OK)
+
+
+def oack(port: int = made.SERVER_PORT, **options: int | str) -> Record:
+    """The server grants these options."""
+    return datagram(tftp_oack(**options), port)
+
+
+def agreed() -> list[Record]:
+    """The first OACK is acknowledged as block 0, under a timer."""
+    return came(0, Try(0, 1), made.to_server(tftp_ack(0)))
 
 
 def foreign() -> list[Record]:
@@ -164,6 +175,81 @@ def blocks() -> dict[str, Row]:
             )
         ),
     }
+
+
+def grants() -> dict[str, Row]:
+    """Servers that know the options; that one may ignore them the other rows show."""
+    kernel = (b"\x7fELF" + FULL * 3)[:1432]
+    full, again = oack(blksize=1432, tsize=1432), made.to_server(tftp_ack(0))
+    too_long = Cause(Code.BROKEN, 5)
+    handed_off = [
+        Result(OK),
+        Part(PartKind.KERNEL_NAME, 0, 0, b"k"),
+        Part(PartKind.KERNEL, 0, 0, kernel),
+        Part(PartKind.COMMAND_LINE, 0, 0, b""),
+        Done(Status.HANDED_OFF),
+    ]
+    return {
+        "a_file_of_1432_bytes": ends(
+            fetches(
+                [full, data(1, kernel), data(2, b"")],
+                agreed(),
+                took(1),
+                took_last(2, gives=False),
+                line=EXEC,
+            ),
+            *handed_off,
+        ),
+        "blocks_of_8": ends_well(
+            fetches([oack(blksize=8), data(1, bytes(8)), data(2, bytes(7))], agreed(), took(1), took_last(2))
+        ),
+        "no_size_granted": ends_well(
+            fetches([oack(tsize=512), data(1, FULL), data(2, b"")], agreed(), took(1), took_last(2, gives=False))
+        ),
+        "an_oack_again": ends_well(
+            fetches(
+                [full, full, oack(blksize=8), data(1, kernel), full, data(2, b"a")],
+                agreed(),
+                came(0, again),
+                came(0, again),
+                took(1),
+                came(0),
+                took_last(2),
+            )
+        ),
+        "an_oack_tried_again": ends_well(
+            fetches(
+                [full, Tick(250), Tick(250), full, Tick(250), data(1, b"a")],
+                agreed(),
+                passed(0, Try(0, 2), again),
+                passed(0),
+                came(0, again),
+                passed(0, Try(0, 3), again),
+                took_last(1),
+            )
+        ),
+        "a_foreign_oack": ends_well(
+            fetches([full, oack(FOREIGN_PORT, blksize=8), data(1, b"a")], agreed(), foreign(), took_last(1))
+        ),
+        "an_oack_after_block_1": ends_well(
+            fetches([data(1, FULL), full, data(2, b"a")], took(1), came(0), took_last(2))
+        ),
+        "an_oack_of_no_number": ends_well(
+            fetches([oack(blksize="abc"), data(1, b"a")], came(0), took_last(1))
+        ),
+        "longer_than_granted": ends(
+            fetches([oack(blksize=1024), data(1, bytes(1025))], agreed(), came(0, over=too_long)),
+            *made.fails(too_long),
+        ),
+        **{f"granted_{size}": unfit(size) for size in (0, 7, 1433, 2000, 65_535)},
+    }
+
+
+def unfit(size: int) -> Row:
+    """A size that wasn't asked for, or is below the least of RFC 2348."""
+    cause = Cause(Code.BROKEN, 4)
+    refused = came(0, made.to_server(OPTIONS_REFUSED), over=cause)
+    return ends(fetches([oack(blksize=size)], refused), *made.fails(cause))
 
 
 def errors() -> dict[str, Row]:
@@ -377,7 +463,7 @@ def runs() -> dict[str, Row]:
     }
 
 
-ROWS = {**blocks(), **errors(), **frames(), **answers(), **runs()}
+ROWS = {**blocks(), **grants(), **errors(), **frames(), **answers(), **runs()}
 
 # A boot of a kernel of four bytes, cut at each of its bytes.
 SHORT = made.spelled([start(EXEC), made.found(), Tick(250), data(1, b"\x7fELF")])

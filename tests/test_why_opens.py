@@ -10,7 +10,8 @@ from shared.command_line import Refused
 from shared.kinds import OpenKind, ScriptMove, Status
 from shared.records import Advance, Done, Ended, Graph, Off, Open, Record, Result, Sent, Step
 from shared.records import Tick, Try
-from shared.wire import arp_request, tftp_ack, tftp_data, tftp_error, tftp_request, udp_frame
+from shared.wire import arp_request, tftp_ack, tftp_data, tftp_error, tftp_oack, tftp_request
+from shared.wire import udp_frame
 from tests import made
 from tests.graph_records import asked, came, left, passed, shut, turned_back
 from tests.graph_records import made as made_for
@@ -95,6 +96,10 @@ class Transfers(unittest.TestCase):
         end = [Step(4), *passed(0, over=TIMED_OUT), *made.fails(TIMED_OUT)]
         later = [Step(2), *came(0, Advance(0, 1), Try(0, 1), ack, gives=True), Step(3), *passed(0, Try(0, 2), ack)]
         said = "10.0.0.1 stopped answering after block 1 of f, which was acknowledged twice"
+        self.assertEqual(sentence(self.begins() + later + end), said)
+        zero = made.to_server(tftp_ack(0))
+        later = [Step(2), *came(0, Try(0, 1), zero), Step(3), *passed(0, Try(0, 2), zero)]
+        said = "10.0.0.1 stopped answering after its OACK for f, which was acknowledged twice"
         self.assertEqual(sentence(self.begins() + later + end), said)
         later = [Step(2), Step(3), *passed(0, Try(0, 2), request)]
         said = "10.0.0.1 never answered: f was asked for twice"
@@ -278,7 +283,8 @@ class Waiting(unittest.TestCase):
             (udp_frame(made.SERVER, made.CLIENT, (69, 1), b""), "to port 1, and the transfer's"),
             (made.found().frame, "ARP, which only says where hosts are"),
             (made.from_server(tftp_data(2, b"")).frame, "block 2, and block 1 was waited for", *came(0)),
-            (made.from_server(b"\0\6blksize\x001432\0").frame, "a TFTP OACK", *came(0)),
+            (made.from_server(tftp_oack(blksize="abc")).frame, "whose size is no number", *came(0)),
+            (made.from_server(b"\0\6blksize").frame, "a TFTP OACK that isn't well-formed", *came(0)),
             (made.from_server(b"\0\x09").frame, "no TFTP packet that a server sends", *came(0)),
         ):
             with self.subTest(said):
@@ -288,6 +294,15 @@ class Waiting(unittest.TestCase):
                 self.assertEqual(lines[-2], "what came meanwhile, and why it didn't count:")
                 self.assertIn("  2 frames: ", lines[-1])
                 self.assertIn(said, lines[-1])
+
+    def test_an_oack_counts_once(self) -> None:
+        ack, oack = made.to_server(tftp_ack(0)), made.from_server(tftp_oack(blksize=1432))
+        granted = [Step(2), *came(0, Try(0, 1), ack)]
+        again = [Step(3), *came(0, ack), *self.STOPPED]
+        lines = why([*self.begins(), *granted, *again], [self.START, oack, oack])
+        self.assertIn("while line 2 waited for block 1 of f from 10.0.0.1", lines[0])
+        said = "  1 frame: a TFTP OACK, and the blocks' size is agreed already"
+        self.assertEqual(lines[-1], said)
 
     def test_what_came_before_the_last_block_is_not_named(self) -> None:
         inputs = [self.START, made.found(), made.from_server(tftp_data(1, bytes(512)))]

@@ -2,6 +2,7 @@
 
 from __future__ import annotations
 
+import re
 from collections import Counter
 from dataclasses import dataclass, field
 from ipaddress import IPv4Address
@@ -14,6 +15,18 @@ from shared.wire import ARP, IPV4, PROTOCOL_UDP, Opcode
 GROUP_BIT = 1
 MOST_REASONS = 64
 ALL_HOSTS = IPv4Address("255.255.255.255")
+# the options that were asked for, each with the number that its value is below (RFC 2348, 2349)
+OPTIONS = ((b"blksize", 1 << 16), (b"tsize", 1 << 32))
+
+
+def is_grant(body: bytes) -> bool:
+    """Whether this is an OACK as the client reads one: of two values for a name the first counts."""
+    *texts, rest = body[2:].split(b"\0")
+    names = [text.lower() for text in texts[0::2]]
+    if rest or len(texts) % 2:
+        return False
+    values = [(texts[2 * names.index(name) + 1], most) for name, most in OPTIONS if name in names]
+    return all(re.fullmatch(rb"[0-9]+", value) and int(value) < most for value, most in values)
 
 
 @dataclass(slots=True)
@@ -77,7 +90,7 @@ class Meanwhile:
             return f"from port {port}, and the transfer is with port {self.port}"
         opcode = int.from_bytes(body[:2], "big")
         if opcode == Opcode.OACK:
-            return "a TFTP OACK, which accepts options, and none was asked for"
+            return self._grant_reason(port, body)
         if len(body) < 4 or opcode not in (Opcode.DATA, Opcode.ERROR):
             return "no TFTP packet that a server sends in answer"
         if opcode != Opcode.DATA:
@@ -86,4 +99,13 @@ class Meanwhile:
         if number != self.blocks + 1:
             return f"block {number}, and block {self.blocks + 1} was waited for"
         self.port, self.blocks = port, number
+        return None
+
+    def _grant_reason(self, port: int, body: bytes) -> str | None:
+        """The first OACK, or block 1, is the agreement (RFC 2347)."""
+        if not is_grant(body):
+            return "a TFTP OACK that isn't well-formed, or whose size is no number"
+        if self.port is not None:
+            return "a TFTP OACK, and the blocks' size is agreed already"
+        self.port = port
         return None

@@ -237,9 +237,9 @@ def of_silence(opened: Open, asked: list[bytes], block: int, span: int | None) -
         if hops[-1] != server:
             return f"the gateway {hops[-1]} never answered: its hardware address {how}"
         return f"{server} never answered: its hardware address {how}"
-    if block:
-        acknowledged = f"which was acknowledged {times(len(asked))}{over}"
-        return f"{server} stopped answering after block {block} of {path}, {acknowledged}"
+    if block or is_acknowledgement(asked):
+        last = f"block {block} of {path}" if block else f"its OACK for {path}"
+        return f"{server} stopped answering after {last}, which was acknowledged {times(len(asked))}{over}"
     return f"{server} never answered: {path} was asked for {times(len(asked))}{over}"
 
 
@@ -251,7 +251,7 @@ def of_wait(opened: Open, asked: list[bytes], block: int, known: set[IPv4Address
     if hop:
         said = f"{hop} had only said its hardware address"
         return f"the next try, as {said}: {path} is asked for then"
-    if block:
+    if block or is_acknowledgement(asked):
         return f"block {block + 1} of {path} from {opened.server}"
     return f"the first answer of {opened.server} to the request for {path}"
 
@@ -262,12 +262,21 @@ def asked_address(frame: bytes) -> IPv4Address | None:
     return IPv4Address(frame[38:42]) if is_arp else None
 
 
+def is_acknowledgement(asked: list[bytes]) -> bool:
+    """Whether the last of these frames acknowledges: block 0 stands for the first OACK (RFC 2347)."""
+    return bool(asked) and _of_tftp(asked[-1], Opcode.ACK) is not None
+
+
 def error_text(frame: bytes) -> bytes | None:
     """The text of a TFTP ERROR."""
+    body = _of_tftp(frame, Opcode.ERROR)
+    return None if body is None else body[4:].rstrip(b"\0")
+
+
+def _of_tftp(frame: bytes, opcode: Opcode) -> bytes | None:
+    """The datagram that a frame carries, where it is a TFTP packet of this kind."""
     packet = packet_of(frame)
     if packet is None or packet.protocol != PROTOCOL_UDP or not ends_of(packet).target_port:
         return None
     body = datagram_of(packet)
-    if not body or int.from_bytes(body[:2], "big") != Opcode.ERROR:
-        return None
-    return body[4:].rstrip(b"\0")
+    return body if body and int.from_bytes(body[:2], "big") == opcode else None

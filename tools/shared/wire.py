@@ -1,4 +1,4 @@
-"""Writes frames: Ethernet, ARP, IPv4, UDP and TFTP (RFC 826, 791, 768, 1350), echoes and segments.
+"""Writes frames: Ethernet, ARP, IPv4, UDP and TFTP (RFC 826, 791, 768, 1350, 2347), echoes and segments.
 
 The made examples and the tests build their frames with it; the tools themselves only read.
 """
@@ -136,8 +136,8 @@ def packet_frame(sender: Station, to: Station, protocol: int, body: bytes) -> by
 
 
 def tftp_request(path: bytes) -> bytes:
-    """A read request in octet mode without options."""
-    return _numbers(Opcode.RRQ) + path + b"\0octet\0"
+    """The client's read request: octet mode, blksize 1432 and tsize 0 (RFC 2348, 2349)."""
+    return _numbers(Opcode.RRQ) + path + b"\0octet\0blksize\x001432\0tsize\x000\0"
 
 
 def tftp_data(block: int, data: bytes) -> bytes:
@@ -146,6 +146,12 @@ def tftp_data(block: int, data: bytes) -> bytes:
 
 def tftp_ack(block: int) -> bytes:
     return _numbers(Opcode.ACK, block)
+
+
+def tftp_oack(**options: int | str) -> bytes:
+    """An answer that grants these options (RFC 2347)."""
+    texts = [f"{name}\0{value}\0".encode() for name, value in options.items()]
+    return _numbers(Opcode.OACK) + b"".join(texts)
 
 
 def tftp_error(code: int, text: bytes) -> bytes:

@@ -158,7 +158,7 @@ fn has_objects(rt: HostRuntime) -> Result<(), Fail> {
 }
 
 // The first try goes out as an ARP request (RFC 826), the second as a read request, and the block is
-// acknowledged (RFC 1350, section 5).
+// acknowledged (RFC 1350, section 5; RFC 2347).
 #[test]
 fn sends_frames(rt: HostRuntime) -> Result<(), Fail> {
     let input = boot_input(rt.alloc())?;
@@ -168,12 +168,12 @@ fn sends_frames(rt: HostRuntime) -> Result<(), Fail> {
     assert_eq!(rt; tries.bodies.as_slice(), [0, 0, 1, 0, 0, 2].as_slice());
     let frames = records_of(rt.alloc(), done.output.as_slice(), 0x82)?;
     assert_eq!(rt; frames.steps.as_slice(), [1, 3, 4].as_slice());
-    assert_eq!(rt; frames.bodies.len(), 42 + 52 + 46);
+    assert_eq!(rt; frames.bodies.len(), 42 + 73 + 46);
     let mut view = View::new(frames.bodies.as_slice());
     assert_eq!(rt; view.take(42).unwrap_or(b""), ASKED);
-    let request = view.take(52).unwrap_or(b"");
+    let request = view.take(73).unwrap_or(b"");
     assert!(rt; request.starts_with(TO_SERVER));
-    assert!(rt; request.ends_with(b"\x00\x01k\x00octet\x00"));
+    assert!(rt; request.ends_with(b"\x00\x01k\x00octet\x00blksize\x001432\x00tsize\x000\x00"));
     let ack = view.take(46).unwrap_or(b"");
     assert!(rt; ack.starts_with(TO_SERVER));
     assert!(rt; ack.ends_with(&[0, 4, 0, 1]));

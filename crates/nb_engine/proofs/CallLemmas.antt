@@ -1,5 +1,5 @@
 -- What a call of an open's objects tells: its first close, and its records in their order.
-use Rattle.std.proofs.Common.{◌≡◌, ℕ, ◌+◌, ◌≤◌, false, List, [], ◌∷◌, ◌++◌, map, length, Option, Some, None, refl, sym, ◌∙◌, ap, subst, arith, append_assoc, append-nil}
+use Rattle.std.proofs.Common.{◌≡◌, ℕ, ◌+◌, ◌≤◌, true, List, [], ◌∷◌, ◌++◌, map, length, Option, Some, None, refl, sym, ◌∙◌, ap, subst, arith, append_assoc, append-nil}
 use Rattle.std.specs.List.{AllByRecursion}
 use Rattle.nb_terms.specs.declared.cause.Cause.{Cause}
 use Rattle.nb_terms.specs.declared.acts.Acts.{Acts}
@@ -69,7 +69,7 @@ plain_sends b (m ∷ n ∷ ms) few all = absurd (omega (arith, few))
 -- what a transfer that keeps its promises sends goes to its server
 pub meets_sends : (b : Begun) (start : ℕ) (es : List Entry) (call : Call) (acts : Acts) → length b.request ≤ 1480 → Meets b start (es ++ entry call acts ∷ []) → AreSendsOf b acts.sends.items
 meets_sends b start es call acts fits meets =
-    let plain = asks_plainly false b start es (entry call acts) fits meets in
+    let plain = asks_plainly true b start es (entry call acts) fits meets in
     plain_sends b acts.sends.items plain.few plain.sent
 
 -- the graph's records in front of others

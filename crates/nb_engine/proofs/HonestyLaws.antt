@@ -198,7 +198,7 @@ image_is store o e cause named carries meets over k = record {
   target = o.wanted.target;
   named = named;
   name = refl;
-  body = whole_file false (file_of store o.wanted.target) (got (o.entries ++ e ∷ [])) carries (ok_whole o e cause meets over k);
+  body = whole_file true (file_of store o.wanted.target) (got (o.entries ++ e ∷ [])) carries (ok_whole o e cause meets over k);
 }
 
 -- where a conclusion leads

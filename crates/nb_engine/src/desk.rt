@@ -36,7 +36,6 @@ impl Room {
 }
 
 impl Desk {
-    #[inline(never)]
     fn new(alloc: Global) -> Result<Desk, NoMemory> {
         Ok(Desk {
             made: Outlet::new(alloc)?,
@@ -46,6 +45,12 @@ impl Desk {
             },
         })
     }
+
+    /// A new one in its place. That is done once in a run, and stands apart.
+    #[inline(never)]
+    fn boxed(alloc: Global) -> Result<Box<Desk>, NoMemory> {
+        Ok(Box::new(alloc, Desk::new(alloc)?)?)
+    }
 }
 
 /// The desk that was kept, or a new one.
@@ -53,6 +58,6 @@ impl Desk {
 pub fn lent(alloc: Global, kept: Option<Box<Desk>>) -> Result<Box<Desk>, NoMemory> {
     match kept {
         Some(desk) => Ok(desk),
-        None => Ok(Box::new(alloc, Desk::new(alloc)?)?),
+        None => Desk::boxed(alloc),
     }
 }

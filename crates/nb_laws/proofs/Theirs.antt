@@ -35,7 +35,7 @@ openings_theirs store es before after k words others (o ∷ os) so_far all ended
     opened = all;
     ended = ended;
     name = refl;
-    body = whole_file false (store o.server o.target) (datagrams_of k before) carries.0 whole;
+    body = whole_file true (store o.server o.target) (datagrams_of k before) carries.0 whole;
   },
   openings_theirs store es before after k words (others ++ o ∷ []) os so_far (all ∙ sym (append_assoc others (o ∷ []) os)) ended whole carries.1,
 )

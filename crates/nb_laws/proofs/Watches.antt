@@ -1,5 +1,5 @@
 -- The last first try of an open, among what concerns its tries.
-use Rattle.std.proofs.Common.{◌≡◌, ℕ, false, List, [], ◌∷◌, ◌++◌, Option, Some, None, refl, sym, ◌∙◌, ap, subst, append_assoc, append-nil, filter, if◌then◌else◌}
+use Rattle.std.proofs.Common.{◌≡◌, ℕ, true, List, [], ◌∷◌, ◌++◌, Option, Some, None, refl, sym, ◌∙◌, ap, subst, append_assoc, append-nil, filter, if◌then◌else◌}
 use Rattle.std.specs.List.{flat_map, fold}
 use Rattle.std.specs.Option.{option_map_or, is_some}
 use Rattle.std.proofs.lemmas.List.{map-append}
@@ -87,7 +87,7 @@ comes_on ms w m now (Some n) first h = record {
 
 one_on : (b : Begun) (before : List Entry) (call : Call) (acts : Acts) (ms : List Mark) (w : Watch) → AsksSo b before (entry call acts) → Watched ms w → Watched (ms ++ entry_marks (entry call acts)) (watched_call w call acts)
 one_on b before (came m now) acts ms w so h =
-    comes_on ms w m now acts.tried (first_try false b before m now acts so) h
+    comes_on ms w m now acts.tried (first_try true b before m now acts so) h
 one_on b before (ticked now) acts ms w so h = ticks_on ms w now acts.tried _ (said_same now acts.tried acts.over) h
 
 all_on : (b : Begun) (before h : List Entry) (ms : List Mark) (w : Watch) → EachEntry (AsksSo b) before h → Watched ms w →

@@ -1,5 +1,5 @@
 -- A datagram or a time comes to the one open that lives.
-use Rattle.std.proofs.Common.{◌≡◌, ℕ, true, false, cond, List, [], ◌∷◌, ◌++◌, Some, None, refl, sym, ◌∙◌, ap, subst, append-nil, option_map}
+use Rattle.std.proofs.Common.{◌≡◌, ℕ, true, cond, List, [], ◌∷◌, ◌++◌, Some, None, refl, sym, ◌∙◌, ap, subst, append-nil, option_map}
 use Rattle.nb_terms.specs.declared.cause.Cause.{Cause}
 use Rattle.nb_terms.specs.declared.acts.Acts.{Acts}
 use Rattle.nb_defs.specs.Records.{In, Out, ended}
@@ -75,8 +75,8 @@ keeps_now o xs lives begins = record {
 puts : (w : World) (o : Open) (call : Call) (acts : Acts) → Meets o.begun o.start (o.entries ++ entry call acts ∷ []) → has_route w.net (request_of o.begun) ≡ true →
     (exchanged_by w o call acts).put ≡ acts_records w.net o.number acts ++ end_records o.number (end_of (body_of (with_entry o (entry call acts))) acts)
 puts w o call acts meets route =
-    let so = asks_last false o.begun o.start o.entries (entry call acts) meets in
-    routed w.net o.number o.begun.server.0 o.begun (file (got (o.entries ++ entry call acts ∷ []))) acts (call_sends false o.begun o.entries call acts so) route
+    let so = asks_last true o.begun o.start o.entries (entry call acts) meets in
+    routed w.net o.number o.begun.server.0 o.begun (file (got (o.entries ++ entry call acts ∷ []))) acts (call_sends true o.begun o.entries call acts so) route
 
 end_is : (w : World) (o : Open) (call : Call) (acts : Acts) (x : _) → (exchanged_by w o call acts).put ≡ acts_records w.net o.number acts ++ end_records o.number (end_of (body_of (with_entry o (entry call acts))) acts) →
     end_of (body_of (with_entry o (entry call acts))) acts ≡ x → takings.end_among o.number (exchanged_by w o call acts).put ≡ x

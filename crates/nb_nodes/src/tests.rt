@@ -17,8 +17,8 @@ const TFTP: ObjId = ObjId(2);
 
 const PATTERN: [u8; 512] = [0x5a; 512];
 
-/// The request for `f` in mode octet (RFC 1350, section 5).
-const REQUEST_LEN: usize = 10;
+/// The request for `f` in mode octet with its two options (RFC 1350, section 5; RFC 2347).
+const REQUEST_LEN: usize = 31;
 
 const STOPPED: Cause = Cause {
     code: 26,

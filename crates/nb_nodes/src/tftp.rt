@@ -201,7 +201,7 @@ impl Tftp {
             own_port,
             path,
         } = wanted;
-        match Transfer::start_plain(0, server, port, own_port, path, now, &mut acts) {
+        match Transfer::start(0, server, port, own_port, path, now, &mut acts) {
             Ok(transfer) => {
                 self.work = Work::Running(transfer);
                 self.carry_out(acts, fx);

@@ -31,8 +31,8 @@ TalkMeets cancelled = Unit {0}
 -- of which this is enough here: each asks what it has to
 abbrev TalkAsks : Conversation → Type 0
 TalkAsks unbegun = Unit {0}
-TalkAsks (under_way b start calls) = EachEntry (AsksSoWith false b) [] calls
-TalkAsks (over b start calls) = EachEntry (AsksSoWith false b) [] calls
+TalkAsks (under_way b start calls) = EachEntry (AsksSoWith true b) [] calls
+TalkAsks (over b start calls) = EachEntry (AsksSoWith true b) [] calls
 TalkAsks cancelled = Unit {0}
 
 asks_of : (v : Conversation) → TalkMeets v → TalkAsks v
@@ -46,7 +46,7 @@ front_asks : (P : List Step → Step → Type 0) (before calls : List Step) (e :
 front_asks P before [] e h = tt
 front_asks P before (x ∷ calls) e h = (h.0, front_asks P (before ++ x ∷ []) calls e h.1)
 
-asks_either : (o : Bool) (b : Begun) (start : ℕ) (calls : List Step) → TalkAsks (if o then over b start calls else under_way b start calls) → EachEntry (AsksSoWith false b) [] calls
+asks_either : (o : Bool) (b : Begun) (start : ℕ) (calls : List Step) → TalkAsks (if o then over b start calls else under_way b start calls) → EachEntry (AsksSoWith true b) [] calls
 asks_either true b start calls h = h
 asks_either false b start calls h = h
 
@@ -61,10 +61,10 @@ asks_before : (u v : Conversation) (e : NodeEntry Obj Load) → Continues u e v 
 asks_before _ _ _ (begins a m now fx tag ask effects) h = tt
 asks_before _ _ _ (receives b start calls slot m now fx acts is effects takes) h =
     let e : Step = entry (came (received m.rec m.a m.bytes) now) acts in
-    front_asks (AsksSoWith false b) [] calls e (asks_either (is_some acts.over) b start (calls ++ e ∷ []) h)
+    front_asks (AsksSoWith true b) [] calls e (asks_either (is_some acts.over) b start (calls ++ e ∷ []) h)
 asks_before _ _ _ (ticks b start calls now fx acts effects) h =
     let e : Step = entry (ticked now) acts in
-    front_asks (AsksSoWith false b) [] calls e (asks_either (is_some acts.over) b start (calls ++ e ∷ []) h)
+    front_asks (AsksSoWith true b) [] calls e (asks_either (is_some acts.over) b start (calls ++ e ∷ []) h)
 asks_before _ _ _ (ends v e fatal passes) h = asks_ended v h
 asks_before _ _ _ (rests v e idle asks) h = h
 
@@ -91,23 +91,23 @@ due_shows b fixed last rec Over (Again n) d c = absurd (let z = d in cc)
 due_shows b fixed last rec Over Over d c = refl
 
 -- two answers with the same effects are one
-one_answer : (b : Begun) (calls : List Step) (call : Call) (m : Said) (fx : Fx Obj Load) (x y : Acts) → AsksSoWith false b calls (entry call x) → AsksSoWith false b calls (entry call y)
+one_answer : (b : Begun) (calls : List Step) (call : Call) (m : Said) (fx : Fx Obj Load) (x y : Acts) → AsksSoWith true b calls (entry call x) → AsksSoWith true b calls (entry call y)
     → EffectsOf m x fx → EffectsOf m y fx → x ≡ y
 one_answer b calls (came r now) m fx x y p q f g = p ∙ sym q
 one_answer b calls (ticked now) m fx x y p q f g =
     let same : due_of x ≡ due_of y =
-    due_shows b (port_with false (got calls)) (count_with false (got calls)) m.rec (due_of x) (due_of y)
+    due_shows b (port_with true (got calls)) (count_with true (got calls)) m.rec (due_of x) (due_of y)
     (sym (ap (λ (a : Acts). downs_of m.rec a) p) ∙ sym f.downs ∙ g.downs ∙ ap (λ (a : Acts). downs_of m.rec a) q)
     (sym (ap (λ (a : Acts). end_closes a.over) p) ∙ sym f.closes ∙ g.closes ∙ ap (λ (a : Acts). end_closes a.over) q) in
-    p ∙ ap (λ (d : Due). due_acts b (port_with false (got calls)) (count_with false (got calls)) d) same ∙ sym q
+    p ∙ ap (λ (d : Due). due_acts b (port_with true (got calls)) (count_with true (got calls)) d) same ∙ sym q
 
 -- and so lead to the same
 same_answer : (b : Begun) (start : ℕ) (calls : List Step) (call : Call) (m : Said) (fx : Fx Obj Load) (x y : Acts) → EffectsOf m x fx → EffectsOf m y fx
     → TalkAsks (talk_went_on b start (calls ++ entry call x ∷ []) x) → TalkAsks (talk_went_on b start (calls ++ entry call y ∷ []) y)
     → talk_went_on b start (calls ++ entry call x ∷ []) x ≡ talk_went_on b start (calls ++ entry call y ∷ []) y
 same_answer b start calls call m fx x y f g h k =
-    let p = EachEntry-last (AsksSoWith false b) [] calls (entry call x) (asks_either (is_some x.over) b start (calls ++ entry call x ∷ []) h) in
-    let q = EachEntry-last (AsksSoWith false b) [] calls (entry call y) (asks_either (is_some y.over) b start (calls ++ entry call y ∷ []) k) in
+    let p = EachEntry-last (AsksSoWith true b) [] calls (entry call x) (asks_either (is_some x.over) b start (calls ++ entry call x ∷ []) h) in
+    let q = EachEntry-last (AsksSoWith true b) [] calls (entry call y) (asks_either (is_some y.over) b start (calls ++ entry call y ∷ []) k) in
     ap (λ (a : Acts). talk_went_on b start (calls ++ entry call a ∷ []) a) (one_answer b calls call m fx x y p q f g)
 
 -- no entry both ends it and calls nothing

@@ -9,8 +9,8 @@ use nb_wire::Ip4;
 use std::process::Abort;
 use std::test::Fail;
 
-/// The request for `f` in mode octet (RFC 1350, section 5).
-const REQUEST_LEN: usize = 10;
+/// The request for `f` in mode octet with its two options (RFC 1350, section 5; RFC 2347).
+const REQUEST_LEN: usize = 31;
 
 const STOPPED: Cause = Cause {
     code: 26,

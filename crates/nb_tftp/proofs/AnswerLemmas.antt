@@ -39,7 +39,7 @@ Means opts fixed size last port p (Taken n len over) =
     (n ≡ suc last) × (len ≡ length (option_map_or bytes_of p [])) × (next_of fixed last port p ≡ true) × (fits_of size p ≡ true) × (over ≡ end_of_block size n len)
 Means opts fixed size last port p (Ended cause) = ((next_of fixed last port p && fits_of size p) ≡ false) × (eqb cause.code 0 ≡ false)
 Means opts fixed size last port p (Agreed granted) =
-    (fixed ≡ None) × ((opts && option_map_or is_oack p false) ≡ true) × (granted ≡ option_map_or stated_size p 512)
+    (fixed ≡ None) × ((opts && option_map_or is_oack p false) ≡ true) × (granted ≡ option_map_or stated_size p 512) × (is_block_size granted ≡ true)
 Means opts fixed size last port p (Declined rec) = (next_of fixed last port p && fits_of size p) ≡ false
 Means opts fixed size last port p Ignored = Quiet opts fixed last port p
 Means opts fixed size last port p Stranger = Quiet opts fixed last port p
@@ -86,7 +86,7 @@ nothing_in opts fixed port = no_grant opts fixed (from_server fixed port && fals
 oack_means : (opts : Bool) (fixed : Option ℕ) (size last rec port : ℕ) (blksize tsize : Option ℕ) → Means opts fixed size last port (Some (oack blksize tsize)) (decided opts fixed size last rec port (oack blksize tsize))
 oack_means false fixed size last rec port blksize tsize = (refl, and_off (from_server fixed port))
 oack_means true None size last rec port blksize tsize =
-    either_way (is_block_size (unwrap_or blksize 512)) (λ on. rw on (refl, refl, refl)) (λ off. rw off refl)
+    either_way (is_block_size (unwrap_or blksize 512)) (λ on. rw on (refl, refl, refl, on)) (λ off. rw off refl)
 oack_means true (Some p) size last rec port blksize tsize = either_way (eqb p port)
     (λ on. rw on (either_way (eqb last 0) (λ first. rw first (refl, and_off (eqb p port))) (λ later. rw later (refl, and_off (eqb p port)))))
     (λ off. rw off (refl, and_off (eqb p port)))

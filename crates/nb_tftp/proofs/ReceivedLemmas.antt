@@ -110,7 +110,7 @@ size_first true m ungranted = either_way (is_block 1 m)
     (λ off. rw (ungranted, off) refl)
 
 -- the size stays as it is, unless an OACK is the first agreement
-size_or_grant : {P : Type 0} (opts : Bool) (got : List Received) (m : Received) → (size_with opts (got ++ m ∷ []) ≡ size_with opts got → P) → (port_with opts got ≡ None → (opts && is_grant m) ≡ true → P) → P
+pub size_or_grant : {P : Type 0} (opts : Bool) (got : List Received) (m : Received) → (size_with opts (got ++ m ∷ []) ≡ size_with opts got → P) → (port_with opts got ≡ None → (opts && is_grant m) ≡ true → P) → P
 size_or_grant opts got m same granted = by_option (port_with opts got)
     (λ none. either_way (opts && is_grant m) (λ on. granted none on)
     (λ off. same (ap (size_at opts) (agreement_comes opts got m (find_none opts got none)) ∙ size_first opts m off ∙ sym (no_size opts got none))))

@@ -1,5 +1,5 @@
 -- What a transfer asks of its caller
-use Rattle.std.specs.Prelude.{ℕ, ◌+◌, ◌==◌, Bool, false, List, [], ◌∷◌, Option, Some, None, if◌then◌else◌}
+use Rattle.std.specs.Prelude.{ℕ, ◌+◌, ◌==◌, Bool, true, false, List, [], ◌∷◌, Option, Some, None, if◌then◌else◌}
 use Rattle.std.specs.Option.{option_map_or, is_none}
 use Rattle.arrayvec.specs.ArrayVec.{ArrayVec}
 use Rattle.nb_terms.specs.declared.acts.Acts.{Acts}
@@ -25,9 +25,9 @@ abbrev pub begun_asking : Bool → Ip4 → ℕ → ℕ → List ℕ → Begun
 begun_asking options server port own_port path =
     record { server = server; port = port; own_port = own_port; request = packet_text (rrq path options) }
 
--- without options
+-- with options
 abbrev pub begun : Ip4 → ℕ → ℕ → List ℕ → Begun
-begun server port own_port path = begun_asking false server port own_port path
+begun server port own_port path = begun_asking true server port own_port path
 
 -- a UDP datagram to a port of the server
 abbrev pub datagram : Begun → ℕ → List ℕ → SendTo

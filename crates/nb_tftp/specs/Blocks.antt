@@ -1,5 +1,5 @@
 -- RFC 1350, section 2, and RFC 2348: the blocks among the datagrams that were received, by their numbers, and the file
-use Rattle.std.specs.Prelude.{ℕ, zero, suc, ◌==◌, ◌&&◌, Bool, false, List, [], ◌∷◌, ◌++◌, length, Option, Some, None, nat_le, nat_lt, if◌then◌else◌}
+use Rattle.std.specs.Prelude.{ℕ, zero, suc, ◌==◌, ◌&&◌, Bool, true, false, List, [], ◌∷◌, ◌++◌, length, Option, Some, None, nat_le, nat_lt, if◌then◌else◌}
 use Rattle.std.specs.List.{flat_map}
 use Rattle.std.specs.Option.{option_map, option_map_or, option_and_then, option_to_list}
 use Rattle.nb_tftp.specs.Received.{Received, is_block, block_bytes, port_with, size_with}
@@ -67,15 +67,15 @@ abbrev pub whole_with : Bool → List Received → Bool
 whole_with options got =
     option_map_or (λ block. nat_lt (length block) (size_with options got)) (last_block (blocks_with options got)) false
 
--- the same without options, where blocks have 512 bytes
+-- the same where options were asked for
 abbrev pub blocks : List Received → List (List ℕ)
-blocks got = blocks_with false got
+blocks got = blocks_with true got
 
 abbrev pub count : List Received → ℕ
-count got = count_with false got
+count got = count_with true got
 
 abbrev pub file : List Received → List ℕ
-file got = file_with false got
+file got = file_with true got
 
 abbrev pub is_whole : List Received → Bool
-is_whole got = whole_with false got
+is_whole got = whole_with true got

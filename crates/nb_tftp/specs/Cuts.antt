@@ -1,5 +1,5 @@
 -- RFC 1350, section 2, and RFC 2348: a file in blocks of the size agreed, the last one shorter
-use Rattle.std.specs.Prelude.{◌≡◌, ◌≤◌, ℕ, ◌+◌, ◌-◌, ◌*◌, ◌/◌, Bool, false, true, List, length, take, drop, Some}
+use Rattle.std.specs.Prelude.{◌≡◌, ◌≤◌, ℕ, ◌+◌, ◌-◌, ◌*◌, ◌/◌, Bool, true, List, length, take, drop, Some}
 use Rattle.std.specs.List.{AllByRecursion}
 use Rattle.nb_tftp.specs.Received.{Received, block_bytes, port_with, size_with}
 use Rattle.nb_tftp.specs.Blocks.{is_block_from}
@@ -26,6 +26,6 @@ abbrev pub CarriesFileWith : Bool → List ℕ → List Received → Type 0
 CarriesFileWith options bytes got =
     (port : ℕ) → port_with options got ≡ Some port → AllByRecursion (CarriesCut (size_with options got) bytes port) got
 
--- the same without options
+-- the same where options were asked for
 abbrev pub CarriesFile : List ℕ → List Received → Type 0
-CarriesFile bytes got = CarriesFileWith false bytes got
+CarriesFile bytes got = CarriesFileWith true bytes got

@@ -30,7 +30,7 @@ pub record IsTooLongWith (options : Bool) (before : List Received) (m : Received
   pub server : IsFromServer options before m
 
 -- the datagram is the first to grant the options that were asked for, and its size is none to agree on
-pub record IsUnfitGrant (options : Bool) (before : List Received) (m : Received) : Type 0 where
+pub record IsUnfitWith (options : Bool) (before : List Received) (m : Received) : Type 0 where
   pub asked : options ≡ true
   pub first : port_with options before ≡ None
   pub grant : is_grant m ≡ true
@@ -43,15 +43,18 @@ pub record IsFullWith (options : Bool) (received : List Received) : Type 0 where
   pub is_last : last_block (blocks_with options received) ≡ Some last
   pub full : length last ≡ size_with options received
 
--- the same without options, where blocks have 512 bytes
+-- the same where options were asked for
 abbrev pub Refuses : List Received → Received → ℕ → Type 0
-Refuses before m number = RefusesWith false before m number
+Refuses before m number = RefusesWith true before m number
 
 abbrev pub IsTooLongBlock : List Received → Received → Type 0
-IsTooLongBlock before m = IsTooLongWith false before m
+IsTooLongBlock before m = IsTooLongWith true before m
 
 abbrev pub IsFull : List Received → Type 0
-IsFull received = IsFullWith false received
+IsFull received = IsFullWith true received
+
+abbrev pub IsUnfitGrant : List Received → Received → Type 0
+IsUnfitGrant before m = IsUnfitWith true before m
 
 -- the moments of a watch
 abbrev pub moments : Watch → List ℕ
@@ -88,13 +91,13 @@ pub data EndingWith (options : Bool) (start : ℕ) (before : List Entry) (e : En
       → IsTooLongWith options (got before) m → EndingWith options start before e cause
   -- this datagram grants a size that is none to agree on
   by_unfit_size : (m : Received) (now : ℕ) → e.call ≡ came m now → cause ≡ broken m.rec
-      → IsUnfitGrant options (got before) m → EndingWith options start before e cause
+      → IsUnfitWith options (got before) m → EndingWith options start before e cause
   -- no number is left for the next block
   by_last_number : cause ≡ too_many_blocks → IsFullWith options (got (before ++ e ∷ [])) → EndingWith options start before e cause
   -- the tries have run out, and no datagram since the last first sending has answered it
   by_silence : (now : ℕ) → e.call ≡ ticked now → cause ≡ timed_out
       → RanOut (watched start (before ++ e ∷ [])) now → IsUnansweredWith options start before → EndingWith options start before e cause
 
--- without options
+-- where options were asked for
 abbrev pub Ending : ℕ → List Entry → Entry → Cause → Type 0
-Ending start before e cause = EndingWith false start before e cause
+Ending start before e cause = EndingWith true start before e cause

@@ -91,6 +91,6 @@ port_with options got = option_map (λ m. m.port) (agreement options got)
 abbrev pub size_with : Bool → List Received → ℕ
 size_with options got = if options then option_map_or size_in (agreement options got) 512 else 512
 
--- the server's port without options: the one that the first block 1 came from
+-- the server's port where options were asked for: the one that the first OACK or block 1 came from
 abbrev pub fixed_port : List Received → Option ℕ
-fixed_port got = port_with false got
+fixed_port got = port_with true got

@@ -1,5 +1,5 @@
 -- What a transfer promises of all its calls, by what was received and when
-use Rattle.std.specs.Prelude.{◌≡◌, ℕ, ◌+◌, ◌&&◌, ◌||◌, Bool, false, List, [], ◌∷◌, ◌++◌, Option, map, filter}
+use Rattle.std.specs.Prelude.{◌≡◌, ℕ, ◌+◌, ◌&&◌, ◌||◌, Bool, true, false, List, [], ◌∷◌, ◌++◌, Option, map, filter}
 use Rattle.std.specs.List.{list_any}
 use Rattle.std.specs.Option.{option_map_or, is_none}
 use Rattle.nb_retry.specs.declared.plan.Plan.TheVariants.{Common}
@@ -73,18 +73,18 @@ pub record MeetsWith (options : Bool) (b : Begun) (start : ℕ) (entries : List 
   pub tries : FollowsCommonPlan start entries
   pub unanswered : EachEntry (TriesUnanswered options start) [] entries
 
--- the same without options
+-- the same where options were asked for
 abbrev pub AsksSo : Begun → List Entry → Entry → Type 0
-AsksSo b before e = AsksSoWith false b before e
+AsksSo b before e = AsksSoWith true b before e
 
 abbrev pub OkWhereWhole : List Entry → Entry → Type 0
-OkWhereWhole before e = OkWhereWholeWith false before e
+OkWhereWhole before e = OkWhereWholeWith true before e
 
 abbrev pub answers : Option ℕ → ℕ → Received → Bool
-answers fixed last m = answers_with false fixed last m
+answers fixed last m = answers_with true fixed last m
 
 abbrev pub IsUnanswered : ℕ → List Entry → Type 0
-IsUnanswered start entries = IsUnansweredWith false start entries
+IsUnanswered start entries = IsUnansweredWith true start entries
 
 abbrev pub Meets : Begun → ℕ → List Entry → Type 0
-Meets b start entries = MeetsWith false b start entries
+Meets b start entries = MeetsWith true b start entries

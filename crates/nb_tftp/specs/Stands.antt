@@ -46,6 +46,6 @@ pub record StandsWith (options : Bool) (b : Begun) (start : ℕ) (state : State)
   pub over : transfer_has_ended state.phase ≡ is_ended entries
   pub live : transfer_has_ended state.phase ≡ false → UnderWay options b start state entries
 
--- without options
+-- where options were asked for
 abbrev pub Stands : Begun → ℕ → State → List Entry → Type 0
-Stands b start state entries = StandsWith false b start state entries
+Stands b start state entries = StandsWith true b start state entries

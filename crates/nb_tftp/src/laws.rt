@@ -9,11 +9,11 @@ ghost use Rattle.std.specs.List.{AllByRecursion};
 ghost use Rattle.nb_tftp.specs.Asks.{Begun, begun_asking, ack_of};
 ghost use Rattle.nb_tftp.specs.Asked.{IsAskedWith};
 ghost use Rattle.nb_tftp.specs.Received.{Received, size_with};
-ghost use Rattle.nb_tftp.specs.Blocks.{count, file, count_with, file_with, whole_with};
+ghost use Rattle.nb_tftp.specs.Blocks.{count_with, file_with, whole_with};
 ghost use Rattle.nb_tftp.specs.Cuts.{cuts, CarriesFileWith};
 ghost use Rattle.nb_tftp.specs.History.{Call, Entry, entry, came, ticked, given, got, last_advance};
 ghost use Rattle.nb_tftp.specs.Limits.{StopsAtEnd, HaveBytes};
-ghost use Rattle.nb_tftp.specs.Sentences.{Meets, MeetsWith};
+ghost use Rattle.nb_tftp.specs.Sentences.{MeetsWith};
 ghost use Rattle.nb_tftp.specs.Endings.{EndingWith};
 ghost use Rattle.nb_tftp.specs.Plain.{IsPlain, IsRangeOf};
 
@@ -44,18 +44,16 @@ pub fn at_most_65535_blocks()
     ensures blocks { (options : Bool) (b : Begun) (start : ℕ) (h : List Entry) → MeetsWith options b start h → StopsAtEnd h
         → count_with options (got h) ≤ 65535 }
     ensures numbers { (options : Bool) (received : List Received) → HaveBytes received → count_with options received ≤ 65535 }
-    ensures plain { (b : Begun) (start : ℕ) (h : List Entry) → Meets b start h → StopsAtEnd h → count (got h) ≤ 65535 }
 {}
 
-/// So what it takes has at most 65,535 times the agreed size; without options that is 512.
+/// So what it takes has at most 65,535 times the agreed size, which is at most 1,432: 93,846,120 bytes.
 pub fn at_most_the_agreed_size()
     ensures size { (options : Bool) (b : Begun) (start : ℕ) (h : List Entry) → MeetsWith options b start h → StopsAtEnd h
         → length (file_with options (got h)) ≤ size_with options (got h) * 65535 }
     ensures bytes { (options : Bool) (received : List Received) → HaveBytes received
         → length (file_with options received) ≤ size_with options received * 65535 }
-    ensures plain { (b : Begun) (start : ℕ) (h : List Entry) → Meets b start h → StopsAtEnd h → length (file (got h)) ≤ 33553920 }
-    ensures plain_bytes { (received : List Received) → HaveBytes received → length (file received) ≤ 33553920 }
-    ensures without { (received : List Received) → size_with false received ≡ 512 }
+    ensures most { (options : Bool) (b : Begun) (start : ℕ) (h : List Entry) → MeetsWith options b start h → StopsAtEnd h
+        → length (file_with options (got h)) ≤ 93846120 }
 {}
 
 /// Each cause of an end stands in what was received and when, and no other cause comes: `EndingWith` has

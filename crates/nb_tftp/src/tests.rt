@@ -10,8 +10,8 @@ const OWN_PORT: u16 = 49_152;
 
 const PATTERN: [u8; 1432] = [0x5a; 1432];
 
-/// The request for `f` in mode octet (RFC 1350, section 5).
-const REQUEST: &[u8] = b"\x00\x01f\x00octet\x00";
+/// The request for `f` in mode octet with blksize and tsize (RFC 1350, section 5; RFC 2347 to 2349).
+const REQUEST: &[u8] = b"\x00\x01f\x00octet\x00blksize\x001432\x00tsize\x000\x00";
 
 const UNKNOWN_TRANSFER: &[u8] = b"\x00\x05\x00\x05\x00";
 
@@ -39,6 +39,11 @@ fn sends_to(acts: &Acts, port: u16, bytes: &[u8]) -> bool {
     }
 }
 
+/// A transfer with its request out.
+fn asking(acts: &mut Acts) -> Result<Transfer, TooLong> {
+    Transfer::start(0, SERVER, 69, OWN_PORT, b"f", 0, acts)
+}
+
 fn ended(code: u8, a: u32, b: u32) -> Option<Cause> {
     Some(Cause { code, a, b })
 }
@@ -46,11 +51,11 @@ fn ended(code: u8, a: u32, b: u32) -> Option<Cause> {
 #[test]
 fn starts_with_a_request(rt: HostRuntime) -> Result<(), Fail> {
     let mut acts = Acts::none();
-    let _transfer = Transfer::start_plain(0, SERVER, 69, OWN_PORT, b"f", 0, &mut acts)?;
+    let _transfer = asking(&mut acts)?;
     assert!(rt; sends_to(&acts, 69, REQUEST));
     assert_eq!(rt; acts.tried, Some(1));
     let path = [b'p'; 1025];
-    let refused = Transfer::start_plain(0, SERVER, 69, OWN_PORT, &path, 0, &mut acts);
+    let refused = Transfer::start(0, SERVER, 69, OWN_PORT, &path, 0, &mut acts);
     assert_eq!(rt; refused.err(), Some(TooLong));
     assert!(rt; sends_to(&acts, 69, b""));
     Ok(())
@@ -60,7 +65,7 @@ fn starts_with_a_request(rt: HostRuntime) -> Result<(), Fail> {
 #[test]
 fn takes_each_block_once(rt: HostRuntime) -> Result<(), Fail> {
     let mut acts = Acts::none();
-    let mut transfer = Transfer::start_plain(0, SERVER, 69, OWN_PORT, b"f", 0, &mut acts)?;
+    let mut transfer = asking(&mut acts)?;
     for (n, len, reply, give, tried, advance, over) in [
         (
             1,
@@ -108,7 +113,7 @@ fn takes_each_block_once(rt: HostRuntime) -> Result<(), Fail> {
 #[test]
 fn ends_at_an_empty_block(rt: HostRuntime) -> Result<(), Fail> {
     let mut acts = Acts::none();
-    let mut transfer = Transfer::start_plain(0, SERVER, 69, OWN_PORT, b"f", 0, &mut acts)?;
+    let mut transfer = asking(&mut acts)?;
     for (n, len, over) in [(1, 512, None), (2, 512, None), (3, 0, ended(0, 0, 0))] {
         transfer.message(1, 2000, block(n, len).as_slice(), 0, &mut acts);
         assert_eq!(rt; acts.over, over, "the end at block {n}");
@@ -128,15 +133,15 @@ fn ends_where_a_datagram_ends_it(rt: HostRuntime) -> Result<(), Fail> {
         ),
         (b"\x00\x05\x00\x01gone\x00", ended(1, 9, 1), "a refusal"),
         (
-            b"\x00\x06blksize\x001432\x00",
+            b"\x00\x06blksize\x00abc\x00",
             None,
-            "an OACK, which wasn't asked for",
+            "an OACK whose size is no number",
         ),
         (b"\x00\x04\x00\x00", None, "an acknowledgement"),
         (b"\x00\x07\x00\x00", None, "no packet"),
     ] {
         let mut acts = Acts::none();
-        let mut transfer = Transfer::start_plain(0, SERVER, 69, OWN_PORT, b"f", 0, &mut acts)?;
+        let mut transfer = asking(&mut acts)?;
         transfer.message(9, 2000, bytes, 0, &mut acts);
         assert_eq!(rt; acts.over, over, "{what}");
         assert!(rt; sends_to(&acts, 2000, b""), "no reply to {what}");
@@ -147,13 +152,13 @@ fn ends_where_a_datagram_ends_it(rt: HostRuntime) -> Result<(), Fail> {
 #[test]
 fn tells_strangers_so(rt: HostRuntime) -> Result<(), Fail> {
     let mut acts = Acts::none();
-    let mut transfer = Transfer::start_plain(0, SERVER, 69, OWN_PORT, b"f", 0, &mut acts)?;
+    let mut transfer = asking(&mut acts)?;
     transfer.message(1, 2000, block(1, 512).as_slice(), 0, &mut acts);
     let next = block(2, 512);
     for (bytes, reply, what) in [
         (next.as_slice(), UNKNOWN_TRANSFER, "the next block"),
         (b"\x00\x05\x00\x00\x00", UNKNOWN_TRANSFER, "a refusal"),
-        (b"\x00\x06", b"", "an OACK"),
+        (b"\x00\x06", UNKNOWN_TRANSFER, "an OACK"),
         (b"\x00\x05\x00\x00", b"", "no packet"),
     ] {
         transfer.message(2, 2001, bytes, 0, &mut acts);
@@ -169,7 +174,7 @@ fn tells_strangers_so(rt: HostRuntime) -> Result<(), Fail> {
 #[test]
 fn gives_up_after_six_tries(rt: HostRuntime) -> Result<(), Fail> {
     let mut acts = Acts::none();
-    let mut transfer = Transfer::start_plain(0, SERVER, 69, OWN_PORT, b"f", 0, &mut acts)?;
+    let mut transfer = asking(&mut acts)?;
     for step in 1_u64..63 {
         transfer.time(step * 250, &mut acts);
         let tried = match step {
@@ -194,7 +199,7 @@ fn gives_up_after_six_tries(rt: HostRuntime) -> Result<(), Fail> {
 fn has_room_for_65535_blocks(rt: HostRuntime) -> Result<(), Fail> {
     for (len, over) in [(512, ended(5, 4, 0)), (511, ended(0, 0, 0))] {
         let mut acts = Acts::none();
-        let mut transfer = Transfer::start_plain(0, SERVER, 69, OWN_PORT, b"f", 0, &mut acts)?;
+        let mut transfer = asking(&mut acts)?;
         for n in 1..65_535 {
             transfer.message(1, 2000, block(n, 512).as_slice(), 0, &mut acts);
             assert_eq!(rt; acts.over, None, "block {n}");
@@ -207,11 +212,6 @@ fn has_room_for_65535_blocks(rt: HostRuntime) -> Result<(), Fail> {
     Ok(())
 }
 
-/// A transfer with options, with its request out.
-fn with_options(acts: &mut Acts) -> Result<Transfer, TooLong> {
-    Transfer::start(0, SERVER, 69, OWN_PORT, b"f", 0, acts)
-}
-
 // A file of 1,432 bytes comes in blocks of 1,432 and 0. The OACK of both options is what dnsmasq 2.90 and tftpd-hpa
 // 5.2 answered this request for such a file, captured on loopback; that of blksize alone is RFC 2347's example.
 #[test]
@@ -221,9 +221,7 @@ fn takes_blocks_of_the_size_granted(rt: HostRuntime) -> Result<(), Fail> {
         b"\x00\x06blksize\x001432\x00",
     ] {
         let mut acts = Acts::none();
-        let mut transfer = with_options(&mut acts)?;
-        let request = b"\x00\x01f\x00octet\x00blksize\x001432\x00tsize\x000\x00";
-        assert!(rt; sends_to(&acts, 69, request));
+        let mut transfer = asking(&mut acts)?;
         transfer.message(1, 2000, grant, 10, &mut acts);
         assert!(rt;
             sends_to(&acts, 2000, b"\x00\x04\x00\x00"),
@@ -246,7 +244,7 @@ fn takes_blocks_of_the_size_granted(rt: HostRuntime) -> Result<(), Fail> {
 #[test]
 fn goes_on_without_a_grant(rt: HostRuntime) -> Result<(), Fail> {
     let mut acts = Acts::none();
-    let mut transfer = with_options(&mut acts)?;
+    let mut transfer = asking(&mut acts)?;
     for (n, len, reply, over) in [
         (1, 512, b"\x00\x04\x00\x01".as_slice(), None),
         (2, 512, b"\x00\x04\x00\x02", None),
@@ -256,7 +254,7 @@ fn goes_on_without_a_grant(rt: HostRuntime) -> Result<(), Fail> {
         assert!(rt; sends_to(&acts, 2000, reply), "the reply to block {n}");
         assert_eq!(rt; acts.over, over, "the end at block {n}");
     }
-    let mut transfer = with_options(&mut acts)?;
+    let mut transfer = asking(&mut acts)?;
     transfer.message(7, 2000, block(1, 1432).as_slice(), 0, &mut acts);
     assert_eq!(rt; acts.over, ended(3, 7, 0), "1,432 bytes without an OACK");
     Ok(())
@@ -274,7 +272,7 @@ fn declines_other_sizes(rt: HostRuntime) -> Result<(), Fail> {
         (b"\x00\x06", true),
     ] {
         let mut acts = Acts::none();
-        let mut transfer = with_options(&mut acts)?;
+        let mut transfer = asking(&mut acts)?;
         transfer.message(4, 2000, grant, 0, &mut acts);
         if taken {
             assert!(rt; sends_to(&acts, 2000, b"\x00\x04\x00\x00"));
@@ -291,7 +289,7 @@ fn declines_other_sizes(rt: HostRuntime) -> Result<(), Fail> {
 #[test]
 fn agrees_once(rt: HostRuntime) -> Result<(), Fail> {
     let mut acts = Acts::none();
-    let mut transfer = with_options(&mut acts)?;
+    let mut transfer = asking(&mut acts)?;
     let grant = b"\x00\x06blksize\x001024\x00".as_slice();
     transfer.message(1, 2000, grant, 0, &mut acts);
     for (port, bytes, reply, what) in [

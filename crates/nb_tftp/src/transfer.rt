@@ -29,7 +29,7 @@ impl Model for Transfer {
 impl Transfer {
     ghost use Rattle.std.specs.Prelude.{◌≡◌, ◌<◌, ◌∷◌, ◌++◌, ◌↔◌, [], ℕ, Bool, List, length, IsErr, IfOk, OnErr, OnOk, Some, None, true, false};
     ghost use Rattle.nb_tftpmsg.specs.Texts.{HasNoZero};
-    ghost use Rattle.nb_tftp.specs.Asks.{Begun, begun, begun_asking, nothing, sending, last_message};
+    ghost use Rattle.nb_tftp.specs.Asks.{Begun, begun, nothing, sending, last_message};
     ghost use Rattle.nb_tftp.specs.Received.{received};
     ghost use Rattle.nb_tftp.specs.History.{Entry, entry, came, ticked, is_ended};
     ghost use Rattle.nb_tftp.specs.Stands.{Stands, StandsWith};
@@ -51,56 +51,15 @@ impl Transfer {
         ensures too_long { IsErr result ↔ (1024 < length path.now) }
         ensures refused { OnErr result (acts.new ≡ nothing) }
         // The request is sent, under a timer, and no call stands behind it.
-        ensures request { OnOk result (acts.new ≡ sending (last_message (begun_asking true server port own_port path.now) None 0) (Some 1)) }
-        ensures stands { IfOk result (λ t. StandsWith true (begun_asking true server port own_port path.now) now t []) }
-        ensures sound { AreSoundActs 0 acts.new }
-    {
-        Transfer::ask(true, server, port, own_port, path, now, acts)
-    }
-
-    /// The same without options, so blocks have 512 bytes.
-    pub fn start_plain(
-        _number: u16,
-        server: Ip4,
-        port: u16,
-        own_port: u16,
-        path: &[u8],
-        now: u64,
-        acts: &mut Acts,
-    ) -> Result<Transfer, TooLong>
-        requires { HasNoZero path.now }
-        ensures too_long { IsErr result ↔ (1024 < length path.now) }
-        ensures refused { OnErr result (acts.new ≡ nothing) }
-        // The request is sent, under a timer, and no call stands behind it.
         ensures request { OnOk result (acts.new ≡ sending (last_message (begun server port own_port path.now) None 0) (Some 1)) }
         ensures stands { IfOk result (λ t. Stands (begun server port own_port path.now) now t []) }
-        ensures sound { AreSoundActs 0 acts.new }
-    {
-        Transfer::ask(false, server, port, own_port, path, now, acts)
-    }
-
-    /// Asks the server for the file of this path, with or without options.
-    fn ask(
-        options: bool,
-        server: Ip4,
-        port: u16,
-        own_port: u16,
-        path: &[u8],
-        now: u64,
-        acts: &mut Acts,
-    ) -> Result<Transfer, TooLong>
-        requires { HasNoZero path.now }
-        ensures too_long { IsErr result ↔ (1024 < length path.now) }
-        ensures refused { OnErr result (acts.new ≡ nothing) }
-        ensures request { OnOk result (acts.new ≡ sending (last_message (begun_asking options server port own_port path.now) None 0) (Some 1)) }
-        ensures stands { IfOk result (λ t. StandsWith options (begun_asking options server port own_port path.now) now t []) }
         ensures sound { AreSoundActs 0 acts.new }
     {
         if path.len() > MAX_PATH {
             acts.clear();
             return Err(TooLong);
         }
-        let state = State::begun(options, server, port, own_port, path, now);
+        let state = State::begun(true, server, port, own_port, path, now);
         acts.clear();
         state.ask_last(Some(1), acts);
         Ok(Transfer { state })

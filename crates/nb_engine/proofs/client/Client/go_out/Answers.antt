@@ -34,7 +34,7 @@ returns-then-has_route-clause-does c = λ g.
     subst (λ (y : Seen). c.has_route.result ≡ has_route y.world.net (request_of b)) c.self.view_is
     (subst (λ (x : Fetch). c.has_route.result ≡ has_route c.self.inside.world.net (datagram_of (speaker_of x) 69 b.request)) (c.get.ensures ∙ next) (c.has_route.ensures 69 b.request)) in
     let route : has_route w.net (request_of b) ≡ true = sym found ∙ c.if-has_route.true in
-    let short : length b.request ≤ 1480 = request_fits false (host wanted.target.server) 69 (own_port w.w w.opens) wanted.target.path c.requires.file.path in
+    let short : length b.request ≤ 1480 = request_fits true (host wanted.target.server) 69 (own_port w.w w.opens) wanted.target.path c.requires.file.path in
     let downloads : Downloads h (fetch_of w.opens) (tftp_of w.opens) b w.time [] [] =
     subst (λ (x : Fetch). Downloads h (fetch_of x.number) (tftp_of x.number) (begun x.server 69 x.own_port wanted.target.path) w.time [] []) next c.requires.begins.downloads in
     let puts : PutsBegun s ws w wanted (next_fetch w wanted) n c.args.log.now c.ask.new.log [] =

@@ -21,7 +21,7 @@ returns-clause-leads c = λ m tag b.
     let runs : c.carry_out.new.self.work ≡ Running c.in-Ok.transfer = c.carry_out.ensures.work ∙ ap (λ z. if is_some z.over then Over else Running c.in-Ok.transfer) c.in-Ok.ensures.request in
     subst (λ (z : Work). ContinuesAs z c.carry_out.new.self.work (down m c.args.now true c.carry_out.new.fx)) (sym c.requires.waits)
     (subst (λ (z : Work). ContinuesAs Waiting z (down m c.args.now true c.carry_out.new.fx)) (sym runs)
-    (begin_on (ask_value c.in-Some.wanted) m c.args.now c.carry_out.new.fx c.start_plain.new.acts c.in-Ok.transfer tag (ap ask_in b ∙ sym c.in-Some.ensures.value) c.in-Ok.ensures.request (c.carry_out.ensures.effects m) c.in-Ok.ensures.stands))
+    (begin_on (ask_value c.in-Some.wanted) m c.args.now c.carry_out.new.fx c.start.new.acts c.in-Ok.transfer tag (ap ask_in b ∙ sym c.in-Some.ensures.value) c.in-Ok.ensures.request (c.carry_out.ensures.effects m) c.in-Ok.ensures.stands))
 
 pub returns-clause-ups : goal.returns-clause-ups
-returns-clause-ups c = no_ups silence c.start_plain.new.acts c.carry_out.new.fx (c.carry_out.ensures.effects silence) (ap (λ z. z.give) c.in-Ok.ensures.request)
+returns-clause-ups c = no_ups silence c.start.new.acts c.carry_out.new.fx (c.carry_out.ensures.effects silence) (ap (λ z. z.give) c.in-Ok.ensures.request)

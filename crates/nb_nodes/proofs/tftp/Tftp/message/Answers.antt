@@ -22,4 +22,4 @@ returns-clause-leads c = λ slot m d r p b took.
     let same : received m.rec m.a m.bytes ≡ received c.args.rec c.args.port c.args.body.now = ap (λ z. received z m.a m.bytes) r ∙ ap (λ z. received c.args.rec z m.bytes) p ∙ ap (λ z. received c.args.rec c.args.port z) b in
     subst (λ (z : Work). ContinuesAs z c.carry_out.new.self.work (up slot m c.args.now true c.carry_out.new.fx)) (sym c.in-Running.is)
     (message_on slot m c.args.now c.carry_out.new.fx c.message.new.acts c.in-Running.transfer c.message.new.self c.carry_out.new.self.work d (c.carry_out.ensures.effects m) (c.carry_out.ensures.took ∙ took)
-    (subst (λ (z : Received). CallsOnce c.in-Running.transfer c.message.new.self (came z c.args.now) c.message.new.acts) (sym same) (c.message.ensures.stands false)) c.carry_out.ensures.work)
+    (subst (λ (z : Received). CallsOnce c.in-Running.transfer c.message.new.self (came z c.args.now) c.message.new.acts) (sym same) (c.message.ensures.stands true)) c.carry_out.ensures.work)

@@ -17,4 +17,4 @@ returns-in_default-take-clause-leads c = fails_on _ _ _ c.give_up.ensures.over (
 pub returns-clause-leads : goal.returns-clause-leads
 returns-clause-leads c =
     subst (λ (z : Work). ContinuesAs z c.carry_out.new.self.work (time c.args.now true c.carry_out.new.fx)) (sym c.in-Running.is)
-    (tick_on c.args.now c.carry_out.new.fx c.time.new.acts c.in-Running.transfer c.time.new.self c.carry_out.new.self.work (c.carry_out.ensures.effects silence) (c.time.ensures.stands false) c.carry_out.ensures.work)
+    (tick_on c.args.now c.carry_out.new.fx c.time.new.acts c.in-Running.transfer c.time.new.self c.carry_out.new.self.work (c.carry_out.ensures.effects silence) (c.time.ensures.stands true) c.carry_out.ensures.work)
