@@ -13,7 +13,16 @@ TOP = Path(__file__).resolve().parent.parent
 sys.path.insert(0, str(TOP / "tools"))
 
 import compiler  # noqa: E402
-from boots import MEGABYTE, MOST_MEGABYTES, SERVER, image, replay, write_transfer  # noqa: E402
+from boots import (  # noqa: E402
+    BLOCK,
+    GRANTED,
+    MEGABYTE,
+    MOST_MEGABYTES,
+    SERVER,
+    image,
+    replay,
+    write_transfer,
+)
 from instructions import Counted, costs_of, count, missing  # noqa: E402
 from meter import Measured, build_meter, measure  # noqa: E402
 from shared.command_line import Refused, run  # noqa: E402
@@ -21,9 +30,9 @@ from shared.command_line import Refused, run  # noqa: E402
 MOST_FUNCTIONS = 10
 
 DESCRIPTION = """\
-Measures the built program on recorded boots by TFTP in blocks of 512 bytes: the peak of its memory, its
-processor time, and its instructions for each byte, beside those of a C loop that only checks sums
-and copies, and the ten functions that cost most. Memory and time are measured where cc is
+Measures the built program on recorded boots by TFTP in blocks of 512 bytes, or of 1,432 that the
+server grants: the peak of its memory, its processor time, and its instructions for each byte,
+beside those of a C loop that only checks sums and copies, and the ten functions that cost most. Memory and time are measured where cc is
 installed, instructions counted where valgrind is too. `rt run` in crates/netboot proves and builds
 the program."""
 
@@ -110,10 +119,13 @@ def parse(words: list[str]) -> argparse.Namespace:
         "megabytes", type=int, nargs="*", default=[3, 30], help="sizes of images, from 1 to 31"
     )
     parser.add_argument("--keep", type=Path, metavar="DIR", help="only write the recordings here")
+    parser.add_argument(
+        "--granted", action="store_true", help="the server grants blocks of 1,432 bytes"
+    )
     return parser.parse_args(words)
 
 
-def write_transfers(sizes: list[int], folder: Path) -> dict[int, Path]:
+def write_transfers(sizes: list[int], folder: Path, block: int) -> dict[int, Path]:
     """Writes a recording for each size in megabytes; answers them by their images' lengths."""
     recordings = {}
     for megabytes in sorted(set(sizes)):
@@ -122,18 +134,19 @@ def write_transfers(sizes: list[int], folder: Path) -> dict[int, Path]:
             raise Refused(f"an image of {megabytes} megabytes {why}")
         length = megabytes * MEGABYTE
         recording = recordings[length] = folder / f"{megabytes}.rec"
-        write_transfer(length, recording)
+        write_transfer(length, recording, block)
     return recordings
 
 
 def measure_all(words: list[str]) -> None:
     arguments = parse(words)
+    block = GRANTED if arguments.granted else BLOCK
     if arguments.keep:
-        write_transfers(arguments.megabytes, arguments.keep)
+        write_transfers(arguments.megabytes, arguments.keep, block)
         return
     with tempfile.TemporaryDirectory() as name:
         folder = Path(name)
-        recordings = write_transfers(arguments.megabytes, folder)
+        recordings = write_transfers(arguments.megabytes, folder, block)
         report_runs(arguments.program, recordings, folder)
         report_instructions(arguments.program, recordings, folder)
 
