@@ -62,8 +62,8 @@ lookup_asked bytes = option_and_then (λ v. if can_look_up v.name then Some (loo
 abbrev pub is_from_names : ℕ → Said → Bool
 is_from_names slot m = is_datagram slot m && (m.a == 53)
 
-abbrev pub datagram_in : Said → DnsDatagram
-datagram_in m = dns_datagram m.rec (record { 0 = m.b }) m.bytes
+abbrev pub dns_datagram_in : Said → DnsDatagram
+dns_datagram_in m = dns_datagram m.rec (record { 0 = m.b }) m.bytes
 
 -- the address that the calls found: the one of the first reply, where it doesn't refuse
 pub record IsFoundBy (l : Lookup) (calls : List LookupEntry) (found : Option Ip4) : Type 0 where
@@ -85,7 +85,7 @@ lookup_service = record {
   asked = lookup_asked;
   opening = λ l. asks_try (query_to l) 1;
   takes = is_from_names;
-  received = λ m now acts. lookup_entry (arrived (datagram_in m) now) acts;
+  received = λ m now acts. lookup_entry (arrived (dns_datagram_in m) now) acts;
   timed = λ now acts. lookup_entry (clocked now) acts;
   gives = GivesAddress;
   stands = LookupStands;

@@ -26,10 +26,16 @@ second_part l = []
 abbrev pub kind_of_obj : Obj → ℕ
 kind_of_obj (obj.Fetch f) = 1
 kind_of_obj (obj.Tftp p) = 4
+kind_of_obj (obj.Resolver r) = 5
+kind_of_obj (obj.Dhcp d) = 6
+kind_of_obj (obj.Ping p) = 7
 
 abbrev pub rank_of_obj : Obj → ℕ
 rank_of_obj (obj.Fetch f) = 5
 rank_of_obj (obj.Tftp p) = 2
+rank_of_obj (obj.Resolver r) = 2
+rank_of_obj (obj.Dhcp d) = 2
+rank_of_obj (obj.Ping p) = 5
 
 -- its body was whole, and is handed out
 abbrev pub is_handed : Fetch → Bool
@@ -38,10 +44,14 @@ is_handed (Whole body) = false
 is_handed HandedOut = true
 is_handed Failed = false
 
--- their marks: 1 where a body is handed out, which only a harvest does
+-- their marks: of a Fetch 1 where its body is handed out, which only a harvest does; a Resolver, a Dhcp and a Ping have
+-- their numbers, so that a rank and the mark 0 tell a Fetch and a Tftp from all others
 abbrev pub mark_of_obj : Obj → ℕ
 mark_of_obj (obj.Fetch f) = if is_handed f then 1 else 0
 mark_of_obj (obj.Tftp p) = 0
+mark_of_obj (obj.Resolver r) = 5
+mark_of_obj (obj.Dhcp d) = 6
+mark_of_obj (obj.Ping p) = 7
 
 -- what nb_graph knows of them
 abbrev pub obj_nature : Nature Obj Load

@@ -1,19 +1,34 @@
 -- What an object stands for, and what it hands out, by its kind: our own.
 use Rattle.std.specs.Prelude.{◌≡◌, List, Option, None}
 use Rattle.nb_graph.specs.Trace.{NodeEntry}
+use Rattle.nb_nodes.specs.declared.fetch.Fetch.{Fetch}
 use Rattle.nb_nodes.specs.declared.load.Load.{Load}
 use Rattle.nb_nodes.specs.declared.obj.Obj.{Obj}
 use Rattle.nb_nodes.specs.declared.obj.Obj.TheVariants as obj
 use Rattle.nb_nodes.specs.Fetches.{FetchStands, FetchHarvests}
 use Rattle.nb_nodes.specs.Conversations.{TftpStands}
+use Rattle.nb_nodes.specs.LookupExchanges.{ResolverStands}
+use Rattle.nb_nodes.specs.LeaseExchanges.{DhcpStands}
+use Rattle.nb_nodes.specs.EchoExchanges.{PingStandsFor}
 
 abbrev pub ObjStands : Obj → List (NodeEntry Obj Load) → Type 0
 ObjStands (obj.Fetch f) t = FetchStands f t
 ObjStands (obj.Tftp p) t = TftpStands p.value t
+ObjStands (obj.Resolver r) t = ResolverStands r.value t
+ObjStands (obj.Dhcp d) t = DhcpStands d.value t
+ObjStands (obj.Ping p) t = PingStandsFor p.value t
 
--- a Fetch hands out its whole body once, and a Tftp nothing
+abbrev pub HarvestsAsFetch : Fetch → Option Load → Obj → Type 0
+HarvestsAsFetch f r (obj.Fetch g) = FetchHarvests f r g
+HarvestsAsFetch f r (obj.Tftp q) = ⊥
+HarvestsAsFetch f r (obj.Resolver q) = ⊥
+HarvestsAsFetch f r (obj.Dhcp q) = ⊥
+HarvestsAsFetch f r (obj.Ping q) = ⊥
+
+-- a Fetch hands out its whole body once, and the others nothing
 abbrev pub ObjHarvests : Obj → Option Load → Obj → Type 0
-ObjHarvests (obj.Fetch f) r (obj.Fetch g) = FetchHarvests f r g
-ObjHarvests (obj.Fetch f) r (obj.Tftp q) = ⊥
-ObjHarvests (obj.Tftp p) r (obj.Fetch g) = ⊥
-ObjHarvests (obj.Tftp p) r (obj.Tftp q) = (r ≡ None) × (p ≡ q)
+ObjHarvests (obj.Fetch f) r new = HarvestsAsFetch f r new
+ObjHarvests (obj.Tftp p) r new = (r ≡ None) × (new ≡ obj.Tftp p)
+ObjHarvests (obj.Resolver q) r new = (r ≡ None) × (new ≡ obj.Resolver q)
+ObjHarvests (obj.Dhcp d) r new = (r ≡ None) × (new ≡ obj.Dhcp d)
+ObjHarvests (obj.Ping p) r new = (r ≡ None) × (new ≡ obj.Ping p)

@@ -1,13 +1,16 @@
-// The objects of an open that fetches a file, as nodes of nb_graph: a Fetch gathers the file, and a
-// Tftp plugged below it carries the transfer (RFC 1350). What each has done is said over its trace,
-// of a Tftp in terms of nb_tftp's history (specs/Conversations.antt), of a Fetch in terms of what it
-// took (specs/Fetches.antt). Names, streams, leases and drives are left out. Begin with `Obj`, then
-// `Tag`, which says what their messages are.
+// The objects of opens, as nodes of nb_graph: a Fetch gathers a file, and a Tftp plugged below it
+// carries the transfer (RFC 1350); a Resolver looks a name up (RFC 1035), a Dhcp asks for a lease
+// (RFC 2131), and a Ping for an echo (RFC 792). What each has done is said over its trace: of a Tftp
+// in terms of nb_tftp's history (specs/Conversations.antt), of a Fetch in terms of what it took
+// (specs/Fetches.antt), of the others by one definition in terms of their cores
+// (specs/Exchanges.antt). Streams and drives are left out. Begin with `Obj`, then `Tag`.
 #![tactic(auto)]
 
 mod ask;
 mod carrying;
 mod dhcp;
+#[cfg(test)]
+mod exchange_tests;
 mod fetch;
 mod lease_ask;
 mod load;

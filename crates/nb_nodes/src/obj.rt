@@ -2,7 +2,7 @@ ghost use Rattle.std.specs.Prelude.{◌≡◌, [], IfOk};
 ghost use Rattle.nb_nodes.specs.Objects.{kind_of_obj, mark_of_obj, rank_of_obj};
 ghost use Rattle.nb_nodes.specs.Standing.{ObjStands, ObjHarvests};
 
-use crate::{Fetch, Load, Tftp};
+use crate::{Dhcp, Fetch, Load, Ping, Resolver, Tftp};
 use nb_graph::{Fx, Msg, Node};
 use nb_terms::{Cause, NoMemory};
 use std::alloc::Global;
@@ -12,6 +12,9 @@ use std::alloc::Global;
 pub enum Obj {
     Fetch(Fetch),
     Tftp(Box<Tftp>),
+    Resolver(Box<Resolver>),
+    Dhcp(Box<Dhcp>),
+    Ping(Box<Ping>),
 }
 
 impl Obj {
@@ -30,8 +33,36 @@ impl Obj {
         ensures stands { IfOk result (λ o. ObjStands o []) }
         ensures rank { IfOk result (λ o. rank_of_obj o ≡ 2) }
         ensures kind { IfOk result (λ o. kind_of_obj o ≡ 4) }
+        ensures mark { IfOk result (λ o. mark_of_obj o ≡ 0) }
     {
         Ok(Obj::Tftp(Box::new(alloc, Tftp::new(alloc)?)?))
+    }
+
+    /// A Resolver that waits for what to ask for.
+    pub fn resolver(alloc: Global) -> Result<Obj, NoMemory>
+        ensures stands { IfOk result (λ o. ObjStands o []) }
+        ensures rank { IfOk result (λ o. rank_of_obj o ≡ 2) }
+        ensures kind { IfOk result (λ o. kind_of_obj o ≡ 5) }
+    {
+        Ok(Obj::Resolver(Box::new(alloc, Resolver::new(alloc)?)?))
+    }
+
+    /// A Dhcp that waits for what to ask for.
+    pub fn dhcp(alloc: Global) -> Result<Obj, NoMemory>
+        ensures stands { IfOk result (λ o. ObjStands o []) }
+        ensures rank { IfOk result (λ o. rank_of_obj o ≡ 2) }
+        ensures kind { IfOk result (λ o. kind_of_obj o ≡ 6) }
+    {
+        Ok(Obj::Dhcp(Box::new(alloc, Dhcp::new(alloc)?)?))
+    }
+
+    /// A Ping that waits for what to ask for.
+    pub fn ping(alloc: Global) -> Result<Obj, NoMemory>
+        ensures stands { IfOk result (λ o. ObjStands o []) }
+        ensures rank { IfOk result (λ o. rank_of_obj o ≡ 5) }
+        ensures kind { IfOk result (λ o. kind_of_obj o ≡ 7) }
+    {
+        Ok(Obj::Ping(Box::new(alloc, Ping::new(alloc)?)?))
     }
 }
 
@@ -52,6 +83,9 @@ impl Node for Obj {
         match self {
             Obj::Fetch(_) => 5,
             Obj::Tftp(_) => 2,
+            Obj::Resolver(_) => 2,
+            Obj::Dhcp(_) => 2,
+            Obj::Ping(_) => 5,
         }
     }
 
@@ -59,6 +93,9 @@ impl Node for Obj {
         match self {
             Obj::Fetch(_) => 1,
             Obj::Tftp(_) => 4,
+            Obj::Resolver(_) => 5,
+            Obj::Dhcp(_) => 6,
+            Obj::Ping(_) => 7,
         }
     }
 
@@ -73,6 +110,9 @@ impl Node for Obj {
         match self {
             Obj::Fetch(fetch) => fetch.on_up(slot, msg, fx),
             Obj::Tftp(tftp) => tftp.on_up(slot, msg, now, fx),
+            Obj::Resolver(resolver) => resolver.on_up(slot, msg, now, fx),
+            Obj::Dhcp(dhcp) => dhcp.on_up(slot, msg, now, fx),
+            Obj::Ping(ping) => ping.on_up(slot, msg, now, fx),
         }
     }
 
@@ -83,6 +123,9 @@ impl Node for Obj {
                 Ok(())
             }
             Obj::Tftp(tftp) => tftp.on_down(msg, now, fx),
+            Obj::Resolver(resolver) => resolver.on_down(msg, now, fx),
+            Obj::Dhcp(dhcp) => dhcp.on_down(msg, now, fx),
+            Obj::Ping(ping) => ping.on_down(msg, now, fx),
         }
     }
 
@@ -90,6 +133,9 @@ impl Node for Obj {
         match self {
             Obj::Fetch(fetch) => fetch.on_close(slot, cause, fx),
             Obj::Tftp(tftp) => tftp.on_close(slot, cause, fx),
+            Obj::Resolver(resolver) => resolver.on_close(slot, cause, fx),
+            Obj::Dhcp(dhcp) => dhcp.on_close(slot, cause, fx),
+            Obj::Ping(ping) => ping.on_close(slot, cause, fx),
         }
     }
 
@@ -97,6 +143,9 @@ impl Node for Obj {
         match self {
             Obj::Fetch(_) => Ok(()),
             Obj::Tftp(tftp) => tftp.on_time(now, fx),
+            Obj::Resolver(resolver) => resolver.on_time(now, fx),
+            Obj::Dhcp(dhcp) => dhcp.on_time(now, fx),
+            Obj::Ping(ping) => ping.on_time(now, fx),
         }
     }
 
@@ -104,6 +153,9 @@ impl Node for Obj {
         match self {
             Obj::Fetch(_) => {}
             Obj::Tftp(tftp) => tftp.regain(load),
+            Obj::Resolver(resolver) => resolver.regain(load),
+            Obj::Dhcp(dhcp) => dhcp.regain(load),
+            Obj::Ping(ping) => ping.regain(load),
         }
     }
 
@@ -111,6 +163,9 @@ impl Node for Obj {
         match self {
             Obj::Fetch(fetch) => fetch.harvest(),
             Obj::Tftp(_) => None,
+            Obj::Resolver(_) => None,
+            Obj::Dhcp(_) => None,
+            Obj::Ping(_) => None,
         }
     }
 }

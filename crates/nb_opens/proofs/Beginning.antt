@@ -175,6 +175,6 @@ module _ (g h : Objects Obj) (m n : Option (List Notice)) (now f t rec : ℕ) (a
   pub begin_does : AreMade g f t → ask_in bytes ≡ Some a → length bytes < 2 ^ 32 → AreNoded rank_of_obj h
       → WentOne ObjStands obj_nature now (Offers (port_at f 0) (record { tag = 1; rec = rec; a = 0; b = 0; bytes = bytes }) ∷ []) g h m n → DoesBegin h f t (begun_with a) now rec m n
   begin_does made ask short noded went =
-      let st : Begins = started g h m n now f t (Offers (port_at f 0) (begin_message rec bytes) ∷ []) [] [] unbegun made.joined.two made.fetch made.tftp refl tt noded (tt, tt) went in
+      let st : Begins = started g h m n now f t (Offers (port_at f 0) (begin_message rec bytes) ∷ []) [] [] unbegun made.joined.two made.fetch made.tftp refl tt made.unharvested noded (tt, tt) went in
       let k = offered-fetch (case st) (scene_of g.book) [] [] [] unbegun st.deeds (begin_message rec bytes) made.joined.user (record { uses = st.uses; tail = st.tail }) in
       (told_of st.deeds, st.told, calls_fetch made st k.0 k.1 k.3.0 ask short k.2 k.3.2 k.3.1)

@@ -23,7 +23,7 @@ use Rattle.nb_nodes.specs.Conversations.{Conversation, Continues, RunsTo, unbegu
 use Rattle.nb_nodes.specs.Fetches.{gathers, closed_well, first_end, is_ok_close}
 use Rattle.nb_nodes.specs.Standing.{ObjStands}
 use Rattle.nb_opens.specs.Notices.{tells, closed_notices}
-use Rattle.nb_opens.specs.Pairs.{AreTwo, AreJoined, AreGoing, HasEnded, IsUnharvested}
+use Rattle.nb_opens.specs.Pairs.{AreTwo, AreJoined, AreGoing, HasEnded, AreUnharvested}
 use Rattle.nb_opens.proofs.TalkLemmas.{TalkMeets}
 use Rattle.nb_opens.proofs.Going.{Case, closes-down}
 use Rattle.nb_opens.proofs.GoingMore.{two-after}
@@ -44,7 +44,7 @@ pub record Goings (g : Objects Obj) (f t : ℕ) : Type 0 where
   pub runs : RunsTo unbegun below talk
   pub meets : TalkMeets talk
   pub ongoing : talk_has_ended talk ≡ false
-  pub unharvested : IsUnharvested g f
+  pub unharvested : AreUnharvested g f t
 
 pub goings : (g : Objects Obj) (f t : ℕ) → AreGoing g f t → Goings g f t
 goings g f t (inl m) = record { joined = m.joined; above = []; below = []; talk = unbegun; fetch = m.fetch; tftp = m.tftp; gathering = refl; runs = refl; meets = tt; ongoing = refl; unharvested = m.unharvested }
@@ -83,14 +83,14 @@ pub record UserShut (g a : Objects Obj) (m n : Option (List Notice)) (f t : ℕ)
   pub fetch : ObjectStands ObjStands a f w.above
   pub tftp : ObjectStands ObjStands a t below
   pub runs : RunsTo unbegun below w.talk
-  pub unharvested : IsUnharvested a f
+  pub unharvested : AreUnharvested a f t
   pub told : Given m n (tells (Closed (port_at f 0) z) ∷ [])
 
 module _ (g a : Objects Obj) (m n : Option (List Notice)) (now f t : ℕ) (z : Cause) where
   pub user_shut : (w : Goings g f t) → AreNoded rank_of_obj a → WentOne ObjStands obj_nature now (Closes (port_at f 0) z ∷ []) g a m n → UserShut g a m n f t z w
   user_shut w noded k =
       let asks : List (Stage Obj Load) = Closes (port_at f 0) z ∷ [] in
-      let st = started g a m n now f t asks w.above w.below w.talk w.joined.two w.fetch w.tftp w.runs w.meets noded (tt, tt) k in
+      let st = started g a m n now f t asks w.above w.below w.talk w.joined.two w.fetch w.tftp w.runs w.meets w.unharvested noded (tt, tt) k in
       let c = case_of now f t st.apart a st.top st.bottom st.talk in
       let s = scene_of g.book in
       let at : At c s asks w.above w.talk [] st.deeds = record { below = w.below; left = st.deeds; told = refl; goes = record { uses = st.uses; tail = st.tail } } in
@@ -160,7 +160,7 @@ module _ (g a h : Objects Obj) (m n o : Option (List Notice)) (now f t : ℕ) (z
       → HasEnded h f t None × Given m o (closed_notices f t z)
   both_shut w u noded k =
       let asks : List (Stage Obj Load) = Closes (port_at f 1) z ∷ [] in
-      let st = started a h n o now f t asks w.above u.below w.talk u.two u.fetch u.tftp u.runs w.meets noded (tt, tt) k in
+      let st = started a h n o now f t asks w.above u.below w.talk u.two u.fetch u.tftp u.runs w.meets u.unharvested noded (tt, tt) k in
       let c = case_of now f t st.apart h st.top st.bottom st.talk in
       let s = scene_of a.book in
       let at : At c s asks w.above w.talk [] st.deeds = record { below = u.below; left = st.deeds; told = refl; goes = record { uses = st.uses; tail = st.tail } } in

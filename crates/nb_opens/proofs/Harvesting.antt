@@ -34,7 +34,13 @@ from_node : (n after : Obj) (r : Option Load) (t : List (NodeEntry Obj Load)) (b
     → body_in r ≡ body
 from_node (obj.Fetch fe) (obj.Fetch after) r t body at s well taken zero h = from_fetch fe after r t body s well taken zero h
 from_node (obj.Fetch fe) (obj.Tftp q) r t body at s well taken zero h = absurd h
+from_node (obj.Fetch fe) (obj.Resolver q) r t body at s well taken zero h = absurd h
+from_node (obj.Fetch fe) (obj.Dhcp q) r t body at s well taken zero h = absurd h
+from_node (obj.Fetch fe) (obj.Ping q) r t body at s well taken zero h = absurd h
 from_node (obj.Tftp p) after r t body at s well taken zero h = absurd (omega (arith, at))
+from_node (obj.Resolver p) after r t body at s well taken zero h = absurd (omega (arith, at))
+from_node (obj.Dhcp p) after r t body at s well taken zero h = absurd (omega (arith, at))
+from_node (obj.Ping p) after r t body at s well taken zero h = absurd (omega (arith, zero))
 
 -- it is the body of the open
 pub harvests_body : (g h : Objects Obj) (f t : ℕ) (r : Option Load) (body : Option (List ℕ)) → AreNoded rank_of_obj g → Harvests ObjHarvests g h (serial f) r → HasEnded g f t body → body_in r ≡ body
@@ -43,4 +49,4 @@ harvests_body g h f t r body noded k e =
     let z : Some n.node ≡ Some k.before = sym n.is_node ∙ k.had in
     let same : n.node ≡ k.before = cc in
     let at : rank_of_obj k.before ≡ 5 = ap rank_of_obj (sym same) ∙ (n.at_rank ∙ e.shut.two.fetch_rank) in
-    from_node k.before k.after r e.above body at (e.fetch k.before k.had).0 e.well e.taken (e.unharvested k.before k.had) k.gave
+    from_node k.before k.after r e.above body at (e.fetch k.before k.had).0 e.well e.taken (e.unharvested.0 k.before k.had) k.gave

@@ -28,7 +28,7 @@ use Rattle.nb_nodes.specs.Carried.{EffectsOf}
 use Rattle.nb_nodes.specs.Conversations.{Conversation, unbegun, under_way, over, talk_went_on, is_datagram, Continues, receives, ticks, ends, rests, RunsTo}
 use Rattle.nb_nodes.specs.Fetches.{taken_below}
 use Rattle.nb_opens.specs.Notices.{tells}
-use Rattle.nb_opens.specs.Pairs.{Downloads, CallDoes, goes_on, is_over, is_too_large, fails, IsDownloading, DoesCall, IsUnharvested}
+use Rattle.nb_opens.specs.Pairs.{Downloads, CallDoes, goes_on, is_over, is_too_large, fails, IsDownloading, DoesCall, AreUnharvested}
 use Rattle.nb_opens.proofs.TalkLemmas.{TalkMeets}
 use Rattle.nb_opens.proofs.Starting.{Started, started_with, case_of, deeds_in, told_in}
 use Rattle.nb_opens.proofs.Going.{Case, offers-up, ticks-in}
@@ -76,7 +76,7 @@ body_so true body taken e = e
 body_so false body taken e = tt
 
 module _ (g h : Objects Obj) (m n : Option (List Notice)) (now f t : ℕ) (asks : List (Stage Obj Load)) (above below : List (NodeEntry Obj Load)) (b : Begun) (start : ℕ) (calls : List Step) (st : Started g h m n now f t asks above below (under_way b start calls))
-    (was : IsUnharvested g f) (body : List ℕ) (p : Port) (by : Way) (rec : ℕ) (call : Call) (acts : Acts) where
+    (was : AreUnharvested g f t) (body : List ℕ) (p : Port) (by : Way) (rec : ℕ) (call : Call) (acts : Acts) where
   abbrev all_calls : List Step
   all_calls = calls ++ entry call acts ∷ []
 
@@ -165,7 +165,7 @@ hear_does g h m n now f t rec port bytes some i j noded k =
       told_of (deeds_in g h m n now asks k),
       told_in g h m n now asks k,
       λ b start calls body d.
-          let z = started_with g h m n now f t asks d.above d.below (under_way b start calls) d.joined.two d.fetch d.tftp d.talk d.meets noded (tt, tt) k in
+          let z = started_with g h m n now f t asks d.above d.below (under_way b start calls) d.joined.two d.fetch d.tftp d.talk d.meets d.unharvested noded (tt, tt) k in
           let st = z.0 in
           let c = case_of now f t st.apart h st.top st.bottom st.talk in
           let x = offers-up c (scene_of g.book) [] d.above d.below (under_way b start calls) st.deeds 1 said (omega arith) d.joined.below (record { uses = st.uses; tail = st.tail }) in
@@ -184,7 +184,7 @@ tick_does g h m n now f t some noded k =
       told_of (deeds_in g h m n now asks k),
       told_in g h m n now asks k,
       λ b start calls body d.
-          let z = started_with g h m n now f t asks d.above d.below (under_way b start calls) d.joined.two d.fetch d.tftp d.talk d.meets noded (tt, tt) k in
+          let z = started_with g h m n now f t asks d.above d.below (under_way b start calls) d.joined.two d.fetch d.tftp d.talk d.meets d.unharvested noded (tt, tt) k in
           let st = z.0 in
           let c = case_of now f t st.apart h st.top st.bottom st.talk in
           let x = ticks-in c (scene_of g.book) [] d.above d.below (under_way b start calls) st.deeds d.joined.two.tftp_lives (record { uses = st.uses; tail = st.tail }) in

@@ -151,10 +151,10 @@ unfolding joined_ports
 lower_port x y k f apart = rw (here y) (rw (ne_eqb y x (λ e. apart (sym e))) refl)
 
 module _ (g a b h : Objects Obj) (m n o q : Option (List Notice)) (now x y : ℕ) (top low : Obj) where
-  pub both_made : IsEmpty g g.book.made → OneMade g a m n x top → OneMade a b n o y low → y ≡ x + 1 → rank_of_obj top ≡ 5 → rank_of_obj low ≡ 2 → mark_of_obj top ≡ 0
+  pub both_made : IsEmpty g g.book.made → OneMade g a m n x top → OneMade a b n o y low → y ≡ x + 1 → rank_of_obj top ≡ 5 → rank_of_obj low ≡ 2 → mark_of_obj top ≡ 0 → mark_of_obj low ≡ 0
       → WentOne ObjStands obj_nature now (MustPlug (port_at x 1) (port_at y 0) ∷ []) b h o q → AreMade h x y × Given o q (tells (Plugged (port_at x 1) (port_at y 0)) ∷ [])
   unfolding joined_ports
-  both_made e one two next five twos zero k =
+  both_made e one two next five twos zero bare k =
       let asks : List (Stage Obj Load) = MustPlug (port_at x 1) (port_at y 0) ∷ [] in
       let call = only_call obj_nature (scene_of b.book) (scene_of h.book) (record { now = now; asks = asks }) k.deeds k.each in
       let did = plugged_deeds now (scene_of b.book) (scene_of h.book) (port_at x 1) (port_at y 0) call.0 call.2 in
@@ -196,7 +196,10 @@ module _ (g a b h : Objects Obj) (m n o q : Option (List Notice)) (now x y : ℕ
           };
           fetch = subst (ObjectStands ObjStands h x) (ap (trace_after x []) all) (k.keeps x [] (two.keeps x apart one.begins));
           tftp = subst (ObjectStands ObjStands h y) (ap (trace_after y []) all) (k.keeps y [] two.begins);
-          unharvested = mark_stays obj_nature ObjStands (node_at b) (node_at h) x 0 (writes (Plugged (port_at x 1) (port_at y 0)) ∷ []) tt (subst (λ z. Hosts obj_nature ObjStands (node_at b) z (node_at h)) all k.hosts) (two.stay_unharvested x apart (one.unharvested zero));
+          unharvested = (
+            mark_stays obj_nature ObjStands (node_at b) (node_at h) x 0 (writes (Plugged (port_at x 1) (port_at y 0)) ∷ []) tt (subst (λ z. Hosts obj_nature ObjStands (node_at b) z (node_at h)) all k.hosts) (two.stay_unharvested x apart (one.unharvested zero)),
+            mark_stays obj_nature ObjStands (node_at b) (node_at h) y 0 (writes (Plugged (port_at x 1) (port_at y 0)) ∷ []) tt (subst (λ z. Hosts obj_nature ObjStands (node_at b) z (node_at h)) all k.hosts) (two.unharvested bare),
+          );
         },
         subst (λ z. Given o q (told_of z)) all k.tells,
       )

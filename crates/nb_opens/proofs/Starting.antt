@@ -20,12 +20,12 @@ use Rattle.nb_nodes.specs.declared.load.Load.{Load}
 use Rattle.nb_nodes.specs.declared.obj.Obj.{Obj}
 use Rattle.nb_nodes.specs.declared.obj.Obj.TheVariants as obj
 use Rattle.nb_nodes.specs.declared.tftp.Work.{Work}
-use Rattle.nb_nodes.specs.Objects.{obj_nature, rank_of_obj}
+use Rattle.nb_nodes.specs.Objects.{obj_nature, rank_of_obj, mark_of_obj}
 use Rattle.nb_nodes.specs.Conversations.{Conversation, unbegun, RunsTo, TftpStands, WorksAt, waits, runs as works, stays, never}
 use Rattle.nb_nodes.specs.Fetches.{EachOf, AsksOfFetch, FetchStands}
 use Rattle.nb_nodes.specs.Standing.{ObjStands}
 use Rattle.nb_opens.specs.Entries.{entries_of}
-use Rattle.nb_opens.specs.Pairs.{AreTwo, IsUnharvested}
+use Rattle.nb_opens.specs.Pairs.{AreTwo, IsUnharvested, AreUnharvested}
 use Rattle.nb_opens.proofs.HoldLemmas.{held_stays}
 use Rattle.nb_opens.proofs.TalkLemmas.{TalkMeets, talk_goes_on}
 use Rattle.nb_opens.proofs.QuietLemmas.{AreQuiet, LeavesObject, quiet_run, begins_none}
@@ -52,7 +52,7 @@ pub record Started (g h : Objects Obj) (m n : Option (List Notice)) (now f t : �
   pub fetch_stands : FetchStands fetch_is top
   pub runs : RunsTo unbegun bottom talk
   pub meets : TalkMeets talk
-  pub unharvested : IsUnharvested g f → IsUnharvested h f
+  pub unharvested : AreUnharvested g f t → AreUnharvested h f t
   pub fetch_held : holds h.book f ≡ 1
   pub tftp_held : holds h.book t ≡ 1
   pub fetch_rank : rank h.book f ≡ 5
@@ -71,14 +71,20 @@ meets-at _ _ (works b start calls state s e) = s.meets
 meets-at _ _ (stays b start calls m) = m
 meets-at _ _ never = tt
 
--- the node of rank 5 is a Fetch, that of rank 2 a Tftp
-fetch-node : (n : Obj) (tx : List (NodeEntry Obj Load)) → rank_of_obj n ≡ 5 → ObjStands n tx → (fe : Fetch) × FetchStands fe tx
-fetch-node (obj.Fetch fe) tx r s = (fe, s)
-fetch-node (obj.Tftp p) tx r s = absurd (omega (arith, r))
+-- the node of rank 5 and mark 0 is a Fetch, that of rank 2 and mark 0 a Tftp
+fetch-node : (n : Obj) (tx : List (NodeEntry Obj Load)) → rank_of_obj n ≡ 5 → mark_of_obj n ≡ 0 → ObjStands n tx → (fe : Fetch) × FetchStands fe tx
+fetch-node (obj.Fetch fe) tx r m s = (fe, s)
+fetch-node (obj.Tftp p) tx r m s = absurd (omega (arith, r))
+fetch-node (obj.Resolver p) tx r m s = absurd (omega (arith, r))
+fetch-node (obj.Dhcp p) tx r m s = absurd (omega (arith, r))
+fetch-node (obj.Ping p) tx r m s = absurd (omega (arith, m))
 
-tftp-node : (n : Obj) (tx : List (NodeEntry Obj Load)) → rank_of_obj n ≡ 2 → ObjStands n tx → (p : Tftp) × TftpStands p tx
-tftp-node (obj.Fetch fe) tx r s = absurd (omega (arith, r))
-tftp-node (obj.Tftp p) tx r s = (p.value, s)
+tftp-node : (n : Obj) (tx : List (NodeEntry Obj Load)) → rank_of_obj n ≡ 2 → mark_of_obj n ≡ 0 → ObjStands n tx → (p : Tftp) × TftpStands p tx
+tftp-node (obj.Fetch fe) tx r m s = absurd (omega (arith, r))
+tftp-node (obj.Tftp p) tx r m s = (p.value, s)
+tftp-node (obj.Resolver p) tx r m s = absurd (omega (arith, m))
+tftp-node (obj.Dhcp p) tx r m s = absurd (omega (arith, m))
+tftp-node (obj.Ping p) tx r m s = absurd (omega (arith, r))
 
 -- what happened in the one call
 abbrev pub deeds_in : (g h : Objects Obj) (m n : Option (List Notice)) (now : ℕ) (asks : List (Stage Obj Load)) → WentOne ObjStands obj_nature now asks g h m n → List (Deed Obj Load)
@@ -92,9 +98,9 @@ told_in g h m n now asks k =
 
 module _ (g h : Objects Obj) (m n : Option (List Notice)) (now f t : ℕ) (asks : List (Stage Obj Load)) (above below : List (NodeEntry Obj Load)) (v : Conversation) where
   -- the same, whatever transfer was under way
-  pub started_with : AreTwo g f t → ObjectStands ObjStands g f above → ObjectStands ObjStands g t below → RunsTo unbegun below v → TalkMeets v → AreNoded rank_of_obj h → AreQuiet t asks
+  pub started_with : AreTwo g f t → ObjectStands ObjStands g f above → ObjectStands ObjStands g t below → RunsTo unbegun below v → TalkMeets v → AreUnharvested g f t → AreNoded rank_of_obj h → AreQuiet t asks
       → (k : WentOne ObjStands obj_nature now asks g h m n) → (s : Started g h m n now f t asks above below v) × (s.deeds ≡ deeds_in g h m n now asks k)
-  started_with two up down talk meets noded quiet k =
+  started_with two up down talk meets bare noded quiet k =
       let one = only_call obj_nature (scene_of g.book) (scene_of h.book) (record { now = now; asks = asks }) k.deeds k.each in
       let ds = one.0 in
       let all : all_of k.deeds ≡ ds = ap all_of one.1 ∙ append-nil ds in
@@ -103,6 +109,7 @@ module _ (g h : Objects Obj) (m n : Option (List Notice)) (now f t : ℕ) (asks 
       let quiet-f : LeavesObject obj_nature f ds = quiet_run obj_nature now t f _ _ asks ds lt quiet made one.2 in
       let quiet-t : LeavesObject obj_nature t ds = quiet_run obj_nature now t t _ _ asks ds (omega arith) quiet made one.2 in
       let none : BeginsNone f ds = begins_none obj_nature now t f _ _ asks ds lt quiet made one.2 in
+      let none-t : BeginsNone t ds = begins_none obj_nature now t t _ _ asks ds (omega arith) quiet made one.2 in
       let hosts : Hosts obj_nature ObjStands (node_at g) ds (node_at h) = subst (λ z. Hosts obj_nature ObjStands (node_at g) z (node_at h)) all k.hosts in
       let run : GraphRunOf (run_state g.book []) (events_of ds) (run_state h.book []) = subst (λ z. GraphRunOf (run_state g.book []) z (run_state h.book [])) (sym k.events ∙ ap events_of all) k.runs.run in
       let stay-f = held_stays f (events_of ds) (run_state g.book []) (run_state h.book []) run (omega (arith, two.fetch_held)) tt quiet-f.0 in
@@ -115,10 +122,12 @@ module _ (g h : Objects Obj) (m n : Option (List Notice)) (now f t : ℕ) (asks 
       let rank-t : rank h.book t ≡ 2 = (k.ages.kept t (omega (arith, two.last)) lives-t).1 ∙ two.tftp_rank in
       let top-f : ObjectStands ObjStands h f (above ++ entries_of f ds) = subst (ObjectStands ObjStands h f) (ap (trace_after f above) all ∙ quiet-f.1 above) (k.keeps f above up) in
       let top-t : ObjectStands ObjStands h t (below ++ entries_of t ds) = subst (ObjectStands ObjStands h t) (ap (trace_after t below) all ∙ quiet-t.1 below) (k.keeps t below down) in
+      let keeps-f : IsUnharvested g f → IsUnharvested h f = mark_stays obj_nature ObjStands (node_at g) (node_at h) f 0 ds none hosts in
+      let keeps-t : IsUnharvested g t → IsUnharvested h t = mark_stays obj_nature ObjStands (node_at g) (node_at h) t 0 ds none-t hosts in
       let node-f = noded f lives-f in
       let node-t = noded t lives-t in
-      let fe = fetch-node node-f.node (above ++ entries_of f ds) (node-f.at_rank ∙ rank-f) (top-f node-f.node node-f.is_node).0 in
-      let tf = tftp-node node-t.node (below ++ entries_of t ds) (node-t.at_rank ∙ rank-t) (top-t node-t.node node-t.is_node).0 in
+      let fe = fetch-node node-f.node (above ++ entries_of f ds) (node-f.at_rank ∙ rank-f) (keeps-f bare.0 node-f.node node-f.is_node) (top-f node-f.node node-f.is_node).0 in
+      let tf = tftp-node node-t.node (below ++ entries_of t ds) (node-t.at_rank ∙ rank-t) (keeps-t bare.1 node-t.node node-t.is_node) (top-t node-t.node node-t.is_node).0 in
       let w = tf.1.conversation in
       let meets-w : TalkMeets w = meets-at tf.0.work w tf.1.works in (
         record {
@@ -143,7 +152,7 @@ module _ (g h : Objects Obj) (m n : Option (List Notice)) (now f t : ℕ) (asks 
           fetch_stands = fe.1;
           runs = tf.1.run;
           meets = meets-w;
-          unharvested = mark_stays obj_nature ObjStands (node_at g) (node_at h) f 0 ds none hosts;
+          unharvested = λ was. (keeps-f was.0, keeps-t was.1);
           fetch_held = held-f;
           tftp_held = held-t;
           fetch_rank = rank-f;
@@ -153,6 +162,6 @@ module _ (g h : Objects Obj) (m n : Option (List Notice)) (now f t : ℕ) (asks 
         refl {a = ds},
       )
 
-  pub started : AreTwo g f t → ObjectStands ObjStands g f above → ObjectStands ObjStands g t below → RunsTo unbegun below v → TalkMeets v → AreNoded rank_of_obj h → AreQuiet t asks
+  pub started : AreTwo g f t → ObjectStands ObjStands g f above → ObjectStands ObjStands g t below → RunsTo unbegun below v → TalkMeets v → AreUnharvested g f t → AreNoded rank_of_obj h → AreQuiet t asks
       → WentOne ObjStands obj_nature now asks g h m n → Started g h m n now f t asks above below v
-  started two up down talk meets noded quiet k = (started_with two up down talk meets noded quiet k).0
+  started two up down talk meets bare noded quiet k = (started_with two up down talk meets bare noded quiet k).0

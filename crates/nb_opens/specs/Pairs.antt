@@ -57,16 +57,20 @@ pub record AreJoined (g : Objects Obj) (f t : ℕ) : Type 0 where
   pub back : port g.book t 0 ≡ Linked (port_at f 1)
   pub below : port g.book t 1 ≡ Open
 
--- no body of the Fetch was handed out
+-- nothing was handed out by an object of a download
 abbrev pub IsUnharvested : Objects Obj → ℕ → Type 0
-IsUnharvested g f = (n : Obj) → node_at g f ≡ Some n → mark_of_obj n ≡ 0
+IsUnharvested g x = (n : Obj) → node_at g x ≡ Some n → mark_of_obj n ≡ 0
+
+-- nor by the two
+abbrev pub AreUnharvested : Objects Obj → ℕ → ℕ → Type 0
+AreUnharvested g f t = IsUnharvested g f × IsUnharvested g t
 
 -- nothing was asked of them yet
 pub record AreMade (g : Objects Obj) (f t : ℕ) : Type 0 where
   pub joined : AreJoined g f t
   pub fetch : ObjectStands ObjStands g f []
   pub tftp : ObjectStands ObjStands g t []
-  pub unharvested : IsUnharvested g f
+  pub unharvested : AreUnharvested g f t
 
 -- an image has at most 268,435,456 bytes
 abbrev pub BodyFits : List ℕ → Type 0
@@ -91,7 +95,7 @@ pub record Downloads (g : Objects Obj) (f t : ℕ) (b : Begun) (start : ℕ) (ca
   pub fits : BodyFits body
   pub talk : RunsTo unbegun below (under_way b start calls)
   pub meets : Meets b start calls
-  pub unharvested : IsUnharvested g f
+  pub unharvested : AreUnharvested g f t
 
 -- the four ports between the user and what is below are closed
 pub record AreShut (g : Objects Obj) (f t : ℕ) : Type 0 where
@@ -108,7 +112,7 @@ pub record HasEnded (g : Objects Obj) (f t : ℕ) (body : Option (List ℕ)) : T
   pub fetch : ObjectStands ObjStands g f above
   pub well : closed_well above ≡ is_some body
   pub taken : IfSome body (λ bytes. taken_below above ≡ bytes)
-  pub unharvested : IsUnharvested g f
+  pub unharvested : AreUnharvested g f t
 
 -- the body of an open that ended with this cause
 abbrev pub body_at_end : Cause → List ℕ → Option (List ℕ)

@@ -5,7 +5,7 @@ use Rattle.nb_dns.specs.declared.state.State.{State}
 use Rattle.nb_dns.specs.LookupCalls.{DnsDatagram, dns_datagram, arrived}
 use Rattle.nb_nodes.specs.declared.stage.Stage.{Stage}
 use Rattle.nb_nodes.specs.Exchanges.{GoesOnAs}
-use Rattle.nb_nodes.specs.LookupExchanges.{lookup_service, datagram_in, address_said}
+use Rattle.nb_nodes.specs.LookupExchanges.{lookup_service, dns_datagram_in, address_said}
 use Rattle.nb_nodes.proofs.TftpLemmas.{asks_within}
 use Rattle.nb_nodes.proofs.ExchangeLemmas.{idles, fails_now, idle_up_other, message_on, CallsMore}
 use Rattle.nb_nodes.proofs.LookupExchangeLemmas.{lookup_meets, lookup_more, arrived_by}
@@ -25,8 +25,8 @@ pub returns-clause-leads : goal.returns-clause-leads
 returns-clause-leads c = λ slot d took.
     let m = said c.args.msg.now in
     let acts = c.message.new.acts in
-    let same : dns_datagram m.rec (record { 0 = m.b }) c.args.body.now ≡ datagram_in m = ap (λ z. dns_datagram m.rec (record { 0 = m.b }) z) c.requires.bytes in
+    let same : dns_datagram m.rec (record { 0 = m.b }) c.args.body.now ≡ dns_datagram_in m = ap (λ z. dns_datagram m.rec (record { 0 = m.b }) z) c.requires.bytes in
     subst (λ (z : Stage State). GoesOnAs lookup_service z c.carry_out.new.self.stage (up slot m c.args.now true c.carry_out.new.fx)) (sym c.in-Running.is)
     (message_on lookup_service slot m c.args.now c.carry_out.new.fx acts (if is_some acts.over then address_said m.rec c.address-found.result else []) c.in-Running.dns c.message.new.self c.carry_out.new.self.stage lookup_meets d (c.carry_out.ensures.effects m) (c.carry_out.ensures.took ∙ took)
-    (lookup_more c.in-Running.dns c.message.new.self (arrived (datagram_in m) c.args.now) acts m.rec c.address-found.result
-    (arrived_by c.in-Running.dns c.message.new.self _ (datagram_in m) c.args.now acts same c.message.ensures.stands) c.address-found.ensures.found c.address-found.ensures.none) c.carry_out.ensures.stage)
+    (lookup_more c.in-Running.dns c.message.new.self (arrived (dns_datagram_in m) c.args.now) acts m.rec c.address-found.result
+    (arrived_by c.in-Running.dns c.message.new.self _ (dns_datagram_in m) c.args.now acts same c.message.ensures.stands) c.address-found.ensures.found c.address-found.ensures.none) c.carry_out.ensures.stage)

@@ -35,10 +35,10 @@ returns-clause-tftp g c =
 pub returns-clause-made : goal.returns-clause-made
 returns-clause-made g c =
     let made = two_made c.args.graph.now c.make_object-fetch.new.graph c.make_object-tftp.new.graph (g.O.Outside.events c.args.out.now) (g.O.Outside.events c.make_object-fetch.new.out) (g.O.Outside.events c.make_object-tftp.new.out) c.make_object-fetch.result c.make_object-tftp.result c.fetch.result c.in_ok-node.node c.fetch.ensures.stands c.in_ok-node.ensures.stands c.make_object-fetch.ensures.made c.make_object-tftp.ensures.made (c.make_object-fetch.ensures.went 0) (c.make_object-tftp.ensures.went 0) in
-    (both_made c.args.graph.now c.make_object-fetch.new.graph c.make_object-tftp.new.graph c.plug.new.graph (g.O.Outside.events c.args.out.now) (g.O.Outside.events c.make_object-fetch.new.out) (g.O.Outside.events c.make_object-tftp.new.out) (g.O.Outside.events c.plug.new.out) 0 c.make_object-fetch.result.0 c.make_object-tftp.result.0 c.fetch.result c.in_ok-node.node c.requires.empty made.one made.two made.next c.fetch.ensures.rank c.in_ok-node.ensures.rank c.fetch.ensures.mark (c.plug.ensures.went 0)).0
+    (both_made c.args.graph.now c.make_object-fetch.new.graph c.make_object-tftp.new.graph c.plug.new.graph (g.O.Outside.events c.args.out.now) (g.O.Outside.events c.make_object-fetch.new.out) (g.O.Outside.events c.make_object-tftp.new.out) (g.O.Outside.events c.plug.new.out) 0 c.make_object-fetch.result.0 c.make_object-tftp.result.0 c.fetch.result c.in_ok-node.node c.requires.empty made.one made.two made.next c.fetch.ensures.rank c.in_ok-node.ensures.rank c.fetch.ensures.mark c.in_ok-node.ensures.mark (c.plug.ensures.went 0)).0
 
 pub returns-clause-told : goal.returns-clause-told
 returns-clause-told g c =
     let made = two_made c.args.graph.now c.make_object-fetch.new.graph c.make_object-tftp.new.graph (g.O.Outside.events c.args.out.now) (g.O.Outside.events c.make_object-fetch.new.out) (g.O.Outside.events c.make_object-tftp.new.out) c.make_object-fetch.result c.make_object-tftp.result c.fetch.result c.in_ok-node.node c.fetch.ensures.stands c.in_ok-node.ensures.stands c.make_object-fetch.ensures.made c.make_object-tftp.ensures.made (c.make_object-fetch.ensures.went 0) (c.make_object-tftp.ensures.went 0) in
-    let told = (both_made c.args.graph.now c.make_object-fetch.new.graph c.make_object-tftp.new.graph c.plug.new.graph (g.O.Outside.events c.args.out.now) (g.O.Outside.events c.make_object-fetch.new.out) (g.O.Outside.events c.make_object-tftp.new.out) (g.O.Outside.events c.plug.new.out) 0 c.make_object-fetch.result.0 c.make_object-tftp.result.0 c.fetch.result c.in_ok-node.node c.requires.empty made.one made.two made.next c.fetch.ensures.rank c.in_ok-node.ensures.rank c.fetch.ensures.mark (c.plug.ensures.went 0)).1 in
+    let told = (both_made c.args.graph.now c.make_object-fetch.new.graph c.make_object-tftp.new.graph c.plug.new.graph (g.O.Outside.events c.args.out.now) (g.O.Outside.events c.make_object-fetch.new.out) (g.O.Outside.events c.make_object-tftp.new.out) (g.O.Outside.events c.plug.new.out) 0 c.make_object-fetch.result.0 c.make_object-tftp.result.0 c.fetch.result c.in_ok-node.node c.requires.empty made.one made.two made.next c.fetch.ensures.rank c.in_ok-node.ensures.rank c.fetch.ensures.mark c.in_ok-node.ensures.mark (c.plug.ensures.went 0)).1 in
     all_told c.args.graph.now c.make_object-fetch.new.graph c.make_object-tftp.new.graph c.plug.new.graph (g.O.Outside.events c.args.out.now) (g.O.Outside.events c.make_object-fetch.new.out) (g.O.Outside.events c.make_object-tftp.new.out) (g.O.Outside.events c.plug.new.out) 0 c.make_object-fetch.result.0 c.make_object-tftp.result.0 c.fetch.result c.in_ok-node.node made.one made.two told c.fetch.ensures.kind c.in_ok-node.ensures.kind
