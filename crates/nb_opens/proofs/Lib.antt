@@ -29,3 +29,4 @@ pub mod LoneCertain
 pub mod LoneStarts
 pub mod LoneCalls
 pub mod LoneDoes
+pub mod LoneRuns

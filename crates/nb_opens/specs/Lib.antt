@@ -5,4 +5,5 @@ pub mod PairEvents
 pub mod Graphs
 pub mod Traces
 pub mod AloneNotices
+pub mod AloneEvents
 pub mod Alones

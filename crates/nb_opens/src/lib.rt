@@ -15,4 +15,4 @@ mod tests;
 
 pub use alone::{Alone, AloneKind, Arrival};
 pub use download::Download;
-pub use laws::graphs_are_traced;
+pub use laws::{events_alone_are_runs, graphs_are_traced};
