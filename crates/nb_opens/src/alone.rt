@@ -148,11 +148,7 @@ impl Alone {
             → DoesAsk ping_service (alone_number kind.Ping) graph.new self.object.0 p now msg.now.rec
             (O.events out.old) (O.events out.new) }
     {
-        let user = Port {
-            obj: self.object,
-            slot: ABOVE,
-        };
-        let _reach = graph.down(user, msg, now, out);
+        let _reach = graph.down(self.port(ABOVE), msg, now, out);
         graph.has_nodes();
     }
 
@@ -182,11 +178,7 @@ impl Alone {
             first: arrival.body,
             second: &[],
         };
-        let below = Port {
-            obj: self.object,
-            slot: BELOW,
-        };
-        let _reach = graph.up(below, &msg, now, out);
+        let _reach = graph.up(self.port(BELOW), &msg, now, out);
         graph.has_nodes();
     }
 
@@ -209,8 +201,8 @@ impl Alone {
         ensures ended { IsShutLone graph.new self.object.0 }
         ensures told { Given (O.events out.old) (O.events out.new) (alone_closed self.object.0 cause.now) }
     {
-        graph.close(self.port(0), cause, now, out);
-        graph.close(self.port(1), cause, now, out);
+        graph.close(self.port(ABOVE), cause, now, out);
+        graph.close(self.port(BELOW), cause, now, out);
     }
 
     /// Lets the object of an open that has ended go, and nothing lives any more.

@@ -13,16 +13,16 @@ pub returns-clause-lookup : goal.returns-clause-lookup
 returns-clause-lookup g c =
     let small : length c.args.arrival.now.body.now < 2 ^ 32 = omega (arith, c.requires.short) in
     receive_does lookup_service LookAsks 5 look_kind c.args.graph.now c.up-reach.new.self (g.O.Outside.events c.args.out.now) (g.O.Outside.events c.up-reach.new.out) c.args.now c.args.self.object.0 (arrival_said c.args.rec c.args.arrival.now)
-    small c.has_nodes.ensures (rw (c.from.ensures, c.from-2.ensures, append-nil) at c.up-reach.ensures.went)
+    small c.has_nodes.ensures (rw (c.port.ensures, c.from.ensures, c.from-2.ensures, append-nil) at c.up-reach.ensures.went)
 
 pub returns-clause-lease : goal.returns-clause-lease
 returns-clause-lease g c =
     let small : length c.args.arrival.now.body.now < 2 ^ 32 = omega (arith, c.requires.short) in
     receive_does lease_service LeaseAsks 6 lease_kind c.args.graph.now c.up-reach.new.self (g.O.Outside.events c.args.out.now) (g.O.Outside.events c.up-reach.new.out) c.args.now c.args.self.object.0 (arrival_said c.args.rec c.args.arrival.now)
-    small c.has_nodes.ensures (rw (c.from.ensures, c.from-2.ensures, append-nil) at c.up-reach.ensures.went)
+    small c.has_nodes.ensures (rw (c.port.ensures, c.from.ensures, c.from-2.ensures, append-nil) at c.up-reach.ensures.went)
 
 pub returns-clause-ping : goal.returns-clause-ping
 returns-clause-ping g c =
     let small : length c.args.arrival.now.body.now < 2 ^ 32 = omega (arith, c.requires.short) in
     receive_does ping_service PingAsks 7 ping_kind c.args.graph.now c.up-reach.new.self (g.O.Outside.events c.args.out.now) (g.O.Outside.events c.up-reach.new.out) c.args.now c.args.self.object.0 (arrival_said c.args.rec c.args.arrival.now)
-    small c.has_nodes.ensures (rw (c.from.ensures, c.from-2.ensures, append-nil) at c.up-reach.ensures.went)
+    small c.has_nodes.ensures (rw (c.port.ensures, c.from.ensures, c.from-2.ensures, append-nil) at c.up-reach.ensures.went)
