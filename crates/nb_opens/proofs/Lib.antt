@@ -22,3 +22,11 @@ pub mod PairRuns
 pub mod RecordLemmas
 pub mod Tracing
 pub mod Plain
+pub mod Lones
+pub mod LoneWalks
+pub mod LoneExchanges
+pub mod LoneCertain
+pub mod LoneStarts
+pub mod LoneCalls
+pub mod LoneDoes
+pub mod LoneRuns

@@ -105,10 +105,10 @@ as_pair {s = s} {f = f} {t = t} {a = a} j next x y = record {
 }
 
 -- here the events end
-ends : {Q : GraphState → Type 0} {s : GraphState} → Q s → Goes Q s []
+pub ends : {Q : GraphState → Type 0} {s : GraphState} → Q s → Goes Q s []
 ends {s = s} q = record { last = s; run = refl; there = q }
 
-runs : {s : GraphState} (Q : GraphState → Type 0) (es : List GraphEvent) → Goes Q s es → RunsTo s es Q
+pub runs : {s : GraphState} (Q : GraphState → Type 0) (es : List GraphEvent) → Goes Q s es → RunsTo s es Q
 runs Q es g = (g.last, g.run, g.there)
 
 -- one run, and then another from where it ends
@@ -118,7 +118,7 @@ run_then s xs ys r next =
     (k.0, Run-append s r.0 k.0 xs ys r.1 k.1, k.2)
 
 -- nothing lives
-as_none : {s : GraphState} {f t n : ℕ} → Two s f t n gone gone [] → IsNone s n
+pub as_none : {s : GraphState} {f t n : ℕ} → Two s f t n gone gone [] → IsNone s n
 as_none {s = s} {f = f} {t = t} j = record {
   made = j.made;
   live = λ x. elim (eqb_tells x f) [
@@ -136,7 +136,7 @@ as_none {s = s} {f = f} {t = t} j = record {
   stack = j.stack;
 }
 
-from_none : {s : GraphState} {n : ℕ} (f t : ℕ) → (f ≡ t → ⊥) → IsNone s n → Two s f t n gone gone []
+pub from_none : {s : GraphState} {n : ℕ} (f t : ℕ) → (f ≡ t → ⊥) → IsNone s n → Two s f t n gone gone []
 from_none f t h j = record {
   made = j.made;
   apart = h;

@@ -40,7 +40,7 @@ closed_holds p z s t (m, linked q idle e u, run) = ap (λ (y : GraphState). y.ho
 closed_holds p z s t (m, peer q st top e u, run) = ap (λ (y : GraphState). y.holds) (sym run ∙ u)
 
 -- one port was closed
-record ClosesAlone (g h : Objects Obj) (m n : Option (List Notice)) (p : Port) (z : Cause) : Type 0 where
+pub record ClosesAlone (g h : Objects Obj) (m n : Option (List Notice)) (p : Port) (z : Cause) : Type 0 where
   pub made : h.book.made ≡ g.book.made
   pub room : h.book.room ≡ g.book.room
   pub live : (y : ℕ) → object_lives h.book y ≡ object_lives g.book y
@@ -48,7 +48,7 @@ record ClosesAlone (g h : Objects Obj) (m n : Option (List Notice)) (p : Port) (
   pub ports : (y k : ℕ) → port_in h.book y k ≡ port_but p port.Closed (port_in g.book) y k
   pub told : Given m n (tells (Closed p z) ∷ [])
 
-closes_alone : (g h : Objects Obj) (m n : Option (List Notice)) (now : ℕ) (p : Port) (z : Cause) → port_in g.book p.obj.0 p.slot ≡ port.Open → WentOne ObjStands obj_nature now (Closes p z ∷ []) g h m n → ClosesAlone g h m n p z
+pub closes_alone : (g h : Objects Obj) (m n : Option (List Notice)) (now : ℕ) (p : Port) (z : Cause) → port_in g.book p.obj.0 p.slot ≡ port.Open → WentOne ObjStands obj_nature now (Closes p z ∷ []) g h m n → ClosesAlone g h m n p z
 closes_alone g h m n now p z o k =
     let asks : List (Stage Obj Load) = Closes p z ∷ [] in
     let call = only_call obj_nature (scene_of g.book) (scene_of h.book) (record { now = now; asks = asks }) k.deeds k.each in

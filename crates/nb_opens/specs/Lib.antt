@@ -4,3 +4,6 @@ pub mod Pairs
 pub mod PairEvents
 pub mod Graphs
 pub mod Traces
+pub mod AloneNotices
+pub mod AloneEvents
+pub mod Alones

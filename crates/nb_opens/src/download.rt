@@ -212,7 +212,7 @@ fn body_in(load: Option<Load>) -> Option<Body>
 }
 
 /// Makes an object where there is room for it.
-fn make_object<O: Outside>(graph: &mut Graph<Obj>, node: Obj, out: &mut O) -> ObjId
+pub(crate) fn make_object<O: Outside>(graph: &mut Graph<Obj>, node: Obj, out: &mut O) -> ObjId
     requires stands { ObjStands node [] }
     requires room { length graph.old.book.objects < graph.old.book.room }
     requires serials { graph.old.book.made < 2 ^ 64 - 1 }
@@ -254,7 +254,7 @@ fn close_free<O: Outside>(graph: &mut Graph<Obj>, id: ObjId, cause: &Cause, now:
 }
 
 /// Lets the hold of an object go that has one.
-fn let_go<O: Outside>(graph: &mut Graph<Obj>, id: ObjId, out: &mut O)
+pub(crate) fn let_go<O: Outside>(graph: &mut Graph<Obj>, id: ObjId, out: &mut O)
     requires lives { object_lives graph.old.book id.0 ≡ true }
     requires held { 0 < holds graph.old.book id.0 }
     ensures { (now : ℕ) → WentOne ObjStands obj_nature now (Wants (LetGo id) ∷ []) graph.old graph.new

@@ -1,15 +1,18 @@
-// The two objects of an open that fetches a file, on a graph on which nothing else lives: a Fetch,
-// and the Tftp plugged to it (RFC 1350). Each call says what the outside is told of it, in order
-// (specs/Notices.antt), and where the transfer is then, in terms of nb_tftp's history
-// (specs/Pairs.antt). How the records of such objects stand in an output, and what follows, is said in
-// specs/Graphs.antt and specs/Traces.antt. Other kinds of opens, and several at a time, are left out. Begin with
-// `Download`.
+// The objects of an open on a graph on which nothing else lives. Of one that fetches a file they are a
+// Fetch and the Tftp plugged to it (RFC 1350); of one that asks and is answered a Resolver (RFC 1035), a
+// Dhcp (RFC 2131) or a Ping (RFC 792) alone. Each call says what the outside is told of it, in order
+// (specs/Notices.antt, AloneNotices.antt), and where the core is then, in terms of its history
+// (specs/Pairs.antt, Alones.antt). How the records of a Fetch and a Tftp stand in an output, and what
+// follows, is said in specs/Graphs.antt and specs/Traces.antt. Other kinds of opens, and several at a
+// time, are left out. Begin with `Download`, then `Alone`.
 #![tactic(auto)]
 
+mod alone;
 mod download;
 mod laws;
 #[cfg(test)]
 mod tests;
 
+pub use alone::{Alone, AloneKind, Arrival};
 pub use download::Download;
-pub use laws::graphs_are_traced;
+pub use laws::{events_alone_are_runs, graphs_are_traced};

@@ -1,16 +1,23 @@
 ghost use Rattle.std.specs.Prelude.{◌≡◌, IfOk, None};
 ghost use Rattle.nb_opens.specs.Pairs.{IsEmpty};
 
-use crate::Download;
+use crate::{Alone, AloneKind, Arrival, Download};
 use nb_graph::{Graph, Msg, Outside, Port};
-use nb_nodes::{Ask, Obj};
+use nb_nodes::{Ask, LeaseAsk, LookupAsk, Obj, PingAsk};
 use nb_terms::{Cause, Event, NoMemory};
-use nb_wire::Ip4;
+use nb_wire::{Ip4, Mac};
 use std::process::Abort;
 use std::test::Fail;
 
 /// The request for `f` in mode octet with its two options (RFC 1350, section 5; RFC 2347).
 const REQUEST_LEN: usize = 31;
+
+const SERVER: Ip4 = Ip4(0x0a00_0001);
+
+/// What dnsmasq 2.90 answers to a query with number 0x0102 for `a.b`, with
+/// `--cname=a.b,c.b --host-record=c.b,10.0.0.9`.
+const ANSWER: &[u8] =
+    b"\x01\x02\x85\x80\x00\x01\x00\x02\x00\x00\x00\x00\x01a\x01b\x00\x00\x01\x00\x01\xc0\x0c\x00\x05\x00\x01\x00\x00\x00\x00\x00\x05\x01c\x01b\x00\xc0!\x00\x01\x00\x01\x00\x00\x00\x00\x00\x04\x0a\x00\x00\x09";
 
 const STOPPED: Cause = Cause {
     code: 26,
@@ -158,5 +165,118 @@ fn shuts_down(rt: HostRuntime) -> Result<(), Fail> {
     assert_eq!(rt; graph.live(), 0);
     let other = Download::make(rt.alloc(), &mut graph, &mut tape)?;
     assert_eq!(rt; (other.fetch.0, other.tftp.0), (3, 4));
+    Ok(())
+}
+
+// The query leaves below in the user's record; the address goes up in the answer's, before both ports are closed.
+#[test]
+fn finds_an_address(rt: HostRuntime) -> Result<(), Fail> {
+    let mut tape = empty_tape(&rt);
+    let mut graph = empty_graph(&rt)?;
+    let open = Alone::make(rt.alloc(), &mut graph, AloneKind::Resolver, &mut tape)?;
+    let made = [Note::Event(1, 1, 0, 0), Note::Event(2, 1, 0, 0)];
+    noted(&rt, &mut tape, &made);
+    let ask = LookupAsk {
+        server: SERVER,
+        own_port: 49_152,
+        id: 0x0102,
+        name: b"a.b",
+    };
+    open.look_up(&mut graph, 7, &ask, 0, &mut tape);
+    let asked = [
+        Note::Event(5, 1, 0, 0),
+        Note::Sent(3, 7, 1, 53, 21),
+        Note::Event(6, 1, 0, 0),
+    ];
+    noted(&rt, &mut tape, &asked);
+    let answer = Arrival {
+        port: 53,
+        source: SERVER,
+        body: ANSWER,
+    };
+    open.message(&mut graph, 8, &answer, 10, &mut tape);
+    let found = [
+        Note::Event(5, 1, 1, 0),
+        Note::Sent(6, 8, 0x0a00_0009, 0, 0),
+        Note::Event(8, 1, 0, 0),
+        Note::Event(8, 1, 1, 0),
+        Note::Event(6, 1, 1, 0),
+    ];
+    noted(&rt, &mut tape, &found);
+    Ok(())
+}
+
+// A reply with another identifier is ignored; a time comes by slot 4.
+#[test]
+fn ignores_a_reply_to_another(rt: HostRuntime) -> Result<(), Fail> {
+    let mut tape = empty_tape(&rt);
+    let mut graph = empty_graph(&rt)?;
+    let open = Alone::make(rt.alloc(), &mut graph, AloneKind::Ping, &mut tape)?;
+    let ask = PingAsk {
+        host: SERVER,
+        ident: 5,
+    };
+    open.ping(&mut graph, 7, ask, 0, &mut tape);
+    tape.notes.clear();
+    let reply = Arrival {
+        port: 6,
+        source: SERVER,
+        body: &[],
+    };
+    open.message(&mut graph, 8, &reply, 10, &mut tape);
+    let entry = [Note::Event(5, 1, 1, 0), Note::Event(6, 1, 1, 0)];
+    noted(&rt, &mut tape, &entry);
+    open.time(&mut graph, 250, &mut tape);
+    let again = [
+        Note::Event(5, 1, 4, 0),
+        Note::Sent(3, 0, 2, 0, 0),
+        Note::Event(6, 1, 4, 0),
+    ];
+    noted(&rt, &mut tape, &again);
+    Ok(())
+}
+
+#[test]
+fn asks_for_a_lease(rt: HostRuntime) -> Result<(), Fail> {
+    let mut tape = empty_tape(&rt);
+    let mut graph = empty_graph(&rt)?;
+    let open = Alone::make(rt.alloc(), &mut graph, AloneKind::Dhcp, &mut tape)?;
+    tape.notes.clear();
+    let ask = LeaseAsk {
+        mac: Mac([2, 0, 0, 0, 0, 1]),
+        uuid: [0x11; 16],
+        arch: 7,
+        xid: 0x0102_0304,
+    };
+    open.lease(&mut graph, 7, &ask, 0, &mut tape);
+    assert_eq!(rt;
+        tape.notes.get(1).copied(),
+        Some(Note::Sent(3, 7, 1, 67, 337))
+    );
+    Ok(())
+}
+
+// One that is closed is let go, and one that another is made after is shut down, with its free slots.
+#[test]
+fn closes_alone(rt: HostRuntime) -> Result<(), Fail> {
+    let mut tape = empty_tape(&rt);
+    let mut graph = empty_graph(&rt)?;
+    let open = Alone::make(rt.alloc(), &mut graph, AloneKind::Dhcp, &mut tape)?;
+    tape.notes.clear();
+    open.close(&mut graph, &STOPPED, 0, &mut tape);
+    open.release(&mut graph, &mut tape);
+    let ended = [
+        Note::Event(8, 1, 0, 26),
+        Note::Event(8, 1, 1, 26),
+        Note::Event(3, 1, 0, 0),
+        Note::Event(10, 1, 0, 0),
+    ];
+    noted(&rt, &mut tape, &ended);
+    let other = Alone::make(rt.alloc(), &mut graph, AloneKind::Ping, &mut tape)?;
+    tape.notes.clear();
+    other.shut_down(&mut graph, &STOPPED, 0, &mut tape);
+    assert_eq!(rt; tape.notes.len(), 6);
+    assert_eq!(rt; tape.notes.get(3).copied(), Some(Note::Event(8, 2, 3, 26)));
+    assert_eq!(rt; graph.live(), 0);
     Ok(())
 }
