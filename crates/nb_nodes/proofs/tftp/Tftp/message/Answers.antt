@@ -1,4 +1,4 @@
-use Rattle.std.proofs.Common.{◌≡◌, ap, not, sym, ◌∙◌, subst, refl, true, false}
+use Rattle.std.proofs.Common.{◌≡◌, ap, not, sym, ◌∙◌, subst, refl, true}
 use Rattle.nb_graph.specs.Trace.{up}
 use Rattle.nb_tftp.specs.Received.{Received, received}
 use Rattle.nb_tftp.specs.History.{came}

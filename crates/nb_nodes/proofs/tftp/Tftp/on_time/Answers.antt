@@ -1,4 +1,4 @@
-use Rattle.std.proofs.Common.{ap, not, sym, subst, true, false}
+use Rattle.std.proofs.Common.{ap, not, sym, subst, true}
 use Rattle.nb_graph.specs.Trace.{time, silence}
 use Rattle.nb_nodes.specs.declared.tftp.Work.{Work}
 use Rattle.nb_nodes.specs.Conversations.{ContinuesAs}
