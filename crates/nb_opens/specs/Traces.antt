@@ -8,7 +8,7 @@ use Rattle.nb_ledger.specs.declared.event.GraphEvent.{GraphEvent}
 use Rattle.nb_ledger.specs.declared.port.PortState.TheVariants.{Closed}
 use Rattle.nb_ledger.specs.GraphRun.{GraphState, GraphRunOf}
 use Rattle.nb_opens.specs.PairEvents.{IsNone, IsJoined, made_events, freed_events}
-use Rattle.nb_opens.specs.Graphs.{Graphs, GraphAt, bare, holding, traced, fetch_of, tftp_of, IsCommand, IsOpening}
+use Rattle.nb_opens.specs.Graphs.{GraphAt, bare, holding, traced, fetch_of, tftp_of, IsCommand, IsOpening}
 
 -- what a record says of the graph
 abbrev pub event_in : Out → List Event
