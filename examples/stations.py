@@ -1,6 +1,6 @@
-"""The two machines of the made recordings, and the client's first record.
+"""The machines of the made recordings, and the client's first record.
 
-The client is 10.0.0.2 and takes what it needs from START, so nothing of it comes by DHCP.
+The client is 10.0.0.2 by START, or has no address there and takes a lease.
 """
 
 from __future__ import annotations
@@ -20,17 +20,22 @@ from shared.wire import Station, padded, udp_frame  # noqa: E402
 CLIENT = Station(bytes.fromhex("525400000001"), IPv4Address("10.0.0.2"))
 SERVER = Station(bytes.fromhex("525400000002"), IPv4Address("10.0.0.1"))
 
+UNSET = IPv4Address(0)
 FIRST_OWN_PORT = 49_152
 SERVER_PORT = 40_000
 
 
-def answer(number: int, body: bytes) -> Received:
+def answer(
+    number: int, body: bytes, server: Station = SERVER, client: Station = CLIENT
+) -> Received:
     """The server's answer by TFTP to the open of this number, by a port of its own."""
     ports = (SERVER_PORT + number, FIRST_OWN_PORT + number)
-    return Received(padded(udp_frame(SERVER, CLIENT, ports, body, number)))
+    return Received(padded(udp_frame(server, client, ports, body, number)))
 
 
-def start(script: bytes) -> Start:
+def start(
+    script: bytes, ip: IPv4Address = CLIENT.ip, dns: IPv4Address = UNSET
+) -> Start:
     return Start(
         version=1,
         mac=CLIENT.mac,
@@ -38,10 +43,10 @@ def start(script: bytes) -> Start:
         key=bytes(32),
         arch=0,
         w=0,
-        ip=CLIENT.ip,
-        mask=IPv4Address("255.255.255.0"),
-        gateway=IPv4Address(0),
-        dns=IPv4Address(0),
+        ip=ip,
+        mask=UNSET if ip == UNSET else IPv4Address("255.255.255.0"),
+        gateway=UNSET,
+        dns=dns,
         script=script,
     )
 

@@ -1,28 +1,127 @@
-"""The GRAPH records of an open that fetches by TFTP, written by hand from docs/RECORDS.md.
+"""The GRAPH records of an open, written by hand from docs/RECORDS.md.
 
-Open k has a fetch and, plugged to it, a TFTP; their numbers are 2k + 1 and 2k + 2. Each function answers a list of
-records in their order. What a message or a time makes the open send stands within its entry, and is given here as
-`put`. Nothing of this file is taken from what the program writes.
+An open by TFTP has a pair of objects: a fetch and, plugged to it, a TFTP. One that asks and is answered (by DNS,
+DHCP or a ping) has one object alone. Where the server of a fetch or a ping is a name, its first object waits beside the
+resolver of the look-up. Where all opens before it are by TFTP, the objects of open k by TFTP are 2k + 1
+and 2k + 2, and it is named by k; any other is named by its objects. Each function answers a list of records in their
+order. What a message or a time makes the open send stands within its entry, and is given here as `put`. Nothing of
+this file is taken from what the program writes.
 """
 
 from __future__ import annotations
 
+from typing import NamedTuple
+
 from shared.causes import Cause, Code
-from shared.kinds import GraphEvent, ObjectKind, Way
+from shared.kinds import GraphEvent, ObjectKind, OpenKind, Way
 from shared.records import Ended, Graph, Open, Record
 
 STOPPED = Cause(Code.STOPPED)
 TOO_LARGE = Cause(Code.TOO_LARGE, 1)
 # the slots: to the user above, to what is used below, two that stay free, and the timer
 ABOVE, BELOW, THIRD, FOURTH, TIMER = range(5)
+# the object of an open that asks and is answered
+SOLE_KINDS = {
+    OpenKind.DNS: ObjectKind.RESOLVER,
+    OpenKind.DHCP: ObjectKind.DHCP,
+    OpenKind.PING: ObjectKind.PING,
+}
 
 
-def fetch_of(k: int) -> int:
-    return 2 * k + 1
+class Pair(NamedTuple):
+    """An open by TFTP, and the number of its fetch; its TFTP has the next, unless the fetch has waited."""
+
+    number: int
+    fetch: int
+    lower: int | None = None
+
+    @property
+    def tftp(self) -> int:
+        return self.lower or self.fetch + 1
+
+    def objects(self) -> dict[int, ObjectKind]:
+        """Its objects by their numbers, from the uppermost to the lowest."""
+        return {self.fetch: ObjectKind.FETCH, self.tftp: ObjectKind.TFTP}
+
+    def links(self) -> list[Record]:
+        return [Graph(GraphEvent.PLUGGED, self.fetch, BELOW, self.tftp, ABOVE)]
+
+    def closed_above(self, cause: Cause) -> list[Record]:
+        """The user closes both ports of the fetch, and the TFTP passes that on."""
+        return [
+            closed(self.fetch, ABOVE, cause),
+            closed(self.fetch, BELOW, cause),
+            closed(self.tftp, ABOVE, cause),
+            entered(self.tftp, ABOVE, Way.CLOSE),
+            closed(self.tftp, BELOW, cause),
+            left(self.tftp, ABOVE),
+            unplugged(self.fetch, BELOW, self.tftp, ABOVE),
+        ]
+
+    def closed_below(self, cause: Cause) -> list[Record]:
+        """The TFTP closes its port above, the fetch passes that on, and then that below is closed."""
+        return [
+            closed(self.tftp, ABOVE, cause),
+            closed(self.fetch, BELOW, cause),
+            entered(self.fetch, BELOW, Way.CLOSE),
+            closed(self.fetch, ABOVE, cause),
+            left(self.fetch, BELOW),
+            unplugged(self.tftp, ABOVE, self.fetch, BELOW),
+            closed(self.tftp, BELOW, cause),
+        ]
 
 
-def tftp_of(k: int) -> int:
-    return 2 * k + 2
+class Sole(NamedTuple):
+    """An open that asks and is answered, and its object."""
+
+    number: int
+    object: int
+    kind: ObjectKind
+
+    def objects(self) -> dict[int, ObjectKind]:
+        return {self.object: self.kind}
+
+    def links(self) -> list[Record]:
+        return []
+
+    def closed_above(self, cause: Cause) -> list[Record]:
+        return [closed(self.object, ABOVE, cause), closed(self.object, BELOW, cause)]
+
+    def closed_below(self, cause: Cause) -> list[Record]:
+        return self.closed_above(cause)
+
+
+Cast = Pair | Sole
+
+
+class Waiter(NamedTuple):
+    """What waits while the server of its open is looked up: the fetch, or the object of a ping."""
+
+    object: int
+    kind: ObjectKind
+
+    def opens(self, number: int, last: int) -> Cast:
+        """It with all objects of its open, where `last` was made last before that."""
+        if self.kind is ObjectKind.FETCH:
+            return Pair(number, self.object, last + 1)
+        return Sole(number, self.object, self.kind)
+
+
+def cast_of(k: int | Cast) -> Cast:
+    """The objects of an open; one that is named by its number is by TFTP, as all before it."""
+    return Pair(k, 2 * k + 1) if isinstance(k, int) else k
+
+
+def cast_for(opened: Open, first: int) -> Cast:
+    """The objects of an open, the first of which has this number."""
+    if opened.kind in SOLE_KINDS:
+        return Sole(opened.number, first, SOLE_KINDS[opened.kind])
+    return Pair(opened.number, first)
+
+
+def lowest(k: int | Cast) -> int:
+    """The object that uses the network: messages and times enter it."""
+    return list(cast_of(k).objects())[-1]
 
 
 def entered(number: int, slot: int, way: Way) -> Graph:
@@ -41,100 +140,103 @@ def unplugged(number: int, slot: int, other: int, other_slot: int) -> Graph:
     return Graph(GraphEvent.UNPLUGGED, number, slot, other, other_slot)
 
 
-def made(k: int) -> list[Record]:
-    """Between COMMAND and OPEN: the two objects are made, and plugged."""
-    fetch, tftp = fetch_of(k), tftp_of(k)
-    return [
-        Graph(GraphEvent.MADE, fetch, other=ObjectKind.FETCH),
-        Graph(GraphEvent.HELD, fetch),
-        Graph(GraphEvent.MADE, tftp, other=ObjectKind.TFTP),
-        Graph(GraphEvent.HELD, tftp),
-        Graph(GraphEvent.PLUGGED, fetch, BELOW, tftp, ABOVE),
-    ]
+def one_made(number: int, kind: ObjectKind) -> list[Record]:
+    """An object is made, and held."""
+    return [Graph(GraphEvent.MADE, number, other=kind), Graph(GraphEvent.HELD, number)]
 
 
-def asked(opened: Open, *put: Record) -> list[Record]:
-    """From the first record behind COMMAND on: an open begins, and what its request puts stands in two entries."""
-    fetch, tftp = fetch_of(opened.number), tftp_of(opened.number)
-    return [
-        *made(opened.number),
-        opened,
-        entered(fetch, ABOVE, Way.DOWN),
-        entered(tftp, ABOVE, Way.DOWN),
-        *put,
-        left(tftp, ABOVE),
-        left(fetch, ABOVE),
-    ]
+def one_freed(number: int) -> list[Record]:
+    """An object is let go, and freed by that."""
+    return [Graph(event, number) for event in (GraphEvent.LET_GO, GraphEvent.FREED)]
 
 
-def freed(k: int) -> list[Record]:
-    """Both are let go, and freed by that."""
-    return [
-        Graph(event, number)
-        for number in (fetch_of(k), tftp_of(k))
-        for event in (GraphEvent.LET_GO, GraphEvent.FREED)
-    ]
+def made(k: int | Cast) -> list[Record]:
+    """Between COMMAND and OPEN: the objects are made, and plugged."""
+    cast = cast_of(k)
+    events = [event for number, kind in cast.objects().items() for event in one_made(number, kind)]
+    return [*events, *cast.links()]
 
 
-def closed_above(k: int, cause: Cause) -> list[Record]:
-    """The user closes both ports of the fetch, and the TFTP passes that on."""
-    fetch, tftp = fetch_of(k), tftp_of(k)
-    return [
-        closed(fetch, ABOVE, cause),
-        closed(fetch, BELOW, cause),
-        closed(tftp, ABOVE, cause),
-        entered(tftp, ABOVE, Way.CLOSE),
-        closed(tftp, BELOW, cause),
-        left(tftp, ABOVE),
-        unplugged(fetch, BELOW, tftp, ABOVE),
-    ]
+def completed(cast: Cast) -> list[Record]:
+    """Between the end of a look-up and the OPEN after it: a fetch gets its TFTP, a ping nothing."""
+    return [*one_made(cast.tftp, ObjectKind.TFTP), *cast.links()] if isinstance(cast, Pair) else []
 
 
-def turned_back(opened: Open, cause: Cause) -> list[Record]:
-    """As `asked`, of a server to which there is no way: nothing is sent, and the open ends at once."""
-    number = opened.number
-    return [*asked(opened), *closed_above(number, cause), *freed(number), Ended(number, cause)]
+def begins(opened: Open, *put: Record, cast: Cast | None = None) -> list[Record]:
+    """From its OPEN on: an open begins, and what its request puts stands in its entries."""
+    cast = cast or cast_of(opened.number)
+    downs = [entered(number, ABOVE, Way.DOWN) for number in cast.objects()]
+    lefts = [left(number, ABOVE) for number in reversed(cast.objects())]
+    return [opened, *downs, *put, *lefts]
 
 
-def closed_below(k: int, cause: Cause) -> list[Record]:
-    """The transfer ends: the TFTP closes its port above, the fetch passes that on, and then that below is closed."""
-    fetch, tftp = fetch_of(k), tftp_of(k)
-    return [
-        closed(tftp, ABOVE, cause),
-        closed(fetch, BELOW, cause),
-        entered(fetch, BELOW, Way.CLOSE),
-        closed(fetch, ABOVE, cause),
-        left(fetch, BELOW),
-        unplugged(tftp, ABOVE, fetch, BELOW),
-        closed(tftp, BELOW, cause),
-    ]
+def asked(opened: Open, *put: Record, cast: Cast | None = None) -> list[Record]:
+    """From the first record after COMMAND on."""
+    cast = cast or cast_of(opened.number)
+    return [*made(cast), *begins(opened, *put, cast=cast)]
 
 
-def given(k: int) -> list[Record]:
+def asked_next(opened: Open, *put: Record, cast: Cast) -> list[Record]:
+    """From the first record after the end of the look-up of its server on."""
+    return [*completed(cast), *begins(opened, *put, cast=cast)]
+
+
+def freed(k: int | Cast) -> list[Record]:
+    """All are let go, and freed by that."""
+    return [event for number in cast_of(k).objects() for event in one_freed(number)]
+
+
+def closed_above(k: int | Cast, cause: Cause) -> list[Record]:
+    """The user closes the open from above."""
+    return cast_of(k).closed_above(cause)
+
+
+def no_way(cast: Cast, cause: Cause) -> list[Record]:
+    """There is no way to its server: nothing was sent, and the open ends at once."""
+    return [*closed_above(cast, cause), *freed(cast), Ended(cast.number, cause)]
+
+
+def turned_back(opened: Open, cause: Cause, cast: Cast | None = None) -> list[Record]:
+    """As `asked`, of a server to which there is no way."""
+    cast = cast or cast_of(opened.number)
+    return [*asked(opened, cast=cast), *no_way(cast, cause)]
+
+
+def closed_below(k: int | Cast, cause: Cause) -> list[Record]:
+    """The open ends by itself, from its lowest object on."""
+    return cast_of(k).closed_below(cause)
+
+
+def given(pair: Pair) -> list[Record]:
     """Bytes of the file go up."""
-    return [entered(fetch_of(k), BELOW, Way.UP), left(fetch_of(k), BELOW)]
+    return [entered(pair.fetch, BELOW, Way.UP), left(pair.fetch, BELOW)]
 
 
-def _call(k: int, slot: int, way: Way, put: tuple[Record, ...], gives: bool, over: Cause | None) -> list[Record]:
-    tftp = tftp_of(k)
-    within = [*put, *(given(k) if gives else []), *(closed_below(k, over) if over else [])]
-    ends = [*freed(k), Ended(k, over)] if over else []
-    return [entered(tftp, slot, way), *within, left(tftp, slot), *ends]
+def _call(k: int | Cast, slot: int, way: Way, within: list[Record], over: Cause | None) -> list[Record]:
+    cast = cast_of(k)
+    number = lowest(cast)
+    closes = closed_below(cast, over) if over else []
+    ends = [*freed(cast), Ended(cast.number, over)] if over else []
+    return [entered(number, slot, way), *within, *closes, left(number, slot), *ends]
 
 
-def came(k: int, *put: Record, gives: bool = False, over: Cause | None = None) -> list[Record]:
-    """A datagram comes from the server; its bytes go up, or not; it ends the open with a cause, or not."""
-    return _call(k, BELOW, Way.UP, put, gives, over)
+def came(k: int | Cast, *put: Record, gives: bool = False, over: Cause | None = None) -> list[Record]:
+    """A message comes from the server; its bytes go up, or not; it ends the open with a cause, or not."""
+    cast = cast_of(k)
+    assert isinstance(cast, Pair) or not gives
+    return _call(cast, BELOW, Way.UP, [*put, *(given(cast) if gives else [])], over)
 
 
-def passed(k: int, *put: Record, over: Cause | None = None) -> list[Record]:
+def passed(k: int | Cast, *put: Record, over: Cause | None = None) -> list[Record]:
     """Time passes, and a try may be due; after the last one the open ends."""
-    return _call(k, TIMER, Way.TIME, put, False, over)
+    return _call(k, TIMER, Way.TIME, [*put], over)
 
 
-def grew_too_large(k: int, *put: Record, over: Cause | None = None) -> list[Record]:
+def grew_too_large(k: int | Pair, *put: Record, over: Cause | None = None) -> list[Record]:
     """A datagram comes with which the file has too many bytes; the transfer may end by it too, with a cause."""
-    fetch, tftp = fetch_of(k), tftp_of(k)
+    pair = cast_of(k)
+    assert isinstance(pair, Pair)
+    fetch, tftp = pair.fetch, pair.tftp
     below = closed(tftp, BELOW, over or TOO_LARGE)
     return [
         entered(tftp, BELOW, Way.UP),
@@ -151,12 +253,25 @@ def grew_too_large(k: int, *put: Record, over: Cause | None = None) -> list[Reco
         left(fetch, BELOW),
         *([below] if over else []),
         left(tftp, BELOW),
-        *freed(k),
-        Ended(k, TOO_LARGE),
+        *freed(pair),
+        Ended(pair.number, TOO_LARGE),
     ]
 
 
-def shut(k: int, cause: Cause = STOPPED) -> list[Record]:
-    """The run ends while the open lives: all ports are closed by rising number and slot, and both objects let go."""
-    spare = [closed(number, slot, cause) for number in (fetch_of(k), tftp_of(k)) for slot in (THIRD, FOURTH)]
-    return [*closed_above(k, cause), *spare, *freed(k), Ended(k, cause)]
+def all_closed(number: int, cause: Cause) -> list[Record]:
+    """All four ports of an object are closed, by rising slot."""
+    return [closed(number, slot, cause) for slot in (ABOVE, BELOW, THIRD, FOURTH)]
+
+
+def shut(k: int | Cast, cause: Cause = STOPPED) -> list[Record]:
+    """The run ends while the open lives: all ports are closed by rising number and slot, and all objects let go."""
+    cast = cast_of(k)
+    spare = [closed(number, slot, cause) for number in cast.objects() for slot in (THIRD, FOURTH)]
+    return [*closed_above(cast, cause), *spare, *freed(cast), Ended(cast.number, cause)]
+
+
+def shut_both(waiter: Waiter, cast: Cast, cause: Cause = STOPPED) -> list[Record]:
+    """The run ends while the server of what waits is looked up."""
+    objects = (waiter.object, *cast.objects())
+    closes = [event for number in objects for event in all_closed(number, cause)]
+    return [*closes, *[event for number in objects for event in one_freed(number)], Ended(cast.number, cause)]

@@ -1,14 +1,12 @@
 """Checks the GRAPH records of an output: that they are a legal run of objects, and stand in their places.
 
-`Run` is a second reading of crates/nb_ledger/specs/GraphRun.antt, and looks at the events alone. `Order` is one of
-crates/nb_opens/specs/Graphs.antt, and looks at the other records too. `Ends` is one of Traces.antt beside it. An output
-that is cut off is checked as far as it goes.
+`Run` is a second reading of crates/nb_ledger/specs/GraphRun.antt, and looks at the events alone; graph_order.py looks
+at the other records too. An output that is cut off is checked as far as it goes.
 """
 
 from __future__ import annotations
 
 import io
-from collections import deque
 from dataclasses import dataclass, field
 from enum import Enum
 from typing import Iterable, Iterator, NamedTuple
@@ -17,18 +15,11 @@ from shared.causes import Cause
 from shared.fields import CutOff as CutInBytes
 from shared.kinds import GraphEvent, Way
 from shared.recordings import read_output
-from shared.records import Advance, Command, Done, Ended, Graph, Open, Record, Sent, Try
-from tests import graph_records
-from tests.graph_records import ABOVE, BELOW, TIMER, TOO_LARGE
+from shared.records import Done, Graph, Record
+from tests.graph_order import Ends, NotLegal, Order
+from tests.graph_records import TIMER
 
 SLOTS = range(4)
-# a COMMAND, and the five events that make the objects of an open
-LOOKED_BACK = 6
-MOST_AT_TOO_LARGE = 40
-
-
-class NotLegal(Exception):
-    """What is wrong with a list of records, in words."""
 
 
 class Port(NamedTuple):
@@ -231,176 +222,6 @@ class Run:
         self.holds.pop(number, None)
         for slot in SLOTS:
             self.ports.pop(Port(number, slot), None)
-
-
-@dataclass
-class Ends:
-    """Each OPEN has its objects made directly before it, and each ENDED has the cause of the first close since then."""
-
-    recent: deque[Record] = field(default_factory=lambda: deque(maxlen=LOOKED_BACK))
-    first: dict[int, Cause | None] = field(default_factory=dict)
-
-    def take(self, record: Record) -> None:
-        match record:
-            case Open():
-                self._began(record.number)
-            case Ended():
-                self._ended(record)
-            case Graph() if record.event is GraphEvent.CLOSED:
-                self.first = {number: cause or record.cause for number, cause in self.first.items()}
-        self.recent.append(record)
-
-    def _began(self, number: int) -> None:
-        command, *made = self.recent or [None]
-        if made != graph_records.made(number):
-            raise NotLegal(f"the objects of open {number} aren't made directly before its OPEN")
-        if not isinstance(command, Command):
-            raise NotLegal(f"the objects of open {number} aren't made directly after a COMMAND")
-        self.first[number] = None
-
-    def _ended(self, ended: Ended) -> None:
-        wanted = graph_records.freed(ended.number)
-        if list(self.recent)[-len(wanted) :] != wanted:
-            raise NotLegal(f"the objects of open {ended.number} aren't freed directly before its ENDED")
-        first = self.first.pop(ended.number, None)
-        if first != ended.cause:
-            raise NotLegal(f"open {ended.number} ended with {ended.cause}, and the first close is {first}")
-
-
-class CutOff(Exception):
-    """The records end before what was to come."""
-
-
-class Order:
-    """Where the GRAPH records stand among the others."""
-
-    def __init__(self, records: list[Record]) -> None:
-        self.records, self.place = records, 0
-
-    def check(self) -> None:
-        try:
-            self._bare()
-        except CutOff:
-            if self.records[-1:] and isinstance(self.records[-1], Done):
-                raise NotLegal("DONE stands within what an open writes") from None
-
-    def _next(self) -> Record:
-        if self.place == len(self.records):
-            raise CutOff
-        return self.records[self.place]
-
-    def _expect(self, *wanted: Record) -> None:
-        for record in wanted:
-            if self._next() != record:
-                raise NotLegal(f"in place of {record} there is {self._next()}")
-            self.place += 1
-
-    def _asides(self) -> None:
-        """Records that the graph doesn't concern; what an open asks for stands in its entries alone."""
-        while not isinstance(self._next(), (Graph, Open, Ended, Done, Advance, Try)):
-            self.place += 1
-
-    def _sends(self) -> None:
-        """What an open puts within an entry."""
-        while isinstance(self._next(), (Advance, Try, Sent)):
-            self.place += 1
-
-    def _bare(self) -> None:
-        """No open lives."""
-        opens = 0
-        while True:
-            record = self._next()
-            before = self.records[self.place - 1] if self.place else None
-            if isinstance(record, Graph) and isinstance(before, Command):
-                self._open(opens)
-                opens += 1
-            elif isinstance(record, (Graph, Open, Ended, Advance, Try)):
-                raise NotLegal(f"no open lives at {record}")
-            elif isinstance(record, Done):
-                return
-            else:
-                self.place += 1
-
-    def _open(self, k: int) -> None:
-        self._expect(*graph_records.made(k))
-        opened = self._next()
-        if not isinstance(opened, Open) or opened.number != k:
-            raise NotLegal(f"in place of OPEN {k} there is {opened}")
-        front, back = _halves(graph_records.asked(opened), opened)
-        self.place += 1
-        self._expect(*front)
-        place = self.place
-        self._sends()
-        is_sent = self.place > place
-        self._expect(*back)
-        if self._is_close():
-            self._closed_at_once(k, self._next().cause, is_sent)
-        else:
-            self._holding(k)
-
-    def _closed_at_once(self, k: int, cause: Cause, is_sent: bool) -> None:
-        """The user has no way to the server, and nothing was sent; or the run ends directly after the request."""
-        front = graph_records.closed_above(k, cause)
-        self._expect(*front)
-        if self._is_close():
-            self._expect(*graph_records.shut(k, cause)[len(front) :])
-            return
-        if is_sent:
-            raise NotLegal(f"open {k} sent its request, and is closed from above")
-        self._expect(*graph_records.freed(k), Ended(k, cause))
-
-    def _holding(self, k: int) -> None:
-        """Open k lives."""
-        while True:
-            self._asides()
-            if self._is_close():
-                self._expect(*graph_records.shut(k, self._next().cause))
-                return
-            if self._call(k):
-                return
-
-    def _call(self, k: int) -> bool:
-        """A message or a time comes to it; whether that ends it."""
-        fetch, tftp = graph_records.fetch_of(k), graph_records.tftp_of(k)
-        record = self._next()
-        ways = {BELOW: graph_records.entered(tftp, BELOW, Way.UP), TIMER: graph_records.entered(tftp, TIMER, Way.TIME)}
-        if record not in ways.values():
-            raise NotLegal(f"open {k} lives at {record}")
-        self.place += 1
-        self._sends()
-        if self._next() == graph_records.entered(fetch, BELOW, Way.UP):
-            self.place += 1
-            if self._next() == graph_records.closed(fetch, ABOVE, TOO_LARGE):
-                return self._too_large(k, record.slot)
-            self._expect(graph_records.left(fetch, BELOW))
-        over = self._next().cause if self._is_close() else None
-        if over:
-            self._expect(*graph_records.closed_below(k, over))
-        self._expect(graph_records.left(tftp, record.slot))
-        if over:
-            self._expect(*graph_records.freed(k), Ended(k, over))
-        return over is not None
-
-    def _is_close(self) -> bool:
-        record = self._next()
-        return isinstance(record, Graph) and record.event is GraphEvent.CLOSED
-
-    def _too_large(self, k: int, slot: int) -> bool:
-        """The rest of a call with which the file has too many bytes; whether the transfer ended by it shows in it."""
-        rest = self.records[self.place : self.place + MOST_AT_TOO_LARGE]
-        for over in (None, *{record.cause for record in rest if isinstance(record, Graph)}):
-            whole = graph_records.grew_too_large(k, over=over)[2:]
-            whole[-6] = graph_records.left(graph_records.tftp_of(k), slot)
-            if rest[: len(whole)] == whole:
-                self.place += len(whole)
-                return True
-        raise NotLegal(f"open {k} doesn't end as one that grew too large")
-
-
-def _halves(records: list[Record], middle: Record) -> tuple[list[Record], list[Record]]:
-    """What stands between a record and the innermost place of the entries after it, and what stands after that."""
-    later = records[records.index(middle) + 1 :]
-    return later[: len(later) // 2], later[len(later) // 2 :]
 
 
 def fault_of(records: Iterable[Record]) -> str | None:

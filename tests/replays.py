@@ -92,10 +92,7 @@ def _read(path: Path) -> bytes | None:
 @functools.cache
 def replayed() -> dict[str, Replayed]:
     """The runs that the tests of whole outputs and of the program look at, for one compiling."""
-    from tests.test_program import INPUTS, WORDS
-    from tests import test_device, test_replay, test_scripts, test_settings, test_sleep
+    from tests.all_rows import all_inputs
+    from tests.test_program import WORDS
 
-    scripts = {**test_device.all_inputs(), **test_scripts.all_inputs(), **test_settings.all_inputs()}
-    scripts |= test_sleep.all_inputs()
-    recordings = {**test_replay.all_inputs(), **scripts, **INPUTS}
-    return replay_all(recordings, WORDS)
+    return replay_all(all_inputs(), WORDS)

@@ -18,7 +18,7 @@ COMMANDS = (
     b"goto --a", b"goto -n", b"goto a b", b":a", b"#", b"#c",
 )  # fmt: skip
 DEVICES = (b"ifclose", b"ifclose net0", b"ifclose net1", b"ifopen net1", b"ifopen --x", b"ifclose a b")
-OPENS = (b"ifopen", b"ifopen net0", b"ifopen ${x}")
+OPENS = (b"ifopen", b"ifopen net0", b"ifopen ${x}", b"dhcp", b"dhcp net0", b"dhcp net1", b"dhcp a b")
 FETCHES = (b"imgfetch", b"imgfetch " + FILE, b"imgfetch ${f}", b"imgfetch ${f:uristring}")
 OTHER_LINES = (b":a", b":b", b" :a\t", b":", b":a b", b":-n", b":a # c", b"", b"  ", b"# c", b" # x ; y",
                b":${x}", b"# ${x")  # fmt: skip

@@ -1,6 +1,7 @@
 """A second reading of the rules of scripts (docs/SCRIPTS.md): what a run of one writes.
 
-Its fetches are of a client whose device is down, and the only frames that bring it anything are ARP requests.
+Its fetches are of a client whose device is down, nobody offers it a lease, and the only frames that bring it anything
+are ARP requests.
 """
 
 from __future__ import annotations
@@ -14,6 +15,7 @@ from shared.records import Command, Done, Off, Open, Received, Record, Result, S
 from shared.records import Step, Text, Tick
 from shared.wire import Station, arp_reply, arp_request
 from tests import graph_records, made
+from tests.asking_records import Lease
 from tests.settings_model import Refusal, Table, expand_all, name_of, number_of
 
 MOST_COMMANDS = 4_096
@@ -25,6 +27,9 @@ LONG_LINE = Cause(Code.TOO_LONG, 1)
 TOO_MANY_WORDS = Cause(Code.TOO_MANY, 1)
 NO_ROUTE = Cause(Code.NO_ROUTE, 0x0A000001)
 UNKNOWN, USAGE = Cause(Code.UNKNOWN), Cause(Code.USAGE)
+# the tries of a lease wait so long, in milliseconds
+LEASE_WAITS = (1_000, 2_000, 4_000, 8_000)
+UNLEASED = Cause(Code.TIMED_OUT, len(LEASE_WAITS))
 FILE = b"tftp://10.0.0.1/f"
 BUILT_IN = b"""#!ipxe
 dhcp || exit 1
@@ -108,10 +113,11 @@ class Over(Exception):
 
 
 class Ran(NamedTuple):
-    """A command: its COMMAND with what it puts before its RESULT, how long it sleeps, and its result."""
+    """A command: its COMMAND with what it puts before its RESULT, what it waits for, and its result."""
 
     begins: list[Record]
     sleep: int
+    lease: Lease | None
     result: Cause
 
 
@@ -124,10 +130,11 @@ class Model:
         self.end = max(self.lines, default=0)
         self.table = Table(start)
         self.last = OK
-        self.opens = 0
+        self.opens = self.objects = 0
+        self.live: Lease | None = None
         self.target: int | None = None
         self.is_left = False
-        self.mac = start.mac
+        self.start = start
         self.is_up = start.ip != IPv4Address(0)
         self.time = self.begun = 0
         self.step = 1
@@ -144,7 +151,7 @@ class Model:
             status = Status.ENDED if cause == OK else Status.SCRIPT_FAILED
             self.records += [made.leave(cause), Done(status)]
         except Over as over:
-            self.records.append(Done(*over.args))
+            self.records += [*(self.live.shut() if self.live else []), Done(*over.args)]
         return self.records
 
     def put(self, ran: Ran) -> None:
@@ -156,9 +163,29 @@ class Model:
         due = self.time + ran.sleep
         while self.time < due:
             self.use_record()
+        if ran.lease:
+            self.wait_for(ran.lease)
         self.records.append(Result(ran.result))
 
-    def use_record(self) -> None:
+    def wait_for(self, lease: Lease) -> None:
+        """It is asked for again and again, until all tries have had their time."""
+        self.live, due = lease, self.time
+        for attempt, wait in enumerate(LEASE_WAITS, 2):
+            due = self.time + wait
+            while self.use_time() < due:
+                self.records += lease.passed()
+            if attempt <= len(LEASE_WAITS):
+                self.records += lease.passed(*lease.discovers(attempt))
+        self.records += lease.passed(over=UNLEASED)
+        self.live = None
+
+    def use_time(self) -> int:
+        """Uses records up to the next TICK; the time at it."""
+        while not isinstance(self.use_record(), Tick):
+            pass
+        return self.time
+
+    def use_record(self) -> Record:
         """The next record comes, and so begins a step."""
         record = next(self.later, None)
         if record is None:
@@ -173,10 +200,11 @@ class Model:
             self.time += record.milliseconds
         else:
             self.records += self.replies(record)
+        return record
 
     def replies(self, record: Record) -> list[Record]:
         """What a frame is replied by: a request for the client's address by an ARP reply."""
-        client = Station(self.mac, self.address())
+        client = Station(self.start.mac, self.address())
         asks = record == Received(arp_request(made.SERVER, client.ip))
         is_there = self.is_up and client.ip != IPv4Address(0)
         return [Sent(arp_reply(client, made.SERVER))] if asks and is_there else []
@@ -225,7 +253,7 @@ class Model:
     def command(self, number: int, item: Item) -> Ran:
         """A command's words are expanded, and then it is carried out."""
         self.printed: list[Record] = []
-        self.sleep = 0
+        self.sleep, self.lease = 0, None
         words, is_expanded, result = item.words, False, OK
         try:
             words, is_expanded = expand_all(words, self.table), True
@@ -233,14 +261,14 @@ class Model:
         except Refusal as refused:
             [result] = refused.args
         begins = Command(1, number, item.place, is_expanded, words)
-        return Ran([begins, *self.printed], self.sleep, result)
+        return Ran([begins, *self.printed], self.sleep, self.lease, result)
 
     def does(self, name: bytes, words: list[bytes]) -> None:
         commands = {
             b"echo": self.echo, b"exit": self.exit, b"goto": self.goto, b"imgfetch": self.fetch,
             b"set": self.set, b"clear": self.clear, b"show": self.show, b"inc": self.inc,
             b"isset": self.isset, b"iseq": self.iseq, b"sleep": self.sleeps,
-            b"ifopen": self.ifopen, b"ifclose": self.ifclose,
+            b"ifopen": self.ifopen, b"ifclose": self.ifclose, b"dhcp": self.dhcp,
         }  # fmt: skip
         if name not in commands:
             raise Refusal(UNKNOWN)
@@ -316,17 +344,33 @@ class Model:
             raise Refusal(Cause(Code.BAD_NAME))
         self.is_up = is_up
 
+    def dhcp(self, words: list[bytes]) -> None:
+        self.sets_device(words, True)
+        start = self.start
+        number = self.next_open()
+        self.objects += 1
+        client = Station(start.mac, IPv4Address(0))
+        lease = Lease(number, self.objects, client, start.key, start.uuid, start.arch)
+        self.printed = lease.begins(*lease.discovers())
+        self.lease = lease
+        raise Refusal(UNLEASED)
+
+    def next_open(self) -> int:
+        if self.opens == MOST_OPENS:
+            raise Refusal(Cause(Code.FULL, 2))
+        self.opens += 1
+        return self.opens - 1
+
     def fetch(self, words: list[bytes]) -> None:
         fits(words, 1, 1)
         if words != [FILE]:
             raise Refusal(Cause(Code.BAD_URI))
-        number = self.opens
-        if number == MOST_OPENS:
-            raise Refusal(Cause(Code.FULL, 2))
-        self.opens += 1
+        number = self.next_open()
+        pair = graph_records.Pair(number, self.objects + 1)
+        self.objects += 2
         server, own = IPv4Address("10.0.0.1"), 49_152 + number
         opened = Open(number, OpenKind.TFTP, server, 69, own, b"f")
-        self.printed = graph_records.turned_back(opened, NO_ROUTE)
+        self.printed = graph_records.turned_back(opened, NO_ROUTE, pair)
         raise Refusal(NO_ROUTE)
 
 

@@ -7,10 +7,11 @@ from dataclasses import dataclass
 
 from shared.causes import OK, Cause
 from shared.kinds import Status
+from shared.recordings import input_of
 from shared.records import Command, Done, Record, Result, Step, Text
 from shared.script_faults import script_fault
 from shared.script_text import lines_of
-from tests import made
+from tests import TOP, made
 from tests.replays import replayed
 from tests.script_model import numbered, refusal
 from tests.test_replay import read_all
@@ -43,10 +44,18 @@ def row(script: bytes, *commands: list[Record], cause: Cause = OK) -> Row:
 
 def text(script: bytes, *commands: list[Record], cause: Cause = OK) -> Row:
     """The same, of a whole text."""
-    status = Status.ENDED if cause == OK else Status.SCRIPT_FAILED
     records = [record for command in commands for record in command]
-    outputs = [Step(1), made.enter(), *records, made.leave(cause), Done(status)]
-    return Row([made.start(script)], outputs)
+    return Row([made.start(script)], [Step(1), made.enter(), *records, *left(cause)])
+
+
+def left(cause: Cause = OK) -> list[Record]:
+    """The first script is left, and with it the run ends."""
+    return [made.leave(cause), Done(Status.ENDED if cause == OK else Status.SCRIPT_FAILED)]
+
+
+def steps(first: int, *each: list[Record]) -> list[Record]:
+    """What each record brings, from the one of this number on."""
+    return [record for number, step in enumerate(each, first) for record in (Step(number), *step)]
 
 
 def unexpanded(words: bytes, refusal: Cause, line: int = 2, place: int = 0) -> list[Record]:
@@ -57,6 +66,11 @@ def unexpanded(words: bytes, refusal: Cause, line: int = 2, place: int = 0) -> l
 def printed(words: bytes, text: bytes, line: int = 2, place: int = 0) -> list[Record]:
     """A command that prints a text and is Ok."""
     return [Command(1, line, place, True, tuple(words.split(b" "))), Text(text), Result(OK)]
+
+
+def example(name: str) -> list[Record]:
+    """The records of an example's input."""
+    return [timed.record for timed in input_of(TOP / "examples" / f"{name}.rec")]
 
 
 class RowCase(unittest.TestCase):

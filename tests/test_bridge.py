@@ -3,31 +3,40 @@
 from __future__ import annotations
 
 import io
+import re
 import socket
 import subprocess
 import sys
 import threading
 import time
 import unittest
+from dataclasses import replace
+from ipaddress import IPv4Address
 
 from boot import is_built
 from bridge import listening_place
+from live_boot import WAYS
 from shared.capture import PcapWriter, read_capture
+from shared.causes import OK, Cause, Code
 from shared.checksums import Sums, sums_of
 from shared.devices import completed
 from shared.kinds import Status
 from shared.live_session import ClientFault, Kept, Records, Session
+from shared.messages import LeaseMessage, lease_message
 from shared.progress import Progress
-from shared.records import Command, Direction, Off, Received, Record, Sent, Step, Tick
-from shared.records import read_records
+from shared.records import Command, Direction, Ended, Off, Received, Record, Sent, Start, Step
+from shared.records import Tick, read_records
 from shared.wire import ARP, Opcode, arp_reply, padded, tftp_data, tftp_oack, udp_frame
+from shared.wire_dhcp import Asker, Kind, Tag, answer, to_client
 from tests import TOP, made
+from tests.asking_records import LEASED, LEASED_CLIENT, NETMASK, Lease, LookUp, Ping
 from tests.graph_run import fault_in
 from tests.replays import replay_all, run_all
 
 MOST_SECONDS = 30
 FILE = made.KERNEL + bytes(range(256)) * 40
 SCRIPT = b"#!ipxe\necho one moment\nimgexec tftp://10.0.0.1/k\n"
+LEASE_SCRIPT = b"#!ipxe\necho one moment\ndhcp\nimgexec tftp://${next-server}/${filename}\n"
 
 
 class Wire:
@@ -54,15 +63,17 @@ class Wire:
 
 
 class Server(threading.Thread):
-    """Answers at the wire's other end: ARP, and TFTP for one file; it loses the first DATA 2.
+    """Answers at the wire's other end: ARP, DHCP, and TFTP for one file; it loses the first DATA 2.
 
-    It grants blocks of a size, or knows no options.
+    It grants blocks of a size, or knows no options. A client that takes a lease has its address from then on, and
+    asks for the file by its second open.
     """
 
     def __init__(self, wire: Wire, granted: int | None) -> None:
         super().__init__(daemon=True)
         self.granted, self.size = granted, granted or 512
         self.wire, self.is_over, self.has_lost = wire, False, False
+        self.client, self.own = made.CLIENT, made.OWN_PORT
 
     def run(self) -> None:
         while not self.is_over:
@@ -75,9 +86,13 @@ class Server(threading.Thread):
 
     def answer(self, frame: bytes) -> None:
         if int.from_bytes(frame[12:14], "big") == ARP:
-            self.wire.outer.send(padded(arp_reply(made.SERVER, made.CLIENT)))
+            self.wire.outer.send(padded(arp_reply(made.SERVER, self.client)))
             return
         body = frame[42:]
+        asked = lease_message(body)
+        if asked:
+            self.lease(asked)
+            return
         opcode = int.from_bytes(body[:2], "big")
         if opcode == Opcode.RRQ and self.granted:
             self.send(tftp_oack(blksize=self.granted, tsize=len(FILE)))
@@ -85,6 +100,14 @@ class Server(threading.Thread):
             self.give(1)
         elif opcode == Opcode.ACK:
             self.give(int.from_bytes(body[2:4], "big") + 1)
+
+    def lease(self, asked: LeaseMessage) -> None:
+        """Offers a lease and gives it, with the name of the file."""
+        kind = Kind.OFFER if asked.kind == Kind.DISCOVER else Kind.ACK
+        asker, server = Asker(asked.mac, asked.xid), made.SERVER.ip
+        body = answer(asker, kind, server, NETMASK, (Tag.FILENAME, b"k\0"), given=LEASED, next_server=server)
+        self.wire.outer.send(padded(to_client(made.SERVER, body)))
+        self.client, self.own = LEASED_CLIENT, made.OWN_PORT + 1
 
     def give(self, block: int) -> None:
         if (block - 1) * self.size > len(FILE):
@@ -95,8 +118,8 @@ class Server(threading.Thread):
         self.send(tftp_data(block, FILE[(block - 1) * self.size : block * self.size]))
 
     def send(self, body: bytes) -> None:
-        ports = (made.SERVER_PORT, made.OWN_PORT)
-        self.wire.outer.send(padded(udp_frame(made.SERVER, made.CLIENT, ports, body)))
+        ports = (made.SERVER_PORT, self.own)
+        self.wire.outer.send(padded(udp_frame(made.SERVER, self.client, ports, body)))
 
 
 class Bridged(unittest.TestCase):
@@ -119,6 +142,24 @@ class Bridged(unittest.TestCase):
             self.progress.take(0, command)
         said = ["sleep 0x5: goes on after 5 s", "sleep 05", "sleep ${}: its words can't be expanded"]
         self.assertEqual(self.said.getvalue().splitlines(), said)
+
+    def test_what_asks_and_is_answered(self) -> None:
+        lease, look_up, ping = Lease(), LookUp(1, 2), Ping(2, 3)
+        timed_out, nothing = Cause(Code.TIMED_OUT, 4), Cause(Code.REFUSED, 9, 0)
+        for asking, cause in ((lease, OK), (look_up, OK), (ping, OK), (lease, timed_out), (look_up, nothing)):
+            self.progress.take(0, asking.opened)
+            self.progress.take(0, Ended(asking.number, cause))
+        said = re.sub(r"[0-9]\.[0-9]{2} s", "N s", self.said.getvalue())
+        self.assertEqual(
+            said.splitlines(),
+            [
+                "a lease came after N s",
+                "the address of a.b came after N s",
+                "the echo reply of 10.0.0.1 came after N s",
+                "a lease didn't come: the tries of the timer's plan ran out without an answer",
+                "the address of a.b didn't come: the server's message in that record refuses",
+            ],
+        )
 
     def session(self) -> Session:
         client, _ = self.listener.accept()
@@ -198,14 +239,20 @@ class Bridged(unittest.TestCase):
     def test_program_with_granted_blocks(self) -> None:
         self.boot(Server(self.wire, 1432))
 
-    def boot(self, server: Server) -> None:
+    @unittest.skipUnless(is_built(), "the program isn't built: a boot through a bridge in memory")
+    def test_program_with_a_lease(self) -> None:
+        start = replace(made.start(LEASE_SCRIPT), ip=IPv4Address(0), mask=IPv4Address(0))
+        self.boot(Server(self.wire, 1432), start)
+        self.assertIn("a lease came after", self.said.getvalue())
+
+    def boot(self, server: Server, start: Start = made.start(SCRIPT)) -> None:
         ran = {}
         words = {"live": ["live", f"127.0.0.1:{self.port}"]}
         thread = threading.Thread(target=lambda: ran.update(run_all(words)), daemon=True)
         thread.start()
         server.start()
         session = self.session()
-        session.run(made.spelled([made.start(SCRIPT)]))
+        session.run(made.spelled([start]))
         server.is_over = True
         thread.join(MOST_SECONDS)
         self.progress.end()
@@ -250,7 +297,8 @@ class LiveBoot(unittest.TestCase):
         if done.returncode == 77:
             self.skipTest(done.stderr.strip())
         self.assertEqual(done.returncode, 0, done.stderr)
-        self.assertIn("booting by TFTP: passed", done.stderr)
+        for way in WAYS:
+            self.assertIn(f"booting by {way}: passed", done.stderr)
 
 
 if __name__ == "__main__":

@@ -12,13 +12,12 @@ from shared.kinds import GraphEvent, ObjectKind, Way
 from shared.recordings import read_input
 from shared.records import Advance, Done, Ended, Graph, Record, Sent, Step
 from shared.wire import tftp_ack
-from tests import graph_records, made, test_device, test_replay, test_scripts, test_settings
-from tests import test_sleep
+from tests import graph_records, made, test_lease, test_lookup, test_names, test_ping, test_replay
+from tests.all_rows import all_inputs, expected
 from tests.graph_entries import entries_fault
 from tests.graph_run import NotLegal, Run, fault_of
 from tests.replays import can_run, replayed
 from tests.script_rows import Row
-from tests.test_program import INPUTS
 
 KINDS = {kind.name.lower(): kind for kind in ObjectKind}
 WAYS = {way.name.lower(): way for way in Way}
@@ -30,6 +29,12 @@ CAUSES = {
     "no_route": Cause(Code.NO_ROUTE, 0x0A000101),
     "stopped": Cause(Code.STOPPED),
     "too_large": Cause(Code.TOO_LARGE, 1),
+    "nak": Cause(Code.REFUSED, 6, 6),
+    "unleased": Cause(Code.TIMED_OUT, 4),
+    "no_address": Cause(Code.REFUSED, 4, 0),
+    "no_name": Cause(Code.REFUSED, 4, 3),
+    "unreached": Cause(Code.NO_ROUTE, 0x0B000001),
+    "lost": Cause(Code.NO_ROUTE, 0x0B000009),
 }
 
 MADE = "made 1 fetch, held 1, made 2 tftp, held 2, plugged 1.1 2.0"
@@ -89,6 +94,69 @@ EVENTS: dict[str, list[str]] = {
     "no_start": [],
 }  # fmt: skip
 
+# those of opens with one object, by the cases of test_lease.py, test_ping.py and test_lookup.py
+OF_ONE = {"lease": test_lease, "ping": test_ping, "lookup": test_lookup, "names": test_names}
+ONE_ASKED, ONE_TIMED = "entered 1.0 down, left 1.0", "entered 1.4 time, left 1.4"
+ONE_IGNORED, ONE_FREED = "entered 1.1 up, left 1.1", "letgo 1, freed 1"
+ONE_SHUT = "closed 1.0 stopped, closed 1.1 stopped, closed 1.2 stopped, closed 1.3 stopped"
+
+
+def one_ends(cause: str, entry: str = "entered 1.1 up", left: str = "left 1.1") -> str:
+    return f"{entry}, closed 1.0 {cause}, closed 1.1 {cause}, {left}, {ONE_FREED}"
+
+
+EVENTS_OF_ONE: dict[str, list[str]] = {
+    # the offer doesn't end it, the acknowledgement does
+    "lease_a_lease": ["made 1 dhcp, held 1", ONE_ASKED, ONE_IGNORED, one_ends("ok")],
+    "lease_refused": ["made 1 dhcp, held 1", ONE_ASKED, ONE_TIMED, ONE_TIMED, ONE_IGNORED, ONE_TIMED, one_ends("nak")],
+    "lease_nobody_offers": ["made 1 dhcp, held 1", ONE_ASKED, *[ONE_TIMED] * 14,
+                            one_ends("unleased", "entered 1.4 time", "left 1.4")],
+    "lease_power_off": ["made 1 dhcp, held 1", ONE_ASKED, ONE_SHUT, ONE_FREED],
+    "ping_answered": ["made 1 ping, held 1", ONE_ASKED, ONE_TIMED, one_ends("ok")],
+    "ping_no_gateway": ["made 1 ping, held 1", ONE_ASKED, "closed 1.0 no_route, closed 1.1 no_route", ONE_FREED],
+    "ping_two_pings": ["made 1 ping, held 1", ONE_ASKED, ONE_TIMED, one_ends("ok"),
+                       "made 2 ping, held 2, entered 2.0 down, left 2.0",
+                       "entered 2.1 up, closed 2.0 ok, closed 2.1 ok, left 2.1, letgo 2, freed 2"],
+    "lookup_an_alias_and_an_address": ["made 1 resolver, held 1", ONE_ASKED, ONE_TIMED, one_ends("ok")],
+    "lookup_no_records": ["made 1 resolver, held 1", ONE_ASKED, ONE_TIMED, one_ends("no_address")],
+}  # fmt: skip
+
+# those of a command whose server is a name, by the cases of test_names.py: its first object waits beside a resolver
+LOOKS_UP = ["made 2 resolver, held 2, entered 2.0 down, left 2.0", "entered 2.4 time, left 2.4"]
+FOUND = "entered 2.1 up, closed 2.0 ok, closed 2.1 ok, left 2.1, letgo 2, freed 2"
+OPENS = "made 3 tftp, held 3, plugged 1.1 3.0, entered 1.0 down, entered 3.0 down, left 3.0, left 1.0"
+BOTH_SHUT = "closed 2.0 stopped, closed 2.1 stopped, closed 2.2 stopped, closed 2.3 stopped"
+EVENTS_OF_NAMES: dict[str, list[str]] = {
+    "names_a_file": [
+        "made 1 fetch, held 1", *LOOKS_UP, FOUND, OPENS, "entered 3.4 time, left 3.4",
+        "entered 3.1 up, entered 1.1 up, left 1.1, closed 3.0 ok, closed 1.1 ok, entered 1.1 close, closed 1.0 ok, "
+        "left 1.1, unplugged 3.0 1.1, closed 3.1 ok, left 3.1, letgo 1, freed 1, letgo 3, freed 3",
+    ],
+    "names_no_such_name": [
+        "made 1 fetch, held 1", *LOOKS_UP, "entered 2.1 up, closed 2.0 no_name, closed 2.1 no_name, left 2.1",
+        "letgo 2, freed 2, letgo 1, freed 1",
+    ],
+    "names_no_name_server": [],
+    "names_no_way_to_the_name_server": [
+        "made 1 fetch, held 1", LOOKS_UP[0],
+        "closed 2.0 unreached, closed 2.1 unreached, letgo 2, freed 2, letgo 1, freed 1",
+    ],
+    "names_no_way_to_the_server": [
+        "made 1 fetch, held 1", *LOOKS_UP, FOUND, OPENS,
+        "closed 1.0 lost, closed 1.1 lost, closed 3.0 lost, entered 3.0 close, closed 3.1 lost, left 3.0, "
+        "unplugged 1.1 3.0, letgo 1, freed 1, letgo 3, freed 3",
+    ],
+    "names_power_off_in_the_look_up": ["made 1 fetch, held 1", LOOKS_UP[0], ONE_SHUT, BOTH_SHUT, FREED],
+    "names_a_ping": ["made 1 ping, held 1", *LOOKS_UP, FOUND, ONE_ASKED, ONE_TIMED, one_ends("ok")],
+    "names_a_ping_s_look_up_and_power_off": ["made 1 ping, held 1", *LOOKS_UP, ONE_SHUT, BOTH_SHUT, FREED],
+}  # fmt: skip
+
+
+def row_of(case: str) -> Row:
+    """The row of a case of an open with one object, or of a server that is a name."""
+    module, _, name = case.partition("_")
+    return OF_ONE[module].ROWS[name]
+
 
 def port(text: str) -> tuple[int, int]:
     number, _, slot = text.partition(".")
@@ -121,18 +189,6 @@ def graph_of(records: list[Record]) -> list[Record]:
     return [record for record in records if isinstance(record, Graph)]
 
 
-def expected() -> dict[str, Row]:
-    """All rows that are written by hand."""
-    return {**test_device.ROWS, **test_replay.ROWS, **test_scripts.ROWS, **test_sleep.ROWS}
-
-
-def all_inputs() -> dict[str, bytes]:
-    """All recordings that are replayed."""
-    scripts = {**test_device.all_inputs(), **test_scripts.all_inputs(), **test_settings.all_inputs()}
-    scripts |= test_sleep.all_inputs()
-    return {**test_replay.all_inputs(), **scripts, **INPUTS}
-
-
 def whole_records(recording: bytes) -> list[Record]:
     """The records of an input, up to its end or the first place where it is none."""
     found: list[Record] = []
@@ -151,6 +207,9 @@ class WrittenOut(unittest.TestCase):
         for name, wanted in EVENTS.items():
             with self.subTest(name):
                 self.assertEqual(graph_of(test_replay.ROWS[name].outputs), events(*wanted))
+        for case, wanted in {**EVENTS_OF_ONE, **EVENTS_OF_NAMES}.items():
+            with self.subTest(case):
+                self.assertEqual(graph_of(row_of(case).outputs), events(*wanted))
 
     def test_a_second_open_has_the_next_numbers(self) -> None:
         made_by = [record for record in graph_of(test_replay.ROWS["two_files"].outputs)
@@ -239,11 +298,15 @@ class Counts(unittest.TestCase):
 class Refusals(unittest.TestCase):
     """The checks refuse what is no run, at each place."""
 
-    SHORT = ("a_boot", "two_files", "no_route", "power_off", "a_foreign_port", "refused_later")
+    SHORT = {
+        **{name: test_replay.ROWS[name].outputs
+           for name in ("a_boot", "two_files", "no_route", "power_off", "a_foreign_port", "refused_later")},
+        **{case: row_of(case).outputs
+           for case in (*EVENTS_OF_ONE, *EVENTS_OF_NAMES, "lease_a_boot", "lease_power_off_in_the_transfer")},
+    }  # fmt: skip
 
     def test_a_record_left_out_or_twice(self) -> None:
-        for name in self.SHORT:
-            outputs = test_replay.ROWS[name].outputs
+        for name, outputs in self.SHORT.items():
             for place, record in enumerate(outputs):
                 if isinstance(record, (Graph, Ended)):
                     with self.subTest(name, place=place):
@@ -251,8 +314,7 @@ class Refusals(unittest.TestCase):
                         self.assertIsNotNone(fault_of(outputs[: place + 1] + outputs[place:]))
 
     def test_two_records_in_the_other_order(self) -> None:
-        for name in self.SHORT:
-            outputs = test_replay.ROWS[name].outputs
+        for name, outputs in self.SHORT.items():
             for place in range(1, len(outputs)):
                 pair = outputs[place - 1 : place + 1]
                 if any(isinstance(record, Graph) for record in pair) and not self.is_beside(pair):
@@ -265,8 +327,7 @@ class Refusals(unittest.TestCase):
         return any(isinstance(record, (Step, Sent)) for record in pair)
 
     def test_a_run_that_is_cut_off_is_one(self) -> None:
-        for name in self.SHORT:
-            outputs = test_replay.ROWS[name].outputs
+        for name, outputs in self.SHORT.items():
             for length in range(len(outputs)):
                 self.assertIsNone(fault_of(outputs[:length]), (name, length))
 
@@ -368,7 +429,7 @@ class Outputs(unittest.TestCase):
                     self.assertIsNone(entries_fault(whole_records(recording), test_replay.read_all(output)))
 
     def test_the_events_of_rows(self) -> None:
-        for name, wanted in {**EVENTS, "example": EXAMPLE}.items():
+        for name, wanted in {**EVENTS, **EVENTS_OF_ONE, **EVENTS_OF_NAMES, "example": EXAMPLE}.items():
             with self.subTest(name):
                 output = test_replay.read_all(replayed()[name].output)
                 self.assertEqual(graph_of(output), events(*wanted))

@@ -26,6 +26,9 @@ FIRST = b"#!ipxe\n"
 MOST_BYTES = 130_996
 MOST_SECONDS = 20
 MOST_COMMANDS = 4_096
+# How often a plain script is run, and the least that it counts as costing, in seconds.
+PLAIN_RUNS = 5
+LEAST_TIME = 0.001
 MOST_TIMES = 100
 # no script of MOST_BYTES has more commands than so many steps may begin
 ENOUGH_TICKS = 10
@@ -149,10 +152,13 @@ class Hostile(Case):
                 self.assertEqual(records[-1].status, Status.UNFINISHED)
 
     def plain_time(self) -> float:
-        """What a plain script of the greatest length costs."""
-        plain, records = self.run_timed(PLAIN, ENOUGH_TICKS)
-        self.assertEqual(records[-1].status, Status.ENDED)
-        return plain
+        """What a plain script of the greatest length costs: the most of a few runs, since a busy machine counts some as nothing."""
+        most = LEAST_TIME
+        for _ in range(PLAIN_RUNS):
+            plain, records = self.run_timed(PLAIN, ENOUGH_TICKS)
+            self.assertEqual(records[-1].status, Status.ENDED)
+            most = max(most, plain)
+        return most
 
     def test_loops(self) -> None:
         """Two steps of 4,096 commands cost at most a hundred times what a plain script costs."""

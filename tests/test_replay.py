@@ -277,7 +277,7 @@ def errors() -> dict[str, Row]:
         ),
         "no_route": unreached("10.0.1.1"),
         "no_address": without_address(unreached("10.0.0.1")),
-        "bad_uri": refused(b"imgfetch tftp://10.0.0.256/f", Cause(Code.BAD_URI)),
+        "bad_uri": refused(b"imgfetch f", Cause(Code.BAD_URI)),
         "path_too_long": refused(
             b"imgfetch tftp://10.0.0.1/" + b"a/" * 512 + b"f", Cause(Code.TOO_LONG, 7)
         ),

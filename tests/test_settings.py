@@ -13,13 +13,15 @@ from ipaddress import IPv4Address
 from uuid import UUID
 
 from shared.causes import OK, Cause, Code
-from shared.records import Command, Record, Result, Start, Text, Tick
+from shared.records import Command, Record, Result, Start, Step, Text, Tick
 from tests import made
+from tests.asking_records import Lease
 from tests.replays import can_run
 from tests.script_chance import ABSENT, KINDS, LOOPS, NAMES, NUMBERS, VALUES, WRONG_NAMES
 from tests.script_chance import random_inputs
-from tests.script_model import Model
-from tests.script_rows import FIRST, Row, RowCase, printed, ran, row, same_lines, text, unexpanded
+from tests.script_model import UNLEASED, Model
+from tests.script_rows import FIRST, UNFINISHED, Row, RowCase, left, printed, ran, row, same_lines, steps
+from tests.script_rows import unexpanded
 
 UNKNOWN, USAGE, FALSE = Cause(Code.UNKNOWN), Cause(Code.USAGE), Cause(Code.FALSE)
 BAD_NAME, BAD_VALUE, NO_LABEL = Cause(Code.BAD_NAME), Cause(Code.BAD_VALUE), Cause(Code.NO_LABEL)
@@ -314,9 +316,24 @@ def commands() -> dict[str, Row]:
         "a_comment_and_a_join": row(b"echo a # b && c\n", ran(b"echo a")),
         "exit_of_a_number": row(b"set n:uint8 31 ; exit ${n}", ran(b"set n:uint8 31"),
                                 ran(b"exit 0x1f", Cause(Code.EXIT, 31), place=1), cause=Cause(Code.EXIT, 31)),
-        "the_built_in_script": text(b"", ran(b"dhcp", UNKNOWN), ran(b"exit 1", Cause(Code.EXIT, 1), place=1),
-                                    cause=Cause(Code.EXIT, 1)),
+        **built_in(),
     }  # fmt: skip
+
+
+def built_in() -> dict[str, Row]:
+    """The built-in script, an empty one, asks for a lease: four times, where nobody answers."""
+    lease, cause = Lease(), Cause(Code.EXIT, 1)
+    begins = [Step(1), made.enter(), made.command(b"dhcp"), *lease.begins(*lease.discovers())]
+    tries = {2: 2, 4: 3, 8: 4}
+    waits = [lease.passed(*(lease.discovers(tries[step]) if step in tries else [])) for step in range(2, 16)]
+    gives_up = [*lease.passed(over=UNLEASED), Result(UNLEASED), *ran(b"exit 1", cause, place=1)]
+    started = made.start(b"")
+    return {
+        "the_built_in_script": Row(
+            [started, *[Tick(1_000)] * 15], [*begins, *steps(2, *waits, gives_up), *left(cause)]
+        ),
+        "the_built_in_script_waits": Row([started], [*begins, *lease.shut(), UNFINISHED]),
+    }
 
 
 def order() -> dict[str, Row]:

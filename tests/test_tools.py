@@ -59,9 +59,9 @@ class Examples(Case):
 
     def test_the_boots_are_made_anew(self) -> None:
         (self.folder / "inner").mkdir()
-        for name in ("fallback.ipxe", "settings.ipxe", "stations.py"):
+        for name in ("fallback.ipxe", "settings.ipxe", "dhcp.ipxe", "lookup.ipxe", "stations.py"):
             shutil.copy(EXAMPLES / name, self.folder / "inner")
-        for name in ("tftp-boot", "fallback", "settings"):
+        for name in ("tftp-boot", "fallback", "settings", "dhcp", "lookup"):
             maker = f"make_{name.replace('-', '_')}"
             shutil.copy(EXAMPLES / f"{maker}.py", self.folder / "inner")
             with self.start(f"inner/{maker}.py") as process:

@@ -193,13 +193,23 @@ class LocalCommands(unittest.TestCase):
 
     def test_sentences_on_commands(self) -> None:
         for words, cause, said in (
-            (b"dhcp", Cause(Code.UNKNOWN), "the command `dhcp` isn't built yet"),
-            (b"imgfetch http://10.0.0.1/f", Cause(Code.BAD_URI),
-             "`http://` isn't built yet; `tftp://ADDRESS/PATH` is"),
-            (b"imgfetch tftp://srv/f", Cause(Code.BAD_URI),
-             "tftp://srv/f: only an address can name the server yet; `tftp://ADDRESS/PATH` is"),
-            (b"imgexec tftp://10.0.0.1/", Cause(Code.BAD_URI),
-             "tftp://10.0.0.1/ is no URI that is read here; `tftp://ADDRESS/PATH` is"),
+            (b"imgstat", Cause(Code.UNKNOWN), "the command `imgstat` isn't built yet"),
+            (b"imgfetch http://10.0.0.1/f", Cause(Code.NO_SCHEME),
+             "http://10.0.0.1/f isn't fetched: only `tftp://HOST/PATH` is built yet"),
+            (b"imgexec iscsi:10.0.0.1::::iqn.x:t", Cause(Code.NO_SCHEME),
+             "iscsi:10.0.0.1::::iqn.x:t isn't fetched: only `tftp://HOST/PATH` is built yet"),
+            (b"imgfetch tftp://a..b:70/f", Cause(Code.BAD_NAME),
+             "a..b is no name of a host: a part between its dots is empty"),
+            (b"imgexec tftp://u@srv/f", Cause(Code.BAD_NAME), "srv is no name of a host with `domain` after it"),
+            (b"imgexec tftp://srv.lan/f", Cause(Code.NO_SERVER), "srv.lan is a name, and no name server is set that can "
+             "be asked for its address: `dns` comes by `dhcp`, by `set dns ADDRESS` or by --dns"),
+            (b"imgexec tftp:///f", Cause(Code.BAD_URI),
+             "tftp:///f is no URI that names a server, as `tftp://HOST/PATH` does"),
+            (b"imgexec x/f", Cause(Code.BAD_URI),
+             "x/f is only the end of a URI, and it doesn't go with `next-server`; `tftp://HOST/PATH` is a whole "
+             "one"),
+            (b"imgfetch tftp://10.0.0.1/" + b"a" * 256, Cause(Code.TOO_LONG, 7), "the path of tftp://10.0.0.1/"
+             + "a" * 256 + " has more than 1024 bytes, or its image's name more than 255"),
             (b"imgexec", Cause(Code.USAGE), "the words don't fit the command: `imgexec URI`"),
             (b"exit 3", Cause(Code.EXIT, 3), "the script itself ended in failure, by `exit 3`"),
             (b"set y:int8 200", Cause(Code.BAD_VALUE), "200 is no value for `y:int8` of the kind int8, which "
@@ -220,6 +230,32 @@ class LocalCommands(unittest.TestCase):
             (b"set net0/x y", Cause(Code.TOO_MANY, 5),
              "the block net0 has 128 settings, the most, and `net0/x` is another"),
             (b"ifclose net1", Cause(Code.BAD_NAME), "there is no device net1, only `net0`"),
+            (b"dhcp eth1", Cause(Code.BAD_NAME), "there is no device eth1, only `net0`"),
+            (b"dhcp a b", Cause(Code.USAGE), "the words don't fit the command: `dhcp [net0]`"),
+            (b"set net0.dhcp/a b", Cause(Code.BAD_NAME), "the block net0.dhcp isn't there, so nothing is set in it: "
+             "the client holds no lease"),
+            (b"ping", Cause(Code.USAGE), "the words don't fit the command: `ping HOST`"),
+            (b"ping a..b", Cause(Code.BAD_NAME), "a..b is no name of a host: a part between its dots is empty"),
+            (b"ping a", Cause(Code.BAD_NAME), "a is no name of a host with `domain` after it"),
+            (b"ping a.b", Cause(Code.NO_SERVER), "a.b is a name, and no name server is set that can be asked for its "
+             "address: `dns` comes by `dhcp`, by `set dns ADDRESS` or by --dns"),
+            (b"nslookup x", Cause(Code.USAGE), "the words don't fit the command: `nslookup NAME HOST`"),
+            (b"nslookup x a.b", Cause(Code.NO_SERVER), "a.b is a name, and no name server is set that can be asked for "
+             "its address: `dns` comes by `dhcp`, by `set dns ADDRESS` or by --dns"),
+            (b"nslookup net9/x a.b", Cause(Code.BAD_NAME), "the block net9 isn't there, so nothing is set in it: there "
+             "is the root, without a name, and `net0`"),
+            (b"nslookup net9/x a..b", Cause(Code.BAD_NAME), "the block net9 isn't there, so nothing is set in it: "
+             "there is the root, without a name, and `net0`"),
+            (b"nslookup net0.dhcp/x a.b", Cause(Code.BAD_NAME), "the block net0.dhcp isn't there, so nothing is set in "
+             "it: the client holds no lease"),
+            (b"nslookup x:y a.b", Cause(Code.BAD_NAME), "x:y has a kind that there isn't: y"),
+            (b"nslookup x .a", Cause(Code.BAD_NAME), ".a is no name of a host: a part between its dots is empty"),
+            (b"nslookup x " + b"a" * 64, Cause(Code.BAD_NAME), f"{'a' * 64} is no name of a host: a part between its "
+             "dots has more than 63 bytes"),
+            (b"nslookup x y", Cause(Code.BAD_NAME), "y is no name of a host with `domain` after it"),
+            (b"nslookup x " + b"a." * 127 + b"b", Cause(Code.BAD_NAME), f"{'a.' * 127}b is no name of a host: it has "
+             "more than 253 bytes"),
+            (b"nslookup x y", Cause(Code.TOO_MANY, 5), "the root has 128 settings, the most, and `x` is another"),
             (b"set", Cause(Code.USAGE), "the words don't fit the command: `set NAME [VALUE]`"),
             (b" a", Cause(Code.UNKNOWN), "the command has no name: its first word is empty, as expanded"),
             (b"imgexec tftp://10.0.0.1/k", Cause(Code.NOT_BOOTABLE), "tftp://10.0.0.1/k can't be "
@@ -251,7 +287,7 @@ class LocalCommands(unittest.TestCase):
 
     def test_the_built_in_script(self) -> None:
         cause = Cause(Code.EXIT, 1)
-        outputs = [*local_failure(b"dhcp", Cause(Code.UNKNOWN))[:4], Command(1, 2, 1, True, (b"exit", b"1"))]
+        outputs = [*local_failure(b"dhcp", Cause(Code.FULL, 2))[:4], Command(1, 2, 1, True, (b"exit", b"1"))]
         outputs += [Result(cause), made.leave(cause), Done(Status.SCRIPT_FAILED)]
         lines = why(outputs, [made.start(b"")])
         self.assertEqual(lines[0], "command 2 of line 2: the built-in script ended in failure, by `exit 1`")

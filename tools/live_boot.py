@@ -8,28 +8,32 @@ import hashlib
 import subprocess
 import sys
 import tempfile
+from dataclasses import dataclass
+from ipaddress import IPv4Address, IPv4Network
 from pathlib import Path
 from random import Random
-from typing import Callable
 
 import boot
 from shared.command_line import Refused, run
 from shared.namespaces import CLIENT_ADDRESS, PREFIX, SERVER_ADDRESS, Network, missing, network
 from shared.parts import write_parts
 from shared.recordings import output_of
-from shared.servers import Tftp, dnsmasq
+from shared.servers import Leases, Names, Service, Tftp, dnsmasq
 
 SKIPPED = 77
 MOST_SECONDS = 600
 KERNEL_BYTES = 300_001
+FILE = "kernel"
 ELF = b"\x7fELF"
 BRIDGE = Path(__file__).with_name("bridge.py")
 
 DESCRIPTION = """\
-Makes two network namespaces with a wire between them, starts dnsmasq as a TFTP server in one, and
-boots over the wire from the other: bridge.py leads the built program there, which runs a script of
-one imgexec. The kernel that it hands off is compared with the one that was served, and the run
-that was recorded is replayed and compared byte for byte. Then all of it is taken away.
+Makes two network namespaces with a wire between them, starts dnsmasq as a server in one, and boots
+over the wire from the other, in several ways: from an address that is given; by a lease, which says
+what to boot from where; and from a server whose name is looked up. bridge.py leads the built
+program there, which runs a script for each. The kernel that it hands off is compared with the one
+that was served, and the run that was recorded is replayed and compared byte for byte. Then all of
+it is taken away.
 
 It needs root, iproute2, dnsmasq, and the built program or the toolchain's `rt`. Where one isn't
 there it says so and ends with 77."""
@@ -68,13 +72,13 @@ class Boot:
         self.input, self.output = folder / "boot.rec", folder / "boot.out"
         self.pcap = folder / "boot.pcap"
 
-    def run(self, script: str) -> int:
-        """Runs a script through the bridge; the run's status."""
+    def run(self, script: str, ip: str | None) -> int:
+        """Runs a script through the bridge, with this address by START or none; the run's status."""
         path = self.folder / "boot.ipxe"
         path.write_text(script)
         words = [
             sys.executable, str(BRIDGE), str(path), "--run",
-            "--device", self.network.client_device, "--ip", f"{CLIENT_ADDRESS}/{PREFIX}",
+            "--device", self.network.client_device, *(("--ip", ip) if ip else ()),
             "--record", str(self.input), "--output", str(self.output), "--pcap", str(self.pcap),
         ]
         done = subprocess.run(self.network.in_client(*words), timeout=MOST_SECONDS, check=False)
@@ -103,23 +107,51 @@ def compare_replay(booted: Boot) -> None:
     say("the recorded run replays to the same output, byte for byte")
 
 
-def by_tftp(joined: Network, folder: Path, kernel: bytes) -> None:
-    """Boots a kernel by TFTP from the server's address."""
-    root = folder / "tftp"
+@dataclass(frozen=True, slots=True)
+class Way:
+    """A way to boot: the script's commands, the client's address by START, and what is served beside the file."""
+
+    commands: tuple[str, ...]
+    ip: str | None = None
+    services: tuple[Service, ...] = ()
+
+
+NET = IPv4Network(f"{SERVER_ADDRESS}/{PREFIX}", strict=False)
+SERVER = IPv4Address(SERVER_ADDRESS)
+LEASES = Leases(SERVER + 99, SERVER + 149, NET.netmask, FILE)
+NAMES = Names("boot.test", SERVER)
+
+# What is booted over; HTTP joins here.
+WAYS = {
+    "TFTP": Way((f"imgexec tftp://{SERVER_ADDRESS}/{FILE}",), f"{CLIENT_ADDRESS}/{PREFIX}"),
+    "DHCP": Way(("dhcp", "imgexec tftp://${next-server}/${filename}"), None, (LEASES,)),
+    "DNS": Way(
+        (
+            "dhcp",
+            f"nslookup server {NAMES.name}",
+            "ping ${server}",
+            f"ping {NAMES.name}",
+            f"imgexec tftp://{NAMES.name}/${{filename}}",
+        ),
+        None,
+        (LEASES, NAMES),
+    ),
+}
+
+
+def boot_by(name: str, joined: Network, folder: Path, kernel: bytes) -> None:
+    """Boots a kernel in one of the ways, and compares what came of it."""
+    way, root = WAYS[name], folder / "tftp"
     root.mkdir()
     root.chmod(0o755)
-    (root / "kernel").write_bytes(kernel)
+    (root / FILE).write_bytes(kernel)
     booted = Boot(joined, folder)
-    with dnsmasq(joined, Tftp(root)):
-        status = booted.run(f"#!ipxe\nimgexec tftp://{SERVER_ADDRESS}/kernel\n")
+    with dnsmasq(joined, Tftp(root), *way.services):
+        status = booted.run("\n".join(("#!ipxe", *way.commands, "")), way.ip)
     if status != 0:
-        raise Refused(f"the boot by TFTP ended with status {status}: {boot.STATUSES.get(status)}")
+        raise Refused(f"the boot by {name} ended with status {status}: {boot.STATUSES.get(status)}")
     compare_kernel(booted, kernel)
     compare_replay(booted)
-
-
-# What is booted over; leases, names and HTTP join here.
-WAYS: dict[str, Callable[[Network, Path, bytes], None]] = {"TFTP": by_tftp}
 
 
 def live_boot(words: list[str]) -> int:
@@ -130,10 +162,10 @@ def live_boot(words: list[str]) -> int:
         return SKIPPED
     kernel = arguments.kernel.read_bytes() if arguments.kernel else made_kernel()
     with tempfile.TemporaryDirectory(prefix="netboot-") as name, network() as joined:
-        for way, boots in WAYS.items():
+        for way in WAYS:
             folder = (arguments.keep or Path(name)) / way.lower()
             folder.mkdir(parents=True)
-            boots(joined, folder, kernel)
+            boot_by(way, joined, folder, kernel)
             say(f"booting by {way}: passed")
     return 0
 

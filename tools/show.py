@@ -13,8 +13,8 @@ from shared.describe import Lines
 from shared.drawing import pictures
 from shared.frames import ends_of, packet_of
 from shared.full_steps import MOST_COMMANDS, FullSteps
-from shared.script_text import Line, command_of, script_of
-from shared.objects import objects_of
+from shared.kinds import GraphEvent, ObjectKind, OpenKind
+from shared.objects import MOST_OBJECTS, SOLE_KINDS
 from shared.parts import write_parts
 from shared.recordings import Timed, input_of, open_recording, read_input, read_output
 from shared.records import (
@@ -33,6 +33,7 @@ from shared.records import (
     Text,
     Try,
 )
+from shared.script_text import Line, command_of, script_of
 from shared.texts import PrintedText, word
 from shared.why import reasons
 
@@ -59,14 +60,19 @@ examples:
 class OfOpen:
     """Tells which records belong to an open: its own, its objects', and the frames between its ends.
 
-    In an output recording the ends are those of its OPEN record. An input recording shows only
-    its own port, which the START record and the open's number give.
+    In an output recording the ends are those of its OPEN record. Its objects were made since the OPEN before it, or
+    waited for what that one asked. An input recording shows only its own port, which the START record and the open's
+    number give.
     """
 
     def __init__(self, number: int) -> None:
         self.number = number
         self.own: int | None = None
         self.opened: Open | None = None
+        self.opens = 0
+        # the objects that no OPEN followed yet, with their kinds, and those of the open
+        self.made: dict[int, ObjectKind] = {}
+        self.objects: set[int] = set()
         self.is_tried = False
 
     def has(self, record: Record) -> bool:
@@ -76,27 +82,39 @@ class OfOpen:
         if isinstance(record, (Open, Try, Advance, Ended)):
             return self._has_own(record)
         if isinstance(record, Graph):
-            return record.object in objects_of(self.number)
+            return self._has_event(record)
         if isinstance(record, Sent):
             return was_tried or self._has_frame(record.frame)
         return isinstance(record, Received) and self._has_frame(record.frame)
 
+    def _has_event(self, event: Graph) -> bool:
+        if event.event is GraphEvent.MADE and len(self.made) < MOST_OBJECTS:
+            self.made[event.object] = ObjectKind(event.other)
+        return event.object in self.objects or (self.opens == self.number and event.object in self.made)
+
     def _has_own(self, record: Open | Try | Advance | Ended) -> bool:
         is_own = record.number == self.number
-        if is_own and isinstance(record, Open):
-            self.opened = record
-            self.own = record.own
+        if isinstance(record, Open):
+            self.opens += 1
+            claimed = {one for one, kind in self.made.items() if SOLE_KINDS.get(record.kind, kind) is kind}
+            self.made = {one: kind for one, kind in self.made.items() if one not in claimed}
+            if is_own:
+                self.opened, self.own, self.objects = record, record.own, claimed
         self.is_tried = is_own and isinstance(record, Try)
         return is_own
 
     def _has_frame(self, frame: bytes) -> bool:
         packet = packet_of(frame)
-        if packet is None or self.own is None:
+        if packet is None or self.own is None or self._is_ping():
             return False
         ends = ends_of(packet)
         if self.opened is None:
             return ends.target_port == self.own
         return ends.source_port == self.own and ends.target == self.opened.server
+
+    def _is_ping(self) -> bool:
+        """Whether its frames have no ports: then they are those after its TRYs."""
+        return self.opened is not None and self.opened.kind is OpenKind.PING
 
 
 class Written:

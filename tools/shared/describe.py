@@ -5,7 +5,7 @@ from __future__ import annotations
 from typing import Any, Callable
 
 from shared.frames import Summaries
-from shared.kinds import GraphEvent, PartKind, ScriptMove, Way
+from shared.kinds import GraphEvent, OpenKind, PartKind, ScriptMove, Way
 from shared.objects import Names, title
 from shared.records import (
     Advance,
@@ -54,12 +54,15 @@ def _script(script: Script) -> str:
     return f"SCRIPT {title(script.move.name)}, depth {script.depth}{cause}"
 
 
+def server_of(opened: Open) -> str:
+    """The server of an open, with its port where the protocol has ports."""
+    return str(opened.server) if opened.kind is OpenKind.PING else f"{opened.server} port {opened.port}"
+
+
 def _open(opened: Open) -> str:
     target = f", target {word(opened.target)}" if opened.target else ""
-    return (
-        f"OPEN {opened.number} {opened.kind.name}, server {opened.server} port {opened.port}, "
-        f"own port {opened.own}{target}"
-    )
+    own = "identifier" if opened.kind is OpenKind.PING else "own port"
+    return f"OPEN {opened.number} {opened.kind.name}, server {server_of(opened)}, {own} {opened.own}{target}"
 
 
 def _graph(graph: Graph, names: Names) -> str:

@@ -6,6 +6,7 @@ from typing import Iterable, Iterator
 
 from shared.causes import MEANING
 from shared.command_line import Refused
+from shared.describe import server_of
 from shared.kinds import Way
 from shared.objects import Family, Objects, Slot, Thing, When, ending
 from shared.recordings import Timed
@@ -85,7 +86,7 @@ class Picture:
         if opened is None:
             return "objects of no open"
         target = f", target {word(opened.target)}" if opened.target else ""
-        return f"open {opened.number}: {opened.kind.name} with {opened.server} port {opened.port}{target}"
+        return f"open {opened.number}: {opened.kind.name} with {server_of(opened)}{target}"
 
     def _has_upper(self, thing: Thing) -> bool:
         slot = thing.slots.get(ABOVE)

@@ -2,41 +2,36 @@
 
 from __future__ import annotations
 
-import re
 from collections import Counter
 from dataclasses import dataclass, field
 from ipaddress import IPv4Address
 
-from shared.frames import Packet, datagram_of, ends_of, packet_of
+from shared.frames import packet_of
+from shared.judges import Judge, judge_of
 from shared.records import Open, Start
 from shared.texts import count, mac
-from shared.wire import ARP, IPV4, PROTOCOL_UDP, Opcode
+from shared.wire import ARP, IPV4
 
 GROUP_BIT = 1
 MOST_REASONS = 64
-ALL_HOSTS = IPv4Address("255.255.255.255")
-# the options that were asked for, each with the number that its value is below (RFC 2348, 2349)
-OPTIONS = ((b"blksize", 1 << 16), (b"tsize", 1 << 32))
+# where an ARP request has its sender's address, and where an IPv4 packet has it, in their frames
+SENDERS = {ARP: slice(28, 32), IPV4: slice(26, 30)}
 
 
-def is_grant(body: bytes) -> bool:
-    """Whether this is an OACK as the client reads one: of two values for a name the first counts."""
-    *texts, rest = body[2:].split(b"\0")
-    names = [text.lower() for text in texts[0::2]]
-    if rest or len(texts) % 2:
-        return False
-    values = [(texts[2 * names.index(name) + 1], most) for name, most in OPTIONS if name in names]
-    return all(re.fullmatch(rb"[0-9]+", value) and int(value) < most for value, most in values)
+def sender_of(asked: list[bytes]) -> IPv4Address | None:
+    """The address from which the last of these frames was sent."""
+    frame = asked[-1] if asked else b""
+    place = SENDERS.get(int.from_bytes(frame[12:14], "big"))
+    address = frame[place] if place else b""
+    return IPv4Address(address) if len(address) == 4 else None
 
 
 @dataclass(slots=True)
 class Meanwhile:
-    """The frames that came while an open by TFTP lived, judged as the client judges them."""
+    """The frames that came while an open lived, judged as the client judges them."""
 
     start: Start
-    opened: Open
-    port: int | None = None
-    blocks: int = 0
+    judge: Judge
     reasons: Counter[str] = field(default_factory=Counter)
     hosts: set[IPv4Address] = field(default_factory=set)
 
@@ -66,46 +61,10 @@ class Meanwhile:
         packet = packet_of(frame)
         if packet is None or not packet.is_sound:
             return "no well-formed IPv4 packet, or its header's checksum is wrong"
-        return self._packet_reason(packet)
+        return self.judge.reason(packet)
 
-    def _packet_reason(self, packet: Packet) -> str | None:
-        if packet.target not in (self.start.ip, ALL_HOSTS):
-            return f"to the address {packet.target}, which isn't the client's, {self.start.ip}"
-        if packet.is_fragment:
-            return "a fragment of an IPv4 packet"
-        if packet.protocol != PROTOCOL_UDP:
-            return f"IPv4 protocol {packet.protocol}, which isn't UDP"
-        body = datagram_of(packet)
-        if body is None:
-            return f"UDP from {packet.source} with a wrong checksum or length"
-        ends = ends_of(packet)
-        if ends.target_port != self.opened.own:
-            return f"to port {ends.target_port}, and the transfer's port is {self.opened.own}"
-        if packet.source != self.opened.server:
-            return f"from {packet.source}, and the file was asked of {self.opened.server}"
-        return self._message_reason(ends.source_port, body)
 
-    def _message_reason(self, port: int, body: bytes) -> str | None:
-        if self.port is not None and port != self.port:
-            return f"from port {port}, and the transfer is with port {self.port}"
-        opcode = int.from_bytes(body[:2], "big")
-        if opcode == Opcode.OACK:
-            return self._grant_reason(port, body)
-        if len(body) < 4 or opcode not in (Opcode.DATA, Opcode.ERROR):
-            return "no TFTP packet that a server sends in answer"
-        if opcode != Opcode.DATA:
-            return None
-        number = int.from_bytes(body[2:4], "big")
-        if number != self.blocks + 1:
-            return f"block {number}, and block {self.blocks + 1} was waited for"
-        self.port, self.blocks = port, number
-        return None
-
-    def _grant_reason(self, port: int, body: bytes) -> str | None:
-        """The first OACK, or block 1, is the agreement (RFC 2347)."""
-        if not is_grant(body):
-            return "a TFTP OACK that isn't well-formed, or whose size is no number"
-        if self.port is not None:
-            return "a TFTP OACK, and the blocks' size is agreed already"
-        self.port = port
-        return None
+def meanwhile_of(start: Start, opened: Open, asked: list[bytes]) -> Meanwhile | None:
+    """Of an open, with the frames of the tries of what it sent last; None where its answers can't be judged yet."""
+    judge = judge_of(sender_of(asked) or start.ip, opened, asked)
+    return Meanwhile(start, judge) if judge else None

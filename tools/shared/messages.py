@@ -2,24 +2,15 @@
 
 from __future__ import annotations
 
+from dataclasses import dataclass
 from ipaddress import IPv4Address
+from typing import Iterator
 
 from shared.texts import count, word
 from shared.wire import Opcode
+from shared.wire_dhcp import COOKIE, END, Kind, Tag
 
-DHCP_COOKIE = bytes.fromhex("63825363")
 DHCP_FIXED = 236
-DHCP_KIND = 53
-DHCP_KINDS = {
-    1: "DISCOVER",
-    2: "OFFER",
-    3: "REQUEST",
-    4: "DECLINE",
-    5: "ACK",
-    6: "NAK",
-    7: "RELEASE",
-    8: "INFORM",
-}
 DNS_HEADER = 12
 DNS_RESPONSE = 0x8000
 DNS_A = 1
@@ -65,46 +56,109 @@ def _tftp_request(name: str, data: bytes) -> str | None:
     return f"TFTP {name} {word(texts[0])} {word(texts[1])}{_options(texts[2:])}"
 
 
-def dhcp(body: bytes) -> str | None:
-    """A DHCP message (RFC 2131, section 2)."""
-    if len(body) < DHCP_FIXED + 4 or body[DHCP_FIXED : DHCP_FIXED + 4] != DHCP_COOKIE:
+@dataclass(frozen=True, slots=True)
+class LeaseMessage:
+    """A DHCP message, as far as a lease depends on it (RFC 2131, section 2)."""
+
+    operation: int
+    xid: int
+    given: IPv4Address
+    mac: bytes
+    options: bytes
+
+    @property
+    def kind(self) -> int | None:
+        value = self.option(Tag.KIND)
+        return value[0] if value else None
+
+    @property
+    def name(self) -> str:
+        if self.kind is None:
+            return "without a kind"
+        return Kind(self.kind).name if self.kind in list(Kind) else f"kind {self.kind}"
+
+    def option(self, tag: int) -> bytes | None:
+        """The value of an option of the main field, where it stands there."""
+        return next((value for found, value in self._options() if found == tag), None)
+
+    def address(self, tag: int) -> IPv4Address | None:
+        """The first four bytes of such a value."""
+        value = self.option(tag)
+        return IPv4Address(value[:4]) if value and len(value) >= 4 else None
+
+    def is_sound(self) -> bool:
+        """Whether no option goes past the message's end."""
+        return all(value is not None for _, value in self._options())
+
+    def _options(self) -> Iterator[tuple[int, bytes | None]]:
+        at, text = 0, self.options
+        while at < len(text) and text[at] != END[0]:
+            if text[at] == 0:
+                at += 1
+                continue
+            end = at + 2 + (text[at + 1] if at + 1 < len(text) else len(text))
+            yield text[at], text[at + 2 : end] if end <= len(text) else None
+            at = end
+
+
+def lease_message(body: bytes) -> LeaseMessage | None:
+    """What a datagram says by DHCP, if it is such a message."""
+    if len(body) < DHCP_FIXED + 4 or body[DHCP_FIXED : DHCP_FIXED + 4] != COOKIE:
         return None
-    kind = _dhcp_option(body[DHCP_FIXED + 4 :], DHCP_KIND)
-    name = DHCP_KINDS.get(kind[0], f"kind {kind[0]}") if kind else "without a kind"
-    given = IPv4Address(body[16:20])
-    lease = f", gives {given}" if int(given) else ""
-    return f"DHCP {name}, xid 0x{body[4:8].hex()}{lease}"
+    xid, given = int.from_bytes(body[4:8], "big"), IPv4Address(body[16:20])
+    return LeaseMessage(body[0], xid, given, body[28:34], body[DHCP_FIXED + 4 :])
 
 
-def _dhcp_option(options: bytes, tag: int) -> bytes | None:
-    at = 0
-    while at < len(options) and options[at] != 255:
-        if options[at] == 0:
-            at += 1
-            continue
-        length = options[at + 1] if at + 1 < len(options) else 0
-        if options[at] == tag:
-            return options[at + 2 : at + 2 + length]
-        at += 2 + length
-    return None
+def dhcp(body: bytes) -> str | None:
+    """A DHCP message."""
+    message = lease_message(body)
+    if message is None:
+        return None
+    lease = f", gives {message.given}" if int(message.given) else ""
+    return f"DHCP {message.name}, xid 0x{message.xid:08x}{lease}"
 
 
-def dns(body: bytes) -> str | None:
+@dataclass(frozen=True, slots=True)
+class NameMessage:
     """A DNS query or answer with one question (RFC 1035, section 4.1)."""
+
+    number: int
+    flags: int
+    name: bytes
+    records: list[str]
+
+    @property
+    def is_answer(self) -> bool:
+        return self.flags & DNS_RESPONSE != 0
+
+    @property
+    def rcode(self) -> int:
+        return self.flags & 15
+
+
+def name_message(body: bytes) -> NameMessage | None:
+    """What a datagram says by DNS, if it is such a message."""
     if len(body) < DNS_HEADER or int.from_bytes(body[4:6], "big") != 1:
         return None
     question = _dns_name(body, DNS_HEADER)
     if question is None:
         return None
     name, at = question
-    flags = int.from_bytes(body[2:4], "big")
-    asked = f"0x{body[0:2].hex()} {word(name)}"
-    if not flags & DNS_RESPONSE:
+    number, flags = int.from_bytes(body[0:2], "big"), int.from_bytes(body[2:4], "big")
+    return NameMessage(number, flags, name, _dns_records(body, at + 4, int.from_bytes(body[6:8], "big")))
+
+
+def dns(body: bytes) -> str | None:
+    """A DNS query or answer."""
+    message = name_message(body)
+    if message is None:
+        return None
+    asked = f"0x{message.number:04x} {word(message.name)}"
+    if not message.is_answer:
         return f"DNS query {asked}"
-    if flags & 15:
-        return f"DNS answer {asked}: rcode {flags & 15}"
-    found = _dns_records(body, at + 4, int.from_bytes(body[6:8], "big"))
-    return f"DNS answer {asked}: {', '.join(found) or 'nothing'}"
+    if message.rcode:
+        return f"DNS answer {asked}: rcode {message.rcode}"
+    return f"DNS answer {asked}: {', '.join(message.records) or 'nothing'}"
 
 
 def _dns_name(body: bytes, at: int) -> tuple[bytes, int] | None:

@@ -8,23 +8,24 @@ from typing import NamedTuple
 
 from shared.causes import Cause
 from shared.command_line import Refused
-from shared.kinds import GraphEvent, ObjectKind, Way
+from shared.kinds import GraphEvent, ObjectKind, OpenKind, Way
 from shared.records import Ended, Graph, Open, Record
 
 # What is kept of a recording, whatever it holds: the objects of opens that live, and those that are named.
 MOST_OBJECTS = 1_024
 MOST_NAMED = 4_096
+# The object of an open that asks and is answered.
+SOLE_KINDS = {
+    OpenKind.DNS: ObjectKind.RESOLVER,
+    OpenKind.DHCP: ObjectKind.DHCP,
+    OpenKind.PING: ObjectKind.PING,
+}
 # An object's port 4 stands for its timer.
 TIMER_SLOT = 4
 
 
 def title(name: str) -> str:
     return name.replace("_", " ").lower()
-
-
-def objects_of(number: int) -> tuple[int, int]:
-    """The numbers of the two objects of an open."""
-    return 2 * number + 1, 2 * number + 2
 
 
 class Names:
@@ -125,7 +126,7 @@ class Objects:
     """Goes over an output recording and gathers the objects of each open.
 
     The objects of an open are those that are made since the open before it, up to its OPEN; and what is plugged
-    to one of them later.
+    to one of them later. An open that asks and is answered has the one object of its kind.
     """
 
     def __init__(self) -> None:
@@ -140,12 +141,21 @@ class Objects:
                 self._event(when, record)
             case Open():
                 self._forget(self.opens.pop(record.number, None))
-                family, self.unclaimed = self.unclaimed, Family()
-                family.opened = record
-                self.opens[record.number] = family
+                self.opens[record.number] = self._claimed(record)
             case Ended():
                 return self._ended(when, record)
         return None
+
+    def _claimed(self, opened: Open) -> Family:
+        """The objects of an open. What waits for the answer of one that asks belongs to a later open."""
+        family, self.unclaimed = self.unclaimed, Family()
+        family.opened = opened
+        sole = SOLE_KINDS.get(opened.kind)
+        for number, thing in list(family.things.items()):
+            if sole not in (None, thing.kind):
+                self.unclaimed.things[number] = family.things.pop(number)
+                self.where[number] = self.unclaimed
+        return family
 
     def rest(self) -> list[Family]:
         """What is left at the recording's end: opens that didn't end, and objects of none."""

@@ -1,4 +1,4 @@
-"""Shows a live run while it goes: what commands print, and a line for each fetch."""
+"""Shows a live run while it goes: what commands print, and a line for each fetch, lease, look-up and ping."""
 
 from __future__ import annotations
 
@@ -7,12 +7,14 @@ import time
 from dataclasses import dataclass, field
 from typing import TextIO
 
-from shared.causes import MEANING, OK
+from shared.causes import MEANING, OK, Cause
 from shared.kinds import OpenKind
 from shared.records import Advance, Command, Ended, Open, Record, Text
 from shared.sentences import seconds_of_sleep
 from shared.texts import PrintedText, count, word
 
+# What an open that asks and is answered waits for.
+ANSWERS = {OpenKind.DHCP: "a lease", OpenKind.DNS: "the address of {}", OpenKind.PING: "the echo reply of {}"}
 # IPv4 without options, UDP, and what stands before a DATA's bytes (RFC 1350, section 5).
 BEFORE_DATA = 20 + 8 + 4
 SECONDS_BETWEEN = 0.25
@@ -38,6 +40,14 @@ class Fetch:
             place = ""
         rate = self.bytes / seconds / 1e6
         return f"{target} from {server}: {place}{count(self.bytes, 'byte')}, {rate:.2f} MB/s"
+
+
+def answered(opened: Open, cause: Cause, span: float) -> str:
+    """A line on an open that asked, and was answered or not after these seconds."""
+    what = ANSWERS[opened.kind].format(word(opened.target) if opened.target else opened.server)
+    if cause == OK:
+        return f"{what} came after {span:.2f} s"
+    return f"{what} didn't come: {MEANING[cause.code]}"
 
 
 @dataclass
@@ -98,7 +108,9 @@ class Progress:
 
     def _ended(self, ended: Ended) -> None:
         fetch = self.fetches.pop(ended.number, None)
-        if fetch:
+        if fetch and fetch.opened.kind in ANSWERS:
+            self._say(answered(fetch.opened, ended.cause, time.monotonic() - fetch.begun))
+        elif fetch:
             how = "" if ended.cause == OK else f": {MEANING[ended.cause.code]}"
             self._say(fetch.line(time.monotonic()) + how)
 

@@ -6,38 +6,31 @@ import re
 from ipaddress import IPv4Address, IPv4Network
 
 from shared.causes import MEANING, WHAT, Cause, Code
-from shared.frames import datagram_of, ends_of, packet_of
+from shared.host_names import host_fault
+from shared.kinds import OpenKind
 from shared.records import Command, Open, Start
-from shared.script_text import lines_of
-from shared.setting_names import BLOCKS, MOST_SETTINGS, MOST_VALUE, READS, kind_of, name_fault
-from shared.setting_names import part_fault, place_of
+from shared.script_text import BUILT_IN, lines_of
+from shared.setting_names import BLOCKS, LEASED, MOST_SETTINGS, MOST_VALUE, READS, block_of, kind_of
+from shared.setting_names import name_fault, part_fault, place_of
 from shared.texts import word
-from shared.wire import ARP, PROTOCOL_UDP, Opcode
 
 NUMBERS = ("no", "one", "two", "three", "four", "five", "six", "seven", "eight", "nine", "ten")
 TIMES = ("never", "once", "twice")
 UNSET = IPv4Address(0)
 MOST_WORDS_BYTES = 4_096
-# the numbers of TooLong and TooMany for a setting
-LONG_VALUE, MANY_SETTINGS = 2, 5
+# the numbers of TooLong and TooMany for a setting, and of TooLong for a URI
+LONG_VALUE, MANY_SETTINGS, LONG_URI = 2, 5, 7
 OF_SETTINGS = (b"set", b"clear", b"show", b"inc")
-OF_DEVICES = (b"ifopen", b"ifclose")
+OF_DEVICES = (b"ifopen", b"ifclose", b"dhcp")
+OF_FILES = (b"imgfetch", b"imgexec")
+# the URIs that are fetched
+BUILT_URI = "`tftp://HOST/PATH`"
+# the host of a URI, after a user's name if there is one
+HOST_OF = re.compile(rb"//(?:[^/?#@]*@)?([^/:?#]*)")
 # texts of a script that may change the link which START gives
 OF_LINK = (*OF_DEVICES, b"net0")
 # START's mask of 0 stands for this one
 USUAL_MASK = IPv4Address("255.255.255.0")
-
-# RFC 1350, section 5, and RFC 2347
-TFTP_ERRORS = {
-    1: "file not found",
-    2: "access violation",
-    3: "disk full or allocation exceeded",
-    4: "illegal TFTP operation",
-    5: "unknown transfer ID",
-    6: "file already exists",
-    7: "no such user",
-    8: "option negotiation refused",
-}
 
 USAGES = {
     b"echo": "echo [-n] [text]",
@@ -53,15 +46,18 @@ USAGES = {
     b"inc": "inc NAME [n], n from -2147483648 to 2147483647",
     b"ifopen": "ifopen [net0]",
     b"ifclose": "ifclose [net0]",
+    b"dhcp": "dhcp [net0]",
+    b"ping": "ping HOST",
+    b"nslookup": "nslookup NAME HOST",
     b"sleep": "sleep SECONDS, from 0 to 4000000",
 }
 
 # Commands of iPXE, so that one that isn't built is known from one that is misspelled.
 KNOWN = frozenset(
-    b"autoboot boot chain choose colour config console cpair cpuid dhcp form ifconf "
+    b"autoboot boot chain choose colour config console cpair cpuid form ifconf "
     b"iflinkwait ifstat imgargs imgdecrypt imgextract imgfree imgload imgmem imgselect "
-    b"imgstat imgtrust imgverify initrd item kernel login lotest menu module nslookup ntp nstat "
-    b"param params pciscan ping poweroff present profstat prompt read reboot route sanboot sanhook "
+    b"imgstat imgtrust imgverify initrd item kernel login lotest menu module ntp nstat "
+    b"param params pciscan poweroff present profstat prompt read reboot route sanboot sanhook "
     b"sanunhook shell shim sync time vcreate vdestroy".split()
 )
 
@@ -81,10 +77,10 @@ def seconds(milliseconds: int) -> str:
     return f"{milliseconds / 1000:g} s"
 
 
-def of_local(cause: Cause, command: Command | None, start: Start | None) -> str:
-    """On a failure that no server took part in."""
+def of_local(cause: Cause, command: Command | None, start: Start | None, opened: Open | None = None) -> str:
+    """On a failure that no server took part in, of a command with its last open where it made one."""
     if cause.code is Code.NO_ROUTE:
-        return _no_route(IPv4Address(cause.a), start)
+        return _no_route(IPv4Address(cause.a), start, opened)
     if command is None:
         return f"{MEANING[cause.code]}: {cause}" if cause.code in WHAT else MEANING[cause.code]
     name = command.words[0]
@@ -93,18 +89,32 @@ def of_local(cause: Cause, command: Command | None, start: Start | None) -> str:
     match cause.code:
         case Code.BAD_URI:
             return _bad_uri(command.words[-1])
+        case Code.NO_SCHEME:
+            return f"{word(command.words[-1])} isn't fetched: only {BUILT_URI} is built yet"
+        case Code.BAD_NAME if name in OF_FILES:
+            return _bad_name_of(_host_in(command))
+        case Code.TOO_LONG if name in OF_FILES and cause.a == LONG_URI:
+            return f"the path of {word(command.words[-1])} has more than 1024 bytes, or its image's name more than 255"
         case Code.NO_LABEL:
             return _no_label(command, start)
         case Code.BAD_NAME if name in OF_SETTINGS and len(command.words) > 1:
             return _bad_name(command.words[1])
         case Code.BAD_NAME if name in OF_DEVICES:
             return f"there is no device {word(command.words[-1])}, only `net0`"
+        case Code.BAD_NAME if name == b"ping" and len(command.words) > 1:
+            return _bad_name_of(_host_in(command))
+        case Code.BAD_NAME if name == b"nslookup" and len(command.words) > 2:
+            return _bad_look_up(command.words[1], command.words[2])
+        case Code.NO_SERVER:
+            return _no_server(_host_in(command))
         case Code.BAD_VALUE if name in OF_SETTINGS and len(command.words) > 1:
             return _bad_value(command.words)
         case Code.FALSE:
             return _false(command.words)
         case Code.TOO_LONG if cause.a == LONG_VALUE and len(command.words) > 1:
             return f"the value for `{shown(command.words[1])}` has more than {MOST_VALUE} bytes"
+        case Code.TOO_MANY if cause.a == MANY_SETTINGS and name == b"dhcp":
+            return f"the lease has more than {MOST_SETTINGS} settings, the most of a block, and none of it is kept"
         case Code.TOO_MANY if cause.a == MANY_SETTINGS and len(command.words) > 1:
             place = place_of(command.words[1])
             return f"{place} has {MOST_SETTINGS} settings, the most, and `{shown(command.words[1])}` is another"
@@ -142,8 +152,42 @@ def _bad_name(name: bytes) -> str:
     fault = name_fault(name)
     if fault:
         return fault
+    if block_of(name) == LEASED:
+        return f"{place_of(name)} isn't there, so nothing is set in it: the client holds no lease"
     blocks = " and ".join(f"`{shown(block)}`" for block in BLOCKS)
     return f"{place_of(name)} isn't there, so nothing is set in it: there is the root, without a name, and {blocks}"
+
+
+def _bad_host(host: bytes) -> str | None:
+    """On a host that is no address, and no name either."""
+    fault = host_fault(host)
+    return f"{word(host)} is no name of a host: {fault}" if fault else None
+
+
+def _bad_name_of(host: bytes) -> str:
+    """On a host that is no address, and no name either, at least with `domain` after it."""
+    return _bad_host(host) or f"{word(host)} is no name of a host with `domain` after it"
+
+
+def _host_in(command: Command) -> bytes:
+    """The host that a command names: in its URI, or as its last word."""
+    found = HOST_OF.search(command.words[-1]) if command.words[0] in OF_FILES else None
+    return found.group(1) if found else command.words[-1]
+
+
+def _bad_look_up(name: bytes, host: bytes) -> str:
+    """On a look-up whose setting is none or can't be there, or whose host is none."""
+    block = block_of(name)
+    if name_fault(name) or block not in (None, *BLOCKS, LEASED):
+        return _bad_name(name)
+    if block == LEASED and not _bad_host(host):
+        return _bad_name(name)
+    return _bad_name_of(host)
+
+
+def _no_server(host: bytes) -> str:
+    ways = "`dns` comes by `dhcp`, by `set dns ADDRESS` or by --dns"
+    return f"{word(host)} is a name, and no name server is set that can be asked for its address: {ways}"
 
 
 def _bad_value(words: tuple[bytes, ...]) -> str:
@@ -194,89 +238,21 @@ def _no_label(command: Command, start: Start | None) -> str:
     return said
 
 
-def _no_route(address: IPv4Address, start: Start | None) -> str:
+def _no_route(address: IPv4Address, start: Start | None, opened: Open | None) -> str:
+    """On an open to whose server there is no way, or on a command that made none."""
+    where = f"the name server {address}" if opened and opened.kind is OpenKind.DNS else str(address)
     if start is None:
-        return f"there is no route to {address}"
-    if any(text in start.script for text in OF_LINK):
-        return f"there was no route to {address} then: the device was down, or net0's settings lead there by none"
+        return f"there is no route to {where}"
+    if any(text in (start.script or BUILT_IN) for text in OF_LINK):
+        return f"there was no route to {where} then: the device was down, or net0's settings lead there by none"
     if start.ip == UNSET:
-        return f"the client has no address, so it can't reach {address}: give one by --ip"
+        return f"the client has no address, so it can't reach {where}: give one by --ip, or take a lease by `dhcp`"
     mask = USUAL_MASK if start.mask == UNSET else start.mask
     net = IPv4Network(f"{start.ip}/{mask}", strict=False)
-    return f"{address} is outside the client's net {net}, and no gateway is set"
+    return f"{where} is outside the client's net {net}, and no gateway is set"
 
 
 def _bad_uri(uri: bytes) -> str:
-    built = "`tftp://ADDRESS/PATH` is"
-    scheme = re.match(rb"([A-Za-z][A-Za-z0-9+.-]*):(//)?", uri)
-    if scheme and scheme[1].lower() != b"tftp":
-        return f"`{scheme[0].decode()}` isn't built yet; {built}"
-    host = re.match(rb"tftp://([^/]*)/", uri)
-    if host and not re.fullmatch(rb"[0-9.]+", host[1]):
-        return f"{word(uri)}: only an address can name the server yet; {built}"
-    return f"{word(uri)} is no URI that is read here; {built}"
-
-
-def of_refusal(cause: Cause, opened: Open, text: bytes | None) -> str:
-    """On an open whose server refused, with the text of its message where that is known."""
-    named = TFTP_ERRORS.get(cause.b)
-    if named is None:
-        said = word(text) if text else f"error {cause.b}"
-        return f"{opened.server} answered: {said}, when asked for {word(opened.target)}"
-    return f"{opened.server} answered: {named} ({word(opened.target)})"
-
-
-def of_silence(opened: Open, asked: list[bytes], block: int, span: int | None) -> str:
-    """On an open whose server didn't answer: the frames of its last tries, the last block, and
-    the time from the first of them to the end."""
-    over = f" in {seconds(span)}" if span is not None else ""
-    hops = [hop for hop in map(asked_address, asked) if hop]
-    server, path = opened.server, word(opened.target)
-    if asked and len(hops) == len(asked):
-        how = f"was asked for {times(len(asked))}{over}"
-        if hops[-1] != server:
-            return f"the gateway {hops[-1]} never answered: its hardware address {how}"
-        return f"{server} never answered: its hardware address {how}"
-    if block or is_acknowledgement(asked):
-        last = f"block {block} of {path}" if block else f"its OACK for {path}"
-        return f"{server} stopped answering after {last}, which was acknowledged {times(len(asked))}{over}"
-    return f"{server} never answered: {path} was asked for {times(len(asked))}{over}"
-
-
-def of_wait(opened: Open, asked: list[bytes], block: int, known: set[IPv4Address]) -> str:
-    """What an open waits for; of the known hosts the hardware address has come."""
-    hop, path = asked_address(asked[-1]) if asked else None, word(opened.target)
-    if hop and hop not in known:
-        return f"the hardware address of {hop}"
-    if hop:
-        said = f"{hop} had only said its hardware address"
-        return f"the next try, as {said}: {path} is asked for then"
-    if block or is_acknowledgement(asked):
-        return f"block {block + 1} of {path} from {opened.server}"
-    return f"the first answer of {opened.server} to the request for {path}"
-
-
-def asked_address(frame: bytes) -> IPv4Address | None:
-    """The address whose hardware address an ARP request asks for."""
-    is_arp = int.from_bytes(frame[12:14], "big") == ARP and len(frame) >= 42
-    return IPv4Address(frame[38:42]) if is_arp else None
-
-
-def is_acknowledgement(asked: list[bytes]) -> bool:
-    """Whether the last of these frames acknowledges: block 0 stands for the first OACK (RFC 2347)."""
-    return bool(asked) and _of_tftp(asked[-1], Opcode.ACK) is not None
-
-
-def error_text(frame: bytes) -> bytes | None:
-    """The text of a TFTP ERROR."""
-    body = _of_tftp(frame, Opcode.ERROR)
-    return None if body is None else body[4:].rstrip(b"\0")
-
-
-def _of_tftp(frame: bytes, opcode: Opcode) -> bytes | None:
-    """The datagram that a frame carries, where it is a TFTP packet of this kind."""
-    packet = packet_of(frame)
-    if packet is None or packet.protocol != PROTOCOL_UDP or not ends_of(packet).target_port:
-        return None
-    body = datagram_of(packet)
-    return body if body and int.from_bytes(body[:2], "big") == opcode else None
+    if re.match(rb"[A-Za-z][A-Za-z0-9+.-]*:", uri):
+        return f"{word(uri)} is no URI that names a server, as {BUILT_URI} does"
+    return f"{word(uri)} is only the end of a URI, and it doesn't go with `next-server`; {BUILT_URI} is a whole one"

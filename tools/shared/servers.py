@@ -1,7 +1,7 @@
-"""Servers for a small network: today dnsmasq as a TFTP server.
+"""Servers for a small network: dnsmasq for TFTP, for leases by DHCP, and for names by DNS.
 
-A service is a few options of dnsmasq, so that leases and names join by their own; a server that is
-a program of its own joins by a context manager beside `dnsmasq`.
+A service is a few options of dnsmasq, so that further ones join by their own; a server that is a
+program of its own joins by a context manager beside `dnsmasq`.
 """
 
 from __future__ import annotations
@@ -10,6 +10,7 @@ import subprocess
 import time
 from contextlib import contextmanager
 from dataclasses import dataclass
+from ipaddress import IPv4Address
 from pathlib import Path
 from typing import Iterator, Protocol
 
@@ -17,7 +18,8 @@ from shared.command_line import Refused
 from shared.namespaces import SERVER_ADDRESS, Network
 
 MOST_SECONDS_TO_START = 5.0
-TFTP_PORT = 69
+TFTP_PORT, DHCP_PORT, DNS_PORT = 69, 67, 53
+MINUTES = 60
 # one process in the foreground, for this interface alone, with no file of the machine's own
 BASE = ("--keep-in-foreground", "--conf-file=/dev/null", "--user=root", "--bind-interfaces")
 UDP_SOCKETS = Path("/proc/net/udp")
@@ -45,6 +47,44 @@ class Tftp:
         return TFTP_PORT
 
 
+@dataclass(frozen=True, slots=True)
+class Leases:
+    """Leases addresses by DHCP, and names a file at the server; nothing of a lease is kept on disk."""
+
+    first: IPv4Address
+    last: IPv4Address
+    mask: IPv4Address
+    filename: str
+
+    def options(self) -> tuple[str, ...]:
+        return (
+            f"--dhcp-range={self.first},{self.last},{self.mask},{MINUTES}m",
+            f"--dhcp-boot={self.filename},,{SERVER_ADDRESS}",
+            "--dhcp-authoritative",
+            "--leasefile-ro",
+            # an address that is to be offered isn't pinged before, which takes seconds
+            "--no-ping",
+        )
+
+    def port(self) -> int:
+        return DHCP_PORT
+
+
+@dataclass(frozen=True, slots=True)
+class Names:
+    """Answers by DNS on one name, and knows no other."""
+
+    name: str
+    address: IPv4Address
+
+    def options(self) -> tuple[str, ...]:
+        own = ("--no-resolv", "--no-hosts")
+        return (f"--port={DNS_PORT}", *own, f"--host-record={self.name},{self.address}")
+
+    def port(self) -> int:
+        return DNS_PORT
+
+
 def _is_listening(network: Network, port: int) -> bool:
     seen = subprocess.run(
         network.in_server("cat", str(UDP_SOCKETS)), capture_output=True, text=True, check=False
@@ -67,7 +107,7 @@ def dnsmasq(network: Network, *services: Service) -> Iterator[None]:
         yield
     finally:
         server.terminate()
-        server.wait()
+        server.communicate()
 
 
 def _wait_for(

@@ -9,6 +9,8 @@ from shared.texts import word
 MOST_SETTINGS = 128
 MOST_VALUE = 1_024
 BLOCKS = (b"net0",)
+# the block that a lease makes
+LEASED = b"net0.dhcp"
 
 # The kinds, with what each reads.
 READS = {
@@ -78,7 +80,12 @@ def kind_of(name: bytes) -> bytes:
     return kind or KINDS.get(key, b"string")
 
 
+def block_of(name: bytes) -> bytes | None:
+    """The block that `set`, `clear` and `inc` use; None for the root."""
+    return parts_of(name)[0]
+
+
 def place_of(name: bytes) -> str:
-    """The block that `set`, `clear` and `inc` use."""
-    block, _, _ = parts_of(name)
+    """The same in words."""
+    block = block_of(name)
     return "the root" if block is None else f"the block {word(block)}"

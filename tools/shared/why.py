@@ -8,12 +8,13 @@ from typing import BinaryIO, Iterator
 
 from shared.causes import MEANING, Cause, Code
 from shared.command_line import Refused, read_stream
-from shared.describe import Lines
+from shared.describe import Lines, server_of
 from shared.fields import CutOff
 from shared.full_steps import MOST_COMMANDS
-from shared.kinds import PartKind, Status
-from shared.meanwhile import Meanwhile
+from shared.kinds import OpenKind, PartKind, Status
+from shared.meanwhile import Meanwhile, meanwhile_of
 from shared.objects import ending
+from shared.open_sentences import of_refusal, of_silence, of_wait
 from shared.recordings import Timed, input_of, read_output
 from shared.records import (
     Advance,
@@ -29,23 +30,14 @@ from shared.records import (
 )
 from shared.script_faults import Fault, fault_of
 from shared.script_text import Line, command_of, script_of, words_of
-from shared.sentences import (
-    error_text,
-    of_local,
-    of_refusal,
-    of_silence,
-    of_sleep,
-    of_wait,
-    seconds,
-    seconds_of_sleep,
-)
+from shared.sentences import of_local, of_sleep, seconds, seconds_of_sleep
 from shared.stories import CommandStory, Evidence, Failure, OpenStory, Trace
 from shared.texts import count, word
 
 # Causes that name the input record whose message decided.
 BY_MESSAGE = (Code.REFUSED, Code.BROKEN)
-# how long a transfer tries without an answer, in seconds, with a second to spare
-PATIENCE = 17
+# how long an open tries without an answer, in seconds
+PATIENCE, LEASE_PATIENCE = 16, 15
 
 
 @dataclass(slots=True)
@@ -82,7 +74,7 @@ class Inputs:
             self.start = timed.record
             self.script = script_of(timed.record.script)
             if waited:
-                self.meanwhile = Meanwhile(timed.record, waited.open)
+                self.meanwhile = meanwhile_of(timed.record, waited.open, waited.asked())
         text = lines.of(timed.record)
         if timed.number in numbers:
             self.times[timed.number] = timed.time
@@ -229,11 +221,21 @@ class Account:
         failure = self._decisive()
         if failure is None:
             return "the script failed"
+        before = self._before(failure) if failure.cause.code is Code.EXIT else None
+        return self._sentence_on(failure) + (f"; before that, {self._sentence_on(before)}" if before else "")
+
+    def _before(self, failure: Failure) -> Failure | None:
+        """The failure before this one, where a server took part in it."""
+        failures = list(self.trace.failures)
+        place = failures.index(failure)
+        return failures[place - 1] if place and failures[place - 1].opens() else None
+
+    def _sentence_on(self, failure: Failure) -> str:
         opens = failure.opens()
         if opens and failure.cause.code is Code.REFUSED:
-            frame = self.inputs.records.get(failure.cause.a)
-            text = error_text(frame.frame) if isinstance(frame, Received) else None
-            return of_refusal(failure.cause, opens[-1].open, text)
+            message = self.inputs.records.get(failure.cause.a)
+            frame = message.frame if isinstance(message, Received) else None
+            return of_refusal(failure.cause, opens[-1].open, opens[-1].asked(), frame)
         if opens and failure.cause.code is Code.TIMED_OUT:
             return self._silence(opens[-1])
         if opens and failure.cause.code is Code.BROKEN:
@@ -243,7 +245,8 @@ class Account:
         if fault:
             return fault.why
         command = failure.story.words if failure.story else None
-        sentence = of_local(failure.cause, command, self.inputs.start)
+        opened = opens[-1].open if opens else None
+        sentence = of_local(failure.cause, command, self.inputs.start, opened)
         return f"{_line_of(failure.story)}: {sentence}" if failure.story else sentence
 
     def _silence(self, story: OpenStory) -> str:
@@ -336,8 +339,11 @@ class Account:
             yield f"  {self.inputs.at(evidence.step)}: {self._plainly(evidence)}"
         is_off = isinstance(self.inputs.records.get(self.trace.step), Off)
         if self.inputs.start and not is_off and self.trace.done:
-            until = self.inputs.times[story.opened.step] // 1_000 + PATIENCE
-            yield f"  a silent server is given up after some 16 s: record.py --until {until}"
+            patience = LEASE_PATIENCE if story.open.kind is OpenKind.DHCP else PATIENCE
+            since = story.tries[0] if story.tries else story.opened
+            # a second more than that, so that the end comes within it
+            until = self.inputs.times[since.step] // 1_000 + patience + 1
+            yield f"  a silent server is given up after some {patience} s: record.py --until {until}"
 
     def _full_step(self) -> Iterator[str]:
         """Of a script that had more to do: why its last step ended, and its last command."""
@@ -369,8 +375,8 @@ class Account:
                 return f"{_place_of(command)} begins: {_words(command)}{as_written}"
             case Open() as opened:
                 target = f"{word(opened.target)} is asked for: " if opened.target else ""
-                ports = f"port {opened.port}, from our port {opened.own}"
-                return f"{target}{opened.kind.name} with {opened.server} {ports}"
+                own = "with our identifier" if opened.kind is OpenKind.PING else "from our port"
+                return f"{target}{opened.kind.name} with {server_of(opened)}, {own} {opened.own}"
             case Try() as tried:
                 frame = self.lines.of(evidence.frame) if evidence.frame else "FRAME missing"
                 return f"try {tried.attempt}: {frame.removeprefix('FRAME ')}"

@@ -32,7 +32,7 @@ run_from first mid after p r = record {
 
 over_from : (first mid after : Outside) (p : Passes first mid [] []) (r : Run mid after) (number : ℕ) → IsOver mid after r number → IsOver first after (run_from first mid after p r) number
 over_from first mid after p r number o =
-    record { ends = o.ends; closed = o.closed; front = o.front; last = o.last; opens = o.opens; none = o.none; all = o.all }
+    record { ends = o.ends; closed = o.closed; front = o.front; last = o.last; opens = o.opens; made = o.made; none = o.none; all = o.all }
 
 pub attached_shows : (s : Status) (first mid after : Outside) → Passes first mid [] [] → Shows s mid after → Shows s first after
 attached_shows status.HandedOff first mid after p (r, o) = (run_from first mid after p r, (over_from first mid after p r 0 o.0, o.1))

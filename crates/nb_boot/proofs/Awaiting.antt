@@ -2,7 +2,7 @@
 use Rattle.std.proofs.Common.{◌≡◌, ℕ, List, ◌∷◌, refl, subst, arith}
 use Rattle.nb_defs.specs.Records.{In, Out}
 use Rattle.nb_record.specs.Outside.{Outside}
-use Rattle.nb_engine.specs.Machine.{Machine, Phase, ready, running, waiting, sleeping, yielded, handing, left, handed_off, stopped, Path, Begins, runs, refuses, passes_by, brings, passes_time, switches_off, sleeps_through_frame, sleeps_on, wakes, goes_off_asleep, goes_on_by_frame, goes_on_by_tick, goes_off}
+use Rattle.nb_engine.specs.Machine.{Machine, Phase, ready, running, waiting, asking, sleeping, reaching, yielded, handing, left, handed_off, stopped, Path, Begins, runs, refuses, passes_by, brings, passes_time, switches_off, passes_it_by, brings_it, passes_its_time, switches_it_off, sleeps_through_frame, sleeps_on, wakes, goes_off_asleep, goes_on_by_frame, goes_on_by_tick, goes_off}
 use Rattle.nb_boot.specs.Run.{IsBadRest, Awaits}
 use Rattle.nb_boot.specs.Laws.{IsAtRest}
 use Rattle.nb_boot.proofs.Spelled.{HasUsed, path_used}
@@ -15,6 +15,10 @@ begins_awaits m r added m' (passes_by n w s o bytes reply seen net valid t h) ri
 begins_awaits m r added m' (brings n w s o bytes reply seen net port body added' phase valid t h k) rises = tt
 begins_awaits m r added m' (passes_time n w s o ms added' phase valid h) rises = tt
 begins_awaits m r added m' (switches_off n w s o) rises = tt
+begins_awaits m r added m' (passes_it_by n w s o bytes reply seen net valid t h) rises = tt
+begins_awaits m r added m' (brings_it n w s o bytes reply seen net said added' phase valid t h k) rises = tt
+begins_awaits m r added m' (passes_its_time n w s o ms added' phase valid h) rises = tt
+begins_awaits m r added m' (switches_it_off n w s o) rises = tt
 begins_awaits m r added m' (sleeps_through_frame n w s until bytes reply seen net valid t) rises = tt
 begins_awaits m r added m' (sleeps_on n w s until ms valid early) rises = tt
 begins_awaits m r added m' (wakes n w s until ms valid late) rises = tt
@@ -31,8 +35,10 @@ not_ready r rs outs m p e =
 
 pub awaits_rests : (phase : Phase) → Awaits phase → IsAtRest phase
 awaits_rests ready a = absurd a
+awaits_rests (reaching w s next) a = absurd a
 awaits_rests (running w s) a = absurd a
 awaits_rests (waiting w s o) a = tt
+awaits_rests (asking w s o) a = tt
 awaits_rests (sleeping w s until) a = tt
 awaits_rests (yielded w s) a = tt
 awaits_rests (handing rest) a = absurd a
@@ -42,8 +48,10 @@ awaits_rests stopped a = absurd a
 
 pub bad_awaits : (phase : Phase) (rest : List ℕ) (o : Outside) → IsBadRest phase rest o → (phase ≡ ready → ⊥) → Awaits phase
 bad_awaits ready rest o b rises = absurd (rises refl)
+bad_awaits (reaching w s next) rest o b rises = b
 bad_awaits (running w s) rest o b rises = b
 bad_awaits (waiting w s x) rest o b rises = tt
+bad_awaits (asking w s x) rest o b rises = tt
 bad_awaits (sleeping w s until) rest o b rises = tt
 bad_awaits (yielded w s) rest o b rises = tt
 bad_awaits (handing more) rest o b rises = b

@@ -5,7 +5,7 @@ use Rattle.std.proofs.lemmas.List.{take-append-drop}
 use Rattle.nb_defs.specs.Records.{IsBroken}
 use Rattle.nb_record.specs.Outside.{Outside, Passes, Gave, IsAtEnd}
 use Rattle.nb_record.specs.Held.{BreaksAt}
-use Rattle.nb_engine.specs.Machine.{Machine, Phase, ready, running, waiting, sleeping, yielded, handing, left, handed_off, stopped}
+use Rattle.nb_engine.specs.Machine.{Machine, Phase, ready, running, waiting, asking, sleeping, reaching, yielded, handing, left, handed_off, stopped}
 use Rattle.nb_boot.specs.Run.{IsBadRest, Ends, was_left, was_handed, was_stopped, ran_out, was_bad, was_full}
 
 gave_nothing : (old now : Option (List ℕ)) → Gave old now [] → IfSome old (λ rest. rest ≡ []) → IfSome now (λ rest. rest ≡ [])
@@ -24,12 +24,16 @@ bad_stays ready rest written before now p (inr (inr e)) = inr (inr (e.0, end_sta
 bad_stays (waiting w s o) rest written before now p (inl b) = inl b
 bad_stays (waiting w s o) rest written before now p (inr (inl b)) = inr (inl b)
 bad_stays (waiting w s o) rest written before now p (inr (inr e)) = inr (inr (e.0, e.1, end_stays before now written p e.2))
+bad_stays (asking w s o) rest written before now p (inl b) = inl b
+bad_stays (asking w s o) rest written before now p (inr (inl b)) = inr (inl b)
+bad_stays (asking w s o) rest written before now p (inr (inr e)) = inr (inr (e.0, e.1, end_stays before now written p e.2))
 bad_stays (sleeping w s until) rest written before now p (inl b) = inl b
 bad_stays (yielded w s) rest written before now p (inl b) = inl b
 bad_stays (sleeping w s until) rest written before now p (inr (inl b)) = inr (inl b)
 bad_stays (yielded w s) rest written before now p (inr (inl b)) = inr (inl b)
 bad_stays (sleeping w s until) rest written before now p (inr (inr e)) = inr (inr (e.0, e.1, end_stays before now written p e.2))
 bad_stays (yielded w s) rest written before now p (inr (inr e)) = inr (inr (e.0, e.1, end_stays before now written p e.2))
+bad_stays (reaching w s next) rest written before now p b = absurd b
 bad_stays (running w s) rest written before now p b = absurd b
 bad_stays (handing x) rest written before now p b = absurd b
 bad_stays (left cause) rest written before now p b = absurd b

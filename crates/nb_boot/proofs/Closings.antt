@@ -5,9 +5,8 @@ use Rattle.nb_defs.specs.Records.{In, in_texts, Out, out_text, out_texts, record
 use Rattle.nb_record.specs.Outside.{Outside, Passes, Rose}
 use Rattle.nb_record.specs.Logged.{Logged, Puts}
 use Rattle.nb_defs.specs.Causes.{is_ok_cause}
-use Rattle.nb_engine.proofs.HonestyLaws.{files_handed_off}
 use Rattle.nb_engine.specs.Machine.{Machine, handed_off, fresh, nothing}
-use Rattle.nb_opens.specs.Graphs.{Graphs, GraphAt, bare, without_graph}
+use Rattle.nb_opens.specs.Graphs.{GraphAt, bare, without_graph}
 use Rattle.nb_opens.specs.Graphs as order
 use Rattle.nb_opens.proofs.Tracing.{graphs_are_traced}
 use Rattle.nb_engine.specs.StatusNumber.{status_number}
@@ -18,6 +17,8 @@ use Rattle.nb_boot.specs.Going.{Going, Wrote, Stopped, IsFlaw, IsClosing, flaw_s
 use Rattle.nb_boot.specs.declared.output.Flaw.{Flaw}
 use Rattle.nb_boot.specs.declared.output.Flaw.TheVariants as flaw
 use Rattle.nb_laws.proofs.Counts.{path_counts}
+use Rattle.nb_laws.proofs.Runs.{handed_off_all}
+use Rattle.nb_laws.proofs.Theirs.{brings_theirs}
 use Rattle.nb_boot.proofs.Goings.{passes_wrote}
 use Rattle.nb_boot.proofs.Last.{ClosesAll, closes_some}
 use Rattle.nb_boot.proofs.BadRests.{ends_stay}
@@ -50,9 +51,9 @@ whole_run ins held first before now log done_log m p number closers q r puts e w
       path = r.path;
       closes = subst (λ xs. Closes m held now xs) (sym q.plain) (is_over m held now number c);
       alone = closes_some q;
-      at = bare end.0;
-      graphs = end.1;
-      traced = graphs_are_traced (r.outs ++ closers) (bare end.0) end.1;
+      at = bare end.0 end.1;
+      graphs = end.2;
+      traced = graphs_are_traced (r.outs ++ closers) (bare end.0 end.1) end.2;
       few = subst (λ n. n ≤ 4294967295) (path_counts ins (without_graph r.outs) m r.path) r.few;
       texts = closing_texts r.outs closers (r.written ++ log.bytes) front ∙ append_assoc r.written log.bytes (out_texts closers)
           ∙ ap (λ t. r.written ++ t) (sym put.1) ∙ sym (append-nil (r.written ++ done_log.bytes));
@@ -81,9 +82,9 @@ stopped_end ins held first before now log done_log m p number closers q r puts e
       path = r.path;
       closes = subst (λ xs. Closes m held now xs) (sym q.plain) (is_over m held now number c);
       alone = closes_some q;
-      at = bare end.0;
-      graphs = end.1;
-      traced = graphs_are_traced (r.outs ++ closers) (bare end.0) end.1;
+      at = bare end.0 end.1;
+      graphs = end.2;
+      traced = graphs_are_traced (r.outs ++ closers) (bare end.0 end.1) end.2;
       few = subst (λ n. n ≤ 4294967295) (path_counts ins (without_graph r.outs) m r.path) r.few;
       texts = closing_texts r.outs closers (r.written ++ log.bytes) front ∙ append_assoc r.written log.bytes (out_texts closers)
           ∙ ap (λ t. r.written ++ t) (sym put.1 ∙ s.fronts) ∙ sym (append_assoc r.written s.part s.lost);
@@ -123,9 +124,9 @@ short_end ins held first before now log m at number closers q r p c = record {
   path = r.path;
   closes = subst (λ xs. Closes m held now xs) (sym q.plain) (is_over m held now number c);
   alone = closes_some q;
-  at = bare (q.graphs r.outs r.graphs).0;
-  graphs = (q.graphs r.outs r.graphs).1;
-  traced = graphs_are_traced (r.outs ++ closers) (bare (q.graphs r.outs r.graphs).0) (q.graphs r.outs r.graphs).1;
+  at = bare (q.graphs r.outs r.graphs).0 (q.graphs r.outs r.graphs).1;
+  graphs = (q.graphs r.outs r.graphs).2;
+  traced = graphs_are_traced (r.outs ++ closers) (bare (q.graphs r.outs r.graphs).0 (q.graphs r.outs r.graphs).1) (q.graphs r.outs r.graphs).2;
   few = subst (λ n. n ≤ 4294967295) (path_counts ins (without_graph r.outs) m r.path) r.few;
   texts = closing_texts r.outs closers ((r.written ++ log.bytes) ++ r.lost) r.texts
       ∙ ap (λ t. t ++ out_texts closers) (append_assoc r.written log.bytes r.lost)
@@ -146,9 +147,10 @@ has_handed_off m rest o (ran_out waits none at e) = cc
 has_handed_off m rest o (was_bad few bad e) = cc
 has_handed_off m rest o (was_full full waits more e) = cc
 
--- what is handed off is the servers'
+-- what is handed off was brought, and is the servers'
 theirs : (before after : Outside) (r : Run before after) → Ends r.machine r.rest after 0 → HandsTheirs before after r
-theirs before after r e = λ store honest. files_handed_off store r.ins (without_graph r.outs) r.machine r.path honest (has_handed_off r.machine r.rest after e)
+theirs before after r e = λ es history.
+    (handed_off_all r.ins (without_graph r.outs) r.machine es r.path (has_handed_off r.machine r.rest after e) history, brings_theirs es)
 
 -- what DONE tells is said of a run that is over
 over_says : (s : Status) (before after : Outside) (r : Run before after) → IsClosing s → IsOver before after r (status_number s) → Says s before after r
@@ -178,6 +180,7 @@ over_shows s ins held first before now log done_log m p closers e q r puts whole
         front = q.front;
         last = q.last;
         opens = (q.graphs r.outs r.graphs).0;
+        made = (q.graphs r.outs r.graphs).1;
         none = refl;
         all = refl;
       }),
@@ -213,9 +216,9 @@ no_memory_shows now p = (
     path = nothing;
     closes = goes_on fresh [] now;
     alone = λ _. refl;
-    at = bare 0;
+    at = bare 0 0;
     graphs = order.nothing;
-    traced = graphs_are_traced [] (bare 0) order.nothing;
+    traced = graphs_are_traced [] (bare 0 0) order.nothing;
     few = lit≤ tt;
     texts = refl;
   },
@@ -239,9 +242,9 @@ unattached_shows init now p rose = (
     path = nothing;
     closes = goes_on fresh [] now;
     alone = λ _. refl;
-    at = bare 0;
+    at = bare 0 0;
     graphs = order.nothing;
-    traced = graphs_are_traced [] (bare 0) order.nothing;
+    traced = graphs_are_traced [] (bare 0 0) order.nothing;
     few = lit≤ tt;
     texts = refl;
   },

@@ -2,7 +2,7 @@
 use Rattle.std.proofs.Common.{◌≡◌, ℕ, List, [], ◌∷◌, ◌++◌, length, refl, sym, ◌∙◌, ap, subst, arith, append_assoc}
 use Rattle.nb_defs.specs.Records.{Start, In, start, in_text, in_texts, Out}
 use Rattle.nb_defs.proofs.RecordLaws.{in_text_apart}
-use Rattle.nb_engine.specs.Machine.{Machine, ready, Path, nothing, uses, moves, Begins, runs, refuses, passes_by, brings, passes_time, switches_off, sleeps_through_frame, sleeps_on, wakes, goes_off_asleep, goes_on_by_frame, goes_on_by_tick, goes_off}
+use Rattle.nb_engine.specs.Machine.{Machine, ready, Path, nothing, uses, moves, Begins, runs, refuses, passes_by, brings, passes_time, switches_off, passes_it_by, brings_it, passes_its_time, switches_it_off, sleeps_through_frame, sleeps_on, wakes, goes_off_asleep, goes_on_by_frame, goes_on_by_tick, goes_off}
 use Rattle.nb_boot.specs.Run.{IsOther, Awaits}
 use Rattle.nb_boot.proofs.OneRun.{path_unused}
 use Rattle.nb_boot.proofs.OneRuns.{snoc_one, waits_behind}
@@ -40,6 +40,10 @@ begins_other m r a m' (passes_by n w s o bytes reply seen net valid t h) k = tt
 begins_other m r a m' (brings n w s o bytes reply seen net port body added phase valid t h g) k = tt
 begins_other m r a m' (passes_time n w s o ms added phase valid g) k = tt
 begins_other m r a m' (switches_off n w s o) k = tt
+begins_other m r a m' (passes_it_by n w s o bytes reply seen net valid t h) k = tt
+begins_other m r a m' (brings_it n w s o bytes reply seen net said added phase valid t h g) k = tt
+begins_other m r a m' (passes_its_time n w s o ms added phase valid g) k = tt
+begins_other m r a m' (switches_it_off n w s o) k = tt
 begins_other m r a m' (sleeps_through_frame n w s until bytes reply seen net valid t) k = tt
 begins_other m r a m' (sleeps_on n w s until ms valid early) k = tt
 begins_other m r a m' (wakes n w s until ms valid late) k = tt
@@ -80,6 +84,10 @@ begins_first m r a m' (passes_by n w s o bytes reply seen net valid t h) e = abs
 begins_first m r a m' (brings n w s o bytes reply seen net port body added phase valid t h g) e = absurd (cc)
 begins_first m r a m' (passes_time n w s o ms added phase valid g) e = absurd (cc)
 begins_first m r a m' (switches_off n w s o) e = absurd (cc)
+begins_first m r a m' (passes_it_by n w s o bytes reply seen net valid t h) e = absurd (cc)
+begins_first m r a m' (brings_it n w s o bytes reply seen net said added phase valid t h g) e = absurd (cc)
+begins_first m r a m' (passes_its_time n w s o ms added phase valid g) e = absurd (cc)
+begins_first m r a m' (switches_it_off n w s o) e = absurd (cc)
 begins_first m r a m' (sleeps_through_frame n w s until bytes reply seen net valid t) e = absurd (cc)
 begins_first m r a m' (sleeps_on n w s until ms valid early) e = absurd (cc)
 begins_first m r a m' (wakes n w s until ms valid late) e = absurd (cc)

@@ -4,7 +4,7 @@ use Rattle.std.specs.Prelude.{IsSome, IfSome, if◌then◌else◌}
 use Rattle.nb_defs.specs.Causes.{is_ok_cause}
 use Rattle.nb_defs.specs.Records.{Start, In, start, frame, tick, off, IsIn, in_text, in_texts, IsPartial, IsBroken}
 use Rattle.nb_defs.proofs.RecordLaws.{in_text_apart, partial_not_whole, length-in_text}
-use Rattle.nb_engine.specs.Machine.{Machine, Phase, ready, running, waiting, sleeping, yielded, handing, left, handed_off, stopped}
+use Rattle.nb_engine.specs.Machine.{Machine, Phase, ready, running, waiting, asking, sleeping, reaching, yielded, handing, left, handed_off, stopped}
 use Rattle.nb_opens.specs.Graphs.{without_graph}
 use Rattle.nb_record.specs.Outside.{Outside, Gave, IsAtEnd}
 use Rattle.nb_boot.specs.Run.{Run, Shows, IsOther, IsFirst, BeginsWith, IsBadRest, Ends, was_left, was_handed, was_stopped, ran_out, was_bad, was_full}
@@ -80,10 +80,13 @@ no_bad ready s others ins rest after o valid a t u told b =
     no_bad_first s (in_texts others) rest after o valid (ap (λ xs. in_texts xs) all ∙ t.spelled) told b
 no_bad (waiting w x op) s others ins rest after o valid a t u told b =
     no_bad_later t.more rest after o (others_rest ins t.more others (start s) t.are u a) t.spelled told b
+no_bad (asking w x op) s others ins rest after o valid a t u told b =
+    no_bad_later t.more rest after o (others_rest ins t.more others (start s) t.are u a) t.spelled told b
 no_bad (sleeping w x until) s others ins rest after o valid a t u told b =
     no_bad_later t.more rest after o (others_rest ins t.more others (start s) t.are u a) t.spelled told b
 no_bad (yielded w x) s others ins rest after o valid a t u told b =
     no_bad_later t.more rest after o (others_rest ins t.more others (start s) t.are u a) t.spelled told b
+no_bad (reaching w x next) s others ins rest after o valid a t u told b = b
 no_bad (running w x) s others ins rest after o valid a t u told b = b
 no_bad (handing x) s others ins rest after o valid a t u told b = b
 no_bad (left cause) s others ins rest after o valid a t u told b = b

@@ -132,7 +132,7 @@ going_grows used ins rest first now old new c c' g number r =
     ]
 
 -- nothing was read and written yet
-pub going_fresh : (now : Outside) (log : Logged) → log.bytes ≡ [] → Going [] [] now now log fresh (bare 0)
+pub going_fresh : (now : Outside) (log : Logged) → log.bytes ≡ [] → Going [] [] now now log fresh (bare 0 0)
 going_fresh now log h = record {
   outs = [];
   written = [];

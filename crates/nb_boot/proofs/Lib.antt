@@ -16,6 +16,9 @@ pub mod Completeness
 pub mod OneRun
 pub mod Awaiting
 pub mod OneAnswer
+pub mod OneTalk
+pub mod OneRecord
+pub mod OneAsking
 pub mod OneStep
 pub mod OneRuns
 pub mod Comparing

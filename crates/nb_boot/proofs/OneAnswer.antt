@@ -32,7 +32,7 @@ each_last P before [] e h = subst (λ z. P z e) (sym (append-nil before)) h.0
 each_last P before (x ∷ es) e h = subst (λ z. P z e) (append_assoc before (x ∷ []) es) (each_last P (before ++ x ∷ []) es e h.1)
 
 -- what was said at the last time
-last_said : (n : ℕ) (c d : Due) → filter (λ call. fires call.said) (asked_at n c ∷ []) ≡ filter (λ call. fires call.said) (asked_at n d ∷ []) → c ≡ d
+pub last_said : (n : ℕ) (c d : Due) → filter (λ call. fires call.said) (asked_at n c ∷ []) ≡ filter (λ call. fires call.said) (asked_at n d ∷ []) → c ≡ d
 last_said n Not Not h = refl
 last_said n Not (Again m) h = absurd (cc)
 last_said n Not Over h = absurd (cc)

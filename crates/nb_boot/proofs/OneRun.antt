@@ -3,16 +3,20 @@ use Rattle.std.proofs.Common.{◌≡◌, ℕ, ◌+◌, ◌*◌, ◌<◌, ◌==�
 use Rattle.nb_terms.specs.declared.cause.Cause.{Cause}
 use Rattle.nb_defs.specs.Causes.{ok}
 use Rattle.nb_defs.specs.Commands.{CommandOutcome, refused}
-use Rattle.nb_defs.specs.Records.{Start, In, start, frame, tick, off, Out, step, enter, leave, ended}
+use Rattle.nb_defs.specs.Records.{Start, In, start, frame, tick, off, Out, step, enter, leave, ended, result}
 use Rattle.nb_defs.specs.ScriptLines.{Reading, script, no_script, script_too_long, line_too_long, label_place}
 use Rattle.nb_engine.specs.declared.world.World.{World}
 use Rattle.nb_engine.specs.World.{world_of, with_open, with_ended_open}
 use Rattle.nb_engine.specs.FirstText.{first_reading, text_refusal}
-use Rattle.nb_engine.specs.Running.{Running, Coming, coming, passing, leaving, beginning, first_script, entered, further, behind_line, no_label}
-use Rattle.nb_engine.specs.Effects.{Wanted, Effect, says, asks, goes, sleeps, shuts_device, effect, shown_words}
+use Rattle.nb_engine.specs.Running.{Running, Coming, coming, passing, leaving, beginning, first_script, entered, with_result, further, behind_line, no_label}
+use Rattle.nb_engine.specs.Errands.{Wanted, Onward, fetches_now, echoes_now}
+use Rattle.nb_engine.specs.Effects.{full_opens, Effect, says, asks, goes, sleeps, shuts_device, inquires, effect, shown_words}
+use Rattle.nb_engine.specs.Queries.{Query, for_echo}
+use Rattle.nb_engine.specs.Talks.{fields_of, first_message}
+use Rattle.nb_engine.specs.Lones.{lone_for, talk_for, open_told, with_lone}
 use Rattle.nb_engine.specs.Opens.{open_for, request_of, has_route, send_records, opened_record, begun_for}
 use Rattle.nb_engine.specs.Conclusions.{fails, conclusion_records}
-use Rattle.nb_engine.specs.Machine.{Machine, Phase, ready, running, waiting, sleeping, yielded, handing, left, handed_off, stopped, at, fresh, Path, nothing, uses, moves, Begins, runs, refuses, passes_by, brings, passes_time, switches_off, sleeps_through_frame, sleeps_on, wakes, goes_off_asleep, goes_on_by_frame, goes_on_by_tick, goes_off, Move, Moves, rests, moves_on, passes, is_left, yields, does, closes_device, leaves, jumps, finds_no_label, falls_asleep, asks_for, finds_no_route, hands, has_handed, command_record, command_records, no_route, world_after}
+use Rattle.nb_engine.specs.Machine.{Machine, Phase, ready, running, waiting, asking, sleeping, reaching, yielded, handing, left, handed_off, stopped, at, fresh, Path, nothing, uses, moves, Begins, runs, refuses, passes_by, brings, passes_time, switches_off, passes_it_by, brings_it, passes_its_time, switches_it_off, sleeps_through_frame, sleeps_on, wakes, goes_off_asleep, goes_on_by_frame, goes_on_by_tick, goes_off, Move, Moves, rests, moves_on, passes, is_left, yields, does, closes_device, leaves, jumps, finds_no_label, falls_asleep, asks_for, finds_no_route, inquires_for, reaches_none, asks_on, finds_no_way, echoes_on, finds_no_way_to, opens_no_more, hands, has_handed, command_record, command_records, no_route, world_after}
 use Rattle.nb_boot.specs.Laws.{IsAtRest, SameRun}
 
 -- records, and where they lead
@@ -41,9 +45,19 @@ route_move n w s ws wanted false =
     reached (command_record s (shown_words w.state.table ws) ∷ opened_record w wanted ∷ ended w.opens (no_route wanted.target.server) ∷ conclusion_records (fails (no_route wanted.target.server)))
     (at n (running (with_ended_open w) (further s (no_route wanted.target.server))))
 
+abbrev inquiry_move : ℕ → World → World → Running → List (List ℕ) → Query → Bool → Reached
+inquiry_move n w v s ws q true =
+    reached (command_record s (shown_words w.state.table ws) ∷ open_told w.opens (fields_of (talk_for v q)) ∷ send_records v.net w.opens (Some 1) (first_message (talk_for v q)))
+    (at n (asking (with_lone v (talk_for v q)) (entered s) (lone_for v q)))
+inquiry_move n w v s ws q false =
+    reached (command_record s (shown_words w.state.table ws) ∷ open_told w.opens (fields_of (talk_for v q)) ∷ ended w.opens (no_route (fields_of (talk_for v q)).server)
+    ∷ result (no_route (fields_of (talk_for v q)).server) ∷ [])
+    (at n (running (with_ended_open v) (further s (no_route (fields_of (talk_for v q)).server))))
+
 abbrev effect_move : ℕ → World → Running → List (List ℕ) → Effect → Reached
 effect_move n w s ws (says o) = outcome_move n w s ws o o.leaves
 effect_move n w s ws (asks wanted) = route_move n w s ws wanted (has_route w.net (request_of (begun_for w wanted)))
+effect_move n w s ws (inquires q) = inquiry_move n w (world_after w ws) s ws q (has_route (world_after w ws).net (first_message (talk_for (world_after w ws) q)))
 effect_move n w s ws shuts_device = reached (command_records s (shown_words w.state.table ws) (refused ok)) (at n (running (world_after w ws) (further s ok)))
 effect_move n w s ws (goes name) = label_move n w s ws (label_place name s.code)
 effect_move n w s ws (sleeps seconds) =
@@ -63,11 +77,37 @@ abbrev hand_move : ℕ → List Out → Reached
 hand_move n [] = reached [] (at n handed_off)
 hand_move n (r ∷ rest) = reached (r ∷ []) (at n (handing rest))
 
+-- a command whose server was looked up
+abbrev file_move : ℕ → World → Running → Wanted → Bool → Reached
+file_move n w s wanted true = reached (opened_record w wanted ∷ send_records w.net w.opens (Some 1) (request_of (begun_for w wanted))) (at n (waiting (with_open w) s (open_for w wanted)))
+file_move n w s wanted false =
+    reached (opened_record w wanted ∷ ended w.opens (no_route wanted.target.server) ∷ result (no_route wanted.target.server) ∷ [])
+    (at n (running (with_ended_open w) (with_result s (no_route wanted.target.server))))
+
+abbrev echo_move : ℕ → World → Running → ℕ → Bool → Reached
+echo_move n w s server true =
+    reached (open_told w.opens (fields_of (talk_for w (for_echo server))) ∷ send_records w.net w.opens (Some 1) (first_message (talk_for w (for_echo server))))
+    (at n (asking (with_lone w (talk_for w (for_echo server))) s (lone_for w (for_echo server))))
+echo_move n w s server false =
+    reached (open_told w.opens (fields_of (talk_for w (for_echo server))) ∷ ended w.opens (no_route server) ∷ result (no_route server) ∷ [])
+    (at n (running (with_ended_open w) (with_result s (no_route server))))
+
+abbrev onward_move : ℕ → World → Running → Onward → Reached
+onward_move n w s (fetches_now wanted) = file_move n w s wanted (has_route w.net (request_of (begun_for w wanted)))
+onward_move n w s (echoes_now server) = echo_move n w s server (has_route w.net (first_message (talk_for w (for_echo server))))
+
+-- whether all opens were made
+abbrev next_move : ℕ → World → Running → Onward → Bool → Reached
+next_move n w s next true = reached (result full_opens ∷ []) (at n (running w (with_result s full_opens)))
+next_move n w s next false = onward_move n w s next
+
 abbrev phase_move : ℕ → Phase → Option Reached
 phase_move n ready = None
 phase_move n (running w s) = Some (coming_move n w s (coming s))
 phase_move n (waiting w s o) = None
+phase_move n (asking w s o) = None
 phase_move n (sleeping w s until) = None
+phase_move n (reaching w s next) = Some (next_move n w s next (w.opens == 16384))
 phase_move n (yielded w s) = None
 phase_move n (handing rest) = Some (hand_move n rest)
 phase_move n (left cause) = None
@@ -79,6 +119,9 @@ is_full n e = eq-eqb n 4096 e
 
 not_full : (n : ℕ) → n < 4096 → (n == 4096) ≡ false
 not_full n h = ne_eqb n 4096 (λ e. omega (arith, h, e))
+
+not_all : (n : ℕ) → n < 16384 → (n == 16384) ≡ false
+not_all n h = ne_eqb n 16384 (λ e. omega (arith, h, e))
 
 -- a command that begins
 begun_move : (n : ℕ) (w : World) (s : Running) (c : List ℕ) (cs : List (List ℕ)) (x : Effect) → coming s ≡ beginning c cs → s.begun < 4096 → effect w.opens w.state.table (c ∷ cs) ≡ x →
@@ -99,6 +142,19 @@ move_is m a m' (finds_no_label n w s c cs name h early e k) = ap (λ x. Some x) 
 move_is m a m' (falls_asleep n w s c cs seconds h early e) = ap (λ x. Some x) (begun_move n w s c cs (sleeps seconds) h early e)
 move_is m a m' (asks_for n w s c cs wanted h early e k) = ap (λ x. Some x) (begun_move n w s c cs (asks wanted) h early e) ∙ ap (λ b. Some (route_move n w s (c ∷ cs) wanted b)) k
 move_is m a m' (finds_no_route n w s c cs wanted h early e k) = ap (λ x. Some x) (begun_move n w s c cs (asks wanted) h early e) ∙ ap (λ b. Some (route_move n w s (c ∷ cs) wanted b)) k
+move_is m a m' (inquires_for n w s c cs q h early e k) =
+    ap (λ x. Some x) (begun_move n w s c cs (inquires q) h early e) ∙ ap (λ b. Some (inquiry_move n w (world_after w (c ∷ cs)) s (c ∷ cs) q b)) k
+move_is m a m' (reaches_none n w s c cs q h early e k) =
+    ap (λ x. Some x) (begun_move n w s c cs (inquires q) h early e) ∙ ap (λ b. Some (inquiry_move n w (world_after w (c ∷ cs)) s (c ∷ cs) q b)) k
+move_is m a m' (asks_on n w s wanted few k) =
+    ap (λ b. Some (next_move n w s (fetches_now wanted) b)) (not_all w.opens few) ∙ ap (λ b. Some (file_move n w s wanted b)) k
+move_is m a m' (finds_no_way n w s wanted few k) =
+    ap (λ b. Some (next_move n w s (fetches_now wanted) b)) (not_all w.opens few) ∙ ap (λ b. Some (file_move n w s wanted b)) k
+move_is m a m' (echoes_on n w s server few k) =
+    ap (λ b. Some (next_move n w s (echoes_now server) b)) (not_all w.opens few) ∙ ap (λ b. Some (echo_move n w s server b)) k
+move_is m a m' (finds_no_way_to n w s server few k) =
+    ap (λ b. Some (next_move n w s (echoes_now server) b)) (not_all w.opens few) ∙ ap (λ b. Some (echo_move n w s server b)) k
+move_is m a m' (opens_no_more n w s next full) = ap (λ b. Some (next_move n w s next b)) (eq-eqb w.opens 16384 full)
 move_is m a m' (hands n r rest) = refl
 move_is m a m' (has_handed n) = refl
 
@@ -125,7 +181,9 @@ rest_still : (phase : Phase) (n : ℕ) → IsAtRest phase → phase_move n phase
 rest_still ready n o = absurd o
 rest_still (running w s) n o = absurd o
 rest_still (waiting w s x) n o = refl
+rest_still (asking w s x) n o = refl
 rest_still (sleeping w s until) n o = refl
+rest_still (reaching w s next) n o = absurd o
 rest_still (yielded w s) n o = refl
 rest_still (handing rest) n o = absurd o
 rest_still (left cause) n o = refl
@@ -257,6 +315,10 @@ begins_is m r added m' z (passes_by n w s o bytes reply seen net valid t h) = le
 begins_is m r added m' z (brings n w s o bytes reply seen net port body added' phase valid t h k) = let no : waiting w s o ≡ ready = ap (λ (x : Machine). x.phase) z in cc
 begins_is m r added m' z (passes_time n w s o ms added' phase valid h) = let no : waiting w s o ≡ ready = ap (λ (x : Machine). x.phase) z in cc
 begins_is m r added m' z (switches_off n w s o) = let no : waiting w s o ≡ ready = ap (λ (x : Machine). x.phase) z in cc
+begins_is m r added m' z (passes_it_by n w s o bytes reply seen net valid t h) = let no : asking w s o ≡ ready = ap (λ (x : Machine). x.phase) z in cc
+begins_is m r added m' z (brings_it n w s o bytes reply seen net said added' phase valid t h k) = let no : asking w s o ≡ ready = ap (λ (x : Machine). x.phase) z in cc
+begins_is m r added m' z (passes_its_time n w s o ms added' phase valid h) = let no : asking w s o ≡ ready = ap (λ (x : Machine). x.phase) z in cc
+begins_is m r added m' z (switches_it_off n w s o) = let no : asking w s o ≡ ready = ap (λ (x : Machine). x.phase) z in cc
 begins_is m r added m' z (sleeps_through_frame n w s until bytes reply seen net valid t) = let no : sleeping w s until ≡ ready = ap (λ (x : Machine). x.phase) z in cc
 begins_is m r added m' z (sleeps_on n w s until ms valid early) = let no : sleeping w s until ≡ ready = ap (λ (x : Machine). x.phase) z in cc
 begins_is m r added m' z (wakes n w s until ms valid late) = let no : sleeping w s until ≡ ready = ap (λ (x : Machine). x.phase) z in cc

@@ -3,20 +3,17 @@ use Rattle.std.proofs.Common.{◌≡◌, ℕ, ◌+◌, ◌<◌, ◌≤◌, arith
 use Rattle.nb_tftp.specs.History.{Call, came, ticked}
 use Rattle.nb_stack.specs.Client.{Client}
 use Rattle.nb_stack.specs.Takes.{Outcome, Takes}
-use Rattle.nb_defs.specs.Records.{In, start, frame, tick, off, Out, step, ended, result}
+use Rattle.nb_defs.specs.Records.{In, frame, tick, off, Out, step, ended, result}
 use Rattle.nb_engine.specs.declared.world.World.{World}
 use Rattle.nb_engine.specs.World.{with_net, world_later}
 use Rattle.nb_engine.specs.Opens.{Open, heard_from}
 use Rattle.nb_defs.specs.Causes.{ok}
 use Rattle.nb_engine.specs.Running.{Running, anew, with_result}
-use Rattle.nb_engine.specs.Machine.{Machine, Phase, ready, running, waiting, sleeping, yielded, handing, left, handed_off, stopped, at, Begins, runs, refuses, passes_by, brings, passes_time, switches_off, sleeps_through_frame, sleeps_on, wakes, goes_off_asleep, goes_on_by_frame, goes_on_by_tick, goes_off, Hears, reply_records, stopped_cause}
+use Rattle.nb_engine.specs.Machine.{Machine, Phase, ready, running, waiting, asking, sleeping, reaching, yielded, handing, left, handed_off, stopped, at, Begins, runs, refuses, passes_by, brings, passes_time, switches_off, passes_it_by, brings_it, passes_its_time, switches_it_off, sleeps_through_frame, sleeps_on, wakes, goes_off_asleep, goes_on_by_frame, goes_on_by_tick, goes_off, Hears, reply_records, stopped_cause}
 use Rattle.nb_boot.specs.Run.{Awaits}
 use Rattle.nb_boot.proofs.OneAnswer.{takes_one, hears_one}
-
--- a record begins one step
-pub record BegunOne (a b : List Out) (m m' : Machine) : Type 0 where
-  pub records : a ≡ b
-  pub machines : m ≡ m'
+use Rattle.nb_boot.proofs.OneRecord.{BegunOne, same_bytes, same_time}
+use Rattle.nb_boot.proofs.OneAsking.{asks_by, asking_one}
 
 -- what a step that begins where a command waits amounts to
 data Waits (n : ℕ) (w : World) (s : Running) (o : Open) (r : In) (a : List Out) (m : Machine) : Type 0 where
@@ -68,6 +65,10 @@ waits_by m r a m' (switches_off k v i x) n w s o e =
     let z : waiting v i x ≡ waiting w s o = ap (λ (y : Machine). y.phase) e in
     let ex : x ≡ o = cc in
     was_off refl (ap (λ y. step (y + 1) ∷ ended x.number stopped_cause ∷ []) ek ∙ ap (λ y. step (n + 1) ∷ ended y.number stopped_cause ∷ []) ex) (ap (λ y. at (y + 1) stopped) ek)
+waits_by m r a m' (passes_it_by k v i x bytes reply seen net valid t h) n w s o e = let z : asking v i x ≡ waiting w s o = ap (λ (y : Machine). y.phase) e in absurd (cc)
+waits_by m r a m' (brings_it k v i x bytes reply seen net said added phase valid t h g) n w s o e = let z : asking v i x ≡ waiting w s o = ap (λ (y : Machine). y.phase) e in absurd (cc)
+waits_by m r a m' (passes_its_time k v i x ms added phase valid g) n w s o e = let z : asking v i x ≡ waiting w s o = ap (λ (y : Machine). y.phase) e in absurd (cc)
+waits_by m r a m' (switches_it_off k v i x) n w s o e = let z : asking v i x ≡ waiting w s o = ap (λ (y : Machine). y.phase) e in absurd (cc)
 waits_by m r a m' (sleeps_through_frame k v i until bytes reply seen net valid t) n w s o e = let z : sleeping v i until ≡ waiting w s o = ap (λ (x : Machine). x.phase) e in absurd (cc)
 waits_by m r a m' (sleeps_on k v i until ms valid early) n w s o e = let z : sleeping v i until ≡ waiting w s o = ap (λ (x : Machine). x.phase) e in absurd (cc)
 waits_by m r a m' (wakes k v i until ms valid late) n w s o e = let z : sleeping v i until ≡ waiting w s o = ap (λ (x : Machine). x.phase) e in absurd (cc)
@@ -90,6 +91,10 @@ resumes_by m r a m' (passes_by k v i x bytes reply seen net valid t h) n w s e =
 resumes_by m r a m' (brings k v i x bytes reply seen net port body added phase valid t h g) n w s e = let z : waiting v i x ≡ yielded w s = ap (λ (y : Machine). y.phase) e in absurd (cc)
 resumes_by m r a m' (passes_time k v i x ms added phase valid g) n w s e = let z : waiting v i x ≡ yielded w s = ap (λ (y : Machine). y.phase) e in absurd (cc)
 resumes_by m r a m' (switches_off k v i x) n w s e = let z : waiting v i x ≡ yielded w s = ap (λ (y : Machine). y.phase) e in absurd (cc)
+resumes_by m r a m' (passes_it_by k v i x bytes reply seen net valid t h) n w s e = let z : asking v i x ≡ yielded w s = ap (λ (y : Machine). y.phase) e in absurd (cc)
+resumes_by m r a m' (brings_it k v i x bytes reply seen net said added phase valid t h g) n w s e = let z : asking v i x ≡ yielded w s = ap (λ (y : Machine). y.phase) e in absurd (cc)
+resumes_by m r a m' (passes_its_time k v i x ms added phase valid g) n w s e = let z : asking v i x ≡ yielded w s = ap (λ (y : Machine). y.phase) e in absurd (cc)
+resumes_by m r a m' (switches_it_off k v i x) n w s e = let z : asking v i x ≡ yielded w s = ap (λ (y : Machine). y.phase) e in absurd (cc)
 resumes_by m r a m' (sleeps_through_frame k v i until bytes reply seen net valid t) n w s e = let z : sleeping v i until ≡ yielded w s = ap (λ (y : Machine). y.phase) e in absurd (cc)
 resumes_by m r a m' (sleeps_on k v i until ms valid early) n w s e = let z : sleeping v i until ≡ yielded w s = ap (λ (y : Machine). y.phase) e in absurd (cc)
 resumes_by m r a m' (wakes k v i until ms valid late) n w s e = let z : sleeping v i until ≡ yielded w s = ap (λ (y : Machine). y.phase) e in absurd (cc)
@@ -126,6 +131,10 @@ sleeps_by m r a m' (passes_by k v i x bytes reply seen net valid t h) n w s unti
 sleeps_by m r a m' (brings k v i x bytes reply seen net port body added phase valid t h g) n w s until e = let z : waiting v i x ≡ sleeping w s until = ap (λ (y : Machine). y.phase) e in absurd (cc)
 sleeps_by m r a m' (passes_time k v i x ms added phase valid g) n w s until e = let z : waiting v i x ≡ sleeping w s until = ap (λ (y : Machine). y.phase) e in absurd (cc)
 sleeps_by m r a m' (switches_off k v i x) n w s until e = let z : waiting v i x ≡ sleeping w s until = ap (λ (y : Machine). y.phase) e in absurd (cc)
+sleeps_by m r a m' (passes_it_by k v i x bytes reply seen net valid t h) n w s until e = let z : asking v i x ≡ sleeping w s until = ap (λ (y : Machine). y.phase) e in absurd (cc)
+sleeps_by m r a m' (brings_it k v i x bytes reply seen net said added phase valid t h g) n w s until e = let z : asking v i x ≡ sleeping w s until = ap (λ (y : Machine). y.phase) e in absurd (cc)
+sleeps_by m r a m' (passes_its_time k v i x ms added phase valid g) n w s until e = let z : asking v i x ≡ sleeping w s until = ap (λ (y : Machine). y.phase) e in absurd (cc)
+sleeps_by m r a m' (switches_it_off k v i x) n w s until e = let z : asking v i x ≡ sleeping w s until = ap (λ (y : Machine). y.phase) e in absurd (cc)
 sleeps_by m r a m' (goes_on_by_frame k v i bytes reply seen net valid t) n w s until e = let z : yielded v i ≡ sleeping w s until = ap (λ (y : Machine). y.phase) e in absurd (cc)
 sleeps_by m r a m' (goes_on_by_tick k v i ms valid) n w s until e = let z : yielded v i ≡ sleeping w s until = ap (λ (y : Machine). y.phase) e in absurd (cc)
 sleeps_by m r a m' (goes_off k v i) n w s until e = let z : yielded v i ≡ sleeping w s until = ap (λ (y : Machine). y.phase) e in absurd (cc)
@@ -154,19 +163,6 @@ sleeps_by m r a m' (goes_off_asleep k v i u) n w s until e =
     let ek : k ≡ n = ap (λ (y : Machine). y.used) e in
     was_off_asleep refl (ap (λ y. step (y + 1) ∷ []) ek) (ap (λ y. at (y + 1) stopped) ek)
 
--- the bytes of a frame
-bytes_in : In → List ℕ
-bytes_in (start s) = []
-bytes_in (frame bytes) = bytes
-bytes_in (tick ms) = []
-bytes_in off = []
-
-time_in : In → ℕ
-time_in (start s) = 0
-time_in (frame bytes) = 0
-time_in (tick ms) = ms
-time_in off = 0
-
 pair_in : Option (ℕ × List ℕ) → ℕ × List ℕ
 pair_in None = (0, [])
 pair_in (Some x) = x
@@ -174,14 +170,6 @@ pair_in (Some x) = x
 same_pair : (n k : ℕ) (x y : List ℕ) → ◌≡◌ {A = Option (ℕ × List ℕ)} (Some (n, x)) (Some (k, y)) → (n ≡ k) × (x ≡ y)
 unfolding pair_in
 same_pair n k x y e = (ap (λ z. (pair_in z).0) e, ap (λ z. (pair_in z).1) e)
-
-same_bytes : (r : In) (x y : List ℕ) → r ≡ frame x → r ≡ frame y → x ≡ y
-unfolding bytes_in
-same_bytes r x y e f = ap bytes_in (sym e ∙ f)
-
-same_time : (r : In) (x y : ℕ) → r ≡ tick x → r ≡ tick y → x ≡ y
-unfolding time_in
-same_time r x y e f = ap time_in (sym e ∙ f)
 
 heard_one : (n : ℕ) (w : World) (s : Running) (o : Open) (call : Call) (a b added added' : List Out) (m m' : Machine) (p q : Phase) → Hears w s o call added p → Hears w s o call added' q →
     a ≡ step (n + 1) ∷ added → m ≡ at (n + 1) p → b ≡ step (n + 1) ∷ added' → m' ≡ at (n + 1) q → BegunOne a b m m'
@@ -267,10 +255,14 @@ begins_one m r a b m1 m2 k p q = go m.phase refl k
   where
     go : (phase : Phase) → m.phase ≡ phase → Awaits phase → BegunOne a b m1 m2
     go ready e h = absurd h
+    go (reaching w s next) e h = absurd h
     go (running w s) e h = absurd h
     go (waiting w s o) e h =
         let is : m ≡ at m.used (waiting w s o) = ap (at m.used) e in
         waits_one m.used w s o r a b m1 m2 (waits_by m r a m1 p m.used w s o is) (waits_by m r b m2 q m.used w s o is)
+    go (asking w s o) e h =
+        let is : m ≡ at m.used (asking w s o) = ap (at m.used) e in
+        asking_one m.used w s o r a b m1 m2 (asks_by m r a m1 p m.used w s o is) (asks_by m r b m2 q m.used w s o is)
     go (sleeping w s until) e h =
         let is : m ≡ at m.used (sleeping w s until) = ap (at m.used) e in
         sleeps_one m.used w s until r a b m1 m2 (sleeps_by m r a m1 p m.used w s until is) (sleeps_by m r b m2 q m.used w s until is)

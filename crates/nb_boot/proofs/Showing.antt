@@ -19,8 +19,10 @@ use Rattle.nb_boot.proofs.Shut.{shuts}
 
 waits : (phase : Phase) (p : Standing) → StandsAs phase p → Awaits phase → CommandWaits p
 waits lone.ready p same h = absurd h
+waits (lone.reaching w s next) p same h = absurd h
 waits (lone.running w s) p same h = absurd h
 waits (lone.waiting w s o) p (xs, here, same) h = subst CommandWaits (sym same) tt
+waits (lone.asking w s o) p (xs, here, same) h = subst CommandWaits (sym same) tt
 waits (lone.sleeping w s until) p same h = subst CommandWaits (sym same.1) tt
 waits (lone.yielded w s) p same h = subst CommandWaits (sym same) tt
 waits (lone.handing rest) p same h = absurd h
@@ -30,8 +32,10 @@ waits lone.stopped p same h = absurd h
 
 between : (phase : Phase) (p : Standing) → StandsAs phase p → IsBetween phase → MayGoOn p
 between lone.ready p same h = subst MayGoOn (sym same) tt
+between (lone.reaching w s next) p same h = absurd h
 between (lone.running w s) p same h = absurd h
 between (lone.waiting w s o) p (xs, here, same) h = subst MayGoOn (sym same) tt
+between (lone.asking w s o) p (xs, here, same) h = subst MayGoOn (sym same) tt
 between (lone.sleeping w s until) p same h = subst MayGoOn (sym same.1) tt
 between (lone.yielded w s) p same h = subst MayGoOn (sym same) tt
 between (lone.handing rest) p same h = absurd h
@@ -41,8 +45,10 @@ between lone.stopped p same h = absurd h
 
 bad : (phase : Phase) (p : Standing) (rest : List ℕ) (o : Outside) → StandsAs phase p → IsBadRest phase rest o → NoneMayCome p rest o
 bad lone.ready p rest o same h = subst (λ z. NoneMayCome z rest o) (sym same) h
+bad (lone.reaching w s next) p rest o same h = absurd h
 bad (lone.running w s) p rest o same h = absurd h
 bad (lone.waiting w s l) p rest o (xs, here, same) h = subst (λ z. NoneMayCome z rest o) (sym same) h
+bad (lone.asking w s l) p rest o (xs, here, same) h = subst (λ z. NoneMayCome z rest o) (sym same) h
 bad (lone.sleeping w s until) p rest o same h = subst (λ z. NoneMayCome z rest o) (sym same.1) h
 bad (lone.yielded w s) p rest o same h = subst (λ z. NoneMayCome z rest o) (sym same) h
 bad (lone.handing more) p rest o same h = absurd h
@@ -98,13 +104,16 @@ ended_same before after r p course c shut number h = record {
   front = h.front;
   last = h.last;
   opens = h.opens;
+  made = h.made;
   none = h.none;
   all = h.all;
 }
 
 said : (s : Status) (before after : Outside) (r : Run before after) (p : Progress) (course : Course r.ins (without_graph r.outs) p) (c : Carries r.machine p) (shut : Shuts p.standing (shutdown_records r.machine.phase)) →
     Says s before after r → IsSaid s before after (with_course before after r p course c shut)
-said status.HandedOff before after r p course c shut h = (ended_same before after r p course c shut 0 h.0, h.1)
+said status.HandedOff before after r p course c shut h =
+    let lawful = lawful_run r.ins (without_graph r.outs) r.machine r.path in
+    (ended_same before after r p course c shut 0 h.0, h.1 lawful.0 lawful.1)
 said status.Ended before after r p course c shut h = ended_same before after r p course c shut 3 h
 said status.ScriptFailed before after r p course c shut h = ended_same before after r p course c shut 4 h
 said status.Unfinished before after r p course c shut h = ended_same before after r p course c shut 5 h

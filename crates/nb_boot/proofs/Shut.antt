@@ -12,14 +12,16 @@ use Rattle.nb_machine.specs.States.{State}
 use Rattle.nb_machine.specs.Takings.{AllTake, all_have, is_over}
 use Rattle.nb_machine.specs.Courses.{Standing}
 use Rattle.nb_machine.specs.Closings.{AllClose, Shuts}
-use Rattle.nb_machine.specs.Carried.{live_of, Lives, StandsAs}
+use Rattle.nb_machine.specs.Carried.{live_of, live_alone, Lives, StandsAs}
 use Rattle.nb_machine.proofs.Heard.{keeps_now}
+use Rattle.nb_machine.proofs.Talked.{talked_closed, is_kept}
 
 none_close : (s : State) → s.live ≡ [] → AllClose s []
 none_close s none = ([], subst (λ (ls : List Live). AllTake s.devices (close stopped_cause) ls [] [] []) (sym none) all_have)
 
 shuts_by : (phase : Phase) (p : Standing) (es : _) → AgreesPhase es phase → StandsAs phase p → Shuts p (shutdown_records phase)
 shuts_by lone.ready p es a same = subst (λ z. Shuts z []) (sym same) refl
+shuts_by (lone.reaching w s next) p es a same = subst (λ z. Shuts z []) (sym same) ([], all_have)
 shuts_by (lone.running w s) p es a same = subst (λ z. Shuts z []) (sym same) ([], all_have)
 shuts_by (lone.waiting w s o) p es a (xs, here, same) =
     let x = exchange (close stopped_cause) (bare w.net) (ended o.number stopped_cause ∷ []) in
@@ -27,6 +29,14 @@ shuts_by (lone.waiting w s o) p es a (xs, here, same) =
     subst (λ z. Shuts z (ended o.number stopped_cause ∷ [])) (sym same) (
       _,
       is_over (live_of o xs) [] [] (bare w.net) (ended o.number stopped_cause ∷ []) [] [] stopped_cause refl (keeps_now o (xs ++ x ∷ []) now a.1.begins)
+          (ap (λ b. cond b (Some stopped_cause) None) (same_number o.number)) all_have,
+    )
+shuts_by (lone.asking w s o) p es a (xs, here, same) =
+    let x = exchange (close stopped_cause) (bare w.net) (ended o.number stopped_cause ∷ []) in
+    let now = talked_closed o.number o.start o.talk stopped_cause (bare w.net) xs here.talked in
+    subst (λ z. Shuts z (ended o.number stopped_cause ∷ [])) (sym same) (
+      _,
+      is_over (live_alone o xs) [] [] (bare w.net) (ended o.number stopped_cause ∷ []) [] [] stopped_cause refl (is_kept o.number o.start o.talk (xs ++ x ∷ []) now)
           (ap (λ b. cond b (Some stopped_cause) None) (same_number o.number)) all_have,
     )
 shuts_by (lone.sleeping w s until) p es a same = subst (λ z. Shuts z []) (sym same.1) ([], all_have)

@@ -7,7 +7,7 @@ use Rattle.nb_opens.specs.Graphs.{without_graph}
 use Rattle.nb_record.specs.Outside.{Outside, IsAtEnd}
 use Rattle.nb_engine.specs.declared.status.Status.{Status}
 use Rattle.nb_engine.specs.declared.status.Status.TheVariants as status
-use Rattle.nb_engine.specs.Machine.{Machine, Phase, ready, running, waiting, sleeping, yielded, handing, left, handed_off, stopped, Path}
+use Rattle.nb_engine.specs.Machine.{Machine, Phase, ready, running, waiting, asking, sleeping, reaching, yielded, handing, left, handed_off, stopped, Path}
 use Rattle.nb_boot.specs.Run.{Run, Shows, IsOther, IsFirst, BeginsWith, IsBadRest, Awaits, Ends, was_left, was_handed, was_stopped, ran_out, was_bad, was_full}
 use Rattle.nb_boot.specs.Complete.{CompletesRun, SaysStatus}
 use Rattle.nb_boot.specs.Laws.{IsAtRest}
@@ -38,8 +38,10 @@ no_bad_end rest o e (inr (inr (p, some, end))) = omega (arith, ap length e, some
 
 says_rests : (phase : Phase) (more : List ℕ) (number : ℕ) → SaysStatus phase more number → IsAtRest phase
 says_rests ready more number h = absurd h
+says_rests (reaching w s next) more number h = absurd h
 says_rests (running w s) more number h = absurd h
 says_rests (waiting w s o) more number h = tt
+says_rests (asking w s o) more number h = tt
 says_rests (sleeping w s until) more number h = tt
 says_rests (yielded w s) more number h = tt
 says_rests (handing rest) more number h = absurd h
@@ -49,8 +51,10 @@ says_rests stopped more number h = tt
 
 says_waits : (phase : Phase) (more : List ℕ) (number : ℕ) → Awaits phase → SaysStatus phase more number → (more ≡ []) × (number ≡ 5)
 says_waits ready more number a h = absurd a
+says_waits (reaching w s next) more number a h = absurd a
 says_waits (running w s) more number a h = absurd a
 says_waits (waiting w s o) more number a h = h
+says_waits (asking w s o) more number a h = h
 says_waits (sleeping w s until) more number a h = h
 says_waits (yielded w s) more number a h = h
 says_waits (handing rest) more number a h = absurd a
@@ -60,8 +64,10 @@ says_waits stopped more number a h = absurd a
 
 bad_waits : (phase : Phase) (rest : List ℕ) (o : Outside) → Awaits phase → IsBadRest phase rest o → IsBroken rest ⊎ (BeginsWith rest IsFirst ⊎ (IsPartial rest × (0 < length rest) × IsAtEnd o))
 bad_waits ready rest o a b = absurd a
+bad_waits (reaching w s next) rest o a b = absurd a
 bad_waits (running w s) rest o a b = absurd a
 bad_waits (waiting w s x) rest o a b = b
+bad_waits (asking w s x) rest o a b = b
 bad_waits (sleeping w s until) rest o a b = b
 bad_waits (yielded w s) rest o a b = b
 bad_waits (handing more) rest o a b = absurd a

@@ -20,9 +20,11 @@ use Rattle.nb_boot.proofs.Cuttings.{memory_shows}
 -- where a command waits, or a script has yielded, the next record is waited for
 pub waits_rests : (st : Stage) → IsWaiting st → IsResting st
 waits_rests (stage.Waiting s f) h = tt
+waits_rests (stage.Asking s i) h = tt
 waits_rests (stage.Sleeping s until) h = tt
 waits_rests (stage.Yielded s) h = absurd h
 waits_rests stage.Ready h = absurd h
+waits_rests (stage.Reaching s k) h = absurd h
 waits_rests (stage.Running s) h = absurd h
 waits_rests (stage.HandingOff h1) h = absurd h
 waits_rests (stage.Left cause) h = absurd h
@@ -32,8 +34,10 @@ waits_rests stage.Stopped h = absurd h
 pub yields_rests : (st : Stage) → HasYielded st → IsResting st
 yields_rests (stage.Yielded s) h = tt
 yields_rests (stage.Waiting s f) h = absurd h
+yields_rests (stage.Asking s i) h = absurd h
 yields_rests (stage.Sleeping s until) h = absurd h
 yields_rests stage.Ready h = absurd h
+yields_rests (stage.Reaching s k) h = absurd h
 yields_rests (stage.Running s) h = absurd h
 yields_rests (stage.HandingOff h1) h = absurd h
 yields_rests (stage.Left cause) h = absurd h

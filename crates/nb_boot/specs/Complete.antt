@@ -3,7 +3,7 @@ use Rattle.std.specs.Prelude.{◌≡◌, ℕ, ◌<◌, ◌≤◌, List, [], ◌�
 use Rattle.nb_defs.specs.Records.{Start, In, start, IsIn, in_texts, Out}
 use Rattle.nb_record.specs.Outside.{Outside, Rose}
 use Rattle.nb_boot.specs.Run.{IsOther}
-use Rattle.nb_engine.specs.Machine.{Machine, Phase, ready, running, waiting, sleeping, yielded, handing, left, handed_off, stopped, Path, status_of}
+use Rattle.nb_engine.specs.Machine.{Machine, Phase, ready, running, waiting, asking, sleeping, reaching, yielded, handing, left, handed_off, stopped, Path, status_of}
 use Rattle.nb_engine.specs.StatusNumber.{status_number}
 use Rattle.nb_engine.specs.declared.status.Status.{Status}
 use Rattle.nb_engine.specs.declared.status.Status.TheVariants as status
@@ -49,8 +49,10 @@ Completes result before after = (s : Start) (others : List In) → IsIn (start s
 -- the next record is waited for and nothing follows.
 abbrev pub SaysStatus : Phase → List ℕ → ℕ → Type 0
 SaysStatus ready more number = ⊥
+SaysStatus (reaching w s next) more number = ⊥
 SaysStatus (running w s) more number = ⊥
 SaysStatus (waiting w s o) more number = (more ≡ []) × (number ≡ 5)
+SaysStatus (asking w s o) more number = (more ≡ []) × (number ≡ 5)
 SaysStatus (sleeping w s until) more number = (more ≡ []) × (number ≡ 5)
 SaysStatus (yielded w s) more number = (more ≡ []) × (number ≡ 5)
 SaysStatus (handing rest) more number = ⊥

@@ -139,11 +139,11 @@ IsClosing _ = ⊥
 
 -- a client was made, and used START: the next record is waited for
 abbrev pub Opens : List ℕ → List ℕ → Outside → Outside → Logged → Logged → Seen → Type 0
-Opens held held' before now old new c = IsResting c.stage × ((first : Outside) → Going [] held first before old fresh (bare 0) → Waits 1 held' first now new c)
+Opens held held' before now old new c = IsResting c.stage × ((first : Outside) → Going [] held first before old fresh (bare 0 0) → Waits 1 held' first now new c)
 
 -- the run is over, before START or in its step
 abbrev pub RefusesRun : Status → List ℕ → Outside → Outside → Logged → Type 0
-RefusesRun s held before now old = (first : Outside) → Going [] held first before old fresh (bare 0) → Shows s first now
+RefusesRun s held before now old = (first : Outside) → Going [] held first before old fresh (bare 0 0) → Shows s first now
 
 -- whether a record is a START
 abbrev pub TellsFirst : Bool → In → Type 0

@@ -2,19 +2,23 @@
 use Rattle.std.specs.Prelude.{◌≡◌, ℕ, ◌<◌, ◌≤◌, ◌⊎◌, List, [], ◌∷◌, ◌++◌, length}
 use Rattle.nb_terms.specs.declared.cause.Cause.{Cause}
 use Rattle.nb_defs.specs.Records.{In, start, frame, tick, off, IsIn, in_text, in_texts, IsPartial, IsBroken, Out, out_texts, done}
-use Rattle.nb_engine.specs.Machine.{Machine, Phase, ready, running, waiting, sleeping, yielded, handing, left, handed_off, stopped, Path, status_of, shutdown_records}
-use Rattle.nb_engine.specs.Honesty.{Honest, HandsFiles}
+use Rattle.nb_engine.specs.Machine.{Machine, Phase, ready, running, waiting, asking, sleeping, reaching, yielded, handing, left, handed_off, stopped, Path, status_of, shutdown_records}
 use Rattle.nb_opens.specs.Graphs.{Graphs, GraphAt, bare, without_graph}
 use Rattle.nb_opens.specs.Traces.{AreTraced}
 use Rattle.nb_record.specs.Outside.{Outside, Passes, Rose, IsAtEnd}
 use Rattle.nb_engine.specs.declared.status.Status.{Status}
 use Rattle.nb_engine.specs.declared.status.Status.TheVariants as status
+use Rattle.nb_laws.specs.Events.{Event}
+use Rattle.nb_laws.specs.Histories.{IsHistory}
+use Rattle.nb_laws.specs.HandOff.{HandsOff, BringTheirs}
 
 -- the next record is waited for: by a command, or by a script that had all the commands of a step
 abbrev pub Awaits : Phase → Type 0
 Awaits ready = ⊥
+Awaits (reaching w s next) = ⊥
 Awaits (running w s) = ⊥
 Awaits (waiting w s o) = Unit {0}
+Awaits (asking w s o) = Unit {0}
 Awaits (sleeping w s until) = Unit {0}
 Awaits (yielded w s) = Unit {0}
 Awaits (handing rest) = ⊥
@@ -25,8 +29,10 @@ Awaits stopped = ⊥
 -- no step is under way, and the run isn't over: the next record may come
 abbrev pub IsBetween : Phase → Type 0
 IsBetween ready = Unit {0}
+IsBetween (reaching w s next) = ⊥
 IsBetween (running w s) = ⊥
 IsBetween (waiting w s o) = Unit {0}
+IsBetween (asking w s o) = Unit {0}
 IsBetween (sleeping w s until) = Unit {0}
 IsBetween (yielded w s) = Unit {0}
 IsBetween (handing rest) = ⊥
@@ -62,8 +68,10 @@ pub record BeginsWith (bytes : List ℕ) (Kind : In → Type 0) : Type 0 where
 abbrev pub IsBadRest : Phase → List ℕ → Outside → Type 0
 IsBadRest ready rest o = IsBroken rest ⊎ (BeginsWith rest IsOther ⊎ (IsPartial rest × IsAtEnd o))
 IsBadRest (waiting w s open1) rest o = IsBroken rest ⊎ (BeginsWith rest IsFirst ⊎ (IsPartial rest × (0 < length rest) × IsAtEnd o))
+IsBadRest (asking w s open1) rest o = IsBroken rest ⊎ (BeginsWith rest IsFirst ⊎ (IsPartial rest × (0 < length rest) × IsAtEnd o))
 IsBadRest (sleeping w s until) rest o = IsBroken rest ⊎ (BeginsWith rest IsFirst ⊎ (IsPartial rest × (0 < length rest) × IsAtEnd o))
 IsBadRest (yielded w s) rest o = IsBroken rest ⊎ (BeginsWith rest IsFirst ⊎ (IsPartial rest × (0 < length rest) × IsAtEnd o))
+IsBadRest (reaching w s next) rest o = ⊥
 IsBadRest (running w s) rest o = ⊥
 IsBadRest (handing left1) rest o = ⊥
 IsBadRest (left cause) rest o = ⊥
@@ -125,7 +133,8 @@ pub record IsOver (before after : Outside) (r : Run before after) (number : ℕ)
   pub front : List Out
   pub last : r.closing ≡ front ++ done number ∷ []
   pub opens : ℕ
-  pub none : r.at ≡ bare opens
+  pub made : ℕ
+  pub none : r.at ≡ bare opens made
   pub all : r.lost ≡ []
 
 -- a read failed between two steps: every whole record read was used, and their whole output was taken
@@ -136,9 +145,10 @@ pub record IsUnread (before after : Outside) (r : Run before after) : Type 0 whe
   pub all : r.lost ≡ []
   pub rose : Rose before.read_faults after.read_faults
 
--- Where servers send what they hold, each image handed off is, byte for byte, its server's file.
+-- The output ends with the hand-off of all the images that the history says were brought, the last one of each name; and
+-- where servers send what they hold, each is, byte for byte, the file of the open that brought it.
 abbrev pub HandsTheirs : (before after : Outside) → Run before after → Type 0
-HandsTheirs before after r = (store : ℕ → List ℕ → List ℕ) → Honest store r.ins → HandsFiles store (without_graph r.outs)
+HandsTheirs before after r = (es : List Event) → IsHistory r.ins (without_graph r.outs) es → HandsOff es (without_graph r.outs) [] × BringTheirs es
 
 -- memory ran out: nothing closes the output, or some of it is missing
 abbrev pub IsUnclosed : (before after : Outside) → Run before after → Type 0

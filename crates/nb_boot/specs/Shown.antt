@@ -3,15 +3,15 @@ use Rattle.std.specs.Prelude.{◌≡◌, ℕ, ◌<◌, ◌≤◌, ◌⊎◌, Lis
 use Rattle.nb_terms.specs.declared.cause.Cause.{Cause}
 use Rattle.nb_defs.specs.Records.{In, in_texts, IsPartial, IsBroken, Out, out_texts, done}
 use Rattle.nb_engine.specs.Machine.{status_of}
-use Rattle.nb_engine.specs.Honesty.{Honest, HandsFiles}
 use Rattle.nb_opens.specs.Graphs.{Graphs, GraphAt, bare, without_graph}
 use Rattle.nb_opens.specs.Traces.{AreTraced}
 use Rattle.nb_record.specs.Outside.{Outside, Passes, Rose, IsAtEnd}
 use Rattle.nb_engine.specs.declared.status.Status.{Status}
 use Rattle.nb_engine.specs.declared.status.Status.TheVariants as status
-use Rattle.nb_machine.specs.Courses.{Standing, ready, running, waiting, yielded, handing, left, handed_off, stopped, Progress, Course}
+use Rattle.nb_machine.specs.Courses.{Standing, ready, running, waiting, reaching, yielded, handing, left, handed_off, stopped, Progress, Course}
 use Rattle.nb_laws.specs.Events.{Event}
 use Rattle.nb_laws.specs.Histories.{IsHistory}
+use Rattle.nb_laws.specs.HandOff.{HandsOff, BringTheirs}
 use Rattle.nb_laws.specs.Lawful.{IsLawful}
 use Rattle.nb_machine.specs.States.{State}
 use Rattle.nb_machine.specs.Closings.{Shuts}
@@ -20,6 +20,7 @@ use Rattle.nb_boot.specs.Run.{IsOther, IsFirst, BeginsWith}
 -- the next record is waited for: by a command, or by scripts that had all the commands of a step
 abbrev pub CommandWaits : Standing → Type 0
 CommandWaits ready = ⊥
+CommandWaits (reaching s script outer next) = ⊥
 CommandWaits (running s script outer) = ⊥
 CommandWaits (waiting s w) = Unit {0}
 CommandWaits (yielded s script outer) = Unit {0}
@@ -31,6 +32,7 @@ CommandWaits (stopped s) = ⊥
 -- no step is under way, and the run isn't over: the next record may come
 abbrev pub MayGoOn : Standing → Type 0
 MayGoOn ready = Unit {0}
+MayGoOn (reaching s script outer next) = ⊥
 MayGoOn (running s script outer) = ⊥
 MayGoOn (waiting s w) = Unit {0}
 MayGoOn (yielded s script outer) = Unit {0}
@@ -45,6 +47,7 @@ abbrev pub NoneMayCome : Standing → List ℕ → Outside → Type 0
 NoneMayCome ready rest o = IsBroken rest ⊎ (BeginsWith rest IsOther ⊎ (IsPartial rest × IsAtEnd o))
 NoneMayCome (waiting s w) rest o = IsBroken rest ⊎ (BeginsWith rest IsFirst ⊎ (IsPartial rest × (0 < length rest) × IsAtEnd o))
 NoneMayCome (yielded s script outer) rest o = IsBroken rest ⊎ (BeginsWith rest IsFirst ⊎ (IsPartial rest × (0 < length rest) × IsAtEnd o))
+NoneMayCome (reaching s script outer next) rest o = ⊥
 NoneMayCome (running s script outer) rest o = ⊥
 NoneMayCome (handing s more) rest o = ⊥
 NoneMayCome (left s outer cause) rest o = ⊥
@@ -111,7 +114,8 @@ pub record HasEnded (before after : Outside) (r : Shown before after) (number : 
   pub front : List Out
   pub last : r.closing ≡ front ++ done number ∷ []
   pub opens : ℕ
-  pub none : r.at ≡ bare opens
+  pub made : ℕ
+  pub none : r.at ≡ bare opens made
   pub all : r.lost ≡ []
 
 -- a read failed between two steps: every whole record read was used, and their whole output was taken
@@ -122,9 +126,10 @@ pub record WasUnread (before after : Outside) (r : Shown before after) : Type 0 
   pub all : r.lost ≡ []
   pub rose : Rose before.read_faults after.read_faults
 
--- Where servers send what they hold, each image handed off is, byte for byte, its server's file.
+-- The output ends with the hand-off of all the images that the history says were brought, the last one of each name; and
+-- where servers send what they hold, each is, byte for byte, the file of the open that brought it.
 abbrev pub HandsTrueFiles : (before after : Outside) → Shown before after → Type 0
-HandsTrueFiles before after r = (store : ℕ → List ℕ → List ℕ) → Honest store r.ins → HandsFiles store (without_graph r.outs)
+HandsTrueFiles before after r = HandsOff r.history (without_graph r.outs) [] × BringTheirs r.history
 
 -- memory ran out: nothing closes the output, or some of it is missing
 abbrev pub LeftUnclosed : (before after : Outside) → Shown before after → Type 0

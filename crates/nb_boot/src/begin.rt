@@ -24,7 +24,7 @@ pub fn is_first(entry: &InRec<'_>) -> bool
 
 /// Ends a run in which no record was used: DONE alone is written.
 fn refuse<L: Line>(log: &mut Log, line: &mut L) -> Status
-    ensures { (rest : List ℕ) (first : Outside) → Going [] rest first (L.outside line.old) log.old fresh (bare 0)
+    ensures { (rest : List ℕ) (first : Outside) → Going [] rest first (L.outside line.old) log.old fresh (bare 0 0)
         → IsBadRest ready rest (L.outside line.old) → Shows result first (L.outside line.new) }
 {
     log.put(&OutRec::Done(Status::BadRecord.number()));

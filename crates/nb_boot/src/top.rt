@@ -82,7 +82,7 @@ pub fn netboot<L: Line>(alloc: Global, words: &[String], line: &mut L) -> Status
     // true of them. The GRAPH records are a legal run of the object graph, which is empty at DONE. Each open's objects are
     // made before its OPEN, and freed before its ENDED, whose cause is that of the first close behind the OPEN.
     ensures course { AreWords (map string_bytes words.now) → ShowsCourse result (L.outside line.old) (L.outside line.new) }
-    // They are, without GRAPH, a run of the engine's own machine, in which a command waits for one transfer.
+    // They are, without GRAPH, a run of the engine's own machine, in which a command waits for one open.
     ensures run { AreWords (map string_bytes words.now) → Shows result (L.outside line.old) (L.outside line.new) }
     // Each end, result, frame, try, advance, open and part has its reason in the records so far, as the two lists
     // say alone.

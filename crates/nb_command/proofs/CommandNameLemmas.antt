@@ -5,7 +5,7 @@ use Rattle.nb_command.specs.declared.command_name.CommandName.TheVariants.{Echo,
 use Rattle.nb_command.specs.declared.command_name.CommandName.TheVariants.{Isset, Iseq, Set}
 use Rattle.nb_command.specs.declared.command_name.CommandName.TheVariants.{Clear, Show, Inc}
 use Rattle.nb_command.specs.declared.command_name.CommandName.TheVariants.{Imgfetch, Imgexec, Sleep}
-use Rattle.nb_command.specs.declared.command_name.CommandName.TheVariants.{Ifopen, Ifclose}
+use Rattle.nb_command.specs.declared.command_name.CommandName.TheVariants.{Ifopen, Ifclose, Dhcp, Ping, Nslookup}
 use Rattle.nb_command.specs.CommandNames.{command_text, command_named}
 
 -- a command's name names it
@@ -24,4 +24,7 @@ command_named-text Imgfetch = refl
 command_named-text Imgexec = refl
 command_named-text Ifopen = refl
 command_named-text Ifclose = refl
+command_named-text Dhcp = refl
+command_named-text Ping = refl
+command_named-text Nslookup = refl
 command_named-text Sleep = refl

@@ -1,7 +1,7 @@
 pub mod Joining
 pub mod CommandNameLemmas
-pub mod PositionLemmas
 pub mod PutLemmas
 pub mod OtherSettings
+pub mod AddressLemmas
 pub mod OtherCommands
 pub mod PrintedLemmas

@@ -9,7 +9,8 @@ use Rattle.nb_command.specs.declared.command_plan.CommandPlan.{CommandPlan}
 use Rattle.nb_command.specs.declared.command_plan.CommandPlan.TheVariants as plan
 use Rattle.nb_command.specs.declared.error.ApplyError.{ApplyError}
 use Rattle.nb_command.specs.declared.outcome.Outcome.{Outcome}
-use Rattle.nb_command.specs.declared.outcome.Outcome.TheVariants.{Done, Down}
+use Rattle.nb_command.specs.declared.outcome.Job.TheVariants as job
+use Rattle.nb_command.specs.declared.outcome.Outcome.TheVariants.{Done, Wait, Down}
 use Rattle.nb_command.specs.declared.state.State.{State}
 use Rattle.nb_command.specs.Applying.{carried_out, in_state, with_table, with_up}
 use Rattle.nb_command.specs.Inc.{named_count, sum_put, increased_table}
@@ -51,6 +52,9 @@ others_stay (plan.Fetch uri) s after is block key off = in_state_stays s _ after
 others_stay (plan.Exec uri) s after is block key off = in_state_stays s _ after is block key
 others_stay (plan.Ifopen device) s after is block key off = with_up_stays s Done _ after is block key
 others_stay (plan.Ifclose device) s after is block key off = with_up_stays s Down _ after is block key
+others_stay (plan.Dhcp device) s after is block key off = with_up_stays s (Wait job.Lease) _ after is block key
+others_stay (plan.Ping host) s after is block key off = as_it_was s _ after is block key
+others_stay (plan.Nslookup name host) s after is block key off = in_state_stays s _ after is block key
 others_stay (plan.Sleep seconds) s after is block key off = as_it_was s _ after is block key
 others_stay (plan.Set name value) s after is block key off =
     with_table_stays s (set_table name value s.table) after (name_read name) is

@@ -98,6 +98,9 @@ value_stays block key kind None table new is = absurd cc
 value_stays block key kind (Some bytes) table new is =
     answer_stays block key table (with_value (setting_of block key kind bytes) table) new (put_refusal block key bytes table) is (put_stays (setting_of block key kind bytes) table)
 
+pub bytes_stay : (name : SettingName) (kind : Kind) (bytes : List ℕ) (table new : TableLists) → put_value (named_block name) name.key kind (Some bytes) table ≡ Ok new → OthersStay (named_block name) name.key table new
+bytes_stay name kind bytes table new is = value_stays (named_block name) name.key kind (Some bytes) table new is
+
 text_stays : (name : SettingName) (kind : Kind) (text : List ℕ) (table new : TableLists) → put_text name kind text table ≡ Ok new → OthersStay (named_block name) name.key table new
 text_stays name kind text table new is = value_stays (named_block name) name.key kind (parsed kind text) table new is
 

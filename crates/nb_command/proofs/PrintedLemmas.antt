@@ -16,6 +16,8 @@ use Rattle.nb_command.specs.Echo.{echo_plan, unbroken_plan, echoed}
 use Rattle.nb_command.specs.Exit.{exit_plan}
 use Rattle.nb_command.specs.Ifopen.{ifopen_plan}
 use Rattle.nb_command.specs.Ifclose.{ifclose_plan}
+use Rattle.nb_command.specs.Dhcp.{dhcp_plan}
+use Rattle.nb_command.specs.Nslookup.{nslookup_plan}
 use Rattle.nb_command.specs.Inc.{inc_plan}
 use Rattle.nb_command.specs.Iseq.{iseq_plan}
 use Rattle.nb_command.specs.Isset.{isset_plan}
@@ -87,6 +89,19 @@ ifclose_short [] = omega arith
 ifclose_short (word ∷ []) = if_short (is_option word) _ _ tt (omega arith)
 ifclose_short (word ∷ second ∷ others) = tt
 
+dhcp_short : (args : List (List ℕ)) → IsShort (dhcp_plan args)
+unfolding dhcp_plan
+dhcp_short [] = omega arith
+dhcp_short (word ∷ []) = if_short (is_option word) _ _ tt (omega arith)
+dhcp_short (word ∷ second ∷ others) = tt
+
+nslookup_short : (args : List (List ℕ)) → IsShort (nslookup_plan args)
+unfolding nslookup_plan
+nslookup_short [] = tt
+nslookup_short (name ∷ []) = tt
+nslookup_short (name ∷ host ∷ []) = if_short (is_option name) _ _ tt (omega arith)
+nslookup_short (name ∷ host ∷ third ∷ others) = tt
+
 iseq_short : (args : List (List ℕ)) → IsShort (iseq_plan args)
 unfolding iseq_plan
 iseq_short [] = tt
@@ -127,6 +142,9 @@ named_short command.Imgfetch args few short = with_short _ (one_word args) (λ x
 named_short command.Imgexec args few short = with_short _ (one_word args) (λ x. omega arith)
 named_short command.Ifopen args few short = ifopen_short args
 named_short command.Ifclose args few short = ifclose_short args
+named_short command.Dhcp args few short = dhcp_short args
+named_short command.Ping args few short = with_short _ (one_word args) (λ x. omega arith)
+named_short command.Nslookup args few short = nslookup_short args
 named_short command.Sleep args few short = sleep_short args
 
 -- what a plan prints that is made of such words

@@ -23,6 +23,7 @@ use Rattle.nb_command.specs.Show.{setting_shown}
 use Rattle.nb_command.specs.Inc.{increased_table}
 use Rattle.nb_command.specs.Fetching.{fetch_job}
 use Rattle.nb_command.specs.Device.{device_change}
+use Rattle.nb_command.specs.Nslookup.{lookup_job}
 
 abbrev pub out_of_memory : Cause
 out_of_memory = apply_cause NoMemory
@@ -61,10 +62,13 @@ carried_out (plan.Set name value) s = with_table s (set_table name value s.table
 carried_out (plan.Clear name) s = with_table s (cleared_table name s.table)
 carried_out (plan.Show name) s = in_state s (text_outcome (setting_shown name s.table))
 carried_out (plan.Inc name by) s = with_table s (increased_table name by s.table)
-carried_out (plan.Fetch uri) s = in_state s (waits_for (fetch_job Keep uri))
-carried_out (plan.Exec uri) s = in_state s (waits_for (fetch_job Run uri))
+carried_out (plan.Fetch uri) s = in_state s (waits_for (fetch_job Keep s.table uri))
+carried_out (plan.Exec uri) s = in_state s (waits_for (fetch_job Run s.table uri))
 carried_out (plan.Ifopen device) s = with_up Done s (device_change device true)
 carried_out (plan.Ifclose device) s = with_up Down s (device_change device false)
+carried_out (plan.Dhcp device) s = with_up (Wait job.Lease) s (device_change device true)
+carried_out (plan.Ping host) s = Ok (Wait (job.Ping host), s)
+carried_out (plan.Nslookup name host) s = in_state s (waits_for (lookup_job name host s.table))
 carried_out (plan.Sleep seconds) s = Ok (Wait (job.Sleep seconds), s)
 
 -- the outcome and the state after it, or the cause of the refusal, which leaves the state as it was

@@ -6,7 +6,7 @@ use Rattle.nb_command.specs.declared.command_name.CommandName.TheVariants.{Echo,
 use Rattle.nb_command.specs.declared.command_name.CommandName.TheVariants.{Isset, Iseq, Set}
 use Rattle.nb_command.specs.declared.command_name.CommandName.TheVariants.{Clear, Show, Inc}
 use Rattle.nb_command.specs.declared.command_name.CommandName.TheVariants.{Imgfetch, Imgexec, Sleep}
-use Rattle.nb_command.specs.declared.command_name.CommandName.TheVariants.{Ifopen, Ifclose}
+use Rattle.nb_command.specs.declared.command_name.CommandName.TheVariants.{Ifopen, Ifclose, Dhcp, Ping, Nslookup}
 
 abbrev pub command_text : CommandName → List ℕ
 command_text Echo = codes "echo"
@@ -22,11 +22,14 @@ command_text Imgfetch = codes "imgfetch"
 command_text Imgexec = codes "imgexec"
 command_text Ifopen = codes "ifopen"
 command_text Ifclose = codes "ifclose"
+command_text Dhcp = codes "dhcp"
+command_text Ping = codes "ping"
+command_text Nslookup = codes "nslookup"
 command_text Sleep = codes "sleep"
 
 abbrev pub all_commands : List CommandName
 all_commands =
-    Echo ∷ Goto ∷ Exit ∷ Isset ∷ Iseq ∷ Set ∷ Clear ∷ Show ∷ Inc ∷ Imgfetch ∷ Imgexec ∷ Ifopen ∷ Ifclose ∷ Sleep ∷ []
+    Echo ∷ Goto ∷ Exit ∷ Isset ∷ Iseq ∷ Set ∷ Clear ∷ Show ∷ Inc ∷ Imgfetch ∷ Imgexec ∷ Ifopen ∷ Ifclose ∷ Dhcp ∷ Ping ∷ Nslookup ∷ Sleep ∷ []
 
 -- the command of a name
 unfoldable pub command_named : List ℕ → Option CommandName

@@ -1,4 +1,4 @@
--- The causes with which commands fail, and what a refused change of the table means for a command.
+-- The causes with which commands fail, and what refusals of the table, of values and of URIs mean for a command.
 use Rattle.nb_terms.specs.declared.cause.Cause.{Cause}
 use Rattle.nb_terms.specs.declared.reason.Long.TheVariants as long
 use Rattle.nb_terms.specs.declared.reason.Many.TheVariants as many
@@ -9,10 +9,12 @@ use Rattle.nb_settings.specs.declared.error.SetError.{SetError}
 use Rattle.nb_settings.specs.declared.error.SetError.TheVariants as set_error
 use Rattle.nb_expand.specs.declared.error.ParseError.{ParseError}
 use Rattle.nb_expand.specs.declared.error.ParseError.TheVariants as parse_error
+use Rattle.nb_uri.specs.declared.target.UriError.{UriError}
+use Rattle.nb_uri.specs.declared.target.UriError.TheVariants as uri_error
 use Rattle.nb_command.specs.declared.error.ApplyError.{ApplyError}
 use Rattle.nb_command.specs.declared.error.ApplyError.TheVariants.{BadName, BadValue, False}
 use Rattle.nb_command.specs.declared.error.ApplyError.TheVariants.{LongValue, ManySettings}
-use Rattle.nb_command.specs.declared.error.ApplyError.TheVariants.{BadUri, LongPath, NoMemory}
+use Rattle.nb_command.specs.declared.error.ApplyError.TheVariants.{BadUri, NoScheme, LongPath, NoMemory}
 
 abbrev pub apply_cause : ApplyError → Cause
 apply_cause BadName = as_cause (reason.Plain plain.BadName)
@@ -21,6 +23,7 @@ apply_cause False = as_cause (reason.Plain plain.False)
 apply_cause LongValue = as_cause (reason.TooLong long.Value)
 apply_cause ManySettings = as_cause (reason.TooMany many.Settings)
 apply_cause BadUri = as_cause (reason.Plain plain.BadUri)
+apply_cause NoScheme = as_cause (reason.Plain plain.NoScheme)
 apply_cause LongPath = as_cause (reason.TooLong long.Path)
 apply_cause NoMemory = as_cause (reason.Plain plain.NoMemory)
 
@@ -33,3 +36,9 @@ set_failure set_error.NoMemory = NoMemory
 abbrev pub parse_failure : ParseError → ApplyError
 parse_failure parse_error.BadValue = BadValue
 parse_failure parse_error.NoMemory = NoMemory
+
+abbrev pub uri_failure : UriError → ApplyError
+uri_failure uri_error.BadUri = BadUri
+uri_failure uri_error.NoScheme = NoScheme
+uri_failure uri_error.TooLong = LongPath
+uri_failure uri_error.NoMemory = NoMemory

@@ -11,10 +11,16 @@ pub mod Set
 pub mod Clear
 pub mod Show
 pub mod Inc
+pub mod SettingAddresses
+pub mod Locating
 pub mod Fetching
 pub mod Device
 pub mod Ifopen
 pub mod Ifclose
+pub mod Dhcp
+pub mod Ping
+pub mod Addresses
+pub mod Nslookup
 pub mod Sleep
 pub mod Planning
 pub mod Applying

@@ -28,4 +28,7 @@ may_change (plan.Fetch uri) block key = false
 may_change (plan.Exec uri) block key = false
 may_change (plan.Ifopen device) block key = false
 may_change (plan.Ifclose device) block key = false
+may_change (plan.Dhcp device) block key = false
+may_change (plan.Ping host) block key = false
+may_change (plan.Nslookup name host) block key = false
 may_change (plan.Sleep seconds) block key = false

@@ -5,7 +5,7 @@ use Rattle.nb_command.specs.declared.command_name.CommandName.TheVariants.{Echo,
 use Rattle.nb_command.specs.declared.command_name.CommandName.TheVariants.{Isset, Iseq, Set}
 use Rattle.nb_command.specs.declared.command_name.CommandName.TheVariants.{Clear, Show, Inc}
 use Rattle.nb_command.specs.declared.command_name.CommandName.TheVariants.{Imgfetch, Imgexec, Sleep}
-use Rattle.nb_command.specs.declared.command_name.CommandName.TheVariants.{Ifopen, Ifclose}
+use Rattle.nb_command.specs.declared.command_name.CommandName.TheVariants.{Ifopen, Ifclose, Dhcp, Ping, Nslookup}
 use Rattle.nb_command.specs.declared.command_plan.CommandPlan.{CommandPlan}
 use Rattle.nb_command.specs.declared.error.PlanError.{PlanError}
 use Rattle.nb_command.specs.declared.error.PlanError.TheVariants.{Unknown}
@@ -22,6 +22,9 @@ use Rattle.nb_command.specs.Inc.{inc_plan}
 use Rattle.nb_command.specs.Fetching.{imgfetch_plan, imgexec_plan}
 use Rattle.nb_command.specs.Ifopen.{ifopen_plan}
 use Rattle.nb_command.specs.Ifclose.{ifclose_plan}
+use Rattle.nb_command.specs.Dhcp.{dhcp_plan}
+use Rattle.nb_command.specs.Ping.{ping_plan}
+use Rattle.nb_command.specs.Nslookup.{nslookup_plan}
 use Rattle.nb_command.specs.Sleep.{sleep_plan}
 
 abbrev pub plan_named : CommandName → List (List ℕ) → Result CommandPlan PlanError
@@ -38,6 +41,9 @@ plan_named Imgfetch args = imgfetch_plan args
 plan_named Imgexec args = imgexec_plan args
 plan_named Ifopen args = ifopen_plan args
 plan_named Ifclose args = ifclose_plan args
+plan_named Dhcp args = dhcp_plan args
+plan_named Ping args = ping_plan args
+plan_named Nslookup args = nslookup_plan args
 plan_named Sleep args = sleep_plan args
 
 abbrev pub plan_where : Option CommandName → List (List ℕ) → Result CommandPlan PlanError

@@ -21,6 +21,9 @@ most_printed (plan.Fetch uri) = 0
 most_printed (plan.Exec uri) = 0
 most_printed (plan.Ifopen device) = 0
 most_printed (plan.Ifclose device) = 0
+most_printed (plan.Dhcp device) = 0
+most_printed (plan.Ping host) = 0
+most_printed (plan.Nslookup name host) = 0
 most_printed (plan.Sleep seconds) = 0
 
 -- a fact on the text that is printed, where a command prints

@@ -6,6 +6,7 @@ ghost use Rattle.nb_command.specs.Applying.{out_of_memory, truth, carried_out, a
 ghost use Rattle.nb_command.specs.Others.{may_change};
 ghost use Rattle.nb_command.specs.Printed.{most_printed, IfText};
 ghost use Rattle.nb_command.specs.declared.error.ApplyError.TheVariants as failure;
+ghost use Rattle.nb_command.specs.declared.outcome.Job.TheVariants as job;
 ghost use Rattle.nb_command.specs.declared.outcome.Outcome.TheVariants as outcome;
 
 use crate::clear::clear_setting;
@@ -16,6 +17,8 @@ use crate::error::ApplyError;
 use crate::fetching::fetch_job;
 use crate::inc::inc_setting;
 use crate::isset::is_word_set;
+use crate::nslookup::lookup_job;
+use crate::ping::ping_job;
 use crate::set::set_setting;
 use crate::show::show_setting;
 use crate::{After, CommandPlan, Job, Outcome, State};
@@ -66,10 +69,15 @@ fn carry_out(alloc: Global, p: &CommandPlan, s: &mut State) -> Result<Outcome, A
         CommandPlan::Clear(name) => done(clear_setting(name, table)),
         CommandPlan::Show(name) => Ok(Outcome::Text(show_setting(alloc, name, table)?)),
         CommandPlan::Inc { name, by } => done(inc_setting(alloc, name, *by, table)),
-        CommandPlan::Fetch { uri } => Ok(Outcome::Wait(fetch_job(alloc, uri, After::Keep)?)),
-        CommandPlan::Exec { uri } => Ok(Outcome::Wait(fetch_job(alloc, uri, After::Run)?)),
+        CommandPlan::Fetch { uri } => Ok(Outcome::Wait(fetch_job(alloc, uri, After::Keep, table)?)),
+        CommandPlan::Exec { uri } => Ok(Outcome::Wait(fetch_job(alloc, uri, After::Run, table)?)),
         CommandPlan::Ifopen(device) => done(set_device(device, true, &mut s.up)),
         CommandPlan::Ifclose(device) => down(set_device(device, false, &mut s.up)),
+        CommandPlan::Dhcp(device) => leasing(set_device(device, true, &mut s.up)),
+        CommandPlan::Ping { host } => Ok(Outcome::Wait(ping_job(alloc, host)?)),
+        CommandPlan::Nslookup { name, host } => {
+            Ok(Outcome::Wait(lookup_job(alloc, name, host, table)?))
+        }
         CommandPlan::Sleep(seconds) => Ok(Outcome::Wait(Job::Sleep(*seconds))),
     }
 }
@@ -99,4 +107,12 @@ fn down(change: Result<(), ApplyError>) -> Result<Outcome, ApplyError>
 {
     change?;
     Ok(Outcome::Down)
+}
+
+/// The same for a device that was set up and is to get a lease.
+fn leasing(change: Result<(), ApplyError>) -> Result<Outcome, ApplyError>
+    ensures { result ≡ result_map_both (λ _. outcome.Wait job.Lease) (λ why. why) change }
+{
+    change?;
+    Ok(Outcome::Wait(Job::Lease))
 }

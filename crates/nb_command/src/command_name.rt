@@ -19,10 +19,13 @@ pub enum CommandName {
     Imgexec,
     Ifopen,
     Ifclose,
+    Dhcp,
+    Ping,
+    Nslookup,
     Sleep,
 }
 
-const COMMANDS: [CommandName; 14] = [
+const COMMANDS: [CommandName; 17] = [
     CommandName::Echo,
     CommandName::Goto,
     CommandName::Exit,
@@ -36,6 +39,9 @@ const COMMANDS: [CommandName; 14] = [
     CommandName::Imgexec,
     CommandName::Ifopen,
     CommandName::Ifclose,
+    CommandName::Dhcp,
+    CommandName::Ping,
+    CommandName::Nslookup,
     CommandName::Sleep,
 ];
 
@@ -58,6 +64,9 @@ impl CommandName {
             CommandName::Imgexec => b"imgexec",
             CommandName::Ifopen => b"ifopen",
             CommandName::Ifclose => b"ifclose",
+            CommandName::Dhcp => b"dhcp",
+            CommandName::Ping => b"ping",
+            CommandName::Nslookup => b"nslookup",
             CommandName::Sleep => b"sleep",
         }
     }

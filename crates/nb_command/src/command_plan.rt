@@ -29,6 +29,12 @@ pub enum CommandPlan {
     Ifopen(Option<Word>),
     /// Sets a device down, and closes what is open there; net0 where none is named.
     Ifclose(Option<Word>),
+    /// Sets a device up and gets a lease for it; net0 where none is named.
+    Dhcp(Option<Word>),
+    /// Waits for an echo from a host.
+    Ping { host: Word },
+    /// Looks a host up, and sets a setting to its address.
+    Nslookup { name: Word, host: Word },
     /// Waits, in seconds.
     Sleep(u32),
 }

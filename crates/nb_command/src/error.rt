@@ -1,11 +1,12 @@
 ghost use Rattle.std.specs.Prelude.{◌≡◌};
-ghost use Rattle.nb_command.specs.Failures.{apply_cause, set_failure, parse_failure};
+ghost use Rattle.nb_command.specs.Failures.{apply_cause, set_failure, parse_failure, uri_failure};
 ghost use Rattle.nb_command.specs.declared.error.ApplyError.TheVariants as failure;
 ghost use Rattle.nb_command.specs.declared.error.PlanError.TheVariants as plan_error;
 
 use nb_expand::ParseError;
 use nb_settings::SetError;
 use nb_terms::{Cause, Long, Many, NoMemory, Plain, Reason};
+use nb_uri::UriError;
 use std::alloc::{AllocError, AllocFailed};
 
 /// Why words are no plan.
@@ -40,16 +41,19 @@ pub enum ApplyError {
     LongValue,
     /// The block has 128 settings.
     ManySettings,
-    /// The URI isn't one that is fetched.
+    /// The URI is none, or has no host.
     BadUri,
-    /// The path or the image's name is too long.
+    /// Files of its scheme aren't fetched.
+    NoScheme,
+    /// The path, the image's name or the URI is too long.
     LongPath,
     /// Memory ran out.
     NoMemory,
 }
 
 impl ApplyError {
-    pub(crate) fn cause(self) -> Cause
+    /// The cause with which a command fails that is refused so.
+    pub fn cause(self) -> Cause
         ensures { result ≡ apply_cause self }
     {
         match self {
@@ -59,6 +63,7 @@ impl ApplyError {
             ApplyError::LongValue => Cause::from(Reason::TooLong(Long::Value)),
             ApplyError::ManySettings => Cause::from(Reason::TooMany(Many::Settings)),
             ApplyError::BadUri => Plain::BadUri.cause(),
+            ApplyError::NoScheme => Plain::NoScheme.cause(),
             ApplyError::LongPath => Cause::from(Reason::TooLong(Long::Path)),
             ApplyError::NoMemory => Plain::NoMemory.cause(),
         }
@@ -101,6 +106,19 @@ impl From<ParseError> for ApplyError {
         match why {
             ParseError::BadValue => ApplyError::BadValue,
             ParseError::NoMemory => ApplyError::NoMemory,
+        }
+    }
+}
+
+impl From<UriError> for ApplyError {
+    ghost from_gives = { λ why e. e ≡ uri_failure why };
+
+    fn from(why: UriError) -> ApplyError {
+        match why {
+            UriError::BadUri => ApplyError::BadUri,
+            UriError::NoScheme => ApplyError::NoScheme,
+            UriError::TooLong => ApplyError::LongPath,
+            UriError::NoMemory => ApplyError::NoMemory,
         }
     }
 }

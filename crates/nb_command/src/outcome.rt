@@ -27,6 +27,17 @@ pub enum Job {
         name: Text,
         after: After,
     },
+    /// A lease for the device net0, which is up.
+    Lease,
+    /// An echo from a host, a name or an address.
+    Ping {
+        host: Text,
+    },
+    /// The address of a host, and which setting it becomes the value of.
+    Lookup {
+        name: Text,
+        host: Text,
+    },
     /// Time, in seconds.
     Sleep(u32),
 }

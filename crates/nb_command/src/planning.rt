@@ -5,6 +5,7 @@ ghost use Rattle.nb_command.specs.Printed.{most_printed};
 
 use crate::clear::plan_clear;
 use crate::command_name::CommandName;
+use crate::dhcp::plan_dhcp;
 use crate::echo::plan_echo;
 use crate::exit::plan_exit;
 use crate::fetching::{plan_imgexec, plan_imgfetch};
@@ -14,6 +15,8 @@ use crate::ifopen::plan_ifopen;
 use crate::inc::plan_inc;
 use crate::iseq::plan_iseq;
 use crate::isset::plan_isset;
+use crate::nslookup::plan_nslookup;
+use crate::ping::plan_ping;
 use crate::set::plan_set;
 use crate::show::plan_show;
 use crate::sleep::plan_sleep;
@@ -59,6 +62,9 @@ fn plan_named(alloc: Global, command: CommandName, args: &[Word]) -> Result<Comm
         CommandName::Imgexec => plan_imgexec(alloc, args),
         CommandName::Ifopen => plan_ifopen(alloc, args),
         CommandName::Ifclose => plan_ifclose(alloc, args),
+        CommandName::Dhcp => plan_dhcp(alloc, args),
+        CommandName::Ping => plan_ping(alloc, args),
+        CommandName::Nslookup => plan_nslookup(alloc, args),
         CommandName::Sleep => plan_sleep(args),
     }
 }

@@ -1,9 +1,9 @@
 //! The setting that a name means, and a value put into it.
 
-ghost use Rattle.std.specs.Prelude.{◌≡◌, ◌⊎◌, Ok, Err, OnOk, OnErr, IfErr};
+ghost use Rattle.std.specs.Prelude.{◌≡◌, ◌⊎◌, Ok, Err, Some, OnOk, OnErr, IfErr};
 ghost use Rattle.nb_settings.specs.Names.{name_of};
 ghost use Rattle.nb_settings.specs.Tables.{has_block};
-ghost use Rattle.nb_command.specs.Settings.{named_block, put_text};
+ghost use Rattle.nb_command.specs.Settings.{named_block, put_text, put_value};
 ghost use Rattle.nb_command.specs.declared.error.ApplyError.TheVariants as failure;
 
 use crate::error::ApplyError;
@@ -42,6 +42,24 @@ pub(crate) fn put_text(
     ensures refused { OnErr result (table.new ≡ table.old) }
 {
     let bytes = parse(alloc, kind, text)?;
-    table.put(alloc, block_of(name), &name.key, kind, bytes.as_slice())?;
+    put_bytes(alloc, name, kind, bytes.as_slice(), table)
+}
+
+/// Puts a value of a kind.
+pub(crate) fn put_bytes(
+    alloc: Global,
+    name: &Name<'_>,
+    kind: Kind,
+    bytes: &[u8],
+    table: &mut Table,
+) -> Result<(), ApplyError>
+    ensures ok { OnOk result (put_value (named_block (name_of name.now)) (name_of name.now).key kind
+        (Some bytes.now) table.old ≡ Ok table.new) }
+    ensures cause { IfErr result (λ why. (why ≡ failure.NoMemory)
+        ⊎ (put_value (named_block (name_of name.now)) (name_of name.now).key kind
+        (Some bytes.now) table.old ≡ Err why)) }
+    ensures refused { OnErr result (table.new ≡ table.old) }
+{
+    table.put(alloc, block_of(name), &name.key, kind, bytes)?;
     Ok(())
 }

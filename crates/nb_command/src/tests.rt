@@ -1,12 +1,14 @@
 //! Commands one after another, their words expanded, on a table with the `mac` of `net0`.
 
-use crate::{After, Job, Outcome, PlanError, State, apply, plan};
+use crate::{
+    After, ApplyError, Job, Outcome, PlanError, State, apply, plan, put_address, refuses_address,
+};
 use nb_expand::expand;
 use nb_image::Images;
 use nb_settings::{Key, Kind, Table};
 use nb_terms::{Cause, Long, Many, Plain, Reason};
 use nb_uri::UriTarget;
-use nb_wire::Word;
+use nb_wire::{Ip4, Word};
 use std::alloc::Global;
 use std::test::Fail;
 
@@ -19,6 +21,9 @@ enum Expected<'a> {
     Leaves(u8),
     Sleeps(u32),
     Closes,
+    Leases,
+    Pings(&'a [u8]),
+    LooksUp(&'a [u8], &'a [u8]),
     Fetches(&'a [u8], &'a [u8], &'a [u8], After),
     Unplanned(PlanError),
     Refused(Reason),
@@ -36,6 +41,8 @@ const BAD_VALUE: Expected<'static> = Expected::Refused(Reason::Plain(Plain::BadV
 
 const BAD_URI: Expected<'static> = Expected::Refused(Reason::Plain(Plain::BadUri));
 
+const NO_SCHEME: Expected<'static> = Expected::Refused(Reason::Plain(Plain::NoScheme));
+
 impl Expected<'_> {
     fn is(&self, answer: &Result<Outcome, Cause>) -> bool {
         match (*self, answer) {
@@ -45,8 +52,21 @@ impl Expected<'_> {
             (Expected::Leaves(number), Ok(Outcome::Leave(n))) => *n == number,
             (Expected::Sleeps(number), Ok(Outcome::Wait(Job::Sleep(n)))) => *n == number,
             (Expected::Closes, Ok(Outcome::Down)) => true,
+            (Expected::Leases, Ok(Outcome::Wait(Job::Lease))) => true,
+            (Expected::Pings(text), Ok(Outcome::Wait(Job::Ping { host }))) => host.as_slice()
+                == text,
+            (Expected::LooksUp(..), Ok(Outcome::Wait(job))) => self.is_lookup(job),
             (Expected::Refused(reason), Err(cause)) => *cause == Cause::from(reason),
             (Expected::Fetches(..), Ok(Outcome::Wait(job))) => self.is_fetch(job),
+            _ => false,
+        }
+    }
+
+    fn is_lookup(&self, job: &Job) -> bool {
+        match (*self, job) {
+            (Expected::LooksUp(text, asked), Job::Lookup { name, host }) => {
+                name.as_slice() == text && host.as_slice() == asked
+            }
             _ => false,
         }
     }
@@ -117,7 +137,7 @@ fn comes_to(
 fn commands_that_only_answer(rt: HostRuntime) -> Result<(), Fail> {
     let alloc = rt.alloc();
     let mut state = state(alloc)?;
-    let rows: [(&[u8], Expected<'_>); 62] = [
+    let rows: [(&[u8], Expected<'_>); 40] = [
         (b"echo", Expected::Prints(b"\n")),
         (b"echo a b", Expected::Prints(b"a b\n")),
         (b"echo a  b", Expected::Prints(b"a  b\n")),
@@ -158,6 +178,22 @@ fn commands_that_only_answer(rt: HostRuntime) -> Result<(), Fail> {
         (b"sleep 4000001", USAGE),
         (b"sleep", USAGE),
         (b"sleep 1 1", USAGE),
+    ];
+    for (line, expected) in rows {
+        assert!(rt;
+            comes_to(alloc, &mut state, line, expected)?,
+            "{line:?} {expected:?}"
+        );
+    }
+    assert!(rt; plan(alloc, &[]).is_err());
+    Ok(())
+}
+
+#[test]
+fn commands_that_wait_or_are_refused(rt: HostRuntime) -> Result<(), Fail> {
+    let alloc = rt.alloc();
+    let mut state = state(alloc)?;
+    let rows: [(&[u8], Expected<'_>); 35] = [
         (
             b"imgfetch tftp://10.0.0.1/a/k",
             Expected::Fetches(b"10.0.0.1", b"a/k", b"k", After::Keep),
@@ -167,11 +203,27 @@ fn commands_that_only_answer(rt: HostRuntime) -> Result<(), Fail> {
             Expected::Fetches(b"10.0.0.1", b"k", b"k", After::Run),
         ),
         (b"imgfetch k", BAD_URI),
-        (b"imgexec tftp://10.0.0.1/", BAD_URI),
+        (b"imgexec iscsi:a", BAD_URI),
+        (b"imgexec http://10.0.0.1/k", NO_SCHEME),
         (b"imgfetch", USAGE),
         (b"imgfetch --name k tftp://10.0.0.1/k", USAGE),
         (b"imgexec", USAGE),
         (b"imgexec tftp://10.0.0.1/k a", USAGE),
+        (b"ping 10.0.0.1", Expected::Pings(b"10.0.0.1")),
+        (b"ping", USAGE),
+        (b"ping a b", USAGE),
+        (b"ping --timeout 9 a", USAGE),
+        (b"nslookup a b", Expected::LooksUp(b"a", b"b")),
+        (
+            b"nslookup net0/a:hex --b",
+            Expected::LooksUp(b"net0/a:hex", b"--b"),
+        ),
+        (b"nslookup a.b.c b", BAD_NAME),
+        (b"nslookup net9/a b", BAD_NAME),
+        (b"nslookup", USAGE),
+        (b"nslookup a", USAGE),
+        (b"nslookup a b c", USAGE),
+        (b"nslookup --a b", USAGE),
         (b"set", USAGE),
         (b"set --a b", USAGE),
         (b"clear", USAGE),
@@ -193,7 +245,6 @@ fn commands_that_only_answer(rt: HostRuntime) -> Result<(), Fail> {
             "{line:?} {expected:?}"
         );
     }
-    assert!(rt; plan(alloc, &[]).is_err());
     Ok(())
 }
 
@@ -202,7 +253,7 @@ fn commands_that_only_answer(rt: HostRuntime) -> Result<(), Fail> {
 fn settings_line_by_line(rt: HostRuntime) -> Result<(), Fail> {
     let alloc = rt.alloc();
     let mut state = state(alloc)?;
-    let rows: [(&[u8], Expected<'_>); 55] = [
+    let rows: [(&[u8], Expected<'_>); 60] = [
         (b"set a one two", Expected::Done),
         (b"show a", Expected::Prints(b"a = one two\n")),
         (b"set a", Expected::Done),
@@ -265,6 +316,14 @@ fn settings_line_by_line(rt: HostRuntime) -> Result<(), Fail> {
         (b"inc mac", Expected::Done),
         (b"set gateway 10.0.0.300", BAD_VALUE),
         (b"set gateway 10.0.0.1", Expected::Done),
+        (b"imgfetch a/k", BAD_URI),
+        (b"set next-server 10.0.0.2", Expected::Done),
+        (
+            b"imgfetch a/k",
+            Expected::Fetches(b"10.0.0.2", b"a/k", b"k", After::Keep),
+        ),
+        (b"set next-server 0.0.0.0", Expected::Done),
+        (b"imgexec a/k", BAD_URI),
         (b"show 3:hex", Expected::Prints(b"3:hex = 0a:00:00:01\n")),
         (b"set 2 a", Expected::Done),
     ];
@@ -332,11 +391,13 @@ fn limits(rt: HostRuntime) -> Result<(), Fail> {
     let mut path = Vec::from_slice(alloc, b"imgfetch tftp://10.0.0.1/a/")?;
     path.extend_from_slice(&[b'b'; 256])?;
     let many = Expected::Refused(Reason::TooMany(Many::Settings));
-    let rows: [(&[u8], Expected<'_>); 7] = [
+    let rows: [(&[u8], Expected<'_>); 9] = [
         (&long, Expected::Refused(Reason::TooLong(Long::Value))),
         (&path, Expected::Refused(Reason::TooLong(Long::Path))),
         (b"set a b", many),
         (b"inc a", many),
+        (b"nslookup a b", many),
+        (b"nslookup 1 b", Expected::LooksUp(b"1", b"b")),
         (b"inc 1 -1", Expected::Done),
         (b"show 1", Expected::Prints(b"1 = -1\n")),
         (b"set net0/a b", Expected::Done),
@@ -356,7 +417,7 @@ fn limits(rt: HostRuntime) -> Result<(), Fail> {
 fn the_device_goes_up_and_down(rt: HostRuntime) -> Result<(), Fail> {
     let alloc = rt.alloc();
     let mut state = state(alloc)?;
-    let rows: [(&[u8], Expected<'_>, bool); 11] = [
+    let rows: [(&[u8], Expected<'_>, bool); 17] = [
         (b"ifopen", Expected::Done, true),
         (b"ifclose", Expected::Closes, false),
         (b"ifopen net0", Expected::Done, true),
@@ -368,6 +429,12 @@ fn the_device_goes_up_and_down(rt: HostRuntime) -> Result<(), Fail> {
         (b"ifclose net0", Expected::Closes, false),
         (b"ifopen NET0", BAD_NAME, false),
         (b"ifopen --x", USAGE, false),
+        (b"dhcp net1", BAD_NAME, false),
+        (b"dhcp --x", USAGE, false),
+        (b"dhcp net0 net0", USAGE, false),
+        (b"dhcp", Expected::Leases, true),
+        (b"ifclose", Expected::Closes, false),
+        (b"dhcp net0", Expected::Leases, true),
     ];
     for (line, expected, up) in rows {
         assert!(rt;
@@ -375,6 +442,38 @@ fn the_device_goes_up_and_down(rt: HostRuntime) -> Result<(), Fail> {
             "{line:?} {expected:?}"
         );
         assert_eq!(rt; state.up, up, "{line:?}");
+    }
+    Ok(())
+}
+
+/// An address is put as `ipv4`, whatever kind the name says.
+#[test]
+fn addresses(rt: HostRuntime) -> Result<(), Fail> {
+    let alloc = rt.alloc();
+    let mut state = state(alloc)?;
+    let table = &mut state.table;
+    let refusals: [(&[u8], Option<ApplyError>); 4] = [
+        (b"x", None),
+        (b"net0/dns", None),
+        (b"a.b.c", Some(ApplyError::BadName)),
+        (b"net9/x", Some(ApplyError::BadName)),
+    ];
+    for (name, refusal) in refusals {
+        let put = put_address(alloc, name, Ip4(0x0a00_0001), table).err();
+        assert_eq!(rt; put, refusal, "{name:?}");
+        assert_eq!(rt; refuses_address(name, table), refusal, "{name:?}");
+    }
+    assert!(rt; put_address(alloc, b"x:hex", Ip4(0x0a00_0002), table).is_ok());
+    let rows: [(&[u8], Expected<'_>); 3] = [
+        (b"show x", Expected::Prints(b"x = 10.0.0.2\n")),
+        (b"show x:hex", Expected::Prints(b"x:hex = 0a:00:00:02\n")),
+        (b"show net0/dns", Expected::Prints(b"net0/dns = 10.0.0.1\n")),
+    ];
+    for (line, expected) in rows {
+        assert!(rt;
+            comes_to(alloc, &mut state, line, expected)?,
+            "{line:?} {expected:?}"
+        );
     }
     Ok(())
 }

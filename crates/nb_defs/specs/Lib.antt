@@ -3,3 +3,4 @@ pub mod Records
 pub mod ScriptText
 pub mod ScriptLines
 pub mod Commands
+pub mod Parts

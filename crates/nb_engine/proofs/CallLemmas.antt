@@ -20,12 +20,13 @@ use Rattle.nb_tftp.specs.Plain.{IsToServer}
 use Rattle.nb_tftp.specs.History.{Call, Entry, entry}
 use Rattle.nb_tftp.specs.Sentences.{Meets}
 use Rattle.nb_tftp.proofs.PlainLaws.{asks_plainly}
-use Rattle.nb_opens.specs.Graphs.{Graphs, GraphAt, bare, holding, passes as step_passes, goes_on, ends, grows_too_large, IsEntry, traced, without_graph, fetch_of, tftp_of}
+use Rattle.nb_opens.specs.Graphs.{Graphs, GraphAt, bare, holding, pair, passes as step_passes, goes_on, ends, grows_too_large, IsEntry, traced, without_graph}
 use Rattle.nb_opens.specs.PairEvents.{call_front, up_events, end_events, call_back, passed_events, late_events, large_front, large_back, freed_events}
 use Rattle.nb_opens.specs.Notices.{tells, or_else, first_close, sent_from, down_notices, up_notices, end_notices, call_notices, passed_on, closed_late, large_notices, freed_notices}
 use Rattle.nb_stack.specs.Client.{Client}
 use Rattle.nb_engine.specs.Opens.{acts_records}
-use Rattle.nb_engine.specs.Tellings.{Speaker, told_records}
+use Rattle.nb_engine.specs.declared.speaker.Speaker.{Speaker}
+use Rattle.nb_engine.specs.Tellings.{told_records}
 use Rattle.nb_engine.proofs.NoteLemmas.{first_close-append}
 use Rattle.nb_engine.proofs.TellingLemmas.{AreSendsOf, none, one, SpeaksFor, told-append, call_told, large_told, down_told, aside_messages, sent_messages, without-append, without_traced, without_aside}
 
@@ -73,7 +74,7 @@ meets_sends b start es call acts fits meets =
     plain_sends b acts.sends.items plain.few plain.sent
 
 -- the graph's records in front of others
-without_front : (es : List GraphEvent) (xs : List Out) → without_graph (traced es ++ xs) ≡ without_graph xs
+pub without_front : (es : List GraphEvent) (xs : List Out) → without_graph (traced es ++ xs) ≡ without_graph xs
 without_front es xs = without-append (traced es) xs ∙ ap (λ r. r ++ without_graph xs) (without_traced es)
 
 -- the records of a call without the graph's are those that the transfer asks
@@ -109,10 +110,10 @@ freed_others net who f t ns =
     ap without_graph (told-append net who ns (freed_notices f t)) ∙ without-append told (traced (freed_events f t)) ∙ ap (λ r. without_graph told ++ r) (without_traced (freed_events f t)) ∙ append-nil (without_graph told)
 
 -- behind STEP
-behind_step : (outs : List Out) (n k : ℕ) → Graphs outs (holding k) → Graphs (outs ++ (step n ∷ [])) (holding k)
-behind_step outs n k graphs = step_passes outs [] n k graphs tt
+behind_step : (outs : List Out) (n k f t : ℕ) → Graphs outs (holding k (pair f t)) → Graphs (outs ++ (step n ∷ [])) (holding k (pair f t))
+behind_step outs n k f t graphs = step_passes outs [] n k (pair f t) graphs tt
 
-joined : (outs xs : List Out) (n : ℕ) (q : GraphAt) → Graphs ((outs ++ (step n ∷ [])) ++ xs) q → Graphs (outs ++ (step n ∷ xs)) q
+pub joined : (outs xs : List Out) (n : ℕ) (q : GraphAt) → Graphs ((outs ++ (step n ∷ [])) ++ xs) q → Graphs (outs ++ (step n ∷ xs)) q
 joined outs xs n q graphs = subst (λ ys. Graphs ys q) (append_assoc outs (step n ∷ []) xs) graphs
 
 -- parts joined otherwise
@@ -128,43 +129,41 @@ join_nine a b c d e f g h i =
     ∙ ap (λ x. c ++ x) (append_assoc d (e ++ (f ++ g)) (h ++ i) ∙ ap (λ x. d ++ x) (append_assoc e (f ++ g) (h ++ i) ∙ ap (λ x. e ++ x) (append_assoc f g (h ++ i))))))
 
 -- a call after which the open goes on
-pub goes_order : (net : Client) (who : Speaker) (outs : List Out) (n k : ℕ) (p : Port) (by : Way) (rec : ℕ) (acts : Acts) → IsEntry (tftp_of k) p by → acts.over ≡ None → Graphs outs (holding k) →
-    Graphs (outs ++ (step n ∷ told_records net who (call_notices (fetch_of k) (tftp_of k) p by rec acts))) (holding k)
-goes_order net who outs n k p by rec acts enters over graphs =
-    let down = told_records net who (down_notices (tftp_of k) rec acts) in
-    let same : told_records net who (call_notices (fetch_of k) (tftp_of k) p by rec acts) ≡ traced (call_front p by) ++ (down ++ (traced (up_events (fetch_of k) acts.give) ++ traced (call_back p))) =
-    call_told net who (fetch_of k) (tftp_of k) p by rec acts
-    ∙ ap (λ o. traced (call_front p by) ++ (down ++ (traced (up_events (fetch_of k) acts.give) ++ (traced (end_events (fetch_of k) (tftp_of k) o) ++ traced (call_back p))))) over in
-    joined outs _ n (holding k) (rw same (goes_on (outs ++ (step n ∷ [])) down p by acts.give k (behind_step outs n k graphs) (outs, n, refl) enters (sent_messages net who (port_at (tftp_of k) 1) (downs_of rec acts))))
+pub goes_order : (net : Client) (who : Speaker) (outs : List Out) (n k f t : ℕ) (p : Port) (by : Way) (rec : ℕ) (acts : Acts) → IsEntry t p by → acts.over ≡ None → Graphs outs (holding k (pair f t)) →
+    Graphs (outs ++ (step n ∷ told_records net who (call_notices f t p by rec acts))) (holding k (pair f t))
+goes_order net who outs n k f t p by rec acts enters over graphs =
+    let down = told_records net who (down_notices t rec acts) in
+    let same : told_records net who (call_notices f t p by rec acts) ≡ traced (call_front p by) ++ (down ++ (traced (up_events f acts.give) ++ traced (call_back p))) =
+    call_told net who f t p by rec acts
+    ∙ ap (λ o. traced (call_front p by) ++ (down ++ (traced (up_events f acts.give) ++ (traced (end_events f t o) ++ traced (call_back p))))) over in
+    joined outs _ n (holding k (pair f t)) (rw same (goes_on (outs ++ (step n ∷ [])) down p by acts.give k f t (behind_step outs n k f t graphs) (outs, n, refl) enters (sent_messages net who (port_at t 1) (downs_of rec acts))))
 
 -- the records of an end: of the call, of what is freed, and ENDED
-abbrev pub ending : Client → Speaker → ℕ → List Notice → Cause → List Out
-ending net who k ns c = told_records net who (ns ++ freed_notices (fetch_of k) (tftp_of k)) ++ (ended k c ∷ [])
+abbrev pub ending : Client → Speaker → (number fetch tftp : ℕ) → List Notice → Cause → List Out
+ending net who k f t ns c = told_records net who (ns ++ freed_notices f t) ++ (ended k c ∷ [])
 
 -- a call that ends it
-pub ends_order : (net : Client) (who : Speaker) (outs : List Out) (n k : ℕ) (p : Port) (by : Way) (rec : ℕ) (acts : Acts) (c : Cause) → IsEntry (tftp_of k) p by → acts.over ≡ Some c → Graphs outs (holding k) →
-    Graphs (outs ++ (step n ∷ ending net who k (call_notices (fetch_of k) (tftp_of k) p by rec acts) c)) (bare (k + 1))
-ends_order net who outs n k p by rec acts c enters over graphs =
-    let down = told_records net who (down_notices (tftp_of k) rec acts) in
-    let up = traced (up_events (fetch_of k) acts.give) in
-    let end = traced (end_events (fetch_of k) (tftp_of k) (Some c)) in
-    let freed = traced (freed_events (fetch_of k) (tftp_of k)) in
+pub ends_order : (net : Client) (who : Speaker) (outs : List Out) (n k f t : ℕ) (p : Port) (by : Way) (rec : ℕ) (acts : Acts) (c : Cause) → IsEntry t p by → acts.over ≡ Some c → Graphs outs (holding k (pair f t)) →
+    Graphs (outs ++ (step n ∷ ending net who k f t (call_notices f t p by rec acts) c)) (bare (k + 1) t)
+ends_order net who outs n k f t p by rec acts c enters over graphs =
+    let down = told_records net who (down_notices t rec acts) in
+    let up = traced (up_events f acts.give) in
+    let end = traced (end_events f t (Some c)) in
+    let freed = traced (freed_events f t) in
     let last : List Out = ended k c ∷ [] in
-    let ns = call_notices (fetch_of k) (tftp_of k) p by rec acts in
+    let ns = call_notices f t p by rec acts in
     let back = traced (call_back p) in
     let front = traced (call_front p by) in
-    let same : ending net who k ns c ≡ front ++ (down ++ (up ++ (end ++ (back ++ (freed ++ last))))) =
-    ap (λ x. x ++ last) (told-append net who ns (freed_notices (fetch_of k) (tftp_of k)) ∙ ap (λ x. x ++ freed) (call_told net who (fetch_of k) (tftp_of k) p by rec acts
-    ∙ ap (λ o. front ++ (down ++ (up ++ (traced (end_events (fetch_of k) (tftp_of k) o) ++ back)))) over)) ∙ join_seven front down up end back freed last in
-    subst (λ xs. Graphs (outs ++ (step n ∷ xs)) (bare (k + 1))) (sym same) (joined outs (front ++ (down ++ (up ++ (end ++ (back ++ (freed ++ last)))))) n (bare (k + 1))
-    (ends (outs ++ (step n ∷ [])) down p by acts.give c k (behind_step outs n k graphs) (outs, n, refl) enters (sent_messages net who (port_at (tftp_of k) 1) (downs_of rec acts))))
+    let same : ending net who k f t ns c ≡ front ++ (down ++ (up ++ (end ++ (back ++ (freed ++ last))))) =
+    ap (λ x. x ++ last) (told-append net who ns (freed_notices f t) ∙ ap (λ x. x ++ freed) (call_told net who f t p by rec acts
+    ∙ ap (λ o. front ++ (down ++ (up ++ (traced (end_events f t o) ++ back)))) over)) ∙ join_seven front down up end back freed last in
+    subst (λ xs. Graphs (outs ++ (step n ∷ xs)) (bare (k + 1) t)) (sym same) (joined outs (front ++ (down ++ (up ++ (end ++ (back ++ (freed ++ last)))))) n (bare (k + 1) t)
+    (ends (outs ++ (step n ∷ [])) down p by acts.give c k f t (behind_step outs n k f t graphs) (outs, n, refl) enters (sent_messages net who (port_at t 1) (downs_of rec acts))))
 
 -- and one that makes the body too large
-pub large_order : (net : Client) (who : Speaker) (outs : List Out) (n k : ℕ) (p : Port) (by : Way) (rec : ℕ) (acts : Acts) → IsEntry (tftp_of k) p by → Graphs outs (holding k) →
-    Graphs (outs ++ (step n ∷ ending net who k (large_notices (fetch_of k) (tftp_of k) p by rec acts) body_too_large)) (bare (k + 1))
-large_order net who outs n k p by rec acts enters graphs =
-    let f = fetch_of k in
-    let t = tftp_of k in
+pub large_order : (net : Client) (who : Speaker) (outs : List Out) (n k f t : ℕ) (p : Port) (by : Way) (rec : ℕ) (acts : Acts) → IsEntry t p by → Graphs outs (holding k (pair f t)) →
+    Graphs (outs ++ (step n ∷ ending net who k f t (large_notices f t p by rec acts) body_too_large)) (bare (k + 1) t)
+large_order net who outs n k f t p by rec acts enters graphs =
     let down = told_records net who (down_notices t rec acts) in
     let front = traced (large_front f t body_too_large) in
     let passed = traced (passed_events t body_too_large acts.over) in
@@ -175,7 +174,7 @@ large_order net who outs n k p by rec acts enters graphs =
     let last : List Out = ended k body_too_large ∷ [] in
     let enter = traced (call_front p by) in
     let ns = large_notices f t p by rec acts in
-    let same : ending net who k ns body_too_large ≡ enter ++ (down ++ (front ++ (passed ++ (back ++ (late ++ (leaves ++ (freed ++ last))))))) =
+    let same : ending net who k f t ns body_too_large ≡ enter ++ (down ++ (front ++ (passed ++ (back ++ (late ++ (leaves ++ (freed ++ last))))))) =
     ap (λ x. x ++ last) (told-append net who ns (freed_notices f t) ∙ ap (λ x. x ++ freed) (large_told net who f t p by rec acts)) ∙ join_nine enter down front passed back late leaves freed last in
-    subst (λ xs. Graphs (outs ++ (step n ∷ xs)) (bare (k + 1))) (sym same) (joined outs (enter ++ (down ++ (front ++ (passed ++ (back ++ (late ++ (leaves ++ (freed ++ last)))))))) n (bare (k + 1))
-    (grows_too_large (outs ++ (step n ∷ [])) down p by acts.over k (behind_step outs n k graphs) (outs, n, refl) enters (sent_messages net who (port_at t 1) (downs_of rec acts))))
+    subst (λ xs. Graphs (outs ++ (step n ∷ xs)) (bare (k + 1) t)) (sym same) (joined outs (enter ++ (down ++ (front ++ (passed ++ (back ++ (late ++ (leaves ++ (freed ++ last)))))))) n (bare (k + 1) t)
+    (grows_too_large (outs ++ (step n ∷ [])) down p by acts.over k f t (behind_step outs n k f t graphs) (outs, n, refl) enters (sent_messages net who (port_at t 1) (downs_of rec acts))))

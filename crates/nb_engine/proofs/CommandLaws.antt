@@ -1,7 +1,6 @@
 -- What commands come to, by their words before and after expansion, and what carrying them out does.
-use Rattle.std.proofs.Common.{◌≡◌, ℕ, ◌<◌, ◌==◌, Bool, true, false, cond, List, ◌∷◌, Option, Some, None, Result, Ok, Err, arith, refl, sym, ◌∙◌, ap, subst}
+use Rattle.std.proofs.Common.{◌≡◌, ℕ, ◌<◌, ◌==◌, ◌&&◌, Bool, true, false, cond, List, ◌∷◌, Option, Result, Ok, Err, arith, refl, sym, ◌∙◌, ap, subst, eq-eqb}
 use Rattle.std.specs.Result.{result_map_both}
-use Rattle.std.specs.Option.{option_map_or}
 use Rattle.std.proofs.lemmas.Bool.{eqb-false}
 use Rattle.std.specs.Str.{bytes_eq}
 use Rattle.nb_terms.specs.declared.cause.Cause.{Cause}
@@ -31,8 +30,10 @@ use Rattle.nb_stack.specs.declared.address.Addr.{Addr}
 use Rattle.nb_stack.specs.Client.{Client}
 use Rattle.nb_engine.specs.declared.world.World.{World}
 use Rattle.nb_engine.specs.World.{IsLinked, state_of, world_with}
-use Rattle.nb_uri.specs.Targets.{TftpTarget, tftp_target, is_too_long}
-use Rattle.nb_engine.specs.Effects.{Wanted, fetch, asked_for, bad_uri, too_long_uri, full_opens, Effect, says, asks, goes, sleeps, shuts_device, sleeping_for, device_effect, plan_effect, plan_table, plan_up, set_up, planned_effect, planned_table, planned_up, words_effect, words_table, words_up, expansion, expanded_effect, expanded_table, expanded_up, expand_cause, effect, table_after, up_after, shown_words, shown_by, shown_as, truth_outcome, text_told, change_outcome, changed, plan_cause}
+use Rattle.nb_engine.specs.Queries.{Query, for_lease}
+pub use Rattle.nb_engine.proofs.Eithers.{fetch_either}
+use Rattle.nb_engine.proofs.Eithers.{full_either, pinged_either, looked_up_either}
+use Rattle.nb_engine.specs.Effects.{fetch, Effect, says, asks, goes, sleeps, shuts_device, inquires, unless_full, sleeping_for, device_effect, plan_effect, plan_table, plan_up, set_up, planned_effect, planned_table, planned_up, words_effect, words_table, words_up, expansion, expanded_effect, expanded_table, expanded_up, expand_cause, effect, table_after, up_after, shown_words, shown_by, shown_as, truth_outcome, text_told, change_outcome, changed, plan_cause}
 use Rattle.nb_engine.specs.CommandWords.{IsLocal, IsLocalOutcome, outcome_effect, deed_effect}
 use Rattle.nb_engine.specs.declared.command.Deed.{Deed}
 use Rattle.nb_engine.specs.Running.{Running}
@@ -95,6 +96,7 @@ KeepsTable (asks wanted) table other = other ≡ table
 KeepsTable (goes name) table other = other ≡ table
 KeepsTable (sleeps seconds) table other = other ≡ table
 KeepsTable shuts_device table other = Unit {0}
+KeepsTable (inquires q) table other = Unit {0}
 
 keeps_same : (e : Effect) (table : TableLists) → KeepsTable e table table
 keeps_same (says o) table = tt
@@ -102,6 +104,7 @@ keeps_same (asks wanted) table = refl
 keeps_same (goes name) table = refl
 keeps_same (sleeps seconds) table = refl
 keeps_same shuts_device table = tt
+keeps_same (inquires q) table = tt
 
 keeps_plan : (opens : ℕ) (table : TableLists) (p : CommandPlan) → KeepsTable (plan_effect opens table p) table (plan_table p table)
 keeps_plan opens table (plan.Echo newline text) = tt
@@ -117,6 +120,10 @@ keeps_plan opens table (plan.Fetch uri) = keeps_same (plan_effect opens table (p
 keeps_plan opens table (plan.Exec uri) = keeps_same (plan_effect opens table (plan.Exec uri)) table
 keeps_plan opens table (plan.Ifopen device) = keeps_same (plan_effect opens table (plan.Ifopen device)) table
 keeps_plan opens table (plan.Ifclose device) = keeps_same (plan_effect opens table (plan.Ifclose device)) table
+keeps_plan opens table (plan.Dhcp device) = keeps_same (plan_effect opens table (plan.Dhcp device)) table
+keeps_plan opens table (plan.Ping text) = keeps_same (plan_effect opens table (plan.Ping text)) table
+keeps_plan opens table (plan.Nslookup setting text) =
+    looked_up_either (λ e. KeepsTable e table (plan_table (plan.Nslookup setting text) table)) (λ o. tt) (λ q. tt) opens table setting text
 keeps_plan opens table (plan.Sleep seconds) = keeps_same (plan_effect opens table (plan.Sleep seconds)) table
 
 keeps_planned : (opens : ℕ) (table : TableLists) (q : Result CommandPlan PlanError) → KeepsTable (planned_effect opens table q) table (planned_table table q)
@@ -143,6 +150,7 @@ KeepsUp (asks wanted) up other = other ≡ up
 KeepsUp (goes name) up other = other ≡ up
 KeepsUp (sleeps seconds) up other = other ≡ up
 KeepsUp shuts_device up other = Unit {0}
+KeepsUp (inquires q) up other = Unit {0}
 
 keeps_same_up : (e : Effect) (up : Bool) → KeepsUp e up up
 keeps_same_up (says o) up = tt
@@ -150,6 +158,7 @@ keeps_same_up (asks wanted) up = refl
 keeps_same_up (goes name) up = refl
 keeps_same_up (sleeps seconds) up = refl
 keeps_same_up shuts_device up = tt
+keeps_same_up (inquires q) up = tt
 
 device_keeps : (e : Effect) (r : Result Bool ApplyError) (up : Bool) → ((other : Bool) → KeepsUp e up other) → KeepsUp (device_effect e r) up (set_up up r)
 device_keeps e (Ok other) up k = k other
@@ -168,6 +177,10 @@ keeps_plan_up opens table up (plan.Inc name by) = keeps_same_up (plan_effect ope
 keeps_plan_up opens table up (plan.Fetch uri) = keeps_same_up (plan_effect opens table (plan.Fetch uri)) up
 keeps_plan_up opens table up (plan.Exec uri) = keeps_same_up (plan_effect opens table (plan.Exec uri)) up
 keeps_plan_up opens table up (plan.Sleep seconds) = keeps_same_up (plan_effect opens table (plan.Sleep seconds)) up
+keeps_plan_up opens table up (plan.Dhcp device) =
+    device_keeps (unless_full opens (inquires for_lease)) (device_change device true) up (λ other. full_either (λ e. KeepsUp e up other) (λ o. tt) opens (inquires for_lease) tt)
+keeps_plan_up opens table up (plan.Ping text) = keeps_same_up (plan_effect opens table (plan.Ping text)) up
+keeps_plan_up opens table up (plan.Nslookup setting text) = keeps_same_up (plan_effect opens table (plan.Nslookup setting text)) up
 keeps_plan_up opens table up (plan.Ifopen device) = device_keeps (says (refused ok)) (device_change device true) up (λ other. tt)
 keeps_plan_up opens table up (plan.Ifclose device) = device_keeps shuts_device (device_change device false) up (λ other. tt)
 
@@ -201,22 +214,9 @@ link_stays net address up a u =
 
 pub world_stays : (w : World) (table : TableLists) (up : Bool) → IsLinked w → table ≡ w.state.table → up ≡ w.state.up → world_with w table up ≡ w
 world_stays w table up linked e u =
-    rw (e, u) (ap (λ (net : Client). record { w = w.w; time = w.time; net = net; opens = w.opens; state = w.state }) (link_stays w.net _ w.state.up linked.address linked.up))
+    rw (e, u) (ap (λ (net : Client). record { w = w.w; machine = w.machine; time = w.time; net = net; opens = w.opens; state = w.state }) (link_stays w.net _ w.state.up linked.address linked.up))
 
 -- WHAT A FILE'S COMMAND AND A SLEEP COME TO
-
-either_of : (P : Effect → Type 0) (b : Bool) (e f : Effect) → P e → P f → P (cond b e f)
-either_of P true e f p q = p
-either_of P false e f p q = q
-
--- a command that fetches is refused, or asks for its file
-pub fetch_either : (P : Effect → Type 0) → ((o : CommandOutcome) → P (says o)) → ((wanted : Wanted) → P (asks wanted)) → (opens : ℕ) (boots : Bool) (uri : List ℕ) → P (fetch opens boots uri)
-fetch_either P said asked opens boots uri = by_target (tftp_target uri)
-  where
-    by_target : (o : Option TftpTarget) → P (option_map_or (asked_for opens boots uri) o (says (refused bad_uri)))
-    by_target None = said (refused bad_uri)
-    by_target (Some target) =
-        either_of P (is_too_long target) _ _ (said (refused too_long_uri)) (either_of P (opens == 16384) _ _ (said (refused full_opens)) (asked _))
 
 -- a fact of each effect that a command may have
 pub record Covers (P : Effect → Type 0) : Type 0 where
@@ -224,7 +224,8 @@ pub record Covers (P : Effect → Type 0) : Type 0 where
   pub of_goes : (name : List ℕ) → P (goes name)
   pub of_sleep : (seconds : ℕ) → P (sleeping_for seconds)
   pub of_shut : P shuts_device
-  pub of_fetch : (opens : ℕ) (boots : Bool) (uri : List ℕ) → P (fetch opens boots uri)
+  pub of_inquiry : (q : Query) → P (inquires q)
+  pub of_fetch : (opens : ℕ) (boots : Bool) (table : TableLists) (uri : List ℕ) → P (fetch opens boots table uri)
 
 device_covered : (P : Effect → Type 0) → Covers P → (e : Effect) → P e → (r : Result Bool ApplyError) → P (device_effect e r)
 device_covered P c e is (Ok up) = is
@@ -240,10 +241,14 @@ plan_covered P c opens table (plan.Set name value) = c.of_says _
 plan_covered P c opens table (plan.Clear name) = c.of_says _
 plan_covered P c opens table (plan.Show name) = c.of_says _
 plan_covered P c opens table (plan.Inc name by) = c.of_says _
-plan_covered P c opens table (plan.Fetch uri) = c.of_fetch opens false uri
-plan_covered P c opens table (plan.Exec uri) = c.of_fetch opens true uri
+plan_covered P c opens table (plan.Fetch uri) = c.of_fetch opens false table uri
+plan_covered P c opens table (plan.Exec uri) = c.of_fetch opens true table uri
 plan_covered P c opens table (plan.Ifopen device) = device_covered P c (says (refused ok)) (c.of_says _) (device_change device true)
 plan_covered P c opens table (plan.Ifclose device) = device_covered P c shuts_device c.of_shut (device_change device false)
+plan_covered P c opens table (plan.Dhcp device) =
+    device_covered P c (unless_full opens (inquires for_lease)) (full_either P c.of_says opens (inquires for_lease) (c.of_inquiry for_lease)) (device_change device true)
+plan_covered P c opens table (plan.Ping text) = pinged_either P c.of_says c.of_inquiry opens table text
+plan_covered P c opens table (plan.Nslookup setting text) = looked_up_either P c.of_says c.of_inquiry opens table setting text
 plan_covered P c opens table (plan.Sleep seconds) = c.of_sleep seconds
 
 planned_covered : (P : Effect → Type 0) → Covers P → (opens : ℕ) (table : TableLists) (q : Result CommandPlan PlanError) → P (planned_effect opens table q)
@@ -268,6 +273,7 @@ IsRested (says o) = Unit {0}
 IsRested (asks wanted) = Unit {0}
 IsRested (goes name) = Unit {0}
 IsRested shuts_device = Unit {0}
+IsRested (inquires q) = Unit {0}
 
 rested_for : (seconds : ℕ) (b : Bool) → (seconds == 0) ≡ b → IsRested (cond b (says (refused ok)) (sleeps seconds))
 rested_for seconds true is = tt
@@ -278,13 +284,18 @@ all_rested = record {
   of_says = λ o. tt;
   of_goes = λ name. tt;
   of_shut = tt;
+  of_inquiry = λ q. tt;
   of_sleep = λ seconds. rested_for seconds (seconds == 0) refl;
-  of_fetch = λ opens boots uri. fetch_either IsRested (λ o. tt) (λ wanted. tt) opens boots uri;
+  of_fetch = λ opens boots table uri. fetch_either IsRested (λ o. tt) (λ wanted. tt) (λ q. tt) opens boots table uri;
 }
 
 -- a command that sleeps does so for some time
 pub sleeps_some : (opens : ℕ) (table : TableLists) (ws : List (List ℕ)) (seconds : ℕ) → effect opens table ws ≡ sleeps seconds → 0 < seconds
 sleeps_some opens table ws seconds is = subst IsRested is (effect_covered IsRested all_rested opens table ws)
+
+-- two causes that are the same are found so
+pub found_same : (x y : Cause) → x ≡ y → ((x.code == y.code) && ((x.a == y.a) && (x.b == y.b))) ≡ true
+found_same x y e = rw (e, eq-eqb y.code y.code refl, eq-eqb y.a y.a refl, eq-eqb y.b y.b refl) refl
 
 -- WHAT CARRYING A COMMAND OUT DOES
 
@@ -294,12 +305,12 @@ pub record IsCarriedOut (p : CommandPlan) (o : Outcome) (s s' : State) : Type 0 
   pub is_local : IsLocalOutcome o
 
 -- an answer with an outcome and a state
-same_outcome : (o o' : Outcome) (s s' : State) → ◌≡◌ {A = Result (Outcome × State) Cause} (Ok (o, s)) (Ok (o', s')) → (o ≡ o') × (s ≡ s')
+pub same_outcome : (o o' : Outcome) (s s' : State) → ◌≡◌ {A = Result (Outcome × State) Cause} (Ok (o, s)) (Ok (o', s')) → (o ≡ o') × (s ≡ s')
 same_outcome o o' s s' e =
     let same : (o, s) ≡ (o', s') = cc in
     (ap (λ (x : Outcome × State). x.0) same, ap (λ (x : Outcome × State). x.1) same)
 
-abbrev Answered : Result (Outcome × State) ApplyError → Result (Outcome × State) Cause
+abbrev pub Answered : Result (Outcome × State) ApplyError → Result (Outcome × State) Cause
 Answered answer = result_map_both (λ after. after) apply_cause answer
 
 -- a command that leaves the state as it was
@@ -365,6 +376,9 @@ carried_ok (plan.Ifclose device) o s s' here e = device_ok (plan.Ifclose device)
 carried_ok (plan.Sleep seconds) o s s' here e = keeps_state (plan.Sleep seconds) _ o s s' refl refl (λ opens. refl) tt e
 carried_ok (plan.Fetch uri) o s s' here e = absurd here
 carried_ok (plan.Exec uri) o s s' here e = absurd here
+carried_ok (plan.Dhcp device) o s s' here e = absurd here
+carried_ok (plan.Ping text) o s s' here e = absurd here
+carried_ok (plan.Nslookup setting text) o s s' here e = absurd here
 
 -- a command that is refused
 pub record IsRefusedSo (p : CommandPlan) (s : State) (cause : Cause) : Type 0 where
@@ -372,7 +386,7 @@ pub record IsRefusedSo (p : CommandPlan) (s : State) (cause : Cause) : Type 0 wh
   pub table_stays : plan_table p s.table ≡ s.table
   pub up_stays : plan_up p s.up ≡ s.up
 
-same_cause : (c c' : Cause) → ◌≡◌ {A = Result (Outcome × State) Cause} (Err c) (Err c') → c ≡ c'
+pub same_cause : (c c' : Cause) → ◌≡◌ {A = Result (Outcome × State) Cause} (Err c) (Err c') → c ≡ c'
 same_cause c c' e = cc
 
 fails_so : (p : CommandPlan) (s : State) (why : ApplyError) (cause : Cause) → plan_table p s.table ≡ s.table → plan_up p s.up ≡ s.up → ((opens : ℕ) → plan_effect opens s.table p ≡ says (refused (apply_cause why))) →
@@ -418,6 +432,9 @@ carried_err (plan.Ifclose device) s cause here e = device_err (plan.Ifclose devi
 carried_err (plan.Sleep seconds) s cause here e = never_fails (plan.Sleep seconds) _ s s cause e
 carried_err (plan.Fetch uri) s cause here e = absurd here
 carried_err (plan.Exec uri) s cause here e = absurd here
+carried_err (plan.Dhcp device) s cause here e = absurd here
+carried_err (plan.Ping text) s cause here e = absurd here
+carried_err (plan.Nslookup setting text) s cause here e = absurd here
 
 -- COMMANDS THAT BEGIN
 

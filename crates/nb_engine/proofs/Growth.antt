@@ -23,7 +23,8 @@ use Rattle.nb_engine.specs.Running.{Running, first_script, anew, with_result}
 use Rattle.nb_engine.specs.Machine.{Machine, at, ready, running, waiting, sleeping, yielded, left, stopped, Begins, runs, refuses, passes_by, brings, passes_time, switches_off, goes_on_by_frame, goes_on_by_tick, goes_off, sleeps_through_frame, sleeps_on, wakes, goes_off_asleep, reply_records, stopped_cause, status_of}
 use Rattle.nb_graph.specs.Whole.{Objects}
 use Rattle.nb_nodes.specs.declared.obj.Obj.{Obj}
-use Rattle.nb_opens.specs.Graphs.{Graphs, GraphAt, bare, holding, passes as step_passes, IsReply, without_graph, is_shut_down, traced, fetch_of, tftp_of}
+use Rattle.nb_opens.specs.declared.download.Download.{Download}
+use Rattle.nb_opens.specs.Graphs.{Graphs, GraphAt, bare, holding, prepared, Cast, pair, passes as step_passes, IsReply, without_graph, is_shut_down, traced}
 use Rattle.nb_opens.specs.PairEvents.{shut_events}
 use Rattle.nb_engine.specs.Seen.{Seen, seen, FitsAt, as_running, as_waiting, as_sleeping, as_left, as_stopped}
 use Rattle.nb_engine.specs.Heeding.{Heeds, Follows, Comes}
@@ -33,14 +34,14 @@ use Rattle.nb_engine.proofs.TellingLemmas.{without-append, without_traced, witho
 use Rattle.nb_engine.proofs.Sides.{aside_grows, aside_reply, keep}
 
 -- from a state to the next by a record
-begins_from : (m m0 m' : Machine) (r : In) (added : List Out) → m ≡ m0 → Begins m0 r added m' → Begins m r added m'
+pub begins_from : (m m0 m' : Machine) (r : In) (added : List Out) → m ≡ m0 → Begins m0 r added m' → Begins m r added m'
 begins_from m m0 m' r added e b = subst (λ x. Begins x r added m') (sym e) b
 
 -- a START whose text runs
 pub start_grows : {old new : Logged} (n : ℕ) (w : World) (g : Objects Obj) (s : Start) (code : List Line) → w.opens ≡ 0 → IsIn (start s) → first_reading s.script ≡ script code → Puts old new (out_texts (step (n + 1) ∷ enter 1 ∷ [])) →
     Grows (start s ∷ []) (seen n w g stage.Ready) (seen (n + 1) (world_of s) g (stage.Running (first_script code))) old new
 start_grows n w g s code none valid reads p =
-    aside_grows _ _ _ (step (n + 1) ∷ enter 1 ∷ []) tt (tt, (tt, tt)) p (λ q f. keep stage.Ready (stage.Running (first_script code)) 0 tt tt q (subst (λ x. FitsAt stage.Ready x q) none f)) (λ m stands. record {
+    aside_grows _ _ _ (step (n + 1) ∷ enter 1 ∷ []) tt (tt, (tt, tt)) p (λ q f. keep stage.Ready (stage.Running (first_script code)) 0 g.book.made tt tt q (subst (λ x. FitsAt stage.Ready x g.book.made q) none f)) (λ m stands. record {
       machine = at (n + 1) (running (world_of s) (first_script code));
       steps = begins_from m (at n ready) _ (start s) _ (stands_at (seen n w g stage.Ready) m stands) (runs n s code valid reads);
       stands = as_running (n + 1) (world_of s) g (first_script code);
@@ -57,7 +58,7 @@ refusal_fails line_too_long cause e = let same : long_line ≡ cause = cc in ap 
 pub refusal_grows : {old new : Logged} (n : ℕ) (w : World) (g : Objects Obj) (s : Start) (cause : Cause) → IsIn (start s) → text_refusal (first_reading s.script) ≡ Some cause → Puts old new (out_texts (step (n + 1) ∷ enter 1 ∷ leave 1 cause ∷ [])) →
     Grows (start s ∷ []) (seen n w g stage.Ready) (seen (n + 1) w g (stage.Left cause)) old new
 refusal_grows n w g s cause valid other p =
-    aside_grows _ _ _ (step (n + 1) ∷ enter 1 ∷ leave 1 cause ∷ []) tt (tt, (tt, (tt, tt))) p (keep stage.Ready (stage.Left cause) w.opens tt tt) (λ m stands. record {
+    aside_grows _ _ _ (step (n + 1) ∷ enter 1 ∷ leave 1 cause ∷ []) tt (tt, (tt, (tt, tt))) p (keep stage.Ready (stage.Left cause) w.opens g.book.made tt tt) (λ m stands. record {
       machine = at (n + 1) (left cause);
       steps = begins_from m (at n ready) _ (start s) _ (stands_at (seen n w g stage.Ready) m stands) (refuses n s cause valid other);
       stands = as_left (n + 1) w g cause;
@@ -68,7 +69,7 @@ pub frame_anew_grows : {old new : Logged} (n : ℕ) (w : World) (g : Objects Obj
     Takes w.net bytes out [] reply net → Puts old new (out_texts (step (n + 1) ∷ reply_records reply)) →
     Grows (frame bytes ∷ []) (seen n w g (stage.Yielded s)) (seen (n + 1) (with_net w net) g (stage.Running (anew s))) old new
 frame_anew_grows n w g s bytes reply out net valid takes p =
-    aside_grows _ _ _ (step (n + 1) ∷ reply_records reply) tt (tt, aside_reply reply) p (keep (stage.Yielded s) (stage.Running (anew s)) w.opens tt tt) (λ m stands. record {
+    aside_grows _ _ _ (step (n + 1) ∷ reply_records reply) tt (tt, aside_reply reply) p (keep (stage.Yielded s) (stage.Running (anew s)) w.opens g.book.made tt tt) (λ m stands. record {
       machine = at (n + 1) (running (with_net w net) (anew s));
       steps = begins_from m (at n (yielded w s)) _ (frame bytes) _ (stands_at (seen n w g (stage.Yielded s)) m stands) (goes_on_by_frame n w s bytes reply out net valid takes);
       stands = as_running (n + 1) (with_net w net) g (anew s);
@@ -78,7 +79,7 @@ frame_anew_grows n w g s bytes reply out net valid takes p =
 pub tick_anew_grows : {old new : Logged} (n : ℕ) (w : World) (g : Objects Obj) (s : Running) (ms : ℕ) → IsIn (tick ms) → Puts old new (out_texts (step (n + 1) ∷ [])) →
     Grows (tick ms ∷ []) (seen n w g (stage.Yielded s)) (seen (n + 1) (world_later w ms) g (stage.Running (anew s))) old new
 tick_anew_grows n w g s ms valid p =
-    aside_grows _ _ _ (step (n + 1) ∷ []) tt (tt, tt) p (keep (stage.Yielded s) (stage.Running (anew s)) w.opens tt tt) (λ m stands. record {
+    aside_grows _ _ _ (step (n + 1) ∷ []) tt (tt, tt) p (keep (stage.Yielded s) (stage.Running (anew s)) w.opens g.book.made tt tt) (λ m stands. record {
       machine = at (n + 1) (running (world_later w ms) (anew s));
       steps = begins_from m (at n (yielded w s)) _ (tick ms) _ (stands_at (seen n w g (stage.Yielded s)) m stands) (goes_on_by_tick n w s ms valid);
       stands = as_running (n + 1) (world_later w ms) g (anew s);
@@ -88,7 +89,7 @@ tick_anew_grows n w g s ms valid p =
 pub off_anew_grows : {old new : Logged} (n : ℕ) (w : World) (g : Objects Obj) (s : Running) → Puts old new (out_texts (step (n + 1) ∷ [])) →
     Grows (off ∷ []) (seen n w g (stage.Yielded s)) (seen (n + 1) w g stage.Stopped) old new
 off_anew_grows n w g s p =
-    aside_grows _ _ _ (step (n + 1) ∷ []) tt (tt, tt) p (keep (stage.Yielded s) stage.Stopped w.opens tt tt) (λ m stands. record {
+    aside_grows _ _ _ (step (n + 1) ∷ []) tt (tt, tt) p (keep (stage.Yielded s) stage.Stopped w.opens g.book.made tt tt) (λ m stands. record {
       machine = at (n + 1) stopped;
       steps = begins_from m (at n (yielded w s)) _ off _ (stands_at (seen n w g (stage.Yielded s)) m stands) (goes_off n w s);
       stands = as_stopped (n + 1) w g;
@@ -99,7 +100,7 @@ pub frame_asleep_grows : {old new : Logged} (n : ℕ) (w : World) (g : Objects O
     Takes w.net bytes out [] reply net → Puts old new (out_texts (step (n + 1) ∷ reply_records reply)) →
     Grows (frame bytes ∷ []) (seen n w g (stage.Sleeping s until)) (seen (n + 1) (with_net w net) g (stage.Sleeping (anew s) until)) old new
 frame_asleep_grows n w g s until bytes reply out net valid takes p =
-    aside_grows _ _ _ (step (n + 1) ∷ reply_records reply) tt (tt, aside_reply reply) p (keep (stage.Sleeping s until) (stage.Sleeping (anew s) until) w.opens tt tt) (λ m stands. record {
+    aside_grows _ _ _ (step (n + 1) ∷ reply_records reply) tt (tt, aside_reply reply) p (keep (stage.Sleeping s until) (stage.Sleeping (anew s) until) w.opens g.book.made tt tt) (λ m stands. record {
       machine = at (n + 1) (sleeping (with_net w net) (anew s) until);
       steps = begins_from m (at n (sleeping w s until)) _ (frame bytes) _ (stands_at (seen n w g (stage.Sleeping s until)) m stands) (sleeps_through_frame n w s until bytes reply out net valid takes);
       stands = as_sleeping (n + 1) (with_net w net) g (anew s) until;
@@ -109,7 +110,7 @@ frame_asleep_grows n w g s until bytes reply out net valid takes p =
 pub sleep_on_grows : {old new : Logged} (n : ℕ) (w : World) (g : Objects Obj) (s : Running) (until ms : ℕ) → IsIn (tick ms) → w.time + ms < until → Puts old new (out_texts (step (n + 1) ∷ [])) →
     Grows (tick ms ∷ []) (seen n w g (stage.Sleeping s until)) (seen (n + 1) (world_later w ms) g (stage.Sleeping (anew s) until)) old new
 sleep_on_grows n w g s until ms valid early p =
-    aside_grows _ _ _ (step (n + 1) ∷ []) tt (tt, tt) p (keep (stage.Sleeping s until) (stage.Sleeping (anew s) until) w.opens tt tt) (λ m stands. record {
+    aside_grows _ _ _ (step (n + 1) ∷ []) tt (tt, tt) p (keep (stage.Sleeping s until) (stage.Sleeping (anew s) until) w.opens g.book.made tt tt) (λ m stands. record {
       machine = at (n + 1) (sleeping (world_later w ms) (anew s) until);
       steps = begins_from m (at n (sleeping w s until)) _ (tick ms) _ (stands_at (seen n w g (stage.Sleeping s until)) m stands) (sleeps_on n w s until ms valid early);
       stands = as_sleeping (n + 1) (world_later w ms) g (anew s) until;
@@ -119,7 +120,7 @@ sleep_on_grows n w g s until ms valid early p =
 pub wake_grows : {old new : Logged} (n : ℕ) (w : World) (g : Objects Obj) (s : Running) (until ms : ℕ) → IsIn (tick ms) → until ≤ w.time + ms → Puts old new (out_texts (step (n + 1) ∷ result ok ∷ [])) →
     Grows (tick ms ∷ []) (seen n w g (stage.Sleeping s until)) (seen (n + 1) (world_later w ms) g (stage.Running (with_result (anew s) ok))) old new
 wake_grows n w g s until ms valid late p =
-    aside_grows _ _ _ (step (n + 1) ∷ result ok ∷ []) tt (tt, (tt, tt)) p (keep (stage.Sleeping s until) (stage.Running (with_result (anew s) ok)) w.opens tt tt) (λ m stands. record {
+    aside_grows _ _ _ (step (n + 1) ∷ result ok ∷ []) tt (tt, (tt, tt)) p (keep (stage.Sleeping s until) (stage.Running (with_result (anew s) ok)) w.opens g.book.made tt tt) (λ m stands. record {
       machine = at (n + 1) (running (world_later w ms) (with_result (anew s) ok));
       steps = begins_from m (at n (sleeping w s until)) _ (tick ms) _ (stands_at (seen n w g (stage.Sleeping s until)) m stands) (wakes n w s until ms valid late);
       stands = as_running (n + 1) (world_later w ms) g (with_result (anew s) ok);
@@ -129,22 +130,23 @@ wake_grows n w g s until ms valid late p =
 pub off_asleep_grows : {old new : Logged} (n : ℕ) (w : World) (g : Objects Obj) (s : Running) (until : ℕ) → Puts old new (out_texts (step (n + 1) ∷ [])) →
     Grows (off ∷ []) (seen n w g (stage.Sleeping s until)) (seen (n + 1) w g stage.Stopped) old new
 off_asleep_grows n w g s until p =
-    aside_grows _ _ _ (step (n + 1) ∷ []) tt (tt, tt) p (keep (stage.Sleeping s until) stage.Stopped w.opens tt tt) (λ m stands. record {
+    aside_grows _ _ _ (step (n + 1) ∷ []) tt (tt, tt) p (keep (stage.Sleeping s until) stage.Stopped w.opens g.book.made tt tt) (λ m stands. record {
       machine = at (n + 1) stopped;
       steps = begins_from m (at n (sleeping w s until)) _ off _ (stands_at (seen n w g (stage.Sleeping s until)) m stands) (goes_off_asleep n w s until);
       stands = as_stopped (n + 1) w g;
     })
 
-reply_is : (reply : List ℕ) → IsReply (reply_records reply)
+pub reply_is : (reply : List ℕ) → IsReply (reply_records reply)
 reply_is [] = tt
 reply_is (b ∷ bytes) = tt
 
 -- a step without an entry
-pass_order : (n : ℕ) (s : Running) (f : Fetch) (opens : ℕ) (reply : List ℕ) (outs : List Out) (q : GraphAt) → Graphs outs q → FitsAt (stage.Waiting s f) opens q →
-    (p : GraphAt) × Graphs (outs ++ (step n ∷ reply_records reply)) p × FitsAt (stage.Waiting (anew s) f) opens p
-pass_order n s f opens reply outs (bare k) graphs fit = absurd fit
-pass_order n s f opens reply outs (holding k) graphs fit =
-    (holding k, step_passes outs (reply_records reply) n k graphs (reply_is reply), fit)
+pass_order : (n : ℕ) (s : Running) (f : Fetch) (opens made : ℕ) (reply : List ℕ) (outs : List Out) (q : GraphAt) → Graphs outs q → FitsAt (stage.Waiting s f) opens made q →
+    (p : GraphAt) × Graphs (outs ++ (step n ∷ reply_records reply)) p × FitsAt (stage.Waiting (anew s) f) opens made p
+pass_order n s f opens made reply outs (bare k m) graphs fit = absurd fit
+pass_order n s f opens made reply outs (prepared k m v) graphs fit = absurd fit
+pass_order n s f opens made reply outs (holding k cast) graphs fit =
+    (holding k cast, step_passes outs (reply_records reply) n k cast graphs (reply_is reply), fit)
 
 -- a frame that brings the open nothing
 pub pass_by_grows : {old new : Logged} (n : ℕ) (w : World) (g : Objects Obj) (s : Running) (f : Fetch) (bytes reply : List ℕ) (out : Outcome) (net : Client) → IsIn (frame bytes) →
@@ -162,13 +164,13 @@ pass_by_grows n w g s f bytes reply out net valid takes none p =
                 (passes_by n w s is.0 bytes reply out net valid takes (rw (← is.2.fetch.server) none));
             stands = as_waiting (n + 1) (with_net w net) g (anew s) f is.0 is.2;
           });
-      graphs = λ outs q graphs fit. pass_order (n + 1) s f w.opens reply outs q graphs fit;
+      graphs = λ outs q graphs fit. pass_order (n + 1) s f w.opens g.book.made reply outs q graphs fit;
     }
 
 -- a frame that brings it a datagram
 pub frame_grows : {old new : Logged} (n : ℕ) (w : World) (g : Objects Obj) (s : Running) (f : Fetch) (h : Objects Obj) (st : Stage) (after : Seen) (bytes reply : List ℕ) (out : Outcome) (net : Client) (port : ℕ) (body : List ℕ) →
     IsIn (frame bytes) → Takes w.net bytes out [] reply net → heard_from f.server out ≡ Some (port, body) →
-    ((q : GraphAt) → FitsAt (stage.Waiting s f) w.opens q → FitsAt st w.opens q) →
+    ((q : GraphAt) → FitsAt (stage.Waiting s f) w.opens g.book.made q → FitsAt st w.opens h.book.made q) →
     Follows (anew s) (Comes g (came (received (n + 1) port body) w.time) f) (seen (n + 1) (with_net w net) h st) after old new →
     Grows (frame bytes ∷ []) (seen n w g (stage.Waiting s f)) after old new
 frame_grows n w g s f h st after bytes reply out net port body valid takes heard same fo = record {
@@ -188,7 +190,7 @@ frame_grows n w g s f h st after bytes reply out net port body valid takes heard
 
 -- time passes
 pub tick_grows : {old new : Logged} (n : ℕ) (w : World) (g : Objects Obj) (s : Running) (f : Fetch) (h : Objects Obj) (st : Stage) (after : Seen) (ms : ℕ) → IsIn (tick ms) →
-    ((q : GraphAt) → FitsAt (stage.Waiting s f) w.opens q → FitsAt st w.opens q) →
+    ((q : GraphAt) → FitsAt (stage.Waiting s f) w.opens g.book.made q → FitsAt st w.opens h.book.made q) →
     Follows (anew s) (Comes g (ticked (w.time + ms)) f) (seen (n + 1) (world_later w ms) h st) after old new →
     Grows (tick ms ∷ []) (seen n w g (stage.Waiting s f)) after old new
 tick_grows n w g s f h st after ms valid same fo = record {
@@ -210,35 +212,39 @@ off_numbered : (n : ℕ) (w : World) (s : Running) (o : Open) (number : ℕ) →
 off_numbered n w s o number e = rw e (switches_off n w s o)
 
 -- the records of an open that is shut down, without the graph's
-pub without_shut : (k : ℕ) → without_graph (shut_records k) ≡ ended k stopped_cause ∷ []
-without_shut k = without-append (traced (shut_events (fetch_of k) (tftp_of k) stopped_cause)) (ended k stopped_cause ∷ [])
-    ∙ ap (λ r. r ++ (ended k stopped_cause ∷ [])) (without_traced (shut_events (fetch_of k) (tftp_of k) stopped_cause))
+pub without_shut : (k : ℕ) (d : Download) → without_graph (shut_records k d) ≡ ended k stopped_cause ∷ []
+without_shut k d = without-append (traced (shut_events d.fetch.0 d.tftp.0 stopped_cause)) (ended k stopped_cause ∷ [])
+    ∙ ap (λ r. r ++ (ended k stopped_cause ∷ [])) (without_traced (shut_events d.fetch.0 d.tftp.0 stopped_cause))
 
 -- behind STEP too they are in order
-shut_order : (outs : List Out) (n k : ℕ) → Graphs outs (holding k) → Graphs (outs ++ (step n ∷ shut_records k)) (bare (k + 1))
-shut_order outs n k graphs =
-    subst (λ xs. Graphs xs (bare (k + 1))) (append_assoc outs (step n ∷ []) (shut_records k)) (is_shut_down (outs ++ (step n ∷ [])) k (step_passes outs [] n k graphs tt))
+shut_order : (outs : List Out) (n k : ℕ) (d : Download) → Graphs outs (holding k (pair d.fetch.0 d.tftp.0)) → Graphs (outs ++ (step n ∷ shut_records k d)) (bare (k + 1) d.tftp.0)
+shut_order outs n k d graphs =
+    let cast : Cast = pair d.fetch.0 d.tftp.0 in
+    subst (λ xs. Graphs xs (bare (k + 1) d.tftp.0)) (append_assoc outs (step n ∷ []) (shut_records k d))
+    (is_shut_down (outs ++ (step n ∷ [])) k cast (step_passes outs [] n k cast graphs tt))
 
-off_order : (n : ℕ) (s : Running) (f : Fetch) (opens : ℕ) (outs : List Out) (q : GraphAt) → Graphs outs q → FitsAt (stage.Waiting s f) opens q →
-    (p : GraphAt) × Graphs (outs ++ (step n ∷ shut_records f.number)) p × FitsAt stage.Stopped opens p
-off_order n s f opens outs (bare k) graphs fit = absurd fit
-off_order n s f opens outs (holding k) graphs fit =
-    (bare (k + 1), rw fit.0 (shut_order outs n k graphs), fit.1)
+off_order : (n : ℕ) (s : Running) (f : Fetch) (opens made after : ℕ) (outs : List Out) (q : GraphAt) → after ≡ f.objects.tftp.0 → Graphs outs q → FitsAt (stage.Waiting s f) opens made q →
+    (p : GraphAt) × Graphs (outs ++ (step n ∷ shut_records f.number f.objects)) p × FitsAt stage.Stopped opens after p
+off_order n s f opens made after outs (bare k m) last graphs fit = absurd fit
+off_order n s f opens made after outs (prepared k m v) last graphs fit = absurd fit
+off_order n s f opens made after outs (holding k cast) last graphs fit =
+    let at_f : Graphs outs (holding k (pair f.objects.fetch.0 f.objects.tftp.0)) = subst (λ x. Graphs outs (holding k x)) fit.2 graphs in
+    (bare (k + 1) f.objects.tftp.0, rw fit.0 (shut_order outs n k f.objects at_f), (fit.1, last))
 
 -- the power is switched off
-pub off_grows : {old new : Logged} (n : ℕ) (w : World) (g h : Objects Obj) (s : Running) (f : Fetch) → Puts old new (out_texts (step (n + 1) ∷ shut_records f.number)) →
+pub off_grows : {old new : Logged} (n : ℕ) (w : World) (g h : Objects Obj) (s : Running) (f : Fetch) → h.book.made ≡ f.objects.tftp.0 → Puts old new (out_texts (step (n + 1) ∷ shut_records f.number f.objects)) →
     Grows (off ∷ []) (seen n w g (stage.Waiting s f)) (seen (n + 1) w h stage.Stopped) old new
-off_grows n w g h s f p = record {
-  added = step (n + 1) ∷ shut_records f.number;
+off_grows n w g h s f last p = record {
+  added = step (n + 1) ∷ shut_records f.number f.objects;
   puts = p;
   leads = λ m stands.
       let is = stands_at (seen n w g (stage.Waiting s f)) m stands in
       record {
         machine = at (n + 1) stopped;
-        steps = rw (without_shut f.number) (begins_from m (at n (waiting w s is.0)) _ off _ is.1 (off_numbered n w s is.0 f.number is.2.fetch.number));
+        steps = rw (without_shut f.number f.objects) (begins_from m (at n (waiting w s is.0)) _ off _ is.1 (off_numbered n w s is.0 f.number is.2.fetch.number));
         stands = as_stopped (n + 1) w h;
       };
-  graphs = λ outs q graphs fit. off_order (n + 1) s f w.opens outs q graphs fit;
+  graphs = λ outs q graphs fit. off_order (n + 1) s f w.opens g.book.made h.book.made outs q last graphs fit;
 }
 
 -- what follows from a datagram or a time, as a turn

@@ -7,7 +7,8 @@ use Rattle.nb_graph.specs.Whole.{Objects}
 use Rattle.nb_nodes.specs.declared.obj.Obj.{Obj}
 use Rattle.nb_tftp.specs.Asks.{Begun}
 use Rattle.nb_tftp.specs.History.{Call, Entry}
-use Rattle.nb_opens.specs.Graphs.{fetch_of, tftp_of, IsEntry}
+use Rattle.nb_opens.specs.declared.download.Download.{Download}
+use Rattle.nb_opens.specs.Graphs.{IsEntry}
 use Rattle.nb_opens.specs.Pairs.{Downloads, CallDoes, IsDownloading}
 use Rattle.nb_engine.specs.declared.fetch.Fetch.{Fetch}
 use Rattle.nb_engine.specs.Opens.{Open, body_of}
@@ -15,20 +16,20 @@ use Rattle.nb_engine.specs.Fetches.{IsLive}
 use Rattle.nb_engine.specs.Heeding.{HasHeard, WasCalled}
 
 -- what a call does to each transfer that may be under way
-abbrev pub DoesEach : Objects Obj → Objects Obj → ℕ → Port → Way → ℕ → Call → List Notice → Type 0
-DoesEach old new k p by rec call ns =
-    (b : Begun) (start : ℕ) (calls : List Entry) (body : List ℕ) → Downloads old (fetch_of k) (tftp_of k) b start calls body → CallDoes new (fetch_of k) (tftp_of k) b start calls body p by rec call ns
+abbrev pub DoesEach : Objects Obj → Objects Obj → Download → Port → Way → ℕ → Call → List Notice → Type 0
+DoesEach old new d p by rec call ns =
+    (b : Begun) (start : ℕ) (calls : List Entry) (body : List ℕ) → Downloads old d.fetch.0 d.tftp.0 b start calls body → CallDoes new d.fetch.0 d.tftp.0 b start calls body p by rec call ns
 
-pub heard_of : (g h : Objects Obj) (f : Fetch) (p : Port) (by : Way) (rec : ℕ) (call : Call) (ns : List Notice) (o : Open) → DoesEach g h f.number p by rec call ns → IsLive g f o → HasHeard h f p by rec ns o call
+pub heard_of : (g h : Objects Obj) (f : Fetch) (p : Port) (by : Way) (rec : ℕ) (call : Call) (ns : List Notice) (o : Open) → DoesEach g h f.objects p by rec call ns → IsLive g f o → HasHeard h f p by rec ns o call
 heard_of g h f p by rec call ns o does live = record {
   fetch = live.fetch;
   request = live.request;
   meets = live.downloads.meets;
-  does = (subst (λ k. DoesEach g h k p by rec call ns) live.fetch.number does) o.begun o.start o.entries (body_of o) live.downloads;
+  does = does o.begun o.start o.entries (body_of o) live.downloads;
 }
 
-pub called_of : (g h : Objects Obj) (k : ℕ) (p : Port) (by : Way) (rec : ℕ) (call : Call) (ns : List Notice) → IsEntry (tftp_of k) p by → DoesEach g h k p by rec call ns → IsDownloading g (fetch_of k) (tftp_of k) → WasCalled h k p by rec ns
-called_of g h k p by rec call ns enters does going = record {
+pub called_of : (g h : Objects Obj) (d : Download) (p : Port) (by : Way) (rec : ℕ) (call : Call) (ns : List Notice) → IsEntry d.tftp.0 p by → DoesEach g h d p by rec call ns → IsDownloading g d.fetch.0 d.tftp.0 → WasCalled h d p by rec ns
+called_of g h d p by rec call ns enters does going = record {
   begun = going.0;
   start = going.1;
   calls = going.2;

@@ -19,7 +19,8 @@ use Rattle.nb_tftp.specs.Asks.{Begun}
 use Rattle.nb_tftp.specs.History.{Call, Entry, entry, given_of}
 use Rattle.nb_tftp.specs.Sentences.{Meets}
 use Rattle.nb_tftp.proofs.HistoryLemmas.{given-append}
-use Rattle.nb_opens.specs.Graphs.{Graphs, GraphAt, bare, holding, aside, IsEntry, fetch_of, tftp_of, without_graph}
+use Rattle.nb_opens.specs.declared.download.Download.{Download}
+use Rattle.nb_opens.specs.Graphs.{Graphs, GraphAt, bare, holding, prepared, pair, aside, IsEntry, without_graph}
 use Rattle.nb_opens.specs.Notices.{first_close, freed_notices}
 use Rattle.nb_opens.specs.Pairs.{CallDoes, goes_on as call_goes_on, is_over as call_is_over, is_too_large as call_too_large, fails as call_fails, Downloads, HasEnded, IsEnded, body_at_end}
 use Rattle.nb_engine.specs.declared.world.World.{World}
@@ -60,7 +61,7 @@ same_fetch : (f : Fetch) (o : Open) (e : Entry) → IsFetchOf f o → IsFetchOf 
 same_fetch f o e is = record { number = is.number; server = is.server; own_port = is.own_port; name = is.name; uri = is.uri; boots = is.boots }
 
 speaks : (f : Fetch) (o : Open) → IsFetchOf f o → SpeaksFor (speaker_of f) o.begun
-speaks f o is = record { server = is.server; own_port = is.own_port }
+speaks f o is = record { carrier = refl; server = is.server; own_port = is.own_port }
 
 -- its body now
 body_now : (o : Open) (call : Call) (acts : Acts) → Meets o.begun o.start o.entries → Meets o.begun o.start (o.entries ++ entry call acts ∷ []) →
@@ -82,7 +83,7 @@ end_beyond body acts h = ap (λ b. cond b (Some too_large_image) acts.over) (bey
 
 -- the open goes on: for each open that the fetch may be of
 goes_by : (n : ℕ) (w : World) (s : Running) (g : Objects Obj) (f : Fetch) (p : Port) (by : Way) (rec : ℕ) (ns : List Notice) (o : Open) (call : Call) → IsFetchOf f o → length o.begun.request ≤ 1480 → Meets o.begun o.start o.entries →
-    CallDoes g (fetch_of o.number) (tftp_of o.number) o.begun o.start o.entries (body_of o) p by rec call ns → first_close ns ≡ None →
+    CallDoes g f.objects.fetch.0 f.objects.tftp.0 o.begun o.start o.entries (body_of o) p by rec call ns → first_close ns ≡ None →
     (phase : Phase) × Hears w s o call (without_graph (told_records w.net (speaker_of f) ns)) phase × StandsFor (seen n w g (stage.Waiting s f)) (at n phase)
 goes_by n w s g f p by rec ns o call is short before (call_goes_on acts meets over fits same downloads) none =
     let e = entry call acts in
@@ -91,43 +92,45 @@ goes_by n w s g f p by rec ns o call is short before (call_goes_on acts meets ov
     let ends : end_of (body_of o') acts ≡ None = end_within (body_of o') acts (subst (λ b. length b ≤ 268435456) body fits) ∙ over in
     let others : without_graph (told_records w.net (speaker_of f) ns) ≡ acts_records w.net o.number acts =
     ap (λ x. without_graph (told_records w.net (speaker_of f) x)) same
-    ∙ call_others w.net (speaker_of f) o.begun (fetch_of o.number) (tftp_of o.number) p by rec acts (speaks f o is) (meets_sends o.begun o.start o.entries call acts short meets)
+    ∙ call_others w.net (speaker_of f) o.begun f.objects.fetch.0 f.objects.tftp.0 p by rec acts (speaks f o is) (meets_sends o.begun o.start o.entries call acts short meets)
     ∙ ap (λ k. acts_records w.net k acts) is.number in
-    let live : IsLive g f o' = record { fetch = same_fetch f o e is; request = short; downloads = subst (Downloads g (fetch_of o.number) (tftp_of o.number) o.begun o.start (o.entries ++ e ∷ [])) body downloads } in
+    let live : IsLive g f o' = record { fetch = same_fetch f o e is; request = short; downloads = subst (Downloads g f.objects.fetch.0 f.objects.tftp.0 o.begun o.start (o.entries ++ e ∷ [])) body downloads } in
     (waiting w s o', rw others (goes_on w s o call acts meets ends), as_waiting n w g s f o' live)
 goes_by n w s g f p by rec ns o call is short before (call_is_over acts c meets over fits same ended_so) none =
-    absurd (let no : Some c ≡ None = sym over ∙ sym (call_closes (fetch_of o.number) (tftp_of o.number) p by rec acts) ∙ ap first_close (sym same) ∙ none in cc)
+    absurd (let no : Some c ≡ None = sym over ∙ sym (call_closes f.objects.fetch.0 f.objects.tftp.0 p by rec acts) ∙ ap first_close (sym same) ∙ none in cc)
 goes_by n w s g f p by rec ns o call is short before (call_too_large acts meets long same ended_so) none =
-    absurd (let no : Some body_too_large ≡ None = sym (large_closes (fetch_of o.number) (tftp_of o.number) p by rec acts) ∙ ap first_close (sym same) ∙ none in cc)
+    absurd (let no : Some body_too_large ≡ None = sym (large_closes f.objects.fetch.0 f.objects.tftp.0 p by rec acts) ∙ ap first_close (sym same) ∙ none in cc)
 goes_by n w s g f p by rec ns o call is short before (call_fails memory) none =
     absurd (let no : Some no_memory ≡ None = sym memory ∙ none in cc)
 
 -- its records are in the graph's order
-goes_order_by : (n : ℕ) (w : World) (g : Objects Obj) (f : Fetch) (k : ℕ) (b : Begun) (start : ℕ) (calls : List Entry) (body : List ℕ) (p : Port) (by : Way) (rec : ℕ) (call : Call) (ns : List Notice) (outs : List Out) →
-    IsEntry (tftp_of k) p by → CallDoes g (fetch_of k) (tftp_of k) b start calls body p by rec call ns → first_close ns ≡ None → Graphs outs (holding k) →
-    Graphs (outs ++ (step n ∷ told_records w.net (speaker_of f) ns)) (holding k)
-goes_order_by n w g f k b start calls body p by rec call ns outs enters (call_goes_on acts meets over fits same downloads) none graphs =
-    rw same (goes_order w.net (speaker_of f) outs n k p by rec acts enters over graphs)
-goes_order_by n w g f k b start calls body p by rec call ns outs enters (call_is_over acts c meets over fits same ended_so) none graphs =
-    absurd (let no : Some c ≡ None = sym over ∙ sym (call_closes (fetch_of k) (tftp_of k) p by rec acts) ∙ ap first_close (sym same) ∙ none in cc)
-goes_order_by n w g f k b start calls body p by rec call ns outs enters (call_too_large acts meets long same ended_so) none graphs =
-    absurd (let no : Some body_too_large ≡ None = sym (large_closes (fetch_of k) (tftp_of k) p by rec acts) ∙ ap first_close (sym same) ∙ none in cc)
-goes_order_by n w g f k b start calls body p by rec call ns outs enters (call_fails memory) none graphs =
+goes_order_by : (n : ℕ) (w : World) (g : Objects Obj) (f : Fetch) (k : ℕ) (d : Download) (b : Begun) (start : ℕ) (calls : List Entry) (body : List ℕ) (p : Port) (by : Way) (rec : ℕ) (call : Call) (ns : List Notice) (outs : List Out) →
+    IsEntry d.tftp.0 p by → CallDoes g d.fetch.0 d.tftp.0 b start calls body p by rec call ns → first_close ns ≡ None → Graphs outs (holding k (pair d.fetch.0 d.tftp.0)) →
+    Graphs (outs ++ (step n ∷ told_records w.net (speaker_of f) ns)) (holding k (pair d.fetch.0 d.tftp.0))
+goes_order_by n w g f k d b start calls body p by rec call ns outs enters (call_goes_on acts meets over fits same downloads) none graphs =
+    rw same (goes_order w.net (speaker_of f) outs n k d.fetch.0 d.tftp.0 p by rec acts enters over graphs)
+goes_order_by n w g f k d b start calls body p by rec call ns outs enters (call_is_over acts c meets over fits same ended_so) none graphs =
+    absurd (let no : Some c ≡ None = sym over ∙ sym (call_closes d.fetch.0 d.tftp.0 p by rec acts) ∙ ap first_close (sym same) ∙ none in cc)
+goes_order_by n w g f k d b start calls body p by rec call ns outs enters (call_too_large acts meets long same ended_so) none graphs =
+    absurd (let no : Some body_too_large ≡ None = sym (large_closes d.fetch.0 d.tftp.0 p by rec acts) ∙ ap first_close (sym same) ∙ none in cc)
+goes_order_by n w g f k d b start calls body p by rec call ns outs enters (call_fails memory) none graphs =
     absurd (let no : Some no_memory ≡ None = sym memory ∙ none in cc)
 
-goes_kept : (n : ℕ) (w : World) (s : Running) (g : Objects Obj) (f : Fetch) (p : Port) (by : Way) (rec : ℕ) (ns : List Notice) → WasCalled g f.number p by rec ns → first_close ns ≡ None →
+goes_kept : (n : ℕ) (w : World) (s : Running) (g : Objects Obj) (f : Fetch) (p : Port) (by : Way) (rec : ℕ) (ns : List Notice) → WasCalled g f.objects p by rec ns → first_close ns ≡ None →
     KeepsOrder (seen n w g (stage.Waiting s f)) (step n ∷ told_records w.net (speaker_of f) ns) (seen n w g (stage.Waiting s f))
-goes_kept n w s g f p by rec ns was none outs (bare k) graphs fit = absurd fit
-goes_kept n w s g f p by rec ns was none outs (holding k) graphs fit =
-    let at_k : Graphs outs (holding f.number) = subst (λ x. Graphs outs (holding x)) (sym fit.0) graphs in (
-      holding k,
-      subst (λ x. Graphs (outs ++ (step n ∷ told_records w.net (speaker_of f) ns)) (holding x)) fit.0
-          (goes_order_by n w g f f.number was.begun was.start was.calls was.body p by rec was.call ns outs was.entry was.does none at_k),
+goes_kept n w s g f p by rec ns was none outs (bare k m) graphs fit = absurd fit
+goes_kept n w s g f p by rec ns was none outs (prepared k m v) graphs fit = absurd fit
+goes_kept n w s g f p by rec ns was none outs (holding k cast) graphs fit =
+    let added = step n ∷ told_records w.net (speaker_of f) ns in
+    let there : Graphs outs (holding k (pair f.objects.fetch.0 f.objects.tftp.0)) = subst (λ x. Graphs outs (holding k x)) fit.2 graphs in (
+      holding k cast,
+      subst (λ x. Graphs (outs ++ added) (holding k x)) (sym fit.2)
+          (goes_order_by n w g f k f.objects was.begun was.start was.calls was.body p by rec was.call ns outs was.entry was.does none there),
       fit,
     )
 
 -- the open goes on
-pub goes_heeds : {old new : Logged} (n : ℕ) (w : World) (s : Running) (g : Objects Obj) (f : Fetch) (p : Port) (by : Way) (rec : ℕ) (ns : List Notice) → WasCalled g f.number p by rec ns → first_close ns ≡ None →
+pub goes_heeds : {old new : Logged} (n : ℕ) (w : World) (s : Running) (g : Objects Obj) (f : Fetch) (p : Port) (by : Way) (rec : ℕ) (ns : List Notice) → WasCalled g f.objects p by rec ns → first_close ns ≡ None →
     Puts old new (out_texts (step n ∷ told_records w.net (speaker_of f) ns)) →
     Follows s (HasHeard g f p by rec ns) (seen n w g (stage.Waiting s f)) (seen n w g (stage.Waiting s f)) old new
 goes_heeds n w s g f p by rec ns was none put = record {
@@ -138,24 +141,24 @@ goes_heeds n w s g f p by rec ns was none put = record {
 }
 
 -- what goes on is under way
-pub goes_under_way : (g : Objects Obj) (k : ℕ) (b : Begun) (start : ℕ) (calls : List Entry) (body : List ℕ) (p : Port) (by : Way) (rec : ℕ) (call : Call) (ns : List Notice) →
-    CallDoes g (fetch_of k) (tftp_of k) b start calls body p by rec call ns → first_close ns ≡ None → (acts : Acts) × Downloads g (fetch_of k) (tftp_of k) b start (calls ++ entry call acts ∷ []) (body ++ given_of call acts.give)
-goes_under_way g k b start calls body p by rec call ns (call_goes_on acts meets over fits same downloads) none = (acts, downloads)
-goes_under_way g k b start calls body p by rec call ns (call_is_over acts c meets over fits same ended_so) none =
-    absurd (let no : Some c ≡ None = sym over ∙ sym (call_closes (fetch_of k) (tftp_of k) p by rec acts) ∙ ap first_close (sym same) ∙ none in cc)
-goes_under_way g k b start calls body p by rec call ns (call_too_large acts meets long same ended_so) none =
-    absurd (let no : Some body_too_large ≡ None = sym (large_closes (fetch_of k) (tftp_of k) p by rec acts) ∙ ap first_close (sym same) ∙ none in cc)
-goes_under_way g k b start calls body p by rec call ns (call_fails memory) none = absurd (let no : Some no_memory ≡ None = sym memory ∙ none in cc)
+pub goes_under_way : (g : Objects Obj) (d : Download) (b : Begun) (start : ℕ) (calls : List Entry) (body : List ℕ) (p : Port) (by : Way) (rec : ℕ) (call : Call) (ns : List Notice) →
+    CallDoes g d.fetch.0 d.tftp.0 b start calls body p by rec call ns → first_close ns ≡ None → (acts : Acts) × Downloads g d.fetch.0 d.tftp.0 b start (calls ++ entry call acts ∷ []) (body ++ given_of call acts.give)
+goes_under_way g d b start calls body p by rec call ns (call_goes_on acts meets over fits same downloads) none = (acts, downloads)
+goes_under_way g d b start calls body p by rec call ns (call_is_over acts c meets over fits same ended_so) none =
+    absurd (let no : Some c ≡ None = sym over ∙ sym (call_closes d.fetch.0 d.tftp.0 p by rec acts) ∙ ap first_close (sym same) ∙ none in cc)
+goes_under_way g d b start calls body p by rec call ns (call_too_large acts meets long same ended_so) none =
+    absurd (let no : Some body_too_large ≡ None = sym (large_closes d.fetch.0 d.tftp.0 p by rec acts) ∙ ap first_close (sym same) ∙ none in cc)
+goes_under_way g d b start calls body p by rec call ns (call_fails memory) none = absurd (let no : Some no_memory ≡ None = sym memory ∙ none in cc)
 
 -- what has a first close has ended, unless memory ran out
-pub ends_ended : (g : Objects Obj) (k : ℕ) (b : Begun) (start : ℕ) (calls : List Entry) (body : List ℕ) (p : Port) (by : Way) (rec : ℕ) (call : Call) (ns : List Notice) (cause : Cause) →
-    CallDoes g (fetch_of k) (tftp_of k) b start calls body p by rec call ns → first_close ns ≡ Some cause → (Some cause ≡ Some no_memory → ⊥) →
-    (file : Option (List ℕ)) × HasEnded g (fetch_of k) (tftp_of k) file
-ends_ended g k b start calls body p by rec call ns cause (call_goes_on acts meets over fits same downloads) is other =
-    absurd (let no : None ≡ Some cause = sym over ∙ sym (call_closes (fetch_of k) (tftp_of k) p by rec acts) ∙ ap first_close (sym same) ∙ is in cc)
-ends_ended g k b start calls body p by rec call ns cause (call_is_over acts c meets over fits same ended_so) is other = (_, ended_so)
-ends_ended g k b start calls body p by rec call ns cause (call_too_large acts meets long same ended_so) is other = (None, ended_so)
-ends_ended g k b start calls body p by rec call ns cause (call_fails memory) is other = absurd (other (sym is ∙ memory))
+pub ends_ended : (g : Objects Obj) (d : Download) (b : Begun) (start : ℕ) (calls : List Entry) (body : List ℕ) (p : Port) (by : Way) (rec : ℕ) (call : Call) (ns : List Notice) (cause : Cause) →
+    CallDoes g d.fetch.0 d.tftp.0 b start calls body p by rec call ns → first_close ns ≡ Some cause → (Some cause ≡ Some no_memory → ⊥) →
+    (file : Option (List ℕ)) × HasEnded g d.fetch.0 d.tftp.0 file
+ends_ended g d b start calls body p by rec call ns cause (call_goes_on acts meets over fits same downloads) is other =
+    absurd (let no : None ≡ Some cause = sym over ∙ sym (call_closes d.fetch.0 d.tftp.0 p by rec acts) ∙ ap first_close (sym same) ∙ is in cc)
+ends_ended g d b start calls body p by rec call ns cause (call_is_over acts c meets over fits same ended_so) is other = (_, ended_so)
+ends_ended g d b start calls body p by rec call ns cause (call_too_large acts meets long same ended_so) is other = (None, ended_so)
+ends_ended g d b start calls body p by rec call ns cause (call_fails memory) is other = absurd (other (sym is ∙ memory))
 
 -- the conclusion of an end that isn't Ok doesn't depend on the image
 same_comes : (cause : Cause) (b b' : Bool) (i i' : Image) (list : ImageList) → b ≡ b' → (cause.code ≡ 0 → i ≡ i') → conclusion cause b i list ≡ conclusion cause b' i' list
@@ -175,89 +178,95 @@ file_is cause whole body is zero =
 
 -- the open ends: for each open that the fetch may be of
 ends_by : {old new : Logged} (t : Turn) (n : ℕ) (w : World) (s : Running) (g : Objects Obj) (f : Fetch) (p : Port) (by : Way) (rec : ℕ) (ns : List Notice) (cause : Cause) (after : Seen) (o : Open) (call : Call) →
-    IsFetchOf f o → length o.begun.request ≤ 1480 → Meets o.begun o.start o.entries → CallDoes g (fetch_of o.number) (tftp_of o.number) o.begun o.start o.entries (body_of o) p by rec call ns →
+    IsFetchOf f o → length o.begun.request ≤ 1480 → Meets o.begun o.start o.entries → CallDoes g f.objects.fetch.0 f.objects.tftp.0 o.begun o.start o.entries (body_of o) p by rec call ns →
     first_close ns ≡ Some cause → (Some cause ≡ Some no_memory → ⊥) → (e : HasEndedOpen t ns cause s f (seen n w g (stage.Waiting s f)) after old new) →
     (acts : Acts) × Meets o.begun o.start (o.entries ++ entry call acts ∷ []) × (end_of (body_of (with_entry o (entry call acts))) acts ≡ Some cause)
     × (without_graph (told_records w.net (speaker_of f) ns) ≡ acts_records w.net o.number acts)
     × (comes_to (seen n w g (stage.Waiting s f)) e.body f cause ≡ concluded w (with_entry o (entry call acts)) cause)
 ends_by t n w s g f p by rec ns cause after o call is short before (call_goes_on acts meets over fits same downloads) closed other e =
-    absurd (let no : None ≡ Some cause = sym over ∙ sym (call_closes (fetch_of o.number) (tftp_of o.number) p by rec acts) ∙ ap first_close (sym same) ∙ closed in cc)
+    absurd (let no : None ≡ Some cause = sym over ∙ sym (call_closes f.objects.fetch.0 f.objects.tftp.0 p by rec acts) ∙ ap first_close (sym same) ∙ closed in cc)
 ends_by t n w s g f p by rec ns cause after o call is short before (call_is_over acts c meets over fits same ended_so) closed other e =
     let o' = with_entry o (entry call acts) in
     let body = body_now o call acts before meets in
     let whole = body_of o ++ given_of call acts.give in
-    let over_is : acts.over ≡ Some cause = sym (call_closes (fetch_of o.number) (tftp_of o.number) p by rec acts) ∙ ap first_close (sym same) ∙ closed in
+    let over_is : acts.over ≡ Some cause = sym (call_closes f.objects.fetch.0 f.objects.tftp.0 p by rec acts) ∙ ap first_close (sym same) ∙ closed in
     let c_is : c ≡ cause = some_same (sym over ∙ over_is) in
-    let at_f : HasEnded g (fetch_of f.number) (tftp_of f.number) (body_at_end cause whole) =
-    subst (λ k. HasEnded g (fetch_of k) (tftp_of k) (body_at_end cause whole)) (sym is.number) (subst (λ x. HasEnded g (fetch_of o.number) (tftp_of o.number) (body_at_end x whole)) c_is ended_so) in
+    let at_f : HasEnded g f.objects.fetch.0 f.objects.tftp.0 (body_at_end cause whole) =
+    subst (λ x. HasEnded g f.objects.fetch.0 f.objects.tftp.0 (body_at_end x whole)) c_is ended_so in
     let file : IsFile cause (body_at_end cause whole) e.body = e.is_file (body_at_end cause whole) at_f in
     let image : cause.code ≡ 0 → image_of f.name e.body [] f.uri ≡ image_from o' = λ zero. rw (is.name, is.uri, file_is cause whole e.body file zero, body) refl in (
       acts,
       meets,
       end_within (body_of o') acts (subst (λ b. length b ≤ 268435456) body fits) ∙ over_is,
       ap (λ x. without_graph (told_records w.net (speaker_of f) x)) same
-          ∙ call_others w.net (speaker_of f) o.begun (fetch_of o.number) (tftp_of o.number) p by rec acts (speaks f o is) (meets_sends o.begun o.start o.entries call acts short meets)
+          ∙ call_others w.net (speaker_of f) o.begun f.objects.fetch.0 f.objects.tftp.0 p by rec acts (speaks f o is) (meets_sends o.begun o.start o.entries call acts short meets)
           ∙ ap (λ k. acts_records w.net k acts) is.number,
       same_comes cause f.boots o.wanted.boots (image_of f.name e.body [] f.uri) (image_from o') w.state.images is.boots image,
     )
 ends_by t n w s g f p by rec ns cause after o call is short before (call_too_large acts meets long same ended_so) closed other e =
     let o' = with_entry o (entry call acts) in
     let body = body_now o call acts before meets in
-    let c_is : body_too_large ≡ cause = some_same (sym (large_closes (fetch_of o.number) (tftp_of o.number) p by rec acts) ∙ ap first_close (sym same) ∙ closed) in
+    let c_is : body_too_large ≡ cause = some_same (sym (large_closes f.objects.fetch.0 f.objects.tftp.0 p by rec acts) ∙ ap first_close (sym same) ∙ closed) in
     let image : cause.code ≡ 0 → image_of f.name e.body [] f.uri ≡ image_from o' = λ zero. absurd (let no : 6 ≡ 0 = ap (λ (x : Cause). x.code) c_is ∙ zero in cc) in (
       acts,
       meets,
       end_beyond (body_of o') acts (subst (λ b. 268435456 < length b) body long) ∙ ap Some c_is,
       ap (λ x. without_graph (told_records w.net (speaker_of f) x)) same
-          ∙ large_others w.net (speaker_of f) o.begun (fetch_of o.number) (tftp_of o.number) p by rec acts (speaks f o is) (meets_sends o.begun o.start o.entries call acts short meets)
+          ∙ large_others w.net (speaker_of f) o.begun f.objects.fetch.0 f.objects.tftp.0 p by rec acts (speaks f o is) (meets_sends o.begun o.start o.entries call acts short meets)
           ∙ ap (λ k. acts_records w.net k acts) is.number,
       same_comes cause f.boots o.wanted.boots (image_of f.name e.body [] f.uri) (image_from o') w.state.images is.boots image,
     )
 ends_by t n w s g f p by rec ns cause after o call is short before (call_fails memory) closed other e = absurd (other (sym closed ∙ memory))
 
 -- its records are in the graph's order
-ends_order_by : (n : ℕ) (w : World) (g : Objects Obj) (f : Fetch) (k : ℕ) (b : Begun) (start : ℕ) (calls : List Entry) (body : List ℕ) (p : Port) (by : Way) (rec : ℕ) (call : Call) (ns : List Notice) (cause : Cause) (outs : List Out) →
-    IsEntry (tftp_of k) p by → CallDoes g (fetch_of k) (tftp_of k) b start calls body p by rec call ns → first_close ns ≡ Some cause → (Some cause ≡ Some no_memory → ⊥) → Graphs outs (holding k) →
-    Graphs (outs ++ (step n ∷ ending w.net (speaker_of f) k ns cause)) (bare (k + 1))
-ends_order_by n w g f k b start calls body p by rec call ns cause outs enters (call_goes_on acts meets over fits same downloads) closed other graphs =
-    absurd (let no : None ≡ Some cause = sym over ∙ sym (call_closes (fetch_of k) (tftp_of k) p by rec acts) ∙ ap first_close (sym same) ∙ closed in cc)
-ends_order_by n w g f k b start calls body p by rec call ns cause outs enters (call_is_over acts c meets over fits same ended_so) closed other graphs =
-    let over_is : acts.over ≡ Some cause = sym (call_closes (fetch_of k) (tftp_of k) p by rec acts) ∙ ap first_close (sym same) ∙ closed in
-    rw same (ends_order w.net (speaker_of f) outs n k p by rec acts cause enters over_is graphs)
-ends_order_by n w g f k b start calls body p by rec call ns cause outs enters (call_too_large acts meets long same ended_so) closed other graphs =
-    let c_is : body_too_large ≡ cause = some_same (sym (large_closes (fetch_of k) (tftp_of k) p by rec acts) ∙ ap first_close (sym same) ∙ closed) in
-    rw (same, ← c_is) (large_order w.net (speaker_of f) outs n k p by rec acts enters graphs)
-ends_order_by n w g f k b start calls body p by rec call ns cause outs enters (call_fails memory) closed other graphs = absurd (other (sym closed ∙ memory))
+ends_order_by : (n : ℕ) (w : World) (g : Objects Obj) (f : Fetch) (k : ℕ) (d : Download) (b : Begun) (start : ℕ) (calls : List Entry) (body : List ℕ) (p : Port) (by : Way) (rec : ℕ) (call : Call) (ns : List Notice) (cause : Cause) (outs : List Out) →
+    IsEntry d.tftp.0 p by → CallDoes g d.fetch.0 d.tftp.0 b start calls body p by rec call ns → first_close ns ≡ Some cause → (Some cause ≡ Some no_memory → ⊥) → Graphs outs (holding k (pair d.fetch.0 d.tftp.0)) →
+    Graphs (outs ++ (step n ∷ ending w.net (speaker_of f) k d.fetch.0 d.tftp.0 ns cause)) (bare (k + 1) d.tftp.0)
+ends_order_by n w g f k d b start calls body p by rec call ns cause outs enters (call_goes_on acts meets over fits same downloads) closed other graphs =
+    absurd (let no : None ≡ Some cause = sym over ∙ sym (call_closes d.fetch.0 d.tftp.0 p by rec acts) ∙ ap first_close (sym same) ∙ closed in cc)
+ends_order_by n w g f k d b start calls body p by rec call ns cause outs enters (call_is_over acts c meets over fits same ended_so) closed other graphs =
+    let over_is : acts.over ≡ Some cause = sym (call_closes d.fetch.0 d.tftp.0 p by rec acts) ∙ ap first_close (sym same) ∙ closed in
+    rw same (ends_order w.net (speaker_of f) outs n k d.fetch.0 d.tftp.0 p by rec acts cause enters over_is graphs)
+ends_order_by n w g f k d b start calls body p by rec call ns cause outs enters (call_too_large acts meets long same ended_so) closed other graphs =
+    let c_is : body_too_large ≡ cause = some_same (sym (large_closes d.fetch.0 d.tftp.0 p by rec acts) ∙ ap first_close (sym same) ∙ closed) in
+    rw (same, ← c_is) (large_order w.net (speaker_of f) outs n k d.fetch.0 d.tftp.0 p by rec acts enters graphs)
+ends_order_by n w g f k d b start calls body p by rec call ns cause outs enters (call_fails memory) closed other graphs = absurd (other (sym closed ∙ memory))
 
 ends_kept : {old new : Logged} (t : Turn) (n : ℕ) (w : World) (s : Running) (g : Objects Obj) (f : Fetch) (p : Port) (by : Way) (rec : ℕ) (ns : List Notice) (cause : Cause) (after : Seen) →
-    WasCalled g f.number p by rec ns → first_close ns ≡ Some cause → (Some cause ≡ Some no_memory → ⊥) → (e : HasEndedOpen t ns cause s f (seen n w g (stage.Waiting s f)) after old new) →
+    WasCalled g f.objects p by rec ns → first_close ns ≡ Some cause → (Some cause ≡ Some no_memory → ⊥) → (e : HasEndedOpen t ns cause s f (seen n w g (stage.Waiting s f)) after old new) →
     KeepsOrder (seen n w g (stage.Waiting s f)) (end_records (seen n w g (stage.Waiting s f)) ns f cause (comes_to (seen n w g (stage.Waiting s f)) e.body f cause)) after
-ends_kept t n w s g f p by rec ns cause after was closed other e outs (bare k) graphs fit = absurd fit
-ends_kept t n w s g f p by rec ns cause after was closed other e outs (holding k) graphs fit =
+ends_kept t n w s g f p by rec ns cause after was closed other e outs (bare k m) graphs fit = absurd fit
+ends_kept t n w s g f p by rec ns cause after was closed other e outs (prepared k m v) graphs fit = absurd fit
+ends_kept t n w s g f p by rec ns cause after was closed other e outs (holding k cast) graphs fit =
     let comes = comes_to (seen n w g (stage.Waiting s f)) e.body f cause in
-    let at_k : Graphs outs (holding f.number) = subst (λ x. Graphs outs (holding x)) (sym fit.0) graphs in
-    let told = told_records w.net (speaker_of f) (ns ++ freed_notices (fetch_of f.number) (tftp_of f.number)) in
+    let made = f.objects.tftp.0 in
+    let at_f : Graphs outs (holding f.number (pair f.objects.fetch.0 made)) =
+    subst (λ x. Graphs outs (holding x (pair f.objects.fetch.0 made))) (sym fit.0) (subst (λ x. Graphs outs (holding k x)) fit.2 graphs) in
+    let told = told_records w.net (speaker_of f) (ns ++ freed_notices f.objects.fetch.0 made) in
     let last : List Out = ended f.number cause ∷ [] in
-    let ends : Graphs (outs ++ (step n ∷ (told ++ last))) (bare (f.number + 1)) =
-    ends_order_by n w g f f.number was.begun was.start was.calls was.body p by rec was.call ns cause outs was.entry was.does closed other at_k in
-    let all : Graphs ((outs ++ (step n ∷ (told ++ last))) ++ conclusion_records comes) (bare (f.number + 1)) =
-    aside (outs ++ (step n ∷ (told ++ last))) (conclusion_records comes) (f.number + 1) ends (aside_conclusion comes) in
+    let ends : Graphs (outs ++ (step n ∷ (told ++ last))) (bare (f.number + 1) made) =
+    ends_order_by n w g f f.number f.objects was.begun was.start was.calls was.body p by rec was.call ns cause outs was.entry was.does closed other at_f in
+    let all : Graphs ((outs ++ (step n ∷ (told ++ last))) ++ conclusion_records comes) (bare (f.number + 1) made) =
+    aside (outs ++ (step n ∷ (told ++ last))) (conclusion_records comes) (f.number + 1) made ends (aside_conclusion comes) in
     let same : (outs ++ (step n ∷ (told ++ last))) ++ conclusion_records comes ≡ outs ++ (step n ∷ (told ++ (last ++ conclusion_records comes))) =
     append_assoc outs (step n ∷ (told ++ last)) (conclusion_records comes) ∙ ap (λ xs. outs ++ (step n ∷ xs)) (append_assoc told last (conclusion_records comes)) in
-    let next : w.opens ≡ f.number + 1 = fit.1 ∙ ap (λ x. x + 1) (sym fit.0) in
-    (bare w.opens, subst (λ x. Graphs (outs ++ end_records (seen n w g (stage.Waiting s f)) ns f cause comes) (bare x)) (sym next) (subst (λ xs. Graphs xs (bare (f.number + 1))) same all), e.fits)
+    let next : w.opens ≡ f.number + 1 = fit.1 ∙ ap (λ x. x + 1) (sym fit.0) in (
+      bare w.opens made,
+      subst (λ x. Graphs (outs ++ end_records (seen n w g (stage.Waiting s f)) ns f cause comes) (bare x made)) (sym next) (subst (λ xs. Graphs xs (bare (f.number + 1) made)) same all),
+      e.fits,
+    )
 
 -- the open ends, and its command with it
 pub ends_follow : {old new : Logged} (t : Turn) (n : ℕ) (w : World) (s : Running) (g : Objects Obj) (f : Fetch) (p : Port) (by : Way) (rec : ℕ) (ns : List Notice) (cause : Cause) (after : Seen) →
-    WasCalled g f.number p by rec ns → first_close ns ≡ Some cause → (Some cause ≡ Some no_memory → ⊥) → HasEndedOpen t ns cause s f (seen n w g (stage.Waiting s f)) after old new →
+    WasCalled g f.objects p by rec ns → first_close ns ≡ Some cause → (Some cause ≡ Some no_memory → ⊥) → HasEndedOpen t ns cause s f (seen n w g (stage.Waiting s f)) after old new →
     Follows s (HasHeard g f p by rec ns) (seen n w g (stage.Waiting s f)) after old new
 ends_follow {old} {new} t n w s g f p by rec ns cause after was closed other e =
     let comes : Conclusion = comes_to (seen n w g (stage.Waiting s f)) e.body f cause in
-    let told = told_records w.net (speaker_of f) (ns ++ freed_notices (fetch_of f.number) (tftp_of f.number)) in
+    let told = told_records w.net (speaker_of f) (ns ++ freed_notices f.objects.fetch.0 f.objects.tftp.0) in
     let last : List Out = ended f.number cause ∷ [] in
     let others : without_graph (told ++ (last ++ conclusion_records comes)) ≡ without_graph (told_records w.net (speaker_of f) ns) ++ (last ++ conclusion_records comes) =
     without-append told (last ++ conclusion_records comes)
-    ∙ ap (λ xs. xs ++ without_graph (last ++ conclusion_records comes)) (freed_others w.net (speaker_of f) (fetch_of f.number) (tftp_of f.number) ns)
+    ∙ ap (λ xs. xs ++ without_graph (last ++ conclusion_records comes)) (freed_others w.net (speaker_of f) f.objects.fetch.0 f.objects.tftp.0 ns)
     ∙ ap (λ xs. without_graph (told_records w.net (speaker_of f) ns) ++ (last ++ xs)) (without_aside (conclusion_records comes) (aside_conclusion comes)) in
     record {
       added = told ++ (last ++ conclusion_records comes);
@@ -322,11 +331,11 @@ ends_of (turn.Over status.AttachFault) old new ns cause s f before after e = e
 ends_of (turn.Over status.TooManyRecords) old new ns cause s f before after e = e
 
 -- what holds of fewer opens follows too
-follows_less : {old new : Logged} (s : Running) (P Q : Open → Call → Type 0) (n : ℕ) (w : World) (h h' : Objects Obj) (st st' : Stage) (after : Seen) → ((q : GraphAt) → FitsAt st' w.opens q → FitsAt st w.opens q) →
+follows_less : {old new : Logged} (s : Running) (P Q : Open → Call → Type 0) (n : ℕ) (w : World) (h h' : Objects Obj) (st st' : Stage) (after : Seen) → ((q : GraphAt) → FitsAt st' w.opens h'.book.made q → FitsAt st w.opens h.book.made q) →
     ((o : Open) (call : Call) → Q o call → P o call) → Follows s P (seen n w h st) after old new → Follows s Q (seen n w h' st') after old new
 follows_less s P Q n w h h' st st' after same less f = record { added = f.added; puts = f.puts; hears = λ o call q. f.hears o call (less o call q); graphs = λ outs q graphs fit. f.graphs outs q graphs (same q fit) }
 
-pub heeds_less : (t : Turn) (old new : Logged) (s : Running) (P Q : Open → Call → Type 0) (n : ℕ) (w : World) (h h' : Objects Obj) (st st' : Stage) (after : Seen) → ((q : GraphAt) → FitsAt st' w.opens q → FitsAt st w.opens q) →
+pub heeds_less : (t : Turn) (old new : Logged) (s : Running) (P Q : Open → Call → Type 0) (n : ℕ) (w : World) (h h' : Objects Obj) (st st' : Stage) (after : Seen) → ((q : GraphAt) → FitsAt st' w.opens h'.book.made q → FitsAt st w.opens h.book.made q) →
     ((o : Open) (call : Call) → Q o call → P o call) → Heeds t s P (seen n w h st) after old new → Heeds t s Q (seen n w h' st') after old new
 heeds_less turn.More old new s P Q n w h h' st st' after same less hs = (follows_less s P Q n w h h' st st' after same less hs.0, hs.1)
 heeds_less turn.Waiting old new s P Q n w h h' st st' after same less hs = (follows_less s P Q n w h h' st st' after same less hs.0, hs.1)
@@ -374,23 +383,23 @@ pub same_close : {told : Option (List Notice)} {ns : List Notice} {cause : Optio
 same_close was is = ap first_close (same_told is was.1) ∙ was.2
 
 -- a fetch whose open goes on is as sound as before
-pub goes_sound : (n : ℕ) (w : World) (g h : Objects Obj) (s : Running) (f : Fetch) (told : Option (List Notice)) → IsSound n w g (stage.Waiting s f) → WasTold told None → IsCalled h f.number told →
+pub goes_sound : (n : ℕ) (w : World) (g h : Objects Obj) (s : Running) (f : Fetch) (told : Option (List Notice)) → IsSound n w g (stage.Waiting s f) → WasTold told None → IsCalled h f.objects told →
     IsSound n w h (stage.Waiting s f)
 goes_sound n w g h s f told sound was called =
     let it = called.5 in
-    let way = goes_under_way h f.number it.begun it.start it.calls it.body called.0 called.1 called.2 it.call called.3 it.does (same_close was called.4) in
+    let way = goes_under_way h f.objects it.begun it.start it.calls it.body called.0 called.1 called.2 it.call called.3 it.does (same_close was called.4) in
     record {
       time = sound.time;
       w = sound.w;
       opens = sound.opens;
       ports = sound.ports;
-      objects = ((it.begun, it.start, (it.calls ++ entry it.call way.0 ∷ []), (it.body ++ given_of it.call way.0.give), way.1), sound.objects.1);
+      objects = (((it.begun, it.start, (it.calls ++ entry it.call way.0 ∷ []), (it.body ++ given_of it.call way.0.give), way.1), sound.objects.0.1), sound.objects.1);
       well = sound.well;
       short = sound.short;
       linked = sound.linked;
     }
 
-pub called_ended : (h : Objects Obj) (k : ℕ) (told : Option (List Notice)) (cause : Cause) → WasTold told (Some cause) → IsCalled h k told → IsEnded h (fetch_of k) (tftp_of k)
-called_ended h k told cause was called =
+pub called_ended : (h : Objects Obj) (d : Download) (told : Option (List Notice)) (cause : Cause) → WasTold told (Some cause) → IsCalled h d told → IsEnded h d.fetch.0 d.tftp.0
+called_ended h d told cause was called =
     let it = called.5 in
-    ends_ended h k it.begun it.start it.calls it.body called.0 called.1 called.2 it.call called.3 cause it.does (same_close was called.4) was.3
+    ends_ended h d it.begun it.start it.calls it.body called.0 called.1 called.2 it.call called.3 cause it.does (same_close was called.4) was.3

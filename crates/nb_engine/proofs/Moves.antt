@@ -61,11 +61,13 @@ pub move_from : (m m0 m' : Machine) (added : List Out) → m ≡ m0 → Move m0 
 move_from m m0 m' added e v = subst (λ x. Moves x added m') (sym e) (one_move m0 m' added v)
 
 -- a move of a script that runs, whose records don't concern the graph
-pub move_grows : {old new : Logged} (n : ℕ) (w : World) (g : Objects Obj) (s : Running) (added : List Out) (m' : Machine) (after : Seen) → AreAside added → NotWaiting after.stage → after.world.opens ≡ w.opens →
+pub move_grows : {old new : Logged} (n : ℕ) (w : World) (g : Objects Obj) (s : Running) (added : List Out) (m' : Machine) (after : Seen) → AreAside added → NotWaiting after.stage → (after.world.opens ≡ w.opens) × (after.graph.book.made ≡ g.book.made) →
     Puts old new (out_texts added) → Move (at n (running w s)) added m' → StandsFor after m' → Grows [] (seen n w g (stage.Running s)) after old new
-move_grows n w g s added m' after are idle opens p v st =
+move_grows n w g s added m' after are idle same p v st =
     aside_grows [] (seen n w g (stage.Running s)) after added tt are p
-    (λ q f. subst (λ x. FitsAt after.stage x q) (sym opens) (keep (stage.Running s) after.stage w.opens tt idle q f))
+    (λ q f.
+    subst (λ x. FitsAt after.stage x after.graph.book.made q) (sym same.0)
+    (subst (λ y. FitsAt after.stage w.opens y q) (sym same.1) (keep (stage.Running s) after.stage w.opens g.book.made tt idle q f)))
     (λ m stands. record {
       machine = m';
       steps = move_from m (at n (running w s)) m' added (stands_at (seen n w g (stage.Running s)) m stands) v;
@@ -86,7 +88,7 @@ passes_moves n w s t (further_on _ mid _ comes p) = moves_on (at n (running w s)
 pub pass_grows : {old : Logged} (n : ℕ) (w : World) (g : Objects Obj) (s t : Running) → PassesOn s t →
     Grows [] (seen n w g (stage.Running s)) (seen n w g (stage.Running t)) old old
 pass_grows n w g s t p =
-    aside_grows _ (seen n w g (stage.Running s)) (seen n w g (stage.Running t)) ([]) tt tt (Puts-nothing) (keep (stage.Running s) (stage.Running t) w.opens tt tt)
+    aside_grows _ (seen n w g (stage.Running s)) (seen n w g (stage.Running t)) ([]) tt tt (Puts-nothing) (keep (stage.Running s) (stage.Running t) w.opens g.book.made tt tt)
     (λ m stands. record {
       machine = at n (running w t);
       steps = subst (λ x. Moves x [] (at n (running w t))) (sym (stands_at (seen n w g (stage.Running s)) m stands)) (passes_moves n w s t p);
@@ -97,7 +99,7 @@ pass_grows n w g s t p =
 pub left_grows : {old new : Logged} (n : ℕ) (w : World) (g : Objects Obj) (s : Running) (cause : Cause) → IsLeft s cause → Puts old new (out_texts (leave s.depth cause ∷ [])) →
     Grows [] (seen n w g (stage.Running s)) (seen n w g (stage.Left cause)) old new
 left_grows {old} {new} n w g s cause is p =
-    aside_grows _ (seen n w g (stage.Running s)) (seen n w g (stage.Left cause)) (leave is.last.depth cause ∷ []) tt (tt, tt) (subst (λ d. Puts old new (out_texts (leave d cause ∷ []))) (sym is.same_depth) p) (keep (stage.Running s) (stage.Left cause) w.opens tt tt)
+    aside_grows _ (seen n w g (stage.Running s)) (seen n w g (stage.Left cause)) (leave is.last.depth cause ∷ []) tt (tt, tt) (subst (λ d. Puts old new (out_texts (leave d cause ∷ []))) (sym is.same_depth) p) (keep (stage.Running s) (stage.Left cause) w.opens g.book.made tt tt)
     (λ m stands. record {
       machine = at n (left cause);
       steps = subst (λ x. Moves x (leave is.last.depth cause ∷ []) (at n (left cause))) (sym (stands_at (seen n w g (stage.Running s)) m stands))
@@ -109,7 +111,7 @@ left_grows {old} {new} n w g s cause is p =
 -- its next command has to wait
 pub yield_grows : {old : Logged} (n : ℕ) (w : World) (g : Objects Obj) (s : Running) → IsFull s →
     Grows [] (seen n w g (stage.Running s)) (seen n w g (stage.Yielded s)) old old
-yield_grows n w g s full = move_grows n w g s [] (at n (yielded w s)) (seen n w g (stage.Yielded s)) tt tt refl Puts-nothing (yields n w s full.name full.args full.comes full.full) (as_yielded n w g s)
+yield_grows n w g s full = move_grows n w g s [] (at n (yielded w s)) (seen n w g (stage.Yielded s)) tt tt (refl, refl) Puts-nothing (yields n w s full.name full.args full.comes full.full) (as_yielded n w g s)
 
 -- a command after which the list goes on
 pub does_grows : {old new : Logged} (n : ℕ) (w : World) (g : Objects Obj) (s t : Running) (shown : ShownWords) (o : CommandOutcome) (next : World) → EndsAtOnce s w shown o next → s.begun < 4096 →
@@ -119,7 +121,7 @@ does_grows {old} {new} n w g s t shown o next e early d =
     let after = world_after w ws in
     let puts : Puts old new (out_texts (command_records s (shown_words w.state.table ws) o)) = subst (λ x. Puts old new (out_texts (command_records s x o))) (sym e.shows) d.2 in
     let grows : Grows [] (seen n w g (stage.Running s)) (seen n after g (stage.Running (further s o.cause))) old new =
-    move_grows n w g s (command_records s (shown_words w.state.table ws) o) (at n (running after (further s o.cause))) (seen n after g (stage.Running (further s o.cause))) (aside_command s (shown_words w.state.table ws) o) tt refl puts
+    move_grows n w g s (command_records s (shown_words w.state.table ws) o) (at n (running after (further s o.cause))) (seen n after g (stage.Running (further s o.cause))) (aside_command s (shown_words w.state.table ws) o) tt (refl, refl) puts
     (does n w s e.name e.args o e.comes early e.ends d.0) (as_running n after g (further s o.cause)) in
     rw d.1 (subst (λ x. Grows [] (seen n w g (stage.Running s)) (seen n x g (stage.Running (further s o.cause))) old new) e.leaves grows)
 
@@ -131,7 +133,7 @@ shuts_grows {old} {new} n w g s t shown c cs comes early e shows d =
     let ws = c ∷ cs in
     let after = world_after w ws in
     let puts : Puts old new (out_texts (command_records s (shown_words w.state.table ws) (refused ok))) = subst (λ x. Puts old new (out_texts (command_records s x (refused ok)))) (sym shows) d.2 in
-    rw d.1 (move_grows n w g s (command_records s (shown_words w.state.table ws) (refused ok)) (at n (running after (further s ok))) (seen n after g (stage.Running (further s ok))) (aside_command s (shown_words w.state.table ws) (refused ok)) tt refl puts
+    rw d.1 (move_grows n w g s (command_records s (shown_words w.state.table ws) (refused ok)) (at n (running after (further s ok))) (seen n after g (stage.Running (further s ok))) (aside_command s (shown_words w.state.table ws) (refused ok)) tt (refl, refl) puts
     (closes_device n w s c cs comes early e) (as_running n after g (further s ok)))
 
 -- a command with which the script is left
@@ -141,7 +143,7 @@ leaves_grows {old} {new} n w g s t shown o next cause e early d =
     let ws = e.name ∷ e.args in
     let P : ShownWords → Cause → Type 0 = λ x k. Puts old new (out_texts (command_records s x o ++ (leave s.depth k ∷ []))) in
     let puts : P (shown_words w.state.table ws) o.cause = subst (λ x. P x o.cause) (sym e.shows) (subst (P shown) d.1 d.2) in
-    rw d.1 (move_grows n w g s (command_records s (shown_words w.state.table ws) o ++ (leave s.depth o.cause ∷ [])) (at n (left o.cause)) (seen n next g (stage.Left o.cause)) (aside-append (command_records s (shown_words w.state.table ws) o) (leave s.depth o.cause ∷ []) (aside_command s (shown_words w.state.table ws) o) (tt, tt)) tt (subst (λ (x : World). x.opens ≡ w.opens) e.leaves refl) puts
+    rw d.1 (move_grows n w g s (command_records s (shown_words w.state.table ws) o ++ (leave s.depth o.cause ∷ [])) (at n (left o.cause)) (seen n next g (stage.Left o.cause)) (aside-append (command_records s (shown_words w.state.table ws) o) (leave s.depth o.cause ∷ []) (aside_command s (shown_words w.state.table ws) o) (tt, tt)) tt (subst (λ (x : World). x.opens ≡ w.opens) e.leaves refl, refl) puts
     (leaves n w s e.name e.args o e.comes early e.ends d.0) (as_left n next g o.cause))
 
 -- `goto`
@@ -150,11 +152,11 @@ pub goes_grows : {old new : Logged} (n : ℕ) (w : World) (g : Objects Obj) (s t
     Grows [] (seen n w g (stage.Running s)) (seen n w g (stage.Running t)) old new
 goes_grows {old} {new} n w g s t shown c cs name (Some line) comes early e shows there to =
     let puts : Puts old new (out_texts (command_records s (shown_words w.state.table (c ∷ cs)) (refused ok))) = subst (λ x. Puts old new (out_texts (command_records s x (refused ok)))) (sym shows) to.1 in
-    rw to.0 (move_grows n w g s (command_records s (shown_words w.state.table (c ∷ cs)) (refused ok)) (at n (running w (behind_line s line))) (seen n w g (stage.Running (behind_line s line))) (aside_command s (shown_words w.state.table (c ∷ cs)) (refused ok)) tt refl puts
+    rw to.0 (move_grows n w g s (command_records s (shown_words w.state.table (c ∷ cs)) (refused ok)) (at n (running w (behind_line s line))) (seen n w g (stage.Running (behind_line s line))) (aside_command s (shown_words w.state.table (c ∷ cs)) (refused ok)) tt (refl, refl) puts
     (jumps n w s c cs name line comes early e there) (as_running n w g (behind_line s line)))
 goes_grows {old} {new} n w g s t shown c cs name None comes early e shows there to =
     let puts : Puts old new (out_texts (command_records s (shown_words w.state.table (c ∷ cs)) (refused no_label))) = subst (λ x. Puts old new (out_texts (command_records s x (refused no_label)))) (sym shows) to.1 in
-    rw to.0 (move_grows n w g s (command_records s (shown_words w.state.table (c ∷ cs)) (refused no_label)) (at n (running w (further s no_label))) (seen n w g (stage.Running (further s no_label))) (aside_command s (shown_words w.state.table (c ∷ cs)) (refused no_label)) tt refl puts
+    rw to.0 (move_grows n w g s (command_records s (shown_words w.state.table (c ∷ cs)) (refused no_label)) (at n (running w (further s no_label))) (seen n w g (stage.Running (further s no_label))) (aside_command s (shown_words w.state.table (c ∷ cs)) (refused no_label)) tt (refl, refl) puts
     (finds_no_label n w s c cs name comes early e there) (as_running n w g (further s no_label)))
 
 -- `sleep`
@@ -164,14 +166,14 @@ pub sleeps_grows : {old new : Logged} (n : ℕ) (w : World) (g : Objects Obj) (s
 sleeps_grows {old} {new} n w g s shown c cs seconds comes early e shows p =
     let puts : Puts old new (out_texts (command_record s (shown_words w.state.table (c ∷ cs)) ∷ [])) = subst (λ x. Puts old new (out_texts (command_record s x ∷ []))) (sym shows) p in
     move_grows n w g s (command_record s (shown_words w.state.table (c ∷ cs)) ∷ []) (at n (sleeping w (entered s) (w.time + 1000 * seconds)))
-    (seen n w g (stage.Sleeping (entered s) (w.time + 1000 * seconds))) (tt, tt) tt refl puts
+    (seen n w g (stage.Sleeping (entered s) (w.time + 1000 * seconds))) (tt, tt) tt (refl, refl) puts
     (falls_asleep n w s c cs seconds comes early e) (as_sleeping n w g (entered s) (w.time + 1000 * seconds))
 
 -- a piece of the image is handed off
 pub hand_grows : {old new : Logged} (n : ℕ) (w : World) (g : Objects Obj) (h t : Handing) → PutsNext w.state.images.images h t old new →
     Grows [] (seen n w g (stage.HandingOff h)) (seen n w g (stage.HandingOff t)) old new
 hand_grows n w g h t p =
-    aside_grows _ (seen n w g (stage.HandingOff h)) (seen n w g (stage.HandingOff t)) (p.next ∷ []) tt ((subst AreAside p.left (aside_left w.state.images.images h)).0, tt) (p.puts) (keep (stage.HandingOff h) (stage.HandingOff t) w.opens tt tt)
+    aside_grows _ (seen n w g (stage.HandingOff h)) (seen n w g (stage.HandingOff t)) (p.next ∷ []) tt ((subst AreAside p.left (aside_left w.state.images.images h)).0, tt) (p.puts) (keep (stage.HandingOff h) (stage.HandingOff t) w.opens g.book.made tt tt)
     (λ m stands. record {
       machine = at n (handing (records_left w.state.images.images t));
       steps = move_from m (at n (handing (p.next ∷ records_left w.state.images.images t))) (at n (handing (records_left w.state.images.images t))) (p.next ∷ [])
@@ -183,7 +185,7 @@ hand_grows n w g h t p =
 pub handed_grows : {old : Logged} (n : ℕ) (w : World) (g : Objects Obj) (h : Handing) → records_left w.state.images.images h ≡ [] →
     Grows [] (seen n w g (stage.HandingOff h)) (seen n w g stage.HandedOff) old old
 handed_grows n w g h none =
-    aside_grows _ (seen n w g (stage.HandingOff h)) (seen n w g stage.HandedOff) ([]) tt tt (Puts-nothing) (keep (stage.HandingOff h) stage.HandedOff w.opens tt tt)
+    aside_grows _ (seen n w g (stage.HandingOff h)) (seen n w g stage.HandedOff) ([]) tt tt (Puts-nothing) (keep (stage.HandingOff h) stage.HandedOff w.opens g.book.made tt tt)
     (λ m stands. record {
       machine = at n handed_off;
       steps = move_from m (at n (handing [])) (at n handed_off) []

@@ -9,7 +9,7 @@ use Rattle.nb_ledger.specs.declared.message.Msg.{Msg}
 use Rattle.nb_ledger.specs.Flat.{Notice, event, message, events_part, Given, Told}
 use Rattle.nb_opens.specs.Notices.{close_of, or_else, first_close}
 use Rattle.nb_engine.specs.declared.outlet.Note.{Note}
-use Rattle.nb_engine.specs.declared.outlet.Note.TheVariants.{Event, Advance, Datagram}
+use Rattle.nb_engine.specs.declared.outlet.Note.TheVariants.{Event, Advance, Datagram, Bytes, Address}
 use Rattle.nb_engine.specs.Notes.{notice_of, notices_of, IsNoteWithin, AreNotesWithin, AreKept, IsNoteFor, told_by}
 
 -- the cause of the first close in two parts
@@ -41,6 +41,8 @@ notice-more : (bytes more : List ℕ) (n : Note) → IsNoteWithin (length bytes)
 notice-more bytes more (Event e) w = refl
 notice-more bytes more (Advance from rec place) w = refl
 notice-more bytes more (Datagram from rec tried port start end) w = rw (range-append bytes more start end w.0 w.1) refl
+notice-more bytes more (Bytes from rec start end) w = rw (range-append bytes more start end w.0 w.1) refl
+notice-more bytes more (Address from rec address) w = refl
 
 pub notices-more : (bytes more : List ℕ) (notes : List Note) → AreNotesWithin (length bytes) notes → notices_of (bytes ++ more) notes ≡ notices_of bytes notes
 notices-more bytes more [] w = refl
@@ -50,6 +52,8 @@ note_within-more : (a b : ℕ) (n : Note) → a ≤ b → IsNoteWithin a n → I
 note_within-more a b (Event e) h w = tt
 note_within-more a b (Advance from rec place) h w = tt
 note_within-more a b (Datagram from rec tried port start end) h w = (w.0, omega (arith, w.1), w.2)
+note_within-more a b (Bytes from rec start end) h w = (w.0, omega (arith, w.1))
+note_within-more a b (Address from rec address) h w = tt
 
 within-more : (a b : ℕ) (notes : List Note) → a ≤ b → AreNotesWithin a notes → AreNotesWithin b notes
 within-more a b [] h w = tt

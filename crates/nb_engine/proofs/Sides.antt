@@ -1,13 +1,14 @@
 -- Records that don't concern the graph, and where a client stands with it.
-use Rattle.std.proofs.Common.{◌≡◌, ℕ, List, [], ◌∷◌, ◌++◌, refl, sym, ap, subst}
+use Rattle.std.proofs.Common.{◌≡◌, ℕ, List, [], ◌∷◌, ◌++◌, refl, sym, ◌∙◌, ap, subst}
 use Rattle.nb_defs.specs.Records.{In, Out, out_texts}
 use Rattle.nb_defs.specs.Commands.{CommandOutcome}
 use Rattle.std.specs.Prelude.{Option, Some, None}
 use Rattle.nb_record.specs.Logged.{Logged, Puts}
-use Rattle.nb_opens.specs.Graphs.{Graphs, GraphAt, bare, holding, aside, AreAside}
+use Rattle.nb_opens.specs.Graphs.{Graphs, GraphAt, bare, holding, prepared, aside, AreAside}
 use Rattle.nb_engine.specs.declared.stage.Stage.{Stage}
 use Rattle.nb_engine.specs.declared.stage.Stage.TheVariants as stage
 use Rattle.nb_engine.specs.declared.fetch.Fetch.{Fetch}
+use Rattle.nb_engine.specs.declared.inquiry.Inquiry.{Inquiry}
 use Rattle.nb_engine.specs.Running.{Running}
 use Rattle.nb_engine.specs.Effects.{ShownWords}
 use Rattle.nb_engine.specs.Conclusions.{Conclusion, keeps, fails, boots, conclusion_records}
@@ -16,11 +17,13 @@ use Rattle.nb_engine.specs.Seen.{Seen, StandsFor, FitsAt, FitsGraph}
 use Rattle.nb_engine.specs.Turns.{Grows, Leads}
 use Rattle.nb_engine.proofs.TellingLemmas.{without_aside, aside-append}
 
--- no command waits for a fetch
+-- no command waits for an open
 abbrev pub NotWaiting : Stage → Type 0
 NotWaiting stage.Ready = Unit {0}
 NotWaiting (stage.Running s) = Unit {0}
 NotWaiting (stage.Waiting s f) = ⊥
+NotWaiting (stage.Asking s i) = ⊥
+NotWaiting (stage.Reaching s k) = ⊥
 NotWaiting (stage.Sleeping s until) = Unit {0}
 NotWaiting (stage.Yielded s) = Unit {0}
 NotWaiting (stage.HandingOff h) = Unit {0}
@@ -28,47 +31,69 @@ NotWaiting (stage.Left cause) = Unit {0}
 NotWaiting stage.HandedOff = Unit {0}
 NotWaiting stage.Stopped = Unit {0}
 
+-- so many opens and objects were made
+pub same_bare : (x m k n : ℕ) → (x ≡ k) × (m ≡ n) → bare k n ≡ bare x m
+same_bare x m k n e = ap (λ z. bare z n) (sym e.0) ∙ ap (λ z. bare x z) (sym e.1)
+
 -- then the graph is bare
-pub to_bare : (a : Stage) (x : ℕ) → NotWaiting a → (q : GraphAt) → FitsAt a x q → q ≡ bare x
-to_bare (stage.Waiting s f) x n q e = absurd n
-to_bare stage.Ready x n (bare k) e = ap bare (sym e)
-to_bare stage.Ready x n (holding k) e = absurd e
-to_bare (stage.Running s) x n (bare k) e = ap bare (sym e)
-to_bare (stage.Running s) x n (holding k) e = absurd e
-to_bare (stage.Sleeping s until) x n (bare k) e = ap bare (sym e)
-to_bare (stage.Sleeping s until) x n (holding k) e = absurd e
-to_bare (stage.Yielded s) x n (bare k) e = ap bare (sym e)
-to_bare (stage.Yielded s) x n (holding k) e = absurd e
-to_bare (stage.HandingOff h) x n (bare k) e = ap bare (sym e)
-to_bare (stage.HandingOff h) x n (holding k) e = absurd e
-to_bare (stage.Left cause) x n (bare k) e = ap bare (sym e)
-to_bare (stage.Left cause) x n (holding k) e = absurd e
-to_bare stage.HandedOff x n (bare k) e = ap bare (sym e)
-to_bare stage.HandedOff x n (holding k) e = absurd e
-to_bare stage.Stopped x n (bare k) e = ap bare (sym e)
-to_bare stage.Stopped x n (holding k) e = absurd e
+pub to_bare : (a : Stage) (x m : ℕ) → NotWaiting a → (q : GraphAt) → FitsAt a x m q → q ≡ bare x m
+to_bare (stage.Waiting s f) x m w q e = absurd w
+to_bare (stage.Asking s i) x m w q e = absurd w
+to_bare (stage.Reaching s k) x m w q e = absurd w
+to_bare stage.Ready x m w (bare k n) e = same_bare x m k n e
+to_bare stage.Ready x m w (holding k cast) e = absurd e
+to_bare stage.Ready x m w (prepared j n v) e = absurd e
+to_bare (stage.Running s) x m w (bare k n) e = same_bare x m k n e
+to_bare (stage.Running s) x m w (holding k cast) e = absurd e
+to_bare (stage.Running s) x m w (prepared j n v) e = absurd e
+to_bare (stage.Sleeping s until) x m w (bare k n) e = same_bare x m k n e
+to_bare (stage.Sleeping s until) x m w (holding k cast) e = absurd e
+to_bare (stage.Sleeping s until) x m w (prepared j n v) e = absurd e
+to_bare (stage.Yielded s) x m w (bare k n) e = same_bare x m k n e
+to_bare (stage.Yielded s) x m w (holding k cast) e = absurd e
+to_bare (stage.Yielded s) x m w (prepared j n v) e = absurd e
+to_bare (stage.HandingOff h) x m w (bare k n) e = same_bare x m k n e
+to_bare (stage.HandingOff h) x m w (holding k cast) e = absurd e
+to_bare (stage.HandingOff h) x m w (prepared j n v) e = absurd e
+to_bare (stage.Left cause) x m w (bare k n) e = same_bare x m k n e
+to_bare (stage.Left cause) x m w (holding k cast) e = absurd e
+to_bare (stage.Left cause) x m w (prepared j n v) e = absurd e
+to_bare stage.HandedOff x m w (bare k n) e = same_bare x m k n e
+to_bare stage.HandedOff x m w (holding k cast) e = absurd e
+to_bare stage.HandedOff x m w (prepared j n v) e = absurd e
+to_bare stage.Stopped x m w (bare k n) e = same_bare x m k n e
+to_bare stage.Stopped x m w (holding k cast) e = absurd e
+to_bare stage.Stopped x m w (prepared j n v) e = absurd e
 
-pub from_bare : (b : Stage) (x : ℕ) → NotWaiting b → FitsAt b x (bare x)
-from_bare (stage.Waiting s f) x n = absurd n
-from_bare stage.Ready x n = refl
-from_bare (stage.Running s) x n = refl
-from_bare (stage.Sleeping s until) x n = refl
-from_bare (stage.Yielded s) x n = refl
-from_bare (stage.HandingOff h) x n = refl
-from_bare (stage.Left cause) x n = refl
-from_bare stage.HandedOff x n = refl
-from_bare stage.Stopped x n = refl
+pub from_bare : (b : Stage) (x m : ℕ) → NotWaiting b → FitsAt b x m (bare x m)
+from_bare (stage.Waiting s f) x m w = absurd w
+from_bare (stage.Asking s i) x m w = absurd w
+from_bare (stage.Reaching s k) x m w = absurd w
+from_bare stage.Ready x m w = (refl, refl)
+from_bare (stage.Running s) x m w = (refl, refl)
+from_bare (stage.Sleeping s until) x m w = (refl, refl)
+from_bare (stage.Yielded s) x m w = (refl, refl)
+from_bare (stage.HandingOff h) x m w = (refl, refl)
+from_bare (stage.Left cause) x m w = (refl, refl)
+from_bare stage.HandedOff x m w = (refl, refl)
+from_bare stage.Stopped x m w = (refl, refl)
 
-pub keep : (a b : Stage) (x : ℕ) → NotWaiting a → NotWaiting b → (q : GraphAt) → FitsAt a x q → FitsAt b x q
-keep a b x n m q f = subst (FitsAt b x) (sym (to_bare a x n q f)) (from_bare b x m)
+pub keep : (a b : Stage) (x m : ℕ) → NotWaiting a → NotWaiting b → (q : GraphAt) → FitsAt a x m q → FitsAt b x m q
+keep a b x m v w q f = subst (FitsAt b x m) (sym (to_bare a x m v q f)) (from_bare b x m w)
 
-pub keep_waiting : (s t : Running) (f : Fetch) (x : ℕ) (q : GraphAt) → FitsAt (stage.Waiting s f) x q → FitsAt (stage.Waiting t f) x q
-keep_waiting s t f x (bare k) e = absurd e
-keep_waiting s t f x (holding k) e = e
+pub keep_waiting : (s t : Running) (f : Fetch) (x m l : ℕ) (q : GraphAt) → FitsAt (stage.Waiting s f) x m q → FitsAt (stage.Waiting t f) x l q
+keep_waiting s t f x m l (bare k n) e = absurd e
+keep_waiting s t f x m l (holding k cast) e = e
+keep_waiting s t f x m l (prepared j n v) e = absurd e
 
-aside_at : (outs added : List Out) (q : GraphAt) (x : ℕ) → q ≡ bare x → Graphs outs q → AreAside added → Graphs (outs ++ added) q
-aside_at outs added q x e graphs are =
-    subst (λ p. Graphs outs p → Graphs (outs ++ added) p) (sym e) (λ g. aside outs added x g are) graphs
+pub keep_asking : (s t : Running) (i : Inquiry) (x m : ℕ) (q : GraphAt) → FitsAt (stage.Asking s i) x m q → FitsAt (stage.Asking t i) x m q
+keep_asking s t i x m (bare k n) e = absurd e
+keep_asking s t i x m (holding k cast) e = e
+keep_asking s t i x m (prepared j n v) e = absurd e
+
+aside_at : (outs added : List Out) (q : GraphAt) (x m : ℕ) → q ≡ bare x m → Graphs outs q → AreAside added → Graphs (outs ++ added) q
+aside_at outs added q x m e graphs are =
+    subst (λ p. Graphs outs p → Graphs (outs ++ added) p) (sym e) (λ g. aside outs added x m g are) graphs
 
 -- a client for which no command waits grows by records that don't concern the graph
 pub aside_grows : {old new : Logged} (used : List In) (before after : Seen) (added : List Out) → NotWaiting before.stage → AreAside added → Puts old new (out_texts added) →
@@ -77,7 +102,7 @@ aside_grows used before after added rests are p fits leads = record {
   added = added;
   puts = p;
   leads = λ m stands. rw (without_aside added are) (leads m stands);
-  graphs = λ outs q graphs fit. (q, aside_at outs added q before.world.opens (to_bare before.stage before.world.opens rests q fit) graphs are, fits q fit);
+  graphs = λ outs q graphs fit. (q, aside_at outs added q before.world.opens before.graph.book.made (to_bare before.stage before.world.opens before.graph.book.made rests q fit) graphs are, fits q fit);
 }
 
 pub aside_reply : (reply : List ℕ) → AreAside (reply_records reply)

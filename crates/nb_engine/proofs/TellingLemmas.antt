@@ -1,5 +1,5 @@
 -- The records of what the graph tells in a call.
-use Rattle.std.proofs.Common.{◌≡◌, ℕ, ◌+◌, ◌<◌, ◌==◌, length, take, get_or, subst, Bool, true, false, cond, List, [], ◌∷◌, ◌++◌, map, Option, Some, None, refl, sym, ◌∙◌, ap, append-nil}
+use Rattle.std.proofs.Common.{◌≡◌, ℕ, ◌+◌, ◌<◌, ◌==◌, ◌||◌, length, take, get_or, subst, Bool, true, false, cond, List, [], ◌∷◌, ◌++◌, map, Option, Some, None, refl, sym, ◌∙◌, ap, append-nil}
 use Rattle.std.proofs.lemmas.Grind.{flat_map-append}
 use Rattle.std.proofs.lemmas.List.Elements.{filter-append}
 use Rattle.std.proofs.lemmas.List.{map-append, take_more}
@@ -18,7 +18,9 @@ use Rattle.nb_ledger.specs.declared.event.GraphEvent.{GraphEvent}
 use Rattle.nb_graph.specs.Trace.{Said}
 use Rattle.nb_graph.specs.Whole.{port_at}
 use Rattle.nb_nodes.specs.Tags.{tag_number}
-use Rattle.nb_nodes.specs.declared.tag.Tag.TheVariants.{Advance, Try}
+use Rattle.nb_nodes.specs.declared.tag.Tag.TheVariants.{Advance, Try, Bytes, Address}
+use Rattle.nb_engine.specs.declared.speaker.Carrier.TheVariants.{Udp}
+use Rattle.nb_engine.specs.declared.speaker.Speaker.{Speaker}
 use Rattle.nb_nodes.specs.Carried.{advance_said, datagram_said}
 use Rattle.nb_nodes.specs.Fetches.{body_too_large}
 use Rattle.nb_tftp.specs.Asks.{Begun, datagram}
@@ -29,7 +31,7 @@ use Rattle.nb_opens.specs.PairEvents.{made_events, begun_front, begun_back, call
 use Rattle.nb_stack.specs.Client.{Client}
 use Rattle.nb_stack.specs.Sends.{put_on, way_of}
 use Rattle.nb_engine.specs.Opens.{has_route, try_records, send_records, sends_records, advance_records, acts_records}
-use Rattle.nb_engine.specs.Tellings.{Speaker, datagram_of, message_records, notice_records, told_records}
+use Rattle.nb_engine.specs.Tellings.{datagram_of, message_records, notice_records, told_records}
 
 pub told-append : (net : Client) (who : Speaker) (xs ys : List Notice) → told_records net who (xs ++ ys) ≡ told_records net who xs ++ told_records net who ys
 told-append net who xs ys = flat_map-append (notice_records net who) xs ys
@@ -95,11 +97,12 @@ sent_send net number try m = by (has_route net m)
     by false = tt
 
 sent_message : (net : Client) (who : Speaker) (tag a b : ℕ) (bytes : List ℕ) → AreSent (message_records net who tag a b bytes)
-sent_message net who tag a b bytes = by (tag == tag_number Advance)
+sent_message net who tag a b bytes = by ((tag == tag_number Bytes) || (tag == tag_number Address)) (tag == tag_number Advance)
   where
-    by : (r : Bool) → AreSent (cond r (advanced who.number a ∷ []) (send_records net who.number (cond (tag == tag_number Try) (Some a) None) (datagram_of who b bytes)))
-    by true = (tt, tt)
-    by false = sent_send net who.number (cond (tag == tag_number Try) (Some a) None) (datagram_of who b bytes)
+    by : (f r : Bool) → AreSent (cond f [] (cond r (advanced who.number a ∷ []) (send_records net who.number (cond (tag == tag_number Try) (Some a) None) (datagram_of who b bytes))))
+    by true r = tt
+    by false true = (tt, tt)
+    by false false = sent_send net who.number (cond (tag == tag_number Try) (Some a) None) (datagram_of who b bytes)
 
 -- messages are no records of the graph
 pub sent_messages : (net : Client) (who : Speaker) (p : Port) (ms : List Said) → AreSent (told_records net who (map (sent_from p) ms))
@@ -117,11 +120,12 @@ pub data AreSendsOf (b : Begun) : List SendTo → Type 0 where
 
 -- the speaker is the open's that was begun so
 pub record SpeaksFor (who : Speaker) (b : Begun) : Type 0 where
+  pub carrier : who.carrier ≡ Udp
   pub server : who.server ≡ b.server
   pub own_port : who.own_port ≡ b.own_port
 
 same_datagram : (who : Speaker) (b : Begun) (port : ℕ) (body : List ℕ) → SpeaksFor who b → datagram_of who port body ≡ datagram b port body
-same_datagram who b port body is = rw (is.server, is.own_port) refl
+same_datagram who b port body is = rw (is.carrier, is.server, is.own_port) refl
 
 pub send_told : (net : Client) (who : Speaker) (b : Begun) (p : Port) (rec : ℕ) (try : Option ℕ) (port : ℕ) (body : List ℕ) → SpeaksFor who b →
     told_records net who (map (sent_from p) (map (datagram_said rec try) (datagram b port body ∷ []))) ≡ send_records net who.number try (datagram b port body)

@@ -1,12 +1,11 @@
 -- A client whose script runs, or whose image is handed off.
-use Rattle.std.specs.Prelude.{◌≡◌, ◌<◌, ◌≤◌, ℕ, length, List, [], ◌∷◌, ◌++◌, true, Option, Some, None}
+use Rattle.std.specs.Prelude.{◌≡◌, ◌<◌, ◌≤◌, ◌+◌, ◌*◌, ℕ, length, List, [], ◌∷◌, ◌++◌, true, Option, Some, None}
 use Rattle.nb_terms.specs.declared.cause.Cause.{Cause}
 use Rattle.nb_defs.specs.Records.{out_texts, ended}
 use Rattle.nb_record.specs.Logged.{Logged, Puts}
 use Rattle.nb_ledger.specs.Flat.{Notice}
 use Rattle.nb_nodes.specs.Conversations.{first_acts}
 use Rattle.nb_tftp.specs.Asks.{begun}
-use Rattle.nb_opens.specs.Graphs.{fetch_of, tftp_of}
 use Rattle.nb_opens.specs.Notices.{made_notices, begun_notices, closed_notices, freed_notices}
 use Rattle.nb_engine.specs.declared.world.World.{World}
 use Rattle.nb_engine.specs.declared.fetch.Fetch.{Fetch}
@@ -15,7 +14,8 @@ use Rattle.nb_engine.specs.declared.client.Turn.{Turn}
 use Rattle.nb_engine.specs.declared.client.Turn.TheVariants as turn
 use Rattle.nb_engine.specs.declared.command.Deed.{Deed}
 use Rattle.nb_engine.specs.CommandWords.{deed_effect}
-use Rattle.nb_engine.specs.Effects.{Wanted, effect, says, ShownWords, shown_words, shown_as}
+use Rattle.nb_engine.specs.Errands.{Wanted}
+use Rattle.nb_engine.specs.Effects.{effect, says, ShownWords, shown_words, shown_as}
 use Rattle.nb_engine.specs.World.{IsLinked, own_port, with_ended_open}
 use Rattle.nb_engine.specs.Opens.{opened_record}
 use Rattle.nb_engine.specs.Conclusions.{fails, conclusion_records}
@@ -33,23 +33,25 @@ pub record IsNextFetch (w : World) (f : Fetch) : Type 0 where
   pub number : f.number ≡ w.opens
   pub own_port : f.own_port ≡ own_port w.w w.opens
   pub few : w.opens < 16384
+  pub objects : f.objects.tftp.0 ≤ 2 * (w.opens + 1)
   pub name : length f.name ≤ 268435456
 
 -- a command's records were put as far as its open has begun, in the record rec, and then these notices
 abbrev pub PutsBegun : Running → List (List ℕ) → World → Wanted → Fetch → ℕ → Logged → Logged → List Notice → Type 0
 PutsBegun s ws w wanted f rec old new more =
     Puts old new (out_texts ((command_record s (shown_as true ws) ∷ [])
-    ++ (told_records w.net (speaker_of f) (made_notices (fetch_of f.number) (tftp_of f.number))
+    ++ (told_records w.net (speaker_of f) (made_notices f.objects.fetch.0 f.objects.tftp.0)
     ++ ((opened_record w wanted ∷ [])
-    ++ told_records w.net (speaker_of f) (begun_notices (fetch_of f.number) (tftp_of f.number) rec (first_acts (begun f.server 69 f.own_port wanted.target.path)) ++ more)))))
+    ++ told_records w.net (speaker_of f) (begun_notices f.objects.fetch.0 f.objects.tftp.0 rec (first_acts (begun f.server wanted.target.port f.own_port wanted.target.path)) ++ more)))))
 
 -- an open that was begun was closed, since there is no way to its server, and its command's list goes on
 pub record HasTurnedBack (t : Turn) (s : Running) (ws : List (List ℕ)) (wanted : Wanted) (f : Fetch) (before after : Seen) (old new : Logged) : Type 0 where
   pub turn_is : t ≡ turn.More
   pub middle : Logged
   pub begun_so : PutsBegun s ws before.world wanted f before.used old middle
-      (closed_notices (fetch_of f.number) (tftp_of f.number) (no_route f.server.0) ++ freed_notices (fetch_of f.number) (tftp_of f.number))
+      (closed_notices f.objects.fetch.0 f.objects.tftp.0 (no_route f.server.0) ++ freed_notices f.objects.fetch.0 f.objects.tftp.0)
   pub puts : Puts middle new (out_texts (ended f.number (no_route f.server.0) ∷ conclusion_records (fails (no_route f.server.0))))
+  pub made : after.graph.book.made ≡ f.objects.tftp.0
   pub after_is : after ≡ seen before.used (with_ended_open before.world) after.graph (stage.Running (further s (no_route f.server.0)))
 
 -- so it was, unless memory ran out and nothing was put

@@ -1,37 +1,37 @@
 -- What a command read from words comes to.
-use Rattle.std.specs.Prelude.{ℕ, ◌<◌, ◌≤◌, length, IfSome, Result, Ok, Err}
-use Rattle.nb_terms.specs.declared.cause.Cause.{Cause}
+use Rattle.std.specs.Prelude.{ℕ, ◌<◌, ◌≤◌, length, IfSome}
 use Rattle.nb_defs.specs.Causes.{ok}
 use Rattle.nb_defs.specs.Commands.{CommandOutcome, refused, prints_text}
-use Rattle.nb_uri.specs.Views.{target_of}
 use Rattle.nb_tftpmsg.specs.Texts.{HasNoZero}
 use Rattle.nb_command.specs.declared.command_plan.CommandPlan.{CommandPlan}
 use Rattle.nb_command.specs.declared.command_plan.CommandPlan.TheVariants as plan
 use Rattle.nb_command.specs.declared.outcome.Outcome.{Outcome}
 use Rattle.nb_command.specs.declared.outcome.Outcome.TheVariants as outcome
 use Rattle.nb_command.specs.declared.outcome.Job.TheVariants as job
-use Rattle.nb_engine.specs.Effects.{Effect, says, asks, goes, sleeps, shuts_device, leaves_with, sleeping_for, bad_uri, too_long_uri, full_opens}
-use Rattle.nb_engine.specs.Effects as defs
+use Rattle.nb_engine.specs.Effects.{Effect, says, goes, sleeps, shuts_device, leaves_with, sleeping_for}
+use Rattle.nb_engine.specs.Errands as defs
 use Rattle.nb_engine.specs.declared.command.Deed.{Deed}
 use Rattle.nb_engine.specs.declared.command.Deed.TheVariants as deed
-use Rattle.nb_engine.specs.declared.command.Wanted.{Wanted}
-use Rattle.nb_engine.specs.declared.command.Refusal.{Refusal}
-use Rattle.nb_engine.specs.declared.command.Refusal.TheVariants.{BadUri, TooLong, Full}
+use Rattle.nb_engine.specs.declared.errand.Wanted.{Wanted}
+use Rattle.nb_engine.specs.declared.errand.RemoteFile.{RemoteFile}
+use Rattle.nb_engine.specs.declared.errand.Errand.{Errand}
+use Rattle.nb_engine.specs.declared.errand.Errand.TheVariants as errand
+use Rattle.nb_engine.specs.declared.errand.Onward.{Onward}
+use Rattle.nb_engine.specs.declared.errand.Onward.TheVariants as onward
 use Rattle.nb_engine.specs.declared.command.Done.{Done}
 
-abbrev pub cause_of : Refusal → Cause
-cause_of BadUri = bad_uri
-cause_of TooLong = too_long_uri
-cause_of Full = full_opens
-
--- a file that is asked for, without where its words lie in memory
+-- a file that is asked for
 abbrev pub wanted_of : Wanted → defs.Wanted
-wanted_of w = record { uri = w.uri.now; target = target_of w.target; boots = w.boots }
+wanted_of w = defs.wanted_at w.file w.server.0
 
--- what a URI comes to
-abbrev pub asked_of : Result Wanted Refusal → Effect
-asked_of (Ok w) = asks (wanted_of w)
-asked_of (Err refusal) = says (refused (cause_of refusal))
+-- what is asked of a server, before its address is known and after that
+abbrev pub errand_of : Errand → defs.Errand
+errand_of (errand.File file) = defs.fetches_then file
+errand_of errand.Echo = defs.echoes_then
+
+abbrev pub onward_of : Onward → defs.Onward
+onward_of (onward.File wanted) = defs.fetches_now (wanted_of wanted)
+onward_of (onward.Echo server) = defs.echoes_now server.0
 
 abbrev pub done_of : Done → CommandOutcome
 done_of d = record { prints = d.prints; cause = d.cause; leaves = d.leaves }
@@ -50,6 +50,9 @@ outcome_effect (outcome.Goto label) = goes label
 outcome_effect (outcome.Leave n) = says (leaves_with n)
 outcome_effect (outcome.Wait (job.Sleep seconds)) = sleeping_for seconds
 outcome_effect (outcome.Wait (job.Fetch target name after)) = says (refused ok)
+outcome_effect (outcome.Wait job.Lease) = says (refused ok)
+outcome_effect (outcome.Wait (job.Ping text)) = says (refused ok)
+outcome_effect (outcome.Wait (job.Lookup setting text)) = says (refused ok)
 outcome_effect outcome.Down = shuts_device
 
 -- what it prints has at most so many bytes
@@ -59,7 +62,7 @@ PrintsAtMost (deed.Goes label) most = Unit {0}
 PrintsAtMost (deed.Sleeps seconds) most = Unit {0}
 PrintsAtMost deed.Shuts most = Unit {0}
 
--- a plan that asks for no file
+-- a plan that asks for nothing
 abbrev pub IsLocal : CommandPlan → Type 0
 IsLocal (plan.Echo newline text) = Unit {0}
 IsLocal (plan.Goto label) = Unit {0}
@@ -73,10 +76,53 @@ IsLocal (plan.Inc name by) = Unit {0}
 IsLocal (plan.Ifopen device) = Unit {0}
 IsLocal (plan.Ifclose device) = Unit {0}
 IsLocal (plan.Sleep seconds) = Unit {0}
+IsLocal (plan.Dhcp device) = ⊥
+IsLocal (plan.Ping text) = ⊥
+IsLocal (plan.Nslookup setting text) = ⊥
 IsLocal (plan.Fetch uri) = ⊥
 IsLocal (plan.Exec uri) = ⊥
 
--- what it comes to asks for no file either
+-- a plan that asks for a lease
+abbrev pub IsForLease : CommandPlan → Type 0
+IsForLease (plan.Dhcp device) = Unit {0}
+IsForLease (plan.Echo newline text) = ⊥
+IsForLease (plan.Goto label) = ⊥
+IsForLease (plan.Exit n) = ⊥
+IsForLease (plan.Isset word) = ⊥
+IsForLease (plan.Iseq a b) = ⊥
+IsForLease (plan.Set name value) = ⊥
+IsForLease (plan.Clear name) = ⊥
+IsForLease (plan.Show name) = ⊥
+IsForLease (plan.Inc name by) = ⊥
+IsForLease (plan.Fetch uri) = ⊥
+IsForLease (plan.Exec uri) = ⊥
+IsForLease (plan.Ifopen device) = ⊥
+IsForLease (plan.Ifclose device) = ⊥
+IsForLease (plan.Sleep seconds) = ⊥
+IsForLease (plan.Ping text) = ⊥
+IsForLease (plan.Nslookup setting text) = ⊥
+
+-- one that asks for something by one exchange
+abbrev pub IsForInquiry : CommandPlan → Type 0
+IsForInquiry (plan.Dhcp device) = Unit {0}
+IsForInquiry (plan.Ping text) = Unit {0}
+IsForInquiry (plan.Nslookup setting text) = Unit {0}
+IsForInquiry (plan.Echo newline text) = ⊥
+IsForInquiry (plan.Goto label) = ⊥
+IsForInquiry (plan.Exit n) = ⊥
+IsForInquiry (plan.Isset word) = ⊥
+IsForInquiry (plan.Iseq a b) = ⊥
+IsForInquiry (plan.Set name value) = ⊥
+IsForInquiry (plan.Clear name) = ⊥
+IsForInquiry (plan.Show name) = ⊥
+IsForInquiry (plan.Inc name by) = ⊥
+IsForInquiry (plan.Fetch uri) = ⊥
+IsForInquiry (plan.Exec uri) = ⊥
+IsForInquiry (plan.Ifopen device) = ⊥
+IsForInquiry (plan.Ifclose device) = ⊥
+IsForInquiry (plan.Sleep seconds) = ⊥
+
+-- what it comes to asks for nothing either
 abbrev pub IsLocalOutcome : Outcome → Type 0
 IsLocalOutcome outcome.Done = Unit {0}
 IsLocalOutcome (outcome.Text text) = Unit {0}
@@ -84,11 +130,29 @@ IsLocalOutcome (outcome.Goto label) = Unit {0}
 IsLocalOutcome (outcome.Leave n) = Unit {0}
 IsLocalOutcome (outcome.Wait (job.Sleep seconds)) = Unit {0}
 IsLocalOutcome outcome.Down = Unit {0}
+IsLocalOutcome (outcome.Wait job.Lease) = ⊥
+IsLocalOutcome (outcome.Wait (job.Ping text)) = ⊥
+IsLocalOutcome (outcome.Wait (job.Lookup setting text)) = ⊥
 IsLocalOutcome (outcome.Wait (job.Fetch target name after)) = ⊥
 
 -- an open may be made, and the file's path and name are of the sizes that a transfer and an image take
 pub record CanFetch (opens : ℕ) (w : Wanted) : Type 0 where
   pub few : opens < 16384
-  pub clean : HasNoZero w.target.path.now
-  pub path : length w.target.path.now ≤ 1024
-  pub name : length w.target.name.now ≤ 255
+  pub clean : HasNoZero w.file.path
+  pub path : length w.file.path ≤ 1024
+  pub name : length w.file.name ≤ 255
+
+-- the same of a file, wherever its server is
+pub record FitsFile (file : RemoteFile) : Type 0 where
+  pub clean : HasNoZero file.path
+  pub path : length file.path ≤ 1024
+  pub name : length file.name ≤ 255
+
+-- a file that is asked for fits
+abbrev pub FitsErrand : Errand → Type 0
+FitsErrand (errand.File file) = FitsFile file
+FitsErrand errand.Echo = Unit {0}
+
+abbrev pub FitsOnward : Onward → Type 0
+FitsOnward (onward.File wanted) = FitsFile wanted.file
+FitsOnward (onward.Echo server) = Unit {0}

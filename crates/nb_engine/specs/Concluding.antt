@@ -11,7 +11,7 @@ use Rattle.nb_engine.specs.Conclusions.{Conclusion, conclusion, conclusion_recor
 use Rattle.nb_engine.specs.World.{unbound}
 use Rattle.nb_engine.specs.Fetches.{conclusion_of, speaker_of}
 use Rattle.nb_engine.specs.Tellings.{told_records}
-use Rattle.nb_opens.specs.Graphs.{bare, fetch_of, tftp_of}
+use Rattle.nb_opens.specs.Graphs.{bare}
 use Rattle.nb_opens.specs.Notices.{freed_notices}
 use Rattle.nb_opens.specs.Pairs.{HasEnded}
 use Rattle.nb_engine.specs.Seen.{Seen, StandsFor, FitsGraph}
@@ -42,13 +42,13 @@ IsTurn (turn.Over s) st = IsEnd s × IsOverWith st s
 pub record Concludes (t : Turn) (s : Running) (c : Concluded) (before after : Seen) (old new : Logged) : Type 0 where
   pub puts : Puts old new (out_texts (conclusion_records (conclusion_of c before.world.state.images)))
   pub is_turn : IsTurn t after.stage
-  pub fits : FitsGraph after (bare before.world.opens)
+  pub fits : FitsGraph after (bare before.world.opens before.graph.book.made)
   pub stands : StandsFor after (at before.used (phase_after before.world s (conclusion_of c before.world.state.images)))
 
 -- the records of an open's end, of which this was told, and of the command that waited for it
 abbrev pub end_records : Seen → List Notice → Fetch → Cause → Conclusion → List Out
 end_records c ns f cause comes =
-    step c.used ∷ (told_records c.world.net (speaker_of f) (ns ++ freed_notices (fetch_of f.number) (tftp_of f.number))
+    step c.used ∷ (told_records c.world.net (speaker_of f) (ns ++ freed_notices f.objects.fetch.0 f.objects.tftp.0)
     ++ ((ended f.number cause ∷ []) ++ conclusion_records comes))
 
 -- what the command comes to, whose open has ended with this cause and file
@@ -58,10 +58,10 @@ comes_to c body f cause = conclusion cause f.boots (image_of f.name body [] f.ur
 -- the open has ended, with its file where it ended well: what was told, its end and the result were put
 pub record HasEndedOpen (t : Turn) (ns : List Notice) (cause : Cause) (s : Running) (f : Fetch) (before after : Seen) (old new : Logged) : Type 0 where
   pub body : List ℕ
-  pub is_file : (file : Option (List ℕ)) → HasEnded before.graph (fetch_of f.number) (tftp_of f.number) file → IsFile cause file body
+  pub is_file : (file : Option (List ℕ)) → HasEnded before.graph f.objects.fetch.0 f.objects.tftp.0 file → IsFile cause file body
   pub is_turn : IsTurn t after.stage
   pub puts : Puts old new (out_texts (end_records before ns f cause (comes_to before body f cause)))
-  pub fits : FitsGraph after (bare before.world.opens)
+  pub fits : FitsGraph after (bare before.world.opens f.objects.tftp.0)
   pub stands : StandsFor after (at before.used (phase_after (unbound before.world f.own_port) s (comes_to before body f cause)))
 
 -- so it is, unless memory ran out and nothing was put

@@ -1,6 +1,6 @@
--- What a command comes to: it is over with an outcome, it asks for a file, it goes to a label, it sleeps, or it shuts the
--- device; and what it does to the settings and the device. Its words are expanded first.
-use Rattle.std.specs.Prelude.{ℕ, ◌==◌, Bool, true, false, List, None, Result, Ok, Err, if◌then◌else◌}
+-- What a command comes to: it is over with an outcome, it asks for a file, or for something by one exchange, it goes to a
+-- label, it sleeps, or it shuts the device; and what it does to the settings and the device. Its words are expanded first.
+use Rattle.std.specs.Prelude.{ℕ, ◌==◌, Bool, true, false, List, Option, Some, None, Result, Ok, Err, if◌then◌else◌}
 use Rattle.std.specs.Option.{option_map_or}
 use Rattle.std.specs.Str.{bytes_eq}
 use Rattle.nb_terms.specs.declared.cause.Cause.{Cause}
@@ -8,14 +8,13 @@ use Rattle.nb_terms.specs.declared.reason.Long.TheVariants as long
 use Rattle.nb_terms.specs.declared.reason.Plain.TheVariants as plain
 use Rattle.nb_terms.specs.declared.reason.Reason.TheVariants as reason
 use Rattle.nb_terms.specs.Reasons.{as_cause}
-use Rattle.nb_defs.specs.Causes.{ok, unknown, usage, exit_cause, plain_cause}
+use Rattle.nb_defs.specs.Causes.{ok, unknown, usage, exit_cause}
 use Rattle.nb_defs.specs.Commands.{CommandOutcome, refused, prints_text}
 use Rattle.nb_settings.specs.Tables.{TableLists}
 use Rattle.nb_expand.specs.declared.error.ExpandError.{ExpandError}
 use Rattle.nb_expand.specs.declared.error.ExpandError.TheVariants as expand_error
 use Rattle.nb_expand.specs.Values.{named_text}
 use Rattle.nb_expand.specs.WordsExpansion.{expanded_words}
-use Rattle.nb_uri.specs.Targets.{TftpTarget, tftp_target, is_too_long}
 use Rattle.nb_command.specs.declared.command_plan.CommandPlan.{CommandPlan}
 use Rattle.nb_command.specs.declared.command_plan.CommandPlan.TheVariants as plan
 use Rattle.nb_command.specs.declared.error.ApplyError.{ApplyError}
@@ -23,6 +22,8 @@ use Rattle.nb_command.specs.declared.error.ApplyError.TheVariants.{False}
 use Rattle.nb_command.specs.declared.error.PlanError.{PlanError}
 use Rattle.nb_command.specs.declared.error.PlanError.TheVariants as plan_error
 use Rattle.nb_command.specs.Failures.{apply_cause}
+use Rattle.nb_command.specs.declared.locating.Located.{Located}
+use Rattle.nb_command.specs.Locating.{located}
 use Rattle.nb_command.specs.Applying.{out_of_memory}
 use Rattle.nb_command.specs.Planning.{planned}
 use Rattle.nb_command.specs.Settings.{Change}
@@ -33,24 +34,16 @@ use Rattle.nb_command.specs.Clear.{cleared_table}
 use Rattle.nb_command.specs.Show.{setting_shown}
 use Rattle.nb_command.specs.Inc.{increased_table}
 use Rattle.nb_command.specs.Device.{device_change}
-
--- the URI is none that is fetched
-abbrev pub bad_uri : Cause
-bad_uri = plain_cause 15
-
--- its path has over 1,024 bytes, or its image's name over 255
-abbrev pub too_long_uri : Cause
-too_long_uri = record { code = 5; a = 7; b = 0 }
+use Rattle.nb_command.specs.Addresses.{address_table}
+use Rattle.nb_uri.specs.Addresses.{four_decimals}
+use Rattle.nb_dns.specs.WrittenNames.{is_lookup_name}
+use Rattle.nb_wire.specs.declared.address.Ip4.{Ip4}
+use Rattle.nb_engine.specs.Errands.{Wanted, remote_file, Errand, fetches_then, echoes_then, Onward, fetches_now, echoes_now, onward}
+use Rattle.nb_engine.specs.Queries.{Query, for_lease, for_echo, for_address, for_host, bad_name, no_server, dns_in, with_domain}
 
 -- 16,384 opens were made
 abbrev pub full_opens : Cause
 full_opens = record { code = 8; a = 2; b = 0 }
-
--- a file that is asked for: its URI, what that names, and whether it is booted
-pub record Wanted : Type 0 where
-  pub uri : List ℕ
-  pub target : TftpTarget
-  pub boots : Bool
 
 pub data Effect : Type 0 where
   says : CommandOutcome → Effect
@@ -59,17 +52,63 @@ pub data Effect : Type 0 where
   sleeps : (seconds : ℕ) → Effect
   -- the device goes down: what is open there is closed, and the command is over with Ok
   shuts_device : Effect
+  -- something is asked for by one exchange
+  inquires : Query → Effect
 
--- the refusals in their order
-abbrev pub asked_for : ℕ → Bool → List ℕ → TftpTarget → Effect
-asked_for opens boots uri target =
-    if is_too_long target then says (refused too_long_uri)
-    else if opens == 16384 then says (refused full_opens)
-    else asks (record { uri = uri; target = target; boots = boots })
+-- where one more open may be made
+abbrev pub unless_full : ℕ → Effect → Effect
+unless_full opens wanted = if opens == 16384 then says (refused full_opens) else wanted
 
--- the file of a URI, of a run in which so many opens were made
-abbrev pub fetch : ℕ → Bool → List ℕ → Effect
-fetch opens boots uri = option_map_or (asked_for opens boots uri) (tftp_target uri) (says (refused bad_uri))
+-- what is asked of a server whose address is known
+abbrev pub onward_effect : Onward → Effect
+onward_effect (fetches_now wanted) = asks wanted
+onward_effect (echoes_now server) = inquires (for_echo server)
+
+-- a name server is asked for the server's address, where one is known
+abbrev pub asked_host : Errand → List ℕ → Option Ip4 → Effect
+asked_host errand name None = says (refused no_server)
+asked_host errand name (Some by) = inquires (for_host errand name by.0)
+
+-- a server by its name: the refusals in their order
+abbrev pub named_host : ℕ → TableLists → Errand → List ℕ → Effect
+named_host opens table errand name =
+    if is_lookup_name name then unless_full opens (asked_host errand name (dns_in table)) else says (refused bad_name)
+
+-- what is asked of a host: four decimals are its address, and a name is looked up
+abbrev pub at_host : ℕ → TableLists → List ℕ → Errand → Effect
+at_host opens table text errand =
+    option_map_or (λ address. unless_full opens (onward_effect (onward errand address))) (four_decimals text)
+    (named_host opens table errand (with_domain table text))
+
+-- a file that was located is asked for
+abbrev pub fetched : ℕ → Bool → TableLists → Result Located ApplyError → Effect
+fetched opens boots table (Ok file) = at_host opens table file.host (fetches_then (remote_file boots file))
+fetched opens boots table (Err why) = says (refused (apply_cause why))
+
+-- the file of a URI, of a run in which so many opens were made, by its settings
+abbrev pub fetch : ℕ → Bool → TableLists → List ℕ → Effect
+fetch opens boots table uri = fetched opens boots table (located table uri)
+
+-- a name server is asked, where one is known
+abbrev pub asked_name_server : List ℕ → List ℕ → Option Ip4 → Effect
+asked_name_server setting name None = says (refused no_server)
+asked_name_server setting name (Some by) = inquires (for_address setting name by.0)
+
+-- a name's address for a setting: the refusals in their order
+abbrev pub name_effect : ℕ → TableLists → List ℕ → List ℕ → Effect
+name_effect opens table setting name =
+    if is_lookup_name name then unless_full opens (asked_name_server setting name (dns_in table)) else says (refused bad_name)
+
+-- a setting that refuses an address refuses first
+abbrev pub unless_refused : Change → Effect → Effect
+unless_refused (Ok table) wanted = wanted
+unless_refused (Err why) wanted = says (refused (apply_cause why))
+
+-- the address of a host for a setting: four decimals are it, and a name is looked up
+abbrev pub looked_up_effect : ℕ → TableLists → List ℕ → List ℕ → Effect
+looked_up_effect opens table setting text =
+    unless_refused (address_table setting 0 table)
+    (option_map_or (λ address. says (refused ok)) (four_decimals text) (name_effect opens table setting (with_domain table text)))
 
 -- `exit n`
 abbrev pub leaves_with : ℕ → CommandOutcome
@@ -106,10 +145,13 @@ plan_effect opens table (plan.Set name value) = says (change_outcome (set_table 
 plan_effect opens table (plan.Clear name) = says (change_outcome (cleared_table name table))
 plan_effect opens table (plan.Show name) = says (text_told (setting_shown name table))
 plan_effect opens table (plan.Inc name by) = says (change_outcome (increased_table name by table))
-plan_effect opens table (plan.Fetch uri) = fetch opens false uri
-plan_effect opens table (plan.Exec uri) = fetch opens true uri
+plan_effect opens table (plan.Fetch uri) = fetch opens false table uri
+plan_effect opens table (plan.Exec uri) = fetch opens true table uri
 plan_effect opens table (plan.Ifopen device) = device_effect (says (refused ok)) (device_change device true)
 plan_effect opens table (plan.Ifclose device) = device_effect shuts_device (device_change device false)
+plan_effect opens table (plan.Dhcp device) = device_effect (unless_full opens (inquires for_lease)) (device_change device true)
+plan_effect opens table (plan.Ping text) = at_host opens table text echoes_then
+plan_effect opens table (plan.Nslookup setting text) = looked_up_effect opens table setting text
 plan_effect opens table (plan.Sleep seconds) = sleeping_for seconds
 
 -- the settings that a change leaves
@@ -132,6 +174,9 @@ plan_table (plan.Fetch uri) table = table
 plan_table (plan.Exec uri) table = table
 plan_table (plan.Ifopen device) table = table
 plan_table (plan.Ifclose device) table = table
+plan_table (plan.Dhcp device) table = table
+plan_table (plan.Ping text) table = table
+plan_table (plan.Nslookup setting text) table = option_map_or (λ address. changed table (address_table setting address table)) (four_decimals text) table
 plan_table (plan.Sleep seconds) table = table
 
 -- whether the device is up after it was set so
@@ -143,6 +188,9 @@ set_up up (Err why) = up
 abbrev pub plan_up : CommandPlan → Bool → Bool
 plan_up (plan.Ifopen device) up = set_up up (device_change device true)
 plan_up (plan.Ifclose device) up = set_up up (device_change device false)
+plan_up (plan.Dhcp device) up = set_up up (device_change device true)
+plan_up (plan.Ping text) up = up
+plan_up (plan.Nslookup setting text) up = up
 plan_up (plan.Echo newline text) up = up
 plan_up (plan.Goto label) up = up
 plan_up (plan.Exit n) up = up

@@ -3,26 +3,27 @@ use Rattle.std.specs.Prelude.{◌≡◌, ◌<◌, ◌≤◌, ℕ, length, Bool, 
 use Rattle.nb_graph.specs.Whole.{Objects}
 use Rattle.nb_nodes.specs.declared.obj.Obj.{Obj}
 use Rattle.nb_image.specs.Images.{ImageList}
-use Rattle.nb_opens.specs.Graphs.{fetch_of, tftp_of}
+use Rattle.nb_opens.specs.declared.download.Download.{Download}
 use Rattle.nb_opens.specs.Pairs.{Downloads}
 use Rattle.nb_engine.specs.declared.fetch.Fetch.{Fetch}
 use Rattle.nb_engine.specs.declared.conclusion.Conclusion.{Conclusion as Concluded}
 use Rattle.nb_engine.specs.declared.conclusion.Conclusion.TheVariants as concluded
 use Rattle.nb_engine.specs.Handings.{AreShort}
 use Rattle.nb_engine.specs.Opens.{Open, body_of}
-use Rattle.nb_engine.specs.Link.{host}
-use Rattle.nb_engine.specs.Effects.{Wanted}
+use Rattle.nb_command.specs.SettingAddresses.{host}
+use Rattle.nb_engine.specs.Errands.{Wanted}
 use Rattle.nb_engine.specs.Conclusions.{Conclusion, keeps, fails, boots}
-use Rattle.nb_engine.specs.Tellings.{Speaker}
+use Rattle.nb_engine.specs.declared.speaker.Speaker.{Speaker}
+use Rattle.nb_engine.specs.declared.speaker.Carrier.TheVariants.{Udp}
 
--- a fetch of this file, of the open of this number
-abbrev pub fetch_for : ℕ → ℕ → Wanted → Fetch
-fetch_for number own_port wanted =
-    record { number = number; server = host wanted.target.server; own_port = own_port; name = wanted.target.name; uri = wanted.uri; boots = wanted.boots }
+-- a fetch of this file, of the open of this number, which has these objects
+abbrev pub fetch_for : ℕ → Download → ℕ → Wanted → Fetch
+fetch_for number objects own_port wanted =
+    record { number = number; objects = objects; server = host wanted.target.server; own_port = own_port; name = wanted.target.name; uri = wanted.uri; boots = wanted.boots }
 
 -- who speaks for a fetch
 abbrev pub speaker_of : Fetch → Speaker
-speaker_of f = record { number = f.number; server = f.server; own_port = f.own_port }
+speaker_of f = record { number = f.number; carrier = Udp; server = f.server; own_port = f.own_port }
 
 -- the fetch is the open's
 pub record IsFetchOf (f : Fetch) (o : Open) : Type 0 where
@@ -37,7 +38,7 @@ pub record IsFetchOf (f : Fetch) (o : Open) : Type 0 where
 pub record IsLive (g : Objects Obj) (f : Fetch) (o : Open) : Type 0 where
   pub fetch : IsFetchOf f o
   pub request : length o.begun.request ≤ 1480
-  pub downloads : Downloads g (fetch_of o.number) (tftp_of o.number) o.begun o.start o.entries (body_of o)
+  pub downloads : Downloads g f.objects.fetch.0 f.objects.tftp.0 o.begun o.start o.entries (body_of o)
 
 -- a conclusion of the program, with the list of images that it leaves
 abbrev pub conclusion_of : Concluded → ImageList → Conclusion

@@ -12,7 +12,8 @@ use Rattle.nb_nodes.specs.declared.obj.Obj.{Obj}
 use Rattle.nb_tftp.specs.Asks.{Begun}
 use Rattle.nb_tftp.specs.Sentences.{Meets}
 use Rattle.nb_tftp.specs.History.{Call, Entry}
-use Rattle.nb_opens.specs.Graphs.{fetch_of, tftp_of, without_graph, IsEntry}
+use Rattle.nb_opens.specs.Graphs.{without_graph, IsEntry}
+use Rattle.nb_opens.specs.declared.download.Download.{Download}
 use Rattle.nb_opens.specs.Pairs.{CallDoes}
 use Rattle.nb_engine.specs.World.{with_net}
 use Rattle.nb_engine.specs.Machine.{Phase, Hears, at, reply_records}
@@ -54,21 +55,21 @@ pub record HasHeard (g : Objects Obj) (f : Fetch) (p : Port) (by : Way) (rec : �
   pub fetch : IsFetchOf f o
   pub request : length o.begun.request ≤ 1480
   pub meets : Meets o.begun o.start o.entries
-  pub does : CallDoes g (fetch_of o.number) (tftp_of o.number) o.begun o.start o.entries (body_of o) p by rec call ns
+  pub does : CallDoes g f.objects.fetch.0 f.objects.tftp.0 o.begun o.start o.entries (body_of o) p by rec call ns
 
--- some call came to the objects of the open of this number, and the outside was told this
-pub record WasCalled (g : Objects Obj) (k : ℕ) (p : Port) (by : Way) (rec : ℕ) (ns : List Notice) : Type 0 where
+-- some call came to these objects of an open, and the outside was told this
+pub record WasCalled (g : Objects Obj) (d : Download) (p : Port) (by : Way) (rec : ℕ) (ns : List Notice) : Type 0 where
   pub begun : Begun
   pub start : ℕ
   pub calls : List Entry
   pub body : List ℕ
   pub call : Call
-  pub entry : IsEntry (tftp_of k) p by
-  pub does : CallDoes g (fetch_of k) (tftp_of k) begun start calls body p by rec call ns
+  pub entry : IsEntry d.tftp.0 p by
+  pub does : CallDoes g d.fetch.0 d.tftp.0 begun start calls body p by rec call ns
 
 -- some call came to them, and the outside was told this
-abbrev pub IsCalled : Objects Obj → ℕ → Option (List Notice) → Type 0
-IsCalled g k told = (p : Port) × (by : Way) × (rec : ℕ) × (ns : List Notice) × (told ≡ Some ns) × WasCalled g k p by rec ns
+abbrev pub IsCalled : Objects Obj → Download → Option (List Notice) → Type 0
+IsCalled g d told = (p : Port) × (by : Way) × (rec : ℕ) × (ns : List Notice) × (told ≡ Some ns) × WasCalled g d p by rec ns
 
 -- a frame was taken by a client for which no open lives: its step was begun, and the reply put, if there is one
 pub record TakesFrame (bytes : List ℕ) (before after : Seen) (old new : Logged) : Type 0 where

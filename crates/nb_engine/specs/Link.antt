@@ -1,37 +1,16 @@
 -- own: the client's address, mask and gateway are settings of net0, and its device is up or down as the state says
-use Rattle.std.specs.Prelude.{ℕ, ◌==◌, Bool, List, [], ◌∷◌, Option, Some, None, unwrap_or, codes, if◌then◌else◌}
-use Rattle.std.specs.Int.{w32, from_be_bytes}
+use Rattle.std.specs.Prelude.{Bool, Option, Some, None, unwrap_or, codes}
 use Rattle.nb_wire.specs.declared.address.Ip4.{Ip4}
 use Rattle.nb_stack.specs.declared.address.Addr.{Addr}
 use Rattle.nb_stack.specs.Client.{Client}
 use Rattle.nb_settings.specs.declared.setting.OwnedKey.{OwnedKey}
 use Rattle.nb_settings.specs.declared.setting.OwnedKey.TheVariants.{Tag, Free}
-use Rattle.nb_settings.specs.Tables.{TableLists, SettingValue, look}
-
--- an address as a number
-abbrev pub host : ℕ → Ip4
-host address = record { 0 = address }
-
--- the first four bytes of a setting; fewer are no address
-abbrev pub address_bytes : List ℕ → Option Ip4
-address_bytes (a ∷ b ∷ c ∷ d ∷ rest) = Some (host (from_be_bytes w32 (a ∷ b ∷ c ∷ d ∷ [])))
-address_bytes (a ∷ b ∷ c ∷ []) = None
-address_bytes (a ∷ b ∷ []) = None
-address_bytes (a ∷ []) = None
-address_bytes [] = None
-
-abbrev pub value_address : Option SettingValue → Option Ip4
-value_address None = None
-value_address (Some value) = address_bytes value.bytes
+use Rattle.nb_settings.specs.Tables.{TableLists, look}
+use Rattle.nb_command.specs.SettingAddresses.{host, value_address, nonzero}
 
 -- the address that a setting of net0 has, if it has one
 unfoldable pub net0_address : OwnedKey → TableLists → Option Ip4
 net0_address key table = value_address (look (Some (codes "net0")) key table)
-
--- an address of 0 is none
-abbrev pub nonzero : Option Ip4 → Option Ip4
-nonzero None = None
-nonzero (Some address) = if address.0 == 0 then None else Some address
 
 -- `netmask` has tag 1 and `gateway` tag 3 (RFC 2132); an unset mask is 255.255.255.0
 abbrev pub address_with : TableLists → Option Ip4 → Option Addr

@@ -16,7 +16,12 @@ use Rattle.nb_engine.specs.declared.world.World.{World}
 use Rattle.nb_engine.specs.World.{world_of, with_net, world_later, world_with_images, world_with, with_open, with_ended_open, unbound}
 use Rattle.nb_engine.specs.FirstText.{first_reading, text_refusal}
 use Rattle.nb_engine.specs.Running.{Running, first_script, coming, passing, leaving, beginning, entered, further, behind_line, with_result, anew, no_label}
-use Rattle.nb_engine.specs.Effects.{Wanted, says, asks, goes, sleeps, shuts_device, effect, table_after, up_after, ShownWords, shown_words}
+use Rattle.nb_graph.specs.Trace.{Said}
+use Rattle.nb_engine.specs.Queries.{Query, for_echo}
+use Rattle.nb_engine.specs.Talks.{Talk, TalkGoes, Incoming, message_in, time_in, message_for, first_message, fields_of}
+use Rattle.nb_engine.specs.Lones.{Lone, lone_for, talk_for, with_talk, open_told, with_lone, without_lone, settled, world_settled, onward_from}
+use Rattle.nb_engine.specs.Errands.{Wanted, Onward, fetches_now, echoes_now}
+use Rattle.nb_engine.specs.Effects.{says, asks, goes, sleeps, shuts_device, inquires, full_opens, effect, table_after, up_after, ShownWords, shown_words}
 use Rattle.nb_engine.specs.Opens.{Open, open_for, with_entry, body_of, request_of, has_route, send_records, acts_records, opened_record, heard_from, end_of, begun_for}
 use Rattle.nb_engine.specs.Conclusions.{Conclusion, keeps, fails, boots, conclusion, image_from, conclusion_records, handoff_records}
 
@@ -28,6 +33,10 @@ pub data Phase : Type 0 where
   running : World → Running → Phase
   -- its last command waits for this open
   waiting : World → Running → Open → Phase
+  -- its last command waits for an open of one object
+  asking : World → Running → Lone → Phase
+  -- its last command has found its server's address, and its own open is next
+  reaching : World → Running → Onward → Phase
   -- its last command sleeps until this time, in milliseconds
   sleeping : World → Running → (until : ℕ) → Phase
   -- 4,096 commands began in this step, and another is to begin
@@ -103,6 +112,22 @@ pub data Hears : World → Running → Open → Call → List Out → Phase → 
       (acts_records w.net o.number acts ++ (ended o.number cause ∷ []) ++ conclusion_records (concluded w (with_entry o (entry call acts)) cause))
       (phase_after (unbound w o.begun.own_port) s (concluded w (with_entry o (entry call acts)) cause))
 
+-- A message or a time comes to an open of one object. What its core asks then is such that it meets its promises over all
+-- that has come to it. Where that ends the open, its port is free, and the command is over, or its own open is next, whose
+-- server's address was found.
+pub data Replies : World → Running → Lone → Incoming → List Out → Phase → Type 0 where
+  talks_on : (w : World) (s : Running) (o : Lone) (e : Incoming) (acts : Acts) (t : Talk) →
+      TalkGoes o.start o.talk e acts t → acts.over ≡ None →
+      Replies w s o e (acts_records w.net o.number acts) (asking w s (with_talk o t))
+  comes_to_end : (w : World) (s : Running) (o : Lone) (e : Incoming) (acts : Acts) (t : Talk) (cause : Cause) →
+      TalkGoes o.start o.talk e acts t → acts.over ≡ Some cause → onward_from cause o.query t ≡ None →
+      Replies w s o e
+      (acts_records w.net o.number acts ++ (ended o.number cause ∷ result (settled cause o.query t w.state.table).cause ∷ []))
+      (running (world_settled (without_lone w o.talk) (settled cause o.query t w.state.table)) (with_result s (settled cause o.query t w.state.table).cause))
+  finds_host : (w : World) (s : Running) (o : Lone) (e : Incoming) (acts : Acts) (t : Talk) (cause : Cause) (next : Onward) →
+      TalkGoes o.start o.talk e acts t → acts.over ≡ Some cause → onward_from cause o.query t ≡ Some next →
+      Replies w s o e (acts_records w.net o.number acts ++ (ended o.number cause ∷ [])) (reaching (without_lone w o.talk) s next)
+
 -- a reply to a frame, if there is one
 abbrev pub reply_records : List ℕ → List Out
 reply_records [] = []
@@ -135,6 +160,23 @@ pub data Begins : Machine → In → List Out → Machine → Type 0 where
   -- the power is switched off: the open ends, and the command gives no result
   switches_off : (n : ℕ) (w : World) (s : Running) (o : Open) →
       Begins (at n (waiting w s o)) off (step (n + 1) ∷ ended o.number stopped_cause ∷ []) (at (n + 1) stopped)
+  -- a frame brings an open of one object nothing
+  passes_it_by : (n : ℕ) (w : World) (s : Running) (o : Lone) (bytes reply : List ℕ) (seen : TakeOutcome) (net : Client) → IsIn (frame bytes) →
+      Takes w.net bytes seen [] reply net → message_for o.talk (n + 1) seen ≡ None →
+      Begins (at n (asking w s o)) (frame bytes) (step (n + 1) ∷ reply_records reply) (at (n + 1) (asking (with_net w net) (anew s) o))
+  -- or a message that counts for it
+  brings_it : (n : ℕ) (w : World) (s : Running) (o : Lone) (bytes reply : List ℕ) (seen : TakeOutcome) (net : Client) (m : Said)
+      (added : List Out) (phase : Phase) → IsIn (frame bytes) →
+      Takes w.net bytes seen [] reply net → message_for o.talk (n + 1) seen ≡ Some m →
+      Replies (with_net w net) (anew s) o (message_in m w.time) added phase →
+      Begins (at n (asking w s o)) (frame bytes) (step (n + 1) ∷ added) (at (n + 1) phase)
+  -- time passes for it
+  passes_its_time : (n : ℕ) (w : World) (s : Running) (o : Lone) (ms : ℕ) (added : List Out) (phase : Phase) → IsIn (tick ms) →
+      Replies (world_later w ms) (anew s) o (time_in (w.time + ms)) added phase →
+      Begins (at n (asking w s o)) (tick ms) (step (n + 1) ∷ added) (at (n + 1) phase)
+  -- the power is switched off meanwhile
+  switches_it_off : (n : ℕ) (w : World) (s : Running) (o : Lone) →
+      Begins (at n (asking w s o)) off (step (n + 1) ∷ ended o.number stopped_cause ∷ []) (at (n + 1) stopped)
   -- a command sleeps on through a frame
   sleeps_through_frame : (n : ℕ) (w : World) (s : Running) (until : ℕ) (bytes reply : List ℕ) (seen : TakeOutcome) (net : Client) → IsIn (frame bytes) →
       Takes w.net bytes seen [] reply net →
@@ -205,6 +247,48 @@ pub data Move : Machine → List Out → Machine → Type 0 where
       (command_record s (shown_words w.state.table (c ∷ cs)) ∷ opened_record w wanted ∷ ended w.opens (no_route wanted.target.server)
       ∷ conclusion_records (fails (no_route wanted.target.server)))
       (at n (running (with_ended_open w) (further s (no_route wanted.target.server))))
+  -- a command that asks for a lease, an echo or a name's address: its open begins, and it waits
+  inquires_for : (n : ℕ) (w : World) (s : Running) (c : List ℕ) (cs : List (List ℕ)) (q : Query) → coming s ≡ beginning c cs → s.begun < 4096 →
+      effect w.opens w.state.table (c ∷ cs) ≡ inquires q →
+      has_route (world_after w (c ∷ cs)).net (first_message (talk_for (world_after w (c ∷ cs)) q)) ≡ true →
+      Move (at n (running w s))
+      (command_record s (shown_words w.state.table (c ∷ cs)) ∷ open_told w.opens (fields_of (talk_for (world_after w (c ∷ cs)) q))
+      ∷ send_records (world_after w (c ∷ cs)).net w.opens (Some 1) (first_message (talk_for (world_after w (c ∷ cs)) q)))
+      (at n (asking (with_lone (world_after w (c ∷ cs)) (talk_for (world_after w (c ∷ cs)) q)) (entered s) (lone_for (world_after w (c ∷ cs)) q)))
+  -- to whom there is no way: the open was made, and has ended
+  reaches_none : (n : ℕ) (w : World) (s : Running) (c : List ℕ) (cs : List (List ℕ)) (q : Query) → coming s ≡ beginning c cs → s.begun < 4096 →
+      effect w.opens w.state.table (c ∷ cs) ≡ inquires q →
+      has_route (world_after w (c ∷ cs)).net (first_message (talk_for (world_after w (c ∷ cs)) q)) ≡ false →
+      Move (at n (running w s))
+      (command_record s (shown_words w.state.table (c ∷ cs)) ∷ open_told w.opens (fields_of (talk_for (world_after w (c ∷ cs)) q))
+      ∷ ended w.opens (no_route (fields_of (talk_for (world_after w (c ∷ cs)) q)).server)
+      ∷ result (no_route (fields_of (talk_for (world_after w (c ∷ cs)) q)).server) ∷ [])
+      (at n (running (with_ended_open (world_after w (c ∷ cs))) (further s (no_route (fields_of (talk_for (world_after w (c ∷ cs)) q)).server))))
+  -- the file is fetched of the server whose address was found: its open begins
+  asks_on : (n : ℕ) (w : World) (s : Running) (wanted : Wanted) → w.opens < 16384 → has_route w.net (request_of (begun_for w wanted)) ≡ true →
+      Move (at n (reaching w s (fetches_now wanted)))
+      (opened_record w wanted ∷ send_records w.net w.opens (Some 1) (request_of (begun_for w wanted)))
+      (at n (waiting (with_open w) s (open_for w wanted)))
+  -- to which there is no way: the open was made, and has ended
+  finds_no_way : (n : ℕ) (w : World) (s : Running) (wanted : Wanted) → w.opens < 16384 → has_route w.net (request_of (begun_for w wanted)) ≡ false →
+      Move (at n (reaching w s (fetches_now wanted)))
+      (opened_record w wanted ∷ ended w.opens (no_route wanted.target.server) ∷ result (no_route wanted.target.server) ∷ [])
+      (at n (running (with_ended_open w) (with_result s (no_route wanted.target.server))))
+  -- the server whose address was found is asked for an echo
+  echoes_on : (n : ℕ) (w : World) (s : Running) (server : ℕ) → w.opens < 16384 →
+      has_route w.net (first_message (talk_for w (for_echo server))) ≡ true →
+      Move (at n (reaching w s (echoes_now server)))
+      (open_told w.opens (fields_of (talk_for w (for_echo server))) ∷ send_records w.net w.opens (Some 1) (first_message (talk_for w (for_echo server))))
+      (at n (asking (with_lone w (talk_for w (for_echo server))) s (lone_for w (for_echo server))))
+  -- to which there is no way
+  finds_no_way_to : (n : ℕ) (w : World) (s : Running) (server : ℕ) → w.opens < 16384 →
+      has_route w.net (first_message (talk_for w (for_echo server))) ≡ false →
+      Move (at n (reaching w s (echoes_now server)))
+      (open_told w.opens (fields_of (talk_for w (for_echo server))) ∷ ended w.opens (no_route server) ∷ result (no_route server) ∷ [])
+      (at n (running (with_ended_open w) (with_result s (no_route server))))
+  -- no more opens may be made
+  opens_no_more : (n : ℕ) (w : World) (s : Running) (next : Onward) → w.opens ≡ 16384 →
+      Move (at n (reaching w s next)) (result full_opens ∷ []) (at n (running w (with_result s full_opens)))
   -- a piece of the image is handed off
   hands : (n : ℕ) (r : Out) (rest : List Out) → Move (at n (handing (r ∷ rest))) (r ∷ []) (at n (handing rest))
   -- all was handed off
@@ -232,6 +316,8 @@ abbrev pub shutdown_records : Phase → List Out
 shutdown_records ready = []
 shutdown_records (running w s) = []
 shutdown_records (waiting w s o) = ended o.number stopped_cause ∷ []
+shutdown_records (asking w s o) = ended o.number stopped_cause ∷ []
+shutdown_records (reaching w s next) = []
 shutdown_records (sleeping w s until) = []
 shutdown_records (yielded w s) = []
 shutdown_records (handing rest) = []

@@ -9,9 +9,9 @@ use Rattle.std.specs.List.{AllByRecursion, slice_range}
 use Rattle.nb_ledger.specs.Flat.{Notice, event, message}
 use Rattle.nb_nodes.specs.Tags.{tag_number}
 use Rattle.nb_nodes.specs.Carried.{try_tag, try_number}
-use Rattle.nb_nodes.specs.declared.tag.Tag.TheVariants.{Advance as AdvanceTag}
+use Rattle.nb_nodes.specs.declared.tag.Tag.TheVariants.{Advance as AdvanceTag, Bytes as BytesTag, Address as AddressTag}
 use Rattle.nb_engine.specs.declared.outlet.Note.{Note}
-use Rattle.nb_engine.specs.declared.outlet.Note.TheVariants.{Event, Advance, Datagram}
+use Rattle.nb_engine.specs.declared.outlet.Note.TheVariants.{Event, Advance, Datagram, Bytes, Address}
 
 -- what a note says; a datagram's bytes are a range of these
 abbrev pub notice_of : List ℕ → Note → Notice
@@ -19,16 +19,20 @@ notice_of bytes (Event e) = event e
 notice_of bytes (Advance from rec place) = message from (tag_number AdvanceTag) rec place 0 []
 notice_of bytes (Datagram from rec tried port start end) =
     message from (tag_number (try_tag tried)) rec (try_number tried) port (slice_range bytes start end)
+notice_of bytes (Bytes from rec start end) = message from (tag_number BytesTag) rec 0 0 (slice_range bytes start end)
+notice_of bytes (Address from rec address) = message from (tag_number AddressTag) rec address.0 0 []
 
 -- what they all say
 abbrev pub notices_of : List ℕ → List Note → List Notice
 notices_of bytes notes = map (notice_of bytes) notes
 
--- a datagram's bytes are so many of which one frame holds all
+-- bytes lie within what is kept, and a datagram's are so many of which one frame holds all
 abbrev pub IsNoteWithin : ℕ → Note → Type 0
 IsNoteWithin len (Event e) = Unit {0}
 IsNoteWithin len (Advance from rec place) = Unit {0}
 IsNoteWithin len (Datagram from rec tried port start end) = (start ≤ end) × (end ≤ len) × (end ≤ start + 1480)
+IsNoteWithin len (Bytes from rec start end) = (start ≤ end) × (end ≤ len)
+IsNoteWithin len (Address from rec address) = Unit {0}
 
 abbrev pub AreNotesWithin : ℕ → List Note → Type 0
 AreNotesWithin len notes = AllByRecursion (IsNoteWithin len) notes

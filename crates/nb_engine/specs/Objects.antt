@@ -6,15 +6,21 @@ use Rattle.nb_graph.specs.Whole.{Objects}
 use Rattle.nb_nodes.specs.declared.obj.Obj.{Obj}
 use Rattle.nb_nodes.specs.Conversations.{first_acts}
 use Rattle.nb_tftp.specs.Asks.{Begun}
-use Rattle.nb_opens.specs.Graphs.{fetch_of, tftp_of}
-use Rattle.nb_opens.specs.Notices.{made_notices, begun_notices}
+use Rattle.nb_opens.specs.declared.download.Download.{Download}
+use Rattle.nb_opens.specs.Notices.{made_notices, completed_notices, begun_notices}
 use Rattle.nb_opens.specs.Pairs.{Downloads}
 
--- the objects of an open were made, and its transfer was begun in the record rec, at a time
-pub record BeginsOpen (g : Objects Obj) (k : ℕ) (b : Begun) (now rec : ℕ) (made told : Option (List Notice)) : Type 0 where
-  pub made_so : made ≡ Some (made_notices (fetch_of k) (tftp_of k))
-  pub told_so : told ≡ Some (begun_notices (fetch_of k) (tftp_of k) rec (first_acts b))
-  pub downloads : Downloads g (fetch_of k) (tftp_of k) b now [] []
+-- the objects of an open, these, were made, and its transfer was begun in the record rec, at a time
+pub record BeginsOpen (g : Objects Obj) (d : Download) (b : Begun) (now rec : ℕ) (made told : Option (List Notice)) : Type 0 where
+  pub made_so : made ≡ Some (made_notices d.fetch.0 d.tftp.0)
+  pub told_so : told ≡ Some (begun_notices d.fetch.0 d.tftp.0 rec (first_acts b))
+  pub downloads : Downloads g d.fetch.0 d.tftp.0 b now [] []
+
+-- the Tftp of an open's objects, these, was made below the Fetch, which had waited, and its transfer was begun so
+pub record BeginsCompleted (g : Objects Obj) (d : Download) (b : Begun) (now rec : ℕ) (made told : Option (List Notice)) : Type 0 where
+  pub made_so : made ≡ Some (completed_notices d.fetch.0 d.tftp.0)
+  pub told_so : told ≡ Some (begun_notices d.fetch.0 d.tftp.0 rec (first_acts b))
+  pub downloads : Downloads g d.fetch.0 d.tftp.0 b now [] []
 
 -- this was told behind what was told before
 abbrev pub TellsMore : Option (List Notice) → Option (List Notice) → List Notice → Type 0

@@ -14,9 +14,9 @@ use Rattle.nb_tftp.specs.Asks.{Begun, begun, last_message}
 use Rattle.nb_tftp.specs.History.{Entry, got}
 use Rattle.nb_tftp.specs.Blocks.{file}
 use Rattle.nb_engine.specs.declared.world.World.{World}
-use Rattle.nb_engine.specs.Link.{host}
+use Rattle.nb_command.specs.SettingAddresses.{host}
 use Rattle.nb_engine.specs.World.{own_port}
-use Rattle.nb_engine.specs.Effects.{Wanted}
+use Rattle.nb_engine.specs.Errands.{Wanted}
 
 -- An open: its number, the file that it asks for, what its transfer was begun with and when, and all
 -- the datagrams and times that came to it since, with what the transfer asked at each.
@@ -27,9 +27,9 @@ pub record Open : Type 0 where
   pub start : ℕ
   pub entries : List Entry
 
--- the next open, for this file: from the client's next port to port 69 of the server
+-- the next open, for this file: from the client's next port to the port that the file's server is asked at
 abbrev pub begun_for : World → Wanted → Begun
-begun_for w wanted = begun (host wanted.target.server) 69 (own_port w.w w.opens) wanted.target.path
+begun_for w wanted = begun (host wanted.target.server) wanted.target.port (own_port w.w w.opens) wanted.target.path
 
 abbrev pub open_for : World → Wanted → Open
 open_for w wanted = record { number = w.opens; wanted = wanted; begun = begun_for w wanted; start = w.time; entries = [] }
@@ -81,7 +81,7 @@ acts_records net number acts = advance_records number acts.advance ++ sends_reco
 
 -- a TFTP open begins
 abbrev pub opened_record : World → Wanted → Out
-opened_record w wanted = opened w.opens 1 wanted.target.server 69 (own_port w.w w.opens) wanted.target.path
+opened_record w wanted = opened w.opens 1 wanted.target.server wanted.target.port (own_port w.w w.opens) wanted.target.path
 
 -- a datagram that was handed on counts where it comes from the open's server: its port and its body
 abbrev pub heard_from : Ip4 → Outcome → Option (ℕ × List ℕ)

@@ -3,7 +3,7 @@ ghost use Rattle.nb_defs.specs.Commands.{refused};
 ghost use Rattle.nb_defs.specs.Records.{out_texts, ended, leave};
 ghost use Rattle.nb_record.specs.Logged.{Puts};
 ghost use Rattle.nb_engine.specs.Turns.{AnswersTurn, IsNearer};
-ghost use Rattle.nb_engine.specs.Seen.{IsSound, seen, standing};
+ghost use Rattle.nb_engine.specs.Seen.{HasNoObjects, IsSound, seen, standing};
 ghost use Rattle.nb_engine.specs.Machine.{no_route, command_record};
 ghost use Rattle.nb_engine.specs.Running.{entered, further};
 ghost use Rattle.nb_engine.specs.declared.client.Turn.TheVariants as turn;
@@ -19,7 +19,7 @@ ghost use Rattle.nb_engine.specs.Conclusions.{fails, conclusion_records};
 ghost use Rattle.nb_ledger.specs.Flat.{Notice};
 ghost use Rattle.nb_nodes.specs.Asking.{is_path};
 ghost use Rattle.nb_tftp.specs.Asks.{begun};
-ghost use Rattle.nb_opens.specs.Pairs.{IsEmpty};
+ghost use Rattle.nb_opens.specs.Graphs.{AreNext};
 ghost use Rattle.nb_engine.specs.Objects.{BeginsOpen};
 ghost use Rattle.nb_graph.specs.Whole.{Objects};
 ghost use Rattle.nb_nodes.specs.declared.obj.Obj.{Obj as Object};
@@ -30,26 +30,25 @@ ghost use Rattle.nb_engine.specs.Advance.{EndsAtOnce, HasCarriedOut, IsNextFetch
 ghost use Rattle.nb_engine.specs.Handings.{IsAt};
 ghost use Rattle.nb_engine.specs.declared.stage.Stage.TheVariants as stage;
 
-use crate::command::{Deed, Done, Wanted, read_uri};
+use crate::command::{Deed, Done};
 use crate::desk::{Desk, lent};
+use crate::errand::Wanted;
+use crate::intent::Intent;
 use crate::objects::{begin, turn_back};
-use crate::put::{has_route, put_over, put_result, put_told};
+use crate::put::{has_route, put_over, put_result};
 use crate::running::Next;
 use crate::status::status_after;
 use crate::world::own_port;
 use crate::{Client, Fetch, Handing, KeptFetch, RunningScript, Stage, Status, Turn};
 use nb_command::{CommandPlan, PlanError, plan};
 use nb_nodes::Ask;
-use nb_record::{Cause, Log, NoMemory, OutRec};
+use nb_opens::Download;
+use nb_record::{Cause, Log, NoMemory};
 use nb_terms::{Plain, Reason};
-use nb_uri::TFTP_PORT;
 use nb_wire::Word;
 
 /// UDP (RFC 768).
-const UDP: u8 = 17;
-
-/// The kind of an open by TFTP, as its record names it.
-const TFTP: u8 = 1;
+pub(crate) const UDP: u8 = 17;
 
 impl Client {
     /// The script goes on: it passes a line or a command, does a command, or is left.
@@ -74,7 +73,7 @@ impl Client {
     }
 
     /// The script goes on.
-    fn run_on(&mut self, script: RunningScript) -> Turn
+    pub(crate) fn run_on(&mut self, script: RunningScript) -> Turn
         requires sound { IsSound self.old.used self.old.world self.old.graph (stage.Running script) }
         ensures turn { result ≡ turn.More }
         ensures after { self.new ≡ standing self.old (stage.Running script) }
@@ -106,6 +105,11 @@ impl Client {
                 self.ask_for(script, words, uri.as_slice(), false, log)
             }
             Ok(CommandPlan::Exec { uri }) => self.ask_for(script, words, uri.as_slice(), true, log),
+            Ok(
+                plan @ (CommandPlan::Dhcp(_)
+                | CommandPlan::Ping { .. }
+                | CommandPlan::Nslookup { .. }),
+            ) => self.inquire(script, words, &plan, log),
             Ok(plan) => self.carry_out(script, words, &plan, log),
             Err(PlanError::NoMemory) => Turn::Over(Status::NoMemory),
             Err(PlanError::Unknown) => {
@@ -115,7 +119,7 @@ impl Client {
         }
     }
 
-    /// Asks for the file of a URI.
+    /// Asks for the file of a URI, or for the address of its server's name first.
     fn ask_for(
         &mut self,
         script: RunningScript,
@@ -126,15 +130,17 @@ impl Client {
     ) -> Turn
         requires sound { IsSound self.old.used self.old.world self.old.graph (stage.Running script) }
         requires words { HasCommand script self.old.world.state.table words.now }
-        requires value { words_effect self.old.world.opens self.old.world.state.table words.now ≡ fetch self.old.world.opens boots uri.now }
+        requires value { words_effect self.old.world.opens self.old.world.state.table words.now ≡ fetch self.old.world.opens boots self.old.world.state.table uri.now }
         requires same { words_table self.old.world.state.table words.now ≡ self.old.world.state.table }
         requires up { words_up self.old.world.state.up words.now ≡ self.old.world.state.up }
         ensures does { AnswersTurn result [] (standing self.old (stage.Running script)) self.new log.old log.new }
         ensures nearer { IsNearer result (standing self.old (stage.Running script)) self.new }
     {
-        match read_uri(self.world.opens, boots, uri) {
-            Ok(wanted) => self.fetch(script, words, &wanted, log),
-            Err(refusal) => self.refuse(script, true, words, refusal.cause(), log),
+        match self.world.seek(self.alloc, uri, boots) {
+            Ok(Intent::Fetches(wanted)) => self.fetch(script, words, &wanted, log),
+            Ok(Intent::Over(cause)) => self.refuse(script, true, words, cause, log),
+            Ok(Intent::Asks(query)) => self.reach(script, words, query, log),
+            Err(NoMemory) => Turn::Over(Status::NoMemory),
         }
     }
 
@@ -157,7 +163,7 @@ impl Client {
         self.settle(script, left)
     }
 
-    /// Does a command that asks for no file.
+    /// Does a command that asks for nothing.
     fn carry_out(
         &mut self,
         script: RunningScript,
@@ -180,7 +186,7 @@ impl Client {
     }
 
     /// Goes on as a command was carried out.
-    fn go_by(
+    pub(crate) fn go_by(
         &mut self,
         mut script: RunningScript,
         words: &[Word],
@@ -251,7 +257,7 @@ impl Client {
         &mut self,
         script: RunningScript,
         words: &[Word],
-        wanted: &Wanted<'_>,
+        wanted: &Wanted,
         log: &mut Log,
     ) -> Turn
         requires sound { IsSound self.old.used self.old.world self.old.graph (stage.Running script) }
@@ -263,10 +269,10 @@ impl Client {
     {
         let number = self.world.opens;
         let own_port = own_port(self.world.w, number);
-        let Ok(fetch) = Fetch::of(self.alloc, number, own_port, wanted) else {
+        let Ok((objects, mut desk)) = self.begin(own_port, wanted) else {
             return Turn::Over(Status::NoMemory);
         };
-        let Ok(mut desk) = self.begin(fetch.get(), wanted.target.path) else {
+        let Ok(fetch) = Fetch::of(self.alloc, number, objects, own_port, wanted) else {
             return Turn::Over(Status::NoMemory);
         };
         let turn = self.go_out(script, words, wanted, fetch, &mut desk, log);
@@ -279,7 +285,7 @@ impl Client {
         &mut self,
         script: RunningScript,
         words: &[Word],
-        wanted: &Wanted<'_>,
+        wanted: &Wanted,
         fetch: KeptFetch,
         desk: &mut Desk,
         log: &mut Log,
@@ -287,47 +293,44 @@ impl Client {
         requires words { HasCommand script self.old.world.state.table words.now }
         requires value { words_effect self.old.world.opens self.old.world.state.table words.now ≡ asks (wanted_of wanted.now) }
         requires file { CanFetch self.old.world.opens wanted.now }
-        requires next { fetch ≡ fetch_for self.old.world.opens (own_port_of self.old.world.w self.old.world.opens) (wanted_of wanted.now) }
+        requires next { fetch ≡ fetch_for self.old.world.opens fetch.objects (own_port_of self.old.world.w self.old.world.opens) (wanted_of wanted.now) }
+        requires few { fetch.objects.tftp.0 ≤ 2 * (self.old.world.opens + 1) }
         requires ports { self.old.world.net.ports ≡ [] }
-        requires begins { BeginsOpen self.old.graph fetch.number (begun fetch.server 69 fetch.own_port wanted.now.target.path.now)
+        requires begins { BeginsOpen self.old.graph fetch.objects (begun fetch.server wanted.now.file.port fetch.own_port wanted.now.file.path)
             self.old.world.time self.old.used desk.old.made desk.old.told }
-        ensures does { (g : Objects Object) → AnswersTurn result [] (seen self.old.used self.old.world g (stage.Running script)) self.new log.old log.new }
+        ensures does { (g : Objects Object) → AreNext g.book.made fetch.objects.fetch.0 fetch.objects.tftp.0 → AnswersTurn result [] (seen self.old.used self.old.world g (stage.Running script)) self.new log.old log.new }
         ensures nearer { (g : Objects Object) → IsNearer result (seen self.old.used self.old.world g (stage.Running script)) self.new }
     {
-        if has_route(&self.world.net, fetch.get(), &mut desk.room) {
+        let who = fetch.get().speaker();
+        if has_route(&self.world.net, &who, &mut desk.room) {
             self.ask(script, words, wanted, fetch, desk, log)
         } else {
             self.turn_back(script, words, wanted, fetch, desk, log)
         }
     }
 
-    /// Makes the objects of this fetch, and begins its transfer. What they told stands on the desk that is
-    /// given back.
-    fn begin(&mut self, fetch: &Fetch, path: &[u8]) -> Result<Box<Desk>, NoMemory>
-        requires empty { IsEmpty self.old.graph (2 * fetch.now.number) }
-        requires path { is_path path.now ≡ true }
-        ensures begins { IfOk result (λ desk. BeginsOpen self.new.graph fetch.now.number (begun fetch.now.server 69 fetch.now.own_port path.now)
-            self.old.world.time self.old.used desk.value.made desk.value.told) }
+    /// Makes the objects of an open for a file, and begins its transfer from this port of the client. What they
+    /// told stands on the desk that is given back with them.
+    fn begin(&mut self, own_port: u16, wanted: &Wanted) -> Result<(Download, Box<Desk>), NoMemory>
+        requires sound { HasNoObjects self.old.world.opens self.old.graph }
+        requires few { self.old.world.opens < 16384 }
+        requires path { is_path wanted.now.file.path ≡ true }
+        ensures next { IfOk result (λ b. AreNext self.old.graph.book.made b.0.fetch.0 b.0.tftp.0) }
+        ensures begins { IfOk result (λ b. BeginsOpen self.new.graph b.0 (begun wanted.now.server wanted.now.file.port own_port wanted.now.file.path)
+            self.old.world.time self.old.used b.1.value.made b.1.value.told) }
         ensures same { self.new ≡ seen self.old.used self.old.world self.new.graph stage.Stopped }
     {
         self.stage = Stage::Stopped;
         let mut desk = lent(self.alloc, self.desk.take())?;
         let ask = Ask {
-            server: fetch.server,
-            port: TFTP_PORT,
-            own_port: fetch.own_port,
-            path,
+            server: wanted.server,
+            port: wanted.file.port,
+            own_port,
+            path: wanted.file.path.as_slice(),
         };
-        begin(
-            self.alloc,
-            &mut self.graph,
-            fetch.number,
-            self.used,
-            &ask,
-            self.world.time,
-            &mut desk,
-        )?;
-        Ok(desk)
+        let now = self.world.time;
+        let objects = begin(self.alloc, &mut self.graph, self.used, &ask, now, &mut desk)?;
+        Ok((objects, desk))
     }
 
     /// Puts that a command begins, its fetch, and what the open's objects told.
@@ -335,13 +338,13 @@ impl Client {
         &self,
         script: &RunningScript,
         words: &[Word],
-        wanted: &Wanted<'_>,
+        wanted: &Wanted,
         fetch: &Fetch,
         desk: &mut Desk,
         log: &mut Log,
     )
         requires words { IsReady script.now words.now }
-        requires fits { length wanted.now.target.path.now ≤ 1024 }
+        requires fits { length wanted.now.file.path ≤ 1024 }
         requires own { fetch.now.own_port ≡ own_port_of self.now.world.w self.now.world.opens }
         requires made { (ns : List Notice) × (desk.old.made ≡ Some ns) }
         requires told { (ns : List Notice) × (desk.old.told ≡ Some ns) }
@@ -352,25 +355,7 @@ impl Client {
             ++ told_records self.now.world.net (speaker_of fetch.now) told)))) }
     {
         script.put_begun(true, words, log);
-        put_told(&desk.made, &self.world.net, fetch, &mut desk.room, log);
-        self.put_opened(wanted, fetch.own_port, log);
-        put_told(&desk.told, &self.world.net, fetch, &mut desk.room, log);
-    }
-
-    /// Puts the open.
-    fn put_opened(&self, wanted: &Wanted<'_>, own: u16, log: &mut Log)
-        requires fits { length wanted.now.target.path.now ≤ 1024 }
-        requires own { own ≡ own_port_of self.now.world.w self.now.world.opens }
-        ensures { Puts log.old log.new (out_texts (opened_record self.now.world (wanted_of wanted.now) ∷ [])) }
-    {
-        log.put(&OutRec::Opened {
-            number: self.world.opens,
-            kind: TFTP,
-            server: wanted.target.server,
-            port: TFTP_PORT,
-            own,
-            target: wanted.target.path,
-        });
+        self.put_open(wanted, fetch, desk, log);
     }
 
     /// The request has left: the script's command waits for this fetch, whose port is bound.
@@ -378,16 +363,16 @@ impl Client {
         &mut self,
         mut script: RunningScript,
         words: &[Word],
-        wanted: &Wanted<'_>,
+        wanted: &Wanted,
         fetch: KeptFetch,
         desk: &mut Desk,
         log: &mut Log,
     ) -> Turn
         requires words { IsReady script words.now }
         requires own { IsNextFetch self.old.world fetch }
-        requires fits { length wanted.now.target.path.now ≤ 1024 }
+        requires fits { length wanted.now.file.path ≤ 1024 }
         requires ports { self.old.world.net.ports ≡ [] }
-        requires begins { BeginsOpen self.old.graph fetch.number (begun fetch.server 69 fetch.own_port wanted.now.target.path.now)
+        requires begins { BeginsOpen self.old.graph fetch.objects (begun fetch.server wanted.now.file.port fetch.own_port wanted.now.file.path)
             self.old.world.time self.old.used desk.old.made desk.old.told }
         ensures turn { result ≡ turn.Waiting }
         ensures puts { PutsBegun script words.now self.old.world (wanted_of wanted.now) fetch self.old.used log.old log.new [] }
@@ -410,24 +395,24 @@ impl Client {
         &mut self,
         script: RunningScript,
         words: &[Word],
-        wanted: &Wanted<'_>,
+        wanted: &Wanted,
         fetch: KeptFetch,
         desk: &mut Desk,
         log: &mut Log,
     ) -> Turn
         requires words { IsReady script words.now }
         requires own { IsNextFetch self.old.world fetch }
-        requires fits { length wanted.now.target.path.now ≤ 1024 }
+        requires fits { length wanted.now.file.path ≤ 1024 }
         requires ports { self.old.world.net.ports ≡ [] }
-        requires begins { BeginsOpen self.old.graph fetch.number (begun fetch.server 69 fetch.own_port wanted.now.target.path.now)
+        requires begins { BeginsOpen self.old.graph fetch.objects (begun fetch.server wanted.now.file.port fetch.own_port wanted.now.file.path)
             self.old.world.time self.old.used desk.old.made desk.old.told }
         ensures { TurnsBack result script words.now (wanted_of wanted.now) fetch self.old self.new log.old log.new }
     {
         let open = fetch.get();
         let cause = Cause::from(Reason::NoRoute(open.server));
         self.stage = Stage::Stopped;
-        let (number, now) = (open.number, self.world.time);
-        let Ok(()) = turn_back(&mut self.graph, number, &cause, now, &mut desk.told) else {
+        let (objects, now) = (open.objects, self.world.time);
+        let Ok(()) = turn_back(&mut self.graph, objects, &cause, now, &mut desk.told) else {
             return Turn::Over(Status::NoMemory);
         };
         self.put_begun(&script, words, wanted, open, desk, log);
@@ -440,7 +425,7 @@ impl Client {
         requires there { 0 < length script.rest }
         requires ports { self.old.world.net.ports ≡ [] }
         requires few { self.old.world.opens < 16384 }
-        requires empty { IsEmpty self.old.graph (2 * (self.old.world.opens + 1)) }
+        requires empty { HasNoObjects (self.old.world.opens + 1) self.old.graph }
         ensures turn { result ≡ turn.More }
         ensures puts { Puts log.old log.new
             (out_texts (ended fetch.number (no_route fetch.server.0) ∷ conclusion_records (fails (no_route fetch.server.0)))) }

@@ -3,13 +3,21 @@ ghost use Rattle.nb_defs.specs.Records.{IsIn, IsStart, out_texts};
 ghost use Rattle.nb_record.specs.View.{in_of, start_of};
 ghost use Rattle.nb_record.specs.Logged.{Puts};
 ghost use Rattle.nb_engine.specs.StatusNumber.{status_number};
-ghost use Rattle.nb_engine.specs.Turns.{AnswersTurn, IsBusy, IsNearer, MayUse, closing_records};
+ghost use Rattle.nb_opens.specs.Alones.{IsOpenLoneBy};
+ghost use Rattle.nb_opens.specs.Graphs.{traced};
+ghost use Rattle.nb_opens.specs.Pairs.{IsDownloading};
+ghost use Rattle.nb_opens.specs.Waiters.{waiter_freed_events, Waits};
+ghost use Rattle.nb_engine.specs.Inquiries.{company_of};
+ghost use Rattle.nb_engine.specs.Turns.{AnswersTurn, IsBusy, IsNearer, MayUse, closing_records, left_records, shut_alone, shut_records};
 ghost use Rattle.nb_engine.specs.declared.stage.Stage.TheVariants as stage;
 
-use crate::desk::Desk;
-use crate::{Stage, Status, World};
+use crate::desk::{Desk, lent};
+use crate::put::put_freed;
+use crate::talks::free_waiter;
+use crate::{Fetch, Inquiry, Stage, Status, World};
 use nb_graph::Graph;
 use nb_nodes::Obj;
+use nb_opens::Waiter;
 use nb_record::{InRec, Log, NoMemory, OutRec, Start};
 use std::alloc::Global;
 use std::marker::Model;
@@ -61,6 +69,7 @@ impl Client {
         ensures used { IfOk result (λ c. c.used ≡ 0) }
         ensures ready { IfOk result (λ c. c.stage ≡ stage.Ready) }
         ensures opens { IfOk result (λ c. c.world.opens ≡ 0) }
+        ensures made { IfOk result (λ c. c.graph.book.made ≡ 0) }
     {
         Ok(Client {
             alloc,
@@ -88,6 +97,13 @@ impl Client {
             }
             (Stage::Waiting(script, fetch), InRec::Tick(ms)) => self.tick(script, fetch, *ms, log),
             (Stage::Waiting(_, fetch), InRec::Off) => self.switch_off(fetch, log),
+            (Stage::Asking(script, inquiry), InRec::Frame(bytes)) => {
+                self.frame_asking(script, inquiry, bytes, log)
+            }
+            (Stage::Asking(script, inquiry), InRec::Tick(ms)) => {
+                self.tick_asking(script, inquiry, *ms, log)
+            }
+            (Stage::Asking(_, inquiry), InRec::Off) => self.switch_off_asking(inquiry, log),
             (Stage::Sleeping(script, until), InRec::Frame(bytes)) => {
                 self.frame_asleep(script, until, bytes, log)
             }
@@ -111,23 +127,73 @@ impl Client {
     {
         match mem::replace(&mut self.stage, Stage::Stopped) {
             Stage::Running(script) => self.advance(script, log),
+            Stage::Reaching(script, kept) => self.open_next(script, kept, log),
             Stage::HandingOff(handing) => self.hand_on(handing, log),
             _ => unreachable!(),
         }
     }
 
     /// Ends the run: closes and frees the objects of an open that is left, and puts that, its end, and DONE with
-    /// the run's status, the last record. Where memory runs out nothing is put.
+    /// the run's status, the last record. What waits for an open is freed. Where memory runs out nothing is put.
     pub fn finish(&mut self, status: Status, log: &mut Log) -> Result<(), NoMemory>
         ensures puts { OnOk result (Puts log.old log.new (out_texts (closing_records self.old.stage (status_number status)))) }
         ensures nothing { OnErr result (log.new ≡ log.old) }
         ensures stopped { self.new.stage ≡ stage.Stopped }
     {
-        if let Stage::Waiting(_, fetch) = mem::replace(&mut self.stage, Stage::Stopped) {
-            let mut desk = self.shut(fetch.get())?;
-            self.put_shut(fetch.get(), &mut desk, log);
-        }
+        self.close(log)?;
         log.put(&OutRec::Done(status.number()));
+        Ok(())
+    }
+
+    /// Closes and frees the objects of an open that is left.
+    fn close(&mut self, log: &mut Log) -> Result<(), NoMemory>
+        ensures puts { OnOk result (Puts log.old log.new (out_texts (left_records self.old.stage))) }
+        ensures nothing { OnErr result (log.new ≡ log.old) }
+        ensures stopped { self.new.stage ≡ stage.Stopped }
+    {
+        match mem::replace(&mut self.stage, Stage::Stopped) {
+            Stage::Waiting(_, fetch) => self.close_fetch(fetch.get(), log),
+            Stage::Asking(_, inquiry) => self.close_inquiry(inquiry.get(), log),
+            Stage::Reaching(_, kept) => self.close_prepared(kept.waiter(), log),
+            _ => Ok(()),
+        }
+    }
+
+    /// Closes the open of a fetch, for which a command waited.
+    fn close_fetch(&mut self, fetch: &Fetch, log: &mut Log) -> Result<(), NoMemory>
+        requires going { IsDownloading self.old.graph fetch.now.objects.fetch.0 fetch.now.objects.tftp.0 }
+        ensures puts { OnOk result (Puts log.old log.new (out_texts (shut_records fetch.now.number fetch.now.objects))) }
+        ensures nothing { OnErr result (log.new ≡ log.old) }
+        ensures stopped { self.new.stage ≡ stage.Stopped }
+    {
+        let mut desk = self.shut(fetch)?;
+        self.put_shut(fetch, &mut desk, log);
+        Ok(())
+    }
+
+    /// Closes the open of an inquiry, for which a command waited.
+    fn close_inquiry(&mut self, inquiry: &Inquiry, log: &mut Log) -> Result<(), NoMemory>
+        requires open { IsOpenLoneBy (company_of self.old.graph inquiry.now) self.old.graph inquiry.now.object.object.0 }
+        ensures puts { OnOk result (Puts log.old log.new (out_texts (shut_alone inquiry.now.speaker.number inquiry.now.waiter inquiry.now.object))) }
+        ensures nothing { OnErr result (log.new ≡ log.old) }
+        ensures stopped { self.new.stage ≡ stage.Stopped }
+    {
+        let mut desk = self.shut_inquiry(inquiry)?;
+        self.put_shut_inquiry(inquiry, &mut desk, log);
+        Ok(())
+    }
+
+    /// Frees what waits for an open.
+    fn close_prepared(&mut self, waiter: Waiter, log: &mut Log) -> Result<(), NoMemory>
+        requires stands { self.old.stage ≡ stage.Stopped }
+        requires waits { Waits self.old.graph waiter self.old.graph.book.made }
+        ensures puts { OnOk result (Puts log.old log.new (out_texts (traced (waiter_freed_events waiter)))) }
+        ensures nothing { OnErr result (log.new ≡ log.old) }
+        ensures stopped { self.new.stage ≡ stage.Stopped }
+    {
+        let mut desk = lent(self.alloc, self.desk.take())?;
+        free_waiter(&mut self.graph, Some(waiter), &mut desk.freed)?;
+        put_freed(&self.world.net, &mut desk, log);
         Ok(())
     }
 }

@@ -1,43 +1,25 @@
 ghost use Rattle.std.specs.Prelude.{◌≡◌, ◌≤◌, ℕ, length, IfOk, OnOk, OnErr};
-ghost use Rattle.std.specs.Option.{option_map_or};
 ghost use Rattle.nb_defs.specs.Causes.{exit_cause};
 ghost use Rattle.nb_defs.specs.Commands.{refused, prints_text};
-ghost use Rattle.nb_uri.specs.Targets.{tftp_target};
 ghost use Rattle.nb_command.specs.Printed.{most_printed, IfText};
-ghost use Rattle.nb_engine.specs.Effects.{plan_effect, plan_table, plan_up, fetch, leaves_with};
+ghost use Rattle.nb_engine.specs.Effects.{full_opens, plan_effect, plan_table, plan_up, leaves_with};
 ghost use Rattle.nb_engine.specs.World.{state_of};
-ghost use Rattle.nb_engine.specs.CommandWords.{asked_of, cause_of, done_of, deed_effect, outcome_effect, IsLocal, IsLocalOutcome, PrintsAtMost, CanFetch};
+ghost use Rattle.nb_engine.specs.CommandWords.{done_of, deed_effect, outcome_effect, IsLocal, IsLocalOutcome, PrintsAtMost};
 
 use nb_command::{CommandPlan, Job, Outcome, State, apply};
 use nb_record::{Cause, NoMemory};
-use nb_terms::{Fullness, Long, Plain, Reason};
-use nb_uri::{TftpUri, UriError};
+use nb_terms::{Fullness, Plain, Reason};
 use nb_wire::{Text, Word};
 use std::alloc::Global;
 
 /// How many opens a run may have.
-const MAX_OPENS: u16 = 16_384;
+pub(crate) const MAX_OPENS: u16 = 16_384;
 
-/// A file that a command asks for.
-#[derive(Clone, Copy)]
-pub struct Wanted<'a> {
-    /// The URI as it was given.
-    pub uri: &'a [u8],
-    /// What it names.
-    pub target: TftpUri<'a>,
-    /// Whether the image is booted.
-    pub boots: bool,
-}
-
-/// Why a URI's file isn't asked for.
-#[derive(Clone, Copy)]
-pub enum Refusal {
-    /// The URI isn't one that is fetched.
-    BadUri,
-    /// The URI's path or name is too long.
-    TooLong,
-    /// All opens were made.
-    Full,
+/// The cause of a command that asks for an open more.
+pub(crate) fn full_opens() -> Cause
+    ensures { result ≡ full_opens }
+{
+    Cause::from(Reason::Full(Fullness::Opens))
 }
 
 /// What a command came to.
@@ -51,7 +33,7 @@ pub struct Done {
     pub leaves: bool,
 }
 
-/// What a command that asks for no file comes to.
+/// What a command that asks for nothing comes to.
 #[derive(Drop)]
 pub enum Deed {
     /// It is over.
@@ -62,18 +44,6 @@ pub enum Deed {
     Sleeps(u32),
     /// The device went down: what is open there is to be closed, and it is over with Ok.
     Shuts,
-}
-
-impl Refusal {
-    pub fn cause(self) -> Cause
-        ensures { result ≡ cause_of self }
-    {
-        match self {
-            Refusal::BadUri => Plain::BadUri.cause(),
-            Refusal::TooLong => Cause::from(Reason::TooLong(Long::Path)),
-            Refusal::Full => Cause::from(Reason::Full(Fullness::Opens)),
-        }
-    }
 }
 
 impl Done {
@@ -121,20 +91,6 @@ fn exit_result(n: u8) -> Cause
     Cause::from(Reason::Exit(n))
 }
 
-/// The file that a URI names, where one more open may be made.
-pub fn read_uri(opens: u16, boots: bool, uri: &[u8]) -> Result<Wanted<'_>, Refusal>
-    requires { opens ≤ 16384 }
-    ensures value { fetch opens boots uri.now ≡ asked_of result }
-    ensures file { IfOk result (λ w. CanFetch opens w) }
-{
-    match TftpUri::read(uri) {
-        Ok(_) if opens == MAX_OPENS => Err(Refusal::Full),
-        Ok(target) => Ok(Wanted { uri, target, boots }),
-        Err(UriError::BadUri) => Err(Refusal::BadUri),
-        Err(UriError::TooLong) => Err(Refusal::TooLong),
-    }
-}
-
 /// What an outcome comes to. `sleep 0` is over at once.
 fn deed_of(outcome: Outcome) -> Deed
     requires { IsLocalOutcome outcome }
@@ -148,11 +104,13 @@ fn deed_of(outcome: Outcome) -> Deed
         Outcome::Leave(n) => Deed::Ends(Done::leaving(n)),
         Outcome::Wait(Job::Sleep(seconds)) => Deed::Sleeps(seconds),
         Outcome::Down => Deed::Shuts,
-        Outcome::Wait(Job::Fetch { .. }) => unreachable!(),
+        Outcome::Wait(Job::Fetch { .. } | Job::Lease | Job::Ping { .. } | Job::Lookup { .. }) => {
+            unreachable!()
+        }
     }
 }
 
-/// Carries a command out that asks for no file.
+/// Carries a command out that asks for nothing.
 pub fn carry_out(alloc: Global, plan: &CommandPlan, state: &mut State) -> Result<Deed, NoMemory>
     requires { IsLocal plan.now }
     ensures value { IfOk result (λ deed. (opens : ℕ) → plan_effect opens state.old.table plan.now ≡ deed_effect deed) }

@@ -22,6 +22,8 @@ pub struct Desk {
     pub(crate) made: Outlet,
     /// What was told since.
     pub(crate) told: Outlet,
+    /// What was told of what was let go behind the end of an open.
+    pub(crate) freed: Outlet,
     pub(crate) room: Room,
 }
 
@@ -40,6 +42,7 @@ impl Desk {
         Ok(Desk {
             made: Outlet::new(alloc)?,
             told: Outlet::new(alloc)?,
+            freed: Outlet::new(alloc)?,
             room: Room {
                 bytes: [0; MAX_FRAME],
             },

@@ -1,17 +1,20 @@
 ghost use Rattle.std.specs.Prelude.{◌≡◌, ◌≤◌, length, IfOk};
 ghost use Rattle.nb_engine.specs.CommandWords.{wanted_of};
-ghost use Rattle.nb_engine.specs.Fetches.{fetch_for};
+ghost use Rattle.nb_engine.specs.Fetches.{fetch_for, speaker_of};
 
+use crate::speaker::{Carrier, Speaker};
 use crate::{KeptFetch, Wanted};
+use nb_opens::Download;
 use nb_record::NoMemory;
 use nb_wire::{Ip4, Text};
 use std::alloc::Global;
 
-/// A fetch under way: its open, and what it is to become. Its objects are those of its number on the graph.
+/// A fetch under way: its open, the open's objects on the graph, and what it is to become.
 #[derive(Drop)]
 pub struct Fetch {
     /// The open's number.
     pub(crate) number: u16,
+    pub(crate) objects: Download,
     pub(crate) server: Ip4,
     /// The client's port.
     pub(crate) own_port: u16,
@@ -23,31 +26,46 @@ pub struct Fetch {
 }
 
 /// A copy of these bytes.
-fn copy(alloc: Global, bytes: &[u8]) -> Result<Text, NoMemory>
+pub(crate) fn copy(alloc: Global, bytes: &[u8]) -> Result<Text, NoMemory>
     ensures { IfOk result (λ text. text ≡ bytes.now) }
 {
     Ok(Text::from_vec(Vec::from_slice(alloc, bytes)?))
 }
 
 impl Fetch {
-    /// A fetch of this file. The number and the port are the open's.
+    /// A fetch of this file. The number, the objects and the port are the open's.
     pub fn of(
         alloc: Global,
         number: u16,
+        objects: Download,
         own_port: u16,
-        wanted: &Wanted<'_>,
+        wanted: &Wanted,
     ) -> Result<KeptFetch, NoMemory>
-        ensures { IfOk result (λ f. f ≡ fetch_for number own_port (wanted_of wanted.now)) }
+        ensures { IfOk result (λ f. f ≡ fetch_for number objects own_port (wanted_of wanted.now)) }
     {
-        let target = &wanted.target;
+        let file = &wanted.file;
         let fetch = Fetch {
             number,
-            server: target.server,
+            objects,
+            server: wanted.server,
             own_port,
-            name: copy(alloc, target.name)?,
-            uri: copy(alloc, wanted.uri)?,
-            boots: wanted.boots,
+            name: copy(alloc, file.name.as_slice())?,
+            uri: copy(alloc, file.uri.as_slice())?,
+            boots: file.boots,
         };
         KeptFetch::of(alloc, fetch)
+    }
+
+    /// Whose messages leave.
+    #[inline(always)]
+    pub fn speaker(&self) -> Speaker
+        ensures { result ≡ speaker_of self.now }
+    {
+        Speaker {
+            number: self.number,
+            carrier: Carrier::Udp,
+            server: self.server,
+            own_port: self.own_port,
+        }
     }
 }

@@ -1,4 +1,4 @@
-ghost use Rattle.std.specs.Prelude.{◌≡◌, ℕ, List, ◌∷◌, [], Some, IfOk, ◌*◌};
+ghost use Rattle.std.specs.Prelude.{◌≡◌, ℕ, List, ◌∷◌, [], Some, IfOk, OnOk};
 ghost use Rattle.nb_defs.specs.Records.{out_texts, step, ended, result as result_record};
 ghost use Rattle.nb_record.specs.Logged.{Puts};
 ghost use Rattle.nb_ledger.specs.Flat.{Notice};
@@ -6,7 +6,6 @@ ghost use Rattle.nb_ledger.specs.declared.port.Port.{Port};
 ghost use Rattle.nb_ledger.specs.declared.event.Way.{Way};
 ghost use Rattle.nb_graph.specs.Whole.{Objects};
 ghost use Rattle.nb_nodes.specs.declared.obj.Obj.{Obj as Object};
-ghost use Rattle.nb_opens.specs.Graphs.{fetch_of, tftp_of};
 ghost use Rattle.nb_opens.specs.Notices.{shut_notices};
 ghost use Rattle.nb_opens.specs.Pairs.{IsEnded, IsEmpty, IsDownloading};
 ghost use Rattle.nb_engine.specs.Machine.{stopped_cause};
@@ -14,7 +13,7 @@ ghost use Rattle.nb_engine.specs.Running.{with_result};
 ghost use Rattle.nb_engine.specs.Tellings.{told_records};
 ghost use Rattle.nb_engine.specs.Fetches.{speaker_of};
 ghost use Rattle.nb_engine.specs.Notes.{WasTold};
-ghost use Rattle.nb_engine.specs.Seen.{IsSound, seen, standing};
+ghost use Rattle.nb_engine.specs.Seen.{HasNoObjects, IsSound, seen, standing};
 ghost use Rattle.nb_engine.specs.Heeding.{Heeds, HasHeard, WasCalled, IsCalled};
 ghost use Rattle.nb_engine.specs.Turns.{shut_records};
 ghost use Rattle.nb_engine.specs.Concluding.{Concludes, EndsOpen, IsPlaceFor};
@@ -46,9 +45,9 @@ impl Client {
     ) -> Turn
         requires sound { (g : Objects Object) × IsSound self.old.used self.old.world g (stage.Waiting script fetch) }
         requires told { WasTold desk.old.told closed }
-        requires called { IsCalled self.old.graph fetch.number desk.old.told }
+        requires called { IsCalled self.old.graph fetch.objects desk.old.told }
         ensures { (p : Port) (by : Way) (rec : ℕ) (ns : List Notice) → desk.old.told ≡ Some ns
-            → WasCalled self.old.graph fetch.number p by rec ns
+            → WasCalled self.old.graph fetch.objects p by rec ns
             → Heeds result script (HasHeard self.old.graph fetch p by rec ns) (standing self.old (stage.Waiting script fetch)) self.new log.old log.new }
     {
         match closed {
@@ -74,13 +73,8 @@ impl Client {
         ensures after { self.new ≡ standing self.old (stage.Waiting script fetch) }
     {
         put_step(self.used, log);
-        put_told(
-            &desk.told,
-            &self.world.net,
-            fetch.get(),
-            &mut desk.room,
-            log,
-        );
+        let who = fetch.get().speaker();
+        put_told(&desk.told, &self.world.net, &who, &mut desk.room, log);
         self.stage = Stage::Waiting(script, fetch);
         Turn::Waiting
     }
@@ -97,20 +91,21 @@ impl Client {
     ) -> Turn
         requires sound { (g : Objects Object) × IsSound self.old.used self.old.world g (stage.Waiting script fetch) }
         requires told { (ns : List Notice) × (desk.old.told ≡ Some ns) }
-        requires ended { IsEnded self.old.graph (fetch_of fetch.number) (tftp_of fetch.number) }
+        requires ended { IsEnded self.old.graph fetch.objects.fetch.0 fetch.objects.tftp.0 }
         ensures { (ns : List Notice) → desk.old.told ≡ Some ns
             → EndsOpen result ns cause script fetch (standing self.old (stage.Waiting script fetch)) self.new log.old log.new }
     {
         self.stage = Stage::Stopped;
         let open = fetch.get();
-        let (alloc, number) = (self.alloc, open.number);
-        let Ok(body) = end(alloc, &mut self.graph, number, cause, &mut desk.told) else {
+        let (alloc, number, objects) = (self.alloc, open.number, open.objects);
+        let Ok(body) = end(alloc, &mut self.graph, objects, cause, &mut desk.told) else {
             return Turn::Over(Status::NoMemory);
         };
         match conclude(alloc, &mut self.world.state.images, open, body, cause) {
             Ok(conclusion) => {
                 put_step(self.used, log);
-                put_told(&desk.told, &self.world.net, open, &mut desk.room, log);
+                let who = open.speaker();
+                put_told(&desk.told, &self.world.net, &who, &mut desk.room, log);
                 put_over(number, cause, log);
                 self.world.net.unbind(UDP, open.own_port);
                 self.conclude(script, conclusion, log)
@@ -122,15 +117,16 @@ impl Client {
     /// The run ends, and the objects of this fetch with it. What they told stands on the desk that is given
     /// back.
     pub(crate) fn shut(&mut self, fetch: &Fetch) -> Result<Box<Desk>, NoMemory>
-        requires going { IsDownloading self.old.graph (fetch_of fetch.now.number) (tftp_of fetch.now.number) }
-        ensures told { IfOk result (λ desk. desk.value.told ≡ Some (shut_notices (fetch_of fetch.now.number) (tftp_of fetch.now.number) stopped_cause)) }
+        requires going { IsDownloading self.old.graph fetch.now.objects.fetch.0 fetch.now.objects.tftp.0 }
+        ensures told { IfOk result (λ desk. desk.value.told ≡ Some (shut_notices fetch.now.objects.fetch.0 fetch.now.objects.tftp.0 stopped_cause)) }
+        ensures empty { OnOk result (IsEmpty self.new.graph fetch.now.objects.tftp.0) }
         ensures same { self.new ≡ seen self.old.used self.old.world self.new.graph stage.Stopped }
     {
         self.stage = Stage::Stopped;
         let mut desk = lent(self.alloc, self.desk.take())?;
         shut(
             &mut self.graph,
-            fetch.number,
+            fetch.objects,
             &Plain::Stopped.cause(),
             self.world.time,
             &mut desk.told,
@@ -140,17 +136,18 @@ impl Client {
 
     /// Puts what the objects of a fetch told when the run ended, and that its open has ended.
     pub(crate) fn put_shut(&self, fetch: &Fetch, desk: &mut Desk, log: &mut Log)
-        requires told { desk.old.told ≡ Some (shut_notices (fetch_of fetch.now.number) (tftp_of fetch.now.number) stopped_cause) }
-        ensures { Puts log.old log.new (out_texts (shut_records fetch.now.number)) }
+        requires told { desk.old.told ≡ Some (shut_notices fetch.now.objects.fetch.0 fetch.now.objects.tftp.0 stopped_cause) }
+        ensures { Puts log.old log.new (out_texts (shut_records fetch.now.number fetch.now.objects)) }
     {
-        put_told(&desk.told, &self.world.net, fetch, &mut desk.room, log);
+        let who = fetch.speaker();
+        put_told(&desk.told, &self.world.net, &who, &mut desk.room, log);
         put_over(fetch.number, Plain::Stopped.cause(), log);
     }
 
     /// Puts the result of the script's command, and goes on as that says.
     fn conclude(&mut self, script: RunningScript, conclusion: Conclusion, log: &mut Log) -> Turn
         requires ports { self.old.world.net.ports ≡ [] }
-        requires objects { IsEmpty self.old.graph (2 * self.old.world.opens) }
+        requires objects { HasNoObjects self.old.world.opens self.old.graph }
         requires place { IsPlaceFor conclusion self.old.world.state.images }
         ensures { Concludes result script conclusion self.old self.new log.old log.new }
     {
@@ -166,9 +163,9 @@ impl Client {
     }
 
     /// The script's command has this result, and the script goes on.
-    fn resume(&mut self, mut script: RunningScript, cause: Cause, log: &mut Log) -> Turn
+    pub(crate) fn resume(&mut self, mut script: RunningScript, cause: Cause, log: &mut Log) -> Turn
         requires ports { self.old.world.net.ports ≡ [] }
-        requires objects { IsEmpty self.old.graph (2 * self.old.world.opens) }
+        requires objects { HasNoObjects self.old.world.opens self.old.graph }
         ensures turn { result ≡ turn.More }
         ensures puts { Puts log.old log.new (out_texts (result_record cause ∷ [])) }
         ensures after { self.new ≡ standing self.old (stage.Running (with_result script cause)) }

@@ -1,38 +1,28 @@
-ghost use Rattle.std.specs.Prelude.{◌≡◌, ◌*◌, ◌≤◌, ◌<◌, ◌++◌, List, [], ℕ, length, true, Option, Some, IfOk, OnOk};
+ghost use Rattle.std.specs.Prelude.{◌≡◌, ◌≤◌, ◌+◌, ◌++◌, List, [], ℕ, length, true, Option, Some, IfOk, OnOk};
 ghost use Rattle.nb_ledger.specs.declared.event.Way.TheVariants as way;
 ghost use Rattle.nb_graph.specs.Whole.{port_at};
 ghost use Rattle.nb_nodes.specs.Asking.{ask_value, begun_with, is_path};
 ghost use Rattle.nb_tftp.specs.History.{came, ticked};
 ghost use Rattle.nb_tftp.specs.Received.{received};
-ghost use Rattle.nb_opens.specs.Graphs.{fetch_of, tftp_of};
+ghost use Rattle.nb_opens.specs.Graphs.{AreNext};
 ghost use Rattle.nb_opens.specs.Notices.{closed_notices, freed_notices, shut_notices};
 ghost use Rattle.nb_opens.specs.Pairs.{DoesCall, HasEnded, IsDownloading, IsEmpty, IsEnded};
 ghost use Rattle.nb_terms.specs.declared.cause.Cause.{Cause as Why};
 ghost use Rattle.nb_engine.specs.Notes.{WasTold};
-ghost use Rattle.nb_engine.specs.Objects.{BeginsOpen, IsFile, TellsMore};
+ghost use Rattle.nb_engine.specs.Objects.{BeginsCompleted, BeginsOpen, IsFile, TellsMore};
+ghost use Rattle.nb_opens.specs.Waiters.{waiter_number, waiter_serial, Waits};
 
 use crate::desk::Desk;
 use crate::outlet::Outlet;
-use nb_graph::{Graph, ObjId};
+use nb_graph::Graph;
 use nb_image::Body;
 use nb_nodes::{Ask, Obj};
-use nb_opens::Download;
+use nb_opens::{Download, Waiter};
 use nb_record::{Cause, NoMemory};
 use std::alloc::Global;
 
-/// The objects of the open of this number.
-fn objects_of(number: u16) -> Download
-    ensures fetch { result.fetch.0 ≡ fetch_of number }
-    ensures tftp { result.tftp.0 ≡ tftp_of number }
-{
-    Download {
-        fetch: ObjId(2 * u64::from(number) + 1),
-        tftp: ObjId(2 * u64::from(number) + 2),
-    }
-}
-
 /// An error where memory ran out, in the graph or in the outlet.
-fn whole(told: &Outlet) -> Result<(), NoMemory>
+pub(crate) fn whole(told: &Outlet) -> Result<(), NoMemory>
     ensures { OnOk result ((closed : Option Why) × WasTold told.now closed) }
 {
     match told.first_close() {
@@ -41,73 +31,101 @@ fn whole(told: &Outlet) -> Result<(), NoMemory>
     }
 }
 
-/// Makes the objects of the next open on an empty graph, and begins its transfer in the record `rec`.
+/// Makes the objects of an open on an empty graph, and begins its transfer in the record `rec`.
 pub fn begin(
     alloc: Global,
     graph: &mut Graph<Obj>,
-    number: u16,
     rec: u32,
     ask: &Ask<'_>,
     now: u64,
     desk: &mut Desk,
-) -> Result<(), NoMemory>
-    requires empty { IsEmpty graph.old (2 * number) }
+) -> Result<Download, NoMemory>
+    requires empty { IsEmpty graph.old graph.old.book.made }
+    requires few { graph.old.book.made ≤ 32768 }
     requires path { is_path ask.now.path.now ≡ true }
-    ensures { OnOk result (BeginsOpen graph.new number (begun_with (ask_value ask.now)) now rec desk.new.made desk.new.told) }
+    ensures next { IfOk result (λ d. AreNext graph.old.book.made d.fetch.0 d.tftp.0) }
+    ensures begins { IfOk result (λ d. BeginsOpen graph.new d (begun_with (ask_value ask.now)) now rec desk.new.made desk.new.told) }
 {
     desk.made.clear();
     desk.told.clear();
     let objects = Download::make(alloc, graph, &mut desk.made)?;
     whole(&desk.made)?;
     objects.begin(graph, rec, ask, now, &mut desk.told);
-    whole(&desk.told)
+    whole(&desk.told)?;
+    Ok(objects)
 }
 
-/// A datagram comes from this port of the server to the open of this number, in the record `rec`.
+/// Makes the Tftp below a Fetch that has waited for its open, and begins the open's transfer in the record `rec`.
+pub fn begin_completed(
+    alloc: Global,
+    graph: &mut Graph<Obj>,
+    waiter: Waiter,
+    rec: u32,
+    ask: &Ask<'_>,
+    now: u64,
+    desk: &mut Desk,
+) -> Result<Download, NoMemory>
+    requires waits { Waits graph.old waiter graph.old.book.made }
+    requires fetch { waiter_number waiter ≡ 1 }
+    requires few { graph.old.book.made ≤ 32768 }
+    requires path { is_path ask.now.path.now ≡ true }
+    ensures fetch { IfOk result (λ d. d.fetch.0 ≡ waiter_serial waiter) }
+    ensures tftp { IfOk result (λ d. d.tftp.0 ≡ graph.old.book.made + 1) }
+    ensures begins { IfOk result (λ d. BeginsCompleted graph.new d (begun_with (ask_value ask.now)) now rec desk.new.made desk.new.told) }
+{
+    desk.made.clear();
+    desk.told.clear();
+    let objects = Download::complete(alloc, graph, waiter, &mut desk.made)?;
+    whole(&desk.made)?;
+    objects.begin(graph, rec, ask, now, &mut desk.told);
+    whole(&desk.told)?;
+    Ok(objects)
+}
+
+/// A datagram comes from this port of the server to the open with these objects, in the record `rec`.
 #[inline(always)]
 pub fn receive(
     graph: &mut Graph<Obj>,
-    number: u16,
+    objects: Download,
     rec: u32,
     port: u16,
     body: &[u8],
     now: u64,
     told: &mut Outlet,
 )
-    requires going { IsDownloading graph.old (fetch_of number) (tftp_of number) }
+    requires going { IsDownloading graph.old objects.fetch.0 objects.tftp.0 }
     requires short { length body.now ≤ 65535 }
-    ensures { DoesCall graph.old graph.new (fetch_of number) (tftp_of number) (port_at (tftp_of number) 1) way.Up
+    ensures { DoesCall graph.old graph.new objects.fetch.0 objects.tftp.0 (port_at objects.tftp.0 1) way.Up
         rec (came (received rec port body.now) now) (Some []) told.new }
 {
     told.clear();
-    objects_of(number).message(graph, rec, port, body, now, told);
+    objects.message(graph, rec, port, body, now, told);
 }
 
-/// It is this time, in milliseconds since the run's start, for the open of this number.
-pub fn pass_time(graph: &mut Graph<Obj>, number: u16, now: u64, told: &mut Outlet)
-    requires going { IsDownloading graph.old (fetch_of number) (tftp_of number) }
-    ensures { DoesCall graph.old graph.new (fetch_of number) (tftp_of number) (port_at (tftp_of number) 4) way.Time
+/// It is this time, in milliseconds since the run's start, for the open with these objects.
+pub fn pass_time(graph: &mut Graph<Obj>, objects: Download, now: u64, told: &mut Outlet)
+    requires going { IsDownloading graph.old objects.fetch.0 objects.tftp.0 }
+    ensures { DoesCall graph.old graph.new objects.fetch.0 objects.tftp.0 (port_at objects.tftp.0 4) way.Time
         0 (ticked now) (Some []) told.new }
 {
     told.clear();
-    objects_of(number).time(graph, now, told);
+    objects.time(graph, now, told);
 }
 
-/// The user closes the open of this number with a cause, and lets its objects go. An error where memory
+/// The user closes the open with these objects with a cause, and lets them go. An error where memory
 /// ran out.
 pub fn turn_back(
     graph: &mut Graph<Obj>,
-    number: u16,
+    objects: Download,
     cause: &Cause,
     now: u64,
     told: &mut Outlet,
 ) -> Result<(), NoMemory>
-    requires going { IsDownloading graph.old (fetch_of number) (tftp_of number) }
-    ensures empty { IsEmpty graph.new (tftp_of number) }
+    requires going { IsDownloading graph.old objects.fetch.0 objects.tftp.0 }
+    ensures empty { IsEmpty graph.new objects.tftp.0 }
     ensures told { OnOk result (TellsMore told.old told.new
-        (closed_notices (fetch_of number) (tftp_of number) cause.now ++ freed_notices (fetch_of number) (tftp_of number))) }
+        (closed_notices objects.fetch.0 objects.tftp.0 cause.now ++ freed_notices objects.fetch.0 objects.tftp.0)) }
 {
-    let objects = objects_of(number);
     objects.close(graph, cause, now, told);
     objects.release(graph, told);
     whole(told)
@@ -118,17 +136,16 @@ pub fn turn_back(
 pub fn end(
     alloc: Global,
     graph: &mut Graph<Obj>,
-    number: u16,
+    objects: Download,
     cause: Cause,
     told: &mut Outlet,
 ) -> Result<Body, NoMemory>
-    requires ended { IsEnded graph.old (fetch_of number) (tftp_of number) }
-    ensures body { IfOk result (λ body. (file : Option (List ℕ)) → HasEnded graph.old (fetch_of number) (tftp_of number) file
+    requires ended { IsEnded graph.old objects.fetch.0 objects.tftp.0 }
+    ensures body { IfOk result (λ body. (file : Option (List ℕ)) → HasEnded graph.old objects.fetch.0 objects.tftp.0 file
         → IsFile cause file body) }
-    ensures empty { IsEmpty graph.new (tftp_of number) }
-    ensures told { OnOk result (TellsMore told.old told.new (freed_notices (fetch_of number) (tftp_of number))) }
+    ensures empty { IsEmpty graph.new objects.tftp.0 }
+    ensures told { OnOk result (TellsMore told.old told.new (freed_notices objects.fetch.0 objects.tftp.0)) }
 {
-    let objects = objects_of(number);
     let file = objects.harvest(graph);
     objects.release(graph, told);
     whole(told)?;
@@ -139,19 +156,19 @@ pub fn end(
     }
 }
 
-/// The run ends, and the open of this number with it. An error where memory ran out.
+/// The run ends, and the open with these objects with it. An error where memory ran out.
 pub fn shut(
     graph: &mut Graph<Obj>,
-    number: u16,
+    objects: Download,
     cause: &Cause,
     now: u64,
     told: &mut Outlet,
 ) -> Result<(), NoMemory>
-    requires going { IsDownloading graph.old (fetch_of number) (tftp_of number) }
-    ensures empty { IsEmpty graph.new (tftp_of number) }
-    ensures told { OnOk result (told.new ≡ Some (shut_notices (fetch_of number) (tftp_of number) cause.now)) }
+    requires going { IsDownloading graph.old objects.fetch.0 objects.tftp.0 }
+    ensures empty { IsEmpty graph.new objects.tftp.0 }
+    ensures told { OnOk result (told.new ≡ Some (shut_notices objects.fetch.0 objects.tftp.0 cause.now)) }
 {
     told.clear();
-    objects_of(number).shut_down(graph, cause, now, told);
+    objects.shut_down(graph, cause, now, told);
     whole(told)
 }

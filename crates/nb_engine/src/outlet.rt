@@ -1,13 +1,17 @@
-ghost use Rattle.std.specs.Prelude.{◌≡◌, ◌≤◌, ◌+◌, ◌<◌, ◌^◌, ◌∷◌, ◌++◌, [], length, true, None, Some, IfSome, IfOk};
+ghost use Rattle.std.specs.Prelude.{◌≡◌, ◌≤◌, ◌+◌, ◌<◌, ◌^◌, ◌∷◌, ◌++◌, ℕ, List, [], length, true, None, Some, IfSome, IfOk};
+ghost use Rattle.std.specs.Option.{option_map};
 ghost use Rattle.nb_ledger.specs.Flat as notice;
 ghost use Rattle.nb_opens.specs.Notices.{close_of, or_else};
 ghost use Rattle.nb_nodes.specs.Carried.{try_tag, try_number};
 ghost use Rattle.nb_nodes.specs.Tags.{tag_number};
-ghost use Rattle.nb_engine.specs.Notes.{WasTold, IsNoteFor};
+ghost use Rattle.nb_ledger.specs.Flat.{Notice};
+ghost use Rattle.nb_engine.specs.Deliveries.{delivered_bytes, delivered_address};
+ghost use Rattle.nb_engine.specs.Notes.{WasTold, IsNoteFor, AreNotesWithin, notices_of};
 
 use nb_graph::{Msg, Outside, Port};
 use nb_nodes::Tag;
 use nb_record::{Cause, Event, NoMemory};
+use nb_wire::Ip4;
 use std::alloc::Global;
 use std::marker::Model;
 
@@ -33,10 +37,14 @@ pub enum Note {
     /// By this port, in this record: a datagram, which may be a try, to this port of the server. Its bytes
     /// stand between these two places of the outlet's.
     Datagram(Port, u32, Option<u8>, u16, usize, usize),
+    /// By this port, in this record: bytes are delivered, which stand between these two places of the outlet's.
+    Bytes(Port, u32, usize, usize),
+    /// By this port, in this record: an address is delivered.
+    Address(Port, u32, Ip4),
 }
 
-/// What the graph told since it was cleared. Where memory ran out, or a message isn't one of a transfer's,
-/// all of it is lost.
+/// What the graph told since it was cleared. Where memory ran out, or a message isn't one of an open's, all of
+/// it is lost.
 #[derive(Drop)]
 pub struct Outlet {
     pub(crate) notes: Vec<Note>,
@@ -92,6 +100,22 @@ impl Outlet {
             closed => Ok(closed),
         }
     }
+
+    /// The first bytes that were delivered. None where none were.
+    pub fn delivered_bytes(&self) -> Option<&[u8]>
+        requires whole { (ns : List Notice) × (self.now ≡ Some ns) }
+        ensures { (ns : List Notice) → self.now ≡ Some ns → option_map (λ b. b.now) result ≡ delivered_bytes ns }
+    {
+        bytes_in(self.notes.as_slice(), self.bytes.as_slice())
+    }
+
+    /// The first address that was delivered. None where none was.
+    pub fn delivered_address(&self) -> Option<Ip4>
+        requires whole { (ns : List Notice) × (self.now ≡ Some ns) }
+        ensures { (ns : List Notice) → self.now ≡ Some ns → result ≡ delivered_address ns }
+    {
+        address_in(self.notes.as_slice())
+    }
 }
 
 /// The cause of the first close, after this event.
@@ -119,7 +143,7 @@ fn datagram(from: Port, msg: &Msg<'_>, tried: Option<u8>, port: u16, start: usiz
     Some(Note::Datagram(from, msg.rec, tried, port, start, start + len))
 }
 
-/// A message's note. None where it isn't one of a transfer's.
+/// A message's note. None where it isn't one of an open's.
 fn note_of(from: Port, msg: &Msg<'_>, start: usize) -> Option<Note>
     requires fits { start + (length msg.now.first.now + length msg.now.second.now) < 2 ^ 64 }
     ensures { IfSome result (λ n. IsNoteFor from msg.now start n) }
@@ -139,8 +163,40 @@ fn note_of(from: Port, msg: &Msg<'_>, start: usize) -> Option<Note>
             Ok(n) => datagram(from, msg, Some(n), port, start),
             Err(_) => None,
         },
+        Tag::Bytes if msg.a == 0 && port == 0 => {
+            let len = msg.first.len() + msg.second.len();
+            Some(Note::Bytes(from, msg.rec, start, start + len))
+        }
+        Tag::Address if port == 0 && msg.first.is_empty() && msg.second.is_empty() => {
+            Some(Note::Address(from, msg.rec, Ip4(msg.a)))
+        }
         _ => None,
     }
+}
+
+/// The first bytes that notes deliver. None where none do.
+fn bytes_in<'o>(notes: &[Note], bytes: &'o [u8]) -> Option<&'o [u8]>
+    requires within { AreNotesWithin (length bytes.now) notes.now }
+    ensures { option_map (λ b. b.now) result ≡ delivered_bytes (notices_of bytes.now notes.now) }
+{
+    for note in notes {
+        if let Note::Bytes(_, _, start, end) = *note {
+            return Some(&bytes[start..end]);
+        }
+    }
+    None
+}
+
+/// The first address that notes deliver. None where none does.
+fn address_in(notes: &[Note]) -> Option<Ip4>
+    ensures { (bytes : List ℕ) → result ≡ delivered_address (notices_of bytes notes.now) }
+{
+    for note in notes {
+        if let Note::Address(_, _, address) = *note {
+            return Some(address);
+        }
+    }
+    None
 }
 
 /// Appends bytes. False where memory runs out. Most messages have none, or the four of an acknowledgement.

@@ -1,23 +1,21 @@
-ghost use Rattle.std.specs.Prelude.{◌≡◌, ◌≤◌, ℕ, List, [], ◌∷◌, length, Some};
+ghost use Rattle.std.specs.Prelude.{◌≡◌, ◌≤◌, ℕ, List, [], ◌∷◌, length, Option, Some};
 ghost use Rattle.nb_defs.specs.Records.{out_texts, step, ended, result as result_record};
 ghost use Rattle.nb_record.specs.Logged.{Puts};
 ghost use Rattle.nb_ledger.specs.Flat.{Notice};
 ghost use Rattle.nb_engine.specs.Opens.{try_records, send_records, has_route};
 ghost use Rattle.nb_engine.specs.Machine.{reply_records};
 ghost use Rattle.nb_engine.specs.Heeding.{IsReply};
-ghost use Rattle.nb_engine.specs.Fetches.{speaker_of};
 ghost use Rattle.nb_engine.specs.Notes.{AreNotesWithin, IsNoteWithin, notice_of, notices_of};
-ghost use Rattle.nb_engine.specs.Tellings.{datagram_of, notice_records, told_records};
+ghost use Rattle.nb_opens.specs.declared.waiter.Waiter.{Waiter};
+ghost use Rattle.nb_opens.specs.Graphs.{traced};
+ghost use Rattle.nb_engine.specs.Inquiries.{beside_freed_events, freed_beside};
+ghost use Rattle.nb_engine.specs.Tellings.{carrier_number, datagram_of, notice_records, told_records};
 
-use crate::Fetch;
-use crate::desk::Room;
+use crate::desk::{Desk, Room};
 use crate::outlet::{Note, Outlet};
+use crate::speaker::Speaker;
 use nb_record::{Cause, Log, OutRec};
 use nb_stack::{Envelope, Fate, Stack};
-use nb_uri::TFTP_PORT;
-
-/// UDP (RFC 768).
-const UDP: u8 = 17;
 
 /// Puts that the step of this record begins.
 #[inline(always)]
@@ -60,24 +58,24 @@ fn put_try(number: u16, tried: Option<u8>, log: &mut Log)
     }
 }
 
-/// The envelope of a datagram to this port of a fetch's server.
+/// The envelope of a datagram to this port of the server.
 #[inline(always)]
-fn envelope(fetch: &Fetch, port: u16) -> Envelope
-    ensures { result ≡ record { proto = 17; to = fetch.now.server; to_port = port; own_port = fetch.now.own_port } }
+fn envelope(who: &Speaker, port: u16) -> Envelope
+    ensures { result ≡ record { proto = carrier_number who.now.carrier; to = who.now.server; to_port = port; own_port = who.now.own_port } }
 {
     Envelope {
-        proto: UDP,
-        to: fetch.server,
+        proto: who.carrier.number(),
+        to: who.server,
         to_port: port,
-        own_port: fetch.own_port,
+        own_port: who.own_port,
     }
 }
 
-/// Whether a fetch's datagrams find a route.
-pub fn has_route(net: &Stack, fetch: &Fetch, room: &mut Room) -> bool
-    ensures { (port : ℕ) (bytes : List ℕ) → result ≡ has_route net.now (datagram_of (speaker_of fetch.now) port bytes) }
+/// Whether datagrams of this speaker find a route.
+pub fn has_route(net: &Stack, who: &Speaker, room: &mut Room) -> bool
+    ensures { (port : ℕ) (bytes : List ℕ) → result ≡ has_route net.now (datagram_of who.now port bytes) }
 {
-    let fate = net.send_parts(&envelope(fetch, TFTP_PORT), b"", b"", &mut room.out());
+    let fate = net.send_parts(&envelope(who, 0), b"", b"", &mut room.out());
     fate != Fate::NoRoute
 }
 
@@ -86,7 +84,7 @@ pub fn has_route(net: &Stack, fetch: &Fetch, room: &mut Room) -> bool
 #[inline(always)]
 fn put_datagram(
     net: &Stack,
-    fetch: &Fetch,
+    who: &Speaker,
     tried: Option<u8>,
     port: u16,
     body: &[u8],
@@ -94,31 +92,32 @@ fn put_datagram(
     log: &mut Log,
 )
     requires short { length body.now ≤ 1480 }
-    ensures { Puts log.old log.new (out_texts (send_records net.now fetch.now.number tried (datagram_of (speaker_of fetch.now) port body.now))) }
+    ensures { Puts log.old log.new (out_texts (send_records net.now who.now.number tried (datagram_of who.now port body.now))) }
 {
     let mut out = room.out();
-    if let Fate::NoRoute = net.send_parts(&envelope(fetch, port), b"", body, &mut out) {
+    if let Fate::NoRoute = net.send_parts(&envelope(who, port), b"", body, &mut out) {
         return;
     }
-    put_try(fetch.number, tried, log);
+    put_try(who.number, tried, log);
     log.put(&OutRec::Frame(out.written()));
 }
 
 /// Puts what a note says.
 #[inline(always)]
-fn put_note(note: &Note, bytes: &[u8], net: &Stack, fetch: &Fetch, room: &mut Room, log: &mut Log)
+fn put_note(note: &Note, bytes: &[u8], net: &Stack, who: &Speaker, room: &mut Room, log: &mut Log)
     requires within { IsNoteWithin (length bytes.now) note.now }
-    ensures { Puts log.old log.new (out_texts (notice_records net.now (speaker_of fetch.now) (notice_of bytes.now note.now))) }
+    ensures { Puts log.old log.new (out_texts (notice_records net.now who.now (notice_of bytes.now note.now))) }
 {
     match *note {
         Note::Event(event) => log.put(&OutRec::Graph(event)),
         Note::Advance(_, _, place) => log.put(&OutRec::Advance {
-            number: fetch.number,
+            number: who.number,
             place,
         }),
         Note::Datagram(_, _, tried, port, start, end) => {
-            put_datagram(net, fetch, tried, port, &bytes[start..end], room, log)
+            put_datagram(net, who, tried, port, &bytes[start..end], room, log)
         }
+        Note::Bytes(..) | Note::Address(..) => {}
     }
 }
 
@@ -127,29 +126,39 @@ fn put_notes(
     notes: &[Note],
     bytes: &[u8],
     net: &Stack,
-    fetch: &Fetch,
+    who: &Speaker,
     room: &mut Room,
     log: &mut Log,
 )
     requires within { AreNotesWithin (length bytes.now) notes.now }
-    ensures { Puts log.old log.new (out_texts (told_records net.now (speaker_of fetch.now) (notices_of bytes.now notes.now))) }
+    ensures { Puts log.old log.new (out_texts (told_records net.now who.now (notices_of bytes.now notes.now))) }
 {
     for note in notes {
-        put_note(note, bytes, net, fetch, room, log);
+        put_note(note, bytes, net, who, room, log);
     }
 }
 
-/// Puts what the graph told of a fetch, of which nothing is lost: its events, and its messages.
-pub fn put_told(told: &Outlet, net: &Stack, fetch: &Fetch, room: &mut Room, log: &mut Log)
+/// Puts what the graph told of an open, of which nothing is lost: its events, and its messages.
+pub fn put_told(told: &Outlet, net: &Stack, who: &Speaker, room: &mut Room, log: &mut Log)
     requires whole { (ns : List Notice) × (told.now ≡ Some ns) }
-    ensures { (ns : List Notice) → told.now ≡ Some ns → Puts log.old log.new (out_texts (told_records net.now (speaker_of fetch.now) ns)) }
+    ensures { (ns : List Notice) → told.now ≡ Some ns → Puts log.old log.new (out_texts (told_records net.now who.now ns)) }
 {
     put_notes(
         told.notes.as_slice(),
         told.bytes.as_slice(),
         net,
-        fetch,
+        who,
         room,
         log,
     );
+}
+
+/// Puts what was told of what was let go behind the end of an open.
+pub fn put_freed(net: &Stack, desk: &mut Desk, log: &mut Log)
+    requires freed { (v : Option Waiter) × (desk.old.freed ≡ Some (freed_beside v)) }
+    ensures { (v : Option Waiter) → desk.old.freed ≡ Some (freed_beside v)
+        → Puts log.old log.new (out_texts (traced (beside_freed_events v))) }
+{
+    let nobody = Speaker::nobody();
+    put_told(&desk.freed, net, &nobody, &mut desk.room, log);
 }

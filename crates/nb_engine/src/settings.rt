@@ -12,7 +12,7 @@ use nb_wire::Ip4;
 use std::alloc::Global;
 
 /// The option of RFC 2132 that is the name server.
-const DNS: Key<'static> = Key::Tag(6);
+pub(crate) const DNS: Key<'static> = Key::Tag(6);
 
 /// Puts a value into the block. It is there, and is far from full, so only memory may be wanting.
 fn put_own(

@@ -1,4 +1,4 @@
-use crate::{Handing, KeptFetch, RunningScript};
+use crate::{Handing, KeptFetch, KeptInquiry, KeptPrepared, RunningScript};
 use nb_record::Cause;
 
 /// Where a run stands.
@@ -10,6 +10,10 @@ pub enum Stage {
     Running(RunningScript),
     /// The script's last command waits for a fetch.
     Waiting(RunningScript, KeptFetch),
+    /// The script's last command waits for a lease, an echo or a name's address.
+    Asking(RunningScript, KeptInquiry),
+    /// The address of the server was found that the script's last command named, and its own open is next.
+    Reaching(RunningScript, KeptPrepared),
     /// The script's last command sleeps until this time, in milliseconds since the run's start.
     Sleeping(RunningScript, u64),
     /// 4,096 commands of the script began in this step, and another is to begin.

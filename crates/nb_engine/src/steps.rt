@@ -8,7 +8,6 @@ ghost use Rattle.std.specs.Option.{option_map};
 ghost use Rattle.nb_stack.specs.Takes.{outcome};
 ghost use Rattle.nb_tftp.specs.Received.{received};
 ghost use Rattle.nb_tftp.specs.History.{came, ticked};
-ghost use Rattle.nb_opens.specs.Graphs.{fetch_of, tftp_of};
 ghost use Rattle.nb_opens.specs.Pairs.{IsDownloading};
 ghost use Rattle.nb_script.specs.Errors.{IsOfText};
 ghost use Rattle.nb_engine.specs.Machine.{reply_records};
@@ -234,10 +233,10 @@ impl Client {
         ensures { Heeds result script (Comes self.old.graph (came (received self.old.used port body.now) self.old.world.time) fetch) (standing self.old (stage.Waiting script fetch)) self.new log.old log.new }
     {
         self.stage = Stage::Stopped;
-        let number = fetch.get().number;
+        let objects = fetch.get().objects;
         receive(
             &mut self.graph,
-            number,
+            objects,
             self.used,
             port,
             body,
@@ -286,8 +285,8 @@ impl Client {
         ensures { Heeds result script (Comes self.old.graph (ticked self.old.world.time) fetch) (standing self.old (stage.Waiting script fetch)) self.new log.old log.new }
     {
         self.stage = Stage::Stopped;
-        let number = fetch.get().number;
-        pass_time(&mut self.graph, number, self.world.time, &mut desk.told);
+        let objects = fetch.get().objects;
+        pass_time(&mut self.graph, objects, self.world.time, &mut desk.told);
         match desk.told.first_close() {
             Ok(closed) => self.heed(script, fetch, closed, desk, log),
             Err(NoMemory) => Turn::Over(Status::NoMemory),
@@ -297,7 +296,7 @@ impl Client {
     /// The power is switched off: the open of this fetch ends.
     #[inline(never)]
     pub(crate) fn switch_off(&mut self, fetch: KeptFetch, log: &mut Log) -> Turn
-        requires going { IsDownloading self.old.graph (fetch_of fetch.number) (tftp_of fetch.number) }
+        requires going { IsDownloading self.old.graph fetch.objects.fetch.0 fetch.objects.tftp.0 }
         ensures { (s : Running) → Uses result defs.off (standing self.old (stage.Waiting s fetch)) self.new log.old log.new }
     {
         let Ok(mut desk) = self.shut(fetch.get()) else {

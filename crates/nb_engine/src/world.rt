@@ -16,11 +16,23 @@ use nb_settings::Table;
 use nb_stack::Stack;
 use std::alloc::Global;
 
+/// The machine, as START tells it.
+#[derive(Clone, Copy, Debug, Drop)]
+pub struct Identity {
+    /// Its identifier (RFC 4578, section 2.3).
+    pub(crate) uuid: [u8; 16],
+    /// Its architecture (RFC 4578, section 2.1).
+    pub(crate) arch: u16,
+    /// The key of the words that its opens take: transaction and query numbers.
+    pub(crate) key: [u8; 32],
+}
+
 /// What a run has beside its script: its link, its clock, its opens, its settings and its images.
 #[derive(Drop)]
 pub struct World {
     /// The number from which the ports of the opens count.
     pub(crate) w: u16,
+    pub(crate) machine: Identity,
     /// Milliseconds since the run's start.
     pub(crate) time: u64,
     pub(crate) net: Stack,
@@ -52,6 +64,11 @@ impl World {
     {
         let mut world = World {
             w: start.w,
+            machine: Identity {
+                uuid: start.uuid,
+                arch: start.arch,
+                key: start.key,
+            },
             time: 0,
             net: Stack::new(start.mac),
             opens: 0,
@@ -77,7 +94,7 @@ impl World {
     }
 
     /// The link follows the settings and the device's state.
-    fn follow(&mut self)
+    pub(crate) fn follow(&mut self)
         ensures { self.new ≡ world_with self.old self.old.state.table self.old.state.up }
     {
         self.net.set_address(address_in(&self.state.table));
@@ -115,5 +132,7 @@ fn may_move_link(plan: &CommandPlan) -> bool
             | CommandPlan::Inc { .. }
             | CommandPlan::Ifopen(_)
             | CommandPlan::Ifclose(_)
+            | CommandPlan::Dhcp(_)
+            | CommandPlan::Nslookup { .. }
     )
 }

@@ -20,14 +20,14 @@ use Rattle.nb_engine.specs.World.{unbound}
 use Rattle.nb_engine.specs.Effects.{ShownWords}
 use Rattle.nb_engine.specs.Opens.{has_route, send_records, sends_records, acts_records, advance_records, try_records}
 use Rattle.nb_engine.specs.Conclusions.{Conclusion, keeps, fails, boots, conclusion, stored, taken_in, selected_in, place_for, is_bootable, not_bootable, cause_of_error, conclusion_records, handoff_records}
-use Rattle.nb_engine.specs.Honesty.{IsNoPart, HaveNoParts}
+use Rattle.nb_defs.specs.Parts.{IsNoPart, HaveNoParts}
 use Rattle.nb_engine.specs.Running.{Running}
 use Rattle.nb_engine.specs.Machine.{prints, command_record, command_records, reply_records, phase_after}
 use Rattle.nb_engine.proofs.HandingLemmas.{all_append}
 use Rattle.nb_laws.specs.Events.{Event, starts, puts}
 use Rattle.nb_tftp.specs.Blocks.{is_whole}
-use Rattle.nb_laws.specs.Lists.{words_of, words_by, last_end, end_by, datagrams_of, made}
-use Rattle.nb_laws.specs.HandOff.{came_ok, last_image, image_at, images_brought, image_list}
+use Rattle.nb_laws.specs.Lists.{came_ok, last_end, end_by, datagrams_of, made}
+use Rattle.nb_laws.specs.HandOff.{last_image, image_at, images_brought, image_list}
 use Rattle.nb_laws.specs.Agreement.{AgreesImages, IsSilent}
 use Rattle.nb_laws.proofs.Histories.{gathered_one}
 use Rattle.nb_laws.proofs.Tellings.{told}
@@ -89,20 +89,9 @@ opens_reply [] = tt
 opens_reply (b ∷ bytes) = (tt, tt)
 
 -- what such records leave as it was
-words_more : (es : List Event) (e : Event) → words_of (es ++ e ∷ []) ≡ words_by (words_of es) e
-unfolding words_of
-words_more es e = fold-append words_by None es (e ∷ [])
-
 pub brought_more : (es : List Event) (e : Event) → images_brought (es ++ e ∷ []) ≡ images_brought es ++ image_at es e
 unfolding images_brought
 brought_more es e = gathered_one image_at es e
-
-opens_words : (ws : Option (List (List ℕ))) (o : Out) → IsOpens o → words_by ws (puts o) ≡ ws
-unfolding IsOpens
-opens_words ws (sent bytes) h = refl
-opens_words ws (tried number count) h = refl
-opens_words ws (advanced number place) h = refl
-opens_words ws _ h = absurd h
 
 opens_image : (es : List Event) (o : Out) → IsOpens o → image_at es (puts o) ≡ []
 unfolding IsOpens
@@ -137,41 +126,24 @@ opens_keep_end es (o ∷ outs) h =
     ap last_end (sym (append_assoc es (puts o ∷ []) (told outs))) ∙ opens_keep_end (es ++ puts o ∷ []) outs h.1
     ∙ last_end_more es (puts o) ∙ opens_end (last_end es) o h.0
 
-pub opens_keep : (es : List Event) (outs : List Out) → AreOpens outs → (words_of (es ++ told outs) ≡ words_of es) × (images_brought (es ++ told outs) ≡ images_brought es)
-opens_keep es [] h = (ap words_of (append-nil es), ap images_brought (append-nil es))
+pub opens_keep : (es : List Event) (outs : List Out) → AreOpens outs → images_brought (es ++ told outs) ≡ images_brought es
+opens_keep es [] h = ap images_brought (append-nil es)
 opens_keep es (o ∷ outs) h =
-    let rest = opens_keep (es ++ puts o ∷ []) outs h.1 in
-    let e : es ++ told (o ∷ outs) ≡ (es ++ puts o ∷ []) ++ told outs = sym (append_assoc es (puts o ∷ []) (told outs)) in (
-      ap words_of e ∙ rest.0 ∙ words_more es (puts o) ∙ opens_words (words_of es) o h.0,
-      ap images_brought e ∙ rest.1 ∙ brought_more es (puts o) ∙ ap (λ z. images_brought es ++ z) (opens_image es o h.0) ∙ append-nil (images_brought es),
-    )
+    ap images_brought (sym (append_assoc es (puts o ∷ []) (told outs))) ∙ opens_keep (es ++ puts o ∷ []) outs h.1
+    ∙ brought_more es (puts o) ∙ ap (λ z. images_brought es ++ z) (opens_image es o h.0) ∙ append-nil (images_brought es)
 
 -- a record is used
-used_words : (ws : Option (List (List ℕ))) (e : Event) → IsUsed e → words_by ws e ≡ ws
-used_words ws (puts o) h = absurd h
-used_words ws (starts n s) h = refl
-used_words ws _ h = refl
-
 used_image : (es : List Event) (e : Event) → IsUsed e → image_at es e ≡ []
 used_image es (puts o) h = absurd h
 used_image es (starts n s) h = refl
 used_image es _ h = refl
 
-pub used_keep : (es : List Event) (e : Event) → IsUsed e → (words_of (es ++ e ∷ []) ≡ words_of es) × (images_brought (es ++ e ∷ []) ≡ images_brought es)
-used_keep es e h = (
-  words_more es e ∙ used_words (words_of es) e h,
-  brought_more es e ∙ ap (λ z. images_brought es ++ z) (used_image es e h) ∙ append-nil (images_brought es),
-)
+pub used_keep : (es : List Event) (e : Event) → IsUsed e → images_brought (es ++ e ∷ []) ≡ images_brought es
+used_keep es e h = brought_more es e ∙ ap (λ z. images_brought es ++ z) (used_image es e h) ∙ append-nil (images_brought es)
 
 -- a record that brings no image, by its kind
 pub one_keeps : (es : List Event) (o : Out) → image_at es (puts o) ≡ [] → images_brought (es ++ puts o ∷ []) ≡ images_brought es
 one_keeps es o none = brought_more es (puts o) ∙ ap (λ z. images_brought es ++ z) none ∙ append-nil (images_brought es)
-
-pub words_now : (es : List Event) (s : Running) (shown : ShownWords) → words_of (es ++ puts (command_record s shown) ∷ []) ≡ Some shown.words
-words_now es s shown = words_more es (puts (command_record s shown))
-
-pub words_kept : (es : List Event) (e : Event) (ws : Option (List (List ℕ))) → words_by (words_of es) e ≡ ws → words_of (es ++ e ∷ []) ≡ ws
-words_kept es e ws is = words_more es e ∙ is
 
 -- a command that is over at once brings no image
 and_none : (a b : Bool) (x : Option Cause) (images : List Image) → x ≡ None → (if a && (came_ok x && b) then images else []) ≡ []

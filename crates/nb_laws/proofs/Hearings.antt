@@ -1,6 +1,9 @@
 -- What comes to an open is taken: the history that agrees with the state afterwards.
-use Rattle.std.proofs.Common.{◌≡◌, ℕ, ◌-◌, ◌<◌, true, false, cond, not, ◌||◌, List, [], ◌∷◌, ◌++◌, refl, sym, ◌∙◌, ap, subst, append_assoc, append-nil, add-zero, arith, map, lt_of_lt_of_le, ne_eqb}
+use Rattle.std.proofs.Common.{◌≡◌, ℕ, ◌-◌, ◌<◌, ◌==◌, ◌&&◌, true, false, cond, not, ◌||◌, Option, Some, option_map, List, [], ◌∷◌, ◌++◌, refl, sym, ◌∙◌, ap, subst, append_assoc, append-nil, add-zero, arith, filter, lt_of_lt_of_le, ne_eqb}
 use Rattle.std.specs.List.{flat_map}
+use Rattle.std.specs.Option.{option_map_or}
+use Rattle.std.specs.Str.{bytes_eq}
+use Rattle.std.proofs.lemmas.Slice.Eq.{bytes_eq-Decides}
 use Rattle.nb_terms.specs.declared.cause.Cause.{Cause}
 use Rattle.nb_defs.specs.Causes.{ok}
 use Rattle.nb_defs.specs.Records.{In, Out, ended}
@@ -10,9 +13,9 @@ use Rattle.nb_tftp.specs.Blocks.{is_whole}
 use Rattle.nb_tftp.specs.History.{Call, Entry, entry, got, received_by}
 use Rattle.nb_engine.specs.declared.world.World.{World}
 use Rattle.nb_engine.specs.World.{unbound}
-use Rattle.nb_engine.specs.Effects.{Wanted, asks}
+use Rattle.nb_engine.specs.Errands.{Wanted}
 use Rattle.nb_laws.specs.CommandsSoFar.{CommandsSoFar, so_far, shown_effect}
-use Rattle.nb_laws.proofs.SoFar.{so_far_more, client_stays, opens_so_far, conclusion_so_far, settings_as, settings_over, asks_as}
+use Rattle.nb_laws.proofs.SoFar.{so_far_more, client_stays, opens_so_far, conclusion_so_far, settings_as, settings_over, asks_as, file_left}
 use Rattle.nb_engine.specs.Opens.{Open, open_for, opened_record, with_entry, acts_records}
 use Rattle.nb_engine.specs.Conclusions.{image_from, Conclusion, keeps, fails, boots, conclusion_records}
 use Rattle.nb_engine.specs.Running.{Running, with_result}
@@ -20,15 +23,13 @@ use Rattle.nb_engine.specs.Machine.{Phase, Hears, goes_on, is_over, phase_after,
 use Rattle.nb_laws.specs.Events.{Event, puts}
 use Rattle.std.proofs.Math.Bool.{or-true}
 use Rattle.nb_laws.specs.Lists as lists
-use Rattle.nb_laws.specs.Lists.{live, last_place, words_of, commands_begun, time, made, gathered, Opening, opening_at, openings, open_has_ended as is_ended, is_end_of, calls, Mark, tries, marks, mark_at}
-use Rattle.nb_laws.specs.HandOff.{images_brought, image_list, uri_of, last_segment, image_by, last_image}
-use Rattle.nb_laws.proofs.HandOffs.{opens_keep, opens_acts, opens_parts, parts_more, one_keeps, words_kept, concluded_images, last_end_more}
-use Rattle.nb_engine.specs.Honesty.{HaveNoParts}
-use Rattle.nb_image.specs.Images.{image_of}
-use Rattle.nb_tftp.specs.Blocks.{file}
+use Rattle.nb_laws.specs.Lists.{live, commands_begun, time, made, openings, open_has_ended as is_ended, calls, tries, marks}
+use Rattle.nb_laws.specs.HandOff.{image_list, images_brought, wanted_by, image_by, image_if, image_wanted, is_open_of, last_image}
+use Rattle.nb_laws.proofs.HandOffs.{opens_keep, opens_acts, opens_parts, parts_more, one_keeps, concluded_images, last_end_more}
+use Rattle.nb_defs.specs.Parts.{HaveNoParts}
 use Rattle.nb_laws.specs.Progress.{IsAdvanced}
-use Rattle.nb_laws.specs.Agreement.{AgreesWorld, AgreesScript, AgreesSettings, AsksFor, IsOnly, NoneLives, IsNamed, AgreesImages, AgreesPhase, opening_of}
-use Rattle.nb_laws.proofs.Histories.{client_put, offset_more, time_more}
+use Rattle.nb_laws.specs.Agreement.{AgreesWorld, AgreesScript, AgreesSettings, AsksFor, IsOnly, NoneLives, IsLatest, AgreesImages, AgreesPhase, opening_of}
+use Rattle.nb_laws.proofs.Histories.{client_put, offset_more, hardware_more, time_more}
 use Rattle.nb_laws.proofs.Tellings.{told, story_still, still_aside, still_advanced, live_same, live_kept, advanced_more, made_more, kept, world_kept, Story, story_put, story_told, openings_more, calls_more, marks_more, over_more, no_more, no_or, same_number, other_number}
 use Rattle.nb_laws.proofs.Commands.{opens_begin, conclusion_begins, script_as, script_told}
 use Rattle.nb_laws.proofs.Asides.{aside_acts, still_conclusion, still_handoff, silent_handoff, none_of_conclusion}
@@ -53,6 +54,7 @@ ended_world es w k cause before h =
       client = client_put es (ended k cause) refl ∙ h.client;
       opens = made_more es e ∙ add-zero (made es) ∙ h.opens;
       offset = offset_more es e ∙ h.offset;
+      hardware_is = hardware_more es e ∙ h.hardware_is;
       unopened = λ j few. openings_more j es e ∙ append-nil (openings j es) ∙ h.unopened j few;
       unended = λ j few. over_more j es e ∙ no_or (is_ended j es) _ (other_number k j (lt_of_lt_of_le before few)) ∙ h.unended j few;
       untold = λ j few. (calls_more j es e ∙ append-nil (calls j es) ∙ (h.untold j few).0, marks_more j es e ∙ append-nil (marks j es) ∙ (h.untold j few).1);
@@ -65,13 +67,13 @@ freed o to ports e = ap (without 17 o) e ∙ ap (λ b. cond (not b) (record { pr
 -- where a conclusion leads
 pub leads : (es : List Event) (w : World) (own to : ℕ) (s : Running) (c : Conclusion) → AgreesWorld es w → NoneLives es → AgreesScript es s → AgreesSettings (so_far es) w false → w.net.ports ≡ record { proto = 17; number = own; to = to } ∷ [] → AgreesPhase es (phase_after (unbound w own) s c)
 leads es w own to s (keeps list) h none script settings ports =
-    (record { time = h.time; client = h.client; opens = h.opens; offset = h.offset; unopened = h.unopened; unended = h.unended; untold = h.untold }, freed own to w.net.ports ports, none, script_as es s (with_result s ok) refl refl script, record { table = settings.table; up = settings.up; now = settings.now; is_open = settings.is_open })
+    (record { time = h.time; client = h.client; opens = h.opens; offset = h.offset; hardware_is = h.hardware_is; unopened = h.unopened; unended = h.unended; untold = h.untold }, freed own to w.net.ports ports, none, script_as es s (with_result s ok) refl refl script, record { table = settings.table; up = settings.up; now = settings.now; is_open = settings.is_open })
 leads es w own to s (fails cause) h none script settings ports =
-    (record { time = h.time; client = h.client; opens = h.opens; offset = h.offset; unopened = h.unopened; unended = h.unended; untold = h.untold }, freed own to w.net.ports ports, none, script_as es s (with_result s cause) refl refl script, record { table = settings.table; up = settings.up; now = settings.now; is_open = settings.is_open })
+    (record { time = h.time; client = h.client; opens = h.opens; offset = h.offset; hardware_is = h.hardware_is; unopened = h.unopened; unended = h.unended; untold = h.untold }, freed own to w.net.ports ports, none, script_as es s (with_result s cause) refl refl script, record { table = settings.table; up = settings.up; now = settings.now; is_open = settings.is_open })
 leads es w own to s (boots list kernel) h none script settings ports = (still_handoff kernel list.images, silent_handoff kernel list.images, none, settings.is_open)
 
 pub ended_advanced : (es : List Event) (k : ℕ) (cause : Cause) → IsAdvanced es → IsAdvanced (es ++ puts (ended k cause) ∷ [])
-ended_advanced es k cause a = advanced_more es (puts (ended k cause)) (λ j. refl) (λ j. refl) a
+ended_advanced es k cause a = advanced_more es (puts (ended k cause)) (λ j. refl) (λ j. refl) (λ j. refl) a
 
 pub live_over : (k : ℕ) (es : List Event) → is_ended k es ≡ true → live k es ≡ []
 unfolding live
@@ -97,10 +99,30 @@ opened_only es w wanted none = λ j other.
 asks_with : {m : CommandsSoFar} (o : Open) (e : Entry) → AsksFor m o → AsksFor m (with_entry o e)
 asks_with o e a = record { shown = a.shown; said = a.said; asked = a.asked }
 
+-- an open of a file asks for it
+asks_its_file : (o : Open) → o.begun.server.0 ≡ o.wanted.target.server → is_open_of o.wanted (opening_of o) ≡ true
+asks_its_file o served =
+    ap (λ n. (n == o.wanted.target.server) && ((o.wanted.target.port == o.wanted.target.port) && bytes_eq o.wanted.target.path o.wanted.target.path)) served
+    ∙ ap (λ b. b && ((o.wanted.target.port == o.wanted.target.port) && bytes_eq o.wanted.target.path o.wanted.target.path)) (same_number o.wanted.target.server)
+    ∙ ap (λ b. b && bytes_eq o.wanted.target.path o.wanted.target.path) (same_number o.wanted.target.port)
+    ∙ (bytes_eq-Decides o.wanted.target.path o.wanted.target.path).1 refl
+
+-- the image of the command's open, which was made last
+fetched_image : (es : List Event) (o : Open) → made es - 1 ≡ o.number → AsksFor (so_far es) o → o.begun.server.0 ≡ o.wanted.target.server → openings o.number es ≡ opening_of o ∷ [] →
+    last_image es ≡ image_wanted (lists.datagrams_of o.number es) o.wanted ∷ []
+fetched_image es o number asked served opening =
+    let m = so_far es in
+    let ms = lists.datagrams_of o.number es in
+    ap (λ n. flat_map (image_by (option_map (shown_effect n m.table) m.shown) (lists.datagrams_of n es)) (filter lists.opens_file (openings n es))) number
+    ∙ ap (λ os. flat_map (image_by (option_map (shown_effect o.number m.table) m.shown) ms) (filter lists.opens_file os)) opening
+    ∙ ap (λ x. image_by (option_map (shown_effect o.number m.table) x) ms (opening_of o) ++ []) asked.said
+    ∙ ap (λ (x : Option Wanted). option_map_or (image_if ms (opening_of o)) x [] ++ []) asked.asked
+    ∙ ap (λ b. cond b (image_wanted ms o.wanted ∷ []) [] ++ []) (asks_its_file o served)
+
 -- what came is taken
 pub hears_tells : (ins : List In) (outs : List Out) (es : List Event) (w : World) (s : Running) (o : Open) (call : Call) (added : List Out) (phase : Phase) →
-    Hears w s o call added phase → Story ins outs es → Comes es w o call → AgreesScript es s → AgreesSettings (so_far es) w true → AsksFor (so_far es) o → w.state.images.images ≡ image_list (images_brought es) → HaveNoParts outs → IsNamed es w o → Tells ins (outs ++ added) phase
-hears_tells ins outs es w s o call added phase (goes_on _ _ _ _ acts meets none) story c script settings asked is none_before named =
+    Hears w s o call added phase → Story ins outs es → Comes es w o call → AgreesScript es s → AgreesSettings (so_far es) w true → AsksFor (so_far es) o → w.state.images.images ≡ image_list (images_brought es) → HaveNoParts outs → IsLatest w o → Tells ins (outs ++ added) phase
+hears_tells ins outs es w s o call added phase (goes_on _ _ _ _ acts meets none) story c script settings asked is none_before latest =
     let a = acts_records w.net o.number acts in
     let r = acts_reasons es w o call acts c meets in
     let left = kept es a (aside_acts w.net o.number acts) in
@@ -110,9 +132,9 @@ hears_tells ins outs es w s o call added phase (goes_on _ _ _ _ acts meets none)
       story = story_told ins outs es a (aside_acts w.net o.number acts) r.writes r.advances r.tries story;
       advanced = r.after;
       agrees = (world_taken es w o call acts c, open_taken es w o call acts c meets, goes_further o (entry call acts) meets c.going none, λ j other. live_kept j es a left ∙ c.only j other, script_told es a s (opens_begin (commands_begun es) a (opens_acts w.net o.number acts)) script, settings_as w true (opens_so_far es a (opens_acts w.net o.number acts)) settings, asks_with o (entry call acts) (asks_as o (opens_so_far es a (opens_acts w.net o.number acts)) asked));
-      images = (is ∙ sym (ap image_list keep.1), parts_more outs a none_before (opens_parts a (opens_acts w.net o.number acts)), record { uri = ap uri_of keep.0 ∙ named.uri; name = named.name; latest = named.latest });
+      images = (is ∙ sym (ap image_list keep), parts_more outs a none_before (opens_parts a (opens_acts w.net o.number acts)), latest);
     }
-hears_tells ins outs es w s o call added phase (is_over _ _ _ _ acts cause meets over) story c script settings asked is none_before named =
+hears_tells ins outs es w s o call added phase (is_over _ _ _ _ acts cause meets over) story c script settings asked is none_before latest =
     let a = acts_records w.net o.number acts in
     let k = o.number in
     let e = entry call acts in
@@ -126,7 +148,7 @@ hears_tells ins outs es w s o call added phase (is_over _ _ _ _ acts cause meets
     let holds = end_holds es1 w o e cause open1 meets c.going (c.now ∙ sym left.time_is) over in
     let r = acts_reasons es w o call acts c meets in
     let story1 : Story ins (outs ++ a) es1 = story_told ins outs es a (aside_acts w.net k acts) r.writes r.advances r.tries story in
-    let story2 : Story ins ((outs ++ a) ++ ended k cause ∷ []) es2 = story_put ins (outs ++ a) es1 (ended k cause) story1 (record { read = tt; end = (holds.0, holds.1, opening_of o, live_one k es1 (opening_of o) open1.opening open1.lives); frame = tt; step = tt; advance = r.after; try = tt }) in
+    let story2 : Story ins ((outs ++ a) ++ ended k cause ∷ []) es2 = story_put ins (outs ++ a) es1 (ended k cause) story1 (record { read = tt; end = (holds.0, opening_of o, live_one k es1 (opening_of o) open1.opening open1.lives, holds.1); frame = tt; step = tt; advance = r.after; try = tt }) in
     let still = still_conclusion concl in
     let advanced2 = ended_advanced es1 k cause r.after in
     let aside2 = still_aside b still in
@@ -134,24 +156,23 @@ hears_tells ins outs es w s o call added phase (is_over _ _ _ _ acts cause meets
     let world2 = ended_world es1 w k cause c.number world1 in
     let joined = ap (λ x. x ++ b) (append_assoc outs a (ended k cause ∷ [])) ∙ append_assoc outs (a ++ ended k cause ∷ []) b in
     let keep = opens_keep es a (opens_acts w.net k acts) in
-    let brought2 : images_brought es2 ≡ images_brought es = one_keeps es1 (ended k cause) refl ∙ keep.1 in
+    let brought2 : images_brought es2 ≡ images_brought es = one_keeps es1 (ended k cause) refl ∙ keep in
     let so_far2 : so_far es2 ≡ so_far es = so_far_more es1 (puts (ended k cause)) ∙ opens_so_far es a (opens_acts w.net k acts) in
     let asked2 : AsksFor (so_far es2) o = asks_as o so_far2 asked in
-    let settings3 : AgreesSettings (so_far (es2 ++ told b)) w false = settings_over w o (conclusion_so_far es2 concl) (settings_as w true so_far2 settings) asked2 in
-    let words2 : uri_of (words_of es2) ≡ o.wanted.uri = ap uri_of (words_kept es1 (puts (ended k cause)) (words_of es1) refl ∙ keep.0) ∙ named.uri in
-    let number2 : made es2 - 1 ≡ k = ap (λ z. z - 1) (world2.opens ∙ named.latest) ∙ omega arith in
+    let number2 : made es2 - 1 ≡ k = ap (λ z. z - 1) (world2.opens ∙ latest) ∙ omega arith in
+    let settings3 : AgreesSettings (so_far (es2 ++ told b)) w false = settings_over w o (conclusion_so_far es2 concl (file_left es2 (so_far es2) o number2 asked2)) (settings_as w true so_far2 settings) asked2 in
     let opening2 : openings k es2 ≡ opening_of o ∷ [] = openings_more k es1 (puts (ended k cause)) ∙ append-nil (openings k es1) ∙ open1.opening in
     let got2 : lists.datagrams_of k es2 ≡ got (o.entries ++ e ∷ []) = ap (λ z. flat_map received_by z) (calls_more k es1 (puts (ended k cause)) ∙ append-nil (calls k es1)) ∙ got_same k es1 (o.entries ++ e ∷ []) open1.calls in
-    let last : last_image es2 ≡ image_from (with_entry o e) ∷ [] =
-    ap (λ n. map (image_by (words_of es2) (lists.datagrams_of n es2)) (openings n es2)) number2 ∙ ap (λ z. map (image_by (words_of es2) (lists.datagrams_of k es2)) z) opening2
-    ∙ ap (λ u. image_of (last_segment o.wanted.target.path) (file (lists.datagrams_of k es2)) [] u ∷ []) words2
-    ∙ ap (λ g. image_of (last_segment o.wanted.target.path) (file g) [] o.wanted.uri ∷ []) got2
-    ∙ ap (λ n. image_of n (file (got (o.entries ++ e ∷ []))) [] o.wanted.uri ∷ []) (sym named.name) in
+    let last : last_image es2 ≡ image_from (with_entry o e) ∷ [] = fetched_image es2 o number2 asked2 open1.served opening2 ∙ ap (λ g. image_wanted g o.wanted ∷ []) got2 in
     let brings : HasBrought es2 cause o.wanted.boots (image_from (with_entry o e)) w.state.images = record {
       ended_so = last_end_more es1 (puts (ended k cause));
       is_open = ap (λ (m : CommandsSoFar). m.is_open) so_far2 ∙ settings.is_open;
+      none = none2;
       wanted = o.wanted;
-      asked = (asked2.shown, asked2.said, subst (λ n. shown_effect n (so_far es2).table asked2.shown ≡ asks o.wanted) (sym number2) asked2.asked);
+      opening = opening_of o;
+      shown = asked2.shown;
+      said = asked2.said;
+      asked = subst (λ n. wanted_by (shown_effect n (so_far es2).table asked2.shown) (opening_of o) ≡ Some o.wanted) (sym number2) asked2.asked;
       boots = refl;
       image_is = last;
       list_is = is ∙ sym (ap image_list brought2);

@@ -1,74 +1,124 @@
 -- The command that began last and the settings, by the history: one more event, and what a command's records do to them.
-use Rattle.std.proofs.Common.{◌≡◌, ℕ, ◌+◌, ◌*◌, ◌<◌, Bool, true, false, List, [], ◌∷◌, ◌++◌, Option, Some, None, Result, Ok, Err, refl, sym, ◌∙◌, ap, subst, fold, arith}
-use Rattle.std.proofs.lemmas.List.Sums.{fold-append}
+use Rattle.std.proofs.Common.{◌≡◌, ℕ, ◌+◌, ◌-◌, ◌*◌, ◌<◌, cond, append_assoc, Bool, true, false, List, [], ◌∷◌, ◌++◌, Option, Some, None, Result, Ok, Err, refl, sym, ◌∙◌, ap, subst, arith}
 use Rattle.nb_defs.specs.Commands.{CommandOutcome}
-use Rattle.nb_defs.specs.Records.{Out, step, command, sent, tried, advanced, result}
+use Rattle.std.proofs.lemmas.Option.{none-some}
+use Rattle.nb_terms.specs.declared.cause.Cause.{Cause}
+use Rattle.nb_defs.specs.Records.{Out, step, text as prints_text, command, sent, tried, advanced, result}
 use Rattle.nb_settings.specs.Tables.{TableLists}
 use Rattle.nb_expand.specs.declared.error.ExpandError.{ExpandError}
 use Rattle.nb_command.specs.declared.command_plan.CommandPlan.{CommandPlan}
 use Rattle.nb_command.specs.declared.command_plan.CommandPlan.TheVariants as plan
+use Rattle.nb_command.specs.declared.error.ApplyError.{ApplyError}
 use Rattle.nb_command.specs.declared.error.PlanError.{PlanError}
+use Rattle.nb_command.specs.Locating.{located}
+use Rattle.nb_command.specs.declared.locating.Located.{Located}
+use Rattle.nb_command.specs.Device.{device_change}
 use Rattle.nb_command.specs.Planning.{planned}
 use Rattle.nb_engine.specs.declared.world.World.{World}
-use Rattle.nb_engine.specs.Effects.{Effect, says, asks, goes, sleeps, shuts_device, ShownWords, shown_as, shown_words, effect, words_effect, words_table, table_after, up_after, expansion, expanded_effect, plan_effect, planned_effect}
+use Rattle.nb_engine.specs.Effects.{Effect, says, asks, goes, sleeps, shuts_device, inquires, unless_full, device_effect, fetch, fetched, ShownWords, shown_as, shown_words, effect, words_effect, words_table, table_after, up_after, expansion, expanded_effect, plan_effect, planned_effect}
 use Rattle.nb_engine.specs.Conclusions.{Conclusion, keeps, fails, boots, conclusion_records}
 use Rattle.nb_engine.specs.Opens.{Open}
+use Rattle.nb_engine.specs.Lones.{Lone}
 use Rattle.nb_engine.specs.Running.{Running}
 use Rattle.nb_engine.specs.Machine.{prints, command_record, command_records}
 use Rattle.nb_defs.specs.Records.{Start}
 use Rattle.nb_engine.specs.StartTable.{start_table}
 use Rattle.nb_engine.specs.World.{is_up, world_of, with_net, world_later}
-use Rattle.nb_engine.proofs.CommandLaws.{effect_of_words, table_of_words, up_of_words, shown_of_words, shown_of_refused, table_of_refused, up_of_refused, fetch_either, sleeps_some, KeepsTable, keeps_words}
+use Rattle.nb_engine.specs.Errands.{Errand, fetches_then, echoes_then, remote_file}
+use Rattle.nb_engine.specs.Queries.{Query, for_lease, for_host}
+use Rattle.nb_engine.proofs.Eithers.{full_either}
+use Rattle.nb_engine.proofs.CommandLaws.{effect_of_words, table_of_words, up_of_words, shown_of_words, shown_of_refused, table_of_refused, up_of_refused, sleeps_some, KeepsTable, keeps_words}
 use Rattle.nb_stack.specs.Client.{Client}
-use Rattle.nb_laws.specs.Events.{Event, puts}
+use Rattle.nb_laws.specs.Events.{Event, starts, puts, followed}
 use Rattle.nb_engine.specs.Link.{link_by}
 use Rattle.nb_laws.specs.Histories.{client}
-use Rattle.nb_laws.specs.Lists.{made}
-use Rattle.nb_laws.specs.CommandsSoFar.{CommandsSoFar, so_far, so_far_by, no_commands, shown_effect, shown_table, shown_up, ComesTo}
+use Rattle.nb_laws.specs.HandOff.{wanted_by}
+use Rattle.nb_laws.specs.Lists.{made, came_ok, last_end}
+use Rattle.nb_laws.specs.CommandsSoFar.{CommandsSoFar, so_far, so_far_by, no_commands, shown_effect, shown_table, shown_up, query_in, shown_query, found_table, left_table, ComesTo}
 use Rattle.nb_laws.specs.Progress.{NoneOversleeps}
-use Rattle.nb_laws.specs.Agreement.{IsSilent, bare, AgreesSettings, AgreesSleep, AsksFor}
-use Rattle.nb_laws.proofs.Histories.{client_linked}
+use Rattle.nb_laws.specs.Agreement.{IsSilent, AreSilent, bare, AgreesSettings, AgreesSleep, opening_of, AsksFor, Inquires}
+use Rattle.nb_laws.proofs.Hosts.{host_cases, address_cases}
+use Rattle.nb_laws.proofs.Inquiries.{IsFetch, fetches_at_once, fetches_of_host, fetch_of, asks_some, shown_inquiry_keeps}
+use Rattle.nb_laws.proofs.Histories.{followed_one, followed_append, client_linked}
 use Rattle.nb_laws.proofs.Tellings.{told, client_told}
-use Rattle.nb_laws.proofs.HandOffs.{IsOpens, AreOpens}
+use Rattle.nb_laws.proofs.HandOffs.{IsOpens, AreOpens, last_end_more}
 
-pub so_far_more : (es : List Event) (e : Event) → so_far (es ++ e ∷ []) ≡ so_far_by (so_far es) e
+pub so_far_more : (es : List Event) (e : Event) → so_far (es ++ e ∷ []) ≡ so_far_by es (so_far es) e
 unfolding so_far
-so_far_more es e = fold-append so_far_by no_commands es (e ∷ [])
+so_far_more es e = followed_one so_far_by no_commands es e
 
-pub told_so_far : (es : List Event) (outs : List Out) → so_far (es ++ told outs) ≡ fold so_far_by (so_far es) (told outs)
+told_so_far : (es : List Event) (outs : List Out) → so_far (es ++ told outs) ≡ followed so_far_by es (so_far es) (told outs)
 unfolding so_far
-told_so_far es outs = fold-append so_far_by no_commands es (told outs)
+told_so_far es outs = followed_append so_far_by [] no_commands es (told outs)
 
 -- frames, tries and advances leave it as it was
-opens_one : (m : CommandsSoFar) (o : Out) → IsOpens o → so_far_by m (puts o) ≡ m
+opens_one : (before : List Event) (m : CommandsSoFar) (o : Out) → IsOpens o → so_far_by before m (puts o) ≡ m
 unfolding IsOpens
-opens_one m (sent bytes) h = refl
-opens_one m (tried number count) h = refl
-opens_one m (advanced number place) h = refl
-opens_one m _ h = absurd h
+opens_one before m (sent bytes) h = refl
+opens_one before m (tried number count) h = refl
+opens_one before m (advanced number place) h = refl
+opens_one before m _ h = absurd h
 
-opens_all : (m : CommandsSoFar) (outs : List Out) → AreOpens outs → fold so_far_by m (told outs) ≡ m
-opens_all m [] h = refl
-opens_all m (o ∷ outs) h = ap (λ z. fold so_far_by z (told outs)) (opens_one m o h.0) ∙ opens_all m outs h.1
+opens_all : (before : List Event) (m : CommandsSoFar) (outs : List Out) → AreOpens outs → followed so_far_by before m (told outs) ≡ m
+unfolding followed
+opens_all before m [] h = refl
+opens_all before m (o ∷ outs) h =
+    ap (λ z. followed so_far_by (before ++ puts o ∷ []) z (told outs)) (opens_one before m o h.0) ∙ opens_all (before ++ puts o ∷ []) m outs h.1
 
 pub opens_so_far : (es : List Event) (outs : List Out) → AreOpens outs → so_far (es ++ told outs) ≡ so_far es
-opens_so_far es outs h = told_so_far es outs ∙ opens_all (so_far es) outs h
+opens_so_far es outs h = told_so_far es outs ∙ opens_all es (so_far es) outs h
 
 -- so do the records of a hand-off
-pub silent_so_far : (m : CommandsSoFar) (o : Out) → IsSilent o → so_far_by m (puts o) ≡ m
-silent_so_far m (command depth line place expanded words) h = absurd h
-silent_so_far m (result cause) h = absurd h
-silent_so_far m (step number) h = refl
-silent_so_far m _ h = refl
+pub silent_so_far : (before : List Event) (m : CommandsSoFar) (o : Out) → IsSilent o → so_far_by before m (puts o) ≡ m
+silent_so_far before m (command depth line place expanded words) h = absurd h
+silent_so_far before m (result cause) h = absurd h
+silent_so_far before m (step number) h = refl
+silent_so_far before m _ h = refl
 
--- a command is over
-abbrev pub ended_so_far : CommandsSoFar → CommandsSoFar
-ended_so_far m = record m { table = shown_table m.table m.shown; is_open = false }
+silent_all : (before : List Event) (m : CommandsSoFar) (outs : List Out) → AreSilent outs → followed so_far_by before m (told outs) ≡ m
+unfolding followed
+silent_all before m [] h = refl
+silent_all before m (o ∷ outs) h =
+    ap (λ z. followed so_far_by (before ++ puts o ∷ []) z (told outs)) (silent_so_far before m o h.0) ∙ silent_all (before ++ puts o ∷ []) m outs h.1
 
-pub conclusion_so_far : (es : List Event) (c : Conclusion) → so_far (es ++ told (conclusion_records c)) ≡ ended_so_far (so_far es)
-conclusion_so_far es (keeps list) = told_so_far es (result _ ∷ [])
-conclusion_so_far es (fails cause) = told_so_far es (result cause ∷ [])
-conclusion_so_far es (boots list kernel) = told_so_far es (result _ ∷ [])
+-- before any event
+pub nothing_so_far : (es : List Event) → es ≡ [] → so_far es ≡ no_commands
+unfolding so_far followed
+nothing_so_far es e = rw e refl
+
+-- START, and records that say nothing of a command
+pub first_so_far : (es : List Event) (n : ℕ) (s : Start) (outs : List Out) → es ≡ [] → AreSilent outs → so_far ((es ++ starts n s ∷ []) ++ told outs) ≡ record no_commands { table = start_table s; up = is_up s }
+first_so_far es n s outs e h =
+    told_so_far (es ++ starts n s ∷ []) outs ∙ silent_all (es ++ starts n s ∷ []) (so_far (es ++ starts n s ∷ [])) outs h ∙ so_far_more es (starts n s)
+    ∙ ap (λ (m : CommandsSoFar). record m { table = start_table s; up = is_up s }) (nothing_so_far es e)
+
+-- A COMMAND IS OVER
+
+-- it leaves the settings that its words say
+abbrev pub over_so_far : CommandsSoFar → CommandsSoFar
+over_so_far m = record m { table = shown_table m.table m.shown; is_open = false }
+
+-- it has found nothing: none of its opens has ended well
+pub left_quiet : (before : List Event) (table : TableLists) (shown : Option ShownWords) → came_ok (last_end before) ≡ false → left_table before table shown ≡ shown_table table shown
+left_quiet before table shown failed =
+    ap (λ b. cond b (found_table before (shown_table table shown) (shown_query (made before - 1) table shown)) (shown_table table shown)) failed
+
+-- it has asked for nothing by one exchange
+pub left_unasked : (before : List Event) (table : TableLists) (shown : Option ShownWords) → shown_query (made before - 1) table shown ≡ None → left_table before table shown ≡ shown_table table shown
+left_unasked before table shown none = by (came_ok (last_end before))
+  where
+    by : (b : Bool) → cond b (found_table before (shown_table table shown) (shown_query (made before - 1) table shown)) (shown_table table shown) ≡ shown_table table shown
+    by true = ap (found_table before (shown_table table shown)) none
+    by false = refl
+
+pub result_so_far : (es : List Event) (cause : Cause) → left_table es (so_far es).table (so_far es).shown ≡ shown_table (so_far es).table (so_far es).shown → so_far (es ++ puts (result cause) ∷ []) ≡ over_so_far (so_far es)
+result_so_far es cause left = so_far_more es (puts (result cause)) ∙ ap (λ t. record (so_far es) { table = t; is_open = false }) left
+
+pub conclusion_so_far : (es : List Event) (c : Conclusion) → left_table es (so_far es).table (so_far es).shown ≡ shown_table (so_far es).table (so_far es).shown →
+    so_far (es ++ told (conclusion_records c)) ≡ over_so_far (so_far es)
+conclusion_so_far es (keeps list) left = result_so_far es _ left
+conclusion_so_far es (fails cause) left = result_so_far es cause left
+conclusion_so_far es (boots list kernel) left = result_so_far es _ left
 
 -- a command begins
 abbrev pub begun_so_far : CommandsSoFar → ShownWords → CommandsSoFar
@@ -77,12 +127,23 @@ begun_so_far m shown = record m { up = shown_up m.up shown; shown = Some shown; 
 pub begins_so_far : (es : List Event) (s : Running) (shown : ShownWords) → so_far (es ++ puts (command_record s shown) ∷ []) ≡ begun_so_far (so_far es) shown
 begins_so_far es s shown = so_far_more es (puts (command_record s shown))
 
-pub command_so_far : (es : List Event) (s : Running) (shown : ShownWords) (o : CommandOutcome) → so_far (es ++ told (command_records s shown o)) ≡ ended_so_far (begun_so_far (so_far es) shown)
-command_so_far es s shown o = told_so_far es (command_records s shown o) ∙ by o.prints
+pub command_so_far : (es : List Event) (s : Running) (shown : ShownWords) (o : CommandOutcome) → so_far (es ++ told (command_records s shown o)) ≡ over_so_far (begun_so_far (so_far es) shown)
+command_so_far es s shown o = by o.prints
   where
-    by : (p : Option (List ℕ)) → fold so_far_by (so_far es) (told ((command_record s shown ∷ []) ++ prints p ++ (result o.cause ∷ []))) ≡ ended_so_far (begun_so_far (so_far es) shown)
-    by None = refl
-    by (Some bytes) = refl
+    e : Event
+    e = puts (command_record s shown)
+
+    by : (p : Option (List ℕ)) → so_far (es ++ told ((command_record s shown ∷ []) ++ prints p ++ (result o.cause ∷ []))) ≡ over_so_far (begun_so_far (so_far es) shown)
+    by None =
+        ap so_far (sym (append_assoc es (e ∷ []) (puts (result o.cause) ∷ [])))
+        ∙ result_so_far (es ++ e ∷ []) o.cause (left_quiet (es ++ e ∷ []) (so_far (es ++ e ∷ [])).table (so_far (es ++ e ∷ [])).shown (ap came_ok (last_end_more es e)))
+        ∙ ap over_so_far (begins_so_far es s shown)
+    by (Some bytes) =
+        let es1 = es ++ e ∷ [] in
+        let es2 = es1 ++ puts (prints_text bytes) ∷ [] in
+        ap so_far (sym (append_assoc es (e ∷ []) (puts (prints_text bytes) ∷ puts (result o.cause) ∷ [])) ∙ sym (append_assoc es1 (puts (prints_text bytes) ∷ []) (puts (result o.cause) ∷ [])))
+        ∙ result_so_far es2 o.cause (left_quiet es2 (so_far es2).table (so_far es2).shown (ap came_ok (last_end_more es1 (puts (prints_text bytes)) ∙ last_end_more es e)))
+        ∙ ap over_so_far (so_far_more es1 (puts (prints_text bytes)) ∙ begins_so_far es s shown)
 
 -- THE WORDS THAT A RECORD SHOWS SAY WHAT THE SCRIPT'S WORDS SAY
 
@@ -126,6 +187,18 @@ IsAwake (says o) = Unit {0}
 IsAwake (asks wanted) = Unit {0}
 IsAwake (goes name) = Unit {0}
 IsAwake shuts_device = Unit {0}
+IsAwake (inquires q) = Unit {0}
+
+device_awake : (e : Effect) → IsAwake e → (r : Result Bool ApplyError) → IsAwake (device_effect e r)
+device_awake e is (Ok up) = is
+device_awake e is (Err why) = tt
+
+fetch_awake : (opens : ℕ) (booting : Bool) (table : TableLists) (uri : List ℕ) → IsAwake (fetch opens booting table uri)
+fetch_awake opens booting table uri = by (located table uri)
+  where
+    by : (r : Result Located ApplyError) → IsAwake (fetched opens booting table r)
+    by (Ok file) = host_cases IsAwake (λ o. tt) (fetches_then (remote_file booting file)) (λ address. tt) (λ name by. tt) opens table file.host
+    by (Err why) = tt
 
 plan_sleeps : (k j : ℕ) (table : TableLists) (p : CommandPlan) (n : ℕ) → plan_effect k table p ≡ sleeps n → plan_effect j table p ≡ sleeps n
 plan_sleeps k j table (plan.Echo newline text) n e = e
@@ -137,10 +210,13 @@ plan_sleeps k j table (plan.Set name value) n e = e
 plan_sleeps k j table (plan.Clear name) n e = e
 plan_sleeps k j table (plan.Show name) n e = e
 plan_sleeps k j table (plan.Inc name by) n e = e
-plan_sleeps k j table (plan.Fetch uri) n e = absurd (subst IsAwake e (fetch_either IsAwake (λ o. tt) (λ wanted. tt) k false uri))
-plan_sleeps k j table (plan.Exec uri) n e = absurd (subst IsAwake e (fetch_either IsAwake (λ o. tt) (λ wanted. tt) k true uri))
+plan_sleeps k j table (plan.Fetch uri) n e = absurd (subst IsAwake e (fetch_awake k false table uri))
+plan_sleeps k j table (plan.Exec uri) n e = absurd (subst IsAwake e (fetch_awake k true table uri))
 plan_sleeps k j table (plan.Ifopen device) n e = e
 plan_sleeps k j table (plan.Ifclose device) n e = e
+plan_sleeps k j table (plan.Dhcp device) n e = absurd (subst IsAwake e (device_awake (unless_full k (inquires for_lease)) (full_either IsAwake (λ o. tt) k (inquires for_lease) tt) (device_change device true)))
+plan_sleeps k j table (plan.Ping host) n e = absurd (subst IsAwake e (host_cases IsAwake (λ o. tt) echoes_then (λ address. tt) (λ name by. tt) k table host))
+plan_sleeps k j table (plan.Nslookup name host) n e = absurd (subst IsAwake e (address_cases IsAwake (λ o. tt) name (λ asked by. tt) k table host))
 plan_sleeps k j table (plan.Sleep seconds) n e = e
 
 planned_sleeps : (k j : ℕ) (table : TableLists) (q : Result CommandPlan PlanError) (n : ℕ) → planned_effect k table q ≡ sleeps n → planned_effect j table q ≡ sleeps n
@@ -182,7 +258,23 @@ asking_rests es o a = λ seconds still comes.
     let same : shown ≡ a.shown = same_shown (so_far es).shown shown a.shown is a.said in
     let asleep : shown_effect (made es) (so_far es).table a.shown ≡ sleeps seconds = subst (λ x. shown_effect (made es) (so_far es).table x ≡ sleeps seconds) same sleeps_so in
     let again : shown_effect o.number (so_far es).table a.shown ≡ sleeps seconds = shown_sleeps (made es) o.number (so_far es).table a.shown.expanded a.shown.words seconds asleep in
-    absurd (let impossible : asks o.wanted ≡ sleeps seconds = sym a.asked ∙ again in cc)
+    absurd (none-some o.wanted (sym (ap (λ e. wanted_by e (opening_of o)) again) ∙ a.asked))
+
+-- nor one that asks for something by one exchange
+pub inquiry_rests : (es : List Event) (k : ℕ) (q : Query) → ComesTo es k (inquires q) → NoneOversleeps es
+inquiry_rests es k q comes_to = λ seconds still comes.
+    let (shown, is, sleeps_so) = comes in
+    let (said, said_is, asked) = comes_to in
+    let same : shown ≡ said = same_shown (so_far es).shown shown said is said_is in
+    let asleep : shown_effect (made es) (so_far es).table said ≡ sleeps seconds = subst (λ x. shown_effect (made es) (so_far es).table x ≡ sleeps seconds) same sleeps_so in
+    let again : shown_effect k (so_far es).table said ≡ sleeps seconds = shown_sleeps (made es) k (so_far es).table said.expanded said.words seconds asleep in
+    absurd (let impossible : inquires q ≡ sleeps seconds = sym asked ∙ again in cc)
+
+-- nor one that waits for an open of one object
+pub inquiring_rests : (es : List Event) (o : Lone) → Inquires (so_far es) o → NoneOversleeps es
+inquiring_rests es o a =
+    let (q, is) = asks_some (shown_effect o.number (so_far es).table a.shown) o.query a.asked in
+    inquiry_rests es o.number q (a.shown, a.said, is)
 
 -- nor one whose time hasn't come
 pub sleeping_rests : (es : List Event) (w : World) (until : ℕ) → made es ≡ w.opens → (so_far es).now ≡ w.time → AgreesSleep (so_far es) w until → NoneOversleeps es
@@ -206,20 +298,53 @@ settings_as w still e a = subst (λ x. AgreesSettings x w still) (sym e) a
 pub asks_as : {m m' : CommandsSoFar} (o : Open) → m' ≡ m → AsksFor m o → AsksFor m' o
 asks_as o e a = subst (λ x. AsksFor x o) (sym e) a
 
--- a command that asked for a file is over: it leaves the settings as they were
-asking_keeps : (m : CommandsSoFar) (o : Open) → AsksFor m o → shown_table m.table m.shown ≡ m.table
-asking_keeps m o a = ap (shown_table m.table) a.said ∙ by a.shown.expanded a.shown.words a.asked
+-- nor anything for the settings where it has looked up its server
+pub left_by_host : (before : List Event) (table : TableLists) (shown : Option ShownWords) (errand : Errand) (name : List ℕ) (by : ℕ) → shown_query (made before - 1) table shown ≡ Some (for_host errand name by) →
+    left_table before table shown ≡ shown_table table shown
+left_by_host before table shown errand name by is = either (came_ok (last_end before))
   where
-    by : (expanded : Bool) (ws : List (List ℕ)) → shown_effect o.number m.table (shown_as expanded ws) ≡ asks o.wanted → shown_table m.table (Some (shown_as expanded ws)) ≡ m.table
-    by true ws e = subst (λ x. KeepsTable x m.table (words_table m.table ws)) e (keeps_words o.number m.table ws)
-    by false ws e = refl
+    either : (b : Bool) → cond b (found_table before (shown_table table shown) (shown_query (made before - 1) table shown)) (shown_table table shown) ≡ shown_table table shown
+    either true = ap (found_table before (shown_table table shown)) is
+    either false = refl
 
-pub settings_over : {m m' : CommandsSoFar} (w : World) (o : Open) → m' ≡ ended_so_far m → AgreesSettings m w true → AsksFor m o → AgreesSettings m' w false
+-- a command that asked for a file has found nothing for the settings
+pub file_left : (before : List Event) (m : CommandsSoFar) (o : Open) → made before - 1 ≡ o.number → AsksFor m o → left_table before m.table m.shown ≡ shown_table m.table m.shown
+file_left before m o number a = by (fetch_of (shown_effect o.number m.table a.shown) (opening_of o) o.wanted a.asked)
+  where
+    query : (e : Effect) → shown_effect o.number m.table a.shown ≡ e → shown_query (made before - 1) m.table m.shown ≡ query_in e
+    query e is = ap (shown_query (made before - 1) m.table) a.said ∙ ap (λ n. query_in (shown_effect n m.table a.shown)) number ∙ ap query_in is
+
+    by : IsFetch (shown_effect o.number m.table a.shown) (opening_of o) o.wanted → left_table before m.table m.shown ≡ shown_table m.table m.shown
+    by (fetches_at_once is) = left_unasked before m.table m.shown (query (asks o.wanted) is)
+    by (fetches_of_host file name server is same) = left_by_host before m.table m.shown (fetches_then file) name server (query (inquires (for_host (fetches_then file) name server)) is)
+
+-- a command that asked for a file is over: it leaves the settings as they were
+pub asking_keeps : (m : CommandsSoFar) (o : Open) → AsksFor m o → shown_table m.table m.shown ≡ m.table
+asking_keeps m o a = ap (shown_table m.table) a.said ∙ by (fetch_of (shown_effect o.number m.table a.shown) (opening_of o) o.wanted a.asked)
+  where
+    at_once : (expanded : Bool) (ws : List (List ℕ)) → shown_effect o.number m.table (shown_as expanded ws) ≡ asks o.wanted → shown_table m.table (Some (shown_as expanded ws)) ≡ m.table
+    at_once true ws e = subst (λ x. KeepsTable x m.table (words_table m.table ws)) e (keeps_words o.number m.table ws)
+    at_once false ws e = refl
+
+    by : IsFetch (shown_effect o.number m.table a.shown) (opening_of o) o.wanted → shown_table m.table (Some a.shown) ≡ m.table
+    by (fetches_at_once is) = at_once a.shown.expanded a.shown.words is
+    by (fetches_of_host file name server is same) = shown_inquiry_keeps o.number m.table a.shown (for_host (fetches_then file) name server) is
+
+-- so does one that asks by one exchange
+pub inquiring_keeps : (m : CommandsSoFar) (o : Lone) → Inquires m o → shown_table m.table m.shown ≡ m.table
+inquiring_keeps m o a =
+    let (q, is) = asks_some (shown_effect o.number m.table a.shown) o.query a.asked in
+    ap (shown_table m.table) a.said ∙ shown_inquiry_keeps o.number m.table a.shown q is
+
+pub inquires_as_far : {m m' : CommandsSoFar} (o : Lone) → m' ≡ m → Inquires m o → Inquires m' o
+inquires_as_far o e a = subst (λ x. Inquires x o) (sym e) a
+
+pub settings_over : {m m' : CommandsSoFar} (w : World) (o : Open) → m' ≡ over_so_far m → AgreesSettings m w true → AsksFor m o → AgreesSettings m' w false
 settings_over {m} {m'} w o e settings a =
     subst (λ x. AgreesSettings x w false) (sym e) (record { table = asking_keeps m o a ∙ settings.table; up = settings.up; now = settings.now; is_open = refl })
 
 -- a command that is over at once
-pub settings_done : {m m' : CommandsSoFar} (w v : World) (ws : List (List ℕ)) → m' ≡ ended_so_far (begun_so_far m (shown_words w.state.table ws)) → AgreesSettings m w false →
+pub settings_done : {m m' : CommandsSoFar} (w v : World) (ws : List (List ℕ)) → m' ≡ over_so_far (begun_so_far m (shown_words w.state.table ws)) → AgreesSettings m w false →
     table_after w.state.table ws ≡ v.state.table → up_after w.state.table w.state.up ws ≡ v.state.up → v.time ≡ w.time → AgreesSettings m' v false
 settings_done {m} {m'} w v ws e settings leaves up time =
     subst (λ x. AgreesSettings x v false) (sym e) (record {
@@ -250,8 +375,9 @@ asks_begun m {m'} w ws o e settings number comes =
     subst (λ x. AsksFor x o) (sym e) (record {
       shown = shown_words w.state.table ws;
       said = refl;
-      asked = ap (λ t. shown_effect o.number t (shown_words w.state.table ws)) settings ∙ ap (λ n. shown_effect n w.state.table (shown_words w.state.table ws)) number
-          ∙ shown_effect_is w.opens w.state.table ws ∙ comes;
+      asked = ap (λ e. wanted_by e (opening_of o))
+          (ap (λ t. shown_effect o.number t (shown_words w.state.table ws)) settings ∙ ap (λ n. shown_effect n w.state.table (shown_words w.state.table ws)) number
+          ∙ shown_effect_is w.opens w.state.table ws ∙ comes);
     })
 
 -- it sleeps
@@ -300,7 +426,7 @@ sleeping_keeps m w until a = ap (shown_table m.table) a.is_shown ∙ by a.shown.
     by false ws e = refl
 
 -- a sleep is over
-pub settings_awake : {m m' : CommandsSoFar} (w : World) (until ms : ℕ) → m' ≡ ended_so_far (record m { now = m.now + ms }) → AgreesSettings m w true → AgreesSleep m w until →
+pub settings_awake : {m m' : CommandsSoFar} (w : World) (until ms : ℕ) → m' ≡ over_so_far (record m { now = m.now + ms }) → AgreesSettings m w true → AgreesSleep m w until →
     AgreesSettings m' (world_later w ms) false
 settings_awake {m} {m'} w until ms e settings a =
     subst (λ x. AgreesSettings x (world_later w ms) false) (sym e) (record { table = sleeping_keeps m w until a ∙ settings.table; up = settings.up; now = ap (λ t. t + ms) settings.now; is_open = refl })

@@ -1,6 +1,6 @@
 -- The last first try of an open, among what concerns its tries.
 use Rattle.std.proofs.Common.{◌≡◌, ℕ, true, List, [], ◌∷◌, ◌++◌, Option, Some, None, refl, sym, ◌∙◌, ap, subst, append_assoc, append-nil, filter, if◌then◌else◌}
-use Rattle.std.specs.List.{flat_map, fold}
+use Rattle.std.specs.List.{flat_map, fold, AllByRecursion}
 use Rattle.std.specs.Option.{option_map_or, is_some}
 use Rattle.std.proofs.lemmas.List.{map-append}
 use Rattle.std.proofs.lemmas.List.Concat.{flat_map-append}
@@ -19,7 +19,7 @@ use Rattle.nb_tftp.specs.Endings.{moments}
 use Rattle.nb_laws.specs.Lists.{Mark, passed, tries, heard, times_of, tries_of, heard_of, times_in, tries_in, heard_in}
 use Rattle.nb_laws.specs.Agreement.{try_marks, entry_marks}
 
-abbrev said_try : ℕ → Due → List (ℕ × ℕ)
+abbrev pub said_try : ℕ → Due → List (ℕ × ℕ)
 said_try at Not = []
 said_try at (Again n) = (n, at) ∷ []
 said_try at Over = []
@@ -85,21 +85,38 @@ comes_on ms w m now (Some n) first h = record {
   news = refl;
 }
 
-one_on : (b : Begun) (before : List Entry) (call : Call) (acts : Acts) (ms : List Mark) (w : Watch) → AsksSo b before (entry call acts) → Watched ms w → Watched (ms ++ entry_marks (entry call acts)) (watched_call w call acts)
-one_on b before (came m now) acts ms w so h =
-    comes_on ms w m now acts.tried (first_try true b before m now acts so) h
-one_on b before (ticked now) acts ms w so h = ticks_on ms w now acts.tried _ (said_same now acts.tried acts.over) h
+-- a datagram makes a first try alone
+abbrev FirstBy : Call → Acts → Type 0
+FirstBy (came m now) acts = IsFirst acts.tried
+FirstBy (ticked now) acts = Unit {0}
 
-all_on : (b : Begun) (before h : List Entry) (ms : List Mark) (w : Watch) → EachEntry (AsksSo b) before h → Watched ms w →
-    Watched (ms ++ flat_map entry_marks h) (fold (λ w (e : Entry). watched_call w e.call e.acts) w h)
-all_on b before [] ms w each is = subst (λ z. Watched z w) (sym (append-nil ms)) is
-all_on b before (e ∷ h) ms w each is =
+abbrev pub TriesFirst : Entry → Type 0
+TriesFirst e = FirstBy e.call e.acts
+
+one_on : (call : Call) (acts : Acts) (ms : List Mark) (w : Watch) → FirstBy call acts → Watched ms w → Watched (ms ++ entry_marks (entry call acts)) (watched_call w call acts)
+one_on (came m now) acts ms w first h = comes_on ms w m now acts.tried first h
+one_on (ticked now) acts ms w first h = ticks_on ms w now acts.tried _ (said_same now acts.tried acts.over) h
+
+all_on : (h : List Entry) (ms : List Mark) (w : Watch) → AllByRecursion TriesFirst h → Watched ms w → Watched (ms ++ flat_map entry_marks h) (fold (λ w (e : Entry). watched_call w e.call e.acts) w h)
+all_on [] ms w each is = subst (λ z. Watched z w) (sym (append-nil ms)) is
+all_on (e ∷ h) ms w each is =
     subst (λ z. Watched z (fold (λ w (e : Entry). watched_call w e.call e.acts) (watched_call w e.call e.acts) h)) (append_assoc ms (entry_marks e) (flat_map entry_marks h))
-    (all_on b (before ++ e ∷ []) h (ms ++ entry_marks e) (watched_call w e.call e.acts) each.1 (one_on b before e.call e.acts ms w each.0 is))
+    (all_on h (ms ++ entry_marks e) (watched_call w e.call e.acts) each.1 (one_on e.call e.acts ms w each.0 is))
+
+pub watch_of : (start : ℕ) (h : List Entry) → AllByRecursion TriesFirst h → Watched (tries 1 start ∷ flat_map entry_marks h) (watched start h)
+watch_of start h each = all_on h (tries 1 start ∷ []) (watch_from start) each (record { earlier = []; rest = []; all = refl; times = refl; tried = refl; news = refl })
+
+-- so it does in a transfer
+first_so : (b : Begun) (before : List Entry) (call : Call) (acts : Acts) → AsksSo b before (entry call acts) → FirstBy call acts
+first_so b before (came m now) acts so = first_try true b before m now acts so
+first_so b before (ticked now) acts so = tt
+
+each_first : (b : Begun) (before h : List Entry) → EachEntry (AsksSo b) before h → AllByRecursion TriesFirst h
+each_first b before [] each = tt
+each_first b before (e ∷ h) each = (first_so b before e.call e.acts each.0, each_first b (before ++ e ∷ []) h each.1)
 
 pub watch_told : (b : Begun) (start : ℕ) (h : List Entry) → EachEntry (AsksSo b) [] h → Watched (tries 1 start ∷ flat_map entry_marks h) (watched start h)
-watch_told b start h each =
-    all_on b [] h (tries 1 start ∷ []) (watch_from start) each (record { earlier = []; rest = []; all = refl; times = refl; tried = refl; news = refl })
+watch_told b start h each = watch_of start h (each_first b [] h each)
 
 one_filtered : (at : ℕ) (said : Due) (calls : List Asked) → said_tries (filter (λ x. fires x.said) calls) ≡ said_tries calls → said_tries (filter (λ x. fires x.said) (asked_at at said ∷ calls)) ≡ said_tries (asked_at at said ∷ calls)
 one_filtered at Not calls e = e

@@ -1,12 +1,12 @@
 -- The client by the history, and which events are the history of two lists of records.
-use Rattle.std.specs.Prelude.{◌≡◌, List, [], None, false, fold}
+use Rattle.std.specs.Prelude.{◌≡◌, List, [], None, false}
 use Rattle.nb_defs.specs.Records.{In, Out, step, sent, text, command, result, script, opened, tried, advanced, ended, graph, part, done}
 use Rattle.nb_stack.specs.Client.{Client}
 use Rattle.nb_stack.specs.Brings.{Brings}
 use Rattle.nb_stack.specs.Takes.{client_after}
 use Rattle.nb_engine.specs.Link.{link_by}
 use Rattle.nb_engine.specs.World.{device_of}
-use Rattle.nb_laws.specs.Events.{Event, starts, hears, waits, stops, puts, inputs, outputs, EachEvent}
+use Rattle.nb_laws.specs.Events.{Event, starts, hears, waits, stops, puts, inputs, outputs, EachEvent, followed}
 use Rattle.nb_laws.specs.CommandsSoFar.{CommandsSoFar, no_commands, so_far_by}
 
 -- before START the device has no MAC
@@ -33,12 +33,12 @@ no_link = record { commands = no_commands; device = no_device }
 abbrev pub client_of : LinkSoFar → Client
 client_of l = link_by l.commands.table l.commands.up l.device
 
-abbrev pub link_so_far_by : LinkSoFar → Event → LinkSoFar
-link_so_far_by l e = record { commands = so_far_by l.commands e; device = device_by (client_of l) e }
+abbrev pub link_so_far_by : List Event → LinkSoFar → Event → LinkSoFar
+link_so_far_by before l e = record { commands = so_far_by before l.commands e; device = device_by (client_of l) e }
 
 -- the client and its neighbours after these events; ports aren't told
 unfoldable pub client : List Event → Client
-client es = client_of (fold link_so_far_by no_link es)
+client es = client_of (followed link_so_far_by [] no_link es)
 
 -- each frame brought its message to the client as it was then; what is written else is no STEP
 abbrev pub IsRead : List Event → Event → Type 0

@@ -1,22 +1,24 @@
 -- What holds of the history of each run.
 use Rattle.std.specs.Prelude.{◌⊎◌, List, []}
+use Rattle.nb_defs.specs.Parts.{HaveNoParts}
 use Rattle.nb_defs.specs.Records.{Out}
-use Rattle.nb_engine.specs.Honesty.{HaveNoParts}
 use Rattle.nb_laws.specs.Events.{Event, outputs, EachEvent, EachThen}
 use Rattle.nb_laws.specs.Endings.{EndsSo}
 use Rattle.nb_laws.specs.Frames.{WritesSo, TriesSo}
 use Rattle.nb_laws.specs.HandOff.{HandsOff}
-use Rattle.nb_laws.specs.Progress.{StepsSo, AdvancesSo, IsAdvanced, NoneIsWhole, NoneOversleeps}
+use Rattle.nb_laws.specs.Progress.{StepsSo, AdvancesSo, IsAdvanced, NoneIsAnswered, NoneOversleeps}
 
 -- the PARTs are those of the hand-off, or there are none
 abbrev pub HandsAsBrought : List Event → List Out → Type 0
 HandsAsBrought es outs = HaveNoParts outs ⊎ ((rest : List Out) × HandsOff es outs rest)
 
 pub record IsLawful (es : List Event) : Type 0 where
-  -- each STEP has its record's place among those used, and when a record is used no live open's file is whole and no sleep is over;
+  -- each STEP has its record's place among those used, and when a record is used what no live open asks for has come, as a whole
+  -- file, and no sleep is over;
   -- START is used first, and each other record while an open lives or a command sleeps, or where the step before had 4,096 COMMANDs
   pub steps : EachEvent StepsSo [] es
-  -- each ENDED has its cause in the records so far, and is Ok exactly where the open's file is whole
+  -- each ENDED has its cause in the records so far, and is Ok exactly where what the open asks for has come: its file is whole, an
+  -- address or a lease was given, or the host has replied
   pub ends : EachEvent EndsSo [] es
   -- each RESULT has its cause in the records so far, and each COMMAND one RESULT at most, before the next; each FRAME is a reply to
   -- its step's record, once, a message that a live open may send, or the ARP request for its next hop; no step has more than 4,096
@@ -28,8 +30,8 @@ pub record IsLawful (es : List Event) : Type 0 where
   pub advances : EachEvent AdvancesSo [] es
   -- after the last record, too, no ADVANCE is missing
   pub advanced : IsAdvanced es
-  -- and no live open's file is whole: it ended in that step
-  pub unfinished : NoneIsWhole es
+  -- and what no live open asks for has come: it ended in that step
+  pub unfinished : NoneIsAnswered es
   -- nor is a sleep over: its command ended in that step
   pub rested : NoneOversleeps es
   -- all PARTs are the hand-off's, of the images that the opens whose ENDED is Ok have brought, the last one of each name

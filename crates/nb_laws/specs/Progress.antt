@@ -1,28 +1,28 @@
--- How far a run is at each event: which record is used, whether a file is whole, and what ADVANCE tells.
+-- How far a run is at each event: which record is used, whether what an open asks for has come, and what ADVANCE tells.
 use Rattle.std.specs.Prelude.{◌≡◌, ℕ, ◌+◌, ◌*◌, ◌<◌, true, false, List, [], ◌∷◌, length}
 use Rattle.nb_defs.specs.Records.{step, advanced}
-use Rattle.nb_tftp.specs.Blocks.{count, is_whole}
 use Rattle.nb_engine.specs.Effects.{sleeps}
 use Rattle.nb_laws.specs.CommandsSoFar.{so_far, ComesTo}
 use Rattle.nb_laws.specs.Events.{Event, starts, hears, waits, stops, puts, inputs}
-use Rattle.nb_laws.specs.Lists.{Opening, live, datagrams_of, last_place, made, commands_begun}
+use Rattle.nb_laws.specs.Lists.{Opening, live, file_blocks, last_place, made, commands_begun}
+use Rattle.nb_laws.specs.Cores.{has_its_answer}
 
--- no live open's file is whole: an open ends in the step in which its file becomes whole
-abbrev pub NoneIsWhole : List Event → Type 0
-NoneIsWhole es = (k : ℕ) (o : Opening) → live k es ≡ o ∷ [] → is_whole (datagrams_of k es) ≡ false
+-- What no live open asks for has come, and no file is whole: an open ends in the step in which it comes.
+abbrev pub NoneIsAnswered : List Event → Type 0
+NoneIsAnswered es = (k : ℕ) (o : Opening) → live k es ≡ o ∷ [] → has_its_answer k o es ≡ false
 
--- each open's last ADVANCE has the number of its file's last block
+-- each open's last ADVANCE has the number of its file's last block; an open that fetches none has no ADVANCE
 abbrev pub IsAdvanced : List Event → Type 0
-IsAdvanced es = (k : ℕ) → last_place k es ≡ count (datagrams_of k es)
+IsAdvanced es = (k : ℕ) → last_place k es ≡ file_blocks k es
 
 -- a command that sleeps has its result once its time has come
 abbrev pub NoneOversleeps : List Event → Type 0
 NoneOversleeps es = (seconds : ℕ) → (so_far es).is_open ≡ true → ComesTo es (made es) (sleeps seconds) → (so_far es).now < (so_far es).since + 1000 * seconds
 
--- a record is used: its STEP has its place among the records used, no live open's file is whole, and no sleep is over
+-- a record is used: its STEP has its place among the records used, what no live open asks for has come, and no sleep is over
 pub record IsStep (before : List Event) (number : ℕ) : Type 0 where
   pub counted : number ≡ length (inputs before) + 1
-  pub unfinished : NoneIsWhole before
+  pub unfinished : NoneIsAnswered before
   pub rested : NoneOversleeps before
 
 -- why a record other than START may be used
@@ -45,6 +45,6 @@ StepsSo before (puts o) = Unit {0}
 -- An ADVANCE stands where its open's file has grown by a block, with that block's number. Before any other record, used or
 -- written, each open's last ADVANCE has its file's last block: so none is missing, and none stands late.
 abbrev pub AdvancesSo : List Event → Event → Type 0
-AdvancesSo before (puts (advanced k n)) = (n ≡ count (datagrams_of k before)) × (n ≡ last_place k before + 1)
+AdvancesSo before (puts (advanced k n)) = (n ≡ file_blocks k before) × (n ≡ last_place k before + 1)
 AdvancesSo before (puts (step number)) = IsAdvanced before
 AdvancesSo before _ = IsAdvanced before

@@ -4,6 +4,7 @@
 mod laws;
 
 pub use laws::{
-    histories_are_lawful, honest_servers_files_are_brought, names_are_read_as_spelled, one_history,
-    packets_are_read_as_spelled, runs_are_lawful, world_by_the_lists,
+    asked_world_by_the_lists, histories_are_lawful, honest_servers_files_are_brought,
+    names_are_read_as_spelled, one_history, packets_are_read_as_spelled, runs_are_lawful,
+    world_by_the_lists,
 };

@@ -20,41 +20,41 @@ use Rattle.nb_laws.specs.Agreement.{bare, opening_of}
 use Rattle.nb_laws.specs.Frames.{begun_by}
 use Rattle.nb_laws.proofs.Asides.{aside_acts}
 use Rattle.nb_laws.proofs.Tellings.{same_number}
-use Rattle.nb_machine.specs.Lives.{Exchange, exchange, continued, Live}
+use Rattle.nb_machine.specs.Lives.{OpenInput, Exchange, exchange, continued, Live}
 use Rattle.nb_machine.specs.Transfers.{arrival_of, end_records, transfer_records, takes, KeepsTransfer}
 use Rattle.nb_machine.specs.Takings.{Over, AllTake, all_have, lives_on}
 use Rattle.nb_machine.specs.Takings as takings
-use Rattle.nb_machine.specs.Scripts.{fetch, answer, Answer, by_end, answer_in, concluded_by}
+use Rattle.nb_machine.specs.Scripts.{fetch, Answer, by_end, answer_in, Waiting, Upshot, concludes, upshot_records, concluded_by}
 use Rattle.nb_machine.specs.Courses.{Standing, running, waiting, handing, LeadsTo}
 use Rattle.nb_machine.specs.Carried.{live_of, state_in, waiting_in, Lives, StandsAs}
 use Rattle.nb_machine.proofs.Told.{routed, end_put, all_came}
 
--- where an answer comes: it, the records and where they lead
-pub record Answered (w : World) (s : Running) (o : Open) (r : In) (added put : List Out) (after : List Live) (over : List Over) (phase : Phase) : Type 0 where
+-- where a command that waits has an answer: it, the records and where they lead
+pub record Answered (w : World) (wait : Waiting) (r : In) (added put : List Out) (after : List Live) (over : List Over) (phase : Phase) : Type 0 where
   pub given : Answer
-  pub is_given : answer_in (state_in w after) r over (answer o.number) ≡ Some given
-  pub records : added ≡ put ++ conclusion_records (concluded_by (state_in w after) (fetch o.wanted) given)
+  pub is_given : answer_in (state_in w after) r over wait.awaited ≡ Some given
+  pub records : added ≡ put ++ upshot_records (concluded_by (state_in w after) wait.job given)
   pub to : Standing
-  pub led : LeadsTo (state_in w after) s [] (concluded_by (state_in w after) (fetch o.wanted) given) [] to
+  pub led : LeadsTo (state_in w after) wait.script wait.outer (concluded_by (state_in w after) wait.job given) [] to
   pub leads : StandsAs phase to
 
--- where none does
-pub record Unanswered (w : World) (s : Running) (o : Open) (r : In) (added put : List Out) (after : List Live) (over : List Over) (phase : Phase) : Type 0 where
-  pub none : answer_in (state_in w after) r over (answer o.number) ≡ None
+-- where it has none
+pub record Unanswered (w : World) (wait : Waiting) (r : In) (added put : List Out) (after : List Live) (over : List Over) (phase : Phase) : Type 0 where
+  pub none : answer_in (state_in w after) r over wait.awaited ≡ None
   pub records : added ≡ put
-  pub leads : StandsAs phase (waiting (state_in w after) (waiting_in s o))
+  pub leads : StandsAs phase (waiting (state_in w after) wait)
 
-pub data Result (w : World) (s : Running) (o : Open) (r : In) (added put : List Out) (after : List Live) (over : List Over) (phase : Phase) : Type 0 where
-  waits_on : Unanswered w s o r added put after over phase → Result w s o r added put after over phase
-  is_answered : Answered w s o r added put after over phase → Result w s o r added put after over phase
+pub data Result (w : World) (wait : Waiting) (r : In) (added put : List Out) (after : List Live) (over : List Over) (phase : Phase) : Type 0 where
+  waits_on : Unanswered w wait r added put after over phase → Result w wait r added put after over phase
+  is_answered : Answered w wait r added put after over phase → Result w wait r added put after over phase
 
--- what it is for the machine of many opens
-pub record Taking (w : World) (s : Running) (o : Open) (xs : List Exchange) (r : In) (call : Call) (added : List Out) (phase : Phase) : Type 0 where
+-- what comes to the one open that lives is this for the machine of many opens
+pub record Taking (w : World) (wait : Waiting) (l : Live) (r : In) (came : OpenInput) (added : List Out) (phase : Phase) : Type 0 where
   pub put : List Out
   pub after : List Live
   pub over : List Over
-  pub take : AllTake (bare w.net ∷ []) (arrival_of call) (live_of o xs ∷ []) put after over
-  pub result : Result w s o r added put after over phase
+  pub take : AllTake (bare w.net ∷ []) came (l ∷ []) put after over
+  pub result : Result w wait r added put after over phase
 
 -- the exchange that a call becomes
 abbrev exchanged_by : World → Open → Call → Acts → Exchange
@@ -87,17 +87,17 @@ end_is w o call acts x put e =
 
 -- the image is made of what was fetched
 concluded_so : (w : World) (o : Open) (xs : List Exchange) (cause : Cause) → Lives o xs →
-    concluded w o cause ≡ concluded_by (state_in w []) (fetch o.wanted) (by_end (record { live = live_of o xs; cause = cause }))
+    concludes (concluded w o cause) ≡ concluded_by (state_in w []) (fetch o.wanted) (by_end (record { live = live_of o xs; cause = cause }))
 concluded_so w o xs cause lives =
-    ap (λ gs. conclusion cause o.wanted.boots (image_of o.wanted.target.name (file gs) [] o.wanted.uri) w.state.images) (sym (all_came o.number o.begun.server.0 o.entries xs lives.exchanged))
+    ap (λ gs. concludes (conclusion cause o.wanted.boots (image_of o.wanted.target.name (file gs) [] o.wanted.uri) w.state.images)) (sym (all_came o.number o.begun.server.0 o.entries xs lives.exchanged))
 
 -- where a conclusion leads the engine's machine, it leads this one
-record Led (w : World) (own : ℕ) (s : Running) (c d : Conclusion) : Type 0 where
+record Led (w : World) (own : ℕ) (s : Running) (c : Conclusion) (d : Upshot) : Type 0 where
   to : Standing
   led : LeadsTo (state_in w []) s [] d [] to
   leads : StandsAs (phase_after (unbound w own) s c) to
 
-leads : (w : World) (own : ℕ) (s : Running) (c : Conclusion) → Led w own s c c
+leads : (w : World) (own : ℕ) (s : Running) (c : Conclusion) → Led w own s c (concludes c)
 leads w own s (keeps list) = record { to = running (state_in (world_with_images w list) []) (with_result s ok) []; led = (refl, refl); leads = refl }
 leads w own s (fails cause) = record { to = running (state_in w []) (with_result s cause) []; led = (refl, refl); leads = refl }
 leads w own s (boots list kernel) = record {
@@ -107,7 +107,7 @@ leads w own s (boots list kernel) = record {
 }
 
 pub heard : (w : World) (s : Running) (o : Open) (xs : List Exchange) (r : In) (call : Call) (added : List Out) (phase : Phase) → Hears w s o call added phase → Lives o xs →
-    has_route w.net (request_of o.begun) ≡ true → o.begun ≡ begun_by (opening_of o) → Taking w s o xs r call added phase
+    has_route w.net (request_of o.begun) ≡ true → o.begun ≡ begun_by (opening_of o) → Taking w (waiting_in s o) (live_of o xs) r (arrival_of call) added phase
 heard w s o xs r call added phase (goes_on _ _ _ _ acts meets none) lives route begins =
     let e = entry call acts in
     let x = exchanged_by w o call acts in
@@ -145,7 +145,7 @@ heard w s o xs r call added phase (is_over _ _ _ _ acts cause meets over) lives 
         is_given = ap (λ b. option_map by_end (cond b (Some gone) None)) (same_number o.number);
         records =
             ap (λ z. z ++ conclusion_records (concluded w (with_entry o e) cause)) (sym told)
-            ∙ ap (λ c. (x.put ++ []) ++ conclusion_records c) so;
+            ∙ ap (λ c. (x.put ++ []) ++ upshot_records c) so;
         to = l2.to;
         led = l2.led;
         leads = l2.leads;

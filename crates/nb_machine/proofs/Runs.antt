@@ -1,141 +1,47 @@
 -- A run of the engine's machine is a course of the machine of many opens.
-use Rattle.std.proofs.Common.{◌≡◌, ℕ, ◌+◌, ◌*◌, ◌<◌, ◌≤◌, nat_le, arith, true, cond, List, [], ◌∷◌, ◌++◌, Some, None, refl, sym, ◌∙◌, ap, subst, append-nil}
-use Rattle.std.proofs.lemmas.Bool.{lt-leb, le-leb}
-use Rattle.nb_defs.specs.Records.{In, start, frame, tick, off, IsIn, Out, step, ended}
+use Rattle.std.proofs.Common.{◌≡◌, ℕ, ◌+◌, ◌*◌, ◌<◌, arith, true, false, cond, List, [], ◌∷◌, ◌++◌, Some, None, refl, sym, ◌∙◌, ap, subst}
+use Rattle.nb_defs.specs.Records.{In, start, frame, tick, off, Out, ended, result}
 use Rattle.nb_stack.specs.Client.{Client}
-use Rattle.nb_stack.specs.Brings.{Brought, Brings}
-use Rattle.nb_stack.specs.Takes.{outcome_of, client_after, reply_of}
+use Rattle.nb_stack.specs.Bound.{with_port}
 use Rattle.nb_tftp.specs.Received.{received}
-use Rattle.nb_tftp.specs.History.{Call, came, ticked}
-use Rattle.nb_engine.specs.Conclusions.{conclusion_records}
+use Rattle.nb_tftp.specs.History.{came, ticked}
 use Rattle.nb_engine.specs.declared.world.World.{World}
-use Rattle.nb_engine.specs.World.{world_of, with_net, with_open}
+use Rattle.nb_engine.specs.World.{with_net, with_open, with_ended_open}
 use Rattle.nb_engine.specs.World as world
-use Rattle.nb_engine.specs.Opens.{Open, has_route, request_of, begun_for, open_for, send_records, heard_from}
+use Rattle.nb_engine.specs.Opens.{has_route, request_of, begun_for, open_for, send_records, heard_from}
 use Rattle.nb_defs.specs.Causes.{ok}
-use Rattle.nb_engine.specs.Effects.{shown_words, table_after, up_after}
-use Rattle.nb_engine.specs.Running.{Running, anew, further, entered, with_result}
+use Rattle.nb_engine.specs.Effects.{full_opens, inquires, effect, shown_words, table_after, up_after}
+use Rattle.nb_engine.specs.Errands.{fetches_now, echoes_now}
+use Rattle.nb_engine.specs.Queries.{Query, for_lease, for_echo, for_host, for_address}
+use Rattle.nb_engine.specs.Talks.{fields_of, proto_of, first_message, message_in, time_in, message_for}
+use Rattle.nb_engine.specs.Lones.{lone_for, talk_for, open_told, with_lone}
+use Rattle.nb_engine.specs.Running.{Running, coming, beginning, anew, further, entered, with_result}
 use Rattle.nb_engine.proofs.CommandLaws.{sleeps_some}
-use Rattle.nb_engine.specs.Machine.{Machine, Phase, at, Hears, Begins, Move, Path, reply_records, command_record, stopped_cause, world_after}
+use Rattle.nb_engine.specs.Machine.{Machine, at, Hears, Replies, Begins, Move, Path, command_record, stopped_cause, world_after}
 use Rattle.nb_engine.specs.Machine as lone
-use Rattle.nb_laws.specs.Agreement.{bare, opening_of, AgreesPhase}
-use Rattle.nb_laws.specs.Frames.{begun_by}
+use Rattle.nb_laws.specs.Agreement.{bare, AgreesPhase}
 use Rattle.nb_laws.proofs.Runs.{run_tells}
-use Rattle.nb_machine.specs.Lives.{Exchange, exchange, Live, open_record}
+use Rattle.nb_laws.proofs.Tellings.{same_number}
+use Rattle.nb_machine.specs.Lives.{exchange, Live, open_record}
 use Rattle.nb_machine.specs.Lives as lives
 use Rattle.nb_machine.specs.Transfers.{at_first, closes}
-use Rattle.nb_machine.specs.States.{net0, state_at_start, with_device, with_live, with_one_made}
+use Rattle.nb_machine.specs.Cores as cores
+use Rattle.nb_machine.specs.Kinds.{first_records}
+use Rattle.nb_machine.specs.States.{state_at_start, with_live, with_one_made}
 use Rattle.nb_machine.specs.Takings.{all_have, is_over}
-use Rattle.nb_machine.specs.Network.{Network}
 use Rattle.nb_machine.specs.Network as network
-use Rattle.nb_machine.specs.Scripts.{fetch, by_time, doing_by, transfer_for, concluded_by}
-use Rattle.nb_machine.specs.Courses.{Standing, Progress, stands, ready, running, waiting, yielded, handing, left, handed_off, stopped, StepBegins, Proceeds, Course, begins, uses, goes_on}
+use Rattle.nb_machine.specs.Scripts.{fetch, by_time, opens, doing, doing_by, transfer_for, echo_for, live_for, job_for}
+use Rattle.nb_machine.specs.Courses.{Standing, Progress, stands, running, waiting, reaching, handing, left, handed_off, stopped, StepBegins, Proceeds, Course, begins, uses, goes_on}
 use Rattle.nb_machine.specs.Courses as courses
-use Rattle.nb_machine.specs.Carried.{live_of, state_in, waiting_in, sleeping_in, Lives, StandsAs, Carries}
-use Rattle.nb_laws.proofs.Tellings.{same_number}
-use Rattle.nb_machine.proofs.Ways.{bare_route, free_reply, bare_reply, bare_after, bare_send}
+use Rattle.nb_machine.specs.Carried.{live_of, live_alone, state_in, waiting_in, asking_in, sleeping_in, Lives, HasTalked, LivesAlone, StandsAs, Carries}
+use Rattle.nb_machine.proofs.Ways.{bare_route, bare_send}
 use Rattle.nb_machine.proofs.Told.{meets_nothing}
-use Rattle.nb_machine.proofs.Heard.{Taking, Result, waits_on, is_answered, heard, keeps_now}
-use Rattle.nb_machine.proofs.Frames.{HasPort, for_nobody, for_none, for_open, ForOpen, by_datagram}
-
--- a step of one machine is one of the other, which comes to the same place
-record Steps (n : ℕ) (p : Standing) (r : In) (added : List Out) (m' : Machine) : Type 0 where
-  to : Standing
-  begins : StepBegins (stands n p) r added (stands m'.used to)
-  same : StandsAs m'.phase to
-
--- what came is taken by the network, and the command waits on or is answered
-taken : (n : ℕ) (w v : World) (s : Running) (o : Open) (xs : List Exchange) (call : Call) (r : In) (added : List Out) (phase : Phase) → IsIn r → (t : Taking v (anew s) o xs r call added phase) →
-    Network (state_in w (live_of o xs ∷ [])) (n + 1) r t.put (state_in v t.after) t.over →
-    Steps n (waiting (state_in w (live_of o xs ∷ [])) (waiting_in s o)) r (step (n + 1) ∷ added) (at (n + 1) phase)
-taken n w v s o xs call r added phase valid t net = by_result t.result
-  where
-    by_result : Result v (anew s) o r added t.put t.after t.over phase → Steps n (waiting (state_in w (live_of o xs ∷ [])) (waiting_in s o)) r (step (n + 1) ∷ added) (at (n + 1) phase)
-    by_result (waits_on u) = record {
-      to = waiting (state_in v t.after) (waiting_in (anew s) o);
-      begins = subst (λ z. StepBegins (stands n (waiting (state_in w (live_of o xs ∷ [])) (waiting_in s o))) r (step (n + 1) ∷ z) (stands (n + 1) (waiting (state_in v t.after) (waiting_in (anew s) o)))) (sym u.records)
-          (courses.waits_on n (state_in w (live_of o xs ∷ [])) (state_in v t.after) (waiting_in s o) r t.put t.over valid net u.none);
-      same = u.leads;
-    }
-    by_result (is_answered a) =
-        let c = conclusion_records (concluded_by (state_in v t.after) (fetch o.wanted) a.given) in
-        record {
-          to = a.to;
-          begins = subst (λ z. StepBegins (stands n (waiting (state_in w (live_of o xs ∷ [])) (waiting_in s o))) r (step (n + 1) ∷ z) (stands (n + 1) a.to)) (append-nil (t.put ++ c) ∙ sym a.records)
-              (courses.is_answered n (state_in w (live_of o xs ∷ [])) (state_in v t.after) (waiting_in s o) r t.put [] t.over a.given a.to valid net a.is_given a.led);
-          same = a.leads;
-        }
-
--- a frame for no open
-frame_passes : (n : ℕ) (w : World) (s : Running) (o : Open) (xs : List Exchange) (bytes reply : List ℕ) (net : Client) (m : Brought) → IsIn (frame bytes) → Lives o xs →
-    Brings w.net.up w.net.mac w.net.address bytes m → reply ≡ reply_of w.net m → net ≡ client_after w.net m → HasPort w.net o → heard_from o.begun.server (outcome_of w.net m) ≡ None →
-    Steps n (waiting (state_in w (live_of o xs ∷ [])) (waiting_in s o)) (frame bytes) (step (n + 1) ∷ reply_records reply) (at (n + 1) (lone.waiting (with_net w net) (anew s) o))
-frame_passes n w s o xs bytes reply net m valid here brings put is port none =
-    let st = state_in w (live_of o xs ∷ []) in
-    let to = waiting (with_device st net0 (client_after (bare w.net) m)) (waiting_in (anew s) o) in
-    record {
-      to = to;
-      begins = subst (λ z. StepBegins (stands n (waiting st (waiting_in s o))) (frame bytes) (step (n + 1) ∷ reply_records z) (stands (n + 1) to)) (bare_reply w.net o.begun.own_port o.number m port ∙ sym put)
-          (courses.waits_on n st _ (waiting_in s o) (frame bytes) (reply_records (reply_of (bare w.net) m)) [] valid
-          (network.passes_by (frame bytes) net0 bytes (bare w.net) m (network.on_net0 bytes) refl brings (for_none w.net o xs m port none)) refl);
-      same = (xs, here, ap (λ c. waiting (record st { devices = c ∷ [] }) (waiting_in (anew s) o)) (bare_after w.net m ∙ ap bare (sym is)));
-    }
-
--- a datagram for the open
-frame_comes : (n : ℕ) (w : World) (s : Running) (o : Open) (xs : List Exchange) (bytes : List ℕ) (m : Brought) (port : ℕ) (body : List ℕ) (added : List Out) (phase : Phase) → IsIn (frame bytes) → Lives o xs →
-    Brings w.net.up w.net.mac w.net.address bytes m → ForOpen o xs port body m → Hears w (anew s) o (came (received (n + 1) port body) w.time) added phase →
-    has_route w.net (request_of o.begun) ≡ true → o.begun ≡ begun_by (opening_of o) →
-    Steps n (waiting (state_in w (live_of o xs ∷ [])) (waiting_in s o)) (frame bytes) (step (n + 1) ∷ added) (at (n + 1) phase)
-frame_comes n w s o xs bytes m port body added phase valid here brings (by_datagram p d is from what) hears route is_begun =
-    let heard_it : Hears w (anew s) o (came (received (n + 1) d.src_port d.body) w.time) added phase =
-    subst (λ (z : List ℕ). Hears w (anew s) o (came (received (n + 1) d.src_port z) w.time) added phase) what (subst (λ (z : ℕ). Hears w (anew s) o (came (received (n + 1) z body) w.time) added phase) from hears) in
-    let t = heard w (anew s) o xs (frame bytes) (came (received (n + 1) d.src_port d.body) w.time) added phase heard_it here route is_begun in
-    taken n w w s o xs (came (received (n + 1) d.src_port d.body) w.time) (frame bytes) added phase valid t (comes t)
-  where
-    comes : (t : Taking w (anew s) o xs (frame bytes) (came (received (n + 1) d.src_port d.body) w.time) added phase) → Network (state_in w (live_of o xs ∷ [])) (n + 1) (frame bytes) t.put (state_in w t.after) t.over
-    comes t =
-        subst (λ (z : List Live). Network (state_in w (live_of o xs ∷ [])) (n + 1) (frame bytes) t.put (state_in w z) t.over) (append-nil t.after)
-        (network.brings (frame bytes) net0 bytes (bare w.net) p d [] [] t.after (live_of o xs) t.put t.over (network.on_net0 bytes) refl brings refl is t.take)
-
-same_net : (net : Client) (m : Brought) (port : ℕ) (body : List ℕ) (o : Open) (xs : List Exchange) → ForOpen o xs port body m → client_after net m ≡ net
-same_net net m port body o xs (by_datagram p d is from what) = refl
-
--- a script that had all its commands goes on with a frame
-frame_resumes : (n : ℕ) (w : World) (s : Running) (bytes reply : List ℕ) (net : Client) (m : Brought) → IsIn (frame bytes) → Brings w.net.up w.net.mac w.net.address bytes m →
-    reply ≡ reply_of w.net m → net ≡ client_after w.net m → w.net.ports ≡ [] →
-    Steps n (yielded (state_in w []) s []) (frame bytes) (step (n + 1) ∷ reply_records reply) (at (n + 1) (lone.running (with_net w net) (anew s)))
-frame_resumes n w s bytes reply net m valid brings put is free =
-    let st = state_in w [] in
-    let to = running (with_device st net0 (client_after (bare w.net) m)) (anew s) [] in
-    record {
-      to = to;
-      begins = subst (λ z. StepBegins (stands n (yielded st s [])) (frame bytes) (step (n + 1) ∷ reply_records z) (stands (n + 1) to)) (free_reply w.net m free ∙ sym put)
-          (courses.resumes n st _ s [] (frame bytes) (reply_records (reply_of (bare w.net) m)) [] valid
-          (network.passes_by (frame bytes) net0 bytes (bare w.net) m (network.on_net0 bytes) refl brings (for_nobody net0 m)));
-      same = ap (λ c. running (record st { devices = c ∷ [] }) (anew s) []) (bare_after w.net m ∙ ap bare (sym is));
-    }
-
--- a time that hasn't come, and one that has
-not_yet : (until now : ℕ) → now < until → cond (nat_le until now) (Some by_time) None ≡ None
-not_yet until now h = ap (λ b. cond b (Some by_time) None) (lt-leb until now h)
-
-by_now : (until now : ℕ) → until ≤ now → cond (nat_le until now) (Some by_time) None ≡ Some by_time
-by_now until now h = ap (λ b. cond b (Some by_time) None) (le-leb until now h)
-
--- a command sleeps on through a frame
-frame_sleeps : (n : ℕ) (w : World) (s : Running) (until : ℕ) (bytes reply : List ℕ) (net : Client) (m : Brought) → IsIn (frame bytes) → w.time < until → Brings w.net.up w.net.mac w.net.address bytes m →
-    reply ≡ reply_of w.net m → net ≡ client_after w.net m → w.net.ports ≡ [] →
-    Steps n (waiting (state_in w []) (sleeping_in s until)) (frame bytes) (step (n + 1) ∷ reply_records reply) (at (n + 1) (lone.sleeping (with_net w net) (anew s) until))
-frame_sleeps n w s until bytes reply net m valid early brings put is free =
-    let st = state_in w [] in
-    let to = waiting (with_device st net0 (client_after (bare w.net) m)) (sleeping_in (anew s) until) in
-    record {
-      to = to;
-      begins = subst (λ z. StepBegins (stands n (waiting st (sleeping_in s until))) (frame bytes) (step (n + 1) ∷ reply_records z) (stands (n + 1) to)) (free_reply w.net m free ∙ sym put)
-          (courses.waits_on n st _ (sleeping_in s until) (frame bytes) (reply_records (reply_of (bare w.net) m)) [] valid
-          (network.passes_by (frame bytes) net0 bytes (bare w.net) m (network.on_net0 bytes) refl brings (for_nobody net0 m)) (not_yet until w.time early));
-      same = (early, ap (λ c. waiting (record st { devices = c ∷ [] }) (sleeping_in (anew s) until)) (bare_after w.net m ∙ ap bare (sym is)));
-    }
+use Rattle.nb_machine.proofs.Talked.{a_time, talked_closed, is_kept}
+use Rattle.nb_machine.proofs.Heard.{heard, keeps_now}
+use Rattle.nb_machine.proofs.Replied.{replied}
+use Rattle.nb_machine.proofs.Frames.{for_open}
+use Rattle.nb_machine.proofs.Comings.{for_alone, same_client}
+use Rattle.nb_machine.proofs.Steps.{Steps, taken, frame_passes, frame_comes, same_net, frame_passes_it, frame_brings_it, frame_resumes, frame_sleeps, not_yet, by_now}
 
 step_begins : (m : Machine) (r : In) (added : List Out) (m' : Machine) (es : _) (p : Standing) → Begins m r added m' → AgreesPhase es m.phase → StandsAs m.phase p → Steps m.used p r added m'
 step_begins m r added m' es p (lone.runs n s code valid reading) a same =
@@ -154,7 +60,7 @@ step_begins m r added m' es p (lone.brings n w s o bytes reply seen net port bod
 step_begins m r added m' es p (lone.passes_time n w s o ms news phase valid hear) a (xs, here, same) =
     let t = heard (world.world_later w ms) (anew s) o xs (tick ms) (ticked (w.time + ms)) news phase hear here a.1.route a.1.begins in
     subst (λ z. Steps n z (tick ms) added m') (sym same)
-    (taken n w (world.world_later w ms) s o xs (ticked (w.time + ms)) (tick ms) news phase valid t
+    (taken n w (world.world_later w ms) (waiting_in s o) (live_of o xs) (lives.time (w.time + ms)) (tick ms) news phase valid t
     (network.passes_time ms t.after t.put t.over t.take))
 step_begins m r added m' es p (lone.switches_off n w s o) a (xs, here, same) =
     let st = state_in w (live_of o xs ∷ []) in
@@ -165,6 +71,33 @@ step_begins m r added m' es p (lone.switches_off n w s o) a (xs, here, same) =
       to = stopped (with_live st []);
       begins = courses.switches_off n st (waiting_in s o) (ended o.number stopped_cause ∷ []) _
           (is_over (live_of o xs) [] [] (bare w.net) (ended o.number stopped_cause ∷ []) [] [] stopped_cause refl (keeps_now o (xs ++ x ∷ []) now a.1.begins)
+          (ap (λ b. cond b (Some stopped_cause) None) (same_number o.number)) all_have);
+      same = (with_live st [], refl, refl);
+    })
+step_begins m r added m' es p (lone.passes_it_by n w s o bytes reply seen net valid takes none) a (xs, here, same) =
+    subst (λ z. Steps n z (frame bytes) added m') (sym same)
+    (frame_passes_it n w s o xs bytes reply net takes.message valid here takes.brings takes.is_put takes.is_after (ap (message_for o.talk (n + 1)) (sym takes.is_outcome) ∙ none))
+step_begins m r added m' es p (lone.brings_it n w s o bytes reply seen net said news phase valid takes some replies) a (xs, here, same) =
+    let for_it = for_alone w.net o.number o.start o.talk xs (n + 1) takes.message said here.ports (ap (message_for o.talk (n + 1)) (sym takes.is_outcome) ∙ some) in
+    let is_net : net ≡ w.net = takes.is_after ∙ same_client w.net o.number o.start o.talk xs (n + 1) takes.message said for_it in
+    subst (λ z. Steps n z (frame bytes) added m') (sym same)
+    (frame_brings_it n w s o xs bytes takes.message said news phase valid here takes.brings for_it
+    (subst (λ (c : Client). Replies (with_net w c) (anew s) o (message_in said w.time) news phase) is_net replies))
+step_begins m r added m' es p (lone.passes_its_time n w s o ms news phase valid replies) a (xs, here, same) =
+    let later : LivesAlone (world.world_later w ms) o xs = record { ports = here.ports; route = here.route; talked = here.talked } in
+    let t = replied (world.world_later w ms) (anew s) o xs (tick ms) (time_in (w.time + ms)) (lives.time (w.time + ms)) news phase replies (a_time (w.time + ms)) later in
+    subst (λ z. Steps n z (tick ms) added m') (sym same)
+    (taken n w (world.world_later w ms) (asking_in s o) (live_alone o xs) (lives.time (w.time + ms)) (tick ms) news phase valid t
+    (network.passes_time ms t.after t.put t.over t.take))
+step_begins m r added m' es p (lone.switches_it_off n w s o) a (xs, here, same) =
+    let st = state_in w (live_alone o xs ∷ []) in
+    let x = exchange (lives.close stopped_cause) (bare w.net) (ended o.number stopped_cause ∷ []) in
+    let now = talked_closed o.number o.start o.talk stopped_cause (bare w.net) xs here.talked in
+    subst (λ z. Steps n z off added m') (sym same)
+    (record {
+      to = stopped (with_live st []);
+      begins = courses.switches_off n st (asking_in s o) (ended o.number stopped_cause ∷ []) _
+          (is_over (live_alone o xs) [] [] (bare w.net) (ended o.number stopped_cause ∷ []) [] [] stopped_cause refl (is_kept o.number o.start o.talk (xs ++ x ∷ []) now)
           (ap (λ b. cond b (Some stopped_cause) None) (same_number o.number)) all_have);
       same = (with_live st [], refl, refl);
     })
@@ -206,16 +139,95 @@ record Goes (n : ℕ) (p : Standing) (added : List Out) (m' : Machine) : Type 0 
   does : Proceeds (stands n p) added (stands m'.used to)
   same : StandsAs m'.phase to
 
-move_goes : (m : Machine) (added : List Out) (m' : Machine) (p : Standing) → Move m added m' → StandsAs m.phase p → Goes m.used p added m'
-move_goes m added m' p (lone.passes n w s t comes) same =
+-- what a query opens is what the machine of many opens has for it
+live_so_for : (w : World) (q : Query) → live_for (state_in w []) q ≡ live_alone (lone_for w q) []
+live_so_for w for_lease = refl
+live_so_for w (for_echo server) = refl
+live_so_for w (for_address setting name by) = refl
+live_so_for w (for_host errand name by) = refl
+
+opens_so : (w : World) (c : List ℕ) (cs : List (List ℕ)) (q : Query) → effect w.opens w.state.table (c ∷ cs) ≡ inquires q →
+    doing (state_in w []) (c ∷ cs) ≡ opens (state_in (world_after w (c ∷ cs)) []) (live_alone (lone_for (world_after w (c ∷ cs)) q) []) (job_for q)
+opens_so w c cs q is =
+    ap (doing_by (state_in w []) (table_after w.state.table (c ∷ cs)) (up_after w.state.table w.state.up (c ∷ cs))) is
+    ∙ ap (λ (l : Live). opens (state_in (world_after w (c ∷ cs)) []) l (job_for q)) (live_so_for (world_after w (c ∷ cs)) q)
+
+same_open : (w : World) (q : Query) → open_record (live_alone (lone_for w q) []) ≡ open_told w.opens (fields_of (talk_for w q))
+same_open w for_lease = refl
+same_open w (for_echo server) = refl
+same_open w (for_address setting name by) = refl
+same_open w (for_host errand name by) = refl
+
+first_so : (w : World) (q : Query) (link : Client) → first_records (live_alone (lone_for w q) []).kind (live_alone (lone_for w q) []) link
+    ≡ cond (has_route link (first_message (talk_for w q))) (Some (send_records link w.opens (Some 1) (first_message (talk_for w q)))) None
+first_so w for_lease link = refl
+first_so w (for_echo server) link = refl
+first_so w (for_address setting name by) link = refl
+first_so w (for_host errand name by) link = refl
+
+begins_so : (w : World) (q : Query) → HasTalked w.opens w.time (talk_for w q) []
+begins_so w for_lease = (cores.at_first, record { sending = tt; whole = tt; tries = tt; unanswered = tt })
+begins_so w (for_echo server) = (cores.at_first, record { asking = tt; tries = refl })
+begins_so w (for_address setting name by) = (cores.at_first, record { asking = tt; tries = refl })
+begins_so w (for_host errand name by) = (cores.at_first, record { asking = tt; tries = refl })
+
+-- a command that asks for something by one exchange opens it
+inquires_goes : (n : ℕ) (w : World) (s : Running) (c : List ℕ) (cs : List (List ℕ)) (q : Query) → coming s ≡ beginning c cs → s.begun < 4096 → effect w.opens w.state.table (c ∷ cs) ≡ inquires q →
+    has_route (world_after w (c ∷ cs)).net (first_message (talk_for (world_after w (c ∷ cs)) q)) ≡ true → w.net.ports ≡ [] →
+    Goes n (running (state_in w []) s [])
+    (command_record s (shown_words w.state.table (c ∷ cs)) ∷ open_told w.opens (fields_of (talk_for (world_after w (c ∷ cs)) q))
+    ∷ send_records (world_after w (c ∷ cs)).net w.opens (Some 1) (first_message (talk_for (world_after w (c ∷ cs)) q)))
+    (at n (lone.asking (with_lone (world_after w (c ∷ cs)) (talk_for (world_after w (c ∷ cs)) q)) (entered s) (lone_for (world_after w (c ∷ cs)) q)))
+inquires_goes n w s c cs q comes few is route free =
+    let st = state_in w [] in
+    let v = world_after w (c ∷ cs) in
+    let l = live_alone (lone_for v q) [] in
+    let first = first_message (talk_for v q) in
+    let put = send_records (bare v.net) w.opens (Some 1) first in
+    let to = waiting (state_in (with_lone v (talk_for v q)) (l ∷ [])) (asking_in (entered s) (lone_for v q)) in
+    let here : LivesAlone (with_lone v (talk_for v q)) (lone_for v q) [] = record { ports = ap (λ ports. with_port (proto_of (talk_for v q)) (fields_of (talk_for v q)).own w.opens ports) free; route = route; talked = begins_so v q } in
+    record {
+      to = to;
+      does = subst (λ z. Proceeds (stands n (running st s [])) (command_record s (shown_words w.state.table (c ∷ cs)) ∷ z ∷ send_records v.net w.opens (Some 1) first) (stands n to)) (same_open v q)
+          (subst (λ z. Proceeds (stands n (running st s [])) (command_record s (shown_words w.state.table (c ∷ cs)) ∷ open_record l ∷ z) (stands n to)) (bare_send v.net w.opens (Some 1) first)
+          (courses.opens_one n st (state_in v []) s [] c cs l (job_for q) (bare v.net) put comes few (opens_so w c cs q is) refl
+          (first_so v q (bare v.net) ∙ ap (λ b. cond b (Some put) None) (bare_route v.net first ∙ route))));
+      same = ([], here, refl);
+    }
+
+-- to whom there is no way
+reaches_goes : (n : ℕ) (w : World) (s : Running) (c : List ℕ) (cs : List (List ℕ)) (q : Query) → coming s ≡ beginning c cs → s.begun < 4096 → effect w.opens w.state.table (c ∷ cs) ≡ inquires q →
+    has_route (world_after w (c ∷ cs)).net (first_message (talk_for (world_after w (c ∷ cs)) q)) ≡ false →
+    Goes n (running (state_in w []) s [])
+    (command_record s (shown_words w.state.table (c ∷ cs)) ∷ open_told w.opens (fields_of (talk_for (world_after w (c ∷ cs)) q))
+    ∷ ended w.opens (lone.no_route (fields_of (talk_for (world_after w (c ∷ cs)) q)).server)
+    ∷ result (lone.no_route (fields_of (talk_for (world_after w (c ∷ cs)) q)).server) ∷ [])
+    (at n (lone.running (with_ended_open (world_after w (c ∷ cs))) (further s (lone.no_route (fields_of (talk_for (world_after w (c ∷ cs)) q)).server))))
+reaches_goes n w s c cs q comes few is route =
+    let st = state_in w [] in
+    let v = world_after w (c ∷ cs) in
+    let l = live_alone (lone_for v q) [] in
+    let first = first_message (talk_for v q) in
+    let none = lone.no_route (fields_of (talk_for v q)).server in
+    let to = running (with_one_made (state_in v [])) (further s none) [] in
+    record {
+      to = to;
+      does = subst (λ z. Proceeds (stands n (running st s [])) (command_record s (shown_words w.state.table (c ∷ cs)) ∷ z ∷ ended w.opens none ∷ result none ∷ []) (stands n to)) (same_open v q)
+          (courses.finds_no_route n st (state_in v []) s [] c cs l (job_for q) (bare v.net) comes few (opens_so w c cs q is) refl
+          (first_so v q (bare v.net) ∙ ap (λ b. cond b (Some (send_records (bare v.net) w.opens (Some 1) first)) None) (bare_route v.net first ∙ route)));
+      same = refl;
+    }
+
+move_goes : (m : Machine) (added : List Out) (m' : Machine) (es : _) (p : Standing) → Move m added m' → AgreesPhase es m.phase → StandsAs m.phase p → Goes m.used p added m'
+move_goes m added m' es p (lone.passes n w s t comes) a same =
     subst (λ z. Goes n z added m') (sym same) (record { to = _; does = courses.passes n (state_in w []) s t [] comes; same = refl })
-move_goes m added m' p (lone.is_left n w s cause comes) same =
+move_goes m added m' es p (lone.is_left n w s cause comes) a same =
     subst (λ z. Goes n z added m') (sym same) (record { to = left (state_in w []) [] cause; does = courses.is_left n (state_in w []) s [] cause comes; same = (state_in w [], refl, refl) })
-move_goes m added m' p (lone.yields n w s c cs comes full) same =
+move_goes m added m' es p (lone.yields n w s c cs comes full) a same =
     subst (λ z. Goes n z added m') (sym same) (record { to = _; does = courses.yields n (state_in w []) s [] c cs comes full; same = refl })
-move_goes m added m' p (lone.does n w s c cs o comes few is stays) same =
+move_goes m added m' es p (lone.does n w s c cs o comes few is stays) a same =
     subst (λ z. Goes n z added m') (sym same) (record { to = _; does = courses.does n (state_in w []) (state_in (world_after w (c ∷ cs)) []) s [] c cs o comes few (ap (doing_by (state_in w []) (table_after w.state.table (c ∷ cs)) (up_after w.state.table w.state.up (c ∷ cs))) is) stays; same = refl })
-move_goes m added m' p (lone.closes_device n w s c cs comes few is) same =
+move_goes m added m' es p (lone.closes_device n w s c cs comes few is) a same =
     subst (λ z. Goes n z added m') (sym same)
     (let next = state_in (world_after w (c ∷ cs)) [] in
     record {
@@ -223,22 +235,22 @@ move_goes m added m' p (lone.closes_device n w s c cs comes few is) same =
       does = courses.closes_device n (state_in w []) next s [] c cs [] [] comes few (ap (doing_by (state_in w []) (table_after w.state.table (c ∷ cs)) (up_after w.state.table w.state.up (c ∷ cs))) is) all_have;
       same = refl;
     })
-move_goes m added m' p (lone.leaves n w s c cs o comes few is goes_out) same =
+move_goes m added m' es p (lone.leaves n w s c cs o comes few is goes_out) a same =
     subst (λ z. Goes n z added m') (sym same)
     (let next = state_in (world_after w (c ∷ cs)) [] in
     record { to = left next [] o.cause; does = courses.leaves n (state_in w []) next s [] c cs o comes few (ap (doing_by (state_in w []) (table_after w.state.table (c ∷ cs)) (up_after w.state.table w.state.up (c ∷ cs))) is) goes_out; same = (next, refl, refl) })
-move_goes m added m' p (lone.jumps n w s c cs name line comes few is there) same =
+move_goes m added m' es p (lone.jumps n w s c cs name line comes few is there) a same =
     subst (λ z. Goes n z added m') (sym same) (record { to = _; does = courses.jumps n (state_in w []) s [] c cs name line comes few (ap (doing_by (state_in w []) (table_after w.state.table (c ∷ cs)) (up_after w.state.table w.state.up (c ∷ cs))) is) there; same = refl })
-move_goes m added m' p (lone.finds_no_label n w s c cs name comes few is none) same =
+move_goes m added m' es p (lone.finds_no_label n w s c cs name comes few is none) a same =
     subst (λ z. Goes n z added m') (sym same) (record { to = _; does = courses.finds_no_label n (state_in w []) s [] c cs name comes few (ap (doing_by (state_in w []) (table_after w.state.table (c ∷ cs)) (up_after w.state.table w.state.up (c ∷ cs))) is) none; same = refl })
-move_goes m added m' p (lone.falls_asleep n w s c cs seconds comes few is) same =
+move_goes m added m' es p (lone.falls_asleep n w s c cs seconds comes few is) a same =
     subst (λ z. Goes n z added m') (sym same)
     (record {
       to = waiting (state_in w []) (sleeping_in (entered s) (w.time + 1000 * seconds));
       does = courses.falls_asleep n (state_in w []) s [] c cs (w.time + 1000 * seconds) comes few (ap (doing_by (state_in w []) (table_after w.state.table (c ∷ cs)) (up_after w.state.table w.state.up (c ∷ cs))) is);
       same = (later w.time seconds (sleeps_some w.opens w.state.table (c ∷ cs) seconds is), refl);
     })
-move_goes m added m' p (lone.asks_for n w s c cs wanted comes few is route) same =
+move_goes m added m' es p (lone.asks_for n w s c cs wanted comes few is route) a same =
     let st = state_in w [] in
     let l = transfer_for st wanted in
     let request = request_of (begun_for w wanted) in
@@ -248,34 +260,89 @@ move_goes m added m' p (lone.asks_for n w s c cs wanted comes few is route) same
     (record {
       to = to;
       does = subst (λ z. Proceeds (stands n (running st s [])) (command_record s (shown_words w.state.table (c ∷ cs)) ∷ open_record l ∷ z) (stands n to)) (bare_send w.net w.opens (Some 1) request)
-          (courses.opens_one n st s [] c cs l (fetch wanted) (bare w.net) put comes few (ap (doing_by st (table_after w.state.table (c ∷ cs)) (up_after w.state.table w.state.up (c ∷ cs))) is) refl
+          (courses.opens_one n st st s [] c cs l (fetch wanted) (bare w.net) put comes few (ap (doing_by st (table_after w.state.table (c ∷ cs)) (up_after w.state.table w.state.up (c ∷ cs))) is) refl
           (ap (λ b. cond b (Some put) None) (bare_route w.net request ∙ route)));
       same = ([], record { exchanged = at_first; meets = meets_nothing (begun_for w wanted) w.time }, refl);
     })
-move_goes m added m' p (lone.finds_no_route n w s c cs wanted comes few is route) same =
+move_goes m added m' es p (lone.finds_no_route n w s c cs wanted comes few is route) a same =
     let st = state_in w [] in
     let l = transfer_for st wanted in
     let request = request_of (begun_for w wanted) in
     subst (λ z. Goes n z added m') (sym same)
     (record {
       to = running (with_one_made st) (further s (lone.no_route wanted.target.server)) [];
-      does = courses.finds_no_route n st s [] c cs l (fetch wanted) (bare w.net) comes few (ap (doing_by st (table_after w.state.table (c ∷ cs)) (up_after w.state.table w.state.up (c ∷ cs))) is) refl
+      does = courses.finds_no_route n st st s [] c cs l (fetch wanted) (bare w.net) comes few (ap (doing_by st (table_after w.state.table (c ∷ cs)) (up_after w.state.table w.state.up (c ∷ cs))) is) refl
           (ap (λ b. cond b (Some (send_records (bare w.net) w.opens (Some 1) request)) None) (bare_route w.net request ∙ route));
       same = refl;
     })
-move_goes m added m' p (lone.hands n r rest) (s, none_lives, same) =
+move_goes m added m' es p (lone.inquires_for n w s c cs q comes few is route) a same =
+    subst (λ z. Goes n z added m') (sym same) (inquires_goes n w s c cs q comes few is route a.1)
+move_goes m added m' es p (lone.reaches_none n w s c cs q comes few is route) a same =
+    subst (λ z. Goes n z added m') (sym same) (reaches_goes n w s c cs q comes few is route)
+move_goes m added m' es p (lone.asks_on n w s wanted few route) a same =
+    let st = state_in w [] in
+    let l = transfer_for st wanted in
+    let request = request_of (begun_for w wanted) in
+    let put = send_records (bare w.net) w.opens (Some 1) request in
+    let to = waiting (state_in (with_open w) (live_of (open_for w wanted) [] ∷ [])) (waiting_in s (open_for w wanted)) in
+    subst (λ z. Goes n z added m') (sym same)
+    (record {
+      to = to;
+      does = subst (λ z. Proceeds (stands n (reaching st s [] (fetches_now wanted))) (open_record l ∷ z) (stands n to)) (bare_send w.net w.opens (Some 1) request)
+          (courses.opens_onward n st s [] (fetches_now wanted) (bare w.net) put few refl (ap (λ b. cond b (Some put) None) (bare_route w.net request ∙ route)));
+      same = ([], record { exchanged = at_first; meets = meets_nothing (begun_for w wanted) w.time }, refl);
+    })
+move_goes m added m' es p (lone.finds_no_way n w s wanted few route) a same =
+    let st = state_in w [] in
+    let request = request_of (begun_for w wanted) in
+    subst (λ z. Goes n z added m') (sym same)
+    (record {
+      to = running (with_one_made st) (with_result s (lone.no_route wanted.target.server)) [];
+      does = courses.finds_no_way n st s [] (fetches_now wanted) (bare w.net) few refl
+          (ap (λ b. cond b (Some (send_records (bare w.net) w.opens (Some 1) request)) None) (bare_route w.net request ∙ route));
+      same = refl;
+    })
+move_goes m added m' es p (lone.echoes_on n w s server few route) a same =
+    let st = state_in w [] in
+    let q = for_echo server in
+    let first = first_message (talk_for w q) in
+    let put = send_records (bare w.net) w.opens (Some 1) first in
+    let to = waiting (state_in (with_lone w (talk_for w q)) (live_alone (lone_for w q) [] ∷ [])) (asking_in s (lone_for w q)) in
+    let here : LivesAlone (with_lone w (talk_for w q)) (lone_for w q) [] =
+    record { ports = ap (λ ports. with_port (proto_of (talk_for w q)) (fields_of (talk_for w q)).own w.opens ports) a.1; route = route; talked = begins_so w q } in
+    subst (λ z. Goes n z added m') (sym same)
+    (record {
+      to = to;
+      does = subst (λ z. Proceeds (stands n (reaching st s [] (echoes_now server))) (open_record (echo_for st server) ∷ z) (stands n to)) (bare_send w.net w.opens (Some 1) first)
+          (courses.opens_onward n st s [] (echoes_now server) (bare w.net) put few refl (ap (λ b. cond b (Some put) None) (bare_route w.net first ∙ route)));
+      same = ([], here, refl);
+    })
+move_goes m added m' es p (lone.finds_no_way_to n w s server few route) a same =
+    let st = state_in w [] in
+    let first = first_message (talk_for w (for_echo server)) in
+    subst (λ z. Goes n z added m') (sym same)
+    (record {
+      to = running (with_one_made st) (with_result s (lone.no_route server)) [];
+      does = courses.finds_no_way n st s [] (echoes_now server) (bare w.net) few refl
+          (ap (λ b. cond b (Some (send_records (bare w.net) w.opens (Some 1) first)) None) (bare_route w.net first ∙ route));
+      same = refl;
+    })
+move_goes m added m' es p (lone.opens_no_more n w s next full) a same =
+    subst (λ z. Goes n z added m') (sym same) (record { to = running (state_in w []) (with_result s full_opens) []; does = courses.opens_no_more n (state_in w []) s [] next full; same = refl })
+move_goes m added m' es p (lone.hands n r rest) a (s, none_lives, same) =
     subst (λ z. Goes n z added m') (sym same) (record { to = handing s rest; does = courses.hands n s r rest; same = (s, none_lives, refl) })
-move_goes m added m' p (lone.has_handed n) (s, none_lives, same) =
+move_goes m added m' es p (lone.has_handed n) a (s, none_lives, same) =
     subst (λ z. Goes n z added m') (sym same) (record { to = handed_off s; does = courses.has_handed n s; same = (s, none_lives, refl) })
 
 pub runs_are_courses : (ins : List In) (outs : List Out) (m : Machine) → Path ins outs m → (p : Progress) × Course ins outs p × Carries m p
 runs_are_courses ins outs m lone.nothing = (courses.nowhere, begins, record { used = refl; standing = refl })
-runs_are_courses ins outs m (lone.uses ins0 outs0 m0 r added m1 path beginning) =
+runs_are_courses ins outs m (lone.uses ins0 outs0 m0 r added m1 path step_begun) =
     let (p, course, carries) = runs_are_courses ins0 outs0 m0 path in
     let t = run_tells ins0 outs0 m0 path in
-    let s = step_begins m0 r added m1 t.events p.standing beginning t.agrees carries.standing in
+    let s = step_begins m0 r added m1 t.events p.standing step_begun t.agrees carries.standing in
     (stands m1.used s.to, uses ins0 outs0 p r added _ course (subst (λ (z : ℕ). StepBegins (stands z p.standing) r added (stands m1.used s.to)) carries.used s.begins), record { used = refl; standing = s.same })
 runs_are_courses ins outs m (lone.moves ins0 outs0 m0 added m1 path move) =
     let (p, course, carries) = runs_are_courses ins0 outs0 m0 path in
-    let s = move_goes m0 added m1 p.standing move carries.standing in
+    let t = run_tells ins0 outs0 m0 path in
+    let s = move_goes m0 added m1 t.events p.standing move t.agrees carries.standing in
     (stands m1.used s.to, goes_on ins0 outs0 p added _ course (subst (λ (z : ℕ). Proceeds (stands z p.standing) added (stands m1.used s.to)) carries.used s.does), record { used = refl; standing = s.same })

@@ -19,7 +19,7 @@ use Rattle.nb_machine.specs.Transfers.{arrival_of, earlier, end_records, transfe
 use Rattle.nb_machine.specs.Takings.{end_told, end_among}
 use Rattle.nb_machine.proofs.Ways.{bare_acts, all_find}
 
-earlier_none : (x : Option Cause) → earlier x None ≡ x
+pub earlier_none : (x : Option Cause) → earlier x None ≡ x
 earlier_none None = refl
 earlier_none (Some cause) = refl
 

@@ -5,7 +5,7 @@ use Rattle.nb_engine.specs.Machine.{stopped_cause}
 use Rattle.nb_machine.specs.Lives.{close}
 use Rattle.nb_machine.specs.States.{State}
 use Rattle.nb_machine.specs.Takings.{Over, AllTake}
-use Rattle.nb_machine.specs.Courses.{Standing, ready, running, waiting, yielded, handing, left, handed_off, stopped}
+use Rattle.nb_machine.specs.Courses.{Standing, ready, running, waiting, reaching, yielded, handing, left, handed_off, stopped}
 
 -- all that lives is closed, and puts these records
 abbrev pub AllClose : State → List Out → Type 0
@@ -16,6 +16,7 @@ abbrev pub Shuts : Standing → List Out → Type 0
 Shuts ready put = put ≡ []
 Shuts (running s inner outer) put = AllClose s put
 Shuts (waiting s w) put = AllClose s put
+Shuts (reaching s inner outer next) put = AllClose s put
 Shuts (yielded s inner outer) put = AllClose s put
 Shuts (handing s rest) put = AllClose s put
 Shuts (left s outer cause) put = AllClose s put

@@ -8,16 +8,17 @@ use Rattle.nb_defs.specs.Records.{Start, In, start, off, IsIn, Out, step, enter,
 use Rattle.nb_defs.specs.ScriptLines.{Line, script, label_place}
 use Rattle.nb_stack.specs.Client.{Client}
 use Rattle.nb_engine.specs.Conclusions.{Conclusion, keeps, fails, boots, conclusion_records, handoff_records}
-use Rattle.nb_engine.specs.Effects.{shown_words}
+use Rattle.nb_engine.specs.Effects.{shown_words, full_opens}
+use Rattle.nb_engine.specs.Errands.{Onward}
 use Rattle.nb_engine.specs.FirstText.{first_reading, text_refusal}
 use Rattle.nb_engine.specs.Running.{Running, first_script, coming, passing, leaving, beginning, entered, further, behind_line, with_result, anew, no_label}
 use Rattle.nb_engine.specs.Machine.{command_record, command_records, no_route, stopped_cause}
 use Rattle.nb_machine.specs.Lives.{close, Live, open_record, end_record}
 use Rattle.nb_machine.specs.Kinds.{first_records}
-use Rattle.nb_machine.specs.States.{State, state_at_start, with_images, with_live, with_opened, with_one_made}
+use Rattle.nb_machine.specs.States.{State, state_at_start, with_images, with_settings, with_live, with_opened, with_one_made}
 use Rattle.nb_machine.specs.Takings.{Over, AllTake}
 use Rattle.nb_machine.specs.Network.{Network}
-use Rattle.nb_machine.specs.Scripts.{Job, sleep, ends, opens, goes_to, waits_until, shuts, doing, answer, moment, Answer, answer_in, Waiting, waiting_anew, concluded_by}
+use Rattle.nb_machine.specs.Scripts.{Job, sleep, ends, opens, goes_to, waits_until, shuts, doing, live_onward, job_onward, answer, moment, Answer, answer_in, Waiting, waiting_anew, Upshot, concludes, settles, goes_onward, upshot_records, concluded_by}
 
 -- the device went down
 abbrev pub down_cause : Cause
@@ -31,6 +32,8 @@ pub data Standing : Type 0 where
   running : State → Running → (outer : List Running) → Standing
   -- a command of the innermost waits
   waiting : State → Waiting → Standing
+  -- a command of the innermost has looked up its server, and its own open is to be made
+  reaching : State → Running → (outer : List Running) → Onward → Standing
   -- the innermost had all the commands of a step, and another is to begin
   yielded : State → Running → (outer : List Running) → Standing
   -- an image is handed off, of which these records are still to come
@@ -56,12 +59,19 @@ nowhere = stands 0 ready
 
 -- Where a conclusion leads, and the records put there: the script goes on, with the command's result; or an image is handed off,
 -- once all that lives is closed.
-abbrev pub LeadsTo : State → Running → List Running → Conclusion → List Out → Standing → Type 0
-LeadsTo s inner outer (keeps list) put p = (put ≡ []) × (p ≡ running (with_images s list) (with_result inner ok) outer)
-LeadsTo s inner outer (fails cause) put p = (put ≡ []) × (p ≡ running s (with_result inner cause) outer)
-LeadsTo s inner outer (boots list kernel) put p =
+abbrev pub ConclusionLeads : State → Running → List Running → Conclusion → List Out → Standing → Type 0
+ConclusionLeads s inner outer (keeps list) put p = (put ≡ []) × (p ≡ running (with_images s list) (with_result inner ok) outer)
+ConclusionLeads s inner outer (fails cause) put p = (put ≡ []) × (p ≡ running s (with_result inner cause) outer)
+ConclusionLeads s inner outer (boots list kernel) put p =
     (over : List Over) × AllTake s.devices (close stopped_cause) s.live put [] over
     × (p ≡ handing (with_live (with_images s list) []) (handoff_records kernel list.images))
+
+-- The same of what comes of a command: where that is settings, the device follows them; and where its server was looked up, its own
+-- open is next.
+abbrev pub LeadsTo : State → Running → List Running → Upshot → List Out → Standing → Type 0
+LeadsTo s inner outer (concludes c) put p = ConclusionLeads s inner outer c put p
+LeadsTo s inner outer (settles x) put p = (put ≡ []) × (p ≡ running (with_settings s x.table s.up) (with_result inner x.cause) outer)
+LeadsTo s inner outer (goes_onward next) put p = (put ≡ []) × (p ≡ reaching s inner outer next)
 
 -- A record is used, and its step begins. A first record comes before any other; each later one comes while a command
 -- waits, or where a script had all the commands of a step. What it does, the network says; what comes of the command, the scripts.
@@ -79,7 +89,7 @@ pub data StepBegins : Progress → In → List Out → Progress → Type 0 where
   -- what it waits for has come
   is_answered : (n : ℕ) (s s' : State) (w : Waiting) (r : In) (put more : List Out) (over : List Over) (a : Answer) (p : Standing) → IsIn r →
       Network s (n + 1) r put s' over → answer_in s' r over w.awaited ≡ Some a → LeadsTo s' (anew w.script) w.outer (concluded_by s' w.job a) more p →
-      StepBegins (stands n (waiting s w)) r (step (n + 1) ∷ put ++ conclusion_records (concluded_by s' w.job a) ++ more) (stands (n + 1) p)
+      StepBegins (stands n (waiting s w)) r (step (n + 1) ∷ put ++ upshot_records (concluded_by s' w.job a) ++ more) (stands (n + 1) p)
   -- the power is switched off: every open is closed, and the command gives no result
   switches_off : (n : ℕ) (s : State) (w : Waiting) (put : List Out) (over : List Over) →
       AllTake s.devices (close stopped_cause) s.live put [] over →
@@ -131,18 +141,33 @@ pub data Proceeds : Progress → List Out → Progress → Type 0 where
       Proceeds (stands n (running s inner outer)) (command_record inner (shown_words s.table (c ∷ cs)) ∷ [])
       (stands n (waiting s (record { script = entered inner; outer = outer; awaited = moment time; job = sleep })))
   -- a command that opens something, and waits for it
-  opens_one : (n : ℕ) (s : State) (inner : Running) (outer : List Running) (c : List ℕ) (cs : List (List ℕ)) (l : Live) (job : Job) (link : Client) (put : List Out) →
-      coming inner ≡ beginning c cs → inner.begun < 4096 → doing s (c ∷ cs) ≡ opens l job →
-      slice_get s.devices l.device ≡ Some link → first_records l.kind l link ≡ Some put →
+  opens_one : (n : ℕ) (s s' : State) (inner : Running) (outer : List Running) (c : List ℕ) (cs : List (List ℕ)) (l : Live) (job : Job) (link : Client) (put : List Out) →
+      coming inner ≡ beginning c cs → inner.begun < 4096 → doing s (c ∷ cs) ≡ opens s' l job →
+      slice_get s'.devices l.device ≡ Some link → first_records l.kind l link ≡ Some put →
       Proceeds (stands n (running s inner outer)) (command_record inner (shown_words s.table (c ∷ cs)) ∷ open_record l ∷ put)
-      (stands n (waiting (with_opened s l) (record { script = entered inner; outer = outer; awaited = answer l.number; job = job })))
+      (stands n (waiting (with_opened s' l) (record { script = entered inner; outer = outer; awaited = answer l.number; job = job })))
   -- one whose server there is no way to: the open was made, and has ended
-  finds_no_route : (n : ℕ) (s : State) (inner : Running) (outer : List Running) (c : List ℕ) (cs : List (List ℕ)) (l : Live) (job : Job) (link : Client) →
-      coming inner ≡ beginning c cs → inner.begun < 4096 → doing s (c ∷ cs) ≡ opens l job →
-      slice_get s.devices l.device ≡ Some link → first_records l.kind l link ≡ None →
+  finds_no_route : (n : ℕ) (s s' : State) (inner : Running) (outer : List Running) (c : List ℕ) (cs : List (List ℕ)) (l : Live) (job : Job) (link : Client) →
+      coming inner ≡ beginning c cs → inner.begun < 4096 → doing s (c ∷ cs) ≡ opens s' l job →
+      slice_get s'.devices l.device ≡ Some link → first_records l.kind l link ≡ None →
       Proceeds (stands n (running s inner outer))
       (command_record inner (shown_words s.table (c ∷ cs)) ∷ open_record l ∷ end_record l (no_route l.server) ∷ conclusion_records (fails (no_route l.server)))
-      (stands n (running (with_one_made s) (further inner (no_route l.server)) outer))
+      (stands n (running (with_one_made s') (further inner (no_route l.server)) outer))
+  -- a command's server was looked up: its own open begins, and it waits for that
+  opens_onward : (n : ℕ) (s : State) (inner : Running) (outer : List Running) (next : Onward) (link : Client) (put : List Out) → s.opens < 16384 →
+      slice_get s.devices (live_onward s next).device ≡ Some link → first_records (live_onward s next).kind (live_onward s next) link ≡ Some put →
+      Proceeds (stands n (reaching s inner outer next)) (open_record (live_onward s next) ∷ put)
+      (stands n (waiting (with_opened s (live_onward s next)) (record { script = inner; outer = outer; awaited = answer (live_onward s next).number; job = job_onward next })))
+  -- there is no way to it: the open was made, and has ended
+  finds_no_way : (n : ℕ) (s : State) (inner : Running) (outer : List Running) (next : Onward) (link : Client) → s.opens < 16384 →
+      slice_get s.devices (live_onward s next).device ≡ Some link → first_records (live_onward s next).kind (live_onward s next) link ≡ None →
+      Proceeds (stands n (reaching s inner outer next))
+      (open_record (live_onward s next) ∷ end_record (live_onward s next) (no_route (live_onward s next).server)
+      ∷ conclusion_records (fails (no_route (live_onward s next).server)))
+      (stands n (running (with_one_made s) (with_result inner (no_route (live_onward s next).server)) outer))
+  -- or no more opens may be made
+  opens_no_more : (n : ℕ) (s : State) (inner : Running) (outer : List Running) (next : Onward) → s.opens ≡ 16384 →
+      Proceeds (stands n (reaching s inner outer next)) (result full_opens ∷ []) (stands n (running s (with_result inner full_opens) outer))
   -- a piece of the image is handed off
   hands : (n : ℕ) (s : State) (r : Out) (rest : List Out) → Proceeds (stands n (handing s (r ∷ rest))) (r ∷ []) (stands n (handing s rest))
   -- all was handed off

@@ -1,27 +1,57 @@
 -- What a kind of open is: what it takes, how it begins, what it promises of what came and what it put, and what
--- it has fetched. A further kind is a further case of each.
-use Rattle.std.specs.Prelude.{ℕ, ◌==◌, ◌&&◌, Bool, List, Option}
+-- it has fetched or found. A further kind is a further case of each.
+use Rattle.std.specs.Prelude.{ℕ, ◌==◌, ◌&&◌, Bool, true, false, List, [], Option, None}
 use Rattle.nb_defs.specs.Records.{Out}
 use Rattle.nb_ipv4.specs.PacketText.{PacketParts}
 use Rattle.nb_ipv4.specs.UdpText.{UdpParts}
+use Rattle.nb_ipv4.specs.EchoText.{EchoParts}
+use Rattle.nb_wire.specs.declared.address.Ip4.{Ip4}
 use Rattle.nb_stack.specs.Client.{Client}
-use Rattle.nb_machine.specs.Lives.{OpenKind, tftp, Exchange, Live}
+use Rattle.nb_dns.specs.Lookups.{query_to}
+use Rattle.nb_dhcp.specs.Acting.{to_servers}
+use Rattle.nb_dhcp.specs.Messages.{message_text}
+use Rattle.nb_ping.specs.Pings.{echo_request}
+use Rattle.nb_nodes.specs.LookupExchanges.{lookup_service}
+use Rattle.nb_nodes.specs.LeaseExchanges.{lease_service}
+use Rattle.nb_nodes.specs.EchoExchanges.{ping_service}
+use Rattle.nb_machine.specs.Lives.{OpenKind, tftp, dns, dhcp, ping, Exchange, Live}
+use Rattle.nb_machine.specs.Cores.{look_up_of, ping_of, first_message_records, KeepsCore, address_answered, lease_acknowledged}
 use Rattle.nb_machine.specs.Transfers.{request_records, KeepsTransfer, transferred}
 
--- it takes datagrams from there: TFTP from every port of its server
+-- it takes datagrams from there: TFTP from every port of its server, DNS from its port 53, DHCP from port 67 of any host; a ping
+-- takes none
 abbrev pub takes_from : OpenKind → Live → PacketParts → UdpParts → Bool
 takes_from tftp l p d = p.src.0 == l.server
+takes_from (dns id) l p d = (p.src.0 == l.server) && (d.src_port == 53)
+takes_from (dhcp a) l p d = d.src_port == 67
+takes_from ping l p d = false
 
 -- a datagram on this device is for the open of its port
 abbrev pub is_for : ℕ → PacketParts → UdpParts → Live → Bool
 is_for device p d l = (l.device == device) && (l.own == d.dst_port) && takes_from l.kind l p d
 
+abbrev pub is_ping : OpenKind → Bool
+is_ping tftp = false
+is_ping (dns id) = false
+is_ping (dhcp a) = false
+is_ping ping = true
+
+-- an echo reply on this device is for the ping of its identifier, where its host sends it
+abbrev pub is_reply_for : ℕ → PacketParts → EchoParts → Live → Bool
+is_reply_for device p e l = is_ping l.kind && (l.device == device) && (l.own == e.ident) && (p.src.0 == l.server)
+
 -- the records with which it begins; none where there is no route
 abbrev pub first_records : OpenKind → Live → Client → Option (List Out)
 first_records tftp l link = request_records l link
+first_records (dns id) l link = first_message_records l link (query_to (look_up_of id l))
+first_records (dhcp a) l link = first_message_records l link (to_servers (message_text a None))
+first_records ping l link = first_message_records l link (echo_request (ping_of l))
 
 abbrev pub KeepsBy : OpenKind → Live → Type 0
 KeepsBy tftp l = KeepsTransfer l
+KeepsBy (dns id) l = KeepsCore lookup_service (look_up_of id l) l
+KeepsBy (dhcp a) l = KeepsCore lease_service a l
+KeepsBy ping l = KeepsCore ping_service (ping_of l) l
 
 -- the open has kept its promises in all its exchanges
 abbrev pub Keeps : Live → Type 0
@@ -29,7 +59,30 @@ Keeps l = KeepsBy l.kind l
 
 abbrev pub fetched_by : OpenKind → List Exchange → List ℕ
 fetched_by tftp xs = transferred xs
+fetched_by (dns id) xs = []
+fetched_by (dhcp a) xs = []
+fetched_by ping xs = []
 
 -- the bytes that it has fetched
 abbrev pub fetched : Live → List ℕ
 fetched l = fetched_by l.kind l.exchanges
+
+abbrev pub resolved_of : OpenKind → Live → Option Ip4
+resolved_of tftp l = None
+resolved_of (dns id) l = address_answered (look_up_of id l) l.server l.exchanges
+resolved_of (dhcp a) l = None
+resolved_of ping l = None
+
+-- the address that it has found of its name
+abbrev pub resolved : Live → Option Ip4
+resolved l = resolved_of l.kind l
+
+abbrev pub granted_of : OpenKind → List Exchange → Option (List ℕ)
+granted_of tftp xs = None
+granted_of (dns id) xs = None
+granted_of (dhcp a) xs = lease_acknowledged a xs
+granted_of ping xs = None
+
+-- the acknowledgement of its lease
+abbrev pub granted : Live → Option (List ℕ)
+granted l = granted_of l.kind l.exchanges

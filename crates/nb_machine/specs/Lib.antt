@@ -1,5 +1,6 @@
 pub mod Lives
 pub mod Transfers
+pub mod Cores
 pub mod Kinds
 pub mod States
 pub mod Takings

@@ -3,17 +3,28 @@ use Rattle.std.specs.Prelude.{ℕ, List, [], ◌∷◌, ◌++◌}
 use Rattle.nb_terms.specs.declared.cause.Cause.{Cause}
 use Rattle.nb_defs.specs.Records.{Out, opened, ended}
 use Rattle.nb_stack.specs.Client.{Client}
+use Rattle.nb_dhcp.specs.declared.asker.Asker.{Asker}
 
 -- what is opened
 pub data OpenKind : Type 0 where
   -- a file by TFTP (RFC 1350)
   tftp : OpenKind
+  -- the address of a name by DNS (RFC 1035), by a query of this number
+  dns : (id : ℕ) → OpenKind
+  -- a lease by DHCP (RFC 2131), for this client
+  dhcp : Asker → OpenKind
+  -- an echo (RFC 792)
+  ping : OpenKind
 
 -- the number of a kind in an OPEN record
 abbrev pub kind_number : OpenKind → ℕ
 kind_number tftp = 1
+kind_number (dns id) = 4
+kind_number (dhcp a) = 5
+kind_number ping = 6
 
--- what comes to an open: a message in the record of this number, from this port; a time; a close from above
+-- what comes to an open: a message in the record of this number, from this port, or of an echo with this identifier; a time; a
+-- close from above
 pub data OpenInput : Type 0 where
   message : (rec port : ℕ) (body : List ℕ) (now : ℕ) → OpenInput
   time : (now : ℕ) → OpenInput

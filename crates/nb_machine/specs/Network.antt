@@ -4,18 +4,20 @@ use Rattle.std.specs.List.{list_any}
 use Rattle.nb_defs.specs.Records.{In, frame, tick, Out}
 use Rattle.nb_ipv4.specs.PacketText.{PacketParts}
 use Rattle.nb_ipv4.specs.UdpText.{UdpParts}
+use Rattle.nb_ipv4.specs.EchoText.{EchoParts}
 use Rattle.nb_stack.specs.Client.{Client}
-use Rattle.nb_stack.specs.Brings.{Brought, datagram, Brings}
+use Rattle.nb_stack.specs.Brings.{Brought, datagram, echo_reply, Brings}
 use Rattle.nb_stack.specs.Takes.{client_after, reply_of}
 use Rattle.nb_engine.specs.Machine.{reply_records}
 use Rattle.nb_machine.specs.Lives.{message, time, Live}
-use Rattle.nb_machine.specs.Kinds.{is_for}
+use Rattle.nb_machine.specs.Kinds.{is_for, is_reply_for}
 use Rattle.nb_machine.specs.States.{State, net0, with_device, with_live, later_by}
 use Rattle.nb_machine.specs.Takings.{Over, AllTake}
 
 -- what a frame brought is for an open that lives
 abbrev pub is_for_one : ℕ → Brought → List Live → Bool
 is_for_one device (datagram p d) live = list_any (is_for device p d) live
+is_for_one device (echo_reply p e) live = list_any (is_reply_for device p e) live
 is_for_one device m live = false
 
 -- the record brings this frame on this device
@@ -33,6 +35,12 @@ pub data Network (s : State) (n : ℕ) : In → List Out → State → List Over
       IsFrameOn r device bytes → slice_get s.devices device ≡ Some link → Brings link.up link.mac link.address bytes (datagram p d) →
       s.live ≡ before ++ l ∷ behind → is_for device p d l ≡ true →
       AllTake s.devices (message n d.src_port d.body s.now) (l ∷ []) put after over →
+      Network s n r put (with_live s (before ++ after ++ behind)) over
+  -- an echo reply goes to the ping of its identifier, and to no other
+  brings_reply : (r : In) (device : ℕ) (bytes : List ℕ) (link : Client) (p : PacketParts) (e : EchoParts) (before behind after : List Live) (l : Live) (put : List Out) (over : List Over) →
+      IsFrameOn r device bytes → slice_get s.devices device ≡ Some link → Brings link.up link.mac link.address bytes (echo_reply p e) →
+      s.live ≡ before ++ l ∷ behind → is_reply_for device p e l ≡ true →
+      AllTake s.devices (message n e.ident e.body s.now) (l ∷ []) put after over →
       Network s n r put (with_live s (before ++ after ++ behind)) over
   -- time comes to every open that lives, in order
   passes_time : (ms : ℕ) (after : List Live) (put : List Out) (over : List Over) →

@@ -1,15 +1,25 @@
 -- Scripts: what a command does to the state, and what comes of one that waited. No word of frames.
-use Rattle.std.specs.Prelude.{ℕ, ◌+◌, ◌*◌, ◌==◌, nat_le, Bool, List, [], Option, Some, None, find, option_map, if◌then◌else◌}
+use Rattle.std.specs.Prelude.{ℕ, ◌+◌, ◌*◌, ◌==◌, nat_le, Bool, List, [], ◌∷◌, Option, Some, None, Ok, find, option_map, if◌then◌else◌}
+use Rattle.std.specs.Option.{option_map_or}
+use Rattle.nb_terms.specs.declared.cause.Cause.{Cause}
+use Rattle.nb_wire.specs.declared.address.Mac.{Mac}
+use Rattle.nb_defs.specs.Causes.{is_ok_cause}
 use Rattle.nb_defs.specs.Commands.{CommandOutcome}
-use Rattle.nb_defs.specs.Records.{In}
+use Rattle.nb_defs.specs.Records.{In, Out, result}
+use Rattle.nb_stack.specs.Client.{Client}
 use Rattle.nb_image.specs.Images.{image_of}
 use Rattle.nb_settings.specs.Tables.{TableLists}
-use Rattle.nb_engine.specs.Effects.{Wanted, Effect, says, asks, goes, sleeps, shuts_device, effect, table_after, up_after}
-use Rattle.nb_engine.specs.Conclusions.{Conclusion, keeps, conclusion}
+use Rattle.nb_command.specs.Settings.{Change}
+use Rattle.nb_command.specs.Addresses.{address_table}
+use Rattle.nb_engine.specs.Errands.{Wanted, Errand, Onward, fetches_now, echoes_now, onward}
+use Rattle.nb_engine.specs.Effects.{Effect, says, asks, goes, sleeps, shuts_device, inquires, effect, table_after, up_after}
+use Rattle.nb_engine.specs.Queries.{Query, for_lease, for_echo, for_host, for_address}
+use Rattle.nb_engine.specs.Lones.{asker_at, query_id, lease_change, Settled, settled_by}
+use Rattle.nb_engine.specs.Conclusions.{Conclusion, keeps, conclusion, conclusion_records}
 use Rattle.nb_engine.specs.World.{own_port}
 use Rattle.nb_engine.specs.Running.{Running, anew}
-use Rattle.nb_machine.specs.Lives.{tftp, Live}
-use Rattle.nb_machine.specs.Kinds.{fetched}
+use Rattle.nb_machine.specs.Lives.{tftp, dns, dhcp, ping, Live}
+use Rattle.nb_machine.specs.Kinds.{fetched, resolved, granted}
 use Rattle.nb_machine.specs.States.{State, net0, with_settings}
 use Rattle.nb_machine.specs.Takings.{Over}
 
@@ -17,37 +27,115 @@ use Rattle.nb_machine.specs.Takings.{Over}
 pub data Job : Type 0 where
   -- the file becomes an image, or is booted
   fetch : Wanted → Job
+  -- the acknowledgement's settings are put
+  takes_lease : Job
+  -- nothing but what its end says
+  hears_echo : Job
+  -- the address is put into this setting
+  keeps_address : (setting : List ℕ) → Job
+  -- the command goes on to the server whose name was looked up
+  asks_on : Errand → Job
   -- nothing
   sleep : Job
 
--- what a command comes to: it is over at once and leaves this state, it opens something and waits for it, it goes to a label, it
--- waits for this time, or it sets the device down, closes all that lives and leaves this state
+-- what a command comes to: it is over at once and leaves this state, it opens something in this state and waits for it, it goes to a
+-- label, it waits for this time, or it sets the device down, closes all that lives and leaves this state
 pub data Doing : Type 0 where
   ends : CommandOutcome → State → Doing
-  opens : Live → Job → Doing
+  opens : State → Live → Job → Doing
   goes_to : (name : List ℕ) → Doing
   waits_until : (time : ℕ) → Doing
   shuts : State → Doing
 
--- the next open, on a device, for a file: from the client's next port to port 69 of the server
+-- the next open, on a device, for a file: from the client's next port to the file's port of the server
 abbrev pub transfer_for : State → Wanted → Live
 transfer_for s wanted = record {
   number = s.opens;
   kind = tftp;
   device = net0;
   server = wanted.target.server;
-  port = 69;
+  port = wanted.target.port;
   own = own_port s.w s.opens;
   target = wanted.target.path;
   since = s.now;
   exchanges = [];
 }
 
+-- net0's hardware address
+abbrev pub net0_mac : List Client → Mac
+net0_mac [] = record { 0 = [] }
+net0_mac (link ∷ others) = link.mac
+
+-- for a lease: from port 68 to port 67 of all hosts
+abbrev pub lease_for : State → Live
+lease_for s = record {
+  number = s.opens;
+  kind = dhcp (asker_at (net0_mac s.devices) s.machine s.opens);
+  device = net0;
+  server = 4294967295;
+  port = 67;
+  own = 68;
+  target = [];
+  since = s.now;
+  exchanges = [];
+}
+
+-- for an echo of a host: its number is the identifier
+abbrev pub echo_for : State → ℕ → Live
+echo_for s server = record {
+  number = s.opens;
+  kind = ping;
+  device = net0;
+  server = server;
+  port = 0;
+  own = s.opens;
+  target = [];
+  since = s.now;
+  exchanges = [];
+}
+
+-- for a name's address: from the client's next port to port 53 of the name server
+abbrev pub look_up_for : State → List ℕ → ℕ → Live
+look_up_for s name by = record {
+  number = s.opens;
+  kind = dns (query_id s.machine s.opens);
+  device = net0;
+  server = by;
+  port = 53;
+  own = own_port s.w s.opens;
+  target = name;
+  since = s.now;
+  exchanges = [];
+}
+
+-- what is opened for a query, and what is done with what comes of it
+abbrev pub live_for : State → Query → Live
+live_for s for_lease = lease_for s
+live_for s (for_echo server) = echo_for s server
+live_for s (for_host errand name by) = look_up_for s name by
+live_for s (for_address setting name by) = look_up_for s name by
+
+abbrev pub job_for : Query → Job
+job_for for_lease = takes_lease
+job_for (for_echo server) = hears_echo
+job_for (for_host errand name by) = asks_on errand
+job_for (for_address setting name by) = keeps_address setting
+
+-- what is opened of a server that was looked up, and what is done with what comes of it
+abbrev pub live_onward : State → Onward → Live
+live_onward s (fetches_now wanted) = transfer_for s wanted
+live_onward s (echoes_now server) = echo_for s server
+
+abbrev pub job_onward : Onward → Job
+job_onward (fetches_now wanted) = fetch wanted
+job_onward (echoes_now server) = hears_echo
+
 -- by its effect, and the settings that it leaves and whether the device is up then
 abbrev pub doing_by : State → TableLists → Bool → Effect → Doing
 doing_by s table up (says o) = ends o (with_settings s table up)
 doing_by s table up shuts_device = shuts (with_settings s table up)
-doing_by s table up (asks wanted) = opens (transfer_for s wanted) (fetch wanted)
+doing_by s table up (asks wanted) = opens s (transfer_for s wanted) (fetch wanted)
+doing_by s table up (inquires q) = opens (with_settings s table up) (live_for (with_settings s table up) q) (job_for q)
 doing_by s table up (goes name) = goes_to name
 doing_by s table up (sleeps seconds) = waits_until (s.now + 1000 * seconds)
 
@@ -84,10 +172,41 @@ pub record Waiting : Type 0 where
 abbrev pub waiting_anew : Waiting → Waiting
 waiting_anew w = record w { script = anew w.script }
 
+-- what comes of a command that waited: its images, as they are concluded, its result and settings, or what it asks next
+pub data Upshot : Type 0 where
+  concludes : Conclusion → Upshot
+  settles : Settled → Upshot
+  goes_onward : Onward → Upshot
+
+-- its RESULT, if it is over
+abbrev pub upshot_records : Upshot → List Out
+upshot_records (concludes c) = conclusion_records c
+upshot_records (settles x) = result x.cause ∷ []
+upshot_records (goes_onward next) = []
+
+-- an open that has ended well gives what was found, unless the settings refuse it
+abbrev pub settled_with : Cause → Change → TableLists → Settled
+settled_with cause change table = if is_ok_cause cause then settled_by table change else record { cause = cause; table = table }
+
+-- the settings with what an open has found, if it has found it
+abbrev pub leased_change : Live → TableLists → Change
+leased_change l table = option_map_or (lease_change table) (granted l) (Ok table)
+
+abbrev pub resolved_change : List ℕ → Live → TableLists → Change
+resolved_change setting l table = option_map_or (λ address. address_table setting address.0 table) (resolved l) (Ok table)
+
+-- what is asked of the server whose address an open has found, if it has
+abbrev pub next_of : Errand → Over → Option Onward
+next_of errand o = if is_ok_cause o.cause then option_map (λ address. onward errand address.0) (resolved o.live) else None
+
 -- What a job comes to by its answer, in this state. A command that waits for a time goes on with its images; one that
--- fetches gets no time for an answer.
-abbrev pub concluded_by : State → Job → Answer → Conclusion
+-- waits for an open gets no time for an answer.
+abbrev pub concluded_by : State → Job → Answer → Upshot
 concluded_by s (fetch wanted) (by_end o) =
-    conclusion o.cause wanted.boots (image_of wanted.target.name (fetched o.live) [] wanted.uri) s.images
-concluded_by s (fetch wanted) by_time = keeps s.images
-concluded_by s sleep a = keeps s.images
+    concludes (conclusion o.cause wanted.boots (image_of wanted.target.name (fetched o.live) [] wanted.uri) s.images)
+concluded_by s takes_lease (by_end o) = settles (settled_with o.cause (leased_change o.live s.table) s.table)
+concluded_by s hears_echo (by_end o) = settles (settled_with o.cause (Ok s.table) s.table)
+concluded_by s (keeps_address setting) (by_end o) = settles (settled_with o.cause (resolved_change setting o.live s.table) s.table)
+concluded_by s (asks_on errand) (by_end o) = option_map_or goes_onward (next_of errand o) (settles (settled_with o.cause (Ok s.table) s.table))
+concluded_by s sleep (by_end o) = concludes (keeps s.images)
+concluded_by s job by_time = concludes (keeps s.images)

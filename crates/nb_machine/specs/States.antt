@@ -6,14 +6,16 @@ use Rattle.nb_stack.specs.Client.{Client}
 use Rattle.nb_settings.specs.Tables.{TableLists}
 use Rattle.nb_engine.specs.StartTable.{start_table}
 use Rattle.nb_engine.specs.Link.{link_by}
-use Rattle.nb_engine.specs.World.{is_up, net_of, no_images}
+use Rattle.nb_engine.specs.declared.world.Identity.{Identity}
+use Rattle.nb_engine.specs.World.{identity_of, is_up, net_of, no_images}
 use Rattle.nb_machine.specs.Lives.{Live}
 
 -- The time in milliseconds; the devices, net0 first, each as the client that stands on it (ports aren't kept: an open
 -- has its own); whether net0 is up; the settings; the images; how many opens were made; and the opens that live, by rising number. `w` is
--- START's, from which own ports are counted.
+-- START's, from which own ports are counted, and so is the machine's identity, from which opens have their numbers and clients their names.
 pub record State : Type 0 where
   pub w : ℕ
+  pub machine : Identity
   pub now : ℕ
   pub devices : List Client
   pub up : Bool
@@ -27,7 +29,7 @@ abbrev pub net0 : ℕ
 net0 = 0
 
 abbrev pub state_at_start : Start → State
-state_at_start s = record { w = s.w; now = 0; devices = net_of s ∷ []; up = is_up s; table = start_table s; images = no_images; opens = 0; live = [] }
+state_at_start s = record { w = s.w; machine = identity_of s; now = 0; devices = net_of s ∷ []; up = is_up s; table = start_table s; images = no_images; opens = 0; live = [] }
 
 abbrev pub with_device : State → ℕ → Client → State
 with_device s device link = record s { devices = take device s.devices ++ link ∷ drop (device + 1) s.devices }

@@ -11,7 +11,7 @@ use Rattle.nb_tftp.specs.Received.{Received, received}
 use Rattle.nb_tftp.specs.Blocks.{file}
 use Rattle.nb_tftp.specs.History.{Call, came, ticked, Entry, entry, got}
 use Rattle.nb_tftp.specs.Sentences.{Meets}
-use Rattle.nb_engine.specs.Link.{host}
+use Rattle.nb_command.specs.SettingAddresses.{host}
 use Rattle.nb_engine.specs.Machine.{no_route}
 use Rattle.nb_engine.specs.Opens.{has_route, request_of, send_records, acts_records, end_of}
 use Rattle.nb_machine.specs.Lives.{OpenInput, message, time, close, Exchange, exchange, Live}

@@ -6,7 +6,7 @@ ghost use Rattle.nb_engine.specs.Machine.{Machine, Path};
 ghost use Rattle.nb_machine.specs.Courses.{Course, Progress};
 ghost use Rattle.nb_machine.specs.Carried.{Carries};
 
-/// What the engine's machine runs, with the one transfer for which its command waits, is a course of this one.
+/// What the engine's machine runs, with the one open for which its command waits, is a course of this one.
 pub fn runs_are_courses()
     ensures { (ins : List In) (outs : List Out) (m : Machine) → Path ins outs m
         → (p : Progress) × Course ins outs p × Carries m p }

@@ -142,8 +142,8 @@ module _ (c : Case) (s : Scene) (a : List (NodeEntry Obj Load)) (v : Conversatio
       let two = as_stages (Closes (port_at t 1) z ∷ others) (ap (λ y. y ++ others) (runs_closes t silence x.0 ((1, z) ∷ []) passed.0 passed.1)) one in
       let three = past_close others (port_at t 1) z h2.tftp_1 two in
       let four = past_end (MustUnplug (port_at f 1) (port_at t 0) ∷ gs) (port_at t 0) way.Close three in
-      let low : min f t ≡ f = omega (arith, h.next) in
-      let high : max f t ≡ t = omega (arith, h.next) in
+      let low : min f t ≡ f = omega (arith, h.older) in
+      let high : max f t ≡ t = omega (arith, h.older) in
       let five = past_unplug gs (port_at f 1) (port_at t 0) low high four in
       record {
         scene = after_noted (Unplugged (port_at f 1) (port_at t 0)) s3;

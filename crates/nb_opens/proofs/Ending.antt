@@ -70,7 +70,7 @@ ends_linked c s a v ns ds p by z e h going k =
     let k2 = as_stages (Closes (port_at f 0) z ∷ above) (ap (λ w. w ++ above) (runs_closes f silence x.0 ((0, z) ∷ []) heard.0 heard.1)) k1 in
     let k3 = past_close above (port_at f 0) z h2.fetch_0 k2 in
     let k4 = past_end (MustUnplug (port_at t 0) (port_at f 1) ∷ others) (port_at f 1) way.Close k3 in
-    let k5 = past_unplug others (port_at t 0) (port_at f 1) (omega (arith, h.next)) (omega (arith, h.next)) k4 in
+    let k5 = past_unplug others (port_at t 0) (port_at f 1) (omega (arith, h.older)) (omega (arith, h.older)) k4 in
     let k6 = past_close (Holds p by None ∷ []) (port_at t 1) z h4.tftp_1 k5 in
     let k7 = leaves_tftp c s5 b v _ ds p by e k6 in
     record { scene = s5; seen = h5; heard = x.0; at = subst (λ w. At c s5 [] b v w ds) (simp append_assoc) k7 }

@@ -76,7 +76,7 @@ module _ (g h : Objects Obj) (m n : Option (List Notice)) (now f t : ℕ) (asks 
       let lives : (x : ℕ) → object_lives h.book x ≡ object_lives g.book x = λ x. sym (ap (λ (z : Scene). z.live x) e) ∙ live x in
       let ports : (x k : ℕ) → port_in h.book x k ≡ s.port x k = λ x k. sym (ap (λ (z : Scene). z.port x k) e) in
       record {
-        next = two.next;
+        older = two.older;
         last = sym (ap (λ (z : Scene). z.made) e) ∙ made ∙ two.last;
         room = subst (λ z. 2 ≤ z) (sym (sym (ap (λ (z : Scene). z.room) e) ∙ room)) two.room;
         fetch_lives = lives f ∙ two.fetch_lives;

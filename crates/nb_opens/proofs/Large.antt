@@ -67,7 +67,7 @@ module _ (c : Case) where
       let s' = after_noted (Unplugged upper lower) s in
       let h' = down_unplugged s c.fetch c.tftp user link back below h in
       let k1 = past_end (MustUnplug upper lower ∷ Holds upper way.Up (Some m) ∷ others) lower way.Close k in
-      let k2 = past_unplug (Holds upper way.Up (Some m) ∷ others) upper lower (omega (arith, h.next)) (omega (arith, h.next)) k1 in
+      let k2 = past_unplug (Holds upper way.Up (Some m) ∷ others) upper lower (omega (arith, h.older)) (omega (arith, h.older)) k1 in
       let k3 = past_rest others upper m (ap open_count h'.fetch_1) k2 in
       let k4 = past_fetch_end others 1 k3 in
       subst (λ z. At c s' others a v z ds) (simp append_assoc) k4

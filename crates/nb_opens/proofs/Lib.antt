@@ -1,6 +1,8 @@
 pub mod HoldLemmas
 pub mod TalkLemmas
 pub mod QuietLemmas
+pub mod Keeping
+pub mod Bystanders
 pub mod Going
 pub mod Starting
 pub mod Making
@@ -20,8 +22,12 @@ pub mod Shutting
 pub mod PairSteps
 pub mod PairRuns
 pub mod RecordLemmas
+pub mod Stands
+pub mod PairTraces
+pub mod LoneTraces
 pub mod Tracing
 pub mod Plain
+pub mod Retiring
 pub mod Lones
 pub mod LoneWalks
 pub mod LoneExchanges
@@ -30,3 +36,5 @@ pub mod LoneStarts
 pub mod LoneCalls
 pub mod LoneDoes
 pub mod LoneRuns
+pub mod BesideRuns
+pub mod BesideTraces

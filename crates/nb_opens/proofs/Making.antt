@@ -1,4 +1,4 @@
--- The two objects are made on an empty graph, and plugged.
+-- An object is made on an empty graph, or below a Fetch that waits, and then plugged.
 use Rattle.std.proofs.Common.{◌≡◌, ℕ, ◌+◌, ◌<◌, ◌≤◌, Bool, true, false, cond, eqb, List, [], ◌∷◌, length, Option, Some, refl, sym, ap, ◌∙◌, subst, arith}
 use Rattle.std.specs.Prelude.{Result, Ok, Err, IfOk}
 use Rattle.std.proofs.lemmas.Bool.{eq-eqb, ne_eqb}
@@ -24,8 +24,12 @@ use Rattle.nb_nodes.specs.declared.load.Load.{Load}
 use Rattle.nb_nodes.specs.declared.obj.Obj.{Obj}
 use Rattle.nb_nodes.specs.Objects.{obj_nature, rank_of_obj, kind_of_obj, mark_of_obj}
 use Rattle.nb_nodes.specs.Standing.{ObjStands}
-use Rattle.nb_opens.specs.Notices.{tells, made_notices}
-use Rattle.nb_opens.specs.Pairs.{IsEmpty, AreMade, IsUnharvested}
+use Rattle.nb_opens.specs.declared.waiter.Waiter.{Waiter}
+use Rattle.nb_opens.specs.declared.waiter.Waiter.TheVariants as waiter
+use Rattle.nb_opens.specs.Notices.{tells, serial, made_notices, completed_notices}
+use Rattle.nb_opens.specs.Pairs.{IsEmpty, AreMade}
+use Rattle.nb_opens.specs.Waiters.{waiter_serial, waiter_mark, IsOfKind, Waits}
+use Rattle.nb_opens.proofs.Keeping.{KeepsOne}
 use Rattle.nb_graph.specs.Hosts.{Hosts}
 use Rattle.nb_graph.proofs.MarkLemmas.{mark_stays}
 
@@ -68,8 +72,8 @@ pub record OneMade (g h : Objects Obj) (m n : Option (List Notice)) (x : ℕ) (n
   pub told : Given m n (tells (Made (record { 0 = x }) (kind_of_obj node)) ∷ tells (Held (record { 0 = x })) ∷ [])
   pub begins : ObjectStands ObjStands h x []
   pub keeps : (y : ℕ) → (y ≡ x → ⊥) → ObjectStands ObjStands g y [] → ObjectStands ObjStands h y []
-  pub unharvested : mark_of_obj node ≡ 0 → IsUnharvested h x
-  pub stay_unharvested : (y : ℕ) → (y ≡ x → ⊥) → IsUnharvested g y → IsUnharvested h y
+  pub own_mark : IsOfKind h x (mark_of_obj node)
+  pub marks : (y z : ℕ) → (y ≡ x → ⊥) → IsOfKind g y z → IsOfKind h y z
 
 here : (x : ℕ) → eqb x x ≡ true
 here x = eq-eqb x x refl
@@ -104,39 +108,56 @@ module _ (g h : Objects Obj) (m n : Option (List Notice)) (now : ℕ) (x : ObjId
         told = subst (λ z. Given m n (told_of z)) all k.tells;
         begins = λ c e. (subst (λ z. ObjStands z []) (let z : Some node ≡ Some c = sym is.is_node ∙ e in cc) stands, refl);
         keeps = λ y a up. subst (ObjectStands ObjStands h y) (ap (trace_after y []) all ∙ no_trace y x.0 node (kind_of_obj node) x) (k.keeps y [] up);
-        unharvested = λ zero c e. subst (λ z. mark_of_obj z ≡ 0) (let z : Some node ≡ Some c = sym is.is_node ∙ e in cc) zero;
-        stay_unharvested = λ y a. mark_stays obj_nature ObjStands (node_at g) (node_at h) y 0 (writes (Made x (kind_of_obj node)) ∷ begins x.0 node ∷ writes (Held x) ∷ []) (a, tt) (subst (λ z. Hosts obj_nature ObjStands (node_at g) z (node_at h)) all k.hosts);
+        own_mark = λ c e. subst (λ z. mark_of_obj z ≡ mark_of_obj node) (let z : Some node ≡ Some c = sym is.is_node ∙ e in cc) refl;
+        marks = λ y z a. mark_stays obj_nature ObjStands (node_at g) (node_at h) y z (writes (Made x (kind_of_obj node)) ∷ begins x.0 node ∷ writes (Held x) ∷ []) (a, tt) (subst (λ z. Hosts obj_nature ObjStands (node_at g) z (node_at h)) all k.hosts);
       }
 
-new_open : (z k : ℕ) (f : ℕ → ℕ → PortState) → k < 4 → ports_but z new_ports f z k ≡ port.Open
-new_open z k f lt = rw (here z) (grind arith)
+-- of another object all is as it was
+pub made_keeps : {g h : Objects Obj} {m n : Option (List Notice)} {x : ℕ} {node : Obj} (y : ℕ) → OneMade g h m n x node → (y ≡ x → ⊥) → y ≤ g.book.made → KeepsOne g h y
+made_keeps {x = x} y one apart old = record {
+  live = one.live y ∙ rw (ne_eqb y x apart) refl;
+  held = one.others y apart;
+  ports = λ k. one.ports y k ∙ rw (ne_eqb y x apart) refl;
+  ranks = one.ranks y apart old;
+  stands = one.keeps y apart;
+  marks = λ z. one.marks y z apart;
+}
 
--- two objects, of which the first was made on an empty graph
-module _ (g a b : Objects Obj) (m n o : Option (List Notice)) (x y : ℕ) (top low : Obj) where
-  pub room_left : IsEmpty g g.book.made → OneMade g a m n x top → length a.book.objects < a.book.room
-  room_left e one = omega (arith, one.number, one.room, e.none, e.room)
+-- what is made on an empty graph waits
+pub made_waits : {g h : Objects Obj} {m n : Option (List Notice)} {node : Obj} (v : Waiter) → IsEmpty g g.book.made → OneMade g h m n (waiter_serial v) node → rank_of_obj node ≡ 5 → mark_of_obj node ≡ waiter_mark v
+    → Waits h v (waiter_serial v)
+made_waits v e one five mark =
+    let x : ℕ = waiter_serial v in
+    record {
+      made_are = one.made;
+      given = omega arith;
+      one = omega (arith, one.number, e.none);
+      room = subst (λ z. 2 ≤ z) (sym one.room) e.room;
+      others = λ y a. one.live y ∙ rw (ne_eqb y x a) (e.dead y);
+      waiting = record {
+        lives = one.live x ∙ rw (here x) refl;
+        held = one.own;
+        ports = λ k. one.ports x k ∙ rw (here x) refl;
+        at_rank = one.at_rank ∙ five;
+        stands = one.begins;
+        of_kind = λ c i. one.own_mark c i ∙ mark;
+      };
+    }
 
-  -- the ports of the one that was made first, and of the other
-  pub first_open : OneMade g a m n x top → OneMade a b n o y low → (x ≡ y → ⊥) → (k : ℕ) → k < 4 → port_in b.book x k ≡ port.Open
-  first_open one two apart k lt = two.ports x k ∙ rw (ne_eqb x y apart) (one.ports x k ∙ new_open x k (port_in g.book) lt)
+-- so does a Fetch
+module _ (g h : Objects Obj) (m n : Option (List Notice)) (x : ObjId) (node : Obj) where
+  pub fetch_waits : IsEmpty g g.book.made → ObjStands node [] → rank_of_obj node ≡ 5 → mark_of_obj node ≡ 0 → IsMade g h node (rank_of_obj node) x → WentOne ObjStands obj_nature 0 (MustMake x node ∷ Wants (Held x) ∷ []) g h m n
+      → Waits h (waiter.Fetch x) h.book.made
+  fetch_waits e stands five zero made k =
+      let one = one_made g h m n 0 x node stands made k in
+      subst (λ z. Waits h (waiter.Fetch x) z) (sym one.made) (made_waits (waiter.Fetch x) e one five zero)
 
-  pub other_open : OneMade a b n o y low → (k : ℕ) → k < 4 → port_in b.book y k ≡ port.Open
-  other_open two k lt = two.ports y k ∙ new_open y k (port_in a.book) lt
-
-  pub first_lives : OneMade g a m n x top → object_lives a.book x ≡ true
-  first_lives one = one.live x ∙ rw (here x) refl
-
-  pub first_stays : OneMade g a m n x top → OneMade a b n o y low → (x ≡ y → ⊥) → object_lives b.book x ≡ true
-  first_stays one two apart = two.live x ∙ rw (ne_eqb x y apart) (first_lives one)
-
-  pub other_lives : OneMade a b n o y low → object_lives b.book y ≡ true
-  other_lives two = two.live y ∙ rw (here y) refl
-
-  pub first_rank : OneMade g a m n x top → OneMade a b n o y low → (x ≡ y → ⊥) → rank b.book x ≡ rank_of_obj top
-  first_rank one two apart = two.ranks x apart (omega (arith, one.made)) (first_lives one) ∙ one.at_rank
-
-  others_dead : IsEmpty g g.book.made → OneMade g a m n x top → OneMade a b n o y low → (z : ℕ) → (z ≡ x → ⊥) → (z ≡ y → ⊥) → object_lives b.book z ≡ false
-  others_dead e one two z p q = two.live z ∙ rw (ne_eqb z y q) (one.live z ∙ rw (ne_eqb z x p) (e.dead z))
+  -- and the outside is told of all
+  pub fetch_told : (q : Option (List Notice)) (y : ℕ) → ObjStands node [] → kind_of_obj node ≡ 1 → IsMade g h node (rank_of_obj node) x → WentOne ObjStands obj_nature 0 (MustMake x node ∷ Wants (Held x) ∷ []) g h m n
+      → Given n q (completed_notices x.0 y) → Given m q (made_notices x.0 y)
+  fetch_told q y stands kind made k more =
+      let one = one_made g h m n 0 x node stands made k in
+      Given-append m n q _ _ (subst (λ z. Given m n (tells (Made (record { 0 = x.0 }) z) ∷ tells (Held (record { 0 = x.0 })) ∷ [])) kind one.told) more
 
 -- the ports after they are plugged
 joined_ports : (x y : ℕ) (f : ℕ → ℕ → PortState) → ℕ → ℕ → PortState
@@ -150,11 +171,31 @@ lower_port : (x y k : ℕ) (f : ℕ → ℕ → PortState) → (x ≡ y → ⊥)
 unfolding joined_ports
 lower_port x y k f apart = rw (here y) (rw (ne_eqb y x (λ e. apart (sym e))) refl)
 
-module _ (g a b h : Objects Obj) (m n o q : Option (List Notice)) (now x y : ℕ) (top low : Obj) where
-  pub both_made : IsEmpty g g.book.made → OneMade g a m n x top → OneMade a b n o y low → y ≡ x + 1 → rank_of_obj top ≡ 5 → rank_of_obj low ≡ 2 → mark_of_obj top ≡ 0 → mark_of_obj low ≡ 0
+-- a Tftp was made while a Fetch waited, and the two are plugged
+module _ (a b h : Objects Obj) (n o q : Option (List Notice)) (now made x y : ℕ) (low : Obj) where
+  pub older : Waits a (waiter.Fetch (serial x)) made → y ≡ made + 1 → x < y
+  older w next = let i : x ≤ made = w.given in omega (arith, i, next)
+
+  first_kept : Waits a (waiter.Fetch (serial x)) made → OneMade a b n o y low → x < y → KeepsOne a b x
+  first_kept w two lt = let i : x ≤ made = w.given in made_keeps x two (λ e. omega (arith, e, lt)) (omega (arith, i, w.made_are))
+
+  pub ranks_fall : Waits a (waiter.Fetch (serial x)) made → OneMade a b n o y low → x < y → rank_of_obj low ≡ 2 → rank b.book y < rank b.book x
+  ranks_fall w two lt twos =
+      let kept = first_kept w two lt in
+      let upper : rank b.book x ≡ 5 = kept.ranks w.waiting.lives ∙ w.waiting.at_rank in
+      let lower : rank b.book y ≡ 2 = two.at_rank ∙ twos in
+      omega (arith, upper, lower)
+
+  pub upper_open : Waits a (waiter.Fetch (serial x)) made → OneMade a b n o y low → x < y → (k : ℕ) → port_in b.book x k ≡ new_ports k
+  upper_open w two lt k = (first_kept w two lt).ports k ∙ w.waiting.ports k
+
+  pub lower_open : OneMade a b n o y low → (k : ℕ) → port_in b.book y k ≡ new_ports k
+  lower_open two k = two.ports y k ∙ rw (here y) refl
+
+  pub both_made : Waits a (waiter.Fetch (serial x)) made → OneMade a b n o y low → x < y → rank_of_obj low ≡ 2 → mark_of_obj low ≡ 0
       → WentOne ObjStands obj_nature now (MustPlug (port_at x 1) (port_at y 0) ∷ []) b h o q → AreMade h x y × Given o q (tells (Plugged (port_at x 1) (port_at y 0)) ∷ [])
   unfolding joined_ports
-  both_made e one two next five twos zero bare k =
+  both_made w two lt twos bare k =
       let asks : List (Stage Obj Load) = MustPlug (port_at x 1) (port_at y 0) ∷ [] in
       let call = only_call obj_nature (scene_of b.book) (scene_of h.book) (record { now = now; asks = asks }) k.deeds k.each in
       let did = plugged_deeds now (scene_of b.book) (scene_of h.book) (port_at x 1) (port_at y 0) call.0 call.2 in
@@ -162,71 +203,55 @@ module _ (g a b h : Objects Obj) (m n o q : Option (List Notice)) (now x y : ℕ
       let run : GraphRunOf (run_state b.book []) (Plugged (port_at x 1) (port_at y 0) ∷ []) (run_state h.book []) =
       subst (λ z. GraphRunOf (run_state b.book []) z (run_state h.book [])) (sym k.events ∙ ap events_of all) k.runs.run in
       let held : (z : ℕ) → holds h.book z ≡ holds b.book z = λ z. ap (λ (f : ℕ → ℕ). f z) (plugged_holds (port_at x 1) (port_at y 0) (run_state b.book []) (run_state h.book []) run) in
-      let apart : x ≡ y → ⊥ = λ e. omega (arith, e, next) in
+      let apart : x ≡ y → ⊥ = λ e. omega (arith, e, lt) in
+      let kept = first_kept w two lt in
       let live : (z : ℕ) → object_lives h.book z ≡ object_lives b.book z = λ z. sym (ap (λ (s : Scene). s.live z) did.1) in
       let ports : (z i : ℕ) → port_in h.book z i ≡ joined_ports x y (port_in b.book) z i = λ z i. sym (ap (λ (s : Scene). s.port z i) did.1) in
-      let lives-x : object_lives h.book x ≡ true = live x ∙ first_stays g a b m n o x y top low one two apart in
-      let lives-y : object_lives h.book y ≡ true = live y ∙ other_lives g a b m n o x y top low two in
+      let lives-x : object_lives h.book x ≡ true = live x ∙ (kept.live ∙ w.waiting.lives) in
+      let lives-y : object_lives h.book y ≡ true = live y ∙ (two.live y ∙ rw (here y) refl) in
       let upper : (i : ℕ) → port_in h.book x i ≡ cond (eqb i 1) (port.Linked (port_at y 0)) (port_in b.book x i) = λ i. ports x i ∙ upper_port x y i (port_in b.book) apart in
       let lower : (i : ℕ) → port_in h.book y i ≡ cond (eqb i 0) (port.Linked (port_at x 1)) (port_in b.book y i) = λ i. ports y i ∙ lower_port x y i (port_in b.book) apart in
-      let fresh = first_open g a b m n o x y top low one two apart in
-      let other = other_open g a b m n o x y top low two in (
+      let fresh = upper_open w two lt in
+      let other = lower_open two in (
         record {
           joined = record {
             two = record {
-              next = next;
+              older = lt;
               last = sym (ap (λ (s : Scene). s.made) did.1) ∙ two.made;
-              room = subst (λ z. 2 ≤ z) (sym (sym (ap (λ (s : Scene). s.room) did.1) ∙ two.room ∙ one.room)) e.room;
+              room = subst (λ z. 2 ≤ z) (sym (sym (ap (λ (s : Scene). s.room) did.1) ∙ two.room)) w.room;
               fetch_lives = lives-x;
               tftp_lives = lives-y;
-              alone = λ z i j. live z ∙ others_dead g a b m n o x y top low e one two z i j;
-              fetch_held = held x ∙ two.others x apart ∙ one.own;
+              alone = λ z i j. live z ∙ (two.live z ∙ rw (ne_eqb z y j) (w.others z i));
+              fetch_held = held x ∙ (kept.held ∙ w.waiting.held);
               tftp_held = held y ∙ two.own;
-              fetch_rank = (k.ages.kept x (omega (arith, two.made, next)) lives-x).1 ∙ first_rank g a b m n o x y top low one two apart ∙ five;
+              fetch_rank = (k.ages.kept x (omega (arith, two.made, lt)) lives-x).1 ∙ (kept.ranks w.waiting.lives ∙ w.waiting.at_rank);
               tftp_rank = (k.ages.kept y (omega (arith, two.made)) lives-y).1 ∙ two.at_rank ∙ twos;
-              fetch_2 = upper 2 ∙ fresh 2 (omega arith);
-              fetch_3 = upper 3 ∙ fresh 3 (omega arith);
-              tftp_2 = lower 2 ∙ other 2 (omega arith);
-              tftp_3 = lower 3 ∙ other 3 (omega arith);
+              fetch_2 = upper 2 ∙ fresh 2;
+              fetch_3 = upper 3 ∙ fresh 3;
+              tftp_2 = lower 2 ∙ other 2;
+              tftp_3 = lower 3 ∙ other 3;
             };
-            user = upper 0 ∙ fresh 0 (omega arith);
+            user = upper 0 ∙ fresh 0;
             link = upper 1;
             back = lower 0;
-            below = lower 1 ∙ other 1 (omega arith);
+            below = lower 1 ∙ other 1;
           };
-          fetch = subst (ObjectStands ObjStands h x) (ap (trace_after x []) all) (k.keeps x [] (two.keeps x apart one.begins));
+          fetch = subst (ObjectStands ObjStands h x) (ap (trace_after x []) all) (k.keeps x [] (kept.stands w.waiting.stands));
           tftp = subst (ObjectStands ObjStands h y) (ap (trace_after y []) all) (k.keeps y [] two.begins);
           unharvested = (
-            mark_stays obj_nature ObjStands (node_at b) (node_at h) x 0 (writes (Plugged (port_at x 1) (port_at y 0)) ∷ []) tt (subst (λ z. Hosts obj_nature ObjStands (node_at b) z (node_at h)) all k.hosts) (two.stay_unharvested x apart (one.unharvested zero)),
-            mark_stays obj_nature ObjStands (node_at b) (node_at h) y 0 (writes (Plugged (port_at x 1) (port_at y 0)) ∷ []) tt (subst (λ z. Hosts obj_nature ObjStands (node_at b) z (node_at h)) all k.hosts) (two.unharvested bare),
+            mark_stays obj_nature ObjStands (node_at b) (node_at h) x 0 (writes (Plugged (port_at x 1) (port_at y 0)) ∷ []) tt (subst (λ z. Hosts obj_nature ObjStands (node_at b) z (node_at h)) all k.hosts) (kept.marks 0 w.waiting.of_kind),
+            mark_stays obj_nature ObjStands (node_at b) (node_at h) y 0 (writes (Plugged (port_at x 1) (port_at y 0)) ∷ []) tt (subst (λ z. Hosts obj_nature ObjStands (node_at b) z (node_at h)) all k.hosts) (λ c i. two.own_mark c i ∙ bare),
           );
         },
         subst (λ z. Given o q (told_of z)) all k.tells,
       )
 
   -- and what the outside is told
-  pub all_told : OneMade g a m n x top → OneMade a b n o y low → Given o q (tells (Plugged (port_at x 1) (port_at y 0)) ∷ []) → kind_of_obj top ≡ 1 → kind_of_obj low ≡ 4
-      → Given m q (made_notices x y)
-  all_told one two plugged i j =
-      let first : Given m n (tells (Made (record { 0 = x }) 1) ∷ tells (Held (record { 0 = x })) ∷ []) =
-      subst (λ z. Given m n (tells (Made (record { 0 = x }) z) ∷ tells (Held (record { 0 = x })) ∷ [])) i one.told in
+  pub all_told : OneMade a b n o y low → Given o q (tells (Plugged (port_at x 1) (port_at y 0)) ∷ []) → kind_of_obj low ≡ 4 → Given n q (completed_notices x y)
+  all_told two plugged j =
       let other : Given n o (tells (Made (record { 0 = y }) 4) ∷ tells (Held (record { 0 = y })) ∷ []) =
       subst (λ z. Given n o (tells (Made (record { 0 = y }) z) ∷ tells (Held (record { 0 = y })) ∷ [])) j two.told in
-      Given-append m n q _ _ first (Given-append n o q _ _ other plugged)
-
--- two objects were made, one after the other
-pub record TwoMade (g a b : Objects Obj) (m n o : Option (List Notice)) (x y : ℕ) (top low : Obj) : Type 0 where
-  pub one : OneMade g a m n x top
-  pub two : OneMade a b n o y low
-  pub next : y ≡ x + 1
-  pub apart : x ≡ y → ⊥
-
-pub two_made : (g a b : Objects Obj) (m n o : Option (List Notice)) (x y : ObjId) (top low : Obj) → ObjStands top [] → ObjStands low [] → IsMade g a top (rank_of_obj top) x → IsMade a b low (rank_of_obj low) y
-    → WentOne ObjStands obj_nature 0 (MustMake x top ∷ Wants (Held x) ∷ []) g a m n → WentOne ObjStands obj_nature 0 (MustMake y low ∷ Wants (Held y) ∷ []) a b n o → TwoMade g a b m n o x.0 y.0 top low
-two_made g a b m n o x y top low s t i j k l =
-    let one = one_made g a m n 0 x top s i k in
-    let next : y.0 ≡ x.0 + 1 = omega (arith, j.serial, one.made) in
-    record { one = one; two = one_made a b n o 0 y low t j l; next = next; apart = λ e. omega (arith, e, next) }
+      Given-append n o q _ _ other plugged
 
 -- a new graph is empty
 new_empty : (room : ℕ) → 2 ≤ room → IsEmpty (record { book = record { made = 0; room = room; objects = [] }; nodes = [] }) 0

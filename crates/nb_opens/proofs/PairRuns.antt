@@ -1,5 +1,5 @@
 -- The events of an open's two objects are runs of the graph.
-use Rattle.std.proofs.Common.{inl, inr, ◌≡◌, ℕ, ◌+◌, ◌≤◌, ◌==◌, true, List, [], ◌∷◌, ◌++◌, Option, Some, None, refl, sym, ◌∙◌, subst, arith, if◌then◌else◌}
+use Rattle.std.proofs.Common.{inl, inr, ◌≡◌, ℕ, ◌+◌, ◌<◌, ◌≤◌, ◌==◌, true, List, [], ◌∷◌, ◌++◌, Option, Some, None, refl, sym, ◌∙◌, subst, arith, if◌then◌else◌}
 use Rattle.std.proofs.lemmas.Bool.{ne_eqb}
 use Rattle.std.proofs.lemmas.Bool.Decides.{eqb_tells, nat_tests}
 use Rattle.nb_terms.specs.declared.cause.Cause.{Cause}
@@ -51,23 +51,23 @@ pub record Sides (a : Thing) (p q : PortState) : Type 0 where
   pub slot_3 : a.slots 3 ≡ port.Open
   pub beyond : (k : ℕ) → 4 ≤ k → a.slots k ≡ port.Closed
 
-sides_new : Sides (record fresh { held = 1 }) port.Open port.Open
+pub sides_new : Sides (record fresh { held = 1 }) port.Open port.Open
 sides_new = record { lives = refl; held = refl; slot_0 = refl; slot_1 = refl; slot_2 = refl; slot_3 = refl; beyond = λ k h. grind (arith, nat_tests) }
 
 sides_living : (p q : PortState) → Sides (living p q) p q
 sides_living p q = record { lives = refl; held = refl; slot_0 = refl; slot_1 = refl; slot_2 = refl; slot_3 = refl; beyond = λ k h. grind (arith, nat_tests) }
 
-at_0 : {a : Thing} {p q : PortState} (v : PortState) → Sides a p q → Sides (ported 0 v a) v q
+pub at_0 : {a : Thing} {p q : PortState} (v : PortState) → Sides a p q → Sides (ported 0 v a) v q
 at_0 v i = record { lives = i.lives; held = i.held; slot_0 = refl; slot_1 = i.slot_1; slot_2 = i.slot_2; slot_3 = i.slot_3; beyond = λ k h. rw (ne_eqb k 0 (omega arith)) (i.beyond k h) }
 
-at_1 : {a : Thing} {p q : PortState} (v : PortState) → Sides a p q → Sides (ported 1 v a) p v
+pub at_1 : {a : Thing} {p q : PortState} (v : PortState) → Sides a p q → Sides (ported 1 v a) p v
 at_1 v i = record { lives = i.lives; held = i.held; slot_0 = i.slot_0; slot_1 = refl; slot_2 = i.slot_2; slot_3 = i.slot_3; beyond = λ k h. rw (ne_eqb k 1 (omega arith)) (i.beyond k h) }
 
 -- what is known of the two, in the words of the steps and of the runs
 as_two : {s : GraphState} {f t : ℕ} {f0 f1 t0 t1 : PortState} → IsPair s f t f0 f1 t0 t1 → Two s f t t (living f0 f1) (living t0 t1) []
 as_two {s = s} {f = f} {t = t} {f0 = f0} {f1 = f1} {t0 = t0} {t1 = t1} j = record {
   made = j.made;
-  apart = λ e. omega (arith, j.next, e);
+  apart = λ e. omega (arith, j.older, e);
   live_f = j.live_f;
   live_t = j.live_t;
   live_other = j.live_other;
@@ -80,10 +80,10 @@ as_two {s = s} {f = f} {t = t} {f0 = f0} {f1 = f1} {t0 = t0} {t1 = t1} j = recor
   stack = j.stack;
 }
 
-as_pair : {s : GraphState} {f t : ℕ} {a b : Thing} {f0 f1 t0 t1 : PortState} → Two s f t t a b [] → t ≡ f + 1 → Sides a f0 f1 → Sides b t0 t1 → IsPair s f t f0 f1 t0 t1
-as_pair {s = s} {f = f} {t = t} {a = a} j next x y = record {
+pub as_pair : {s : GraphState} {f t : ℕ} {a b : Thing} {f0 f1 t0 t1 : PortState} → Two s f t t a b [] → f < t → Sides a f0 f1 → Sides b t0 t1 → IsPair s f t f0 f1 t0 t1
+as_pair {s = s} {f = f} {t = t} {a = a} j older x y = record {
   made = j.made;
-  next = next;
+  older = older;
   live_f = j.live_f ∙ x.lives;
   live_t = j.live_t ∙ y.lives;
   live_other = j.live_other;
@@ -159,14 +159,14 @@ run_made s n f t none ef et =
     let two = from_none f t (λ e. omega (arith, next, e)) none in
     runs (λ u. IsJoined u f t) (made_events f t)
     (make two tt ef (λ u j. hold j tt refl (λ u j. make (swap j) tt next (λ u j. hold j tt refl (λ u j. plug (swap j) tt (omega arith) refl refl (λ u j.
-    ends (as_pair j next (at_1 _ sides_new) (at_0 _ sides_new))))))))
+    ends (as_pair j (omega (arith, next)) (at_1 _ sides_new) (at_0 _ sides_new))))))))
 
 -- an entry from above, and then one of the object below
 pub run_begun : (s : GraphState) (f t : ℕ) → IsJoined s f t → RunsTo s (begun_front f t ++ begun_back f t) (λ u. IsJoined u f t)
 run_begun s f t pair =
     runs (λ u. IsJoined u f t) (begun_front f t ++ begun_back f t)
     (enter (as_two pair) tt (refl, tt) (λ u j. enter (swap j) tt (refl, tt) (λ u j. leave j (omega arith) (λ u j. leave (swap j) (omega arith) (λ u j.
-    ends (as_pair j pair.next (sides_living _ _) (sides_living _ _)))))))
+    ends (as_pair j pair.older (sides_living _ _) (sides_living _ _)))))))
 
 -- The Tftp is entered: what follows is to be shown of the state with that entry, in which one that ends is the last.
 in_call : {Q : GraphState → Type 0} {s : GraphState} {f t : ℕ} {a b : Thing} {es : List GraphEvent} (p : Port) (by : Way)
@@ -200,7 +200,7 @@ pub run_call : (s : GraphState) (f t : ℕ) (p : Port) (by : Way) (give : Option
 run_call s f t p by give pair calls =
     runs (λ u. IsJoined u f t) (call_front p by ++ (up_events f give ++ call_back p))
     (in_call p by (as_two pair) refl refl calls (λ slot u e j. goes_up give j tt (omega arith) tt (λ u j. out_call p e j (omega arith) (λ u j.
-    ends (as_pair j pair.next (sides_living _ _) (sides_living _ _))))))
+    ends (as_pair j pair.older (sides_living _ _) (sides_living _ _))))))
 
 -- a call in which the transfer ends
 pub run_end : (s : GraphState) (f t : ℕ) (p : Port) (by : Way) (give : Option (ℕ × ℕ)) (c : Cause) → IsJoined s f t → CallsBy t p by
@@ -211,7 +211,7 @@ run_end s f t p by give c pair calls =
     close_first (port_at f 1) (swap j) tt refl (λ u j. close_peer (port_at t 0) (swap j) refl (λ u j.
     enter_closed j (λ u j. close_alone j tt refl (λ u j. leave j (omega arith) (λ u j.
     unplug (swap j) (omega arith) (omega arith) (λ u j. close_alone j tt refl (λ u j. out_call p e (swap j) (omega arith) (λ u j.
-    ends (as_pair j pair.next (at_1 _ (at_0 _ (at_1 _ (sides_living _ _)))) (at_1 _ (at_0 _ (at_0 _ (sides_living _ _))))))))))))))))
+    ends (as_pair j pair.older (at_1 _ (at_0 _ (at_1 _ (sides_living _ _)))) (at_1 _ (at_0 _ (at_0 _ (sides_living _ _))))))))))))))))
 
 -- a call in which the file is found to be too large, and in which the transfer goes on or ends
 pub run_large : (s : GraphState) (f t : ℕ) (p : Port) (by : Way) (big : Cause) (over : Option Cause) → IsJoined s f t → CallsBy t p by
@@ -222,14 +222,14 @@ run_large s f t p by big None pair calls =
     close_first (port_at t 0) j tt refl (λ u j. close_peer (port_at f 1) (swap j) refl (λ u j. enter_closed j (λ u j.
     close_alone j tt refl (λ u j. leave j (omega arith) (λ u j. unplug (swap j) (omega arith) (omega arith) (λ u j.
     drop_at j tt refl (leave j (omega arith) (λ u j. out_call p e j (omega arith) (λ u j.
-    ends (as_pair j pair.next (at_1 _ (at_1 _ (at_0 _ (sides_living _ _)))) (at_0 _ (at_1 _ (at_0 _ (sides_living _ _))))))))))))))))))
+    ends (as_pair j pair.older (at_1 _ (at_1 _ (at_0 _ (sides_living _ _)))) (at_0 _ (at_1 _ (at_0 _ (sides_living _ _))))))))))))))))))
 run_large s f t p by big (Some c) pair calls =
     runs (λ u. IsShutPair u f t) (large_events f t p by big (Some c))
     (in_call p by (as_two pair) refl refl calls (λ slot u e j. enter j tt (omega arith, omega arith, tt) (λ u j. close_alone j tt refl (λ u j.
     close_first (port_at t 0) j tt refl (λ u j. close_peer (port_at f 1) (swap j) refl (λ u j. enter_closed j (λ u j.
     leave j (omega arith) (λ u j. unplug (swap j) (omega arith) (omega arith) (λ u j.
     drop_at j tt refl (leave j (omega arith) (λ u j. close_alone (swap j) tt refl (λ u j. out_call p e (swap j) (omega arith) (λ u j.
-    ends (as_pair j pair.next (at_1 _ (at_1 _ (at_0 _ (sides_living _ _)))) (at_1 _ (at_0 _ (at_0 _ (sides_living _ _))))))))))))))))))
+    ends (as_pair j pair.older (at_1 _ (at_1 _ (at_0 _ (sides_living _ _)))) (at_1 _ (at_0 _ (at_0 _ (sides_living _ _))))))))))))))))))
 
 -- the user closes both ports
 pub run_closed : (s : GraphState) (f t : ℕ) (c : Cause) → IsJoined s f t → RunsTo s (closed_events f t c) (λ u. IsShutPair u f t)
@@ -237,7 +237,7 @@ run_closed s f t c pair =
     runs (λ u. IsShutPair u f t) (closed_events f t c)
     (close_alone (as_two pair) tt refl (λ u j. close_first (port_at t 0) j tt refl (λ u j. close_peer (port_at f 1) (swap j) refl (λ u j.
     enter_closed j (λ u j. close_alone j tt refl (λ u j. leave j (omega arith) (λ u j. unplug (swap j) (omega arith) (omega arith) (λ u j.
-    ends (as_pair j pair.next (at_1 _ (at_1 _ (at_0 _ (sides_living _ _)))) (at_0 _ (at_1 _ (at_0 _ (sides_living _ _)))))))))))))
+    ends (as_pair j pair.older (at_1 _ (at_1 _ (at_0 _ (sides_living _ _)))) (at_0 _ (at_1 _ (at_0 _ (sides_living _ _)))))))))))))
 
 -- both are let go, and freed
 goes_freed : {s : GraphState} {f t : ℕ} {a b : Thing} → Two s f t t a b [] → a.held ≡ 1 → b.held ≡ 1

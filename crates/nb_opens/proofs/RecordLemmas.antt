@@ -7,9 +7,10 @@ use Rattle.nb_ledger.specs.Flat.{flat}
 use Rattle.nb_ledger.specs.declared.event.GraphEvent.{GraphEvent}
 use Rattle.nb_ledger.specs.GraphRun.{GraphState}
 use Rattle.nb_ledger.proofs.RunLemmas.{Run-append}
-use Rattle.nb_opens.specs.PairEvents.{RunsTo, freed_events}
-use Rattle.nb_opens.specs.Graphs.{GraphAt, traced, fetch_of, tftp_of, IsAside, AreAside, IsSent, AreSent, IsReply, IsCommand, IsOpening}
-use Rattle.nb_opens.specs.Traces.{event_in, events_in, close_in, first_of, first_closed, no_objects, StandsAt, AreRun, HasBegun, EndsBy, IsMadeFor, EndTheirOpens, HaveObjects}
+use Rattle.nb_opens.specs.PairEvents.{RunsTo}
+use Rattle.nb_opens.specs.Graphs.{GraphAt, Cast, cast_freed, IsCastOf, traced, IsAside, AreAside, IsSent, AreSent, IsReply, IsCommand, IsOpening}
+use Rattle.nb_opens.specs.Traces.{event_in, events_in, close_in, first_of, first_closed, no_objects, StandsAt, AreRun, HasBegun, EndsBy, IsMadeFor, EndTheirOpens, HaveObjects, HaveNoCommand, MadeSince}
+use Rattle.nb_opens.specs.declared.waiter.Waiter.{Waiter}
 
 -- a COMMAND concerns nothing of the graph
 pub command_aside : (o : Out) → IsCommand o → IsAside o
@@ -28,10 +29,10 @@ event_aside (ended number cause) h = absurd h
 event_aside (step number) h = refl
 event_aside _ h = refl
 
-event_opening : (k : ℕ) (o : Out) → IsOpening k o → event_in o ≡ []
-event_opening k (opened number kind server port own target) h = refl
-event_opening k (step number) h = absurd h
-event_opening k _ h = absurd h
+event_opening : (k : ℕ) (cast : Cast) (o : Out) → IsOpening k cast o → event_in o ≡ []
+event_opening k cast (opened number kind server port own target) h = refl
+event_opening k cast (step number) h = absurd h
+event_opening k cast _ h = absurd h
 
 events_append : (xs ys : List Out) → events_in (xs ++ ys) ≡ events_in xs ++ events_in ys
 events_append [] ys = refl
@@ -66,8 +67,8 @@ spells_append {es = es} {fs = fs} {xs = xs} {ys = ys} a b =
 pub spells_aside : {fs : List GraphEvent} {ys : List Out} (xs : List Out) → AreAside xs → Spells fs ys → Spells fs (xs ++ ys)
 spells_aside xs h b = spells_append (spells_none xs h) b
 
-pub spells_opening : {fs : List GraphEvent} {ys : List Out} (k : ℕ) (o : Out) → IsOpening k o → Spells fs ys → Spells fs ((o ∷ []) ++ ys)
-spells_opening {ys = ys} k o h b = record { are = b.are ∙ ap (λ z. z ++ events_in ys) (sym (event_opening k o h)) }
+pub spells_opening : {fs : List GraphEvent} {ys : List Out} (k : ℕ) (cast : Cast) (o : Out) → IsOpening k cast o → Spells fs ys → Spells fs ((o ∷ []) ++ ys)
+spells_opening {ys = ys} k cast o h b = record { are = b.are ∙ ap (λ z. z ++ events_in ys) (sym (event_opening k cast o h)) }
 
 -- a run goes on
 pub run_on : {outs added : List Out} {es : List GraphEvent} {p : GraphAt} (q : GraphAt) → AreRun outs p → Spells es added
@@ -114,55 +115,54 @@ pub quiet_append : {xs ys : List Out} → Quiet xs → Quiet ys → Quiet (xs ++
 quiet_append {xs = xs} {ys = ys} a b = record { none = closed_append xs ys ∙ ap (λ z. first_of z (first_closed ys)) a.none ∙ b.none }
 
 -- the open k has begun, and nothing was closed since
-pub record Begun (outs : List Out) (k : ℕ) : Type 0 where
+pub record Begun (outs : List Out) (k : ℕ) (cast : Cast) : Type 0 where
   pub since : List Out
-  pub begun : HasBegun outs k since
+  pub begun : HasBegun outs k cast since
   pub none : Quiet since
 
 -- the open k has begun, and the first close since has this cause
-pub record Closes (outs : List Out) (k : ℕ) (cause : Cause) : Type 0 where
+pub record Closes (outs : List Out) (k : ℕ) (cast : Cast) (cause : Cause) : Type 0 where
   pub since : List Out
-  pub begun : HasBegun outs k since
+  pub begun : HasBegun outs k cast since
   pub first : first_closed since ≡ Some cause
 
-begun_since : {outs since : List Out} {k : ℕ} (added : List Out) → HasBegun outs k since → HasBegun (outs ++ added) k (since ++ added)
+begun_since : {outs since : List Out} {k : ℕ} {cast : Cast} (added : List Out) → HasBegun outs k cast since → HasBegun (outs ++ added) k cast (since ++ added)
 begun_since {since = since} {k = k} added b = record {
   before = b.before;
-  asks = b.asks;
   opens = b.opens;
-  is_command = b.is_command;
+  made = b.made;
   is_opening = b.is_opening;
   all = ap (λ z. z ++ added) b.all ∙ simp append_assoc;
 }
 
-pub begun_on : {outs : List Out} {k : ℕ} (added : List Out) → Begun outs k → Quiet added → Begun (outs ++ added) k
+pub begun_on : {outs : List Out} {k : ℕ} {cast : Cast} (added : List Out) → Begun outs k cast → Quiet added → Begun (outs ++ added) k cast
 begun_on added b h = record { since = b.since ++ added; begun = begun_since added b.begun; none = quiet_append b.none h }
 
-pub closes_in : {outs : List Out} {k : ℕ} {cause : Cause} (added : List Out) → Begun outs k → first_closed added ≡ Some cause → Closes (outs ++ added) k cause
+pub closes_in : {outs : List Out} {k : ℕ} {cast : Cast} {cause : Cause} (added : List Out) → Begun outs k cast → first_closed added ≡ Some cause → Closes (outs ++ added) k cast cause
 closes_in added b h = record {
   since = b.since ++ added;
   begun = begun_since added b.begun;
   first = closed_append b.since added ∙ ap (λ z. first_of z (first_closed added)) b.none.none ∙ h;
 }
 
-pub closes_on : {outs : List Out} {k : ℕ} {cause : Cause} (added : List Out) → Closes outs k cause → Closes (outs ++ added) k cause
+pub closes_on : {outs : List Out} {k : ℕ} {cast : Cast} {cause : Cause} (added : List Out) → Closes outs k cast cause → Closes (outs ++ added) k cast cause
 closes_on added b = record {
   since = b.since ++ added;
   begun = begun_since added b.begun;
   first = closed_append b.since added ∙ ap (λ z. first_of z (first_closed added)) b.first;
 }
 
-pub ends_by : {outs : List Out} {k : ℕ} {cause : Cause} → Closes outs k cause → EndsBy (outs ++ traced (freed_events (fetch_of k) (tftp_of k))) k cause
+pub ends_by : {outs : List Out} {k : ℕ} {cause : Cause} (cast : Cast) → Closes outs k cast cause → EndsBy (outs ++ traced (cast_freed cast)) k cause
 unfolding closes_on
-ends_by {k = k} b =
-    let on = closes_on (traced (freed_events (fetch_of k) (tftp_of k))) b in
-    record { since = on.since; begun = on.begun; first = on.first; earlier = b.since; freed = refl }
+ends_by cast b =
+    let on = closes_on (traced (cast_freed cast)) b in
+    record { cast = cast; since = on.since; begun = on.begun; first = on.first; earlier = b.since; freed = refl }
 
 -- each OPEN and each ENDED
 
 -- what stands before this record is as it says
 abbrev pub Says : List Out → Out → Type 0
-Says before (opened number kind server port own target) = IsMadeFor before number
+Says before (opened number kind server port own target) = IsMadeFor before kind
 Says before (ended number cause) = EndsBy before number cause
 Says before (step number) = Unit {0}
 Says before _ = Unit {0}
@@ -182,15 +182,14 @@ says_aside before (ended number cause) h = absurd h
 says_aside before (step number) h = tt
 says_aside before _ h = tt
 
-says_opening : (before : List Out) (k : ℕ) (o : Out) → IsOpening k o → IsMadeFor before k → Says before o
-says_opening before k (opened number kind server port own target) h m = subst (λ z. IsMadeFor before z) (sym h) m
-says_opening before k (step number) h m = absurd h
-says_opening before k _ h m = absurd h
+-- those were made last, behind a COMMAND
+pub record MadeLast (before : List Out) (cast : Cast) : Type 0 where
+  pub made_for : (kind : ℕ) → IsCastOf kind cast → IsMadeFor before kind
 
-said_opening : (before : List Out) (k : ℕ) (o : Out) → IsOpening k o → Says before o → IsMadeFor before k
-said_opening before k (opened number kind server port own target) h m = subst (λ z. IsMadeFor before z) h m
-said_opening before k (step number) h m = absurd h
-said_opening before k _ h m = absurd h
+says_opening : (before : List Out) (k : ℕ) (cast : Cast) (o : Out) → IsOpening k cast o → MadeLast before cast → Says before o
+says_opening before k cast (opened number kind server port own target) h m = m.made_for kind h.1
+says_opening before k cast (step number) h m = absurd h
+says_opening before k cast _ h m = absurd h
 
 append_says : (before xs ys : List Out) → EachSays before xs → EachSays (before ++ xs) ys → EachSays before (xs ++ ys)
 append_says before [] ys a b = subst (λ z. EachSays z ys) (append-nil before) b
@@ -221,19 +220,79 @@ each_aside {before = before} outs h = record { each = aside_says before outs h }
 pub each_traced : {before : List Out} (es : List GraphEvent) → EachOut before (traced es)
 each_traced {before = before} es = record { each = traced_says before es }
 
-pub each_opening : {before : List Out} (k : ℕ) (o : Out) → IsOpening k o → IsMadeFor before k → EachOut before (o ∷ [])
-each_opening {before = before} k o h m = record { each = (says_opening before k o h m, tt) }
+pub each_opening : {before : List Out} (k : ℕ) (cast : Cast) (o : Out) → IsOpening k cast o → MadeLast before cast → EachOut before (o ∷ [])
+each_opening {before = before} k cast o h m = record { each = (says_opening before k cast o h m, tt) }
 
 pub each_ended : {before : List Out} {k : ℕ} {cause : Cause} → EndsBy before k cause → EachOut before (ended k cause ∷ [])
 each_ended e = record { each = (e, tt) }
 
 -- and this is all that is asked of them
 pub each_has_objects : (outs : List Out) → EachOut [] outs → HaveObjects outs
-each_has_objects outs e = λ before after o k h at.
-    said_opening before k o h (says_at [] before after o (subst (λ z. EachSays [] z) at e.each))
+each_has_objects outs e = λ before after k kind server port own target at.
+    says_at [] before after (opened k kind server port own target) (subst (λ z. EachSays [] z) at e.each)
 
 pub each_ends : (outs : List Out) → EachOut [] outs → EndTheirOpens outs
 each_ends outs e = λ before after k cause at. says_at [] before after (ended k cause) (subst (λ z. EachSays [] z) at e.each)
+
+-- no COMMAND is among them
+command_sent : (o : Out) → IsSent o → IsCommand o → ⊥
+command_sent (sent bytes) h c = c
+command_sent (tried number count) h c = c
+command_sent (advanced number place) h c = c
+command_sent (graph happens) h c = h
+command_sent (opened number kind server port own target) h c = h
+command_sent (ended number cause) h c = h
+command_sent (step number) h c = h
+command_sent (text bytes) h c = h
+command_sent (command depth line place expanded words) h c = h
+command_sent (result cause) h c = h
+command_sent (script what depth cause) h c = h
+command_sent (part kind index offset bytes) h c = h
+command_sent (done status) h c = h
+
+pub none_sent : (outs : List Out) → AreSent outs → HaveNoCommand outs
+none_sent [] h = tt
+none_sent (o ∷ outs) h = (command_sent o h.0, none_sent outs h.1)
+
+pub none_traced : (es : List GraphEvent) → HaveNoCommand (traced es)
+none_traced [] = tt
+none_traced (e ∷ es) = ((λ c. c), none_traced es)
+
+pub none_reply : (n : ℕ) (outs : List Out) → IsReply outs → HaveNoCommand (step n ∷ outs)
+none_reply n [] h = ((λ c. c), tt)
+none_reply n (sent bytes ∷ []) h = ((λ c. c), ((λ c. c), tt))
+none_reply n (sent bytes ∷ o ∷ outs) h = absurd h
+none_reply n (graph happens ∷ outs) h = absurd h
+none_reply n (opened number kind server port own target ∷ outs) h = absurd h
+none_reply n (ended number cause ∷ outs) h = absurd h
+none_reply n (step number ∷ outs) h = absurd h
+none_reply n (text bytes ∷ outs) h = absurd h
+none_reply n (command depth line place expanded words ∷ outs) h = absurd h
+none_reply n (result cause ∷ outs) h = absurd h
+none_reply n (script what depth cause ∷ outs) h = absurd h
+none_reply n (tried number count ∷ outs) h = absurd h
+none_reply n (advanced number place ∷ outs) h = absurd h
+none_reply n (part kind index offset bytes ∷ outs) h = absurd h
+none_reply n (done status ∷ outs) h = absurd h
+
+pub none_append : (xs ys : List Out) → HaveNoCommand xs → HaveNoCommand ys → HaveNoCommand (xs ++ ys)
+none_append [] ys a b = b
+none_append (x ∷ xs) ys a b = (a.0, none_append xs ys a.1 b)
+
+-- what waits still waits after records without a COMMAND
+pub since_on : {outs : List Out} {v : Waiter} (added : List Out) → MadeSince outs v → HaveNoCommand added → MadeSince (outs ++ added) v
+since_on added m h = record {
+  earlier = m.earlier;
+  asks = m.asks;
+  opens = m.opens;
+  looked = m.looked ++ added;
+  number = m.number;
+  resolver = m.resolver;
+  is_command = m.is_command;
+  is_opening = m.is_opening;
+  none = none_append m.looked added m.none h;
+  all = ap (λ z. z ++ added) m.all ∙ simp append_assoc;
+}
 
 -- what is sent doesn't begin or end an open
 sent_one : (o : Out) → IsSent o → IsAside o

@@ -1,5 +1,5 @@
 -- What is seen of the two objects of an open, and what closes leave of that.
-use Rattle.std.proofs.Common.{◌≡◌, ℕ, ◌+◌, ◌≤◌, true, false, refl, ◌∙◌, subst, arith}
+use Rattle.std.proofs.Common.{◌≡◌, ℕ, ◌<◌, ◌≤◌, true, false, refl, ◌∙◌, subst, arith}
 use Rattle.std.proofs.lemmas.Bool.{eq-eqb, ne_eqb}
 use Rattle.nb_terms.specs.declared.cause.Cause.{Cause}
 use Rattle.nb_ledger.specs.declared.port.PortState.{PortState}
@@ -14,7 +14,7 @@ use Rattle.nb_opens.specs.Pairs.{AreTwo, AreJoined, AreShut}
 
 -- Both live and nothing else does, their slots 2 and 3 are open, and the slots 0 and 1 of the Fetch and of the Tftp are so.
 pub record Sees (s : Scene) (f t : ℕ) (user link back below : PortState) : Type 0 where
-  pub next : t ≡ f + 1
+  pub older : f < t
   pub last : s.made ≡ t
   pub room : 2 ≤ s.room
   pub fetch_lives : s.live f ≡ true
@@ -41,15 +41,15 @@ away x y j k v p h = rw (ne_eqb y x h) refl
 
 module _ (s : Scene) (f t : ℕ) (user link back below : PortState) (h : Sees s f t user link back below) where
   over-t : t ≡ f → ⊥
-  over-t e = omega (arith, e, h.next)
+  over-t e = omega (arith, e, h.older)
 
   over-f : f ≡ t → ⊥
-  over-f e = omega (arith, e, h.next)
+  over-f e = omega (arith, e, h.older)
 
   -- a port of the Fetch is given a state
   pub user_so : (v : PortState) → Sees (record s { port = port_but (port_at f 0) v s.port }) f t v link back below
   user_so v = record {
-    next = h.next;
+    older = h.older;
     last = h.last;
     room = h.room;
     fetch_lives = h.fetch_lives;
@@ -67,7 +67,7 @@ module _ (s : Scene) (f t : ℕ) (user link back below : PortState) (h : Sees s 
 
   pub link_so : (v : PortState) → Sees (record s { port = port_but (port_at f 1) v s.port }) f t user v back below
   link_so v = record {
-    next = h.next;
+    older = h.older;
     last = h.last;
     room = h.room;
     fetch_lives = h.fetch_lives;
@@ -86,7 +86,7 @@ module _ (s : Scene) (f t : ℕ) (user link back below : PortState) (h : Sees s 
   -- or one of the Tftp
   pub back_so : (v : PortState) → Sees (record s { port = port_but (port_at t 0) v s.port }) f t user link v below
   back_so v = record {
-    next = h.next;
+    older = h.older;
     last = h.last;
     room = h.room;
     fetch_lives = h.fetch_lives;
@@ -104,7 +104,7 @@ module _ (s : Scene) (f t : ℕ) (user link back below : PortState) (h : Sees s 
 
   pub below_so : (v : PortState) → Sees (record s { port = port_but (port_at t 1) v s.port }) f t user link back v
   below_so v = record {
-    next = h.next;
+    older = h.older;
     last = h.last;
     room = h.room;
     fetch_lives = h.fetch_lives;
@@ -145,7 +145,7 @@ down_unplugged s f t user link back below h =
 -- what is seen of two that are joined
 pub sees_joined : (g : Objects Obj) (f t : ℕ) → AreJoined g f t → Sees (scene_of g.book) f t Open (Linked (port_at t 0)) (Linked (port_at f 1)) Open
 sees_joined g f t j = record {
-  next = j.two.next;
+  older = j.two.older;
   last = j.two.last;
   room = j.two.room;
   fetch_lives = j.two.fetch_lives;
@@ -165,7 +165,7 @@ sees_joined g f t j = record {
 two_seen : (h : Objects Obj) (f t : ℕ) (user link back below : PortState) → Sees (scene_of h.book) f t user link back below
     → holds h.book f ≡ 1 → holds h.book t ≡ 1 → rank h.book f ≡ 5 → rank h.book t ≡ 2 → AreTwo h f t
 two_seen h f t user link back below s fh th fr tr = record {
-  next = s.next;
+  older = s.older;
   last = s.last;
   room = s.room;
   fetch_lives = s.fetch_lives;

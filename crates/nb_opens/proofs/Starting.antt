@@ -104,7 +104,7 @@ module _ (g h : Objects Obj) (m n : Option (List Notice)) (now f t : ℕ) (asks 
       let one = only_call obj_nature (scene_of g.book) (scene_of h.book) (record { now = now; asks = asks }) k.deeds k.each in
       let ds = one.0 in
       let all : all_of k.deeds ≡ ds = ap all_of one.1 ∙ append-nil ds in
-      let lt : f ≤ t = omega (arith, two.next) in
+      let lt : f ≤ t = omega (arith, two.older) in
       let made : t ≤ g.book.made = omega (arith, two.last) in
       let quiet-f : LeavesObject obj_nature f ds = quiet_run obj_nature now t f _ _ asks ds lt quiet made one.2 in
       let quiet-t : LeavesObject obj_nature t ds = quiet_run obj_nature now t t _ _ asks ds (omega arith) quiet made one.2 in
@@ -118,7 +118,7 @@ module _ (g h : Objects Obj) (m n : Option (List Notice)) (now f t : ℕ) (asks 
       let held-t : holds h.book t ≡ 1 = stay-t.0 ∙ two.tftp_held in
       let lives-f : object_lives h.book f ≡ true = held-live h.book f (omega (arith, held-f)) in
       let lives-t : object_lives h.book t ≡ true = held-live h.book t (omega (arith, held-t)) in
-      let rank-f : rank h.book f ≡ 5 = (k.ages.kept f (omega (arith, two.last, two.next)) lives-f).1 ∙ two.fetch_rank in
+      let rank-f : rank h.book f ≡ 5 = (k.ages.kept f (omega (arith, two.last, two.older)) lives-f).1 ∙ two.fetch_rank in
       let rank-t : rank h.book t ≡ 2 = (k.ages.kept t (omega (arith, two.last)) lives-t).1 ∙ two.tftp_rank in
       let top-f : ObjectStands ObjStands h f (above ++ entries_of f ds) = subst (ObjectStands ObjStands h f) (ap (trace_after f above) all ∙ quiet-f.1 above) (k.keeps f above up) in
       let top-t : ObjectStands ObjStands h t (below ++ entries_of t ds) = subst (ObjectStands ObjStands h t) (ap (trace_after t below) all ∙ quiet-t.1 below) (k.keeps t below down) in
@@ -133,7 +133,7 @@ module _ (g h : Objects Obj) (m n : Option (List Notice)) (now f t : ℕ) (asks 
         record {
           deeds = ds;
           told = subst (λ z. Given m n (told_of z)) all k.tells;
-          apart = λ e. omega (arith, e, two.next);
+          apart = λ e. omega (arith, e, two.older);
           top = above ++ entries_of f ds;
           bottom = below ++ entries_of t ds;
           talk = w;

@@ -6,4 +6,6 @@ pub mod Graphs
 pub mod Traces
 pub mod AloneNotices
 pub mod AloneEvents
+pub mod Waiters
+pub mod Companies
 pub mod Alones

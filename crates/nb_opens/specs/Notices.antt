@@ -31,6 +31,10 @@ made_notices f t =
     tells (Made (serial f) 1) ∷ tells (Held (serial f)) ∷ tells (Made (serial t) 4) ∷ tells (Held (serial t))
     ∷ tells (Plugged (port_at f 1) (port_at t 0)) ∷ []
 
+-- the Tftp is made below a Fetch that waits, and plugged
+abbrev pub completed_notices : ℕ → ℕ → List Notice
+completed_notices f t = tells (Made (serial t) 4) ∷ tells (Held (serial t)) ∷ tells (Plugged (port_at f 1) (port_at t 0)) ∷ []
+
 -- what goes down of what a transfer asks: the place to which it has come, and then its datagram
 abbrev pub down_notices : ℕ → ℕ → Acts → List Notice
 down_notices t rec acts = map (sent_from (port_at t 1)) (downs_of rec acts)

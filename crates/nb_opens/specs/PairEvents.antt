@@ -1,5 +1,5 @@
 -- The events of an open in the object graph: its Fetch f and its Tftp t, from a state in which nothing lives back to one. Our own.
-use Rattle.std.specs.Prelude.{◌≡◌, ℕ, ◌+◌, ◌≤◌, true, false, List, [], ◌∷◌, ◌++◌, Option, Some, None}
+use Rattle.std.specs.Prelude.{◌≡◌, ℕ, ◌<◌, ◌≤◌, true, false, List, [], ◌∷◌, ◌++◌, Option, Some, None}
 use Rattle.nb_terms.specs.declared.cause.Cause.{Cause}
 use Rattle.nb_ledger.specs.declared.port.Port.{Port}
 use Rattle.nb_ledger.specs.declared.port.PortState.{PortState}
@@ -15,6 +15,10 @@ use Rattle.nb_opens.specs.Notices.{serial}
 -- the two objects are made, and plugged
 abbrev pub made_events : ℕ → ℕ → List GraphEvent
 made_events f t = Made (serial f) 1 ∷ Held (serial f) ∷ Made (serial t) 4 ∷ Held (serial t) ∷ Plugged (port_at f 1) (port_at t 0) ∷ []
+
+-- the Tftp is made below a Fetch that waits, and plugged
+abbrev pub completed_events : ℕ → ℕ → List GraphEvent
+completed_events f t = Made (serial t) 4 ∷ Held (serial t) ∷ Plugged (port_at f 1) (port_at t 0) ∷ []
 
 -- the user asks, and the request leaves between the two
 abbrev pub begun_front : ℕ → ℕ → List GraphEvent
@@ -93,11 +97,11 @@ pub record IsNone (s : GraphState) (n : ℕ) : Type 0 where
   pub port : (x k : ℕ) → s.port x k ≡ port.Closed
   pub stack : s.stack ≡ []
 
--- The last two that were made live, nothing else does, and no entry runs. Each has one hold. The first two slots of
--- each are given, and the last two are open.
+-- Two live, of which t was made last of all, nothing else does, and no entry runs. Each has one hold. The first two slots
+-- of each are given, and the last two are open.
 pub record IsPair (s : GraphState) (f t : ℕ) (f0 f1 t0 t1 : PortState) : Type 0 where
   pub made : s.made ≡ t
-  pub next : t ≡ f + 1
+  pub older : f < t
   pub live_f : s.live f ≡ true
   pub live_t : s.live t ≡ true
   pub live_other : (x : ℕ) → (x ≡ f → ⊥) → (x ≡ t → ⊥) → s.live x ≡ false

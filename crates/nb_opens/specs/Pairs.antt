@@ -1,5 +1,5 @@
 -- The two objects of an open, a Fetch f and the Tftp t plugged to it, on a graph on which nothing else lives. Our own.
-use Rattle.std.specs.Prelude.{◌≡◌, ◌⊎◌, ◌<◌, ◌≤◌, ◌+◌, ℕ, ◌==◌, true, false, List, [], ◌∷◌, ◌++◌, length, Option, Some, None, IfSome, if◌then◌else◌}
+use Rattle.std.specs.Prelude.{◌≡◌, ◌⊎◌, ◌<◌, ◌≤◌, ℕ, ◌==◌, true, false, List, [], ◌∷◌, ◌++◌, length, Option, Some, None, IfSome, if◌then◌else◌}
 use Rattle.std.specs.Option.{is_some}
 use Rattle.nb_terms.specs.declared.acts.Acts.{Acts}
 use Rattle.nb_terms.specs.declared.cause.Cause.{Cause}
@@ -21,7 +21,7 @@ use Rattle.nb_nodes.specs.declared.load.Load.TheVariants as load
 use Rattle.nb_nodes.specs.declared.obj.Obj.{Obj}
 use Rattle.nb_nodes.specs.Conversations.{unbegun, under_way, RunsTo, first_acts}
 use Rattle.nb_nodes.specs.Fetches.{gathers, closed_well, taken_below}
-use Rattle.nb_nodes.specs.Objects.{obj_nature, mark_of_obj}
+use Rattle.nb_nodes.specs.Objects.{obj_nature, kind_of_obj, rank_of_obj, mark_of_obj}
 use Rattle.nb_nodes.specs.Standing.{ObjStands}
 use Rattle.nb_opens.specs.Notices.{call_notices, large_notices, begun_notices, first_close}
 
@@ -32,9 +32,9 @@ pub record IsEmpty (g : Objects Obj) (made : ℕ) : Type 0 where
   pub none : length g.book.objects ≡ 0
   pub room : 2 ≤ g.book.room
 
--- both live, with a hold each, and nothing else does; their slots 2 and 3 are open
+-- both live, of which the Tftp was made last of all, with a hold each, and nothing else does; their slots 2 and 3 are open
 pub record AreTwo (g : Objects Obj) (f t : ℕ) : Type 0 where
-  pub next : t ≡ f + 1
+  pub older : f < t
   pub last : g.book.made ≡ t
   pub room : 2 ≤ g.book.room
   pub fetch_lives : object_lives g.book f ≡ true
@@ -71,6 +71,10 @@ pub record AreMade (g : Objects Obj) (f t : ℕ) : Type 0 where
   pub fetch : ObjectStands ObjStands g f []
   pub tftp : ObjectStands ObjStands g t []
   pub unharvested : AreUnharvested g f t
+
+-- a Tftp of which nothing was asked, by its kind, rank and mark
+abbrev pub IsNewTftp : Obj → Type 0
+IsNewTftp n = (kind_of_obj n ≡ 4) × (rank_of_obj n ≡ 2) × (mark_of_obj n ≡ 0)
 
 -- an image has at most 268,435,456 bytes
 abbrev pub BodyFits : List ℕ → Type 0

@@ -1,14 +1,20 @@
 -- What the records of an output say of the object graph alone, as `Graphs` has it.
-use Rattle.std.specs.Prelude.{◌≡◌, ℕ, ◌*◌, ◌==◌, false, List, [], ◌∷◌, ◌++◌, map, Option, Some, None, if◌then◌else◌}
+use Rattle.std.specs.Prelude.{◌≡◌, ℕ, ◌==◌, false, List, [], ◌∷◌, ◌++◌, map, Option, Some, None, if◌then◌else◌}
 use Rattle.nb_terms.specs.declared.cause.Cause.{Cause}
 use Rattle.nb_terms.specs.declared.event.Event.{Event}
-use Rattle.nb_defs.specs.Records.{Out, step, ended, graph}
+use Rattle.nb_defs.specs.Records.{Out, step, opened, ended, graph}
 use Rattle.nb_ledger.specs.Flat.{flat}
 use Rattle.nb_ledger.specs.declared.event.GraphEvent.{GraphEvent}
 use Rattle.nb_ledger.specs.declared.port.PortState.TheVariants.{Closed}
-use Rattle.nb_ledger.specs.GraphRun.{GraphState, GraphRunOf}
-use Rattle.nb_opens.specs.PairEvents.{IsNone, IsJoined, made_events, freed_events}
-use Rattle.nb_opens.specs.Graphs.{GraphAt, bare, holding, traced, fetch_of, tftp_of, IsCommand, IsOpening}
+use Rattle.nb_ledger.specs.GraphRun.{GraphState, GraphRunOf, new_ports}
+use Rattle.std.specs.List.{AllByRecursion}
+use Rattle.nb_opens.specs.declared.waiter.Waiter.{Waiter}
+use Rattle.nb_opens.specs.declared.waiter.Waiter.TheVariants as waiter
+use Rattle.nb_opens.specs.Notices.{serial}
+use Rattle.nb_opens.specs.Waiters.{waiter_serial}
+use Rattle.nb_opens.specs.AloneEvents.{IsSolo, IsSoloOf, IsWaitingOf, AreBeside}
+use Rattle.nb_opens.specs.PairEvents.{IsNone, IsJoined, completed_events}
+use Rattle.nb_opens.specs.Graphs.{GraphAt, bare, holding, prepared, Cast, pair, solo, backed, waited, cast_made, cast_freed, IsCastOf, traced, IsCommand, IsOpening}
 
 -- what a record says of the graph
 abbrev pub event_in : Out → List Event
@@ -25,10 +31,14 @@ events_in (o ∷ outs) = event_in o ++ events_in outs
 abbrev pub no_objects : GraphState
 no_objects = record { made = 0; live = λ _. false; holds = λ _. 0; port = λ _ _. Closed; stack = [] }
 
--- nothing lives, or the two objects of an open do, joined, and no entry runs
+-- nothing lives, or the objects of an open do, a Fetch and a Tftp joined, or what waits does, and no entry runs
 abbrev pub StandsAt : GraphAt → GraphState → Type 0
-StandsAt (bare opens) s = IsNone s (2 * opens)
-StandsAt (holding k) s = IsJoined s (fetch_of k) (tftp_of k)
+StandsAt (bare opens made) s = IsNone s made
+StandsAt (holding k (pair f t)) s = IsJoined s f t
+StandsAt (holding k (solo kind x)) s = IsSolo s x new_ports
+StandsAt (holding k (backed v x)) s = AreBeside s (waiter_serial v) x
+StandsAt (holding k (waited x made)) s = IsSoloOf made s x new_ports
+StandsAt (prepared opens made v) s = IsWaitingOf made s (waiter_serial v)
 
 -- The events of an output are a legal run of the graph, which has come to a state where nothing lives, or the objects of
 -- the open that lives.
@@ -54,38 +64,63 @@ abbrev pub first_closed : List Out → Option Cause
 first_closed [] = None
 first_closed (o ∷ outs) = first_of (close_in o) (first_closed outs)
 
--- Open k has begun in these records: its objects were made between the COMMAND and the OPEN, and this stands behind the
--- OPEN.
-pub record HasBegun (outs : List Out) (k : ℕ) (since : List Out) : Type 0 where
-  pub before : List Out
+-- no record of these is a COMMAND
+abbrev pub HaveNoCommand : List Out → Type 0
+HaveNoCommand outs = AllByRecursion (λ o. IsCommand o → ⊥) outs
+
+-- What waits was made directly behind the COMMAND that began last, and then a Resolver, with which the look-up of its
+-- server's name began.
+pub record MadeSince (before : List Out) (v : Waiter) : Type 0 where
+  pub earlier : List Out
   pub asks : Out
   pub opens : Out
+  pub looked : List Out
+  pub number : ℕ
+  pub resolver : ℕ
   pub is_command : IsCommand asks
-  pub is_opening : IsOpening k opens
-  pub all : outs ≡ before ++ ((asks ∷ []) ++ (traced (made_events (fetch_of k) (tftp_of k)) ++ ((opens ∷ []) ++ since)))
+  pub is_opening : IsOpening number (backed v resolver) opens
+  pub none : HaveNoCommand looked
+  pub all : before ≡ earlier ++ ((asks ∷ []) ++ (traced (cast_made (backed v resolver)) ++ ((opens ∷ []) ++ looked)))
 
--- Open k ends behind these records with this cause: it is that of the first close since its OPEN, and its two objects
--- were freed directly before.
+-- These objects were made last in these records, behind a COMMAND; or the first of them was, and waited, and the others, if
+-- there are any, were made last.
+pub data AreMadeIn : List Out → Cast → Type 0 where
+  at_once : (earlier : List Out) (asks : Out) (cast : Cast) → IsCommand asks → AreMadeIn (earlier ++ ((asks ∷ []) ++ traced (cast_made cast))) cast
+  completed : (before : List Out) (f t : ℕ) → MadeSince before (waiter.Fetch (serial f)) → AreMadeIn (before ++ traced (completed_events f t)) (pair f t)
+  had_waited : (before : List Out) (x made : ℕ) → MadeSince before (waiter.Ping (serial x)) → AreMadeIn before (waited x made)
+
+-- Open k has begun in these records: its objects, these, were made before the OPEN, and this stands behind it.
+pub record HasBegun (outs : List Out) (k : ℕ) (cast : Cast) (since : List Out) : Type 0 where
+  pub before : List Out
+  pub opens : Out
+  pub made : AreMadeIn before cast
+  pub is_opening : IsOpening k cast opens
+  pub all : outs ≡ before ++ ((opens ∷ []) ++ since)
+
+-- Open k ends behind these records with this cause: it is that of the first close since its OPEN, and its objects were
+-- freed directly before.
 pub record EndsBy (outs : List Out) (k : ℕ) (cause : Cause) : Type 0 where
+  pub cast : Cast
   pub since : List Out
-  pub begun : HasBegun outs k since
+  pub begun : HasBegun outs k cast since
   pub first : first_closed since ≡ Some cause
   pub earlier : List Out
-  pub freed : since ≡ earlier ++ traced (freed_events (fetch_of k) (tftp_of k))
+  pub freed : since ≡ earlier ++ traced (cast_freed cast)
 
 -- so does each ENDED of an output
 abbrev pub EndTheirOpens : List Out → Type 0
 EndTheirOpens outs = (before after : List Out) (k : ℕ) (cause : Cause) → outs ≡ before ++ (ended k cause ∷ after) → EndsBy before k cause
 
--- each OPEN of an output has its objects made directly before it, behind a COMMAND
-pub record IsMadeFor (before : List Out) (k : ℕ) : Type 0 where
-  pub earlier : List Out
-  pub asks : Out
-  pub is_command : IsCommand asks
-  pub all : before ≡ earlier ++ ((asks ∷ []) ++ traced (made_events (fetch_of k) (tftp_of k)))
+-- so were the objects of an open of this kind
+pub record IsMadeFor (before : List Out) (kind : ℕ) : Type 0 where
+  pub cast : Cast
+  pub is_cast : IsCastOf kind cast
+  pub made : AreMadeIn before cast
 
+-- each OPEN of an output has its objects made directly before it
 abbrev pub HaveObjects : List Out → Type 0
-HaveObjects outs = (before after : List Out) (o : Out) (k : ℕ) → IsOpening k o → outs ≡ before ++ (o ∷ after) → IsMadeFor before k
+HaveObjects outs = (before after : List Out) (k kind server port own : ℕ) (target : List ℕ) →
+    outs ≡ before ++ (opened k kind server port own target ∷ after) → IsMadeFor before kind
 
 -- all that the records of an output say of the graph
 pub record AreTraced (outs : List Out) (p : GraphAt) : Type 0 where

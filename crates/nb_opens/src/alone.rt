@@ -9,7 +9,9 @@ ghost use Rattle.nb_nodes.specs.LookupExchanges.{can_look_up, lookup_ask_value, 
 ghost use Rattle.nb_nodes.specs.LookupExchanges.{lookup_service};
 ghost use Rattle.nb_nodes.specs.Tags.{tag_number};
 ghost use Rattle.nb_opens.specs.declared.alone.AloneKind.TheVariants as kind;
-ghost use Rattle.nb_opens.specs.Alones.{arrival_said, DoesAsk, DoesReceive, DoesTick};
+ghost use Rattle.nb_opens.specs.Alones.{arrival_said, DoesAsk, DoesAskBy, DoesReceive, DoesTick};
+ghost use Rattle.nb_opens.specs.Alones.{IsReadyBy, ReceiveAllBy, TickAllBy};
+ghost use Rattle.nb_opens.specs.Companies.{Company};
 ghost use Rattle.nb_ping.specs.Pings.{Pinged};
 ghost use Rattle.nb_ledger.specs.Flat.{Given};
 ghost use Rattle.nb_nodes.specs.Objects.{kind_of_obj};
@@ -26,9 +28,9 @@ use nb_wire::Ip4;
 use std::alloc::Global;
 
 /// The slots of an object: to what is above it, and to what is below.
-const ABOVE: u8 = 0;
+pub(crate) const ABOVE: u8 = 0;
 
-const BELOW: u8 = 1;
+pub(crate) const BELOW: u8 = 1;
 
 /// What the one object of an open is.
 #[derive(Clone, Copy, Debug, PartialEq, Eq)]
@@ -133,19 +135,25 @@ impl Alone {
     }
 
     /// A message from above, which begins what its bytes ask for.
-    fn begin<O: Outside>(self, graph: &mut Graph<Obj>, msg: &Msg<'_>, now: u64, out: &mut O)
+    pub(crate) fn begin<O: Outside>(
+        self,
+        graph: &mut Graph<Obj>,
+        msg: &Msg<'_>,
+        now: u64,
+        out: &mut O,
+    )
         requires { msg.now.tag ≡ tag_number tag.Begin }
-        ensures lookup { (l : Lookup) → lookup_asked (said msg.now).bytes ≡ Some l
-            → IsReady graph.old self.object.0 (alone_number kind.Resolver)
-            → DoesAsk lookup_service (alone_number kind.Resolver) graph.new self.object.0 l now msg.now.rec
+        ensures lookup { (c : Company) (l : Lookup) → lookup_asked (said msg.now).bytes ≡ Some l
+            → IsReadyBy c graph.old self.object.0 (alone_number kind.Resolver)
+            → DoesAskBy c lookup_service (alone_number kind.Resolver) graph.new self.object.0 l now msg.now.rec
             (O.events out.old) (O.events out.new) }
         ensures lease { (a : Asker) → lease_asked (said msg.now).bytes ≡ Some a
             → IsReady graph.old self.object.0 (alone_number kind.Dhcp)
             → DoesAsk lease_service (alone_number kind.Dhcp) graph.new self.object.0 a now msg.now.rec
             (O.events out.old) (O.events out.new) }
-        ensures ping { (p : Pinged) → ping_asked (said msg.now).bytes ≡ Some p
-            → IsReady graph.old self.object.0 (alone_number kind.Ping)
-            → DoesAsk ping_service (alone_number kind.Ping) graph.new self.object.0 p now msg.now.rec
+        ensures ping { (c : Company) (p : Pinged) → ping_asked (said msg.now).bytes ≡ Some p
+            → IsReadyBy c graph.old self.object.0 (alone_number kind.Ping)
+            → DoesAskBy c ping_service (alone_number kind.Ping) graph.new self.object.0 p now msg.now.rec
             (O.events out.old) (O.events out.new) }
     {
         let _reach = graph.down(self.port(ABOVE), msg, now, out);
@@ -169,6 +177,8 @@ impl Alone {
             (arrival_said rec arrival.now) now (O.events out.old) (O.events out.new) }
         ensures ping { DoesReceive ping_service (alone_number kind.Ping) graph.old graph.new self.object.0
             (arrival_said rec arrival.now) now (O.events out.old) (O.events out.new) }
+        ensures beside { (c : Company) → ReceiveAllBy c graph.old graph.new self.object.0 (arrival_said rec arrival.now)
+            now (O.events out.old) (O.events out.new) }
     {
         let msg = Msg {
             tag: u8::from(Tag::Datagram),
@@ -190,6 +200,8 @@ impl Alone {
             (O.events out.old) (O.events out.new) }
         ensures ping { DoesTick ping_service (alone_number kind.Ping) graph.old graph.new self.object.0 now
             (O.events out.old) (O.events out.new) }
+        ensures beside { (c : Company) → TickAllBy c graph.old graph.new self.object.0 now (O.events out.old)
+            (O.events out.new) }
     {
         let _reach = graph.time(self.object, now, out);
         graph.has_nodes();
@@ -228,7 +240,7 @@ impl Alone {
     }
 
     /// The port of a slot.
-    fn port(self, slot: u8) -> Port
+    pub(crate) fn port(self, slot: u8) -> Port
         ensures { result ≡ record { obj = self.object; slot = slot } }
     {
         Port {
@@ -239,7 +251,7 @@ impl Alone {
 }
 
 /// A node of this kind, of which nothing was asked.
-fn node_of(alloc: Global, kind: AloneKind) -> Result<Obj, NoMemory>
+pub(crate) fn node_of(alloc: Global, kind: AloneKind) -> Result<Obj, NoMemory>
     ensures stands { IfOk result (λ o. ObjStands o []) }
     ensures kind { IfOk result (λ o. kind_of_obj o ≡ alone_number kind) }
 {
@@ -251,7 +263,7 @@ fn node_of(alloc: Global, kind: AloneKind) -> Result<Obj, NoMemory>
 }
 
 /// The message that begins an open.
-fn begin_message<'m>(rec: u32, first: &'m [u8], second: &'m [u8]) -> Msg<'m>
+pub(crate) fn begin_message<'m>(rec: u32, first: &'m [u8], second: &'m [u8]) -> Msg<'m>
     ensures tag { result.tag ≡ tag_number tag.Begin }
     ensures rec { result.rec ≡ rec }
     ensures bytes { (said result).bytes ≡ first.now ++ second.now }

@@ -13,10 +13,14 @@ ghost use Rattle.nb_nodes.specs.Objects.{obj_nature, rank_of_obj};
 ghost use Rattle.nb_nodes.specs.Standing.{ObjStands};
 ghost use Rattle.nb_tftp.specs.History.{came, ticked};
 ghost use Rattle.nb_tftp.specs.Received.{received};
-ghost use Rattle.nb_opens.specs.Notices.{closed_notices, freed_notices, made_notices, shut_notices};
+ghost use Rattle.nb_opens.specs.declared.waiter.Waiter.TheVariants as the_waiter;
+ghost use Rattle.nb_opens.specs.Notices.{closed_notices, completed_notices, freed_notices, made_notices};
+ghost use Rattle.nb_opens.specs.Notices.{shut_notices};
 ghost use Rattle.nb_opens.specs.Pairs.{AreGoing, AreMade, AreShut, ClosesFree, DoesBegin, DoesCall};
-ghost use Rattle.nb_opens.specs.Pairs.{HasEnded, IsDownloading, IsEmpty, IsEnded, body_in};
+ghost use Rattle.nb_opens.specs.Pairs.{HasEnded, IsDownloading, IsEmpty, IsEnded, IsNewTftp, body_in};
+ghost use Rattle.nb_opens.specs.Waiters.{waiter_number, waiter_serial, Waits};
 
+use crate::waiter::Waiter;
 use nb_graph::{Graph, Msg, ObjId, Outside, Port};
 use nb_image::Body;
 use nb_nodes::{Ask, Load, Obj, Tag};
@@ -53,17 +57,28 @@ impl Download {
     {
         let node = Obj::tftp(alloc)?;
         let fetch = make_object(graph, Obj::fetch(alloc), out);
-        let tftp = make_object(graph, node, out);
-        let upper = Port {
-            obj: fetch,
-            slot: BELOW,
-        };
-        let lower = Port {
-            obj: tftp,
-            slot: ABOVE,
-        };
-        plug(graph, upper, lower, out);
-        Ok(Download { fetch, tftp })
+        Ok(complete_with(graph, fetch, node, out))
+    }
+
+    /// Makes the Tftp below a Fetch that waits. Where memory runs out nothing is made.
+    pub fn complete<O: Outside>(
+        alloc: Global,
+        graph: &mut Graph<Obj>,
+        waiter: Waiter,
+        out: &mut O,
+    ) -> Result<Download, NoMemory>
+        requires waits { Waits graph.old waiter graph.old.book.made }
+        requires fetch { waiter_number waiter ≡ 1 }
+        requires serials { graph.old.book.made < 2 ^ 64 - 1 }
+        ensures fetch { IfOk result (λ d. d.fetch.0 ≡ waiter_serial waiter) }
+        ensures tftp { IfOk result (λ d. d.tftp.0 ≡ graph.old.book.made + 1) }
+        ensures made { IfOk result (λ d. AreMade graph.new d.fetch.0 d.tftp.0) }
+        ensures told { IfOk result (λ d. Given (O.events out.old) (O.events out.new)
+            (completed_notices d.fetch.0 d.tftp.0)) }
+        ensures failed { OnErr result ((graph.new ≡ graph.old) × (out.new ≡ out.old)) }
+    {
+        let node = Obj::tftp(alloc)?;
+        Ok(complete_with(graph, waiter.object(), node, out))
     }
 
     /// The user begins the open in the record `rec`, at the time `now` in milliseconds: the request
@@ -198,6 +213,35 @@ impl Download {
         let_go(graph, fetch, out);
         let_go(graph, tftp, out);
     }
+}
+
+/// Makes this new Tftp below a Fetch that waits, and plugs it.
+fn complete_with<O: Outside>(
+    graph: &mut Graph<Obj>,
+    fetch: ObjId,
+    node: Obj,
+    out: &mut O,
+) -> Download
+    requires waits { Waits graph.old (the_waiter.Fetch fetch) graph.old.book.made }
+    requires serials { graph.old.book.made < 2 ^ 64 - 1 }
+    requires stands { ObjStands node [] }
+    requires tftp { IsNewTftp node }
+    ensures fetch { result.fetch ≡ fetch }
+    ensures tftp { result.tftp.0 ≡ graph.old.book.made + 1 }
+    ensures made { AreMade graph.new result.fetch.0 result.tftp.0 }
+    ensures told { Given (O.events out.old) (O.events out.new) (completed_notices fetch.0 result.tftp.0) }
+{
+    let tftp = make_object(graph, node, out);
+    let upper = Port {
+        obj: fetch,
+        slot: BELOW,
+    };
+    let lower = Port {
+        obj: tftp,
+        slot: ABOVE,
+    };
+    plug(graph, upper, lower, out);
+    Download { fetch, tftp }
 }
 
 /// The body in what was handed out.

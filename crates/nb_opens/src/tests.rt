@@ -1,11 +1,13 @@
 ghost use Rattle.std.specs.Prelude.{◌≡◌, IfOk, None};
 ghost use Rattle.nb_opens.specs.Pairs.{IsEmpty};
+ghost use Rattle.nb_opens.specs.Waiters.{waiter_of, Waits};
 
-use crate::{Alone, AloneKind, Arrival, Download};
+use crate::{Alone, AloneKind, Arrival, Download, Waiter, WaiterKind};
 use nb_graph::{Graph, Msg, Outside, Port};
 use nb_nodes::{Ask, LeaseAsk, LookupAsk, Obj, PingAsk};
 use nb_terms::{Cause, Event, NoMemory};
 use nb_wire::{Ip4, Mac};
+use std::alloc::Global;
 use std::process::Abort;
 use std::test::Fail;
 
@@ -279,4 +281,163 @@ fn closes_alone(rt: HostRuntime) -> Result<(), Fail> {
     assert_eq!(rt; tape.notes.get(3).copied(), Some(Note::Event(8, 2, 3, 26)));
     assert_eq!(rt; graph.live(), 0);
     Ok(())
+}
+
+// The name of a file's server is looked up: the Fetch is made first and waits, and only the Resolver is entered.
+#[test]
+fn looks_up_beside(rt: HostRuntime) -> Result<(), Fail> {
+    let mut tape = empty_tape(&rt);
+    let mut graph = empty_graph(&rt)?;
+    let waiter = Waiter::make(rt.alloc(), &mut graph, WaiterKind::Fetch, &mut tape)?;
+    let open = Alone::make_beside(rt.alloc(), &mut graph, waiter, &mut tape)?;
+    let made = [
+        Note::Event(1, 1, 0, 0),
+        Note::Event(2, 1, 0, 0),
+        Note::Event(1, 2, 0, 0),
+        Note::Event(2, 2, 0, 0),
+    ];
+    noted(&rt, &mut tape, &made);
+    let ask = LookupAsk {
+        server: SERVER,
+        own_port: 49_152,
+        id: 0x0102,
+        name: b"a.b",
+    };
+    open.look_up_beside(&mut graph, 1, &ask, 0, &mut tape);
+    open.time(&mut graph, 250, &mut tape);
+    let asked = [
+        Note::Event(5, 2, 0, 0),
+        Note::Sent(3, 1, 1, 53, 21),
+        Note::Event(6, 2, 0, 0),
+        Note::Event(5, 2, 4, 0),
+        Note::Sent(3, 0, 2, 53, 21),
+        Note::Event(6, 2, 4, 0),
+    ];
+    noted(&rt, &mut tape, &asked);
+    let answer = Arrival {
+        port: 53,
+        source: SERVER,
+        body: ANSWER,
+    };
+    open.message(&mut graph, 4, &answer, 260, &mut tape);
+    let found = [
+        Note::Event(5, 2, 1, 0),
+        Note::Sent(6, 4, 0x0a00_0009, 0, 0),
+        Note::Event(8, 2, 0, 0),
+        Note::Event(8, 2, 1, 0),
+        Note::Event(6, 2, 1, 0),
+    ];
+    noted(&rt, &mut tape, &found);
+    Ok(())
+}
+
+// Once the Resolver was let go the Tftp is made below the Fetch that has waited, and the open begins.
+#[test]
+fn completes(rt: HostRuntime) -> Result<(), Fail> {
+    let mut tape = empty_tape(&rt);
+    let mut graph = empty_graph(&rt)?;
+    let waiter = left_waiting(rt.alloc(), &mut graph, WaiterKind::Fetch, &mut tape)?;
+    let open = Download::complete(rt.alloc(), &mut graph, waiter, &mut tape)?;
+    let made = [
+        Note::Event(1, 3, 0, 0),
+        Note::Event(2, 3, 0, 0),
+        Note::Event(4, 1, 1, 0),
+    ];
+    noted(&rt, &mut tape, &made);
+    assert_eq!(rt; (open.fetch.0, open.tftp.0), (1, 3));
+    open.close(&mut graph, &STOPPED, 0, &mut tape);
+    assert!(rt; open.harvest(&mut graph).is_none());
+    tape.notes.clear();
+    open.release(&mut graph, &mut tape);
+    let freed = [
+        Note::Event(3, 1, 0, 0),
+        Note::Event(10, 1, 0, 0),
+        Note::Event(3, 3, 0, 0),
+        Note::Event(10, 3, 0, 0),
+    ];
+    noted(&rt, &mut tape, &freed);
+    assert_eq!(rt; graph.live(), 0);
+    Ok(())
+}
+
+// A Ping that has waited is the object of its own open, and nothing is made for that.
+#[test]
+fn takes_a_ping_up(rt: HostRuntime) -> Result<(), Fail> {
+    let mut tape = empty_tape(&rt);
+    let mut graph = empty_graph(&rt)?;
+    let waiter = left_waiting(rt.alloc(), &mut graph, WaiterKind::Ping, &mut tape)?;
+    let open = waiter.take_up(&graph);
+    let ask = PingAsk {
+        host: Ip4(0x0a00_0009),
+        ident: 1,
+    };
+    open.ping_beside(&mut graph, 4, ask, 0, &mut tape);
+    let asked = [
+        Note::Event(5, 1, 0, 0),
+        Note::Sent(3, 4, 1, 0, 0),
+        Note::Event(6, 1, 0, 0),
+    ];
+    noted(&rt, &mut tape, &asked);
+    Ok(())
+}
+
+// The power is switched off while a name is looked up: all ports are closed, and both let go, as they were made.
+#[test]
+fn shuts_down_beside(rt: HostRuntime) -> Result<(), Fail> {
+    let mut tape = empty_tape(&rt);
+    let mut graph = empty_graph(&rt)?;
+    let waiter = Waiter::make(rt.alloc(), &mut graph, WaiterKind::Fetch, &mut tape)?;
+    let open = Alone::make_beside(rt.alloc(), &mut graph, waiter, &mut tape)?;
+    tape.notes.clear();
+    open.shut_down_beside(Some(waiter), &mut graph, &STOPPED, 0, &mut tape);
+    let ended = [
+        Note::Event(8, 1, 0, 26),
+        Note::Event(8, 1, 1, 26),
+        Note::Event(8, 1, 2, 26),
+        Note::Event(8, 1, 3, 26),
+        Note::Event(8, 2, 0, 26),
+        Note::Event(8, 2, 1, 26),
+        Note::Event(8, 2, 2, 26),
+        Note::Event(8, 2, 3, 26),
+        Note::Event(3, 1, 0, 0),
+        Note::Event(10, 1, 0, 0),
+        Note::Event(3, 2, 0, 0),
+        Note::Event(10, 2, 0, 0),
+    ];
+    noted(&rt, &mut tape, &ended);
+    assert_eq!(rt; graph.live(), 0);
+    Ok(())
+}
+
+// No open comes of it.
+#[test]
+fn gives_up(rt: HostRuntime) -> Result<(), Fail> {
+    let mut tape = empty_tape(&rt);
+    let mut graph = empty_graph(&rt)?;
+    let waiter = left_waiting(rt.alloc(), &mut graph, WaiterKind::Fetch, &mut tape)?;
+    waiter.release(&mut graph, &mut tape);
+    let freed = [Note::Event(3, 1, 0, 0), Note::Event(10, 1, 0, 0)];
+    noted(&rt, &mut tape, &freed);
+    assert_eq!(rt; graph.live(), 0);
+    Ok(())
+}
+
+/// What has waited while a Resolver, object 2, was made, closed and let go. The notes of that are cleared.
+fn left_waiting(
+    alloc: Global,
+    graph: &mut Graph<Obj>,
+    kind: WaiterKind,
+    tape: &mut Tape,
+) -> Result<Waiter, NoMemory>
+    requires { IsEmpty graph.old 0 }
+    ensures waits { IfOk result (λ w. Waits graph.new w graph.new.book.made) }
+    ensures kind { IfOk result (λ w. w ≡ waiter_of kind 1) }
+    ensures made { IfOk result (λ w. graph.new.book.made ≡ 2) }
+{
+    let waiter = Waiter::make(alloc, graph, kind, tape)?;
+    let open = Alone::make_beside(alloc, graph, waiter, tape)?;
+    open.close_beside(graph, &STOPPED, 0, tape);
+    open.release_beside(graph, tape);
+    tape.notes.clear();
+    Ok(waiter)
 }

@@ -3,4 +3,5 @@ pub mod MessageLaws
 pub mod PutLaws
 pub mod ReadingLaws
 pub mod SegmentLaws
+pub mod ShortLaws
 pub mod WayLaws

@@ -70,7 +70,7 @@ unfolding header_text
 length-header_text h p = omega arith
 
 -- a packet's body is shorter than the frame by both headers
-body_short : (bytes : List ℕ) (f : Frame) (p : PacketParts) → IsFrame bytes f → IsPacket f.body p → length p.body + 34 ≤ length bytes
+pub body_short : (bytes : List ℕ) (f : Frame) (p : PacketParts) → IsFrame bytes f → IsPacket f.body p → length p.body + 34 ≤ length bytes
 body_short bytes f p frame packet =
     let header = header_text packet.header p in
     omega (arith, ap length frame.spelled, length-frame_text f frame.dst frame.src, ap length packet.spelled, length-append (header ++ p.body) packet.padding, length-append header p.body, length-header_text packet.header p)

@@ -67,6 +67,13 @@ impl Stack {
         }
     }
 
+    /// The address of the client's interface.
+    pub fn mac(&self) -> Mac
+        ensures { result ≡ self.now.mac }
+    {
+        self.mac
+    }
+
     /// Gives the client this address, or none.
     pub fn set_address(&mut self, a: Option<Addr>)
         ensures { self.new ≡ record self.old { address = a } }

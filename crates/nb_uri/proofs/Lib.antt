@@ -1,9 +1,9 @@
 pub mod PieceLemmas
-pub mod TargetLemmas
 pub mod DigitLemmas
 pub mod FieldLemmas
 pub mod IscsiLemmas
 pub mod GrammarLemmas
 pub mod ResolutionLemmas
 pub mod RefusalLemmas
+pub mod PathTextLemmas
 pub mod SelfLemmas

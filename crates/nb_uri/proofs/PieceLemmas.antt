@@ -1,5 +1,5 @@
 -- Laws of the pieces of a text.
-use Rattle.std.proofs.Common.{◌≡◌, ℕ, ◌+◌, ◌-◌, ◌<◌, ◌≤◌, List, [], ◌∷◌, ◌++◌, Some, None, Bool, true, false, not, refl, ap, sym, ◌∙◌, arith, eqb, ltb, ltb-true, ltb-false, take, drop, length, get_or, length-drop, take-append-drop}
+use Rattle.std.proofs.Common.{◌≡◌, ℕ, ◌+◌, ◌-◌, ◌<◌, ◌≤◌, List, [], ◌∷◌, ◌++◌, Some, None, Bool, true, false, not, refl, ap, sym, ◌∙◌, arith, eqb, ltb, ltb-true, ltb-false, take, drop, length, get_or, length-drop}
 use Rattle.std.proofs.Math.Seq.{take-length}
 use Rattle.std.proofs.lemmas.List.Sums.{suffix_len_is, fails_before_first}
 use Rattle.std.proofs.lemmas.List.Splits.{slice_split_first, slice_split_none}
@@ -37,12 +37,6 @@ after_last-none path none =
     (λ some. absurd (omega arith)) in
     let start : length path - (length path - 0) ≡ 0 = omega arith in
     rw (len, start) refl
-
--- the last segment is the path's end
-pub after_last-ends : (path : List ℕ) → (front : List ℕ) × (path ≡ front ++ after_last is_slash path)
-after_last-ends path =
-    let start = length path - suffix_len (λ x. not (is_slash x)) path in
-    (take start path, sym (take-append-drop start path))
 
 -- a separator that is found
 pub cut_found : (separator : ℕ) (text front behind : List ℕ) → Some (front, behind) ≡ cut separator text → (position_or_len (λ b. eqb b separator) text < length text) × (before_first (λ b. eqb b separator) text ≡ front) × (after_first (λ b. eqb b separator) text ≡ behind)

@@ -26,8 +26,11 @@ use Rattle.nb_uri.specs.declared.target.UriTarget.{UriTarget}
 use Rattle.nb_uri.specs.declared.target.UriTarget.TheVariants.{Tftp, Http, Iscsi}
 use Rattle.nb_uri.specs.declared.target.UriError.{UriError}
 use Rattle.nb_uri.specs.declared.target.UriError.TheVariants.{BadUri, NoScheme, TooLong}
+use Rattle.nb_uri.specs.ImageNames.{AsksForItsPath}
 use Rattle.nb_uri.specs.IscsiNames.{IscsiTarget, is_iscsi, iscsi_target}
 use Rattle.nb_uri.specs.Resolutions.{GivesOrNoMemory, IsReadBack, IsReliable, IsUrlText, NamesItself, StaysBelowRoot, resolution, disk_target, url_target, host_target, scheme_target, url_of, joined_url, whole_of, whole_text, fitted, tftp_path, http_path, has_zero}
+use Rattle.percent_encoding.specs.Percent.{percent_decode}
+use Rattle.nb_uri.proofs.PathTextLemmas.{path_spelled}
 use Rattle.nb_uri.proofs.PieceLemmas.{either_way}
 use Rattle.nb_uri.proofs.RefusalLemmas.{host-some, host-none, names-disk, names-url}
 
@@ -93,6 +96,7 @@ record Names (url : Parts) (target : UriTarget) : Type 0 where
   scheme : (url.scheme ≡ codes "tftp") ⊎ (url.scheme ≡ codes "http")
   whole : whole_text target ≡ whole_of url
   rooted : StaysBelowRoot target
+  asked : AsksForItsPath target
 
 fitted-ok : (made target : UriTarget) → fitted made ≡ Ok target → made ≡ target
 fitted-ok made target is = either_way (ltb 16384 (length (whole_text made)))
@@ -109,14 +113,14 @@ names_scheme url host target valid some is =
     let same = fitted-ok made target (rw (tftp, clean) at is) in
     let scheme = (bytes_eq-Decides url.scheme (codes "tftp")).0 tftp in
     let list = own_segments url NotSpecial valid some (ap scheme_type scheme ∙ kind_of_tftp) in
-    record { hosted = some; scheme = inl scheme; whole = ap whole_text (sym same); rooted = subst StaysBelowRoot same (url.path, list, refl) }))
+    record { hosted = some; scheme = inl scheme; whole = ap whole_text (sym same); rooted = subst StaysBelowRoot same (url.path, list, refl); asked = subst AsksForItsPath same (ap percent_decode (sym (path_spelled url valid (has_some url.host some) list))) }))
     (λ no_tftp. either_way (bytes_eq url.scheme (codes "http"))
     (λ http.
     let made = Http host (unwrap_or url.port 80) (http_path url) (whole_of url) in
     let same = fitted-ok made target (rw (no_tftp, http) at is) in
     let scheme = (bytes_eq-Decides url.scheme (codes "http")).0 http in
     let list = own_segments url SpecialNotFile valid some (ap scheme_type scheme ∙ kind_of_http) in
-    record { hosted = some; scheme = inr scheme; whole = ap whole_text (sym same); rooted = subst StaysBelowRoot same (url.path, when (is_some url.query) (codes "?") ++ unwrap_or url.query [], list, refl, query_mark url.query) })
+    record { hosted = some; scheme = inr scheme; whole = ap whole_text (sym same); rooted = subst StaysBelowRoot same (url.path, when (is_some url.query) (codes "?") ++ unwrap_or url.query [], list, refl, query_mark url.query); asked = subst AsksForItsPath same tt })
     (λ no_http. let never : ◌≡◌ {A = Result UriTarget UriError} (Err NoScheme) (Ok target) = rw (no_tftp, no_http) at is in absurd (cc never)))
 
 names : (url : Parts) (target : UriTarget) → IsValid url → url_target (Some url) ≡ Ok target → Names url target
@@ -150,7 +154,7 @@ file-itself url target back is = λ base text.
 
 -- the answer for a URL, and for the name of a disk
 pub url-reliable : (url : Parts) (result : Result UriTarget UriError) → IsReadBack url → GivesOrNoMemory result (url_target (Some url)) → IfOk result IsReliable
-url-reliable url (Ok target) back gives = (file-itself url target back gives, (names url target back.0 gives).rooted)
+url-reliable url (Ok target) back gives = let known = names url target back.0 gives in (file-itself url target back gives, known.rooted, known.asked)
 url-reliable url (Err e) back gives = tt
 
 disk-whole : (text : List ℕ) (found : Option IscsiTarget) (target : UriTarget) → disk_target text found ≡ Ok target → whole_text target ≡ text
@@ -161,9 +165,14 @@ disk-rooted : (text : List ℕ) (found : Option IscsiTarget) (target : UriTarget
 disk-rooted text None target is = absurd (let never : ◌≡◌ {A = Result UriTarget UriError} (Err BadUri) (Ok target) = is in cc never)
 disk-rooted text (Some disk) target is = subst StaysBelowRoot (fitted-ok (Iscsi disk.server disk.port disk.lun disk.target text) target is) tt
 
+disk-asked : (text : List ℕ) (found : Option IscsiTarget) (target : UriTarget) → disk_target text found ≡ Ok target → AsksForItsPath target
+disk-asked text None target is = absurd (let never : ◌≡◌ {A = Result UriTarget UriError} (Err BadUri) (Ok target) = is in cc never)
+disk-asked text (Some disk) target is = subst AsksForItsPath (fitted-ok (Iscsi disk.server disk.port disk.lun disk.target text) target is) tt
+
 pub disk-reliable : (text : List ℕ) (result : Result UriTarget UriError) → is_utf8 text ≡ true → is_iscsi text ≡ true → GivesOrNoMemory result (disk_target text (iscsi_target (drop 6 text))) → IfOk result IsReliable
 disk-reliable text (Ok target) utf8 iscsi gives = (
   λ base _. ap (resolution base) (disk-whole text (iscsi_target (drop 6 text)) target gives) ∙ names-disk base text utf8 iscsi ∙ gives,
   disk-rooted text (iscsi_target (drop 6 text)) target gives,
+  disk-asked text (iscsi_target (drop 6 text)) target gives,
 )
 disk-reliable text (Err e) utf8 iscsi gives = tt

@@ -18,6 +18,7 @@ use Rattle.nb_uri.specs.declared.target.UriTarget.{UriTarget}
 use Rattle.nb_uri.specs.declared.target.UriTarget.TheVariants.{Tftp, Http, Iscsi}
 use Rattle.nb_uri.specs.declared.target.UriError.{UriError}
 use Rattle.nb_uri.specs.declared.target.UriError.TheVariants.{BadUri, NoScheme, TooLong, NoMemory}
+use Rattle.nb_uri.specs.ImageNames.{AsksForItsPath}
 use Rattle.nb_uri.specs.IscsiNames.{IscsiTarget, is_iscsi, iscsi_target}
 
 -- the result is the one expected, unless memory ran out
@@ -123,7 +124,7 @@ StaysBelowRoot (Http host port path whole) =
 StaysBelowRoot (Iscsi host port lun name whole) = ⊤
 
 abbrev pub IsReliable : UriTarget → Type 0
-IsReliable target = NamesItself target × StaysBelowRoot target
+IsReliable target = NamesItself target × StaysBelowRoot target × AsksForItsPath target
 
 -- a path that a TFTP server may be asked for
 abbrev pub HasCleanPath : UriTarget → Type 0

@@ -1,9 +1,9 @@
 //! The pieces of a URI.
 
 ghost use Rattle.std.specs.Prelude.{◌≡◌, ◌+◌, ◌<◌, ◌==◌, true, position, length, slice_index, IfSome, IfNone};
-ghost use Rattle.std.specs.List.{list_all, after_last};
+ghost use Rattle.std.specs.List.{after_last};
 ghost use Rattle.std.specs.Option.{option_map};
-ghost use Rattle.nb_uri.specs.Pieces.{cut, is_path_byte, is_slash, HasNoSlashFrom};
+ghost use Rattle.nb_uri.specs.Pieces.{cut, is_slash, HasNoSlashFrom};
 
 /// The bytes before the first separator, and those behind it. None where there is no separator.
 pub(crate) fn cut(text: &[u8], separator: u8) -> Option<(&[u8], &[u8])>
@@ -49,18 +49,4 @@ fn last_slash(path: &[u8]) -> Option<usize>
     ensures last { IfSome result (λ slash. HasNoSlashFrom (slash + 1) path.now) }
 {
     path.iter().rposition(|byte| *byte == b'/')
-}
-
-/// Whether each byte may stand in a path.
-pub(crate) fn is_path(path: &[u8]) -> bool
-    ensures { result ≡ list_all is_path_byte path.now }
-{
-    path.iter().all(|byte| is_path_byte(*byte))
-}
-
-/// An unreserved character (RFC 3986, section 2.3) or `/`.
-fn is_path_byte(byte: u8) -> bool
-    ensures { result ≡ is_path_byte byte }
-{
-    byte.is_ascii_alphanumeric() || matches!(byte, b'-' | b'.' | b'_' | b'~' | b'/')
 }

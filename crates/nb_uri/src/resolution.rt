@@ -5,18 +5,21 @@ ghost use Rattle.std.specs.Option.{option_copied};
 ghost use Rattle.url.specs.Parser.{IsOutOfRoom};
 ghost use Rattle.url.specs.Parts.{IsValid};
 ghost use Rattle.nb_uri.specs.Resolutions.{GivesOrNoMemory, GivesUrl, HasCleanPath, IsReadBack, IsReliable, NamesItself, StaysBelowRoot, joined_url, url_of, url_target, scheme_target, tftp_file, http_file, disk_target, whole_of, tftp_path, resolution};
+ghost use Rattle.nb_uri.specs.ImageNames.{AsksForItsPath};
 ghost use Rattle.nb_uri.specs.Refusals.{ExactlyWhere, IsBadUri, IsOtherScheme, IsLongUri};
 ghost use Rattle.nb_uri.specs.IscsiNames.{iscsi_target};
 ghost use Rattle.nb_uri.specs.declared.target.UriError.TheVariants as error;
 
 use crate::iscsi::{IscsiUri, after_iscsi};
 use crate::target::{UriError, UriTarget, fitted};
-use crate::uri::TFTP_PORT;
 use nb_wire::Text;
 use percent_encoding::percent_decode;
 use std::alloc::{AllocError, Global};
 use std::str;
 use url::{ParseError, Position, Url};
+
+/// The port that a TFTP server listens at (RFC 1350, section 4).
+pub const TFTP_PORT: u16 = 69;
 
 /// The port that an HTTP server listens at (RFC 9110, section 4.2.1).
 pub const HTTP_PORT: u16 = 80;
@@ -34,6 +37,8 @@ pub fn resolve(alloc: Global, base: Option<&[u8]>, text: &[u8]) -> Result<UriTar
     ensures itself { IfOk result NamesItself }
     // Dots never lead out of the root.
     ensures rooted { IfOk result StaysBelowRoot }
+    // The path that a TFTP server is asked for is the one whose last segment names the image.
+    ensures asked { IfOk result AsksForItsPath }
 {
     resolve_bytes(alloc, base, text)
 }

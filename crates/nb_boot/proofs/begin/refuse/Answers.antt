@@ -14,7 +14,7 @@ use Rattle.nb_boot.proofs.begin.refuse.Goals as goal
 pub returns-in-Ok : goal.returns-in-Ok
 returns-in-Ok g c = λ rest first r bad.
     let puts : Puts c.args.log.now c.put.new.self (out_texts (done 6 ∷ [])) = Puts-one (done 6) (subst (λ k. Puts c.args.log.now c.put.new.self (out_text (done k))) c.number.ensures c.put.ensures) in
-    over_shows status.BadRecord [] rest first (g.L.Line.outside c.args.line.now) (g.L.Line.outside c.flush.new.line) c.args.log.now c.put.new.self fresh (bare 0)
+    over_shows status.BadRecord [] rest first (g.L.Line.outside c.args.line.now) (g.L.Line.outside c.flush.new.line) c.args.log.now c.put.new.self fresh (bare 0 0)
     (done 6 ∷ []) tt (fresh_closes 6) r puts c.in-Ok.ensures.whole c.in-Ok.ensures.ok (was_bad (omega arith) bad refl)
 
 pub returns-in-Err : goal.returns-in-Err
@@ -22,5 +22,5 @@ returns-in-Err g c = λ rest first r bad.
     let puts : Puts c.args.log.now c.put.new.self (out_texts (done 6 ∷ [])) = Puts-one (done 6) (subst (λ k. Puts c.args.log.now c.put.new.self (out_text (done k))) c.number.ensures c.put.ensures) in
     let P : Status → Type 0 = λ s. Shows s first (g.L.Line.outside c.flush.new.line) in
     subst P (sym c.status.ensures)
-    (flaw_shows c.in-Err.flaw [] rest first (g.L.Line.outside c.args.line.now) (g.L.Line.outside c.flush.new.line) c.args.log.now c.put.new.self fresh (bare 0) 6
+    (flaw_shows c.in-Err.flaw [] rest first (g.L.Line.outside c.args.line.now) (g.L.Line.outside c.flush.new.line) c.args.log.now c.put.new.self fresh (bare 0 0) 6
     (done 6 ∷ []) (fresh_closes 6) r puts c.in-Err.ensures.err (was_bad (omega arith) bad refl))

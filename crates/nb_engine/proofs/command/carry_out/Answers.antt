@@ -1,8 +1,7 @@
-use Rattle.std.proofs.Common.{◌≡◌, ◌&&◌, ◌==◌, true, false, inl, inr, refl, sym, ◌∙◌, ap, eq-eqb}
-use Rattle.nb_terms.specs.declared.cause.Cause.{Cause}
+use Rattle.std.proofs.Common.{◌≡◌, true, false, inl, inr, sym, ◌∙◌, ap}
 use Rattle.nb_engine.specs.Effects.{says, plan_table}
 use Rattle.nb_engine.specs.World.{state_of}
-use Rattle.nb_engine.proofs.CommandLaws.{carried_ok, carried_err}
+use Rattle.nb_engine.proofs.CommandLaws.{carried_ok, carried_err, found_same}
 use Rattle.nb_engine.proofs.command.carry_out.Goals as goal
 
 pub deed_of-requires : goal.deed_of-requires
@@ -13,10 +12,6 @@ returns-in-Ok-clause-value c = λ opens. (carried_ok c.args.plan.now c.in-Ok.out
 
 pub returns-in-Ok-clause-after : goal.returns-in-Ok-clause-after
 returns-in-Ok-clause-after c = (carried_ok c.args.plan.now c.in-Ok.outcome c.args.state.now c.apply.new.s c.requires c.in-Ok.ensures.value).state_is
-
--- two causes that are the same are found so
-found_same : (x y : Cause) → x ≡ y → ((x.code == y.code) && ((x.a == y.a) && (x.b == y.b))) ≡ true
-found_same x y e = rw (e, eq-eqb y.code y.code refl, eq-eqb y.a y.a refl, eq-eqb y.b y.b refl) refl
 
 pub returns-in-Err-2-clause-value : goal.returns-in-Err-2-clause-value
 returns-in-Err-2-clause-value c = λ opens.

@@ -2,5 +2,4 @@ use Rattle.std.proofs.Common.{sym}
 use Rattle.nb_engine.proofs.objects.end.Goals as goal
 
 pub returns-in-Some-clause-body : goal.returns-in-Some-clause-body
-returns-in-Some-clause-body c = λ file ended zero.
-    sym (c.in-Some.ensures.body file (rw (c.objects_of-objects.ensures.fetch, c.objects_of-objects.ensures.tftp) ended))
+returns-in-Some-clause-body c = λ file ended zero. sym (c.in-Some.ensures.body file ended)

@@ -5,16 +5,16 @@ pub returns-clause-made : goal.returns-clause-made
 returns-clause-made c = solo_made
 
 pub returns-clause-entered : goal.returns-clause-entered
-returns-clause-entered c = solo_entered
+returns-clause-entered c = λ s x p by. solo_entered x s x p by
 
 pub returns-clause-ended : goal.returns-clause-ended
-returns-clause-ended c = solo_ended
+returns-clause-ended c = λ s x p by cause. solo_ended x s x p by cause
 
 pub returns-clause-closed : goal.returns-clause-closed
-returns-clause-closed c = solo_closed
+returns-clause-closed c = λ s x cause. solo_closed x s x cause
 
 pub returns-clause-freed : goal.returns-clause-freed
-returns-clause-freed c = solo_freed
+returns-clause-freed c = λ s x. solo_freed x s x
 
 pub returns-clause-shut : goal.returns-clause-shut
-returns-clause-shut c = solo_shut
+returns-clause-shut c = λ s x cause. solo_shut x s x cause

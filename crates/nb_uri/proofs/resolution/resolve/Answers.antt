@@ -20,3 +20,6 @@ returns-clause-itself c = IfOk-weaker c.resolve_bytes.result _ _ (λ target know
 
 pub returns-clause-rooted : goal.returns-clause-rooted
 returns-clause-rooted c = IfOk-weaker c.resolve_bytes.result _ _ (λ target known. known.1) c.resolve_bytes.ensures.reliable
+
+pub returns-clause-asked : goal.returns-clause-asked
+returns-clause-asked c = IfOk-weaker c.resolve_bytes.result _ _ (λ target known. known.2) c.resolve_bytes.ensures.reliable

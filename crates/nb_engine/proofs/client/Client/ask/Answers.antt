@@ -3,7 +3,6 @@ use Rattle.nb_defs.specs.Records.{out_texts}
 use Rattle.nb_record.specs.Logged.{Puts}
 use Rattle.nb_nodes.specs.Conversations.{first_acts}
 use Rattle.nb_tftp.specs.Asks.{begun}
-use Rattle.nb_opens.specs.Graphs.{fetch_of, tftp_of}
 use Rattle.nb_opens.specs.Notices.{made_notices, begun_notices}
 use Rattle.nb_engine.specs.CommandWords.{wanted_of}
 use Rattle.nb_engine.specs.declared.fetch.Fetch.{Fetch}
@@ -20,8 +19,8 @@ returns-clause-puts c =
     let w = c.args.self.now.world in
     let wanted = wanted_of c.args.wanted.now in
     let command = command_record c.args.script (shown_as true c.args.words.now) in
-    let made = made_notices (fetch_of f.number) (tftp_of f.number) in
-    let told = begun_notices (fetch_of f.number) (tftp_of f.number) c.args.self.now.used (first_acts (begun f.server 69 f.own_port c.args.wanted.now.target.path.now)) in
+    let made = made_notices f.objects.fetch.0 f.objects.tftp.0 in
+    let told = begun_notices f.objects.fetch.0 f.objects.tftp.0 c.args.self.now.used (first_acts (begun f.server wanted.target.port f.own_port wanted.target.path)) in
     subst (λ ns. Puts c.args.log.now c.put_begun.new.log (out_texts ((command ∷ []) ++ (told_records w.net (speaker_of f) made ++ ((opened_record w wanted ∷ []) ++ told_records w.net (speaker_of f) ns)))))
     (sym (append-nil told))
     (subst (λ (x : Fetch). Puts c.args.log.now c.put_begun.new.log (out_texts ((command ∷ []) ++ (told_records w.net (speaker_of x) made ++ ((opened_record w wanted ∷ []) ++ told_records w.net (speaker_of x) told))))) c.get-open.ensures

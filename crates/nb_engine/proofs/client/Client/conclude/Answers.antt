@@ -29,7 +29,7 @@ returns-in-Keeps c =
     rw (c.in-Keeps.is, c.resume.ensures.turn, c.resume.ensures.after) (record {
       puts = rw c.cause.ensures at c.resume.ensures.puts;
       is_turn = tt;
-      fits = refl;
+      fits = (refl, refl);
       stands = rw c.cause.ensures (as_running now.used now.world now.graph (with_result c.args.script ok));
     })
 
@@ -39,7 +39,7 @@ returns-in-Fails c =
     rw (c.in-Fails.is, c.resume-in-Fails.ensures.turn, c.resume-in-Fails.ensures.after) (record {
       puts = c.resume-in-Fails.ensures.puts;
       is_turn = tt;
-      fits = refl;
+      fits = (refl, refl);
       stands = as_running now.used now.world now.graph (with_result c.args.script c.in-Fails.cause);
     })
 
@@ -50,6 +50,6 @@ returns-in-Boots c =
     rw (c.in-Boots.is, ← c.self.view_is, c.of.ensures) (record {
       puts = rw c.cause-in-Boots.ensures at c.put_result.ensures;
       is_turn = tt;
-      fits = refl;
+      fits = (refl, refl);
       stands = as_handing n w c.self.inside.graph (record { kernel = c.in-Boots.kernel; part = 0; piece = 0 }) (handoff_records c.in-Boots.kernel w.state.images.images) refl;
     })

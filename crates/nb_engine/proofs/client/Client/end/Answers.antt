@@ -3,7 +3,7 @@ use Rattle.nb_defs.specs.Records.{Out, step, ended, out_texts}
 use Rattle.nb_record.specs.Logged.{Puts}
 use Rattle.nb_stack.specs.Client.{Client}
 use Rattle.nb_image.specs.Images.{ImageList, image_of}
-use Rattle.nb_opens.specs.Graphs.{fetch_of, tftp_of}
+use Rattle.nb_opens.specs.Graphs.{bare}
 use Rattle.nb_opens.specs.Notices.{freed_notices}
 use Rattle.nb_engine.specs.declared.fetch.Fetch.{Fetch}
 use Rattle.nb_engine.specs.declared.stage.Stage.TheVariants as stage
@@ -12,9 +12,10 @@ use Rattle.nb_engine.specs.Conclusions.{Conclusion, conclusion, conclusion_recor
 use Rattle.nb_engine.specs.Concluding.{EndsOpen}
 use Rattle.nb_engine.specs.Fetches.{conclusion_of, speaker_of}
 use Rattle.nb_engine.specs.Machine.{at, phase_after}
+use Rattle.nb_engine.specs.declared.speaker.Speaker.{Speaker}
 use Rattle.nb_engine.specs.Tellings.{told_records}
 use Rattle.nb_engine.specs.World.{unbound, state_of}
-use Rattle.nb_engine.specs.Seen.{Seen, seen, standing, StandsFor}
+use Rattle.nb_engine.specs.Seen.{Seen, seen, standing, StandsFor, FitsGraph}
 use Rattle.nb_engine.proofs.Puts.{Puts-outs}
 use Rattle.nb_engine.proofs.Heedings.{ends_of, IfFails, fails_keeps, same_phase}
 use Rattle.nb_engine.proofs.client.Client.end.Goals as goal
@@ -37,8 +38,9 @@ returns-in-Ok-conclude c = λ ns is.
     let same : comes ≡ conclusion_of c.in-Ok-conclude.conclusion c.conclude.new.images = kept.same in
     let new = c.conclude-in-Ok-conclude.new in
     let tail : Puts c.put_over.new.log new.log (out_texts (conclusion_records comes)) = rw same concludes.puts in
-    let all = ns ++ freed_notices (fetch_of g.number) (tftp_of g.number) in
-    let told : Puts c.put_step.new.log c.put_told.new.log (out_texts (told_records w.net (speaker_of g) all)) = c.put_told.ensures all (c.in-Ok.ensures.told ns is) in
+    let all = ns ++ freed_notices g.objects.fetch.0 g.objects.tftp.0 in
+    let told : Puts c.put_step.new.log c.put_told.new.log (out_texts (told_records w.net (speaker_of g) all)) =
+    subst (λ (who : Speaker). Puts c.put_step.new.log c.put_told.new.log (out_texts (told_records w.net who all))) c.speaker-who.ensures (c.put_told.ensures all (c.in-Ok.ensures.told ns is)) in
     let last : List Out = ended g.number cause ∷ [] in
     let over : Puts c.put_told.new.log new.log (out_texts (last ++ conclusion_records comes)) = Puts-outs last (conclusion_records comes) c.put_over.ensures tail in
     let both : Puts c.put_step.new.log new.log (out_texts (told_records w.net (speaker_of g) all ++ (last ++ conclusion_records comes))) =
@@ -46,15 +48,15 @@ returns-in-Ok-conclude c = λ ns is.
     let puts : Puts c.args.log.now new.log (out_texts (step n ∷ (told_records w.net (speaker_of g) all ++ (last ++ conclusion_records comes)))) =
     Puts-outs (step n ∷ []) (told_records w.net (speaker_of g) all ++ (last ++ conclusion_records comes)) c.put_step.ensures both in
     let net_is : c.unbind.new.self ≡ (unbound w g.own_port).net = c.unbind.ensures in
-    let v : World = record { w = w.w; time = w.time; net = c.unbind.new.self; opens = w.opens; state = state_of w.state.table c.conclude.new.images w.state.up } in
+    let v : World = record { w = w.w; machine = w.machine; time = w.time; net = c.unbind.new.self; opens = w.opens; state = state_of w.state.table c.conclude.new.images w.state.up } in
     let stands : StandsFor new.self (at n (phase_after (unbound w g.own_port) s comes)) =
     subst (λ p. StandsFor new.self (at n p))
     (ap (λ x. phase_after v s x) (sym same)
-    ∙ same_phase v (unbound w g.own_port) s comes (λ list. ap (λ (x : Client). record { w = w.w; time = w.time; net = x; opens = w.opens; state = state_of w.state.table list w.state.up }) net_is)
+    ∙ same_phase v (unbound w g.own_port) s comes (λ list. ap (λ (x : Client). record { w = w.w; machine = w.machine; time = w.time; net = x; opens = w.opens; state = state_of w.state.table list w.state.up }) net_is)
     (subst (λ k. IfFails k (v ≡ unbound w g.own_port)) (sym same)
     (fails_keeps c.in-Ok-conclude.conclusion w.state.images c.conclude.new.images v (unbound w g.own_port) kept.kept
-    (λ kept. ap (λ (x : ImageList). record { w = w.w; time = w.time; net = c.unbind.new.self; opens = w.opens; state = state_of w.state.table x w.state.up }) kept
-    ∙ ap (λ (x : Client). record { w = w.w; time = w.time; net = x; opens = w.opens; state = state_of w.state.table w.state.images w.state.up }) net_is))))
+    (λ kept. ap (λ (x : ImageList). record { w = w.w; machine = w.machine; time = w.time; net = c.unbind.new.self; opens = w.opens; state = state_of w.state.table x w.state.up }) kept
+    ∙ ap (λ (x : Client). record { w = w.w; machine = w.machine; time = w.time; net = x; opens = w.opens; state = state_of w.state.table w.state.images w.state.up }) net_is))))
     concludes.stands in
     let at_g : EndsOpen c.conclude-in-Ok-conclude.result ns cause s g (seen n w h (stage.Waiting s g)) new.self c.args.log.now new.log =
     ends_of c.conclude-in-Ok-conclude.result c.args.log.now new.log ns cause s g (seen n w h (stage.Waiting s g)) new.self (record {
@@ -62,7 +64,7 @@ returns-in-Ok-conclude c = λ ns is.
       is_file = λ file ended. c.in-Ok.ensures.body file ended;
       is_turn = concludes.is_turn;
       puts = puts;
-      fits = concludes.fits;
+      fits = subst (λ made. FitsGraph new.self (bare w.opens made)) c.in-Ok.ensures.empty.made_are concludes.fits;
       stands = stands;
     }) in
     let at_f : EndsOpen c.conclude-in-Ok-conclude.result ns cause s c.args.fetch (seen n w h (stage.Waiting s c.args.fetch)) new.self c.args.log.now new.log =

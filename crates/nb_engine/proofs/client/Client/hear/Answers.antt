@@ -3,7 +3,7 @@ use Rattle.nb_ledger.specs.declared.event.Way.TheVariants as way
 use Rattle.nb_graph.specs.Whole.{port_at}
 use Rattle.nb_tftp.specs.Received.{received}
 use Rattle.nb_tftp.specs.History.{Call, came}
-use Rattle.nb_opens.specs.Graphs.{fetch_of, tftp_of, by_datagram}
+use Rattle.nb_opens.specs.Graphs.{by_datagram}
 use Rattle.nb_opens.specs.Pairs.{DoesCall}
 use Rattle.nb_engine.specs.declared.fetch.Fetch.{Fetch}
 use Rattle.nb_engine.specs.declared.stage.Stage.TheVariants as stage
@@ -20,33 +20,33 @@ heed-requires-clause-sound c =
 pub heed-requires-clause-called : goal.heed-requires-clause-called
 heed-requires-clause-called c =
     let now = c.self.inside in
-    let k = c.args.fetch.number in
-    let d : DoesCall now.graph c.receive.new.graph (fetch_of k) (tftp_of k) (port_at (tftp_of k) 1) way.Up now.used (came (received now.used c.args.port c.args.body.now) now.world.time) (Some []) c.receive.new.told =
-    subst (λ (x : Fetch). DoesCall now.graph c.receive.new.graph (fetch_of x.number) (tftp_of x.number) (port_at (tftp_of x.number) 1) way.Up now.used (came (received now.used c.args.port c.args.body.now) now.world.time) (Some []) c.receive.new.told) c.get.ensures c.receive.ensures in
+    let ids = c.args.fetch.objects in
+    let d : DoesCall now.graph c.receive.new.graph ids.fetch.0 ids.tftp.0 (port_at ids.tftp.0 1) way.Up now.used (came (received now.used c.args.port c.args.body.now) now.world.time) (Some []) c.receive.new.told =
+    subst (λ (x : Fetch). DoesCall now.graph c.receive.new.graph x.objects.fetch.0 x.objects.tftp.0 (port_at x.objects.tftp.0 1) way.Up now.used (came (received now.used c.args.port c.args.body.now) now.world.time) (Some []) c.receive.new.told) c.get.ensures c.receive.ensures in
     let sound : IsSound now.used now.world now.graph (stage.Waiting c.args.script c.args.fetch) =
     subst (λ (x : Seen). IsSound x.used x.world x.graph (stage.Waiting c.args.script c.args.fetch)) (sym c.self.view_is) c.requires.sound in (
-      port_at (tftp_of k) 1,
+      port_at ids.tftp.0 1,
       way.Up,
       now.used,
       d.0,
       given_is c.receive.new.told d.0 c.in-Ok.ensures.0 d.1 c.in-Ok.ensures.1,
-      called_of now.graph c.receive.new.graph k (port_at (tftp_of k) 1) way.Up (now.used) (came (received now.used c.args.port c.args.body.now) now.world.time) d.0 by_datagram d.2 sound.objects.0,
+      called_of now.graph c.receive.new.graph ids (port_at ids.tftp.0 1) way.Up (now.used) (came (received now.used c.args.port c.args.body.now) now.world.time) d.0 by_datagram d.2 sound.objects.0.0,
     )
 
 pub returns-in-Ok : goal.returns-in-Ok
 returns-in-Ok c =
     let now = c.self.inside in
     let h = c.receive.new.graph in
-    let k = c.args.fetch.number in
+    let ids = c.args.fetch.objects in
     let s = c.args.script in
     let f = c.args.fetch in
-    let p = port_at (tftp_of k) 1 in
+    let p = port_at ids.tftp.0 1 in
     let call : Call = came (received now.used c.args.port c.args.body.now) now.world.time in
-    let d : DoesCall now.graph h (fetch_of k) (tftp_of k) p way.Up now.used call (Some []) c.receive.new.told =
-    subst (λ (x : Fetch). DoesCall now.graph h (fetch_of x.number) (tftp_of x.number) (port_at (tftp_of x.number) 1) way.Up now.used call (Some []) c.receive.new.told) c.get.ensures c.receive.ensures in
+    let d : DoesCall now.graph h ids.fetch.0 ids.tftp.0 p way.Up now.used call (Some []) c.receive.new.told =
+    subst (λ (x : Fetch). DoesCall now.graph h x.objects.fetch.0 x.objects.tftp.0 (port_at x.objects.tftp.0 1) way.Up now.used call (Some []) c.receive.new.told) c.get.ensures c.receive.ensures in
     let sound : IsSound now.used now.world now.graph (stage.Waiting s f) =
     subst (λ (x : Seen). IsSound x.used x.world x.graph (stage.Waiting s f)) (sym c.self.view_is) c.requires.sound in
-    let was : WasCalled h k p way.Up (now.used) d.0 = called_of now.graph h k p way.Up (now.used) call d.0 by_datagram d.2 sound.objects.0 in
+    let was : WasCalled h ids p way.Up (now.used) d.0 = called_of now.graph h ids p way.Up (now.used) call d.0 by_datagram d.2 sound.objects.0.0 in
     let told = given_is c.receive.new.told d.0 c.in-Ok.ensures.0 d.1 c.in-Ok.ensures.1 in
     subst (λ (x : Seen). Heeds c.heed.result s (Comes x.graph (came (received x.used c.args.port c.args.body.now) x.world.time) f) (standing x (stage.Waiting s f)) c.heed.new.self c.args.log.now c.heed.new.log) c.self.view_is
     (heeds_less c.heed.result c.args.log.now c.heed.new.log s (HasHeard h f p way.Up (now.used) d.0) (Comes now.graph call f) now.used now.world h now.graph (stage.Waiting s f) (stage.Waiting s f) c.heed.new.self (λ q fit. fit)

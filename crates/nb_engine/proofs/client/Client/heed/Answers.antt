@@ -15,7 +15,7 @@ go_on-requires-clause-sound c =
 pub end-requires-clause-ended : goal.end-requires-clause-ended
 end-requires-clause-ended c =
     let told : WasTold c.args.desk.now.told (Some c.in-Some.cause) = subst (WasTold c.args.desk.now.told) c.in-Some.is c.requires.told in
-    called_ended c.args.self.now.graph c.args.fetch.number c.args.desk.now.told c.in-Some.cause told c.requires.called
+    called_ended c.args.self.now.graph c.args.fetch.objects c.args.desk.now.told c.in-Some.cause told c.requires.called
 
 pub returns-in-None : goal.returns-in-None
 returns-in-None c = λ p by rec ns is was.

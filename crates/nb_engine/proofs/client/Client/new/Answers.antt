@@ -10,7 +10,7 @@ invariant_of-result c =
       w = omega (arith, c.requires.w_fits);
       opens = lit≤ tt;
       ports = tt;
-      objects = (record { made_are = refl; dead = λ x. refl; none = refl; room = lit≤ tt }, refl);
+      objects = ((record { made_are = refl; dead = λ x. refl; none = refl; room = lit≤ tt }, lit≤ tt), refl);
       well = tt;
       short = tt;
       linked = record { address = refl; up = refl };

@@ -1,6 +1,6 @@
 use Rattle.std.proofs.Common.{[], ◌∷◌}
 use Rattle.nb_defs.specs.Records.{ended}
-use Rattle.nb_opens.specs.Graphs.{fetch_of, tftp_of, traced}
+use Rattle.nb_opens.specs.Graphs.{traced}
 use Rattle.nb_opens.specs.PairEvents.{shut_events}
 use Rattle.nb_engine.specs.Machine.{stopped_cause}
 use Rattle.nb_engine.proofs.Puts.{Puts-outs}
@@ -9,4 +9,5 @@ use Rattle.nb_engine.proofs.client.Client.put_shut.Goals as goal
 pub returns : goal.returns
 returns c =
     let k = c.args.fetch.now.number in
-    Puts-outs (traced (shut_events (fetch_of k) (tftp_of k) stopped_cause)) (ended k stopped_cause ∷ []) (c.put_told.ensures _ c.requires.told) (rw c.cause.ensures at c.put_over.ensures)
+    let d = c.args.fetch.now.objects in
+    Puts-outs (traced (shut_events d.fetch.0 d.tftp.0 stopped_cause)) (ended k stopped_cause ∷ []) (c.put_told.ensures _ c.requires.told) (rw c.cause.ensures at c.put_over.ensures)

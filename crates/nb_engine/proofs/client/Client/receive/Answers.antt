@@ -37,7 +37,7 @@ returns-in-Some c = λ s same n e.
     let at_anew = subst (λ x. Heeds c.hear.result x (Comes g (came (received (n + 1) c.in-Some.port c.in-Some.body.now) w.time) f) (seen (n + 1) (with_net w net) g st) c.hear.new.self c.args.log.now c.hear.new.log) same at_n in
     rw (← c.self.view_is) (heeds_acts c.hear.result c.args.log.now c.hear.new.log (defs.frame bytes ∷ []) (anew s) (Comes g (came (received (n + 1) c.in-Some.port c.in-Some.body.now) w.time) f)
     (seen (n + 1) (with_net w net) g st) (seen n w g (stage.Waiting s f)) c.hear.new.self
-    (λ fo. frame_grows n w g s f g st c.hear.new.self bytes c.take-taken.new.reply.written out net c.in-Some.port c.in-Some.body.now c.requires.valid takes heard (keep_waiting s s1 f w.opens) fo) at_anew)
+    (λ fo. frame_grows n w g s f g st c.hear.new.self bytes c.take-taken.new.reply.written out net c.in-Some.port c.in-Some.body.now c.requires.valid takes heard (keep_waiting s s1 f w.opens g.book.made g.book.made) fo) at_anew)
 
 pub returns-in-None : goal.returns-in-None
 returns-in-None c = λ s same n e.

@@ -24,4 +24,4 @@ returns c = λ n e.
     let at_n = subst (λ k. Heeds c.pass_time-turn.result s1 (Comes g (ticked (w.time + ms)) f) (seen k (world_later w ms) g st) c.pass_time-turn.new.self c.args.log.now c.pass_time-turn.new.log) counted at_ms in
     let at_anew = subst (λ x. Heeds c.pass_time-turn.result x (Comes g (ticked (w.time + ms)) f) (seen (n + 1) (world_later w ms) g st) c.pass_time-turn.new.self c.args.log.now c.pass_time-turn.new.log) c.begin_step.ensures at_n in
     rw (← c.self.view_is, c.self-2.view_is) (heeds_acts c.pass_time-turn.result c.args.log.now c.pass_time-turn.new.log (defs.tick ms ∷ []) (anew s) (Comes g (ticked (w.time + ms)) f) (seen (n + 1) (world_later w ms) g st) (seen n w g (stage.Waiting s f)) c.pass_time-turn.new.self
-    (λ fo. tick_grows n w g s f g st c.pass_time-turn.new.self ms c.requires.valid (keep_waiting s s1 f w.opens) fo) at_anew)
+    (λ fo. tick_grows n w g s f g st c.pass_time-turn.new.self ms c.requires.valid (keep_waiting s s1 f w.opens g.book.made g.book.made) fo) at_anew)

@@ -1,12 +1,12 @@
-use Rattle.std.proofs.Common.{true, [], ◌∷◌, ◌++◌, ◌≡◌, List, refl, sym, ◌∙◌, ap, subst}
+use Rattle.std.proofs.Common.{true, [], ◌∷◌, ◌++◌, ◌≡◌, ◌≤◌, ◌+◌, ◌*◌, List, refl, sym, ◌∙◌, ap, subst}
 use Rattle.nb_terms.specs.declared.cause.Cause.{Cause}
 use Rattle.nb_defs.specs.Records.{out_texts}
 use Rattle.nb_record.specs.Logged.{Puts}
 use Rattle.nb_ledger.specs.Flat.{Notice}
 use Rattle.nb_nodes.specs.Conversations.{first_acts}
 use Rattle.nb_tftp.specs.Asks.{begun}
-use Rattle.nb_opens.specs.Graphs.{fetch_of, tftp_of}
 use Rattle.nb_opens.specs.Notices.{made_notices, begun_notices, closed_notices, freed_notices}
+use Rattle.nb_opens.specs.Pairs.{IsEmpty}
 use Rattle.nb_engine.specs.Advance.{PutsBegun}
 use Rattle.nb_engine.specs.CommandWords.{wanted_of}
 use Rattle.nb_engine.specs.declared.fetch.Fetch.{Fetch}
@@ -20,10 +20,20 @@ use Rattle.nb_engine.specs.Running.{further}
 use Rattle.nb_engine.specs.Seen.{Seen, seen}
 use Rattle.nb_engine.specs.Tellings.{told_records}
 use Rattle.nb_engine.specs.World.{with_ended_open}
+use Rattle.nb_engine.proofs.Standing.{has_none}
 use Rattle.nb_engine.proofs.client.Client.turn_back.Goals as goal
 
 pub put_begun-requires-clause-told : goal.put_begun-requires-clause-told
 put_begun-requires-clause-told c = (_, c.in-Ok.ensures.told _ c.requires.begins.told_so)
+
+pub give_up-requires-clause-empty : goal.give_up-requires-clause-empty
+give_up-requires-clause-empty c =
+    let w = c.self.inside.world in
+    let t = c.args.fetch.objects.tftp.0 in
+    let h = c.turn_back.new.graph in
+    let empty : IsEmpty h t = subst (λ (x : Fetch). IsEmpty h x.objects.tftp.0) c.get-open.ensures c.turn_back.ensures.empty in
+    let few : t ≤ 2 * (w.opens + 1) = subst (λ (x : Seen). t ≤ 2 * (x.world.opens + 1)) (sym c.self.view_is) c.requires.own.objects in
+    has_none h t (w.opens + 1) empty few
 
 pub returns : goal.returns
 returns c =
@@ -35,13 +45,13 @@ returns c =
     let wanted = wanted_of c.args.wanted.now in
     let cause = no_route f.server.0 in
     let command = command_record s (shown_as true ws) in
-    let made = made_notices (fetch_of f.number) (tftp_of f.number) in
-    let told = begun_notices (fetch_of f.number) (tftp_of f.number) now.used (first_acts (begun f.server 69 f.own_port c.args.wanted.now.target.path.now)) in
+    let made = made_notices f.objects.fetch.0 f.objects.tftp.0 in
+    let told = begun_notices f.objects.fetch.0 f.objects.tftp.0 now.used (first_acts (begun f.server wanted.target.port f.own_port wanted.target.path)) in
     let cause_is : c.from-cause.result ≡ cause = c.from-cause.ensures ∙ ap (λ (x : Fetch). no_route x.server.0) c.get-open.ensures in
-    let back : List Notice = closed_notices (fetch_of f.number) (tftp_of f.number) cause ++ freed_notices (fetch_of f.number) (tftp_of f.number) in
+    let back : List Notice = closed_notices f.objects.fetch.0 f.objects.tftp.0 cause ++ freed_notices f.objects.fetch.0 f.objects.tftp.0 in
     let tells : TellsMore c.args.desk.now.told c.turn_back.new.told back =
-    subst (λ (x : Cause). TellsMore c.args.desk.now.told c.turn_back.new.told (closed_notices (fetch_of f.number) (tftp_of f.number) x ++ freed_notices (fetch_of f.number) (tftp_of f.number))) cause_is
-    (subst (λ (x : Fetch). TellsMore c.args.desk.now.told c.turn_back.new.told (closed_notices (fetch_of x.number) (tftp_of x.number) c.from-cause.result ++ freed_notices (fetch_of x.number) (tftp_of x.number)))
+    subst (λ (x : Cause). TellsMore c.args.desk.now.told c.turn_back.new.told (closed_notices f.objects.fetch.0 f.objects.tftp.0 x ++ freed_notices f.objects.fetch.0 f.objects.tftp.0)) cause_is
+    (subst (λ (x : Fetch). TellsMore c.args.desk.now.told c.turn_back.new.told (closed_notices x.objects.fetch.0 x.objects.tftp.0 c.from-cause.result ++ freed_notices x.objects.fetch.0 x.objects.tftp.0))
     c.get-open.ensures c.in-Ok.ensures.told) in
     let put : PutsBegun s ws w wanted f now.used c.args.log.now c.put_begun.new.log back =
     subst (λ (x : Fetch). Puts c.args.log.now c.put_begun.new.log (out_texts ((command ∷ []) ++ (told_records w.net (speaker_of x) made
@@ -58,5 +68,6 @@ returns c =
       middle = c.put_begun.new.log;
       begun_so = at_now;
       puts = c.give_up.ensures.puts;
+      made = ap (λ (x : Seen). x.graph.book.made) after ∙ c.turn_back.ensures.empty.made_are ∙ ap (λ (x : Fetch). x.objects.tftp.0) c.get-open.ensures;
       after_is = after ∙ ap (λ g. seen now.used (with_ended_open now.world) g (stage.Running (further s cause))) (sym (ap (λ (x : Seen). x.graph) after));
     })

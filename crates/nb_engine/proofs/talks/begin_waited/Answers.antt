@@ -1,0 +1,13 @@
+use Rattle.std.proofs.Common.{None}
+use Rattle.nb_opens.specs.Companies.{company_with}
+use Rattle.nb_engine.specs.Inquiries.{talk_of}
+use Rattle.nb_engine.proofs.Talkings.{asked_so}
+use Rattle.nb_engine.proofs.talks.begin_waited.Goals as goal
+
+pub returns-clause-begins : goal.returns-clause-begins
+returns-clause-begins c =
+    let x = c.take_up-object.result.object.0 in
+    let k = company_with None c.args.graph.now.book.made in
+    let asks = asked_so k c.ask_waited.new.graph x (talk_of c.args.opening.now) c.args.now c.args.rec _ c.ask_waited.new.told c.in_ok-whole.ensures.0
+    (c.ask_waited.ensures k (c.take_up-object.ensures.ready c.args.graph.now.book.made c.requires.waits)) c.clear.ensures c.in_ok-whole.ensures.1 in
+    record { told_so = asks.0; talks = asks.1 }

@@ -1,0 +1,72 @@
+//! What a command fetches or asks, before its server's address is known and after that.
+
+ghost use Rattle.std.specs.Prelude.{◌≡◌};
+ghost use Rattle.nb_engine.specs.CommandWords.{errand_of, onward_of, FitsErrand, FitsOnward};
+ghost use Rattle.nb_engine.specs.Errands.{onward};
+ghost use Rattle.nb_engine.specs.Inquiries.{errand_waiter};
+
+use nb_opens::WaiterKind;
+use nb_wire::{Ip4, Text};
+
+/// A file of a server, and what its image is to become.
+#[derive(Drop)]
+pub struct RemoteFile {
+    /// The port that the server is asked at.
+    pub port: u16,
+    /// What it is asked for.
+    pub path: Text,
+    /// The image's name.
+    pub name: Text,
+    /// The image's URI, without a fragment.
+    pub uri: Text,
+    /// Whether the image is booted.
+    pub boots: bool,
+}
+
+/// A file that a command asks for, of a server whose address is known.
+#[derive(Drop)]
+pub struct Wanted {
+    pub server: Ip4,
+    pub file: RemoteFile,
+}
+
+/// What is asked of a server whose name is looked up first.
+#[derive(Drop)]
+pub enum Errand {
+    /// This file of it is fetched.
+    File(RemoteFile),
+    /// It is asked for an echo (RFC 792).
+    Echo,
+}
+
+/// What is asked of a server whose address was found.
+#[derive(Drop)]
+pub enum Onward {
+    /// This file is fetched.
+    File(Wanted),
+    /// It is asked for an echo.
+    Echo(Ip4),
+}
+
+impl Errand {
+    /// What waits for it while its server's name is looked up.
+    pub fn waiter(&self) -> WaiterKind
+        ensures { result ≡ errand_waiter (errand_of self.now) }
+    {
+        match self {
+            Errand::File(_) => WaiterKind::Fetch,
+            Errand::Echo => WaiterKind::Ping,
+        }
+    }
+
+    /// The same of the server that has this address.
+    pub fn at(self, server: Ip4) -> Onward
+        ensures value { onward_of result ≡ onward (errand_of self) server.0 }
+        ensures fits { FitsErrand self → FitsOnward result }
+    {
+        match self {
+            Errand::File(file) => Onward::File(Wanted { server, file }),
+            Errand::Echo => Onward::Echo(server),
+        }
+    }
+}

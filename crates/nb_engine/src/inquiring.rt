@@ -1,0 +1,337 @@
+//! Commands that ask for a lease, an echo or a name's address: their opens begin.
+
+ghost use Rattle.std.specs.Prelude.{◌≡◌, ◌<◌, ◌≤◌, ◌+◌, ◌*◌, ◌∷◌, ◌++◌, ℕ, List, [], length, true, Ok, Some, IfOk, OnOk, OnErr};
+ghost use Rattle.nb_defs.specs.Records.{out_texts, ended, result as result_record};
+ghost use Rattle.nb_record.specs.Logged.{Puts};
+ghost use Rattle.nb_ledger.specs.Flat.{Notice};
+ghost use Rattle.nb_graph.specs.Whole.{Objects};
+ghost use Rattle.nb_nodes.specs.declared.obj.Obj.{Obj as Object};
+ghost use Rattle.nb_command.specs.Planning.{planned};
+ghost use Rattle.nb_engine.specs.declared.world.World.{World as WorldValue};
+ghost use Rattle.nb_engine.specs.declared.client.Turn.TheVariants as turn;
+ghost use Rattle.nb_engine.specs.declared.stage.Stage.TheVariants as stage;
+ghost use Rattle.nb_engine.specs.CommandWords.{IsForInquiry};
+ghost use Rattle.nb_engine.specs.Effects.{shown_as};
+ghost use Rattle.nb_opens.specs.Graphs.{traced};
+ghost use Rattle.nb_engine.specs.Inquiries.{beside_freed_events, freed_beside, query_of, talker_of, BeginsTalk, IsBackedBy, IsNextObject};
+ghost use Rattle.nb_engine.specs.Inquiring.{CanAsk, HasIntended, IsNextInquiry, PutsInquiry, TurnsInquiryBack};
+ghost use Rattle.nb_engine.specs.Lones.{lone_for, open_told, talk_for, with_lone};
+ghost use Rattle.nb_engine.specs.Machine.{command_record, no_route};
+ghost use Rattle.nb_engine.specs.NextCommand.{HasCommand, IsReady};
+ghost use Rattle.nb_engine.specs.Running.{entered, further};
+ghost use Rattle.nb_engine.specs.Seen.{HasNoObjects, IsSound, seen, standing};
+ghost use Rattle.nb_engine.specs.Talks.{fields_of};
+ghost use Rattle.nb_engine.specs.Tellings.{told_records};
+ghost use Rattle.nb_engine.specs.Turns.{AnswersTurn, IsNearer};
+ghost use Rattle.nb_engine.specs.World.{with_ended_open};
+
+use crate::command::{Deed, Done};
+use crate::desk::{Desk, lent};
+use crate::inquiry::{DHCP_SERVER, DNS_SERVER, Inquiry, KeptInquiry, Query};
+use crate::intent::Intent;
+use crate::put::{has_route, put_freed, put_over, put_result, put_told};
+use crate::talks::{begin_beside, begin_talk, free_waiter, turn_alone_back};
+use crate::{Client, RunningScript, Stage, Status, Turn};
+use nb_command::CommandPlan;
+use nb_opens::{Alone, Waiter};
+use nb_record::{Cause, Log, NoMemory, OutRec};
+use nb_terms::Reason;
+use nb_wire::Word;
+
+/// The kinds of opens, as their records name them.
+const RESOLVER: u8 = 4;
+
+const DHCP: u8 = 5;
+
+const PING: u8 = 6;
+
+/// Puts the open of an inquiry.
+pub(crate) fn put_inquired(inquiry: &Inquiry, log: &mut Log)
+    requires can { CanAsk inquiry.now.query }
+    ensures { (w : WorldValue) → IsNextInquiry w inquiry.now
+        → Puts log.old log.new (out_texts (open_told w.opens (fields_of (talk_for w (query_of inquiry.now.query))) ∷ [])) }
+{
+    let (kind, port, target) = match &inquiry.query {
+        Query::Lease => (DHCP, DHCP_SERVER, b"".as_slice()),
+        Query::Echo(_) => (PING, 0, b"".as_slice()),
+        Query::Address { name, .. } | Query::Host { name, .. } => {
+            (RESOLVER, DNS_SERVER, name.as_slice())
+        }
+    };
+    log.put(&OutRec::Opened {
+        number: inquiry.speaker.number,
+        kind,
+        server: inquiry.speaker.server,
+        port,
+        own: inquiry.speaker.own_port,
+        target,
+    });
+}
+
+impl Client {
+    /// Does a command that asks for a lease, an echo or a name's address.
+    pub(crate) fn inquire(
+        &mut self,
+        script: RunningScript,
+        words: &[Word],
+        plan: &CommandPlan,
+        log: &mut Log,
+    ) -> Turn
+        requires sound { IsSound self.old.used self.old.world self.old.graph (stage.Running script) }
+        requires words { HasCommand script self.old.world.state.table words.now }
+        requires value { planned words.now ≡ Ok plan.now }
+        requires inquiring { IsForInquiry plan.now }
+        ensures does { AnswersTurn result [] (standing self.old (stage.Running script)) self.new log.old log.new }
+        ensures nearer { IsNearer result (standing self.old (stage.Running script)) self.new }
+    {
+        match self.world.intend(self.alloc, plan) {
+            Ok(Intent::Over(cause)) => {
+                self.go_by(script, words, &Deed::Ends(Done::with(cause)), log)
+            }
+            Ok(Intent::Asks(query)) => self.reach(script, words, query, log),
+            Ok(Intent::Fetches(_)) => unreachable!(),
+            Err(NoMemory) => Turn::Over(Status::NoMemory),
+        }
+    }
+
+    /// Begins an open for a query; the script's command waits for it.
+    pub(crate) fn reach(
+        &mut self,
+        script: RunningScript,
+        words: &[Word],
+        query: Query,
+        log: &mut Log,
+    ) -> Turn
+        requires sound { IsSound self.old.used self.old.world self.old.graph (stage.Running script) }
+        requires words { IsReady script words.now }
+        requires few { self.old.world.opens < 16384 }
+        requires can { CanAsk query }
+        ensures { (w : WorldValue) → HasIntended w (query_of query) script words.now self.old
+            → AnswersTurn result [] (seen self.old.used w self.old.graph (stage.Running script)) self.new log.old log.new
+            × IsNearer result (seen self.old.used w self.old.graph (stage.Running script)) self.new }
+    {
+        let Ok((inquiry, mut desk)) = self.begin_inquiry(query) else {
+            return Turn::Over(Status::NoMemory);
+        };
+        let turn = self.send_out(script, words, inquiry, &mut desk, log);
+        self.desk = Some(desk);
+        turn
+    }
+
+    /// Makes the object of an open for a query, and asks this of it. What it told stands on the desk that is given back
+    /// with the inquiry.
+    fn begin_inquiry(&mut self, query: Query) -> Result<(KeptInquiry, Box<Desk>), NoMemory>
+        requires sound { HasNoObjects self.old.world.opens self.old.graph }
+        requires w { self.old.world.w < 16384 }
+        requires few { self.old.world.opens < 16384 }
+        requires can { CanAsk query }
+        ensures query { IfOk result (λ b. b.0.query ≡ query) }
+        ensures next { IfOk result (λ b. IsNextInquiry self.old.world b.0) }
+        ensures serial { IfOk result (λ b. IsNextObject b.0.waiter self.old.graph.book.made b.0.object.object.0) }
+        ensures backed { IfOk result (λ b. IsBackedBy (query_of query) b.0.waiter) }
+        ensures begins { IfOk result (λ b. BeginsTalk b.0.waiter self.new.graph b.0.object.object.0 (talk_for self.old.world (query_of query))
+            self.old.world.time self.old.used b.1.value.made b.1.value.told) }
+        ensures same { self.new ≡ seen self.old.used self.old.world self.new.graph stage.Stopped }
+    {
+        self.stage = Stage::Stopped;
+        let mut desk = lent(self.alloc, self.desk.take())?;
+        let (waiter, object) = self.begin_objects(&query, &mut desk)?;
+        let speaker = self.world.speaker(&query);
+        let inquiry = KeptInquiry::of(
+            self.alloc,
+            Inquiry {
+                query,
+                speaker,
+                object,
+                waiter,
+            },
+        )?;
+        Ok((inquiry, desk))
+    }
+
+    /// Makes them, behind what waits for what is asked then, if anything does.
+    fn begin_objects(
+        &mut self,
+        query: &Query,
+        desk: &mut Desk,
+    ) -> Result<(Option<Waiter>, Alone), NoMemory>
+        requires stands { self.old.stage ≡ stage.Stopped }
+        requires empty { HasNoObjects self.old.world.opens self.old.graph }
+        requires w { self.old.world.w < 16384 }
+        requires few { self.old.world.opens < 16384 }
+        requires can { CanAsk query.now }
+        ensures serial { IfOk result (λ b. IsNextObject b.0 self.old.graph.book.made b.1.object.0) }
+        ensures backed { IfOk result (λ b. IsBackedBy (query_of query.now) b.0) }
+        ensures begins { IfOk result (λ b. BeginsTalk b.0 self.new.graph b.1.object.0 (talk_for self.old.world (query_of query.now))
+            self.old.world.time self.old.used desk.new.made desk.new.told) }
+        ensures same { self.new ≡ seen self.old.used self.old.world self.new.graph stage.Stopped }
+    {
+        let (alloc, rec, now) = (self.alloc, self.used, self.world.time);
+        let opening = self.world.opening(query);
+        let graph = &mut self.graph;
+        match query {
+            Query::Host { errand, .. } => {
+                let waits = errand.waiter();
+                let (waiter, object) = begin_beside(alloc, graph, rec, waits, &opening, now, desk)?;
+                Ok((Some(waiter), object))
+            }
+            _ => Ok((None, begin_talk(alloc, graph, rec, &opening, now, desk)?)),
+        }
+    }
+
+    /// The first message of an open that was begun leaves, if there is a way to its server.
+    fn send_out(
+        &mut self,
+        script: RunningScript,
+        words: &[Word],
+        inquiry: KeptInquiry,
+        desk: &mut Desk,
+        log: &mut Log,
+    ) -> Turn
+        requires words { IsReady script words.now }
+        requires few { self.old.world.opens < 16384 }
+        requires next { IsNextInquiry self.old.world inquiry }
+        requires can { CanAsk inquiry.query }
+        requires backed { IsBackedBy (query_of inquiry.query) inquiry.waiter }
+        requires serial { inquiry.object.object.0 ≤ 2 * (self.old.world.opens + 1) }
+        requires ports { self.old.world.net.ports ≡ [] }
+        requires begins { BeginsTalk inquiry.waiter self.old.graph inquiry.object.object.0 (talk_for self.old.world (query_of inquiry.query))
+            self.old.world.time self.old.used desk.old.made desk.old.told }
+        ensures { (w : WorldValue) (g : Objects Object) → HasIntended w (query_of inquiry.query) script words.now self.old
+            → IsNextObject inquiry.waiter g.book.made inquiry.object.object.0
+            → AnswersTurn result [] (seen self.old.used w g (stage.Running script)) self.new log.old log.new
+            × IsNearer result (seen self.old.used w g (stage.Running script)) self.new }
+    {
+        let who = inquiry.get().speaker;
+        if has_route(&self.world.net, &who, &mut desk.room) {
+            self.wait_for(script, words, inquiry, desk, log)
+        } else {
+            self.turn_inquiry_back(script, words, inquiry, desk, log)
+        }
+    }
+
+    /// Puts that a command begins, its open, and what the open's object told.
+    fn put_inquiry(
+        &self,
+        script: &RunningScript,
+        words: &[Word],
+        inquiry: &Inquiry,
+        desk: &mut Desk,
+        log: &mut Log,
+    )
+        requires words { IsReady script.now words.now }
+        requires next { IsNextInquiry self.now.world inquiry.now }
+        requires can { CanAsk inquiry.now.query }
+        requires made { (ns : List Notice) × (desk.old.made ≡ Some ns) }
+        requires told { (ns : List Notice) × (desk.old.told ≡ Some ns) }
+        ensures puts { (made told : List Notice) → desk.old.made ≡ Some made → desk.old.told ≡ Some told
+            → PutsInquiry script.now words.now self.now.world inquiry.now log.old log.new made told }
+        ensures freed { desk.new.freed ≡ desk.old.freed }
+    {
+        script.put_begun(true, words, log);
+        let who = inquiry.speaker;
+        put_told(&desk.made, &self.world.net, &who, &mut desk.room, log);
+        put_inquired(inquiry, log);
+        put_told(&desk.told, &self.world.net, &who, &mut desk.room, log);
+    }
+
+    /// The first message has left: the script's command waits for this inquiry, whose port is bound.
+    fn wait_for(
+        &mut self,
+        mut script: RunningScript,
+        words: &[Word],
+        inquiry: KeptInquiry,
+        desk: &mut Desk,
+        log: &mut Log,
+    ) -> Turn
+        requires words { IsReady script words.now }
+        requires few { self.old.world.opens < 16384 }
+        requires next { IsNextInquiry self.old.world inquiry }
+        requires can { CanAsk inquiry.query }
+        requires backed { IsBackedBy (query_of inquiry.query) inquiry.waiter }
+        requires serial { inquiry.object.object.0 ≤ 2 * (self.old.world.opens + 1) }
+        requires ports { self.old.world.net.ports ≡ [] }
+        requires begins { BeginsTalk inquiry.waiter self.old.graph inquiry.object.object.0 (talk_for self.old.world (query_of inquiry.query))
+            self.old.world.time self.old.used desk.old.made desk.old.told }
+        ensures turn { result ≡ turn.Waiting }
+        ensures puts { (made told : List Notice) → desk.old.made ≡ Some made → desk.old.told ≡ Some told
+            → PutsInquiry script words.now self.old.world inquiry log.old log.new made told }
+        ensures after { self.new ≡ seen self.old.used (with_lone self.old.world (talk_for self.old.world (query_of inquiry.query))) self.old.graph
+            (stage.Asking (entered script) inquiry) }
+    {
+        self.put_inquiry(&script, words, inquiry.get(), desk, log);
+        let who = inquiry.get().speaker;
+        let _ = self
+            .world
+            .net
+            .bind(who.carrier.number(), who.own_port, u64::from(who.number));
+        self.world.opens += 1;
+        script.enter();
+        self.stage = Stage::Asking(script, inquiry);
+        Turn::Waiting
+    }
+
+    /// There is no way to the inquiry's server: its user closes the open, which has ended.
+    fn turn_inquiry_back(
+        &mut self,
+        script: RunningScript,
+        words: &[Word],
+        inquiry: KeptInquiry,
+        desk: &mut Desk,
+        log: &mut Log,
+    ) -> Turn
+        requires words { IsReady script words.now }
+        requires few { self.old.world.opens < 16384 }
+        requires next { IsNextInquiry self.old.world inquiry }
+        requires can { CanAsk inquiry.query }
+        requires backed { IsBackedBy (query_of inquiry.query) inquiry.waiter }
+        requires serial { inquiry.object.object.0 ≤ 2 * (self.old.world.opens + 1) }
+        requires ports { self.old.world.net.ports ≡ [] }
+        requires begins { BeginsTalk inquiry.waiter self.old.graph inquiry.object.object.0 (talk_for self.old.world (query_of inquiry.query))
+            self.old.world.time self.old.used desk.old.made desk.old.told }
+        ensures { TurnsInquiryBack result script words.now inquiry self.old self.new log.old log.new }
+    {
+        let turned = inquiry.get();
+        let cause = Cause::from(Reason::NoRoute(turned.speaker.server));
+        self.stage = Stage::Stopped;
+        let (object, now) = (turned.object, self.world.time);
+        let Ok(()) = turn_alone_back(&mut self.graph, object, &cause, now, &mut desk.told) else {
+            return Turn::Over(Status::NoMemory);
+        };
+        let Ok(()) = free_waiter(&mut self.graph, turned.waiter, &mut desk.freed) else {
+            return Turn::Over(Status::NoMemory);
+        };
+        self.put_inquiry(&script, words, turned, desk, log);
+        self.give_inquiry_up(script, turned, cause, desk, log)
+    }
+
+    /// The open of an inquiry was closed with a cause, and has ended, and what has waited was let go.
+    fn give_inquiry_up(
+        &mut self,
+        mut script: RunningScript,
+        inquiry: &Inquiry,
+        cause: Cause,
+        desk: &mut Desk,
+        log: &mut Log,
+    ) -> Turn
+        requires early { script.begun < 4096 }
+        requires there { 0 < length script.rest }
+        requires ports { self.old.world.net.ports ≡ [] }
+        requires few { self.old.world.opens < 16384 }
+        requires empty { HasNoObjects (self.old.world.opens + 1) self.old.graph }
+        requires freed { desk.old.freed ≡ Some (freed_beside inquiry.now.waiter) }
+        ensures turn { result ≡ turn.More }
+        ensures puts { Puts log.old log.new (out_texts (ended inquiry.now.speaker.number cause
+            ∷ (traced (beside_freed_events inquiry.now.waiter) ++ (result_record cause ∷ [])))) }
+        ensures after { self.new ≡ seen self.old.used (with_ended_open self.old.world) self.old.graph (stage.Running (further script cause)) }
+    {
+        put_over(inquiry.speaker.number, cause, log);
+        put_freed(&self.world.net, desk, log);
+        put_result(cause, log);
+        self.stage = Stage::Stopped;
+        self.world.opens += 1;
+        script.enter();
+        script.end_with(cause);
+        self.run_on(script)
+    }
+}

@@ -1,0 +1,49 @@
+ghost use Rattle.std.specs.Prelude.{◌≡◌};
+ghost use Rattle.nb_engine.specs.Tellings.{carrier_number};
+
+use nb_wire::Ip4;
+
+/// What carries an open's messages.
+#[derive(Clone, Copy, Debug, PartialEq, Eq)]
+pub enum Carrier {
+    /// UDP (RFC 768).
+    Udp,
+    /// ICMP (RFC 792).
+    Icmp,
+}
+
+/// Whose messages leave.
+#[derive(Clone, Copy, Debug)]
+pub struct Speaker {
+    /// The open's number.
+    pub(crate) number: u16,
+    pub(crate) carrier: Carrier,
+    pub(crate) server: Ip4,
+    /// The client's port, of an echo its identifier.
+    pub(crate) own_port: u16,
+}
+
+impl Speaker {
+    /// Nobody: what is put of the graph's events alone has no speaker.
+    pub fn nobody() -> Speaker {
+        Speaker {
+            number: 0,
+            carrier: Carrier::Udp,
+            server: Ip4(0),
+            own_port: 0,
+        }
+    }
+}
+
+impl Carrier {
+    /// The protocol's number.
+    #[inline(always)]
+    pub fn number(self) -> u8
+        ensures { result ≡ carrier_number self }
+    {
+        match self {
+            Carrier::Udp => 17,
+            Carrier::Icmp => 1,
+        }
+    }
+}

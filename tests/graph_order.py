@@ -1,0 +1,294 @@
+"""Checks where the GRAPH records of an output stand among the others.
+
+`Order` is a second reading of crates/nb_opens/specs/Graphs.antt, and `Ends` one of Traces.antt beside it.
+"""
+
+from __future__ import annotations
+
+from collections import deque
+from dataclasses import dataclass, field
+
+from shared.causes import Cause
+from shared.kinds import GraphEvent, ObjectKind, OpenKind, Way
+from shared.records import Advance, Command, Done, Ended, Graph, Open, Record, Sent, Try
+from tests import graph_records
+from tests.graph_records import ABOVE, BELOW, SOLE_KINDS, TIMER, TOO_LARGE, Cast, Pair, Sole, Waiter
+
+# a COMMAND, and the five events that make the objects of an open by TFTP
+LOOKED_BACK = 6
+MOST_AT_TOO_LARGE = 40
+# what waits while its open's server is looked up
+WAITING = (ObjectKind.FETCH, ObjectKind.PING)
+
+
+class NotLegal(Exception):
+    """What is wrong with a list of records, in words."""
+
+
+class CutOff(Exception):
+    """The records end before what was to come."""
+
+
+@dataclass
+class Live:
+    """An open that lives, and the cause of the first close of one of its objects, once there is one."""
+
+    cast: Cast
+    first: Cause | None = None
+
+
+@dataclass
+class Ends:
+    """Each OPEN has its objects made directly before it, and each ENDED has the cause of the first close since then."""
+
+    recent: deque[Record] = field(default_factory=lambda: deque(maxlen=LOOKED_BACK))
+    made: int = 0
+    live: dict[int, Live] = field(default_factory=dict)
+    waiter: Waiter | None = None
+
+    def take(self, record: Record) -> None:
+        match record:
+            case Open():
+                self._began(record)
+            case Ended():
+                self._ended(record)
+            case Graph() if record.event is GraphEvent.MADE:
+                self.made += 1
+            case Graph() if record.event is GraphEvent.CLOSED:
+                self._closed(record)
+            case Graph() if record.event is GraphEvent.LET_GO and self.waiter:
+                self.waiter = None if record.object == self.waiter.object else self.waiter
+        self.recent.append(record)
+
+    def _began(self, opened: Open) -> None:
+        is_next = self.waiter is not None
+        cast = self.waiter.opens(opened.number, self.made - 1) if self.waiter else self._cast(opened)
+        wanted = graph_records.completed(cast) if is_next else graph_records.made(cast)
+        before = list(self.recent)
+        if before[len(before) - len(wanted) :] != wanted:
+            raise NotLegal(f"the objects of open {opened.number} aren't made directly before its OPEN")
+        before = before[: len(before) - len(wanted)]
+        self.waiter = None if is_next else self._waiting(opened, before)
+        if self.waiter:
+            del before[-2:]
+        if not isinstance(before[-1], Ended if is_next else Command):
+            after = "the end of a look-up" if is_next else "a COMMAND"
+            raise NotLegal(f"the objects of open {opened.number} aren't made directly after {after}")
+        self.live[opened.number] = Live(cast)
+
+    def _cast(self, opened: Open) -> Cast:
+        """The objects of an open before which nothing has waited."""
+        is_sole = opened.kind in SOLE_KINDS
+        return graph_records.cast_for(opened, self.made if is_sole else self.made - 1)
+
+    def _waiting(self, opened: Open, before: list[Record]) -> Waiter | None:
+        """What was made directly before the resolver of a look-up, and waits for it."""
+        for kind in WAITING if opened.kind is OpenKind.DNS else ():
+            if before[-2:] == graph_records.one_made(self.made - 1, kind):
+                return Waiter(self.made - 1, kind)
+        return None
+
+    def _closed(self, event: Graph) -> None:
+        for live in self.live.values():
+            if event.object in live.cast.objects():
+                live.first = live.first or event.cause
+
+    def _ended(self, ended: Ended) -> None:
+        live = self.live.pop(ended.number, None)
+        if live is None:
+            raise NotLegal(f"open {ended.number} ends, and doesn't live")
+        wanted = graph_records.freed(live.cast)
+        if list(self.recent)[-len(wanted) :] != wanted:
+            raise NotLegal(f"the objects of open {ended.number} aren't freed directly before its ENDED")
+        if live.first != ended.cause:
+            raise NotLegal(f"open {ended.number} ended with {ended.cause}, and the first close is {live.first}")
+
+
+class Order:
+    """Where the GRAPH records stand among the others."""
+
+    def __init__(self, records: list[Record]) -> None:
+        self.records, self.place = records, 0
+        self.made = 0
+
+    def check(self) -> None:
+        try:
+            self._bare()
+        except CutOff:
+            if self.records[-1:] and isinstance(self.records[-1], Done):
+                raise NotLegal("DONE stands within what an open writes") from None
+
+    def _next(self) -> Record:
+        if self.place == len(self.records):
+            raise CutOff
+        return self.records[self.place]
+
+    def _expect(self, *wanted: Record) -> None:
+        for record in wanted:
+            if self._next() != record:
+                raise NotLegal(f"in place of {record} there is {self._next()}")
+            self.place += 1
+
+    def _asides(self) -> None:
+        """Records that the graph doesn't concern; what an open asks for stands in its entries alone."""
+        while not isinstance(self._next(), (Graph, Open, Ended, Done, Advance, Try)):
+            self.place += 1
+
+    def _sends(self) -> None:
+        """What an open puts within an entry."""
+        while isinstance(self._next(), (Advance, Try, Sent)):
+            self.place += 1
+
+    def _bare(self) -> None:
+        """No open lives."""
+        opens = 0
+        while True:
+            record = self._next()
+            before = self.records[self.place - 1] if self.place else None
+            if isinstance(record, Graph) and isinstance(before, Command):
+                opens += self._command(opens, record)
+            elif isinstance(record, (Graph, Open, Ended, Advance, Try)):
+                raise NotLegal(f"no open lives at {record}")
+            elif isinstance(record, Done):
+                return
+            else:
+                self.place += 1
+
+    def _command(self, k: int, first: Graph) -> int:
+        """A command's opens, of which the first is open k: how many it has."""
+        waiter = self._waiter(first)
+        if waiter is None:
+            cast = self._cast(k, first)
+            self._made(*graph_records.made(cast))
+            self._open(cast)
+            return 1
+        self._made(*graph_records.one_made(*waiter))
+        look_up = Sole(k, self.made + 1, ObjectKind.RESOLVER)
+        self._made(*graph_records.made(look_up))
+        if self._open(look_up, waiter):
+            return 1
+        return 1 + self._waited(k + 1, waiter)
+
+    def _waited(self, k: int, waiter: Waiter) -> int:
+        """The look-up of its server has ended: it is let go, or its own open begins; how many opens it has."""
+        given_up = graph_records.one_freed(waiter.object)
+        if self._next() == given_up[0]:
+            self._expect(*given_up)
+            return 0
+        cast = waiter.opens(k, self.made)
+        self._made(*graph_records.completed(cast))
+        self._open(cast)
+        return 1
+
+    def _waiter(self, first: Graph) -> Waiter | None:
+        """What waits for a look-up, whose resolver is made directly after it."""
+        second = self.records[self.place + 2 : self.place + 3]
+        is_resolver = [isinstance(one, Graph) and one.other == ObjectKind.RESOLVER for one in second] == [True]
+        is_waiter = is_resolver and second[0].event is GraphEvent.MADE and first.other in WAITING
+        return Waiter(self.made + 1, ObjectKind(first.other)) if is_waiter else None
+
+    def _cast(self, k: int, first: Graph) -> Cast:
+        """The objects of open k, whose first is made by this event."""
+        if first.other in SOLE_KINDS.values():
+            return Sole(k, self.made + 1, ObjectKind(first.other))
+        return Pair(k, self.made + 1)
+
+    def _made(self, *wanted: Record) -> None:
+        """Objects are made."""
+        self._expect(*wanted)
+        self.made += sum(isinstance(one, Graph) and one.event is GraphEvent.MADE for one in wanted)
+
+    def _open(self, cast: Cast, waiter: Waiter | None = None) -> bool:
+        """An open, from its OPEN on, while something waits beside it or nothing does; whether it ends with the run."""
+        opened = self._next()
+        if not isinstance(opened, Open) or opened.number != cast.number:
+            raise NotLegal(f"in place of OPEN {cast.number} there is {opened}")
+        if list(cast.objects().values()) != list(graph_records.cast_for(opened, 1).objects().values()):
+            raise NotLegal(f"{opened} has the objects {cast}")
+        front, back = _halves(graph_records.begins(opened, cast=cast), opened)
+        self.place += 1
+        self._expect(*front)
+        place = self.place
+        self._sends()
+        is_sent = self.place > place
+        self._expect(*back)
+        if self._is_close():
+            return self._closed_at_once(cast, waiter, self._next(), is_sent)
+        return self._holding(cast, waiter)
+
+    def _closed_at_once(self, cast: Cast, waiter: Waiter | None, first: Graph, is_sent: bool) -> bool:
+        """The user has no way to the server, and nothing was sent; or the run ends directly after the request."""
+        cause = first.cause
+        if waiter and first.object == waiter.object:
+            self._expect(*graph_records.shut_both(waiter, cast, cause))
+            return True
+        front = graph_records.closed_above(cast, cause)
+        self._expect(*front)
+        if self._is_close() and waiter is None:
+            self._expect(*graph_records.shut(cast, cause)[len(front) :])
+            return True
+        if is_sent:
+            raise NotLegal(f"open {cast.number} sent its request, and is closed from above")
+        self._expect(*graph_records.freed(cast), Ended(cast.number, cause))
+        return False
+
+    def _holding(self, cast: Cast, waiter: Waiter | None) -> bool:
+        """The open lives."""
+        while True:
+            self._asides()
+            if self._is_close():
+                cause = self._next().cause
+                shut = graph_records.shut_both(waiter, cast, cause) if waiter else graph_records.shut(cast, cause)
+                self._expect(*shut)
+                return True
+            if self._call(cast):
+                return False
+
+    def _call(self, cast: Cast) -> bool:
+        """A message or a time comes to it; whether that ends it."""
+        record, number = self._next(), graph_records.lowest(cast)
+        ways = [graph_records.entered(number, BELOW, Way.UP), graph_records.entered(number, TIMER, Way.TIME)]
+        if record not in ways:
+            raise NotLegal(f"open {cast.number} lives at {record}")
+        self.place += 1
+        self._sends()
+        if isinstance(cast, Pair) and self._gives(cast, record.slot):
+            return True
+        over = self._next().cause if self._is_close() else None
+        if over:
+            self._expect(*graph_records.closed_below(cast, over))
+        self._expect(graph_records.left(number, record.slot))
+        if over:
+            self._expect(*graph_records.freed(cast), Ended(cast.number, over))
+        return over is not None
+
+    def _gives(self, pair: Pair, slot: int) -> bool:
+        """Bytes of the file go up, or none; whether there are too many by that, and the open has ended."""
+        if self._next() != graph_records.entered(pair.fetch, BELOW, Way.UP):
+            return False
+        self.place += 1
+        if self._next() == graph_records.closed(pair.fetch, ABOVE, TOO_LARGE):
+            return self._too_large(pair, slot)
+        self._expect(graph_records.left(pair.fetch, BELOW))
+        return False
+
+    def _is_close(self) -> bool:
+        record = self._next()
+        return isinstance(record, Graph) and record.event is GraphEvent.CLOSED
+
+    def _too_large(self, pair: Pair, slot: int) -> bool:
+        """The rest of a call with which the file has too many bytes; whether the transfer ended by it shows in it."""
+        rest = self.records[self.place : self.place + MOST_AT_TOO_LARGE]
+        for over in (None, *{record.cause for record in rest if isinstance(record, Graph)}):
+            whole = graph_records.grew_too_large(pair, over=over)[2:]
+            whole[-6] = graph_records.left(pair.tftp, slot)
+            if rest[: len(whole)] == whole:
+                self.place += len(whole)
+                return True
+        raise NotLegal(f"open {pair.number} doesn't end as one that grew too large")
+
+
+def _halves(records: list[Record], middle: Record) -> tuple[list[Record], list[Record]]:
+    """What stands between a record and the innermost place of the entries after it, and what stands after that."""
+    later = records[records.index(middle) + 1 :]
+    return later[: len(later) // 2], later[len(later) // 2 :]
