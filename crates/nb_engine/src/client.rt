@@ -92,9 +92,7 @@ impl Client {
         self.used += 1;
         match (mem::replace(&mut self.stage, Stage::Stopped), entry) {
             (Stage::Ready, InRec::Start(record)) => self.start(&record.fields(), log),
-            (Stage::Waiting(script, fetch), InRec::Frame(bytes)) => {
-                self.frame(script, fetch, bytes, log)
-            }
+            (Stage::Waiting(script, fetch), InRec::Frame(b)) => self.frame(script, fetch, b, log),
             (Stage::Waiting(script, fetch), InRec::Tick(ms)) => self.tick(script, fetch, *ms, log),
             (Stage::Waiting(_, fetch), InRec::Off) => self.switch_off(fetch, log),
             (Stage::Asking(script, inquiry), InRec::Frame(bytes)) => {
@@ -183,7 +181,7 @@ impl Client {
         Ok(())
     }
 
-    /// Frees what waits for an open.
+    /// Frees what waits for an open. No run ends so: that open begins, or is given up, in the step in which the look-up ends.
     fn close_prepared(&mut self, waiter: Waiter, log: &mut Log) -> Result<(), NoMemory>
         requires stands { self.old.stage ≡ stage.Stopped }
         requires waits { Waits self.old.graph waiter self.old.graph.book.made }

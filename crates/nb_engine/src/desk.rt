@@ -22,7 +22,7 @@ pub struct Desk {
     pub(crate) made: Outlet,
     /// What was told since.
     pub(crate) told: Outlet,
-    /// What was told of what was let go behind the end of an open.
+    /// What was told of what was let go after the end of an open.
     pub(crate) freed: Outlet,
     pub(crate) room: Room,
 }

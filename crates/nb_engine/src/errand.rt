@@ -13,7 +13,7 @@ use nb_wire::{Ip4, Text};
 pub struct RemoteFile {
     /// The port that the server is asked at.
     pub port: u16,
-    /// What it is asked for.
+    /// The path that the server is asked for: decoded, and without its first slash (RFC 1350, section 5).
     pub path: Text,
     /// The image's name.
     pub name: Text,
@@ -26,7 +26,9 @@ pub struct RemoteFile {
 /// A file that a command asks for, of a server whose address is known.
 #[derive(Drop)]
 pub struct Wanted {
+    /// The address of the server.
     pub server: Ip4,
+    /// The file.
     pub file: RemoteFile,
 }
 

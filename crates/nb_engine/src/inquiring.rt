@@ -1,4 +1,4 @@
-//! Commands that ask for a lease, an echo or a name's address: their opens begin.
+//! Commands that ask for a lease, an echo or a name's address, be it their own server's: their opens begin.
 
 ghost use Rattle.std.specs.Prelude.{◌≡◌, ◌<◌, ◌≤◌, ◌+◌, ◌*◌, ◌∷◌, ◌++◌, ℕ, List, [], length, true, Ok, Some, IfOk, OnOk, OnErr};
 ghost use Rattle.nb_defs.specs.Records.{out_texts, ended, result as result_record};
@@ -29,6 +29,7 @@ use crate::command::{Deed, Done};
 use crate::desk::{Desk, lent};
 use crate::inquiry::{DHCP_SERVER, DNS_SERVER, Inquiry, KeptInquiry, Query};
 use crate::intent::Intent;
+use crate::kinds::{DHCP, DNS, PING};
 use crate::put::{has_route, put_freed, put_over, put_result, put_told};
 use crate::talks::{begin_beside, begin_talk, free_waiter, turn_alone_back};
 use crate::{Client, RunningScript, Stage, Status, Turn};
@@ -37,13 +38,6 @@ use nb_opens::{Alone, Waiter};
 use nb_record::{Cause, Log, NoMemory, OutRec};
 use nb_terms::Reason;
 use nb_wire::Word;
-
-/// The kinds of opens, as their records name them.
-const RESOLVER: u8 = 4;
-
-const DHCP: u8 = 5;
-
-const PING: u8 = 6;
 
 /// Puts the open of an inquiry.
 pub(crate) fn put_inquired(inquiry: &Inquiry, log: &mut Log)
@@ -55,7 +49,7 @@ pub(crate) fn put_inquired(inquiry: &Inquiry, log: &mut Log)
         Query::Lease => (DHCP, DHCP_SERVER, b"".as_slice()),
         Query::Echo(_) => (PING, 0, b"".as_slice()),
         Query::Address { name, .. } | Query::Host { name, .. } => {
-            (RESOLVER, DNS_SERVER, name.as_slice())
+            (DNS, DNS_SERVER, name.as_slice())
         }
     };
     log.put(&OutRec::Opened {
@@ -149,7 +143,7 @@ impl Client {
         Ok((inquiry, desk))
     }
 
-    /// Makes them, behind what waits for what is asked then, if anything does.
+    /// Makes the object of an open, after what waits for the command's own open, if anything does.
     fn begin_objects(
         &mut self,
         query: &Query,

@@ -41,9 +41,10 @@ pub struct KeptInquiry {
     place: Box<Inquiry>,
 }
 
-/// The UDP ports of servers of leases (RFC 2131, section 4.1) and of names (RFC 1035, section 4.2).
+/// The UDP port of servers of leases (RFC 2131, section 4.1).
 pub(crate) const DHCP_SERVER: u16 = 67;
 
+/// The UDP port of servers of names (RFC 1035, section 4.2).
 pub(crate) const DNS_SERVER: u16 = 53;
 
 impl Inquiry {
@@ -80,7 +81,7 @@ impl Model for KeptInquiry {
 }
 
 impl KeptInquiry {
-    /// Keeps an inquiry.
+    /// Keeps an inquiry. An error where memory runs out.
     pub fn of(alloc: Global, inquiry: Inquiry) -> Result<KeptInquiry, NoMemory>
         ensures { IfOk result (λ k. k ≡ inquiry) }
     {

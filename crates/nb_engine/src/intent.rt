@@ -53,7 +53,7 @@ fn domain(table: &Table) -> &[u8]
     }
 }
 
-/// A host's name, with `domain` behind it where it has no dot.
+/// A host's name, with `domain` after it where it has no dot.
 fn with_domain(alloc: Global, table: &Table, text: &[u8]) -> Result<Text, NoMemory>
     ensures { IfOk result (λ name. name ≡ with_domain table.now text.now) }
 {

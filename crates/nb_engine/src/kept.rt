@@ -20,7 +20,7 @@ impl Model for KeptFetch {
 }
 
 impl KeptFetch {
-    /// Keeps a fetch.
+    /// Keeps a fetch. An error where memory runs out.
     pub fn of(alloc: Global, fetch: Fetch) -> Result<KeptFetch, NoMemory>
         ensures { IfOk result (λ k. k ≡ fetch) }
     {

@@ -16,6 +16,7 @@ mod inquiring;
 mod inquiry;
 mod intent;
 mod kept;
+mod kinds;
 mod link;
 mod objects;
 mod onward;

@@ -39,6 +39,7 @@ use crate::desk::{Desk, lent};
 use crate::errand::{Onward, Wanted};
 use crate::inquiring::put_inquired;
 use crate::inquiry::{Inquiry, KeptInquiry, Query};
+use crate::kinds::TFTP;
 use crate::objects::{begin_completed, turn_back};
 use crate::prepared::{KeptPrepared, Prepared};
 use crate::put::{has_route, put_freed, put_over, put_result, put_told};
@@ -50,9 +51,6 @@ use nb_opens::{Download, Waiter};
 use nb_record::{Cause, Log, NoMemory, OutRec};
 use nb_terms::Reason;
 use nb_wire::Ip4;
-
-/// The kind of an open by TFTP, as its record names it.
-const TFTP: u8 = 1;
 
 impl Client {
     /// The command's own open begins, or no more may be made.
@@ -347,14 +345,13 @@ impl Client {
         let opening = self.world.opening(&query);
         let object = begin_waited(&mut self.graph, waiter, rec, &opening, now, &mut desk.told)?;
         let speaker = self.world.speaker(&query);
-        let waiter = None;
         let inquiry = KeptInquiry::of(
             self.alloc,
             Inquiry {
                 query,
                 speaker,
                 object,
-                waiter,
+                waiter: None,
             },
         )?;
         Ok((inquiry, desk))

@@ -30,7 +30,7 @@ impl Model for KeptPrepared {
 }
 
 impl KeptPrepared {
-    /// Keeps it.
+    /// Keeps it. An error where memory runs out.
     pub fn of(alloc: Global, prepared: Prepared) -> Result<KeptPrepared, NoMemory>
         ensures { IfOk result (λ k. k ≡ prepared) }
     {

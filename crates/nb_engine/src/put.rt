@@ -79,7 +79,7 @@ pub fn has_route(net: &Stack, who: &Speaker, room: &mut Room) -> bool
     fate != Fate::NoRoute
 }
 
-/// Puts a datagram's frame, or the ARP request for its next hop, behind its try. Nothing is put where it
+/// Puts a datagram's frame, or the ARP request for its next hop, after its try. Nothing is put where it
 /// finds no route.
 #[inline(always)]
 fn put_datagram(
@@ -153,7 +153,7 @@ pub fn put_told(told: &Outlet, net: &Stack, who: &Speaker, room: &mut Room, log:
     );
 }
 
-/// Puts what was told of what was let go behind the end of an open.
+/// Puts what was told of what was let go after the end of an open.
 pub fn put_freed(net: &Stack, desk: &mut Desk, log: &mut Log)
     requires freed { (v : Option Waiter) × (desk.old.freed ≡ Some (freed_beside v)) }
     ensures { (v : Option Waiter) → desk.old.freed ≡ Some (freed_beside v)

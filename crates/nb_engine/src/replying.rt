@@ -65,7 +65,7 @@ fn arrival_of<'a>(inquiry: &Inquiry, taken: Taken<'a>) -> Option<Arrival<'a>>
     }
 }
 
-/// Puts, in the step of this record, that the open of this speaker has ended, behind what its object told.
+/// Puts, in the step of this record, that the open of this speaker has ended, after what its object told.
 fn put_ended(rec: u32, net: &Stack, who: &Speaker, cause: Cause, desk: &mut Desk, log: &mut Log)
     requires told { (ns : List Notice) × (desk.old.told ≡ Some ns) }
     ensures puts { (ns : List Notice) → desk.old.told ≡ Some ns

@@ -19,7 +19,8 @@ use Rattle.nb_engine.specs.Errands.{Wanted}
 abbrev pub expanded_shown : TableLists → ShownWords → Result (List (List ℕ)) ExpandError
 expanded_shown table shown = if shown.expanded then Ok shown.words else expansion table shown.words
 
--- a server of a host: the one whose address its four decimals are, or, of a host that is a name, any that a name server gives for it
+-- a server of a host: the one whose address its four decimals are, or, of a host that is a name, any address:
+-- which one its look-up has found, `FindsHost` says of the OPEN
 pub data IsServerOf (table : TableLists) (host : List ℕ) (server : ℕ) : Type 0 where
   by_decimals : four_decimals host ≡ Some server → IsServerOf table host server
   by_look_up : (by : Ip4) → four_decimals host ≡ None → is_lookup_name (with_domain table host) ≡ true → dns_in table ≡ Some by → IsServerOf table host server

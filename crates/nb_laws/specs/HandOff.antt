@@ -20,7 +20,7 @@ use Rattle.nb_laws.specs.Events.{Event, puts, EachEvent}
 use Rattle.nb_laws.specs.Fetching.{FetchesFile}
 use Rattle.nb_laws.specs.Lists.{gathered, Opening, openings, opens_file, datagrams_of, came_ok, last_end, made}
 
--- the file that a command fetches by this open, after it has looked its server up: it is the open's server
+-- the file that a command fetches by this open, after it has looked its server up: the server is the open's, whose address `FindsHost` says
 abbrev pub wanted_of_host : Query → Opening → Option Wanted
 wanted_of_host (for_host (fetches_then file) name by) o = Some (wanted_at file o.server)
 wanted_of_host (for_host echoes_then name by) o = None
