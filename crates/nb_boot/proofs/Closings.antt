@@ -6,7 +6,7 @@ use Rattle.nb_record.specs.Outside.{Outside, Passes, Rose}
 use Rattle.nb_record.specs.Logged.{Logged, Puts}
 use Rattle.nb_defs.specs.Causes.{is_ok_cause}
 use Rattle.nb_engine.specs.Machine.{Machine, handed_off, fresh, nothing}
-use Rattle.nb_opens.specs.Graphs.{GraphAt, bare, without_graph}
+use Rattle.nb_opens.specs.Graphs.{GraphAt, bare, without_graph, Graphs}
 use Rattle.nb_opens.specs.Graphs as order
 use Rattle.nb_opens.proofs.Tracing.{graphs_are_traced}
 use Rattle.nb_engine.specs.StatusNumber.{status_number}

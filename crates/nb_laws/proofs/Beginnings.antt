@@ -16,7 +16,7 @@ use Rattle.nb_engine.specs.Machine.{Machine, running, waiting, sleeping, Begins,
 use Rattle.nb_laws.specs.Events.{Event, starts, hears, waits, stops, puts, followed}
 use Rattle.nb_laws.specs.Histories.{client}
 use Rattle.nb_laws.specs.Lists as lists
-use Rattle.nb_laws.specs.Lists.{live, commands_begun, time, made, gathered, last_end, came_ok, openings, open_has_ended as is_ended, calls, tries, marks}
+use Rattle.nb_laws.specs.Lists.{live, commands_begun, time, made, gathered, last_end, came_ok, openings, open_has_ended as is_ended, calls, tries, marks, last_place, Opening, opening_at, is_end_of, Mark, mark_at}
 use Rattle.nb_laws.specs.HandOff.{images_brought, image_list}
 use Rattle.nb_laws.proofs.HandOffs.{opens_keep, opens_keep_end, opens_reply, opens_parts, parts_more, used_keep, one_keeps, no_image, last_end_more}
 use Rattle.nb_laws.specs.Progress.{IsAdvanced, IsStep, IsResumed, by_live, by_count, by_sleep}
@@ -32,7 +32,7 @@ use Rattle.nb_laws.proofs.SoFar.{so_far_more, client_opens, client_stays, opens_
 use Rattle.nb_laws.proofs.Asides.{still_reply, none_of_reply}
 use Rattle.nb_laws.proofs.Calls.{Comes, ports_after, world_used, got_same, live_one, used_only, used_none_live, used_advanced, none_come, none_answered, going_unanswered, frame_brings_none, bare_brings, frame_world, frame_passes, frame_comes, time_comes}
 use Rattle.nb_laws.specs.Frames as results
-use Rattle.nb_laws.specs.Frames.{IsResult}
+use Rattle.nb_laws.specs.Frames.{IsResult, WritesSo}
 use Rattle.nb_laws.proofs.Puttings.{reply_frames, free_reply, bare_reply}
 use Rattle.nb_laws.proofs.Steps.{step_still, step_follows, tells_step, last_off}
 use Rattle.nb_laws.proofs.LoneBeginnings.{lone_passes_tells, lone_brings_tells, lone_time_tells, lone_off_tells}

@@ -18,7 +18,7 @@ use Rattle.nb_engine.specs.Talks.{Talk, looks_up, leases, pings, fields_of}
 use Rattle.nb_engine.specs.Lones.{query_id, Lone, with_talk, onward_from}
 use Rattle.nb_laws.specs.Events.{Event}
 use Rattle.nb_laws.specs.Lists as lists
-use Rattle.nb_laws.specs.Lists.{Hardware, hardware, made, came_ok, last_end, openings, calls}
+use Rattle.nb_laws.specs.Lists.{Hardware, hardware, made, came_ok, last_end, openings, calls, opens_file, time, commands_begun, Opening, open_has_ended, Mark, tries, mark_of, marks}
 use Rattle.nb_laws.specs.Cores.{lookup_by, as_dns, looked_at, answers_open}
 use Rattle.nb_laws.specs.CommandsSoFar.{so_far, shown_effect}
 use Rattle.nb_laws.specs.Frames.{IsLastQuery}

@@ -23,7 +23,7 @@ use Rattle.nb_engine.specs.Machine.{Phase, Hears, goes_on, is_over, phase_after,
 use Rattle.nb_laws.specs.Events.{Event, puts}
 use Rattle.std.proofs.Math.Bool.{or-true}
 use Rattle.nb_laws.specs.Lists as lists
-use Rattle.nb_laws.specs.Lists.{live, commands_begun, time, made, openings, open_has_ended as is_ended, calls, tries, marks}
+use Rattle.nb_laws.specs.Lists.{live, commands_begun, time, made, openings, open_has_ended as is_ended, calls, tries, marks, last_place, gathered, Opening, opening_at, is_end_of, Mark, mark_at}
 use Rattle.nb_laws.specs.HandOff.{image_list, images_brought, wanted_by, image_by, image_if, image_wanted, is_open_of, last_image}
 use Rattle.nb_laws.proofs.HandOffs.{opens_keep, opens_acts, opens_parts, parts_more, one_keeps, concluded_images, last_end_more}
 use Rattle.nb_defs.specs.Parts.{HaveNoParts}

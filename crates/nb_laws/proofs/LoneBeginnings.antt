@@ -13,7 +13,7 @@ use Rattle.nb_engine.specs.Running.{Running, anew}
 use Rattle.nb_engine.specs.Machine.{Phase, asking, stopped, Replies, reply_records, stopped_cause}
 use Rattle.nb_laws.specs.Events.{Event, hears, waits, stops, puts}
 use Rattle.nb_laws.specs.Lists as lists
-use Rattle.nb_laws.specs.Lists.{time, commands_begun, openings, open_has_ended as is_ended, marks}
+use Rattle.nb_laws.specs.Lists.{time, commands_begun, openings, open_has_ended as is_ended, marks, hardware}
 use Rattle.nb_laws.specs.Cores.{has_its_answer}
 use Rattle.nb_laws.specs.CommandsSoFar.{so_far}
 use Rattle.nb_laws.specs.HandOff.{image_list}

@@ -12,7 +12,7 @@ use Rattle.nb_engine.specs.Talks.{Talk, looks_up, leases, pings, fields_of, firs
 use Rattle.nb_engine.specs.Lones.{Lone}
 use Rattle.nb_laws.specs.Events.{Event, hears, waits}
 use Rattle.nb_laws.specs.Lists as lists
-use Rattle.nb_laws.specs.Lists.{hardware, hardware_by, opens_file, blocks_where, file_blocks, last_place, time, Opening, openings, open_has_ended, came_in, call_at, calls, tries, mark_of, marks}
+use Rattle.nb_laws.specs.Lists.{hardware, hardware_by, opens_file, blocks_where, file_blocks, last_place, time, Opening, openings, open_has_ended, came_in, call_at, calls, tries, mark_of, marks, live}
 use Rattle.nb_laws.specs.Cores.{has_its_answer, answers_open}
 use Rattle.nb_laws.specs.Progress.{IsAdvanced, NoneIsAnswered}
 use Rattle.nb_laws.specs.Frames.{IsDue, by_call}

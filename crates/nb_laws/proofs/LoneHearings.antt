@@ -17,7 +17,7 @@ use Rattle.nb_command.specs.Settings.{Change}
 use Rattle.nb_stack.specs.Client.{Client}
 use Rattle.nb_stack.specs.Bound.{without}
 use Rattle.nb_stack.specs.declared.ports.Port.{Port}
-use Rattle.nb_dns.specs.LookupCalls.{DnsDatagram}
+use Rattle.nb_dns.specs.LookupCalls.{DnsDatagram, LookupEntry}
 use Rattle.nb_dns.specs.LookupReplies.{address_found}
 use Rattle.nb_dns.specs.Lookups.{Lookup}
 use Rattle.nb_dhcp.specs.declared.asker.Asker.{Asker}
@@ -41,7 +41,7 @@ use Rattle.nb_defs.specs.Parts.{HaveNoParts}
 use Rattle.nb_laws.specs.Events.{Event, puts}
 use Rattle.nb_laws.specs.Histories.{client}
 use Rattle.nb_laws.specs.Lists as lists
-use Rattle.nb_laws.specs.Lists.{Hardware, hardware, opens_file, time, made, came_ok, last_end, commands_begun, Opening, openings, open_has_ended, calls, tries, mark_of, marks}
+use Rattle.nb_laws.specs.Lists.{Hardware, hardware, opens_file, time, made, came_ok, last_end, commands_begun, Opening, openings, open_has_ended, calls, tries, mark_of, marks, Mark}
 use Rattle.nb_laws.specs.Cores.{as_dns, handed_over, answers_open}
 use Rattle.nb_laws.specs.CommandsSoFar.{CommandsSoFar, so_far, ComesTo, shown_effect, shown_table, query_in, shown_query, found_table, change_found, query_change, left_table}
 use Rattle.nb_laws.specs.HandOff.{images_brought, image_list, image_at, image_by, shown_effect_of, last_image}

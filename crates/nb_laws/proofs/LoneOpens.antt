@@ -17,7 +17,7 @@ use Rattle.nb_engine.specs.Machine.{asking, running, no_route}
 use Rattle.nb_laws.specs.Events.{Event, puts}
 use Rattle.nb_laws.specs.Histories.{client}
 use Rattle.nb_laws.specs.Lists as lists
-use Rattle.nb_laws.specs.Lists.{Hardware, hardware, time, made, last_end, came_ok, commands_begun, opening_at, openings, open_has_ended as is_ended, calls, tries, marks}
+use Rattle.nb_laws.specs.Lists.{Hardware, hardware, time, made, last_end, came_ok, commands_begun, opening_at, openings, open_has_ended as is_ended, calls, tries, marks, Opening, Mark}
 use Rattle.nb_laws.specs.Cores.{answers_open, has_its_answer}
 use Rattle.nb_laws.specs.CommandsSoFar.{so_far, ComesTo}
 use Rattle.nb_laws.specs.HandOff.{images_brought, image_list}

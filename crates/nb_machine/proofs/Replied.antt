@@ -24,7 +24,7 @@ use Rattle.nb_laws.proofs.Tellings.{same_number}
 use Rattle.nb_machine.specs.Lives.{OpenInput, Exchange, exchange, continued, Live}
 use Rattle.nb_machine.specs.Transfers.{earlier, end_records}
 use Rattle.nb_machine.specs.Cores.{core_end, core_records}
-use Rattle.nb_machine.specs.Takings.{Over, all_have, lives_on, end_among}
+use Rattle.nb_machine.specs.Takings.{Over, all_have, lives_on, end_among, AllTake}
 use Rattle.nb_machine.specs.Takings as takings
 use Rattle.nb_machine.specs.Scripts.{job_for, by_end, settles, goes_onward, settled_with, next_of, upshot_records, concluded_by}
 use Rattle.nb_machine.specs.Kinds.{Keeps}

@@ -31,7 +31,7 @@ use Rattle.nb_machine.specs.States.{state_at_start, with_live, with_one_made}
 use Rattle.nb_machine.specs.Takings.{all_have, is_over}
 use Rattle.nb_machine.specs.Network as network
 use Rattle.nb_machine.specs.Scripts.{fetch, by_time, opens, doing, doing_by, transfer_for, echo_for, live_for, job_for}
-use Rattle.nb_machine.specs.Courses.{Standing, Progress, stands, running, waiting, reaching, handing, left, handed_off, stopped, StepBegins, Proceeds, Course, begins, uses, goes_on}
+use Rattle.nb_machine.specs.Courses.{Standing, Progress, stands, running, waiting, reaching, handing, left, handed_off, stopped, StepBegins, Proceeds, Course, begins, uses, goes_on, ready, yielded}
 use Rattle.nb_machine.specs.Courses as courses
 use Rattle.nb_machine.specs.Carried.{live_of, live_alone, state_in, waiting_in, asking_in, sleeping_in, Lives, HasTalked, LivesAlone, StandsAs, Carries}
 use Rattle.nb_machine.proofs.Ways.{bare_route, bare_send}
