@@ -10,7 +10,7 @@ use Rattle.nb_opens.specs.Alones.{alone_number}
 use Rattle.nb_opens.specs.AloneEvents.{alone_made_events, alone_front, alone_back, alone_closed_events, alone_freed_events}
 use Rattle.nb_opens.specs.AloneNotices.{alone_made}
 use Rattle.nb_opens.specs.Companies.{company_with, HoldsOnly}
-use Rattle.nb_opens.specs.Graphs.{Graphs, bare, holding, Cast, solo, backed, begins_alone, turns_back_alone, begins_beside, turns_back_beside, of_server_name, IsCommand, AreSent, traced}
+use Rattle.nb_opens.specs.Graphs.{Graphs, bare, holding, Cast, solo, backed, begins_alone, turns_back_alone, begins_beside, turns_back_beside, of_server_name, AreFor, AreSent, traced}
 use Rattle.nb_stack.specs.Client.{Client}
 use Rattle.nb_stack.specs.Bound.{with_port, without}
 use Rattle.std.proofs.lemmas.Bool.Decides.{nat_tests}
@@ -52,7 +52,7 @@ backed_talk w (for_echo server) v is = is
 backed_talk w (for_address setting name by) v is = tt
 backed_talk w (for_host errand name by) v is = tt
 
-pub begins_one : (outs asked : List Out) (c : Out) (k n x : ℕ) (t : Talk) (v : Option Waiter) → IsBeside t v → Graphs outs (bare k n) → IsNextObject v n x → IsCommand c → AreSent asked →
+pub begins_one : (outs asked : List Out) (c : Out) (k n x : ℕ) (t : Talk) (v : Option Waiter) → IsBeside t v → Graphs outs (bare k n) → IsNextObject v n x → AreFor (cast_of v (alone_number (kind_of_talk t)) x) c → AreSent asked →
     Graphs (outs ++ ((c ∷ []) ++ (traced (beside_made_events v ++ alone_made_events x (alone_number (kind_of_talk t))) ++ ((open_told k (fields_of t) ∷ []) ++ (traced (alone_front (port_at x 0) way.Down)
     ++ (asked ++ traced (alone_back (port_at x 0)))))))) (holding k (cast_of v (alone_number (kind_of_talk t)) x))
 begins_one outs asked c k n x t None is graphs next command sent =
@@ -62,7 +62,7 @@ begins_one outs asked c k n x (looks_up q calls) (Some v) is graphs next command
 begins_one outs asked c k n x (leases a calls) (Some v) is graphs next command sent = absurd (let no : Some v ≡ None = is in cc)
 begins_one outs asked c k n x (pings p calls) (Some v) is graphs next command sent = absurd (let no : Some v ≡ None = is in cc)
 
-pub turns_one : (outs : List Out) (c : Out) (k n x : ℕ) (cause : Cause) (t : Talk) (v : Option Waiter) → IsBeside t v → Graphs outs (bare k n) → IsNextObject v n x → IsCommand c →
+pub turns_one : (outs : List Out) (c : Out) (k n x : ℕ) (cause : Cause) (t : Talk) (v : Option Waiter) → IsBeside t v → Graphs outs (bare k n) → IsNextObject v n x → AreFor (cast_of v (alone_number (kind_of_talk t)) x) c →
     Graphs (outs ++ ((c ∷ []) ++ (traced (beside_made_events v ++ alone_made_events x (alone_number (kind_of_talk t))) ++ ((open_told k (fields_of t) ∷ []) ++ (traced (alone_front (port_at x 0) way.Down)
     ++ (traced (alone_back (port_at x 0)) ++ (traced (alone_closed_events x cause)
     ++ (traced (alone_freed_events x) ++ (ended k cause ∷ []))))))))) (left_by v k x)

@@ -37,6 +37,7 @@ use Rattle.nb_engine.specs.Talks.{Talk, looks_up, leases, pings, fields_of, prot
 use Rattle.nb_engine.specs.Tellings.{carrier_number, told_records}
 use Rattle.nb_engine.specs.Turns.{Grows}
 use Rattle.nb_engine.proofs.Moves.{move_from}
+use Rattle.nb_engine.proofs.NamedEffects.{intended_named, objects_for}
 use Rattle.nb_engine.proofs.Sides.{same_bare}
 use Rattle.nb_engine.proofs.Standing.{stands_at}
 use Rattle.nb_engine.proofs.TellingLemmas.{sent_messages}
@@ -137,7 +138,7 @@ inquires_grows {old} {new} w g s ws i now has early next route follows backed ta
         let many = same_opens w q s ws now has in
         let at_w : Graphs outs (bare w.opens g.book.made) = subst (λ y. Graphs outs y) (same_bare w.opens g.book.made k m fit) graphs in
         let all = begins_one outs (first_records v.net v.opens t x now.used) (command_record s (shown_as true ws)) v.opens g.book.made x t i.waiter (backed_talk v q i.waiter backed)
-        (subst (λ z. Graphs outs (bare z g.book.made)) (sym many) at_w) follows tt
+        (subst (λ z. Graphs outs (bare z g.book.made)) (sym many) at_w) follows (objects_for v q i.waiter x s ws backed (intended_named w q s ws now has))
         (sent_messages v.net (talker_of v.opens t) (port_at x 1) (downs_of now.used (opening_acts t))) in
         let made : now.graph.book.made ≡ x = (talks_open (company_with i.waiter x) now.graph x v.time t talks).last in (
           holding v.opens (cast_of i.waiter kind x),

@@ -35,6 +35,7 @@ use Rattle.nb_engine.specs.Turns.{Grows, AnswersTurn, IsBusy, IsNearer, moves_le
 use Rattle.nb_engine.specs.World.{with_ended_open}
 use Rattle.nb_engine.proofs.Measures.{further_nearer}
 use Rattle.nb_engine.proofs.Moves.{move_from}
+use Rattle.nb_engine.proofs.NamedEffects.{intended_named, objects_for}
 use Rattle.nb_engine.proofs.Puts.{Puts-outs}
 use Rattle.nb_engine.proofs.Sides.{same_bare}
 use Rattle.nb_engine.proofs.Standing.{stands_at}
@@ -120,7 +121,7 @@ by_talker {old} {middle} {new} w g h s ws q back x now has early route follows b
         let c = command_record s (shown_as true ws) in
         let many = same_opens w q s ws now has in
         let at_v : Graphs outs (bare v.opens g.book.made) = subst (λ y. Graphs outs y) (same_bare v.opens g.book.made k m (many ∙ fit.0, fit.1)) graphs in
-        let all = turns_one outs c v.opens g.book.made x cause t back (backed_talk v q back backed) at_v follows tt in
+        let all = turns_one outs c v.opens g.book.made x cause t back (backed_talk v q back backed) at_v follows (objects_for v q back x s ws backed (intended_named w q s ws now has)) in
         let front = begun_records v back t x now.used c (back_events x cause) in
         let over : List Out = ended v.opens cause ∷ [] in
         let last : List Out = result cause ∷ [] in

@@ -17,6 +17,7 @@ pub mod Eithers
 pub mod CommandLaws
 pub mod Idles
 pub mod Moves
+pub mod NamedEffects
 pub mod Asking
 pub mod InquiryRecords
 pub mod Besides

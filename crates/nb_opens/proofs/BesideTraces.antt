@@ -1,5 +1,5 @@
 -- What an output says of the object graph, as the records of a look-up of a server's name, and of what waits for it, are added.
-use Rattle.std.proofs.Common.{◌≡◌, ℕ, ◌+◌, List, [], ◌∷◌, ◌++◌, Some, refl, subst, append_assoc}
+use Rattle.std.proofs.Common.{◌≡◌, ℕ, ◌+◌, List, [], ◌∷◌, ◌++◌, Some, refl, sym, subst, append_assoc}
 use Rattle.nb_terms.specs.declared.cause.Cause.{Cause}
 use Rattle.nb_defs.specs.Records.{Out, ended}
 use Rattle.nb_ledger.specs.declared.port.Port.{Port}
@@ -15,13 +15,13 @@ use Rattle.nb_opens.specs.Notices.{serial}
 use Rattle.nb_opens.specs.Waiters.{waiter_serial, waiter_number, waiter_made_events, waiter_freed_events}
 use Rattle.nb_opens.specs.AloneEvents.{alone_made_events, alone_front, alone_end_events, alone_back, alone_closed_events, alone_freed_events, alone_shut_events, all_closed_events, beside_shut_events, EntersBy}
 use Rattle.nb_opens.specs.PairEvents.{completed_events, begun_front, begun_back, closed_events, freed_events, IsNone, RunsTo}
-use Rattle.nb_opens.specs.Graphs.{GraphAt, bare, holding, prepared, left_at, Cast, pair, backed, waited, cast_made, cast_freed, AsksBy, beside, after, traced, AreNext, AreAside, AreSent, IsCommand, IsOpening, IsEntry}
+use Rattle.nb_opens.specs.Graphs.{GraphAt, bare, holding, prepared, left_at, Cast, pair, backed, waited, cast_made, cast_freed, AsksBy, beside, after, traced, AreNext, AreAside, AreSent, WaitsFor, IsOpening, IsEntry}
 use Rattle.nb_opens.specs.Traces.{StandsAt, EndsBy, HaveNoCommand, MadeSince, AreMadeIn, completed, had_waited}
 use Rattle.nb_opens.proofs.BesideRuns.{beside_made, beside_entered, beside_ended, beside_closed, beside_shut_run, completed_run}
 use Rattle.nb_opens.proofs.LoneRuns.{solo_entered, solo_ended, solo_closed, solo_freed, solo_shut, open_freed}
 use Rattle.nb_opens.proofs.LoneTraces.{enters_by}
 use Rattle.nb_opens.proofs.PairRuns.{run_then, run_begun, run_closed, run_freed}
-use Rattle.nb_opens.proofs.RecordLemmas.{command_aside, sent_aside, spells_ended, spells_traced, spells_append, spells_aside, spells_opening, run_on, quiet_aside, quiet_append, Begun, begun_on, closes_in, closes_on, ends_by, each_append, each_aside, each_traced, each_opening, each_ended, none_sent, none_traced, none_append, since_on}
+use Rattle.nb_opens.proofs.RecordLemmas.{for_aside, sent_aside, spells_ended, spells_traced, spells_append, spells_aside, spells_opening, run_on, quiet_aside, quiet_append, Begun, begun_on, closes_in, closes_on, ends_by, each_append, each_aside, each_traced, each_opening, each_ended, none_sent, none_traced, none_append, since_on}
 use Rattle.nb_opens.proofs.Stands.{Stands, Holds, Waiting, quiet, made_last, made_so, begins_with, begins_once, begins_now, waits_on, shutting}
 
 -- a Resolver beside what waits
@@ -38,11 +38,11 @@ turned_run n x v cause s next h =
     run_then s ((waiter_made_events v ++ alone_made_events x 5) ++ (alone_front (port_at x 0) way.Down ++ alone_back (port_at x 0))) (alone_closed_events x cause ++ alone_freed_events x) (begun_run n x v s next h) (λ u j.
     beside_closed u (waiter_serial v) x cause j)
 
--- what waits was made behind the command, and the look-up has begun
-waits_since : (outs looked : List Out) (c o : Out) (k x : ℕ) (v : Waiter) → IsCommand c → IsOpening k (backed v x) o → HaveNoCommand looked → MadeSince (outs ++ ((c ∷ []) ++ (traced (cast_made (backed v x)) ++ ((o ∷ []) ++ looked)))) v
-waits_since outs looked c o k x v ic io none = record { earlier = outs; asks = c; opens = o; looked = looked; number = k; resolver = x; is_command = ic; is_opening = io; none = none; all = refl }
+-- what waits was made after the command, and the look-up has begun
+waits_since : (outs looked : List Out) (c o : Out) (k x : ℕ) (v : Waiter) → WaitsFor v c → IsOpening k (backed v x) o → HaveNoCommand looked → MadeSince (outs ++ ((c ∷ []) ++ (traced (cast_made (backed v x)) ++ ((o ∷ []) ++ looked)))) v x
+waits_since outs looked c o k x v ic io none = record { earlier = outs; asks = c; opens = o; looked = looked; number = k; waits_for = ic; is_opening = io; none = none; all = refl }
 
-pub by_beginning_beside : (outs asked : List Out) (c o : Out) (k n x : ℕ) (v : Waiter) → Stands outs (bare k n) → AreNext n (waiter_serial v) x → IsCommand c → IsOpening k (backed v x) o → AreSent asked →
+pub by_beginning_beside : (outs asked : List Out) (c o : Out) (k n x : ℕ) (v : Waiter) → Stands outs (bare k n) → AreNext n (waiter_serial v) x → WaitsFor v c → IsOpening k (backed v x) o → AreSent asked →
     Stands (outs ++ ((c ∷ []) ++ (traced (waiter_made_events v ++ alone_made_events x 5) ++ ((o ∷ []) ++ (traced (alone_front (port_at x 0) way.Down)
     ++ (asked ++ traced (alone_back (port_at x 0)))))))) (holding k (backed v x))
 by_beginning_beside outs asked c o k n x v s next ic io sent =
@@ -54,15 +54,15 @@ by_beginning_beside outs asked c o k n x v s next ic io sent =
     let since : List Out = traced front ++ (asked ++ traced back) in
     record {
       run = run_on (holding k cast) s.run
-          (spells_aside (c ∷ []) (command_aside c ic, tt) (spells_append (spells_traced made) (spells_opening k cast o io (spells_append (spells_traced front) (spells_aside asked h (spells_traced back))))))
+          (spells_aside (c ∷ []) (for_aside cast c ic, tt) (spells_append (spells_traced made) (spells_opening k cast o io (spells_append (spells_traced front) (spells_aside asked h (spells_traced back))))))
           (λ u j. begun_run n x v u next j);
-      each = each_append s.each (each_append (each_aside (c ∷ []) (command_aside c ic, tt)) (each_append (each_traced made) (each_append (each_opening k cast o io (made_last outs c cast ic))
+      each = each_append s.each (each_append (each_aside (c ∷ []) (for_aside cast c ic, tt)) (each_append (each_traced made) (each_append (each_opening k cast o io (made_last outs c cast ic))
           (each_append (each_traced front) (each_append (each_aside asked h) (each_traced back))))));
       holds = begins_once outs since c o k cast ic io (quiet_append (quiet front refl) (quiet_append (quiet_aside asked h) (quiet back refl)));
       waits = waits_since outs since c o k x v ic io (none_append (traced front) (asked ++ traced back) (none_traced front) (none_append asked (traced back) (none_sent asked sent) (none_traced back)));
     }
 
-pub by_turning_beside : (outs : List Out) (c o : Out) (k n x : ℕ) (v : Waiter) (cause : Cause) → Stands outs (bare k n) → AreNext n (waiter_serial v) x → IsCommand c → IsOpening k (backed v x) o →
+pub by_turning_beside : (outs : List Out) (c o : Out) (k n x : ℕ) (v : Waiter) (cause : Cause) → Stands outs (bare k n) → AreNext n (waiter_serial v) x → WaitsFor v c → IsOpening k (backed v x) o →
     Stands (outs ++ ((c ∷ []) ++ (traced (waiter_made_events v ++ alone_made_events x 5) ++ ((o ∷ []) ++ (traced (alone_front (port_at x 0) way.Down)
     ++ (traced (alone_back (port_at x 0)) ++ (traced (alone_closed_events x cause)
     ++ (traced (alone_freed_events x) ++ (ended k cause ∷ []))))))))) (prepared (k + 1) x v)
@@ -77,10 +77,10 @@ by_turning_beside outs c o k n x v cause s next ic io =
     let since : List Out = traced all ++ (ended k cause ∷ []) in
     record {
       run = run_on (prepared (k + 1) x v) s.run
-          (spells_aside (c ∷ []) (command_aside c ic, tt) (spells_append (spells_traced made) (spells_opening k cast o io (spells_append (spells_traced front)
+          (spells_aside (c ∷ []) (for_aside cast c ic, tt) (spells_append (spells_traced made) (spells_opening k cast o io (spells_append (spells_traced front)
           (spells_append (spells_traced back) (spells_append (spells_traced closed) (spells_append (spells_traced freed) (spells_ended k cause))))))))
           (λ u j. turned_run n x v cause u next j);
-      each = each_append s.each (each_append (each_aside (c ∷ []) (command_aside c ic, tt)) (each_append (each_traced made) (each_append (each_opening k cast o io (made_last outs c cast ic))
+      each = each_append s.each (each_append (each_aside (c ∷ []) (for_aside cast c ic, tt)) (each_append (each_traced made) (each_append (each_opening k cast o io (made_last outs c cast ic))
           (each_append (each_traced front) (each_append (each_traced back) (each_append (each_traced closed) (each_append (each_traced freed)
           (each_ended (ends_by cast (closes_in (traced closed) (begun_on (traced back) (begun_on (traced front) (begins_now outs c o k cast ic io) (quiet front refl)) (quiet back refl)) refl))))))))));
       holds = tt;
@@ -175,7 +175,7 @@ by_completing outs asked o k n f t s next io sent =
     let cast : Cast = pair f t in
     let h : AreAside asked = sent_aside asked sent in
     let since : List Out = traced front ++ (asked ++ traced back) in
-    let so : AreMadeIn (outs ++ traced made) cast = completed outs f t s.waits in
+    let so : AreMadeIn (outs ++ traced made) cast = subst (λ y. AreMadeIn (outs ++ traced (completed_events f y)) (pair f y)) (sym next) (completed outs f n s.waits) in
     record {
       run = run_on (holding k cast) s.run (spells_append (spells_traced made) (spells_opening k cast o io (spells_append (spells_traced front) (spells_aside asked h (spells_traced back))))) (λ u j. completed_begun n f t u next j);
       each = each_append s.each (each_append (each_traced made) (each_append (each_opening k cast o io (made_so (outs ++ traced made) cast so)) (each_append (each_traced front) (each_append (each_aside asked h) (each_traced back)))));
@@ -194,7 +194,7 @@ by_turning_completed outs o k n f t cause s next io =
     let closed : List GraphEvent = closed_events f t cause in
     let freed : List GraphEvent = freed_events f t in
     let cast : Cast = pair f t in
-    let so : AreMadeIn (outs ++ traced made) cast = completed outs f t s.waits in
+    let so : AreMadeIn (outs ++ traced made) cast = subst (λ y. AreMadeIn (outs ++ traced (completed_events f y)) (pair f y)) (sym next) (completed outs f n s.waits) in
     record {
       run = run_on (bare (k + 1) t) s.run
           (spells_append (spells_traced made) (spells_opening k cast o io (spells_append (spells_traced front) (spells_append (spells_traced back) (spells_append (spells_traced closed) (spells_append (spells_traced freed) (spells_ended k cause)))))))

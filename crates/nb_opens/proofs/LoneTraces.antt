@@ -11,10 +11,10 @@ use Rattle.nb_ledger.specs.GraphRun.{GraphState, new_ports}
 use Rattle.nb_graph.specs.Whole.{port_at}
 use Rattle.nb_opens.specs.AloneEvents.{alone_made_events, alone_front, alone_end_events, alone_back, alone_closed_events, alone_freed_events, alone_shut_events, IsSolo, EntersBy}
 use Rattle.nb_opens.specs.PairEvents.{IsNone, RunsTo}
-use Rattle.nb_opens.specs.Graphs.{bare, holding, solo, traced, AreAside, IsCommand, IsOpening, IsEntry, by_datagram, by_time}
+use Rattle.nb_opens.specs.Graphs.{bare, holding, solo, traced, AreAside, IsNamed, lone_command, IsOpening, IsEntry, by_datagram, by_time}
 use Rattle.nb_opens.proofs.LoneRuns.{solo_made, solo_entered, solo_ended, solo_closed, solo_freed, solo_shut}
 use Rattle.nb_opens.proofs.PairRuns.{run_then}
-use Rattle.nb_opens.proofs.RecordLemmas.{command_aside, spells_ended, spells_traced, spells_append, spells_aside, spells_opening, run_on, quiet_aside, quiet_append, begun_on, closes_in, closes_on, ends_by, each_append, each_aside, each_traced, each_opening, each_ended}
+use Rattle.nb_opens.proofs.RecordLemmas.{for_aside, spells_ended, spells_traced, spells_append, spells_aside, spells_opening, run_on, quiet_aside, quiet_append, begun_on, closes_in, closes_on, ends_by, each_append, each_aside, each_traced, each_opening, each_ended}
 use Rattle.nb_opens.proofs.Stands.{Stands, quiet, made_last, begins_once, begins_now, shutting}
 
 -- runs
@@ -45,7 +45,7 @@ ended_run x p by cause s at h =
 
 -- what is added
 
-pub by_beginning_alone : (outs asked : List Out) (c o : Out) (k n kind x : ℕ) → Stands outs (bare k n) → x ≡ n + 1 → IsCommand c → IsOpening k (solo kind x) o → AreAside asked →
+pub by_beginning_alone : (outs asked : List Out) (c o : Out) (k n kind x : ℕ) → Stands outs (bare k n) → x ≡ n + 1 → IsNamed (lone_command kind) c → IsOpening k (solo kind x) o → AreAside asked →
     Stands (outs ++ ((c ∷ []) ++ (traced (alone_made_events x kind) ++ ((o ∷ []) ++ (traced (alone_front (port_at x 0) way.Down)
     ++ (asked ++ traced (alone_back (port_at x 0)))))))) (holding k (solo kind x))
 by_beginning_alone outs asked c o k n kind x s next ic io h =
@@ -54,15 +54,15 @@ by_beginning_alone outs asked c o k n kind x s next ic io h =
     let back : List GraphEvent = alone_back (port_at x 0) in
     record {
       run = run_on (holding k (solo kind x)) s.run
-          (spells_aside (c ∷ []) (command_aside c ic, tt) (spells_append (spells_traced made) (spells_opening k (solo kind x) o io (spells_append (spells_traced front) (spells_aside asked h (spells_traced back))))))
+          (spells_aside (c ∷ []) (for_aside (solo kind x) c ic, tt) (spells_append (spells_traced made) (spells_opening k (solo kind x) o io (spells_append (spells_traced front) (spells_aside asked h (spells_traced back))))))
           (λ u j. begun_run n kind x u next j);
-      each = each_append s.each (each_append (each_aside (c ∷ []) (command_aside c ic, tt)) (each_append (each_traced made) (each_append (each_opening k (solo kind x) o io (made_last outs c (solo kind x) ic))
+      each = each_append s.each (each_append (each_aside (c ∷ []) (for_aside (solo kind x) c ic, tt)) (each_append (each_traced made) (each_append (each_opening k (solo kind x) o io (made_last outs c (solo kind x) ic))
           (each_append (each_traced front) (each_append (each_aside asked h) (each_traced back))))));
       holds = begins_once outs (traced front ++ (asked ++ traced back)) c o k (solo kind x) ic io (quiet_append (quiet front refl) (quiet_append (quiet_aside asked h) (quiet back refl)));
       waits = tt;
     }
 
-pub by_turning_alone : (outs : List Out) (c o : Out) (k n kind x : ℕ) (cause : Cause) → Stands outs (bare k n) → x ≡ n + 1 → IsCommand c → IsOpening k (solo kind x) o →
+pub by_turning_alone : (outs : List Out) (c o : Out) (k n kind x : ℕ) (cause : Cause) → Stands outs (bare k n) → x ≡ n + 1 → IsNamed (lone_command kind) c → IsOpening k (solo kind x) o →
     Stands (outs ++ ((c ∷ []) ++ (traced (alone_made_events x kind) ++ ((o ∷ []) ++ (traced (alone_front (port_at x 0) way.Down)
     ++ (traced (alone_back (port_at x 0)) ++ (traced (alone_closed_events x cause)
     ++ (traced (alone_freed_events x) ++ (ended k cause ∷ []))))))))) (bare (k + 1) x)
@@ -75,10 +75,10 @@ by_turning_alone outs c o k n kind x cause s next ic io =
     let begun = begins_now outs c o k (solo kind x) ic io in
     record {
       run = run_on (bare (k + 1) x) s.run
-          (spells_aside (c ∷ []) (command_aside c ic, tt) (spells_append (spells_traced made) (spells_opening k (solo kind x) o io (spells_append (spells_traced front)
+          (spells_aside (c ∷ []) (for_aside (solo kind x) c ic, tt) (spells_append (spells_traced made) (spells_opening k (solo kind x) o io (spells_append (spells_traced front)
           (spells_append (spells_traced back) (spells_append (spells_traced closed) (spells_append (spells_traced freed) (spells_ended k cause))))))))
           (λ u j. turned_run n kind x cause u next j);
-      each = each_append s.each (each_append (each_aside (c ∷ []) (command_aside c ic, tt)) (each_append (each_traced made) (each_append (each_opening k (solo kind x) o io (made_last outs c (solo kind x) ic))
+      each = each_append s.each (each_append (each_aside (c ∷ []) (for_aside (solo kind x) c ic, tt)) (each_append (each_traced made) (each_append (each_opening k (solo kind x) o io (made_last outs c (solo kind x) ic))
           (each_append (each_traced front) (each_append (each_traced back) (each_append (each_traced closed) (each_append (each_traced freed)
           (each_ended (ends_by (solo kind x) (closes_in (traced closed) (begun_on (traced back) (begun_on (traced front) begun (quiet front refl)) (quiet back refl)) refl))))))))));
       holds = tt;

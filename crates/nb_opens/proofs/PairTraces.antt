@@ -8,9 +8,9 @@ use Rattle.nb_ledger.specs.declared.event.GraphEvent.{GraphEvent}
 use Rattle.nb_ledger.specs.GraphRun.{GraphState}
 use Rattle.nb_nodes.specs.Fetches.{body_too_large}
 use Rattle.nb_opens.specs.PairEvents.{made_events, begun_front, begun_back, call_front, up_events, end_events, call_back, large_front, passed_events, large_back, late_events, large_events, closed_events, freed_events, spare_events, shut_events, IsNone, IsJoined, CallsBy, RunsTo}
-use Rattle.nb_opens.specs.Graphs.{bare, holding, pair, traced, AreNext, AreAside, IsCommand, IsOpening, IsEntry, by_datagram, by_time}
+use Rattle.nb_opens.specs.Graphs.{bare, holding, pair, traced, AreNext, AreAside, IsForFile, IsOpening, IsEntry, by_datagram, by_time}
 use Rattle.nb_opens.proofs.PairRuns.{run_then, run_made, run_begun, run_call, run_end, run_large, run_closed, run_freed, run_shut}
-use Rattle.nb_opens.proofs.RecordLemmas.{command_aside, Spells, spells_ended, spells_traced, spells_append, spells_aside, spells_opening, run_on, Quiet, quiet_aside, quiet_append, begun_on, closes_in, closes_on, ends_by, each_append, each_aside, each_traced, each_opening, each_ended}
+use Rattle.nb_opens.proofs.RecordLemmas.{for_aside, Spells, spells_ended, spells_traced, spells_append, spells_aside, spells_opening, run_on, Quiet, quiet_aside, quiet_append, begun_on, closes_in, closes_on, ends_by, each_append, each_aside, each_traced, each_opening, each_ended}
 use Rattle.nb_opens.proofs.Stands.{Stands, quiet, made_last, begins_once, begins_now, shutting}
 
 -- runs
@@ -48,7 +48,7 @@ quiet_up : (f : ℕ) (give : Option (ℕ × ℕ)) → Quiet (traced (up_events f
 quiet_up f None = record { none = refl }
 quiet_up f (Some range) = record { none = refl }
 
-pub by_beginning : (outs asked : List Out) (c o : Out) (k n f t : ℕ) → Stands outs (bare k n) → AreNext n f t → IsCommand c → IsOpening k (pair f t) o → AreAside asked →
+pub by_beginning : (outs asked : List Out) (c o : Out) (k n f t : ℕ) → Stands outs (bare k n) → AreNext n f t → IsForFile c → IsOpening k (pair f t) o → AreAside asked →
     Stands (outs ++ ((c ∷ []) ++ (traced (made_events f t) ++ ((o ∷ []) ++ (traced (begun_front f t)
     ++ (asked ++ traced (begun_back f t))))))) (holding k (pair f t))
 by_beginning outs asked c o k n f t s next ic io h =
@@ -57,15 +57,15 @@ by_beginning outs asked c o k n f t s next ic io h =
     let back : List GraphEvent = begun_back f t in
     record {
       run = run_on (holding k (pair f t)) s.run
-          (spells_aside (c ∷ []) (command_aside c ic, tt) (spells_append (spells_traced made) (spells_opening k (pair f t) o io (spells_append (spells_traced front) (spells_aside asked h (spells_traced back))))))
+          (spells_aside (c ∷ []) (for_aside (pair f t) c ic, tt) (spells_append (spells_traced made) (spells_opening k (pair f t) o io (spells_append (spells_traced front) (spells_aside asked h (spells_traced back))))))
           (λ u j. begun_run n f t u next j);
-      each = each_append s.each (each_append (each_aside (c ∷ []) (command_aside c ic, tt)) (each_append (each_traced made) (each_append (each_opening k (pair f t) o io (made_last outs c (pair f t) ic))
+      each = each_append s.each (each_append (each_aside (c ∷ []) (for_aside (pair f t) c ic, tt)) (each_append (each_traced made) (each_append (each_opening k (pair f t) o io (made_last outs c (pair f t) ic))
           (each_append (each_traced front) (each_append (each_aside asked h) (each_traced back))))));
       holds = begins_once outs (traced front ++ (asked ++ traced back)) c o k (pair f t) ic io (quiet_append (quiet front refl) (quiet_append (quiet_aside asked h) (quiet back refl)));
       waits = tt;
     }
 
-pub by_turning : (outs : List Out) (c o : Out) (k n f t : ℕ) (cause : Cause) → Stands outs (bare k n) → AreNext n f t → IsCommand c → IsOpening k (pair f t) o →
+pub by_turning : (outs : List Out) (c o : Out) (k n f t : ℕ) (cause : Cause) → Stands outs (bare k n) → AreNext n f t → IsForFile c → IsOpening k (pair f t) o →
     Stands (outs ++ ((c ∷ []) ++ (traced (made_events f t) ++ ((o ∷ []) ++ (traced (begun_front f t)
     ++ (traced (begun_back f t) ++ (traced (closed_events f t cause)
     ++ (traced (freed_events f t) ++ (ended k cause ∷ []))))))))) (bare (k + 1) t)
@@ -78,10 +78,10 @@ by_turning outs c o k n f t cause s next ic io =
     let begun = begins_now outs c o k (pair f t) ic io in
     record {
       run = run_on (bare (k + 1) t) s.run
-          (spells_aside (c ∷ []) (command_aside c ic, tt) (spells_append (spells_traced made) (spells_opening k (pair f t) o io (spells_append (spells_traced front)
+          (spells_aside (c ∷ []) (for_aside (pair f t) c ic, tt) (spells_append (spells_traced made) (spells_opening k (pair f t) o io (spells_append (spells_traced front)
           (spells_append (spells_traced back) (spells_append (spells_traced closed) (spells_append (spells_traced freed) (spells_ended k cause))))))))
           (λ u j. turned_run n f t cause u next j);
-      each = each_append s.each (each_append (each_aside (c ∷ []) (command_aside c ic, tt)) (each_append (each_traced made) (each_append (each_opening k (pair f t) o io (made_last outs c (pair f t) ic))
+      each = each_append s.each (each_append (each_aside (c ∷ []) (for_aside (pair f t) c ic, tt)) (each_append (each_traced made) (each_append (each_opening k (pair f t) o io (made_last outs c (pair f t) ic))
           (each_append (each_traced front) (each_append (each_traced back) (each_append (each_traced closed) (each_append (each_traced freed)
           (each_ended (ends_by (pair f t) (closes_in (traced closed) (begun_on (traced back) (begun_on (traced front) begun (quiet front refl)) (quiet back refl)) refl))))))))));
       holds = tt;

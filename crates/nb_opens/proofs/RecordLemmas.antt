@@ -1,5 +1,5 @@
 -- What the records of an output say of the graph, one list of them after another.
-use Rattle.std.proofs.Common.{◌≡◌, ℕ, List, [], ◌∷◌, ◌++◌, map, Option, Some, None, refl, sym, ◌∙◌, ap, subst, append_assoc, append-nil}
+use Rattle.std.proofs.Common.{◌≡◌, ℕ, inl, inr, List, [], ◌∷◌, ◌++◌, map, Option, Some, None, refl, sym, ◌∙◌, ap, subst, append_assoc, append-nil}
 use Rattle.std.proofs.lemmas.List.{map-append}
 use Rattle.nb_terms.specs.declared.cause.Cause.{Cause}
 use Rattle.nb_defs.specs.Records.{Out, step, sent, text, command, result, script, opened, tried, advanced, ended, graph, part, done}
@@ -8,17 +8,30 @@ use Rattle.nb_ledger.specs.declared.event.GraphEvent.{GraphEvent}
 use Rattle.nb_ledger.specs.GraphRun.{GraphState}
 use Rattle.nb_ledger.proofs.RunLemmas.{Run-append}
 use Rattle.nb_opens.specs.PairEvents.{RunsTo}
-use Rattle.nb_opens.specs.Graphs.{GraphAt, Cast, cast_freed, IsCastOf, traced, IsAside, AreAside, IsSent, AreSent, IsReply, IsCommand, IsOpening}
+use Rattle.nb_opens.specs.Graphs.{GraphAt, Cast, cast_freed, IsCastOf, traced, IsAside, AreAside, IsSent, AreSent, IsReply, IsCommand, IsOpening, IsNamed, IsForFile, WaitsFor, AreFor, pair, solo, backed, waited}
 use Rattle.nb_opens.specs.Traces.{event_in, events_in, close_in, first_of, first_closed, no_objects, StandsAt, AreRun, HasBegun, EndsBy, IsMadeFor, EndTheirOpens, HaveObjects, HaveNoCommand, MadeSince}
 use Rattle.nb_opens.specs.declared.waiter.Waiter.{Waiter}
+use Rattle.nb_opens.specs.declared.waiter.Waiter.TheVariants as waiter
 
--- a COMMAND concerns nothing of the graph
-pub command_aside : (o : Out) → IsCommand o → IsAside o
-command_aside (graph happens) h = absurd h
-command_aside (opened number kind server port own target) h = absurd h
-command_aside (ended number cause) h = absurd h
-command_aside (step number) h = tt
-command_aside _ h = tt
+-- a COMMAND that objects are for concerns nothing of the graph
+named_aside : (name : List ℕ) (o : Out) → IsNamed name o → IsAside o
+named_aside name (command depth line place expanded words) h = tt
+named_aside name (step number) h = absurd h
+named_aside name _ h = absurd h
+
+file_aside : (o : Out) → IsForFile o → IsAside o
+file_aside o (inl h) = named_aside _ o h
+file_aside o (inr h) = named_aside _ o h
+
+waits_aside : (v : Waiter) (o : Out) → WaitsFor v o → IsAside o
+waits_aside (waiter.Fetch x) o h = file_aside o h
+waits_aside (waiter.Ping x) o h = named_aside _ o h
+
+pub for_aside : (cast : Cast) (o : Out) → AreFor cast o → IsAside o
+for_aside (pair f t) o h = file_aside o h
+for_aside (solo kind x) o h = named_aside _ o h
+for_aside (backed v x) o h = waits_aside v o h
+for_aside (waited x made) o h = named_aside _ o h
 
 -- events
 
@@ -280,15 +293,14 @@ none_append [] ys a b = b
 none_append (x ∷ xs) ys a b = (a.0, none_append xs ys a.1 b)
 
 -- what waits still waits after records without a COMMAND
-pub since_on : {outs : List Out} {v : Waiter} (added : List Out) → MadeSince outs v → HaveNoCommand added → MadeSince (outs ++ added) v
+pub since_on : {outs : List Out} {v : Waiter} {x : ℕ} (added : List Out) → MadeSince outs v x → HaveNoCommand added → MadeSince (outs ++ added) v x
 since_on added m h = record {
   earlier = m.earlier;
   asks = m.asks;
   opens = m.opens;
   looked = m.looked ++ added;
   number = m.number;
-  resolver = m.resolver;
-  is_command = m.is_command;
+  waits_for = m.waits_for;
   is_opening = m.is_opening;
   none = none_append m.looked added m.none h;
   all = ap (λ z. z ++ added) m.all ∙ simp append_assoc;

@@ -5,7 +5,7 @@ use Rattle.nb_defs.specs.Records.{Out, ended}
 use Rattle.nb_ledger.specs.declared.event.GraphEvent.{GraphEvent}
 use Rattle.nb_ledger.specs.GraphRun.{GraphState}
 use Rattle.nb_opens.specs.PairEvents.{IsNone, RunsTo}
-use Rattle.nb_opens.specs.Graphs.{GraphAt, bare, holding, prepared, Cast, pair, solo, backed, waited, cast_made, cast_freed, cast_shut, last_made, traced, AreAside, IsCommand, IsOpening}
+use Rattle.nb_opens.specs.Graphs.{GraphAt, bare, holding, prepared, Cast, pair, solo, backed, waited, cast_made, cast_freed, cast_shut, last_made, traced, AreAside, AreFor, IsOpening}
 use Rattle.nb_opens.specs.Traces.{AreRun, AreMadeIn, at_once, EndsBy, HaveNoCommand, MadeSince, StandsAt, first_closed, no_objects}
 use Rattle.nb_opens.proofs.RecordLemmas.{Spells, spells_none, spells_ended, spells_traced, spells_append, run_on, Quiet, quiet_aside, Begun, begun_on, closes_in, ends_by, MadeLast, EachOut, each_nothing, each_append, each_aside, each_traced, each_ended, since_on}
 
@@ -15,13 +15,13 @@ Holds outs (bare opens made) = Unit {0}
 Holds outs (holding k cast) = Begun outs k cast
 Holds outs (prepared opens made v) = Unit {0}
 
--- what waits was made since the COMMAND that began last
+-- what waits was made since the COMMAND that began last, before the Resolver that was made last
 abbrev pub Waiting : List Out → GraphAt → Type 0
 Waiting outs (bare opens made) = Unit {0}
-Waiting outs (prepared opens made v) = MadeSince outs v
+Waiting outs (prepared opens made v) = MadeSince outs v made
 Waiting outs (holding k (pair f t)) = Unit {0}
 Waiting outs (holding k (solo kind x)) = Unit {0}
-Waiting outs (holding k (backed v x)) = MadeSince outs v
+Waiting outs (holding k (backed v x)) = MadeSince outs v x
 Waiting outs (holding k (waited x made)) = Unit {0}
 
 -- what goes on as records are added
@@ -77,10 +77,10 @@ pub made_so : (before : List Out) (cast : Cast) → AreMadeIn before cast → Ma
 made_so before cast made = record { made_for = λ kind is. record { cast = cast; is_cast = is; made = made } }
 
 -- a command, and these objects made behind it
-once : (outs : List Out) (c : Out) (cast : Cast) → IsCommand c → AreMadeIn ((outs ++ (c ∷ [])) ++ traced (cast_made cast)) cast
+once : (outs : List Out) (c : Out) (cast : Cast) → AreFor cast c → AreMadeIn ((outs ++ (c ∷ [])) ++ traced (cast_made cast)) cast
 once outs c cast ic = subst (λ z. AreMadeIn z cast) (sym (append_assoc outs (c ∷ []) (traced (cast_made cast)))) (at_once outs c cast ic)
 
-pub made_last : (outs : List Out) (c : Out) (cast : Cast) → IsCommand c → MadeLast ((outs ++ (c ∷ [])) ++ traced (cast_made cast)) cast
+pub made_last : (outs : List Out) (c : Out) (cast : Cast) → AreFor cast c → MadeLast ((outs ++ (c ∷ [])) ++ traced (cast_made cast)) cast
 made_last outs c cast ic = made_so ((outs ++ (c ∷ [])) ++ traced (cast_made cast)) cast (once outs c cast ic)
 
 -- an open begins with the objects that were made so
@@ -88,11 +88,11 @@ pub begins_with : {before since : List Out} {k : ℕ} {cast : Cast} (o : Out) �
 begins_with {before = before} {since = since} o made io q = record { since = since; begun = record { before = before; opens = o; made = made; is_opening = io; all = refl }; none = q }
 
 -- so where they were made behind a command
-pub begins_once : (outs since : List Out) (c o : Out) (k : ℕ) (cast : Cast) → IsCommand c → IsOpening k cast o → Quiet since → Begun (outs ++ ((c ∷ []) ++ (traced (cast_made cast) ++ ((o ∷ []) ++ since)))) k cast
+pub begins_once : (outs since : List Out) (c o : Out) (k : ℕ) (cast : Cast) → AreFor cast c → IsOpening k cast o → Quiet since → Begun (outs ++ ((c ∷ []) ++ (traced (cast_made cast) ++ ((o ∷ []) ++ since)))) k cast
 begins_once outs since c o k cast ic io q =
     subst (λ z. Begun z k cast) (append_assoc outs ((c ∷ []) ++ traced (cast_made cast)) ((o ∷ []) ++ since)) (begins_with o (at_once outs c cast ic) io q)
 
-pub begins_now : (outs : List Out) (c o : Out) (k : ℕ) (cast : Cast) → IsCommand c → IsOpening k cast o → Begun (((outs ++ (c ∷ [])) ++ traced (cast_made cast)) ++ (o ∷ [])) k cast
+pub begins_now : (outs : List Out) (c o : Out) (k : ℕ) (cast : Cast) → AreFor cast c → IsOpening k cast o → Begun (((outs ++ (c ∷ [])) ++ traced (cast_made cast)) ++ (o ∷ [])) k cast
 begins_now outs c o k cast ic io = begins_with o (once outs c cast ic) io (quiet [] refl)
 
 -- the graph ends: no close stands before these, by which the objects are closed

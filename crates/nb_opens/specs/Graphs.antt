@@ -1,5 +1,5 @@
 -- The object graph in a run's output: in which order its records stand among the others. Our own.
-use Rattle.std.specs.Prelude.{◌≡◌, ℕ, ◌+◌, Bool, true, false, not, List, [], ◌∷◌, ◌++◌, map, filter, Option, Some}
+use Rattle.std.specs.Prelude.{◌≡◌, ◌⊎◌, ℕ, ◌+◌, ◌==◌, Bool, true, false, not, List, [], ◌∷◌, ◌++◌, map, filter, Option, Some, codes, if◌then◌else◌}
 use Rattle.std.specs.List.{AllByRecursion}
 use Rattle.nb_terms.specs.declared.cause.Cause.{Cause}
 use Rattle.nb_defs.specs.Records.{Out, step, sent, text, command, result, script, opened, tried, advanced, ended, graph, part, done}
@@ -142,6 +142,37 @@ IsCommand (command depth line place expanded words) = Unit {0}
 IsCommand (step number) = ⊥
 IsCommand _ = ⊥
 
+-- words that begin with a command's name
+abbrev pub AreNamed : List ℕ → List (List ℕ) → Type 0
+AreNamed name [] = ⊥
+AreNamed name (word ∷ words) = word ≡ name
+
+-- a COMMAND whose words do, as it shows them
+abbrev pub IsNamed : List ℕ → Out → Type 0
+IsNamed name (command depth line place expanded words) = AreNamed name words
+IsNamed name (step number) = ⊥
+IsNamed name _ = ⊥
+
+-- a file's
+abbrev pub IsForFile : Out → Type 0
+IsForFile c = IsNamed (codes "imgfetch") c ⊎ IsNamed (codes "imgexec") c
+
+-- what waits is made for this command: a Fetch for a file's, a Ping for an echo's
+abbrev pub WaitsFor : Waiter → Out → Type 0
+WaitsFor (waiter.Fetch x) c = IsForFile c
+WaitsFor (waiter.Ping x) c = IsNamed (codes "ping") c
+
+-- the command for which one object of a kind is made: a Resolver for a look-up, a Dhcp for a lease, a Ping for an echo
+abbrev pub lone_command : ℕ → List ℕ
+lone_command kind = if kind == 5 then codes "nslookup" else if kind == 6 then codes "dhcp" else codes "ping"
+
+-- the objects of an open are made for this command
+abbrev pub AreFor : Cast → Out → Type 0
+AreFor (pair f t) c = IsForFile c
+AreFor (solo kind x) c = IsNamed (lone_command kind) c
+AreFor (backed v x) c = WaitsFor v c
+AreFor (waited x made) c = IsNamed (codes "ping") c
+
 -- the open of this number begins, of a kind that has these objects
 abbrev pub IsOpening : ℕ → Cast → Out → Type 0
 IsOpening k cast (opened number kind server port own target) = (number ≡ k) × IsCastOf kind cast
@@ -177,8 +208,8 @@ abbrev pub AreNext : ℕ → ℕ → ℕ → Type 0
 AreNext made f t = (f ≡ made + 1) × (t ≡ made + 2)
 
 -- An output, as far as the graph is concerned, and where the graph stands then. An open's objects are made between the
--- COMMAND and the OPEN, or its first was made before the look-up of its server's name, which has an open of its own, and
--- waited. While it lives, a step has a reply at most, or begins with an entry of its Tftp or of its one object, in which what
+-- OPEN and the COMMAND that they are for, or its first was made before the look-up of its server's name, which has an open
+-- of its own, and waited. While it lives, a step has a reply at most, or begins with an entry of its Tftp or of its one object, in which what
 -- that sends stands. What such an object finds is given to its user, and stands in no record. The
 -- end of the open stands after its objects were freed, with the cause of the first close.
 pub data Graphs : List Out → GraphAt → Type 0 where
@@ -189,11 +220,11 @@ pub data Graphs : List Out → GraphAt → Type 0 where
   -- a step that doesn't concern an open that lives, so far, with a reply at most
   passes : (outs reply : List Out) (n k : ℕ) (cast : Cast) → Graphs outs (holding k cast) → IsReply reply → Graphs (outs ++ (step n ∷ reply)) (holding k cast)
   -- an open begins, and what it sends first leaves
-  begins : (outs asked : List Out) (c o : Out) (k n f t : ℕ) → Graphs outs (bare k n) → AreNext n f t → IsCommand c → IsOpening k (pair f t) o → AreSent asked →
+  begins : (outs asked : List Out) (c o : Out) (k n f t : ℕ) → Graphs outs (bare k n) → AreNext n f t → IsForFile c → IsOpening k (pair f t) o → AreSent asked →
       Graphs (outs ++ ((c ∷ []) ++ (traced (made_events f t) ++ ((o ∷ []) ++ (traced (begun_front f t)
       ++ (asked ++ traced (begun_back f t))))))) (holding k (pair f t))
   -- one begins to whose server there is no way: its user closes it with that cause
-  turns_back : (outs : List Out) (c o : Out) (k n f t : ℕ) (cause : Cause) → Graphs outs (bare k n) → AreNext n f t → IsCommand c → IsOpening k (pair f t) o →
+  turns_back : (outs : List Out) (c o : Out) (k n f t : ℕ) (cause : Cause) → Graphs outs (bare k n) → AreNext n f t → IsForFile c → IsOpening k (pair f t) o →
       Graphs (outs ++ ((c ∷ []) ++ (traced (made_events f t) ++ ((o ∷ []) ++ (traced (begun_front f t)
       ++ (traced (begun_back f t) ++ (traced (closed_events f t cause)
       ++ (traced (freed_events f t) ++ (ended k cause ∷ []))))))))) (bare (k + 1) t)
@@ -215,11 +246,11 @@ pub data Graphs : List Out → GraphAt → Type 0 where
       ++ (traced (late_events t over) ++ (traced (call_back p)
       ++ (traced (freed_events f t) ++ (ended k body_too_large ∷ [])))))))))) (bare (k + 1) t)
   -- an open of one object begins, and what it sends first leaves
-  begins_alone : (outs asked : List Out) (c o : Out) (k n kind x : ℕ) → Graphs outs (bare k n) → x ≡ n + 1 → IsCommand c → IsOpening k (solo kind x) o → AreSent asked →
+  begins_alone : (outs asked : List Out) (c o : Out) (k n kind x : ℕ) → Graphs outs (bare k n) → x ≡ n + 1 → IsNamed (lone_command kind) c → IsOpening k (solo kind x) o → AreSent asked →
       Graphs (outs ++ ((c ∷ []) ++ (traced (alone_made_events x kind) ++ ((o ∷ []) ++ (traced (alone_front (port_at x 0) way.Down)
       ++ (asked ++ traced (alone_back (port_at x 0)))))))) (holding k (solo kind x))
   -- one begins to whose server there is no way: its user closes it with that cause
-  turns_back_alone : (outs : List Out) (c o : Out) (k n kind x : ℕ) (cause : Cause) → Graphs outs (bare k n) → x ≡ n + 1 → IsCommand c → IsOpening k (solo kind x) o →
+  turns_back_alone : (outs : List Out) (c o : Out) (k n kind x : ℕ) (cause : Cause) → Graphs outs (bare k n) → x ≡ n + 1 → IsNamed (lone_command kind) c → IsOpening k (solo kind x) o →
       Graphs (outs ++ ((c ∷ []) ++ (traced (alone_made_events x kind) ++ ((o ∷ []) ++ (traced (alone_front (port_at x 0) way.Down)
       ++ (traced (alone_back (port_at x 0)) ++ (traced (alone_closed_events x cause)
       ++ (traced (alone_freed_events x) ++ (ended k cause ∷ []))))))))) (bare (k + 1) x)
@@ -233,11 +264,11 @@ pub data Graphs : List Out → GraphAt → Type 0 where
       Graphs (outs ++ (traced (alone_front p by) ++ (put ++ (traced (alone_end_events x (Some cause)) ++ (traced (alone_back p)
       ++ (traced (alone_freed_events x) ++ (ended k cause ∷ []))))))) (bare (k + 1) x)
   -- A server's name is looked up: what waits for its own open is made before the Resolver.
-  begins_beside : (outs asked : List Out) (c o : Out) (k n x : ℕ) (v : Waiter) → Graphs outs (bare k n) → AreNext n (waiter_serial v) x → IsCommand c → IsOpening k (backed v x) o → AreSent asked →
+  begins_beside : (outs asked : List Out) (c o : Out) (k n x : ℕ) (v : Waiter) → Graphs outs (bare k n) → AreNext n (waiter_serial v) x → WaitsFor v c → IsOpening k (backed v x) o → AreSent asked →
       Graphs (outs ++ ((c ∷ []) ++ (traced (waiter_made_events v ++ alone_made_events x 5) ++ ((o ∷ []) ++ (traced (alone_front (port_at x 0) way.Down)
       ++ (asked ++ traced (alone_back (port_at x 0)))))))) (holding k (backed v x))
   -- there is no way to the name server: the Resolver is let go, and what waits is left
-  turns_back_beside : (outs : List Out) (c o : Out) (k n x : ℕ) (v : Waiter) (cause : Cause) → Graphs outs (bare k n) → AreNext n (waiter_serial v) x → IsCommand c → IsOpening k (backed v x) o →
+  turns_back_beside : (outs : List Out) (c o : Out) (k n x : ℕ) (v : Waiter) (cause : Cause) → Graphs outs (bare k n) → AreNext n (waiter_serial v) x → WaitsFor v c → IsOpening k (backed v x) o →
       Graphs (outs ++ ((c ∷ []) ++ (traced (waiter_made_events v ++ alone_made_events x 5) ++ ((o ∷ []) ++ (traced (alone_front (port_at x 0) way.Down)
       ++ (traced (alone_back (port_at x 0)) ++ (traced (alone_closed_events x cause)
       ++ (traced (alone_freed_events x) ++ (ended k cause ∷ []))))))))) (prepared (k + 1) x v)

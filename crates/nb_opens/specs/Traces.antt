@@ -1,5 +1,5 @@
 -- What the records of an output say of the object graph alone, as `Graphs` has it.
-use Rattle.std.specs.Prelude.{◌≡◌, ℕ, ◌==◌, false, List, [], ◌∷◌, ◌++◌, map, Option, Some, None, if◌then◌else◌}
+use Rattle.std.specs.Prelude.{◌≡◌, ℕ, ◌+◌, ◌==◌, false, List, [], ◌∷◌, ◌++◌, map, Option, Some, None, if◌then◌else◌}
 use Rattle.nb_terms.specs.declared.cause.Cause.{Cause}
 use Rattle.nb_terms.specs.declared.event.Event.{Event}
 use Rattle.nb_defs.specs.Records.{Out, step, opened, ended, graph}
@@ -14,7 +14,7 @@ use Rattle.nb_opens.specs.Notices.{serial}
 use Rattle.nb_opens.specs.Waiters.{waiter_serial}
 use Rattle.nb_opens.specs.AloneEvents.{IsSolo, IsSoloOf, IsWaitingOf, AreBeside}
 use Rattle.nb_opens.specs.PairEvents.{IsNone, IsJoined, completed_events}
-use Rattle.nb_opens.specs.Graphs.{GraphAt, bare, holding, prepared, Cast, pair, solo, backed, waited, cast_made, cast_freed, IsCastOf, traced, IsCommand, IsOpening}
+use Rattle.nb_opens.specs.Graphs.{GraphAt, bare, holding, prepared, Cast, pair, solo, backed, waited, cast_made, cast_freed, IsCastOf, traced, IsCommand, IsOpening, WaitsFor, AreFor}
 
 -- what a record says of the graph
 abbrev pub event_in : Out → List Event
@@ -68,26 +68,25 @@ first_closed (o ∷ outs) = first_of (close_in o) (first_closed outs)
 abbrev pub HaveNoCommand : List Out → Type 0
 HaveNoCommand outs = AllByRecursion (λ o. IsCommand o → ⊥) outs
 
--- What waits was made directly behind the COMMAND that began last, and then a Resolver, with which the look-up of its
--- server's name began.
-pub record MadeSince (before : List Out) (v : Waiter) : Type 0 where
+-- What waits was made directly after the COMMAND that began last, which it is for, and then this Resolver, with which the
+-- look-up of its server's name began.
+pub record MadeSince (before : List Out) (v : Waiter) (resolver : ℕ) : Type 0 where
   pub earlier : List Out
   pub asks : Out
   pub opens : Out
   pub looked : List Out
   pub number : ℕ
-  pub resolver : ℕ
-  pub is_command : IsCommand asks
+  pub waits_for : WaitsFor v asks
   pub is_opening : IsOpening number (backed v resolver) opens
   pub none : HaveNoCommand looked
   pub all : before ≡ earlier ++ ((asks ∷ []) ++ (traced (cast_made (backed v resolver)) ++ ((opens ∷ []) ++ looked)))
 
--- These objects were made last in these records, behind a COMMAND; or the first of them was, and waited, and the others, if
--- there are any, were made last.
+-- These objects were made last in these records, after the COMMAND that they are for; or the first of them was, and waited,
+-- and a Tftp, if it is a Fetch, was made last, next to the Resolver.
 pub data AreMadeIn : List Out → Cast → Type 0 where
-  at_once : (earlier : List Out) (asks : Out) (cast : Cast) → IsCommand asks → AreMadeIn (earlier ++ ((asks ∷ []) ++ traced (cast_made cast))) cast
-  completed : (before : List Out) (f t : ℕ) → MadeSince before (waiter.Fetch (serial f)) → AreMadeIn (before ++ traced (completed_events f t)) (pair f t)
-  had_waited : (before : List Out) (x made : ℕ) → MadeSince before (waiter.Ping (serial x)) → AreMadeIn before (waited x made)
+  at_once : (earlier : List Out) (asks : Out) (cast : Cast) → AreFor cast asks → AreMadeIn (earlier ++ ((asks ∷ []) ++ traced (cast_made cast))) cast
+  completed : (before : List Out) (f resolver : ℕ) → MadeSince before (waiter.Fetch (serial f)) resolver → AreMadeIn (before ++ traced (completed_events f (resolver + 1))) (pair f (resolver + 1))
+  had_waited : (before : List Out) (x resolver : ℕ) → MadeSince before (waiter.Ping (serial x)) resolver → AreMadeIn before (waited x resolver)
 
 -- Open k has begun in these records: its objects, these, were made before the OPEN, and this stands behind it.
 pub record HasBegun (outs : List Out) (k : ℕ) (cast : Cast) (since : List Out) : Type 0 where
