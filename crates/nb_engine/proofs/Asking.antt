@@ -141,7 +141,7 @@ asks_grows {old} {new} n w d g h s ws wanted has e route short next downloads p 
     order outs (bare k m) graphs fit =
         let at_w : Graphs outs (bare w.opens g.book.made) = subst (λ q. Graphs outs q) (same_bare w.opens g.book.made k m fit) graphs in
         let asked = asked_records w d wanted n in
-        let all = begins outs asked (command_record s (shown_as true ws)) (opened_record w wanted) w.opens g.book.made d.fetch.0 d.tftp.0 at_w next (asked_for s ws e) (refl, of_file d.fetch.0 d.tftp.0)
+        let all = begins outs asked (command_record s (shown_as true ws)) (opened_record w wanted) w.opens g.book.made d.fetch.0 d.tftp.0 at_w next (asked_for w wanted s ws e) (refl, of_file d.fetch.0 d.tftp.0)
         (sent_messages w.net (speaker_of (next_fetch w d wanted)) (port_at d.tftp.0 1) (downs_of n (first_acts (begun_for w wanted)))) in
         (holding w.opens (pair d.fetch.0 d.tftp.0), rw (append-nil (traced (begun_back d.fetch.0 d.tftp.0))) all, (refl, refl, refl))
 
@@ -199,7 +199,7 @@ no_route_grows {old} {middle} {new} n w d g h s ws wanted has e route next made 
         let c = command_record s (shown_as true ws) in
         let t = d.tftp.0 in
         let at_w : Graphs outs (bare w.opens g.book.made) = subst (λ q. Graphs outs q) (same_bare w.opens g.book.made k m fit) graphs in
-        let all = turns_back outs c (opened_record w wanted) w.opens g.book.made d.fetch.0 t cause at_w next (asked_for s ws e) (refl, of_file d.fetch.0 t) in
+        let all = turns_back outs c (opened_record w wanted) w.opens g.book.made d.fetch.0 t cause at_w next (asked_for w wanted s ws e) (refl, of_file d.fetch.0 t) in
         let front = begun_records w d wanted n c (back_events d cause) in
         let whole : Graphs ((outs ++ (front ++ (ended w.opens cause ∷ []))) ++ conclusion_records (fails cause)) (bare (w.opens + 1) t) =
         aside (outs ++ (front ++ (ended w.opens cause ∷ []))) (conclusion_records (fails cause)) (w.opens + 1) t (rw (nothing_asked w d wanted n route) all) (tt, tt) in (

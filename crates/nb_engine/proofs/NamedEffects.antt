@@ -244,8 +244,8 @@ unfolding words_effect
 words_named opens table ws = planned_named opens table ws
 
 -- a file that words ask for is asked for by a file's command
-pub asked_for : {w : World} {wanted : Wanted} (s : Running) (ws : List (List ℕ)) → words_effect w.opens w.state.table ws ≡ asks wanted → IsForFile (command_record s (shown_as true ws))
-asked_for {w} s ws is = subst (IsEffectNamed ws) is (words_named w.opens w.state.table ws)
+pub asked_for : (w : World) (wanted : Wanted) (s : Running) (ws : List (List ℕ)) → words_effect w.opens w.state.table ws ≡ asks wanted → IsForFile (command_record s (shown_as true ws))
+asked_for w wanted s ws is = subst (IsEffectNamed ws) is (words_named w.opens w.state.table ws)
 
 -- what was intended is asked by a command of its name, of which the words are shown
 pub intended_named : (w : World) (q : Query) (s : Running) (ws : List (List ℕ)) (now : Seen) → HasIntended w q s ws now → IsQueryNamed q ws
