@@ -17,14 +17,13 @@ HERE = Path(__file__).resolve().parent
 sys.path.insert(0, str(HERE.parent / "tools"))
 
 from shared.records import Received, Record, Tick  # noqa: E402
-from shared.wire import Station, arp_reply, padded, tftp_data  # noqa: E402
+from shared.wire import arp_reply, padded, tftp_data  # noqa: E402
 from shared.wire_dhcp import Asker, Kind, Tag, to_client  # noqa: E402
 from shared.wire_dhcp import answer as lease_answer  # noqa: E402
-from stations import CLIENT, SERVER, UNSET, answer, start, write  # noqa: E402
+from stations import CLIENT, LEASED, SERVER, UNSET, answer, start, write  # noqa: E402
 
 # the number of the first open's transaction, by START's key of zeros
 ASKER = Asker(CLIENT.mac, 0x2FEF003E)
-LEASED = Station(CLIENT.mac, IPv4Address("10.0.0.50"))
 KERNEL = b"\x7fELF\x02\x01\x01" + b"a kernel that a lease named"
 OPTIONS = (
     (Tag.NETMASK, IPv4Address("255.255.255.0").packed),

@@ -8,7 +8,6 @@ TFTP and knows no options (RFC 1350). Everything here is fixed, so each run make
 from __future__ import annotations
 
 import sys
-from ipaddress import IPv4Address
 from pathlib import Path
 from typing import Iterator
 
@@ -17,11 +16,10 @@ sys.path.insert(0, str(HERE.parent / "tools"))
 
 from shared import wire_dns  # noqa: E402
 from shared.records import Received, Record, Tick  # noqa: E402
-from shared.wire import PROTOCOL_ICMP, Station, arp_reply, echo, packet_frame, padded  # noqa: E402
+from shared.wire import PROTOCOL_ICMP, arp_reply, echo, packet_frame, padded  # noqa: E402
 from shared.wire import tftp_data, udp_frame  # noqa: E402
-from stations import CLIENT, FIRST_OWN_PORT, SERVER, answer, start, write  # noqa: E402
+from stations import CLIENT, FILES, FIRST_OWN_PORT, SERVER, answer, start, write  # noqa: E402
 
-FILES = Station(bytes.fromhex("525400000009"), IPv4Address("10.0.0.9"))
 ECHO_REPLY = 0
 # the number of the second open's query, by START's key of zeros
 QUERY_NUMBER = 0xAED2

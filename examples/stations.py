@@ -1,6 +1,6 @@
 """The machines of the made recordings, and the client's first record.
 
-The client is 10.0.0.2 by START, or has no address there and takes a lease.
+The client is 10.0.0.2 by START, or has no address there and takes a lease, of 10.0.0.50.
 """
 
 from __future__ import annotations
@@ -18,7 +18,10 @@ from shared.records import Received, Record, Start, spell  # noqa: E402
 from shared.wire import Station, padded, udp_frame  # noqa: E402
 
 CLIENT = Station(bytes.fromhex("525400000001"), IPv4Address("10.0.0.2"))
+LEASED = Station(CLIENT.mac, IPv4Address("10.0.0.50"))
 SERVER = Station(bytes.fromhex("525400000002"), IPv4Address("10.0.0.1"))
+# a host with a name, which has the files
+FILES = Station(bytes.fromhex("525400000009"), IPv4Address("10.0.0.9"))
 
 UNSET = IPv4Address(0)
 FIRST_OWN_PORT = 49_152
@@ -51,8 +54,8 @@ def start(
     )
 
 
-def write(name: str, records: Callable[[bytes], Iterable[Record]]) -> None:
-    """Writes the recording of the script of this name, both beside this file."""
-    script = (HERE / f"{name}.ipxe").read_bytes()
-    (HERE / f"{name}.rec").write_bytes(b"".join(spell(record) for record in records(script)))
+def write(name: str, records: Callable[[bytes], Iterable[Record]], script: str | None = None) -> None:
+    """Writes a recording beside this file, of the script of this name or of its own."""
+    text = (HERE / f"{script or name}.ipxe").read_bytes()
+    (HERE / f"{name}.rec").write_bytes(b"".join(spell(record) for record in records(text)))
     print(f"wrote {name}.rec")

@@ -14,10 +14,10 @@ from shared.kinds import ObjectKind, OpenKind, PartKind, Status
 from shared.records import Advance, Done, Off, Open, Part, Received, Record, Result, Sent, Start, Step, Tick, Try
 from shared.wire import Station, arp_reply, arp_request, tftp_ack, tftp_data, tftp_request, udp_frame
 from tests import graph_records, made
-from tests.asking_records import FOUND, LookUp, Ping
-from tests.graph_records import Pair, Waiter
+from tests.asking_records import FOUND, LEASED_CLIENT, Lease, LookUp, Ping
+from tests.graph_records import Pair, Waiter, came, passed
 from tests.replays import can_run
-from tests.script_rows import FIRST, UNFINISHED, Row, RowCase, left, ran, row, steps
+from tests.script_rows import FIRST, UNFINISHED, Row, RowCase, example, left, ran, row, steps
 
 BAD_NAME, NO_SERVER = Cause(Code.BAD_NAME), Cause(Code.NO_SERVER)
 TIMED_OUT = Cause(Code.TIMED_OUT, 6)
@@ -305,8 +305,53 @@ def refusals() -> dict[str, Row]:
     }  # fmt: skip
 
 
+LEASE, NAMED = Lease(), LookUp(1, 3, client=LEASED_CLIENT, name=b"boot.lan")
+
+
+def until_asked() -> list[Record]:
+    """The first eight steps of examples/name-boot.ipxe: a lease, and the query for the server's address."""
+    begins = [Step(1), made.enter(), made.command(b"dhcp", 4), *LEASE.begins(*LEASE.discovers())]
+    boots = [
+        *LEASE.came(over=OK), Result(OK), *ran(b"echo 10.0.0.50 asks 10.0.0.1 for boot.lan", line=5),
+        made.command(b"imgexec tftp://boot/vmlinuz", 6), *waits(Waiter(2, ObjectKind.FETCH), NAMED),
+    ]  # fmt: skip
+    queries = NAMED.passed(*NAMED.queries(2))
+    timed = LEASE.passed()
+    return [*begins, *steps(2, timed, LEASE.came(*LEASE.requests()), timed, boots, [], queries, NAMED.passed())]
+
+
+def the_example() -> Row:
+    """examples/name-boot.rec: the file has two blocks, which come after the server has granted their size."""
+    inputs, pair, own = example("name-boot"), Pair(2, 2, 4), made.OWN_PORT + 2
+    port = made.SERVER_PORT + 2
+    kernel = inputs[-2].frame[46:1_478] + inputs[-1].frame[46:614]
+    opened = Open(2, OpenKind.TFTP, FOUND, 69, own, b"vmlinuz")
+    asks_where = Sent(arp_request(LEASED_CLIENT, FOUND))
+    request = Sent(udp_frame(LEASED_CLIENT, HOST, (own, 69), tftp_request(b"vmlinuz")))
+    acks = [Sent(udp_frame(LEASED_CLIENT, HOST, (own, port), tftp_ack(block))) for block in range(3)]
+    found = [*NAMED.came(over=OK), *graph_records.asked_next(opened, Try(2, 1), asks_where, cast=pair)]
+    handed_off = [
+        Result(OK), Part(PartKind.KERNEL_NAME, 0, 0, b"vmlinuz"), Part(PartKind.KERNEL, 0, 0, kernel),
+        Part(PartKind.COMMAND_LINE, 0, 0, b""), Done(Status.HANDED_OFF),
+    ]  # fmt: skip
+    later = steps(
+        9, found, [], passed(pair, Try(2, 2), request), came(pair, Try(2, 1), acks[0]),
+        came(pair, Advance(2, 1), Try(2, 1), acks[1], gives=True),
+        [*came(pair, Advance(2, 2), acks[2], gives=True, over=OK), *handed_off],
+    )  # fmt: skip
+    return Row(inputs, [*until_asked(), *later])
+
+
+def the_example_that_fails() -> Row:
+    """examples/name-unknown.rec: the name server knows no such name."""
+    cause = Cause(Code.REFUSED, 9, 3)
+    later = steps(9, fails(Waiter(2, ObjectKind.FETCH), cause, NAMED))
+    return Row(example("name-unknown"), [*until_asked(), *later, *left(cause)])
+
+
 ROWS = {
     **files(), **failed_files(), **pings(), **refusals(),
+    "the_example": the_example(), "the_example_that_fails": the_example_that_fails(),
     "two_commands": two_commands(), "the_last_open": the_last_open(),
 }  # fmt: skip
 

@@ -59,15 +59,18 @@ class Examples(Case):
 
     def test_the_boots_are_made_anew(self) -> None:
         (self.folder / "inner").mkdir()
-        for name in ("fallback.ipxe", "settings.ipxe", "dhcp.ipxe", "lookup.ipxe", "stations.py"):
-            shutil.copy(EXAMPLES / name, self.folder / "inner")
-        for name in ("tftp-boot", "fallback", "settings", "dhcp", "lookup"):
+        shutil.copy(EXAMPLES / "stations.py", self.folder / "inner")
+        for name in ("fallback", "settings", "dhcp", "lookup", "name-boot"):
+            shutil.copy(EXAMPLES / f"{name}.ipxe", self.folder / "inner")
+        for name in ("tftp-boot", "fallback", "settings", "dhcp", "lookup", "name-boot"):
             maker = f"make_{name.replace('-', '_')}"
             shutil.copy(EXAMPLES / f"{maker}.py", self.folder / "inner")
             with self.start(f"inner/{maker}.py") as process:
                 self.assertEqual(process.communicate()[1], "")
-            made_anew = self.get(f"inner/{name}.rec")
-            self.assertEqual(made_anew, (EXAMPLES / f"{name}.rec").read_bytes())
+        made_anew = sorted((self.folder / "inner").glob("*.rec"))
+        self.assertEqual(len(made_anew), 7)
+        for path in made_anew:
+            self.assertEqual(path.read_bytes(), (EXAMPLES / path.name).read_bytes(), path.name)
 
     def test_frames_of_the_tftp_boot(self) -> None:
         """Each block's frame is written out from the RFCs, its sums added up word by word."""
