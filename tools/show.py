@@ -37,6 +37,8 @@ from shared.script_text import Line, command_of, script_of
 from shared.texts import PrintedText, word
 from shared.why import reasons
 
+# the events that stand before the OPEN of their objects
+BEGINNINGS = (GraphEvent.MADE, GraphEvent.HELD, GraphEvent.PLUGGED)
 FIRST_OWN_PORT = 49_152
 OWN_PORTS = 16_384
 
@@ -61,8 +63,8 @@ class OfOpen:
     """Tells which records belong to an open: its own, its objects', and the frames between its ends.
 
     In an output recording the ends are those of its OPEN record. Its objects were made since the OPEN before it, or
-    waited for what that one asked. An input recording shows only its own port, which the START record and the open's
-    number give.
+    waited for what that one asked; up to the next OPEN what waits belongs to the one that asks. An input recording
+    shows only its own port, which the START record and the open's number give.
     """
 
     def __init__(self, number: int) -> None:
@@ -70,9 +72,10 @@ class OfOpen:
         self.own: int | None = None
         self.opened: Open | None = None
         self.opens = 0
-        # the objects that no OPEN followed yet, with their kinds, and those of the open
+        # the objects that no OPEN followed yet, with their kinds, those of the open, and what waits beside them
         self.made: dict[int, ObjectKind] = {}
         self.objects: set[int] = set()
+        self.beside: set[int] = set()
         self.is_tried = False
 
     def has(self, record: Record) -> bool:
@@ -90,7 +93,11 @@ class OfOpen:
     def _has_event(self, event: Graph) -> bool:
         if event.event is GraphEvent.MADE and len(self.made) < MOST_OBJECTS:
             self.made[event.object] = ObjectKind(event.other)
-        return event.object in self.objects or (self.opens == self.number and event.object in self.made)
+        is_next = self.opens == self.number and event.event in BEGINNINGS and event.object in self.made
+        if event.event is GraphEvent.FREED:
+            self.made.pop(event.object, None)
+        is_beside = event.event is not GraphEvent.PLUGGED and event.object in self.beside
+        return is_next or is_beside or event.object in self.objects
 
     def _has_own(self, record: Open | Try | Advance | Ended) -> bool:
         is_own = record.number == self.number
@@ -98,6 +105,7 @@ class OfOpen:
             self.opens += 1
             claimed = {one for one, kind in self.made.items() if SOLE_KINDS.get(record.kind, kind) is kind}
             self.made = {one: kind for one, kind in self.made.items() if one not in claimed}
+            self.beside = set(self.made) if is_own else set()
             if is_own:
                 self.opened, self.own, self.objects = record, record.own, claimed
         self.is_tried = is_own and isinstance(record, Try)

@@ -10,7 +10,7 @@ from shared.describe import server_of
 from shared.kinds import Way
 from shared.objects import Family, Objects, Slot, Thing, When, ending
 from shared.recordings import Timed
-from shared.records import Record, Step
+from shared.records import Graph, Record, Step
 from shared.sentences import times
 from shared.texts import count, word
 
@@ -26,20 +26,36 @@ GAP = "   "
 
 def pictures(records: Iterable[Record], inputs: Iterator[Timed] | None, only: int | None) -> Iterator[str]:
     """The lines of a picture of each open, in the order in which they ended; or of one open."""
-    objects, when, drawn = Objects(), When(0), 0
-    for record in records:
-        if isinstance(record, Step):
-            when = When(record.number, _time_of(record, inputs))
-        family = objects.take(when, record)
-        if family and _is_wanted(family, only):
-            yield from _separated(family, drawn)
-            drawn += 1
-    for family in objects.rest():
+    drawn = 0
+    for family in _families(records, inputs):
         if _is_wanted(family, only):
             yield from _separated(family, drawn)
             drawn += 1
     if not drawn:
         yield "no open was made" if only is None else f"there is no open {only}"
+
+
+def _families(records: Iterable[Record], inputs: Iterator[Timed] | None) -> Iterator[Family]:
+    """The opens as they end, and then what is left; a look-up comes when what waited beside it has gone on."""
+    objects, when, ended = Objects(), When(0), None
+    try:
+        for record in records:
+            if isinstance(record, Step):
+                when = When(record.number, _time_of(record, inputs))
+            family = objects.take(when, record)
+            if ended and not isinstance(record, Graph):
+                yield ended
+                ended = None
+            if family and family.beside:
+                ended = family
+            elif family:
+                yield family
+    except Refused:
+        # of a recording that can't be read to its end too, each open that ended is drawn
+        yield from [ended] if ended else []
+        raise
+    yield from [ended] if ended else []
+    yield from objects.rest()
 
 
 def _time_of(step: Step, inputs: Iterator[Timed] | None) -> int | None:
@@ -121,13 +137,24 @@ class Picture:
 
     def _end(self) -> Iterator[str]:
         """How the open ended, and which close that was."""
-        ended, first = self.family.ended, self.family.first
-        if self.family.opened is None:
+        opened, ended, first = self.family.opened, self.family.ended, self.family.first
+        if opened is None:
             return
         if ended is None:
             yield "  it didn't end in this recording"
-            return
-        yield f"  ended in {self.family.over}: {ending(ended.cause, first)}; {MEANING[ended.cause.code]}"
+        else:
+            yield f"  ended in {self.family.over}: {ending(ended.cause, first)}; {MEANING[ended.cause.code]}"
+        for thing in self.family.beside:
+            yield f"  beside it {thing.name} {_wait(thing)}"
+
+
+def _wait(thing: Thing) -> str:
+    """How an object waited for an address: from when on, and what came of it."""
+    if thing.open is not None:
+        return f"waited for the address, made in {thing.made}; then it went on in open {thing.open}"
+    if thing.freed:
+        return f"waited for the address, made in {thing.made} and freed in {thing.freed}"
+    return f"waits for the address, made in {thing.made}"
 
 
 def _life(thing: Thing) -> str:

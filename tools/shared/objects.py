@@ -99,6 +99,8 @@ class Thing:
     kind: ObjectKind
     made: When
     freed: When | None = None
+    # the open that it is an object of
+    open: int | None = None
     slots: dict[int, Slot] = field(default_factory=dict)
     entries: Counter[Way] = field(default_factory=Counter)
 
@@ -112,9 +114,13 @@ class Thing:
 
 @dataclass(slots=True)
 class Family:
-    """The objects of one open, with its beginning and its end; or objects that no OPEN followed yet."""
+    """The objects of one open, with its beginning and its end; or objects that no OPEN followed yet.
+
+    Beside a look-up the object waits that is to use the address, and isn't one of its objects.
+    """
 
     things: dict[int, Thing] = field(default_factory=dict)
+    beside: list[Thing] = field(default_factory=list)
     opened: Open | None = None
     ended: Ended | None = None
     over: When | None = None
@@ -126,7 +132,8 @@ class Objects:
     """Goes over an output recording and gathers the objects of each open.
 
     The objects of an open are those that are made since the open before it, up to its OPEN; and what is plugged
-    to one of them later. An open that asks and is answered has the one object of its kind.
+    to one of them later. An open that asks and is answered has the one object of its kind. What waits beside a look-up
+    is an object of the open after it, or of none where it is freed before.
     """
 
     def __init__(self) -> None:
@@ -152,14 +159,19 @@ class Objects:
         family.opened = opened
         sole = SOLE_KINDS.get(opened.kind)
         for number, thing in list(family.things.items()):
-            if sole not in (None, thing.kind):
-                self.unclaimed.things[number] = family.things.pop(number)
-                self.where[number] = self.unclaimed
+            if sole in (None, thing.kind):
+                thing.open = opened.number
+                continue
+            family.beside.append(family.things.pop(number))
+            self.unclaimed.things[number] = thing
+            self.where[number] = self.unclaimed
         return family
 
     def rest(self) -> list[Family]:
         """What is left at the recording's end: opens that didn't end, and objects of none."""
-        return [*self.opens.values(), *([self.unclaimed] if self.unclaimed.things else [])]
+        waiting = {thing.number for family in self.opens.values() for thing in family.beside}
+        is_drawn = self.unclaimed.things.keys() <= waiting
+        return [*self.opens.values(), *([] if is_drawn else [self.unclaimed])]
 
     def _ended(self, when: When, ended: Ended) -> Family | None:
         family = self.opens.pop(ended.number, None)
@@ -194,6 +206,12 @@ class Objects:
                 self._closed(when, graph, slot)
             case GraphEvent.FREED:
                 thing.freed = when
+                self._freed(graph.object)
+
+    def _freed(self, number: int) -> None:
+        """What is freed before an OPEN, as after a look-up that failed, is an object of none."""
+        if self.where[number] is self.unclaimed:
+            del self.unclaimed.things[number], self.where[number]
 
     def _thing(self, when: When, number: int) -> Thing:
         family = self.where.get(number)
