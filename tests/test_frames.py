@@ -43,6 +43,8 @@ READ_REQUEST = bytes.fromhex(
     "c000 0045 0027 7959 0001 6b00 6f6374657400"
     "626c6b73697a6500 3134333200 7473697a6500 3000"
 )
+# the options of a domain, two name servers, a gateway and a mask
+WAYS = "0f 03 6c616e 06 08 0a000001 0a000003 03 04 0a0000fe 01 04 ff000000"
 ANY = Station(bytes([0xFF] * 6), IPv4Address("255.255.255.255"))
 UNSET = Station(CLIENT.mac, IPv4Address(0))
 
@@ -58,11 +60,11 @@ def tcp_frame(sender: Station, to: Station, ports: tuple[int, int], rest: tuple[
     return ethernet(to.mac, sender.mac, IPV4, ipv4(sender.ip, to.ip, PROTOCOL_TCP, segment))
 
 
-def dhcp(operation: int, kind: int, given: str = "0.0.0.0") -> bytes:
-    """A DHCP message with its kind after a padding byte and a client identifier."""
+def dhcp(operation: int, kind: int, given: str = "0.0.0.0", options: str = "") -> bytes:
+    """A DHCP message with its kind after a padding byte and a client identifier, and with these options after it."""
     head = bytes([operation, 1, 6, 0]) + bytes.fromhex("12345678") + bytes(8)
     fixed = (head + IPv4Address(given).packed).ljust(236, b"\0")
-    return fixed + bytes.fromhex("63825363 00 3d 02 0105 35 01") + bytes([kind, 255])
+    return fixed + bytes.fromhex(f"63825363 00 3d 02 0105 35 01 {kind:02x} {options} ff")
 
 
 class Sums(unittest.TestCase):
@@ -159,6 +161,11 @@ class Summary(unittest.TestCase):
                     f"{to_client} DHCP OFFER, xid 0x12345678, gives 10.0.0.2",
                 ),
                 (
+                    udp_frame(SERVER, ANY, (67, 68), dhcp(2, 5, "10.0.0.2", WAYS)),
+                    f"{to_client} DHCP ACK, xid 0x12345678, gives 10.0.0.2, netmask 255.0.0.0, gateway 10.0.0.254, "
+                    "dns 10.0.0.1, domain lan",
+                ),
+                (
                     udp_frame(SERVER, ANY, (67, 68), dhcp(2, 6)),
                     f"{to_client} DHCP NAK, xid 0x12345678",
                 ),
@@ -176,7 +183,7 @@ class Summary(unittest.TestCase):
         for digits, said in (
             (query, "DNS query 0x0102 a.b"),
             (answers + alias + address, "DNS answer 0x0102 a.b: is c.b, 10.0.0.9"),
-            (refused, "DNS answer 0x0102 a.b: rcode 3"),
+            (refused, "DNS answer 0x0102 a.b: rcode 3 (NXDOMAIN)"),
             (loop, "UDP, 18 bytes"),
         ):
             frame = udp_frame(SERVER, CLIENT, (53, 49_152), bytes.fromhex(digits))
@@ -187,7 +194,8 @@ class Summary(unittest.TestCase):
             ("08 00 f7f8 0007 0000", "echo request, identifier 7, number 0"),
             ("00 00 fff8 0007 0000", "echo reply, identifier 7, number 0"),
             ("00 00 fff9 0007 0000", "echo reply, identifier 7, number 0, wrong checksum"),
-            ("03 01 fcfe 0000 0000", "type 3, code 1"),
+            ("03 01 fcfe 0000 0000", "host unreachable"),
+            ("05 01 fafe 0000 0000", "type 5, code 1"),
         ):
             packet = ipv4(SERVER.ip, CLIENT.ip, PROTOCOL_ICMP, bytes.fromhex(digits))
             frame = ethernet(CLIENT.mac, SERVER.mac, IPV4, packet)

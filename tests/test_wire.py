@@ -66,7 +66,7 @@ class DhcpMessages(unittest.TestCase):
         self.assertEqual(offer.frame[42:58].hex(), "02010600" "2fef003e" "00008000" "00000000")
         self.assertEqual(offer.frame[58:62], LEASED.packed)
         self.assertEqual(offer.frame[278:294].hex(), "63825363" "350102" "36040a000001" "0104ff")
-        said = "10.0.0.1:67 > 255.255.255.255:68 DHCP OFFER, xid 0x2fef003e, gives 10.0.0.50"
+        said = "10.0.0.1:67 > 255.255.255.255:68 DHCP OFFER, xid 0x2fef003e, gives 10.0.0.50, netmask 255.255.255.0"
         self.assertEqual(Summaries().of(offer.frame), said)
 
 

@@ -21,6 +21,14 @@ DHCP_PORTS = frozenset({67, 68})
 DNS_PORT = 53
 ECHO_REPLY = 0
 ECHO_REQUEST = 8
+# messages by their types and codes (RFC 792; RFC 1812, section 5.2.7.1)
+UNREACHABLE = {
+    (3, 0): "net unreachable",
+    (3, 1): "host unreachable",
+    (3, 2): "protocol unreachable",
+    (3, 3): "port unreachable",
+    (3, 13): "administratively prohibited",
+}
 FLAGS = ((2, "SYN"), (1, "FIN"), (4, "RST"), (8, "PSH"), (16, "ACK"), (32, "URG"))
 SYN = 2
 ACK = 16
@@ -189,6 +197,19 @@ def datagram_of(packet: Packet) -> bytes | None:
     return datagram[8:length]
 
 
+def datagram_in(frame: bytes) -> bytes | None:
+    """The body of the UDP datagram that a frame carries to a port, if it carries one."""
+    packet = packet_of(frame)
+    is_udp = packet is not None and packet.protocol == PROTOCOL_UDP and ends_of(packet).target_port != 0
+    return datagram_of(packet) if packet and is_udp else None
+
+
+def asked_address(frame: bytes) -> IPv4Address | None:
+    """The address whose hardware address an ARP request asks for."""
+    is_arp = int.from_bytes(frame[12:14], "big") == ARP and len(frame) >= 42
+    return IPv4Address(frame[38:42]) if is_arp else None
+
+
 def _udp(packet: Packet, ends: Ends) -> str:
     datagram = packet.body
     length = int.from_bytes(datagram[4:6], "big")
@@ -212,13 +233,20 @@ def _udp_message(ends: Ends, body: bytes) -> str:
     return said or f"UDP, {len(body)} bytes"
 
 
+def icmp_name(body: bytes) -> str:
+    """What an ICMP message of at least two bytes is (RFC 792)."""
+    kind, code = body[0], body[1]
+    if kind in (ECHO_REQUEST, ECHO_REPLY):
+        return "echo request" if kind == ECHO_REQUEST else "echo reply"
+    return UNREACHABLE.get((kind, code), f"type {kind}, code {code}")
+
+
 def _icmp(body: bytes) -> str:
     if len(body) < 8:
         return "ICMP, not well-formed"
-    names = {ECHO_REQUEST: "echo request", ECHO_REPLY: "echo reply"}
-    name = names.get(body[0], f"type {body[0]}, code {body[1]}")
+    name = icmp_name(body)
     warning = "" if checksum(body) == 0 else ", wrong checksum"
-    if body[0] not in names:
+    if body[0] not in (ECHO_REQUEST, ECHO_REPLY):
         return f"ICMP {name}{warning}"
     identifier = int.from_bytes(body[4:6], "big")
     sequence = int.from_bytes(body[6:8], "big")

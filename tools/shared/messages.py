@@ -11,10 +11,15 @@ from shared.wire import Opcode
 from shared.wire_dhcp import COOKIE, END, Kind, Tag
 
 DHCP_FIXED = 236
+# the options that lead to other hosts, with the names that their settings have
+WAYS = ((Tag.NETMASK, "netmask"), (Tag.GATEWAY, "gateway"), (Tag.DNS, "dns"))
 DNS_HEADER = 12
 DNS_RESPONSE = 0x8000
 DNS_A = 1
 DNS_CNAME = 5
+# the names of response codes and of other records than are read here, as servers' logs have them
+RCODES = {1: "FORMERR", 2: "SERVFAIL", 3: "NXDOMAIN", 4: "NOTIMP", 5: "REFUSED"}
+RECORDS = {6: "SOA", 16: "TXT", 28: "AAAA", 46: "RRSIG", 65: "HTTPS"}
 DNS_MAX_NAME = 255
 DNS_POINTER = 0xC0
 
@@ -115,7 +120,15 @@ def dhcp(body: bytes) -> str | None:
     if message is None:
         return None
     lease = f", gives {message.given}" if int(message.given) else ""
-    return f"DHCP {message.name}, xid 0x{message.xid:08x}{lease}"
+    return f"DHCP {message.name}, xid 0x{message.xid:08x}{lease}{_of_ways(message)}"
+
+
+def _of_ways(message: LeaseMessage) -> str:
+    """What a message says of ways to other hosts, by the names of settings."""
+    addresses = [(name, message.address(tag)) for tag, name in WAYS]
+    said = [f", {name} {address}" for name, address in addresses if address]
+    domain = message.option(Tag.DOMAIN)
+    return "".join(said) + (f", domain {word(domain)}" if domain else "")
 
 
 @dataclass(frozen=True, slots=True)
@@ -157,7 +170,8 @@ def dns(body: bytes) -> str | None:
     if not message.is_answer:
         return f"DNS query {asked}"
     if message.rcode:
-        return f"DNS answer {asked}: rcode {message.rcode}"
+        name = f" ({RCODES[message.rcode]})" if message.rcode in RCODES else ""
+        return f"DNS answer {asked}: rcode {message.rcode}{name}"
     return f"DNS answer {asked}: {', '.join(message.records) or 'nothing'}"
 
 
@@ -185,7 +199,7 @@ def _dns_name(body: bytes, at: int) -> tuple[bytes, int] | None:
 
 
 def _dns_records(body: bytes, at: int, answers: int) -> list[str]:
-    """The addresses and other names of the answer section, as far as it can be read."""
+    """The addresses and other names of the answer section, and which other records it has, as far as it can be read."""
     found = []
     for _ in range(answers):
         owner = _dns_name(body, at)
@@ -200,5 +214,7 @@ def _dns_records(body: bytes, at: int, answers: int) -> list[str]:
             found.append(str(IPv4Address(body[data : data + 4])))
         elif alias:
             found.append(f"is {word(alias[0])}")
+        else:
+            found.append(f"{RECORDS.get(kind, f'kind {kind}')} record")
         at = data + length
     return found
