@@ -157,7 +157,7 @@ class Bridged(unittest.TestCase):
                 "the address of a.b came after N s",
                 "the echo reply of 10.0.0.1 came after N s",
                 "a lease didn't come: the tries of the timer's plan ran out without an answer",
-                "the address of a.b didn't come: the server's message in that record refuses",
+                "the address of a.b didn't come: the name has no IPv4 address",
             ],
         )
 

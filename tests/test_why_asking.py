@@ -8,17 +8,16 @@ from ipaddress import IPv4Address
 
 from shared import wire_dhcp, wire_dns
 from shared.causes import OK, Cause, Code
-from shared.kinds import OpenKind, Status
-from shared.records import Command, Done, Off, Open, Received, Record, Result, Start, Step, Tick
+from shared.kinds import Status
+from shared.records import Command, Done, Off, Received, Record, Result, Start, Step, Tick
 from shared.wire import PROTOCOL_ICMP, Station, arp_reply, echo, packet_frame, udp_frame
 from shared.wire_dhcp import Kind, Operation, Tag, options_text
 from shared.wire_dns import ASKED, address, alias, pointer, written
-from tests import made, test_names
+from tests import made
 from tests.asking_records import ECHO_REQUEST, LEASED, LEASED_CLIENT, Asking, Lease, LookUp, Ping, Routed
 from tests.case import Case
 from tests.graph_run import fault_of
 from tests.script_rows import FIRST, left, ran, steps
-from tests.test_graph import events
 from tests.test_why import sentence, why
 
 LEASE, LOOK_UP, PING = Lease(), LookUp(), Ping()
@@ -188,7 +187,8 @@ class LookUps(unittest.TestCase):
         ):
             lines = self.refused(rcode)
             self.assertEqual(lines[0], f"the name server 10.0.0.1 answered, when asked for a.b: {said}")
-            self.assertIn(f"DNS answer 0x003e a.b: rcode {rcode}", lines[-1])
+            name = f" {said[said.index('('):]}" if "(" in said else ""
+            self.assertIn(f"DNS answer 0x003e a.b: rcode {rcode}{name}; ", lines[-1])
 
     def test_an_answer_without_an_address(self) -> None:
         said = "a.b has no IPv4 address, as the name server 10.0.0.1 answered"
@@ -196,10 +196,20 @@ class LookUps(unittest.TestCase):
         lines = self.refused(0, alias(pointer(ASKED), written(b"c.b")))
         self.assertEqual(lines[0], said)
         self.assertIn("DNS answer 0x003e a.b: is c.b", lines[-1])
+        lines = self.refused(0, wire_dns.record(pointer(ASKED), 28, bytes(16)), wire_dns.record(pointer(ASKED), 9, b""))
+        self.assertEqual(lines[0], said)
+        self.assertIn("DNS answer 0x003e a.b: AAAA record, kind 9 record", lines[-1])
+
+    def test_a_name_without_a_dot(self) -> None:
+        """Where a domain is set, it stands in the name that is asked for."""
+        cause, look_up = Cause(Code.REFUSED, 2, 3), LookUp(name=b"boot")
+        lines = fails(look_up, look_up.queries(), [look_up.answer(rcode=3)], look_up.came(over=cause), cause=cause)
+        said = "the name server 10.0.0.1 answered, when asked for boot: there is no such name (NXDOMAIN)"
+        self.assertEqual(lines[0], f"{said}; boot has no dot, and no `domain` was set to stand after it")
 
     def test_no_answer(self) -> None:
         said = "the name server 10.0.0.1 never answered: it was asked for a.b twice in 120 s"
-        self.assertEqual(timed_out(LOOK_UP, LOOK_UP.asks_for(), LOOK_UP.queries(2)), said)
+        self.assertEqual(timed_out(LOOK_UP, LOOK_UP.asks_for(), LOOK_UP.queries(2), LOOK_UP.queries(3)), said)
         said = "the name server 10.0.0.1 never answered: its hardware address was asked for twice in 120 s"
         self.assertEqual(timed_out(LOOK_UP, LOOK_UP.asks_for(), LOOK_UP.asks_for(2)), said)
         far = LookUp(host=IPv4Address("10.0.1.1"))
@@ -219,9 +229,9 @@ class LookUps(unittest.TestCase):
     def test_what_is_waited_for(self) -> None:
         found = made.found()
         for put, received, said in (
-            (LOOK_UP.asks_for(), [], "the hardware address of 10.0.0.1"),
-            (LOOK_UP.asks_for(), [found],
-             "the next try, as 10.0.0.1 had only said its hardware address: a.b is asked for then"),
+            (LOOK_UP.asks_for(), [], "the hardware address of the name server 10.0.0.1"),
+            (LOOK_UP.asks_for(), [found], "the next try, as the name server 10.0.0.1 had only said its hardware "
+             "address: a.b is asked for then"),
             (LOOK_UP.queries(), [], "the answer of the name server 10.0.0.1 on a.b"),
         ):  # fmt: skip
             outputs = [*begins(LOOK_UP, *put), *steps(2, *[[]] * len(received)), *LOOK_UP.shut(), UNFINISHED]
@@ -242,6 +252,10 @@ class LookUps(unittest.TestCase):
             (LOOK_UP.received(wire_dns.query(0x3E, b"a.b")), "a DNS query, and an answer was waited for", *ignored),
             (LOOK_UP.received(wire_dns.answer(0x3E, b"a.c")), "a DNS answer on a.c, and a.b was asked for", *ignored),
             (LOOK_UP.received(b"a"), "no well-formed DNS message with one question", *ignored),
+            (Received(packet_frame(made.SERVER, made.CLIENT, PROTOCOL_ICMP, echo(3, 0, 0, b"", 3))),
+             "ICMP from 10.0.0.1, port unreachable, which is no answer"),
+            (Received(packet_frame(made.SERVER, made.CLIENT, PROTOCOL_ICMP, b"\3")),
+             "IPv4 protocol 1, which isn't UDP"),
             (LOOK_UP.answer(address(pointer(21), LEASED)),
              "a DNS answer that isn't well-formed: its records, or a name in them", *ignored),
         ):  # fmt: skip
@@ -259,7 +273,7 @@ class LookUps(unittest.TestCase):
 
 class Pings(unittest.TestCase):
     def test_no_answer(self) -> None:
-        said = "10.0.0.1 never answered: it was pinged twice in 120 s"
+        said = "10.0.0.1 never answered: it was pinged once in 60 s"
         self.assertEqual(timed_out(PING, PING.asks_for(), PING.pings(2)), said)
         said = "10.0.0.1 never answered: its hardware address was asked for once in 60 s"
         self.assertEqual(timed_out(PING, PING.asks_for()), said)
@@ -275,16 +289,14 @@ class Pings(unittest.TestCase):
         lines = why(outputs, [replace(start(b"ping 10.0.1.1"), ip=IPv4Address(0))])
         said = "the client has no address, so it can't reach 10.0.1.1: give one by --ip, or take a lease by `dhcp`"
         self.assertEqual(lines[0], f"line 2: {said}")
-        lines = why(outputs, [start(b"dhcp ||\nping 10.0.1.1")])
-        self.assertIn("there was no route to 10.0.1.1 then: the device was down, or net0's settings", lines[0])
 
     def test_what_is_waited_for(self) -> None:
         far = Ping(host=IPv4Address("10.0.1.1"))
         hop = Received(arp_reply(Station(OTHER.mac, GATEWAY), made.CLIENT))
         for ping, put, received, said in (
-            (far, far.asks_for(hop=GATEWAY), [], "the hardware address of 10.0.0.254"),
-            (far, far.asks_for(hop=GATEWAY), [hop],
-             "the next try, as 10.0.0.254 had only said its hardware address: 10.0.1.1 is pinged then"),
+            (far, far.asks_for(hop=GATEWAY), [], "the hardware address of the gateway 10.0.0.254"),
+            (far, far.asks_for(hop=GATEWAY), [hop], "the next try, as the gateway 10.0.0.254 had only said its "
+             "hardware address: 10.0.1.1 is pinged then"),
             (PING, PING.pings(), [], "the echo reply of 10.0.0.1"),
         ):  # fmt: skip
             outputs = [*begins(ping, *put), *steps(2, *[[]] * len(received)), *ping.shut(), UNFINISHED]
@@ -301,7 +313,7 @@ class Pings(unittest.TestCase):
         for frame, said in (
             (PING.reply(identifier=1).frame, "an echo reply with identifier 1, and the ping's is 0"),
             (PING.reply(OTHER).frame, "an echo reply from 10.0.0.3, and 10.0.0.1 was pinged"),
-            (unreachable, "ICMP type 3, code 1 from 10.0.0.3, which is no echo reply"),
+            (unreachable, "ICMP from 10.0.0.3, host unreachable, which is no echo reply"),
             (packet_frame(OTHER, made.CLIENT, PROTOCOL_ICMP, echo(ECHO_REQUEST, 0, 0, b"")),
              "an echo request, which was answered"),
             (damaged, "ICMP from 10.0.0.1 with a wrong checksum or length"),
@@ -355,53 +367,6 @@ class Shown(Case):
                        f"{port}1   closed second, {end}: Ok", f"  ended {end}: Ok, as {name.strip()} slot 0 was closed "
                        "first; it went well", ""]
         self.assertEqual(lines, wanted[:-1])
-
-    def test_an_object_that_waits_for_a_name(self) -> None:
-        """It is made before the resolver, and belongs to the open that is made when the name's address is known."""
-        waits = events("made 1 fetch, held 1")
-        put = [made.command(b"imgfetch tftp://a.b/f"), *waits, *LookUp(0, 2).begins()]
-        found = LookUp(0, 2).came(over=OK)
-        opened = Open(1, OpenKind.TFTP, LEASED, 69, made.OWN_PORT + 1, b"f")
-        outputs = [Step(1), made.enter(), *put, Step(2), *found]
-        outputs += [*events("made 3 tftp, held 3, plugged 1.1 3.0"), opened, UNFINISHED]
-        self.put("run.out", outputs)
-        lines = self.works("tools/show.py run.out --graph").splitlines()
-        self.assertEqual(
-            [line.split("  made")[0].strip() for line in lines if "made in" in line or line.startswith("open")],
-            ["open 0: DNS with 10.0.0.1 port 53, target a.b", "resolver 2",
-             "open 1: TFTP with 10.0.0.50 port 69, target f", "fetch 1", "tftp 3"],
-        )  # fmt: skip
-        lines = self.works("tools/show.py run.out --open 1 --type GRAPH").splitlines()
-        said = ["made tftp 3", "held tftp 3", "plugged fetch 1 slot 1 to tftp 3 slot 0"]
-        self.assertEqual(lines, [f"  GRAPH {one}" for one in said])
-
-    def test_a_server_that_is_a_name(self) -> None:
-        """Which open failed: the look-up, or the command's own."""
-        for name, said in (
-            ("no_such_name", "the name server 10.0.0.1 answered, when asked for a.b: there is no such name (NXDOMAIN)"),
-            ("no_address", "a.b has no IPv4 address, as the name server 10.0.0.1 answered"),
-            ("no_way_to_the_name_server", "line 2: the name server 11.0.0.1 is outside the client's net 10.0.0.0/24, and "
-             "no gateway is set"),
-            ("no_way_to_the_server", "line 2: 11.0.0.9 is outside the client's net 10.0.0.0/24, and no gateway is set"),
-            ("nobody_there", "the name server 10.0.0.1 never answered: its hardware address was asked for six times in "
-             "15.75 s"),
-            ("no_reply_of_the_server", "10.0.0.9 never answered: its hardware address was asked for six times in 15.75 s"),
-            ("a_ping_of_no_such_name", "the name server 10.0.0.1 answered, when asked for a.b: there is no such name "
-             "(NXDOMAIN)"),
-        ):  # fmt: skip
-            row = test_names.ROWS[name]
-            with self.subTest(name):
-                self.assertEqual(why(row.outputs, row.inputs)[0], said)
-
-    def test_the_objects_of_a_server_that_is_a_name(self) -> None:
-        """The fetch is drawn with the TFTP that it got after the look-up."""
-        self.put("run.out", test_names.ROWS["a_file"].outputs)
-        lines = self.works("tools/show.py run.out --graph").splitlines()
-        self.assertEqual(
-            [line.split("  made")[0].strip() for line in lines if "made in" in line or line.startswith("open")],
-            ["open 0: DNS with 10.0.0.1 port 53, target a.b", "resolver 2",
-             "open 1: TFTP with 10.0.0.9 port 69, target f", "fetch 1", "tftp 3"],
-        )  # fmt: skip
 
     def test_one_of_them(self) -> None:
         """Its objects have the numbers that its GRAPH records give, and its frames stand after its TRYs."""

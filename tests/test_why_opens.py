@@ -102,7 +102,7 @@ class Transfers(unittest.TestCase):
         said = "10.0.0.1 stopped answering after its OACK for f, which was acknowledged twice"
         self.assertEqual(sentence(self.begins() + later + end), said)
         later = [Step(2), Step(3), *passed(0, Try(0, 2), request)]
-        said = "10.0.0.1 never answered: f was asked for twice"
+        said = "10.0.0.1 never answered: f was asked for once"
         self.assertEqual(sentence(self.begins() + later + end), said)
 
     def test_a_silent_gateway(self) -> None:

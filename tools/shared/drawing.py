@@ -4,11 +4,11 @@ from __future__ import annotations
 
 from typing import Iterable, Iterator
 
-from shared.causes import MEANING
 from shared.command_line import Refused
 from shared.describe import server_of
 from shared.kinds import Way
 from shared.objects import Family, Objects, Slot, Thing, When, ending
+from shared.open_sentences import meaning
 from shared.recordings import Timed
 from shared.records import Graph, Record, Step
 from shared.sentences import times
@@ -143,7 +143,7 @@ class Picture:
         if ended is None:
             yield "  it didn't end in this recording"
         else:
-            yield f"  ended in {self.family.over}: {ending(ended.cause, first)}; {MEANING[ended.cause.code]}"
+            yield f"  ended in {self.family.over}: {ending(ended.cause, first)}; {meaning(opened, ended.cause)}"
         for thing in self.family.beside:
             yield f"  beside it {thing.name} {_wait(thing)}"
 

@@ -6,7 +6,7 @@ import re
 from abc import ABC, abstractmethod
 from ipaddress import IPv4Address
 
-from shared.frames import ECHO_REPLY, ECHO_REQUEST, Ends, Packet, datagram_of, ends_of, packet_of
+from shared.frames import ECHO_REPLY, ECHO_REQUEST, Ends, Packet, datagram_of, ends_of, icmp_name, packet_of
 from shared.kinds import OpenKind
 from shared.messages import LeaseMessage, lease_message, name_message
 from shared.records import Open
@@ -46,6 +46,8 @@ class OfDatagrams(Judge):
             return f"to the address {packet.target}, which isn't the client's, {self.client}"
         if packet.is_fragment:
             return "a fragment of an IPv4 packet"
+        if packet.protocol == PROTOCOL_ICMP and len(packet.body) >= 8:
+            return f"ICMP from {packet.source}, {icmp_name(packet.body)}, which is no answer"
         if packet.protocol != PROTOCOL_UDP:
             return f"IPv4 protocol {packet.protocol}, which isn't UDP"
         body = datagram_of(packet)
@@ -199,7 +201,7 @@ class OfPing(Judge):
         if (body[0], body[1]) == (ECHO_REQUEST, 0):
             return "an echo request, which was answered"
         if (body[0], body[1]) != (ECHO_REPLY, 0):
-            return f"ICMP type {body[0]}, code {body[1]} from {packet.source}, which is no echo reply"
+            return f"ICMP from {packet.source}, {icmp_name(body)}, which is no echo reply"
         if packet.source != self.opened.server:
             return f"an echo reply from {packet.source}, and {self.opened.server} was pinged"
         identifier = int.from_bytes(body[4:6], "big")

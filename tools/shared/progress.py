@@ -7,8 +7,9 @@ import time
 from dataclasses import dataclass, field
 from typing import TextIO
 
-from shared.causes import MEANING, OK, Cause
+from shared.causes import OK, Cause
 from shared.kinds import OpenKind
+from shared.open_sentences import meaning
 from shared.records import Advance, Command, Ended, Open, Record, Text
 from shared.sentences import seconds_of_sleep
 from shared.texts import PrintedText, count, word
@@ -47,7 +48,7 @@ def answered(opened: Open, cause: Cause, span: float) -> str:
     what = ANSWERS[opened.kind].format(word(opened.target) if opened.target else opened.server)
     if cause == OK:
         return f"{what} came after {span:.2f} s"
-    return f"{what} didn't come: {MEANING[cause.code]}"
+    return f"{what} didn't come: {meaning(opened, cause)}"
 
 
 @dataclass
@@ -111,7 +112,7 @@ class Progress:
         if fetch and fetch.opened.kind in ANSWERS:
             self._say(answered(fetch.opened, ended.cause, time.monotonic() - fetch.begun))
         elif fetch:
-            how = "" if ended.cause == OK else f": {MEANING[ended.cause.code]}"
+            how = "" if ended.cause == OK else f": {meaning(fetch.opened, ended.cause)}"
             self._say(fetch.line(time.monotonic()) + how)
 
     def _say(self, line: str, stays: bool = True) -> None:

@@ -3,23 +3,25 @@
 from __future__ import annotations
 
 import re
-from ipaddress import IPv4Address, IPv4Network
+from ipaddress import IPv4Address
+from typing import NamedTuple
 
 from shared.causes import MEANING, WHAT, Cause, Code
 from shared.host_names import host_fault
-from shared.kinds import OpenKind
-from shared.records import Command, Open, Start
-from shared.script_text import BUILT_IN, lines_of
+from shared.leases import Lease
+from shared.links import Link, no_name_server, no_route
+from shared.records import Command, Start
+from shared.script_text import lines_of
 from shared.setting_names import BLOCKS, LEASED, MOST_SETTINGS, MOST_VALUE, READS, block_of, kind_of
 from shared.setting_names import name_fault, part_fault, place_of
 from shared.texts import word
 
 NUMBERS = ("no", "one", "two", "three", "four", "five", "six", "seven", "eight", "nine", "ten")
 TIMES = ("never", "once", "twice")
-UNSET = IPv4Address(0)
 MOST_WORDS_BYTES = 4_096
-# the numbers of TooLong and TooMany for a setting, and of TooLong for a URI
-LONG_VALUE, MANY_SETTINGS, LONG_URI = 2, 5, 7
+MOST_OPENS = 16_384
+# the numbers of TooLong and TooMany for a setting, of TooLong for a URI, and of Full for opens
+LONG_VALUE, MANY_SETTINGS, LONG_URI, NO_OPEN = 2, 5, 7, 2
 OF_SETTINGS = (b"set", b"clear", b"show", b"inc")
 OF_DEVICES = (b"ifopen", b"ifclose", b"dhcp")
 OF_FILES = (b"imgfetch", b"imgexec")
@@ -27,10 +29,6 @@ OF_FILES = (b"imgfetch", b"imgexec")
 BUILT_URI = "`tftp://HOST/PATH`"
 # the host of a URI, after a user's name if there is one
 HOST_OF = re.compile(rb"//(?:[^/?#@]*@)?([^/:?#]*)")
-# texts of a script that may change the link which START gives
-OF_LINK = (*OF_DEVICES, b"net0")
-# START's mask of 0 stands for this one
-USUAL_MASK = IPv4Address("255.255.255.0")
 
 USAGES = {
     b"echo": "echo [-n] [text]",
@@ -77,10 +75,20 @@ def seconds(milliseconds: int) -> str:
     return f"{milliseconds / 1000:g} s"
 
 
-def of_local(cause: Cause, command: Command | None, start: Start | None, opened: Open | None = None) -> str:
-    """On a failure that no server took part in, of a command with its last open where it made one."""
+class Met(NamedTuple):
+    """What a command met that failed: the server of its last open, the name that one looked up, and the link that
+    it had, with the lease that this has where it is known."""
+
+    server: str | None = None
+    looked_up: bytes | None = None
+    link: Link = Link()
+    lease: Lease | None = None
+
+
+def of_local(cause: Cause, command: Command | None, start: Start | None, met: Met = Met()) -> str:
+    """On a failure that no server took part in, of a command."""
     if cause.code is Code.NO_ROUTE:
-        return _no_route(IPv4Address(cause.a), start, opened)
+        return no_route(met.server or str(IPv4Address(cause.a)), start, met.link, met.lease)
     if command is None:
         return f"{MEANING[cause.code]}: {cause}" if cause.code in WHAT else MEANING[cause.code]
     name = command.words[0]
@@ -106,7 +114,9 @@ def of_local(cause: Cause, command: Command | None, start: Start | None, opened:
         case Code.BAD_NAME if name == b"nslookup" and len(command.words) > 2:
             return _bad_look_up(command.words[1], command.words[2])
         case Code.NO_SERVER:
-            return _no_server(_host_in(command))
+            return no_name_server(_host_in(command), met.lease)
+        case Code.FULL if cause.a == NO_OPEN:
+            return _no_open(word(name), met.looked_up)
         case Code.BAD_VALUE if name in OF_SETTINGS and len(command.words) > 1:
             return _bad_value(command.words)
         case Code.FALSE:
@@ -185,9 +195,12 @@ def _bad_look_up(name: bytes, host: bytes) -> str:
     return _bad_name_of(host)
 
 
-def _no_server(host: bytes) -> str:
-    ways = "`dns` comes by `dhcp`, by `set dns ADDRESS` or by --dns"
-    return f"{word(host)} is a name, and no name server is set that can be asked for its address: {ways}"
+def _no_open(name: str, looked_up: bytes | None) -> str:
+    """On a command that needs an open, where it has looked its server up or not."""
+    if looked_up is None:
+        return f"{MOST_OPENS} opens were made, the most of a run, and {name} needs another"
+    host = word(looked_up)
+    return f"the look-up of {host} was the last of {MOST_OPENS} opens, the most of a run, and {name} needs another"
 
 
 def _bad_value(words: tuple[bytes, ...]) -> str:
@@ -236,20 +249,6 @@ def _no_label(command: Command, start: Start | None) -> str:
         if label is None and line.content().startswith((b":" + name + b" ", b":" + name + b"\t")):
             return f"{said}; line {line.first} has more than the label, and so is none"
     return said
-
-
-def _no_route(address: IPv4Address, start: Start | None, opened: Open | None) -> str:
-    """On an open to whose server there is no way, or on a command that made none."""
-    where = f"the name server {address}" if opened and opened.kind is OpenKind.DNS else str(address)
-    if start is None:
-        return f"there is no route to {where}"
-    if any(text in (start.script or BUILT_IN) for text in OF_LINK):
-        return f"there was no route to {where} then: the device was down, or net0's settings lead there by none"
-    if start.ip == UNSET:
-        return f"the client has no address, so it can't reach {where}: give one by --ip, or take a lease by `dhcp`"
-    mask = USUAL_MASK if start.mask == UNSET else start.mask
-    net = IPv4Network(f"{start.ip}/{mask}", strict=False)
-    return f"{where} is outside the client's net {net}, and no gateway is set"
 
 
 def _bad_uri(uri: bytes) -> str:

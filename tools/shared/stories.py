@@ -7,8 +7,10 @@ from dataclasses import dataclass, field, replace
 
 from shared.causes import OK, Cause, Code
 from shared.command_line import Refused
+from shared.frames import asked_address
 from shared.full_steps import FullSteps
 from shared.kinds import OpenKind, PartKind, ScriptMove
+from shared.links import Link
 from shared.objects import Close, Objects, When
 from shared.records import (
     Advance,
@@ -36,20 +38,25 @@ MOST_TEXT = 256
 
 @dataclass(slots=True)
 class Evidence:
-    """An output record with the step that it stands in, the frame directly after a TRY, and the first
-    close of the objects of the open that an ENDED is of."""
+    """An output record with the step that it stands in, the frame directly after a TRY, the first close of the objects
+    of the open that an ENDED is of, and whether its step's message brought an address that was looked up."""
 
     step: int
     record: Record
     frame: Sent | None = None
     closed: Close | None = None
+    is_found: bool = False
 
 
 @dataclass(slots=True)
 class OpenStory:
-    """An open, its last place, the tries of the message that it sent last, and its end."""
+    """An open, its last place, the tries of the message that it sent last, and its end.
+
+    Where its server is a name, `look_up` is the open that found the address.
+    """
 
     opened: Evidence
+    look_up: OpenStory | None = None
     tries: deque[Evidence] = field(default_factory=lambda: deque(maxlen=MOST_TRIES))
     block: int = 0
     ended: Evidence | None = None
@@ -57,14 +64,31 @@ class OpenStory:
     def is_drive(self) -> bool:
         return self.open.kind is OpenKind.ISCSI
 
+    def is_look_up(self) -> bool:
+        return self.open.kind is OpenKind.DNS
+
     @property
     def open(self) -> Open:
         assert isinstance(self.opened.record, Open)
         return self.opened.record
 
+    @property
+    def name(self) -> bytes | None:
+        """The name of its server, where that was looked up."""
+        return self.look_up.open.target if self.look_up else None
+
     def asked(self) -> list[bytes]:
         """The frames of the last tries."""
         return [tried.frame.frame for tried in self.tries if tried.frame]
+
+    def sent(self) -> list[Evidence]:
+        """The last tries that sent the message, and no ARP request in its place; or all, where none did."""
+        sent = [tried for tried in self.tries if tried.frame and asked_address(tried.frame.frame) is None]
+        return sent or list(self.tries)
+
+    def parts(self) -> list[OpenStory]:
+        """It, and before it the look-up of its server."""
+        return [self.look_up, self] if self.look_up else [self]
 
 
 @dataclass(slots=True)
@@ -87,7 +111,7 @@ class CommandStory:
 class Failure:
     """A failed RESULT with its command, or a script that was left by its text.
 
-    Of such a script, `last` is the command that ended last, and `result` its result.
+    Of such a script, `last` is the command that ended last, and `result` its result. `link` is the client's link then.
     """
 
     what: Evidence
@@ -95,21 +119,22 @@ class Failure:
     story: CommandStory | None = None
     last: Command | None = None
     result: Cause = OK
+    link: Link = Link()
 
     def opens(self) -> list[OpenStory]:
-        """The opens that show the cause: a command's last, or each where moves were too many."""
+        """The opens that show the cause: a command's last with its look-up, or each where moves were too many."""
         if self.story is None or self.story.left:
             return []
         if self.cause.code is Code.TOO_MANY:
             return list(self.story.opens)
-        return list(self.story.opens)[-1:] or self.story.drives
+        return self.story.opens[-1].parts() if self.story.opens else self.story.drives
 
     def evidence(self) -> list[Evidence]:
         """The records that show the cause, in their order."""
         found = [self.story.command] if self.story else []
         for story in self.opens():
             found.append(story.opened)
-            if self.cause.code is Code.TIMED_OUT:
+            if self.cause.code is Code.TIMED_OUT and story is self.opens()[-1]:
                 found += story.tries
             if story.ended:
                 found.append(story.ended)
@@ -134,6 +159,7 @@ class Trace:
         self.done: Done | None = None
         self.full = FullSteps()
         self.last: Command | None = None
+        self.link = Link()
         self._last_cause: Cause | None = None
         self._last_try: Evidence | None = None
 
@@ -186,7 +212,11 @@ class Trace:
         self.last, self._last_cause = story.words, cause
         self.waiting = None
         if cause != OK:
-            self._fail(Failure(here, cause, story))
+            self._fail(Failure(here, cause, story, link=self.link))
+            return
+        last = story.opens[-1] if story.opens else None
+        is_leased = last is not None and last.open.kind is OpenKind.DHCP
+        self.link = self.link.leased(here.step) if is_leased else self.link.after(story.words)
 
     def _fail(self, failure: Failure) -> None:
         self.failed += 1
@@ -204,10 +234,12 @@ class Trace:
     def _open(self, here: Evidence, opened: Open) -> None:
         here.record = replace(opened, target=opened.target[:MOST_TEXT])
         self.objects.take(When(self.step), here.record)
-        story = OpenStory(here)
+        opens = self.running[-1].opens if self.running else deque()
+        story = OpenStory(here, opens[-1] if opens and opens[-1].is_look_up() else None)
         self.live[opened.number] = self.waiting = story
-        if self.running:
-            self.running[-1].opens.append(story)
+        opens.append(story)
+        if opened.kind is OpenKind.DHCP:
+            self.link = self.link.up()
 
     def _story(self, number: int) -> OpenStory:
         story = self.live.get(number)
@@ -225,7 +257,9 @@ class Trace:
     def _ended(self, here: Evidence, ended: Ended) -> None:
         family = self.objects.take(When(self.step), ended)
         here.closed = family.first if family else None
-        self._story(ended.number).ended = here
+        story = self._story(ended.number)
+        here.is_found = story.is_look_up() and ended.cause == OK
+        story.ended = here
         del self.live[ended.number]
 
     def _part(self, part: Part) -> None:

@@ -12,9 +12,11 @@ from shared.describe import Lines, server_of
 from shared.fields import CutOff
 from shared.full_steps import MOST_COMMANDS
 from shared.kinds import OpenKind, PartKind, Status
+from shared.leases import Lease, lease_given
 from shared.meanwhile import Meanwhile, meanwhile_of
 from shared.objects import ending
 from shared.open_sentences import of_refusal, of_silence, of_wait
+from shared.open_sentences import server_of as named_server_of
 from shared.recordings import Timed, input_of, read_output
 from shared.records import (
     Advance,
@@ -30,12 +32,16 @@ from shared.records import (
 )
 from shared.script_faults import Fault, fault_of
 from shared.script_text import Line, command_of, script_of, words_of
-from shared.sentences import of_local, of_sleep, seconds, seconds_of_sleep
+from shared.sentences import Met, of_local, of_sleep, seconds, seconds_of_sleep
 from shared.stories import CommandStory, Evidence, Failure, OpenStory, Trace
 from shared.texts import count, word
 
 # Causes that name the input record whose message decided.
 BY_MESSAGE = (Code.REFUSED, Code.BROKEN)
+# causes that a lease may show, by what it leaves out
+BY_LEASE = (Code.NO_ROUTE, Code.NO_SERVER)
+# causes for which a script leaves by `exit`, where no open shows them
+BY_NAME = (Code.NO_SERVER, Code.BAD_NAME)
 # how long an open tries without an answer, in seconds
 PATIENCE, LEASE_PATIENCE = 16, 15
 
@@ -155,6 +161,8 @@ class Account:
             found.update(evidence.step for evidence in failure.evidence())
             if failure.cause.code in BY_MESSAGE:
                 found.add(failure.cause.a)
+            if failure.cause.code in BY_LEASE and failure.link.lease:
+                found.add(failure.link.lease)
         if self.trace.waiting:
             found.update(evidence.step for evidence in self._wait_evidence(self.trace.waiting))
         found.update(story.command.step for story in self.trace.running[-1:])
@@ -225,37 +233,50 @@ class Account:
         return self._sentence_on(failure) + (f"; before that, {self._sentence_on(before)}" if before else "")
 
     def _before(self, failure: Failure) -> Failure | None:
-        """The failure before this one, where a server took part in it."""
+        """The failure before this one, where a server or its name took part in it."""
         failures = list(self.trace.failures)
         place = failures.index(failure)
-        return failures[place - 1] if place and failures[place - 1].opens() else None
+        before = failures[place - 1] if place else None
+        return before if before and (before.opens() or before.cause.code in BY_NAME) else None
 
     def _sentence_on(self, failure: Failure) -> str:
         opens = failure.opens()
         if opens and failure.cause.code is Code.REFUSED:
             message = self.inputs.records.get(failure.cause.a)
             frame = message.frame if isinstance(message, Received) else None
-            return of_refusal(failure.cause, opens[-1].open, opens[-1].asked(), frame)
+            return of_refusal(failure.cause, opens[-1], frame)
         if opens and failure.cause.code is Code.TIMED_OUT:
             return self._silence(opens[-1])
         if opens and failure.cause.code is Code.BROKEN:
             message = self.inputs.lines.get(failure.cause.a, f"record {failure.cause.a}")
-            return f"{opens[-1].open.server} sent what isn't allowed in its place: {message}"
+            return f"{named_server_of(opens[-1])} sent what isn't allowed in its place: {message}"
         fault = self.inputs.fault(failure)
         if fault:
             return fault.why
         command = failure.story.words if failure.story else None
-        opened = opens[-1].open if opens else None
-        sentence = of_local(failure.cause, command, self.inputs.start, opened)
+        sentence = of_local(failure.cause, command, self.inputs.start, self._met(failure))
         return f"{_line_of(failure.story)}: {sentence}" if failure.story else sentence
 
+    def _met(self, failure: Failure) -> Met:
+        """What the command of a failure met."""
+        last = failure.opens()[-1] if failure.opens() else None
+        looked_up = last.open.target if last and last.is_look_up() else None
+        return Met(named_server_of(last) if last else None, looked_up, failure.link, self._lease(failure))
+
+    def _lease(self, failure: Failure) -> Lease | None:
+        """The lease that the client held at a failure which that may show, where it is known."""
+        is_meant = failure.cause.code in BY_LEASE and not failure.link.is_down
+        number = failure.link.lease if is_meant else None
+        message = self.inputs.records.get(number or 0)
+        return lease_given(message.frame) if isinstance(message, Received) else None
+
     def _silence(self, story: OpenStory) -> str:
-        span = None
-        if story.tries and story.ended:
-            first, last = story.tries[0].step, story.ended.step
+        sent, span = story.sent(), None
+        if sent and story.ended:
+            first, last = sent[0].step, story.ended.step
             if first in self.inputs.times and last in self.inputs.times:
                 span = self.inputs.times[last] - self.inputs.times[first]
-        return of_silence(story.open, story.asked(), story.block, span)
+        return of_silence(story, span)
 
     def _unfinished(self) -> str:
         step = self.trace.step
@@ -272,7 +293,7 @@ class Account:
         if waiting is None:
             return f"{what}{when}, while {running} {self._slept() or 'was running'}"
         known = self.inputs.meanwhile.hosts if self.inputs.meanwhile else set()
-        wanted = of_wait(waiting.open, waiting.asked(), waiting.block, known)
+        wanted = of_wait(waiting, known)
         return f"{what}{when}, while {running} waited for {wanted}"
 
     def _slept(self) -> str | None:
@@ -309,7 +330,7 @@ class Account:
         yield f"{what} failed in {self.inputs.at(failure.what.step)}: {failure.cause}"
         yield f"  meaning: {MEANING[failure.cause.code]}"
         for evidence in failure.evidence():
-            yield f"  {self.inputs.at(evidence.step)}: {self._plainly(evidence, failure.cause)}"
+            yield from self._shown(evidence, failure.cause)
             if isinstance(evidence.record, Command):
                 yield from self.inputs.command_lines(evidence.record)
         fault = self.inputs.fault(failure)
@@ -317,8 +338,16 @@ class Account:
             yield from self.inputs.script_line(1, fault.line)
         if failure.cause.code in BY_MESSAGE:
             yield self._message(failure.cause.a)
-        if failure.cause.code is Code.NO_ROUTE and self.inputs.start:
+        if self._lease(failure):
+            yield self._message(failure.link.lease or 0)
+        elif failure.cause.code is Code.NO_ROUTE and self.inputs.start:
             yield f"  record 1: {self.inputs.lines[1]}"
+
+    def _shown(self, evidence: Evidence, said: Cause | None = None) -> Iterator[str]:
+        """A record in plain words, and the message of a look-up that brought an address."""
+        yield f"  {self.inputs.at(evidence.step)}: {self._plainly(evidence, said)}"
+        if evidence.is_found and self.inputs.path:
+            yield self._message(evidence.step)
 
     def _message(self, number: int) -> str:
         """The deciding message of a failure."""
@@ -329,14 +358,16 @@ class Account:
         return f"  record {number} at {self.inputs.times[number]} ms: {self.inputs.lines[number]}"
 
     def _wait_evidence(self, story: OpenStory) -> list[Evidence]:
-        return [story.opened, *story.tries, *([story.ended] if story.ended else [])]
+        look_up = [story.look_up.opened, story.look_up.ended] if story.look_up else []
+        shown = [*look_up, story.opened, *story.tries, story.ended]
+        return [evidence for evidence in shown if evidence]
 
     def _waiting(self, story: OpenStory) -> Iterator[str]:
         """What a command waited for, and the records that show it."""
         if self.trace.running:
             yield from self.inputs.command_lines(self.trace.running[-1].words)
         for evidence in self._wait_evidence(story):
-            yield f"  {self.inputs.at(evidence.step)}: {self._plainly(evidence)}"
+            yield from self._shown(evidence)
         is_off = isinstance(self.inputs.records.get(self.trace.step), Off)
         if self.inputs.start and not is_off and self.trace.done:
             patience = LEASE_PATIENCE if story.open.kind is OpenKind.DHCP else PATIENCE
