@@ -201,10 +201,16 @@ class LocalCommands(unittest.TestCase):
             (b"imgfetch tftp://a..b:70/f", Cause(Code.BAD_NAME),
              "a..b is no name of a host: a part between its dots is empty"),
             (b"imgexec tftp://u@srv/f", Cause(Code.BAD_NAME), "srv is no name of a host with `domain` after it"),
-            (b"imgexec tftp://srv.lan/f", Cause(Code.NO_SERVER), "srv.lan is a name, and no name server is set that can "
-             "be asked for its address: `dns` comes by `dhcp`, by `set dns ADDRESS` or by --dns"),
+            (b"imgexec tftp://srv.lan/f", Cause(Code.NO_SERVER), "srv.lan is a name, and no name server is set that "
+             "can be asked for its address: `dns` comes by `dhcp`, by `set dns ADDRESS` or by --dns"),
             (b"imgexec tftp:///f", Cause(Code.BAD_URI),
              "tftp:///f is no URI that names a server, as `tftp://HOST/PATH` does"),
+            (b"imgexec tftp://u:p@a.b:65536", Cause(Code.BAD_URI),
+             "the port in tftp://u:p@a.b:65536 is no number from 0 to 65535"),
+            (b"imgexec tftp://a.b:tftp/f", Cause(Code.BAD_URI),
+             "the port in tftp://a.b:tftp/f is no number from 0 to 65535"),
+            (b"imgexec tftp://a|b:69/f:70", Cause(Code.BAD_URI),
+             "tftp://a|b:69/f:70 is no URI that names a server, as `tftp://HOST/PATH` does"),
             (b"imgexec x/f", Cause(Code.BAD_URI),
              "x/f is only the end of a URI, and it doesn't go with `next-server`; `tftp://HOST/PATH` is a whole "
              "one"),

@@ -200,12 +200,18 @@ class LookUps(unittest.TestCase):
         self.assertEqual(lines[0], said)
         self.assertIn("DNS answer 0x003e a.b: AAAA record, kind 9 record", lines[-1])
 
-    def test_a_name_without_a_dot(self) -> None:
+    def test_what_may_be_meant_by_a_name(self) -> None:
         """Where a domain is set, it stands in the name that is asked for."""
-        cause, look_up = Cause(Code.REFUSED, 2, 3), LookUp(name=b"boot")
-        lines = fails(look_up, look_up.queries(), [look_up.answer(rcode=3)], look_up.came(over=cause), cause=cause)
-        said = "the name server 10.0.0.1 answered, when asked for boot: there is no such name (NXDOMAIN)"
-        self.assertEqual(lines[0], f"{said}; boot has no dot, and no `domain` was set to stand after it")
+        cause = Cause(Code.REFUSED, 2, 3)
+        for name, hint in (
+            (b"boot", "boot has no dot, and no `domain` was set to stand after it"),
+            (b"10.0.0.256", "10.0.0.256 isn't four decimals from 0 to 255, and so no address, and was looked up"),
+            (b"[::1]", "[::1] is an address of IPv6, which isn't built, and so was looked up"),
+        ):
+            look_up = LookUp(name=name)
+            lines = fails(look_up, look_up.queries(), [look_up.answer(rcode=3)], look_up.came(over=cause), cause=cause)
+            said = f"the name server 10.0.0.1 answered, when asked for {name.decode()}: there is no such name"
+            self.assertEqual(lines[0], f"{said} (NXDOMAIN); {hint}")
 
     def test_no_answer(self) -> None:
         said = "the name server 10.0.0.1 never answered: it was asked for a.b twice in 120 s"

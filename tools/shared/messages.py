@@ -19,7 +19,7 @@ DNS_A = 1
 DNS_CNAME = 5
 # the names of response codes and of other records than are read here, as servers' logs have them
 RCODES = {1: "FORMERR", 2: "SERVFAIL", 3: "NXDOMAIN", 4: "NOTIMP", 5: "REFUSED"}
-RECORDS = {6: "SOA", 16: "TXT", 28: "AAAA", 46: "RRSIG", 65: "HTTPS"}
+OTHER_RECORDS = {6: "SOA", 16: "TXT", 28: "AAAA", 46: "RRSIG", 65: "HTTPS"}
 DNS_MAX_NAME = 255
 DNS_POINTER = 0xC0
 
@@ -215,6 +215,6 @@ def _dns_records(body: bytes, at: int, answers: int) -> list[str]:
         elif alias:
             found.append(f"is {word(alias[0])}")
         else:
-            found.append(f"{RECORDS.get(kind, f'kind {kind}')} record")
+            found.append(f"{OTHER_RECORDS.get(kind, f'kind {kind}')} record")
         at = data + length
     return found

@@ -2,6 +2,7 @@
 
 from __future__ import annotations
 
+import re
 from ipaddress import IPv4Address
 
 from shared.causes import MEANING, Cause, Code
@@ -48,7 +49,7 @@ def meaning(opened: Open, cause: Cause) -> str:
     return MEANING[cause.code]
 
 
-def server_of(story: OpenStory) -> str:
+def named_server(story: OpenStory) -> str:
     """The server of an open: what it is, or by which name it was looked up."""
     if story.is_look_up():
         return f"the name server {story.open.server}"
@@ -57,7 +58,7 @@ def server_of(story: OpenStory) -> str:
 
 def of_refusal(cause: Cause, story: OpenStory, frame: bytes | None) -> str:
     """On an open whose server refused, by a frame where it is known."""
-    opened, server, path = story.open, server_of(story), word(story.open.target)
+    opened, server, path = story.open, named_server(story), word(story.open.target)
     match opened.kind:
         case OpenKind.DHCP:
             return _of_nak(offer_taken(story.asked()), frame)
@@ -80,12 +81,19 @@ def _of_nak(offer: Offer | None, frame: bytes | None) -> str:
 
 
 def _of_rcode(code: int, opened: Open) -> str:
-    name, server = word(opened.target), f"the name server {opened.server}"
-    is_alone = b"." not in opened.target
-    hint = f"; {name} has no dot, and no `domain` was set to stand after it" if is_alone else ""
+    name, server, hint = word(opened.target), f"the name server {opened.server}", _name_hint(opened.target)
     if code == 0:
         return f"{name} has no IPv4 address, as {server} answered{hint}"
     return f"{server} answered, when asked for {name}: {rcode_text(code)}{hint}"
+
+
+def _name_hint(name: bytes) -> str:
+    """What may be meant by a name that isn't found, where it is an address by its looks, or alone."""
+    if name.startswith(b"["):
+        return f"; {word(name)} is an address of IPv6, which isn't built, and so was looked up"
+    if re.fullmatch(rb"[0-9.]+", name):
+        return f"; {word(name)} isn't four decimals from 0 to 255, and so no address, and was looked up"
+    return "" if b"." in name else f"; {word(name)} has no dot, and no `domain` was set to stand after it"
 
 
 def rcode_text(code: int) -> str:
@@ -104,15 +112,15 @@ def of_silence(story: OpenStory, span: int | None) -> str:
         case OpenKind.DHCP:
             return _of_silent_lease(offer_taken(asked), often)
         case OpenKind.DNS:
-            return f"{server_of(story)} never answered: it was asked for {word(story.open.target)} {often}"
+            return f"{named_server(story)} never answered: it was asked for {word(story.open.target)} {often}"
         case OpenKind.PING:
-            return f"{server_of(story)} never answered: it was pinged {often}"
+            return f"{named_server(story)} never answered: it was pinged {often}"
     return _of_silent_transfer(story, asked, often)
 
 
 def _hop(story: OpenStory, hop: IPv4Address) -> str:
     """The host to which an open's frames go: its server, or the gateway before that."""
-    return server_of(story) if hop == story.open.server else f"the gateway {hop}"
+    return named_server(story) if hop == story.open.server else f"the gateway {hop}"
 
 
 def _of_silent_lease(offer: Offer | None, often: str) -> str:
@@ -123,7 +131,7 @@ def _of_silent_lease(offer: Offer | None, often: str) -> str:
 
 
 def _of_silent_transfer(story: OpenStory, asked: list[bytes], often: str) -> str:
-    server, path, block = server_of(story), word(story.open.target), story.block
+    server, path, block = named_server(story), word(story.open.target), story.block
     if block or is_acknowledgement(asked):
         last = f"block {block} of {path}" if block else f"its OACK for {path}"
         return f"{server} stopped answering after {last}, which was acknowledged {often}"
@@ -132,7 +140,7 @@ def _of_silent_transfer(story: OpenStory, asked: list[bytes], often: str) -> str
 
 def of_wait(story: OpenStory, known: set[IPv4Address]) -> str:
     """What an open waits for; of the known hosts the hardware address has come."""
-    opened, asked, server = story.open, story.asked(), server_of(story)
+    opened, asked, server = story.open, story.asked(), named_server(story)
     hop = asked_address(asked[-1]) if asked else None
     if hop and hop not in known:
         return f"the hardware address of {_hop(story, hop)}"

@@ -29,6 +29,9 @@ OF_FILES = (b"imgfetch", b"imgexec")
 BUILT_URI = "`tftp://HOST/PATH`"
 # the host of a URI, after a user's name if there is one
 HOST_OF = re.compile(rb"//(?:[^/?#@]*@)?([^/:?#]*)")
+# the port of a URI, as it is written
+PORT_OF = re.compile(rb"//[^/?#]*:([^]/:?#]*)(?:[/?#]|$)")
+MOST_PORT = 65_535
 
 USAGES = {
     b"echo": "echo [-n] [text]",
@@ -252,6 +255,9 @@ def _no_label(command: Command, start: Start | None) -> str:
 
 
 def _bad_uri(uri: bytes) -> str:
+    port = PORT_OF.search(uri)
+    if port and port[1] and not (re.fullmatch(rb"[0-9]+", port[1]) and int(port[1]) <= MOST_PORT):
+        return f"the port in {word(uri)} is no number from 0 to {MOST_PORT}"
     if re.match(rb"[A-Za-z][A-Za-z0-9+.-]*:", uri):
         return f"{word(uri)} is no URI that names a server, as {BUILT_URI} does"
     return f"{word(uri)} is only the end of a URI, and it doesn't go with `next-server`; {BUILT_URI} is a whole one"

@@ -15,8 +15,7 @@ from shared.kinds import OpenKind, PartKind, Status
 from shared.leases import Lease, lease_given
 from shared.meanwhile import Meanwhile, meanwhile_of
 from shared.objects import ending
-from shared.open_sentences import of_refusal, of_silence, of_wait
-from shared.open_sentences import server_of as named_server_of
+from shared.open_sentences import named_server, of_refusal, of_silence, of_wait
 from shared.recordings import Timed, input_of, read_output
 from shared.records import (
     Advance,
@@ -249,7 +248,7 @@ class Account:
             return self._silence(opens[-1])
         if opens and failure.cause.code is Code.BROKEN:
             message = self.inputs.lines.get(failure.cause.a, f"record {failure.cause.a}")
-            return f"{named_server_of(opens[-1])} sent what isn't allowed in its place: {message}"
+            return f"{named_server(opens[-1])} sent what isn't allowed in its place: {message}"
         fault = self.inputs.fault(failure)
         if fault:
             return fault.why
@@ -261,7 +260,7 @@ class Account:
         """What the command of a failure met."""
         last = failure.opens()[-1] if failure.opens() else None
         looked_up = last.open.target if last and last.is_look_up() else None
-        return Met(named_server_of(last) if last else None, looked_up, failure.link, self._lease(failure))
+        return Met(named_server(last) if last else None, looked_up, failure.link, self._lease(failure))
 
     def _lease(self, failure: Failure) -> Lease | None:
         """The lease that the client held at a failure which that may show, where it is known."""
