@@ -411,6 +411,12 @@ class Pictures(Case):
         printed = self.fails("tools/show.py run.out --graph", "run.out: at byte")
         self.assertEqual(len(printed.splitlines()), 6, printed)
 
+    def test_what_waits_is_drawn_beside_one_look_up(self) -> None:
+        """No run has two at once, and a recording may say anything."""
+        opens = [LookUp(number).opened for number in range(3)]
+        lines = self.drawn([Step(1), *graph_records.one_made(*FETCH), *opens])
+        self.assertEqual(sum("beside it" in line for line in lines), 1)
+
     def test_many_look_ups_that_fail(self) -> None:
         """More than there can be objects of no open: what waited beside each is forgotten."""
         cause, outputs = Cause(Code.REFUSED, 2, 3), [Step(1), made.enter()]

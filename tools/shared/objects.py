@@ -99,8 +99,9 @@ class Thing:
     kind: ObjectKind
     made: When
     freed: When | None = None
-    # the open that it is an object of
+    # the open that it is an object of, and whether it has waited beside one before
     open: int | None = None
+    has_waited: bool = False
     slots: dict[int, Slot] = field(default_factory=dict)
     entries: Counter[Way] = field(default_factory=Counter)
 
@@ -162,8 +163,10 @@ class Objects:
             if sole in (None, thing.kind):
                 thing.open = opened.number
                 continue
-            family.beside.append(family.things.pop(number))
-            self.unclaimed.things[number] = thing
+            if not thing.has_waited:
+                thing.has_waited = True
+                family.beside.append(thing)
+            self.unclaimed.things[number] = family.things.pop(number)
             self.where[number] = self.unclaimed
         return family
 
