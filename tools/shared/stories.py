@@ -235,7 +235,9 @@ class Trace:
         here.record = replace(opened, target=opened.target[:MOST_TEXT])
         self.objects.take(When(self.step), here.record)
         opens = self.running[-1].opens if self.running else deque()
-        story = OpenStory(here, opens[-1] if opens and opens[-1].is_look_up() else None)
+        story = OpenStory(here)
+        if opens and opens[-1].is_look_up() and not story.is_look_up():
+            story.look_up = opens[-1]
         self.live[opened.number] = self.waiting = story
         opens.append(story)
         if opened.kind is OpenKind.DHCP:
