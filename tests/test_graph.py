@@ -12,7 +12,7 @@ from shared.kinds import GraphEvent, ObjectKind, Way
 from shared.recordings import read_input
 from shared.records import Advance, Done, Ended, Graph, Record, Sent, Step
 from shared.wire import tftp_ack
-from tests import graph_records, made, test_lease, test_lookup, test_names, test_ping, test_replay
+from tests import graph_records, made, test_lease, test_lookup, test_names, test_ping, test_replay, transfer_rows
 from tests.all_rows import all_inputs, expected
 from tests.graph_entries import entries_fault
 from tests.graph_run import NotLegal, Run, fault_of
@@ -343,11 +343,11 @@ class Refusals(unittest.TestCase):
 
     def test_something_lives_at_done(self) -> None:
         begins = made.fetch_begins(test_replay.FETCH, b"f")
-        self.assertIn("lives at DONE", fault_of([*begins, test_replay.ENDED_WELL[1]]))
+        self.assertIn("lives at DONE", fault_of([*begins, transfer_rows.ENDED_WELL[1]]))
         stopped = graph_records.shut(0)
-        self.assertIsNone(fault_of([*begins, *stopped, test_replay.ENDED_WELL[1]]))
+        self.assertIsNone(fault_of([*begins, *stopped, transfer_rows.ENDED_WELL[1]]))
         other = [record if record != stopped[-1] else Ended(0, OK) for record in stopped]
-        self.assertIn("the first close is", fault_of([*begins, *other, test_replay.ENDED_WELL[1]]))
+        self.assertIn("the first close is", fault_of([*begins, *other, transfer_rows.ENDED_WELL[1]]))
 
     def test_what_is_no_step_of_the_relation(self) -> None:
         joined = "made 1 fetch, held 1, made 2 tftp, held 2, plugged 1.1 2.0"
