@@ -147,13 +147,13 @@ abbrev pub AreNamed : List ℕ → List (List ℕ) → Type 0
 AreNamed name [] = ⊥
 AreNamed name (word ∷ words) = word ≡ name
 
--- a COMMAND whose words do, as it shows them
+-- a COMMAND that shows such words
 abbrev pub IsNamed : List ℕ → Out → Type 0
 IsNamed name (command depth line place expanded words) = AreNamed name words
 IsNamed name (step number) = ⊥
 IsNamed name _ = ⊥
 
--- a file's
+-- a COMMAND that asks for a file
 abbrev pub IsForFile : Out → Type 0
 IsForFile c = IsNamed (codes "imgfetch") c ⊎ IsNamed (codes "imgexec") c
 
@@ -208,9 +208,9 @@ abbrev pub AreNext : ℕ → ℕ → ℕ → Type 0
 AreNext made f t = (f ≡ made + 1) × (t ≡ made + 2)
 
 -- An output, as far as the graph is concerned, and where the graph stands then. An open's objects are made between the
--- OPEN and the COMMAND that they are for, or its first was made before the look-up of its server's name, which has an open
--- of its own, and waited. While it lives, a step has a reply at most, or begins with an entry of its Tftp or of its one object, in which what
--- that sends stands. What such an object finds is given to its user, and stands in no record. The
+-- COMMAND that they are for and the OPEN, or its first was made before the look-up of its server's name, which has an open
+-- of its own, and waited. While it lives, a step has a reply at most, or begins with an entry of its Tftp or of its one
+-- object, in which what that sends stands. What such an object finds is given to its user, and stands in no record. The
 -- end of the open stands after its objects were freed, with the cause of the first close.
 pub data Graphs : List Out → GraphAt → Type 0 where
   -- before any record

@@ -15,8 +15,8 @@ ghost use Rattle.nb_opens.specs.Traces.{AreTraced};
 ghost use Rattle.nb_terms.specs.declared.cause.Cause.{Cause as TheCause};
 
 /// Where the records of an output stand in the order of `Graphs`, its GRAPH events are a legal run of the graph, each
-/// OPEN has the objects of its kind made directly before it, behind a COMMAND, and each ENDED has the cause of the first
-/// close since its OPEN, with those objects freed directly before it.
+/// OPEN has the objects of its kind made directly before it, after the COMMAND that they are for, and each ENDED has the
+/// cause of the first close since its OPEN, with those objects freed directly before it.
 pub fn graphs_are_traced()
     ensures { (outs : List Out) (p : GraphAt) → Graphs outs p → AreTraced outs p }
 {}
