@@ -120,7 +120,7 @@ impl Alone {
         }
     }
 
-    /// So it ends where nothing lives beside it.
+    /// The end of the graph where nothing lives beside it.
     fn shut_one<O: Outside>(self, graph: &mut Graph<Obj>, cause: &Cause, now: u64, out: &mut O)
         requires { IsOpenLoneBy (company_with None graph.old.book.made) graph.old self.object.0 }
         ensures empty { IsEmpty graph.new graph.old.book.made }
@@ -130,7 +130,7 @@ impl Alone {
         let_go(graph, self.object, out);
     }
 
-    /// And where this does.
+    /// The end of the graph where this waits beside it, whose ports are closed first.
     fn shut_both<O: Outside>(
         self,
         waiter: Waiter,

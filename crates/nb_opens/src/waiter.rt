@@ -67,7 +67,7 @@ impl Waiter {
         let_go(graph, self.object(), out);
     }
 
-    /// A Ping that waited is the one object of its own open.
+    /// A Ping that waited is the one object of its own open. The graph is what the contract speaks of; it isn't read.
     pub fn take_up(self, graph: &Graph<Obj>) -> Alone
         requires { waiter_number self ≡ alone_number alone.Ping }
         ensures object { result.object.0 ≡ waiter_serial self }
