@@ -308,6 +308,28 @@ class Ways(unittest.TestCase):
             self.assertEqual(sentence(outputs, [started]), said)
 
 
+# the pictures of the look-up and of the transfer of examples/name-boot.rec
+LOOKED_UP = [
+    "open 1: DNS with 10.0.0.1 port 53, target boot.lan",
+    "           |0   closed first, in step 9: Ok",
+    "  resolver 3    made in step 5, freed in step 9; entered once from above, once from below, twice by time",
+    "           |1   closed second, in step 9: Ok",
+    "  ended in step 9: Ok, as resolver 3 slot 0 was closed first; it went well",
+    "  beside it fetch 2 waited for the address, made in step 5; then it went on in open 2",
+]
+BOOTED = [
+    "open 2: TFTP with 10.0.0.9 port 69, target vmlinuz",
+    "        |0   closed third, in step 14: Ok",
+    "  fetch 2    made in step 5, freed in step 14; entered once from above, twice from below, once by a close",
+    "        |1   closed second, in step 14: Ok",
+    "        |    plugged in step 9, unplugged in step 14",
+    "        |0   closed first, in step 14: Ok",
+    "   tftp 4    made in step 9, freed in step 14; entered once from above, three times from below, once by time",
+    "        |1   closed fourth, in step 14: Ok",
+    "  ended in step 14: Ok, as tftp 4 slot 0 was closed first; it went well",
+]
+
+
 class Pictures(Case):
     """`--graph`, and `--open` of the trace."""
 
@@ -321,30 +343,7 @@ class Pictures(Case):
 
     def test_a_fetch_that_waits_for_its_server(self) -> None:
         """It is drawn with the TFTP that it got after the look-up."""
-        self.assertEqual(
-            self.drawn(test_names.ROWS["the_example"].outputs)[6:],
-            [
-                "open 1: DNS with 10.0.0.1 port 53, target boot.lan",
-                "           |0   closed first, in step 9: Ok",
-                "  resolver 3    made in step 5, freed in step 9; entered once from above, once from below, twice by "
-                "time",
-                "           |1   closed second, in step 9: Ok",
-                "  ended in step 9: Ok, as resolver 3 slot 0 was closed first; it went well",
-                "  beside it fetch 2 waited for the address, made in step 5; then it went on in open 2",
-                "",
-                "open 2: TFTP with 10.0.0.9 port 69, target vmlinuz",
-                "        |0   closed third, in step 14: Ok",
-                "  fetch 2    made in step 5, freed in step 14; entered once from above, twice from below, once by a "
-                "close",
-                "        |1   closed second, in step 14: Ok",
-                "        |    plugged in step 9, unplugged in step 14",
-                "        |0   closed first, in step 14: Ok",
-                "   tftp 4    made in step 9, freed in step 14; entered once from above, three times from below, once "
-                "by time",
-                "        |1   closed fourth, in step 14: Ok",
-                "  ended in step 14: Ok, as tftp 4 slot 0 was closed first; it went well",
-            ],
-        )
+        self.assertEqual(self.drawn(test_names.ROWS["the_example"].outputs)[6:], [*LOOKED_UP, "", *BOOTED])
 
     def test_a_ping_that_waits_for_its_host(self) -> None:
         lines = self.drawn(test_names.ROWS["a_ping"].outputs)
