@@ -237,6 +237,15 @@ def accept(listener: socket.socket, program: subprocess.Popen[bytes] | None) -> 
                 raise Refused(f"the program ended with status {program.returncode}") from None
 
 
+def play(session: Session, start: bytes) -> None:
+    """The session until it ends, or the client fails, which is said."""
+    try:
+        with ctrl_c(session):
+            session.run(start)
+    except ClientFault as fault:
+        say(str(fault))
+
+
 def bridge(words: list[str]) -> int:
     arguments = parse(words)
     script = record.read_script(arguments.script)
@@ -255,11 +264,7 @@ def bridge(words: list[str]) -> int:
         connection = stack.enter_context(accept(listener, program))
         session = Session(connection, device, client.mac, kept, progress.take)
         say(f"a client runs {arguments.script} on {device.name}, as {mac(client.mac)}")
-        try:
-            with ctrl_c(session):
-                session.run(start)
-        except ClientFault as fault:
-            say(str(fault))
+        play(session, start)
         progress.end()
         kept.input.flush()
         kept.output.flush()

@@ -94,61 +94,92 @@ def of_local(cause: Cause, command: Command | None, start: Start | None, met: Me
         return no_route(met.server or str(IPv4Address(cause.a)), start, met.link, met.lease)
     if command is None:
         return f"{MEANING[cause.code]}: {cause}" if cause.code in WHAT else MEANING[cause.code]
-    name = command.words[0]
     if not command.expanded:
         return _unexpanded(cause, command)
+    name = command.words[0]
+    said = _of_file(cause, command) or _of_setting(cause, command) or _of_name(cause, command, met)
+    return said or _of_command(cause, command, start) or f"{word(name)}: {MEANING[cause.code]}"
+
+
+def _of_file(cause: Cause, command: Command) -> str:
+    """On a file's URI, or on what the file is; empty if it isn't about these."""
+    name, uri = command.words[0], command.words[-1]
     match cause.code:
         case Code.BAD_URI:
-            return _bad_uri(command.words[-1])
+            return _bad_uri(uri)
         case Code.NO_SCHEME:
-            return f"{word(command.words[-1])} isn't fetched: only {BUILT_URI} is built yet"
+            return f"{word(uri)} isn't fetched: only {BUILT_URI} is built yet"
         case Code.BAD_NAME if name in OF_FILES:
             return _bad_name_of(_host_in(command))
         case Code.TOO_LONG if name in OF_FILES and cause.a == LONG_URI:
-            return f"the path of {word(command.words[-1])} has more than 1024 bytes, or its image's name more than 255"
-        case Code.NO_LABEL:
-            return _no_label(command, start)
-        case Code.BAD_NAME if name in OF_SETTINGS and len(command.words) > 1:
-            return _bad_name(command.words[1])
+            return f"the path of {word(uri)} has more than 1024 bytes, or its image's name more than 255"
+        case Code.NOT_BOOTABLE:
+            return f"{word(uri)} can't be booted: it isn't a kernel for x86, an ELF file or an EFI program"
+    return ""
+
+
+def _of_setting(cause: Cause, command: Command) -> str:
+    """On a setting; empty if it isn't about one."""
+    name, words = command.words[0], command.words
+    match cause.code:
+        case Code.BAD_NAME if name in OF_SETTINGS and len(words) > 1:
+            return _bad_name(words[1])
+        case Code.BAD_VALUE if name in OF_SETTINGS and len(words) > 1:
+            return _bad_value(words)
+        case Code.FALSE:
+            return _false(words)
+        case Code.TOO_LONG if cause.a == LONG_VALUE and len(words) > 1:
+            return f"the value for `{shown(words[1])}` has more than {MOST_VALUE} bytes"
+        case Code.TOO_MANY if cause.a == MANY_SETTINGS and name == b"dhcp":
+            return f"the lease has more than {MOST_SETTINGS} settings, the most of a block, and none of it is kept"
+        case Code.TOO_MANY if cause.a == MANY_SETTINGS and len(words) > 1:
+            return f"{place_of(words[1])} has {MOST_SETTINGS} settings, the most, and `{shown(words[1])}` is another"
+    return ""
+
+
+def _of_name(cause: Cause, command: Command, met: Met) -> str:
+    """On a device, a host or an open; empty if it isn't about these."""
+    name, words = command.words[0], command.words
+    match cause.code:
         case Code.BAD_NAME if name in OF_DEVICES:
-            return f"there is no device {word(command.words[-1])}, only `net0`"
-        case Code.BAD_NAME if name == b"ping" and len(command.words) > 1:
+            return f"there is no device {word(words[-1])}, only `net0`"
+        case Code.BAD_NAME if name == b"ping" and len(words) > 1:
             return _bad_name_of(_host_in(command))
-        case Code.BAD_NAME if name == b"nslookup" and len(command.words) > 2:
-            return _bad_look_up(command.words[1], command.words[2])
+        case Code.BAD_NAME if name == b"nslookup" and len(words) > 2:
+            return _bad_look_up(words[1], words[2])
         case Code.NO_SERVER:
             return no_name_server(_host_in(command), met.lease)
         case Code.FULL if cause.a == NO_OPEN:
             return _no_open(word(name), met.looked_up)
-        case Code.BAD_VALUE if name in OF_SETTINGS and len(command.words) > 1:
-            return _bad_value(command.words)
-        case Code.FALSE:
-            return _false(command.words)
-        case Code.TOO_LONG if cause.a == LONG_VALUE and len(command.words) > 1:
-            return f"the value for `{shown(command.words[1])}` has more than {MOST_VALUE} bytes"
-        case Code.TOO_MANY if cause.a == MANY_SETTINGS and name == b"dhcp":
-            return f"the lease has more than {MOST_SETTINGS} settings, the most of a block, and none of it is kept"
-        case Code.TOO_MANY if cause.a == MANY_SETTINGS and len(command.words) > 1:
-            place = place_of(command.words[1])
-            return f"{place} has {MOST_SETTINGS} settings, the most, and `{shown(command.words[1])}` is another"
-        case Code.UNKNOWN if not name:
-            return "the command has no name: its first word is empty, as expanded"
-        case Code.UNKNOWN if name.startswith(b":"):
-            return f"{word(name)} is a label only where nothing else stands on its line"
-        case Code.UNKNOWN if name in KNOWN:
-            return f"the command `{name.decode()}` isn't built yet"
+    return ""
+
+
+def _of_command(cause: Cause, command: Command, start: Start | None) -> str:
+    """On the command itself, its words or its label; empty if it isn't about these."""
+    name = command.words[0]
+    match cause.code:
+        case Code.NO_LABEL:
+            return _no_label(command, start)
         case Code.UNKNOWN:
-            return f"there is no command {word(name)}"
+            return _unknown(name)
         case Code.USAGE if name in USAGES:
             return f"the words don't fit the command: `{USAGES[name]}`"
         case Code.EXIT:
             is_built_in = command.depth == 1 and start is not None and not start.script
             which = "built-in script" if is_built_in else "script itself"
             return f"the {which} ended in failure, by `exit {cause.a}`"
-        case Code.NOT_BOOTABLE:
-            kinds = "a kernel for x86, an ELF file or an EFI program"
-            return f"{word(command.words[-1])} can't be booted: it isn't {kinds}"
-    return f"{word(name)}: {MEANING[cause.code]}"
+    return ""
+
+
+def _unknown(name: bytes) -> str:
+    """On a first word that is the name of no command."""
+    if not name:
+        return "the command has no name: its first word is empty, as expanded"
+    if name.startswith(b":"):
+        return f"{word(name)} is a label only where nothing else stands on its line"
+    if name in KNOWN:
+        return f"the command `{name.decode()}` isn't built yet"
+    return f"there is no command {word(name)}"
 
 
 def _unexpanded(cause: Cause, command: Command) -> str:

@@ -170,6 +170,20 @@ class Trace:
         match record:
             case Step():
                 self.step = record.number
+            case Sent() if last_try:
+                last_try.frame = record
+            case Graph():
+                self.objects.take(When(self.step), record)
+            case Part():
+                self._part(record)
+            case Done():
+                self.done = record
+            case _:
+                self._take_of_script(here, record)
+
+    def _take_of_script(self, here: Evidence, record: Record) -> None:
+        """A record of a script, its commands or its opens."""
+        match record:
             case Command():
                 self._command(here, record)
             case Result():
@@ -180,18 +194,10 @@ class Trace:
                 self._open(here, record)
             case Try():
                 self._try(here, record)
-            case Sent() if last_try:
-                last_try.frame = record
             case Advance():
                 self._story(record.number).block = record.place
             case Ended():
                 self._ended(here, record)
-            case Graph():
-                self.objects.take(When(self.step), record)
-            case Part():
-                self._part(record)
-            case Done():
-                self.done = record
 
     def _command(self, here: Evidence, command: Command) -> None:
         if len(self.running) == MOST_NESTED:
