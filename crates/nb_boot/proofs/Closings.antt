@@ -9,6 +9,7 @@ use Rattle.nb_engine.specs.Machine.{Machine, handed_off, fresh, nothing}
 use Rattle.nb_opens.specs.Graphs.{GraphAt, bare, without_graph, Graphs}
 use Rattle.nb_opens.specs.Graphs as order
 use Rattle.nb_opens.proofs.Tracing.{graphs_are_traced}
+use Rattle.nb_engine.specs.GraphSteps as with_graph
 use Rattle.nb_engine.specs.StatusNumber.{status_number}
 use Rattle.nb_engine.specs.declared.status.Status.{Status}
 use Rattle.nb_engine.specs.declared.status.Status.TheVariants as status
@@ -49,8 +50,10 @@ whole_run ins held first before now log done_log m p number closers q r puts e w
       passes = passes_wrote first before now (in_texts ins ++ held) r.written done_log.bytes r.passes w;
       spelled = refl;
       path = r.path;
+      follows = r.follows;
       closes = subst (λ xs. Closes m held now xs) (sym q.plain) (is_over m held now number c);
       alone = closes_some q;
+      shuts = inr q.first;
       at = bare end.0 end.1;
       graphs = end.2;
       traced = graphs_are_traced (r.outs ++ closers) (bare end.0 end.1) end.2;
@@ -80,8 +83,10 @@ stopped_end ins held first before now log done_log m p number closers q r puts e
       passes = passes_wrote first before now (in_texts ins ++ held) r.written s.part r.passes s.passes;
       spelled = refl;
       path = r.path;
+      follows = r.follows;
       closes = subst (λ xs. Closes m held now xs) (sym q.plain) (is_over m held now number c);
       alone = closes_some q;
+      shuts = inr q.first;
       at = bare end.0 end.1;
       graphs = end.2;
       traced = graphs_are_traced (r.outs ++ closers) (bare end.0 end.1) end.2;
@@ -122,8 +127,10 @@ short_end ins held first before now log m at number closers q r p c = record {
   passes = passes_wrote first before now (in_texts ins ++ held) r.written [] r.passes p;
   spelled = refl;
   path = r.path;
+  follows = r.follows;
   closes = subst (λ xs. Closes m held now xs) (sym q.plain) (is_over m held now number c);
   alone = closes_some q;
+  shuts = inr q.first;
   at = bare (q.graphs r.outs r.graphs).0 (q.graphs r.outs r.graphs).1;
   graphs = (q.graphs r.outs r.graphs).2;
   traced = graphs_are_traced (r.outs ++ closers) (bare (q.graphs r.outs r.graphs).0 (q.graphs r.outs r.graphs).1) (q.graphs r.outs r.graphs).2;
@@ -214,8 +221,10 @@ no_memory_shows now p = (
     passes = p;
     spelled = refl;
     path = nothing;
+    follows = with_graph.nothing;
     closes = goes_on fresh [] now;
     alone = λ _. refl;
+    shuts = inl refl;
     at = bare 0 0;
     graphs = order.nothing;
     traced = graphs_are_traced [] (bare 0 0) order.nothing;
@@ -240,8 +249,10 @@ unattached_shows init now p rose = (
     passes = p;
     spelled = refl;
     path = nothing;
+    follows = with_graph.nothing;
     closes = goes_on fresh [] now;
     alone = λ _. refl;
+    shuts = inl refl;
     at = bare 0 0;
     graphs = order.nothing;
     traced = graphs_are_traced [] (bare 0 0) order.nothing;

@@ -6,8 +6,10 @@ use Rattle.nb_record.specs.Outside.{Outside, Passes}
 use Rattle.nb_record.specs.Logged.{Logged}
 use Rattle.nb_record.proofs.OutsideLemmas.{Passes-nothing, Passes-then}
 use Rattle.nb_engine.specs.Machine.{Machine, Moves, rests, moves_on, Path, uses, moves, fresh, nothing}
-use Rattle.nb_engine.specs.Seen.{Seen, StandsFor, FitsGraph}
-use Rattle.nb_engine.specs.Turns.{Steps, Grows}
+use Rattle.nb_engine.specs.Seen.{Seen, StandsFor, FitsGraph, as_ready, as_running, as_waiting, as_asking, as_reaching, as_sleeping, as_yielded, as_handing, as_left, as_handed_off, as_stopped}
+use Rattle.nb_engine.specs.GraphSteps.{GraphPath, IsUnderWay}
+use Rattle.nb_engine.specs.GraphSteps as with_graph
+use Rattle.nb_engine.specs.Turns.{Steps, Grows, FollowsRecord, IsBusy}
 use Rattle.nb_engine.proofs.Puts.{is_either}
 use Rattle.nb_opens.specs.Graphs.{GraphAt, bare, without_graph}
 use Rattle.nb_opens.specs.Graphs as order
@@ -67,10 +69,31 @@ path_steps (r ∷ []) ins outs added m m' p s = uses ins outs m r added m' p s
 path_steps (r ∷ q ∷ rs) ins outs added m m' p s = absurd s
 
 -- so it does without the records of the graph
-path_on : (used ins : List In) (outs added : List Out) (m m' : Machine) → Path ins (without_graph outs) m → Steps used m (without_graph added) m' →
+pub path_on : (used ins : List In) (outs added : List Out) (m m' : Machine) → Path ins (without_graph outs) m → Steps used m (without_graph added) m' →
     Path (ins ++ used) (without_graph (outs ++ added)) m'
 path_on used ins outs added m m' p s =
     subst (λ xs. Path (ins ++ used) xs m') (sym (plain_append outs added)) (path_steps used ins (without_graph outs) (without_graph added) m m' p s)
+
+-- a client that is busy stands for a machine in a step
+under_way : (c : Seen) (m : Machine) → StandsFor c m → IsBusy c.stage → IsUnderWay m.phase
+under_way c m (as_ready n w g) busy = absurd busy
+under_way c m (as_running n w g s) busy = tt
+under_way c m (as_waiting n w g s f o live) busy = absurd busy
+under_way c m (as_asking n w g s i o live) busy = absurd busy
+under_way c m (as_reaching n w g s k next is) busy = tt
+under_way c m (as_sleeping n w g s until) busy = absurd busy
+under_way c m (as_yielded n w g s) busy = absurd busy
+under_way c m (as_handing n w g h rest e) busy = tt
+under_way c m (as_left n w g cause) busy = absurd busy
+under_way c m (as_handed_off n w g) busy = absurd busy
+under_way c m (as_stopped n w g) busy = absurd busy
+
+-- and with them
+graph_path_on : (used ins : List In) (outs added : List Out) (c : Seen) (m m' : Machine) → GraphPath ins outs m → StandsFor c m → Steps used m (without_graph added) m' → FollowsRecord used c added →
+    GraphPath (ins ++ used) (outs ++ added) m'
+graph_path_on [] ins outs added c m m' p st s f = subst (λ xs. GraphPath xs (outs ++ added) m') (sym (append-nil ins)) (with_graph.moves ins outs m added m' p (under_way c m st f) s)
+graph_path_on (r ∷ []) ins outs added c m m' p st s f = with_graph.uses ins outs m r added m' p s (f m st)
+graph_path_on (r ∷ q ∷ rs) ins outs added c m m' p st s f = absurd s
 
 grows_whole : (used ins : List In) (rest : List ℕ) (first now : Outside) (old new : Logged) (c c' : Seen) (m : Machine) (p : GraphAt) → old.is_short ≡ false → Grows used c c' old new → HasNumber used c.used →
     StandsFor c m → FitsGraph c p → Going ins (in_texts used ++ rest) first now old m p → Goes (ins ++ used) rest first now new c'
@@ -90,6 +113,7 @@ grows_whole used ins rest first now old new c c' m p e g number st fit r =
         lost = g.puts.lost;
         passes = subst (λ xs. Passes first now xs r.written) (read_again ins used rest) r.passes;
         path = path_on used ins r.outs g.added m l.machine r.path l.steps;
+        follows = graph_path_on used ins r.outs g.added c m l.machine r.follows st l.steps g.follows;
         graphs = at.1;
         texts = rw g.puts.appended (join_whole r.outs g.added r.written old.bytes g.puts.part g.puts.lost start g.puts.fronts);
         few = steps_few used (without_graph g.added) m l.machine l.steps (subst (λ n. HasNumber used n) (sym (stands_used c m st)) number) r.few;
@@ -115,6 +139,7 @@ grows_short used ins rest first now old new c c' m p e g number st fit r =
         lost = r.lost ++ out_texts g.added;
         passes = subst (λ xs. Passes first now xs r.written) (read_again ins used rest) r.passes;
         path = path_on used ins r.outs g.added m l.machine r.path l.steps;
+        follows = graph_path_on used ins r.outs g.added c m l.machine r.follows st l.steps g.follows;
         graphs = at.1;
         texts = rw (ap (λ (l : Logged). l.bytes) same) (join_short r.outs g.added r.written old.bytes r.lost r.texts);
         few = steps_few used (without_graph g.added) m l.machine l.steps (subst (λ n. HasNumber used n) (sym (stands_used c m st)) number) r.few;
@@ -139,6 +164,7 @@ going_fresh now log h = record {
   lost = [];
   passes = Passes-nothing now;
   path = nothing;
+  follows = with_graph.nothing;
   graphs = order.nothing;
   texts = rw h refl;
   few = lit≤ tt;
@@ -158,6 +184,7 @@ going_flushed ins held first before now log m p room e w r = record {
   lost = r.lost;
   passes = passes_wrote first before now (in_texts ins ++ held) r.written log.bytes r.passes w;
   path = r.path;
+  follows = r.follows;
   graphs = r.graphs;
   texts = r.texts ∙ ap (λ t. t ++ r.lost) (sym (append-nil (r.written ++ log.bytes)));
   few = r.few;
@@ -175,6 +202,7 @@ going_read ins held bytes first before now log m at p r = record {
       (subst (λ ws. Passes first now ((in_texts ins ++ held) ++ bytes) ws) (append-nil r.written)
       (Passes-then first before now (in_texts ins ++ held) r.written bytes [] r.passes p));
   path = r.path;
+  follows = r.follows;
   graphs = r.graphs;
   texts = r.texts;
   few = r.few;

@@ -8,7 +8,10 @@ use Rattle.nb_opens.specs.declared.waiter.Waiter.{Waiter}
 use Rattle.nb_opens.specs.Waiters.{waiter_freed_events}
 use Rattle.nb_opens.specs.Graphs.{Graphs, aside, is_shut_down, gives_up, GraphAt, bare, holding, prepared, Cast, pair, cast_shut, last_made, traced, without_graph}
 use Rattle.nb_opens.proofs.Plain.{plain_append, plain_behind}
-use Rattle.nb_engine.specs.Machine.{Machine, at, fresh, ready, running, sleeping, yielded, handing, left, handed_off, stopped, shutdown_records, stopped_cause}
+use Rattle.nb_engine.specs.GraphSteps.{ClosesFirst, ShutsFirst}
+use Rattle.nb_engine.proofs.Growth.{shut_closes}
+use Rattle.nb_engine.proofs.ReplyGrowth.{alone_closes_first}
+use Rattle.nb_engine.specs.Machine.{Machine, Phase, at, fresh, ready, running, waiting, asking, reaching, sleeping, yielded, handing, left, handed_off, stopped, shutdown_records, stopped_cause}
 use Rattle.nb_engine.specs.Seen.{Seen, FitsGraph, IsCastFor, of_one, of_two, of_waited, StandsFor, as_ready, as_running, as_waiting, as_asking, as_reaching, as_sleeping, as_yielded, as_handing, as_left, as_handed_off, as_stopped}
 use Rattle.nb_engine.specs.declared.inquiry.Inquiry.{Inquiry}
 use Rattle.nb_engine.specs.Turns.{closing_records, shut_records, shut_alone, one_shut_events}
@@ -23,6 +26,7 @@ pub record ClosesAll (m : Machine) (p : GraphAt) (number : ℕ) (closers : List 
   pub plain : without_graph closers ≡ closing m number
   pub front : List Out
   pub last : closers ≡ front ++ done number ∷ []
+  pub first : ShutsFirst m.phase closers
   pub graphs : (outs : List Out) → Graphs outs p → (k : ℕ) × (n : ℕ) × Graphs (outs ++ closers) (bare k n)
 
 -- they are more than records of the graph
@@ -30,12 +34,31 @@ pub closes_some : {m : Machine} {p : GraphAt} {number : ℕ} {closers : List Out
 closes_some {m} {p} {number} {closers} q none =
     absurd (omega (arith, ap length (sym none ∙ q.plain), length-append (shutdown_records m.phase) (done number ∷ [])))
 
+-- where no open lives DONE is no record of the graph
+done_first : (phase : Phase) (number : ℕ) → shutdown_records phase ≡ [] → ShutsFirst phase (done number ∷ [])
+done_first ready number none = refl
+done_first (running w s) number none = refl
+done_first (waiting w s o) number none = absurd (let no : ended o.number stopped_cause ∷ [] ≡ [] = none in cc)
+done_first (asking w s o) number none = absurd (let no : ended o.number stopped_cause ∷ [] ≡ [] = none in cc)
+done_first (reaching w s next) number none = tt
+done_first (sleeping w s until) number none = refl
+done_first (yielded w s) number none = refl
+done_first (handing rest) number none = refl
+done_first (left cause) number none = refl
+done_first handed_off number none = refl
+done_first stopped number none = refl
+
+-- what begins with a close begins so with more behind it
+closes_more : (xs ys : List Out) → ClosesFirst xs → ClosesFirst (xs ++ ys)
+closes_more xs ys c = record { port = c.port; more = c.more ++ ys; all = ap (λ zs. zs ++ ys) c.all }
+
 -- DONE alone, where no open lives
 pub done_closes : (m : Machine) (k made number : ℕ) → shutdown_records m.phase ≡ [] → ClosesAll m (bare k made) number (done number ∷ [])
 done_closes m k made number none = record {
   plain = sym (ap (λ t. t ++ done number ∷ []) none);
   front = [];
   last = refl;
+  first = done_first m.phase number none;
   graphs = λ outs g. (k, made, aside outs (done number ∷ []) k made g (tt, tt));
 }
 
@@ -85,6 +108,7 @@ client_closes c m (holding k cast) number (as_waiting n w g s f o live) fit = re
       ∙ ap (λ x. ended x stopped_cause ∷ done number ∷ []) live.fetch.number;
   front = shut_records f.number f.objects;
   last = refl;
+  first = closes_more (shut_records f.number f.objects) (done number ∷ []) (shut_closes f.number f.objects);
   graphs = λ outs graph.
       let at_f : Graphs outs (holding f.number (pair f.objects.fetch.0 f.objects.tftp.0)) =
       subst (λ x. Graphs outs (holding x (pair f.objects.fetch.0 f.objects.tftp.0))) (sym fit.0) (subst (λ x. Graphs outs (holding k x)) fit.2 graph) in
@@ -96,6 +120,7 @@ client_closes c m (holding k cast) number (as_asking n w g s i o live) fit = rec
       ∙ ap (λ (x : Speaker). ended x.number stopped_cause ∷ done number ∷ []) live.inquiry.speaker;
   front = shut_alone i.speaker.number i.waiter i.object;
   last = refl;
+  first = closes_more (shut_alone i.speaker.number i.waiter i.object) (done number ∷ []) (alone_closes_first i.speaker.number i.waiter i.object);
   graphs = λ outs graph. (
     i.speaker.number + 1,
     last_made cast,
@@ -106,6 +131,7 @@ client_closes c m (prepared j made v) number (as_reaching n w g s k next same) f
   plain = plain_behind (waiter_freed_events k.waiter) (done number ∷ []);
   front = traced (waiter_freed_events k.waiter);
   last = refl;
+  first = tt;
   graphs = λ outs graph. (j, made, waiter_graphs outs j made number k.waiter (subst (λ x. Graphs outs (prepared j made x)) fit.2 graph));
 }
 client_closes c m (bare k made) number (as_reaching n w g s p next same) fit = absurd fit

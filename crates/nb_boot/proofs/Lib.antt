@@ -25,6 +25,7 @@ pub mod Comparing
 pub mod Telling
 pub mod Histories
 pub mod Shut
+pub mod Stepping
 pub mod Showing
 mod PortLemmas
 mod PeerLemmas

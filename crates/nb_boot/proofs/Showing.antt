@@ -16,6 +16,7 @@ use Rattle.nb_boot.specs.Run as run
 use Rattle.nb_boot.specs.Shown.{CommandWaits, MayGoOn, NoneMayCome, EndsWhere, was_left, was_handed, was_stopped, ran_out, was_bad, was_full, ClosedBy, goes_on, has_ended, Shown, HasEnded, IsSaid, ShowsCourse}
 use Rattle.nb_laws.proofs.Runs.{lawful_run}
 use Rattle.nb_boot.proofs.Shut.{shuts}
+use Rattle.nb_boot.proofs.Stepping.{paths_are_stepped, either_shuts}
 
 waits : (phase : Phase) (p : Standing) → StandsAs phase p → Awaits phase → CommandWaits p
 waits lone.ready p same h = absurd h
@@ -92,6 +93,8 @@ with_course before after r p course c shut = record {
   history = (lawful_run r.ins (without_graph r.outs) r.machine r.path).0;
   is_history = (lawful_run r.ins (without_graph r.outs) r.machine r.path).1;
   is_lawful = (lawful_run r.ins (without_graph r.outs) r.machine r.path).2;
+  stepped = paths_are_stepped r.ins r.outs r.machine r.follows;
+  shuts = either_shuts (lawful_run r.ins (without_graph r.outs) r.machine r.path).0 r.machine.phase r.closing (lawful_run r.ins (without_graph r.outs) r.machine r.path).3 r.shuts;
 }
 
 ended_same : (before after : Outside) (r : Run before after) (p : Progress) (course : Course r.ins (without_graph r.outs) p) (c : Carries r.machine p) (shut : Shuts p.standing (shutdown_records r.machine.phase)) (number : ℕ) →

@@ -2,6 +2,7 @@
 use Rattle.std.specs.Prelude.{◌≡◌, ◌<◌, ◌≤◌, ℕ, ◌+◌, Bool, true, false, List, [], ◌∷◌, ◌++◌, length, Option, Some, None}
 use Rattle.nb_defs.specs.Records.{In, in_texts, Out, out_texts, IsPartial}
 use Rattle.nb_engine.specs.Machine.{Machine, Path, fresh}
+use Rattle.nb_engine.specs.GraphSteps.{GraphPath}
 use Rattle.nb_engine.specs.Seen.{Seen, StandsFor, FitsGraph}
 use Rattle.nb_engine.specs.Turns.{IsEnd, IsResting, IsOverWith}
 use Rattle.nb_opens.specs.Graphs.{Graphs, GraphAt, bare, without_graph}
@@ -25,6 +26,7 @@ pub record Going (ins : List In) (held : List ℕ) (first now : Outside) (log : 
   pub lost : List ℕ
   pub passes : Passes first now (in_texts ins ++ held) written
   pub path : Path ins (without_graph outs) m
+  pub follows : GraphPath ins outs m
   pub graphs : Graphs outs p
   pub texts : out_texts outs ≡ (written ++ log.bytes) ++ lost
   pub whole : log.is_short ≡ false → lost ≡ []

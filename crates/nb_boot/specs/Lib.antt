@@ -4,5 +4,6 @@ pub mod Going
 pub mod Fetch
 pub mod Complete
 pub mod Laws
+pub mod Stepped
 pub mod Shown
 pub mod Lawful

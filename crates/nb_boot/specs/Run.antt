@@ -3,6 +3,7 @@ use Rattle.std.specs.Prelude.{◌≡◌, ℕ, ◌<◌, ◌≤◌, ◌⊎◌, Lis
 use Rattle.nb_terms.specs.declared.cause.Cause.{Cause}
 use Rattle.nb_defs.specs.Records.{In, start, frame, tick, off, IsIn, in_text, in_texts, IsPartial, IsBroken, Out, out_texts, done}
 use Rattle.nb_engine.specs.Machine.{Machine, Phase, ready, running, waiting, asking, sleeping, reaching, yielded, handing, left, handed_off, stopped, Path, status_of, shutdown_records}
+use Rattle.nb_engine.specs.GraphSteps.{GraphPath, ShutsFirst}
 use Rattle.nb_opens.specs.Graphs.{Graphs, GraphAt, bare, without_graph}
 use Rattle.nb_opens.specs.Traces.{AreTraced}
 use Rattle.nb_record.specs.Outside.{Outside, Passes, Rose, IsAtEnd}
@@ -125,6 +126,10 @@ pub record Run (before after : Outside) : Type 0 where
   pub few : length ins ≤ 4294967295
   -- what the records of the graph say of it
   pub traced : AreTraced (outs ++ closing) at
+  -- with the records of the graph too they are that path, and each step begins as its record moves the graph
+  pub follows : GraphPath ins outs machine
+  -- what closes them begins with the graph's end, where an open lives
+  pub shuts : (closing ≡ []) ⊎ ShutsFirst machine.phase closing
 
 -- the run is over, for a cause of this number, and all was taken, DONE last; no object of the graph lives then
 pub record IsOver (before after : Outside) (r : Run before after) (number : ℕ) : Type 0 where

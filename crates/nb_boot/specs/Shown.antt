@@ -16,6 +16,7 @@ use Rattle.nb_laws.specs.Lawful.{IsLawful}
 use Rattle.nb_machine.specs.States.{State}
 use Rattle.nb_machine.specs.Closings.{Shuts}
 use Rattle.nb_boot.specs.Run.{IsOther, IsFirst, BeginsWith}
+use Rattle.nb_boot.specs.Stepped.{AreStepped, ShutsLive}
 
 -- the next record is waited for: by a command, or by scripts that had all the commands of a step
 abbrev pub CommandWaits : Standing → Type 0
@@ -104,6 +105,10 @@ pub record Shown (before after : Outside) : Type 0 where
   pub history : List Event
   pub is_history : IsHistory ins (without_graph outs) history
   pub is_lawful : IsLawful history
+  -- each record's step begins as the record says, of the records of the graph too
+  pub stepped : AreStepped ins outs
+  -- what closes them begins with the graph's end, where an open lives
+  pub shuts : (closing ≡ []) ⊎ ShutsLive history closing
 
 -- the run has ended, for a cause of this number, and all was taken, DONE last; no object of the graph lives then
 pub record HasEnded (before after : Outside) (r : Shown before after) (number : ℕ) : Type 0 where

@@ -133,6 +133,7 @@ asks_grows {old} {new} n w d g h s ws wanted has e route short next downloads p 
         stands = as_waiting n (with_open w) h (entered s) f (open_for w wanted) live;
       };
       graphs = order;
+      follows = tt;
     }
   where
     order : KeepsOrder (seen n w g (stage.Running s)) (begun_records w d wanted n (command_record s (shown_as true ws)) []) (seen n (with_open w) h (stage.Waiting (entered s) (next_fetch w d wanted)))
@@ -186,6 +187,7 @@ no_route_grows {old} {middle} {new} n w d g h s ws wanted has e route next made 
         stands = as_running n (with_ended_open w) h (further s cause);
       };
       graphs = order;
+      follows = tt;
     }
   where
     order : KeepsOrder (seen n w g (stage.Running s))

@@ -21,6 +21,7 @@ use Rattle.nb_opens.specs.Companies.{Company, company_with}
 use Rattle.nb_terms.specs.declared.cause.Cause.{Cause}
 use Rattle.nb_engine.specs.Notes.{WasTold}
 use Rattle.nb_engine.specs.Inquiries.{company_of, IsInquiryOf, IsLiveLone, IsInquiring, IsTakenBy, TalkDoes, TalksAs}
+use Rattle.nb_engine.specs.GraphSteps.{way_of_incoming}
 use Rattle.nb_engine.specs.Lones.{Lone}
 use Rattle.nb_engine.specs.Replying.{HasBrought, WasBrought}
 use Rattle.nb_engine.specs.Talks.{Talk, looks_up, leases, pings, Incoming, message_in, time_in, message_for, counts_for, datagram_from, port_of}
@@ -42,20 +43,21 @@ made_stays old new i p by rec e told closed does was going =
     let d = does o going.1 in
     company_stays (company_of old i) new i.object.object.0 o.start o.talk p by rec e d.0 closed d.2 (same_close was d.1) was.3
 
-pub brought_to : (old new : Objects Obj) (i : Inquiry) (p : Port) (by : Way) (rec : ℕ) (e : Incoming) (told : Option (List Notice)) (ns : List Notice) (o : Lone) → new.book.made ≡ old.book.made → DoesToEach old new i p by rec e told → told ≡ Some ns →
+pub brought_to : (old new : Objects Obj) (i : Inquiry) (p : Port) (by : Way) (rec : ℕ) (e : Incoming) (told : Option (List Notice)) (ns : List Notice) (o : Lone) → by ≡ way_of_incoming e → new.book.made ≡ old.book.made → DoesToEach old new i p by rec e told → told ≡ Some ns →
     IsLiveLone old i o → HasBrought new i p by rec ns o e
-brought_to old new i p by rec e told ns o made does is live =
+brought_to old new i p by rec e told ns o way made does is live =
     let d = does o live in
     record {
       inquiry = live.inquiry;
       does = subst (λ m. TalkDoes (company_with i.waiter m) new i.object.object.0 o.start o.talk p by rec e ns) (sym made)
           (subst (λ z. TalkDoes (company_of old i) new i.object.object.0 o.start o.talk p by rec e z) (same_told d.1 is) d.2);
+      way = way;
     }
 
-pub was_brought : (old new : Objects Obj) (i : Inquiry) (p : Port) (by : Way) (rec : ℕ) (e : Incoming) (told : Option (List Notice)) (ns : List Notice) → new.book.made ≡ old.book.made → IsEntry i.object.object.0 p by → DoesToEach old new i p by rec e told → told ≡ Some ns →
+pub was_brought : (old new : Objects Obj) (i : Inquiry) (p : Port) (by : Way) (rec : ℕ) (e : Incoming) (told : Option (List Notice)) (ns : List Notice) → by ≡ way_of_incoming e → new.book.made ≡ old.book.made → IsEntry i.object.object.0 p by → DoesToEach old new i p by rec e told → told ≡ Some ns →
     IsInquiring old i → WasBrought new i p by rec ns
-was_brought old new i p by rec e told ns made enters does is going =
-    record { lone = going.0; incoming = e; entry = enters; brought = brought_to old new i p by rec e told ns going.0 made does is going.1 }
+was_brought old new i p by rec e told ns way made enters does is going =
+    record { lone = going.0; incoming = e; entry = enters; brought = brought_to old new i p by rec e told ns going.0 way made does is going.1 }
 
 -- each is one that counts, and what the object told is what it was given
 pub message_to_each : (old new : Objects Obj) (i j : Inquiry) (rec now : ℕ) (m : Said) (told : Option (List Notice)) (all : List Notice) → j ≡ i →

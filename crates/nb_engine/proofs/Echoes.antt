@@ -81,6 +81,7 @@ echoes_on_grows {old} {new} n w g h s k i server is kept few query alone next ro
         stands = as_asking n (with_lone w t) h s i (lone_for w q) live;
       };
       graphs = order;
+      follows = tt;
     }
   where
     order : KeepsOrder (seen n w g (stage.Reaching s k)) (echo_records w server i.object.object.0 n []) (seen n (with_lone w (talk_for w (for_echo server))) h (stage.Asking s i))
@@ -165,4 +166,5 @@ no_way_to_grows {old} {middle} {new} n w g h s k i server is kept few query next
             stands = as_running n (with_ended_open w) h (with_result s cause);
           };
           graphs = order;
+          follows = tt;
         }

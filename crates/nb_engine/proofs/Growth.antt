@@ -21,7 +21,9 @@ use Rattle.nb_engine.specs.Opens.{Open, heard_from}
 use Rattle.nb_engine.specs.FirstText.{first_reading, text_refusal, long_script, long_line}
 use Rattle.nb_engine.specs.Running.{Running, first_script, anew, with_result}
 use Rattle.nb_engine.specs.Machine.{Machine, at, ready, running, waiting, sleeping, yielded, left, stopped, Begins, runs, refuses, passes_by, brings, passes_time, switches_off, goes_on_by_frame, goes_on_by_tick, goes_off, sleeps_through_frame, sleeps_on, wakes, goes_off_asleep, reply_records, stopped_cause, status_of}
-use Rattle.nb_graph.specs.Whole.{Objects}
+use Rattle.nb_engine.specs.GraphSteps.{GraphStep, enters, shuts, stays_still, ClosesFirst, by_frame_for_others, by_frame, by_tick, by_off}
+use Rattle.nb_ledger.specs.declared.event.Way.TheVariants as way
+use Rattle.nb_graph.specs.Whole.{Objects, port_at}
 use Rattle.nb_nodes.specs.declared.obj.Obj.{Obj}
 use Rattle.nb_opens.specs.declared.download.Download.{Download}
 use Rattle.nb_opens.specs.Graphs.{Graphs, GraphAt, bare, holding, prepared, Cast, pair, passes as step_passes, IsReply, without_graph, is_shut_down, traced}
@@ -31,7 +33,7 @@ use Rattle.nb_engine.specs.Heeding.{Heeds, Follows, Comes}
 use Rattle.nb_engine.specs.Turns.{Grows, AnswersTurn, shut_records}
 use Rattle.nb_engine.proofs.Standing.{stands_at}
 use Rattle.nb_engine.proofs.TellingLemmas.{without-append, without_traced, without_aside}
-use Rattle.nb_engine.proofs.Sides.{aside_grows, aside_reply, keep}
+use Rattle.nb_engine.proofs.Sides.{aside_begins, moves_from, aside_reply, keep}
 
 -- from a state to the next by a record
 pub begins_from : (m m0 m' : Machine) (r : In) (added : List Out) → m ≡ m0 → Begins m0 r added m' → Begins m r added m'
@@ -41,7 +43,7 @@ begins_from m m0 m' r added e b = subst (λ x. Begins x r added m') (sym e) b
 pub start_grows : {old new : Logged} (n : ℕ) (w : World) (g : Objects Obj) (s : Start) (code : List Line) → w.opens ≡ 0 → IsIn (start s) → first_reading s.script ≡ script code → Puts old new (out_texts (step (n + 1) ∷ enter 1 ∷ [])) →
     Grows (start s ∷ []) (seen n w g stage.Ready) (seen (n + 1) (world_of s) g (stage.Running (first_script code))) old new
 start_grows n w g s code none valid reads p =
-    aside_grows _ _ _ (step (n + 1) ∷ enter 1 ∷ []) tt (tt, (tt, tt)) p (λ q f. keep stage.Ready (stage.Running (first_script code)) 0 g.book.made tt tt q (subst (λ x. FitsAt stage.Ready x g.book.made q) none f)) (λ m stands. record {
+    aside_begins _ _ _ (n + 1) (enter 1 ∷ []) tt (tt, tt) p (λ q f. keep stage.Ready (stage.Running (first_script code)) 0 g.book.made tt tt q (subst (λ x. FitsAt stage.Ready x g.book.made q) none f)) (λ m stands. record {
       machine = at (n + 1) (running (world_of s) (first_script code));
       steps = begins_from m (at n ready) _ (start s) _ (stands_at (seen n w g stage.Ready) m stands) (runs n s code valid reads);
       stands = as_running (n + 1) (world_of s) g (first_script code);
@@ -58,7 +60,7 @@ refusal_fails line_too_long cause e = let same : long_line ≡ cause = cc in ap 
 pub refusal_grows : {old new : Logged} (n : ℕ) (w : World) (g : Objects Obj) (s : Start) (cause : Cause) → IsIn (start s) → text_refusal (first_reading s.script) ≡ Some cause → Puts old new (out_texts (step (n + 1) ∷ enter 1 ∷ leave 1 cause ∷ [])) →
     Grows (start s ∷ []) (seen n w g stage.Ready) (seen (n + 1) w g (stage.Left cause)) old new
 refusal_grows n w g s cause valid other p =
-    aside_grows _ _ _ (step (n + 1) ∷ enter 1 ∷ leave 1 cause ∷ []) tt (tt, (tt, (tt, tt))) p (keep stage.Ready (stage.Left cause) w.opens g.book.made tt tt) (λ m stands. record {
+    aside_begins _ _ _ (n + 1) (enter 1 ∷ leave 1 cause ∷ []) tt (tt, (tt, tt)) p (keep stage.Ready (stage.Left cause) w.opens g.book.made tt tt) (λ m stands. record {
       machine = at (n + 1) (left cause);
       steps = begins_from m (at n ready) _ (start s) _ (stands_at (seen n w g stage.Ready) m stands) (refuses n s cause valid other);
       stands = as_left (n + 1) w g cause;
@@ -69,7 +71,7 @@ pub frame_anew_grows : {old new : Logged} (n : ℕ) (w : World) (g : Objects Obj
     Takes w.net bytes out [] reply net → Puts old new (out_texts (step (n + 1) ∷ reply_records reply)) →
     Grows (frame bytes ∷ []) (seen n w g (stage.Yielded s)) (seen (n + 1) (with_net w net) g (stage.Running (anew s))) old new
 frame_anew_grows n w g s bytes reply out net valid takes p =
-    aside_grows _ _ _ (step (n + 1) ∷ reply_records reply) tt (tt, aside_reply reply) p (keep (stage.Yielded s) (stage.Running (anew s)) w.opens g.book.made tt tt) (λ m stands. record {
+    aside_begins _ _ _ (n + 1) (reply_records reply) tt (aside_reply reply) p (keep (stage.Yielded s) (stage.Running (anew s)) w.opens g.book.made tt tt) (λ m stands. record {
       machine = at (n + 1) (running (with_net w net) (anew s));
       steps = begins_from m (at n (yielded w s)) _ (frame bytes) _ (stands_at (seen n w g (stage.Yielded s)) m stands) (goes_on_by_frame n w s bytes reply out net valid takes);
       stands = as_running (n + 1) (with_net w net) g (anew s);
@@ -79,7 +81,7 @@ frame_anew_grows n w g s bytes reply out net valid takes p =
 pub tick_anew_grows : {old new : Logged} (n : ℕ) (w : World) (g : Objects Obj) (s : Running) (ms : ℕ) → IsIn (tick ms) → Puts old new (out_texts (step (n + 1) ∷ [])) →
     Grows (tick ms ∷ []) (seen n w g (stage.Yielded s)) (seen (n + 1) (world_later w ms) g (stage.Running (anew s))) old new
 tick_anew_grows n w g s ms valid p =
-    aside_grows _ _ _ (step (n + 1) ∷ []) tt (tt, tt) p (keep (stage.Yielded s) (stage.Running (anew s)) w.opens g.book.made tt tt) (λ m stands. record {
+    aside_begins _ _ _ (n + 1) [] tt tt p (keep (stage.Yielded s) (stage.Running (anew s)) w.opens g.book.made tt tt) (λ m stands. record {
       machine = at (n + 1) (running (world_later w ms) (anew s));
       steps = begins_from m (at n (yielded w s)) _ (tick ms) _ (stands_at (seen n w g (stage.Yielded s)) m stands) (goes_on_by_tick n w s ms valid);
       stands = as_running (n + 1) (world_later w ms) g (anew s);
@@ -89,7 +91,7 @@ tick_anew_grows n w g s ms valid p =
 pub off_anew_grows : {old new : Logged} (n : ℕ) (w : World) (g : Objects Obj) (s : Running) → Puts old new (out_texts (step (n + 1) ∷ [])) →
     Grows (off ∷ []) (seen n w g (stage.Yielded s)) (seen (n + 1) w g stage.Stopped) old new
 off_anew_grows n w g s p =
-    aside_grows _ _ _ (step (n + 1) ∷ []) tt (tt, tt) p (keep (stage.Yielded s) stage.Stopped w.opens g.book.made tt tt) (λ m stands. record {
+    aside_begins _ _ _ (n + 1) [] tt tt p (keep (stage.Yielded s) stage.Stopped w.opens g.book.made tt tt) (λ m stands. record {
       machine = at (n + 1) stopped;
       steps = begins_from m (at n (yielded w s)) _ off _ (stands_at (seen n w g (stage.Yielded s)) m stands) (goes_off n w s);
       stands = as_stopped (n + 1) w g;
@@ -100,7 +102,7 @@ pub frame_asleep_grows : {old new : Logged} (n : ℕ) (w : World) (g : Objects O
     Takes w.net bytes out [] reply net → Puts old new (out_texts (step (n + 1) ∷ reply_records reply)) →
     Grows (frame bytes ∷ []) (seen n w g (stage.Sleeping s until)) (seen (n + 1) (with_net w net) g (stage.Sleeping (anew s) until)) old new
 frame_asleep_grows n w g s until bytes reply out net valid takes p =
-    aside_grows _ _ _ (step (n + 1) ∷ reply_records reply) tt (tt, aside_reply reply) p (keep (stage.Sleeping s until) (stage.Sleeping (anew s) until) w.opens g.book.made tt tt) (λ m stands. record {
+    aside_begins _ _ _ (n + 1) (reply_records reply) tt (aside_reply reply) p (keep (stage.Sleeping s until) (stage.Sleeping (anew s) until) w.opens g.book.made tt tt) (λ m stands. record {
       machine = at (n + 1) (sleeping (with_net w net) (anew s) until);
       steps = begins_from m (at n (sleeping w s until)) _ (frame bytes) _ (stands_at (seen n w g (stage.Sleeping s until)) m stands) (sleeps_through_frame n w s until bytes reply out net valid takes);
       stands = as_sleeping (n + 1) (with_net w net) g (anew s) until;
@@ -110,7 +112,7 @@ frame_asleep_grows n w g s until bytes reply out net valid takes p =
 pub sleep_on_grows : {old new : Logged} (n : ℕ) (w : World) (g : Objects Obj) (s : Running) (until ms : ℕ) → IsIn (tick ms) → w.time + ms < until → Puts old new (out_texts (step (n + 1) ∷ [])) →
     Grows (tick ms ∷ []) (seen n w g (stage.Sleeping s until)) (seen (n + 1) (world_later w ms) g (stage.Sleeping (anew s) until)) old new
 sleep_on_grows n w g s until ms valid early p =
-    aside_grows _ _ _ (step (n + 1) ∷ []) tt (tt, tt) p (keep (stage.Sleeping s until) (stage.Sleeping (anew s) until) w.opens g.book.made tt tt) (λ m stands. record {
+    aside_begins _ _ _ (n + 1) [] tt tt p (keep (stage.Sleeping s until) (stage.Sleeping (anew s) until) w.opens g.book.made tt tt) (λ m stands. record {
       machine = at (n + 1) (sleeping (world_later w ms) (anew s) until);
       steps = begins_from m (at n (sleeping w s until)) _ (tick ms) _ (stands_at (seen n w g (stage.Sleeping s until)) m stands) (sleeps_on n w s until ms valid early);
       stands = as_sleeping (n + 1) (world_later w ms) g (anew s) until;
@@ -120,7 +122,7 @@ sleep_on_grows n w g s until ms valid early p =
 pub wake_grows : {old new : Logged} (n : ℕ) (w : World) (g : Objects Obj) (s : Running) (until ms : ℕ) → IsIn (tick ms) → until ≤ w.time + ms → Puts old new (out_texts (step (n + 1) ∷ result ok ∷ [])) →
     Grows (tick ms ∷ []) (seen n w g (stage.Sleeping s until)) (seen (n + 1) (world_later w ms) g (stage.Running (with_result (anew s) ok))) old new
 wake_grows n w g s until ms valid late p =
-    aside_grows _ _ _ (step (n + 1) ∷ result ok ∷ []) tt (tt, (tt, tt)) p (keep (stage.Sleeping s until) (stage.Running (with_result (anew s) ok)) w.opens g.book.made tt tt) (λ m stands. record {
+    aside_begins _ _ _ (n + 1) (result ok ∷ []) tt (tt, tt) p (keep (stage.Sleeping s until) (stage.Running (with_result (anew s) ok)) w.opens g.book.made tt tt) (λ m stands. record {
       machine = at (n + 1) (running (world_later w ms) (with_result (anew s) ok));
       steps = begins_from m (at n (sleeping w s until)) _ (tick ms) _ (stands_at (seen n w g (stage.Sleeping s until)) m stands) (wakes n w s until ms valid late);
       stands = as_running (n + 1) (world_later w ms) g (with_result (anew s) ok);
@@ -130,7 +132,7 @@ wake_grows n w g s until ms valid late p =
 pub off_asleep_grows : {old new : Logged} (n : ℕ) (w : World) (g : Objects Obj) (s : Running) (until : ℕ) → Puts old new (out_texts (step (n + 1) ∷ [])) →
     Grows (off ∷ []) (seen n w g (stage.Sleeping s until)) (seen (n + 1) w g stage.Stopped) old new
 off_asleep_grows n w g s until p =
-    aside_grows _ _ _ (step (n + 1) ∷ []) tt (tt, tt) p (keep (stage.Sleeping s until) stage.Stopped w.opens g.book.made tt tt) (λ m stands. record {
+    aside_begins _ _ _ (n + 1) [] tt tt p (keep (stage.Sleeping s until) stage.Stopped w.opens g.book.made tt tt) (λ m stands. record {
       machine = at (n + 1) stopped;
       steps = begins_from m (at n (sleeping w s until)) _ off _ (stands_at (seen n w g (stage.Sleeping s until)) m stands) (goes_off_asleep n w s until);
       stands = as_stopped (n + 1) w g;
@@ -165,6 +167,16 @@ pass_by_grows n w g s f bytes reply out net valid takes none p =
             stands = as_waiting (n + 1) (with_net w net) g (anew s) f is.0 is.2;
           });
       graphs = λ outs q graphs fit. pass_order (n + 1) s f w.opens g.book.made reply outs q graphs fit;
+      follows = λ m stands.
+          let is = stands_at (seen n w g (stage.Waiting s f)) m stands in
+          record {
+            number = n + 1;
+            more = reply_records reply;
+            all = refl;
+            does = stays_still;
+            moves = moves_from m (at n (waiting w s is.0)) (frame bytes) stays_still is.1 (by_frame_for_others n w s is.0 bytes reply out net takes (rw (← is.2.fetch.server) none));
+            shows = without_aside (reply_records reply) (aside_reply reply);
+          };
     }
 
 -- a frame that brings it a datagram
@@ -186,6 +198,16 @@ frame_grows n w g s f h st after bytes reply out net port body valid takes heard
         stands = h.2;
       };
   graphs = λ outs q graphs fit. fo.graphs outs q graphs (same q fit);
+  follows = λ m stands.
+      let is = stands_at (seen n w g (stage.Waiting s f)) m stands in
+      record {
+        number = n + 1;
+        more = fo.added;
+        all = refl;
+        does = enters way.Up;
+        moves = moves_from m (at n (waiting w s is.0)) (frame bytes) (enters way.Up) is.1 (by_frame n w s is.0 bytes reply out net port body takes (rw (← is.2.fetch.server) heard));
+        shows = fo.enters is.0 (came (received (n + 1) port body) w.time) (is.2, refl);
+      };
 }
 
 -- time passes
@@ -205,6 +227,16 @@ tick_grows n w g s f h st after ms valid same fo = record {
         stands = h.2;
       };
   graphs = λ outs q graphs fit. fo.graphs outs q graphs (same q fit);
+  follows = λ m stands.
+      let is = stands_at (seen n w g (stage.Waiting s f)) m stands in
+      record {
+        number = n + 1;
+        more = fo.added;
+        all = refl;
+        does = enters way.Time;
+        moves = moves_from m (at n (waiting w s is.0)) (tick ms) (enters way.Time) is.1 (by_tick n w s is.0 ms);
+        shows = fo.enters is.0 (ticked (w.time + ms)) (is.2, refl);
+      };
 }
 
 off_numbered : (n : ℕ) (w : World) (s : Running) (o : Open) (number : ℕ) → number ≡ o.number →
@@ -215,6 +247,10 @@ off_numbered n w s o number e = rw e (switches_off n w s o)
 pub without_shut : (k : ℕ) (d : Download) → without_graph (shut_records k d) ≡ ended k stopped_cause ∷ []
 without_shut k d = without-append (traced (shut_events d.fetch.0 d.tftp.0 stopped_cause)) (ended k stopped_cause ∷ [])
     ∙ ap (λ r. r ++ (ended k stopped_cause ∷ [])) (without_traced (shut_events d.fetch.0 d.tftp.0 stopped_cause))
+
+-- they begin with a close
+pub shut_closes : (k : ℕ) (d : Download) → ClosesFirst (shut_records k d)
+shut_closes k d = record { port = port_at d.fetch.0 0; more = _; all = refl }
 
 -- behind STEP too they are in order
 shut_order : (outs : List Out) (n k : ℕ) (d : Download) → Graphs outs (holding k (pair d.fetch.0 d.tftp.0)) → Graphs (outs ++ (step n ∷ shut_records k d)) (bare (k + 1) d.tftp.0)
@@ -245,6 +281,16 @@ off_grows n w g h s f last p = record {
         stands = as_stopped (n + 1) w h;
       };
   graphs = λ outs q graphs fit. off_order (n + 1) s f w.opens g.book.made h.book.made outs q last graphs fit;
+  follows = λ m stands.
+      let is = stands_at (seen n w g (stage.Waiting s f)) m stands in
+      record {
+        number = n + 1;
+        more = shut_records f.number f.objects;
+        all = refl;
+        does = shuts;
+        moves = moves_from m (at n (waiting w s is.0)) off shuts is.1 (by_off n w s is.0);
+        shows = shut_closes f.number f.objects;
+      };
 }
 
 -- what follows from a datagram or a time, as a turn

@@ -11,6 +11,7 @@ use Rattle.nb_opens.specs.declared.download.Download.{Download}
 use Rattle.nb_opens.specs.Graphs.{IsEntry}
 use Rattle.nb_opens.specs.Pairs.{Downloads, CallDoes, IsDownloading}
 use Rattle.nb_engine.specs.declared.fetch.Fetch.{Fetch}
+use Rattle.nb_engine.specs.GraphSteps.{way_of_call}
 use Rattle.nb_engine.specs.Opens.{Open, body_of}
 use Rattle.nb_engine.specs.Fetches.{IsLive}
 use Rattle.nb_engine.specs.Heeding.{HasHeard, WasCalled}
@@ -20,12 +21,13 @@ abbrev pub DoesEach : Objects Obj → Objects Obj → Download → Port → Way 
 DoesEach old new d p by rec call ns =
     (b : Begun) (start : ℕ) (calls : List Entry) (body : List ℕ) → Downloads old d.fetch.0 d.tftp.0 b start calls body → CallDoes new d.fetch.0 d.tftp.0 b start calls body p by rec call ns
 
-pub heard_of : (g h : Objects Obj) (f : Fetch) (p : Port) (by : Way) (rec : ℕ) (call : Call) (ns : List Notice) (o : Open) → DoesEach g h f.objects p by rec call ns → IsLive g f o → HasHeard h f p by rec ns o call
-heard_of g h f p by rec call ns o does live = record {
+pub heard_of : (g h : Objects Obj) (f : Fetch) (p : Port) (by : Way) (rec : ℕ) (call : Call) (ns : List Notice) (o : Open) → by ≡ way_of_call call → DoesEach g h f.objects p by rec call ns → IsLive g f o → HasHeard h f p by rec ns o call
+heard_of g h f p by rec call ns o way does live = record {
   fetch = live.fetch;
   request = live.request;
   meets = live.downloads.meets;
   does = does o.begun o.start o.entries (body_of o) live.downloads;
+  way = way;
 }
 
 pub called_of : (g h : Objects Obj) (d : Download) (p : Port) (by : Way) (rec : ℕ) (call : Call) (ns : List Notice) → IsEntry d.tftp.0 p by → DoesEach g h d p by rec call ns → IsDownloading g d.fetch.0 d.tftp.0 → WasCalled h d p by rec ns

@@ -33,6 +33,8 @@ use Rattle.nb_engine.specs.declared.client.Turn.TheVariants as turn
 use Rattle.nb_engine.specs.World.{unbound, world_with_images}
 use Rattle.nb_engine.specs.Opens.{Open, with_entry, body_of, end_of, is_over_limit, acts_records, too_large_image}
 use Rattle.nb_engine.specs.Conclusions.{Conclusion, conclusion, conclusion_records, image_from, fails, keeps, boots}
+use Rattle.nb_engine.specs.GraphSteps.{EntersFirst}
+use Rattle.nb_engine.proofs.Enterings.{call_enters, enters_more, told_more}
 use Rattle.nb_engine.specs.Running.{Running, with_result}
 use Rattle.nb_engine.specs.Machine.{Phase, Hears, goes_on, is_over, waiting, at, phase_after, concluded, running}
 use Rattle.nb_engine.specs.declared.conclusion.Conclusion.{Conclusion as Concluded}
@@ -138,6 +140,9 @@ goes_heeds n w s g f p by rec ns was none put = record {
   puts = put;
   hears = λ o call h. goes_by n w s g f p by rec ns o call h.fetch h.request h.meets h.does none;
   graphs = goes_kept n w s g f p by rec ns was none;
+  enters = λ o call h.
+      subst (λ x. EntersFirst x (told_records w.net (speaker_of f) ns)) h.way
+      (call_enters w.net (speaker_of f) g f.objects.fetch.0 f.objects.tftp.0 o.begun o.start o.entries (body_of o) p by rec call ns h.does (λ memory. let no : None ≡ Some no_memory = sym none ∙ memory in cc));
 }
 
 -- what goes on is under way
@@ -292,6 +297,12 @@ ends_follow {old} {new} t n w s g f p by rec ns cause after was closed other e =
             e.stands,
           );
       graphs = ends_kept t n w s g f p by rec ns cause after was closed other e;
+      enters = λ o call h.
+          let who = speaker_of f in
+          let enters : EntersFirst by (told_records w.net who ns) =
+          call_enters w.net who g f.objects.fetch.0 f.objects.tftp.0 o.begun o.start o.entries (body_of o) p by rec call ns h.does (λ memory. other (sym closed ∙ memory)) in
+          subst (λ x. EntersFirst x (told ++ (last ++ conclusion_records comes))) h.way
+          (enters_more by told (last ++ conclusion_records comes) (told_more w.net who by ns (freed_notices f.objects.fetch.0 f.objects.tftp.0) enters));
     }
 
 -- by the turn
@@ -333,7 +344,7 @@ ends_of (turn.Over status.TooManyRecords) old new ns cause s f before after e = 
 -- what holds of fewer opens follows too
 follows_less : {old new : Logged} (s : Running) (P Q : Open → Call → Type 0) (n : ℕ) (w : World) (h h' : Objects Obj) (st st' : Stage) (after : Seen) → ((q : GraphAt) → FitsAt st' w.opens h'.book.made q → FitsAt st w.opens h.book.made q) →
     ((o : Open) (call : Call) → Q o call → P o call) → Follows s P (seen n w h st) after old new → Follows s Q (seen n w h' st') after old new
-follows_less s P Q n w h h' st st' after same less f = record { added = f.added; puts = f.puts; hears = λ o call q. f.hears o call (less o call q); graphs = λ outs q graphs fit. f.graphs outs q graphs (same q fit) }
+follows_less s P Q n w h h' st st' after same less f = record { added = f.added; puts = f.puts; hears = λ o call q. f.hears o call (less o call q); graphs = λ outs q graphs fit. f.graphs outs q graphs (same q fit); enters = λ o call q. f.enters o call (less o call q) }
 
 pub heeds_less : (t : Turn) (old new : Logged) (s : Running) (P Q : Open → Call → Type 0) (n : ℕ) (w : World) (h h' : Objects Obj) (st st' : Stage) (after : Seen) → ((q : GraphAt) → FitsAt st' w.opens h'.book.made q → FitsAt st w.opens h.book.made q) →
     ((o : Open) (call : Call) → Q o call → P o call) → Heeds t s P (seen n w h st) after old new → Heeds t s Q (seen n w h' st') after old new

@@ -122,6 +122,7 @@ inquires_grows {old} {new} w g s ws i now has early next route follows backed ta
         stands = as_asking n (with_lone v t) now.graph (entered s) i (lone_for v q) live;
       };
       graphs = order;
+      follows = tt;
     }
   where
     order : KeepsOrder (seen now.used w g (stage.Running s))

@@ -106,6 +106,7 @@ by_talker {old} {middle} {new} w g h s ws q back x now has early route follows b
         stands = as_running n (with_ended_open v) h (further s cause);
       };
       graphs = order;
+      follows = tt;
     }
   where
     order : KeepsOrder (seen now.used w g (stage.Running s))

@@ -8,6 +8,7 @@ pub mod Sendings
 pub mod TurnLemmas
 pub mod Sides
 pub mod Hearings
+pub mod Enterings
 pub mod Heedings
 pub mod BeginLemmas
 pub mod Growth

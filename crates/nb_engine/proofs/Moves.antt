@@ -64,7 +64,7 @@ move_from m m0 m' added e v = subst (λ x. Moves x added m') (sym e) (one_move m
 pub move_grows : {old new : Logged} (n : ℕ) (w : World) (g : Objects Obj) (s : Running) (added : List Out) (m' : Machine) (after : Seen) → AreAside added → NotWaiting after.stage → (after.world.opens ≡ w.opens) × (after.graph.book.made ≡ g.book.made) →
     Puts old new (out_texts added) → Move (at n (running w s)) added m' → StandsFor after m' → Grows [] (seen n w g (stage.Running s)) after old new
 move_grows n w g s added m' after are idle same p v st =
-    aside_grows [] (seen n w g (stage.Running s)) after added tt are p
+    aside_grows (seen n w g (stage.Running s)) after added tt tt are p
     (λ q f.
     subst (λ x. FitsAt after.stage x after.graph.book.made q) (sym same.0)
     (subst (λ y. FitsAt after.stage w.opens y q) (sym same.1) (keep (stage.Running s) after.stage w.opens g.book.made tt idle q f)))
@@ -88,7 +88,7 @@ passes_moves n w s t (further_on _ mid _ comes p) = moves_on (at n (running w s)
 pub pass_grows : {old : Logged} (n : ℕ) (w : World) (g : Objects Obj) (s t : Running) → PassesOn s t →
     Grows [] (seen n w g (stage.Running s)) (seen n w g (stage.Running t)) old old
 pass_grows n w g s t p =
-    aside_grows _ (seen n w g (stage.Running s)) (seen n w g (stage.Running t)) ([]) tt tt (Puts-nothing) (keep (stage.Running s) (stage.Running t) w.opens g.book.made tt tt)
+    aside_grows (seen n w g (stage.Running s)) (seen n w g (stage.Running t)) ([]) tt tt tt (Puts-nothing) (keep (stage.Running s) (stage.Running t) w.opens g.book.made tt tt)
     (λ m stands. record {
       machine = at n (running w t);
       steps = subst (λ x. Moves x [] (at n (running w t))) (sym (stands_at (seen n w g (stage.Running s)) m stands)) (passes_moves n w s t p);
@@ -99,7 +99,7 @@ pass_grows n w g s t p =
 pub left_grows : {old new : Logged} (n : ℕ) (w : World) (g : Objects Obj) (s : Running) (cause : Cause) → IsLeft s cause → Puts old new (out_texts (leave s.depth cause ∷ [])) →
     Grows [] (seen n w g (stage.Running s)) (seen n w g (stage.Left cause)) old new
 left_grows {old} {new} n w g s cause is p =
-    aside_grows _ (seen n w g (stage.Running s)) (seen n w g (stage.Left cause)) (leave is.last.depth cause ∷ []) tt (tt, tt) (subst (λ d. Puts old new (out_texts (leave d cause ∷ []))) (sym is.same_depth) p) (keep (stage.Running s) (stage.Left cause) w.opens g.book.made tt tt)
+    aside_grows (seen n w g (stage.Running s)) (seen n w g (stage.Left cause)) (leave is.last.depth cause ∷ []) tt tt (tt, tt) (subst (λ d. Puts old new (out_texts (leave d cause ∷ []))) (sym is.same_depth) p) (keep (stage.Running s) (stage.Left cause) w.opens g.book.made tt tt)
     (λ m stands. record {
       machine = at n (left cause);
       steps = subst (λ x. Moves x (leave is.last.depth cause ∷ []) (at n (left cause))) (sym (stands_at (seen n w g (stage.Running s)) m stands))
@@ -173,7 +173,7 @@ sleeps_grows {old} {new} n w g s shown c cs seconds comes early e shows p =
 pub hand_grows : {old new : Logged} (n : ℕ) (w : World) (g : Objects Obj) (h t : Handing) → PutsNext w.state.images.images h t old new →
     Grows [] (seen n w g (stage.HandingOff h)) (seen n w g (stage.HandingOff t)) old new
 hand_grows n w g h t p =
-    aside_grows _ (seen n w g (stage.HandingOff h)) (seen n w g (stage.HandingOff t)) (p.next ∷ []) tt ((subst AreAside p.left (aside_left w.state.images.images h)).0, tt) (p.puts) (keep (stage.HandingOff h) (stage.HandingOff t) w.opens g.book.made tt tt)
+    aside_grows (seen n w g (stage.HandingOff h)) (seen n w g (stage.HandingOff t)) (p.next ∷ []) tt tt ((subst AreAside p.left (aside_left w.state.images.images h)).0, tt) (p.puts) (keep (stage.HandingOff h) (stage.HandingOff t) w.opens g.book.made tt tt)
     (λ m stands. record {
       machine = at n (handing (records_left w.state.images.images t));
       steps = move_from m (at n (handing (p.next ∷ records_left w.state.images.images t))) (at n (handing (records_left w.state.images.images t))) (p.next ∷ [])
@@ -185,7 +185,7 @@ hand_grows n w g h t p =
 pub handed_grows : {old : Logged} (n : ℕ) (w : World) (g : Objects Obj) (h : Handing) → records_left w.state.images.images h ≡ [] →
     Grows [] (seen n w g (stage.HandingOff h)) (seen n w g stage.HandedOff) old old
 handed_grows n w g h none =
-    aside_grows _ (seen n w g (stage.HandingOff h)) (seen n w g stage.HandedOff) ([]) tt tt (Puts-nothing) (keep (stage.HandingOff h) stage.HandedOff w.opens g.book.made tt tt)
+    aside_grows (seen n w g (stage.HandingOff h)) (seen n w g stage.HandedOff) ([]) tt tt tt (Puts-nothing) (keep (stage.HandingOff h) stage.HandedOff w.opens g.book.made tt tt)
     (λ m stands. record {
       machine = at n handed_off;
       steps = move_from m (at n (handing [])) (at n handed_off) []

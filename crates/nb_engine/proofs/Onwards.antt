@@ -85,6 +85,7 @@ asks_on_grows {old} {new} n w d g h s k wanted is kept few route short first fol
         stands = as_waiting n (with_open w) h s f (open_for w wanted) live;
       };
       graphs = order;
+      follows = tt;
     }
   where
     order : KeepsOrder (seen n w g (stage.Reaching s k)) (next_records w d wanted n []) (seen n (with_open w) h (stage.Waiting s (next_fetch w d wanted)))
@@ -121,6 +122,7 @@ no_way_grows {old} {middle} {new} n w d g h s k wanted is kept few route first f
         stands = as_running n (with_ended_open w) h (with_result s cause);
       };
       graphs = order;
+      follows = tt;
     }
   where
     order : KeepsOrder (seen n w g (stage.Reaching s k))
@@ -159,6 +161,7 @@ gives_up_grows {old} {middle} {new} n w g h s k full made p q =
         stands = as_running n w h (with_result s full_opens);
       };
       graphs = order;
+      follows = tt;
     }
   where
     order : KeepsOrder (seen n w g (stage.Reaching s k)) (traced (waiter_freed_events k.waiter) ++ (result full_opens ∷ [])) (seen n w h (stage.Running (with_result s full_opens)))

@@ -33,6 +33,8 @@ use Rattle.nb_engine.specs.Machine.{Phase, Replies, comes_to_end as ends_it, fin
 use Rattle.nb_engine.specs.Notes.{WasTold}
 use Rattle.nb_engine.specs.Opens.{acts_records}
 use Rattle.nb_engine.specs.Replying.{HasReplied, RepliesAs, HasBrought, WasBrought, IsBrought, DeliversMessage, HasEndedInquiry, HasFoundHost, EndsAs, EndsInquiry, over_told, end_told, settled_so, onward_by, silent}
+use Rattle.nb_engine.specs.GraphSteps.{EntersFirst, way_of_incoming}
+use Rattle.nb_engine.proofs.Enterings.{talk_enters, enters_more, told_more}
 use Rattle.nb_engine.specs.Running.{Running, with_result}
 use Rattle.nb_engine.specs.Seen.{Seen, seen, StandsFor, as_running, as_reaching, KeepsOrder, FitsAt}
 use Rattle.nb_engine.specs.Talks.{Talk, looks_up, leases, pings, Incoming, TalkGoes}
@@ -202,6 +204,17 @@ finds_kept n w s g i p by rec ns cause next after was closed other ends outs (ho
     let there : Graphs (outs ++ over) (prepared (k + 1) made ends.kept.waiter) = subst (λ v. Graphs (outs ++ over) (left_by v k made)) ends.waiter_is left in
     (prepared w.opens made ends.kept.waiter, subst (λ z. Graphs (outs ++ over) (prepared z made ends.kept.waiter)) (sym fit.1) there, ends.fits)
 
+-- what is told of its end begins with the entry
+over_enters : (w : World) (g : Objects Obj) (i : Inquiry) (p : Port) (by : Way) (rec : ℕ) (ns : List Notice) (cause : Cause) (o : Lone) (e : Incoming) →
+    first_close ns ≡ Some cause → (Some cause ≡ Some no_memory → ⊥) → HasBrought g i p by rec ns o e →
+    EntersFirst (way_of_incoming e) (told_records w.net i.speaker (ns ++ alone_freed i.object.object.0) ++ (ended i.speaker.number cause ∷ []))
+over_enters w g i p by rec ns cause o e closed other h =
+    let x = i.object.object.0 in
+    let enters : EntersFirst by (told_records w.net i.speaker ns) =
+    talk_enters w.net i.speaker (company_of g i) g x o.start o.talk p by rec e ns h.does (λ memory. other (sym closed ∙ memory)) in
+    enters_more (way_of_incoming e) (told_records w.net i.speaker (ns ++ alone_freed x)) (ended i.speaker.number cause ∷ [])
+    (told_more w.net i.speaker (way_of_incoming e) ns (alone_freed x) (subst (λ z. EntersFirst z (told_records w.net i.speaker ns)) h.way enters))
+
 -- the open ends, and its command with it, or its own open is next
 pub ends_reply : {old new : Logged} (n : ℕ) (w : World) (s : Running) (g : Objects Obj) (i : Inquiry) (p : Port) (by : Way) (rec : ℕ) (ns : List Notice) (cause : Cause) (after : Seen) → WasBrought g i p by rec ns →
     first_close ns ≡ Some cause → (Some cause ≡ Some no_memory → ⊥) → (r : Option Onward) → onward_by cause (query_of i.query) (delivered_address ns) ≡ r → EndsAs r ns cause s i (seen n w g (stage.Asking s i)) after old new →
@@ -214,6 +227,8 @@ ends_reply n w s g i p by rec ns cause after was closed other None none ends = (
         let by_o = ends_by n w s after.graph i ns cause o e none (ends_for w g i p by rec ns cause o e h.inquiry h.does closed other) in
         (by_o.0, by_o.1, subst (λ z. StandsFor z (at n by_o.0)) (sym ends.after_is) by_o.2);
     graphs = ends_kept n w s g i p by rec ns cause after was closed other ends;
+    enters = λ o e h.
+        enters_more (way_of_incoming e) (told_records w.net i.speaker (ns ++ alone_freed i.object.object.0) ++ (ended i.speaker.number cause ∷ [])) _ (over_enters w g i p by rec ns cause o e closed other h);
   },
   subst (λ (x : Seen). IsBusy x.stage) (sym ends.after_is) tt,
 )
@@ -225,6 +240,7 @@ ends_reply n w s g i p by rec ns cause after was closed other (Some next) some e
         let by_o = finds_by n w s after.graph i ends.kept ns cause o e next ends.next_is some (ends_for w g i p by rec ns cause o e h.inquiry h.does closed other) in
         (by_o.0, by_o.1, subst (λ z. StandsFor z (at n by_o.0)) (sym ends.after_is) by_o.2);
     graphs = finds_kept n w s g i p by rec ns cause next after was closed other ends;
+    enters = λ o e h. over_enters w g i p by rec ns cause o e closed other h;
   },
   subst (λ (x : Seen). IsBusy x.stage) (sym ends.after_is) tt,
 )

@@ -3,7 +3,10 @@ use Rattle.std.proofs.Common.{◌≡◌, ℕ, ◌+◌, List, [], ◌∷◌, ◌+
 use Rattle.nb_defs.specs.Records.{In, frame, tick, off, IsIn, Out, out_texts, step, ended}
 use Rattle.nb_record.specs.Logged.{Logged, Puts}
 use Rattle.nb_graph.specs.Trace.{Said}
-use Rattle.nb_graph.specs.Whole.{Objects}
+use Rattle.nb_engine.specs.GraphSteps.{GraphStep, enters, shuts, stays_still, ClosesFirst, by_message_for_others, by_message, by_its_tick, by_its_off}
+use Rattle.nb_ledger.specs.declared.event.Way.TheVariants as way
+use Rattle.nb_graph.specs.Whole.{Objects, port_at}
+use Rattle.nb_opens.specs.Waiters.{waiter_serial}
 use Rattle.nb_nodes.specs.declared.obj.Obj.{Obj}
 use Rattle.nb_opens.specs.declared.alone.Alone.{Alone}
 use Rattle.nb_opens.specs.Graphs.{Graphs, GraphAt, bare, holding, prepared, Cast, cast_shut, last_made, passes as step_passes, without_graph, is_shut_down, traced}
@@ -28,7 +31,7 @@ use Rattle.nb_engine.specs.Talks.{Incoming, message_for, message_in, time_in}
 use Rattle.nb_engine.specs.Turns.{Grows, AnswersTurn, shut_alone, one_shut_events}
 use Rattle.nb_engine.specs.World.{with_net, world_later}
 use Rattle.nb_engine.proofs.Growth.{begins_from, reply_is}
-use Rattle.nb_engine.proofs.Sides.{aside_reply}
+use Rattle.nb_engine.proofs.Sides.{aside_reply, moves_from}
 use Rattle.nb_engine.proofs.Standing.{stands_at}
 use Rattle.nb_engine.proofs.TalkLemmas.{shut_is, last_is}
 use Rattle.nb_engine.proofs.TellingLemmas.{without-append, without_traced, without_aside}
@@ -58,6 +61,16 @@ pass_it_by_grows n w g s i bytes reply out net valid takes none p =
             stands = as_asking (n + 1) (with_net w net) g (anew s) i is.0 is.2;
           });
       graphs = λ outs q graphs fit. pass_order (n + 1) s i w.opens g.book.made reply outs q graphs fit;
+      follows = λ m stands.
+          let is = stands_at (seen n w g (stage.Asking s i)) m stands in
+          record {
+            number = n + 1;
+            more = reply_records reply;
+            all = refl;
+            does = stays_still;
+            moves = moves_from m (at n (asking w s is.0)) (frame bytes) stays_still is.1 (by_message_for_others n w s is.0 bytes reply out net takes (none is.0 is.2.inquiry));
+            shows = without_aside (reply_records reply) (aside_reply reply);
+          };
     }
 
 -- a frame that brings it a message
@@ -79,6 +92,16 @@ reply_grows n w g s i h st after bytes reply out net m valid takes brought same 
         stands = c.2;
       };
   graphs = λ outs q graphs fit. r.graphs outs q graphs (same q fit);
+  follows = λ state stands.
+      let is = stands_at (seen n w g (stage.Asking s i)) state stands in
+      record {
+        number = n + 1;
+        more = r.added;
+        all = refl;
+        does = enters way.Up;
+        moves = moves_from state (at n (asking w s is.0)) (frame bytes) (enters way.Up) is.1 (by_message n w s is.0 bytes reply out net m takes (brought is.0 is.2.inquiry));
+        shows = r.enters is.0 (message_in m w.time) (is.2, refl);
+      };
 }
 
 -- time passes for it
@@ -98,6 +121,16 @@ time_grows n w g s i h st after ms valid same r = record {
         stands = c.2;
       };
   graphs = λ outs q graphs fit. r.graphs outs q graphs (same q fit);
+  follows = λ m stands.
+      let is = stands_at (seen n w g (stage.Asking s i)) m stands in
+      record {
+        number = n + 1;
+        more = r.added;
+        all = refl;
+        does = enters way.Time;
+        moves = moves_from m (at n (asking w s is.0)) (tick ms) (enters way.Time) is.1 (by_its_tick n w s is.0 ms);
+        shows = r.enters is.0 (time_in (w.time + ms)) (is.2, refl);
+      };
 }
 
 off_numbered : (n : ℕ) (w : World) (s : Running) (o : Lone) (number : ℕ) → number ≡ o.number →
@@ -108,6 +141,11 @@ off_numbered n w s o number e = rw e (switches_it_off n w s o)
 pub without_shut_alone : (k : ℕ) (v : Option Waiter) (x : Alone) → without_graph (shut_alone k v x) ≡ ended k stopped_cause ∷ []
 without_shut_alone k v x = without-append (traced (one_shut_events v x.object.0 stopped_cause)) (ended k stopped_cause ∷ [])
     ∙ ap (λ r. r ++ (ended k stopped_cause ∷ [])) (without_traced (one_shut_events v x.object.0 stopped_cause))
+
+-- they begin with a close
+pub alone_closes_first : (k : ℕ) (v : Option Waiter) (x : Alone) → ClosesFirst (shut_alone k v x)
+alone_closes_first k None x = record { port = port_at x.object.0 0; more = _; all = refl }
+alone_closes_first k (Some v) x = record { port = port_at (waiter_serial v) 0; more = _; all = refl }
 
 -- behind STEP too they are in order
 shut_order : (outs : List Out) (n k : ℕ) (cast : Cast) → Graphs outs (holding k cast) → Graphs (outs ++ (step n ∷ (traced (cast_shut cast stopped_cause) ++ (ended k stopped_cause ∷ [])))) (bare (k + 1) (last_made cast))
@@ -140,6 +178,16 @@ off_asking_grows n w g h s i last p = record {
         stands = as_stopped (n + 1) w h;
       };
   graphs = λ outs q graphs fit. off_order (n + 1) s i w.opens g.book.made h.book.made outs q last graphs fit;
+  follows = λ m stands.
+      let is = stands_at (seen n w g (stage.Asking s i)) m stands in
+      record {
+        number = n + 1;
+        more = shut_alone i.speaker.number i.waiter i.object;
+        all = refl;
+        does = shuts;
+        moves = moves_from m (at n (asking w s is.0)) off shuts is.1 (by_its_off n w s is.0);
+        shows = alone_closes_first i.speaker.number i.waiter i.object;
+      };
 }
 
 -- what a message or a time does, as a turn
@@ -163,7 +211,7 @@ replies_acts (turn.Over status.TooManyRecords) old new used s P mid before after
 -- what replies for some replies for fewer
 replies_fewer : {old new : Logged} (s : Running) (P Q : Lone → Incoming → Type 0) (n : ℕ) (w : World) (h h' : Objects Obj) (st st' : Stage) (after : Seen) → ((q : GraphAt) → FitsAt st' w.opens h'.book.made q → FitsAt st w.opens h.book.made q) →
     ((o : Lone) (e : Incoming) → Q o e → P o e) → HasReplied s P (seen n w h st) after old new → HasReplied s Q (seen n w h' st') after old new
-replies_fewer s P Q n w h h' st st' after same less r = record { added = r.added; puts = r.puts; replies = λ o e q. r.replies o e (less o e q); graphs = λ outs q graphs fit. r.graphs outs q graphs (same q fit) }
+replies_fewer s P Q n w h h' st st' after same less r = record { added = r.added; puts = r.puts; replies = λ o e q. r.replies o e (less o e q); graphs = λ outs q graphs fit. r.graphs outs q graphs (same q fit); enters = λ o e q. r.enters o e (less o e q) }
 
 pub replies_less : (t : Turn) (old new : Logged) (s : Running) (P Q : Lone → Incoming → Type 0) (n : ℕ) (w : World) (h h' : Objects Obj) (st st' : Stage) (after : Seen) → ((q : GraphAt) → FitsAt st' w.opens h'.book.made q → FitsAt st w.opens h.book.made q) →
     ((o : Lone) (e : Incoming) → Q o e → P o e) → RepliesAs t s P (seen n w h st) after old new → RepliesAs t s Q (seen n w h' st') after old new

@@ -26,6 +26,8 @@ use Rattle.nb_engine.specs.Machine.{Phase, Replies, talks_on, asking, at}
 use Rattle.nb_engine.specs.Notes.{WasTold}
 use Rattle.nb_engine.specs.Opens.{acts_records}
 use Rattle.nb_engine.specs.Replying.{HasReplied, HasBrought, WasBrought, IsBrought}
+use Rattle.nb_engine.specs.GraphSteps.{EntersFirst}
+use Rattle.nb_engine.proofs.Enterings.{talk_enters}
 use Rattle.nb_engine.specs.Running.{Running}
 use Rattle.nb_engine.specs.Seen.{seen, StandsFor, as_asking, IsSound, KeepsOrder}
 use Rattle.nb_engine.specs.Talks.{Talk, Incoming, TalkGoes}
@@ -104,6 +106,9 @@ talks_reply n w s g i p by rec ns was none put = record {
   puts = put;
   replies = λ o e h. talks_by n w s g i p by rec ns o e h.inquiry h.does none;
   graphs = talks_kept n w s g i p by rec ns was none;
+  enters = λ o e h.
+      subst (λ x. EntersFirst x (told_records w.net i.speaker ns)) h.way
+      (talk_enters w.net i.speaker (company_of g i) g i.object.object.0 o.start o.talk p by rec e ns h.does (λ memory. no_memory_left ns memory none));
 }
 
 -- what goes on is under way

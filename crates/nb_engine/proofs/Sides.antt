@@ -1,6 +1,6 @@
 -- Records that don't concern the graph, and where a client stands with it.
 use Rattle.std.proofs.Common.{◌≡◌, ℕ, List, [], ◌∷◌, ◌++◌, refl, sym, ◌∙◌, ap, subst}
-use Rattle.nb_defs.specs.Records.{In, Out, out_texts}
+use Rattle.nb_defs.specs.Records.{In, Out, out_texts, step}
 use Rattle.nb_defs.specs.Commands.{CommandOutcome}
 use Rattle.std.specs.Prelude.{Option, Some, None}
 use Rattle.nb_record.specs.Logged.{Logged, Puts}
@@ -13,8 +13,9 @@ use Rattle.nb_engine.specs.Running.{Running}
 use Rattle.nb_engine.specs.Effects.{ShownWords}
 use Rattle.nb_engine.specs.Conclusions.{Conclusion, keeps, fails, boots, conclusion_records}
 use Rattle.nb_engine.specs.Machine.{Machine, reply_records, prints, command_records}
-use Rattle.nb_engine.specs.Seen.{Seen, StandsFor, FitsAt, FitsGraph}
-use Rattle.nb_engine.specs.Turns.{Grows, Leads}
+use Rattle.nb_engine.specs.GraphSteps.{GraphStep, stays_still, HasNoOpen, MovesGraph, without_open}
+use Rattle.nb_engine.specs.Seen.{Seen, StandsFor, FitsAt, FitsGraph, KeepsOrder, as_ready, as_running, as_waiting, as_asking, as_reaching, as_sleeping, as_yielded, as_handing, as_left, as_handed_off, as_stopped}
+use Rattle.nb_engine.specs.Turns.{Grows, Leads, IsBusy}
 use Rattle.nb_engine.proofs.TellingLemmas.{without_aside, aside-append}
 
 -- no command waits for an open
@@ -95,15 +96,50 @@ aside_at : (outs added : List Out) (q : GraphAt) (x m : ℕ) → q ≡ bare x m 
 aside_at outs added q x m e graphs are =
     subst (λ p. Graphs outs p → Graphs (outs ++ added) p) (sym e) (λ g. aside outs added x m g are) graphs
 
+-- records that don't concern the graph are in its order, where no command waits
+aside_order : (before after : Seen) (added : List Out) → NotWaiting before.stage → AreAside added → ((q : GraphAt) → FitsGraph before q → FitsGraph after q) → KeepsOrder before added after
+aside_order before after added rests are fits outs q graphs fit =
+    (q, aside_at outs added q before.world.opens before.graph.book.made (to_bare before.stage before.world.opens before.graph.book.made rests q fit) graphs are, fits q fit)
+
 -- a client for which no command waits grows by records that don't concern the graph
-pub aside_grows : {old new : Logged} (used : List In) (before after : Seen) (added : List Out) → NotWaiting before.stage → AreAside added → Puts old new (out_texts added) →
-    ((q : GraphAt) → FitsGraph before q → FitsGraph after q) → ((m : Machine) → StandsFor before m → Leads used m added after) → Grows used before after old new
-aside_grows used before after added rests are p fits leads = record {
+pub aside_grows : {old new : Logged} (before after : Seen) (added : List Out) → IsBusy before.stage → NotWaiting before.stage → AreAside added → Puts old new (out_texts added) →
+    ((q : GraphAt) → FitsGraph before q → FitsGraph after q) → ((m : Machine) → StandsFor before m → Leads [] m added after) → Grows [] before after old new
+aside_grows before after added busy rests are p fits leads = record {
   added = added;
   puts = p;
   leads = λ m stands. rw (without_aside added are) (leads m stands);
-  graphs = λ outs q graphs fit. (q, aside_at outs added q before.world.opens before.graph.book.made (to_bare before.stage before.world.opens before.graph.book.made rests q fit) graphs are, fits q fit);
+  graphs = aside_order before after added rests are fits;
+  follows = busy;
 }
+
+-- then no open lives
+has_none : (c : Seen) (m : Machine) → NotWaiting c.stage → StandsFor c m → HasNoOpen m.phase
+has_none c m none (as_ready n w g) = tt
+has_none c m none (as_running n w g s) = tt
+has_none c m none (as_waiting n w g s f o live) = absurd none
+has_none c m none (as_asking n w g s i o live) = absurd none
+has_none c m none (as_reaching n w g s k next is) = absurd none
+has_none c m none (as_sleeping n w g s until) = tt
+has_none c m none (as_yielded n w g s) = tt
+has_none c m none (as_handing n w g h rest e) = tt
+has_none c m none (as_left n w g cause) = tt
+has_none c m none (as_handed_off n w g) = tt
+has_none c m none (as_stopped n w g) = tt
+
+-- it grows so in the step of a record
+pub aside_begins : {old new : Logged} (r : In) (before after : Seen) (number : ℕ) (more : List Out) → NotWaiting before.stage → AreAside more → Puts old new (out_texts (step number ∷ more)) →
+    ((q : GraphAt) → FitsGraph before q → FitsGraph after q) → ((m : Machine) → StandsFor before m → Leads (r ∷ []) m (step number ∷ more) after) → Grows (r ∷ []) before after old new
+aside_begins r before after number more rests are p fits leads = record {
+  added = step number ∷ more;
+  puts = p;
+  leads = λ m stands. rw (without_aside (step number ∷ more) (tt, are)) (leads m stands);
+  graphs = aside_order before after (step number ∷ more) rests (tt, are) fits;
+  follows = λ m stands. record { number = number; more = more; all = refl; does = stays_still; moves = without_open m r (has_none before m rests stands); shows = without_aside more are };
+}
+
+-- what the next record does to the graph of a state does it to that of a client which stands for the state
+pub moves_from : (m m0 : Machine) (r : In) (does : GraphStep) → m ≡ m0 → MovesGraph m0 r does → MovesGraph m r does
+moves_from m m0 r does e v = subst (λ x. MovesGraph x r does) (sym e) v
 
 pub aside_reply : (reply : List ℕ) → AreAside (reply_records reply)
 aside_reply [] = tt

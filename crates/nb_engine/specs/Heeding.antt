@@ -17,6 +17,7 @@ use Rattle.nb_opens.specs.declared.download.Download.{Download}
 use Rattle.nb_opens.specs.Pairs.{CallDoes}
 use Rattle.nb_engine.specs.World.{with_net}
 use Rattle.nb_engine.specs.Machine.{Phase, Hears, at, reply_records}
+use Rattle.nb_engine.specs.GraphSteps.{EntersFirst, way_of_call}
 use Rattle.nb_engine.specs.Running.{Running}
 use Rattle.nb_engine.specs.Opens.{Open, body_of}
 use Rattle.nb_engine.specs.Fetches.{IsFetchOf, IsLive}
@@ -38,6 +39,8 @@ pub record Follows (s : Running) (P : Open → Call → Type 0) (before after : 
   pub hears : (o : Open) (call : Call) → P o call →
       (phase : Phase) × Hears before.world s o call (without_graph added) phase × StandsFor after (at before.used phase)
   pub graphs : KeepsOrder before (step before.used ∷ added) after
+  -- the graph's records begin with its entry
+  pub enters : (o : Open) (call : Call) → P o call → EntersFirst (way_of_call call) added
 
 abbrev pub Heeds : Turn → Running → (Open → Call → Type 0) → Seen → Seen → Logged → Logged → Type 0
 Heeds turn.More s P before after old new = Follows s P before after old new × IsBusy after.stage
@@ -56,6 +59,7 @@ pub record HasHeard (g : Objects Obj) (f : Fetch) (p : Port) (by : Way) (rec : �
   pub request : length o.begun.request ≤ 1480
   pub meets : Meets o.begun o.start o.entries
   pub does : CallDoes g f.objects.fetch.0 f.objects.tftp.0 o.begun o.start o.entries (body_of o) p by rec call ns
+  pub way : by ≡ way_of_call call
 
 -- some call came to these objects of an open, and the outside was told this
 pub record WasCalled (g : Objects Obj) (d : Download) (p : Port) (by : Way) (rec : ℕ) (ns : List Notice) : Type 0 where

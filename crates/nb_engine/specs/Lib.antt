@@ -11,6 +11,7 @@ pub mod Lones
 pub mod FirstText
 pub mod Running
 pub mod Machine
+pub mod GraphSteps
 pub mod StatusNumber
 pub mod CommandWords
 pub mod Steps

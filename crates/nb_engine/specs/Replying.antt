@@ -32,6 +32,7 @@ use Rattle.nb_engine.specs.Queries.{Query, for_lease, for_echo, for_address, for
 use Rattle.nb_engine.specs.Talks.{Incoming}
 use Rattle.nb_engine.specs.Lones.{Lone, Settled, lease_change, settled_by, world_settled}
 use Rattle.nb_engine.specs.Machine.{Phase, Replies, at}
+use Rattle.nb_engine.specs.GraphSteps.{EntersFirst, way_of_incoming}
 use Rattle.nb_engine.specs.Running.{Running, with_result}
 use Rattle.nb_engine.specs.Deliveries.{delivered_bytes, delivered_address}
 use Rattle.nb_engine.specs.Inquiries.{query_of, company_of, IsInquiryOf, IsLiveLone, TalkDoes, beside_freed_events}
@@ -47,6 +48,8 @@ pub record HasReplied (s : Running) (P : Lone → Incoming → Type 0) (before a
   pub replies : (o : Lone) (e : Incoming) → P o e →
       (phase : Phase) × Replies before.world s o e (without_graph added) phase × StandsFor after (at before.used phase)
   pub graphs : KeepsOrder before (step before.used ∷ added) after
+  -- the graph's records begin with its entry
+  pub enters : (o : Lone) (e : Incoming) → P o e → EntersFirst (way_of_incoming e) added
 
 abbrev pub RepliesAs : Turn → Running → (Lone → Incoming → Type 0) → Seen → Seen → Logged → Logged → Type 0
 RepliesAs turn.More s P before after old new = HasReplied s P before after old new × IsBusy after.stage
@@ -63,6 +66,7 @@ ComesFor g brought i o e = IsLiveLone g i o × (e ≡ brought)
 pub record HasBrought (g : Objects Obj) (i : Inquiry) (p : Port) (by : Way) (rec : ℕ) (ns : List Notice) (o : Lone) (e : Incoming) : Type 0 where
   pub inquiry : IsInquiryOf i o
   pub does : TalkDoes (company_of g i) g i.object.object.0 o.start o.talk p by rec e ns
+  pub way : by ≡ way_of_incoming e
 
 -- something came to the object of an inquiry, and the outside was told this
 pub record WasBrought (g : Objects Obj) (i : Inquiry) (p : Port) (by : Way) (rec : ℕ) (ns : List Notice) : Type 0 where

@@ -5,6 +5,7 @@ use Rattle.nb_terms.specs.declared.cause.Cause.{Cause}
 use Rattle.nb_defs.specs.Records.{In, start, frame, tick, off, Out, out_texts, ended, done}
 use Rattle.nb_record.specs.Logged.{Logged, Puts}
 use Rattle.nb_engine.specs.Machine.{Machine, Begins, Moves, status_of, stopped_cause}
+use Rattle.nb_engine.specs.GraphSteps.{BeginsAs}
 use Rattle.nb_engine.specs.StatusNumber.{status_number}
 use Rattle.nb_engine.specs.Steps.{moves_in}
 use Rattle.nb_engine.specs.Handings.{records_left}
@@ -123,6 +124,12 @@ pub record Leads (used : List In) (before : Machine) (added : List Out) (after :
   pub steps : Steps used before added machine
   pub stands : StandsFor after machine
 
+-- A step was under way; or a record's step begins as the record moves the graph, for each state for which the client stood.
+abbrev pub FollowsRecord : List In → Seen → List Out → Type 0
+FollowsRecord [] before added = IsBusy before.stage
+FollowsRecord (r ∷ []) before added = (m : Machine) → StandsFor before m → BeginsAs m r added
+FollowsRecord (r ∷ q ∷ rs) before added = ⊥
+
 -- From a client to one that stands for the state after a step, whose records were put: for each state for
 -- which it stood. The graph's records stand in its order among them, and the others are the machine's.
 pub record Grows (used : List In) (before after : Seen) (old new : Logged) : Type 0 where
@@ -130,6 +137,7 @@ pub record Grows (used : List In) (before after : Seen) (old new : Logged) : Typ
   pub puts : Puts old new (out_texts added)
   pub leads : (m : Machine) → StandsFor before m → Leads used m (without_graph added) after
   pub graphs : KeepsOrder before added after
+  pub follows : FollowsRecord used before added
 
 -- the statuses with which a client ends a run
 abbrev pub IsEnd : Status → Type 0

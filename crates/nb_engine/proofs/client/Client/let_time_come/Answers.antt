@@ -1,4 +1,4 @@
-use Rattle.std.proofs.Common.{sym, subst}
+use Rattle.std.proofs.Common.{refl, sym, subst}
 use Rattle.nb_ledger.specs.declared.event.Way.TheVariants as way
 use Rattle.nb_graph.specs.Whole.{port_at}
 use Rattle.nb_opens.specs.Graphs.{by_time}
@@ -39,7 +39,7 @@ come_of-requires-clause-brought c =
       0,
       told.0,
       told.1,
-      was_brought now.graph new.graph i p way.Time 0 (time_in now.world.time) new.told told.0 (made_stays now.graph new.graph i p way.Time 0 (time_in now.world.time) new.told _ each told sound.objects.0.0) by_time each told.1 sound.objects.0.0,
+      was_brought now.graph new.graph i p way.Time 0 (time_in now.world.time) new.told told.0 refl (made_stays now.graph new.graph i p way.Time 0 (time_in now.world.time) new.told _ each told sound.objects.0.0) by_time each told.1 sound.objects.0.0,
     )
 
 pub returns-in-Ok : goal.returns-in-Ok
@@ -56,9 +56,9 @@ returns-in-Ok c =
     let sound : IsSound now.used now.world now.graph (stage.Asking s i) =
     subst (λ (x : Seen). IsSound x.used x.world x.graph (stage.Asking s i)) (sym c.self.view_is) c.requires.sound in
     let made = made_stays now.graph h i p way.Time 0 e out _ each told sound.objects.0.0 in
-    let was : WasBrought h i p way.Time 0 told.0 = was_brought now.graph h i p way.Time 0 e out told.0 made by_time each told.1 sound.objects.0.0 in
+    let was : WasBrought h i p way.Time 0 told.0 = was_brought now.graph h i p way.Time 0 e out told.0 refl made by_time each told.1 sound.objects.0.0 in
     let t = c.come_of.result in
     let new = c.come_of.new in
     subst (λ (x : Seen). RepliesAs t s (ComesFor x.graph (time_in x.world.time) i) (standing x (stage.Asking s i)) new.self c.args.log.now new.log) c.self.view_is
     (replies_less t c.args.log.now new.log s (HasBrought h i p way.Time 0 told.0) (ComesFor now.graph e i) now.used now.world h now.graph (stage.Asking s i) (stage.Asking s i) new.self (λ q fit. subst (λ m. FitsAt (stage.Asking s i) now.world.opens m q) (sym made) fit)
-    (λ o f q. subst (λ x. HasBrought h i p way.Time 0 told.0 o x) (sym q.1) (brought_to now.graph h i p way.Time 0 e out told.0 o made each told.1 q.0)) (c.come_of.ensures p way.Time 0 told.0 told.1 was))
+    (λ o f q. subst (λ x. HasBrought h i p way.Time 0 told.0 o x) (sym q.1) (brought_to now.graph h i p way.Time 0 e out told.0 o refl made each told.1 q.0)) (c.come_of.ensures p way.Time 0 told.0 told.1 was))

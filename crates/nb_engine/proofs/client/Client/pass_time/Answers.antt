@@ -1,4 +1,4 @@
-use Rattle.std.proofs.Common.{[], Some, sym, subst}
+use Rattle.std.proofs.Common.{[], Some, refl, sym, subst}
 use Rattle.nb_ledger.specs.declared.event.Way.TheVariants as way
 use Rattle.nb_graph.specs.Whole.{port_at}
 use Rattle.nb_tftp.specs.History.{Call, ticked}
@@ -49,4 +49,4 @@ returns-in-Ok c =
     let told = given_is c.pass_time.new.told d.0 c.in-Ok.ensures.0 d.1 c.in-Ok.ensures.1 in
     subst (λ (x : Seen). Heeds c.heed.result s (Comes x.graph (ticked x.world.time) f) (standing x (stage.Waiting s f)) c.heed.new.self c.args.log.now c.heed.new.log) c.self.view_is
     (heeds_less c.heed.result c.args.log.now c.heed.new.log s (HasHeard h f p way.Time (0) d.0) (Comes now.graph call f) now.used now.world h now.graph (stage.Waiting s f) (stage.Waiting s f) c.heed.new.self (λ q fit. fit)
-    (λ o j q. subst (λ x. HasHeard h f p way.Time (0) d.0 o x) (sym q.1) (heard_of now.graph h f p way.Time (0) call d.0 o d.2 q.0)) (c.heed.ensures p way.Time (0) d.0 told was))
+    (λ o j q. subst (λ x. HasHeard h f p way.Time (0) d.0 o x) (sym q.1) (heard_of now.graph h f p way.Time (0) call d.0 o refl d.2 q.0)) (c.heed.ensures p way.Time (0) d.0 told was))

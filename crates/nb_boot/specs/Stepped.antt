@@ -1,0 +1,41 @@
+-- What of the object graph stands first in the step of each record, by the two lists alone.
+use Rattle.std.specs.Prelude.{◌≡◌, ℕ, List, [], ◌∷◌, ◌++◌}
+use Rattle.nb_defs.specs.Records.{In, Out, step}
+use Rattle.nb_ledger.specs.declared.event.Way.{Way}
+use Rattle.nb_ledger.specs.declared.event.Way.TheVariants as way
+use Rattle.nb_opens.specs.Graphs.{without_graph}
+use Rattle.nb_tftp.specs.History.{Call}
+use Rattle.nb_engine.specs.GraphSteps.{EntersFirst, ClosesFirst}
+use Rattle.nb_laws.specs.Events.{Event, starts, hears, waits, stops, puts, used_by}
+use Rattle.nb_laws.specs.Histories.{IsHistory, IsRead}
+use Rattle.nb_laws.specs.Lists.{Opening, live, call_at}
+use Rattle.nb_laws.specs.Agreement.{NoneLives}
+
+-- Where this comes to an open, the records of a step begin with an entry by this way, whatever comes of it; and where nothing
+-- comes to any, none of them is the graph's.
+pub record EntersWith (by : Way) (comes : ℕ → List Call) (more : List Out) : Type 0 where
+  pub enters : (k : ℕ) (call : Call) → comes k ≡ call ∷ [] → EntersFirst by more
+  pub still : ((k : ℕ) → comes k ≡ []) → without_graph more ≡ more
+
+-- where an open lives, these records begin with the first close of the graph's end
+abbrev pub ShutsLive : List Event → List Out → Type 0
+ShutsLive es outs = (k : ℕ) (o : Opening) → live k es ≡ o ∷ [] → ClosesFirst outs
+
+-- What stands behind a STEP, by the events before it: a datagram or an echo reply that an open receives enters from below, a
+-- time that passes while an open lives enters as a time, and OFF shuts the graph.
+abbrev pub StartsSo : List Event → Event → List Out → Type 0
+StartsSo before (starts n s) more = Unit {0}
+StartsSo before (hears n bytes m) more = EntersWith way.Up (λ k. call_at k before (hears n bytes m)) more
+StartsSo before (waits n ms) more = EntersWith way.Time (λ k. call_at k before (waits n ms)) more
+StartsSo before (stops n) more = ShutsLive before more
+StartsSo before (puts o) more = ⊥
+
+-- The records used and all the records written, those of the graph among them: each record's step begins so, and more comes in a
+-- step only where no open lives. So behind the beginning of a step in which an open goes on stands the next STEP.
+pub data AreStepped : List In → List Out → Type 0 where
+  nothing : AreStepped [] []
+  uses : (ins : List In) (outs : List Out) (before : List Event) (r : In) (e : Event) (number : ℕ) (more : List Out) →
+      AreStepped ins outs → IsHistory ins (without_graph outs) before → used_by e ≡ r ∷ [] → IsRead before e → StartsSo before e more →
+      AreStepped (ins ++ r ∷ []) (outs ++ (step number ∷ more))
+  goes_on : (ins : List In) (outs : List Out) (before : List Event) (added : List Out) →
+      AreStepped ins outs → IsHistory ins (without_graph outs) before → NoneLives before → AreStepped ins (outs ++ added)
