@@ -1,30 +1,29 @@
 -- The path of a run with the records of the graph is stepped, as the two lists say alone.
-use Rattle.std.proofs.Common.{◌≡◌, ◌⊎◌, inl, inr, ℕ, ◌+◌, List, [], ◌∷◌, ◌++◌, Option, Some, None, refl, sym, ◌∙◌, ap, subst, append-nil}
+use Rattle.std.proofs.Common.{◌≡◌, ◌⊎◌, inl, inr, ℕ, ◌+◌, List, [], ◌∷◌, ◌++◌, refl, sym, ◌∙◌, ap, subst, append-nil}
 use Rattle.std.specs.List.{flat_map}
-use Rattle.nb_defs.specs.Records.{In, frame, tick, off, Out, step}
+use Rattle.nb_defs.specs.Records.{In, Out}
 use Rattle.nb_stack.specs.Brings.{Brought}
 use Rattle.nb_stack.specs.Takes.{outcome_of}
-use Rattle.nb_graph.specs.Trace.{Said}
-use Rattle.nb_tftp.specs.History.{Call, ticked, Entry}
+use Rattle.nb_tftp.specs.History.{ticked, Entry}
 use Rattle.nb_opens.specs.Graphs.{without_graph}
 use Rattle.nb_engine.specs.declared.world.World.{World}
-use Rattle.nb_engine.specs.Opens.{Open, heard_from}
+use Rattle.nb_engine.specs.Opens.{heard_from}
 use Rattle.nb_engine.specs.Lones.{Lone}
 use Rattle.nb_engine.specs.Talks.{message_for}
-use Rattle.nb_engine.specs.Machine.{Machine, Phase, ready, running, waiting, asking, sleeping, reaching, yielded, handing, left, handed_off, stopped, at, Path, Moves, Begins, runs, refuses, passes_by, brings, passes_time, switches_off, passes_it_by, brings_it, passes_its_time, switches_it_off, sleeps_through_frame, sleeps_on, wakes, goes_off_asleep, goes_on_by_frame, goes_on_by_tick, goes_off}
+use Rattle.nb_engine.specs.Machine.{Machine, Phase, ready, running, waiting, asking, sleeping, reaching, yielded, handing, left, handed_off, stopped, Path, Begins, runs, refuses, passes_by, brings, passes_time, switches_off, passes_it_by, brings_it, passes_its_time, switches_it_off, sleeps_through_frame, sleeps_on, wakes, goes_off_asleep, goes_on_by_frame, goes_on_by_tick, goes_off}
 use Rattle.nb_engine.specs.Machine as machine
-use Rattle.nb_engine.specs.GraphSteps.{GraphPath, GraphStep, BeginsAs, MovesGraph, ShowsFirst, ShutsFirst, ClosesFirst, HasNoOpen, IsUnderWay, by_frame_for_others, by_frame, by_tick, by_off, by_message_for_others, by_message, by_its_tick, by_its_off, without_open}
+use Rattle.nb_engine.specs.GraphSteps.{GraphPath, GraphStep, MovesGraph, ShowsFirst, ShutsFirst, HasNoOpen, IsUnderWay, by_frame_for_others, by_frame, by_tick, by_off, by_message_for_others, by_message, by_its_tick, by_its_off, without_open}
 use Rattle.nb_engine.specs.GraphSteps as traced_path
 use Rattle.nb_laws.specs.Events.{Event, starts, hears, waits, stops, puts, used_by}
-use Rattle.nb_laws.specs.Histories.{IsHistory, IsRead}
+use Rattle.nb_laws.specs.Histories.{IsRead}
 use Rattle.nb_laws.specs.Lists.{Opening, time, live, call_at, came_in}
-use Rattle.nb_laws.specs.Agreement.{AgreesWorld, AgreesOpen, AgreesLone, AgreesPhase, NoneLives, opening_of, lone_opening}
+use Rattle.nb_laws.specs.Agreement.{AgreesWorld, AgreesLone, AgreesPhase, NoneLives, opening_of, lone_opening}
 use Rattle.nb_laws.proofs.Beginnings.{none_at_start}
 use Rattle.nb_laws.proofs.Calls.{IsUsed, bare_brings, live_one, none_come, came_by, call_of, frame_brings_none}
 use Rattle.nb_laws.proofs.LoneCalls.{lone_brings_none}
 use Rattle.nb_laws.proofs.Lones.{calls_said, lone_came_same}
 use Rattle.nb_laws.proofs.Runs.{lawful_run}
-use Rattle.nb_boot.specs.Stepped.{EntersWith, ShutsLive, StartsSo, AreStepped, nothing, uses, goes_on}
+use Rattle.nb_boot.specs.Stepped.{ShutsLive, StartsSo, AreStepped, nothing, uses, goes_on}
 use Rattle.nb_boot.proofs.Goings.{path_on}
 
 -- without the records of the graph it is a path

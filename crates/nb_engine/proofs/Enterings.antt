@@ -1,5 +1,5 @@
 -- What the graph tells of a datagram or a time begins with its entry.
-use Rattle.std.proofs.Common.{◌≡◌, ℕ, List, [], ◌∷◌, ◌++◌, Option, Some, ap, sym, subst}
+use Rattle.std.proofs.Common.{◌≡◌, ℕ, List, ◌∷◌, ◌++◌, Some, ap, sym, subst}
 use Rattle.nb_defs.specs.Records.{Out}
 use Rattle.nb_ledger.specs.Flat.{Notice}
 use Rattle.nb_ledger.specs.declared.port.Port.{Port}

@@ -3,7 +3,7 @@ use Rattle.std.proofs.Common.{◌≡◌, ℕ, ◌+◌, List, [], ◌∷◌, ◌+
 use Rattle.nb_defs.specs.Records.{In, frame, tick, off, IsIn, Out, out_texts, step, ended}
 use Rattle.nb_record.specs.Logged.{Logged, Puts}
 use Rattle.nb_graph.specs.Trace.{Said}
-use Rattle.nb_engine.specs.GraphSteps.{GraphStep, enters, shuts, stays_still, ClosesFirst, by_message_for_others, by_message, by_its_tick, by_its_off}
+use Rattle.nb_engine.specs.GraphSteps.{enters, shuts, stays_still, ClosesFirst, by_message_for_others, by_message, by_its_tick, by_its_off}
 use Rattle.nb_ledger.specs.declared.event.Way.TheVariants as way
 use Rattle.nb_graph.specs.Whole.{Objects, port_at}
 use Rattle.nb_opens.specs.Waiters.{waiter_serial}
