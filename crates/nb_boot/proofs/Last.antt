@@ -48,7 +48,7 @@ done_first (left cause) number none = refl
 done_first handed_off number none = refl
 done_first stopped number none = refl
 
--- what begins with a close begins so with more behind it
+-- what begins with a close begins so with more after it
 closes_more : (xs ys : List Out) → ClosesFirst xs → ClosesFirst (xs ++ ys)
 closes_more xs ys c = record { port = c.port; more = c.more ++ ys; all = ap (λ zs. zs ++ ys) c.all }
 

@@ -21,7 +21,7 @@ pub record EntersWith (by : Way) (comes : ℕ → List Call) (more : List Out) :
 abbrev pub ShutsLive : List Event → List Out → Type 0
 ShutsLive es outs = (k : ℕ) (o : Opening) → live k es ≡ o ∷ [] → ClosesFirst outs
 
--- What stands behind a STEP, by the events before it: a datagram or an echo reply that an open receives enters from below, a
+-- What stands after a STEP, by the events before it: a datagram or an echo reply that an open receives enters from below, a
 -- time that passes while an open lives enters as a time, and OFF shuts the graph.
 abbrev pub StartsSo : List Event → Event → List Out → Type 0
 StartsSo before (starts n s) more = Unit {0}
@@ -31,7 +31,7 @@ StartsSo before (stops n) more = ShutsLive before more
 StartsSo before (puts o) more = ⊥
 
 -- The records used and all the records written, those of the graph among them: each record's step begins so, and more comes in a
--- step only where no open lives. So behind the beginning of a step in which an open goes on stands the next STEP.
+-- step only where no open lives. So after the beginning of a step in which an open goes on the next STEP stands.
 pub data AreStepped : List In → List Out → Type 0 where
   nothing : AreStepped [] []
   uses : (ins : List In) (outs : List Out) (before : List Event) (r : In) (e : Event) (number : ℕ) (more : List Out) →

@@ -25,12 +25,12 @@ use Rattle.nb_engine.proofs.TellingLemmas.{told-append}
 told_first : (net : Client) (who : Speaker) (p : Port) (by : Way) (rest ns : List Notice) → ns ≡ tells (Entered p by) ∷ rest → EntersFirst by (told_records net who ns)
 told_first net who p by rest ns e = record { port = p; more = told_records net who rest; all = ap (told_records net who) e }
 
--- so it does with more behind it
+-- so it does with more after it
 pub enters_more : (by : Way) (xs ys : List Out) → EntersFirst by xs → EntersFirst by (xs ++ ys)
 enters_more by xs ys e = record { port = e.port; more = e.more ++ ys; all = ap (λ zs. zs ++ ys) e.all }
 
-pub told_more : (net : Client) (who : Speaker) (by : Way) (ns more : List Notice) → EntersFirst by (told_records net who ns) → EntersFirst by (told_records net who (ns ++ more))
-told_more net who by ns more e = subst (λ xs. EntersFirst by xs) (sym (told-append net who ns more)) (enters_more by (told_records net who ns) (told_records net who more) e)
+pub enters_told_more : (net : Client) (who : Speaker) (by : Way) (ns more : List Notice) → EntersFirst by (told_records net who ns) → EntersFirst by (told_records net who (ns ++ more))
+enters_told_more net who by ns more e = subst (λ xs. EntersFirst by xs) (sym (told-append net who ns more)) (enters_more by (told_records net who ns) (told_records net who more) e)
 
 -- a call on the two objects of a transfer
 pub call_enters : (net : Client) (who : Speaker) (g : Objects Obj) (f t : ℕ) (b : Begun) (start : ℕ) (calls : List Entry) (body : List ℕ) (p : Port) (by : Way) (rec : ℕ) (call : Call) (ns : List Notice) →

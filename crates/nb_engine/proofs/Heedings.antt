@@ -34,7 +34,7 @@ use Rattle.nb_engine.specs.World.{unbound, world_with_images}
 use Rattle.nb_engine.specs.Opens.{Open, with_entry, body_of, end_of, is_over_limit, acts_records, too_large_image}
 use Rattle.nb_engine.specs.Conclusions.{Conclusion, conclusion, conclusion_records, image_from, fails, keeps, boots}
 use Rattle.nb_engine.specs.GraphSteps.{EntersFirst}
-use Rattle.nb_engine.proofs.Enterings.{call_enters, enters_more, told_more}
+use Rattle.nb_engine.proofs.Enterings.{call_enters, enters_more, enters_told_more}
 use Rattle.nb_engine.specs.Running.{Running, with_result}
 use Rattle.nb_engine.specs.Machine.{Phase, Hears, goes_on, is_over, waiting, at, phase_after, concluded, running}
 use Rattle.nb_engine.specs.declared.conclusion.Conclusion.{Conclusion as Concluded}
@@ -302,7 +302,7 @@ ends_follow {old} {new} t n w s g f p by rec ns cause after was closed other e =
           let enters : EntersFirst by (told_records w.net who ns) =
           call_enters w.net who g f.objects.fetch.0 f.objects.tftp.0 o.begun o.start o.entries (body_of o) p by rec call ns h.does (λ memory. other (sym closed ∙ memory)) in
           subst (λ x. EntersFirst x (told ++ (last ++ conclusion_records comes))) h.way
-          (enters_more by told (last ++ conclusion_records comes) (told_more w.net who by ns (freed_notices f.objects.fetch.0 f.objects.tftp.0) enters));
+          (enters_more by told (last ++ conclusion_records comes) (enters_told_more w.net who by ns (freed_notices f.objects.fetch.0 f.objects.tftp.0) enters));
     }
 
 -- by the turn

@@ -34,7 +34,7 @@ use Rattle.nb_engine.specs.Notes.{WasTold}
 use Rattle.nb_engine.specs.Opens.{acts_records}
 use Rattle.nb_engine.specs.Replying.{HasReplied, RepliesAs, HasBrought, WasBrought, IsBrought, DeliversMessage, HasEndedInquiry, HasFoundHost, EndsAs, EndsInquiry, over_told, end_told, settled_so, onward_by, silent}
 use Rattle.nb_engine.specs.GraphSteps.{EntersFirst, way_of_incoming}
-use Rattle.nb_engine.proofs.Enterings.{talk_enters, enters_more, told_more}
+use Rattle.nb_engine.proofs.Enterings.{talk_enters, enters_more, enters_told_more}
 use Rattle.nb_engine.specs.Running.{Running, with_result}
 use Rattle.nb_engine.specs.Seen.{Seen, seen, StandsFor, as_running, as_reaching, KeepsOrder, FitsAt}
 use Rattle.nb_engine.specs.Talks.{Talk, looks_up, leases, pings, Incoming, TalkGoes}
@@ -213,7 +213,7 @@ over_enters w g i p by rec ns cause o e closed other h =
     let enters : EntersFirst by (told_records w.net i.speaker ns) =
     talk_enters w.net i.speaker (company_of g i) g x o.start o.talk p by rec e ns h.does (λ memory. other (sym closed ∙ memory)) in
     enters_more (way_of_incoming e) (told_records w.net i.speaker (ns ++ alone_freed x)) (ended i.speaker.number cause ∷ [])
-    (told_more w.net i.speaker (way_of_incoming e) ns (alone_freed x) (subst (λ z. EntersFirst z (told_records w.net i.speaker ns)) h.way enters))
+    (enters_told_more w.net i.speaker (way_of_incoming e) ns (alone_freed x) (subst (λ z. EntersFirst z (told_records w.net i.speaker ns)) h.way enters))
 
 -- the open ends, and its command with it, or its own open is next
 pub ends_reply : {old new : Logged} (n : ℕ) (w : World) (s : Running) (g : Objects Obj) (i : Inquiry) (p : Port) (by : Way) (rec : ℕ) (ns : List Notice) (cause : Cause) (after : Seen) → WasBrought g i p by rec ns →

@@ -40,7 +40,7 @@ pub record ClosesFirst (outs : List Out) : Type 0 where
   pub more : List Out
   pub all : outs ≡ graph (flat (Closed port stopped_cause)) ∷ more
 
--- the records behind a STEP begin so; or none of them is the graph's
+-- the records after a STEP begin so; or none of them is the graph's
 abbrev pub ShowsFirst : GraphStep → List Out → Type 0
 ShowsFirst (enters by) outs = EntersFirst by outs
 ShowsFirst shuts outs = ClosesFirst outs
@@ -105,7 +105,7 @@ pub data MovesGraph : Machine → In → GraphStep → Type 0 where
   -- no open lives
   without_open : (m : Machine) (r : In) → HasNoOpen m.phase → MovesGraph m r stays_still
 
--- the step of a record begins as the record moves the graph: that stands directly behind STEP
+-- the step of a record begins as the record moves the graph: that stands directly after STEP
 pub record BeginsAs (m : Machine) (r : In) (added : List Out) : Type 0 where
   pub number : ℕ
   pub more : List Out
