@@ -1,7 +1,7 @@
 -- What comes to an inquiry's object comes to its open.
 use Rattle.std.proofs.Common.{◌≡◌, ℕ, ◌≤◌, ◌<◌, ◌^◌, length, Bool, true, false, cond, List, [], Option, Some, None, refl, sym, ◌∙◌, ap, subst, arith}
 use Rattle.std.proofs.lemmas.Bool.Decides.{nat_tests}
-use Rattle.nb_ledger.specs.Flat.{Notice, Given}
+use Rattle.nb_ledger.specs.Flat.{Notice}
 use Rattle.nb_ledger.specs.declared.port.Port.{Port}
 use Rattle.nb_ledger.specs.declared.event.Way.{Way}
 use Rattle.nb_ledger.specs.declared.event.Way.TheVariants as way
@@ -19,7 +19,7 @@ use Rattle.nb_engine.specs.declared.speaker.Carrier.{Carrier}
 use Rattle.nb_engine.specs.declared.speaker.Carrier.TheVariants.{Udp, Icmp}
 use Rattle.nb_opens.specs.Companies.{Company, company_with}
 use Rattle.nb_terms.specs.declared.cause.Cause.{Cause}
-use Rattle.nb_engine.specs.Notes.{WasTold}
+use Rattle.nb_engine.specs.Notes.{WasTold, IsGiven}
 use Rattle.nb_engine.specs.Inquiries.{company_of, IsInquiryOf, IsLiveLone, IsInquiring, IsTakenBy, TalkDoes, TalksAs}
 use Rattle.nb_engine.specs.GraphSteps.{way_of_incoming}
 use Rattle.nb_engine.specs.Lones.{Lone}
@@ -62,24 +62,24 @@ was_brought old new i p by rec e told ns way made enters does is going =
 -- each is one that counts, and what the object told is what it was given
 pub message_to_each : (old new : Objects Obj) (i j : Inquiry) (rec now : ℕ) (m : Said) (told : Option (List Notice)) (all : List Notice) → j ≡ i →
     ((k : Company) (start : ℕ) (t : Talk) → TalksAs k old j.object.object.0 start t → IsTakenBy t m →
-    (ns : List Notice) × Given (Some []) told ns × TalkDoes k new j.object.object.0 start t (port_at j.object.object.0 1) way.Up rec (message_in m now) ns) →
+    (ns : List Notice) × IsGiven (Some []) told ns × TalkDoes k new j.object.object.0 start t (port_at j.object.object.0 1) way.Up rec (message_in m now) ns) →
     ((o : Lone) → IsInquiryOf i o → IsTakenBy o.talk m) → told ≡ Some all → DoesToEach old new i (port_at i.object.object.0 1) way.Up rec (message_in m now) told
 message_to_each old new i j rec now m told all same does counts is o live =
     let x : Inquiry → ℕ = λ z. z.object.object.0 in
     let k = company_of old i in
-    let here = subst (λ z. TalksAs k old (x z) o.start o.talk → IsTakenBy o.talk m → (ns : List Notice) × Given (Some []) told ns × TalkDoes k new (x z) o.start o.talk (port_at (x z) 1) way.Up rec (message_in m now) ns) same
+    let here = subst (λ z. TalksAs k old (x z) o.start o.talk → IsTakenBy o.talk m → (ns : List Notice) × IsGiven (Some []) told ns × TalkDoes k new (x z) o.start o.talk (port_at (x z) 1) way.Up rec (message_in m now) ns) same
     (does k o.start o.talk) in
     let d = here live.talks (counts o live.inquiry) in
     (d.0, given_is told d.0 all d.1 is, d.2)
 
 pub time_to_each : (old new : Objects Obj) (i j : Inquiry) (now : ℕ) (told : Option (List Notice)) (all : List Notice) → j ≡ i →
     ((k : Company) (start : ℕ) (t : Talk) → TalksAs k old j.object.object.0 start t →
-    (ns : List Notice) × Given (Some []) told ns × TalkDoes k new j.object.object.0 start t (port_at j.object.object.0 4) way.Time 0 (time_in now) ns) →
+    (ns : List Notice) × IsGiven (Some []) told ns × TalkDoes k new j.object.object.0 start t (port_at j.object.object.0 4) way.Time 0 (time_in now) ns) →
     told ≡ Some all → DoesToEach old new i (port_at i.object.object.0 4) way.Time 0 (time_in now) told
 time_to_each old new i j now told all same does is o live =
     let x : Inquiry → ℕ = λ z. z.object.object.0 in
     let k = company_of old i in
-    let here = subst (λ z. TalksAs k old (x z) o.start o.talk → (ns : List Notice) × Given (Some []) told ns × TalkDoes k new (x z) o.start o.talk (port_at (x z) 4) way.Time 0 (time_in now) ns) same (does k o.start o.talk) in
+    let here = subst (λ z. TalksAs k old (x z) o.start o.talk → (ns : List Notice) × IsGiven (Some []) told ns × TalkDoes k new (x z) o.start o.talk (port_at (x z) 4) way.Time 0 (time_in now) ns) same (does k o.start o.talk) in
     let d = here live.talks in
     (d.0, given_is told d.0 all d.1 is, d.2)
 

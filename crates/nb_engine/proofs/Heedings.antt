@@ -43,7 +43,10 @@ use Rattle.nb_engine.specs.Objects.{IsFile}
 use Rattle.nb_engine.specs.Tellings.{told_records}
 use Rattle.nb_engine.specs.Fetches.{IsLive, IsFetchOf, HasKept, conclusion_of, speaker_of}
 use Rattle.nb_engine.specs.Seen.{Seen, seen, StandsFor, as_waiting, IsSound, FitsAt, KeepsOrder}
-use Rattle.nb_engine.specs.Heeding.{Heeds, Follows, HasHeard, WasCalled, IsCalled}
+use Rattle.nb_engine.specs.declared.speaker.Speaker.{Speaker}
+use Rattle.nb_stack.specs.Client.{Client}
+use Rattle.nb_engine.specs.Heeding.{Heeds, Follows, HasHeard, WasCalled}
+use Rattle.nb_engine.specs.Spelling.{Spelling, HasSpelled, IsCalled}
 use Rattle.nb_engine.specs.Notes.{WasTold}
 use Rattle.nb_engine.specs.Concluding.{EndsOpen, HasEndedOpen, end_records, comes_to}
 use Rattle.nb_engine.proofs.Puts.{is_either}
@@ -394,11 +397,11 @@ pub same_close : {told : Option (List Notice)} {ns : List Notice} {cause : Optio
 same_close was is = ap first_close (same_told is was.1) ∙ was.2
 
 -- a fetch whose open goes on is as sound as before
-pub goes_sound : (n : ℕ) (w : World) (g h : Objects Obj) (s : Running) (f : Fetch) (told : Option (List Notice)) → IsSound n w g (stage.Waiting s f) → WasTold told None → IsCalled h f.objects told →
+pub goes_sound : (n : ℕ) (w : World) (g h : Objects Obj) (s : Running) (f : Fetch) (net : Client) (who : Speaker) (told : Spelling) → IsSound n w g (stage.Waiting s f) → HasSpelled told None → IsCalled h f.objects net who told →
     IsSound n w h (stage.Waiting s f)
-goes_sound n w g h s f told sound was called =
+goes_sound n w g h s f net who told sound was called =
     let it = called.5 in
-    let way = goes_under_way h f.objects it.begun it.start it.calls it.body called.0 called.1 called.2 it.call called.3 it.does (same_close was called.4) in
+    let way = goes_under_way h f.objects it.begun it.start it.calls it.body called.0 called.1 called.2 it.call called.3 it.does (sym called.4.2 ∙ was.1) in
     record {
       time = sound.time;
       w = sound.w;
@@ -410,7 +413,7 @@ goes_sound n w g h s f told sound was called =
       linked = sound.linked;
     }
 
-pub called_ended : (h : Objects Obj) (d : Download) (told : Option (List Notice)) (cause : Cause) → WasTold told (Some cause) → IsCalled h d told → IsEnded h d.fetch.0 d.tftp.0
-called_ended h d told cause was called =
+pub called_ended : (h : Objects Obj) (d : Download) (net : Client) (who : Speaker) (told : Spelling) (cause : Cause) → HasSpelled told (Some cause) → IsCalled h d net who told → IsEnded h d.fetch.0 d.tftp.0
+called_ended h d net who told cause was called =
     let it = called.5 in
-    ends_ended h d it.begun it.start it.calls it.body called.0 called.1 called.2 it.call called.3 cause it.does (same_close was called.4) was.3
+    ends_ended h d it.begun it.start it.calls it.body called.0 called.1 called.2 it.call called.3 cause it.does (sym called.4.2 ∙ was.1) was.2

@@ -1,6 +1,7 @@
 pub mod Puts
 pub mod NoteLemmas
 pub mod TellingLemmas
+pub mod SpellingLemmas
 pub mod CallLemmas
 pub mod Joins
 pub mod Standing

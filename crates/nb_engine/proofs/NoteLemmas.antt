@@ -6,11 +6,11 @@ use Rattle.nb_terms.specs.declared.cause.Cause.{Cause}
 use Rattle.nb_terms.specs.declared.event.Event.{Event as GraphEvent}
 use Rattle.nb_ledger.specs.declared.port.Port.{Port}
 use Rattle.nb_ledger.specs.declared.message.Msg.{Msg}
-use Rattle.nb_ledger.specs.Flat.{Notice, event, message, events_part, Given, Told}
+use Rattle.nb_ledger.specs.Flat.{Notice, event, message}
 use Rattle.nb_opens.specs.Notices.{close_of, or_else, first_close}
 use Rattle.nb_engine.specs.declared.outlet.Note.{Note}
 use Rattle.nb_engine.specs.declared.outlet.Note.TheVariants.{Event, Advance, Datagram, Bytes, Address}
-use Rattle.nb_engine.specs.Notes.{notice_of, notices_of, IsNoteWithin, AreNotesWithin, AreKept, IsNoteFor, told_by}
+use Rattle.nb_engine.specs.Notes.{notice_of, notices_of, IsNoteWithin, AreNotesWithin, AreKept, IsNoteFor, IsGiven, told_by}
 
 -- the cause of the first close in two parts
 pub first_close-append : (xs ys : List Notice) → first_close (xs ++ ys) ≡ or_else (first_close xs) (first_close ys)
@@ -20,17 +20,6 @@ first_close-append (x ∷ xs) ys = ap (or_else (close_of x)) (first_close-append
     or_else-assoc : (a b c : Option Cause) → or_else (or_else a b) c ≡ or_else a (or_else b c)
     or_else-assoc None b c = refl
     or_else-assoc (Some x) b c = refl
-
-events_part-append : (xs ys : List Notice) → events_part (xs ++ ys) ≡ events_part xs ++ events_part ys
-events_part-append [] ys = refl
-events_part-append (event e ∷ xs) ys = ap (λ r. e ∷ r) (events_part-append xs ys)
-events_part-append (message from tag rec a b bytes ∷ xs) ys = events_part-append xs ys
-
--- what is given is told
-pub given_told : (before after : Option (List Notice)) (added : List Notice) → Given before after added → Told before after (events_part added)
-given_told before None added g = tt
-given_told None (Some after) added g = g
-given_told (Some before) (Some after) added g = ap events_part g ∙ events_part-append before added
 
 -- a range within a front
 range-append : (xs ys : List ℕ) (a b : ℕ) → a ≤ b → b ≤ length xs → slice_range (xs ++ ys) a b ≡ slice_range xs a b
@@ -63,7 +52,7 @@ within-append : (a : ℕ) (xs ys : List Note) → AreNotesWithin a xs → AreNot
 within-append a [] ys w v = v
 within-append a (x ∷ xs) ys w v = (w.0, within-append a xs ys w.1 v)
 
-or_none : (a : Option Cause) → or_else a None ≡ a
+pub or_none : (a : Option Cause) → or_else a None ≡ a
 or_none None = refl
 or_none (Some c) = refl
 
@@ -89,10 +78,10 @@ note_keeps false true bytes more notes n closed w k =
     )
 
 pub note_given : (lost kept : Bool) (bytes more : List ℕ) (notes : List Note) (n : Note) (closed : Option Cause) → AreKept lost bytes notes closed →
-    Given (told_by lost bytes notes) (told_by (lost || not kept) (bytes ++ more) (is_added kept notes n)) (notice_of (bytes ++ more) n ∷ [])
-note_given true kept bytes more notes n closed k = tt
-note_given false false bytes more notes n closed k = tt
-note_given false true bytes more notes n closed k = notices-add bytes more notes n k.0
+    IsGiven (told_by lost bytes notes) (told_by (lost || not kept) (bytes ++ more) (is_added kept notes n)) (notice_of (bytes ++ more) n ∷ [])
+note_given true kept bytes more notes n closed k = (tt, λ ns h. tt)
+note_given false false bytes more notes n closed k = (tt, λ ns h. tt)
+note_given false true bytes more notes n closed k = (tt, λ ns h. ap (λ z. z ++ (notice_of (bytes ++ more) n ∷ [])) h ∙ sym (notices-add bytes more notes n k.0))
 
 -- an event more
 pub event_keeps : (lost kept : Bool) (bytes : List ℕ) (notes notes' : List Note) (e : GraphEvent) (closed closed' : Option Cause) → notes' ≡ is_added kept notes (Event e) →
@@ -102,9 +91,9 @@ event_keeps lost kept bytes notes notes' e closed closed' en ec k =
     (note_keeps lost kept bytes [] notes (Event e) closed tt k))
 
 pub event_given : (lost kept : Bool) (bytes : List ℕ) (notes notes' : List Note) (e : GraphEvent) (closed : Option Cause) → notes' ≡ is_added kept notes (Event e) →
-    AreKept lost bytes notes closed → Given (told_by lost bytes notes) (told_by (lost || not kept) bytes notes') (event e ∷ [])
+    AreKept lost bytes notes closed → IsGiven (told_by lost bytes notes) (told_by (lost || not kept) bytes notes') (event e ∷ [])
 event_given lost kept bytes notes notes' e closed en k =
-    rw en (subst (λ bs. Given (told_by lost bytes notes) (told_by (lost || not kept) bs (is_added kept notes (Event e))) (event e ∷ [])) (append-nil bytes)
+    rw en (subst (λ bs. IsGiven (told_by lost bytes notes) (told_by (lost || not kept) bs (is_added kept notes (Event e))) (event e ∷ [])) (append-nil bytes)
     (note_given lost kept bytes [] notes (Event e) closed k))
 
 -- a message more
@@ -118,10 +107,10 @@ message_keeps lost kept bytes bytes' notes notes' from m n closed is eb en k =
 
 pub message_given : (lost kept : Bool) (bytes bytes' : List ℕ) (notes notes' : List Note) (from : Port) (m : Msg) (n : Note) (closed : Option Cause) → IsNoteFor from m (length bytes) n →
     bytes' ≡ bytes ++ (m.first.now ++ m.second.now) → notes' ≡ is_added kept notes n → AreKept lost bytes notes closed →
-    Given (told_by lost bytes notes) (told_by (lost || not kept) bytes' notes') (message from m.tag m.rec m.a m.b (m.first.now ++ m.second.now) ∷ [])
+    IsGiven (told_by lost bytes notes) (told_by (lost || not kept) bytes' notes') (message from m.tag m.rec m.a m.b (m.first.now ++ m.second.now) ∷ [])
 message_given lost kept bytes bytes' notes notes' from m n closed is eb en k =
     let more = m.first.now ++ m.second.now in
-    rw (eb, en) (subst (λ x. Given (told_by lost bytes notes) (told_by (lost || not kept) (bytes ++ more) (is_added kept notes n)) (x ∷ [])) (is.same bytes refl)
+    rw (eb, en) (subst (λ x. IsGiven (told_by lost bytes notes) (told_by (lost || not kept) (bytes ++ more) (is_added kept notes n)) (x ∷ [])) (is.same bytes refl)
     (note_given lost kept bytes more notes n closed k))
 
 -- bytes behind bytes

@@ -1,7 +1,7 @@
 -- What comes to an open's one object is a call of its core, of which the talk goes on.
 use Rattle.std.proofs.Common.{◌≡◌, ◌⊎◌, inl, inr, ℕ, true, false, List, [], ◌∷◌, ◌++◌, Option, Some, ap, sym, ◌∙◌, refl, subst}
 use Rattle.nb_terms.specs.declared.acts.Acts.{Acts}
-use Rattle.nb_ledger.specs.Flat.{Notice, Given}
+use Rattle.nb_ledger.specs.Flat.{Notice, Heard, Given}
 use Rattle.nb_ledger.specs.declared.port.Port.{Port}
 use Rattle.nb_ledger.specs.declared.event.Way.{Way}
 use Rattle.nb_ledger.specs.declared.event.Way.TheVariants as way
@@ -32,7 +32,7 @@ use Rattle.nb_opens.specs.Companies.{Company}
 use Rattle.nb_engine.specs.Inquiries.{IsAskedBy, IsTakenBy, TalkDoes, asks_on, comes_to_end, runs_out, TalksAs, talker_of, opening_acts, AsksFor, TalkBegins, starts, fails_at_once}
 use Rattle.nb_terms.specs.declared.cause.Cause.{Cause}
 use Rattle.nb_opens.specs.AloneNotices.{alone_call}
-use Rattle.nb_engine.specs.Notes.{WasTold}
+use Rattle.nb_engine.specs.Notes.{WasTold, IsGiven}
 use Rattle.nb_engine.proofs.Hearings.{given_is}
 use Rattle.nb_engine.proofs.Heedings.{same_close}
 use Rattle.nb_engine.specs.Queries.{Query, for_lease, for_echo, for_address, for_host}
@@ -140,7 +140,7 @@ ping_replied k g x start h calls m now ns takes (is_taken taken more) = ping_doe
 ping_replied k g x start h calls m now ns takes (is_ignored other same talks) = absurd (let no : true ≡ false = sym takes ∙ other in cc)
 ping_replied k g x start h calls m now ns takes (fails_before memory) = runs_out memory
 
-pub reply_does : (k : Company) (old new : Objects Obj) (x : ℕ) (m : Said) (now : ℕ) (before after : Option (List Notice)) → ReceiveAllBy k old new x m now before after →
+pub reply_does : (k : Company) (old new : Objects Obj) (x : ℕ) (m : Said) (now : ℕ) (before after : Heard) → ReceiveAllBy k old new x m now before after →
     (start : ℕ) (t : Talk) → TalksAs k old x start t → IsTakenBy t m → (ns : List Notice) × Given before after ns × Replied k new x start t m now ns
 reply_does k old new x m now before after all start (looks_up q calls) talks takes =
     let r = all.lookup (lookup_for q) start calls talks in (r.0, r.1, look_up_replied k new x start q calls m now r.0 takes r.2)
@@ -150,7 +150,7 @@ reply_does k old new x m now before after all start (pings h calls) talks takes 
     let r = all.ping h start calls talks in (r.0, r.1, ping_replied k new x start h calls m now r.0 takes r.2)
 
 -- and a time
-pub time_does : (k : Company) (old new : Objects Obj) (x now : ℕ) (before after : Option (List Notice)) → TickAllBy k old new x now before after →
+pub time_does : (k : Company) (old new : Objects Obj) (x now : ℕ) (before after : Heard) → TickAllBy k old new x now before after →
     (start : ℕ) (t : Talk) → TalksAs k old x start t → (ns : List Notice) × Given before after ns × TalkDoes k new x start t (port_at x 4) way.Time 0 (time_in now) ns
 time_does k old new x now before after all start (looks_up q calls) talks =
     let r = all.lookup (lookup_for q) start calls talks in (r.0, r.1, look_up_does k new x start q calls (port_at x 4) way.Time 0 (time_in now) r.0 r.2)
@@ -169,7 +169,7 @@ talks_open k g x start (pings h calls) talks = talks.lone
 pub asked_so : (k : Company) (g : Objects Obj) (x : ℕ) (t : Talk) (now rec : ℕ) (before told : Option (List Notice)) (closed : Option Cause) → AsksFor k g x t now rec before told → before ≡ Some [] → WasTold told closed →
     (told ≡ Some (alone_call x (port_at x 0) way.Down rec (opening_acts t) [])) × TalksAs k g x now t
 asked_so k g x t now rec before told closed asked empty was =
-    by asked.2 (given_is told asked.0 was.0 (subst (λ b. Given b told asked.0) empty asked.1) was.1)
+    by asked.2 (given_is told asked.0 was.0 (subst (λ b. IsGiven b told asked.0) empty asked.1) was.1)
   where
     by : TalkBegins k g x t now rec asked.0 → told ≡ Some asked.0 → (told ≡ Some (alone_call x (port_at x 0) way.Down rec (opening_acts t) [])) × TalksAs k g x now t
     by (starts same talks) is = (is ∙ ap Some same, talks)

@@ -71,10 +71,6 @@ pub record WasCalled (g : Objects Obj) (d : Download) (p : Port) (by : Way) (rec
   pub entry : IsEntry d.tftp.0 p by
   pub does : CallDoes g d.fetch.0 d.tftp.0 begun start calls body p by rec call ns
 
--- some call came to them, and the outside was told this
-abbrev pub IsCalled : Objects Obj → Download → Option (List Notice) → Type 0
-IsCalled g d told = (p : Port) × (by : Way) × (rec : ℕ) × (ns : List Notice) × (told ≡ Some ns) × WasCalled g d p by rec ns
-
 -- a frame was taken by a client for which no open lives: its step was begun, and the reply put, if there is one
 pub record TakesFrame (bytes : List ℕ) (before after : Seen) (old new : Logged) : Type 0 where
   pub seen_as : Outcome

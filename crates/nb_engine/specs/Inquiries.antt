@@ -2,7 +2,8 @@
 use Rattle.std.specs.Prelude.{◌≡◌, ℕ, ◌+◌, true, false, List, [], ◌∷◌, ◌++◌, Option, Some, None}
 use Rattle.nb_terms.specs.declared.cause.Cause.{Cause}
 use Rattle.nb_terms.specs.declared.acts.Acts.{Acts}
-use Rattle.nb_ledger.specs.Flat.{Notice, Given}
+use Rattle.nb_ledger.specs.Flat.{Notice}
+use Rattle.nb_engine.specs.Notes.{IsGiven}
 use Rattle.nb_ledger.specs.declared.port.Port.{Port}
 use Rattle.nb_ledger.specs.declared.event.Way.{Way}
 use Rattle.nb_ledger.specs.declared.event.Way.TheVariants as way
@@ -180,7 +181,7 @@ pub data TalkBegins (c : Company) (g : Objects Obj) (x : ℕ) (t : Talk) (now re
   fails_at_once : first_close ns ≡ Some no_memory → TalkBegins c g x t now rec ns
 
 abbrev pub AsksFor : Company → Objects Obj → ℕ → Talk → ℕ → ℕ → Option (List Notice) → Option (List Notice) → Type 0
-AsksFor c g x t now rec before after = (ns : List Notice) × Given before after ns × TalkBegins c g x t now rec ns
+AsksFor c g x t now rec before after = (ns : List Notice) × IsGiven before after ns × TalkBegins c g x t now rec ns
 
 -- what the outside is told where what waits is made or let go, if anything does
 abbrev pub made_beside : Option Waiter → List Notice

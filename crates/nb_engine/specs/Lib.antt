@@ -18,6 +18,7 @@ pub mod Steps
 pub mod NextCommand
 pub mod FirstScript
 pub mod Tellings
+pub mod Spelling
 pub mod Notes
 pub mod Objects
 pub mod Deliveries

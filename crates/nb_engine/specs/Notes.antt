@@ -6,7 +6,7 @@ use Rattle.nb_ledger.specs.declared.message.Msg.{Msg}
 use Rattle.nb_graph.specs.Deeds.{no_memory}
 use Rattle.nb_opens.specs.Notices.{first_close}
 use Rattle.std.specs.List.{AllByRecursion, slice_range}
-use Rattle.nb_ledger.specs.Flat.{Notice, event, message}
+use Rattle.nb_ledger.specs.Flat.{Notice, Heard, Given, unknown, all, event, message}
 use Rattle.nb_nodes.specs.Tags.{tag_number}
 use Rattle.nb_nodes.specs.Carried.{try_tag, try_number}
 use Rattle.nb_nodes.specs.declared.tag.Tag.TheVariants.{Advance as AdvanceTag, Bytes as BytesTag, Address as AddressTag}
@@ -55,3 +55,12 @@ pub record IsNoteFor (from : Port) (m : Msg) (start : ℕ) (n : Note) : Type 0 w
 -- what was told, unless some of it is lost
 abbrev pub told_by : Bool → List ℕ → List Note → Option (List Notice)
 told_by lost bytes notes = if lost then None else Some (notices_of bytes notes)
+
+-- what is known of what an outlet was told
+abbrev pub heard : Option (List Notice) → Heard
+heard None = unknown
+heard (Some ns) = all ns
+
+-- an outlet was given this
+abbrev pub IsGiven : Option (List Notice) → Option (List Notice) → List Notice → Type 0
+IsGiven before after added = Given (heard before) (heard after) added

@@ -1,6 +1,7 @@
 ghost use Rattle.std.specs.Prelude.{◌≡◌, []};
 
 use crate::outlet::Outlet;
+use crate::spelled::Spelled;
 use nb_record::NoMemory;
 use nb_wire::Out;
 use std::alloc::Global;
@@ -24,6 +25,8 @@ pub struct Desk {
     pub(crate) told: Outlet,
     /// What was told of what was let go after the end of an open.
     pub(crate) freed: Outlet,
+    /// What was spelled of what a fetch's objects told; None while it is lent.
+    pub(crate) spelled: Option<Box<Spelled>>,
     pub(crate) room: Room,
 }
 
@@ -43,6 +46,7 @@ impl Desk {
             made: Outlet::new(alloc)?,
             told: Outlet::new(alloc)?,
             freed: Outlet::new(alloc)?,
+            spelled: None,
             room: Room {
                 bytes: [0; MAX_FRAME],
             },

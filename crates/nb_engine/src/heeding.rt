@@ -12,9 +12,9 @@ ghost use Rattle.nb_engine.specs.Machine.{stopped_cause};
 ghost use Rattle.nb_engine.specs.Running.{with_result};
 ghost use Rattle.nb_engine.specs.Tellings.{told_records};
 ghost use Rattle.nb_engine.specs.Fetches.{speaker_of};
-ghost use Rattle.nb_engine.specs.Notes.{WasTold};
 ghost use Rattle.nb_engine.specs.Seen.{HasNoObjects, IsSound, seen, standing};
-ghost use Rattle.nb_engine.specs.Heeding.{Heeds, HasHeard, WasCalled, IsCalled};
+ghost use Rattle.nb_engine.specs.Heeding.{Heeds, HasHeard, WasCalled};
+ghost use Rattle.nb_engine.specs.Spelling.{HasSpelled, IsCalled, IsSpelled};
 ghost use Rattle.nb_engine.specs.Turns.{shut_records};
 ghost use Rattle.nb_engine.specs.Concluding.{Concludes, EndsOpen, IsPlaceFor};
 ghost use Rattle.nb_engine.specs.declared.client.Turn.TheVariants as turn;
@@ -24,6 +24,7 @@ use crate::conclusion::{Conclusion, conclude};
 use crate::desk::{Desk, lent};
 use crate::objects::{end, shut};
 use crate::put::{put_over, put_result, put_step, put_told};
+use crate::spelled::Spelled;
 use crate::{Client, Fetch, Handing, KeptFetch, RunningScript, Stage, Status, Turn};
 use nb_record::{Cause, Log, NoMemory};
 use nb_terms::Plain;
@@ -40,20 +41,23 @@ impl Client {
         script: RunningScript,
         fetch: KeptFetch,
         closed: Option<Cause>,
+        told: Box<Spelled>,
         desk: &mut Desk,
         log: &mut Log,
     ) -> Turn
         requires sound { (g : Objects Object) × IsSound self.old.used self.old.world g (stage.Waiting script fetch) }
-        requires told { WasTold desk.old.told closed }
-        requires called { IsCalled self.old.graph fetch.objects desk.old.told }
-        ensures { (p : Port) (by : Way) (rec : ℕ) (ns : List Notice) → desk.old.told ≡ Some ns
+        requires told { HasSpelled told.value closed }
+        requires called { IsCalled self.old.graph fetch.objects self.old.world.net (speaker_of fetch) told.value }
+        ensures { (p : Port) (by : Way) (rec : ℕ) (ns : List Notice) → IsSpelled self.old.world.net (speaker_of fetch) told.value ns
             → WasCalled self.old.graph fetch.objects p by rec ns
             → Heeds result script (HasHeard self.old.graph fetch p by rec ns) (standing self.old (stage.Waiting script fetch)) self.new log.old log.new }
     {
-        match closed {
-            None => self.go_on(script, fetch, desk, log),
-            Some(cause) => self.end(script, fetch, cause, desk, log),
-        }
+        let turn = match closed {
+            None => self.go_on(script, fetch, &told, log),
+            Some(cause) => self.end(script, fetch, cause, &told, desk, log),
+        };
+        desk.spelled = Some(told);
+        turn
     }
 
     /// The open goes on.
@@ -62,19 +66,17 @@ impl Client {
         &mut self,
         script: RunningScript,
         fetch: KeptFetch,
-        desk: &mut Desk,
+        told: &Spelled,
         log: &mut Log,
     ) -> Turn
         requires sound { IsSound self.old.used self.old.world self.old.graph (stage.Waiting script fetch) }
-        requires told { (ns : List Notice) × (desk.old.told ≡ Some ns) }
         ensures turn { result ≡ turn.Waiting }
-        ensures puts { (ns : List Notice) → desk.old.told ≡ Some ns
+        ensures puts { (ns : List Notice) → IsSpelled self.old.world.net (speaker_of fetch) told.now ns
             → Puts log.old log.new (out_texts (step self.old.used ∷ told_records self.old.world.net (speaker_of fetch) ns)) }
         ensures after { self.new ≡ standing self.old (stage.Waiting script fetch) }
     {
         put_step(self.used, log);
-        let who = fetch.get().speaker();
-        put_told(&desk.told, &self.world.net, &who, &mut desk.room, log);
+        log.append(told.text());
         self.stage = Stage::Waiting(script, fetch);
         Turn::Waiting
     }
@@ -86,13 +88,13 @@ impl Client {
         script: RunningScript,
         fetch: KeptFetch,
         cause: Cause,
+        told: &Spelled,
         desk: &mut Desk,
         log: &mut Log,
     ) -> Turn
         requires sound { (g : Objects Object) × IsSound self.old.used self.old.world g (stage.Waiting script fetch) }
-        requires told { (ns : List Notice) × (desk.old.told ≡ Some ns) }
         requires ended { IsEnded self.old.graph fetch.objects.fetch.0 fetch.objects.tftp.0 }
-        ensures { (ns : List Notice) → desk.old.told ≡ Some ns
+        ensures { (ns : List Notice) → IsSpelled self.old.world.net (speaker_of fetch) told.now ns
             → EndsOpen result ns cause script fetch (standing self.old (stage.Waiting script fetch)) self.new log.old log.new }
     {
         self.stage = Stage::Stopped;
@@ -104,6 +106,7 @@ impl Client {
         match conclude(alloc, &mut self.world.state.images, open, body, cause) {
             Ok(conclusion) => {
                 put_step(self.used, log);
+                log.append(told.text());
                 let who = open.speaker();
                 put_told(&desk.told, &self.world.net, &who, &mut desk.room, log);
                 put_over(number, cause, log);

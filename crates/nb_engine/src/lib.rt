@@ -29,10 +29,12 @@ mod running;
 mod settings;
 mod settling;
 mod speaker;
+mod spelled;
 mod stage;
 mod status;
 mod steps;
 mod talks;
+mod teller;
 mod world;
 
 pub use client::{Client, Turn};

@@ -6,7 +6,7 @@ ghost use Rattle.nb_tftp.specs.History.{came, ticked};
 ghost use Rattle.nb_tftp.specs.Received.{received};
 ghost use Rattle.nb_opens.specs.Graphs.{AreNext};
 ghost use Rattle.nb_opens.specs.Notices.{closed_notices, freed_notices, shut_notices};
-ghost use Rattle.nb_opens.specs.Pairs.{DoesCall, HasEnded, IsDownloading, IsEmpty, IsEnded};
+ghost use Rattle.nb_opens.specs.Pairs.{HasEnded, IsDownloading, IsEmpty, IsEnded};
 ghost use Rattle.nb_terms.specs.declared.cause.Cause.{Cause as Why};
 ghost use Rattle.nb_engine.specs.Notes.{WasTold};
 ghost use Rattle.nb_engine.specs.Objects.{BeginsCompleted, BeginsOpen, IsFile, TellsMore};
@@ -82,36 +82,6 @@ pub fn begin_completed(
     Ok(objects)
 }
 
-/// A datagram comes from this port of the server to the open with these objects, in the record `rec`.
-#[inline(always)]
-pub fn receive(
-    graph: &mut Graph<Obj>,
-    objects: Download,
-    rec: u32,
-    port: u16,
-    body: &[u8],
-    now: u64,
-    told: &mut Outlet,
-)
-    requires going { IsDownloading graph.old objects.fetch.0 objects.tftp.0 }
-    requires short { length body.now ≤ 65535 }
-    ensures { DoesCall graph.old graph.new objects.fetch.0 objects.tftp.0 (port_at objects.tftp.0 1) way.Up
-        rec (came (received rec port body.now) now) (Some []) told.new }
-{
-    told.clear();
-    objects.message(graph, rec, port, body, now, told);
-}
-
-/// It is this time, in milliseconds since the run's start, for the open with these objects.
-pub fn pass_time(graph: &mut Graph<Obj>, objects: Download, now: u64, told: &mut Outlet)
-    requires going { IsDownloading graph.old objects.fetch.0 objects.tftp.0 }
-    ensures { DoesCall graph.old graph.new objects.fetch.0 objects.tftp.0 (port_at objects.tftp.0 4) way.Time
-        0 (ticked now) (Some []) told.new }
-{
-    told.clear();
-    objects.time(graph, now, told);
-}
-
 /// The user closes the open with these objects with a cause, and lets them go. An error where memory
 /// ran out.
 pub fn turn_back(
@@ -144,8 +114,9 @@ pub fn end(
     ensures body { IfOk result (λ body. (file : Option (List ℕ)) → HasEnded graph.old objects.fetch.0 objects.tftp.0 file
         → IsFile cause file body) }
     ensures empty { IsEmpty graph.new objects.tftp.0 }
-    ensures told { OnOk result (TellsMore told.old told.new (freed_notices objects.fetch.0 objects.tftp.0)) }
+    ensures told { OnOk result (told.new ≡ Some (freed_notices objects.fetch.0 objects.tftp.0)) }
 {
+    told.clear();
     let file = objects.harvest(graph);
     objects.release(graph, told);
     whole(told)?;

@@ -6,7 +6,7 @@ ghost use Rattle.nb_nodes.specs.Carried.{try_tag, try_number};
 ghost use Rattle.nb_nodes.specs.Tags.{tag_number};
 ghost use Rattle.nb_ledger.specs.Flat.{Notice};
 ghost use Rattle.nb_engine.specs.Deliveries.{delivered_bytes, delivered_address};
-ghost use Rattle.nb_engine.specs.Notes.{WasTold, IsNoteFor, AreNotesWithin, notices_of};
+ghost use Rattle.nb_engine.specs.Notes.{heard, WasTold, IsNoteFor, AreNotesWithin, notices_of};
 
 use nb_graph::{Msg, Outside, Port};
 use nb_nodes::Tag;
@@ -16,7 +16,7 @@ use std::alloc::Global;
 use std::marker::Model;
 
 /// The most bytes of a message that leaves in one frame.
-const MAX_MESSAGE: usize = 1480;
+pub(crate) const MAX_MESSAGE: usize = 1480;
 
 /// How many notes an outlet has room for at first: more than a call of the graph tells.
 const NOTES: usize = 32;
@@ -25,7 +25,7 @@ const NOTES: usize = 32;
 const CLOSED: u8 = 8;
 
 /// The code of a cause: memory ran out.
-const OUT_OF_MEMORY: u8 = 23;
+pub(crate) const OUT_OF_MEMORY: u8 = 23;
 
 /// What the graph tells the client.
 #[derive(Clone, Copy, Debug)]
@@ -119,7 +119,7 @@ impl Outlet {
 }
 
 /// The cause of the first close, after this event.
-fn first_of(closed: Option<Cause>, e: &Event) -> Option<Cause>
+pub(crate) fn first_of(closed: Option<Cause>, e: &Event) -> Option<Cause>
     ensures { result ≡ or_else closed (close_of (notice.event e.now)) }
 {
     match closed {
@@ -212,7 +212,7 @@ fn extend(bytes: &mut Vec<u8>, piece: &[u8]) -> bool
 }
 
 impl Outside for Outlet {
-    ghost events = { λ told. told };
+    ghost events = { λ told. heard told };
 
     fn event(&mut self, e: &Event) {
         let is_kept = self.notes.push(Note::Event(*e)).is_ok();

@@ -82,7 +82,7 @@ pub fn has_route(net: &Stack, who: &Speaker, room: &mut Room) -> bool
 /// Puts a datagram's frame, or the ARP request for its next hop, after its try. Nothing is put where it
 /// finds no route.
 #[inline(always)]
-fn put_datagram(
+pub(crate) fn put_datagram(
     net: &Stack,
     who: &Speaker,
     tried: Option<u8>,

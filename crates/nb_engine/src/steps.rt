@@ -21,8 +21,8 @@ ghost use Rattle.nb_engine.specs.declared.stage.Stage.TheVariants as stage;
 ghost use Rattle.nb_engine.specs.declared.client.Turn.TheVariants as turn;
 
 use crate::desk::{Desk, lent};
-use crate::objects::{pass_time, receive};
 use crate::put::{put_reply, put_result, put_step};
+use crate::teller::Teller;
 use crate::{Client, KeptFetch, RunningScript, Stage, Status, Turn, World};
 use nb_record::{Cause, Log, NoMemory, OutRec, Start};
 use nb_script::{Script, ScriptError};
@@ -233,18 +233,16 @@ impl Client {
         ensures { Heeds result script (Comes self.old.graph (came (received self.old.used port body.now) self.old.world.time) fetch) (standing self.old (stage.Waiting script fetch)) self.new log.old log.new }
     {
         self.stage = Stage::Stopped;
-        let objects = fetch.get().objects;
-        receive(
-            &mut self.graph,
-            objects,
-            self.used,
-            port,
-            body,
-            self.world.time,
-            &mut desk.told,
-        );
-        match desk.told.first_close() {
-            Ok(closed) => self.heed(script, fetch, closed, desk, log),
+        let open = fetch.get();
+        let (who, objects) = (open.speaker(), open.objects);
+        let Ok(mut out) = Teller::over(self.alloc, &self.world.net, &who, desk) else {
+            return Turn::Over(Status::NoMemory);
+        };
+        let (rec, now) = (self.used, self.world.time);
+        objects.message(&mut self.graph, rec, port, body, now, &mut out);
+        let told = out.told;
+        match told.first_close() {
+            Ok(closed) => self.heed(script, fetch, closed, told, desk, log),
             Err(NoMemory) => Turn::Over(Status::NoMemory),
         }
     }
@@ -285,10 +283,15 @@ impl Client {
         ensures { Heeds result script (Comes self.old.graph (ticked self.old.world.time) fetch) (standing self.old (stage.Waiting script fetch)) self.new log.old log.new }
     {
         self.stage = Stage::Stopped;
-        let objects = fetch.get().objects;
-        pass_time(&mut self.graph, objects, self.world.time, &mut desk.told);
-        match desk.told.first_close() {
-            Ok(closed) => self.heed(script, fetch, closed, desk, log),
+        let open = fetch.get();
+        let (who, objects) = (open.speaker(), open.objects);
+        let Ok(mut out) = Teller::over(self.alloc, &self.world.net, &who, desk) else {
+            return Turn::Over(Status::NoMemory);
+        };
+        objects.time(&mut self.graph, self.world.time, &mut out);
+        let told = out.told;
+        match told.first_close() {
+            Ok(closed) => self.heed(script, fetch, closed, told, desk, log),
             Err(NoMemory) => Turn::Over(Status::NoMemory),
         }
     }

@@ -1,7 +1,7 @@
 //! The one object of an open that asks and is answered, on a client's graph, and what waits beside it.
 
 ghost use Rattle.std.specs.Prelude.{◌≡◌, ◌≤◌, ◌+◌, ◌++◌, List, [], ℕ, length, Option, None, Some, IfOk, OnOk, true};
-ghost use Rattle.nb_ledger.specs.Flat.{Given, Notice};
+ghost use Rattle.nb_ledger.specs.Flat.{Notice};
 ghost use Rattle.nb_ledger.specs.declared.event.Way.TheVariants as way;
 ghost use Rattle.nb_graph.specs.Whole.{port_at};
 ghost use Rattle.nb_opens.specs.declared.alone.AloneKind.TheVariants as kind;
@@ -13,6 +13,7 @@ ghost use Rattle.nb_opens.specs.Pairs.{IsEmpty};
 ghost use Rattle.nb_opens.specs.Waiters.{waiter_number, waiter_serial, Waits};
 ghost use Rattle.nb_engine.specs.Inquiries.{kind_of_talk, talk_of, AsksFor, BeginsTalk, BeginsWaited, CanBegin, IsTakenBy, TalkDoes, TalksAs};
 ghost use Rattle.nb_engine.specs.Inquiries.{freed_beside, IsWaiterOf};
+ghost use Rattle.nb_engine.specs.Notes.{IsGiven};
 ghost use Rattle.nb_engine.specs.Objects.{TellsMore};
 ghost use Rattle.nb_engine.specs.Talks.{Talk, message_in, time_in};
 
@@ -171,7 +172,7 @@ pub fn receive_reply(
 )
     requires short { length arrival.now.body.now ≤ 65535 }
     ensures { (c : Company) (start : ℕ) (t : Talk) → TalksAs c graph.old object.object.0 start t → IsTakenBy t (arrival_said rec arrival.now)
-        → (ns : List Notice) × Given (Some []) told.new ns
+        → (ns : List Notice) × IsGiven (Some []) told.new ns
         × TalkDoes c graph.new object.object.0 start t (port_at object.object.0 1) way.Up rec (message_in (arrival_said rec arrival.now) now) ns }
 {
     told.clear();
@@ -181,7 +182,7 @@ pub fn receive_reply(
 /// It is this time, in milliseconds since the run's start, for an object.
 pub fn pass_its_time(graph: &mut Graph<Obj>, object: Alone, now: u64, told: &mut Outlet)
     ensures { (c : Company) (start : ℕ) (t : Talk) → TalksAs c graph.old object.object.0 start t
-        → (ns : List Notice) × Given (Some []) told.new ns
+        → (ns : List Notice) × IsGiven (Some []) told.new ns
         × TalkDoes c graph.new object.object.0 start t (port_at object.object.0 4) way.Time 0 (time_in now) ns }
 {
     told.clear();

@@ -1,5 +1,5 @@
 -- Serials rise, and ranks stay.
-use Rattle.nb_ledger.specs.Flat.{Notice}
+use Rattle.nb_ledger.specs.Flat.{Heard}
 use Rattle.std.proofs.Common.{◌≡◌, ℕ, ◌+◌, inl, inr, true, false, List, Option, refl, sym, ◌∙◌, subst, arith}
 use Rattle.std.proofs.lemmas.Bool.{cases_eq, false≢true}
 use Rattle.nb_ledger.specs.declared.port.ObjId.{ObjId}
@@ -53,7 +53,7 @@ Ages-removes {old} {new} {y} r =
       ];
     }
 
-pub Ages-settle : {old new : Ledger} {before after : Option (List Notice)} {id : ObjId} → Settles old new before after id → Ages old new
+pub Ages-settle : {old new : Ledger} {before after : Heard} {id : ObjId} → Settles old new before after id → Ages old new
 Ages-settle {old} {new} {id = id} s = elim s.how [
   | inl h ↦ subst (Ages old) (sym h.0) (Ages-refl old)
   | inr h ↦ Ages-removes h.1

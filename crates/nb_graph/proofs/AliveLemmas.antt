@@ -1,5 +1,5 @@
 -- Calm calls, with what objects stand for.
-use Rattle.nb_ledger.specs.Flat.{Notice}
+use Rattle.nb_ledger.specs.Flat.{Heard, Notice}
 use Rattle.std.proofs.Common.{◌≡◌, ℕ, ◌⊎◌, true, List, [], ◌∷◌, ◌++◌, Option, refl, ap, sym, ◌∙◌, subst, append-nil}
 use Rattle.nb_ledger.specs.GraphRun.{OnStack, IsIdle, GraphRunOf}
 use Rattle.nb_ledger.specs.Ledger.{Ledger, busy, Agrees, run_state}
@@ -24,7 +24,7 @@ use Rattle.nb_graph.proofs.RunsLemmas.{IsRun-none, IsRun-trans}
 use Rattle.nb_graph.proofs.LivesLemmas.{Lives-opened, Lives-under, Lives-above, Lives-turn, Lives-then, Lives-after, Lives-none, Lives-weaken}
 use Rattle.nb_graph.proofs.OwingLemmas.{Same-then, Back-then, Back-same, Same-back}
 
-pub CalmFor-refl : {N L : Type 0} (stands : N → List (NodeEntry N L) → Type 0) (known : Nature N L) (now : ℕ) (l : Ledger) (nodes : List N) (m : Option (List Notice)) {f : Port → Port → Account → List ℕ → List ℕ → Type 0} → ((p q : Port) (x y : Account) (w v : List ℕ) → f p q y w v → JoinedEnds l p q x.sent y.taken w → IsShut l p ⊎ (w ≡ v)) → CalmFor stands known now l l nodes nodes (Same (busy l)) f here m m
+pub CalmFor-refl : {N L : Type 0} (stands : N → List (NodeEntry N L) → Type 0) (known : Nature N L) (now : ℕ) (l : Ledger) (nodes : List N) (m : Heard) {f : Port → Port → Account → List ℕ → List ℕ → Type 0} → ((p q : Port) (x y : Account) (w v : List ℕ) → f p q y w v → JoinedEnds l p q x.sent y.taken w → IsShut l p ⊎ (w ≡ v)) → CalmFor stands known now l l nodes nodes (Same (busy l)) f here m m
 unfolding Calm-refl
 CalmFor-refl stands known now l nodes m still = record {
   calm = Calm-refl l m;
@@ -32,26 +32,26 @@ CalmFor-refl stands known now l nodes m still = record {
 }
 
 -- one after the other
-pub CalmFor-then : {N L : Type 0} {stands : N → List (NodeEntry N L) → Type 0} {known : Nature N L} {now : ℕ} {a b c : Ledger} {na nb nc : List N} {m n o : Option (List Notice)} {i j k : ℕ → List L → List L → Type 0} {f g h : Port → Port → Account → List ℕ → List ℕ → Type 0} {s t : List (Stage N L) → List (Stage N L)} → CalmFor stands known now a b na nb i f s m n → CalmFor stands known now b c nb nc j g t n o → ((x : ℕ) (w v : List L) → k x w v → (u : List L) × i x w u × j x u v) → ((ds : List (Deed N L)) (p q : Port) (x y : Account) (w v : List ℕ) → h p q y w v → JoinedEnds a p q x.sent y.taken w → (u : List ℕ) × f p q y w u × (JoinedEnds b p q (account known p x ds).sent (account known q y ds).taken u → g p q (account known q y ds) u v)) → CalmFor stands known now a c na nc k h (λ st. s (t st)) m o
+pub CalmFor-then : {N L : Type 0} {stands : N → List (NodeEntry N L) → Type 0} {known : Nature N L} {now : ℕ} {a b c : Ledger} {na nb nc : List N} {m n o : Heard} {i j k : ℕ → List L → List L → Type 0} {f g h : Port → Port → Account → List ℕ → List ℕ → Type 0} {s t : List (Stage N L) → List (Stage N L)} → CalmFor stands known now a b na nb i f s m n → CalmFor stands known now b c nb nc j g t n o → ((x : ℕ) (w v : List L) → k x w v → (u : List L) × i x w u × j x u v) → ((ds : List (Deed N L)) (p q : Port) (x y : Account) (w v : List ℕ) → h p q y w v → JoinedEnds a p q x.sent y.taken w → (u : List ℕ) × f p q y w u × (JoinedEnds b p q (account known p x ds).sent (account known q y ds).taken u → g p q (account known q y ds) u v)) → CalmFor stands known now a c na nc k h (λ st. s (t st)) m o
 unfolding Calm-trans
 CalmFor-then {t = t} k l split moves = record { calm = Calm-trans k.calm l.calm; lives = Lives-then (Lives-above t k.lives) l.lives split (λ ds es x y. Calms-then x y (moves ds)) }
 
-pub CalmFor-weaken : {N L : Type 0} {stands : N → List (NodeEntry N L) → Type 0} {known : Nature N L} {now : ℕ} {a b : Ledger} {na nb : List N} {m n : Option (List Notice)} {i j : ℕ → List L → List L → Type 0} {f g : Port → Port → Account → List ℕ → List ℕ → Type 0} {s : List (Stage N L) → List (Stage N L)} → ((x : ℕ) (w v : List L) → j x w v → i x w v) → ((p q : Port) (x y : Account) (w v : List ℕ) → g p q y w v → JoinedEnds a p q x.sent y.taken w → f p q y w v) → CalmFor stands known now a b na nb i f s m n → CalmFor stands known now a b na nb j g s m n
+pub CalmFor-weaken : {N L : Type 0} {stands : N → List (NodeEntry N L) → Type 0} {known : Nature N L} {now : ℕ} {a b : Ledger} {na nb : List N} {m n : Heard} {i j : ℕ → List L → List L → Type 0} {f g : Port → Port → Account → List ℕ → List ℕ → Type 0} {s : List (Stage N L) → List (Stage N L)} → ((x : ℕ) (w v : List L) → j x w v → i x w v) → ((p q : Port) (x y : Account) (w v : List ℕ) → g p q y w v → JoinedEnds a p q x.sent y.taken w → f p q y w v) → CalmFor stands known now a b na nb i f s m n → CalmFor stands known now a b na nb j g s m n
 CalmFor-weaken less moves k = record { calm = k.calm; lives = Lives-weaken less (λ ds x. Calms-weaken x moves) k.lives }
 
-pub CalmFor-same : {N L : Type 0} {stands : N → List (NodeEntry N L) → Type 0} {known : Nature N L} {now : ℕ} {a b c : Ledger} {na nb nc : List N} {m n o : Option (List Notice)} {f g h : Port → Port → Account → List ℕ → List ℕ → Type 0} {s t : List (Stage N L) → List (Stage N L)} → CalmFor stands known now a b na nb (Same (busy a)) f s m n → CalmFor stands known now b c nb nc (Same (busy b)) g t n o → ((ds : List (Deed N L)) (p q : Port) (x y : Account) (w v : List ℕ) → h p q y w v → JoinedEnds a p q x.sent y.taken w → (u : List ℕ) × f p q y w u × (JoinedEnds b p q (account known p x ds).sent (account known q y ds).taken u → g p q (account known q y ds) u v)) → CalmFor stands known now a c na nc (Same (busy a)) h (λ st. s (t st)) m o
+pub CalmFor-same : {N L : Type 0} {stands : N → List (NodeEntry N L) → Type 0} {known : Nature N L} {now : ℕ} {a b c : Ledger} {na nb nc : List N} {m n o : Heard} {f g h : Port → Port → Account → List ℕ → List ℕ → Type 0} {s t : List (Stage N L) → List (Stage N L)} → CalmFor stands known now a b na nb (Same (busy a)) f s m n → CalmFor stands known now b c nb nc (Same (busy b)) g t n o → ((ds : List (Deed N L)) (p q : Port) (x y : Account) (w v : List ℕ) → h p q y w v → JoinedEnds a p q x.sent y.taken w → (u : List ℕ) × f p q y w u × (JoinedEnds b p q (account known p x ds).sent (account known q y ds).taken u → g p q (account known q y ds) u v)) → CalmFor stands known now a c na nc (Same (busy a)) h (λ st. s (t st)) m o
 CalmFor-same {a = a} {b = b} k l moves = CalmFor-then k l (Same-then (busy a) (busy b) k.calm.shrinks.same_busy) moves
 
 -- loads come back, and then others
-pub CalmFor-back : {N L : Type 0} {stands : N → List (NodeEntry N L) → Type 0} {known : Nature N L} {now : ℕ} {a b c : Ledger} {na nb nc : List N} {m n o : Option (List Notice)} {y : ℕ} {f g h : Port → Port → Account → List ℕ → List ℕ → Type 0} {s t : List (Stage N L) → List (Stage N L)} (ls ms : List L) → CalmFor stands known now a b na nb (Back (busy a) y ls) f s m n → CalmFor stands known now b c nb nc (Back (busy b) y ms) g t n o → ((ds : List (Deed N L)) (p q : Port) (x y : Account) (w v : List ℕ) → h p q y w v → JoinedEnds a p q x.sent y.taken w → (u : List ℕ) × f p q y w u × (JoinedEnds b p q (account known p x ds).sent (account known q y ds).taken u → g p q (account known q y ds) u v)) → CalmFor stands known now a c na nc (Back (busy a) y (ls ++ ms)) h (λ st. s (t st)) m o
+pub CalmFor-back : {N L : Type 0} {stands : N → List (NodeEntry N L) → Type 0} {known : Nature N L} {now : ℕ} {a b c : Ledger} {na nb nc : List N} {m n o : Heard} {y : ℕ} {f g h : Port → Port → Account → List ℕ → List ℕ → Type 0} {s t : List (Stage N L) → List (Stage N L)} (ls ms : List L) → CalmFor stands known now a b na nb (Back (busy a) y ls) f s m n → CalmFor stands known now b c nb nc (Back (busy b) y ms) g t n o → ((ds : List (Deed N L)) (p q : Port) (x y : Account) (w v : List ℕ) → h p q y w v → JoinedEnds a p q x.sent y.taken w → (u : List ℕ) × f p q y w u × (JoinedEnds b p q (account known p x ds).sent (account known q y ds).taken u → g p q (account known q y ds) u v)) → CalmFor stands known now a c na nc (Back (busy a) y (ls ++ ms)) h (λ st. s (t st)) m o
 CalmFor-back {a = a} {b = b} {y = y} ls ms k l moves = CalmFor-then k l (Back-then (busy a) (busy b) y ls ms k.calm.shrinks.same_busy) moves
 
 -- loads come back, and then nothing
-pub CalmFor-last : {N L : Type 0} {stands : N → List (NodeEntry N L) → Type 0} {known : Nature N L} {now : ℕ} {a b c : Ledger} {na nb nc : List N} {m n o : Option (List Notice)} {y : ℕ} {f g h : Port → Port → Account → List ℕ → List ℕ → Type 0} {s t : List (Stage N L) → List (Stage N L)} (ls : List L) → busy a y ≡ true → CalmFor stands known now a b na nb (Back (busy a) y ls) f s m n → CalmFor stands known now b c nb nc (Same (busy b)) g t n o → ((ds : List (Deed N L)) (p q : Port) (x y : Account) (w v : List ℕ) → h p q y w v → JoinedEnds a p q x.sent y.taken w → (u : List ℕ) × f p q y w u × (JoinedEnds b p q (account known p x ds).sent (account known q y ds).taken u → g p q (account known q y ds) u v)) → CalmFor stands known now a c na nc (Back (busy a) y ls) h (λ st. s (t st)) m o
+pub CalmFor-last : {N L : Type 0} {stands : N → List (NodeEntry N L) → Type 0} {known : Nature N L} {now : ℕ} {a b c : Ledger} {na nb nc : List N} {m n o : Heard} {y : ℕ} {f g h : Port → Port → Account → List ℕ → List ℕ → Type 0} {s t : List (Stage N L) → List (Stage N L)} (ls : List L) → busy a y ≡ true → CalmFor stands known now a b na nb (Back (busy a) y ls) f s m n → CalmFor stands known now b c nb nc (Same (busy b)) g t n o → ((ds : List (Deed N L)) (p q : Port) (x y : Account) (w v : List ℕ) → h p q y w v → JoinedEnds a p q x.sent y.taken w → (u : List ℕ) × f p q y w u × (JoinedEnds b p q (account known p x ds).sent (account known q y ds).taken u → g p q (account known q y ds) u v)) → CalmFor stands known now a c na nc (Back (busy a) y ls) h (λ st. s (t st)) m o
 CalmFor-last {a = a} {b = b} {y = y} ls r k l moves = CalmFor-then k l (Back-same (busy a) (busy b) y ls k.calm.shrinks.same_busy (k.calm.shrinks.same_busy y ∙ r)) moves
 
 -- the same of an equal book after it
-unfoldable pub Calm-book : {a b c : Ledger} {m n : Option (List Notice)} → Calm a b m n → c ≡ b → Calm a c m n
+unfoldable pub Calm-book : {a b c : Ledger} {m n : Heard} → Calm a b m n → c ≡ b → Calm a c m n
 Calm-book {a} {b} {c} {m} {n} k e = record {
   added = k.added;
   told = k.told;
@@ -60,7 +60,7 @@ Calm-book {a} {b} {c} {m} {n} k e = record {
 }
 
 -- and then a load comes back
-pub CalmFor-regain : {N L : Type 0} {stands : N → List (NodeEntry N L) → Type 0} {known : Nature N L} {now : ℕ} {a b c : Ledger} {na nb nc : List N} {m n : Option (List Notice)} {y : ℕ} {f : Port → Port → Account → List ℕ → List ℕ → Type 0} {r s : List (Stage N L) → List (Stage N L)} (ls : List L) → busy a y ≡ true → CalmFor stands known now a b na nb (Same (busy a)) f s m n → ((at : ℕ) (u : Option (List Notice)) → StaysTraced stands known at (nodes_at b nb u) (nodes_at c nc u) (Back (busy b) y ls) r here (Calms known b b Still) []) → c ≡ b → CalmFor stands known now a c na nc (Back (busy a) y ls) f (λ st. s (r st)) m n
+pub CalmFor-regain : {N L : Type 0} {stands : N → List (NodeEntry N L) → Type 0} {known : Nature N L} {now : ℕ} {a b c : Ledger} {na nb nc : List N} {m n : Heard} {y : ℕ} {f : Port → Port → Account → List ℕ → List ℕ → Type 0} {r s : List (Stage N L) → List (Stage N L)} (ls : List L) → busy a y ≡ true → CalmFor stands known now a b na nb (Same (busy a)) f s m n → ((at : ℕ) (u : Heard) → StaysTraced stands known at (nodes_at b nb u) (nodes_at c nc u) (Back (busy b) y ls) r here (Calms known b b Still) []) → c ≡ b → CalmFor stands known now a c na nc (Back (busy a) y ls) f (λ st. s (r st)) m n
 unfolding Calm-book
 CalmFor-regain {now = now} {a = a} {b = b} {n = n} {y = y} {r = o} ls r k l e = record {
   calm = Calm-book k.calm e;
@@ -68,7 +68,7 @@ CalmFor-regain {now = now} {a = a} {b = b} {n = n} {y = y} {r = o} ls r k l e = 
 }
 
 -- loads came back before
-pub CalmFor-first : {N L : Type 0} {stands : N → List (NodeEntry N L) → Type 0} {known : Nature N L} {now : ℕ} {a b c : Ledger} {na nb nc : List N} {m n : Option (List Notice)} {y : ℕ} (f : Ledger → Port → Port → Account → List ℕ → List ℕ → Type 0) {g : Port → Port → Account → List ℕ → List ℕ → Type 0} {o s : List (Stage N L) → List (Stage N L)} (ls : List L) → busy a y ≡ true → ((at : ℕ) (u : Option (List Notice)) → StaysTraced stands known at (nodes_at a na u) (nodes_at b nb u) (Back (busy a) y ls) o here (Calms known a a Still) []) → CalmFor stands known now b c nb nc (Same (busy b)) (f b) s m n → b ≡ a → ((p q : Port) (x y : Account) (w v : List ℕ) → f a p q x w v → f a p q y w v) → ((ds : List (Deed N L)) → Calms known a c (f a) ds → Calms known a c g ds) → CalmFor stands known now a c na nc (Back (busy a) y ls) g (λ st. o (s st)) m n
+pub CalmFor-first : {N L : Type 0} {stands : N → List (NodeEntry N L) → Type 0} {known : Nature N L} {now : ℕ} {a b c : Ledger} {na nb nc : List N} {m n : Heard} {y : ℕ} (f : Ledger → Port → Port → Account → List ℕ → List ℕ → Type 0) {g : Port → Port → Account → List ℕ → List ℕ → Type 0} {o s : List (Stage N L) → List (Stage N L)} (ls : List L) → busy a y ≡ true → ((at : ℕ) (u : Heard) → StaysTraced stands known at (nodes_at a na u) (nodes_at b nb u) (Back (busy a) y ls) o here (Calms known a a Still) []) → CalmFor stands known now b c nb nc (Same (busy b)) (f b) s m n → b ≡ a → ((p q : Port) (x y : Account) (w v : List ℕ) → f a p q x w v → f a p q y w v) → ((ds : List (Deed N L)) → Calms known a c (f a) ds → Calms known a c g ds) → CalmFor stands known now a c na nc (Back (busy a) y ls) g (λ st. o (s st)) m n
 CalmFor-first {known = known} {now = now} {a = a} {b = b} {c = c} {m = m} {y = y} f {s = s} ls r l k e any moves = record {
   calm = record {
     added = k.calm.added;
@@ -80,7 +80,7 @@ CalmFor-first {known = known} {now = now} {a = a} {b = b} {c = c} {m = m} {y = y
 }
 
 -- a close that was asked for is of a closed port
-pub CalmFor-turn : {N L : Type 0} (stands : N → List (NodeEntry N L) → Type 0) (known : Nature N L) (now : ℕ) (l : Ledger) (nodes : List N) (m : Option (List Notice)) {f : Port → Port → Account → List ℕ → List ℕ → Type 0} (s : List (Stage N L) → List (Stage N L)) (u : Turn) → Given m m (notice_of u) → ((st : List (Stage N L)) (ds : List (Deed N L)) (z : Scene) → UsesStack known now (scene_of l) st ds z → UsesStack known now (scene_of l) (s st) (turns u ∷ ds) z) → ((p q : Port) (x y : Account) (w v : List ℕ) → f p q y w v → JoinedEnds l p q x.sent y.taken w → IsShut l p ⊎ (w ≡ v)) → CalmFor stands known now l l nodes nodes (Same (busy l)) f s m m
+pub CalmFor-turn : {N L : Type 0} (stands : N → List (NodeEntry N L) → Type 0) (known : Nature N L) (now : ℕ) (l : Ledger) (nodes : List N) (m : Heard) {f : Port → Port → Account → List ℕ → List ℕ → Type 0} (s : List (Stage N L) → List (Stage N L)) (u : Turn) → Given m m (notice_of u) → ((st : List (Stage N L)) (ds : List (Deed N L)) (z : Scene) → UsesStack known now (scene_of l) st ds z → UsesStack known now (scene_of l) (s st) (turns u ∷ ds) z) → ((p q : Port) (x y : Account) (w v : List ℕ) → f p q y w v → JoinedEnds l p q x.sent y.taken w → IsShut l p ⊎ (w ≡ v)) → CalmFor stands known now l l nodes nodes (Same (busy l)) f s m m
 unfolding Calm-refl
 CalmFor-turn stands known now l nodes m s u given fits still = record {
   calm = Calm-refl l m;
@@ -88,14 +88,14 @@ CalmFor-turn stands known now l nodes m s u given fits still = record {
 }
 
 -- the same of stages in another form
-pub CalmFor-opened : {N L : Type 0} {stands : N → List (NodeEntry N L) → Type 0} {known : Nature N L} {now : ℕ} {a b : Ledger} {na nb : List N} {m n : Option (List Notice)} {i : ℕ → List L → List L → Type 0} {f : Port → Port → Account → List ℕ → List ℕ → Type 0} {s t : List (Stage N L) → List (Stage N L)} → ((st : List (Stage N L)) → t st ≡ s st) → CalmFor stands known now a b na nb i f s m n → CalmFor stands known now a b na nb i f t m n
+pub CalmFor-opened : {N L : Type 0} {stands : N → List (NodeEntry N L) → Type 0} {known : Nature N L} {now : ℕ} {a b : Ledger} {na nb : List N} {m n : Heard} {i : ℕ → List L → List L → Type 0} {f : Port → Port → Account → List ℕ → List ℕ → Type 0} {s t : List (Stage N L) → List (Stage N L)} → ((st : List (Stage N L)) → t st ≡ s st) → CalmFor stands known now a b na nb i f s m n → CalmFor stands known now a b na nb i f t m n
 CalmFor-opened same l = record {
   calm = l.calm;
   lives = Lives-opened same l.lives;
 }
 
 -- something turns before it
-pub CalmFor-turned : {N L : Type 0} {stands : N → List (NodeEntry N L) → Type 0} {known : Nature N L} {now : ℕ} {a b : Ledger} {na nb : List N} {m n : Option (List Notice)} {i : ℕ → List L → List L → Type 0} {f : Port → Port → Account → List ℕ → List ℕ → Type 0} {s : List (Stage N L) → List (Stage N L)} (t : List (Stage N L) → List (Stage N L)) (u : Turn) → Given m m (notice_of u) → ((st : List (Stage N L)) (ds : List (Deed N L)) (z : Scene) → UsesStack known now (scene_of a) (s st) ds z → UsesStack known now (scene_of a) (t st) (turns u ∷ ds) z) → CalmFor stands known now a b na nb i f s m n → CalmFor stands known now a b na nb i f t m n
+pub CalmFor-turned : {N L : Type 0} {stands : N → List (NodeEntry N L) → Type 0} {known : Nature N L} {now : ℕ} {a b : Ledger} {na nb : List N} {m n : Heard} {i : ℕ → List L → List L → Type 0} {f : Port → Port → Account → List ℕ → List ℕ → Type 0} {s : List (Stage N L) → List (Stage N L)} (t : List (Stage N L) → List (Stage N L)) (u : Turn) → Given m m (notice_of u) → ((st : List (Stage N L)) (ds : List (Deed N L)) (z : Scene) → UsesStack known now (scene_of a) (s st) ds z → UsesStack known now (scene_of a) (t st) (turns u ∷ ds) z) → CalmFor stands known now a b na nb i f s m n → CalmFor stands known now a b na nb i f t m n
 CalmFor-turned {stands = stands} {known = known} {now = now} {a = a} {b = b} {na = na} {m = m} {f = f} {s = s} t u given fits k = record {
   calm = k.calm;
   lives = Lives-then {k = Calms known a b f} (Lives-turn stands now (nodes_at a na m) m t s u given fits {i = λ ds. ds ≡ turns u ∷ []} refl) k.lives (λ x w v i. (w, refl, i)) (λ ds es x y. subst (λ z. Calms known a b f (z ++ es)) (sym x) (Calms-then {ds = turns u ∷ []} (Calms-turn known a u) y (λ p q i j w v t h. (w, refl, λ _. t))));
@@ -113,12 +113,12 @@ runs-below known x m fx len a =
     ∙ ap (λ z. few_of known x m fx.downs ++ (emit_of known x m z ++ closes_of x fx.closes.items)) a.no_ups
 
 -- nothing happens
-pub RunFor-none : {N L : Type 0} (stands : N → List (NodeEntry N L) → Type 0) (known : Nature N L) (l : Ledger) (nodes : List N) (m : Option (List Notice)) → (s : List (Stage N L) → List (Stage N L)) → RunFor stands known l l nodes nodes s s m m
+pub RunFor-none : {N L : Type 0} (stands : N → List (NodeEntry N L) → Type 0) (known : Nature N L) (l : Ledger) (nodes : List N) (m : Heard) → (s : List (Stage N L) → List (Stage N L)) → RunFor stands known l l nodes nodes s s m m
 unfolding IsRun-none
 RunFor-none stands known l nodes m s = record { added = []; runs = (IsRun-none l m).1; lives = λ now. Lives-under s (Lives-none stands now (nodes_at l nodes m) (Calms-none known l)); lets = none }
 
 -- something turns before it
-pub RunFor-turned : {N L : Type 0} {stands : N → List (NodeEntry N L) → Type 0} {known : Nature N L} {a b : Ledger} {na nb : List N} {m n : Option (List Notice)} {s r : List (Stage N L) → List (Stage N L)} (t : List (Stage N L) → List (Stage N L)) (u : Turn) → Given m m (notice_of u) → ((now : ℕ) (st : List (Stage N L)) (ds : List (Deed N L)) (z : Scene) → UsesStack known now (scene_of a) (s st) ds z → UsesStack known now (scene_of a) (t st) (turns u ∷ ds) z) → RunFor stands known a b na nb s r m n → RunFor stands known a b na nb t r m n
+pub RunFor-turned : {N L : Type 0} {stands : N → List (NodeEntry N L) → Type 0} {known : Nature N L} {a b : Ledger} {na nb : List N} {m n : Heard} {s r : List (Stage N L) → List (Stage N L)} (t : List (Stage N L) → List (Stage N L)) (u : Turn) → Given m m (notice_of u) → ((now : ℕ) (st : List (Stage N L)) (ds : List (Deed N L)) (z : Scene) → UsesStack known now (scene_of a) (s st) ds z → UsesStack known now (scene_of a) (t st) (turns u ∷ ds) z) → RunFor stands known a b na nb s r m n → RunFor stands known a b na nb t r m n
 RunFor-turned {stands = stands} {known = known} {a = a} {b = b} {na = na} {m = m} {s = s} t u given fits k = record {
   added = k.added;
   runs = k.runs;
@@ -127,11 +127,11 @@ RunFor-turned {stands = stands} {known = known} {a = a} {b = b} {na = na} {m = m
 }
 
 -- the same above other stages
-pub RunFor-above : {N L : Type 0} {stands : N → List (NodeEntry N L) → Type 0} {known : Nature N L} {a b : Ledger} {na nb : List N} {m n : Option (List Notice)} {s r : List (Stage N L) → List (Stage N L)} (t : List (Stage N L) → List (Stage N L)) → RunFor stands known a b na nb s r m n → RunFor stands known a b na nb (λ st. s (t st)) (λ st. r (t st)) m n
+pub RunFor-above : {N L : Type 0} {stands : N → List (NodeEntry N L) → Type 0} {known : Nature N L} {a b : Ledger} {na nb : List N} {m n : Heard} {s r : List (Stage N L) → List (Stage N L)} (t : List (Stage N L) → List (Stage N L)) → RunFor stands known a b na nb s r m n → RunFor stands known a b na nb (λ st. s (t st)) (λ st. r (t st)) m n
 RunFor-above t k = record { added = k.added; runs = k.runs; lives = λ now. Lives-above t (k.lives now); lets = k.lets }
 
 -- one after the other
-pub RunFor-trans : {N L : Type 0} {stands : N → List (NodeEntry N L) → Type 0} {known : Nature N L} {a b c : Ledger} {na nb nc : List N} {m n o : Option (List Notice)} {s t r : List (Stage N L) → List (Stage N L)} → RunFor stands known a b na nb s t m n → RunFor stands known b c nb nc t r n o → RunFor stands known a c na nc s r m o
+pub RunFor-trans : {N L : Type 0} {stands : N → List (NodeEntry N L) → Type 0} {known : Nature N L} {a b c : Ledger} {na nb nc : List N} {m n o : Heard} {s t r : List (Stage N L) → List (Stage N L)} → RunFor stands known a b na nb s t m n → RunFor stands known b c nb nc t r n o → RunFor stands known a c na nc s r m o
 unfolding IsRun-trans
 RunFor-trans {a = a} {b = b} {c = c} {m = m} {n = n} {o = o} p q = record {
   added = p.added ++ q.added;

@@ -1,5 +1,5 @@
 -- The parts of a close and of an entry, joined.
-use Rattle.nb_ledger.specs.Flat.{Notice}
+use Rattle.nb_ledger.specs.Flat.{Heard}
 use Rattle.std.proofs.Common.{◌≡◌, ◌≢◌, ℕ, ◌+◌, ◌≤◌, inl, inr, Bool, true, nat_lt, cond, eqb, List, [], ◌∷◌, Option, Some, refl, ap, sym, ◌∙◌, subst, arith}
 use Rattle.std.proofs.lemmas.Bool.{cases_eq}
 use Rattle.std.proofs.lemmas.Bool.Decides.{nat_tests}
@@ -147,7 +147,7 @@ pub IsLinked-flag : {old new : Ledger} {x : ℕ} {b : Bool} → SetsBusy old new
 IsLinked-flag {old} {new} {x} {b} c l = IsLinked-same (port old) (port new) (rank old) (rank new) c.same_port c.objects.same_rank l
 
 -- an entry ends, and what is owed is done
-unfoldable pub Ends-leave : {old mid new : Ledger} {before between after : Option (List Notice)} {p : Port} {was : Bool} (by : Way) → SetsBusy old mid p.obj.0 was → Tells before between (event.Left p ∷ []) → ((w : Way) (st : List OnStack) → Step (run_state old (Running p w ∷ st)) (event.Left p) (owed p.obj.0 (run_state mid st))) → Settles mid new between after p.obj → EndsEntry old new before after p.obj.0 was (λ st. Running p by ∷ st) (port old)
+unfoldable pub Ends-leave : {old mid new : Ledger} {before between after : Heard} {p : Port} {was : Bool} (by : Way) → SetsBusy old mid p.obj.0 was → Tells before between (event.Left p ∷ []) → ((w : Way) (st : List OnStack) → Step (run_state old (Running p w ∷ st)) (event.Left p) (owed p.obj.0 (run_state mid st))) → Settles mid new between after p.obj → EndsEntry old new before after p.obj.0 was (λ st. Running p by ∷ st) (port old)
 Ends-leave {old} {mid} {new} {before} {between} {after} {p} {was} by c told step s =
     let k = Shrinks-settle s in
     record {
@@ -164,6 +164,6 @@ Ends-leave {old} {mid} {new} {before} {between} {after} {p} {was} by c told step
       closes = λ y j. let i = k.closes y j in let m = ap open_count (c.same_port y j) in omega arith;
     }
 
-pub IsWhole-leave : {old mid new : Ledger} {between after : Option (List Notice)} {x : ObjId} {was : Bool} → SetsBusy old mid x.0 was → Settles mid new between after x → IsBookWhole old → IsBookWhole new
+pub IsWhole-leave : {old mid new : Ledger} {between after : Heard} {x : ObjId} {was : Bool} → SetsBusy old mid x.0 was → Settles mid new between after x → IsBookWhole old → IsBookWhole new
 IsWhole-leave {old} {mid} {new} {between} {after} {x} {was} c s w =
     IsWhole-settle s (IsLinked-flag c w.links) (CountedBut-flag c w.counted) (λ y. rw (c.objects.same_rank y) (w.small y))

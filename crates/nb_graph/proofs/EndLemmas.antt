@@ -1,5 +1,5 @@
 -- A graph between calls, after calm calls and at its end.
-use Rattle.nb_ledger.specs.Flat.{Notice}
+use Rattle.nb_ledger.specs.Flat.{Heard}
 use Rattle.std.proofs.Common.{◌≡◌, ℕ, ◌-◌, ◌<◌, ◌≤◌, inl, inr, true, false, List, [], ◌∷◌, length, Option, None, is_some, refl, ap, sym, ◌∙◌, subst, arith}
 use Rattle.std.proofs.lemmas.Bool.{cases_Bool, cases_order, eq-eqb, false≢true, cases_eq}
 use Rattle.nb_ledger.specs.declared.object.Object.{Object}
@@ -47,7 +47,7 @@ LetsGo-trans {a} {b} {c} p q = record {
 }
 
 -- no hold comes where an object may go
-holds-settle : {old new : Ledger} {before after : Option (List Notice)} {id : ObjId} → Settles old new before after id → (x : ℕ) → holds new x ≤ holds old x
+holds-settle : {old new : Ledger} {before after : Heard} {id : ObjId} → Settles old new before after id → (x : ℕ) → holds new x ≤ holds old x
 holds-settle {old} {new} {before} {after} {id} s x = elim s.how [
   | inl h ↦ let e = ap (λ l. holds l x) h.0 in omega arith
   | inr h ↦ elim (cases_eq x id.0) [
@@ -57,7 +57,7 @@ holds-settle {old} {new} {before} {after} {id} s x = elim s.how [
 ]
 
 -- a hold goes
-pub LetsGo-let_go : {old mid new : Ledger} {before after : Option (List Notice)} {id : ObjId} → 0 < holds old id.0 → SetsHolds old mid id.0 (holds old id.0 - 1) → Settles mid new before after id → LetsGo old new
+pub LetsGo-let_go : {old mid new : Ledger} {before after : Heard} {id : ObjId} → 0 < holds old id.0 → SetsHolds old mid id.0 (holds old id.0 - 1) → Settles mid new before after id → LetsGo old new
 LetsGo-let_go {old} {mid} {new} {before} {after} {id} h s t = record {
   same_made = (Shrinks-settle t).same_made ∙ s.objects.same_made;
   ages = Ages-trans (Ages-same s.objects) (Ages-settle t);
@@ -68,7 +68,7 @@ LetsGo-let_go {old} {mid} {new} {before} {after} {id} h s t = record {
   closes = λ x k. let i = (Shrinks-settle t).closes x k in let z = ap open_count (s.same_port x k) in omega arith;
 }
 
-pub falls-let_go : {old mid new : Ledger} {before after : Option (List Notice)} {id : ObjId} → 0 < holds old id.0 → SetsHolds old mid id.0 (holds old id.0 - 1) → Settles mid new before after id → holds new id.0 < holds old id.0
+pub falls-let_go : {old mid new : Ledger} {before after : Heard} {id : ObjId} → 0 < holds old id.0 → SetsHolds old mid id.0 (holds old id.0 - 1) → Settles mid new before after id → holds new id.0 < holds old id.0
 falls-let_go {old} {mid} {new} {before} {after} {id} h s t =
     let i = holds-settle t id.0 in
     let z = s.holds_set id.0 ∙ but_same id.0 (holds old id.0 - 1) (holds old) id.0 refl in

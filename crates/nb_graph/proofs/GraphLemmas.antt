@@ -1,5 +1,5 @@
 -- A graph between calls stays one.
-use Rattle.nb_ledger.specs.Flat.{Notice}
+use Rattle.nb_ledger.specs.Flat.{Heard}
 use Rattle.std.proofs.Common.{◌≡◌, ℕ, ◌+◌, ◌<◌, ◌≤◌, true, false, List, [], ◌∷◌, ◌++◌, length, slice_get, Some, inl, inr, Option, refl, ap, sym, ◌∙◌, subst, arith}
 use Rattle.std.proofs.lemmas.Bool.{false≢true, cases_eq}
 use Rattle.nb_ledger.specs.declared.port.ObjId.{ObjId}
@@ -84,17 +84,17 @@ IsGraph-make {N} {rank_of} {old} {mid} {new} {nodes} {more} {cap} {big} {x} {r} 
 }
 
 -- no more objects
-pub settled-length : {old new : Ledger} {before after : Option (List Notice)} {id : ObjId} → Settles old new before after id → length new.objects ≤ length old.objects
+pub settled-length : {old new : Ledger} {before after : Heard} {id : ObjId} → Settles old new before after id → length new.objects ≤ length old.objects
 settled-length {old} {new} {before} {after} {id} s = elim s.how [
   | inl h ↦ let e = ap (λ l. length l.objects) h.0 in omega arith
   | inr h ↦ let e = ap length h.1.ranks_set in let a = length-ranks new in let b = length-ranks old in let d = removed-length (ranks old) (place old id.0) in omega arith
 ]
 
-pub settled-room : {old new : Ledger} {before after : Option (List Notice)} {id : ObjId} → Settles old new before after id → new.room ≡ old.room
+pub settled-room : {old new : Ledger} {before after : Heard} {id : ObjId} → Settles old new before after id → new.room ≡ old.room
 settled-room {old} {new} {before} {after} {id} s = elim s.how [ inl h ↦ ap (λ l. l.room) h.0 | inr h ↦ h.1.same_room ]
 
 -- what was owed is done
-pub IsGraph-settle : {N : Type 0} {rank_of : N → ℕ} {old new : Ledger} {nodes : List N} {cap : ℕ} {before after : Option (List Notice)} {id : ObjId} → Settles old new before after id → IsLinked (port old) (rank old) → CountedBut id.0 old → IsQuiet old → ((y : ℕ) → rank old y < 256) → IsManned rank_of new nodes cap → old.room ≤ 64 → IsGraph rank_of new nodes cap
+pub IsGraph-settle : {N : Type 0} {rank_of : N → ℕ} {old new : Ledger} {nodes : List N} {cap : ℕ} {before after : Heard} {id : ObjId} → Settles old new before after id → IsLinked (port old) (rank old) → CountedBut id.0 old → IsQuiet old → ((y : ℕ) → rank old y < 256) → IsManned rank_of new nodes cap → old.room ≤ 64 → IsGraph rank_of new nodes cap
 IsGraph-settle {N} {rank_of} {old} {new} {nodes} {cap} {before} {after} {id} s l c q w m small = record {
   whole = IsWhole-settle s l c w;
   quiet = IsQuiet-settle s q;
@@ -111,7 +111,7 @@ pub KeepsRanks-make : {old mid new : Ledger} {x r : ℕ} → Adds old mid x r �
 KeepsRanks-make {old} {mid} {new} {x} {r} a d s = λ y v _. s.same_rank y ∙ a.rank_set y ∙ but_other x r (rank old) y (λ e. false≢true (sym d ∙ subst (λ z. object_lives old z ≡ true) e v))
 
 -- and where one is gone
-pub KeepsRanks-settle : {old mid new : Ledger} {before after : Option (List Notice)} {id : ObjId} → SameObjects old mid → Settles mid new before after id → KeepsRanks old new
+pub KeepsRanks-settle : {old mid new : Ledger} {before after : Heard} {id : ObjId} → SameObjects old mid → Settles mid new before after id → KeepsRanks old new
 KeepsRanks-settle {old} {mid} {new} {before} {after} {id} s t = elim t.how [
   | inl h ↦ λ y v u. ap (λ l. rank l y) h.0 ∙ s.same_rank y
   | inr h ↦ λ y v u. h.1.rank_set y ∙ but_other id.0 0 (rank mid) y (λ e. false≢true (sym (h.1.live_set y ∙ but_same id.0 false (object_lives mid) y e) ∙ u)) ∙ s.same_rank y

@@ -1,5 +1,5 @@
 -- The public calls, with what objects stand for.
-use Rattle.nb_ledger.specs.Flat.{Given, flat, event}
+use Rattle.nb_ledger.specs.Flat.{Heard, Given, flat, event}
 use Rattle.nb_ledger.proofs.RunLemmas.{Given-append, Given-none}
 use Rattle.nb_ledger.specs.Flat.{Notice}
 use Rattle.std.proofs.Common.{true, false, ◌≡◌, ◌≢◌, ◌+◌, ◌<◌, ◌≤◌, ◌^◌, length, ℕ, Bool, List, [], ◌∷◌, ◌++◌, Option, Some, inl, inr, refl, ap, sym, ◌∙◌, subst, append-nil}
@@ -45,7 +45,7 @@ objects_of l nodes = record { book = l; nodes = nodes }
 pub Keeps-loses : {N L : Type 0} (stands : N → List (NodeEntry N L) → Type 0) (old new : Ledger) (nodes more : List N) → Loses (seat old nodes) (seat new more) → KeepsTraces stands (objects_of old nodes) (objects_of new more)
 Keeps-loses stands old new nodes more l x t fit n h = fit n (l.back x n h)
 
-module _ {N L : Type 0} {stands : N → List (NodeEntry N L) → Type 0} {known : Nature N L} {now : ℕ} {s : List (Stage N L) → List (Stage N L)} {old new : Ledger} {nodes more : List N} {before after : Option (List Notice)} {f : Port → Port → Account → List ℕ → List ℕ → Type 0} (q : IsQuiet old) (idle : (p q : Port) (y : Account) (s t : List ℕ) → JoinedEnds old p q s t [] → f p q y [] []) where
+module _ {N L : Type 0} {stands : N → List (NodeEntry N L) → Type 0} {known : Nature N L} {now : ℕ} {s : List (Stage N L) → List (Stage N L)} {old new : Ledger} {nodes more : List N} {before after : Heard} {f : Port → Port → Account → List ℕ → List ℕ → Type 0} (q : IsQuiet old) (idle : (p q : Port) (y : Account) (s t : List ℕ) → JoinedEnds old p q s t [] → f p q y [] []) where
   pub Lived-calm : CalmFor stands known now old new nodes more (Same (busy old)) f s before after → Lived stands known now (s []) (objects_of old nodes) (objects_of new more) before after
   Lived-calm k = record {
     added = k.calm.added;
@@ -97,7 +97,7 @@ module _ {N L : Type 0} {stands : N → List (NodeEntry N L) → Type 0} {known 
   Hands-lively e x entry k = (Lived-lively k.0, k.1)
 
 -- a message is dropped
-pub Lived-drop : {N L : Type 0} (stands : N → List (NodeEntry N L) → Type 0) (known : Nature N L) (now : ℕ) (l : Ledger) (nodes : List N) (before after : Option (List Notice)) (p : Port) (msg : Said) → (port l p.obj.0 p.slot ≡ state.Open → ⊥) → Tells before after (Dropped p ∷ []) → Given before after (event (flat (Dropped p)) ∷ []) → Lived stands known now (Offers p msg ∷ []) (objects_of l nodes) (objects_of l nodes) before after
+pub Lived-drop : {N L : Type 0} (stands : N → List (NodeEntry N L) → Type 0) (known : Nature N L) (now : ℕ) (l : Ledger) (nodes : List N) (before after : Heard) (p : Port) (msg : Said) → (port l p.obj.0 p.slot ≡ state.Open → ⊥) → Tells before after (Dropped p ∷ []) → Given before after (event (flat (Dropped p)) ∷ []) → Lived stands known now (Offers p msg ∷ []) (objects_of l nodes) (objects_of l nodes) before after
 Lived-drop stands known now l nodes before after p msg n told given = record {
   added = Dropped p ∷ [];
   runs = Runs-drop l before after p n told;
@@ -114,12 +114,12 @@ Lived-drop stands known now l nodes before after p msg n told given = record {
 }
 
 -- time comes to a dead object
-pub Lived-dead : {N L : Type 0} (stands : N → List (NodeEntry N L) → Type 0) (known : Nature N L) (now : ℕ) (l : Ledger) (nodes : List N) (before : Option (List Notice)) (x : ℕ) → object_lives l x ≡ false → Lived stands known now (Ticks x ∷ []) (objects_of l nodes) (objects_of l nodes) before before
+pub Lived-dead : {N L : Type 0} (stands : N → List (NodeEntry N L) → Type 0) (known : Nature N L) (now : ℕ) (l : Ledger) (nodes : List N) (before : Heard) (x : ℕ) → object_lives l x ≡ false → Lived stands known now (Ticks x ∷ []) (objects_of l nodes) (objects_of l nodes) before before
 unfolding IsRun-none
 Lived-dead stands known now l nodes before x dead = record { added = []; runs = (IsRun-none l before).1; deeds = turns (is_dead x) ∷ []; events = refl; ages = Ages-refl l; tells = Given-none before; follows = ([], ticks_none x dead, refl); keeps = λ x t fit. fit; hosts = λ x n h. h; suits = λ x t fit. tt; midway = λ p q a b bal. λ e. start-joined (bal e); balances = λ p q a b bal e. bal e }
 
 -- ports are closed, and then holds let go
-pub Lived-end : {N L : Type 0} {s r : List (Stage N L) → List (Stage N L)} {stands : N → List (NodeEntry N L) → Type 0} {known : Nature N L} {now : ℕ} {a b c : Ledger} {na nb nc : List N} {m n o : Option (List Notice)} → IsQuiet a → CalmFor stands known now a b na nb (Same (busy a)) Empty s m n → RunFor stands known b c nb nc r here n o → Ages b c → Lived stands known now (s (r [])) (objects_of a na) (objects_of c nc) m o
+pub Lived-end : {N L : Type 0} {s r : List (Stage N L) → List (Stage N L)} {stands : N → List (NodeEntry N L) → Type 0} {known : Nature N L} {now : ℕ} {a b c : Ledger} {na nb nc : List N} {m n o : Heard} → IsQuiet a → CalmFor stands known now a b na nb (Same (busy a)) Empty s m n → RunFor stands known b c nb nc r here n o → Ages b c → Lived stands known now (s (r [])) (objects_of a na) (objects_of c nc) m o
 unfolding IsRun-trans
 Lived-end {s = s} {r = r} {known = known} {now = now} {a = a} {b = b} {c = c} {m = m} {n = n} {o = o} q k l ages =
     let both = Lives-then {k = Calms known a c Empty} (Lives-above r k.lives) (l.lives now) (λ x w v i. (v, i, refl)) (λ ds es x y. Calms-then x y (λ p r i j w v e t. (v, e, λ _. refl))) in
@@ -142,7 +142,7 @@ Lived-end {s = s} {r = r} {known = known} {now = now} {a = a} {b = b} {c = c} {m
     }
 
 -- holds are let go
-pub Lived-run : {N L : Type 0} {s : List (Stage N L) → List (Stage N L)} {stands : N → List (NodeEntry N L) → Type 0} {known : Nature N L} {now : ℕ} {old new : Ledger} {nodes more : List N} {before after : Option (List Notice)} → RunFor stands known old new nodes more s here before after → Ages old new → Lived stands known now (s []) (objects_of old nodes) (objects_of new more) before after
+pub Lived-run : {N L : Type 0} {s : List (Stage N L) → List (Stage N L)} {stands : N → List (NodeEntry N L) → Type 0} {known : Nature N L} {now : ℕ} {old new : Ledger} {nodes more : List N} {before after : Heard} → RunFor stands known old new nodes more s here before after → Ages old new → Lived stands known now (s []) (objects_of old nodes) (objects_of new more) before after
 Lived-run {s = s} {known = known} {now = now} {old = old} {new = new} k ages =
     let l = k.lives now in
     record {
@@ -169,7 +169,7 @@ offered known now s t p m [] o h = absurd h
 offered known now s t p m (_ ∷ ds) o (more, enters_up _ _ i j, h) = (more, offered_up p m i o, h)
 offered known now s t p m (_ ∷ ds) o (more, enters_down _ _ i j, h) = (more, offered_down p m i o, h)
 
-pub Lived-offered : {N L : Type 0} {stands : N → List (NodeEntry N L) → Type 0} {known : Nature N L} {now : ℕ} {old new : Objects N} {before after : Option (List Notice)} {p : Port} {m : Said} → state_at (scene_of old.book) p ≡ state.Open → Lived stands known now (Gives p m ∷ []) old new before after → Lived stands known now (Offers p m ∷ []) old new before after
+pub Lived-offered : {N L : Type 0} {stands : N → List (NodeEntry N L) → Type 0} {known : Nature N L} {now : ℕ} {old new : Objects N} {before after : Heard} {p : Port} {m : Said} → state_at (scene_of old.book) p ≡ state.Open → Lived stands known now (Gives p m ∷ []) old new before after → Lived stands known now (Offers p m ∷ []) old new before after
 Lived-offered {known = known} {now = now} {old = old} {new = new} {p = p} {m = m} o k = record {
   added = k.added;
   runs = k.runs;
@@ -186,7 +186,7 @@ Lived-offered {known = known} {now = now} {old = old} {new = new} {p = p} {m = m
 }
 
 -- two ports are joined
-pub Lived-plug : {N L : Type 0} (stands : N → List (NodeEntry N L) → Type 0) (known : Nature N L) (now : ℕ) {old mid new : Ledger} (nodes : List N) (before after : Option (List Notice)) {p q : Port} → SetsPort old mid p (state.Linked q) → SetsPort mid new q (state.Linked p) → port old p.obj.0 p.slot ≡ state.Open → port old q.obj.0 q.slot ≡ state.Open → 1 ≤ p.slot → q.slot ≡ 0 → p.obj.0 ≤ old.made → q.obj.0 ≤ old.made → Tells before after (Plugged p q ∷ []) → ((st : List OnStack) → IsIdle st → Step (run_state old st) (Plugged p q) (run_state new st)) → Given before after (event (flat (Plugged p q)) ∷ []) → Lived stands known now (MustPlug p q ∷ []) (objects_of old nodes) (objects_of new nodes) before after
+pub Lived-plug : {N L : Type 0} (stands : N → List (NodeEntry N L) → Type 0) (known : Nature N L) (now : ℕ) {old mid new : Ledger} (nodes : List N) (before after : Heard) {p q : Port} → SetsPort old mid p (state.Linked q) → SetsPort mid new q (state.Linked p) → port old p.obj.0 p.slot ≡ state.Open → port old q.obj.0 q.slot ≡ state.Open → 1 ≤ p.slot → q.slot ≡ 0 → p.obj.0 ≤ old.made → q.obj.0 ≤ old.made → Tells before after (Plugged p q ∷ []) → ((st : List OnStack) → IsIdle st → Step (run_state old st) (Plugged p q) (run_state new st)) → Given before after (event (flat (Plugged p q)) ∷ []) → Lived stands known now (MustPlug p q ∷ []) (objects_of old nodes) (objects_of new nodes) before after
 Lived-plug stands known now {old = old} {mid = mid} {new = new} nodes before after {p = p} {q = q} a b op oq up low pm qm told step given = record {
   added = Plugged p q ∷ [];
   runs = Runs-one old new before after (Plugged p q) told step;
@@ -203,7 +203,7 @@ Lived-plug stands known now {old = old} {mid = mid} {new = new} nodes before aft
 }
 
 -- a hold is added
-pub Lived-hold : {N L : Type 0} (stands : N → List (NodeEntry N L) → Type 0) (known : Nature N L) (now : ℕ) {old new : Ledger} {n : ℕ} (nodes : List N) (before after : Option (List Notice)) (x : ObjId) → object_lives old x.0 ≡ true → SetsHolds old new x.0 n → Tells before after (Held x ∷ []) → ((st : List OnStack) → IsIdle st → Step (run_state old st) (Held x) (run_state new st)) → Given before after (event (flat (Held x)) ∷ []) → Lived stands known now (Wants (Held x) ∷ []) (objects_of old nodes) (objects_of new nodes) before after
+pub Lived-hold : {N L : Type 0} (stands : N → List (NodeEntry N L) → Type 0) (known : Nature N L) (now : ℕ) {old new : Ledger} {n : ℕ} (nodes : List N) (before after : Heard) (x : ObjId) → object_lives old x.0 ≡ true → SetsHolds old new x.0 n → Tells before after (Held x ∷ []) → ((st : List OnStack) → IsIdle st → Step (run_state old st) (Held x) (run_state new st)) → Given before after (event (flat (Held x)) ∷ []) → Lived stands known now (Wants (Held x) ∷ []) (objects_of old nodes) (objects_of new nodes) before after
 Lived-hold stands known now {old = old} {new = new} nodes before after x lives s told step given = record {
   added = Held x ∷ [];
   runs = Runs-one old new before after (Held x) told step;
@@ -220,7 +220,7 @@ Lived-hold stands known now {old = old} {new = new} nodes before after x lives s
 }
 
 -- an object is made, with a hold
-pub Lived-make : {N L : Type 0} (stands : N → List (NodeEntry N L) → Type 0) (known : Nature N L) (now : ℕ) {old mid new : Ledger} {r n : ℕ} (nodes more : List N) (before between after : Option (List Notice)) (x : ObjId) (node : N) → stands node [] → length old.objects < old.room → old.made + 1 < 2 ^ 64 → x.0 ≡ old.made + 1 → object_lives old x.0 ≡ false → length mid.objects ≡ length old.objects + 1 → Adds old mid x.0 r → SetsHolds mid new x.0 n → Tells before between (Made x (known.kind node) ∷ []) → Tells between after (Held x ∷ []) → ((st : List OnStack) → IsIdle st → Step (run_state old st) (Made x (known.kind node)) (run_state mid st)) → ((st : List OnStack) → IsIdle st → Step (run_state mid st) (Held x) (run_state new st)) → Given before between (event (flat (Made x (known.kind node))) ∷ []) → Given between after (event (flat (Held x)) ∷ []) → ((n : N) → seat new more x.0 ≡ Some n → n ≡ node) → ((y : ℕ) (n : N) → y ≢ x.0 → seat new more y ≡ Some n → seat old nodes y ≡ Some n) → Lived stands known now (MustMake x node ∷ Wants (Held x) ∷ []) (objects_of old nodes) (objects_of new more) before after
+pub Lived-make : {N L : Type 0} (stands : N → List (NodeEntry N L) → Type 0) (known : Nature N L) (now : ℕ) {old mid new : Ledger} {r n : ℕ} (nodes more : List N) (before between after : Heard) (x : ObjId) (node : N) → stands node [] → length old.objects < old.room → old.made + 1 < 2 ^ 64 → x.0 ≡ old.made + 1 → object_lives old x.0 ≡ false → length mid.objects ≡ length old.objects + 1 → Adds old mid x.0 r → SetsHolds mid new x.0 n → Tells before between (Made x (known.kind node) ∷ []) → Tells between after (Held x ∷ []) → ((st : List OnStack) → IsIdle st → Step (run_state old st) (Made x (known.kind node)) (run_state mid st)) → ((st : List OnStack) → IsIdle st → Step (run_state mid st) (Held x) (run_state new st)) → Given before between (event (flat (Made x (known.kind node))) ∷ []) → Given between after (event (flat (Held x)) ∷ []) → ((n : N) → seat new more x.0 ≡ Some n → n ≡ node) → ((y : ℕ) (n : N) → y ≢ x.0 → seat new more y ≡ Some n → seat old nodes y ≡ Some n) → Lived stands known now (MustMake x node ∷ Wants (Held x) ∷ []) (objects_of old nodes) (objects_of new more) before after
 Lived-make {N} {L} stands known now {old = old} {mid = mid} {new = new} nodes more before between after x node start room small serial fresh one a s told then step next given also there others = record {
   added = Made x (known.kind node) ∷ Held x ∷ [];
   runs = Runs-two old mid new before between after (Made x (known.kind node)) (Held x) told then step next;

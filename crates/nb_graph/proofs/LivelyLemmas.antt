@@ -1,5 +1,5 @@
 -- The parts of an entry from below or by time, joined.
-use Rattle.nb_ledger.specs.Flat.{Notice}
+use Rattle.nb_ledger.specs.Flat.{Heard}
 use Rattle.std.proofs.Common.{◌≡◌, ℕ, ◌+◌, ◌<◌, ◌≤◌, inl, inr, Bool, true, false, zero, suc, ltb, List, [], ◌∷◌, ◌++◌, length, get_or, set, slice_get, map, Option, Some, None, refl, ap, sym, ◌∙◌, subst, arith}
 use Rattle.std.proofs.lemmas.Bool.{cases_eq, cases_Bool, eq-eqb, false≢true}
 use Rattle.std.specs.Option.{option_map_or}
@@ -45,7 +45,7 @@ Grows-shrinks {old} {new} s = record {
   kept = λ x r. (s.kept x (busy-live new x (s.same_busy x ∙ r))).1;
 }
 
-unfoldable pub Lively-calm : {old new : Ledger} {before after : Option (List Notice)} → Calm old new before after → Lively old new before after
+unfoldable pub Lively-calm : {old new : Ledger} {before after : Heard} → Calm old new before after → Lively old new before after
 Lively-calm {old} {new} {before} {after} k = record { added = k.added; told = k.told; run = k.run; grows = Grows-shrinks k.shrinks }
 
 -- a stack whose innermost entry runs is idle
@@ -57,19 +57,19 @@ runs-idle (MustEnter p ∷ st) x h = absurd h
 runs-idle (MustUnplug p q ∷ st) x h = absurd h
 runs-idle (MustFree y ∷ st) x h = absurd h
 
-unfoldable pub LivelyIn-lively : {x : ℕ} {old new : Ledger} {before after : Option (List Notice)} → Lively old new before after → LivelyIn x old new before after
+unfoldable pub LivelyIn-lively : {x : ℕ} {old new : Ledger} {before after : Heard} → Lively old new before after → LivelyIn x old new before after
 LivelyIn-lively {x} {old} {new} {before} {after} k = record { added = k.added; told = k.told; run = λ st r a. k.run st (runs-idle st x r) a; grows = k.grows }
 
-unfoldable pub LivelyIn-calm : {x : ℕ} {old new : Ledger} {before after : Option (List Notice)} → Calm old new before after → LivelyIn x old new before after
+unfoldable pub LivelyIn-calm : {x : ℕ} {old new : Ledger} {before after : Heard} → Calm old new before after → LivelyIn x old new before after
 LivelyIn-calm {x} {old} {new} {before} {after} k = LivelyIn-lively (Lively-calm k)
 
-unfoldable pub Lively-refl : (l : Ledger) (b : Option (List Notice)) → Lively l l b b
+unfoldable pub Lively-refl : (l : Ledger) (b : Heard) → Lively l l b b
 Lively-refl l b = record { added = []; told = Told-none b; run = λ st i a. refl; grows = Grows-refl l }
 
-unfoldable pub LivelyIn-refl : (x : ℕ) (l : Ledger) (b : Option (List Notice)) → LivelyIn x l l b b
+unfoldable pub LivelyIn-refl : (x : ℕ) (l : Ledger) (b : Heard) → LivelyIn x l l b b
 LivelyIn-refl x l b = record { added = []; told = Told-none b; run = λ st i a. refl; grows = Grows-refl l }
 
-unfoldable pub Lively-trans : {a b c : Ledger} {m n o : Option (List Notice)} → Lively a b m n → Lively b c n o → Lively a c m o
+unfoldable pub Lively-trans : {a b c : Ledger} {m n o : Heard} → Lively a b m n → Lively b c n o → Lively a c m o
 Lively-trans {a} {b} {c} {m} {n} {o} p q = record {
   added = p.added ++ q.added;
   told = Tells-append m n o p.added q.added p.told q.told;
@@ -77,7 +77,7 @@ Lively-trans {a} {b} {c} {m} {n} {o} p q = record {
   grows = Grows-trans p.grows q.grows;
 }
 
-unfoldable pub LivelyIn-trans : {x : ℕ} {a b c : Ledger} {m n o : Option (List Notice)} → LivelyIn x a b m n → LivelyIn x b c n o → LivelyIn x a c m o
+unfoldable pub LivelyIn-trans : {x : ℕ} {a b c : Ledger} {m n o : Heard} → LivelyIn x a b m n → LivelyIn x b c n o → LivelyIn x a c m o
 LivelyIn-trans {x} {a} {b} {c} {m} {n} {o} p q = record {
   added = p.added ++ q.added;
   told = Tells-append m n o p.added q.added p.told q.told;
@@ -86,7 +86,7 @@ LivelyIn-trans {x} {a} {b} {c} {m} {n} {o} p q = record {
 }
 
 -- a message or a make is dropped: the port is closed, or it is linked and its object's entry runs
-unfoldable pub LivelyIn-dropped : (l : Ledger) (before after : Option (List Notice)) (p : Port) → (port l p.obj.0 p.slot ≡ Open → ⊥) → Tells before after (event.Dropped p ∷ []) → LivelyIn p.obj.0 l l before after
+unfoldable pub LivelyIn-dropped : (l : Ledger) (before after : Heard) (p : Port) → (port l p.obj.0 p.slot ≡ Open → ⊥) → Tells before after (event.Dropped p ∷ []) → LivelyIn p.obj.0 l l before after
 LivelyIn-dropped l before after p n told = record {
   added = event.Dropped p ∷ [];
   told = told;
@@ -101,7 +101,7 @@ LivelyIn-dropped l before after p n told = record {
     may st r Closed h = rw h tt
 
 -- a whole entry
-unfoldable pub Lively-entry : {b0 b1 b2 new : Ledger} {n0 n1 n2 after : Option (List Notice)} {p : Port} {way : Way} {was : Bool} → SetsBusy b0 b1 p.obj.0 true → Tells n0 n1 (event.Entered p way ∷ []) → ((st : List OnStack) → IsIdle st → MayEnter (run_state b0 st) p way → Step (run_state b0 st) (event.Entered p way) (run_state b1 (Running p way ∷ st))) → ((st : List OnStack) → MayEnter (run_state b0 st) p way) → was ≡ busy b0 p.obj.0 → LivelyIn p.obj.0 b1 b2 n1 n2 → EndsEntry b2 new n2 after p.obj.0 was (λ st. Running p way ∷ st) (port b2) → Lively b0 new n0 after
+unfoldable pub Lively-entry : {b0 b1 b2 new : Ledger} {n0 n1 n2 after : Heard} {p : Port} {way : Way} {was : Bool} → SetsBusy b0 b1 p.obj.0 true → Tells n0 n1 (event.Entered p way ∷ []) → ((st : List OnStack) → IsIdle st → MayEnter (run_state b0 st) p way → Step (run_state b0 st) (event.Entered p way) (run_state b1 (Running p way ∷ st))) → ((st : List OnStack) → MayEnter (run_state b0 st) p way) → was ≡ busy b0 p.obj.0 → LivelyIn p.obj.0 b1 b2 n1 n2 → EndsEntry b2 new n2 after p.obj.0 was (λ st. Running p way ∷ st) (port b2) → Lively b0 new n0 after
 Lively-entry {b0} {b1} {b2} {new} {n0} {n1} {n2} {after} {p} {way} {was} c told step may prior k e = record {
   added = event.Entered p way ∷ (k.added ++ e.added);
   told = Tells-append n0 n1 after (event.Entered p way ∷ []) (k.added ++ e.added) told (Tells-append n1 n2 after k.added e.added k.told e.told);
@@ -134,7 +134,7 @@ Lively-entry {b0} {b1} {b2} {new} {n0} {n1} {n2} {after} {p} {way} {was} c told 
     ]
 
 -- which begins with it
-pub Starts-lively : {b0 b1 b2 new : Ledger} {n0 n1 n2 after : Option (List Notice)} {p : Port} {way : Way} {was : Bool} → SetsBusy b0 b1 p.obj.0 true → Tells n0 n1 (event.Entered p way ∷ []) → ((st : List OnStack) → IsIdle st → MayEnter (run_state b0 st) p way → Step (run_state b0 st) (event.Entered p way) (run_state b1 (Running p way ∷ st))) → ((st : List OnStack) → MayEnter (run_state b0 st) p way) → was ≡ busy b0 p.obj.0 → LivelyIn p.obj.0 b1 b2 n1 n2 → EndsEntry b2 new n2 after p.obj.0 was (λ st. Running p way ∷ st) (port b2) → Starts b0 new n0 after (event.Entered p way)
+pub Starts-lively : {b0 b1 b2 new : Ledger} {n0 n1 n2 after : Heard} {p : Port} {way : Way} {was : Bool} → SetsBusy b0 b1 p.obj.0 true → Tells n0 n1 (event.Entered p way ∷ []) → ((st : List OnStack) → IsIdle st → MayEnter (run_state b0 st) p way → Step (run_state b0 st) (event.Entered p way) (run_state b1 (Running p way ∷ st))) → ((st : List OnStack) → MayEnter (run_state b0 st) p way) → was ≡ busy b0 p.obj.0 → LivelyIn p.obj.0 b1 b2 n1 n2 → EndsEntry b2 new n2 after p.obj.0 was (λ st. Running p way ∷ st) (port b2) → Starts b0 new n0 after (event.Entered p way)
 unfolding Lively-entry
 Starts-lively c told step may prior k e =
     let whole = Lively-entry c told step may prior k e in
@@ -169,7 +169,7 @@ pub new-leaves : (k : ℕ) → leaves (new_ports k) ≡ None
 new-leaves k = elim (cases_Bool (ltb k 4)) [ inl e ↦ rw e refl | inr e ↦ rw e refl ]
 
 -- an object is made and plugged
-unfoldable pub Lively-make : (b0 b1 m new : Ledger) (n0 n1 after : Option (List Notice)) (p q : Port) (r kind : ℕ) → q.obj.0 ≡ b0.made + 1 → Adds b0 b1 q.obj.0 r → object_lives b0 q.obj.0 ≡ false → SetsPort b1 m p (Linked q) → SetsPort m new q (Linked p) → port b1 p.obj.0 p.slot ≡ Open → port b1 q.obj.0 q.slot ≡ Open → Tells n0 n1 (event.Made q.obj kind ∷ []) → ((st : List OnStack) → IsIdle st → Step (run_state b0 st) (event.Made q.obj kind) (run_state b1 st)) → Tells n1 after (event.Plugged p q ∷ []) → ((st : List OnStack) → IsIdle st → Step (run_state b1 st) (event.Plugged p q) (run_state new st)) → Lively b0 new n0 after
+unfoldable pub Lively-make : (b0 b1 m new : Ledger) (n0 n1 after : Heard) (p q : Port) (r kind : ℕ) → q.obj.0 ≡ b0.made + 1 → Adds b0 b1 q.obj.0 r → object_lives b0 q.obj.0 ≡ false → SetsPort b1 m p (Linked q) → SetsPort m new q (Linked p) → port b1 p.obj.0 p.slot ≡ Open → port b1 q.obj.0 q.slot ≡ Open → Tells n0 n1 (event.Made q.obj kind ∷ []) → ((st : List OnStack) → IsIdle st → Step (run_state b0 st) (event.Made q.obj kind) (run_state b1 st)) → Tells n1 after (event.Plugged p q ∷ []) → ((st : List OnStack) → IsIdle st → Step (run_state b1 st) (event.Plugged p q) (run_state new st)) → Lively b0 new n0 after
 Lively-make b0 b1 m new n0 n1 after p q r kind serial a d s t op oq told step more next = record {
   added = event.Made q.obj kind ∷ event.Plugged p q ∷ [];
   told = Tells-append n0 n1 after (event.Made q.obj kind ∷ []) (event.Plugged p q ∷ []) told more;

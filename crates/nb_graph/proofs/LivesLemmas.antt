@@ -5,7 +5,7 @@ use Rattle.nb_ledger.specs.declared.port.ObjId.{ObjId}
 use Rattle.nb_ledger.specs.declared.port.Port.{Port}
 use Rattle.nb_ledger.specs.declared.event.GraphEvent.{GraphEvent}
 use Rattle.nb_ledger.specs.declared.event.GraphEvent.TheVariants.{Made, Plugged}
-use Rattle.nb_ledger.specs.Flat.{Notice, Given, flat, event}
+use Rattle.nb_ledger.specs.Flat.{Heard, Given, flat, event}
 use Rattle.nb_ledger.proofs.RunLemmas.{Given-append, Given-none}
 use Rattle.nb_graph.specs.Deeds.{notice_of, told_of}
 use Rattle.nb_ledger.specs.declared.event.Way.{Way}
@@ -113,7 +113,7 @@ unfoldable pub Lives-none : {N L : Type 0} {known : Nature N L} (stands : N → 
 Lives-none stands now f m = record { deeds = []; events = refl; tells = Given-none f.told; follows = λ st ds s k. k; keeps = λ x t w v e fit. subst (NodeFits stands f x t) e fit; hosts = λ x n h. h; suits = λ x t w v e fit. tt; moved = m }
 
 -- something turns
-unfoldable pub Lives-turn : {N L : Type 0} {known : Nature N L} (stands : N → List (NodeEntry N L) → Type 0) (now : ℕ) (f : Seats N) (t : Option (List Notice)) (o n : List (Stage N L) → List (Stage N L)) (u : Turn) → Given f.told t (notice_of u) → ((st : List (Stage N L)) (ds : List (Deed N L)) (s : Scene) → UsesStack known now f.scene (n st) ds s → UsesStack known now f.scene (o st) (turns u ∷ ds) s) → {i : List (Deed N L) → Type 0} → i (turns u ∷ []) → StaysTraced stands known now f (record f { told = t }) Stays o n i []
+unfoldable pub Lives-turn : {N L : Type 0} {known : Nature N L} (stands : N → List (NodeEntry N L) → Type 0) (now : ℕ) (f : Seats N) (t : Heard) (o n : List (Stage N L) → List (Stage N L)) (u : Turn) → Given f.told t (notice_of u) → ((st : List (Stage N L)) (ds : List (Deed N L)) (s : Scene) → UsesStack known now f.scene (n st) ds s → UsesStack known now f.scene (o st) (turns u ∷ ds) s) → {i : List (Deed N L) → Type 0} → i (turns u ∷ []) → StaysTraced stands known now f (record f { told = t }) Stays o n i []
 Lives-turn stands now f t o n u given fits m = record { deeds = turns u ∷ []; events = refl; tells = subst (Given f.told t) (sym (append-nil (notice_of u))) given; follows = fits; keeps = λ x t w v e fit. subst (NodeFits stands f x t) e fit; hosts = λ x n h. h; suits = λ x t w v e fit. tt; moved = m }
 
 -- an event by which no object is made

@@ -1,5 +1,5 @@
 -- What leaves links as they are, or closes ports without them.
-use Rattle.nb_ledger.specs.Flat.{Given, flat, event}
+use Rattle.nb_ledger.specs.Flat.{Heard, Given, flat, event}
 use Rattle.nb_ledger.specs.Flat.{Notice}
 use Rattle.std.proofs.Common.{◌≡◌, ℕ, inl, inr, Bool, List, [], ◌∷◌, ◌++◌, Option, refl, ap, sym, ◌∙◌}
 use Rattle.std.proofs.lemmas.Bool.{cases_eq, false≢true}
@@ -48,7 +48,7 @@ Mild-remove {old} {new} {x} r n = record {
   ];
 }
 
-pub Mild-settle : {old new : Ledger} {before after : Option (List Notice)} {id : ObjId} → Settles old new before after id → Mild old new
+pub Mild-settle : {old new : Ledger} {before after : Heard} {id : ObjId} → Settles old new before after id → Mild old new
 Mild-settle {old} {new} {id = id} s = elim s.how [
   | inl h ↦ Mild-same (ap (λ z. z.made) h.0) (λ x k. ap (λ z. port z x k) h.0)
   | inr h ↦ Mild-remove h.1 (λ y k q e i. false≢true (sym (used-port old y k (Linked q) i refl tt) ∙ ap (λ z. unused old z) e ∙ h.0))

@@ -1,5 +1,5 @@
 -- The public calls' runs.
-use Rattle.nb_ledger.specs.Flat.{Notice}
+use Rattle.nb_ledger.specs.Flat.{Heard}
 use Rattle.std.proofs.Common.{◌≡◌, List, [], ◌∷◌, ◌++◌, Option, refl, inl}
 use Rattle.nb_ledger.specs.declared.port.ObjId.{ObjId}
 use Rattle.nb_ledger.specs.declared.port.Port.{Port}
@@ -16,11 +16,11 @@ use Rattle.nb_graph.specs.Whole.{IsQuiet, Began, Runs, IsRun}
 use Rattle.nb_graph.specs.Calm.{Calm, Starts}
 
 -- one event
-pub Runs-one : (old new : Ledger) (before after : Option (List Notice)) (e : GraphEvent) → Tells before after (e ∷ []) → ((st : List OnStack) → IsIdle st → Step (run_state old st) e (run_state new st)) → Runs old new before after (e ∷ [])
+pub Runs-one : (old new : Ledger) (before after : Heard) (e : GraphEvent) → Tells before after (e ∷ []) → ((st : List OnStack) → IsIdle st → Step (run_state old st) e (run_state new st)) → Runs old new before after (e ∷ [])
 Runs-one old new before after e told step = record { told = told; run = (run_state new [], step [] tt, refl) }
 
 -- two events
-pub Runs-two : (old mid new : Ledger) (before between after : Option (List Notice)) (e d : GraphEvent) → Tells before between (e ∷ []) → Tells between after (d ∷ []) → ((st : List OnStack) → IsIdle st → Step (run_state old st) e (run_state mid st)) → ((st : List OnStack) → IsIdle st → Step (run_state mid st) d (run_state new st)) → Runs old new before after (e ∷ d ∷ [])
+pub Runs-two : (old mid new : Ledger) (before between after : Heard) (e d : GraphEvent) → Tells before between (e ∷ []) → Tells between after (d ∷ []) → ((st : List OnStack) → IsIdle st → Step (run_state old st) e (run_state mid st)) → ((st : List OnStack) → IsIdle st → Step (run_state mid st) d (run_state new st)) → Runs old new before after (e ∷ d ∷ [])
 Runs-two old mid new before between after e d told more step next = record {
   told = Tells-append before between after (e ∷ []) (d ∷ []) told more;
   run = (run_state mid [], step [] tt, (run_state new [], next [] tt, refl));
@@ -31,7 +31,7 @@ pub Agrees-quiet : (l : Ledger) → IsQuiet l → Agrees l []
 Agrees-quiet l q = λ x. q.idle x
 
 -- a hold is let go, and what is owed then is done
-unfoldable pub IsRun-let_go : (old mid new : Ledger) (before between after : Option (List Notice)) (id : ObjId) → IsQuiet mid → Tells before between (LetGo id ∷ []) → ((st : List OnStack) → IsIdle st → Step (run_state old st) (LetGo id) (owed id.0 (run_state mid st))) → Settles mid new between after id → IsRun old new before after
+unfoldable pub IsRun-let_go : (old mid new : Ledger) (before between after : Heard) (id : ObjId) → IsQuiet mid → Tells before between (LetGo id ∷ []) → ((st : List OnStack) → IsIdle st → Step (run_state old st) (LetGo id) (owed id.0 (run_state mid st))) → Settles mid new between after id → IsRun old new before after
 IsRun-let_go old mid new before between after id q told step s = (
   LetGo id ∷ s.added,
   record {
@@ -41,11 +41,11 @@ IsRun-let_go old mid new before between after id q told step s = (
 )
 
 -- a calm call's events
-pub IsRun-calm : (old new : Ledger) (before after : Option (List Notice)) → IsQuiet old → Calm old new before after → IsRun old new before after
+pub IsRun-calm : (old new : Ledger) (before after : Heard) → IsQuiet old → Calm old new before after → IsRun old new before after
 IsRun-calm old new before after q k = (k.added, record { told = k.told; run = k.run [] tt (Agrees-quiet old q) })
 
 -- and their first
-pub Began-starts : (old new : Ledger) (before after : Option (List Notice)) (e : GraphEvent) → IsQuiet old → Starts old new before after e → Began old new before after e
+pub Began-starts : (old new : Ledger) (before after : Heard) (e : GraphEvent) → IsQuiet old → Starts old new before after e → Began old new before after e
 Began-starts old new before after e q s = (s.rest, record { told = s.told; run = s.run [] tt (Agrees-quiet old q) })
 
 may-drop : (l : Ledger) (p : Port) (v : PortState) → port l p.obj.0 p.slot ≡ v → (port l p.obj.0 p.slot ≡ state.Open → ⊥) → MayDrop (run_state l []) p.obj.0 (port l p.obj.0 p.slot)
@@ -55,15 +55,15 @@ may-drop l p (state.Leaving q) h n = rw h tt
 may-drop l p state.Closed h n = rw h tt
 
 -- a message is dropped outside all entries
-pub Runs-drop : (l : Ledger) (before after : Option (List Notice)) (p : Port) → (port l p.obj.0 p.slot ≡ state.Open → ⊥) → Tells before after (Dropped p ∷ []) → Runs l l before after (Dropped p ∷ [])
+pub Runs-drop : (l : Ledger) (before after : Heard) (p : Port) → (port l p.obj.0 p.slot ≡ state.Open → ⊥) → Tells before after (Dropped p ∷ []) → Runs l l before after (Dropped p ∷ [])
 Runs-drop l before after p n told = record { told = told; run = (run_state l [], (tt, may-drop l p (port l p.obj.0 p.slot) refl n, refl), refl) }
 
 -- nothing happens
-unfoldable pub IsRun-none : (l : Ledger) (before : Option (List Notice)) → IsRun l l before before
+unfoldable pub IsRun-none : (l : Ledger) (before : Heard) → IsRun l l before before
 IsRun-none l before = ([], record { told = Told-none before; run = refl })
 
 -- one after the other
-unfoldable pub IsRun-trans : (a b c : Ledger) (m n o : Option (List Notice)) → IsRun a b m n → IsRun b c n o → IsRun a c m o
+unfoldable pub IsRun-trans : (a b c : Ledger) (m n o : Heard) → IsRun a b m n → IsRun b c n o → IsRun a c m o
 IsRun-trans a b c m n o p q = (
   p.0 ++ q.0,
   record {

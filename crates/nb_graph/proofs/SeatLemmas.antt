@@ -1,5 +1,5 @@
 -- The nodes by their serials, after a change of the book or of a node.
-use Rattle.nb_ledger.specs.Flat.{Notice}
+use Rattle.nb_ledger.specs.Flat.{Heard, unknown}
 use Rattle.nb_ledger.proofs.RunLemmas.{Given-none}
 use Rattle.std.proofs.Common.{Option, ◌≡◌, ◌≢◌, ℕ, ◌+◌, ◌<◌, ◌≤◌, Bool, true, false, cond, ltb, zero, suc, List, [], ◌∷◌, ◌++◌, length, set, get_or, slice_get, Some, None, refl, ap, sym, ◌∙◌, subst, arith, inl, inr, eqb}
 use Rattle.std.specs.List.{remove}
@@ -93,7 +93,7 @@ Loses-remove {old = old} {new = new} {nodes = nodes} {more = more} {x = x} v r i
     gone x = rw (eq-eqb x x refl) refl
 
 -- a call of the node of an object
-pub Lives-seat : {N L : Type 0} {known : Nature N L} {u : Option (List Notice)} {rank_of : N → ℕ} {l : Ledger} {nodes : List N} {cap : ℕ} (stands : N → List (NodeEntry N L) → Type 0) (now : ℕ) (owing : ℕ → List L → List L → Type 0) (o n : List (Stage N L) → List (Stage N L)) (y p : ℕ) (i : NodeEntry N L) (d c : N) → IsManned rank_of l nodes cap → object_lives l y ≡ true → p ≡ place l y → d ≡ get_or nodes p d → ((w v : List L) → owing y w v → Owes1 w i v) → ((x : ℕ) (w v : List L) → x ≢ y → owing x w v → w ≡ v) → Performs known stands d i c → ((t : List (NodeEntry N L)) (w v : List L) → owing y w v → Owes [] t w → Suits t i) → ((st : List (Stage N L)) (ds : List (Deed N L)) (s : Scene) → UsesStack known now (scene_of l) (n st) ds s → UsesStack known now (scene_of l) (o st) (calls y i ∷ ds) s) → {z : List (Deed N L) → Type 0} → z (calls y i ∷ []) → StaysTraced stands known now (nodes_at l nodes u) (nodes_at l (set nodes p c) u) owing o n z []
+pub Lives-seat : {N L : Type 0} {known : Nature N L} {u : Heard} {rank_of : N → ℕ} {l : Ledger} {nodes : List N} {cap : ℕ} (stands : N → List (NodeEntry N L) → Type 0) (now : ℕ) (owing : ℕ → List L → List L → Type 0) (o n : List (Stage N L) → List (Stage N L)) (y p : ℕ) (i : NodeEntry N L) (d c : N) → IsManned rank_of l nodes cap → object_lives l y ≡ true → p ≡ place l y → d ≡ get_or nodes p d → ((w v : List L) → owing y w v → Owes1 w i v) → ((x : ℕ) (w v : List L) → x ≢ y → owing x w v → w ≡ v) → Performs known stands d i c → ((t : List (NodeEntry N L)) (w v : List L) → owing y w v → Owes [] t w → Suits t i) → ((st : List (Stage N L)) (ds : List (Deed N L)) (s : Scene) → UsesStack known now (scene_of l) (n st) ds s → UsesStack known now (scene_of l) (o st) (calls y i ∷ ds) s) → {z : List (Deed N L) → Type 0} → z (calls y i ∷ []) → StaysTraced stands known now (nodes_at l nodes u) (nodes_at l (set nodes p c) u) owing o n z []
 Lives-seat {u = u} {l = l} {nodes = nodes} stands now owing o n y p i d c m v at is owes stay performs suit hears moves =
     let h = manned-place y m v in
     let q : p < length nodes = omega (arith, h, at) in
@@ -104,7 +104,7 @@ Lives-seat {u = u} {l = l} {nodes = nodes} stands now owing o n y p i d c m v at
     owes stay performs suit hears moves
 
 -- a call of the node of an object by an entry, which is the first that happens
-pub Calls-seat : {N L : Type 0} {known : Nature N L} {u : Option (List Notice)} {rank_of : N → ℕ} {l : Ledger} {nodes : List N} {cap : ℕ} (stands : N → List (NodeEntry N L) → Type 0) (now : ℕ) (owing : ℕ → List L → List L → Type 0) (o n : List (Stage N L) → List (Stage N L)) (y p : ℕ) (entry : Bool → Fx N L → NodeEntry N L) (done : Bool) (fx : Fx N L) (d c : N) → IsManned rank_of l nodes cap → object_lives l y ≡ true → p ≡ place l y → d ≡ get_or nodes p d → ((w v : List L) → owing y w v → Owes1 w (entry done fx) v) → ((x : ℕ) (w v : List L) → x ≢ y → owing x w v → w ≡ v) → Performs known stands d (entry done fx) c → ((t : List (NodeEntry N L)) (w v : List L) → owing y w v → Owes [] t w → Suits t (entry done fx)) → ((st : List (Stage N L)) (ds : List (Deed N L)) (s : Scene) → UsesStack known now (scene_of l) (n st) ds s → UsesStack known now (scene_of l) (o st) (calls y (entry done fx) ∷ ds) s) → {z : List (Deed N L) → Type 0} → z (calls y (entry done fx) ∷ []) → (k : StaysTraced stands known now (nodes_at l nodes u) (nodes_at l (set nodes p c) u) owing o n z []) × Calls y entry k.deeds
+pub Calls-seat : {N L : Type 0} {known : Nature N L} {u : Heard} {rank_of : N → ℕ} {l : Ledger} {nodes : List N} {cap : ℕ} (stands : N → List (NodeEntry N L) → Type 0) (now : ℕ) (owing : ℕ → List L → List L → Type 0) (o n : List (Stage N L) → List (Stage N L)) (y p : ℕ) (entry : Bool → Fx N L → NodeEntry N L) (done : Bool) (fx : Fx N L) (d c : N) → IsManned rank_of l nodes cap → object_lives l y ≡ true → p ≡ place l y → d ≡ get_or nodes p d → ((w v : List L) → owing y w v → Owes1 w (entry done fx) v) → ((x : ℕ) (w v : List L) → x ≢ y → owing x w v → w ≡ v) → Performs known stands d (entry done fx) c → ((t : List (NodeEntry N L)) (w v : List L) → owing y w v → Owes [] t w → Suits t (entry done fx)) → ((st : List (Stage N L)) (ds : List (Deed N L)) (s : Scene) → UsesStack known now (scene_of l) (n st) ds s → UsesStack known now (scene_of l) (o st) (calls y (entry done fx) ∷ ds) s) → {z : List (Deed N L) → Type 0} → z (calls y (entry done fx) ∷ []) → (k : StaysTraced stands known now (nodes_at l nodes u) (nodes_at l (set nodes p c) u) owing o n z []) × Calls y entry k.deeds
 unfolding Lives-seat Lives-call
 Calls-seat stands now owing o n y p entry done fx d c m v at is owes stay performs suit hears moves =
     (Lives-seat stands now owing o n y p (entry done fx) d c m v at is owes stay performs suit hears moves, (done, fx, [], refl))
@@ -128,7 +128,7 @@ module _ {N : Type 0} {rank_of : N → ℕ} {old mid : Ledger} {nodes : List N} 
   ]
 
 -- a node that stands for all that it stood for
-pub Keeps-set : {N L : Type 0} {rank_of : N → ℕ} {l : Ledger} {nodes : List N} {cap : ℕ} (stands : N → List (NodeEntry N L) → Type 0) (y p : ℕ) (d c : N) → IsManned rank_of l nodes cap → object_lives l y ≡ true → p ≡ place l y → d ≡ get_or nodes p d → ((t : List (NodeEntry N L)) → stands d t → stands c t) → (x : ℕ) (t : List (NodeEntry N L)) (w : List L) → NodeFits stands (nodes_at l nodes None) x t w → NodeFits stands (nodes_at l (set nodes p c) None) x t w
+pub Keeps-set : {N L : Type 0} {rank_of : N → ℕ} {l : Ledger} {nodes : List N} {cap : ℕ} (stands : N → List (NodeEntry N L) → Type 0) (y p : ℕ) (d c : N) → IsManned rank_of l nodes cap → object_lives l y ≡ true → p ≡ place l y → d ≡ get_or nodes p d → ((t : List (NodeEntry N L)) → stands d t → stands c t) → (x : ℕ) (t : List (NodeEntry N L)) (w : List L) → NodeFits stands (nodes_at l nodes unknown) x t w → NodeFits stands (nodes_at l (set nodes p c) unknown) x t w
 Keeps-set {l = l} {nodes = nodes} stands y p d c m v at is law x t w fit = λ n h.
     let i = manned-place y m v in
     let q : p < length nodes = omega (arith, i, at) in

@@ -1,5 +1,5 @@
 -- Objects go and ports close.
-use Rattle.nb_ledger.specs.Flat.{Notice}
+use Rattle.nb_ledger.specs.Flat.{Heard}
 use Rattle.std.proofs.Common.{◌≡◌, ℕ, ◌<◌, ◌≤◌, inl, inr, true, false, List, [], ◌∷◌, ◌++◌, length, Option, Some, None, is_some, min, max, refl, ap, sym, ◌∙◌, subst, arith}
 use Rattle.std.proofs.lemmas.Bool.{cases_eq, cases_Bool, eq-eqb, false≢true}
 use Rattle.nb_ledger.specs.declared.port.ObjId.{ObjId}
@@ -47,10 +47,10 @@ Shrinks-trans {a} {b} {c} p q = record {
 pub Agrees-busy : (old new : Ledger) (st : List OnStack) → ((x : ℕ) → busy new x ≡ busy old x) → Agrees old st → Agrees new st
 Agrees-busy old new st e a = λ x. e x ∙ a x
 
-unfoldable pub Calm-refl : (l : Ledger) (b : Option (List Notice)) → Calm l l b b
+unfoldable pub Calm-refl : (l : Ledger) (b : Heard) → Calm l l b b
 Calm-refl l b = record { added = []; told = Told-none b; run = λ st i a. refl; shrinks = Shrinks-refl l }
 
-unfoldable pub Calm-trans : {a b c : Ledger} {m n o : Option (List Notice)} → Calm a b m n → Calm b c n o → Calm a c m o
+unfoldable pub Calm-trans : {a b c : Ledger} {m n o : Heard} → Calm a b m n → Calm b c n o → Calm a c m o
 Calm-trans {a} {b} {c} {m} {n} {o} p q = record {
   added = p.added ++ q.added;
   told = Tells-append m n o p.added q.added p.told q.told;
@@ -110,27 +110,27 @@ Shrinks-remove {old} {new} {x} u s n = record {
     closed_there : (x y k : ℕ) (f : ℕ → ℕ → PortState) → y ≡ x → ports_but x (λ _. Closed) f y k ≡ Closed
     closed_there x y k f e = rw (eq-eqb y x e) refl
 
-pub Shrinks-settle : {old new : Ledger} {before after : Option (List Notice)} {id : ObjId} → Settles old new before after id → Shrinks old new
+pub Shrinks-settle : {old new : Ledger} {before after : Heard} {id : ObjId} → Settles old new before after id → Shrinks old new
 Shrinks-settle {old} {new} {before} {after} {id} s = elim s.how [
   | inl h ↦ subst (Shrinks old) (sym h.0) (Shrinks-refl old)
   | inr h ↦ Shrinks-remove h.0 h.1 (settled-length s)
 ]
 
 -- another object is used as before
-pub unused-settle : {old new : Ledger} {before after : Option (List Notice)} {id : ObjId} (x : ℕ) → (x ≡ id.0 → ⊥) → Settles old new before after id → unused new x ≡ unused old x
+pub unused-settle : {old new : Ledger} {before after : Heard} {id : ObjId} (x : ℕ) → (x ≡ id.0 → ⊥) → Settles old new before after id → unused new x ≡ unused old x
 unused-settle {old} {new} {before} {after} {id} x n s = elim s.how [
   | inl h ↦ ap (λ l. unused l x) h.0
   | inr h ↦ unused-same old new x (h.1.holds_set x ∙ but_other id.0 0 (holds old) x n) (h.1.busy_set x ∙ but_other id.0 false (busy old) x n) (λ k. ap link_count (h.1.port_set x k ∙ ports_other id.0 (λ _. Closed) (port old) x k n))
 ]
 
-pub live-settle : {old new : Ledger} {before after : Option (List Notice)} {id : ObjId} (x : ℕ) → (x ≡ id.0 → ⊥) → Settles old new before after id → object_lives new x ≡ object_lives old x
+pub live-settle : {old new : Ledger} {before after : Heard} {id : ObjId} (x : ℕ) → (x ≡ id.0 → ⊥) → Settles old new before after id → object_lives new x ≡ object_lives old x
 live-settle {old} {new} {before} {after} {id} x n s = elim s.how [
   | inl h ↦ ap (λ l. object_lives l x) h.0
   | inr h ↦ h.1.live_set x ∙ but_other id.0 false (object_lives old) x n
 ]
 
 -- two objects, the lower serial first
-unfoldable pub SettlesTwo-pair : {old mid new : Ledger} {before between after : Option (List Notice)} {low high : ObjId} → low.0 < high.0 → Settles old mid before between low → Settles mid new between after high → SettlesTwo old new before after low high
+unfoldable pub SettlesTwo-pair : {old mid new : Ledger} {before between after : Heard} {low high : ObjId} → low.0 < high.0 → Settles old mid before between low → Settles mid new between after high → SettlesTwo old new before after low high
 SettlesTwo-pair {old} {mid} {new} {before} {between} {after} {low} {high} less s t = record {
   added = s.added ++ t.added;
   told = Tells-append before between after s.added t.added s.told t.told;
@@ -159,7 +159,7 @@ SettlesTwo-pair {old} {mid} {new} {before} {between} {after} {low} {high} less s
         rw (owed-used old st high.0 a u) (Run-append _ (run_state mid st) _ s.added t.added (s.run st a) (rw (owed-used mid st high.0 (after_mid st a) (same ∙ u)) at (t.run st (after_mid st a))))
 
 -- in the other order
-unfoldable pub SettlesTwo-swap : {old new : Ledger} {before after : Option (List Notice)} {x y : ObjId} → SettlesTwo old new before after x y → SettlesTwo old new before after y x
+unfoldable pub SettlesTwo-swap : {old new : Ledger} {before after : Heard} {x y : ObjId} → SettlesTwo old new before after x y → SettlesTwo old new before after y x
 SettlesTwo-swap {old} {new} {before} {after} {x} {y} s = record {
   added = s.added;
   told = s.told;
@@ -168,14 +168,14 @@ SettlesTwo-swap {old} {new} {before} {after} {x} {y} s = record {
 }
 
 -- links after an object may have gone
-pub IsLinked-settle : {old new : Ledger} {before after : Option (List Notice)} {id : ObjId} → Settles old new before after id → IsLinked (port old) (rank old) → IsLinked (port new) (rank new)
+pub IsLinked-settle : {old new : Ledger} {before after : Heard} {id : ObjId} → Settles old new before after id → IsLinked (port old) (rank old) → IsLinked (port new) (rank new)
 IsLinked-settle {old} {new} {before} {after} {id} s l = elim s.how [
   | inl h ↦ subst (λ b. IsLinked (port b) (rank b)) (sym h.0) l
   | inr h ↦ IsLinked-gone h.0 h.1 l
 ]
 
 -- those not counted before but the first are the second alone
-pub CountedBut-settle : {old new : Ledger} {before after : Option (List Notice)} {id : ObjId} (z : ℕ) → Settles old new before after id → CountedButTwo id.0 z old → CountedBut z new
+pub CountedBut-settle : {old new : Ledger} {before after : Heard} {id : ObjId} (z : ℕ) → Settles old new before after id → CountedButTwo id.0 z old → CountedBut z new
 CountedBut-settle {old} {new} {before} {after} {id} z s c = λ y d v. elim (cases_eq y id.0) [
   | inl e ↦ own y e v
   | inr n ↦ unused-settle y n s ∙ c y n d (sym (live-settle y n s) ∙ v)
@@ -187,14 +187,14 @@ CountedBut-settle {old} {new} {before} {after} {id} z s c = λ y d v. elim (case
       | inr h ↦ absurd (false≢true (sym (h.1.live_set y ∙ but_same id.0 false (object_lives old) y e) ∙ v))
     ]
 
-small-settle : {old new : Ledger} {before after : Option (List Notice)} {id : ObjId} → Settles old new before after id → ((y : ℕ) → rank old y < 256) → (y : ℕ) → rank new y < 256
+small-settle : {old new : Ledger} {before after : Heard} {id : ObjId} → Settles old new before after id → ((y : ℕ) → rank old y < 256) → (y : ℕ) → rank new y < 256
 small-settle {old} {new} {before} {after} {id} s w y = elim s.how [
   | inl h ↦ subst (λ l. rank l y < 256) (sym h.0) (w y)
   | inr h ↦ elim (cases_eq y id.0) [ inl e ↦ rw (h.1.rank_set y ∙ but_same id.0 0 (rank old) y e) (omega arith) | inr n ↦ rw (h.1.rank_set y ∙ but_other id.0 0 (rank old) y n) (w y) ]
 ]
 
 -- after both, each is counted
-pub IsWhole-pair : {old mid new : Ledger} {before between after : Option (List Notice)} {low high : ObjId} → Settles old mid before between low → Settles mid new between after high → IsLinked (port old) (rank old) → CountedButTwo low.0 high.0 old → ((y : ℕ) → rank old y < 256) → IsBookWhole new
+pub IsWhole-pair : {old mid new : Ledger} {before between after : Heard} {low high : ObjId} → Settles old mid before between low → Settles mid new between after high → IsLinked (port old) (rank old) → CountedButTwo low.0 high.0 old → ((y : ℕ) → rank old y < 256) → IsBookWhole new
 IsWhole-pair {old} {mid} {new} {before} {between} {after} {low} {high} s t l c w =
     IsWhole-settle t (IsLinked-settle s l) (CountedBut-settle high.0 s c) (small-settle s w)
 

@@ -1,5 +1,5 @@
 -- A port that was closed stays closed.
-use Rattle.nb_ledger.specs.Flat.{Notice}
+use Rattle.nb_ledger.specs.Flat.{Heard}
 use Rattle.std.proofs.Common.{◌≡◌, ℕ, ◌<◌, ◌≤◌, inl, inr, Bool, false, zero, suc, List, [], ◌∷◌, length, get_or, take, drop, ◌-◌, Option, refl, ap, sym, ◌∙◌, subst, arith}
 use Rattle.std.proofs.Math.Seq.{take-length}
 use Rattle.nb_terms.specs.declared.cause.Cause.{Cause}
@@ -21,7 +21,7 @@ pub shut-set : {old new : Ledger} {p : Port} {v : PortState} → SetsPort old ne
 shut-set {old} {new} {p} {v} a h = ap open_count (a.port_set p.obj.0 p.slot ∙ port_but-same p v (port old) p.obj.0 p.slot refl refl) ∙ h
 
 -- the first end of a link
-pub shut-link : {b0 b3 b4 new : Ledger} {n3 n4 after : Option (List Notice)} {p q : Port} {was : Bool} {opened : List OnStack → List OnStack} {f : ℕ → ℕ → PortState} → HalfCloses b0 b3 p q → Calm b3 b4 n3 n4 → EndsEntry b4 new n4 after q.obj.0 was opened f → open_count (port new p.obj.0 p.slot) ≡ 0
+pub shut-link : {b0 b3 b4 new : Ledger} {n3 n4 after : Heard} {p q : Port} {was : Bool} {opened : List OnStack → List OnStack} {f : ℕ → ℕ → PortState} → HalfCloses b0 b3 p q → Calm b3 b4 n3 n4 → EndsEntry b4 new n4 after q.obj.0 was opened f → open_count (port new p.obj.0 p.slot) ≡ 0
 shut-link {b0} {b3} {b4} {new} {n3} {n4} {after} {p} {q} {was} {opened} {f} half k e =
     let i = e.closes p.obj.0 p.slot in
     let j = k.shrinks.closes p.obj.0 p.slot in

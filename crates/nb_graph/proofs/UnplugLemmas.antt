@@ -1,5 +1,5 @@
 -- A link is taken away, and a close is whole.
-use Rattle.nb_ledger.specs.Flat.{Notice}
+use Rattle.nb_ledger.specs.Flat.{Heard}
 use Rattle.std.proofs.Common.{◌≡◌, ◌≢◌, ℕ, ◌<◌, ◌≤◌, inl, inr, Bool, true, List, [], ◌∷◌, ◌++◌, Option, min, max, refl, ap, sym, ◌∙◌, subst, arith}
 use Rattle.nb_terms.specs.declared.cause.Cause.{Cause}
 use Rattle.nb_ledger.specs.declared.port.Port.{Port}
@@ -52,7 +52,7 @@ module _ {b4 b5 m b6 : Ledger} {p q : Port} {was : Bool} (hp : port b4 p.obj.0 p
   live-unplug y = b.objects.same_live y ∙ a.objects.same_live y ∙ c.objects.same_live y
 
   -- the entry of the peer ends and the link goes
-  unfoldable pub Ends-unplug : (new : Ledger) (before between next after : Option (List Notice)) → Tells before between (event.Left q ∷ []) → ((w : Way) (st : List OnStack) → Step (run_state b4 (Running q w ∷ st)) (event.Left q) (owed q.obj.0 (run_state b5 st))) → Tells between next (event.Unplugged p q ∷ []) → ((st : List OnStack) → Step (run_state b5 (MustUnplug p q ∷ st)) (event.Unplugged p q) (owed (min p.obj.0 q.obj.0) (owed (max p.obj.0 q.obj.0) (run_state b6 st)))) → SettlesTwo b6 new next after p.obj q.obj → EndsEntry b4 new before after q.obj.0 was (λ st. Running q Close ∷ MustUnplug p q ∷ st) (port_but q Closed (port_but p Closed (port b4)))
+  unfoldable pub Ends-unplug : (new : Ledger) (before between next after : Heard) → Tells before between (event.Left q ∷ []) → ((w : Way) (st : List OnStack) → Step (run_state b4 (Running q w ∷ st)) (event.Left q) (owed q.obj.0 (run_state b5 st))) → Tells between next (event.Unplugged p q ∷ []) → ((st : List OnStack) → Step (run_state b5 (MustUnplug p q ∷ st)) (event.Unplugged p q) (owed (min p.obj.0 q.obj.0) (owed (max p.obj.0 q.obj.0) (run_state b6 st)))) → SettlesTwo b6 new next after p.obj q.obj → EndsEntry b4 new before after q.obj.0 was (λ st. Running q Close ∷ MustUnplug p q ∷ st) (port_but q Closed (port_but p Closed (port b4)))
   Ends-unplug new before between next after told step more unplug s =
       let k = s.shrinks in
       record {
@@ -85,7 +85,7 @@ module _ {b4 b5 m b6 : Ledger} {p q : Port} {was : Bool} (hp : port b4 p.obj.0 p
           ]
 
 -- a whole close of a linked port
-unfoldable pub Calm-link : {b0 b3 b4 new : Ledger} {n0 n3 n4 after : Option (List Notice)} {p q : Port} {was : Bool} {cause : Cause} → IsLinked (port b0) (rank b0) → port b0 p.obj.0 p.slot ≡ Linked q → Tells n0 n3 (event.Closed p cause ∷ event.Closed q cause ∷ event.Entered q Close ∷ []) → ((st : List OnStack) → IsIdle st → GraphRunOf (run_state b0 st) (event.Closed p cause ∷ event.Closed q cause ∷ event.Entered q Close ∷ []) (run_state b3 (Running q Close ∷ MustUnplug p q ∷ st))) → was ≡ busy b0 q.obj.0 → HalfCloses b0 b3 p q → Calm b3 b4 n3 n4 → EndsEntry b4 new n4 after q.obj.0 was (λ st. Running q Close ∷ MustUnplug p q ∷ st) (port_but q Closed (port_but p Closed (port b4))) → Calm b0 new n0 after
+unfoldable pub Calm-link : {b0 b3 b4 new : Ledger} {n0 n3 n4 after : Heard} {p q : Port} {was : Bool} {cause : Cause} → IsLinked (port b0) (rank b0) → port b0 p.obj.0 p.slot ≡ Linked q → Tells n0 n3 (event.Closed p cause ∷ event.Closed q cause ∷ event.Entered q Close ∷ []) → ((st : List OnStack) → IsIdle st → GraphRunOf (run_state b0 st) (event.Closed p cause ∷ event.Closed q cause ∷ event.Entered q Close ∷ []) (run_state b3 (Running q Close ∷ MustUnplug p q ∷ st))) → was ≡ busy b0 q.obj.0 → HalfCloses b0 b3 p q → Calm b3 b4 n3 n4 → EndsEntry b4 new n4 after q.obj.0 was (λ st. Running q Close ∷ MustUnplug p q ∷ st) (port_but q Closed (port_but p Closed (port b4))) → Calm b0 new n0 after
 Calm-link {b0} {b3} {b4} {new} {n0} {n3} {n4} {after} {p} {q} {was} {cause} l h told run prior half k e = record {
   added = begun ++ (k.added ++ e.added);
   told = Tells-append n0 n3 after begun (k.added ++ e.added) told (Tells-append n3 n4 after k.added e.added k.told e.told);
@@ -137,14 +137,14 @@ Calm-link {b0} {b3} {b4} {new} {n0} {n3} {n4} {after} {p} {q} {was} {cause} l h 
     ]
 
 -- which begins with the close
-unfoldable pub Starts-link : {b0 b3 b4 new : Ledger} {n0 n3 n4 after : Option (List Notice)} {p q : Port} {was : Bool} {cause : Cause} → IsLinked (port b0) (rank b0) → port b0 p.obj.0 p.slot ≡ Linked q → Tells n0 n3 (event.Closed p cause ∷ event.Closed q cause ∷ event.Entered q Close ∷ []) → ((st : List OnStack) → IsIdle st → GraphRunOf (run_state b0 st) (event.Closed p cause ∷ event.Closed q cause ∷ event.Entered q Close ∷ []) (run_state b3 (Running q Close ∷ MustUnplug p q ∷ st))) → was ≡ busy b0 q.obj.0 → HalfCloses b0 b3 p q → Calm b3 b4 n3 n4 → EndsEntry b4 new n4 after q.obj.0 was (λ st. Running q Close ∷ MustUnplug p q ∷ st) (port_but q Closed (port_but p Closed (port b4))) → Starts b0 new n0 after (event.Closed p cause)
+unfoldable pub Starts-link : {b0 b3 b4 new : Ledger} {n0 n3 n4 after : Heard} {p q : Port} {was : Bool} {cause : Cause} → IsLinked (port b0) (rank b0) → port b0 p.obj.0 p.slot ≡ Linked q → Tells n0 n3 (event.Closed p cause ∷ event.Closed q cause ∷ event.Entered q Close ∷ []) → ((st : List OnStack) → IsIdle st → GraphRunOf (run_state b0 st) (event.Closed p cause ∷ event.Closed q cause ∷ event.Entered q Close ∷ []) (run_state b3 (Running q Close ∷ MustUnplug p q ∷ st))) → was ≡ busy b0 q.obj.0 → HalfCloses b0 b3 p q → Calm b3 b4 n3 n4 → EndsEntry b4 new n4 after q.obj.0 was (λ st. Running q Close ∷ MustUnplug p q ∷ st) (port_but q Closed (port_but p Closed (port b4))) → Starts b0 new n0 after (event.Closed p cause)
 unfolding Calm-link
 Starts-link {q = q} {cause = cause} l h told run prior half k e =
     let whole = Calm-link l h told run prior half k e in
     record { rest = event.Closed q cause ∷ event.Entered q Close ∷ (k.added ++ e.added); told = whole.told; run = whole.run }
 
 -- a whole entry by a message or by time, of calm effects
-unfoldable pub Calm-entry : {b0 b1 b2 new : Ledger} {n0 n1 n2 after : Option (List Notice)} {p : Port} {way : Way} {was : Bool} → SetsBusy b0 b1 p.obj.0 true → Tells n0 n1 (event.Entered p way ∷ []) → ((st : List OnStack) → IsIdle st → MayEnter (run_state b0 st) p way → Step (run_state b0 st) (event.Entered p way) (run_state b1 (Running p way ∷ st))) → ((st : List OnStack) → MayEnter (run_state b0 st) p way) → was ≡ busy b0 p.obj.0 → Calm b1 b2 n1 n2 → EndsEntry b2 new n2 after p.obj.0 was (λ st. Running p way ∷ st) (port b2) → Calm b0 new n0 after
+unfoldable pub Calm-entry : {b0 b1 b2 new : Ledger} {n0 n1 n2 after : Heard} {p : Port} {way : Way} {was : Bool} → SetsBusy b0 b1 p.obj.0 true → Tells n0 n1 (event.Entered p way ∷ []) → ((st : List OnStack) → IsIdle st → MayEnter (run_state b0 st) p way → Step (run_state b0 st) (event.Entered p way) (run_state b1 (Running p way ∷ st))) → ((st : List OnStack) → MayEnter (run_state b0 st) p way) → was ≡ busy b0 p.obj.0 → Calm b1 b2 n1 n2 → EndsEntry b2 new n2 after p.obj.0 was (λ st. Running p way ∷ st) (port b2) → Calm b0 new n0 after
 Calm-entry {b0} {b1} {b2} {new} {n0} {n1} {n2} {after} {p} {way} {was} c told step may prior k e = record {
   added = event.Entered p way ∷ (k.added ++ e.added);
   told = Tells-append n0 n1 after (event.Entered p way ∷ []) (k.added ++ e.added) told (Tells-append n1 n2 after k.added e.added k.told e.told);
@@ -171,7 +171,7 @@ Calm-entry {b0} {b1} {b2} {new} {n0} {n1} {n2} {after} {p} {way} {was} c told st
     flags x n = k.shrinks.same_busy x ∙ c.busy_set x ∙ but_other p.obj.0 true (busy b0) x n
 
 -- which begins with it
-pub Starts-entry : {b0 b1 b2 new : Ledger} {n0 n1 n2 after : Option (List Notice)} {p : Port} {way : Way} {was : Bool} → SetsBusy b0 b1 p.obj.0 true → Tells n0 n1 (event.Entered p way ∷ []) → ((st : List OnStack) → IsIdle st → MayEnter (run_state b0 st) p way → Step (run_state b0 st) (event.Entered p way) (run_state b1 (Running p way ∷ st))) → ((st : List OnStack) → MayEnter (run_state b0 st) p way) → was ≡ busy b0 p.obj.0 → Calm b1 b2 n1 n2 → EndsEntry b2 new n2 after p.obj.0 was (λ st. Running p way ∷ st) (port b2) → Starts b0 new n0 after (event.Entered p way)
+pub Starts-entry : {b0 b1 b2 new : Ledger} {n0 n1 n2 after : Heard} {p : Port} {way : Way} {was : Bool} → SetsBusy b0 b1 p.obj.0 true → Tells n0 n1 (event.Entered p way ∷ []) → ((st : List OnStack) → IsIdle st → MayEnter (run_state b0 st) p way → Step (run_state b0 st) (event.Entered p way) (run_state b1 (Running p way ∷ st))) → ((st : List OnStack) → MayEnter (run_state b0 st) p way) → was ≡ busy b0 p.obj.0 → Calm b1 b2 n1 n2 → EndsEntry b2 new n2 after p.obj.0 was (λ st. Running p way ∷ st) (port b2) → Starts b0 new n0 after (event.Entered p way)
 unfolding Calm-entry
 Starts-entry c told step may prior k e =
     let whole = Calm-entry c told step may prior k e in
@@ -185,7 +185,7 @@ IsShut (Leaving q) = Unit {0}
 IsShut Closed = Unit {0}
 
 -- an event that changes nothing
-unfoldable pub Calm-dropped : (l : Ledger) (before after : Option (List Notice)) (p : Port) (v : PortState) → port l p.obj.0 p.slot ≡ v → IsShut v → Tells before after (event.Dropped p ∷ []) → Calm l l before after
+unfoldable pub Calm-dropped : (l : Ledger) (before after : Heard) (p : Port) (v : PortState) → port l p.obj.0 p.slot ≡ v → IsShut v → Tells before after (event.Dropped p ∷ []) → Calm l l before after
 Calm-dropped l before after p v h shut told = record {
   added = event.Dropped p ∷ [];
   told = told;
@@ -200,11 +200,11 @@ Calm-dropped l before after p v h shut told = record {
     may st Closed h s = rw h tt
 
 -- a message that leaves the graph
-unfoldable pub Calm-sent : (l : Ledger) (before after : Option (List Notice)) → Tells before after [] → Calm l l before after
+unfoldable pub Calm-sent : (l : Ledger) (before after : Heard) → Tells before after [] → Calm l l before after
 Calm-sent l before after told = record { added = []; told = told; run = λ st i a. refl; shrinks = Shrinks-refl l }
 
 -- a close of a port without a link
-unfoldable pub Calm-alone : {old new : Ledger} {before after : Option (List Notice)} {p : Port} {cause : Cause} → port old p.obj.0 p.slot ≡ Open → SetsPort old new p Closed → Tells before after (event.Closed p cause ∷ []) → ((st : List OnStack) → IsIdle st → Step (run_state old st) (event.Closed p cause) (run_state new st)) → Calm old new before after
+unfoldable pub Calm-alone : {old new : Ledger} {before after : Heard} {p : Port} {cause : Cause} → port old p.obj.0 p.slot ≡ Open → SetsPort old new p Closed → Tells before after (event.Closed p cause ∷ []) → ((st : List OnStack) → IsIdle st → Step (run_state old st) (event.Closed p cause) (run_state new st)) → Calm old new before after
 Calm-alone {old} {new} {before} {after} {p} {cause} h a told step = record {
   added = event.Closed p cause ∷ [];
   told = told;
@@ -232,5 +232,5 @@ IsWhole-alone {old} {new} {p} h a w = record {
 }
 
 -- one event
-unfoldable pub Starts-one : (old new : Ledger) (before after : Option (List Notice)) (e : GraphEvent) → Tells before after (e ∷ []) → ((st : List OnStack) → IsIdle st → Step (run_state old st) e (run_state new st)) → Starts old new before after e
+unfoldable pub Starts-one : (old new : Ledger) (before after : Heard) (e : GraphEvent) → Tells before after (e ∷ []) → ((st : List OnStack) → IsIdle st → Step (run_state old st) e (run_state new st)) → Starts old new before after e
 Starts-one old new before after e told step = record { rest = []; told = told; run = λ st i a. (run_state new st, step st i, refl) }

@@ -1,5 +1,5 @@
 -- Calls, one after another.
-use Rattle.nb_ledger.specs.Flat.{Given}
+use Rattle.nb_ledger.specs.Flat.{Heard, Given}
 use Rattle.nb_ledger.proofs.RunLemmas.{Given-append}
 use Rattle.nb_ledger.specs.Flat.{Notice}
 use Rattle.std.proofs.Common.{◌≡◌, ℕ, List, [], ◌∷◌, ◌++◌, Option, refl, ap, sym, ◌∙◌, subst, append_assoc, append-nil}
@@ -36,7 +36,7 @@ each-append known s t u (c ∷ cs) bs [] es p q = absurd p
 each-append known s t u (c ∷ cs) bs (d ∷ ds) es p q = (p.0, p.1, each-append known p.0 t u cs bs ds es p.2 q)
 
 -- a call's
-pub Went-one : {N L : Type 0} {stands : N → List (NodeEntry N L) → Type 0} {known : Nature N L} {now : ℕ} {asked : List (Stage N L)} {old new : Objects N} {before after : Option (List Notice)} → Lived stands known now asked old new before after → Went stands known (record { now = now; asks = asked } ∷ []) old new before after
+pub Went-one : {N L : Type 0} {stands : N → List (NodeEntry N L) → Type 0} {known : Nature N L} {now : ℕ} {asked : List (Stage N L)} {old new : Objects N} {before after : Heard} → Lived stands known now asked old new before after → Went stands known (record { now = now; asks = asked } ∷ []) old new before after
 Went-one {stands = stands} {known = known} {old = old} {new = new} {before = before} {after = after} k = record {
   added = k.added;
   runs = k.runs;
@@ -53,7 +53,7 @@ Went-one {stands = stands} {known = known} {old = old} {new = new} {before = bef
 }
 
 -- one call after the other
-pub Went-then : {N L : Type 0} {stands : N → List (NodeEntry N L) → Type 0} {known : Nature N L} {cs bs : List (GraphCall N L)} {a b c : Objects N} {m n o : Option (List Notice)} → Went stands known cs a b m n → Went stands known bs b c n o → Went stands known (cs ++ bs) a c m o
+pub Went-then : {N L : Type 0} {stands : N → List (NodeEntry N L) → Type 0} {known : Nature N L} {cs bs : List (GraphCall N L)} {a b c : Objects N} {m n o : Heard} → Went stands known cs a b m n → Went stands known bs b c n o → Went stands known (cs ++ bs) a c m o
 unfolding IsRun-trans
 Went-then {stands = stands} {known = known} {cs = cs} {bs = bs} {a = a} {b = b} {c = c} {m = m} {n = n} {o = o} k l = record {
   added = k.added ++ l.added;

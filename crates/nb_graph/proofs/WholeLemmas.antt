@@ -1,5 +1,5 @@
 -- What is true of a book between events stays true.
-use Rattle.nb_ledger.specs.Flat.{Notice}
+use Rattle.nb_ledger.specs.Flat.{Heard}
 use Rattle.std.proofs.Common.{◌≡◌, ℕ, ◌<◌, ◌≤◌, ◌⊎◌, inl, inr, true, false, ltb, zero, suc, List, Option, None, refl, ap, sym, ◌∙◌, subst, arith}
 use Rattle.std.proofs.lemmas.Bool.{cases_eq, ne_eqb, eq-eqb, false≢true, cases_Bool}
 use Rattle.nb_ledger.specs.declared.port.ObjId.{ObjId}
@@ -127,7 +127,7 @@ IsWhole-remove {old} {new} {x} u s l c w = record {
 }
 
 -- after what was owed for x is done, all are counted
-pub IsWhole-settle : {old new : Ledger} {before after : Option (List Notice)} {id : ObjId} → Settles old new before after id → IsLinked (port old) (rank old) → CountedBut id.0 old → ((y : ℕ) → rank old y < 256) → IsBookWhole new
+pub IsWhole-settle : {old new : Ledger} {before after : Heard} {id : ObjId} → Settles old new before after id → IsLinked (port old) (rank old) → CountedBut id.0 old → ((y : ℕ) → rank old y < 256) → IsBookWhole new
 IsWhole-settle {old} {new} {before} {after} {id} s l c w =
     elim s.how [
       | inl h ↦ subst IsBookWhole (sym h.0) (record { links = l; counted = counted-all id.0 old c (λ _. h.1); small = w })
@@ -140,7 +140,7 @@ IsQuiet-remove {old} {new} {x} s q = record {
   settled = λ y k. elim (cases_eq y x) [ inl e ↦ ap leaves (s.port_set y k) ∙ rw (eq-eqb y x e) refl | inr n ↦ ap leaves (s.port_set y k ∙ ports_other x (λ _. Closed) (port old) y k n) ∙ q.settled y k ];
 }
 
-pub IsQuiet-settle : {old new : Ledger} {before after : Option (List Notice)} {id : ObjId} → Settles old new before after id → IsQuiet old → IsQuiet new
+pub IsQuiet-settle : {old new : Ledger} {before after : Heard} {id : ObjId} → Settles old new before after id → IsQuiet old → IsQuiet new
 IsQuiet-settle {old} {new} {before} {after} {id} s q =
     elim s.how [ inl h ↦ subst IsQuiet (sym h.0) q | inr h ↦ IsQuiet-remove h.1 q ]
 

@@ -1,5 +1,5 @@
 -- What a close, or a message that goes down, leaves, whatever it nests: events that are a run, and no object made.
-use Rattle.nb_ledger.specs.Flat.{Notice}
+use Rattle.nb_ledger.specs.Flat.{Heard}
 use Rattle.std.specs.Prelude.{◌≡◌, ℕ, ◌+◌, ◌*◌, ◌≤◌, nat_lt, List, ◌∷◌, Bool, true, Option, length, min, max}
 use Rattle.nb_ledger.specs.declared.port.ObjId.{ObjId}
 use Rattle.nb_ledger.specs.declared.port.Port.{Port}
@@ -23,14 +23,14 @@ pub record Shrinks (old new : Ledger) : Type 0 where
   pub closes : (x k : ℕ) → open_count (port new x k) ≤ open_count (port old x k)
 
 -- the events are a run over any stack that the book agrees with
-pub record Calm (old new : Ledger) (before after : Option (List Notice)) : Type 0 where
+pub record Calm (old new : Ledger) (before after : Heard) : Type 0 where
   pub added : List GraphEvent
   pub told : Tells before after added
   pub run : (st : List OnStack) → IsIdle st → Agrees old st → GraphRunOf (run_state old st) added (run_state new st)
   pub shrinks : Shrinks old new
 
 -- the run begins with this event
-pub record Starts (old new : Ledger) (before after : Option (List Notice)) (e : GraphEvent) : Type 0 where
+pub record Starts (old new : Ledger) (before after : Heard) (e : GraphEvent) : Type 0 where
   pub rest : List GraphEvent
   pub told : Tells before after (e ∷ rest)
   pub run : (st : List OnStack) → IsIdle st → Agrees old st → GraphRunOf (run_state old st) (e ∷ rest) (run_state new st)
@@ -57,7 +57,7 @@ pub record HalfCloses (old new : Ledger) (at peer : Port) : Type 0 where
 
 -- An entry ends, of the object x; `was` says whether one of it ran before. The stack was `opened st` with it, and
 -- f has the ports then.
-pub record EndsEntry (old new : Ledger) (before after : Option (List Notice)) (x : ℕ) (was : Bool) (opened : List OnStack → List OnStack) (f : ℕ → ℕ → PortState) : Type 0 where
+pub record EndsEntry (old new : Ledger) (before after : Heard) (x : ℕ) (was : Bool) (opened : List OnStack → List OnStack) (f : ℕ → ℕ → PortState) : Type 0 where
   pub added : List GraphEvent
   pub told : Tells before after added
   pub run : (st : List OnStack) → ((y : ℕ) → but_at x was (busy old) y ≡ nat_lt 0 (entries st y)) → GraphRunOf (run_state old (opened st)) added (run_state new st)
@@ -71,7 +71,7 @@ pub record EndsEntry (old new : Ledger) (before after : Option (List Notice)) (x
   pub closes : (y k : ℕ) → open_count (port new y k) ≤ open_count (port old y k)
 
 -- two objects are freed where they are unused, the lower serial first
-pub record SettlesTwo (old new : Ledger) (before after : Option (List Notice)) (x y : ObjId) : Type 0 where
+pub record SettlesTwo (old new : Ledger) (before after : Heard) (x y : ObjId) : Type 0 where
   pub added : List GraphEvent
   pub told : Tells before after added
   pub run : (st : List OnStack) → Agrees old st → GraphRunOf (owed (min x.0 y.0) (owed (max x.0 y.0) (run_state old st))) added (run_state new st)

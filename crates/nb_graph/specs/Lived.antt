@@ -1,5 +1,5 @@
 -- What objects stand for, before a call and after it: our own.
-use Rattle.nb_ledger.specs.Flat.{Notice}
+use Rattle.nb_ledger.specs.Flat.{Heard}
 use Rattle.std.specs.Prelude.{◌≡◌, ℕ, List, Option, Some}
 use Rattle.nb_ledger.specs.declared.event.GraphEvent.{GraphEvent}
 use Rattle.nb_graph.specs.Trace.{Nature, NodeEntry, IsSettled}
@@ -24,7 +24,7 @@ KeepsTraces {N} {L} stands old new = (x : ℕ) (t : List (NodeEntry N L)) → Ob
 -- node, with the rest of a message given again; and each object stands for its trace continued by its entries and
 -- the loads that came back to it. One that was made starts from the empty trace. On each link one end took what the
 -- other sent, or the first of it where the link is closed.
-pub record Lived {N L : Type 0} (stands : N → List (NodeEntry N L) → Type 0) (known : Nature N L) (now : ℕ) (asked : List (Stage N L)) (old new : Objects N) (before after : Option (List Notice)) : Type 0 where
+pub record Lived {N L : Type 0} (stands : N → List (NodeEntry N L) → Type 0) (known : Nature N L) (now : ℕ) (asked : List (Stage N L)) (old new : Objects N) (before after : Heard) : Type 0 where
   pub added : List GraphEvent
   pub runs : Runs old.book new.book before after added
   pub ages : Ages old.book new.book

@@ -1,5 +1,5 @@
 -- What a message that goes up, or time, leaves, whatever it nests: events that are a run; objects may be made.
-use Rattle.nb_ledger.specs.Flat.{Notice}
+use Rattle.nb_ledger.specs.Flat.{Heard}
 use Rattle.std.specs.Prelude.{◌≡◌, ℕ, ◌+◌, ◌-◌, ◌*◌, ◌^◌, List, true, Option}
 use Rattle.nb_ledger.specs.declared.event.GraphEvent.{GraphEvent}
 use Rattle.nb_ledger.specs.GraphRun.{OnStack, IsIdle, RunsIn, GraphRunOf}
@@ -16,14 +16,14 @@ pub record GrowsLively (old new : Ledger) : Type 0 where
   pub kept : (x : ℕ) → busy old x ≡ true → rank new x ≡ rank old x
 
 -- the events are a run over any stack that the book agrees with
-pub record Lively (old new : Ledger) (before after : Option (List Notice)) : Type 0 where
+pub record Lively (old new : Ledger) (before after : Heard) : Type 0 where
   pub added : List GraphEvent
   pub told : Tells before after added
   pub run : (st : List OnStack) → IsIdle st → Agrees old st → GraphRunOf (run_state old st) added (run_state new st)
   pub grows : GrowsLively old new
 
 -- the same, where the innermost entry is one of the object x
-pub record LivelyIn (x : ℕ) (old new : Ledger) (before after : Option (List Notice)) : Type 0 where
+pub record LivelyIn (x : ℕ) (old new : Ledger) (before after : Heard) : Type 0 where
   pub added : List GraphEvent
   pub told : Tells before after added
   pub run : (st : List OnStack) → RunsIn st x → Agrees old st → GraphRunOf (run_state old st) added (run_state new st)

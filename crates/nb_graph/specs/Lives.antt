@@ -1,5 +1,5 @@
 -- What objects stand for while a call runs.
-use Rattle.nb_ledger.specs.Flat.{Notice}
+use Rattle.nb_ledger.specs.Flat.{Heard}
 use Rattle.std.specs.Prelude.{◌≡◌, ◌≢◌, ℕ, ◌<◌, ◌≤◌, Bool, true, false, List, [], ◌++◌, ◌∷◌, min, max, Option, Some, slice_get}
 use Rattle.nb_ledger.specs.declared.event.GraphEvent.{GraphEvent}
 use Rattle.nb_ledger.specs.declared.port.PortState.{PortState}
@@ -26,12 +26,12 @@ use Rattle.nb_graph.specs.Order.{LetsHoldsGo, frees}
 pub record Seats (N : Type 0) : Type 0 where
   pub node : ℕ → Option N
   pub scene : Scene
-  pub told : Option (List Notice)
+  pub told : Heard
 
 abbrev pub seat : {N : Type 0} → Ledger → List N → ℕ → Option N
 seat l nodes x = slice_get nodes (place l x)
 
-abbrev pub nodes_at : {N : Type 0} → Ledger → List N → Option (List Notice) → Seats N
+abbrev pub nodes_at : {N : Type 0} → Ledger → List N → Heard → Seats N
 nodes_at l nodes told = record { node = seat l nodes; scene = scene_of l; told = told }
 
 -- no node comes that wasn't there
@@ -84,27 +84,27 @@ abbrev pub here : {N L : Type 0} → List (Stage N L) → List (Stage N L)
 here st = st
 
 -- a calm call, with what its objects stand for
-pub record CalmFor {N L : Type 0} (stands : N → List (NodeEntry N L) → Type 0) (known : Nature N L) (now : ℕ) (old new : Ledger) (nodes more : List N) (owing : ℕ → List L → List L → Type 0) (flow : Port → Port → Account → List ℕ → List ℕ → Type 0) (opened : List (Stage N L) → List (Stage N L)) (before after : Option (List Notice)) : Type 0 where
+pub record CalmFor {N L : Type 0} (stands : N → List (NodeEntry N L) → Type 0) (known : Nature N L) (now : ℕ) (old new : Ledger) (nodes more : List N) (owing : ℕ → List L → List L → Type 0) (flow : Port → Port → Account → List ℕ → List ℕ → Type 0) (opened : List (Stage N L) → List (Stage N L)) (before after : Heard) : Type 0 where
   pub calm : Calm old new before after
   pub lives : StaysTraced stands known now (nodes_at old nodes before) (nodes_at new more after) owing opened here (Calms known old new flow) calm.added
 
 -- a call that may make objects
-pub record LivelyFor {N L : Type 0} (stands : N → List (NodeEntry N L) → Type 0) (known : Nature N L) (now : ℕ) (old new : Ledger) (nodes more : List N) (owing : ℕ → List L → List L → Type 0) (due : Port → Account → List ℕ) (flow : Port → Port → Account → List ℕ → List ℕ → Type 0) (opened : List (Stage N L) → List (Stage N L)) (before after : Option (List Notice)) : Type 0 where
+pub record LivelyFor {N L : Type 0} (stands : N → List (NodeEntry N L) → Type 0) (known : Nature N L) (now : ℕ) (old new : Ledger) (nodes more : List N) (owing : ℕ → List L → List L → Type 0) (due : Port → Account → List ℕ) (flow : Port → Port → Account → List ℕ → List ℕ → Type 0) (opened : List (Stage N L) → List (Stage N L)) (before after : Heard) : Type 0 where
   pub lively : Lively old new before after
   pub lives : StaysTraced stands known now (nodes_at old nodes before) (nodes_at new more after) owing opened here (Livens known old new always due flow) lively.added
 
 -- the same in an entry of y, from these stages to those
-pub record LivelyInFor {N L : Type 0} (stands : N → List (NodeEntry N L) → Type 0) (known : Nature N L) (now y : ℕ) (old new : Ledger) (nodes more : List N) (owing : ℕ → List L → List L → Type 0) (ready : Port → Account → Type 0) (due : Port → Account → List ℕ) (flow : Port → Port → Account → List ℕ → List ℕ → Type 0) (opened ended : List (Stage N L) → List (Stage N L)) (before after : Option (List Notice)) : Type 0 where
+pub record LivelyInFor {N L : Type 0} (stands : N → List (NodeEntry N L) → Type 0) (known : Nature N L) (now y : ℕ) (old new : Ledger) (nodes more : List N) (owing : ℕ → List L → List L → Type 0) (ready : Port → Account → Type 0) (due : Port → Account → List ℕ) (flow : Port → Port → Account → List ℕ → List ℕ → Type 0) (opened ended : List (Stage N L) → List (Stage N L)) (before after : Heard) : Type 0 where
   pub lively : LivelyIn y old new before after
   pub lives : StaysTraced stands known now (nodes_at old nodes before) (nodes_at new more after) owing opened ended (Livens known old new ready due flow) lively.added
 
 -- an entry ends
-pub record EndsFor {N L : Type 0} (stands : N → List (NodeEntry N L) → Type 0) (known : Nature N L) (old new : Ledger) (nodes more : List N) (before after : Option (List Notice)) (y : ℕ) (was : Bool) (stack : List OnStack → List OnStack) (f : ℕ → ℕ → PortState) (opened : List (Stage N L) → List (Stage N L)) : Type 0 where
+pub record EndsFor {N L : Type 0} (stands : N → List (NodeEntry N L) → Type 0) (known : Nature N L) (old new : Ledger) (nodes more : List N) (before after : Heard) (y : ℕ) (was : Bool) (stack : List OnStack → List OnStack) (f : ℕ → ℕ → PortState) (opened : List (Stage N L) → List (Stage N L)) : Type 0 where
   pub ends : EndsEntry old new before after y was stack f
   pub lives : (now : ℕ) → StaysTraced stands known now (nodes_at old nodes before) (nodes_at new more after) Stays opened here (Calms known old new Still) ends.added
 
 -- what was owed for an object is done
-pub record SettlesFor {N L : Type 0} (stands : N → List (NodeEntry N L) → Type 0) (known : Nature N L) (old new : Ledger) (nodes more : List N) (before after : Option (List Notice)) (y : ObjId) : Type 0 where
+pub record SettlesFor {N L : Type 0} (stands : N → List (NodeEntry N L) → Type 0) (known : Nature N L) (old new : Ledger) (nodes more : List N) (before after : Heard) (y : ObjId) : Type 0 where
   pub settles : Settles old new before after y
   pub gone : List ObjId
   pub frees : settles.added ≡ frees gone
@@ -112,7 +112,7 @@ pub record SettlesFor {N L : Type 0} (stands : N → List (NodeEntry N L) → Ty
   pub lives : (now : ℕ) → StaysTraced stands known now (nodes_at old nodes before) (nodes_at new more after) Stays (λ st. Frees y.0 ∷ st) here (Calms known old new Still) settles.added
 
 -- and for two
-pub record SettlesTwoFor {N L : Type 0} (stands : N → List (NodeEntry N L) → Type 0) (known : Nature N L) (old new : Ledger) (nodes more : List N) (before after : Option (List Notice)) (y z : ObjId) : Type 0 where
+pub record SettlesTwoFor {N L : Type 0} (stands : N → List (NodeEntry N L) → Type 0) (known : Nature N L) (old new : Ledger) (nodes more : List N) (before after : Heard) (y z : ObjId) : Type 0 where
   pub settles : SettlesTwo old new before after y z
   pub gone : List ObjId
   pub frees : settles.added ≡ frees gone
@@ -127,7 +127,7 @@ abbrev pub IsBelow : ℕ → Ledger → Type 0
 IsBelow r l = (x : ℕ) → busy l x ≡ true → rank l x ≤ r
 
 -- events that are a run, with what objects stand for
-pub record RunFor {N L : Type 0} (stands : N → List (NodeEntry N L) → Type 0) (known : Nature N L) (old new : Ledger) (nodes more : List N) (opened ended : List (Stage N L) → List (Stage N L)) (before after : Option (List Notice)) : Type 0 where
+pub record RunFor {N L : Type 0} (stands : N → List (NodeEntry N L) → Type 0) (known : Nature N L) (old new : Ledger) (nodes more : List N) (opened ended : List (Stage N L) → List (Stage N L)) (before after : Heard) : Type 0 where
   pub added : List GraphEvent
   pub runs : Runs old new before after added
   pub lives : (now : ℕ) → StaysTraced stands known now (nodes_at old nodes before) (nodes_at new more after) Stays opened ended (Calms known old new Still) added

@@ -1,5 +1,5 @@
 -- What happened in some calls, one after another: our own.
-use Rattle.nb_ledger.specs.Flat.{Notice}
+use Rattle.nb_ledger.specs.Flat.{Heard}
 use Rattle.std.specs.Prelude.{◌≡◌, ℕ, List, [], ◌∷◌, ◌++◌, Option}
 use Rattle.nb_ledger.specs.declared.port.Port.{Port}
 use Rattle.nb_ledger.specs.declared.event.GraphEvent.{GraphEvent}
@@ -46,7 +46,7 @@ Midways known p q a b (ds ∷ dss) = Midway known p q (rests a) (rests b) ds × 
 -- entry, also of an object that is freed within the call, is one that the object's own node answered, and the node of
 -- a made object is the one that was asked for. On each link one end took what the other sent, or the first of it where the link is closed; at each moment of a call
 -- the first of it. Ranks stay.
-pub record Went {N L : Type 0} (stands : N → List (NodeEntry N L) → Type 0) (known : Nature N L) (calls : List (GraphCall N L)) (old new : Objects N) (before after : Option (List Notice)) : Type 0 where
+pub record Went {N L : Type 0} (stands : N → List (NodeEntry N L) → Type 0) (known : Nature N L) (calls : List (GraphCall N L)) (old new : Objects N) (before after : Heard) : Type 0 where
   pub added : List GraphEvent
   pub runs : Runs old.book new.book before after added
   pub ages : Ages old.book new.book
@@ -61,5 +61,5 @@ pub record Went {N L : Type 0} (stands : N → List (NodeEntry N L) → Type 0) 
   pub balances : (p q : Port) (a b : Account) → Balanced old.book p q a b → Balanced new.book p q (accounts known p a deeds) (accounts known q b deeds)
 
 -- what happened in one call
-abbrev pub WentOne : {N L : Type 0} → (N → List (NodeEntry N L) → Type 0) → Nature N L → ℕ → List (Stage N L) → Objects N → Objects N → Option (List Notice) → Option (List Notice) → Type 0
+abbrev pub WentOne : {N L : Type 0} → (N → List (NodeEntry N L) → Type 0) → Nature N L → ℕ → List (Stage N L) → Objects N → Objects N → Heard → Heard → Type 0
 WentOne stands known now asks old new before after = Went stands known (record { now = now; asks = asks } ∷ []) old new before after

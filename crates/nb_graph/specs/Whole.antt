@@ -1,5 +1,5 @@
 -- What is true of a graph's book and nodes between events.
-use Rattle.nb_ledger.specs.Flat.{Notice, Given, Tells, event, flat}
+use Rattle.nb_ledger.specs.Flat.{Heard, Given, Tells, event, flat}
 use Rattle.std.specs.Prelude.{◌≡◌, ℕ, ◌+◌, ◌<◌, ◌≤◌, List, [], ◌∷◌, map, true, false, Option, None, Some, length, slice_get}
 use Rattle.nb_ledger.specs.declared.event.GraphEvent.{GraphEvent}
 use Rattle.nb_ledger.specs.declared.event.GraphEvent.TheVariants.{Dropped}
@@ -56,16 +56,16 @@ pub record Objects (N : Type 0) : Type 0 where
   pub nodes : List N
 
 -- these events were given, and are a run from the state before to the state after, with no entry on the stack
-pub record Runs (old new : Ledger) (before after : Option (List Notice)) (added : List GraphEvent) : Type 0 where
+pub record Runs (old new : Ledger) (before after : Heard) (added : List GraphEvent) : Type 0 where
   pub told : Tells before after added
   pub run : GraphRunOf (run_state old []) added (run_state new [])
 
 -- some events were
-abbrev pub IsRun : Ledger → Ledger → Option (List Notice) → Option (List Notice) → Type 0
+abbrev pub IsRun : Ledger → Ledger → Heard → Heard → Type 0
 IsRun old new before after = (added : List GraphEvent) × Runs old new before after added
 
 -- some events were, of which this was the first
-abbrev pub Began : Ledger → Ledger → Option (List Notice) → Option (List Notice) → GraphEvent → Type 0
+abbrev pub Began : Ledger → Ledger → Heard → Heard → GraphEvent → Type 0
 Began old new before after e = (rest : List GraphEvent) × Runs old new before after (e ∷ rest)
 
 -- a graph between calls, of at most 64 objects
@@ -85,13 +85,13 @@ node_at g x = slice_get g.nodes (place g.book x)
 
 -- Nothing changed: not the objects, and not the outside, whether it tells what it is given or has stopped. It was
 -- given nothing, neither an event nor a message.
-pub record StaysSame {N O : Type 0} (notices : O → Option (List Notice)) (old new : Objects N) (before after : O) : Type 0 where
+pub record StaysSame {N O : Type 0} (notices : O → Heard) (old new : Objects N) (before after : O) : Type 0 where
   pub objects : new ≡ old
   pub outside : after ≡ before
   pub told : Given (notices before) (notices after) []
 
 -- no object changed, and the outside was given that a message was dropped at p, and nothing else
-pub record OnlyDrops {N : Type 0} (p : Port) (old new : Objects N) (before after : Option (List Notice)) : Type 0 where
+pub record OnlyDrops {N : Type 0} (p : Port) (old new : Objects N) (before after : Heard) : Type 0 where
   pub objects : new ≡ old
   pub told : Given before after (event (flat (Dropped p)) ∷ [])
 

@@ -13,7 +13,7 @@ ghost use Rattle.nb_graph.specs.Effects.{MayAskTime, MayAskUp};
 ghost use Rattle.nb_graph.specs.Accounts.{fx_bytes};
 ghost use Rattle.nb_graph.specs.Lived.{KeepsTraces};
 ghost use Rattle.nb_ledger.specs.declared.event.Way.TheVariants.{Close, Down, Time, Up};
-ghost use Rattle.nb_ledger.specs.Flat.{Notice};
+ghost use Rattle.nb_ledger.specs.Flat.{Heard};
 ghost use Rattle.nb_graph.specs.Moves.{Asks, Calms};
 ghost use Rattle.nb_graph.specs.Lives.{Lends, LendsFirst, StaysTraced, nodes_at, seat};
 
@@ -38,7 +38,7 @@ impl<N: Node> Inner<N> {
             (vec_capacity self.old.nodes) }
         ensures asks { MayAskBelow 0 fx.new }
         ensures book { self.new.book ≡ self.old.book }
-        ensures lives { (u : Option (List Notice)) → StaysTraced N.stands
+        ensures lives { (u : Heard) → StaysTraced N.stands
             (nature N.kind_of N.mark_of N.Load.first N.Load.second) now
             (nodes_at self.old.book self.old.nodes.items u)
             (nodes_at self.new.book self.new.nodes.items u) (Lends at.obj.0 (lent fx.new))
@@ -73,7 +73,7 @@ impl<N: Node> Inner<N> {
             (vec_capacity self.old.nodes) }
         ensures asks { MayAskDown (length msg.now.first.now + length msg.now.second.now) result fx.new }
         ensures book { self.new.book ≡ self.old.book }
-        ensures lives { (u : Option (List Notice)) → (k : StaysTraced N.stands
+        ensures lives { (u : Heard) → (k : StaysTraced N.stands
             (nature N.kind_of N.mark_of N.Load.first N.Load.second) now
             (nodes_at self.old.book self.old.nodes.items u)
             (nodes_at self.new.book self.new.nodes.items u) (Lends id.0 (lent fx.new))
@@ -112,7 +112,7 @@ impl<N: Node> Inner<N> {
         ensures asks { MayAskUp N.rank_of N.stands (rank self.old.book at.obj.0) at.slot
             (length msg.now.first.now + length msg.now.second.now) result fx.new }
         ensures book { self.new.book ≡ self.old.book }
-        ensures lives { (u : Option (List Notice)) → (k : StaysTraced N.stands
+        ensures lives { (u : Heard) → (k : StaysTraced N.stands
             (nature N.kind_of N.mark_of N.Load.first N.Load.second) now
             (nodes_at self.old.book self.old.nodes.items u)
             (nodes_at self.new.book self.new.nodes.items u) (LendsFirst at.obj.0
@@ -149,7 +149,7 @@ impl<N: Node> Inner<N> {
             (vec_capacity self.old.nodes) }
         ensures asks { MayAskTime N.rank_of N.stands (rank self.old.book id.0) result fx.new }
         ensures book { self.new.book ≡ self.old.book }
-        ensures lives { (u : Option (List Notice)) → (k : StaysTraced N.stands
+        ensures lives { (u : Heard) → (k : StaysTraced N.stands
             (nature N.kind_of N.mark_of N.Load.first N.Load.second) now
             (nodes_at self.old.book self.old.nodes.items u)
             (nodes_at self.new.book self.new.nodes.items u) (LendsFirst id.0 (lent fx.new))

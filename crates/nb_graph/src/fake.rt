@@ -1,5 +1,6 @@
 // Nodes and an outside for the tests.
 ghost use Rattle.std.specs.Prelude.{◌≡◌, ◌≤◌, [], None, min, true};
+ghost use Rattle.nb_ledger.specs.Flat.{unknown};
 ghost use Rattle.nb_ledger.specs.Ledger.{object_lives, rank};
 ghost use Rattle.nb_graph.specs.Counted.{regains, ups};
 
@@ -216,7 +217,7 @@ pub(crate) struct Tape {
 }
 
 impl Outside for Tape {
-    ghost events = { λ _. None };
+    ghost events = { λ _. unknown };
 
     fn event(&mut self, e: &Event) {
         let _ = self.events.push(*e);

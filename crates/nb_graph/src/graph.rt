@@ -318,11 +318,11 @@ ghost use Rattle.nb_graph.specs.Lived.{ObjectStands};
 ghost use Rattle.nb_graph.specs.Trace.{NodeEntry};
 ghost use Rattle.nb_graph.specs.Whole.{Objects};
 ghost use Rattle.nb_graph.specs.Went.{all_of, GraphCall, Went, WentOne};
-ghost use Rattle.nb_ledger.specs.Flat.{Notice};
+ghost use Rattle.nb_ledger.specs.Flat.{Heard};
 
 /// What happens in calls and in those that come then happens in all of them.
 pub fn one_after_another<N: Node>()
-    ensures { (cs bs : List (GraphCall N N.Load)) (a b c : Objects N) (m n o : Option (List Notice))
+    ensures { (cs bs : List (GraphCall N N.Load)) (a b c : Objects N) (m n o : Heard)
         → Went N.stands (nature N.kind_of N.mark_of N.Load.first N.Load.second) cs a b m n
         → Went N.stands (nature N.kind_of N.mark_of N.Load.first N.Load.second) bs b c n o
         → Went N.stands (nature N.kind_of N.mark_of N.Load.first N.Load.second) (cs ++ bs) a c m o }
@@ -331,7 +331,7 @@ pub fn one_after_another<N: Node>()
 /// Each entry of an object in some calls, also of one that is freed, is one of its node, which
 /// stands for its trace so far, and after it for that with the entry.
 pub fn entries_are_the_nodes_own<N: Node>()
-    ensures { (cs : List (GraphCall N N.Load)) (a b : Objects N) (m n : Option (List Notice)) (x : ℕ)
+    ensures { (cs : List (GraphCall N N.Load)) (a b : Objects N) (m n : Heard) (x : ℕ)
         (t : List (NodeEntry N N.Load)) → ObjectStands N.stands a x t
         → (k : Went N.stands (nature N.kind_of N.mark_of N.Load.first N.Load.second) cs a b m n)
         → Stood N.stands x t (all_of k.deeds) }

@@ -6,7 +6,7 @@ ghost use Rattle.nb_graph.specs.Trace.{carried, in_list, lent, loads, nature};
 ghost use Rattle.nb_graph.specs.Deeds.{returns_of, Returns};
 ghost use Rattle.nb_graph.specs.Lives.{Back, here, StaysTraced, nodes_at};
 ghost use Rattle.nb_graph.specs.Whole.{IsManned};
-ghost use Rattle.nb_ledger.specs.Flat.{Notice};
+ghost use Rattle.nb_ledger.specs.Flat.{Heard};
 ghost use Rattle.nb_graph.specs.Flows.{Still};
 ghost use Rattle.nb_graph.specs.Moves.{Calms};
 
@@ -23,7 +23,7 @@ impl<N: Node> Inner<N> {
         requires manned { IsManned N.rank_of self.old.book self.old.nodes.items
             (vec_capacity self.old.nodes) }
         ensures book { self.new.book ≡ self.old.book }
-        ensures lives { (now : ℕ) (u : Option (List Notice)) → StaysTraced N.stands
+        ensures lives { (now : ℕ) (u : Heard) → StaysTraced N.stands
             (nature N.kind_of N.mark_of N.Load.first N.Load.second) now
             (nodes_at self.old.book self.old.nodes.items u)
             (nodes_at self.new.book self.new.nodes.items u)
@@ -43,7 +43,7 @@ impl<N: Node> Inner<N> {
         requires manned { IsManned N.rank_of self.old.book self.old.nodes.items
             (vec_capacity self.old.nodes) }
         ensures book { self.new.book ≡ self.old.book }
-        ensures lives { (now : ℕ) (u : Option (List Notice)) → StaysTraced N.stands
+        ensures lives { (now : ℕ) (u : Heard) → StaysTraced N.stands
             (nature N.kind_of N.mark_of N.Load.first N.Load.second) now
             (nodes_at self.old.book self.old.nodes.items u)
             (nodes_at self.new.book self.new.nodes.items u) (Back (busy self.old.book) id.0
@@ -64,7 +64,7 @@ impl<N: Node> Inner<N> {
         requires manned { IsManned N.rank_of self.old.book self.old.nodes.items
             (vec_capacity self.old.nodes) }
         ensures book { self.new.book ≡ self.old.book }
-        ensures lives { (now : ℕ) (u : Option (List Notice)) → StaysTraced N.stands
+        ensures lives { (now : ℕ) (u : Heard) → StaysTraced N.stands
             (nature N.kind_of N.mark_of N.Load.first N.Load.second) now
             (nodes_at self.old.book self.old.nodes.items u)
             (nodes_at self.new.book self.new.nodes.items u)
@@ -85,7 +85,7 @@ impl<N: Node> Inner<N> {
         requires manned { IsManned N.rank_of self.old.book self.old.nodes.items
             (vec_capacity self.old.nodes) }
         ensures book { self.new.book ≡ self.old.book }
-        ensures lives { (now : ℕ) (u : Option (List Notice)) → StaysTraced N.stands
+        ensures lives { (now : ℕ) (u : Heard) → StaysTraced N.stands
             (nature N.kind_of N.mark_of N.Load.first N.Load.second) now
             (nodes_at self.old.book self.old.nodes.items u)
             (nodes_at self.new.book self.new.nodes.items u)
@@ -109,7 +109,7 @@ impl<N: Node> Inner<N> {
         requires manned { IsManned N.rank_of self.old.book self.old.nodes.items
             (vec_capacity self.old.nodes) }
         ensures book { self.new.book ≡ self.old.book }
-        ensures lives { (now : ℕ) (u : Option (List Notice)) → StaysTraced N.stands
+        ensures lives { (now : ℕ) (u : Heard) → StaysTraced N.stands
             (nature N.kind_of N.mark_of N.Load.first N.Load.second) now
             (nodes_at self.old.book self.old.nodes.items u)
             (nodes_at self.new.book self.new.nodes.items u)
@@ -132,7 +132,7 @@ impl<N: Node> Inner<N> {
         requires manned { IsManned N.rank_of self.old.book self.old.nodes.items
             (vec_capacity self.old.nodes) }
         ensures book { self.new.book ≡ self.old.book }
-        ensures lives { (now : ℕ) (u : Option (List Notice)) → StaysTraced N.stands
+        ensures lives { (now : ℕ) (u : Heard) → StaysTraced N.stands
             (nature N.kind_of N.mark_of N.Load.first N.Load.second) now
             (nodes_at self.old.book self.old.nodes.items u)
             (nodes_at self.new.book self.new.nodes.items u)

@@ -39,6 +39,7 @@ pub(crate) fn bytes_of<'m, N: Node>(
 }
 
 /// Gives the outside the message that is asked for, with this record and these bytes.
+#[tactic(auto, using(nb_ledger::proofs::RunLemmas::told_message))]
 #[inline(always)]
 pub(crate) fn send_part<N: Node, O: Outside>(
     at: Port,
@@ -64,6 +65,7 @@ pub(crate) fn send_part<N: Node, O: Outside>(
 }
 
 /// Tells the outside that a message is dropped at this port.
+#[tactic(auto, using(nb_ledger::proofs::RunLemmas::told_event))]
 #[cold]
 #[inline(never)]
 pub(crate) fn drop_message<O: Outside>(at: Port, out: &mut O)

@@ -1,5 +1,5 @@
 -- An object is freed, or stays.
-use Rattle.nb_ledger.specs.Flat.{Notice}
+use Rattle.nb_ledger.specs.Flat.{Heard}
 use Rattle.std.proofs.Common.{◌≡◌, true, false, List, [], ◌∷◌, Option, refl, inl, inr}
 use Rattle.nb_ledger.specs.declared.port.ObjId.{ObjId}
 use Rattle.nb_ledger.specs.declared.event.GraphEvent.TheVariants.{Freed}
@@ -12,7 +12,7 @@ use Rattle.nb_ledger.proofs.CountLemmas.{owed-unused, owed-used}
 use Rattle.nb_ledger.proofs.RunLemmas.{Told-none}
 
 -- an object without use is freed
-unfoldable pub Settles-free : (old new : Ledger) (before after : Option (List Notice)) (id : ObjId) → unused old id.0 ≡ true → Tells before after (Freed id ∷ []) → ((st : List OnStack) → Step (run_state old (MustFree id.0 ∷ st)) (Freed id) (run_state new st)) → Removes old new id.0 → Settles old new before after id
+unfoldable pub Settles-free : (old new : Ledger) (before after : Heard) (id : ObjId) → unused old id.0 ≡ true → Tells before after (Freed id ∷ []) → ((st : List OnStack) → Step (run_state old (MustFree id.0 ∷ st)) (Freed id) (run_state new st)) → Removes old new id.0 → Settles old new before after id
 Settles-free old new before after id is_so told step gone = record {
   added = Freed id ∷ [];
   told = told;
@@ -21,7 +21,7 @@ Settles-free old new before after id is_so told step gone = record {
 }
 
 -- one that is used stays
-unfoldable pub Settles-stay : (old : Ledger) (before : Option (List Notice)) (id : ObjId) → unused old id.0 ≡ false → Settles old old before before id
+unfoldable pub Settles-stay : (old : Ledger) (before : Heard) (id : ObjId) → unused old id.0 ≡ false → Settles old old before before id
 Settles-stay old before id is_not = record {
   added = [];
   told = Told-none before;

@@ -1,5 +1,5 @@
 -- The graph's events as they are traced, and what it means that they are told.
-use Rattle.std.specs.Prelude.{◌≡◌, ℕ, List, [], ◌∷◌, ◌++◌, map, Option, Some, None}
+use Rattle.std.specs.Prelude.{◌≡◌, ℕ, List, [], ◌∷◌, ◌++◌, map}
 use Rattle.nb_terms.specs.declared.event.Event.{Event}
 use Rattle.nb_ledger.specs.declared.port.Port.{Port}
 use Rattle.nb_ledger.specs.declared.event.Way.{Way}
@@ -49,18 +49,37 @@ events_part [] = []
 events_part (event e ∷ ns) = e ∷ events_part ns
 events_part (message from tag rec a b bytes ∷ ns) = events_part ns
 
--- where it is told what happens, this was added to what was told before
-abbrev pub Given : Option (List Notice) → Option (List Notice) → List Notice → Type 0
-Given before None added = Unit {0}
-Given None (Some after) added = ⊥
-Given (Some before) (Some after) added = after ≡ before ++ added
+-- What is known of what an outside was told: nothing; all; or that its image is this. The image is rows of numbers,
+-- as those of what it writes.
+pub data Heard : Type 0 where
+  unknown : Heard
+  all : (told : List Notice) → Heard
+  shows : (image : List Notice → List (List ℕ)) (shown : List (List ℕ)) → Heard
 
--- where the events are told afterwards, these were added to those told before
-abbrev pub Told : Option (List Notice) → Option (List Notice) → List Event → Type 0
-Told before None added = Unit {0}
-Told None (Some after) added = ⊥
-Told (Some before) (Some after) added = events_part after ≡ events_part before ++ added
+-- it may have been told this
+abbrev pub Hears : Heard → List Notice → Type 0
+Hears unknown ns = Unit {0}
+Hears (all told) ns = ns ≡ told
+Hears (shows image shown) ns = image ns ≡ shown
+
+-- no less is known afterwards, or nothing, and that by the same image
+abbrev pub StaysKnown : Heard → Heard → Type 0
+StaysKnown before unknown = Unit {0}
+StaysKnown unknown (all told) = ⊥
+StaysKnown unknown (shows image shown) = ⊥
+StaysKnown (all told) (all more) = Unit {0}
+StaysKnown (all told) (shows image shown) = ⊥
+StaysKnown (shows image shown) (all told) = ⊥
+StaysKnown (shows image shown) (shows same more) = same ≡ image
+
+-- whatever it was told before, this was added
+abbrev pub Given : Heard → Heard → List Notice → Type 0
+Given before after added = StaysKnown before after × ((ns : List Notice) → Hears before ns → Hears after (ns ++ added))
+
+-- the same, of the events among what was added
+abbrev pub Told : Heard → Heard → List Event → Type 0
+Told before after added = (ns : List Notice) × (events_part ns ≡ added) × Given before after ns
 
 -- the same, of the graph's events
-abbrev pub Tells : Option (List Notice) → Option (List Notice) → List GraphEvent → Type 0
+abbrev pub Tells : Heard → Heard → List GraphEvent → Type 0
 Tells before after added = Told before after (map flat added)

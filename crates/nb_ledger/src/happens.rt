@@ -18,6 +18,7 @@ use nb_terms::Cause;
 
 impl Book {
     /// Makes an object of this rank and kind, with the next serial.
+    #[tactic(auto, using(crate::proofs::RunLemmas::told_event))]
     pub fn make<O: Outside>(&mut self, rank: u8, kind: u8, out: &mut O) -> ObjId
         requires room { length self.old.objects < self.old.room }
         requires serial { self.old.made + 1 < 2 ^ 64 }
@@ -38,6 +39,7 @@ impl Book {
     }
 
     /// Adds a hold of a live object.
+    #[tactic(auto, using(crate::proofs::RunLemmas::told_event))]
     pub fn hold<O: Outside>(&mut self, id: ObjId, out: &mut O)
         requires lives { object_lives self.old id.0 ≡ true }
         requires fits { holds self.old id.0 + 1 < 2 ^ 32 }
@@ -54,6 +56,7 @@ impl Book {
     }
 
     /// Takes a hold of a live object. What is then to be freed is the caller's to free.
+    #[tactic(auto, using(crate::proofs::RunLemmas::told_event))]
     pub fn let_go<O: Outside>(&mut self, id: ObjId, out: &mut O)
         requires lives { object_lives self.old id.0 ≡ true }
         requires held { 0 < holds self.old id.0 }
@@ -70,6 +73,7 @@ impl Book {
     }
 
     /// Joins two open ports, the upper object's slot 1 to 3 and the lower object's slot 0.
+    #[tactic(auto, using(crate::proofs::RunLemmas::told_event))]
     pub fn plug<O: Outside>(&mut self, upper: Port, lower: Port, out: &mut O)
         requires upper_open { port self.old upper.obj.0 upper.slot ≡ state.Open }
         requires lower_open { port self.old lower.obj.0 lower.slot ≡ state.Open }
@@ -107,6 +111,7 @@ impl Book {
     }
 
     /// The same of the object at this place.
+    #[tactic(auto, using(crate::proofs::RunLemmas::told_event))]
     #[inline(always)]
     pub fn enter_in<O: Outside>(&mut self, at: Port, index: usize, by: Way, out: &mut O) -> bool
         requires lives { object_lives self.old at.obj.0 ≡ true }
@@ -126,6 +131,7 @@ impl Book {
     }
 
     /// An entry by the closing of a port begins; whether one of the object ran already.
+    #[tactic(auto, using(crate::proofs::RunLemmas::told_event))]
     pub fn enter_closed<O: Outside>(&mut self, at: Port, key: usize, out: &mut O) -> bool
         requires { object_lives self.old at.obj.0 ≡ true }
         ensures told { Tells (O.events out.old) (O.events out.new) (Entered at way.Close ∷ []) }
@@ -145,6 +151,7 @@ impl Book {
 
     /// The innermost entry ends, of the object at this place; `was` says whether one of it ran before.
     /// Returns whether the object is then unused.
+    #[tactic(auto, using(crate::proofs::RunLemmas::told_event))]
     #[inline(always)]
     pub fn leave<O: Outside>(&mut self, at: Port, index: usize, was: bool, out: &mut O) -> bool
         requires lives { object_lives self.old at.obj.0 ≡ true }
@@ -163,6 +170,7 @@ impl Book {
     }
 
     /// Closes an open port without a link.
+    #[tactic(auto, using(crate::proofs::RunLemmas::told_event))]
     pub fn close_alone<O: Outside>(&mut self, at: Port, cause: &Cause, out: &mut O)
         requires { port self.old at.obj.0 at.slot ≡ state.Open }
         ensures told { Tells (O.events out.old) (O.events out.new) (Closed at cause.now ∷ []) }
@@ -177,6 +185,7 @@ impl Book {
     }
 
     /// Closes the first end of a link.
+    #[tactic(auto, using(crate::proofs::RunLemmas::told_event))]
     pub fn close_first<O: Outside>(&mut self, at: Port, peer: Port, cause: &Cause, out: &mut O)
         requires { port self.old at.obj.0 at.slot ≡ state.Linked peer }
         ensures told { Tells (O.events out.old) (O.events out.new) (Closed at cause.now ∷ []) }
@@ -193,6 +202,7 @@ impl Book {
     }
 
     /// Closes the other end of a link.
+    #[tactic(auto, using(crate::proofs::RunLemmas::told_event))]
     pub fn close_peer<O: Outside>(&mut self, at: Port, peer: Port, cause: &Cause, out: &mut O)
         requires { port self.old at.obj.0 at.slot ≡ state.Linked peer }
         ensures told { Tells (O.events out.old) (O.events out.new) (Closed at cause.now ∷ []) }
@@ -207,6 +217,7 @@ impl Book {
     }
 
     /// Takes a link away whose ends are closed.
+    #[tactic(auto, using(crate::proofs::RunLemmas::told_event))]
     pub fn unplug<O: Outside>(&mut self, first: Port, other: Port, out: &mut O)
         requires first { port self.old first.obj.0 first.slot ≡ state.Leaving other }
         requires other { port self.old other.obj.0 other.slot ≡ state.Leaving first }
@@ -226,6 +237,7 @@ impl Book {
     }
 
     /// Frees an object whose count is 0.
+    #[tactic(auto, using(crate::proofs::RunLemmas::told_event))]
     pub fn free<O: Outside>(&mut self, id: ObjId, out: &mut O)
         requires { object_lives self.old id.0 ≡ true }
         ensures told { Tells (O.events out.old) (O.events out.new) (Freed id ∷ []) }

@@ -1,4 +1,5 @@
-ghost use Rattle.std.specs.Prelude.{◌≡◌, ◌≤◌, None, true};
+ghost use Rattle.std.specs.Prelude.{◌≡◌, ◌≤◌, true};
+ghost use Rattle.nb_ledger.specs.Flat.{unknown};
 ghost use Rattle.nb_ledger.specs.Ledger.{object_lives, rank};
 
 use crate::{Ask, Load, Obj, Tag};
@@ -40,7 +41,7 @@ struct Tape {
 }
 
 impl Outside for Tape {
-    ghost events = { λ _. None };
+    ghost events = { λ _. unknown };
 
     fn event(&mut self, e: &Event) {
         let _ = self

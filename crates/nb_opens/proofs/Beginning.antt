@@ -4,7 +4,7 @@ use Rattle.std.proofs.lemmas.Bool.{lt-ltb, eq-eqb}
 use Rattle.std.proofs.Math.Seq.{take-length}
 use Rattle.nb_ledger.specs.declared.event.Way.TheVariants as way
 use Rattle.nb_ledger.specs.declared.event.GraphEvent.TheVariants.{Entered, Left}
-use Rattle.nb_ledger.specs.Flat.{Notice, event, flat}
+use Rattle.nb_ledger.specs.Flat.{Heard, event, flat}
 use Rattle.nb_ledger.specs.Ledger.{open_count, port as port_in}
 use Rattle.nb_graph.specs.declared.effects.Fx.{Fx}
 use Rattle.nb_graph.specs.Trace.{NodeEntry, Said, down, bytes_between}
@@ -92,7 +92,7 @@ begin_ends c s a b v ds g =
       end.4,
     )
 
-module _ (g h : Objects Obj) (m n : Option (List Notice)) (now f t rec : ℕ) (a : AskValue) (bytes : List ℕ) where
+module _ (g h : Objects Obj) (m n : Heard) (now f t rec : ℕ) (a : AskValue) (bytes : List ℕ) where
   abbrev Begins : Type 0
   Begins = Started g h m n now f t (Offers (port_at f 0) (begin_message rec bytes) ∷ []) [] [] unbegun
 

@@ -3,7 +3,7 @@ use Rattle.std.proofs.Common.{◌≡◌, ℕ, ◌<◌, ◌≤◌, true, List, []
 use Rattle.std.proofs.lemmas.Bool.{ne_eqb}
 use Rattle.nb_terms.specs.declared.cause.Cause.{Cause}
 use Rattle.nb_ledger.specs.declared.event.GraphEvent.TheVariants.{Closed}
-use Rattle.nb_ledger.specs.Flat.{Notice}
+use Rattle.nb_ledger.specs.Flat.{Heard}
 use Rattle.nb_ledger.specs.GraphRun.{GraphRunOf, new_ports}
 use Rattle.nb_ledger.specs.Ledger.{object_lives, holds, rank, run_state}
 use Rattle.nb_ledger.proofs.PortLemmas.{held-live}
@@ -71,7 +71,7 @@ stays_beside (Some v) h x ds seen kept none = (
 )
 
 -- a call that makes nothing up to k and asks for no hold
-module _ (g h : Objects Obj) (m n : Option (List Notice)) (now k : ℕ) (asks : List (Stage Obj Load)) (ds : List (Deed Obj Load)) where
+module _ (g h : Objects Obj) (m n : Heard) (now k : ℕ) (asks : List (Stage Obj Load)) (ds : List (Deed Obj Load)) where
   bystands : (v : Waiter) → IsWaiting g v → waiter_serial v ≤ k → k ≤ g.book.made → AreQuiet k asks → (w : WentOne ObjStands obj_nature now asks g h m n) → all_of w.deeds ≡ ds
       → UsesStack obj_nature now (scene_of g.book) asks ds (scene_of h.book) → Bystands h v ds
   bystands v waits low high quiet w all uses =

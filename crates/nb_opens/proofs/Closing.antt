@@ -5,7 +5,7 @@ use Rattle.nb_terms.specs.declared.cause.Cause.{Cause}
 use Rattle.nb_ledger.specs.declared.port.PortState.TheVariants.{Open, Linked, Closed as Shut}
 use Rattle.nb_ledger.specs.declared.event.Way.TheVariants as way
 use Rattle.nb_ledger.specs.declared.event.GraphEvent.TheVariants.{Closed, Entered, Left, Unplugged}
-use Rattle.nb_ledger.specs.Flat.{Notice, Given}
+use Rattle.nb_ledger.specs.Flat.{Heard, Notice, Given}
 use Rattle.nb_ledger.proofs.RunLemmas.{Given-append}
 use Rattle.nb_graph.specs.declared.effects.Fx.{Fx}
 use Rattle.nb_graph.specs.Trace.{NodeEntry, closed, silence}
@@ -76,7 +76,7 @@ passes_on v _ z now fx e (ends _ _ fatal passes) = passes
 passes_on v _ z now fx e (rests _ _ idle asks) = absurd (let i = sym (ap (λ q. not (not q && nat_lt 0 2)) e) ∙ idle in cc)
 
 -- the user's port is closed
-pub record UserShut (g a : Objects Obj) (m n : Option (List Notice)) (f t : ℕ) (z : Cause) (w : Goings g f t) : Type 0 where
+pub record UserShut (g a : Objects Obj) (m n : Heard) (f t : ℕ) (z : Cause) (w : Goings g f t) : Type 0 where
   pub two : AreTwo a f t
   pub seen : Sees (scene_of a.book) f t Shut (Linked (port_at t 0)) (Linked (port_at f 1)) Open
   pub below : List (NodeEntry Obj Load)
@@ -86,7 +86,7 @@ pub record UserShut (g a : Objects Obj) (m n : Option (List Notice)) (f t : ℕ)
   pub unharvested : AreUnharvested a f t
   pub told : Given m n (tells (Closed (port_at f 0) z) ∷ [])
 
-module _ (g a : Objects Obj) (m n : Option (List Notice)) (now f t : ℕ) (z : Cause) where
+module _ (g a : Objects Obj) (m n : Heard) (now f t : ℕ) (z : Cause) where
   pub user_shut : (w : Goings g f t) → AreNoded rank_of_obj a → WentOne ObjStands obj_nature now (Closes (port_at f 0) z ∷ []) g a m n → UserShut g a m n f t z w
   user_shut w noded k =
       let asks : List (Stage Obj Load) = Closes (port_at f 0) z ∷ [] in
@@ -155,7 +155,7 @@ module _ (c : Case) (s : Scene) (a : List (NodeEntry Obj Load)) (v : Conversatio
         at = subst (λ y. At c (after_noted (Unplugged (port_at f 1) (port_at t 0)) s3) gs a x.1 y ds) (simp append_assoc) five;
       }
 
-module _ (g a h : Objects Obj) (m n o : Option (List Notice)) (now f t : ℕ) (z : Cause) where
+module _ (g a h : Objects Obj) (m n o : Heard) (now f t : ℕ) (z : Cause) where
   pub both_shut : (w : Goings g f t) → UserShut g a m n f t z w → AreNoded rank_of_obj h → WentOne ObjStands obj_nature now (Closes (port_at f 1) z ∷ []) a h n o
       → HasEnded h f t None × Given m o (closed_notices f t z)
   both_shut w u noded k =

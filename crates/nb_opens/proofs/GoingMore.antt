@@ -6,7 +6,7 @@ use Rattle.nb_ledger.specs.declared.port.PortState.TheVariants as port
 use Rattle.nb_ledger.specs.declared.event.Way.TheVariants as way
 use Rattle.nb_ledger.specs.declared.event.GraphEvent.{GraphEvent}
 use Rattle.nb_ledger.specs.declared.event.GraphEvent.TheVariants.{Entered}
-use Rattle.nb_ledger.specs.Flat.{Notice, event, flat}
+use Rattle.nb_ledger.specs.Flat.{Heard, event, flat}
 use Rattle.nb_ledger.specs.Ledger.{open_count, object_lives, port as port_in}
 use Rattle.nb_graph.specs.declared.effects.Fx.{Fx}
 use Rattle.nb_graph.specs.Whole.{Objects, port_at}
@@ -69,7 +69,7 @@ module _ (c : Case) (s : Scene) (gs : List (Stage Obj Load)) (a b : List (NodeEn
       (k.0, k.1, t.0, t.1, (k.2.0, ap told_of k.2.1, record { uses = k.2.2; tail = t.2 }))
 
 -- the two still live after a call, held and ranked as before, where the graph is seen so then
-module _ (g h : Objects Obj) (m n : Option (List Notice)) (now f t : ℕ) (asks : List (Stage Obj Load)) (above below : List (NodeEntry Obj Load)) (v : Conversation) (s : Scene) where
+module _ (g h : Objects Obj) (m n : Heard) (now f t : ℕ) (asks : List (Stage Obj Load)) (above below : List (NodeEntry Obj Load)) (v : Conversation) (s : Scene) where
   pub two-after : AreTwo g f t → Started g h m n now f t asks above below v → s ≡ scene_of h.book → s.made ≡ g.book.made → s.room ≡ g.book.room → ((x : ℕ) → s.live x ≡ object_lives g.book x)
       → s.port f 2 ≡ port.Open → s.port f 3 ≡ port.Open → s.port t 2 ≡ port.Open → s.port t 3 ≡ port.Open → AreTwo h f t
   two-after two st e made room live f2 f3 t2 t3 =

@@ -8,7 +8,7 @@ use Rattle.nb_ledger.specs.declared.port.Port.{Port}
 use Rattle.nb_ledger.specs.declared.event.Way.{Way}
 use Rattle.nb_ledger.specs.declared.event.Way.TheVariants as way
 use Rattle.nb_ledger.specs.declared.event.GraphEvent.TheVariants.{Entered}
-use Rattle.nb_ledger.specs.Flat.{Notice}
+use Rattle.nb_ledger.specs.Flat.{Heard}
 use Rattle.nb_graph.specs.declared.effects.Fx.{Fx}
 use Rattle.nb_graph.specs.Whole.{Objects, port_at}
 use Rattle.nb_graph.specs.Trace.{NodeEntry, Said, up, time, silence, left}
@@ -75,7 +75,7 @@ body_so : (ok : Bool) (body taken : List ℕ) → taken ≡ body → IfSome (if 
 body_so true body taken e = e
 body_so false body taken e = tt
 
-module _ (g h : Objects Obj) (m n : Option (List Notice)) (now f t : ℕ) (asks : List (Stage Obj Load)) (above below : List (NodeEntry Obj Load)) (b : Begun) (start : ℕ) (calls : List Step) (st : Started g h m n now f t asks above below (under_way b start calls))
+module _ (g h : Objects Obj) (m n : Heard) (now f t : ℕ) (asks : List (Stage Obj Load)) (above below : List (NodeEntry Obj Load)) (b : Begun) (start : ℕ) (calls : List Step) (st : Started g h m n now f t asks above below (under_way b start calls))
     (was : AreUnharvested g f t) (body : List ℕ) (p : Port) (by : Way) (rec : ℕ) (call : Call) (acts : Acts) where
   abbrev all_calls : List Step
   all_calls = calls ++ entry call acts ∷ []
@@ -126,7 +126,7 @@ module _ (g h : Objects Obj) (m n : Option (List Notice)) (now f t : ℕ) (asks 
   call_does (gives_up first) = fails first
 
 -- from what was known before the call
-module _ (g h : Objects Obj) (m n : Option (List Notice)) (now f t : ℕ) (asks : List (Stage Obj Load)) (b : Begun) (start : ℕ) (calls : List Step) (body : List ℕ) (d : Downloads g f t b start calls body)
+module _ (g h : Objects Obj) (m n : Heard) (now f t : ℕ) (asks : List (Stage Obj Load)) (b : Begun) (start : ℕ) (calls : List Step) (body : List ℕ) (d : Downloads g f t b start calls body)
     (st : Started g h m n now f t asks d.above d.below (under_way b start calls)) where
   abbrev call_case : Case
   call_case = case_of now f t st.apart h st.top st.bottom st.talk
@@ -155,7 +155,7 @@ datagram_in rec port bytes = record { tag = 2; rec = rec; a = port; b = 0; bytes
 is_datagram_in : (rec port : ℕ) (bytes : List ℕ) → port < 2 ^ 16 → is_datagram 1 (datagram_in rec port bytes) ≡ true
 is_datagram_in rec port bytes i = lt-ltb port (2 ^ 16) i
 
-pub hear_does : (g h : Objects Obj) (m n : Option (List Notice)) (now f t rec port : ℕ) (bytes : List ℕ)
+pub hear_does : (g h : Objects Obj) (m n : Heard) (now f t rec port : ℕ) (bytes : List ℕ)
     → IsDownloading g f t → port < 2 ^ 16 → length bytes < 2 ^ 32 → AreNoded rank_of_obj h
     → WentOne ObjStands obj_nature now (Offers (port_at t 1) (record { tag = 2; rec = rec; a = port; b = 0; bytes = bytes }) ∷ []) g h m n
     → DoesCall g h f t (port_at t 1) way.Up rec (came (received rec port bytes) now) m n
@@ -175,7 +175,7 @@ hear_does g h m n now f t rec port bytes some i j noded k =
           subst (λ ds. CallDoes h f t b start calls body (port_at t 1) way.Up rec call (told_of ds)) z.1 r,
     )
 
-pub tick_does : (g h : Objects Obj) (m n : Option (List Notice)) (now f t : ℕ)
+pub tick_does : (g h : Objects Obj) (m n : Heard) (now f t : ℕ)
     → IsDownloading g f t → AreNoded rank_of_obj h
     → WentOne ObjStands obj_nature now (Ticks t ∷ []) g h m n
     → DoesCall g h f t (port_at t 4) way.Time 0 (ticked now) m n

@@ -8,7 +8,7 @@ use Rattle.nb_ledger.specs.declared.port.PortState.{PortState}
 use Rattle.nb_ledger.specs.declared.port.PortState.TheVariants as port
 use Rattle.nb_ledger.specs.declared.event.Way.{Way}
 use Rattle.nb_ledger.specs.declared.event.GraphEvent.TheVariants.{Entered, Left, Closed}
-use Rattle.nb_ledger.specs.Flat.{Notice}
+use Rattle.nb_ledger.specs.Flat.{Heard, Notice}
 use Rattle.nb_ledger.specs.GraphRun.{but_at, new_ports}
 use Rattle.nb_ledger.specs.Ledger.{open_count}
 use Rattle.nb_graph.specs.declared.effects.Fx.{Fx}
@@ -155,7 +155,7 @@ meets_either : {S B C : Type 0} (svc : Service S B C) (o : Bool) (b : B) (start 
 meets_either svc true b start calls h = h
 meets_either svc false b start calls h = h
 
-module _ {S B C : Type 0} (among : Company) (svc : Service S B C) (kind : ℕ) (g h : Objects Obj) (m n : Option (List Notice)) (now x : ℕ) (asks : List (Stage Obj Load)) (v : Exchange B C) (st : LoneStarted among svc kind g h m n now x asks v) where
+module _ {S B C : Type 0} (among : Company) (svc : Service S B C) (kind : ℕ) (g h : Objects Obj) (m n : Heard) (now x : ℕ) (asks : List (Stage Obj Load)) (v : Exchange B C) (st : LoneStarted among svc kind g h m n now x asks v) where
   -- an exchange under way after the call
   pub still_talks : (b : B) (start : ℕ) (calls : List C) → Seen among (scene_of h.book) x new_ports → EntersNone x st.deeds → asking b start calls ≡ st.last → TalksBy among svc kind h x b start calls
   still_talks b start calls seen none same = record {

@@ -4,7 +4,7 @@ use Rattle.std.proofs.lemmas.Bool.{eq-eqb}
 use Rattle.nb_terms.specs.declared.cause.Cause.{Cause}
 use Rattle.nb_ledger.specs.declared.event.Way.TheVariants as way
 use Rattle.nb_ledger.specs.declared.event.GraphEvent.TheVariants.{Entered}
-use Rattle.nb_ledger.specs.Flat.{Notice}
+use Rattle.nb_ledger.specs.Flat.{Heard, Notice}
 use Rattle.nb_ledger.specs.GraphRun.{new_ports}
 use Rattle.nb_ledger.specs.Ledger.{open_count}
 use Rattle.nb_graph.specs.declared.effects.Fx.{Fx}
@@ -32,7 +32,7 @@ use Rattle.nb_opens.proofs.LoneWalks.{Walk, past_end, as_stages, at_rest}
 use Rattle.nb_opens.proofs.LoneCalls.{slots_at, call_done, called, whole_taken, hears, hears_time, ignores, still_talks, answers_so}
 
 -- a message of no exchange: what the node answered
-module _ {S B C : Type 0} (among : Company) (svc : Service S B C) (known : B → List C → Type 0) (kind : ℕ) (law : IsKind svc known kind) (g h : Objects Obj) (m n : Option (List Notice)) (now x : ℕ) (said : Said) where
+module _ {S B C : Type 0} (among : Company) (svc : Service S B C) (known : B → List C → Type 0) (kind : ℕ) (law : IsKind svc known kind) (g h : Objects Obj) (m n : Heard) (now x : ℕ) (said : Said) where
   abbrev Starts : List (Stage Obj Load) → Exchange B C → Type 0
   Starts asks v = LoneStarted among svc kind g h m n now x asks v
 
@@ -73,7 +73,7 @@ module _ {S B C : Type 0} (among : Company) (svc : Service S B C) (known : B →
       (offer_up obj_nature now (scene_of g.book) (scene_of h.book) (port_at x 1) said [] st.walk.left (omega arith) (t.lone.ports 1) st.walk.uses) in
       (told_of st.deeds, st.told, received_so b start calls st c.done c.fx c.next (svc.takes 1 said) t.lone refl small c.goes c.walk)
 
-module _ {S B C : Type 0} (among : Company) (svc : Service S B C) (known : B → List C → Type 0) (kind : ℕ) (law : IsKind svc known kind) (g h : Objects Obj) (m n : Option (List Notice)) (now x : ℕ) where
+module _ {S B C : Type 0} (among : Company) (svc : Service S B C) (known : B → List C → Type 0) (kind : ℕ) (law : IsKind svc known kind) (g h : Objects Obj) (m n : Heard) (now x : ℕ) where
   pub tick_does : AreNoded rank_of_obj h → WentOne ObjStands obj_nature now (Ticks x ∷ []) g h m n → DoesTickBy among svc kind g h x now m n
   tick_does noded k = λ b start calls t.
       let asks : List (Stage Obj Load) = Ticks x ∷ [] in
@@ -111,7 +111,7 @@ began {S} {B} {C} svc b m now true fx _ tag ask (is_begun c _ _ _ tag2 ask2 effe
 began svc b m now true fx _ tag ask (is_ended _ _ fatal passes) = absurd (let z = fatal in cc)
 began svc b m now true fx _ tag ask (stays_idle _ _ idle nothing) = absurd (let z = sym (ap not (does_begin svc b m tag ask)) ∙ idle in cc)
 
-module _ {S B C : Type 0} (among : Company) (svc : Service S B C) (known : B → List C → Type 0) (kind : ℕ) (law : IsKind svc known kind) (g h : Objects Obj) (m n : Option (List Notice)) (now x : ℕ) (said : Said) (b : B) where
+module _ {S B C : Type 0} (among : Company) (svc : Service S B C) (known : B → List C → Type 0) (kind : ℕ) (law : IsKind svc known kind) (g h : Objects Obj) (m n : Heard) (now x : ℕ) (said : Said) (b : B) where
   begins_so : (st : LoneStarted among svc kind g h m n now x (Offers (port_at x 0) said ∷ []) not_begun) (done : Bool) (fx : Fx Obj Load) (w : Exchange B C) → IsOpenLoneBy among g x → (svc.opening b).over ≡ None → Began svc b said now done fx w
       → Walk svc now x (scene_of h.book) st.last (scene_of g.book) (runs_of obj_nature x said done fx ++ Holds (port_at x 0) way.Down None ∷ []) w (tells (Entered (port_at x 0) way.Down) ∷ []) st.deeds
       → BeginsBy among svc kind h x b now said.rec (told_of st.deeds)

@@ -6,7 +6,7 @@ use Rattle.nb_terms.specs.declared.cause.Cause.{Cause}
 use Rattle.nb_ledger.specs.declared.port.PortState.{PortState}
 use Rattle.nb_ledger.specs.declared.port.PortState.TheVariants as port
 use Rattle.nb_ledger.specs.declared.event.GraphEvent.TheVariants.{Closed}
-use Rattle.nb_ledger.specs.Flat.{Notice, Given}
+use Rattle.nb_ledger.specs.Flat.{Heard, Given}
 use Rattle.nb_ledger.specs.GraphRun.{GraphRunOf, but_at}
 use Rattle.nb_ledger.specs.Ledger.{object_lives, holds, run_state}
 use Rattle.nb_ledger.proofs.PortLemmas.{held-live}
@@ -163,7 +163,7 @@ seen_closed by s x j c f h o = record {
 }
 
 -- what a call is to be read from
-pub record LoneStarted {S B C : Type 0} (by : Company) (svc : Service S B C) (kind : ℕ) (g h : Objects Obj) (m n : Option (List Notice)) (now x : ℕ) (asks : List (Stage Obj Load)) (v : Exchange B C) : Type 0 where
+pub record LoneStarted {S B C : Type 0} (by : Company) (svc : Service S B C) (kind : ℕ) (g h : Objects Obj) (m n : Heard) (now x : ℕ) (asks : List (Stage Obj Load)) (v : Exchange B C) : Type 0 where
   pub deeds : List (Deed Obj Load)
   pub told : Given m n (told_of deeds)
   pub last : Exchange B C
@@ -176,7 +176,7 @@ pub record LoneStarted {S B C : Type 0} (by : Company) (svc : Service S B C) (ki
   pub held : holds h.book x ≡ 1
   pub beside : BystandsBeside by.beside h deeds
 
-module _ {S B C : Type 0} (by : Company) (svc : Service S B C) (known : B → List C → Type 0) (kind : ℕ) (law : IsKind svc known kind) (g h : Objects Obj) (m n : Option (List Notice)) (now x : ℕ) (asks : List (Stage Obj Load)) (trace : List (NodeEntry Obj Load)) (v : Exchange B C) where
+module _ {S B C : Type 0} (by : Company) (svc : Service S B C) (known : B → List C → Type 0) (kind : ℕ) (law : IsKind svc known kind) (g h : Objects Obj) (m n : Heard) (now x : ℕ) (asks : List (Stage Obj Load)) (trace : List (NodeEntry Obj Load)) (v : Exchange B C) where
   pub lone_started : IsOpenLoneBy by g x → ObjectStands ObjStands g x trace → LeadsTo svc not_begun trace v → MeetsAt svc v → IsOfKind g x kind → AreNoded rank_of_obj h → AreQuiet by.made asks
       → WentOne ObjStands obj_nature now asks g h m n → LoneStarted by svc kind g h m n now x asks v
   lone_started lone stands run meets is noded quiet k =

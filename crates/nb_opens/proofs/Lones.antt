@@ -6,7 +6,7 @@ use Rattle.nb_ledger.specs.declared.port.ObjId.{ObjId}
 use Rattle.nb_ledger.specs.declared.port.PortState.{PortState}
 use Rattle.nb_ledger.specs.declared.port.PortState.TheVariants as port
 use Rattle.nb_ledger.specs.declared.event.GraphEvent.TheVariants.{Made, Held, LetGo, Closed}
-use Rattle.nb_ledger.specs.Flat.{Notice, Given}
+use Rattle.nb_ledger.specs.Flat.{Heard, Given}
 use Rattle.nb_ledger.specs.GraphRun.{but_at, link_count, links, new_ports}
 use Rattle.nb_ledger.specs.Ledger.{object_lives, holds, port as port_in, run_state}
 use Rattle.nb_ledger.proofs.RunLemmas.{Given-append}
@@ -44,7 +44,7 @@ at_least_five Resolver = omega arith
 at_least_five Dhcp = omega arith
 at_least_five Ping = omega arith
 
-module _ (g h : Objects Obj) (m n : Option (List Notice)) (x : ObjId) (node : Obj) (kind : AloneKind) where
+module _ (g h : Objects Obj) (m n : Heard) (x : ObjId) (node : Obj) (kind : AloneKind) where
   pub ready_made : IsEmpty g g.book.made → ObjStands node [] → kind_of_obj node ≡ alone_number kind → IsMade g h node (rank_of_obj node) x
       → WentOne ObjStands obj_nature 0 (MustMake x node ∷ Wants (Held x) ∷ []) g h m n → IsReady h x.0 (alone_number kind) × Given m n (alone_made x.0 (alone_number kind))
   ready_made e stands is made k =
@@ -100,14 +100,14 @@ dead_still : (b : Option Waiter) (f g : ℕ → Bool) (y : ℕ) → g y ≡ f y 
 dead_still None f g y e h = e ∙ h
 dead_still (Some v) f g y e h = λ a. e ∙ h a
 
-beside_close : (b : Option Waiter) (g h : Objects Obj) (m n : Option (List Notice)) (x j made : ℕ) (c : Cause) → ClosesAlone g h m n (port_at x j) c → x ≤ made → g.book.made ≡ made → StaysBeside b g x → StaysBeside b h x
+beside_close : (b : Option Waiter) (g h : Objects Obj) (m n : Heard) (x j made : ℕ) (c : Cause) → ClosesAlone g h m n (port_at x j) c → x ≤ made → g.book.made ≡ made → StaysBeside b g x → StaysBeside b h x
 beside_close None g h m n x j made c z low last s = tt
 beside_close (Some v) g h m n x j made c z low last s =
     let lt = s.0 in
     (lt, waits_on v s.1 (close_keeps (waiter_serial v) z (λ e. omega (arith, e, lt)) (omega (arith, lt, low, last))))
 
 -- one of its ports is closed
-pub slot_closed : (by : Company) (g h : Objects Obj) (m n : Option (List Notice)) (now x slot : ℕ) (c : Cause) (f : ℕ → PortState) → IsLoneBy by g x f → f slot ≡ port.Open
+pub slot_closed : (by : Company) (g h : Objects Obj) (m n : Heard) (now x slot : ℕ) (c : Cause) (f : ℕ → PortState) → IsLoneBy by g x f → f slot ≡ port.Open
     → WentOne ObjStands obj_nature now (Closes (port_at x slot) c ∷ []) g h m n → IsLoneBy by h x (λ k. but_at slot port.Closed f k) × Given m n (tells (Closed (port_at x slot) c) ∷ [])
 slot_closed by g h m n now x slot c f l o k =
     let z = closes_alone g h m n now (port_at x slot) c (l.ports slot ∙ o) k in (
@@ -138,7 +138,7 @@ pub lone_held : (by : Company) (g : Objects Obj) (x : ℕ) (f : ℕ → PortStat
 lone_held by g x f l = omega (arith, l.held)
 
 -- after it is let go what lived beside it is left
-left_alone : (b : Option Waiter) (made : ℕ) (g h : Objects Obj) (m n : Option (List Notice)) (x : ℕ) (f : ℕ → PortState) → IsLoneBy (company_with b made) g x f → LetsGo g h m n x → HoldsOnly b h made
+left_alone : (b : Option Waiter) (made : ℕ) (g h : Objects Obj) (m n : Heard) (x : ℕ) (f : ℕ → PortState) → IsLoneBy (company_with b made) g x f → LetsGo g h m n x → HoldsOnly b h made
 left_alone None made g h m n x f l one =
     let dead : (y : ℕ) → object_lives h.book y ≡ false = λ y. elim (cases_eq y x) [
       | inl e ↦ one.live y ∙ rw (eq-eqb y x e) refl
@@ -161,13 +161,13 @@ left_alone (Some v) made g h m n x f l one =
     }
 
 -- it is let go without a link
-pub lone_goes : (by : Company) (g h : Objects Obj) (m n : Option (List Notice)) (x : ℕ) (f : ℕ → PortState) → IsLoneBy by g x f → link_count (f 0) ≡ 0 → link_count (f 1) ≡ 0 → link_count (f 2) ≡ 0 → link_count (f 3) ≡ 0
+pub lone_goes : (by : Company) (g h : Objects Obj) (m n : Heard) (x : ℕ) (f : ℕ → PortState) → IsLoneBy by g x f → link_count (f 0) ≡ 0 → link_count (f 1) ≡ 0 → link_count (f 2) ≡ 0 → link_count (f 3) ≡ 0
     → WentOne ObjStands obj_nature 0 (Wants (LetGo (serial x)) ∷ []) g h m n → HoldsOnly by.beside h by.made × Given m n (alone_freed x)
 lone_goes by g h m n x f l p q r s k =
     let one = lets_one_go g h m n 0 (serial x) l.held (no_links by g x f l p q r s) k in
     (left_alone by.beside by.made g h m n x f l one, one.told)
 
-module _ (by : Company) (g a h : Objects Obj) (m n o : Option (List Notice)) (now x : ℕ) (c : Cause) where
+module _ (by : Company) (g a h : Objects Obj) (m n o : Heard) (now x : ℕ) (c : Cause) where
   -- the user's two closes
   pub both_slots : IsOpenLoneBy by g x → WentOne ObjStands obj_nature now (Closes (port_at x 0) c ∷ []) g a m n → WentOne ObjStands obj_nature now (Closes (port_at x 1) c ∷ []) a h n o
       → IsShutLoneBy by h x × Given m o (alone_closed x c)
@@ -180,7 +180,7 @@ module _ (by : Company) (g a h : Objects Obj) (m n o : Option (List Notice)) (no
 abbrev pub no_slots : ℕ → PortState
 no_slots k = but_at 3 port.Closed (λ i. but_at 2 port.Closed (λ j. but_at 1 port.Closed (λ l. but_at 0 port.Closed new_ports l) j) i) k
 
-module _ (by : Company) (g a h : Objects Obj) (m n o : Option (List Notice)) (now x : ℕ) (c : Cause) where
+module _ (by : Company) (g a h : Objects Obj) (m n o : Heard) (now x : ℕ) (c : Cause) where
   pub free_slots : IsShutLoneBy by g x → WentOne ObjStands obj_nature now (Closes (port_at x 2) c ∷ []) g a m n → WentOne ObjStands obj_nature now (Closes (port_at x 3) c ∷ []) a h n o
       → IsLoneBy by h x no_slots × Given m o (tells (Closed (port_at x 2) c) ∷ tells (Closed (port_at x 3) c) ∷ [])
   free_slots l i j =
@@ -188,7 +188,7 @@ module _ (by : Company) (g a h : Objects Obj) (m n o : Option (List Notice)) (no
       let two = slot_closed by a h n o now x 3 c (λ k. but_at 2 port.Closed (λ z. but_at 1 port.Closed (λ w. but_at 0 port.Closed new_ports w) z) k) one.0 refl j in
       (two.0, Given-append m n o _ _ one.1 two.1)
 
-pub shut_goes : (by : Company) (g a b h : Objects Obj) (l m n o p : Option (List Notice)) (now x : ℕ) (c : Cause) → IsShutLoneBy by g x → Given l m (alone_closed x c)
+pub shut_goes : (by : Company) (g a b h : Objects Obj) (l m n o p : Heard) (now x : ℕ) (c : Cause) → IsShutLoneBy by g x → Given l m (alone_closed x c)
     → WentOne ObjStands obj_nature now (Closes (port_at x 2) c ∷ []) g a m n → WentOne ObjStands obj_nature now (Closes (port_at x 3) c ∷ []) a b n o
     → WentOne ObjStands obj_nature 0 (Wants (LetGo (serial x)) ∷ []) b h o p → HoldsOnly by.beside h by.made × Given l p (alone_shut x c)
 shut_goes by g a b h l m n o p now x c shut told i j k =
@@ -197,7 +197,7 @@ shut_goes by g a b h l m n o p now x c shut told i j k =
     (end.0, Given-append l m p _ _ told (Given-append m o p _ _ free.1 end.1))
 
 -- all of its ports were closed
-module _ (by : Company) (g h : Objects Obj) (m n : Option (List Notice)) (now x : ℕ) (c : Cause) where
+module _ (by : Company) (g h : Objects Obj) (m n : Heard) (now x : ℕ) (c : Cause) where
   pub all_slots : IsOpenLoneBy by g x → ClosesAll g h m n x now c → IsLoneBy by h x no_slots × Given m n (all_closed x c)
   all_slots l k =
       let a = both_slots by g k.graphs.0 k.graphs.1 m k.told.0 k.told.1 now x c l k.first k.second in
@@ -205,7 +205,7 @@ module _ (by : Company) (g h : Objects Obj) (m n : Option (List Notice)) (now x 
       (b.0, Given-append m k.told.1 n _ _ a.1 b.1)
 
   -- and then it was let go
-  pub one_shut : (q : Objects Obj) (o : Option (List Notice)) → IsOpenLoneBy by g x → ClosesAll g h m n x now c → WentOne ObjStands obj_nature 0 (Wants (LetGo (serial x)) ∷ []) h q n o
+  pub one_shut : (q : Objects Obj) (o : Heard) → IsOpenLoneBy by g x → ClosesAll g h m n x now c → WentOne ObjStands obj_nature 0 (Wants (LetGo (serial x)) ∷ []) h q n o
       → HoldsOnly by.beside q by.made × Given m o (beside_shut None x c)
   one_shut q o l k w =
       let all = all_slots l k in

@@ -8,7 +8,7 @@ use Rattle.nb_ledger.specs.declared.port.ObjId.{ObjId}
 use Rattle.nb_ledger.specs.declared.port.PortState.{PortState}
 use Rattle.nb_ledger.specs.declared.port.PortState.TheVariants as port
 use Rattle.nb_ledger.specs.declared.event.GraphEvent.TheVariants.{Made, Held, Plugged}
-use Rattle.nb_ledger.specs.Flat.{Notice, Given}
+use Rattle.nb_ledger.specs.Flat.{Heard, Given}
 use Rattle.nb_ledger.specs.GraphRun.{GraphRunOf, GraphState, but_at, new_ports, port_but, ports_but}
 use Rattle.nb_ledger.specs.Ledger.{object_lives, holds, rank, port as port_in, run_state}
 use Rattle.nb_ledger.proofs.RunLemmas.{Given-append}
@@ -59,7 +59,7 @@ plugged_holds : (p q : Port) (s t : GraphState) → GraphRunOf s (Plugged p q �
 plugged_holds p q s t (a, step, run) = ap (λ (z : GraphState). z.holds) (sym run ∙ step.5)
 
 -- one object was made
-pub record OneMade (g h : Objects Obj) (m n : Option (List Notice)) (x : ℕ) (node : Obj) : Type 0 where
+pub record OneMade (g h : Objects Obj) (m n : Heard) (x : ℕ) (node : Obj) : Type 0 where
   pub made : h.book.made ≡ x
   pub room : h.book.room ≡ g.book.room
   pub number : length h.book.objects ≡ length g.book.objects + 1
@@ -85,7 +85,7 @@ either false e = refl
 no_trace : (y x : ℕ) (n : Obj) (kind : ℕ) (i : ObjId) → trace_after {N = Obj} {L = Load} y [] (writes (Made i kind) ∷ begins x n ∷ writes (Held i) ∷ []) ≡ []
 no_trace y x n kind i = either (eqb y x) []
 
-module _ (g h : Objects Obj) (m n : Option (List Notice)) (now : ℕ) (x : ObjId) (node : Obj) where
+module _ (g h : Objects Obj) (m n : Heard) (now : ℕ) (x : ObjId) (node : Obj) where
   pub one_made : ObjStands node [] → IsMade g h node (rank_of_obj node) x → WentOne ObjStands obj_nature now (MustMake x node ∷ Wants (Held x) ∷ []) g h m n → OneMade g h m n x.0 node
   one_made stands is k =
       let one = only_call obj_nature (scene_of g.book) (scene_of h.book) (record { now = now; asks = MustMake x node ∷ Wants (Held x) ∷ [] }) k.deeds k.each in
@@ -113,7 +113,7 @@ module _ (g h : Objects Obj) (m n : Option (List Notice)) (now : ℕ) (x : ObjId
       }
 
 -- of another object all is as it was
-pub made_keeps : {g h : Objects Obj} {m n : Option (List Notice)} {x : ℕ} {node : Obj} (y : ℕ) → OneMade g h m n x node → (y ≡ x → ⊥) → y ≤ g.book.made → KeepsOne g h y
+pub made_keeps : {g h : Objects Obj} {m n : Heard} {x : ℕ} {node : Obj} (y : ℕ) → OneMade g h m n x node → (y ≡ x → ⊥) → y ≤ g.book.made → KeepsOne g h y
 made_keeps {x = x} y one apart old = record {
   live = one.live y ∙ rw (ne_eqb y x apart) refl;
   held = one.others y apart;
@@ -124,7 +124,7 @@ made_keeps {x = x} y one apart old = record {
 }
 
 -- what is made on an empty graph waits
-pub made_waits : {g h : Objects Obj} {m n : Option (List Notice)} {node : Obj} (v : Waiter) → IsEmpty g g.book.made → OneMade g h m n (waiter_serial v) node → rank_of_obj node ≡ 5 → mark_of_obj node ≡ waiter_mark v
+pub made_waits : {g h : Objects Obj} {m n : Heard} {node : Obj} (v : Waiter) → IsEmpty g g.book.made → OneMade g h m n (waiter_serial v) node → rank_of_obj node ≡ 5 → mark_of_obj node ≡ waiter_mark v
     → Waits h v (waiter_serial v)
 made_waits v e one five mark =
     let x : ℕ = waiter_serial v in
@@ -145,7 +145,7 @@ made_waits v e one five mark =
     }
 
 -- so does a Fetch
-module _ (g h : Objects Obj) (m n : Option (List Notice)) (x : ObjId) (node : Obj) where
+module _ (g h : Objects Obj) (m n : Heard) (x : ObjId) (node : Obj) where
   pub fetch_waits : IsEmpty g g.book.made → ObjStands node [] → rank_of_obj node ≡ 5 → mark_of_obj node ≡ 0 → IsMade g h node (rank_of_obj node) x → WentOne ObjStands obj_nature 0 (MustMake x node ∷ Wants (Held x) ∷ []) g h m n
       → Waits h (waiter.Fetch x) h.book.made
   fetch_waits e stands five zero made k =
@@ -153,7 +153,7 @@ module _ (g h : Objects Obj) (m n : Option (List Notice)) (x : ObjId) (node : Ob
       subst (λ z. Waits h (waiter.Fetch x) z) (sym one.made) (made_waits (waiter.Fetch x) e one five zero)
 
   -- and the outside is told of all
-  pub fetch_told : (q : Option (List Notice)) (y : ℕ) → ObjStands node [] → kind_of_obj node ≡ 1 → IsMade g h node (rank_of_obj node) x → WentOne ObjStands obj_nature 0 (MustMake x node ∷ Wants (Held x) ∷ []) g h m n
+  pub fetch_told : (q : Heard) (y : ℕ) → ObjStands node [] → kind_of_obj node ≡ 1 → IsMade g h node (rank_of_obj node) x → WentOne ObjStands obj_nature 0 (MustMake x node ∷ Wants (Held x) ∷ []) g h m n
       → Given n q (completed_notices x.0 y) → Given m q (made_notices x.0 y)
   fetch_told q y stands kind made k more =
       let one = one_made g h m n 0 x node stands made k in
@@ -172,7 +172,7 @@ unfolding joined_ports
 lower_port x y k f apart = rw (here y) (rw (ne_eqb y x (λ e. apart (sym e))) refl)
 
 -- a Tftp was made while a Fetch waited, and the two are plugged
-module _ (a b h : Objects Obj) (n o q : Option (List Notice)) (now made x y : ℕ) (low : Obj) where
+module _ (a b h : Objects Obj) (n o q : Heard) (now made x y : ℕ) (low : Obj) where
   pub older : Waits a (waiter.Fetch (serial x)) made → y ≡ made + 1 → x < y
   older w next = let i : x ≤ made = w.given in omega (arith, i, next)
 

@@ -7,7 +7,7 @@ use Rattle.nb_ledger.specs.declared.object.Object.{Object}
 use Rattle.nb_ledger.specs.declared.port.ObjId.{ObjId}
 use Rattle.nb_ledger.specs.declared.port.PortState.TheVariants as port
 use Rattle.nb_ledger.specs.declared.event.GraphEvent.TheVariants.{LetGo, Freed}
-use Rattle.nb_ledger.specs.Flat.{Notice, Given}
+use Rattle.nb_ledger.specs.Flat.{Heard, Given}
 use Rattle.nb_ledger.specs.GraphRun.{GraphRunOf, GraphState, but_at, link_count, links, object_count, owed, ports_but}
 use Rattle.nb_ledger.specs.Ledger.{Ledger, found, object_lives, holds, rank, port as port_in, run_state}
 use Rattle.nb_ledger.proofs.CountLemmas.{owed-zero, owed-some}
@@ -63,7 +63,7 @@ freed_holds x s t (a, first, (b, other, run)) y n =
     ∙ (ap (λ (f : ℕ → ℕ). f y) (owed_holds x.0 (record s { holds = but_at x.0 (s.holds x.0 - 1) s.holds })) ∙ rw (ne_eqb y x.0 n) refl)))
 
 -- one object was let go
-pub record LetsGo (g h : Objects Obj) (m n : Option (List Notice)) (x : ℕ) : Type 0 where
+pub record LetsGo (g h : Objects Obj) (m n : Heard) (x : ℕ) : Type 0 where
   pub made : h.book.made ≡ g.book.made
   pub room : h.book.room ≡ g.book.room
   pub number : length h.book.objects ≡ length g.book.objects - 1
@@ -75,7 +75,7 @@ pub record LetsGo (g h : Objects Obj) (m n : Option (List Notice)) (x : ℕ) : T
   pub marks : (y z : ℕ) → IsOfKind g y z → IsOfKind h y z
   pub told : Given m n (tells (LetGo (serial x)) ∷ tells (Freed (serial x)) ∷ [])
 
-pub lets_one_go : (g h : Objects Obj) (m n : Option (List Notice)) (now : ℕ) (x : ObjId) → holds g.book x.0 ≡ 1 → links (run_state g.book []) x.0 ≡ 0
+pub lets_one_go : (g h : Objects Obj) (m n : Heard) (now : ℕ) (x : ObjId) → holds g.book x.0 ≡ 1 → links (run_state g.book []) x.0 ≡ 0
     → WentOne ObjStands obj_nature now (Wants (LetGo x) ∷ []) g h m n → LetsGo g h m n x.0
 lets_one_go g h m n now x one loose k =
     let asks : List (Stage Obj Load) = Wants (LetGo x) ∷ [] in
@@ -104,7 +104,7 @@ lets_one_go g h m n now x one loose k =
     ]
 
 -- of another object all is as it was
-pub goes_keeps : {g h : Objects Obj} {m n : Option (List Notice)} {x : ℕ} (y : ℕ) → LetsGo g h m n x → (y ≡ x → ⊥) → y ≤ g.book.made → KeepsOne g h y
+pub goes_keeps : {g h : Objects Obj} {m n : Heard} {x : ℕ} (y : ℕ) → LetsGo g h m n x → (y ≡ x → ⊥) → y ≤ g.book.made → KeepsOne g h y
 goes_keeps {x = x} y one apart old = record {
   live = one.live y ∙ rw (ne_eqb y x apart) refl;
   held = one.others y apart;
@@ -162,7 +162,7 @@ no_links g x h =
     omega (arith, a, b, c, d)
 
 -- the Fetch is let go first
-module _ (g a h : Objects Obj) (m n o : Option (List Notice)) (f t made : ℕ) where
+module _ (g a h : Objects Obj) (m n o : Heard) (f t made : ℕ) where
   tftp_stays : Loose g f t made → LetsGo g a m n f → (holds a.book t ≡ 1) × (links (run_state a.book []) t ≡ 0)
   tftp_stays l one =
       let apart : t ≡ f → ⊥ = λ e. omega (arith, e, l.older) in

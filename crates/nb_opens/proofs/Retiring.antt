@@ -6,7 +6,7 @@ use Rattle.nb_ledger.specs.declared.port.ObjId.{ObjId}
 use Rattle.nb_ledger.specs.declared.port.PortState.{PortState}
 use Rattle.nb_ledger.specs.declared.port.PortState.TheVariants as port
 use Rattle.nb_ledger.specs.declared.event.GraphEvent.TheVariants.{Made, Held, LetGo}
-use Rattle.nb_ledger.specs.Flat.{Notice, Given}
+use Rattle.nb_ledger.specs.Flat.{Heard, Given}
 use Rattle.nb_ledger.specs.GraphRun.{link_count, new_ports, port_but}
 use Rattle.nb_ledger.specs.Ledger.{object_lives, holds, port as port_in}
 use Rattle.nb_ledger.proofs.PortLemmas.{held-live}
@@ -43,7 +43,7 @@ loose_beside g v x made l = record {
 }
 
 -- all ports of x were closed
-record AllShut (g h : Objects Obj) (m n : Option (List Notice)) (f t x made : ℕ) (c : Cause) : Type 0 where
+record AllShut (g h : Objects Obj) (m n : Heard) (f t x made : ℕ) (c : Cause) : Type 0 where
   pub loose : Loose h f t made
   pub others : (y k : ℕ) → (y ≡ x → ⊥) → port_in h.book y k ≡ port_in g.book y k
   pub told : Given m n (all_closed x c)
@@ -54,7 +54,7 @@ other_slot x i k f h = rw (eq-eqb x x refl) (rw (ne_eqb k i h) refl)
 other_port : (x i y k : ℕ) (f : ℕ → ℕ → PortState) → (y ≡ x → ⊥) → port_but (port_at x i) port.Closed f y k ≡ f y k
 other_port x i y k f h = rw (ne_eqb y x h) refl
 
-all_shut : (g h : Objects Obj) (m n : Option (List Notice)) (now f t x made : ℕ) (c : Cause) → Loose g f t made → ((k : ℕ) → port_in g.book x k ≡ new_ports k) → ClosesAll g h m n x now c → AllShut g h m n f t x made c
+all_shut : (g h : Objects Obj) (m n : Heard) (now f t x made : ℕ) (c : Cause) → Loose g f t made → ((k : ℕ) → port_in g.book x k ≡ new_ports k) → ClosesAll g h m n x now c → AllShut g h m n f t x made c
 all_shut g h m n now f t x made c l o k =
     let g0 = k.graphs.0 in
     let g1 = k.graphs.1 in
@@ -77,7 +77,7 @@ all_shut g h m n now f t x made c l o k =
     }
 
 -- of the first, and then of the other
-module _ (g a b : Objects Obj) (m n o : Option (List Notice)) (now x made : ℕ) (v : Waiter) (c : Cause) where
+module _ (g a b : Objects Obj) (m n o : Heard) (now x made : ℕ) (v : Waiter) (c : Cause) where
   record BothShut : Type 0 where
     pub loose : Loose b (waiter_serial v) x made
     pub told : Given m n (all_closed (waiter_serial v) c)
@@ -99,12 +99,12 @@ module _ (g a b : Objects Obj) (m n o : Option (List Notice)) (now x made : ℕ)
       (held-live b.book (waiter_serial v) held, held)
 
   -- and the other once that was let go
-  pub other_held : (d : Objects Obj) (q : Option (List Notice)) → IsOpenLoneBy (company_with (Some v) made) g x → ClosesAll g a m n (waiter_serial v) now c → ClosesAll a b n o x now c
+  pub other_held : (d : Objects Obj) (q : Heard) → IsOpenLoneBy (company_with (Some v) made) g x → ClosesAll g a m n (waiter_serial v) now c → ClosesAll a b n o x now c
       → WentOne ObjStands obj_nature 0 (Wants (LetGo (serial (waiter_serial v))) ∷ []) b d o q → (object_lives d.book x ≡ true) × (0 < holds d.book x)
   other_held d q l i j w = tftp_held b d d o q q (waiter_serial v) x made (both_shut l i j).loose w
 
   -- and after both are let go nothing lives
-  pub beside_goes : (d e : Objects Obj) (q r : Option (List Notice)) → IsOpenLoneBy (company_with (Some v) made) g x → ClosesAll g a m n (waiter_serial v) now c → ClosesAll a b n o x now c
+  pub beside_goes : (d e : Objects Obj) (q r : Heard) → IsOpenLoneBy (company_with (Some v) made) g x → ClosesAll g a m n (waiter_serial v) now c → ClosesAll a b n o x now c
       → WentOne ObjStands obj_nature 0 (Wants (LetGo (serial (waiter_serial v))) ∷ []) b d o q → WentOne ObjStands obj_nature 0 (Wants (LetGo (serial x)) ∷ []) d e q r
       → IsEmpty e made × Given m r (beside_shut (Some v) x c)
   beside_goes d e q r l i j first other =
@@ -113,13 +113,13 @@ module _ (g a b : Objects Obj) (m n o : Option (List Notice)) (now x made : ℕ)
       (end.0, Given-append m n r _ _ all.told (Given-append n o r _ _ all.more end.1))
 
 -- one of a kind was made, and waits
-waits_new : (g h : Objects Obj) (m n : Option (List Notice)) (x : ObjId) (node : Obj) (v : Waiter) → waiter_serial v ≡ x.0 → IsEmpty g g.book.made → ObjStands node [] → rank_of_obj node ≡ 5 → kind_of_obj node ≡ waiter_number v → mark_of_obj node ≡ waiter_mark v
+waits_new : (g h : Objects Obj) (m n : Heard) (x : ObjId) (node : Obj) (v : Waiter) → waiter_serial v ≡ x.0 → IsEmpty g g.book.made → ObjStands node [] → rank_of_obj node ≡ 5 → kind_of_obj node ≡ waiter_number v → mark_of_obj node ≡ waiter_mark v
     → IsMade g h node (rank_of_obj node) x → WentOne ObjStands obj_nature 0 (MustMake x node ∷ Wants (Held x) ∷ []) g h m n → Waits h v (waiter_serial v) × Given m n (waiter_made v)
 waits_new g h m n x node v same e stands five kind mark made k =
     let one : OneMade g h m n (waiter_serial v) node = subst (λ z. OneMade g h m n z node) (sym same) (one_made g h m n 0 x node stands made k) in
     (made_waits v e one five mark, subst (λ z. Given m n (tells (Made (serial (waiter_serial v)) z) ∷ tells (Held (serial (waiter_serial v))) ∷ [])) kind one.told)
 
-pub waiter_ready : (g h : Objects Obj) (m n : Option (List Notice)) (x : ObjId) (node : Obj) (which : WaiterKind) (v : Waiter) → v ≡ waiter_of which x.0 → IsEmpty g g.book.made → ObjStands node [] → rank_of_obj node ≡ 5
+pub waiter_ready : (g h : Objects Obj) (m n : Heard) (x : ObjId) (node : Obj) (which : WaiterKind) (v : Waiter) → v ≡ waiter_of which x.0 → IsEmpty g g.book.made → ObjStands node [] → rank_of_obj node ≡ 5
     → kind_of_obj node ≡ waiter_number (waiter_of which 0) → mark_of_obj node ≡ waiter_mark (waiter_of which 0) → IsMade g h node (rank_of_obj node) x → WentOne ObjStands obj_nature 0 (MustMake x node ∷ Wants (Held x) ∷ []) g h m n
     → Waits h v (waiter_serial v) × Given m n (waiter_made v)
 waiter_ready g h m n x node which v same e stands five is mark made k = subst (λ z. Waits h z (waiter_serial z) × Given m n (waiter_made z)) (sym same) (of_kind which is mark)
@@ -129,7 +129,7 @@ waiter_ready g h m n x node which v same e stands five is mark made k = subst (�
     of_kind kind.Ping i j = waits_new g h m n x node (waiter_of kind.Ping x.0) refl e stands five i j made k
 
 -- what waits is let go, and nothing lives
-pub waiter_goes : (g h : Objects Obj) (m n : Option (List Notice)) (v : Waiter) (made : ℕ) → Waits g v made → WentOne ObjStands obj_nature 0 (Wants (LetGo (serial (waiter_serial v))) ∷ []) g h m n → IsEmpty h made × Given m n (waiter_freed v)
+pub waiter_goes : (g h : Objects Obj) (m n : Heard) (v : Waiter) (made : ℕ) → Waits g v made → WentOne ObjStands obj_nature 0 (Wants (LetGo (serial (waiter_serial v))) ∷ []) g h m n → IsEmpty h made × Given m n (waiter_freed v)
 waiter_goes g h m n v made w k =
     let x : ℕ = waiter_serial v in
     let free : (i : ℕ) → i < 4 → link_count (port_in g.book x i) ≡ 0 = λ i lt. ap link_count (w.waiting.ports i) ∙ four (λ z. link_count (new_ports z) ≡ 0) refl refl refl refl i lt in

@@ -7,7 +7,7 @@ use Rattle.nb_ledger.specs.declared.port.Port.{Port}
 use Rattle.nb_ledger.specs.declared.port.PortState.{PortState}
 use Rattle.nb_ledger.specs.declared.port.PortState.TheVariants as port
 use Rattle.nb_ledger.specs.declared.event.GraphEvent.TheVariants.{Closed, LetGo}
-use Rattle.nb_ledger.specs.Flat.{Notice, Given}
+use Rattle.nb_ledger.specs.Flat.{Heard, Given}
 use Rattle.nb_ledger.specs.GraphRun.{GraphRunOf, GraphState, alone, linked, peer, link_count, port_but}
 use Rattle.nb_ledger.specs.Ledger.{object_lives, holds, rank, port as port_in, run_state}
 use Rattle.nb_ledger.proofs.PortLemmas.{held-live}
@@ -45,7 +45,7 @@ closed_holds p z s t (m, linked q idle e u, run) = ap (λ (y : GraphState). y.ho
 closed_holds p z s t (m, peer q st top e u, run) = ap (λ (y : GraphState). y.holds) (sym run ∙ u)
 
 -- one port was closed
-pub record ClosesAlone (g h : Objects Obj) (m n : Option (List Notice)) (p : Port) (z : Cause) : Type 0 where
+pub record ClosesAlone (g h : Objects Obj) (m n : Heard) (p : Port) (z : Cause) : Type 0 where
   pub made : h.book.made ≡ g.book.made
   pub room : h.book.room ≡ g.book.room
   pub live : (y : ℕ) → object_lives h.book y ≡ object_lives g.book y
@@ -57,7 +57,7 @@ pub record ClosesAlone (g h : Objects Obj) (m n : Option (List Notice)) (p : Por
   pub marks : (y k : ℕ) → IsOfKind g y k → IsOfKind h y k
   pub told : Given m n (tells (Closed p z) ∷ [])
 
-pub closes_alone : (g h : Objects Obj) (m n : Option (List Notice)) (now : ℕ) (p : Port) (z : Cause) → port_in g.book p.obj.0 p.slot ≡ port.Open → WentOne ObjStands obj_nature now (Closes p z ∷ []) g h m n → ClosesAlone g h m n p z
+pub closes_alone : (g h : Objects Obj) (m n : Heard) (now : ℕ) (p : Port) (z : Cause) → port_in g.book p.obj.0 p.slot ≡ port.Open → WentOne ObjStands obj_nature now (Closes p z ∷ []) g h m n → ClosesAlone g h m n p z
 closes_alone g h m n now p z o k =
     let asks : List (Stage Obj Load) = Closes p z ∷ [] in
     let call = only_call obj_nature (scene_of g.book) (scene_of h.book) (record { now = now; asks = asks }) k.deeds k.each in
@@ -78,7 +78,7 @@ closes_alone g h m n now p z o k =
     }
 
 -- of another object all is as it was
-pub close_keeps : {g h : Objects Obj} {m n : Option (List Notice)} {x j : ℕ} {z : Cause} (y : ℕ) → ClosesAlone g h m n (port_at x j) z → (y ≡ x → ⊥) → y ≤ g.book.made → KeepsOne g h y
+pub close_keeps : {g h : Objects Obj} {m n : Heard} {x j : ℕ} {z : Cause} (y : ℕ) → ClosesAlone g h m n (port_at x j) z → (y ≡ x → ⊥) → y ≤ g.book.made → KeepsOne g h y
 close_keeps {x = x} y one apart old = record {
   live = one.live y;
   held = one.held y;
@@ -98,7 +98,7 @@ no_link p f y k h = by_tests (eqb y p.obj.0) (eqb k p.slot)
     by_tests false b = h
 
 -- the same is true of the two then
-pub loose_after : (g h : Objects Obj) (m n : Option (List Notice)) (f t made : ℕ) (p : Port) (z : Cause) → Loose g f t made → ClosesAlone g h m n p z → Loose h f t made
+pub loose_after : (g h : Objects Obj) (m n : Heard) (f t made : ℕ) (p : Port) (z : Cause) → Loose g f t made → ClosesAlone g h m n p z → Loose h f t made
 loose_after g h m n f t made p z l c = record {
   older = l.older;
   last = c.made ∙ l.last;
@@ -111,7 +111,7 @@ loose_after g h m n f t made p z l c = record {
 }
 
 -- both free slots of x were closed
-record FreeClosed (g h : Objects Obj) (m n : Option (List Notice)) (f t x made : ℕ) (z : Cause) : Type 0 where
+record FreeClosed (g h : Objects Obj) (m n : Heard) (f t x made : ℕ) (z : Cause) : Type 0 where
   pub loose : Loose h f t made
   pub others : (y k : ℕ) → (y ≡ x → ⊥) → port_in h.book y k ≡ port_in g.book y k
   pub told : Given m n (tells (Closed (port_at x 2) z) ∷ tells (Closed (port_at x 3) z) ∷ [])
@@ -122,7 +122,7 @@ other_port x i y k v f h = rw (ne_eqb y x h) refl
 beside : (x : ℕ) (v : PortState) (f : ℕ → ℕ → PortState) → port_but (port_at x 2) v f x 3 ≡ f x 3
 beside x v f = rw (eq-eqb x x refl) refl
 
-free_closed : (g h : Objects Obj) (m n : Option (List Notice)) (now f t x made : ℕ) (z : Cause) → Loose g f t made → port_in g.book x 2 ≡ port.Open → port_in g.book x 3 ≡ port.Open → ClosesFree g h m n x now z → FreeClosed g h m n f t x made z
+free_closed : (g h : Objects Obj) (m n : Heard) (now f t x made : ℕ) (z : Cause) → Loose g f t made → port_in g.book x 2 ≡ port.Open → port_in g.book x 3 ≡ port.Open → ClosesFree g h m n x now z → FreeClosed g h m n f t x made z
 free_closed g h m n now f t x made z l o p (mid, told, first, other) =
     let one = closes_alone g mid m told now (port_at x 2) z o first in
     let two = closes_alone mid h told n now (port_at x 3) z (one.ports x 3 ∙ (beside x port.Closed (port_in g.book) ∙ p)) other in
@@ -133,7 +133,7 @@ free_closed g h m n now f t x made z l o p (mid, told, first, other) =
     }
 
 -- the ports of the two that are plugged were closed, and then their free ones
-module _ (g a b : Objects Obj) (m n o : Option (List Notice)) (now f t : ℕ) (z : Cause) where
+module _ (g a b : Objects Obj) (m n o : Heard) (now f t : ℕ) (z : Cause) where
   record AllClosed : Type 0 where
     pub loose : Loose b f t t
     pub told : Given m o (tells (Closed (port_at f 2) z) ∷ tells (Closed (port_at f 3) z) ∷ tells (Closed (port_at t 2) z) ∷ tells (Closed (port_at t 3) z) ∷ [])
@@ -152,12 +152,12 @@ module _ (g a b : Objects Obj) (m n o : Option (List Notice)) (now f t : ℕ) (z
       let held : 0 < holds b.book f = omega (arith, one) in
       (held-live b.book f held, held)
 
-  pub tftp_held_still : (c : Objects Obj) (q : Option (List Notice)) → AreShut g f t → ClosesFree g a m n f now z → ClosesFree a b n o t now z → WentOne ObjStands obj_nature 0 (Wants (LetGo (serial f)) ∷ []) b c o q
+  pub tftp_held_still : (c : Objects Obj) (q : Heard) → AreShut g f t → ClosesFree g a m n f now z → ClosesFree a b n o t now z → WentOne ObjStands obj_nature 0 (Wants (LetGo (serial f)) ∷ []) b c o q
       → (object_lives c.book t ≡ true) × (0 < holds c.book t)
   tftp_held_still c q shut k l went = tftp_held b c c o q q f t t (all_closed shut k l).loose went
 
   -- and after both are let go nothing lives
-  pub shut_does : (c d : Objects Obj) (q r before : Option (List Notice)) → AreShut g f t → Given before m (closed_notices f t z) → ClosesFree g a m n f now z → ClosesFree a b n o t now z
+  pub shut_does : (c d : Objects Obj) (q r before : Heard) → AreShut g f t → Given before m (closed_notices f t z) → ClosesFree g a m n f now z → ClosesFree a b n o t now z
       → WentOne ObjStands obj_nature 0 (Wants (LetGo (serial f)) ∷ []) b c o q → WentOne ObjStands obj_nature 0 (Wants (LetGo (serial t)) ∷ []) c d q r
       → IsEmpty d t × Given before r (shut_notices f t z)
   shut_does c d q r before shut told k l i j =

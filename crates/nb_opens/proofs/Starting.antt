@@ -1,7 +1,7 @@
 -- What a call of the graph on the two objects of an open is to be read from.
 use Rattle.std.proofs.Common.{◌≡◌, ℕ, ◌≤◌, true, List, [], ◌∷◌, ◌++◌, Option, refl, sym, ap, ◌∙◌, subst, append_assoc, arith}
 use Rattle.std.proofs.lemmas.List.{append-nil}
-use Rattle.nb_ledger.specs.Flat.{Notice, Given}
+use Rattle.nb_ledger.specs.Flat.{Heard, Given}
 use Rattle.nb_ledger.specs.Ledger.{object_lives, holds, rank, run_state}
 use Rattle.nb_ledger.specs.GraphRun.{GraphRunOf}
 use Rattle.nb_ledger.proofs.PortLemmas.{held-live}
@@ -37,7 +37,7 @@ use Rattle.nb_graph.proofs.MarkLemmas.{BeginsNone, mark_stays}
 abbrev pub case_of : (now f t : ℕ) → (f ≡ t → ⊥) → (h : Objects Obj) → (top bottom : List (NodeEntry Obj Load)) → Conversation → Case
 case_of now f t apart h top bottom talk = record { now = now; fetch = f; tftp = t; apart = apart; end = scene_of h.book; above = top; below = bottom; talk = talk }
 
-pub record Started (g h : Objects Obj) (m n : Option (List Notice)) (now f t : ℕ) (asks : List (Stage Obj Load)) (above below : List (NodeEntry Obj Load)) (v : Conversation) : Type 0 where
+pub record Started (g h : Objects Obj) (m n : Heard) (now f t : ℕ) (asks : List (Stage Obj Load)) (above below : List (NodeEntry Obj Load)) (v : Conversation) : Type 0 where
   pub deeds : List (Deed Obj Load)
   pub told : Given m n (told_of deeds)
   pub apart : f ≡ t → ⊥
@@ -87,16 +87,16 @@ tftp-node (obj.Dhcp p) tx r m s = absurd (omega (arith, m))
 tftp-node (obj.Ping p) tx r m s = absurd (omega (arith, r))
 
 -- what happened in the one call
-abbrev pub deeds_in : (g h : Objects Obj) (m n : Option (List Notice)) (now : ℕ) (asks : List (Stage Obj Load)) → WentOne ObjStands obj_nature now asks g h m n → List (Deed Obj Load)
+abbrev pub deeds_in : (g h : Objects Obj) (m n : Heard) (now : ℕ) (asks : List (Stage Obj Load)) → WentOne ObjStands obj_nature now asks g h m n → List (Deed Obj Load)
 deeds_in g h m n now asks k = (only_call obj_nature (scene_of g.book) (scene_of h.book) (record { now = now; asks = asks }) k.deeds k.each).0
 
 -- the outside is told of it
-pub told_in : (g h : Objects Obj) (m n : Option (List Notice)) (now : ℕ) (asks : List (Stage Obj Load)) (k : WentOne ObjStands obj_nature now asks g h m n) → Given m n (told_of (deeds_in g h m n now asks k))
+pub told_in : (g h : Objects Obj) (m n : Heard) (now : ℕ) (asks : List (Stage Obj Load)) (k : WentOne ObjStands obj_nature now asks g h m n) → Given m n (told_of (deeds_in g h m n now asks k))
 told_in g h m n now asks k =
     let one = only_call obj_nature (scene_of g.book) (scene_of h.book) (record { now = now; asks = asks }) k.deeds k.each in
     subst (λ z. Given m n (told_of z)) (ap all_of one.1 ∙ append-nil one.0) k.tells
 
-module _ (g h : Objects Obj) (m n : Option (List Notice)) (now f t : ℕ) (asks : List (Stage Obj Load)) (above below : List (NodeEntry Obj Load)) (v : Conversation) where
+module _ (g h : Objects Obj) (m n : Heard) (now f t : ℕ) (asks : List (Stage Obj Load)) (above below : List (NodeEntry Obj Load)) (v : Conversation) where
   -- the same, whatever transfer was under way
   pub started_with : AreTwo g f t → ObjectStands ObjStands g f above → ObjectStands ObjStands g t below → RunsTo unbegun below v → TalkMeets v → AreUnharvested g f t → AreNoded rank_of_obj h → AreQuiet t asks
       → (k : WentOne ObjStands obj_nature now asks g h m n) → (s : Started g h m n now f t asks above below v) × (s.deeds ≡ deeds_in g h m n now asks k)

@@ -8,7 +8,7 @@ use Rattle.nb_ledger.specs.declared.port.PortState.{PortState}
 use Rattle.nb_ledger.specs.declared.port.PortState.TheVariants.{Closed}
 use Rattle.nb_ledger.specs.declared.event.Way.{Way}
 use Rattle.nb_ledger.specs.declared.event.Way.TheVariants as way
-use Rattle.nb_ledger.specs.Flat.{Notice, Given}
+use Rattle.nb_ledger.specs.Flat.{Heard, Notice, Given}
 use Rattle.nb_ledger.specs.GraphRun.{but_at, new_ports}
 use Rattle.nb_ledger.specs.Ledger.{port, holds, object_lives}
 use Rattle.nb_graph.specs.Deeds.{no_memory}
@@ -119,29 +119,29 @@ abbrev pub Receives : {S B C : Type 0} → Service S B C → ℕ → Objects Obj
 Receives s kind g x b start calls m now ns = ReceivesBy (only x) s kind g x b start calls m now ns
 
 -- for each exchange that may be under way
-abbrev pub DoesReceiveBy : {S B C : Type 0} → Company → Service S B C → ℕ → Objects Obj → Objects Obj → ℕ → Said → ℕ → Option (List Notice) → Option (List Notice) → Type 0
+abbrev pub DoesReceiveBy : {S B C : Type 0} → Company → Service S B C → ℕ → Objects Obj → Objects Obj → ℕ → Said → ℕ → Heard → Heard → Type 0
 DoesReceiveBy {S} {B} {C} c s kind old new x m now before after =
     (b : B) (start : ℕ) (calls : List C) → TalksBy c s kind old x b start calls → (ns : List Notice) × Given before after ns × ReceivesBy c s kind new x b start calls m now ns
 
-abbrev pub DoesReceive : {S B C : Type 0} → Service S B C → ℕ → Objects Obj → Objects Obj → ℕ → Said → ℕ → Option (List Notice) → Option (List Notice) → Type 0
+abbrev pub DoesReceive : {S B C : Type 0} → Service S B C → ℕ → Objects Obj → Objects Obj → ℕ → Said → ℕ → Heard → Heard → Type 0
 DoesReceive s kind old new x m now before after = DoesReceiveBy (only x) s kind old new x m now before after
 
 -- what a time does
-abbrev pub DoesTickBy : {S B C : Type 0} → Company → Service S B C → ℕ → Objects Obj → Objects Obj → ℕ → ℕ → Option (List Notice) → Option (List Notice) → Type 0
+abbrev pub DoesTickBy : {S B C : Type 0} → Company → Service S B C → ℕ → Objects Obj → Objects Obj → ℕ → ℕ → Heard → Heard → Type 0
 DoesTickBy {S} {B} {C} c s kind old new x now before after =
     (b : B) (start : ℕ) (calls : List C) → TalksBy c s kind old x b start calls
     → (ns : List Notice) × Given before after ns × AsksMoreBy c s kind new x b start calls (port_at x 4) way.Time 0 (s.timed now) ns
 
-abbrev pub DoesTick : {S B C : Type 0} → Service S B C → ℕ → Objects Obj → Objects Obj → ℕ → ℕ → Option (List Notice) → Option (List Notice) → Type 0
+abbrev pub DoesTick : {S B C : Type 0} → Service S B C → ℕ → Objects Obj → Objects Obj → ℕ → ℕ → Heard → Heard → Type 0
 DoesTick s kind old new x now before after = DoesTickBy (only x) s kind old new x now before after
 
 -- both, of each kind
-pub record ReceiveAllBy (c : Company) (old new : Objects Obj) (x : ℕ) (m : Said) (now : ℕ) (before after : Option (List Notice)) : Type 0 where
+pub record ReceiveAllBy (c : Company) (old new : Objects Obj) (x : ℕ) (m : Said) (now : ℕ) (before after : Heard) : Type 0 where
   pub lookup : DoesReceiveBy c lookup_service (alone_number Resolver) old new x m now before after
   pub lease : DoesReceiveBy c lease_service (alone_number Dhcp) old new x m now before after
   pub ping : DoesReceiveBy c ping_service (alone_number Ping) old new x m now before after
 
-pub record TickAllBy (c : Company) (old new : Objects Obj) (x now : ℕ) (before after : Option (List Notice)) : Type 0 where
+pub record TickAllBy (c : Company) (old new : Objects Obj) (x now : ℕ) (before after : Heard) : Type 0 where
   pub lookup : DoesTickBy c lookup_service (alone_number Resolver) old new x now before after
   pub lease : DoesTickBy c lease_service (alone_number Dhcp) old new x now before after
   pub ping : DoesTickBy c ping_service (alone_number Ping) old new x now before after
@@ -154,10 +154,10 @@ pub data BeginsBy {S B C : Type 0} (c : Company) (s : Service S B C) (kind : ℕ
 abbrev pub Begins : {S B C : Type 0} → Service S B C → ℕ → Objects Obj → ℕ → B → ℕ → ℕ → List Notice → Type 0
 Begins s kind g x b now rec ns = BeginsBy (only x) s kind g x b now rec ns
 
-abbrev pub DoesAskBy : {S B C : Type 0} → Company → Service S B C → ℕ → Objects Obj → ℕ → B → ℕ → ℕ → Option (List Notice) → Option (List Notice) → Type 0
+abbrev pub DoesAskBy : {S B C : Type 0} → Company → Service S B C → ℕ → Objects Obj → ℕ → B → ℕ → ℕ → Heard → Heard → Type 0
 DoesAskBy c s kind new x b now rec before after = (ns : List Notice) × Given before after ns × BeginsBy c s kind new x b now rec ns
 
-abbrev pub DoesAsk : {S B C : Type 0} → Service S B C → ℕ → Objects Obj → ℕ → B → ℕ → ℕ → Option (List Notice) → Option (List Notice) → Type 0
+abbrev pub DoesAsk : {S B C : Type 0} → Service S B C → ℕ → Objects Obj → ℕ → B → ℕ → ℕ → Heard → Heard → Type 0
 DoesAsk s kind new x b now rec before after = DoesAskBy (only x) s kind new x b now rec before after
 
 -- a message that comes from below

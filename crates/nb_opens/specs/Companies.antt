@@ -2,7 +2,7 @@
 use Rattle.std.specs.Prelude.{◌≡◌, ◌<◌, ℕ, Bool, false, List, ◌∷◌, [], ◌++◌, Option, Some, None}
 use Rattle.nb_terms.specs.declared.cause.Cause.{Cause}
 use Rattle.nb_ledger.specs.declared.event.GraphEvent.TheVariants.{Closed}
-use Rattle.nb_ledger.specs.Flat.{Notice}
+use Rattle.nb_ledger.specs.Flat.{Heard, Notice}
 use Rattle.nb_graph.specs.Deeds.{Closes}
 use Rattle.nb_graph.specs.Went.{WentOne}
 use Rattle.nb_graph.specs.Whole.{Objects, port_at}
@@ -52,9 +52,9 @@ abbrev pub all_closed : ℕ → Cause → List Notice
 all_closed x c = tells (Closed (port_at x 0) c) ∷ tells (Closed (port_at x 1) c) ∷ tells (Closed (port_at x 2) c) ∷ tells (Closed (port_at x 3) c) ∷ []
 
 -- so they are, one after another
-pub record ClosesAll (old new : Objects Obj) (before after : Option (List Notice)) (x now : ℕ) (cause : Cause) : Type 0 where
+pub record ClosesAll (old new : Objects Obj) (before after : Heard) (x now : ℕ) (cause : Cause) : Type 0 where
   pub graphs : Objects Obj × Objects Obj × Objects Obj
-  pub told : Option (List Notice) × Option (List Notice) × Option (List Notice)
+  pub told : Heard × Heard × Heard
   pub first : WentOne ObjStands obj_nature now (Closes (port_at x 0) cause ∷ []) old graphs.0 before told.0
   pub second : WentOne ObjStands obj_nature now (Closes (port_at x 1) cause ∷ []) graphs.0 graphs.1 told.0 told.1
   pub third : WentOne ObjStands obj_nature now (Closes (port_at x 2) cause ∷ []) graphs.1 graphs.2 told.1 told.2

@@ -6,7 +6,7 @@ use Rattle.nb_terms.specs.declared.cause.Cause.{Cause}
 use Rattle.nb_ledger.specs.declared.port.Port.{Port}
 use Rattle.nb_ledger.specs.declared.port.PortState.TheVariants.{Open, Linked, Closed}
 use Rattle.nb_ledger.specs.declared.event.Way.{Way}
-use Rattle.nb_ledger.specs.Flat.{Notice, Given}
+use Rattle.nb_ledger.specs.Flat.{Heard, Notice, Given}
 use Rattle.nb_ledger.specs.Ledger.{port, holds, rank, object_lives}
 use Rattle.nb_graph.specs.Deeds.{Closes, no_memory}
 use Rattle.nb_graph.specs.Lived.{ObjectStands}
@@ -149,7 +149,7 @@ abbrev pub IsEnded : Objects Obj → ℕ → ℕ → Type 0
 IsEnded g f t = (body : Option (List ℕ)) × HasEnded g f t body
 
 -- what a datagram or a time does, for each transfer that may be under way
-abbrev pub DoesCall : Objects Obj → Objects Obj → ℕ → ℕ → Port → Way → ℕ → Call → Option (List Notice) → Option (List Notice) → Type 0
+abbrev pub DoesCall : Objects Obj → Objects Obj → ℕ → ℕ → Port → Way → ℕ → Call → Heard → Heard → Type 0
 DoesCall old new f t p by rec call before after =
     (ns : List Notice) × Given before after ns
     × ((b : Begun) (start : ℕ) (calls : List Entry) (body : List ℕ) → Downloads old f t b start calls body → CallDoes new f t b start calls body p by rec call ns)
@@ -159,12 +159,12 @@ pub data BeginDoes (g : Objects Obj) (f t : ℕ) (b : Begun) (now rec : ℕ) (ns
   begins : ns ≡ begun_notices f t rec (first_acts b) → Downloads g f t b now [] [] → BeginDoes g f t b now rec ns
   fails_at_once : first_close ns ≡ Some no_memory → BeginDoes g f t b now rec ns
 
-abbrev pub DoesBegin : Objects Obj → ℕ → ℕ → Begun → ℕ → ℕ → Option (List Notice) → Option (List Notice) → Type 0
+abbrev pub DoesBegin : Objects Obj → ℕ → ℕ → Begun → ℕ → ℕ → Heard → Heard → Type 0
 DoesBegin new f t b now rec before after = (ns : List Notice) × Given before after ns × BeginDoes new f t b now rec ns
 
 -- slots 2 and 3 of an object are closed, one after the other
-abbrev pub ClosesFree : Objects Obj → Objects Obj → Option (List Notice) → Option (List Notice) → ℕ → ℕ → Cause → Type 0
+abbrev pub ClosesFree : Objects Obj → Objects Obj → Heard → Heard → ℕ → ℕ → Cause → Type 0
 ClosesFree old new before after x now cause =
-    (mid : Objects Obj) × (told : Option (List Notice))
+    (mid : Objects Obj) × (told : Heard)
     × WentOne ObjStands obj_nature now (Closes (port_at x 2) cause ∷ []) old mid before told
     × WentOne ObjStands obj_nature now (Closes (port_at x 3) cause ∷ []) mid new told after

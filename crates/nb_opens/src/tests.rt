@@ -1,4 +1,5 @@
-ghost use Rattle.std.specs.Prelude.{◌≡◌, IfOk, None};
+ghost use Rattle.std.specs.Prelude.{◌≡◌, IfOk};
+ghost use Rattle.nb_ledger.specs.Flat.{unknown};
 ghost use Rattle.nb_opens.specs.Pairs.{IsEmpty};
 ghost use Rattle.nb_opens.specs.Waiters.{waiter_of, Waits};
 
@@ -41,7 +42,7 @@ struct Tape {
 }
 
 impl Outside for Tape {
-    ghost events = { λ _. None };
+    ghost events = { λ _. unknown };
 
     fn event(&mut self, e: &Event) {
         let _ = self

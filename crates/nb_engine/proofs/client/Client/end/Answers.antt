@@ -15,13 +15,15 @@ use Rattle.nb_engine.specs.Machine.{at, phase_after}
 use Rattle.nb_engine.specs.declared.speaker.Speaker.{Speaker}
 use Rattle.nb_engine.specs.Tellings.{told_records}
 use Rattle.nb_engine.specs.World.{unbound, state_of}
+use Rattle.nb_engine.specs.Spelling.{IsSpelled}
 use Rattle.nb_engine.specs.Seen.{Seen, seen, standing, StandsFor, FitsGraph}
 use Rattle.nb_engine.proofs.Puts.{Puts-outs}
+use Rattle.nb_engine.proofs.TellingLemmas.{told-append}
 use Rattle.nb_engine.proofs.Heedings.{ends_of, IfFails, fails_keeps, same_phase}
 use Rattle.nb_engine.proofs.client.Client.end.Goals as goal
 
 pub put_told-requires : goal.put_told-requires
-put_told-requires c = record { whole = (_, c.in-Ok.ensures.told c.requires.told.0 c.requires.told.1) }
+put_told-requires c = record { whole = (_, c.in-Ok.ensures.told) }
 
 pub returns-in-Ok-conclude : goal.returns-in-Ok-conclude
 returns-in-Ok-conclude c = λ ns is.
@@ -38,9 +40,18 @@ returns-in-Ok-conclude c = λ ns is.
     let same : comes ≡ conclusion_of c.in-Ok-conclude.conclusion c.conclude.new.images = kept.same in
     let new = c.conclude-in-Ok-conclude.new in
     let tail : Puts c.put_over.new.log new.log (out_texts (conclusion_records comes)) = rw same concludes.puts in
-    let all = ns ++ freed_notices g.objects.fetch.0 g.objects.tftp.0 in
+    let freed = freed_notices g.objects.fetch.0 g.objects.tftp.0 in
+    let all = ns ++ freed in
+    let here : IsSpelled w.net (speaker_of c.args.fetch) c.args.told.now ns =
+    subst (λ (x : Seen). IsSpelled x.world.net (speaker_of c.args.fetch) c.args.told.now ns) (sym c.self.view_is) is in
+    let before : Puts c.put_step.new.log c.append.new.self (out_texts (told_records w.net (speaker_of g) ns)) =
+    subst (λ (x : Fetch). Puts c.put_step.new.log c.append.new.self (out_texts (told_records w.net (speaker_of x) ns))) (sym c.get-open.ensures)
+    (subst (Puts c.put_step.new.log c.append.new.self) (c.text.ensures ∙ here.1) c.append.ensures) in
+    let behind : Puts c.append.new.self c.put_told.new.log (out_texts (told_records w.net (speaker_of g) freed)) =
+    subst (λ (who : Speaker). Puts c.append.new.self c.put_told.new.log (out_texts (told_records w.net who freed))) c.speaker-who.ensures (c.put_told.ensures freed c.in-Ok.ensures.told) in
     let told : Puts c.put_step.new.log c.put_told.new.log (out_texts (told_records w.net (speaker_of g) all)) =
-    subst (λ (who : Speaker). Puts c.put_step.new.log c.put_told.new.log (out_texts (told_records w.net who all))) c.speaker-who.ensures (c.put_told.ensures all (c.in-Ok.ensures.told ns is)) in
+    subst (λ x. Puts c.put_step.new.log c.put_told.new.log (out_texts x)) (sym (told-append w.net (speaker_of g) ns freed))
+    (Puts-outs (told_records w.net (speaker_of g) ns) (told_records w.net (speaker_of g) freed) before behind) in
     let last : List Out = ended g.number cause ∷ [] in
     let over : Puts c.put_told.new.log new.log (out_texts (last ++ conclusion_records comes)) = Puts-outs last (conclusion_records comes) c.put_over.ensures tail in
     let both : Puts c.put_step.new.log new.log (out_texts (told_records w.net (speaker_of g) all ++ (last ++ conclusion_records comes))) =

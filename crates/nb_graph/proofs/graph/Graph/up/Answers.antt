@@ -1,3 +1,4 @@
+use Rattle.nb_ledger.proofs.RunLemmas.{told_event}
 use Rattle.nb_graph.proofs.LivedLemmas.{Lived-drop, Lived-lively, Lived-offered, rising-empty, under-quiet}
 use Rattle.nb_graph.proofs.WentLemmas.{Went-one}
 use Rattle.std.proofs.Common.{sym, ◌∙◌}
@@ -15,4 +16,4 @@ returns-then-is_free_in-clause-went g c =
 
 pub returns-else-is_free_in-clause-went : goal.returns-else-is_free_in-clause-went
 returns-else-is_free_in-clause-went g c =
-    rw (← c.self.view_is) (Went-one (Lived-drop _ _ _ _ _ _ _ c.args.to (said c.args.msg.now) (λ e. false≢true (sym c.if-is_free_in.false ∙ c.is_free_in.ensures.1 e)) (rw c.spelled.ensures at c.event.ensures.told) (rw c.spelled.ensures at c.event.ensures.given)))
+    rw (← c.self.view_is) (Went-one (Lived-drop _ _ _ _ _ _ _ c.args.to (said c.args.msg.now) (λ e. false≢true (sym c.if-is_free_in.false ∙ c.is_free_in.ensures.1 e)) (rw c.spelled.ensures at (told_event _ _ _ c.event.ensures.given)) (rw c.spelled.ensures at c.event.ensures.given)))

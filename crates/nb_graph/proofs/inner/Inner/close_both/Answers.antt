@@ -10,7 +10,8 @@ use Rattle.nb_graph.specs.Deeds.{MustUnplug as Unlinks, Closes, MustShut, Shut, 
 use Rattle.nb_graph.proofs.LivesLemmas.{Lives-both, Lives-note, Lives-say, Lives-then}
 use Rattle.nb_graph.proofs.CallLemmas.{Calms-half}
 use Rattle.nb_graph.proofs.SeatLemmas.{Loses-same}
-use Rattle.std.proofs.Common.{refl, ◌∙◌, ◌∷◌}
+use Rattle.nb_ledger.proofs.RunLemmas.{Tells-append}
+use Rattle.std.proofs.Common.{refl, ◌∙◌, [], ◌∷◌}
 use Rattle.nb_ledger.specs.GraphRun.{MustEnter, MustUnplug}
 use Rattle.nb_ledger.specs.declared.port.PortState.TheVariants.{Linked}
 use Rattle.nb_ledger.proofs.PortLemmas.{live_by}
@@ -25,6 +26,13 @@ pub enter_closed-requires : goal.enter_closed-requires
 enter_closed-requires g c =
     let there = other-end c.requires.steady.whole.links c.requires.linked c.close_first.ensures.sets in
     c.close_peer.ensures.sets.objects.same_live _ ∙ (live_by _ _ _ (Linked c.args.at) tt there).0
+
+pub returns-clause-told : goal.returns-clause-told
+returns-clause-told g c =
+    let first = Closed c.args.at c.args.cause.now in
+    let peer = Closed c.args.peer c.args.cause.now in
+    let entered = Entered c.args.peer Close in
+    Tells-append _ _ _ (first ∷ []) (peer ∷ entered ∷ []) c.close_first.ensures.told (Tells-append _ _ _ (peer ∷ []) (entered ∷ []) c.close_peer.ensures.told c.enter_closed.ensures.told)
 
 pub returns-clause-run : goal.returns-clause-run
 returns-clause-run g c = λ st idle.

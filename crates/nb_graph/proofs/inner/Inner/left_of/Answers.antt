@@ -2,6 +2,7 @@ use Rattle.std.proofs.Common.{sym, ◌∙◌, arith, ap, ltb, refl, inr, Some, N
 use Rattle.std.proofs.lemmas.Bool.{false≢true}
 use Rattle.nb_ledger.specs.declared.event.Way.TheVariants.{Up}
 use Rattle.nb_ledger.specs.Ledger.{port, open_count}
+use Rattle.nb_ledger.proofs.RunLemmas.{told_event}
 use Rattle.nb_graph.proofs.LivelyLemmas.{LivelyIn-dropped, LivelyIn-refl}
 use Rattle.nb_ledger.specs.declared.event.GraphEvent.TheVariants.{Dropped}
 use Rattle.nb_graph.specs.Trace.{said, said_behind}
@@ -43,6 +44,6 @@ returns-clause-goes g c = λ now.
     let less = length-append c.args.msg.now.first.now c.args.msg.now.second.now in
     let shut = closed-count (port c.args.self.now.book c.args.at.obj.0 c.args.at.slot) (sym c.is_open_at.ensures ∙ c.if-is_open_at.false) in
     rw (left-none c.length_of-whole.result m (omega arith)) (rw (left-some c.args.took m (omega arith)) (record {
-      lively = LivelyIn-dropped _ _ _ c.args.at (λ e. false≢true (sym (sym c.is_open_at.ensures ∙ c.if-is_open_at.false) ∙ ap (λ v. ltb 0 (open_count v)) e)) (rw c.spelled.ensures at c.event.ensures.told);
+      lively = LivelyIn-dropped _ _ _ c.args.at (λ e. false≢true (sym (sym c.is_open_at.ensures ∙ c.if-is_open_at.false) ∙ ap (λ v. ltb 0 (open_count v)) e)) (rw c.spelled.ensures at (told_event _ _ _ c.event.ensures.given));
       lives = Lives-weaken (AllBack-stays _ c.args.at.obj.0) (λ ds k. Livens-calm (Calms-idle k (λ p q x y w v i j. rest-shut c.args.self.now.book c.args.at _ p q y x.sent y.taken w v shut j i))) (Lives-plain g.N.Node.stands now _ _ (λ st. Holds c.args.at Up (Some (said_behind c.args.took m)) ∷ st) (λ st. Holds c.args.at Up None ∷ st) (Dropped c.args.at) (Loses-refl _) refl (rw c.spelled.ensures at c.event.ensures.given) (λ st ds s k. (_, drops_rest c.args.at (said_behind c.args.took m) shut, k)) (Calms-plain _ _ _ (Dropped c.args.at) (Mild-same refl (λ x k. refl)) (λ p a. refl)));
     }))

@@ -6,6 +6,7 @@ use Rattle.nb_graph.specs.Lives.{here}
 use Rattle.std.proofs.Common.{[]}
 use Rattle.nb_graph.specs.Follows.{finds_none, makes_none}
 use Rattle.nb_graph.specs.Deeds.{Makes, is_full}
+use Rattle.nb_ledger.proofs.RunLemmas.{told_event}
 use Rattle.nb_graph.proofs.AliveLemmas.{CalmFor-turned}
 use Rattle.std.proofs.Common.{◌∷◌}
 use Rattle.nb_graph.proofs.LivelyLemmas.{LivelyIn-dropped}
@@ -21,7 +22,7 @@ use Rattle.nb_graph.proofs.inner.Inner.make_at.Goals as goal
 pub returns-then-not-is_free-clause-lives : goal.returns-then-not-is_free-clause-lives
 unfolding LivelyIn-dropped
 returns-then-not-is_free-clause-lives g c = record {
-  lively = LivelyIn-dropped _ _ _ c.args.at (λ e. false≢true (sym c.if-not-is_free.true ∙ c.is_free.ensures.1 e)) (rw c.spelled.ensures at c.event.ensures.told);
+  lively = LivelyIn-dropped _ _ _ c.args.at (λ e. false≢true (sym c.if-not-is_free.true ∙ c.is_free.ensures.1 e)) (rw c.spelled.ensures at (told_event _ _ _ c.event.ensures.given));
   lives = Lives-weaken (λ x w v k. k.1) (λ ds k. Livens-calm (Calms-idle k (λ p q x y w v i j. inr i.0))) (Lives-plain g.N.Node.stands c.args.now _ _ (λ st. Makes c.args.at c.args.node ∷ st) here (Dropped c.args.at) (Loses-refl _) refl (rw c.spelled.ensures at c.event.ensures.given) (λ st ds s k. ([], makes_none c.args.at c.args.node (λ e. false≢true (sym c.if-not-is_free.true ∙ c.is_free.ensures.1 e)), k)) (Calms-plain _ _ _ (Dropped c.args.at) (Mild-same refl (λ x k. refl)) (λ p a. refl)));
 }
 
