@@ -11,7 +11,7 @@ from shared.command_line import run
 
 BLOCKS = Bench(
     Path(__file__).resolve().parent / "blocks.rt.txt",
-    ("nb_nodes", "nb_graph", "nb_terms", "nb_wire"),
+    ("nb_nodes", "nb_graph", "nb_ledger", "nb_terms", "nb_wire"),
 )
 
 

@@ -9,7 +9,7 @@ from pathlib import Path
 from bench import Bench, measure
 from shared.command_line import run
 
-ENTRIES = Bench(Path(__file__).resolve().parent / "entries.rt.txt", ("nb_graph", "nb_terms"))
+ENTRIES = Bench(Path(__file__).resolve().parent / "entries.rt.txt", ("nb_graph", "nb_ledger", "nb_terms"))
 
 
 def measure_entries(words: list[str]) -> None:

@@ -1,5 +1,5 @@
 -- What was told when an open was begun, closed or released.
-use Rattle.std.proofs.Common.{◌≡◌, ℕ, List, [], ◌++◌, Option, Some, refl, sym, ◌∙◌, ap, subst}
+use Rattle.std.proofs.Common.{Ok, Err, Result, OnOk, ◌≡◌, ℕ, List, [], ◌++◌, Option, Some, refl, sym, ◌∙◌, ap, subst}
 use Rattle.nb_terms.specs.declared.cause.Cause.{Cause}
 use Rattle.nb_ledger.specs.Flat.{Notice}
 use Rattle.nb_ledger.proofs.RunLemmas.{Given-append}
@@ -35,6 +35,11 @@ pub completes_so : (g : Objects Obj) (d : Download) (b : Begun) (now rec : ℕ) 
     DoesBegin g d.fetch.0 d.tftp.0 b now rec (heard (Some [])) (heard told) → WasTold told c2 → BeginsCompleted g d b now rec made told
 completes_so g d b now rec made told c1 c2 given was does told_so =
     completes_by g d b now rec made told does.0 c2 (given_is made (completed_notices d.fetch.0 d.tftp.0) was.0 given was.1) (given_is told does.0 told_so.0 does.1 told_so.1) does.2 told_so
+
+-- what follows where it is so
+pub on_ok : {U E : Type 0} (r : Result U E) (P Q : Type 0) → (P → Q) → OnOk r P → OnOk r Q
+on_ok (Ok u) P Q f p = f p
+on_ok (Err e) P Q f p = tt
 
 -- what an outlet was given, that has all, stands behind what it had
 pub given_more : (a c : Option (List Notice)) (xs ns all : List Notice) → IsGiven a c xs → a ≡ Some ns → c ≡ Some all → c ≡ Some (ns ++ xs)

@@ -1,5 +1,5 @@
 -- What came to a fetch's objects came to its open.
-use Rattle.std.proofs.Common.{◌≡◌, ℕ, List, [], Option, Some, None, refl, sym, subst, ◌∙◌, ap}
+use Rattle.std.proofs.Common.{◌≡◌, ℕ, false, List, [], Option, Some, None, refl, sym, subst, ◌∙◌, ap}
 use Rattle.nb_ledger.specs.Flat.{Notice}
 use Rattle.nb_ledger.specs.declared.port.Port.{Port}
 use Rattle.nb_ledger.specs.declared.event.Way.{Way}

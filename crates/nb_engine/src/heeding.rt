@@ -41,23 +41,21 @@ impl Client {
         script: RunningScript,
         fetch: KeptFetch,
         closed: Option<Cause>,
-        told: Box<Spelled>,
+        told: &Spelled,
         desk: &mut Desk,
         log: &mut Log,
     ) -> Turn
         requires sound { (g : Objects Object) × IsSound self.old.used self.old.world g (stage.Waiting script fetch) }
-        requires told { HasSpelled told.value closed }
-        requires called { IsCalled self.old.graph fetch.objects self.old.world.net (speaker_of fetch) told.value }
-        ensures { (p : Port) (by : Way) (rec : ℕ) (ns : List Notice) → IsSpelled self.old.world.net (speaker_of fetch) told.value ns
+        requires told { HasSpelled told.now closed }
+        requires called { IsCalled self.old.graph fetch.objects self.old.world.net (speaker_of fetch) told.now }
+        ensures { (p : Port) (by : Way) (rec : ℕ) (ns : List Notice) → IsSpelled self.old.world.net (speaker_of fetch) told.now ns
             → WasCalled self.old.graph fetch.objects p by rec ns
             → Heeds result script (HasHeard self.old.graph fetch p by rec ns) (standing self.old (stage.Waiting script fetch)) self.new log.old log.new }
     {
-        let turn = match closed {
-            None => self.go_on(script, fetch, &told, log),
-            Some(cause) => self.end(script, fetch, cause, &told, desk, log),
-        };
-        desk.spelled = Some(told);
-        turn
+        match closed {
+            None => self.go_on(script, fetch, told, log),
+            Some(cause) => self.end(script, fetch, cause, told, desk, log),
+        }
     }
 
     /// The open goes on.

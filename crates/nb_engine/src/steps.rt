@@ -242,7 +242,11 @@ impl Client {
         objects.message(&mut self.graph, rec, port, body, now, &mut out);
         let told = out.told;
         match told.first_close() {
-            Ok(closed) => self.heed(script, fetch, closed, told, desk, log),
+            Ok(closed) => {
+                let turn = self.heed(script, fetch, closed, &told, desk, log);
+                desk.spelled = Some(told);
+                turn
+            }
             Err(NoMemory) => Turn::Over(Status::NoMemory),
         }
     }
@@ -291,7 +295,11 @@ impl Client {
         objects.time(&mut self.graph, self.world.time, &mut out);
         let told = out.told;
         match told.first_close() {
-            Ok(closed) => self.heed(script, fetch, closed, told, desk, log),
+            Ok(closed) => {
+                let turn = self.heed(script, fetch, closed, &told, desk, log);
+                desk.spelled = Some(told);
+                turn
+            }
             Err(NoMemory) => Turn::Over(Status::NoMemory),
         }
     }

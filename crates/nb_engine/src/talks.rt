@@ -228,8 +228,9 @@ pub fn free_waiter(
     ensures told { OnOk result (freed.new ≡ Some (freed_beside waiter)) }
 {
     freed.clear();
-    if let Some(waiter) = waiter {
-        waiter.release(graph, freed);
+    match waiter {
+        Some(waiter) => waiter.release(graph, freed),
+        None => {}
     }
     whole(freed)
 }

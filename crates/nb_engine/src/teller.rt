@@ -14,6 +14,7 @@ use nb_stack::Stack;
 use std::alloc::Global;
 
 /// What lies outside the graph of an open whose records are spelled as the graph tells of them.
+#[derive(Drop)]
 pub struct Teller<'a> {
     /// The client's link.
     pub(crate) net: &'a Stack,
@@ -96,7 +97,8 @@ impl<'a> Outside for Teller<'a> {
                 send_datagram(&mut self.told, self.net, self.who, self.room, None, msg)
             }
             Ok(Tag::Try) => send_try(&mut self.told, self.net, self.who, self.room, msg),
-            Ok(Tag::Bytes | Tag::Address) => {}
+            Ok(Tag::Bytes) => {}
+            Ok(Tag::Address) => {}
             _ => self.told.lose(),
         }
     }

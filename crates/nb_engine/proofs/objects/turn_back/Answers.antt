@@ -1,14 +1,10 @@
-use Rattle.std.proofs.Common.{◌++◌, Option, Ok, Err, Result, OnOk}
+use Rattle.std.proofs.Common.{◌++◌, Option}
 use Rattle.nb_terms.specs.declared.cause.Cause.{Cause}
 use Rattle.nb_opens.specs.Notices.{closed_notices, freed_notices}
 use Rattle.nb_engine.specs.Notes.{WasTold}
 use Rattle.nb_engine.specs.Objects.{TellsMore}
-use Rattle.nb_engine.proofs.BeginLemmas.{given_two}
+use Rattle.nb_engine.proofs.BeginLemmas.{given_two, on_ok}
 use Rattle.nb_engine.proofs.objects.turn_back.Goals as goal
-
-on_ok : {U E : Type 0} (r : Result U E) (P Q : Type 0) → (P → Q) → OnOk r P → OnOk r Q
-on_ok (Ok u) P Q f p = f p
-on_ok (Err e) P Q f p = tt
 
 pub returns-clause-told : goal.returns-clause-told
 returns-clause-told c =

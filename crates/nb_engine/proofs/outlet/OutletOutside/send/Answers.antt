@@ -16,14 +16,14 @@ invariant_of-self-in-Some c =
     note (bytes_two inside.bytes.items m.first.now m.second.now _ _ first both)
     (c.push.ensures.items ∙ ap (λ b. is_added b inside.notes.items c.in-Some.note) (sym c.is_ok-is_kept.ensures.value)) c.self.invariant
 
-pub returns-in-Some-clause-given : goal.returns-in-Some-clause-given
-returns-in-Some-clause-given c =
+pub returns-in-Some : goal.returns-in-Some
+returns-in-Some c =
     let inside = c.self.inside in
     let m = c.args.msg.now in
     let first : c.extend.new.bytes.items ≡ inside.bytes.items ++ m.first.now = search rules in
     let both : c.extend-else-not-extend.new.bytes.items ≡ c.extend.new.bytes.items ++ m.second.now = search rules in
     let start : length c.as_slice-start.result.now ≡ length inside.bytes.items = ap length c.as_slice-start.ensures.value in
     let note : IsNoteFor c.args.from m (length inside.bytes.items) c.in-Some.note = subst (λ k. IsNoteFor c.args.from m k c.in-Some.note) start c.in-Some.ensures in
-    rw (← c.self.view_is) (message_given inside.lost c.is_ok-is_kept.result inside.bytes.items c.extend-else-not-extend.new.bytes.items inside.notes.items c.push.new.self.items c.args.from m c.in-Some.note inside.closed
+    record { given = rw (← c.self.view_is) (message_given inside.lost c.is_ok-is_kept.result inside.bytes.items c.extend-else-not-extend.new.bytes.items inside.notes.items c.push.new.self.items c.args.from m c.in-Some.note inside.closed
     note (bytes_two inside.bytes.items m.first.now m.second.now _ _ first both)
-    (c.push.ensures.items ∙ ap (λ b. is_added b inside.notes.items c.in-Some.note) (sym c.is_ok-is_kept.ensures.value)) c.self.invariant)
+    (c.push.ensures.items ∙ ap (λ b. is_added b inside.notes.items c.in-Some.note) (sym c.is_ok-is_kept.ensures.value)) c.self.invariant) }
