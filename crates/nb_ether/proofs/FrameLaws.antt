@@ -1,11 +1,11 @@
 -- A frame has one spelling, and bytes are at most one frame.
-use Rattle.std.proofs.Common.{◌≡◌, ℕ, List, [], ◌∷◌, ◌++◌, length, get_or, refl, sym, ap, ◌∙◌, append_assoc, arith}
+use Rattle.std.proofs.Common.{◌≡◌, ℕ, List, ◌++◌, refl, sym, ap, ◌∙◌, append_assoc, arith}
 use Rattle.std.specs.Int.{w16, to_be_bytes, from_be_bytes}
 use Rattle.nb_wire.proofs.BytesLaws.{IsBytes}
 use Rattle.nb_wire.specs.declared.address.Mac.{Mac}
 use Rattle.std.proofs.lemmas.Nat.{be_bytes_2}
 use Rattle.nb_ether.specs.Frame.{Frame, IsFrame}
-use Rattle.nb_wire.proofs.BytesLaws.{Splits, append_one, be16_one, IsBytes-rest, IsBytes-front, six}
+use Rattle.nb_wire.proofs.BytesLaws.{Splits, append_one, be16_one, IsBytes-rest, IsBytes-front}
 
 right : (a b c d : List ℕ) → a ++ b ++ c ++ d ≡ a ++ (b ++ (c ++ d))
 right a b c d = simp append_assoc
@@ -45,11 +45,3 @@ frame_one bytes f g p q =
     let dsts : f.dst ≡ g.dst = ap (λ (x : List ℕ). let m : Mac = record { 0 = x } in m) dst in
     let srcs : f.src ≡ g.src = ap (λ (x : List ℕ). let m : Mac = record { 0 = x } in m) src in
     frame_same f g dsts srcs kind body
-
--- the fourteen bytes of a header are the addresses and the kind
-pub header_bytes : (dst src kind : List ℕ) (high low : ℕ) → length dst ≡ 6 → length src ≡ 6 → kind ≡ high ∷ low ∷ [] → get_or dst 0 0 ∷ get_or dst 1 0 ∷ get_or dst 2 0 ∷ get_or dst 3 0 ∷ get_or dst 4 0 ∷ get_or dst 5 0 ∷ get_or src 0 0 ∷ get_or src 1 0 ∷ get_or src 2 0 ∷ get_or src 3 0 ∷ get_or src 4 0 ∷ get_or src 5 0 ∷ get_or kind 0 0 ∷ get_or kind 1 0 ∷ [] ≡ dst ++ src ++ high ∷ low ∷ []
-header_bytes dst src kind high low d s k =
-    let tail : List ℕ = get_or src 0 0 ∷ get_or src 1 0 ∷ get_or src 2 0 ∷ get_or src 3 0 ∷ get_or src 4 0 ∷ get_or src 5 0 ∷ [] in
-    ap (λ (x : List ℕ). x ++ tail ++ get_or kind 0 0 ∷ get_or kind 1 0 ∷ []) (six dst d)
-    ∙ ap (λ (x : List ℕ). dst ++ x ++ get_or kind 0 0 ∷ get_or kind 1 0 ∷ []) (six src s)
-    ∙ ap (λ (x : List ℕ). dst ++ src ++ get_or x 0 0 ∷ get_or x 1 0 ∷ []) k

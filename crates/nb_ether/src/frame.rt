@@ -1,4 +1,5 @@
 ghost use Rattle.std.specs.Prelude.{◌≡◌, ℕ, ◌+◌, ◌<◌, List, ◌++◌, ◌↔◌, length, IfSome, IsSomeAnd, IsErr, OnOk, OnErr};
+ghost use Rattle.std.specs.Int.{w16, to_be_bytes};
 
 use nb_wire::{Full, Mac, Out};
 
@@ -61,9 +62,22 @@ impl<'a> EtherFrame<'a> {
         ensures readable { (body : List ℕ) → IsFrame (frame_head dst src kind ++ body)
             (record { dst = dst; src = src; kind = kind; body = body }) }
     {
-        let Mac([d0, d1, d2, d3, d4, d5]) = dst;
-        let Mac([s0, s1, s2, s3, s4, s5]) = src;
-        let [k0, k1] = kind.to_be_bytes();
-        [d0, d1, d2, d3, d4, d5, s0, s1, s2, s3, s4, s5, k0, k1]
+        let Mac(address) = dst;
+        let mut head = [0; 14];
+        *head.last_chunk_mut().unwrap() = after_dst(src, kind);
+        *head.first_chunk_mut().unwrap() = address;
+        head
     }
+}
+
+// What follows the first address of a frame. The addresses are copied whole, and not byte by byte.
+#[inline(always)]
+fn after_dst(src: Mac, kind: u16) -> [u8; 8]
+    ensures { result ≡ src.0 ++ to_be_bytes w16 kind }
+{
+    let Mac(address) = src;
+    let mut rest = [0; 8];
+    *rest.last_chunk_mut().unwrap() = kind.to_be_bytes();
+    *rest.first_chunk_mut().unwrap() = address;
+    rest
 }

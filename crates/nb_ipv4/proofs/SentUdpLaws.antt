@@ -4,7 +4,7 @@ use Rattle.std.specs.Int.{w16, w32, to_be_bytes}
 use Rattle.nb_wire.specs.declared.address.Ip4.{Ip4}
 use Rattle.nb_wire.specs.Checksum.{words, checksum, SameSum, HasSum}
 use Rattle.nb_wire.proofs.BytesLaws.{IsBytes}
-use Rattle.nb_wire.proofs.ChecksumLaws.{checksum-zero, checksum-closes, checksum-ones, SameSum-parts, IsBytes-append}
+use Rattle.nb_wire.proofs.ChecksumLaws.{checksum-zero, checksum-closes, checksum-ones, SameSum-parts, SameSum-trans, IsBytes-append}
 use Rattle.nb_ipv4.specs.UdpText.{UdpParts, IsUdp, udp_header, udp_text, udp_sum, pseudo_header, sent_field, sent_datagram}
 use Rattle.nb_ipv4.proofs.NumberLaws.{bytes_of, bytes_onto, same_of}
 use Rattle.std.proofs.lemmas.List.{length-append}
@@ -87,6 +87,17 @@ header_fits d = bytes_of (udp_header d 0) (omega arith, (omega arith, (omega ari
 header_sum : (d : UdpParts) → d.src_port < 2 ^ 16 → d.dst_port < 2 ^ 16 → 8 + length d.body < 2 ^ 16 → SameSum ((d.src_port + d.dst_port) + (8 + length d.body)) (sum (words (udp_header d 0)))
 unfolding udp_header
 header_sum d src_port dst_port room = same_of (omega (arith, src_port, dst_port, room))
+
+-- a carry counts as 1, so an address stands for both of its words
+pub pseudo_stands : (src dst : Ip4) (len n : ℕ) → src.0 < 2 ^ 32 → dst.0 < 2 ^ 32 → len < 2 ^ 16 → n ≡ src.0 + dst.0 + 17 + len → HasSum (pseudo_header src dst len) n
+pseudo_stands src dst len n src_fits dst_fits room is =
+    let m : ℕ = sum (words (to_be_bytes w32 src.0)) + sum (words (to_be_bytes w32 dst.0)) + 17 + len in
+    let has = pseudo_has_sum src dst len m room refl in
+    record {
+      even = has.even;
+      fits = has.fits;
+      same = SameSum-trans n m _ (omega (arith, is, src_fits, dst_fits), λ z. absurd (omega (arith, is, z)), λ z. absurd (omega (arith, z))) has.same;
+    }
 
 -- the same sum with that of a header whose checksum is 0
 pub covered_has_sum : (src dst : Ip4) (d : UdpParts) (m n : ℕ) → HasSum (pseudo_header src dst (8 + length d.body)) m → d.src_port < 2 ^ 16 → d.dst_port < 2 ^ 16 → 8 + length d.body < 2 ^ 16 → n ≡ m + (d.src_port + d.dst_port) + (8 + length d.body) → HasSum (pseudo_header src dst (8 + length d.body) ++ udp_header d 0) n

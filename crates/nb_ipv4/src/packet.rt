@@ -3,7 +3,7 @@ ghost use Rattle.std.specs.Int.{w32, to_be_bytes};
 ghost use Rattle.nb_wire.specs.Checksum.{checksum, HasSum};
 ghost use Rattle.nb_ipv4.specs.PacketText.{sent_parts, header_text, sent_header};
 
-use nb_wire::{Full, Ip4, Out, sum_of_address, sum16, sum16_of, sum16_of_20};
+use nb_wire::{Full, Ip4, Out, is_intact_after, sum_of_address, sum16, sum16_of};
 
 /// The protocol of a packet whose body is an ICMP message (RFC 792).
 pub const PROTO_ICMP: u8 = 1;
@@ -182,7 +182,7 @@ fn is_header_intact(header: &[u8]) -> bool
     ensures { MatchBool result (checksum header.now ≡ 0) (0 < checksum header.now) }
 {
     match header.first_chunk::<20>() {
-        Some(fixed) if header.len() == 20 => sum16_of_20(fixed) == 0,
+        Some(fixed) if header.len() == 20 => is_intact_after(0, fixed),
         _ => sum16(header, &[]) == 0,
     }
 }

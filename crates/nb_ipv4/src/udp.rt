@@ -3,7 +3,7 @@ ghost use Rattle.nb_wire.specs.Checksum.{checksum, HasSum};
 ghost use Rattle.nb_ipv4.specs.UdpText.{UdpParts, udp_header, pseudo_header, sent_field};
 
 use crate::packet::PROTO_UDP;
-use nb_wire::{Full, Ip4, Out, sum_of_address, sum16_after};
+use nb_wire::{Full, Ip4, Out, is_intact_after, sum_of_address, sum16_after};
 
 /// The bytes of a UDP header.
 const HEADER_LEN: u16 = 8;
@@ -99,6 +99,16 @@ fn pseudo_sum(src: Ip4, dst: Ip4, len: u16) -> u32
     sum_of_address(src) + sum_of_address(dst) + u32::from(PROTO_UDP) + u32::from(len)
 }
 
+// A number that stands for the words of the pseudo-header: in their sum a carry counts as 1, so each
+// address is added as one number.
+#[inline(always)]
+fn pseudo_total(src: Ip4, dst: Ip4, len: u16) -> u64
+    ensures sum { HasSum (pseudo_header src dst len) result }
+    ensures room { result < 2 ^ 40 }
+{
+    u64::from(src.0) + u64::from(dst.0) + u64::from(PROTO_UDP) + u64::from(len)
+}
+
 // The sum of the words of the pseudo-header and of a header whose checksum is 0.
 #[inline(always)]
 fn covered_sum(src: Ip4, dst: Ip4, src_port: u16, dst_port: u16, len: u16) -> u32
@@ -129,7 +139,7 @@ fn is_intact(field: u16, src: Ip4, dst: Ip4, datagram: &[u8]) -> bool
     ensures { let sum = checksum (pseudo_header src dst (length datagram.now) ++ datagram.now) in
         MatchBool result ((field ≡ 0) ⊎ (sum ≡ 0)) ((0 < field) × (0 < sum)) }
 {
-    field == 0 || sum16_after(pseudo_sum(src, dst, datagram.len() as u16), &[], datagram) == 0
+    field == 0 || is_intact_after(pseudo_total(src, dst, datagram.len() as u16), datagram)
 }
 
 // A computed 0 is sent as all ones, since 0 says that there is no checksum.

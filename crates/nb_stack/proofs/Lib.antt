@@ -1,4 +1,5 @@
 pub mod AnswerLaws
+pub mod MacLaws
 pub mod MessageLaws
 pub mod PutLaws
 pub mod ReadingLaws

@@ -1,5 +1,5 @@
 -- RFC 894, RFC 791: how long what a frame brings is.
-use Rattle.std.proofs.Common.{◌≡◌, ℕ, ◌+◌, ◌≤◌, length, Bool, true, false, cond, List, ◌++◌, Option, Some, None, sym, ap, subst, arith}
+use Rattle.std.proofs.Common.{◌≡◌, ℕ, ◌≤◌, length, Bool, true, false, cond, List, ◌++◌, Option, Some, None, sym, ap, subst, arith}
 use Rattle.std.proofs.lemmas.List.{length-append}
 use Rattle.nb_ether.specs.Frame.{Frame, IsFrame}
 use Rattle.nb_ipv4.specs.PacketText.{PacketParts, IsPacket}

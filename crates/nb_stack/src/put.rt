@@ -63,10 +63,47 @@ pub(crate) fn put_message(
         (length (message_frame dst src from (message_of envelope.now first.now second.now))) }
 {
     let to = envelope.to;
+    match envelope.proto {
+        PROTO_UDP => {
+            let ends = Endpoints { dst, src, from, to };
+            put_datagram(
+                ends,
+                envelope.own_port,
+                envelope.to_port,
+                first,
+                second,
+                out,
+            )
+        }
+        _ => put_other(dst, src, from, envelope, first, second, out),
+    }
+}
+
+// Puts a message that is no datagram.
+#[inline(never)]
+fn put_other(
+    dst: Mac,
+    src: Mac,
+    from: Ip4,
+    envelope: &Envelope,
+    first: &[u8],
+    second: &[u8],
+    out: &mut Out<'_>,
+)
+    requires carried { IsCarried envelope.now.proto first.now }
+    requires other { envelope.now.proto ≡ 17 → ⊥ }
+    requires even { length first.now % 2 ≡ 0 }
+    requires short { length first.now + length second.now ≤ 1480 }
+    requires room { 1522 ≤ out.old.left }
+    ensures put { out.new.written ≡ out.old.written
+        ++ message_frame dst src from (message_of envelope.now first.now second.now) }
+    ensures size { IsFrameSize
+        (length (message_frame dst src from (message_of envelope.now first.now second.now))) }
+{
+    let to = envelope.to;
     let ends = Endpoints { dst, src, from, to };
     let (own, other) = (envelope.own_port, envelope.to_port);
     match envelope.proto {
-        PROTO_UDP => put_datagram(ends, own, other, first, second, out),
         PROTO_ICMP => put_echo(ends, ECHO_REQUEST, own, other, first, second, out),
         _ => put_segment(ends, first, second, out),
     }
@@ -96,8 +133,29 @@ fn put_datagram(
         ([], [a, b, c, d]) => {
             put_any_datagram(ends, own_port, to_port, &[], &[*a, *b, *c, *d], out)
         }
-        _ => put_any_datagram(ends, own_port, to_port, first, second, out),
+        _ => put_long_datagram(ends, own_port, to_port, first, second, out),
     }
+}
+
+#[inline(never)]
+fn put_long_datagram(
+    ends: Endpoints,
+    own_port: u16,
+    to_port: u16,
+    first: &[u8],
+    second: &[u8],
+    out: &mut Out<'_>,
+)
+    requires even { length first.now % 2 ≡ 0 }
+    requires short { length first.now + length second.now ≤ 1480 }
+    requires room { 1522 ≤ out.old.left }
+    ensures put { let d = sent_udp own_port to_port first.now second.now in
+        out.new.written
+        ≡ out.old.written ++ packet_between ends 17 (sent_datagram ends.from ends.to d) }
+    ensures size { let d = sent_udp own_port to_port first.now second.now in
+        IsFrameSize (length (packet_between ends 17 (sent_datagram ends.from ends.to d))) }
+{
+    put_any_datagram(ends, own_port, to_port, first, second, out)
 }
 
 #[inline(always)]

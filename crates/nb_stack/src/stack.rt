@@ -131,12 +131,32 @@ impl Stack {
         ensures up { self.new.up ≡ self.old.up }
         ensures ports { self.new.ports ≡ self.old.ports }
     {
-        let Some(frame) = self.frame_for(frame) else {
+        let Some(read) = self.frame_for(frame) else {
             return Taken::Drop;
         };
-        match udp_packet_in(frame) {
-            Some(packet) => self.take_datagram(frame, packet),
-            None => self.take_other(frame, reply),
+        match udp_packet_in(read) {
+            Some(packet) => self.take_datagram(read, packet),
+            None => self.take_any(frame, reply),
+        }
+    }
+
+    // Takes a frame of any kind. It is read anew, so that the fields of a datagram's needn't be stored for
+    // this call.
+    #[inline(never)]
+    fn take_any<'a>(&mut self, frame: &'a [u8], reply: &mut Out<'_>) -> Taken<'a>
+        requires frame { length frame.now ≤ 1522 }
+        requires room { 1522 ≤ reply.old.left }
+        ensures takes { Takes self.old frame.now
+            (outcome result) reply.old.written reply.new.written self.new }
+        ensures size { (r : List ℕ) × (reply.new.written ≡ reply.old.written ++ r) × IsReplySize r }
+        ensures mac { self.new.mac ≡ self.old.mac }
+        ensures address { self.new.address ≡ self.old.address }
+        ensures up { self.new.up ≡ self.old.up }
+        ensures ports { self.new.ports ≡ self.old.ports }
+    {
+        match self.frame_for(frame) {
+            Some(frame) => self.take_other(frame, reply),
+            None => Taken::Drop,
         }
     }
 
@@ -178,7 +198,6 @@ impl Stack {
     }
 
     // Of every other frame the message is made first.
-    #[inline(never)]
     fn take_other<'a>(&mut self, frame: EtherFrame<'a>, reply: &mut Out<'_>) -> Taken<'a>
         requires frame { (bytes : List ℕ) × IsFrame bytes (frame_of frame) × (length bytes ≤ 1522) }
         requires room { 1522 ≤ reply.old.left }

@@ -71,6 +71,12 @@ SameSum-parts a b m n even first second =
     let e = sum-words-append a b even in
     (omega (arith, e, first.0, second.0), λ z. omega (arith, e, first.1 (omega arith), second.1 (omega arith)), λ z. omega (arith, e, first.2 (omega (arith, e)), second.2 (omega (arith, e))))
 
+pub SameSum-refl : (a : ℕ) → SameSum a a
+SameSum-refl a = (refl, λ z. z, λ z. z)
+
+pub SameSum-trans : (a b c : ℕ) → SameSum a b → SameSum b c → SameSum a c
+SameSum-trans a b c first second = (first.0 ∙ second.0, λ z. second.1 (first.1 z), λ z. first.2 (second.2 z))
+
 -- the checksum of two parts, from a number for each of them
 pub checksum-parts : (a b : List ℕ) (m n : ℕ) → IsBytes a → IsBytes b → length a % 2 ≡ 0 → SameSum m (sum (words a)) → SameSum n (sum (words b)) → checksum (a ++ b) ≡ 65535 - sum_word (m + n)
 checksum-parts a b m n p q even first second =

@@ -54,6 +54,16 @@ pub turned_end : (t f l r s : ℕ) → f % 65535 ≡ t % 65535 → (f ≡ 0 → 
 turned_end t f l r s same zero none rest all =
     (omega (arith, same, rest.0, all.0), λ z. all.1 (omega (arith, zero (omega (arith, z)), rest.1 (omega (arith, z)))), λ z. omega (arith, none (omega (arith, all.2 z)), rest.2 (omega (arith, all.2 z))))
 
+-- the sum of what is left
+pub turned_last : (t r l s : ℕ) → SameSum r l → SameSum (256 * t + l) s → SameSum (256 * t + r) s
+turned_last t r l s rest all =
+    (omega (arith, rest.0, all.0), λ z. all.1 (omega (arith, z, rest.1 (omega (arith, z)))), λ z. omega (arith, all.2 z, rest.2 (omega (arith, all.2 z))))
+
+-- a sum that isn't turned, with another before it, is turned and added
+pub turned_whole : (u t r before s : ℕ) → SameSum u (t + 256 * (before + r)) → SameSum (256 * t + r) s → SameSum (256 * u) (before + s)
+turned_whole u t r before s sum all =
+    (omega (arith, sum.0, all.0), λ z. omega (arith, sum.1 (omega (arith, z)), all.1 (omega (arith, sum.1 (omega (arith, z))))), λ z. omega (arith, sum.2 (omega (arith, z, all.2 (omega (arith, z))))))
+
 -- what is left has no byte where all were taken
 pub turned_all : (rest : List ℕ) (t s : ℕ) → length rest < 8 → length rest % 8 ≡ 0 → SameSum (256 * t + sum (words rest)) s → SameSum (256 * t) s
 turned_all [] t s short eights all = (omega (arith, all.0), λ z. all.1 (omega (arith, z)), λ z. omega (arith, all.2 z))

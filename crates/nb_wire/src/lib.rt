@@ -13,7 +13,7 @@ mod word;
 
 pub use address::{Ip4, Mac};
 pub use out::{Full, Out};
-pub use sum::{sum_of_address, sum16, sum16_after, sum16_of, sum16_of_20};
+pub use sum::{is_intact_after, sum_of_address, sum16, sum16_after, sum16_of, sum16_of_20};
 pub use text::Text;
 pub use view::View;
 pub use word::{MAX_WORD, Word, Words};

@@ -1,4 +1,4 @@
-ghost use Rattle.std.specs.Prelude.{◌≡◌, ℕ, ◌+◌, ◌-◌, ◌*◌, ◌%◌, ◌^◌, ◌<◌, ◌≤◌, List, ◌++◌, length, slice_index, sum};
+ghost use Rattle.std.specs.Prelude.{◌≡◌, ℕ, ◌+◌, ◌-◌, ◌*◌, ◌%◌, ◌^◌, ◌<◌, ◌≤◌, List, ◌++◌, length, slice_index, sum, MatchBool};
 ghost use Rattle.std.specs.Int.{w32, to_be_bytes, from_bool};
 ghost use Rattle.nb_wire.specs.Checksum.{words, checksum, SameSum, HasSum, sum_word};
 
@@ -26,6 +26,20 @@ pub fn sum16_after(before: u32, first: &[u8], second: &[u8]) -> u16
     complement(u64::from(before) + (total(first) + total(second)))
 }
 
+/// Whether the internet checksum of bytes whose 16-bit words have the sum `before`, and then `bytes`, is
+/// 0, as it is where they hold their own checksum.
+#[inline(always)]
+pub fn is_intact_after(before: u64, bytes: &[u8]) -> bool
+    requires before { before < 2 ^ 40 }
+    requires room { length bytes.now ≤ 131072 }
+    ensures { (front : List ℕ) → HasSum front before → let sum = checksum (front ++ bytes.now) in
+        MatchBool result (sum ≡ 0) (0 < sum) }
+{
+    let (turned, rest) = both_sums(bytes);
+    let (total, carry) = carried(turned, 256 * (before + rest), false);
+    is_full(total + u64::from(carry))
+}
+
 /// The internet checksum of bytes whose 16-bit words have this sum.
 #[inline(always)]
 pub fn sum16_of(sum_of_words: u32) -> u16
@@ -51,8 +65,7 @@ pub fn sum_of_address(ip: Ip4) -> u32
     ip.0 / 0x1_0000 + ip.0 % 0x1_0000
 }
 
-// In a sum of 16-bit words a carry counts as 1, so eight bytes may be added as one number; and 256 times
-// a word is the word with its bytes turned round, so the sum may be taken in the other order of bytes.
+// The sum of the bytes' words.
 #[inline(always)]
 fn total(bytes: &[u8]) -> u64
     requires { length bytes.now ≤ 131072 }
@@ -60,14 +73,33 @@ fn total(bytes: &[u8]) -> u64
     ensures room { result < 2 ^ 50 }
     ensures bytes { (i : ℕ) → slice_index bytes.now i < 256 }
 {
+    let (turned, rest) = both_sums(bytes);
+    256 * folded(turned) + rest
+}
+
+// The sum of the words of all whole eights of bytes, their bytes turned round, and that of the words of
+// what is left. In a sum of 16-bit words a carry counts as 1, so eight bytes may be added as one number;
+// and 256 times a word is the word with its bytes turned round, so the sum may be taken in the other
+// order of bytes.
+#[inline(always)]
+fn both_sums(bytes: &[u8]) -> (u64, u64)
+    requires { length bytes.now ≤ 131072 }
+    ensures same { SameSum (256 * result.0 + result.1) (sum (words bytes.now)) }
+    ensures room { result.1 < 2 ^ 40 }
+    ensures bytes { (i : ℕ) → slice_index bytes.now i < 256 }
+{
     let mut total: u64 = 0;
     let mut rest = bytes;
+    'widest: while let Some((block, after)) = rest.split_first_chunk::<256>() {
+        total = turned_sum(total, block);
+        rest = after;
+    }
     'wide: while let Some((block, after)) = rest.split_first_chunk::<64>() {
         total = turned_sum(total, block);
         rest = after;
     }
     let (front, last) = rest.split_at(rest.len() / 8 * 8);
-    256 * folded(turned_sum(total, front)) + rest_words(last)
+    (turned_sum(total, front), rest_words(last))
 }
 
 // The sum `before` and that of words with their bytes turned round, four at a time. The carry of each
@@ -115,7 +147,21 @@ fn folded(total: u64) -> u64
     total % 0x1_0000_0000 + total / 0x1_0000_0000
 }
 
+#[inline(always)]
 fn rest_words(rest: &[u8]) -> u64
+    requires { length rest.now < 8 }
+    ensures room { result < 2 ^ 40 }
+    ensures same { SameSum result (sum (words rest.now)) }
+{
+    match rest {
+        [] => 0,
+        [a, b, c, d] => u64::from(u32::from_be_bytes([*a, *b, *c, *d])),
+        _ => other_words(rest),
+    }
+}
+
+#[inline(never)]
+fn other_words(rest: &[u8]) -> u64
     requires { length rest.now < 8 }
     ensures room { result < 2 ^ 40 }
     ensures same { SameSum result (sum (words rest.now)) }
@@ -139,6 +185,15 @@ fn last_words(rest: &[u8]) -> u32
         [a] => u32::from(u16::from_be_bytes([*a, 0])),
         _ => 0,
     }
+}
+
+// Whether the one word that stands for a sum with its bytes turned round is all ones, so that its
+// complement is 0: the sum is a multiple of 0xffff, and not 0.
+#[inline(always)]
+fn is_full(turned: u64) -> bool
+    ensures { let sum = 65535 - sum_word (256 * turned) in MatchBool result (sum ≡ 0) (0 < sum) }
+{
+    turned.wrapping_sub(1) % 0xffff == 0xfffe
 }
 
 #[inline(always)]

@@ -4,8 +4,4 @@ use Rattle.nb_stack.proofs.stack.Stack.take.Goals as goal
 
 pub returns-in-Some-udp_packet_in-clause-takes : goal.returns-in-Some-udp_packet_in-clause-takes
 returns-in-Some-udp_packet_in-clause-takes c =
-    takes_of _ _ (frame_of c.in-Some.frame) _ _ _ _ c.in-Some.ensures.sound c.in-Some.ensures.complete (c.take_datagram.ensures c.args.reply.now.written)
-
-pub returns-in-None-clause-takes : goal.returns-in-None-clause-takes
-returns-in-None-clause-takes c =
-    takes_of _ _ (frame_of c.in-Some.frame) _ _ _ _ c.in-Some.ensures.sound c.in-Some.ensures.complete c.take_other.ensures.takes
+    takes_of _ _ (frame_of c.in-Some.read) _ _ _ _ c.in-Some.ensures.sound c.in-Some.ensures.complete (c.take_datagram.ensures c.args.reply.now.written)
