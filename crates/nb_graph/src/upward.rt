@@ -348,7 +348,7 @@ impl<N: Node> Inner<N> {
             → (0 < result) × IsOpen (port self.new.book at.obj.0 at.slot) }
     {
         let whole = length_of(msg);
-        if took == whole {
+        if took >= whole {
             return whole;
         }
         if self.book.is_open_at(at, key) {

@@ -1,4 +1,5 @@
-ghost use Rattle.std.specs.Prelude.{◌≡◌, [], IfOk};
+ghost use Rattle.std.specs.Prelude.{◌≡◌, ◌++◌, ◌∷◌, [], IfOk, List};
+ghost use Rattle.nb_graph.specs.Trace.{NodeEntry, regain};
 ghost use Rattle.nb_nodes.specs.Objects.{kind_of_obj, mark_of_obj, rank_of_obj};
 ghost use Rattle.nb_nodes.specs.Standing.{ObjStands, ObjHarvests};
 
@@ -63,6 +64,24 @@ impl Obj {
         ensures kind { IfOk result (λ o. kind_of_obj o ≡ 7) }
     {
         Ok(Obj::Ping(Box::new(alloc, Ping::new(alloc)?)?))
+    }
+
+    /// A load that was lent comes back. Not inlined, as only a Tftp's are frequent.
+    #[inline(never)]
+    fn take_back(&mut self, load: Load)
+        ensures rank { rank_of_obj self.new ≡ rank_of_obj self.old }
+        ensures kind { kind_of_obj self.new ≡ kind_of_obj self.old }
+        ensures mark { mark_of_obj self.new ≡ mark_of_obj self.old }
+        ensures stands { (t : List (NodeEntry Obj Load)) → ObjStands self.old t
+            → ObjStands self.new (t ++ regain load ∷ []) }
+    {
+        match self {
+            Obj::Fetch(_) => {}
+            Obj::Tftp(tftp) => tftp.regain(load),
+            Obj::Resolver(resolver) => resolver.regain(load),
+            Obj::Dhcp(dhcp) => dhcp.regain(load),
+            Obj::Ping(ping) => ping.regain(load),
+        }
     }
 }
 
@@ -149,13 +168,11 @@ impl Node for Obj {
         }
     }
 
+    #[inline(always)]
     fn regain(&mut self, load: Load) {
         match self {
-            Obj::Fetch(_) => {}
             Obj::Tftp(tftp) => tftp.regain(load),
-            Obj::Resolver(resolver) => resolver.regain(load),
-            Obj::Dhcp(dhcp) => dhcp.regain(load),
-            Obj::Ping(ping) => ping.regain(load),
+            _ => self.take_back(load),
         }
     }
 

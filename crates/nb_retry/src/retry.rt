@@ -49,12 +49,10 @@ impl Retry {
         ensures value { self.new ≡ started now plan }
         ensures stands { TimerStands self.new [] }
     {
-        *self = Retry {
-            since: now,
-            fired: plan.first_try(),
-            next: moment(now, plan, 0),
-            plan,
-        };
+        self.next = moment(now, plan, 0);
+        self.since = now;
+        self.fired = plan.first_try();
+        self.plan = plan;
     }
 
     /// Stops the timer.

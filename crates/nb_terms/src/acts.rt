@@ -71,8 +71,9 @@ impl Sends {
         requires fits { length head.now + length tail.now ≤ 1480 }
         ensures { self.new.items ≡ self.old.items ++ (record { proto = proto; to = to; to_port = to_port; own_port = own_port; body = record { items = head.now ++ tail.now } }) ∷ [] }
     {
-        self.places[self.count].set(proto, to, to_port, own_port, head, tail);
+        let place = self.count;
         self.count += 1;
+        self.places[place].set(proto, to, to_port, own_port, head, tail);
     }
 }
 
@@ -86,6 +87,19 @@ impl SendTo {
         self.to = to;
         self.to_port = to_port;
         self.own_port = own_port;
+        if tail.is_empty() && self.body.len() == head.len() {
+            self.body.as_mut_slice().copy_from_slice(head);
+        } else {
+            self.replace_body(head, tail);
+        }
+    }
+
+    /// The body becomes this one. Not inlined, as most bodies are of the last one's length.
+    #[inline(never)]
+    fn replace_body(&mut self, head: &[u8], tail: &[u8])
+        requires { length head.now + length tail.now ≤ 1480 }
+        ensures { self.new ≡ record self.old { body = record { items = head.now ++ tail.now } } }
+    {
         self.body.clear();
         let _ = self.body.try_extend_from_slice(head);
         let _ = self.body.try_extend_from_slice(tail);

@@ -1,8 +1,9 @@
 //! What a packet calls for.
 
-ghost use Rattle.std.specs.Prelude.{◌≡◌, ◌≤◌, Option, IfSome, IsTrue};
+ghost use Rattle.std.specs.Prelude.{◌≡◌, ◌≤◌, ℕ, Option, IfSome, IsTrue, true};
 ghost use Rattle.nb_tftp.specs.Decisions.{awaits_full, decided, block_decided, grant_decided, end_of_block, is_block_size, from_server, fixed_of, block_size_of, last_of, transfer_has_ended};
 ghost use Rattle.nb_tftpmsg.specs.Views.{message};
+ghost use Rattle.nb_tftp.specs.declared.answer.Phase.TheVariants.{Taking};
 
 use nb_terms::{Cause, Long, Plain, Reason};
 use nb_tftpmsg::Tftp;
@@ -77,6 +78,15 @@ impl Phase {
                     && u32::from(block) == u32::from(last) + 1
             }
             _ => false,
+        }
+    }
+
+    /// The block that it awaited was taken.
+    pub(crate) fn take(&mut self, block: u16)
+        ensures { (port size : ℕ) → awaits_full self.old port block size ≡ true → self.new ≡ Taking port size block }
+    {
+        if let Phase::Taking { last, .. } = self {
+            *last = block;
         }
     }
 

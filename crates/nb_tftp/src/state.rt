@@ -1,10 +1,11 @@
 //! The transfer's state, and its steps.
 
-ghost use Rattle.std.specs.Prelude.{◌≡◌, ◌≤◌, length, [], None};
+ghost use Rattle.std.specs.Prelude.{◌≡◌, ◌≤◌, ◌∷◌, ℕ, length, [], None, Some, IfSome, true};
 ghost use Rattle.nb_tftpmsg.specs.Texts.{HasNoZero};
-ghost use Rattle.nb_tftp.specs.Decisions.{fixed_of, last_of};
-ghost use Rattle.nb_tftp.specs.Asks.{begun_asking, datagram, last_message, acts_of, ack_of, taken, nothing, sending};
-ghost use Rattle.nb_tftpmsg.specs.Packets.{packet_text, ack, error};
+ghost use Rattle.nb_tftp.specs.Decisions.{awaits_full, fixed_of, last_of};
+ghost use Rattle.nb_tftp.specs.Asks.{begun_asking, datagram, last_message, acts_of, nothing, sending};
+ghost use Rattle.nb_tftpmsg.specs.Packets.{packet_text, ack, block, error};
+ghost use Rattle.nb_tftpmsg.specs.Reading.{packet_read};
 ghost use Rattle.nb_tftp.specs.Steps.{begun_of, first_state, after_answer, packet_acts, after_packet, bytes_acts, after_bytes, tick_acts, after_tick};
 ghost use Rattle.nb_tftpmsg.specs.Views.{message};
 ghost use Rattle.nb_tftp.specs.declared.answer.Phase.TheVariants.{Taking};
@@ -22,6 +23,8 @@ use nb_wire::Ip4;
 
 /// UDP (RFC 768).
 const UDP: u8 = 17;
+/// The opcode of a block (RFC 1350, section 5).
+const DATA: u8 = 3;
 /// "Unknown transfer ID" (RFC 1350, appendix).
 const UNKNOWN_TRANSFER: u16 = 5;
 /// The options that were granted are refused (RFC 2347).
@@ -71,12 +74,29 @@ impl State {
         }
     }
 
-    /// A datagram's body comes from this port. What is no packet is ignored.
+    /// A datagram's body comes from this port. What is no packet is ignored. All of `acts` is replaced. Not
+    /// inlined, as its caller's caller has no registers left.
+    #[inline(never)]
     pub(crate) fn datagram(&mut self, rec: u32, from: u16, body: &[u8], now: u64, acts: &mut Acts)
-        requires { acts.old ≡ nothing }
         ensures acts { acts.new ≡ bytes_acts self.old rec from body.now }
         ensures after { self.new ≡ after_bytes self.old rec from body.now now }
     {
+        match block_in(body) {
+            Some((number, bytes)) if self.phase.awaits_full(from, number, bytes.len()) => {
+                self.take_full(from, number, bytes, now, acts);
+            }
+            _ => self.any_datagram(rec, from, body, now, acts),
+        }
+    }
+
+    /// Any datagram. It stands apart, so that a full block costs less.
+    #[cold]
+    #[inline(never)]
+    fn any_datagram(&mut self, rec: u32, from: u16, body: &[u8], now: u64, acts: &mut Acts)
+        ensures acts { acts.new ≡ bytes_acts self.old rec from body.now }
+        ensures after { self.new ≡ after_bytes self.old rec from body.now now }
+    {
+        acts.clear();
         if let Some(packet) = Tftp::read(body) {
             self.packet(rec, from, &packet, now, acts);
         }
@@ -88,39 +108,28 @@ impl State {
         ensures acts { acts.new ≡ packet_acts self.old rec from (message packet.now) }
         ensures after { self.new ≡ after_packet self.old rec from (message packet.now) now }
     {
-        if let Tftp::Block { n, bytes } = packet {
-            if self.phase.awaits_full(from, *n, bytes.len()) {
-                return self.take_full(from, bytes.len() as u16, *n, now, acts);
-            }
-        }
-        self.answer(rec, from, *packet, now, acts);
-    }
-
-    /// The next block comes in its full size, and more can follow it.
-    fn take_full(&mut self, port: u16, size: u16, block: u16, now: u64, acts: &mut Acts)
-        requires { acts.old ≡ nothing }
-        ensures acts { acts.new ≡ taken (ack_of (begun_of self.old) port block) block size None }
-        ensures after { self.new ≡ record self.old { phase = Taking port size block; retry = started now Common } }
-    {
-        self.send_to(port, &ack_bytes(block), acts);
-        take_block(block, size, None, acts);
-        self.await_block(port, size, block, now);
-    }
-
-    /// Any packet. It stands apart and takes a copy, so that a full block costs less.
-    #[cold]
-    #[inline(never)]
-    fn answer(&mut self, rec: u32, from: u16, packet: Tftp<'_>, now: u64, acts: &mut Acts)
-        requires { acts.old ≡ nothing }
-        ensures acts { acts.new ≡ packet_acts self.old rec from (message packet.entry) }
-        ensures after { self.new ≡ after_packet self.old rec from (message packet.entry) now }
-    {
         if self.phase.is_over() {
             return;
         }
-        let answer = self.phase.decide(self.options, rec, from, &packet);
+        let answer = self.phase.decide(self.options, rec, from, packet);
         self.follow(from, answer, now);
         self.ask(from, answer, acts);
+    }
+
+    /// The next block comes in its full size, and more can follow it. The message is added last, so that
+    /// nothing has to be kept over that call.
+    #[inline(always)]
+    fn take_full(&mut self, port: u16, number: u16, bytes: &[u8], now: u64, acts: &mut Acts)
+        requires awaits { awaits_full self.old.phase port number (length bytes.now) ≡ true }
+        requires fits { length bytes.now ≤ 65535 }
+        ensures acts { (rec : ℕ) → acts.new ≡ packet_acts self.old rec port (block number bytes.now) }
+        ensures after { (rec : ℕ) → self.new ≡ after_packet self.old rec port (block number bytes.now) now }
+    {
+        self.phase.take(number);
+        self.restart(now);
+        acts.clear();
+        take_block(number, bytes.len() as u16, None, acts);
+        self.send_to(port, &ack_bytes(number), acts);
     }
 
     /// It is this time.
@@ -177,6 +186,13 @@ impl State {
         ensures { self.new ≡ record self.old { phase = Taking port size last; retry = started now Common } }
     {
         self.phase = Phase::Taking { port, size, last };
+        self.restart(now);
+    }
+
+    /// The timer starts anew.
+    fn restart(&mut self, now: u64)
+        ensures { self.new ≡ record self.old { retry = started now Common } }
+    {
         self.retry.start(now, Plan::Common);
     }
 
@@ -205,14 +221,28 @@ impl State {
         }
     }
 
-    /// A message is sent, and nothing else.
+    /// A message is sent, the only one.
     fn send_to(&self, to_port: u16, body: &[u8], acts: &mut Acts)
-        requires plain { acts.old ≡ nothing }
+        requires none { acts.old.sends.items ≡ [] }
         requires fits { length body.now ≤ 1480 }
-        ensures { acts.new ≡ sending (datagram (begun_of self.now) to_port body.now) None }
+        ensures { acts.new ≡ record acts.old { sends = record { items = datagram (begun_of self.now) to_port body.now ∷ [] } } }
     {
         acts.sends
             .add(UDP, self.server, to_port, self.own_port, body, b"");
+    }
+}
+
+/// The number and the bytes of the block that a packet carries (RFC 1350, section 5). None where it
+/// carries none, or one without bytes.
+#[inline(always)]
+fn block_in(packet: &[u8]) -> Option<(u16, &[u8])>
+    ensures { IfSome result (λ found. packet_read packet.now ≡ Some (block found.0 found.1.now)) }
+{
+    match packet {
+        [0, DATA, high, low, bytes @ ..] if !bytes.is_empty() => {
+            Some((u16::from_be_bytes([*high, *low]), bytes))
+        }
+        _ => None,
     }
 }
 

@@ -66,6 +66,7 @@ impl Transfer {
     }
 
     /// A datagram of the transfer's port, from this port of the server; `rec` is its record's number.
+    #[inline(always)]
     pub fn message(&mut self, rec: u32, src_port: u16, body: &[u8], now: u64, acts: &mut Acts)
         // With this call and what it asks, the transfer stands for one call more. `Stands` has what it
         // promises of all of them.
@@ -75,7 +76,6 @@ impl Transfer {
         // After its end it ignores every call.
         ensures ended { (options : Bool) (b : Begun) (start : ℕ) (h : List Entry) → StandsWith options b start self.old h → is_ended h ≡ true → StandsWith options b start self.new h × (acts.new ≡ nothing) }
     {
-        acts.clear();
         self.state.datagram(rec, src_port, body, now, acts);
     }
 
