@@ -65,7 +65,8 @@ fn move_to_front(bytes: &mut Vec<u8>, start: usize, end: usize) -> usize
 }
 
 /// Writes a piece over the bytes from `end` on.
-fn copy_behind(bytes: &mut Vec<u8>, end: usize, piece: &[u8])
+#[inline(always)]
+pub(crate) fn copy_behind(bytes: &mut Vec<u8>, end: usize, piece: &[u8])
     requires { end + length piece.now ≤ vec_len bytes.old }
     ensures held { take (end + length piece.now) bytes.new.items ≡ take end bytes.old.items ++ piece.now }
     ensures len { vec_len bytes.new ≡ vec_len bytes.old }
