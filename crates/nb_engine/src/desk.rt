@@ -25,7 +25,7 @@ pub struct Desk {
     pub(crate) told: Outlet,
     /// What was told of what was let go after the end of an open.
     pub(crate) freed: Outlet,
-    /// What was spelled of what a fetch's objects told; None while it is lent.
+    /// What was spelled of what a fetch's objects told. None before the first, and while it is lent.
     pub(crate) spelled: Option<Box<Spelled>>,
     pub(crate) room: Room,
 }

@@ -48,7 +48,8 @@ impl Client {
         requires sound { (g : Objects Object) × IsSound self.old.used self.old.world g (stage.Waiting script fetch) }
         requires told { HasSpelled told.now closed }
         requires called { IsCalled self.old.graph fetch.objects self.old.world.net (speaker_of fetch) told.now }
-        ensures { (p : Port) (by : Way) (rec : ℕ) (ns : List Notice) → IsSpelled self.old.world.net (speaker_of fetch) told.now ns
+        ensures { (p : Port) (by : Way) (rec : ℕ) (ns : List Notice)
+            → IsSpelled self.old.world.net (speaker_of fetch) told.now ns
             → WasCalled self.old.graph fetch.objects p by rec ns
             → Heeds result script (HasHeard self.old.graph fetch p by rec ns) (standing self.old (stage.Waiting script fetch)) self.new log.old log.new }
     {

@@ -1,4 +1,4 @@
-ghost use Rattle.std.specs.Prelude.{◌≡◌, ◌≤◌, ◌∷◌, [], length, true, None, IfOk};
+ghost use Rattle.std.specs.Prelude.{◌≡◌, ◌≤◌, ◌∷◌, [], length, true, false, None, IfOk};
 ghost use Rattle.nb_defs.specs.Records.{advanced, graph};
 ghost use Rattle.nb_ledger.specs.Flat as notice;
 ghost use Rattle.nb_opens.specs.Notices.{close_of, or_else};
@@ -18,8 +18,8 @@ use std::marker::Model;
 /// How many bytes of records there is room for at first: more than a call of the graph spells.
 const TEXT: usize = 4096;
 
-/// The records of what a graph told since this was cleared. Where memory ran out, or a message isn't one of an
-/// open's, all of it is lost.
+/// The records of what a graph told since this was cleared. Where memory ran out, or a message isn't a datagram in
+/// one part of at most 1,480 bytes, nor another of an open's, all of it is lost.
 #[derive(Drop)]
 pub struct Spelled {
     text: Log,
@@ -37,8 +37,10 @@ impl Model for Spelled {
 }
 
 impl Spelled {
-    /// One of nothing.
-    pub fn new(alloc: Global) -> Result<Spelled, NoMemory> {
+    /// One that was told nothing.
+    pub fn new(alloc: Global) -> Result<Spelled, NoMemory>
+        ensures { IfOk result (λ s. s.is_lost ≡ false) }
+    {
         Ok(Spelled {
             text: Log::new(alloc, TEXT)?,
             closed: None,
@@ -50,6 +52,7 @@ impl Spelled {
     pub fn clear(&mut self)
         ensures text { self.new.text ≡ [] }
         ensures closed { self.new.closed ≡ None }
+        ensures whole { self.old.is_lost ≡ false → self.new.is_lost ≡ false }
     {
         self.text.clear();
         self.closed = None;
@@ -105,12 +108,13 @@ impl Spelled {
     )
         requires short { length body.now ≤ 1480 }
         ensures closed { self.new.closed ≡ self.old.closed }
-        ensures more { SpellsMore self.old self.new (send_records net.now who.now.number tried (datagram_of who.now port body.now)) }
+        ensures more { SpellsMore self.old self.new
+            (send_records net.now who.now.number tried (datagram_of who.now port body.now)) }
     {
         put_datagram(net, who, tried, port, body, room, &mut self.text);
     }
 
-    /// A message isn't one of an open's: all is lost.
+    /// A message can't be spelled: all is lost.
     pub fn lose(&mut self)
         ensures closed { self.new.closed ≡ self.old.closed }
         ensures lost { self.new.is_lost ≡ true }

@@ -61,7 +61,8 @@ fn send_datagram(
 )
     requires sends { (b : ℕ) (bytes : List ℕ) → message_records net.now who.now msg.now.tag msg.now.a b bytes
         ≡ send_records net.now who.now.number tried (datagram_of who.now b bytes) }
-    ensures { SpellsMessage net.now who.now told.old told.new msg.now.tag msg.now.a msg.now.b (msg.now.first.now ++ msg.now.second.now) }
+    ensures { SpellsMessage net.now who.now told.old told.new msg.now.tag msg.now.a msg.now.b
+        (msg.now.first.now ++ msg.now.second.now) }
 {
     match u16::try_from(msg.b) {
         Ok(port) if msg.first.len() <= MAX_MESSAGE && msg.second.is_empty() => {
@@ -75,7 +76,8 @@ fn send_datagram(
 fn send_try(told: &mut Spelled, net: &Stack, who: &Speaker, room: &mut Room, msg: &Msg<'_>)
     requires sends { (b : ℕ) (bytes : List ℕ) → message_records net.now who.now msg.now.tag msg.now.a b bytes
         ≡ send_records net.now who.now.number (Some msg.now.a) (datagram_of who.now b bytes) }
-    ensures { SpellsMessage net.now who.now told.old told.new msg.now.tag msg.now.a msg.now.b (msg.now.first.now ++ msg.now.second.now) }
+    ensures { SpellsMessage net.now who.now told.old told.new msg.now.tag msg.now.a msg.now.b
+        (msg.now.first.now ++ msg.now.second.now) }
 {
     match u8::try_from(msg.a) {
         Ok(number) => send_datagram(told, net, who, room, Some(number), msg),
