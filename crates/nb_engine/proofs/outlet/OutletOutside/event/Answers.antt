@@ -13,5 +13,7 @@ invariant_of-self c =
 pub returns : goal.returns
 returns c =
     let inside = c.self.inside in
-    record { given = rw (← c.self.view_is) (event_given inside.lost c.is_ok-is_kept.result inside.bytes.items inside.notes.items c.push.new.self.items c.args.e.now inside.closed
-    (c.push.ensures.items ∙ ap (λ b. is_added b inside.notes.items (Event c.args.e.now)) (sym c.is_ok-is_kept.ensures.value)) c.self.invariant) }
+    record {
+      given = rw (← c.self.view_is) (event_given inside.lost c.is_ok-is_kept.result inside.bytes.items inside.notes.items c.push.new.self.items c.args.e.now inside.closed
+          (c.push.ensures.items ∙ ap (λ b. is_added b inside.notes.items (Event c.args.e.now)) (sym c.is_ok-is_kept.ensures.value)) c.self.invariant);
+    }
