@@ -19,7 +19,7 @@ from shared.wire import PROTOCOL_ICMP, Station, arp_request, echo, packet_frame,
 from shared.wire_dhcp import Asker, Kind, Option, Tag
 from tests import graph_records, made
 from tests.graph_records import Cast, cast_for
-from tests.random_words import query_number, xid_of
+from shared.random_words import query_number, xid_of
 
 LEASED = IPv4Address("10.0.0.50")
 # the client with the address of its lease

@@ -17,6 +17,8 @@ from tests.graph_records import BELOW, SOLE_KINDS, TIMER, entered
 UNSET = IPv4Address(0)
 EVERYONE, ALL_HOSTS = b"\xff" * 6, b"\xff" * 4
 IPV4, ICMP, UDP = 0x0800, 1, 17
+# a ones' complement sum that is zero; all bits 0 is the sum of zeros alone
+ZEROS = (0xFFFF, 0)
 LEAST_HEAD = 20
 ECHO_REPLY = b"\0\0"
 DNS_PORT, DHCP_PORT = 53, 67
@@ -65,7 +67,7 @@ def brings(frame: bytes, client: Client, opened: Open) -> bool:
 
 def is_reply(body: bytes, opened: Open) -> bool:
     """Whether it is an echo reply with the number of the ping."""
-    is_echo = len(body) >= 8 and body[:2] == ECHO_REPLY and ones(body) == 0xFFFF
+    is_echo = len(body) >= 8 and body[:2] == ECHO_REPLY and ones(body) in ZEROS
     return is_echo and int.from_bytes(body[4:6], "big") == opened.own
 
 

@@ -103,6 +103,9 @@ def integer(kind: str, value: bytes) -> int:
 
 
 def printed(kind: str, value: bytes) -> bytes:
+    """A value as text. Servers end texts in zero bytes, which the two text kinds leave out."""
+    if kind in ("string", "uristring"):
+        value = value.rstrip(b"\0")
     if kind == "ipv4":
         return b".".join(b"%d" % byte for byte in value[:4]) if len(value) >= 4 else b""
     if kind in INTEGERS:

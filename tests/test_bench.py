@@ -10,6 +10,7 @@ from unittest.mock import patch
 from bench import below, lay_out
 from blocks import BLOCKS, measure_blocks
 from entries import ENTRIES, measure_entries
+from lease import LEASE, measure_lease
 from stream import STREAM, measure_stream
 from tests.case import Case
 
@@ -26,8 +27,9 @@ class Laying(Case):
             "stream": {"nb_tcp", "nb_reasm", "nb_streams", "nb_wire"},
             "entries": {"nb_graph", "nb_ledger", "nb_terms"},
             "blocks": {"nb_nodes", "nb_graph", "nb_tftp", "nb_image"},
+            "lease": {"nb_settings", "nb_dhcpmsg", "nb_wire"},
         }
-        for bench in (STREAM, ENTRIES, BLOCKS):
+        for bench in (STREAM, ENTRIES, BLOCKS, LEASE):
             folder = self.folder / f"of-{bench.name}"
             folder.mkdir()
             crate = lay_out(bench, folder)
@@ -39,7 +41,7 @@ class Laying(Case):
                 self.assertTrue((folder / "crates" / name / "src").is_dir(), name)
 
     def test_missing_tools_are_named_in_a_line(self) -> None:
-        for measure in (measure_stream, measure_entries, measure_blocks):
+        for measure in (measure_stream, measure_entries, measure_blocks, measure_lease):
             printed = io.StringIO()
             with patch.dict(os.environ, PATH="/none"), redirect_stdout(printed):
                 measure([])

@@ -12,20 +12,21 @@ import time
 import unittest
 from dataclasses import replace
 from ipaddress import IPv4Address
+from unittest import mock
 
 from boot import is_built
-from bridge import listening_place
 from live_boot import WAYS
 from shared.capture import PcapWriter, read_capture
 from shared.causes import OK, Cause, Code
 from shared.checksums import Sums, sums_of
 from shared.devices import completed
 from shared.kinds import Status
+from shared.live_client import listening_place
 from shared.live_session import ClientFault, Kept, Records, Session
 from shared.messages import LeaseMessage, lease_message
 from shared.progress import Progress
-from shared.records import Command, Direction, Ended, Off, Received, Record, Sent, Start, Step
-from shared.records import Tick, read_records
+from shared.records import Command, Direction, Ended, Off, Received, Record, Result, Sent, Start
+from shared.records import Step, Tick, read_records
 from shared.wire import ARP, Opcode, arp_reply, padded, tftp_data, tftp_oack, udp_frame
 from shared.wire_dhcp import Asker, Kind, Tag, answer, to_client
 from tests import TOP, made
@@ -143,6 +144,33 @@ class Bridged(unittest.TestCase):
         said = ["sleep 0x5: goes on after 5 s", "sleep 05", "sleep ${}: its words can't be expanded"]
         self.assertEqual(self.said.getvalue().splitlines(), said)
 
+    def test_a_script_that_never_waits(self) -> None:
+        """Thousands of commands are a hundred lines in a second, and the count of the others."""
+        with mock.patch("time.monotonic", lambda: 1.5):
+            for _ in range(4_096):
+                self.progress.take(0, made.command(b"goto again"))
+                self.progress.take(0, Result(OK))
+            self.progress.end()
+        lines = self.said.getvalue().splitlines()
+        self.assertEqual(lines, ["goto again"] * 100 + ["and 3996 lines more, which are left out"])
+
+    def test_a_failure_while_it_comes(self) -> None:
+        """With what the open's end means, where it is that open's; False isn't one."""
+        look_up, refused, too_long = LookUp(0, 2), Cause(Code.REFUSED, 9, 3), Cause(Code.TOO_LONG, 1)
+        for record in (
+            made.command(b"nslookup a a.b"), look_up.opened, Ended(0, refused), Result(refused),
+            made.command(b"echo a"), Result(too_long), made.command(b"isset a"), Result(Cause(Code.FALSE)),
+        ):
+            self.progress.take(0, record)
+        failures = [line for line in self.said.getvalue().splitlines() if "failed" in line]
+        self.assertEqual(
+            failures,
+            [
+                "line 2: nslookup failed: Refused(record 9, code 3): there is no such name (NXDOMAIN)",
+                "line 2: echo failed: TooLong(1: line or expanded words): a text is longer than its limit",
+            ],
+        )
+
     def test_what_asks_and_is_answered(self) -> None:
         lease, look_up, ping = Lease(), LookUp(1, 2), Ping(2, 3)
         timed_out, nothing = Cause(Code.TIMED_OUT, 4), Cause(Code.REFUSED, 9, 0)
@@ -165,7 +193,8 @@ class Bridged(unittest.TestCase):
         client, _ = self.listener.accept()
         self.addCleanup(client.close)
         kept = Kept(self.input, self.output, PcapWriter(self.pcap))
-        return Session(client, self.wire, made.CLIENT.mac, kept, self.progress.take)
+        take, note = self.progress.take, self.progress.note
+        return Session(client, self.wire, made.CLIENT.mac, kept, take, note)
 
     def inputs(self) -> list[Record]:
         placed = read_records(io.BytesIO(self.input.getvalue()), Direction.INPUT)
@@ -292,13 +321,14 @@ class LiveBoot(unittest.TestCase):
     """A boot from a real server over a real wire, where this machine can make one."""
 
     def test_boot(self) -> None:
-        words = [sys.executable, "-B", str(TOP / "tools" / "live_boot.py")]
+        words = [sys.executable, "-B", str(TOP / "tools" / "live_boot.py"), "--w", "77"]
         done = subprocess.run(words, capture_output=True, text=True, timeout=300, check=False)
         if done.returncode == 77:
             self.skipTest(done.stderr.strip())
         self.assertEqual(done.returncode, 0, done.stderr)
         for way in WAYS:
             self.assertIn(f"booting by {way}: passed", done.stderr)
+        self.assertEqual(done.stderr.count("bridge.py: this run: --w 77 --uuid "), len(WAYS))
 
 
 if __name__ == "__main__":

@@ -225,6 +225,12 @@ def settings() -> dict[str, Row]:
         ),
         "a_file_that_ends_in_zeros": shows(ack((Tag.FILENAME, b"boot.ipxe\0\0")), (b"${filename:hex}",
                                            b"boot.ipxe".hex(":").encode())),
+        "texts_of_unlisted_options_that_end_in_zeros": shows(
+            ack((66, b"10.0.0.1\0"), (209, b"a.cfg\0\0"), (210, b"/tftp/\0"), (43, b"\0"), (Tag.IPXE, b"\x63\2v\0")),
+            (b"${66:string} ${209:string}<${43:string}>", b"10.0.0.1 a.cfg<>"),
+            (b"${210:uristring} ${175.99:string}", b"%2Ftftp%2F v"),
+            (b"${209} ${43} ${175.99:hexraw}", b"61:2e:63:66:67:00:00 00 7600"),
+        ),
         "no_next_server": shows(ack(), (b"<${next-server}>", b"<>")),
         "a_value_in_two_options": shows(
             LEASE.received(wire_dhcp.message(

@@ -42,7 +42,7 @@ class Captures(Case):
         used = self.works("tools/pcap.py boot.rec boot.out --to a.pcap")
         self.assertIn("3 frames received, 4 sent", used)
         every = self.works("tools/pcap.py boot.rec --to a.pcap")
-        self.assertIn("4 frames received, 0 sent", every)
+        self.assertIn("a.pcap: 4 frames of the input recording", every)
 
     def test_refusals_leave_no_file(self) -> None:
         self.put("short.rec", made.BOOT_INPUT[:3])

@@ -29,6 +29,8 @@ WORDS = b"ping 10.0.0.1"
 TIMED = PING.passed()
 ANSWERED = [*PING.came(over=OK), Result(OK)]
 QUARTER = Tick(250)
+# what Linux sends back where the request's identifier, number and data are 0: the checksum is 0 too
+ZEROS = Received(packet_frame(made.SERVER, made.CLIENT, PROTOCOL_ICMP, bytes(8)))
 # the tries of 63 TICKs of 250 ms, by their steps
 TRIES = {2: 2, 4: 3, 8: 4, 16: 5, 32: 6}
 
@@ -53,6 +55,7 @@ def conversations() -> dict[str, Row]:
             [QUARTER, QUARTER, PING.reply()], TIMED, PING.passed(*PING.pings(3)), ANSWERED
         ),
         "answered_without_a_request": pings([PING.reply()], ANSWERED),
+        "a_reply_of_zeros": asked([ZEROS], ANSWERED),
         "a_reply_with_a_body": asked([PING.reply(number=7, body=b"hello")], ANSWERED),
         "a_reply_to_all_interfaces": asked([Received(BROADCAST + frame_of(PING.reply())[6:])], ANSWERED),
         "after_the_end": asked([PING.reply(), PING.reply(), Off()], ANSWERED),
@@ -84,6 +87,8 @@ def strangers() -> dict[str, Row]:
         Received(packet_frame(made.SERVER, made.CLIENT, PROTOCOL_ICMP, echo(ECHO_REPLY, 0, 0, b"", 1))),
         Received(packet_frame(made.SERVER, made.CLIENT, PROTOCOL_ICMP, echo(3, 0, 0, b"", 1))),
         Received(packet_frame(made.SERVER, made.CLIENT, PROTOCOL_ICMP, message[:7])),
+        Received(packet_frame(made.SERVER, made.CLIENT, PROTOCOL_ICMP, bytes(7))),
+        Received(packet_frame(made.SERVER, made.CLIENT, PROTOCOL_ICMP, bytes(8) + b"\1")),
         Received(reply[:24] + bytes([reply[24] ^ 1]) + reply[25:]),  # the IPv4 header's checksum
         Received(reply[:36] + bytes([reply[36] ^ 1]) + reply[37:]),  # the message's checksum
         made.from_server(b""),

@@ -98,6 +98,50 @@ class Inputs(Tool):
                     self.assertIn("an output must not be an input of the same command", done.said)
                     self.assertEqual(self.get(name), content)
 
+    OTHERS = (
+        ("tools/boot.py s.ipxe --output {}", "s.ipxe"),
+        ("tools/boot.py s.ipxe --input {}", "s.ipxe"),
+        ("tools/boot.py s.pcap --script s.ipxe --input {}", "s.ipxe"),
+        ("tools/boot.py s.pcap --script s.ipxe --input {}", "s.pcap"),
+        ("tools/boot.py s.ipxe --program kept --output {}", "kept"),
+        ("tools/bridge.py s.ipxe --device none --record {}", "s.ipxe"),
+        ("tools/bridge.py s.ipxe --device none --output {}", "s.ipxe"),
+        ("tools/bridge.py s.ipxe --device none --pcap {}", "s.ipxe"),
+        ("tools/handoff.py boot.out --to {}", "boot.out"),
+        ("tools/live_boot.py --kernel kept --keep {}", "kept"),
+        ("tools/show.py boot.out --input boot.rec --parts {}", "boot.rec"),
+    )
+
+    def test_each_other_tool_by_a_link(self) -> None:
+        for line, name in self.OTHERS:
+            content = self.get(name)
+            self.names_of(name)
+            with self.subTest(line, name=name):
+                done = self.end(line.format("inner/soft-soft"))
+                self.assertEqual((done.status, done.printed), (1, ""))
+                self.assertIn("an output must not be an input of the same command", done.said)
+                self.assertEqual(self.get(name), content)
+
+    def test_two_outputs_that_are_one_file(self) -> None:
+        self.names_of("kept")
+        (self.folder / "dangling").symlink_to("new")
+        bridge = "tools/bridge.py s.ipxe --device none"
+        for line, options in (
+            (f"{bridge} --record new --output new", "--record and --output"),
+            (f"{bridge} --output new --pcap ./inner/../new", "--output and --pcap"),
+            (f"{bridge} --record kept --pcap inner/hard", "--record and --pcap"),
+            ("tools/boot.py s.ipxe --input dangling --output new", "--input and --output"),
+        ):
+            with self.subTest(line):
+                done = self.end(line)
+                self.assertEqual((done.status, done.printed), (1, ""))
+                self.assertIn(f"{options} can't both be this file", done.said)
+                self.assertEqual((self.get("kept"), (self.folder / "new").exists()), (b"what was there", False))
+
+    def test_what_may_be_named_twice(self) -> None:
+        line = "tools/bridge.py s.ipxe --device none --record /dev/null --output /dev/null"
+        self.assertNotIn("can't both be", self.end(line).said)
+
     def test_standard_output_that_is_an_input(self) -> None:
         content = self.get("boot.rec")
         with (self.folder / "boot.rec").open("ab") as stream:
@@ -165,7 +209,7 @@ class Outputs(Tool):
         self.assertEqual(self.get("made"), self.wanted)
         with (self.folder / "boot.out").open("rb") as stream:
             done = self.end("tools/show.py - --why", stdin=stream.fileno())
-        self.assertEqual(done.printed, "the boot succeeded: k, 516 bytes, was handed off\n")
+        self.assertEqual(done.printed, "The boot succeeded: kernel k (516 bytes) from 10.0.0.1\n")
 
     def test_a_device_that_is_full(self) -> None:
         for line in (self.MAKE.format("/dev/full"), "tools/pcap.py boot.rec --to /dev/full"):
@@ -355,7 +399,7 @@ class HugeInputs(Tool):
         self.run_in_room("tools/show.py huge.out --why")
 
     def test_frames_of_one_step(self) -> None:
-        sent = made.spelled([Sent(FRAME + bytes(1_400))] * 16)
+        sent = made.spelled([Sent(made.asked().frame + bytes(1_400))] * 16)
         self.put_many("huge.out", [Step(1)], sent, [])
         self.put("in.rec", [made.start(b"")])
         self.run_in_room("tools/pcap.py in.rec huge.out --to made.pcap")

@@ -168,6 +168,13 @@ def kinds() -> dict[str, Row]:
             (b"${d:string}", b"ab"), (b"${e}", b"a%2Fb%25zz%252"), (b"${e:string}", b"a/b%zz%2"),
             (b"${f:uristring}", b"-._~aZ0%2F%25"), (b"${f:base64}", b"LS5ffmFaMC8l"),
         ),
+        "zeros_at_a_text_s_end": echoes(
+            [b"set a:hex 00:61:00:62:00:00", b"set b:uristring c%00", b"set c:uristring %00%00", b"set d:uint16 0x6100"],
+            (b"<${a:string}>", b"<\0a\0b>"), (b"${a:uristring}", b"%00a%00b"), (b"${a}", b"00:61:00:62:00:00"),
+            (b"${a:hexraw}/${a:base64}", b"006100620000/AGEAYgAA"), (b"<${b}${b:string}>", b"<cc>"),
+            (b"${b:hex}", b"63:00"), (b"<${c}${c:string}>", b"<>"), (b"${c:hex}/${c:uint8}", b"00:00/0x0"),
+            (b"${d:string}/${d}", b"a/0x6100"),
+        ),
         "no_bytes": refusals(
             [b"set x a"],
             *[(b"set x:" + words, BAD_VALUE) for words in (

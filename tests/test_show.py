@@ -178,7 +178,8 @@ class Showing(Case):
         self.assertEqual(printed.count(": try "), 6)
         self.fails("tools/show.py silent.rec --why", "needs an output recording")
         self.fails("tools/show.py silent.out --why --input silent.out", "is an output recording")
-        self.fails("tools/show.py silent.out --input boot.rec", "has no record 7")
+        self.put("short.rec", inputs[:6])
+        self.fails("tools/show.py silent.out --input short.rec", "has no record 7")
 
 
 if __name__ == "__main__":

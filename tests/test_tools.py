@@ -28,11 +28,14 @@ class Examples(Case):
 
     @unittest.skipUnless(is_built(), "the program isn't built")
     def test_the_page_shows_what_its_commands_print(self) -> None:
-        """Runs the page from its beginning to its end: each `$` line, and each block of `sh`."""
+        """Runs the page from its beginning to its end: each `$` line, and each block of `sh`; then those of README.md."""
         (self.folder / "crates").symlink_to(TOP / "crates")
         page = (EXAMPLES / "README.md").read_text()
         blocks = re.findall(r"^```(sh|console)\n(.*?)^```$", page, re.M | re.S)
         self.assertGreaterEqual(len(blocks), 10)
+        first = re.findall(r"^```(console)\n(.*?)^```$", (TOP / "README.md").read_text(), re.M | re.S)
+        self.assertEqual(len(first), 1)
+        blocks += first
         for kind, text in blocks:
             if kind == "sh":
                 self.assertEqual(self.printed(text), "", text)
@@ -117,7 +120,7 @@ class Processes(Case):
         for name in ("record", "show", "pcap", "boot"):
             printed, said, status = self.ends(f"tools/{name}.py --help")
             self.assertEqual((said, status), ("", 0))
-            self.assertIn("examples:", printed)
+            self.assertIn("\nexamples", printed)
             printed, said, status = self.ends(f"tools/{name}.py")
             self.assertEqual((printed, status), ("", 2))
             self.assertIn("required", said)

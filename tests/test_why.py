@@ -7,6 +7,7 @@ import tempfile
 import unittest
 from pathlib import Path
 
+from shared.advice import TO_DO
 from shared.causes import OK, Cause, Code
 from shared.kinds import Status
 from shared.records import Command, Done, Off, Record, Result, Step, Tick
@@ -18,14 +19,15 @@ from tests.graph_records import came
 def why(
     outputs: list[Record] | bytes, inputs: list[Record] | bytes | None = None
 ) -> list[str]:
-    """The lines of --why for a run."""
+    """The lines of --why for a run; the first without what is to be done."""
     output = outputs if isinstance(outputs, bytes) else made.spelled(outputs)
     with tempfile.TemporaryDirectory() as folder:
         path = Path(folder) / "in.rec"
         if inputs is not None:
             path.write_bytes(inputs if isinstance(inputs, bytes) else made.spelled(inputs))
         given = None if inputs is None else path
-        return list(reasons(Path("out.rec"), io.BytesIO(output), given))
+        first, *others = reasons(Path("out.rec"), io.BytesIO(output), given)
+        return [first.split(TO_DO)[0], *others]
 
 
 def sentence(outputs: list[Record] | bytes, inputs: list[Record] | bytes | None = None) -> str:
@@ -50,9 +52,9 @@ class LocalCommands(unittest.TestCase):
         self.assertEqual(
             why(outputs, [made.start(b"#!ipxe\nfoo # what\n")]),
             [
-                "line 2: there is no command foo",
+                "line 2: foo is no command, of iPXE neither",
                 "line 2 failed in step 1 at 0 ms: Unknown",
-                "  meaning: there is no such command",
+                "  meaning: it is no command that is built",
                 "  step 1 at 0 ms: line 2 begins: foo",
                 '  script line 2: "foo # what"',
             ],
@@ -70,8 +72,9 @@ class LocalCommands(unittest.TestCase):
             self.assertEqual(lines[3:], [f"  step 1: line 2 begins: {words.decode()}"])
 
     def test_nothing_failed(self) -> None:
-        said = "the boot succeeded: k, 516 bytes, was handed off"
-        self.assertEqual(why(made.BOOT_OUTPUT, made.BOOT_INPUT), [said])
+        said = "The boot succeeded: kernel k (516 bytes) from 10.0.0.1"
+        self.assertEqual(why(made.BOOT_OUTPUT), [said])
+        self.assertEqual(why(made.BOOT_OUTPUT, made.BOOT_INPUT), [f"{said}, in 0.3 s of its time"])
         self.assertEqual(why(made.HELLO_OUTPUT), ["the script ended well"])
 
     def test_a_text_that_is_no_script(self) -> None:
@@ -129,7 +132,7 @@ class LocalCommands(unittest.TestCase):
             outputs = [Step(1), made.enter(), made.command(b"goto b"), Result(result)]
             outputs += [made.leave(cause), Done(Status.SCRIPT_FAILED)]
             said = f"line {line} has 65 words, more than 64"
-            self.assertEqual(sentence(outputs, [made.start(script)]), said)
+            self.assertTrue(sentence(outputs, [made.start(script)]).endswith(said))
 
     def test_a_label_that_is_not_there(self) -> None:
         outputs = local_failure(b"goto again", Cause(Code.NO_LABEL))
@@ -163,9 +166,9 @@ class LocalCommands(unittest.TestCase):
         self.assertEqual(
             why(outputs, [made.start(script)]),
             [
-                "command 4 of line 2: there is no command foo",
+                "command 4 of line 2: foo is no command, of iPXE neither",
                 "command 4 of line 2 failed in step 1 at 0 ms: Unknown",
-                "  meaning: there is no such command",
+                "  meaning: it is no command that is built",
                 "  step 1 at 0 ms: command 4 of line 2 begins: foo",
                 '  script lines 2 to 3: "echo a || echo   b ; ; foo"',
             ],
@@ -296,7 +299,8 @@ class LocalCommands(unittest.TestCase):
         outputs = [*local_failure(b"dhcp", Cause(Code.FULL, 2))[:4], Command(1, 2, 1, True, (b"exit", b"1"))]
         outputs += [Result(cause), made.leave(cause), Done(Status.SCRIPT_FAILED)]
         lines = why(outputs, [made.start(b"")])
-        self.assertEqual(lines[0], "command 2 of line 2: the built-in script ended in failure, by `exit 1`")
+        first = "line 2: 16384 opens were made, the most of a run, and dhcp needs another; the script went on, and failed: "
+        self.assertEqual(lines[0], f"{first}command 2 of line 2: the built-in script ended in failure, by `exit 1`")
         self.assertEqual(lines[-1], '  built-in script line 2: "dhcp || exit 1"')
 
     def test_a_command_that_sleeps(self) -> None:
@@ -315,7 +319,8 @@ class LocalCommands(unittest.TestCase):
         off = [*begins, Step(3), Done(Status.UNFINISHED)]
         said = "the power was switched off after 0.5 s, while line 2 slept: 0.5 s of 2 s had passed"
         self.assertEqual(sentence(off, inputs), said)
-        self.assertEqual(sentence(off), "the run was ended from outside, while line 2 was in a sleep of 2 s")
+        outside = "the input ended, or the power was switched off, while line 2 was in a sleep of 2 s"
+        self.assertEqual(sentence(off), outside)
 
     def test_a_list_that_goes_on_after_a_failure(self) -> None:
         cause = Cause(Code.FALSE)
@@ -327,11 +332,11 @@ class LocalCommands(unittest.TestCase):
             Done(Status.ENDED),
         ]
         lines = why(outputs)
-        self.assertEqual(lines[0], "the script ended well; 1 command failed on the way")
+        self.assertEqual(lines[0], "the script ended well")
         self.assertEqual(len([line for line in lines if "failed in" in line]), 1)
         boot = [Result(cause), made.command(b"imgexec tftp://10.0.0.1/k"), *made.BOOT_OUTPUT[3:]]
         lines = why([Step(1), made.enter(), made.command(b"iseq a b"), *boot])
-        said = "the boot succeeded: k, 516 bytes, was handed off; 1 command failed on the way"
+        said = "The boot succeeded: kernel k (516 bytes) from 10.0.0.1"
         self.assertEqual(lines[0], said)
 
     def test_a_script_that_a_command_ran(self) -> None:

@@ -98,8 +98,8 @@ class Leases(unittest.TestCase):
         ends = [*LEASE.passed(over=cause), Result(cause), *ran(b"exit 1", exits, place=1)]
         outputs = [*begins(LEASE, *LEASE.discovers()), *steps(2, ends), *left(exits)]
         lines = why(outputs, [made.start(b""), LONG])
-        said = "command 2 of line 2: the built-in script ended in failure, by `exit 1`; before that, no DHCP server "
-        self.assertEqual(lines[0], f"{said}offered a lease: one was asked for once in 60 s")
+        first = "line 2: no DHCP server offered a lease: one was asked for once in 60 s; the script went on, and failed: "
+        self.assertEqual(lines[0], f"{first}command 2 of line 2: the built-in script ended in failure, by `exit 1`")
         self.assertIn("line 2 failed in step 2 at 60000 ms: TimedOut(tries 4)", lines)
 
     def test_what_is_waited_for(self) -> None:

@@ -84,12 +84,13 @@ class Transfers(unittest.TestCase):
         )
 
     def test_a_refusal_by_the_servers_own_words(self) -> None:
-        error = made.from_server(tftp_error(0, b"no free slots"))
-        inputs = [made.start(self.SCRIPT), made.found(), error]
         cause = Cause(Code.REFUSED, 3, 0)
         outputs = [*self.begins(), Step(2), Step(3), *came(0, over=cause), *made.fails(cause)]
         said = '10.0.0.1 answered: "no free slots", when asked for f'
-        self.assertEqual(sentence(outputs, inputs), said)
+        error = tftp_error(0, b"no free slots")
+        for body in (error, error[:-1], error + b"x\0"):
+            inputs = [made.start(self.SCRIPT), made.found(), made.from_server(body)]
+            self.assertEqual(sentence(outputs, inputs), said)
 
     def test_silence_after_a_block_and_without_one(self) -> None:
         ack, request = made.to_server(tftp_ack(1)), made.to_server(tftp_request(b"f"), 69)
@@ -102,13 +103,13 @@ class Transfers(unittest.TestCase):
         said = "10.0.0.1 stopped answering after its OACK for f, which was acknowledged twice"
         self.assertEqual(sentence(self.begins() + later + end), said)
         later = [Step(2), Step(3), *passed(0, Try(0, 2), request)]
-        said = "10.0.0.1 never answered: f was asked for once"
+        said = "10.0.0.1 gave no answer that counted: f was asked for once"
         self.assertEqual(sentence(self.begins() + later + end), said)
 
     def test_a_silent_gateway(self) -> None:
         request = Sent(arp_request(made.CLIENT, IPv4Address("10.0.0.254")))
         outputs = [*self.to(request), Step(2), *passed(0, over=TIMED_OUT), *made.fails(TIMED_OUT)]
-        said = "the gateway 10.0.0.254 never answered: its hardware address was asked for once"
+        said = "the gateway 10.0.0.254 gave no answer that counted: its hardware address was asked for once"
         self.assertEqual(sentence(outputs), said)
 
     def test_broken_by_its_message(self) -> None:
@@ -241,8 +242,8 @@ class Waiting(unittest.TestCase):
         self.assertIn("  a silent server is given up after some 16 s: record.py --until 17", lines)
         self.assertIn(f"  step 2 at 200 ms: {self.ENDS}", lines)
         self.assertEqual(lines[-1], "nothing came meanwhile")
-        without = "the run was ended from outside, while line 2 waited for the hardware address of"
-        self.assertIn(without, sentence(outputs))
+        without = "while line 2 waited for 10.0.0.1, whose hardware address was asked for"
+        self.assertEqual(sentence(outputs), f"the input ended, or the power was switched off, {without}")
 
     def test_a_fetch_that_began_later(self) -> None:
         """A silent server is given up some 16 s after that."""

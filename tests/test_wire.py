@@ -11,7 +11,7 @@ from shared.frames import Summaries
 from shared.wire_dhcp import Asker, Tag, options_text
 from tests import made
 from tests.asking_records import LEASED, Lease, LookUp, Ping
-from tests.random_words import query_number, words_of, xid_of
+from shared.random_words import query_number, words_of, xid_of
 
 # the first words of ChaCha8, as a published vector for a key of zeros has them
 FIRST_BYTES = (

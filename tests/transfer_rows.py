@@ -196,6 +196,9 @@ def grants() -> dict[str, Row]:
         "no_size_granted": ends_well(
             fetches([oack(tsize=512), data(1, FULL), data(2, b"")], agreed(), took(1), took_last(2, gives=False))
         ),
+        "no_option_granted": ends_well(
+            fetches([oack(), data(1, FULL), data(2, b"a")], agreed(), took(1), took_last(2))
+        ),
         "an_oack_again": ends_well(
             fetches(
                 [full, full, oack(blksize=8), data(1, kernel), full, data(2, b"a")],
@@ -250,6 +253,14 @@ def errors() -> dict[str, Row]:
             fetches([datagram(tftp_error(1, b"File not found"))], came(0, over=at_once)),
             *made.fails(at_once),
         ),
+        **{
+            f"refused_{name}": ends(fetches([datagram(body)], came(0, over=at_once)), *made.fails(at_once))
+            for name, body in (
+                ("without_a_zero", tftp_error(1, b"gone")[:-1]),
+                ("without_a_text", tftp_error(1, b"")[:-1]),
+                ("with_padding", tftp_error(1, b"gone\0\0x")),
+            )
+        },
         "refused_later": ends(
             fetches([data(1, FULL), full], took(1), came(0, over=later)), *made.fails(later)
         ),

@@ -5,6 +5,7 @@ It runs in a network namespace, for a test that stays outside.
 
 from __future__ import annotations
 
+import os
 import select
 import sys
 
@@ -12,15 +13,18 @@ from shared.devices import Interface
 
 
 def main(device: str) -> None:
-    wire = Interface(device)
+    wire, rest = Interface(device), b""
     print("ready", flush=True)
     while True:
         readable, _, _ = select.select([sys.stdin, wire], [], [])
         if sys.stdin in readable:
-            line = sys.stdin.readline()
-            if not line:
+            # Read past sys.stdin's buffer: a line that waits in it would not wake the next select.
+            piece = os.read(sys.stdin.fileno(), 65_536)
+            if not piece:
                 return
-            wire.send(bytes.fromhex(line))
+            *lines, rest = (rest + piece).split(b"\n")
+            for line in lines:
+                wire.send(bytes.fromhex(line.decode()))
         if wire in readable:
             frame = wire.receive()
             if frame is not None:

@@ -4,29 +4,30 @@
 from __future__ import annotations
 
 import argparse
-import os
 import shutil
 import signal
 import subprocess
 import sys
 import tempfile
 from pathlib import Path
-from typing import Iterator
 
 import record
 import show
-from shared.boot_capture import Reader, Request, first_request
+from shared import why
+from shared.apart import check_apart
+from shared.boot_capture import Reader, reopenable
 from shared.command_line import Refused, run
-from shared.output import check_output, writing
-from shared.recordings import CAPTURE_MAGICS, OUTPUT_BIT, TYPE_OFFSET
+from shared.output import writing
+from shared.processes import end_group
+from shared.program import BUILT, CRATE, is_built, program
+from shared.recordings import CAPTURE_MAGICS, OUTPUT_BIT, TYPE_OFFSET, output_of
+from shared.records import Text
+from shared.replay_plan import Plan, Wishes, plan_of
 
-TOP = Path(__file__).resolve().parent.parent
-CRATE = TOP / "crates" / "netboot"
-BUILT = CRATE / "out" / "netboot"
-MOST_SECONDS_TO_END = 3
-STATUS_LINE = "run=ended status="
-TOOLCHAIN_LINES = ("checked:", "run=")
-TRACED = (0, 3)
+__all__ = ["BUILT", "CRATE", "is_built"]
+
+NO_REQUEST = "it has no TFTP request, so --script must say what to run"
+ENDED_WELL = (0, 3)
 STATUSES = {
     0: "an image was handed off",
     3: "the script ended in Ok",
@@ -42,20 +43,23 @@ STATUSES = {
 
 DESCRIPTION = """\
 Runs netboot over a script, an input recording or a capture, and shows what the commands printed,
-then the trace where the run ended well, and else why it didn't. Ends with the run's status.
+then one line where the run ended well, and else why it didn't. Ends with the run's status.
 
 The built program, crates/netboot/out/netboot, is used where it is newer than its sources. Else
-the toolchain's `rt try` compiles them, unproved."""
+the toolchain's `rt try` compiles them once, unproved; what it makes is kept in the user's cache,
+XDG_CACHE_HOME/netboot or ~/.cache/netboot, until a source changes."""
 
 EPILOG = """\
-A capture alone is run with a script of one line, which fetches the file that its first TFTP
-request asks for; --script gives another.
+Of a capture the first file is fetched that a client asked for by TFTP, and the lease taken that it
+took before: what came before and between is left out, and the answers get the numbers, ports and
+checksums that this run needs, each of which is said. --static gives the client the lease's address
+without a lease, --script runs another script, and --from, --trim, --w or --port choose by hand.
 
 examples:
-  boot.py examples/hello.ipxe
-  boot.py boot.ipxe --ip 10.0.0.2/24 --until 17
-  boot.py boot.pcap --trim
-  boot.py examples/tftp-boot.rec --output boot.out"""
+  tools/boot.py examples/hello.ipxe
+  tools/boot.py examples/captured.ipxe --ip 10.0.0.2/24 --until 17
+  tools/boot.py examples/captured-lease.pcap
+  tools/boot.py examples/tftp-boot.rec --output boot.out"""
 
 
 def parser() -> argparse.ArgumentParser:
@@ -67,8 +71,11 @@ def parser() -> argparse.ArgumentParser:
     made.add_argument("file", type=Path, help="a script, an input recording or a capture")
     made.add_argument("--output", type=Path, metavar="FILE", help="keep the output recording")
     made.add_argument("--program", type=Path, help="the program to run, in place of the built one")
-    made.add_argument("--trace", action="store_true", help="show the trace however the run ends")
+    made.add_argument("--trace", action="store_true", help="show the trace, a line for each record")
     made.add_argument("--script", type=Path, help="the script to run over a capture")
+    made.add_argument(
+        "--static", action="store_true", help="a capture's lease gives START's address, and isn't replayed"
+    )
     made.add_argument("--input", type=Path, metavar="FILE", help="keep the input recording")
     record.add_options(made.add_argument_group("options of record.py, for a script or a capture"))
     return made
@@ -100,15 +107,34 @@ def progress(line: str) -> None:
     print(f"boot.py: {line}", file=sys.stderr, flush=True)
 
 
-def one_line_script(request: Request | None, capture: Path) -> bytes:
-    """A script that fetches what a capture's first request asks for."""
-    if request is None:
-        raise Refused(f"{capture}: it has no TFTP request, so --script must say what to run")
-    server = ".".join(map(str, request.server))
-    line = b"imgexec tftp://" + server.encode() + b"/" + request.path.lstrip(b"/")
-    shown = line.decode("utf-8", "replace")
-    progress(f"the script is made from the capture's first request: {shown}")
-    return b"#!ipxe\n" + line + b"\n"
+def plan_for(arguments: argparse.Namespace, reader: Reader, script: bytes | None) -> Plan | None:
+    """How a capture becomes a run, where nobody says what to take of its time and ports."""
+    chosen = (arguments.begin, arguments.w, arguments.port)
+    if arguments.trim or any(one is not None for one in chosen):
+        return None
+    return plan_of(reader, Wishes(arguments.mac, record.given_addresses(arguments), arguments.static, script))
+
+
+def from_capture(arguments: argparse.Namespace) -> None:
+    """Makes the input recording of a capture, and says in lines what was taken and changed."""
+    with reopenable(arguments.capture) as path:
+        reader = Reader(path, arguments.capture, {})
+        script = record.read_script(arguments.script) if arguments.script else None
+        plan = plan_for(arguments, reader, script)
+        if script is None and plan is None:
+            raise Refused(f"{arguments.capture}: {NO_REQUEST}")
+        arguments.fix_checksums = True
+        arguments.map_ports = arguments.w is None and arguments.port is None
+        for line in plan.lines() if plan else ():
+            progress(line)
+        if plan:
+            record.take_addresses(arguments, plan)
+        made = plan.script() if plan and script is None else script or b""
+        conversion = record.write_with(arguments, made, reader, plan)
+    for line in plan.done(conversion.met, arguments.key) if plan else ():
+        progress(line)
+    size = record.size_of(conversion) if plan else record.summary(conversion)
+    progress(f"the input recording has {size}")
 
 
 def input_recording(arguments: argparse.Namespace, folder: Path) -> Path:
@@ -124,52 +150,11 @@ def input_recording(arguments: argparse.Namespace, folder: Path) -> Path:
         arguments.script = arguments.file
     else:
         arguments.capture = arguments.file
-        if arguments.script is None:
-            arguments.script = folder / "made.ipxe"
-            request = first_request(Reader(arguments.file, arguments.file, {}), arguments.mac)
-            arguments.script.write_bytes(one_line_script(request, arguments.file))
-    said = record.make(arguments)
-    if kind == "capture" or arguments.capture:
-        progress(f"the input recording has {said}")
+    if arguments.capture:
+        from_capture(arguments)
+    else:
+        record.make(arguments)
     return arguments.recording
-
-
-def is_built() -> bool:
-    """Whether the built program is there, and newer than each source of code."""
-    if not BUILT.is_file():
-        return False
-    built = BUILT.stat().st_mtime
-    return all(path.stat().st_mtime <= built for path in (TOP / "crates").glob("*/src/**/*.rt"))
-
-
-def not_runnable() -> str | None:
-    """Why the program can't be run here, if it can't."""
-    if is_built() or shutil.which("rt"):
-        return None
-    return (
-        "the program isn't built (crates/netboot/out/netboot), and the toolchain's `rt` isn't "
-        "there to compile it"
-    )
-
-
-def program_words(*words: str) -> list[str]:
-    """What runs the program on these words in its crate's folder, built or to be compiled."""
-    if is_built():
-        return [str(BUILT), *words]
-    refusal = not_runnable()
-    if refusal:
-        raise Refused(refusal)
-    why = "its sources are newer than it" if BUILT.exists() else "it isn't built yet"
-    progress(f"compiling the program, as {why}: this takes half a minute, and proves nothing")
-    return ["rt", "try", "--", *words]
-
-
-def words_of(arguments: argparse.Namespace, recording: Path, output: Path) -> list[str]:
-    """The words that run the program, the one that was given or ours."""
-    words = ["replay", str(recording), str(output)]
-    if arguments.program:
-        return [str(arguments.program.resolve()), *words]
-    return program_words(*words)
 
 
 def start(words: list[str]) -> subprocess.Popen[str]:
@@ -197,57 +182,20 @@ def finish(process: subprocess.Popen[str]) -> str:
         raise
 
 
-def end_group(process: subprocess.Popen[str]) -> None:
-    """Ends a program and all that it started: in kind first, so that it can clean up."""
-    for number in (signal.SIGINT, signal.SIGKILL):
-        try:
-            os.killpg(process.pid, number)
-            process.wait(timeout=MOST_SECONDS_TO_END)
-        except ProcessLookupError:
-            return
-        except subprocess.TimeoutExpired:
-            continue
-
-
-def status_of(words: list[str], said: str, status: int) -> int:
-    """The run's status; `rt try` has it in its last lines, where the program ran."""
-    if words[0] != "rt":
-        return status
-    ended = [line for line in said.splitlines() if line.startswith(STATUS_LINE)]
-    if not ended:
-        print(said, end="", file=sys.stderr)
-        raise Refused("the program can't be compiled")
-    return int(ended[-1].removeprefix(STATUS_LINE).split()[0])
-
-
-def messages(words: list[str], said: str) -> Iterator[str]:
-    """The program's own lines, without those of the toolchain around them."""
-    is_programs = words[0] != "rt"
-    for line in said.splitlines():
-        if words[0] == "rt" and line.startswith(TOOLCHAIN_LINES):
-            return
-        is_programs = is_programs or line.startswith(("netboot:", "usage:"))
-        if is_programs:
-            yield line
-
-
 def execute(arguments: argparse.Namespace, recording: Path, output: Path) -> int:
     """Runs the program over a recording, and returns its status."""
     # The program takes names that are UTF-8 alone, and a recording may have any.
     link = output.with_name("given.rec")
     link.symlink_to(recording.resolve())
-    words = words_of(arguments, link, output)
+    words = [str(arguments.program.resolve() if arguments.program else program())]
     try:
-        process = start(words)
+        process = start([*words, "replay", str(link), str(output)])
     except OSError as error:
         raise Refused(f"{words[0]}: {error.strerror}") from error
-    said = finish(process)
-    status = status_of(words, said, process.returncode)
-    for line in messages(words, said):
-        print(line, file=sys.stderr)
-    if status < 0:
-        raise Refused(f"the program was ended by {signal.Signals(-status).name}")
-    return status
+    print(finish(process), end="", file=sys.stderr)
+    if process.returncode < 0:
+        raise Refused(f"the program was ended by {signal.Signals(-process.returncode).name}")
+    return process.returncode
 
 
 def section(title: str, words: list[str]) -> None:
@@ -260,26 +208,50 @@ def section(title: str, words: list[str]) -> None:
         progress(str(refusal))
 
 
+def has_text(output: Path) -> bool:
+    """Whether a run's commands printed anything, as far as its output can be read."""
+    try:
+        return any(isinstance(one, Text) and one.text for one in output_of(output))
+    except Refused:
+        return True
+
+
+def first_reason(recording: Path, output: Path) -> str:
+    with output.open("rb") as stream:
+        return next(why.reasons(output, stream, recording))
+
+
 def print_run(arguments: argparse.Namespace, recording: Path, output: Path, status: int) -> None:
-    """The text, and then the trace or why the run ended as it did."""
-    if output.exists() and output.stat().st_size:
+    """The text, and one line where the run ended well; else why it ended as it did."""
+    is_there = output.exists() and output.stat().st_size > 0
+    if is_there and has_text(output):
         section("text", [str(output), "--text"])
-        if status not in TRACED:
-            section("why", [str(output), "--input", str(recording), "--why"])
-        if status in TRACED or arguments.trace:
-            section("trace", [str(output), "--input", str(recording)])
-    print(f"-- status {status}: {STATUSES.get(status, 'not known')}")
+    if is_there and status not in ENDED_WELL:
+        section("why", [str(output), "--input", str(recording), "--why"])
+    if is_there and arguments.trace:
+        section("trace", [str(output), "--input", str(recording)])
+    if is_there and status in ENDED_WELL:
+        print(first_reason(recording, output))
+    else:
+        print(f"-- status {status}: {STATUSES.get(status, 'not known')}")
 
 
 def keep(path: Path, output: Path, recording: Path) -> None:
-    with output.open("rb") as stream, writing(path, recording) as kept:
+    with output.open("rb") as stream, writing(path) as kept:
         shutil.copyfileobj(stream, kept)
 
 
 def boot(words: list[str]) -> int:
     arguments = parser().parse_args(words)
-    if arguments.output:
-        check_output(arguments.output, arguments.file, arguments.script, arguments.capture)
+    check_apart(
+        {"--input": arguments.input, "--output": arguments.output},
+        {
+            "the file": arguments.file,
+            "--script": arguments.script,
+            "--capture": arguments.capture,
+            "--program": arguments.program,
+        },
+    )
     with tempfile.TemporaryDirectory(prefix="netboot-") as name:
         output = Path(name) / "out.rec"
         recording = input_recording(arguments, Path(name))

@@ -4,26 +4,28 @@
 from __future__ import annotations
 
 import argparse
-import re
-import signal
-import socket
-import subprocess
+import secrets
 import sys
 import tempfile
-import threading
-from contextlib import ExitStack, contextmanager
+import uuid
+from contextlib import ExitStack
 from pathlib import Path
-from typing import BinaryIO, Iterator
+from typing import Iterator
 
 import boot
 import record
-from shared import addresses, why
+from shared import why
+from shared.apart import check_apart
+from shared.boot_capture import FIRST_OWN_PORT, OWN_PORTS
 from shared.capture import PcapWriter
-from shared.command_line import Refused, run
+from shared.command_line import give_up_output, run
 from shared.devices import Device, HostAddress, Interface, Tap, host_address
 from shared.kinds import Status
-from shared.live_session import ClientFault, Counts, Kept, Session
-from shared.output import writing
+from shared.live_client import OwnClient, client_of, listen, listening_place
+from shared.live_session import ClientFault, Counts, Kept, Overdue, Session
+from shared.output import NamedFile, writing
+from shared.power import power_switch
+from shared.program import program
 from shared.progress import Progress
 from shared.texts import count, mac
 
@@ -34,9 +36,16 @@ DESCRIPTION = """\
 Leads a client, `netboot live HOST:PORT`, to a real network: it listens, takes one client, and
 gives it START for a script, a FRAME for each frame that comes for the client or for all, and a
 TICK for the time that passes. The client's frames go onto the wire. What commands print goes to
-standard output, a line for each fetch to standard error. Ctrl-C switches the client's power off.
+standard output, a line for each command, failure and fetch to standard error.
 
-It needs root, or CAP_NET_RAW (for a tap CAP_NET_ADMIN). It ends with the run's status."""
+Without --ip the client has no address, and the script begins with `dhcp`. --key, --w and --uuid
+are drawn anew for each run and printed, so that no stranger knows a run's ports and numbers
+before, and no two machines have the same; a run with the printed ones begins alike.
+
+Ctrl-C or SIGTERM switches the client's power off, which ends the run within two seconds by status
+5. The bridge needs root, or CAP_NET_RAW (to make a tap CAP_NET_ADMIN). It ends with the run's
+status; with 1 where it couldn't begin or the client failed, 130 where it is interrupted before a
+client has come."""
 
 EPILOG = """\
 The host should leave the interface alone: where it has an address there, it answers for itself
@@ -44,17 +53,10 @@ too, and may refuse what comes for the client. A separate interface, or a tap in
 is better.
 
 examples:
-  bridge.py boot.ipxe --device eth1 --ip 10.0.0.2/24 --run
-  bridge.py boot.ipxe --device eth1 --ip 10.0.0.2/24 --listen 127.0.0.1:7000 --record boot.rec
-  bridge.py boot.ipxe --tap tap0 --ip 10.0.0.2/24 --run --output boot.out --pcap boot.pcap"""
-
-
-def listening_place(text: str) -> tuple[str, int]:
-    """HOST:PORT, where 0 is any port that is free."""
-    host, colon, port = text.rpartition(":")
-    if not colon or not host or not re.fullmatch("[0-9]{1,5}", port) or int(port) > 65_535:
-        raise argparse.ArgumentTypeError(f"{text} is no HOST:PORT")
-    return host.strip("[]"), int(port)
+  tools/bridge.py examples/dhcp.ipxe --device eth1 --run
+  tools/bridge.py examples/captured.ipxe --device eth1 --ip 10.0.0.2/24 --run --record boot.rec
+  tools/bridge.py examples/dhcp.ipxe --device eth1 --listen 127.0.0.1:7000
+  tools/bridge.py examples/dhcp.ipxe --tap tap0 --run --output boot.out --pcap boot.pcap"""
 
 
 def parse(words: list[str]) -> argparse.Namespace:
@@ -66,13 +68,10 @@ def parse(words: list[str]) -> argparse.Namespace:
     parser.add_argument("script", type=Path, help="the file with the first script")
     wire = parser.add_mutually_exclusive_group(required=True)
     wire.add_argument("--device", metavar="NAME", help="an interface of this machine, as eth1")
-    wire.add_argument("--tap", metavar="NAME", help="a tap to be made, as tap0")
+    wire.add_argument("--tap", metavar="NAME", help="a tap as tap0, which is made where none is there")
+    where = "where the client connects (default 127.0.0.1, any port; it is said)"
     parser.add_argument(
-        "--listen",
-        type=listening_place,
-        default=DEFAULT_LISTEN,
-        metavar="HOST:PORT",
-        help="where the client connects (default 127.0.0.1, any port; it is said)",
+        "--listen", type=listening_place, default=DEFAULT_LISTEN, metavar="HOST:PORT", help=where
     )
     parser.add_argument("--run", action="store_true", help="start the built program as the client")
     parser.add_argument("--record", type=Path, metavar="FILE", help="keep the input recording")
@@ -81,7 +80,20 @@ def parse(words: list[str]) -> argparse.Namespace:
     parser.add_argument("--quiet", action="store_true", help="no line for each command and fetch")
     record.add_addresses(parser)
     record.add_machine(parser)
+    parser.set_defaults(key=None, uuid=None)
     return parser.parse_args(words)
+
+
+def draw(arguments: argparse.Namespace) -> None:
+    """Draws what no two runs have alike, where it isn't given, and says it, so that it can be given again."""
+    if arguments.key is None:
+        arguments.key = secrets.token_bytes(32)
+    if arguments.w is None:
+        first = arguments.port
+        arguments.w = secrets.randbelow(OWN_PORTS) if first is None else first - FIRST_OWN_PORT
+    if arguments.uuid is None:
+        arguments.uuid = uuid.uuid4()
+    say(f"this run: --w {arguments.w} --uuid {arguments.uuid} --key {arguments.key.hex()}")
 
 
 def say(line: str) -> None:
@@ -105,96 +117,34 @@ def warn_of_host(device: Device, host: HostAddress | None, client: record.Client
             "machine leaves alone is better")
 
 
-def client_of(
-    arguments: argparse.Namespace, device: Device, host: HostAddress | None
-) -> record.Client:
-    """The client's addresses: those given; else the interface's own."""
+def addresses_of(arguments: argparse.Namespace, device: Device) -> record.Client:
+    """The client's addresses: those given, and the interface's own hardware address."""
     arguments.map_ports = False
     if arguments.mac is None and device.mac is not None:
         arguments.mac = device.mac
-    if arguments.ip is None and host is not None:
-        arguments.ip = addresses.HostInNet(host.ip, host.mask)
     client = record.client_of(arguments, None)
     record.check_addresses(arguments, client)
     return client
-
-
-def listen(place: tuple[str, int]) -> socket.socket:
-    host, port = place
-    family = socket.AF_INET6 if ":" in host else socket.AF_INET
-    try:
-        return socket.create_server((host, port), family=family, backlog=1)
-    except OSError as error:
-        raise Refused(f"{host}:{port}: {error.strerror}") from error
-
-
-def peer_of(listener: socket.socket) -> str:
-    host, port = listener.getsockname()[:2]
-    return f"[{host}]:{port}" if ":" in host else f"{host}:{port}"
-
-
-@contextmanager
-def client_running(
-    arguments: argparse.Namespace, peer: str
-) -> Iterator[subprocess.Popen[bytes] | None]:
-    """The program as the client, where that is wanted."""
-    if not arguments.run:
-        say(f"waiting for `netboot live {peer}`")
-        yield None
-        return
-    program = subprocess.Popen(
-        boot.program_words("live", peer),
-        cwd=boot.CRATE,
-        stdin=subprocess.DEVNULL,
-        stdout=subprocess.DEVNULL,
-        start_new_session=True,
-    )
-    try:
-        yield program
-        program.wait(timeout=boot.MOST_SECONDS_TO_END)
-    except subprocess.TimeoutExpired:
-        say("the program doesn't end, and is ended")
-    finally:
-        boot.end_group(program)
-
-
-@contextmanager
-def ctrl_c(session: Session) -> Iterator[None]:
-    """The first SIGINT switches the client off, a second one ends the bridge."""
-
-    def switch_off(number: int, frame: object) -> None:
-        if session.wants_off:
-            raise KeyboardInterrupt
-        session.wants_off = True
-
-    if threading.current_thread() is not threading.main_thread():
-        yield
-        return
-    before = signal.signal(signal.SIGINT, switch_off)
-    try:
-        yield
-    finally:
-        signal.signal(signal.SIGINT, before)
 
 
 def kept_in(stack: ExitStack, arguments: argparse.Namespace, spare: Path) -> tuple[Kept, Path, Path]:
     """The files of a run; input and output are kept beside, where nobody asks, to say why it ended."""
     places = {}
     for name, wanted in (("input", arguments.record), ("output", arguments.output)):
-        path = spare / name
-        places[name] = stack.enter_context(path.open("wb"))
-        if wanted:
-            stack.callback(keep, path, wanted, places[name])
+        places[name] = NamedFile(spare / name)
+        stack.callback(close, places[name], wanted)
     pcap = None
     if arguments.pcap:
-        pcap = PcapWriter(stack.enter_context(writing(arguments.pcap, arguments.script)))
+        pcap = PcapWriter(stack.enter_context(writing(arguments.pcap)))
     kept = Kept(places["input"], places["output"], pcap)
     return kept, spare / "input", spare / "output"
 
 
-def keep(path: Path, wanted: Path, stream: BinaryIO) -> None:
-    stream.flush()
-    boot.keep(wanted, path, path)
+def close(file: NamedFile, wanted: Path | None) -> None:
+    """Ends a recording, and copies it to where it is wanted."""
+    file.close()
+    if wanted:
+        boot.keep(wanted, file.path, file.path)
 
 
 def lost(counts: Counts) -> Iterator[str]:
@@ -213,6 +163,9 @@ def say_end(session: Session, input_path: Path, output_path: Path) -> int:
         say(line)
     counts = session.counts
     say(f"{count(counts.received, 'frame')} received, {counts.sent} sent, {session.now / 1000:.1f} s")
+    if session.status is None and session.wants_off:
+        say("the power was switched off; the client didn't end in time, and was ended")
+        return int(Status.UNFINISHED)
     if session.status is None:
         say("the client ended the connection before the run was over")
         return NO_DONE
@@ -224,47 +177,51 @@ def say_end(session: Session, input_path: Path, output_path: Path) -> int:
     return int(session.status)
 
 
-def accept(listener: socket.socket, program: subprocess.Popen[bytes] | None) -> socket.socket:
-    """The first client; None comes any more where our own program has ended."""
-    listener.settimeout(0.2)
-    while True:
-        try:
-            client, _ = listener.accept()
-            listener.close()
-            return client
-        except TimeoutError:
-            if program is not None and program.poll() is not None:
-                raise Refused(f"the program ended with status {program.returncode}") from None
-
-
-def play(session: Session, start: bytes) -> None:
+def play(session: Session, start: bytes, script: Path, own: OwnClient | None) -> None:
     """The session until it ends, or the client fails, which is said."""
     try:
-        with ctrl_c(session):
+        with power_switch(session):
+            say(f"a client runs {script} on {session.device.name}, as {mac(session.mac)}")
             session.run(start)
+    except Overdue:
+        # nobody reads what is printed
+        give_up_output()
     except ClientFault as fault:
         say(str(fault))
+    if own is not None and session.status is None:
+        own.kill()
+
+
+def open_all(stack: ExitStack, arguments: argparse.Namespace) -> tuple[Device, record.Client]:
+    """The device, and the client's addresses on it."""
+    device = open_device(arguments)
+    stack.callback(device.close)
+    draw(arguments)
+    client = addresses_of(arguments, device)
+    warn_of_host(device, host_address(device.name), client)
+    return device, client
+
+
+def check_files(arguments: argparse.Namespace) -> None:
+    outputs = {"--record": arguments.record, "--output": arguments.output, "--pcap": arguments.pcap}
+    check_apart(outputs, {"the script": arguments.script})
 
 
 def bridge(words: list[str]) -> int:
     arguments = parse(words)
+    check_files(arguments)
     script = record.read_script(arguments.script)
     with ExitStack() as stack:
-        device = open_device(arguments)
-        stack.callback(device.close)
-        host = host_address(device.name)
-        client = client_of(arguments, device, host)
-        warn_of_host(device, host, client)
+        device, client = open_all(stack, arguments)
+        found = program() if arguments.run else None
         start = record.start_of(arguments, client, script)
         listener = stack.enter_context(listen(arguments.listen))
         spare = Path(stack.enter_context(tempfile.TemporaryDirectory(prefix="netboot-")))
         kept, input_path, output_path = kept_in(stack, arguments, spare)
-        program = stack.enter_context(client_running(arguments, peer_of(listener)))
+        connection, own = stack.enter_context(client_of(listener, found, say))
         progress = Progress(is_quiet=arguments.quiet)
-        connection = stack.enter_context(accept(listener, program))
-        session = Session(connection, device, client.mac, kept, progress.take)
-        say(f"a client runs {arguments.script} on {device.name}, as {mac(client.mac)}")
-        play(session, start)
+        session = Session(connection, device, client.mac, kept, progress.take, progress.note)
+        play(session, start, arguments.script, own)
         progress.end()
         kept.input.flush()
         kept.output.flush()

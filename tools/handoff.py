@@ -13,8 +13,10 @@ from dataclasses import dataclass
 from pathlib import Path
 from typing import BinaryIO, Iterable, Iterator
 
+from shared.apart import check_apart
 from shared.command_line import Refused, run
 from shared.kinds import PartKind
+from shared.output import naming
 from shared.parts import write_parts
 from shared.records import Part, Record
 from shared.recordings import output_of
@@ -33,9 +35,10 @@ file, in their order, as Linux takes them."""
 
 EPILOG = """\
 examples:
-  handoff.py boot.out --to hand-off
-  handoff.py boot.out --to hand-off --run --append console=ttyS0
-  handoff.py boot.out --to hand-off --by kexec --run       (this machine goes over to the kernel)"""
+  tools/boot.py examples/tftp-boot.rec --output boot.out   makes boot.out
+  tools/handoff.py boot.out --to hand-off
+  tools/handoff.py boot.out --to started --run --append console=ttyS0
+  tools/handoff.py boot.out --to started --by kexec --run      (this machine goes over to the kernel)"""
 
 
 @dataclass(frozen=True, slots=True)
@@ -96,7 +99,7 @@ def join_initrds(folder: Path) -> Path | None:
     if not parts:
         return None
     joined = folder / "initrd"
-    with joined.open("xb") as stream:
+    with naming(joined), joined.open("xb") as stream:
         for part in parts:
             stream.write(bytes(-stream.tell() % ALIGNMENT))
             with part.open("rb") as source:
@@ -115,6 +118,7 @@ def command_line_of(folder: Path, more: str) -> str:
 def take(arguments: argparse.Namespace) -> HandOff:
     """Writes the files, and says what they are."""
     folder: Path = arguments.to
+    check_apart({"--to": folder}, {"the recording": arguments.recording})
     for line in write_parts(checked(output_of(arguments.recording), {}), folder):
         print(line)
     kernel = folder / "kernel"

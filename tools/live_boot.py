@@ -5,18 +5,25 @@ from __future__ import annotations
 
 import argparse
 import hashlib
+import signal
 import subprocess
 import sys
 import tempfile
+from contextlib import contextmanager
 from dataclasses import dataclass
 from ipaddress import IPv4Address, IPv4Network
 from pathlib import Path
 from random import Random
+from typing import Iterator
 
 import boot
+from shared.apart import check_apart
 from shared.command_line import Refused, run
+from shared.kinds import Status
 from shared.namespaces import CLIENT_ADDRESS, PREFIX, SERVER_ADDRESS, Network, missing, network
+from shared.output import naming
 from shared.parts import write_parts
+from shared.program import not_runnable, program
 from shared.recordings import output_of
 from shared.servers import Leases, Names, Service, Tftp, dnsmasq
 
@@ -25,6 +32,7 @@ MOST_SECONDS = 600
 KERNEL_BYTES = 300_001
 FILE = "kernel"
 ELF = b"\x7fELF"
+NUMBERS = ("key", "w", "uuid")
 BRIDGE = Path(__file__).with_name("bridge.py")
 
 DESCRIPTION = """\
@@ -36,12 +44,13 @@ that was served, and the run that was recorded is replayed and compared byte for
 it is taken away.
 
 It needs root, iproute2, dnsmasq, and the built program or the toolchain's `rt`. Where one isn't
-there it says so and ends with 77."""
+there it says so and ends with 77. It ends with 0 where all that passed, with 1 where something
+didn't, and with 5 where Ctrl-C or SIGTERM switched a client's power off."""
 
 EPILOG = """\
 examples:
-  live_boot.py
-  live_boot.py --kernel /boot/vmlinuz --keep hand-off"""
+  tools/live_boot.py
+  tools/live_boot.py --kernel /bin/true --keep kept       (an ELF file, or a Linux kernel)"""
 
 
 def parse(words: list[str]) -> argparse.Namespace:
@@ -52,6 +61,9 @@ def parse(words: list[str]) -> argparse.Namespace:
     )
     parser.add_argument("--kernel", type=Path, help="the file to serve, in place of a made one")
     parser.add_argument("--keep", type=Path, metavar="FOLDER", help="keep recordings and wire here")
+    again = parser.add_argument_group("numbers of a run, given to bridge.py; it draws them else")
+    for name in NUMBERS:
+        again.add_argument(f"--{name}")
     return parser.parse_args(words)
 
 
@@ -64,30 +76,55 @@ def made_kernel() -> bytes:
     return ELF + Random(0).randbytes(KERNEL_BYTES - len(ELF))
 
 
+class SwitchedOff(Exception):
+    """A signal switched the client's power off."""
+
+
+@contextmanager
+def passing_on(bridge: subprocess.Popen[bytes]) -> Iterator[None]:
+    """A signal to end goes to the bridge, which switches the client's power off."""
+    numbers = (signal.SIGINT, signal.SIGTERM, signal.SIGHUP)
+    before = {
+        number: signal.signal(number, lambda *_: bridge.send_signal(signal.SIGTERM)) for number in numbers
+    }
+    try:
+        yield
+    finally:
+        for number, handler in before.items():
+            signal.signal(number, handler)
+
+
 class Boot:
     """One boot over the wire, and the files of it."""
 
-    def __init__(self, joined: Network, folder: Path) -> None:
-        self.network, self.folder = joined, folder
+    def __init__(self, joined: Network, folder: Path, numbers: list[str]) -> None:
+        self.network, self.folder, self.numbers = joined, folder, numbers
         self.input, self.output = folder / "boot.rec", folder / "boot.out"
         self.pcap = folder / "boot.pcap"
 
     def run(self, script: str, ip: str | None) -> int:
         """Runs a script through the bridge, with this address by START or none; the run's status."""
         path = self.folder / "boot.ipxe"
-        path.write_text(script)
+        with naming(path):
+            path.write_text(script)
         words = [
-            sys.executable, str(BRIDGE), str(path), "--run",
+            sys.executable, str(BRIDGE), str(path), "--run", *self.numbers,
             "--device", self.network.client_device, *(("--ip", ip) if ip else ()),
             "--record", str(self.input), "--output", str(self.output), "--pcap", str(self.pcap),
         ]
-        done = subprocess.run(self.network.in_client(*words), timeout=MOST_SECONDS, check=False)
-        return done.returncode
+        # in a session of its own, so that a terminal's Ctrl-C comes once
+        with subprocess.Popen(self.network.in_client(*words), start_new_session=True) as bridge:
+            try:
+                with passing_on(bridge):
+                    return bridge.wait(timeout=MOST_SECONDS)
+            except BaseException:
+                bridge.kill()
+                raise
 
     def replayed(self) -> bytes:
         """What the program writes over the input that was recorded."""
         again = self.folder / "again.out"
-        words = boot.program_words("replay", str(self.input.resolve()), str(again.resolve()))
+        words = [program(), "replay", self.input.resolve(), again.resolve()]
         subprocess.run(words, cwd=boot.CRATE, capture_output=True, check=False)
         return again.read_bytes()
 
@@ -139,35 +176,51 @@ WAYS = {
 }
 
 
-def boot_by(name: str, joined: Network, folder: Path, kernel: bytes) -> None:
+def boot_by(name: str, joined: Network, folder: Path, kernel: bytes, numbers: list[str]) -> None:
     """Boots a kernel in one of the ways, and compares what came of it."""
     way, root = WAYS[name], folder / "tftp"
     root.mkdir()
     root.chmod(0o755)
-    (root / FILE).write_bytes(kernel)
-    booted = Boot(joined, folder)
+    with naming(root / FILE):
+        (root / FILE).write_bytes(kernel)
+    booted = Boot(joined, folder, numbers)
     with dnsmasq(joined, Tftp(root), *way.services):
         status = booted.run("\n".join(("#!ipxe", *way.commands, "")), way.ip)
+    if status == Status.UNFINISHED:
+        raise SwitchedOff
     if status != 0:
         raise Refused(f"the boot by {name} ended with status {status}: {boot.STATUSES.get(status)}")
     compare_kernel(booted, kernel)
     compare_replay(booted)
 
 
-def live_boot(words: list[str]) -> int:
-    arguments = parse(words)
-    why = missing("dnsmasq") or boot.not_runnable()
-    if why:
-        say(f"skipped: {why}")
-        return SKIPPED
-    kernel = arguments.kernel.read_bytes() if arguments.kernel else made_kernel()
+def boot_all(arguments: argparse.Namespace, kernel: bytes) -> int:
+    given = ((name, getattr(arguments, name)) for name in NUMBERS)
+    numbers = [f"--{name}={value}" for name, value in given if value is not None]
     with tempfile.TemporaryDirectory(prefix="netboot-") as name, network() as joined:
         for way in WAYS:
             folder = (arguments.keep or Path(name)) / way.lower()
             folder.mkdir(parents=True)
-            boot_by(way, joined, folder, kernel)
+            try:
+                boot_by(way, joined, folder, kernel, numbers)
+            except SwitchedOff:
+                say(f"booting by {way}: switched off")
+                return int(Status.UNFINISHED)
             say(f"booting by {way}: passed")
     return 0
+
+
+def live_boot(words: list[str]) -> int:
+    arguments = parse(words)
+    check_apart({"--keep": arguments.keep}, {"--kernel": arguments.kernel})
+    why = missing("dnsmasq") or not_runnable()
+    if why:
+        say(f"skipped: {why}")
+        return SKIPPED
+    kernel = arguments.kernel.read_bytes() if arguments.kernel else made_kernel()
+    # compiled before there is a network, where it isn't built
+    program()
+    return boot_all(arguments, kernel)
 
 
 if __name__ == "__main__":

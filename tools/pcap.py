@@ -9,11 +9,14 @@ from dataclasses import dataclass
 from pathlib import Path
 from typing import Iterable, Iterator
 
+from shared.apart import check_apart
 from shared.capture import PcapWriter
 from shared.command_line import Refused, run
 from shared.output import report, writing
+from shared.pairing import paired
 from shared.recordings import Timed, input_of, output_of
 from shared.records import Received, Record, Sent, Step
+from shared.texts import count
 
 DESCRIPTION = """\
 Writes the frames of a run as a pcap file that Wireshark and tcpdump open: those that the
@@ -23,8 +26,9 @@ written. With one, input records after the run's end are left out: the run did n
 
 EPILOG = """\
 examples:
-  pcap.py boot.rec boot.out --to boot.pcap
-  pcap.py boot.rec --to received.pcap"""
+  tools/boot.py examples/tftp-boot.rec --output boot.out   makes boot.out
+  tools/pcap.py examples/tftp-boot.rec boot.out --to boot.pcap
+  tools/pcap.py examples/tftp-boot.rec --to received.pcap"""
 
 
 @dataclass(frozen=True, slots=True)
@@ -59,7 +63,7 @@ def frames_of_pair(inputs: Iterator[Timed], records: Iterable[Record]) -> Iterat
 def frames_of(arguments: argparse.Namespace) -> Iterator[TimedFrame]:
     inputs = input_of(arguments.input)
     if arguments.output:
-        return frames_of_pair(inputs, output_of(arguments.output))
+        return frames_of_pair(inputs, paired(output_of(arguments.output), arguments.input))
     return (frame for timed in inputs for frame in received_in(timed))
 
 
@@ -80,13 +84,18 @@ def parse(words: list[str]) -> argparse.Namespace:
 def pcap(words: list[str]) -> None:
     arguments = parse(words)
     received = sent = 0
-    with writing(arguments.to, arguments.input, arguments.output) as stream:
+    given = {"the input recording": arguments.input, "the output recording": arguments.output}
+    check_apart({"--to": arguments.to}, given)
+    with writing(arguments.to) as stream:
         writer = PcapWriter(stream)
         for timed in frames_of(arguments):
             writer.put(timed.time, timed.frame)
             received += timed.is_received
             sent += not timed.is_received
-    report(arguments.to, f"{arguments.to}: {received} frames received, {sent} sent")
+    if arguments.output:
+        report(arguments.to, f"{arguments.to}: {received} frames received, {sent} sent")
+    else:
+        report(arguments.to, f"{arguments.to}: {count(received, 'frame')} of the input recording")
 
 
 if __name__ == "__main__":

@@ -14,6 +14,7 @@ from typing import BinaryIO, Callable, Iterator
 from uuid import UUID
 
 from shared import addresses
+from shared.apart import check_apart
 from shared.boot_capture import (
     FIRST_OWN_PORT,
     OWN_PORTS,
@@ -28,6 +29,7 @@ from shared.boot_capture import (
 from shared.capture import NANOSECONDS
 from shared.command_line import STANDARD, Refused, opened, run
 from shared.output import report, writing
+from shared.replay_plan import Addresses, Plan
 from shared.records import MAX_TICK, Start, Tick, spell
 from shared.texts import count, mac
 
@@ -55,9 +57,9 @@ longer than --tick becomes several TICKs, because a timer fires once in a TICK.
 --mac, --ip and --w that are not given are taken from the capture's first TFTP request, and said.
 
 examples:
-  record.py hello.ipxe hello.rec
-  record.py boot.ipxe boot.rec --ip 10.0.0.2/24 --capture boot.pcap --trim
-  record.py boot.ipxe silence.rec --ip 10.0.0.2/24 --until 16"""
+  tools/record.py examples/hello.ipxe hello.rec
+  tools/record.py examples/captured.ipxe boot.rec --ip 10.0.0.2/24 --capture examples/captured-boot.pcap
+  tools/record.py examples/captured.ipxe silence.rec --ip 10.0.0.2/24 --until 16"""
 
 
 def key(text: str) -> bytes:
@@ -99,10 +101,12 @@ class Client:
     w: int
 
 
-def client_of(arguments: argparse.Namespace, request: Request | None) -> Client:
-    """What was given; what wasn't is the request's, if there is one."""
+def client_of(
+    arguments: argparse.Namespace, request: Request | None, is_leased: bool = False
+) -> Client:
+    """What was given; what wasn't is the request's, if there is one and the run takes no lease."""
     ip, mask = addresses.UNSET, addresses.UNSET
-    if request:
+    if request and not is_leased:
         ip = addresses.UNSET if arguments.ip else IPv4Address(request.ip)
     if arguments.ip:
         ip, mask = arguments.ip.ip, arguments.ip.mask or addresses.UNSET
@@ -134,6 +138,27 @@ def found(arguments: argparse.Namespace, request: Request, client: Client) -> st
     if arguments.w is None and arguments.port is None and client.w:
         parts.append(f"--w {client.w} (port {request.port})")
     return f"taken from the capture's first TFTP request: {', '.join(parts)}" if parts else ""
+
+
+def given_addresses(arguments: argparse.Namespace) -> Addresses | None:
+    """START's addresses, where that of the client was given."""
+    if arguments.ip is None:
+        return None
+    mask = arguments.ip.mask or arguments.mask or addresses.UNSET
+    return Addresses(arguments.ip.ip, mask, arguments.gateway, arguments.dns)
+
+
+def take_addresses(arguments: argparse.Namespace, plan: Plan) -> None:
+    """What a plan says of START's addresses, where nothing else was given."""
+    found = plan.addresses()
+    if arguments.mac is None:
+        arguments.mac = plan.request.mac
+    if found.ip == addresses.UNSET:
+        return
+    arguments.ip = addresses.HostInNet(found.ip, arguments.mask or found.mask or None)
+    for name, value in (("gateway", found.gateway), ("dns", found.dns)):
+        if getattr(arguments, name) == addresses.UNSET:
+            setattr(arguments, name, value)
 
 
 def check_addresses(arguments: argparse.Namespace, client: Client) -> None:
@@ -263,9 +288,11 @@ def parse(words: list[str]) -> argparse.Namespace:
     return parser.parse_args(words)
 
 
-def taken_of(arguments: argparse.Namespace, client: Client) -> Taken:
+def taken_of(arguments: argparse.Namespace, client: Client, plan: Plan | None) -> Taken:
+    before = plan.opens_before() if plan else 0
+
     def own_port(number: int) -> int:
-        return FIRST_OWN_PORT + (client.w + number) % OWN_PORTS
+        return FIRST_OWN_PORT + (client.w + before + number) % OWN_PORTS
 
     return Taken(
         device=client.mac,
@@ -276,6 +303,9 @@ def taken_of(arguments: argparse.Namespace, client: Client) -> Taken:
         skips=arguments.skip,
         fills=arguments.fix_checksums,
         own_port=own_port if arguments.map_ports else None,
+        spans=plan.spans() if plan else (),
+        first=plan.answer() if plan else None,
+        lease=plan.replayed(arguments.key) if plan else None,
     )
 
 
@@ -295,51 +325,62 @@ def write_without(arguments: argparse.Namespace, script: bytes) -> str:
     check_addresses(arguments, client)
     start, number = start_of(arguments, client, script), 1
     until = int((arguments.until or 0) * 1000)
-    with writing(arguments.recording, arguments.script) as stream:
+    with writing(arguments.recording) as stream:
         stream.write(start)
         for number, tick in enumerate(silence(until, arguments.tick), 2):
             stream.write(spell(tick))
     return count(number, "record")
 
 
-def write_with(arguments: argparse.Namespace, script: bytes, reader: Reader) -> str:
+def write_with(
+    arguments: argparse.Namespace, script: bytes, reader: Reader, plan: Plan | None = None
+) -> Conversion:
     """The recording of a script and a capture; what is to be known of it goes to warnings."""
-    request = first_request(reader, arguments.mac)
-    client = client_of(arguments, request)
+    request = plan.request if plan else first_request(reader, arguments.mac)
+    client = client_of(arguments, request, plan is not None and plan.is_leased)
     check_addresses(arguments, client)
-    if request and found(arguments, request, client):
+    if request and plan is None and found(arguments, request, client):
         print(f"record.py: {found(arguments, request, client)}", file=sys.stderr)
-    if client.ip != addresses.UNSET:
-        reader.known[client.ip.packed] = client.mac
+    if client.ip != addresses.UNSET or request:
+        reader.known[request.ip if plan and request else client.ip.packed] = client.mac
     start = start_of(arguments, client, script)
-    conversion = Conversion(reader, taken_of(arguments, client))
-    with writing(arguments.recording, arguments.script, arguments.capture) as stream:
-        number = write_records(start, conversion, stream)
+    conversion = Conversion(reader, taken_of(arguments, client, plan))
+    with writing(arguments.recording) as stream:
+        write_records(start, conversion, stream)
     for line in warnings(conversion, client.w):
         warn(line)
-    return f"{count(number, 'record')}; {summary(conversion)}"
+    return conversion
 
 
-def write_records(start: bytes, conversion: Conversion, stream: BinaryIO) -> int:
+def write_records(start: bytes, conversion: Conversion, stream: BinaryIO) -> None:
     stream.write(start)
-    number = 1
-    for number, record_ in enumerate(conversion.records(), 2):
+    for record_ in conversion.records():
+        conversion.met.records += 1
         stream.write(spell(record_))
-    return number
+
+
+def size_of(conversion: Conversion) -> str:
+    """What was written, in numbers: START counts too."""
+    met = conversion.met
+    records = count(met.records + 1, "record")
+    return f"{records}; {met.taken} of {count(met.packets, 'packet')}, {conversion.now / 1000:.3f} s"
 
 
 def summary(conversion: Conversion) -> str:
+    """What was written, and what was changed."""
     met = conversion.met
-    parts = [f"{met.taken} of {count(met.packets, 'packet')}", f"{conversion.now / 1000:.3f} s"]
-    if conversion.taken.fills:
+    parts = [size_of(conversion)]
+    if conversion.taken.fills and met.unfilled:
         parts.append(f"checksums of {count(met.unfilled, 'frame')} filled in")
-    if conversion.taken.own_port:
+    if conversion.taken.own_port and met.readdressed:
         parts.append(f"ports of {count(met.readdressed, 'frame')} changed")
     return ", ".join(parts)
 
 
 def make(arguments: argparse.Namespace) -> str:
     """Writes the recording, and returns what was written."""
+    given = {"the script": arguments.script, "--capture": arguments.capture}
+    check_apart({"the recording": arguments.recording}, given)
     if arguments.script == arguments.capture == STANDARD:
         raise Refused("script and capture can't both be standard input")
     script = read_script(arguments.script)
@@ -347,7 +388,7 @@ def make(arguments: argparse.Namespace) -> str:
         return write_without(arguments, script)
     with ExitStack() as stack:
         path = stack.enter_context(reopenable(arguments.capture))
-        return write_with(arguments, script, Reader(path, arguments.capture, {}))
+        return summary(write_with(arguments, script, Reader(path, arguments.capture, {})))
 
 
 def record(words: list[str]) -> None:

@@ -8,6 +8,7 @@ import sys
 from pathlib import Path
 from typing import BinaryIO, Iterable, Iterator
 
+from shared.apart import check_apart
 from shared.command_line import Refused, read_stream, run
 from shared.describe import Lines
 from shared.drawing import pictures
@@ -15,6 +16,7 @@ from shared.frames import ends_of, packet_of
 from shared.full_steps import MOST_COMMANDS, FullSteps
 from shared.kinds import GraphEvent, ObjectKind, OpenKind
 from shared.objects import MOST_OBJECTS, SOLE_KINDS
+from shared.pairing import check_pair
 from shared.parts import write_parts
 from shared.recordings import Timed, input_of, open_recording, read_input, read_output
 from shared.records import (
@@ -48,15 +50,16 @@ from its first record. docs/RECORDS.md describes the format."""
 
 EPILOG = """\
 examples:
-  show.py hello.rec                        the records that a run was given
-  show.py hello.out                        what it did
-  show.py hello.out --input hello.rec      the same, with the time and the record of each step
-  show.py hello.out --text                 what its commands printed
-  show.py boot.out --type TRY --type ENDED only records of these types
-  show.py boot.out --open 0                what belongs to its first open
-  show.py boot.out --input boot.rec --why  how it ended, in a sentence, and why
-  show.py boot.out --graph                 a picture of the objects of each open
-  show.py boot.out --parts parts           writes kernel, initrds and command line into parts/"""
+  tools/boot.py examples/tftp-boot.rec --output boot.out   makes boot.out
+  tools/show.py examples/tftp-boot.rec                     the records that a run was given
+  tools/show.py boot.out                                   what it did
+  tools/show.py boot.out --input examples/tftp-boot.rec    with the time and the record of each step
+  tools/show.py boot.out --text                            what its commands printed
+  tools/show.py boot.out --type TRY --type ENDED           only records of these types
+  tools/show.py boot.out --open 0                          what belongs to its first open
+  tools/show.py boot.out --input examples/tftp-boot.rec --why     how it ended, in a sentence
+  tools/show.py boot.out --graph                           a picture of the objects of each open
+  tools/show.py boot.out --parts parts                     writes kernel, initrds and command line"""
 
 
 class OfOpen:
@@ -298,6 +301,8 @@ def report(arguments: argparse.Namespace, records: Iterator[Record]) -> Iterable
 
 def show_output(arguments: argparse.Namespace, stream: BinaryIO) -> None:
     path = arguments.recording
+    if arguments.input:
+        check_pair(stream, arguments.input)
     if arguments.why:
         for line in reasons(path, stream, arguments.input):
             print(line)
@@ -314,6 +319,7 @@ def show_output(arguments: argparse.Namespace, stream: BinaryIO) -> None:
 def show(words: list[str]) -> None:
     arguments = parse(words)
     path = arguments.recording
+    check_apart({"--parts": arguments.parts}, {"the recording": path, "--input": arguments.input})
     with open_recording(path) as (direction, stream):
         if direction is Direction.OUTPUT:
             show_output(arguments, stream)

@@ -10,54 +10,30 @@ import tempfile
 from collections import Counter
 from contextlib import contextmanager
 from dataclasses import dataclass, field
+from ipaddress import IPv4Address
 from pathlib import Path
-from typing import BinaryIO, Callable, Iterator
+from typing import BinaryIO, Callable, Iterator, NamedTuple
 
 from shared.capture import NANOSECONDS, Packet, read_capture
-from shared.checksums import Sums, filled, readdressed, sums_of
+from shared.checksums import Sums, filled, readdressed, renumbered, sums_of
 from shared.command_line import STANDARD, Refused, opened, read_stream
+from shared.conversations import Request, request_of
 from shared.cooked import Receivers
 from shared.fields import CutOff
 from shared.frames import ends_of, packet_of
 from shared.records import MAX_FRAME, MIN_FRAME, Received, Record, Tick
 from shared.texts import count, mac
-from shared.wire import PROTOCOL_UDP, Opcode
+from shared.leases import lease_message_in
+from shared.wire import PROTOCOL_UDP
+from shared.wire_dhcp import Operation, Tag
 
 MILLISECOND = NANOSECONDS // 1000
 GROUP_BIT = 1
-TFTP_PORT = 69
-UDP_HEADER = 8
 FIRST_OWN_PORT = 49_152
 OWN_PORTS = 16_384
 MOST_COUNTED = 1_024
 # a day: what comes later is no boot, but a clock that jumped
 LONGEST = 24 * 3600 * 1000
-
-
-@dataclass(frozen=True, slots=True)
-class Request:
-    """A read request by TFTP in a capture: its time, its client, its server and its path."""
-
-    time: int
-    mac: bytes
-    ip: bytes
-    port: int
-    server: bytes
-    path: bytes
-
-
-def request_of(packet: Packet) -> Request | None:
-    """The read request that a packet carries, if it carries one."""
-    found = packet_of(packet.frame)
-    if found is None or found.protocol != PROTOCOL_UDP or found.is_fragment:
-        return None
-    ends = ends_of(found)
-    body = found.body[UDP_HEADER:]
-    if ends.target_port != TFTP_PORT or body[:2] != Opcode.RRQ.to_bytes(2, "big"):
-        return None
-    path = body[2:].split(b"\0", 1)[0]
-    sender, server = ends.source.packed, ends.target.packed
-    return Request(packet.time, packet.frame[6:12], sender, ends.source_port, server, path)
 
 
 @contextmanager
@@ -109,9 +85,27 @@ def first_request(reader: Reader, device: bytes | None) -> Request | None:
     return None
 
 
+class Span(NamedTuple):
+    """A part of a capture's time, in nanoseconds: its packets are taken, those at its ends too."""
+
+    begin: int
+    end: int | None = None
+
+
+@dataclass(frozen=True, slots=True)
+class LeaseReplayed:
+    """How a lease's answers are changed: those of its server have the run's number, those of others are left out."""
+
+    server: IPv4Address
+    number: int
+
+
 @dataclass(slots=True)
 class Taken:
-    """Which part of a capture is taken, for which device, and how."""
+    """Which part of a capture is taken, for which device, and how.
+
+    Where there are spans, time goes on from the end of one at the beginning of the next, where `first` is received.
+    """
 
     device: bytes
     longest_tick: int = 250
@@ -121,6 +115,9 @@ class Taken:
     skips: bool = False
     fills: bool = False
     own_port: Callable[[int], int] | None = None
+    spans: tuple[Span, ...] = ()
+    first: bytes | None = None
+    lease: LeaseReplayed | None = None
 
 
 @dataclass(slots=True)
@@ -128,11 +125,15 @@ class Met:
     """What was met in a capture, counted."""
 
     packets: int = 0
+    records: int = 0
     taken: int = 0
     skipped: int = 0
     unfilled: int = 0
     wrong: int = 0
     readdressed: int = 0
+    renumbered: int = 0
+    outside: int = 0
+    offers_left_out: int = 0
     began_late: int = 0
     others: Counter[bytes] = field(default_factory=Counter)
     ports: dict[int, int] = field(default_factory=dict)
@@ -152,9 +153,11 @@ class Conversion:
         last = 0
         for packet in self.reader.packets():
             self.met.packets += 1
-            if not self._has_begun(packet):
+            time = self._time_of(packet)
+            if time is None:
                 continue
-            time = (packet.time - (self.zero or 0)) // MILLISECOND
+            if self.taken.spans and packet.time >= self.taken.spans[-1].begin:
+                yield from self._first(time)
             if self.taken.until is not None and time > self.taken.until:
                 break
             self._check_time(packet, time)
@@ -181,6 +184,25 @@ class Conversion:
             self.now += milliseconds
             yield Tick(milliseconds)
 
+    def _first(self, time: int) -> Iterator[Record]:
+        """The frame that is received where the last span begins."""
+        if self.taken.first:
+            yield from self.ticks(time)
+            yield Received(self.taken.first)
+            self.taken.first = None
+
+    def _time_of(self, packet: Packet) -> int | None:
+        """A packet's time in milliseconds since the run's beginning, where it is of the run."""
+        if not self.taken.spans:
+            return (packet.time - (self.zero or 0)) // MILLISECOND if self._has_begun(packet) else None
+        passed = 0
+        for begin, end in self.taken.spans:
+            if begin <= packet.time and (end is None or packet.time <= end):
+                return (passed + packet.time - begin) // MILLISECOND
+            passed += (end or begin) - begin
+        self.met.outside += 1
+        return None
+
     def _has_begun(self, packet: Packet) -> bool:
         """Whether the run's time has begun, which is the time of its first packet."""
         if self.zero is None:
@@ -206,13 +228,27 @@ class Conversion:
             return None
         if packet.length != len(frame) or len(frame) > MAX_FRAME:
             return self._skipped(packet)
-        return self._readdressed(self._checked(frame))
+        leased = self._of_lease(self._checked(frame))
+        return self._readdressed(leased) if leased else None
+
+    def _of_lease(self, frame: bytes) -> bytes | None:
+        """The frame, with the run's number where it answers for the lease; None where another server's does."""
+        if self.taken.lease is None:
+            return frame
+        message = lease_message_in(frame)
+        if message is None or message.operation != Operation.SERVER or message.mac != self.taken.device:
+            return frame
+        if message.address(Tag.SERVER) != self.taken.lease.server:
+            self.met.offers_left_out += 1
+            return None
+        self.met.renumbered += 1
+        return renumbered(frame, self.taken.lease.number)
 
     def _note_sent(self, packet: Packet) -> None:
         request = request_of(packet)
         if request and request.port not in self.met.ports:
             self.met.ports[request.port] = len(self.met.ports)
-            if len(self.met.ports) == 1:
+            if len(self.met.ports) == 1 and not self.taken.spans:
                 self.met.began_late = (packet.time - (self.zero or 0)) // MILLISECOND
 
     def _skipped(self, packet: Packet) -> None:

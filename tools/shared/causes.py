@@ -95,7 +95,7 @@ MEANING: dict[Code, str] = {
     Code.NO_SCHEME: "the URI's scheme is not one of this command's",
     Code.BAD_NAME: "a setting, device or host has no such name",
     Code.BAD_VALUE: "the value does not fit the setting's kind",
-    Code.UNKNOWN: "there is no such command",
+    Code.UNKNOWN: "it is no command that is built",
     Code.USAGE: "the words do not fit the command",
     Code.FALSE: "isset or iseq is not true",
     Code.NO_MEMORY: "the program found no memory",

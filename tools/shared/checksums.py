@@ -15,6 +15,9 @@ from shared.wire import IPV4, PROTOCOL_TCP, PROTOCOL_UDP, checksum, pseudo_heade
 
 ETHERNET = 14
 HEADER_SUM = 10
+UDP_HEADER = 8
+# where a DHCP message has its transaction number (RFC 2131, section 2)
+NUMBER_PLACE = 4
 SUM_PLACES = {PROTOCOL_UDP: 6, PROTOCOL_TCP: 16}
 MORE_FRAGMENTS_AND_OFFSET = 0x3FFF
 
@@ -108,11 +111,21 @@ def filled(frame: bytes) -> bytes:
 
 def readdressed(frame: bytes, port: int) -> bytes:
     """The datagram's frame with another receiving port; a wrong checksum stays wrong."""
+    return _changed(frame, 2, port.to_bytes(2, "big"))
+
+
+def renumbered(frame: bytes, number: int) -> bytes:
+    """The frame of a DHCP message with another transaction number; a wrong checksum stays wrong."""
+    return _changed(frame, UDP_HEADER + NUMBER_PLACE, number.to_bytes(4, "big"))
+
+
+def _changed(frame: bytes, place: int, value: bytes) -> bytes:
+    """The datagram's frame with another value at a place of the datagram."""
     places = _places(frame)
     if places is None or places.sum_place is None:
         return frame
-    sums, at = _body_sums(frame, places), places.body.start + 2
-    changed = frame[:at] + port.to_bytes(2, "big") + frame[at + 2 :]
+    sums, at = _body_sums(frame, places), places.body.start + place
+    changed = frame[:at] + value + frame[at + len(value) :]
     if sums is not Sums.RIGHT or _number(frame, places.sum_place) == 0:
         return changed
     return filled(changed)

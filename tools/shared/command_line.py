@@ -3,6 +3,7 @@
 from __future__ import annotations
 
 import codecs
+import errno
 import os
 import signal
 import sys
@@ -17,6 +18,8 @@ STANDARD = Path("-")
 REFUSED = 1
 # as a shell does: 128 and the signal's number
 STOPPED = 128
+# Each file that a command writes names itself; what is left is standard output.
+NO_ROOM = (errno.ENOSPC, errno.EDQUOT, errno.EFBIG)
 
 
 class Refused(Exception):
@@ -68,7 +71,7 @@ def run(command: Callable[[list[str]], int | None], words: list[str]) -> int:
         return status or 0
     except BrokenPipeError:
         # The reader of the output has gone: what remains has nobody to go to.
-        _give_up_output()
+        give_up_output()
         return REFUSED
     except KeyboardInterrupt:
         return _refuse(name, "interrupted", STOPPED + signal.SIGINT)
@@ -112,6 +115,8 @@ def _end(number: int, _: object) -> None:
 def _text_of(refusal: Exception) -> str:
     if isinstance(refusal, OSError) and refusal.strerror:
         where = f"{os.fsdecode(refusal.filename)}: " if refusal.filename else ""
+        if not where and refusal.errno in NO_ROOM:
+            where = "standard output: "
         return f"{where}{refusal.strerror}"
     return str(refusal)
 
@@ -122,7 +127,7 @@ def _refuse(name: str, why: str, status: int) -> int:
         if sys.stdout is not None:
             sys.stdout.flush()
     except OSError:
-        _give_up_output()
+        give_up_output()
     if sys.stderr is not None:
         try:
             print(f"{name}: {why}", file=sys.stderr, flush=True)
@@ -131,7 +136,7 @@ def _refuse(name: str, why: str, status: int) -> int:
     return status
 
 
-def _give_up_output() -> None:
+def give_up_output() -> None:
     """What is still to be flushed goes nowhere, so that the end says nothing about it."""
     try:
         os.dup2(os.open(os.devnull, os.O_WRONLY), sys.stdout.fileno())

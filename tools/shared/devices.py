@@ -1,11 +1,12 @@
-"""The wire of a live run: a network interface of this machine (packet(7)), or a tap that is made.
+"""The wire of a live run: a network interface of this machine (packet(7)), or a tap that is there or is made.
 
 Both give frames as they are on the wire, without their check sequence. Opening one needs root, or
-the capabilities CAP_NET_RAW and CAP_NET_ADMIN.
+the capabilities CAP_NET_RAW and CAP_NET_ADMIN; a tap that is there and up needs its owner alone.
 """
 
 from __future__ import annotations
 
+import errno
 import fcntl
 import os
 import socket
@@ -34,7 +35,7 @@ VLAN_WAS_THERE = 1 << 4
 # linux/sockios.h and linux/if.h
 GET_FLAGS, SET_FLAGS = 0x8913, 0x8914
 GET_ADDRESS, GET_MASK, GET_HARDWARE = 0x8915, 0x891B, 0x8927
-IS_UP = 1
+IS_UP, HAS_LINK = 1, 0x40
 # linux/if_tun.h
 SET_TUN = 0x400454CA
 TAP_WITHOUT_HEAD = 0x0002 | 0x1000
@@ -82,6 +83,19 @@ def host_address(name: str) -> HostAddress | None:
     if address is None or mask is None:
         return None
     return HostAddress(IPv4Address(address[4:8]), IPv4Address(mask[4:8]))
+
+
+def silence(name: str, seconds: int) -> str:
+    """That no frame came in these seconds, and what of the device may be why."""
+    line = f"{name}: no frame for the client or for all came for {seconds} s"
+    flags = _request(name, GET_FLAGS)
+    if flags is None:
+        return line
+    if not _number(flags) & IS_UP:
+        return f"{line}, as it is down; `ip link set {name} up` brings it up"
+    if not _number(flags) & HAS_LINK:
+        return f"{line}, as it has no link: nobody is at its other end"
+    return f"{line}; is it the network that was meant?"
 
 
 def _check_name(name: str) -> None:
@@ -171,24 +185,37 @@ class Interface:
 
 
 class Tap:
-    """An interface that is made, whose other end is this program; it goes away with it."""
+    """A tap, whose other end is this program. One that is there already is taken, and stays afterwards."""
 
     def __init__(self, name: str) -> None:
         _check_name(name)
-        if _request(name, GET_FLAGS) is not None:
-            raise Refused(f"{name} is there already; --device takes an interface that is there")
         self.name, self.mac = name, None
+        flags = _request(name, GET_FLAGS)
+        self.is_taken = flags is not None
         try:
             self.file = os.open(TUN_FILE, os.O_RDWR | os.O_NONBLOCK)
         except OSError as error:
-            raise Refused(f"a tap can't be made: {TUN_FILE}: {error.strerror}") from error
+            raise Refused(f"{name}: a tap can't be opened: {TUN_FILE}: {error.strerror}") from error
         try:
             how = struct.pack("=16sH22x", name.encode(), TAP_WITHOUT_HEAD)
             fcntl.ioctl(self.file, SET_TUN, how)
-            _raise(name)
-        except OSError as error:
+            if flags is None or not _number(flags) & IS_UP:
+                _raise(name)
+        except (OSError, Refused) as error:
             os.close(self.file)
-            raise Refused(f"the tap {name} can't be made: {error.strerror}") from error
+            raise Refused(self._refusal(error)) from error
+
+    def _refusal(self, error: OSError | Refused) -> str:
+        number = getattr(error, "errno", None)
+        if self.is_taken and number == errno.EINVAL:
+            return f"{self.name} is there and is no tap; --device takes it"
+        if self.is_taken and number == errno.EBUSY:
+            return f"{self.name} is a tap that another program has open"
+        if number == errno.EPERM:
+            what = "a tap of another user" if self.is_taken else "a new tap"
+            return f"{self.name}: {what} needs root (or CAP_NET_ADMIN)"
+        why = error.strerror if isinstance(error, OSError) else str(error)
+        return f"the tap {self.name} can't be opened: {why}"
 
     def fileno(self) -> int:
         return self.file

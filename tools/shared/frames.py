@@ -233,6 +233,13 @@ def _udp_message(ends: Ends, body: bytes) -> str:
     return said or f"UDP, {len(body)} bytes"
 
 
+def is_message_sound(body: bytes) -> bool:
+    """Whether an ICMP message has a right checksum. All bits 0 and all bits 1 are both zero in its sum.
+
+    So one whose bytes are all 0 has a right one too, as Linux answers an echo of zeros."""
+    return checksum(body) == 0 or not any(body)
+
+
 def icmp_name(body: bytes) -> str:
     """What an ICMP message of at least two bytes is (RFC 792)."""
     kind, code = body[0], body[1]
@@ -245,7 +252,7 @@ def _icmp(body: bytes) -> str:
     if len(body) < 8:
         return "ICMP, not well-formed"
     name = icmp_name(body)
-    warning = "" if checksum(body) == 0 else ", wrong checksum"
+    warning = "" if is_message_sound(body) else ", wrong checksum"
     if body[0] not in (ECHO_REQUEST, ECHO_REPLY):
         return f"ICMP {name}{warning}"
     identifier = int.from_bytes(body[4:6], "big")

@@ -6,15 +6,19 @@ import re
 from abc import ABC, abstractmethod
 from ipaddress import IPv4Address
 
-from shared.frames import ECHO_REPLY, ECHO_REQUEST, Ends, Packet, datagram_of, ends_of, icmp_name, packet_of
+from shared.frames import ECHO_REPLY, ECHO_REQUEST, Ends, Packet
+from shared.frames import datagram_of, ends_of, icmp_name, is_message_sound, packet_of
 from shared.kinds import OpenKind
 from shared.messages import LeaseMessage, lease_message, name_message
 from shared.records import Open
 from shared.texts import mac, word
-from shared.wire import PROTOCOL_ICMP, PROTOCOL_UDP, Opcode, checksum
+from shared.wire import PROTOCOL_ICMP, PROTOCOL_UDP, Opcode
 from shared.wire_dhcp import SERVER_PORT, Kind, Operation, Tag
 
 ALL_HOSTS = IPv4Address("255.255.255.255")
+# what stands in a reason where the like came before, and counted
+AGAIN, ALREADY = " again", " already"
+ECHO_ANSWERED = "an echo request, which was answered"
 # the options that a transfer asks for, each with the number that its value is below (RFC 2348, 2349)
 OPTIONS = ((b"blksize", 1 << 16), (b"tsize", 1 << 32))
 
@@ -92,7 +96,8 @@ class OfTransfer(OfDatagrams):
             return None
         number = int.from_bytes(body[2:4], "big")
         if number != self.blocks + 1:
-            return f"block {number}, and block {self.blocks + 1} was waited for"
+            again = AGAIN if number <= self.blocks else ""
+            return f"block {number}{again}, and block {self.blocks + 1} was waited for"
         self.port, self.blocks = port, number
         return None
 
@@ -100,7 +105,7 @@ class OfTransfer(OfDatagrams):
         if not is_grant(body):
             return "a TFTP OACK that isn't well-formed, or whose size is no number"
         if self.port is not None:
-            return "a TFTP OACK, and the blocks' size is agreed already"
+            return f"a TFTP OACK, and the blocks' size is agreed{ALREADY}"
         self.port = port
         return None
 
@@ -161,7 +166,7 @@ class OfLease(OfDatagrams):
         """A verdict that counts ends the open, and so doesn't come here."""
         server = message.address(Tag.SERVER)
         if message.kind not in (Kind.ACK, Kind.NAK):
-            return f"{name}, and the offer of {self.server} was taken already"
+            return f"{name}, and the offer of {self.server} was taken{ALREADY}"
         return f"{name} of {server or 'no server'}, and the offer of {self.server} was taken"
 
 
@@ -196,10 +201,10 @@ class OfPing(Judge):
         if packet.protocol != PROTOCOL_ICMP:
             return f"IPv4 protocol {packet.protocol}, which isn't ICMP"
         body = packet.body
-        if len(body) < 8 or checksum(body):
+        if len(body) < 8 or not is_message_sound(body):
             return f"ICMP from {packet.source} with a wrong checksum or length"
         if (body[0], body[1]) == (ECHO_REQUEST, 0):
-            return "an echo request, which was answered"
+            return ECHO_ANSWERED
         if (body[0], body[1]) != (ECHO_REPLY, 0):
             return f"ICMP from {packet.source}, {icmp_name(body)}, which is no echo reply"
         if packet.source != self.opened.server:

@@ -7,6 +7,7 @@ from typing import NamedTuple
 
 from shared.frames import datagram_in, ends_of, packet_of
 from shared.messages import LeaseMessage, lease_message
+from shared.texts import word
 from shared.wire_dhcp import CLIENT_PORT, SERVER_PORT, Kind, Tag
 
 UNSET = IPv4Address(0)
@@ -46,6 +47,21 @@ def lease_given(frame: bytes) -> Lease | None:
     mask = message.address(Tag.NETMASK)
     gateway, name_server = (_set(message.address(tag)) for tag in (Tag.GATEWAY, Tag.DNS))
     return Lease(message.address(Tag.SERVER), _set(message.given), mask, gateway, name_server)
+
+
+def names_file(script: bytes) -> bool:
+    """Whether a script boots what a lease names; the built-in one does."""
+    return not script or b"filename" in script or b"${67" in script
+
+
+def of_unnamed(frame: bytes, offered: dict[IPv4Address, bytes]) -> str:
+    """On a lease that names no file, the end of a sentence; the files that servers offered are known by these."""
+    message = lease_message_in(frame)
+    if message is None or message.kind != Kind.ACK or message.boot_file():
+        return ""
+    said = f"; the lease from {message.address(Tag.SERVER)} names no file to boot"
+    others = [f"{server} offered {word(name)}" for server, name in offered.items() if server != message.address(Tag.SERVER)]
+    return f"{said}, and {' and '.join(others)}, which wasn't taken" if others else said
 
 
 def refusal_text(frame: bytes) -> bytes | None:

@@ -11,10 +11,11 @@ import socket
 import time
 from contextlib import suppress
 from dataclasses import dataclass, field
-from typing import BinaryIO, Callable
+from typing import Callable, Protocol
 
 from shared.capture import PcapWriter
-from shared.devices import Device
+from shared.command_line import Refused
+from shared.devices import Device, silence
 from shared.fields import Damaged
 from shared.kinds import Status
 from shared.records import (
@@ -30,6 +31,7 @@ from shared.records import (
     Off,
     Open,
     Record,
+    Result,
     Sent,
     Step,
     Text,
@@ -40,7 +42,12 @@ from shared.records import (
 
 # Between two TICKs at most a quarter of a second passes; finer ones make tries come at their times.
 TICK_SECONDS = 0.05
+# A client that hasn't begun with what it was given gets time in larger pieces, and in the end none, so
+# that a script that never waits has no more than these records before an OFF.
+AHEAD_SECONDS, BUSY_SECONDS = 0.2, 0.01
+MOST_AHEAD = 5
 MOST_MILLISECONDS = 60_000
+MOST_SILENT_MILLISECONDS = 5_000
 # A client that reads no more than this behind loses frames.
 MOST_WAITING = 4 << 20
 # below the size from which each buffer would be mapped anew
@@ -53,13 +60,19 @@ FRAME_IN = b"\x02"
 FRAME_TYPE, STEP_TYPE, ADVANCE_TYPE = Sent.TYPE, Step.TYPE, Advance.TYPE
 OUTPUT_TYPES = frozenset(KINDS[Direction.OUTPUT])
 # What a person sees of a run; the rest is only kept.
-SHOWN = frozenset(kind.TYPE for kind in (Text, Command, Open, Ended, Done))
+SHOWN = frozenset(kind.TYPE for kind in (Text, Command, Result, Open, Ended, Done))
+# ARP and IPv4, which show that a device is connected
+SPOKEN = (b"\x08\x06", b"\x08\x00")
 # A client that has said DONE, or was told OFF, closes its side in this time.
 MOST_SECONDS_TO_END = 10.0
 
 
 class ClientFault(Exception):
     """What the client did that no client does."""
+
+
+class Overdue(Exception):
+    """The run didn't end in time after its power was switched off."""
 
 
 @dataclass(slots=True)
@@ -73,13 +86,31 @@ class Counts:
     not_sent: int = 0
 
 
+class Written(Protocol):
+    """A file that a recording is kept in."""
+
+    def write(self, data: bytes) -> object: ...
+
+    def flush(self) -> None: ...
+
+    def truncate(self, size: int) -> object: ...
+
+    def seek(self, place: int) -> object: ...
+
+
 @dataclass(slots=True)
 class Kept:
     """Files that a run is kept in, each where it is wanted."""
 
-    input: BinaryIO
-    output: BinaryIO
+    input: Written
+    output: Written
     pcap: PcapWriter | None = None
+
+    def cut(self, whole: int) -> None:
+        """Leaves the bytes of whole records of the output."""
+        self.output.flush()
+        self.output.truncate(whole)
+        self.output.seek(whole)
 
 
 class Records:
@@ -106,6 +137,11 @@ class Records:
         return found
 
 
+def quick(client: socket.socket) -> None:
+    """What is sent goes out at once."""
+    client.setsockopt(socket.IPPROTO_TCP, socket.TCP_NODELAY, 1)
+
+
 @dataclass
 class Session:
     """A client that is connected, and the device that it is led to.
@@ -118,26 +154,42 @@ class Session:
     mac: bytes
     kept: Kept
     take: Callable[[int, Record], None]
+    say: Callable[[str], None]
     counts: Counts = field(default_factory=Counts)
     status: Status | None = None
     is_off: bool = False
     wants_off: bool = False
+    is_overdue: bool = False
+    is_showing: bool = False
 
     def run(self, start: bytes) -> None:
         """Runs from START to the client's end. `ClientFault` where it is no client of ours."""
         self.records, self.waiting = Records(), bytearray()
         self.last = time.monotonic()
         self.step, self.now, self.is_ended = 0, 0, False
+        self.silent_from: int | None = 0
         self.lengths: dict[int, int] = {}
         self.number, self.waits_to_send = 0, False
-        self.client.setsockopt(socket.IPPROTO_TCP, socket.TCP_NODELAY, 1)
+        quick(self.client)
         self.client.setblocking(False)
         with select.epoll() as self.poll:
             self.poll.register(self.client, select.EPOLLIN)
             self.poll.register(self.device, select.EPOLLIN)
             self._put(start)
-            while not self.is_ended:
+            while not self.is_ended and not self.is_overdue:
                 self._turn()
+        if self.is_off and self.status is None:
+            self.kept.cut(self.records.passed)
+
+    def switch_off(self) -> None:
+        """The client's power is switched off at the next turn."""
+        self.wants_off = True
+
+    def give_up(self) -> None:
+        """The client isn't waited for any more; from a signal's handler, also while the terminal is."""
+        self.is_overdue = True
+        if self.is_showing:
+            raise Overdue
 
     def _put(self, spelled: bytes) -> None:
         """Gives the client a record, and keeps it."""
@@ -148,7 +200,8 @@ class Session:
 
     def _turn(self) -> None:
         until = self.last + TICK_SECONDS - time.monotonic()
-        ready = self.poll.poll(until if until > 0 else 0)
+        least = BUSY_SECONDS if self.number > self.step else 0
+        ready = self.poll.poll(max(until, least))
         self._pass_time()
         device = self.device.fileno()
         for number, events in ready:
@@ -165,21 +218,39 @@ class Session:
         if self.status is not None or self.is_off:
             self.is_ended = self.is_ended or passed > MOST_SECONDS_TO_END * 1000
             return
-        if passed >= TICK_SECONDS * 1000:
+        if passed >= TICK_SECONDS * 1000 and not self._is_ahead(passed):
+            passed = min(passed, MOST_MILLISECONDS)
             self.last += passed / 1000
             self.now += passed
-            self._put(spell(Tick(min(passed, MOST_MILLISECONDS))))
+            self._put(spell(Tick(passed)))
+            self._notice_silence()
         if self.wants_off:
             self.is_off = True
             self._put(spell(Off()))
+
+    def _is_ahead(self, passed: int) -> bool:
+        """Whether the client has work enough, so that time waits."""
+        ahead = self.number - self.step
+        return ahead > MOST_AHEAD or (ahead > 1 and passed < AHEAD_SECONDS * 1000)
+
+    def _notice_silence(self) -> None:
+        """Says once that nobody speaks at the device."""
+        if self.silent_from is None or self.now - self.silent_from < MOST_SILENT_MILLISECONDS:
+            return
+        self.silent_from = None
+        self.say(silence(self.device.name, MOST_SILENT_MILLISECONDS // 1000))
 
     def _take_frame(self) -> None:
         try:
             frame = self.device.receive()
         except BlockingIOError:
             return
+        except OSError as error:
+            raise Refused(f"{self.device.name}: {error.strerror}") from error
         if frame is None or not self._is_for_client(frame):
             return
+        if frame[12:14] in SPOKEN:
+            self.silent_from = self.now
         if not MIN_FRAME <= len(frame) <= MAX_FRAME:
             self.counts.too_long += 1
         elif len(self.waiting) > MOST_WAITING:
@@ -248,7 +319,7 @@ class Session:
         elif kind == ADVANCE_TYPE:
             number, place = content[1:3], content[3:7]
             advance = Advance(int.from_bytes(number, "big"), int.from_bytes(place, "big"))
-            self.take(self.lengths.get(self.step, 0), advance)
+            self._give(advance)
         elif kind in SHOWN:
             self._show(content)
         elif kind not in OUTPUT_TYPES:
@@ -264,4 +335,12 @@ class Session:
             self.waiting.clear()
             with suppress(OSError):
                 self.client.shutdown(socket.SHUT_WR)
-        self.take(self.lengths.get(self.step, 0), record)
+        self._give(record)
+
+    def _give(self, record: Record) -> None:
+        """Shows a record; a terminal that stands still holds that up, and nothing else."""
+        self.is_showing = True
+        try:
+            self.take(self.lengths.get(self.step, 0), record)
+        finally:
+            self.is_showing = False

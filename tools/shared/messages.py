@@ -13,6 +13,8 @@ from shared.wire_dhcp import COOKIE, END, Kind, Tag
 DHCP_FIXED = 236
 # the options that lead to other hosts, with the names that their settings have
 WAYS = ((Tag.NETMASK, "netmask"), (Tag.GATEWAY, "gateway"), (Tag.DNS, "dns"))
+# what option 52 says of the two other fields (RFC 2132, section 9.3)
+FILE_HAS_OPTIONS, SERVER_HAS_OPTIONS = 1, 2
 DNS_HEADER = 12
 DNS_RESPONSE = 0x8000
 DNS_A = 1
@@ -26,27 +28,34 @@ DNS_POINTER = 0xC0
 
 def tftp(body: bytes) -> str | None:
     """A TFTP packet (RFC 1350, section 5; RFC 2347)."""
+    opcode = int.from_bytes(body[0:2], "big")
+    if len(body) >= 2 and opcode == Opcode.OACK:
+        options = _texts(body[2:])
+        return None if options is None else f"TFTP OACK{_options(options)}"
     if len(body) < 4:
         return None
     number = int.from_bytes(body[2:4], "big")
-    match int.from_bytes(body[0:2], "big"):
-        case Opcode.RRQ | Opcode.WRQ as opcode:
+    match opcode:
+        case Opcode.RRQ | Opcode.WRQ:
             return _tftp_request("RRQ" if opcode == Opcode.RRQ else "WRQ", body[2:])
         case Opcode.DATA:
             return f"TFTP DATA {number} of {count(len(body) - 4, 'byte')}"
         case Opcode.ACK if len(body) == 4:
             return f"TFTP ACK {number}"
-        case Opcode.ERROR if body[-1] == 0:
-            return f"TFTP ERROR {number} {word(body[4:-1])}"
-        case Opcode.OACK:
-            options = _texts(body[2:])
-            return options and f"TFTP OACK{_options(options)}"
+        case Opcode.ERROR:
+            return f"TFTP ERROR {number} {word(tftp_error_text(body))}"
     return None
+
+
+def tftp_error_text(body: bytes) -> bytes:
+    """The text of a TFTP ERROR: the bytes before the first zero byte, or all where there is none."""
+    return body[4:].partition(b"\0")[0]
 
 
 def _texts(data: bytes) -> list[bytes] | None:
     """Texts that each end in a zero byte."""
-    return data[:-1].split(b"\0") if data.endswith(b"\0") else None
+    *texts, rest = data.split(b"\0")
+    return None if rest else texts
 
 
 def _options(texts: list[bytes]) -> str:
@@ -70,6 +79,8 @@ class LeaseMessage:
     given: IPv4Address
     mac: bytes
     options: bytes
+    server_field: bytes = b""
+    file_field: bytes = b""
 
     @property
     def kind(self) -> int | None:
@@ -84,7 +95,19 @@ class LeaseMessage:
 
     def option(self, tag: int) -> bytes | None:
         """The value of an option of the main field, where it stands there."""
-        return next((value for found, value in self._options() if found == tag), None)
+        return next((value for found, value in options_of(self.options) if found == tag), None)
+
+    def boot_file(self) -> bytes | None:
+        """The name of the file to boot: of its own field, or by option 67 in any field that has options."""
+        overload = (self.option(Tag.OVERLOAD) or b"\0")[0]
+        own = self.file_field.split(b"\0", 1)[0]
+        if own and not overload & FILE_HAS_OPTIONS:
+            return own
+        texts = [self.options]
+        texts += [self.file_field] if overload & FILE_HAS_OPTIONS else []
+        texts += [self.server_field] if overload & SERVER_HAS_OPTIONS else []
+        pieces = [value for text in texts for tag, value in options_of(text) if tag == Tag.FILENAME and value]
+        return b"".join(pieces).rstrip(b"\0") or None
 
     def address(self, tag: int) -> IPv4Address | None:
         """The first four bytes of such a value."""
@@ -93,17 +116,19 @@ class LeaseMessage:
 
     def is_sound(self) -> bool:
         """Whether no option goes past the message's end."""
-        return all(value is not None for _, value in self._options())
+        return all(value is not None for _, value in options_of(self.options))
 
-    def _options(self) -> Iterator[tuple[int, bytes | None]]:
-        at, text = 0, self.options
-        while at < len(text) and text[at] != END[0]:
-            if text[at] == 0:
-                at += 1
-                continue
-            end = at + 2 + (text[at + 1] if at + 1 < len(text) else len(text))
-            yield text[at], text[at + 2 : end] if end <= len(text) else None
-            at = end
+
+def options_of(text: bytes) -> Iterator[tuple[int, bytes | None]]:
+    """The options of a field; the value of one that goes past its end is None."""
+    at = 0
+    while at < len(text) and text[at] != END[0]:
+        if text[at] == 0:
+            at += 1
+            continue
+        end = at + 2 + (text[at + 1] if at + 1 < len(text) else len(text))
+        yield text[at], text[at + 2 : end] if end <= len(text) else None
+        at = end
 
 
 def lease_message(body: bytes) -> LeaseMessage | None:
@@ -111,7 +136,8 @@ def lease_message(body: bytes) -> LeaseMessage | None:
     if len(body) < DHCP_FIXED + 4 or body[DHCP_FIXED : DHCP_FIXED + 4] != COOKIE:
         return None
     xid, given = int.from_bytes(body[4:8], "big"), IPv4Address(body[16:20])
-    return LeaseMessage(body[0], xid, given, body[28:34], body[DHCP_FIXED + 4 :])
+    fields = body[44:108], body[108:DHCP_FIXED]
+    return LeaseMessage(body[0], xid, given, body[28:34], body[DHCP_FIXED + 4 :], *fields)
 
 
 def dhcp(body: bytes) -> str | None:

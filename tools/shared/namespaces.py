@@ -72,4 +72,23 @@ def network() -> Iterator[Network]:
         yield made
     finally:
         for space in (made.client, made.server):
-            subprocess.run(["ip", "netns", "delete", space], capture_output=True, check=False)
+            _delete(space)
+
+
+def _delete(space: str) -> None:
+    subprocess.run(["ip", "netns", "delete", space], capture_output=True, check=False)
+
+
+@contextmanager
+def tap_network() -> Iterator[Network]:
+    """One namespace for both ends, where a virtual machine has the other end of a tap; it goes as `network` does."""
+    space, tap = f"netboot-t-{os.getpid()}", "tap0"
+    try:
+        _ip(f"netns add {space}")
+        _ip(f"-n {space} link set lo up")
+        _ip(f"-n {space} tuntap add {tap} mode tap")
+        _ip(f"-n {space} address add {SERVER_ADDRESS}/{PREFIX} dev {tap}")
+        _ip(f"-n {space} link set {tap} up")
+        yield Network(space, space, tap, tap)
+    finally:
+        _delete(space)

@@ -4,29 +4,23 @@ from __future__ import annotations
 
 import re
 from ipaddress import IPv4Address
+from typing import NamedTuple
 
+from shared.answers import TFTP_ERRORS
 from shared.causes import MEANING, Cause, Code
 from shared.frames import asked_address, datagram_in
 from shared.kinds import OpenKind
 from shared.leases import Offer, offer_taken, refusal_text
-from shared.messages import RCODES
+from shared.messages import RCODES, tftp_error_text
 from shared.records import Open
 from shared.sentences import seconds, times
 from shared.stories import OpenStory
 from shared.texts import word
 from shared.wire import Opcode
 
-# RFC 1350, section 5, and RFC 2347
-TFTP_ERRORS = {
-    1: "file not found",
-    2: "access violation",
-    3: "disk full or allocation exceeded",
-    4: "illegal TFTP operation",
-    5: "unknown transfer ID",
-    6: "file already exists",
-    7: "no such user",
-    8: "option negotiation refused",
-}
+# the blocks that are asked for (RFC 2348)
+MOST_BLOCK = 1_432
+ANSWERED_NEVER = "never answered"
 # what a server's response code says (RFC 1035, section 4.1.1)
 DNS_REFUSALS = {
     1: "the query is malformed",
@@ -72,6 +66,17 @@ def of_refusal(cause: Cause, story: OpenStory, frame: bytes | None) -> str:
     return f"{server} answered: {named} ({path})"
 
 
+def of_break(story: OpenStory, frame: bytes | None, shown: str) -> str:
+    """On an open whose server sent what isn't allowed in its place, by a frame where it is known."""
+    body = _of_tftp(frame, Opcode.OACK) if frame else None
+    texts = (body or b"")[2:].lower().split(b"\0")
+    granted = next((value for name, value in zip(texts[::2], texts[1::2]) if name == b"blksize"), b"")
+    if granted.isdigit() and int(granted) > MOST_BLOCK:
+        return (f"{named_server(story)} grants blocks of {int(granted)} bytes of {word(story.open.target)}, and at most "
+                f"{MOST_BLOCK} are asked for, as where a capture's client asked for more")
+    return f"{named_server(story)} sent what isn't allowed in its place: {shown}"
+
+
 def _of_nak(offer: Offer | None, frame: bytes | None) -> str:
     text = refusal_text(frame) if frame else None
     said = f": {word(text)}" if text else ""
@@ -101,21 +106,45 @@ def rcode_text(code: int) -> str:
     return f"{DNS_REFUSALS[code]} ({RCODES[code]})" if code in DNS_REFUSALS else f"response code {code}"
 
 
-def of_silence(story: OpenStory, span: int | None) -> str:
+class Came(NamedTuple):
+    """What came while an open waited: whether it is known, and an answer that didn't count, in words."""
+
+    is_known: bool
+    answer: str | None
+
+
+def of_silence(story: OpenStory, span: int | None, came: Came) -> str:
     """On an open whose server didn't answer; the span is the time since it was asked first."""
     asked = [tried.frame.frame for tried in story.sent() if tried.frame]
     often = times(len(asked)) + (f" in {seconds(span)}" if span is not None else "")
-    hop = asked_address(asked[-1]) if asked else None
+    silent = _silent(story, asked, ANSWERED_NEVER if came.is_known else "gave no answer that counted")
+    return f"{came.answer}; {silent.asked} {often}" if came.answer else f"{silent.sentence} {often}"
+
+
+class Silent(NamedTuple):
+    """A sentence on who is silent, up to how often it was asked, and the part of it that says what was done."""
+
+    sentence: str
+    asked: str
+
+
+def _silent(story: OpenStory, asked: list[bytes], how: str) -> Silent:
+    hop, path, server = asked_address(asked[-1]) if asked else None, word(story.open.target), named_server(story)
     if hop:
-        return f"{_hop(story, hop)} never answered: its hardware address was asked for {often}"
+        who = _hop(story, hop)
+        return Silent(f"{who} {how}: its hardware address was asked for", f"the hardware address of {who} was asked for")
     match story.open.kind:
         case OpenKind.DHCP:
-            return _of_silent_lease(offer_taken(asked), often)
+            return _silent_lease(offer_taken(asked), how)
         case OpenKind.DNS:
-            return f"{named_server(story)} never answered: it was asked for {word(story.open.target)} {often}"
+            return Silent(f"{server} {how}: it was asked for {path}", f"it was asked for {path}")
         case OpenKind.PING:
-            return f"{named_server(story)} never answered: it was pinged {often}"
-    return _of_silent_transfer(story, asked, often)
+            return Silent(f"{server} {how}: it was pinged", f"{server} was pinged")
+    if story.block or is_acknowledgement(asked):
+        last = f"block {story.block} of {path}" if story.block else f"its OACK for {path}"
+        sentence = f"{server} stopped answering after {last}, which was acknowledged"
+        return Silent(sentence, f"{last} was acknowledged")
+    return Silent(f"{server} {how}: {path} was asked for", f"{path} was asked for")
 
 
 def _hop(story: OpenStory, hop: IPv4Address) -> str:
@@ -123,26 +152,23 @@ def _hop(story: OpenStory, hop: IPv4Address) -> str:
     return named_server(story) if hop == story.open.server else f"the gateway {hop}"
 
 
-def _of_silent_lease(offer: Offer | None, often: str) -> str:
+def _silent_lease(offer: Offer | None, how: str) -> Silent:
     if offer is None:
-        return f"no DHCP server offered a lease: one was asked for {often}"
+        nobody = "no DHCP server offered a lease" if how == ANSWERED_NEVER else "no offer of a lease counted"
+        return Silent(f"{nobody}: one was asked for", "a lease was asked for")
     what = f"the DHCP server {offer.server} offered {offer.address}"
-    return f"{what}, and never answered the request for it, which was sent {often}"
+    asked = f"the lease of {offer.address} was asked for"
+    to = "the request" if how == ANSWERED_NEVER else "to the request"
+    return Silent(f"{what}, and {how} {to} for it, which was sent", asked)
 
 
-def _of_silent_transfer(story: OpenStory, asked: list[bytes], often: str) -> str:
-    server, path, block = named_server(story), word(story.open.target), story.block
-    if block or is_acknowledgement(asked):
-        last = f"block {block} of {path}" if block else f"its OACK for {path}"
-        return f"{server} stopped answering after {last}, which was acknowledged {often}"
-    return f"{server} never answered: {path} was asked for {often}"
-
-
-def of_wait(story: OpenStory, known: set[IPv4Address]) -> str:
-    """What an open waits for; of the known hosts the hardware address has come."""
+def of_wait(story: OpenStory, known: set[IPv4Address] | None) -> str:
+    """What an open waits for; of the known hosts the hardware address has come, where that is known."""
     opened, asked, server = story.open, story.asked(), named_server(story)
     hop = asked_address(asked[-1]) if asked else None
-    if hop and hop not in known:
+    if hop and known is None:
+        return f"{_hop(story, hop)}, whose hardware address was asked for"
+    if hop and known is not None and hop not in known:
         return f"the hardware address of {_hop(story, hop)}"
     if hop:
         is_ping = opened.kind is OpenKind.PING
@@ -175,7 +201,7 @@ def is_acknowledgement(asked: list[bytes]) -> bool:
 def error_text(frame: bytes) -> bytes | None:
     """The text of a TFTP ERROR."""
     body = _of_tftp(frame, Opcode.ERROR)
-    return None if body is None else body[4:].rstrip(b"\0")
+    return None if body is None else tftp_error_text(body)
 
 
 def _of_tftp(frame: bytes, opcode: Opcode) -> bytes | None:

@@ -1,9 +1,8 @@
 """Files that a command writes. Nothing that is there is lost.
 
-A file that is an input of the command, under any name, is refused before anything is opened. A
-regular file is written beside its place and takes its name once all of it is there; whatever else
-has that name meanwhile stays. A link is followed. A pipe, a device and `-`, which is standard
-output, are written as they are.
+A regular file is written beside its place and takes its name once all of it is there; whatever
+else has that name meanwhile stays. A link is followed. A pipe, a device and `-`, which is standard
+output, are written as they are. `apart` refuses outputs that are inputs or each other.
 """
 
 from __future__ import annotations
@@ -23,31 +22,66 @@ OPEN_FILES = ("/dev/stdout", "/dev/stderr", "/dev/fd/", "/proc/")
 
 
 @contextmanager
-def writing(path: Path, *inputs: Path | None) -> Iterator[BinaryIO]:
-    """Opens the output of a command that reads these inputs."""
+def writing(path: Path) -> Iterator[BinaryIO]:
+    """Opens an output of a command."""
     about = _about(path)
-    _check_inputs(path, about, inputs)
     if path == STANDARD:
-        with _named(path):
+        with naming(path):
             yield sys.stdout.buffer
             sys.stdout.buffer.flush()
     elif about is None or (stat.S_ISREG(about.st_mode) and not _is_open_already(path)):
-        with _named(path), _beside(Path(os.path.realpath(path)), about) as stream:
+        with naming(path), _beside(Path(os.path.realpath(path)), about) as stream:
             yield stream
     else:
-        with _named(path), path.open("wb") as stream:
+        with naming(path), path.open("wb") as stream:
             yield stream
-
-
-def check_output(path: Path, *inputs: Path | None) -> None:
-    """Refuses an output that is one of these inputs under any name."""
-    _check_inputs(path, _about(path), inputs)
 
 
 def report(path: Path, line: str) -> None:
     """Says what was written: on standard output, unless that has what was written."""
     is_shared = path == STANDARD or str(path).startswith(OPEN_FILES)
     print(line, file=sys.stderr if is_shared else sys.stdout)
+
+
+@contextmanager
+def naming(path: Path) -> Iterator[None]:
+    """An error of the system that names no file was this output's."""
+    try:
+        yield
+    except BrokenPipeError:
+        raise
+    except OSError as error:
+        if error.filename is None and error.strerror:
+            raise Refused(f"{path}: {error.strerror}") from error
+        raise
+
+
+class NamedFile:
+    """A new file that is written, whose errors name it."""
+
+    def __init__(self, path: Path) -> None:
+        self.path, self.stream = path, path.open("wb")
+
+    def write(self, data: bytes) -> None:
+        try:
+            self.stream.write(data)
+        except OSError as error:
+            raise Refused(f"{self.path}: {error.strerror}") from error
+
+    def flush(self) -> None:
+        with naming(self.path):
+            self.stream.flush()
+
+    def truncate(self, size: int) -> None:
+        with naming(self.path):
+            self.stream.truncate(size)
+
+    def seek(self, place: int) -> None:
+        self.stream.seek(place)
+
+    def close(self) -> None:
+        with naming(self.path):
+            self.stream.close()
 
 
 def _about(path: Path) -> os.stat_result | None:
@@ -58,33 +92,8 @@ def _about(path: Path) -> os.stat_result | None:
         return None
 
 
-def _check_inputs(
-    path: Path, about: os.stat_result | None, inputs: tuple[Path | None, ...]
-) -> None:
-    for given in inputs:
-        if given is None or about is None or not stat.S_ISREG(about.st_mode):
-            continue
-        of_input = os.fstat(sys.stdin.fileno()) if given == STANDARD else os.stat(given)
-        if os.path.samestat(about, of_input):
-            same = "" if path == given else f", the same file as {given}"
-            raise Refused(f"{path}: an output must not be an input of the same command{same}")
-
-
 def _is_open_already(path: Path) -> bool:
     return str(path).startswith(OPEN_FILES)
-
-
-@contextmanager
-def _named(path: Path) -> Iterator[None]:
-    """An error of the system that names no file was this output's."""
-    try:
-        yield
-    except BrokenPipeError:
-        raise
-    except OSError as error:
-        if error.filename is None and error.strerror:
-            raise Refused(f"{path}: {error.strerror}") from error
-        raise
 
 
 @contextmanager

@@ -10,6 +10,7 @@ from typing import BinaryIO, Iterable
 
 from shared.command_line import Refused
 from shared.kinds import PartKind, Status
+from shared.output import naming
 from shared.records import Done, Part, Record
 from shared.texts import word
 
@@ -41,7 +42,8 @@ class Written:
     digest: "hashlib._Hash" = field(default_factory=hashlib.sha256)
 
     def put(self, piece: bytes) -> None:
-        self.stream.write(piece)
+        with naming(self.path):
+            self.stream.write(piece)
         self.digest.update(piece)
         self.length += len(piece)
 
@@ -100,7 +102,8 @@ class PartsWriter:
 
     def close(self) -> None:
         for written in self.files.values():
-            written.stream.close()
+            with naming(written.path):
+                written.stream.close()
 
     def discard(self) -> None:
         """Takes away what was made for a hand-off that is not complete."""

@@ -7,10 +7,10 @@ import time
 from dataclasses import dataclass, field
 from typing import TextIO
 
-from shared.causes import OK, Cause
+from shared.causes import MEANING, OK, Cause, Code
 from shared.kinds import OpenKind
 from shared.open_sentences import meaning
-from shared.records import Advance, Command, Ended, Open, Record, Text
+from shared.records import Advance, Command, Ended, Open, Record, Result, Text
 from shared.sentences import seconds_of_sleep
 from shared.texts import PrintedText, count, word
 
@@ -20,6 +20,8 @@ ANSWERS = {OpenKind.DHCP: "a lease", OpenKind.DNS: "the address of {}", OpenKind
 BEFORE_DATA = 20 + 8 + 4
 SECONDS_BETWEEN = 0.25
 SECONDS_BETWEEN_LINES = 5.0
+# of commands and failures: a script that never waits has thousands
+MOST_LINES_A_SECOND = 100
 
 
 @dataclass(slots=True)
@@ -65,6 +67,9 @@ class Progress:
         self.is_terminal = self.said.isatty()
         self.shown = 0.0
         self.is_line_open = False
+        self.running: list[Command] = []
+        self.last_end: tuple[Open, Cause] | None = None
+        self.second, self.lines, self.left_out = 0, 0, 0
 
     def take(self, packet_length: int, record: Record) -> None:
         """A record of the output, in the step of a received packet of this length, or of none."""
@@ -75,17 +80,47 @@ class Progress:
                 self._print(record.text)
             case Command():
                 self._command(record)
+            case Result():
+                self._result(record.cause)
             case Open():
                 self.fetches[record.number] = Fetch(record, time.monotonic())
             case Ended():
                 self._ended(record)
 
     def _command(self, command: Command) -> None:
+        self.running.append(command)
+        if self._is_too_many():
+            return
         words = b" ".join(command.words).decode("utf-8", "backslashreplace")
         time = seconds_of_sleep(command)
         if not command.expanded:
             words += ": its words can't be expanded"
         self._say(words if time is None else f"{words}: goes on after {time} s")
+
+    def _result(self, cause: Cause) -> None:
+        """A failure, as what the last open means by it, where it had that cause."""
+        command = self.running.pop() if self.running else None
+        if command is None or cause.code in (Code.OK, Code.FALSE) or self._is_too_many():
+            return
+        opened = self.last_end[0] if self.last_end and self.last_end[1] == cause else None
+        why = meaning(opened, cause) if opened else MEANING[cause.code]
+        name = word(command.words[0]) if command.words else "it"
+        self._say(f"line {command.line}: {name} failed: {cause}: {why}")
+
+    def _is_too_many(self) -> bool:
+        """Whether this second had its lines; how many were left out is said in the next."""
+        second = int(time.monotonic())
+        if second != self.second:
+            self.second, self.lines = second, 0
+            self._say_left_out()
+        self.lines += 1
+        self.left_out += self.lines > MOST_LINES_A_SECOND
+        return self.lines > MOST_LINES_A_SECOND
+
+    def _say_left_out(self) -> None:
+        if self.left_out:
+            self._say(f"and {count(self.left_out, 'line')} more, which are left out")
+            self.left_out = 0
 
     def _print(self, text: bytes) -> None:
         self._close_line()
@@ -109,6 +144,7 @@ class Progress:
 
     def _ended(self, ended: Ended) -> None:
         fetch = self.fetches.pop(ended.number, None)
+        self.last_end = (fetch.opened, ended.cause) if fetch else None
         if fetch and fetch.opened.kind in ANSWERS:
             self._say(answered(fetch.opened, ended.cause, time.monotonic() - fetch.begun))
         elif fetch:
@@ -116,12 +152,18 @@ class Progress:
             self._say(fetch.line(time.monotonic()) + how)
 
     def _say(self, line: str, stays: bool = True) -> None:
-        if self.is_quiet:
-            return
+        if not self.is_quiet:
+            self._write(line, stays)
+
+    def _write(self, line: str, stays: bool) -> None:
         self.said.write(("\r\x1b[K" if self.is_line_open else "") + line)
         self.is_line_open = self.is_terminal and not stays
         self.said.write("" if self.is_line_open else "\n")
         self.said.flush()
+
+    def note(self, line: str) -> None:
+        """A line on the run itself, which is said in any case."""
+        self._write(line, True)
 
     def _close_line(self) -> None:
         if self.is_line_open:
@@ -129,6 +171,7 @@ class Progress:
             self.is_line_open = False
 
     def end(self) -> None:
+        self._say_left_out()
         self._close_line()
         self.printed.write(self.text.end())
         self.printed.flush()

@@ -8,6 +8,7 @@ from typing import NamedTuple
 
 from shared.causes import MEANING, WHAT, Cause, Code
 from shared.host_names import host_fault
+from shared.ipxe import is_ipxe, option_of
 from shared.leases import Lease
 from shared.links import Link, no_name_server, no_route
 from shared.records import Command, Start
@@ -53,14 +54,8 @@ USAGES = {
     b"sleep": "sleep SECONDS, from 0 to 4000000",
 }
 
-# Commands of iPXE, so that one that isn't built is known from one that is misspelled.
-KNOWN = frozenset(
-    b"autoboot boot chain choose colour config console cpair cpuid form ifconf "
-    b"iflinkwait ifstat imgargs imgdecrypt imgextract imgfree imgload imgmem imgselect "
-    b"imgstat imgtrust imgverify initrd item kernel login lotest menu module ntp nstat "
-    b"param params pciscan poweroff present profstat prompt read reboot route sanboot sanhook "
-    b"sanunhook shell shim sync time vcreate vdestroy".split()
-)
+# causes by which words are refused that may be options of iPXE
+BY_OPTION = (Code.USAGE, Code.BAD_NAME, Code.BAD_URI, Code.NO_SCHEME)
 
 
 def shown(name: bytes) -> str:
@@ -96,7 +91,9 @@ def of_local(cause: Cause, command: Command | None, start: Start | None, met: Me
         return f"{MEANING[cause.code]}: {cause}" if cause.code in WHAT else MEANING[cause.code]
     if not command.expanded:
         return _unexpanded(cause, command)
-    name = command.words[0]
+    name, option = command.words[0], option_of(command)
+    if option and cause.code in BY_OPTION:
+        return f"the option `{shown(option)}` of `{shown(name)}` isn't built yet"
     said = _of_file(cause, command) or _of_setting(cause, command) or _of_name(cause, command, met)
     return said or _of_command(cause, command, start) or f"{word(name)}: {MEANING[cause.code]}"
 
@@ -177,9 +174,9 @@ def _unknown(name: bytes) -> str:
         return "the command has no name: its first word is empty, as expanded"
     if name.startswith(b":"):
         return f"{word(name)} is a label only where nothing else stands on its line"
-    if name in KNOWN:
+    if is_ipxe(name):
         return f"the command `{name.decode()}` isn't built yet"
-    return f"there is no command {word(name)}"
+    return f"{word(name)} is no command, of iPXE neither"
 
 
 def _unexpanded(cause: Cause, command: Command) -> str:

@@ -27,6 +27,7 @@ from shared.records import (
     Step,
     Try,
 )
+from shared.texts import word
 
 # What is kept of a recording, whatever it holds: the last failures, and of each the last opens.
 MOST_FAILURES = 100
@@ -63,6 +64,9 @@ class OpenStory:
 
     def is_drive(self) -> bool:
         return self.open.kind is OpenKind.ISCSI
+
+    def is_fetch(self) -> bool:
+        return self.open.kind in (OpenKind.TFTP, OpenKind.HTTP)
 
     def is_look_up(self) -> bool:
         return self.open.kind is OpenKind.DNS
@@ -152,10 +156,15 @@ class Trace:
         self.live: dict[int, OpenStory] = {}
         self.objects = Objects()
         self.failures: deque[Failure] = deque(maxlen=MOST_FAILURES)
+        # the first that a test's answer isn't, and how many of those there are
+        self.first: Failure | None = None
         self.failed = 0
         self.waiting: OpenStory | None = None
         self.kernel: bytes = b""
         self.sizes: dict[PartKind, int] = {}
+        self.initrds = 0
+        # the servers that sent files, each once
+        self.sources: list[str] = []
         self.done: Done | None = None
         self.full = FullSteps()
         self.last: Command | None = None
@@ -225,6 +234,8 @@ class Trace:
         self.link = self.link.leased(here.step) if is_leased else self.link.after(story.words)
 
     def _fail(self, failure: Failure) -> None:
+        if failure.cause.code is not Code.FALSE:
+            self.first = self.first or failure
         self.failed += 1
         self.failures.append(failure)
 
@@ -268,9 +279,18 @@ class Trace:
         story = self._story(ended.number)
         here.is_found = story.is_look_up() and ended.cause == OK
         story.ended = here
+        if ended.cause == OK and story.is_fetch():
+            self._note_source(story)
         del self.live[ended.number]
+
+    def _note_source(self, story: OpenStory) -> None:
+        server = f"{word(story.name)} ({story.open.server})" if story.name else str(story.open.server)
+        if server not in self.sources and len(self.sources) < MOST_OPENS:
+            self.sources.append(server)
 
     def _part(self, part: Part) -> None:
         self.sizes[part.kind] = self.sizes.get(part.kind, 0) + len(part.piece)
+        if part.kind is PartKind.INITRD:
+            self.initrds = max(self.initrds, part.index + 1)
         if part.kind is PartKind.KERNEL_NAME:
             self.kernel = (self.kernel + part.piece)[:MOST_TEXT]

@@ -2,21 +2,22 @@
 
 from __future__ import annotations
 
-from dataclasses import dataclass, field
 from pathlib import Path
 from typing import BinaryIO, Iterator
 
+from shared.advice import of_failure, said
+from shared.advice import of_silence as of_silence_advice
 from shared.causes import MEANING, Cause, Code
 from shared.command_line import Refused, read_stream
 from shared.describe import Lines, server_of
 from shared.fields import CutOff
 from shared.full_steps import MOST_COMMANDS
-from shared.kinds import OpenKind, PartKind, Status
-from shared.leases import Lease, lease_given
-from shared.meanwhile import Meanwhile, meanwhile_of
+from shared.kinds import OpenKind, Status
+from shared.leases import Lease, lease_given, names_file, of_unnamed
 from shared.objects import ending
-from shared.open_sentences import named_server, of_refusal, of_silence, of_wait
-from shared.recordings import Timed, input_of, read_output
+from shared.open_sentences import Came, named_server, of_break, of_refusal, of_silence, of_wait
+from shared.places import command_at, line_of, place_of, words_in
+from shared.recordings import read_output
 from shared.records import (
     Advance,
     Command,
@@ -26,14 +27,13 @@ from shared.records import (
     Received,
     Record,
     Script,
-    Start,
     Try,
 )
-from shared.script_faults import Fault, fault_of
-from shared.script_text import Line, command_of, script_of, words_of
 from shared.sentences import Met, of_local, of_sleep, seconds, seconds_of_sleep
+from shared.success import of_success
 from shared.stories import CommandStory, Evidence, Failure, OpenStory, Trace
 from shared.texts import count, word
+from shared.why_inputs import Inputs
 
 # Causes that name the input record whose message decided.
 BY_MESSAGE = (Code.REFUSED, Code.BROKEN)
@@ -45,85 +45,6 @@ BY_NAME = (Code.NO_SERVER, Code.BAD_NAME)
 PATIENCE, LEASE_PATIENCE = 16, 15
 
 
-@dataclass(slots=True)
-class Inputs:
-    """What the input recording says of the records that were asked for."""
-
-    path: Path | None
-    times: dict[int, int] = field(default_factory=dict)
-    records: dict[int, Record] = field(default_factory=dict)
-    lines: dict[int, str] = field(default_factory=dict)
-    start: Start | None = None
-    # the first script's lines, by their numbers
-    script: dict[int, Line] = field(default_factory=dict)
-    meanwhile: Meanwhile | None = None
-    damage: str | None = None
-
-    def read(self, numbers: set[int], waited: OpenStory | None, last: int) -> None:
-        """Reads as far as one of these records, or the last that was used, stands."""
-        if self.path is None:
-            return
-        furthest, lines = max(numbers | {last}), Lines()
-        try:
-            for timed in input_of(self.path):
-                self._take(timed, numbers, waited, last, lines)
-                if timed.number >= furthest:
-                    return
-        except Refused as refusal:
-            self.damage = str(refusal)
-
-    def _take(
-        self, timed: Timed, numbers: set[int], waited: OpenStory | None, last: int, lines: Lines
-    ) -> None:
-        if isinstance(timed.record, Start):
-            self.start = timed.record
-            self.script = script_of(timed.record.script)
-            if waited:
-                self.meanwhile = meanwhile_of(timed.record, waited.open, waited.asked())
-        text = lines.of(timed.record)
-        if timed.number in numbers:
-            self.times[timed.number] = timed.time
-            self.records[timed.number] = timed.record
-            self.lines[timed.number] = text
-        is_meant = waited is not None and waited.opened.step < timed.number <= last
-        if is_meant and self.meanwhile and isinstance(timed.record, Received):
-            self.meanwhile.take(timed.record.frame)
-
-    def at(self, step: int) -> str:
-        if self.path is None:
-            return f"step {step}"
-        if step not in self.times:
-            raise Refused(self.damage or self.missing(step))
-        return f"step {step} at {self.times[step]} ms"
-
-    def missing(self, number: int) -> str:
-        return f"the input recording has no record {number}: it is another run's"
-
-    def script_line(self, depth: int, line: int) -> list[str]:
-        """A line of the first script with those joined to it, where that depth's script is known."""
-        found = self.script.get(line)
-        if depth != 1 or found is None:
-            return []
-        numbers = f"lines {line} to {found.last}" if found.last > line else f"line {line}"
-        built_in = "" if self.start and self.start.script else "built-in "
-        return [f"  {built_in}script {numbers}: {word(found.text)}"]
-
-    def command_lines(self, command: Command) -> list[str]:
-        """A command's line, and its words as they are written, where they were expanded to others."""
-        lines = self.script_line(command.depth, command.line)
-        written = command_of(self.script[command.line].text, command.place) if lines else ()
-        is_alone = lines and written == tuple(words_of(self.script[command.line].text))
-        if written and command.expanded and written != command.words and not is_alone:
-            lines.append(f"  written there: {_joined(written)}")
-        return lines
-
-    def fault(self, failure: Failure) -> Fault | None:
-        """What is wrong with the first script's text, where that is why it was left."""
-        if failure.story or self.start is None:
-            return None
-        return fault_of(self.start.script, failure.cause, failure.last, failure.result)
-
-
 class Account:
     """The account of a run: what its output shows, with what its input says of that."""
 
@@ -133,7 +54,15 @@ class Account:
         self.inputs = Inputs(input_path)
         self.lines = Lines()
         self.is_bad = trace.done is not None and trace.done.status is Status.BAD_RECORD
-        self.inputs.read(self._numbers(), self._waited(), trace.step)
+        self.inputs.read(self._numbers(), self._silent(), trace.step)
+
+    def _silent(self) -> list[OpenStory]:
+        """The opens that the account may call silent: the one that is waited for, and those of failures that it names."""
+        decisive = self._decisive()
+        named = [self.trace.first, decisive, self._before(decisive) if decisive else None]
+        opens = [one.opens()[-1] for one in named if one and one.cause.code is Code.TIMED_OUT and one.opens()]
+        opens += [self.trace.waiting] if self.trace.waiting else []
+        return list({id(story): story for story in opens}.values())
 
     def _waited(self) -> OpenStory | None:
         """The open for which the run waited last, if nothing ended that."""
@@ -155,13 +84,16 @@ class Account:
     def _numbers(self) -> set[int]:
         """The input records that the account names."""
         found = {1} | ({self.trace.step} if self.trace.step else set())
-        for failure in self.trace.failures:
+        first = [self.trace.first] if self.trace.first else []
+        for failure in [*first, *self.trace.failures]:
             found.add(failure.what.step)
             found.update(evidence.step for evidence in failure.evidence())
             if failure.cause.code in BY_MESSAGE:
                 found.add(failure.cause.a)
             if failure.cause.code in BY_LEASE and failure.link.lease:
                 found.add(failure.link.lease)
+        if self.trace.link.lease:
+            found.add(self.trace.link.lease)
         if self.trace.waiting:
             found.update(evidence.step for evidence in self._wait_evidence(self.trace.waiting))
         found.update(story.command.step for story in self.trace.running[-1:])
@@ -172,7 +104,7 @@ class Account:
         return found
 
     def report(self) -> Iterator[str]:
-        yield self.sentence()
+        yield self.sentence() + self._to_do()
         if self.trace.waiting and not self._decisive():
             yield from self._waiting(self.trace.waiting)
         elif self._slept():
@@ -192,20 +124,50 @@ class Account:
             return self._cut_off()
         match done.status:
             case Status.HANDED_OFF:
-                return self._handed_off() + self._on_the_way()
+                return of_success(self.trace, self.inputs.times.get(self.trace.step))
             case Status.ENDED:
-                return f"the script ended well{self._on_the_way()}"
+                return self._passed_over("ended well", "the script ended well") + self._of_file_name()
             case Status.SCRIPT_FAILED:
-                return self._failure_sentence()
+                how = self._failure_sentence()
+                return self._passed_over(f"failed: {how}", how) + self._of_file_name()
             case Status.UNFINISHED:
-                return self._unfinished()
+                how = self._unfinished()
+                return self._passed_over(f"didn't end: {how}", how)
             case Status.BAD_RECORD:
                 return self._bad_record()
         return "4294967295 records were used, the most that there can be, and more follows"
 
-    def _on_the_way(self) -> str:
-        failed = self.trace.failed
-        return f"; {count(failed, 'command')} failed on the way" if failed else ""
+    def _to_do(self) -> str:
+        """What to do about the failure that is named first, or about what is waited for."""
+        decisive = self._decisive()
+        named = self.trace.first if self.trace.first and self.trace.first.story else decisive
+        status = self.trace.done.status if self.trace.done else None
+        if status in (Status.HANDED_OFF, Status.BAD_RECORD, None):
+            return ""
+        if named is not None:
+            opens = named.opens()
+            return of_failure(named, self._came(opens[-1]).answer if opens else None)
+        answer = self._came(self.trace.waiting).answer if self.trace.waiting else None
+        return said(of_silence_advice(self.trace.waiting, answer)) if self.trace.waiting and answer else ""
+
+    def _passed_over(self, then: str, alone: str) -> str:
+        """The first failure after which the script went on, and what became of the script then; or that alone."""
+        first, last = self.trace.first, self._decisive()
+        if first is None or first is last or first.story is None:
+            return alone
+        sentence = self._sentence_on(first)
+        place = f"{line_of(first.story.words)}: "
+        placed = sentence if sentence.startswith(place) else place + sentence
+        again = then.endswith(f": {sentence}")
+        return f"{placed}; the script went on, and {'failed so again' if again else then}"
+
+    def _of_file_name(self) -> str:
+        """On a lease that names no file, where the script would boot what a lease names."""
+        number, start = self.trace.link.lease, self.inputs.start
+        message = self.inputs.records.get(number or 0)
+        if start is None or not isinstance(message, Received) or not names_file(start.script):
+            return ""
+        return of_unnamed(message.frame, self.inputs.offered)
 
     def _cut_off(self) -> str:
         how = self.cut_off or "it ends without DONE, as where a read or a write failed"
@@ -213,16 +175,7 @@ class Account:
         return f"the output is cut off: {how}{f'; {running} was running' if running else ''}"
 
     def _running(self) -> str | None:
-        return _line_of(self.trace.running[-1]) if self.trace.running else None
-
-    def _handed_off(self) -> str:
-        sizes = self.trace.sizes
-        if PartKind.SECTOR in sizes:
-            return "the boot succeeded: a disk was handed off"
-        others = count(sizes.get(PartKind.INITRD, 0), "byte")
-        initrds = f", with initrds of {others}" if PartKind.INITRD in sizes else ""
-        size = count(sizes.get(PartKind.KERNEL, 0), "byte")
-        return f"the boot succeeded: {word(self.trace.kernel)}, {size}, was handed off{initrds}"
+        return line_of(self.trace.running[-1].words) if self.trace.running else None
 
     def _failure_sentence(self) -> str:
         failure = self._decisive()
@@ -236,25 +189,26 @@ class Account:
         failures = list(self.trace.failures)
         place = failures.index(failure)
         before = failures[place - 1] if place else None
-        return before if before and (before.opens() or before.cause.code in BY_NAME) else None
+        is_meant = before and before is not self.trace.first
+        return before if is_meant and (before.opens() or before.cause.code in BY_NAME) else None
 
     def _sentence_on(self, failure: Failure) -> str:
         opens = failure.opens()
+        message = self.inputs.records.get(failure.cause.a) if failure.cause.code in BY_MESSAGE else None
+        frame = message.frame if isinstance(message, Received) else None
         if opens and failure.cause.code is Code.REFUSED:
-            message = self.inputs.records.get(failure.cause.a)
-            frame = message.frame if isinstance(message, Received) else None
             return of_refusal(failure.cause, opens[-1], frame)
         if opens and failure.cause.code is Code.TIMED_OUT:
             return self._silence(opens[-1])
         if opens and failure.cause.code is Code.BROKEN:
-            message = self.inputs.lines.get(failure.cause.a, f"record {failure.cause.a}")
-            return f"{named_server(opens[-1])} sent what isn't allowed in its place: {message}"
+            shown = self.inputs.lines.get(failure.cause.a, f"record {failure.cause.a}")
+            return of_break(opens[-1], frame, shown)
         fault = self.inputs.fault(failure)
         if fault:
             return fault.why
         command = failure.story.words if failure.story else None
         sentence = of_local(failure.cause, command, self.inputs.start, self._met(failure))
-        return f"{_line_of(failure.story)}: {sentence}" if failure.story else sentence
+        return f"{line_of(failure.story.words)}: {sentence}" if failure.story else sentence
 
     def _met(self, failure: Failure) -> Met:
         """What the command of a failure met."""
@@ -275,11 +229,15 @@ class Account:
             first, last = sent[0].step, story.ended.step
             if first in self.inputs.times and last in self.inputs.times:
                 span = self.inputs.times[last] - self.inputs.times[first]
-        return of_silence(story, span)
+        return of_silence(story, span, self._came(story))
+
+    def _came(self, story: OpenStory) -> Came:
+        meanwhile = self.inputs.while_of(story)
+        return Came(self.inputs.path is not None, meanwhile.answer() if meanwhile else None)
 
     def _unfinished(self) -> str:
         step = self.trace.step
-        what, when = "the run was ended from outside", ""
+        what, when = "the input ended, or the power was switched off", ""
         if step in self.inputs.times:
             is_off = isinstance(self.inputs.records[step], Off)
             what = "the power was switched off" if is_off else "the recording ends"
@@ -291,9 +249,10 @@ class Account:
             return f"{what}{when}, before the script's end"
         if waiting is None:
             return f"{what}{when}, while {running} {self._slept() or 'was running'}"
-        known = self.inputs.meanwhile.hosts if self.inputs.meanwhile else set()
-        wanted = of_wait(waiting, known)
-        return f"{what}{when}, while {running} waited for {wanted}"
+        meanwhile = self.inputs.while_of(waiting)
+        wanted = of_wait(waiting, meanwhile.hosts if meanwhile else None)
+        answer = self._came(waiting).answer
+        return f"{what}{when}, while {running} waited for {wanted}{f'; {answer}' if answer else ''}"
 
     def _slept(self) -> str | None:
         """How long the command that runs has slept, where it sleeps."""
@@ -325,7 +284,7 @@ class Account:
 
     def _explain(self, failure: Failure) -> Iterator[str]:
         """A failure's cause, and the records that show it."""
-        what = _line_of(failure.story) if failure.story else "the script"
+        what = line_of(failure.story.words) if failure.story else "the script"
         yield f"{what} failed in {self.inputs.at(failure.what.step)}: {failure.cause}"
         yield f"  meaning: {MEANING[failure.cause.code]}"
         for evidence in failure.evidence():
@@ -383,11 +342,11 @@ class Account:
         last = self.trace.last
         why = f"{MOST_COMMANDS} commands began, and no more may begin in one step"
         yield f"  {self.inputs.at(step)}: {why}"
-        yield f"  the script goes on with the next frame or time; the last was {_command(last)}"
+        yield f"  the script goes on with the next frame or time; the last was {command_at(last)}"
         yield from self.inputs.command_lines(last)
 
     def _meanwhile(self) -> Iterator[str]:
-        meanwhile = self.inputs.meanwhile
+        meanwhile = self.inputs.while_of(self._waited())
         if meanwhile is None:
             return
         lines = meanwhile.lines()
@@ -402,7 +361,7 @@ class Account:
         match evidence.record:
             case Command() as command:
                 as_written = "" if command.expanded else " (as written, since they can't be expanded)"
-                return f"{_place_of(command)} begins: {_words(command)}{as_written}"
+                return f"{place_of(command)} begins: {words_in(command)}{as_written}"
             case Open() as opened:
                 target = f"{word(opened.target)} is asked for: " if opened.target else ""
                 own = "with our identifier" if opened.kind is OpenKind.PING else "from our port"
@@ -417,36 +376,6 @@ class Account:
                 return f"its script ends: {script.cause}"
             case Advance() | _:
                 return self.lines.of(evidence.record)
-
-
-def _joined(words: tuple[bytes, ...]) -> str:
-    return " ".join(word(text) for text in words)
-
-
-def _words(command: Command) -> str:
-    return _joined(command.words)
-
-
-def _command(command: Command) -> str:
-    return f"{_place_of(command)}: {_words(command)}"
-
-
-def _number(command: Command) -> str:
-    """A command's line, and its place there where it isn't the first; skipped ones count too."""
-    line = f"line {command.line}"
-    return f"command {command.place + 1} of {line}" if command.place else line
-
-
-def _place_of(command: Command) -> str:
-    """Where a command stands: its line, and what else is needed to find it."""
-    depth = f" of the script that line runs, {command.depth - 1} deep" if command.depth > 1 else ""
-    return f"{_number(command)}{depth}"
-
-
-def _line_of(story: CommandStory) -> str:
-    command = story.words
-    inner = " of an inner script" if command.depth > 1 else ""
-    return f"{_number(command)}{inner}"
 
 
 def reasons(path: Path, stream: BinaryIO, input_path: Path | None) -> Iterator[str]:

@@ -1,4 +1,4 @@
--- A run behind an attaching, which reads and takes nothing.
+-- A run after an attaching, which reads and takes nothing.
 use Rattle.std.proofs.Common.{ℕ, []}
 use Rattle.nb_record.specs.Outside.{Outside, Passes}
 use Rattle.nb_record.proofs.OutsideLemmas.{Passes-then}

@@ -1,4 +1,4 @@
--- Bytes behind the records used with which no record can come, and the ends of a run.
+-- Bytes after the records used with which no record can come, and the ends of a run.
 use Rattle.std.proofs.Common.{◌≡◌, ℕ, ◌+◌, inl, inr, List, [], ◌++◌, take, drop, Option, Some, None, sym, ◌∙◌, ap, append_assoc}
 use Rattle.std.specs.Prelude.{IfSome}
 use Rattle.std.proofs.lemmas.List.{take-append-drop}

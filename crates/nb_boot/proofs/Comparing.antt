@@ -1,4 +1,4 @@
--- Two lists of records that spell the front of one input, and what stands behind some of a run's records.
+-- Two lists of records that spell the start of one input, and what stands after some of a run's records.
 use Rattle.std.proofs.Common.{◌≡◌, ℕ, List, [], ◌∷◌, ◌++◌, length, refl, sym, ◌∙◌, ap, subst, arith, append_assoc}
 use Rattle.nb_defs.specs.Records.{Start, In, start, in_text, in_texts, Out}
 use Rattle.nb_defs.proofs.RecordLaws.{in_text_apart}
@@ -52,7 +52,7 @@ begins_other m r a m' (goes_on_by_frame n w s bytes reply seen net valid t) k = 
 begins_other m r a m' (goes_on_by_tick n w s ms valid) k = tt
 begins_other m r a m' (goes_off n w s) k = tt
 
--- a run behind some records, where a command waits for another one
+-- a run after some records, where a command waits for another one
 pub record Passed (ins : List In) (q : In) : Type 0 where
   pub outs : List Out
   pub machine : Machine

@@ -25,7 +25,7 @@ at_end_none : (now : Option (List ℕ)) (after : List ℕ) → now ≡ Some afte
 at_end_none None after e h = let no : None ≡ Some after = e in cc
 at_end_none (Some y) after e h = let same : y ≡ after = cc in sym same ∙ h
 
--- the input ended behind these bytes
+-- the input ended after these bytes
 pub ended_there : (rest after bytes : List ℕ) (o : Outside) → bytes ≡ rest ++ after → o.left ≡ Some after → IsAtEnd o → rest ≡ bytes
 ended_there rest after bytes o e told end = sym (append-nil rest) ∙ ap (λ t. rest ++ t) (sym (at_end_none o.left after told end)) ∙ sym e
 
@@ -55,7 +55,7 @@ pub empty_front : (rest after : List ℕ) → [] ≡ rest ++ after → rest ≡ 
 empty_front [] after e = refl
 empty_front (x ∷ xs) after e = absurd (omega (arith, ap length e))
 
--- behind records used, a rest that begins with another than START, or where nothing follows, is not bad
+-- after records used, a rest that begins with another than START, or where nothing follows, is not bad
 no_bad_later : (more : List In) (rest after : List ℕ) (o : Outside) → AreOthers more → in_texts more ≡ rest ++ after → o.left ≡ Some after →
     IsBroken rest ⊎ (BeginsWith rest IsFirst ⊎ (IsPartial rest × (0 < length rest) × IsAtEnd o)) → ⊥
 no_bad_later [] rest after o a e told (inl b) =

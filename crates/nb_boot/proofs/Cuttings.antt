@@ -16,7 +16,7 @@ use Rattle.nb_laws.proofs.Counts.{path_counts}
 use Rattle.nb_boot.proofs.Goings.{passes_wrote}
 use Rattle.nb_boot.proofs.Written.{rose_later}
 
--- a write failed: a front of the output was written
+-- a write failed: a prefix of the output was written
 abbrev pub stopped_run : (ins : List In) (held : List ℕ) (first before now : Outside) (log : Logged) (m : Machine) (at : GraphAt) → Stopped before now log.bytes →
     Going ins held first before log m at → Run first now
 stopped_run ins held first before now log m at s r = record {
@@ -43,7 +43,7 @@ stopped_run ins held first before now log m at s r = record {
       ∙ ap (λ t. t ++ r.lost) (sym (append_assoc r.written s.part s.lost)) ∙ append_assoc (r.written ++ s.part) s.lost r.lost;
 }
 
--- memory ran out: what was written is a front of the output
+-- memory ran out: what was written is a prefix of the output
 abbrev pub short_run : (ins : List In) (held : List ℕ) (first before now : Outside) (log : Logged) (m : Machine) (at : GraphAt) → Passes before now [] [] →
     Going ins held first before log m at → Run first now
 short_run ins held first before now log m at p r = record {
@@ -81,7 +81,7 @@ flaw_cuts flaw.NoMemory before now log p = λ held ins first m at r. (short_run 
 pub memory_shows : (ins : List In) (held : List ℕ) (first now : Outside) (log : Logged) (m : Machine) (at : GraphAt) → Going ins held first now log m at → Shows status.NoMemory first now
 memory_shows ins held first now log m at r = (short_run ins held first now now log m at (Passes-nothing now) r, inl refl)
 
--- a read failed behind a log that was written out
+-- a read failed after a log that was written out
 pub unread_shows : (ins : List In) (held : List ℕ) (first before now : Outside) (room : ℕ) (m : Machine) (at : GraphAt) → IsBetween m.phase → IsPartial held →
     Passes before now [] [] → Rose before.read_faults now.read_faults →
     Going ins held first before (record { bytes = []; room = room; is_short = false }) m at → Shows status.ReadFault first now

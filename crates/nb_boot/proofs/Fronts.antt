@@ -1,4 +1,4 @@
--- From what stands at the front of what is held to the run that uses it.
+-- From what stands at the start of what is held to the run that uses it.
 use Rattle.std.proofs.Common.{◌≡◌, ℕ, ◌+◌, List, [], ◌∷◌, ◌++◌, drop, Option, Some, None, sym, ◌∙◌, ap, subst, append-nil, length-append}
 use Rattle.nb_defs.specs.Records.{In, in_text, in_texts}
 use Rattle.nb_record.specs.Outside.{Outside}

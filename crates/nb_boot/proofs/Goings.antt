@@ -23,7 +23,7 @@ no_length : (xs : List ℕ) → length xs ≡ 0 → xs ≡ []
 no_length [] h = refl
 no_length (x ∷ xs) h = absurd (omega arith)
 
--- what the log has behind what was written, where a put is whole
+-- what the log has after what was written, where a put is whole
 join_whole : (outs added : List Out) (written old part lost : List ℕ) → out_texts outs ≡ (written ++ old) ++ [] → out_texts added ≡ part ++ lost →
     out_texts (outs ++ added) ≡ (written ++ (old ++ part)) ++ lost
 join_whole outs added written old part lost h g =
@@ -171,7 +171,7 @@ going_fresh now log h = record {
   whole = λ _. refl;
 }
 
--- what was written then comes behind
+-- what was written then comes after
 pub passes_wrote : (a b c : Outside) (read written more : List ℕ) → Passes a b read written → Passes b c [] more → Passes a c read (written ++ more)
 passes_wrote a b c read written more p q = subst (λ xs. Passes a c xs (written ++ more)) (append-nil read) (Passes-then a b c read written [] more p q)
 

@@ -1,5 +1,5 @@
 -- What a client puts at the end of a run: without the records of the graph it is what its machine closes, it ends with
--- DONE, and the graph is empty behind it.
+-- DONE, and the graph is empty after it.
 use Rattle.std.proofs.Common.{◌≡◌, ℕ, ◌+◌, List, [], ◌∷◌, ◌++◌, length, refl, sym, ◌∙◌, ap, subst, arith, append_assoc, length-append}
 use Rattle.nb_defs.specs.Records.{Out, ended, done}
 use Rattle.nb_opens.specs.PairEvents.{shut_events}

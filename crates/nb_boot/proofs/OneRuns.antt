@@ -63,7 +63,7 @@ behind all outs m (moves ins' outs' m0 added m' p v) ins r e =
 HasOne : List In → Type 0
 HasOne ins = (outs outs' : List Out) (m m' : Machine) → Path ins outs m → Path ins outs' m' → IsAtRest m.phase → IsAtRest m'.phase → SameRun outs outs' m m'
 
--- behind some records a command waits, where another one was used
+-- after some records a command waits, where another one was used
 pub waits_behind : (x : In) (xs : List In) (r : In) (outs : List Out) (m mid : Machine) (begun : List Out) → Path (x ∷ xs) outs m → Begins m r begun mid → Awaits m.phase
 waits_behind x xs r outs m mid begun p b = begins_awaits m r begun mid b (not_ready x xs outs m p)
 

@@ -1,4 +1,4 @@
--- A read behind a log that was written out.
+-- A read after a log that was written out.
 use Rattle.std.proofs.Common.{◌≡◌, ℕ, false, List, [], sym, ◌∙◌, ap, subst, append-nil}
 use Rattle.nb_defs.specs.Records.{IsPartial}
 use Rattle.nb_record.specs.Outside.{Outside, Passes, Rose, IsAtEnd}
@@ -39,7 +39,7 @@ pub refill_fault : (old new : Held) (before mid now : Outside) (log log' : Logge
 refill_fault old new before mid now log log' e w partial (same, p, rose) = λ ins first m at between r.
     unread_shows ins old.bytes first mid now log.room m at between partial p rose (going_flushed ins old.bytes first before mid log m at log.room e w r)
 
--- a read behind others
+-- a read after others
 pub fills_then : (f : Filled) (a b d : List ℕ) (before mid now : Outside) (old log new : Logged) → KeepsRun a b before mid old log → Fills f b d mid now log new →
     Fills f a d before now old new
 fills_then filled.More a b d before mid now old log new h f = λ ins first m at r. f ins first m at (h ins first m at r)

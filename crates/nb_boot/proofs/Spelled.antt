@@ -128,7 +128,7 @@ pub record Rest (ins all : List In) (tail : List ℕ) : Type 0 where
   pub are : all ≡ ins ++ more
   pub spelled : in_texts more ≡ tail
 
--- records that spell the front of a list's spelling are the first of the list
+-- records that spell the start of a list's spelling are the first of the list
 pub spelled_rest : (ins all : List In) (tail : List ℕ) → AreIn ins → AreIn all → in_texts all ≡ in_texts ins ++ tail → Rest ins all tail
 spelled_rest [] all tail v w e = record { more = all; are = refl; spelled = e }
 spelled_rest (r ∷ rs) [] tail v w e =
@@ -147,7 +147,7 @@ others_behind : (qs more : List In) → AreOthers (qs ++ more) → AreOthers mor
 others_behind [] more a = a
 others_behind (q ∷ qs) more a = others_behind qs more a.2
 
--- behind some records of a list that begins with a START there is none
+-- after some records of a list that begins with a START there is none
 pub others_rest : (ins more others : List In) (r : In) → r ∷ others ≡ ins ++ more → 0 < length ins → AreOthers others → AreOthers more
 others_rest [] more others r e h a = absurd (omega (arith, h))
 others_rest (q ∷ qs) more others r e h a =

@@ -104,7 +104,7 @@ module _ (x : In) (xs : List In) (more rest after : List ℕ) (o : Outside) (out
       let none = (says_waits m.phase more number (subst (λ (z : Machine). Awaits z.phase) (sym is.state) a) says).0 in
       absurd (omega (arith, some, ap length (empty_front rest after (sym none ∙ e))))
 
-  -- the second used more: a command waited behind the first's records, so nothing follows them
+  -- the second used more: a command waited after the first's records, so nothing follows them
   ends_more : (q : In) (tail : List ℕ) → Passed (x ∷ xs) q → more ≡ in_text q ++ tail → ⊥
   ends_more q tail w e =
       let is = one_run_on (x ∷ xs) outs w.outs m w.machine path w.path (says_rests m.phase more number says) (awaits_rests w.machine.phase w.awaits) in

@@ -81,7 +81,7 @@ over_acts status.WriteFault used c c' old new ne a = a
 over_acts status.AttachFault used c c' old new ne a = a
 over_acts status.TooManyRecords used c c' old new ne a = a
 
--- the run is over, or memory ran out, behind one that went on
+-- the run is over, or memory ran out, after one that went on
 pub over_steps : (e : StepEnd) (s : Status) (used : List In) (before now : Outside) (old mid new : Logged) (c c1 c' : Seen) → Keeps before now old mid c c1 →
     AnswersTurn (turn.Over s) used c1 c' mid new → HasNumber used c1.used → IsEndOf s e → StepsTo e used before now old new c c'
 over_steps ending.Waits s used before now old mid new c c1 c' k a number e = absurd e
@@ -94,7 +94,7 @@ over_steps (ending.Cut f) s used before now old mid new c c1 c' k a number e =
     subst P (sym e.1) (λ ins rest first r.
     let g = k ins (in_texts used ++ rest) first r in memory_shows ins (in_texts used ++ rest) first now mid g.machine g.at g.going)
 
--- the log couldn't be written out, behind a run that went on
+-- the log couldn't be written out, after a run that went on
 pub cut_stops : (s : Status) (used : List In) (before mid now : Outside) (old log : Logged) (c c1 : Seen) → Keeps before mid old log c c1 → CutsAll s mid now log →
     Stops s used before now old c
 cut_stops s used before mid now old log c c1 k x = λ ins rest first r.
@@ -104,7 +104,7 @@ cut_stops s used before mid now old log c c1 k x = λ ins rest first r.
 pub keeps_nothing : (now : Outside) (log : Logged) (c : Seen) → Keeps now now log log c c
 keeps_nothing now log c = λ ins held first r. r
 
--- the step goes on behind the record that was used
+-- the step goes on after the record that was used
 pub after_steps : (e : StepEnd) (used : List In) (before mid now : Outside) (old log new : Logged) (c c1 c' : Seen) → LeadsOn used before mid old log c c1 →
     StepsTo e [] mid now log new c1 c' → StepsTo e used before now old new c c'
 after_steps ending.Waits used before mid now old log new c c1 c' l s =

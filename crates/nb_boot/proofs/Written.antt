@@ -15,7 +15,7 @@ on_err (Err e) P p = p
 pub rest_is : (bytes : List ℕ) (at : ℕ) → take (length bytes - at) (drop at bytes) ≡ drop at bytes
 rest_is bytes at = take_all (length bytes - at) (drop at bytes) (omega (arith, length-drop at bytes))
 
--- the next piece comes behind those written
+-- the next piece comes after those written
 pub more_written : (a b c : Outside) (bytes : List ℕ) (at n : ℕ) → at ≤ length bytes → Passes a b [] (take at bytes) →
     Writes b c (take n (take (length bytes - at) (drop at bytes))) → Passes a c [] (take (at + n) bytes)
 more_written a b c bytes at n h p v =

@@ -8,7 +8,7 @@ use Rattle.nb_engine.specs.StatusNumber.{status_number}
 use Rattle.nb_engine.specs.declared.status.Status.{Status}
 use Rattle.nb_engine.specs.declared.status.Status.TheVariants as status
 
--- the words were of no form
+-- the words were invalid
 abbrev pub IsBadWords : Status → Type 0
 IsBadWords s = s ≡ status.BadWords
 

@@ -6,7 +6,7 @@ use Rattle.nb_record.specs.Bytes.{Held}
 use Rattle.nb_boot.specs.declared.feeding.Fetched.{Fetched}
 use Rattle.nb_boot.specs.declared.feeding.Fetched.TheVariants as fetched
 
--- more bytes were read, and are held behind the others
+-- more bytes were read, and are held after the others
 pub record BringsBytes (old new : Held) (before now : Outside) : Type 0 where
   pub bytes : List ℕ
   pub held : new.bytes ≡ old.bytes ++ bytes
@@ -18,7 +18,7 @@ Fetches fetched.More old new before now = BringsBytes old new before now
 Fetches fetched.Ended old new before now = (new ≡ old) × Passes before now [] [] × IsAtEnd now
 Fetches fetched.Fault old new before now = (new ≡ old) × Passes before now [] [] × Rose before.read_faults now.read_faults
 
--- what is held is a front of a longer record, or isn't
+-- what is held is a prefix of a longer record, or isn't
 abbrev pub TellsPartial : Bool → List ℕ → Type 0
 TellsPartial true bytes = IsPartial bytes
 TellsPartial false bytes = IsPartial bytes → ⊥

@@ -40,7 +40,7 @@ pub record Goes (ins : List In) (held : List ℕ) (first now : Outside) (log : L
   pub fits : FitsGraph c at
   pub going : Going ins held first now log machine at
 
--- a run that goes on behind so many records
+-- a run that goes on after so many records
 pub record Waits (count : ℕ) (held : List ℕ) (first now : Outside) (log : Logged) (c : Seen) : Type 0 where
   pub ins : List In
   pub counted : length ins ≡ count
@@ -55,7 +55,7 @@ flaw_status flaw.NoMemory = status.NoMemory
 abbrev pub Wrote : Outside → Outside → List ℕ → Type 0
 Wrote before after bytes = Passes before after [] bytes
 
--- a front of the bytes was written, and then a write failed: the others weren't
+-- a prefix of the bytes was written, and then a write failed: the others weren't
 pub record Stopped (before after : Outside) (bytes : List ℕ) : Type 0 where
   pub part : List ℕ
   pub lost : List ℕ
@@ -111,7 +111,7 @@ StepsTo ending.Waits used before now old new c c' = IsResting c'.stage × LeadsO
 StepsTo (ending.Over s) used before now old new c c' = IsEnd s × IsOverWith c'.stage s × LeadsOn used before now old new c c'
 StepsTo (ending.Cut f) used before now old new c c' = Stops (flaw_status f) used before now old c
 
--- a turn's status: the run's, or want of memory
+-- a turn's status: the run's, or out of memory
 abbrev pub IsEndOf : Status → StepEnd → Type 0
 IsEndOf s ending.Waits = ⊥
 IsEndOf s (ending.Over t) = (t ≡ s) × (s ≡ status.NoMemory → ⊥)
@@ -152,7 +152,7 @@ abbrev pub TellsFirst : Bool → In → Type 0
 TellsFirst true r = IsFirst r
 TellsFirst false r = IsOther r
 
--- the status of a run whose input ended where the next record is waited for: no byte is left, or a front of one
+-- the status of a run whose input ended where the next record is waited for: no byte is left, or a prefix of one
 abbrev pub IsEndStatus : Status → List ℕ → Type 0
 IsEndStatus s [] = s ≡ status.Unfinished
 IsEndStatus s (b ∷ bytes) = s ≡ status.BadRecord

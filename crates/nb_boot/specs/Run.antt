@@ -63,7 +63,7 @@ pub record BeginsWith (bytes : List ℕ) (Kind : In → Type 0) : Type 0 where
   pub more : List ℕ
   pub spelled : bytes ≡ in_text entry ++ more
 
--- Behind the records used no record may come. What is there begins none; or another than START comes
+-- After the records used no record may come. What is there begins none; or another than START comes
 -- first, or the input ended before START. Where the next record is waited for: a second START comes, or the
 -- input ended inside a record.
 abbrev pub IsBadRest : Phase → List ℕ → Outside → Type 0
@@ -79,7 +79,7 @@ IsBadRest (left cause) rest o = ⊥
 IsBadRest handed_off rest o = ⊥
 IsBadRest stopped rest o = ⊥
 
--- Why a run of the machine that has come here is over, with what is left behind the records used, and the
+-- Why a run of the machine that has come here is over, with what is left after the records used, and the
 -- number of its status.
 pub data Ends (m : Machine) (rest : List ℕ) (o : Outside) (number : ℕ) : Type 0 where
   -- the first script was left
@@ -103,7 +103,7 @@ pub data Closes : Machine → List ℕ → Outside → List Out → Type 0 where
 
 -- The records used are those that the bytes read spell, up to a rest; the records written, without those of the object
 -- graph, are the script machine's path on them, with what closes it; those of the graph stand among them as `Graphs` has
--- it; the bytes taken are a front of the spelling of all.
+-- it; the bytes taken are a prefix of the spelling of all.
 pub record Run (before after : Outside) : Type 0 where
   pub ins : List In
   pub outs : List Out

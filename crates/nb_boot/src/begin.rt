@@ -58,7 +58,7 @@ fn enter<L: Line>(
     }
 }
 
-/// Uses the first record, which stands at the front of what is held.
+/// Uses the first record, which stands at the start of what is held.
 fn enter_front<L: Line>(
     alloc: Global,
     feed: &mut Feed,

@@ -31,7 +31,7 @@ pub enum Filled {
     Cut(Flaw),
 }
 
-/// Reads a piece of the input into the feed, which holds a front of a record.
+/// Reads a piece of the input into the feed, which holds a prefix of a record.
 pub fn fetch<L: Line>(feed: &mut Feed, line: &mut L) -> Fetched
     requires partial { IsPartial feed.old.bytes }
     ensures { Fetches result feed.old feed.new (L.outside line.old) (L.outside line.new) }

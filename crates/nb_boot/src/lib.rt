@@ -6,13 +6,9 @@
 
 mod begin;
 mod feeding;
-#[cfg(test)]
-mod fetch_tests;
 mod laws;
 mod output;
 mod play;
-#[cfg(test)]
-mod test_records;
 #[cfg(test)]
 mod tests;
 mod top;

@@ -63,7 +63,7 @@ pub const ROOM: usize = 196_608;
 /// How much of the log's room may be used before it is written out.
 const FULL: usize = 65_536;
 
-/// Writes out what the log gathered where the next call's output may not fit behind it.
+/// Writes out what the log gathered where the next call's output may not fit after it.
 pub fn make_room<L: Line>(log: &mut Log, line: &mut L) -> Result<(), Flaw>
     ensures ok { OnOk result ((held : List ℕ) → KeepsRun held held (L.outside line.old) (L.outside line.new) log.old log.new) }
     ensures room { OnOk result (length log.new.bytes ≤ 65536) }

@@ -26,7 +26,7 @@ pub enum StepEnd {
     Cut(Flaw),
 }
 
-/// The end of a step with which the run ended, or want of memory.
+/// The end of a step with which the run ended, or out of memory.
 fn end_of(status: Status) -> StepEnd
     ensures { IsEndOf status result }
 {

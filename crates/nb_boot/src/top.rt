@@ -75,7 +75,7 @@ fn attach<L: Line>(alloc: Global, target: &Target<'_>, line: &mut L) -> Status
 /// Runs netboot on words (without the program's name) over a line: `replay IN OUT` and `live PEER` read
 /// records, run the script of START, write records, and say how the run ended.
 pub fn netboot<L: Line>(alloc: Global, words: &[String], line: &mut L) -> Status
-    // The words are of no form exactly where the answer is BadWords, and then nothing was attached.
+    // The words are invalid exactly where the answer is BadWords, and then nothing was attached.
     ensures bad_words { IsBadWords result ↔ (AreWords (map string_bytes words.now) → ⊥) }
     ensures untouched { IsBadWords result → line.new ≡ line.old }
     // The records used are those read; those written, without GRAPH, are the machine's course on them; and the status is

@@ -47,8 +47,3 @@ pub use outcome::{After, Job, Outcome};
 pub use planning::plan;
 pub use setting_addresses::{nonzero, setting_address};
 pub use state::State;
-
-#[cfg(test)]
-mod locating_tests;
-#[cfg(test)]
-mod tests;

@@ -61,7 +61,7 @@ in_at-in_text off ok = refl
 
 -- ---- no spelling begins another
 
--- the length that stands at the front of a record
+-- the length that stands at the start of a record
 pub length_front : (r : In) (rest : List ℕ) → IsIn r → from_be_bytes w32 (take 4 (in_text r ++ rest)) ≡ length (body_of r) + 1
 length_front r rest ok =
     number4 _ _ (omega (arith, body_fits r ok)) (ap (λ (x : List ℕ). take 4 (x ++ rest)) (in_text-is r))
@@ -77,7 +77,7 @@ pub record Same (r r' : In) (x y : List ℕ) : Type 0 where
   pub record_is : r ≡ r'
   pub rest_is : x ≡ y
 
--- No spelling of an input record is a proper front of another: bytes that begin with two records begin with
+-- No spelling of an input record is a proper prefix of another: bytes that begin with two records begin with
 -- one, and what follows is the same.
 pub in_text_apart : (r r' : In) (x y : List ℕ) → IsIn r → IsIn r' → in_text r ++ x ≡ in_text r' ++ y → Same r r' x y
 in_text_apart r r' x y ok ok' e =
@@ -95,7 +95,7 @@ in_text_apart r r' x y ok ok' e =
       rest_is = rests;
     }
 
--- a front of a record and of what follows it isn't broken
+-- a prefix of a record and of what follows it isn't broken
 pub front_not_broken : (r : In) (bytes rest more : List ℕ) → IsIn r → bytes ++ more ≡ in_text r ++ rest → IsBroken bytes → ⊥
 front_not_broken r bytes rest more valid e broken = broken r more rest valid e
 
@@ -112,7 +112,7 @@ pub partial_not_broken : (bytes : List ℕ) → IsPartial bytes → IsBroken byt
 partial_not_broken bytes partial broken =
     broken partial.becomes partial.more [] partial.valid (partial.whole ∙ sym (append-nil (in_text partial.becomes)))
 
--- a front of what is partial is partial
+-- a prefix of what is partial is partial
 pub partial_front : (bytes added : List ℕ) → IsPartial (bytes ++ added) → IsPartial bytes
 partial_front bytes added partial = record {
   becomes = partial.becomes;

@@ -20,7 +20,7 @@ start_at bytes = record {
   script = drop 80 bytes;
 }
 
--- the fields behind the version
+-- the fields after the version
 unfoldable pub fields : Start → List ℕ
 fields s = s.mac ++ (s.uuid ++ (s.key ++ (to_be_bytes w16 s.arch ++ (to_be_bytes w16 s.w
     ++ (to_be_bytes w32 s.ip ++ (to_be_bytes w32 s.mask ++ (to_be_bytes w32 s.gateway ++ (to_be_bytes w32 s.dns ++ s.script))))))))
@@ -42,7 +42,7 @@ length-fields s ok = simp length-append (omega arith)
 pub length-start_body : (s : Start) → IsStart s → length (start_body s) ≡ 75 + length s.script
 length-start_body s ok = rw (start_body-is s) (omega (arith, length-fields s ok))
 
--- where a part stands, it is read, and behind it stands what follows it
+-- where a part stands, it is read, and after it stands what follows it
 pub record Stands (bytes part rest : List ℕ) (place len : ℕ) : Type 0 where
   pub is_read : take len (drop place bytes) ≡ part
   pub then : drop (place + len) bytes ≡ rest

@@ -11,19 +11,19 @@ pub data Line : Type 0 where
   list : List ℕ → Line
   empty : Line
 
--- A front is joined to the first of the lines behind it. The two are one line, numbered as the front;
+-- A front is joined to the first of the lines after it. The two are one line, numbered as the front;
 -- at the number of the second stands an empty line, so that each line keeps its number.
 abbrev pub joined_onto : List ℕ → List (List ℕ) → List (List ℕ)
 joined_onto front [] = front ∷ []
 joined_onto front (line ∷ behind) = (front ++ line) ∷ [] ∷ behind
 
--- A line that ends, before the lines behind it: a backslash directly before its end is dropped, and
+-- A line that ends, before the lines after it: a backslash directly before its end is dropped, and
 -- joins it to the next.
 abbrev pub line_before : List ℕ → List (List ℕ) → List (List ℕ)
 line_before line behind =
     if ends_in_backslash line then joined_onto (take (length line - 1) line) behind else line ∷ behind
 
--- A line ends in a line feed, and a carriage return before it is dropped. What stands behind the last
+-- A line ends in a line feed, and a carriage return before it is dropped. What stands after the last
 -- line feed is a line too, as it is, where it isn't empty.
 unfoldable pub joined_contents : List (List ℕ) → List (List ℕ)
 joined_contents [] = []

@@ -14,7 +14,7 @@ abbrev pub onto_first : ℕ → List (List ℕ) → List (List ℕ)
 onto_first b [] = (b ∷ []) ∷ []
 onto_first b (p ∷ ps) = (b ∷ p) ∷ ps
 
--- what stands between the separators, before the first and behind the last: one piece more than separators
+-- what stands between the separators, before the first and after the last: one piece more than separators
 unfoldable pub pieces : (ℕ → Bool) → List ℕ → List (List ℕ)
 pieces sep [] = [] ∷ []
 pieces sep (b ∷ bytes) = if sep b then [] ∷ pieces sep bytes else onto_first b (pieces sep bytes)
@@ -25,7 +25,7 @@ without_cr [] = []
 without_cr (b ∷ []) = if b == 13 then [] else b ∷ []
 without_cr (b ∷ c ∷ bytes) = b ∷ without_cr (c ∷ bytes)
 
--- A line ends in a line feed, and a carriage return before it is dropped. What stands behind the last
+-- A line ends in a line feed, and a carriage return before it is dropped. What stands after the last
 -- line feed is a line too, as it is, where it isn't empty.
 unfoldable pub line_contents : List (List ℕ) → List (List ℕ)
 line_contents [] = []

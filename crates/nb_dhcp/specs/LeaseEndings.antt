@@ -1,4 +1,4 @@
--- RFC 2131, section 3.1: what stands behind each end, and each message sent, in what came and when
+-- RFC 2131, section 3.1: what stands after each end, and each message sent, in what came and when
 use Rattle.std.specs.Prelude.{◌≡◌, ℕ, List, [], ◌∷◌, ◌++◌, Some, None, map}
 use Rattle.std.specs.List.{AllByRecursion}
 use Rattle.nb_retry.specs.declared.plan.Plan.TheVariants.{Dhcp}

@@ -17,7 +17,7 @@ pub fn keeps_the_first_offers_lease()
 {}
 
 /// Each cause of an end stands in what came and when, and no other cause comes: `LeaseEnding` has what
-/// stands behind each.
+/// stands after each.
 pub fn ends_for_a_cause()
     ensures { (a : Asker) (start : ℕ) (h : List LeaseEntry) (e : LeaseEntry) (later : List LeaseEntry)
         (cause : Cause) → LeasePromises a start (h ++ e ∷ later)

@@ -18,6 +18,3 @@ pub use asker::Asker;
 pub use dhcp::Dhcp;
 pub use laws::{ends_for_a_cause, keeps_the_first_offers_lease, requests_the_first_offer};
 pub use offer::Offer;
-
-#[cfg(test)]
-mod tests;

@@ -30,7 +30,7 @@ const NAK: u8 = 6;
 const TIMED_OUT: Reason = Reason::TimedOut { tries: 4 };
 
 /// How far a core is.
-#[derive(Clone, Copy, Debug, PartialEq, Eq, Drop)]
+#[derive(Clone, Copy, Drop)]
 pub(crate) enum Phase {
     /// The DISCOVER is out.
     Selecting,

@@ -6,3 +6,4 @@ pub mod FieldLemmas
 pub mod ReadingLemmas
 pub mod StreamLemmas
 pub mod InnerLaws
+pub mod CollectedLemmas

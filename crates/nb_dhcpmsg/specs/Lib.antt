@@ -5,3 +5,4 @@ pub mod Lefts
 pub mod Fields
 pub mod Inner
 pub mod Streams
+pub mod Collected

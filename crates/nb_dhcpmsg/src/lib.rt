@@ -6,6 +6,7 @@
 //! specs/Fields.antt says it as a function of the bytes.
 #![tactic(auto)]
 
+mod collected;
 mod cursor;
 mod joined;
 mod laws;
@@ -13,8 +14,7 @@ mod message;
 mod option;
 mod stream;
 
+pub use collected::{has_tag, joined_value, options_within};
 pub use laws::{inner_options_are_read_as_a_field, messages_are_read_by_the_grammar};
 pub use message::DhcpMsg;
-
-#[cfg(test)]
-mod tests;
+pub use option::DhcpOption;

@@ -1,19 +1,23 @@
 //! A message.
 
-ghost use Rattle.std.specs.Prelude.{◌≡◌, ◌+◌, ◌<◌, ◌≤◌, ◌∷◌, ◌++◌, ◌↔◌, ℕ, ◌==◌, List, [], true, position, MatchBool, length, IfSome, IsErr, IsSomeAnd, OnOk, OnErr};
+ghost use Rattle.std.specs.Prelude.{◌≡◌, ◌+◌, ◌<◌, ◌≤◌, ◌∷◌, ◌++◌, ◌↔◌, ℕ, ◌==◌, List, [], true, position, MatchBool, length, IfOk, IfSome, IsErr, IsSomeAnd, OnOk, OnErr};
 ghost use Rattle.std.specs.Int.{w32, from_be_bytes};
 ghost use Rattle.nb_dhcpmsg.specs.Options.{TagValue, joined};
 ghost use Rattle.nb_dhcpmsg.specs.Messages.{MessageParts, IsMessage, HasCookie, HasOptions, field, is_value};
 ghost use Rattle.std.specs.Option.{option_map};
 ghost use Rattle.nb_dhcpmsg.specs.Fields.{inner_options, message_in, address_in, file_name, up_to_zero};
 ghost use Rattle.nb_dhcpmsg.specs.Views.{parts_of};
+ghost use Rattle.nb_dhcpmsg.specs.Collected.{tag_values};
 ghost use Rattle.nb_dhcpmsg.specs.Lefts.{IsLeft};
 
+use crate::collected::options_left;
 use crate::cursor::{Cursor, FILE, FILE_LEN, Next, OPTIONS, has_file, overload, part, used_if};
 use crate::joined::only_byte;
+use crate::option::DhcpOption;
 use crate::stream::{Stream, gather_inner};
 use arrayvec::ArrayVec;
 use nb_wire::{Full, Ip4, Mac, Out};
+use std::alloc::{AllocError, Global};
 
 /// What the options begin with (RFC 2131, section 3).
 const COOKIE: [u8; 4] = [99, 130, 83, 99];
@@ -88,6 +92,18 @@ impl<'a> DhcpMsg<'a> {
         ensures refused { OnErr result (out.new ≡ out.old) }
     {
         out.put(self.whole)
+    }
+
+    /// All options, in the order in which the values of one tag are joined (RFC 3396): those of the options field,
+    /// of the field for a file's name and of that for a server's.
+    pub fn options(&self, alloc: Global) -> Result<Vec<DhcpOption<'a>>, AllocError>
+        ensures { IfOk result (λ all. (os : List TagValue) → HasOptions self.now.whole.now os
+            → tag_values all.items ≡ os) }
+    {
+        if self.whole.len() < OPTIONS {
+            return Ok(Vec::new(alloc));
+        }
+        options_left(alloc, Cursor::of(self.whole))
     }
 
     /// Puts the joined value of a tag into `to`. False where no option has the tag, or the value has over

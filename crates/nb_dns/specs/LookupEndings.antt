@@ -1,4 +1,4 @@
--- RFC 1035, section 7.3: what stands behind each end of a look-up, in what arrived and when
+-- RFC 1035, section 7.3: what stands after each end of a look-up, in what arrived and when
 use Rattle.std.specs.Prelude.{◌≡◌, ◌<◌, ℕ, List, [], ◌∷◌, ◌++◌, Some, None, map}
 use Rattle.nb_retry.specs.declared.plan.Plan.TheVariants.{Common}
 use Rattle.nb_retry.specs.declared.retry.Due.{Due}

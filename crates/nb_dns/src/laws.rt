@@ -14,7 +14,7 @@ ghost use Rattle.nb_dns.specs.LookupPromises.{LookupMeets};
 ghost use Rattle.nb_dns.specs.LookupEndings.{LookupEnding, PlanFires};
 
 /// Each cause of an end stands in what arrived and when, and no other cause comes: `LookupEnding` has what
-/// stands behind each.
+/// stands after each.
 pub fn ends_for_a_cause()
     ensures { (l : Lookup) (start : ℕ) (h : List LookupEntry) (e : LookupEntry) (cause : Cause) → LookupMeets l start (h ++ e ∷ [])
         → e.acts.over ≡ Some cause → LookupEnding l start h e cause }

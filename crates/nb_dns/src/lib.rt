@@ -17,6 +17,3 @@ pub use laws::{
     replies_end_it, sends_the_query_alone, tries_in_silence,
 };
 pub use written::is_name;
-
-#[cfg(test)]
-mod tests;

@@ -27,7 +27,7 @@ const NAME_SERVER: u16 = 53;
 const TIMED_OUT: Reason = Reason::TimedOut { tries: 6 };
 
 /// How far a look-up is.
-#[derive(Clone, Copy, Debug, PartialEq, Eq, Drop)]
+#[derive(Clone, Copy, Drop)]
 pub(crate) enum LookupPhase {
     /// The query is out.
     Asking,

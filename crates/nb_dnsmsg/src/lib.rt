@@ -20,6 +20,3 @@ pub use laws::{
     pointers_go_backwards,
 };
 pub use question::Question;
-
-#[cfg(test)]
-mod tests;

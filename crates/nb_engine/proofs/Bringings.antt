@@ -1,12 +1,11 @@
 -- What comes to an inquiry's object comes to its open.
 use Rattle.std.proofs.Common.{◌≡◌, ℕ, ◌≤◌, ◌<◌, ◌^◌, length, Bool, true, false, cond, List, [], Option, Some, None, refl, sym, ◌∙◌, ap, subst, arith}
 use Rattle.std.proofs.lemmas.Bool.Decides.{nat_tests}
-use Rattle.nb_ledger.specs.Flat.{Notice}
+use Rattle.nb_ledger.specs.Flat.{Notice, Given}
 use Rattle.nb_ledger.specs.declared.port.Port.{Port}
 use Rattle.nb_ledger.specs.declared.event.Way.{Way}
-use Rattle.nb_ledger.specs.declared.event.Way.TheVariants as way
 use Rattle.nb_graph.specs.Trace.{Said}
-use Rattle.nb_graph.specs.Whole.{Objects, port_at}
+use Rattle.nb_graph.specs.Whole.{Objects}
 use Rattle.nb_wire.specs.declared.address.Ip4.{Ip4}
 use Rattle.nb_nodes.specs.declared.obj.Obj.{Obj}
 use Rattle.nb_opens.specs.Graphs.{IsEntry}
@@ -17,71 +16,60 @@ use Rattle.nb_stack.proofs.ShortLaws.{IsShort}
 use Rattle.nb_engine.specs.declared.inquiry.Inquiry.{Inquiry}
 use Rattle.nb_engine.specs.declared.speaker.Carrier.{Carrier}
 use Rattle.nb_engine.specs.declared.speaker.Carrier.TheVariants.{Udp, Icmp}
-use Rattle.nb_opens.specs.Companies.{Company, company_with}
+use Rattle.nb_opens.specs.Companies.{company_with}
 use Rattle.nb_terms.specs.declared.cause.Cause.{Cause}
-use Rattle.nb_engine.specs.Notes.{WasTold, IsGiven}
-use Rattle.nb_engine.specs.Inquiries.{company_of, IsInquiryOf, IsLiveLone, IsInquiring, IsTakenBy, TalkDoes, TalksAs}
+use Rattle.nb_graph.specs.Deeds.{no_memory}
+use Rattle.nb_opens.specs.Notices.{first_close}
+use Rattle.nb_stack.specs.Client.{Client}
+use Rattle.nb_engine.specs.declared.speaker.Speaker.{Speaker}
+use Rattle.nb_engine.specs.Spelling.{Spelling, heard_by, IsBlank, IsSpelled, HasSpelled}
+use Rattle.nb_engine.specs.Inquiries.{company_of, IsInquiryOf, IsLiveLone, IsInquiring, IsTakenBy, TalkDoes, DoesToTalks}
 use Rattle.nb_engine.specs.GraphSteps.{way_of_incoming}
 use Rattle.nb_engine.specs.Lones.{Lone}
 use Rattle.nb_engine.specs.Replying.{HasBrought, WasBrought}
-use Rattle.nb_engine.specs.Talks.{Talk, looks_up, leases, pings, Incoming, message_in, time_in, message_for, counts_for, datagram_from, port_of}
+use Rattle.nb_engine.specs.Talks.{Talk, looks_up, leases, pings, Incoming, message_for, counts_for, datagram_from, port_of}
 use Rattle.nb_engine.specs.Tellings.{carrier_number}
-use Rattle.nb_engine.proofs.Hearings.{given_is}
-use Rattle.nb_engine.proofs.Heedings.{same_told, same_close}
+use Rattle.nb_engine.proofs.SpellingLemmas.{spelled_is, spelled_close}
 use Rattle.nb_engine.proofs.ReplyingLemmas.{company_stays}
 
--- what comes does this to each talk that the object may have
-abbrev pub DoesToEach : Objects Obj → Objects Obj → Inquiry → Port → Way → ℕ → Incoming → Option (List Notice) → Type 0
-DoesToEach old new i p by rec e told =
-    (o : Lone) → IsLiveLone old i o → (ns : List Notice) × (told ≡ Some ns) × TalkDoes (company_of old i) new i.object.object.0 o.start o.talk p by rec e ns
+-- what came to the object of an inquiry in this record is spelled where nothing is lost, and comes to each talk
+pub record SpellsBrought (net : Client) (who : Speaker) (old new : Objects Obj) (i : Inquiry) (counts : Talk → Type 0) (p : Port) (by : Way) (rec : ℕ) (e : Incoming) (told : Spelling) : Type 0 where
+  pub ns : List Notice
+  pub spelled : IsSpelled net who told ns
+  pub each : DoesToTalks old new i.object.object.0 counts p by rec e ns
+  pub made : new.book.made ≡ old.book.made
+  pub was : WasBrought new i p by rec ns
 
 -- so many objects were made as before, unless memory ran out
-pub made_stays : (old new : Objects Obj) (i : Inquiry) (p : Port) (by : Way) (rec : ℕ) (e : Incoming) (told : Option (List Notice)) (closed : Option Cause) → DoesToEach old new i p by rec e told → WasTold told closed → IsInquiring old i →
-    new.book.made ≡ old.book.made
-made_stays old new i p by rec e told closed does was going =
-    let o = going.0 in
-    let d = does o going.1 in
-    company_stays (company_of old i) new i.object.object.0 o.start o.talk p by rec e d.0 closed d.2 (same_close was d.1) was.3
+made_stays : (old new : Objects Obj) (i : Inquiry) (counts : Talk → Type 0) (p : Port) (by : Way) (rec : ℕ) (e : Incoming) (ns : List Notice) (closed : Option Cause) → DoesToTalks old new i.object.object.0 counts p by rec e ns → first_close ns ≡ closed →
+    (closed ≡ Some no_memory → ⊥) → (o : Lone) → IsLiveLone old i o → counts o.talk → new.book.made ≡ old.book.made
+made_stays old new i counts p by rec e ns closed does is other o live fits =
+    company_stays (company_of old i) new i.object.object.0 o.start o.talk p by rec e ns closed (does (company_of old i) o.start o.talk live.talks fits) is other
 
-pub brought_to : (old new : Objects Obj) (i : Inquiry) (p : Port) (by : Way) (rec : ℕ) (e : Incoming) (told : Option (List Notice)) (ns : List Notice) (o : Lone) → by ≡ way_of_incoming e → new.book.made ≡ old.book.made → DoesToEach old new i p by rec e told → told ≡ Some ns →
-    IsLiveLone old i o → HasBrought new i p by rec ns o e
-brought_to old new i p by rec e told ns o way made does is live =
-    let d = does o live in
+pub brought_to : (old new : Objects Obj) (i : Inquiry) (counts : Talk → Type 0) (p : Port) (by : Way) (rec : ℕ) (e : Incoming) (ns : List Notice) (o : Lone) → by ≡ way_of_incoming e → new.book.made ≡ old.book.made →
+    DoesToTalks old new i.object.object.0 counts p by rec e ns → IsLiveLone old i o → counts o.talk → HasBrought new i p by rec ns o e
+brought_to old new i counts p by rec e ns o way made does live fits = record {
+  inquiry = live.inquiry;
+  does = subst (λ m. TalkDoes (company_with i.waiter m) new i.object.object.0 o.start o.talk p by rec e ns) (sym made) (does (company_of old i) o.start o.talk live.talks fits);
+  way = way;
+}
+
+pub spells_brought : (net net0 net1 : Client) (who who0 who1 : Speaker) (old new : Objects Obj) (i : Inquiry) (counts : Talk → Type 0) (p : Port) (by : Way) (rec : ℕ) (e : Incoming) (s told : Spelling) (closed : Option Cause) → IsEntry i.object.object.0 p by →
+    by ≡ way_of_incoming e → net0 ≡ net → who0 ≡ who → IsBlank s → HasSpelled told closed →
+    (ns : List Notice) × Given (heard_by net0 who0 s) (heard_by net1 who1 told) ns × DoesToTalks old new i.object.object.0 counts p by rec e ns →
+    ((o : Lone) → IsInquiryOf i o → counts o.talk) → IsInquiring old i → SpellsBrought net who old new i counts p by rec e told
+spells_brought net net0 net1 who who0 who1 old new i counts p by rec e s told closed enters way same_net same_who blank was does fit going =
+    let spelled : IsSpelled net who told does.0 =
+    subst (λ z. IsSpelled z who told does.0) same_net (subst (λ z. IsSpelled net0 z told does.0) same_who (spelled_is net0 net1 who0 who1 s told does.0 blank does.1 was.0)) in
+    let fits : counts going.0.talk = fit going.0 going.1.inquiry in
+    let made : new.book.made ≡ old.book.made = made_stays old new i counts p by rec e does.0 closed does.2 (spelled_close net who told does.0 closed was spelled) was.2 going.0 going.1 fits in
     record {
-      inquiry = live.inquiry;
-      does = subst (λ m. TalkDoes (company_with i.waiter m) new i.object.object.0 o.start o.talk p by rec e ns) (sym made)
-          (subst (λ z. TalkDoes (company_of old i) new i.object.object.0 o.start o.talk p by rec e z) (same_told d.1 is) d.2);
-      way = way;
+      ns = does.0;
+      spelled = spelled;
+      each = does.2;
+      made = made;
+      was = record { lone = going.0; incoming = e; entry = enters; brought = brought_to old new i counts p by rec e does.0 going.0 way made does.2 going.1 fits };
     }
-
-pub was_brought : (old new : Objects Obj) (i : Inquiry) (p : Port) (by : Way) (rec : ℕ) (e : Incoming) (told : Option (List Notice)) (ns : List Notice) → by ≡ way_of_incoming e → new.book.made ≡ old.book.made → IsEntry i.object.object.0 p by → DoesToEach old new i p by rec e told → told ≡ Some ns →
-    IsInquiring old i → WasBrought new i p by rec ns
-was_brought old new i p by rec e told ns way made enters does is going =
-    record { lone = going.0; incoming = e; entry = enters; brought = brought_to old new i p by rec e told ns going.0 way made does is going.1 }
-
--- each is one that counts, and what the object told is what it was given
-pub message_to_each : (old new : Objects Obj) (i j : Inquiry) (rec now : ℕ) (m : Said) (told : Option (List Notice)) (all : List Notice) → j ≡ i →
-    ((k : Company) (start : ℕ) (t : Talk) → TalksAs k old j.object.object.0 start t → IsTakenBy t m →
-    (ns : List Notice) × IsGiven (Some []) told ns × TalkDoes k new j.object.object.0 start t (port_at j.object.object.0 1) way.Up rec (message_in m now) ns) →
-    ((o : Lone) → IsInquiryOf i o → IsTakenBy o.talk m) → told ≡ Some all → DoesToEach old new i (port_at i.object.object.0 1) way.Up rec (message_in m now) told
-message_to_each old new i j rec now m told all same does counts is o live =
-    let x : Inquiry → ℕ = λ z. z.object.object.0 in
-    let k = company_of old i in
-    let here = subst (λ z. TalksAs k old (x z) o.start o.talk → IsTakenBy o.talk m → (ns : List Notice) × IsGiven (Some []) told ns × TalkDoes k new (x z) o.start o.talk (port_at (x z) 1) way.Up rec (message_in m now) ns) same
-    (does k o.start o.talk) in
-    let d = here live.talks (counts o live.inquiry) in
-    (d.0, given_is told d.0 all d.1 is, d.2)
-
-pub time_to_each : (old new : Objects Obj) (i j : Inquiry) (now : ℕ) (told : Option (List Notice)) (all : List Notice) → j ≡ i →
-    ((k : Company) (start : ℕ) (t : Talk) → TalksAs k old j.object.object.0 start t →
-    (ns : List Notice) × IsGiven (Some []) told ns × TalkDoes k new j.object.object.0 start t (port_at j.object.object.0 4) way.Time 0 (time_in now) ns) →
-    told ≡ Some all → DoesToEach old new i (port_at i.object.object.0 4) way.Time 0 (time_in now) told
-time_to_each old new i j now told all same does is o live =
-    let x : Inquiry → ℕ = λ z. z.object.object.0 in
-    let k = company_of old i in
-    let here = subst (λ z. TalksAs k old (x z) o.start o.talk → (ns : List Notice) × IsGiven (Some []) told ns × TalkDoes k new (x z) o.start o.talk (port_at (x z) 4) way.Time 0 (time_in now) ns) same (does k o.start o.talk) in
-    let d = here live.talks in
-    (d.0, given_is told d.0 all d.1 is, d.2)
 
 -- nobody has bound a port of TCP
 pub no_tcp : (carrier : Carrier) (own to : ℕ) (ports : List BoundPort) → ports ≡ with_port (carrier_number carrier) own to [] → (port : ℕ) → owner_of 6 port ports ≡ None

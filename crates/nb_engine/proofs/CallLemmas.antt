@@ -27,7 +27,7 @@ use Rattle.nb_stack.specs.Client.{Client}
 use Rattle.nb_engine.specs.Opens.{acts_records}
 use Rattle.nb_engine.specs.declared.speaker.Speaker.{Speaker}
 use Rattle.nb_engine.specs.Tellings.{told_records}
-use Rattle.nb_engine.proofs.NoteLemmas.{first_close-append}
+use Rattle.nb_engine.proofs.SpellingLemmas.{first_close-append}
 use Rattle.nb_engine.proofs.TellingLemmas.{AreSendsOf, none, one, SpeaksFor, told-append, call_told, large_told, down_told, aside_messages, sent_messages, without-append, without_traced, without_aside}
 
 -- what goes down closes nothing
@@ -73,7 +73,7 @@ meets_sends b start es call acts fits meets =
     let plain = asks_plainly true b start es (entry call acts) fits meets in
     plain_sends b acts.sends.items plain.few plain.sent
 
--- the graph's records in front of others
+-- the graph's records before others
 pub without_front : (es : List GraphEvent) (xs : List Out) → without_graph (traced es ++ xs) ≡ without_graph xs
 without_front es xs = without-append (traced es) xs ∙ ap (λ r. r ++ without_graph xs) (without_traced es)
 
@@ -109,7 +109,7 @@ freed_others net who f t ns =
     let told = told_records net who ns in
     ap without_graph (told-append net who ns (freed_notices f t)) ∙ without-append told (traced (freed_events f t)) ∙ ap (λ r. without_graph told ++ r) (without_traced (freed_events f t)) ∙ append-nil (without_graph told)
 
--- behind STEP
+-- after STEP
 behind_step : (outs : List Out) (n k f t : ℕ) → Graphs outs (holding k (pair f t)) → Graphs (outs ++ (step n ∷ [])) (holding k (pair f t))
 behind_step outs n k f t graphs = step_passes outs [] n k (pair f t) graphs tt
 

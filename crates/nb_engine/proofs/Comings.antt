@@ -30,7 +30,7 @@ label_small name code few = less (label_place name code) (label_within name code
     less None h = tt
     less (Some i) h = omega (arith, h, few)
 
--- the front of some commands
+-- the start of some commands
 pub front_is : (items : List ItemHeld) (x : ItemHeld) → 0 < length items → x ≡ slice_index_or items 0 x → items ≡ x ∷ drop 1 items
 front_is [] x h e = absurd (omega (arith, h))
 front_is (y ∷ ys) x h e = ap (λ z. z ∷ ys) (sym e)
@@ -44,7 +44,7 @@ unfolding coming
 between_lists s line none well there =
     ap (λ r. rest_comes s r) none ∙ ap (λ b. cond b (line_comes s (slice_get s.code s.passed)) (leaving s.last)) well ∙ ap (λ x. line_comes s x) there
 
--- behind a list that ended in failure
+-- after a list that ended in failure
 pub behind_failure : (s : Running) → s.rest ≡ [] → is_ok_cause s.last ≡ false → coming s ≡ leaving s.last
 unfolding coming
 behind_failure s none ill =

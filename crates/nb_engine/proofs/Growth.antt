@@ -252,7 +252,7 @@ without_shut k d = without-append (traced (shut_events d.fetch.0 d.tftp.0 stoppe
 pub shut_closes : (k : ℕ) (d : Download) → ClosesFirst (shut_records k d)
 shut_closes k d = record { port = port_at d.fetch.0 0; more = _; all = refl }
 
--- behind STEP too they are in order
+-- after STEP too they are in order
 shut_order : (outs : List Out) (n k : ℕ) (d : Download) → Graphs outs (holding k (pair d.fetch.0 d.tftp.0)) → Graphs (outs ++ (step n ∷ shut_records k d)) (bare (k + 1) d.tftp.0)
 shut_order outs n k d graphs =
     let cast : Cast = pair d.fetch.0 d.tftp.0 in

@@ -86,7 +86,7 @@ get_map f [] k x h = absurd (none-some x h)
 get_map f (y ∷ ys) zero x h = ap (λ z. Some (f z)) (same_Some y x h)
 get_map f (y ∷ ys) (suc k) x h = get_map f ys k x h
 
--- what is left at a piece of a part: its record, and what is left behind it
+-- what is left at a piece of a part: its record, and what is left after it
 left_at : (ps : List PartText) (k j : ℕ) (p : PartText) → slice_get ps k ≡ Some p → j ≤ length (part_records p) →
     drop j (flat_map part_records (drop k ps)) ≡ drop j (part_records p) ++ flat_map part_records (drop (k + 1) ps)
 left_at ps k j p h within =
@@ -105,7 +105,7 @@ pub left_within : (ps : List PartText) (k j : ℕ) (p : PartText) → slice_get 
     drop (j + 1) (part_records p) ++ flat_map part_records (drop (k + 1) ps) ≡ drop (j + 1) (flat_map part_records (drop k ps))
 left_within ps k j p h within = sym (left_at ps k (j + 1) p h within)
 
--- behind the part's last piece
+-- after the part's last piece
 pub left_behind : (ps : List PartText) (k j : ℕ) (p : PartText) → drop (j + 1) (part_records p) ≡ [] →
     drop (j + 1) (part_records p) ++ flat_map part_records (drop (k + 1) ps) ≡ drop 0 (flat_map part_records (drop (k + 1) ps))
 left_behind ps k j p e = ap (λ xs. xs ++ flat_map part_records (drop (k + 1) ps)) e
@@ -114,11 +114,11 @@ drop_nothing : (j : ℕ) → drop j (flat_map part_records []) ≡ []
 drop_nothing zero = refl
 drop_nothing (suc j) = refl
 
--- behind all parts nothing is left
+-- after all parts nothing is left
 pub none_left : (ps : List PartText) (k j : ℕ) → slice_get ps k ≡ None → drop j (flat_map part_records (drop k ps)) ≡ []
 none_left ps k j h = ap (λ xs. drop j (flat_map part_records xs)) (drop_none ps k h) ∙ drop_nothing j
 
--- no element at a place: it is behind the last
+-- no element at a place: it is after the last
 pub past_end : {A : Type 0} (xs : List A) (k : ℕ) → slice_get xs k ≡ None → length xs ≤ k
 past_end [] k h = omega arith
 past_end (y ∷ ys) zero h = absurd (none-some y (sym h))
@@ -174,7 +174,7 @@ begins_at list kernel within short = record {
   short = short;
 }
 
--- behind a part comes the next, at its first piece
+-- after a part comes the next, at its first piece
 pub at_next : (list : ImageList) (h : Handing) → IsAt list h → h.part < length (parts h.kernel list.images) →
     IsAt list (record { kernel = h.kernel; part = h.part + 1; piece = 0 })
 at_next list h at within = record {

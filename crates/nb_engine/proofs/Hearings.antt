@@ -1,24 +1,22 @@
 -- What came to a fetch's objects came to its open.
-use Rattle.std.proofs.Common.{◌≡◌, ℕ, false, List, [], Option, Some, None, refl, sym, subst, ◌∙◌, ap}
+use Rattle.std.proofs.Common.{◌≡◌, ℕ, false, List, subst}
 use Rattle.nb_ledger.specs.Flat.{Notice}
 use Rattle.nb_ledger.specs.declared.port.Port.{Port}
 use Rattle.nb_ledger.specs.declared.event.Way.{Way}
 use Rattle.nb_graph.specs.Whole.{Objects}
 use Rattle.nb_nodes.specs.declared.obj.Obj.{Obj}
-use Rattle.nb_tftp.specs.Asks.{Begun}
-use Rattle.nb_tftp.specs.History.{Call, Entry}
+use Rattle.nb_tftp.specs.History.{Call}
 use Rattle.nb_opens.specs.declared.download.Download.{Download}
 use Rattle.nb_opens.specs.Graphs.{IsEntry}
-use Rattle.nb_opens.specs.Pairs.{Downloads, CallDoes, DoesCall, IsDownloading}
+use Rattle.nb_opens.specs.Pairs.{DoesCall, IsDownloading}
 use Rattle.nb_engine.specs.declared.fetch.Fetch.{Fetch}
 use Rattle.nb_engine.specs.GraphSteps.{way_of_call}
 use Rattle.nb_engine.specs.Opens.{Open, body_of}
 use Rattle.nb_engine.specs.Fetches.{IsLive}
-use Rattle.nb_engine.specs.Heeding.{HasHeard, WasCalled}
-use Rattle.nb_engine.specs.Notes.{IsGiven}
+use Rattle.nb_engine.specs.Heeding.{HasHeard, WasCalled, DoesEach}
 use Rattle.nb_stack.specs.Client.{Client}
 use Rattle.nb_engine.specs.declared.speaker.Speaker.{Speaker}
-use Rattle.nb_engine.specs.Spelling.{Spelling, heard_by, IsSpelled, DoesEach}
+use Rattle.nb_engine.specs.Spelling.{Spelling, heard_by, IsBlank, IsSpelled}
 use Rattle.nb_engine.proofs.SpellingLemmas.{spelled_is}
 
 pub heard_of : (g h : Objects Obj) (f : Fetch) (p : Port) (by : Way) (rec : ℕ) (call : Call) (ns : List Notice) (o : Open) → by ≡ way_of_call call → DoesEach g h f.objects p by rec call ns → IsLive g f o → HasHeard h f p by rec ns o call
@@ -41,10 +39,6 @@ called_of g h d p by rec call ns enters does going = record {
   does = does going.0 going.1 going.2 going.3 going.4;
 }
 
--- what an outlet that was cleared was given is what it was told
-pub given_is : (told : Option (List Notice)) (ns all : List Notice) → IsGiven (Some []) told ns → told ≡ Some all → told ≡ Some ns
-given_is told ns all g e = e ∙ ap Some (sym ((subst (λ t. IsGiven (Some []) t ns) e g).1 [] refl))
-
 -- what came to the objects of an open is spelled where nothing is lost, and comes to each transfer
 pub record SpellsEach (g h : Objects Obj) (d : Download) (p : Port) (by : Way) (rec : ℕ) (call : Call) (net : Client) (who : Speaker) (told : Spelling) : Type 0 where
   pub ns : List Notice
@@ -53,11 +47,11 @@ pub record SpellsEach (g h : Objects Obj) (d : Download) (p : Port) (by : Way) (
   pub was : WasCalled h d p by rec ns
 
 pub spells_each : (g h : Objects Obj) (d : Download) (p : Port) (by : Way) (rec : ℕ) (call : Call) (net net0 net1 : Client) (who who0 who1 : Speaker) (s told : Spelling) → IsEntry d.tftp.0 p by →
-    net0 ≡ net → who0 ≡ who → s.text ≡ [] → s.closed ≡ None → told.is_lost ≡ false → DoesCall g h d.fetch.0 d.tftp.0 p by rec call (heard_by net0 who0 s) (heard_by net1 who1 told) →
+    net0 ≡ net → who0 ≡ who → IsBlank s → told.is_lost ≡ false → DoesCall g h d.fetch.0 d.tftp.0 p by rec call (heard_by net0 who0 s) (heard_by net1 who1 told) →
     IsDownloading g d.fetch.0 d.tftp.0 → SpellsEach g h d p by rec call net who told
-spells_each g h d p by rec call net net0 net1 who who0 who1 s told enters same_net same_who empty none kept does going = record {
+spells_each g h d p by rec call net net0 net1 who who0 who1 s told enters same_net same_who blank kept does going = record {
   ns = does.0;
-  spelled = subst (λ z. IsSpelled z who told does.0) same_net (subst (λ z. IsSpelled net0 z told does.0) same_who (spelled_is net0 net1 who0 who1 s told does.0 empty none does.1 kept));
+  spelled = subst (λ z. IsSpelled z who told does.0) same_net (subst (λ z. IsSpelled net0 z told does.0) same_who (spelled_is net0 net1 who0 who1 s told does.0 blank does.1 kept));
   each = does.2;
   was = called_of g h d p by rec call does.0 enters does.2 going;
 }

@@ -45,9 +45,8 @@ use Rattle.nb_engine.specs.Fetches.{IsLive, IsFetchOf, HasKept, conclusion_of, s
 use Rattle.nb_engine.specs.Seen.{Seen, seen, StandsFor, as_waiting, IsSound, FitsAt, KeepsOrder}
 use Rattle.nb_engine.specs.declared.speaker.Speaker.{Speaker}
 use Rattle.nb_stack.specs.Client.{Client}
-use Rattle.nb_engine.specs.Heeding.{Heeds, Follows, HasHeard, WasCalled}
-use Rattle.nb_engine.specs.Spelling.{Spelling, HasSpelled, IsCalled}
-use Rattle.nb_engine.specs.Notes.{WasTold}
+use Rattle.nb_engine.specs.Heeding.{Heeds, Follows, HasHeard, IsCalled, WasCalled}
+use Rattle.nb_engine.specs.Spelling.{Spelling, HasSpelled}
 use Rattle.nb_engine.specs.Concluding.{EndsOpen, HasEndedOpen, end_records, comes_to}
 use Rattle.nb_engine.proofs.Puts.{is_either}
 use Rattle.nb_engine.proofs.TellingLemmas.{SpeaksFor, without-append, without_aside}
@@ -372,7 +371,7 @@ IfFails (keeps list) T = Unit {0}
 IfFails (fails cause) T = T
 IfFails (boots list kernel) T = Unit {0}
 
--- the phase behind a conclusion doesn't depend on the images before it, unless it fails
+-- the phase after a conclusion doesn't depend on the images before it, unless it fails
 pub same_phase : (w v : World) (s : Running) (c : Conclusion) → ((list : ImageList) → world_with_images w list ≡ world_with_images v list) → IfFails c (w ≡ v) → phase_after w s c ≡ phase_after v s c
 same_phase w v s (keeps list) e same = ap (λ x. running x (with_result s ok)) (e list)
 same_phase w v s (fails cause) e same = ap (λ x. running x (with_result s cause)) same
@@ -383,18 +382,6 @@ pub fails_keeps : (c : Concluded) (before after : ImageList) (w v : World) → H
 fails_keeps concluded.Keeps before after w v kept same = tt
 fails_keeps (concluded.Fails cause) before after w v kept same = same kept
 fails_keeps (concluded.Boots kernel) before after w v kept same = tt
-
--- what was told is one list
-pub same_told : {a b : List Notice} {told : Option (List Notice)} → told ≡ Some a → told ≡ Some b → a ≡ b
-same_told {a} {b} {told} e g = ap (λ o. or_notices o) (sym e ∙ g)
-  where
-    or_notices : Option (List Notice) → List Notice
-    or_notices None = []
-    or_notices (Some ns) = ns
-
--- the first close of what was told
-pub same_close : {told : Option (List Notice)} {ns : List Notice} {cause : Option Cause} → WasTold told cause → told ≡ Some ns → first_close ns ≡ cause
-same_close was is = ap first_close (same_told is was.1) ∙ was.2
 
 -- a fetch whose open goes on is as sound as before
 pub goes_sound : (n : ℕ) (w : World) (g h : Objects Obj) (s : Running) (f : Fetch) (net : Client) (who : Speaker) (told : Spelling) → IsSound n w g (stage.Waiting s f) → HasSpelled told None → IsCalled h f.objects net who told →

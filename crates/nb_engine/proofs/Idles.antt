@@ -118,14 +118,14 @@ idle_lines (suc n) s rest well few idle =
     passes_then a b c (here _) q = q
     passes_then a b c (further_on _ t _ comes p) q = further_on a t c comes (passes_then t b c p q)
 
--- to a line at or behind the next one
+-- to a line at or after the next one
 pub idle_to : (s : Running) (line : ℕ) → s.rest ≡ [] → s.last ≡ ok → s.passed ≤ line → line ≤ length s.code →
     ((k : ℕ) → s.passed ≤ k → k < line → IfSome (slice_get s.code k) (λ x. is_idle_line x ≡ true)) → Reaches s line
 idle_to s line rest well from within idle =
     let same : s.passed + (line - s.passed) ≡ line = omega (arith, from) in
     subst (Reaches s) same (idle_lines (line - s.passed) s rest well (subst (λ x. x ≤ length s.code) (sym same) within) (λ k low high. idle k low (subst (λ x. k < x) same high)))
 
--- and the line behind them, whose list it is
+-- and the line after them, whose list it is
 pub passes_to : (s : Running) (line : ℕ) (is : List Item) (r : Reaches s line) → coming r.there ≡ passing (onto_line r.there is) →
     PassesOn s (with_result (onto_line (behind_lines s line) is) ok)
 passes_to s line is r comes =

@@ -1,7 +1,7 @@
 pub mod Puts
-pub mod NoteLemmas
 pub mod TellingLemmas
 pub mod SpellingLemmas
+pub mod Tellers
 pub mod CallLemmas
 pub mod Joins
 pub mod Standing
@@ -35,7 +35,6 @@ pub mod ReplyingLemmas
 pub mod ReplyEnds
 pub mod Bringings
 pub mod ReplyGrowth
-pub mod NoteDeliveries
 pub mod RanOut
 pub mod Onwards
 pub mod Echoes

@@ -74,7 +74,7 @@ move_grows n w g s added m' after are idle same p v st =
       stands = st;
     })
 
--- moves behind moves
+-- moves after moves
 moves_then : (m m1 m2 : Machine) (a b : List Out) → Moves m a m1 → Moves m1 b m2 → Moves m (a ++ b) m2
 moves_then m m1 m2 a b (rests _) vs = vs
 moves_then m m1 m2 a b (moves_on _ mid _ first more v rest) vs =
@@ -95,7 +95,7 @@ pass_grows n w g s t p =
       stands = as_running n w g t;
     })
 
--- the script is left, behind what it passes first
+-- the script is left, after what it passes first
 pub left_grows : {old new : Logged} (n : ℕ) (w : World) (g : Objects Obj) (s : Running) (cause : Cause) → IsLeft s cause → Puts old new (out_texts (leave s.depth cause ∷ [])) →
     Grows [] (seen n w g (stage.Running s)) (seen n w g (stage.Left cause)) old new
 left_grows {old} {new} n w g s cause is p =

@@ -23,7 +23,7 @@ after_short {a} {b} {c} x y e p q =
       too_small = λ g h. let small : a.room < length a.bytes + length x = p.too_small g e in omega (arith, length-append x y);
     }
 
--- the first left it whole: the second's part comes behind
+-- the first left it whole: the second's part comes after
 after_whole : {a b c : Logged} (x y : List ℕ) → b.is_short ≡ false → Puts a b x → Puts b c y → Puts a c (x ++ y)
 after_whole {a} {b} {c} x y e p q =
     let first = p.whole e in
@@ -61,6 +61,6 @@ Puts-nothing {a} = record {
 pub Puts-one : {a b : Logged} (o : Out) → Puts a b (out_text o) → Puts a b (out_texts (o ∷ []))
 Puts-one o p = rw (append-nil (out_text o)) p
 
--- records put behind records
+-- records put after records
 pub Puts-outs : {a b c : Logged} (xs ys : List Out) → Puts a b (out_texts xs) → Puts b c (out_texts ys) → Puts a c (out_texts (xs ++ ys))
 Puts-outs xs ys p q = rw (flat_map-append out_text xs ys) (Puts-append (out_texts xs) (out_texts ys) p q)

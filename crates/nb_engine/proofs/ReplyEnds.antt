@@ -30,7 +30,7 @@ use Rattle.nb_engine.specs.Errands.{Onward}
 use Rattle.nb_engine.specs.declared.prepared.Prepared.{Prepared}
 use Rattle.nb_engine.specs.Deliveries.{delivered_address}
 use Rattle.nb_engine.specs.Machine.{Phase, Replies, comes_to_end as ends_it, finds_host, running, reaching, at}
-use Rattle.nb_engine.specs.Notes.{WasTold}
+use Rattle.nb_engine.specs.Spelling.{Spelling, HasSpelled, IsSpelled}
 use Rattle.nb_engine.specs.Opens.{acts_records}
 use Rattle.nb_engine.specs.Replying.{HasReplied, RepliesAs, HasBrought, WasBrought, IsBrought, DeliversMessage, HasEndedInquiry, HasFoundHost, EndsAs, EndsInquiry, over_told, end_told, settled_so, onward_by, silent}
 use Rattle.nb_engine.specs.GraphSteps.{EntersFirst, way_of_incoming}
@@ -40,7 +40,7 @@ use Rattle.nb_engine.specs.Seen.{Seen, seen, StandsFor, as_running, as_reaching,
 use Rattle.nb_engine.specs.Talks.{Talk, looks_up, leases, pings, Incoming, TalkGoes}
 use Rattle.nb_engine.specs.Tellings.{told_records}
 use Rattle.nb_engine.specs.Turns.{IsBusy}
-use Rattle.nb_engine.proofs.Heedings.{same_close}
+use Rattle.nb_engine.proofs.SpellingLemmas.{spelled_close}
 use Rattle.nb_engine.proofs.Settlements.{settles_as, goes_as, delivers_message}
 use Rattle.nb_engine.proofs.Talkings.{asked_stays}
 use Rattle.nb_engine.proofs.TalkLemmas.{alone_freed_others, found_has_none, alone_ends, alone_ending, Talking, is_talking, left_by, left_is, frees, freed_others}
@@ -54,17 +54,17 @@ ended_by k g x start t p by rec e ns cause (asks_on acts u goes over same talks)
 ended_by k g x start t p by rec e ns cause (comes_to_end acts c given u goes over delivers same shut) closed other = (shut, subst DeliversMessage (sym same) (delivers_message rec u x p by acts given delivers))
 ended_by k g x start t p by rec e ns cause (runs_out memory) closed other = absurd (other (sym closed ∙ memory))
 
-pub brought_ended : (h : Objects Obj) (i : Inquiry) (told : Option (List Notice)) (cause : Cause) → WasTold told (Some cause) → IsBrought h i told → IsShutLoneBy (company_of h i) h i.object.object.0
-brought_ended h i told cause was brought =
+pub brought_ended : (h : Objects Obj) (i : Inquiry) (net : Client) (who : Speaker) (told : Spelling) (cause : Cause) → HasSpelled told (Some cause) → IsBrought net who h i told → IsShutLoneBy (company_of h i) h i.object.object.0
+brought_ended h i net who told cause was brought =
     let it = brought.5 in
-    (ended_by (company_of h i) h i.object.object.0 it.lone.start it.lone.talk brought.0 brought.1 brought.2 it.incoming brought.3 cause it.brought.does (same_close was brought.4) was.3).0
+    (ended_by (company_of h i) h i.object.object.0 it.lone.start it.lone.talk brought.0 brought.1 brought.2 it.incoming brought.3 cause it.brought.does (spelled_close net who told brought.3 _ was brought.4) was.2).0
 
-pub brought_message : (h : Objects Obj) (i : Inquiry) (told : Option (List Notice)) (cause : Cause) → WasTold told (Some cause) → IsBrought h i told → (ns : List Notice) × (told ≡ Some ns) × DeliversMessage ns
-brought_message h i told cause was brought =
+pub brought_message : (h : Objects Obj) (i : Inquiry) (net : Client) (who : Speaker) (told : Spelling) (cause : Cause) → HasSpelled told (Some cause) → IsBrought net who h i told → (ns : List Notice) × IsSpelled net who told ns × DeliversMessage ns
+brought_message h i net who told cause was brought =
     let it = brought.5 in (
       brought.3,
       brought.4,
-      (ended_by (company_of h i) h i.object.object.0 it.lone.start it.lone.talk brought.0 brought.1 brought.2 it.incoming brought.3 cause it.brought.does (same_close was brought.4) was.3).1,
+      (ended_by (company_of h i) h i.object.object.0 it.lone.start it.lone.talk brought.0 brought.1 brought.2 it.incoming brought.3 cause it.brought.does (spelled_close net who told brought.3 _ was brought.4) was.2).1,
     )
 
 -- the port of who speaks is the open's
@@ -161,7 +161,7 @@ ends_order n net who m g k x start cast t p by rec e ns cause outs is enters (co
     rw same (alone_ends net who outs n k x cast p by rec acts given cause is enters (found_has_none rec u given delivers) (ends_with x p by rec acts given cause ns same closed) graphs)
 ends_order n net who m g k x start cast t p by rec e ns cause outs is enters (runs_out memory) closed other graphs = absurd (other (sym closed ∙ memory))
 
--- behind the end only what has waited is left
+-- after the end only what has waited is left
 over_order : (n : ℕ) (w : World) (s : Running) (g : Objects Obj) (i : Inquiry) (p : Port) (by : Way) (rec : ℕ) (ns : List Notice) (cause : Cause) → WasBrought g i p by rec ns → first_close ns ≡ Some cause → (Some cause ≡ Some no_memory → ⊥) →
     (outs : List Out) (k : ℕ) (cast : Cast) → Graphs outs (holding k cast) → FitsAt (stage.Asking s i) w.opens g.book.made (holding k cast) →
     Graphs (outs ++ over_told (seen n w g (stage.Asking s i)) ns i cause) (left_by i.waiter k g.book.made)

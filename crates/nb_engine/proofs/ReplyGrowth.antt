@@ -147,7 +147,7 @@ pub alone_closes_first : (k : ℕ) (v : Option Waiter) (x : Alone) → ClosesFir
 alone_closes_first k None x = record { port = port_at x.object.0 0; more = _; all = refl }
 alone_closes_first k (Some v) x = record { port = port_at (waiter_serial v) 0; more = _; all = refl }
 
--- behind STEP too they are in order
+-- after STEP too they are in order
 shut_order : (outs : List Out) (n k : ℕ) (cast : Cast) → Graphs outs (holding k cast) → Graphs (outs ++ (step n ∷ (traced (cast_shut cast stopped_cause) ++ (ended k stopped_cause ∷ [])))) (bare (k + 1) (last_made cast))
 shut_order outs n k cast graphs =
     subst (λ xs. Graphs xs (bare (k + 1) (last_made cast))) (append_assoc outs (step n ∷ []) (traced (cast_shut cast stopped_cause) ++ (ended k stopped_cause ∷ [])))

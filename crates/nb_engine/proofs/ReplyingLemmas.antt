@@ -23,7 +23,6 @@ use Rattle.nb_engine.specs.declared.world.World.{World}
 use Rattle.nb_engine.specs.Inquiries.{IsInquiryOf, IsLiveLone, IsInquiring, TalkDoes, asks_on, comes_to_end, runs_out, company_of, talker_of}
 use Rattle.nb_engine.specs.Lones.{Lone, with_talk}
 use Rattle.nb_engine.specs.Machine.{Phase, Replies, talks_on, asking, at}
-use Rattle.nb_engine.specs.Notes.{WasTold}
 use Rattle.nb_engine.specs.Opens.{acts_records}
 use Rattle.nb_engine.specs.Replying.{HasReplied, HasBrought, WasBrought, IsBrought}
 use Rattle.nb_engine.specs.GraphSteps.{EntersFirst}
@@ -32,7 +31,8 @@ use Rattle.nb_engine.specs.Running.{Running}
 use Rattle.nb_engine.specs.Seen.{seen, StandsFor, as_asking, IsSound, KeepsOrder}
 use Rattle.nb_engine.specs.Talks.{Talk, Incoming, TalkGoes}
 use Rattle.nb_engine.specs.Tellings.{told_records}
-use Rattle.nb_engine.proofs.Heedings.{same_close}
+use Rattle.nb_engine.specs.Spelling.{Spelling, HasSpelled}
+use Rattle.nb_engine.proofs.SpellingLemmas.{spelled_close}
 use Rattle.nb_engine.proofs.Talkings.{talk_sends, talker_stays, asked_stays, talks_open}
 use Rattle.nb_engine.proofs.TalkLemmas.{alone_closes, alone_others, nothing_has_none, HaveNoRecords, Talking, is_talking, goes_alone}
 
@@ -125,15 +125,15 @@ company_stays k g x start t p by rec e ns closed (comes_to_end acts c given u go
 company_stays k g x start t p by rec e ns closed (runs_out memory) is other = absurd (other (sym is ∙ memory))
 
 -- an inquiry whose open goes on is as sound as before
-pub talks_sound : (n : ℕ) (w : World) (g h : Objects Obj) (s : Running) (i : Inquiry) (told : Option (List Notice)) → IsSound n w g (stage.Asking s i) → h.book.made ≡ g.book.made → WasTold told None → IsBrought h i told →
+pub talks_sound : (n : ℕ) (w : World) (g h : Objects Obj) (s : Running) (i : Inquiry) (net : Client) (who : Speaker) (told : Spelling) → IsSound n w g (stage.Asking s i) → h.book.made ≡ g.book.made → HasSpelled told None → IsBrought net who h i told →
     IsSound n w h (stage.Asking s i)
-talks_sound n w g h s i told sound same was brought =
+talks_sound n w g h s i net who told sound same was brought =
     let it = brought.5 in record {
       time = sound.time;
       w = sound.w;
       opens = sound.opens;
       ports = sound.ports;
-      objects = ((under_way h i brought.0 brought.1 brought.2 brought.3 it.lone it.incoming it.brought.inquiry it.brought.does (same_close was brought.4), subst (λ m. m ≤ 2 * w.opens) (sym same) sound.objects.0.1), sound.objects.1);
+      objects = ((under_way h i brought.0 brought.1 brought.2 brought.3 it.lone it.incoming it.brought.inquiry it.brought.does (spelled_close net who told brought.3 _ was brought.4), subst (λ m. m ≤ 2 * w.opens) (sym same) sound.objects.0.1), sound.objects.1);
       well = sound.well;
       short = sound.short;
       linked = sound.linked;

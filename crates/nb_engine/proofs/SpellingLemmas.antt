@@ -1,18 +1,84 @@
 -- What is spelled, as more is told.
-use Rattle.std.proofs.Common.{◌≡◌, ℕ, Bool, true, false, cond, List, [], ◌∷◌, ◌++◌, Option, Some, None, refl, sym, ◌∙◌, ap, subst, append-nil}
+use Rattle.std.proofs.Common.{◌≡◌, ℕ, ◌==◌, Bool, true, false, cond, List, [], ◌∷◌, ◌++◌, Option, Some, None, refl, sym, ◌∙◌, ap, subst, append-nil}
 use Rattle.std.proofs.lemmas.Grind.{flat_map-append}
 use Rattle.nb_terms.specs.declared.cause.Cause.{Cause}
 use Rattle.nb_terms.specs.declared.event.Event.{Event}
-use Rattle.nb_defs.specs.Records.{Out, out_text, out_texts, graph}
-use Rattle.nb_ledger.specs.Flat.{Notice, Heard, Given, Hears, StaysKnown, unknown, shows, event, message}
+use Rattle.nb_wire.specs.declared.address.Ip4.{Ip4}
+use Rattle.nb_defs.specs.Records.{out_text, out_texts, graph}
+use Rattle.nb_graph.specs.Deeds.{no_memory}
+use Rattle.nb_ledger.specs.Flat.{Notice, Given, unknown, shows, event, message}
 use Rattle.nb_ledger.specs.declared.port.Port.{Port}
+use Rattle.nb_nodes.specs.Tags.{tag_number}
+use Rattle.nb_nodes.specs.declared.tag.Tag.TheVariants.{Bytes, Address}
 use Rattle.nb_opens.specs.Notices.{close_of, first_close, or_else}
 use Rattle.nb_stack.specs.Client.{Client}
 use Rattle.nb_engine.specs.declared.speaker.Speaker.{Speaker}
-use Rattle.nb_engine.specs.Spelling.{Spelling, closed_row, rows_of, heard_by, IsSpelled, SpellsMore, SpellsMessage}
+use Rattle.nb_engine.specs.Deliveries.{delivered_bytes, delivered_address}
+use Rattle.nb_engine.specs.Spelling.{Spelling, closed_row, bytes_row, address_row, rows_of, rows_in, heard_by, IsSpelled, IsBlank, HasSpelled, IsWhole, TellsMore, SpellsMore, SpellsMessage, FindsNothing, bytes_after, address_after}
 use Rattle.nb_engine.specs.Tellings.{notice_records, told_records}
-use Rattle.nb_engine.proofs.NoteLemmas.{first_close-append, or_none}
 use Rattle.nb_engine.proofs.TellingLemmas.{told-append}
+
+-- the cause of the first close in two parts
+pub first_close-append : (xs ys : List Notice) → first_close (xs ++ ys) ≡ or_else (first_close xs) (first_close ys)
+first_close-append [] ys = refl
+first_close-append (x ∷ xs) ys = ap (or_else (close_of x)) (first_close-append xs ys) ∙ sym (or_else-assoc (close_of x) (first_close xs) (first_close ys))
+  where
+    or_else-assoc : (a b c : Option Cause) → or_else (or_else a b) c ≡ or_else a (or_else b c)
+    or_else-assoc None b c = refl
+    or_else-assoc (Some x) b c = refl
+
+pub or_none : (a : Option Cause) → or_else a None ≡ a
+or_none None = refl
+or_none (Some c) = refl
+
+-- what a notice adds to what was delivered first
+abbrev bytes_by : Option (List ℕ) → Notice → Option (List ℕ)
+bytes_by before (event e) = before
+bytes_by before (message from tag rec a b bytes) = bytes_after before tag bytes
+
+abbrev address_by : Option Ip4 → Notice → Option Ip4
+address_by before (event e) = before
+address_by before (message from tag rec a b bytes) = address_after before tag a
+
+same_both : {A : Type 0} (b : Bool) (x : A) → cond b x x ≡ x
+same_both true x = refl
+same_both false x = refl
+
+bytes_stay : (bytes : List ℕ) (n : Notice) → Some bytes ≡ bytes_by (Some bytes) n
+bytes_stay bytes (event e) = refl
+bytes_stay bytes (message from tag rec a b more) = sym (same_both (tag == tag_number Bytes) (Some bytes))
+
+address_stays : (address : Ip4) (n : Notice) → Some address ≡ address_by (Some address) n
+address_stays address (event e) = refl
+address_stays address (message from tag rec a b more) = sym (same_both (tag == tag_number Address) (Some address))
+
+bytes_more : (ns : List Notice) (n : Notice) → delivered_bytes (ns ++ n ∷ []) ≡ bytes_by (delivered_bytes ns) n
+unfolding delivered_bytes
+bytes_more [] (event e) = refl
+bytes_more [] (message from tag rec a b bytes) = refl
+bytes_more (event e ∷ ns) n = bytes_more ns n
+bytes_more (message from tag rec a b bytes ∷ ns) n = by (tag == tag_number Bytes) (bytes_more ns n)
+  where
+    by : (k : Bool) → delivered_bytes (ns ++ n ∷ []) ≡ bytes_by (delivered_bytes ns) n → cond k (Some bytes) (delivered_bytes (ns ++ n ∷ [])) ≡ bytes_by (cond k (Some bytes) (delivered_bytes ns)) n
+    by true rest = bytes_stay bytes n
+    by false rest = rest
+
+address_more : (ns : List Notice) (n : Notice) → delivered_address (ns ++ n ∷ []) ≡ address_by (delivered_address ns) n
+unfolding delivered_address
+address_more [] (event e) = refl
+address_more [] (message from tag rec a b bytes) = refl
+address_more (event e ∷ ns) n = address_more ns n
+address_more (message from tag rec a b bytes ∷ ns) n = by (tag == tag_number Address) (address_more ns n)
+  where
+    by : (k : Bool) → delivered_address (ns ++ n ∷ []) ≡ address_by (delivered_address ns) n →
+        cond k (Some (record { 0 = a })) (delivered_address (ns ++ n ∷ [])) ≡ address_by (cond k (Some (record { 0 = a })) (delivered_address ns)) n
+    by true rest = address_stays (record { 0 = a }) n
+    by false rest = rest
+
+-- nothing was delivered of what wasn't told
+none_delivered : (delivered_bytes [] ≡ None) × (delivered_address [] ≡ None)
+unfolding delivered_bytes delivered_address
+none_delivered = (refl, refl)
 
 -- the first of some, or else this, and the others
 abbrev first_of : {A : Type 0} → A → List A → A
@@ -28,14 +94,40 @@ is_some_row [] = false
 is_some_row (x ∷ xs) = true
 
 -- a cause is its row's
-row_is : (a b : Option Cause) → closed_row a ≡ closed_row b → a ≡ b
-row_is None None e = refl
-row_is None (Some d) e = absurd (let no : false ≡ true = ap is_some_row e in cc)
-row_is (Some c) None e = absurd (let no : true ≡ false = ap is_some_row e in cc)
-row_is (Some c) (Some d) e = ap Some (by c d (ap (first_of 0) e) (ap (λ r. first_of 0 (others_of r)) e) (ap (λ r. first_of 0 (others_of (others_of r))) e))
+cause_is : (a b : Option Cause) → closed_row a ≡ closed_row b → a ≡ b
+cause_is None None e = refl
+cause_is None (Some d) e = absurd (let no : false ≡ true = ap is_some_row e in cc)
+cause_is (Some c) None e = absurd (let no : true ≡ false = ap is_some_row e in cc)
+cause_is (Some c) (Some d) e = ap Some (by c d (ap (first_of 0) e) (ap (λ r. first_of 0 (others_of r)) e) (ap (λ r. first_of 0 (others_of (others_of r))) e))
   where
     by : (x y : Cause) → x.code ≡ y.code → x.a ≡ y.a → x.b ≡ y.b → x ≡ y
     by x y f g h = ap (λ z. record { code = z; a = x.a; b = x.b }) f ∙ (ap (λ z. record { code = y.code; a = z; b = x.b }) g ∙ ap (λ z. record { code = y.code; a = y.a; b = z }) h)
+
+-- so are bytes, and an address
+bytes_is : (a b : Option (List ℕ)) → bytes_row a ≡ bytes_row b → a ≡ b
+bytes_is None None e = refl
+bytes_is None (Some d) e = absurd (let no : false ≡ true = ap is_some_row e in cc)
+bytes_is (Some c) None e = absurd (let no : true ≡ false = ap is_some_row e in cc)
+bytes_is (Some c) (Some d) e = ap Some (ap others_of e)
+
+address_is : (a b : Option Ip4) → address_row a ≡ address_row b → a ≡ b
+address_is None None e = refl
+address_is None (Some d) e = absurd (let no : false ≡ true = ap is_some_row e in cc)
+address_is (Some c) None e = absurd (let no : true ≡ false = ap is_some_row e in cc)
+address_is (Some c) (Some d) e = ap (λ z. Some (record { 0 = z })) (ap (first_of 0) e)
+
+-- what is spelled is what its rows say
+are_rows : (net : Client) (who : Speaker) (s : Spelling) (ns : List Notice) → s.is_lost ≡ false → rows_of net who ns ≡ rows_in s → IsSpelled net who s ns
+are_rows net who s ns whole e = (
+  whole,
+  sym (ap (first_of []) e),
+  sym (cause_is (first_close ns) s.closed (ap (λ r. first_of [] (others_of r)) e)),
+  sym (bytes_is (delivered_bytes ns) s.bytes (ap (λ r. first_of [] (others_of (others_of r))) e)),
+  sym (address_is (delivered_address ns) s.address (ap (λ r. first_of [] (others_of (others_of (others_of r)))) e)),
+)
+
+rows_are : (net : Client) (who : Speaker) (s : Spelling) (ns : List Notice) → IsSpelled net who s ns → rows_of net who ns ≡ rows_in s
+rows_are net who s ns is = rw (is.1, is.2, is.3, is.4) refl
 
 -- the records of one thing more
 texts_more : (net : Client) (who : Speaker) (ns : List Notice) (n : Notice) → out_texts (told_records net who (ns ++ n ∷ [])) ≡ out_texts (told_records net who ns) ++ out_texts (notice_records net who n)
@@ -43,49 +135,76 @@ texts_more net who ns n =
     ap out_texts (told-append net who ns (n ∷ []) ∙ ap (λ z. told_records net who ns ++ z) (append-nil (notice_records net who n)))
     ∙ flat_map-append out_text (told_records net who ns) (notice_records net who n)
 
-given_by : (net : Client) (who : Speaker) (a b : Bool) (x y : List ℕ) (c d : Option Cause) (n : Notice) → (b ≡ false → (a ≡ false) × (y ≡ x ++ out_texts (notice_records net who n))) → d ≡ or_else c (close_of n) →
-    Given (cond a unknown (shows (rows_of net who) (x ∷ closed_row c ∷ []))) (cond b unknown (shows (rows_of net who) (y ∷ closed_row d ∷ []))) (n ∷ [])
-given_by net who a true x y c d n more closed = (tt, λ ns h. tt)
-given_by net who true false x y c d n more closed = absurd (let no : true ≡ false = (more refl).0 in cc)
-given_by net who false false x y c d n more closed = (refl, λ ns h. both ns h)
-  where
-    both : (ns : List Notice) → rows_of net who ns ≡ x ∷ closed_row c ∷ [] → rows_of net who (ns ++ n ∷ []) ≡ y ∷ closed_row d ∷ []
-    both ns h =
-        let texts : out_texts (told_records net who (ns ++ n ∷ [])) ≡ y =
-        texts_more net who ns n ∙ ap (λ z. z ++ out_texts (notice_records net who n)) (ap (first_of []) h) ∙ sym (more refl).1 in
-        let first : first_close (ns ++ n ∷ []) ≡ d =
-        first_close-append ns (n ∷ []) ∙ ap (or_else (first_close ns)) (or_none (close_of n)) ∙ ap (λ z. or_else z (close_of n)) (row_is (first_close ns) c (ap (λ r. first_of [] (others_of r)) h)) ∙ sym closed in
-        ap (λ z. z ∷ closed_row (first_close (ns ++ n ∷ [])) ∷ []) texts ∙ ap (λ z. y ∷ closed_row z ∷ []) first
+-- what one thing more adds to what is spelled
+abbrev pub AddsIt : Client → Speaker → Spelling → Spelling → Notice → Type 0
+AddsIt net who s t n = (s.is_lost ≡ false) × (t.text ≡ s.text ++ out_texts (notice_records net who n)) × (t.closed ≡ or_else s.closed (close_of n))
+    × (t.bytes ≡ bytes_by s.bytes n) × (t.address ≡ address_by s.address n)
+
+spelled_then : (net : Client) (who : Speaker) (s t : Spelling) (ns : List Notice) (n : Notice) → t.is_lost ≡ false → AddsIt net who s t n → IsSpelled net who s ns → IsSpelled net who t (ns ++ n ∷ [])
+spelled_then net who s t ns n kept adds is = (
+  kept,
+  adds.1 ∙ ap (λ z. z ++ out_texts (notice_records net who n)) is.1 ∙ sym (texts_more net who ns n),
+  adds.2 ∙ ap (λ z. or_else z (close_of n)) is.2 ∙ ap (or_else (first_close ns)) (sym (or_none (close_of n))) ∙ sym (first_close-append ns (n ∷ [])),
+  adds.3 ∙ ap (λ z. bytes_by z n) is.3 ∙ sym (bytes_more ns n),
+  adds.4 ∙ ap (λ z. address_by z n) is.4 ∙ sym (address_more ns n),
+)
+
+-- what is known of what was told, where nothing of it is lost or all
+known : (net : Client) (who : Speaker) (s : Spelling) (b : Bool) → s.is_lost ≡ b → heard_by net who s ≡ cond b unknown (shows (rows_of net who) (rows_in s))
+known net who s b e = ap (λ z. cond z unknown (shows (rows_of net who) (rows_in s))) e
 
 -- what was added is what was given
-pub adds_given : (net : Client) (who : Speaker) (s t : Spelling) (n : Notice) → SpellsMore s t (notice_records net who n) → t.closed ≡ or_else s.closed (close_of n) → Given (heard_by net who s) (heard_by net who t) (n ∷ [])
-adds_given net who s t n more closed = given_by net who s.is_lost t.is_lost s.text t.text s.closed t.closed n more closed
-
-pub message_given : (net : Client) (who : Speaker) (s t : Spelling) (from : Port) (tag rec a b : ℕ) (bytes : List ℕ) → SpellsMessage net who s t tag a b bytes → Given (heard_by net who s) (heard_by net who t) (message from tag rec a b bytes ∷ [])
-message_given net who s t from tag rec a b bytes says = adds_given net who s t (message from tag rec a b bytes) says.1 (says.0 ∙ sym (or_none s.closed))
+pub adds_given : (net : Client) (who : Speaker) (s t : Spelling) (n : Notice) → (t.is_lost ≡ false → AddsIt net who s t n) → Given (heard_by net who s) (heard_by net who t) (n ∷ [])
+adds_given net who s t n adds = by t.is_lost refl
+  where
+    by : (b : Bool) → t.is_lost ≡ b → Given (heard_by net who s) (heard_by net who t) (n ∷ [])
+    by true lost = subst (λ h. Given (heard_by net who s) h (n ∷ [])) (sym (known net who t true lost)) (tt, λ ns h. tt)
+    by false kept =
+        let it = adds kept in
+        subst (λ h. Given h (heard_by net who t) (n ∷ [])) (sym (known net who s false it.0))
+        (subst (λ h. Given (shows (rows_of net who) (rows_in s)) h (n ∷ [])) (sym (known net who t false kept))
+        (refl, λ ns h. rows_are net who t (ns ++ n ∷ []) (spelled_then net who s t ns n kept it (are_rows net who s ns it.0 h))))
 
 -- an event is told by one that is the same
-pub event_told : (net : Client) (who : Speaker) (s d t : Spelling) (e : Event) → d ≡ s → SpellsMore d t (graph e ∷ []) → t.closed ≡ or_else d.closed (close_of (event e)) → Given (heard_by net who s) (heard_by net who t) (event e ∷ [])
-event_told net who s d t e same more closed = subst (λ x. Given (heard_by net who x) (heard_by net who t) (event e ∷ [])) same (adds_given net who d t (event e) more closed)
+pub event_told : (net : Client) (who : Speaker) (s d t : Spelling) (e : Event) → d ≡ s → SpellsMore d t (graph e ∷ []) → FindsNothing d t → t.closed ≡ or_else d.closed (close_of (event e)) →
+    Given (heard_by net who s) (heard_by net who t) (event e ∷ [])
+event_told net who s d t e same more found closed =
+    subst (λ x. Given (heard_by net who x) (heard_by net who t) (event e ∷ [])) same
+    (adds_given net who d t (event e) (λ kept. ((more kept).0, (more kept).1, closed, found.0, found.1)))
 
 -- so is a message, by its tag
-pub message_told : (net : Client) (who : Speaker) (s d t : Spelling) (from : Port) (tag number rec a b : ℕ) (bytes : List ℕ) → d ≡ s → number ≡ tag → SpellsMessage net who d t number a b bytes → Given (heard_by net who s) (heard_by net who t) (message from tag rec a b bytes ∷ [])
+pub message_told : (net : Client) (who : Speaker) (s d t : Spelling) (from : Port) (tag number rec a b : ℕ) (bytes : List ℕ) → d ≡ s → number ≡ tag → SpellsMessage net who d t number a b bytes →
+    Given (heard_by net who s) (heard_by net who t) (message from tag rec a b bytes ∷ [])
 message_told net who s d t from tag number rec a b bytes same is says =
+    let it : SpellsMessage net who d t tag a b bytes = subst (λ k. SpellsMessage net who d t k a b bytes) is says in
     subst (λ x. Given (heard_by net who x) (heard_by net who t) (message from tag rec a b bytes ∷ [])) same
-    (message_given net who d t from tag rec a b bytes (subst (λ n. SpellsMessage net who d t n a b bytes) is says))
+    (adds_given net who d t (message from tag rec a b bytes) (λ kept. ((it.1 kept).0, (it.1 kept).1, it.0 ∙ sym (or_none d.closed), (it.2 kept).0, (it.2 kept).1)))
+
+-- what was told after what was told before, which may show by an image of another
+given_shown : (net net' : Client) (who who' : Speaker) (s t : Spelling) (ns more : List Notice) → t.is_lost ≡ false → rows_of net who ns ≡ rows_in s → Given (heard_by net who s) (heard_by net' who' t) more →
+    rows_of net who (ns ++ more) ≡ rows_in t
+given_shown net net' who who' s t ns more kept shown g = by s.is_lost refl
+  where
+    at : (b : Bool) → s.is_lost ≡ b → Given (cond b unknown (shows (rows_of net who) (rows_in s))) (shows (rows_of net' who') (rows_in t)) more
+    at b e = subst (λ h. Given h (shows (rows_of net' who') (rows_in t)) more) (known net who s b e) (subst (λ h. Given (heard_by net who s) h more) (known net' who' t false kept) g)
+
+    by : (b : Bool) → s.is_lost ≡ b → rows_of net who (ns ++ more) ≡ rows_in t
+    by true e = absurd (at true e).0
+    by false e = let it = at false e in ap (λ f. f (ns ++ more)) (sym it.0) ∙ it.1 ns shown
+
+pub spelled_more : (net net' : Client) (who who' : Speaker) (s t : Spelling) (more : List Notice) → Given (heard_by net who s) (heard_by net' who' t) more → t.is_lost ≡ false → TellsMore net who s t more
+spelled_more net net' who who' s t more g kept = λ ns is. are_rows net who t (ns ++ more) kept (given_shown net net' who who' s t ns more kept (rows_are net who s ns is) g)
 
 -- what was given to one that had nothing is spelled
-spelled_by : (net net' : Client) (who who' : Speaker) (a b : Bool) (y : List ℕ) (d : Option Cause) (ns : List Notice) →
-    Given (cond a unknown (shows (rows_of net who) ([] ∷ [] ∷ []))) (cond b unknown (shows (rows_of net' who') (y ∷ closed_row d ∷ []))) ns → b ≡ false → (y ≡ out_texts (told_records net who ns)) × (d ≡ first_close ns)
-spelled_by net net' who who' a true y d ns g e = absurd (let no : true ≡ false = e in cc)
-spelled_by net net' who who' true false y d ns g e = absurd g.0
-spelled_by net net' who who' false false y d ns g e =
-    let rows : rows_of net who ns ≡ y ∷ closed_row d ∷ [] = ap (λ f. f ns) (sym g.0) ∙ g.1 [] refl in
-    (sym (ap (first_of []) rows), sym (row_is (first_close ns) d (ap (λ r. first_of [] (others_of r)) rows)))
+pub spelled_is : (net net' : Client) (who who' : Speaker) (s t : Spelling) (ns : List Notice) → IsBlank s → Given (heard_by net who s) (heard_by net' who' t) ns → t.is_lost ≡ false → IsSpelled net who t ns
+spelled_is net net' who who' s t ns blank g kept =
+    let shown : rows_of net who [] ≡ rows_in s = rw (blank.0, blank.1, blank.2, blank.3, none_delivered.0, none_delivered.1) refl in
+    are_rows net who t ns kept (given_shown net net' who who' s t [] ns kept shown g)
 
-pub spelled_is : (net net' : Client) (who who' : Speaker) (s t : Spelling) (ns : List Notice) → s.text ≡ [] → s.closed ≡ None → Given (heard_by net who s) (heard_by net' who' t) ns → t.is_lost ≡ false → IsSpelled net who t ns
-spelled_is net net' who who' s t ns empty none g e =
-    let both = spelled_by net net' who who' s.is_lost t.is_lost t.text t.closed ns
-    (subst (λ c. Given (cond s.is_lost unknown (shows (rows_of net who) ([] ∷ closed_row c ∷ []))) (heard_by net' who' t) ns) none
-    (subst (λ x. Given (cond s.is_lost unknown (shows (rows_of net who) (x ∷ closed_row s.closed ∷ []))) (heard_by net' who' t) ns) empty g)) e in
-    (e, both.0, both.1)
+-- the first close of what was told
+pub spelled_close : (net : Client) (who : Speaker) (s : Spelling) (ns : List Notice) (cause : Option Cause) → HasSpelled s cause → IsSpelled net who s ns → first_close ns ≡ cause
+spelled_close net who s ns cause was is = sym is.2 ∙ was.1
+
+-- where nothing is lost memory didn't run out
+pub no_want : (net : Client) (who : Speaker) (s : Spelling) (ns : List Notice) → IsWhole s → IsSpelled net who s ns → first_close ns ≡ Some no_memory → ⊥
+no_want net who s ns whole is memory = whole.2 (is.2 ∙ memory)

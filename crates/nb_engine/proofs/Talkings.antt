@@ -1,5 +1,5 @@
 -- What comes to an open's one object is a call of its core, of which the talk goes on.
-use Rattle.std.proofs.Common.{◌≡◌, ◌⊎◌, inl, inr, ℕ, true, false, List, [], ◌∷◌, ◌++◌, Option, Some, ap, sym, ◌∙◌, refl, subst}
+use Rattle.std.proofs.Common.{◌≡◌, ◌⊎◌, inl, inr, ℕ, true, false, List, [], ◌∷◌, ◌++◌, sym, ◌∙◌, refl, subst}
 use Rattle.nb_terms.specs.declared.acts.Acts.{Acts}
 use Rattle.nb_ledger.specs.Flat.{Notice, Heard, Given}
 use Rattle.nb_ledger.specs.declared.port.Port.{Port}
@@ -26,15 +26,15 @@ use Rattle.nb_nodes.specs.LookupExchanges.{LookupAsked, lookup_for, lookup_servi
 use Rattle.nb_nodes.specs.LeaseExchanges.{lease_service, handed_in}
 use Rattle.nb_nodes.specs.EchoExchanges.{ping_service, reply_in}
 use Rattle.nb_opens.specs.declared.alone.AloneKind.TheVariants.{Resolver, Dhcp, Ping}
-use Rattle.nb_opens.specs.Alones.{alone_number, AsksMoreBy, asks_on as asks_more, comes_to_end as ends_there, runs_out as memory_runs_out, ReceivesBy, is_taken, is_ignored, fails_before, ReceiveAllBy, TickAllBy, IsLoneBy}
+use Rattle.nb_opens.specs.Alones.{alone_number, AsksMoreBy, asks_on as asks_more, comes_to_end as ends_there, runs_out as memory_runs_out, ReceivesBy, is_taken, is_ignored, fails_before, ReceiveAllBy, TickAllBy, DoesReceiveAll, DoesTickAll, IsLoneBy}
 use Rattle.nb_ledger.specs.GraphRun.{new_ports}
 use Rattle.nb_opens.specs.Companies.{Company}
-use Rattle.nb_engine.specs.Inquiries.{IsAskedBy, IsTakenBy, TalkDoes, asks_on, comes_to_end, runs_out, TalksAs, talker_of, opening_acts, AsksFor, TalkBegins, starts, fails_at_once}
-use Rattle.nb_terms.specs.declared.cause.Cause.{Cause}
+use Rattle.nb_engine.specs.Inquiries.{IsAskedBy, IsTakenBy, TalkDoes, asks_on, comes_to_end, runs_out, TalksAs, DoesToTalks, talker_of, opening_acts, AsksFor, TalkBegins, starts, fails_at_once}
 use Rattle.nb_opens.specs.AloneNotices.{alone_call}
-use Rattle.nb_engine.specs.Notes.{WasTold, IsGiven}
-use Rattle.nb_engine.proofs.Hearings.{given_is}
-use Rattle.nb_engine.proofs.Heedings.{same_close}
+use Rattle.nb_stack.specs.Client.{Client}
+use Rattle.nb_engine.specs.declared.speaker.Speaker.{Speaker}
+use Rattle.nb_engine.specs.Spelling.{Spelling, heard_by, IsBlank, IsSpelled, IsWhole}
+use Rattle.nb_engine.proofs.SpellingLemmas.{spelled_is, no_want}
 use Rattle.nb_engine.specs.Queries.{Query, for_lease, for_echo, for_address, for_host}
 use Rattle.nb_engine.specs.Talks.{Talk, looks_up, leases, pings, Incoming, message_in, time_in, call_by, TalkGoes, look_up_goes, lease_goes, ping_goes}
 use Rattle.nb_engine.proofs.TalkLemmas.{AreSendsBy, none, one}
@@ -140,24 +140,26 @@ ping_replied k g x start h calls m now ns takes (is_taken taken more) = ping_doe
 ping_replied k g x start h calls m now ns takes (is_ignored other same talks) = absurd (let no : true ≡ false = sym takes ∙ other in cc)
 ping_replied k g x start h calls m now ns takes (fails_before memory) = runs_out memory
 
-pub reply_does : (k : Company) (old new : Objects Obj) (x : ℕ) (m : Said) (now : ℕ) (before after : Heard) → ReceiveAllBy k old new x m now before after →
-    (start : ℕ) (t : Talk) → TalksAs k old x start t → IsTakenBy t m → (ns : List Notice) × Given before after ns × Replied k new x start t m now ns
-reply_does k old new x m now before after all start (looks_up q calls) talks takes =
-    let r = all.lookup (lookup_for q) start calls talks in (r.0, r.1, look_up_replied k new x start q calls m now r.0 takes r.2)
-reply_does k old new x m now before after all start (leases a calls) talks takes =
-    let r = all.lease a start calls talks in (r.0, r.1, lease_replied k new x start a calls m now r.0 takes r.2)
-reply_does k old new x m now before after all start (pings h calls) talks takes =
-    let r = all.ping h start calls talks in (r.0, r.1, ping_replied k new x start h calls m now r.0 takes r.2)
+reply_to : (k : Company) (old new : Objects Obj) (x : ℕ) (m : Said) (now : ℕ) (ns : List Notice) → ReceiveAllBy k old new x m now ns →
+    (start : ℕ) (t : Talk) → TalksAs k old x start t → IsTakenBy t m → Replied k new x start t m now ns
+reply_to k old new x m now ns all start (looks_up q calls) talks takes = look_up_replied k new x start q calls m now ns takes (all.lookup (lookup_for q) start calls talks)
+reply_to k old new x m now ns all start (leases a calls) talks takes = lease_replied k new x start a calls m now ns takes (all.lease a start calls talks)
+reply_to k old new x m now ns all start (pings h calls) talks takes = ping_replied k new x start h calls m now ns takes (all.ping h start calls talks)
+
+pub reply_does : (old new : Objects Obj) (x : ℕ) (m : Said) (now : ℕ) (before after : Heard) → DoesReceiveAll old new x m now before after →
+    (ns : List Notice) × Given before after ns × DoesToTalks old new x (λ t. IsTakenBy t m) (port_at x 1) way.Up m.rec (message_in m now) ns
+reply_does old new x m now before after all = (all.0, all.1, λ k start t talks takes. reply_to k old new x m now all.0 (all.2 k) start t talks takes)
 
 -- and a time
-pub time_does : (k : Company) (old new : Objects Obj) (x now : ℕ) (before after : Heard) → TickAllBy k old new x now before after →
-    (start : ℕ) (t : Talk) → TalksAs k old x start t → (ns : List Notice) × Given before after ns × TalkDoes k new x start t (port_at x 4) way.Time 0 (time_in now) ns
-time_does k old new x now before after all start (looks_up q calls) talks =
-    let r = all.lookup (lookup_for q) start calls talks in (r.0, r.1, look_up_does k new x start q calls (port_at x 4) way.Time 0 (time_in now) r.0 r.2)
-time_does k old new x now before after all start (leases a calls) talks =
-    let r = all.lease a start calls talks in (r.0, r.1, lease_does k new x start a calls (port_at x 4) way.Time 0 (time_in now) r.0 r.2)
-time_does k old new x now before after all start (pings h calls) talks =
-    let r = all.ping h start calls talks in (r.0, r.1, ping_does k new x start h calls (port_at x 4) way.Time 0 (time_in now) r.0 r.2)
+time_to : (k : Company) (old new : Objects Obj) (x now : ℕ) (ns : List Notice) → TickAllBy k old new x now ns →
+    (start : ℕ) (t : Talk) → TalksAs k old x start t → TalkDoes k new x start t (port_at x 4) way.Time 0 (time_in now) ns
+time_to k old new x now ns all start (looks_up q calls) talks = look_up_does k new x start q calls (port_at x 4) way.Time 0 (time_in now) ns (all.lookup (lookup_for q) start calls talks)
+time_to k old new x now ns all start (leases a calls) talks = lease_does k new x start a calls (port_at x 4) way.Time 0 (time_in now) ns (all.lease a start calls talks)
+time_to k old new x now ns all start (pings h calls) talks = ping_does k new x start h calls (port_at x 4) way.Time 0 (time_in now) ns (all.ping h start calls talks)
+
+pub time_does : (old new : Objects Obj) (x now : ℕ) (before after : Heard) → DoesTickAll old new x now before after →
+    (ns : List Notice) × Given before after ns × DoesToTalks old new x (λ t. Unit {0}) (port_at x 4) way.Time 0 (time_in now) ns
+time_does old new x now before after all = (all.0, all.1, λ k start t talks any. time_to k old new x now all.0 (all.2 k) start t talks)
 
 -- an object that talks is open
 pub talks_open : (k : Company) (g : Objects Obj) (x start : ℕ) (t : Talk) → TalksAs k g x start t → IsLoneBy k g x new_ports
@@ -166,11 +168,11 @@ talks_open k g x start (leases a calls) talks = talks.lone
 talks_open k g x start (pings h calls) talks = talks.lone
 
 -- what the user's asking told, unless memory ran out
-pub asked_so : (k : Company) (g : Objects Obj) (x : ℕ) (t : Talk) (now rec : ℕ) (before told : Option (List Notice)) (closed : Option Cause) → AsksFor k g x t now rec before told → before ≡ Some [] → WasTold told closed →
-    (told ≡ Some (alone_call x (port_at x 0) way.Down rec (opening_acts t) [])) × TalksAs k g x now t
-asked_so k g x t now rec before told closed asked empty was =
-    by asked.2 (given_is told asked.0 was.0 (subst (λ b. IsGiven b told asked.0) empty asked.1) was.1)
+pub asked_so : (net net' : Client) (who who' : Speaker) (k : Company) (g : Objects Obj) (x : ℕ) (t : Talk) (now rec : ℕ) (s told : Spelling) → AsksFor k g x t now rec (heard_by net who s) (heard_by net' who' told) → IsBlank s → IsWhole told →
+    IsSpelled net who told (alone_call x (port_at x 0) way.Down rec (opening_acts t) []) × TalksAs k g x now t
+asked_so net net' who who' k g x t now rec s told asked blank whole =
+    by asked.2 (spelled_is net net' who who' s told asked.0 blank asked.1 whole.0)
   where
-    by : TalkBegins k g x t now rec asked.0 → told ≡ Some asked.0 → (told ≡ Some (alone_call x (port_at x 0) way.Down rec (opening_acts t) [])) × TalksAs k g x now t
-    by (starts same talks) is = (is ∙ ap Some same, talks)
-    by (fails_at_once memory) is = absurd (was.3 (sym (same_close was is) ∙ memory))
+    by : TalkBegins k g x t now rec asked.0 → IsSpelled net who told asked.0 → IsSpelled net who told (alone_call x (port_at x 0) way.Down rec (opening_acts t) []) × TalksAs k g x now t
+    by (starts same talks) is = (subst (IsSpelled net who told) same is, talks)
+    by (fails_at_once memory) is = absurd (no_want net who told asked.0 whole is memory)

@@ -1,16 +1,11 @@
 -- The records of what the graph tells in a call.
-use Rattle.std.proofs.Common.{◌≡◌, ℕ, ◌+◌, ◌<◌, ◌==◌, ◌||◌, length, take, get_or, subst, Bool, true, false, cond, List, [], ◌∷◌, ◌++◌, map, Option, Some, None, refl, sym, ◌∙◌, ap, append-nil}
+use Rattle.std.proofs.Common.{◌≡◌, ℕ, ◌==◌, ◌||◌, Bool, true, false, cond, List, [], ◌∷◌, ◌++◌, map, Option, Some, None, refl, ◌∙◌, ap, append-nil}
 use Rattle.std.proofs.lemmas.Grind.{flat_map-append}
 use Rattle.std.proofs.lemmas.List.Elements.{filter-append}
-use Rattle.std.proofs.lemmas.List.{map-append, take_more}
-use Rattle.nb_engine.specs.declared.outlet.Note.{Note}
-use Rattle.nb_engine.specs.Notes.{notice_of, notices_of}
 use Rattle.nb_terms.specs.declared.cause.Cause.{Cause}
 use Rattle.nb_terms.specs.declared.acts.Acts.{Acts}
 use Rattle.nb_terms.specs.declared.acts.SendTo.{SendTo}
-use Rattle.nb_record.specs.Logged.{Logged, Puts}
-use Rattle.nb_engine.proofs.Puts.{Puts-outs}
-use Rattle.nb_defs.specs.Records.{Out, out_texts, step, sent, text, command, result, script, opened, tried, advanced, ended, graph, part, done}
+use Rattle.nb_defs.specs.Records.{Out, step, sent, text, command, result, script, opened, tried, advanced, ended, graph, part, done}
 use Rattle.nb_ledger.specs.Flat.{Notice}
 use Rattle.nb_ledger.specs.declared.port.Port.{Port}
 use Rattle.nb_ledger.specs.declared.event.Way.{Way}
@@ -35,20 +30,6 @@ use Rattle.nb_engine.specs.Tellings.{datagram_of, message_records, notice_record
 
 pub told-append : (net : Client) (who : Speaker) (xs ys : List Notice) → told_records net who (xs ++ ys) ≡ told_records net who xs ++ told_records net who ys
 told-append net who xs ys = flat_map-append (notice_records net who) xs ys
-
--- of one note more
-pub told_more : (net : Client) (who : Speaker) (bytes : List ℕ) (notes more : List Note) (n : Note) → more ≡ notes ++ n ∷ [] →
-    told_records net who (notices_of bytes more) ≡ told_records net who (notices_of bytes notes) ++ notice_records net who (notice_of bytes n)
-told_more net who bytes notes more n e =
-    ap (λ x. told_records net who (notices_of bytes x)) e ∙ ap (told_records net who) (map-append (notice_of bytes) notes (n ∷ []))
-    ∙ told-append net who (notices_of bytes notes) (notice_of bytes n ∷ []) ∙ ap (λ x. told_records net who (notices_of bytes notes) ++ x) (append-nil (notice_records net who (notice_of bytes n)))
-
-pub puts_more : {a b c : Logged} (net : Client) (who : Speaker) (bytes : List ℕ) (notes : List Note) (i : ℕ) (d : Note) → i < length notes →
-    Puts a b (out_texts (told_records net who (notices_of bytes (take i notes)))) → Puts b c (out_texts (notice_records net who (notice_of bytes (get_or notes i d)))) →
-    Puts a c (out_texts (told_records net who (notices_of bytes (take (i + 1) notes))))
-puts_more {a} {b} {c} net who bytes notes i d h p q =
-    subst (λ x. Puts a c (out_texts x)) (sym (told_more net who bytes (take i notes) (take (i + 1) notes) (get_or notes i d) (take_more notes i d h)))
-    (Puts-outs (told_records net who (notices_of bytes (take i notes))) (notice_records net who (notice_of bytes (get_or notes i d))) p q)
 
 -- records that aren't the graph's stay, and those that are go
 pub without-append : (xs ys : List Out) → without_graph (xs ++ ys) ≡ without_graph xs ++ without_graph ys

@@ -25,6 +25,7 @@ use Rattle.nb_defs.specs.Commands.{CommandOutcome}
 use Rattle.nb_engine.specs.Running.{Running, further, coming, beginning}
 use Rattle.nb_engine.specs.Machine.{no_route, command_record, world_after}
 use Rattle.nb_engine.specs.Seen.{Seen, seen, standing}
+use Rattle.nb_engine.specs.Spelling.{Spelling, IsSpelled}
 use Rattle.nb_engine.specs.Concluding.{IsTurn}
 use Rattle.nb_engine.specs.declared.stage.Stage.TheVariants as stage
 
@@ -35,6 +36,19 @@ pub record IsNextFetch (w : World) (f : Fetch) : Type 0 where
   pub few : w.opens < 16384
   pub objects : f.objects.tftp.0 ≤ 2 * (w.opens + 1)
   pub name : length f.name ≤ 268435456
+
+-- the records of an open for a file were put, between what is spelled of what was told before and after it
+abbrev pub PutsOpen : World → Wanted → Fetch → (made told : Spelling) → Logged → Logged → Type 0
+PutsOpen w wanted f made told old new =
+    (ms ts : List Notice) → IsSpelled w.net (speaker_of f) made ms → IsSpelled w.net (speaker_of f) told ts →
+    Puts old new (out_texts (told_records w.net (speaker_of f) ms ++ ((opened_record w wanted ∷ []) ++ told_records w.net (speaker_of f) ts)))
+
+-- and those of its command before them
+abbrev pub PutsFetch : Running → List (List ℕ) → World → Wanted → Fetch → (made told : Spelling) → Logged → Logged → Type 0
+PutsFetch s ws w wanted f made told old new =
+    (ms ts : List Notice) → IsSpelled w.net (speaker_of f) made ms → IsSpelled w.net (speaker_of f) told ts →
+    Puts old new (out_texts ((command_record s (shown_as true ws) ∷ [])
+    ++ (told_records w.net (speaker_of f) ms ++ ((opened_record w wanted ∷ []) ++ told_records w.net (speaker_of f) ts))))
 
 -- a command's records were put as far as its open has begun, in the record rec, and then these notices
 abbrev pub PutsBegun : Running → List (List ℕ) → World → Wanted → Fetch → ℕ → Logged → Logged → List Notice → Type 0

@@ -31,7 +31,7 @@ IsPlaceFor concluded.Keeps list = Unit {0}
 IsPlaceFor (concluded.Fails cause) list = Unit {0}
 IsPlaceFor (concluded.Boots kernel) list = kernel < length list.images
 
--- what a turn says of the stage behind it; want of memory says nothing
+-- what a turn says of the stage after it; out of memory says nothing
 abbrev pub IsTurn : Turn → Stage → Type 0
 IsTurn turn.More st = IsBusy st
 IsTurn turn.Waiting st = IsWaiting st

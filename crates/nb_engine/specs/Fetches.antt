@@ -3,6 +3,7 @@ use Rattle.std.specs.Prelude.{◌≡◌, ◌<◌, ◌≤◌, ℕ, length, Bool, 
 use Rattle.nb_graph.specs.Whole.{Objects}
 use Rattle.nb_nodes.specs.declared.obj.Obj.{Obj}
 use Rattle.nb_image.specs.Images.{ImageList}
+use Rattle.nb_wire.specs.declared.address.Ip4.{Ip4}
 use Rattle.nb_opens.specs.declared.download.Download.{Download}
 use Rattle.nb_opens.specs.Pairs.{Downloads}
 use Rattle.nb_engine.specs.declared.fetch.Fetch.{Fetch}
@@ -21,9 +22,13 @@ abbrev pub fetch_for : ℕ → Download → ℕ → Wanted → Fetch
 fetch_for number objects own_port wanted =
     record { number = number; objects = objects; server = host wanted.target.server; own_port = own_port; name = wanted.target.name; uri = wanted.uri; boots = wanted.boots }
 
+-- who speaks for an open of this number that sends by UDP, to this server from this port
+abbrev pub speaker_by : ℕ → Ip4 → ℕ → Speaker
+speaker_by number server own_port = record { number = number; carrier = Udp; server = server; own_port = own_port }
+
 -- who speaks for a fetch
 abbrev pub speaker_of : Fetch → Speaker
-speaker_of f = record { number = f.number; carrier = Udp; server = f.server; own_port = f.own_port }
+speaker_of f = speaker_by f.number f.server f.own_port
 
 -- the fetch is the open's
 pub record IsFetchOf (f : Fetch) (o : Open) : Type 0 where

@@ -22,7 +22,7 @@ AreShort images = AllByRecursion IsShort images
 abbrev pub records_left : List Image → Handing → List Out
 records_left images h = drop h.piece (flat_map part_records (drop h.part (parts h.kernel images)))
 
--- a hand-off stands at a piece of one of its parts, or behind them all
+-- a hand-off stands at a piece of one of its parts, or after them all
 pub record IsAt (list : ImageList) (h : Handing) : Type 0 where
   pub kernel : h.kernel < length list.images
   pub part : h.part ≤ length (parts h.kernel list.images)

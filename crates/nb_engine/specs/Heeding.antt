@@ -1,5 +1,5 @@
 -- What a datagram or a time does to a client whose command waits.
-use Rattle.std.specs.Prelude.{◌≡◌, ◌⊎◌, ℕ, ◌+◌, List, [], ◌∷◌, ◌≤◌, length, Option, Some}
+use Rattle.std.specs.Prelude.{◌≡◌, ◌⊎◌, ℕ, ◌+◌, List, [], ◌∷◌, ◌≤◌, length}
 use Rattle.nb_defs.specs.Records.{In, Out, out_texts, step, IsFrameRecord}
 use Rattle.nb_record.specs.Logged.{Logged, Puts}
 use Rattle.nb_stack.specs.Client.{Client}
@@ -14,7 +14,7 @@ use Rattle.nb_tftp.specs.Sentences.{Meets}
 use Rattle.nb_tftp.specs.History.{Call, Entry}
 use Rattle.nb_opens.specs.Graphs.{without_graph, IsEntry}
 use Rattle.nb_opens.specs.declared.download.Download.{Download}
-use Rattle.nb_opens.specs.Pairs.{CallDoes}
+use Rattle.nb_opens.specs.Pairs.{CallDoes, Downloads}
 use Rattle.nb_engine.specs.World.{with_net}
 use Rattle.nb_engine.specs.Machine.{Phase, Hears, at, reply_records}
 use Rattle.nb_engine.specs.GraphSteps.{EntersFirst, way_of_call}
@@ -22,6 +22,8 @@ use Rattle.nb_engine.specs.Running.{Running}
 use Rattle.nb_engine.specs.Opens.{Open, body_of}
 use Rattle.nb_engine.specs.Fetches.{IsFetchOf, IsLive}
 use Rattle.nb_engine.specs.Seen.{Seen, seen, StandsFor, KeepsOrder}
+use Rattle.nb_engine.specs.Spelling.{Spelling, IsSpelled}
+use Rattle.nb_engine.specs.declared.speaker.Speaker.{Speaker}
 use Rattle.nb_engine.specs.Turns.{AnswersTurn, IsBusy, IsWaiting, HasYielded, IsOverWith, IsEnd}
 use Rattle.nb_engine.specs.declared.fetch.Fetch.{Fetch}
 use Rattle.nb_engine.specs.declared.status.Status.TheVariants as status
@@ -70,6 +72,15 @@ pub record WasCalled (g : Objects Obj) (d : Download) (p : Port) (by : Way) (rec
   pub call : Call
   pub entry : IsEntry d.tftp.0 p by
   pub does : CallDoes g d.fetch.0 d.tftp.0 begun start calls body p by rec call ns
+
+-- what a call does to each transfer that may be under way
+abbrev pub DoesEach : Objects Obj → Objects Obj → Download → Port → Way → ℕ → Call → List Notice → Type 0
+DoesEach old new d p by rec call ns =
+    (b : Begun) (start : ℕ) (calls : List Entry) (body : List ℕ) → Downloads old d.fetch.0 d.tftp.0 b start calls body → CallDoes new d.fetch.0 d.tftp.0 b start calls body p by rec call ns
+
+-- some call came to them, and what they told is spelled
+abbrev pub IsCalled : Objects Obj → Download → Client → Speaker → Spelling → Type 0
+IsCalled g d net who s = (p : Port) × (by : Way) × (rec : ℕ) × (ns : List Notice) × IsSpelled net who s ns × WasCalled g d p by rec ns
 
 -- a frame was taken by a client for which no open lives: its step was begun, and the reply put, if there is one
 pub record TakesFrame (bytes : List ℕ) (before after : Seen) (old new : Logged) : Type 0 where

@@ -2,8 +2,8 @@
 use Rattle.std.specs.Prelude.{◌≡◌, ℕ, ◌+◌, true, false, List, [], ◌∷◌, ◌++◌, Option, Some, None}
 use Rattle.nb_terms.specs.declared.cause.Cause.{Cause}
 use Rattle.nb_terms.specs.declared.acts.Acts.{Acts}
-use Rattle.nb_ledger.specs.Flat.{Notice}
-use Rattle.nb_engine.specs.Notes.{IsGiven}
+use Rattle.nb_ledger.specs.Flat.{Notice, Heard, Given}
+use Rattle.nb_stack.specs.Client.{Client}
 use Rattle.nb_ledger.specs.declared.port.Port.{Port}
 use Rattle.nb_ledger.specs.declared.event.Way.{Way}
 use Rattle.nb_ledger.specs.declared.event.Way.TheVariants as way
@@ -36,6 +36,7 @@ use Rattle.nb_engine.specs.declared.speaker.Carrier.TheVariants.{Udp, Icmp}
 use Rattle.nb_engine.specs.declared.speaker.Speaker.{Speaker}
 use Rattle.nb_command.specs.SettingAddresses.{host}
 use Rattle.nb_engine.specs.Lones.{Lone}
+use Rattle.nb_engine.specs.Spelling.{Spelling, IsSpelled}
 use Rattle.nb_engine.specs.CommandWords.{errand_of, FitsErrand}
 use Rattle.nb_engine.specs.Errands.{Errand, fetches_then, echoes_then, Onward, fetches_now, echoes_now}
 use Rattle.nb_engine.specs.Queries.{Query, for_lease, for_echo, for_address, for_host}
@@ -159,6 +160,11 @@ pub data TalkDoes (c : Company) (g : Objects Obj) (x start : ℕ) (t : Talk) (p 
       → ns ≡ alone_call x p by rec acts given → IsShutLoneBy c g x → TalkDoes c g x start t p by rec e ns
   runs_out : first_close ns ≡ Some no_memory → TalkDoes c g x start t p by rec e ns
 
+-- what comes to the object x does this to each talk that it may have in a company, and the outside is told this
+abbrev pub DoesToTalks : Objects Obj → Objects Obj → ℕ → (Talk → Type 0) → Port → Way → ℕ → Incoming → List Notice → Type 0
+DoesToTalks old new x counts p by rec e ns =
+    (c : Company) (start : ℕ) (t : Talk) → TalksAs c old x start t → counts t → TalkDoes c new x start t p by rec e ns
+
 -- what it asks at first
 abbrev pub opening_acts : Talk → Acts
 opening_acts t = record { sends = record { items = first_message t ∷ [] }; tried = Some 1; advance = None; give = None; ready = false; over = None }
@@ -180,8 +186,8 @@ pub data TalkBegins (c : Company) (g : Objects Obj) (x : ℕ) (t : Talk) (now re
   starts : ns ≡ alone_call x (port_at x 0) way.Down rec (opening_acts t) [] → TalksAs c g x now t → TalkBegins c g x t now rec ns
   fails_at_once : first_close ns ≡ Some no_memory → TalkBegins c g x t now rec ns
 
-abbrev pub AsksFor : Company → Objects Obj → ℕ → Talk → ℕ → ℕ → Option (List Notice) → Option (List Notice) → Type 0
-AsksFor c g x t now rec before after = (ns : List Notice) × IsGiven before after ns × TalkBegins c g x t now rec ns
+abbrev pub AsksFor : Company → Objects Obj → ℕ → Talk → ℕ → ℕ → Heard → Heard → Type 0
+AsksFor c g x t now rec before after = (ns : List Notice) × Given before after ns × TalkBegins c g x t now rec ns
 
 -- what the outside is told where what waits is made or let go, if anything does
 abbrev pub made_beside : Option Waiter → List Notice
@@ -197,18 +203,18 @@ abbrev pub beside_freed_events : Option Waiter → List GraphEvent
 beside_freed_events None = []
 beside_freed_events (Some v) = waiter_freed_events v
 
--- the serial of an open's object, behind what waits beside it, where so many were made before
+-- the serial of an open's object, after what waits beside it, where so many were made before
 abbrev pub IsNextObject : Option Waiter → ℕ → ℕ → Type 0
 IsNextObject None made x = x ≡ made + 1
 IsNextObject (Some v) made x = AreNext made (waiter_serial v) x
 
--- An open's object x was made, behind what waits beside it, and this was asked of it in the record rec, at a time.
-pub record BeginsTalk (beside : Option Waiter) (g : Objects Obj) (x : ℕ) (t : Talk) (now rec : ℕ) (made told : Option (List Notice)) : Type 0 where
-  pub made_so : made ≡ Some (made_beside beside ++ alone_made x (alone_number (kind_of_talk t)))
-  pub told_so : told ≡ Some (alone_call x (port_at x 0) way.Down rec (opening_acts t) [])
+-- An open's object x was made, after what waits beside it, and this was asked of it in the record rec, at a time.
+pub record BeginsTalk (net : Client) (who : Speaker) (beside : Option Waiter) (g : Objects Obj) (x : ℕ) (t : Talk) (now rec : ℕ) (made told : Spelling) : Type 0 where
+  pub made_so : IsSpelled net who made (made_beside beside ++ alone_made x (alone_number (kind_of_talk t)))
+  pub told_so : IsSpelled net who told (alone_call x (port_at x 0) way.Down rec (opening_acts t) [])
   pub talks : TalksAs (company_with beside x) g x now t
 
 -- An open's object x had waited, where so many were made, and this was asked of it.
-pub record BeginsWaited (made : ℕ) (g : Objects Obj) (x : ℕ) (t : Talk) (now rec : ℕ) (told : Option (List Notice)) : Type 0 where
-  pub told_so : told ≡ Some (alone_call x (port_at x 0) way.Down rec (opening_acts t) [])
+pub record BeginsWaited (net : Client) (who : Speaker) (made : ℕ) (g : Objects Obj) (x : ℕ) (t : Talk) (now rec : ℕ) (told : Spelling) : Type 0 where
+  pub told_so : IsSpelled net who told (alone_call x (port_at x 0) way.Down rec (opening_acts t) [])
   pub talks : TalksAs (company_with None made) g x now t

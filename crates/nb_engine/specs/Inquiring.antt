@@ -34,6 +34,7 @@ use Rattle.nb_engine.specs.Inquiries.{query_of, talker_of, kind_of_talk, opening
 use Rattle.nb_engine.specs.Running.{Running, further, coming, beginning}
 use Rattle.nb_engine.specs.Machine.{command_record, no_route, world_after}
 use Rattle.nb_engine.specs.Seen.{Seen, seen}
+use Rattle.nb_engine.specs.Spelling.{Spelling, IsSpelled}
 use Rattle.nb_engine.specs.Tellings.{told_records}
 
 -- what a command comes to that may ask for something
@@ -72,11 +73,16 @@ pub record HasIntended (w : World) (q : Query) (s : Running) (ws : List (List �
   pub shows : shown_words w.state.table (name ∷ args) ≡ shown_as true ws
   pub world_is : now.world ≡ world_after w (name ∷ args)
 
--- a command's records were put as far as its open, of which this was told before and behind it
+-- a command's records were put as far as its open, of which this was told before and after it
 abbrev pub PutsInquiry : Running → List (List ℕ) → World → Inquiry → Logged → Logged → (made told : List Notice) → Type 0
 PutsInquiry s ws w i old new made told =
     Puts old new (out_texts ((command_record s (shown_as true ws) ∷ [])
     ++ (told_records w.net i.speaker made ++ ((open_told w.opens (fields_of (talk_for w (query_of i.query))) ∷ []) ++ told_records w.net i.speaker told))))
+
+-- the same, by what is spelled
+abbrev pub PutsAsking : Running → List (List ℕ) → World → Inquiry → (made told : Spelling) → Logged → Logged → Type 0
+PutsAsking s ws w i made told old new =
+    (ms ts : List Notice) → IsSpelled w.net i.speaker made ms → IsSpelled w.net i.speaker told ts → PutsInquiry s ws w i old new ms ts
 
 -- an open that was begun was closed, since there is no way to its server, and its command's list goes on
 pub record HasTurnedInquiryBack (t : Turn) (s : Running) (ws : List (List ℕ)) (i : Inquiry) (before after : Seen) (old new : Logged) : Type 0 where

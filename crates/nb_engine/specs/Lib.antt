@@ -19,7 +19,6 @@ pub mod NextCommand
 pub mod FirstScript
 pub mod Tellings
 pub mod Spelling
-pub mod Notes
 pub mod Objects
 pub mod Deliveries
 pub mod Inquiries

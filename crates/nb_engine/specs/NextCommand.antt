@@ -54,7 +54,7 @@ pub record HasPassed (s t : Running) : Type 0 where
   pub passes : PassesOn s t
   pub nearer : moves_in t < moves_in s
 
--- the script is left with this cause, behind what it passes first
+-- the script is left with this cause, after what it passes first
 pub record IsLeft (s : Running) (cause : Cause) : Type 0 where
   pub last : Running
   pub passes : PassesOn s last

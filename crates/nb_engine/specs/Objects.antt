@@ -1,7 +1,6 @@
 -- What the two objects of an open have done, and what was told of it.
-use Rattle.std.specs.Prelude.{◌≡◌, ℕ, List, [], ◌++◌, Option, Some}
+use Rattle.std.specs.Prelude.{◌≡◌, ℕ, List, [], Option, Some}
 use Rattle.nb_terms.specs.declared.cause.Cause.{Cause}
-use Rattle.nb_ledger.specs.Flat.{Notice}
 use Rattle.nb_graph.specs.Whole.{Objects}
 use Rattle.nb_nodes.specs.declared.obj.Obj.{Obj}
 use Rattle.nb_nodes.specs.Conversations.{first_acts}
@@ -9,22 +8,21 @@ use Rattle.nb_tftp.specs.Asks.{Begun}
 use Rattle.nb_opens.specs.declared.download.Download.{Download}
 use Rattle.nb_opens.specs.Notices.{made_notices, completed_notices, begun_notices}
 use Rattle.nb_opens.specs.Pairs.{Downloads}
+use Rattle.nb_stack.specs.Client.{Client}
+use Rattle.nb_engine.specs.declared.speaker.Speaker.{Speaker}
+use Rattle.nb_engine.specs.Spelling.{Spelling, IsSpelled}
 
 -- the objects of an open, these, were made, and its transfer was begun in the record rec, at a time
-pub record BeginsOpen (g : Objects Obj) (d : Download) (b : Begun) (now rec : ℕ) (made told : Option (List Notice)) : Type 0 where
-  pub made_so : made ≡ Some (made_notices d.fetch.0 d.tftp.0)
-  pub told_so : told ≡ Some (begun_notices d.fetch.0 d.tftp.0 rec (first_acts b))
+pub record BeginsOpen (net : Client) (who : Speaker) (g : Objects Obj) (d : Download) (b : Begun) (now rec : ℕ) (made told : Spelling) : Type 0 where
+  pub made_so : IsSpelled net who made (made_notices d.fetch.0 d.tftp.0)
+  pub told_so : IsSpelled net who told (begun_notices d.fetch.0 d.tftp.0 rec (first_acts b))
   pub downloads : Downloads g d.fetch.0 d.tftp.0 b now [] []
 
 -- the Tftp of an open's objects, these, was made below the Fetch, which had waited, and its transfer was begun so
-pub record BeginsCompleted (g : Objects Obj) (d : Download) (b : Begun) (now rec : ℕ) (made told : Option (List Notice)) : Type 0 where
-  pub made_so : made ≡ Some (completed_notices d.fetch.0 d.tftp.0)
-  pub told_so : told ≡ Some (begun_notices d.fetch.0 d.tftp.0 rec (first_acts b))
+pub record BeginsCompleted (net : Client) (who : Speaker) (g : Objects Obj) (d : Download) (b : Begun) (now rec : ℕ) (made told : Spelling) : Type 0 where
+  pub made_so : IsSpelled net who made (completed_notices d.fetch.0 d.tftp.0)
+  pub told_so : IsSpelled net who told (begun_notices d.fetch.0 d.tftp.0 rec (first_acts b))
   pub downloads : Downloads g d.fetch.0 d.tftp.0 b now [] []
-
--- this was told behind what was told before
-abbrev pub TellsMore : Option (List Notice) → Option (List Notice) → List Notice → Type 0
-TellsMore before after more = (ns : List Notice) → before ≡ Some ns → after ≡ Some (ns ++ more)
 
 -- where an open ended well, this is its file
 abbrev pub IsFile : Cause → Option (List ℕ) → List ℕ → Type 0

@@ -45,6 +45,6 @@ abbrev pub domain_bytes : Option SettingValue → List ℕ
 domain_bytes None = []
 domain_bytes (Some value) = value.bytes
 
--- a name without a dot gets `domain`, which has tag 15, behind it, where that is set
+-- a name without a dot gets `domain`, which has tag 15, after it, where that is set
 abbrev pub with_domain : TableLists → List ℕ → List ℕ
 with_domain table text = if list_any is_dot text then text else after_dot text (domain_bytes (look None (Tag 15) table))

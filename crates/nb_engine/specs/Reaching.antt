@@ -26,6 +26,7 @@ use Rattle.nb_engine.specs.Machine.{no_route}
 use Rattle.nb_engine.specs.Opens.{opened_record}
 use Rattle.nb_engine.specs.Running.{Running, with_result}
 use Rattle.nb_engine.specs.Seen.{Seen, seen}
+use Rattle.nb_engine.specs.Spelling.{Spelling, IsSpelled}
 use Rattle.nb_engine.specs.Talks.{fields_of}
 use Rattle.nb_engine.specs.Tellings.{told_records}
 use Rattle.nb_engine.specs.Turns.{OrRanOut}
@@ -60,6 +61,10 @@ TurnsNextBack t s wanted f before after old new = OrRanOut t (HasTurnedNextBack 
 abbrev pub PutsEcho : World → Inquiry → Logged → Logged → List Notice → Type 0
 PutsEcho w i old new told =
     Puts old new (out_texts ((open_told w.opens (fields_of (talk_for w (query_of i.query))) ∷ []) ++ told_records w.net i.speaker told))
+
+-- the same, by what is spelled
+abbrev pub PutsEchoing : World → Inquiry → Spelling → Logged → Logged → Type 0
+PutsEchoing w i told old new = (ts : List Notice) → IsSpelled w.net i.speaker told ts → PutsEcho w i old new ts
 
 -- it was closed, since there is no way to its host, and its command's list goes on; so many objects were made
 pub record HasTurnedEchoBack (t : Turn) (s : Running) (i : Inquiry) (before after : Seen) (old new : Logged) : Type 0 where

@@ -38,6 +38,8 @@ use Rattle.nb_engine.specs.Deliveries.{delivered_bytes, delivered_address}
 use Rattle.nb_engine.specs.Inquiries.{query_of, company_of, IsInquiryOf, IsLiveLone, TalkDoes, beside_freed_events}
 use Rattle.nb_engine.specs.Tellings.{carrier_number, told_records}
 use Rattle.nb_engine.specs.Seen.{Seen, seen, StandsFor, KeepsOrder, FitsGraph}
+use Rattle.nb_engine.specs.Spelling.{Spelling, IsSpelled}
+use Rattle.nb_stack.specs.Client.{Client}
 use Rattle.nb_engine.specs.Turns.{IsBusy, IsWaiting, HasYielded, IsOverWith, IsEnd, OrRanOut}
 use Rattle.nb_defs.specs.Causes.{is_ok_cause}
 
@@ -75,8 +77,8 @@ pub record WasBrought (g : Objects Obj) (i : Inquiry) (p : Port) (by : Way) (rec
   pub entry : IsEntry i.object.object.0 p by
   pub brought : HasBrought g i p by rec ns lone incoming
 
-abbrev pub IsBrought : Objects Obj → Inquiry → Option (List Notice) → Type 0
-IsBrought g i told = (p : Port) × (by : Way) × (rec : ℕ) × (ns : List Notice) × (told ≡ Some ns) × WasBrought g i p by rec ns
+abbrev pub IsBrought : Client → Speaker → Objects Obj → Inquiry → Spelling → Type 0
+IsBrought net who g i told = (p : Port) × (by : Way) × (rec : ℕ) × (ns : List Notice) × IsSpelled net who told ns × WasBrought g i p by rec ns
 
 -- what was delivered becomes settings, as the query wants it
 abbrev pub change_by : Query → Option (List ℕ) → Option Ip4 → TableLists → Change
@@ -104,14 +106,21 @@ abbrev pub FindsServer : Option Ip4 → Cause → Query → Option Ip4 → Type 
 FindsServer None cause query address = onward_by cause query address ≡ None
 FindsServer (Some server) cause query address = (errand : Errand) × (onward_by cause query address ≡ Some (onward errand server.0)) × IsFor query errand
 
--- what a command comes to whose open has ended with this cause, and told this
+-- what a command comes to whose open has ended with this cause, and delivered this
+abbrev pub settled_with : Cause → Query → Option (List ℕ) → Option Ip4 → TableLists → Settled
+settled_with cause query bytes address table =
+    if is_ok_cause cause then settled_by table (change_by query bytes address table) else record { cause = cause; table = table }
+
+-- and told this
 abbrev pub settled_so : Cause → Query → List Notice → TableLists → Settled
-settled_so cause query ns table =
-    if is_ok_cause cause then settled_by table (change_by query (delivered_bytes ns) (delivered_address ns) table) else record { cause = cause; table = table }
+settled_so cause query ns table = settled_with cause query (delivered_bytes ns) (delivered_address ns) table
 
 -- the bytes that were delivered are a message of DHCP
+abbrev pub IsMessage : Option (List ℕ) → Type 0
+IsMessage found = (bytes : List ℕ) → found ≡ Some bytes → IsSome (message_in bytes)
+
 abbrev pub DeliversMessage : List Notice → Type 0
-DeliversMessage ns = (bytes : List ℕ) → delivered_bytes ns ≡ Some bytes → IsSome (message_in bytes)
+DeliversMessage ns = IsMessage (delivered_bytes ns)
 
 -- the world without the port of who spoke
 abbrev pub silent : World → Speaker → World

@@ -26,7 +26,7 @@ first_script code = record { depth = 1; code = code; passed = 0; rest = []; plac
 abbrev pub onto_line : Running → List Item → Running
 onto_line s commands = record s { passed = s.passed + 1; rest = commands; place = 0 }
 
--- behind lines that were passed, up to this place
+-- after lines that were passed, up to this place
 abbrev pub behind_lines : Running → ℕ → Running
 behind_lines s line = record s { passed = line }
 
@@ -91,7 +91,7 @@ abbrev pub list_comes : Running → Option (List Item) → Coming
 list_comes s None = leaving too_many_words
 list_comes s (Some commands) = passing (onto_line s commands)
 
--- the next line; behind the last the script is left with Ok
+-- the next line; after the last the script is left with Ok
 abbrev pub line_comes : Running → Option Line → Coming
 line_comes s None = leaving ok
 line_comes s (Some (label name)) = passing (onto_line s [])

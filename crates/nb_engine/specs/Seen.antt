@@ -182,6 +182,6 @@ FitsAt stage.Stopped opens made (prepared j n v) = ⊥
 abbrev pub FitsGraph : Seen → GraphAt → Type 0
 FitsGraph c p = FitsAt c.stage c.world.opens c.graph.book.made p
 
--- the records that a step puts behind an output are in the graph's order with it
+-- the records that a step puts after an output are in the graph's order with it
 abbrev pub KeepsOrder : Seen → List Out → Seen → Type 0
 KeepsOrder before added after = (outs : List Out) (p : GraphAt) → Graphs outs p → FitsGraph before p → (q : GraphAt) × Graphs (outs ++ added) q × FitsGraph after q

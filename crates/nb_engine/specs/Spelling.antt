@@ -1,27 +1,25 @@
 -- The records of what a graph tells of one open, spelled as it is told.
-use Rattle.std.specs.Prelude.{◌≡◌, ℕ, List, [], ◌∷◌, ◌++◌, Bool, false, Option, Some, None, if◌then◌else◌}
+use Rattle.std.specs.Prelude.{◌≡◌, ℕ, ◌==◌, List, [], ◌∷◌, ◌++◌, Bool, false, Option, Some, None, if◌then◌else◌}
 use Rattle.nb_terms.specs.declared.cause.Cause.{Cause}
+use Rattle.nb_wire.specs.declared.address.Ip4.{Ip4}
 use Rattle.nb_defs.specs.Records.{Out, out_texts}
 use Rattle.nb_ledger.specs.Flat.{Notice, Heard, unknown, shows}
-use Rattle.nb_ledger.specs.declared.port.Port.{Port}
-use Rattle.nb_ledger.specs.declared.event.Way.{Way}
 use Rattle.nb_graph.specs.Deeds.{no_memory}
-use Rattle.nb_graph.specs.Whole.{Objects}
 use Rattle.nb_stack.specs.Client.{Client}
-use Rattle.nb_nodes.specs.declared.obj.Obj.{Obj}
-use Rattle.nb_tftp.specs.Asks.{Begun}
-use Rattle.nb_tftp.specs.History.{Call, Entry}
-use Rattle.nb_opens.specs.declared.download.Download.{Download}
+use Rattle.nb_nodes.specs.Tags.{tag_number}
+use Rattle.nb_nodes.specs.declared.tag.Tag.TheVariants.{Bytes, Address}
 use Rattle.nb_opens.specs.Notices.{first_close}
-use Rattle.nb_opens.specs.Pairs.{Downloads, CallDoes}
 use Rattle.nb_engine.specs.declared.speaker.Speaker.{Speaker}
-use Rattle.nb_engine.specs.Heeding.{WasCalled}
+use Rattle.nb_engine.specs.Deliveries.{delivered_bytes, delivered_address}
 use Rattle.nb_engine.specs.Tellings.{told_records, message_records}
 
--- the records, the cause of the first close, and whether some of it is lost
+-- the records, the cause of the first close, the first bytes and the first address that were delivered, and whether some of
+-- it is lost
 pub record Spelling : Type 0 where
   pub text : List ℕ
   pub closed : Option Cause
+  pub bytes : Option (List ℕ)
+  pub address : Option Ip4
   pub is_lost : Bool
 
 -- a cause as a row of numbers
@@ -29,35 +27,72 @@ abbrev pub closed_row : Option Cause → List ℕ
 closed_row None = []
 closed_row (Some c) = c.code ∷ c.a ∷ c.b ∷ []
 
--- what is spelled of what was told, and its first close
+-- what was delivered as a row; no bytes differ from none
+abbrev pub bytes_row : Option (List ℕ) → List ℕ
+bytes_row None = []
+bytes_row (Some bytes) = 1 ∷ bytes
+
+abbrev pub address_row : Option Ip4 → List ℕ
+address_row None = []
+address_row (Some address) = address.0 ∷ []
+
+-- what is spelled of what was told, its first close, and what it delivers first
 abbrev pub rows_of : Client → Speaker → List Notice → List (List ℕ)
-rows_of net who ns = out_texts (told_records net who ns) ∷ closed_row (first_close ns) ∷ []
+rows_of net who ns =
+    out_texts (told_records net who ns) ∷ closed_row (first_close ns) ∷ bytes_row (delivered_bytes ns) ∷ address_row (delivered_address ns) ∷ []
+
+abbrev pub rows_in : Spelling → List (List ℕ)
+rows_in s = s.text ∷ closed_row s.closed ∷ bytes_row s.bytes ∷ address_row s.address ∷ []
 
 -- what is known by it of what was told
 abbrev pub heard_by : Client → Speaker → Spelling → Heard
-heard_by net who s = if s.is_lost then unknown else shows (rows_of net who) (s.text ∷ closed_row s.closed ∷ [])
+heard_by net who s = if s.is_lost then unknown else shows (rows_of net who) (rows_in s)
 
 -- nothing is lost, and this was told
 abbrev pub IsSpelled : Client → Speaker → Spelling → List Notice → Type 0
-IsSpelled net who s ns = (s.is_lost ≡ false) × (s.text ≡ out_texts (told_records net who ns)) × (s.closed ≡ first_close ns)
+IsSpelled net who s ns =
+    (s.is_lost ≡ false) × (s.text ≡ out_texts (told_records net who ns)) × (s.closed ≡ first_close ns)
+    × (s.bytes ≡ delivered_bytes ns) × (s.address ≡ delivered_address ns)
+
+-- nothing was told, unless it is lost
+abbrev pub IsBlank : Spelling → Type 0
+IsBlank s = (s.text ≡ []) × (s.closed ≡ None) × (s.bytes ≡ None) × (s.address ≡ None)
 
 -- nothing is lost, and this is the cause of the first close, which isn't that memory ran out
 abbrev pub HasSpelled : Spelling → Option Cause → Type 0
 HasSpelled s cause = (s.is_lost ≡ false) × (s.closed ≡ cause) × (cause ≡ Some no_memory → ⊥)
 
+-- so it is with some first close, or none
+abbrev pub IsWhole : Spelling → Type 0
+IsWhole s = HasSpelled s s.closed
+
+-- this was told after what was told before
+abbrev pub TellsMore : Client → Speaker → Spelling → Spelling → List Notice → Type 0
+TellsMore net who before after more = (ns : List Notice) → IsSpelled net who before ns → IsSpelled net who after (ns ++ more)
+
 -- these records were added, unless some are lost
 abbrev pub SpellsMore : Spelling → Spelling → List Out → Type 0
 SpellsMore s t outs = t.is_lost ≡ false → (s.is_lost ≡ false) × (t.text ≡ s.text ++ out_texts outs)
 
--- a message's records were added, unless some are lost
+-- nothing was delivered
+abbrev pub FindsNothing : Spelling → Spelling → Type 0
+FindsNothing s t = (t.bytes ≡ s.bytes) × (t.address ≡ s.address)
+
+-- the first of two that is there
+abbrev pub first_there : {A : Type 0} → Option A → Option A → Option A
+first_there None b = b
+first_there (Some a) b = Some a
+
+-- what was delivered first, where a message comes after this
+abbrev pub bytes_after : Option (List ℕ) → ℕ → List ℕ → Option (List ℕ)
+bytes_after before tag bytes = if tag == tag_number Bytes then first_there before (Some bytes) else before
+
+abbrev pub address_after : Option Ip4 → ℕ → ℕ → Option Ip4
+address_after before tag a = if tag == tag_number Address then first_there before (Some (record { 0 = a })) else before
+
+abbrev pub FindsMore : Spelling → Spelling → ℕ → ℕ → List ℕ → Type 0
+FindsMore s t tag a bytes = t.is_lost ≡ false → (t.bytes ≡ bytes_after s.bytes tag bytes) × (t.address ≡ address_after s.address tag a)
+
+-- a message's records were added, and what it delivers, unless some is lost
 abbrev pub SpellsMessage : Client → Speaker → Spelling → Spelling → ℕ → ℕ → ℕ → List ℕ → Type 0
-SpellsMessage net who s t tag a b bytes = (t.closed ≡ s.closed) × SpellsMore s t (message_records net who tag a b bytes)
-
--- what a call does to each transfer that may be under way
-abbrev pub DoesEach : Objects Obj → Objects Obj → Download → Port → Way → ℕ → Call → List Notice → Type 0
-DoesEach old new d p by rec call ns =
-    (b : Begun) (start : ℕ) (calls : List Entry) (body : List ℕ) → Downloads old d.fetch.0 d.tftp.0 b start calls body → CallDoes new d.fetch.0 d.tftp.0 b start calls body p by rec call ns
-
--- some call came to them, and what they told is spelled
-abbrev pub IsCalled : Objects Obj → Download → Client → Speaker → Spelling → Type 0
-IsCalled g d net who s = (p : Port) × (by : Way) × (rec : ℕ) × (ns : List Notice) × IsSpelled net who s ns × WasCalled g d p by rec ns
+SpellsMessage net who s t tag a b bytes = (t.closed ≡ s.closed) × SpellsMore s t (message_records net who tag a b bytes) × FindsMore s t tag a bytes

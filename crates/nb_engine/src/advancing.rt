@@ -23,10 +23,10 @@ ghost use Rattle.nb_opens.specs.Graphs.{AreNext};
 ghost use Rattle.nb_engine.specs.Objects.{BeginsOpen};
 ghost use Rattle.nb_graph.specs.Whole.{Objects};
 ghost use Rattle.nb_nodes.specs.declared.obj.Obj.{Obj as Object};
-ghost use Rattle.nb_engine.specs.Fetches.{fetch_for, speaker_of};
+ghost use Rattle.nb_engine.specs.Fetches.{fetch_for, speaker_by, speaker_of};
 ghost use Rattle.nb_engine.specs.Tellings.{told_records};
 ghost use Rattle.nb_engine.specs.Concluding.{IsTurn};
-ghost use Rattle.nb_engine.specs.Advance.{EndsAtOnce, HasCarriedOut, IsNextFetch, PutsBegun, TurnsBack, SettlesScript};
+ghost use Rattle.nb_engine.specs.Advance.{EndsAtOnce, HasCarriedOut, IsNextFetch, PutsBegun, PutsFetch, TurnsBack, SettlesScript};
 ghost use Rattle.nb_engine.specs.Handings.{IsAt};
 ghost use Rattle.nb_engine.specs.declared.stage.Stage.TheVariants as stage;
 
@@ -37,7 +37,9 @@ use crate::intent::Intent;
 use crate::objects::{begin, turn_back};
 use crate::put::{has_route, put_over, put_result};
 use crate::running::Next;
+use crate::speaker::Speaker;
 use crate::status::status_after;
+use crate::teller::Teller;
 use crate::world::own_port;
 use crate::{Client, Fetch, Handing, KeptFetch, RunningScript, Stage, Status, Turn};
 use nb_command::{CommandPlan, PlanError, plan};
@@ -269,15 +271,13 @@ impl Client {
     {
         let number = self.world.opens;
         let own_port = own_port(self.world.w, number);
-        let Ok((objects, mut desk)) = self.begin(own_port, wanted) else {
+        let Ok((objects, desk)) = self.begin(own_port, wanted) else {
             return Turn::Over(Status::NoMemory);
         };
         let Ok(fetch) = Fetch::of(self.alloc, number, objects, own_port, wanted) else {
             return Turn::Over(Status::NoMemory);
         };
-        let turn = self.go_out(script, words, wanted, fetch, &mut desk, log);
-        self.desk = Some(desk);
-        turn
+        self.go_out(script, words, wanted, fetch, desk, log)
     }
 
     /// The request of an open that was begun leaves, if there is a way to its server.
@@ -287,7 +287,7 @@ impl Client {
         words: &[Word],
         wanted: &Wanted,
         fetch: KeptFetch,
-        desk: &mut Desk,
+        mut desk: Desk,
         log: &mut Log,
     ) -> Turn
         requires words { HasCommand script self.old.world.state.table words.now }
@@ -296,8 +296,9 @@ impl Client {
         requires next { fetch ≡ fetch_for self.old.world.opens fetch.objects (own_port_of self.old.world.w self.old.world.opens) (wanted_of wanted.now) }
         requires few { fetch.objects.tftp.0 ≤ 2 * (self.old.world.opens + 1) }
         requires ports { self.old.world.net.ports ≡ [] }
-        requires begins { BeginsOpen self.old.graph fetch.objects (begun fetch.server wanted.now.file.port fetch.own_port wanted.now.file.path)
-            self.old.world.time self.old.used desk.old.made desk.old.told }
+        requires begins { BeginsOpen self.old.world.net (speaker_of fetch) self.old.graph fetch.objects
+            (begun fetch.server wanted.now.file.port fetch.own_port wanted.now.file.path) self.old.world.time self.old.used
+            desk.made.value desk.told.value }
         ensures does { (g : Objects Object) → AreNext g.book.made fetch.objects.fetch.0 fetch.objects.tftp.0 → AnswersTurn result [] (seen self.old.used self.old.world g (stage.Running script)) self.new log.old log.new }
         ensures nearer { (g : Objects Object) → IsNearer result (seen self.old.used self.old.world g (stage.Running script)) self.new }
     {
@@ -311,26 +312,28 @@ impl Client {
 
     /// Makes the objects of an open for a file, and begins its transfer from this port of the client. What they
     /// told stands on the desk that is given back with them.
-    fn begin(&mut self, own_port: u16, wanted: &Wanted) -> Result<(Download, Box<Desk>), NoMemory>
+    fn begin(&mut self, own_port: u16, wanted: &Wanted) -> Result<(Download, Desk), NoMemory>
         requires sound { HasNoObjects self.old.world.opens self.old.graph }
         requires few { self.old.world.opens < 16384 }
         requires path { is_path wanted.now.file.path ≡ true }
         ensures next { IfOk result (λ b. AreNext self.old.graph.book.made b.0.fetch.0 b.0.tftp.0) }
-        ensures begins { IfOk result (λ b. BeginsOpen self.new.graph b.0 (begun wanted.now.server wanted.now.file.port own_port wanted.now.file.path)
-            self.old.world.time self.old.used b.1.value.made b.1.value.told) }
+        ensures begins { IfOk result (λ b. BeginsOpen self.old.world.net (speaker_by self.old.world.opens wanted.now.server own_port)
+            self.new.graph b.0 (begun wanted.now.server wanted.now.file.port own_port wanted.now.file.path)
+            self.old.world.time self.old.used b.1.made.value b.1.told.value) }
         ensures same { self.new ≡ seen self.old.used self.old.world self.new.graph stage.Stopped }
     {
         self.stage = Stage::Stopped;
-        let mut desk = lent(self.alloc, self.desk.take())?;
+        let desk = lent(self.alloc, self.desk.take())?;
         let ask = Ask {
             server: wanted.server,
             port: wanted.file.port,
             own_port,
             path: wanted.file.path.as_slice(),
         };
+        let who = Speaker::by_udp(self.world.opens, wanted.server, own_port);
+        let (graph, net) = (&mut self.graph, &self.world.net);
         let now = self.world.time;
-        let objects = begin(self.alloc, &mut self.graph, self.used, &ask, now, &mut desk)?;
-        Ok((objects, desk))
+        begin(self.alloc, graph, net, &who, self.used, &ask, now, desk)
     }
 
     /// Puts that a command begins, its fetch, and what the open's objects told.
@@ -340,19 +343,14 @@ impl Client {
         words: &[Word],
         wanted: &Wanted,
         fetch: &Fetch,
-        desk: &mut Desk,
+        desk: &Desk,
         log: &mut Log,
     )
         requires words { IsReady script.now words.now }
         requires fits { length wanted.now.file.path ≤ 1024 }
         requires own { fetch.now.own_port ≡ own_port_of self.now.world.w self.now.world.opens }
-        requires made { (ns : List Notice) × (desk.old.made ≡ Some ns) }
-        requires told { (ns : List Notice) × (desk.old.told ≡ Some ns) }
-        ensures { (made told : List Notice) → desk.old.made ≡ Some made → desk.old.told ≡ Some told
-            → Puts log.old log.new (out_texts ((command_record script.now (shown_as true words.now) ∷ [])
-            ++ (told_records self.now.world.net (speaker_of fetch.now) made
-            ++ ((opened_record self.now.world (wanted_of wanted.now) ∷ [])
-            ++ told_records self.now.world.net (speaker_of fetch.now) told)))) }
+        ensures { PutsFetch script.now words.now self.now.world (wanted_of wanted.now) fetch.now desk.now.made.value
+            desk.now.told.value log.old log.new }
     {
         script.put_begun(true, words, log);
         self.put_open(wanted, fetch, desk, log);
@@ -365,21 +363,23 @@ impl Client {
         words: &[Word],
         wanted: &Wanted,
         fetch: KeptFetch,
-        desk: &mut Desk,
+        desk: Desk,
         log: &mut Log,
     ) -> Turn
         requires words { IsReady script words.now }
         requires own { IsNextFetch self.old.world fetch }
         requires fits { length wanted.now.file.path ≤ 1024 }
         requires ports { self.old.world.net.ports ≡ [] }
-        requires begins { BeginsOpen self.old.graph fetch.objects (begun fetch.server wanted.now.file.port fetch.own_port wanted.now.file.path)
-            self.old.world.time self.old.used desk.old.made desk.old.told }
+        requires begins { BeginsOpen self.old.world.net (speaker_of fetch) self.old.graph fetch.objects
+            (begun fetch.server wanted.now.file.port fetch.own_port wanted.now.file.path) self.old.world.time self.old.used
+            desk.made.value desk.told.value }
         ensures turn { result ≡ turn.Waiting }
         ensures puts { PutsBegun script words.now self.old.world (wanted_of wanted.now) fetch self.old.used log.old log.new [] }
         ensures after { self.new ≡ seen self.old.used (with_open self.old.world) self.old.graph (stage.Waiting (entered script) fetch) }
     {
         let open = fetch.get();
-        self.put_begun(&script, words, wanted, open, desk, log);
+        self.put_begun(&script, words, wanted, open, &desk, log);
+        self.desk = Some(desk);
         let _ = self
             .world
             .net
@@ -397,25 +397,30 @@ impl Client {
         words: &[Word],
         wanted: &Wanted,
         fetch: KeptFetch,
-        desk: &mut Desk,
+        mut desk: Desk,
         log: &mut Log,
     ) -> Turn
         requires words { IsReady script words.now }
         requires own { IsNextFetch self.old.world fetch }
         requires fits { length wanted.now.file.path ≤ 1024 }
         requires ports { self.old.world.net.ports ≡ [] }
-        requires begins { BeginsOpen self.old.graph fetch.objects (begun fetch.server wanted.now.file.port fetch.own_port wanted.now.file.path)
-            self.old.world.time self.old.used desk.old.made desk.old.told }
+        requires begins { BeginsOpen self.old.world.net (speaker_of fetch) self.old.graph fetch.objects
+            (begun fetch.server wanted.now.file.port fetch.own_port wanted.now.file.path) self.old.world.time self.old.used
+            desk.made.value desk.told.value }
         ensures { TurnsBack result script words.now (wanted_of wanted.now) fetch self.old self.new log.old log.new }
     {
         let open = fetch.get();
         let cause = Cause::from(Reason::NoRoute(open.server));
         self.stage = Stage::Stopped;
-        let (objects, now) = (open.objects, self.world.time);
-        let Ok(()) = turn_back(&mut self.graph, objects, &cause, now, &mut desk.told) else {
+        let (who, objects, now) = (open.speaker(), open.objects, self.world.time);
+        let net = &self.world.net;
+        let mut out = Teller::after(net, &who, desk.told, &mut desk.room);
+        let Ok(()) = turn_back(&mut self.graph, objects, &cause, now, &mut out) else {
             return Turn::Over(Status::NoMemory);
         };
-        self.put_begun(&script, words, wanted, open, desk, log);
+        desk.told = out.told;
+        self.put_begun(&script, words, wanted, open, &desk, log);
+        self.desk = Some(desk);
         self.give_up(script, fetch, log)
     }
 

@@ -12,7 +12,7 @@ ghost use Rattle.nb_engine.specs.Turns.{AnswersTurn, IsBusy, IsNearer, MayUse, c
 ghost use Rattle.nb_engine.specs.declared.stage.Stage.TheVariants as stage;
 
 use crate::desk::{Desk, lent};
-use crate::put::put_freed;
+use crate::put::put_told;
 use crate::talks::free_waiter;
 use crate::{Fetch, Inquiry, Stage, Status, World};
 use nb_graph::Graph;
@@ -49,7 +49,7 @@ pub struct Client {
     pub(crate) graph: Graph<Obj>,
     pub(crate) stage: Stage,
     /// What the next step works on; None before the first, and while it is lent to one.
-    pub(crate) desk: Option<Box<Desk>>,
+    pub(crate) desk: Option<Desk>,
 }
 
 impl Model for Client {
@@ -164,8 +164,8 @@ impl Client {
         ensures nothing { OnErr result (log.new ≡ log.old) }
         ensures stopped { self.new.stage ≡ stage.Stopped }
     {
-        let mut desk = self.shut(fetch)?;
-        self.put_shut(fetch, &mut desk, log);
+        let desk = self.shut(fetch)?;
+        self.put_shut(fetch, &desk, log);
         Ok(())
     }
 
@@ -176,8 +176,8 @@ impl Client {
         ensures nothing { OnErr result (log.new ≡ log.old) }
         ensures stopped { self.new.stage ≡ stage.Stopped }
     {
-        let mut desk = self.shut_inquiry(inquiry)?;
-        self.put_shut_inquiry(inquiry, &mut desk, log);
+        let desk = self.shut_inquiry(inquiry)?;
+        self.put_shut_inquiry(inquiry, &desk, log);
         Ok(())
     }
 
@@ -190,8 +190,10 @@ impl Client {
         ensures stopped { self.new.stage ≡ stage.Stopped }
     {
         let mut desk = lent(self.alloc, self.desk.take())?;
-        free_waiter(&mut self.graph, Some(waiter), &mut desk.freed)?;
-        put_freed(&self.world.net, &mut desk, log);
+        let net = &self.world.net;
+        let (freed, room) = (desk.freed, &mut desk.room);
+        let freed = free_waiter(&mut self.graph, Some(waiter), net, freed, room)?;
+        put_told(&freed, log);
         Ok(())
     }
 }

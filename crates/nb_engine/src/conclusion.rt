@@ -80,6 +80,8 @@ fn store(
     ensures refused { OnErr result (images.new ≡ images.old) }
     ensures concludes { IfOk result (λ c. IsConclusion c (taken_in fetch.now.boots (image_of fetch.now.name body [] fetch.now.uri) images.old) images.old images.new) }
 {
+    // The hand-off rests on it that no image is longer than a body can be.
+    let _len = body.len();
     match images.add(
         alloc,
         fetch.name.as_slice(),

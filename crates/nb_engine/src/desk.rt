@@ -1,6 +1,5 @@
 ghost use Rattle.std.specs.Prelude.{◌≡◌, []};
 
-use crate::outlet::Outlet;
 use crate::spelled::Spelled;
 use nb_record::NoMemory;
 use nb_wire::Out;
@@ -15,19 +14,17 @@ pub struct Room {
     bytes: [u8; MAX_FRAME],
 }
 
-/// What a client works on: what the graph told, and the room for its frames. It is made once, and lent to
+/// What a client works on: what the graph told, spelled, and the room for its frames. It is made once, and lent to
 /// each record's step.
 #[derive(Drop)]
 pub struct Desk {
+    pub(crate) room: Box<Room>,
     /// What was told of objects that were made.
-    pub(crate) made: Outlet,
+    pub(crate) made: Box<Spelled>,
     /// What was told since.
-    pub(crate) told: Outlet,
+    pub(crate) told: Box<Spelled>,
     /// What was told of what was let go after the end of an open.
-    pub(crate) freed: Outlet,
-    /// What was spelled of what a fetch's objects told. None before the first, and while it is lent.
-    pub(crate) spelled: Option<Box<Spelled>>,
-    pub(crate) room: Room,
+    pub(crate) freed: Box<Spelled>,
 }
 
 impl Room {
@@ -41,30 +38,26 @@ impl Room {
 }
 
 impl Desk {
-    fn new(alloc: Global) -> Result<Desk, NoMemory> {
-        Ok(Desk {
-            made: Outlet::new(alloc)?,
-            told: Outlet::new(alloc)?,
-            freed: Outlet::new(alloc)?,
-            spelled: None,
-            room: Room {
-                bytes: [0; MAX_FRAME],
-            },
-        })
-    }
-
-    /// A new one in its place. That is done once in a run, and stands apart.
+    /// A new one. That is done once in a run, and stands apart.
     #[inline(never)]
-    fn boxed(alloc: Global) -> Result<Box<Desk>, NoMemory> {
-        Ok(Box::new(alloc, Desk::new(alloc)?)?)
+    fn new(alloc: Global) -> Result<Desk, NoMemory> {
+        let room = Room {
+            bytes: [0; MAX_FRAME],
+        };
+        Ok(Desk {
+            room: Box::new(alloc, room)?,
+            made: Spelled::boxed(alloc)?,
+            told: Spelled::boxed(alloc)?,
+            freed: Spelled::boxed(alloc)?,
+        })
     }
 }
 
 /// The desk that was kept, or a new one.
 #[inline(always)]
-pub fn lent(alloc: Global, kept: Option<Box<Desk>>) -> Result<Box<Desk>, NoMemory> {
+pub fn lent(alloc: Global, kept: Option<Desk>) -> Result<Desk, NoMemory> {
     match kept {
         Some(desk) => Ok(desk),
-        None => Desk::boxed(alloc),
+        None => Desk::new(alloc),
     }
 }

@@ -2,7 +2,7 @@ ghost use Rattle.std.specs.Prelude.{◌≡◌, ◌≤◌, length, IfOk};
 ghost use Rattle.nb_engine.specs.CommandWords.{wanted_of};
 ghost use Rattle.nb_engine.specs.Fetches.{fetch_for, speaker_of};
 
-use crate::speaker::{Carrier, Speaker};
+use crate::speaker::Speaker;
 use crate::{KeptFetch, Wanted};
 use nb_opens::Download;
 use nb_record::NoMemory;
@@ -61,11 +61,6 @@ impl Fetch {
     pub fn speaker(&self) -> Speaker
         ensures { result ≡ speaker_of self.now }
     {
-        Speaker {
-            number: self.number,
-            carrier: Carrier::Udp,
-            server: self.server,
-            own_port: self.own_port,
-        }
+        Speaker::by_udp(self.number, self.server, self.own_port)
     }
 }

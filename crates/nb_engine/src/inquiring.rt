@@ -13,8 +13,8 @@ ghost use Rattle.nb_engine.specs.declared.stage.Stage.TheVariants as stage;
 ghost use Rattle.nb_engine.specs.CommandWords.{IsForInquiry};
 ghost use Rattle.nb_engine.specs.Effects.{shown_as};
 ghost use Rattle.nb_opens.specs.Graphs.{traced};
-ghost use Rattle.nb_engine.specs.Inquiries.{beside_freed_events, freed_beside, query_of, talker_of, BeginsTalk, IsBackedBy, IsNextObject};
-ghost use Rattle.nb_engine.specs.Inquiring.{CanAsk, HasIntended, IsNextInquiry, PutsInquiry, TurnsInquiryBack};
+ghost use Rattle.nb_engine.specs.Inquiries.{beside_freed_events, query_of, talker_of, BeginsTalk, IsBackedBy, IsNextObject};
+ghost use Rattle.nb_engine.specs.Inquiring.{CanAsk, HasIntended, IsNextInquiry, PutsAsking, TurnsInquiryBack};
 ghost use Rattle.nb_engine.specs.Lones.{lone_for, open_told, talk_for, with_lone};
 ghost use Rattle.nb_engine.specs.Machine.{command_record, no_route};
 ghost use Rattle.nb_engine.specs.NextCommand.{HasCommand, IsReady};
@@ -30,8 +30,10 @@ use crate::desk::{Desk, lent};
 use crate::inquiry::{DHCP_SERVER, DNS_SERVER, Inquiry, KeptInquiry, Query};
 use crate::intent::Intent;
 use crate::kinds::{DHCP, DNS, PING};
-use crate::put::{has_route, put_freed, put_over, put_result, put_told};
+use crate::put::{has_route, put_over, put_result, put_told};
+use crate::speaker::Speaker;
 use crate::talks::{begin_beside, begin_talk, free_waiter, turn_alone_back};
+use crate::teller::Teller;
 use crate::{Client, RunningScript, Stage, Status, Turn};
 use nb_command::CommandPlan;
 use nb_opens::{Alone, Waiter};
@@ -104,17 +106,15 @@ impl Client {
             → AnswersTurn result [] (seen self.old.used w self.old.graph (stage.Running script)) self.new log.old log.new
             × IsNearer result (seen self.old.used w self.old.graph (stage.Running script)) self.new }
     {
-        let Ok((inquiry, mut desk)) = self.begin_inquiry(query) else {
+        let Ok((inquiry, desk)) = self.begin_inquiry(query) else {
             return Turn::Over(Status::NoMemory);
         };
-        let turn = self.send_out(script, words, inquiry, &mut desk, log);
-        self.desk = Some(desk);
-        turn
+        self.send_out(script, words, inquiry, desk, log)
     }
 
     /// Makes the object of an open for a query, and asks this of it. What it told stands on the desk that is given back
     /// with the inquiry.
-    fn begin_inquiry(&mut self, query: Query) -> Result<(KeptInquiry, Box<Desk>), NoMemory>
+    fn begin_inquiry(&mut self, query: Query) -> Result<(KeptInquiry, Desk), NoMemory>
         requires sound { HasNoObjects self.old.world.opens self.old.graph }
         requires w { self.old.world.w < 16384 }
         requires few { self.old.world.opens < 16384 }
@@ -123,14 +123,14 @@ impl Client {
         ensures next { IfOk result (λ b. IsNextInquiry self.old.world b.0) }
         ensures serial { IfOk result (λ b. IsNextObject b.0.waiter self.old.graph.book.made b.0.object.object.0) }
         ensures backed { IfOk result (λ b. IsBackedBy (query_of query) b.0.waiter) }
-        ensures begins { IfOk result (λ b. BeginsTalk b.0.waiter self.new.graph b.0.object.object.0 (talk_for self.old.world (query_of query))
-            self.old.world.time self.old.used b.1.value.made b.1.value.told) }
+        ensures begins { IfOk result (λ b. BeginsTalk self.old.world.net b.0.speaker b.0.waiter self.new.graph b.0.object.object.0
+            (talk_for self.old.world (query_of query)) self.old.world.time self.old.used b.1.made.value b.1.told.value) }
         ensures same { self.new ≡ seen self.old.used self.old.world self.new.graph stage.Stopped }
     {
         self.stage = Stage::Stopped;
-        let mut desk = lent(self.alloc, self.desk.take())?;
-        let (waiter, object) = self.begin_objects(&query, &mut desk)?;
+        let desk = lent(self.alloc, self.desk.take())?;
         let speaker = self.world.speaker(&query);
+        let (waiter, object, desk) = self.begin_objects(&query, &speaker, desk)?;
         let inquiry = KeptInquiry::of(
             self.alloc,
             Inquiry {
@@ -147,8 +147,9 @@ impl Client {
     fn begin_objects(
         &mut self,
         query: &Query,
-        desk: &mut Desk,
-    ) -> Result<(Option<Waiter>, Alone), NoMemory>
+        who: &Speaker,
+        desk: Desk,
+    ) -> Result<(Option<Waiter>, Alone, Desk), NoMemory>
         requires stands { self.old.stage ≡ stage.Stopped }
         requires empty { HasNoObjects self.old.world.opens self.old.graph }
         requires w { self.old.world.w < 16384 }
@@ -156,20 +157,25 @@ impl Client {
         requires can { CanAsk query.now }
         ensures serial { IfOk result (λ b. IsNextObject b.0 self.old.graph.book.made b.1.object.0) }
         ensures backed { IfOk result (λ b. IsBackedBy (query_of query.now) b.0) }
-        ensures begins { IfOk result (λ b. BeginsTalk b.0 self.new.graph b.1.object.0 (talk_for self.old.world (query_of query.now))
-            self.old.world.time self.old.used desk.new.made desk.new.told) }
+        ensures begins { IfOk result (λ b. BeginsTalk self.old.world.net who.now b.0 self.new.graph b.1.object.0
+            (talk_for self.old.world (query_of query.now)) self.old.world.time self.old.used b.2.made.value b.2.told.value) }
         ensures same { self.new ≡ seen self.old.used self.old.world self.new.graph stage.Stopped }
     {
         let (alloc, rec, now) = (self.alloc, self.used, self.world.time);
         let opening = self.world.opening(query);
-        let graph = &mut self.graph;
+        let (graph, net) = (&mut self.graph, &self.world.net);
         match query {
             Query::Host { errand, .. } => {
                 let waits = errand.waiter();
-                let (waiter, object) = begin_beside(alloc, graph, rec, waits, &opening, now, desk)?;
-                Ok((Some(waiter), object))
+                let (waiter, object, desk) = begin_beside(
+                    alloc, graph, net, who, rec, waits, &opening, now, desk,
+                )?;
+                Ok((Some(waiter), object, desk))
             }
-            _ => Ok((None, begin_talk(alloc, graph, rec, &opening, now, desk)?)),
+            _ => {
+                let (object, desk) = begin_talk(alloc, graph, net, who, rec, &opening, now, desk)?;
+                Ok((None, object, desk))
+            }
         }
     }
 
@@ -179,7 +185,7 @@ impl Client {
         script: RunningScript,
         words: &[Word],
         inquiry: KeptInquiry,
-        desk: &mut Desk,
+        mut desk: Desk,
         log: &mut Log,
     ) -> Turn
         requires words { IsReady script words.now }
@@ -189,8 +195,8 @@ impl Client {
         requires backed { IsBackedBy (query_of inquiry.query) inquiry.waiter }
         requires serial { inquiry.object.object.0 ≤ 2 * (self.old.world.opens + 1) }
         requires ports { self.old.world.net.ports ≡ [] }
-        requires begins { BeginsTalk inquiry.waiter self.old.graph inquiry.object.object.0 (talk_for self.old.world (query_of inquiry.query))
-            self.old.world.time self.old.used desk.old.made desk.old.told }
+        requires begins { BeginsTalk self.old.world.net inquiry.speaker inquiry.waiter self.old.graph inquiry.object.object.0
+            (talk_for self.old.world (query_of inquiry.query)) self.old.world.time self.old.used desk.made.value desk.told.value }
         ensures { (w : WorldValue) (g : Objects Object) → HasIntended w (query_of inquiry.query) script words.now self.old
             → IsNextObject inquiry.waiter g.book.made inquiry.object.object.0
             → AnswersTurn result [] (seen self.old.used w g (stage.Running script)) self.new log.old log.new
@@ -210,23 +216,19 @@ impl Client {
         script: &RunningScript,
         words: &[Word],
         inquiry: &Inquiry,
-        desk: &mut Desk,
+        desk: &Desk,
         log: &mut Log,
     )
         requires words { IsReady script.now words.now }
         requires next { IsNextInquiry self.now.world inquiry.now }
         requires can { CanAsk inquiry.now.query }
-        requires made { (ns : List Notice) × (desk.old.made ≡ Some ns) }
-        requires told { (ns : List Notice) × (desk.old.told ≡ Some ns) }
-        ensures puts { (made told : List Notice) → desk.old.made ≡ Some made → desk.old.told ≡ Some told
-            → PutsInquiry script.now words.now self.now.world inquiry.now log.old log.new made told }
-        ensures freed { desk.new.freed ≡ desk.old.freed }
+        ensures { PutsAsking script.now words.now self.now.world inquiry.now desk.now.made.value desk.now.told.value
+            log.old log.new }
     {
         script.put_begun(true, words, log);
-        let who = inquiry.speaker;
-        put_told(&desk.made, &self.world.net, &who, &mut desk.room, log);
+        put_told(&desk.made, log);
         put_inquired(inquiry, log);
-        put_told(&desk.told, &self.world.net, &who, &mut desk.room, log);
+        put_told(&desk.told, log);
     }
 
     /// The first message has left: the script's command waits for this inquiry, whose port is bound.
@@ -235,7 +237,7 @@ impl Client {
         mut script: RunningScript,
         words: &[Word],
         inquiry: KeptInquiry,
-        desk: &mut Desk,
+        desk: Desk,
         log: &mut Log,
     ) -> Turn
         requires words { IsReady script words.now }
@@ -245,15 +247,15 @@ impl Client {
         requires backed { IsBackedBy (query_of inquiry.query) inquiry.waiter }
         requires serial { inquiry.object.object.0 ≤ 2 * (self.old.world.opens + 1) }
         requires ports { self.old.world.net.ports ≡ [] }
-        requires begins { BeginsTalk inquiry.waiter self.old.graph inquiry.object.object.0 (talk_for self.old.world (query_of inquiry.query))
-            self.old.world.time self.old.used desk.old.made desk.old.told }
+        requires begins { BeginsTalk self.old.world.net inquiry.speaker inquiry.waiter self.old.graph inquiry.object.object.0
+            (talk_for self.old.world (query_of inquiry.query)) self.old.world.time self.old.used desk.made.value desk.told.value }
         ensures turn { result ≡ turn.Waiting }
-        ensures puts { (made told : List Notice) → desk.old.made ≡ Some made → desk.old.told ≡ Some told
-            → PutsInquiry script words.now self.old.world inquiry log.old log.new made told }
+        ensures puts { PutsAsking script words.now self.old.world inquiry desk.made.value desk.told.value log.old log.new }
         ensures after { self.new ≡ seen self.old.used (with_lone self.old.world (talk_for self.old.world (query_of inquiry.query))) self.old.graph
             (stage.Asking (entered script) inquiry) }
     {
-        self.put_inquiry(&script, words, inquiry.get(), desk, log);
+        self.put_inquiry(&script, words, inquiry.get(), &desk, log);
+        self.desk = Some(desk);
         let who = inquiry.get().speaker;
         let _ = self
             .world
@@ -271,7 +273,7 @@ impl Client {
         script: RunningScript,
         words: &[Word],
         inquiry: KeptInquiry,
-        desk: &mut Desk,
+        mut desk: Desk,
         log: &mut Log,
     ) -> Turn
         requires words { IsReady script words.now }
@@ -281,21 +283,26 @@ impl Client {
         requires backed { IsBackedBy (query_of inquiry.query) inquiry.waiter }
         requires serial { inquiry.object.object.0 ≤ 2 * (self.old.world.opens + 1) }
         requires ports { self.old.world.net.ports ≡ [] }
-        requires begins { BeginsTalk inquiry.waiter self.old.graph inquiry.object.object.0 (talk_for self.old.world (query_of inquiry.query))
-            self.old.world.time self.old.used desk.old.made desk.old.told }
+        requires begins { BeginsTalk self.old.world.net inquiry.speaker inquiry.waiter self.old.graph inquiry.object.object.0
+            (talk_for self.old.world (query_of inquiry.query)) self.old.world.time self.old.used desk.made.value desk.told.value }
         ensures { TurnsInquiryBack result script words.now inquiry self.old self.new log.old log.new }
     {
         let turned = inquiry.get();
         let cause = Cause::from(Reason::NoRoute(turned.speaker.server));
         self.stage = Stage::Stopped;
-        let (object, now) = (turned.object, self.world.time);
-        let Ok(()) = turn_alone_back(&mut self.graph, object, &cause, now, &mut desk.told) else {
+        let (who, object, now) = (turned.speaker, turned.object, self.world.time);
+        let net = &self.world.net;
+        let mut out = Teller::after(net, &who, desk.told, &mut desk.room);
+        let Ok(()) = turn_alone_back(&mut self.graph, object, &cause, now, &mut out) else {
             return Turn::Over(Status::NoMemory);
         };
-        let Ok(()) = free_waiter(&mut self.graph, turned.waiter, &mut desk.freed) else {
+        desk.told = out.told;
+        let (freed, room) = (desk.freed, &mut desk.room);
+        let Ok(freed) = free_waiter(&mut self.graph, turned.waiter, net, freed, room) else {
             return Turn::Over(Status::NoMemory);
         };
-        self.put_inquiry(&script, words, turned, desk, log);
+        desk.freed = freed;
+        self.put_inquiry(&script, words, turned, &desk, log);
         self.give_inquiry_up(script, turned, cause, desk, log)
     }
 
@@ -305,7 +312,7 @@ impl Client {
         mut script: RunningScript,
         inquiry: &Inquiry,
         cause: Cause,
-        desk: &mut Desk,
+        desk: Desk,
         log: &mut Log,
     ) -> Turn
         requires early { script.begun < 4096 }
@@ -313,14 +320,15 @@ impl Client {
         requires ports { self.old.world.net.ports ≡ [] }
         requires few { self.old.world.opens < 16384 }
         requires empty { HasNoObjects (self.old.world.opens + 1) self.old.graph }
-        requires freed { desk.old.freed ≡ Some (freed_beside inquiry.now.waiter) }
+        requires freed { desk.freed.value.text ≡ out_texts (traced (beside_freed_events inquiry.now.waiter)) }
         ensures turn { result ≡ turn.More }
         ensures puts { Puts log.old log.new (out_texts (ended inquiry.now.speaker.number cause
             ∷ (traced (beside_freed_events inquiry.now.waiter) ++ (result_record cause ∷ [])))) }
         ensures after { self.new ≡ seen self.old.used (with_ended_open self.old.world) self.old.graph (stage.Running (further script cause)) }
     {
         put_over(inquiry.speaker.number, cause, log);
-        put_freed(&self.world.net, desk, log);
+        put_told(&desk.freed, log);
+        self.desk = Some(desk);
         put_result(cause, log);
         self.stage = Stage::Stopped;
         self.world.opens += 1;

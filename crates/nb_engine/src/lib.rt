@@ -21,7 +21,6 @@ mod link;
 mod objects;
 mod onward;
 mod opening;
-mod outlet;
 mod prepared;
 mod put;
 mod replying;

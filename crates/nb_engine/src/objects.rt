@@ -1,85 +1,105 @@
 ghost use Rattle.std.specs.Prelude.{◌≡◌, ◌≤◌, ◌+◌, ◌++◌, List, [], ℕ, length, true, Option, Some, IfOk, OnOk};
-ghost use Rattle.nb_ledger.specs.declared.event.Way.TheVariants as way;
-ghost use Rattle.nb_graph.specs.Whole.{port_at};
+ghost use Rattle.nb_defs.specs.Records.{out_texts};
 ghost use Rattle.nb_nodes.specs.Asking.{ask_value, begun_with, is_path};
-ghost use Rattle.nb_tftp.specs.History.{came, ticked};
-ghost use Rattle.nb_tftp.specs.Received.{received};
-ghost use Rattle.nb_opens.specs.Graphs.{AreNext};
-ghost use Rattle.nb_opens.specs.Notices.{closed_notices, freed_notices, shut_notices};
+ghost use Rattle.nb_opens.specs.Graphs.{traced, AreNext};
+ghost use Rattle.nb_opens.specs.Notices.{closed_notices, freed_notices};
+ghost use Rattle.nb_opens.specs.PairEvents.{shut_events};
 ghost use Rattle.nb_opens.specs.Pairs.{HasEnded, IsDownloading, IsEmpty, IsEnded};
-ghost use Rattle.nb_terms.specs.declared.cause.Cause.{Cause as Why};
-ghost use Rattle.nb_engine.specs.Notes.{WasTold};
-ghost use Rattle.nb_engine.specs.Objects.{BeginsCompleted, BeginsOpen, IsFile, TellsMore};
 ghost use Rattle.nb_opens.specs.Waiters.{waiter_number, waiter_serial, Waits};
+ghost use Rattle.nb_engine.specs.Objects.{BeginsCompleted, BeginsOpen, IsFile};
+ghost use Rattle.nb_engine.specs.Spelling.{IsBlank, TellsMore};
 
 use crate::desk::Desk;
-use crate::outlet::Outlet;
+use crate::speaker::Speaker;
+use crate::teller::Teller;
 use nb_graph::Graph;
 use nb_image::Body;
 use nb_nodes::{Ask, Obj};
 use nb_opens::{Download, Waiter};
 use nb_record::{Cause, NoMemory};
+use nb_stack::Stack;
 use std::alloc::Global;
 
-/// An error where memory ran out, in the graph or in the outlet.
-pub(crate) fn whole(told: &Outlet) -> Result<(), NoMemory>
-    ensures { OnOk result ((closed : Option Why) × WasTold told.now closed) }
-{
-    match told.first_close() {
-        Ok(_) => Ok(()),
-        Err(NoMemory) => Err(NoMemory),
-    }
-}
-
-/// Makes the objects of an open on an empty graph, and begins its transfer in the record `rec`.
+/// Makes the objects of an open on an empty graph, and begins its transfer in the record `rec`. What they tell is spelled
+/// on the desk that is given back.
 pub fn begin(
     alloc: Global,
     graph: &mut Graph<Obj>,
+    net: &Stack,
+    who: &Speaker,
     rec: u32,
     ask: &Ask<'_>,
     now: u64,
-    desk: &mut Desk,
-) -> Result<Download, NoMemory>
+    desk: Desk,
+) -> Result<(Download, Desk), NoMemory>
     requires empty { IsEmpty graph.old graph.old.book.made }
     requires few { graph.old.book.made ≤ 32768 }
     requires path { is_path ask.now.path.now ≡ true }
-    ensures next { IfOk result (λ d. AreNext graph.old.book.made d.fetch.0 d.tftp.0) }
-    ensures begins { IfOk result (λ d. BeginsOpen graph.new d (begun_with (ask_value ask.now)) now rec desk.new.made desk.new.told) }
+    ensures next { IfOk result (λ b. AreNext graph.old.book.made b.0.fetch.0 b.0.tftp.0) }
+    ensures begins { IfOk result (λ b. BeginsOpen net.now who.now graph.new b.0 (begun_with (ask_value ask.now)) now rec
+        b.1.made.value b.1.told.value) }
 {
-    desk.made.clear();
-    desk.told.clear();
-    let objects = Download::make(alloc, graph, &mut desk.made)?;
-    whole(&desk.made)?;
-    objects.begin(graph, rec, ask, now, &mut desk.told);
-    whole(&desk.told)?;
-    Ok(objects)
+    let Desk {
+        mut room,
+        made,
+        told,
+        freed,
+    } = desk;
+    let mut out = Teller::over(net, who, made, &mut room);
+    let objects = Download::make(alloc, graph, &mut out)?;
+    let made = out.finish()?;
+    let mut out = Teller::over(net, who, told, &mut room);
+    objects.begin(graph, rec, ask, now, &mut out);
+    let told = out.finish()?;
+    let desk = Desk {
+        room,
+        made,
+        told,
+        freed,
+    };
+    Ok((objects, desk))
 }
 
 /// Makes the Tftp below a Fetch that has waited for its open, and begins the open's transfer in the record `rec`.
 pub fn begin_completed(
     alloc: Global,
     graph: &mut Graph<Obj>,
+    net: &Stack,
+    who: &Speaker,
     waiter: Waiter,
     rec: u32,
     ask: &Ask<'_>,
     now: u64,
-    desk: &mut Desk,
-) -> Result<Download, NoMemory>
+    desk: Desk,
+) -> Result<(Download, Desk), NoMemory>
     requires waits { Waits graph.old waiter graph.old.book.made }
     requires fetch { waiter_number waiter ≡ 1 }
     requires few { graph.old.book.made ≤ 32768 }
     requires path { is_path ask.now.path.now ≡ true }
-    ensures fetch { IfOk result (λ d. d.fetch.0 ≡ waiter_serial waiter) }
-    ensures tftp { IfOk result (λ d. d.tftp.0 ≡ graph.old.book.made + 1) }
-    ensures begins { IfOk result (λ d. BeginsCompleted graph.new d (begun_with (ask_value ask.now)) now rec desk.new.made desk.new.told) }
+    ensures fetch { IfOk result (λ b. b.0.fetch.0 ≡ waiter_serial waiter) }
+    ensures tftp { IfOk result (λ b. b.0.tftp.0 ≡ graph.old.book.made + 1) }
+    ensures begins { IfOk result (λ b. BeginsCompleted net.now who.now graph.new b.0 (begun_with (ask_value ask.now)) now rec
+        b.1.made.value b.1.told.value) }
 {
-    desk.made.clear();
-    desk.told.clear();
-    let objects = Download::complete(alloc, graph, waiter, &mut desk.made)?;
-    whole(&desk.made)?;
-    objects.begin(graph, rec, ask, now, &mut desk.told);
-    whole(&desk.told)?;
-    Ok(objects)
+    let Desk {
+        mut room,
+        made,
+        told,
+        freed,
+    } = desk;
+    let mut out = Teller::over(net, who, made, &mut room);
+    let objects = Download::complete(alloc, graph, waiter, &mut out)?;
+    let made = out.finish()?;
+    let mut out = Teller::over(net, who, told, &mut room);
+    objects.begin(graph, rec, ask, now, &mut out);
+    let told = out.finish()?;
+    let desk = Desk {
+        room,
+        made,
+        told,
+        freed,
+    };
+    Ok((objects, desk))
 }
 
 /// The user closes the open with these objects with a cause, and lets them go. An error where memory
@@ -89,16 +109,16 @@ pub fn turn_back(
     objects: Download,
     cause: &Cause,
     now: u64,
-    told: &mut Outlet,
+    out: &mut Teller<'_>,
 ) -> Result<(), NoMemory>
     requires going { IsDownloading graph.old objects.fetch.0 objects.tftp.0 }
     ensures empty { IsEmpty graph.new objects.tftp.0 }
-    ensures told { OnOk result (TellsMore told.old told.new
+    ensures told { OnOk result (TellsMore out.old.net.now out.old.who.now out.old.told.value out.new.told.value
         (closed_notices objects.fetch.0 objects.tftp.0 cause.now ++ freed_notices objects.fetch.0 objects.tftp.0)) }
 {
-    objects.close(graph, cause, now, told);
-    objects.release(graph, told);
-    whole(told)
+    objects.close(graph, cause, now, out);
+    objects.release(graph, out);
+    out.check()
 }
 
 /// Takes the file out of the objects of an open that has ended with this cause, and lets them go. No bytes where
@@ -108,18 +128,18 @@ pub fn end(
     graph: &mut Graph<Obj>,
     objects: Download,
     cause: Cause,
-    told: &mut Outlet,
+    out: &mut Teller<'_>,
 ) -> Result<Body, NoMemory>
     requires ended { IsEnded graph.old objects.fetch.0 objects.tftp.0 }
     ensures body { IfOk result (λ body. (file : Option (List ℕ)) → HasEnded graph.old objects.fetch.0 objects.tftp.0 file
         → IsFile cause file body) }
     ensures empty { IsEmpty graph.new objects.tftp.0 }
-    ensures told { OnOk result (told.new ≡ Some (freed_notices objects.fetch.0 objects.tftp.0)) }
+    ensures told { OnOk result (TellsMore out.old.net.now out.old.who.now out.old.told.value out.new.told.value
+        (freed_notices objects.fetch.0 objects.tftp.0)) }
 {
-    told.clear();
     let file = objects.harvest(graph);
-    objects.release(graph, told);
-    whole(told)?;
+    objects.release(graph, out);
+    out.check()?;
     match file {
         Some(body) => Ok(body),
         None if cause.code == 0 => Err(NoMemory),
@@ -133,13 +153,13 @@ pub fn shut(
     objects: Download,
     cause: &Cause,
     now: u64,
-    told: &mut Outlet,
+    out: &mut Teller<'_>,
 ) -> Result<(), NoMemory>
     requires going { IsDownloading graph.old objects.fetch.0 objects.tftp.0 }
+    requires blank { IsBlank out.old.told.value }
     ensures empty { IsEmpty graph.new objects.tftp.0 }
-    ensures told { OnOk result (told.new ≡ Some (shut_notices objects.fetch.0 objects.tftp.0 cause.now)) }
+    ensures told { OnOk result (out.new.told.value.text ≡ out_texts (traced (shut_events objects.fetch.0 objects.tftp.0 cause.now))) }
 {
-    told.clear();
-    objects.shut_down(graph, cause, now, told);
-    whole(told)
+    objects.shut_down(graph, cause, now, out);
+    out.check()
 }

@@ -14,10 +14,10 @@ ghost use Rattle.nb_engine.specs.declared.client.Turn.TheVariants as turn;
 ghost use Rattle.nb_engine.specs.declared.errand.Onward.TheVariants as the_onward;
 ghost use Rattle.nb_engine.specs.declared.prepared.Prepared.{Prepared as PreparedValue};
 ghost use Rattle.nb_engine.specs.declared.stage.Stage.TheVariants as stage;
-ghost use Rattle.nb_engine.specs.Advance.{IsNextFetch};
+ghost use Rattle.nb_engine.specs.Advance.{IsNextFetch, PutsOpen};
 ghost use Rattle.nb_engine.specs.CommandWords.{wanted_of, CanFetch, FitsFile};
 ghost use Rattle.nb_engine.specs.Effects.{full_opens};
-ghost use Rattle.nb_engine.specs.Fetches.{fetch_for, speaker_of};
+ghost use Rattle.nb_engine.specs.Fetches.{fetch_for, speaker_by, speaker_of};
 ghost use Rattle.nb_engine.specs.Inquiries.{query_of, BeginsWaited, IsWaiterOf};
 ghost use Rattle.nb_engine.specs.Inquiring.{CanAsk, IsNextInquiry};
 ghost use Rattle.nb_engine.specs.Lones.{open_told, talk_for, with_lone};
@@ -25,7 +25,7 @@ ghost use Rattle.nb_engine.specs.Machine.{no_route};
 ghost use Rattle.nb_engine.specs.Objects.{BeginsCompleted};
 ghost use Rattle.nb_engine.specs.Opens.{opened_record};
 ghost use Rattle.nb_engine.specs.Queries.{for_echo};
-ghost use Rattle.nb_engine.specs.Reaching.{IsWaitedFor, PutsEcho, PutsNext, TurnsEchoBack, TurnsNextBack};
+ghost use Rattle.nb_engine.specs.Reaching.{IsWaitedFor, PutsEchoing, PutsNext, TurnsEchoBack, TurnsNextBack};
 ghost use Rattle.nb_engine.specs.Running.{with_result};
 ghost use Rattle.nb_engine.specs.Seen.{HasNoObjects, IsSound, seen, standing};
 ghost use Rattle.nb_engine.specs.Talks.{fields_of};
@@ -42,8 +42,10 @@ use crate::inquiry::{Inquiry, KeptInquiry, Query};
 use crate::kinds::TFTP;
 use crate::objects::{begin_completed, turn_back};
 use crate::prepared::{KeptPrepared, Prepared};
-use crate::put::{has_route, put_freed, put_over, put_result, put_told};
+use crate::put::{has_route, put_over, put_result, put_told};
+use crate::speaker::Speaker;
 use crate::talks::{begin_waited, free_waiter, turn_alone_back};
+use crate::teller::Teller;
 use crate::world::own_port;
 use crate::{Client, Fetch, KeptFetch, RunningScript, Stage, Status, Turn};
 use nb_nodes::Ask;
@@ -87,10 +89,13 @@ impl Client {
         let Ok(mut desk) = lent(self.alloc, self.desk.take()) else {
             return Turn::Over(Status::NoMemory);
         };
-        let Ok(()) = free_waiter(&mut self.graph, Some(waiter), &mut desk.freed) else {
+        let net = &self.world.net;
+        let (freed, room) = (desk.freed, &mut desk.room);
+        let Ok(freed) = free_waiter(&mut self.graph, Some(waiter), net, freed, room) else {
             return Turn::Over(Status::NoMemory);
         };
-        put_freed(&self.world.net, &mut desk, log);
+        put_told(&freed, log);
+        desk.freed = freed;
         self.desk = Some(desk);
         put_result(full_opens(), log);
         script.end_with(full_opens());
@@ -114,15 +119,13 @@ impl Client {
     {
         let number = self.world.opens;
         let own_port = own_port(self.world.w, number);
-        let Ok((objects, mut desk)) = self.begin_next(waiter, own_port, wanted) else {
+        let Ok((objects, desk)) = self.begin_next(waiter, own_port, wanted) else {
             return Turn::Over(Status::NoMemory);
         };
         let Ok(fetch) = Fetch::of(self.alloc, number, objects, own_port, wanted) else {
             return Turn::Over(Status::NoMemory);
         };
-        let turn = self.go_out_next(script, wanted, fetch, &mut desk, log);
-        self.desk = Some(desk);
-        turn
+        self.go_out_next(script, wanted, fetch, desk, log)
     }
 
     /// Makes the other object of the open, and begins its transfer from this port of the client. What they told stands on
@@ -132,28 +135,30 @@ impl Client {
         waiter: Waiter,
         own_port: u16,
         wanted: &Wanted,
-    ) -> Result<(Download, Box<Desk>), NoMemory>
+    ) -> Result<(Download, Desk), NoMemory>
         requires waits { IsWaitedFor waiter self.old.world.opens self.old.graph }
         requires kind { IsWaiterOf waiter_kind.Fetch waiter }
         requires few { self.old.world.opens < 16384 }
         requires path { is_path wanted.now.file.path ≡ true }
         ensures fetch { IfOk result (λ b. b.0.fetch.0 ≡ waiter_serial waiter) }
         ensures tftp { IfOk result (λ b. b.0.tftp.0 ≡ self.old.graph.book.made + 1) }
-        ensures begins { IfOk result (λ b. BeginsCompleted self.new.graph b.0 (begun wanted.now.server wanted.now.file.port own_port wanted.now.file.path)
-            self.old.world.time self.old.used b.1.value.made b.1.value.told) }
+        ensures begins { IfOk result (λ b. BeginsCompleted self.old.world.net (speaker_by self.old.world.opens wanted.now.server own_port)
+            self.new.graph b.0 (begun wanted.now.server wanted.now.file.port own_port wanted.now.file.path)
+            self.old.world.time self.old.used b.1.made.value b.1.told.value) }
         ensures same { self.new ≡ seen self.old.used self.old.world self.new.graph stage.Stopped }
     {
         self.stage = Stage::Stopped;
-        let mut desk = lent(self.alloc, self.desk.take())?;
+        let desk = lent(self.alloc, self.desk.take())?;
         let ask = Ask {
             server: wanted.server,
             port: wanted.file.port,
             own_port,
             path: wanted.file.path.as_slice(),
         };
+        let who = Speaker::by_udp(self.world.opens, wanted.server, own_port);
         let (alloc, rec, now) = (self.alloc, self.used, self.world.time);
-        let objects = begin_completed(alloc, &mut self.graph, waiter, rec, &ask, now, &mut desk)?;
-        Ok((objects, desk))
+        let (graph, net) = (&mut self.graph, &self.world.net);
+        begin_completed(alloc, graph, net, &who, waiter, rec, &ask, now, desk)
     }
 
     /// The request of the open leaves, if there is a way to its server.
@@ -162,15 +167,16 @@ impl Client {
         script: RunningScript,
         wanted: &Wanted,
         fetch: KeptFetch,
-        desk: &mut Desk,
+        mut desk: Desk,
         log: &mut Log,
     ) -> Turn
         requires file { CanFetch self.old.world.opens wanted.now }
         requires next { fetch ≡ fetch_for self.old.world.opens fetch.objects (own_port_of self.old.world.w self.old.world.opens) (wanted_of wanted.now) }
         requires few { fetch.objects.tftp.0 ≤ 2 * (self.old.world.opens + 1) }
         requires ports { self.old.world.net.ports ≡ [] }
-        requires begins { BeginsCompleted self.old.graph fetch.objects (begun fetch.server wanted.now.file.port fetch.own_port wanted.now.file.path)
-            self.old.world.time self.old.used desk.old.made desk.old.told }
+        requires begins { BeginsCompleted self.old.world.net (speaker_of fetch) self.old.graph fetch.objects
+            (begun fetch.server wanted.now.file.port fetch.own_port wanted.now.file.path) self.old.world.time self.old.used
+            desk.made.value desk.told.value }
         ensures { (k : PreparedValue) (g : Objects Object) → k.onward ≡ the_onward.File wanted.now → fetch.objects.fetch.0 ≡ waiter_serial k.waiter
             → fetch.objects.tftp.0 ≡ g.book.made + 1 → IsWaiterOf waiter_kind.Fetch k.waiter
             → AnswersTurn result [] (seen self.old.used self.old.world g (stage.Reaching script k)) self.new log.old log.new
@@ -185,20 +191,15 @@ impl Client {
     }
 
     /// Puts the open of a fetch, between what its objects told.
-    pub(crate) fn put_open(&self, wanted: &Wanted, fetch: &Fetch, desk: &mut Desk, log: &mut Log)
+    pub(crate) fn put_open(&self, wanted: &Wanted, fetch: &Fetch, desk: &Desk, log: &mut Log)
         requires fits { length wanted.now.file.path ≤ 1024 }
         requires own { fetch.now.own_port ≡ own_port_of self.now.world.w self.now.world.opens }
-        requires made { (ns : List Notice) × (desk.old.made ≡ Some ns) }
-        requires told { (ns : List Notice) × (desk.old.told ≡ Some ns) }
-        ensures { (made told : List Notice) → desk.old.made ≡ Some made → desk.old.told ≡ Some told
-            → Puts log.old log.new (out_texts (told_records self.now.world.net (speaker_of fetch.now) made
-            ++ ((opened_record self.now.world (wanted_of wanted.now) ∷ [])
-            ++ told_records self.now.world.net (speaker_of fetch.now) told))) }
+        ensures { PutsOpen self.now.world (wanted_of wanted.now) fetch.now desk.now.made.value desk.now.told.value
+            log.old log.new }
     {
-        let who = fetch.speaker();
-        put_told(&desk.made, &self.world.net, &who, &mut desk.room, log);
+        put_told(&desk.made, log);
         self.put_opened(wanted, fetch.own_port, log);
-        put_told(&desk.told, &self.world.net, &who, &mut desk.room, log);
+        put_told(&desk.told, log);
     }
 
     /// Puts the open.
@@ -223,20 +224,22 @@ impl Client {
         script: RunningScript,
         wanted: &Wanted,
         fetch: KeptFetch,
-        desk: &mut Desk,
+        desk: Desk,
         log: &mut Log,
     ) -> Turn
         requires own { IsNextFetch self.old.world fetch }
         requires fits { length wanted.now.file.path ≤ 1024 }
         requires ports { self.old.world.net.ports ≡ [] }
-        requires begins { BeginsCompleted self.old.graph fetch.objects (begun fetch.server wanted.now.file.port fetch.own_port wanted.now.file.path)
-            self.old.world.time self.old.used desk.old.made desk.old.told }
+        requires begins { BeginsCompleted self.old.world.net (speaker_of fetch) self.old.graph fetch.objects
+            (begun fetch.server wanted.now.file.port fetch.own_port wanted.now.file.path) self.old.world.time self.old.used
+            desk.made.value desk.told.value }
         ensures turn { result ≡ turn.Waiting }
         ensures puts { PutsNext self.old.world (wanted_of wanted.now) fetch self.old.used log.old log.new [] }
         ensures after { self.new ≡ seen self.old.used (with_open self.old.world) self.old.graph (stage.Waiting script fetch) }
     {
         let open = fetch.get();
-        self.put_open(wanted, open, desk, log);
+        self.put_open(wanted, open, &desk, log);
+        self.desk = Some(desk);
         let _ = self
             .world
             .net
@@ -252,24 +255,29 @@ impl Client {
         script: RunningScript,
         wanted: &Wanted,
         fetch: KeptFetch,
-        desk: &mut Desk,
+        mut desk: Desk,
         log: &mut Log,
     ) -> Turn
         requires own { IsNextFetch self.old.world fetch }
         requires fits { length wanted.now.file.path ≤ 1024 }
         requires ports { self.old.world.net.ports ≡ [] }
-        requires begins { BeginsCompleted self.old.graph fetch.objects (begun fetch.server wanted.now.file.port fetch.own_port wanted.now.file.path)
-            self.old.world.time self.old.used desk.old.made desk.old.told }
+        requires begins { BeginsCompleted self.old.world.net (speaker_of fetch) self.old.graph fetch.objects
+            (begun fetch.server wanted.now.file.port fetch.own_port wanted.now.file.path) self.old.world.time self.old.used
+            desk.made.value desk.told.value }
         ensures { TurnsNextBack result script (wanted_of wanted.now) fetch self.old self.new log.old log.new }
     {
         let open = fetch.get();
         let cause = Cause::from(Reason::NoRoute(open.server));
         self.stage = Stage::Stopped;
-        let (objects, now) = (open.objects, self.world.time);
-        let Ok(()) = turn_back(&mut self.graph, objects, &cause, now, &mut desk.told) else {
+        let (who, objects, now) = (open.speaker(), open.objects, self.world.time);
+        let net = &self.world.net;
+        let mut out = Teller::after(net, &who, desk.told, &mut desk.room);
+        let Ok(()) = turn_back(&mut self.graph, objects, &cause, now, &mut out) else {
             return Turn::Over(Status::NoMemory);
         };
-        self.put_open(wanted, open, desk, log);
+        desk.told = out.told;
+        self.put_open(wanted, open, &desk, log);
+        self.desk = Some(desk);
         self.give_next_up(script, open.number, cause, log)
     }
 
@@ -311,20 +319,14 @@ impl Client {
             → AnswersTurn result [] (standing self.old (stage.Reaching script k)) self.new log.old log.new
             × IsNearer result (standing self.old (stage.Reaching script k)) self.new }
     {
-        let Ok((inquiry, mut desk)) = self.begin_echo(waiter, server) else {
+        let Ok((inquiry, desk)) = self.begin_echo(waiter, server) else {
             return Turn::Over(Status::NoMemory);
         };
-        let turn = self.send_echo(script, inquiry, &mut desk, log);
-        self.desk = Some(desk);
-        turn
+        self.send_echo(script, inquiry, desk, log)
     }
 
     /// Asks the echo of the open's object. What it told stands on the desk that is given back with the inquiry.
-    fn begin_echo(
-        &mut self,
-        waiter: Waiter,
-        server: Ip4,
-    ) -> Result<(KeptInquiry, Box<Desk>), NoMemory>
+    fn begin_echo(&mut self, waiter: Waiter, server: Ip4) -> Result<(KeptInquiry, Desk), NoMemory>
         requires waits { IsWaitedFor waiter self.old.world.opens self.old.graph }
         requires kind { IsWaiterOf waiter_kind.Ping waiter }
         requires w { self.old.world.w < 16384 }
@@ -334,8 +336,8 @@ impl Client {
         ensures can { IfOk result (λ b. CanAsk b.0.query) }
         ensures alone { IfOk result (λ b. b.0.waiter ≡ None) }
         ensures serial { IfOk result (λ b. b.0.object.object.0 ≡ waiter_serial waiter) }
-        ensures begins { IfOk result (λ b. BeginsWaited self.old.graph.book.made self.new.graph b.0.object.object.0
-            (talk_for self.old.world (query_of b.0.query)) self.old.world.time self.old.used b.1.value.told) }
+        ensures begins { IfOk result (λ b. BeginsWaited self.old.world.net b.0.speaker self.old.graph.book.made self.new.graph
+            b.0.object.object.0 (talk_for self.old.world (query_of b.0.query)) self.old.world.time self.old.used b.1.told.value) }
         ensures same { self.new ≡ seen self.old.used self.old.world self.new.graph stage.Stopped }
     {
         self.stage = Stage::Stopped;
@@ -343,8 +345,11 @@ impl Client {
         let (rec, now) = (self.used, self.world.time);
         let query = Query::Echo(server);
         let opening = self.world.opening(&query);
-        let object = begin_waited(&mut self.graph, waiter, rec, &opening, now, &mut desk.told)?;
         let speaker = self.world.speaker(&query);
+        let net = &self.world.net;
+        let mut out = Teller::over(net, &speaker, desk.told, &mut desk.room);
+        let object = begin_waited(&mut self.graph, waiter, rec, &opening, now, &mut out)?;
+        desk.told = out.told;
         let inquiry = KeptInquiry::of(
             self.alloc,
             Inquiry {
@@ -362,7 +367,7 @@ impl Client {
         &mut self,
         script: RunningScript,
         inquiry: KeptInquiry,
-        desk: &mut Desk,
+        mut desk: Desk,
         log: &mut Log,
     ) -> Turn
         requires few { self.old.world.opens < 16384 }
@@ -372,8 +377,8 @@ impl Client {
         requires alone { inquiry.waiter ≡ None }
         requires made { self.old.graph.book.made ≤ 2 * (self.old.world.opens + 1) }
         requires ports { self.old.world.net.ports ≡ [] }
-        requires begins { BeginsWaited self.old.graph.book.made self.old.graph inquiry.object.object.0 (talk_for self.old.world (query_of inquiry.query))
-            self.old.world.time self.old.used desk.old.told }
+        requires begins { BeginsWaited self.old.world.net inquiry.speaker self.old.graph.book.made self.old.graph inquiry.object.object.0
+            (talk_for self.old.world (query_of inquiry.query)) self.old.world.time self.old.used desk.told.value }
         ensures { (k : PreparedValue) (server : Ip4) (g : Objects Object) → k.onward ≡ the_onward.Echo server → query_of inquiry.query ≡ for_echo server.0
             → inquiry.object.object.0 ≡ waiter_serial k.waiter → self.old.graph.book.made ≡ g.book.made → IsWaiterOf waiter_kind.Ping k.waiter
             → AnswersTurn result [] (seen self.old.used self.old.world g (stage.Reaching script k)) self.new log.old log.new
@@ -388,15 +393,13 @@ impl Client {
     }
 
     /// Puts the open of an echo, and what its object told.
-    fn put_echo(&self, inquiry: &Inquiry, desk: &mut Desk, log: &mut Log)
+    fn put_echo(&self, inquiry: &Inquiry, desk: &Desk, log: &mut Log)
         requires next { IsNextInquiry self.now.world inquiry.now }
         requires can { CanAsk inquiry.now.query }
-        requires told { (ns : List Notice) × (desk.old.told ≡ Some ns) }
-        ensures { (told : List Notice) → desk.old.told ≡ Some told → PutsEcho self.now.world inquiry.now log.old log.new told }
+        ensures { PutsEchoing self.now.world inquiry.now desk.now.told.value log.old log.new }
     {
         put_inquired(inquiry, log);
-        let room = &mut desk.room;
-        put_told(&desk.told, &self.world.net, &inquiry.speaker, room, log);
+        put_told(&desk.told, log);
     }
 
     /// The echo request has left: the script's command waits for this inquiry, whose identifier is bound.
@@ -404,7 +407,7 @@ impl Client {
         &mut self,
         script: RunningScript,
         inquiry: KeptInquiry,
-        desk: &mut Desk,
+        desk: Desk,
         log: &mut Log,
     ) -> Turn
         requires few { self.old.world.opens < 16384 }
@@ -414,15 +417,16 @@ impl Client {
         requires alone { inquiry.waiter ≡ None }
         requires made { self.old.graph.book.made ≤ 2 * (self.old.world.opens + 1) }
         requires ports { self.old.world.net.ports ≡ [] }
-        requires begins { BeginsWaited self.old.graph.book.made self.old.graph inquiry.object.object.0 (talk_for self.old.world (query_of inquiry.query))
-            self.old.world.time self.old.used desk.old.told }
+        requires begins { BeginsWaited self.old.world.net inquiry.speaker self.old.graph.book.made self.old.graph inquiry.object.object.0
+            (talk_for self.old.world (query_of inquiry.query)) self.old.world.time self.old.used desk.told.value }
         ensures turn { result ≡ turn.Waiting }
-        ensures puts { (told : List Notice) → desk.old.told ≡ Some told → PutsEcho self.old.world inquiry log.old log.new told }
+        ensures puts { PutsEchoing self.old.world inquiry desk.told.value log.old log.new }
         ensures after { self.new ≡ seen self.old.used (with_lone self.old.world (talk_for self.old.world (query_of inquiry.query))) self.old.graph
             (stage.Asking script inquiry) }
     {
         let asked = inquiry.get();
-        self.put_echo(asked, desk, log);
+        self.put_echo(asked, &desk, log);
+        self.desk = Some(desk);
         let who = asked.speaker;
         let _ = self
             .world
@@ -438,7 +442,7 @@ impl Client {
         &mut self,
         script: RunningScript,
         inquiry: KeptInquiry,
-        desk: &mut Desk,
+        mut desk: Desk,
         log: &mut Log,
     ) -> Turn
         requires few { self.old.world.opens < 16384 }
@@ -446,18 +450,22 @@ impl Client {
         requires can { CanAsk inquiry.query }
         requires made { self.old.graph.book.made ≤ 2 * (self.old.world.opens + 1) }
         requires ports { self.old.world.net.ports ≡ [] }
-        requires begins { BeginsWaited self.old.graph.book.made self.old.graph inquiry.object.object.0 (talk_for self.old.world (query_of inquiry.query))
-            self.old.world.time self.old.used desk.old.told }
+        requires begins { BeginsWaited self.old.world.net inquiry.speaker self.old.graph.book.made self.old.graph inquiry.object.object.0
+            (talk_for self.old.world (query_of inquiry.query)) self.old.world.time self.old.used desk.told.value }
         ensures { TurnsEchoBack result script inquiry self.old self.new log.old log.new }
     {
         let turned = inquiry.get();
         let cause = Cause::from(Reason::NoRoute(turned.speaker.server));
         self.stage = Stage::Stopped;
-        let (object, now) = (turned.object, self.world.time);
-        let Ok(()) = turn_alone_back(&mut self.graph, object, &cause, now, &mut desk.told) else {
+        let (who, object, now) = (turned.speaker, turned.object, self.world.time);
+        let net = &self.world.net;
+        let mut out = Teller::after(net, &who, desk.told, &mut desk.room);
+        let Ok(()) = turn_alone_back(&mut self.graph, object, &cause, now, &mut out) else {
             return Turn::Over(Status::NoMemory);
         };
-        self.put_echo(turned, desk, log);
+        desk.told = out.told;
+        self.put_echo(turned, &desk, log);
+        self.desk = Some(desk);
         self.give_next_up(script, turned.speaker.number, cause, log)
     }
 }

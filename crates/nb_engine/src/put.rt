@@ -1,19 +1,18 @@
-ghost use Rattle.std.specs.Prelude.{◌≡◌, ◌≤◌, ℕ, List, [], ◌∷◌, length, Option, Some};
+ghost use Rattle.std.specs.Prelude.{◌≡◌, ◌≤◌, ℕ, List, [], ◌∷◌, length};
 ghost use Rattle.nb_defs.specs.Records.{out_texts, step, ended, result as result_record};
 ghost use Rattle.nb_record.specs.Logged.{Puts};
 ghost use Rattle.nb_ledger.specs.Flat.{Notice};
+ghost use Rattle.nb_stack.specs.Client.{Client};
+ghost use Rattle.nb_engine.specs.declared.speaker.Speaker.{Speaker as TheSpeaker};
+ghost use Rattle.nb_engine.specs.Spelling.{IsSpelled};
 ghost use Rattle.nb_engine.specs.Opens.{try_records, send_records, has_route};
 ghost use Rattle.nb_engine.specs.Machine.{reply_records};
 ghost use Rattle.nb_engine.specs.Heeding.{IsReply};
-ghost use Rattle.nb_engine.specs.Notes.{AreNotesWithin, IsNoteWithin, notice_of, notices_of};
-ghost use Rattle.nb_opens.specs.declared.waiter.Waiter.{Waiter};
-ghost use Rattle.nb_opens.specs.Graphs.{traced};
-ghost use Rattle.nb_engine.specs.Inquiries.{beside_freed_events, freed_beside};
-ghost use Rattle.nb_engine.specs.Tellings.{carrier_number, datagram_of, notice_records, told_records};
+ghost use Rattle.nb_engine.specs.Tellings.{carrier_number, datagram_of, told_records};
 
-use crate::desk::{Desk, Room};
-use crate::outlet::{Note, Outlet};
+use crate::desk::Room;
 use crate::speaker::Speaker;
+use crate::spelled::Spelled;
 use nb_record::{Cause, Log, OutRec};
 use nb_stack::{Envelope, Fate, Stack};
 
@@ -102,63 +101,12 @@ pub(crate) fn put_datagram(
     log.put(&OutRec::Frame(out.written()));
 }
 
-/// Puts what a note says.
+/// Puts what the graph told of an open.
 #[inline(always)]
-fn put_note(note: &Note, bytes: &[u8], net: &Stack, who: &Speaker, room: &mut Room, log: &mut Log)
-    requires within { IsNoteWithin (length bytes.now) note.now }
-    ensures { Puts log.old log.new (out_texts (notice_records net.now who.now (notice_of bytes.now note.now))) }
+pub fn put_told(told: &Spelled, log: &mut Log)
+    ensures text { Puts log.old log.new told.now.text }
+    ensures told { (net : Client) (who : TheSpeaker) (ns : List Notice) → IsSpelled net who told.now ns
+        → Puts log.old log.new (out_texts (told_records net who ns)) }
 {
-    match *note {
-        Note::Event(event) => log.put(&OutRec::Graph(event)),
-        Note::Advance(_, _, place) => log.put(&OutRec::Advance {
-            number: who.number,
-            place,
-        }),
-        Note::Datagram(_, _, tried, port, start, end) => {
-            put_datagram(net, who, tried, port, &bytes[start..end], room, log)
-        }
-        Note::Bytes(..) | Note::Address(..) => {}
-    }
-}
-
-/// Puts what notes say, in order.
-fn put_notes(
-    notes: &[Note],
-    bytes: &[u8],
-    net: &Stack,
-    who: &Speaker,
-    room: &mut Room,
-    log: &mut Log,
-)
-    requires within { AreNotesWithin (length bytes.now) notes.now }
-    ensures { Puts log.old log.new (out_texts (told_records net.now who.now (notices_of bytes.now notes.now))) }
-{
-    for note in notes {
-        put_note(note, bytes, net, who, room, log);
-    }
-}
-
-/// Puts what the graph told of an open, of which nothing is lost: its events, and its messages.
-pub fn put_told(told: &Outlet, net: &Stack, who: &Speaker, room: &mut Room, log: &mut Log)
-    requires whole { (ns : List Notice) × (told.now ≡ Some ns) }
-    ensures { (ns : List Notice) → told.now ≡ Some ns → Puts log.old log.new (out_texts (told_records net.now who.now ns)) }
-{
-    put_notes(
-        told.notes.as_slice(),
-        told.bytes.as_slice(),
-        net,
-        who,
-        room,
-        log,
-    );
-}
-
-/// Puts what was told of what was let go after the end of an open.
-pub fn put_freed(net: &Stack, desk: &mut Desk, log: &mut Log)
-    requires freed { (v : Option Waiter) × (desk.old.freed ≡ Some (freed_beside v)) }
-    ensures { (v : Option Waiter) → desk.old.freed ≡ Some (freed_beside v)
-        → Puts log.old log.new (out_texts (traced (beside_freed_events v))) }
-{
-    let nobody = Speaker::nobody();
-    put_told(&desk.freed, net, &nobody, &mut desk.room, log);
+    log.append(told.text());
 }

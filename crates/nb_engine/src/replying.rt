@@ -11,8 +11,10 @@ ghost use Rattle.nb_ledger.specs.declared.event.Way.{Way};
 ghost use Rattle.nb_graph.specs.Whole.{Objects};
 ghost use Rattle.nb_nodes.specs.declared.obj.Obj.{Obj as Object};
 ghost use Rattle.nb_opens.specs.Alones.{arrival_said, IsOpenLoneBy, IsShutLoneBy};
-ghost use Rattle.nb_opens.specs.Companies.{beside_shut, HoldsOnly};
+ghost use Rattle.nb_opens.specs.Companies.{HoldsOnly};
+ghost use Rattle.nb_opens.specs.Graphs.{traced};
 ghost use Rattle.nb_opens.specs.Pairs.{IsEmpty};
+ghost use Rattle.nb_stack.specs.Client.{Client as NetClient};
 ghost use Rattle.nb_stack.specs.Takes.{outcome};
 ghost use Rattle.nb_engine.specs.Heeding.{Uses, IsReply};
 ghost use Rattle.nb_engine.specs.CommandWords.{onward_of, FitsOnward};
@@ -20,27 +22,29 @@ ghost use Rattle.nb_engine.specs.Errands.{Errand, onward};
 ghost use Rattle.nb_engine.specs.Inquiries.{company_of, onward_waiter, query_of, FitsQuery, IsBackedBy, IsInquiring, IsInquiryOf, IsTakenBy, IsWaiterOf};
 ghost use Rattle.nb_engine.specs.Lones.{Lone};
 ghost use Rattle.nb_engine.specs.Machine.{reply_records, stopped_cause};
-ghost use Rattle.nb_engine.specs.Notes.{WasTold};
-ghost use Rattle.nb_engine.specs.Replying.{ComesFor, DeliversMessage, EndsCommand, EndsInquiry, GoesOnward, HasBrought, IsBrought, IsFor, RepliesAs, WasBrought};
+ghost use Rattle.nb_engine.specs.Replying.{ComesFor, DeliversMessage, EndsCommand, EndsInquiry, GoesOnward, HasBrought, IsBrought, IsFor, IsMessage, RepliesAs, WasBrought};
 ghost use Rattle.nb_engine.specs.Running.{Running, anew};
 ghost use Rattle.nb_engine.specs.Seen.{IsSound, seen, standing};
+ghost use Rattle.nb_engine.specs.Spelling.{HasSpelled, IsSpelled};
 ghost use Rattle.nb_engine.specs.Talks.{message_for, message_in, time_in};
 ghost use Rattle.nb_engine.specs.Tellings.{told_records};
-ghost use Rattle.nb_engine.specs.Turns.{shut_alone};
+ghost use Rattle.nb_engine.specs.Turns.{one_shut_events, shut_alone};
+ghost use Rattle.nb_engine.specs.declared.speaker.Speaker.{Speaker as TheSpeaker};
 ghost use Rattle.nb_engine.specs.declared.stage.Stage.TheVariants as stage;
 ghost use Rattle.nb_engine.specs.declared.client.Turn.TheVariants as turn;
 
 use crate::desk::{Desk, lent};
 use crate::inquiry::{Inquiry, KeptInquiry, Query};
 use crate::prepared::{KeptPrepared, Prepared};
-use crate::put::{put_freed, put_over, put_reply, put_step, put_told};
+use crate::put::{put_over, put_reply, put_step, put_told};
 use crate::settling::{found_host, settle};
-use crate::speaker::Speaker;
+use crate::spelled::Spelled;
 use crate::talks::{end_talk, free_waiter, pass_its_time, receive_reply, shut_talk};
+use crate::teller::Teller;
 use crate::{Client, RunningScript, Stage, Status, Turn};
 use nb_opens::Arrival;
 use nb_record::{Cause, Log, NoMemory};
-use nb_stack::{Stack, Taken};
+use nb_stack::Taken;
 use nb_terms::Plain;
 use nb_wire::Ip4;
 
@@ -65,16 +69,14 @@ fn arrival_of<'a>(inquiry: &Inquiry, taken: Taken<'a>) -> Option<Arrival<'a>>
     }
 }
 
-/// Puts, in the step of this record, that the open of this speaker has ended, after what its object told.
-fn put_ended(rec: u32, net: &Stack, who: &Speaker, cause: Cause, desk: &mut Desk, log: &mut Log)
-    requires told { (ns : List Notice) × (desk.old.told ≡ Some ns) }
-    ensures puts { (ns : List Notice) → desk.old.told ≡ Some ns
-        → Puts log.old log.new (out_texts (step rec ∷ (told_records net.now who.now ns ++ (ended who.now.number cause ∷ [])))) }
-    ensures freed { desk.new.freed ≡ desk.old.freed }
+/// Puts, in the step of this record, that the open of this number has ended, after what its object told.
+fn put_ended(rec: u32, number: u16, cause: Cause, told: &Spelled, log: &mut Log)
+    ensures { (net : NetClient) (who : TheSpeaker) (ns : List Notice) → IsSpelled net who told.now ns
+        → Puts log.old log.new (out_texts (step rec ∷ (told_records net who ns ++ (ended number cause ∷ [])))) }
 {
     put_step(rec, log);
-    put_told(&desk.told, net, who, &mut desk.room, log);
-    put_over(who.number, cause, log);
+    put_told(told, log);
+    put_over(number, cause, log);
 }
 
 /// What is asked next, of the server whose address was found, with what has waited for that.
@@ -110,13 +112,11 @@ impl Client {
         requires sound { IsSound self.old.used self.old.world self.old.graph (stage.Asking script inquiry) }
         ensures { Uses result (defs.frame bytes.now) (standing self.old (stage.Asking script inquiry)) self.new log.old log.new }
     {
-        let Ok(mut desk) = lent(self.alloc, self.desk.take()) else {
+        let Ok(desk) = lent(self.alloc, self.desk.take()) else {
             return Turn::Over(Status::NoMemory);
         };
         script.begin_step();
-        let turn = self.take_for(script, inquiry, bytes, &mut desk, log);
-        self.desk = Some(desk);
-        turn
+        self.take_for(script, inquiry, bytes, desk, log)
     }
 
     /// A frame arrives, while this desk is lent.
@@ -125,7 +125,7 @@ impl Client {
         script: RunningScript,
         inquiry: KeptInquiry,
         bytes: &[u8],
-        desk: &mut Desk,
+        mut desk: Desk,
         log: &mut Log,
     ) -> Turn
         requires valid { IsFrameRecord bytes.now }
@@ -136,7 +136,11 @@ impl Client {
         let taken = self.world.net.take(bytes, &mut reply);
         match arrival_of(inquiry.get(), taken) {
             Some(arrival) => self.take_reply(script, inquiry, &arrival, desk, log),
-            None => self.pass_it_by(script, inquiry, reply.written(), log),
+            None => {
+                let turn = self.pass_it_by(script, inquiry, reply.written(), log);
+                self.desk = Some(desk);
+                turn
+            }
         }
     }
 
@@ -166,7 +170,7 @@ impl Client {
         script: RunningScript,
         inquiry: KeptInquiry,
         arrival: &Arrival<'_>,
-        desk: &mut Desk,
+        mut desk: Desk,
         log: &mut Log,
     ) -> Turn
         requires short { length arrival.now.body.now ≤ 65535 }
@@ -176,16 +180,12 @@ impl Client {
             (standing self.old (stage.Asking script inquiry)) self.new log.old log.new }
     {
         self.stage = Stage::Stopped;
-        let object = inquiry.get().object;
-        let now = self.world.time;
-        receive_reply(
-            &mut self.graph,
-            object,
-            self.used,
-            arrival,
-            now,
-            &mut desk.told,
-        );
+        let asked = inquiry.get();
+        let (who, net) = (asked.speaker, &self.world.net);
+        let mut out = Teller::over(net, &who, desk.told, &mut desk.room);
+        let (object, rec, now) = (asked.object, self.used, self.world.time);
+        receive_reply(&mut self.graph, object, rec, arrival, now, &mut out);
+        desk.told = out.told;
         match desk.told.first_close() {
             Ok(closed) => self.come_of(script, inquiry, closed, desk, log),
             Err(NoMemory) => Turn::Over(Status::NoMemory),
@@ -206,14 +206,12 @@ impl Client {
         requires early { self.old.world.time + 60000 ≤ 60000 * self.old.used }
         ensures { Uses result (defs.tick ms) (standing self.old (stage.Asking script inquiry)) self.new log.old log.new }
     {
-        let Ok(mut desk) = lent(self.alloc, self.desk.take()) else {
+        let Ok(desk) = lent(self.alloc, self.desk.take()) else {
             return Turn::Over(Status::NoMemory);
         };
         self.world.time += u64::from(ms);
         script.begin_step();
-        let turn = self.let_time_come(script, inquiry, &mut desk, log);
-        self.desk = Some(desk);
-        turn
+        self.let_time_come(script, inquiry, desk, log)
     }
 
     /// A time comes to the inquiry.
@@ -221,7 +219,7 @@ impl Client {
         &mut self,
         script: RunningScript,
         inquiry: KeptInquiry,
-        desk: &mut Desk,
+        mut desk: Desk,
         log: &mut Log,
     ) -> Turn
         requires sound { IsSound self.old.used self.old.world self.old.graph (stage.Asking script inquiry) }
@@ -229,8 +227,11 @@ impl Client {
             (standing self.old (stage.Asking script inquiry)) self.new log.old log.new }
     {
         self.stage = Stage::Stopped;
-        let object = inquiry.get().object;
-        pass_its_time(&mut self.graph, object, self.world.time, &mut desk.told);
+        let asked = inquiry.get();
+        let (who, net) = (asked.speaker, &self.world.net);
+        let mut out = Teller::over(net, &who, desk.told, &mut desk.room);
+        pass_its_time(&mut self.graph, asked.object, self.world.time, &mut out);
+        desk.told = out.told;
         match desk.told.first_close() {
             Ok(closed) => self.come_of(script, inquiry, closed, desk, log),
             Err(NoMemory) => Turn::Over(Status::NoMemory),
@@ -244,13 +245,13 @@ impl Client {
         script: RunningScript,
         inquiry: KeptInquiry,
         closed: Option<Cause>,
-        desk: &mut Desk,
+        desk: Desk,
         log: &mut Log,
     ) -> Turn
         requires sound { (g : Objects Object) × IsSound self.old.used self.old.world g (stage.Asking script inquiry) × (self.old.graph.book.made ≡ g.book.made) }
-        requires told { WasTold desk.old.told closed }
-        requires brought { IsBrought self.old.graph inquiry desk.old.told }
-        ensures { (p : Port) (by : Way) (rec : ℕ) (ns : List Notice) → desk.old.told ≡ Some ns
+        requires told { HasSpelled desk.told.value closed }
+        requires brought { IsBrought self.old.world.net inquiry.speaker self.old.graph inquiry desk.told.value }
+        ensures { (p : Port) (by : Way) (rec : ℕ) (ns : List Notice) → IsSpelled self.old.world.net inquiry.speaker desk.told.value ns
             → WasBrought self.old.graph inquiry p by rec ns
             → RepliesAs result script (HasBrought self.old.graph inquiry p by rec ns) (standing self.old (stage.Asking script inquiry)) self.new log.old log.new }
     {
@@ -265,19 +266,18 @@ impl Client {
         &mut self,
         script: RunningScript,
         inquiry: KeptInquiry,
-        desk: &mut Desk,
+        desk: Desk,
         log: &mut Log,
     ) -> Turn
         requires sound { IsSound self.old.used self.old.world self.old.graph (stage.Asking script inquiry) }
-        requires told { (ns : List Notice) × (desk.old.told ≡ Some ns) }
         ensures turn { result ≡ turn.Waiting }
-        ensures puts { (ns : List Notice) → desk.old.told ≡ Some ns
+        ensures puts { (ns : List Notice) → IsSpelled self.old.world.net inquiry.speaker desk.told.value ns
             → Puts log.old log.new (out_texts (step self.old.used ∷ told_records self.old.world.net inquiry.speaker ns)) }
         ensures after { self.new ≡ standing self.old (stage.Asking script inquiry) }
     {
         put_step(self.used, log);
-        let who = inquiry.get().speaker;
-        put_told(&desk.told, &self.world.net, &who, &mut desk.room, log);
+        put_told(&desk.told, log);
+        self.desk = Some(desk);
         self.stage = Stage::Asking(script, inquiry);
         Turn::Waiting
     }
@@ -288,20 +288,23 @@ impl Client {
         script: RunningScript,
         inquiry: KeptInquiry,
         cause: Cause,
-        desk: &mut Desk,
+        mut desk: Desk,
         log: &mut Log,
     ) -> Turn
         requires sound { (g : Objects Object) × IsSound self.old.used self.old.world g (stage.Asking script inquiry) × (self.old.graph.book.made ≡ g.book.made) }
-        requires told { (ns : List Notice) × (desk.old.told ≡ Some ns) × DeliversMessage ns }
+        requires told { (ns : List Notice) × IsSpelled self.old.world.net inquiry.speaker desk.told.value ns × DeliversMessage ns }
         requires shut { IsShutLoneBy (company_of self.old.graph inquiry) self.old.graph inquiry.object.object.0 }
-        ensures { (ns : List Notice) → desk.old.told ≡ Some ns
+        ensures { (ns : List Notice) → IsSpelled self.old.world.net inquiry.speaker desk.told.value ns
             → EndsInquiry result ns cause script inquiry (standing self.old (stage.Asking script inquiry)) self.new log.old log.new }
     {
         self.stage = Stage::Stopped;
         let ended = inquiry.get();
-        let Ok(()) = end_talk(&mut self.graph, ended.object, &mut desk.told) else {
+        let (who, net) = (ended.speaker, &self.world.net);
+        let mut out = Teller::after(net, &who, desk.told, &mut desk.room);
+        let Ok(()) = end_talk(&mut self.graph, ended.object, &mut out) else {
             return Turn::Over(Status::NoMemory);
         };
+        desk.told = out.told;
         match found_host(&ended.query, cause, &desk.told) {
             Some(server) => self.go_onward(script, inquiry, cause, server, desk, log),
             None => self.end_command(script, inquiry, cause, desk, log),
@@ -314,18 +317,20 @@ impl Client {
         script: RunningScript,
         inquiry: KeptInquiry,
         cause: Cause,
-        desk: &mut Desk,
+        mut desk: Desk,
         log: &mut Log,
     ) -> Turn
         requires stands { self.old.stage ≡ stage.Stopped }
         requires sound { (g : Objects Object) × IsSound self.old.used self.old.world g (stage.Asking script inquiry) × (self.old.graph.book.made ≡ g.book.made) }
-        requires told { (ns : List Notice) × (desk.old.told ≡ Some ns) × DeliversMessage ns }
+        requires message { IsMessage desk.told.value.bytes }
         requires left { HoldsOnly inquiry.waiter self.old.graph self.old.graph.book.made }
-        ensures { (ns : List Notice) → desk.old.told ≡ Some ns
+        ensures { (ns : List Notice) → IsSpelled self.old.world.net inquiry.speaker desk.told.value ns
             → EndsCommand result ns cause script inquiry self.old self.new log.old log.new }
     {
         let ended = inquiry.get();
-        let Ok(()) = free_waiter(&mut self.graph, ended.waiter, &mut desk.freed) else {
+        let net = &self.world.net;
+        let (freed, room) = (desk.freed, &mut desk.room);
+        let Ok(freed) = free_waiter(&mut self.graph, ended.waiter, net, freed, room) else {
             return Turn::Over(Status::NoMemory);
         };
         let table = &mut self.world.state.table;
@@ -333,8 +338,10 @@ impl Client {
             return Turn::Over(Status::NoMemory);
         };
         let speaker = ended.speaker;
-        put_ended(self.used, &self.world.net, &speaker, cause, desk, log);
-        put_freed(&self.world.net, desk, log);
+        put_ended(self.used, speaker.number, cause, &desk.told, log);
+        put_told(&freed, log);
+        desk.freed = freed;
+        self.desk = Some(desk);
         let proto = speaker.carrier.number();
         self.world.net.unbind(proto, speaker.own_port);
         self.world.follow();
@@ -348,15 +355,14 @@ impl Client {
         inquiry: KeptInquiry,
         cause: Cause,
         server: Ip4,
-        desk: &mut Desk,
+        desk: Desk,
         log: &mut Log,
     ) -> Turn
         requires stands { self.old.stage ≡ stage.Stopped }
         requires sound { (g : Objects Object) × IsSound self.old.used self.old.world g (stage.Asking script inquiry) × (self.old.graph.book.made ≡ g.book.made) }
-        requires told { (ns : List Notice) × (desk.old.told ≡ Some ns) }
         requires host { (e : Errand) × IsFor (query_of inquiry.query) e }
         requires left { HoldsOnly inquiry.waiter self.old.graph self.old.graph.book.made }
-        ensures { (e : Errand) (ns : List Notice) → IsFor (query_of inquiry.query) e → desk.old.told ≡ Some ns
+        ensures { (e : Errand) (ns : List Notice) → IsFor (query_of inquiry.query) e → IsSpelled self.old.world.net inquiry.speaker desk.told.value ns
             → GoesOnward result (onward e server.0) ns cause script inquiry self.old self.new log.old log.new }
     {
         let speaker = inquiry.get().speaker;
@@ -364,7 +370,8 @@ impl Client {
         let Ok(kept) = KeptPrepared::of(self.alloc, next) else {
             return Turn::Over(Status::NoMemory);
         };
-        put_ended(self.used, &self.world.net, &speaker, cause, desk, log);
+        put_ended(self.used, speaker.number, cause, &desk.told, log);
+        self.desk = Some(desk);
         let proto = speaker.carrier.number();
         self.world.net.unbind(proto, speaker.own_port);
         self.stage = Stage::Reaching(script, kept);
@@ -377,46 +384,40 @@ impl Client {
         requires going { IsInquiring self.old.graph inquiry }
         ensures { (s : Running) → Uses result defs.off (standing self.old (stage.Asking s inquiry)) self.new log.old log.new }
     {
-        let Ok(mut desk) = self.shut_inquiry(inquiry.get()) else {
+        let Ok(desk) = self.shut_inquiry(inquiry.get()) else {
             return Turn::Over(Status::NoMemory);
         };
         put_step(self.used, log);
-        self.put_shut_inquiry(inquiry.get(), &mut desk, log);
+        self.put_shut_inquiry(inquiry.get(), &desk, log);
         Turn::Over(Status::Unfinished)
     }
 
     /// The run ends, and the object of this inquiry with it. What it told stands on the desk that is given back.
-    pub(crate) fn shut_inquiry(&mut self, inquiry: &Inquiry) -> Result<Box<Desk>, NoMemory>
+    pub(crate) fn shut_inquiry(&mut self, inquiry: &Inquiry) -> Result<Desk, NoMemory>
         requires open { IsOpenLoneBy (company_of self.old.graph inquiry.now) self.old.graph inquiry.now.object.object.0 }
-        ensures told { IfOk result (λ desk. desk.value.told ≡ Some (beside_shut inquiry.now.waiter inquiry.now.object.object.0 stopped_cause)) }
+        ensures told { IfOk result (λ desk. desk.told.value.text
+            ≡ out_texts (traced (one_shut_events inquiry.now.waiter inquiry.now.object.object.0 stopped_cause))) }
         ensures empty { OnOk result (IsEmpty self.new.graph self.old.graph.book.made) }
         ensures same { self.new ≡ seen self.old.used self.old.world self.new.graph stage.Stopped }
     {
         self.stage = Stage::Stopped;
         let mut desk = lent(self.alloc, self.desk.take())?;
-        shut_talk(
-            &mut self.graph,
-            inquiry.object,
-            inquiry.waiter,
-            &Plain::Stopped.cause(),
-            self.world.time,
-            &mut desk.told,
-        )?;
+        let net = &self.world.net;
+        let mut out = Teller::over(net, &inquiry.speaker, desk.told, &mut desk.room);
+        let (object, waiter, now) = (inquiry.object, inquiry.waiter, self.world.time);
+        let stopped = Plain::Stopped.cause();
+        shut_talk(&mut self.graph, object, waiter, &stopped, now, &mut out)?;
+        desk.told = out.told;
         Ok(desk)
     }
 
     /// Puts what the object of an inquiry told when the run ended, and that its open has ended.
-    pub(crate) fn put_shut_inquiry(&self, inquiry: &Inquiry, desk: &mut Desk, log: &mut Log)
-        requires told { desk.old.told ≡ Some (beside_shut inquiry.now.waiter inquiry.now.object.object.0 stopped_cause) }
+    pub(crate) fn put_shut_inquiry(&self, inquiry: &Inquiry, desk: &Desk, log: &mut Log)
+        requires told { desk.now.told.value.text
+            ≡ out_texts (traced (one_shut_events inquiry.now.waiter inquiry.now.object.object.0 stopped_cause)) }
         ensures { Puts log.old log.new (out_texts (shut_alone inquiry.now.speaker.number inquiry.now.waiter inquiry.now.object)) }
     {
-        put_told(
-            &desk.told,
-            &self.world.net,
-            &inquiry.speaker,
-            &mut desk.room,
-            log,
-        );
+        put_told(&desk.told, log);
         put_over(inquiry.speaker.number, Plain::Stopped.cause(), log);
     }
 }

@@ -193,7 +193,7 @@ impl RunningScript {
         expanded(alloc, item.words.as_slice(), table)
     }
 
-    /// Passes lines on which nothing is to be done and the one behind them, and cuts its list. The list before them is
+    /// Passes lines on which nothing is to be done and the one after them, and cuts its list. The list before them is
     /// over: where it ended in failure, the script is left.
     fn next_line(&mut self, alloc: Global) -> Result<Next, NoMemory>
         requires { self.old.rest ≡ [] }

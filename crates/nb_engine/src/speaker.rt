@@ -1,4 +1,5 @@
 ghost use Rattle.std.specs.Prelude.{◌≡◌};
+ghost use Rattle.nb_engine.specs.Fetches.{speaker_by};
 ghost use Rattle.nb_engine.specs.Tellings.{carrier_number};
 
 use nb_wire::Ip4;
@@ -24,14 +25,22 @@ pub struct Speaker {
 }
 
 impl Speaker {
+    /// Who speaks for an open of this number that sends by UDP, to this server from this port.
+    #[inline(always)]
+    pub fn by_udp(number: u16, server: Ip4, own_port: u16) -> Speaker
+        ensures { result ≡ speaker_by number server own_port }
+    {
+        Speaker {
+            number,
+            carrier: Carrier::Udp,
+            server,
+            own_port,
+        }
+    }
+
     /// Nobody: what is put of the graph's events alone has no speaker.
     pub fn nobody() -> Speaker {
-        Speaker {
-            number: 0,
-            carrier: Carrier::Udp,
-            server: Ip4(0),
-            own_port: 0,
-        }
+        Speaker::by_udp(0, Ip4(0), 0)
     }
 }
 

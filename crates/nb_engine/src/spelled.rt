@@ -1,29 +1,40 @@
-ghost use Rattle.std.specs.Prelude.{◌≡◌, ◌≤◌, ◌∷◌, [], length, true, false, None, IfOk};
+ghost use Rattle.std.specs.Prelude.{◌≡◌, ◌≤◌, ◌∷◌, [], length, true, false, None, Some, IfOk};
+ghost use Rattle.std.specs.Option.{option_copied};
 ghost use Rattle.nb_defs.specs.Records.{advanced, graph};
 ghost use Rattle.nb_ledger.specs.Flat as notice;
 ghost use Rattle.nb_opens.specs.Notices.{close_of, or_else};
 ghost use Rattle.nb_engine.specs.Opens.{send_records};
-ghost use Rattle.nb_engine.specs.Spelling.{HasSpelled, SpellsMore};
+ghost use Rattle.nb_engine.specs.Spelling.{first_there, FindsNothing, HasSpelled, IsBlank, SpellsMore};
 ghost use Rattle.nb_engine.specs.Tellings.{datagram_of};
 
 use crate::desk::Room;
-use crate::outlet::{OUT_OF_MEMORY, first_of};
+use crate::fetch::copy;
 use crate::put::put_datagram;
 use crate::speaker::Speaker;
 use nb_record::{Cause, Event, Log, NoMemory, OutRec};
 use nb_stack::Stack;
+use nb_wire::{Ip4, Text};
 use std::alloc::Global;
 use std::marker::Model;
 
 /// How many bytes of records there is room for at first: more than a call of the graph spells.
 const TEXT: usize = 4096;
 
-/// The records of what a graph told since this was cleared. Where memory ran out, or a message isn't a datagram in
-/// one part of at most 1,480 bytes, nor another of an open's, all of it is lost.
+/// The number of an event that closes a port.
+const CLOSED: u8 = 8;
+
+/// The code of a cause: memory ran out.
+const OUT_OF_MEMORY: u8 = 23;
+
+/// The records of what a graph told since this was cleared, and what was delivered first. Where memory ran out, or a
+/// message isn't one of an open's, in one part, all of it is lost.
 #[derive(Drop)]
 pub struct Spelled {
+    alloc: Global,
     text: Log,
     closed: Option<Cause>,
+    bytes: Option<Text>,
+    address: Option<Ip4>,
     lost: bool,
 }
 
@@ -33,29 +44,41 @@ impl Model for Spelled {
 
     ghost Value = { Spelling };
 
-    ghost view = { λ s. record { text = s.text.bytes; closed = s.closed; is_lost = s.lost || s.text.is_short } };
+    ghost view = { λ s. record {
+      text = s.text.bytes;
+      closed = s.closed;
+      bytes = s.bytes;
+      address = s.address;
+      is_lost = s.lost || s.text.is_short;
+    } };
 }
 
 impl Spelled {
     /// One that was told nothing.
-    pub fn new(alloc: Global) -> Result<Spelled, NoMemory>
-        ensures { IfOk result (λ s. s.is_lost ≡ false) }
-    {
+    fn new(alloc: Global) -> Result<Spelled, NoMemory> {
         Ok(Spelled {
+            alloc,
             text: Log::new(alloc, TEXT)?,
             closed: None,
+            bytes: None,
+            address: None,
             lost: false,
         })
     }
 
-    /// Forgets what was told. The room for it stays.
+    /// One that was told nothing, in its place.
+    pub fn boxed(alloc: Global) -> Result<Box<Spelled>, NoMemory> {
+        Ok(Box::new(alloc, Spelled::new(alloc)?)?)
+    }
+
+    /// Forgets what was told. The room for its records stays.
     pub fn clear(&mut self)
-        ensures text { self.new.text ≡ [] }
-        ensures closed { self.new.closed ≡ None }
-        ensures whole { self.old.is_lost ≡ false → self.new.is_lost ≡ false }
+        ensures { IsBlank self.new }
     {
         self.text.clear();
         self.closed = None;
+        self.bytes = None;
+        self.address = None;
         self.lost = false;
     }
 
@@ -79,9 +102,24 @@ impl Spelled {
         &self.text
     }
 
+    /// The first bytes that were delivered.
+    pub fn bytes(&self) -> Option<&Text>
+        ensures { option_copied result ≡ self.now.bytes }
+    {
+        self.bytes.as_ref()
+    }
+
+    /// The first address that was delivered.
+    pub fn address(&self) -> Option<Ip4>
+        ensures { result ≡ self.now.address }
+    {
+        self.address
+    }
+
     /// An event is told.
     pub fn put_event(&mut self, e: &Event)
         ensures closed { self.new.closed ≡ or_else self.old.closed (close_of (notice.event e.now)) }
+        ensures found { FindsNothing self.old self.new }
         ensures more { SpellsMore self.old self.new (graph e.now ∷ []) }
     {
         self.text.put(&OutRec::Graph(*e));
@@ -91,6 +129,7 @@ impl Spelled {
     /// The open of this number has come to this place.
     pub fn put_advance(&mut self, number: u16, place: u32)
         ensures closed { self.new.closed ≡ self.old.closed }
+        ensures found { FindsNothing self.old self.new }
         ensures more { SpellsMore self.old self.new (advanced number place ∷ []) }
     {
         self.text.put(&OutRec::Advance { number, place });
@@ -108,10 +147,38 @@ impl Spelled {
     )
         requires short { length body.now ≤ 1480 }
         ensures closed { self.new.closed ≡ self.old.closed }
+        ensures found { FindsNothing self.old self.new }
         ensures more { SpellsMore self.old self.new
             (send_records net.now who.now.number tried (datagram_of who.now port body.now)) }
     {
         put_datagram(net, who, tried, port, body, room, &mut self.text);
+    }
+
+    /// These bytes are delivered.
+    pub fn put_bytes(&mut self, bytes: &[u8])
+        ensures closed { self.new.closed ≡ self.old.closed }
+        ensures address { self.new.address ≡ self.old.address }
+        ensures found { self.new.is_lost ≡ false → self.new.bytes ≡ first_there self.old.bytes (Some bytes.now) }
+        ensures more { SpellsMore self.old self.new [] }
+    {
+        if self.bytes.is_none() {
+            match copy(self.alloc, bytes) {
+                Ok(copied) => self.bytes = Some(copied),
+                Err(NoMemory) => self.lost = true,
+            }
+        }
+    }
+
+    /// This address is delivered.
+    pub fn put_address(&mut self, address: Ip4)
+        ensures closed { self.new.closed ≡ self.old.closed }
+        ensures bytes { self.new.bytes ≡ self.old.bytes }
+        ensures found { self.new.address ≡ first_there self.old.address (Some address) }
+        ensures more { SpellsMore self.old self.new [] }
+    {
+        if self.address.is_none() {
+            self.address = Some(address);
+        }
     }
 
     /// A message can't be spelled: all is lost.
@@ -123,22 +190,12 @@ impl Spelled {
     }
 }
 
-/// What was kept, or a new one, cleared.
-#[inline(always)]
-pub fn cleared(alloc: Global, kept: Option<Box<Spelled>>) -> Result<Box<Spelled>, NoMemory>
-    ensures text { IfOk result (λ s. s.value.text ≡ []) }
-    ensures closed { IfOk result (λ s. s.value.closed ≡ None) }
+/// The cause of the first close, after this event.
+fn first_of(closed: Option<Cause>, e: &Event) -> Option<Cause>
+    ensures { result ≡ or_else closed (close_of (notice.event e.now)) }
 {
-    let mut spelled = match kept {
-        Some(spelled) => spelled,
-        None => boxed(alloc)?,
-    };
-    spelled.clear();
-    Ok(spelled)
-}
-
-/// A new one. That is done once in a run, and stands apart.
-#[inline(never)]
-fn boxed(alloc: Global) -> Result<Box<Spelled>, NoMemory> {
-    Ok(Box::new(alloc, Spelled::new(alloc)?)?)
+    match closed {
+        None if e.event == CLOSED => Some(e.cause),
+        closed => closed,
+    }
 }

@@ -9,7 +9,7 @@ use nb_record::Cause;
 pub enum Status {
     /// A command handed off.
     HandedOff,
-    /// The words are of no form; nothing was attached.
+    /// The words are invalid; nothing was attached.
     BadWords,
     /// The first script ended in Ok.
     Ended,

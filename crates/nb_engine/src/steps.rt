@@ -165,13 +165,11 @@ impl Client {
         requires sound { IsSound self.old.used self.old.world self.old.graph (stage.Waiting script fetch) }
         ensures { Uses result (defs.frame bytes.now) (standing self.old (stage.Waiting script fetch)) self.new log.old log.new }
     {
-        let Ok(mut desk) = lent(self.alloc, self.desk.take()) else {
+        let Ok(desk) = lent(self.alloc, self.desk.take()) else {
             return Turn::Over(Status::NoMemory);
         };
         script.begin_step();
-        let turn = self.receive(script, fetch, bytes, &mut desk, log);
-        self.desk = Some(desk);
-        turn
+        self.receive(script, fetch, bytes, desk, log)
     }
 
     /// A frame arrives, while this desk is lent.
@@ -181,7 +179,7 @@ impl Client {
         script: RunningScript,
         fetch: KeptFetch,
         bytes: &[u8],
-        desk: &mut Desk,
+        mut desk: Desk,
         log: &mut Log,
     ) -> Turn
         requires valid { IsFrameRecord bytes.now }
@@ -192,7 +190,11 @@ impl Client {
         let taken = self.world.net.take(bytes, &mut reply);
         match datagram_of(fetch.get().server, taken) {
             Some((port, body)) => self.hear(script, fetch, port, body, desk, log),
-            None => self.pass_by(script, fetch, reply.written(), log),
+            None => {
+                let turn = self.pass_by(script, fetch, reply.written(), log);
+                self.desk = Some(desk);
+                turn
+            }
         }
     }
 
@@ -225,7 +227,7 @@ impl Client {
         fetch: KeptFetch,
         port: u16,
         body: &[u8],
-        desk: &mut Desk,
+        mut desk: Desk,
         log: &mut Log,
     ) -> Turn
         requires short { length body.now ≤ 65535 }
@@ -235,18 +237,13 @@ impl Client {
         self.stage = Stage::Stopped;
         let open = fetch.get();
         let (who, objects) = (open.speaker(), open.objects);
-        let Ok(mut out) = Teller::over(self.alloc, &self.world.net, &who, desk) else {
-            return Turn::Over(Status::NoMemory);
-        };
+        let net = &self.world.net;
+        let mut out = Teller::over(net, &who, desk.told, &mut desk.room);
         let (rec, now) = (self.used, self.world.time);
         objects.message(&mut self.graph, rec, port, body, now, &mut out);
-        let told = out.told;
-        match told.first_close() {
-            Ok(closed) => {
-                let turn = self.heed(script, fetch, closed, &told, desk, log);
-                desk.spelled = Some(told);
-                turn
-            }
+        desk.told = out.told;
+        match desk.told.first_close() {
+            Ok(closed) => self.heed(script, fetch, closed, desk, log),
             Err(NoMemory) => Turn::Over(Status::NoMemory),
         }
     }
@@ -265,14 +262,12 @@ impl Client {
         requires early { self.old.world.time + 60000 ≤ 60000 * self.old.used }
         ensures { Uses result (defs.tick ms) (standing self.old (stage.Waiting script fetch)) self.new log.old log.new }
     {
-        let Ok(mut desk) = lent(self.alloc, self.desk.take()) else {
+        let Ok(desk) = lent(self.alloc, self.desk.take()) else {
             return Turn::Over(Status::NoMemory);
         };
         self.world.time += u64::from(ms);
         script.begin_step();
-        let turn = self.pass_time(script, fetch, &mut desk, log);
-        self.desk = Some(desk);
-        turn
+        self.pass_time(script, fetch, desk, log)
     }
 
     /// A time comes to the open.
@@ -280,7 +275,7 @@ impl Client {
         &mut self,
         script: RunningScript,
         fetch: KeptFetch,
-        desk: &mut Desk,
+        mut desk: Desk,
         log: &mut Log,
     ) -> Turn
         requires sound { IsSound self.old.used self.old.world self.old.graph (stage.Waiting script fetch) }
@@ -289,17 +284,12 @@ impl Client {
         self.stage = Stage::Stopped;
         let open = fetch.get();
         let (who, objects) = (open.speaker(), open.objects);
-        let Ok(mut out) = Teller::over(self.alloc, &self.world.net, &who, desk) else {
-            return Turn::Over(Status::NoMemory);
-        };
+        let net = &self.world.net;
+        let mut out = Teller::over(net, &who, desk.told, &mut desk.room);
         objects.time(&mut self.graph, self.world.time, &mut out);
-        let told = out.told;
-        match told.first_close() {
-            Ok(closed) => {
-                let turn = self.heed(script, fetch, closed, &told, desk, log);
-                desk.spelled = Some(told);
-                turn
-            }
+        desk.told = out.told;
+        match desk.told.first_close() {
+            Ok(closed) => self.heed(script, fetch, closed, desk, log),
             Err(NoMemory) => Turn::Over(Status::NoMemory),
         }
     }
@@ -310,11 +300,11 @@ impl Client {
         requires going { IsDownloading self.old.graph fetch.objects.fetch.0 fetch.objects.tftp.0 }
         ensures { (s : Running) → Uses result defs.off (standing self.old (stage.Waiting s fetch)) self.new log.old log.new }
     {
-        let Ok(mut desk) = self.shut(fetch.get()) else {
+        let Ok(desk) = self.shut(fetch.get()) else {
             return Turn::Over(Status::NoMemory);
         };
         put_step(self.used, log);
-        self.put_shut(fetch.get(), &mut desk, log);
+        self.put_shut(fetch.get(), &desk, log);
         Turn::Over(Status::Unfinished)
     }
 

@@ -1,19 +1,25 @@
-ghost use Rattle.std.specs.Prelude.{◌≡◌, ◌++◌, [], ℕ, List, None, Some, IfOk};
+ghost use Rattle.std.specs.Prelude.{◌≡◌, ◌==◌, ◌++◌, [], ℕ, List, false, None, Some, IfOk, OnOk};
+ghost use Rattle.nb_nodes.specs.Tags.{tag_number};
+ghost use Rattle.nb_nodes.specs.declared.tag.Tag.TheVariants as tag;
+ghost use Rattle.nb_stack.specs.Client.{Client};
+ghost use Rattle.nb_engine.specs.declared.speaker.Speaker.{Speaker as TheSpeaker};
 ghost use Rattle.nb_engine.specs.Opens.{send_records};
-ghost use Rattle.nb_engine.specs.Spelling.{heard_by, SpellsMessage};
+ghost use Rattle.nb_engine.specs.Spelling.{heard_by, IsBlank, IsWhole, SpellsMessage};
 ghost use Rattle.nb_engine.specs.Tellings.{datagram_of, message_records};
 
-use crate::desk::{Desk, Room};
-use crate::outlet::MAX_MESSAGE;
+use crate::desk::Room;
 use crate::speaker::Speaker;
-use crate::spelled::{Spelled, cleared};
+use crate::spelled::Spelled;
 use nb_graph::{Msg, Outside, Port};
 use nb_nodes::Tag;
 use nb_record::{Event, NoMemory};
 use nb_stack::Stack;
-use std::alloc::Global;
+use nb_wire::Ip4;
 
-/// What lies outside the graph of an open whose records are spelled as the graph tells of them.
+/// The most bytes of a message that leaves in one frame.
+const MAX_MESSAGE: usize = 1480;
+
+/// What lies outside the graph: the records of what an open's objects tell are spelled at once.
 #[derive(Drop)]
 pub struct Teller<'a> {
     /// The client's link.
@@ -27,26 +33,64 @@ pub struct Teller<'a> {
 }
 
 impl<'a> Teller<'a> {
-    /// One that was told nothing, on this desk. An error where there is no memory for what is told.
+    /// One that was told nothing.
     #[inline(always)]
     pub(crate) fn over(
-        alloc: Global,
         net: &'a Stack,
         who: &'a Speaker,
-        desk: &'a mut Desk,
-    ) -> Result<Teller<'a>, NoMemory>
-        ensures net { IfOk result (λ t. t.net.now ≡ net.now) }
-        ensures who { IfOk result (λ t. t.who.now ≡ who.now) }
-        ensures text { IfOk result (λ t. t.told.value.text ≡ []) }
-        ensures closed { IfOk result (λ t. t.told.value.closed ≡ None) }
+        mut told: Box<Spelled>,
+        room: &'a mut Room,
+    ) -> Teller<'a>
+        ensures net { result.net.now ≡ net.now }
+        ensures who { result.who.now ≡ who.now }
+        ensures blank { IsBlank result.told.value }
     {
-        let told = cleared(alloc, desk.spelled.take())?;
-        Ok(Teller {
+        told.clear();
+        Teller {
             net,
             who,
-            room: &mut desk.room,
+            room,
             told,
-        })
+        }
+    }
+
+    /// One that was told this before.
+    #[inline(always)]
+    pub(crate) fn after(
+        net: &'a Stack,
+        who: &'a Speaker,
+        told: Box<Spelled>,
+        room: &'a mut Room,
+    ) -> Teller<'a>
+        ensures net { result.net.now ≡ net.now }
+        ensures who { result.who.now ≡ who.now }
+        ensures told { result.told.value ≡ told.value }
+    {
+        Teller {
+            net,
+            who,
+            room,
+            told,
+        }
+    }
+
+    /// An error where memory ran out, in the graph or here.
+    pub(crate) fn check(&self) -> Result<(), NoMemory>
+        ensures { OnOk result (IsWhole self.now.told.value) }
+    {
+        match self.told.first_close() {
+            Ok(_) => Ok(()),
+            Err(NoMemory) => Err(NoMemory),
+        }
+    }
+
+    /// What was told. An error where memory ran out, in the graph or here.
+    pub(crate) fn finish(self) -> Result<Box<Spelled>, NoMemory>
+        ensures told { IfOk result (λ told. told.value ≡ self.entry.told.value) }
+        ensures whole { IfOk result (λ told. IsWhole told.value) }
+    {
+        self.check()?;
+        Ok(self.told)
     }
 }
 
@@ -61,6 +105,7 @@ fn send_datagram(
 )
     requires sends { (b : ℕ) (bytes : List ℕ) → message_records net.now who.now msg.now.tag msg.now.a b bytes
         ≡ send_records net.now who.now.number tried (datagram_of who.now b bytes) }
+    requires tag { ((msg.now.tag == tag_number tag.Bytes) ≡ false) × ((msg.now.tag == tag_number tag.Address) ≡ false) }
     ensures { SpellsMessage net.now who.now told.old told.new msg.now.tag msg.now.a msg.now.b
         (msg.now.first.now ++ msg.now.second.now) }
 {
@@ -76,12 +121,26 @@ fn send_datagram(
 fn send_try(told: &mut Spelled, net: &Stack, who: &Speaker, room: &mut Room, msg: &Msg<'_>)
     requires sends { (b : ℕ) (bytes : List ℕ) → message_records net.now who.now msg.now.tag msg.now.a b bytes
         ≡ send_records net.now who.now.number (Some msg.now.a) (datagram_of who.now b bytes) }
+    requires tag { ((msg.now.tag == tag_number tag.Bytes) ≡ false) × ((msg.now.tag == tag_number tag.Address) ≡ false) }
     ensures { SpellsMessage net.now who.now told.old told.new msg.now.tag msg.now.a msg.now.b
         (msg.now.first.now ++ msg.now.second.now) }
 {
     match u8::try_from(msg.a) {
         Ok(number) => send_datagram(told, net, who, room, Some(number), msg),
         Err(_) => told.lose(),
+    }
+}
+
+/// Bytes are delivered.
+fn send_bytes(told: &mut Spelled, msg: &Msg<'_>)
+    requires tag { msg.now.tag ≡ tag_number tag.Bytes }
+    ensures { (net : Client) (who : TheSpeaker) → SpellsMessage net who told.old told.new msg.now.tag msg.now.a msg.now.b
+        (msg.now.first.now ++ msg.now.second.now) }
+{
+    if msg.second.is_empty() {
+        told.put_bytes(msg.first)
+    } else {
+        told.lose()
     }
 }
 
@@ -93,14 +152,13 @@ impl<'a> Outside for Teller<'a> {
     }
 
     fn send(&mut self, _from: Port, msg: &Msg<'_>) {
+        let (net, who) = (self.net, self.who);
         match Tag::try_from(msg.tag) {
-            Ok(Tag::Advance) => self.told.put_advance(self.who.number, msg.a),
-            Ok(Tag::Datagram) => {
-                send_datagram(&mut self.told, self.net, self.who, self.room, None, msg)
-            }
-            Ok(Tag::Try) => send_try(&mut self.told, self.net, self.who, self.room, msg),
-            Ok(Tag::Bytes) => {}
-            Ok(Tag::Address) => {}
+            Ok(Tag::Advance) => self.told.put_advance(who.number, msg.a),
+            Ok(Tag::Datagram) => send_datagram(&mut self.told, net, who, self.room, None, msg),
+            Ok(Tag::Try) => send_try(&mut self.told, net, who, self.room, msg),
+            Ok(Tag::Bytes) => send_bytes(&mut self.told, msg),
+            Ok(Tag::Address) => self.told.put_address(Ip4(msg.a)),
             _ => self.told.lose(),
         }
     }

@@ -42,7 +42,7 @@ pub struct World {
     pub(crate) state: State,
 }
 
-/// The first port of an open; the others are the 16,383 behind it.
+/// The first port of an open; the others are the 16,383 after it.
 const FIRST_PORT: u16 = 49_152;
 
 /// How many ports the opens have.

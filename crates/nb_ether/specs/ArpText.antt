@@ -9,7 +9,7 @@ arp_text a =
     (0 ∷ 1 ∷ 8 ∷ 0 ∷ 6 ∷ 4 ∷ []) ++ to_be_bytes w16 a.op
     ++ a.sha.0 ++ to_be_bytes w32 a.spa.0 ++ a.tha.0 ++ to_be_bytes w32 a.tpa.0
 
--- these bytes are the message, of any operation, and maybe padding behind it
+-- these bytes are the message, of any operation, and maybe padding after it
 pub record HasForm (bytes : List ℕ) (a : Arp) : Type 0 where
   pub op : a.op < 2 ^ 16
   pub sha : length a.sha.0 ≡ 6
@@ -22,7 +22,7 @@ pub record HasForm (bytes : List ℕ) (a : Arp) : Type 0 where
 abbrev pub IsOperation : ℕ → Type 0
 IsOperation op = (op ≡ 1) ⊎ (op ≡ 2)
 
--- these bytes are the request or the reply, and maybe padding behind it
+-- these bytes are the request or the reply, and maybe padding after it
 pub record IsArp (bytes : List ℕ) (a : Arp) : Type 0 where
   pub form : HasForm bytes a
   pub op : IsOperation a.op

@@ -18,7 +18,7 @@ pub struct EtherFrame<'a> {
     pub src: Mac,
     /// What the body is: `KIND_IPV4`, `KIND_ARP` or another.
     pub kind: u16,
-    /// All bytes behind the kind, padding included.
+    /// All bytes after the kind, padding included.
     pub body: &'a [u8],
 }
 

@@ -7,6 +7,3 @@ mod frame;
 
 pub use arp::{ARP_REPLY, ARP_REQUEST, Arp};
 pub use frame::{EtherFrame, KIND_ARP, KIND_IPV4};
-
-#[cfg(test)]
-mod tests;

@@ -6,13 +6,13 @@ use Rattle.std.proofs.lemmas.List.{take-append-le, drop-append-le, length-take-l
 use Rattle.nb_expand.specs.Expansion.{put_back}
 use Rattle.nb_expand.specs.Gathering.{Parts, inner_at, around_at, parts_at, IsGathered, with_more, IsDecided, IsAlike}
 
--- more behind the innermost text stands behind all
+-- more after the innermost text stands after all
 pub put_back-append : (inner more : List ℕ) (around : List (List ℕ)) → put_back (inner ++ more) around ≡ put_back inner around ++ more
 put_back-append inner more [] = refl
 put_back-append inner more (outer ∷ around) =
     ap (λ t. put_back t around) (sym (append_assoc (outer ++ codes "${") inner more)) ∙ put_back-append ((outer ++ codes "${") ++ inner) more around
 
--- the innermost text stands behind `${` and what is around it
+-- the innermost text stands after `${` and what is around it
 pub put_back-cons : (inner outer : List ℕ) (around : List (List ℕ)) → put_back inner (outer ∷ around) ≡ put_back outer around ++ (codes "${" ++ inner)
 put_back-cons inner outer around =
     ap (λ t. put_back t around) (append_assoc outer (codes "${") inner) ∙ put_back-append outer (codes "${" ++ inner) around

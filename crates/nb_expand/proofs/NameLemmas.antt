@@ -135,7 +135,7 @@ key_short : (text : List ℕ) (key : OwnedKey) → key_read text ≡ Some key �
 unfolding key_read
 key_short text key h = key_by (cut_at 46 text) text key refl h
 
--- a name behind its block, and a name
+-- a name after its block, and a name
 tail_by : (block : Option (List ℕ)) (cut : Option (List ℕ × List ℕ)) (text : List ℕ) (name : SettingName) → cut_at 58 text ≡ cut → kind_cut block cut text ≡ Some name → length text ≤ 73
 tail_by block None text name e h =
     let key = step_map (key_read text) _ name h in

@@ -17,7 +17,7 @@ separated separator b = separator ∷ encode_lower (b ∷ [])
 pub printed_pairs-one : (separator b : ℕ) → printed_pairs separator (b ∷ []) ≡ encode_lower (b ∷ [])
 printed_pairs-one separator b = append-nil (encode_lower (b ∷ []))
 
--- each further one stands behind a separator
+-- each further one stands after a separator
 pub printed_pairs-push : (separator : ℕ) (bytes : List ℕ) (b : ℕ) → 0 < length bytes → printed_pairs separator (bytes ++ b ∷ []) ≡ printed_pairs separator bytes ++ (separator ∷ encode_lower (b ∷ []))
 printed_pairs-push separator [] b h = absurd (omega arith)
 printed_pairs-push separator (x ∷ bytes) b h =

@@ -19,6 +19,8 @@ use Rattle.uuid.proofs.TextLemmas.{by_index_length}
 use Rattle.percent_encoding.specs.Percent.{percent_encode_byte}
 use Rattle.nb_settings.specs.declared.kind.Kind.{Kind}
 use Rattle.nb_settings.specs.declared.kind.Kind.TheVariants.{Str, Ipv4, Int8, Int16, Int32, Uint8, Uint16, Uint32, Hex, Hexhyp, Hexraw, Base64, Uuid, Uristring}
+use Rattle.nb_settings.specs.Nulls.{without_nulls}
+use Rattle.nb_settings.proofs.NullLemmas.{nulls_fewer}
 use Rattle.nb_expand.specs.Addresses.{printed_address}
 use Rattle.nb_expand.specs.Numbers.{last_bytes, filled, sign_fill, printed_signed, printed_unsigned}
 use Rattle.nb_expand.specs.Pairs.{printed_pairs}
@@ -154,7 +156,7 @@ uri_short (b ∷ bytes) =
 -- a value as text has at most three bytes for each of its own, and 36 more
 pub printed_short : (kind : Kind) (bytes : List ℕ) → AreBytes bytes → length (printed kind bytes) ≤ 3 * length bytes + 36
 unfolding printed
-printed_short Str bytes small = omega arith
+printed_short Str bytes small = omega (arith, nulls_fewer bytes)
 printed_short Ipv4 bytes small = omega (arith, address_short bytes small)
 printed_short Int8 bytes small = omega (arith, signed_short 1 bytes (omega arith) small)
 printed_short Int16 bytes small = omega (arith, signed_short 2 bytes (omega arith) small)
@@ -167,4 +169,4 @@ printed_short Hexhyp bytes small = omega (arith, pairs_short 45 bytes)
 printed_short Hexraw bytes small = omega (arith, length-encode_with lower_digits bytes)
 printed_short Base64 bytes small = omega (arith, base64_short bytes)
 printed_short Uuid bytes small = omega (arith, uuid_short bytes)
-printed_short Uristring bytes small = omega (arith, uri_short bytes)
+printed_short Uristring bytes small = omega (arith, nulls_fewer bytes, uri_short (without_nulls bytes))

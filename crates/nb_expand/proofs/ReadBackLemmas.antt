@@ -21,13 +21,15 @@ use Rattle.uuid.specs.Text.{parsed_hyphenated, hyphenated_text, lower}
 use Rattle.uuid.proofs.RoundTrips.{parses_hyphenated_text}
 use Rattle.nb_settings.specs.declared.kind.Kind.{Kind}
 use Rattle.nb_settings.specs.declared.kind.Kind.TheVariants.{Str, Ipv4, Int8, Int16, Int32, Uint8, Uint16, Uint32, Hex, Hexhyp, Hexraw, Base64, Uuid, Uristring}
+use Rattle.nb_settings.specs.Nulls.{without_nulls}
+use Rattle.nb_settings.proofs.NullLemmas.{nulls_kept}
 use Rattle.nb_expand.specs.declared.printing.TheConstants.{RESERVED}
 use Rattle.nb_numerals.specs.Addresses.{decimal_byte, decimals, parsed_address, is_dot}
 use Rattle.nb_expand.specs.Addresses.{printed_address}
 use Rattle.nb_expand.specs.Numbers.{printed_signed, printed_unsigned, parsed_signed, parsed_unsigned}
 use Rattle.nb_expand.specs.Pairs.{printed_pairs, byte_of_digits, pairs_behind, parsed_pairs}
 use Rattle.nb_expand.specs.Printing.{printed, printed_uuid}
-use Rattle.nb_expand.specs.Reading.{parsed, IsWhole}
+use Rattle.nb_expand.specs.Reading.{parsed, IsWhole, shown}
 use Rattle.nb_expand.specs.Uris.{printed_uri}
 use Rattle.nb_expand.proofs.UriLemmas.{percent_encode-reserved}
 use Rattle.nb_expand.proofs.NumberBackLemmas.{decimal_number-decimal}
@@ -114,8 +116,12 @@ four_bytes P (a ∷ b ∷ c ∷ []) h p small = absurd (omega arith)
 four_bytes P (a ∷ b ∷ c ∷ d ∷ []) h p small = p a b c d small
 four_bytes P (a ∷ b ∷ c ∷ d ∷ e ∷ rest) h p small = absurd (omega arith)
 
--- a value that is whole reads back
-pub read_back : (kind : Kind) (bytes : List ℕ) → AreBytes bytes → IsWhole kind bytes → parsed kind (printed kind bytes) ≡ Some bytes
+-- what is left without the zero bytes at the end
+kept_small : (bytes : List ℕ) → AreBytes bytes → AreBytes (without_nulls bytes)
+kept_small bytes small i = omega (arith, nulls_kept bytes i, small i)
+
+-- a value that is whole reads back, zero bytes at a text's end aside
+pub read_back : (kind : Kind) (bytes : List ℕ) → AreBytes bytes → IsWhole kind bytes → parsed kind (printed kind bytes) ≡ Some (shown kind bytes)
 unfolding parsed printed
 read_back Str bytes small whole = refl
 read_back Ipv4 bytes small whole = four_bytes (λ v. parsed_address (printed_address v) ≡ Some v) bytes whole (λ a b c d s. address_back a b c d (s 0) (s 1) (s 2) (s 3)) small
@@ -130,4 +136,4 @@ read_back Hexhyp bytes small whole = parsed_pairs_back 45 bytes small
 read_back Hexraw bytes small whole = ap result_ok (decode_of-encode_lower bytes small)
 read_back Base64 bytes small whole = base64_back bytes small
 read_back Uuid bytes small whole = uuid_back bytes whole small
-read_back Uristring bytes small whole = ap Some (uri_back bytes small)
+read_back Uristring bytes small whole = ap Some (uri_back (without_nulls bytes) (kept_small bytes small))

@@ -22,7 +22,7 @@ around_at text (place ∷ places) = inner_at (take (place - 2) text) places ∷ 
 abbrev pub parts_at : List ℕ → List ℕ → Parts
 parts_at text places = record { inner = inner_at text places; around = around_at text places }
 
--- Each place has a `${` before it, behind the texts around. A word and a byte, and for each open part a
+-- Each place has a `${` before it, after the texts around. A word and a byte, and for each open part a
 -- name, a byte and `${`, are all that a text keeps.
 abbrev pub IsGathered : List ℕ → List ℕ → Type 0
 IsGathered text [] = length text ≤ 4097

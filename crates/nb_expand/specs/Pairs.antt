@@ -4,7 +4,7 @@ use Rattle.std.specs.List.{flat_map}
 use Rattle.std.specs.Option.{option_map}
 use Rattle.hex.specs.Hex.{encode_lower, hex_digit_value}
 
--- each pair behind a separator, less the first separator
+-- each pair after a separator, less the first separator
 abbrev pub printed_pairs : ℕ → List ℕ → List ℕ
 printed_pairs separator bytes = drop 1 (flat_map (λ b. separator ∷ encode_lower (b ∷ [])) bytes)
 
@@ -12,18 +12,18 @@ printed_pairs separator bytes = drop 1 (flat_map (λ b. separator ∷ encode_low
 abbrev pub byte_of_digits : ℕ → ℕ → Option ℕ
 byte_of_digits high low = option_and_then (λ h. option_map (λ l. h * 16 + l) (hex_digit_value low)) (hex_digit_value high)
 
--- the byte of the pair that a text begins with, and what stands behind it
+-- the byte of the pair that a text begins with, and what stands after it
 abbrev pub pair_at : List ℕ → Option (ℕ × List ℕ)
 pair_at [] = None
 pair_at (high ∷ []) = None
 pair_at (high ∷ low ∷ rest) = option_map (λ byte. (byte, rest)) (byte_of_digits high low)
 
--- the same behind a separator
+-- the same after a separator
 abbrev pub pair_behind : ℕ → List ℕ → Option (ℕ × List ℕ)
 pair_behind separator [] = None
 pair_behind separator (first ∷ rest) = if first == separator then pair_at rest else None
 
--- the bytes of pairs that each stand behind a separator
+-- the bytes of pairs that each stand after a separator
 abbrev pub pairs_behind : ℕ → List ℕ → Option (List ℕ)
 pairs_behind separator [] = Some []
 pairs_behind separator (s ∷ []) = None

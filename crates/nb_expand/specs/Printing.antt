@@ -6,6 +6,7 @@ use Rattle.hex.specs.Hex.{encode_lower}
 use Rattle.base64.specs.Engines.{standard}
 use Rattle.base64.specs.GeneralPurpose.{encode_of}
 use Rattle.uuid.specs.Text.{hyphenated_text, lower}
+use Rattle.nb_settings.specs.Nulls.{without_nulls}
 use Rattle.nb_expand.specs.Numbers.{printed_signed, printed_unsigned}
 use Rattle.nb_expand.specs.Pairs.{printed_pairs}
 use Rattle.nb_expand.specs.Addresses.{printed_address}
@@ -15,8 +16,9 @@ use Rattle.nb_expand.specs.Uris.{printed_uri}
 abbrev pub printed_uuid : List ℕ → List ℕ
 printed_uuid bytes = if length bytes == 16 then hyphenated_text lower bytes else []
 
+-- of a text the zero bytes at the end are left out, which servers add (RFC 2132, section 2)
 unfoldable pub printed : Kind → List ℕ → List ℕ
-printed Str bytes = bytes
+printed Str bytes = without_nulls bytes
 printed Ipv4 bytes = printed_address bytes
 printed Int8 bytes = printed_signed 1 bytes
 printed Int16 bytes = printed_signed 2 bytes
@@ -29,4 +31,4 @@ printed Hexhyp bytes = printed_pairs 45 bytes
 printed Hexraw bytes = encode_lower bytes
 printed Base64 bytes = encode_of standard bytes
 printed Uuid bytes = printed_uuid bytes
-printed Uristring bytes = printed_uri bytes
+printed Uristring bytes = printed_uri (without_nulls bytes)

@@ -8,6 +8,7 @@ use Rattle.base64.specs.Engines.{standard}
 use Rattle.base64.specs.GeneralPurpose.{decoded_of}
 use Rattle.percent_encoding.specs.Percent.{percent_decode}
 use Rattle.uuid.specs.Text.{parsed_hyphenated}
+use Rattle.nb_settings.specs.Nulls.{without_nulls}
 use Rattle.nb_expand.specs.Numbers.{parsed_signed, parsed_unsigned}
 use Rattle.nb_expand.specs.Pairs.{parsed_pairs}
 use Rattle.nb_numerals.specs.Addresses.{parsed_address}
@@ -45,3 +46,20 @@ IsWhole Hexhyp bytes = Unit {0}
 IsWhole Hexraw bytes = Unit {0}
 IsWhole Base64 bytes = Unit {0}
 IsWhole Uristring bytes = Unit {0}
+
+-- the bytes that a value's text shows: of the text kinds all but the zero bytes at the end
+abbrev pub shown : Kind → List ℕ → List ℕ
+shown Str bytes = without_nulls bytes
+shown Uristring bytes = without_nulls bytes
+shown Ipv4 bytes = bytes
+shown Int8 bytes = bytes
+shown Int16 bytes = bytes
+shown Int32 bytes = bytes
+shown Uint8 bytes = bytes
+shown Uint16 bytes = bytes
+shown Uint32 bytes = bytes
+shown Hex bytes = bytes
+shown Hexhyp bytes = bytes
+shown Hexraw bytes = bytes
+shown Base64 bytes = bytes
+shown Uuid bytes = bytes

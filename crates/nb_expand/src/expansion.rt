@@ -31,7 +31,7 @@ pub fn expand(alloc: Global, text: &[u8], table: &Table) -> Result<Word, ExpandE
     word_of(gathered.into_text())
 }
 
-/// What is gathered behind one token more.
+/// What is gathered after one token more.
 fn after(
     alloc: Global,
     gathered: Gathered,

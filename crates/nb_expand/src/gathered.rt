@@ -10,7 +10,7 @@ use std::marker::Model;
 /// The most bytes that a name of a setting has: a block of two words, a word, and the longest kind.
 const MAX_NAME: usize = 201;
 
-/// What a text is expanded to so far: the result's text, behind it each open part as `${` and its
+/// What a text is expanded to so far: the result's text, after it each open part as `${` and its
 /// text, and where these texts begin.
 #[derive(Drop)]
 pub(crate) struct Gathered {

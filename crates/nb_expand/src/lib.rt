@@ -23,6 +23,3 @@ pub use parsing::parse;
 pub use printing::print;
 pub use values::text_of_name;
 pub use words_expansion::expand_words;
-
-#[cfg(test)]
-mod tests;

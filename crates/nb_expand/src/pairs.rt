@@ -52,7 +52,7 @@ pub(crate) fn parse_pairs(alloc: Global, separator: u8, text: &[u8]) -> Result<V
     Ok(bytes)
 }
 
-/// The byte of a separator and two digits, and what stands behind them.
+/// The byte of a separator and two digits, and what stands after them.
 fn pair_behind(separator: u8, text: &[u8]) -> Option<(u8, &[u8])>
     ensures value { option_map (λ read. (read.0, read.1.now)) result ≡ pair_behind separator text.now }
     ensures shorter { IfSome result (λ read. length read.1.now < length text.now) }
@@ -63,7 +63,7 @@ fn pair_behind(separator: u8, text: &[u8]) -> Option<(u8, &[u8])>
     }
 }
 
-/// The byte of two digits of either case, and what stands behind them.
+/// The byte of two digits of either case, and what stands after them.
 fn pair_at(text: &[u8]) -> Option<(u8, &[u8])>
     ensures value { option_map (λ read. (read.0, read.1.now)) result ≡ pair_at text.now }
     ensures shorter { IfSome result (λ read. length read.1.now < length text.now) }

@@ -4,14 +4,14 @@ ghost use Rattle.hex.specs.Hex.{encode_lower};
 ghost use Rattle.base64.specs.Engines.{standard};
 ghost use Rattle.base64.specs.GeneralPurpose.{encode_of};
 ghost use Rattle.nb_expand.specs.Printing.{printed, printed_uuid};
-ghost use Rattle.nb_expand.specs.Reading.{parsed, IsWhole};
+ghost use Rattle.nb_expand.specs.Reading.{parsed, IsWhole, shown};
 ghost use Rattle.nb_expand.specs.Uris.{printed_uri};
 
 use crate::address::print_address;
 use crate::number::{print_signed, print_unsigned};
 use crate::pairs::print_pairs;
 use base64::engine::general_purpose::STANDARD;
-use nb_settings::Kind;
+use nb_settings::{Kind, without_nulls};
 use nb_terms::NoMemory;
 use nb_wire::Text;
 use percent_encoding::{AsciiSet, NON_ALPHANUMERIC, ascii_set, percent_encode};
@@ -28,12 +28,13 @@ const RESERVED: AsciiSet = ascii_set!(
 );
 
 /// A setting's value as text, by a kind. An integer kind prints the last bytes of a longer value,
-/// and extends a shorter one; an empty value prints nothing.
+/// and extends a shorter one; an empty value prints nothing. A text kind leaves out the zero bytes at the end, which
+/// servers add (RFC 2132, section 2).
 pub fn print(alloc: Global, kind: Kind, bytes: &[u8]) -> Result<Text, NoMemory>
     ensures value { IfOk result (λ text. text ≡ printed kind bytes.now) }
-    // A value of its kind's length, printed and read again, is the same value.
+    // A value of its kind's length, printed and read again, is the same value, zero bytes at a text's end aside.
     ensures read_back { IsWhole kind bytes.now
-        → parsed kind (printed kind bytes.now) ≡ Some bytes.now }
+        → parsed kind (printed kind bytes.now) ≡ Some (shown kind bytes.now) }
     ensures short { IfOk result (λ text. length text ≤ 3 * length bytes.now + 36) }
 {
     Ok(Text::from_vec(print_bytes(alloc, kind, bytes)?))
@@ -44,7 +45,7 @@ fn print_bytes(alloc: Global, kind: Kind, bytes: &[u8]) -> Result<Vec<u8>, NoMem
     ensures { IfOk result (λ text. text.items ≡ printed kind bytes.now) }
 {
     match kind {
-        Kind::Str => Ok(Vec::from_slice(alloc, bytes)?),
+        Kind::Str => Ok(Vec::from_slice(alloc, without_nulls(bytes))?),
         Kind::Ipv4 => print_address(alloc, bytes),
         Kind::Int8 => print_signed(alloc, 1, bytes),
         Kind::Int16 => print_signed(alloc, 2, bytes),
@@ -57,7 +58,7 @@ fn print_bytes(alloc: Global, kind: Kind, bytes: &[u8]) -> Result<Vec<u8>, NoMem
         Kind::Hexraw => Ok(hex::encode(alloc, bytes)?.into_bytes()),
         Kind::Base64 => Ok(STANDARD.encode(alloc, bytes)?.into_bytes()),
         Kind::Uuid => print_uuid(alloc, bytes),
-        Kind::Uristring => print_uri(alloc, bytes),
+        Kind::Uristring => print_uri(alloc, without_nulls(bytes)),
     }
 }
 

@@ -2,7 +2,7 @@ ghost use Rattle.std.specs.Prelude.{◌≡◌, ◌∷◌, [], ◌<◌, length, I
 ghost use Rattle.nb_expand.specs.Expansion.{tokens, token_of};
 
 /// A part of a text that isn't expanded yet.
-#[derive(Clone, Copy, Debug, PartialEq, Eq)]
+#[derive(Clone, Copy)]
 pub(crate) enum Token {
     /// `${`
     Open,
@@ -12,7 +12,7 @@ pub(crate) enum Token {
     Byte(u8),
 }
 
-/// The first token of a text, and what stands behind it. None at the text's end.
+/// The first token of a text, and what stands after it. None at the text's end.
 pub(crate) fn next_token(text: &[u8]) -> Option<(Token, &[u8])>
     ensures value { MatchOption result (tokens text.now ≡ [])
         (λ next. tokens text.now ≡ next.0 ∷ tokens next.1.now) }

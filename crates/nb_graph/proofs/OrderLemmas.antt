@@ -114,7 +114,7 @@ order-none cause low l b dead = (λ z i f o. let s = no-object l z i (dead z (ab
     above z i (inl f) = omega (arith, f)
     above z i (inr f) = let e = f.0 in omega arith
 
--- one list of letting go behind the other
+-- one list of letting go after the other
 pub lets-append : (es fs : List GraphEvent) → LetsHoldsGo es → LetsHoldsGo fs → LetsHoldsGo (es ++ fs)
 lets-append es fs none k = k
 lets-append es fs (one x gone more h) k = subst LetsHoldsGo (ap (λ l. LetGo x ∷ l) (sym (append_assoc (frees gone) more fs))) (one x gone (more ++ fs) (lets-append more fs h k))

@@ -67,7 +67,7 @@ pub closes-none : (xs : List (ℕ × Cause)) (P : ℕ → Type 0) → length xs 
 closes-none [] P h k c = absurd c
 closes-none (x ∷ xs) P h k c = absurd (omega arith)
 
--- the list behind its first element, as a slice pattern cuts it
+-- the list after its first element, as a slice pattern cuts it
 rest-cons : {A : Type 0} (x : A) (xs : List A) → take (length (x ∷ xs) - 1) (drop 1 (x ∷ xs)) ≡ xs
 rest-cons x xs = ap (λ n. take n xs) (let e : length (x ∷ xs) - 1 ≡ length xs = omega arith in e) ∙ take-length xs
 

@@ -69,7 +69,7 @@ pub record ClosesOnce (old new : Ledger) (before after : Heard) (p : Port) (caus
 abbrev pub EndsLink : Port → Port → List GraphEvent → Type 0
 EndsLink p q es = (gone : List ObjId) × (es ≡ Left q ∷ Unplugged p q ∷ frees gone)
 
--- what closes in order from the object behind x on, does so from x on with what closed x before it
+-- what closes in order from the object after x on, does so from x on with what closed x before it
 abbrev pub ShutsObject : Cause → ℕ → Ledger → Ledger → Heard → Heard → Type 0
 ShutsObject cause x old mid before told =
     (new : Ledger) (after : Heard) (ps : List Port) → ClosesInOrder cause (x + 1) 0 mid new told after ps → (qs : List Port) × ClosesInOrder cause x 0 old new before after qs

@@ -12,8 +12,6 @@ mod closing;
 mod downward;
 mod effects;
 mod ending;
-#[cfg(test)]
-mod fake;
 mod graph;
 mod inner;
 mod leaving;
@@ -23,8 +21,6 @@ mod message;
 mod node;
 mod rising;
 mod spare;
-#[cfg(test)]
-mod tests;
 mod timing;
 mod upward;
 

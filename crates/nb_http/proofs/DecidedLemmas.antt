@@ -14,7 +14,7 @@ use Rattle.nb_httpmsg.proofs.BlockLemmas.{take_within}
 use Rattle.nb_httpmsg.proofs.FeedLemmas.{no_longer}
 use Rattle.nb_httpmsg.proofs.LeastLemmas.{less}
 use Rattle.nb_http.specs.declared.state.State.TheVariants.{Over}
-use Rattle.nb_http.specs.Ends.{verdict_end, is_decided, text_of}
+use Rattle.nb_readings.specs.Ends.{verdict_end, is_decided, text_of}
 use Rattle.nb_http.specs.HeadReading.{IsHeadRead, IsDecidedAt}
 
 pub no_shorter : (line before added : List ℕ) → line ≡ before ++ added → length before ≤ length line

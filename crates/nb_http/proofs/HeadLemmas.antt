@@ -24,7 +24,7 @@ use Rattle.nb_httpmsg.proofs.BlockLemmas.{take_within}
 use Rattle.nb_http.specs.declared.state.State.{State}
 use Rattle.nb_http.specs.declared.state.State.TheVariants.{Head, Sized, Chunked, ToEnd, Over}
 use Rattle.nb_http.specs.declared.head_step.HeadStep.{HeadStep}
-use Rattle.nb_http.specs.Ends.{verdict_end, is_decided, text_of}
+use Rattle.nb_readings.specs.Ends.{verdict_end, is_decided, text_of}
 use Rattle.nb_http.specs.Standing.{IsBodyHead, state_at_end}
 use Rattle.nb_httpmsg.specs.declared.place.Place.{Place}
 use Rattle.nb_httpmsg.specs.declared.place.Place.TheVariants as place

@@ -5,8 +5,9 @@ use Rattle.std.proofs.lemmas.Bool.{leb-true, leb-false}
 use Rattle.std.proofs.lemmas.List.{length-take, take-append-le, take_all}
 use Rattle.nb_responses.specs.Lines.{head_block, missing}
 use Rattle.nb_responses.specs.Heads.{framing, sized, chunked}
-use Rattle.nb_responses.specs.Chunks.{more, open_body, response, Chunked as ReadsChunks}
-use Rattle.nb_responses.specs.Responses.{most_bytes, no_block, no_block_verdict, ResponseOf, by_end}
+use Rattle.nb_responses.specs.Chunks.{more, open_body, response}
+use Rattle.nb_readings.proofs.ReadingLemmas.{chunked_body}
+use Rattle.nb_responses.specs.Responses.{most_bytes, no_block, no_block_verdict, by_end}
 use Rattle.nb_responses.proofs.Cases.{either}
 use Rattle.nb_responses.proofs.LineLaws.{take_front}
 use Rattle.nb_httpmsg.specs.Feeding.{StandsForBody}
@@ -18,7 +19,7 @@ use Rattle.nb_http.specs.declared.state.State.TheVariants.{Head, Sized, Chunked,
 use Rattle.nb_http.specs.declared.head_step.HeadStep.{HeadStep}
 use Rattle.nb_http.specs.Standing.{Core, AtHead, AtSized, AtChunked, AtToEnd, LiveAt, IsReading, HasRead, DecidesLast, is_over}
 use Rattle.nb_http.specs.HeadReading.{IsHeadRead}
-use Rattle.nb_http.proofs.StandsLemmas.{Undecided, with_more, body_reads, sized_reads, to_end_reads, unlimited}
+use Rattle.nb_http.proofs.StandsLemmas.{Undecided, with_more, body_reads, sized_reads, to_end_reads, unlimited, read_by}
 
 -- the same of what follows the interim heads
 abbrev pub StepsLeast : Core → List ℕ → Type 0
@@ -30,11 +31,9 @@ decides_last old taken step = λ stream given part later s live e l.
     let at : IsReading old stream given = s.live live in
     let u = step at.rest given part later at.at e l in (
       u.0,
-      record {
-        so_far = response u.1.verdict (given ++ u.0);
-        reads = record { skipped = at.skipped; rest = at.rest ++ part; all = at.all; stands = ap (λ t. t ++ part) at.is_stream ∙ append_assoc (concat at.skipped) at.rest part; ends = u.1.reads };
-        is = ap (λ v. response v (given ++ u.0)) (sym u.1.goes_on);
-      },
+      ap (by_end false) (read_by at.skipped (at.rest ++ part) (stream ++ part) (response u.1.verdict (given ++ u.0)) at.all
+          (ap (λ t. t ++ part) at.is_stream ∙ append_assoc (concat at.skipped) at.rest part) u.1.reads)
+          ∙ ap (λ v. response v (given ++ u.0)) u.1.goes_on,
     )
 
 -- bytes of a head
@@ -87,7 +86,7 @@ chunks_least room old taken at few least = λ rest given part later live e l.
       with_more (rest ++ part) (given ++ w.gathered)
           (body_reads old.head (rest ++ part) (here.body ++ part) here.h chunked (response more (given ++ w.gathered)) here.head
           (ap (λ t. t ++ part) here.is_rest ∙ append_assoc old.head here.body part) here.frames
-          (response more (given ++ w.gathered), w.reads, unlimited more (given ++ w.gathered) fits)),
+          (chunked_body (here.body ++ part) (response more (given ++ w.gathered)) (response more (given ++ w.gathered)) w.reads (unlimited more (given ++ w.gathered) fits))),
     )
 
 -- a list's first, of as many as there are

@@ -8,20 +8,22 @@ use Rattle.httparse.specs.Grammar.{ResponseHead}
 use Rattle.nb_terms.specs.declared.cause.Cause.{Cause}
 use Rattle.nb_responses.specs.Lines.{head_block}
 use Rattle.nb_responses.specs.Heads.{Framing, framing, sized, chunked, to_end}
-use Rattle.nb_responses.specs.Chunks.{Verdict, more, open_body, body, broken, Response, response, Chunked as ReadsChunks}
-use Rattle.nb_responses.specs.Responses.{most_bytes, within_limit, sized_response, ReadsBody, Final, no_block, by_body, no_block_verdict, IsInterim, ResponseOf, by_end, before_end}
+use Rattle.nb_responses.specs.Chunks.{Verdict, more, open_body, body, broken, Response, response}
+use Rattle.nb_responses.specs.Responses.{most_bytes, within_limit, sized_response, ReadsBody, Final, no_block, by_body, no_block_verdict, IsInterim, ReadsSoFar, by_end, before_end}
+use Rattle.nb_readings.specs.Readings.{read_so_far, response_read}
+use Rattle.nb_readings.proofs.ReadingLemmas.{chunked_body, reading_only}
 use Rattle.nb_responses.proofs.LineLaws.{head_block_more}
 use Rattle.nb_httpmsg.specs.declared.place.Place.{Place}
 use Rattle.nb_httpmsg.specs.declared.place.Place.TheVariants as place
 use Rattle.nb_httpmsg.specs.Feeding.{StandsForBody, verdict_of, is_open}
 use Rattle.nb_http.specs.declared.state.State.{State}
 use Rattle.nb_http.specs.declared.state.State.TheVariants.{Head, Sized, Chunked, ToEnd, Over}
-use Rattle.nb_http.specs.Ends.{verdict_end, is_decided, text_of}
+use Rattle.nb_readings.specs.Ends.{verdict_end, is_decided, text_of}
 use Rattle.nb_http.specs.Standing.{Core, is_over, range_of, moved_text, IsBodyHead, AtHead, AtSized, AtChunked, AtToEnd, LiveAt, IsReading, HasRead, TakesBytes, GoesOnOrEnds, goes_on, skips, ends, StepsBy, EndsStream, end_at, state_at_end}
 use Rattle.nb_http.specs.Giving.{range_given, range_to}
 use Rattle.nb_responses.proofs.Cases.{either}
 
--- the reading of a body behind its head
+-- the reading of a body after its head
 pub body_reads : (head rest text : List ℕ) (h : ResponseHead) (f : Framing) (r : Response) → IsBodyHead head h → rest ≡ head ++ text → framing h ≡ f → ReadsBody text f r → Final rest r
 body_reads head rest text h f r is e frames reads =
     by_body head text h r (ap head_block e ∙ head_block_more head text is.block) is.is is.final is.next (subst (λ k. ReadsBody text k r) (sym frames) reads)
@@ -65,9 +67,8 @@ sized_reads left c rest given at =
 
 chunked_reads : (room : ℕ) (c : Core) (rest given : List ℕ) → AtChunked room c rest given → Final rest (response more given)
 chunked_reads room c rest given at =
-    let read : ReadsChunks at.body (response more given) = subst (λ v. ReadsChunks at.body (response v given)) (open_is_more c.chunks.place at.unread) at.stands.reads in
     body_reads c.head rest at.body at.h chunked (response more given) at.head at.is_rest at.frames
-    (response more given, read, unlimited more given (omega (arith, at.fits)))
+    (chunked_body at.body (response more given) (response more given) (at.stands.reads ∙ ap (λ v. response v given) (open_is_more c.chunks.place at.unread)) (unlimited more given (omega (arith, at.fits))))
 
 pub to_end_reads : (room : ℕ) (c : Core) (rest given : List ℕ) → AtToEnd room c rest given → Final rest (response open_body given)
 to_end_reads room c rest given at =
@@ -87,19 +88,23 @@ not_over (Chunked room) c rest given at = (refl, refl)
 not_over (ToEnd room) c rest given at = (refl, refl)
 not_over (Over range) c rest given at = absurd at
 
+-- what follows the interim heads is what a stream is read as
+pub read_by : (skipped : List (List ℕ)) (rest stream : List ℕ) (r : Response) → AllByRecursion IsInterim skipped → stream ≡ concat skipped ++ rest → Final rest r → read_so_far stream ≡ r
+read_by skipped rest stream r all e reads = sym (reading_only stream r (record { skipped = skipped; rest = rest; all = all; stands = e; ends = reads }))
+
 stands_live : (rec : ℕ) (c : Core) (skipped : List (List ℕ)) (rest stream given : List ℕ) (over : Option Cause) → AllByRecursion IsInterim skipped → stream ≡ concat skipped ++ rest
-    → LiveAt c.state c rest given → over ≡ None → (s : HasRead c stream given) × (over ≡ verdict_end rec s.verdict)
+    → LiveAt c.state c rest given → over ≡ None → HasRead c stream given × (over ≡ verdict_end rec (read_so_far stream).verdict)
 stands_live rec c skipped rest stream given over all e at none =
     let u : Undecided rest given = undecided c.state c rest given at in
-    let n : (is_over c.state ≡ false) × (range_of c.state ≡ None) = not_over c.state c rest given at in (
+    let n : (is_over c.state ≡ false) × (range_of c.state ≡ None) = not_over c.state c rest given at in
+    let is : read_so_far stream ≡ response u.verdict given = read_by skipped rest stream (response u.verdict given) all e u.reads in (
       record {
-        verdict = u.verdict;
-        reads = record { skipped = skipped; rest = rest; all = all; stands = e; ends = u.reads };
-        decided = n.0 ∙ sym u.decided;
-        moves = ap (option_map (λ r. slice_range c.head r.0 r.1)) n.1 ∙ sym u.moves;
+        bytes = ap (λ (k : Response). k.bytes) is;
+        decided = n.0 ∙ sym u.decided ∙ ap (λ (k : Response). is_decided k.verdict) (sym is);
+        moves = ap (option_map (λ r. slice_range c.head r.0 r.1)) n.1 ∙ sym u.moves ∙ ap (λ (k : Response). text_of k.verdict) (sym is);
         live = λ _. record { skipped = skipped; rest = rest; all = all; is_stream = e; at = at };
       },
-      none ∙ sym (u.quiet rec),
+      none ∙ sym (u.quiet rec) ∙ ap (λ (k : Response). verdict_end rec k.verdict) (sym is),
     )
 
 all_one_more : (xs : List (List ℕ)) (x : List ℕ) → AllByRecursion IsInterim xs → IsInterim x → AllByRecursion IsInterim (xs ++ x ∷ [])
@@ -111,21 +116,21 @@ concat_one_more [] x = append-nil x
 concat_one_more (y ∷ ys) x = ap (λ t. y ++ t) (concat_one_more ys x) ∙ sym (append_assoc y (concat ys) x)
 
 outcome_stands : (rec : ℕ) (c : Core) (skipped : List (List ℕ)) (rest stream given : List ℕ) (over : Option Cause) → AllByRecursion IsInterim skipped → stream ≡ concat skipped ++ rest
-    → GoesOnOrEnds rec c rest given over → (s : HasRead c stream given) × (over ≡ verdict_end rec s.verdict)
+    → GoesOnOrEnds rec c rest given over → HasRead c stream given × (over ≡ verdict_end rec (read_so_far stream).verdict)
 outcome_stands rec c skipped rest stream given over all e (goes_on at none) = stands_live rec c skipped rest stream given over all e at none
 outcome_stands rec c skipped rest stream given over all e (skips interim at none) =
     stands_live rec c (skipped ++ rest ∷ []) [] stream given over (all_one_more skipped rest all interim)
     (e ∙ sym (concat_one_more skipped rest) ∙ sym (append-nil (concat (skipped ++ rest ∷ [])))) at none
-outcome_stands rec c skipped rest stream given over all e (ends verdict reads decided ended moves is) = (
-  record {
-    verdict = verdict;
-    reads = record { skipped = skipped; rest = rest; all = all; stands = e; ends = reads };
-    decided = ended ∙ sym decided;
-    moves = moves;
-    live = λ live. absurd (false≢true (sym live ∙ ended));
-  },
-  is,
-)
+outcome_stands rec c skipped rest stream given over all e (ends verdict reads decided ended moves is) =
+    let same : response verdict given ≡ read_so_far stream = sym (read_by skipped rest stream (response verdict given) all e reads) in (
+      record {
+        bytes = ap (λ (k : Response). k.bytes) (sym same);
+        decided = ended ∙ sym decided ∙ ap (λ (k : Response). is_decided k.verdict) same;
+        moves = moves ∙ ap (λ (k : Response). text_of k.verdict) same;
+        live = λ live. absurd (false≢true (sym live ∙ ended));
+      },
+      is ∙ ap (λ (k : Response). verdict_end rec k.verdict) same,
+    )
 
 -- steps of a live core are what a call takes
 pub takes : (rec : ℕ) (old new : Core) (taken gave : List ℕ) (over : Option Cause) → StepsBy rec old new taken gave over → TakesBytes rec old new taken gave over
@@ -140,9 +145,14 @@ at_start c empty at fresh unread =
     (stands_live 0 c [] [] [] [] None tt refl (subst (λ s. LiveAt s c [] []) (sym at) (record { is_rest = sym empty; none_given = refl; block = ap head_block empty; fresh = fresh; unread = unread })) refl).0
 
 ended_by : (rec : ℕ) (c : Core) (stream given : List ℕ) (before after : Verdict) (over : Option Cause) → (l : IsReading c stream given) → Final l.rest (response before given) → by_end true (response before given) ≡ response after given
-    → over ≡ verdict_end rec after → is_decided after ≡ true → (r : Response) × ResponseOf stream true r × (r.bytes ≡ given) × (over ≡ verdict_end rec r.verdict) × (is_decided r.verdict ≡ true)
+    → over ≡ verdict_end rec after → is_decided after ≡ true
+    → ((response_read stream true).bytes ≡ given) × (over ≡ verdict_end rec (response_read stream true).verdict) × (is_decided (response_read stream true).verdict ≡ true)
 ended_by rec c stream given before after over l reads decides is decided =
-    (response after given, record { so_far = response before given; reads = record { skipped = l.skipped; rest = l.rest; all = l.all; stands = l.is_stream; ends = reads }; is = sym decides }, refl, is, decided)
+    let same : response_read stream true ≡ response after given = ap (by_end true) (read_by l.skipped l.rest stream (response before given) l.all l.is_stream reads) ∙ decides in (
+      ap (λ (k : Response). k.bytes) same,
+      is ∙ ap (λ (k : Response). verdict_end rec k.verdict) (sym same),
+      ap (λ (k : Response). is_decided k.verdict) same ∙ decided,
+    )
 
 abbrev pub with_state : Core → State → Core
 with_state c state = record { head = c.head; chunks = c.chunks; state = state }

@@ -6,7 +6,9 @@ use Rattle.httparse.specs.Grammar.{ResponseHead}
 use Rattle.nb_terms.specs.declared.cause.Cause.{Cause}
 use Rattle.nb_responses.specs.Lines.{head_block}
 use Rattle.nb_responses.specs.Heads.{framing, sized, chunked, to_end}
-use Rattle.nb_responses.specs.Chunks.{Verdict, open_body, body, broken, large, long, response, Chunked as ReadsChunks}
+use Rattle.nb_responses.specs.Chunks.{Verdict, open_body, body, broken, large, long, response}
+use Rattle.nb_readings.specs.Readings.{chunked_read}
+use Rattle.nb_readings.proofs.ReadingLemmas.{chunked_body}
 use Rattle.nb_responses.specs.Responses.{most_bytes, within_limit, sized_response}
 use Rattle.nb_responses.proofs.Cases.{either}
 use Rattle.nb_responses.proofs.LineLaws.{take_front}
@@ -20,7 +22,7 @@ use Rattle.nb_httpmsg.proofs.BlockLemmas.{take_within}
 use Rattle.nb_http.specs.declared.state.State.{State}
 use Rattle.nb_http.specs.declared.state.State.TheVariants.{Head, Sized, Chunked, ToEnd, Over}
 use Rattle.nb_http.specs.declared.head_step.HeadStep.{HeadStep}
-use Rattle.nb_http.specs.Ends.{verdict_end, is_decided, text_of}
+use Rattle.nb_readings.specs.Ends.{verdict_end, is_decided, text_of}
 use Rattle.nb_http.specs.Standing.{Core, is_over, moved_text, IsBodyHead, AtHead, AtSized, AtChunked, AtToEnd, LiveAt, GoesOnOrEnds, goes_on, skips, ends, StepsBy}
 use Rattle.nb_http.specs.HeadReading.{HeadGoes, IsHeadRead}
 use Rattle.nb_http.specs.Giving.{sized_next, to_end_next, chunk_next, chunk_next_by}
@@ -150,9 +152,9 @@ chunk_live c rest given text h rec room over head e frames stands unread fits st
     goes_on (subst (λ s. LiveAt s c rest given) (sym state) (record { h = h; body = text; head = head; is_rest = e; frames = frames; stands = stands; unread = unread; fits = fits })) none
 
 chunk_decided : (verdict : Verdict) (c : Core) (rest given text : List ℕ) (h : ResponseHead) (rec room : ℕ) (over : Option Cause) → IsBodyHead c.head h → rest ≡ c.head ++ text → framing h ≡ chunked
-    → ReadsChunks text (response verdict given) → length given + room ≡ most_bytes → is_decided verdict ≡ true → text_of verdict ≡ None → c.state ≡ Over None → over ≡ verdict_end rec verdict → GoesOnOrEnds rec c rest given over
+    → chunked_read text ≡ response verdict given → length given + room ≡ most_bytes → is_decided verdict ≡ true → text_of verdict ≡ None → c.state ≡ Over None → over ≡ verdict_end rec verdict → GoesOnOrEnds rec c rest given over
 chunk_decided verdict c rest given text h rec room over head e frames reads fits decided none state is =
-    ends verdict (body_reads c.head rest text h chunked (response verdict given) head e frames (response verdict given, reads, unlimited verdict given (omega (arith, fits))))
+    ends verdict (body_reads c.head rest text h chunked (response verdict given) head e frames (chunked_body text (response verdict given) (response verdict given) reads (unlimited verdict given (omega (arith, fits)))))
     decided (ap is_over state) (ap (moved_text c.head) state ∙ sym none) is
 
 chunks_end : (place : Place) (c : Core) (rest given text : List ℕ) (h : ResponseHead) (rec room : ℕ) (over : Option Cause) → IsBodyHead c.head h → rest ≡ c.head ++ text → framing h ≡ chunked
@@ -195,7 +197,8 @@ chunks_come rec room old new taken fed over at feeds says after is same = λ res
     let exact : most_bytes - length given ≡ min (length block) room = omega (arith, here.fits, past) in
     let front : take most_bytes (given ++ block) ≡ given ++ gave = take_front most_bytes given block (omega (arith, here.fits)) ∙ ap (λ n. given ++ take n block) exact in
     let cut : response large (given ++ gave) ≡ within_limit (response (verdict_of new.chunks.place) (given ++ block)) = rw too_much (ap (response large) (sym front)) in
-    ends large (body_reads new.head (rest ++ taken) (here.body ++ taken) here.h chunked (response large (given ++ gave)) head text here.frames (response (verdict_of new.chunks.place) (given ++ block), stands.reads, cut))
+    ends large (body_reads new.head (rest ++ taken) (here.body ++ taken) here.h chunked (response large (given ++ gave)) head text here.frames
+    (chunked_body (here.body ++ taken) (response (verdict_of new.chunks.place) (given ++ block)) (response large (given ++ gave)) stands.reads cut))
     refl (ap is_over state) (ap (moved_text new.head) state) (is ∙ (rw on refl)))
     (λ off.
     let few : length block ≤ room = ltb-false room (length block) off in

@@ -11,7 +11,7 @@ use Rattle.nb_http.specs.declared.state.State.{State}
 use Rattle.nb_http.specs.declared.state.State.TheVariants.{Head, Sized, Chunked, ToEnd, Over}
 use Rattle.nb_http.specs.declared.head_step.Next.{Next}
 use Rattle.nb_http.specs.declared.http.Taken.{Taken}
-use Rattle.nb_http.specs.Ends.{verdict_end}
+use Rattle.nb_readings.specs.Ends.{verdict_end}
 use Rattle.nb_http.specs.Standing.{Core, Kept, RangeFits, TakesBytes, DecidesLast}
 
 -- the range of the bytes that a call hands on

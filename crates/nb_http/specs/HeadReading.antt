@@ -12,7 +12,7 @@ use Rattle.nb_http.specs.declared.state.State.{State}
 use Rattle.nb_http.specs.declared.state.State.TheVariants.{Head, Sized, Chunked, ToEnd, Over}
 use Rattle.nb_http.specs.declared.head_step.HeadStep.{HeadStep}
 use Rattle.nb_http.specs.declared.head_step.Next.{Next}
-use Rattle.nb_http.specs.Ends.{verdict_end, is_decided, text_of}
+use Rattle.nb_readings.specs.Ends.{verdict_end, is_decided, text_of}
 use Rattle.nb_http.specs.Standing.{IsBodyHead, RangeFits, moved_text}
 
 -- a head with a verdict of its own, or bytes that can't become one

@@ -1,5 +1,3 @@
-pub mod Requests
-pub mod Ends
 pub mod Standing
 pub mod HeadReading
 pub mod Giving

@@ -2,8 +2,8 @@
 use Rattle.std.specs.Prelude.{◌≡◌, ℕ, Bool, true, false, List, [], ◌++◌, Option, None}
 use Rattle.nb_terms.specs.declared.cause.Cause.{Cause}
 use Rattle.nb_responses.specs.Chunks.{Verdict, more, Response, response}
-use Rattle.nb_responses.specs.Responses.{ResponseOf}
-use Rattle.nb_http.specs.Ends.{verdict_end, is_decided, text_of}
+use Rattle.nb_readings.specs.Readings.{response_read}
+use Rattle.nb_readings.specs.Ends.{verdict_end, is_decided, text_of}
 use Rattle.nb_http.specs.Standing.{Core, HasRead, TakesBytes, EndsStream, is_over, moved_text}
 
 -- A core that was started and took a stream, in whatever pieces, has given these bytes of the body, and
@@ -46,8 +46,7 @@ CuttingChangesNoEnd = (rec later first second : ℕ) (a b c d : Core) (stream gi
 abbrev pub GivesTheBeginning : Type 0
 GivesTheBeginning = (rec : ℕ) (c : Core) (stream given : List ℕ) (over : Option Cause)
     → Ran rec c stream given over
-    → (later : List ℕ) (ended : Bool) (r : Response) → ResponseOf (stream ++ later) ended r
-    → (rest : List ℕ) × (r.bytes ≡ given ++ rest)
+    → (later : List ℕ) (ended : Bool) → (rest : List ℕ) × ((response_read (stream ++ later) ended).bytes ≡ given ++ rest)
 
 -- it has given all of the body, and its end is the response's
 pub record EndsAsRead (rec : ℕ) (c : Core) (given : List ℕ) (over : Option Cause)
@@ -61,18 +60,16 @@ pub record EndsAsRead (rec : ℕ) (c : Core) (given : List ℕ) (over : Option C
 abbrev pub EndsAsTheResponse : Type 0
 EndsAsTheResponse = (rec : ℕ) (c : Core) (stream given : List ℕ) (over : Option Cause)
     → Ran rec c stream given over → is_over c.state ≡ true
-    → (later : List ℕ) (ended : Bool) (r : Response) → ResponseOf (stream ++ later) ended r
-    → EndsAsRead rec c given over r
+    → (later : List ℕ) (ended : Bool) → EndsAsRead rec c given over (response_read (stream ++ later) ended)
 
 -- A core goes on as long as the stream isn't decided.
 abbrev pub GoesOnTillDecided : Type 0
 GoesOnTillDecided = (rec : ℕ) (c : Core) (stream given : List ℕ) (over : Option Cause)
     → Ran rec c stream given over → is_over c.state ≡ false
-    → ResponseOf stream false (response more given) × (over ≡ None)
+    → (response_read stream false ≡ response more given) × (over ≡ None)
 
 -- The stream's end ends such a core as it ends the response.
 abbrev pub FinishesAsTheResponse : Type 0
 FinishesAsTheResponse = (rec later : ℕ) (c new : Core) (stream given : List ℕ)
     (over last : Option Cause) → Ran rec c stream given over → is_over c.state ≡ false
-    → EndsStream later c new last → (r : Response) → ResponseOf stream true r
-    → EndsAsRead later new given last r
+    → EndsStream later c new last → EndsAsRead later new given last (response_read stream true)

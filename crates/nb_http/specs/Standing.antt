@@ -6,13 +6,14 @@ use Rattle.httparse.specs.Grammar.{ResponseHead}
 use Rattle.nb_terms.specs.declared.cause.Cause.{Cause}
 use Rattle.nb_responses.specs.Lines.{head_block, found, missing}
 use Rattle.nb_responses.specs.Heads.{IsHead, framing, sized, chunked, to_end, is_interim}
-use Rattle.nb_responses.specs.Chunks.{Verdict, more, body, broken, Response, response}
-use Rattle.nb_responses.specs.Responses.{most_bytes, head_verdict, Final, IsInterim, ReadsSoFar, ResponseOf}
+use Rattle.nb_responses.specs.Chunks.{Verdict, more, body, broken, response}
+use Rattle.nb_responses.specs.Responses.{most_bytes, head_verdict, Final, IsInterim}
+use Rattle.nb_readings.specs.Readings.{read_so_far, response_read}
 use Rattle.nb_httpmsg.specs.Reader.{Reader}
 use Rattle.nb_httpmsg.specs.Feeding.{StandsForBody, is_open}
 use Rattle.nb_http.specs.declared.state.State.{State}
 use Rattle.nb_http.specs.declared.state.State.TheVariants.{Head, Sized, Chunked, ToEnd, Over}
-use Rattle.nb_http.specs.Ends.{verdict_end, is_decided, text_of}
+use Rattle.nb_readings.specs.Ends.{verdict_end, is_decided, text_of}
 
 -- the head so far, the reader of a chunked body, and where the core is
 pub record Core : Type 0 where
@@ -106,10 +107,9 @@ pub record IsReading (c : Core) (stream given : List ℕ) : Type 0 where
 -- A core stands for the bytes of the stream that it took and those of the body that it gave: they are
 -- the stream's reading, which is decided exactly where the core has ended.
 pub record HasRead (c : Core) (stream given : List ℕ) : Type 0 where
-  pub verdict : Verdict
-  pub reads : ReadsSoFar stream (response verdict given)
-  pub decided : is_over c.state ≡ is_decided verdict
-  pub moves : moved_text c.head c.state ≡ text_of verdict
+  pub bytes : (read_so_far stream).bytes ≡ given
+  pub decided : is_over c.state ≡ is_decided (read_so_far stream).verdict
+  pub moves : moved_text c.head c.state ≡ text_of (read_so_far stream).verdict
   pub live : is_over c.state ≡ false → IsReading c stream given
 
 -- A call takes bytes of the stream and gives bytes of the body: where it decides the response, it ends
@@ -117,14 +117,14 @@ pub record HasRead (c : Core) (stream given : List ℕ) : Type 0 where
 abbrev pub TakesBytes : ℕ → Core → Core → List ℕ → List ℕ → Option Cause → Type 0
 TakesBytes rec old new taken gave over = (stream given : List ℕ) → HasRead old stream given
     → is_over old.state ≡ false
-    → (s : HasRead new (stream ++ taken) (given ++ gave)) × (over ≡ verdict_end rec s.verdict)
+    → HasRead new (stream ++ taken) (given ++ gave) × (over ≡ verdict_end rec (read_so_far (stream ++ taken)).verdict)
 
 -- Only the last byte that a call takes can decide the response: after each shorter part of what it takes
 -- more of the response is to come.
 abbrev pub DecidesLast : Core → List ℕ → Type 0
 DecidesLast old taken = (stream given part later : List ℕ) → HasRead old stream given
     → is_over old.state ≡ false → taken ≡ part ++ later → 0 < length later
-    → (some : List ℕ) × ResponseOf (stream ++ part) false (response more (given ++ some))
+    → (some : List ℕ) × (response_read (stream ++ part) false ≡ response more (given ++ some))
 
 -- what a step of a live core comes to
 pub data GoesOnOrEnds (rec : ℕ) (c : Core) (rest given : List ℕ) (over : Option Cause) : Type 0 where
@@ -143,8 +143,8 @@ StepsBy rec old new taken gave over = (rest given : List ℕ) → LiveAt old.sta
 -- A core that has ended stays as it is.
 pub record EndsStream (rec : ℕ) (old new : Core) (over : Option Cause) : Type 0 where
   pub live : (stream given : List ℕ) → HasRead old stream given → is_over old.state ≡ false
-      → (r : Response) × ResponseOf stream true r × (r.bytes ≡ given) × (over ≡ verdict_end rec r.verdict)
-      × (is_decided r.verdict ≡ true)
+      → ((response_read stream true).bytes ≡ given) × (over ≡ verdict_end rec (response_read stream true).verdict)
+      × (is_decided (response_read stream true).verdict ≡ true)
   pub silent : is_over old.state ≡ true → (over ≡ None) × (new ≡ old)
   pub unmoved : is_over old.state ≡ false → moved_text new.head new.state ≡ None
   pub ended : is_over new.state ≡ true

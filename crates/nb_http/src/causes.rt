@@ -2,7 +2,7 @@
 
 ghost use Rattle.std.specs.Prelude.{◌≡◌, Some};
 ghost use Rattle.nb_responses.specs.Chunks.{body, status, broken, large, long, many};
-ghost use Rattle.nb_http.specs.Ends.{verdict_end};
+ghost use Rattle.nb_readings.specs.Ends.{verdict_end};
 
 use nb_terms::Cause;
 

@@ -80,7 +80,7 @@ fn after_end(state: State) -> State
 impl Http {
     ghost use Rattle.std.specs.Prelude.{◌≡◌, ◌≤◌, ◌<◌, ◌+◌, ◌^◌, ◌++◌, [], ℕ, List, length, take, IfOk, true, false, slice_range, None};
     ghost use Rattle.std.specs.Option.{option_map, option_copied};
-    ghost use Rattle.nb_http.specs.Requests.{request_text};
+    ghost use Rattle.nb_responses.specs.Requests.{request_text, IsSendable, IsOneRequest};
     ghost use Rattle.nb_http.specs.Standing.{HasRead, DecidesLast, EndsStream, is_over, moved_text};
     ghost use Rattle.nb_http.specs.Giving.{gives_none, took_nothing, HandsUp, SendsNothing, TakesFirst, TakesSo};
 
@@ -90,6 +90,9 @@ impl Http {
         ensures fresh { IfOk result (λ r. r.0.waiting ≡ 0) }
         ensures request { IfOk result
             (λ r. r.1 ≡ request_text target.now.host target.now.port target.now.path) }
+        // Of a host and a path that may be sent it is one request, whatever they name.
+        ensures single { IsSendable target.now.host target.now.path
+            → IfOk result (λ r. IsOneRequest target.now.host target.now.port target.now.path r.1) }
     {
         let text = request(alloc, target)?;
         let head = Vec::with_capacity(alloc, MAX_HEAD)?;

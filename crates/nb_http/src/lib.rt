@@ -5,16 +5,12 @@
 #![tactic(auto)]
 
 mod causes;
-#[cfg(test)]
-mod framing_tests;
 mod head_step;
 mod http;
 mod laws;
 mod request;
 mod state;
 mod steps;
-#[cfg(test)]
-mod tests;
 
 pub use http::Http;
 pub use laws::{cutting_changes_nothing, streams_are_read_as_responses};

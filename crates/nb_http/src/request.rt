@@ -1,7 +1,7 @@
 //! The request's text (RFC 9112, section 3).
 
 ghost use Rattle.std.specs.Prelude.{◌≡◌, IfOk};
-ghost use Rattle.nb_http.specs.Requests.{port_text, request_text};
+ghost use Rattle.nb_responses.specs.Requests.{port_text, request_text, IsSendable, IsOneRequest};
 
 use nb_httpmsg::HttpTarget;
 use nb_terms::NoMemory;
@@ -10,7 +10,9 @@ use std::alloc::Global;
 
 /// Asks for the target's path, and for the end of the connection after the response.
 pub(crate) fn request(alloc: Global, target: &HttpTarget) -> Result<Text, NoMemory>
-    ensures { IfOk result (λ text. text ≡ request_text target.now.host target.now.port target.now.path) }
+    ensures text { IfOk result (λ text. text ≡ request_text target.now.host target.now.port target.now.path) }
+    ensures single { IsSendable target.now.host target.now.path
+        → IfOk result (IsOneRequest target.now.host target.now.port target.now.path) }
 {
     let mut text = Vec::from_slice(alloc, b"GET ")?;
     text.extend_from_slice(target.path.as_slice())?;

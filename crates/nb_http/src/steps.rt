@@ -2,7 +2,7 @@
 
 ghost use Rattle.std.specs.Prelude.{◌≡◌, ◌≤◌, ◌<◌, ◌+◌, ◌^◌, ◌++◌, length, take, vec_len, vec_capacity};
 ghost use Rattle.nb_http.specs.Giving.{sized_next, to_end_next, chunk_next, TakesSo};
-ghost use Rattle.nb_http.specs.Ends.{verdict_end};
+ghost use Rattle.nb_readings.specs.Ends.{verdict_end};
 ghost use Rattle.nb_http.specs.declared.state.State.TheVariants.{Head, Sized, Chunked, ToEnd};
 
 use crate::causes::{not_a_response, ok, too_large, too_long};

@@ -5,7 +5,8 @@ use Rattle.std.proofs.lemmas.Bool.{leb-true, leb-false}
 use Rattle.std.proofs.lemmas.List.{drop_at, take_at, drop-append-le, take-append-le, take-append-drop}
 use Rattle.httparse.specs.Grammar.{print_chunk_line}
 use Rattle.nb_responses.specs.Lines.{first_block, unfinished, limit}
-use Rattle.nb_responses.specs.Chunks.{Verdict, more, response, print_chunk, chunk_bytes, Chunked}
+use Rattle.nb_responses.specs.Chunks.{Verdict, more, response, print_chunk, chunk_bytes}
+use Rattle.nb_readings.specs.Readings.{chunked_read}
 use Rattle.nb_responses.proofs.Cases.{either}
 use Rattle.nb_httpmsg.specs.declared.place.Place.{Place}
 use Rattle.nb_httpmsg.specs.declared.place.Place.TheVariants.{Size, Bytes, End, Trailer}
@@ -40,7 +41,7 @@ least_by old new taken gathered e few step = record {
       (ap (λ b. b ++ w.some) s.is_bytes ∙ append_assoc (flat_map chunk_bytes s.chunks) s.part w.some) w.at in
       record {
         gathered = w.some;
-        reads = subst (λ v. Chunked (text ++ part) (response v (had ++ w.some))) w.undecided there.reads;
+        reads = there.reads ∙ ap (λ v. response v (had ++ w.some)) w.undecided;
         room = w.room;
         among = w.among;
       };
@@ -167,8 +168,7 @@ both_least a b c xs ys feeds first second = record {
       let size : length (first.gathered ++ w.gathered) ≡ length first.gathered + length w.gathered = length-append first.gathered w.gathered in
       record {
         gathered = first.gathered ++ w.gathered;
-        reads = subst (λ g. Chunked (text ++ part) (response more g)) grown
-            (subst (λ t. Chunked t (response more ((before ++ b.block) ++ w.gathered))) (append_assoc text xs (drop (length xs) part) ∙ ap (λ t. text ++ t) (sym begins)) w.reads);
+        reads = sym (ap chunked_read (append_assoc text xs (drop (length xs) part) ∙ ap (λ t. text ++ t) (sym begins))) ∙ w.reads ∙ ap (response more) grown;
         room = omega (arith, w.room, had, size);
         among = omega (arith, size, first.among, w.among, ap length begins, length-append xs (drop (length xs) part));
       })

@@ -12,6 +12,7 @@ use Rattle.nb_responses.specs.Lines.{first_block, whole, unfinished, crowded, li
 use Rattle.nb_responses.specs.Chunks.{Verdict, more, body, broken, long, response, Chunk, chunk_bytes, print_chunk, IsChunk, ending, tail_ending, trailer_verdict, IsLineOf, short_line, long_line, bad_line, Tail, no_line, after_line}
 use Rattle.nb_responses.proofs.LineLaws.{take_front, block_alone, block_longer}
 use Rattle.nb_responses.proofs.Cases.{either}
+use Rattle.nb_readings.proofs.ReadingLemmas.{chunked_only}
 use Rattle.nb_httpmsg.specs.declared.place.Place.{Place}
 use Rattle.nb_httpmsg.specs.declared.place.Place.TheVariants.{Size, Bytes, End, Trailer, Whole, Broken, TooLong}
 use Rattle.nb_httpmsg.specs.Reader.{Reader, IsOpenLine, IsOpenTrailer, FitsPlace}
@@ -99,7 +100,8 @@ standing place line text bytes chunks tail part all e f s = record {
   is_text = e;
   is_bytes = f;
   at = s;
-  reads = record { chunks = chunks; tail = tail; last = response (verdict_of place) part; all = all; stands = e; ends = tail_at place line tail part s; is = ap (response (verdict_of place)) f };
+  reads = sym (chunked_only text (response (verdict_of place) bytes)
+      (record { chunks = chunks; tail = tail; last = response (verdict_of place) part; all = all; stands = e; ends = tail_at place line tail part s; is = ap (response (verdict_of place)) f }));
 }
 
 -- a step within a chunk, a size line or a trailer

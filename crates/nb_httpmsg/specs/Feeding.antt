@@ -4,7 +4,8 @@ use Rattle.std.specs.List.{AllByRecursion, flat_map}
 use Rattle.httparse.specs.Ascii.{carriage_return, line_feed}
 use Rattle.httparse.specs.Grammar.{ChunkLine, IsChunkLine, print_chunk_line, chunk_size}
 use Rattle.nb_responses.specs.Lines.{first_block, unfinished, limit}
-use Rattle.nb_responses.specs.Chunks.{Verdict, more, body, broken, long, response, Chunk, IsChunk, print_chunk, chunk_bytes, Tail, Chunked}
+use Rattle.nb_responses.specs.Chunks.{Verdict, more, body, broken, long, response, Chunk, IsChunk, print_chunk, chunk_bytes, Tail}
+use Rattle.nb_readings.specs.Readings.{chunked_read}
 use Rattle.nb_httpmsg.specs.Reader.{Reader, IsOpenLine, IsOpenTrailer, FitsPlace}
 use Rattle.nb_httpmsg.specs.declared.line.LineRead.{LineRead}
 use Rattle.nb_httpmsg.specs.declared.place.Place.{Place}
@@ -115,7 +116,7 @@ pub record StandsForBody (place : Place) (line text bytes : List ℕ) : Type 0 w
   pub is_text : text ≡ flat_map print_chunk chunks ++ tail
   pub is_bytes : bytes ≡ flat_map chunk_bytes chunks ++ part
   pub at : StandsAt place line tail part
-  pub reads : Chunked text (response (verdict_of place) bytes)
+  pub reads : chunked_read text ≡ response (verdict_of place) bytes
 
 -- a reader that has taken nothing
 abbrev pub IsAtStart : Reader → Type 0

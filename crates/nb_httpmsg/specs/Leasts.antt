@@ -1,7 +1,8 @@
 -- A call takes no byte past the one that decides what it reads.
 use Rattle.std.specs.Prelude.{◌≡◌, ◌≤◌, ◌<◌, ℕ, ◌+◌, ◌-◌, List, ◌++◌, length, take}
 use Rattle.httparse.specs.Grammar.{NeverHasChunkLine}
-use Rattle.nb_responses.specs.Chunks.{more, response, Chunked}
+use Rattle.nb_responses.specs.Chunks.{more, response}
+use Rattle.nb_readings.specs.Readings.{chunked_read}
 use Rattle.nb_httpmsg.specs.Reader.{Reader}
 use Rattle.nb_httpmsg.specs.Feeding.{StandsForBody}
 
@@ -16,7 +17,7 @@ pub record IsBrokenAt (line : List ℕ) (len : ℕ) : Type 0 where
 -- room. It gathered no more bytes than it took.
 pub record IsNotEnough (text bytes : List ℕ) (count : ℕ) (part : List ℕ) : Type 0 where
   pub gathered : List ℕ
-  pub reads : Chunked (text ++ part) (response more (bytes ++ gathered))
+  pub reads : chunked_read (text ++ part) ≡ response more (bytes ++ gathered)
   pub room : count + length gathered < 4096
   pub among : length gathered ≤ length part
 

@@ -1,6 +1,6 @@
 //! Blocks of lines up to an empty one (RFC 9112, section 2).
 
-ghost use Rattle.std.specs.Prelude.{◌≡◌, ◌≤◌, length, take, drop, IfSome};
+ghost use Rattle.std.specs.Prelude.{◌≡◌, ◌≤◌, ◌<◌, length, take, drop, IfSome};
 ghost use Rattle.std.specs.Option.{option_map};
 ghost use Rattle.nb_responses.specs.Lines.{first_line, is_empty, first_block};
 ghost use Rattle.nb_httpmsg.specs.Blocks.{block_to, EndsWithin};
@@ -37,10 +37,11 @@ pub(crate) fn find_block(most: usize, text: &[u8]) -> BlockEnd
 }
 
 /// The length of the first line, with its LF.
-fn line_len(text: &[u8]) -> Option<usize>
+pub(crate) fn line_len(text: &[u8]) -> Option<usize>
     ensures line { first_line text.now
         ≡ option_map (λ n. record { line = take n text.now; rest = drop n text.now }) result }
     ensures within { IfSome result (λ n. n ≤ length text.now) }
+    ensures some { IfSome result (λ n. 0 < n) }
 {
     for (i, b) in text.iter().enumerate() {
         if *b == b'\n' {

@@ -13,8 +13,6 @@ mod number;
 mod place;
 mod steps;
 mod target;
-#[cfg(test)]
-mod tests;
 
 pub use chunks::{ChunkState, Chunks, Fed};
 pub use head::{BodyKind, Head, HeadInfo, MAX_HEAD, read_head};

@@ -9,7 +9,7 @@ pub(crate) enum Place {
     Bytes(u64),
     /// The line end after a chunk's bytes; its CR has come.
     End(bool),
-    /// The trailer, behind a size line of so many bytes.
+    /// The trailer, after a size line of so many bytes.
     Trailer(usize),
     /// The body has ended.
     Whole,

@@ -5,6 +5,7 @@ ghost use Rattle.nb_httpmsg.specs.Feeding.{Feeds, is_open, place_after_bytes, pl
 ghost use Rattle.nb_httpmsg.specs.Leasts.{FeedsLeast};
 ghost use Rattle.nb_httpmsg.specs.declared.place.Place.TheVariants.{Size, Bytes, End, Trailer};
 
+use crate::block::line_len;
 use crate::chunks::{BLOCK, Chunks, MAX_LINES};
 use crate::line::{read_size, read_trailer};
 use crate::place::Place;
@@ -23,6 +24,17 @@ pub fn fill(buffer: &mut Vec<u8>, most: usize, bytes: &[u8]) -> usize
     match buffer.extend_from_slice(&bytes[..taken]) {
         Ok(()) => taken,
         Err(_) => unreachable!(),
+    }
+}
+
+/// The bytes up to and with the first LF, or all of them.
+fn first_line(bytes: &[u8]) -> &[u8]
+    ensures value { result.now ≡ take (length result.now) bytes.now }
+    ensures some { 0 < length bytes.now → 0 < length result.now }
+{
+    match line_len(bytes) {
+        Some(len) => &bytes[..len],
+        None => bytes,
     }
 }
 
@@ -88,7 +100,7 @@ impl Chunks {
     {
         let before = self.line.as_slice();
         let old = before.len();
-        fill(&mut self.line, MAX_LINES, bytes);
+        fill(&mut self.line, MAX_LINES, first_line(bytes));
         let line = self.line.as_slice();
         let read = read_size(line);
         self.line.truncate(read.len);

@@ -1,4 +1,7 @@
+mod AddedLemmas
+mod FirstLineLemmas
 mod KindLemmas
 mod ListLemmas
 mod RemoveLemmas
+mod PagesLemmas
 pub mod PartsLemmas

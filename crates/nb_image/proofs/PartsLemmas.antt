@@ -68,7 +68,7 @@ others_body xs k odd =
     let z : 0 + k / 2 ≡ k / 2 = omega arith in
     ap (slice_get (others_parts xs)) e ∙ body_at 0 (k / 2) xs ∙ ap (λ (m : ℕ). option_map (λ (image : Image). part Initrd m image.body) (slice_get xs (k / 2))) z
 
--- behind the last image stands no part
+-- after the last image stands no part
 pub others_past : (xs : List Image) (k : ℕ) → length xs ≤ k / 2 → slice_get (others_parts xs) k ≡ None
 others_past xs k h =
     let none : slice_get xs (k / 2) ≡ None = slice_get_past xs (k / 2) h in

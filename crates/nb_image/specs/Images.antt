@@ -34,12 +34,12 @@ abbrev pub len_at : Option ℕ → List Image → ℕ
 len_at None images = 0
 len_at (Some i) images = slice_index (map body_len images) i
 
--- the images with one put at a place, or behind all where there is no place
+-- the images with one put at a place, or after all where there is no place
 abbrev pub put_image : Option ℕ → Image → List Image → List Image
 put_image None image images = images ++ image ∷ []
 put_image (Some i) image images = slice_set images i image
 
--- the images with one more: it takes the place of the image of its name, or stands behind all
+-- the images with one more: it takes the place of the image of its name, or stands after all
 abbrev pub with_image : Image → List Image → List Image
 with_image image images = put_image (image_place image.name images) image images
 

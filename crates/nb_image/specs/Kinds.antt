@@ -5,7 +5,7 @@ use Rattle.nb_defs.specs.ScriptText.{begins_script, pieces, is_line_feed}
 use Rattle.nb_image.specs.declared.kind.ImageKind.{ImageKind}
 use Rattle.nb_image.specs.declared.kind.ImageKind.TheVariants.{Script, BzImage, Elf, Efi, Other}
 
--- the first line is `#!ipxe`, with blanks and at most one carriage return behind it
+-- the first line is `#!ipxe`, with blanks and at most one carriage return after it
 abbrev pub is_script : List ℕ → Bool
 is_script bytes = begins_script (pieces is_line_feed bytes)
 

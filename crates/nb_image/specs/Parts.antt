@@ -5,6 +5,8 @@ use Rattle.std.specs.Option.{option_to_list}
 use Rattle.nb_image.specs.declared.image.Image.{Image}
 use Rattle.nb_image.specs.declared.part.PartKind.{PartKind}
 use Rattle.nb_image.specs.declared.part.PartKind.TheVariants.{Kernel, Initrd, CommandLine, KernelName, InitrdName}
+use Rattle.nb_image.specs.declared.part.PartBytes.{PartBytes}
+use Rattle.nb_image.specs.declared.part.PartBytes.TheVariants.{Text, Pages}
 use Rattle.nb_image.specs.declared.part.Part.{Part}
 use Rattle.nb_image.specs.declared.part.Piece.{Piece}
 
@@ -30,8 +32,13 @@ pub record PieceText : Type 0 where
 abbrev pub part : PartKind → ℕ → List ℕ → PartText
 part kind index bytes = record { kind = kind; index = index; bytes = bytes }
 
+-- the bytes of a part, whether they are a text or stand in pages
+abbrev pub bytes_of : PartBytes → List ℕ
+bytes_of (Text text) = text.now
+bytes_of (Pages body) = body.now
+
 abbrev pub part_text : Part → PartText
-part_text p = part p.kind p.index p.bytes.now
+part_text p = part p.kind p.index (bytes_of p.bytes)
 
 abbrev pub piece_text : Piece → PieceText
 piece_text p = record { offset = p.offset; bytes = p.bytes.now }

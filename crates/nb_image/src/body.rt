@@ -1,8 +1,9 @@
-ghost use Rattle.std.specs.Prelude.{◌≡◌, ◌+◌, ◌*◌, ◌<◌, ◌≤◌, [], ◌++◌, length, take, drop, IfOk, OnOk, OnErr, IsErrOf};
+ghost use Rattle.std.specs.Prelude.{◌≡◌, ◌+◌, ◌*◌, ◌<◌, ◌≤◌, [], ◌++◌, length, take, drop, slice_get, IfOk, OnOk, OnErr, IsErrOf};
 ghost use Rattle.std.specs.Option.{MatchOption};
 ghost use Rattle.nb_image.specs.Kinds.{kind_of};
 
 use crate::kind::kind_of;
+use crate::pages::{PAGE_LEN, Pages};
 use crate::{ImageKind, PushError};
 use nb_terms::NoMemory;
 use nb_wire::Text;
@@ -12,23 +13,22 @@ use std::marker::Model;
 /// The most bytes that a body may have.
 pub const MAX_BODY_LEN: usize = 268_435_456;
 
-/// How many bytes a page has; the last may have fewer.
-pub const PAGE_LEN: usize = 65_536;
-
-/// The bytes of an image: at most 268,435,456.
+/// The bytes of an image: at most 268,435,456. They are kept in pages of 65,536 bytes, so that what came
+/// stays where it is while more comes.
 #[derive(Debug, Drop)]
 pub struct Body {
-    bytes: Vec<u8>,
+    pages: Pages,
 }
 
 impl Model for Body {
-    ghost use Rattle.std.specs.Prelude.{ℕ, List, ◌≤◌, vec_len};
+    ghost use Rattle.std.specs.Prelude.{ℕ, List};
+    ghost use Rattle.nb_image.specs.Pages.{all_bytes, IsPaged};
 
     ghost Value = { List ℕ };
 
-    ghost view = { λ b. b.bytes.items };
+    ghost view = { λ b. all_bytes b.pages };
 
-    ghost invariant = { λ b. vec_len b.bytes ≤ 268435456 };
+    ghost invariant = { λ b. IsPaged b.pages };
 }
 
 impl Body {
@@ -37,7 +37,7 @@ impl Body {
         ensures { result ≡ [] }
     {
         Body {
-            bytes: Vec::new(alloc),
+            pages: Pages::new(alloc),
         }
     }
 
@@ -48,10 +48,30 @@ impl Body {
         ensures too_large { IsErrOf result PushError.TooLarge → 268435456 < length self.old + length bytes.now }
         ensures refused { OnErr result (self.new ≡ self.old) }
     {
-        if bytes.len() > MAX_BODY_LEN - self.bytes.len() {
+        if bytes.len() <= PAGE_LEN - self.pages.last.len() {
+            self.pages.last.extend_from_slice(bytes)?;
+            return Ok(());
+        }
+        self.push_over(bytes)
+    }
+
+    /// Appends bytes for which the last page has no room. Not inlined, as most fit.
+    #[cold]
+    #[inline(never)]
+    fn push_over(&mut self, bytes: &[u8]) -> Result<(), PushError>
+        ensures ok { OnOk result (self.new ≡ self.old ++ bytes.now) }
+        ensures fits { OnOk result (length self.old + length bytes.now ≤ 268435456) }
+        ensures too_large { IsErrOf result PushError.TooLarge → 268435456 < length self.old + length bytes.now }
+        ensures refused { OnErr result (self.new ≡ self.old) }
+    {
+        let len = self.pages.len();
+        if bytes.len() > MAX_BODY_LEN - len {
             return Err(PushError::TooLarge);
         }
-        self.bytes.extend_from_slice(bytes)?;
+        if self.pages.append(bytes).is_err() {
+            self.pages.cut(len);
+            return Err(PushError::NoMemory);
+        }
         Ok(())
     }
 
@@ -60,14 +80,14 @@ impl Body {
         ensures value { result ≡ length self.now }
         ensures fits { result ≤ 268435456 }
     {
-        self.bytes.len()
+        self.pages.len()
     }
 
     /// What an image of these bytes is.
     pub fn kind(&self) -> ImageKind
         ensures { result ≡ kind_of self.now }
     {
-        kind_of(self.bytes.as_slice())
+        kind_of(self)
     }
 
     /// The bytes from 65,536 times `p` on, at most 65,536 of them. None where none are there.
@@ -75,39 +95,21 @@ impl Body {
         ensures { MatchOption result (length self.now ≤ 65536 * p)
             (λ page. (65536 * p < length self.now) × (page.now ≡ take 65536 (drop (65536 * p) self.now))) }
     {
-        page_of(self.bytes.as_slice(), p)
+        self.pages.page(p)
+    }
+
+    /// The byte at a place. None after the last.
+    pub fn byte(&self, at: usize) -> Option<u8>
+        ensures { result ≡ slice_get self.now at }
+    {
+        let page = self.page(at / PAGE_LEN)?;
+        page.get(at % PAGE_LEN).copied()
     }
 
     /// A copy of all bytes.
     pub fn text(&self, alloc: Global) -> Result<Text, NoMemory>
         ensures { IfOk result (λ text. text ≡ self.now) }
     {
-        Ok(Text::from_vec(Vec::from_slice(alloc, self.bytes.as_slice())?))
+        self.pages.text(alloc)
     }
-
-    /// The bytes.
-    pub(crate) fn as_slice(&self) -> &[u8]
-        ensures value { result.now ≡ self.now }
-        ensures fits { length self.now ≤ 268435456 }
-    {
-        self.bytes.as_slice()
-    }
-}
-
-/// Page `p` of these bytes.
-fn page_of(bytes: &[u8], p: usize) -> Option<&[u8]>
-    ensures { MatchOption result (length bytes.now ≤ 65536 * p)
-        (λ page. (65536 * p < length bytes.now) × (page.now ≡ take 65536 (drop (65536 * p) bytes.now))) }
-{
-    if p >= bytes.len().div_ceil(PAGE_LEN) {
-        return None;
-    }
-    Some(first_page(&bytes[p * PAGE_LEN..]))
-}
-
-/// The first 65,536 of these bytes, or all where there are fewer.
-pub fn first_page(bytes: &[u8]) -> &[u8]
-    ensures { result.now ≡ take 65536 bytes.now }
-{
-    &bytes[..bytes.len().min(PAGE_LEN)]
 }

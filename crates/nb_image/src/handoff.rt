@@ -3,7 +3,7 @@ ghost use Rattle.std.specs.List.{remove};
 ghost use Rattle.nb_image.specs.Parts.{part, part_text, parts, others_parts};
 ghost use Rattle.nb_image.specs.declared.part.PartKind.TheVariants.{CommandLine};
 
-use crate::{Images, Part, PartKind};
+use crate::{Images, Part, PartBytes, PartKind};
 
 /// What is handed off: the image to boot, and all images, which stay in the list.
 #[derive(Clone, Copy, Debug, Drop)]
@@ -15,7 +15,7 @@ pub struct Handoff<'a> {
 
 impl<'a> Handoff<'a> {
     /// Part `k`, from 0: of the image to boot its name, its bytes and its arguments, and then name and
-    /// bytes of each other image in list order. None behind the last.
+    /// bytes of each other image in list order. None after the last.
     pub fn part(&self, k: usize) -> Option<Part<'a>>
         requires { self.now.kernel < length self.now.images.now.images }
         ensures { option_map part_text result ≡ slice_get (parts self.now.kernel self.now.images.now.images) k }
@@ -72,7 +72,7 @@ fn name_part(images: &Images, place: usize, kind: PartKind, index: u16) -> Part<
     Part {
         kind,
         index,
-        bytes: images.name(place),
+        bytes: PartBytes::Text(images.name(place)),
     }
 }
 
@@ -84,7 +84,7 @@ fn body_part(images: &Images, place: usize, kind: PartKind, index: u16) -> Part<
     Part {
         kind,
         index,
-        bytes: images.body(place).as_slice(),
+        bytes: PartBytes::Pages(images.body(place)),
     }
 }
 
@@ -96,6 +96,6 @@ fn command_line(images: &Images, place: usize) -> Part<'_>
     Part {
         kind: PartKind::CommandLine,
         index: 0,
-        bytes: images.args(place),
+        bytes: PartBytes::Text(images.args(place)),
     }
 }

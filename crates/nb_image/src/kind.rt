@@ -1,7 +1,8 @@
-ghost use Rattle.std.specs.Prelude.{◌≡◌};
+ghost use Rattle.std.specs.Prelude.{◌≡◌, take};
 ghost use Rattle.nb_image.specs.Kinds.{kind_of, is_bzimage, is_elf, is_efi};
 
-use nb_script::begins_script;
+use crate::Body;
+use crate::first_line::is_script;
 
 /// What an image is, by its content.
 #[derive(Clone, Copy, Debug, PartialEq, Eq)]
@@ -21,40 +22,50 @@ pub enum ImageKind {
 /// Where the setup header of a Linux kernel has its name.
 const SETUP_HEADER: usize = 514;
 
-/// The first kind that fits these bytes.
-pub fn kind_of(bytes: &[u8]) -> ImageKind
-    ensures { result ≡ kind_of bytes.now }
+/// The first page of a body. All that tells its kind stands there, but a script's first line may be longer.
+pub fn start_of(body: &Body) -> &[u8]
+    ensures { result.now ≡ take 65536 body.now }
 {
-    if begins_script(bytes) {
+    match body.page(0) {
+        Some(page) => page,
+        None => &[],
+    }
+}
+
+/// The first kind that fits a body.
+pub fn kind_of(body: &Body) -> ImageKind
+    ensures { result ≡ kind_of body.now }
+{
+    if is_script(body) {
         ImageKind::Script
-    } else if is_bzimage(bytes) {
+    } else if is_bzimage(body) {
         ImageKind::BzImage
-    } else if is_elf(bytes) {
+    } else if is_elf(body) {
         ImageKind::Elf
-    } else if is_efi(bytes) {
+    } else if is_efi(body) {
         ImageKind::Efi
     } else {
         ImageKind::Other
     }
 }
 
-fn is_bzimage(bytes: &[u8]) -> bool
-    ensures { result ≡ is_bzimage bytes.now }
+fn is_bzimage(body: &Body) -> bool
+    ensures { result ≡ is_bzimage body.now }
 {
-    match bytes.get(SETUP_HEADER..) {
+    match start_of(body).get(SETUP_HEADER..) {
         Some(header) => header.starts_with(b"HdrS"),
         None => false,
     }
 }
 
-fn is_elf(bytes: &[u8]) -> bool
-    ensures { result ≡ is_elf bytes.now }
+fn is_elf(body: &Body) -> bool
+    ensures { result ≡ is_elf body.now }
 {
-    bytes.starts_with(b"\x7fELF")
+    start_of(body).starts_with(b"\x7fELF")
 }
 
-fn is_efi(bytes: &[u8]) -> bool
-    ensures { result ≡ is_efi bytes.now }
+fn is_efi(body: &Body) -> bool
+    ensures { result ≡ is_efi body.now }
 {
-    bytes.starts_with(b"MZ")
+    start_of(body).starts_with(b"MZ")
 }

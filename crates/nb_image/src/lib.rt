@@ -5,21 +5,24 @@
 
 mod body;
 mod error;
+mod first_line;
 mod handoff;
 mod image;
 mod images;
 mod kind;
 mod list;
+mod pages;
 mod part;
 
-pub use body::{Body, MAX_BODY_LEN, PAGE_LEN};
+pub use body::{Body, MAX_BODY_LEN};
 pub use error::{ImageError, PushError};
 pub use handoff::Handoff;
 pub use image::Image;
 pub use images::Images;
 pub use kind::ImageKind;
 pub use list::{MAX_IMAGES, MAX_TOTAL_LEN};
-pub use part::{Part, PartKind, Piece};
+pub use pages::PAGE_LEN;
+pub use part::{Part, PartBytes, PartKind, Piece};
 
 #[cfg(test)]
 mod tests;

@@ -83,7 +83,7 @@ pub fn refusal(images: &[Image], place: Option<usize>, body: &Body) -> Option<Im
     None
 }
 
-/// Puts an image in place of another, or behind all, and says where.
+/// Puts an image in place of another, or after all, and says where.
 pub fn put(images: &mut Vec<Image>, place: Option<usize>, image: Image) -> Result<usize, ImageError>
     requires { ForSome place (λ i. i < vec_len images.old) }
     ensures ok { OnOk result (images.new.items ≡ put_image place image images.old.items) }

@@ -53,6 +53,51 @@ fn body_in_pages(rt: HostRuntime) -> Result<(), Fail> {
     Ok(())
 }
 
+/// Bytes of more than two pages at once, after some of a page: each stands in its place.
+#[test]
+fn bytes_over_pages(rt: HostRuntime) -> Result<(), Fail> {
+    let mut body = body(rt.alloc(), b"some")?;
+    let long = vec![in rt.alloc(); 9; 140_000]?;
+    body.push(long.as_slice())?;
+    body.push(b"!")?;
+    let rows = [
+        (0, Some(b's')),
+        (3, Some(b'e')),
+        (4, Some(9)),
+        (65_535, Some(9)),
+        (65_536, Some(9)),
+        (140_003, Some(9)),
+        (140_004, Some(b'!')),
+        (140_005, None),
+    ];
+    for (at, byte) in rows {
+        assert_eq!(rt; body.byte(at), byte, "byte {at}");
+    }
+    assert_eq!(rt; body.page(2).map(|page| page.len()), Some(8_933));
+    Ok(())
+}
+
+/// A first line that is longer than a page, and what may follow its blanks.
+#[test]
+fn long_first_lines(rt: HostRuntime) -> Result<(), Fail> {
+    let blanks = vec![in rt.alloc(); b' '; 65_536]?;
+    let rows: [(&[u8], ImageKind); 6] = [
+        (b"", ImageKind::Script),
+        (b"\r", ImageKind::Script),
+        (b"\r\necho", ImageKind::Script),
+        (b"\t\necho", ImageKind::Script),
+        (b"\r\r\n", ImageKind::Other),
+        (b"x\n", ImageKind::Other),
+    ];
+    for (number, (end, kind)) in rows.iter().enumerate() {
+        let mut line = body(rt.alloc(), b"#!ipxe")?;
+        line.push(blanks.as_slice())?;
+        line.push(end)?;
+        assert_eq!(rt; line.kind(), *kind, "row {number}");
+    }
+    Ok(())
+}
+
 /// The names of the images in order.
 fn has_names(images: &Images, names: &[&[u8]]) -> bool {
     for i in 0..images.len() {
@@ -138,6 +183,14 @@ fn at_most_32_images(rt: HostRuntime) -> Result<(), Fail> {
     Ok(())
 }
 
+/// The bytes of a part that has one piece.
+fn bytes_of<'a>(part: &Part<'a>) -> &'a [u8] {
+    match part.piece(0) {
+        Some(piece) => piece.bytes,
+        None => &[],
+    }
+}
+
 /// The parts of a hand-off of `vmlinuz`, each with its number, its index and its bytes.
 #[test]
 fn parts_in_order(rt: HostRuntime) -> Result<(), Fail> {
@@ -160,7 +213,7 @@ fn parts_in_order(rt: HostRuntime) -> Result<(), Fail> {
             for (k, row) in rows.iter().enumerate() {
                 let part = handoff
                     .part(k)
-                    .map(|part| (part.kind.number(), part.index, part.bytes));
+                    .map(|part| (part.kind.number(), part.index, bytes_of(&part)));
                 assert_eq!(rt; part, Some(*row), "part {k}");
             }
             assert!(rt; handoff.part(7).is_none());
@@ -170,7 +223,7 @@ fn parts_in_order(rt: HostRuntime) -> Result<(), Fail> {
     Ok(())
 }
 
-/// Where the pieces of a part begin, and how many bytes they have.
+/// Where the pieces of a part begin, and how many bytes they have, of a text and of a body alike.
 #[test]
 fn pieces_of_a_part(rt: HostRuntime) -> Result<(), Fail> {
     let bytes = [1; 65_537];
@@ -184,15 +237,19 @@ fn pieces_of_a_part(rt: HostRuntime) -> Result<(), Fail> {
         (65_537, 2, None),
     ];
     for (len, p, expected) in rows {
-        let part = Part {
-            kind: PartKind::Kernel,
-            index: 0,
-            bytes: &bytes[..len.min(65_537)],
-        };
-        let count = if len < 65_537 { 1 } else { 2 };
-        assert_eq!(rt; part.piece_count(), count, "the pieces of {len} bytes");
-        let piece = part.piece(p).map(|piece| (piece.offset, piece.bytes.len()));
-        assert_eq!(rt; piece, expected, "piece {p} of {len} bytes");
+        let text = &bytes[..len.min(65_537)];
+        let body = body(rt.alloc(), text)?;
+        for bytes in [PartBytes::Text(text), PartBytes::Pages(&body)] {
+            let part = Part {
+                kind: PartKind::Kernel,
+                index: 0,
+                bytes,
+            };
+            let count = if len < 65_537 { 1 } else { 2 };
+            assert_eq!(rt; part.piece_count(), count, "the pieces of {len} bytes");
+            let piece = part.piece(p).map(|piece| (piece.offset, piece.bytes.len()));
+            assert_eq!(rt; piece, expected, "piece {p} of {len} bytes");
+        }
     }
     Ok(())
 }

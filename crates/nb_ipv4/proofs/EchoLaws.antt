@@ -2,9 +2,8 @@
 use Rattle.std.proofs.Common.{◌≡◌, ℕ, ◌+◌, ◌*◌, ◌<◌, ◌≤◌, ◌^◌, List, [], ◌∷◌, ◌++◌, length, get_or, take, drop, refl, sym, ap, ◌∙◌, arith}
 use Rattle.std.specs.Int.{w16, to_be_bytes}
 use Rattle.std.proofs.lemmas.List.{drop_at, length-append}
-use Rattle.nb_wire.specs.Checksum.{checksum}
 use Rattle.nb_wire.proofs.BytesLaws.{IsBytes, Splits, IsBytes-front}
-use Rattle.nb_ipv4.specs.EchoText.{EchoParts, IsEchoKind, IsEcho, echo_header, echo_text}
+use Rattle.nb_ipv4.specs.EchoText.{EchoParts, IsEchoKind, IsIntactEcho, IsEcho, echo_header, echo_text}
 use Rattle.nb_ipv4.proofs.NumberLaws.{be16_bytes, elements-drop}
 
 pub length-echo_header : (e : EchoParts) (sum : ℕ) → length (echo_header e sum) ≡ 8
@@ -68,7 +67,7 @@ header_spelled fixed e fits len kind code ident seq =
     ∙ elements-drop 8 0 fixed len
 
 -- bytes of which these are the first eight and the body are the echo with these fields
-pub echo_made : (fixed body bytes : List ℕ) (ident seq : ℕ) → IsBytes bytes → Splits 8 bytes fixed body → IsEchoKind (get_or fixed 0 0) → get_or fixed 1 0 ≡ 0 → ident ≡ 256 * get_or fixed 4 0 + get_or fixed 5 0 → seq ≡ 256 * get_or fixed 6 0 + get_or fixed 7 0 → length bytes < 2 ^ 16 → checksum bytes ≡ 0 → IsEcho bytes (made (get_or fixed 0 0) ident seq body)
+pub echo_made : (fixed body bytes : List ℕ) (ident seq : ℕ) → IsBytes bytes → Splits 8 bytes fixed body → IsEchoKind (get_or fixed 0 0) → get_or fixed 1 0 ≡ 0 → ident ≡ 256 * get_or fixed 4 0 + get_or fixed 5 0 → seq ≡ 256 * get_or fixed 6 0 + get_or fixed 7 0 → length bytes < 2 ^ 16 → IsIntactEcho bytes → IsEcho bytes (made (get_or fixed 0 0) ident seq body)
 echo_made fixed body bytes ident seq fits front kind code ident_is seq_is total checked =
     let fixed_fits : IsBytes fixed = IsBytes-front 8 bytes fixed body front fits in
     let e = made (get_or fixed 0 0) ident seq body in

@@ -149,7 +149,7 @@ packet_one bytes p q first second =
     a.body ∙ ap (λ (n : ℕ). drop (20 + 4 * n) (take (20 + 4 * n + length p.body) bytes)) words ∙ ap (λ (n : ℕ). drop (20 + 4 * b.words) (take (20 + 4 * b.words + n) bytes)) len ∙ sym b.body in
     packet_same p q (a.src ∙ sym b.src) (a.dst ∙ sym b.dst) (a.proto ∙ sym b.proto) body
 
--- a front of a front
+-- a prefix of a prefix
 pub take_take : (m n : ℕ) (xs : List ℕ) → m ≤ n → n ≤ length xs → take m (take n xs) ≡ take m xs
 take_take m n xs le fits =
     let enough : m ≤ length (take n xs) = omega (arith, length-take n xs) in

@@ -62,7 +62,7 @@ sent_readable e kind body room fits =
       sum_fits = closed.0;
       total = omega (arith, room, length-append (echo_header e field) e.body, length-echo_header e field);
       spelled = refl;
-      checked = closed.1;
+      checked = inl closed.1;
     }
 
 -- the sum of a header's words, from its fields

@@ -104,7 +104,7 @@ udp_made src dst fixed rest bytes body src_port dst_port total field fits front 
       ];
     }
 
--- what is covered where the datagram is a front of these bytes
+-- what is covered where the datagram is a prefix of these bytes
 pub covered_front : (src dst : Ip4) (n : ℕ) (bytes datagram : List ℕ) → datagram ≡ take n bytes → n ≤ length bytes → pseudo_header src dst (length datagram) ++ datagram ≡ pseudo_header src dst n ++ take n bytes
 covered_front src dst n bytes datagram is enough =
     let len : length (take n bytes) ≡ n = omega (arith, length-take n bytes) in

@@ -1,6 +1,7 @@
 -- RFC 792: an echo request or an echo reply
-use Rattle.std.specs.Prelude.{◌≡◌, ℕ, ◌<◌, ◌^◌, ◌⊎◌, List, ◌∷◌, ◌++◌, length}
+use Rattle.std.specs.Prelude.{◌≡◌, ℕ, ◌<◌, ◌^◌, ◌⊎◌, true, ◌==◌, List, ◌∷◌, ◌++◌, length}
 use Rattle.std.specs.Int.{w16, to_be_bytes}
+use Rattle.std.specs.List.{list_all}
 use Rattle.nb_wire.specs.Checksum.{checksum}
 use Rattle.nb_ipv4.specs.declared.echo.Echo.{Echo}
 
@@ -30,6 +31,11 @@ echo_header e sum = e.kind ∷ 0 ∷ to_be_bytes w16 sum ++ to_be_bytes w16 e.id
 abbrev pub echo_text : EchoParts → ℕ → List ℕ
 echo_text e sum = echo_header e sum ++ e.body
 
+-- the checksum is right. All bits 0 and all bits 1 are both zero in its sum, so a message whose bytes are all 0
+-- has a right one too, as Linux answers an echo whose identifier, number and body are 0.
+abbrev pub IsIntactEcho : List ℕ → Type 0
+IsIntactEcho bytes = (checksum bytes ≡ 0) ⊎ (list_all (λ byte. byte == 0) bytes ≡ true)
+
 -- these bytes are the echo: the checksum is over all of them, and they fit into a packet
 pub record IsEcho (bytes : List ℕ) (e : EchoParts) : Type 0 where
   pub sum : ℕ
@@ -39,7 +45,7 @@ pub record IsEcho (bytes : List ℕ) (e : EchoParts) : Type 0 where
   pub sum_fits : sum < 2 ^ 16
   pub total : length bytes < 2 ^ 16
   pub spelled : bytes ≡ echo_text e sum
-  pub checked : checksum bytes ≡ 0
+  pub checked : IsIntactEcho bytes
 
 -- an echo as it is sent: the checksum is that of the echo with 0 in its place
 unfoldable pub sent_echo : EchoParts → List ℕ

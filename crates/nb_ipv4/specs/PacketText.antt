@@ -36,7 +36,7 @@ header_text h p =
     ++ h.time_to_live ∷ p.proto ∷ to_be_bytes w16 h.checksum
     ++ to_be_bytes w32 p.src.0 ++ to_be_bytes w32 p.dst.0 ++ h.options
 
--- these bytes are the packet, with some header and maybe padding behind it
+-- these bytes are the packet, with some header and maybe padding after it
 pub record IsPacket (bytes : List ℕ) (p : PacketParts) : Type 0 where
   pub header : Header
   pub padding : List ℕ

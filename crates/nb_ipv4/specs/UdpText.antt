@@ -36,7 +36,7 @@ pseudo_header src dst total = to_be_bytes w32 src.0 ++ to_be_bytes w32 dst.0 ++ 
 abbrev pub udp_sum : Ip4 → Ip4 → UdpParts → ℕ → ℕ
 udp_sum src dst d field = checksum (pseudo_header src dst (8 + length d.body) ++ udp_text d field)
 
--- these bytes are the datagram, maybe with others behind it; a checksum field of 0 says that there is none
+-- these bytes are the datagram, maybe with others after it; a checksum field of 0 says that there is none
 pub record IsUdp (src dst : Ip4) (bytes : List ℕ) (d : UdpParts) : Type 0 where
   pub field : ℕ
   pub padding : List ℕ

@@ -1,6 +1,7 @@
-ghost use Rattle.std.specs.Prelude.{◌≡◌, ◌+◌, ◌%◌, ◌<◌, ◌≤◌, ◌^◌, ◌++◌, ◌↔◌, ◌⊎◌, length, IfSome, IsSomeAnd, IsErr, OnOk, OnErr, MatchBool};
+ghost use Rattle.std.specs.Prelude.{◌≡◌, ◌+◌, ◌%◌, ◌<◌, ◌≤◌, ◌^◌, ◌++◌, ◌==◌, ◌↔◌, ◌⊎◌, length, IfSome, IsSomeAnd, IsErr, OnOk, OnErr, MatchBool};
 ghost use Rattle.nb_wire.specs.Checksum.{checksum, HasSum};
-ghost use Rattle.nb_ipv4.specs.EchoText.{EchoParts, IsEchoKind, echo_header};
+ghost use Rattle.std.specs.List.{list_all};
+ghost use Rattle.nb_ipv4.specs.EchoText.{EchoParts, IsEchoKind, IsIntactEcho, echo_header};
 
 use nb_wire::{Full, Out, sum16, sum16_after};
 
@@ -112,8 +113,14 @@ fn is_echo(kind: u8, code: u8) -> bool
 }
 
 fn is_intact(bytes: &[u8]) -> bool
-    ensures { let sum = checksum bytes.now in
-        MatchBool result ((length bytes.now < 2 ^ 16) × (sum ≡ 0)) (length bytes.now < 2 ^ 16 → sum ≡ 0 → ⊥) }
+    ensures { MatchBool result ((length bytes.now < 2 ^ 16) × IsIntactEcho bytes.now)
+        (length bytes.now < 2 ^ 16 → IsIntactEcho bytes.now → ⊥) }
 {
-    bytes.len() <= MAX_LEN && sum16(&[], bytes) == 0
+    bytes.len() <= MAX_LEN && (sum16(&[], bytes) == 0 || is_all_zero(bytes))
+}
+
+fn is_all_zero(bytes: &[u8]) -> bool
+    ensures { result ≡ list_all (λ byte. byte == 0) bytes.now }
+{
+    bytes.iter().all(|byte| *byte == 0)
 }

@@ -10,6 +10,3 @@ mod udp;
 pub use echo::{ECHO_REPLY, ECHO_REQUEST, Echo};
 pub use packet::{PROTO_ICMP, PROTO_TCP, PROTO_UDP, Packet};
 pub use udp::Udp;
-
-#[cfg(test)]
-mod tests;

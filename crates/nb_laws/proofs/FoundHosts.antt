@@ -32,7 +32,7 @@ address_same h k q calls since entries id is =
     ap (λ (l : Lookup). address_found l (map (as_dns q.server) (got entries))) (sym (lookup_is h k q since id))
     ∙ ap (λ (ms : List DnsDatagram). address_found (lookup_for q) ms) (sym (dns_got q.server entries) ∙ ap dns.datagrams (sym is))
 
--- an echo is heard by an open of kind 6
+-- an echo is received by an open of kind 6
 pub echo_kind : (h : Hardware) (k : ℕ) (query : Query) (t : Talk) (entries : List Entry) (server : ℕ) → query ≡ for_echo server → IsTalk h k query t entries → (fields_of t).kind ≡ 6
 echo_kind h k query t entries server is talk = by t (subst (λ q. IsTalk h k q t entries) is talk)
   where

@@ -117,7 +117,7 @@ found-remove low high (o ∷ os) x y r h =
     let b = found-below o.id.0 high os y r.2 in
     grind (arith, nat_tests)
 
--- those behind it move up by one
+-- those after it move up by one
 pub place-remove : (os : List Object) (x y : ℕ) → place_in os x < length os → y ≢ x → place_in (remove os (place_in os x)) y + cond (ltb (place_in os x) (place_in os y)) 1 0 ≡ place_in os y
 place-remove [] x y h n = absurd (omega arith)
 place-remove (o ∷ os) x y h n =

@@ -1,19 +1,15 @@
 -- What one call of a Ping's core makes of its exchange.
-use Rattle.std.proofs.Common.{◌≡◌, ℕ, List, [], ◌∷◌, ◌++◌, ◌||◌, Bool, true, false, Option, Some, None, refl, ap, ◌∙◌, subst}
+use Rattle.std.proofs.Common.{◌≡◌, ℕ, List, [], ◌∷◌, ◌++◌, ◌||◌, false, Option, Some, None, refl, ap, ◌∙◌}
 use Rattle.std.specs.Option.{is_some}
 use Rattle.nb_terms.specs.declared.acts.Acts.{Acts}
 use Rattle.nb_terms.specs.declared.cause.Cause.{Cause}
 use Rattle.nb_ping.specs.declared.state.State.{State}
-use Rattle.nb_ping.specs.Pings.{Pinged}
-use Rattle.nb_ping.specs.PingCalls.{EchoReply, PingCall, echoed, PingEntry, ping_entry, ping_ended}
+use Rattle.nb_ping.specs.Pings.{Pinged, AsksSimply, asks_try, echo_request}
+use Rattle.nb_ping.specs.PingCalls.{PingCall, PingEntry, ping_entry, ping_ended}
 use Rattle.nb_ping.specs.PingStands.{PingStands}
 use Rattle.nb_ping.proofs.PingCallsLemmas.{ping_ended-append}
-use Rattle.nb_nodes.specs.Exchanges.{GivesAtEnd}
-use Rattle.nb_nodes.specs.EchoExchanges.{ping_service}
-use Rattle.nb_nodes.proofs.ExchangeLemmas.{StandsMeets, CallsMore}
-
-pub ping_meets : StandsMeets ping_service
-ping_meets = λ p start core calls stands. stands.meets
+use Rattle.nb_nodes.specs.Exchanges.{CallsMore, GivesAtEnd, GivesOnly, IsStarted}
+use Rattle.nb_nodes.specs.EchoExchanges.{ping_service, ping_asked}
 
 gives_none : (rec : ℕ) (p : Pinged) (calls : List PingEntry) (over : Option Cause) → GivesAtEnd ping_service rec p calls over []
 gives_none rec p calls None = refl
@@ -30,6 +26,17 @@ ping_more old core call acts rec once = λ p start h stands opened. record {
   gives = gives_none rec p (h ++ ping_entry call acts ∷ []) acts.over;
 }
 
--- a core's call with one reply is one with the same reply
-pub echoed_by : (old core : State) (r q : EchoReply) (now : ℕ) (acts : Acts) → r ≡ q → PingOnce old core (echoed r now) acts → PingOnce old core (echoed q now) acts
-echoed_by old core r q now acts same once = subst (λ (x : EchoReply). PingOnce old core (echoed x now) acts) same once
+-- nothing goes up
+pub nothing_only : (len : ℕ) (acts : Acts) → AsksSimply acts → GivesOnly len acts None
+nothing_only len acts simple = record { few = simple.few; no_range = simple.gives; above = tt; within = tt }
+
+-- a ping was started
+pub ping_started : (bytes : List ℕ) (p : Pinged) (now : ℕ) (core : State) (acts : Acts) → ping_asked bytes ≡ Some p → acts ≡ asks_try (echo_request p) 1 → PingStands p now core [] → IsStarted ping_service bytes now core acts
+ping_started bytes p now core acts asks request stands = record {
+  asked = p;
+  asks = asks;
+  opening = request;
+  stands = stands;
+  opened = refl;
+  goes_on = ap (λ (z : Acts). is_some z.over) request;
+}

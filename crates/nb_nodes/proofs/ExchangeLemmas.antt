@@ -1,5 +1,5 @@
 -- What one entry of an object that asks and is answered makes of its exchange.
-use Rattle.std.proofs.Common.{◌≡◌, ℕ, ◌<◌, ◌≤◌, ◌++◌, ◌&&◌, ◌||◌, ◌==◌, Bool, true, false, not, List, [], ◌∷◌, Option, Some, None, refl, ap, sym, ◌∙◌, subst, if◌then◌else◌, nat_lt}
+use Rattle.std.proofs.Common.{◌≡◌, ℕ, ◌++◌, ◌&&◌, ◌==◌, Bool, true, false, not, List, [], ◌∷◌, Some, None, refl, ap, sym, ◌∙◌, subst, if◌then◌else◌, nat_lt}
 use Rattle.std.specs.Option.{is_some}
 use Rattle.nb_terms.specs.declared.acts.Acts.{Acts}
 use Rattle.nb_terms.specs.declared.cause.Cause.{Cause}
@@ -12,7 +12,7 @@ use Rattle.nb_nodes.specs.declared.stage.Stage.TheVariants.{Waiting, Running, Ov
 use Rattle.nb_nodes.specs.declared.tag.Tag.TheVariants.{Begin}
 use Rattle.nb_nodes.specs.Tags.{tag_number}
 use Rattle.nb_nodes.specs.Conversations.{TakesWhole, AsksOfIdle, PassesClose}
-use Rattle.nb_nodes.specs.Exchanges.{Service, Exchange, not_begun, asking, finished, called_off, exchange_has_ended, at_end, after_calls, begins_service, calls_nothing, ends_exchange, AsksAndGives, GivesAtEnd, Exchanges, is_begun, takes_message, takes_time, is_ended, stays_idle, LeadsTo, stage_is_waiting, stage_is_over, IsAt, before_it, during_it, after_it, without_it, StandsBy, GoesOnAs}
+use Rattle.nb_nodes.specs.Exchanges.{Service, Exchange, not_begun, asking, finished, called_off, exchange_has_ended, at_end, after_calls, begins_service, calls_nothing, ends_exchange, AsksAndGives, Exchanges, is_begun, takes_message, takes_time, is_ended, stays_idle, LeadsTo, stage_is_waiting, stage_is_over, IsAt, before_it, during_it, after_it, without_it, StandsBy, GoesOnAs, StandsMeets, CallsMore}
 
 and_off : (a : Bool) → (a && false) ≡ false
 and_off true = refl
@@ -32,10 +32,6 @@ over_at s _ _ meets before_it = without_it
 over_at s _ _ meets (during_it b start calls core stands alive) = after_it b start calls (meets b start core calls stands)
 over_at s _ _ meets (after_it b start calls met) = after_it b start calls met
 over_at s _ _ meets without_it = without_it
-
--- what a core that stands for its calls promises of them
-abbrev pub StandsMeets : {S B C : Type 0} → Service S B C → Type 0
-StandsMeets {S} {B} {C} s = (b : B) (start : ℕ) (core : S) (calls : List C) → s.stands b start core calls → s.meets b start calls
 
 pub ends_now : {S B C : Type 0} (s : Service S B C) (w : Stage S) (e : NodeEntry Obj Load) → StandsMeets s → ((v : Exchange B C) → IsAt s w v → ends_exchange v e ≡ true) → PassesClose e → GoesOnAs s w Over e
 ends_now s w e meets fatal passes = λ v at. (at_end v, is_ended v e (fatal v at) passes, over_at s w v meets at)
@@ -100,15 +96,6 @@ fatal_close s _ slot cause now fx _ h l without_it = absurd (let z = h in cc)
 after_call : {S B C : Type 0} (s : Service S B C) (b : B) (start : ℕ) (calls : List C) (core : S) (o : Bool) → StandsMeets s → s.stands b start core calls → s.has_ended calls ≡ o → IsAt s (if o then Over else Running core) (if o then finished b start calls else asking b start calls)
 after_call s b start calls core true meets stands e = after_it b start calls (meets b start core calls stands)
 after_call s b start calls core false meets stands e = during_it b start calls core stands e
-
-pub record Calls {S B C : Type 0} (s : Service S B C) (old core : S) (b : B) (start : ℕ) (before calls : List C) (acts : Acts) (rec : ℕ) (given : List Said) : Type 0 where
-  pub stands : s.stands b start core calls
-  pub ends : s.has_ended calls ≡ is_some acts.over
-  pub gives : GivesAtEnd s rec b calls acts.over given
-
--- the core stands for one call more, and this goes up
-abbrev pub CallsMore : {S B C : Type 0} → Service S B C → S → S → (Acts → C) → Acts → ℕ → List Said → Type 0
-CallsMore {S} {B} {C} s old core call acts rec given = (b : B) (start : ℕ) (before : List C) → s.stands b start old before → s.has_ended before ≡ false → Calls s old core b start before (before ++ call acts ∷ []) acts rec given
 
 message_at : {S B C : Type 0} (s : Service S B C) (slot : ℕ) (m : Said) (now : ℕ) (fx : Fx Obj Load) (acts : Acts) (given : List Said) (old core : S) (new : Stage S) → StandsMeets s → s.takes slot m ≡ true → AsksAndGives m acts given fx → TakesWhole m fx
     → CallsMore s old core (s.received m now) acts m.rec given → new ≡ (if is_some acts.over then Over else Running core)

@@ -1,18 +1,18 @@
 -- What is asked for and given up, as the effects of an entry.
-use Rattle.std.proofs.Common.{◌≡◌, ℕ, List, [], ◌∷◌, Option, Some, None, refl, ap, sym, ◌∙◌, subst}
+use Rattle.std.proofs.Common.{◌≡◌, ℕ, ◌≤◌, Option, Some, None, refl, ap, sym, ◌∙◌, subst, arith}
 use Rattle.std.specs.Prelude.{IfSome}
 use Rattle.nb_terms.specs.declared.acts.Acts.{Acts}
 use Rattle.nb_graph.specs.declared.effects.Emit.{Emit}
 use Rattle.nb_graph.specs.declared.effects.Few.{Few}
 use Rattle.nb_graph.specs.declared.effects.Fx.{Fx}
-use Rattle.nb_graph.specs.Trace.{Said, in_list}
+use Rattle.nb_graph.specs.Trace.{Said}
 use Rattle.nb_graph.specs.Effects.{AreUps, IsUp}
 use Rattle.nb_nodes.specs.declared.load.Load.{Load}
 use Rattle.nb_nodes.specs.declared.obj.Obj.{Obj}
 use Rattle.nb_nodes.specs.Carried.{said_all, emits, up_emit, EffectsOf, AsksWithin}
 use Rattle.std.specs.List.{AllByRecursion}
 use Rattle.nb_tftp.specs.Sound.{IsRange}
-use Rattle.nb_nodes.specs.Exchanges.{AsksAndGives, LeavesByZero, said_up}
+use Rattle.nb_nodes.specs.Exchanges.{AsksAndGives, GivesOnly, LeavesByZero, said_up}
 
 abbrev pub alone : Option (Emit Load) → Few (Emit Load)
 alone given = record { first = given; second = None }
@@ -62,3 +62,11 @@ ups_beside m acts given fx effects = ap (λ (z : Few (Emit Load)). record z { fi
 pub no_range : (give : Option (ℕ × ℕ)) (len : ℕ) → give ≡ None → IsRange give len
 no_range None len h = tt
 no_range (Some r) len h = absurd (let z = h in cc)
+
+-- what is within so many bytes is within more
+up_more : (n len : ℕ) (given : Option (Emit Load)) → n ≤ len → IfSome given (IsUp n) → IfSome given (IsUp len)
+up_more n len None few h = tt
+up_more n len (Some e) few h = (h.0, (λ none. ((h.1 none).0, omega (arith, few, (h.1 none).1))))
+
+pub gives_within_more : (n len : ℕ) (acts : Acts) (given : Option (Emit Load)) → n ≤ len → GivesOnly n acts given → GivesOnly len acts given
+gives_within_more n len acts given few h = record { few = h.few; no_range = h.no_range; above = h.above; within = up_more n len given few h.within }

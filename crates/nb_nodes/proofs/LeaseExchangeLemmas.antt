@@ -1,5 +1,6 @@
 -- What one call of a Dhcp's core makes of its exchange.
-use Rattle.std.proofs.Common.{◌≡◌, ℕ, ◌-◌, ◌≤◌, List, [], ◌∷◌, ◌++◌, length, take, ◌||◌, Bool, true, false, Option, Some, None, refl, ap, ◌∙◌, sym, subst, arith, if◌then◌else◌}
+use Rattle.std.proofs.Common.{◌≡◌, ℕ, ◌-◌, ◌≤◌, ◌==◌, ◌&&◌, List, [], ◌∷◌, ◌++◌, length, take, ◌||◌, Bool, true, false, nat_le, Option, Some, None, refl, ap, ◌∙◌, sym, subst, arith}
+use Rattle.std.proofs.lemmas.Bool.{leb-true, false≢true}
 use Rattle.std.specs.Prelude.{IfSome}
 use Rattle.std.specs.Option.{is_some, option_map}
 use Rattle.std.proofs.Math.Seq.{take-length}
@@ -11,17 +12,15 @@ use Rattle.nb_graph.specs.Effects.{IsUp}
 use Rattle.nb_dhcp.specs.declared.asker.Asker.{Asker}
 use Rattle.nb_dhcp.specs.declared.state.State.{State}
 use Rattle.nb_dhcp.specs.History.{handed_body, LeaseCall, replied, elapsed, LeaseEntry, lease_entry, all_handed, acknowledgement_in, is_done}
+use Rattle.nb_dhcp.specs.Acting.{AsksSimply, lease_asking}
 use Rattle.nb_dhcp.specs.LeaseStands.{LeaseStands}
 use Rattle.nb_dhcp.proofs.LeaseHistoryLemmas.{is_done-append}
 use Rattle.nb_nodes.specs.declared.load.Load.{Load}
 use Rattle.nb_nodes.specs.declared.tag.Tag.TheVariants.{Bytes}
 use Rattle.nb_nodes.specs.Tags.{tag_number}
-use Rattle.nb_nodes.specs.Exchanges.{GivesAtEnd, LeavesByZero, said_up}
-use Rattle.nb_nodes.specs.LeaseExchanges.{lease_said, lease_service, whole_emit}
-use Rattle.nb_nodes.proofs.ExchangeLemmas.{StandsMeets, CallsMore}
-
-pub lease_meets : StandsMeets lease_service
-lease_meets = λ a start core calls stands. stands.meets
+use Rattle.nb_nodes.specs.Exchanges.{CallsMore, GivesAtEnd, GivesOnly, IsStarted, LeavesByZero, said_up}
+use Rattle.nb_nodes.specs.Conversations.{is_datagram}
+use Rattle.nb_nodes.specs.LeaseExchanges.{is_from_servers, lease_asked, lease_said, lease_service, whole_emit}
 
 -- the core stands for one call more
 abbrev pub LeaseOnce : State → State → LeaseCall → Acts → Type 0
@@ -59,9 +58,9 @@ gives_lease : (m : Said) (a : Asker) (calls : List LeaseEntry) (over : Option Ca
 gives_lease m a calls None granted is its = not_yet m granted
 gives_lease m a calls (Some cause) granted is its = ap (λ z. said_up m (whole_emit true z)) is ∙ whole_says m (acknowledgement_in a (all_handed calls)) its
 
-pub message_more : (old core : State) (m : Said) (now : ℕ) (acts : Acts) (granted : Option ℕ) → Received old core m.rec m.bytes now acts granted
+more_whole : (old core : State) (m : Said) (now : ℕ) (acts : Acts) (granted : Option ℕ) → Received old core m.rec m.bytes now acts granted
     → CallsMore lease_service old core (lease_service.received m now) acts m.rec (said_up m (whole_emit (is_some acts.over) granted))
-message_more old core m now acts granted got = λ a start h stood going.
+more_whole old core m now acts granted got = λ a start h stood going.
     let call = replied (handed_body m.rec m.bytes) now in
     let calls = h ++ lease_entry call acts ∷ [] in
     let stands = got.once a start h stood going in
@@ -71,9 +70,10 @@ message_more old core m now acts granted got = λ a start h stood going.
       gives = gives_lease m a calls acts.over granted (got.is_length a start calls stands) (λ bytes some. got.is_body a start h bytes stood going some);
     }
 
-pub none_emit : (ended : Bool) → whole_emit ended None ≡ None
-none_emit true = refl
-none_emit false = refl
+pub message_more : (old core : State) (m : Said) (now : ℕ) (acts : Acts) (granted : Option ℕ) (given : Option (Emit Load)) → Received old core m.rec m.bytes now acts granted → given ≡ whole_emit (is_some acts.over) granted
+    → CallsMore lease_service old core (lease_service.received m now) acts m.rec (said_up m given)
+message_more old core m now acts granted given got e =
+    subst (λ (z : Option (Emit Load)). CallsMore lease_service old core (lease_service.received m now) acts m.rec (said_up m z)) (sym e) (more_whole old core m now acts granted got)
 
 -- no acknowledgement comes by a time
 abbrev pub IsUngranted : State → ℕ → Acts → Type 0
@@ -103,6 +103,25 @@ whole_up len false None few = tt
 whole_up len true (Some n) few = (refl, (λ _. (omega arith, few)))
 whole_up len false (Some n) few = tt
 
-pub within_more : (granted : Option ℕ) (n len : ℕ) → IfSome granted (λ k. k ≤ n) → n ≤ len → IfSome granted (λ k. k ≤ len)
-within_more None n len few more = tt
-within_more (Some k) n len few more = omega (arith, few, more)
+pub whole_only : (len : ℕ) (acts : Acts) (granted : Option ℕ) (given : Option (Emit Load)) → given ≡ whole_emit (is_some acts.over) granted → IfSome granted (λ k. k ≤ len) → AsksSimply acts → GivesOnly len acts given
+whole_only len acts granted given e few simple =
+    subst (λ (z : Option (Emit Load)). GivesOnly len acts z) (sym e) (record { few = simple.few; no_range = simple.gives; above = whole_above (is_some acts.over) granted; within = whole_up len (is_some acts.over) granted few })
+
+-- a client was started
+pub lease_started : (bytes : List ℕ) (a : Asker) (now : ℕ) (core : State) (acts : Acts) → lease_asked bytes ≡ Some a → acts ≡ lease_asking a None 1 → LeaseStands a now core [] → IsStarted lease_service bytes now core acts
+lease_started bytes a now core acts asks discover stands = record {
+  asked = a;
+  asks = asks;
+  opening = discover;
+  stands = stands;
+  opened = refl;
+  goes_on = ap (λ (z : Acts). is_some z.over) discover;
+}
+
+-- a datagram that it takes is short
+and_last : (a b : Bool) → (a && b) ≡ true → b ≡ true
+and_last true b h = h
+and_last false b h = absurd (false≢true h)
+
+pub taken_short : (slot : ℕ) (m : Said) → is_from_servers slot m ≡ true → length m.bytes ≤ 1480
+taken_short slot m h = leb-true (length m.bytes) 1480 (and_last (is_datagram slot m && (m.a == 67)) (nat_le (length m.bytes) 1480) h)

@@ -1,5 +1,5 @@
 -- What one call of a Resolver's core makes of its exchange.
-use Rattle.std.proofs.Common.{◌≡◌, ℕ, ◌<◌, ◌≤◌, List, [], ◌∷◌, ◌++◌, length, ◌||◌, ◌&&◌, Bool, true, false, cond, Option, Some, None, refl, ap, ◌∙◌, sym, subst, arith, nat_lt, nat_le, if◌then◌else◌}
+use Rattle.std.proofs.Common.{◌≡◌, ℕ, List, [], ◌∷◌, ◌++◌, length, ◌||◌, ◌&&◌, Bool, true, false, Option, Some, None, refl, ap, ◌∙◌, sym, subst, arith, nat_lt, nat_le, if◌then◌else◌}
 use Rattle.std.specs.Prelude.{IfSome}
 use Rattle.std.specs.List.{list_all, AllByRecursion}
 use Rattle.std.specs.Option.{is_some, option_and_then}
@@ -7,22 +7,20 @@ use Rattle.std.proofs.lemmas.Bool.{lt-ltb, ltb-true, le-leb, leb-true, false≢t
 use Rattle.nb_terms.specs.declared.acts.Acts.{Acts}
 use Rattle.nb_terms.specs.declared.cause.Cause.{Cause}
 use Rattle.nb_wire.specs.declared.address.Ip4.{Ip4}
+use Rattle.nb_graph.specs.declared.effects.Emit.{Emit}
 use Rattle.nb_graph.specs.Trace.{Said}
 use Rattle.nb_graph.specs.Effects.{IsUp}
 use Rattle.nb_dnsmsg.specs.declared.answer.Answer.{Answer}
 use Rattle.nb_dnsmsg.specs.Names.{IsLabel}
 use Rattle.nb_dns.specs.declared.state.State.{State}
 use Rattle.nb_dns.specs.WrittenNames.{name_labels, without_final_dot, IsLookupName}
-use Rattle.nb_dns.specs.Lookups.{Lookup, address_given}
+use Rattle.nb_dns.specs.Lookups.{Lookup, AsksSimply, asks_try, query_to, address_given}
 use Rattle.nb_dns.specs.LookupCalls.{DnsDatagram, LookupCall, arrived, LookupEntry, lookup_entry, datagrams, lookup_ended, IsSilentCall, FirstReply}
 use Rattle.nb_dns.specs.LookupStands.{LookupStands}
 use Rattle.nb_dns.proofs.CallsLemmas.{lookup_ended-append}
-use Rattle.nb_nodes.specs.Exchanges.{GivesAtEnd, LeavesByZero, said_up}
-use Rattle.nb_nodes.specs.LookupExchanges.{LookupAsked, lookup_ask_in, is_label, can_look_up, lookup_for, lookup_asked, IsFoundBy, address_said, GivesAddress, lookup_service, address_emit}
-use Rattle.nb_nodes.proofs.ExchangeLemmas.{StandsMeets, CallsMore}
-
-pub lookup_meets : StandsMeets lookup_service
-lookup_meets = λ l start core calls stands. stands.meets
+use Rattle.nb_nodes.specs.declared.load.Load.{Load}
+use Rattle.nb_nodes.specs.Exchanges.{CallsMore, GivesAtEnd, GivesOnly, IsStarted, LeavesByZero, said_up}
+use Rattle.nb_nodes.specs.LookupExchanges.{LookupAsked, lookup_ask_in, is_label, can_look_up, lookup_for, lookup_asked, IsFoundBy, address_said, lookup_service, address_emit}
 
 -- the look-up stands for one call more
 abbrev pub LookupOnce : State → State → LookupCall → Acts → Type 0
@@ -42,9 +40,9 @@ gives_found : (rec : ℕ) (l : Lookup) (calls : List LookupEntry) (over : Option
 gives_found rec l calls None found is = refl
 gives_found rec l calls (Some cause) found is = record { found = found; is_found = is; goes_up = refl }
 
-pub lookup_more : (old core : State) (call : LookupCall) (acts : Acts) (rec : ℕ) (found : Option Ip4) → LookupOnce old core call acts → FindsByReply core found → FindsInSilence core found
+more_said : (old core : State) (call : LookupCall) (acts : Acts) (rec : ℕ) (found : Option Ip4) → LookupOnce old core call acts → FindsByReply core found → FindsInSilence core found
     → CallsMore lookup_service old core (lookup_entry call) acts rec (said_at rec acts.over found)
-lookup_more old core call acts rec found once replied silent = λ l start h stood going.
+more_said old core call acts rec found once replied silent = λ l start h stood going.
     let calls = h ++ lookup_entry call acts ∷ [] in
     let stands = once l start h stood going in
     record {
@@ -74,6 +72,15 @@ address_says m true None = refl
 address_says m false None = refl
 address_says m true (Some address) = refl
 address_says m false (Some address) = refl
+
+pub lookup_more : (old core : State) (call : LookupCall) (acts : Acts) (m : Said) (found : Option Ip4) (given : Option (Emit Load)) → LookupOnce old core call acts → FindsByReply core found → FindsInSilence core found → given ≡ address_emit (is_some acts.over) found
+    → CallsMore lookup_service old core (lookup_entry call) acts m.rec (said_up m given)
+lookup_more old core call acts m found given once replied silent e =
+    subst (λ (z : List Said). CallsMore lookup_service old core (lookup_entry call) acts m.rec z) (sym (ap (said_up m) e ∙ address_says m (is_some acts.over) found)) (more_said old core call acts m.rec found once replied silent)
+
+pub address_only : (len : ℕ) (acts : Acts) (found : Option Ip4) (given : Option (Emit Load)) → given ≡ address_emit (is_some acts.over) found → AsksSimply acts → GivesOnly len acts given
+address_only len acts found given e simple =
+    subst (λ (z : Option (Emit Load)). GivesOnly len acts z) (sym e) (record { few = simple.few; no_range = simple.gives; above = address_above (is_some acts.over) found; within = address_up len (is_some acts.over) found })
 
 -- what bytes ask for
 asked_of : Option LookupAsked → Option Lookup
@@ -131,3 +138,14 @@ unless_true false isnt = refl
 
 pub bad_name : (text : List ℕ) → (IsLookupName text → ⊥) → can_look_up text ≡ false
 bad_name text isnt = unless_true (can_look_up text) (λ h. isnt (is_good text h))
+
+-- a look-up of a name was started
+pub lookup_started : (bytes : List ℕ) (v : LookupAsked) (now : ℕ) (core : State) (acts : Acts) → lookup_ask_in bytes ≡ Some v → IsLookupName v.name → acts ≡ asks_try (query_to (lookup_for v)) 1 → LookupStands (lookup_for v) now core [] → IsStarted lookup_service bytes now core acts
+lookup_started bytes v now core acts asks good query stands = record {
+  asked = lookup_for v;
+  asks = asked_good bytes v asks (good_name v.name good);
+  opening = query;
+  stands = stands;
+  opened = refl;
+  goes_on = ap (λ (z : Acts). is_some z.over) query;
+}

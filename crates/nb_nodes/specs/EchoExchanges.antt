@@ -1,18 +1,15 @@
 -- What a Ping has done over its trace (RFC 792), in terms of nb_ping's history: our own.
 use Rattle.std.specs.Prelude.{◌≡◌, ◌==◌, ℕ, List, [], ◌++◌, length, take, drop, Option, Some, None, if◌then◌else◌}
 use Rattle.std.specs.Int.{w16, w32, to_be_bytes, from_be_bytes}
-use Rattle.nb_graph.specs.Trace.{Said, NodeEntry}
+use Rattle.nb_graph.specs.Trace.{Said}
 use Rattle.nb_ping.specs.declared.state.State.{State}
 use Rattle.nb_ping.specs.Pings.{Pinged, pinged, echo_request, asks_try}
 use Rattle.nb_ping.specs.PingCalls.{EchoReply, echo_reply, echoed, waited, PingEntry, ping_entry, ping_ended}
 use Rattle.nb_ping.specs.PingPromises.{PingMeets}
 use Rattle.nb_ping.specs.PingStands.{PingStands}
-use Rattle.nb_nodes.specs.declared.load.Load.{Load}
-use Rattle.nb_nodes.specs.declared.obj.Obj.{Obj}
-use Rattle.nb_nodes.specs.declared.ping.Ping.{Ping}
 use Rattle.nb_nodes.specs.declared.ping_ask.PingAsk.{PingAsk}
 use Rattle.nb_nodes.specs.Conversations.{is_datagram}
-use Rattle.nb_nodes.specs.Exchanges.{Service, StandsBy}
+use Rattle.nb_nodes.specs.Exchanges.{Service}
 
 abbrev pub pinged_by : PingAsk → Pinged
 pinged_by a = pinged a.host a.ident
@@ -45,6 +42,3 @@ ping_service = record {
   meets = PingMeets;
   has_ended = ping_ended;
 }
-
-abbrev pub PingStandsFor : Ping → List (NodeEntry Obj Load) → Type 0
-PingStandsFor p t = StandsBy ping_service p.stage t

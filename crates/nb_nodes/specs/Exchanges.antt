@@ -1,5 +1,5 @@
 -- What an object has done over its trace that asks and is answered, in terms of its core's history: our own.
-use Rattle.std.specs.Prelude.{◌≡◌, ℕ, ◌==◌, ◌&&◌, Bool, true, false, not, List, [], ◌∷◌, ◌++◌, nat_lt, map, Option, Some, None, if◌then◌else◌}
+use Rattle.std.specs.Prelude.{◌≡◌, ◌≤◌, ℕ, ◌==◌, ◌&&◌, Bool, true, false, not, List, [], ◌∷◌, ◌++◌, length, nat_lt, map, Option, Some, None, IfSome, if◌then◌else◌}
 use Rattle.std.specs.Option.{is_some}
 use Rattle.std.specs.List.{AllByRecursion}
 use Rattle.nb_terms.specs.declared.acts.Acts.{Acts}
@@ -8,6 +8,7 @@ use Rattle.nb_graph.specs.declared.effects.Emit.{Emit}
 use Rattle.nb_graph.specs.declared.effects.Fx.{Fx}
 use Rattle.nb_graph.specs.Trace.{Said, NodeEntry, up, down, closed, time, regain, silence, in_list}
 use Rattle.nb_graph.specs.Deeds.{said_of}
+use Rattle.nb_graph.specs.Effects.{IsUp}
 use Rattle.nb_nodes.specs.declared.load.Load.{Load}
 use Rattle.nb_nodes.specs.declared.obj.Obj.{Obj}
 use Rattle.nb_nodes.specs.declared.stage.Stage.{Stage}
@@ -155,3 +156,33 @@ pub record StandsBy {S B C : Type 0} (s : Service S B C) (stage : Stage S) (t : 
 -- wherever the exchange was before an entry, it is afterwards where the entry leads
 abbrev pub GoesOnAs : {S B C : Type 0} → Service S B C → Stage S → Stage S → NodeEntry Obj Load → Type 0
 GoesOnAs {S} {B} {C} s old new e = (v : Exchange B C) → IsAt s old v → (w : Exchange B C) × Exchanges s v e w × IsAt s new w
+
+-- a core that stands for its calls keeps its promise of them
+abbrev pub StandsMeets : {S B C : Type 0} → Service S B C → Type 0
+StandsMeets {S} {B} {C} s = (b : B) (start : ℕ) (core : S) (calls : List C) → s.stands b start core calls → s.meets b start calls
+
+-- A core that was started asks at first what these bytes ask for, and stands for no call yet.
+pub record IsStarted {S B C : Type 0} (s : Service S B C) (bytes : List ℕ) (start : ℕ) (core : S) (acts : Acts) : Type 0 where
+  pub asked : B
+  pub asks : s.asked bytes ≡ Some asked
+  pub opening : acts ≡ s.opening asked
+  pub stands : s.stands asked start core []
+  pub opened : s.has_ended [] ≡ false
+  pub goes_on : is_some acts.over ≡ false
+
+-- a core stands for these calls, of which the last asked this and gave this up
+pub record Calls {S B C : Type 0} (s : Service S B C) (core : S) (b : B) (start : ℕ) (calls : List C) (acts : Acts) (rec : ℕ) (given : List Said) : Type 0 where
+  pub stands : s.stands b start core calls
+  pub ends : s.has_ended calls ≡ is_some acts.over
+  pub gives : GivesAtEnd s rec b calls acts.over given
+
+-- the core stands for one call more, and this goes up
+abbrev pub CallsMore : {S B C : Type 0} → Service S B C → S → S → (Acts → C) → Acts → ℕ → List Said → Type 0
+CallsMore {S} {B} {C} s old core call acts rec given = (b : B) (start : ℕ) (before : List C) → s.stands b start old before → s.has_ended before ≡ false → Calls s core b start (before ++ call acts ∷ []) acts rec given
+
+-- A call asks for at most one message down, and gives nothing up but this, by slot 0 and within so many bytes.
+pub record GivesOnly (len : ℕ) (acts : Acts) (given : Option (Emit Load)) : Type 0 where
+  pub few : length acts.sends.items ≤ 1
+  pub no_range : acts.give ≡ None
+  pub above : IfSome given LeavesByZero
+  pub within : IfSome given (IsUp len)

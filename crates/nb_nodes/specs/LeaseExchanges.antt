@@ -2,21 +2,19 @@
 use Rattle.std.specs.Prelude.{◌≡◌, ◌==◌, ◌&&◌, ℕ, Bool, true, false, List, [], ◌∷◌, ◌++◌, length, take, drop, nat_le, Option, Some, None, if◌then◌else◌}
 use Rattle.std.specs.Int.{w16, w32, to_be_bytes, from_be_bytes}
 use Rattle.nb_graph.specs.declared.effects.Emit.{Emit}
-use Rattle.nb_graph.specs.Trace.{Said, NodeEntry}
+use Rattle.nb_graph.specs.Trace.{Said}
 use Rattle.nb_dhcp.specs.declared.asker.Asker.{Asker}
 use Rattle.nb_dhcp.specs.declared.state.State.{State}
 use Rattle.nb_dhcp.specs.Acting.{lease_asking}
 use Rattle.nb_dhcp.specs.History.{Handed, handed_body, replied, elapsed, LeaseEntry, lease_entry, all_handed, acknowledgement_in, is_done}
 use Rattle.nb_dhcp.specs.Promises.{LeasePromises}
 use Rattle.nb_dhcp.specs.LeaseStands.{LeaseStands}
-use Rattle.nb_nodes.specs.declared.dhcp.Dhcp.{Dhcp}
 use Rattle.nb_nodes.specs.declared.load.Load.{Load}
-use Rattle.nb_nodes.specs.declared.obj.Obj.{Obj}
 use Rattle.nb_nodes.specs.declared.lease_ask.LeaseAsk.{LeaseAsk}
 use Rattle.nb_nodes.specs.declared.tag.Tag.TheVariants.{Bytes}
 use Rattle.nb_nodes.specs.Tags.{tag_number}
 use Rattle.nb_nodes.specs.Conversations.{is_datagram}
-use Rattle.nb_nodes.specs.Exchanges.{Service, StandsBy}
+use Rattle.nb_nodes.specs.Exchanges.{Service}
 
 -- the client that asks
 abbrev pub asker_of : LeaseAsk → Asker
@@ -62,9 +60,6 @@ lease_service = record {
   meets = LeasePromises;
   has_ended = is_done;
 }
-
-abbrev pub DhcpStands : Dhcp → List (NodeEntry Obj Load) → Type 0
-DhcpStands d t = StandsBy lease_service d.stage t
 
 -- so many bytes of a message as a message up, at the end
 abbrev pub whole_emit : Bool → Option ℕ → Option (Emit Load)

@@ -5,7 +5,7 @@ use Rattle.std.specs.List.{list_all}
 use Rattle.std.specs.Option.{option_and_then}
 use Rattle.nb_wire.specs.declared.address.Ip4.{Ip4}
 use Rattle.nb_graph.specs.declared.effects.Emit.{Emit}
-use Rattle.nb_graph.specs.Trace.{Said, NodeEntry}
+use Rattle.nb_graph.specs.Trace.{Said}
 use Rattle.nb_dnsmsg.specs.declared.answer.Answer.{Answer}
 use Rattle.nb_dns.specs.declared.state.State.{State}
 use Rattle.nb_dns.specs.WrittenNames.{name_labels, without_final_dot}
@@ -14,13 +14,11 @@ use Rattle.nb_dns.specs.LookupCalls.{DnsDatagram, dns_datagram, arrived, clocked
 use Rattle.nb_dns.specs.LookupPromises.{LookupMeets}
 use Rattle.nb_dns.specs.LookupStands.{LookupStands}
 use Rattle.nb_nodes.specs.declared.load.Load.{Load}
-use Rattle.nb_nodes.specs.declared.obj.Obj.{Obj}
 use Rattle.nb_nodes.specs.declared.lookup_ask.LookupAsk.{LookupAsk}
-use Rattle.nb_nodes.specs.declared.resolver.Resolver.{Resolver}
 use Rattle.nb_nodes.specs.declared.tag.Tag.TheVariants.{Address}
 use Rattle.nb_nodes.specs.Tags.{tag_number}
 use Rattle.nb_nodes.specs.Conversations.{is_datagram}
-use Rattle.nb_nodes.specs.Exchanges.{Service, StandsBy}
+use Rattle.nb_nodes.specs.Exchanges.{Service}
 
 -- what is asked for, without where its name lies in memory
 pub record LookupAsked : Type 0 where
@@ -92,9 +90,6 @@ lookup_service = record {
   meets = LookupMeets;
   has_ended = lookup_ended;
 }
-
-abbrev pub ResolverStands : Resolver → List (NodeEntry Obj Load) → Type 0
-ResolverStands r t = StandsBy lookup_service r.stage t
 
 -- the address as a message up
 abbrev pub address_emit : Bool → Option Ip4 → Option (Emit Load)

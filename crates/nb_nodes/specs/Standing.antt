@@ -7,16 +7,17 @@ use Rattle.nb_nodes.specs.declared.obj.Obj.{Obj}
 use Rattle.nb_nodes.specs.declared.obj.Obj.TheVariants as obj
 use Rattle.nb_nodes.specs.Fetches.{FetchStands, FetchHarvests}
 use Rattle.nb_nodes.specs.Conversations.{TftpStands}
-use Rattle.nb_nodes.specs.LookupExchanges.{ResolverStands}
-use Rattle.nb_nodes.specs.LeaseExchanges.{DhcpStands}
-use Rattle.nb_nodes.specs.EchoExchanges.{PingStandsFor}
+use Rattle.nb_nodes.specs.Exchanges.{StandsBy}
+use Rattle.nb_nodes.specs.LookupExchanges.{lookup_service}
+use Rattle.nb_nodes.specs.LeaseExchanges.{lease_service}
+use Rattle.nb_nodes.specs.EchoExchanges.{ping_service}
 
 abbrev pub ObjStands : Obj → List (NodeEntry Obj Load) → Type 0
 ObjStands (obj.Fetch f) t = FetchStands f t
 ObjStands (obj.Tftp p) t = TftpStands p.value t
-ObjStands (obj.Resolver r) t = ResolverStands r.value t
-ObjStands (obj.Dhcp d) t = DhcpStands d.value t
-ObjStands (obj.Ping p) t = PingStandsFor p.value t
+ObjStands (obj.Resolver r) t = StandsBy lookup_service r.value.stage t
+ObjStands (obj.Dhcp d) t = StandsBy lease_service d.value.stage t
+ObjStands (obj.Ping p) t = StandsBy ping_service p.value.stage t
 
 abbrev pub HarvestsAsFetch : Fetch → Option Load → Obj → Type 0
 HarvestsAsFetch f r (obj.Fetch g) = FetchHarvests f r g

@@ -17,10 +17,10 @@ use nb_terms::{Acts, Cause, NoMemory, SendTo};
 use std::alloc::Global;
 
 /// The slot that faces the user above.
-pub(crate) const ABOVE: u8 = 0;
+pub const ABOVE: u8 = 0;
 
 /// The slot that faces what is below.
-pub(crate) const BELOW: u8 = 1;
+pub const BELOW: u8 = 1;
 
 /// What an entry of an open's object asks for.
 pub(crate) type Effects = Fx<Obj, Load>;

@@ -3,8 +3,11 @@ ghost use Rattle.nb_graph.specs.Trace.{NodeEntry, regain};
 ghost use Rattle.nb_nodes.specs.Objects.{kind_of_obj, mark_of_obj, rank_of_obj};
 ghost use Rattle.nb_nodes.specs.Standing.{ObjStands, ObjHarvests};
 
-use crate::{Dhcp, Fetch, Load, Ping, Resolver, Tftp};
+use crate::{Asker, Fetch, Load, Tftp};
+use nb_dhcp::Dhcp;
+use nb_dns::Dns;
 use nb_graph::{Fx, Msg, Node};
+use nb_ping::Ping;
 use nb_terms::{Cause, NoMemory};
 use std::alloc::Global;
 
@@ -13,9 +16,9 @@ use std::alloc::Global;
 pub enum Obj {
     Fetch(Fetch),
     Tftp(Box<Tftp>),
-    Resolver(Box<Resolver>),
-    Dhcp(Box<Dhcp>),
-    Ping(Box<Ping>),
+    Resolver(Box<Asker<Dns>>),
+    Dhcp(Box<Asker<Dhcp>>),
+    Ping(Box<Asker<Ping>>),
 }
 
 impl Obj {
@@ -45,7 +48,7 @@ impl Obj {
         ensures rank { IfOk result (λ o. rank_of_obj o ≡ 2) }
         ensures kind { IfOk result (λ o. kind_of_obj o ≡ 5) }
     {
-        Ok(Obj::Resolver(Box::new(alloc, Resolver::new(alloc)?)?))
+        Ok(Obj::Resolver(Box::new(alloc, Asker::new(alloc)?)?))
     }
 
     /// A Dhcp that waits for what to ask for.
@@ -54,7 +57,7 @@ impl Obj {
         ensures rank { IfOk result (λ o. rank_of_obj o ≡ 2) }
         ensures kind { IfOk result (λ o. kind_of_obj o ≡ 6) }
     {
-        Ok(Obj::Dhcp(Box::new(alloc, Dhcp::new(alloc)?)?))
+        Ok(Obj::Dhcp(Box::new(alloc, Asker::new(alloc)?)?))
     }
 
     /// A Ping that waits for what to ask for.
@@ -63,7 +66,7 @@ impl Obj {
         ensures rank { IfOk result (λ o. rank_of_obj o ≡ 5) }
         ensures kind { IfOk result (λ o. kind_of_obj o ≡ 7) }
     {
-        Ok(Obj::Ping(Box::new(alloc, Ping::new(alloc)?)?))
+        Ok(Obj::Ping(Box::new(alloc, Asker::new(alloc)?)?))
     }
 
     /// A load that was lent comes back. Not inlined, as only a Tftp's are frequent.

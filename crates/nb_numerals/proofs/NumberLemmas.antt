@@ -103,7 +103,7 @@ not_decimal (a ∷ b ∷ rest) h =
     let off : is_digit b 10 ≡ false = rw is refl in
     third_false (ltb 0 (suc (suc (length rest)))) (is_digit a 10) (is_digit b 10) (list_all (λ d. is_digit d 10) rest) off
 
--- behind `0x` stand hexadecimal digits
+-- after `0x` stand hexadecimal digits
 pub number_of-hex : (text behind : List ℕ) → pointwise nat_eq (take 2 text) (codes "0x") ≡ true → behind ≡ drop 2 text → number_of text ≡ digits_number 16 behind
 unfolding number_of
 number_of-hex text behind h is =

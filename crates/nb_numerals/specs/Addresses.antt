@@ -24,7 +24,7 @@ decimals count texts = if length texts == count then decimal_bytes texts else No
 abbrev pub parsed_address : List ℕ → Option (List ℕ)
 parsed_address text = decimals 4 (slice_split is_dot text)
 
--- the byte of the decimal before the first dot, and what stands behind the dot
+-- the byte of the decimal before the first dot, and what stands after the dot
 abbrev pub decimal_and_dot : List ℕ → Option (ℕ × List ℕ)
 decimal_and_dot text =
     option_and_then (λ dot. option_map (λ byte. (byte, drop (dot + 1) text)) (decimal_byte (take dot text))) (position is_dot text)

@@ -15,7 +15,7 @@ pub fn read_address(text: &[u8]) -> Option<[u8; 4]>
     Some([a, b, c, decimal_byte(behind)?])
 }
 
-/// The byte of the decimal before the first dot, and what stands behind the dot.
+/// The byte of the decimal before the first dot, and what stands after the dot.
 fn decimal_and_dot(text: &[u8]) -> Option<(u8, &[u8])>
     ensures { option_map (λ read. (read.0, read.1.now)) result ≡ decimal_and_dot text.now }
 {

@@ -8,6 +8,3 @@ mod numbers;
 
 pub use address::read_address;
 pub use numbers::{decimal, number};
-
-#[cfg(test)]
-mod tests;

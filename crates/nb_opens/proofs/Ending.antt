@@ -37,7 +37,7 @@ pub leaves_tftp : (c : Case) (s : Scene) (a : List (NodeEntry Obj Load)) (v : Co
     → settles_by {N = Obj} {L = Load} by p.obj.0 ≡ Settles c.tftp ∷ [] → At c s (Holds p by None ∷ []) a v ns ds → At c s [] a v (ns ++ tells (Left p) ∷ []) ds
 leaves_tftp c s a v ns ds p by e k = past_tftp [] (as_stages (Settles c.tftp ∷ []) (ap (λ z. z ++ []) e) (past_end [] p by k))
 
--- the four ports are closed, and the Fetch heard of it
+-- the four ports are closed, and the Fetch was called for it
 pub record EndsAt (c : Case) (a : List (NodeEntry Obj Load)) (v : Conversation) (z : Cause) (ns : List Notice) (ds : List (Deed Obj Load)) : Type 0 where
   pub scene : Scene
   pub seen : Sees scene c.fetch c.tftp Shut Shut Shut Shut

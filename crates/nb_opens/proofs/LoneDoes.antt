@@ -12,7 +12,7 @@ use Rattle.nb_graph.specs.Noded.{AreNoded}
 use Rattle.nb_graph.specs.Scene.{scene_of}
 use Rattle.nb_graph.specs.Trace.{Said, up, down, time, silence, left}
 use Rattle.nb_graph.specs.Deeds.{Stage, Holds, Offers, Ticks, rest, told_of, runs_of}
-use Rattle.nb_graph.specs.Went.{WentOne}
+use Rattle.nb_graph.specs.Went.{WentOne, all_of}
 use Rattle.nb_graph.specs.Whole.{Objects, port_at}
 use Rattle.nb_graph.proofs.Laws.{offer_up, offer_down, tick_live}
 use Rattle.nb_nodes.specs.declared.load.Load.{Load}
@@ -24,10 +24,10 @@ use Rattle.nb_nodes.specs.Exchanges.{Service, Exchange, not_begun, asking, begin
 use Rattle.nb_nodes.specs.Standing.{ObjStands}
 use Rattle.nb_opens.specs.Notices.{tells, first_close}
 use Rattle.nb_opens.specs.Companies.{Company}
-use Rattle.nb_opens.specs.Alones.{IsOpenLoneBy, IsReadyBy, ReceivesBy, is_taken, is_ignored, fails_before, DoesReceiveBy, DoesTickBy, BeginsBy, starts, fails_at_once, DoesAskBy}
+use Rattle.nb_opens.specs.Alones.{IsOpenLoneBy, IsReadyBy, AsksMoreBy, ReceivesBy, is_taken, is_ignored, fails_before, ReceivesEachBy, TicksEachBy, DoesReceiveBy, DoesTickBy, BeginsBy, starts, fails_at_once, DoesAskBy}
 use Rattle.nb_opens.proofs.Effects.{runs_closes}
 use Rattle.nb_opens.proofs.GoingMore.{fails-told}
-use Rattle.nb_opens.proofs.LoneStarts.{IsKind, Seen, seen_lone, LoneStarted, lone_started}
+use Rattle.nb_opens.proofs.LoneStarts.{IsKind, Seen, seen_lone, LoneStarted, lone_started, lone_told}
 use Rattle.nb_opens.proofs.LoneWalks.{Walk, past_end, as_stages, at_rest}
 use Rattle.nb_opens.proofs.LoneCalls.{slots_at, call_done, called, whole_taken, hears, hears_time, ignores, still_talks, answers_so}
 
@@ -64,27 +64,32 @@ module _ {S B C : Type 0} (among : Company) (svc : Service S B C) (known : B →
       (hears svc b start calls said now done fx w e small goes) k)
   received_so b start calls st done fx w false lone e small goes k = ignored_so b start calls st done fx w lone e small goes k
 
-  pub receive_does : length said.bytes < 2 ^ 32 → AreNoded rank_of_obj h → WentOne ObjStands obj_nature now (Offers (port_at x 1) said ∷ []) g h m n → DoesReceiveBy among svc kind g h x said now m n
-  receive_does small noded k = λ b start calls t.
+  pub receives_each : length said.bytes < 2 ^ 32 → AreNoded rank_of_obj h → (k : WentOne ObjStands obj_nature now (Offers (port_at x 1) said ∷ []) g h m n) → ReceivesEachBy among svc kind g h x said now (told_of (all_of k.deeds))
+  receives_each small noded k = λ b start calls t.
       let asks : List (Stage Obj Load) = Offers (port_at x 1) said ∷ [] in
       let v : Exchange B C = asking b start calls in
       let st = lone_started among svc known kind law g h m n now x asks t.trace v t.lone t.stands t.run t.meets t.of_kind noded (tt, tt) k in
       let c = called svc now x (scene_of h.book) st.last st.deeds (scene_of g.book) asks v (λ done fx. up 1 said now done fx) said 1 way.Up (λ done fx. rest said done fx) st.walk
       (offer_up obj_nature now (scene_of g.book) (scene_of h.book) (port_at x 1) said [] st.walk.left (omega arith) (t.lone.ports 1) st.walk.uses) in
-      (told_of st.deeds, st.told, received_so b start calls st c.done c.fx c.next (svc.takes 1 said) t.lone refl small c.goes c.walk)
+      subst (ReceivesBy among svc kind h x b start calls said now) (lone_told among svc known kind law g h m n now x asks t.trace v t.lone t.stands t.run t.meets t.of_kind noded (tt, tt) k)
+      (received_so b start calls st c.done c.fx c.next (svc.takes 1 said) t.lone refl small c.goes c.walk)
+
+  pub receive_does : length said.bytes < 2 ^ 32 → AreNoded rank_of_obj h → WentOne ObjStands obj_nature now (Offers (port_at x 1) said ∷ []) g h m n → DoesReceiveBy among svc kind g h x said now m n
+  receive_does small noded k = λ b start calls t. (told_of (all_of k.deeds), k.tells, receives_each small noded k b start calls t)
 
 module _ {S B C : Type 0} (among : Company) (svc : Service S B C) (known : B → List C → Type 0) (kind : ℕ) (law : IsKind svc known kind) (g h : Objects Obj) (m n : Heard) (now x : ℕ) where
-  pub tick_does : AreNoded rank_of_obj h → WentOne ObjStands obj_nature now (Ticks x ∷ []) g h m n → DoesTickBy among svc kind g h x now m n
-  tick_does noded k = λ b start calls t.
+  pub ticks_each : AreNoded rank_of_obj h → (k : WentOne ObjStands obj_nature now (Ticks x ∷ []) g h m n) → TicksEachBy among svc kind g h x now (told_of (all_of k.deeds))
+  ticks_each noded k = λ b start calls t.
       let asks : List (Stage Obj Load) = Ticks x ∷ [] in
       let v : Exchange B C = asking b start calls in
       let st = lone_started among svc known kind law g h m n now x asks t.trace v t.lone t.stands t.run t.meets t.of_kind noded (tt, tt) k in
       let c = called svc now x (scene_of h.book) st.last st.deeds (scene_of g.book) asks v (λ done fx. time now done fx) silence 4 way.Time (λ done fx. None) st.walk
-      (tick_live obj_nature now (scene_of g.book) (scene_of h.book) x [] st.walk.left t.lone.lives st.walk.uses) in (
-        told_of st.deeds,
-        st.told,
-        answers_so among svc kind g h m n now x asks v st b start calls silence 4 way.Time (svc.timed now) (λ done fx. None) c.done c.fx c.next refl t.lone (hears_time svc b start calls now c.done c.fx c.next c.goes) c.walk,
-      )
+      (tick_live obj_nature now (scene_of g.book) (scene_of h.book) x [] st.walk.left t.lone.lives st.walk.uses) in
+      subst (AsksMoreBy among svc kind h x b start calls (port_at x 4) way.Time 0 (svc.timed now)) (lone_told among svc known kind law g h m n now x asks t.trace v t.lone t.stands t.run t.meets t.of_kind noded (tt, tt) k)
+      (answers_so among svc kind g h m n now x asks v st b start calls silence 4 way.Time (svc.timed now) (λ done fx. None) c.done c.fx c.next refl t.lone (hears_time svc b start calls now c.done c.fx c.next c.goes) c.walk)
+
+  pub tick_does : AreNoded rank_of_obj h → WentOne ObjStands obj_nature now (Ticks x ∷ []) g h m n → DoesTickBy among svc kind g h x now m n
+  tick_does noded k = λ b start calls t. (told_of (all_of k.deeds), k.tells, ticks_each noded k b start calls t)
 
 not_true : (b : Bool) → not b ≡ true → b ≡ false
 not_true true h = absurd (let z = h in cc)

@@ -1,5 +1,5 @@
 -- What a call of the graph on the one object of an open is to be read from.
-use Rattle.std.proofs.Common.{◌≡◌, ℕ, ◌≤◌, Bool, true, false, cond, eqb, List, [], ◌++◌, Option, refl, sym, ap, ◌∙◌, subst, arith, if◌then◌else◌}
+use Rattle.std.proofs.Common.{◌≡◌, ℕ, ◌≤◌, Bool, true, false, cond, eqb, List, [], ◌++◌, refl, sym, ap, ◌∙◌, subst, arith, if◌then◌else◌}
 use Rattle.std.proofs.lemmas.Bool.{eq-eqb}
 use Rattle.std.proofs.lemmas.List.{append-nil}
 use Rattle.nb_terms.specs.declared.cause.Cause.{Cause}
@@ -25,12 +25,11 @@ use Rattle.nb_nodes.specs.declared.obj.Obj.{Obj}
 use Rattle.nb_nodes.specs.declared.obj.Obj.TheVariants as obj
 use Rattle.nb_nodes.specs.declared.stage.Stage.{Stage as CoreStage}
 use Rattle.nb_nodes.specs.Objects.{obj_nature, rank_of_obj, mark_of_obj, is_handed}
-use Rattle.nb_nodes.specs.Exchanges.{Service, Exchange, not_begun, asking, finished, called_off, LeadsTo, IsAt, before_it, during_it, after_it, without_it, StandsBy}
+use Rattle.nb_nodes.specs.Exchanges.{Service, Exchange, not_begun, asking, finished, called_off, LeadsTo, IsAt, before_it, during_it, after_it, without_it, StandsBy, StandsMeets}
 use Rattle.nb_nodes.specs.LookupExchanges.{lookup_service}
 use Rattle.nb_nodes.specs.LeaseExchanges.{lease_service}
 use Rattle.nb_nodes.specs.EchoExchanges.{ping_service}
 use Rattle.nb_nodes.specs.Standing.{ObjStands}
-use Rattle.nb_nodes.proofs.ExchangeLemmas.{StandsMeets}
 use Rattle.nb_opens.specs.Entries.{entries_of}
 use Rattle.nb_opens.specs.Waiters.{IsOfKind}
 use Rattle.nb_opens.specs.Companies.{Company, living, IsDeadBut}
@@ -217,3 +216,11 @@ module _ {S B C : Type 0} (by : Company) (svc : Service S B C) (known : B → Li
         held = held;
         beside = bystands_beside g h m n now by.made asks ds by.beside x lone.company lone.given made quiet k all one.2;
       }
+
+  -- what was told doesn't depend on what is under way
+  pub lone_told : (lone : IsOpenLoneBy by g x) (stands : ObjectStands ObjStands g x trace) (run : LeadsTo svc not_begun trace v) (meets : MeetsAt svc v) (is : IsOfKind g x kind) (noded : AreNoded rank_of_obj h) (quiet : AreQuiet by.made asks)
+      → (k : WentOne ObjStands obj_nature now asks g h m n) → told_of (lone_started lone stands run meets is noded quiet k).deeds ≡ told_of (all_of k.deeds)
+  unfolding lone_started
+  lone_told lone stands run meets is noded quiet k =
+      let one = only_call obj_nature (scene_of g.book) (scene_of h.book) (record { now = now; asks = asks }) k.deeds k.each in
+      ap told_of (sym (ap all_of one.1 ∙ append-nil one.0))

@@ -184,7 +184,7 @@ abbrev EachSays : List Out → List Out → Type 0
 EachSays before [] = Unit {0}
 EachSays before (o ∷ outs) = Says before o × EachSays (before ++ o ∷ []) outs
 
--- so do all of these, behind those
+-- so do all of these, after those
 pub record EachOut (before outs : List Out) : Type 0 where
   each : EachSays before outs
 
@@ -195,7 +195,7 @@ says_aside before (ended number cause) h = absurd h
 says_aside before (step number) h = tt
 says_aside before _ h = tt
 
--- those were made last, behind a COMMAND
+-- those were made last, after a COMMAND
 pub record MadeLast (before : List Out) (cast : Cast) : Type 0 where
   pub made_for : (kind : ℕ) → IsCastOf kind cast → IsMadeFor before kind
 

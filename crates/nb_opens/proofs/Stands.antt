@@ -76,7 +76,7 @@ quiet es h = record { none = h }
 pub made_so : (before : List Out) (cast : Cast) → AreMadeIn before cast → MadeLast before cast
 made_so before cast made = record { made_for = λ kind is. record { cast = cast; is_cast = is; made = made } }
 
--- a command, and these objects made behind it
+-- a command, and these objects made after it
 once : (outs : List Out) (c : Out) (cast : Cast) → AreFor cast c → AreMadeIn ((outs ++ (c ∷ [])) ++ traced (cast_made cast)) cast
 once outs c cast ic = subst (λ z. AreMadeIn z cast) (sym (append_assoc outs (c ∷ []) (traced (cast_made cast)))) (at_once outs c cast ic)
 
@@ -87,7 +87,7 @@ made_last outs c cast ic = made_so ((outs ++ (c ∷ [])) ++ traced (cast_made ca
 pub begins_with : {before since : List Out} {k : ℕ} {cast : Cast} (o : Out) → AreMadeIn before cast → IsOpening k cast o → Quiet since → Begun (before ++ ((o ∷ []) ++ since)) k cast
 begins_with {before = before} {since = since} o made io q = record { since = since; begun = record { before = before; opens = o; made = made; is_opening = io; all = refl }; none = q }
 
--- so where they were made behind a command
+-- so where they were made after a command
 pub begins_once : (outs since : List Out) (c o : Out) (k : ℕ) (cast : Cast) → AreFor cast c → IsOpening k cast o → Quiet since → Begun (outs ++ ((c ∷ []) ++ (traced (cast_made cast) ++ ((o ∷ []) ++ since)))) k cast
 begins_once outs since c o k cast ic io q =
     subst (λ z. Begun z k cast) (append_assoc outs ((c ∷ []) ++ traced (cast_made cast)) ((o ∷ []) ++ since)) (begins_with o (at_once outs c cast ic) io q)

@@ -1,5 +1,5 @@
 -- What a call of the graph on the two objects of an open is to be read from.
-use Rattle.std.proofs.Common.{◌≡◌, ℕ, ◌≤◌, true, List, [], ◌∷◌, ◌++◌, Option, refl, sym, ap, ◌∙◌, subst, append_assoc, arith}
+use Rattle.std.proofs.Common.{◌≡◌, ℕ, ◌≤◌, true, List, [], ◌∷◌, ◌++◌, refl, sym, ap, ◌∙◌, subst, append_assoc, arith}
 use Rattle.std.proofs.lemmas.List.{append-nil}
 use Rattle.nb_ledger.specs.Flat.{Heard, Given}
 use Rattle.nb_ledger.specs.Ledger.{object_lives, holds, rank, run_state}
@@ -59,7 +59,7 @@ pub record Started (g h : Objects Obj) (m n : Heard) (now f t : ℕ) (asks : Lis
   pub tftp_rank : rank h.book t ≡ 2
   pub run : GraphRunOf (run_state g.book []) (events_of deeds) (run_state h.book [])
 
--- a fact of each entry, of those behind some
+-- a fact of each entry, of those after some
 each-behind : (P : List (NodeEntry Obj Load) → NodeEntry Obj Load → Type 0) (before s t : List (NodeEntry Obj Load)) → EachOf P before (s ++ t) → EachOf P (before ++ s) t
 each-behind P before [] t h = subst (λ z. EachOf P z t) (sym (append-nil before)) h
 each-behind P before (e ∷ s) t h = subst (λ z. EachOf P z t) (append_assoc before (e ∷ []) s) (each-behind P (before ++ e ∷ []) s t h.1)

@@ -1,6 +1,6 @@
 -- The one object x of an open, a Resolver, a Dhcp or a Ping, on a graph on which nothing else lives, or a company does: what
 -- is said for each company has a name that ends in By. Our own.
-use Rattle.std.specs.Prelude.{◌≡◌, ◌≤◌, ℕ, true, false, List, [], ◌∷◌, ◌++◌, length, Option, Some, None}
+use Rattle.std.specs.Prelude.{◌≡◌, ◌≤◌, ℕ, true, false, List, [], ◌∷◌, ◌++◌, length, Some, None}
 use Rattle.nb_terms.specs.declared.acts.Acts.{Acts}
 use Rattle.nb_terms.specs.declared.cause.Cause.{Cause}
 use Rattle.nb_ledger.specs.declared.port.Port.{Port}
@@ -97,7 +97,7 @@ pub record TalksBy {S B C : Type 0} (c : Company) (s : Service S B C) (kind : �
 abbrev pub Talks : {S B C : Type 0} → Service S B C → ℕ → Objects Obj → ℕ → B → ℕ → List C → Type 0
 Talks s kind g x b start calls = TalksBy (only x) s kind g x b start calls
 
--- What one call more of the core does, in the record rec, and what the outside is told. Want of memory shows in the first
+-- What one call more of the core does, in the record rec, and what the outside is told. Out of memory shows in the first
 -- close.
 pub data AsksMoreBy {S B C : Type 0} (company : Company) (s : Service S B C) (kind : ℕ) (g : Objects Obj) (x : ℕ) (b : B) (start : ℕ) (calls : List C) (p : Port) (by : Way) (rec : ℕ) (call : Acts → C) (ns : List Notice) : Type 0 where
   asks_on : (acts : Acts) → s.meets b start (calls ++ call acts ∷ []) → acts.over ≡ None → ns ≡ alone_call x p by rec acts []
@@ -135,16 +135,32 @@ DoesTickBy {S} {B} {C} c s kind old new x now before after =
 abbrev pub DoesTick : {S B C : Type 0} → Service S B C → ℕ → Objects Obj → Objects Obj → ℕ → ℕ → Heard → Heard → Type 0
 DoesTick s kind old new x now before after = DoesTickBy (only x) s kind old new x now before after
 
--- both, of each kind
-pub record ReceiveAllBy (c : Company) (old new : Objects Obj) (x : ℕ) (m : Said) (now : ℕ) (before after : Heard) : Type 0 where
-  pub lookup : DoesReceiveBy c lookup_service (alone_number Resolver) old new x m now before after
-  pub lease : DoesReceiveBy c lease_service (alone_number Dhcp) old new x m now before after
-  pub ping : DoesReceiveBy c ping_service (alone_number Ping) old new x m now before after
+-- the same for each exchange that may be under way, where the outside was told this
+abbrev pub ReceivesEachBy : {S B C : Type 0} → Company → Service S B C → ℕ → Objects Obj → Objects Obj → ℕ → Said → ℕ → List Notice → Type 0
+ReceivesEachBy {S} {B} {C} c s kind old new x m now ns =
+    (b : B) (start : ℕ) (calls : List C) → TalksBy c s kind old x b start calls → ReceivesBy c s kind new x b start calls m now ns
 
-pub record TickAllBy (c : Company) (old new : Objects Obj) (x now : ℕ) (before after : Heard) : Type 0 where
-  pub lookup : DoesTickBy c lookup_service (alone_number Resolver) old new x now before after
-  pub lease : DoesTickBy c lease_service (alone_number Dhcp) old new x now before after
-  pub ping : DoesTickBy c ping_service (alone_number Ping) old new x now before after
+abbrev pub TicksEachBy : {S B C : Type 0} → Company → Service S B C → ℕ → Objects Obj → Objects Obj → ℕ → ℕ → List Notice → Type 0
+TicksEachBy {S} {B} {C} c s kind old new x now ns =
+    (b : B) (start : ℕ) (calls : List C) → TalksBy c s kind old x b start calls → AsksMoreBy c s kind new x b start calls (port_at x 4) way.Time 0 (s.timed now) ns
+
+-- both, of each kind
+pub record ReceiveAllBy (c : Company) (old new : Objects Obj) (x : ℕ) (m : Said) (now : ℕ) (ns : List Notice) : Type 0 where
+  pub lookup : ReceivesEachBy c lookup_service (alone_number Resolver) old new x m now ns
+  pub lease : ReceivesEachBy c lease_service (alone_number Dhcp) old new x m now ns
+  pub ping : ReceivesEachBy c ping_service (alone_number Ping) old new x m now ns
+
+pub record TickAllBy (c : Company) (old new : Objects Obj) (x now : ℕ) (ns : List Notice) : Type 0 where
+  pub lookup : TicksEachBy c lookup_service (alone_number Resolver) old new x now ns
+  pub lease : TicksEachBy c lease_service (alone_number Dhcp) old new x now ns
+  pub ping : TicksEachBy c ping_service (alone_number Ping) old new x now ns
+
+-- the outside was told one thing, whatever is under way in whatever company
+abbrev pub DoesReceiveAll : Objects Obj → Objects Obj → ℕ → Said → ℕ → Heard → Heard → Type 0
+DoesReceiveAll old new x m now before after = (ns : List Notice) × Given before after ns × ((c : Company) → ReceiveAllBy c old new x m now ns)
+
+abbrev pub DoesTickAll : Objects Obj → Objects Obj → ℕ → ℕ → Heard → Heard → Type 0
+DoesTickAll old new x now before after = (ns : List Notice) × Given before after ns × ((c : Company) → TickAllBy c old new x now ns)
 
 -- What the user's asking does, of an object of which nothing was asked: what it asks at first is sent, or memory runs out.
 pub data BeginsBy {S B C : Type 0} (c : Company) (s : Service S B C) (kind : ℕ) (g : Objects Obj) (x : ℕ) (b : B) (now rec : ℕ) (ns : List Notice) : Type 0 where

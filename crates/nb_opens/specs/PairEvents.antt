@@ -63,7 +63,7 @@ large_front f t big =
     Entered (port_at f 1) Up ∷ Closed (port_at f 0) big ∷ Closed (port_at f 1) big
     ∷ Closed (port_at t 0) big ∷ Entered (port_at t 0) Close ∷ []
 
--- the Tftp has heard of it, and the Fetch's message to it finds no port
+-- the Tftp was called for it, and the Fetch's message to it finds no port
 abbrev pub large_back : ℕ → ℕ → List GraphEvent
 large_back f t = Left (port_at t 0) ∷ Unplugged (port_at f 1) (port_at t 0) ∷ Dropped (port_at f 1) ∷ Left (port_at f 1) ∷ []
 

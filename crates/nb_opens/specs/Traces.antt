@@ -88,7 +88,7 @@ pub data AreMadeIn : List Out → Cast → Type 0 where
   completed : (before : List Out) (f resolver : ℕ) → MadeSince before (waiter.Fetch (serial f)) resolver → AreMadeIn (before ++ traced (completed_events f (resolver + 1))) (pair f (resolver + 1))
   had_waited : (before : List Out) (x resolver : ℕ) → MadeSince before (waiter.Ping (serial x)) resolver → AreMadeIn before (waited x resolver)
 
--- Open k has begun in these records: its objects, these, were made before the OPEN, and this stands behind it.
+-- Open k has begun in these records: its objects, these, were made before the OPEN, and this stands after it.
 pub record HasBegun (outs : List Out) (k : ℕ) (cast : Cast) (since : List Out) : Type 0 where
   pub before : List Out
   pub opens : Out
@@ -96,7 +96,7 @@ pub record HasBegun (outs : List Out) (k : ℕ) (cast : Cast) (since : List Out)
   pub is_opening : IsOpening k cast opens
   pub all : outs ≡ before ++ ((opens ∷ []) ++ since)
 
--- Open k ends behind these records with this cause: it is that of the first close since its OPEN, and its objects were
+-- Open k ends after these records with this cause: it is that of the first close since its OPEN, and its objects were
 -- freed directly before.
 pub record EndsBy (outs : List Out) (k : ℕ) (cause : Cause) : Type 0 where
   pub cast : Cast

@@ -9,8 +9,8 @@ ghost use Rattle.nb_nodes.specs.LookupExchanges.{can_look_up, lookup_ask_value, 
 ghost use Rattle.nb_nodes.specs.LookupExchanges.{lookup_service};
 ghost use Rattle.nb_nodes.specs.Tags.{tag_number};
 ghost use Rattle.nb_opens.specs.declared.alone.AloneKind.TheVariants as kind;
-ghost use Rattle.nb_opens.specs.Alones.{arrival_said, DoesAsk, DoesAskBy, DoesReceive, DoesTick};
-ghost use Rattle.nb_opens.specs.Alones.{IsReadyBy, ReceiveAllBy, TickAllBy};
+ghost use Rattle.nb_opens.specs.Alones.{arrival_said, DoesAsk, DoesAskBy, DoesReceive, DoesReceiveAll};
+ghost use Rattle.nb_opens.specs.Alones.{DoesTick, DoesTickAll, IsReadyBy};
 ghost use Rattle.nb_opens.specs.Companies.{Company};
 ghost use Rattle.nb_ping.specs.Pings.{Pinged};
 ghost use Rattle.nb_ledger.specs.Flat.{Given};
@@ -22,15 +22,10 @@ ghost use Rattle.nb_opens.specs.Pairs.{IsEmpty};
 
 use crate::download::{let_go, make_object};
 use nb_graph::{Graph, Msg, ObjId, Outside, Port};
-use nb_nodes::{LeaseAsk, LookupAsk, Obj, PingAsk, Tag};
+use nb_nodes::{ABOVE, BELOW, LeaseAsk, LookupAsk, Obj, PingAsk, Tag};
 use nb_terms::{Cause, NoMemory};
 use nb_wire::Ip4;
 use std::alloc::Global;
-
-/// The slots of an object: to what is above it, and to what is below.
-pub(crate) const ABOVE: u8 = 0;
-
-pub(crate) const BELOW: u8 = 1;
 
 /// What the one object of an open is.
 #[derive(Clone, Copy, Debug, PartialEq, Eq)]
@@ -177,7 +172,7 @@ impl Alone {
             (arrival_said rec arrival.now) now (O.events out.old) (O.events out.new) }
         ensures ping { DoesReceive ping_service (alone_number kind.Ping) graph.old graph.new self.object.0
             (arrival_said rec arrival.now) now (O.events out.old) (O.events out.new) }
-        ensures beside { (c : Company) → ReceiveAllBy c graph.old graph.new self.object.0 (arrival_said rec arrival.now)
+        ensures beside { DoesReceiveAll graph.old graph.new self.object.0 (arrival_said rec arrival.now)
             now (O.events out.old) (O.events out.new) }
     {
         let msg = Msg {
@@ -200,8 +195,7 @@ impl Alone {
             (O.events out.old) (O.events out.new) }
         ensures ping { DoesTick ping_service (alone_number kind.Ping) graph.old graph.new self.object.0 now
             (O.events out.old) (O.events out.new) }
-        ensures beside { (c : Company) → TickAllBy c graph.old graph.new self.object.0 now (O.events out.old)
-            (O.events out.new) }
+        ensures beside { DoesTickAll graph.old graph.new self.object.0 now (O.events out.old) (O.events out.new) }
     {
         let _reach = graph.time(self.object, now, out);
         graph.has_nodes();

@@ -11,11 +11,11 @@ ghost use Rattle.nb_opens.specs.Companies.{all_closed, beside_shut, ClosesAll, C
 ghost use Rattle.nb_opens.specs.Pairs.{IsEmpty};
 ghost use Rattle.nb_opens.specs.Waiters.{Waits};
 
-use crate::alone::{ABOVE, Alone, AloneKind, BELOW, begin_message, node_of};
+use crate::alone::{Alone, AloneKind, begin_message, node_of};
 use crate::download::{let_go, make_object};
 use crate::waiter::Waiter;
 use nb_graph::{Graph, ObjId, Outside, Port};
-use nb_nodes::{LookupAsk, Obj, PingAsk};
+use nb_nodes::{ABOVE, BELOW, LookupAsk, Obj, PingAsk};
 use nb_terms::{Cause, NoMemory};
 use std::alloc::Global;
 

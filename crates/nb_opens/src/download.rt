@@ -23,14 +23,9 @@ ghost use Rattle.nb_opens.specs.Waiters.{waiter_number, waiter_serial, Waits};
 use crate::waiter::Waiter;
 use nb_graph::{Graph, Msg, ObjId, Outside, Port};
 use nb_image::Body;
-use nb_nodes::{Ask, Load, Obj, Tag};
+use nb_nodes::{ABOVE, Ask, BELOW, Load, Obj, Tag};
 use nb_terms::{Cause, NoMemory};
 use std::alloc::Global;
-
-/// The slots of an object: to what is above it, and to what is below.
-const ABOVE: u8 = 0;
-
-const BELOW: u8 = 1;
 
 /// The two objects of an open that fetches a file, on a graph: a Fetch, and the Tftp plugged to it.
 #[derive(Clone, Copy, Debug, PartialEq, Eq)]

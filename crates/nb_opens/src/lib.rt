@@ -12,8 +12,6 @@ mod alone;
 mod company;
 mod download;
 mod laws;
-#[cfg(test)]
-mod tests;
 mod waiter;
 
 pub use alone::{Alone, AloneKind, Arrival};

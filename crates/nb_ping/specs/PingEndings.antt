@@ -1,4 +1,4 @@
--- RFC 792, page 14: what stands behind each end of a ping, in what came and when
+-- RFC 792, page 14: what stands after each end of a ping, in what came and when
 use Rattle.std.specs.Prelude.{◌≡◌, ℕ, true, false, List, [], ◌∷◌, ◌++◌, map}
 use Rattle.nb_retry.specs.declared.plan.Plan.TheVariants.{Common}
 use Rattle.nb_retry.specs.declared.retry.Due.{Due}

@@ -11,7 +11,7 @@ ghost use Rattle.nb_ping.specs.PingPromises.{PingMeets};
 ghost use Rattle.nb_ping.specs.PingEndings.{PingEnding, PingFires};
 
 /// Each cause of an end stands in what came and when, and no other cause comes: `PingEnding` has what stands
-/// behind each.
+/// after each.
 pub fn ends_for_a_cause()
     ensures { (p : Pinged) (start : ℕ) (h : List PingEntry) (e : PingEntry) (cause : Cause) → PingMeets p start (h ++ e ∷ [])
         → e.acts.over ≡ Some cause → PingEnding p start h e cause }

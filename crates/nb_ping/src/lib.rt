@@ -13,6 +13,3 @@ mod state;
 
 pub use laws::{ends_for_a_cause, replies_end_it, sends_the_request_alone, tries_in_silence};
 pub use ping::Ping;
-
-#[cfg(test)]
-mod tests;

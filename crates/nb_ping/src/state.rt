@@ -23,7 +23,7 @@ const SEQUENCE: u16 = 0;
 const TIMED_OUT: Reason = Reason::TimedOut { tries: 6 };
 
 /// How far a ping is.
-#[derive(Clone, Copy, Debug, PartialEq, Eq, Drop)]
+#[derive(Clone, Copy, Drop)]
 pub(crate) enum PingPhase {
     /// The request is out.
     Waiting,

@@ -11,7 +11,8 @@ use Rattle.nb_reasm.specs.Windows.{HeldWindow, window_of, is_inside, window_byte
 use Rattle.nb_reasm.specs.declared.ring.Ring.{Ring}
 use Rattle.nb_reasm.proofs.SpotLemmas.{held_below, held_front}
 use Rattle.nb_reasm.proofs.RunLemmas.{free_after}
-use Rattle.nb_reasm.proofs.PutLemmas.{byte_if, one_if}
+use Rattle.nb_reasm.proofs.PutLemmas.{byte_if}
+use Rattle.nb_reasm.proofs.CountLemmas.{one_if}
 
 pub record Runs (r s : Ring) (pos held n : ℕ) (bytes : List ℕ) : Type 0 where
   pub joinable : IsJoinable r

@@ -2,8 +2,11 @@ pub mod MarkLemmas
 pub mod SlotLemmas
 pub mod SpotLemmas
 pub mod RingLemmas
+pub mod FillLemmas
 pub mod RunLemmas
 pub mod AdvanceLemmas
+pub mod CountLemmas
 pub mod PutLemmas
+pub mod StepLemmas
 pub mod AppendLemmas
 pub mod WindowLemmas

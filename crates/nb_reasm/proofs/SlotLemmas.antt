@@ -56,6 +56,13 @@ slot_after size start m n s o = elim (turn size (start + m)) [
       | next_turn k at ↦ absurd (omega (arith, k, l, s, o))
     ]
 
+-- a slot that is counted on to no end
+pub slot_beside : (size start m n : ℕ) → start < size → m + n < size → wrapped_slot size (start + m) + n < size → wrapped_slot size (start + (m + n)) ≡ wrapped_slot size (start + m) + n
+slot_beside size start m n s o l = sym (slot_after size start m n s o) ∙ elim (turn size (wrapped_slot size (start + m) + n)) [
+  | same_turn k at ↦ at
+  | next_turn k at ↦ absurd (omega (arith, k, l))
+]
+
 -- a place before another, counted on from that one, is one turn on
 pub slot_around : (size start m n : ℕ) → start < size → n < m → m ≤ size → wrapped_slot size (wrapped_slot size (start + m) + ((size - m) + n)) ≡ wrapped_slot size (start + n)
 slot_around size start m n s below le = elim (turn size (start + m)) [

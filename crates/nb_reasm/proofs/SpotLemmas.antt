@@ -1,9 +1,10 @@
 -- What is held at a place: by where it lies, and by its mark.
-use Rattle.std.proofs.Common.{◌≡◌, ℕ, ◌+◌, ◌-◌, ◌<◌, ◌≤◌, ◌==◌, ◌&&◌, ◌||◌, not, nat_lt, nat_le, Bool, true, false, cond, Some, None, sym, ap, ◌∙◌, arith}
-use Rattle.std.proofs.lemmas.Bool.{ltb-true, ltb-false}
+use Rattle.std.proofs.Common.{◌≡◌, ℕ, ◌+◌, ◌-◌, ◌<◌, ◌≤◌, ◌==◌, ◌&&◌, ◌||◌, nat_lt, nat_le, Bool, true, false, cond, Option, Some, None, refl, sym, ap, ◌∙◌, arith}
+use Rattle.std.proofs.lemmas.Bool.{ltb-true, ltb-false, false≢true}
 use Rattle.std.proofs.lemmas.Bool.Decides.{nat_tests}
+use Rattle.std.specs.Option.{is_some}
 use Rattle.nb_streams.proofs.StreamLaws.{either}
-use Rattle.nb_reasm.specs.Rings.{capacity, slot_of, ring_byte, ring_mark, is_held, held_byte, is_open_place, byte_put, IsJoinable}
+use Rattle.nb_reasm.specs.Rings.{capacity, slot_of, ring_byte, ring_mark, is_held, held_byte}
 use Rattle.nb_reasm.specs.declared.ring.Ring.{Ring}
 use Rattle.nb_reasm.proofs.MarkLemmas.{mark_bit}
 
@@ -29,6 +30,18 @@ held_if : (r : Ring) (p : ℕ) (b : Bool) → is_held r p ≡ b → held_byte r 
 unfolding held_byte
 held_if r p b e = ap (λ (t : Bool). cond t (Some (ring_byte r p)) None) e
 
+-- a place is held where a byte is held at it
+pub held_test : (r : Ring) (p : ℕ) → is_some (held_byte r p) ≡ is_held r p
+unfolding held_byte
+held_test r p = tests (is_held r p) (ring_byte r p)
+  where
+    tests : (t : Bool) (b : ℕ) → is_some (cond t (Some b) None) ≡ t
+    tests true b = refl
+    tests false b = refl
+
+pub held_alike : (r s : Ring) (p : ℕ) → held_byte s p ≡ held_byte r p → is_held s p ≡ true → is_held r p ≡ true
+held_alike r s p same h = sym (held_test r p) ∙ ap (λ (o : Option ℕ). is_some o) (sym same) ∙ held_test s p ∙ h
+
 pub held_below : (r : Ring) (p : ℕ) → p < r.base → held_byte r p ≡ None
 held_below r p h = held_if r p false (test_below r.base r.next (r.base + capacity r) (ring_mark r p) p h)
 
@@ -43,6 +56,24 @@ held_free r p h m = held_if r p false (test_free r.base r.next (r.base + capacit
 
 pub held_above : (r : Ring) (p : ℕ) → r.next ≤ p → r.base + capacity r ≤ p → held_byte r p ≡ None
 held_above r p h l = held_if r p false (test_above r.base r.next (r.base + capacity r) (ring_mark r p) p h l)
+
+test_from : (base next top mark p : ℕ) → test base next top mark p ≡ true → base ≤ p
+test_from base next top mark p h = grind (arith, nat_tests)
+
+test_to : (base next top mark p : ℕ) → next ≤ top → test base next top mark p ≡ true → p < top
+test_to base next top mark p n h = grind (arith, nat_tests)
+
+pub held_from : (r : Ring) (p : ℕ) → is_held r p ≡ true → r.base ≤ p
+held_from r p h = test_from r.base r.next (r.base + capacity r) (ring_mark r p) p h
+
+pub held_to : (r : Ring) (p : ℕ) → r.next ≤ r.base + capacity r → is_held r p ≡ true → p < r.base + capacity r
+held_to r p n h = test_to r.base r.next (r.base + capacity r) (ring_mark r p) p n h
+
+pub held_in_front : (r : Ring) (p : ℕ) → r.base ≤ p → p < r.next → is_held r p ≡ true
+held_in_front r p h l = test_front r.base r.next (r.base + capacity r) (ring_mark r p) p h l
+
+pub held_nothing : (r : Ring) (p : ℕ) → held_byte r p ≡ None → is_held r p ≡ true → ⊥
+held_nothing r p none h = false≢true (sym (ap (λ (o : Option ℕ). is_some o) none) ∙ held_test r p ∙ h)
 
 -- where a place lies
 pub data Spot (r : Ring) (p : ℕ) : Type 0 where
@@ -82,52 +113,3 @@ held_kept r s base size from grown to p bytes marks joined = elim (spot s p) [
   | is_unmarked h n l m ↦ held_free s p n m ∙ sym (held_free r p (omega (arith, n, grown)) (sym (marks n (omega (arith, l, base, size))) ∙ m))
   | is_above h n l ↦ held_above s p n l ∙ sym (held_above r p (omega (arith, n, grown)) (omega (arith, l, base, size)))
 ]
-
-open_test : (base top p : ℕ) (held : Bool) → base ≤ p → p < top → held ≡ false → nat_le base p && (nat_lt p top && not held) ≡ true
-open_test base top p held h l f = grind (arith, nat_tests)
-
--- an unmarked place of the window is open; no other is
-pub open_unmarked : (r : Ring) (p : ℕ) → r.base ≤ p → r.next ≤ p → p < r.base + capacity r → ring_mark r p ≡ 0 → is_open_place r p ≡ true
-open_unmarked r p h n l m = open_test r.base (r.base + capacity r) p (is_held r p) h l (test_free r.base r.next (r.base + capacity r) (ring_mark r p) p n m)
-
-closed_test : (base top p : ℕ) (held : Bool) → held ≡ true → nat_le base p && (nat_lt p top && not held) ≡ false
-closed_test base top p held t = grind (arith, nat_tests)
-
-pub closed_front : (r : Ring) (p : ℕ) → IsJoinable r → p < r.next → is_open_place r p ≡ false
-closed_front r p is l = either (nat_lt p r.base)
-    (λ t. below r.base (r.base + capacity r) p (is_held r p) (ltb-true p r.base t))
-    (λ f. closed_test r.base (r.base + capacity r) p (is_held r p) (test_front r.base r.next (r.base + capacity r) (ring_mark r p) p (ltb-false p r.base f) l))
-  where
-    below : (base top p : ℕ) (held : Bool) → p < base → nat_le base p && (nat_lt p top && not held) ≡ false
-    below base top p held h = grind (arith, nat_tests)
-
-pub closed_above : (r : Ring) (p : ℕ) → r.base + capacity r ≤ p → is_open_place r p ≡ false
-closed_above r p l = above r.base (r.base + capacity r) p (is_held r p) l
-  where
-    above : (base top p : ℕ) (held : Bool) → top ≤ p → nat_le base p && (nat_lt p top && not held) ≡ false
-    above base top p held h = grind (arith, nat_tests)
-
-pub closed_marked : (r : Ring) (p : ℕ) → r.base ≤ p → p < r.base + capacity r → ring_mark r p ≡ 1 → is_open_place r p ≡ false
-closed_marked r p h l m = closed_test r.base (r.base + capacity r) p (is_held r p) (test_marked r.base r.next (r.base + capacity r) (ring_mark r p) p h l m)
-
--- what is held once a byte was put
-pub put_closed : (r : Ring) (place byte p : ℕ) → is_open_place r place ≡ false → byte_put r place byte p ≡ held_byte r p
-put_closed r place byte p e = ap (λ (t : Bool). cond (t && (p == place)) (Some byte) (held_byte r p)) e
-
-put_test : (a b : Bool) → a ≡ true → b ≡ true → a && b ≡ true
-put_test a b s t = grind (arith, nat_tests)
-
-pub put_here : (r : Ring) (place byte p : ℕ) → is_open_place r place ≡ true → p ≡ place → byte_put r place byte p ≡ Some byte
-put_here r place byte p e same = ap (λ (t : Bool). cond t (Some byte) (held_byte r p)) (put_test (is_open_place r place) (p == place) e (equal p place same))
-  where
-    equal : (a b : ℕ) → a ≡ b → (a == b) ≡ true
-    equal a b e = grind (arith, nat_tests)
-
-pub put_there : (r : Ring) (place byte p : ℕ) → (p ≡ place → ⊥) → byte_put r place byte p ≡ held_byte r p
-put_there r place byte p apart = ap (λ (t : Bool). cond t (Some byte) (held_byte r p)) (and_false (is_open_place r place) (p == place) (unequal p place apart))
-  where
-    unequal : (a b : ℕ) → (a ≡ b → ⊥) → (a == b) ≡ false
-    unequal a b h = grind (arith, nat_tests)
-
-    and_false : (a b : Bool) → b ≡ false → a && b ≡ false
-    and_false a b e = grind (arith, nat_tests)

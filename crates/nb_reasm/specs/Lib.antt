@@ -1,4 +1,5 @@
 pub mod Slots
+pub mod Memories
 pub mod Rings
 pub mod Windows
 pub mod HeldWindows

@@ -1,10 +1,12 @@
 -- What a ring holds, place by place.
-use Rattle.std.specs.Prelude.{◌≡◌, ℕ, ◌+◌, ◌-◌, ◌*◌, ◌^◌, ◌<◌, ◌≤◌, ◌==◌, ◌&&◌, ◌||◌, not, Bool, Option, Some, None, length, vec_len, nat_lt, nat_le, slice_index, if◌then◌else◌}
-use Rattle.nb_reasm.specs.Slots.{slot_mark, wrapped_slot}
+use Rattle.std.specs.Prelude.{◌≡◌, ℕ, ◌+◌, ◌-◌, ◌*◌, ◌^◌, ◌<◌, ◌≤◌, ◌==◌, ◌&&◌, ◌||◌, Bool, true, Option, Some, None, vec_len, nat_lt, nat_le, if◌then◌else◌}
+use Rattle.nb_reasm.specs.Slots.{slot_mark, mark_of, wrapped_slot}
+use Rattle.nb_reasm.specs.Memories.{memory_size, memory_byte, IsWritten}
 use Rattle.nb_reasm.specs.declared.ring.Ring.{Ring}
+use Rattle.nb_reasm.specs.declared.ring.Run.{Run}
 
 abbrev pub capacity : Ring → ℕ
-capacity r = length r.bytes.items
+capacity r = memory_size r.memory
 
 -- the slot that lies so far after that of the base
 abbrev pub slot_of : Ring → ℕ → ℕ
@@ -12,7 +14,7 @@ slot_of r offset = wrapped_slot (capacity r) (r.start + offset)
 
 -- the slot's byte and mark, by the place in the window
 abbrev pub ring_byte : Ring → ℕ → ℕ
-ring_byte r p = slice_index r.bytes.items (slot_of r (p - r.base))
+ring_byte r p = memory_byte r.memory (slot_of r (p - r.base))
 
 abbrev pub ring_mark : Ring → ℕ → ℕ
 ring_mark r p = slot_mark r.marks.words.items (slot_of r (p - r.base))
@@ -24,7 +26,7 @@ is_held r p = nat_le r.base p && (nat_lt p r.next || (nat_lt p (r.base + capacit
 unfoldable pub held_byte : Ring → ℕ → Option ℕ
 held_byte r p = if is_held r p then Some (ring_byte r p) else None
 
--- a ring, maybe with a mark at the first place after the run; marks stand at later places, below the end
+-- a ring, maybe with marks at the first places after the run; marks stand at later places, below the end
 pub record IsJoinable (r : Ring) : Type 0 where
   pub some : 0 < capacity r
   pub most : capacity r ≤ 2 ^ 20
@@ -36,6 +38,7 @@ pub record IsJoinable (r : Ring) : Type 0 where
   pub words : capacity r ≤ 64 * vec_len r.marks.words
   pub front : (p : ℕ) → r.base ≤ p → p < r.next → ring_mark r p ≡ 0
   pub rest : (p : ℕ) → r.base ≤ p → p < r.base + capacity r → r.end ≤ p → ring_mark r p ≡ 0
+  pub written : (p : ℕ) → is_held r p ≡ true → IsWritten r.memory (slot_of r (p - r.base))
 
 -- a ring, whose first place after the run holds nothing
 pub record IsRing (r : Ring) : Type 0 where
@@ -45,10 +48,10 @@ pub record IsRing (r : Ring) : Type 0 where
 abbrev pub SameWindow : Ring → Ring → Type 0
 SameWindow r s = (s.base ≡ r.base) × (capacity s ≡ capacity r)
 
--- a place in the window that holds no byte
-abbrev pub is_open_place : Ring → ℕ → Bool
-is_open_place r p = nat_le r.base p && (nat_lt p (r.base + capacity r) && not (is_held r p))
-
--- what is held at a place once a byte was put at one
-abbrev pub byte_put : Ring → ℕ → ℕ → ℕ → Option ℕ
-byte_put r place byte p = if is_open_place r place && (p == place) then Some byte else held_byte r p
+-- places from one on, below an end, that are marked alike and have their slots side by side
+pub record IsRunAt (r : Ring) (place to : ℕ) (run : Run) : Type 0 where
+  pub slot : run.slot ≡ slot_of r (place - r.base)
+  pub some : 0 < run.len
+  pub within : place + run.len ≤ to
+  pub piece : run.slot + run.len ≤ capacity r
+  pub alike : (k : ℕ) → k < run.len → slot_mark r.marks.words.items (run.slot + k) ≡ mark_of run.marked

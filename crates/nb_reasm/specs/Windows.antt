@@ -1,5 +1,5 @@
 -- What a window of a stream holds: for each place a byte, or none.
-use Rattle.std.specs.Prelude.{◌≡◌, ℕ, ◌+◌, ◌-◌, ◌<◌, ◌≤◌, ◌&&◌, Bool, true, List, [], ◌∷◌, filter, Option, None, nat_lt, nat_le, slice_get, if◌then◌else◌}
+use Rattle.std.specs.Prelude.{◌≡◌, ℕ, zero, suc, ◌+◌, ◌-◌, ◌<◌, ◌≤◌, ◌&&◌, Bool, true, List, [], ◌∷◌, filter, Option, None, nat_lt, nat_le, slice_get, if◌then◌else◌}
 use Rattle.std.specs.Option.{is_none, is_some}
 use Rattle.nb_streams.specs.Streams.{byte_at}
 use Rattle.nb_reasm.specs.declared.ring.Ring.{Ring}
@@ -26,7 +26,12 @@ window_byte w pos bytes p = if is_inside w p && nat_le pos p then slice_get byte
 abbrev pub is_new : HeldWindow → ℕ → Bool
 is_new w p = is_inside w p && is_none (w.at p)
 
--- how many of so many places, from this one on, those are
+-- how many of so many places, from this one on, are of a kind
+abbrev pub places_count : (ℕ → Bool) → ℕ → ℕ → ℕ
+places_count kind p zero = 0
+places_count kind p (suc n) = (if kind p then 1 else 0) + places_count kind (p + 1) n
+
+-- how many of the bytes, from a place on, have such a place
 abbrev pub new_count : HeldWindow → ℕ → List ℕ → ℕ
 new_count w pos [] = 0
 new_count w pos (b ∷ bytes) = (if is_new w pos then 1 else 0) + new_count w (pos + 1) bytes

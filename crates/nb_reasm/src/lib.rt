@@ -6,8 +6,8 @@
 
 mod held;
 mod marks;
+mod memory;
 mod ring;
-mod run;
 
 pub use held::{Held, MAX_CAPACITY, Put};
 

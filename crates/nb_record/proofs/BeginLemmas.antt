@@ -1,4 +1,4 @@
--- Bytes with which a record of a kind can begin: a front of them can begin too, each record can, and with
+-- Bytes with which a record of a kind can begin: a prefix of them can begin too, each record can, and with
 -- bytes that can't no record begins.
 use Rattle.std.proofs.Common.{◌≡◌, ℕ, zero, suc, ◌+◌, ◌≤◌, List, [], ◌∷◌, ◌++◌, length, get_or, drop, refl, sym, ap, subst, ◌∙◌, arith, lit≤, lit<}
 use Rattle.std.specs.Int.{w16, w32, to_be_bytes, from_be_bytes}
@@ -11,7 +11,7 @@ use Rattle.nb_record.specs.declared.kind.Kind.{Kind}
 use Rattle.nb_record.specs.declared.kind.Kind.TheVariants as kind
 use Rattle.nb_record.specs.Reading.{lead, length_with, ms_with, record_type, least_length, greatest_length, BodyBeginsAs, BeginsAs, CanBegin}
 
--- ---- a front of what can begin can begin
+-- ---- a prefix of what can begin can begin
 
 default_front : (a b : List ℕ) (i v : ℕ) → get_or (a ++ b) i v ≡ v → get_or a i v ≡ v
 default_front [] b i v e = refl

@@ -14,7 +14,7 @@ pub none-is : {X : Type 0} → (o : Option X) → is_some o ≡ false → o ≡ 
 none-is None e = refl
 none-is (Some x) e = absurd cc
 
--- the bytes up to a break aren't whole: behind a whole record nothing breaks
+-- the bytes up to a break aren't whole: after a whole record nothing breaks
 not_whole : (bytes : List ℕ) (place : ℕ) → place < length bytes → (p : CanBegin (take place bytes)) → (CanBegin (take (place + 1) bytes) → ⊥)
     → 4 ≤ length (take place bytes) → length (take place bytes) < whole_len (take place bytes)
 not_whole bytes place within p never four =

@@ -21,7 +21,7 @@ moved_front xs n m le within =
 pub held_count : (xs : List ℕ) (n m : ℕ) (h : Held) → n ≤ m → m ≤ length xs → drop n (take m xs) ≡ h.bytes → length h.bytes ≡ m - n
 held_count xs n m h le within e = omega (arith, ap length e, length-drop n (take m xs), length-take m xs)
 
--- what stands behind them once more were written there
+-- what stands after them once more were written there
 pub held_more : (xs ys : List ℕ) (n m : ℕ) (held : List ℕ) → take n xs ≡ take n ys → take n ys ≡ held
     → take (n + m) xs ≡ held ++ take m (drop n xs)
 held_more xs ys n m held same was = take-add n m xs ∙ ap (λ (w : List ℕ). w ++ take m (drop n xs)) (same ∙ was)

@@ -82,7 +82,7 @@ filler-4 k n = refl
 
 -- ---- bytes filled up
 
--- behind the bytes stands what the filler has there
+-- after the bytes stands what the filler has there
 filled_behind : (a t : List ℕ) (i d : ℕ) → length a ≤ i → get_or (a ++ drop (length a) t) i d ≡ get_or t i d
 filled_behind a t i d le =
     get_or-append_right a (drop (length a) t) (length a) i d refl le ∙ get_or-drop (length a) t (i - length a) d

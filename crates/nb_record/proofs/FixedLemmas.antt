@@ -19,7 +19,7 @@ ends_join o slot p other c =
     append_assoc o (slot ∷ []) ((p ++ (other ∷ [])) ++ c)
     ∙ ap (λ (x : List ℕ). o ++ (slot ∷ x)) (append_assoc p (other ∷ []) c)
 
--- four pieces behind a first one
+-- four pieces after a first one
 four_join : (w h a b c : List ℕ) → (((w ++ h) ++ a) ++ b) ++ c ≡ w ++ (h ++ (a ++ (b ++ c)))
 four_join w h a b c =
     append_assoc ((w ++ h) ++ a) b c ∙ append_assoc (w ++ h) a (b ++ c) ∙ append_assoc w h (a ++ (b ++ c))

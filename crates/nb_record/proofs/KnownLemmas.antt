@@ -1,4 +1,4 @@
--- What stands at the front of bytes that are there: the length, once four bytes are, and the rest of what
+-- What stands at the start of bytes that are there: the length, once four bytes are, and the rest of what
 -- the reading looks at.
 use Rattle.std.proofs.Common.{◌≡◌, ℕ, ◌+◌, ◌<◌, ◌≤◌, List, [], ◌∷◌, ◌++◌, length, get_or, take, drop, sym, ap, ◌∙◌, arith, inl, inr, lit≤, lit<}
 use Rattle.std.specs.Int.{w32, from_be_bytes}
@@ -71,7 +71,7 @@ lengths kind.Frame = record { some = lit≤ tt; low = lit< tt; order = lit≤ tt
 lengths kind.Tick = record { some = lit≤ tt; low = lit< tt; order = lit≤ tt; high = lit≤ tt }
 lengths kind.Off = record { some = lit≤ tt; low = lit< tt; order = lit≤ tt; high = lit≤ tt }
 
--- ---- bytes behind the least record of a kind
+-- ---- bytes after the least record of a kind
 
 here : (a b : List ℕ) (i d : ℕ) → i < length a → get_or a i d ≡ get_or (a ++ b) i d
 here a b i d lt = sym (get_or_append_left a b d i lt)
@@ -86,7 +86,7 @@ body_behind kind.Frame a b h p = tt
 body_behind kind.Tick a b h p = (omega (arith, ms_front 255 a b h, p.0), omega (arith, ms_front 0 a b h, p.1))
 body_behind kind.Off a b h p = tt
 
--- bytes behind those of the least record of a kind break no record of it
+-- bytes after those of the least record of a kind break no record of it
 pub begins_behind : (k : Kind) (a b : List ℕ) → 4 + least_length k ≤ length a → BeginsAs k a → BeginsAs k (a ++ b)
 begins_behind k a b h p =
     let some = (lengths k).some in

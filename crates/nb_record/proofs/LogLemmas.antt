@@ -16,7 +16,7 @@ Puts-nothing a = record {
   too_small = λ e f. absurd cc;
 }
 
--- where the middle log was short, nothing was put behind it
+-- where the middle log was short, nothing was put after it
 then_short : (a b c : Logged) (x y : List ℕ) → Puts a b x → Puts b c y → b.is_short ≡ true → Puts a c (x ++ y)
 then_short a b c x y p q short =
     let same : c ≡ b = q.stays short in

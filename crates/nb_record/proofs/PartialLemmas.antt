@@ -62,7 +62,7 @@ front_partial k bytes p =
       some = omega (arith, length-append bytes added, length-filled k bytes p, p.short);
     }
 
--- ---- a front of a length
+-- ---- a prefix of a length
 
 body_default : (k : Kind) (a b c d : ℕ) → BodyBeginsAs k (a ∷ b ∷ c ∷ d ∷ [])
 unfolding ms_with

@@ -27,7 +27,7 @@ back4 : (bytes : List ℕ) (n : ℕ) → IsBytes bytes → n + 4 ≤ length byte
 back4 bytes n fits h =
     be_bytes_4 (take 4 (drop n bytes)) _ (omega (arith, length-take 4 (drop n bytes), length-drop n bytes)) (IsBytes-take 4 (drop n bytes) (IsBytes-drop n bytes fits)) refl
 
--- the fields that are read are the bytes behind the version
+-- the fields that are read are the bytes after the version
 fields-at : (bytes : List ℕ) → IsBytes bytes → 80 ≤ length bytes → fields (start_at bytes) ≡ drop 6 bytes
 unfolding fields start_at
 fields-at bytes fits h =
@@ -71,7 +71,7 @@ start_at-valid bytes fits h short high = record {
   script_fits = omega (arith, length-drop 80 bytes);
 }
 
--- the body is the bytes behind the type
+-- the body is the bytes after the type
 pub start_body-at : (bytes : List ℕ) → IsBytes bytes → 80 ≤ length bytes → get_or bytes 5 1 ≡ 1 → start_body (start_at bytes) ≡ drop 5 bytes
 start_body-at bytes fits h version =
     start_body-is (start_at bytes) ∙ ap (λ (x : List ℕ). 1 ∷ x) (fields-at bytes fits h)

@@ -7,7 +7,7 @@ pub record Held : Type 0 where
   pub bytes : List ℕ
   pub passed : ℕ
 
--- so many bytes were read, and are held behind the others
+-- so many bytes were read, and are held after the others
 pub record TakesIn (count : ℕ) (old new : Held) (before now : Outside) : Type 0 where
   pub bytes : List ℕ
   pub counted : length bytes ≡ count

@@ -24,7 +24,7 @@ pub record IsFront (bytes : List ℕ) (r : In) (len : ℕ) : Type 0 where
   pub spelled : bytes ≡ in_text r ++ drop len bytes
   pub length_is : len ≡ length (in_text r)
 
--- what stands at the front of what is held
+-- what stands at the start of what is held
 abbrev pub ShowsFront : Held → Front → Type 0
 ShowsFront held (front.Whole r len) = IsFront held.bytes (in_of r) len
 ShowsFront held front.Partial = IsPartial held.bytes

@@ -1,7 +1,7 @@
 -- What a log holds, and what a put does to it.
 use Rattle.std.specs.Prelude.{◌≡◌, ℕ, ◌+◌, ◌<◌, Bool, true, false, List, ◌++◌, length}
 
--- the bytes gathered, the room for which memory was taken, and whether a put met want of memory
+-- the bytes gathered, the room for which memory was taken, and whether a put ran out of memory
 pub record Logged : Type 0 where
   pub bytes : List ℕ
   pub room : ℕ
@@ -12,7 +12,7 @@ pub record Puts (old new : Logged) (added : List ℕ) : Type 0 where
   pub room_stays : new.room ≡ old.room
   -- a log that isn't short has all of them
   pub whole : new.is_short ≡ false → (old.is_short ≡ false) × (new.bytes ≡ old.bytes ++ added)
-  -- a short one has a front of them
+  -- a short one has a prefix of them
   pub part : List ℕ
   pub lost : List ℕ
   pub fronts : added ≡ part ++ lost

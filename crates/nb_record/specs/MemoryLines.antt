@@ -5,7 +5,7 @@ use Rattle.nb_record.specs.Memory.{told}
 use Rattle.nb_record.specs.declared.mem_line.MemLine.{MemLine}
 use Rattle.nb_record.specs.declared.sure_line.SureLine.{SureLine}
 
--- the input behind what was read, the output, and the faults
+-- the input after what was read, the output, and the faults
 abbrev pub mem_outside : MemLine → Outside
 mem_outside m = record {
   left = Some (drop m.at m.input.items);

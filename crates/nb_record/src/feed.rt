@@ -18,12 +18,12 @@ pub struct BadRecord {
     pub why: u8,
 }
 
-/// What stands at the front of what a feed holds.
+/// What stands at the start of what a feed holds.
 #[derive(Debug, Drop)]
 pub enum Front<'a> {
     /// A whole record, and how many bytes it has.
     Whole(InRec<'a>, usize),
-    /// A proper front of a record; more bytes are needed.
+    /// A proper prefix of a record; more bytes are needed.
     Partial,
     /// No record.
     Broken(BadRecord),
@@ -101,7 +101,7 @@ impl Feed {
         })
     }
 
-    /// Takes as many first bytes as fit, and says how many: at least one where a front of
+    /// Takes as many first bytes as fit, and says how many: at least one where a prefix of
     /// a record is held, and then all of a piece of at most 65,536 bytes.
     pub fn push(&mut self, piece: &[u8]) -> usize
         ensures within { result ≤ length piece.now }
@@ -117,8 +117,8 @@ impl Feed {
         taken
     }
 
-    /// Reads a piece straight into the room behind what is held, and says how many bytes it has: 0 at the
-    /// end of the input, where a front of a record is held. Where the read fails, what is held stays.
+    /// Reads a piece straight into the room after what is held, and says how many bytes it has: 0 at the
+    /// end of the input, where a prefix of a record is held. Where the read fails, what is held stays.
     pub fn read<L: Line>(&mut self, line: &mut L) -> Result<usize, Failed>
         ensures ok { IfOk result (λ n. TakesIn n self.old self.new (L.outside line.old) (L.outside line.new)) }
         ensures over { IfOk result (λ n. n ≡ 0 → IsPartial self.old.bytes → IsAtEnd (L.outside line.old)) }

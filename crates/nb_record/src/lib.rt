@@ -23,6 +23,3 @@ pub use mem_line::MemLine;
 pub use nb_terms::{Acts, Cause, Event, NoMemory, SendTo};
 pub use output::OutRec;
 pub use sure_line::SureLine;
-
-#[cfg(test)]
-mod tests;

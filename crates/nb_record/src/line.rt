@@ -24,7 +24,7 @@ pub trait Line {
         ensures attached { Attaches (outside self.old) (outside self.new) }
         ensures failed { OnErr result (Rose (outside self.old).attach_faults (outside self.new).attach_faults) };
 
-    /// Reads, and says how many bytes it put at the front of `buf`. 0 for a buffer that isn't empty is the
+    /// Reads, and says how many bytes it put at the start of `buf`. 0 for a buffer that isn't empty is the
     /// end of the input. `Failed` reads nothing.
     fn read(&mut self, buf: &mut [u8]) -> Result<usize, Failed>
         ensures within { IfOk result (λ n. n ≤ length buf.old) }

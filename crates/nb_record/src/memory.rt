@@ -14,7 +14,7 @@ pub fn cut_len(cuts: &[usize], number: u64, most: usize) -> usize
     }
 }
 
-/// Copies the first bytes of `from` to the front of `into`: this many.
+/// Copies the first bytes of `from` to the start of `into`: this many.
 pub fn copy_front(from: &[u8], into: &mut [u8], len: usize)
     requires given { len ≤ length from.now }
     requires fits { len ≤ length into.old }

@@ -191,7 +191,7 @@ fn is_frame_length(len: u32) -> bool
     Kind::Frame.least_length() <= len && len <= Kind::Frame.greatest_length()
 }
 
-/// What stands at the front of the bytes, before which this many bytes of whole records were passed.
+/// What stands at the start of the bytes, before which this many bytes of whole records were passed.
 /// Nearly all records are frames, so these are looked for first.
 #[inline(always)]
 pub fn front_of(bytes: &[u8], passed: u64) -> Front<'_>

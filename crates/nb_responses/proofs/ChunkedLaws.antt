@@ -75,7 +75,7 @@ whole_chunk used size rest is = either (eqb size 0)
     positive n apart = omega (arith, apart)
 
 -- a chunk before a chunked body
-chunk_before : (c : Chunk) (text rest : List ℕ) (r : Response) → IsChunk c → text ≡ print_chunk c ++ rest → Chunked rest r → Chunked text (with_chunk c.bytes r)
+pub chunk_before : (c : Chunk) (text rest : List ℕ) (r : Response) → IsChunk c → text ≡ print_chunk c ++ rest → Chunked rest r → Chunked text (with_chunk c.bytes r)
 chunk_before c text rest r is e x = record {
   chunks = c ∷ x.chunks;
   tail = x.tail;
@@ -111,7 +111,7 @@ chunk_there text l rest is w =
       less = omega (arith, text_long, rest_long);
     }
 
-by_tail : (text : List ℕ) (r : Response) → Tail text r → Chunked text r
+pub by_tail : (text : List ℕ) (r : Response) → Tail text r → Chunked text r
 by_tail text r t = record { chunks = []; tail = text; last = r; all = tt; stands = refl; ends = t; is = refl }
 
 by_line : (text : List ℕ) → ((later : List ℕ) → length later < length text → (r : Response) × Chunked later r) → SizeLine text → (r : Response) × Chunked text r

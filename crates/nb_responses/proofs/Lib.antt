@@ -4,6 +4,7 @@ pub mod ChunkedLaws
 pub mod Decisions
 pub mod HeadDecisions
 pub mod LineLaws
+pub mod RequestLaws
 pub mod ResponseLaws
 pub mod SizeLines
 pub mod StayLaws

@@ -86,10 +86,10 @@ body_total text to_end = (within_limit (response open_body text), refl)
 body_total text bad = (response broken [], refl)
 
 -- a text after heads that are interim
-at_once : (text : List ℕ) (r : Response) → Final text r → ReadsSoFar text r
+pub at_once : (text : List ℕ) (r : Response) → Final text r → ReadsSoFar text r
 at_once text r ends = record { skipped = []; rest = text; all = tt; stands = refl; ends = ends }
 
-after_interim : (text block rest : List ℕ) (r : Response) → IsInterim block → text ≡ block ++ rest → ReadsSoFar rest r → ReadsSoFar text r
+pub after_interim : (text block rest : List ℕ) (r : Response) → IsInterim block → text ≡ block ++ rest → ReadsSoFar rest r → ReadsSoFar text r
 after_interim text block rest r is e x = record {
   skipped = block ∷ x.skipped;
   rest = x.rest;
@@ -129,7 +129,10 @@ reads_within zero text l = absurd (none_below (length text) l)
     none_below k l = omega (arith, l)
 reads_within (suc n) text l = by_found text (head_block text) refl (λ later less. reads_within n later (omega (arith, l, less)))
 
+pub reads_total : (stream : List ℕ) → (r : Response) × ReadsSoFar stream r
+reads_total stream = reads_within (suc (length stream)) stream (omega arith)
+
 pub each_is_read : (stream : List ℕ) (ended : Bool) → (r : Response) × ResponseOf stream ended r
 each_is_read stream ended =
-    let x : Reading stream = reads_within (suc (length stream)) stream (omega arith) in
+    let x : Reading stream = reads_total stream in
     (by_end ended x.0, record { so_far = x.0; reads = x.1; is = refl })

@@ -1,6 +1,7 @@
 //! Laws of readings, each a function that does nothing.
 
 ghost use Rattle.nb_responses.specs.ReadingLaws.{IsReadOnce, EachIsRead, DecidedStays, BodyGoesOn};
+ghost use Rattle.nb_responses.specs.Requests.{EachIsOneRequest};
 
 /// A stream is read as one response.
 pub fn one_response()
@@ -20,4 +21,9 @@ pub fn decided_stays()
 /// The body of a longer stream begins with that of the shorter one.
 pub fn body_goes_on()
     ensures { BodyGoesOn }
+{}
+
+/// A request of visible texts is one request: a single GET, with nothing before or after it.
+pub fn requests_are_single()
+    ensures { EachIsOneRequest }
 {}

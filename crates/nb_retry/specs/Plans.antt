@@ -35,7 +35,7 @@ pub record Wait : Type 0 where
 abbrev pub wait : ℕ → Due → Wait
 wait delay says = record { delay = delay; says = says }
 
--- a plan as what it says behind each delay
+-- a plan as what it says after each delay
 abbrev pub waits : Plan → List Wait
 waits Common = wait 250 (Again 2) ∷ wait 500 (Again 3) ∷ wait 1000 (Again 4) ∷ wait 2000 (Again 5) ∷ wait 4000 (Again 6) ∷ wait 8000 Over ∷ []
 waits Dhcp = wait 1000 (Again 2) ∷ wait 2000 (Again 3) ∷ wait 4000 (Again 4) ∷ wait 8000 Over ∷ []

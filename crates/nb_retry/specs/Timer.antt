@@ -23,7 +23,7 @@ is_due retry now = option_map_or (λ next. nat_le next now) retry.next false
 abbrev pub passed : Retry → ℕ
 passed retry = (retry.fired - first_try retry.plan) + 1
 
--- a delay is left behind the one that it waits for
+-- a delay is left after the one that it waits for
 abbrev pub goes_on : Retry → Bool
 goes_on retry = nat_lt (passed retry) (length (delays retry.plan))
 

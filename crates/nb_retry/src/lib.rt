@@ -11,6 +11,3 @@ mod retry;
 
 pub use plan::Plan;
 pub use retry::{Due, Retry};
-
-#[cfg(test)]
-mod tests;

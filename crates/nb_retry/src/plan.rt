@@ -3,7 +3,7 @@
 ghost use Rattle.std.specs.Prelude.{◌≡◌};
 ghost use Rattle.nb_retry.specs.Plans.{delays, first_try};
 
-/// How long to wait behind each try.
+/// How long to wait after each try.
 #[derive(Clone, Copy, Debug, PartialEq, Eq, Drop)]
 pub enum Plan {
     /// 6 tries, the message's first sending among them.
@@ -15,7 +15,7 @@ pub enum Plan {
 }
 
 impl Plan {
-    /// The delays in milliseconds. Behind the last one the plan is over.
+    /// The delays in milliseconds. After the last one the plan is over.
     pub fn delays(self) -> &'static [u64]
         ensures { result.now ≡ delays self }
     {

@@ -9,7 +9,7 @@ and_keeps : (a b c : Bool) → (b ≡ false → c ≡ false) → (a && b) ≡ fa
 and_keeps true b c keeps h = keeps h
 and_keeps false b c keeps h = refl
 
--- what a text doesn't begin with, no front of it does
+-- what a text doesn't begin with, no prefix of it does
 front_begins : (needle text : List ℕ) (n : ℕ) → starts_with nat_eq text needle ≡ false → starts_with nat_eq (take n text) needle ≡ false
 front_begins [] text n h = h
 front_begins (k ∷ ks) [] zero h = refl

@@ -12,7 +12,7 @@ before_cons : (p : List ℕ) (ps : List (List ℕ)) (q : List ℕ) (qs : List (L
 unfolding joined_contents
 before_cons p ps q qs e = rw e refl
 
--- the first line of a text with a line feed, before the lines behind it
+-- the first line of a text with a line feed, before the lines after it
 pub joined_lines_some : (text : List ℕ) (n : ℕ) → position is_line_feed text ≡ Some n → joined_lines text ≡ line_before (without_cr (take n text)) (joined_lines (drop (n + 1) text))
 unfolding joined_lines
 joined_lines_some text n h =
@@ -69,7 +69,7 @@ pub size_closed : (old new : Joined) (line : List ℕ) → new.lines ≡ old.lin
 size_closed old new line l h =
     omega (arith, ap length l, h, length-append old.lines (closed (old.held + 1) (old.front ++ line)), length-closed (old.held + 1) (old.front ++ line))
 
--- what stands behind the last line feed was taken
+-- what stands after the last line feed was taken
 pub record HasEnded (old new : Joined) (rest : List ℕ) : Type 0 where
   pub lines : new.lines ≡ lines_before old (last_line rest)
   pub size : length new.lines ≤ size_of old + length rest

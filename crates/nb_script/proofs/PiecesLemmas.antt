@@ -17,7 +17,7 @@ pieces_is sep [] = refl
 pieces_is sep (b ∷ xs) =
     rw (pieces_is sep xs) (ap (λ x. cond (sep b) ([] ∷ slice_split sep xs) x) (onto_first_same b (slice_split sep xs)))
 
--- up to the first separator, and the pieces behind it
+-- up to the first separator, and the pieces after it
 pub pieces_first : (sep : ℕ → Bool) (xs : List ℕ) → position_or_len sep xs < length xs → pieces sep xs ≡ take (position_or_len sep xs) xs ∷ pieces sep (drop (position_or_len sep xs + 1) xs)
 pieces_first sep xs h =
     rw (pieces_is sep xs, pieces_is sep (drop (position_or_len sep xs + 1) xs)) (slice_split_first sep xs 0 h)
@@ -104,7 +104,7 @@ position_or sep xs =
     let fits = prefix_fits sep xs in
     or_length (ltb (position_or_len sep xs) (length xs)) (position_or_len sep xs) (length xs) refl fits
 
--- a piece, and the pieces behind it as words
+-- a piece, and the pieces after it as words
 pub record Cuts (sep : ℕ → Bool) (xs : List ℕ) (n : ℕ) : Type 0 where
   pub behind : List (List ℕ)
   pub pieces_are : pieces sep xs ≡ take n xs ∷ behind

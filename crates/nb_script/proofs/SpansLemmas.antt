@@ -1,4 +1,4 @@
--- Places in a text: how long the lines there are, and that they stay where bytes are added behind.
+-- Places in a text: how long the lines there are, and that they stay where bytes are added after.
 use Rattle.std.proofs.Common.{◌≡◌, ℕ, suc, ◌-◌, ◌≤◌, List, [], ◌∷◌, ◌++◌, length, drop, map, refl, arith, nat_le, length-append, length-drop}
 use Rattle.std.specs.List.{list_all}
 use Rattle.std.proofs.lemmas.List.{length-take-le, take-append-le, drop-append-le}
@@ -23,7 +23,7 @@ shorts text (span ∷ spans) h =
     let size = length-take-le (span.to - span.from) (drop span.from text) (omega (arith, in_text.0, in_text.1)) in
     rw (size, shorts text spans (within_rest text (span ∷ spans) h)) refl
 
--- what stands at a place stays there where bytes are added behind
+-- what stands at a place stays there where bytes are added after
 spanned-append : (text more : List ℕ) (span : Span) → span.from ≤ span.to → span.to ≤ length text → spanned (text ++ more) span ≡ spanned text span
 spanned-append text more span ordered fits =
     let left = length-drop span.from text in

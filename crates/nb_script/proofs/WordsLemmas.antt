@@ -14,7 +14,7 @@ all_words_none line h =
     let past = position_none (λ b. not (is_blank b)) line h in
     words_by_skip is_blank line ∙ rw (drop_all (position_or_len (λ b. not (is_blank b)) line) line past) refl
 
--- the first word, and those behind it
+-- the first word, and those after it
 pub all_words_some : (line : List ℕ) (start : ℕ) → position (λ b. not (is_blank b)) line ≡ Some start → let rest = drop start line in let end = position_or_len is_blank rest in (0 < end) × (all_words line ≡ take end rest ∷ all_words (drop end rest))
 unfolding all_words
 all_words_some line start h =
@@ -55,7 +55,7 @@ word_step w ws k false e =
     let one : 1 + k ≡ suc k = omega arith in
     rw one refl
 
--- a word, and the words behind it
+-- a word, and the words after it
 pub words_more : (line w rest : List ℕ) → all_words line ≡ w ∷ all_words rest → starts_with nat_eq w (codes "#") ≡ false → line_words line ≡ w ∷ line_words rest
 unfolding line_words
 words_more line w rest h plain = rw h (word_step w (all_words rest) _ (starts_with nat_eq w (codes "#")) plain)

@@ -18,20 +18,20 @@ size_of j = length j.lines + j.held
 abbrev pub IsBegun : Joined → Type 0
 IsBegun j = j.held ≡ 0 → j.front ≡ []
 
--- a line and empty ones behind it, so many in all
+-- a line and empty ones after it, so many in all
 abbrev pub closed : ℕ → List ℕ → List (List ℕ)
 closed zero front = []
 closed (suc held) front = front ∷ closed held []
 
--- what an open line becomes with these lines behind it
+-- what an open line becomes with these lines after it
 abbrev pub resumed : ℕ → List ℕ → List (List ℕ) → List (List ℕ)
 resumed held front [] = closed held front
 resumed held front (line ∷ behind) = closed (suc held) (front ++ line) ++ behind
 
--- all lines, with these behind what was taken
+-- all lines, with these after what was taken
 abbrev pub lines_before : Joined → List (List ℕ) → List (List ℕ)
 lines_before j behind = j.lines ++ resumed j.held j.front behind
 
--- what stands behind the last line feed is a line where it isn't empty
+-- what stands after the last line feed is a line where it isn't empty
 abbrev pub last_line : List ℕ → List (List ℕ)
 last_line rest = if length rest == 0 then [] else rest ∷ []

@@ -11,7 +11,7 @@ use nb_terms::NoMemory;
 use std::alloc::Global;
 use std::marker::Model;
 
-/// The lines of a text after joining, one behind the other in a memory of their own. While a text is
+/// The lines of a text after joining, one after the other in a memory of their own. While a text is
 /// read, the last line may be open: further lines are joined to it.
 #[derive(Drop)]
 pub struct JoinedLines {
@@ -58,7 +58,7 @@ impl JoinedLines {
         self.spans.len()
     }
 
-    /// Line `i`, from 0. None behind the last.
+    /// Line `i`, from 0. None after the last.
     pub fn get(&self, i: usize) -> Option<&[u8]>
         ensures { option_copied result ≡ slice_get self.now.lines i }
     {
@@ -134,7 +134,7 @@ impl JoinedLines {
         self.close()
     }
 
-    /// Takes what stands behind the last line feed, and closes the open line.
+    /// Takes what stands after the last line feed, and closes the open line.
     fn end(&mut self, rest: &[u8]) -> Result<(), NoMemory>
         requires begun { IsBegun self.old }
         requires room { self.old.held < 2 ^ 63 }
@@ -148,7 +148,7 @@ impl JoinedLines {
     }
 }
 
-/// The first line that a line feed ends, and what stands behind it.
+/// The first line that a line feed ends, and what stands after it.
 fn next_line(text: &[u8]) -> Option<(&[u8], &[u8])>
     ensures none { result ≡ None → joined_lines text.now ≡ last_line text.now }
     ensures some { IfSome result

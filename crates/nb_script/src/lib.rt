@@ -13,11 +13,7 @@ mod kind;
 mod labels;
 mod line;
 mod script;
-#[cfg(test)]
-mod script_tests;
 mod span;
-#[cfg(test)]
-mod test_text;
 mod word;
 
 pub use error::ScriptError;

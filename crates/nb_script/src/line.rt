@@ -25,7 +25,7 @@ pub fn ends_in_backslash(line: &[u8]) -> bool
     line.ends_with(b"\\")
 }
 
-/// Whether a text's first line is `#!ipxe`, with blanks and then at most one carriage return behind it.
+/// Whether a text's first line is `#!ipxe`, with blanks and then at most one carriage return after it.
 pub fn begins_script(text: &[u8]) -> bool
     ensures { result ≡ begins_script (pieces is_line_feed text.now) }
 {

@@ -87,7 +87,7 @@ impl Script {
         self.lines.len()
     }
 
-    /// What stands on line `i`, from 0; the first is `#!ipxe`. None behind the last.
+    /// What stands on line `i`, from 0; the first is `#!ipxe`. None after the last.
     pub fn line(&self, i: usize) -> Option<ScriptLine<'_>>
         ensures value { option_map shown_line result ≡ slice_get self.now i }
         ensures fits { IfSome result (λ line. HasAtMost 4096 line) }

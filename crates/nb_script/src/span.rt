@@ -5,7 +5,7 @@ ghost use Rattle.std.specs.List.{list_all};
 const MAX_LINE: usize = 4096;
 
 /// Where a line stands in a text: from where and up to where, its line end left out.
-#[derive(Clone, Copy, Debug)]
+#[derive(Clone, Copy)]
 pub struct Span {
     pub from: usize,
     pub to: usize,

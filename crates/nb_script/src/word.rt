@@ -12,7 +12,7 @@ pub fn is_blank(byte: u8) -> bool
     byte == b' ' || byte == b'\t'
 }
 
-/// The first word of a line and what stands behind it. None where there are only blanks.
+/// The first word of a line and what stands after it. None where there are only blanks.
 pub fn cut_word(line: &[u8]) -> Option<(&[u8], &[u8])>
     ensures none { result ≡ None → all_words line.now ≡ [] }
     ensures some { IfSome result (λ cut. all_words line.now ≡ cut.0.now ∷ all_words cut.1.now) }
@@ -48,7 +48,7 @@ fn word_len(line: &[u8]) -> usize
     first_blank(line).unwrap_or(line.len())
 }
 
-/// The next word that isn't in a comment, and what stands behind it.
+/// The next word that isn't in a comment, and what stands after it.
 pub fn next_word(line: &[u8]) -> Option<(&[u8], &[u8])>
     ensures none { result ≡ None → line_words line.now ≡ [] }
     ensures some { IfSome result (λ cut. line_words line.now ≡ cut.0.now ∷ line_words cut.1.now) }

@@ -12,7 +12,7 @@ use Rattle.nb_settings.proofs.FindLemmas.{either_way}
 abbrev pub cut : List ℕ → List ℕ → List ℕ × List ℕ
 cut text rest = (text, rest)
 
--- the text before a place, and what stands behind it
+-- the text before a place, and what stands after it
 abbrev pub split_before : List ℕ → ℕ → List ℕ × List ℕ
 split_before text end = (take end text, drop (end + 1) text)
 
@@ -47,7 +47,7 @@ cut_at-found byte text end found = rw (cut_at-is byte text, ← found, take_rest
 pub cut_at-none : (byte : ℕ) (text : List ℕ) → None ≡ position (λ b. eqb b byte) text → None ≡ cut_at byte text
 cut_at-none byte text found = rw (cut_at-is byte text, ← found) refl
 
--- the byte is found behind a text without it
+-- the byte is found after a text without it
 pub cut_at-front : (byte : ℕ) (text rest : List ℕ) → has_no byte text ≡ true → cut_at byte (text ++ byte ∷ rest) ≡ Some (cut text rest)
 cut_at-front byte [] rest clean = let same : eqb byte byte ≡ true = search arith in rw same refl
 cut_at-front byte (b ∷ bs) rest clean = either_way (eqb b byte)

@@ -83,7 +83,7 @@ put_same f (y ∷ ys) zero (suc k) x d same within = refl
 put_same f (y ∷ ys) (suc i) zero x d same within = refl
 put_same f (y ∷ ys) (suc i) (suc k) x d same within = put_same f ys i k x d same (omega arith)
 
--- also with a setting in place of the one of its block and key, or behind all where there is none
+-- also with a setting in place of the one of its block and key, or after all where there is none
 pub keys_put : (s : Setting) (ss : List Setting) (place : Option ℕ) → place_of s.block s.key ss ≡ place → AllPairs OtherKey ss → AllPairs OtherKey (put_at place s ss)
 keys_put s ss None at keys =
     let test = is_setting s.block s.key in

@@ -1,13 +1,14 @@
 -- What each option of a lease adds to its settings.
-use Rattle.std.proofs.Common.{◌≡◌, refl, arith, ℕ, List, [], ◌∷◌, ◌++◌, true, false}
-use Rattle.std.specs.Prelude.{codes, pos, ◌==◌}
+use Rattle.std.proofs.Common.{◌≡◌, ◌∙◌, ap, refl, arith, ℕ, ◌<◌, ◌≤◌, Bool, ◌&&◌, List, [], ◌∷◌, ◌++◌, length, true, false}
+use Rattle.std.specs.Prelude.{codes, pos, ◌==◌, nat_le}
+use Rattle.std.proofs.lemmas.Bool.{le-leb, lt-leb}
 use Rattle.std.proofs.lemmas.Bool.Decides.{nat_tests}
-use Rattle.nb_dhcpmsg.specs.Options.{TagValue, joined}
+use Rattle.nb_dhcpmsg.specs.Options.{TagValue, joined, is_there}
 use Rattle.nb_dhcpmsg.specs.Messages.{is_value}
-use Rattle.nb_dhcpmsg.specs.Fields.{file_name}
+use Rattle.nb_dhcpmsg.specs.Fields.{file_name, inner_options}
 use Rattle.nb_settings.specs.declared.setting.OwnedKey.{OwnedKey}
-use Rattle.nb_settings.specs.declared.setting.OwnedKey.TheVariants.{Tag, Sub}
-use Rattle.nb_settings.specs.LeaseSettings.{numbered, lease_settings, address_at, option_setting, value_settings, options_in, options_within, is_left_out, is_named_file, address_setting, address_settings, tag_settings, inner_settings, lease_priority, last_signed}
+use Rattle.nb_settings.specs.declared.setting.OwnedKey.TheVariants.{Tag}
+use Rattle.nb_settings.specs.LeaseSettings.{numbered, lease_settings, address_at, option_setting, value_settings, options_in, options_within, is_left_out, is_named_file, address_setting, address_settings, tag_settings, within_settings, inner_settings, lease_priority, last_signed}
 use Rattle.nb_settings.proofs.FindLemmas.{either_way}
 
 pub no_priority : (os : List TagValue) → is_value 1 os ≡ false → lease_priority os ≡ pos 0
@@ -38,9 +39,30 @@ pub of_value : (block ack : List ℕ) (tag : ℕ) → is_left_out tag ≡ false 
 unfolding tag_settings
 of_value block ack tag kept other = rw (kept, other) refl
 
-pub of_inner : (block ack : List ℕ) (inner : ℕ) → inner_settings block ack inner ≡ value_settings block (Sub 175 inner) inner (options_within ack)
+pub of_inner : (block ack : List ℕ) → numbered (within_settings block (options_within ack)) 254 ≡ numbered (inner_settings block ack) 254
 unfolding inner_settings
-of_inner block ack inner = refl
+of_inner block ack = refl
+
+-- a tag that no option has is no value
+pub not_there : (tag : ℕ) (os : List TagValue) → is_there tag os ≡ false → is_value tag os ≡ false
+not_there tag os off = ap (λ b. b && nat_le (length (joined tag os)) 1024) off
+
+and_false : (a : Bool) → (a && false) ≡ false
+and_false true = refl
+and_false false = refl
+
+-- nor is one whose value is too long
+pub too_long : (tag : ℕ) (os : List TagValue) → 1024 < length (joined tag os) → is_value tag os ≡ false
+too_long tag os long = ap (λ b. is_there tag os && b) (lt-leb (length (joined tag os)) 1024 long) ∙ and_false (is_there tag os)
+
+-- another one is
+pub a_value : (tag : ℕ) (os : List TagValue) → is_there tag os ≡ true → length (joined tag os) ≤ 1024 → is_value tag os ≡ true
+a_value tag os on fits = ap (λ b. b && nat_le (length (joined tag os)) 1024) on ∙ le-leb (length (joined tag os)) 1024 fits
+
+-- the options of a message, and the value of its option 175, give those within it
+pub options_are_within : (ack : List ℕ) (os : List TagValue) (outer : List ℕ) (within : List TagValue)
+    → os ≡ options_in ack → outer ≡ joined 175 os → within ≡ inner_options outer → within ≡ options_within ack
+options_are_within ack os outer within is value inner = inner ∙ ap inner_options (value ∙ ap (joined 175) is)
 
 pub no_next : (block : List ℕ) (yours next : ℕ) → next ≡ 0 → address_settings block yours next ≡ address_setting block (codes "ip") yours ∷ []
 unfolding address_settings

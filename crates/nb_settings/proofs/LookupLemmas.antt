@@ -33,7 +33,7 @@ first_of-map : {A B : Type 0} (f : A → B) (a b : Option A) → option_map f (f
 first_of-map f None b = refl
 first_of-map f (Some x) b = refl
 
--- look-up: in the block itself, and then in those behind it
+-- look-up: in the block itself, and then in those after it
 pub look_is : (block : Option (List ℕ)) (key : OwnedKey) (table : TableLists) → look block key table ≡ first_of (own_value (unwrap_or block []) key table) (value_behind block key table)
 unfolding look own_value value_behind
 look_is block key table =
@@ -51,7 +51,7 @@ none-first p (x ∷ xs) other none = either_way (p x)
     (λ on. let wrong : true ≡ false = rw on at none in absurd cc)
     (λ off. rw off (none-first p xs other (rw off at none)))
 
--- the setting in the first block behind that has the key
+-- the setting in the first block after that has the key
 abbrev setting_behind : Option (List ℕ) → OwnedKey → List Setting → List Block → Option Setting
 setting_behind block key settings blocks =
     option_and_then (λ (b : Block). find (is_setting b.name key) settings) (find (has_behind block key settings) blocks)
@@ -71,7 +71,7 @@ map-and_then : {A B C : Type 0} (f : B → C) (g : A → Option B) (o : Option A
 map-and_then f g None = refl
 map-and_then f g (Some x) = refl
 
--- the value behind a block is that of the first block behind it that has the key
+-- the value after a block is that of the first block after it that has the key
 pub value_behind_is : (block : Option (List ℕ)) (key : OwnedKey) (table : TableLists) → value_behind block key table ≡ option_and_then (λ (b : Block). own_value b.name key table) (find (has_behind block key table.settings) (by_priority table.blocks))
 unfolding value_behind own_value
 value_behind_is block key table =

@@ -61,7 +61,7 @@ name_complete (Some block) key kind text is block_is =
 pub name_read-complete : (text : List ℕ) (name : SettingName) → IsName text name → name_read text ≡ Some name
 name_read-complete text name is = ap name_read is.spelled ∙ name_complete name.block name.key name.kind is.key_text is.is_key is.is_block
 
--- what was read behind the block
+-- what was read after the block
 record IsTail (block : Option (List ℕ)) (text : List ℕ) (name : SettingName) : Type 0 where
   key_text : List ℕ
   is_key : IsKeyText key_text name.key

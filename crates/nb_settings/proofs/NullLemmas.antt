@@ -1,8 +1,9 @@
 -- Bytes without the zero bytes that they end with.
 use Rattle.std.proofs.Common.{◌≡◌, ◌∙◌, ap, sym, refl, arith, ℕ, zero, suc, ◌-◌, ◌<◌, ◌≤◌, List, [], ◌∷◌, ◌++◌, length, get_or, take, Bool, true, false, ◌&&◌, length-append}
 use Rattle.std.specs.Prelude.{◌==◌, if◌then◌else◌}
+use Rattle.std.proofs.lemmas.Bool.{and_parts}
 use Rattle.std.proofs.lemmas.Bool.Decides.{nat_tests}
-use Rattle.nb_settings.specs.LeaseSettings.{without_nulls, ends_in_null}
+use Rattle.nb_settings.specs.Nulls.{without_nulls, ends_in_null}
 use Rattle.nb_settings.proofs.FindLemmas.{either_way}
 
 -- a zero byte at the end goes
@@ -61,3 +62,29 @@ nulls_fewer [] = omega arith
 nulls_fewer (b ∷ bytes) =
     let ih = nulls_fewer bytes in
     either_way ((b == 0) && (length (without_nulls bytes) == 0)) (λ on. rw on (omega arith)) (λ off. rw off (omega arith))
+
+none_at : (bytes : List ℕ) (i : ℕ) → length bytes ≡ 0 → get_or bytes i 0 ≡ 0
+none_at [] i none = refl
+none_at (b ∷ bytes) i none = absurd (omega (arith, none))
+
+gone_at : (b : ℕ) (bytes : List ℕ) (i : ℕ) → b ≡ 0 → get_or bytes (i - 1) 0 ≡ 0 → get_or (b ∷ bytes) i 0 ≡ 0
+gone_at b bytes zero is rest = is
+gone_at b bytes (suc i) is rest =
+    let e : suc i - 1 ≡ i = omega arith in
+    sym (ap (λ (k : ℕ). get_or bytes k 0) e) ∙ rest
+
+stays_at : (b : ℕ) (kept bytes : List ℕ) (i : ℕ) → ((k : ℕ) → get_or kept k 0 ≡ get_or bytes k 0) → get_or (b ∷ kept) i 0 ≡ get_or (b ∷ bytes) i 0
+stays_at b kept bytes zero same = refl
+stays_at b kept bytes (suc i) same = same i
+
+-- the bytes that are left stay as they are, and those that go are zero
+pub nulls_kept : (bytes : List ℕ) (i : ℕ) → get_or (without_nulls bytes) i 0 ≡ get_or bytes i 0
+nulls_kept [] i = refl
+nulls_kept (b ∷ bytes) i =
+    either_way ((b == 0) && (length (without_nulls bytes) == 0))
+    (λ on. (
+    let parts = and_parts (b == 0) (length (without_nulls bytes) == 0) on in
+    let is : b ≡ 0 = grind (arith, nat_tests, parts.0) in
+    let none : length (without_nulls bytes) ≡ 0 = grind (arith, nat_tests, parts.1) in
+    rw on (sym (gone_at b bytes i is (sym (nulls_kept bytes (i - 1)) ∙ none_at (without_nulls bytes) (i - 1) none)))))
+    (λ off. rw off (stays_at b (without_nulls bytes) bytes i (nulls_kept bytes)))

@@ -13,17 +13,8 @@ use Rattle.nb_settings.specs.declared.setting.OwnedKey.{OwnedKey}
 use Rattle.nb_settings.specs.declared.setting.OwnedKey.TheVariants.{Tag, Sub, Free}
 use Rattle.nb_settings.specs.declared.setting.Setting.{Setting}
 use Rattle.nb_settings.specs.Listed.{listed_kind}
+use Rattle.nb_settings.specs.Nulls.{without_nulls}
 use Rattle.nb_settings.specs.Tables.{TableLists, setting_of, block_of, with_block, without_block, register_refusal}
-
--- the bytes without the zero bytes that they end with
-abbrev pub without_nulls : List ℕ → List ℕ
-without_nulls [] = []
-without_nulls (byte ∷ bytes) = if (byte == 0) && (length (without_nulls bytes) == 0) then [] else byte ∷ without_nulls bytes
-
--- the last byte is zero
-abbrev pub ends_in_null : List ℕ → Bool
-ends_in_null [] = false
-ends_in_null (byte ∷ bytes) = slice_index (byte ∷ bytes) (length bytes) == 0
 
 abbrev pub is_text_kind : Kind → Bool
 is_text_kind Str = true
@@ -80,8 +71,11 @@ tag_settings block ack tag =
     else value_settings block (Tag tag) tag (options_in ack))
 
 -- the setting of an option within option 175
+abbrev pub within_settings : List ℕ → List TagValue → ℕ → List Setting
+within_settings block os inner = value_settings block (Sub 175 inner) inner os
+
 unfoldable pub inner_settings : List ℕ → List ℕ → ℕ → List Setting
-inner_settings block ack inner = value_settings block (Sub 175 inner) inner (options_within ack)
+inner_settings block ack inner = within_settings block (options_within ack) inner
 
 -- an address that a field of the message holds
 abbrev pub address_at : ℕ → List ℕ → ℕ

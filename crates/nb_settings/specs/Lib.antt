@@ -5,4 +5,5 @@ pub mod Lines
 pub mod Names
 pub mod Tables
 pub mod Order
+pub mod Nulls
 pub mod LeaseSettings

@@ -70,7 +70,7 @@ pub record IsName (text : List ℕ) (name : SettingName) : Type 0 where
   pub is_block : IfSome name.block IsBlockName
   pub spelled : text ≡ block_text name.block ++ (key_text ++ kind_text name.kind)
 
--- the bytes before the first of a byte, and those behind it
+-- the bytes before the first of a byte, and those after it
 abbrev pub cut_at : ℕ → List ℕ → Option (List ℕ × List ℕ)
 cut_at byte [] = None
 cut_at byte (b ∷ bs) = if b == byte then Some ([], bs) else option_map (λ cut. (b ∷ cut.0, cut.1)) (cut_at byte bs)
@@ -108,7 +108,7 @@ kind_cut block None text = option_map (λ key. record { block = block; key = key
 kind_cut block (Some cut) text =
     option_and_then (λ key. option_map (λ kind. record { block = block; key = key; kind = Some kind }) (kind_named cut.1)) (key_read cut.0)
 
--- a name behind its block
+-- a name after its block
 unfoldable pub tail_read : Option (List ℕ) → List ℕ → Option SettingName
 tail_read block text = kind_cut block (cut_at 58 text) text
 

@@ -11,11 +11,11 @@ abbrev pub sooner : Option Block → Block → Block
 sooner None later = later
 sooner (Some earlier) later = if int_lt earlier.priority later.priority then later else earlier
 
--- a block is looked up behind another, and has the key
+-- a block is looked up after another, and has the key
 abbrev pub has_behind : Option (List ℕ) → OwnedKey → List Setting → Block → Bool
 has_behind block key settings candidate = is_behind block candidate && list_any (is_setting candidate.name key) settings
 
--- the value of a key in the blocks behind another: that of the first such setting
+-- the value of a key in the blocks after another: that of the first such setting
 unfoldable pub value_behind : Option (List ℕ) → OwnedKey → TableLists → Option SettingValue
 value_behind block key table =
     option_map setting_value

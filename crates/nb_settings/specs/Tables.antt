@@ -75,13 +75,13 @@ abbrev pub is_below : List ℕ → Block → Bool
 is_below name block =
     nat_lt (length name + 1) (length block.name) && starts_with nat_eq block.name name && (slice_index block.name (length name) == 46)
 
--- a block is looked up behind the one that is named, or behind the root where none is
+-- a block is looked up after the one that is named, or after the root where none is
 abbrev pub is_behind : Option (List ℕ) → Block → Bool
 is_behind None block = true
 is_behind (Some name) block = is_below name block
 
 -- the blocks in which a setting is looked up, in this order: the one that is named, or the root, and then
--- those behind it
+-- those after it
 abbrev pub scope : Option (List ℕ) → List Block → List (List ℕ)
 scope block blocks = unwrap_or block [] ∷ map (λ other. other.name) (filter (is_behind block) (by_priority blocks))
 
@@ -129,12 +129,12 @@ register_refusal block table =
 abbrev pub place_of : List ℕ → OwnedKey → List Setting → Option ℕ
 place_of block key settings = position (is_setting block key) settings
 
--- the settings with one put at a place, or behind all where there is no place
+-- the settings with one put at a place, or after all where there is no place
 abbrev pub put_at : Option ℕ → Setting → List Setting → List Setting
 put_at None setting settings = settings ++ setting ∷ []
 put_at (Some i) setting settings = slice_set settings i setting
 
--- the settings with one more: it takes the place of the one of its block and key, or stands behind all
+-- the settings with one more: it takes the place of the one of its block and key, or stands after all
 abbrev pub with_setting : Setting → List Setting → List Setting
 with_setting setting settings = put_at (place_of setting.block setting.key settings) setting settings
 

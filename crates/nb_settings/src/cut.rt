@@ -1,7 +1,7 @@
 ghost use Rattle.std.specs.Prelude.{◌≡◌, ◌<◌, ◌==◌, position, length, IfSome, option_map};
 ghost use Rattle.nb_settings.specs.Names.{cut_at};
 
-/// The bytes before the first of a byte, and those behind it.
+/// The bytes before the first of a byte, and those after it.
 pub fn cut_at(byte: u8, text: &[u8]) -> Option<(&[u8], &[u8])>
     ensures { option_map (λ cut. (cut.0.now, cut.1.now)) result ≡ cut_at byte text.now }
 {

@@ -1,15 +1,17 @@
 //! The settings that a DHCP acknowledgement gives the block of a lease (RFC 2131, RFC 2132).
 
-ghost use Rattle.std.specs.Prelude.{◌≡◌, ◌<◌, ◌++◌, ◌∷◌, [], true, length, IfOk, OnOk};
+ghost use Rattle.std.specs.Prelude.{◌≡◌, ◌++◌, ◌∷◌, [], IfOk, OnOk};
 ghost use Rattle.nb_dhcpmsg.specs.Messages.{IsMessage};
 ghost use Rattle.nb_dhcpmsg.specs.Views.{parts_of};
+ghost use Rattle.nb_dhcpmsg.specs.Collected.{tag_values};
 ghost use Rattle.nb_settings.specs.Keys.{key_of};
-ghost use Rattle.nb_settings.specs.LeaseSettings.{without_nulls, ends_in_null, numbered, option_kind, option_bytes, option_setting, is_left_out, is_named_file, tag_settings, inner_settings, options_within, address_setting, address_settings, lease_settings, last_signed, lease_priority};
+ghost use Rattle.nb_settings.specs.LeaseSettings.{numbered, option_kind, option_bytes, option_setting, value_settings, is_left_out, is_named_file, tag_settings, within_settings, options_in, options_within, address_setting, address_settings, lease_settings, last_signed, lease_priority};
 
+use crate::nulls::without_nulls;
 use crate::setting::Setting;
-use crate::{Key, Kind};
+use crate::{Key, Kind, MAX_VALUE};
 use arrayvec::ArrayVec;
-use nb_dhcpmsg::DhcpMsg;
+use nb_dhcpmsg::{DhcpMsg, DhcpOption, has_tag, joined_value, options_within};
 use nb_terms::NoMemory;
 use nb_wire::Ip4;
 use std::alloc::Global;
@@ -37,9 +39,12 @@ pub fn lease_settings(
     ensures { IfOk result
         (λ settings. settings.items ≡ lease_settings block.now message.now.whole.now) }
 {
+    let options = message.options(alloc)?;
+    let outer = joined_value(alloc, options.as_slice(), OUTER)?;
+    let inner = options_within(alloc, outer.as_slice())?;
     let mut settings = Vec::new(alloc);
-    put_tags(alloc, block, message, &mut settings)?;
-    put_inner(alloc, block, message, &mut settings)?;
+    put_tags(alloc, block, message, options.as_slice(), &mut settings)?;
+    put_inner(alloc, block, inner.as_slice(), &mut settings)?;
     put_addresses(alloc, block, message.yiaddr, message.siaddr, &mut settings)?;
     Ok(settings)
 }
@@ -69,14 +74,16 @@ fn put_tags(
     alloc: Global,
     block: &[u8],
     message: &DhcpMsg<'_>,
+    options: &[DhcpOption<'_>],
     to: &mut Vec<Setting>,
 ) -> Result<(), NoMemory>
-    requires { IsMessage message.now.whole.now (parts_of message.now) }
+    requires message { IsMessage message.now.whole.now (parts_of message.now) }
+    requires options { tag_values options.now ≡ options_in message.now.whole.now }
     ensures { OnOk result (to.new.items ≡ to.old.items
         ++ numbered (tag_settings block.now message.now.whole.now) 254) }
 {
     for earlier in 0..MAX_TAG {
-        put_tag(alloc, block, message, earlier + 1, to)?;
+        put_tag(alloc, block, message, options, earlier + 1, to)?;
     }
     Ok(())
 }
@@ -86,10 +93,12 @@ fn put_tag(
     alloc: Global,
     block: &[u8],
     message: &DhcpMsg<'_>,
+    options: &[DhcpOption<'_>],
     tag: u8,
     to: &mut Vec<Setting>,
 ) -> Result<(), NoMemory>
-    requires { IsMessage message.now.whole.now (parts_of message.now) }
+    requires message { IsMessage message.now.whole.now (parts_of message.now) }
+    requires options { tag_values options.now ≡ options_in message.now.whole.now }
     ensures { OnOk result (to.new.items ≡ to.old.items
         ++ tag_settings block.now message.now.whole.now tag) }
 {
@@ -99,11 +108,7 @@ fn put_tag(
     if is_named_file(message, tag) {
         return put_option(alloc, block, &Key::Tag(tag), message.file(), to);
     }
-    let mut value = ArrayVec::new();
-    if !message.value(tag, &mut value) {
-        return Ok(());
-    }
-    put_option(alloc, block, &Key::Tag(tag), value.as_slice(), to)
+    put_value(alloc, block, &Key::Tag(tag), options, tag, to)
 }
 
 fn is_left_out(tag: u8) -> bool
@@ -122,36 +127,40 @@ fn is_named_file(message: &DhcpMsg<'_>, tag: u8) -> bool
 fn put_inner(
     alloc: Global,
     block: &[u8],
-    message: &DhcpMsg<'_>,
+    options: &[DhcpOption<'_>],
     to: &mut Vec<Setting>,
 ) -> Result<(), NoMemory>
-    requires { IsMessage message.now.whole.now (parts_of message.now) }
     ensures { OnOk result (to.new.items ≡ to.old.items
-        ++ numbered (inner_settings block.now message.now.whole.now) 254) }
+        ++ numbered (within_settings block.now (tag_values options.now)) 254) }
 {
     for earlier in 0..MAX_TAG {
-        put_sub(alloc, block, message, earlier + 1, to)?;
+        let inner = earlier + 1;
+        put_value(alloc, block, &Key::Sub(OUTER, inner), options, inner, to)?;
     }
     Ok(())
 }
 
-/// Puts the setting of an option within option 175 after the others.
-fn put_sub(
+/// Puts the setting of a tag's joined value after the others: none where no option has the tag, or the value is too
+/// long.
+fn put_value(
     alloc: Global,
     block: &[u8],
-    message: &DhcpMsg<'_>,
-    inner: u8,
+    key: &Key<'_>,
+    options: &[DhcpOption<'_>],
+    tag: u8,
     to: &mut Vec<Setting>,
 ) -> Result<(), NoMemory>
-    requires { IsMessage message.now.whole.now (parts_of message.now) }
     ensures { OnOk result (to.new.items ≡ to.old.items
-        ++ inner_settings block.now message.now.whole.now inner) }
+        ++ value_settings block.now (key_of key.now) tag (tag_values options.now)) }
 {
-    let mut value = ArrayVec::new();
-    if !message.sub(OUTER, inner, &mut value) {
+    if !has_tag(options, tag) {
         return Ok(());
     }
-    put_option(alloc, block, &Key::Sub(OUTER, inner), value.as_slice(), to)
+    let value = joined_value(alloc, options, tag)?;
+    if value.len() > MAX_VALUE {
+        return Ok(());
+    }
+    put_option(alloc, block, key, value.as_slice(), to)
 }
 
 /// Puts the setting of an option after the others.
@@ -186,26 +195,6 @@ fn option_bytes(kind: Kind, bytes: &[u8]) -> &[u8]
     match kind {
         Kind::Str => without_nulls(bytes),
         _ => bytes,
-    }
-}
-
-fn without_nulls(bytes: &[u8]) -> &[u8]
-    ensures { result.now ≡ without_nulls bytes.now }
-{
-    let mut kept = bytes;
-    while ends_in_null(kept) {
-        kept = &kept[..kept.len() - 1];
-    }
-    kept
-}
-
-fn ends_in_null(bytes: &[u8]) -> bool
-    ensures value { result ≡ ends_in_null bytes.now }
-    ensures some { result ≡ true → 0 < length bytes.now }
-{
-    match bytes {
-        [.., last] => *last == 0,
-        [] => false,
     }
 }
 

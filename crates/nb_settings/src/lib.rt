@@ -14,6 +14,7 @@ mod list;
 mod listed;
 mod lookup;
 mod name;
+mod nulls;
 mod setting;
 mod table;
 mod word;
@@ -22,10 +23,6 @@ pub use error::SetError;
 pub use key::Key;
 pub use kind::Kind;
 pub use name::Name;
+pub use nulls::without_nulls;
 pub use setting::Value;
 pub use table::{MAX_BLOCKS, MAX_SETTINGS, MAX_VALUE, Table};
-
-#[cfg(test)]
-mod lease_tests;
-#[cfg(test)]
-mod tests;

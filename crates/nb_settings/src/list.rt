@@ -55,7 +55,7 @@ pub fn is_full(settings: &[Setting], block: &[u8], key: &Key<'_>) -> bool
     count_of(settings, block) >= MAX_SETTINGS && place_of(settings, block, key).is_none()
 }
 
-/// Puts a setting in place of another, or behind all.
+/// Puts a setting in place of another, or after all.
 pub fn put(
     settings: &mut Vec<Setting>,
     place: Option<usize>,

@@ -9,7 +9,7 @@ use crate::Key;
 use crate::block::Block;
 use crate::setting::Setting;
 
-/// The first block by priority of those behind a block, or behind the root, that have the key.
+/// The first block by priority of those after a block, or after the root, that have the key.
 pub fn first_behind<'a>(
     blocks: &'a [Block],
     settings: &[Setting],
@@ -29,7 +29,7 @@ pub fn first_behind<'a>(
     first
 }
 
-/// Whether a block is looked up behind another, and has the key.
+/// Whether a block is looked up after another, and has the key.
 fn has_behind(candidate: &Block, settings: &[Setting], block: Option<&[u8]>, key: &Key<'_>) -> bool
     ensures { result
         ≡ has_behind (option_copied block.entry) (key_of key.now) settings.now candidate.now }
@@ -37,7 +37,7 @@ fn has_behind(candidate: &Block, settings: &[Setting], block: Option<&[u8]>, key
     is_behind(candidate, block) && has_key(settings, candidate.name.as_slice(), key)
 }
 
-/// Whether a block is looked up behind the one that is named, or behind the root where none is.
+/// Whether a block is looked up after the one that is named, or after the root where none is.
 fn is_behind(candidate: &Block, block: Option<&[u8]>) -> bool
     ensures { result ≡ is_behind (option_copied block.entry) candidate.now }
 {

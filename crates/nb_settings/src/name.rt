@@ -48,7 +48,7 @@ fn parsed(text: &[u8]) -> Option<Name<'_>>
     }
 }
 
-/// The name behind its block.
+/// The name after its block.
 #[tactic(auto, unfolding(crate::specs::Names::tail_read))]
 fn tail<'a>(block: Option<&'a [u8]>, text: &'a [u8]) -> Option<Name<'a>>
     ensures { option_map name_of result ≡ tail_read (option_copied block.entry) text.now }

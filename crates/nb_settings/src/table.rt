@@ -223,7 +223,7 @@ impl Table {
         Ok(())
     }
 
-    /// The value of a key in the first block that has it, of those behind a block or behind the root.
+    /// The value of a key in the first block that has it, of those after a block or after the root.
     fn find_behind(&self, block: Option<&[u8]>, key: &Key<'_>) -> Option<Value<'_>>
         ensures value { option_map value_of result
             ≡ value_behind (option_copied block.entry) (key_of key.now) self.now }

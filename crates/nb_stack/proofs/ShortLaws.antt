@@ -22,7 +22,7 @@ echo_short : (bytes : List ℕ) (f : Frame) (p : PacketParts) (e : EchoParts) �
 echo_short bytes f p e frame packet echo short =
     omega (arith, short, body_short bytes f p frame packet, ap length echo.spelled, length-append (echo_header e echo.sum) e.body, length-echo_header e echo.sum)
 
--- what is handed on has at most so many bytes as a packet carries behind its header
+-- what is handed on has at most so many bytes as a packet carries after its header
 abbrev pub IsShort : Outcome → Type 0
 IsShort dropped = Unit {0}
 IsShort replied = Unit {0}

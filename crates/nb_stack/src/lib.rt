@@ -23,6 +23,3 @@ pub use neighbours::{MAX_NEIGHBOURS, Neighbour};
 pub use ports::{MAX_PORTS, Port};
 pub use stack::Stack;
 pub use taken::{Fate, Taken};
-
-#[cfg(test)]
-mod tests;

@@ -7,7 +7,7 @@ use nb_tcpseg::Segment;
 use nb_wire::Mac;
 
 /// The message that a frame brings a client.
-#[derive(Clone, Copy, Debug, PartialEq, Eq)]
+#[derive(Clone, Copy)]
 pub(crate) enum Message<'a> {
     /// None.
     Nothing,

@@ -23,7 +23,7 @@ const SEGMENT_HEAD: u16 = 20;
 const DATAGRAM_HEAD: u16 = 8;
 
 /// Between whom a packet goes: the interfaces that its frame names, and the two hosts.
-#[derive(Clone, Copy, Debug, PartialEq, Eq)]
+#[derive(Clone, Copy)]
 pub(crate) struct Endpoints {
     pub(crate) dst: Mac,
     pub(crate) src: Mac,

@@ -7,7 +7,7 @@ use crate::address::{ALL_HOSTS, Addr, DHCP_CLIENT};
 use nb_wire::Ip4;
 
 /// The way that a packet takes.
-#[derive(Clone, Copy, Debug, PartialEq, Eq)]
+#[derive(Clone, Copy)]
 pub(crate) enum Way {
     /// There is none.
     Nowhere,

@@ -16,7 +16,7 @@ front_same xs ys e = ([], sym e ∙ sym (append-nil xs))
 front_on : (xs ys zs : List ℕ) → IsPrefixOf xs ys → IsPrefixOf ys zs → IsPrefixOf xs zs
 front_on xs ys zs a b = (a.0 ++ b.0, b.1 ∙ ap (λ l. l ++ b.0) a.1 ∙ append_assoc xs a.0 b.0)
 
-held_going : (advanced : Bool) (f : Flow) → (going_on advanced f).held ≡ f.held
+pub held_going : (advanced : Bool) (f : Flow) → (going_on advanced f).held ≡ f.held
 held_going advanced f = either (is_sending advanced f) (λ only_if. rw only_if refl) (λ off. rw off refl)
 
 within_ahead : (n distance : ℕ) → IsAhead n (place_within n distance)
@@ -52,7 +52,7 @@ pub front_grows : (isn : ℕ) (cs more : List TcpCall) → IsPrefixOf (front (he
 unfolding conn_phase
 front_grows isn cs more = subst (λ p. IsPrefixOf (front (held_in (fold (after_tcp_call isn) (asking []) cs))) (front (held_in p))) (sym (fold_on isn (asking []) cs more)) (calls_more isn (fold (after_tcp_call isn) (asking []) cs) more)
 
-all_append : {A : Type 0} (P : A → Type 0) (xs ys : List A) → AllByRecursion P xs → AllByRecursion P ys → AllByRecursion P (xs ++ ys)
+pub all_append : {A : Type 0} (P : A → Type 0) (xs ys : List A) → AllByRecursion P xs → AllByRecursion P ys → AllByRecursion P (xs ++ ys)
 all_append P [] ys p q = q
 all_append P (x ∷ xs) ys p q = (p.0, all_append P xs ys p.1 q)
 

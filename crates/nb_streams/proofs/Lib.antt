@@ -6,3 +6,7 @@ pub mod HonestLaws
 pub mod LeastLaws
 pub mod TryLaws
 pub mod SendLaws
+pub mod EndLaws
+pub mod OtherSendLaws
+pub mod TalkLaws
+pub mod TalkPromiseLaws

@@ -134,6 +134,17 @@ calls_for isn (asking text) s =
     else only_if (s.ack && (not (answers_syn isn s) && not s.rst)) (without_try (rst_for s))
 calls_for isn (flowing f) s = segment_sends f s
 
+-- the text that begins to be sent once more of it is given
+abbrev pub text_calls_for : ConnPhase → List ℕ → List (Outgoing × Option ℕ)
+text_calls_for (asking text) bytes = []
+text_calls_for (flowing f) bytes = only_if (is_sending false (record f { text = f.text ++ bytes }))
+    (with_first_try (text_segment (going_on false (record f { text = f.text ++ bytes }))))
+
+-- a close from above: a FIN where the peer's has come, else a reset
+abbrev pub closing_segment : ℕ → ConnPhase → Outgoing
+closing_segment isn (asking text) = rst_asking isn
+closing_segment isn (flowing f) = if has_stop f.held.stop then fin_ack f else rst_ack f
+
 -- what a try again sends
 abbrev pub tried_again : ℕ → ConnPhase → Outgoing
 tried_again isn (asking text) = syn isn

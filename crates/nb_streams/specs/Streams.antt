@@ -1,5 +1,5 @@
 -- What is held of a stream: a finite map from places to bytes, and the end once it is known
-use Rattle.std.specs.Prelude.{◌≡◌, ℕ, zero, suc, ◌+◌, ◌-◌, ◌^◌, ◌==◌, ◌&&◌, Bool, true, false, List, [], ◌∷◌, ◌++◌, length, filter, Option, Some, None, nat_lt, slice_get}
+use Rattle.std.specs.Prelude.{◌≡◌, ℕ, zero, suc, ◌+◌, ◌-◌, ◌^◌, ◌==◌, ◌&&◌, Bool, true, false, List, [], ◌∷◌, ◌++◌, length, filter, Option, Some, None, nat_lt, slice_get, if◌then◌else◌}
 
 -- pairs of place and byte; of a place that has two, the first
 pub record HeldBytes : Type 0 where
@@ -65,6 +65,10 @@ first_stop (Some stop) new = Some stop
 -- the end, if it isn't known yet
 abbrev pub stop_at : Option ℕ → HeldBytes → HeldBytes
 stop_at place h = record h { stop = first_stop h.stop place }
+
+-- a place, where it grew
+abbrev pub grown : ℕ → ℕ → Option ℕ
+grown before after = if before == after then None else Some after
 
 -- the pair is one of the stream's bytes at its place
 abbrev pub IsByteOf : List ℕ → ℕ × ℕ → Type 0

@@ -71,6 +71,12 @@ fired w = firings w.since (waits w.plan) w.times
 abbrev pub due_tries : TryTimer → List (ℕ × ℕ)
 due_tries w = starting_try w.plan w.since ++ flat_map try_of (fired w)
 
+-- what fires at a time
+abbrev pub due_fired : ℕ → Due → List Asked
+due_fired now Not = []
+due_fired now (Again n) = asked_at now (Again n) ∷ []
+due_fired now Over = asked_at now Over ∷ []
+
 -- the plan is over at this time
 pub record PlanIsOver (w : TryTimer) (now : ℕ) : Type 0 where
   pub earlier : List Asked

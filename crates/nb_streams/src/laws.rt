@@ -1,12 +1,16 @@
 //! Laws of streams, each a function that does nothing.
 
-ghost use Rattle.std.specs.Prelude.{◌≡◌, ◌<◌, ◌-◌, ◌^◌, ℕ, List, [], ◌++◌, length, true, false, Bool, None, slice_get, ◌∷◌};
+ghost use Rattle.std.specs.Prelude.{◌≡◌, ◌<◌, ◌-◌, ◌^◌, ℕ, List, [], ◌++◌, length, true, false, Bool, Some, None, slice_get, ◌∷◌};
 ghost use Rattle.nb_streams.specs.Streams.{HeldBytes, front, next, has_ended, byte_at, counting, IsPrefixOf};
-ghost use Rattle.nb_streams.specs.Flows.{TcpCall, segment_came, Flow, flowing, conn_phase, held_after, asking};
+ghost use Rattle.nb_streams.specs.Flows.{TcpCall, segment_came, text_came, Flow, flowing, conn_phase, held_after, asking};
 ghost use Rattle.std.specs.List.{AllByRecursion};
 ghost use Rattle.nb_retry.specs.declared.plan.Plan.{Plan};
 ghost use Rattle.nb_streams.specs.Segments.{Arrival};
-ghost use Rattle.nb_streams.specs.Sending.{MaySend, calls_for, is_reset};
+ghost use Rattle.nb_streams.specs.Sending.{MaySend, calls_for, is_reset, text_calls_for, closing_segment, tried_again};
+ghost use Rattle.nb_terms.specs.declared.cause.Cause.{Cause};
+ghost use Rattle.nb_streams.specs.Endings.{ConnEnds, segment_end};
+ghost use Rattle.nb_streams.specs.Talking.{AllIsSaid};
+ghost use Rattle.nb_streams.specs.TalkPromises.{OneAnswer, SendWhatMayBe};
 ghost use Rattle.nb_streams.specs.Trying.{is_answer, TryTimer, timer_since, timer_by};
 ghost use Rattle.nb_streams.specs.Carrying.{AreFrom};
 
@@ -43,4 +47,29 @@ pub fn answers_may_be_sent()
 pub fn answers_start_the_timer_anew()
     ensures { (isn : ℕ) (f : Flow) (m : Arrival) (now : ℕ) (w : TryTimer) → is_answer isn (flowing f) m.segment ≡ true → is_reset f m.segment ≡ false
         → (plan : Plan) × (timer_by isn (flowing f) (segment_came m now) w ≡ timer_since plan now) }
+{}
+
+/// So it may what a close sends, what more text calls for, and a try again.
+pub fn others_may_be_sent()
+    ensures closing { (isn : ℕ) (calls : List TcpCall) → MaySend isn calls (closing_segment isn (conn_phase isn calls)) }
+    ensures text { (isn : ℕ) (calls : List TcpCall) (bytes : List ℕ) (now : ℕ)
+        → AllByRecursion (λ s. MaySend isn (calls ++ text_came bytes now ∷ []) s.0) (text_calls_for (conn_phase isn calls) bytes) }
+    ensures again { (isn : ℕ) (calls : List TcpCall) → MaySend isn calls (tried_again isn (conn_phase isn calls)) }
+{}
+
+/// How a segment ends a connection stands in the segment.
+pub fn segment_ends_stand()
+    ensures { (isn start : ℕ) (calls : List TcpCall) (m : Arrival) (now : ℕ) (cause : Cause) → segment_end isn (conn_phase isn calls) m ≡ Some cause
+        → ConnEnds isn start calls (segment_came m now) cause }
+{}
+
+/// All that is to be said on a connection has been said, in order and once, whatever came; its tasks are of type T.
+pub fn all_is_said<T>()
+    ensures { AllIsSaid T }
+{}
+
+/// What comes to an open on a connection leaves one answer, and all that it sends it may send.
+pub fn talks_keep_to_what_came<T>()
+    ensures one { OneAnswer T }
+    ensures may { SendWhatMayBe T }
 {}

@@ -6,17 +6,17 @@ use Rattle.std.proofs.lemmas.List.{length-drop}
 use Rattle.nb_terms.specs.declared.acts.Acts.{Acts}
 use Rattle.nb_terms.specs.declared.cause.Cause.{Cause}
 use Rattle.nb_streams.specs.Segments.{Incoming, Arrival}
-use Rattle.nb_streams.specs.Streams.{HeldBytes}
+use Rattle.nb_streams.specs.Streams.{HeldBytes, grown}
 use Rattle.nb_streams.specs.Flows.{flowing, after_segment, full_window, is_taken, is_past, window_bytes, advances, with_segment, is_sending, going_on, is_other, has_other_stop}
 use Rattle.nb_streams.specs.Sending.{Outgoing, calls_for, too_long_sends, ongoing_sends, brings_more, only_if, without_try, with_first_try, pure_ack, rst_ack, text_segment, is_reset}
-use Rattle.nb_streams.specs.Endings.{end_cause}
+use Rattle.nb_streams.specs.Endings.{end_cause, taken_end, segment_end}
 use Rattle.nb_streams.proofs.StreamLaws.{either}
 use Rattle.nb_tcp.specs.declared.link.Link.{Link}
 use Rattle.nb_tcp.specs.declared.variables.Variables.{Variables}
 use Rattle.nb_tcp.specs.declared.variables.Breach.TheVariants as breach
 use Rattle.nb_tcp.specs.Numbers.{flow_of, bare_flow, found_stop, piece_bytes, distance_of, passes_limit, sends_more, next_sending}
 use Rattle.nb_tcp.specs.Replies.{only_ready, also_sending, also_over, first_tried, unacked_text, ack_of_variables, conn_reset, went_on, grown_acts, acknowledging, breach_acts, taken_acts}
-use Rattle.nb_tcp.specs.ConnPromises.{grown, taken_end, segment_end, asked_sends}
+use Rattle.nb_tcp.specs.ConnPromises.{asked_sends}
 use Rattle.nb_tcp.specs.ConnStanding.{FlowStands}
 use Rattle.nb_tcp.proofs.FlowStandsLemmas.{ack_out, reset_out, text_out, sending_same, next_same, next_stands, going_same}
 

@@ -17,7 +17,8 @@ use Rattle.nb_tcp.specs.declared.variables.Variables.{Variables}
 use Rattle.nb_tcp.specs.Numbers.{flow_of, opened_variables, sends_more, next_sending}
 use Rattle.nb_tcp.specs.Replies.{only_ready, also_sending, first_tried, refused_in, unacked_text, ack_of_variables, went_on, ongoing_retry, established_acts, syn_answered, syn_answer_acts, syn_answer_state, syn_answer_retry, has_finished, has_come_all}
 use Rattle.nb_tcp.specs.ConnHistory.{ConnEntry, tcp_calls, delivered, is_lent_after}
-use Rattle.nb_tcp.specs.ConnPromises.{segment_end, segment_asks}
+use Rattle.nb_streams.specs.Endings.{segment_end}
+use Rattle.nb_tcp.specs.ConnPromises.{segment_asks}
 use Rattle.nb_tcp.specs.ConnStanding.{waits_in, IsDelivered, HoldsRest, FlowStands, AsksSoFar, StateStands, TimerStandsFor, ConnStands}
 use Rattle.nb_tcp.proofs.FlowStandsLemmas.{ack_out, going_same, went_stands}
 use Rattle.nb_tcp.proofs.AnswerLemmas.{acts_by, text_begins}

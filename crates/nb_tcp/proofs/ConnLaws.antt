@@ -13,17 +13,18 @@ use Rattle.nb_streams.specs.Segments.{Arrival}
 use Rattle.nb_streams.specs.Streams.{front, has_ended, IsPrefixOf}
 use Rattle.nb_streams.specs.Flows.{TcpCall, segment_came, time_came, text_came, Flow, ConnPhase, asking, flowing, conn_phase, after_tcp_call, held_in, held_after, is_taken, window_bytes, is_past, has_other_stop, answers_syn, going_on, is_sending}
 use Rattle.nb_streams.specs.Sending.{is_reset}
-use Rattle.nb_streams.specs.Trying.{timer_after, fired, PlanIsOver}
-use Rattle.nb_streams.specs.Endings.{end_cause, plan_tries, ConnEnds, by_syn_refusal, by_reset, by_length, by_second_stop, by_no_answer}
+use Rattle.nb_streams.specs.Trying.{timer_after, fired, PlanIsOver, due_fired}
+use Rattle.nb_streams.specs.Endings.{end_cause, plan_tries, ConnEnds, by_syn_refusal, by_reset, by_length, by_second_stop, by_no_answer, taken_end, segment_end}
 use Rattle.nb_streams.specs.Carrying.{AreFrom}
 use Rattle.nb_streams.proofs.StreamLaws.{either}
+use Rattle.nb_streams.proofs.EndLaws.{end_by_segment}
 use Rattle.nb_streams.proofs.FlowLaws.{front_grows}
 use Rattle.nb_streams.proofs.HonestLaws.{front_of_pieces, whole_of_pieces}
 use Rattle.nb_tcp.specs.declared.link.Link.{Link}
 use Rattle.nb_tcp.specs.declared.conn.Conn.{Conn}
 use Rattle.nb_tcp.specs.Numbers.{upto_stop}
 use Rattle.nb_tcp.specs.ConnHistory.{ConnCall, calls_in, lends_out, comes_back, closes_from_above, ConnEntry, conn_entry, tcp_calls_of, tcp_calls, delivered_by, delivered, is_waiting_after, is_lent_after, due_said, EachConnEntry}
-use Rattle.nb_tcp.specs.ConnPromises.{taken_end, segment_end, due_asks, due_fired, IsAskedSo, AsksAsPromised, ConnKeeps}
+use Rattle.nb_tcp.specs.ConnPromises.{due_asks, IsAskedSo, AsksAsPromised, ConnKeeps}
 use Rattle.nb_tcp.specs.ConnStanding.{IsDelivered, HoldsRest, ConnStands}
 use Rattle.nb_tcp.proofs.ConnHistoryLemmas.{calls-append, delivered-append, phase-append}
 use Rattle.nb_tcp.proofs.SegmentStandsLemmas.{nothing_waits}
@@ -54,7 +55,7 @@ prefix_steps l start h (e ∷ es) each was =
     subst (λ k. IsPrefixOf (delivered k) (front (held_after l.isn (tcp_calls k)))) (append_assoc h (e ∷ []) es)
     (prefix_steps l start (h ++ e ∷ []) es each.1 (prefix_step l start h e each.0 was))
 
--- what went up is a prefix of what has come
+-- what was delivered is a prefix of what has come
 pub up_is_front : (l : Link) (start : ℕ) (h : List ConnEntry) → ConnKeeps l start h → IsPrefixOf (delivered h) (front (held_after l.isn (tcp_calls h)))
 up_is_front l start h keeps = prefix_steps l start [] h keeps.each (front (held_after l.isn []), refl)
 
@@ -66,7 +67,7 @@ upto_most : (stop : Option ℕ) (k : ℕ) → upto_stop stop k ≤ k
 upto_most None k = omega arith
 upto_most (Some stop) k = omega arith
 
--- where nothing waits, all that has come went up
+-- where nothing waits, all that has come was delivered
 pub all_went_up : (l : Link) (start : ℕ) (c : Conn) (h : List ConnEntry) → ConnStands l start c h → is_waiting_after h ≡ false → delivered h ≡ front (held_after l.isn (tcp_calls h))
 all_went_up l start c h was waits = either (is_lent_after h) (λ t. by_lent c.held was.held t) (λ f. by_held c.held was.held (nothing_waits l start c h was f waits))
   where
@@ -78,7 +79,7 @@ all_went_up l start c h was waits = either (is_lent_after h) (λ t. by_lent c.he
     by_held None k here = absurd here
     by_held (Some w) k here = k.2 ∙ take_all (window w).base (front (held_after l.isn (tcp_calls h))) (omega (arith, here, k.1.next, upto_most (held_after l.isn (tcp_calls h)).stop (window w).next))
 
--- at the stream's end all of it went up
+-- at the stream's end all of it was delivered
 pub all_at_the_end : (l : Link) (start : ℕ) (c : Conn) (h : List ConnEntry) (xs : List ℕ) → ConnStands l start c h → is_waiting_after h ≡ false → length xs < 2 ^ 31 - 1 → AreFrom xs l.isn (asking []) (tcp_calls h)
     → has_ended (held_after l.isn (tcp_calls h)) ≡ true → delivered h ≡ xs
 all_at_the_end l start c h xs was waits short from ended = all_went_up l start c h was waits ∙ whole_of_pieces xs l.isn (tcp_calls h) short from ended
@@ -87,26 +88,6 @@ all_at_the_end l start c h xs was waits short from ended = all_went_up l start c
 pub each_last : (P : List ConnEntry → ConnEntry → Type 0) (before es : List ConnEntry) (e : ConnEntry) → EachConnEntry P before (es ++ e ∷ []) → P (before ++ es) e
 each_last P before [] e each = subst (λ h. P h e) (sym (append-nil before)) each.0
 each_last P before (x ∷ es) e each = subst (λ h. P h e) (append_assoc before (x ∷ []) es) (each_last P (before ++ x ∷ []) es e each.1)
-
--- why a segment ends it
-end_by_segment : (isn start : ℕ) (before : List TcpCall) (p : ConnPhase) (m : Arrival) (now : ℕ) (cause : Cause) → conn_phase isn before ≡ p → segment_end isn p m ≡ Some cause → ConnEnds isn start before (segment_came m now) cause
-end_by_segment isn start before (asking text) m now cause e over = either (answers_syn isn m.segment && m.segment.rst)
-    (λ t. subst (λ c. ConnEnds isn start before (segment_came m now) c) (same_Some (end_cause 1 m.rec 65535) cause (rw t at over)) (by_syn_refusal text m now e (and_parts (answers_syn isn m.segment) m.segment.rst t).0 (and_parts (answers_syn isn m.segment) m.segment.rst t).1))
-    (λ f. absurd (none-some cause (rw f at over)))
-end_by_segment isn start before (flowing f) m now cause e over = either (is_reset f m.segment)
-    (λ t. subst (λ c. ConnEnds isn start before (segment_came m now) c) (same_Some (end_cause 1 m.rec 65535) cause (rw t at over)) (by_reset f m now e t))
-    (λ g. let rest : cond (is_taken f m.segment) (taken_end f m) None ≡ Some cause = rw g at over in
-    either (is_taken f m.segment)
-    (λ t. by_taken t (sym (ap (λ b. cond b (taken_end f m) None) t) ∙ rest))
-    (λ n. absurd (none-some cause (sym (ap (λ b. cond b (taken_end f m) None) n) ∙ rest))))
-  where
-    by_taken : is_taken f m.segment ≡ true → taken_end f m ≡ Some cause → ConnEnds isn start before (segment_came m now) cause
-    by_taken taken k = either (list_any is_past (window_bytes f m.segment))
-        (λ t. subst (λ c. ConnEnds isn start before (segment_came m now) c) (same_Some (end_cause 5 3 0) cause (rw t at k)) (by_length f m now e taken t))
-        (λ n. let rest : cond (has_other_stop f m.segment) (Some (end_cause 3 m.rec 0)) None ≡ Some cause = rw n at k in
-        either (has_other_stop f m.segment)
-        (λ t. subst (λ c. ConnEnds isn start before (segment_came m now) c) (same_Some (end_cause 3 m.rec 0) cause (rw t at rest)) (by_second_stop f m now e t))
-        (λ o. absurd (none-some cause (rw o at rest))))
 
 -- each end has its cause
 pub end_is_so : (l : Link) (start : ℕ) (h : List ConnEntry) (c : TcpCall) (acts : Acts) (cause : Cause) → ConnKeeps l start (h ++ conn_entry (calls_in c) acts ∷ []) → acts.over ≡ Some cause → ConnEnds l.isn start (tcp_calls h) c cause

@@ -11,7 +11,7 @@ use Rattle.nb_reasm.specs.HeldWindows.{window}
 use Rattle.nb_reasm.specs.Windows.{HeldWindow}
 use Rattle.nb_streams.specs.Streams.{HeldBytes, byte_at, before_stop, counts, counting, front, next, has_ended}
 use Rattle.nb_streams.specs.Flows.{ConnPhase, conn_phase, held_in, held_after}
-use Rattle.nb_streams.specs.Sending.{without_try, fin_ack, has_stop}
+use Rattle.nb_streams.specs.Sending.{without_try, fin_ack, has_stop, closing_segment}
 use Rattle.nb_streams.specs.Trying.{timer_after}
 use Rattle.nb_streams.proofs.StreamLaws.{look_counted}
 use Rattle.nb_streams.proofs.LeastLaws.{byte_below_next}
@@ -24,7 +24,7 @@ use Rattle.nb_tcp.specs.Replies.{only_ready, all_sending, closing_sends, conn_re
 use Rattle.nb_tcp.specs.Receiving.{PassesOver}
 use Rattle.nb_tcp.specs.OtherSteps.{closed_acts, closed_conn}
 use Rattle.nb_tcp.specs.ConnHistory.{lends_out, comes_back, closes_from_above, ConnEntry, conn_entry, tcp_calls_of, tcp_calls, advanced_to, delivered_by, delivered, waits_after, is_waiting_after, lent_after, is_lent_after, ends_by}
-use Rattle.nb_tcp.specs.ConnPromises.{asked_sends, closing_segment, IsAskedSo, AsksAsPromised}
+use Rattle.nb_tcp.specs.ConnPromises.{asked_sends, IsAskedSo, AsksAsPromised}
 use Rattle.nb_tcp.specs.ConnStanding.{WindowStands, waits_in, HoldsRest, StateStands, TimerStandsFor, ConnStands, GoesUp}
 use Rattle.nb_tcp.proofs.FlowStandsLemmas.{reset_out, fin_out}
 use Rattle.nb_tcp.proofs.ConnHistoryLemmas.{calls-append, delivered-append, advanced-append, waiting-append, lent-append, ended-append, EachConnEntry-append}

@@ -9,7 +9,7 @@ use Rattle.nb_retry.specs.declared.retry.Retry.{Retry}
 use Rattle.nb_retry.specs.Timer.{started}
 use Rattle.nb_terms.specs.declared.acts.Acts.{Acts}
 use Rattle.nb_streams.specs.Segments.{Incoming, Arrival, ahead}
-use Rattle.nb_streams.specs.Streams.{HeldBytes, next, has_ended, is_stop}
+use Rattle.nb_streams.specs.Streams.{HeldBytes, next, has_ended, is_stop, grown}
 use Rattle.nb_streams.specs.Flows.{Flow, ConnPhase, flowing, segment_came, after_tcp_call, after_segment, held_in, is_taken, is_sending, advances, with_segment, is_other}
 use Rattle.nb_streams.specs.Sending.{calls_for, is_reset, brings_more}
 use Rattle.nb_streams.specs.Trying.{TryTimer, timer_since, timer_of, timer_by, timer_after}
@@ -24,7 +24,8 @@ use Rattle.nb_tcp.specs.Numbers.{flow_of, bare_flow, found_stop, with_ack, passe
 use Rattle.nb_tcp.specs.Replies.{unacked_text, ack_of_variables, conn_reset, went_on, ongoing_retry, taken_acts, breach_state, breach_retry, has_finished, has_come_all}
 use Rattle.nb_tcp.specs.SegmentSteps.{TakesSegment}
 use Rattle.nb_tcp.specs.ConnHistory.{ConnEntry, tcp_calls, delivered, is_lent_after, has_ended_after}
-use Rattle.nb_tcp.specs.ConnPromises.{grown, segment_end, segment_asks}
+use Rattle.nb_streams.specs.Endings.{segment_end}
+use Rattle.nb_tcp.specs.ConnPromises.{segment_asks}
 use Rattle.nb_tcp.specs.ConnStanding.{IsDelivered, HoldsRest, FlowStands, FlowsSo, StateStands, TimerStandsFor, ConnStands}
 use Rattle.nb_tcp.proofs.WindowStandsLemmas.{held_then}
 use Rattle.nb_tcp.proofs.FlowStandsLemmas.{sending_same, went_stands}

@@ -10,7 +10,7 @@ use Rattle.nb_retry.specs.Timer.{started}
 use Rattle.nb_terms.specs.declared.acts.Acts.{Acts}
 use Rattle.nb_streams.specs.Streams.{HeldBytes, next, has_ended}
 use Rattle.nb_streams.specs.Flows.{ConnPhase, asking, flowing, text_came, after_tcp_call, after_text, held_in}
-use Rattle.nb_streams.specs.Sending.{only_if, with_first_try}
+use Rattle.nb_streams.specs.Sending.{only_if, with_first_try, text_calls_for}
 use Rattle.nb_streams.specs.Trying.{TryTimer, timer_after, timer_by, timer_since}
 use Rattle.nb_streams.proofs.SendLaws.{IsFlow, IsPhase, all_in_order}
 use Rattle.nb_tcp.specs.declared.link.Link.{Link}
@@ -22,7 +22,7 @@ use Rattle.nb_tcp.specs.Numbers.{flow_of, sends_more, next_sending}
 use Rattle.nb_tcp.specs.Replies.{only_ready, also_sending, first_tried, unacked_text, went_on, given_acts, given_state, given_retry, has_finished, has_come_all}
 use Rattle.nb_tcp.specs.OtherSteps.{GivesText}
 use Rattle.nb_tcp.specs.ConnHistory.{ConnEntry, tcp_calls, delivered, is_waiting_after, is_lent_after}
-use Rattle.nb_tcp.specs.ConnPromises.{asked_sends, text_calls_for}
+use Rattle.nb_tcp.specs.ConnPromises.{asked_sends}
 use Rattle.nb_tcp.specs.ConnStanding.{waits_in, HoldsRest, FlowStands, StateStands, TimerStandsFor, ConnStands}
 use Rattle.nb_tcp.proofs.FlowStandsLemmas.{going_same, sending_same, went_stands}
 use Rattle.nb_tcp.proofs.AnswerLemmas.{text_begins}

@@ -17,7 +17,7 @@ use Rattle.nb_terms.specs.declared.acts.Acts.{Acts}
 use Rattle.nb_streams.specs.Streams.{next}
 use Rattle.nb_streams.specs.Flows.{ConnPhase, time_came, held_in}
 use Rattle.nb_streams.specs.Sending.{tried_again, text_segment, probe}
-use Rattle.nb_streams.specs.Trying.{TryTimer, timer_after, fired}
+use Rattle.nb_streams.specs.Trying.{TryTimer, timer_after, fired, due_fired}
 use Rattle.nb_streams.proofs.StreamLaws.{either}
 use Rattle.nb_tcp.specs.declared.link.Link.{Link}
 use Rattle.nb_tcp.specs.declared.conn.Conn.{Conn}
@@ -27,7 +27,7 @@ use Rattle.nb_tcp.specs.Numbers.{flow_of}
 use Rattle.nb_tcp.specs.Replies.{only_ready, all_sending, sent_again, has_finished, has_come_all}
 use Rattle.nb_tcp.specs.OtherSteps.{conn_timer_acts, timer_state, ticked_acts, ticked_conn}
 use Rattle.nb_tcp.specs.ConnHistory.{ConnEntry, tcp_calls, delivered, is_waiting_after, is_lent_after, due_said}
-use Rattle.nb_tcp.specs.ConnPromises.{due_asks, due_fired}
+use Rattle.nb_tcp.specs.ConnPromises.{due_asks}
 use Rattle.nb_tcp.specs.ConnStanding.{waits_in, HoldsRest, StateStands, TimerStandsFor, ConnStands}
 use Rattle.nb_tcp.proofs.FlowStandsLemmas.{text_out, probe_out}
 use Rattle.nb_tcp.proofs.ConnHistoryLemmas.{timer-append}

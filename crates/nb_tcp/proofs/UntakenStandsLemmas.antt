@@ -5,7 +5,7 @@ use Rattle.std.specs.Option.{is_some}
 use Rattle.std.proofs.lemmas.Bool.{eq-eqb}
 use Rattle.nb_terms.specs.declared.acts.Acts.{Acts}
 use Rattle.nb_streams.specs.Segments.{Arrival}
-use Rattle.nb_streams.specs.Streams.{next, has_ended, is_stop}
+use Rattle.nb_streams.specs.Streams.{next, has_ended, is_stop, grown}
 use Rattle.nb_streams.specs.Flows.{ConnPhase, flowing, segment_came, after_tcp_call, after_segment, held_in, is_taken}
 use Rattle.nb_streams.specs.Sending.{calls_for, is_reset, is_answered, only_if, without_try, pure_ack}
 use Rattle.nb_streams.specs.Trying.{timer_by, timer_after}
@@ -16,7 +16,8 @@ use Rattle.nb_tcp.specs.declared.variables.Variables.{Variables}
 use Rattle.nb_tcp.specs.Numbers.{flow_of}
 use Rattle.nb_tcp.specs.Replies.{refused_in, ack_of_variables, ended_at, has_finished, has_come_all}
 use Rattle.nb_tcp.specs.ConnHistory.{ConnEntry, tcp_calls, delivered, is_lent_after}
-use Rattle.nb_tcp.specs.ConnPromises.{grown, taken_end, segment_end, segment_asks}
+use Rattle.nb_streams.specs.Endings.{taken_end, segment_end}
+use Rattle.nb_tcp.specs.ConnPromises.{segment_asks}
 use Rattle.nb_tcp.specs.ConnStanding.{waits_in, IsDelivered, HoldsRest, FlowStands, FlowsSo, StateStands, TimerStandsFor, ConnStands}
 use Rattle.nb_tcp.proofs.FlowStandsLemmas.{ack_out}
 use Rattle.nb_tcp.proofs.AnswerLemmas.{acts_by}

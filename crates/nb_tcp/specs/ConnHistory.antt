@@ -7,7 +7,7 @@ use Rattle.nb_retry.specs.declared.retry.Due.TheVariants.{Not, Again, Over}
 use Rattle.nb_terms.specs.declared.acts.Acts.{Acts}
 use Rattle.nb_streams.specs.Flows.{TcpCall, segment_came, time_came, text_came}
 
--- a segment, a time or text; what waits was lent, of which these bytes went up, or came back; a close from above
+-- a segment, a time or text; what waits was lent, of which these bytes were delivered, or came back; a close from above
 pub data ConnCall : Type 0 where
   calls_in : TcpCall → ConnCall
   lends_out : (bytes : List ℕ) → ConnCall
@@ -42,7 +42,7 @@ delivered_by (lends_out bytes) = bytes
 delivered_by comes_back = []
 delivered_by closes_from_above = []
 
--- the bytes that went up, in order
+-- the bytes that were delivered, in order
 abbrev pub delivered : List ConnEntry → List ℕ
 delivered entries = flat_map (λ e. delivered_by e.call) entries
 

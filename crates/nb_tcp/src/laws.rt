@@ -17,8 +17,8 @@ ghost use Rattle.nb_tcp.specs.ConnStanding.{ConnStands, HasDelivered};
 ghost use Rattle.nb_tcp.specs.MayBeSent.{MayBeSent};
 ghost use Rattle.std.specs.List.{AllByRecursion};
 
-/// What went up is a prefix of what has come. So whatever pieces of a stream come, in any order, as often
-/// as may be, a prefix of the stream went up; and all of it, once it has ended and nothing waits.
+/// What was delivered is a prefix of what has come. So whatever pieces of a stream come, in any order, as often
+/// as may be, a prefix of the stream was delivered; and all of it, once it has ended and nothing waits.
 pub fn delivers_a_prefix()
     ensures front { (l : Link) (start : ℕ) (h : List ConnEntry) → ConnKeeps l start h → IsPrefixOf (delivered h) (front (held_after l.isn (tcp_calls h))) }
     ensures stream { (l : Link) (start : ℕ) (h : List ConnEntry) (xs : List ℕ) → ConnKeeps l start h → length xs < 2 ^ 31 - 1
@@ -27,14 +27,14 @@ pub fn delivers_a_prefix()
         → AreFrom xs l.isn (asking []) (tcp_calls h) → has_ended (held_after l.isn (tcp_calls h)) ≡ true → delivered h ≡ xs }
 {}
 
-/// Where nothing waits, all that has come went up; where nothing is lent either, the next segment may come.
+/// Where nothing waits, all that has come was delivered; where nothing is lent either, the next segment may come.
 pub fn nothing_is_kept_back()
     ensures all { (l : Link) (start : ℕ) (c : Conn) (h : List ConnEntry) → ConnStands l start c h → is_waiting_after h ≡ false → delivered h ≡ front (held_after l.isn (tcp_calls h)) }
     ensures next { (l : Link) (start : ℕ) (c : Conn) (h : List ConnEntry) → ConnStands l start c h → is_lent_after h ≡ false → is_waiting_after h ≡ false → HasDelivered c }
 {}
 
 /// Each cause of an end stands in what came and when, and no other cause comes: `ConnEnds` of nb_streams has
-/// what stands behind each.
+/// what stands after each.
 pub fn ends_with_its_cause()
     ensures { (l : Link) (start : ℕ) (h : List ConnEntry) (c : TcpCall) (acts : Acts) (cause : Cause) → ConnKeeps l start (h ++ conn_entry (calls_in c) acts ∷ [])
         → acts.over ≡ Some cause → ConnEnds l.isn start (tcp_calls h) c cause }

@@ -20,6 +20,3 @@ pub use laws::{
     delivers_a_prefix, ends_with_its_cause, nothing_is_kept_back, only_segments_bring_bytes,
     sends_what_may_be_sent,
 };
-
-#[cfg(test)]
-mod tests;

@@ -7,6 +7,3 @@ mod options;
 mod segment;
 
 pub use segment::{ACK, FIN, PSH, RST, SYN, Segment};
-
-#[cfg(test)]
-mod tests;

@@ -1,5 +1,5 @@
 // The terms that protocol cores, the object graph and the records share: causes, graph events, what
-// a core asks for, and want of memory. They stand in a crate of their own, so that cores and graph
+// a core asks for, and out of memory. They stand in a crate of their own, so that cores and graph
 // don't hang on the records' spelling. Begin with `Cause`, then `Acts`.
 #![tactic(auto)]
 

@@ -12,7 +12,7 @@ pub either_way : {P : Type 0} (b : Bool) → (b ≡ true → P) → (b ≡ false
 either_way true on off = on refl
 either_way false on off = off refl
 
--- a find with more datagrams behind
+-- a find with more datagrams after
 abbrev pub with_more : List Received → FoundBlock → FoundBlock
 with_more more found = record { one = found.one; behind = found.behind ++ more }
 
@@ -56,7 +56,7 @@ found_at_by size port got more n found behind is =
     option_and_then_some (next_block size port (suc n)) (behind_block size port got n) found is (λ ms at next.
     ap (λ m. option_and_then (next_block size port (suc n)) m) (behind ms at) ∙ next_block-some size port (suc n) ms more found next)
 
--- more datagrams stand behind each block that there is
+-- more datagrams stand after each block that there is
 pub behind_block-more : (size port : ℕ) (got more : List Received) (n : ℕ) (ms : List Received) → behind_block size port got n ≡ Some ms → behind_block size port (got ++ more) n ≡ Some (ms ++ more)
 behind_block-more size port got more zero ms is = ap (λ m. Some (m ++ more)) (same_Some got ms is)
 behind_block-more size port got more (suc n) ms is =
@@ -83,7 +83,7 @@ none_from size port got n k none behind below = ⊎_elim
     (λ above. let same : n ≡ k = omega arith in subst (λ (x : ℕ). found_at size port got x ≡ None) same none)
     (cases_lt n k)
 
--- behind the last block there is none
+-- after the last block there is none
 pub nothing_behind : (size port : ℕ) (got : List Received) (n k : ℕ) → found_at size port got n ≡ None → n < k → behind_block size port got k ≡ None
 nothing_behind size port got n zero none below = absurd (omega arith)
 nothing_behind size port got n (suc k) none below =

@@ -66,7 +66,7 @@ front_to size bytes port received all (suc n) =
     front_more size bytes (blocks_to size port received n) n (found_at size port received n) (front_to size bytes port received all n)
     (λ f is. (before_found size port received n f is, (found_cut size bytes port received all n f is).carried))
 
--- what has come is a front of the file
+-- what has come is a prefix of the file
 pub front_of_file : (opts : Bool) (bytes : List ℕ) (received : List Received) → CarriesFileWith opts bytes received → file_with opts received ≡ take (size_with opts received * count_with opts received) bytes
 front_of_file opts bytes received carries = by_option (port_with opts received)
     (λ none. rw (no_blocks opts received none) (none_taken (size_with opts received) bytes))
@@ -103,7 +103,7 @@ cut_length size x bytes =
     let left = length-drop x bytes in
     (λ short. omega arith, λ few some. omega arith)
 
--- behind the last block but one stand as many bytes again as one more makes
+-- after the last block but one stand as many bytes again as one more makes
 last_place : (size n : ℕ) → 1 ≤ n → size * (n - 1) + size ≡ size * n
 last_place size zero some = absurd (omega arith)
 last_place size (suc n) some = let same : suc n - 1 ≡ n = omega arith in ap (λ k. size * k + size) same ∙ sym (mul-suc size n)

@@ -12,7 +12,7 @@ use Rattle.nb_tftp.specs.Blocks.{FoundBlock, first_passing, is_block_from, if_fi
 use Rattle.nb_tftp.proofs.BlockLemmas.{either_way, fitting_same, map_some, found_at, blocks_to-past}
 use Rattle.nb_tftp.proofs.ReceivedLemmas.{by_option, no_blocks, blocks_at}
 
--- the block of a number that is found, and the datagrams behind it, where each datagram has a property
+-- the block of a number that is found, and the datagrams after it, where each datagram has a property
 pub record IsFound (P : Received → Type 0) (size port n : ℕ) (found : FoundBlock) : Type 0 where
   pub one : P found.one
   pub behind : AllByRecursion P found.behind
@@ -49,7 +49,7 @@ found_by size P port got n found behind is =
     option_and_then_some (next_block size port (suc n)) (behind_block size port got n) found is (λ ms at next.
     next_found_by size P port (suc n) ms found (behind ms at) next)
 
--- what all datagrams have, those behind a block have
+-- what all datagrams have, those after a block have
 pub behind_all : (size : ℕ) (P : Received → Type 0) (port : ℕ) (got : List Received) (n : ℕ) (ms : List Received) → AllByRecursion P got → behind_block size port got n ≡ Some ms → AllByRecursion P ms
 behind_all size P port got zero ms all is = subst (λ (x : List Received). AllByRecursion P x) (same_Some got ms is) all
 behind_all size P port got (suc n) ms all is =

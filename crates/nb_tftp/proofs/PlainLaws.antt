@@ -96,14 +96,10 @@ ack_rest (high ∷ []) k = tt
 ack_rest (high ∷ low ∷ []) k = tt
 ack_rest (high ∷ low ∷ more ∷ bytes) k = tt
 
-error_found : (code : ℕ) (found : Option (List ℕ × List ℕ)) (k : ℕ) → IfRead (option_and_then (λ f. cond (length f.1 == 0) (Some (error code f.0)) None) found) k
-error_found code None k = tt
-error_found code (Some f) k = either_read (length f.1 == 0) (Some (error code f.0)) None k tt tt
-
 error_rest : (body : List ℕ) (k : ℕ) → IfRead (error_reading body) k
 error_rest [] k = tt
 error_rest (high ∷ []) k = tt
-error_rest (high ∷ low ∷ rest) k = error_found _ (text_at rest) k
+error_rest (high ∷ low ∷ rest) k = tt
 
 oack_found : (found : Option FoundValues) (k : ℕ) → IfRead (option_map (λ f. oack f.blksize f.tsize) found) k
 oack_found None k = tt
@@ -161,7 +157,7 @@ gives_range opts b start h m now acts from to meets is =
     (means opts (port_with opts (got h)) (size_with opts (got h)) (count_with opts (got h)) m.rec m.port (packet_in m))
     (sym (ap (λ (x : Acts). x.give) (asks_last opts b start h (entry (came m now) acts) meets)) ∙ is)
 
--- and goes up behind what went up before
+-- and goes up after what was delivered before
 pub given_range : (h : List Entry) (m : Received) (now : ℕ) (acts : Acts) (from to : ℕ) → acts.give ≡ Some (from, to) → given (h ++ entry (came m now) acts ∷ []) ≡ given h ++ slice_range m.body from to
 given_range h m now acts from to is =
     given-append h (entry (came m now) acts) ∙ ap (λ (g : Option (ℕ × ℕ)). given h ++ option_map_or (λ r. slice_range m.body r.0 r.1) g []) is

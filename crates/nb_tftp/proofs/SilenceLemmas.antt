@@ -28,7 +28,7 @@ first_fires (Some t) f end is then = then t refl is
 no_end : (t n now : ℕ) → asked_at t (Again n) ≡ asked_at now Over → ⊥
 no_end t n now is = let said : Again n ≡ Over = ap (λ (a : Asked). a.said) is in cc
 
--- behind a try that isn't the end comes another firing
+-- after a try that isn't the end comes another firing
 next_fires : {P : Type 0} (t n now : ℕ) (o : Option ℕ) (f : ℕ → List Asked) → last_of (asked_at t (Again n) ∷ option_map_or f o []) ≡ Some (asked_at now Over) → ((u : ℕ) → o ≡ Some u → last_of (asked_at t (Again n) ∷ f u) ≡ Some (asked_at now Over) → P) → P
 next_fires t n now None f is then = absurd (no_end t n now (same_Some (asked_at t (Again n)) (asked_at now Over) is))
 next_fires t n now (Some u) f is then = then u refl is

@@ -215,7 +215,7 @@ taken_meets opts b start h m now n len send over meets waits number size next sh
       unanswered = EachEntry-append (TriesUnanswered opts start) [] h e meets.unanswered tt;
     }
 
--- a watch begins anew at a block behind which more come
+-- a watch begins anew at a block after which more come
 watch_anew : (start : ℕ) (h : List Entry) (m : Received) (now n len : ℕ) (send : SendTo) → watched start (h ++ entry (came m now) (taken send n len None) ∷ []) ≡ watch_from now
 watch_anew start h m now n len send = watched-append start h (entry (came m now) (taken send n len None))
 

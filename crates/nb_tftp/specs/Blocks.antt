@@ -4,7 +4,7 @@ use Rattle.std.specs.List.{flat_map}
 use Rattle.std.specs.Option.{option_map, option_map_or, option_and_then, option_to_list}
 use Rattle.nb_tftp.specs.Received.{Received, is_block, block_bytes, port_with, size_with}
 
--- a datagram, and those that came behind it
+-- a datagram, and those that came after it
 pub record FoundBlock : Type 0 where
   pub one : Received
   pub behind : List Received
@@ -26,7 +26,7 @@ if_fitting size found = if nat_le (length (block_bytes found.one)) size then Som
 abbrev pub next_block : ℕ → ℕ → ℕ → List Received → Option FoundBlock
 next_block size port n ms = option_and_then (if_fitting size) (first_passing (is_block_from port n) ms)
 
--- what came behind block n: block n is the first of its number from the port behind block n - 1
+-- what came after block n: block n is the first of its number from the port after block n - 1
 abbrev pub behind_block : ℕ → ℕ → List Received → ℕ → Option (List Received)
 behind_block size port got zero = Some got
 behind_block size port got (suc n) =

@@ -1,4 +1,4 @@
--- RFC 1350, sections 2, 4, 5 and 7, and RFC 2347: what stands behind each end of a transfer, in what it received and when
+-- RFC 1350, sections 2, 4, 5 and 7, and RFC 2347: what stands after each end of a transfer, in what it received and when
 use Rattle.std.specs.Prelude.{◌≡◌, ◌<◌, ℕ, ◌+◌, Bool, true, false, List, None, [], ◌∷◌, ◌++◌, length, Some, map, filter}
 use Rattle.std.specs.Option.{IfSome}
 use Rattle.nb_retry.specs.declared.retry.Due.TheVariants.{Again, Over}

@@ -37,7 +37,7 @@ abbrev pub given_of : Call → Option (ℕ × ℕ) → List ℕ
 given_of (came m now) range = option_map_or (λ r. slice_range m.body r.0 r.1) range []
 given_of (ticked now) range = []
 
--- the bytes that went up, in order
+-- the bytes that were delivered, in order
 abbrev pub given : List Entry → List ℕ
 given entries = flat_map (λ e. given_of e.call e.acts.give) entries
 

@@ -4,7 +4,7 @@ use Rattle.std.specs.List.{AllByRecursion}
 use Rattle.nb_tftp.specs.Received.{Received}
 use Rattle.nb_tftp.specs.History.{Entry, is_ended, EachEntry}
 
--- no call stands behind the one that told the end; what has ended ignores every call
+-- no call stands after the one that told the end; what has ended ignores every call
 abbrev pub StopsAtEnd : List Entry → Type 0
 StopsAtEnd entries = EachEntry (λ before e. is_ended before ≡ false) [] entries
 

@@ -63,7 +63,7 @@ FollowsCommonPlan start entries =
 pub record MeetsWith (options : Bool) (b : Begun) (start : ℕ) (entries : List Entry) : Type 0 where
   -- the place told last is the number of the file's last block
   pub advance : last_advance entries ≡ count_with options (got entries)
-  -- what went up is the file, as far as it has come
+  -- what was delivered is the file, as far as it has come
   pub bytes : given entries ≡ file_with options (got entries)
   -- Ok is told exactly where the file has become whole
   pub whole : EachEntry (OkWhereWholeWith options) [] entries

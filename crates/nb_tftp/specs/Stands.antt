@@ -12,7 +12,7 @@ use Rattle.nb_tftp.specs.Received.{Received, port_with, size_with}
 use Rattle.nb_tftp.specs.History.{Entry, got, is_ended, watched}
 use Rattle.nb_tftp.specs.Sentences.{MeetsWith, IsUnansweredWith}
 
--- no block from the port has come behind the last one, where blocks have this size
+-- no block from the port has come after the last one, where blocks have this size
 pub record AwaitsBlock (options : Bool) (received : List Received) (size port : ℕ) : Type 0 where
   pub behind : (ms : List Received) × (behind_block size port received (count_with options received) ≡ Some ms)
       × (first_passing (is_block_from port (suc (count_with options received))) ms ≡ None)

@@ -23,7 +23,7 @@ abbrev pub first_state : Bool → Begun → ℕ → State
 first_state options b now =
     record { server = b.server; port = b.port; own_port = b.own_port; options = options; request = record { items = b.request }; phase = Asking; retry = started now Common }
 
--- the state behind an answer to a packet from a port
+-- the state after an answer to a packet from a port
 abbrev pub after_answer : State → ℕ → Answer → ℕ → State
 after_answer state port (Agreed size) now = record state { phase = Taking port size 0; retry = started now Common }
 after_answer state port (Declined rec) now = record state { phase = Over }
@@ -54,7 +54,7 @@ bytes_acts state rec port bytes = option_map_or (packet_acts state rec port) (pa
 abbrev pub after_bytes : State → ℕ → ℕ → List ℕ → ℕ → State
 after_bytes state rec port bytes now = option_map_or (λ packet. after_packet state rec port packet now) (packet_read bytes) state
 
--- the state behind the timer's answer
+-- the state after the timer's answer
 abbrev pub after_due : State → Due → State
 after_due state Not = state
 after_due state (TryAgain n) = state

@@ -16,7 +16,7 @@ const LEAST_SIZE: u16 = 8;
 const MOST_SIZE: u16 = 1432;
 
 /// How far a transfer is.
-#[derive(Clone, Copy, Debug, PartialEq, Eq, Drop)]
+#[derive(Clone, Copy, Drop)]
 pub(crate) enum Phase {
     /// The request is out.
     Asking,
@@ -27,7 +27,7 @@ pub(crate) enum Phase {
 }
 
 /// What a packet calls for.
-#[derive(Clone, Copy, Debug, PartialEq, Eq, Drop)]
+#[derive(Clone, Copy, Drop)]
 pub(crate) enum Answer {
     /// Nothing.
     Ignored,

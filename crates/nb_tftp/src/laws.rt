@@ -26,8 +26,8 @@ pub fn asks_plainly()
         → length (begun_asking options server port own_port path).request ≤ 1480 }
 {}
 
-/// The range that a call gives up lies within the body of its datagram, and goes up behind all that
-/// went up before. A time gives up nothing.
+/// The range that a call gives up lies within the body of its datagram, and goes up after all that
+/// was delivered before. A time gives up nothing.
 pub fn gives_within_the_body()
     ensures within { (options : Bool) (b : Begun) (start : ℕ) (h : List Entry) (m : Received) (now : ℕ) (acts : Acts) (from to : ℕ)
         → MeetsWith options b start (h ++ entry (came m now) acts ∷ []) → acts.give ≡ Some (from, to) → IsRangeOf m.body from to }
@@ -57,13 +57,13 @@ pub fn at_most_the_agreed_size()
 {}
 
 /// Each cause of an end stands in what was received and when, and no other cause comes: `EndingWith` has
-/// what stands behind each.
+/// what stands after each.
 pub fn ends_as_told()
     ensures { (options : Bool) (b : Begun) (start : ℕ) (h : List Entry) (e : Entry) (cause : Cause) → MeetsWith options b start (h ++ e ∷ [])
         → e.acts.over ≡ Some cause → EndingWith options start h e cause }
 {}
 
-/// From a server that sends the blocks of one file in the size agreed comes a front of it, of that size for each
+/// From a server that sends the blocks of one file in the size agreed comes a prefix of it, of that size for each
 /// block. Where a short block has come, it is the whole file; where as many have come as the file has, the last
 /// is short.
 pub fn honest_server_gives_its_file()

@@ -21,6 +21,3 @@ pub use laws::{
     ends_as_told, gives_within_the_body, honest_server_gives_its_file,
 };
 pub use transfer::{TooLong, Transfer};
-
-#[cfg(test)]
-mod tests;

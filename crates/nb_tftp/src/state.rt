@@ -163,7 +163,7 @@ impl State {
         acts.tried = tried;
     }
 
-    /// The state behind an answer.
+    /// The state after an answer.
     fn follow(&mut self, from: u16, answer: Answer, now: u64)
         ensures { self.new ≡ after_answer self.old from answer now }
     {
@@ -181,7 +181,7 @@ impl State {
         }
     }
 
-    /// Blocks of this size come from this port, behind this one. The timer starts anew.
+    /// Blocks of this size come from this port, after this one. The timer starts anew.
     fn await_block(&mut self, port: u16, size: u16, last: u16, now: u64)
         ensures { self.new ≡ record self.old { phase = Taking port size last; retry = started now Common } }
     {

@@ -50,7 +50,7 @@ impl Transfer {
         requires { HasNoZero path.now }
         ensures too_long { IsErr result ↔ (1024 < length path.now) }
         ensures refused { OnErr result (acts.new ≡ nothing) }
-        // The request is sent, under a timer, and no call stands behind it.
+        // The request is sent, under a timer, and no call stands after it.
         ensures request { OnOk result (acts.new ≡ sending (last_message (begun server port own_port path.now) None 0) (Some 1)) }
         ensures stands { IfOk result (λ t. Stands (begun server port own_port path.now) now t []) }
         ensures sound { AreSoundActs 0 acts.new }

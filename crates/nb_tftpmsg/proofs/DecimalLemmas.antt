@@ -13,7 +13,7 @@ use Rattle.std.proofs.lemmas.Str.{digit_value_digit}
 use Rattle.nb_tftpmsg.specs.Texts.{decimal, decimal_text}
 use Rattle.nb_tftpmsg.proofs.TextLemmas.{either_way}
 
--- what the rest of a text gives behind digits of a value
+-- what the rest of a text gives after digits of a value
 abbrev pub decimal_after : ℕ → ℕ → List ℕ → Option ℕ
 decimal_after bound value rest = cond (list_all is_ascii_digit rest && ltb (digits_value_after 10 value rest) bound) (Some (digits_value_after 10 value rest)) None
 

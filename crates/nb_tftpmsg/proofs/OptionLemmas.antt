@@ -84,7 +84,7 @@ behind_name found name = option_and_then (behind_value found name.0) (text_at na
 abbrev pub reading_from : FoundValues → List ℕ → Option FoundValues
 reading_from found bytes = option_and_then (pairs_reading found) (texts bytes)
 
--- an option at the front is read first, and less is left behind it
+-- an option at the front is read first, and less is left after it
 pub with_first-reads : (found more : FoundValues) (bytes rest : List ℕ) → with_first found bytes ≡ Some (more, rest) → (reading_from found bytes ≡ reading_from more rest) × (length rest < length bytes)
 with_first-reads found more bytes rest is =
     option_and_then_some (behind_name found) (text_at bytes) (more, rest) is (λ name at_name then_value.
@@ -125,7 +125,7 @@ both (Some blksize) (Some tsize) = Some (record { blksize = blksize; tsize = tsi
 both (Some blksize) None = None
 both None tsize = None
 
--- what options say behind values that were found
+-- what options say after values that were found
 abbrev pub said_by : FoundValues → List TftpOption → Option FoundValues
 said_by found options =
     both (kept found.blksize (first_number (codes "blksize") (2 ^ 16) options)) (kept found.tsize (first_number (codes "tsize") (2 ^ 32) options))

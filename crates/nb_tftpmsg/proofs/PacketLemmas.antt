@@ -1,18 +1,17 @@
 -- Reading is the grammar, in both directions.
-use Rattle.std.proofs.Common.{◌≡◌, ℕ, ◌+◌, ◌^◌, ◌<◌, List, [], ◌∷◌, ◌++◌, Option, Some, None, Bool, true, false, refl, ap, ◌∙◌, sym, subst, arith, eqb, length, get_or, suc, append_assoc, ◌*◌, ◌/◌, ◌%◌}
+use Rattle.std.proofs.Common.{◌≡◌, ℕ, ◌+◌, ◌^◌, ◌<◌, List, [], ◌∷◌, ◌++◌, Option, Some, None, Bool, true, false, refl, ap, ◌∙◌, sym, subst, arith, eqb, get_or, suc, append_assoc, ◌*◌, ◌/◌, ◌%◌}
 use Rattle.std.specs.Int.{to_be_bytes, from_be_bytes, w16}
 use Rattle.std.specs.Option.{option_map, IfSome}
 use Rattle.std.specs.Str.{bytes_eq}
-use Rattle.std.proofs.lemmas.Bool.{eqb-true, false≢true}
+use Rattle.std.proofs.lemmas.Bool.{eqb-true}
 use Rattle.std.proofs.lemmas.Nat.{from_be_bytes-to_be_bytes_2}
-use Rattle.std.proofs.lemmas.Option.{none-some, same_Some, option_and_then_some, cond_some}
+use Rattle.std.proofs.lemmas.Option.{none-some, same_Some, option_and_then_some}
 use Rattle.std.proofs.lemmas.Slice.Eq.{bytes_eq-Decides}
-use Rattle.nb_tftpmsg.specs.Texts.{HasNoZero, ended, text_at}
+use Rattle.nb_tftpmsg.specs.Texts.{HasNoZero, EndsText, ended, text_at, text_before}
 use Rattle.nb_tftpmsg.specs.Packets.{Message, rrq, block, ack, error, oack, request_tail, IsTftpPacket}
 use Rattle.nb_tftpmsg.specs.Reading.{FoundValues, options_reading, request_reading, block_reading, ack_reading, error_reading, oack_reading, body_reading, packet_read}
-use Rattle.nb_tftpmsg.proofs.TextLemmas.{either_way, text_at-front, text_at-stands}
+use Rattle.nb_tftpmsg.proofs.TextLemmas.{either_way, text_at-front, text_at-stands, text_before-front, text_before-stands}
 use Rattle.nb_tftpmsg.proofs.OptionLemmas.{option_map_some, options_stand, options_read}
-use Rattle.std.proofs.Math.Dec.{eqb-suc-zero}
 
 abbrev pub IsBytes : List ℕ → Type 0
 IsBytes bytes = (i : ℕ) → get_or bytes i 0 < 256
@@ -31,18 +30,18 @@ request_read : (path : List ℕ) (options : Bool) → HasNoZero path → request
 request_read path true clean = rw (text_at-front path (request_tail true) clean) refl
 request_read path false clean = rw (text_at-front path (request_tail false) clean) refl
 
-error_read : (code : ℕ) (text : List ℕ) → code < 2 ^ 16 → HasNoZero text → error_reading (to_be_bytes w16 code ++ ended text) ≡ Some (error code text)
-error_read code text fits clean = rw (text_at-front text [] clean) (ap (λ n. Some (error n text)) (number_again code fits))
+error_read : (code : ℕ) (text rest : List ℕ) → code < 2 ^ 16 → HasNoZero text → EndsText rest → error_reading (to_be_bytes w16 code ++ (text ++ rest)) ≡ Some (error code text)
+error_read code text rest fits clean ends = ap (λ t. Some (error (from_be_bytes w16 (to_be_bytes w16 code)) t)) (text_before-front text rest clean ends) ∙ ap (λ n. Some (error n text)) (number_again code fits)
 
 -- what is spelled so is read
 pub reading_complete : (bytes : List ℕ) (m : Message) → IsTftpPacket bytes m → packet_read bytes ≡ Some m
 reading_complete bytes (rrq path options) is = ap packet_read is.1 ∙ request_read path options is.0
 reading_complete bytes (block n data_bytes) is = ap packet_read is.1 ∙ ap (λ number. Some (block number data_bytes)) (number_again n is.0)
 reading_complete bytes (ack n) is = ap packet_read is.1 ∙ ap (λ number. Some (ack number)) (number_again n is.0)
-reading_complete bytes (error code text) is = ap packet_read is.2 ∙ error_read code text is.0 is.1
+reading_complete bytes (error code text) is = ap packet_read is.4 ∙ error_read code text is.2 is.0 is.1 is.3
 reading_complete bytes (oack blksize tsize) is = ap packet_read is.2 ∙ ap (λ found. option_map (λ f. oack f.blksize f.tsize) found) (options_read is.0 blksize tsize is.1 is.3)
 
--- one more byte in front and behind
+-- one more byte before and after
 pub ended_front : (text rest : List ℕ) → ended text ++ rest ≡ text ++ 0 ∷ rest
 ended_front text rest = append_assoc text (0 ∷ []) rest
 
@@ -81,19 +80,14 @@ ack_stands (high ∷ low ∷ []) m are is =
     subst (λ (x : Message). IsTftpPacket (0 ∷ 4 ∷ high ∷ low ∷ []) x) (same_Some (ack (from_be_bytes w16 (high ∷ low ∷ []))) m is)
     (number.0, ap (λ n. 0 ∷ 4 ∷ n) number.1)
 
-none_left : (bytes : List ℕ) → eqb (length bytes) 0 ≡ true → bytes ≡ []
-none_left [] on = refl
-none_left (b ∷ bs) on = absurd (false≢true (sym (eqb-suc-zero (length bs)) ∙ on))
-
 error_stands : (body : List ℕ) (m : Message) → IsBytes body → error_reading body ≡ Some m → IsTftpPacket (0 ∷ 5 ∷ body) m
 error_stands [] m are is = absurd (none-some m is)
 error_stands (high ∷ []) m are is = absurd (none-some m is)
-error_stands (high ∷ low ∷ rest) m are is = option_and_then_some _ (text_at rest) m is (λ found at then_end.
-    let stand = text_at-stands rest found.0 found.1 at in
+error_stands (high ∷ low ∷ rest) m are is =
+    let stand = text_before-stands rest in
     let number = number_stands high low (are 0) (are 1) in
-    let done = cond_some (eqb (length found.1) 0) (error (from_be_bytes w16 (high ∷ low ∷ [])) found.0) m then_end in
-    subst (λ (x : Message). IsTftpPacket (0 ∷ 5 ∷ high ∷ low ∷ rest) x) done.1
-    (number.0, stand.0, ap (λ r. 0 ∷ 5 ∷ high ∷ low ∷ r) (stand.1 ∙ ended_front found.0 found.1 ∙ ap (λ t. found.0 ++ 0 ∷ t) (none_left found.1 done.0)) ∙ ap (λ n. 0 ∷ 5 ∷ (n ++ ended found.0)) number.1))
+    subst (λ (x : Message). IsTftpPacket (0 ∷ 5 ∷ high ∷ low ∷ rest) x) (same_Some (error (from_be_bytes w16 (high ∷ low ∷ [])) (text_before rest)) m is)
+    (number.0, stand.clean, stand.rest, stand.ends, ap (λ r. 0 ∷ 5 ∷ high ∷ low ∷ r) stand.all ∙ ap (λ n. 0 ∷ 5 ∷ (n ++ (text_before rest ++ stand.rest))) number.1)
 
 oack_stands : (body : List ℕ) (m : Message) → oack_reading body ≡ Some m → IsTftpPacket (0 ∷ 6 ∷ body) m
 oack_stands body m is =

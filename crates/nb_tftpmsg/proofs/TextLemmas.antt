@@ -1,11 +1,12 @@
 -- Laws of texts that end in a zero byte.
-use Rattle.std.proofs.Common.{◌≡◌, ℕ, ◌+◌, ◌-◌, ◌<◌, ◌≤◌, List, [], ◌∷◌, ◌++◌, Option, Some, None, Bool, true, false, cond, refl, ap, subst, ◌∙◌, arith, eqb, ltb, take, drop, length, suc, length-drop, length-append}
+use Rattle.std.proofs.Common.{◌≡◌, ℕ, ◌+◌, ◌-◌, ◌<◌, ◌≤◌, List, [], ◌∷◌, ◌++◌, Option, Some, None, Bool, true, false, cond, refl, ap, sym, subst, ◌∙◌, arith, eqb, ltb, take, drop, length, suc, length-drop, length-append, append_assoc}
 use Rattle.std.proofs.lemmas.Bool.{lt-ltb, le-ltb, ltb-true, ltb-false, ne_eqb, eqb-true, eqb-false}
-use Rattle.std.proofs.lemmas.Option.{same_Some}
+use Rattle.std.proofs.lemmas.Option.{same_Some, none-some}
+use Rattle.std.proofs.lemmas.List.{append-nil}
 use Rattle.std.proofs.Math.Seq.{take-length}
 use Rattle.std.specs.List.{position, position_or_len}
-use Rattle.std.specs.Option.{option_map}
-use Rattle.nb_tftpmsg.specs.Texts.{HasNoZero, ended, text_at}
+use Rattle.std.specs.Option.{option_map, option_map_or}
+use Rattle.nb_tftpmsg.specs.Texts.{HasNoZero, EndsText, ended, text_at, text_before}
 
 -- either answer of a test
 pub either_way : {P : Type 0} (b : Bool) → (b ≡ true → P) → (b ≡ false → P) → P
@@ -16,7 +17,7 @@ either_way false on off = off refl
 abbrev pub cut : List ℕ → List ℕ → List ℕ × List ℕ
 cut text rest = (text, rest)
 
--- the text before a place, and what stands behind it
+-- the text before a place, and what stands after it
 abbrev pub split_before : List ℕ → ℕ → List ℕ × List ℕ
 split_before bytes end = (take end bytes, drop (end + 1) bytes)
 
@@ -47,7 +48,7 @@ text_at-found bytes end found = rw (text_at-is bytes, ← found, take_rest bytes
 pub text_at-none : (bytes : List ℕ) → None ≡ position (λ byte. eqb byte 0) bytes → None ≡ text_at bytes
 text_at-none bytes found = rw (text_at-is bytes, ← found) refl
 
--- a text and its zero byte are found in front of anything
+-- a text and its zero byte are found before anything
 pub text_at-front : (text rest : List ℕ) → HasNoZero text → text_at (text ++ 0 ∷ rest) ≡ Some (cut text rest)
 text_at-front [] rest clean = refl
 text_at-front (byte ∷ bytes) rest clean =
@@ -83,7 +84,47 @@ text_at-stands (byte ∷ bytes) text rest is = either_way (eqb byte 0)
     (λ on. first_stands byte bytes text rest (eqb-true byte 0 on) (rw on at is))
     (λ off. later_stands byte bytes text rest (eqb-false byte 0 off) (text_at bytes) (λ t r. text_at-stands bytes t r) (rw off at is))
 
--- less stands behind it
+-- a text without a zero byte has no end
+text_at-clean : (text : List ℕ) → HasNoZero text → text_at text ≡ None
+text_at-clean [] clean = refl
+text_at-clean (byte ∷ bytes) clean =
+    let off : eqb byte 0 ≡ false = ne_eqb byte 0 (λ zero. omega (arith, clean.0)) in
+    rw (off, text_at-clean bytes clean.1) refl
+
+map_none : {T U : Type 0} (f : T → U) (o : Option T) → option_map f o ≡ None → o ≡ None
+map_none f None is = refl
+map_none f (Some x) is = absurd cc
+
+clean-without_end : (bytes : List ℕ) → text_at bytes ≡ None → HasNoZero bytes
+clean-without_end [] is = tt
+clean-without_end (byte ∷ bytes) is = either_way (eqb byte 0)
+    (λ on. absurd (none-some (cut [] bytes) (sym (rw on at is))))
+    (λ off.
+    let some : byte ≡ 0 → ⊥ = eqb-false byte 0 off in
+    (omega arith, clean-without_end bytes (map_none _ (text_at bytes) (rw off at is))))
+
+-- a text is found before what may stand after it
+pub text_before-front : (text rest : List ℕ) → HasNoZero text → EndsText rest → text_before (text ++ rest) ≡ text
+text_before-front text [] clean ends = rw (append-nil text, text_at-clean text clean) refl
+text_before-front text (byte ∷ rest) clean zero = rw (zero, text_at-front text rest clean) refl
+
+-- the bytes are a text and what may stand after it
+pub record StandsBefore (bytes text : List ℕ) : Type 0 where
+  pub clean : HasNoZero text
+  pub rest : List ℕ
+  pub ends : EndsText rest
+  pub all : bytes ≡ text ++ rest
+
+before_at : (bytes : List ℕ) (found : Option (List ℕ × List ℕ)) → text_at bytes ≡ found → StandsBefore bytes (option_map_or (λ f. f.0) found bytes)
+before_at bytes None is = record { clean = clean-without_end bytes is; rest = []; ends = tt; all = sym (append-nil bytes) }
+before_at bytes (Some f) is =
+    let stand = text_at-stands bytes f.0 f.1 is in
+    record { clean = stand.0; rest = 0 ∷ f.1; ends = refl; all = stand.1 ∙ append_assoc f.0 (0 ∷ []) f.1 }
+
+pub text_before-stands : (bytes : List ℕ) → StandsBefore bytes (text_before bytes)
+text_before-stands bytes = before_at bytes (text_at bytes) refl
+
+-- less stands after it
 pub text_at-shorter : (bytes text rest : List ℕ) → text_at bytes ≡ Some (cut text rest) → length rest < length bytes
 text_at-shorter bytes text rest is =
     let all : length bytes ≡ length (ended text ++ rest) = ap length (text_at-stands bytes text rest is).1 in

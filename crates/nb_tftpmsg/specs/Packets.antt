@@ -3,7 +3,7 @@ use Rattle.std.specs.Prelude.{◌≡◌, ℕ, ◌^◌, ◌<◌, Bool, true, fals
 use Rattle.std.specs.Int.{to_be_bytes, w16}
 use Rattle.std.specs.List.{AllByRecursion}
 use Rattle.std.specs.Option.{option_map_or}
-use Rattle.nb_tftpmsg.specs.Texts.{HasNoZero, ended, decimal_text}
+use Rattle.nb_tftpmsg.specs.Texts.{HasNoZero, EndsText, ended, decimal_text}
 use Rattle.nb_tftpmsg.specs.Options.{TftpOption, IsOption, options_text, OackOptionsSay}
 
 -- a packet, without where it lies in memory
@@ -23,7 +23,7 @@ request_tail true = ended (codes "octet") ++ (ended (codes "blksize") ++ (ended 
 abbrev pub number_option : List ℕ → Option ℕ → List ℕ
 number_option name value = option_map_or (λ number. ended name ++ ended (decimal_text number)) value []
 
--- the text that is written for a packet; an OACK has others, which are read too
+-- the text that is written for a packet; an ERROR and an OACK have others, which are read too
 abbrev pub packet_text : Message → List ℕ
 packet_text (rrq path options) = 0 ∷ 1 ∷ (path ++ 0 ∷ request_tail options)
 packet_text (block n bytes) = 0 ∷ 3 ∷ (to_be_bytes w16 n ++ bytes)
@@ -31,12 +31,13 @@ packet_text (ack n) = 0 ∷ 4 ∷ to_be_bytes w16 n
 packet_text (error code text) = 0 ∷ 5 ∷ (to_be_bytes w16 code ++ ended text)
 packet_text (oack blksize tsize) = 0 ∷ 6 ∷ (number_option (codes "blksize") blksize ++ number_option (codes "tsize") tsize)
 
--- the bytes spell the packet
+-- the bytes spell the packet. Servers leave out the zero byte after an error's text, or put more than one.
 abbrev pub IsTftpPacket : List ℕ → Message → Type 0
 IsTftpPacket bytes (rrq path options) = HasNoZero path × (bytes ≡ packet_text (rrq path options))
 IsTftpPacket bytes (block n data_bytes) = (n < 2 ^ 16) × (bytes ≡ packet_text (block n data_bytes))
 IsTftpPacket bytes (ack n) = (n < 2 ^ 16) × (bytes ≡ packet_text (ack n))
-IsTftpPacket bytes (error code text) = (code < 2 ^ 16) × HasNoZero text × (bytes ≡ packet_text (error code text))
+IsTftpPacket bytes (error code text) =
+    (code < 2 ^ 16) × HasNoZero text × (rest : List ℕ) × EndsText rest × (bytes ≡ 0 ∷ 5 ∷ (to_be_bytes w16 code ++ (text ++ rest)))
 IsTftpPacket bytes (oack blksize tsize) =
     (options : List TftpOption) × AllByRecursion IsOption options × (bytes ≡ 0 ∷ 6 ∷ options_text options) × OackOptionsSay options blksize tsize
 

@@ -1,10 +1,10 @@
 -- Reading as a function of the bytes, one for each function of the program. That it is the grammar of
 -- Packets, in both directions, is what `Tftp::read` promises.
-use Rattle.std.specs.Prelude.{ℕ, ◌^◌, ◌==◌, ◌&&◌, true, false, List, [], ◌∷◌, length, Option, Some, None, codes, if◌then◌else◌}
+use Rattle.std.specs.Prelude.{ℕ, ◌^◌, ◌==◌, ◌&&◌, true, false, List, [], ◌∷◌, Option, Some, None, codes, if◌then◌else◌}
 use Rattle.std.specs.Int.{from_be_bytes, w16}
 use Rattle.std.specs.Option.{option_map, option_and_then, is_none}
 use Rattle.std.specs.Str.{bytes_eq}
-use Rattle.nb_tftpmsg.specs.Texts.{text_at, decimal}
+use Rattle.nb_tftpmsg.specs.Texts.{text_at, text_before, decimal}
 use Rattle.nb_tftpmsg.specs.Options.{is_option_name}
 use Rattle.nb_tftpmsg.specs.Packets.{Message, rrq, block, ack, error, oack, request_tail}
 
@@ -25,14 +25,14 @@ with_option found name value =
     then option_map (λ n. record found { tsize = Some n }) (decimal (2 ^ 32) value)
     else Some found)
 
--- with the first of the options that the bytes begin with, and the bytes behind it
+-- with the first of the options that the bytes begin with, and the bytes after it
 abbrev pub with_first : FoundValues → List ℕ → Option (FoundValues × List ℕ)
 with_first found bytes =
     option_and_then
     (λ name. option_and_then (λ value. option_map (λ more. (more, value.1)) (with_option found name.0 value.0)) (text_at name.1))
     (text_at bytes)
 
--- a byte in front of the first of some texts
+-- a byte before the first of some texts
 abbrev pub in_front : ℕ → List (List ℕ) → Option (List (List ℕ))
 in_front byte [] = None
 in_front byte (text ∷ texts) = Some ((byte ∷ text) ∷ texts)
@@ -72,10 +72,7 @@ ack_reading (high ∷ []) = None
 ack_reading [] = None
 
 abbrev pub error_reading : List ℕ → Option Message
-error_reading (high ∷ low ∷ rest) =
-    option_and_then
-    (λ found. if length found.1 == 0 then Some (error (from_be_bytes w16 (high ∷ low ∷ [])) found.0) else None)
-    (text_at rest)
+error_reading (high ∷ low ∷ rest) = Some (error (from_be_bytes w16 (high ∷ low ∷ [])) (text_before rest))
 error_reading (high ∷ []) = None
 error_reading [] = None
 

@@ -1,9 +1,9 @@
 -- RFC 1350, section 5, and RFC 2347: texts that end in a zero byte, and decimals in them
-use Rattle.std.specs.Prelude.{ℕ, ◌+◌, ◌<◌, ◌==◌, ◌&&◌, List, [], ◌∷◌, ◌++◌, length, map, nat_lt, Option, Some, None, if◌then◌else◌}
+use Rattle.std.specs.Prelude.{◌≡◌, ℕ, ◌+◌, ◌<◌, ◌==◌, ◌&&◌, List, [], ◌∷◌, ◌++◌, length, map, nat_lt, Option, Some, None, if◌then◌else◌}
 use Rattle.std.specs.Char.{is_ascii_digit}
 use Rattle.std.specs.Int.Digits.{digits_of}
 use Rattle.std.specs.List.{list_all}
-use Rattle.std.specs.Option.{option_map}
+use Rattle.std.specs.Option.{option_map, option_map_or}
 use Rattle.std.specs.Str.Parse.{digits_value}
 
 -- no byte is zero
@@ -15,10 +15,19 @@ HasNoZero (byte ∷ bytes) = (0 < byte) × HasNoZero bytes
 abbrev pub ended : List ℕ → List ℕ
 ended text = text ++ 0 ∷ []
 
--- the bytes before the first zero byte, and those behind it
+-- the bytes before the first zero byte, and those after it
 abbrev pub text_at : List ℕ → Option (List ℕ × List ℕ)
 text_at [] = None
 text_at (byte ∷ bytes) = if byte == 0 then Some ([], bytes) else option_map (λ found. (byte ∷ found.0, found.1)) (text_at bytes)
+
+-- what may stand after a text that needn't end: nothing, or a zero byte and anything
+abbrev pub EndsText : List ℕ → Type 0
+EndsText [] = Unit {0}
+EndsText (byte ∷ bytes) = byte ≡ 0
+
+-- the bytes before the first zero byte, or all of them where there is none
+abbrev pub text_before : List ℕ → List ℕ
+text_before bytes = option_map_or (λ found. found.0) (text_at bytes) bytes
 
 -- the number that a text of one digit or more writes, where it is below a bound; zeros may stand in front
 abbrev pub decimal : ℕ → List ℕ → Option ℕ

@@ -12,6 +12,3 @@ mod packet;
 mod text;
 
 pub use packet::Tftp;
-
-#[cfg(test)]
-mod tests;

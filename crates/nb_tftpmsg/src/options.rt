@@ -36,7 +36,7 @@ impl Options {
         Some(found)
     }
 
-    /// The values with the first of these options more, and the options behind it.
+    /// The values with the first of these options more, and the options after it.
     fn with_first(self, bytes: &[u8]) -> Option<(Options, &[u8])>
         ensures { option_map (λ read. (found_of read.0, read.1.now)) result ≡ with_first (found_of self) bytes.now }
     {

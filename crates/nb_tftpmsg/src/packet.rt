@@ -10,7 +10,7 @@ ghost use Rattle.nb_tftpmsg.specs.Views.{message};
 
 use crate::decimal::decimal_text;
 use crate::options::Options;
-use crate::text::text_at;
+use crate::text::{text_at, text_before};
 use arrayvec::ArrayVec;
 use nb_wire::{Full, Out};
 
@@ -170,16 +170,10 @@ fn error(body: &[u8]) -> Option<Tftp<'_>>
     ensures { option_map message result ≡ error_reading body.now }
 {
     match body {
-        [high, low, rest @ ..] => {
-            let (text, behind) = text_at(rest)?;
-            if !behind.is_empty() {
-                return None;
-            }
-            Some(Tftp::Error {
-                code: u16::from_be_bytes([*high, *low]),
-                text,
-            })
-        }
+        [high, low, rest @ ..] => Some(Tftp::Error {
+            code: u16::from_be_bytes([*high, *low]),
+            text: text_before(rest),
+        }),
         _ => None,
     }
 }

@@ -6,4 +6,5 @@ pub mod GrammarLemmas
 pub mod ResolutionLemmas
 pub mod RefusalLemmas
 pub mod PathTextLemmas
+pub mod SendableLemmas
 pub mod SelfLemmas

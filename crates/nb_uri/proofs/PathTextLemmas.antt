@@ -22,7 +22,7 @@ use Rattle.nb_uri.specs.Pieces.{is_slash}
 use Rattle.nb_uri.specs.Resolutions.{whole_of}
 use Rattle.nb_uri.specs.ImageNames.{is_question_mark, authority_and_path, path_text}
 
--- what follows a byte is behind a text without such a byte
+-- what follows a byte is after a text without such a byte
 past : (test : ℕ → Bool) (xs ys : List ℕ) → All (Passes (λ b. not (test b))) xs → StopsAt (λ b. not (test b)) ys → after_first test (xs ++ ys) ≡ drop 1 ys
 past test xs ys all stops = ap (λ n. drop (n + 1) (xs ++ ys)) (prefix_len_at (λ b. not (test b)) xs ys all stops) ∙ drop-append-add xs ys 1
 

@@ -20,7 +20,7 @@ take_rest text from = rw (← length-drop from text) (take-length (drop from tex
 not_slash : (path : List ℕ) (k : ℕ) → is_slash (get_or path k 0) ≡ false → not (is_slash (get_or path k 0)) ≡ true
 not_slash path k off = ap not off
 
--- what stands behind the last slash, at its place
+-- what stands after the last slash, at its place
 pub after_last-at : (path : List ℕ) (slash : ℕ) → slash < length path → is_slash (get_or path slash 0) ≡ true → HasNoSlashFrom (slash + 1) path → drop (slash + 1) path ≡ after_last is_slash path
 after_last-at path slash within there last =
     let len : suffix_len (λ x. not (is_slash x)) path ≡ length path - (slash + 1) = suffix_len_is (λ x. not (is_slash x)) path (slash + 1) 0 (omega arith)
@@ -70,7 +70,7 @@ parts_whole separator text is =
     let past = cut_none separator text is in
     slice_split_none (λ b. eqb b separator) text (λ k d below. fails_before_first (λ b. eqb b separator) text k d (omega arith))
 
--- without separator nothing stands behind it
+-- without separator nothing stands after it
 pub after_first-none : (separator : ℕ) (text : List ℕ) → None ≡ cut separator text → after_first (λ b. eqb b separator) text ≡ []
 after_first-none separator text is =
     let past = cut_none separator text is in

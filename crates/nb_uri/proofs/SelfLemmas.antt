@@ -2,7 +2,7 @@
 use Rattle.std.proofs.Common.{◌≡◌, ◌⊎◌, ℕ, true, false, not, ltb, List, [], ◌++◌, length, drop, codes, Option, Some, None, Result, Ok, Err, refl, sym, ap, subst, ◌∙◌}
 use Rattle.std.proofs.Math.Logic.{inl, inr, ⊎_elim}
 use Rattle.std.specs.Prelude.{is_some, unwrap_or, slice_index, IfOk}
-use Rattle.std.specs.Option.{option_and_then}
+use Rattle.std.specs.Option.{option_and_then, option_map}
 use Rattle.std.specs.Str.{is_utf8, bytes_eq}
 use Rattle.std.proofs.lemmas.Bool.{true≢false}
 use Rattle.std.proofs.lemmas.Slice.Eq.{bytes_eq-Decides}
@@ -11,12 +11,12 @@ use Rattle.url.specs.declared.host.Host.{Host}
 use Rattle.url.specs.declared.host.Host.TheVariants.{Domain}
 use Rattle.url.specs.declared.scheme.SchemeType.TheVariants.{NotSpecial, SpecialNotFile}
 use Rattle.url.specs.Canonical.{IsCanonicalAs}
-use Rattle.url.specs.Host.{is_empty_host}
+use Rattle.url.specs.Host.{is_empty_host, host_text}
 use Rattle.url.specs.Input.{when}
 use Rattle.url.specs.Path.{IsSegmentList}
 use Rattle.url.specs.declared.scheme.SchemeType.{SchemeType}
 use Rattle.url.specs.Parser.{parse_url}
-use Rattle.url.specs.Parts.{Parts, kind_of, has_host, has_authority, IsValid}
+use Rattle.url.specs.Parts.{Parts, kind_of, has_host, has_authority, nonempty_host, IsValid}
 use Rattle.url.specs.Scheme.{scheme_type, default_port}
 use Rattle.url.proofs.LayoutLemmas.{IsValidHead_same}
 use Rattle.url.proofs.RoundTrip.{ends_visibly}
@@ -28,10 +28,11 @@ use Rattle.nb_uri.specs.declared.target.UriError.{UriError}
 use Rattle.nb_uri.specs.declared.target.UriError.TheVariants.{BadUri, NoScheme, TooLong}
 use Rattle.nb_uri.specs.ImageNames.{AsksForItsPath}
 use Rattle.nb_uri.specs.IscsiNames.{IscsiTarget, is_iscsi, iscsi_target}
-use Rattle.nb_uri.specs.Resolutions.{GivesOrNoMemory, IsReadBack, IsReliable, IsUrlText, NamesItself, StaysBelowRoot, resolution, disk_target, url_target, host_target, scheme_target, url_of, joined_url, whole_of, whole_text, fitted, tftp_path, http_path, has_zero}
+use Rattle.nb_uri.specs.Resolutions.{GivesOrNoMemory, IsReadBack, IsReliable, IsUrlText, MayBeAsked, NamesItself, StaysBelowRoot, resolution, disk_target, url_target, host_target, scheme_target, url_of, joined_url, whole_of, whole_text, fitted, tftp_path, http_path, has_zero}
 use Rattle.percent_encoding.specs.Percent.{percent_decode}
 use Rattle.nb_uri.proofs.PathTextLemmas.{path_spelled}
 use Rattle.nb_uri.proofs.PieceLemmas.{either_way}
+use Rattle.nb_uri.proofs.SendableLemmas.{may_be_sent}
 use Rattle.nb_uri.proofs.RefusalLemmas.{host-some, host-none, names-disk, names-url}
 
 abbrev without_fragment : Parts → Parts
@@ -97,14 +98,15 @@ record Names (url : Parts) (target : UriTarget) : Type 0 where
   whole : whole_text target ≡ whole_of url
   rooted : StaysBelowRoot target
   asked : AsksForItsPath target
+  sendable : MayBeAsked target
 
 fitted-ok : (made target : UriTarget) → fitted made ≡ Ok target → made ≡ target
 fitted-ok made target is = either_way (ltb 16384 (length (whole_text made)))
     (λ long. let never : ◌≡◌ {A = Result UriTarget UriError} (Err TooLong) (Ok target) = rw long at is in absurd (cc never))
     (λ short. let same : ◌≡◌ {A = Result UriTarget UriError} (Ok made) (Ok target) = rw short at is in cc same)
 
-names_scheme : (url : Parts) (host : List ℕ) (target : UriTarget) → IsValid url → has_host url ≡ true → scheme_target url host ≡ Ok target → Names url target
-names_scheme url host target valid some is =
+names_scheme : (url : Parts) (host : List ℕ) (target : UriTarget) → IsValid url → has_host url ≡ true → option_map host_text (nonempty_host url) ≡ Some host → scheme_target url host ≡ Ok target → Names url target
+names_scheme url host target valid some hosted is =
     either_way (bytes_eq url.scheme (codes "tftp"))
     (λ tftp. either_way (has_zero (tftp_path url))
     (λ zero. let never : ◌≡◌ {A = Result UriTarget UriError} (Err BadUri) (Ok target) = rw (tftp, zero) at is in absurd (cc never))
@@ -113,19 +115,26 @@ names_scheme url host target valid some is =
     let same = fitted-ok made target (rw (tftp, clean) at is) in
     let scheme = (bytes_eq-Decides url.scheme (codes "tftp")).0 tftp in
     let list = own_segments url NotSpecial valid some (ap scheme_type scheme ∙ kind_of_tftp) in
-    record { hosted = some; scheme = inl scheme; whole = ap whole_text (sym same); rooted = subst StaysBelowRoot same (url.path, list, refl); asked = subst AsksForItsPath same (ap percent_decode (sym (path_spelled url valid (has_some url.host some) list))) }))
+    record { hosted = some; scheme = inl scheme; whole = ap whole_text (sym same); rooted = subst StaysBelowRoot same (url.path, list, refl); asked = subst AsksForItsPath same (ap percent_decode (sym (path_spelled url valid (has_some url.host some) list))); sendable = subst MayBeAsked same tt }))
     (λ no_tftp. either_way (bytes_eq url.scheme (codes "http"))
     (λ http.
     let made = Http host (unwrap_or url.port 80) (http_path url) (whole_of url) in
     let same = fitted-ok made target (rw (no_tftp, http) at is) in
     let scheme = (bytes_eq-Decides url.scheme (codes "http")).0 http in
     let list = own_segments url SpecialNotFile valid some (ap scheme_type scheme ∙ kind_of_http) in
-    record { hosted = some; scheme = inr scheme; whole = ap whole_text (sym same); rooted = subst StaysBelowRoot same (url.path, when (is_some url.query) (codes "?") ++ unwrap_or url.query [], list, refl, query_mark url.query); asked = subst AsksForItsPath same tt })
+    record {
+      hosted = some;
+      scheme = inr scheme;
+      whole = ap whole_text (sym same);
+      rooted = subst StaysBelowRoot same (url.path, when (is_some url.query) (codes "?") ++ unwrap_or url.query [], list, refl, query_mark url.query);
+      asked = subst AsksForItsPath same tt;
+      sendable = subst MayBeAsked same (may_be_sent url host valid some (ap scheme_type scheme ∙ kind_of_http) hosted);
+    })
     (λ no_http. let never : ◌≡◌ {A = Result UriTarget UriError} (Err NoScheme) (Ok target) = rw (no_tftp, no_http) at is in absurd (cc never)))
 
 names : (url : Parts) (target : UriTarget) → IsValid url → url_target (Some url) ≡ Ok target → Names url target
 names url target valid is = either_way (has_host url)
-    (λ some. let host = host-some url some in names_scheme url host.0 target valid some (sym (ap (host_target url) host.1) ∙ is))
+    (λ some. let host = host-some url some in names_scheme url host.0 target valid some host.1 (sym (ap (host_target url) host.1) ∙ is))
     (λ none. let never : ◌≡◌ {A = Result UriTarget UriError} (Err BadUri) (Ok target) = sym (ap (host_target url) (host-none url none)) ∙ is in absurd (cc never))
 
 parses : (url : Parts) (target : UriTarget) → IsReadBack url → Names url target → (other : Option Parts) → parse_url other (whole_of url) ≡ Ok (without_fragment url)
@@ -154,7 +163,7 @@ file-itself url target back is = λ base text.
 
 -- the answer for a URL, and for the name of a disk
 pub url-reliable : (url : Parts) (result : Result UriTarget UriError) → IsReadBack url → GivesOrNoMemory result (url_target (Some url)) → IfOk result IsReliable
-url-reliable url (Ok target) back gives = let known = names url target back.0 gives in (file-itself url target back gives, known.rooted, known.asked)
+url-reliable url (Ok target) back gives = let known = names url target back.0 gives in (file-itself url target back gives, known.rooted, known.asked, known.sendable)
 url-reliable url (Err e) back gives = tt
 
 disk-whole : (text : List ℕ) (found : Option IscsiTarget) (target : UriTarget) → disk_target text found ≡ Ok target → whole_text target ≡ text
@@ -169,10 +178,15 @@ disk-asked : (text : List ℕ) (found : Option IscsiTarget) (target : UriTarget)
 disk-asked text None target is = absurd (let never : ◌≡◌ {A = Result UriTarget UriError} (Err BadUri) (Ok target) = is in cc never)
 disk-asked text (Some disk) target is = subst AsksForItsPath (fitted-ok (Iscsi disk.server disk.port disk.lun disk.target text) target is) tt
 
+disk-sendable : (text : List ℕ) (found : Option IscsiTarget) (target : UriTarget) → disk_target text found ≡ Ok target → MayBeAsked target
+disk-sendable text None target is = absurd (let never : ◌≡◌ {A = Result UriTarget UriError} (Err BadUri) (Ok target) = is in cc never)
+disk-sendable text (Some disk) target is = subst MayBeAsked (fitted-ok (Iscsi disk.server disk.port disk.lun disk.target text) target is) tt
+
 pub disk-reliable : (text : List ℕ) (result : Result UriTarget UriError) → is_utf8 text ≡ true → is_iscsi text ≡ true → GivesOrNoMemory result (disk_target text (iscsi_target (drop 6 text))) → IfOk result IsReliable
 disk-reliable text (Ok target) utf8 iscsi gives = (
   λ base _. ap (resolution base) (disk-whole text (iscsi_target (drop 6 text)) target gives) ∙ names-disk base text utf8 iscsi ∙ gives,
   disk-rooted text (iscsi_target (drop 6 text)) target gives,
   disk-asked text (iscsi_target (drop 6 text)) target gives,
+  disk-sendable text (iscsi_target (drop 6 text)) target gives,
 )
 disk-reliable text (Err e) utf8 iscsi gives = tt

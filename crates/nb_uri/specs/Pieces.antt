@@ -5,10 +5,10 @@ use Rattle.std.specs.Option.{option_map}
 abbrev pub is_slash : ℕ → Bool
 is_slash byte = byte == 47
 
--- no slash stands at this place or behind it
+-- no slash stands at this place or after it
 abbrev pub HasNoSlashFrom : ℕ → List ℕ → Type 0
 HasNoSlashFrom from path = (place : ℕ) → from ≤ place → place < length path → is_slash (slice_index path place) ≡ false
 
--- what stands before the first separator, and what behind it
+-- what stands before the first separator, and what after it
 abbrev pub cut : ℕ → List ℕ → Option (List ℕ × List ℕ)
 cut separator text = option_map (λ place. (take place text, drop (place + 1) text)) (position (λ byte. byte == separator) text)

@@ -14,6 +14,7 @@ use Rattle.url.specs.Path.{IsSegmentList}
 use Rattle.url.specs.Canonical.{IsCanonical}
 use Rattle.url.specs.Parts.{Parts, nonempty_host, serialize, IsValid}
 use Rattle.nb_tftpmsg.specs.Texts.{HasNoZero}
+use Rattle.nb_responses.specs.Requests.{IsSendable}
 use Rattle.nb_uri.specs.declared.target.UriTarget.{UriTarget}
 use Rattle.nb_uri.specs.declared.target.UriTarget.TheVariants.{Tftp, Http, Iscsi}
 use Rattle.nb_uri.specs.declared.target.UriError.{UriError}
@@ -123,8 +124,14 @@ StaysBelowRoot (Http host port path whole) =
     (raw : List ℕ) × (query : List ℕ) × IsSegmentList SpecialNotFile raw × (path ≡ raw ++ query) × ((query ≡ []) ⊎ (slice_index query 0 ≡ 63))
 StaysBelowRoot (Iscsi host port lun name whole) = ⊤
 
+-- a request may name the host and ask for the path of a resource as they are
+abbrev pub MayBeAsked : UriTarget → Type 0
+MayBeAsked (Tftp host port path whole) = ⊤
+MayBeAsked (Http host port path whole) = IsSendable host path
+MayBeAsked (Iscsi host port lun name whole) = ⊤
+
 abbrev pub IsReliable : UriTarget → Type 0
-IsReliable target = NamesItself target × StaysBelowRoot target × AsksForItsPath target
+IsReliable target = NamesItself target × StaysBelowRoot target × AsksForItsPath target × MayBeAsked target
 
 -- a path that a TFTP server may be asked for
 abbrev pub HasCleanPath : UriTarget → Type 0

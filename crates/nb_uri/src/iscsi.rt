@@ -16,7 +16,7 @@ pub const ISCSI_PORT: u16 = 3260;
 pub const MAX_TARGET_NAME: usize = 223;
 
 /// A logical unit of a server's target.
-#[derive(Clone, Copy, Debug, Drop)]
+#[derive(Clone, Copy, Drop)]
 pub(crate) struct IscsiUri<'a> {
     /// The server's address or name.
     pub(crate) server: &'a str,

@@ -21,10 +21,3 @@ pub use iscsi::{ISCSI_PORT, MAX_TARGET_NAME};
 pub use laws::iscsi_names_are_spelled;
 pub use resolution::{HTTP_PORT, TFTP_PORT, resolve};
 pub use target::{UriError, UriTarget};
-
-#[cfg(test)]
-mod address_tests;
-#[cfg(test)]
-mod image_name_tests;
-#[cfg(test)]
-mod target_tests;

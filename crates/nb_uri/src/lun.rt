@@ -32,7 +32,7 @@ fn groups(text: &str) -> Option<&str>
 }
 
 /// A word of a logical unit, and the text of the groups after it.
-#[derive(Clone, Copy, Debug, Drop)]
+#[derive(Clone, Copy, Drop)]
 struct LunWord<'a> {
     value: u16,
     rest: Option<&'a str>,

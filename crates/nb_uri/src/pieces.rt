@@ -5,7 +5,7 @@ ghost use Rattle.std.specs.List.{after_last};
 ghost use Rattle.std.specs.Option.{option_map};
 ghost use Rattle.nb_uri.specs.Pieces.{cut, is_slash, HasNoSlashFrom};
 
-/// The bytes before the first separator, and those behind it. None where there is no separator.
+/// The bytes before the first separator, and those after it. None where there is no separator.
 pub(crate) fn cut(text: &[u8], separator: u8) -> Option<(&[u8], &[u8])>
     ensures { option_map (λ pieces. (pieces.0.now, pieces.1.now)) result ≡ cut separator text.now }
 {
@@ -31,7 +31,7 @@ fn first_of(text: &[u8], separator: u8) -> Option<usize>
     text.iter().position(|byte| *byte == separator)
 }
 
-/// What stands behind a path's last `/`; all of it where there is none (RFC 3986, section 3.3: segment).
+/// What stands after a path's last `/`; all of it where there is none (RFC 3986, section 3.3: segment).
 pub(crate) fn last_segment(path: &[u8]) -> &[u8]
     ensures { result.now ≡ after_last is_slash path.now }
 {

@@ -4,7 +4,7 @@ ghost use Rattle.std.specs.Prelude.{◌≡◌, ◌↔◌, ◌⊎◌, Some, None,
 ghost use Rattle.std.specs.Option.{option_copied};
 ghost use Rattle.url.specs.Parser.{IsOutOfRoom};
 ghost use Rattle.url.specs.Parts.{IsValid};
-ghost use Rattle.nb_uri.specs.Resolutions.{GivesOrNoMemory, GivesUrl, HasCleanPath, IsReadBack, IsReliable, NamesItself, StaysBelowRoot, joined_url, url_of, url_target, scheme_target, tftp_file, http_file, disk_target, whole_of, tftp_path, resolution};
+ghost use Rattle.nb_uri.specs.Resolutions.{GivesOrNoMemory, GivesUrl, HasCleanPath, IsReadBack, IsReliable, MayBeAsked, NamesItself, StaysBelowRoot, joined_url, url_of, url_target, scheme_target, tftp_file, http_file, disk_target, whole_of, tftp_path, resolution};
 ghost use Rattle.nb_uri.specs.ImageNames.{AsksForItsPath};
 ghost use Rattle.nb_uri.specs.Refusals.{ExactlyWhere, IsBadUri, IsOtherScheme, IsLongUri};
 ghost use Rattle.nb_uri.specs.IscsiNames.{iscsi_target};
@@ -39,6 +39,8 @@ pub fn resolve(alloc: Global, base: Option<&[u8]>, text: &[u8]) -> Result<UriTar
     ensures rooted { IfOk result StaysBelowRoot }
     // The path that a TFTP server is asked for is the one whose last segment names the image.
     ensures asked { IfOk result AsksForItsPath }
+    // An HTTP server's host and path are visible bytes, so that a request for them is a single one.
+    ensures sendable { IfOk result MayBeAsked }
 {
     resolve_bytes(alloc, base, text)
 }

@@ -36,7 +36,7 @@ two (a ∷ b ∷ c ∷ xs) h = absurd (omega arith)
 pub length_join : (a b : List ℕ) (m n : ℕ) → length a ≡ m → length b ≡ n → length (a ++ b) ≡ m + n
 length_join a b m n p q = omega (arith, length-append a b)
 
--- bytes are a front of n bytes, and what is behind it
+-- bytes are a prefix of n bytes, and what is after it
 pub record Splits (n : ℕ) (bytes front rest : List ℕ) : Type 0 where
   pub parts : bytes ≡ front ++ rest
   pub len : length front ≡ n

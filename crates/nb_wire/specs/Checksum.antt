@@ -1,7 +1,7 @@
 -- RFC 1071, section 1: the internet checksum
 use Rattle.std.specs.Prelude.{◌≡◌, ℕ, zero, suc, ◌+◌, ◌*◌, ◌-◌, ◌/◌, ◌%◌, ◌<◌, List, [], ◌∷◌, fold, length, slice_index, sum}
 
--- the 16-bit words of the bytes, the last one with a zero byte behind it where their number is odd
+-- the 16-bit words of the bytes, the last one with a zero byte after it where their number is odd
 abbrev pub words : List ℕ → List ℕ
 words [] = []
 words (high ∷ []) = 256 * high ∷ []

@@ -17,6 +17,3 @@ pub use sum::{is_intact_after, sum_of_address, sum16, sum16_after, sum16_of, sum
 pub use text::Text;
 pub use view::View;
 pub use word::{MAX_WORD, Word, Words};
-
-#[cfg(test)]
-mod tests;

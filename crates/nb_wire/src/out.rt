@@ -34,7 +34,7 @@ impl<'b> Out<'b> {
         Out { buffer, len: 0 }
     }
 
-    /// Puts the bytes behind those that stand there.
+    /// Puts the bytes after those that stand there.
     #[inline(always)]
     pub fn put(&mut self, bytes: &[u8]) -> Result<(), Full>
         ensures full { IsErr result ↔ (self.old.left < length bytes.now) }
@@ -49,7 +49,7 @@ impl<'b> Out<'b> {
         Ok(())
     }
 
-    /// Puts the bytes behind those that stand there, where their room is known.
+    /// Puts the bytes after those that stand there, where their room is known.
     #[inline(always)]
     pub fn push(&mut self, bytes: &[u8])
         requires { length bytes.now ≤ self.old.left }

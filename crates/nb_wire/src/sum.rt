@@ -4,7 +4,7 @@ ghost use Rattle.nb_wire.specs.Checksum.{words, checksum, SameSum, HasSum, sum_w
 
 use crate::Ip4;
 
-/// The internet checksum of `first` and then `second`, with a zero byte behind them where their
+/// The internet checksum of `first` and then `second`, with a zero byte after them where their
 /// number is odd (RFC 1071).
 pub fn sum16(first: &[u8], second: &[u8]) -> u16
     requires even { length first.now % 2 ≡ 0 }

@@ -37,7 +37,7 @@ fn whole(bytes: &[u8]) -> Option<usize>
     (len <= bytes.len()).then_some(len)
 }
 
-/// What is left behind the whole records at the start, and how many those are.
+/// What is left after the whole records at the start, and how many those are.
 fn behind_whole(bytes: &[u8]) -> (&[u8], u64) {
     let mut rest = bytes;
     let mut records: u64 = 0;
@@ -71,7 +71,7 @@ impl Trail {
         self.place.at = self.place.at.saturating_add(used as u64);
         self.bytes.copy_within(used.., 0);
         self.bytes.truncate(self.bytes.len().saturating_sub(used));
-        // The room suffices for the front of a record and a piece.
+        // The room suffices for the start of a record and a piece.
         let _ = self.bytes.extend_from_slice(piece);
     }
 
@@ -96,7 +96,7 @@ impl Trail {
     }
 }
 
-/// The most that a trail holds: the front of a record of 131,076 bytes, and a piece of 65,536.
+/// The most that a trail holds: the start of a record of 131,076 bytes, and a piece of 65,536.
 const ROOM: usize = 196_612;
 
 #[cfg(test)]
@@ -107,7 +107,7 @@ mod tests {
 
     const TICK: &[u8] = &[0, 0, 0, 3, 3, 0, 5];
 
-    // The place of a record that is refused, read in pieces: behind whole ones, cut off, and misplaced.
+    // The place of a record that is refused, read in pieces: after whole ones, cut off, and misplaced.
     #[test]
     fn places(rt: HostRuntime) -> Result<(), Fail> {
         let mut trail = Trail::new(rt.alloc()).ok_or(NoMemory)?;

@@ -1,12 +1,18 @@
-use Rattle.std.proofs.Common.{◌≡◌, [], Option, Some}
-use Rattle.nb_terms.specs.declared.cause.Cause.{Cause}
+use Rattle.std.proofs.Common.{◌≡◌, refl}
+use Rattle.nb_defs.specs.Records.{out_texts}
+use Rattle.nb_opens.specs.Graphs.{traced}
 use Rattle.nb_opens.specs.Notices.{shut_notices}
-use Rattle.nb_engine.specs.Notes.{WasTold}
-use Rattle.nb_engine.proofs.BeginLemmas.{given_more, on_ok}
+use Rattle.nb_opens.specs.PairEvents.{shut_events}
+use Rattle.nb_engine.specs.Spelling.{IsWhole}
+use Rattle.nb_engine.proofs.BeginLemmas.{on_ok}
+use Rattle.nb_engine.proofs.Tellers.{told_is}
 use Rattle.nb_engine.proofs.objects.shut.Goals as goal
 
 pub returns-clause-told : goal.returns-clause-told
 returns-clause-told c =
-    let out = c.shut_down.new.out in
-    let shut = shut_notices c.args.objects.fetch.0 c.args.objects.tftp.0 c.args.cause.now in
-    on_ok c.whole.result ((x : Option Cause) × WasTold out x) (out ≡ Some shut) (λ was. given_more c.clear.new.self out shut [] was.1.0 c.shut_down.ensures.told c.clear.ensures was.1.1) c.whole.ensures
+    let d = c.args.objects in
+    let before = c.args.out.now in
+    let after = c.shut_down.new.out in
+    let cause = c.args.cause.now in
+    on_ok c.check.result (IsWhole after.told.value) (after.told.value.text ≡ out_texts (traced (shut_events d.fetch.0 d.tftp.0 cause)))
+    (λ whole. (told_is before.net.now before.who.now before after after.told.value (shut_notices d.fetch.0 d.tftp.0 cause) refl refl c.requires.blank c.shut_down.ensures.told refl whole).1) c.check.ensures

@@ -4,8 +4,8 @@ use Rattle.nb_engine.specs.Tellings.{told_records}
 use Rattle.nb_engine.proofs.Puts.{Puts-outs}
 use Rattle.nb_engine.proofs.replying.put_ended.Goals as goal
 
-pub returns-clause-puts : goal.returns-clause-puts
-returns-clause-puts c = λ ns is.
-    let told = told_records c.args.net.now c.args.who.now ns in
-    let over : List Out = ended c.args.who.now.number c.args.cause ∷ [] in
-    Puts-outs (step c.args.rec ∷ []) (told ++ over) c.put_step.ensures (Puts-outs told over (c.put_told.ensures ns is) c.put_over.ensures)
+pub returns : goal.returns
+returns c = λ net who ns is.
+    let told = told_records net who ns in
+    let over : List Out = ended c.args.number c.args.cause ∷ [] in
+    Puts-outs (step c.args.rec ∷ []) (told ++ over) c.put_step.ensures (Puts-outs told over (c.put_told.ensures.told net who ns is) c.put_over.ensures)

@@ -7,4 +7,4 @@ use Rattle.nb_engine.proofs.settling.found_host.Goals as goal
 pub returns-in-Host : goal.returns-in-Host
 returns-in-Host c =
     let fine : is_ok_cause c.args.cause ≡ true = grind (arith, nat_tests, c.if-cause-ne0.false) in
-    record { value = λ ns is. finds_server c.args.query.now c.args.cause c.delivered_address.result _ c.in-Host.is fine (c.delivered_address.ensures ns is) }
+    finds_server c.args.query.now c.args.cause c.address.result _ c.in-Host.is fine c.address.ensures

@@ -2,5 +2,4 @@ use Rattle.std.proofs.Common.{sym, ◌∙◌}
 use Rattle.nb_engine.proofs.settling.settle.Goals as goal
 
 pub settle_lease-requires : goal.settle_lease-requires
-settle_lease-requires c = λ bytes is.
-    c.requires.message c.requires.whole.0 c.requires.whole.1 bytes (sym (c.delivered_bytes.ensures c.requires.whole.0 c.requires.whole.1) ∙ is)
+settle_lease-requires c = λ bytes is. c.requires bytes (sym c.bytes.ensures ∙ is)

@@ -1,6 +1,4 @@
-use Rattle.std.proofs.Common.{◌≡◌, subst, sym, ap, ◌∙◌}
-use Rattle.nb_graph.specs.declared.effects.Few.{Few}
-use Rattle.nb_graph.specs.declared.effects.Emit.{Emit}
+use Rattle.std.proofs.Common.{subst, sym, ap, ◌∙◌}
 use Rattle.nb_graph.specs.declared.effects.Fx.{Fx}
 use Rattle.nb_graph.specs.Trace.{silence}
 use Rattle.nb_nodes.specs.declared.load.Load.{Load}

@@ -1,7 +1,7 @@
 use Rattle.std.proofs.Common.{◌≡◌, List, ◌∷◌, refl, ap, ◌∙◌}
 use Rattle.nb_settings.proofs.listed.lines.Goals as goal
 
--- one line, and those behind it
+-- one line, and those after it
 both : {A : Type 0} {x y : A} {xs ys : List A} → x ≡ y → xs ≡ ys → x ∷ xs ≡ y ∷ ys
 both {x = x} {ys = ys} e f = ap (λ l. x ∷ l) f ∙ ap (λ z. z ∷ ys) e
 

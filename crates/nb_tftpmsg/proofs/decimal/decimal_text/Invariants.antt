@@ -2,7 +2,7 @@ use Rattle.std.proofs.Common.{◌≡◌, ◌++◌}
 use Rattle.nb_tftpmsg.specs.Texts.{decimal_text}
 use Rattle.nb_tftpmsg.proofs.decimal.decimal_text.Given as goal
 
--- The digits of the rest stand in front of those that were put.
+-- The digits of the rest stand before those that were put.
 abbrev pub invariant-loop-rest : goal.invariant-loop-rest
 invariant-loop-rest l = decimal_text l.number ≡ decimal_text l.rest ++ l.digits.items
 

@@ -23,3 +23,6 @@ returns-clause-rooted c = IfOk-weaker c.resolve_bytes.result _ _ (λ target know
 
 pub returns-clause-asked : goal.returns-clause-asked
 returns-clause-asked c = IfOk-weaker c.resolve_bytes.result _ _ (λ target known. known.2) c.resolve_bytes.ensures.reliable
+
+pub returns-clause-sendable : goal.returns-clause-sendable
+returns-clause-sendable c = IfOk-weaker c.resolve_bytes.result _ _ (λ target known. known.3) c.resolve_bytes.ensures.reliable

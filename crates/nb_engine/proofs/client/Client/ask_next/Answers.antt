@@ -4,6 +4,7 @@ use Rattle.nb_record.specs.Logged.{Puts}
 use Rattle.nb_nodes.specs.Conversations.{first_acts}
 use Rattle.nb_tftp.specs.Asks.{begun}
 use Rattle.nb_opens.specs.Notices.{completed_notices, begun_notices}
+use Rattle.nb_engine.specs.Advance.{PutsOpen}
 use Rattle.nb_engine.specs.CommandWords.{wanted_of}
 use Rattle.nb_engine.specs.declared.fetch.Fetch.{Fetch}
 use Rattle.nb_engine.specs.Fetches.{speaker_of}
@@ -20,5 +21,5 @@ returns-clause-puts c =
     let told = begun_notices f.objects.fetch.0 f.objects.tftp.0 c.args.self.now.used (first_acts (begun f.server wanted.target.port f.own_port wanted.target.path)) in
     subst (λ ns. Puts c.args.log.now c.put_open.new.log (out_texts (told_records w.net (speaker_of f) made ++ ((opened_record w wanted ∷ []) ++ told_records w.net (speaker_of f) ns))))
     (sym (append-nil told))
-    (subst (λ (x : Fetch). Puts c.args.log.now c.put_open.new.log (out_texts (told_records w.net (speaker_of x) made ++ ((opened_record w wanted ∷ []) ++ told_records w.net (speaker_of x) told)))) c.get-open.ensures
-    (c.put_open.ensures made told c.requires.begins.made_so c.requires.begins.told_so))
+    (subst (λ (x : Fetch). PutsOpen w wanted x c.args.desk.made.value c.args.desk.told.value c.args.log.now c.put_open.new.log) c.get-open.ensures c.put_open.ensures
+    made told c.requires.begins.made_so c.requires.begins.told_so)

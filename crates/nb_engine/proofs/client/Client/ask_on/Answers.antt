@@ -1,16 +1,16 @@
-use Rattle.std.proofs.Common.{[], ◌∷◌, subst}
+use Rattle.std.proofs.Common.{[], ◌∷◌, sym, ap, subst}
 use Rattle.nb_defs.specs.Records.{step, out_texts}
 use Rattle.nb_record.specs.Logged.{Puts}
-use Rattle.nb_engine.specs.declared.inquiry.Inquiry.{Inquiry}
 use Rattle.nb_engine.specs.Seen.{Seen}
+use Rattle.nb_engine.specs.Spelling.{IsSpelled, Spelling}
 use Rattle.nb_engine.specs.Tellings.{told_records}
 use Rattle.nb_engine.proofs.Puts.{Puts-outs}
 use Rattle.nb_engine.proofs.client.Client.ask_on.Goals as goal
 
 pub returns-clause-puts : goal.returns-clause-puts
 returns-clause-puts c = λ ns is.
-    let w = c.self.inside.world in
-    let rest : Puts c.put_step.new.log c.put_told.new.log (out_texts (told_records w.net c.args.inquiry.speaker ns)) =
-    subst (λ (i : Inquiry). Puts c.put_step.new.log c.put_told.new.log (out_texts (told_records w.net i.speaker ns))) c.get.ensures (c.put_told.ensures ns is) in
-    subst (λ (x : Seen). Puts c.args.log.now c.put_told.new.log (out_texts (step x.used ∷ told_records x.world.net c.args.inquiry.speaker ns))) c.self.view_is
-    (Puts-outs (step c.self.inside.used ∷ []) (told_records w.net c.args.inquiry.speaker ns) c.put_step.ensures rest)
+    let w = c.args.self.now.world in
+    let who = c.args.inquiry.speaker in
+    let told = told_records w.net who ns in
+    subst (λ n. Puts c.args.log.now c.put_told.new.log (out_texts (step n ∷ told))) (ap (λ (x : Seen). x.used) c.self.view_is)
+    (Puts-outs (step c.self.inside.used ∷ []) told c.put_step.ensures (c.put_told.ensures.told w.net who ns (subst (λ (s : Spelling). IsSpelled w.net who s ns) (sym c.deref.ensures) is)))

@@ -1,9 +1,7 @@
-use Rattle.std.proofs.Common.{Some, ◌∙◌, ap}
-use Rattle.nb_engine.specs.declared.desk.Desk.{Desk}
+use Rattle.std.proofs.Common.{◌∙◌, ap, subst}
+use Rattle.nb_record.specs.Logged.{Puts}
+use Rattle.nb_engine.specs.Spelling.{Spelling}
 use Rattle.nb_engine.proofs.client.Client.close_prepared.Goals as goal
 
-pub put_freed-requires : goal.put_freed-requires
-put_freed-requires c = record { freed = (Some c.args.waiter, ap (λ (d : Desk). d.freed) c.deref_mut-2.ensures.value ∙ c.in_ok-free_waiter.ensures.told) }
-
 pub returns-clause-puts : goal.returns-clause-puts
-returns-clause-puts c = c.put_freed.ensures (Some c.args.waiter) (ap (λ (d : Desk). d.freed) c.deref_mut-2.ensures.value ∙ c.in_ok-free_waiter.ensures.told)
+returns-clause-puts c = subst (Puts c.args.log.now c.put_told.new.log) (ap (λ (s : Spelling). s.text) c.deref.ensures ∙ c.in_ok-freed.ensures.text) c.put_told.ensures.text

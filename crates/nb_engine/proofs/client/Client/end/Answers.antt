@@ -15,15 +15,12 @@ use Rattle.nb_engine.specs.Machine.{at, phase_after}
 use Rattle.nb_engine.specs.declared.speaker.Speaker.{Speaker}
 use Rattle.nb_engine.specs.Tellings.{told_records}
 use Rattle.nb_engine.specs.World.{unbound, state_of}
-use Rattle.nb_engine.specs.Spelling.{IsSpelled}
+use Rattle.nb_engine.specs.Spelling.{Spelling, IsSpelled, TellsMore}
 use Rattle.nb_engine.specs.Seen.{Seen, seen, standing, StandsFor, FitsGraph}
 use Rattle.nb_engine.proofs.Puts.{Puts-outs}
-use Rattle.nb_engine.proofs.TellingLemmas.{told-append}
+use Rattle.nb_engine.proofs.Tellers.{tells_by}
 use Rattle.nb_engine.proofs.Heedings.{ends_of, IfFails, fails_keeps, same_phase}
 use Rattle.nb_engine.proofs.client.Client.end.Goals as goal
-
-pub put_told-requires : goal.put_told-requires
-put_told-requires c = record { whole = (_, c.in-Ok.ensures.told) }
 
 pub returns-in-Ok-conclude : goal.returns-in-Ok-conclude
 returns-in-Ok-conclude c = λ ns is.
@@ -42,16 +39,14 @@ returns-in-Ok-conclude c = λ ns is.
     let tail : Puts c.put_over.new.log new.log (out_texts (conclusion_records comes)) = rw same concludes.puts in
     let freed = freed_notices g.objects.fetch.0 g.objects.tftp.0 in
     let all = ns ++ freed in
-    let here : IsSpelled w.net (speaker_of c.args.fetch) c.args.told.now ns =
-    subst (λ (x : Seen). IsSpelled x.world.net (speaker_of c.args.fetch) c.args.told.now ns) (sym c.self.view_is) is in
-    let before : Puts c.put_step.new.log c.append.new.self (out_texts (told_records w.net (speaker_of g) ns)) =
-    subst (λ (x : Fetch). Puts c.put_step.new.log c.append.new.self (out_texts (told_records w.net (speaker_of x) ns))) (sym c.get-open.ensures)
-    (subst (Puts c.put_step.new.log c.append.new.self) (c.text.ensures ∙ here.1) c.append.ensures) in
-    let behind : Puts c.append.new.self c.put_told.new.log (out_texts (told_records w.net (speaker_of g) freed)) =
-    subst (λ (who : Speaker). Puts c.append.new.self c.put_told.new.log (out_texts (told_records w.net who freed))) c.speaker-who.ensures (c.put_told.ensures freed c.in-Ok.ensures.told) in
+    let before = c.args.desk.told.value in
+    let after = c.end.new.out.told.value in
+    let here : IsSpelled w.net (speaker_of g) before ns =
+    subst (λ (x : Fetch). IsSpelled w.net (speaker_of x) before ns) (sym c.get-open.ensures) (subst (λ (x : Seen). IsSpelled x.world.net (speaker_of c.args.fetch) before ns) (sym c.self.view_is) is) in
+    let heard : TellsMore w.net c.speaker-who.result before after freed = tells_by w.net c.speaker-who.result c.after-out.result before after freed c.after-out.ensures.net c.after-out.ensures.who c.after-out.ensures.told c.in-Ok.ensures.told in
+    let spelled : IsSpelled w.net (speaker_of g) after all = subst (λ (who : Speaker). TellsMore w.net who before after freed) c.speaker-who.ensures heard ns here in
     let told : Puts c.put_step.new.log c.put_told.new.log (out_texts (told_records w.net (speaker_of g) all)) =
-    subst (λ x. Puts c.put_step.new.log c.put_told.new.log (out_texts x)) (sym (told-append w.net (speaker_of g) ns freed))
-    (Puts-outs (told_records w.net (speaker_of g) ns) (told_records w.net (speaker_of g) freed) before behind) in
+    c.put_told.ensures.told w.net (speaker_of g) all (subst (λ (s : Spelling). IsSpelled w.net (speaker_of g) s all) (sym c.deref.ensures) spelled) in
     let last : List Out = ended g.number cause ∷ [] in
     let over : Puts c.put_told.new.log new.log (out_texts (last ++ conclusion_records comes)) = Puts-outs last (conclusion_records comes) c.put_over.ensures tail in
     let both : Puts c.put_step.new.log new.log (out_texts (told_records w.net (speaker_of g) all ++ (last ++ conclusion_records comes))) =

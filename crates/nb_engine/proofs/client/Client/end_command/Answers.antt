@@ -10,18 +10,17 @@ use Rattle.nb_engine.specs.declared.inquiry.Inquiry.{Inquiry}
 use Rattle.nb_engine.specs.declared.stage.Stage.TheVariants as stage
 use Rattle.nb_engine.specs.declared.world.World.{World}
 use Rattle.nb_engine.specs.Inquiries.{query_of, beside_freed_events}
+use Rattle.nb_engine.specs.Deliveries.{delivered_bytes}
 use Rattle.nb_engine.specs.Link.{link_by}
 use Rattle.nb_engine.specs.Lones.{Settled, world_settled}
-use Rattle.nb_engine.specs.Replying.{EndsCommand, HasEndedCommand, closing_told, last_told, settled_so, silent}
+use Rattle.nb_engine.specs.Replying.{EndsCommand, HasEndedCommand, closing_told, last_told, settled_so, settled_with, silent}
 use Rattle.nb_engine.specs.Running.{with_result}
 use Rattle.nb_engine.specs.Seen.{Seen, seen}
+use Rattle.nb_engine.specs.Spelling.{Spelling, IsSpelled}
 use Rattle.nb_engine.specs.World.{state_of}
 use Rattle.nb_engine.proofs.Puts.{Puts-outs}
 use Rattle.nb_engine.proofs.Standing.{has_none}
 use Rattle.nb_engine.proofs.client.Client.end_command.Goals as goal
-
-pub put_freed-requires : goal.put_freed-requires
-put_freed-requires c = record { freed = (_, c.put_ended.ensures.freed ∙ c.in-Ok.ensures.told) }
 
 pub free_waiter-requires : goal.free_waiter-requires
 free_waiter-requires c =
@@ -51,12 +50,17 @@ returns c = λ ns is.
     let new = c.resume.new in
     let here : Settled = record { cause = c.in-Ok-settle.result; table = c.settle.new.table } in
     let there = settled_so cause (query_of i.query) ns w.state.table in
-    let there_is : here ≡ there = sym (c.in-Ok-settle.ensures.settles ns is) in
+    let told = c.args.desk.told.value in
+    let spelled : IsSpelled w.net i.speaker told ns =
+    subst (λ (y : Inquiry). IsSpelled w.net y.speaker told ns) (sym c.get-ended.ensures) (subst (λ (y : Seen). IsSpelled y.world.net c.args.inquiry.speaker told ns) (sym c.self.view_is) is) in
+    let at_told : settled_with cause (query_of i.query) told.bytes told.address w.state.table ≡ here =
+    subst (λ (y : Spelling). settled_with cause (query_of i.query) y.bytes y.address w.state.table ≡ here) c.deref.ensures c.in-Ok-settle.ensures.settles in
+    let there_is : here ≡ there = sym at_told ∙ ap (λ b. settled_with cause (query_of i.query) b told.address w.state.table) spelled.3 ∙ ap (λ a. settled_with cause (query_of i.query) (delivered_bytes ns) a w.state.table) spelled.4 in
     let before = seen n w c.self.inside.graph stage.Stopped in
     let freed = traced (beside_freed_events i.waiter) in
     let last : List Out = result here.cause ∷ [] in
-    let ended : Puts log c.put_ended.new.log (out_texts (last_told before ns i cause)) = c.put_ended.ensures.puts ns is in
-    let free : Puts c.put_ended.new.log c.put_freed.new.log (out_texts freed) = c.put_freed.ensures i.waiter (c.put_ended.ensures.freed ∙ c.in-Ok.ensures.told) in
+    let ended : Puts log c.put_ended.new.log (out_texts (last_told before ns i cause)) = c.put_ended.ensures w.net i.speaker ns (subst (λ (y : Spelling). IsSpelled w.net i.speaker y ns) (sym c.deref-2.ensures) spelled) in
+    let free : Puts c.put_ended.new.log c.put_told.new.log (out_texts freed) = subst (Puts c.put_ended.new.log c.put_told.new.log) (ap (λ (y : Spelling). y.text) c.deref-3.ensures ∙ c.in-Ok.ensures.text) c.put_told.ensures.text in
     let puts : Puts log new.log (out_texts (closing_told before ns i cause here.cause)) =
     Puts-outs (last_told before ns i cause) (freed ++ last) ended (Puts-outs freed last free c.resume.ensures.puts) in
     let net_is : c.unbind.new.self ≡ (silent w i.speaker).net =

@@ -12,14 +12,15 @@ use Rattle.nb_engine.specs.Deliveries.{delivered_address}
 use Rattle.nb_engine.specs.Errands.{onward}
 use Rattle.nb_engine.specs.Inquiries.{company_of, query_of}
 use Rattle.nb_engine.specs.Lones.{Settled, world_settled}
-use Rattle.nb_engine.specs.Objects.{TellsMore}
-use Rattle.nb_engine.specs.Replying.{EndsAs, EndsInquiry, FindsServer, HasEndedCommand, HasEndedInquiry, HasFoundHost, HasGoneOnward, end_told, onward_by, settled_so, silent}
+use Rattle.nb_engine.specs.Spelling.{Spelling, IsSpelled, TellsMore}
+use Rattle.nb_engine.specs.Replying.{EndsAs, EndsInquiry, FindsServer, IsMessage, HasEndedCommand, HasEndedInquiry, HasFoundHost, HasGoneOnward, end_told, onward_by, settled_so, silent}
 use Rattle.nb_engine.specs.Running.{with_result}
 use Rattle.nb_engine.specs.Seen.{Seen, seen, standing, FitsGraph, IsSound}
 use Rattle.nb_engine.proofs.Besides.{left_here, left_made}
 use Rattle.nb_engine.proofs.CallDeliveries.{freed_address}
 use Rattle.nb_engine.proofs.RanOut.{or_follows}
 use Rattle.nb_engine.proofs.Settlements.{freed_message, freed_settles}
+use Rattle.nb_engine.proofs.Tellers.{tells_by}
 use Rattle.nb_engine.proofs.client.Client.end_inquiry.Goals as goal
 
 pub end_talk-requires : goal.end_talk-requires
@@ -28,9 +29,6 @@ end_talk-requires c =
     let i = c.args.inquiry in
     let shut : IsShutLoneBy (company_of g i) g i.object.object.0 = subst (λ (y : Seen). IsShutLoneBy (company_of y.graph i) y.graph i.object.object.0) (sym c.self.view_is) c.requires.shut in
     record { shut = subst (λ (y : Inquiry). (k : Company) × IsShutLoneBy k g y.object.object.0) (sym c.get-ended.ensures) (company_of g i, shut) }
-
-pub found_host-requires : goal.found_host-requires
-found_host-requires c = record { whole = (_, c.in-Ok.ensures.told c.requires.told.0 c.requires.told.1) }
 
 pub go_onward-requires-clause-sound : goal.go_onward-requires-clause-sound
 go_onward-requires-clause-sound c =
@@ -50,9 +48,6 @@ go_onward-requires-clause-sound c =
     let was : g.book.made ≡ sound.0.book.made = ap (λ (y : Seen). y.graph.book.made) c.self.view_is ∙ sound.2 in
     (sound.0, subst (λ (y : Seen). IsSound y.used y.world sound.0 (stage.Asking s i)) (sym c.self.view_is) sound.1, same ∙ was)
 
-pub go_onward-requires-clause-told : goal.go_onward-requires-clause-told
-go_onward-requires-clause-told c = (_, c.in-Ok.ensures.told c.requires.told.0 c.requires.told.1)
-
 pub go_onward-requires-clause-left : goal.go_onward-requires-clause-left
 go_onward-requires-clause-left c =
     let n = c.self.inside.used in
@@ -70,18 +65,12 @@ go_onward-requires-clause-left c =
 
 pub go_onward-requires-clause-host : goal.go_onward-requires-clause-host
 go_onward-requires-clause-host c =
-    let ns = c.requires.told.0 in
-    let is = c.requires.told.1 in
     let cause = c.args.cause in
     let i = c.args.inquiry in
-    let x = i.object.object.0 in
-    let all = ns ++ alone_freed x in
-    let tells : TellsMore c.args.desk.now.told c.end_talk.new.told (alone_freed x) =
-    subst (λ (y : Inquiry). TellsMore c.args.desk.now.told c.end_talk.new.told (alone_freed y.object.object.0)) c.get-ended.ensures c.in-Ok.ensures.told in
-    let told_all : c.end_talk.new.told ≡ Some all = tells ns is in
-    let found : FindsServer c.found_host.result cause (query_of i.query) (delivered_address all) =
-    subst (λ (y : Inquiry). FindsServer c.found_host.result cause (query_of y.query) (delivered_address all)) c.get-ended.ensures (c.found_host.ensures.value all told_all) in
-    let there : FindsServer (Some c.in-Some.server) cause (query_of i.query) (delivered_address all) = subst (λ r. FindsServer r cause (query_of i.query) (delivered_address all)) c.in-Some.is found in
+    let address = c.deref.result.now.address in
+    let found : FindsServer c.found_host.result cause (query_of i.query) address =
+    subst (λ (y : Inquiry). FindsServer c.found_host.result cause (query_of y.query) address) c.get-ended.ensures c.found_host.ensures in
+    let there : FindsServer (Some c.in-Some.server) cause (query_of i.query) address = subst (λ r. FindsServer r cause (query_of i.query) address) c.in-Some.is found in
     (there.0, there.2)
 
 pub end_command-requires-clause-sound : goal.end_command-requires-clause-sound
@@ -102,14 +91,19 @@ end_command-requires-clause-sound c =
     let was : g.book.made ≡ sound.0.book.made = ap (λ (y : Seen). y.graph.book.made) c.self.view_is ∙ sound.2 in
     (sound.0, subst (λ (y : Seen). IsSound y.used y.world sound.0 (stage.Asking s i)) (sym c.self.view_is) sound.1, same ∙ was)
 
-pub end_command-requires-clause-told : goal.end_command-requires-clause-told
-end_command-requires-clause-told c =
+pub end_command-requires-clause-message : goal.end_command-requires-clause-message
+end_command-requires-clause-message c =
+    let w = c.self.inside.world in
     let ns = c.requires.told.0 in
     let i = c.args.inquiry in
     let x = i.object.object.0 in
-    let tells : TellsMore c.args.desk.now.told c.end_talk.new.told (alone_freed x) =
-    subst (λ (y : Inquiry). TellsMore c.args.desk.now.told c.end_talk.new.told (alone_freed y.object.object.0)) c.get-ended.ensures c.in-Ok.ensures.told in
-    (ns ++ alone_freed x, tells ns c.requires.told.1, freed_message x ns c.requires.told.2)
+    let before = c.args.desk.told.value in
+    let after = c.end_talk.new.out.told.value in
+    let tells : TellsMore w.net i.speaker before after (alone_freed x) =
+    subst (λ (y : Inquiry). TellsMore w.net y.speaker before after (alone_freed y.object.object.0)) c.get-ended.ensures
+    (tells_by w.net c.get-ended.result.now.speaker c.after-out.result before after (alone_freed c.get-ended.result.now.object.object.0) c.after-out.ensures.net c.after-out.ensures.who c.after-out.ensures.told c.in-Ok.ensures.told) in
+    let told_all : IsSpelled w.net i.speaker after (ns ++ alone_freed x) = tells ns (subst (λ (y : Seen). IsSpelled y.world.net i.speaker before ns) (sym c.self.view_is) c.requires.told.1) in
+    subst IsMessage (sym told_all.3) (freed_message x ns c.requires.told.2)
 
 pub end_command-requires-clause-left : goal.end_command-requires-clause-left
 end_command-requires-clause-left c =
@@ -140,11 +134,15 @@ returns-in-Some c = λ ns is.
     let leaves = subst (λ (y : Inquiry). (k : Company) → IsShutLoneBy k g y.object.object.0 → HoldsOnly k.beside h k.made) c.get-ended.ensures c.end_talk.ensures.left in
     let left : HoldsOnly i.waiter h g.book.made = leaves (company_of g i) shut in
     let all = ns ++ alone_freed x in
-    let tells : TellsMore c.args.desk.now.told c.end_talk.new.told (alone_freed x) =
-    subst (λ (y : Inquiry). TellsMore c.args.desk.now.told c.end_talk.new.told (alone_freed y.object.object.0)) c.get-ended.ensures c.in-Ok.ensures.told in
-    let told_all : c.end_talk.new.told ≡ Some all = tells ns is in
+    let ended = c.args.desk.told.value in
+    let told = c.end_talk.new.out.told.value in
+    let tells : TellsMore w.net i.speaker ended told (alone_freed x) =
+    subst (λ (y : Inquiry). TellsMore w.net y.speaker ended told (alone_freed y.object.object.0)) c.get-ended.ensures
+    (tells_by w.net c.get-ended.result.now.speaker c.after-out.result ended told (alone_freed c.get-ended.result.now.object.object.0) c.after-out.ensures.net c.after-out.ensures.who c.after-out.ensures.told c.in-Ok.ensures.told) in
+    let told_all : IsSpelled w.net i.speaker told all = tells ns (subst (λ (y : Seen). IsSpelled y.world.net i.speaker ended ns) (sym c.self.view_is) is) in
     let found : FindsServer c.found_host.result cause (query_of i.query) (delivered_address all) =
-    subst (λ (y : Inquiry). FindsServer c.found_host.result cause (query_of y.query) (delivered_address all)) c.get-ended.ensures (c.found_host.ensures.value all told_all) in
+    subst (λ a. FindsServer c.found_host.result cause (query_of i.query) a) (ap (λ (s : Spelling). s.address) c.deref.ensures ∙ told_all.4)
+    (subst (λ (y : Inquiry). FindsServer c.found_host.result cause (query_of y.query) c.deref.result.now.address) c.get-ended.ensures c.found_host.ensures) in
     let server = c.in-Some.server in
     let there : FindsServer (Some server) cause (query_of i.query) (delivered_address all) = subst (λ r. FindsServer r cause (query_of i.query) (delivered_address all)) c.in-Some.is found in
     let next = onward there.0 server.0 in
@@ -186,11 +184,15 @@ returns-in-None c = λ ns is.
     let leaves = subst (λ (y : Inquiry). (k : Company) → IsShutLoneBy k g y.object.object.0 → HoldsOnly k.beside h k.made) c.get-ended.ensures c.end_talk.ensures.left in
     let left : HoldsOnly i.waiter h g.book.made = leaves (company_of g i) shut in
     let all = ns ++ alone_freed x in
-    let tells : TellsMore c.args.desk.now.told c.end_talk.new.told (alone_freed x) =
-    subst (λ (y : Inquiry). TellsMore c.args.desk.now.told c.end_talk.new.told (alone_freed y.object.object.0)) c.get-ended.ensures c.in-Ok.ensures.told in
-    let told_all : c.end_talk.new.told ≡ Some all = tells ns is in
+    let ended = c.args.desk.told.value in
+    let told = c.end_talk.new.out.told.value in
+    let tells : TellsMore w.net i.speaker ended told (alone_freed x) =
+    subst (λ (y : Inquiry). TellsMore w.net y.speaker ended told (alone_freed y.object.object.0)) c.get-ended.ensures
+    (tells_by w.net c.get-ended.result.now.speaker c.after-out.result ended told (alone_freed c.get-ended.result.now.object.object.0) c.after-out.ensures.net c.after-out.ensures.who c.after-out.ensures.told c.in-Ok.ensures.told) in
+    let told_all : IsSpelled w.net i.speaker told all = tells ns (subst (λ (y : Seen). IsSpelled y.world.net i.speaker ended ns) (sym c.self.view_is) is) in
     let found : FindsServer c.found_host.result cause (query_of i.query) (delivered_address all) =
-    subst (λ (y : Inquiry). FindsServer c.found_host.result cause (query_of y.query) (delivered_address all)) c.get-ended.ensures (c.found_host.ensures.value all told_all) in
+    subst (λ a. FindsServer c.found_host.result cause (query_of i.query) a) (ap (λ (s : Spelling). s.address) c.deref.ensures ∙ told_all.4)
+    (subst (λ (y : Inquiry). FindsServer c.found_host.result cause (query_of y.query) c.deref.result.now.address) c.get-ended.ensures c.found_host.ensures) in
     let there : FindsServer None cause (query_of i.query) (delivered_address all) = subst (λ r. FindsServer r cause (query_of i.query) (delivered_address all)) c.in-None.is found in
     let next_is : onward_by cause (query_of i.query) (delivered_address ns) ≡ None = ap (λ a. onward_by cause (query_of i.query) a) (sym (freed_address x ns)) ∙ there in
     let t = c.end_command.result in

@@ -1,6 +1,5 @@
 use Rattle.std.proofs.Common.{[], sym, ◌∙◌, ap, subst}
 use Rattle.nb_engine.specs.declared.errand.Onward.{Onward as Next}
-use Rattle.nb_engine.specs.declared.errand.Onward.TheVariants as onward
 use Rattle.nb_engine.specs.declared.fetch.Fetch.{Fetch}
 use Rattle.nb_engine.specs.declared.stage.Stage.TheVariants as stage
 use Rattle.nb_opens.specs.declared.waiter.WaiterKind.TheVariants as kind
@@ -8,7 +7,7 @@ use Rattle.nb_opens.specs.Waiters.{waiter_serial}
 use Rattle.nb_engine.specs.CommandWords.{onward_of, FitsFile, FitsOnward}
 use Rattle.nb_engine.specs.Inquiries.{onward_waiter, IsWaiterOf}
 use Rattle.nb_engine.specs.Reaching.{IsWaitedFor}
-use Rattle.nb_engine.specs.Seen.{Seen, seen, standing}
+use Rattle.nb_engine.specs.Seen.{Seen, seen}
 use Rattle.nb_engine.specs.Turns.{AnswersTurn, IsNearer}
 use Rattle.nb_engine.proofs.Asking.{is_a_path}
 use Rattle.nb_engine.proofs.client.Client.fetch_next.Goals as goal
@@ -28,8 +27,8 @@ begin_next-requires-clause-path c =
 pub returns : goal.returns
 returns c = λ k waits is.
     let now = c.args.self.now in
-    let t = c.go_out_next-turn.result in
-    let new = c.go_out_next-turn.new in
+    let t = c.go_out_next.result in
+    let new = c.go_out_next.new in
     let s = c.args.script in
     let f = c.in-Ok-of.fetch in
     let objects = ap (λ (f : Fetch). f.objects) c.in-Ok-of.ensures in
@@ -37,6 +36,5 @@ returns c = λ k waits is.
     let follows = ap (λ d. d.tftp.0) objects ∙ c.in-Ok.ensures.tftp in
     let kept : IsWaiterOf kind.Fetch k.waiter =
     subst (IsWaiterOf kind.Fetch) (c.requires.sound.1 ∙ sym waits) (subst (λ (o : Next). IsWaiterOf (onward_waiter (onward_of o)) c.requires.sound.0.waiter) c.requires.sound.2 c.requires.sound.3.well.1) in
-    subst (λ (y : Seen). AnswersTurn t [] (standing now (stage.Reaching s k)) y c.args.log.now new.log × IsNearer t (standing now (stage.Reaching s k)) y) (sym c.self-3.view_is)
-    (subst (λ (x : Seen). AnswersTurn t [] (seen x.used x.world now.graph (stage.Reaching s k)) new.self c.args.log.now new.log × IsNearer t (seen x.used x.world now.graph (stage.Reaching s k)) new.self) c.begin_next.ensures.same
-    (c.go_out_next-turn.ensures k now.graph is first follows kept))
+    subst (λ (x : Seen). AnswersTurn t [] (seen x.used x.world now.graph (stage.Reaching s k)) new.self c.args.log.now new.log × IsNearer t (seen x.used x.world now.graph (stage.Reaching s k)) new.self) c.begin_next.ensures.same
+    (c.go_out_next.ensures k now.graph is first follows kept)

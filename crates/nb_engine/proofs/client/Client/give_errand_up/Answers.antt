@@ -1,21 +1,18 @@
-use Rattle.std.proofs.Common.{◌≡◌, Some, [], ◌∷◌, sym, ◌∙◌, ap, subst}
+use Rattle.std.proofs.Common.{◌≡◌, [], ◌∷◌, sym, ◌∙◌, ap, subst}
 use Rattle.nb_defs.specs.Records.{out_texts, result}
 use Rattle.nb_record.specs.Logged.{Puts}
 use Rattle.nb_opens.specs.declared.waiter.Waiter.{Waiter}
 use Rattle.nb_opens.specs.Graphs.{traced}
 use Rattle.nb_opens.specs.Waiters.{waiter_freed_events}
-use Rattle.nb_engine.specs.declared.desk.Desk.{Desk}
 use Rattle.nb_engine.specs.declared.stage.Stage.TheVariants as stage
 use Rattle.nb_engine.specs.Effects.{full_opens}
 use Rattle.nb_engine.specs.Reaching.{IsWaitedFor}
 use Rattle.nb_engine.specs.Running.{with_result}
 use Rattle.nb_engine.specs.Seen.{Seen, seen}
+use Rattle.nb_engine.specs.Spelling.{Spelling}
 use Rattle.nb_engine.specs.Turns.{Grows}
 use Rattle.nb_engine.proofs.Onwards.{gives_up_grows, result_nearer}
 use Rattle.nb_engine.proofs.client.Client.give_errand_up.Goals as goal
-
-pub put_freed-requires : goal.put_freed-requires
-put_freed-requires c = record { freed = (Some c.args.waiter, ap (λ (d : Desk). d.freed) c.deref_mut-2.ensures.value ∙ c.in-Ok-free_waiter.ensures.told) }
 
 pub free_waiter-requires : goal.free_waiter-requires
 free_waiter-requires c =
@@ -29,13 +26,13 @@ returns c = λ k waits.
     let s = c.args.script in
     let h = c.free_waiter.new.graph in
     let log = c.args.log.now in
-    let mid = c.put_freed.new.log in
+    let mid = c.put_told.new.log in
     let new = c.put_result.new.log in
     let before = seen now.used now.world now.graph (stage.Reaching s k) in
     let after = seen now.used now.world h (stage.Running (with_result s full_opens)) in
     let made = c.free_waiter.ensures.empty.made_are ∙ ap (λ (y : Seen). y.graph.book.made) c.self.view_is in
     let freed : Puts log mid (out_texts (traced (waiter_freed_events k.waiter))) =
-    subst (λ (v : Waiter). Puts log mid (out_texts (traced (waiter_freed_events v)))) (sym waits) (c.put_freed.ensures (Some c.args.waiter) (ap (λ (d : Desk). d.freed) c.deref_mut-2.ensures.value ∙ c.in-Ok-free_waiter.ensures.told)) in
+    subst (λ (v : Waiter). Puts log mid (out_texts (traced (waiter_freed_events v)))) (sym waits) (subst (Puts log mid) (ap (λ (y : Spelling). y.text) c.deref.ensures ∙ c.in-Ok-free_waiter.ensures.text) c.put_told.ensures.text) in
     let over : Puts mid new (out_texts (result full_opens ∷ [])) = subst (λ y. Puts mid new (out_texts (result y ∷ []))) c.full_opens.ensures c.put_result.ensures in
     let grows : Grows [] before after log new = gives_up_grows now.used now.world now.graph h s k c.requires.full made freed over in
     let same : c.run_on.new.self ≡ after =

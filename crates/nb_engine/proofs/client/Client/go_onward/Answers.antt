@@ -10,8 +10,9 @@ use Rattle.nb_engine.specs.declared.stage.Stage.TheVariants as stage
 use Rattle.nb_engine.specs.CommandWords.{onward_of, FitsOnward}
 use Rattle.nb_engine.specs.Errands.{Errand, onward}
 use Rattle.nb_engine.specs.Inquiries.{query_of, onward_waiter, FitsQuery, IsBackedBy, IsWaiterOf}
-use Rattle.nb_engine.specs.Replying.{HasGoneOnward, IsFor, last_told, silent}
+use Rattle.nb_engine.specs.Replying.{HasGoneOnward, IsFor, silent}
 use Rattle.nb_engine.specs.Seen.{Seen, seen, IsSound}
+use Rattle.nb_engine.specs.Spelling.{Spelling, IsSpelled}
 use Rattle.nb_engine.specs.World.{with_net}
 use Rattle.nb_stack.specs.Bound.{without}
 use Rattle.nb_engine.proofs.Besides.{reaching_sound}
@@ -65,8 +66,9 @@ returns c = λ e ns is told.
       kept = k;
       next_is = ap (λ (y : Prepared). onward_of y.onward) kept ∙ c.prepare-next.ensures.onward e is_for;
       waiter_is = ap (λ (y : Inquiry). y.waiter) (sym c.into_inner.ensures) ∙ c.prepare-next.ensures.waiter ∙ ap (λ (y : Prepared). Some y.waiter) (sym kept);
-      puts = subst (λ (y : Seen). Puts log new (out_texts (last_told y ns i cause))) c.self.view_is
-          (subst (λ (who : Speaker). Puts log new (out_texts (step c.self.inside.used ∷ (told_records c.self.inside.world.net who ns ++ (ended who.number cause ∷ []))))) who_is (c.put_ended.ensures.puts ns told));
+      puts = subst (λ n. Puts log new (out_texts (step n ∷ (told_records now.world.net i.speaker ns ++ (ended i.speaker.number cause ∷ []))))) (ap (λ (y : Seen). y.used) c.self.view_is)
+          (subst (λ (who : Speaker). Puts log new (out_texts (step c.self.inside.used ∷ (told_records now.world.net i.speaker ns ++ (ended who.number cause ∷ []))))) who_is
+          (c.put_ended.ensures now.world.net i.speaker ns (subst (λ (y : Spelling). IsSpelled now.world.net i.speaker y ns) (sym c.deref.ensures) told)));
       after_is = refl;
     } in
     let w = c.self.inside.world in

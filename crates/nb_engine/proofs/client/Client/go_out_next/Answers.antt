@@ -3,7 +3,6 @@ use Rattle.nb_tftp.proofs.PlainLaws.{request_fits}
 use Rattle.nb_tftp.specs.Asks.{begun}
 use Rattle.nb_opens.specs.Pairs.{Downloads}
 use Rattle.nb_command.specs.SettingAddresses.{host}
-use Rattle.nb_engine.specs.declared.errand.Onward.TheVariants as onward
 use Rattle.nb_engine.specs.declared.fetch.Fetch.{Fetch}
 use Rattle.nb_engine.specs.declared.speaker.Speaker.{Speaker}
 use Rattle.nb_engine.specs.declared.stage.Stage.TheVariants as stage

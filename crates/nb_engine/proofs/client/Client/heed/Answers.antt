@@ -10,19 +10,19 @@ use Rattle.nb_engine.proofs.client.Client.heed.Goals as goal
 pub go_on-requires : goal.go_on-requires
 go_on-requires c =
     let now = c.args.self.now in
-    let told : HasSpelled c.args.told.now None = subst (HasSpelled c.args.told.now) c.in-None.is c.requires.told in
-    record { sound = goes_sound now.used now.world c.requires.sound.0 now.graph c.args.script c.args.fetch now.world.net (speaker_of c.args.fetch) c.args.told.now c.requires.sound.1 told c.requires.called }
+    let told : HasSpelled c.args.desk.told.value None = subst (HasSpelled c.args.desk.told.value) c.in-None.is c.requires.told in
+    record { sound = goes_sound now.used now.world c.requires.sound.0 now.graph c.args.script c.args.fetch now.world.net (speaker_of c.args.fetch) c.args.desk.told.value c.requires.sound.1 told c.requires.called }
 
 pub end-requires-clause-ended : goal.end-requires-clause-ended
 end-requires-clause-ended c =
     let now = c.args.self.now in
-    let told : HasSpelled c.args.told.now (Some c.in-Some.cause) = subst (HasSpelled c.args.told.now) c.in-Some.is c.requires.told in
-    called_ended now.graph c.args.fetch.objects now.world.net (speaker_of c.args.fetch) c.args.told.now c.in-Some.cause told c.requires.called
+    let told : HasSpelled c.args.desk.told.value (Some c.in-Some.cause) = subst (HasSpelled c.args.desk.told.value) c.in-Some.is c.requires.told in
+    called_ended now.graph c.args.fetch.objects now.world.net (speaker_of c.args.fetch) c.args.desk.told.value c.in-Some.cause told c.requires.called
 
 pub returns-in-None : goal.returns-in-None
 returns-in-None c = λ p by rec ns is was.
     let now = c.args.self.now in
-    let told : HasSpelled c.args.told.now None = subst (HasSpelled c.args.told.now) c.in-None.is c.requires.told in
+    let told : HasSpelled c.args.desk.told.value None = subst (HasSpelled c.args.desk.told.value) c.in-None.is c.requires.told in
     rw (c.go_on.ensures.turn, c.go_on.ensures.after)
     (goes_heeds now.used now.world c.args.script now.graph c.args.fetch p by rec ns was (sym is.2 ∙ told.1) (c.go_on.ensures.puts ns is), tt)
 
@@ -30,7 +30,7 @@ pub returns-in-Some : goal.returns-in-Some
 returns-in-Some c = λ p by rec ns is was.
     let now = c.args.self.now in
     let cause = c.in-Some.cause in
-    let told : HasSpelled c.args.told.now (Some cause) = subst (HasSpelled c.args.told.now) c.in-Some.is c.requires.told in
+    let told : HasSpelled c.args.desk.told.value (Some cause) = subst (HasSpelled c.args.desk.told.value) c.in-Some.is c.requires.told in
     ends_heeds c.end.result c.args.log.now c.end.new.log c.args.script (HasHeard now.graph c.args.fetch p by rec ns) c.args.fetch ns cause
     (seen now.used now.world now.graph (stage.Waiting c.args.script c.args.fetch)) c.end.new.self
     (λ e. ends_follow c.end.result now.used now.world c.args.script now.graph c.args.fetch p by rec ns cause c.end.new.self was (sym is.2 ∙ told.1) told.2 e) (c.end.ensures ns is)

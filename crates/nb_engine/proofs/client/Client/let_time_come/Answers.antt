@@ -1,13 +1,19 @@
-use Rattle.std.proofs.Common.{refl, sym, subst}
+use Rattle.std.proofs.Common.{refl, sym, ◌∙◌, ap, subst, List}
+use Rattle.nb_ledger.specs.Flat.{Notice, Given}
 use Rattle.nb_ledger.specs.declared.event.Way.TheVariants as way
 use Rattle.nb_graph.specs.Whole.{port_at}
 use Rattle.nb_opens.specs.Graphs.{by_time}
+use Rattle.nb_engine.specs.declared.inquiry.Inquiry.{Inquiry}
 use Rattle.nb_engine.specs.declared.stage.Stage.TheVariants as stage
-use Rattle.nb_engine.specs.Replying.{RepliesAs, HasBrought, ComesFor, WasBrought}
+use Rattle.nb_engine.specs.Inquiries.{IsInquiryOf, DoesToTalks}
+use Rattle.nb_engine.specs.Lones.{Lone}
+use Rattle.nb_engine.specs.Replying.{RepliesAs, HasBrought, ComesFor}
 use Rattle.nb_engine.specs.Seen.{Seen, standing, FitsAt, IsSound}
-use Rattle.nb_engine.specs.Talks.{time_in}
-use Rattle.nb_engine.proofs.Bringings.{DoesToEach, time_to_each, made_stays, brought_to, was_brought}
+use Rattle.nb_engine.specs.Spelling.{Spelling, HasSpelled}
+use Rattle.nb_engine.specs.Talks.{Talk, time_in}
+use Rattle.nb_engine.proofs.Bringings.{SpellsBrought, spells_brought, brought_to}
 use Rattle.nb_engine.proofs.ReplyGrowth.{replies_less}
+use Rattle.nb_engine.proofs.Tellers.{heard}
 use Rattle.nb_engine.proofs.client.Client.let_time_come.Goals as goal
 
 pub come_of-requires-clause-sound : goal.come_of-requires-clause-sound
@@ -15,50 +21,68 @@ come_of-requires-clause-sound c =
     let now = c.self.inside in
     let i = c.args.inquiry in
     let p = port_at i.object.object.0 4 in
-    let new = c.pass_its_time.new in
-    let told = c.in-Ok.ensures in
-    let each : DoesToEach now.graph new.graph i p way.Time 0 (time_in now.world.time) new.told =
-    time_to_each now.graph new.graph i c.get.result.now now.world.time new.told told.0 c.get.ensures c.pass_its_time.ensures told.1 in
+    let e = time_in now.world.time in
+    let h = c.pass_its_time.new.graph in
+    let out = c.over-out.result in
+    let after = c.pass_its_time.new.out in
+    let told : HasSpelled after.told.value c.in-Ok.closed = subst (λ (x : Spelling). HasSpelled x c.in-Ok.closed) c.deref.ensures c.in-Ok.ensures in
+    let counts : Talk → Type 0 = λ t. Unit {0} in
+    let does : (ns : List Notice) × Given (heard out) (heard after) ns × DoesToTalks now.graph h i.object.object.0 counts p way.Time 0 e ns =
+    subst (λ (y : Inquiry). (ns : List Notice) × Given (heard out) (heard after) ns × DoesToTalks now.graph h y.object.object.0 counts (port_at y.object.object.0 4) way.Time 0 e ns) c.get-asked.ensures c.pass_its_time.ensures in
+    let fits : (o : Lone) → IsInquiryOf i o → counts o.talk = λ o is. tt in
     let sound : IsSound now.used now.world now.graph (stage.Asking c.args.script i) =
     subst (λ (x : Seen). IsSound x.used x.world x.graph (stage.Asking c.args.script i)) (sym c.self.view_is) c.requires.sound in
-    (now.graph, sound, made_stays now.graph new.graph i p way.Time 0 (time_in now.world.time) new.told _ each told sound.objects.0.0)
+    let k : SpellsBrought now.world.net i.speaker now.graph h i counts p way.Time 0 e after.told.value =
+    spells_brought now.world.net out.net.now after.net.now i.speaker out.who.now after.who.now now.graph h i counts p way.Time 0 e out.told.value after.told.value c.in-Ok.closed by_time refl
+    c.over-out.ensures.net (c.over-out.ensures.who ∙ ap (λ (y : Inquiry). y.speaker) c.get-asked.ensures) c.over-out.ensures.blank told does fits sound.objects.0.0 in
+    (now.graph, sound, k.made)
+
+pub come_of-requires-clause-told : goal.come_of-requires-clause-told
+come_of-requires-clause-told c = subst (λ (x : Spelling). HasSpelled x c.in-Ok.closed) c.deref.ensures c.in-Ok.ensures
 
 pub come_of-requires-clause-brought : goal.come_of-requires-clause-brought
 come_of-requires-clause-brought c =
     let now = c.self.inside in
     let i = c.args.inquiry in
     let p = port_at i.object.object.0 4 in
-    let new = c.pass_its_time.new in
-    let told = c.in-Ok.ensures in
-    let each : DoesToEach now.graph new.graph i p way.Time 0 (time_in now.world.time) new.told =
-    time_to_each now.graph new.graph i c.get.result.now now.world.time new.told told.0 c.get.ensures c.pass_its_time.ensures told.1 in
+    let e = time_in now.world.time in
+    let h = c.pass_its_time.new.graph in
+    let out = c.over-out.result in
+    let after = c.pass_its_time.new.out in
+    let told : HasSpelled after.told.value c.in-Ok.closed = subst (λ (x : Spelling). HasSpelled x c.in-Ok.closed) c.deref.ensures c.in-Ok.ensures in
+    let counts : Talk → Type 0 = λ t. Unit {0} in
+    let does : (ns : List Notice) × Given (heard out) (heard after) ns × DoesToTalks now.graph h i.object.object.0 counts p way.Time 0 e ns =
+    subst (λ (y : Inquiry). (ns : List Notice) × Given (heard out) (heard after) ns × DoesToTalks now.graph h y.object.object.0 counts (port_at y.object.object.0 4) way.Time 0 e ns) c.get-asked.ensures c.pass_its_time.ensures in
+    let fits : (o : Lone) → IsInquiryOf i o → counts o.talk = λ o is. tt in
     let sound : IsSound now.used now.world now.graph (stage.Asking c.args.script i) =
-    subst (λ (x : Seen). IsSound x.used x.world x.graph (stage.Asking c.args.script i)) (sym c.self.view_is) c.requires.sound in (
-      p,
-      way.Time,
-      0,
-      told.0,
-      told.1,
-      was_brought now.graph new.graph i p way.Time 0 (time_in now.world.time) new.told told.0 refl (made_stays now.graph new.graph i p way.Time 0 (time_in now.world.time) new.told _ each told sound.objects.0.0) by_time each told.1 sound.objects.0.0,
-    )
+    subst (λ (x : Seen). IsSound x.used x.world x.graph (stage.Asking c.args.script i)) (sym c.self.view_is) c.requires.sound in
+    let k : SpellsBrought now.world.net i.speaker now.graph h i counts p way.Time 0 e after.told.value =
+    spells_brought now.world.net out.net.now after.net.now i.speaker out.who.now after.who.now now.graph h i counts p way.Time 0 e out.told.value after.told.value c.in-Ok.closed by_time refl
+    c.over-out.ensures.net (c.over-out.ensures.who ∙ ap (λ (y : Inquiry). y.speaker) c.get-asked.ensures) c.over-out.ensures.blank told does fits sound.objects.0.0 in
+    (p, way.Time, 0, k.ns, k.spelled, k.was)
 
 pub returns-in-Ok : goal.returns-in-Ok
 returns-in-Ok c =
     let now = c.self.inside in
     let i = c.args.inquiry in
-    let s = c.args.script in
     let p = port_at i.object.object.0 4 in
     let e = time_in now.world.time in
     let h = c.pass_its_time.new.graph in
-    let out = c.pass_its_time.new.told in
-    let told = c.in-Ok.ensures in
-    let each : DoesToEach now.graph h i p way.Time 0 e out = time_to_each now.graph h i c.get.result.now now.world.time out told.0 c.get.ensures c.pass_its_time.ensures told.1 in
-    let sound : IsSound now.used now.world now.graph (stage.Asking s i) =
-    subst (λ (x : Seen). IsSound x.used x.world x.graph (stage.Asking s i)) (sym c.self.view_is) c.requires.sound in
-    let made = made_stays now.graph h i p way.Time 0 e out _ each told sound.objects.0.0 in
-    let was : WasBrought h i p way.Time 0 told.0 = was_brought now.graph h i p way.Time 0 e out told.0 refl made by_time each told.1 sound.objects.0.0 in
+    let out = c.over-out.result in
+    let after = c.pass_its_time.new.out in
+    let told : HasSpelled after.told.value c.in-Ok.closed = subst (λ (x : Spelling). HasSpelled x c.in-Ok.closed) c.deref.ensures c.in-Ok.ensures in
+    let counts : Talk → Type 0 = λ t. Unit {0} in
+    let does : (ns : List Notice) × Given (heard out) (heard after) ns × DoesToTalks now.graph h i.object.object.0 counts p way.Time 0 e ns =
+    subst (λ (y : Inquiry). (ns : List Notice) × Given (heard out) (heard after) ns × DoesToTalks now.graph h y.object.object.0 counts (port_at y.object.object.0 4) way.Time 0 e ns) c.get-asked.ensures c.pass_its_time.ensures in
+    let fits : (o : Lone) → IsInquiryOf i o → counts o.talk = λ o is. tt in
+    let sound : IsSound now.used now.world now.graph (stage.Asking c.args.script i) =
+    subst (λ (x : Seen). IsSound x.used x.world x.graph (stage.Asking c.args.script i)) (sym c.self.view_is) c.requires.sound in
+    let k : SpellsBrought now.world.net i.speaker now.graph h i counts p way.Time 0 e after.told.value =
+    spells_brought now.world.net out.net.now after.net.now i.speaker out.who.now after.who.now now.graph h i counts p way.Time 0 e out.told.value after.told.value c.in-Ok.closed by_time refl
+    c.over-out.ensures.net (c.over-out.ensures.who ∙ ap (λ (y : Inquiry). y.speaker) c.get-asked.ensures) c.over-out.ensures.blank told does fits sound.objects.0.0 in
+    let s = c.args.script in
     let t = c.come_of.result in
     let new = c.come_of.new in
     subst (λ (x : Seen). RepliesAs t s (ComesFor x.graph (time_in x.world.time) i) (standing x (stage.Asking s i)) new.self c.args.log.now new.log) c.self.view_is
-    (replies_less t c.args.log.now new.log s (HasBrought h i p way.Time 0 told.0) (ComesFor now.graph e i) now.used now.world h now.graph (stage.Asking s i) (stage.Asking s i) new.self (λ q fit. subst (λ m. FitsAt (stage.Asking s i) now.world.opens m q) (sym made) fit)
-    (λ o f q. subst (λ x. HasBrought h i p way.Time 0 told.0 o x) (sym q.1) (brought_to now.graph h i p way.Time 0 e out told.0 o refl made each told.1 q.0)) (c.come_of.ensures p way.Time 0 told.0 told.1 was))
+    (replies_less t c.args.log.now new.log s (HasBrought h i p way.Time 0 k.ns) (ComesFor now.graph e i) now.used now.world h now.graph (stage.Asking s i) (stage.Asking s i) new.self (λ q fit. subst (λ m. FitsAt (stage.Asking s i) now.world.opens m q) (sym k.made) fit)
+    (λ o f q. subst (λ x. HasBrought h i p way.Time 0 k.ns o x) (sym q.1) (brought_to now.graph h i counts p way.Time 0 e k.ns o refl k.made k.each q.0 (fits o q.0.inquiry))) (c.come_of.ensures p way.Time 0 k.ns k.spelled k.was))

@@ -1,6 +1,5 @@
 use Rattle.std.proofs.Common.{sym, ◌∙◌, ap}
 use Rattle.nb_engine.specs.declared.prepared.Prepared.{Prepared}
-use Rattle.nb_engine.specs.declared.stage.Stage.TheVariants as stage
 use Rattle.nb_engine.proofs.client.Client.open_next.Goals as goal
 
 pub give_errand_up-requires-clause-sound : goal.give_errand_up-requires-clause-sound

@@ -1,5 +1,4 @@
 use Rattle.std.proofs.Common.{true, [], ◌∷◌, ◌++◌}
-use Rattle.nb_record.specs.Logged.{Puts}
 use Rattle.nb_engine.specs.CommandWords.{wanted_of}
 use Rattle.nb_engine.specs.Effects.{shown_as}
 use Rattle.nb_engine.specs.Fetches.{speaker_of}
@@ -10,9 +9,9 @@ use Rattle.nb_engine.proofs.Puts.{Puts-outs}
 use Rattle.nb_engine.proofs.client.Client.put_begun.Goals as goal
 
 pub returns : goal.returns
-returns c = λ made told em et.
+returns c = λ ms ts em et.
     let w = c.args.self.now.world in
     let who = speaker_of c.args.fetch.now in
     let wanted = wanted_of c.args.wanted.now in
     let command = command_record c.args.script.now (shown_as true c.args.words.now) in
-    Puts-outs (command ∷ []) (told_records w.net who made ++ ((opened_record w wanted ∷ []) ++ told_records w.net who told)) c.put_begun.ensures (c.put_open.ensures made told em et)
+    Puts-outs (command ∷ []) (told_records w.net who ms ++ ((opened_record w wanted ∷ []) ++ told_records w.net who ts)) c.put_begun.ensures (c.put_open.ensures ms ts em et)

@@ -13,8 +13,8 @@ returns c = λ w has.
     let s = c.args.script in
     let ws = c.args.words.now in
     let log = c.args.log.now in
-    let t = c.send_out-turn.result in
-    let new = c.send_out-turn.new in
+    let t = c.send_out.result in
+    let new = c.send_out.new in
     let b = c.begin_inquiry.new.self in
     let same = c.begin_inquiry.ensures.same in
     let begun : HasIntended w (query_of c.args.query) s ws b = record {
@@ -26,6 +26,5 @@ returns c = λ w has.
       world_is = ap (λ (y : Seen). y.world) same ∙ has.world_is;
     } in
     let intended : HasIntended w (query_of c.in-Ok.inquiry.query) s ws b = subst (λ (q : Asked). HasIntended w (query_of q) s ws b) (sym c.in-Ok.ensures.query) begun in
-    subst (λ (y : Seen). AnswersTurn t [] (seen now.used w now.graph (stage.Running s)) y log new.log × IsNearer t (seen now.used w now.graph (stage.Running s)) y) (sym c.self.view_is)
-    (subst (λ (y : Seen). AnswersTurn t [] (seen y.used w now.graph (stage.Running s)) new.self log new.log × IsNearer t (seen y.used w now.graph (stage.Running s)) new.self) same
-    (c.send_out-turn.ensures w now.graph intended c.in-Ok.ensures.serial))
+    subst (λ (y : Seen). AnswersTurn t [] (seen y.used w now.graph (stage.Running s)) new.self log new.log × IsNearer t (seen y.used w now.graph (stage.Running s)) new.self) same
+    (c.send_out.ensures w now.graph intended c.in-Ok.ensures.serial)

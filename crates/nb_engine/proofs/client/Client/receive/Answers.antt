@@ -52,6 +52,6 @@ returns-in-None c = λ s same n e.
     subst (λ p. Takes w.net bytes out p reply net) c.out-reply.ensures.empty c.take-taken.ensures.takes in
     let brought : None ≡ heard_from c.get.result.now.server out = rw c.in-None.is at c.datagram_of.ensures in
     let none : heard_from f.server out ≡ None = sym (subst (λ (g : Fetch). None ≡ heard_from g.server out) c.get.ensures brought) in
-    let puts = subst (λ b. Puts c.args.log.now c.pass_by.new.log (out_texts (step c.self.inside.used ∷ reply_records b))) c.written.ensures c.pass_by.ensures.puts in
-    let at_n = subst (λ k. Puts c.args.log.now c.pass_by.new.log (out_texts (step k ∷ reply_records reply))) counted puts in
-    rw (← c.self.view_is, c.pass_by.ensures.turn, c.pass_by.ensures.after, counted, same) (pass_by_grows n w c.self.inside.graph s f bytes reply out net c.requires.valid takes none at_n, tt)
+    let puts = subst (λ b. Puts c.args.log.now c.pass_by-turn.new.log (out_texts (step c.self.inside.used ∷ reply_records b))) c.written.ensures c.pass_by-turn.ensures.puts in
+    let at_n = subst (λ k. Puts c.args.log.now c.pass_by-turn.new.log (out_texts (step k ∷ reply_records reply))) counted puts in
+    rw (← c.self.view_is, c.self-in-None.view_is, c.pass_by-turn.ensures.turn, c.pass_by-turn.ensures.after, counted, same) (pass_by_grows n w c.self.inside.graph s f bytes reply out net c.requires.valid takes none at_n, tt)

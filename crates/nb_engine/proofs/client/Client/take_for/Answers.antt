@@ -74,9 +74,9 @@ returns-in-None c = λ s same n e.
     subst (λ p. Takes w.net bytes out p reply net) c.out-reply.ensures.empty c.take-taken.ensures.takes in
     let none : (o : Lone) → IsInquiryOf i o → message_for o.talk (n + 1) out ≡ None =
     λ o is. sym (c.arrival_of.ensures.brings o (n + 1) (subst (λ (x : Inquiry). IsInquiryOf x o) (sym c.get.ensures) is)) ∙ ap (option_map (λ a. arrival_said (n + 1) a)) c.in-None.is in
-    let puts = subst (λ b. Puts c.args.log.now c.pass_it_by.new.log (out_texts (step c.self.inside.used ∷ reply_records b))) c.written.ensures c.pass_it_by.ensures.puts in
-    let at_n = subst (λ k. Puts c.args.log.now c.pass_it_by.new.log (out_texts (step k ∷ reply_records reply))) counted puts in
-    rw (← c.self.view_is, c.pass_it_by.ensures.turn, c.pass_it_by.ensures.after, counted, same) (pass_it_by_grows n w c.self.inside.graph s i bytes reply out net c.requires.valid takes none at_n, tt)
+    let puts = subst (λ b. Puts c.args.log.now c.pass_it_by-turn.new.log (out_texts (step c.self.inside.used ∷ reply_records b))) c.written.ensures c.pass_it_by-turn.ensures.puts in
+    let at_n = subst (λ k. Puts c.args.log.now c.pass_it_by-turn.new.log (out_texts (step k ∷ reply_records reply))) counted puts in
+    rw (← c.self.view_is, c.self-in-None.view_is, c.pass_it_by-turn.ensures.turn, c.pass_it_by-turn.ensures.after, counted, same) (pass_it_by_grows n w c.self.inside.graph s i bytes reply out net c.requires.valid takes none at_n, tt)
 
 pub take_reply-requires-clause-short : goal.take_reply-requires-clause-short
 take_reply-requires-clause-short c =

@@ -20,8 +20,8 @@ returns c = λ n e.
     let f = c.args.fetch in
     let st = stage.Waiting s1 f in
     let counted : c.self.inside.used ≡ n + 1 = ap (λ (x : Seen). x.used) c.self.view_is ∙ e in
-    let at_ms = subst (λ k. Heeds c.pass_time-turn.result s1 (Comes g (ticked (w.time + k)) f) (seen c.self.inside.used (world_later w k) g st) c.pass_time-turn.new.self c.args.log.now c.pass_time-turn.new.log) c.from.ensures c.pass_time-turn.ensures in
-    let at_n = subst (λ k. Heeds c.pass_time-turn.result s1 (Comes g (ticked (w.time + ms)) f) (seen k (world_later w ms) g st) c.pass_time-turn.new.self c.args.log.now c.pass_time-turn.new.log) counted at_ms in
-    let at_anew = subst (λ x. Heeds c.pass_time-turn.result x (Comes g (ticked (w.time + ms)) f) (seen (n + 1) (world_later w ms) g st) c.pass_time-turn.new.self c.args.log.now c.pass_time-turn.new.log) c.begin_step.ensures at_n in
-    rw (← c.self.view_is, c.self-2.view_is) (heeds_acts c.pass_time-turn.result c.args.log.now c.pass_time-turn.new.log (defs.tick ms ∷ []) (anew s) (Comes g (ticked (w.time + ms)) f) (seen (n + 1) (world_later w ms) g st) (seen n w g (stage.Waiting s f)) c.pass_time-turn.new.self
-    (λ fo. tick_grows n w g s f g st c.pass_time-turn.new.self ms c.requires.valid (keep_waiting s s1 f w.opens g.book.made g.book.made) fo) at_anew)
+    let at_ms = subst (λ k. Heeds c.pass_time.result s1 (Comes g (ticked (w.time + k)) f) (seen c.self.inside.used (world_later w k) g st) c.pass_time.new.self c.args.log.now c.pass_time.new.log) c.from.ensures c.pass_time.ensures in
+    let at_n = subst (λ k. Heeds c.pass_time.result s1 (Comes g (ticked (w.time + ms)) f) (seen k (world_later w ms) g st) c.pass_time.new.self c.args.log.now c.pass_time.new.log) counted at_ms in
+    let at_anew = subst (λ x. Heeds c.pass_time.result x (Comes g (ticked (w.time + ms)) f) (seen (n + 1) (world_later w ms) g st) c.pass_time.new.self c.args.log.now c.pass_time.new.log) c.begin_step.ensures at_n in
+    rw (← c.self.view_is) (heeds_acts c.pass_time.result c.args.log.now c.pass_time.new.log (defs.tick ms ∷ []) (anew s) (Comes g (ticked (w.time + ms)) f) (seen (n + 1) (world_later w ms) g st) (seen n w g (stage.Waiting s f)) c.pass_time.new.self
+    (λ fo. tick_grows n w g s f g st c.pass_time.new.self ms c.requires.valid (keep_waiting s s1 f w.opens g.book.made g.book.made) fo) at_anew)

@@ -1,30 +1,25 @@
-use Rattle.std.proofs.Common.{true, [], ◌∷◌, ◌++◌, ◌≡◌, ◌≤◌, ◌+◌, ◌*◌, List, refl, sym, ◌∙◌, ap, subst}
+use Rattle.std.proofs.Common.{true, ◌++◌, ◌≡◌, ◌≤◌, ◌+◌, ◌*◌, List, refl, sym, ◌∙◌, ap, subst}
 use Rattle.nb_terms.specs.declared.cause.Cause.{Cause}
-use Rattle.nb_defs.specs.Records.{out_texts}
-use Rattle.nb_record.specs.Logged.{Puts}
 use Rattle.nb_ledger.specs.Flat.{Notice}
 use Rattle.nb_nodes.specs.Conversations.{first_acts}
 use Rattle.nb_tftp.specs.Asks.{begun}
 use Rattle.nb_opens.specs.Notices.{made_notices, begun_notices, closed_notices, freed_notices}
 use Rattle.nb_opens.specs.Pairs.{IsEmpty}
-use Rattle.nb_engine.specs.Advance.{PutsBegun}
+use Rattle.nb_engine.specs.Advance.{PutsBegun, PutsFetch}
+use Rattle.nb_engine.specs.declared.speaker.Speaker.{Speaker}
 use Rattle.nb_engine.specs.CommandWords.{wanted_of}
 use Rattle.nb_engine.specs.declared.fetch.Fetch.{Fetch}
 use Rattle.nb_engine.specs.declared.stage.Stage.TheVariants as stage
 use Rattle.nb_engine.specs.Effects.{shown_as}
 use Rattle.nb_engine.specs.Fetches.{speaker_of}
 use Rattle.nb_engine.specs.Machine.{command_record, no_route}
-use Rattle.nb_engine.specs.Objects.{TellsMore}
-use Rattle.nb_engine.specs.Opens.{opened_record}
+use Rattle.nb_engine.specs.Spelling.{TellsMore}
 use Rattle.nb_engine.specs.Running.{further}
 use Rattle.nb_engine.specs.Seen.{Seen, seen}
-use Rattle.nb_engine.specs.Tellings.{told_records}
 use Rattle.nb_engine.specs.World.{with_ended_open}
 use Rattle.nb_engine.proofs.Standing.{has_none}
+use Rattle.nb_engine.proofs.Tellers.{tells_by}
 use Rattle.nb_engine.proofs.client.Client.turn_back.Goals as goal
-
-pub put_begun-requires-clause-told : goal.put_begun-requires-clause-told
-put_begun-requires-clause-told c = (_, c.in-Ok.ensures.told _ c.requires.begins.told_so)
 
 pub give_up-requires-clause-empty : goal.give_up-requires-clause-empty
 give_up-requires-clause-empty c =
@@ -49,16 +44,20 @@ returns c =
     let told = begun_notices f.objects.fetch.0 f.objects.tftp.0 now.used (first_acts (begun f.server wanted.target.port f.own_port wanted.target.path)) in
     let cause_is : c.from-cause.result ≡ cause = c.from-cause.ensures ∙ ap (λ (x : Fetch). no_route x.server.0) c.get-open.ensures in
     let back : List Notice = closed_notices f.objects.fetch.0 f.objects.tftp.0 cause ++ freed_notices f.objects.fetch.0 f.objects.tftp.0 in
-    let tells : TellsMore c.args.desk.now.told c.turn_back.new.told back =
-    subst (λ (x : Cause). TellsMore c.args.desk.now.told c.turn_back.new.told (closed_notices f.objects.fetch.0 f.objects.tftp.0 x ++ freed_notices f.objects.fetch.0 f.objects.tftp.0)) cause_is
-    (subst (λ (x : Fetch). TellsMore c.args.desk.now.told c.turn_back.new.told (closed_notices x.objects.fetch.0 x.objects.tftp.0 c.from-cause.result ++ freed_notices x.objects.fetch.0 x.objects.tftp.0))
-    c.get-open.ensures c.in-Ok.ensures.told) in
-    let put : PutsBegun s ws w wanted f now.used c.args.log.now c.put_begun.new.log back =
-    subst (λ (x : Fetch). Puts c.args.log.now c.put_begun.new.log (out_texts ((command ∷ []) ++ (told_records w.net (speaker_of x) made
-    ++ ((opened_record w wanted ∷ []) ++ told_records w.net (speaker_of x) (told ++ back)))))) c.get-open.ensures
-    (c.put_begun.ensures made (told ++ back) c.requires.begins.made_so (tells told c.requires.begins.told_so)) in
+    let before = c.args.desk.told.value in
+    let after = c.turn_back.new.out.told.value in
+    let g = c.get-open.result.now in
+    let heard : TellsMore w.net c.speaker-who.result before after (closed_notices g.objects.fetch.0 g.objects.tftp.0 c.from-cause.result ++ freed_notices g.objects.fetch.0 g.objects.tftp.0) =
+    tells_by w.net c.speaker-who.result c.after-out.result before after _ c.after-out.ensures.net c.after-out.ensures.who c.after-out.ensures.told c.in-Ok.ensures.told in
+    let tells : TellsMore w.net (speaker_of f) before after back =
+    subst (λ (x : Cause). TellsMore w.net (speaker_of f) before after (closed_notices f.objects.fetch.0 f.objects.tftp.0 x ++ freed_notices f.objects.fetch.0 f.objects.tftp.0)) cause_is
+    (subst (λ (x : Fetch). TellsMore w.net (speaker_of x) before after (closed_notices x.objects.fetch.0 x.objects.tftp.0 c.from-cause.result ++ freed_notices x.objects.fetch.0 x.objects.tftp.0)) c.get-open.ensures
+    (subst (λ (who : Speaker). TellsMore w.net who before after (closed_notices g.objects.fetch.0 g.objects.tftp.0 c.from-cause.result ++ freed_notices g.objects.fetch.0 g.objects.tftp.0)) c.speaker-who.ensures heard)) in
+    let puts : PutsFetch s ws w wanted f c.args.desk.made.value after c.args.log.now c.put_begun.new.log =
+    subst (λ (x : Fetch). PutsFetch s ws w wanted x c.args.desk.made.value after c.args.log.now c.put_begun.new.log) c.get-open.ensures c.put_begun.ensures in
     let at_now : PutsBegun s ws now.world wanted f now.used c.args.log.now c.put_begun.new.log back =
-    subst (λ (x : Seen). PutsBegun s ws x.world wanted f now.used c.args.log.now c.put_begun.new.log back) c.self.view_is put in
+    subst (λ (x : Seen). PutsFetch s ws x.world wanted f c.args.desk.made.value after c.args.log.now c.put_begun.new.log) c.self.view_is puts
+    made (told ++ back) c.requires.begins.made_so (subst (λ (x : Seen). TellsMore x.world.net (speaker_of f) before after back) c.self.view_is tells told c.requires.begins.told_so) in
     let h = c.turn_back.new.graph in
     let at_view : seen c.self.inside.used (with_ended_open w) h (stage.Running (further s cause)) ≡ seen now.used (with_ended_open now.world) h (stage.Running (further s cause)) =
     ap (λ (x : Seen). seen x.used (with_ended_open x.world) h (stage.Running (further s cause))) c.self.view_is in

@@ -14,13 +14,14 @@ use Rattle.nb_engine.specs.declared.stage.Stage.TheVariants as stage
 use Rattle.nb_engine.specs.Inquiries.{opening_acts, query_of}
 use Rattle.nb_engine.specs.Lones.{talk_for}
 use Rattle.nb_engine.specs.Machine.{no_route}
-use Rattle.nb_engine.specs.Objects.{TellsMore}
-use Rattle.nb_engine.specs.Reaching.{PutsEcho}
+use Rattle.nb_engine.specs.Spelling.{TellsMore}
+use Rattle.nb_engine.specs.Reaching.{PutsEcho, PutsEchoing}
 use Rattle.nb_engine.specs.Running.{with_result}
 use Rattle.nb_engine.specs.Seen.{Seen, seen}
 use Rattle.nb_engine.specs.World.{with_ended_open}
 use Rattle.nb_engine.proofs.Standing.{has_none}
 use Rattle.nb_engine.proofs.Talkings.{talks_open}
+use Rattle.nb_engine.proofs.Tellers.{tells_by}
 use Rattle.nb_engine.proofs.client.Client.turn_echo_back.Goals as goal
 
 pub turn_alone_back-requires : goal.turn_alone_back-requires
@@ -31,9 +32,6 @@ turn_alone_back-requires c =
     let opened : IsOpenLoneBy k c.self.inside.graph x =
     subst (λ (y : Seen). IsOpenLoneBy k y.graph x) (sym c.self.view_is) (talks_open k now.graph x now.world.time _ c.requires.begins.talks) in
     record { «open» = subst (λ (y : Inquiry). (k : Company) × IsOpenLoneBy k c.self.inside.graph y.object.object.0) (sym c.get-turned.ensures) (k, opened) }
-
-pub put_echo-requires-clause-told : goal.put_echo-requires-clause-told
-put_echo-requires-clause-told c = (_, c.in-Ok.ensures.told _ c.requires.begins.told_so)
 
 pub give_next_up-requires-clause-empty : goal.give_next_up-requires-clause-empty
 give_next_up-requires-clause-empty c =
@@ -62,13 +60,18 @@ returns c =
     let told : List Notice = alone_call x (port_at x 0) way.Down now.used (opening_acts t) [] in
     let back : List Notice = alone_closed x cause ++ alone_freed x in
     let cause_is : c.from-cause.result ≡ cause = c.from-cause.ensures ∙ ap (λ (y : Inquiry). no_route y.speaker.server.0) c.get-turned.ensures in
-    let tells : TellsMore c.args.desk.now.told c.turn_alone_back.new.told back =
-    subst (λ (y : Cause). TellsMore c.args.desk.now.told c.turn_alone_back.new.told (alone_closed x y ++ alone_freed x)) cause_is
-    (subst (λ (y : Inquiry). TellsMore c.args.desk.now.told c.turn_alone_back.new.told (alone_closed y.object.object.0 c.from-cause.result ++ alone_freed y.object.object.0))
-    c.get-turned.ensures c.in-Ok.ensures.told) in
-    let put : PutsEcho w i log mid (told ++ back) =
-    subst (λ (y : Inquiry). PutsEcho w y log mid (told ++ back)) c.get-turned.ensures (c.put_echo.ensures (told ++ back) (tells told c.requires.begins.told_so)) in
-    let at_now : PutsEcho now.world i log mid (told ++ back) = subst (λ (y : Seen). PutsEcho y.world i log mid (told ++ back)) c.self.view_is put in
+    let before = c.args.desk.told.value in
+    let after_it = c.turn_alone_back.new.out.told.value in
+    let j = c.get-turned.result.now in
+    let heard : TellsMore w.net j.speaker before after_it (alone_closed j.object.object.0 c.from-cause.result ++ alone_freed j.object.object.0) =
+    tells_by w.net j.speaker c.after-out.result before after_it _ c.after-out.ensures.net c.after-out.ensures.who c.after-out.ensures.told c.in-Ok.ensures.told in
+    let tells : TellsMore w.net i.speaker before after_it back =
+    subst (λ (y : Cause). TellsMore w.net i.speaker before after_it (alone_closed x y ++ alone_freed x)) cause_is
+    (subst (λ (y : Inquiry). TellsMore w.net y.speaker before after_it (alone_closed y.object.object.0 c.from-cause.result ++ alone_freed y.object.object.0)) c.get-turned.ensures heard) in
+    let puts : PutsEchoing w i after_it log mid = subst (λ (y : Inquiry). PutsEchoing w y after_it log mid) c.get-turned.ensures c.put_echo.ensures in
+    let at_now : PutsEcho now.world i log mid (told ++ back) =
+    subst (λ (y : Seen). PutsEchoing y.world i after_it log mid) c.self.view_is puts
+    (told ++ back) (subst (λ (y : Seen). TellsMore y.world.net i.speaker before after_it back) c.self.view_is tells told c.requires.begins.told_so) in
     let ends : Puts mid c.give_next_up.new.log (out_texts (ended i.speaker.number cause ∷ result cause ∷ [])) =
     subst (λ (y : Cause). Puts mid c.give_next_up.new.log (out_texts (ended i.speaker.number y ∷ result y ∷ []))) cause_is
     (subst (λ (y : Inquiry). Puts mid c.give_next_up.new.log (out_texts (ended y.speaker.number c.from-cause.result ∷ result c.from-cause.result ∷ []))) c.get-turned.ensures c.give_next_up.ensures.puts) in

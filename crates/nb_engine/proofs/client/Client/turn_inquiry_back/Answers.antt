@@ -14,20 +14,18 @@ use Rattle.nb_opens.specs.Pairs.{IsEmpty}
 use Rattle.nb_engine.specs.declared.inquiry.Inquiry.{Inquiry}
 use Rattle.nb_engine.specs.declared.stage.Stage.TheVariants as stage
 use Rattle.nb_engine.specs.Inquiries.{kind_of_talk, opening_acts, query_of, made_beside, beside_freed_events}
-use Rattle.nb_engine.specs.Inquiring.{PutsInquiry}
+use Rattle.nb_engine.specs.Inquiring.{PutsAsking, PutsInquiry}
 use Rattle.nb_engine.specs.Lones.{talk_for}
 use Rattle.nb_engine.specs.Machine.{no_route}
-use Rattle.nb_engine.specs.Objects.{TellsMore}
+use Rattle.nb_engine.specs.Spelling.{TellsMore}
 use Rattle.nb_engine.specs.Running.{further}
 use Rattle.nb_engine.specs.Seen.{Seen, seen}
 use Rattle.nb_engine.specs.World.{with_ended_open}
 use Rattle.nb_engine.proofs.Besides.{left_here, left_made}
 use Rattle.nb_engine.proofs.Standing.{has_none}
 use Rattle.nb_engine.proofs.Talkings.{talks_open}
+use Rattle.nb_engine.proofs.Tellers.{tells_by}
 use Rattle.nb_engine.proofs.client.Client.turn_inquiry_back.Goals as goal
-
-pub put_inquiry-requires-clause-told : goal.put_inquiry-requires-clause-told
-put_inquiry-requires-clause-told c = (_, c.in-Ok.ensures.told _ c.requires.begins.told_so)
 
 pub turn_alone_back-requires : goal.turn_alone_back-requires
 turn_alone_back-requires c =
@@ -49,7 +47,7 @@ free_waiter-requires c =
     record { left = subst (λ (y : Inquiry). HoldsOnly y.waiter h h.book.made) (sym c.get-turned.ensures) (left_here i.waiter h x (leaves (company_with i.waiter x) opened)) }
 
 pub give_inquiry_up-requires-clause-freed : goal.give_inquiry_up-requires-clause-freed
-give_inquiry_up-requires-clause-freed c = c.put_inquiry.ensures.freed ∙ c.in-Ok-free_waiter.ensures.told
+give_inquiry_up-requires-clause-freed c = c.in-Ok-free_waiter.ensures.text
 
 pub give_inquiry_up-requires-clause-empty : goal.give_inquiry_up-requires-clause-empty
 give_inquiry_up-requires-clause-empty c =
@@ -80,15 +78,19 @@ returns c =
     let told : List Notice = alone_call x (port_at x 0) way.Down now.used (opening_acts t) [] in
     let back : List Notice = alone_closed x cause ++ alone_freed x in
     let cause_is : c.from-cause.result ≡ cause = c.from-cause.ensures ∙ ap (λ (y : Inquiry). no_route y.speaker.server.0) c.get-turned.ensures in
-    let tells : TellsMore c.args.desk.now.told c.turn_alone_back.new.told back =
-    subst (λ (y : Cause). TellsMore c.args.desk.now.told c.turn_alone_back.new.told (alone_closed x y ++ alone_freed x)) cause_is
-    (subst (λ (y : Inquiry). TellsMore c.args.desk.now.told c.turn_alone_back.new.told (alone_closed y.object.object.0 c.from-cause.result ++ alone_freed y.object.object.0))
-    c.get-turned.ensures c.in-Ok.ensures.told) in
-    let put : PutsInquiry s ws w i log mid made (told ++ back) =
-    subst (λ (y : Inquiry). PutsInquiry s ws w y log mid made (told ++ back)) c.get-turned.ensures
-    (c.put_inquiry.ensures.puts made (told ++ back) c.requires.begins.made_so (tells told c.requires.begins.told_so)) in
+    let before = c.args.desk.told.value in
+    let after_it = c.turn_alone_back.new.out.told.value in
+    let j = c.get-turned.result.now in
+    let heard : TellsMore w.net j.speaker before after_it (alone_closed j.object.object.0 c.from-cause.result ++ alone_freed j.object.object.0) =
+    tells_by w.net j.speaker c.after-out.result before after_it _ c.after-out.ensures.net c.after-out.ensures.who c.after-out.ensures.told c.in-Ok.ensures.told in
+    let tells : TellsMore w.net i.speaker before after_it back =
+    subst (λ (y : Cause). TellsMore w.net i.speaker before after_it (alone_closed x y ++ alone_freed x)) cause_is
+    (subst (λ (y : Inquiry). TellsMore w.net y.speaker before after_it (alone_closed y.object.object.0 c.from-cause.result ++ alone_freed y.object.object.0)) c.get-turned.ensures heard) in
+    let puts : PutsAsking s ws w i c.args.desk.made.value after_it log mid =
+    subst (λ (y : Inquiry). PutsAsking s ws w y c.args.desk.made.value after_it log mid) c.get-turned.ensures c.put_inquiry.ensures in
     let at_now : PutsInquiry s ws now.world i log mid made (told ++ back) =
-    subst (λ (y : Seen). PutsInquiry s ws y.world i log mid made (told ++ back)) c.self.view_is put in
+    subst (λ (y : Seen). PutsAsking s ws y.world i c.args.desk.made.value after_it log mid) c.self.view_is puts
+    made (told ++ back) c.requires.begins.made_so (subst (λ (y : Seen). TellsMore y.world.net i.speaker before after_it back) c.self.view_is tells told c.requires.begins.told_so) in
     let ends : Puts mid c.give_inquiry_up.new.log (out_texts (ended i.speaker.number cause ∷ (traced (beside_freed_events i.waiter) ++ (result cause ∷ [])))) =
     subst (λ (y : Cause). Puts mid c.give_inquiry_up.new.log (out_texts (ended i.speaker.number y ∷ (traced (beside_freed_events i.waiter) ++ (result y ∷ []))))) cause_is
     (subst (λ (y : Inquiry). Puts mid c.give_inquiry_up.new.log (out_texts (ended y.speaker.number c.from-cause.result ∷ (traced (beside_freed_events y.waiter) ++ (result c.from-cause.result ∷ []))))) c.get-turned.ensures c.give_inquiry_up.ensures.puts) in

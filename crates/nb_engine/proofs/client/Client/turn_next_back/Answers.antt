@@ -7,23 +7,21 @@ use Rattle.nb_nodes.specs.Conversations.{first_acts}
 use Rattle.nb_tftp.specs.Asks.{begun}
 use Rattle.nb_opens.specs.Notices.{completed_notices, begun_notices, closed_notices, freed_notices}
 use Rattle.nb_opens.specs.Pairs.{IsEmpty}
+use Rattle.nb_engine.specs.Advance.{PutsOpen}
+use Rattle.nb_engine.specs.declared.speaker.Speaker.{Speaker}
 use Rattle.nb_engine.specs.CommandWords.{wanted_of}
 use Rattle.nb_engine.specs.declared.fetch.Fetch.{Fetch}
 use Rattle.nb_engine.specs.declared.stage.Stage.TheVariants as stage
 use Rattle.nb_engine.specs.Fetches.{speaker_of}
 use Rattle.nb_engine.specs.Machine.{no_route}
-use Rattle.nb_engine.specs.Objects.{TellsMore}
-use Rattle.nb_engine.specs.Opens.{opened_record}
+use Rattle.nb_engine.specs.Spelling.{TellsMore}
 use Rattle.nb_engine.specs.Reaching.{PutsNext}
 use Rattle.nb_engine.specs.Running.{with_result}
 use Rattle.nb_engine.specs.Seen.{Seen, seen}
-use Rattle.nb_engine.specs.Tellings.{told_records}
 use Rattle.nb_engine.specs.World.{with_ended_open}
 use Rattle.nb_engine.proofs.Standing.{has_none}
+use Rattle.nb_engine.proofs.Tellers.{tells_by}
 use Rattle.nb_engine.proofs.client.Client.turn_next_back.Goals as goal
-
-pub put_open-requires-clause-told : goal.put_open-requires-clause-told
-put_open-requires-clause-told c = (_, c.in-Ok.ensures.told _ c.requires.begins.told_so)
 
 pub give_next_up-requires-clause-empty : goal.give_next_up-requires-clause-empty
 give_next_up-requires-clause-empty c =
@@ -48,15 +46,20 @@ returns c =
     let told = begun_notices f.objects.fetch.0 f.objects.tftp.0 now.used (first_acts (begun f.server wanted.target.port f.own_port wanted.target.path)) in
     let cause_is : c.from-cause.result ≡ cause = c.from-cause.ensures ∙ ap (λ (x : Fetch). no_route x.server.0) c.get-open.ensures in
     let back : List Notice = closed_notices f.objects.fetch.0 f.objects.tftp.0 cause ++ freed_notices f.objects.fetch.0 f.objects.tftp.0 in
-    let tells : TellsMore c.args.desk.now.told c.turn_back.new.told back =
-    subst (λ (x : Cause). TellsMore c.args.desk.now.told c.turn_back.new.told (closed_notices f.objects.fetch.0 f.objects.tftp.0 x ++ freed_notices f.objects.fetch.0 f.objects.tftp.0)) cause_is
-    (subst (λ (x : Fetch). TellsMore c.args.desk.now.told c.turn_back.new.told (closed_notices x.objects.fetch.0 x.objects.tftp.0 c.from-cause.result ++ freed_notices x.objects.fetch.0 x.objects.tftp.0))
-    c.get-open.ensures c.in-Ok.ensures.told) in
-    let put : PutsNext w wanted f now.used log mid back =
-    subst (λ (x : Fetch). Puts log mid (out_texts (told_records w.net (speaker_of x) made
-    ++ ((opened_record w wanted ∷ []) ++ told_records w.net (speaker_of x) (told ++ back))))) c.get-open.ensures
-    (c.put_open.ensures made (told ++ back) c.requires.begins.made_so (tells told c.requires.begins.told_so)) in
-    let at_now : PutsNext now.world wanted f now.used log mid back = subst (λ (x : Seen). PutsNext x.world wanted f now.used log mid back) c.self.view_is put in
+    let before = c.args.desk.told.value in
+    let after = c.turn_back.new.out.told.value in
+    let g = c.get-open.result.now in
+    let heard : TellsMore w.net c.speaker-who.result before after (closed_notices g.objects.fetch.0 g.objects.tftp.0 c.from-cause.result ++ freed_notices g.objects.fetch.0 g.objects.tftp.0) =
+    tells_by w.net c.speaker-who.result c.after-out.result before after _ c.after-out.ensures.net c.after-out.ensures.who c.after-out.ensures.told c.in-Ok.ensures.told in
+    let tells : TellsMore w.net (speaker_of f) before after back =
+    subst (λ (x : Cause). TellsMore w.net (speaker_of f) before after (closed_notices f.objects.fetch.0 f.objects.tftp.0 x ++ freed_notices f.objects.fetch.0 f.objects.tftp.0)) cause_is
+    (subst (λ (x : Fetch). TellsMore w.net (speaker_of x) before after (closed_notices x.objects.fetch.0 x.objects.tftp.0 c.from-cause.result ++ freed_notices x.objects.fetch.0 x.objects.tftp.0)) c.get-open.ensures
+    (subst (λ (who : Speaker). TellsMore w.net who before after (closed_notices g.objects.fetch.0 g.objects.tftp.0 c.from-cause.result ++ freed_notices g.objects.fetch.0 g.objects.tftp.0)) c.speaker-who.ensures heard)) in
+    let puts : PutsOpen w wanted f c.args.desk.made.value after log mid =
+    subst (λ (x : Fetch). PutsOpen w wanted x c.args.desk.made.value after log mid) c.get-open.ensures c.put_open.ensures in
+    let at_now : PutsNext now.world wanted f now.used log mid back =
+    subst (λ (x : Seen). PutsOpen x.world wanted f c.args.desk.made.value after log mid) c.self.view_is puts
+    made (told ++ back) c.requires.begins.made_so (subst (λ (x : Seen). TellsMore x.world.net (speaker_of f) before after back) c.self.view_is tells told c.requires.begins.told_so) in
     let ends : Puts mid c.give_next_up.new.log (out_texts (ended f.number cause ∷ result cause ∷ [])) =
     subst (λ (y : Cause). Puts mid c.give_next_up.new.log (out_texts (ended f.number y ∷ result y ∷ []))) cause_is
     (subst (λ (x : Fetch). Puts mid c.give_next_up.new.log (out_texts (ended x.number c.from-cause.result ∷ result c.from-cause.result ∷ []))) c.get-open.ensures c.give_next_up.ensures.puts) in

@@ -6,7 +6,7 @@ use Rattle.nb_engine.specs.declared.inquiry.Inquiry.{Inquiry}
 use Rattle.nb_engine.specs.declared.speaker.Speaker.{Speaker}
 use Rattle.nb_engine.specs.declared.stage.Stage.TheVariants as stage
 use Rattle.nb_engine.specs.Inquiries.{query_of, talker_of, TalksAs}
-use Rattle.nb_engine.specs.Inquiring.{IsNextInquiry, PutsInquiry}
+use Rattle.nb_engine.specs.Inquiring.{IsNextInquiry, PutsAsking}
 use Rattle.nb_engine.specs.Lones.{talk_for, with_lone}
 use Rattle.nb_engine.specs.Seen.{Seen, IsSound}
 use Rattle.nb_engine.specs.Talks.{fields_of}
@@ -15,8 +15,8 @@ use Rattle.nb_engine.proofs.InquiryLemmas.{asks_sound, bound_so, same_proto}
 use Rattle.nb_engine.proofs.client.Client.wait_for.Goals as goal
 
 pub returns-clause-puts : goal.returns-clause-puts
-returns-clause-puts c = λ made told em et.
-    subst (λ (x : Inquiry). PutsInquiry c.args.script c.args.words.now c.args.self.now.world x c.args.log.now c.put_inquiry.new.log made told) c.get.ensures (c.put_inquiry.ensures.puts made told em et)
+returns-clause-puts c =
+    subst (λ (x : Inquiry). PutsAsking c.args.script c.args.words.now c.args.self.now.world x c.args.desk.made.value c.args.desk.told.value c.args.log.now c.put_inquiry.new.log) c.get.ensures c.put_inquiry.ensures
 
 pub invariant_of-self : goal.invariant_of-self
 invariant_of-self c =

@@ -7,7 +7,7 @@ use Rattle.nb_engine.specs.declared.speaker.Speaker.{Speaker}
 use Rattle.nb_engine.specs.declared.stage.Stage.TheVariants as stage
 use Rattle.nb_engine.specs.Inquiries.{query_of, talker_of, IsBackedBy, TalksAs}
 use Rattle.nb_engine.specs.Inquiring.{IsNextInquiry}
-use Rattle.nb_engine.specs.Reaching.{PutsEcho}
+use Rattle.nb_engine.specs.Reaching.{PutsEchoing}
 use Rattle.nb_engine.specs.Lones.{talk_for, with_lone}
 use Rattle.nb_engine.specs.Seen.{Seen, IsSound}
 use Rattle.nb_engine.specs.Talks.{fields_of}
@@ -16,8 +16,8 @@ use Rattle.nb_engine.proofs.InquiryLemmas.{asks_sound, bound_so, same_proto}
 use Rattle.nb_engine.proofs.client.Client.wait_next.Goals as goal
 
 pub returns-clause-puts : goal.returns-clause-puts
-returns-clause-puts c = λ told is.
-    subst (λ (x : Inquiry). PutsEcho c.args.self.now.world x c.args.log.now c.put_echo.new.log told) c.get-asked.ensures (c.put_echo.ensures told is)
+returns-clause-puts c =
+    subst (λ (x : Inquiry). PutsEchoing c.args.self.now.world x c.args.desk.told.value c.args.log.now c.put_echo.new.log) c.get-asked.ensures c.put_echo.ensures
 
 pub invariant_of-self : goal.invariant_of-self
 invariant_of-self c =

@@ -15,7 +15,7 @@ overflow_cast-piece c =
     let is = sym c.part.ensures ∙ ap (λ o. option_map part_text o) c.in-Some.is in
     let got = sym c.piece.ensures ∙ ap (λ o. option_map piece_text o) c.in-Some-piece.is in
     let small = part_small h.kernel c.args.images.now.images h.part (part_text c.in-Some.part) c.requires.short is in
-    let at = piece_at_place c.in-Some.part.bytes.now h.piece (piece_text c.in-Some-piece.piece) small got in
+    let at = piece_at_place (part_text c.in-Some.part).bytes h.piece (piece_text c.in-Some-piece.piece) small got in
     rw at.offset (omega (arith, at.fits))
 
 pub put-requires : goal.put-requires
@@ -24,7 +24,7 @@ put-requires c =
     let is = sym c.part.ensures ∙ ap (λ o. option_map part_text o) c.in-Some.is in
     let got = sym c.piece.ensures ∙ ap (λ o. option_map piece_text o) c.in-Some-piece.is in
     let small = part_small h.kernel c.args.images.now.images h.part (part_text c.in-Some.part) c.requires.short is in
-    (piece_at_place c.in-Some.part.bytes.now h.piece (piece_text c.in-Some-piece.piece) small got).short
+    (piece_at_place (part_text c.in-Some.part).bytes h.piece (piece_text c.in-Some-piece.piece) small got).short
 
 pub overflow_add-self : goal.overflow_add-self
 overflow_add-self c =
@@ -32,7 +32,7 @@ overflow_add-self c =
     let is = sym c.part.ensures ∙ ap (λ o. option_map part_text o) c.in-Some.is in
     let got = sym c.piece.ensures ∙ ap (λ o. option_map piece_text o) c.in-Some-piece.is in
     let small = part_small h.kernel c.args.images.now.images h.part (part_text c.in-Some.part) c.requires.short is in
-    let at = piece_at_place c.in-Some.part.bytes.now h.piece (piece_text c.in-Some-piece.piece) small got in
+    let at = piece_at_place (part_text c.in-Some.part).bytes h.piece (piece_text c.in-Some-piece.piece) small got in
     omega (arith, at.fits)
 
 pub returns-then-self-piece_count : goal.returns-then-self-piece_count

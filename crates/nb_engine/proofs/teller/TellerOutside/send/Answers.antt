@@ -1,4 +1,4 @@
-use Rattle.std.proofs.Common.{◌≡◌, ◌++◌, refl, sym, subst, append-nil}
+use Rattle.std.proofs.Common.{◌≡◌, ◌++◌, refl, subst}
 use Rattle.nb_nodes.specs.Tags.{tag_number}
 use Rattle.nb_engine.proofs.SpellingLemmas.{message_told}
 use Rattle.nb_engine.proofs.teller.TellerOutside.send.Goals as goal
@@ -7,8 +7,9 @@ pub returns-in-Ok-Advance : goal.returns-in-Ok-Advance
 returns-in-Ok-Advance c =
     let t = c.args.self.now in
     let m = c.args.msg.now in
+    let put = c.put_advance.ensures in
     let tag : 4 ≡ m.tag = subst (λ z. tag_number z ≡ m.tag) c.in-Ok-Advance.field-0-is c.in-Ok-Advance.ensures in
-    record { given = message_told t.net.now t.who.now t.told.value c.deref_mut.result.now c.put_advance.new.self c.args._from m.tag 4 m.rec m.a m.b (m.first.now ++ m.second.now) c.deref_mut.ensures.value tag (c.put_advance.ensures.closed, c.put_advance.ensures.more) }
+    record { given = message_told t.net.now t.who.now t.told.value c.deref_mut.result.now c.put_advance.new.self c.args._from m.tag 4 m.rec m.a m.b (m.first.now ++ m.second.now) c.deref_mut.ensures.value tag (put.closed, put.more, λ kept. put.found) }
 
 pub returns-in-Ok-Datagram : goal.returns-in-Ok-Datagram
 returns-in-Ok-Datagram c =
@@ -26,14 +27,12 @@ pub returns-in-Ok-Bytes : goal.returns-in-Ok-Bytes
 returns-in-Ok-Bytes c =
     let t = c.args.self.now in
     let m = c.args.msg.now in
-    let s = t.told.value in
-    let tag : 5 ≡ m.tag = subst (λ z. tag_number z ≡ m.tag) c.in-Ok-Bytes.field-0-is c.in-Ok-Bytes.ensures in
-    record { given = message_told t.net.now t.who.now s s s c.args._from m.tag 5 m.rec m.a m.b (m.first.now ++ m.second.now) refl tag (refl, λ kept. (kept, sym (append-nil s.text))) }
+    record { given = message_told t.net.now t.who.now t.told.value c.deref_mut-in-Ok-Bytes.result.now c.send_bytes.new.told c.args._from m.tag m.tag m.rec m.a m.b (m.first.now ++ m.second.now) c.deref_mut-in-Ok-Bytes.ensures.value refl (c.send_bytes.ensures t.net.now t.who.now) }
 
 pub returns-in-Ok-Address : goal.returns-in-Ok-Address
 returns-in-Ok-Address c =
     let t = c.args.self.now in
     let m = c.args.msg.now in
-    let s = t.told.value in
+    let put = c.put_address.ensures in
     let tag : 6 ≡ m.tag = subst (λ z. tag_number z ≡ m.tag) c.in-Ok-Address.field-0-is c.in-Ok-Address.ensures in
-    record { given = message_told t.net.now t.who.now s s s c.args._from m.tag 6 m.rec m.a m.b (m.first.now ++ m.second.now) refl tag (refl, λ kept. (kept, sym (append-nil s.text))) }
+    record { given = message_told t.net.now t.who.now t.told.value c.deref_mut-in-Ok-Address.result.now c.put_address.new.self c.args._from m.tag 6 m.rec m.a m.b (m.first.now ++ m.second.now) c.deref_mut-in-Ok-Address.ensures.value tag (put.closed, put.more, λ kept. (put.bytes, put.found)) }

@@ -1,5 +1,5 @@
 use Rattle.std.proofs.Common.{◌≡◌, length, rules, arith}
-use Rattle.nb_nodes.specs.LeaseExchanges.{asker_of, lease_bytes}
+use Rattle.nb_nodes.specs.LeaseExchanges.{asker_of}
 use Rattle.nb_nodes.proofs.ReadBackLemmas.{lease_read_back}
 use Rattle.nb_nodes.proofs.lease_ask.LeaseAsk.bytes.Goals as goal
 

@@ -1,35 +1,53 @@
-use Rattle.std.proofs.Common.{◌≡◌, ℕ, ◌+◌, ◌-◌, sym, ap, ◌∙◌, refl, arith}
-use Rattle.nb_reasm.specs.Slots.{slot_mark}
-use Rattle.nb_reasm.specs.Rings.{slot_of}
+use Rattle.std.proofs.Common.{◌≡◌, ℕ, ◌+◌, ◌≤◌, Bool, true, refl, ap, ◌∙◌, arith}
+use Rattle.nb_reasm.specs.Slots.{mark_of}
+use Rattle.nb_reasm.specs.Rings.{capacity}
 use Rattle.nb_reasm.specs.declared.ring.Ring.{Ring}
-use Rattle.nb_reasm.proofs.RingLemmas.{Joins, joins_joinable, joins_held, unmarked_by, marked_by}
+use Rattle.nb_reasm.proofs.RingLemmas.{Joins, joins_joinable, joins_held}
+use Rattle.nb_reasm.proofs.StepLemmas.{RunOf, run_beside, run_mark, not_marked, is_marked}
 use Rattle.nb_reasm.proofs.ring.Ring.join.Goals as goal
 
-pub returns-then-not-is_marked-clause-ring : goal.returns-then-not-is_marked-clause-ring
-returns-then-not-is_marked-clause-ring c = record {
-  joinable = c.loop-self.invariant.ring;
-  here = λ l. unmarked_by c.loop-self.self.marks.words.items _ c.slot-slot.result c.is_marked.result c.is_marked.ensures c.if-not-is_marked.true c.slot-slot.ensures.value;
-}
+pub returns-then-not-run-clause-ring : goal.returns-then-not-run-clause-ring
+returns-then-not-run-clause-ring c =
+    let r : Ring = c.loop-self.self in
+    let is : RunOf r r.next c.top-in-loop-self.result c.run-run.result = record {
+      joinable = c.loop-self.invariant.ring;
+      from = omega arith;
+      high = omega (arith, c.top-in-loop-self.ensures);
+      is_run = c.run-run.ensures;
+    } in
+    record {
+      joinable = c.loop-self.invariant.ring;
+      here = λ l. run_mark r r.next c.top-in-loop-self.result c.run-run.result is r.next (omega arith) (omega (arith, c.run-run.ensures.some)) ∙ ap (λ (b : Bool). mark_of b) (not_marked c.run-run.result.marked c.if-not-run.true);
+    }
 
 pub loop-self-preserved : goal.loop-self-preserved
 loop-self-preserved c =
     let r : Ring = c.loop-self.self in
-    let s : Ring = record { bytes = r.bytes; marks = c.unmark.new.self; start = r.start; base = r.base; next = r.next + 1; end = r.end } in
-    let slot : c.slot-slot.result ≡ slot_of r (r.next - r.base) = c.slot-slot.ensures.value in
-    let j : Joins r s = record {
-      room = omega (arith, c.loop-self-test.true);
-      marked = marked_by r.marks.words.items _ c.slot-slot.result c.is_marked.result c.is_marked.ensures c.if-not-is_marked.false c.slot-slot.ensures.value;
-      bytes = refl;
-      start = refl;
-      base = refl;
+    let s : Ring = record { memory = r.memory; marks = c.turn.new.self; start = r.start; base = r.base; next = r.next + c.run-run.result.len; end = r.end } in
+    let is : RunOf r r.next c.top-in-loop-self.result c.run-run.result = record {
+      joinable = c.loop-self.invariant.ring;
+      from = omega arith;
+      high = omega (arith, c.top-in-loop-self.ensures);
+      is_run = c.run-run.ensures;
+    } in
+    let j : Joins r s c.run-run.result.slot c.run-run.result.len = record {
+      turns = record {
+        beside = run_beside r r.next c.top-in-loop-self.result c.run-run.result is;
+        size = refl;
+        start = refl;
+        base = refl;
+        words = c.turn.ensures.room;
+        turned = c.turn.ensures.turned;
+        others = c.turn.ensures.others;
+      };
+      some = c.run-run.ensures.some;
+      marked = λ k l. c.run-run.ensures.alike k l ∙ ap (λ (b : Bool). mark_of b) (is_marked c.run-run.result.marked c.if-not-run.false);
+      memory = refl;
       next = refl;
       end = refl;
-      words = c.unmark.ensures.room;
-      cleared = ap (λ (i : ℕ). slot_mark c.unmark.new.self.words.items i) (sym slot) ∙ c.unmark.ensures.unmarked;
-      others = λ i apart. c.unmark.ensures.others i (λ e. apart (e ∙ slot));
     } in
     record {
-      ring = joins_joinable r s c.loop-self.invariant.ring j;
+      ring = joins_joinable r s c.run-run.result.slot c.run-run.result.len j;
       same = c.loop-self.invariant.same;
-      held = λ p. joins_held r s c.loop-self.invariant.ring j p ∙ c.loop-self.invariant.held p;
+      held = λ p. joins_held r s c.run-run.result.slot c.run-run.result.len j p ∙ c.loop-self.invariant.held p;
     }

@@ -1,20 +1,61 @@
-use Rattle.std.proofs.Common.{◌≡◌, ℕ, ◌+◌, Bool, sym, ap, ◌∙◌, arith}
-use Rattle.nb_reasm.specs.Windows.{window_of, is_new}
-use Rattle.nb_reasm.proofs.PutLemmas.{scatter_held, open_next, count_next, at_most_one, one_if}
+use Rattle.std.proofs.Common.{◌≡◌, ℕ, ◌-◌, ◌∙◌, ap, refl, sym, arith}
+use Rattle.nb_reasm.specs.Windows.{window_of, is_new, places_count}
+use Rattle.nb_reasm.proofs.PutLemmas.{scatters_held, scatters_count}
 use Rattle.nb_reasm.proofs.ring.Ring.scatter.Goals as goal
-use Rattle.nb_reasm.proofs.ring.Ring.scatter.Goals.{then-put_byte, else-put_byte}
 
-pub loop-i-preserved : goal.loop-i-preserved
-loop-i-preserved c =
-    let step : c.if-put_byte.count ≡ c.loop-i.count + one_if c.put_byte.result = elim c.if-put_byte.branch [
-      | then-put_byte w ↦ w.count-is ∙ sym (ap (λ (t : Bool). c.loop-i.count + one_if t) w.if-put_byte.true)
-      | else-put_byte w ↦ omega (arith, w.count-is, ap (λ (t : Bool). one_if t) w.if-put_byte.false)
-    ] in
-    let taken : c.put_byte.result ≡ is_new (window_of c.args.self.now) (c.args.pos + c.loop-i.i) = c.put_byte.ensures.taken ∙ open_next c.args.self.now c.loop-i.self c.args.pos c.loop-i.i c.args.bytes.now c.loop-i.invariant.same c.loop-i.invariant.held in
-    record {
-      ring = c.put_byte.ensures.ring;
-      same = (c.put_byte.ensures.same.0 ∙ c.loop-i.invariant.same.0, c.put_byte.ensures.same.1 ∙ c.loop-i.invariant.same.1);
-      held = scatter_held c.args.self.now c.loop-i.self c.put_byte.new.self c.args.pos c.loop-i.i c.args.bytes.now (omega (arith, c.loop-i-test.true)) c.loop-i.invariant.same c.loop-i.invariant.held c.put_byte.ensures.held;
-      count = step ∙ ap (λ (t : Bool). c.loop-i.count + one_if t) taken ∙ ap (λ (n : ℕ). n + one_if (is_new (window_of c.args.self.now) (c.args.pos + c.loop-i.i))) c.loop-i.invariant.count ∙ sym (count_next (window_of c.args.self.now) c.args.pos c.loop-i.i c.args.bytes.now (omega (arith, c.loop-i-test.true)));
-      few = omega (arith, step, at_most_one c.put_byte.result, c.loop-i.invariant.few);
-    }
+pub returns-then-to-from-clause-held : goal.returns-then-to-from-clause-held
+returns-then-to-from-clause-held c =
+    scatters_held c.args.self.now c.args.self.now c.args.pos c.max-from.result c.max-from.result c.args.bytes.now
+    (record {
+      joinable = c.requires.ring.joinable;
+      first = c.max-from.ensures;
+      low = λ l. absurd (omega (arith, l));
+      high = omega (arith, c.if-to-from.true, c.min-to.ensures, c.top.ensures);
+      some = omega arith;
+      inside = λ p h l. absurd (omega (arith, h, l));
+      outside = λ p out. refl;
+    })
+
+pub returns-then-to-from-clause-count : goal.returns-then-to-from-clause-count
+returns-then-to-from-clause-count c = sym (
+    scatters_count c.args.self.now c.args.self.now c.args.pos c.max-from.result c.max-from.result c.args.bytes.now
+    (record {
+      joinable = c.requires.ring.joinable;
+      first = c.max-from.ensures;
+      low = λ l. absurd (omega (arith, l));
+      high = omega (arith, c.if-to-from.true, c.min-to.ensures, c.top.ensures);
+      some = omega arith;
+      inside = λ p h l. absurd (omega (arith, h, l));
+      outside = λ p out. refl;
+    })
+    ∙ ap (λ (n : ℕ). places_count (is_new (window_of c.args.self.now)) c.max-from.result n) (none c.max-from.result))
+  where
+    none : (n : ℕ) → n - n ≡ 0
+    none n = omega arith
+
+pub returns-clause-held : goal.returns-clause-held
+returns-clause-held c =
+    scatters_held c.args.self.now c.join.new.self c.args.pos c.max-from.result c.min-to.result c.args.bytes.now
+    (record {
+      joinable = c.requires.ring.joinable;
+      first = c.max-from.ensures;
+      low = λ l. omega (arith, c.min-to.ensures, c.top.ensures);
+      high = omega (arith, c.min-to.ensures, c.top.ensures);
+      some = omega (arith, c.if-to-from.false);
+      inside = λ p h l. c.join.ensures.held p ∙ c.fill-count.ensures.inside p h l;
+      outside = λ p out. c.join.ensures.held p ∙ c.fill-count.ensures.outside p out;
+    })
+
+pub returns-clause-count : goal.returns-clause-count
+returns-clause-count c =
+    c.fill-count.ensures.count
+    ∙ sym (scatters_count c.args.self.now c.join.new.self c.args.pos c.max-from.result c.min-to.result c.args.bytes.now
+    (record {
+      joinable = c.requires.ring.joinable;
+      first = c.max-from.ensures;
+      low = λ l. omega (arith, c.min-to.ensures, c.top.ensures);
+      high = omega (arith, c.min-to.ensures, c.top.ensures);
+      some = omega (arith, c.if-to-from.false);
+      inside = λ p h l. c.join.ensures.held p ∙ c.fill-count.ensures.inside p h l;
+      outside = λ p out. c.join.ensures.held p ∙ c.fill-count.ensures.outside p out;
+    }))

@@ -4,7 +4,7 @@ use Rattle.nb_tftpmsg.specs.Reading.{pairs_reading, texts, options_reading}
 use Rattle.nb_tftpmsg.specs.FoundViews.{found_of}
 use Rattle.nb_tftpmsg.proofs.options.Options.read.Given as goal
 
--- What is left gives behind the values so far what all of it gives.
+-- What is left gives after the values so far what all of it gives.
 abbrev pub invariant-loop-rest : goal.invariant-loop-rest
 invariant-loop-rest l = option_and_then (pairs_reading (found_of l.found)) (texts l.rest) ≡ options_reading l.fn.bytes
 

@@ -1,0 +1,5 @@
+pub mod WorkLemmas
+pub mod StepLemmas
+pub mod StandsLemmas
+pub mod EndingLemmas
+pub mod CauseLemmas

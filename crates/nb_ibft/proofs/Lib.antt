@@ -1,0 +1,5 @@
+pub mod TextLemmas
+pub mod FieldLemmas
+pub mod TargetLemmas
+pub mod InfoLemmas
+pub mod JoinLemmas

@@ -1,0 +1,5 @@
+pub mod Infos
+pub mod Tables
+pub mod Views
+pub mod Readings
+pub mod Places

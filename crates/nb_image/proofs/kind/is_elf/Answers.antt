@@ -1,0 +1,7 @@
+use Rattle.std.proofs.Common.{◌∙◌, ap, lit≤, nat_eq, [], ◌∷◌}
+use Rattle.std.specs.List.{starts_with}
+use Rattle.nb_image.proofs.FirstLineLemmas.{starts_same}
+use Rattle.nb_image.proofs.kind.is_elf.Goals as goal
+
+pub returns : goal.returns
+returns c = c.starts_with.ensures.value ∙ ap (λ start. starts_with nat_eq start (127 ∷ 69 ∷ 76 ∷ 70 ∷ [])) c.start_of.ensures ∙ starts_same c.args.body.now (127 ∷ 69 ∷ 76 ∷ 70 ∷ []) (lit≤ tt)

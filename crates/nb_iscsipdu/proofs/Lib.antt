@@ -1,0 +1,5 @@
+pub mod HeadLemmas
+pub mod PduLemmas
+pub mod StreamLemmas
+pub mod KeyLemmas
+pub mod CutLemmas

@@ -1,0 +1,9 @@
+pub mod LoginHistoryLemmas
+pub mod LoginStandsLemmas
+pub mod LoginEndingLaws
+pub mod ProofLaws
+pub mod HistoryLaws
+pub mod SecretLaws
+pub mod LengthLaws
+pub mod RequestLaws
+pub mod CarriedLaws

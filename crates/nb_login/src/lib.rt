@@ -1,0 +1,27 @@
+//! The login of one iSCSI session (RFC 7143, sections 6.3 and 13), with CHAP one way or both ways (RFC 1994)
+//! where a name and a secret are set. It is given the target's PDUs, and returns the text of each request; it
+//! ends with a session, or with the cause for which there is none. It knows no time, no digests and one
+//! connection alone, and follows no redirection. Begin with `Login`, then `Decision` in step.rt.
+#![tactic(auto)]
+
+mod answers;
+mod challenge;
+mod decision;
+mod info;
+mod keys;
+mod laws;
+mod login;
+mod request;
+mod session;
+mod state;
+mod step;
+#[cfg(test)]
+mod tests;
+
+pub use info::LoginInfo;
+pub use laws::{
+    ends_by_the_eighth_answer, ends_for_a_cause, opens_after_proof, requests_are_pdus,
+    secrets_are_not_sent, what_came_determines_it,
+};
+pub use login::Login;
+pub use session::Session;

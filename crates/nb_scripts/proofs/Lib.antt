@@ -1,0 +1,3 @@
+mod GoneLemmas
+mod NestingLemmas
+mod NumberLemmas

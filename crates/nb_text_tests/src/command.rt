@@ -1,0 +1,218 @@
+//! Commands one after another, their words expanded, on a table with the `mac` of `net0`; and files of URIs.
+
+use nb_command::{
+    ApplyError, Job, Located, Outcome, PlanError, State, apply, locate, plan, put_address,
+    refuses_address,
+};
+use nb_expand::expand;
+use nb_image::Images;
+use nb_settings::{Key, Kind, Table};
+use nb_terms::Cause;
+use nb_uri::UriTarget;
+use nb_wire::{Ip4, Word};
+use std::alloc::Global;
+use std::test::Fail;
+
+/// A line, and what it comes to on what those before it left: a word for it, and its own words or numbers. A line feed
+/// that is printed is `$`, and a failure has its cause's number.
+const ROWS: &str = "\
+echo|text $\n\
+echo a  b --c -n|text a  b --c -n$\n\
+echo -n a -n|text a -n\n\
+echo -n --x|usage\n\
+exit 0xff|leave 255\n\
+exit 256|usage\n\
+isset |fails 21\n\
+isset a|done\n\
+iseq a --a|fails 21\n\
+iseq  |done\n\
+sleep 4000000|sleep 4000000\n\
+sleep 4000001|usage\n\
+|unknown\n\
+Echo a|unknown\n\
+ifopen|done\n\
+ifclose net0|down\n\
+ifclose net1|fails 17\n\
+dhcp|lease\n\
+ping 10.0.0.1|ping 10.0.0.1\n\
+nslookup net0/a:hex --b|lookup net0/a:hex --b\n\
+nslookup net9/a b|fails 17\n\
+imgfetch k|fails 15\n\
+imgexec http://10.0.0.1/k|fails 16\n\
+imgexec tftp://10.0.0.1/a/k|fetch 10.0.0.1 a/k k Run\n\
+set next-server 10.0.0.2|done\n\
+imgfetch a/k|fetch 10.0.0.2 a/k k Keep\n\
+set a one two|done\n\
+show a|text a = one two$\n\
+set a |done\n\
+show a:hex|text a:hex = $\n\
+show net0/mac|text net0/mac = 52:54:00:00:00:01$\n\
+show mac|text mac = 52:54:00:00:00:01$\n\
+show net9/mac|text net9/mac = $\n\
+clear net9/a|fails 17\n\
+clear a|done\n\
+set y:int8 200|fails 18\n\
+set y:int8 -1|done\n\
+show y|text y = -1$\n\
+show y:uint8|text y:uint8 = 0xff$\n\
+set n:int8 127|done\n\
+inc n|fails 18\n\
+inc n -255|done\n\
+show n|text n = -128$\n\
+inc new -2147483648|done\n\
+show new:hex|text new:hex = 80:00:00:00$\n\
+set gateway 10.0.0.1|done\n\
+show 3:hex|text 3:hex = 0a:00:00:01$\n\
+set idx:int32 0|done\n\
+echo ${net${idx}/mac}|text 52:54:00:00:00:01$\n\
+inc idx|done\n\
+isset ${net${idx}/mac}|fails 21\n\
+goto at_${idx}|goto at_1\n\
+set x:uint16 255|done\n\
+echo ${x} ${x:int16} ${x:hex}|text 0xff 255 00:ff$\n\
+set dollar $|done\n\
+set again ${dollar}{x}|done\n\
+isset ${again}|done\n";
+
+/// A URI, and the host, the port, the path, the image's name and the whole of its file, with the server 10.0.0.1.
+const FILES: &str = "\
+vmlinuz|10.0.0.1 69 vmlinuz vmlinuz tftp://10.0.0.1/vmlinuz\n\
+/x/k?a#b|10.0.0.1 69 x/k k tftp://10.0.0.1/x/k?a\n\
+a%2fb|10.0.0.1 69 a/b a/b tftp://10.0.0.1/a%2fb\n\
+/d/|10.0.0.1 69 d/ 10.0.0.1 tftp://10.0.0.1/d/\n\
+//h:6969/f|h 6969 f f tftp://h:6969/f\n\
+tftp://a..b|a..b 69  a..b tftp://a..b\n\
+a%00|fails 15\n\
+tftp:///f|fails 15\n\
+iscsi:10.0.0.1::::iqn.x:t|fails 16\n";
+
+/// The words with a space between each two, and a dollar for a line feed.
+fn joined(alloc: Global, words: &[&[u8]]) -> Result<Vec<u8>, Fail> {
+    let mut text = Vec::new(alloc);
+    for (place, word) in words.iter().enumerate() {
+        if place > 0 {
+            text.push(b' ')?;
+        }
+        for byte in *word {
+            text.push(if *byte == b'\n' { b'$' } else { *byte })?;
+        }
+    }
+    Ok(text)
+}
+
+fn failure(alloc: Global, cause: Cause) -> Result<Vec<u8>, Fail> {
+    let code = cause.code;
+    Ok(format!(in alloc; "fails {code}")?.into_bytes())
+}
+
+/// What a command comes to, as the rows have it.
+fn shown(alloc: Global, answer: &Result<Outcome, Cause>) -> Result<Vec<u8>, Fail> {
+    match answer {
+        Ok(Outcome::Done) => joined(alloc, &[b"done"]),
+        Ok(Outcome::Text(text)) => joined(alloc, &[b"text", text.as_slice()]),
+        Ok(Outcome::Goto(label)) => joined(alloc, &[b"goto", label.as_slice()]),
+        Ok(Outcome::Leave(number)) => Ok(format!(in alloc; "leave {number}")?.into_bytes()),
+        Ok(Outcome::Down) => joined(alloc, &[b"down"]),
+        Ok(Outcome::Wait(job)) => shown_job(alloc, job),
+        Err(cause) => failure(alloc, *cause),
+    }
+}
+
+fn shown_job(alloc: Global, job: &Job) -> Result<Vec<u8>, Fail> {
+    match job {
+        Job::Lease => joined(alloc, &[b"lease"]),
+        Job::Ping { host } => joined(alloc, &[b"ping", host.as_slice()]),
+        Job::Lookup { name, host } => joined(alloc, &[b"lookup", name.as_slice(), host.as_slice()]),
+        Job::Sleep(seconds) => Ok(format!(in alloc; "sleep {seconds}")?.into_bytes()),
+        Job::Fetch {
+            target: UriTarget::Tftp { host, path, .. },
+            name,
+            after,
+        } => {
+            let after = format!(in alloc; "{after:?}")?;
+            let words = [
+                b"fetch".as_slice(),
+                host.as_slice(),
+                path.as_slice(),
+                name.as_slice(),
+                after.as_bytes(),
+            ];
+            joined(alloc, &words)
+        }
+        Job::Fetch { .. } => Err(Fail::new("no file of a TFTP server")),
+    }
+}
+
+/// What a line comes to. Its words have one space between each two, and each is expanded.
+fn outcome(alloc: Global, state: &mut State, line: &str) -> Result<Vec<u8>, Fail> {
+    let mut words: Vec<Word> = Vec::new(alloc);
+    for word in line.split(' ') {
+        words.push(expand(alloc, word.as_bytes(), &state.table)?)?;
+    }
+    match plan(alloc, words.as_slice()) {
+        Ok(plan) => shown(alloc, &apply(alloc, &plan, state)),
+        Err(PlanError::Unknown) => joined(alloc, &[b"unknown"]),
+        Err(PlanError::Usage) => joined(alloc, &[b"usage"]),
+        Err(PlanError::NoMemory) => Err(Fail::new("out of memory")),
+    }
+}
+
+#[test]
+fn line_by_line(rt: HostRuntime) -> Result<(), Fail> {
+    let alloc = rt.alloc();
+    let mut table = Table::new(alloc);
+    table.register(alloc, b"net0", 0)?;
+    table.put(
+        alloc,
+        b"net0",
+        &Key::Free(b"mac"),
+        Kind::Hex,
+        b"\x52\x54\x00\x00\x00\x01",
+    )?;
+    let images = Images::new(alloc);
+    let mut state = State {
+        table,
+        images,
+        up: false,
+    };
+    for row in ROWS.lines() {
+        let (line, expected) = row.split_once('|').ok_or("no outcome")?;
+        let found = outcome(alloc, &mut state, line)?;
+        assert_eq!(rt; found.as_slice(), expected.as_bytes(), "{row}");
+    }
+    Ok(())
+}
+
+fn shown_file(alloc: Global, answer: &Result<Located, ApplyError>) -> Result<Vec<u8>, Fail> {
+    match answer {
+        Ok(file) => {
+            let port = format!(in alloc; "{}", file.port)?;
+            let words = [
+                file.host.as_slice(),
+                port.as_bytes(),
+                file.path.as_slice(),
+                file.name.as_slice(),
+                file.whole.as_slice(),
+            ];
+            joined(alloc, &words)
+        }
+        Err(why) => failure(alloc, why.cause()),
+    }
+}
+
+#[test]
+fn files_by_the_next_server(rt: HostRuntime) -> Result<(), Fail> {
+    let alloc = rt.alloc();
+    let mut table = Table::new(alloc);
+    assert_eq!(rt; refuses_address(b"next-server", &table), None);
+    assert_eq!(rt;
+        put_address(alloc, b"next-server", Ip4(0x0a00_0001), &mut table),
+        Ok(())
+    );
+    for row in FILES.lines() {
+        let (uri, expected) = row.split_once('|').ok_or("no file")?;
+        let found = shown_file(alloc, &locate(alloc, &table, uri.as_bytes()))?;
+        assert_eq!(rt; found.as_slice(), expected.as_bytes(), "{row}");
+    }
+    Ok(())
+}

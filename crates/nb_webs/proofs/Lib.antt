@@ -1,0 +1,3 @@
+pub mod WebLaws
+pub mod EntryLaws
+pub mod StackLaws

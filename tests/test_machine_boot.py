@@ -1,0 +1,136 @@
+"""A machine without a disk, emulated from its power-on: it fetches a kernel and initrds, and goes over to them."""
+
+from __future__ import annotations
+
+import gzip
+import hashlib
+import os
+import subprocess
+import sys
+import time
+import unittest
+from pathlib import Path
+
+from boot import CRATE
+from shared.kernel_files import needs_of
+from shared.machine_image import NEEDS
+from shared.namespaces import missing, network
+from shared.needed import missing_packages
+from shared.program import not_runnable, program
+from shared.servers import Leases, Tftp, dnsmasq
+from shared.virtual_machine import MASK, SERVER
+from shared.virtual_machine import NEEDS as QEMU_NEEDS
+from tests.case import Case
+from tests.payload import HEAD, payload
+from tests.test_machine import Built
+
+# where the machine's own kernel comes from, as build's --kernel; else it is the installed one
+NAMED = os.environ.get("NETBOOT_KERNEL")
+MOST_SECONDS = 170
+LEASES = Leases(SERVER + 99, SERVER + 149, MASK, "payload")
+SCRIPT = b"""\
+#!ipxe
+dhcp
+imgfetch tftp://${next-server}/none || echo ${net0.dhcp/ip} goes on
+imgfetch tftp://${next-server}/first
+imgfetch tftp://${next-server}/second
+imgexec tftp://${next-server}/${filename}
+"""
+WORDS = "console=ttyS0 said=here"
+FIRST, SECOND = b"the first initrd", bytes(range(256)) * 9
+
+
+def installed() -> str | None:
+    """The release of a Debian kernel here, the last by its name, with the drivers of an emulated machine."""
+    releases = sorted(path.name.removeprefix("vmlinuz-") for path in Path("/boot").glob("vmlinuz-*"))
+    of_card = "kernel/drivers/net/virtio_net.ko"
+    found = (one for one in reversed(releases) if Path("/lib/modules", one, of_card).exists())
+    return next(found, None)
+
+
+def kernel_words() -> list[str] | None:
+    release = installed()
+    return ["--kernel", NAMED] if NAMED else ["--kernel", "/", "--release", release] if release else None
+
+
+def why_not() -> str | None:
+    if not kernel_words():
+        return "no Debian kernel is installed; NETBOOT_KERNEL can name a package, its file or a folder"
+    needs = (*NEEDS, *QEMU_NEEDS, *needs_of(NAMED or "/"))
+    return missing() or missing_packages(needs) or not_runnable()
+
+
+WHY_NOT_HERE = missing("dnsmasq") or missing_packages(NEEDS) or not_runnable()
+
+
+@unittest.skipIf(WHY_NOT_HERE, f"running a machine's files: {WHY_NOT_HERE}")
+class Running(Built):
+    def test_the_machines_files_without_a_machine(self) -> None:
+        """Its bridge and its client, in its file system and with no other file, over a wire to a real server."""
+        self.assertEqual(self.called(f"tools/machine.py build --to out --kernel machine --program {program()}").status, 0)
+        self.unpack(gzip.decompress(self.get("out/initramfs")))
+        (self.folder / "served").mkdir()
+        for folder in (self.folder, self.folder / "served"):
+            folder.chmod(0o755)
+        kernel = payload(self.folder)
+        self.put("served/payload", kernel)
+        with network() as joined, dnsmasq(joined, Tftp(self.folder / "served"), LEASES):
+            bridge = ["/bin/bridge", "-i", joined.client_device, "-d", "/run/parts", "-u", "65534", "-r", "/run/rec",
+                      "-o", "/run/out", "/etc/boot.ipxe", "/bin/netboot"]
+            words = joined.in_client("chroot", str(self.folder / "in"), *bridge)
+            done = subprocess.run(words, capture_output=True, text=True, check=False, timeout=MOST_SECONDS)
+        self.assertEqual(done.returncode, 0, done.stdout + done.stderr)
+        self.assertEqual(self.get("in/run/parts/kernel"), kernel)
+        self.assertIn(f"{joined.client_device}: the address is 10.77.0.", done.stdout)
+
+
+@unittest.skipIf(why_not(), f"booting an emulated machine: {why_not()}")
+class Booting(Case):
+    def test_by_tftp(self) -> None:
+        """The kernel that is started says its own sum, its initrd's and its command line; the run replays."""
+        kernel = payload(self.folder)
+        self.serve(payload=kernel, first=FIRST, second=SECOND)
+        self.put("s.ipxe", SCRIPT)
+        self.works_as_process("build --to machine", *(kernel_words() or ()))
+        begun = time.monotonic()
+        printed = self.works_as_process(
+            f"try machine --serve served --file payload --script s.ipxe --emulate --seconds {MOST_SECONDS} "
+            "--input run.rec --output run.out --words netboot_device=eth7,eth0 --append", WORDS,
+        )
+        self.assertLess(time.monotonic() - begun, MOST_SECONDS)
+        initrds = FIRST + bytes(-len(FIRST) % 4) + SECOND
+        for line in (
+            "init: cards: eth7 eth0",
+            "card: eth7: No such device\n",
+            "eth0: the address is 10.77.0.",
+            " 1: the server refuses, with the second number as its code\n",
+            " goes on\n",
+            f"payload: own sha256 {hashlib.sha256(kernel[HEAD:]).hexdigest()}\n",
+            f"payload: initrd sha256 {hashlib.sha256(initrds).hexdigest()}\n",
+            f"payload: command line {WORDS}\n",
+        ):
+            self.assertIn(line, printed)
+        self.is_replayed()
+
+    def serve(self, **files: bytes) -> None:
+        self.folder.chmod(0o755)
+        (self.folder / "served").mkdir()
+        for name, content in files.items():
+            self.put(f"served/{name}", content)
+
+    def works_as_process(self, line: str, *more: str) -> str:
+        words = [sys.executable, "-B", "tools/machine.py", *line.split(), *more]
+        done = subprocess.run(
+            words, cwd=self.folder, capture_output=True, text=True, check=False, timeout=MOST_SECONDS + 60
+        )
+        self.assertEqual(done.returncode, 0, done.stdout + done.stderr)
+        return done.stdout
+
+    def is_replayed(self) -> None:
+        words = [program(), "replay", self.folder / "run.rec", self.folder / "again.out"]
+        subprocess.run(words, cwd=CRATE, capture_output=True, check=True)
+        self.assertEqual(self.get("again.out"), self.get("run.out"))
+
+
+if __name__ == "__main__":
+    unittest.main()
