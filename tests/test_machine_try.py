@@ -18,9 +18,12 @@ from tests import made
 from tests.case import Called, Case
 
 WHY = missing("dnsmasq")
-# It says what a machine's console does and leaves the recordings; its own words, and what it could be asked, are kept.
+# It says what a machine's console does and leaves the recordings; its own words, and what it could be asked, are kept. Its
+# number is there, whole, before its first line, since it may be ended at any of its lines.
 QEMU = """#!{python}
 import json, os, subprocess, sys, time, urllib.request
+open("{folder}/pid.new", "w").write(str(os.getpid()))
+os.rename("{folder}/pid.new", "{folder}/pid")
 words = sys.argv[1:]
 json.dump(words, open("{folder}/words", "w"))
 listening = subprocess.run(["cat", "/proc/net/udp"], capture_output=True, text=True).stdout
@@ -32,7 +35,7 @@ for name in ("input", "output"):
 for line in open("{folder}/says", newline=""):
     sys.stdout.write(line)
     sys.stdout.flush()
-open("{folder}/pid", "w").write(str(os.getpid()))
+open("{folder}/said", "w").close()
 time.sleep({sleeps})
 """
 SAYS = """\
@@ -141,17 +144,17 @@ class Trying(Case):
         self.is_gone(process)
 
     def test_an_end_by_time(self) -> None:
-        with self.begin("--seconds 1", SAYS, [Step(1)], sleeps=60) as process:
+        with self.begin("--seconds 5", SAYS, [Step(1)], sleeps=60) as process:
             said = process.communicate(timeout=50)[1]
         self.assertEqual((process.returncode, said), (1, "machine.py: no run came to its end\n"))
         self.is_gone(process)
 
     def test_a_signal_leaves_nothing(self) -> None:
         for number, status in ((signal.SIGINT, 130), (signal.SIGTERM, 143)):
-            (self.folder / "pid").unlink(missing_ok=True)
+            (self.folder / "said").unlink(missing_ok=True)
             with self.begin("", SAYS, [Step(1)], sleeps=60) as process:
                 until = time.monotonic() + 30
-                while not (self.folder / "pid").exists() and time.monotonic() < until:
+                while not (self.folder / "said").exists() and time.monotonic() < until:
                     time.sleep(0.05)
                 process.send_signal(number)
                 process.communicate(timeout=30)
