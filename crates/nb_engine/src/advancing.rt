@@ -37,7 +37,7 @@ use crate::intent::Intent;
 use crate::objects::{begin, turn_back};
 use crate::put::{has_route, put_over, put_result};
 use crate::running::Next;
-use crate::speaker::Speaker;
+use crate::speaker::{Speaker, UDP};
 use crate::status::status_after;
 use crate::teller::Teller;
 use crate::world::own_port;
@@ -48,9 +48,6 @@ use nb_opens::Download;
 use nb_record::{Cause, Log, NoMemory};
 use nb_terms::{Plain, Reason};
 use nb_wire::Word;
-
-/// UDP (RFC 768).
-pub(crate) const UDP: u8 = 17;
 
 impl Client {
     /// The script goes on: it passes a line or a command, does a command, or is left.

@@ -25,13 +25,11 @@ use crate::conclusion::{Conclusion, conclude};
 use crate::desk::{Desk, lent};
 use crate::objects::{end, shut};
 use crate::put::{put_over, put_result, put_step, put_told};
+use crate::speaker::UDP;
 use crate::teller::Teller;
 use crate::{Client, Fetch, Handing, KeptFetch, RunningScript, Stage, Status, Turn};
 use nb_record::{Cause, Log, NoMemory};
 use nb_terms::Plain;
-
-/// UDP (RFC 768).
-const UDP: u8 = 17;
 
 impl Client {
     /// Puts what a datagram or a time has brought the fetch, whose objects told the cause of a first close or

@@ -27,7 +27,7 @@ ghost use Rattle.nb_engine.specs.World.{with_ended_open};
 
 use crate::command::{Deed, Done};
 use crate::desk::{Desk, lent};
-use crate::inquiry::{DHCP_SERVER, DNS_SERVER, Inquiry, KeptInquiry, Query};
+use crate::inquiry::{Inquiry, KeptInquiry, Query};
 use crate::intent::Intent;
 use crate::kinds::{DHCP, DNS, PING};
 use crate::put::{has_route, put_over, put_result, put_told};
@@ -36,6 +36,7 @@ use crate::talks::{begin_beside, begin_talk, free_waiter, turn_alone_back};
 use crate::teller::Teller;
 use crate::{Client, RunningScript, Stage, Status, Turn};
 use nb_command::CommandPlan;
+use nb_nodes::{LEASE_SERVER, NAME_SERVER};
 use nb_opens::{Alone, Waiter};
 use nb_record::{Cause, Log, NoMemory, OutRec};
 use nb_terms::Reason;
@@ -48,10 +49,10 @@ pub(crate) fn put_inquired(inquiry: &Inquiry, log: &mut Log)
         → Puts log.old log.new (out_texts (open_told w.opens (fields_of (talk_for w (query_of inquiry.now.query))) ∷ [])) }
 {
     let (kind, port, target) = match &inquiry.query {
-        Query::Lease => (DHCP, DHCP_SERVER, b"".as_slice()),
+        Query::Lease => (DHCP, LEASE_SERVER, b"".as_slice()),
         Query::Echo(_) => (PING, 0, b"".as_slice()),
         Query::Address { name, .. } | Query::Host { name, .. } => {
-            (DNS, DNS_SERVER, name.as_slice())
+            (DNS, NAME_SERVER, name.as_slice())
         }
     };
     log.put(&OutRec::Opened {

@@ -5,6 +5,7 @@ ghost use Rattle.nb_engine.specs.Talks.{counts_for, port_of};
 
 use crate::errand::Errand;
 use crate::speaker::Speaker;
+use nb_nodes::{LEASE_SERVER, NAME_SERVER};
 use nb_opens::{Alone, Waiter};
 use nb_record::NoMemory;
 use nb_wire::{Ip4, Text};
@@ -41,22 +42,16 @@ pub struct KeptInquiry {
     place: Box<Inquiry>,
 }
 
-/// The UDP port of servers of leases (RFC 2131, section 4.1).
-pub(crate) const DHCP_SERVER: u16 = 67;
-
-/// The UDP port of servers of names (RFC 1035, section 4.2).
-pub(crate) const DNS_SERVER: u16 = 53;
-
 impl Inquiry {
     /// Whether a message from this port of a host counts for it.
     pub(crate) fn counts(&self, src: Ip4, port: u16) -> bool
         ensures { (o : Lone) → IsInquiryOf self.now o → result ≡ counts_for o.talk src port }
     {
         match &self.query {
-            Query::Lease => port == DHCP_SERVER,
+            Query::Lease => port == LEASE_SERVER,
             Query::Echo(_) => src.0 == self.speaker.server.0,
             Query::Address { .. } | Query::Host { .. } => {
-                src.0 == self.speaker.server.0 && port == DNS_SERVER
+                src.0 == self.speaker.server.0 && port == NAME_SERVER
             }
         }
     }

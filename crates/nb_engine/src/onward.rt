@@ -33,7 +33,6 @@ ghost use Rattle.nb_engine.specs.Tellings.{told_records};
 ghost use Rattle.nb_engine.specs.Turns.{AnswersTurn, IsNearer};
 ghost use Rattle.nb_engine.specs.World.{with_ended_open, with_open, own_port as own_port_of};
 
-use crate::advancing::UDP;
 use crate::command::{MAX_OPENS, full_opens};
 use crate::desk::{Desk, lent};
 use crate::errand::{Onward, Wanted};
@@ -43,7 +42,7 @@ use crate::kinds::TFTP;
 use crate::objects::{begin_completed, turn_back};
 use crate::prepared::{KeptPrepared, Prepared};
 use crate::put::{has_route, put_over, put_result, put_told};
-use crate::speaker::Speaker;
+use crate::speaker::{Speaker, UDP};
 use crate::talks::{begin_waited, free_waiter, turn_alone_back};
 use crate::teller::Teller;
 use crate::world::own_port;

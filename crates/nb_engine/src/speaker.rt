@@ -4,6 +4,9 @@ ghost use Rattle.nb_engine.specs.Tellings.{carrier_number};
 
 use nb_wire::Ip4;
 
+/// UDP's number as a protocol (RFC 768).
+pub(crate) const UDP: u8 = 17;
+
 /// What carries an open's messages.
 #[derive(Clone, Copy, Debug, PartialEq, Eq)]
 pub enum Carrier {
@@ -51,7 +54,7 @@ impl Carrier {
         ensures { result ≡ carrier_number self }
     {
         match self {
-            Carrier::Udp => 17,
+            Carrier::Udp => UDP,
             Carrier::Icmp => 1,
         }
     }

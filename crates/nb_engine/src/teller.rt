@@ -11,13 +11,10 @@ use crate::desk::Room;
 use crate::speaker::Speaker;
 use crate::spelled::Spelled;
 use nb_graph::{Msg, Outside, Port};
-use nb_nodes::Tag;
+use nb_nodes::{MAX_BODY, Tag};
 use nb_record::{Event, NoMemory};
 use nb_stack::Stack;
 use nb_wire::Ip4;
-
-/// The most bytes of a message that leaves in one frame.
-const MAX_MESSAGE: usize = 1480;
 
 /// What lies outside the graph: the records of what an open's objects tell are spelled at once.
 #[derive(Drop)]
@@ -110,7 +107,7 @@ fn send_datagram(
         (msg.now.first.now ++ msg.now.second.now) }
 {
     match u16::try_from(msg.b) {
-        Ok(port) if msg.first.len() <= MAX_MESSAGE && msg.second.is_empty() => {
+        Ok(port) if msg.first.len() <= MAX_BODY && msg.second.is_empty() => {
             told.put_datagram(net, who, tried, port, msg.first, room)
         }
         _ => told.lose(),
@@ -151,6 +148,7 @@ impl<'a> Outside for Teller<'a> {
         self.told.put_event(e);
     }
 
+    #[inline(always)]
     fn send(&mut self, _from: Port, msg: &Msg<'_>) {
         let (net, who) = (self.net, self.who);
         match Tag::try_from(msg.tag) {

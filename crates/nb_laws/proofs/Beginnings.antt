@@ -62,7 +62,7 @@ step_waits ins outs es n w o story counted h going only asked =
 
 step_resumes : (ins : List In) (outs : List Out) (es : List Event) (n : ℕ) (s : Running) → Story ins outs es → n ≡ length ins → NoneLives es → AgreesScript es s → (so_far es).is_open ≡ false → s.begun ≡ 4096 →
     IsStep es (n + 1) × IsResumed es
-step_resumes ins outs es n s story counted none script over full = (step_follows ins outs es n story counted (none_answered es none) (over_rests es over), by_count (script.begun ∙ full))
+step_resumes ins outs es n s story counted none script over full = (step_follows ins outs es n story counted (none_answered es none) (over_rests es over), by_count (script.begun ∙ full) over)
 
 step_sleeps : (ins : List In) (outs : List Out) (es : List Event) (n : ℕ) (w : World) (until : ℕ) → Story ins outs es → n ≡ length ins → AgreesWorld es w → NoneLives es → AgreesSettings (so_far es) w true → AgreesSleep (so_far es) w until →
     IsStep es (n + 1) × IsResumed es

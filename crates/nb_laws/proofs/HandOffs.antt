@@ -27,8 +27,9 @@ use Rattle.nb_engine.proofs.HandingLemmas.{all_append}
 use Rattle.nb_laws.specs.Events.{Event, starts, puts}
 use Rattle.nb_tftp.specs.Blocks.{is_whole}
 use Rattle.nb_laws.specs.Lists.{came_ok, last_end, end_by, datagrams_of, made}
-use Rattle.nb_laws.specs.HandOff.{last_image, image_at, images_brought, image_list}
-use Rattle.nb_laws.specs.Agreement.{AgreesImages, IsSilent}
+use Rattle.nb_laws.specs.HandOff.{last_image, image_at, images_brought, image_list, BootsFile}
+use Rattle.nb_laws.specs.Agreement.{AgreesImages}
+use Rattle.nb_laws.specs.Silence.{IsSilent}
 use Rattle.nb_laws.proofs.Histories.{gathered_one}
 use Rattle.nb_laws.proofs.Tellings.{told}
 use Rattle.nb_laws.proofs.Calls.{IsUsed}
@@ -181,18 +182,19 @@ no_command s shown o =
     parts_more ((command_record s shown ∷ []) ++ prints o.prints) (result o.cause ∷ []) (parts_more (command_record s shown ∷ []) (prints o.prints) (tt, tt) (no_prints o.prints)) (tt, tt)
 
 -- what a conclusion does to the list
-IsAfter : Cause → Image → ImageList → Conclusion → Type 0
-IsAfter cause image list (keeps new) = (is_ok_cause cause ≡ true) × (new.images ≡ with_image image list.images)
-IsAfter cause image list (fails c) = is_ok_cause c ≡ false
-IsAfter cause image list (boots new kernel) = (is_ok_cause cause ≡ true) × (new.images ≡ with_image image list.images) × (kernel ≡ place_for image list)
+IsAfter : Cause → Bool → Image → ImageList → Conclusion → Type 0
+IsAfter cause booting image list (keeps new) = (is_ok_cause cause ≡ true) × (new.images ≡ with_image image list.images)
+IsAfter cause booting image list (fails c) = is_ok_cause c ≡ false
+IsAfter cause booting image list (boots new kernel) =
+    (is_ok_cause cause ≡ true) × (new.images ≡ with_image image list.images) × (kernel ≡ place_for image list) × (booting ≡ true)
 
-taken_after : (c : Cause) (booting : Bool) (image : Image) (list : ImageList) → is_ok_cause c ≡ true → IsAfter c image list (taken_in booting image list)
+taken_after : (c : Cause) (booting : Bool) (image : Image) (list : ImageList) → is_ok_cause c ≡ true → IsAfter c booting image list (taken_in booting image list)
 unfolding IsAfter
 taken_after c false image list e = (e, refl)
 taken_after c true image list e = by (is_bootable (kind_of image.body))
   where
-    by : (b : Bool) → IsAfter c image list (cond b (boots (selected_in image list) (place_for image list)) (fails not_bootable))
-    by true = (e, refl, refl)
+    by : (b : Bool) → IsAfter c true image list (cond b (boots (selected_in image list) (place_for image list)) (fails not_bootable))
+    by true = (e, refl, refl, refl)
     by false = refl
 
 error_fails : (e : ImageError) → is_ok_cause (cause_of_error e) ≡ false
@@ -200,16 +202,16 @@ error_fails error.TooMany = refl
 error_fails error.TooLarge = refl
 error_fails error.NoMemory = refl
 
-stored_after : (c : Cause) (x : Option ImageError) (booting : Bool) (image : Image) (list : ImageList) → is_ok_cause c ≡ true → IsAfter c image list (stored x booting image list)
+stored_after : (c : Cause) (x : Option ImageError) (booting : Bool) (image : Image) (list : ImageList) → is_ok_cause c ≡ true → IsAfter c booting image list (stored x booting image list)
 unfolding IsAfter
 stored_after c (Some x) booting image list e = error_fails x
 stored_after c None booting image list e = taken_after c booting image list e
 
-conclusion_after : (c : Cause) (booting : Bool) (image : Image) (list : ImageList) → IsAfter c image list (conclusion c booting image list)
+conclusion_after : (c : Cause) (booting : Bool) (image : Image) (list : ImageList) → IsAfter c booting image list (conclusion c booting image list)
 unfolding IsAfter
 conclusion_after c booting image list = by (is_ok_cause c) refl
   where
-    by : (b : Bool) → is_ok_cause c ≡ b → IsAfter c image list (cond b (stored (refusal image list.images) booting image list) (fails c))
+    by : (b : Bool) → is_ok_cause c ≡ b → IsAfter c booting image list (cond b (stored (refusal image list.images) booting image list) (fails c))
     by true e = stored_after c (refusal image list.images) booting image list e
     by false e = e
 
@@ -226,22 +228,23 @@ result_brings es cause image end is whole last =
     brought_more es (puts (result ok)) ∙ ap (λ z. images_brought es ++ cond (came_ok z && is_whole (datagrams_of (made es - 1) es)) (last_image es) []) end
     ∙ ap (λ b. images_brought es ++ cond (b && is_whole (datagrams_of (made es - 1) es)) (last_image es) []) is ∙ ap (λ b. images_brought es ++ cond b (last_image es) []) whole ∙ ap (λ z. images_brought es ++ z) last
 
-by_conclusion : (es : List Event) (outs : List Out) (w : World) (own : ℕ) (s : Running) (cause : Cause) (image : Image) (c : Conclusion) → IsAfter cause image w.state.images c →
-    last_end es ≡ Some cause → (is_ok_cause cause ≡ is_whole (datagrams_of (made es - 1) es)) → last_image es ≡ image ∷ [] → w.state.images.images ≡ image_list (images_brought es) → HaveNoParts outs →
+by_conclusion : (es : List Event) (outs : List Out) (w : World) (own : ℕ) (s : Running) (cause : Cause) (booting : Bool) (image : Image) (c : Conclusion) → IsAfter cause booting image w.state.images c →
+    (booting ≡ true → BootsFile es) → last_end es ≡ Some cause → (is_ok_cause cause ≡ is_whole (datagrams_of (made es - 1) es)) → last_image es ≡ image ∷ [] → w.state.images.images ≡ image_list (images_brought es) → HaveNoParts outs →
     AgreesImages (es ++ told (conclusion_records c)) (outs ++ conclusion_records c) (phase_after (unbound w own) s c)
 unfolding IsAfter
-by_conclusion es outs w own s cause image (keeps new) h end whole last is none =
+by_conclusion es outs w own s cause booting image (keeps new) h file end whole last is none =
     let all = result_brings es cause image end h.0 (sym whole ∙ h.0) last in (
       h.1 ∙ ap (λ z. with_image image z) is ∙ sym (ap image_list all ∙ listed_more (images_brought es) image),
       parts_more outs (result ok ∷ []) none (tt, tt),
     )
-by_conclusion es outs w own s cause image (fails c) h end whole last is none =
+by_conclusion es outs w own s cause booting image (fails c) h file end whole last is none =
     (is ∙ sym (ap image_list (one_keeps es (result c) (failed_image es c h))), parts_more outs (result c ∷ []) none (tt, tt))
-by_conclusion es outs w own s cause image (boots new kernel) h end whole last is none =
+by_conclusion es outs w own s cause booting image (boots new kernel) h file end whole last is none =
     let all = result_brings es cause image end h.0 (sym whole ∙ h.0) last in
     let list : new.images ≡ image_list (images_brought es ++ image ∷ []) = h.1 ∙ ap (λ z. with_image image z) is ∙ sym (listed_more (images_brought es) image) in
     let place : kernel ≡ place_for image (record { images = image_list (images_brought es); selected = None }) = h.2 ∙ ap (λ z. unwrap_or (image_place image.name z) (length z)) is in
     record {
+      booted = record { before = es; since = []; ends = refl; silent = tt; boots = file h.3 };
       earlier = images_brought es;
       last = image;
       all = all;
@@ -251,12 +254,12 @@ by_conclusion es outs w own s cause image (boots new kernel) h end whole last is
           ∙ ap (λ z. (outs ++ result ok ∷ []) ++ handoff_records (place_for image (record { images = image_list (images_brought es); selected = None })) z) list;
     }
 
-pub concluded_images : (es : List Event) (outs : List Out) (w : World) (own : ℕ) (s : Running) (cause : Cause) (booting : Bool) (image : Image) → last_end es ≡ Some cause →
+pub concluded_images : (es : List Event) (outs : List Out) (w : World) (own : ℕ) (s : Running) (cause : Cause) (booting : Bool) (image : Image) → (booting ≡ true → BootsFile es) → last_end es ≡ Some cause →
     (is_ok_cause cause ≡ is_whole (datagrams_of (made es - 1) es)) → last_image es ≡ image ∷ [] → w.state.images.images ≡ image_list (images_brought es) → HaveNoParts outs →
     AgreesImages (es ++ told (conclusion_records (conclusion cause booting image w.state.images))) (outs ++ conclusion_records (conclusion cause booting image w.state.images))
     (phase_after (unbound w own) s (conclusion cause booting image w.state.images))
-concluded_images es outs w own s cause booting image end whole last is none =
-    by_conclusion es outs w own s cause image (conclusion cause booting image w.state.images) (conclusion_after cause booting image w.state.images) end whole last is none
+concluded_images es outs w own s cause booting image file end whole last is none =
+    by_conclusion es outs w own s cause booting image (conclusion cause booting image w.state.images) (conclusion_after cause booting image w.state.images) file end whole last is none
 
 -- no image comes but with a RESULT
 pub silent_image : (es : List Event) (o : Out) → IsSilent o → image_at es (puts o) ≡ []

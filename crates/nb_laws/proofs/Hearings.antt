@@ -34,7 +34,7 @@ use Rattle.nb_laws.proofs.Tellings.{told, story_still, still_aside, still_advanc
 use Rattle.nb_laws.proofs.Commands.{opens_begin, conclusion_begins, script_as, script_told}
 use Rattle.nb_laws.proofs.Asides.{aside_acts, still_conclusion, still_handoff, silent_handoff, none_of_conclusion}
 use Rattle.nb_laws.proofs.Calls.{Comes, got_same, each_number, live_one}
-use Rattle.nb_laws.proofs.Puttings.{HasBrought, conclusion_writes, acts_reasons}
+use Rattle.nb_laws.proofs.Puttings.{HasBrought, boots_file, conclusion_writes, acts_reasons}
 use Rattle.nb_laws.proofs.Ends.{world_taken, open_taken, goes_further, end_holds}
 
 -- a run's records have a history, with which this state agrees
@@ -186,6 +186,7 @@ hears_tells ins outs es w s o call added phase (is_over _ _ _ _ acts cause meets
       agrees = leads (es2 ++ told b) w o.begun.own_port o.number s concl world3 (λ j. live_kept j es2 b (kept es2 b aside2) ∙ none2 j)
           (script_told es2 b s (conclusion_begins (commands_begun es2) concl) (script_told es1 (ended k cause ∷ []) s refl (script_told es a s (opens_begin (commands_begun es) a (opens_acts w.net k acts)) script))) settings3 c.ports;
       images = subst (λ z. AgreesImages (es2 ++ told b) z (phase_after (unbound w o.begun.own_port) s concl)) joined
-          (concluded_images es2 ((outs ++ a) ++ ended k cause ∷ []) w o.begun.own_port s cause o.wanted.boots (image_from (with_entry o e)) (last_end_more es1 (puts (ended k cause)))
+          (concluded_images es2 ((outs ++ a) ++ ended k cause ∷ []) w o.begun.own_port s cause o.wanted.boots (image_from (with_entry o e))
+          (boots_file es2 cause o.wanted.boots (image_from (with_entry o e)) w.state.images brings) (last_end_more es1 (puts (ended k cause)))
           (holds.1 ∙ ap is_whole (got_same k es1 (o.entries ++ e ∷ []) open1.calls ∙ sym got2) ∙ ap (λ n. is_whole (lists.datagrams_of n es2)) (sym number2)) last (is ∙ sym (ap image_list brought2)) (parts_more (outs ++ a) (ended k cause ∷ []) (parts_more outs a none_before (opens_parts a (opens_acts w.net k acts))) (tt, tt)));
     }

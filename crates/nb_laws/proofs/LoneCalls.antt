@@ -1,5 +1,6 @@
 -- A frame or a time comes to the open of one object that a command waits for.
-use Rattle.std.proofs.Common.{◌≡◌, ℕ, ◌+◌, ◌<◌, ◌||◌, true, false, List, [], ◌∷◌, ◌++◌, Some, None, refl, sym, ◌∙◌, ap, subst, append-nil, add-zero, map}
+use Rattle.std.proofs.Common.{◌≡◌, ℕ, ◌+◌, ◌<◌, ◌||◌, true, false, List, [], ◌∷◌, ◌++◌, Some, None, refl, sym, ◌∙◌, ap, subst, append-nil, add-zero, map, eq-eqb}
+use Rattle.std.proofs.lemmas.Bool.{false≢true}
 use Rattle.std.specs.List.{flat_map, list_any}
 use Rattle.nb_graph.specs.Trace.{Said}
 use Rattle.nb_stack.specs.Brings.{Brought}
@@ -46,6 +47,9 @@ pub no_file : (t : Talk) (since : ℕ) → opens_file (opening_by (fields_of t) 
 no_file (looks_up q calls) since = refl
 no_file (leases a calls) since = refl
 no_file (pings p calls) since = refl
+
+pub not_file : (t : Talk) (since : ℕ) → (opening_by (fields_of t) since).kind ≡ 1 → ⊥
+not_file t since e = false≢true (sym (no_file t since) ∙ eq-eqb (fields_of t).kind 1 e)
 
 pub lone_blocks : (k : ℕ) (es : List Event) (t : Talk) (since : ℕ) → openings k es ≡ opening_by (fields_of t) since ∷ [] → file_blocks k es ≡ 0
 lone_blocks k es t since opening =

@@ -63,7 +63,7 @@ use Rattle.nb_laws.proofs.LookupCores.{lookup_is, dns_got}
 use Rattle.nb_laws.proofs.LeaseCores.{handed_got}
 use Rattle.nb_laws.proofs.Lones.{IsIncoming, Gone, talk_gone, port_of_talk}
 use Rattle.nb_laws.proofs.LoneTalks.{lone_asks, lone_ends}
-use Rattle.nb_laws.proofs.LoneCalls.{LoneComes, no_file}
+use Rattle.nb_laws.proofs.LoneCalls.{LoneComes, no_file, not_file}
 use Rattle.nb_laws.proofs.FoundHosts.{echo_kind, last_query, goes_on_with, HasGone, host_reached}
 
 -- WHAT IT SENDS
@@ -85,14 +85,14 @@ lone_tries k now net first acts (asks_one send advance items goes may) route =
 
 -- its records have their reasons
 lone_reasons : (es : List Event) (net : Client) (k : ℕ) (o : Opening) (first : SendTo) (acts : Acts) (gs : List Received) → client es ≡ bare net → openings k es ≡ o ∷ [] → open_has_ended k es ≡ false → lists.datagrams_of k es ≡ gs →
-    CoreAsks (MayAskFor (hardware es) k o gs) first acts → IsDue k es → IsAdvanced es → Reasons es (acts_records net k acts)
+    CoreAsks (MayAskFor (hardware es) k o gs) first acts → (o.kind ≡ 1 → ⊥) → IsDue k es → IsAdvanced es → Reasons es (acts_records net k acts)
 unfolding acts_records sends_records
-lone_reasons es net k o first acts gs is opening lives received (asks_none advance items tried) due a =
+lone_reasons es net k o first acts gs is opening lives received (asks_none advance items tried) other due a =
     subst (λ x. Reasons es (advance_records k x ++ sends_records net k acts.tried acts.sends.items)) (sym advance)
     (subst (λ z. Reasons es (sends_records net k acts.tried z)) (sym items) (no_reasons es a))
-lone_reasons es net k o first acts gs is opening lives received (asks_one send advance items goes may) due a =
+lone_reasons es net k o first acts gs is opening lives received (asks_one send advance items goes may) other due a =
     subst (λ x. Reasons es (advance_records k x ++ sends_records net k acts.tried acts.sends.items)) (sym advance)
-    (subst (λ z. Reasons es (sends_records net k acts.tried z)) (sym items) (send_reasons es net k o acts.tried send gs a is opening lives received may due))
+    (subst (λ z. Reasons es (sends_records net k acts.tried z)) (sym items) (send_reasons es net k o acts.tried send gs a is opening lives received may (λ n tries file. absurd (other file)) due))
 
 -- WHAT CAME WAS TAKEN
 
@@ -274,7 +274,7 @@ pub lone_tells : (ins : List In) (outs : List Out) (es : List Event) (w : World)
 lone_tells ins outs es w s o entries call e added phase (talks_on _ _ _ _ acts t goes none) incoming story c latest script settings asked is none_before =
     let a = acts_records w.net o.number acts in
     let x = taken es w o entries call acts t c (talk_gone (hardware es) o.number o.query o.start o.talk t e acts entries call goes c.talk incoming) in
-    let r = lone_reasons es w.net o.number (lone_opening o) (first_message o.talk) acts (got (entries ++ entry call acts ∷ [])) c.world.client c.opening c.lives x.received x.asked c.due c.advanced in
+    let r = lone_reasons es w.net o.number (lone_opening o) (first_message o.talk) acts (got (entries ++ entry call acts ∷ [])) c.world.client c.opening c.lives x.received x.asked (not_file o.talk o.start) c.due c.advanced in
     let left = kept es a (aside_acts w.net o.number acts) in
     let keep = opens_keep es a (opens_acts w.net o.number acts) in
     let same = opens_so_far es a (opens_acts w.net o.number acts) in
@@ -301,7 +301,7 @@ lone_tells ins outs es w s o entries call e added phase (comes_to_end _ _ _ _ ac
     let a = acts_records w.net o.number acts in
     let k = o.number in
     let x = taken es w o entries call acts t c (talk_gone (hardware es) k o.query o.start o.talk t e acts entries call goes c.talk incoming) in
-    let r = lone_reasons es w.net k (lone_opening o) (first_message o.talk) acts (got (entries ++ entry call acts ∷ [])) c.world.client c.opening c.lives x.received x.asked c.due c.advanced in
+    let r = lone_reasons es w.net k (lone_opening o) (first_message o.talk) acts (got (entries ++ entry call acts ∷ [])) c.world.client c.opening c.lives x.received x.asked (not_file o.talk o.start) c.due c.advanced in
     let all = entries ++ entry call acts ∷ [] in
     let end = settled cause o.query t w.state.table in
     let es1 = es ++ told a in
@@ -373,7 +373,7 @@ lone_tells ins outs es w s o entries call e added phase (finds_host _ _ _ _ acts
     let a = acts_records w.net o.number acts in
     let k = o.number in
     let x = taken es w o entries call acts t c (talk_gone (hardware es) k o.query o.start o.talk t e acts entries call goes c.talk incoming) in
-    let r = lone_reasons es w.net k (lone_opening o) (first_message o.talk) acts (got (entries ++ entry call acts ∷ [])) c.world.client c.opening c.lives x.received x.asked c.due c.advanced in
+    let r = lone_reasons es w.net k (lone_opening o) (first_message o.talk) acts (got (entries ++ entry call acts ∷ [])) c.world.client c.opening c.lives x.received x.asked (not_file o.talk o.start) c.due c.advanced in
     let all = entries ++ entry call acts ∷ [] in
     let es1 = es ++ told a in
     let es2 = es1 ++ puts (ended k cause) ∷ [] in

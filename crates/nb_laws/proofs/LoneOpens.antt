@@ -33,6 +33,7 @@ use Rattle.nb_laws.proofs.HandOffs.{opens_keep, opens_send, opens_parts, parts_m
 use Rattle.nb_laws.proofs.Commands.{opens_begin, script_as, script_told}
 use Rattle.nb_laws.proofs.SoFar.{so_far_more, opens_so_far, over_so_far, left_quiet, result_so_far, client_opens, client_stays, settings_as, settings_open, inquires_as_far, inquiring_keeps}
 use Rattle.nb_laws.proofs.Calls.{live_one}
+use Rattle.nb_laws.proofs.LoneCalls.{not_file}
 use Rattle.nb_laws.proofs.Puttings.{MayOpen, send_reasons}
 use Rattle.nb_laws.proofs.Hearings.{Tells, ended_world, ended_advanced, ended_none_live}
 use Rattle.nb_laws.proofs.Worlds.{no_way, bare_route}
@@ -172,7 +173,7 @@ lone_opens ins outs es v s q u writes asked route =
     let g : Opened ins outs es v s q = opened ins outs es v s q u writes in
     let hardware2 : hardware es2 ≡ hardware_in v = g.world.hardware_is in
     let r = send_reasons es2 v.net k (opening_by f v.time) (Some 1) first [] g.advanced g.world.client g.opening g.lives (ap (λ z. flat_map received_by z) g.called)
-    (subst (λ h. MayAskFor h k (opening_by f v.time) [] first) (sym hardware2) (first_may v q v.time)) (by_opening es f.kind f.server f.port f.own f.target) in
+    (subst (λ h. MayAskFor h k (opening_by f v.time) [] first) (sym hardware2) (first_may v q v.time)) (λ n tries file. absurd (not_file t v.time file)) (by_opening es f.kind f.server f.port f.own f.target) in
     let left = kept es2 b (aside_send v.net k (Some 1) first) in
     let keep = opens_keep es2 b (opens_send v.net k (Some 1) first) in
     let so_far3 : so_far (es2 ++ told b) ≡ so_far es = opens_so_far es2 b (opens_send v.net k (Some 1) first) ∙ g.so_far_is in

@@ -3,7 +3,7 @@ use Rattle.std.proofs.Common.{◌≡◌, ℕ, ◌+◌, ◌<◌, true, false, Lis
 use Rattle.nb_terms.specs.declared.cause.Cause.{Cause}
 use Rattle.nb_defs.specs.Causes.{ok}
 use Rattle.nb_defs.specs.Commands.{CommandOutcome, refused}
-use Rattle.nb_defs.specs.Records.{In, Out, leave}
+use Rattle.nb_defs.specs.Records.{In, Out, result, leave}
 use Rattle.nb_engine.specs.declared.world.World.{World}
 use Rattle.nb_engine.specs.Effects.{asks, goes, sleeps, effect, ShownWords, shown_words, table_after, up_after}
 use Rattle.nb_engine.proofs.CommandLaws.{same_world, same_up}
@@ -13,12 +13,14 @@ use Rattle.nb_engine.specs.Machine.{Machine, running, Move, passes, is_left, yie
 use Rattle.nb_laws.specs.Events.{Event, puts, EachEvent}
 use Rattle.std.proofs.lemmas.List.{map-append}
 use Rattle.nb_laws.specs.Lists.{commands_begun}
-use Rattle.nb_laws.specs.HandOff.{image_list, HandsOff}
+use Rattle.nb_laws.specs.HandOff.{image_list, HandsOff, HasBooted}
 use Rattle.nb_laws.proofs.HandOffs.{parts_more, one_keeps, command_keeps, no_command, silent_image, last_end_more}
 use Rattle.nb_laws.specs.CommandsSoFar.{CommandsSoFar, so_far}
 use Rattle.nb_laws.proofs.SoFar.{so_far_more, begins_so_far, command_so_far, silent_so_far, client_moved, client_stays, settings_done, settings_begun, asks_begun, sleep_begun}
 use Rattle.nb_defs.specs.Parts.{HaveNoParts}
 use Rattle.nb_laws.specs.Progress.{IsAdvanced}
+use Rattle.nb_laws.specs.Silence.{IsSilent}
+use Rattle.nb_engine.proofs.HandingLemmas.{all_append}
 use Rattle.nb_laws.specs.Agreement.{AgreesSettings, AgreesImages, AgreesPhase, AreStill}
 use Rattle.nb_laws.proofs.Histories.{each_append}
 use Rattle.nb_laws.proofs.Tellings.{told, story_still, still_aside, still_advanced, live_kept, silent_frames, kept, Story}
@@ -215,6 +217,14 @@ moves_tells ins outs es m added m' (hands n r rest) story advanced a is =
       advanced = still_advanced es b h advanced;
       agrees = (a.0.1, a.1.1, λ j. live_kept j es b (kept es b (still_aside b h)) ∙ a.2 j, ap (λ (m : CommandsSoFar). m.is_open) (so_far_more es (puts r) ∙ silent_so_far es (so_far es) r a.1.0) ∙ a.3);
       images = record {
+        booted = record {
+          before = is.booted.before;
+          since = is.booted.since ++ r ∷ [];
+          ends = ap (λ z. z ++ puts r ∷ []) is.booted.ends ∙ append_assoc is.booted.before (puts (result ok) ∷ told is.booted.since) (puts r ∷ [])
+              ∙ ap (λ z. is.booted.before ++ puts (result ok) ∷ z) (sym (map-append puts is.booted.since (r ∷ [])));
+          silent = all_append IsSilent is.booted.since (r ∷ []) is.booted.silent (a.1.0, tt);
+          boots = is.booted.boots;
+        };
         earlier = is.earlier;
         last = is.last;
         all = one_keeps es r (silent_image es r a.1.0) ∙ is.all;

@@ -36,7 +36,8 @@ use Rattle.nb_laws.specs.HandOff.{wanted_by}
 use Rattle.nb_laws.specs.Lists.{made, came_ok, last_end}
 use Rattle.nb_laws.specs.CommandsSoFar.{CommandsSoFar, so_far, so_far_by, no_commands, shown_effect, shown_table, shown_up, query_in, shown_query, found_table, left_table, ComesTo}
 use Rattle.nb_laws.specs.Progress.{NoneOversleeps}
-use Rattle.nb_laws.specs.Agreement.{IsSilent, AreSilent, bare, AgreesSettings, AgreesSleep, opening_of, AsksFor, Inquires}
+use Rattle.nb_laws.specs.Agreement.{bare, AgreesSettings, AgreesSleep, opening_of, AsksFor, Inquires}
+use Rattle.nb_laws.specs.Silence.{IsSilent, AreSilent}
 use Rattle.nb_laws.proofs.Hosts.{host_cases, address_cases}
 use Rattle.nb_laws.proofs.Inquiries.{IsFetch, fetches_at_once, fetches_of_host, fetch_of, asks_some, shown_inquiry_keeps}
 use Rattle.nb_laws.proofs.Histories.{followed_one, followed_append, client_linked}

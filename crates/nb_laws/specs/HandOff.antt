@@ -1,9 +1,9 @@
 -- What is handed off: the images that commands have brought, by the history alone.
-use Rattle.std.specs.Prelude.{◌≡◌, ℕ, ◌-◌, ◌==◌, ◌&&◌, Bool, true, List, [], ◌∷◌, ◌++◌, fold, filter, Option, Some, None, option_map, if◌then◌else◌}
+use Rattle.std.specs.Prelude.{◌≡◌, ℕ, ◌-◌, ◌==◌, ◌&&◌, Bool, true, List, [], ◌∷◌, ◌++◌, map, fold, filter, Option, Some, None, option_map, if◌then◌else◌}
 use Rattle.std.specs.List.{flat_map, AllByRecursion}
 use Rattle.std.specs.Option.{option_and_then, option_map_or}
 use Rattle.std.specs.Str.{bytes_eq}
-use Rattle.nb_defs.specs.Causes.{is_ok_cause}
+use Rattle.nb_defs.specs.Causes.{ok, is_ok_cause}
 use Rattle.nb_defs.specs.Parts.{HaveNoParts}
 use Rattle.nb_defs.specs.Records.{Out, step, result}
 use Rattle.nb_tftp.specs.Received.{Received}
@@ -14,11 +14,13 @@ use Rattle.nb_engine.specs.Conclusions.{place_for, handoff_records}
 use Rattle.nb_engine.specs.Effects.{Effect, says, asks, goes, sleeps, shuts_device, inquires, ShownWords}
 use Rattle.nb_engine.specs.Errands.{Wanted, wanted_at, fetches_then, echoes_then}
 use Rattle.nb_engine.specs.Queries.{Query, for_lease, for_echo, for_host, for_address}
+use Rattle.nb_engine.specs.declared.errand.RemoteFile.{RemoteFile}
 use Rattle.nb_tftp.specs.Cuts.{CarriesFile}
-use Rattle.nb_laws.specs.CommandsSoFar.{so_far, shown_effect}
+use Rattle.nb_laws.specs.CommandsSoFar.{so_far, shown_effect, ComesTo}
 use Rattle.nb_laws.specs.Events.{Event, puts, EachEvent}
 use Rattle.nb_laws.specs.Fetching.{FetchesFile}
 use Rattle.nb_laws.specs.Lists.{gathered, Opening, openings, opens_file, datagrams_of, came_ok, last_end, made}
+use Rattle.nb_laws.specs.Silence.{AreSilent}
 
 -- the file that a command fetches by this open, after it has looked its server up: the server is the open's, whose address `FindsHost` says
 abbrev pub wanted_of_host : Query → Opening → Option Wanted
@@ -74,9 +76,24 @@ images_brought es = gathered image_at [] es
 abbrev pub image_list : List Image → List Image
 image_list images = fold (λ list image. with_image image list) [] images
 
+-- The command that began last fetches a file which is to be booted: by its words, or of a server that it has looked up.
+pub data BootsFile (es : List Event) : Type 0 where
+  boots_at_once : (wanted : Wanted) → ComesTo es (made es - 1) (asks wanted) → wanted.boots ≡ true → BootsFile es
+  boots_of_host : (file : RemoteFile) (name : List ℕ) (by : ℕ) → ComesTo es (made es - 1) (inquires (for_host (fetches_then file) name by)) →
+      file.boots ≡ true → BootsFile es
+
+-- the last RESULT is Ok, of a command that boots, and no COMMAND stands after it
+pub record HasBooted (es : List Event) : Type 0 where
+  pub before : List Event
+  pub since : List Out
+  pub ends : es ≡ before ++ puts (result ok) ∷ map puts since
+  pub silent : AreSilent since
+  pub boots : BootsFile before
+
 -- The output, with these records still to come, ends with the hand-off of all the images brought, of which the last one is
--- booted; no PART stands before it.
+-- booted, after the RESULT of the command that boots it; no PART stands before it.
 pub record HandsOff (es : List Event) (outs rest : List Out) : Type 0 where
+  pub booted : HasBooted es
   pub earlier : List Image
   pub last : Image
   pub all : images_brought es ≡ earlier ++ last ∷ []

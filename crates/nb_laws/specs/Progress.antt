@@ -29,12 +29,13 @@ pub record IsStep (before : List Event) (number : ℕ) : Type 0 where
 pub data IsResumed (before : List Event) : Type 0 where
   -- an open lives
   by_live : (k : ℕ) (o : Opening) → live k before ≡ o ∷ [] → IsResumed before
-  -- the step before had all the commands that it may have
-  by_count : commands_begun before ≡ 4096 → IsResumed before
+  -- the step before had all the commands that it may have, and the last one's result
+  by_count : commands_begun before ≡ 4096 → (so_far before).is_open ≡ false → IsResumed before
   -- a command sleeps
   by_sleep : (seconds : ℕ) → (so_far before).is_open ≡ true → ComesTo before (made before) (sleeps seconds) → IsResumed before
 
--- START is used first; each other record while an open lives or a command sleeps, or where the step before had 4,096 COMMANDs
+-- START is used first; each other record while an open lives or a command sleeps, or where the step before had 4,096 COMMANDs, each with
+-- its RESULT
 abbrev pub StepsSo : List Event → Event → Type 0
 StepsSo before (starts n s) = IsStep before n × (before ≡ [])
 StepsSo before (hears n bytes m) = IsStep before n × IsResumed before

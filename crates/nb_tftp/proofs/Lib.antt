@@ -13,3 +13,4 @@ pub mod EndLaws
 pub mod CutLaws
 pub mod TryLaws
 pub mod AskedLaws
+pub mod NewestLaws
