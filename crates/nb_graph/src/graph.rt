@@ -241,6 +241,7 @@ impl<N: Node> Graph<N> {
 
     /// A message enters an object from below, by a slot 1 to 3, if that is open and free; else it
     /// is dropped.
+    #[inline(always)]
     pub fn up<O: Outside>(&mut self, to: Port, msg: &Msg<'_>, now: u64, out: &mut O) -> Reach
         requires { (1 ≤ to.slot) × (to.slot ≤ 3) }
         ensures dropped { (result ≡ reach.Dropped) ↔ (port self.old.book to.obj.0 to.slot ≢
