@@ -39,3 +39,6 @@ pub mod AskLemmas
 pub mod EffectLemmas
 pub mod DownLemmas
 pub mod OrderLemmas
+mod DueLemmas
+mod TiedLemmas
+mod DrainedLemmas

@@ -12,6 +12,7 @@ pub mod Went
 pub mod Order
 pub mod Laws
 pub mod Counted
+pub mod Drained
 -- of the inside
 pub mod Asked
 pub mod Sending

@@ -14,7 +14,7 @@ ghost use Rattle.nb_graph.specs.Deeds.{Closes, Ends, LetsAllGo, MustMake, MustPl
 ghost use Rattle.nb_graph.specs.Lived.{KeepsTraces};
 ghost use Rattle.nb_graph.specs.Noded.{AreNoded};
 ghost use Rattle.nb_graph.specs.Order.{ClosesOne, EndsInOrder, LetsOneGo};
-ghost use Rattle.nb_graph.specs.Whole.{Harvests, IsMade, KeepsRanks, OnlyDrops, node_at, node_of};
+ghost use Rattle.nb_graph.specs.Whole.{Harvests, IsLinked, IsMade, KeepsRanks, OnlyDrops, node_at, node_of};
 ghost use Rattle.nb_graph.specs.Whole.{StaysSame};
 
 use crate::Node;
@@ -182,6 +182,14 @@ impl<N: Node> Graph<N> {
     #[inline(always)]
     pub fn has_nodes(&self)
         ensures { AreNoded N.rank_of self.now }
+    {
+        let _inner = &self.inner;
+    }
+
+    /// What is true of every graph: links lead back, and down to objects of lower rank. It does nothing.
+    #[inline(always)]
+    pub fn has_links(&self)
+        ensures { IsLinked (port self.now.book) (rank self.now.book) }
     {
         let _inner = &self.inner;
     }

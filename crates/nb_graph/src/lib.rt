@@ -10,6 +10,7 @@ mod asked;
 mod asking;
 mod closing;
 mod downward;
+mod drained;
 mod effects;
 mod ending;
 mod graph;
@@ -25,6 +26,7 @@ mod timing;
 mod upward;
 
 pub use asked::Asked;
+pub use drained::closed_first_was_taken;
 pub use effects::{Emit, Few, Fx, Make};
 pub use graph::{Graph, NotOpen, Reach, entries_are_the_nodes_own, one_after_another};
 pub use nb_ledger::{GraphEvent, Msg, ObjId, Outside, Port, Way};

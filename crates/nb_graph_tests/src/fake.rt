@@ -31,6 +31,8 @@ pub(crate) enum Deed {
     PassUp,
     Close(u8),
     LendDown,
+    TakeOneAndAsk,
+    PassUpUntilAsked,
 }
 
 /// A node that does its deed, and counts its calls from below and the loads that came back.
@@ -87,6 +89,23 @@ pub(crate) fn pass_on(tag: u8, length: u32) -> Emit<Empty>
     }
 }
 
+/// No bytes, by slot 1.
+fn ask_below() -> Emit<Empty>
+    ensures slot { result.slot ≡ 1 }
+    ensures from { result.from ≡ 0 }
+    ensures to { result.to ≡ 0 }
+{
+    Emit {
+        slot: 1,
+        tag: 0,
+        a: 0,
+        b: 0,
+        from: 0,
+        to: 0,
+        load: None,
+    }
+}
+
 impl Node for Fake {
     type Load = Empty;
 
@@ -124,9 +143,15 @@ impl Node for Fake {
         match self.deed {
             Deed::Take => {}
             Deed::TakeAtMost(most) => fx.took = fx.took.min(u32::from(most.max(1))),
-            Deed::PassUp => fx.ups.first.put(pass_on(msg.tag, fx.took)),
+            Deed::PassUp | Deed::PassUpUntilAsked => {
+                fx.ups.first.put(pass_on(msg.tag, fx.took));
+            }
             Deed::Close(slot) => fx.closes.push((slot.min(3), WHY)),
             Deed::LendDown => {}
+            Deed::TakeOneAndAsk => {
+                fx.took = fx.took.min(1);
+                fx.downs.first.put(ask_below());
+            }
         }
         Ok(())
     }
@@ -135,8 +160,11 @@ impl Node for Fake {
         &mut self,
         _msg: &Msg<'_>,
         _now: u64,
-        _fx: &mut Fx<Fake, Empty>,
+        fx: &mut Fx<Fake, Empty>,
     ) -> Result<(), NoMemory> {
+        if matches!(self.deed, Deed::PassUpUntilAsked) {
+            fx.closes.push((0, WHY));
+        }
         Ok(())
     }
 
@@ -147,6 +175,8 @@ impl Node for Fake {
             Deed::Take => {}
             Deed::TakeAtMost(_) => {}
             Deed::PassUp => {}
+            Deed::TakeOneAndAsk => {}
+            Deed::PassUpUntilAsked => {}
             Deed::Close(slot) => fx.closes.push((slot.min(3), WHY)),
             Deed::LendDown => {
                 fx.downs.first.put(Emit {

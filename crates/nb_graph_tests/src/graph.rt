@@ -66,6 +66,41 @@ fn closed_inside_a_delivery(rt: HostRuntime) -> Result<(), Fail> {
     Ok(())
 }
 
+/// What an entry sent may be dropped where another entry of its object, within it, closes the port: the upper object took
+/// one byte of three when it asked the lower one, which closes its port first.
+#[test]
+fn closed_within_an_entry(rt: HostRuntime) -> Result<(), Fail> {
+    let mut tape = Tape {
+        events: Vec::new(rt.alloc()),
+    };
+    let mut graph = pair(&rt, &mut tape, Deed::TakeOneAndAsk, Deed::PassUpUntilAsked)?;
+    tape.events.clear();
+    let _ = graph.up(port(ObjId(2), 1), &bytes(b"abc"), 0, &mut tape);
+    // Entered below, Entered above, Entered below from above, both ports Closed, Entered by close, Left, Unplugged, Left,
+    // the rest Dropped, Left, Left.
+    happened(
+        &rt,
+        &tape,
+        &[
+            (5, 2),
+            (5, 1),
+            (5, 2),
+            (8, 2),
+            (8, 1),
+            (5, 1),
+            (6, 1),
+            (9, 2),
+            (6, 2),
+            (7, 1),
+            (6, 1),
+            (6, 2),
+        ],
+    );
+    closed_with(&rt, &tape, WHY);
+    assert_eq!(rt; graph.node(ObjId(1)).ok_or("dead")?.calls, 1);
+    Ok(())
+}
+
 /// A load that is dropped at a closed port comes back.
 #[test]
 fn lent_and_dropped(rt: HostRuntime) -> Result<(), Fail> {
