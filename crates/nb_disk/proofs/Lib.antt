@@ -3,3 +3,4 @@ pub mod StepLemmas
 pub mod StandsLemmas
 pub mod EndingLemmas
 pub mod CauseLemmas
+pub mod AskingLaws

@@ -1,10 +1,10 @@
 -- What a step of a disk comes to, by what it keeps
-use Rattle.std.specs.Prelude.{◌≡◌, ◌≤◌, ◌<◌, ⊤, ℕ, ◌+◌, ◌^◌, ◌==◌, ◌&&◌, Bool, true, false, List, [], ◌++◌, length, nat_le, nat_lt, Option, Some, None, if◌then◌else◌}
+use Rattle.std.specs.Prelude.{◌≡◌, ◌≤◌, ◌<◌, ⊤, ℕ, ◌+◌, ◌*◌, ◌^◌, ◌==◌, ◌&&◌, Bool, true, false, List, [], ◌++◌, length, nat_le, nat_lt, Option, Some, None, if◌then◌else◌}
 use Rattle.std.specs.Option.{option_map}
 use Rattle.nb_terms.specs.declared.cause.Cause.{Cause}
 use Rattle.nb_terms.specs.declared.acts.Acts.{Acts}
 use Rattle.nb_iscsipdu.specs.declared.command.Command.{Command}
-use Rattle.nb_iscsipdu.specs.declared.command.Command.TheVariants.{TestUnitReady, ReadCapacity}
+use Rattle.nb_iscsipdu.specs.declared.command.Command.TheVariants.{TestUnitReady, ReadCapacity, Read}
 use Rattle.nb_iscsipdu.specs.declared.answer.TaskStatus.{TaskStatus}
 use Rattle.nb_iscsipdu.specs.declared.answer.NopIn.{NopIn}
 use Rattle.nb_iscsipdu.specs.declared.answer.ScsiResponse.{ScsiResponse}
@@ -65,6 +65,21 @@ step_ends k cause = record {
 
 abbrev pub kept_putting : Kept → ℕ → Work → Kept
 kept_putting k exp_stat_sn work = record { lun = k.lun; cmd_sn = counted k.cmd_sn 1; exp_stat_sn = exp_stat_sn; task = counted k.task 1; work = work; sized = k.sized }
+
+-- the work once so many blocks are asked for, where nothing is at work
+abbrev pub work_asked : Work → ℕ → Work
+work_asked (Testing checks) n = Testing checks
+work_asked Sizing n = Sizing
+work_asked (Idle capacity) n = Reading capacity (512 * n) 0
+work_asked (Reading capacity asked got) n = Reading capacity asked got
+work_asked (Over capacity) n = Over capacity
+
+-- the text by which so many blocks are asked for, from this one on, and what is kept then
+abbrev pub read_text : Kept → ℕ → ℕ → List ℕ
+read_text k lba n = pdu_text (next_command k k.exp_stat_sn (Read lba n))
+
+abbrev pub kept_asked : Kept → ℕ → ℕ → Kept
+kept_asked k lba n = kept_putting k k.exp_stat_sn (work_asked k.work n)
 
 -- a command is put after an answer before the one of this number, and the work is this
 abbrev pub step_puts : Kept → ℕ → Command → Work → DiskStep

@@ -1,6 +1,6 @@
 //! What reads blocks asks by this, wherever they come from.
 
-ghost use Rattle.std.specs.Prelude.{◌≡◌, ◌≤◌, ℕ, Bool, Option, false, OnOk, OnErr};
+ghost use Rattle.std.specs.Prelude.{◌≡◌, ◌≤◌, ℕ, Bool, List, Option, false, IfOk, OnOk, OnErr};
 ghost use Rattle.nb_disk.specs.BlockReads.{TakesRead, WaitsForRead};
 
 use nb_terms::NoMemory;
@@ -32,7 +32,8 @@ impl From<NoMemory> for ReadRefusal {
 }
 
 /// Blocks of 512 bytes that are read by requests, one at a time: a drive of an iSCSI session, or a file of a
-/// server. What answers a request is given to the source in its own way, and goes up by `Acts`.
+/// server. A request is a function of the source and of what is asked for. What answers it is given to the source
+/// in its own way, and goes up by `Acts`.
 pub trait BlockSource: Drop {
     /// The number of blocks, once it is known.
     ghost size_of: { Self → Option ℕ };
@@ -42,6 +43,12 @@ pub trait BlockSource: Drop {
 
     /// Whether it has ended.
     ghost is_over: { Self → Bool };
+
+    /// The request for so many blocks, from this one on, of a source that waits for no answer.
+    ghost asks: { Self → ℕ → ℕ → List ℕ };
+
+    /// The source once it has put that request.
+    ghost asked: { Self → ℕ → ℕ → Self };
 
     /// The number of blocks, once it is known.
     fn capacity(&self) -> Option<u32>
@@ -61,6 +68,8 @@ pub trait BlockSource: Drop {
         requires few { n ≤ 64 }
         requires live { is_over self.old ≡ false }
         ensures refused { TakesRead (size_of self.old) (waits self.old) lba n result }
+        ensures text { IfOk result (λ text. text ≡ asks self.old lba n) }
+        ensures left { OnOk result (self.new ≡ asked self.old lba n) }
         ensures out { OnOk result (WaitsForRead (size_of self.old) (size_of self.new) (waits self.new) (is_over self.new)) }
         ensures err { OnErr result (self.new ≡ self.old) };
 }

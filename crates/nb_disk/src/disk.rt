@@ -47,7 +47,7 @@ impl Disk {
     ghost use Rattle.nb_disk.specs.Histories.{DiskCall, came, asked, stream_ended, nothing_read, Opened, reading, at_work, capacity_read};
     ghost use Rattle.nb_disk.specs.DiskAnswers.{opened_of, disk_answer, command_after, acts_of, asks_nothing, has_ended};
     ghost use Rattle.nb_disk.specs.DiskStands.{DiskStands, IsDiskAnswer, RefusesRead};
-    ghost use Rattle.nb_disk.specs.Steps.{work_is_over, work_capacity, has_work};
+    ghost use Rattle.nb_disk.specs.Steps.{work_is_over, work_capacity, has_work, read_text, kept_asked};
     ghost use Rattle.nb_disk.specs.BlockReads.{TakesRead, WaitsForRead};
 
     /// Begins with TEST UNIT READY.
@@ -124,6 +124,9 @@ impl Disk {
         // It is refused where it goes beyond the capacity that was read, and else where a command isn't answered.
         ensures refused { (o : Opened) (calls : List DiskCall) → DiskStands o calls self.old → RefusesRead (reading o calls) lba n result }
         ensures takes { TakesRead (work_capacity self.old.work) (has_work self.old.work) lba n result }
+        // Its text and what it keeps are functions of what it kept and of what is asked for.
+        ensures text { IfOk result (λ text. text ≡ read_text self.old lba n) }
+        ensures left { OnOk result (self.new ≡ kept_asked self.old lba n) }
         ensures out { OnOk result (WaitsForRead (work_capacity self.old.work) (work_capacity self.new.work) (has_work self.new.work) (work_is_over self.new.work)) }
         ensures err { OnErr result (self.new ≡ self.old) }
     {
@@ -180,13 +183,17 @@ impl Disk {
 
 /// The blocks of a session's drive.
 impl BlockSource for Disk {
-    ghost use Rattle.nb_disk.specs.Steps.{work_is_over, work_capacity, has_work};
+    ghost use Rattle.nb_disk.specs.Steps.{work_is_over, work_capacity, has_work, read_text, kept_asked};
 
     ghost size_of = { λ k. work_capacity k.work };
 
     ghost waits = { λ k. has_work k.work };
 
     ghost is_over = { λ k. work_is_over k.work };
+
+    ghost asks = { read_text };
+
+    ghost asked = { kept_asked };
 
     fn capacity(&self) -> Option<u32> {
         Disk::capacity(self)

@@ -18,4 +18,4 @@ mod work;
 
 pub use blocks::{BLOCK, BlockSource, ReadRefusal};
 pub use disk::Disk;
-pub use laws::ends_for_a_cause;
+pub use laws::{blocks_are_asked_as_history_says, ends_for_a_cause};

@@ -3,3 +3,4 @@ pub mod FieldLemmas
 pub mod TargetLemmas
 pub mod InfoLemmas
 pub mod JoinLemmas
+pub mod SumLemmas

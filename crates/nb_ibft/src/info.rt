@@ -8,8 +8,9 @@ use std::default::MadeWith;
 /// The most bytes of a text in a table.
 pub const MAX_TEXT: usize = 1088;
 
-/// A disk of an iSCSI target (RFC 7143), and how the client has logged in there.
-#[derive(Debug, Drop)]
+/// A disk of an iSCSI target (RFC 7143), and how the client has logged in there. It has secrets, so it can't be
+/// printed.
+#[derive(Drop)]
 pub struct BootTarget {
     /// The target's address; 0 is none.
     pub address: Ip4,
@@ -29,7 +30,7 @@ pub struct BootTarget {
 }
 
 /// What an operating system is to know of the client's network and its disks. An address of 0 is none.
-#[derive(Debug, Drop)]
+#[derive(Drop)]
 pub struct BootInfo {
     /// The initiator's name (RFC 7143, section 4.2.7).
     pub initiator: Text,

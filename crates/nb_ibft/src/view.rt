@@ -44,9 +44,11 @@ impl TableView<'_> {
 }
 
 /// The table that says this.
+#[tactic(auto, using(crate::proofs::SumLemmas::sums_to_zero))]
 pub fn table(alloc: Global, info: &BootInfo) -> Result<Text, NoMemory>
     requires { HasShortTexts (boot_info info.now) }
-    ensures { IfOk result (λ t. t ≡ ibft (boot_info info.now)) }
+    ensures value { IfOk result (λ t. t ≡ ibft (boot_info info.now)) }
+    ensures sum { IfOk result (λ t. sum t % 256 ≡ 0) }
 {
     let lent = LentInfo::of(info);
     let mut texts = Vec::new(alloc);
@@ -60,9 +62,11 @@ pub fn table(alloc: Global, info: &BootInfo) -> Result<Text, NoMemory>
 }
 
 /// The table that the bytes are, if they are one.
+#[tactic(auto, using(crate::proofs::SumLemmas::sums_to_zero))]
 pub fn read_table(bytes: &[u8]) -> Option<TableView<'_>>
     ensures same { IfSome result (λ t. t ≡ bytes.now) }
     ensures exact { IsSome result ↔ IsTable bytes.now }
+    ensures sum { IfSome result (λ _. sum bytes.now % 256 ≡ 0) }
 {
     let lent = LentInfo::read(bytes)?;
     if lent.is_table(bytes) {

@@ -1,9 +1,11 @@
 pub mod LoginHistoryLemmas
 pub mod LoginStandsLemmas
 pub mod LoginEndingLaws
+pub mod LoginEndedLaws
 pub mod ProofLaws
 pub mod HistoryLaws
 pub mod SecretLaws
 pub mod LengthLaws
 pub mod RequestLaws
 pub mod CarriedLaws
+pub mod KeyLaws

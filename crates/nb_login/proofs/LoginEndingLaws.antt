@@ -21,7 +21,7 @@ use Rattle.nb_login.specs.Infos.{has_secret, asks_back}
 use Rattle.nb_login.specs.Asking.{step_of}
 use Rattle.nb_login.specs.LoginVerdicts.{chooses_chap, names_method, has_digest, challenge_in, answers_back, goes_astray, broken, chap_kind, ask_again, go_on, begin_chap, at_method, at_challenge, at_response, by_keys, by_response, decided}
 use Rattle.nb_login.specs.LoginHistory.{LoginEntry, last_done, repeats, end_given, is_end, decided_after, decided_at, IsDecidedSo, LoginMeets}
-use Rattle.nb_login.specs.LoginEndings.{login_ok, waits_for, WaitsFor, IsSuccess, IsBreach, by_kind, by_stage, by_digest, by_method, by_challenge, by_response as by_own_response, by_patience, LoginEnding, by_parameters, by_status, by_no_secret, by_breach}
+use Rattle.nb_login.specs.LoginEndings.{login_ok, waits_for, WaitsFor, IsSuccess, CallsForNothing, IsBreach, by_kind, by_stage, by_digest, by_method, by_challenge, by_response as by_own_response, by_patience, LoginEnding, by_parameters, by_status, by_no_secret, by_breach}
 use Rattle.nb_login.proofs.LoginHistoryLemmas.{EachAnswer-at}
 
 -- where a decision is an end, its cause stands
@@ -33,24 +33,27 @@ Ends i before e (End reason) = LoginEnding i before e (as_cause reason)
 breach : (i : LoginInfo) (before : List LoginEntry) (e : LoginEntry) → IsBreach i before e → Ends i before e (broken e.came.rec)
 breach i before e is = by_breach is refl
 
-again_ends : (i : LoginInfo) (before : List LoginEntry) (e : LoginEntry) (step : LoginStep) (r : LoginResponseParts) → IsSuccess e r → r.transit ≡ false → Ends i before e (ask_again e.came.rec (repeats before) step)
-again_ends i before e step r is stays =
+again_ends : (i : LoginInfo) (before : List LoginEntry) (e : LoginEntry) (step : LoginStep) (r : LoginResponseParts) → WaitsFor before step → IsSuccess e r → CallsForNothing step r → r.transit ≡ false
+    → Ends i before e (ask_again e.came.rec (repeats before) step)
+again_ends i before e step r waits is nothing stays =
     cond_both (ltb (repeats before) 4) (Ask (ask.Again step (repeats before + 1))) (broken e.came.rec) (Ends i before e)
-    (λ on. tt) (λ off. breach i before e (by_patience r is stays (ltb-false (repeats before) 4 off)))
+    (λ on. tt) (λ off. breach i before e (by_patience step r waits is nothing stays (ltb-false (repeats before) 4 off)))
 
-onward_ends : (i : LoginInfo) (before : List LoginEntry) (e : LoginEntry) (step : LoginStep) (chap : Chap) (r : LoginResponseParts) → IsSuccess e r → Ends i before e (go_on e.came.rec (repeats before) step chap r)
-onward_ends i before e step chap r is =
+onward_ends : (i : LoginInfo) (before : List LoginEntry) (e : LoginEntry) (step : LoginStep) (chap : Chap) (r : LoginResponseParts) → WaitsFor before step → IsSuccess e r → CallsForNothing step r
+    → Ends i before e (go_on e.came.rec (repeats before) step chap r)
+onward_ends i before e step chap r waits is nothing =
     cond_both r.transit (Ask (ask.Parameters chap)) (ask_again e.came.rec (repeats before) step) (Ends i before e)
-    (λ on. tt) (λ off. again_ends i before e step r is off)
+    (λ on. tt) (λ off. again_ends i before e step r waits is nothing off)
 
-method_ends : (i : LoginInfo) (before : List LoginEntry) (e : LoginEntry) (r : LoginResponseParts) → WaitsFor before at.Method → IsSuccess e r → Ends i before e (at_method i e.came.rec (repeats before) r)
-method_ends i before e r waits is =
+method_ends : (i : LoginInfo) (before : List LoginEntry) (e : LoginEntry) (r : LoginResponseParts) → WaitsFor before at.Method → IsSuccess e r → goes_astray at.Method r ≡ false → has_digest r.keys ≡ false
+    → Ends i before e (at_method i e.came.rec (repeats before) r)
+method_ends i before e r waits is fits bare =
     cond_both (chooses_chap r.keys) (begin_chap i)
     (cond (asks_back i && (r.transit || names_method r.keys)) (broken e.came.rec) (go_on e.came.rec (repeats before) at.Method No r)) (Ends i before e)
-    (λ chap. cond_both (has_secret i) (Ask ask.Algorithm) (End (reason.Plain plain.NoSecret)) (Ends i before e) (λ has. tt) (λ none. by_no_secret r waits is chap none refl))
+    (λ chap. cond_both (has_secret i) (Ask ask.Algorithm) (End (reason.Plain plain.NoSecret)) (Ends i before e) (λ has. tt) (λ none. by_no_secret r waits is chap fits bare none refl))
     (λ other. cond_both (asks_back i && (r.transit || names_method r.keys)) (broken e.came.rec) (go_on e.came.rec (repeats before) at.Method No r) (Ends i before e)
     (λ bad. let parts = and_parts (asks_back i) (r.transit || names_method r.keys) bad in breach i before e (by_method r waits is parts.0 other parts.1))
-    (λ good. onward_ends i before e at.Method No r is))
+    (λ good. onward_ends i before e at.Method No r waits is other))
 
 challenge_ends : (i : LoginInfo) (before : List LoginEntry) (e : LoginEntry) (r : LoginResponseParts) (o : Option Challenge) → challenge_in r.keys ≡ o → WaitsFor before at.Challenge → IsSuccess e r → Ends i before e (at_challenge e.came.rec o)
 challenge_ends i before e r (Some challenge) found waits is = tt
@@ -60,17 +63,17 @@ response_ends : (i : LoginInfo) (before : List LoginEntry) (e : LoginEntry) (r :
 response_ends i before e r waits is =
     cond_both (asks_back i && not (answers_back i r.keys)) (broken e.came.rec) (go_on e.came.rec (repeats before) at.Response (chap_kind i) r) (Ends i before e)
     (λ bad. let parts = and_parts (asks_back i) (not (answers_back i r.keys)) bad in breach i before e (by_own_response r waits is parts.0 (not-true (answers_back i r.keys) parts.1)))
-    (λ good. onward_ends i before e at.Response (chap_kind i) r is)
+    (λ good. onward_ends i before e at.Response (chap_kind i) r waits is tt)
 
 keys_end : (i : LoginInfo) (before : List LoginEntry) (e : LoginEntry) (step : LoginStep) (r : LoginResponseParts) → WaitsFor before step → IsSuccess e r
     → goes_astray step r ≡ false → has_digest r.keys ≡ false → Ends i before e (by_keys i step e.came.rec (repeats before) r)
-keys_end i before e at.Method r waits is fits plain = method_ends i before e r waits is
-keys_end i before e at.Challenge r waits is fits plain = challenge_ends i before e r (challenge_in r.keys) refl waits is
-keys_end i before e at.Response r waits is fits plain = response_ends i before e r waits is
-keys_end i before e at.Identified r waits is fits plain = onward_ends i before e at.Identified (chap_kind i) r is
-keys_end i before e (at.Parameters chap) r waits is fits plain =
+keys_end i before e at.Method r waits is fits bare = method_ends i before e r waits is fits bare
+keys_end i before e at.Challenge r waits is fits bare = challenge_ends i before e r (challenge_in r.keys) refl waits is
+keys_end i before e at.Response r waits is fits bare = response_ends i before e r waits is
+keys_end i before e at.Identified r waits is fits bare = onward_ends i before e at.Identified (chap_kind i) r waits is tt
+keys_end i before e (at.Parameters chap) r waits is fits bare =
     cond_both r.transit (Open chap) (ask_again e.came.rec (repeats before) (at.Parameters chap)) (Ends i before e)
-    (λ on. by_parameters chap r waits is on fits plain refl) (λ off. again_ends i before e (at.Parameters chap) r is off)
+    (λ on. by_parameters chap r waits is on fits bare refl) (λ off. again_ends i before e (at.Parameters chap) r waits is tt off)
 
 response_read_ends : (i : LoginInfo) (before : List LoginEntry) (e : LoginEntry) (step : LoginStep) (r : LoginResponseParts) → WaitsFor before step → answer_read e.came.pdu ≡ login r
     → Ends i before e (by_response i step e.came.rec (repeats before) r)

@@ -1,5 +1,7 @@
 pub mod Infos
 pub mod Asking
+pub mod Refusals
+pub mod KeysSent
 pub mod LoginVerdicts
 pub mod LoginHistory
 pub mod LoginStands

@@ -45,6 +45,14 @@ pub record IsSuccess (e : LoginEntry) (r : LoginResponseParts) : Type 0 where
   pub reads : answer_read e.came.pdu ≡ login r
   pub class : r.class ≡ 0
 
+-- the answer's keys call for no request of their own: the choice of CHAP and a challenge do
+abbrev pub CallsForNothing : LoginStep → LoginResponseParts → Type 0
+CallsForNothing at.Method r = chooses_chap r.keys ≡ false
+CallsForNothing at.Challenge r = ⊥
+CallsForNothing at.Response r = Unit {0}
+CallsForNothing at.Identified r = Unit {0}
+CallsForNothing (at.Parameters chap) r = Unit {0}
+
 -- the answer isn't allowed in its place
 pub data IsBreach (i : LoginInfo) (before : List LoginEntry) (e : LoginEntry) : Type 0 where
   -- it is no Login Response
@@ -61,10 +69,12 @@ pub data IsBreach (i : LoginInfo) (before : List LoginEntry) (e : LoginEntry) : 
   -- it doesn't answer our challenge
   by_response : (r : LoginResponseParts) → WaitsFor before at.Response → IsSuccess e r → asks_back i ≡ true
       → answers_back i r.keys ≡ false → IsBreach i before e
-  -- it doesn't go on, as four answers before it
-  by_patience : (r : LoginResponseParts) → IsSuccess e r → r.transit ≡ false → 4 ≤ repeats before → IsBreach i before e
+  -- it neither goes on nor calls for a request of its own, as four answers before it
+  by_patience : (step : LoginStep) (r : LoginResponseParts) → WaitsFor before step → IsSuccess e r → CallsForNothing step r
+      → r.transit ≡ false → 4 ≤ repeats before → IsBreach i before e
 
--- Why an answer gave this end: each cause stands in what came and what had been asked, and there is no other.
+-- Why an answer gave this end: each cause stands in what came and what had been asked, and there is no other. Where one
+-- of them stands, that end is given.
 pub data LoginEnding (i : LoginInfo) (before : List LoginEntry) (e : LoginEntry) (cause : Cause) : Type 0 where
   -- the target goes on from the parameters
   by_parameters : (chap : Chap) (r : LoginResponseParts) → WaitsFor before (at.Parameters chap) → IsSuccess e r → r.transit ≡ true
@@ -74,7 +84,7 @@ pub data LoginEnding (i : LoginInfo) (before : List LoginEntry) (e : LoginEntry)
       → cause ≡ login_refused e.came.rec r → LoginEnding i before e cause
   -- it chooses CHAP, and our name or secret isn't set
   by_no_secret : (r : LoginResponseParts) → WaitsFor before at.Method → IsSuccess e r → chooses_chap r.keys ≡ true
-      → has_secret i ≡ false → cause ≡ login_no_secret → LoginEnding i before e cause
+      → goes_astray at.Method r ≡ false → has_digest r.keys ≡ false → has_secret i ≡ false → cause ≡ login_no_secret → LoginEnding i before e cause
   by_breach : IsBreach i before e → cause ≡ login_broken e.came.rec → LoginEnding i before e cause
 
 -- An answer of the target has the response to our challenge, under the name that was set for it; and it is the

@@ -2,7 +2,9 @@
 
 ghost use Rattle.std.specs.Prelude.{◌≡◌};
 ghost use Rattle.nb_login.specs.Infos.{is_set};
+ghost use Rattle.nb_login.specs.Refusals.{has_zero};
 
+use crate::refusal::SentName;
 use nb_wire::Text;
 
 /// What a login is begun with. An empty `user`, `secret` or `reverse_user` counts as unset.
@@ -28,6 +30,22 @@ pub struct LoginInfo {
 
 impl LoginInfo {
     ghost use Rattle.nb_login.specs.Infos.{has_secret, asks_back, isid, own_identifier, own_challenge};
+    ghost use Rattle.nb_login.specs.Refusals.{zero_name};
+
+    /// The first name that may be sent and that holds a zero byte.
+    pub(crate) fn zero_name(&self) -> Option<SentName>
+        ensures { result ≡ zero_name self.now }
+    {
+        if has_zero(&self.initiator) {
+            Some(SentName::Initiator)
+        } else if has_zero(&self.target) {
+            Some(SentName::Target)
+        } else if has_zero(&self.user) {
+            Some(SentName::User)
+        } else {
+            None
+        }
+    }
 
     /// Whether we can answer a challenge.
     pub(crate) fn has_secret(&self) -> bool
@@ -76,4 +94,10 @@ fn is_set(text: &Text) -> bool
     ensures { result ≡ is_set text.now }
 {
     text.len() > 0
+}
+
+fn has_zero(name: &Text) -> bool
+    ensures { result ≡ has_zero name.now }
+{
+    name.as_slice().contains(&0)
 }

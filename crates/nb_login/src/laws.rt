@@ -1,23 +1,28 @@
 //! Laws of what a login promises of all its answers, for a caller that keeps them: each is a function that
 //! does nothing, whose contract is the law.
 
-ghost use Rattle.std.specs.Prelude.{◌≡◌, ◌≤◌, ◌<◌, ◌^◌, ◌∷◌, ◌++◌, ℕ, List, Some, true, length, map};
+ghost use Rattle.std.specs.Prelude.{◌≡◌, ◌≤◌, ◌<◌, ◌^◌, ◌∷◌, ◌++◌, [], ℕ, List, Some, None, true, length, map};
 ghost use Rattle.nb_terms.specs.declared.cause.Cause.{Cause};
 ghost use Rattle.nb_login.specs.declared.info.LoginInfo.{LoginInfo};
 ghost use Rattle.nb_login.specs.declared.session.Session.{Session};
 ghost use Rattle.nb_login.specs.declared.step.NextRequest.{NextRequest};
+ghost use Rattle.nb_iscsipdu.specs.KeyTexts.{texts_between};
 ghost use Rattle.nb_login.specs.Infos.{is_set, asks_back};
+ghost use Rattle.nb_login.specs.Refusals.{zero_name};
+ghost use Rattle.nb_login.specs.KeysSent.{request_lines};
 ghost use Rattle.nb_login.specs.Asking.{login_text, carried, request_keys};
 ghost use Rattle.nb_login.specs.LoginHistory.{PduCame, LoginEntry, LoginMeets, end_given, last_done, repeats};
 ghost use Rattle.nb_login.specs.LoginStands.{session_opened};
 ghost use Rattle.nb_login.specs.LoginEndings.{LoginEnding, HasProof};
 ghost use Rattle.nb_login.specs.Logins.{login_history, login_said, login_end, login_session, with_secret, with_reverse_secret, HasSameResponse, IsLoginText, HasUsualNames};
 
-/// Each cause of an end stands in what came and what had been asked, and no other cause comes: `LoginEnding`
-/// has what stands after each.
+/// An answer gives an end exactly where its cause stands in what came and what had been asked: `LoginEnding` has
+/// what stands after each.
 pub fn ends_for_a_cause()
-    ensures { (i : LoginInfo) (h : List LoginEntry) (e : LoginEntry) (later : List LoginEntry) (cause : Cause)
+    ensures caused { (i : LoginInfo) (h : List LoginEntry) (e : LoginEntry) (later : List LoginEntry) (cause : Cause)
         → LoginMeets i (h ++ e ∷ later) → end_given e.does ≡ Some cause → LoginEnding i h e cause }
+    ensures ends { (i : LoginInfo) (h : List LoginEntry) (e : LoginEntry) (later : List LoginEntry) (cause : Cause)
+        → LoginMeets i (h ++ e ∷ later) → LoginEnding i h e cause → end_given e.does ≡ Some cause }
 {}
 
 /// A session that was opened where the target is to answer our challenge has its answer: the one to the request
@@ -61,4 +66,11 @@ pub fn requests_are_pdus()
         → IsLoginText (login_text i request sn) sn (carried (request_keys i request)) }
     ensures keys { (i : LoginInfo) (request : NextRequest) → HasUsualNames i
         → carried (request_keys i request) ≡ request_keys i request }
+{}
+
+/// A login that is begun sends the keys of each request and no others: whoever reads its texts between zero bytes
+/// finds these, in this order, whatever its names and secrets are.
+pub fn settings_add_no_keys()
+    ensures { (i : LoginInfo) (request : NextRequest) → zero_name i ≡ None
+        → texts_between (request_keys i request) ≡ request_lines i request ++ [] ∷ [] }
 {}

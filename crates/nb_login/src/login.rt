@@ -1,6 +1,7 @@
 //! The core of one login.
 
 use crate::info::LoginInfo;
+use crate::refusal::LoginRefusal;
 use crate::session::Session;
 use crate::state::{Negotiation, State};
 use crate::step::{LoginStep, NextRequest};
@@ -30,13 +31,19 @@ impl Login {
     ghost use Rattle.nb_login.specs.Asking.{login_text};
     ghost use Rattle.nb_login.specs.LoginHistory.{LoginEntry, login_entry, pdu_came, decided_at, expected_of, text_put, end_given, login_ending, login_ended};
     ghost use Rattle.nb_login.specs.LoginStands.{LoginStands, IsOver, session_opened};
+    ghost use Rattle.nb_login.specs.Refusals.{BeginsLogin};
     ghost use Rattle.nb_login.specs.declared.step.NextRequest.TheVariants.{Names};
 
     /// Begins a login, and returns the text of its first request.
-    pub fn start(alloc: Global, info: LoginInfo) -> Result<(Login, Text), NoMemory>
+    pub fn start(alloc: Global, info: LoginInfo) -> Result<(Login, Text), LoginRefusal>
         ensures stands { IfOk result (λ r. LoginStands info r.0 []) }
         ensures names { IfOk result (λ r. r.1 ≡ login_text info Names 0) }
+        // It is refused exactly where a name that may be sent holds a zero byte, but for memory.
+        ensures refused { BeginsLogin info result }
     {
+        if let Some(name) = info.zero_name() {
+            return Err(LoginRefusal::ZeroByte(name));
+        }
         let text = info.request(alloc, &NextRequest::Names, 0)?;
         let negotiation = Negotiation {
             info,

@@ -1,4 +1,4 @@
-use crate::{Login, LoginInfo, Session};
+use crate::{Login, LoginInfo, LoginRefusal, SentName, Session};
 use nb_iscsipdu::Pdu;
 use nb_terms::{Acts, NoMemory};
 use nb_wire::Text;
@@ -256,6 +256,38 @@ fn begins_with_the_names(rt: HostRuntime) -> Result<(), Fail> {
         let (_, put) = Login::start(rt.alloc(), info(rt.alloc(), names)?)?;
         let wanted = request(rt.alloc(), 0x81, 0, keys)?;
         assert!(rt; put.as_slice() == wanted.as_slice(), "{names:?}");
+    }
+    Ok(())
+}
+
+/// An initiator's name, a target's, a user and a secret; the name that is refused, and the code of the cause.
+type Zeros = ([&'static [u8]; 4], Option<(SentName, u8)>);
+
+/// A zero byte ends a key's text (RFC 7143, section 6.1): a name that is sent may hold none. A secret isn't sent.
+const ZEROS: [Zeros; 5] = [
+    (
+        [b"i\0AuthMethod=None", b"t", b"u", b"s"],
+        Some((SentName::Initiator, 18)),
+    ),
+    ([b"i", b"t\0", b"u", b"s"], Some((SentName::Target, 15))),
+    ([b"i", b"t", b"\0u", b"s"], Some((SentName::User, 18))),
+    ([b"i", b"\0", b"\0", b"s"], Some((SentName::Target, 15))),
+    ([b"i", b"t", b"u", b"s\0s"], None),
+];
+
+#[test]
+fn refuses_zero_bytes(rt: HostRuntime) -> Result<(), Fail> {
+    let alloc = rt.alloc();
+    for (names, expected) in ZEROS {
+        let [initiator, target, user, secret] = names;
+        let mut info = info(alloc, [user, secret, b"", b""])?;
+        info.initiator = text(alloc, initiator)?;
+        info.target = text(alloc, target)?;
+        let refusal = Login::start(alloc, info).err();
+        let name = expected.map(|(name, _)| LoginRefusal::ZeroByte(name));
+        assert_eq!(rt; refusal, name, "{names:?}");
+        let code = refusal.map(|refusal| refusal.cause().code);
+        assert_eq!(rt; code, expected.map(|(_, code)| code), "{names:?}");
     }
     Ok(())
 }
