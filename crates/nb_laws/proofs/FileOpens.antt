@@ -24,7 +24,7 @@ use Rattle.nb_laws.specs.HandOff.{image_list, images_brought}
 use Rattle.nb_laws.specs.CommandsSoFar.{CommandsSoFar, so_far}
 use Rattle.nb_laws.specs.Progress.{IsAdvanced}
 use Rattle.nb_laws.specs.Frames.{WritesSo}
-use Rattle.nb_laws.specs.Endings.{Holds, by_no_route}
+use Rattle.nb_laws.specs.Endings.{Holds, IsJustOpened, by_no_route}
 use Rattle.nb_laws.specs.Agreement.{AgreesWorld, AgreesScript, AgreesSettings, NoneLives, AsksFor, opening_of}
 use Rattle.nb_laws.proofs.HandOffs.{opens_keep, opens_send, opens_parts, parts_more, one_keeps, failed_image, last_end_more}
 use Rattle.nb_laws.proofs.SoFar.{so_far_more, opens_so_far, conclusion_so_far, left_quiet, client_opens, client_stays, settings_as, settings_over, settings_open, asks_as}
@@ -127,7 +127,8 @@ file_fails ins outs es w s wanted u writes asked route =
     let opening = opening_of (open_for w wanted) in
     let empty : is_whole (lists.datagrams_of k es2) ≡ false = ap (λ z. is_whole (flat_map received_by z)) (calls_more k es (puts o) ∙ append-nil (calls k es) ∙ untold1.0) in
     let holds : Holds k es2 cause = by_no_route opening (opened_one es w wanted u.world) refl
-    (subst (λ (x : Client). fate_of x (route_of x.up x.address (host opening.server) opening.own) ≡ fate.NoRoute) (sym world2.client) (no_way _ (bare_route w.net (request_of (begun_for w wanted)) ∙ route))) in
+    (subst (λ (x : Client). fate_of x (route_of x.up x.address (host opening.server) opening.own) ≡ fate.NoRoute) (sym world2.client) (no_way _ (bare_route w.net (request_of (begun_for w wanted)) ∙ route)))
+    (record { before = es; kind = 1; server = wanted.target.server; port = wanted.target.port; own = own_port w.w k; target = wanted.target.path; last = refl }) in
     let lives = live_one k es2 opening (opened_one es w wanted u.world) (over_more k es (puts o) ∙ no_or (is_ended k es) false refl ∙ u.world.unended k (le_refl k)) in
     let story3 : Story ins ((outs ++ o ∷ []) ++ ended k cause ∷ []) es3 = story_put ins _ es2 (ended k cause) story2 (record { read = tt; end = (holds, opening, lives, sym empty); frame = tt; step = tt; advance = advanced2; try = tt }) in
     let advanced3 = ended_advanced es2 k cause advanced2 in

@@ -24,7 +24,7 @@ use Rattle.nb_laws.specs.HandOff.{images_brought, image_list}
 use Rattle.nb_laws.specs.Openings.{inquiry_fields, opens_for_query}
 use Rattle.nb_laws.specs.Progress.{IsAdvanced}
 use Rattle.nb_laws.specs.Frames.{MayAskFor, by_look_up, by_discover, by_ping, WritesSo, by_opening, by_failed_end}
-use Rattle.nb_laws.specs.Endings.{fate_to, Holds, by_no_route}
+use Rattle.nb_laws.specs.Endings.{fate_to, Holds, IsJustOpened, by_no_route}
 use Rattle.nb_laws.specs.Agreement.{AgreesWorld, AgreesSettings, Inquires, IsTalk, TalkMeets, IsOnly, NoneLives, opening_by, bare}
 use Rattle.nb_laws.proofs.Histories.{client_put, offset_more, hardware_more, time_more}
 use Rattle.nb_laws.proofs.Tellings.{told, story_still, still_advanced, live_kept, live_same, advanced_open, made_more, kept, world_kept, tries_by, Story, story_put, story_told, openings_more, calls_more, marks_more, over_more, no_more, no_or, same_number, other_number}
@@ -225,7 +225,8 @@ lone_fails ins outs es v s q u writes asked route =
     let es3 = es2 ++ puts (ended k cause) ∷ [] in
     let g : Opened ins outs es v s q = opened ins outs es v s q u writes in
     let unanswered : has_its_answer k o es2 ≡ false = ap (λ z. answers_open (hardware es2) k o (flat_map received_by z)) g.called ∙ first_unanswered (hardware es2) k v q v.time in
-    let holds : Holds k es2 cause = by_no_route o g.opening refl (subst (λ (c : Client). fate_to c o ≡ fate.NoRoute) (sym g.world.client) (nowhere v q v.time route)) in
+    let holds : Holds k es2 cause = by_no_route o g.opening refl (subst (λ (c : Client). fate_to c o ≡ fate.NoRoute) (sym g.world.client) (nowhere v q v.time route))
+    (record { before = es; kind = f.kind; server = f.server; port = f.port; own = f.own; target = f.target; last = refl }) in
     let story3 : Story ins ((outs ++ open_told k f ∷ []) ++ ended k cause ∷ []) es3 = story_put ins _ es2 (ended k cause) g.story
     (record { read = tt; end = (holds, o, live_one k es2 o g.opening g.lives, sym unanswered); frame = tt; step = tt; advance = g.advanced; try = tt }) in
     let advanced3 = ended_advanced es2 k cause g.advanced in
