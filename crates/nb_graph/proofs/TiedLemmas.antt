@@ -37,12 +37,6 @@ same-false p r n = elim (cases_eq p.obj.0 r.obj.0) [
   | inr a ↦ rw (ne_eqb p.obj.0 r.obj.0 a) refl
 ]
 
-pub is-same : (p r : Port) → is_same_port p r ≡ true → Is p r
-is-same p r e = elim (cases_port r.obj.0 r.slot p) [
-  | inl i ↦ i
-  | inr n ↦ absurd (false≢true (sym (same-false p r n) ∙ e))
-]
-
 pub not-same : (p r : Port) → is_same_port p r ≡ false → Is p r → ⊥
 not-same p r e i = absurd (false≢true (sym e ∙ same-true p r i))
 
