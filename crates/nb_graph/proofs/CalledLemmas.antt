@@ -9,13 +9,13 @@ use Rattle.nb_graph.specs.Whole.{port_at}
 use Rattle.nb_graph.specs.Trace.{Nature, Said, NodeEntry, up, down, closed, time, regain, said_behind, left, silence}
 use Rattle.nb_graph.specs.Deeds.{calls, Stage, MustHear, Holds, Returns, rest, runs_of}
 use Rattle.nb_graph.specs.Scene.{Scene}
-use Rattle.nb_graph.specs.Follows.{Becomes, peer_hears, returns, takes, takes_down, takes_time, next}
-use Rattle.nb_graph.specs.Accounts.{Account, after_call, rests, enters, sent_by, taken_by, fx_bytes}
+use Rattle.nb_graph.specs.Follows.{Becomes, peer_hears, returns, takes, takes_down, takes_time}
+use Rattle.nb_graph.specs.Accounts.{Account, after_call, rests, sent_by, taken_by, fx_bytes}
 use Rattle.nb_graph.specs.Drained.{Watch}
 use Rattle.nb_graph.proofs.LinkLemmas.{cases_port}
 use Rattle.nb_graph.proofs.DueLemmas.{Is, Bears, Bars, Due, Fit, Order, entered, bump-own, due-none, due-less, due-push, fit-rest, order-runs, entered-append, entered-runs, due-runs, due-fails}
 use Rattle.nb_graph.proofs.TiedLemmas.{Tied}
-use Rattle.nb_graph.proofs.FairLemmas.{Fair, Seen, popped, still, fit-other, bears-other}
+use Rattle.nb_graph.proofs.FairLemmas.{Fair, Seen, popped, fit-other, bears-other}
 
 -- one whose object is called
 called-peer : (c : Bool) (a z : Account) → z.peer ≡ a.peer → (cond c z (rests a)).peer ≡ a.peer
@@ -62,9 +62,9 @@ module _ {N L : Type 0} (known : Nature N L) (p q : Port) where
           peer = peer;
           runs = rw (entered-runs known p q x m done fx (hold ∷ gs)) runs;
           order = order-runs known p q b.entered x m done fx (hold ∷ gs) apart
-            (λ _. bump-own p.obj.0 x (entered p.obj.0 gs) (sym own))
-            (λ _ le j d. due-none known p q b.entered gs j order (bump-zero p.obj.0 x (entered p.obj.0 gs) (sym own) le) (popped known p q hold gs j (λ i y. bears-other known p q (port_at x slot) by o i (λ t. far t.0) y) (λ y. y) d))
-            (fit-other known p q b.entered (port_at x slot) by o gs (λ t. far t.0), order);
+              (λ _. bump-own p.obj.0 x (entered p.obj.0 gs) (sym own))
+              (λ _ le j d. due-none known p q b.entered gs j order (bump-zero p.obj.0 x (entered p.obj.0 gs) (sym own) le) (popped known p q hold gs j (λ i y. bears-other known p q (port_at x slot) by o i (λ t. far t.0) y) (λ y. y) d))
+              (fit-other known p q b.entered (port_at x slot) by o gs (λ t. far t.0), order);
           missing = k + length bytes;
           due = subst (λ y. Due p q (k + length bytes) (runs_of known y m done fx ++ hold ∷ gs)) (sym own) (due-runs known p q m done fx (hold ∷ gs) k (inr (inr due)));
           short = let l = length-append a.sent (sent_by known p.slot e) in let i = ap length sends in omega (arith, l, i, short);
@@ -84,7 +84,7 @@ module _ {N L : Type 0} (known : Nature N L) (p q : Port) where
           peer = peer;
           runs = rw (entered-runs known p q x m done fx (hold ∷ gs)) runs;
           order = subst (λ z. Order p q z (run ++ hold ∷ gs)) (sym (called-entered (eqb q.obj.0 x) b (after_call known q b e) refl))
-            (order-runs known p q b.entered x m done fx (hold ∷ gs) apart (λ i. absurd (far i)) (λ i. absurd (far i)) order);
+              (order-runs known p q b.entered x m done fx (hold ∷ gs) apart (λ i. absurd (far i)) (λ i. absurd (far i)) order);
           missing = k;
           due = due;
           short = short;
@@ -98,8 +98,8 @@ module _ {N L : Type 0} (known : Nature N L) (p q : Port) where
         let grows = called-grows (eqb q.obj.0 x) b (after_call known q b e) (cond b.entered (taken_by q.slot e) []) refl in
         let short = f.short in
         called-other s n a b x slot by o m done fx e gs f.missing far f.tied f.peer runs (fit, f.order.1)
-          (due-push known p q (runs_of known x m done fx) (Holds (port_at x slot) by o ∷ gs) f.missing (inr (inr (popped known p q g gs f.missing none nor f.due))))
-          (omega (arith, grows, short))
+        (due-push known p q (runs_of known x m done fx) (Holds (port_at x slot) by o ∷ gs) f.missing (inr (inr (popped known p q g gs f.missing none nor f.due))))
+        (omega (arith, grows, short))
 
     -- q's object runs out of memory: it closes q next
     called-fails : (s : Scene) (n : ℕ) (a b : Account) (x slot : ℕ) (by : Way) (m : Said) (fx : Fx N L) (e : NodeEntry N L) (gs : List (Stage N L))
@@ -112,14 +112,14 @@ module _ {N L : Type 0} (known : Nature N L) (p q : Port) where
         let inside = (f.order.0 here).1 in
         let more = entered-append known p q p.obj.0 (hold ∷ []) gs in
         called-other s n a b x slot by None m false fx e gs f.missing far f.tied f.peer f.runs (tt, f.order.1)
-          (elim f.due [
-            | inl d ↦ due-fails known p q x f.missing m fx (hold ∷ gs) here.0 slots (omega (arith, inside, more))
-            | inr r ↦ elim r [
-              | inl d ↦ absurd d.0
-              | inr d ↦ due-push known p q (runs_of known x m false fx) (hold ∷ gs) f.missing (inr (inr d))
-            ]
-          ])
-          (omega (arith, grows, short))
+        (elim f.due [
+          | inl d ↦ due-fails known p q x f.missing m fx (hold ∷ gs) here.0 slots (omega (arith, inside, more))
+          | inr r ↦ elim r [
+            | inl d ↦ absurd d.0
+            | inr d ↦ due-push known p q (runs_of known x m false fx) (hold ∷ gs) f.missing (inr (inr d))
+          ]
+        ])
+        (omega (arith, grows, short))
 
     -- what is left of a message of which q took some is still known p q to be brought
     due-left : (r : Port) (by : Way) (m : Said) (took n : ℕ) (gs : List (Stage N L)) → Is q r → Due p q n (Holds r by (Some m) ∷ gs) → Due p q (n - length (take took m.bytes)) (Holds r by (left took m) ∷ gs)
@@ -153,9 +153,9 @@ module _ {N L : Type 0} (known : Nature N L) (p q : Port) where
         let short = f.short in
         let grows = taken-more known q b x (up slot m now true fx) bytes (sym here.0) (f.order.0 here).0 (rw (eq-eqb q.slot slot (sym here.1)) refl) in
         called-other s n a b x slot way.Up (left fx.took m) m true fx (up slot m now true fx) gs k far f.tied f.peer f.runs
-          (fit-rest known p q b.entered (port_at x slot) way.Up m (left fx.took m) gs f.order.0, f.order.1)
-          (due-push known p q (runs_of known x m true fx) (Holds (port_at x slot) way.Up (left fx.took m) ∷ gs) k (due-left (port_at x slot) way.Up m fx.took f.missing gs here f.due))
-          (omega (arith, grows, short))
+        (fit-rest known p q b.entered (port_at x slot) way.Up m (left fx.took m) gs f.order.0, f.order.1)
+        (due-push known p q (runs_of known x m true fx) (Holds (port_at x slot) way.Up (left fx.took m) ∷ gs) k (due-left (port_at x slot) way.Up m fx.took f.missing gs here f.due))
+        (omega (arith, grows, short))
     takes-up s n a b x slot m false fx gs far here f = called-fails s n a b x slot way.Up m fx (up slot m now false fx) gs far here f
 
     -- and one from above
@@ -167,14 +167,14 @@ module _ {N L : Type 0} (known : Nature N L) (p q : Port) where
         let short = f.short in
         let grows = taken-more known q b x (down m now true fx) m.bytes (sym here.0) (f.order.0 here).0 (rw (eq-eqb q.slot 0 (sym here.1)) refl) in
         called-other s n a b x 0 way.Down None m true fx (down m now true fx) gs k far f.tied f.peer f.runs (tt, f.order.1)
-          (due-push known p q (runs_of known x m true fx) (Holds (port_at x 0) way.Down None ∷ gs) k (inr (inr (elim f.due [
-            | inl d ↦ due-less known p q gs (f.missing - d.0) k (let u = d.1.1 in omega (arith, u)) d.2
-            | inr r ↦ elim r [
-              | inl d ↦ absurd d.0
-              | inr d ↦ due-less known p q gs f.missing k (omega arith) d
-            ]
-          ]))))
-          (omega (arith, grows, short))
+        (due-push known p q (runs_of known x m true fx) (Holds (port_at x 0) way.Down None ∷ gs) k (inr (inr (elim f.due [
+          | inl d ↦ due-less known p q gs (f.missing - d.0) k (let u = d.1.1 in omega (arith, u)) d.2
+          | inr r ↦ elim r [
+            | inl d ↦ absurd d.0
+            | inr d ↦ due-less known p q gs f.missing k (omega arith) d
+          ]
+        ]))))
+        (omega (arith, grows, short))
     takes-below s n a b x m false fx gs far here f = called-fails s n a b x 0 way.Down m fx (down m now false fx) gs far here f
 
     -- a node is called, or has a load back

@@ -1,5 +1,5 @@
 -- What an object sent by a port that is closed first was taken: through all that happens in a call.
-use Rattle.std.proofs.Common.{◌≡◌, ◌≢◌, ℕ, ◌+◌, ◌-◌, ◌≤◌, inl, inr, Bool, false, cond, eqb, List, [], ◌∷◌, ◌++◌, length, Some, refl, ap, sym, ◌∙◌, subst, append-nil, arith}
+use Rattle.std.proofs.Common.{◌≡◌, ◌≢◌, ℕ, ◌+◌, ◌≤◌, inl, inr, Bool, false, cond, eqb, List, [], ◌∷◌, ◌++◌, length, Some, refl, ap, sym, ◌∙◌, subst, append-nil, arith}
 use Rattle.std.proofs.lemmas.Bool.{cases_eq}
 use Rattle.nb_terms.specs.declared.cause.Cause.{Cause}
 use Rattle.nb_ledger.specs.declared.port.Port.{Port}
@@ -12,7 +12,7 @@ use Rattle.nb_graph.specs.Whole.{IsLinked, Objects, port_at}
 use Rattle.nb_graph.specs.Trace.{Nature, NodeEntry}
 use Rattle.nb_graph.specs.Deeds.{events_of, Deed, writes, begins, calls, turns, Turn, Stage, MustHear, Holds, Makes, MustBegin, Closes, MustShut, Ends, Sends, Gives, Ticks, Wants, Settles, LetsAllGo, all_closes, no_place}
 use Rattle.nb_graph.specs.Scene.{Scene, scene_of, after_noted}
-use Rattle.nb_graph.specs.Follows.{Becomes, UsesStack, closes_none, keeps, passes, leaves, ends, ticks_none, finds_none, has_begun, next, none_left, lets, lets_none}
+use Rattle.nb_graph.specs.Follows.{Becomes, UsesStack, closes_none, keeps, passes, leaves, ticks_none, finds_none, has_begun, next, none_left, lets, lets_none}
 use Rattle.nb_graph.specs.Accounts.{account, Account, Balanced, JoinedEnds, Midway, joined, parted, after_note, after_call, rests}
 use Rattle.nb_graph.specs.Drained.{Watch, watched, IsDrained, IsFromOutside, AreFromOutside, watch_event, watch}
 use Rattle.nb_graph.specs.Went.{Midways, WentOne, all_of}
@@ -79,8 +79,8 @@ module _ {N L : Type 0} (known : Nature N L) (p q : Port) where
     turned s w a b gs (next after x c le live none) seen z =
         let f = seen z in
         still known p q s w.running a b (Ends after c) gs (all_closes x c ++ Ends x c ∷ []) (λ k x. x) (λ x. x) f.runs f
-          (λ k. order-closes known p q b.entered x ((0, c) ∷ (1, c) ∷ (2, c) ∷ (3, c) ∷ []) (Ends x c ∷ gs) apart
-            (λ i le n d. f.order.0 n (popped known p q (Ends x c) gs n (λ k y. y) (λ y. y) d)) (f.order.0, k))
+        (λ k. order-closes known p q b.entered x ((0, c) ∷ (1, c) ∷ (2, c) ∷ (3, c) ∷ []) (Ends x c ∷ gs) apart
+        (λ i le n d. f.order.0 n (popped known p q (Ends x c) gs n (λ k y. y) (λ y. y) d)) (f.order.0, k))
     turned s w a b gs (none_left after c none) seen z =
         let f = seen z in
         still known p q s w.running a b (Ends after c) gs [] (λ k x. x) (λ x. x) f.runs f (λ k. k)

@@ -1,5 +1,5 @@
 -- What is still to be brought over a link, by what stands on the stack of a call.
-use Rattle.std.proofs.Common.{◌≡◌, ℕ, zero, suc, ◌+◌, ◌-◌, ◌≤◌, ◌⊎◌, inl, inr, Bool, true, false, cond, eqb, List, [], ◌∷◌, ◌++◌, length, length-append, Option, Some, None, refl, ap, sym, ◌∙◌, subst, append_assoc, arith}
+use Rattle.std.proofs.Common.{◌≡◌, ℕ, ◌+◌, ◌-◌, ◌≤◌, ◌⊎◌, inl, inr, Bool, true, false, cond, eqb, List, [], ◌∷◌, ◌++◌, length, length-append, Option, Some, None, refl, ap, sym, ◌∙◌, subst, append_assoc, arith}
 use Rattle.std.specs.Prelude.{◌==◌, if◌then◌else◌}
 use Rattle.std.proofs.lemmas.Bool.{cases_eq, eq-eqb, ne_eqb}
 use Rattle.nb_terms.specs.declared.cause.Cause.{Cause}
@@ -8,9 +8,8 @@ use Rattle.nb_graph.specs.declared.effects.Emit.{Emit}
 use Rattle.nb_graph.specs.declared.effects.Few.{Few}
 use Rattle.nb_graph.specs.declared.effects.Make.{Make}
 use Rattle.nb_graph.specs.declared.effects.Fx.{Fx}
-use Rattle.nb_graph.specs.Whole.{port_at}
 use Rattle.nb_graph.specs.Trace.{Nature, Said, carries, in_list, lent}
-use Rattle.nb_graph.specs.Deeds.{Stage, Shut, MustHear, Holds, Makes, MustMake, MustBegin, MustPlug, Closes, MustShut, Ends, Sends, Gives, Offers, Ticks, Returns, Wants, MustUnplug, Settles, LetsAllGo, closes_of, all_closes, makes_of, returns_of, said_of, emit_of, few_of, runs_of, no_memory, no_place}
+use Rattle.nb_graph.specs.Deeds.{Stage, MustHear, Holds, Closes, MustShut, Ends, Sends, Gives, closes_of, all_closes, makes_of, returns_of, emit_of, few_of, runs_of, no_memory, no_place}
 use Rattle.nb_graph.specs.Accounts.{emit_bytes, few_bytes, fx_bytes}
 
 -- the port r is p
@@ -159,7 +158,8 @@ module _ {N L : Type 0} (known : Nature N L) (p q : Port) where
   order-closes e y [] gs away f o = o
   order-closes e y (c ∷ cs) gs away f o = (
     (λ i _ le n d. f i.0 (rw (entered-closes y cs gs) at le) n (due-closes y cs gs n (λ z. away (sym i.0 ∙ z)) d)),
-    order-closes e y cs gs away f o)
+    order-closes e y cs gs away f o,
+  )
 
   -- where a make found no place nothing is asked
   pub order-full : (e : Bool) (y : ℕ) (gs : List (Stage N L)) → Order p q e gs → Order p q e (all_closes y no_place ++ gs)
@@ -207,7 +207,7 @@ module _ {N L : Type 0} (known : Nature N L) (p q : Port) where
       order-then e (makes_of y fx.makes) (downs ++ (ups ++ closes)) gs (order-makes e y fx.makes ((downs ++ (ups ++ closes)) ++ gs) three)
   order-runs e y m false fx gs away w f k =
       order-then e (returns_of y (lent fx)) (all_closes y no_memory) gs
-        (order-returns e y (lent fx) (all_closes y no_memory ++ gs) (order-closes e y ((0, no_memory) ∷ (1, no_memory) ∷ (2, no_memory) ∷ (3, no_memory) ∷ []) gs away f k))
+      (order-returns e y (lent fx) (all_closes y no_memory ++ gs) (order-closes e y ((0, no_memory) ∷ (1, no_memory) ∷ (2, no_memory) ∷ (3, no_memory) ∷ []) gs away f k))
 
   -- no entry stands in what is to run of one
   entered-then : (us vs gs : List (Stage N L)) → entered p.obj.0 ((us ++ vs) ++ gs) ≡ entered p.obj.0 (us ++ (vs ++ gs))
@@ -230,8 +230,8 @@ module _ {N L : Type 0} (known : Nature N L) (p q : Port) where
       let ups = few_of known y m fx.ups in
       let downs = few_of known y m fx.downs in
       entered-then (makes_of y fx.makes) (downs ++ (ups ++ closes)) gs ∙ entered-makes y fx.makes ((downs ++ (ups ++ closes)) ++ gs)
-        ∙ entered-then downs (ups ++ closes) gs ∙ entered-few y m fx.downs ((ups ++ closes) ++ gs)
-        ∙ entered-then ups closes gs ∙ entered-few y m fx.ups (closes ++ gs) ∙ entered-closes y fx.closes.items gs
+      ∙ entered-then downs (ups ++ closes) gs ∙ entered-few y m fx.downs ((ups ++ closes) ++ gs)
+      ∙ entered-then ups closes gs ∙ entered-few y m fx.ups (closes ++ gs) ∙ entered-closes y fx.closes.items gs
   entered-runs y m false fx gs = entered-then (returns_of y (lent fx)) (all_closes y no_memory) gs ∙ entered-returns y (lent fx) (all_closes y no_memory ++ gs)
 
   due-emit : (m : Said) (o : Option (Emit L)) (gs : List (Stage N L)) (n : ℕ) → Due p q n gs → Due p q (n + length (emit_bytes known p.slot m.bytes o)) (emit_of known p.obj.0 m o ++ gs)

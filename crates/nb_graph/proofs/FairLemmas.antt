@@ -1,15 +1,14 @@
 -- What is true of a link in the middle of a call, until it ends.
-use Rattle.std.proofs.Common.{◌≡◌, ℕ, ◌+◌, ◌-◌, ◌≤◌, inl, inr, Bool, true, false, cond, eqb, List, ◌∷◌, ◌++◌, length, take, Option, Some, None, refl, ap, ◌∙◌, arith}
+use Rattle.std.proofs.Common.{◌≡◌, ℕ, ◌+◌, ◌≤◌, inl, inr, Bool, true, false, cond, eqb, List, ◌∷◌, ◌++◌, length, Option, Some, None, refl, ap, ◌∙◌, arith}
 use Rattle.nb_ledger.specs.declared.port.Port.{Port}
 use Rattle.nb_ledger.specs.declared.event.Way.{Way}
 use Rattle.nb_ledger.specs.declared.event.Way.TheVariants as way
 use Rattle.nb_ledger.specs.declared.event.GraphEvent.{GraphEvent}
 use Rattle.nb_ledger.specs.declared.event.GraphEvent.TheVariants.{Entered}
-use Rattle.nb_ledger.specs.Ledger.{port}
 use Rattle.nb_graph.specs.Trace.{Nature, Said}
-use Rattle.nb_graph.specs.Deeds.{begins, Stage, Holds}
+use Rattle.nb_graph.specs.Deeds.{Stage, Holds}
 use Rattle.nb_graph.specs.Scene.{Scene}
-use Rattle.nb_graph.specs.Accounts.{account, Account, after_note, rests, enters, is_same_port}
+use Rattle.nb_graph.specs.Accounts.{Account, after_note, rests, enters, is_same_port}
 use Rattle.nb_graph.specs.Drained.{Watch, IsClosedBy, running_after}
 use Rattle.nb_graph.proofs.DueLemmas.{Is, Bears, Bars, Due, Fit, Order, entered, due-push, order-entered}
 use Rattle.nb_graph.proofs.TiedLemmas.{Tied, same-true}
@@ -100,7 +99,7 @@ module _ {N L : Type 0} (known : Nature N L) (p q : Port) where
       → Fair p q s (running_after p.obj.0 n (Entered r by)) (after_note p a (Entered r by)) (after_note q b (Entered r by)) (Holds r by (Some m) ∷ gs)
   enters-fair s n a b r by g m gs f counts runs i o d =
       noted s n a b r by g gs (Holds r by (Some m) ∷ gs) f (bump-both (eqb p.obj.0 r.obj.0) (entered p.obj.0 gs) n runs)
-        (takes-it r by b m gs counts i, order-noted (is_same_port q r) by b gs o) d
+      (takes-it r by b m gs counts i, order-noted (is_same_port q r) by b gs o) d
 
   -- what stands below goes on, with harmless stages above it
   pub on : (s : Scene) (n : ℕ) (a b : Account) (g : Stage N L) (gs us : List (Stage N L)) → ((k : ℕ) → Bears p q g k → ⊥) → (Bars q g → ⊥) → entered p.obj.0 (us ++ gs) ≤ n → (f : Fair p q s n a b (g ∷ gs)) → (Order p q b.entered gs → Order p q b.entered (us ++ gs)) → Fair p q s n (rests a) (rests b) (us ++ gs)
