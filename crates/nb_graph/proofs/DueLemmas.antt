@@ -1,5 +1,5 @@
 -- What is still to be brought over a link, by what stands on the stack of a call.
-use Rattle.std.proofs.Common.{◌≡◌, ℕ, zero, suc, ◌+◌, ◌-◌, ◌≤◌, ◌⊎◌, inl, inr, Bool, true, false, cond, eqb, List, [], ◌∷◌, ◌++◌, length, length-append, Option, Some, None, refl, ap, sym, ◌∙◌, subst, append_assoc, arith}
+use Rattle.std.proofs.Common.{◌≡◌, ℕ, ◌+◌, ◌-◌, ◌≤◌, ◌⊎◌, inl, inr, Bool, true, false, cond, eqb, List, [], ◌∷◌, ◌++◌, length, length-append, Option, Some, None, refl, ap, sym, ◌∙◌, subst, append_assoc, arith}
 use Rattle.std.specs.Prelude.{◌==◌, if◌then◌else◌}
 use Rattle.std.proofs.lemmas.Bool.{cases_eq, eq-eqb, ne_eqb}
 use Rattle.nb_terms.specs.declared.cause.Cause.{Cause}
@@ -8,9 +8,8 @@ use Rattle.nb_graph.specs.declared.effects.Emit.{Emit}
 use Rattle.nb_graph.specs.declared.effects.Few.{Few}
 use Rattle.nb_graph.specs.declared.effects.Make.{Make}
 use Rattle.nb_graph.specs.declared.effects.Fx.{Fx}
-use Rattle.nb_graph.specs.Whole.{port_at}
 use Rattle.nb_graph.specs.Trace.{Nature, Said, carries, in_list, lent}
-use Rattle.nb_graph.specs.Deeds.{Stage, Shut, MustHear, Holds, Makes, MustMake, MustBegin, MustPlug, Closes, MustShut, Ends, Sends, Gives, Offers, Ticks, Returns, Wants, MustUnplug, Settles, LetsAllGo, closes_of, all_closes, makes_of, returns_of, said_of, emit_of, few_of, runs_of, no_memory}
+use Rattle.nb_graph.specs.Deeds.{Stage, MustHear, Holds, Closes, MustShut, Ends, Sends, Gives, closes_of, all_closes, makes_of, returns_of, emit_of, few_of, runs_of, no_memory, no_place}
 use Rattle.nb_graph.specs.Accounts.{emit_bytes, few_bytes, fx_bytes}
 
 -- the port r is p
@@ -46,12 +45,12 @@ Due p q n [] = n ≡ 0
 Due p q n (g ∷ gs) = ((k : ℕ) × Bears p q g k × Due p q (n - k) gs) ⊎ ((Bars q g × (1 ≤ entered p.obj.0 gs)) ⊎ Due p q n gs)
 
 -- What stands there is in order: what p sent is brought within an entry of its object, to a port that was entered, and
--- p is closed where nothing is to be brought.
+-- p is closed where nothing is to be brought, if not because a make found no place.
 abbrev pub Fit : {N L : Type 0} → Port → Port → Bool → Stage N L → List (Stage N L) → Type 0
 Fit p q e (Sends r m) gs = Is p r → 1 ≤ entered p.obj.0 gs
 Fit p q e (Gives r m) gs = Is q r → 1 ≤ entered p.obj.0 gs
 Fit p q e (Holds r by (Some m)) gs = Is q r → (e ≡ true) × (1 ≤ entered p.obj.0 gs)
-Fit p q e (Closes r c) gs = Is p r → entered p.obj.0 gs ≤ 1 → (n : ℕ) → Due p q n gs → n ≡ 0
+Fit p q e (Closes r c) gs = Is p r → (c ≡ no_place → ⊥) → entered p.obj.0 gs ≤ 1 → (n : ℕ) → Due p q n gs → n ≡ 0
 Fit p q e (MustShut r c) gs = Is p r → ⊥
 Fit p q e (Ends y c) gs = (n : ℕ) → Due p q n gs → n ≡ 0
 Fit p q e _ gs = Unit {0}
@@ -158,8 +157,13 @@ module _ {N L : Type 0} (known : Nature N L) (p q : Port) where
   pub order-closes : (e : Bool) (y : ℕ) (cs : List (ℕ × Cause)) (gs : List (Stage N L)) → (p.obj.0 ≡ q.obj.0 → ⊥) → (y ≡ p.obj.0 → entered p.obj.0 gs ≤ 1 → (n : ℕ) → Due p q n gs → n ≡ 0) → Order p q e gs → Order p q e (closes_of y cs ++ gs)
   order-closes e y [] gs away f o = o
   order-closes e y (c ∷ cs) gs away f o = (
-    (λ i le n d. f i.0 (rw (entered-closes y cs gs) at le) n (due-closes y cs gs n (λ z. away (sym i.0 ∙ z)) d)),
-    order-closes e y cs gs away f o)
+    (λ i _ le n d. f i.0 (rw (entered-closes y cs gs) at le) n (due-closes y cs gs n (λ z. away (sym i.0 ∙ z)) d)),
+    order-closes e y cs gs away f o,
+  )
+
+  -- where a make found no place nothing is asked
+  pub order-full : (e : Bool) (y : ℕ) (gs : List (Stage N L)) → Order p q e gs → Order p q e (all_closes y no_place ++ gs)
+  order-full e y gs o = ((λ i n. absurd (n refl)), ((λ i n. absurd (n refl)), ((λ i n. absurd (n refl)), ((λ i n. absurd (n refl)), o))))
 
   -- loads that come back
   entered-returns : (y : ℕ) (ls : List L) (gs : List (Stage N L)) → entered p.obj.0 (returns_of y ls ++ gs) ≡ entered p.obj.0 gs
@@ -203,7 +207,7 @@ module _ {N L : Type 0} (known : Nature N L) (p q : Port) where
       order-then e (makes_of y fx.makes) (downs ++ (ups ++ closes)) gs (order-makes e y fx.makes ((downs ++ (ups ++ closes)) ++ gs) three)
   order-runs e y m false fx gs away w f k =
       order-then e (returns_of y (lent fx)) (all_closes y no_memory) gs
-        (order-returns e y (lent fx) (all_closes y no_memory ++ gs) (order-closes e y ((0, no_memory) ∷ (1, no_memory) ∷ (2, no_memory) ∷ (3, no_memory) ∷ []) gs away f k))
+      (order-returns e y (lent fx) (all_closes y no_memory ++ gs) (order-closes e y ((0, no_memory) ∷ (1, no_memory) ∷ (2, no_memory) ∷ (3, no_memory) ∷ []) gs away f k))
 
   -- no entry stands in what is to run of one
   entered-then : (us vs gs : List (Stage N L)) → entered p.obj.0 ((us ++ vs) ++ gs) ≡ entered p.obj.0 (us ++ (vs ++ gs))
@@ -226,8 +230,8 @@ module _ {N L : Type 0} (known : Nature N L) (p q : Port) where
       let ups = few_of known y m fx.ups in
       let downs = few_of known y m fx.downs in
       entered-then (makes_of y fx.makes) (downs ++ (ups ++ closes)) gs ∙ entered-makes y fx.makes ((downs ++ (ups ++ closes)) ++ gs)
-        ∙ entered-then downs (ups ++ closes) gs ∙ entered-few y m fx.downs ((ups ++ closes) ++ gs)
-        ∙ entered-then ups closes gs ∙ entered-few y m fx.ups (closes ++ gs) ∙ entered-closes y fx.closes.items gs
+      ∙ entered-then downs (ups ++ closes) gs ∙ entered-few y m fx.downs ((ups ++ closes) ++ gs)
+      ∙ entered-then ups closes gs ∙ entered-few y m fx.ups (closes ++ gs) ∙ entered-closes y fx.closes.items gs
   entered-runs y m false fx gs = entered-then (returns_of y (lent fx)) (all_closes y no_memory) gs ∙ entered-returns y (lent fx) (all_closes y no_memory ++ gs)
 
   due-emit : (m : Said) (o : Option (Emit L)) (gs : List (Stage N L)) (n : ℕ) → Due p q n gs → Due p q (n + length (emit_bytes known p.slot m.bytes o)) (emit_of known p.obj.0 m o ++ gs)

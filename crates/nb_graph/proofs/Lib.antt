@@ -41,4 +41,7 @@ pub mod DownLemmas
 pub mod OrderLemmas
 mod DueLemmas
 mod TiedLemmas
+mod FairLemmas
+mod WrittenLemmas
+mod CalledLemmas
 mod DrainedLemmas

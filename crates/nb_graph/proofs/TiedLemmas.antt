@@ -37,12 +37,6 @@ same-false p r n = elim (cases_eq p.obj.0 r.obj.0) [
   | inr a ↦ rw (ne_eqb p.obj.0 r.obj.0 a) refl
 ]
 
-pub is-same : (p r : Port) → is_same_port p r ≡ true → Is p r
-is-same p r e = elim (cases_port r.obj.0 r.slot p) [
-  | inl i ↦ i
-  | inr n ↦ absurd (false≢true (sym (same-false p r n) ∙ e))
-]
-
 pub not-same : (p r : Port) → is_same_port p r ≡ false → Is p r → ⊥
 not-same p r e i = absurd (false≢true (sym e ∙ same-true p r i))
 
@@ -90,13 +84,13 @@ module _ (p q : Port) where
   tied-loose : (s : Scene) (r : Port) (v : PortState) → IsLoose v → (Is p r → ⊥) → (Is q r → ⊥) → Tied p q s → Tied p q (with_ports (port_but r v s.port) s)
   tied-loose s r v l np nq h =
       tied-kept s (with_ports (port_but r v s.port) s) h
-        (port_but-other r v s.port p.obj.0 p.slot (λ i. np (sym i.0, sym i.1)))
-        (port_but-other r v s.port q.obj.0 q.slot (λ i. nq (sym i.0, sym i.1)))
-        (λ u w e. elim (cases_port u.obj.0 u.slot r) [
-          | inl i ↦ absurd (not-loose v w l (sym (port_but-same r v s.port u.obj.0 u.slot i.0 i.1) ∙ e))
-          | inr n ↦ inl (sym (port_but-other r v s.port u.obj.0 u.slot n) ∙ e)
-        ])
-        (omega arith)
+      (port_but-other r v s.port p.obj.0 p.slot (λ i. np (sym i.0, sym i.1)))
+      (port_but-other r v s.port q.obj.0 q.slot (λ i. nq (sym i.0, sym i.1)))
+      (λ u w e. elim (cases_port u.obj.0 u.slot r) [
+        | inl i ↦ absurd (not-loose v w l (sym (port_but-same r v s.port u.obj.0 u.slot i.0 i.1) ∙ e))
+        | inr n ↦ inl (sym (port_but-other r v s.port u.obj.0 u.slot n) ∙ e)
+      ])
+      (omega arith)
 
   pub tied-closed : (s : Scene) (r : Port) (c : Cause) → is_same_port p r ≡ false → is_same_port q r ≡ false → Tied p q s → Tied p q (after_noted (Closed r c) s)
   tied-closed s r c a b h = tied-loose s r (shut_of (state_at s r)) (loose-shut (state_at s r)) (not-same p r a) (not-same q r b) h
@@ -108,16 +102,17 @@ module _ (p q : Port) where
   tied-object : (s t : Scene) (y : ℕ) (f : ℕ → PortState) → ((x k : ℕ) → t.port x k ≡ ports_but y f s.port x k) → ((k : ℕ) → IsLoose (f k)) → (p.obj.0 ≡ y → ⊥) → (q.obj.0 ≡ y → ⊥) → s.made ≤ t.made → Tied p q s → Tied p q t
   tied-object s t y f ports l np nq later h =
       tied-kept s t h
-        (ports p.obj.0 p.slot ∙ other p.obj.0 p.slot np)
-        (ports q.obj.0 q.slot ∙ other q.obj.0 q.slot nq)
-        (λ u w e. elim (cases_eq u.obj.0 y) [
-          | inl i ↦ absurd (not-loose (f u.slot) w (l u.slot) (sym (ports u.obj.0 u.slot ∙ own u.obj.0 u.slot i) ∙ e))
-          | inr n ↦ inl (sym (ports u.obj.0 u.slot ∙ other u.obj.0 u.slot n) ∙ e)
-        ])
-        later
+      (ports p.obj.0 p.slot ∙ other p.obj.0 p.slot np)
+      (ports q.obj.0 q.slot ∙ other q.obj.0 q.slot nq)
+      (λ u w e. elim (cases_eq u.obj.0 y) [
+        | inl i ↦ absurd (not-loose (f u.slot) w (l u.slot) (sym (ports u.obj.0 u.slot ∙ own u.obj.0 u.slot i) ∙ e))
+        | inr n ↦ inl (sym (ports u.obj.0 u.slot ∙ other u.obj.0 u.slot n) ∙ e)
+      ])
+      later
     where
       own : (x k : ℕ) → x ≡ y → ports_but y f s.port x k ≡ f k
       own x k e = rw (eq-eqb x y e) refl
+
       other : (x k : ℕ) → (x ≡ y → ⊥) → ports_but y f s.port x k ≡ s.port x k
       other x k n = rw (ne_eqb x y n) refl
 
@@ -134,19 +129,20 @@ module _ (p q : Port) where
   pub tied-plugged : (s : Scene) (u l : Port) → state_at s u ≡ Open → state_at s l ≡ Open → Tied p q s → Tied p q (after_noted (Plugged u l) s)
   tied-plugged s u l ou ol h =
       tied-kept s (after_noted (Plugged u l) s) h
-        (kept p (linked-open s p q u h.first ou) (linked-open s p q l h.first ol))
-        (kept q (linked-open s q p u h.second ou) (linked-open s q p l h.second ol))
-        (λ r w e. elim (cases_port r.obj.0 r.slot l) [
-          | inl i ↦ inr (fresh u w (sym (port_but-same l (Linked u) (port_but u (Linked l) s.port) r.obj.0 r.slot i.0 i.1) ∙ e) ou)
-          | inr n ↦ elim (cases_port r.obj.0 r.slot u) [
-            | inl i ↦ inr (fresh l w (sym (port_but-other l (Linked u) (port_but u (Linked l) s.port) r.obj.0 r.slot n ∙ port_but-same u (Linked l) s.port r.obj.0 r.slot i.0 i.1) ∙ e) ol)
-            | inr m ↦ inl (sym (port_but-other l (Linked u) (port_but u (Linked l) s.port) r.obj.0 r.slot n ∙ port_but-other u (Linked l) s.port r.obj.0 r.slot m) ∙ e)
-          ]
-        ])
-        (omega arith)
+      (kept p (linked-open s p q u h.first ou) (linked-open s p q l h.first ol))
+      (kept q (linked-open s q p u h.second ou) (linked-open s q p l h.second ol))
+      (λ r w e. elim (cases_port r.obj.0 r.slot l) [
+        | inl i ↦ inr (fresh u w (sym (port_but-same l (Linked u) (port_but u (Linked l) s.port) r.obj.0 r.slot i.0 i.1) ∙ e) ou)
+        | inr n ↦ elim (cases_port r.obj.0 r.slot u) [
+          | inl i ↦ inr (fresh l w (sym (port_but-other l (Linked u) (port_but u (Linked l) s.port) r.obj.0 r.slot n ∙ port_but-same u (Linked l) s.port r.obj.0 r.slot i.0 i.1) ∙ e) ol)
+          | inr m ↦ inl (sym (port_but-other l (Linked u) (port_but u (Linked l) s.port) r.obj.0 r.slot n ∙ port_but-other u (Linked l) s.port r.obj.0 r.slot m) ∙ e)
+        ]
+      ])
+      (omega arith)
     where
       kept : (r : Port) → (Is r u → ⊥) → (Is r l → ⊥) → state_at (after_noted (Plugged u l) s) r ≡ state_at s r
       kept r nu nl = port_but-other l (Linked u) (port_but u (Linked l) s.port) r.obj.0 r.slot (λ i. nl (sym i.0, sym i.1)) ∙ port_but-other u (Linked l) s.port r.obj.0 r.slot (λ i. nu (sym i.0, sym i.1))
+
       fresh : (v w : Port) → Linked v ≡ Linked w → state_at s v ≡ Open → (Is p w → ⊥) × (Is q w → ⊥)
       fresh v w e o =
           let i = linked-same v w e in

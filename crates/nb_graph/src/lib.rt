@@ -26,7 +26,7 @@ mod timing;
 mod upward;
 
 pub use asked::Asked;
-pub use drained::closed_first_was_taken;
+pub use drained::{closed_first_was_taken, drained_where_closed};
 pub use effects::{Emit, Few, Fx, Make};
 pub use graph::{Graph, NotOpen, Reach, entries_are_the_nodes_own, one_after_another};
 pub use nb_ledger::{GraphEvent, Msg, ObjId, Outside, Port, Way};
