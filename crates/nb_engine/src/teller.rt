@@ -92,7 +92,6 @@ impl<'a> Teller<'a> {
 }
 
 /// A message leaves that is a datagram, which may be a try.
-#[inline(always)]
 fn send_datagram(
     told: &mut Spelled,
     net: &Stack,
