@@ -4,7 +4,7 @@ ghost use Rattle.nb_command.specs.CommandNames.{command_text, command_named};
 ghost use Rattle.nb_command.specs.declared.command_name.CommandName.{CommandName};
 
 /// Which command a name names.
-#[derive(Clone, Copy, Debug, PartialEq, Eq)]
+#[derive(Clone, Copy)]
 pub enum CommandName {
     Echo,
     Goto,

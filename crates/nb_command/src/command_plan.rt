@@ -1,7 +1,7 @@
 use nb_wire::{Word, Words};
 
 /// A command whose words fit it.
-#[derive(Debug, Drop)]
+#[derive(Drop)]
 pub enum CommandPlan {
     /// Prints words, joined by one space, and a line feed where `newline` is set.
     Echo { newline: bool, text: Words },

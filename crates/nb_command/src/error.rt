@@ -10,7 +10,7 @@ use nb_uri::UriError;
 use std::alloc::{AllocError, AllocFailed};
 
 /// Why words are no plan.
-#[derive(Clone, Copy, Debug, PartialEq, Eq)]
+#[derive(Clone, Copy)]
 pub enum PlanError {
     /// There is no command of that name.
     Unknown,

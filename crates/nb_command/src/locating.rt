@@ -26,7 +26,7 @@ const MAX_PATH: usize = 1024;
 const MAX_NAME: usize = 255;
 
 /// A file of a TFTP server, and its image.
-#[derive(Debug, Drop)]
+#[derive(Drop)]
 pub struct Located {
     /// The server's address or name.
     pub host: Text,

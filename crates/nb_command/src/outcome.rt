@@ -2,7 +2,7 @@ use nb_uri::UriTarget;
 use nb_wire::{Text, Word};
 
 /// What a command that didn't fail comes to.
-#[derive(Debug, Drop)]
+#[derive(Drop)]
 pub enum Outcome {
     /// It is done, and its result is Ok.
     Done,
@@ -19,7 +19,7 @@ pub enum Outcome {
 }
 
 /// What a command waits for.
-#[derive(Debug, Drop)]
+#[derive(Drop)]
 pub enum Job {
     /// A file, and what is done with the image of this name.
     Fetch {

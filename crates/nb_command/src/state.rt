@@ -2,7 +2,7 @@ use nb_image::Images;
 use nb_settings::Table;
 
 /// What commands read and change.
-#[derive(Debug, Drop)]
+#[derive(Drop)]
 pub struct State {
     pub table: Table,
     pub images: Images,

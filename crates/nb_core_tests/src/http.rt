@@ -189,51 +189,56 @@ fn streams(rt: HostRuntime) -> Result<(), Fail> {
     Ok(())
 }
 
-/// RFC 9112, section 3.2: the port of plain HTTP isn't named.
+/// Ports, and the request for a file of a server at each (RFC 9112, section 3.2): the port of plain HTTP isn't named.
+const REQUESTS: [(u16, &[u8], usize); 2] = [
+    (
+        80,
+        b"GET /a HTTP/1.1\r\nHost: 10.0.0.1\r\nUser-Agent: netboot\r\nConnection: close\r\n\r\n",
+        75,
+    ),
+    (
+        8080,
+        b"GET /a HTTP/1.1\r\nHost: 10.0.0.1:8080\r\nUser-Agent: netboot\r\nConnection: close\r\n\r\n",
+        80,
+    ),
+];
+
 #[test]
 fn requests(rt: HostRuntime) -> Result<(), Fail> {
-    let rows: [(u16, &[u8], usize); 2] = [
-        (
-            80,
-            b"GET /a HTTP/1.1\r\nHost: 10.0.0.1\r\nUser-Agent: netboot\r\nConnection: close\r\n\r\n",
-            75,
-        ),
-        (
-            8080,
-            b"GET /a HTTP/1.1\r\nHost: 10.0.0.1:8080\r\nUser-Agent: netboot\r\nConnection: close\r\n\r\n",
-            80,
-        ),
-    ];
-    for (port, text, length) in rows {
+    for (port, text, length) in REQUESTS {
         let (_http, asked) = Http::start(rt.alloc(), &target(rt.alloc(), port)?)?;
-        assert_eq!(rt; asked.as_slice(), text, "port {port}");
-        assert_eq!(rt; asked.len(), length, "port {port}");
+        assert_eq!(rt; (asked.as_slice(), asked.len()), (text, length));
     }
     Ok(())
 }
 
-/// A chunked body whose segment ends inside a size line hasn't ended: only `finish` or further bytes
-/// end it, so a connection that is reset there makes no body.
-#[test]
-fn chunked_body_that_a_reset_cuts(rt: HostRuntime) -> Result<(), Fail> {
-    let rows: [&[u8]; 3] = [
-        b"HTTP/1.1 200 OK\r\nTransfer-Encoding: chunked\r\n\r\n5\r\nhello\r\n1",
-        b"HTTP/1.1 200 OK\r\nTransfer-Encoding: chunked\r\n\r\n5\r\nhello\r\n0\r\n\r",
-        b"HTTP/1.1 200 OK\r\n\r\nhello",
-    ];
-    for stream in rows {
-        let (mut http, _text) = Http::start(rt.alloc(), &target(rt.alloc(), 80)?)?;
-        let mut acts = Acts::none();
-        let mut rest = stream;
-        for _ in 0..stream.len() {
-            if rest.is_empty() || rest.len() > 1000 {
-                break;
-            }
-            let took = http.bytes(1, rest, b"", &mut acts) as usize;
-            rest = rest.get(took..).unwrap_or(b"");
-            assert_eq!(rt; acts.over, None);
+/// Streams that a reset cuts: a chunked body whose segment ends inside a size line, one that ends inside its last line,
+/// and a body that goes to the end.
+const CUT: [&[u8]; 3] = [
+    b"HTTP/1.1 200 OK\r\nTransfer-Encoding: chunked\r\n\r\n5\r\nhello\r\n1",
+    b"HTTP/1.1 200 OK\r\nTransfer-Encoding: chunked\r\n\r\n5\r\nhello\r\n0\r\n\r",
+    b"HTTP/1.1 200 OK\r\n\r\nhello",
+];
+
+/// Whether all of a stream is taken, and none of its bytes ends it.
+fn goes_on(http: &mut Http, stream: &[u8], acts: &mut Acts) -> bool {
+    let mut rest = stream;
+    for _ in 0..stream.len() {
+        if rest.is_empty() || rest.len() > 1000 || acts.over.is_some() {
+            break;
         }
-        assert!(rt; rest.is_empty());
+        let took = http.bytes(1, rest, b"", acts) as usize;
+        rest = rest.get(took..).unwrap_or(b"");
+    }
+    rest.is_empty() && acts.over.is_none()
+}
+
+/// Only `finish` or further bytes end such a body, so a connection that is reset there makes none.
+#[test]
+fn body_that_a_reset_cuts(rt: HostRuntime) -> Result<(), Fail> {
+    for (row, stream) in CUT.iter().enumerate() {
+        let (mut http, _text) = Http::start(rt.alloc(), &target(rt.alloc(), 80)?)?;
+        assert!(rt; goes_on(&mut http, stream, &mut Acts::none()), "row {row}");
     }
     Ok(())
 }

@@ -12,6 +12,8 @@ mod http;
 #[cfg(test)]
 mod ping;
 #[cfg(test)]
+mod reasm;
+#[cfg(test)]
 mod retry;
 #[cfg(test)]
 mod tcp;

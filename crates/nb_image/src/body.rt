@@ -15,7 +15,7 @@ pub const MAX_BODY_LEN: usize = 268_435_456;
 
 /// The bytes of an image: at most 268,435,456. They are kept in pages of 65,536 bytes, so that what came
 /// stays where it is while more comes.
-#[derive(Debug, Drop)]
+#[derive(Drop)]
 pub struct Body {
     pages: Pages,
 }

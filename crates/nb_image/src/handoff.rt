@@ -6,7 +6,7 @@ ghost use Rattle.nb_image.specs.declared.part.PartKind.TheVariants.{CommandLine}
 use crate::{Images, Part, PartBytes, PartKind};
 
 /// What is handed off: the image to boot, and all images, which stay in the list.
-#[derive(Clone, Copy, Debug, Drop)]
+#[derive(Clone, Copy, Drop)]
 pub struct Handoff<'a> {
     /// The place of the image to boot.
     pub kernel: usize,

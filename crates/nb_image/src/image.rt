@@ -7,7 +7,7 @@ use nb_wire::Text;
 use std::alloc::Global;
 
 /// An image as it was fetched.
-#[derive(Debug, Drop)]
+#[derive(Drop)]
 pub struct Image {
     /// By which it is found, and which a hand-off tells.
     pub name: Text,

@@ -13,7 +13,7 @@ use std::marker::Model;
 
 /// The list of images and which one is selected: at most 32 images, whose bodies have at most
 /// 536,870,912 bytes together. A place is a number from 0, below `len`.
-#[derive(Debug, Drop)]
+#[derive(Drop)]
 pub struct Images {
     images: Vec<Image>,
     selected: Option<usize>,

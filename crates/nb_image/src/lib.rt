@@ -23,6 +23,3 @@ pub use kind::ImageKind;
 pub use list::{MAX_IMAGES, MAX_TOTAL_LEN};
 pub use pages::PAGE_LEN;
 pub use part::{Part, PartBytes, PartKind, Piece};
-
-#[cfg(test)]
-mod tests;

@@ -11,7 +11,7 @@ use std::mem;
 pub const PAGE_LEN: usize = 65_536;
 
 /// Bytes in pages: a page that is full stays where it is, whatever is appended.
-#[derive(Debug, Drop)]
+#[derive(Drop)]
 pub struct Pages {
     /// The pages before the last, each of 65,536 bytes.
     pub full: Vec<Text>,

@@ -5,7 +5,7 @@ use crate::Body;
 use crate::pages::PAGE_LEN;
 
 /// What a part of a hand-off is.
-#[derive(Clone, Copy, Debug, PartialEq, Eq)]
+#[derive(Clone, Copy)]
 pub enum PartKind {
     /// The bytes of the image to boot.
     Kernel,
@@ -33,7 +33,7 @@ impl PartKind {
 }
 
 /// The bytes of a part. Those of an image stand in pages.
-#[derive(Clone, Copy, Debug, Drop)]
+#[derive(Clone, Copy, Drop)]
 pub enum PartBytes<'a> {
     Text(&'a [u8]),
     Pages(&'a Body),
@@ -81,7 +81,7 @@ fn first_page(bytes: &[u8]) -> &[u8]
 }
 
 /// A part of a hand-off.
-#[derive(Clone, Copy, Debug, Drop)]
+#[derive(Clone, Copy, Drop)]
 pub struct Part<'a> {
     pub kind: PartKind,
     /// Which of the other images it is of, from 0; 0 for the image to boot.
@@ -90,7 +90,7 @@ pub struct Part<'a> {
 }
 
 /// A piece of a part.
-#[derive(Clone, Copy, Debug, Drop)]
+#[derive(Clone, Copy, Drop)]
 pub struct Piece<'a> {
     /// Where in the part it begins, in bytes.
     pub offset: usize,

@@ -10,6 +10,3 @@ mod memory;
 mod ring;
 
 pub use held::{Held, MAX_CAPACITY, Put};
-
-#[cfg(test)]
-mod tests;

@@ -8,8 +8,6 @@ mod entry;
 mod laws;
 mod level;
 mod scripts;
-#[cfg(test)]
-mod tests;
 
 pub use entry::Entry;
 pub use laws::{

@@ -59,11 +59,6 @@ too_long tag os long = ap (λ b. is_there tag os && b) (lt-leb (length (joined t
 pub a_value : (tag : ℕ) (os : List TagValue) → is_there tag os ≡ true → length (joined tag os) ≤ 1024 → is_value tag os ≡ true
 a_value tag os on fits = ap (λ b. b && nat_le (length (joined tag os)) 1024) on ∙ le-leb (length (joined tag os)) 1024 fits
 
--- the options of a message, and the value of its option 175, give those within it
-pub options_are_within : (ack : List ℕ) (os : List TagValue) (outer : List ℕ) (within : List TagValue)
-    → os ≡ options_in ack → outer ≡ joined 175 os → within ≡ inner_options outer → within ≡ options_within ack
-options_are_within ack os outer within is value inner = inner ∙ ap inner_options (value ∙ ap (joined 175) is)
-
 pub no_next : (block : List ℕ) (yours next : ℕ) → next ≡ 0 → address_settings block yours next ≡ address_setting block (codes "ip") yours ∷ []
 unfolding address_settings
 no_next block yours next none = rw none refl

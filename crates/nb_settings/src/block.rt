@@ -7,7 +7,7 @@ use nb_wire::Text;
 use std::alloc::Global;
 
 /// A block of settings, beside the root.
-#[derive(Debug, Drop)]
+#[derive(Drop)]
 pub struct Block {
     /// It isn't empty: the root alone has no name.
     pub name: Text,

@@ -4,6 +4,8 @@ ghost use Rattle.std.specs.Prelude.{◌≡◌, ◌++◌, ◌∷◌, [], IfOk, On
 ghost use Rattle.nb_dhcpmsg.specs.Messages.{IsMessage};
 ghost use Rattle.nb_dhcpmsg.specs.Views.{parts_of};
 ghost use Rattle.nb_dhcpmsg.specs.Collected.{tag_values};
+ghost use Rattle.nb_dhcpmsg.specs.Fields.{inner_options};
+ghost use Rattle.nb_dhcpmsg.specs.Options.{joined};
 ghost use Rattle.nb_settings.specs.Keys.{key_of};
 ghost use Rattle.nb_settings.specs.LeaseSettings.{numbered, option_kind, option_bytes, option_setting, value_settings, is_left_out, is_named_file, tag_settings, within_settings, options_in, options_within, address_setting, address_settings, lease_settings, last_signed, lease_priority};
 
@@ -40,11 +42,9 @@ pub fn lease_settings(
         (λ settings. settings.items ≡ lease_settings block.now message.now.whole.now) }
 {
     let options = message.options(alloc)?;
-    let outer = joined_value(alloc, options.as_slice(), OUTER)?;
-    let inner = options_within(alloc, outer.as_slice())?;
     let mut settings = Vec::new(alloc);
     put_tags(alloc, block, message, options.as_slice(), &mut settings)?;
-    put_inner(alloc, block, inner.as_slice(), &mut settings)?;
+    put_within(alloc, block, options.as_slice(), &mut settings)?;
     put_addresses(alloc, block, message.yiaddr, message.siaddr, &mut settings)?;
     Ok(settings)
 }
@@ -122,6 +122,21 @@ fn is_named_file(message: &DhcpMsg<'_>, tag: u8) -> bool
     ensures { result ≡ is_named_file message.now.whole.now tag }
 {
     tag == FILE && !message.file().is_empty()
+}
+
+/// Puts the settings of the options within option 175 after the others.
+fn put_within(
+    alloc: Global,
+    block: &[u8],
+    options: &[DhcpOption<'_>],
+    to: &mut Vec<Setting>,
+) -> Result<(), NoMemory>
+    ensures { OnOk result (to.new.items ≡ to.old.items
+        ++ numbered (within_settings block.now (inner_options (joined 175 (tag_values options.now)))) 254) }
+{
+    let outer = joined_value(alloc, options, OUTER)?;
+    let inner = options_within(alloc, outer.as_slice())?;
+    put_inner(alloc, block, inner.as_slice(), to)
 }
 
 fn put_inner(

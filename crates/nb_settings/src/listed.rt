@@ -15,10 +15,14 @@ struct Listed {
 }
 
 /// One line of the list.
-fn line(name: &'static [u8], key: Key<'static>, kind: Kind) -> Listed
-    ensures { line_of result ≡ line name.now (key_of key.entry) kind }
-{
-    Listed { name, key, kind }
+macro_rules! line {
+    ($name:expr, $key:expr, $kind:expr) => {
+        Listed {
+            name: $name,
+            key: $key,
+            kind: $kind,
+        }
+    };
 }
 
 /// The names that are listed, with the tags of RFC 2132 and the inner options of 175.
@@ -26,31 +30,31 @@ fn lines() -> [Listed; 25]
     ensures { map line_of result ≡ listed }
 {
     [
-        line(b"netmask", Key::Tag(1), Kind::Ipv4),
-        line(b"gateway", Key::Tag(3), Kind::Ipv4),
-        line(b"dns", Key::Tag(6), Kind::Ipv4),
-        line(b"hostname", Key::Tag(12), Kind::Str),
-        line(b"domain", Key::Tag(15), Kind::Str),
-        line(b"root-path", Key::Tag(17), Kind::Str),
-        line(b"dhcp-server", Key::Tag(54), Kind::Ipv4),
-        line(b"filename", Key::Tag(67), Kind::Str),
-        line(b"user-class", Key::Tag(77), Kind::Str),
-        line(b"initiator-iqn", Key::Tag(203), Kind::Str),
-        line(b"priority", Key::Sub(175, 1), Kind::Int8),
-        line(b"keep-san", Key::Sub(175, 8), Kind::Int8),
-        line(b"skip-san-boot", Key::Sub(175, 9), Kind::Int8),
-        line(b"no-pxedhcp", Key::Sub(175, 176), Kind::Uint8),
-        line(b"busid", Key::Sub(175, 177), Kind::Hex),
-        line(b"san-drive", Key::Sub(175, 189), Kind::Uint8),
-        line(b"username", Key::Sub(175, 190), Kind::Str),
-        line(b"password", Key::Sub(175, 191), Kind::Str),
-        line(b"reverse-username", Key::Sub(175, 192), Kind::Str),
-        line(b"reverse-password", Key::Sub(175, 193), Kind::Str),
-        line(b"version", Key::Sub(175, 235), Kind::Str),
-        line(b"ip", Key::Free(b"ip"), Kind::Ipv4),
-        line(b"next-server", Key::Free(b"next-server"), Kind::Ipv4),
-        line(b"uuid", Key::Free(b"uuid"), Kind::Uuid),
-        line(b"mac", Key::Free(b"mac"), Kind::Hex),
+        line!(b"netmask", Key::Tag(1), Kind::Ipv4),
+        line!(b"gateway", Key::Tag(3), Kind::Ipv4),
+        line!(b"dns", Key::Tag(6), Kind::Ipv4),
+        line!(b"hostname", Key::Tag(12), Kind::Str),
+        line!(b"domain", Key::Tag(15), Kind::Str),
+        line!(b"root-path", Key::Tag(17), Kind::Str),
+        line!(b"dhcp-server", Key::Tag(54), Kind::Ipv4),
+        line!(b"filename", Key::Tag(67), Kind::Str),
+        line!(b"user-class", Key::Tag(77), Kind::Str),
+        line!(b"initiator-iqn", Key::Tag(203), Kind::Str),
+        line!(b"priority", Key::Sub(175, 1), Kind::Int8),
+        line!(b"keep-san", Key::Sub(175, 8), Kind::Int8),
+        line!(b"skip-san-boot", Key::Sub(175, 9), Kind::Int8),
+        line!(b"no-pxedhcp", Key::Sub(175, 176), Kind::Uint8),
+        line!(b"busid", Key::Sub(175, 177), Kind::Hex),
+        line!(b"san-drive", Key::Sub(175, 189), Kind::Uint8),
+        line!(b"username", Key::Sub(175, 190), Kind::Str),
+        line!(b"password", Key::Sub(175, 191), Kind::Str),
+        line!(b"reverse-username", Key::Sub(175, 192), Kind::Str),
+        line!(b"reverse-password", Key::Sub(175, 193), Kind::Str),
+        line!(b"version", Key::Sub(175, 235), Kind::Str),
+        line!(b"ip", Key::Free(b"ip"), Kind::Ipv4),
+        line!(b"next-server", Key::Free(b"next-server"), Kind::Ipv4),
+        line!(b"uuid", Key::Free(b"uuid"), Kind::Uuid),
+        line!(b"mac", Key::Free(b"mac"), Kind::Hex),
     ]
 }
 

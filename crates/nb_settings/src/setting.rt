@@ -8,7 +8,7 @@ use nb_wire::Text;
 use std::alloc::Global;
 
 /// A key that owns its name.
-#[derive(Debug, Drop)]
+#[derive(Drop)]
 pub enum OwnedKey {
     Tag(u8),
     Sub(u8, u8),
@@ -16,7 +16,7 @@ pub enum OwnedKey {
 }
 
 /// A setting of a block: its key, and its value with the kind by which it was set.
-#[derive(Debug, Drop)]
+#[derive(Drop)]
 pub struct Setting {
     pub block: Text,
     pub key: OwnedKey,

@@ -35,7 +35,7 @@ pub const MAX_VALUE: usize = 1024;
 const ROOT: &[u8] = b"";
 
 /// The settings of a client, in blocks. The root is the block with the empty name, and is always there.
-#[derive(Debug, Drop)]
+#[derive(Drop)]
 pub struct Table {
     blocks: Vec<Block>,
     settings: Vec<Setting>,

@@ -4,7 +4,7 @@ use nb_terms::SendTo;
 use nb_wire::Ip4;
 
 /// A message without its body: its protocol, whom it is for, and the ports at both ends.
-#[derive(Clone, Copy, Debug, PartialEq, Eq)]
+#[derive(Clone, Copy)]
 pub struct Envelope {
     /// The protocol (RFC 791): 17 for UDP, 1 for an echo request, 6 for a TCP segment.
     pub proto: u8,

@@ -8,7 +8,7 @@ use std::marker::Model;
 pub const MAX_NEIGHBOURS: usize = 16;
 
 /// A host on the link and its hardware address.
-#[derive(Clone, Copy, Debug, PartialEq, Eq)]
+#[derive(Clone, Copy)]
 pub struct Neighbour {
     /// The host's address.
     pub ip: Ip4,

@@ -12,7 +12,7 @@ pub const MAX_URI: usize = 16384;
 
 /// What a URI names: a file of a server, or a disk. `whole` is the URI itself without its fragment; a base
 /// for later ones.
-#[derive(Debug, Drop)]
+#[derive(Drop)]
 pub enum UriTarget {
     /// A file of a TFTP server (RFC 1350).
     Tftp {

@@ -1,48 +1,42 @@
 //! What comes from the peer, to its end and past it.
 
 use crate::tcp::{
-    IRS, ISN, Sent, ack_to, all_sent, data, delivered, established, from_peer, give_segment, one,
+    IRS, ISN, Sent, ack_to, all_sent, delivered, established, from_peer, give_segment, one,
 };
+use nb_tcp::Conn;
 use nb_tcpseg::{ACK, FIN, PSH};
 use nb_terms::Acts;
 use std::process::Abort;
 use std::test::Fail;
 
-// Half-closed by the peer: its end is reached after a hole, ours is still sent, and a close is a FIN.
-#[test]
-fn half_closed(rt: HostRuntime) -> Result<(), Fail> {
-    let mut acts = Acts::none();
-    let mut conn = established(rt.alloc(), ISN, IRS, &mut acts)?;
-    give_segment(
-        &mut conn,
-        2,
-        &from_peer(IRS + 3, ISN + 1, FIN + ACK, b"cd"),
-        0,
-        &mut acts,
-    )?;
-    assert_eq!(rt; all_sent(&acts), ack_to(0));
-    assert!(rt; !conn.at_end());
-    give_segment(&mut conn, 3, &data(0, b"ab"), 0, &mut acts)?;
-    assert_eq!(rt; acts.advance, Some(4));
-    assert_eq!(rt;
-        all_sent(&acts),
-        one(ISN + 1, IRS + 6, ACK, 65_535),
-        "the FIN counts one"
-    );
-    assert!(rt; conn.at_end());
-    assert!(rt; delivered(&mut conn, acts.advance).as_slice() == b"abcd".as_slice());
-    give_segment(
-        &mut conn,
-        4,
-        &from_peer(IRS + 5, ISN + 1, ACK, b"after the end"),
-        0,
-        &mut acts,
-    )?;
-    assert!(rt;
-        acts.advance == None && !acts.ready,
-        "bytes after the end are ignored"
-    );
-    conn.send(b"q", 0, &mut acts)?;
+/// Segments in turn, each with its place in the peer's stream, its flags and its bytes; the place that is acknowledged,
+/// where one is; the place up to which bytes are delivered, and those bytes; and whether the stream's end is reached. A
+/// FIN after a hole, the bytes of the hole, where the FIN counts one, and bytes after the end.
+const SEGMENTS: [(u32, u8, &[u8], Option<u32>, Option<u32>, &[u8], bool); 3] = [
+    (2, FIN + ACK, b"cd", Some(0), None, b"", false),
+    (0, PSH + ACK, b"ab", Some(5), Some(4), b"abcd", true),
+    (4, ACK, b"after the end", None, None, b"", true),
+];
+
+/// Takes a segment, and looks at its answer where one is expected.
+fn takes(
+    rt: &impl Abort,
+    conn: &mut Conn,
+    rec: u32,
+    (place, flags, body): (u32, u8, &[u8]),
+    answer: Option<u32>,
+    acts: &mut Acts,
+) -> Result<(), Fail> {
+    let segment = from_peer((IRS + 1).wrapping_add(place), ISN + 1, flags, body);
+    give_segment(conn, rec, &segment, 0, acts)?;
+    if let Some(place) = answer {
+        assert_eq!(rt; all_sent(acts), ack_to(place), "segment {rec}");
+    }
+    Ok(())
+}
+
+fn sends_text(rt: &impl Abort, conn: &mut Conn, acts: &mut Acts) -> Result<(), Fail> {
+    conn.send(b"q", 0, acts)?;
     let text = Sent {
         seq: ISN + 1,
         ack: IRS + 6,
@@ -50,11 +44,37 @@ fn half_closed(rt: HostRuntime) -> Result<(), Fail> {
         window: 65_535,
         body: b"q",
     };
-    assert_eq!(rt; all_sent(&acts), (Some(text), None));
-    conn.shut(&mut acts);
-    assert_eq!(rt; all_sent(&acts), one(ISN + 2, IRS + 6, FIN + ACK, 65_535));
+    assert_eq!(rt; all_sent(acts), (Some(text), None));
+    Ok(())
+}
+
+/// A close is a FIN, which is sent once.
+fn closes(rt: &impl Abort, conn: &mut Conn, acts: &mut Acts) {
+    conn.shut(acts);
+    assert_eq!(rt; all_sent(acts), one(ISN + 2, IRS + 6, FIN + ACK, 65_535));
     assert!(rt; acts.over == None && conn.at_end());
-    conn.shut(&mut acts);
-    assert_eq!(rt; all_sent(&acts), (None, None), "it is sent once");
+    conn.shut(acts);
+    assert_eq!(rt; all_sent(acts), (None, None));
+}
+
+// Half-closed by the peer: its end is reached after a hole, and ours is still sent.
+#[test]
+fn half_closed(rt: HostRuntime) -> Result<(), Fail> {
+    let mut acts = Acts::none();
+    let mut conn = established(rt.alloc(), ISN, IRS, &mut acts)?;
+    for (row, (place, flags, body, answer, to, bytes, is_end)) in SEGMENTS.iter().enumerate() {
+        let segment = (*place, *flags, *body);
+        takes(&rt, &mut conn, row as u32, segment, *answer, &mut acts)?;
+        assert_eq!(rt;
+            (acts.advance, acts.ready),
+            (*to, to.is_some()),
+            "row {row}"
+        );
+        assert_eq!(rt; conn.at_end(), *is_end, "row {row}");
+        let held = delivered(&mut conn, acts.advance);
+        assert_eq!(rt; held.as_slice(), *bytes, "row {row}");
+    }
+    sends_text(&rt, &mut conn, &mut acts)?;
+    closes(&rt, &mut conn, &mut acts);
     Ok(())
 }

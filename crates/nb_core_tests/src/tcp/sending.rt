@@ -3,6 +3,7 @@
 use crate::tcp::{
     IRS, ISN, Sent, all_sent, asking, cause, data, delivered, established, give_segment,
 };
+use nb_tcp::Conn;
 use nb_tcpseg::{ACK, PSH};
 use nb_terms::Acts;
 use std::process::Abort;
@@ -29,14 +30,19 @@ fn the_syn(rt: HostRuntime) -> Result<(), Fail> {
     Ok(())
 }
 
-// Text without an answer: six tries of the same bytes, with what has come meanwhile acknowledged.
-#[test]
-fn tries_again_and_gives_up(rt: HostRuntime) -> Result<(), Fail> {
-    let mut acts = Acts::none();
-    let mut conn = established(rt.alloc(), ISN, IRS, &mut acts)?;
-    conn.send(b"GET", 0, &mut acts)?;
-    give_segment(&mut conn, 2, &data(0, b"x"), 100, &mut acts)?;
-    let _ = delivered(&mut conn, acts.advance);
+/// When text without an answer is sent again, and as which try.
+const TRIES: [(u64, Option<u8>); 7] = [
+    (249, None),
+    (250, Some(2)),
+    (750, Some(3)),
+    (1750, Some(4)),
+    (3750, Some(5)),
+    (7750, Some(6)),
+    (15_749, None),
+];
+
+/// Time passes, and the text is sent as this try, with what has come meanwhile acknowledged, or not at all.
+fn passes(rt: &impl Abort, conn: &mut Conn, now: u64, tried: Option<u8>, acts: &mut Acts) {
     let text = Sent {
         seq: ISN + 1,
         ack: IRS + 2,
@@ -44,25 +50,30 @@ fn tries_again_and_gives_up(rt: HostRuntime) -> Result<(), Fail> {
         window: 65_535,
         body: b"GET",
     };
-    for (now, tried) in [
-        (249, None),
-        (250, Some(2)),
-        (750, Some(3)),
-        (1750, Some(4)),
-        (3750, Some(5)),
-        (7750, Some(6)),
-        (15_749, None),
-    ] {
-        conn.time(now, &mut acts);
-        assert_eq!(rt; acts.tried, tried, "at {now}");
-        assert_eq!(rt; all_sent(&acts).0, tried.map(|_| text), "at {now}");
-    }
-    conn.time(15_750, &mut acts);
+    conn.time(now, acts);
+    assert_eq!(rt; acts.tried, tried, "at {now}");
+    assert_eq!(rt; all_sent(acts).0, tried.map(|_| text), "at {now}");
+}
+
+/// It ends after the last try, and what has ended ignores a segment.
+fn gives_up(rt: &impl Abort, conn: &mut Conn, acts: &mut Acts) -> Result<(), Fail> {
+    conn.time(15_750, acts);
     assert_eq!(rt; acts.over, cause(2, 6, 0));
-    give_segment(&mut conn, 3, &data(1, b"y"), 15_750, &mut acts)?;
-    assert!(rt;
-        all_sent(&acts) == (None, None) && acts.advance == None,
-        "what has ended ignores a segment"
-    );
+    give_segment(conn, 3, &data(1, b"y"), 15_750, acts)?;
+    assert!(rt; all_sent(acts) == (None, None) && acts.advance == None);
     Ok(())
+}
+
+// Text without an answer: six tries of the same bytes.
+#[test]
+fn tries_again_and_gives_up(rt: HostRuntime) -> Result<(), Fail> {
+    let mut acts = Acts::none();
+    let mut conn = established(rt.alloc(), ISN, IRS, &mut acts)?;
+    conn.send(b"GET", 0, &mut acts)?;
+    give_segment(&mut conn, 2, &data(0, b"x"), 100, &mut acts)?;
+    let _ = delivered(&mut conn, acts.advance);
+    for (now, tried) in TRIES {
+        passes(&rt, &mut conn, now, tried, &mut acts);
+    }
+    gives_up(&rt, &mut conn, &mut acts)
 }

@@ -1,11 +1,13 @@
 //! Single segments by tables (RFC 9293, section 3.10.7).
 
 use crate::tcp::{
-    IRS, ISN, ack_to, all_sent, asking, cause, data, delivered, established, from_peer,
+    IRS, ISN, Sent, ack_to, all_sent, asking, cause, data, delivered, established, from_peer,
     give_segment, one,
 };
+use nb_tcp::Conn;
 use nb_tcpseg::{ACK, FIN, PSH, RST, SYN};
 use nb_terms::Acts;
+use std::alloc::Global;
 use std::process::Abort;
 use std::test::Fail;
 
@@ -31,24 +33,41 @@ const SEGMENTS: [(u32, u32, u8, &[u8], Option<u32>, bool); 16] = [
     (2, 0, FIN + ACK, b"", Some(3), false),
 ];
 
+/// A connection whose first three bytes were delivered.
+fn with_three_bytes(alloc: Global, acts: &mut Acts) -> Result<Conn, Fail> {
+    let mut conn = established(alloc, ISN, IRS, acts)?;
+    give_segment(&mut conn, 6, &data(0, b"abc"), 0, acts)?;
+    let _ = delivered(&mut conn, acts.advance);
+    Ok(conn)
+}
+
+/// The acknowledgement up to a place, where there is one.
+fn answer_to(place: Option<u32>) -> (Option<Sent<'static>>, Option<Sent<'static>>) {
+    match place {
+        Some(place) => ack_to(place),
+        None => (None, None),
+    }
+}
+
 #[test]
 fn one_segment_to_an_established_connection(rt: HostRuntime) -> Result<(), Fail> {
     for (row, (place, ack, flags, body, answer, is_reset)) in SEGMENTS.iter().enumerate() {
         let mut acts = Acts::none();
-        let mut conn = established(rt.alloc(), ISN, IRS, &mut acts)?;
-        give_segment(&mut conn, 6, &data(0, b"abc"), 0, &mut acts)?;
-        let _ = delivered(&mut conn, acts.advance);
+        let mut conn = with_three_bytes(rt.alloc(), &mut acts)?;
         let seq = (IRS + 1).wrapping_add(*place);
         let segment = from_peer(seq, (ISN + 1).wrapping_add(*ack), *flags, body);
         give_segment(&mut conn, 7, &segment, 0, &mut acts)?;
-        let sent = match *answer {
-            Some(place) => ack_to(place),
-            None => (None, None),
-        };
-        assert_eq!(rt; all_sent(&acts), sent, "the answer to row {row}");
+        assert_eq!(rt;
+            all_sent(&acts),
+            answer_to(*answer),
+            "the answer to row {row}"
+        );
         let over = if *is_reset { cause(1, 7, 65_535) } else { None };
-        assert_eq!(rt; acts.over, over, "the end at row {row}");
-        assert_eq!(rt; acts.advance, None, "the place after row {row}");
+        assert_eq!(rt;
+            (acts.over, acts.advance),
+            (over, None),
+            "the end at row {row}"
+        );
     }
     Ok(())
 }

@@ -1,6 +1,7 @@
-use super::*;
+use nb_image::{Body, ImageError, ImageKind, Images, Part, PartBytes, PartKind, PushError};
 use std::alloc::Global;
-use std::test::*;
+use std::process::Abort;
+use std::test::Fail;
 
 /// A body of these bytes.
 fn body(alloc: Global, bytes: &[u8]) -> Result<Body, PushError> {

@@ -1,9 +1,9 @@
-use super::*;
+use nb_scripts::{Entry, Progress, Scripts};
 use nb_terms::{Cause, Long, Many, NoMemory, Plain, Reason};
 use nb_wire::Text;
 use std::alloc::Global;
 use std::collections::VecDeque;
-use std::test::*;
+use std::test::Fail;
 
 const EXIT: Cause = Cause {
     code: 24,

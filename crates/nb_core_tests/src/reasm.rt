@@ -1,4 +1,4 @@
-use super::*;
+use nb_reasm::{Held, MAX_CAPACITY, Put};
 use nb_terms::NoMemory;
 
 fn is_front(held: &Held, expected: &[u8]) -> bool {
