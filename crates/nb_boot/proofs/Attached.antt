@@ -1,14 +1,15 @@
 -- A run after an attaching, which reads and takes nothing.
 use Rattle.std.proofs.Common.{ℕ, []}
-use Rattle.nb_record.specs.Outside.{Outside, Passes}
-use Rattle.nb_record.proofs.OutsideLemmas.{Passes-then}
+use Rattle.nb_record.specs.Outside.{Outside, Attaches}
+use Rattle.nb_record.proofs.OutsideLemmas.{Passes-then, Attaches-passes}
 use Rattle.nb_boot.specs.Run.{Run, Shows, IsOver}
 use Rattle.nb_engine.specs.declared.status.Status.{Status}
 use Rattle.nb_engine.specs.declared.status.Status.TheVariants as status
 use Rattle.nb_boot.proofs.Written.{rose_later}
+use Rattle.nb_boot.proofs.InTurns.{turns_from}
 
 -- the same run, seen from before the attaching
-abbrev pub run_from : (first mid after : Outside) → Passes first mid [] [] → Run mid after → Run first after
+abbrev pub run_from : (first mid after : Outside) → Attaches first mid → Run mid after → Run first after
 run_from first mid after p r = record {
   ins = r.ins;
   outs = r.outs;
@@ -18,7 +19,7 @@ run_from first mid after p r = record {
   read = r.read;
   written = r.written;
   lost = r.lost;
-  passes = Passes-then first mid after [] [] r.read r.written p r.passes;
+  passes = Passes-then first mid after [] [] r.read r.written (Attaches-passes first mid p) r.passes;
   spelled = r.spelled;
   path = r.path;
   follows = r.follows;
@@ -30,13 +31,14 @@ run_from first mid after p r = record {
   traced = r.traced;
   texts = r.texts;
   few = r.few;
+  in_turn = turns_from first mid after r.ins r.outs p r.in_turn;
 }
 
-over_from : (first mid after : Outside) (p : Passes first mid [] []) (r : Run mid after) (number : ℕ) → IsOver mid after r number → IsOver first after (run_from first mid after p r) number
+over_from : (first mid after : Outside) (p : Attaches first mid) (r : Run mid after) (number : ℕ) → IsOver mid after r number → IsOver first after (run_from first mid after p r) number
 over_from first mid after p r number o =
     record { ends = o.ends; closed = o.closed; front = o.front; last = o.last; opens = o.opens; made = o.made; none = o.none; all = o.all }
 
-pub attached_shows : (s : Status) (first mid after : Outside) → Passes first mid [] [] → Shows s mid after → Shows s first after
+pub attached_shows : (s : Status) (first mid after : Outside) → Attaches first mid → Shows s mid after → Shows s first after
 attached_shows status.HandedOff first mid after p (r, o) = (run_from first mid after p r, (over_from first mid after p r 0 o.0, o.1))
 attached_shows status.Ended first mid after p (r, o) = (run_from first mid after p r, over_from first mid after p r 3 o)
 attached_shows status.ScriptFailed first mid after p (r, o) = (run_from first mid after p r, over_from first mid after p r 4 o)

@@ -2,7 +2,8 @@
 use Rattle.std.proofs.Common.{◌≡◌, ◌<◌, ◌≤◌, inl, inr, lit≤, arith, subst, length, length-append, ℕ, Bool, true, false, cond, List, [], ◌∷◌, ◌++◌, refl, sym, ◌∙◌, ap, append-nil, append_assoc}
 use Rattle.std.proofs.lemmas.Grind.{flat_map-append}
 use Rattle.nb_defs.specs.Records.{In, in_texts, Out, out_text, out_texts, record_text, done}
-use Rattle.nb_record.specs.Outside.{Outside, Passes, Rose}
+use Rattle.nb_record.specs.Outside.{Outside, Attaches, Rose}
+use Rattle.nb_record.proofs.OutsideLemmas.{Passes-nothing, Attaches-passes}
 use Rattle.nb_record.specs.Logged.{Logged, Puts}
 use Rattle.nb_defs.specs.Causes.{is_ok_cause}
 use Rattle.nb_engine.specs.Machine.{Machine, handed_off, fresh, nothing}
@@ -14,6 +15,7 @@ use Rattle.nb_engine.specs.StatusNumber.{status_number}
 use Rattle.nb_engine.specs.declared.status.Status.{Status}
 use Rattle.nb_engine.specs.declared.status.Status.TheVariants as status
 use Rattle.nb_boot.specs.Run.{Run, Shows, Says, HandsTheirs, IsOver, Ends, was_left, was_handed, was_stopped, ran_out, was_bad, was_full, Closes, goes_on, is_over}
+use Rattle.nb_boot.specs.InTurn.{IsInTurn}
 use Rattle.nb_boot.specs.Going.{Going, Wrote, Stopped, IsFlaw, IsClosing, flaw_status}
 use Rattle.nb_boot.specs.declared.output.Flaw.{Flaw}
 use Rattle.nb_boot.specs.declared.output.Flaw.TheVariants as flaw
@@ -24,6 +26,7 @@ use Rattle.nb_boot.proofs.Goings.{passes_wrote}
 use Rattle.nb_boot.proofs.Last.{ClosesAll, closes_some}
 use Rattle.nb_boot.proofs.BadRests.{ends_stay}
 use Rattle.nb_boot.proofs.Written.{rose_later}
+use Rattle.nb_boot.proofs.InTurns.{no_reads, turns_end, turns_from}
 
 -- the records and what closes them
 pub closing_texts : (outs closers : List Out) (front : List ℕ) → out_texts outs ≡ front → out_texts (outs ++ closers) ≡ front ++ out_texts closers
@@ -47,7 +50,7 @@ whole_run ins held first before now log done_log m p number closers q r puts e w
       read = in_texts ins ++ held;
       written = r.written ++ done_log.bytes;
       lost = [];
-      passes = passes_wrote first before now (in_texts ins ++ held) r.written done_log.bytes r.passes w;
+      passes = passes_wrote first before now (in_texts ins ++ held) r.written done_log.bytes r.passes w.passes;
       spelled = refl;
       path = r.path;
       follows = r.follows;
@@ -58,6 +61,7 @@ whole_run ins held first before now log done_log m p number closers q r puts e w
       graphs = end.2;
       traced = graphs_are_traced (r.outs ++ closers) (bare end.0 end.1) end.2;
       few = subst (λ n. n ≤ 4294967295) (path_counts ins (without_graph r.outs) m r.path) r.few;
+      in_turn = turns_end first before now ins r.outs m w.reads_stay r.in_turn;
       texts = closing_texts r.outs closers (r.written ++ log.bytes) front ∙ append_assoc r.written log.bytes (out_texts closers)
           ∙ ap (λ t. r.written ++ t) (sym put.1) ∙ sym (append-nil (r.written ++ done_log.bytes));
     }
@@ -80,7 +84,7 @@ stopped_end ins held first before now log done_log m p number closers q r puts e
       read = in_texts ins ++ held;
       written = r.written ++ s.part;
       lost = s.lost;
-      passes = passes_wrote first before now (in_texts ins ++ held) r.written s.part r.passes s.passes;
+      passes = passes_wrote first before now (in_texts ins ++ held) r.written s.part r.passes s.wrote.passes;
       spelled = refl;
       path = r.path;
       follows = r.follows;
@@ -91,6 +95,7 @@ stopped_end ins held first before now log done_log m p number closers q r puts e
       graphs = end.2;
       traced = graphs_are_traced (r.outs ++ closers) (bare end.0 end.1) end.2;
       few = subst (λ n. n ≤ 4294967295) (path_counts ins (without_graph r.outs) m r.path) r.few;
+      in_turn = turns_end first before now ins r.outs m s.wrote.reads_stay r.in_turn;
       texts = closing_texts r.outs closers (r.written ++ log.bytes) front ∙ append_assoc r.written log.bytes (out_texts closers)
           ∙ ap (λ t. r.written ++ t) (sym put.1 ∙ s.fronts) ∙ sym (append_assoc r.written s.part s.lost);
     }
@@ -114,7 +119,7 @@ done_missing before front closers number last =
 
 -- a run whose output memory cut
 abbrev pub short_end : (ins : List In) (held : List ℕ) (first before now : Outside) (log : Logged) (m : Machine) (at : GraphAt) (number : ℕ) (closers : List Out) →
-    ClosesAll m at number closers → (r : Going ins held first before log m at) → Passes before now [] [] → Ends m held now number → Run first now
+    ClosesAll m at number closers → (r : Going ins held first before log m at) → Wrote before now [] → Ends m held now number → Run first now
 short_end ins held first before now log m at number closers q r p c = record {
   ins = ins;
   outs = r.outs;
@@ -124,7 +129,7 @@ short_end ins held first before now log m at number closers q r p c = record {
   read = in_texts ins ++ held;
   written = r.written ++ [];
   lost = (log.bytes ++ r.lost) ++ out_texts closers;
-  passes = passes_wrote first before now (in_texts ins ++ held) r.written [] r.passes p;
+  passes = passes_wrote first before now (in_texts ins ++ held) r.written [] r.passes p.passes;
   spelled = refl;
   path = r.path;
   follows = r.follows;
@@ -135,6 +140,7 @@ short_end ins held first before now log m at number closers q r p c = record {
   graphs = (q.graphs r.outs r.graphs).2;
   traced = graphs_are_traced (r.outs ++ closers) (bare (q.graphs r.outs r.graphs).0 (q.graphs r.outs r.graphs).1) (q.graphs r.outs r.graphs).2;
   few = subst (λ n. n ≤ 4294967295) (path_counts ins (without_graph r.outs) m r.path) r.few;
+  in_turn = turns_end first before now ins r.outs m p.reads_stay r.in_turn;
   texts = closing_texts r.outs closers ((r.written ++ log.bytes) ++ r.lost) r.texts
       ∙ ap (λ t. t ++ out_texts closers) (append_assoc r.written log.bytes r.lost)
       ∙ append_assoc r.written (log.bytes ++ r.lost) (out_texts closers)
@@ -178,7 +184,7 @@ pub over_shows : (s : Status) (ins : List In) (held : List ℕ) (first before no
     ClosesAll m p (status_number s) closers → Going ins held first before log m p → Puts log done_log (out_texts closers) → done_log.is_short ≡ false → Wrote before now done_log.bytes →
     Ends m held before (status_number s) → Shows s first now
 over_shows s ins held first before now log done_log m p closers e q r puts whole w c =
-    let then = ends_stay m held done_log.bytes before now (status_number s) w c in
+    let then = ends_stay m held done_log.bytes before now (status_number s) w.passes c in
     let run = whole_run ins held first before now log done_log m p (status_number s) closers q r puts whole w then in (
       run,
       over_says s first now run e (record {
@@ -198,17 +204,17 @@ pub flaw_shows : (f : Flaw) (ins : List In) (held : List ℕ) (first before now 
     ClosesAll m p number closers → Going ins held first before log m p → Puts log done_log (out_texts closers) → IsFlaw f before now done_log →
     Ends m held before number → Shows (flaw_status f) first now
 flaw_shows flaw.WriteFault ins held first before now log done_log m p number closers q r puts s c = (
-  stopped_end ins held first before now log done_log m p number closers q r puts s.0 s.1 (ends_stay m held s.1.part before now number s.1.passes c),
+  stopped_end ins held first before now log done_log m p number closers q r puts s.0 s.1 (ends_stay m held s.1.part before now number s.1.wrote.passes c),
   (rose_later first.write_faults before.write_faults now.write_faults r.passes.counts.write_count s.1.rose, s.1.missing),
 )
 flaw_shows flaw.NoMemory ins held first before now log done_log m p number closers q r puts s c = (
-  short_end ins held first before now log m p number closers q r s (ends_stay m held [] before now number s c),
+  short_end ins held first before now log m p number closers q r s (ends_stay m held [] before now number s.passes c),
   inr (done_missing (log.bytes ++ r.lost) q.front closers number q.last),
 )
 
 -- memory ran out before anything was used
-pub no_memory_shows : (now : Outside) → Passes now now [] [] → Shows status.NoMemory now now
-no_memory_shows now p = (
+pub no_memory_shows : (now : Outside) → Shows status.NoMemory now now
+no_memory_shows now = (
   record {
     ins = [];
     outs = [];
@@ -218,7 +224,7 @@ no_memory_shows now p = (
     read = [];
     written = [];
     lost = [];
-    passes = p;
+    passes = Passes-nothing now;
     spelled = refl;
     path = nothing;
     follows = with_graph.nothing;
@@ -229,14 +235,15 @@ no_memory_shows now p = (
     graphs = order.nothing;
     traced = graphs_are_traced [] (bare 0 0) order.nothing;
     few = lit≤ tt;
+    in_turn = no_reads (IsInTurn now [] []) now;
     texts = refl;
   },
   inl refl,
 )
 
 -- nothing could be attached
-pub unattached_shows : (init now : Outside) → Passes init now [] [] → Rose init.attach_faults now.attach_faults → Shows status.AttachFault init now
-unattached_shows init now p rose = (
+pub unattached_shows : (init now : Outside) → Attaches init now → Rose init.attach_faults now.attach_faults → Shows status.AttachFault init now
+unattached_shows init now a rose = (
   record {
     ins = [];
     outs = [];
@@ -246,7 +253,7 @@ unattached_shows init now p rose = (
     read = [];
     written = [];
     lost = [];
-    passes = p;
+    passes = Attaches-passes init now a;
     spelled = refl;
     path = nothing;
     follows = with_graph.nothing;
@@ -257,6 +264,7 @@ unattached_shows init now p rose = (
     graphs = order.nothing;
     traced = graphs_are_traced [] (bare 0 0) order.nothing;
     few = lit≤ tt;
+    in_turn = turns_from init now now [] [] a (no_reads (IsInTurn now [] []) now);
     texts = refl;
   },
   (refl, refl, refl, rose),

@@ -3,18 +3,18 @@ use Rattle.std.proofs.Common.{◌≤◌, inl, arith, subst, length-append, ℕ, 
 use Rattle.nb_defs.specs.Records.{In, in_texts, IsPartial, out_texts}
 use Rattle.nb_record.specs.Outside.{Outside, Passes, Rose}
 use Rattle.nb_record.specs.Logged.{Logged}
-use Rattle.nb_record.proofs.OutsideLemmas.{Passes-nothing}
 use Rattle.nb_engine.specs.Machine.{Machine}
 use Rattle.nb_opens.specs.Graphs.{Graphs, GraphAt, without_graph}
 use Rattle.nb_opens.proofs.Tracing.{graphs_are_traced}
 use Rattle.nb_engine.specs.declared.status.Status.TheVariants as status
 use Rattle.nb_boot.specs.Run.{Run, Shows, IsBetween, goes_on}
-use Rattle.nb_boot.specs.Going.{Going, Stopped, IsFlaw, CutsAll, flaw_status}
+use Rattle.nb_boot.specs.Going.{Going, Wrote, Stopped, IsFlaw, CutsAll, flaw_status}
 use Rattle.nb_boot.specs.declared.output.Flaw.{Flaw}
 use Rattle.nb_boot.specs.declared.output.Flaw.TheVariants as flaw
 use Rattle.nb_laws.proofs.Counts.{path_counts}
 use Rattle.nb_boot.proofs.Goings.{passes_wrote}
-use Rattle.nb_boot.proofs.Written.{rose_later}
+use Rattle.nb_boot.proofs.Written.{rose_later, wrote_nothing}
+use Rattle.nb_boot.proofs.InTurns.{turns_end}
 
 -- a write failed: a prefix of the output was written
 abbrev pub stopped_run : (ins : List In) (held : List ℕ) (first before now : Outside) (log : Logged) (m : Machine) (at : GraphAt) → Stopped before now log.bytes →
@@ -28,7 +28,7 @@ stopped_run ins held first before now log m at s r = record {
   read = in_texts ins ++ held;
   written = r.written ++ s.part;
   lost = s.lost ++ r.lost;
-  passes = passes_wrote first before now (in_texts ins ++ held) r.written s.part r.passes s.passes;
+  passes = passes_wrote first before now (in_texts ins ++ held) r.written s.part r.passes s.wrote.passes;
   spelled = refl;
   path = r.path;
   follows = r.follows;
@@ -39,12 +39,13 @@ stopped_run ins held first before now log m at s r = record {
   graphs = subst (λ xs. Graphs xs at) (sym (append-nil r.outs)) r.graphs;
   traced = graphs_are_traced (r.outs ++ []) at (subst (λ xs. Graphs xs at) (sym (append-nil r.outs)) r.graphs);
   few = subst (λ n. n ≤ 4294967295) (path_counts ins (without_graph r.outs) m r.path) r.few;
+  in_turn = turns_end first before now ins r.outs m s.wrote.reads_stay r.in_turn;
   texts = ap out_texts (append-nil r.outs) ∙ r.texts ∙ ap (λ t. (r.written ++ t) ++ r.lost) s.fronts
       ∙ ap (λ t. t ++ r.lost) (sym (append_assoc r.written s.part s.lost)) ∙ append_assoc (r.written ++ s.part) s.lost r.lost;
 }
 
 -- memory ran out: what was written is a prefix of the output
-abbrev pub short_run : (ins : List In) (held : List ℕ) (first before now : Outside) (log : Logged) (m : Machine) (at : GraphAt) → Passes before now [] [] →
+abbrev pub short_run : (ins : List In) (held : List ℕ) (first before now : Outside) (log : Logged) (m : Machine) (at : GraphAt) → Wrote before now [] →
     Going ins held first before log m at → Run first now
 short_run ins held first before now log m at p r = record {
   ins = ins;
@@ -55,7 +56,7 @@ short_run ins held first before now log m at p r = record {
   read = in_texts ins ++ held;
   written = r.written ++ [];
   lost = log.bytes ++ r.lost;
-  passes = passes_wrote first before now (in_texts ins ++ held) r.written [] r.passes p;
+  passes = passes_wrote first before now (in_texts ins ++ held) r.written [] r.passes p.passes;
   spelled = refl;
   path = r.path;
   follows = r.follows;
@@ -66,6 +67,7 @@ short_run ins held first before now log m at p r = record {
   graphs = subst (λ xs. Graphs xs at) (sym (append-nil r.outs)) r.graphs;
   traced = graphs_are_traced (r.outs ++ []) at (subst (λ xs. Graphs xs at) (sym (append-nil r.outs)) r.graphs);
   few = subst (λ n. n ≤ 4294967295) (path_counts ins (without_graph r.outs) m r.path) r.few;
+  in_turn = turns_end first before now ins r.outs m p.reads_stay r.in_turn;
   texts = ap out_texts (append-nil r.outs) ∙ r.texts ∙ append_assoc r.written log.bytes r.lost ∙ ap (λ t. t ++ (log.bytes ++ r.lost)) (sym (append-nil r.written));
 }
 
@@ -79,13 +81,13 @@ flaw_cuts flaw.NoMemory before now log p = λ held ins first m at r. (short_run 
 
 -- memory ran out in the client
 pub memory_shows : (ins : List In) (held : List ℕ) (first now : Outside) (log : Logged) (m : Machine) (at : GraphAt) → Going ins held first now log m at → Shows status.NoMemory first now
-memory_shows ins held first now log m at r = (short_run ins held first now now log m at (Passes-nothing now) r, inl refl)
+memory_shows ins held first now log m at r = (short_run ins held first now now log m at (wrote_nothing now) r, inl refl)
 
 -- a read failed after a log that was written out
-pub unread_shows : (ins : List In) (held : List ℕ) (first before now : Outside) (room : ℕ) (m : Machine) (at : GraphAt) → IsBetween m.phase → IsPartial held →
-    Passes before now [] [] → Rose before.read_faults now.read_faults →
-    Going ins held first before (record { bytes = []; room = room; is_short = false }) m at → Shows status.ReadFault first now
-unread_shows ins held first before now room m at between partial p rose r = (
+pub unread_shows : (ins : List In) (held : List ℕ) (first now : Outside) (room : ℕ) (m : Machine) (at : GraphAt) → IsBetween m.phase → IsPartial held →
+    Rose first.read_faults now.read_faults →
+    Going ins held first now (record { bytes = []; room = room; is_short = false }) m at → Shows status.ReadFault first now
+unread_shows ins held first now room m at between partial rose r = (
   record {
     ins = ins;
     outs = r.outs;
@@ -95,7 +97,7 @@ unread_shows ins held first before now room m at between partial p rose r = (
     read = in_texts ins ++ held;
     written = r.written ++ [];
     lost = [];
-    passes = passes_wrote first before now (in_texts ins ++ held) r.written [] r.passes p;
+    passes = subst (λ xs. Passes first now (in_texts ins ++ held) xs) (sym (append-nil r.written)) r.passes;
     spelled = refl;
     path = r.path;
     follows = r.follows;
@@ -106,13 +108,8 @@ unread_shows ins held first before now room m at between partial p rose r = (
     graphs = subst (λ xs. Graphs xs at) (sym (append-nil r.outs)) r.graphs;
     traced = graphs_are_traced (r.outs ++ []) at (subst (λ xs. Graphs xs at) (sym (append-nil r.outs)) r.graphs);
     few = subst (λ n. n ≤ 4294967295) (path_counts ins (without_graph r.outs) m r.path) r.few;
+    in_turn = turns_end first now now ins r.outs m refl r.in_turn;
     texts = ap out_texts (append-nil r.outs) ∙ r.texts ∙ ap (λ t. (r.written ++ []) ++ t) (r.whole refl);
   },
-  record {
-    between = between;
-    partial = partial;
-    closed = refl;
-    all = refl;
-    rose = rose_later first.read_faults before.read_faults now.read_faults r.passes.counts.read_count rose;
-  },
+  record { between = between; partial = partial; closed = refl; all = refl; rose = rose },
 )

@@ -5,9 +5,11 @@ use Rattle.nb_record.specs.Outside.{Outside}
 use Rattle.nb_record.specs.Logged.{Logged}
 use Rattle.nb_record.specs.Held.{IsFront}
 use Rattle.nb_engine.specs.Seen.{Seen}
+use Rattle.nb_engine.specs.Turns.{IsResting}
 use Rattle.nb_engine.specs.declared.status.Status.{Status}
 use Rattle.nb_boot.specs.Run.{Shows, BeginsWith}
-use Rattle.nb_boot.specs.Going.{Goes, Waits, KeepsRun, LeadsOn, Stops, UsesRecord, UsesNext}
+use Rattle.nb_boot.specs.Going.{Goes, Waits, KeepsWaiting, LeadsOn, Stops, UsesRecord, UsesNext}
+use Rattle.nb_boot.proofs.Standing.{stands_between}
 
 -- a record at the front, and what follows it
 pub front_texts : (bytes : List ℕ) (r : In) (len : ℕ) → IsFront bytes r len → bytes ≡ in_texts (r ∷ []) ++ drop len bytes
@@ -31,9 +33,9 @@ pub waits_stops : (r : In) (n : ℕ) (held held' : List ℕ) (s : Status) (first
 waits_stops r n held held' s first before now old c e l w = l w.ins held' first (subst (λ xs. Goes w.ins xs first before old c) e w.goes)
 
 -- more was read, and output was written
-pub waits_filled : (n : ℕ) (held held' : List ℕ) (first before now : Outside) (old new : Logged) (c : Seen) → KeepsRun held held' before now old new →
+pub waits_filled : (n : ℕ) (held held' : List ℕ) (first before now : Outside) (old new : Logged) (c : Seen) → KeepsWaiting held held' before now old new → IsResting c.stage →
     Waits n held first before old c → Waits n held' first now new c
-waits_filled n held held' first before now old new c h w = record {
+waits_filled n held held' first before now old new c h rests w = record {
   ins = w.ins;
   counted = w.counted;
   goes = record {
@@ -41,25 +43,25 @@ waits_filled n held held' first before now old new c h w = record {
     at = w.goes.at;
     stands = w.goes.stands;
     fits = w.goes.fits;
-    going = h w.ins first w.goes.machine w.goes.at w.goes.going;
+    going = h w.ins first w.goes.machine w.goes.at (stands_between c w.goes.machine w.goes.stands rests) w.goes.going;
   };
 }
 
-pub uses_filled : (r : Option Status) (a b d : List ℕ) (before mid now : Outside) (old log new : Logged) (c c' : Seen) → KeepsRun a b before mid old log →
+pub uses_filled : (r : Option Status) (a b d : List ℕ) (before mid now : Outside) (old log new : Logged) (c c' : Seen) → KeepsWaiting a b before mid old log → IsResting c.stage →
     UsesNext r b d mid now log new c c' → UsesNext r a d before now old new c c'
-uses_filled None a b d before mid now old log new c c' h u = (u.0, λ n first w. u.1 n first (waits_filled n a b first before mid old log c h w))
-uses_filled (Some s) a b d before mid now old log new c c' h u = λ n first w. u n first (waits_filled n a b first before mid old log c h w)
+uses_filled None a b d before mid now old log new c c' h rests u = (u.0, λ n first w. u.1 n first (waits_filled n a b first before mid old log c h rests w))
+uses_filled (Some s) a b d before mid now old log new c c' h rests u = λ n first w. u n first (waits_filled n a b first before mid old log c h rests w)
 
 -- the same for a client that is the one before
-pub waits_there : (n : ℕ) (held held' : List ℕ) (first before now : Outside) (old new : Logged) (c c' : Seen) → KeepsRun held held' before now old new → c' ≡ c →
+pub waits_there : (n : ℕ) (held held' : List ℕ) (first before now : Outside) (old new : Logged) (c c' : Seen) → KeepsWaiting held held' before now old new → IsResting c'.stage → c' ≡ c →
     Waits n held first before old c → Waits n held' first now new c'
-waits_there n held held' first before now old new c c' h same w =
-    waits_filled n held held' first before now old new c' h (subst (λ x. Waits n held first before old x) (sym same) w)
+waits_there n held held' first before now old new c c' h rests same w =
+    waits_filled n held held' first before now old new c' h rests (subst (λ x. Waits n held first before old x) (sym same) w)
 
-pub uses_there : (r : Option Status) (a b d : List ℕ) (before mid now : Outside) (old log new : Logged) (c m c' : Seen) → KeepsRun a b before mid old log → m ≡ c →
+pub uses_there : (r : Option Status) (a b d : List ℕ) (before mid now : Outside) (old log new : Logged) (c m c' : Seen) → KeepsWaiting a b before mid old log → IsResting c.stage → m ≡ c →
     UsesNext r b d mid now log new m c' → UsesNext r a d before now old new c c'
-uses_there r a b d before mid now old log new c m c' h same u =
-    uses_filled r a b d before mid now old log new c c' h (subst (λ x. UsesNext r b d mid now log new x c') same u)
+uses_there r a b d before mid now old log new c m c' h rests same u =
+    uses_filled r a b d before mid now old log new c c' h rests (subst (λ x. UsesNext r b d mid now log new x c') same u)
 
 -- the record at the front was used
 pub uses_front : (r : Option Status) (e : In) (held held' : List ℕ) (before now : Outside) (old new : Logged) (c c' : Seen) → held ≡ in_texts (e ∷ []) ++ held' →

@@ -1,8 +1,9 @@
 -- How a run goes on, reads, and is written out.
 use Rattle.std.proofs.Common.{◌≡◌, ◌≤◌, lit≤, ℕ, true, false, inl, inr, List, [], ◌∷◌, ◌++◌, length, refl, sym, ◌∙◌, ap, subst, arith, append-nil, append_assoc, length-append}
 use Rattle.std.proofs.lemmas.Grind.{flat_map-append}
-use Rattle.nb_defs.specs.Records.{In, in_text, in_texts, Out, out_text, out_texts}
-use Rattle.nb_record.specs.Outside.{Outside, Passes}
+use Rattle.nb_defs.specs.Records.{In, in_text, in_texts, IsPartial, Out, out_text, out_texts}
+use Rattle.nb_record.specs.declared.notes.ReadNote.{ReadNote}
+use Rattle.nb_record.specs.Outside.{Outside, Passes, AsksPiece}
 use Rattle.nb_record.specs.Logged.{Logged}
 use Rattle.nb_record.proofs.OutsideLemmas.{Passes-nothing, Passes-then}
 use Rattle.nb_engine.specs.Machine.{Machine, Moves, rests, moves_on, Path, uses, moves, fresh, nothing}
@@ -14,9 +15,12 @@ use Rattle.nb_engine.proofs.Puts.{is_either}
 use Rattle.nb_opens.specs.Graphs.{GraphAt, bare, without_graph}
 use Rattle.nb_opens.specs.Graphs as order
 use Rattle.nb_opens.proofs.Plain.{plain_append}
-use Rattle.nb_boot.specs.Going.{Going, Goes, Wrote, HasNumber}
+use Rattle.nb_boot.specs.Run.{IsBetween}
+use Rattle.nb_boot.specs.InTurn.{OfEachRead}
+use Rattle.nb_boot.specs.Going.{TookTurn, Going, Goes, Wrote, HasNumber}
 use Rattle.nb_laws.proofs.Counts.{begins_counts, move_counts}
 use Rattle.nb_boot.proofs.Standing.{stands_used}
+use Rattle.nb_boot.proofs.InTurns.{no_reads, reads_weaker, reads_stay, turn_moves, turn_steps, turns_on}
 
 -- a list without elements
 no_length : (xs : List ℕ) → length xs ≡ 0 → xs ≡ []
@@ -95,6 +99,19 @@ graph_path_on [] ins outs added c m m' p st s f = subst (λ xs. GraphPath xs (ou
 graph_path_on (r ∷ []) ins outs added c m m' p st s f = with_graph.uses ins outs m r added m' p s (f m st)
 graph_path_on (r ∷ q ∷ rs) ins outs added c m m' p st s f = absurd s
 
+-- each read stays in its turn
+turn_grows : (used ins : List In) (outs added : List Out) (first : Outside) (c : Seen) (m m' : Machine) → StandsFor c m → FollowsRecord used c added → (read : ReadNote) →
+    TookTurn m first ins outs read → TookTurn m' first (ins ++ used) (outs ++ added) read
+turn_grows [] ins outs added first c m m' st f read t = turn_moves first ins outs added m m' read (under_way c m st f) t
+turn_grows (r ∷ []) ins outs added first c m m' st f read t =
+    let b = f m st in turn_steps first ins (r ∷ []) outs added b.more b.number m m' read b.all t
+turn_grows (r ∷ q ∷ rs) ins outs added first c m m' st f read t = absurd f
+
+turns_grow : (used ins : List In) (outs added : List Out) (first now : Outside) (c : Seen) (m m' : Machine) → StandsFor c m → FollowsRecord used c added →
+    OfEachRead (TookTurn m first ins outs) first now → OfEachRead (TookTurn m' first (ins ++ used) (outs ++ added)) first now
+turns_grow used ins outs added first now c m m' st f h =
+    reads_weaker (TookTurn m first ins outs) (TookTurn m' first (ins ++ used) (outs ++ added)) first now (turn_grows used ins outs added first c m m' st f) h
+
 grows_whole : (used ins : List In) (rest : List ℕ) (first now : Outside) (old new : Logged) (c c' : Seen) (m : Machine) (p : GraphAt) → old.is_short ≡ false → Grows used c c' old new → HasNumber used c.used →
     StandsFor c m → FitsGraph c p → Going ins (in_texts used ++ rest) first now old m p → Goes (ins ++ used) rest first now new c'
 grows_whole used ins rest first now old new c c' m p e g number st fit r =
@@ -117,6 +134,7 @@ grows_whole used ins rest first now old new c c' m p e g number st fit r =
         graphs = at.1;
         texts = rw g.puts.appended (join_whole r.outs g.added r.written old.bytes g.puts.part g.puts.lost start g.puts.fronts);
         few = steps_few used (without_graph g.added) m l.machine l.steps (subst (λ n. HasNumber used n) (sym (stands_used c m st)) number) r.few;
+        in_turn = turns_grow used ins r.outs g.added first now c m l.machine st g.follows r.in_turn;
         whole = λ f. end_of_front g.added g.puts.part g.puts.lost old.bytes new.bytes (g.puts.whole f).1 g.puts.appended g.puts.fronts;
       };
     }
@@ -143,6 +161,7 @@ grows_short used ins rest first now old new c c' m p e g number st fit r =
         graphs = at.1;
         texts = rw (ap (λ (l : Logged). l.bytes) same) (join_short r.outs g.added r.written old.bytes r.lost r.texts);
         few = steps_few used (without_graph g.added) m l.machine l.steps (subst (λ n. HasNumber used n) (sym (stands_used c m st)) number) r.few;
+        in_turn = turns_grow used ins r.outs g.added first now c m l.machine st g.follows r.in_turn;
         whole = λ f. let no : true ≡ false = sym short ∙ f in cc;
       };
     }
@@ -169,6 +188,7 @@ going_fresh now log h = record {
   texts = rw h refl;
   few = lit≤ tt;
   whole = λ _. refl;
+  in_turn = no_reads (TookTurn fresh now [] []) now;
 }
 
 -- what was written then comes after
@@ -182,19 +202,25 @@ going_flushed ins held first before now log m p room e w r = record {
   outs = r.outs;
   written = r.written ++ log.bytes;
   lost = r.lost;
-  passes = passes_wrote first before now (in_texts ins ++ held) r.written log.bytes r.passes w;
+  passes = passes_wrote first before now (in_texts ins ++ held) r.written log.bytes r.passes w.passes;
   path = r.path;
   follows = r.follows;
   graphs = r.graphs;
   texts = r.texts ∙ ap (λ t. t ++ r.lost) (sym (append-nil (r.written ++ log.bytes)));
   few = r.few;
   whole = λ _. r.whole e;
+  in_turn = reads_stay (TookTurn m first ins r.outs) first before now w.reads_stay r.in_turn;
 }
 
--- more was read, and is held
-pub going_read : (ins : List In) (held bytes : List ℕ) (first before now : Outside) (log : Logged) (m : Machine) (at : GraphAt) → Passes before now bytes [] →
-    Going ins held first before log m at → Going ins (held ++ bytes) first now log m at
-going_read ins held bytes first before now log m at p r = record {
+-- all output of a run whose log was written out was taken
+all_written : (outs : List Out) (written lost : List ℕ) → out_texts outs ≡ (written ++ []) ++ lost → lost ≡ [] → out_texts outs ≡ written
+all_written outs written lost texts none = texts ∙ ap (λ (xs : List ℕ). (written ++ []) ++ xs) none ∙ append-nil (written ++ []) ∙ append-nil written
+
+-- between two steps, where all output was taken, more was read, and is held
+pub going_read : (ins : List In) (held bytes : List ℕ) (first before now : Outside) (room : ℕ) (m : Machine) (at : GraphAt) → Passes before now bytes [] → AsksPiece before now →
+    IsBetween m.phase → IsPartial held → Going ins held first before (record { bytes = []; room = room; is_short = false }) m at →
+    Going ins (held ++ bytes) first now (record { bytes = []; room = room; is_short = false }) m at
+going_read ins held bytes first before now room m at p asks between partial r = record {
   outs = r.outs;
   written = r.written;
   lost = r.lost;
@@ -207,4 +233,5 @@ going_read ins held bytes first before now log m at p r = record {
   texts = r.texts;
   few = r.few;
   whole = r.whole;
+  in_turn = turns_on ins r.outs held r.written first before now m asks r.passes (all_written r.outs r.written r.lost r.texts (r.whole refl)) r.path between partial r.in_turn;
 }

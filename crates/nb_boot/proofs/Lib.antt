@@ -1,6 +1,8 @@
 pub mod Written
+pub mod InTurns
 pub mod Goings
 pub mod Cuttings
+pub mod Fetching
 pub mod Refills
 pub mod Turned
 pub mod Standing

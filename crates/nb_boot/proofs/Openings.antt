@@ -10,7 +10,7 @@ use Rattle.nb_opens.specs.Graphs.{bare}
 use Rattle.nb_engine.specs.Turns.{IsResting}
 use Rattle.nb_engine.specs.declared.stage.Stage.TheVariants as stage
 use Rattle.nb_engine.specs.declared.status.Status.{Status}
-use Rattle.nb_boot.specs.Going.{KeepsRun, LeadsOn, Stops, Opens, RefusesRun}
+use Rattle.nb_boot.specs.Going.{KeepsWaiting, LeadsOn, Stops, Opens, RefusesRun}
 
 -- a client before any record
 fresh_stands : (c : Seen) → c.used ≡ 0 → c.stage ≡ stage.Ready → StandsFor c fresh
@@ -40,12 +40,12 @@ refuses_used r rest s before now old c e h none empty l = λ first g.
     l [] rest first (record { machine = fresh; at = bare 0 0; stands = fresh_stands c e h; fits = fresh_fits c h none empty; going = g })
 
 -- what was read before
-pub opens_filled : (r : Result Seen Status) (a b d : List ℕ) (before mid now : Outside) (old log new : Logged) → KeepsRun a b before mid old log →
+pub opens_filled : (r : Result Seen Status) (a b d : List ℕ) (before mid now : Outside) (old log new : Logged) → KeepsWaiting a b before mid old log →
     IfOk r (λ c. Opens b d mid now log new c) → IfOk r (λ c. Opens a d before now old new c)
-opens_filled (Ok c) a b d before mid now old log new h o = (o.0, λ first g. o.1 first (h [] first fresh (bare 0 0) g))
+opens_filled (Ok c) a b d before mid now old log new h o = (o.0, λ first g. o.1 first (h [] first fresh (bare 0 0) tt g))
 opens_filled (Err s) a b d before mid now old log new h o = tt
 
-pub refuses_filled : (r : Result Seen Status) (a b : List ℕ) (before mid now : Outside) (old log : Logged) → KeepsRun a b before mid old log →
+pub refuses_filled : (r : Result Seen Status) (a b : List ℕ) (before mid now : Outside) (old log : Logged) → KeepsWaiting a b before mid old log →
     IfErr r (λ s. RefusesRun s b mid now log) → IfErr r (λ s. RefusesRun s a before now old)
 refuses_filled (Ok c) a b before mid now old log h o = tt
-refuses_filled (Err s) a b before mid now old log h o = λ first g. o first (h [] first fresh (bare 0 0) g)
+refuses_filled (Err s) a b before mid now old log h o = λ first g. o first (h [] first fresh (bare 0 0) tt g)

@@ -11,10 +11,11 @@ use Rattle.nb_machine.specs.Courses.{Standing, Progress, Course}
 use Rattle.nb_machine.specs.Carried.{StandsAs, Carries}
 use Rattle.nb_machine.specs.Closings.{Shuts}
 use Rattle.nb_machine.proofs.Runs.{runs_are_courses}
-use Rattle.nb_boot.specs.Run.{Awaits, IsBetween, IsBadRest, Ends, Closes, Run, IsOver, Says, Shows}
+use Rattle.nb_boot.specs.Run.{Awaits, IsBadRest, Ends, Closes, Run, IsOver, Says, Shows}
 use Rattle.nb_boot.specs.Run as run
-use Rattle.nb_boot.specs.Shown.{CommandWaits, MayGoOn, NoneMayCome, EndsWhere, was_left, was_handed, was_stopped, ran_out, was_bad, was_full, ClosedBy, goes_on, has_ended, Shown, HasEnded, IsSaid, ShowsCourse}
+use Rattle.nb_boot.specs.Shown.{CommandWaits, NoneMayCome, EndsWhere, was_left, was_handed, was_stopped, ran_out, was_bad, was_full, ClosedBy, goes_on, has_ended, Shown, HasEnded, IsSaid, ShowsCourse}
 use Rattle.nb_laws.proofs.Runs.{lawful_run}
+use Rattle.nb_boot.proofs.InTurns.{between}
 use Rattle.nb_boot.proofs.Shut.{shuts}
 use Rattle.nb_boot.proofs.Stepping.{paths_are_stepped, either_shuts}
 
@@ -30,19 +31,6 @@ waits (lone.handing rest) p same h = absurd h
 waits (lone.left cause) p same h = absurd h
 waits lone.handed_off p same h = absurd h
 waits lone.stopped p same h = absurd h
-
-between : (phase : Phase) (p : Standing) → StandsAs phase p → IsBetween phase → MayGoOn p
-between lone.ready p same h = subst MayGoOn (sym same) tt
-between (lone.reaching w s next) p same h = absurd h
-between (lone.running w s) p same h = absurd h
-between (lone.waiting w s o) p (xs, here, same) h = subst MayGoOn (sym same) tt
-between (lone.asking w s o) p (xs, here, same) h = subst MayGoOn (sym same) tt
-between (lone.sleeping w s until) p same h = subst MayGoOn (sym same.1) tt
-between (lone.yielded w s) p same h = subst MayGoOn (sym same) tt
-between (lone.handing rest) p same h = absurd h
-between (lone.left cause) p same h = absurd h
-between lone.handed_off p same h = absurd h
-between lone.stopped p same h = absurd h
 
 bad : (phase : Phase) (p : Standing) (rest : List ℕ) (o : Outside) → StandsAs phase p → IsBadRest phase rest o → NoneMayCome p rest o
 bad lone.ready p rest o same h = subst (λ z. NoneMayCome z rest o) (sym same) h
@@ -90,6 +78,7 @@ with_course before after r p course c shut = record {
   traced = r.traced;
   texts = r.texts;
   few = r.few;
+  in_turn = r.in_turn;
   history = (lawful_run r.ins (without_graph r.outs) r.machine r.path).0;
   is_history = (lawful_run r.ins (without_graph r.outs) r.machine r.path).1;
   is_lawful = (lawful_run r.ins (without_graph r.outs) r.machine r.path).2;

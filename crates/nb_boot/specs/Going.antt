@@ -8,6 +8,8 @@ use Rattle.nb_engine.specs.Turns.{IsEnd, IsResting, IsOverWith}
 use Rattle.nb_opens.specs.Graphs.{Graphs, GraphAt, bare, without_graph}
 use Rattle.nb_record.specs.Outside.{Outside, Passes, Rose, IsAtEnd}
 use Rattle.nb_record.specs.Logged.{Logged}
+use Rattle.nb_record.specs.declared.notes.ReadNote.{ReadNote}
+use Rattle.nb_boot.specs.InTurn.{IsInTurn, OfEachRead}
 use Rattle.nb_boot.specs.Run.{Shows, IsBetween, IsFirst, IsOther}
 use Rattle.nb_engine.specs.declared.status.Status.{Status}
 use Rattle.nb_engine.specs.declared.status.Status.TheVariants as status
@@ -17,6 +19,11 @@ use Rattle.nb_boot.specs.declared.feeding.Filled.{Filled}
 use Rattle.nb_boot.specs.declared.feeding.Filled.TheVariants as filled
 use Rattle.nb_boot.specs.declared.play.StepEnd.{StepEnd}
 use Rattle.nb_boot.specs.declared.play.StepEnd.TheVariants as ending
+
+-- a read was in its turn, and where nothing was put since, no step is under way
+pub record TookTurn (m : Machine) (first : Outside) (ins : List In) (outs : List Out) (read : ReadNote) : Type 0 where
+  pub turn : IsInTurn first ins outs read
+  pub rests : turn.later ≡ [] → IsBetween m.phase
 
 -- The records used led the machine and the graph here, and their output was written, or stands in the log. Of what was
 -- read these bytes are held.
@@ -31,6 +38,7 @@ pub record Going (ins : List In) (held : List ℕ) (first now : Outside) (log : 
   pub texts : out_texts outs ≡ (written ++ log.bytes) ++ lost
   pub whole : log.is_short ≡ false → lost ≡ []
   pub few : m.used ≤ 4294967295
+  pub in_turn : OfEachRead (TookTurn m first ins outs) first now
 
 -- a run that goes on with a client, which stands for its state, and whose graph stands there
 pub record Goes (ins : List In) (held : List ℕ) (first now : Outside) (log : Logged) (c : Seen) : Type 0 where
@@ -51,9 +59,10 @@ abbrev pub flaw_status : Flaw → Status
 flaw_status flaw.WriteFault = status.WriteFault
 flaw_status flaw.NoMemory = status.NoMemory
 
--- all the bytes were written
-abbrev pub Wrote : Outside → Outside → List ℕ → Type 0
-Wrote before after bytes = Passes before after [] bytes
+-- all the bytes were written, and nothing was read
+pub record Wrote (before after : Outside) (bytes : List ℕ) : Type 0 where
+  pub passes : Passes before after [] bytes
+  pub reads_stay : after.reads ≡ before.reads
 
 -- a prefix of the bytes was written, and then a write failed: the others weren't
 pub record Stopped (before after : Outside) (bytes : List ℕ) : Type 0 where
@@ -61,13 +70,13 @@ pub record Stopped (before after : Outside) (bytes : List ℕ) : Type 0 where
   pub lost : List ℕ
   pub fronts : bytes ≡ part ++ lost
   pub missing : 0 < length lost
-  pub passes : Passes before after [] part
+  pub wrote : Wrote before after part
   pub rose : Rose before.write_faults after.write_faults
 
 -- why the log couldn't be written out
 abbrev pub IsFlaw : Flaw → Outside → Outside → Logged → Type 0
 IsFlaw flaw.WriteFault before after log = (log.is_short ≡ false) × Stopped before after log.bytes
-IsFlaw flaw.NoMemory before after log = Passes before after [] []
+IsFlaw flaw.NoMemory before after log = Wrote before after []
 
 -- whatever run went on before, it goes on afterwards, with this held of what was read
 abbrev pub KeepsRun : List ℕ → List ℕ → Outside → Outside → Logged → Logged → Type 0
@@ -82,13 +91,19 @@ Cuts s held before now old = (ins : List In) (first : Outside) (m : Machine) (p 
 abbrev pub CutsAll : Status → Outside → Outside → Logged → Type 0
 CutsAll s before now old = (held : List ℕ) → Cuts s held before now old
 
+-- the same of a run between two steps
+abbrev pub KeepsWaiting : List ℕ → List ℕ → Outside → Outside → Logged → Logged → Type 0
+KeepsWaiting held held' before now old new =
+    (ins : List In) (first : Outside) (m : Machine) (p : GraphAt) → IsBetween m.phase → Going ins held first before old m p → Going ins held' first now new m p
+
 -- what a read brings to a run between two steps
 abbrev pub Fills : Filled → List ℕ → List ℕ → Outside → Outside → Logged → Logged → Type 0
-Fills filled.More held held' before now old new = KeepsRun held held' before now old new
-Fills filled.Ended held held' before now old new = KeepsRun held held' before now old new × IsPartial held' × IsAtEnd now
+Fills filled.More held held' before now old new = KeepsWaiting held held' before now old new
+Fills filled.Ended held held' before now old new = KeepsWaiting held held' before now old new × IsPartial held' × IsAtEnd now
 Fills filled.Fault held held' before now old new =
     (ins : List In) (first : Outside) (m : Machine) (p : GraphAt) → IsBetween m.phase → Going ins held first before old m p → Shows status.ReadFault first now
-Fills (filled.Cut f) held held' before now old new = Cuts (flaw_status f) held before now old
+Fills (filled.Cut f) held held' before now old new =
+    (ins : List In) (first : Outside) (m : Machine) (p : GraphAt) → IsBetween m.phase → Going ins held first before old m p → Shows (flaw_status f) first now
 
 -- a record has a number of 32 bits
 abbrev pub HasNumber : List In → ℕ → Type 0

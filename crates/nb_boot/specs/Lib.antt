@@ -1,4 +1,5 @@
 pub mod Words
+pub mod InTurn
 pub mod Run
 pub mod Going
 pub mod Fetch

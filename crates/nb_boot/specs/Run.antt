@@ -12,6 +12,7 @@ use Rattle.nb_engine.specs.declared.status.Status.TheVariants as status
 use Rattle.nb_laws.specs.Events.{Event}
 use Rattle.nb_laws.specs.Histories.{IsHistory}
 use Rattle.nb_laws.specs.HandOff.{HandsOff, BringTheirs}
+use Rattle.nb_boot.specs.InTurn.{AreInTurn}
 
 -- the next record is waited for: by a command, or by a script that had all the commands of a step
 abbrev pub Awaits : Phase → Type 0
@@ -130,6 +131,8 @@ pub record Run (before after : Outside) : Type 0 where
   pub follows : GraphPath ins outs machine
   -- what closes them begins with the graph's end, where an open lives
   pub shuts : (closing ≡ []) ⊎ ShutsFirst machine.phase closing
+  -- all output was taken before more was read
+  pub in_turn : AreInTurn before after ins outs
 
 -- the run is over, for a cause of this number, and all was taken, DONE last; no object of the graph lives then
 pub record IsOver (before after : Outside) (r : Run before after) (number : ℕ) : Type 0 where

@@ -15,6 +15,7 @@ use Rattle.nb_laws.specs.HandOff.{HandsOff, BringTheirs}
 use Rattle.nb_laws.specs.Lawful.{IsLawful}
 use Rattle.nb_machine.specs.States.{State}
 use Rattle.nb_machine.specs.Closings.{Shuts}
+use Rattle.nb_boot.specs.InTurn.{MayGoOn, AreInTurn}
 use Rattle.nb_boot.specs.Run.{IsOther, IsFirst, BeginsWith}
 use Rattle.nb_boot.specs.Stepped.{AreStepped, ShutsLive}
 
@@ -29,18 +30,6 @@ CommandWaits (handing s rest) = ⊥
 CommandWaits (left s outer cause) = ⊥
 CommandWaits (handed_off s) = ⊥
 CommandWaits (stopped s) = ⊥
-
--- no step is under way, and the run isn't over: the next record may come
-abbrev pub MayGoOn : Standing → Type 0
-MayGoOn ready = Unit {0}
-MayGoOn (reaching s script outer next) = ⊥
-MayGoOn (running s script outer) = ⊥
-MayGoOn (waiting s w) = Unit {0}
-MayGoOn (yielded s script outer) = Unit {0}
-MayGoOn (handing s rest) = ⊥
-MayGoOn (left s outer cause) = ⊥
-MayGoOn (handed_off s) = ⊥
-MayGoOn (stopped s) = ⊥
 
 -- After the records used no record may come. What is there begins none; or another than START comes first, or the
 -- input ended before START. Where the next record is waited for: a second START comes, or the input ended inside one.
@@ -105,6 +94,8 @@ pub record Shown (before after : Outside) : Type 0 where
   pub history : List Event
   pub is_history : IsHistory ins (without_graph outs) history
   pub is_lawful : IsLawful history
+  -- all output was taken before more was read
+  pub in_turn : AreInTurn before after ins outs
   -- each record's step begins as the record says, of the records of the graph too
   pub stepped : AreStepped ins outs
   -- what closes them begins with the graph's end, where an open lives

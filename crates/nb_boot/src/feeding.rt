@@ -1,5 +1,6 @@
 ghost use Rattle.std.specs.Prelude.{◌≡◌, ◌<◌, Bool, true, false, length};
 ghost use Rattle.nb_defs.specs.Records.{IsPartial};
+ghost use Rattle.nb_record.specs.Outside.{AsksPiece};
 ghost use Rattle.nb_boot.specs.Fetch.{Fetches, TellsPartial};
 ghost use Rattle.nb_boot.specs.Going.{Fills};
 ghost use Rattle.nb_boot.specs.declared.feeding.Filled.TheVariants as filled;
@@ -34,7 +35,8 @@ pub enum Filled {
 /// Reads a piece of the input into the feed, which holds a prefix of a record.
 pub fn fetch<L: Line>(feed: &mut Feed, line: &mut L) -> Fetched
     requires partial { IsPartial feed.old.bytes }
-    ensures { Fetches result feed.old feed.new (L.outside line.old) (L.outside line.new) }
+    ensures fetches { Fetches result feed.old feed.new (L.outside line.old) (L.outside line.new) }
+    ensures asks { AsksPiece (L.outside line.old) (L.outside line.new) }
 {
     match feed.read(line) {
         Ok(0) => Fetched::Ended,

@@ -1,5 +1,6 @@
 use crate::{Status, netboot};
-use nb_record::MemLine;
+use nb_record::{MemLine, NoMemory, ReadNote};
+use std::alloc::Global;
 use std::test::*;
 
 /// START of mac 52:54:00:00:00:01 with all else 0, and a script of `echo hello` and `exit`.
@@ -21,13 +22,19 @@ const OUTPUT: &[u8] = b"\x00\x00\x00\x05\x81\x00\x00\x00\x01\
 \x00\x00\x00\x0c\x86\x01\x01\x00\x00\x00\x00\x00\x00\x00\x00\x00\
 \x00\x00\x00\x02\x8d\x03";
 
+/// The words of a replay.
+fn replay(alloc: Global) -> Result<Vec<String>, NoMemory> {
+    let mut words = Vec::new(alloc);
+    for word in ["replay", "in", "out"] {
+        words.push(String::from_str(alloc, word)?)?;
+    }
+    Ok(words)
+}
+
 // A script is run whole, in three calls of its line, and byte by byte. Where a call of its line fails, or its room ends, a prefix of the output is written.
 #[test]
 fn hello(rt: HostRuntime) -> Result<(), Fail> {
-    let mut words = Vec::new(rt.alloc());
-    for word in ["replay", "in", "out"] {
-        words.push(String::from_str(rt.alloc(), word)?)?;
-    }
+    let words = replay(rt.alloc())?;
     for (cuts, fail, room, status, written) in [
         ([].as_slice(), 3, 1000, Status::Ended, 131),
         (&[1; 103], 1000, 1000, Status::Ended, 131),
@@ -45,5 +52,41 @@ fn hello(rt: HostRuntime) -> Result<(), Fail> {
         );
         assert_eq!(rt; line.output(), OUTPUT.split_at(OUTPUT.len().min(written)).0);
     }
+    Ok(())
+}
+
+/// The same START with a script of `sleep 1` and `exit`, and a TICK of a second.
+const SLEEPING: &[u8] = b"\x00\x00\x00\x60\x01\x01\x52\x54\x00\x00\x00\x01\
+\x00\x00\x00\x00\x00\x00\x00\x00\x00\x00\x00\x00\x00\x00\x00\x00\x00\
+\x00\x00\x00\x00\x00\x00\x00\x00\x00\x00\x00\x00\x00\x00\x00\x00\x00\
+\x00\x00\x00\x00\x00\x00\x00\x00\x00\x00\x00\x00\x00\x00\x00\x00\x00\
+\x00\x00\x00\x00\x00\x00\x00\x00\x00\x00\x00\x00\x00\x00\x00\x00\x00\
+#!ipxe\nsleep 1\nexit\n\
+\x00\x00\x00\x03\x03\x03\xe8";
+
+// Each read asks for a piece at most, the second after START's whole output: STEP with 9 bytes, SCRIPT with 16 and
+// COMMAND `sleep 1` with 23.
+#[test]
+fn reads_between_steps(rt: HostRuntime) -> Result<(), Fail> {
+    let words = replay(rt.alloc())?;
+    let mut line = MemLine::new(rt.alloc(), SLEEPING, &[100], &[], 1000)?;
+    assert_eq!(rt;
+        netboot(rt.alloc(), words.as_slice(), &mut line),
+        Status::Ended
+    );
+    let reads = [
+        ReadNote {
+            left: 107,
+            taken: 0,
+            most: 65_536,
+        },
+        ReadNote {
+            left: 7,
+            taken: 48,
+            most: 65_536,
+        },
+    ];
+    assert_eq!(rt; line.notes.reads.as_slice(), reads.as_slice());
+    assert!(rt; line.notes.are_known);
     Ok(())
 }

@@ -79,9 +79,10 @@ pub fn netboot<L: Line>(alloc: Global, words: &[String], line: &mut L) -> Status
     ensures bad_words { IsBadWords result ↔ (AreWords (map string_bytes words.now) → ⊥) }
     ensures untouched { IsBadWords result → line.new ≡ line.old }
     // The records used are those read; those written, without GRAPH, are the machine's course on them; and the status is
-    // true of them. The GRAPH records are a legal run of the object graph, which is empty at DONE. Each open's objects are
-    // made before its OPEN, and freed before its ENDED, whose cause is that of the first close after the OPEN. While it lives,
-    // each message that it receives, and each time, is an entry first in its step, and no other frame is one.
+    // true of them. At each read no whole record is at hand, and all that was put was taken. The GRAPH records are a legal
+    // run of the object graph, which is empty at DONE. Each open's objects are made before its OPEN, and freed before its
+    // ENDED, whose cause is that of the first close after the OPEN. While it lives, each message that it receives, and each
+    // time, is an entry first in its step, and no other frame is one.
     ensures course { AreWords (map string_bytes words.now) → ShowsCourse result (L.outside line.old) (L.outside line.new) }
     // They are, without GRAPH, a run of the engine's own machine, in which a command waits for one open.
     ensures run { AreWords (map string_bytes words.now) → Shows result (L.outside line.old) (L.outside line.new) }

@@ -4,6 +4,7 @@ mod FeedLemmas
 mod FillerLemmas
 mod FixedLemmas
 mod KnownLemmas
+mod NoteLemmas
 pub mod LogLemmas
 pub mod OutsideLemmas
 mod PartialLemmas

@@ -1,4 +1,5 @@
 pub mod Outside
+pub mod Notes
 pub mod View
 pub mod Bytes
 pub mod Held

@@ -2,7 +2,7 @@ ghost use Rattle.std.specs.Prelude.{◌≡◌, ◌+◌, ◌-◌, ◌^◌, ◌<�
 ghost use Rattle.nb_defs.specs.Records.{IsPartial};
 ghost use Rattle.nb_record.specs.Held.{ShowsFront};
 ghost use Rattle.nb_record.specs.Bytes.{TakesIn};
-ghost use Rattle.nb_record.specs.Outside.{Reads, Rose, IsAtEnd};
+ghost use Rattle.nb_record.specs.Outside.{Reads, NotesRead, AsksPiece, Rose, IsAtEnd};
 
 use crate::reading::front_of;
 use crate::{Failed, InRec, Line};
@@ -31,6 +31,9 @@ pub enum Front<'a> {
 
 /// The most bytes that a feed holds: a record of 131,076 and a piece of 65,536.
 const ROOM: usize = 196_612;
+
+/// The most bytes that a read asks for.
+const PIECE: usize = 65_536;
 
 /// Cuts the bytes of an input into records, in whatever pieces they come.
 #[derive(Drop)]
@@ -74,18 +77,24 @@ pub(crate) fn copy_behind(bytes: &mut Vec<u8>, end: usize, piece: &[u8])
     bytes.as_mut_slice()[end..end + piece.len()].copy_from_slice(piece);
 }
 
-/// Reads over the bytes from `end` on.
-fn read_behind<L: Line>(bytes: &mut Vec<u8>, end: usize, line: &mut L) -> Result<usize, Failed>
-    requires { end ≤ vec_len bytes.old }
+/// Reads at most so many bytes over those from `end` on.
+fn read_behind<L: Line>(
+    bytes: &mut Vec<u8>,
+    end: usize,
+    most: usize,
+    line: &mut L,
+) -> Result<usize, Failed>
+    requires { end + most ≤ vec_len bytes.old }
     ensures len { vec_len bytes.new ≡ vec_len bytes.old }
     ensures front { take end bytes.new.items ≡ take end bytes.old.items }
     ensures within { IfOk result (λ n. end + n ≤ vec_len bytes.old) }
     ensures ok { IfOk result (λ n. Reads (L.outside line.old) (L.outside line.new) (take n (drop end bytes.new.items))) }
-    ensures over { IfOk result (λ n. n ≡ 0 → end < vec_len bytes.old → IsAtEnd (L.outside line.old)) }
+    ensures over { IfOk result (λ n. n ≡ 0 → 0 < most → IsAtEnd (L.outside line.old)) }
+    ensures noted { NotesRead most (L.outside line.old) (L.outside line.new) }
     ensures failed { OnErr result (Reads (L.outside line.old) (L.outside line.new) []
         × Rose (L.outside line.old).read_faults (L.outside line.new).read_faults) }
 {
-    line.read(&mut bytes.as_mut_slice()[end..])
+    line.read(&mut bytes.as_mut_slice()[end..end + most])
 }
 
 impl Feed {
@@ -117,17 +126,19 @@ impl Feed {
         taken
     }
 
-    /// Reads a piece straight into the room after what is held, and says how many bytes it has: 0 at the
-    /// end of the input, where a prefix of a record is held. Where the read fails, what is held stays.
+    /// Reads a piece of at most 65,536 bytes straight into the room after what is held, and says how many it
+    /// has: 0 at the end of the input, where a prefix of a record is held. Where the read fails, what is held stays.
     pub fn read<L: Line>(&mut self, line: &mut L) -> Result<usize, Failed>
         ensures ok { IfOk result (λ n. TakesIn n self.old self.new (L.outside line.old) (L.outside line.new)) }
         ensures over { IfOk result (λ n. n ≡ 0 → IsPartial self.old.bytes → IsAtEnd (L.outside line.old)) }
+        ensures asks { AsksPiece (L.outside line.old) (L.outside line.new) }
         ensures failed { OnErr result ((self.new ≡ self.old) × Reads (L.outside line.old) (L.outside line.new) []
             × Rose (L.outside line.old).read_faults (L.outside line.new).read_faults) }
     {
         self.end = move_to_front(&mut self.bytes, self.start, self.end);
         self.start = 0;
-        let len = read_behind(&mut self.bytes, self.end, line)?;
+        let most = (ROOM - self.end).min(PIECE);
+        let len = read_behind(&mut self.bytes, self.end, most, line)?;
         self.end += len;
         Ok(len)
     }

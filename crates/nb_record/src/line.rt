@@ -1,5 +1,5 @@
 ghost use Rattle.std.specs.Prelude.{◌≡◌, ◌<◌, ◌≤◌, length, take, [], IfOk, OnOk, OnErr};
-ghost use Rattle.nb_record.specs.Outside.{Outside, Attaches, Reads, Writes, IsAtEnd, Rose};
+ghost use Rattle.nb_record.specs.Outside.{Outside, Attaches, Reads, NotesRead, Writes, IsAtEnd, Rose};
 
 /// What a call reads from and writes to.
 #[derive(Clone, Copy, Debug)]
@@ -14,9 +14,9 @@ pub enum Target<'a> {
 #[derive(Clone, Copy, Debug, PartialEq, Eq)]
 pub struct Failed;
 
-/// The outside: bytes to read, bytes written, and three counts of faults that never fall.
+/// The outside: bytes to read, bytes written, the reads asked, and three counts of faults that never fall.
 pub trait Line {
-    /// What is left to read and what was taken, each where it is told, and the counts.
+    /// What is left to read, what was taken and the reads that were asked, each where it is told, and the counts.
     ghost outside: { Self → Outside };
 
     /// Opens what is read from and written to. `Failed` where it can't be opened.
@@ -30,6 +30,7 @@ pub trait Line {
         ensures within { IfOk result (λ n. n ≤ length buf.old) }
         ensures ok { IfOk result (λ n. Reads (outside self.old) (outside self.new) (take n buf.new)) }
         ensures end { IfOk result (λ n. n ≡ 0 → 0 < length buf.old → IsAtEnd (outside self.old)) }
+        ensures noted { NotesRead (length buf.old) (outside self.old) (outside self.new) }
         ensures failed { OnErr result (Reads (outside self.old) (outside self.new) []
             × Rose (outside self.old).read_faults (outside self.new).read_faults) };
 

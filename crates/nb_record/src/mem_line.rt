@@ -1,13 +1,14 @@
 ghost use Rattle.std.specs.Prelude.{◌≡◌, ◌+◌, ◌-◌, ◌^◌, ◌<◌, ◌≤◌, ◌∷◌, [], length, take, drop, min, true, false, Some, vec_len, vec_capacity, slice_index, IfOk, OnOk, OnErr, IsOk, is_err};
-ghost use Rattle.nb_record.specs.Outside.{Attaches, Reads, Writes, IsAtEnd, Rose};
+ghost use Rattle.nb_record.specs.Outside.{Attaches, Reads, NotesRead, Writes, IsAtEnd, Rose};
 ghost use Rattle.nb_record.specs.Memory.{fails, write_fails, cut_of_read};
+ghost use Rattle.nb_record.specs.Notes.{known_reads};
 
 use crate::memory::{copy_front, cut_len};
-use crate::{Failed, Line, Target};
+use crate::{Failed, Line, ReadNote, ReadNotes, Target};
 use nb_terms::NoMemory;
 use std::alloc::Global;
 
-/// A line over memory, which tells what is left and what was taken. Its calls are numbered from 0, and the
+/// A line over memory, which tells what is left, what was taken, and the reads where memory suffices to note them. Its calls are numbered from 0, and the
 /// call whose number stands in `fail` fails. Read number `c`, from 0, gives at most `cuts[c]` bytes, where
 /// that is given and not 0. Output goes to the room that was reserved: a write takes what the room left
 /// holds, and a write of a piece that isn't empty fails where no room is left.
@@ -26,6 +27,8 @@ pub struct MemLine {
     pub reads: u64,
     /// The faults of attach, of read and of write.
     pub faults: [u64; 3],
+    /// The reads that were asked.
+    pub notes: ReadNotes,
     pub ghost at_within: { at ≤ vec_len input },
     pub ghost output_fits: { vec_len output ≤ room },
     pub ghost room_held: { room ≤ vec_capacity output },
@@ -52,6 +55,7 @@ impl MemLine {
         ensures fail { IfOk result (λ m. (m.fail.items ≡ fail.now) × (m.calls ≡ 0)) }
         ensures output { IfOk result (λ m. (m.output.items ≡ []) × (m.room ≡ room)) }
         ensures faults { IfOk result (λ m. m.faults ≡ 0 ∷ 0 ∷ 0 ∷ []) }
+        ensures notes { IfOk result (λ m. known_reads m.notes ≡ Some []) }
     {
         Ok(MemLine {
             input: Vec::from_slice(alloc, input)?,
@@ -63,6 +67,7 @@ impl MemLine {
             calls: 0,
             reads: 0,
             faults: [0; 3],
+            notes: ReadNotes::new(alloc),
         })
     }
 
@@ -106,12 +111,18 @@ impl Line for MemLine {
         ensures within { IfOk result (λ n. n ≤ length buf.old) }
         ensures ok { IfOk result (λ n. Reads (mem_outside self.old) (mem_outside self.new) (take n buf.new)) }
         ensures end { IfOk result (λ n. n ≡ 0 → 0 < length buf.old → IsAtEnd (mem_outside self.old)) }
+        ensures noted { NotesRead (length buf.old) (mem_outside self.old) (mem_outside self.new) }
         ensures failed { OnErr result (Reads (mem_outside self.old) (mem_outside self.new) []
             × Rose (mem_outside self.old).read_faults (mem_outside self.new).read_faults) }
         ensures exactly { is_err result ≡ fails self.old.fail.items self.old.calls }
         ensures cut { IfOk result (λ n. n ≡ cut_of_read self.old.cuts.items self.old.reads (min (length buf.old) (vec_len self.old.input - self.old.at))) }
         ensures called { IsCalled self.old self.new × (self.new.reads ≡ min (self.old.reads + 1) (2 ^ 64 - 1)) }
     {
+        self.notes.add(Some(ReadNote {
+            left: self.input.len() - self.at,
+            taken: self.output.len(),
+            most: buf.len(),
+        }));
         let number = self.reads;
         self.reads = risen(number);
         if self.fails_now() {

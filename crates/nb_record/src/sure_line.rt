@@ -1,9 +1,10 @@
-ghost use Rattle.std.specs.Prelude.{◌≡◌, ◌+◌, ◌-◌, ◌^◌, ◌<◌, ◌≤◌, [], length, take, drop, min, true, Some, vec_len, vec_capacity, IfOk, OnErr, IsOk};
-ghost use Rattle.nb_record.specs.Outside.{Attaches, Reads, Writes, IsAtEnd, Rose};
+ghost use Rattle.std.specs.Prelude.{◌≡◌, ◌+◌, ◌-◌, ◌^◌, ◌<◌, ◌≤◌, [], length, take, drop, min, true, Some, vec_len, vec_capacity, IfOk, IfSome, OnErr, IsOk};
+ghost use Rattle.nb_record.specs.Outside.{Attaches, Reads, NotesRead, Writes, IsAtEnd, Rose};
 ghost use Rattle.nb_record.specs.Memory.{cut_of_read, told};
+ghost use Rattle.nb_record.specs.Notes.{known_reads};
 
 use crate::memory::{copy_front, cut_len};
-use crate::{Failed, Line, Target};
+use crate::{Failed, Line, ReadNote, ReadNotes, Target};
 use nb_terms::NoMemory;
 use std::alloc::Global;
 
@@ -23,12 +24,16 @@ pub struct SureLine {
     pub room: usize,
     /// Whether the output has all that was taken.
     pub has_all: bool,
+    /// The reads that were asked, known as long as the output has all that was taken.
+    pub notes: ReadNotes,
     pub ghost at_within: { at ≤ vec_len input },
     pub ghost output_fits: { vec_len output ≤ room },
     pub ghost room_held: { room ≤ vec_capacity output },
 }
 
 impl SureLine {
+    ghost use Rattle.nb_record.specs.MemoryLines.{sure_note};
+
     /// A line over a copy of this input, with room for this many bytes of output.
     pub fn new(
         alloc: Global,
@@ -39,6 +44,7 @@ impl SureLine {
         ensures input { IfOk result (λ s. (s.input.items ≡ input.now) × (s.at ≡ 0)) }
         ensures cuts { IfOk result (λ s. (s.cuts.items ≡ cuts.now) × (s.reads ≡ 0)) }
         ensures output { IfOk result (λ s. (s.output.items ≡ []) × (s.room ≡ room) × (s.has_all ≡ true)) }
+        ensures notes { IfOk result (λ s. known_reads s.notes ≡ Some []) }
     {
         Ok(SureLine {
             input: Vec::from_slice(alloc, input)?,
@@ -48,6 +54,18 @@ impl SureLine {
             output: Vec::with_capacity(alloc, room)?,
             room,
             has_all: true,
+            notes: ReadNotes::new(alloc),
+        })
+    }
+
+    /// The note of a read of so many bytes at most. None where what was taken isn't known.
+    fn note(&self, most: usize) -> Option<ReadNote>
+        ensures { IfSome result (λ n. (self.now.has_all ≡ true) × (n ≡ sure_note self.now most)) }
+    {
+        self.has_all.then_some(ReadNote {
+            left: self.input.len() - self.at,
+            taken: self.output.len(),
+            most,
         })
     }
 
@@ -77,12 +95,15 @@ impl Line for SureLine {
         ensures within { IfOk result (λ n. n ≤ length buf.old) }
         ensures ok { IfOk result (λ n. Reads (sure_outside self.old) (sure_outside self.new) (take n buf.new)) }
         ensures end { IfOk result (λ n. n ≡ 0 → 0 < length buf.old → IsAtEnd (sure_outside self.old)) }
+        ensures noted { NotesRead (length buf.old) (sure_outside self.old) (sure_outside self.new) }
         ensures failed { OnErr result (Reads (sure_outside self.old) (sure_outside self.new) []
             × Rose (sure_outside self.old).read_faults (sure_outside self.new).read_faults) }
         ensures sure { IsOk result }
         ensures cut { IfOk result (λ n. n ≡ cut_of_read self.old.cuts.items self.old.reads (min (length buf.old) (vec_len self.old.input - self.old.at))) }
         ensures same { IsSame self.old self.new × (self.new.reads ≡ min (self.old.reads + 1) (2 ^ 64 - 1)) }
     {
+        let note = self.note(buf.len());
+        self.notes.add(note);
         let most = buf.len().min(self.input.len() - self.at);
         let len = cut_len(&self.cuts, self.reads, most);
         copy_front(&self.input.as_slice()[self.at..], buf, len);

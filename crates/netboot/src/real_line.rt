@@ -68,7 +68,7 @@ impl<'r, R: Files + Net + AllocGlobal> RealLine<'r, R> {
 }
 
 impl<R: Files + Net + AllocGlobal> Line for RealLine<'_, R> {
-    ghost outside = { λ l. record { left = None; taken = None; attach_faults = l.attach_faults; read_faults = l.read_faults; write_faults = l.write_faults } };
+    ghost outside = { λ l. record { left = None; taken = None; reads = None; attach_faults = l.attach_faults; read_faults = l.read_faults; write_faults = l.write_faults } };
 
     fn attach(&mut self, target: &Target<'_>) -> Result<(), Failed> {
         let attached = match target {

@@ -18,8 +18,8 @@ impl Display for Place {
     }
 }
 
-/// The end of what was read, and where it stands: it says which record was refused. It rests on what the
-/// top call does: it reads only once every whole record that was read before is used.
+/// The end of what was read, and where it stands: it says which record was refused. It rests on a clause of the
+/// top call: it reads only once every whole record that was read before is used.
 #[derive(Drop)]
 pub struct Trail {
     bytes: Vec<u8>,

@@ -1,10 +1,19 @@
-use nb_record::{Failed, Line, MemLine, SureLine, Target};
+use nb_record::{Failed, Line, MemLine, ReadNote, SureLine, Target};
 use std::test::*;
 
 const FILES: Target<'static> = Target::Files {
     input: "in",
     output: "out",
 };
+
+/// A read of four bytes at most.
+fn read_of(left: usize, taken: usize) -> ReadNote {
+    ReadNote {
+        left,
+        taken,
+        most: 4,
+    }
+}
 
 #[test]
 fn line_that_fails(rt: HostRuntime) -> Result<(), Fail> {
@@ -21,6 +30,9 @@ fn line_that_fails(rt: HostRuntime) -> Result<(), Fail> {
     }
     assert_eq!(rt; line.output(), b"abcd".as_slice());
     assert_eq!(rt; line.faults, [1, 1, 1]);
+    let notes = [read_of(6, 0), read_of(6, 0), read_of(4, 0), read_of(0, 0)];
+    assert_eq!(rt; line.notes.reads.as_slice(), notes.as_slice());
+    assert!(rt; line.notes.are_known);
     Ok(())
 }
 
@@ -37,5 +49,13 @@ fn line_that_is_sure(rt: HostRuntime) -> Result<(), Fail> {
         assert_eq!(rt; line.has_all, has_all);
     }
     assert_eq!(rt; line.output(), b"abcd".as_slice());
+    let notes = [read_of(3, 0), read_of(1, 0), read_of(0, 0)];
+    assert_eq!(rt; line.notes.reads.as_slice(), notes.as_slice());
+    assert!(rt; line.notes.are_known);
+    assert_eq!(rt; line.read(&mut buf), Ok(0));
+    assert!(rt;
+        !line.notes.are_known,
+        "what was taken isn't known any more"
+    );
     Ok(())
 }

@@ -21,7 +21,7 @@ returns-in-More-clause-err g c =
 pub returns-in-Ended-clause-err : goal.returns-in-Ended-clause-err
 returns-in-Ended-clause-err g c = λ first r.
     let f = c.in-Ended.ensures.fills in
-    c.refuse.ensures c.fill.new.feed.bytes first (f.0 [] first fresh (bare 0 0) r) (inr (inr (f.1, f.2)))
+    c.refuse.ensures c.fill.new.feed.bytes first (f.0 [] first fresh (bare 0 0) tt r) (inr (inr (f.1, f.2)))
 
 pub returns-in-Fault-clause-err : goal.returns-in-Fault-clause-err
 returns-in-Fault-clause-err g c = λ first r. c.in-Fault.ensures.fills [] first fresh (bare 0 0) tt r
@@ -29,4 +29,4 @@ returns-in-Fault-clause-err g c = λ first r. c.in-Fault.ensures.fills [] first 
 pub returns-in-Cut-clause-err : goal.returns-in-Cut-clause-err
 returns-in-Cut-clause-err g c =
     let P : Status → Type 0 = λ s. RefusesRun s c.args.feed.now.bytes (g.L.Line.outside c.args.line.now) (g.L.Line.outside c.fill.new.line) c.args.log.now in
-    subst P (sym c.status.ensures) (λ first r. c.in-Cut.ensures.fills [] first fresh (bare 0 0) r)
+    subst P (sym c.status.ensures) (λ first r. c.in-Cut.ensures.fills [] first fresh (bare 0 0) tt r)

@@ -4,7 +4,7 @@ use Rattle.nb_boot.proofs.Refills.{fills_then}
 use Rattle.nb_boot.proofs.feeding.fill.Goals as goal
 
 pub reads-preserved : goal.reads-preserved
-reads-preserved g c = λ ins first m p r. c.in-More.ensures.fills ins first m p (c.reads.invariant ins first m p r)
+reads-preserved g c = λ ins first m p b r. c.in-More.ensures.fills ins first m p b (c.reads.invariant ins first m p b r)
 
 pub reads-smaller : goal.reads-smaller
 reads-smaller g c = omega (arith, partial_short c.reads.feed.bytes c.if-not-is_partial.ensures, c.in-More.ensures.grows refl)

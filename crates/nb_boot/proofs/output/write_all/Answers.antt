@@ -1,11 +1,10 @@
 use Rattle.std.proofs.Common.{arith}
 use Rattle.std.proofs.lemmas.List.{take_all}
-use Rattle.nb_record.proofs.OutsideLemmas.{Passes-nothing}
-use Rattle.nb_boot.proofs.Written.{more_written, stopped_there, on_err, length-rest}
+use Rattle.nb_boot.proofs.Written.{wrote_nothing, more_written, stopped_there, on_err, length-rest}
 use Rattle.nb_boot.proofs.output.write_all.Goals as goal
 
 pub loop-at-init : goal.loop-at-init
-loop-at-init g c = (omega arith, Passes-nothing (g.L.Line.outside c.args.line.now))
+loop-at-init g c = (omega arith, wrote_nothing (g.L.Line.outside c.args.line.now))
 
 pub returns-in_err-at-clause-err : goal.returns-in_err-at-clause-err
 returns-in_err-at-clause-err g c =
