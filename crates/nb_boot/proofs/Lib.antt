@@ -28,6 +28,16 @@ pub mod Telling
 pub mod Histories
 pub mod Shut
 pub mod Stepping
+pub mod EntryScenes
+pub mod EntryHoldings
+pub mod EntryWalks
+pub mod EntryLones
+pub mod EntryPairs
+pub mod EntryGraphs
+pub mod EntryHistories
+pub mod EntryTellings
+pub mod EntryComings
+pub mod EntrySteps
 pub mod Showing
 mod PortLemmas
 mod PeerLemmas

@@ -18,6 +18,7 @@ use Rattle.nb_laws.proofs.Runs.{lawful_run}
 use Rattle.nb_boot.proofs.InTurns.{between}
 use Rattle.nb_boot.proofs.Shut.{shuts}
 use Rattle.nb_boot.proofs.Stepping.{paths_are_stepped, either_shuts}
+use Rattle.nb_boot.proofs.EntrySteps.{entries_agree}
 
 waits : (phase : Phase) (p : Standing) → StandsAs phase p → Awaits phase → CommandWaits p
 waits lone.ready p same h = absurd h
@@ -84,6 +85,7 @@ with_course before after r p course c shut = record {
   is_lawful = (lawful_run r.ins (without_graph r.outs) r.machine r.path).2;
   stepped = paths_are_stepped r.ins r.outs r.machine r.follows;
   shuts = either_shuts (lawful_run r.ins (without_graph r.outs) r.machine r.path).0 r.machine.phase r.closing (lawful_run r.ins (without_graph r.outs) r.machine r.path).3 r.shuts;
+  contents = (let t = lawful_run r.ins (without_graph r.outs) r.machine r.path in entries_agree r.ins r.outs r.closing t.0 r.at (paths_are_stepped r.ins r.outs r.machine r.follows) t.1 t.2 r.graphs);
 }
 
 ended_same : (before after : Outside) (r : Run before after) (p : Progress) (course : Course r.ins (without_graph r.outs) p) (c : Carries r.machine p) (shut : Shuts p.standing (shutdown_records r.machine.phase)) (number : ℕ) →

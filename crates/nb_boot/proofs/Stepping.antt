@@ -1,7 +1,7 @@
 -- The path of a run with the records of the graph is stepped, as the two lists say alone.
 use Rattle.std.proofs.Common.{◌≡◌, ◌⊎◌, inl, inr, ℕ, ◌+◌, List, [], ◌∷◌, ◌++◌, refl, sym, ◌∙◌, ap, subst, append-nil}
 use Rattle.std.specs.List.{flat_map}
-use Rattle.nb_defs.specs.Records.{In, Out}
+use Rattle.nb_defs.specs.Records.{In, Out, step}
 use Rattle.nb_stack.specs.Brings.{Brought}
 use Rattle.nb_stack.specs.Takes.{outcome_of}
 use Rattle.nb_tftp.specs.History.{ticked, Entry}
@@ -14,7 +14,7 @@ use Rattle.nb_engine.specs.Machine.{Machine, Phase, ready, running, waiting, ask
 use Rattle.nb_engine.specs.Machine as machine
 use Rattle.nb_engine.specs.GraphSteps.{GraphPath, GraphStep, MovesGraph, ShowsFirst, ShutsFirst, HasNoOpen, IsUnderWay, by_frame_for_others, by_frame, by_tick, by_off, by_message_for_others, by_message, by_its_tick, by_its_off, without_open}
 use Rattle.nb_engine.specs.GraphSteps as traced_path
-use Rattle.nb_laws.specs.Events.{Event, starts, hears, waits, stops, puts, used_by}
+use Rattle.nb_laws.specs.Events.{Event, starts, hears, waits, stops, puts, used_by, written_by}
 use Rattle.nb_laws.specs.Histories.{IsRead}
 use Rattle.nb_laws.specs.Lists.{Opening, time, live, call_at, came_in}
 use Rattle.nb_laws.specs.Agreement.{AgreesWorld, AgreesLone, AgreesPhase, NoneLives, opening_of, lone_opening}
@@ -65,22 +65,24 @@ none_under_way es handed_off a way = absurd way
 none_under_way es stopped a way = absurd way
 
 -- the event of a record, and what its step begins with
-pub record Started (es : List Event) (r : In) (more : List Out) : Type 0 where
+pub record Started (es : List Event) (r : In) (number : ℕ) (more : List Out) : Type 0 where
   pub event : Event
   pub used : used_by event ≡ r ∷ []
+  pub written : written_by event ≡ step number
   pub read : IsRead es event
   pub starts_so : StartsSo es event more
 
 -- the event of a record that comes while no open lives
-record Used (es : List Event) (r : In) : Type 0 where
+record Used (es : List Event) (r : In) (number : ℕ) : Type 0 where
   event : Event
   used : used_by event ≡ r ∷ []
+  written : written_by event ≡ step number
   read : IsRead es event
   is_used : IsUsed event
 
-used_so : (es : List Event) (m : Machine) (r : In) (added : List Out) (m' : Machine) → Begins m r added m' → HasNoOpen m.phase → AgreesPhase es m.phase → Used es r
-used_so es m r added m' (runs n s code valid reading) none a = record { event = starts (n + 1) s; used = refl; read = tt; is_used = tt }
-used_so es m r added m' (refuses n s cause valid refusal) none a = record { event = starts (n + 1) s; used = refl; read = tt; is_used = tt }
+used_so : (es : List Event) (m : Machine) (r : In) (added : List Out) (m' : Machine) → Begins m r added m' → HasNoOpen m.phase → AgreesPhase es m.phase → Used es r (m.used + 1)
+used_so es m r added m' (runs n s code valid reading) none a = record { event = starts (n + 1) s; used = refl; written = refl; read = tt; is_used = tt }
+used_so es m r added m' (refuses n s cause valid refusal) none a = record { event = starts (n + 1) s; used = refl; written = refl; read = tt; is_used = tt }
 used_so es m r added m' (passes_by n w s o bytes reply seen net valid takes other) none a = absurd none
 used_so es m r added m' (brings n w s o bytes reply seen net port body news phase valid takes some hear) none a = absurd none
 used_so es m r added m' (passes_time n w s o ms news phase valid hear) none a = absurd none
@@ -90,18 +92,18 @@ used_so es m r added m' (brings_it n w s o bytes reply seen net said news phase 
 used_so es m r added m' (passes_its_time n w s o ms news phase valid reply_so) none a = absurd none
 used_so es m r added m' (switches_it_off n w s o) none a = absurd none
 used_so es m r added m' (sleeps_through_frame n w s until bytes reply seen net valid takes) none a =
-    record { event = hears (n + 1) bytes takes.message; used = refl; read = bare_brings es w.net bytes takes.message a.0.client takes.brings; is_used = tt }
-used_so es m r added m' (sleeps_on n w s until ms valid early) none a = record { event = waits (n + 1) ms; used = refl; read = tt; is_used = tt }
-used_so es m r added m' (wakes n w s until ms valid late) none a = record { event = waits (n + 1) ms; used = refl; read = tt; is_used = tt }
-used_so es m r added m' (goes_off_asleep n w s until) none a = record { event = stops (n + 1); used = refl; read = tt; is_used = tt }
+    record { event = hears (n + 1) bytes takes.message; used = refl; written = refl; read = bare_brings es w.net bytes takes.message a.0.client takes.brings; is_used = tt }
+used_so es m r added m' (sleeps_on n w s until ms valid early) none a = record { event = waits (n + 1) ms; used = refl; written = refl; read = tt; is_used = tt }
+used_so es m r added m' (wakes n w s until ms valid late) none a = record { event = waits (n + 1) ms; used = refl; written = refl; read = tt; is_used = tt }
+used_so es m r added m' (goes_off_asleep n w s until) none a = record { event = stops (n + 1); used = refl; written = refl; read = tt; is_used = tt }
 used_so es m r added m' (goes_on_by_frame n w s bytes reply seen net valid takes) none a =
-    record { event = hears (n + 1) bytes takes.message; used = refl; read = bare_brings es w.net bytes takes.message a.0.client takes.brings; is_used = tt }
-used_so es m r added m' (goes_on_by_tick n w s ms valid) none a = record { event = waits (n + 1) ms; used = refl; read = tt; is_used = tt }
-used_so es m r added m' (goes_off n w s) none a = record { event = stops (n + 1); used = refl; read = tt; is_used = tt }
+    record { event = hears (n + 1) bytes takes.message; used = refl; written = refl; read = bare_brings es w.net bytes takes.message a.0.client takes.brings; is_used = tt }
+used_so es m r added m' (goes_on_by_tick n w s ms valid) none a = record { event = waits (n + 1) ms; used = refl; written = refl; read = tt; is_used = tt }
+used_so es m r added m' (goes_off n w s) none a = record { event = stops (n + 1); used = refl; written = refl; read = tt; is_used = tt }
 
 -- where no open lives no record of the step's beginning is the graph's
 starts_still : (es : List Event) (e : Event) (more : List Out) → IsUsed e → NoneLives es → without_graph more ≡ more → StartsSo es e more
-starts_still es (starts n s) more used none plain = tt
+starts_still es (starts n s) more used none plain = plain
 starts_still es (hears n bytes m) more used none plain =
     record { enters = λ k call came. one_or_none call (call_at k es (hears n bytes m)) (none_come es (hears n bytes m) tt none k) came; still = λ _. plain }
 starts_still es (waits n ms) more used none plain =
@@ -122,13 +124,14 @@ message_came es n bytes m w o entries hw ho =
     ∙ ap (λ now. came_in n now m (lone_opening o)) hw.time
     ∙ lone_came_same n w.time o.start o.number o.talk w.net m ho.ports
 
-started : (es : List Event) (m : Machine) (r : In) (does : GraphStep) (added : List Out) (m' : Machine) (more : List Out) → MovesGraph m r does → Begins m r added m' → AgreesPhase es m.phase → ShowsFirst does more → Started es r more
+started : (es : List Event) (m : Machine) (r : In) (does : GraphStep) (added : List Out) (m' : Machine) (more : List Out) → MovesGraph m r does → Begins m r added m' → AgreesPhase es m.phase → ShowsFirst does more → Started es r (m.used + 1) more
 started es m r does added m' more (by_frame_for_others n w s o bytes reply seen net takes other) begins a shows =
     let e = hears (n + 1) bytes takes.message in
     let none : (k : ℕ) → call_at k es e ≡ [] = frame_brings_none es (n + 1) bytes takes.message w o a.0 a.1 a.3 (ap (heard_from o.begun.server) (sym takes.is_outcome) ∙ other) in
     record {
       event = e;
       used = refl;
+      written = refl;
       read = bare_brings es w.net bytes takes.message a.0.client takes.brings;
       starts_so = record { enters = λ k call came. one_or_none call (call_at k es e) (none k) came; still = λ _. shows };
     }
@@ -139,6 +142,7 @@ started es m r does added m' more (by_frame n w s o bytes reply seen net port bo
     record {
       event = e;
       used = refl;
+      written = refl;
       read = bare_brings es w.net bytes takes.message a.0.client takes.brings;
       starts_so = record { enters = λ k call came. shows; still = λ none. one_or_none _ (call_at o.number es e) (none o.number) one };
     }
@@ -147,10 +151,11 @@ started es m r does added m' more (by_tick n w s o ms) begins a shows =
     record {
       event = waits (n + 1) ms;
       used = refl;
+      written = refl;
       read = tt;
       starts_so = record { enters = λ k call came. shows; still = λ none. one_or_none _ (call_at o.number es (waits (n + 1) ms)) (none o.number) one };
     }
-started es m r does added m' more (by_off n w s o) begins a shows = record { event = stops (n + 1); used = refl; read = tt; starts_so = λ k x lives. shows }
+started es m r does added m' more (by_off n w s o) begins a shows = record { event = stops (n + 1); used = refl; written = refl; read = tt; starts_so = λ k x lives. shows }
 started es m r does added m' more (by_message_for_others n w s o bytes reply seen net takes other) begins a shows =
     let e = hears (n + 1) bytes takes.message in
     let none : (k : ℕ) → call_at k es e ≡ [] =
@@ -158,6 +163,7 @@ started es m r does added m' more (by_message_for_others n w s o bytes reply see
     record {
       event = e;
       used = refl;
+      written = refl;
       read = bare_brings es w.net bytes takes.message a.0.client takes.brings;
       starts_so = record { enters = λ k call came. one_or_none call (call_at k es e) (none k) came; still = λ _. shows };
     }
@@ -168,6 +174,7 @@ started es m r does added m' more (by_message n w s o bytes reply seen net said 
     record {
       event = e;
       used = refl;
+      written = refl;
       read = bare_brings es w.net bytes takes.message a.0.client takes.brings;
       starts_so = record { enters = λ k call came. shows; still = λ none. one_or_none _ (call_at o.number es e) (none o.number) one };
     }
@@ -176,13 +183,37 @@ started es m r does added m' more (by_its_tick n w s o ms) begins a shows =
     record {
       event = waits (n + 1) ms;
       used = refl;
+      written = refl;
       read = tt;
       starts_so = record { enters = λ k call came. shows; still = λ none. one_or_none _ (call_at o.number es (waits (n + 1) ms)) (none o.number) one };
     }
-started es m r does added m' more (by_its_off n w s o) begins a shows = record { event = stops (n + 1); used = refl; read = tt; starts_so = λ k x lives. shows }
+started es m r does added m' more (by_its_off n w s o) begins a shows = record { event = stops (n + 1); used = refl; written = refl; read = tt; starts_so = λ k x lives. shows }
 started es m r does added m' more (without_open _ _ none) begins a shows =
     let u = used_so es m r added m' begins none a in
-    record { event = u.event; used = u.used; read = u.read; starts_so = starts_still es u.event more u.is_used (none_so es m.phase a none) shows }
+    record { event = u.event; used = u.used; written = u.written; read = u.read; starts_so = starts_still es u.event more u.is_used (none_so es m.phase a none) shows }
+
+-- the first record of a step has its number
+begins_numbered : (m : Machine) (r : In) (added : List Out) (m' : Machine) → Begins m r added m' → (rest : List Out) × (added ≡ step (m.used + 1) ∷ rest)
+begins_numbered m r added m' (runs n s code valid reading) = (_, refl)
+begins_numbered m r added m' (refuses n s cause valid refusal) = (_, refl)
+begins_numbered m r added m' (passes_by n w s o bytes reply seen net valid t h) = (_, refl)
+begins_numbered m r added m' (brings n w s o bytes reply seen net port body added' phase valid t h k) = (_, refl)
+begins_numbered m r added m' (passes_time n w s o ms added' phase valid h) = (_, refl)
+begins_numbered m r added m' (switches_off n w s o) = (_, refl)
+begins_numbered m r added m' (passes_it_by n w s o bytes reply seen net valid t h) = (_, refl)
+begins_numbered m r added m' (brings_it n w s o bytes reply seen net message added' phase valid t h k) = (_, refl)
+begins_numbered m r added m' (passes_its_time n w s o ms added' phase valid h) = (_, refl)
+begins_numbered m r added m' (switches_it_off n w s o) = (_, refl)
+begins_numbered m r added m' (sleeps_through_frame n w s until bytes reply seen net valid t) = (_, refl)
+begins_numbered m r added m' (sleeps_on n w s until ms valid early) = (_, refl)
+begins_numbered m r added m' (wakes n w s until ms valid late) = (_, refl)
+begins_numbered m r added m' (goes_off_asleep n w s until) = (_, refl)
+begins_numbered m r added m' (goes_on_by_frame n w s bytes reply seen net valid t) = (_, refl)
+begins_numbered m r added m' (goes_on_by_tick n w s ms valid) = (_, refl)
+begins_numbered m r added m' (goes_off n w s) = (_, refl)
+
+same_step : (n k : ℕ) (more rest added : List Out) → added ≡ step n ∷ more → without_graph added ≡ step k ∷ rest → step k ≡ step n
+same_step n k more rest added all is = let e : step n ∷ without_graph more ≡ step k ∷ rest = ap without_graph (sym all) ∙ is in cc
 
 -- a path with the records of the graph is stepped
 pub paths_are_stepped : (ins : List In) (outs : List Out) (m : Machine) → GraphPath ins outs m → AreStepped ins outs
@@ -190,8 +221,10 @@ paths_are_stepped ins outs m traced_path.nothing = nothing
 paths_are_stepped ins outs m (traced_path.uses ins0 outs0 m0 r added m1 path begins begun) =
     let t = lawful_run ins0 (without_graph outs0) m0 (path_of ins0 outs0 m0 path) in
     let s = started t.0 m0 r begun.does (without_graph added) m1 begun.more begun.moves begins t.3 begun.shows in
+    let first = begins_numbered m0 r (without_graph added) m1 begins in
+    let numbered = s.written ∙ same_step begun.number (m0.used + 1) begun.more first.0 added begun.all first.1 in
     subst (λ xs. AreStepped (ins0 ++ r ∷ []) (outs0 ++ xs)) (sym begun.all)
-    (uses ins0 outs0 t.0 r s.event begun.number begun.more (paths_are_stepped ins0 outs0 m0 path) t.1 s.used s.read s.starts_so)
+    (uses ins0 outs0 t.0 r s.event begun.number begun.more (paths_are_stepped ins0 outs0 m0 path) t.1 s.used numbered s.read s.starts_so)
 paths_are_stepped ins outs m (traced_path.moves ins0 outs0 m0 added m1 path way moves) =
     let t = lawful_run ins0 (without_graph outs0) m0 (path_of ins0 outs0 m0 path) in
     goes_on ins0 outs0 t.0 added (paths_are_stepped ins0 outs0 m0 path) t.1 (none_under_way t.0 m0.phase t.3 way)

@@ -6,5 +6,7 @@ pub mod Fetch
 pub mod Complete
 pub mod Laws
 pub mod Stepped
+pub mod LowestObjects
+pub mod Entries
 pub mod Shown
 pub mod Lawful

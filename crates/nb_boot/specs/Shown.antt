@@ -18,6 +18,7 @@ use Rattle.nb_machine.specs.Closings.{Shuts}
 use Rattle.nb_boot.specs.InTurn.{MayGoOn, AreInTurn}
 use Rattle.nb_boot.specs.Run.{IsOther, IsFirst, BeginsWith}
 use Rattle.nb_boot.specs.Stepped.{AreStepped, ShutsLive}
+use Rattle.nb_boot.specs.Entries.{EntriesAgree}
 
 -- the next record is waited for: by a command, or by scripts that had all the commands of a step
 abbrev pub CommandWaits : Standing → Type 0
@@ -100,6 +101,8 @@ pub record Shown (before after : Outside) : Type 0 where
   pub stepped : AreStepped ins outs
   -- what closes them begins with the graph's end, where an open lives
   pub shuts : (closing ≡ []) ⊎ ShutsLive history closing
+  -- what enters the lowest object of each open is what came to that, and what goes down out of it is what was put
+  pub contents : EntriesAgree outs closing history
 
 -- the run has ended, for a cause of this number, and all was taken, DONE last; no object of the graph lives then
 pub record HasEnded (before after : Outside) (r : Shown before after) (number : ℕ) : Type 0 where

@@ -6,7 +6,7 @@ use Rattle.nb_ledger.specs.declared.event.Way.TheVariants as way
 use Rattle.nb_opens.specs.Graphs.{without_graph}
 use Rattle.nb_tftp.specs.History.{Call}
 use Rattle.nb_engine.specs.GraphSteps.{EntersFirst, ClosesFirst}
-use Rattle.nb_laws.specs.Events.{Event, starts, hears, waits, stops, puts, used_by}
+use Rattle.nb_laws.specs.Events.{Event, starts, hears, waits, stops, puts, used_by, written_by}
 use Rattle.nb_laws.specs.Histories.{IsHistory, IsRead}
 use Rattle.nb_laws.specs.Lists.{Opening, live, call_at}
 use Rattle.nb_laws.specs.Agreement.{NoneLives}
@@ -21,21 +21,21 @@ pub record EntersWith (by : Way) (comes : ℕ → List Call) (more : List Out) :
 abbrev pub ShutsLive : List Event → List Out → Type 0
 ShutsLive es outs = (k : ℕ) (o : Opening) → live k es ≡ o ∷ [] → ClosesFirst outs
 
--- What stands after a STEP, by the events before it: a datagram or an echo reply that an open receives enters from below, a
+-- What stands after a STEP, by the events before it: nothing of the graph's in that of START; a datagram or an echo reply that an open receives enters from below, a
 -- time that passes while an open lives enters as a time, and OFF shuts the graph.
 abbrev pub StartsSo : List Event → Event → List Out → Type 0
-StartsSo before (starts n s) more = Unit {0}
+StartsSo before (starts n s) more = without_graph more ≡ more
 StartsSo before (hears n bytes m) more = EntersWith way.Up (λ k. call_at k before (hears n bytes m)) more
 StartsSo before (waits n ms) more = EntersWith way.Time (λ k. call_at k before (waits n ms)) more
 StartsSo before (stops n) more = ShutsLive before more
 StartsSo before (puts o) more = ⊥
 
--- The records used and all the records written, those of the graph among them: each record's step begins so, and more comes in a
+-- The records used and all the records written, those of the graph among them: each record's STEP has its number, and the step begins so; more comes in a
 -- step only where no open lives. So after the beginning of a step in which an open goes on the next STEP stands.
 pub data AreStepped : List In → List Out → Type 0 where
   nothing : AreStepped [] []
   uses : (ins : List In) (outs : List Out) (before : List Event) (r : In) (e : Event) (number : ℕ) (more : List Out) →
-      AreStepped ins outs → IsHistory ins (without_graph outs) before → used_by e ≡ r ∷ [] → IsRead before e → StartsSo before e more →
+      AreStepped ins outs → IsHistory ins (without_graph outs) before → used_by e ≡ r ∷ [] → written_by e ≡ step number → IsRead before e → StartsSo before e more →
       AreStepped (ins ++ r ∷ []) (outs ++ (step number ∷ more))
   goes_on : (ins : List In) (outs : List Out) (before : List Event) (added : List Out) →
       AreStepped ins outs → IsHistory ins (without_graph outs) before → NoneLives before → AreStepped ins (outs ++ added)

@@ -1,0 +1,116 @@
+-- What the records of the object graph say of the contents of entries, for objects of any kind and chains of any length: what enters the
+-- lowest object of an open is what the open received, and what goes down out of it is what was put.
+use Rattle.std.specs.Prelude.{◌≡◌, ℕ, ◌==◌, ◌&&◌, Bool, false, not, List, [], ◌∷◌, ◌++◌, map, filter, Some, if◌then◌else◌}
+use Rattle.nb_terms.specs.declared.event.Event.{Event as GraphRecord}
+use Rattle.nb_defs.specs.Records.{Out, step, sent, tried, graph}
+use Rattle.nb_stack.specs.Brings.{Brought}
+use Rattle.nb_stack.specs.Takes.{reply_of}
+use Rattle.nb_tftp.specs.History.{Call, came, ticked}
+use Rattle.nb_laws.specs.Events.{Event, starts, hears, waits, stops, puts, outputs, EachEvent}
+use Rattle.nb_laws.specs.Histories.{client}
+use Rattle.nb_laws.specs.Lists.{gathered, call_at}
+use Rattle.nb_laws.specs.Frames.{IsSent}
+use Rattle.nb_opens.specs.Graphs.{is_graph}
+use Rattle.nb_boot.specs.LowestObjects.{GraphSoFar, no_graph, graph_by, graph_so_far, is_it, is_from_outside}
+
+-- WHAT ENTERS IT
+
+-- something that comes to an open, or enters an object: in the step of this number, and as a message from below (0) or a time (3)
+pub record Arrival : Type 0 where
+  pub number : ℕ
+  pub way : ℕ
+
+abbrev pub way_of : Call → ℕ
+way_of (came m now) = 0
+way_of (ticked now) = 3
+
+abbrev pub event_number : Event → ℕ
+event_number (starts n s) = n
+event_number (hears n bytes m) = n
+event_number (waits n ms) = n
+event_number (stops n) = n
+event_number (puts o) = 0
+
+abbrev pub arrival_at : ℕ → List Event → Event → List Arrival
+arrival_at k before e = map (λ c. record { number = event_number e; way = way_of c }) (call_at k before e)
+
+-- the datagrams, echo replies and times that came to open k while it lived, each in its step
+unfoldable pub arrivals : ℕ → List Event → List Arrival
+arrivals k es = gathered (arrival_at k) [] es
+
+-- an Entered event (5) of that object, with its way in the second slot
+abbrev pub entry_in : ℕ → GraphSoFar → GraphRecord → List Arrival
+entry_in k g happens =
+    if (happens.event == 5) && (is_it (g.lowest k) happens.object && is_from_outside happens.other_slot) then record { number = g.number; way = happens.other_slot } ∷ [] else []
+
+abbrev pub entry_at : ℕ → GraphSoFar → Out → List Arrival
+entry_at k g (graph happens) = entry_in k g happens
+entry_at k g (step number) = []
+entry_at k g _ = []
+
+unfoldable pub entries_from : ℕ → GraphSoFar → List Out → List Arrival
+entries_from k g [] = []
+entries_from k g (o ∷ outs) = entry_at k g o ++ entries_from k (graph_by g o) outs
+
+-- the entries of the lowest object of open k from outside, each in its step
+abbrev pub entries : ℕ → List Out → List Arrival
+entries k outs = entries_from k no_graph outs
+
+-- WHAT GOES DOWN OUT OF IT
+
+-- the entry that runs, as the innermost, is one of the lowest object of open k
+pub record IsWithin (k : ℕ) (outs : List Out) : Type 0 where
+  pub object : ℕ
+  pub outer : List ℕ
+  pub is_lowest : (graph_so_far outs).lowest k ≡ Some object
+  pub runs : (graph_so_far outs).running ≡ object ∷ outer
+
+-- no entry runs
+abbrev pub IsOutside : List Out → Type 0
+IsOutside outs = (graph_so_far outs).running ≡ []
+
+-- the record used last is a frame, nothing else stands since its STEP, and it is replied to with this
+pub record IsReplied (es : List Event) (bytes : List ℕ) : Type 0 where
+  pub before : List Event
+  pub number : ℕ
+  pub taken : List ℕ
+  pub message : Brought
+  pub last : es ≡ before ++ hears number taken message ∷ []
+  pub reply : bytes ≡ reply_of (client before) message
+
+-- Why a FRAME stands after these records, which without those of the graph are this history: an open may send it, and the entry that runs is
+-- its lowest object's; or it is a reply, and none runs.
+pub data Leaves (outs : List Out) (es : List Event) (bytes : List ℕ) : Type 0 where
+  by_entry : (k : ℕ) → IsWithin k outs → IsSent k es bytes → Leaves outs es bytes
+  by_reply : IsOutside outs → IsReplied es bytes → Leaves outs es bytes
+
+-- a history without the records of the graph
+abbrev pub is_of_graph : Event → Bool
+is_of_graph (puts o) = is_graph o
+is_of_graph (starts n s) = false
+is_of_graph (hears n bytes m) = false
+is_of_graph (waits n ms) = false
+is_of_graph (stops n) = false
+
+abbrev pub plain : List Event → List Event
+plain es = filter (λ e. not (is_of_graph e)) es
+
+-- each FRAME leaves so, and each TRY of an open stands within an entry of its lowest object
+abbrev pub LeavesSo : List Event → Event → Type 0
+LeavesSo before (puts (sent bytes)) = Leaves (outputs before) (plain before) bytes
+LeavesSo before (puts (tried k count)) = IsWithin k (outputs before)
+LeavesSo before (puts (step number)) = Unit {0}
+LeavesSo before _ = Unit {0}
+
+-- What the entries of a run say, with its history; `closing` is what closes its output. `whole` is that history with the records of the graph
+-- in their places.
+pub record EntriesAgree (outs closing : List Out) (history : List Event) : Type 0 where
+  pub whole : List Event
+  pub written : outputs whole ≡ outs
+  pub without : plain whole ≡ history
+  -- the lowest object of each open is entered from outside once for each datagram, echo reply and time that comes to the open, in that step
+  pub entered : (k : ℕ) → entries k outs ≡ arrivals k history
+  -- what it sends stands within those entries, or that of its beginning, and nothing that an open sends stands elsewhere
+  pub leaves : EachEvent LeavesSo [] whole
+  -- no two opens have the same lowest object
+  pub own : (j k x : ℕ) → (graph_so_far (outs ++ closing)).lowest j ≡ Some x → (graph_so_far (outs ++ closing)).lowest k ≡ Some x → j ≡ k
