@@ -9,6 +9,7 @@ from unittest.mock import patch
 
 from bench import below, lay_out
 from blocks import BLOCKS, measure_blocks
+from disk import DISK, measure_disk, measure_one_block, of_one_block
 from entries import ENTRIES, measure_entries
 from lease import LEASE, measure_lease
 from stream import STREAM, measure_stream
@@ -28,8 +29,9 @@ class Laying(Case):
             "entries": {"nb_graph", "nb_ledger", "nb_terms"},
             "blocks": {"nb_nodes", "nb_graph", "nb_tftp", "nb_image"},
             "lease": {"nb_settings", "nb_dhcpmsg", "nb_wire"},
+            "disk": {"nb_disk", "nb_login", "nb_iscsipdu", "nb_wire"},
         }
-        for bench in (STREAM, ENTRIES, BLOCKS, LEASE):
+        for bench in (STREAM, ENTRIES, BLOCKS, LEASE, DISK):
             folder = self.folder / f"of-{bench.name}"
             folder.mkdir()
             crate = lay_out(bench, folder)
@@ -40,8 +42,25 @@ class Laying(Case):
             for name in laid:
                 self.assertTrue((folder / "crates" / name / "src").is_dir(), name)
 
+    def test_a_drives_tasks_of_one_block(self) -> None:
+        """The numbers are the first program's for eight blocks, and no other line differs."""
+        bench = of_one_block(self.folder)
+        self.assertEqual(bench[1:], (DISK.used, 512))
+        pairs = zip(DISK.text.read_text().splitlines(), bench.text.read_text().splitlines(), strict=True)
+        self.assertEqual(
+            [(eight[-5:], one[-4:]) for eight, one in pairs if eight != one],
+            [(" = 8;", "= 1;"), ("4096;", "512;"), ("4144;", "560;")],
+        )
+
     def test_missing_tools_are_named_in_a_line(self) -> None:
-        for measure in (measure_stream, measure_entries, measure_blocks, measure_lease):
+        for measure in (
+            measure_stream,
+            measure_entries,
+            measure_blocks,
+            measure_lease,
+            measure_disk,
+            measure_one_block,
+        ):
             printed = io.StringIO()
             with patch.dict(os.environ, PATH="/none"), redirect_stdout(printed):
                 measure([])

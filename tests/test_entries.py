@@ -1,4 +1,4 @@
-"""The instructions that a datagram takes through two objects of the graph."""
+"""The instructions that a datagram takes through two objects of the graph, and a byte through a drive."""
 
 from __future__ import annotations
 
@@ -7,12 +7,15 @@ import unittest
 
 from bench import is_built
 from blocks import BLOCKS
+from disk import DISK, of_one_block
 from entries import ENTRIES
 from instructions import missing
 from tests.counting import Counting
 
 MOST_AN_ENTRY = 330
 MOST_A_BLOCK = 800
+MOST_A_BYTE = 1.0
+MOST_A_BYTE_ALONE = 2.2
 
 
 @unittest.skipIf(missing() or not shutil.which("rt"), "valgrind, cc or rt is missing")
@@ -27,6 +30,18 @@ class Entries(Counting):
 class Blocks(Counting):
     def test_the_cost_of_a_block_through_a_tftp_and_a_fetch(self) -> None:
         self.assert_costs_at_most(BLOCKS, MOST_A_BLOCK)
+
+
+@unittest.skipIf(missing() or not shutil.which("rt"), "valgrind, cc or rt is missing")
+@unittest.skipUnless(is_built(DISK), "nb_disk isn't built by `rt lib`")
+class Drives(Counting):
+    def test_the_cost_of_a_byte_in_tasks_of_eight_blocks(self) -> None:
+        self.assert_costs_at_most(DISK, MOST_A_BYTE)
+
+    def test_the_cost_of_a_byte_in_tasks_of_one_block(self) -> None:
+        text = self.folder / "text"
+        text.mkdir()
+        self.assert_costs_at_most(of_one_block(text), MOST_A_BYTE_ALONE)
 
 
 if __name__ == "__main__":

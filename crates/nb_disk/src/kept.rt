@@ -28,6 +28,7 @@ pub(crate) struct State {
 }
 
 /// A command's text.
+#[inline(always)]
 pub(crate) fn command_text(alloc: Global, request: &ScsiCommand) -> Result<Text, NoMemory>
     ensures { IfOk result (λ text. text ≡ pdu_text (command_pdu request.now)) }
 {
@@ -36,6 +37,7 @@ pub(crate) fn command_text(alloc: Global, request: &ScsiCommand) -> Result<Text,
 
 impl State {
     /// Puts the next command, after an answer before the one of this number, and is at this work then.
+    #[inline(always)]
     pub(crate) fn put(
         &mut self,
         alloc: Global,

@@ -59,6 +59,25 @@ impl State {
         ensures ok { IfOk result (λ text. IsDiskStep (step_pdu (kept_of self.old) rec (answer_read (pdu_parts p.now))) (kept_of self.new) text acts.new) }
         ensures err { OnErr result ((self.new ≡ self.old) × (acts.new ≡ asks_nothing)) }
     {
+        if let Some(part) = DataIn::of(p) {
+            return self.on_data(alloc, rec, &part, acts);
+        }
+        self.on_other(alloc, rec, p, acts)
+    }
+
+    /// A PDU comes, of any kind.
+    #[inline(never)]
+    fn on_other(
+        &mut self,
+        alloc: Global,
+        rec: u32,
+        p: &Pdu<'_>,
+        acts: &mut Acts,
+    ) -> Result<Option<Text>, NoMemory>
+        requires { acts.old ≡ asks_nothing }
+        ensures ok { IfOk result (λ text. IsDiskStep (step_pdu (kept_of self.old) rec (answer_read (pdu_parts p.now))) (kept_of self.new) text acts.new) }
+        ensures err { OnErr result ((self.new ≡ self.old) × (acts.new ≡ asks_nothing)) }
+    {
         match Answer::read(p) {
             Answer::Nop(nop) => self.on_nop(alloc, &nop),
             Answer::Data(part) => self.on_data(alloc, rec, &part, acts),
@@ -117,6 +136,7 @@ impl State {
     }
 
     /// A Data-In comes.
+    #[inline(always)]
     fn on_data(
         &mut self,
         alloc: Global,
@@ -194,6 +214,7 @@ impl State {
     }
 
     /// The status of the task at work comes, with these bytes at last.
+    #[inline(always)]
     fn on_status(
         &mut self,
         alloc: Global,

@@ -1,5 +1,6 @@
 -- Bytes spell at most one PDU, and what is written for a PDU spells it.
-use Rattle.std.proofs.Common.{◌≡◌, ℕ, ◌+◌, ◌-◌, ◌≤◌, List, ◌++◌, length, take, drop, Some, refl, sym, ap, ◌∙◌, append_assoc, arith}
+use Rattle.std.proofs.Common.{◌≡◌, ℕ, ◌+◌, ◌-◌, ◌≤◌, List, [], ◌∷◌, ◌++◌, Bool, true, eqb, length, take, drop, Some, refl, sym, ap, ◌∙◌, append_assoc, append-nil, arith}
+use Rattle.std.proofs.lemmas.Bool.{eqb-true}
 use Rattle.std.proofs.lemmas.List.{take_at, drop_at, take-append-drop, length-append, length-replicate, length-take}
 use Rattle.nb_iscsipdu.specs.Heads.{lengths, padded_len}
 use Rattle.nb_iscsipdu.specs.PduTexts.{PduParts, IsPdu, IsPduText, padding_for, pdu_text}
@@ -83,3 +84,12 @@ parts_put p old one two three padding padding_is one_is two_is three_is =
     ∙ ap (λ (x : List ℕ). ((old ++ p.head) ++ p.seg) ++ x) padding_is
     ∙ append_assoc (old ++ p.head) p.seg (padding_for (length p.seg))
     ∙ append_assoc old p.head (p.seg ++ padding_for (length p.seg))
+
+-- without data it is its head
+pub head_alone : (p : PduParts) → p.seg ≡ [] → pdu_text p ≡ p.head
+unfolding pdu_text
+head_alone p none = ap (λ (x : List ℕ). p.head ++ (x ++ padding_for (length x))) none ∙ append-nil p.head
+
+pub none_in : (bytes : List ℕ) (b : Bool) → b ≡ eqb (length bytes) 0 → b ≡ true → bytes ≡ []
+none_in [] b is on = refl
+none_in (byte ∷ bytes) b is on = absurd (let zero_len : length (byte ∷ bytes) ≡ 0 = eqb-true (length (byte ∷ bytes)) 0 (sym is ∙ on) in omega arith)

@@ -1,8 +1,8 @@
 //! What a target sends, read into its fields.
 
-ghost use Rattle.std.specs.Prelude.{◌≡◌};
+ghost use Rattle.std.specs.Prelude.{◌≡◌, IfSome, IsSome};
 ghost use Rattle.nb_iscsipdu.specs.PduTexts.{pdu_parts};
-ghost use Rattle.nb_iscsipdu.specs.Answers.{AnswerParts, answer_parts, answer_read, login_response_parts, login_response, data_in_parts, data_in_read, task_status, status_with_data, scsi_response, nop_in_read};
+ghost use Rattle.nb_iscsipdu.specs.Answers.{AnswerParts, DataInParts, data_in, answer_parts, answer_read, login_response_parts, login_response, data_in_parts, data_in_read, task_status, status_with_data, scsi_response, nop_in_read};
 
 use crate::keys::Keys;
 use crate::opcode::{DATA_IN, LOGIN_RESPONSE, NOP_IN, OPCODES, SCSI_RESPONSE};
@@ -98,6 +98,22 @@ impl<'a> Answer<'a> {
             LOGIN_RESPONSE => Answer::Login(login_response(pdu)),
             DATA_IN => Answer::Data(data_in(pdu)),
             _ => Answer::Other,
+        }
+    }
+}
+
+impl<'a> DataIn<'a> {
+    /// The Data-In that the PDU is, if it is one: most of what a drive is sent is.
+    #[tactic(auto, unfolding(crate::specs::Answers::answer_read))]
+    #[inline(always)]
+    pub fn of(pdu: &Pdu<'a>) -> Option<DataIn<'a>>
+        ensures sound { IfSome result (λ d. answer_read (pdu_parts pdu.now) ≡ data_in (data_in_parts d)) }
+        ensures complete { (d : DataInParts) → answer_read (pdu_parts pdu.now) ≡ data_in d → IsSome result }
+    {
+        if pdu.head[0] % OPCODES == DATA_IN {
+            Some(data_in(pdu))
+        } else {
+            None
         }
     }
 }

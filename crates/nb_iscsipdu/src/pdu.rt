@@ -71,6 +71,9 @@ impl<'a> Pdu<'a> {
         ensures text { IfOk result (λ text. text ≡ pdu_text (pdu_parts self.now)) }
         ensures readable { IsPduText (pdu_text (pdu_parts self.now)) (pdu_parts self.now) }
     {
+        if self.seg.is_empty() {
+            return head_text(alloc, &self.head);
+        }
         let padding = padding_for(self.seg.len());
         let mut text = Vec::with_capacity(alloc, HEAD_LEN + self.seg.len() + padding.len())?;
         text.extend_from_slice(&self.head)?;
@@ -78,6 +81,13 @@ impl<'a> Pdu<'a> {
         text.extend_from_slice(padding)?;
         Ok(Text::from_vec(text))
     }
+}
+
+/// The text of a PDU that is a head alone.
+fn head_text(alloc: Global, head: &[u8; 48]) -> Result<Text, NoMemory>
+    ensures { IfOk result (λ text. text ≡ head.now) }
+{
+    Ok(Text::from_vec(Vec::from_slice(alloc, head)?))
 }
 
 /// The big-endian number in four bytes of a head.

@@ -1,7 +1,15 @@
-use Rattle.std.proofs.Common.{[], ◌∙◌, ◌++◌, List, ℕ, ap}
+use Rattle.std.proofs.Common.{◌≡◌, IfOk, [], ◌∙◌, ◌++◌, List, ℕ, ap, sym, subst}
 use Rattle.nb_iscsipdu.specs.PduTexts.{pdu_parts}
-use Rattle.nb_iscsipdu.proofs.PduLemmas.{pdu_text-reads, parts_put}
+use Rattle.nb_iscsipdu.proofs.PduLemmas.{pdu_text-reads, parts_put, head_alone, none_in}
 use Rattle.nb_iscsipdu.proofs.pdu.Pdu.text.Goals as goal
+
+pub returns-then-is_empty-clause-text : goal.returns-then-is_empty-clause-text
+returns-then-is_empty-clause-text c =
+    let none : c.args.self.now.seg.now ≡ [] = none_in c.args.self.now.seg.now c.is_empty.result c.is_empty.ensures c.if-is_empty.true in
+    subst (λ (x : List ℕ). IfOk c.head_text.result (λ (text : List ℕ). text ≡ x)) (sym (head_alone (pdu_parts c.args.self.now) none)) c.head_text.ensures
+
+pub returns-then-is_empty-clause-readable : goal.returns-then-is_empty-clause-readable
+returns-then-is_empty-clause-readable c = pdu_text-reads (pdu_parts c.args.self.now) c.requires
 
 pub returns-in_err-text-clause-readable : goal.returns-in_err-text-clause-readable
 returns-in_err-text-clause-readable c = pdu_text-reads (pdu_parts c.args.self.now) c.requires
