@@ -9,8 +9,6 @@ mod feeding;
 mod laws;
 mod output;
 mod play;
-#[cfg(test)]
-mod tests;
 mod top;
 mod turn;
 mod words;

@@ -1,4 +1,4 @@
-use crate::{Status, netboot};
+use nb_boot::{Status, netboot};
 use nb_record::{MemLine, NoMemory, ReadNote};
 use std::alloc::Global;
 use std::test::*;
