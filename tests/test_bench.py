@@ -5,13 +5,15 @@ from __future__ import annotations
 import io
 import os
 from contextlib import redirect_stdout
+from pathlib import Path
 from unittest.mock import patch
 
 from bench import below, lay_out
 from blocks import BLOCKS, measure_blocks
-from disk import DISK, measure_disk, measure_one_block, of_one_block
+from disk import DISK, measure_disk, of_one_block, without_drive
 from entries import ENTRIES, measure_entries
 from lease import LEASE, measure_lease
+from shared.command_line import Refused
 from stream import STREAM, measure_stream
 from tests.case import Case
 
@@ -52,6 +54,15 @@ class Laying(Case):
             [(" = 8;", "= 1;"), ("4096;", "512;"), ("4144;", "560;")],
         )
 
+    def test_the_same_without_the_drive(self) -> None:
+        calls = ("disk.read(", "disk.pdu(alloc, 2,")
+        self.assertTrue(all(call in DISK.text.read_text() for call in calls))
+        text = without_drive(DISK, self.folder).text.read_text()
+        self.assertFalse(any(call in text for call in calls))
+        without = self.folder / "without"
+        without.mkdir()
+        self.assertRaises(Refused, without_drive, of_one_block(self.folder)._replace(text=Path(__file__)), without)
+
     def test_missing_tools_are_named_in_a_line(self) -> None:
         for measure in (
             measure_stream,
@@ -59,7 +70,6 @@ class Laying(Case):
             measure_blocks,
             measure_lease,
             measure_disk,
-            measure_one_block,
         ):
             printed = io.StringIO()
             with patch.dict(os.environ, PATH="/none"), redirect_stdout(printed):

@@ -7,7 +7,7 @@ import unittest
 
 from bench import is_built
 from blocks import BLOCKS
-from disk import DISK, of_one_block
+from disk import DISK, of_the_drive
 from entries import ENTRIES
 from instructions import missing
 from tests.counting import Counting
@@ -15,7 +15,6 @@ from tests.counting import Counting
 MOST_AN_ENTRY = 330
 MOST_A_BLOCK = 800
 MOST_A_BYTE = 1.0
-MOST_A_BYTE_ALONE = 2.2
 
 
 @unittest.skipIf(missing() or not shutil.which("rt"), "valgrind, cc or rt is missing")
@@ -38,10 +37,10 @@ class Drives(Counting):
     def test_the_cost_of_a_byte_in_tasks_of_eight_blocks(self) -> None:
         self.assert_costs_at_most(DISK, MOST_A_BYTE)
 
-    def test_the_cost_of_a_byte_in_tasks_of_one_block(self) -> None:
-        text = self.folder / "text"
-        text.mkdir()
-        self.assert_costs_at_most(of_one_block(text), MOST_A_BYTE_ALONE)
+    def test_the_drives_own_cost_of_a_byte_in_tasks_of_one_block(self) -> None:
+        each = of_the_drive(self.folder)
+        self.assertLessEqual(each, MOST_A_BYTE)
+        self.assertGreater(each, 0)
 
 
 if __name__ == "__main__":
