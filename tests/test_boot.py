@@ -22,6 +22,14 @@ from tests.case import Case
 from tests.graph_run import fault_in
 from tests.test_record import pcap_file
 
+def ends(pid: int) -> bool:
+    """Whether a process that was killed ends within ten seconds: on a busy machine that may take some."""
+    until = time.monotonic() + 10
+    while is_running(pid) and time.monotonic() < until:
+        time.sleep(0.05)
+    return not is_running(pid)
+
+
 def is_running(pid: int) -> bool:
     """Whether a process is there, and isn't one that has ended and waits for its parent."""
     try:
@@ -141,7 +149,7 @@ class Programs(Launched):
             self.assertEqual(process.returncode, wanted)
             self.assertNotIn("Traceback", said)
             self.assertEqual(os.listdir(self.folder / "temporary"), [])
-            self.assertFalse(is_running(pid))
+            self.assertTrue(ends(pid))
             (self.folder / "pid").unlink()
 
     def wait_for_pid(self) -> int:
