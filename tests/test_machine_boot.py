@@ -14,6 +14,7 @@ from pathlib import Path
 from boot import CRATE
 from shared.kernel_files import needs_of
 from shared.machine_image import NEEDS
+from shared.machine_media import ISO_NEEDS
 from shared.namespaces import missing, network
 from shared.needed import missing_packages
 from shared.program import not_runnable, program
@@ -37,6 +38,8 @@ imgfetch tftp://${next-server}/second
 imgexec tftp://${next-server}/${filename}
 """
 WORDS = "console=ttyS0 said=here"
+# EFI for QEMU, of Debian's package ovmf
+FIRMWARE = Path("/usr/share/ovmf/OVMF.fd")
 FIRST, SECOND = b"the first initrd", bytes(range(256)) * 9
 
 
@@ -58,6 +61,10 @@ def why_not() -> str | None:
         return "no Debian kernel is installed; NETBOOT_KERNEL can name a package, its file or a folder"
     needs = (*NEEDS, *QEMU_NEEDS, *needs_of(NAMED or "/"))
     return missing() or missing_packages(needs) or not_runnable()
+
+
+def no_media() -> str | None:
+    return missing_packages(ISO_NEEDS) or (None if FIRMWARE.exists() else f"{FIRMWARE} is missing: apt-get install ovmf")
 
 
 WHY_NOT_HERE = missing("dnsmasq") or missing_packages(NEEDS) or not_runnable()
@@ -88,28 +95,48 @@ class Running(Built):
 class Booting(Case):
     def test_by_tftp(self) -> None:
         """The kernel that is started says its own sum, its initrd's and its command line; the run replays."""
-        kernel = payload(self.folder)
-        self.serve(payload=kernel, first=FIRST, second=SECOND)
-        self.put("s.ipxe", SCRIPT)
-        self.works_as_process("build --to machine", *(kernel_words() or ()))
+        kernel = self.prepare("build --to machine")
         begun = time.monotonic()
         printed = self.works_as_process(
             f"try machine --serve served --file payload --script s.ipxe --emulate --seconds {MOST_SECONDS} "
             "--input run.rec --output run.out --words netboot_device=eth7,eth0 --append", WORDS,
         )
         self.assertLess(time.monotonic() - begun, MOST_SECONDS)
-        initrds = FIRST + bytes(-len(FIRST) % 4) + SECOND
         for line in (
             "init: cards: eth7 eth0",
             "card: eth7: No such device\n",
             "eth0: the address is 10.77.0.",
             " 1: the server refuses, with the second number as its code\n",
             " goes on\n",
-            f"payload: own sha256 {hashlib.sha256(kernel[HEAD:]).hexdigest()}\n",
-            f"payload: initrd sha256 {hashlib.sha256(initrds).hexdigest()}\n",
             f"payload: command line {WORDS}\n",
         ):
             self.assertIn(line, printed)
+        self.has_started(kernel, printed)
+
+    @unittest.skipIf(no_media(), f"booting from an ISO and an EFI file: {no_media()}")
+    def test_from_a_cd_and_by_efi(self) -> None:
+        """The same from the ISO, by BIOS and by EFI, and from the EFI file, each with the script that it was built with."""
+        kernel = self.prepare("build --to machine --iso --efi --script s.ipxe --words console=ttyS0")
+        for start in ("iso", f"iso --firmware {FIRMWARE}", f"efi --firmware {FIRMWARE}"):
+            with self.subTest(start):
+                printed = self.works_as_process(
+                    f"try machine --serve served --file payload --emulate --seconds {MOST_SECONDS} "
+                    f"--input run.rec --output run.out --from {start}"
+                )
+                self.has_started(kernel, printed)
+
+    def prepare(self, build: str) -> bytes:
+        """What is served, the script, and the machine; the kernel that is to be started."""
+        kernel = payload(self.folder)
+        self.serve(payload=kernel, first=FIRST, second=SECOND)
+        self.put("s.ipxe", SCRIPT)
+        self.works_as_process(build, *(kernel_words() or ()))
+        return kernel
+
+    def has_started(self, kernel: bytes, printed: str) -> None:
+        initrds = FIRST + bytes(-len(FIRST) % 4) + SECOND
+        self.assertIn(f"payload: own sha256 {hashlib.sha256(kernel[HEAD:]).hexdigest()}\n", printed)
+        self.assertIn(f"payload: initrd sha256 {hashlib.sha256(initrds).hexdigest()}\n", printed)
         self.is_replayed()
 
     def serve(self, **files: bytes) -> None:
