@@ -83,16 +83,21 @@ def sends_on(client: socket.socket) -> None:
     client.shutdown(socket.SHUT_WR)
 
 
-def sends_by_byte(client: socket.socket) -> None:
-    for byte in BOOT:
-        client.send(bytes([byte]))
-    client.shutdown(socket.SHUT_WR)
+def sends_in_pieces(data: bytes) -> Callable[[socket.socket], None]:
+    """Sends this a byte at a time, and ends its side."""
+
+    def act(client: socket.socket) -> None:
+        for byte in data:
+            client.send(bytes([byte]))
+        client.shutdown(socket.SHUT_WR)
+
+    return act
 
 
 # What a peer does, the status, the first line, and how the second ends.
 PEERS: dict[str, tuple[Callable[[socket.socket], None], int, str, str]] = {
     "boots": (sends(BOOT), 0, "", ""),
-    "by-byte": (sends_by_byte, 0, "", ""),
+    "by-byte": (sends_in_pieces(BOOT), 0, "", ""),
     "goes-on": (sends_on, 0, "", ""),
     "nothing": (sends(b""), 6, "netboot: bad record", "record 1, at byte 0"),
     "half": (sends(BOOT[:60]), 6, "netboot: bad record", "record 1, at byte 0"),
@@ -102,6 +107,13 @@ PEERS: dict[str, tuple[Callable[[socket.socket], None], int, str, str]] = {
     "noise": (sends(b"GET / HTTP/1.1\r\n\r\n"), 6, "netboot: bad record", "record 1, at byte 0"),
     "noise-after": (
         sends(SILENT + b"noise"), 6, "netboot: bad record", f"record 3, at byte {len(SILENT)}"
+    ),
+    "tick-first": (sends(spell(Tick(1)) + BOOT), 6, "netboot: bad record", "record 1, at byte 0"),
+    "second-start": (
+        sends(SILENT + BOOT), 6, "netboot: bad record", f"record 3, at byte {len(SILENT)}"
+    ),
+    "second-start-in-pieces": (
+        sends_in_pieces(SILENT + BOOT), 6, "netboot: bad record", f"record 3, at byte {len(SILENT)}"
     ),
     "off": (sends(SILENT + spell(Off())), 5, "", ""),
     "silent-end": (sends(SILENT), 5, "", ""),

@@ -11,6 +11,3 @@ mod values;
 pub use laws::own_binary_texts_are_read;
 pub use responses::response;
 pub use values::{MAX_BINARY, binary, binary_text, byte};
-
-#[cfg(test)]
-mod tests;

@@ -12,8 +12,6 @@ mod kept;
 mod laws;
 mod sizing;
 mod steps;
-#[cfg(test)]
-mod tests;
 mod work;
 
 pub use blocks::{BLOCK, BlockSource, ReadRefusal};

@@ -16,6 +16,3 @@ mod view;
 
 pub use info::{BootInfo, BootTarget, MAX_TEXT};
 pub use view::{TableView, read_table, table};
-
-#[cfg(test)]
-mod tests;

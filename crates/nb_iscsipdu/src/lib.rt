@@ -14,8 +14,6 @@ mod pdu;
 mod pdus;
 mod request;
 mod stage;
-#[cfg(test)]
-mod tests;
 
 pub use answer::{Answer, DataIn, LoginResponse, NopIn, ScsiResponse, TaskStatus};
 pub use command::Command;

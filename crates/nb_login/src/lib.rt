@@ -17,8 +17,6 @@ mod request;
 mod session;
 mod state;
 mod step;
-#[cfg(test)]
-mod tests;
 
 pub use info::LoginInfo;
 pub use laws::{

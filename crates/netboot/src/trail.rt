@@ -98,33 +98,3 @@ impl Trail {
 
 /// The most that a trail holds: the start of a record of 131,076 bytes, and a piece of 65,536.
 const ROOM: usize = 196_612;
-
-#[cfg(test)]
-mod tests {
-    use super::*;
-    use nb_record::NoMemory;
-    use std::test::*;
-
-    const TICK: &[u8] = &[0, 0, 0, 3, 3, 0, 5];
-
-    // The place of a record that is refused, read in pieces: after whole ones, cut off, and misplaced.
-    #[test]
-    fn places(rt: HostRuntime) -> Result<(), Fail> {
-        let mut trail = Trail::new(rt.alloc()).ok_or(NoMemory)?;
-        trail.note(TICK);
-        assert_eq!(rt; trail.refused(rt.alloc()), Some(Place { number: 1, at: 0 }));
-        trail.note(&TICK[..3]);
-        assert_eq!(rt; trail.refused(rt.alloc()), Some(Place { number: 2, at: 7 }));
-        trail.note(&TICK[3..]);
-        assert_eq!(rt;
-            trail.refused(rt.alloc()),
-            Some(Place { number: 3, at: 14 })
-        );
-        trail.note(&[0, 0, 0, 1, 9, 0]);
-        assert_eq!(rt;
-            trail.refused(rt.alloc()),
-            Some(Place { number: 3, at: 14 })
-        );
-        Ok(())
-    }
-}

@@ -2,8 +2,8 @@ ghost use Rattle.std.specs.Prelude.{◌≡◌, ◌≤◌, [], length, IfOk};
 ghost use Rattle.nb_ibft.specs.Infos.{AreShort, HasShortTexts, target_texts};
 ghost use Rattle.nb_ibft.specs.Views.{boot_info, boot_target};
 
-use super::*;
 use arrayvec::ArrayVec;
+use nb_ibft::*;
 use nb_terms::NoMemory;
 use nb_wire::{Ip4, Mac, Text};
 use std::alloc::Global;

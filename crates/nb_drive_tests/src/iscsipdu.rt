@@ -1,4 +1,4 @@
-use crate::*;
+use nb_iscsipdu::*;
 use nb_wire::Out;
 use std::test::Fail;
 

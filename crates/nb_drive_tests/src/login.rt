@@ -1,5 +1,5 @@
-use crate::{Login, LoginInfo, LoginRefusal, SentName, Session};
 use nb_iscsipdu::Pdu;
+use nb_login::{Login, LoginInfo, LoginRefusal, SentName, Session};
 use nb_terms::{Acts, NoMemory};
 use nb_wire::Text;
 use std::alloc::{AllocError, Global};

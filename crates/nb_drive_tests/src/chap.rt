@@ -1,4 +1,4 @@
-use crate::{binary, binary_text, byte, response};
+use nb_chap::{binary, binary_text, byte, response};
 use std::test::Fail;
 
 /// RFC 1321, section A.5: the digests of texts of which the first letter is taken as the identifier.

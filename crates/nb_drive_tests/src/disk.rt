@@ -1,4 +1,4 @@
-use crate::{BlockSource, Disk, ReadRefusal};
+use nb_disk::{BlockSource, Disk, ReadRefusal};
 use nb_iscsipdu::Pdu;
 use nb_login::{LoginInfo, Session};
 use nb_terms::{Acts, Cause, NoMemory};
