@@ -2,12 +2,11 @@
 use Rattle.std.specs.Prelude.{ℕ, ◌==◌, List, [], ◌∷◌, ◌++◌, Option, Some, None, if◌then◌else◌}
 use Rattle.nb_wire.specs.declared.address.Ip4.{Ip4}
 use Rattle.nb_defs.specs.Records.{Out, opened}
-use Rattle.nb_stack.specs.declared.taken.Fate.TheVariants as fate
 use Rattle.nb_stack.specs.Takes.{Outcome, dropped, replied, handed}
 use Rattle.nb_tftp.specs.Asks.{Begun, begun}
 use Rattle.nb_tftp.specs.History.{Entry, got}
 use Rattle.nb_tftp.specs.Blocks.{file}
-use Rattle.nb_engine.specs.declared.world.World.{World}
+use Rattle.nb_runner.specs.declared.world.World.{World}
 use Rattle.nb_command.specs.SettingAddresses.{host}
 use Rattle.nb_machine.specs.Starting.{own_port}
 use Rattle.nb_machine.specs.Errands.{Wanted}

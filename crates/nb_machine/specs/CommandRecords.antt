@@ -1,5 +1,5 @@
 -- The records of a command, of a reply, and the causes that a run itself gives.
-use Rattle.std.specs.Prelude.{ℕ, ◌+◌, List, [], ◌∷◌, ◌++◌, Option, Some, None, if◌then◌else◌}
+use Rattle.std.specs.Prelude.{ℕ, List, [], ◌∷◌, ◌++◌, Option, Some, None, if◌then◌else◌}
 use Rattle.nb_terms.specs.declared.cause.Cause.{Cause}
 use Rattle.nb_defs.specs.Causes.{is_ok_cause, plain_cause}
 use Rattle.nb_defs.specs.Records.{Out, sent, text, command, result}
