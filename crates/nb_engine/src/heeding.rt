@@ -9,8 +9,8 @@ ghost use Rattle.nb_nodes.specs.declared.obj.Obj.{Obj as Object};
 ghost use Rattle.nb_opens.specs.Graphs.{traced};
 ghost use Rattle.nb_opens.specs.PairEvents.{shut_events};
 ghost use Rattle.nb_opens.specs.Pairs.{IsEnded, IsEmpty, IsDownloading};
-ghost use Rattle.nb_engine.specs.Machine.{stopped_cause};
-ghost use Rattle.nb_engine.specs.Running.{with_result};
+ghost use Rattle.nb_machine.specs.CommandRecords.{stopped_cause};
+ghost use Rattle.nb_machine.specs.Running.{with_result};
 ghost use Rattle.nb_engine.specs.Tellings.{told_records};
 ghost use Rattle.nb_engine.specs.Fetches.{speaker_of};
 ghost use Rattle.nb_engine.specs.Seen.{HasNoObjects, IsSound, seen, standing};
@@ -27,8 +27,9 @@ use crate::objects::{end, shut};
 use crate::put::{put_over, put_result, put_step, put_told};
 use crate::speaker::UDP;
 use crate::teller::Teller;
-use crate::{Client, Fetch, Handing, KeptFetch, RunningScript, Stage, Status, Turn};
+use crate::{Client, Fetch, KeptFetch, Stage, Turn};
 use nb_record::{Cause, Log, NoMemory};
+use nb_runner::{Handing, RunningScript, Status};
 use nb_terms::Plain;
 
 impl Client {

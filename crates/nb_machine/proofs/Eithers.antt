@@ -1,0 +1,84 @@
+-- What a command comes to that asks for something, or is refused.
+use Rattle.std.proofs.Common.{ℕ, ◌==◌, Bool, true, false, cond, List, Option, Some, None, Result, Ok, Err}
+use Rattle.std.specs.Option.{option_map_or}
+use Rattle.nb_defs.specs.Causes.{ok}
+use Rattle.nb_defs.specs.Commands.{CommandOutcome, refused}
+use Rattle.nb_command.specs.Addresses.{address_table}
+use Rattle.nb_command.specs.declared.error.ApplyError.{ApplyError}
+use Rattle.nb_command.specs.declared.locating.Located.{Located}
+use Rattle.nb_command.specs.Failures.{apply_cause}
+use Rattle.nb_command.specs.Locating.{located}
+use Rattle.nb_command.specs.Settings.{Change}
+use Rattle.nb_dns.specs.WrittenNames.{is_lookup_name}
+use Rattle.nb_settings.specs.Tables.{TableLists}
+use Rattle.nb_uri.specs.Addresses.{four_decimals}
+use Rattle.nb_wire.specs.declared.address.Ip4.{Ip4}
+use Rattle.nb_machine.specs.declared.remote_file.RemoteFile.{RemoteFile}
+use Rattle.nb_machine.specs.Errands.{Wanted, wanted_at, remote_file, Errand, fetches_then, echoes_then, onward}
+use Rattle.nb_machine.specs.Effects.{Effect, says, asks, inquires, fetch, fetched, full_opens, unless_full, onward_effect, asked_host, named_host, at_host, asked_name_server, name_effect, unless_refused, looked_up_effect}
+use Rattle.nb_machine.specs.Queries.{Query, for_echo, for_address, for_host, bad_name, no_server, dns_in, with_domain}
+
+pub either_of : (P : Effect → Type 0) (b : Bool) (e f : Effect) → P e → P f → P (cond b e f)
+either_of P true e f p q = p
+either_of P false e f p q = q
+
+-- where all opens may be made
+pub full_either : (P : Effect → Type 0) → ((o : CommandOutcome) → P (says o)) → (opens : ℕ) (wanted : Effect) → P wanted → P (unless_full opens wanted)
+full_either P said opens wanted p = either_of P (opens == 16384) (says (refused full_opens)) wanted (said (refused full_opens)) p
+
+-- what is asked of a host is refused, asks of it or looks its name up
+host_either : (P : Effect → Type 0) → ((o : CommandOutcome) → P (says o)) → (opens : ℕ) (table : TableLists) (text : List ℕ) (errand : Errand) → ((name : List ℕ) (by : ℕ) → P (inquires (for_host errand name by))) →
+    ((address : ℕ) → P (onward_effect (onward errand address))) → P (at_host opens table text errand)
+host_either P said opens table text errand inquired asked = by (four_decimals text)
+  where
+    server : (name : List ℕ) (o : Option Ip4) → P (asked_host errand name o)
+    server name None = said (refused no_server)
+    server name (Some address) = inquired name address.0
+
+    named : (name : List ℕ) → P (named_host opens table errand name)
+    named name = either_of P (is_lookup_name name) _ _ (full_either P said opens _ (server name (dns_in table))) (said (refused bad_name))
+
+    by : (o : Option ℕ) → P (option_map_or (λ address. unless_full opens (onward_effect (onward errand address))) o (named_host opens table errand (with_domain table text)))
+    by None = named (with_domain table text)
+    by (Some address) = full_either P said opens (onward_effect (onward errand address)) (asked address)
+
+-- a command that fetches is refused, asks for its file, or for its server's address
+pub fetch_case : (P : Effect → Type 0) → ((o : CommandOutcome) → P (says o)) → ((wanted : Wanted) → P (asks wanted)) → ((file : RemoteFile) (name : List ℕ) (by : ℕ) → P (inquires (for_host (fetches_then file) name by))) →
+    (opens : ℕ) (boots : Bool) (table : TableLists) (uri : List ℕ) → P (fetch opens boots table uri)
+fetch_case P said asked inquired opens boots table uri = by (located table uri)
+  where
+    by : (r : Result Located ApplyError) → P (fetched opens boots table r)
+    by (Ok file) = host_either P said opens table file.host (fetches_then (remote_file boots file)) (λ name address. inquired (remote_file boots file) name address) (λ address. asked (wanted_at (remote_file boots file) address))
+    by (Err why) = said (refused (apply_cause why))
+
+pub fetch_either : (P : Effect → Type 0) → ((o : CommandOutcome) → P (says o)) → ((wanted : Wanted) → P (asks wanted)) → ((q : Query) → P (inquires q)) →
+    (opens : ℕ) (boots : Bool) (table : TableLists) (uri : List ℕ) → P (fetch opens boots table uri)
+fetch_either P said asked inquired opens boots table uri = fetch_case P said asked (λ file name by. inquired (for_host (fetches_then file) name by)) opens boots table uri
+
+-- `ping` is refused, asks for an echo, or for its host's address
+pub pinged_case : (P : Effect → Type 0) → ((o : CommandOutcome) → P (says o)) → ((server : ℕ) → P (inquires (for_echo server))) → ((name : List ℕ) (by : ℕ) → P (inquires (for_host echoes_then name by))) →
+    (opens : ℕ) (table : TableLists) (text : List ℕ) → P (at_host opens table text echoes_then)
+pinged_case P said echoed inquired opens table text = host_either P said opens table text echoes_then inquired echoed
+
+pub pinged_either : (P : Effect → Type 0) → ((o : CommandOutcome) → P (says o)) → ((q : Query) → P (inquires q)) → (opens : ℕ) (table : TableLists) (text : List ℕ) → P (at_host opens table text echoes_then)
+pinged_either P said inquired opens table text = pinged_case P said (λ server. inquired (for_echo server)) (λ name by. inquired (for_host echoes_then name by)) opens table text
+
+name_case : (P : Effect → Type 0) → ((o : CommandOutcome) → P (says o)) → (opens : ℕ) (table : TableLists) (setting name : List ℕ) → ((by : ℕ) → P (inquires (for_address setting name by))) → P (name_effect opens table setting name)
+name_case P said opens table setting name asked =
+    either_of P (is_lookup_name name) _ _ (full_either P said opens _ (by (dns_in table))) (said (refused bad_name))
+  where
+    by : (o : Option Ip4) → P (asked_name_server setting name o)
+    by None = said (refused no_server)
+    by (Some address) = asked address.0
+
+-- `nslookup` is over at once, or asks for an address
+pub looked_up_case : (P : Effect → Type 0) → ((o : CommandOutcome) → P (says o)) → (opens : ℕ) (table : TableLists) (setting text : List ℕ) → ((name : List ℕ) (by : ℕ) → P (inquires (for_address setting name by))) → P (looked_up_effect opens table setting text)
+looked_up_case P said opens table setting text asked = by (address_table setting 0 table) (four_decimals text)
+  where
+    by : (c : Change) (o : Option ℕ) → P (unless_refused c (option_map_or (λ address. says (refused ok)) o (name_effect opens table setting (with_domain table text))))
+    by (Ok after) None = name_case P said opens table setting (with_domain table text) (λ server. asked (with_domain table text) server)
+    by (Ok after) (Some address) = said (refused ok)
+    by (Err why) o = said (refused (apply_cause why))
+
+pub looked_up_either : (P : Effect → Type 0) → ((o : CommandOutcome) → P (says o)) → ((q : Query) → P (inquires q)) → (opens : ℕ) (table : TableLists) (setting text : List ℕ) → P (looked_up_effect opens table setting text)
+looked_up_either P said asked opens table setting text = looked_up_case P said opens table setting text (λ name by. asked (for_address setting name by))

@@ -1,0 +1,282 @@
+-- What a command comes to: it is over with an outcome, it asks for a file, or for something by one exchange, it goes to a
+-- label, it sleeps, or it shuts the device; and what it does to the settings and the device. Its words are expanded first.
+use Rattle.std.specs.Prelude.{ℕ, ◌==◌, Bool, true, false, List, Option, Some, None, Result, Ok, Err, if◌then◌else◌}
+use Rattle.std.specs.Option.{option_map_or}
+use Rattle.std.specs.Str.{bytes_eq}
+use Rattle.nb_terms.specs.declared.cause.Cause.{Cause}
+use Rattle.nb_terms.specs.declared.reason.Long.TheVariants as long
+use Rattle.nb_terms.specs.declared.reason.Plain.TheVariants as plain
+use Rattle.nb_terms.specs.declared.reason.Reason.TheVariants as reason
+use Rattle.nb_terms.specs.Reasons.{as_cause}
+use Rattle.nb_defs.specs.Causes.{ok, unknown, usage, exit_cause}
+use Rattle.nb_defs.specs.Commands.{CommandOutcome, refused, prints_text}
+use Rattle.nb_settings.specs.Tables.{TableLists}
+use Rattle.nb_expand.specs.declared.error.ExpandError.{ExpandError}
+use Rattle.nb_expand.specs.declared.error.ExpandError.TheVariants as expand_error
+use Rattle.nb_expand.specs.Values.{named_text}
+use Rattle.nb_expand.specs.WordsExpansion.{expanded_words}
+use Rattle.nb_command.specs.declared.command_plan.CommandPlan.{CommandPlan}
+use Rattle.nb_command.specs.declared.command_plan.CommandPlan.TheVariants as plan
+use Rattle.nb_command.specs.declared.error.ApplyError.{ApplyError}
+use Rattle.nb_command.specs.declared.error.ApplyError.TheVariants.{False}
+use Rattle.nb_command.specs.declared.error.PlanError.{PlanError}
+use Rattle.nb_command.specs.declared.error.PlanError.TheVariants as plan_error
+use Rattle.nb_command.specs.Failures.{apply_cause}
+use Rattle.nb_command.specs.declared.locating.Located.{Located}
+use Rattle.nb_command.specs.Locating.{located}
+use Rattle.nb_command.specs.Applying.{out_of_memory}
+use Rattle.nb_command.specs.Planning.{planned}
+use Rattle.nb_command.specs.Settings.{Change}
+use Rattle.nb_command.specs.Echo.{echoed}
+use Rattle.nb_command.specs.Isset.{is_word_set}
+use Rattle.nb_command.specs.Set.{set_table}
+use Rattle.nb_command.specs.Clear.{cleared_table}
+use Rattle.nb_command.specs.Show.{setting_shown}
+use Rattle.nb_command.specs.Inc.{increased_table}
+use Rattle.nb_command.specs.Device.{device_change}
+use Rattle.nb_command.specs.Addresses.{address_table}
+use Rattle.nb_uri.specs.Addresses.{four_decimals}
+use Rattle.nb_dns.specs.WrittenNames.{is_lookup_name}
+use Rattle.nb_wire.specs.declared.address.Ip4.{Ip4}
+use Rattle.nb_machine.specs.Errands.{Wanted, remote_file, Errand, fetches_then, echoes_then, Onward, fetches_now, echoes_now, onward}
+use Rattle.nb_machine.specs.Queries.{Query, for_lease, for_echo, for_address, for_host, bad_name, no_server, dns_in, with_domain}
+
+-- 16,384 opens were made
+abbrev pub full_opens : Cause
+full_opens = record { code = 8; a = 2; b = 0 }
+
+pub data Effect : Type 0 where
+  says : CommandOutcome → Effect
+  asks : Wanted → Effect
+  goes : (name : List ℕ) → Effect
+  sleeps : (seconds : ℕ) → Effect
+  -- the device goes down: what is open there is closed, and the command is over with Ok
+  shuts_device : Effect
+  -- something is asked for by one exchange
+  inquires : Query → Effect
+
+-- where one more open may be made
+abbrev pub unless_full : ℕ → Effect → Effect
+unless_full opens wanted = if opens == 16384 then says (refused full_opens) else wanted
+
+-- what is asked of a server whose address is known
+abbrev pub onward_effect : Onward → Effect
+onward_effect (fetches_now wanted) = asks wanted
+onward_effect (echoes_now server) = inquires (for_echo server)
+
+-- a name server is asked for the server's address, where one is known
+abbrev pub asked_host : Errand → List ℕ → Option Ip4 → Effect
+asked_host errand name None = says (refused no_server)
+asked_host errand name (Some by) = inquires (for_host errand name by.0)
+
+-- a server by its name: the refusals in their order
+abbrev pub named_host : ℕ → TableLists → Errand → List ℕ → Effect
+named_host opens table errand name =
+    if is_lookup_name name then unless_full opens (asked_host errand name (dns_in table)) else says (refused bad_name)
+
+-- what is asked of a host: four decimals are its address, and a name is looked up
+abbrev pub at_host : ℕ → TableLists → List ℕ → Errand → Effect
+at_host opens table text errand =
+    option_map_or (λ address. unless_full opens (onward_effect (onward errand address))) (four_decimals text)
+    (named_host opens table errand (with_domain table text))
+
+-- a file that was located is asked for
+abbrev pub fetched : ℕ → Bool → TableLists → Result Located ApplyError → Effect
+fetched opens boots table (Ok file) = at_host opens table file.host (fetches_then (remote_file boots file))
+fetched opens boots table (Err why) = says (refused (apply_cause why))
+
+-- the file of a URI, of a run in which so many opens were made, by its settings
+abbrev pub fetch : ℕ → Bool → TableLists → List ℕ → Effect
+fetch opens boots table uri = fetched opens boots table (located table uri)
+
+-- a name server is asked, where one is known
+abbrev pub asked_name_server : List ℕ → List ℕ → Option Ip4 → Effect
+asked_name_server setting name None = says (refused no_server)
+asked_name_server setting name (Some by) = inquires (for_address setting name by.0)
+
+-- a name's address for a setting: the refusals in their order
+abbrev pub name_effect : ℕ → TableLists → List ℕ → List ℕ → Effect
+name_effect opens table setting name =
+    if is_lookup_name name then unless_full opens (asked_name_server setting name (dns_in table)) else says (refused bad_name)
+
+-- a setting that refuses an address refuses first
+abbrev pub unless_refused : Change → Effect → Effect
+unless_refused (Ok table) wanted = wanted
+unless_refused (Err why) wanted = says (refused (apply_cause why))
+
+-- the address of a host for a setting: four decimals are it, and a name is looked up
+abbrev pub looked_up_effect : ℕ → TableLists → List ℕ → List ℕ → Effect
+looked_up_effect opens table setting text =
+    unless_refused (address_table setting 0 table)
+    (option_map_or (λ address. says (refused ok)) (four_decimals text) (name_effect opens table setting (with_domain table text)))
+
+-- `exit n`
+abbrev pub leaves_with : ℕ → CommandOutcome
+leaves_with n = record { prints = None; cause = exit_cause n; leaves = true }
+
+abbrev pub truth_outcome : Bool → CommandOutcome
+truth_outcome is_true = if is_true then refused ok else refused (apply_cause False)
+
+abbrev pub text_told : Result (List ℕ) ApplyError → CommandOutcome
+text_told (Ok text) = prints_text text
+text_told (Err why) = refused (apply_cause why)
+
+abbrev pub change_outcome : Change → CommandOutcome
+change_outcome (Ok table) = refused ok
+change_outcome (Err why) = refused (apply_cause why)
+
+-- `sleep 0` is over at once
+abbrev pub sleeping_for : ℕ → Effect
+sleeping_for seconds = if seconds == 0 then says (refused ok) else sleeps seconds
+
+-- what a command comes to that sets the device up or down; another device is refused
+abbrev pub device_effect : Effect → Result Bool ApplyError → Effect
+device_effect done (Ok up) = done
+device_effect done (Err why) = says (refused (apply_cause why))
+
+-- what a command comes to, by how many opens were made and the settings
+abbrev pub plan_effect : ℕ → TableLists → CommandPlan → Effect
+plan_effect opens table (plan.Echo newline text) = says (prints_text (echoed newline text))
+plan_effect opens table (plan.Goto label) = goes label
+plan_effect opens table (plan.Exit n) = says (leaves_with n)
+plan_effect opens table (plan.Isset word) = says (truth_outcome (is_word_set word))
+plan_effect opens table (plan.Iseq a b) = says (truth_outcome (bytes_eq a b))
+plan_effect opens table (plan.Set name value) = says (change_outcome (set_table name value table))
+plan_effect opens table (plan.Clear name) = says (change_outcome (cleared_table name table))
+plan_effect opens table (plan.Show name) = says (text_told (setting_shown name table))
+plan_effect opens table (plan.Inc name by) = says (change_outcome (increased_table name by table))
+plan_effect opens table (plan.Fetch uri) = fetch opens false table uri
+plan_effect opens table (plan.Exec uri) = fetch opens true table uri
+plan_effect opens table (plan.Ifopen device) = device_effect (says (refused ok)) (device_change device true)
+plan_effect opens table (plan.Ifclose device) = device_effect shuts_device (device_change device false)
+plan_effect opens table (plan.Dhcp device) = device_effect (unless_full opens (inquires for_lease)) (device_change device true)
+plan_effect opens table (plan.Ping text) = at_host opens table text echoes_then
+plan_effect opens table (plan.Nslookup setting text) = looked_up_effect opens table setting text
+plan_effect opens table (plan.Sleep seconds) = sleeping_for seconds
+
+-- the settings that a change leaves
+abbrev pub changed : TableLists → Change → TableLists
+changed table (Ok other) = other
+changed table (Err why) = table
+
+-- the settings that a command leaves
+abbrev pub plan_table : CommandPlan → TableLists → TableLists
+plan_table (plan.Set name value) table = changed table (set_table name value table)
+plan_table (plan.Clear name) table = changed table (cleared_table name table)
+plan_table (plan.Inc name by) table = changed table (increased_table name by table)
+plan_table (plan.Echo newline text) table = table
+plan_table (plan.Goto label) table = table
+plan_table (plan.Exit n) table = table
+plan_table (plan.Isset word) table = table
+plan_table (plan.Iseq a b) table = table
+plan_table (plan.Show name) table = table
+plan_table (plan.Fetch uri) table = table
+plan_table (plan.Exec uri) table = table
+plan_table (plan.Ifopen device) table = table
+plan_table (plan.Ifclose device) table = table
+plan_table (plan.Dhcp device) table = table
+plan_table (plan.Ping text) table = table
+plan_table (plan.Nslookup setting text) table = option_map_or (λ address. changed table (address_table setting address table)) (four_decimals text) table
+plan_table (plan.Sleep seconds) table = table
+
+-- whether the device is up after it was set so
+abbrev pub set_up : Bool → Result Bool ApplyError → Bool
+set_up up (Ok other) = other
+set_up up (Err why) = up
+
+-- whether it is up after a command
+abbrev pub plan_up : CommandPlan → Bool → Bool
+plan_up (plan.Ifopen device) up = set_up up (device_change device true)
+plan_up (plan.Ifclose device) up = set_up up (device_change device false)
+plan_up (plan.Dhcp device) up = set_up up (device_change device true)
+plan_up (plan.Ping text) up = up
+plan_up (plan.Nslookup setting text) up = up
+plan_up (plan.Echo newline text) up = up
+plan_up (plan.Goto label) up = up
+plan_up (plan.Exit n) up = up
+plan_up (plan.Isset word) up = up
+plan_up (plan.Iseq a b) up = up
+plan_up (plan.Set name value) up = up
+plan_up (plan.Clear name) up = up
+plan_up (plan.Show name) up = up
+plan_up (plan.Inc name by) up = up
+plan_up (plan.Fetch uri) up = up
+plan_up (plan.Exec uri) up = up
+plan_up (plan.Sleep seconds) up = up
+
+-- why words are no command
+abbrev pub plan_cause : PlanError → Cause
+plan_cause plan_error.Unknown = unknown
+plan_cause plan_error.Usage = usage
+plan_cause plan_error.NoMemory = out_of_memory
+
+abbrev pub planned_effect : ℕ → TableLists → Result CommandPlan PlanError → Effect
+planned_effect opens table (Ok p) = plan_effect opens table p
+planned_effect opens table (Err why) = says (refused (plan_cause why))
+
+abbrev pub planned_table : TableLists → Result CommandPlan PlanError → TableLists
+planned_table table (Ok p) = plan_table p table
+planned_table table (Err why) = table
+
+abbrev pub planned_up : Bool → Result CommandPlan PlanError → Bool
+planned_up up (Ok p) = plan_up p up
+planned_up up (Err why) = up
+
+-- what expanded words come to
+unfoldable pub words_effect : ℕ → TableLists → List (List ℕ) → Effect
+words_effect opens table ws = planned_effect opens table (planned ws)
+
+unfoldable pub words_table : TableLists → List (List ℕ) → TableLists
+words_table table ws = planned_table table (planned ws)
+
+unfoldable pub words_up : Bool → List (List ℕ) → Bool
+words_up up ws = planned_up up (planned ws)
+
+-- why words aren't expanded
+abbrev pub expand_cause : ExpandError → Cause
+expand_cause expand_error.BadName = as_cause (reason.Plain plain.BadName)
+expand_cause expand_error.TooLong = as_cause (reason.TooLong long.Line)
+expand_cause expand_error.NoMemory = out_of_memory
+
+-- the words of a command, each `${name}` in them replaced by what it stands for
+abbrev pub expansion : TableLists → List (List ℕ) → Result (List (List ℕ)) ExpandError
+expansion table ws = expanded_words (named_text table) ws
+
+abbrev pub expanded_effect : ℕ → TableLists → Result (List (List ℕ)) ExpandError → Effect
+expanded_effect opens table (Ok ws) = words_effect opens table ws
+expanded_effect opens table (Err why) = says (refused (expand_cause why))
+
+abbrev pub expanded_table : TableLists → Result (List (List ℕ)) ExpandError → TableLists
+expanded_table table (Ok ws) = words_table table ws
+expanded_table table (Err why) = table
+
+abbrev pub expanded_up : Bool → Result (List (List ℕ)) ExpandError → Bool
+expanded_up up (Ok ws) = words_up up ws
+expanded_up up (Err why) = up
+
+-- what a command comes to, by its words as the script has them
+unfoldable pub effect : ℕ → TableLists → List (List ℕ) → Effect
+effect opens table ws = expanded_effect opens table (expansion table ws)
+
+-- the settings that it leaves
+unfoldable pub table_after : TableLists → List (List ℕ) → TableLists
+table_after table ws = expanded_table table (expansion table ws)
+
+-- whether the device is up then
+unfoldable pub up_after : TableLists → Bool → List (List ℕ) → Bool
+up_after table up ws = expanded_up up (expansion table ws)
+
+-- the words that COMMAND shows: expanded, or as they are written where that is refused
+pub record ShownWords : Type 0 where
+  pub expanded : Bool
+  pub words : List (List ℕ)
+
+abbrev pub shown_as : Bool → List (List ℕ) → ShownWords
+shown_as expanded ws = record { expanded = expanded; words = ws }
+
+abbrev pub shown_by : List (List ℕ) → Result (List (List ℕ)) ExpandError → ShownWords
+shown_by written (Ok ws) = shown_as true ws
+shown_by written (Err why) = shown_as false written
+
+unfoldable pub shown_words : TableLists → List (List ℕ) → ShownWords
+shown_words table ws = shown_by ws (expansion table ws)
