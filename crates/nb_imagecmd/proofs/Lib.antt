@@ -1,0 +1,6 @@
+pub mod CommandNameLemmas
+pub mod FreeingLemmas
+pub mod GoneLemmas
+pub mod Joining
+pub mod OptionLemmas
+pub mod StatLemmas
