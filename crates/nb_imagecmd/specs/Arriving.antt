@@ -1,4 +1,5 @@
--- own, after ipxe.org's commands: what comes of a command whose file has come. Where it fails, the list is as it was.
+-- own, after ipxe.org's commands: what comes of a command whose file has come. Where it fails, the list is as it
+-- was.
 use Rattle.std.specs.Prelude.{ℕ, Bool, List, length, Option, Some, None, unwrap_or, Result, Ok, Err, if◌then◌else◌}
 use Rattle.nb_image.specs.declared.error.ImageError.{ImageError}
 use Rattle.nb_image.specs.declared.image.Image.{Image}
@@ -36,29 +37,35 @@ selected_in image list = selected_at (place_in image list) (put_in image list)
 abbrev pub script_gone : Image → ImageList → ImageList
 script_gone image list = without_image (place_in image list) (selected_in image list)
 
-abbrev pub script_runs : Image → Bool → ℕ → ImageList → Result (Arrival × ImageList) ImageFailure
+-- what comes of a file and the list after it, or why the command fails
+abbrev pub ArrivalAnswer : Type 0
+ArrivalAnswer = Result (Arrival × ImageList) ImageFailure
+
+abbrev pub script_runs : Image → Bool → ℕ → ImageList → ArrivalAnswer
 script_runs image replace depth list =
-    if is_too_deep replace depth then Err ManyScripts else Ok (arrival.Run (script_of image) replace, script_gone image list)
+    if is_too_deep replace depth then Err ManyScripts
+    else Ok (arrival.Run (script_of image) replace, script_gone image list)
 
 -- what an image is executed as, by its kind
-abbrev pub runs_kind : ImageKind → Image → Bool → ℕ → ImageList → Result (Arrival × ImageList) ImageFailure
+abbrev pub runs_kind : ImageKind → Image → Bool → ℕ → ImageList → ArrivalAnswer
 runs_kind Script image replace depth list = script_runs image replace depth list
 runs_kind BzImage image replace depth list = Ok (arrival.Boot, selected_in image list)
 runs_kind Elf image replace depth list = Ok (arrival.Boot, selected_in image list)
 runs_kind Efi image replace depth list = Ok (arrival.Boot, selected_in image list)
 runs_kind Other image replace depth list = Err NotBootable
 
-abbrev pub taken_in : After → Image → ℕ → ImageList → Result (Arrival × ImageList) ImageFailure
+abbrev pub taken_in : After → Image → ℕ → ImageList → ArrivalAnswer
 taken_in after.Keep image depth list = Ok (arrival.Kept, put_in image list)
 taken_in after.Select image depth list = Ok (arrival.Kept, selected_in image list)
 taken_in (after.Run replace) image depth list = runs_kind (kind_of image.body) image replace depth list
 
 -- the list's own refusals go before those of what is executed
-abbrev pub taken_unless : Option ImageError → After → Image → ℕ → ImageList → Result (Arrival × ImageList) ImageFailure
+abbrev pub taken_unless : Option ImageError → After → Image → ℕ → ImageList → ArrivalAnswer
 taken_unless (Some why) after image depth list = Err (unlisted why)
 taken_unless None after image depth list = taken_in after image depth list
 
 -- what the file comes to where so many scripts are within one another, and the list after it
-unfoldable pub arrived : Asking → List ℕ → List ℕ → ℕ → ImageList → Result (Arrival × ImageList) ImageFailure
+unfoldable pub arrived : Asking → List ℕ → List ℕ → ℕ → ImageList → ArrivalAnswer
 arrived asking body uri depth list =
-    taken_unless (refusal (arrived_image asking body uri) list.images) asking.after (arrived_image asking body uri) depth list
+    taken_unless (refusal (arrived_image asking body uri) list.images) asking.after (arrived_image asking body uri)
+    depth list

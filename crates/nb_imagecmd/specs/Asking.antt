@@ -1,5 +1,5 @@
--- RFC 3986, section 5: a URI is joined to a base. Own: which URIs are fetched, how their images are named, and how many
--- bytes a path and a name may have.
+-- RFC 3986, section 5: a URI is joined to a base. Own: which URIs are fetched, how their images are named, and
+-- how many bytes a path and a name may have.
 use Rattle.std.specs.Prelude.{◌≡◌, ◌≤◌, ℕ, Bool, true, false, not, ◌||◌, nat_lt, List, length, Option, Some, None, Result, Ok, Err, if◌then◌else◌}
 use Rattle.std.specs.List.{join_with_byte}
 use Rattle.nb_uri.specs.declared.target.UriTarget.{UriTarget}
@@ -37,7 +37,8 @@ file_name None target = target_name target
 file_name (Some name) target = name
 
 abbrev pub asking_of : UriTarget → List ℕ → List (List ℕ) → After → Asking
-asking_of target name args after = record { target = target; name = name; args = join_with_byte 32 args; after = after }
+asking_of target name args after =
+    record { target = target; name = name; args = join_with_byte 32 args; after = after }
 
 -- a disk is refused before what is too long
 abbrev pub asked_of : UriTarget → Option (List ℕ) → List (List ℕ) → After → Result Asking ImageFailure

@@ -23,7 +23,8 @@ image_command_text Imgstat = codes "imgstat"
 
 abbrev pub all_image_commands : List ImageCommandName
 all_image_commands =
-    Imgfetch ∷ Initrd ∷ Module ∷ Imgselect ∷ Kernel ∷ Imgload ∷ Imgexec ∷ Chain ∷ Boot ∷ Imgargs ∷ Imgfree ∷ Imgstat ∷ []
+    Imgfetch ∷ Initrd ∷ Module ∷ Imgselect ∷ Kernel ∷ Imgload ∷ Imgexec ∷ Chain ∷ Boot
+    ∷ Imgargs ∷ Imgfree ∷ Imgstat ∷ []
 
 -- the image command of a name
 unfoldable pub image_command_named : List ℕ → Option ImageCommandName

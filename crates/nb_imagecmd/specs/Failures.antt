@@ -1,4 +1,5 @@
--- The causes with which image commands fail, and what refusals of URIs and of the list of images mean for them.
+-- The causes with which image commands fail, and what refusals of URIs and of the list of images mean for
+-- them.
 use Rattle.nb_terms.specs.declared.cause.Cause.{Cause}
 use Rattle.nb_terms.specs.declared.reason.Large.TheVariants as large
 use Rattle.nb_terms.specs.declared.reason.Long.TheVariants as long
@@ -12,7 +13,8 @@ use Rattle.nb_uri.specs.declared.target.UriError.{UriError}
 use Rattle.nb_uri.specs.declared.target.UriError.TheVariants as uri_error
 use Rattle.nb_imagecmd.specs.declared.error.ImageFailure.{ImageFailure}
 use Rattle.nb_imagecmd.specs.declared.error.ImageFailure.TheVariants.{NoImage, BadUri, NoScheme, LongPath}
-use Rattle.nb_imagecmd.specs.declared.error.ImageFailure.TheVariants.{ManyImages, LargeImages, NotBootable, ManyScripts, NoMemory}
+use Rattle.nb_imagecmd.specs.declared.error.ImageFailure.TheVariants.{ManyImages, LargeImages}
+use Rattle.nb_imagecmd.specs.declared.error.ImageFailure.TheVariants.{NotBootable, ManyScripts, NoMemory}
 
 abbrev pub image_cause : ImageFailure → Cause
 image_cause NoImage = as_cause (reason.Plain plain.NoImage)

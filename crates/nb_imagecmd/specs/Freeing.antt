@@ -29,7 +29,8 @@ abbrev pub place_among : (Image → Bool) → List Image → ℕ → Option ℕ
 place_among passes [] place = Some place
 place_among passes (image ∷ images) zero = if passes image then Some 0 else None
 place_among passes (image ∷ images) (suc place) =
-    if passes image then option_map (λ n. suc n) (place_among passes images place) else place_among passes images place
+    if passes image then option_map (λ n. suc n) (place_among passes images place)
+    else place_among passes images place
 
 -- the images that aren't freed, in their order; the selection stays with its image
 abbrev pub kept_list : List (List ℕ) → ImageList → ImageList

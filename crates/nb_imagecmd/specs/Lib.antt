@@ -7,5 +7,6 @@ pub mod Failures
 pub mod Freeing
 pub mod Options
 pub mod OptionWords
+pub mod Promises
 pub mod Reading
 pub mod Stat

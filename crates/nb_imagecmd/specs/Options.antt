@@ -1,5 +1,5 @@
--- own, after ipxe.org's commands: the options of image commands. They stand before the other words and begin with
--- `--`; each is given at most once, in any order.
+-- own, after ipxe.org's commands: the options of image commands. They stand before the other words and begin
+-- with `--`; each is given at most once, in any order.
 use Rattle.std.specs.Prelude.{ℕ, Bool, true, false, List, [], ◌∷◌, Option, Some, None, codes, is_some, if◌then◌else◌}
 use Rattle.std.specs.Option.{option_and_then, option_copied}
 use Rattle.std.specs.Str.{bytes_eq}
@@ -14,7 +14,8 @@ pub record OptionsRead : Type 0 where
   pub rest : List (List ℕ)
 
 abbrev pub shown_options : Options → OptionsRead
-shown_options o = record { name = option_copied o.name; autofree = o.autofree; replace = o.replace; rest = o.rest.now }
+shown_options o =
+    record { name = option_copied o.name; autofree = o.autofree; replace = o.replace; rest = o.rest.now }
 
 abbrev pub no_options : List (List ℕ) → OptionsRead
 no_options rest = record { name = None; autofree = false; replace = false; rest = rest }

@@ -1,6 +1,7 @@
 ghost use Rattle.std.specs.Prelude.{◌≡◌, ◌⊎◌, Ok, Err, None, IfOk, IfErr, OnErr};
 ghost use Rattle.nb_image.specs.Images.{refusal};
-ghost use Rattle.nb_imagecmd.specs.Arriving.{arrived, arrived_image, taken_in, script_runs, put_in, selected_in};
+ghost use Rattle.nb_imagecmd.specs.Arriving.{arrived, arrived_image, taken_in, script_runs};
+ghost use Rattle.nb_imagecmd.specs.Arriving.{put_in, selected_in};
 ghost use Rattle.nb_imagecmd.specs.declared.arriving.Arrival.TheVariants as arrival;
 ghost use Rattle.nb_imagecmd.specs.declared.asking.After.TheVariants as after;
 ghost use Rattle.nb_imagecmd.specs.declared.error.ImageFailure.TheVariants as failure;
@@ -26,8 +27,8 @@ pub enum Arrival {
     Boot,
 }
 
-/// The file came that a command asked for: its bytes, and the URI of its last open. So many scripts are within one
-/// another, the one that runs included. Where the command fails, nothing of the file is kept.
+/// The file has come that a command asked for, by an open of this URI. `depth` scripts are within one another,
+/// the one that runs included. Where the command fails, nothing of the file is kept.
 #[tactic(auto, unfolding(crate::specs::Arriving::arrived))]
 pub fn arrive(
     alloc: Global,
@@ -38,7 +39,8 @@ pub fn arrive(
     depth: usize,
 ) -> Result<Arrival, ImageFailure>
     // What it comes to, and the list that it leaves.
-    ensures value { IfOk result (λ arrival. arrived asking.now body uri.now depth images.old ≡ Ok (arrival, images.new)) }
+    ensures value { IfOk result
+        (λ arrival. arrived asking.now body uri.now depth images.old ≡ Ok (arrival, images.new)) }
     ensures cause { IfErr result (λ why. (why ≡ failure.NoMemory)
         ⊎ (arrived asking.now body uri.now depth images.old ≡ Err why)) }
     ensures refused { OnErr result (images.new ≡ images.old) }
@@ -62,7 +64,8 @@ fn keep(
     uri: &[u8],
 ) -> Result<Arrival, ImageFailure>
     requires { refusal (arrived_image asking.now body uri.now) images.old.images ≡ None }
-    ensures ok { IfOk result (λ a. (a ≡ arrival.Kept) × (images.new ≡ put_in (arrived_image asking.now body uri.now) images.old)) }
+    ensures ok { IfOk result (λ a. (a ≡ arrival.Kept)
+        × (images.new ≡ put_in (arrived_image asking.now body uri.now) images.old)) }
     ensures memory { IfErr result (λ why. why ≡ failure.NoMemory) }
     ensures refused { OnErr result (images.new ≡ images.old) }
 {
@@ -86,7 +89,8 @@ fn select(
     arrival: Arrival,
 ) -> Result<Arrival, ImageFailure>
     requires { refusal (arrived_image asking.now body uri.now) images.old.images ≡ None }
-    ensures ok { IfOk result (λ a. (a ≡ arrival) × (images.new ≡ selected_in (arrived_image asking.now body uri.now) images.old)) }
+    ensures ok { IfOk result (λ a. (a ≡ arrival)
+        × (images.new ≡ selected_in (arrived_image asking.now body uri.now) images.old)) }
     ensures memory { IfErr result (λ why. why ≡ failure.NoMemory) }
     ensures refused { OnErr result (images.new ≡ images.old) }
 {
@@ -112,9 +116,11 @@ fn run(
     depth: usize,
 ) -> Result<Arrival, ImageFailure>
     requires { refusal (arrived_image asking.now body uri.now) images.old.images ≡ None }
-    ensures value { IfOk result (λ a. taken_in (after.Run replace) (arrived_image asking.now body uri.now) depth images.old ≡ Ok (a, images.new)) }
+    ensures value { IfOk result (λ a. taken_in (after.Run replace) (arrived_image asking.now body uri.now) depth
+        images.old ≡ Ok (a, images.new)) }
     ensures cause { IfErr result (λ why. (why ≡ failure.NoMemory)
-        ⊎ (taken_in (after.Run replace) (arrived_image asking.now body uri.now) depth images.old ≡ Err why)) }
+        ⊎ (taken_in (after.Run replace) (arrived_image asking.now body uri.now) depth images.old
+        ≡ Err why)) }
     ensures refused { OnErr result (images.new ≡ images.old) }
 {
     match body.kind() {
@@ -137,7 +143,8 @@ fn run_script(
     depth: usize,
 ) -> Result<Arrival, ImageFailure>
     requires { refusal (arrived_image asking.now body uri.now) images.old.images ≡ None }
-    ensures value { IfOk result (λ a. script_runs (arrived_image asking.now body uri.now) replace depth images.old ≡ Ok (a, images.new)) }
+    ensures value { IfOk result (λ a. script_runs (arrived_image asking.now body uri.now) replace depth
+        images.old ≡ Ok (a, images.new)) }
     ensures cause { IfErr result (λ why. (why ≡ failure.NoMemory)
         ⊎ (script_runs (arrived_image asking.now body uri.now) replace depth images.old ≡ Err why)) }
     ensures refused { OnErr result (images.new ≡ images.old) }

@@ -3,7 +3,8 @@
 ghost use Rattle.std.specs.Prelude.{◌≡◌, ◌⊎◌, Ok, Err, IfOk, IfErr};
 ghost use Rattle.std.specs.Option.{option_copied};
 ghost use Rattle.nb_uri.specs.Resolutions.{HasCleanPath, MayBeAsked, NamesItself};
-ghost use Rattle.nb_imagecmd.specs.Asking.{is_file, target_name, file_name, has_long_path, asked, MayBeFetched};
+ghost use Rattle.nb_imagecmd.specs.Asking.{is_file, target_name, file_name, has_long_path};
+ghost use Rattle.nb_imagecmd.specs.Asking.{asked, MayBeFetched};
 ghost use Rattle.nb_imagecmd.specs.declared.error.ImageFailure.TheVariants as failure;
 
 use crate::ImageFailure;
@@ -53,7 +54,8 @@ pub(crate) fn asked(
     args: &Words,
     after: After,
 ) -> Result<Asking, ImageFailure>
-    ensures value { IfOk result (λ asking. asked (option_copied base.entry) name.now uri.now args.now after ≡ Ok asking) }
+    ensures value { IfOk result
+        (λ asking. asked (option_copied base.entry) name.now uri.now args.now after ≡ Ok asking) }
     ensures cause { IfErr result (λ why. (why ≡ failure.NoMemory)
         ⊎ (asked (option_copied base.entry) name.now uri.now args.now after ≡ Err why)) }
     ensures fetched { IfOk result MayBeFetched }

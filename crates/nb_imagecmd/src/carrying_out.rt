@@ -1,7 +1,8 @@
 ghost use Rattle.std.specs.Prelude.{◌≡◌, ◌⊎◌, Ok, Err, IfOk, IfErr, OnErr};
 ghost use Rattle.std.specs.Option.{option_copied};
 ghost use Rattle.nb_imagecmd.specs.Asking.{asked, MayBeFetched};
-ghost use Rattle.nb_imagecmd.specs.CarryingOut.{waits, asks, selects, executes, sets_args, frees, image_effect, IfAsks};
+ghost use Rattle.nb_imagecmd.specs.CarryingOut.{waits, selects, executes, sets_args, frees};
+ghost use Rattle.nb_imagecmd.specs.CarryingOut.{image_effect, IfAsks};
 ghost use Rattle.nb_imagecmd.specs.declared.error.ImageFailure.TheVariants as failure;
 ghost use Rattle.nb_imagecmd.specs.declared.asking.After.TheVariants as after;
 
@@ -15,8 +16,8 @@ use nb_image::Images;
 use nb_wire::{Word, Words};
 use std::alloc::Global;
 
-/// Carries an image command out, whose URI is joined to this base. It changes the list of images, or says which
-/// file it waits for.
+/// Carries an image command out, whose URI is joined to this base. It changes the list of images, or returns
+/// the file that it waits for.
 #[tactic(auto, unfolding(crate::specs::CarryingOut::image_effect))]
 pub fn carry_out(
     alloc: Global,
@@ -25,7 +26,8 @@ pub fn carry_out(
     images: &mut Images,
 ) -> Result<ImageOutcome, ImageFailure>
     // What it comes to, and the list that it leaves.
-    ensures value { IfOk result (λ outcome. image_effect command.now (option_copied base.entry) images.old ≡ Ok (outcome, images.new)) }
+    ensures value { IfOk result (λ outcome.
+        image_effect command.now (option_copied base.entry) images.old ≡ Ok (outcome, images.new)) }
     ensures cause { IfErr result (λ why. (why ≡ failure.NoMemory)
         ⊎ (image_effect command.now (option_copied base.entry) images.old ≡ Err why)) }
     ensures refused { OnErr result (images.new ≡ images.old) }
@@ -64,7 +66,8 @@ fn ask(
     args: &Words,
     after: After,
 ) -> Result<ImageOutcome, ImageFailure>
-    ensures value { IfOk result (λ outcome. waits (asked (option_copied base.entry) name.now uri.now args.now after) ≡ Ok outcome) }
+    ensures value { IfOk result (λ outcome.
+        waits (asked (option_copied base.entry) name.now uri.now args.now after) ≡ Ok outcome) }
     ensures cause { IfErr result (λ why. (why ≡ failure.NoMemory)
         ⊎ (asked (option_copied base.entry) name.now uri.now args.now after ≡ Err why)) }
     ensures fetched { IfOk result (λ outcome. IfAsks outcome MayBeFetched) }
@@ -81,7 +84,8 @@ fn select(
     args: &Words,
     images: &mut Images,
 ) -> Result<ImageOutcome, ImageFailure>
-    ensures value { IfOk result (λ outcome. selects (option_copied base.entry) name.now uri.now args.now images.old ≡ Ok (outcome, images.new)) }
+    ensures value { IfOk result (λ outcome. selects (option_copied base.entry) name.now uri.now args.now
+        images.old ≡ Ok (outcome, images.new)) }
     ensures cause { IfErr result (λ why. (why ≡ failure.NoMemory)
         ⊎ (selects (option_copied base.entry) name.now uri.now args.now images.old ≡ Err why)) }
     ensures refused { OnErr result (images.new ≡ images.old) }
@@ -106,7 +110,8 @@ fn execute_or_ask(
     replace: bool,
     images: &mut Images,
 ) -> Result<ImageOutcome, ImageFailure>
-    ensures value { IfOk result (λ outcome. executes (option_copied base.entry) name.now uri.now args.now replace images.old ≡ Ok (outcome, images.new)) }
+    ensures value { IfOk result (λ outcome. executes (option_copied base.entry) name.now uri.now args.now
+        replace images.old ≡ Ok (outcome, images.new)) }
     ensures cause { IfErr result (λ why. (why ≡ failure.NoMemory)
         ⊎ (executes (option_copied base.entry) name.now uri.now args.now replace images.old ≡ Err why)) }
     ensures refused { OnErr result (images.new ≡ images.old) }
@@ -125,8 +130,10 @@ fn set_args(
     args: &Words,
     images: &mut Images,
 ) -> Result<ImageOutcome, ImageFailure>
-    ensures value { IfOk result (λ outcome. sets_args name.now args.now images.old ≡ Ok (outcome, images.new)) }
-    ensures cause { IfErr result (λ why. (why ≡ failure.NoMemory) ⊎ (sets_args name.now args.now images.old ≡ Err why)) }
+    ensures value { IfOk result
+        (λ outcome. sets_args name.now args.now images.old ≡ Ok (outcome, images.new)) }
+    ensures cause { IfErr result (λ why. (why ≡ failure.NoMemory)
+        ⊎ (sets_args name.now args.now images.old ≡ Err why)) }
     ensures refused { OnErr result (images.new ≡ images.old) }
     ensures fetched { IfOk result (λ outcome. IfAsks outcome MayBeFetched) }
 {

@@ -10,8 +10,8 @@ pub enum ImageCommand {
         uri: Word,
         args: Words,
     },
-    /// `imgselect`, `kernel` or `imgload`: finds an image of this name or fetches a file, selects it, and sets
-    /// its arguments.
+    /// `imgselect`, `kernel` or `imgload`: finds an image of this name or fetches a file, selects it, and
+    /// sets its arguments.
     Select {
         /// What an image that is fetched is to be called.
         name: Option<Word>,

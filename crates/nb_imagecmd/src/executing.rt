@@ -1,7 +1,8 @@
 //! What is selected, and what is executed.
 
 ghost use Rattle.std.specs.Prelude.{◌≡◌, ◌⊎◌, ◌<◌, Ok, Err, length, IfOk, IfErr, OnOk, OnErr};
-ghost use Rattle.nb_imagecmd.specs.Executing.{selected_with, executed, executed_selected, is_too_deep, script_taken};
+ghost use Rattle.nb_imagecmd.specs.Executing.{selected_with, executed, executed_selected};
+ghost use Rattle.nb_imagecmd.specs.Executing.{is_too_deep, script_taken};
 ghost use Rattle.nb_imagecmd.specs.declared.error.ImageFailure.TheVariants as failure;
 ghost use Rattle.nb_imagecmd.specs.declared.outcome.ImageOutcome.TheVariants as outcome;
 
@@ -39,8 +40,10 @@ pub(crate) fn execute(
     images: &mut Images,
 ) -> Result<ImageOutcome, ImageFailure>
     requires { i < length images.old.images }
-    ensures value { IfOk result (λ outcome. executed i args.now replace images.old ≡ Ok (outcome, images.new)) }
-    ensures cause { IfErr result (λ why. (why ≡ failure.NoMemory) ⊎ (executed i args.now replace images.old ≡ Err why)) }
+    ensures value { IfOk result
+        (λ outcome. executed i args.now replace images.old ≡ Ok (outcome, images.new)) }
+    ensures cause { IfErr result (λ why. (why ≡ failure.NoMemory)
+        ⊎ (executed i args.now replace images.old ≡ Err why)) }
     ensures refused { OnErr result (images.new ≡ images.old) }
 {
     match images.kind(i) {
@@ -69,8 +72,10 @@ fn boot_with(
 
 /// Executes the selected image with the arguments that it has.
 pub(crate) fn execute_selected(replace: bool, images: &Images) -> Result<ImageOutcome, ImageFailure>
-    ensures value { IfOk result (λ outcome. executed_selected images.now.selected replace images.now ≡ Ok (outcome, images.now)) }
-    ensures cause { IfErr result (λ why. executed_selected images.now.selected replace images.now ≡ Err why) }
+    ensures value { IfOk result
+        (λ outcome. executed_selected images.now.selected replace images.now ≡ Ok (outcome, images.now)) }
+    ensures cause { IfErr result
+        (λ why. executed_selected images.now.selected replace images.now ≡ Err why) }
 {
     let Some(i) = images.selected() else {
         return Err(ImageFailure::NoImage);
@@ -101,8 +106,10 @@ pub fn take_script(
     depth: usize,
 ) -> Result<ScriptImage, ImageFailure>
     requires { image < length images.old.images }
-    ensures value { IfOk result (λ script. script_taken image replace depth images.old ≡ Ok (script, images.new)) }
-    ensures cause { IfErr result (λ why. (why ≡ failure.NoMemory) ⊎ (script_taken image replace depth images.old ≡ Err why)) }
+    ensures value { IfOk result
+        (λ script. script_taken image replace depth images.old ≡ Ok (script, images.new)) }
+    ensures cause { IfErr result (λ why. (why ≡ failure.NoMemory)
+        ⊎ (script_taken image replace depth images.old ≡ Err why)) }
     ensures refused { OnErr result (images.new ≡ images.old) }
 {
     if is_too_deep(replace, depth) {

@@ -20,8 +20,8 @@ fn is_there(name: &Word, images: &Images) -> bool
     images.find(name.as_slice()).is_some()
 }
 
-/// Frees the images of these names, or all where there are none. The last one goes first, so that those still to
-/// be looked at stay where they are.
+/// Frees the images of these names, or all where there are none. The last one goes first, so that those still
+/// to be looked at stay where they are.
 pub(crate) fn free(names: &[Word], images: &mut Images)
     ensures { images.new ≡ kept_list names.now images.old }
 {

@@ -3,7 +3,8 @@
 ghost use Rattle.std.specs.Prelude.{◌≡◌, codes, option_map};
 ghost use Rattle.std.specs.Str.{bytes_eq};
 ghost use Rattle.nb_defs.specs.Commands.{is_option};
-ghost use Rattle.nb_imagecmd.specs.Options.{shown_options, options_read, no_options, with_name, with_autofree, with_replace};
+ghost use Rattle.nb_imagecmd.specs.Options.{shown_options, options_read, no_options};
+ghost use Rattle.nb_imagecmd.specs.Options.{with_name, with_autofree, with_replace};
 
 use nb_wire::Word;
 

@@ -10,7 +10,8 @@ pub enum ImageOutcome {
     Print(Lines),
     /// It waits for a file; `arrive` says what comes of that.
     Ask(Asking),
-    /// The image at this place is a script, which is to run. It is still in the list: `take_script` takes it out.
+    /// The image at this place is a script, which is to run. It is still in the list: `take_script` takes it
+    /// out.
     Run {
         image: usize,
         /// It takes the place of the script that runs.

@@ -2,7 +2,9 @@
 
 ghost use Rattle.std.specs.Prelude.{◌≡◌, Ok, option_map};
 ghost use Rattle.std.specs.Option.{option_copied};
-ghost use Rattle.nb_imagecmd.specs.Reading.{ReadsAs, shown_source, source_read, fetch_read, select_read, exec_read, exec_with, imgargs_read, imgfree_read, imgstat_read, named_read, image_command};
+ghost use Rattle.nb_imagecmd.specs.Reading.{ReadsAs, image_command, named_read, shown_source, source_read};
+ghost use Rattle.nb_imagecmd.specs.Reading.{fetch_read, select_read, exec_read, exec_with};
+ghost use Rattle.nb_imagecmd.specs.Reading.{imgargs_read, imgfree_read, imgstat_read};
 ghost use Rattle.nb_imagecmd.specs.Options.{shown_options};
 ghost use Rattle.nb_imagecmd.specs.declared.commands.ImageCommand.TheVariants as command;
 
@@ -126,8 +128,8 @@ fn exec_uri(
     uri: Option<&Word>,
     args: &[Word],
 ) -> Result<ImageCommand, WordsError>
-    ensures { ReadsAs result
-        (Ok (command.Exec (option_copied options.entry.name) options.entry.autofree options.entry.replace (option_copied uri.entry) args.now)) }
+    ensures { ReadsAs result (Ok (command.Exec (option_copied options.entry.name) options.entry.autofree
+        options.entry.replace (option_copied uri.entry) args.now)) }
 {
     Ok(ImageCommand::Exec {
         name: copy_given(alloc, options.name)?,

@@ -48,7 +48,8 @@ pub(crate) fn stat(alloc: Global, images: &Images) -> Result<Lines, NoMemory>
 fn stat_line(alloc: Global, images: &Images, i: usize) -> Result<Text, NoMemory>
     requires { i < length images.now.images }
     ensures { IfOk result (λ line.
-        option_map (λ image. stat_line images.now.selected (i, image)) (slice_get images.now.images i) ≡ Some line) }
+        option_map (λ image. stat_line images.now.selected (i, image)) (slice_get images.now.images i)
+        ≡ Some line) }
 {
     let name = images.name(i);
     let size = images.body(i).len();

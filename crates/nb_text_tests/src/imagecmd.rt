@@ -11,9 +11,9 @@ use nb_wire::{Text, Word};
 use std::alloc::Global;
 use std::test::Fail;
 
-/// A command, what it comes to, and the list that it leaves: each image with its arguments, and a star where it is
-/// selected. Each file is fetched, and has the bytes of `file_of`. A line feed that is printed is `$`, and a failure
-/// has its cause's numbers.
+/// A command, what it comes to, and the list that it leaves: each image with its arguments, and a star where it
+/// is selected. Each file is fetched, and has the bytes of `file_of`. A line feed that is printed is `$`, and a
+/// failure has its cause's numbers.
 const ROWS: &str = "\
 imgstat|prints |\n\
 boot|fails 12 0|\n\
