@@ -1,7 +1,7 @@
 // Tests of what reads and writes texts and records, by public calls: numerals, URIs, scripts, settings, expansion,
-// commands, images, and the records of a run. A crate with tests is proved twice, so they stand in a crate that has nothing
-// else: what is proved here is that each test keeps to the contracts of what it calls. Each module is named for the
-// crate that it tests.
+// commands, images and their commands, and the records of a run. A crate with tests is proved twice, so they stand
+// in a crate that has nothing else: what is proved here is that each test keeps to the contracts of what it calls.
+// Each module is named for the crate that it tests.
 #![tactic(auto)]
 
 #[cfg(test)]
@@ -10,6 +10,8 @@ mod command;
 mod expand;
 #[cfg(test)]
 mod image;
+#[cfg(test)]
+mod imagecmd;
 #[cfg(test)]
 mod numerals;
 #[cfg(test)]

@@ -1,0 +1,65 @@
+-- RFC 3986, section 5: a URI is joined to a base. Own: which URIs are fetched, how their images are named, and
+-- how many bytes a path and a name may have.
+use Rattle.std.specs.Prelude.{◌≡◌, ◌≤◌, ℕ, Bool, true, false, not, ◌||◌, nat_lt, List, length, Option, Some, None, Result, Ok, Err, if◌then◌else◌}
+use Rattle.std.specs.List.{join_with_byte}
+use Rattle.nb_uri.specs.declared.target.UriTarget.{UriTarget}
+use Rattle.nb_uri.specs.declared.target.UriTarget.TheVariants.{Tftp, Http, Iscsi}
+use Rattle.nb_uri.specs.declared.target.UriError.{UriError}
+use Rattle.nb_uri.specs.ImageNames.{image_name}
+use Rattle.nb_uri.specs.Resolutions.{resolution, HasCleanPath, MayBeAsked, NamesItself}
+use Rattle.nb_imagecmd.specs.declared.asking.After.{After}
+use Rattle.nb_imagecmd.specs.declared.asking.Asking.{Asking}
+use Rattle.nb_imagecmd.specs.declared.error.ImageFailure.{ImageFailure}
+use Rattle.nb_imagecmd.specs.declared.error.ImageFailure.TheVariants.{NoScheme, LongPath}
+use Rattle.nb_imagecmd.specs.Failures.{unresolved}
+
+-- files are fetched, disks are not
+abbrev pub is_file : UriTarget → Bool
+is_file (Tftp host port path whole) = true
+is_file (Http host port path whole) = true
+is_file (Iscsi host port lun name whole) = false
+
+-- the path of a TFTP server's file has more than 1,024 bytes
+abbrev pub has_long_path : UriTarget → Bool
+has_long_path (Tftp host port path whole) = nat_lt 1024 (length path)
+has_long_path (Http host port path whole) = false
+has_long_path (Iscsi host port lun name whole) = false
+
+-- the name that a URI gives its image
+abbrev pub target_name : UriTarget → List ℕ
+target_name (Tftp host port path whole) = image_name whole host
+target_name (Http host port path whole) = image_name whole host
+target_name (Iscsi host port lun name whole) = image_name whole host
+
+-- the name of a file's image: the one given goes before
+abbrev pub file_name : Option (List ℕ) → UriTarget → List ℕ
+file_name None target = target_name target
+file_name (Some name) target = name
+
+abbrev pub asking_of : UriTarget → List ℕ → List (List ℕ) → After → Asking
+asking_of target name args after =
+    record { target = target; name = name; args = join_with_byte 32 args; after = after }
+
+-- a disk is refused before what is too long
+abbrev pub asked_of : UriTarget → Option (List ℕ) → List (List ℕ) → After → Result Asking ImageFailure
+asked_of target name args after =
+    if not (is_file target) then Err NoScheme
+    else if has_long_path target || nat_lt 255 (length (file_name name target)) then Err LongPath
+    else Ok (asking_of target (file_name name target) args after)
+
+abbrev pub asked_by : Result UriTarget UriError → Option (List ℕ) → List (List ℕ) → After → Result Asking ImageFailure
+asked_by (Ok target) name args after = asked_of target name args after
+asked_by (Err why) name args after = Err (unresolved why)
+
+-- what a command asks for whose URI is joined to this base, or why it asks for nothing
+abbrev pub asked : Option (List ℕ) → Option (List ℕ) → List ℕ → List (List ℕ) → After → Result Asking ImageFailure
+asked base name uri args after = asked_by (resolution base uri) name args after
+
+-- a server may be asked for it, and the image may have its name
+pub record MayBeFetched (asking : Asking) : Type 0 where
+  pub file : is_file asking.target ≡ true
+  pub clean : HasCleanPath asking.target
+  pub sendable : MayBeAsked asking.target
+  pub itself : NamesItself asking.target
+  pub path : has_long_path asking.target ≡ false
+  pub named : length asking.name ≤ 255

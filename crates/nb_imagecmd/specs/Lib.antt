@@ -1,0 +1,12 @@
+pub mod Arriving
+pub mod Asking
+pub mod CarryingOut
+pub mod CommandNames
+pub mod Executing
+pub mod Failures
+pub mod Freeing
+pub mod Options
+pub mod OptionWords
+pub mod Promises
+pub mod Reading
+pub mod Stat

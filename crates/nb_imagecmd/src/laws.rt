@@ -1,0 +1,70 @@
+//! Laws of the definitions: each is a function that does nothing, whose contract is the law.
+
+ghost use Rattle.std.specs.Prelude.{◌≡◌, ◌≤◌, ℕ, Bool, List, Option, Some, Ok, All, length};
+ghost use Rattle.std.specs.Prelude.{true, false};
+ghost use Rattle.std.specs.List.{list_any, join_with_byte};
+ghost use Rattle.nb_image.specs.Images.{ImageList, has_name, selected_image, total_len};
+ghost use Rattle.nb_imagecmd.specs.Arriving.{arrived_image, arrived};
+ghost use Rattle.nb_imagecmd.specs.CarryingOut.{frees, image_effect};
+ghost use Rattle.nb_imagecmd.specs.Executing.{script_taken};
+ghost use Rattle.nb_imagecmd.specs.Freeing.{is_among};
+ghost use Rattle.nb_imagecmd.specs.Options.{options_read};
+ghost use Rattle.nb_imagecmd.specs.OptionWords.{GivenOption, options_spelled, options_meant};
+ghost use Rattle.nb_imagecmd.specs.OptionWords.{BeginsWithoutOption};
+ghost use Rattle.nb_imagecmd.specs.Promises.{HasShortNames, IsShortLine, Boots};
+ghost use Rattle.nb_imagecmd.specs.Stat.{stat_lines};
+ghost use Rattle.nb_imagecmd.specs.declared.arriving.Arrival.{Arrival};
+ghost use Rattle.nb_imagecmd.specs.declared.arriving.Arrival.TheVariants as arrival;
+ghost use Rattle.nb_imagecmd.specs.declared.asking.Asking.{Asking};
+ghost use Rattle.nb_imagecmd.specs.declared.commands.ImageCommand.{ImageCommand};
+ghost use Rattle.nb_imagecmd.specs.declared.commands.ImageCommand.TheVariants as command;
+ghost use Rattle.nb_imagecmd.specs.declared.outcome.ImageOutcome.{ImageOutcome};
+ghost use Rattle.nb_imagecmd.specs.declared.outcome.ImageOutcome.TheVariants as outcome;
+ghost use Rattle.nb_imagecmd.specs.declared.outcome.ScriptImage.{ScriptImage};
+
+/// Options in any order before other words are read as what they say together, none of them twice.
+pub fn spelled_options_are_read()
+    ensures { (options : List GivenOption) (rest : List (List ℕ)) → BeginsWithoutOption rest
+        → options_read (options_spelled options rest) ≡ options_meant options rest }
+{}
+
+/// What `imgexec` boots by a name is the image of that name, with the arguments that the command gives it.
+pub fn named_images_are_booted()
+    ensures { (base name : Option (List ℕ)) (autofree replace : Bool) (uri : List ℕ) (args : List (List ℕ))
+        (list left : ImageList)
+        → image_effect (command.Exec name autofree replace (Some uri) args) base list ≡ Ok (outcome.Boot, left)
+        → Boots uri (join_with_byte 32 args) left }
+{}
+
+/// What a command boots that fetched a file is that file's image.
+pub fn fetched_images_are_booted()
+    ensures { (asking : Asking) (body uri : List ℕ) (depth : ℕ) (list left : ImageList)
+        → arrived asking body uri depth list ≡ Ok (arrival.Boot, left)
+        → selected_image left ≡ Some (arrived_image asking body uri) }
+{}
+
+/// After `imgfree` no image has a name that it was given.
+pub fn freed_names_are_gone()
+    ensures { (names : List (List ℕ)) (name : List ℕ) (list left : ImageList) (outcome : ImageOutcome)
+        → is_among names name ≡ true → frees names list ≡ Ok (outcome, left)
+        → list_any (has_name name) left.images ≡ false }
+{}
+
+/// Where all images have names of at most 255 bytes, they have so after a command, after a file has come for
+/// one, and after a script has left.
+pub fn names_stay_short()
+    ensures commands { (command : ImageCommand) (base : Option (List ℕ)) (list left : ImageList)
+        (outcome : ImageOutcome)
+        → HasShortNames list → image_effect command base list ≡ Ok (outcome, left) → HasShortNames left }
+    ensures files { (asking : Asking) (body uri : List ℕ) (depth : ℕ) (list left : ImageList)
+        (arrival : Arrival) → length asking.name ≤ 255 → HasShortNames list
+        → arrived asking body uri depth list ≡ Ok (arrival, left) → HasShortNames left }
+    ensures scripts { (i : ℕ) (replace : Bool) (depth : ℕ) (list left : ImageList) (script : ScriptImage)
+        → HasShortNames list → script_taken i replace depth list ≡ Ok (script, left) → HasShortNames left }
+{}
+
+/// A line that `imgstat` prints for such images has at most 285 bytes.
+pub fn printed_lines_are_short()
+    ensures { (list : ImageList) → total_len list.images ≤ 536870912 → HasShortNames list
+        → All IsShortLine (stat_lines list) }
+{}
