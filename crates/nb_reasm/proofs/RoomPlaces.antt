@@ -1,7 +1,6 @@
 -- Places side by side in memory: they are what an allocator gives and takes back, one is taken out and put in, and a run is seen. Assumes `Logic`.
 use Rattle.std.proofs.Common.{◌≡◌, ℕ, zero, suc, ◌+◌, ◌<◌, ◌≤◌, List, [], ◌∷◌, ◌++◌, Option, Some, None, map, length, take, drop, refl, sym, ap, subst, ◌∙◌, arith}
-use lib.ListN.{get_or, set, length-set, replicate, take-append-drop}
-use lib.Seq.{drop-cons}
+use lib.ListN.{set, length-set, replicate, take-append-drop}
 use seplogic.Ra.Ura.{Ura}
 use base.Fraction.{full_share}
 use mir.Syntax.{w8, ty_int, ty_array}
@@ -9,7 +8,7 @@ use mir.Val.{vint}
 use base.Logic.{ent, sep, id⊢, snd∗, via, mono_r}
 use base.Fml.{Lft, Fml, ftrue, fsep, fat, froom}
 use types.Logic.{Logic, sem}
-use types.Kit.{‵, ◌⊛◌, ◌$◌, ◌∵◌, !, qed, by, move, keep, use1, use2, split, rewrite, fsplit, fjoin, frame, done}
+use types.Kit.{‵, ◌⊛◌, ◌$◌, ◌∵◌, !, qed, by, move, keep, use1, use2, split, rewrite, fsplit, frame, done}
 use denote.Builtin.{u8}
 use denote.Plain.{uint_out, uint_in}
 use denote.Slice.{elements_shared}

@@ -1,5 +1,5 @@
 -- What a ring's memory is: bytes in slots, of which those that were written may be read.
-use Rattle.std.specs.Prelude.{◌≡◌, ℕ, Option, Some, None, Bool, true, get_or}
+use Rattle.std.specs.Prelude.{◌≡◌, ℕ, Option, Some, None, true, get_or}
 use Rattle.std.specs.Option.{is_some}
 use Rattle.nb_reasm.specs.declared.memory.Memory.{Memory}
 

@@ -1,4 +1,4 @@
-use Rattle.std.proofs.Common.{ℕ, ◌+◌, ◌≤◌, List, Option, None, length, sym, ap, ◌∙◌, arith}
+use Rattle.std.proofs.Common.{ℕ, ◌+◌, List, Option, None, length, sym, ap, ◌∙◌, arith}
 use Rattle.std.specs.Option.{is_some}
 use lib.ListN.{get_or}
 use Rattle.nb_reasm.specs.Memories.{byte_of}

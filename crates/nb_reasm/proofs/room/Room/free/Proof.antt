@@ -1,8 +1,8 @@
 -- `free` gives the allocator its memory and its token. Assumes `Logic`.
-use Rattle.std.proofs.Common.{◌≡◌, ℕ, ◌*◌, ◌<◌, ◌^◌, List, [], ◌∷◌, ◌++◌, refl, sym, ap, subst, ◌∙◌, arith, lit<}
+use Rattle.std.proofs.Common.{◌≡◌, ℕ, ◌*◌, ◌<◌, ◌^◌, List, [], ◌∷◌, ◌++◌, refl, sym, ap, subst, ◌∙◌, lit<}
 use lib.ListN.{length}
 use native.Mathlib.Nat.{mul-one}
-use mir.Syntax.{Ty, Fn, Args, a_type, dcons, dnil, place, w8, w64, ty_int, ty_array}
+use mir.Syntax.{Ty, Fn, Args, a_type, dcons, dnil, place, w64}
 use mir.Val.{Val, vint, vptr, vunit}
 use mir.MapTy.{inst_fn}
 use base.Logic.{SProp, never, id⊢}
@@ -16,9 +16,9 @@ use types.Kit.{‵, raw, ◌⊛◌, given, later, prop, settles, at_ret, ◌$◌
 use types.Part.{whole, sub}
 use types.Run.{stop, fld, lit, unit_lit, of_opd, no_more, and_then, first, blocks, exec, returns, enter}
 use types.ByLocal.{alloc_all, pass_all, free_all, look_at, get, get_in, sets, lands_last, env}
-use denote.RattleType.{RattleType, owns}
+use denote.RattleType.{owns}
 use denote.RawPtr.{Ptr, block_ptr, in_a_block}
-use denote.Param.{param, bounded}
+use denote.Param.{bounded}
 use denote.Signature.{types_at}
 use denote.Steps.{nothing, heard}
 use denote.Triple.Entry.{alive}

@@ -1,14 +1,13 @@
 -- `lend` hands on the `&` to each byte of a written run. Assumes `Logic`.
-use Rattle.std.proofs.Common.{◌≡◌, ℕ, ◌+◌, ◌*◌, ◌<◌, ◌≤◌, ◌^◌, List, [], ◌∷◌, ◌++◌, map, Some, refl, sym, ap, subst, ◌∙◌, arith, w64}
+use Rattle.std.proofs.Common.{◌≡◌, ℕ, ◌+◌, ◌*◌, ◌^◌, List, [], ◌∷◌, Some, refl, sym, ap, arith, w64}
 use Rattle.std.proofs.lemmas.List.{length-map}
-use lib.ListN.{length, take, length-take, length-drop}
+use lib.ListN.{length, length-take, length-drop}
 use lib.ListN.{drop as drop_l}
 use native.Mathlib.Nat.{mul-one}
-use mir.Syntax.{Fn, named}
-use mir.Val.{Val, vint, vptr}
-use base.Logic.{SProp, never, id⊢}
-use base.Fml.{ftrue, fhide, flft}
-use prog.Wp.{Env, WpFn}
+use mir.Syntax.{named}
+use mir.Val.{Val}
+use base.Logic.{never, id⊢}
+use base.Fml.{ftrue, flft}
 use contract.Monad.{fact}
 use contract.Running.{tables}
 use types.Kit.{‵, raw, ◌⊛◌, at_ret, ◌$◌, ◌∵◌, !, qed, move, keep, drop, use1, split, join, fsplit, fjoin, feq_i, flt_i, suffices, done}
@@ -18,17 +17,14 @@ use types.ByLocal.{alloc_all, pass_all, free_all, look_at, get, through, sets, s
 use denote.Exit.{yes}
 use denote.RattleType.{owns}
 use denote.Memory.{hidden_shr}
-use denote.RawPtr.{Ptr, RawPtr, in_a_block}
+use denote.RawPtr.{RawPtr, in_a_block}
 use denote.Ref.{shr_vals, shr_Tells}
 use denote.Builtin.{u8, usize, RefOf}
 use denote.Plain.{uint_vals, uint_Tells}
 use denote.Signature.{plain, types_at}
 use denote.Slice.{slice_val, elements_shared}
-use denote.Opens.{hide, unhide}
+use denote.Opens.{hide}
 use denote.Steps.{nothing, heard}
-use denote.Struct.Lending.{lent_out}
-use denote.Struct.Struct.{Struct}
-use denote.Struct.Owning.{shape}
 use denote.Triple.Walked.{says, Stays, stay_dropped, walk_of, ends_at, Goes-dropped}
 use Rattle.std.proofs.alloc.Shapes.{after}
 use Rattle.std.proofs.raw_atomic.Walks.{proved}

@@ -1,5 +1,5 @@
 -- `new` asks the allocator for a byte for each place. Assumes `Logic`.
-use Rattle.std.proofs.Common.{◌≡◌, ℕ, ◌*◌, ◌<◌, ◌≤◌, ◌^◌, Option, List, [], ◌∷◌, ◌++◌, refl, sym, ap, subst, ◌∙◌, arith, lit<, w64, Some, None}
+use Rattle.std.proofs.Common.{◌≡◌, ℕ, ◌*◌, ◌<◌, ◌≤◌, ◌^◌, Option, List, [], ◌∷◌, ◌++◌, refl, sym, subst, ◌∙◌, lit<, w64, Some, None}
 use lib.ListN.{length, replicate, length-replicate}
 use native.Mathlib.Nat.{mul-one}
 use mir.Syntax.{Ty, Fn, Args, a_type, dcons, dnil}
