@@ -1,5 +1,5 @@
 -- Bytes are held at the places of a run that held none.
-use Rattle.std.proofs.Common.{◌≡◌, ℕ, ◌+◌, ◌-◌, ◌^◌, ◌<◌, ◌≤◌, ◌⊎◌, inl, inr, max, nat_lt, Bool, true, Option, Some, None, List, length, get_or, sym, ap, ◌∙◌, subst, arith}
+use Rattle.std.proofs.Common.{◌≡◌, ℕ, ◌+◌, ◌-◌, ◌^◌, ◌<◌, ◌≤◌, ◌⊎◌, inl, inr, max, nat_lt, true, Some, List, length, get_or, sym, ap, ◌∙◌, subst, arith}
 use Rattle.std.proofs.lemmas.Bool.{ltb-true, ltb-false}
 use Rattle.nb_streams.proofs.StreamLaws.{either}
 use Rattle.nb_reasm.specs.Slots.{slot_mark}
@@ -8,7 +8,7 @@ use Rattle.nb_reasm.specs.Rings.{capacity, slot_of, ring_byte, ring_mark, is_hel
 use Rattle.nb_reasm.specs.declared.ring.Ring.{Ring}
 use Rattle.nb_reasm.proofs.SlotLemmas.{slots_same}
 use Rattle.nb_reasm.proofs.SpotLemmas.{held_marked, held_kept, held_alike}
-use Rattle.nb_reasm.proofs.RingLemmas.{Beside, Turns, turns_slot, turns_mark, turns_other, beside_slot, beside_other, place_at}
+use Rattle.nb_reasm.proofs.RingLemmas.{Turns, turns_slot, turns_mark, turns_other, beside_slot, beside_other, place_at}
 
 -- the bytes were written into the slots, and their marks set
 pub record Fills (r s : Ring) (place slot : ℕ) (bytes : List ℕ) : Type 0 where

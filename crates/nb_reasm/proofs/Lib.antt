@@ -1,3 +1,6 @@
+pub mod RoomSteps
+pub mod RoomPlaces
+pub mod RoomLemmas
 pub mod MarkLemmas
 pub mod SlotLemmas
 pub mod SpotLemmas

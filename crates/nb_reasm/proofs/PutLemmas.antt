@@ -6,10 +6,10 @@ use Rattle.std.proofs.lemmas.Bool.{ltb-true, ltb-false}
 use Rattle.std.proofs.lemmas.Bool.Decides.{nat_tests}
 use Rattle.std.proofs.lemmas.Option.{slice_get_past, slice_get-get_or}
 use Rattle.nb_streams.proofs.StreamLaws.{either}
-use Rattle.nb_reasm.specs.Rings.{capacity, held_byte, ring_byte, ring_mark, IsJoinable}
+use Rattle.nb_reasm.specs.Rings.{capacity, held_byte, ring_byte, IsJoinable}
 use Rattle.nb_reasm.specs.Windows.{HeldWindow, window_of, is_inside, window_byte, is_new, new_count, places_count}
 use Rattle.nb_reasm.specs.declared.ring.Ring.{Ring}
-use Rattle.nb_reasm.proofs.SpotLemmas.{held_below, held_front, held_marked, held_free}
+use Rattle.nb_reasm.proofs.SpotLemmas.{held_front}
 use Rattle.nb_reasm.proofs.CountLemmas.{count_between}
 
 pub byte_if : (w : HeldWindow) (pos : ℕ) (bytes : List ℕ) (p : ℕ) (t : Bool) → is_inside w p && nat_le pos p ≡ t → window_byte w pos bytes p ≡ cond t (slice_get bytes (p - pos)) None

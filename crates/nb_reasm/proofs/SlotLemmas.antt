@@ -16,6 +16,18 @@ turn size i = either (nat_lt i size)
     (λ t. same_turn (ltb-true i size t) (ap (λ (b : Bool). cond b i (i - size)) t))
     (λ f. next_turn (ltb-false i size f) (ap (λ (b : Bool). cond b i (i - size)) f))
 
+pub wrapped_below : (size i : ℕ) → i < size → wrapped_slot size i ≡ i
+wrapped_below size i l = elim (turn size i) [
+  | same_turn k is ↦ is
+  | next_turn k is ↦ absurd (omega (arith, k, l))
+]
+
+pub wrapped_past : (size i : ℕ) → size ≤ i → wrapped_slot size i ≡ i - size
+wrapped_past size i l = elim (turn size i) [
+  | same_turn k is ↦ absurd (omega (arith, k, l))
+  | next_turn k is ↦ is
+]
+
 pub slot_within : (size start offset : ℕ) → start < size → offset < size → wrapped_slot size (start + offset) < size
 slot_within size start offset s o = elim (turn size (start + offset)) [
   | same_turn l is ↦ omega (arith, l, is)

@@ -74,7 +74,7 @@ impl Held {
         self.ring.front()
     }
 
-    /// Moves the base on over bytes that are held, in constant time.
+    /// Moves the base on over bytes that are held.
     pub fn advance(&mut self, n: u32)
         requires { (window self.old).base + n ≤ (window self.old).next }
         ensures base { (window self.new).base ≡ (window self.old).base + n }

@@ -8,5 +8,6 @@ mod held;
 mod marks;
 mod memory;
 mod ring;
+mod room;
 
 pub use held::{Held, MAX_CAPACITY, Put};

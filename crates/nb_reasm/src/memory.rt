@@ -2,7 +2,9 @@
 
 ghost use Rattle.std.specs.Prelude.{◌≡◌, ℕ, ◌+◌, ◌^◌, ◌<◌, ◌≤◌, ◌⊎◌, length, slice_index, IfOk};
 ghost use Rattle.nb_reasm.specs.Slots.{wrapped_slot};
+ghost use Rattle.nb_reasm.specs.Leases.{IsLeased};
 
+use crate::room::{Lease, Room};
 use nb_terms::NoMemory;
 use std::alloc::Global;
 
@@ -13,28 +15,51 @@ pub(crate) fn wrapped_slot(size: usize, slot: usize) -> usize
     if slot < size { slot } else { slot - size }
 }
 
-/// Slots of a byte each.
-#[derive(Drop)]
+/// Slots of a byte each, in memory of their own.
 pub(crate) struct Memory {
-    bytes: Vec<u8>,
+    room: Room,
+    size: usize,
+    lease: Lease<Global>,
+    alloc: Global,
+    ghost is_sized: { size ≡ length room.bytes },
+    ghost is_leased: { IsLeased room size lease alloc },
+}
+
+impl Drop for Memory {
+    fn drop(self) {
+        let Memory {
+            room,
+            size,
+            lease,
+            alloc,
+        } = self;
+        room.free(lease, &alloc, size);
+    }
 }
 
 impl Memory {
     ghost use Rattle.nb_reasm.specs.Memories.{memory_size, memory_byte, IsWritten};
 
+    /// So many slots, none of them written.
     pub(crate) fn new(alloc: Global, size: usize) -> Result<Memory, NoMemory>
-        requires some { 0 < size }
-        requires most { size ≤ 2 ^ 20 }
+        requires { size ≤ 2 ^ 20 }
         ensures { IfOk result (λ m. memory_size m ≡ size) }
     {
-        let bytes = vec![in alloc; 0u8; size]?;
-        Ok(Memory { bytes })
+        let Some((room, lease)) = Room::new(&alloc, size) else {
+            return Err(NoMemory);
+        };
+        Ok(Memory {
+            room,
+            size,
+            lease,
+            alloc,
+        })
     }
 
     pub(crate) fn size(&self) -> usize
         ensures { result ≡ memory_size self.now }
     {
-        self.bytes.len()
+        self.size
     }
 
     /// Copies the bytes into the slots from this one on.
@@ -46,7 +71,7 @@ impl Memory {
         ensures written { (k : ℕ) → k < length bytes.now → IsWritten self.new (slot + k) }
         ensures still { (i : ℕ) → IsWritten self.old i → IsWritten self.new i }
     {
-        self.bytes[slot..slot + bytes.len()].copy_from_slice(bytes);
+        self.room.write(slot, bytes);
     }
 
     /// The bytes of so many slots from this one on.
@@ -56,7 +81,7 @@ impl Memory {
         ensures len { length result.now ≡ len }
         ensures bytes { (k : ℕ) → k < len → slice_index result.now k ≡ memory_byte self.now (slot + k) }
     {
-        &self.bytes[slot..slot + len]
+        self.room.lend(slot, len)
     }
 
     /// Copies the bytes into the slots from this one on, going on at slot 0 after the last one.

@@ -1,4 +1,4 @@
-use Rattle.std.proofs.Common.{ℕ, ◌-◌, Bool, cond, w64, sym, ap, ◌∙◌, arith}
+use Rattle.std.proofs.Common.{◌-◌, Bool, cond, w64, sym, ap, ◌∙◌, arith}
 use Rattle.std.specs.Int.{bit_at}
 use Rattle.std.proofs.lemmas.Nat.Bits.{bit_at_not}
 use Rattle.nb_reasm.proofs.marks.unlike.Goals as goal

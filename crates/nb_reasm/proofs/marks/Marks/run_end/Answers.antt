@@ -1,4 +1,4 @@
-use Rattle.std.proofs.Common.{ℕ, ◌≤◌, arith}
+use Rattle.std.proofs.Common.{arith}
 use Rattle.nb_reasm.proofs.MarkLemmas.{run_first, run_grown}
 use Rattle.nb_reasm.proofs.marks.Marks.run_end.Goals as goal
 

@@ -1,4 +1,4 @@
-use Rattle.std.proofs.Common.{◌≡◌, ℕ, ◌+◌, refl, ap, ◌∙◌, arith}
+use Rattle.std.proofs.Common.{◌≡◌, ℕ, ◌+◌, refl, ap, ◌∙◌}
 use Rattle.nb_reasm.specs.Slots.{wrapped_slot}
 use Rattle.nb_reasm.specs.Rings.{capacity}
 use Rattle.nb_reasm.proofs.AdvanceLemmas.{advances_ring, advances_held}

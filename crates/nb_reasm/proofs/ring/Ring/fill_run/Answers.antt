@@ -1,6 +1,6 @@
-use Rattle.std.proofs.Common.{ℕ, ◌+◌, ◌-◌, min, length, refl, sym, arith}
+use Rattle.std.proofs.Common.{◌+◌, ◌-◌, min, length, refl, sym, arith}
 use Rattle.nb_reasm.specs.Rings.{capacity}
-use Rattle.nb_reasm.proofs.StepLemmas.{run_kept, none_new, all_new, run_filled, run_outside}
+use Rattle.nb_reasm.proofs.StepLemmas.{run_kept, none_new, all_new, run_filled}
 use Rattle.nb_reasm.proofs.ring.Ring.fill_run.Goals as goal
 
 pub returns-then-run-clause-inside : goal.returns-then-run-clause-inside

@@ -1,6 +1,5 @@
-use Rattle.std.proofs.Common.{◌≡◌, ℕ, ◌+◌, ◌≤◌, Bool, true, refl, ap, ◌∙◌, arith}
+use Rattle.std.proofs.Common.{◌+◌, Bool, refl, ap, ◌∙◌, arith}
 use Rattle.nb_reasm.specs.Slots.{mark_of}
-use Rattle.nb_reasm.specs.Rings.{capacity}
 use Rattle.nb_reasm.specs.declared.ring.Ring.{Ring}
 use Rattle.nb_reasm.proofs.RingLemmas.{Joins, joins_joinable, joins_held}
 use Rattle.nb_reasm.proofs.StepLemmas.{RunOf, run_beside, run_mark, not_marked, is_marked}
