@@ -11,8 +11,8 @@ use Rattle.nb_engine.specs.Machine.{Machine, Phase, Path}
 use Rattle.nb_engine.specs.Machine as lone
 use Rattle.nb_engine.specs.GraphSteps.{IsUnderWay}
 use Rattle.nb_machine.specs.Courses.{Standing, Progress, Course}
-use Rattle.nb_machine.specs.Carried.{StandsAs}
-use Rattle.nb_machine.proofs.Runs.{runs_are_courses}
+use Rattle.nb_carried.specs.Carried.{StandsAs}
+use Rattle.nb_carried.proofs.Runs.{runs_are_courses}
 use Rattle.nb_boot.specs.Run.{IsBetween}
 use Rattle.nb_boot.specs.InTurn.{MayGoOn, EndsStep, IsInTurn, NewReads, OfEachRead, AreInTurn}
 use Rattle.nb_boot.specs.Going.{TookTurn}

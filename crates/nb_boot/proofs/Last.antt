@@ -11,7 +11,8 @@ use Rattle.nb_opens.proofs.Plain.{plain_append, plain_behind}
 use Rattle.nb_engine.specs.GraphSteps.{ClosesFirst, ShutsFirst}
 use Rattle.nb_engine.proofs.Growth.{shut_closes}
 use Rattle.nb_engine.proofs.ReplyGrowth.{alone_closes_first}
-use Rattle.nb_engine.specs.Machine.{Machine, Phase, at, fresh, ready, running, waiting, asking, reaching, sleeping, yielded, handing, left, handed_off, stopped, shutdown_records, stopped_cause}
+use Rattle.nb_engine.specs.Machine.{Machine, Phase, at, fresh, ready, running, waiting, asking, reaching, sleeping, yielded, handing, left, handed_off, stopped, shutdown_records}
+use Rattle.nb_machine.specs.CommandRecords.{stopped_cause}
 use Rattle.nb_engine.specs.Seen.{Seen, FitsGraph, IsCastFor, of_one, of_two, of_waited, StandsFor, as_ready, as_running, as_waiting, as_asking, as_reaching, as_sleeping, as_yielded, as_handing, as_left, as_handed_off, as_stopped}
 use Rattle.nb_engine.specs.declared.inquiry.Inquiry.{Inquiry}
 use Rattle.nb_engine.specs.Turns.{closing_records, shut_records, shut_alone, one_shut_events}

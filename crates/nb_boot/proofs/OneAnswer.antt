@@ -21,9 +21,10 @@ use Rattle.nb_stack.proofs.MessageLaws.{message_one}
 use Rattle.nb_defs.specs.Records.{Out, ended}
 use Rattle.nb_engine.specs.declared.world.World.{World}
 use Rattle.nb_engine.specs.World.{unbound}
-use Rattle.nb_engine.specs.Opens.{Open, acts_records, body_of, end_of, with_entry}
-use Rattle.nb_engine.specs.Conclusions.{conclusion_records}
-use Rattle.nb_engine.specs.Running.{Running}
+use Rattle.nb_engine.specs.Opens.{Open, body_of, with_entry}
+use Rattle.nb_machine.specs.Sendings.{acts_records, end_of}
+use Rattle.nb_machine.specs.Conclusions.{conclusion_records}
+use Rattle.nb_machine.specs.Running.{Running}
 use Rattle.nb_engine.specs.Machine.{Phase, waiting, Hears, goes_on, is_over, phase_after, concluded}
 
 -- a fact of the last entry

@@ -8,8 +8,9 @@ use Rattle.nb_engine.specs.declared.world.World.{World}
 use Rattle.nb_engine.specs.World.{with_net, world_later}
 use Rattle.nb_engine.specs.Talks.{Incoming, message_in, time_in, message_for}
 use Rattle.nb_engine.specs.Lones.{Lone}
-use Rattle.nb_engine.specs.Running.{Running, anew}
-use Rattle.nb_engine.specs.Machine.{Machine, Phase, ready, waiting, asking, sleeping, yielded, stopped, at, Begins, runs, refuses, passes_by, brings, passes_time, switches_off, passes_it_by, brings_it, passes_its_time, switches_it_off, sleeps_through_frame, sleeps_on, wakes, goes_off_asleep, goes_on_by_frame, goes_on_by_tick, goes_off, Replies, reply_records, stopped_cause}
+use Rattle.nb_machine.specs.Running.{Running, anew}
+use Rattle.nb_engine.specs.Machine.{Machine, Phase, ready, waiting, asking, sleeping, yielded, stopped, at, Begins, runs, refuses, passes_by, brings, passes_time, switches_off, passes_it_by, brings_it, passes_its_time, switches_it_off, sleeps_through_frame, sleeps_on, wakes, goes_off_asleep, goes_on_by_frame, goes_on_by_tick, goes_off, Replies}
+use Rattle.nb_machine.specs.CommandRecords.{reply_records, stopped_cause}
 use Rattle.nb_boot.proofs.OneAnswer.{takes_one}
 use Rattle.nb_boot.proofs.OneTalk.{replies_one}
 use Rattle.nb_boot.proofs.OneRecord.{BegunOne, same_bytes, same_time}

@@ -7,16 +7,18 @@ use Rattle.nb_defs.specs.Records.{Start, In, start, frame, tick, off, Out, step,
 use Rattle.nb_defs.specs.ScriptLines.{Reading, script, no_script, script_too_long, line_too_long, label_place}
 use Rattle.nb_engine.specs.declared.world.World.{World}
 use Rattle.nb_engine.specs.World.{world_of, with_open, with_ended_open}
-use Rattle.nb_engine.specs.FirstText.{first_reading, text_refusal}
-use Rattle.nb_engine.specs.Running.{Running, Coming, coming, passing, leaving, beginning, first_script, entered, with_result, further, behind_line, no_label}
-use Rattle.nb_engine.specs.Errands.{Wanted, Onward, fetches_now, echoes_now}
-use Rattle.nb_engine.specs.Effects.{full_opens, Effect, says, asks, goes, sleeps, shuts_device, inquires, effect, shown_words}
-use Rattle.nb_engine.specs.Queries.{Query, for_echo}
+use Rattle.nb_machine.specs.FirstText.{first_reading, text_refusal}
+use Rattle.nb_machine.specs.Running.{Running, Coming, coming, passing, leaving, beginning, first_script, entered, with_result, further, behind_line, no_label}
+use Rattle.nb_machine.specs.Errands.{Wanted, Onward, fetches_now, echoes_now}
+use Rattle.nb_machine.specs.Effects.{full_opens, Effect, says, asks, goes, sleeps, shuts_device, inquires, effect, shown_words}
+use Rattle.nb_machine.specs.Queries.{Query, for_echo}
 use Rattle.nb_engine.specs.Talks.{fields_of, first_message}
 use Rattle.nb_engine.specs.Lones.{lone_for, talk_for, open_told, with_lone}
-use Rattle.nb_engine.specs.Opens.{open_for, request_of, has_route, send_records, opened_record, begun_for}
-use Rattle.nb_engine.specs.Conclusions.{fails, conclusion_records}
-use Rattle.nb_engine.specs.Machine.{Machine, Phase, ready, running, waiting, asking, sleeping, reaching, yielded, handing, left, handed_off, stopped, at, fresh, Path, nothing, uses, moves, Begins, runs, refuses, passes_by, brings, passes_time, switches_off, passes_it_by, brings_it, passes_its_time, switches_it_off, sleeps_through_frame, sleeps_on, wakes, goes_off_asleep, goes_on_by_frame, goes_on_by_tick, goes_off, Move, Moves, rests, moves_on, passes, is_left, yields, does, closes_device, leaves, jumps, finds_no_label, falls_asleep, asks_for, finds_no_route, inquires_for, reaches_none, asks_on, finds_no_way, echoes_on, finds_no_way_to, opens_no_more, hands, has_handed, command_record, command_records, no_route, world_after}
+use Rattle.nb_engine.specs.Opens.{open_for, opened_record, begun_for}
+use Rattle.nb_machine.specs.Sendings.{request_of, has_route, send_records}
+use Rattle.nb_machine.specs.Conclusions.{fails, conclusion_records}
+use Rattle.nb_engine.specs.Machine.{Machine, Phase, ready, running, waiting, asking, sleeping, reaching, yielded, handing, left, handed_off, stopped, at, fresh, Path, nothing, uses, moves, Begins, runs, refuses, passes_by, brings, passes_time, switches_off, passes_it_by, brings_it, passes_its_time, switches_it_off, sleeps_through_frame, sleeps_on, wakes, goes_off_asleep, goes_on_by_frame, goes_on_by_tick, goes_off, Move, Moves, rests, moves_on, passes, is_left, yields, does, closes_device, leaves, jumps, finds_no_label, falls_asleep, asks_for, finds_no_route, inquires_for, reaches_none, asks_on, finds_no_way, echoes_on, finds_no_way_to, opens_no_more, hands, has_handed, world_after}
+use Rattle.nb_machine.specs.CommandRecords.{command_record, command_records, no_route}
 use Rattle.nb_boot.specs.Laws.{IsAtRest, SameRun}
 
 -- records, and where they lead

@@ -8,8 +8,9 @@ use Rattle.nb_engine.specs.declared.world.World.{World}
 use Rattle.nb_engine.specs.World.{with_net, world_later}
 use Rattle.nb_engine.specs.Opens.{Open, heard_from}
 use Rattle.nb_defs.specs.Causes.{ok}
-use Rattle.nb_engine.specs.Running.{Running, anew, with_result}
-use Rattle.nb_engine.specs.Machine.{Machine, Phase, ready, running, waiting, asking, sleeping, reaching, yielded, handing, left, handed_off, stopped, at, Begins, runs, refuses, passes_by, brings, passes_time, switches_off, passes_it_by, brings_it, passes_its_time, switches_it_off, sleeps_through_frame, sleeps_on, wakes, goes_off_asleep, goes_on_by_frame, goes_on_by_tick, goes_off, Hears, reply_records, stopped_cause}
+use Rattle.nb_machine.specs.Running.{Running, anew, with_result}
+use Rattle.nb_engine.specs.Machine.{Machine, Phase, ready, running, waiting, asking, sleeping, reaching, yielded, handing, left, handed_off, stopped, at, Begins, runs, refuses, passes_by, brings, passes_time, switches_off, passes_it_by, brings_it, passes_its_time, switches_it_off, sleeps_through_frame, sleeps_on, wakes, goes_off_asleep, goes_on_by_frame, goes_on_by_tick, goes_off, Hears}
+use Rattle.nb_machine.specs.CommandRecords.{reply_records, stopped_cause}
 use Rattle.nb_boot.specs.Run.{Awaits}
 use Rattle.nb_boot.proofs.OneAnswer.{takes_one, hears_one}
 use Rattle.nb_boot.proofs.OneRecord.{BegunOne, same_bytes, same_time}

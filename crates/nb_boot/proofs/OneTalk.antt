@@ -26,11 +26,11 @@ use Rattle.nb_nodes.specs.LeaseExchanges.{handed_in}
 use Rattle.nb_nodes.specs.EchoExchanges.{reply_in}
 use Rattle.nb_engine.specs.declared.world.World.{World}
 use Rattle.nb_engine.specs.Talks.{Talk, looks_up, leases, pings, Incoming, message_in, time_in, TalkGoes, look_up_goes, lease_goes, ping_goes}
-use Rattle.nb_engine.specs.Errands.{Onward}
+use Rattle.nb_machine.specs.Errands.{Onward}
 use Rattle.nb_engine.specs.Lones.{Lone, with_talk, without_lone, onward_from, settled, world_settled}
-use Rattle.nb_engine.specs.Opens.{acts_records}
+use Rattle.nb_machine.specs.Sendings.{acts_records}
 use Rattle.nb_defs.specs.Records.{Out, ended, result}
-use Rattle.nb_engine.specs.Running.{Running, with_result}
+use Rattle.nb_machine.specs.Running.{Running, with_result}
 use Rattle.nb_engine.specs.Machine.{Phase, running, asking, reaching, Replies, talks_on, comes_to_end, finds_host}
 use Rattle.nb_boot.proofs.OneAnswer.{last_said, HeardOne}
 

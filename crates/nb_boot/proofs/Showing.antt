@@ -8,9 +8,9 @@ use Rattle.nb_engine.specs.Machine.{Machine, Phase, shutdown_records}
 use Rattle.nb_engine.specs.Machine as lone
 use Rattle.nb_opens.specs.Graphs.{without_graph}
 use Rattle.nb_machine.specs.Courses.{Standing, Progress, Course}
-use Rattle.nb_machine.specs.Carried.{StandsAs, Carries}
+use Rattle.nb_carried.specs.Carried.{StandsAs, Carries}
 use Rattle.nb_machine.specs.Closings.{Shuts}
-use Rattle.nb_machine.proofs.Runs.{runs_are_courses}
+use Rattle.nb_carried.proofs.Runs.{runs_are_courses}
 use Rattle.nb_boot.specs.Run.{Awaits, IsBadRest, Ends, Closes, Run, IsOver, Says, Shows}
 use Rattle.nb_boot.specs.Run as run
 use Rattle.nb_boot.specs.Shown.{CommandWaits, NoneMayCome, EndsWhere, was_left, was_handed, was_stopped, ran_out, was_bad, was_full, ClosedBy, goes_on, has_ended, Shown, HasEnded, IsSaid, ShowsCourse}

@@ -1,20 +1,21 @@
 -- What closes a run of the engine's machine closes its course.
 use Rattle.std.proofs.Common.{◌≡◌, List, [], ◌∷◌, ◌++◌, Some, None, cond, refl, sym, ap, subst}
 use Rattle.nb_defs.specs.Records.{In, Out, ended}
-use Rattle.nb_engine.specs.Machine.{Machine, Phase, Path, shutdown_records, stopped_cause}
+use Rattle.nb_engine.specs.Machine.{Machine, Phase, Path, shutdown_records}
+use Rattle.nb_machine.specs.CommandRecords.{stopped_cause}
 use Rattle.nb_engine.specs.Machine as lone
-use Rattle.nb_laws.specs.Agreement.{bare, AgreesPhase}
+use Rattle.nb_machine.specs.States.{bare, State}
+use Rattle.nb_laws.specs.Agreement.{AgreesPhase}
 use Rattle.nb_laws.proofs.Runs.{run_tells}
 use Rattle.nb_laws.proofs.Tellings.{same_number}
 use Rattle.nb_machine.specs.Lives.{close, exchange, Live}
 use Rattle.nb_machine.specs.Transfers.{closes}
-use Rattle.nb_machine.specs.States.{State}
 use Rattle.nb_machine.specs.Takings.{AllTake, all_have, is_over}
 use Rattle.nb_machine.specs.Courses.{Standing}
 use Rattle.nb_machine.specs.Closings.{AllClose, Shuts}
-use Rattle.nb_machine.specs.Carried.{live_of, live_alone, Lives, StandsAs}
-use Rattle.nb_machine.proofs.Heard.{keeps_now}
-use Rattle.nb_machine.proofs.Talked.{talked_closed, is_kept}
+use Rattle.nb_carried.specs.Carried.{live_of, live_alone, Lives, StandsAs}
+use Rattle.nb_carried.proofs.Heard.{keeps_now}
+use Rattle.nb_carried.proofs.Talked.{talked_closed, is_kept}
 
 none_close : (s : State) → s.live ≡ [] → AllClose s []
 none_close s none = ([], subst (λ (ls : List Live). AllTake s.devices (close stopped_cause) ls [] [] []) (sym none) all_have)

@@ -3,7 +3,8 @@ use Rattle.std.specs.Prelude.{◌≡◌, ℕ, ◌<◌, ◌≤◌, List, [], ◌�
 use Rattle.nb_defs.specs.Records.{Start, In, start, IsIn, in_texts, Out}
 use Rattle.nb_record.specs.Outside.{Outside, Rose}
 use Rattle.nb_boot.specs.Run.{IsOther}
-use Rattle.nb_engine.specs.Machine.{Machine, Phase, ready, running, waiting, asking, sleeping, reaching, yielded, handing, left, handed_off, stopped, Path, status_of}
+use Rattle.nb_engine.specs.Machine.{Machine, Phase, ready, running, waiting, asking, sleeping, reaching, yielded, handing, left, handed_off, stopped, Path}
+use Rattle.nb_machine.specs.CommandRecords.{status_of}
 use Rattle.nb_engine.specs.StatusNumber.{status_number}
 use Rattle.nb_engine.specs.declared.status.Status.{Status}
 use Rattle.nb_engine.specs.declared.status.Status.TheVariants as status

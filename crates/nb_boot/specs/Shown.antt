@@ -2,7 +2,7 @@
 use Rattle.std.specs.Prelude.{◌≡◌, ℕ, ◌<◌, ◌≤◌, ◌⊎◌, List, [], ◌∷◌, ◌++◌, length}
 use Rattle.nb_terms.specs.declared.cause.Cause.{Cause}
 use Rattle.nb_defs.specs.Records.{In, in_texts, IsPartial, IsBroken, Out, out_texts, done}
-use Rattle.nb_engine.specs.Machine.{status_of}
+use Rattle.nb_machine.specs.CommandRecords.{status_of}
 use Rattle.nb_opens.specs.Graphs.{Graphs, GraphAt, bare, without_graph}
 use Rattle.nb_opens.specs.Traces.{AreTraced}
 use Rattle.nb_record.specs.Outside.{Outside, Passes, Rose, IsAtEnd}

@@ -18,13 +18,16 @@ use Rattle.nb_stack.specs.Sends.{put_on, way_of}
 use Rattle.nb_engine.specs.declared.world.World.{World}
 use Rattle.nb_engine.specs.declared.fetch.Fetch.{Fetch}
 use Rattle.nb_engine.specs.declared.stage.Stage.TheVariants as stage
-use Rattle.nb_engine.specs.World.{own_port, with_open, with_ended_open}
-use Rattle.nb_engine.specs.Errands.{Wanted}
-use Rattle.nb_engine.specs.Effects.{asks, effect, words_effect, shown_words, shown_as}
-use Rattle.nb_engine.specs.Opens.{open_for, begun_for, request_of, has_route, try_records, send_records, opened_record}
-use Rattle.nb_engine.specs.Conclusions.{fails, conclusion_records}
-use Rattle.nb_engine.specs.Running.{Running, entered, further}
-use Rattle.nb_engine.specs.Machine.{at, running, waiting, Moves, asks_for, finds_no_route, command_record, no_route}
+use Rattle.nb_machine.specs.Starting.{own_port}
+use Rattle.nb_engine.specs.World.{with_open, with_ended_open}
+use Rattle.nb_machine.specs.Errands.{Wanted}
+use Rattle.nb_machine.specs.Effects.{asks, effect, words_effect, shown_words, shown_as}
+use Rattle.nb_engine.specs.Opens.{open_for, begun_for, opened_record}
+use Rattle.nb_machine.specs.Sendings.{request_of, has_route, try_records, send_records}
+use Rattle.nb_machine.specs.Conclusions.{fails, conclusion_records}
+use Rattle.nb_machine.specs.Running.{Running, entered, further}
+use Rattle.nb_engine.specs.Machine.{at, running, waiting, Moves, asks_for, finds_no_route}
+use Rattle.nb_machine.specs.CommandRecords.{command_record, no_route}
 use Rattle.nb_engine.specs.NextCommand.{HasCommand}
 use Rattle.nb_engine.specs.Tellings.{told_records}
 use Rattle.nb_engine.specs.Fetches.{IsLive, fetch_for, speaker_of}

@@ -27,7 +27,8 @@ use Rattle.nb_engine.specs.Inquiries.{company_of, IsInquiryOf, IsLiveLone, IsInq
 use Rattle.nb_engine.specs.GraphSteps.{way_of_incoming}
 use Rattle.nb_engine.specs.Lones.{Lone}
 use Rattle.nb_engine.specs.Replying.{HasBrought, WasBrought}
-use Rattle.nb_engine.specs.Talks.{Talk, looks_up, leases, pings, Incoming, message_for, counts_for, datagram_from, port_of}
+use Rattle.nb_engine.specs.Talks.{Talk, looks_up, leases, pings, Incoming, message_for, counts_for, port_of}
+use Rattle.nb_machine.specs.Saying.{datagram_from}
 use Rattle.nb_engine.specs.Tellings.{carrier_number}
 use Rattle.nb_engine.proofs.SpellingLemmas.{spelled_is, spelled_close}
 use Rattle.nb_engine.proofs.ReplyingLemmas.{company_stays}

@@ -24,7 +24,7 @@ use Rattle.nb_opens.specs.Graphs.{Graphs, GraphAt, bare, holding, pair, passes a
 use Rattle.nb_opens.specs.PairEvents.{call_front, up_events, end_events, call_back, passed_events, late_events, large_front, large_back, freed_events}
 use Rattle.nb_opens.specs.Notices.{tells, or_else, first_close, sent_from, down_notices, up_notices, end_notices, call_notices, passed_on, closed_late, large_notices, freed_notices}
 use Rattle.nb_stack.specs.Client.{Client}
-use Rattle.nb_engine.specs.Opens.{acts_records}
+use Rattle.nb_machine.specs.Sendings.{acts_records}
 use Rattle.nb_engine.specs.declared.speaker.Speaker.{Speaker}
 use Rattle.nb_engine.specs.Tellings.{told_records}
 use Rattle.nb_engine.proofs.SpellingLemmas.{first_close-append}

@@ -1,15 +1,14 @@
 -- What a script comes to next, case by case.
-use Rattle.std.specs.Prelude.{IfSome, IfOk}
+use Rattle.std.specs.Prelude.{IfSome, IfOk, slice_index_or, All}
 use Rattle.std.proofs.lemmas.List.Quantifiers.{position-Some}
 use Rattle.std.proofs.Common.{◌≡◌, ℕ, ◌<◌, ◌≤◌, ◌==◌, length, true, false, cond, List, [], ◌∷◌, Option, Some, None, Result, Ok, Err, slice_get, drop, arith, refl, sym, ◌∙◌, ap, subst}
-use Rattle.std.specs.Prelude.{slice_index_or, All}
 use Rattle.nb_defs.specs.Causes.{is_ok_cause}
 use Rattle.nb_defs.specs.ScriptLines.{Item, Line, label, list, empty, items, label_place, is_label_of}
 use Rattle.nb_script.specs.declared.item.Item.{Item as ItemHeld}
 use Rattle.nb_script.specs.Shown.{FitList, IsSmallItem}
-use Rattle.nb_engine.specs.Running.{Running, coming, passing, leaving, beginning, rest_comes, line_comes, list_comes, words_come, lets_run, behind_command, onto_line}
+use Rattle.nb_machine.specs.Running.{Running, coming, passing, leaving, beginning, rest_comes, line_comes, list_comes, words_come, lets_run, behind_command, onto_line}
 use Rattle.nb_settings.specs.Tables.{TableLists}
-use Rattle.nb_engine.specs.Effects.{expansion}
+use Rattle.nb_machine.specs.Effects.{expansion}
 use Rattle.nb_engine.specs.declared.running.Next.{Next}
 use Rattle.nb_engine.specs.declared.running.Next.TheVariants as next
 use Rattle.nb_engine.specs.NextCommand.{IsReady, IsExpansion, IsNext, list_of}

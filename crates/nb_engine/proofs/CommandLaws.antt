@@ -30,13 +30,13 @@ use Rattle.nb_stack.specs.declared.address.Addr.{Addr}
 use Rattle.nb_stack.specs.Client.{Client}
 use Rattle.nb_engine.specs.declared.world.World.{World}
 use Rattle.nb_engine.specs.World.{IsLinked, state_of, world_with}
-use Rattle.nb_engine.specs.Queries.{Query, for_lease}
-pub use Rattle.nb_engine.proofs.Eithers.{fetch_either}
-use Rattle.nb_engine.proofs.Eithers.{full_either, pinged_either, looked_up_either}
-use Rattle.nb_engine.specs.Effects.{fetch, Effect, says, asks, goes, sleeps, shuts_device, inquires, unless_full, sleeping_for, device_effect, plan_effect, plan_table, plan_up, set_up, planned_effect, planned_table, planned_up, words_effect, words_table, words_up, expansion, expanded_effect, expanded_table, expanded_up, expand_cause, effect, table_after, up_after, shown_words, shown_by, shown_as, truth_outcome, text_told, change_outcome, changed, plan_cause}
+use Rattle.nb_machine.specs.Queries.{Query, for_lease}
+pub use Rattle.nb_machine.proofs.Eithers.{fetch_either}
+use Rattle.nb_machine.proofs.Eithers.{full_either, pinged_either, looked_up_either}
+use Rattle.nb_machine.specs.Effects.{fetch, Effect, says, asks, goes, sleeps, shuts_device, inquires, unless_full, sleeping_for, device_effect, plan_effect, plan_table, plan_up, set_up, planned_effect, planned_table, planned_up, words_effect, words_table, words_up, expansion, expanded_effect, expanded_table, expanded_up, expand_cause, effect, table_after, up_after, shown_words, shown_by, shown_as, truth_outcome, text_told, change_outcome, changed, plan_cause}
 use Rattle.nb_engine.specs.CommandWords.{IsLocal, IsLocalOutcome, outcome_effect, deed_effect}
 use Rattle.nb_engine.specs.declared.command.Deed.{Deed}
-use Rattle.nb_engine.specs.Running.{Running}
+use Rattle.nb_machine.specs.Running.{Running}
 use Rattle.nb_engine.specs.NextCommand.{HasCommand, HasRefused}
 use Rattle.nb_engine.specs.Advance.{EndsAtOnce, HasCarriedOut}
 use Rattle.nb_engine.specs.Seen.{Seen}

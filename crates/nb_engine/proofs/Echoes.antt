@@ -22,15 +22,16 @@ use Rattle.nb_engine.specs.declared.speaker.Speaker.{Speaker}
 use Rattle.nb_engine.specs.declared.stage.Stage.TheVariants as stage
 use Rattle.nb_engine.specs.declared.world.World.{World}
 use Rattle.nb_engine.specs.CommandWords.{onward_of}
-use Rattle.nb_engine.specs.Errands.{echoes_now}
+use Rattle.nb_machine.specs.Errands.{echoes_now}
 use Rattle.nb_engine.specs.Inquiries.{query_of, talker_of, opening_acts, IsLiveLone, IsWaiterOf, TalksAs}
 use Rattle.nb_engine.specs.Inquiring.{IsNextInquiry}
 use Rattle.nb_engine.specs.Lones.{talk_for, lone_for, open_told, with_lone}
-use Rattle.nb_engine.specs.Machine.{at, running, reaching, asking, echoes_on, finds_no_way_to, no_route}
-use Rattle.nb_engine.specs.Opens.{has_route, send_records}
-use Rattle.nb_engine.specs.Queries.{for_echo}
+use Rattle.nb_engine.specs.Machine.{at, running, reaching, asking, echoes_on, finds_no_way_to}
+use Rattle.nb_machine.specs.CommandRecords.{no_route}
+use Rattle.nb_machine.specs.Sendings.{has_route, send_records}
+use Rattle.nb_machine.specs.Queries.{for_echo}
 use Rattle.nb_engine.specs.Reaching.{PutsEcho}
-use Rattle.nb_engine.specs.Running.{Running, with_result}
+use Rattle.nb_machine.specs.Running.{Running, with_result}
 use Rattle.nb_engine.specs.Seen.{seen, KeepsOrder, as_running, as_asking, IsCastFor, of_waited}
 use Rattle.nb_engine.specs.Talks.{fields_of, first_message}
 use Rattle.nb_engine.specs.Tellings.{told_records}

@@ -18,9 +18,10 @@ use Rattle.nb_engine.specs.declared.client.Turn.{Turn}
 use Rattle.nb_engine.specs.declared.client.Turn.TheVariants as turn
 use Rattle.nb_engine.specs.World.{world_of, with_net, world_later}
 use Rattle.nb_engine.specs.Opens.{Open, heard_from}
-use Rattle.nb_engine.specs.FirstText.{first_reading, text_refusal, long_script, long_line}
-use Rattle.nb_engine.specs.Running.{Running, first_script, anew, with_result}
-use Rattle.nb_engine.specs.Machine.{Machine, at, ready, running, waiting, sleeping, yielded, left, stopped, Begins, runs, refuses, passes_by, brings, passes_time, switches_off, goes_on_by_frame, goes_on_by_tick, goes_off, sleeps_through_frame, sleeps_on, wakes, goes_off_asleep, reply_records, stopped_cause, status_of}
+use Rattle.nb_machine.specs.FirstText.{first_reading, text_refusal, long_script, long_line}
+use Rattle.nb_machine.specs.Running.{Running, first_script, anew, with_result}
+use Rattle.nb_engine.specs.Machine.{Machine, at, ready, running, waiting, sleeping, yielded, left, stopped, Begins, runs, refuses, passes_by, brings, passes_time, switches_off, goes_on_by_frame, goes_on_by_tick, goes_off, sleeps_through_frame, sleeps_on, wakes, goes_off_asleep}
+use Rattle.nb_machine.specs.CommandRecords.{reply_records, stopped_cause, status_of}
 use Rattle.nb_engine.specs.GraphSteps.{enters, shuts, stays_still, ClosesFirst, by_frame_for_others, by_frame, by_tick, by_off}
 use Rattle.nb_ledger.specs.declared.event.Way.TheVariants as way
 use Rattle.nb_graph.specs.Whole.{Objects, port_at}

@@ -11,7 +11,7 @@ use Rattle.nb_image.specs.Images.{ImageList, put_image, image_place, with_image}
 use Rattle.nb_image.specs.Parts.{PartText, PieceText, parts, kernel_parts, initrd_parts, others_parts, part_pieces, piece_count}
 use Rattle.nb_image.proofs.PartsLemmas.{piece_is, pieces_length}
 use Rattle.nb_engine.specs.declared.handing.Handing.{Handing}
-use Rattle.nb_engine.specs.Conclusions.{part_records, piece_record}
+use Rattle.nb_machine.specs.Conclusions.{part_records, piece_record}
 use Rattle.nb_engine.specs.Handings.{IsShort, AreShort, IsAt}
 
 -- of all elements of both lists, and of an element

@@ -31,11 +31,12 @@ use Rattle.nb_engine.specs.declared.status.Status.TheVariants as status
 use Rattle.nb_engine.specs.declared.client.Turn.{Turn}
 use Rattle.nb_engine.specs.declared.client.Turn.TheVariants as turn
 use Rattle.nb_engine.specs.World.{unbound, world_with_images}
-use Rattle.nb_engine.specs.Opens.{Open, with_entry, body_of, end_of, is_over_limit, acts_records, too_large_image}
-use Rattle.nb_engine.specs.Conclusions.{Conclusion, conclusion, conclusion_records, image_from, fails, keeps, boots}
+use Rattle.nb_engine.specs.Opens.{Open, with_entry, body_of, image_from}
+use Rattle.nb_machine.specs.Sendings.{end_of, is_over_limit, acts_records, too_large_image}
+use Rattle.nb_machine.specs.Conclusions.{Conclusion, conclusion, conclusion_records, fails, keeps, boots}
 use Rattle.nb_engine.specs.GraphSteps.{EntersFirst}
 use Rattle.nb_engine.proofs.Enterings.{call_enters, enters_more, enters_told_more}
-use Rattle.nb_engine.specs.Running.{Running, with_result}
+use Rattle.nb_machine.specs.Running.{Running, with_result}
 use Rattle.nb_engine.specs.Machine.{Phase, Hears, goes_on, is_over, waiting, at, phase_after, concluded, running}
 use Rattle.nb_engine.specs.declared.conclusion.Conclusion.{Conclusion as Concluded}
 use Rattle.nb_engine.specs.declared.conclusion.Conclusion.TheVariants as concluded

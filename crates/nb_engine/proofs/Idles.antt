@@ -5,7 +5,7 @@ use Rattle.std.specs.List.{list_all}
 use Rattle.std.proofs.lemmas.Option.{slice_get-get_or}
 use Rattle.nb_defs.specs.Causes.{ok, is_ok_cause}
 use Rattle.nb_defs.specs.ScriptLines.{Line, label, list, empty, Join, first_join, and_join, or_join, then_join, Item, items, is_or_join, is_no_word, has_no_words, is_idle_item, is_idle_list, is_idle_cut, is_idle_line}
-use Rattle.nb_engine.specs.Running.{Running, PassesOn, here, further_on, coming, passing, lets_run, onto_line, behind_lines, behind_command, with_result, list_comes, line_comes}
+use Rattle.nb_machine.specs.Running.{Running, PassesOn, here, further_on, coming, passing, lets_run, onto_line, behind_lines, behind_command, with_result, list_comes, line_comes}
 use Rattle.nb_engine.specs.Steps.{moves_in}
 use Rattle.nb_engine.proofs.Comings.{between_lists, passes_command, runs_command}
 

@@ -24,14 +24,15 @@ use Rattle.nb_engine.specs.declared.speaker.Speaker.{Speaker}
 use Rattle.nb_engine.specs.declared.stage.Stage.{Stage}
 use Rattle.nb_engine.specs.declared.stage.Stage.TheVariants as stage
 use Rattle.nb_engine.specs.declared.world.World.{World}
-use Rattle.nb_engine.specs.Effects.{effect, inquires, shown_words, shown_as}
+use Rattle.nb_machine.specs.Effects.{effect, inquires, shown_words, shown_as}
 use Rattle.nb_engine.specs.Inquiries.{query_of, talker_of, carrier_of, kind_of_talk, kind_of_query, opening_acts, talk_of, made_beside, CanBegin, IsAskedBy, IsBackedBy, IsNextObject, IsLiveLone, TalksAs}
 use Rattle.nb_engine.specs.Inquiring.{CanAsk, HasIntended, IsNextInquiry, PutsInquiry}
 use Rattle.nb_engine.specs.Lones.{talk_for, lone_for, open_told, with_lone}
-use Rattle.nb_engine.specs.Machine.{at, running, asking, Move, Moves, inquires_for, command_record, world_after}
-use Rattle.nb_engine.specs.Opens.{has_route, send_records}
-use Rattle.nb_engine.specs.Queries.{Query, for_lease, for_echo, for_address, for_host}
-use Rattle.nb_engine.specs.Running.{Running, coming, beginning, entered}
+use Rattle.nb_engine.specs.Machine.{at, running, asking, Move, Moves, inquires_for, world_after}
+use Rattle.nb_machine.specs.CommandRecords.{command_record}
+use Rattle.nb_machine.specs.Sendings.{has_route, send_records}
+use Rattle.nb_machine.specs.Queries.{Query, for_lease, for_echo, for_address, for_host}
+use Rattle.nb_machine.specs.Running.{Running, coming, beginning, entered}
 use Rattle.nb_engine.specs.Seen.{Seen, seen, IsSound, KeepsOrder, as_asking}
 use Rattle.nb_engine.specs.Talks.{Talk, looks_up, leases, pings, fields_of, proto_of, first_message}
 use Rattle.nb_engine.specs.Tellings.{carrier_number, told_records}

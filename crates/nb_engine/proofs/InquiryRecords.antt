@@ -16,14 +16,14 @@ use Rattle.nb_opens.specs.Notices.{tells, sent_from}
 use Rattle.nb_stack.specs.Client.{Client}
 use Rattle.nb_stack.specs.Sends.{put_on, way_of}
 use Rattle.nb_engine.specs.declared.world.World.{World}
-use Rattle.nb_engine.specs.Effects.{shown_as}
+use Rattle.nb_machine.specs.Effects.{shown_as}
 use Rattle.nb_engine.specs.Inquiries.{talker_of, kind_of_talk, opening_acts}
 use Rattle.nb_engine.specs.Inquiring.{HasIntended}
 use Rattle.nb_engine.specs.Lones.{open_told}
-use Rattle.nb_engine.specs.Machine.{command_record}
-use Rattle.nb_engine.specs.Opens.{has_route, try_records, send_records}
-use Rattle.nb_engine.specs.Queries.{Query}
-use Rattle.nb_engine.specs.Running.{Running}
+use Rattle.nb_machine.specs.CommandRecords.{command_record}
+use Rattle.nb_machine.specs.Sendings.{has_route, try_records, send_records}
+use Rattle.nb_machine.specs.Queries.{Query}
+use Rattle.nb_machine.specs.Running.{Running}
 use Rattle.nb_engine.specs.Seen.{Seen}
 use Rattle.nb_engine.specs.Talks.{Talk, looks_up, leases, pings, fields_of, first_message}
 use Rattle.nb_engine.specs.Tellings.{datagram_of, told_records}

@@ -19,14 +19,15 @@ use Rattle.nb_engine.specs.declared.speaker.Speaker.{Speaker}
 use Rattle.nb_engine.specs.declared.stage.Stage.TheVariants as stage
 use Rattle.nb_engine.specs.declared.status.Status.TheVariants as status
 use Rattle.nb_engine.specs.declared.world.World.{World}
-use Rattle.nb_engine.specs.Effects.{effect, inquires, shown_words, shown_as}
+use Rattle.nb_machine.specs.Effects.{effect, inquires, shown_words, shown_as}
 use Rattle.nb_engine.specs.Inquiries.{query_of, talker_of, kind_of_talk, opening_acts, made_beside, beside_freed_events, IsBackedBy, IsNextObject}
 use Rattle.nb_engine.specs.Inquiring.{HasIntended, IsNextInquiry, PutsInquiry, TurnsInquiryBack}
 use Rattle.nb_engine.specs.Lones.{talk_for, open_told}
-use Rattle.nb_engine.specs.Machine.{at, running, Move, Moves, reaches_none, command_record, no_route, world_after}
-use Rattle.nb_engine.specs.Opens.{has_route, send_records}
-use Rattle.nb_engine.specs.Queries.{Query}
-use Rattle.nb_engine.specs.Running.{Running, coming, beginning, further}
+use Rattle.nb_engine.specs.Machine.{at, running, Move, Moves, reaches_none, world_after}
+use Rattle.nb_machine.specs.CommandRecords.{command_record, no_route}
+use Rattle.nb_machine.specs.Sendings.{has_route, send_records}
+use Rattle.nb_machine.specs.Queries.{Query}
+use Rattle.nb_machine.specs.Running.{Running, coming, beginning, further}
 use Rattle.nb_engine.specs.Seen.{Seen, seen, KeepsOrder, as_running}
 use Rattle.nb_engine.specs.Steps.{moves_in}
 use Rattle.nb_engine.specs.Talks.{Talk, fields_of, first_message}

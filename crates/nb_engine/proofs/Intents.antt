@@ -16,15 +16,15 @@ use Rattle.nb_command.specs.Planning.{planned}
 use Rattle.nb_engine.specs.declared.world.World.{World}
 use Rattle.nb_engine.specs.CommandWords.{IsForLease, IsForInquiry}
 use Rattle.nb_settings.specs.Tables.{TableLists}
-use Rattle.nb_engine.specs.Errands.{Wanted}
-use Rattle.nb_engine.specs.Effects.{Effect, says, asks, goes, sleeps, shuts_device, inquires, words_effect, words_table, words_up, device_effect, plan_effect, plan_table, plan_up, set_up, unless_full, table_after}
+use Rattle.nb_machine.specs.Errands.{Wanted}
+use Rattle.nb_machine.specs.Effects.{Effect, says, asks, goes, sleeps, shuts_device, inquires, words_effect, words_table, words_up, device_effect, plan_effect, plan_table, plan_up, set_up, unless_full, table_after}
 use Rattle.nb_engine.specs.Inquiring.{HasIntended}
 use Rattle.nb_engine.specs.NextCommand.{HasCommand}
-use Rattle.nb_engine.specs.Running.{Running}
+use Rattle.nb_machine.specs.Running.{Running}
 use Rattle.nb_engine.specs.Seen.{Seen}
-use Rattle.nb_engine.specs.Queries.{Query, for_lease}
+use Rattle.nb_machine.specs.Queries.{Query, for_lease}
 use Rattle.nb_engine.specs.World.{state_of, world_with, IsLinked}
-use Rattle.nb_engine.proofs.Eithers.{full_either, pinged_either, looked_up_either}
+use Rattle.nb_machine.proofs.Eithers.{full_either, pinged_either, looked_up_either}
 use Rattle.nb_engine.proofs.CommandLaws.{world_stays, IsRefusedSo, Answered, same_outcome, same_cause, effect_of_words, effect_of_plan, shown_of_words, table_of_words, table_of_plan, up_of_words, up_of_plan}
 
 -- a command that asks for a lease has set the device up

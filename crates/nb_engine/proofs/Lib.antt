@@ -15,7 +15,6 @@ pub mod BeginLemmas
 pub mod Growth
 pub mod Measures
 pub mod Comings
-pub mod Eithers
 pub mod CommandLaws
 pub mod Idles
 pub mod Moves

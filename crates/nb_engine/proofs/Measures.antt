@@ -2,7 +2,7 @@
 use Rattle.std.proofs.Common.{◌≡◌, ℕ, ◌+◌, ◌-◌, ◌*◌, ◌<◌, ◌≤◌, List, [], length, ◌∙◌, ap, arith, length-drop}
 use Rattle.nb_terms.specs.declared.cause.Cause.{Cause}
 use Rattle.nb_defs.specs.ScriptLines.{Item}
-use Rattle.nb_engine.specs.Running.{Running, onto_line, behind_command, further, behind_line}
+use Rattle.nb_machine.specs.Running.{Running, onto_line, behind_command, further, behind_line}
 use Rattle.nb_engine.specs.Steps.{moves_in, moves_between}
 
 -- one command fewer leaves one stretch of moves fewer

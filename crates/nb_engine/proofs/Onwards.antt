@@ -21,14 +21,16 @@ use Rattle.nb_engine.specs.declared.prepared.Prepared.{Prepared}
 use Rattle.nb_engine.specs.declared.stage.Stage.TheVariants as stage
 use Rattle.nb_engine.specs.declared.world.World.{World}
 use Rattle.nb_engine.specs.CommandWords.{onward_of}
-use Rattle.nb_engine.specs.Effects.{full_opens}
-use Rattle.nb_engine.specs.Errands.{Wanted, Onward, fetches_now}
+use Rattle.nb_machine.specs.Effects.{full_opens}
+use Rattle.nb_machine.specs.Errands.{Wanted, Onward, fetches_now}
 use Rattle.nb_engine.specs.Fetches.{IsLive, speaker_of}
 use Rattle.nb_engine.specs.Inquiries.{IsWaiterOf}
-use Rattle.nb_engine.specs.Machine.{at, running, reaching, waiting, Machine, asks_on, finds_no_way, opens_no_more, no_route}
-use Rattle.nb_engine.specs.Opens.{open_for, begun_for, request_of, has_route, send_records, opened_record}
+use Rattle.nb_engine.specs.Machine.{at, running, reaching, waiting, Machine, asks_on, finds_no_way, opens_no_more}
+use Rattle.nb_machine.specs.CommandRecords.{no_route}
+use Rattle.nb_engine.specs.Opens.{open_for, begun_for, opened_record}
+use Rattle.nb_machine.specs.Sendings.{request_of, has_route, send_records}
 use Rattle.nb_engine.specs.Reaching.{PutsNext}
-use Rattle.nb_engine.specs.Running.{Running, with_result}
+use Rattle.nb_machine.specs.Running.{Running, with_result}
 use Rattle.nb_engine.specs.Seen.{seen, StandsFor, KeepsOrder, as_running, as_waiting}
 use Rattle.nb_engine.specs.Steps.{moves_in}
 use Rattle.nb_engine.specs.Turns.{Grows}

@@ -24,18 +24,19 @@ use Rattle.nb_engine.specs.declared.stage.Stage.TheVariants as stage
 use Rattle.nb_engine.specs.declared.status.Status.TheVariants as status
 use Rattle.nb_engine.specs.declared.world.World.{World}
 use Rattle.nb_engine.specs.Inquiries.{IsInquiryOf, TalkDoes, asks_on, comes_to_end, runs_out, query_of, company_of, talker_of, beside_freed_events}
-use Rattle.nb_engine.specs.Lones.{Lone, without_lone, settled, world_settled, Settled, onward_from}
+use Rattle.nb_engine.specs.Lones.{Lone, without_lone, settled, world_settled, onward_from}
+use Rattle.nb_machine.specs.Findings.{Settled}
 use Rattle.nb_engine.specs.CommandWords.{onward_of}
-use Rattle.nb_engine.specs.Errands.{Onward}
+use Rattle.nb_machine.specs.Errands.{Onward}
 use Rattle.nb_engine.specs.declared.prepared.Prepared.{Prepared}
 use Rattle.nb_engine.specs.Deliveries.{delivered_address}
 use Rattle.nb_engine.specs.Machine.{Phase, Replies, comes_to_end as ends_it, finds_host, running, reaching, at}
 use Rattle.nb_engine.specs.Spelling.{Spelling, HasSpelled, IsSpelled}
-use Rattle.nb_engine.specs.Opens.{acts_records}
+use Rattle.nb_machine.specs.Sendings.{acts_records}
 use Rattle.nb_engine.specs.Replying.{HasReplied, RepliesAs, HasBrought, WasBrought, IsBrought, DeliversMessage, HasEndedInquiry, HasFoundHost, EndsAs, EndsInquiry, over_told, end_told, settled_so, onward_by, silent}
 use Rattle.nb_engine.specs.GraphSteps.{EntersFirst, way_of_incoming}
 use Rattle.nb_engine.proofs.Enterings.{talk_enters, enters_more, enters_told_more}
-use Rattle.nb_engine.specs.Running.{Running, with_result}
+use Rattle.nb_machine.specs.Running.{Running, with_result}
 use Rattle.nb_engine.specs.Seen.{Seen, seen, StandsFor, as_running, as_reaching, KeepsOrder, FitsAt}
 use Rattle.nb_engine.specs.Talks.{Talk, looks_up, leases, pings, Incoming, TalkGoes}
 use Rattle.nb_engine.specs.Tellings.{told_records}

@@ -23,9 +23,10 @@ use Rattle.nb_engine.specs.declared.status.Status.TheVariants as status
 use Rattle.nb_engine.specs.declared.world.World.{World}
 use Rattle.nb_engine.specs.Inquiries.{IsInquiryOf}
 use Rattle.nb_engine.specs.Lones.{Lone}
-use Rattle.nb_engine.specs.Machine.{Begins, passes_it_by, brings_it, passes_its_time, switches_it_off, asking, at, stopped, reply_records, stopped_cause}
+use Rattle.nb_engine.specs.Machine.{Begins, passes_it_by, brings_it, passes_its_time, switches_it_off, asking, at, stopped}
+use Rattle.nb_machine.specs.CommandRecords.{reply_records, stopped_cause}
 use Rattle.nb_engine.specs.Replying.{HasReplied, RepliesAs, ComesFor}
-use Rattle.nb_engine.specs.Running.{Running, anew}
+use Rattle.nb_machine.specs.Running.{Running, anew}
 use Rattle.nb_engine.specs.Seen.{Seen, seen, FitsAt, as_asking, as_stopped}
 use Rattle.nb_engine.specs.Talks.{Incoming, message_for, message_in, time_in}
 use Rattle.nb_engine.specs.Turns.{Grows, AnswersTurn, shut_alone, one_shut_events}

@@ -23,11 +23,11 @@ use Rattle.nb_engine.specs.declared.world.World.{World}
 use Rattle.nb_engine.specs.Inquiries.{IsInquiryOf, IsLiveLone, IsInquiring, TalkDoes, asks_on, comes_to_end, runs_out, company_of, talker_of}
 use Rattle.nb_engine.specs.Lones.{Lone, with_talk}
 use Rattle.nb_engine.specs.Machine.{Phase, Replies, talks_on, asking, at}
-use Rattle.nb_engine.specs.Opens.{acts_records}
+use Rattle.nb_machine.specs.Sendings.{acts_records}
 use Rattle.nb_engine.specs.Replying.{HasReplied, HasBrought, WasBrought, IsBrought}
 use Rattle.nb_engine.specs.GraphSteps.{EntersFirst}
 use Rattle.nb_engine.proofs.Enterings.{talk_enters}
-use Rattle.nb_engine.specs.Running.{Running}
+use Rattle.nb_machine.specs.Running.{Running}
 use Rattle.nb_engine.specs.Seen.{seen, StandsFor, as_asking, IsSound, KeepsOrder}
 use Rattle.nb_engine.specs.Talks.{Talk, Incoming, TalkGoes}
 use Rattle.nb_engine.specs.Tellings.{told_records}

@@ -2,7 +2,7 @@
 use Rattle.std.proofs.Common.{◌≡◌, true, refl}
 use Rattle.nb_stack.specs.declared.taken.Fate.{Fate}
 use Rattle.nb_stack.specs.declared.taken.Fate.TheVariants as fate
-use Rattle.nb_engine.specs.Opens.{is_on_its_way}
+use Rattle.nb_machine.specs.Sendings.{is_on_its_way}
 
 pub on_its_way : (f : Fate) → (f ≡ fate.NoRoute → ⊥) → is_on_its_way f ≡ true
 on_its_way fate.Sent sent = refl

@@ -28,9 +28,10 @@ use Rattle.nb_engine.specs.declared.inquiry.Query.{Query as Asked}
 use Rattle.nb_engine.specs.declared.inquiry.Query.TheVariants as asked
 use Rattle.nb_engine.specs.CommandWords.{errand_of}
 use Rattle.nb_engine.specs.Inquiries.{query_of, Delivers, IsAskedBy}
-use Rattle.nb_engine.specs.Lones.{Settled, lease_change, settled_by, settled, onward_from}
-use Rattle.nb_engine.specs.Errands.{onward}
-use Rattle.nb_engine.specs.Queries.{Query, for_lease, for_echo, for_address, for_host}
+use Rattle.nb_machine.specs.Findings.{Settled, lease_change, settled_by}
+use Rattle.nb_engine.specs.Lones.{settled, onward_from}
+use Rattle.nb_machine.specs.Errands.{onward}
+use Rattle.nb_machine.specs.Queries.{Query, for_lease, for_echo, for_address, for_host}
 use Rattle.nb_engine.specs.Replying.{settled_so, change_by, onward_by, FindsServer, DeliversMessage}
 use Rattle.nb_engine.specs.Talks.{Talk, looks_up, leases, pings}
 use Rattle.nb_engine.proofs.CallDeliveries.{delivers_ack, delivers_address, no_bytes_looked_up, no_bytes_echoed, freed_bytes, freed_address}

@@ -9,10 +9,11 @@ use Rattle.nb_engine.specs.declared.stage.Stage.{Stage}
 use Rattle.nb_engine.specs.declared.stage.Stage.TheVariants as stage
 use Rattle.nb_engine.specs.declared.fetch.Fetch.{Fetch}
 use Rattle.nb_engine.specs.declared.inquiry.Inquiry.{Inquiry}
-use Rattle.nb_engine.specs.Running.{Running}
-use Rattle.nb_engine.specs.Effects.{ShownWords}
-use Rattle.nb_engine.specs.Conclusions.{Conclusion, keeps, fails, boots, conclusion_records}
-use Rattle.nb_engine.specs.Machine.{Machine, reply_records, prints, command_records}
+use Rattle.nb_machine.specs.Running.{Running}
+use Rattle.nb_machine.specs.Effects.{ShownWords}
+use Rattle.nb_machine.specs.Conclusions.{Conclusion, keeps, fails, boots, conclusion_records}
+use Rattle.nb_engine.specs.Machine.{Machine}
+use Rattle.nb_machine.specs.CommandRecords.{reply_records, prints, command_records}
 use Rattle.nb_engine.specs.GraphSteps.{GraphStep, stays_still, HasNoOpen, MovesGraph, without_open}
 use Rattle.nb_engine.specs.Seen.{Seen, StandsFor, FitsAt, FitsGraph, KeepsOrder, as_ready, as_running, as_waiting, as_asking, as_reaching, as_sleeping, as_yielded, as_handing, as_left, as_handed_off, as_stopped}
 use Rattle.nb_engine.specs.Turns.{Grows, Leads, IsBusy}

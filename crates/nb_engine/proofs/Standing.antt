@@ -8,7 +8,7 @@ use Rattle.nb_engine.specs.declared.fetch.Fetch.{Fetch}
 use Rattle.nb_engine.specs.declared.inquiry.Inquiry.{Inquiry}
 use Rattle.nb_engine.specs.declared.stage.Stage.{Stage}
 use Rattle.nb_engine.specs.declared.stage.Stage.TheVariants as stage
-use Rattle.nb_engine.specs.Running.{Running}
+use Rattle.nb_machine.specs.Running.{Running}
 use Rattle.nb_engine.specs.Machine.{Machine, at, ready, running, waiting, asking, reaching, sleeping, yielded, handing, left, handed_off, stopped}
 use Rattle.nb_engine.specs.Opens.{Open}
 use Rattle.nb_engine.specs.Fetches.{IsLive}

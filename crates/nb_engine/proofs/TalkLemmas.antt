@@ -26,7 +26,7 @@ use Rattle.nb_engine.specs.Inquiries.{Delivers, beside_freed_events, freed_besid
 use Rattle.nb_opens.specs.Companies.{beside_shut}
 use Rattle.nb_engine.specs.Seen.{IsCastFor, of_one as cast_of_one, of_two as cast_of_two, of_waited as cast_of_waited}
 use Rattle.nb_engine.specs.Turns.{one_shut_events}
-use Rattle.nb_engine.specs.Opens.{send_records, sends_records, advance_records, acts_records}
+use Rattle.nb_machine.specs.Sendings.{send_records, sends_records, advance_records, acts_records}
 use Rattle.nb_engine.specs.Talks.{Talk, looks_up, leases, pings}
 use Rattle.nb_engine.specs.Tellings.{datagram_of, told_records}
 use Rattle.nb_engine.proofs.CallLemmas.{without_front, joined}

@@ -35,7 +35,7 @@ use Rattle.nb_stack.specs.Client.{Client}
 use Rattle.nb_engine.specs.declared.speaker.Speaker.{Speaker}
 use Rattle.nb_engine.specs.Spelling.{Spelling, heard_by, IsBlank, IsSpelled, IsWhole}
 use Rattle.nb_engine.proofs.SpellingLemmas.{spelled_is, no_want}
-use Rattle.nb_engine.specs.Queries.{Query, for_lease, for_echo, for_address, for_host}
+use Rattle.nb_machine.specs.Queries.{Query, for_lease, for_echo, for_address, for_host}
 use Rattle.nb_engine.specs.Talks.{Talk, looks_up, leases, pings, Incoming, message_in, time_in, call_by, TalkGoes, look_up_goes, lease_goes, ping_goes}
 use Rattle.nb_engine.proofs.TalkLemmas.{AreSendsBy, none, one}
 

@@ -25,7 +25,7 @@ use Rattle.nb_opens.specs.Notices.{tells, made_notices, sent_from, down_notices,
 use Rattle.nb_opens.specs.PairEvents.{made_events, begun_front, begun_back, call_front, up_events, end_events, call_back, passed_events, late_events, large_front, large_back, closed_events, freed_events, shut_events}
 use Rattle.nb_stack.specs.Client.{Client}
 use Rattle.nb_stack.specs.Sends.{put_on, way_of}
-use Rattle.nb_engine.specs.Opens.{has_route, try_records, send_records, sends_records, advance_records, acts_records}
+use Rattle.nb_machine.specs.Sendings.{has_route, try_records, send_records, sends_records, advance_records, acts_records}
 use Rattle.nb_engine.specs.Tellings.{datagram_of, message_records, notice_records, told_records}
 
 pub told-append : (net : Client) (who : Speaker) (xs ys : List Notice) → told_records net who (xs ++ ys) ≡ told_records net who xs ++ told_records net who ys

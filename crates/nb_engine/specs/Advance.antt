@@ -14,16 +14,18 @@ use Rattle.nb_engine.specs.declared.client.Turn.{Turn}
 use Rattle.nb_engine.specs.declared.client.Turn.TheVariants as turn
 use Rattle.nb_engine.specs.declared.command.Deed.{Deed}
 use Rattle.nb_engine.specs.CommandWords.{deed_effect}
-use Rattle.nb_engine.specs.Errands.{Wanted}
-use Rattle.nb_engine.specs.Effects.{effect, says, ShownWords, shown_words, shown_as}
-use Rattle.nb_engine.specs.World.{IsLinked, own_port, with_ended_open}
+use Rattle.nb_machine.specs.Errands.{Wanted}
+use Rattle.nb_machine.specs.Effects.{effect, says, ShownWords, shown_words, shown_as}
+use Rattle.nb_engine.specs.World.{IsLinked, with_ended_open}
+use Rattle.nb_machine.specs.Starting.{own_port}
 use Rattle.nb_engine.specs.Opens.{opened_record}
-use Rattle.nb_engine.specs.Conclusions.{fails, conclusion_records}
+use Rattle.nb_machine.specs.Conclusions.{fails, conclusion_records}
 use Rattle.nb_engine.specs.Fetches.{speaker_of}
 use Rattle.nb_engine.specs.Tellings.{told_records}
 use Rattle.nb_defs.specs.Commands.{CommandOutcome}
-use Rattle.nb_engine.specs.Running.{Running, further, coming, beginning}
-use Rattle.nb_engine.specs.Machine.{no_route, command_record, world_after}
+use Rattle.nb_machine.specs.Running.{Running, further, coming, beginning}
+use Rattle.nb_machine.specs.CommandRecords.{no_route, command_record}
+use Rattle.nb_engine.specs.Machine.{world_after}
 use Rattle.nb_engine.specs.Seen.{Seen, seen, standing}
 use Rattle.nb_engine.specs.Spelling.{Spelling, IsSpelled}
 use Rattle.nb_engine.specs.Concluding.{IsTurn}

@@ -8,12 +8,12 @@ use Rattle.nb_command.specs.declared.command_plan.CommandPlan.TheVariants as pla
 use Rattle.nb_command.specs.declared.outcome.Outcome.{Outcome}
 use Rattle.nb_command.specs.declared.outcome.Outcome.TheVariants as outcome
 use Rattle.nb_command.specs.declared.outcome.Job.TheVariants as job
-use Rattle.nb_engine.specs.Effects.{Effect, says, goes, sleeps, shuts_device, leaves_with, sleeping_for}
-use Rattle.nb_engine.specs.Errands as defs
+use Rattle.nb_machine.specs.Effects.{Effect, says, goes, sleeps, shuts_device, leaves_with, sleeping_for}
+use Rattle.nb_machine.specs.Errands as defs
 use Rattle.nb_engine.specs.declared.command.Deed.{Deed}
 use Rattle.nb_engine.specs.declared.command.Deed.TheVariants as deed
 use Rattle.nb_engine.specs.declared.errand.Wanted.{Wanted}
-use Rattle.nb_engine.specs.declared.errand.RemoteFile.{RemoteFile}
+use Rattle.nb_machine.specs.declared.remote_file.RemoteFile.{RemoteFile}
 use Rattle.nb_engine.specs.declared.errand.Errand.{Errand}
 use Rattle.nb_engine.specs.declared.errand.Errand.TheVariants as errand
 use Rattle.nb_engine.specs.declared.errand.Onward.{Onward}

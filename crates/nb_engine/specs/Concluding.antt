@@ -6,8 +6,8 @@ use Rattle.nb_defs.specs.Records.{Out, out_texts, step, ended}
 use Rattle.nb_record.specs.Logged.{Logged, Puts}
 use Rattle.nb_image.specs.Images.{ImageList, image_of}
 use Rattle.nb_engine.specs.Machine.{phase_after, at}
-use Rattle.nb_engine.specs.Running.{Running}
-use Rattle.nb_engine.specs.Conclusions.{Conclusion, conclusion, conclusion_records}
+use Rattle.nb_machine.specs.Running.{Running}
+use Rattle.nb_machine.specs.Conclusions.{Conclusion, conclusion, conclusion_records}
 use Rattle.nb_engine.specs.World.{unbound}
 use Rattle.nb_engine.specs.Fetches.{conclusion_of, speaker_of}
 use Rattle.nb_engine.specs.Tellings.{told_records}

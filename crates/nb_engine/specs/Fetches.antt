@@ -12,8 +12,8 @@ use Rattle.nb_engine.specs.declared.conclusion.Conclusion.TheVariants as conclud
 use Rattle.nb_engine.specs.Handings.{AreShort}
 use Rattle.nb_engine.specs.Opens.{Open, body_of}
 use Rattle.nb_command.specs.SettingAddresses.{host}
-use Rattle.nb_engine.specs.Errands.{Wanted}
-use Rattle.nb_engine.specs.Conclusions.{Conclusion, keeps, fails, boots}
+use Rattle.nb_machine.specs.Errands.{Wanted}
+use Rattle.nb_machine.specs.Conclusions.{Conclusion, keeps, fails, boots}
 use Rattle.nb_engine.specs.declared.speaker.Speaker.{Speaker}
 use Rattle.nb_engine.specs.declared.speaker.Carrier.TheVariants.{Udp}
 

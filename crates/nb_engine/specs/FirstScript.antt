@@ -3,8 +3,8 @@ use Rattle.std.specs.Prelude.{◌≡◌, ℕ, List, Some}
 use Rattle.nb_defs.specs.ScriptLines.{Line, script, no_script, script_too_long, line_too_long}
 use Rattle.nb_script.specs.declared.error.ScriptError.{ScriptError}
 use Rattle.nb_script.specs.declared.error.ScriptError.TheVariants as error
-use Rattle.nb_engine.specs.FirstText.{first_reading, text_refusal}
-use Rattle.nb_engine.specs.Running.{Running, first_script}
+use Rattle.nb_machine.specs.FirstText.{first_reading, text_refusal}
+use Rattle.nb_machine.specs.Running.{Running, first_script}
 use Rattle.nb_engine.specs.declared.steps.Unread.{Unread}
 use Rattle.nb_engine.specs.declared.steps.Unread.TheVariants as text
 

@@ -13,11 +13,12 @@ use Rattle.nb_stack.specs.Takes.{Outcome, Takes}
 use Rattle.nb_tftp.specs.History.{Call, came, ticked}
 use Rattle.nb_opens.specs.Graphs.{without_graph}
 use Rattle.nb_engine.specs.declared.world.World.{World}
-use Rattle.nb_engine.specs.Running.{Running}
+use Rattle.nb_machine.specs.Running.{Running}
 use Rattle.nb_engine.specs.Talks.{Incoming, message_in, time_in, message_for}
 use Rattle.nb_engine.specs.Lones.{Lone}
 use Rattle.nb_engine.specs.Opens.{Open, heard_from}
-use Rattle.nb_engine.specs.Machine.{Machine, Phase, ready, running, waiting, asking, sleeping, reaching, yielded, handing, left, handed_off, stopped, fresh, at, Begins, Moves, stopped_cause}
+use Rattle.nb_engine.specs.Machine.{Machine, Phase, ready, running, waiting, asking, sleeping, reaching, yielded, handing, left, handed_off, stopped, fresh, at, Begins, Moves}
+use Rattle.nb_machine.specs.CommandRecords.{stopped_cause}
 
 -- what the graph does first in a step
 pub data GraphStep : Type 0 where

@@ -7,7 +7,7 @@ use Rattle.nb_image.specs.declared.image.Image.{Image}
 use Rattle.nb_image.specs.Images.{ImageList}
 use Rattle.nb_image.specs.Parts.{parts}
 use Rattle.nb_engine.specs.declared.handing.Handing.{Handing}
-use Rattle.nb_engine.specs.Conclusions.{part_records}
+use Rattle.nb_machine.specs.Conclusions.{part_records}
 
 -- an image's texts are short, and its body is an image's
 pub record IsShort (image : Image) : Type 0 where

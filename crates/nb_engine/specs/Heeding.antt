@@ -16,9 +16,10 @@ use Rattle.nb_opens.specs.Graphs.{without_graph, IsEntry}
 use Rattle.nb_opens.specs.declared.download.Download.{Download}
 use Rattle.nb_opens.specs.Pairs.{CallDoes, Downloads}
 use Rattle.nb_engine.specs.World.{with_net}
-use Rattle.nb_engine.specs.Machine.{Phase, Hears, at, reply_records}
+use Rattle.nb_engine.specs.Machine.{Phase, Hears, at}
+use Rattle.nb_machine.specs.CommandRecords.{reply_records}
 use Rattle.nb_engine.specs.GraphSteps.{EntersFirst, way_of_call}
-use Rattle.nb_engine.specs.Running.{Running}
+use Rattle.nb_machine.specs.Running.{Running}
 use Rattle.nb_engine.specs.Opens.{Open, body_of}
 use Rattle.nb_engine.specs.Fetches.{IsFetchOf, IsLive}
 use Rattle.nb_engine.specs.Seen.{Seen, seen, StandsFor, KeepsOrder}

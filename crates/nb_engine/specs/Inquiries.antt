@@ -38,8 +38,8 @@ use Rattle.nb_command.specs.SettingAddresses.{host}
 use Rattle.nb_engine.specs.Lones.{Lone}
 use Rattle.nb_engine.specs.Spelling.{Spelling, IsSpelled}
 use Rattle.nb_engine.specs.CommandWords.{errand_of, FitsErrand}
-use Rattle.nb_engine.specs.Errands.{Errand, fetches_then, echoes_then, Onward, fetches_now, echoes_now}
-use Rattle.nb_engine.specs.Queries.{Query, for_lease, for_echo, for_address, for_host}
+use Rattle.nb_machine.specs.Errands.{Errand, fetches_then, echoes_then, Onward, fetches_now, echoes_now}
+use Rattle.nb_machine.specs.Queries.{Query, for_lease, for_echo, for_address, for_host}
 use Rattle.nb_engine.specs.Talks.{Talk, looks_up, leases, pings, fields_of, first_message, Incoming, TalkGoes}
 
 -- what is asked, without where its words lie in memory

@@ -26,13 +26,14 @@ use Rattle.nb_command.specs.Addresses.{address_table}
 use Rattle.nb_uri.specs.Addresses.{four_decimals}
 use Rattle.std.specs.Option.{option_map_or}
 use Rattle.nb_engine.specs.CommandWords.{wanted_of, CanFetch, FitsErrand}
-use Rattle.nb_engine.specs.Effects.{Effect, says, asks, changed, inquires, effect, shown_words, shown_as}
-use Rattle.nb_engine.specs.Queries.{Query}
+use Rattle.nb_machine.specs.Effects.{Effect, says, asks, changed, inquires, effect, shown_words, shown_as}
+use Rattle.nb_machine.specs.Queries.{Query}
 use Rattle.nb_engine.specs.Talks.{fields_of}
 use Rattle.nb_engine.specs.Lones.{talk_for, open_told}
 use Rattle.nb_engine.specs.Inquiries.{query_of, talker_of, kind_of_talk, opening_acts, made_beside, beside_freed_events}
-use Rattle.nb_engine.specs.Running.{Running, further, coming, beginning}
-use Rattle.nb_engine.specs.Machine.{command_record, no_route, world_after}
+use Rattle.nb_machine.specs.Running.{Running, further, coming, beginning}
+use Rattle.nb_machine.specs.CommandRecords.{command_record, no_route}
+use Rattle.nb_engine.specs.Machine.{world_after}
 use Rattle.nb_engine.specs.Seen.{Seen, seen}
 use Rattle.nb_engine.specs.Spelling.{Spelling, IsSpelled}
 use Rattle.nb_engine.specs.Tellings.{told_records}

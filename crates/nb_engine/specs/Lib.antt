@@ -1,15 +1,7 @@
-pub mod StartTable
-pub mod Link
 pub mod World
-pub mod Queries
-pub mod Errands
-pub mod Effects
 pub mod Opens
-pub mod Conclusions
 pub mod Talks
 pub mod Lones
-pub mod FirstText
-pub mod Running
 pub mod Machine
 pub mod GraphSteps
 pub mod StatusNumber

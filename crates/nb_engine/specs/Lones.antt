@@ -1,42 +1,27 @@
 -- An open of one object: a lease, an echo or a name's address is asked for, and what comes of its command.
-use Rattle.std.specs.Prelude.{ℕ, ◌+◌, ◌%◌, ◌*◌, List, [], Option, None, Ok, Err, codes, if◌then◌else◌}
+use Rattle.std.specs.Prelude.{ℕ, ◌+◌, [], Option, None, Ok, if◌then◌else◌}
 use Rattle.std.specs.Option.{option_map, option_map_or}
-use Rattle.rand_chacha.specs.ChaCha.{key_of, word_at}
 use Rattle.nb_terms.specs.declared.cause.Cause.{Cause}
-use Rattle.nb_wire.specs.declared.address.Mac.{Mac}
-use Rattle.nb_defs.specs.Causes.{ok, is_ok_cause}
+use Rattle.nb_defs.specs.Causes.{is_ok_cause}
 use Rattle.nb_defs.specs.Records.{Out, opened}
 use Rattle.nb_stack.specs.Bound.{with_port, without}
 use Rattle.nb_dns.specs.LookupCalls.{datagrams}
 use Rattle.nb_dns.specs.LookupReplies.{address_found}
-use Rattle.nb_dhcp.specs.declared.asker.Asker.{Asker}
 use Rattle.nb_dhcp.specs.History.{all_handed, acknowledgement_in}
 use Rattle.nb_ping.specs.Pings.{pinged}
 use Rattle.nb_nodes.specs.LookupExchanges.{lookup_for}
 use Rattle.nb_settings.specs.Tables.{TableLists}
-use Rattle.nb_settings.specs.LeaseSettings.{leased, lease_refusal}
-use Rattle.nb_command.specs.Settings.{Change, put_answer}
+use Rattle.nb_command.specs.Settings.{Change}
 use Rattle.nb_command.specs.Addresses.{address_table}
-use Rattle.nb_command.specs.Failures.{apply_cause}
 use Rattle.nb_engine.specs.declared.world.World.{World}
-use Rattle.nb_engine.specs.declared.world.Identity.{Identity}
 use Rattle.nb_command.specs.SettingAddresses.{host}
-use Rattle.nb_engine.specs.World.{own_port, with_net, world_with}
-use Rattle.nb_engine.specs.Errands.{Onward, onward}
-use Rattle.nb_engine.specs.Queries.{Query, for_lease, for_echo, for_address, for_host}
-use Rattle.nb_engine.specs.Talks.{Talk, looks_up, leases, pings, OpenFields, fields_of, proto_of}
-
--- the first word of an open: from START's key, by its number
-unfoldable pub first_word : Identity → ℕ → ℕ
-first_word m number = word_at 4 (key_of m.key) 0 (16 * number)
-
--- the client that asks for a lease; its transaction's number is the open's first word
-abbrev pub asker_at : Mac → Identity → ℕ → Asker
-asker_at mac m number = record { mac = mac; uuid = m.uuid; arch = m.arch; xid = first_word m number }
-
--- a query's number is the low 16 bits of its open's first word
-abbrev pub query_id : Identity → ℕ → ℕ
-query_id m number = first_word m number % 65536
+use Rattle.nb_machine.specs.Starting.{own_port}
+use Rattle.nb_engine.specs.World.{with_net, world_with}
+use Rattle.nb_machine.specs.Errands.{Onward, onward}
+use Rattle.nb_machine.specs.Queries.{Query, for_lease, for_echo, for_address, for_host}
+use Rattle.nb_engine.specs.Talks.{Talk, looks_up, leases, pings, fields_of, proto_of}
+use Rattle.nb_machine.specs.Saying.{OpenFields}
+use Rattle.nb_machine.specs.Findings.{asker_at, query_id, lease_change, Settled, settled_by}
 
 -- what the next open asks, before anything has come
 abbrev pub talk_for : World → Query → Talk
@@ -80,14 +65,6 @@ with_lone w talk = record {
 abbrev pub without_lone : World → Talk → World
 without_lone w talk = with_net w (record w.net { ports = without (proto_of talk) (fields_of talk).own w.net.ports })
 
--- the block of a lease's settings
-abbrev pub lease_block : List ℕ
-lease_block = codes "net0.dhcp"
-
--- an acknowledgement's settings, all or none
-abbrev pub lease_change : TableLists → List ℕ → Change
-lease_change table ack = put_answer (lease_refusal lease_block ack table) (leased lease_block ack table)
-
 -- what was found is put into the settings, as the command wants it
 abbrev pub found_change : Query → Talk → TableLists → Change
 found_change for_lease (leases a calls) table = option_map_or (lease_change table) (acknowledgement_in a (all_handed calls)) (Ok table)
@@ -109,15 +86,6 @@ onward_from cause (for_host errand name by) (pings p calls) = None
 onward_from cause for_lease talk = None
 onward_from cause (for_echo server) talk = None
 onward_from cause (for_address setting name by) talk = None
-
--- a command whose open has ended: its result, and the settings that it leaves
-pub record Settled : Type 0 where
-  pub cause : Cause
-  pub table : TableLists
-
-abbrev pub settled_by : TableLists → Change → Settled
-settled_by before (Ok table) = record { cause = ok; table = table }
-settled_by before (Err why) = record { cause = apply_cause why; table = before }
 
 -- an open that has ended well gives what was found, unless the settings refuse it
 abbrev pub settled : Cause → Query → Talk → TableLists → Settled

@@ -1,10 +1,10 @@
 -- The script machine: from which state which output records lead to which state, and the path of a
 -- whole run. It reads whole lists of records, and knows nothing of bytes, buffers or calls.
-use Rattle.std.specs.Prelude.{◌≡◌, ◌<◌, ◌≤◌, ℕ, ◌+◌, ◌*◌, true, false, List, [], ◌∷◌, ◌++◌, Option, Some, None, if◌then◌else◌}
+use Rattle.std.specs.Prelude.{◌≡◌, ◌<◌, ◌≤◌, ℕ, ◌+◌, ◌*◌, true, false, List, [], ◌∷◌, ◌++◌, Some, None}
 use Rattle.nb_terms.specs.declared.cause.Cause.{Cause}
 use Rattle.nb_terms.specs.declared.acts.Acts.{Acts}
-use Rattle.nb_defs.specs.Causes.{ok, is_ok_cause, plain_cause}
-use Rattle.nb_defs.specs.Records.{Start, In, start, frame, tick, off, IsIn, Out, step, sent, text, command, result, enter, leave, ended}
+use Rattle.nb_defs.specs.Causes.{ok}
+use Rattle.nb_defs.specs.Records.{Start, In, start, frame, tick, off, IsIn, Out, step, result, enter, leave, ended}
 use Rattle.nb_defs.specs.ScriptLines.{Line, script, label_place}
 use Rattle.nb_defs.specs.Commands.{CommandOutcome, refused}
 use Rattle.nb_stack.specs.Client.{Client}
@@ -14,16 +14,18 @@ use Rattle.nb_tftp.specs.History.{Call, came, ticked, entry}
 use Rattle.nb_tftp.specs.Sentences.{Meets}
 use Rattle.nb_engine.specs.declared.world.World.{World}
 use Rattle.nb_engine.specs.World.{world_of, with_net, world_later, world_with_images, world_with, with_open, with_ended_open, unbound}
-use Rattle.nb_engine.specs.FirstText.{first_reading, text_refusal}
-use Rattle.nb_engine.specs.Running.{Running, first_script, coming, passing, leaving, beginning, entered, further, behind_line, with_result, anew, no_label}
+use Rattle.nb_machine.specs.FirstText.{first_reading, text_refusal}
+use Rattle.nb_machine.specs.Running.{Running, first_script, coming, passing, leaving, beginning, entered, further, behind_line, with_result, anew, no_label}
 use Rattle.nb_graph.specs.Trace.{Said}
-use Rattle.nb_engine.specs.Queries.{Query, for_echo}
+use Rattle.nb_machine.specs.Queries.{Query, for_echo}
 use Rattle.nb_engine.specs.Talks.{Talk, TalkGoes, Incoming, message_in, time_in, message_for, first_message, fields_of}
 use Rattle.nb_engine.specs.Lones.{Lone, lone_for, talk_for, with_talk, open_told, with_lone, without_lone, settled, world_settled, onward_from}
-use Rattle.nb_engine.specs.Errands.{Wanted, Onward, fetches_now, echoes_now}
-use Rattle.nb_engine.specs.Effects.{says, asks, goes, sleeps, shuts_device, inquires, full_opens, effect, table_after, up_after, ShownWords, shown_words}
-use Rattle.nb_engine.specs.Opens.{Open, open_for, with_entry, body_of, request_of, has_route, send_records, acts_records, opened_record, heard_from, end_of, begun_for}
-use Rattle.nb_engine.specs.Conclusions.{Conclusion, keeps, fails, boots, conclusion, image_from, conclusion_records, handoff_records}
+use Rattle.nb_machine.specs.Errands.{Wanted, Onward, fetches_now, echoes_now}
+use Rattle.nb_machine.specs.Effects.{says, asks, goes, sleeps, shuts_device, inquires, full_opens, effect, table_after, up_after, shown_words}
+use Rattle.nb_engine.specs.Opens.{Open, open_for, with_entry, body_of, opened_record, heard_from, begun_for, image_from}
+use Rattle.nb_machine.specs.Sendings.{request_of, has_route, send_records, acts_records, end_of}
+use Rattle.nb_machine.specs.Conclusions.{Conclusion, keeps, fails, boots, conclusion, conclusion_records, handoff_records}
+use Rattle.nb_machine.specs.CommandRecords.{command_record, command_records, no_route, stopped_cause, reply_records}
 
 -- where a run stands
 pub data Phase : Type 0 where
@@ -62,30 +64,9 @@ fresh = record { used = 0; phase = ready }
 abbrev pub at : ℕ → Phase → Machine
 at used phase = record { used = used; phase = phase }
 
--- what a command prints
-abbrev pub prints : Option (List ℕ) → List Out
-prints None = []
-prints (Some bytes) = text bytes ∷ []
-
--- a command begins, on the line passed last
-abbrev pub command_record : Running → ShownWords → Out
-command_record s t = command s.depth s.passed s.place t.expanded t.words
-
--- the records of a command that is over at once: COMMAND, what it prints, RESULT
-abbrev pub command_records : Running → ShownWords → CommandOutcome → List Out
-command_records s t o = (command_record s t ∷ []) ++ prints o.prints ++ (result o.cause ∷ [])
-
 -- the world that a command leaves: its settings, and the link that they and the device's state say
 abbrev pub world_after : World → List (List ℕ) → World
 world_after w ws = world_with w (table_after w.state.table ws) (up_after w.state.table w.state.up ws)
-
--- there is no way to this server
-abbrev pub no_route : ℕ → Cause
-no_route server = record { code = 9; a = server; b = 0 }
-
--- the run was ended from outside
-abbrev pub stopped_cause : Cause
-stopped_cause = plain_cause 26
 
 -- the script goes on, or an image is handed off
 abbrev pub phase_after : World → Running → Conclusion → Phase
@@ -127,11 +108,6 @@ pub data Replies : World → Running → Lone → Incoming → List Out → Phas
   finds_host : (w : World) (s : Running) (o : Lone) (e : Incoming) (acts : Acts) (t : Talk) (cause : Cause) (next : Onward) →
       TalkGoes o.start o.talk e acts t → acts.over ≡ Some cause → onward_from cause o.query t ≡ Some next →
       Replies w s o e (acts_records w.net o.number acts ++ (ended o.number cause ∷ [])) (reaching (without_lone w o.talk) s next)
-
--- a reply to a frame, if there is one
-abbrev pub reply_records : List ℕ → List Out
-reply_records [] = []
-reply_records (b ∷ bytes) = sent (b ∷ bytes) ∷ []
 
 -- A record is used, and its step begins: STEP with the record's number, and then what the record brings.
 -- A first record comes before any other; each later one comes while a command waits or sleeps, or where a step had all
@@ -306,10 +282,6 @@ pub data Path : List In → List Out → Machine → Type 0 where
 pub data Moves : Machine → List Out → Machine → Type 0 where
   rests : (m : Machine) → Moves m [] m
   moves_on : (m m' m'' : Machine) (added more : List Out) → Move m added m' → Moves m' more m'' → Moves m (added ++ more) m''
-
--- the status of a run whose first script was left with this cause: Ended or ScriptFailed
-abbrev pub status_of : Cause → ℕ
-status_of cause = if is_ok_cause cause then 3 else 4
 
 -- what a run that is ended from outside has still to close
 abbrev pub shutdown_records : Phase → List Out

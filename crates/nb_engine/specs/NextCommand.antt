@@ -4,8 +4,8 @@ use Rattle.nb_terms.specs.declared.cause.Cause.{Cause}
 use Rattle.nb_defs.specs.ScriptLines.{Line, label, list, empty}
 use Rattle.nb_settings.specs.Tables.{TableLists}
 use Rattle.nb_expand.specs.declared.error.ExpandError.{ExpandError}
-use Rattle.nb_engine.specs.Effects.{expansion, expand_cause}
-use Rattle.nb_engine.specs.Running.{Running, coming, leaving, beginning, PassesOn}
+use Rattle.nb_machine.specs.Effects.{expansion, expand_cause}
+use Rattle.nb_machine.specs.Running.{Running, coming, leaving, beginning, PassesOn}
 use Rattle.nb_engine.specs.Steps.{moves_in}
 use Rattle.nb_engine.specs.declared.running.Next.{Next}
 use Rattle.nb_engine.specs.declared.running.Next.TheVariants as next

@@ -18,13 +18,13 @@ use Rattle.nb_engine.specs.declared.inquiry.Inquiry.{Inquiry}
 use Rattle.nb_engine.specs.declared.client.Turn.{Turn}
 use Rattle.nb_engine.specs.declared.client.Turn.TheVariants as turn
 use Rattle.nb_engine.specs.declared.stage.Stage.TheVariants as stage
-use Rattle.nb_engine.specs.Errands.{Wanted}
+use Rattle.nb_machine.specs.Errands.{Wanted}
 use Rattle.nb_engine.specs.Fetches.{speaker_of}
 use Rattle.nb_engine.specs.Inquiries.{query_of, opening_acts}
 use Rattle.nb_engine.specs.Lones.{talk_for, open_told}
-use Rattle.nb_engine.specs.Machine.{no_route}
+use Rattle.nb_machine.specs.CommandRecords.{no_route}
 use Rattle.nb_engine.specs.Opens.{opened_record}
-use Rattle.nb_engine.specs.Running.{Running, with_result}
+use Rattle.nb_machine.specs.Running.{Running, with_result}
 use Rattle.nb_engine.specs.Seen.{Seen, seen}
 use Rattle.nb_engine.specs.Spelling.{Spelling, IsSpelled}
 use Rattle.nb_engine.specs.Talks.{fields_of}

@@ -27,13 +27,14 @@ use Rattle.nb_engine.specs.declared.client.Turn.TheVariants as turn
 use Rattle.nb_engine.specs.declared.stage.Stage.TheVariants as stage
 use Rattle.nb_engine.specs.World.{with_net}
 use Rattle.nb_engine.specs.CommandWords.{onward_of}
-use Rattle.nb_engine.specs.Errands.{Errand, Onward, onward}
-use Rattle.nb_engine.specs.Queries.{Query, for_lease, for_echo, for_address, for_host}
+use Rattle.nb_machine.specs.Errands.{Errand, Onward, onward}
+use Rattle.nb_machine.specs.Queries.{Query, for_lease, for_echo, for_address, for_host}
 use Rattle.nb_engine.specs.Talks.{Incoming}
-use Rattle.nb_engine.specs.Lones.{Lone, Settled, lease_change, settled_by, world_settled}
+use Rattle.nb_engine.specs.Lones.{Lone, world_settled}
+use Rattle.nb_machine.specs.Findings.{Settled, lease_change, settled_by}
 use Rattle.nb_engine.specs.Machine.{Phase, Replies, at}
 use Rattle.nb_engine.specs.GraphSteps.{EntersFirst, way_of_incoming}
-use Rattle.nb_engine.specs.Running.{Running, with_result}
+use Rattle.nb_machine.specs.Running.{Running, with_result}
 use Rattle.nb_engine.specs.Deliveries.{delivered_bytes, delivered_address}
 use Rattle.nb_engine.specs.Inquiries.{query_of, company_of, IsInquiryOf, IsLiveLone, TalkDoes, beside_freed_events}
 use Rattle.nb_engine.specs.Tellings.{carrier_number, told_records}

@@ -20,12 +20,12 @@ use Rattle.nb_engine.specs.declared.handing.Handing.{Handing}
 use Rattle.nb_engine.specs.declared.prepared.Prepared.{Prepared}
 use Rattle.nb_engine.specs.declared.stage.Stage.{Stage}
 use Rattle.nb_engine.specs.declared.stage.Stage.TheVariants as stage
-use Rattle.nb_engine.specs.Running.{Running}
+use Rattle.nb_machine.specs.Running.{Running}
 use Rattle.nb_engine.specs.Machine.{Machine, at, ready, running, waiting, asking, reaching, sleeping, yielded, handing, left, handed_off, stopped}
 use Rattle.nb_engine.specs.Opens.{Open}
 use Rattle.nb_engine.specs.Fetches.{IsLive}
 use Rattle.nb_engine.specs.CommandWords.{onward_of, FitsOnward}
-use Rattle.nb_engine.specs.Errands.{Onward}
+use Rattle.nb_machine.specs.Errands.{Onward}
 use Rattle.nb_engine.specs.Inquiries.{IsInquiring, IsLiveLone, FitsQuery, IsBackedBy, IsWaiterOf, onward_waiter, kind_of_query, query_of}
 use Rattle.nb_engine.specs.Lones.{Lone}
 use Rattle.nb_engine.specs.Tellings.{carrier_number}

@@ -5,9 +5,9 @@ use Rattle.nb_defs.specs.Causes.{ok}
 use Rattle.nb_record.specs.Logged.{Logged, Puts}
 use Rattle.nb_defs.specs.Records.{out_texts, leave}
 use Rattle.nb_defs.specs.Commands.{CommandOutcome, refused}
-use Rattle.nb_engine.specs.Effects.{ShownWords}
-use Rattle.nb_engine.specs.Running.{Running, further, behind_line, no_label}
-use Rattle.nb_engine.specs.Machine.{command_records}
+use Rattle.nb_machine.specs.Effects.{ShownWords}
+use Rattle.nb_machine.specs.Running.{Running, further, behind_line, no_label}
+use Rattle.nb_machine.specs.CommandRecords.{command_records}
 
 -- its records are put, and the list goes on, or the script is left with its cause
 abbrev pub Does : ShownWords → CommandOutcome → Option Cause → Running → Running → Logged → Logged → Type 0

@@ -14,26 +14,17 @@ use Rattle.nb_dhcp.specs.Acting.{to_servers}
 use Rattle.nb_dhcp.specs.History.{LeaseEntry}
 use Rattle.nb_ping.specs.Pings.{Pinged, echo_request}
 use Rattle.nb_ping.specs.PingCalls.{PingEntry}
-use Rattle.nb_nodes.specs.declared.tag.Tag.TheVariants.{Datagram}
-use Rattle.nb_nodes.specs.Tags.{tag_number}
 use Rattle.nb_nodes.specs.Exchanges.{Service}
 use Rattle.nb_nodes.specs.LookupExchanges.{LookupAsked, lookup_for, lookup_service}
 use Rattle.nb_nodes.specs.LeaseExchanges.{lease_service}
 use Rattle.nb_nodes.specs.EchoExchanges.{ping_service}
+use Rattle.nb_machine.specs.Saying.{OpenFields, datagram_from}
 
 -- what was asked for, with all that has come since and what the core asked then
 pub data Talk : Type 0 where
   looks_up : (asked : LookupAsked) (calls : List LookupEntry) → Talk
   leases : (asker : Asker) (calls : List LeaseEntry) → Talk
   pings : (pinged : Pinged) (calls : List PingEntry) → Talk
-
--- what an OPEN says of it
-pub record OpenFields : Type 0 where
-  pub kind : ℕ
-  pub server : ℕ
-  pub port : ℕ
-  pub own : ℕ
-  pub target : List ℕ
 
 -- the kinds 4, 5 and 6; a lease is asked of all hosts, and a ping has its identifier as its own port
 abbrev pub fields_of : Talk → OpenFields
@@ -65,9 +56,6 @@ abbrev pub port_of : Talk → ℕ → ℕ
 port_of (looks_up q calls) port = port
 port_of (leases a calls) port = port
 port_of (pings p calls) port = p.ident
-
-abbrev pub datagram_from : ℕ → ℕ → Ip4 → List ℕ → Said
-datagram_from rec port src body = record { tag = tag_number Datagram; rec = rec; a = port; b = src.0; bytes = body }
 
 -- what a frame, which was taken with this outcome in the record rec, brings it
 abbrev pub message_for : Talk → ℕ → Outcome → Option Said

@@ -10,7 +10,7 @@ use Rattle.nb_nodes.specs.declared.tag.Tag.TheVariants.{Advance, Try, Bytes, Add
 use Rattle.nb_engine.specs.declared.speaker.Carrier.{Carrier}
 use Rattle.nb_engine.specs.declared.speaker.Carrier.TheVariants.{Udp, Icmp}
 use Rattle.nb_engine.specs.declared.speaker.Speaker.{Speaker}
-use Rattle.nb_engine.specs.Opens.{send_records}
+use Rattle.nb_machine.specs.Sendings.{send_records}
 
 -- RFC 768, RFC 792: the protocol's number
 abbrev pub carrier_number : Carrier → ℕ

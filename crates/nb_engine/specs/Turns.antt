@@ -4,7 +4,8 @@ use Rattle.std.specs.Prelude.{◌≡◌, ℕ, ◌+◌, ◌<◌, List, [], ◌∷
 use Rattle.nb_terms.specs.declared.cause.Cause.{Cause}
 use Rattle.nb_defs.specs.Records.{In, start, frame, tick, off, Out, out_texts, ended, done}
 use Rattle.nb_record.specs.Logged.{Logged, Puts}
-use Rattle.nb_engine.specs.Machine.{Machine, Begins, Moves, status_of, stopped_cause}
+use Rattle.nb_engine.specs.Machine.{Machine, Begins, Moves}
+use Rattle.nb_machine.specs.CommandRecords.{status_of, stopped_cause}
 use Rattle.nb_engine.specs.GraphSteps.{BeginsAs}
 use Rattle.nb_engine.specs.StatusNumber.{status_number}
 use Rattle.nb_engine.specs.Steps.{moves_in}

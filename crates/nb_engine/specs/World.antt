@@ -1,34 +1,15 @@
 -- What a run has beside its script, as START gives it: the client's link, its clock, its opens, its settings and its images.
-use Rattle.std.specs.Prelude.{◌≡◌, ℕ, ◌+◌, ◌%◌, ◌==◌, Bool, false, not, [], None}
+use Rattle.std.specs.Prelude.{◌≡◌, ℕ, ◌+◌, Bool, false}
 use Rattle.nb_defs.specs.Records.{Start}
 use Rattle.nb_stack.specs.Client.{Client}
 use Rattle.nb_stack.specs.Bound.{with_port, without}
 use Rattle.nb_image.specs.Images.{ImageList}
 use Rattle.nb_settings.specs.Tables.{TableLists, root_alone}
 use Rattle.nb_command.specs.declared.state.State.{State}
-use Rattle.nb_engine.specs.StartTable.{start_table}
-use Rattle.nb_engine.specs.Link.{address_in_table, link_by}
+use Rattle.nb_machine.specs.StartTable.{start_table}
+use Rattle.nb_machine.specs.Link.{address_in_table, link_by}
 use Rattle.nb_engine.specs.declared.world.World.{World}
-use Rattle.nb_engine.specs.declared.world.Identity.{Identity}
-
--- what START tells of the machine
-abbrev pub identity_of : Start → Identity
-identity_of s = record { uuid = s.uuid; arch = s.arch; key = s.key }
-
--- the device of START, down and without an address; it knows no neighbours
-abbrev pub device_of : Start → Client
-device_of s = record { mac = record { 0 = s.mac }; address = None; up = false; near = []; ports = [] }
-
--- the device is up from START on where that has an address
-abbrev pub is_up : Start → Bool
-is_up s = not (s.ip == 0)
-
--- the link that START's settings give
-abbrev pub net_of : Start → Client
-net_of s = link_by (start_table s) (is_up s) (device_of s)
-
-abbrev pub no_images : ImageList
-no_images = record { images = []; selected = None }
+use Rattle.nb_machine.specs.Starting.{identity_of, device_of, is_up, net_of, no_images, own_port}
 
 -- settings, images, and whether the device is up
 abbrev pub state_of : TableLists → ImageList → Bool → State
@@ -40,10 +21,6 @@ bare_world s = record { w = s.w; machine = identity_of s; time = 0; net = link_b
 
 abbrev pub world_of : Start → World
 world_of s = record { w = s.w; machine = identity_of s; time = 0; net = net_of s; opens = 0; state = state_of (start_table s) no_images (is_up s) }
-
--- the client's port of the open of this number
-abbrev pub own_port : ℕ → ℕ → ℕ
-own_port w number = 49152 + (w + number) % 16384
 
 -- the same, with another link, so many milliseconds later, with other images
 abbrev pub with_net : World → Client → World

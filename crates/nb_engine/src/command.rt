@@ -2,7 +2,7 @@ ghost use Rattle.std.specs.Prelude.{◌≡◌, ◌≤◌, ℕ, length, IfOk, OnO
 ghost use Rattle.nb_defs.specs.Causes.{exit_cause};
 ghost use Rattle.nb_defs.specs.Commands.{refused, prints_text};
 ghost use Rattle.nb_command.specs.Printed.{most_printed, IfText};
-ghost use Rattle.nb_engine.specs.Effects.{full_opens, plan_effect, plan_table, plan_up, leaves_with};
+ghost use Rattle.nb_machine.specs.Effects.{full_opens, plan_effect, plan_table, plan_up, leaves_with};
 ghost use Rattle.nb_engine.specs.World.{state_of};
 ghost use Rattle.nb_engine.specs.CommandWords.{done_of, deed_effect, outcome_effect, IsLocal, IsLocalOutcome, PrintsAtMost};
 

@@ -1,7 +1,7 @@
 ghost use Rattle.std.specs.Prelude.{◌≡◌, ◌<◌, ◌≤◌, [], None, true, length, IfOk, OnErr};
 ghost use Rattle.nb_image.specs.Images.{image_of, refusal};
 ghost use Rattle.nb_image.specs.Kinds.{kind_of};
-ghost use Rattle.nb_engine.specs.Conclusions.{conclusion, taken_in, cause_of_error, is_bootable};
+ghost use Rattle.nb_machine.specs.Conclusions.{conclusion, taken_in, cause_of_error, is_bootable};
 ghost use Rattle.nb_engine.specs.Fetches.{IsConclusion, Chooses};
 
 use crate::Fetch;

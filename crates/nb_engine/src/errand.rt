@@ -2,26 +2,12 @@
 
 ghost use Rattle.std.specs.Prelude.{◌≡◌};
 ghost use Rattle.nb_engine.specs.CommandWords.{errand_of, onward_of, FitsErrand, FitsOnward};
-ghost use Rattle.nb_engine.specs.Errands.{onward};
+ghost use Rattle.nb_machine.specs.Errands.{onward};
 ghost use Rattle.nb_engine.specs.Inquiries.{errand_waiter};
 
+use nb_machine::RemoteFile;
 use nb_opens::WaiterKind;
-use nb_wire::{Ip4, Text};
-
-/// A file of a server, and what its image is to become.
-#[derive(Drop)]
-pub struct RemoteFile {
-    /// The port that the server is asked at.
-    pub port: u16,
-    /// The path that the server is asked for: decoded, and without its first slash (RFC 1350, section 5).
-    pub path: Text,
-    /// The image's name.
-    pub name: Text,
-    /// The image's URI, without a fragment.
-    pub uri: Text,
-    /// Whether the image is booted.
-    pub boots: bool,
-}
+use nb_wire::Ip4;
 
 /// A file that a command asks for, of a server whose address is known.
 #[derive(Drop)]

@@ -1,7 +1,7 @@
 ghost use Rattle.std.specs.Prelude.{◌≡◌, ◌<◌, ◌∷◌, [], true, false, length};
 ghost use Rattle.nb_record.specs.Logged.{Puts};
 ghost use Rattle.nb_engine.specs.Handings.{IsAt, HandsOn, records_left};
-ghost use Rattle.nb_engine.specs.Conclusions.{handoff_records};
+ghost use Rattle.nb_machine.specs.Conclusions.{handoff_records};
 
 use nb_image::{Handoff, Images};
 use nb_record::{Log, OutRec};

@@ -5,15 +5,15 @@ ghost use Rattle.nb_settings.specs.Tables.{look};
 ghost use Rattle.nb_settings.specs.declared.setting.OwnedKey.TheVariants.{Tag};
 ghost use Rattle.nb_engine.specs.CommandWords.{errand_of, onward_of, FitsErrand, FitsOnward, IsForInquiry, IsForLease};
 ghost use Rattle.nb_tftpmsg.specs.Texts.{HasNoZero};
-ghost use Rattle.nb_engine.specs.Effects.{at_host, fetch, fetched, inquires, looked_up_effect, name_effect, named_host, onward_effect, plan_effect, plan_table, plan_up, unless_full};
+ghost use Rattle.nb_machine.specs.Effects.{at_host, fetch, fetched, inquires, looked_up_effect, name_effect, named_host, onward_effect, plan_effect, plan_table, plan_up, unless_full};
 ghost use Rattle.nb_engine.specs.Inquiries.{query_of};
 ghost use Rattle.nb_engine.specs.Inquiring.{intent_effect, looked_up_table, CanAsk, MayAsk};
-ghost use Rattle.nb_engine.specs.Queries.{dns_in, with_domain, domain_bytes};
+ghost use Rattle.nb_machine.specs.Queries.{dns_in, with_domain, domain_bytes};
 ghost use Rattle.nb_engine.specs.World.{IsLinked, state_of, with_state, world_with};
 
 use crate::World;
 use crate::command::{MAX_OPENS, full_opens};
-use crate::errand::{Errand, Onward, RemoteFile, Wanted};
+use crate::errand::{Errand, Onward, Wanted};
 use crate::fetch::copy;
 use crate::inquiry::Query;
 use crate::settings::DNS;
@@ -22,6 +22,7 @@ use nb_command::{
     setting_address,
 };
 use nb_dns::is_name;
+use nb_machine::RemoteFile;
 use nb_record::{Cause, NoMemory};
 use nb_settings::{Key, Table};
 use nb_terms::Plain;

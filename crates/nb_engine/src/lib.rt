@@ -37,7 +37,7 @@ mod teller;
 mod world;
 
 pub use client::{Client, Turn};
-pub use errand::{Errand, Onward, RemoteFile, Wanted};
+pub use errand::{Errand, Onward, Wanted};
 pub use fetch::Fetch;
 pub use handing::Handing;
 pub use inquiry::{Inquiry, KeptInquiry, Query};

@@ -2,7 +2,7 @@
 
 ghost use Rattle.std.specs.Prelude.{◌≡◌};
 ghost use Rattle.nb_settings.specs.Keys.{key_of};
-ghost use Rattle.nb_engine.specs.Link.{net0_address, address_in_table};
+ghost use Rattle.nb_machine.specs.Link.{net0_address, address_in_table};
 
 use nb_command::{nonzero, setting_address};
 use nb_settings::{Key, Table};
@@ -21,7 +21,7 @@ pub(crate) const GATEWAY: Key<'static> = Key::Tag(3);
 const CLASS_C: Ip4 = Ip4(0xffff_ff00);
 
 /// The address that a setting of net0 has, if it has one.
-#[tactic(auto, unfolding(crate::specs::Link::net0_address))]
+#[tactic(auto, unfolding(nb_machine::specs::Link::net0_address))]
 fn net0_address(table: &Table, key: &Key<'_>) -> Option<Ip4>
     ensures { result ≡ net0_address (key_of key.now) table.now }
 {
@@ -29,7 +29,7 @@ fn net0_address(table: &Table, key: &Key<'_>) -> Option<Ip4>
 }
 
 /// The client's address and its net, by the settings.
-#[tactic(auto, unfolding(crate::specs::Link::address_in_table))]
+#[tactic(auto, unfolding(nb_machine::specs::Link::address_in_table))]
 pub(crate) fn address_in(table: &Table) -> Option<Addr>
     ensures { result ≡ address_in_table table.now }
 {

@@ -16,22 +16,23 @@ ghost use Rattle.nb_engine.specs.declared.prepared.Prepared.{Prepared as Prepare
 ghost use Rattle.nb_engine.specs.declared.stage.Stage.TheVariants as stage;
 ghost use Rattle.nb_engine.specs.Advance.{IsNextFetch, PutsOpen};
 ghost use Rattle.nb_engine.specs.CommandWords.{wanted_of, CanFetch, FitsFile};
-ghost use Rattle.nb_engine.specs.Effects.{full_opens};
+ghost use Rattle.nb_machine.specs.Effects.{full_opens};
 ghost use Rattle.nb_engine.specs.Fetches.{fetch_for, speaker_by, speaker_of};
 ghost use Rattle.nb_engine.specs.Inquiries.{query_of, BeginsWaited, IsWaiterOf};
 ghost use Rattle.nb_engine.specs.Inquiring.{CanAsk, IsNextInquiry};
 ghost use Rattle.nb_engine.specs.Lones.{open_told, talk_for, with_lone};
-ghost use Rattle.nb_engine.specs.Machine.{no_route};
+ghost use Rattle.nb_machine.specs.CommandRecords.{no_route};
 ghost use Rattle.nb_engine.specs.Objects.{BeginsCompleted};
 ghost use Rattle.nb_engine.specs.Opens.{opened_record};
-ghost use Rattle.nb_engine.specs.Queries.{for_echo};
+ghost use Rattle.nb_machine.specs.Queries.{for_echo};
 ghost use Rattle.nb_engine.specs.Reaching.{IsWaitedFor, PutsEchoing, PutsNext, TurnsEchoBack, TurnsNextBack};
-ghost use Rattle.nb_engine.specs.Running.{with_result};
+ghost use Rattle.nb_machine.specs.Running.{with_result};
 ghost use Rattle.nb_engine.specs.Seen.{HasNoObjects, IsSound, seen, standing};
 ghost use Rattle.nb_engine.specs.Talks.{fields_of};
 ghost use Rattle.nb_engine.specs.Tellings.{told_records};
 ghost use Rattle.nb_engine.specs.Turns.{AnswersTurn, IsNearer};
-ghost use Rattle.nb_engine.specs.World.{with_ended_open, with_open, own_port as own_port_of};
+ghost use Rattle.nb_engine.specs.World.{with_ended_open, with_open};
+ghost use Rattle.nb_machine.specs.Starting.{own_port as own_port_of};
 
 use crate::command::{MAX_OPENS, full_opens};
 use crate::desk::{Desk, lent};

@@ -2,13 +2,15 @@
 
 ghost use Rattle.std.specs.Prelude.{◌≡◌, ◌<◌, ◌≤◌};
 ghost use Rattle.nb_engine.specs.Inquiries.{kind_of_talk, query_of, talk_of, talker_of};
-ghost use Rattle.nb_engine.specs.Lones.{asker_at, first_word, query_id, talk_for};
+ghost use Rattle.nb_machine.specs.Findings.{asker_at, first_word, query_id};
+ghost use Rattle.nb_engine.specs.Lones.{talk_for};
 ghost use Rattle.nb_nodes.specs.LeaseExchanges.{asker_of};
 
 use crate::World;
 use crate::inquiry::Query;
 use crate::speaker::{Carrier, Speaker};
-use crate::world::{Identity, own_port};
+use crate::world::own_port;
+use nb_machine::Identity;
 use nb_nodes::{LeaseAsk, LookupAsk, PingAsk};
 use nb_opens::AloneKind;
 use nb_wire::Ip4;
@@ -45,7 +47,7 @@ impl Opening<'_> {
 }
 
 /// The first word that the open of this number takes from START's key.
-#[tactic(auto, unfolding(crate::specs::Lones::first_word))]
+#[tactic(auto, unfolding(nb_machine::specs::Findings::first_word))]
 fn first_word(machine: &Identity, number: u16) -> u32
     ensures { result ≡ first_word machine.now number }
 {

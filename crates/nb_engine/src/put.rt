@@ -5,8 +5,8 @@ ghost use Rattle.nb_ledger.specs.Flat.{Notice};
 ghost use Rattle.nb_stack.specs.Client.{Client};
 ghost use Rattle.nb_engine.specs.declared.speaker.Speaker.{Speaker as TheSpeaker};
 ghost use Rattle.nb_engine.specs.Spelling.{IsSpelled};
-ghost use Rattle.nb_engine.specs.Opens.{try_records, send_records, has_route};
-ghost use Rattle.nb_engine.specs.Machine.{reply_records};
+ghost use Rattle.nb_machine.specs.Sendings.{try_records, send_records, has_route};
+ghost use Rattle.nb_machine.specs.CommandRecords.{reply_records};
 ghost use Rattle.nb_engine.specs.Heeding.{IsReply};
 ghost use Rattle.nb_engine.specs.Tellings.{carrier_number, datagram_of, told_records};
 

@@ -8,10 +8,10 @@ ghost use Rattle.nb_settings.specs.Tables.{TableLists};
 ghost use Rattle.nb_script.specs.Shown.{shown_item, FitList};
 ghost use Rattle.nb_script.specs.ShownJoin.{shown_join};
 ghost use Rattle.nb_script.specs.ShownLine.{shown_line, HasAtMost};
-ghost use Rattle.nb_engine.specs.Running.{Running, first_script, kept_result, lets_run, onto_line, behind_lines, behind_command, entered, further, with_result, behind_line, anew};
+ghost use Rattle.nb_machine.specs.Running.{Running, first_script, kept_result, lets_run, onto_line, behind_lines, behind_command, entered, further, with_result, behind_line, anew};
 ghost use Rattle.nb_engine.specs.declared.running.Next.TheVariants as next;
-ghost use Rattle.nb_engine.specs.Effects.{shown_as};
-ghost use Rattle.nb_engine.specs.Machine.{command_record, command_records, prints};
+ghost use Rattle.nb_machine.specs.Effects.{shown_as};
+ghost use Rattle.nb_machine.specs.CommandRecords.{command_record, command_records, prints};
 ghost use Rattle.nb_engine.specs.Steps.{Does, GoesTo};
 ghost use Rattle.nb_engine.specs.NextCommand.{IsReady, IsNext, IsExpansion, list_of};
 ghost use Rattle.nb_engine.specs.CommandWords.{done_of};
@@ -55,7 +55,7 @@ impl Model for RunningScript {
     ghost use Rattle.std.specs.Prelude.{◌≡◌, ◌≤◌, ◌+◌, length, map, true};
     ghost use Rattle.nb_script.specs.Shown.{shown_item, FitList};
     ghost use Rattle.nb_defs.specs.Causes.{ok, is_ok_cause};
-    ghost use Rattle.nb_engine.specs.Running.{Running};
+    ghost use Rattle.nb_machine.specs.Running.{Running};
 
     ghost Value = { Running };
 

@@ -3,7 +3,7 @@
 ghost use Rattle.std.specs.Prelude.{◌≡◌, OnOk, IfOk, codes};
 ghost use Rattle.nb_settings.specs.Keys.{key_of};
 ghost use Rattle.nb_record.specs.View.{start_of};
-ghost use Rattle.nb_engine.specs.StartTable.{with_own, with_address, with_names, with_addresses, net0_alone, start_table};
+ghost use Rattle.nb_machine.specs.StartTable.{with_own, with_address, with_names, with_addresses, net0_alone, start_table};
 
 use crate::link::{GATEWAY, MASK, NET0};
 use nb_record::{NoMemory, Start};
@@ -73,7 +73,7 @@ fn net0_alone(alloc: Global) -> Result<Table, NoMemory>
 }
 
 /// The settings with which a run begins.
-#[tactic(auto, unfolding(crate::specs::StartTable::start_table))]
+#[tactic(auto, unfolding(nb_machine::specs::StartTable::start_table))]
 pub fn start_table(alloc: Global, start: &Start<'_>) -> Result<Table, NoMemory>
     ensures { IfOk result (λ table. table ≡ start_table (start_of start.now)) }
 {

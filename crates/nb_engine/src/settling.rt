@@ -5,7 +5,7 @@ ghost use Rattle.std.specs.Option.{option_copied, option_map_or};
 ghost use Rattle.nb_dhcpmsg.specs.Fields.{message_in};
 ghost use Rattle.nb_command.specs.Addresses.{address_table};
 ghost use Rattle.nb_engine.specs.Inquiries.{query_of};
-ghost use Rattle.nb_engine.specs.Lones.{lease_change, settled_by};
+ghost use Rattle.nb_machine.specs.Findings.{lease_change, settled_by};
 ghost use Rattle.nb_engine.specs.Replying.{settled_with, FindsServer, IsMessage};
 
 use crate::inquiry::Query;

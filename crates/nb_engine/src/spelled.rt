@@ -3,7 +3,7 @@ ghost use Rattle.std.specs.Option.{option_copied};
 ghost use Rattle.nb_defs.specs.Records.{advanced, graph};
 ghost use Rattle.nb_ledger.specs.Flat as notice;
 ghost use Rattle.nb_opens.specs.Notices.{close_of, or_else};
-ghost use Rattle.nb_engine.specs.Opens.{send_records};
+ghost use Rattle.nb_machine.specs.Sendings.{send_records};
 ghost use Rattle.nb_engine.specs.Spelling.{first_there, FindsNothing, HasSpelled, IsBlank, SpellsMore};
 ghost use Rattle.nb_engine.specs.Tellings.{datagram_of};
 

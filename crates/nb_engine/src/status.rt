@@ -1,6 +1,6 @@
 ghost use Rattle.std.specs.Prelude.{◌≡◌};
 ghost use Rattle.nb_engine.specs.StatusNumber.{status_number, IsLeftEnd};
-ghost use Rattle.nb_engine.specs.Machine.{status_of};
+ghost use Rattle.nb_machine.specs.CommandRecords.{status_of};
 
 use nb_record::Cause;
 

@@ -3,7 +3,7 @@ ghost use Rattle.nb_nodes.specs.Tags.{tag_number};
 ghost use Rattle.nb_nodes.specs.declared.tag.Tag.TheVariants as tag;
 ghost use Rattle.nb_stack.specs.Client.{Client};
 ghost use Rattle.nb_engine.specs.declared.speaker.Speaker.{Speaker as TheSpeaker};
-ghost use Rattle.nb_engine.specs.Opens.{send_records};
+ghost use Rattle.nb_machine.specs.Sendings.{send_records};
 ghost use Rattle.nb_engine.specs.Spelling.{heard_by, IsBlank, IsWhole, SpellsMessage};
 ghost use Rattle.nb_engine.specs.Tellings.{datagram_of, message_records};
 

@@ -2,30 +2,21 @@ ghost use Rattle.std.specs.Prelude.{◌≡◌, ◌<◌, ℕ, Bool, false, IfOk, 
 ghost use Rattle.nb_record.specs.View.{start_of};
 ghost use Rattle.nb_command.specs.Printed.{most_printed};
 ghost use Rattle.nb_settings.specs.Tables.{TableLists};
-ghost use Rattle.nb_engine.specs.Effects.{plan_effect, plan_table, plan_up};
+ghost use Rattle.nb_machine.specs.Effects.{plan_effect, plan_table, plan_up};
 ghost use Rattle.nb_engine.specs.CommandWords.{deed_effect, IsLocal, PrintsAtMost};
-ghost use Rattle.nb_engine.specs.World.{IsLinked, bare_world, world_of, world_with, own_port};
+ghost use Rattle.nb_engine.specs.World.{IsLinked, bare_world, world_of, world_with};
+ghost use Rattle.nb_machine.specs.Starting.{own_port};
 
 use crate::command::{Deed, carry_out};
 use crate::link::address_in;
 use crate::settings::start_table;
 use nb_command::{CommandPlan, State};
 use nb_image::Images;
+use nb_machine::Identity;
 use nb_record::{NoMemory, Start};
 use nb_settings::Table;
 use nb_stack::Stack;
 use std::alloc::Global;
-
-/// The machine, as START tells it.
-#[derive(Clone, Copy, Debug, Drop)]
-pub struct Identity {
-    /// Its identifier (RFC 4578, section 2.3).
-    pub(crate) uuid: [u8; 16],
-    /// Its architecture (RFC 4578, section 2.1).
-    pub(crate) arch: u16,
-    /// The key of the words that its opens take: transaction and query numbers.
-    pub(crate) key: [u8; 32],
-}
 
 /// What a run has beside its script: its link, its clock, its opens, its settings and its images.
 #[derive(Drop)]

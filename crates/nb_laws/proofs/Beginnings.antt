@@ -10,9 +10,10 @@ use Rattle.nb_engine.specs.declared.world.World.{World}
 use Rattle.nb_engine.specs.World.{world_of, with_net, world_later}
 use Rattle.nb_engine.specs.Opens.{Open, heard_from}
 use Rattle.nb_defs.specs.Causes.{ok}
-use Rattle.nb_engine.specs.Effects.{ShownWords, sleeps}
-use Rattle.nb_engine.specs.Running.{Running, anew, with_result}
-use Rattle.nb_engine.specs.Machine.{Machine, running, waiting, sleeping, Begins, runs, refuses, passes_by, brings, passes_time, switches_off, passes_it_by, brings_it, passes_its_time, switches_it_off, goes_on_by_frame, goes_on_by_tick, goes_off, sleeps_through_frame, sleeps_on, wakes, goes_off_asleep, reply_records, stopped_cause}
+use Rattle.nb_machine.specs.Effects.{ShownWords, sleeps}
+use Rattle.nb_machine.specs.Running.{Running, anew, with_result}
+use Rattle.nb_engine.specs.Machine.{Machine, running, waiting, sleeping, Begins, runs, refuses, passes_by, brings, passes_time, switches_off, passes_it_by, brings_it, passes_its_time, switches_it_off, goes_on_by_frame, goes_on_by_tick, goes_off, sleeps_through_frame, sleeps_on, wakes, goes_off_asleep}
+use Rattle.nb_machine.specs.CommandRecords.{reply_records, stopped_cause}
 use Rattle.nb_laws.specs.Events.{Event, starts, hears, waits, stops, puts, followed}
 use Rattle.nb_laws.specs.Histories.{client}
 use Rattle.nb_laws.specs.Lists as lists

@@ -5,7 +5,7 @@ use Rattle.std.proofs.lemmas.List.Sums.{fold-append}
 use Rattle.nb_defs.specs.Causes.{is_ok_cause}
 use Rattle.nb_defs.specs.Records.{Out}
 use Rattle.nb_defs.specs.ScriptLines.{Line, label, list, empty, Item, items}
-use Rattle.nb_engine.specs.Running.{Running, Coming, passing, leaving, beginning, behind_command, lets_run, words_come, list_comes, line_comes, rest_comes, coming}
+use Rattle.nb_machine.specs.Running.{Running, Coming, passing, leaving, beginning, behind_command, lets_run, words_come, list_comes, line_comes, rest_comes, coming}
 use Rattle.nb_laws.specs.Events.{Event, puts}
 use Rattle.nb_laws.specs.Code.{script_code, code_by}
 use Rattle.nb_laws.proofs.Tellings.{told}

@@ -24,10 +24,10 @@ use Rattle.nb_command.specs.Planning.{planned}
 use Rattle.std.proofs.lemmas.Option.{none-some, same_Some}
 use Rattle.nb_dns.specs.WrittenNames.{is_lookup_name}
 use Rattle.nb_wire.specs.declared.address.Ip4.{Ip4}
-use Rattle.nb_engine.specs.Errands.{Wanted, wanted_at, remote_file, fetches_then, echoes_then, onward}
-use Rattle.nb_engine.specs.Effects.{Effect, says, asks, sleeps, shuts_device, inquires, unless_full, device_effect, onward_effect, asked_host, named_host, fetch, fetched, plan_effect, planned_effect, words_effect, ShownWords, effect, expansion, expanded_effect}
-use Rattle.nb_engine.specs.Queries.{for_lease, bad_name, no_server, dns_in, with_domain}
-use Rattle.nb_engine.proofs.Eithers.{either_of, full_either}
+use Rattle.nb_machine.specs.Errands.{Wanted, wanted_at, remote_file, fetches_then, echoes_then, onward}
+use Rattle.nb_machine.specs.Effects.{Effect, says, asks, sleeps, shuts_device, inquires, unless_full, device_effect, onward_effect, asked_host, named_host, fetch, fetched, plan_effect, planned_effect, words_effect, ShownWords, effect, expansion, expanded_effect}
+use Rattle.nb_machine.specs.Queries.{for_lease, bad_name, no_server, dns_in, with_domain}
+use Rattle.nb_machine.proofs.Eithers.{either_of, full_either}
 use Rattle.nb_laws.specs.CommandsSoFar.{shown_effect}
 use Rattle.nb_laws.specs.Fetching.{expanded_shown, IsServerOf, by_decimals, by_look_up, FetchesFile}
 use Rattle.nb_laws.specs.HandOff.{wanted_by}

@@ -11,12 +11,15 @@ use Rattle.nb_tftp.specs.Blocks.{is_whole}
 use Rattle.nb_tftp.specs.History.{received_by}
 use Rattle.nb_engine.specs.declared.world.World.{World}
 use Rattle.nb_command.specs.SettingAddresses.{host}
-use Rattle.nb_engine.specs.World.{with_open, with_ended_open, own_port}
-use Rattle.nb_engine.specs.Errands.{Wanted}
-use Rattle.nb_engine.specs.Opens.{open_for, begun_for, opened_record, has_route, send_records, request_of}
-use Rattle.nb_engine.specs.Conclusions.{fails, conclusion_records}
-use Rattle.nb_engine.specs.Running.{Running, with_result}
-use Rattle.nb_engine.specs.Machine.{Phase, running, waiting, no_route}
+use Rattle.nb_engine.specs.World.{with_open, with_ended_open}
+use Rattle.nb_machine.specs.Starting.{own_port}
+use Rattle.nb_machine.specs.Errands.{Wanted}
+use Rattle.nb_engine.specs.Opens.{open_for, begun_for, opened_record}
+use Rattle.nb_machine.specs.Sendings.{has_route, send_records, request_of}
+use Rattle.nb_machine.specs.Conclusions.{fails, conclusion_records}
+use Rattle.nb_machine.specs.Running.{Running, with_result}
+use Rattle.nb_engine.specs.Machine.{Phase, running, waiting}
+use Rattle.nb_machine.specs.CommandRecords.{no_route}
 use Rattle.nb_laws.specs.Events.{Event, puts}
 use Rattle.nb_laws.specs.Lists as lists
 use Rattle.nb_laws.specs.Lists.{commands_begun, time, came_ok, open_has_ended as is_ended, calls, tries, marks}

@@ -11,11 +11,12 @@ use Rattle.nb_dns.specs.Lookups.{Lookup}
 use Rattle.nb_dns.specs.LookupCalls as dns
 use Rattle.nb_nodes.specs.LookupExchanges.{LookupAsked, lookup_for}
 use Rattle.nb_tftp.specs.History.{Entry, got}
-use Rattle.nb_engine.specs.Effects.{Effect, inquires}
-use Rattle.nb_engine.specs.Errands.{Errand, Onward, onward}
-use Rattle.nb_engine.specs.Queries.{Query, for_lease, for_echo, for_host, for_address}
+use Rattle.nb_machine.specs.Effects.{Effect, inquires}
+use Rattle.nb_machine.specs.Errands.{Errand, Onward, onward}
+use Rattle.nb_machine.specs.Queries.{Query, for_lease, for_echo, for_host, for_address}
 use Rattle.nb_engine.specs.Talks.{Talk, looks_up, leases, pings, fields_of}
-use Rattle.nb_engine.specs.Lones.{query_id, Lone, with_talk, onward_from}
+use Rattle.nb_machine.specs.Findings.{query_id}
+use Rattle.nb_engine.specs.Lones.{Lone, with_talk, onward_from}
 use Rattle.nb_laws.specs.Events.{Event}
 use Rattle.nb_laws.specs.Lists as lists
 use Rattle.nb_laws.specs.Lists.{Hardware, hardware, made, came_ok, last_end, openings, calls, opens_file, time, commands_begun, Opening, open_has_ended, Mark, tries, mark_of, marks}

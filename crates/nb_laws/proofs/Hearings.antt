@@ -13,12 +13,13 @@ use Rattle.nb_tftp.specs.Blocks.{is_whole}
 use Rattle.nb_tftp.specs.History.{Call, Entry, entry, got, received_by}
 use Rattle.nb_engine.specs.declared.world.World.{World}
 use Rattle.nb_engine.specs.World.{unbound}
-use Rattle.nb_engine.specs.Errands.{Wanted}
+use Rattle.nb_machine.specs.Errands.{Wanted}
 use Rattle.nb_laws.specs.CommandsSoFar.{CommandsSoFar, so_far, shown_effect}
 use Rattle.nb_laws.proofs.SoFar.{so_far_more, client_stays, opens_so_far, conclusion_so_far, settings_as, settings_over, asks_as, file_left}
-use Rattle.nb_engine.specs.Opens.{Open, open_for, opened_record, with_entry, acts_records}
-use Rattle.nb_engine.specs.Conclusions.{image_from, Conclusion, keeps, fails, boots, conclusion_records}
-use Rattle.nb_engine.specs.Running.{Running, with_result}
+use Rattle.nb_engine.specs.Opens.{Open, open_for, opened_record, with_entry, image_from}
+use Rattle.nb_machine.specs.Sendings.{acts_records}
+use Rattle.nb_machine.specs.Conclusions.{Conclusion, keeps, fails, boots, conclusion_records}
+use Rattle.nb_machine.specs.Running.{Running, with_result}
 use Rattle.nb_engine.specs.Machine.{Phase, Hears, goes_on, is_over, phase_after, concluded}
 use Rattle.nb_laws.specs.Events.{Event, puts}
 use Rattle.std.proofs.Math.Bool.{or-true}

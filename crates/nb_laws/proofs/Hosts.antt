@@ -10,10 +10,10 @@ use Rattle.nb_dns.specs.WrittenNames.{is_lookup_name}
 use Rattle.nb_settings.specs.Tables.{TableLists}
 use Rattle.nb_uri.specs.Addresses.{four_decimals}
 use Rattle.nb_wire.specs.declared.address.Ip4.{Ip4}
-use Rattle.nb_engine.specs.Errands.{Errand, onward}
-use Rattle.nb_engine.specs.Effects.{Effect, says, inquires, unless_full, onward_effect, asked_host, named_host, at_host, asked_name_server, name_effect, unless_refused, looked_up_effect}
-use Rattle.nb_engine.specs.Queries.{for_host, for_address, bad_name, no_server, dns_in, with_domain}
-use Rattle.nb_engine.proofs.Eithers.{either_of, full_either}
+use Rattle.nb_machine.specs.Errands.{Errand, onward}
+use Rattle.nb_machine.specs.Effects.{Effect, says, inquires, unless_full, onward_effect, asked_host, named_host, at_host, asked_name_server, name_effect, unless_refused, looked_up_effect}
+use Rattle.nb_machine.specs.Queries.{for_host, for_address, bad_name, no_server, dns_in, with_domain}
+use Rattle.nb_machine.proofs.Eithers.{either_of, full_either}
 
 -- it is refused, or is asked of the host's address, or a name server is asked for that
 pub host_cases : (P : Effect → Type 0) → ((o : CommandOutcome) → P (says o)) → (errand : Errand) → ((address : ℕ) → P (onward_effect (onward errand address))) →

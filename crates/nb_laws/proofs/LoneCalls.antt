@@ -8,7 +8,7 @@ use Rattle.nb_stack.specs.Takes.{outcome_of, client_after}
 use Rattle.nb_tftp.specs.History.{Call, ticked, Entry}
 use Rattle.nb_engine.specs.declared.world.World.{World}
 use Rattle.nb_engine.specs.World.{with_net, world_later}
-use Rattle.nb_engine.specs.Opens.{has_route}
+use Rattle.nb_machine.specs.Sendings.{has_route}
 use Rattle.nb_engine.specs.Talks.{Talk, looks_up, leases, pings, fields_of, first_message, message_for}
 use Rattle.nb_engine.specs.Lones.{Lone}
 use Rattle.nb_laws.specs.Events.{Event, hears, waits}

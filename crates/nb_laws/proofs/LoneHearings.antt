@@ -29,13 +29,15 @@ use Rattle.nb_tftp.specs.Blocks.{is_whole}
 use Rattle.nb_tftp.specs.History.{Call, Entry, entry, got, received_by}
 use Rattle.nb_tftp.proofs.HistoryLemmas.{is_ended-append}
 use Rattle.nb_engine.specs.declared.world.World.{World}
-use Rattle.nb_engine.specs.Effects.{Effect, inquires, changed}
-use Rattle.nb_engine.specs.Opens.{has_route, acts_records, advance_records, sends_records}
-use Rattle.nb_engine.specs.Errands.{echoes_then}
-use Rattle.nb_engine.specs.Queries.{Query, for_lease, for_echo, for_host, for_address}
-use Rattle.nb_engine.specs.Talks.{Talk, looks_up, leases, pings, OpenFields, fields_of, proto_of, first_message, Incoming}
-use Rattle.nb_engine.specs.Lones.{Lone, with_talk, without_lone, lease_change, found_change, settled_by, settled, world_settled}
-use Rattle.nb_engine.specs.Running.{Running, with_result}
+use Rattle.nb_machine.specs.Effects.{Effect, inquires, changed}
+use Rattle.nb_machine.specs.Sendings.{has_route, acts_records, advance_records, sends_records}
+use Rattle.nb_machine.specs.Errands.{echoes_then}
+use Rattle.nb_machine.specs.Queries.{Query, for_lease, for_echo, for_host, for_address}
+use Rattle.nb_engine.specs.Talks.{Talk, looks_up, leases, pings, fields_of, proto_of, first_message, Incoming}
+use Rattle.nb_machine.specs.Saying.{OpenFields}
+use Rattle.nb_engine.specs.Lones.{Lone, with_talk, without_lone, found_change, settled, world_settled}
+use Rattle.nb_machine.specs.Findings.{lease_change, settled_by}
+use Rattle.nb_machine.specs.Running.{Running, with_result}
 use Rattle.nb_engine.specs.Machine.{Phase, Replies, talks_on, comes_to_end, finds_host}
 use Rattle.nb_defs.specs.Parts.{HaveNoParts}
 use Rattle.nb_laws.specs.Events.{Event, puts}
@@ -47,7 +49,8 @@ use Rattle.nb_laws.specs.CommandsSoFar.{CommandsSoFar, so_far, ComesTo, shown_ef
 use Rattle.nb_laws.specs.HandOff.{images_brought, image_list, image_at, image_by, shown_effect_of, last_image}
 use Rattle.nb_laws.specs.Progress.{IsAdvanced}
 use Rattle.nb_laws.specs.Frames.{MayAskFor, IsDue, HoldsResult, IsResult, IsLastQuery, by_failed_end, by_found, by_echo_of_host}
-use Rattle.nb_laws.specs.Agreement.{AgreesWorld, AgreesLone, AgreesScript, AgreesSettings, Asks, asks_at_once, echoes_next, Inquires, IsTalk, opening_by, lone_opening, moment, try_marks, entry_marks, bare, NoneLives}
+use Rattle.nb_laws.specs.Agreement.{AgreesWorld, AgreesLone, AgreesScript, AgreesSettings, Asks, asks_at_once, echoes_next, Inquires, IsTalk, opening_by, lone_opening, moment, try_marks, entry_marks, NoneLives}
+use Rattle.nb_machine.specs.States.{bare}
 use Rattle.nb_laws.proofs.Tellings.{told, kept, world_kept, live_kept, tries_by, story_put, story_told, story_still, still_advanced, Story, openings_more, calls_more, other_number}
 use Rattle.nb_laws.proofs.Asides.{aside_acts, none_of_acts, own_send}
 use Rattle.nb_laws.proofs.HandOffs.{opens_acts, opens_keep, opens_parts, parts_more, one_keeps, last_end_more}

@@ -6,14 +6,17 @@ use Rattle.nb_stack.specs.Client.{Client}
 use Rattle.nb_stack.specs.declared.taken.Fate.TheVariants as fate
 use Rattle.nb_tftp.specs.History.{received_by}
 use Rattle.nb_engine.specs.declared.world.World.{World}
-use Rattle.nb_engine.specs.World.{with_ended_open, own_port}
-use Rattle.nb_engine.specs.Effects.{inquires}
-use Rattle.nb_engine.specs.Queries.{Query, for_lease, for_echo, for_host, for_address}
-use Rattle.nb_engine.specs.Talks.{Talk, OpenFields, fields_of, proto_of, first_message}
+use Rattle.nb_engine.specs.World.{with_ended_open}
+use Rattle.nb_machine.specs.Starting.{own_port}
+use Rattle.nb_machine.specs.Effects.{inquires}
+use Rattle.nb_machine.specs.Queries.{Query, for_lease, for_echo, for_host, for_address}
+use Rattle.nb_engine.specs.Talks.{Talk, fields_of, proto_of, first_message}
+use Rattle.nb_machine.specs.Saying.{OpenFields}
 use Rattle.nb_engine.specs.Lones.{talk_for, lone_for, open_told, with_lone}
-use Rattle.nb_engine.specs.Opens.{has_route, send_records}
-use Rattle.nb_engine.specs.Running.{Running, with_result}
-use Rattle.nb_engine.specs.Machine.{asking, running, no_route}
+use Rattle.nb_machine.specs.Sendings.{has_route, send_records}
+use Rattle.nb_machine.specs.Running.{Running, with_result}
+use Rattle.nb_engine.specs.Machine.{asking, running}
+use Rattle.nb_machine.specs.CommandRecords.{no_route}
 use Rattle.nb_laws.specs.Events.{Event, puts}
 use Rattle.nb_laws.specs.Histories.{client}
 use Rattle.nb_laws.specs.Lists as lists
@@ -25,7 +28,8 @@ use Rattle.nb_laws.specs.Openings.{inquiry_fields, opens_for_query}
 use Rattle.nb_laws.specs.Progress.{IsAdvanced}
 use Rattle.nb_laws.specs.Frames.{MayAskFor, by_look_up, by_discover, by_ping, WritesSo, by_opening, by_failed_end}
 use Rattle.nb_laws.specs.Endings.{fate_to, Holds, IsJustOpened, by_no_route}
-use Rattle.nb_laws.specs.Agreement.{AgreesWorld, AgreesSettings, Inquires, IsTalk, TalkMeets, IsOnly, NoneLives, opening_by, bare}
+use Rattle.nb_laws.specs.Agreement.{AgreesWorld, AgreesSettings, Inquires, IsTalk, TalkMeets, IsOnly, NoneLives, opening_by}
+use Rattle.nb_machine.specs.States.{bare}
 use Rattle.nb_laws.proofs.Histories.{client_put, offset_more, hardware_more, time_more}
 use Rattle.nb_laws.proofs.Tellings.{told, story_still, still_advanced, live_kept, live_same, advanced_open, made_more, kept, world_kept, tries_by, Story, story_put, story_told, openings_more, calls_more, marks_more, over_more, no_more, no_or, same_number, other_number}
 use Rattle.nb_laws.proofs.Asides.{aside_send, none_of_send, own_send}

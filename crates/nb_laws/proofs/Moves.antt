@@ -5,11 +5,12 @@ use Rattle.nb_defs.specs.Causes.{ok}
 use Rattle.nb_defs.specs.Commands.{CommandOutcome, refused}
 use Rattle.nb_defs.specs.Records.{In, Out, result, leave}
 use Rattle.nb_engine.specs.declared.world.World.{World}
-use Rattle.nb_engine.specs.Effects.{asks, goes, sleeps, effect, ShownWords, shown_words, table_after, up_after}
+use Rattle.nb_machine.specs.Effects.{asks, goes, sleeps, effect, ShownWords, shown_words, table_after, up_after}
 use Rattle.nb_engine.proofs.CommandLaws.{same_world, same_up}
 use Rattle.nb_engine.specs.Opens.{open_for}
-use Rattle.nb_engine.specs.Running.{Running, entered, further, behind_line, no_label}
-use Rattle.nb_engine.specs.Machine.{Machine, running, Move, passes, is_left, yields, does, closes_device, leaves, jumps, finds_no_label, falls_asleep, asks_for, finds_no_route, inquires_for, reaches_none, asks_on, finds_no_way, echoes_on, finds_no_way_to, opens_no_more, hands, has_handed, world_after, command_records, command_record}
+use Rattle.nb_machine.specs.Running.{Running, entered, further, behind_line, no_label}
+use Rattle.nb_engine.specs.Machine.{Machine, running, Move, passes, is_left, yields, does, closes_device, leaves, jumps, finds_no_label, falls_asleep, asks_for, finds_no_route, inquires_for, reaches_none, asks_on, finds_no_way, echoes_on, finds_no_way_to, opens_no_more, hands, has_handed, world_after}
+use Rattle.nb_machine.specs.CommandRecords.{command_records, command_record}
 use Rattle.nb_laws.specs.Events.{Event, puts, EachEvent}
 use Rattle.std.proofs.lemmas.List.{map-append}
 use Rattle.nb_laws.specs.Lists.{commands_begun}
@@ -29,8 +30,8 @@ use Rattle.nb_laws.proofs.Asides.{more_still, still_command, none_of_command}
 use Rattle.nb_laws.specs.Frames.{WritesSo}
 use Rattle.nb_laws.proofs.Puttings.{begins_so, command_comes, command_writes, shut_writes, jump_writes, no_label_writes, opened_so}
 use Rattle.nb_laws.proofs.Worlds.{quiet_world, moved_world}
-use Rattle.nb_engine.specs.Errands.{Wanted, fetches_now, echoes_now}
-use Rattle.nb_engine.specs.Queries.{for_echo}
+use Rattle.nb_machine.specs.Errands.{Wanted, fetches_now, echoes_now}
+use Rattle.nb_machine.specs.Queries.{for_echo}
 use Rattle.nb_laws.proofs.FileOpens.{IsUnderWay, may_open, told_after, file_opens, file_fails}
 use Rattle.nb_laws.proofs.LoneOpens.{lone_opens, lone_fails}
 use Rattle.nb_laws.proofs.LoneMoves.{inquires_tells, none_reached_tells}

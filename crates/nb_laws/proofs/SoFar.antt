@@ -3,7 +3,7 @@ use Rattle.std.proofs.Common.{◌≡◌, ℕ, ◌+◌, ◌-◌, ◌*◌, ◌<◌
 use Rattle.nb_defs.specs.Commands.{CommandOutcome}
 use Rattle.std.proofs.lemmas.Option.{none-some}
 use Rattle.nb_terms.specs.declared.cause.Cause.{Cause}
-use Rattle.nb_defs.specs.Records.{Out, step, text as prints_text, command, sent, tried, advanced, result}
+use Rattle.nb_defs.specs.Records.{Out, step, text as prints_text, command, sent, tried, advanced, result, Start}
 use Rattle.nb_settings.specs.Tables.{TableLists}
 use Rattle.nb_expand.specs.declared.error.ExpandError.{ExpandError}
 use Rattle.nb_command.specs.declared.command_plan.CommandPlan.{CommandPlan}
@@ -15,28 +15,29 @@ use Rattle.nb_command.specs.declared.locating.Located.{Located}
 use Rattle.nb_command.specs.Device.{device_change}
 use Rattle.nb_command.specs.Planning.{planned}
 use Rattle.nb_engine.specs.declared.world.World.{World}
-use Rattle.nb_engine.specs.Effects.{Effect, says, asks, goes, sleeps, shuts_device, inquires, unless_full, device_effect, fetch, fetched, ShownWords, shown_as, shown_words, effect, words_effect, words_table, table_after, up_after, expansion, expanded_effect, plan_effect, planned_effect}
-use Rattle.nb_engine.specs.Conclusions.{Conclusion, keeps, fails, boots, conclusion_records}
+use Rattle.nb_machine.specs.Effects.{Effect, says, asks, goes, sleeps, shuts_device, inquires, unless_full, device_effect, fetch, fetched, ShownWords, shown_as, shown_words, effect, words_effect, words_table, table_after, up_after, expansion, expanded_effect, plan_effect, planned_effect}
+use Rattle.nb_machine.specs.Conclusions.{Conclusion, keeps, fails, boots, conclusion_records}
 use Rattle.nb_engine.specs.Opens.{Open}
 use Rattle.nb_engine.specs.Lones.{Lone}
-use Rattle.nb_engine.specs.Running.{Running}
-use Rattle.nb_engine.specs.Machine.{prints, command_record, command_records}
-use Rattle.nb_defs.specs.Records.{Start}
-use Rattle.nb_engine.specs.StartTable.{start_table}
-use Rattle.nb_engine.specs.World.{is_up, world_of, with_net, world_later}
-use Rattle.nb_engine.specs.Errands.{Errand, fetches_then, echoes_then, remote_file}
-use Rattle.nb_engine.specs.Queries.{Query, for_lease, for_host}
-use Rattle.nb_engine.proofs.Eithers.{full_either}
+use Rattle.nb_machine.specs.Running.{Running}
+use Rattle.nb_machine.specs.CommandRecords.{prints, command_record, command_records}
+use Rattle.nb_machine.specs.StartTable.{start_table}
+use Rattle.nb_machine.specs.Starting.{is_up}
+use Rattle.nb_engine.specs.World.{world_of, with_net, world_later}
+use Rattle.nb_machine.specs.Errands.{Errand, fetches_then, echoes_then, remote_file}
+use Rattle.nb_machine.specs.Queries.{Query, for_lease, for_host}
+use Rattle.nb_machine.proofs.Eithers.{full_either}
 use Rattle.nb_engine.proofs.CommandLaws.{effect_of_words, table_of_words, up_of_words, shown_of_words, shown_of_refused, table_of_refused, up_of_refused, sleeps_some, KeepsTable, keeps_words}
 use Rattle.nb_stack.specs.Client.{Client}
 use Rattle.nb_laws.specs.Events.{Event, starts, puts, followed}
-use Rattle.nb_engine.specs.Link.{link_by}
+use Rattle.nb_machine.specs.Link.{link_by}
 use Rattle.nb_laws.specs.Histories.{client}
 use Rattle.nb_laws.specs.HandOff.{wanted_by}
 use Rattle.nb_laws.specs.Lists.{made, came_ok, last_end}
 use Rattle.nb_laws.specs.CommandsSoFar.{CommandsSoFar, so_far, so_far_by, no_commands, shown_effect, shown_table, shown_up, query_in, shown_query, found_table, left_table, ComesTo}
 use Rattle.nb_laws.specs.Progress.{NoneOversleeps}
-use Rattle.nb_laws.specs.Agreement.{bare, AgreesSettings, AgreesSleep, opening_of, AsksFor, Inquires}
+use Rattle.nb_machine.specs.States.{bare}
+use Rattle.nb_laws.specs.Agreement.{AgreesSettings, AgreesSleep, opening_of, AsksFor, Inquires}
 use Rattle.nb_laws.specs.Silence.{IsSilent, AreSilent}
 use Rattle.nb_laws.proofs.Hosts.{host_cases, address_cases}
 use Rattle.nb_laws.proofs.Inquiries.{IsFetch, fetches_at_once, fetches_of_host, fetch_of, asks_some, shown_inquiry_keeps}

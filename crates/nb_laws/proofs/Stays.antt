@@ -17,9 +17,9 @@ use Rattle.nb_command.specs.Planning.{planned}
 use Rattle.nb_command.specs.Settings.{Change}
 use Rattle.nb_dns.specs.WrittenNames.{is_lookup_name}
 use Rattle.nb_uri.specs.Addresses.{four_decimals}
-use Rattle.nb_engine.specs.Errands.{Errand, fetches_then, echoes_then, remote_file, onward}
-use Rattle.nb_engine.specs.Queries.{Query, for_lease, bad_name, dns_in, with_domain}
-use Rattle.nb_engine.specs.Effects.{Effect, says, asks, goes, sleeps, shuts_device, inquires, full_opens, unless_full, device_effect, onward_effect, asked_host, named_host, at_host, fetch, fetched, asked_name_server, name_effect, unless_refused, looked_up_effect, plan_effect, planned_effect, words_effect, expansion, expanded_effect, effect, ShownWords, shown_as}
+use Rattle.nb_machine.specs.Errands.{Errand, fetches_then, echoes_then, remote_file, onward}
+use Rattle.nb_machine.specs.Queries.{Query, for_lease, bad_name, dns_in, with_domain}
+use Rattle.nb_machine.specs.Effects.{Effect, says, asks, goes, sleeps, shuts_device, inquires, full_opens, unless_full, device_effect, onward_effect, asked_host, named_host, at_host, fetch, fetched, asked_name_server, name_effect, unless_refused, looked_up_effect, plan_effect, planned_effect, words_effect, expansion, expanded_effect, effect, ShownWords, shown_as}
 use Rattle.nb_laws.specs.CommandsSoFar.{shown_effect}
 
 -- something is asked for by an open

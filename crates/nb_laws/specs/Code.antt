@@ -1,7 +1,7 @@
 -- The first script, by the history: the lines of the text that START gives.
 use Rattle.std.specs.Prelude.{List, [], fold}
 use Rattle.nb_defs.specs.ScriptLines.{Line, Reading, script, no_script, script_too_long, line_too_long}
-use Rattle.nb_engine.specs.FirstText.{first_reading}
+use Rattle.nb_machine.specs.FirstText.{first_reading}
 use Rattle.nb_laws.specs.Events.{Event, starts, hears, waits, stops, puts}
 
 -- the lines of a text; none where it doesn't run

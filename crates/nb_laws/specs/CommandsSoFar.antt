@@ -3,11 +3,11 @@ use Rattle.std.specs.Prelude.{◌≡◌, ℕ, ◌+◌, ◌-◌, Bool, true, fals
 use Rattle.std.specs.Option.{option_map_or}
 use Rattle.nb_defs.specs.Records.{step, command, result}
 use Rattle.nb_settings.specs.Tables.{TableLists, root_alone}
-use Rattle.nb_engine.specs.StartTable.{start_table}
-use Rattle.nb_engine.specs.World.{is_up}
-use Rattle.nb_engine.specs.Effects.{Effect, says, asks, goes, sleeps, shuts_device, inquires, ShownWords, shown_as, effect, words_effect, words_table, words_up, changed}
-use Rattle.nb_engine.specs.Queries.{Query, for_lease, for_echo, for_host, for_address}
-use Rattle.nb_engine.specs.Lones.{lease_change}
+use Rattle.nb_machine.specs.StartTable.{start_table}
+use Rattle.nb_machine.specs.Starting.{is_up}
+use Rattle.nb_machine.specs.Effects.{Effect, says, asks, goes, sleeps, shuts_device, inquires, ShownWords, shown_as, effect, words_effect, words_table, words_up, changed}
+use Rattle.nb_machine.specs.Queries.{Query, for_lease, for_echo, for_host, for_address}
+use Rattle.nb_machine.specs.Findings.{lease_change}
 use Rattle.nb_command.specs.Settings.{Change}
 use Rattle.nb_command.specs.Addresses.{address_table}
 use Rattle.nb_dns.specs.LookupReplies.{address_found}

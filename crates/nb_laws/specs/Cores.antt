@@ -11,7 +11,7 @@ use Rattle.nb_ping.specs.Pings.{Pinged, pinged}
 use Rattle.nb_tftp.specs.Received.{Received}
 use Rattle.nb_tftp.specs.Blocks.{is_whole}
 use Rattle.nb_command.specs.SettingAddresses.{host}
-use Rattle.nb_engine.specs.Lones.{asker_at, query_id}
+use Rattle.nb_machine.specs.Findings.{asker_at, query_id}
 use Rattle.nb_laws.specs.Events.{Event}
 use Rattle.nb_laws.specs.Lists.{Hardware, hardware, Opening, datagrams_of}
 

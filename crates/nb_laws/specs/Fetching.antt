@@ -11,9 +11,9 @@ use Rattle.nb_command.specs.Locating.{base_in}
 use Rattle.nb_command.specs.Planning.{planned}
 use Rattle.nb_dns.specs.WrittenNames.{is_lookup_name}
 use Rattle.nb_wire.specs.declared.address.Ip4.{Ip4}
-use Rattle.nb_engine.specs.Queries.{dns_in, with_domain}
-use Rattle.nb_engine.specs.Effects.{ShownWords, expansion}
-use Rattle.nb_engine.specs.Errands.{Wanted}
+use Rattle.nb_machine.specs.Queries.{dns_in, with_domain}
+use Rattle.nb_machine.specs.Effects.{ShownWords, expansion}
+use Rattle.nb_machine.specs.Errands.{Wanted}
 
 -- the expanded words of a command, by those that its record shows
 abbrev pub expanded_shown : TableLists → ShownWords → Result (List (List ℕ)) ExpandError

@@ -10,11 +10,11 @@ use Rattle.nb_tftp.specs.Received.{Received}
 use Rattle.nb_tftp.specs.Blocks.{file, is_whole}
 use Rattle.nb_image.specs.declared.image.Image.{Image}
 use Rattle.nb_image.specs.Images.{image_of, with_image}
-use Rattle.nb_engine.specs.Conclusions.{place_for, handoff_records}
-use Rattle.nb_engine.specs.Effects.{Effect, says, asks, goes, sleeps, shuts_device, inquires, ShownWords}
-use Rattle.nb_engine.specs.Errands.{Wanted, wanted_at, fetches_then, echoes_then}
-use Rattle.nb_engine.specs.Queries.{Query, for_lease, for_echo, for_host, for_address}
-use Rattle.nb_engine.specs.declared.errand.RemoteFile.{RemoteFile}
+use Rattle.nb_machine.specs.Conclusions.{place_for, handoff_records}
+use Rattle.nb_machine.specs.Effects.{Effect, says, asks, goes, sleeps, shuts_device, inquires, ShownWords}
+use Rattle.nb_machine.specs.Errands.{Wanted, wanted_at, fetches_then, echoes_then}
+use Rattle.nb_machine.specs.Queries.{Query, for_lease, for_echo, for_host, for_address}
+use Rattle.nb_machine.specs.declared.remote_file.RemoteFile.{RemoteFile}
 use Rattle.nb_tftp.specs.Cuts.{CarriesFile}
 use Rattle.nb_laws.specs.CommandsSoFar.{so_far, shown_effect, ComesTo}
 use Rattle.nb_laws.specs.Events.{Event, puts, EachEvent}

@@ -4,8 +4,8 @@ use Rattle.nb_defs.specs.Records.{In, Out, step, sent, text, command, result, sc
 use Rattle.nb_stack.specs.Client.{Client}
 use Rattle.nb_stack.specs.Brings.{Brings}
 use Rattle.nb_stack.specs.Takes.{client_after}
-use Rattle.nb_engine.specs.Link.{link_by}
-use Rattle.nb_engine.specs.World.{device_of}
+use Rattle.nb_machine.specs.Link.{link_by}
+use Rattle.nb_machine.specs.Starting.{device_of}
 use Rattle.nb_laws.specs.Events.{Event, starts, hears, waits, stops, puts, inputs, outputs, EachEvent, followed}
 use Rattle.nb_laws.specs.CommandsSoFar.{CommandsSoFar, no_commands, so_far_by}
 

@@ -1,10 +1,10 @@
 -- What an OPEN is for: its kind, its server and the rest are those that the words of the command say.
 use Rattle.std.specs.Prelude.{◌≡◌, ℕ, ◌-◌, true, List, [], ◌∷◌, Some, None}
-use Rattle.nb_engine.specs.World.{own_port}
-use Rattle.nb_engine.specs.Effects.{asks, inquires}
-use Rattle.nb_engine.specs.Errands.{Wanted, Errand, Onward, fetches_now, echoes_now, onward}
-use Rattle.nb_engine.specs.Queries.{Query, for_lease, for_echo, for_host, for_address}
-use Rattle.nb_engine.specs.Talks.{OpenFields}
+use Rattle.nb_machine.specs.Starting.{own_port}
+use Rattle.nb_machine.specs.Effects.{asks, inquires}
+use Rattle.nb_machine.specs.Errands.{Wanted, Errand, Onward, fetches_now, echoes_now, onward}
+use Rattle.nb_machine.specs.Queries.{Query, for_lease, for_echo, for_host, for_address}
+use Rattle.nb_machine.specs.Saying.{OpenFields}
 use Rattle.nb_laws.specs.Events.{Event}
 use Rattle.nb_dns.specs.LookupReplies.{address_found}
 use Rattle.nb_command.specs.SettingAddresses.{host}

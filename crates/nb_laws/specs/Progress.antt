@@ -1,7 +1,7 @@
 -- How far a run is at each event: which record is used, whether what an open asks for has come, and what ADVANCE tells.
 use Rattle.std.specs.Prelude.{◌≡◌, ℕ, ◌+◌, ◌*◌, ◌<◌, true, false, List, [], ◌∷◌, length}
 use Rattle.nb_defs.specs.Records.{step, advanced}
-use Rattle.nb_engine.specs.Effects.{sleeps}
+use Rattle.nb_machine.specs.Effects.{sleeps}
 use Rattle.nb_laws.specs.CommandsSoFar.{so_far, ComesTo}
 use Rattle.nb_laws.specs.Events.{Event, starts, hears, waits, stops, puts, inputs}
 use Rattle.nb_laws.specs.Lists.{Opening, live, file_blocks, last_place, made, commands_begun}

@@ -1,7 +1,7 @@
 -- What a run that is ended from outside has still to close: every open that lives, by rising number.
 use Rattle.std.specs.Prelude.{◌≡◌, List, []}
 use Rattle.nb_defs.specs.Records.{Out}
-use Rattle.nb_engine.specs.Machine.{stopped_cause}
+use Rattle.nb_machine.specs.CommandRecords.{stopped_cause}
 use Rattle.nb_machine.specs.Lives.{close}
 use Rattle.nb_machine.specs.States.{State}
 use Rattle.nb_machine.specs.Takings.{Over, AllTake}

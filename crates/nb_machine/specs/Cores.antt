@@ -16,9 +16,9 @@ use Rattle.nb_dhcp.specs.History.{Handed, handed_body, acknowledgement_in}
 use Rattle.nb_ping.specs.Pings.{Pinged, pinged}
 use Rattle.nb_nodes.specs.Exchanges.{Service}
 use Rattle.nb_command.specs.SettingAddresses.{host}
-use Rattle.nb_engine.specs.Machine.{no_route}
-use Rattle.nb_engine.specs.Opens.{has_route, send_records, acts_records}
-use Rattle.nb_engine.specs.Talks.{datagram_from}
+use Rattle.nb_machine.specs.CommandRecords.{no_route}
+use Rattle.nb_machine.specs.Sendings.{has_route, send_records, acts_records}
+use Rattle.nb_machine.specs.Saying.{datagram_from}
 use Rattle.nb_machine.specs.Lives.{OpenInput, message, time, close, Exchange, exchange, Live}
 use Rattle.nb_machine.specs.Transfers.{finds_none, earlier, end_records}
 

@@ -7,12 +7,12 @@ use Rattle.nb_defs.specs.Commands.{CommandOutcome, refused}
 use Rattle.nb_defs.specs.Records.{Start, In, start, off, IsIn, Out, step, enter, leave, result}
 use Rattle.nb_defs.specs.ScriptLines.{Line, script, label_place}
 use Rattle.nb_stack.specs.Client.{Client}
-use Rattle.nb_engine.specs.Conclusions.{Conclusion, keeps, fails, boots, conclusion_records, handoff_records}
-use Rattle.nb_engine.specs.Effects.{shown_words, full_opens}
-use Rattle.nb_engine.specs.Errands.{Onward}
-use Rattle.nb_engine.specs.FirstText.{first_reading, text_refusal}
-use Rattle.nb_engine.specs.Running.{Running, first_script, coming, passing, leaving, beginning, entered, further, behind_line, with_result, anew, no_label}
-use Rattle.nb_engine.specs.Machine.{command_record, command_records, no_route, stopped_cause}
+use Rattle.nb_machine.specs.Conclusions.{Conclusion, keeps, fails, boots, conclusion_records, handoff_records}
+use Rattle.nb_machine.specs.Effects.{shown_words, full_opens}
+use Rattle.nb_machine.specs.Errands.{Onward}
+use Rattle.nb_machine.specs.FirstText.{first_reading, text_refusal}
+use Rattle.nb_machine.specs.Running.{Running, first_script, coming, passing, leaving, beginning, entered, further, behind_line, with_result, anew, no_label}
+use Rattle.nb_machine.specs.CommandRecords.{command_record, command_records, no_route, stopped_cause}
 use Rattle.nb_machine.specs.Lives.{close, Live, open_record, end_record}
 use Rattle.nb_machine.specs.Kinds.{first_records}
 use Rattle.nb_machine.specs.States.{State, state_at_start, with_images, with_settings, with_live, with_opened, with_one_made}

@@ -8,7 +8,7 @@ use Rattle.nb_ipv4.specs.EchoText.{EchoParts}
 use Rattle.nb_stack.specs.Client.{Client}
 use Rattle.nb_stack.specs.Brings.{Brought, datagram, echo_reply, Brings}
 use Rattle.nb_stack.specs.Takes.{client_after, reply_of}
-use Rattle.nb_engine.specs.Machine.{reply_records}
+use Rattle.nb_machine.specs.CommandRecords.{reply_records}
 use Rattle.nb_machine.specs.Lives.{message, time, Live}
 use Rattle.nb_machine.specs.Kinds.{is_for, is_reply_for}
 use Rattle.nb_machine.specs.States.{State, net0, with_device, with_live, later_by}

@@ -11,13 +11,13 @@ use Rattle.nb_image.specs.Images.{image_of}
 use Rattle.nb_settings.specs.Tables.{TableLists}
 use Rattle.nb_command.specs.Settings.{Change}
 use Rattle.nb_command.specs.Addresses.{address_table}
-use Rattle.nb_engine.specs.Errands.{Wanted, Errand, Onward, fetches_now, echoes_now, onward}
-use Rattle.nb_engine.specs.Effects.{Effect, says, asks, goes, sleeps, shuts_device, inquires, effect, table_after, up_after}
-use Rattle.nb_engine.specs.Queries.{Query, for_lease, for_echo, for_host, for_address}
-use Rattle.nb_engine.specs.Lones.{asker_at, query_id, lease_change, Settled, settled_by}
-use Rattle.nb_engine.specs.Conclusions.{Conclusion, keeps, conclusion, conclusion_records}
-use Rattle.nb_engine.specs.World.{own_port}
-use Rattle.nb_engine.specs.Running.{Running, anew}
+use Rattle.nb_machine.specs.Errands.{Wanted, Errand, Onward, fetches_now, echoes_now, onward}
+use Rattle.nb_machine.specs.Effects.{Effect, says, asks, goes, sleeps, shuts_device, inquires, effect, table_after, up_after}
+use Rattle.nb_machine.specs.Queries.{Query, for_lease, for_echo, for_host, for_address}
+use Rattle.nb_machine.specs.Findings.{asker_at, query_id, lease_change, Settled, settled_by}
+use Rattle.nb_machine.specs.Conclusions.{Conclusion, keeps, conclusion, conclusion_records}
+use Rattle.nb_machine.specs.Starting.{own_port}
+use Rattle.nb_machine.specs.Running.{Running, anew}
 use Rattle.nb_machine.specs.Lives.{tftp, dns, dhcp, ping, Live}
 use Rattle.nb_machine.specs.Kinds.{fetched, resolved, granted}
 use Rattle.nb_machine.specs.States.{State, net0, with_settings}

@@ -4,10 +4,10 @@ use Rattle.nb_defs.specs.Records.{Start}
 use Rattle.nb_image.specs.Images.{ImageList}
 use Rattle.nb_stack.specs.Client.{Client}
 use Rattle.nb_settings.specs.Tables.{TableLists}
-use Rattle.nb_engine.specs.StartTable.{start_table}
-use Rattle.nb_engine.specs.Link.{link_by}
-use Rattle.nb_engine.specs.declared.world.Identity.{Identity}
-use Rattle.nb_engine.specs.World.{identity_of, is_up, net_of, no_images}
+use Rattle.nb_machine.specs.StartTable.{start_table}
+use Rattle.nb_machine.specs.Link.{link_by}
+use Rattle.nb_machine.specs.declared.identity.Identity.{Identity}
+use Rattle.nb_machine.specs.Starting.{identity_of, is_up, net_of, no_images}
 use Rattle.nb_machine.specs.Lives.{Live}
 
 -- The time in milliseconds; the devices, net0 first, each as the client that stands on it (ports aren't kept: an open
@@ -23,6 +23,10 @@ pub record State : Type 0 where
   pub images : ImageList
   pub opens : ℕ
   pub live : List Live
+
+-- the client without its ports
+abbrev pub bare : Client → Client
+bare c = record { mac = c.mac; address = c.address; up = c.up; near = c.near; ports = [] }
 
 -- the one device that START gives
 abbrev pub net0 : ℕ

@@ -12,8 +12,8 @@ use Rattle.nb_tftp.specs.Blocks.{file}
 use Rattle.nb_tftp.specs.History.{Call, came, ticked, Entry, entry, got}
 use Rattle.nb_tftp.specs.Sentences.{Meets}
 use Rattle.nb_command.specs.SettingAddresses.{host}
-use Rattle.nb_engine.specs.Machine.{no_route}
-use Rattle.nb_engine.specs.Opens.{has_route, request_of, send_records, acts_records, end_of}
+use Rattle.nb_machine.specs.CommandRecords.{no_route}
+use Rattle.nb_machine.specs.Sendings.{has_route, request_of, send_records, acts_records, end_of}
 use Rattle.nb_machine.specs.Lives.{OpenInput, message, time, close, Exchange, exchange, Live}
 
 -- the request that it begins with

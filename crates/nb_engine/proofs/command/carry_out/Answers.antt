@@ -1,5 +1,5 @@
 use Rattle.std.proofs.Common.{◌≡◌, true, false, inl, inr, sym, ◌∙◌, ap}
-use Rattle.nb_engine.specs.Effects.{says, plan_table}
+use Rattle.nb_machine.specs.Effects.{says, plan_table}
 use Rattle.nb_engine.specs.World.{state_of}
 use Rattle.nb_engine.proofs.CommandLaws.{carried_ok, carried_err, found_same}
 use Rattle.nb_engine.proofs.command.carry_out.Goals as goal

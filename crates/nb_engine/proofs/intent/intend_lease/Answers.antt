@@ -1,5 +1,5 @@
 use Rattle.std.proofs.Common.{◌≡◌, true, false, inl, inr, sym, ◌∙◌, ap}
-use Rattle.nb_engine.specs.Effects.{plan_table}
+use Rattle.nb_machine.specs.Effects.{plan_table}
 use Rattle.nb_engine.specs.World.{state_of}
 use Rattle.nb_engine.proofs.CommandLaws.{found_same}
 use Rattle.nb_engine.proofs.Intents.{sets_up, refuses_lease}

@@ -4,7 +4,7 @@ use Rattle.nb_stack.specs.declared.envelope.Envelope.{Envelope}
 use Rattle.nb_stack.specs.declared.taken.Fate.{Fate}
 use Rattle.nb_stack.specs.Envelope.{message_of}
 use Rattle.nb_stack.specs.Sends.{put_on, way_of, fate_of}
-use Rattle.nb_engine.specs.Opens.{has_route, try_records}
+use Rattle.nb_machine.specs.Sendings.{has_route, try_records}
 use Rattle.nb_engine.specs.Tellings.{datagram_of}
 use Rattle.nb_engine.proofs.Puts.{Puts-one, Puts-outs}
 use Rattle.nb_engine.proofs.Sendings.{on_its_way}

@@ -1,6 +1,6 @@
 use Rattle.std.proofs.Common.{◌≡◌, ℕ, List, [], ◌∷◌, length, refl, sym, ◌∙◌, arith}
 use Rattle.std.proofs.lemmas.Bool.{eqb-true}
-use Rattle.nb_engine.specs.FirstText.{built_in}
+use Rattle.nb_machine.specs.FirstText.{built_in}
 use Rattle.nb_engine.proofs.steps.first_text.Goals as goal
 
 no_bytes : (bytes : List ℕ) → length bytes ≡ 0 → bytes ≡ []

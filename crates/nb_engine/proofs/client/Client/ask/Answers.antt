@@ -7,9 +7,9 @@ use Rattle.nb_opens.specs.Notices.{made_notices, begun_notices}
 use Rattle.nb_engine.specs.Advance.{PutsFetch}
 use Rattle.nb_engine.specs.CommandWords.{wanted_of}
 use Rattle.nb_engine.specs.declared.fetch.Fetch.{Fetch}
-use Rattle.nb_engine.specs.Effects.{shown_as}
+use Rattle.nb_machine.specs.Effects.{shown_as}
 use Rattle.nb_engine.specs.Fetches.{speaker_of}
-use Rattle.nb_engine.specs.Machine.{command_record}
+use Rattle.nb_machine.specs.CommandRecords.{command_record}
 use Rattle.nb_engine.specs.Opens.{opened_record}
 use Rattle.nb_engine.specs.Tellings.{told_records}
 use Rattle.nb_engine.proofs.client.Client.ask.Goals as goal

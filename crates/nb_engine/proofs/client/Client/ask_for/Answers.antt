@@ -1,6 +1,6 @@
 use Rattle.std.proofs.Common.{◌≡◌, refl, sym, ◌∙◌, ap, subst}
 use Rattle.nb_defs.specs.Commands.{refused}
-use Rattle.nb_engine.specs.Effects.{inquires, words_effect, words_table, words_up, fetch}
+use Rattle.nb_machine.specs.Effects.{inquires, words_effect, words_table, words_up, fetch}
 use Rattle.nb_engine.specs.Inquiries.{query_of}
 use Rattle.nb_engine.specs.Inquiring.{intent_effect, HasIntended}
 use Rattle.nb_engine.proofs.Intents.{intends_here}

@@ -1,7 +1,7 @@
 use Rattle.std.proofs.Common.{◌<◌, length, refl, sym, subst}
 use Rattle.nb_defs.specs.Causes.{ok}
-use Rattle.nb_engine.specs.Conclusions.{handoff_records}
-use Rattle.nb_engine.specs.Running.{with_result}
+use Rattle.nb_machine.specs.Conclusions.{handoff_records}
+use Rattle.nb_machine.specs.Running.{with_result}
 use Rattle.nb_engine.specs.Seen.{Seen, as_running, as_handing}
 use Rattle.nb_engine.specs.Concluding.{IsPlaceFor}
 use Rattle.nb_engine.proofs.HandingLemmas.{begins_at}

@@ -8,7 +8,7 @@ use Rattle.nb_opens.specs.Notices.{freed_notices}
 use Rattle.nb_engine.specs.declared.fetch.Fetch.{Fetch}
 use Rattle.nb_engine.specs.declared.stage.Stage.TheVariants as stage
 use Rattle.nb_engine.specs.declared.world.World.{World}
-use Rattle.nb_engine.specs.Conclusions.{Conclusion, conclusion, conclusion_records}
+use Rattle.nb_machine.specs.Conclusions.{Conclusion, conclusion, conclusion_records}
 use Rattle.nb_engine.specs.Concluding.{EndsOpen}
 use Rattle.nb_engine.specs.Fetches.{conclusion_of, speaker_of}
 use Rattle.nb_engine.specs.Machine.{at, phase_after}

@@ -11,10 +11,11 @@ use Rattle.nb_engine.specs.declared.stage.Stage.TheVariants as stage
 use Rattle.nb_engine.specs.declared.world.World.{World}
 use Rattle.nb_engine.specs.Inquiries.{query_of, beside_freed_events}
 use Rattle.nb_engine.specs.Deliveries.{delivered_bytes}
-use Rattle.nb_engine.specs.Link.{link_by}
-use Rattle.nb_engine.specs.Lones.{Settled, world_settled}
+use Rattle.nb_machine.specs.Link.{link_by}
+use Rattle.nb_machine.specs.Findings.{Settled}
+use Rattle.nb_engine.specs.Lones.{world_settled}
 use Rattle.nb_engine.specs.Replying.{EndsCommand, HasEndedCommand, closing_told, last_told, settled_so, settled_with, silent}
-use Rattle.nb_engine.specs.Running.{with_result}
+use Rattle.nb_machine.specs.Running.{with_result}
 use Rattle.nb_engine.specs.Seen.{Seen, seen}
 use Rattle.nb_engine.specs.Spelling.{Spelling, IsSpelled}
 use Rattle.nb_engine.specs.World.{state_of}

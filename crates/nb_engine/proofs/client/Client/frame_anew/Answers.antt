@@ -1,7 +1,7 @@
 use Rattle.std.proofs.Common.{◌∷◌, subst}
 use Rattle.nb_defs.specs.Records.{out_texts, step}
 use Rattle.nb_record.specs.Logged.{Puts}
-use Rattle.nb_engine.specs.Machine.{reply_records}
+use Rattle.nb_machine.specs.CommandRecords.{reply_records}
 use Rattle.nb_engine.proofs.Growth.{frame_anew_grows}
 use Rattle.nb_engine.proofs.client.Client.frame_anew.Goals as goal
 

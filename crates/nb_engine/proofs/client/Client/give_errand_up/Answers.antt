@@ -5,9 +5,9 @@ use Rattle.nb_opens.specs.declared.waiter.Waiter.{Waiter}
 use Rattle.nb_opens.specs.Graphs.{traced}
 use Rattle.nb_opens.specs.Waiters.{waiter_freed_events}
 use Rattle.nb_engine.specs.declared.stage.Stage.TheVariants as stage
-use Rattle.nb_engine.specs.Effects.{full_opens}
+use Rattle.nb_machine.specs.Effects.{full_opens}
 use Rattle.nb_engine.specs.Reaching.{IsWaitedFor}
-use Rattle.nb_engine.specs.Running.{with_result}
+use Rattle.nb_machine.specs.Running.{with_result}
 use Rattle.nb_engine.specs.Seen.{Seen, seen}
 use Rattle.nb_engine.specs.Spelling.{Spelling}
 use Rattle.nb_engine.specs.Turns.{Grows}

@@ -4,7 +4,7 @@ use Rattle.nb_engine.specs.declared.command.Deed.{Deed}
 use Rattle.nb_engine.specs.CommandWords.{done_of, deed_effect}
 use Rattle.nb_defs.specs.Causes.{ok}
 use Rattle.nb_defs.specs.Commands.{CommandOutcome, refused}
-use Rattle.nb_engine.specs.Effects.{goes, sleeps, shuts_device, effect, shown_as}
+use Rattle.nb_machine.specs.Effects.{goes, sleeps, shuts_device, effect, shown_as}
 use Rattle.nb_engine.specs.Steps.{Does, GoesTo}
 use Rattle.nb_engine.specs.Machine.{world_after}
 use Rattle.nb_engine.specs.Advance.{EndsAtOnce}

@@ -8,7 +8,7 @@ use Rattle.nb_engine.specs.declared.prepared.Prepared.{Prepared}
 use Rattle.nb_engine.specs.declared.speaker.Speaker.{Speaker}
 use Rattle.nb_engine.specs.declared.stage.Stage.TheVariants as stage
 use Rattle.nb_engine.specs.CommandWords.{onward_of, FitsOnward}
-use Rattle.nb_engine.specs.Errands.{Errand, onward}
+use Rattle.nb_machine.specs.Errands.{Errand, onward}
 use Rattle.nb_engine.specs.Inquiries.{query_of, onward_waiter, FitsQuery, IsBackedBy, IsWaiterOf}
 use Rattle.nb_engine.specs.Replying.{HasGoneOnward, IsFor, silent}
 use Rattle.nb_engine.specs.Seen.{Seen, seen, IsSound}

@@ -8,13 +8,15 @@ use Rattle.nb_engine.specs.declared.fetch.Fetch.{Fetch}
 use Rattle.nb_engine.specs.declared.speaker.Speaker.{Speaker}
 use Rattle.nb_engine.specs.declared.stage.Stage.TheVariants as stage
 use Rattle.nb_engine.specs.Fetches.{speaker_of}
-use Rattle.nb_engine.specs.Opens.{begun_for, has_route, request_of}
-use Rattle.nb_engine.specs.Running.{entered}
+use Rattle.nb_engine.specs.Opens.{begun_for}
+use Rattle.nb_machine.specs.Sendings.{has_route, request_of}
+use Rattle.nb_machine.specs.Running.{entered}
 use Rattle.nb_engine.specs.Seen.{Seen, seen}
 use Rattle.nb_engine.specs.Tellings.{datagram_of}
 use Rattle.nb_engine.specs.Turns.{Grows}
 use Rattle.nb_command.specs.SettingAddresses.{host}
-use Rattle.nb_engine.specs.World.{own_port, with_open}
+use Rattle.nb_machine.specs.Starting.{own_port}
+use Rattle.nb_engine.specs.World.{with_open}
 use Rattle.nb_engine.proofs.Asking.{next_fetch, asks_grows, turned_acts, turned_nearer}
 use Rattle.nb_engine.proofs.client.Client.go_out.Goals as goal
 

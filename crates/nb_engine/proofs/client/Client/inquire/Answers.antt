@@ -1,7 +1,7 @@
 use Rattle.std.proofs.Common.{sym, ◌∙◌, ap, subst}
 use Rattle.nb_engine.specs.declared.command.Deed.TheVariants as deed
 use Rattle.nb_engine.specs.Advance.{HasCarriedOut}
-use Rattle.nb_engine.specs.Effects.{says}
+use Rattle.nb_machine.specs.Effects.{says}
 use Rattle.nb_engine.specs.Inquiries.{query_of}
 use Rattle.nb_engine.specs.Inquiring.{HasIntended, intent_effect}
 use Rattle.nb_engine.specs.NextCommand.{HasCommand}

@@ -1,8 +1,8 @@
 use Rattle.std.proofs.Common.{true, [], ◌∷◌, ◌++◌, sym, subst}
-use Rattle.nb_engine.specs.Effects.{shown_as}
+use Rattle.nb_machine.specs.Effects.{shown_as}
 use Rattle.nb_engine.specs.Inquiries.{query_of}
 use Rattle.nb_engine.specs.Lones.{open_told, talk_for}
-use Rattle.nb_engine.specs.Machine.{command_record}
+use Rattle.nb_machine.specs.CommandRecords.{command_record}
 use Rattle.nb_engine.specs.Spelling.{IsSpelled, Spelling}
 use Rattle.nb_engine.specs.Talks.{fields_of}
 use Rattle.nb_engine.specs.Tellings.{told_records}

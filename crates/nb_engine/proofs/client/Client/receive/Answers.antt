@@ -9,10 +9,10 @@ use Rattle.nb_engine.specs.declared.fetch.Fetch.{Fetch}
 use Rattle.nb_engine.specs.declared.stage.Stage.TheVariants as stage
 use Rattle.nb_engine.specs.World.{with_net}
 use Rattle.nb_engine.specs.Opens.{heard_from}
-use Rattle.nb_engine.specs.Running.{anew}
+use Rattle.nb_machine.specs.Running.{anew}
 use Rattle.nb_engine.specs.Heeding.{Heeds, Comes}
 use Rattle.nb_engine.specs.Seen.{Seen, seen}
-use Rattle.nb_engine.specs.Machine.{reply_records}
+use Rattle.nb_machine.specs.CommandRecords.{reply_records}
 use Rattle.nb_engine.proofs.Growth.{frame_grows, pass_by_grows, heeds_acts}
 use Rattle.nb_engine.proofs.Sides.{keep_waiting}
 use Rattle.nb_engine.proofs.client.Client.receive.Goals as goal

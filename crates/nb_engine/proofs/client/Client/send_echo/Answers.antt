@@ -9,9 +9,9 @@ use Rattle.nb_engine.specs.declared.stage.Stage.TheVariants as stage
 use Rattle.nb_engine.specs.CommandWords.{onward_of}
 use Rattle.nb_engine.specs.Inquiries.{query_of, talker_of, opening_acts, TalksAs}
 use Rattle.nb_engine.specs.Lones.{talk_for, with_lone}
-use Rattle.nb_engine.specs.Machine.{no_route}
-use Rattle.nb_engine.specs.Opens.{has_route}
-use Rattle.nb_engine.specs.Queries.{for_echo}
+use Rattle.nb_machine.specs.CommandRecords.{no_route}
+use Rattle.nb_machine.specs.Sendings.{has_route}
+use Rattle.nb_machine.specs.Queries.{for_echo}
 use Rattle.nb_engine.specs.Reaching.{PutsEcho, HasTurnedEchoBack}
 use Rattle.nb_engine.specs.Seen.{Seen, seen}
 use Rattle.nb_engine.specs.Talks.{Talk, first_message}

@@ -4,8 +4,8 @@ use Rattle.nb_engine.specs.declared.speaker.Speaker.{Speaker}
 use Rattle.nb_engine.specs.declared.stage.Stage.TheVariants as stage
 use Rattle.nb_engine.specs.Inquiries.{query_of, talker_of}
 use Rattle.nb_engine.specs.Lones.{talk_for, with_lone}
-use Rattle.nb_engine.specs.Opens.{has_route}
-use Rattle.nb_engine.specs.Running.{entered}
+use Rattle.nb_machine.specs.Sendings.{has_route}
+use Rattle.nb_machine.specs.Running.{entered}
 use Rattle.nb_engine.specs.Seen.{Seen, seen}
 use Rattle.nb_engine.specs.Talks.{first_message}
 use Rattle.nb_engine.specs.Tellings.{datagram_of}

@@ -2,7 +2,7 @@ use Rattle.std.proofs.Common.{◌≡◌, ◌+◌, [], ◌∷◌, sym, ◌∙◌,
 use Rattle.nb_defs.specs.Records.{step, enter, leave, out_texts}
 use Rattle.nb_record.specs.Logged.{Puts}
 use Rattle.nb_record.specs.View.{start_of}
-use Rattle.nb_engine.specs.FirstText.{first_reading, text_refusal}
+use Rattle.nb_machine.specs.FirstText.{first_reading, text_refusal}
 use Rattle.nb_engine.specs.Seen.{Seen}
 use Rattle.nb_engine.proofs.Puts.{Puts-outs}
 use Rattle.nb_engine.proofs.Growth.{start_grows, refusal_grows, refusal_fails}

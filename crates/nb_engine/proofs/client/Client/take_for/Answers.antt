@@ -9,9 +9,9 @@ use Rattle.nb_engine.specs.declared.inquiry.Inquiry.{Inquiry}
 use Rattle.nb_engine.specs.declared.stage.Stage.TheVariants as stage
 use Rattle.nb_engine.specs.Inquiries.{IsInquiryOf, IsInquiring}
 use Rattle.nb_engine.specs.Lones.{Lone}
-use Rattle.nb_engine.specs.Machine.{reply_records}
+use Rattle.nb_machine.specs.CommandRecords.{reply_records}
 use Rattle.nb_engine.specs.Replying.{RepliesAs, ComesFor}
-use Rattle.nb_engine.specs.Running.{anew}
+use Rattle.nb_machine.specs.Running.{anew}
 use Rattle.nb_engine.specs.Seen.{Seen, seen, IsSound}
 use Rattle.nb_engine.specs.Talks.{message_for, message_in}
 use Rattle.nb_engine.specs.World.{with_net}

@@ -10,11 +10,11 @@ use Rattle.nb_engine.specs.declared.speaker.Speaker.{Speaker}
 use Rattle.nb_engine.specs.CommandWords.{wanted_of}
 use Rattle.nb_engine.specs.declared.fetch.Fetch.{Fetch}
 use Rattle.nb_engine.specs.declared.stage.Stage.TheVariants as stage
-use Rattle.nb_engine.specs.Effects.{shown_as}
+use Rattle.nb_machine.specs.Effects.{shown_as}
 use Rattle.nb_engine.specs.Fetches.{speaker_of}
-use Rattle.nb_engine.specs.Machine.{command_record, no_route}
+use Rattle.nb_machine.specs.CommandRecords.{command_record, no_route}
 use Rattle.nb_engine.specs.Spelling.{TellsMore}
-use Rattle.nb_engine.specs.Running.{further}
+use Rattle.nb_machine.specs.Running.{further}
 use Rattle.nb_engine.specs.Seen.{Seen, seen}
 use Rattle.nb_engine.specs.World.{with_ended_open}
 use Rattle.nb_engine.proofs.Standing.{has_none}

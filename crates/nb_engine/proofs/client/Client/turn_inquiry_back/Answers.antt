@@ -6,8 +6,7 @@ use Rattle.nb_ledger.specs.Flat.{Notice}
 use Rattle.nb_ledger.specs.declared.event.Way.TheVariants as way
 use Rattle.nb_graph.specs.Whole.{port_at}
 use Rattle.nb_opens.specs.AloneNotices.{alone_made, alone_call, alone_closed, alone_freed}
-use Rattle.nb_opens.specs.Alones.{alone_number}
-use Rattle.nb_opens.specs.Alones.{IsOpenLoneBy}
+use Rattle.nb_opens.specs.Alones.{alone_number, IsOpenLoneBy}
 use Rattle.nb_opens.specs.Companies.{Company, company_with, HoldsOnly}
 use Rattle.nb_opens.specs.Graphs.{traced}
 use Rattle.nb_opens.specs.Pairs.{IsEmpty}
@@ -16,9 +15,9 @@ use Rattle.nb_engine.specs.declared.stage.Stage.TheVariants as stage
 use Rattle.nb_engine.specs.Inquiries.{kind_of_talk, opening_acts, query_of, made_beside, beside_freed_events}
 use Rattle.nb_engine.specs.Inquiring.{PutsAsking, PutsInquiry}
 use Rattle.nb_engine.specs.Lones.{talk_for}
-use Rattle.nb_engine.specs.Machine.{no_route}
+use Rattle.nb_machine.specs.CommandRecords.{no_route}
 use Rattle.nb_engine.specs.Spelling.{TellsMore}
-use Rattle.nb_engine.specs.Running.{further}
+use Rattle.nb_machine.specs.Running.{further}
 use Rattle.nb_engine.specs.Seen.{Seen, seen}
 use Rattle.nb_engine.specs.World.{with_ended_open}
 use Rattle.nb_engine.proofs.Besides.{left_here, left_made}

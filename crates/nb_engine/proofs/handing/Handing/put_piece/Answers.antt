@@ -4,7 +4,7 @@ use Rattle.std.specs.Option.{option_map}
 use Rattle.nb_image.specs.Parts.{parts, part_text, piece_text, part_pieces}
 use Rattle.nb_defs.specs.Records.{out_text, part}
 use Rattle.nb_record.specs.Logged.{Puts}
-use Rattle.nb_engine.specs.Conclusions.{part_records, piece_record}
+use Rattle.nb_machine.specs.Conclusions.{part_records, piece_record}
 use Rattle.nb_engine.proofs.Puts.{Puts-one}
 use Rattle.nb_engine.proofs.HandingLemmas.{part_small, piece_at_place, next_left, left_within, left_behind, at_next, at_piece, records_of_part, part_within, drop_past}
 use Rattle.nb_engine.proofs.handing.Handing.put_piece.Goals as goal

@@ -1,8 +1,8 @@
 use Rattle.std.proofs.Common.{[], ◌∷◌, refl}
 use Rattle.nb_defs.specs.Records.{leave}
 use Rattle.nb_engine.specs.CommandWords.{done_of}
-use Rattle.nb_engine.specs.Effects.{shown_as}
-use Rattle.nb_engine.specs.Machine.{command_records}
+use Rattle.nb_machine.specs.Effects.{shown_as}
+use Rattle.nb_machine.specs.CommandRecords.{command_records}
 use Rattle.nb_engine.proofs.Puts.{Puts-outs}
 use Rattle.nb_engine.proofs.running.RunningScript.finish.Goals as goal
 

@@ -1,7 +1,7 @@
 use Rattle.std.proofs.Common.{◌≡◌, ◌<◌, true, false, List, [], ◌∷◌, ℕ, length, map, drop, refl, sym, ◌∙◌, ap, subst, arith, ◌==◌}
 use Rattle.std.proofs.lemmas.Bool.{eqb-true}
 use Rattle.nb_script.specs.Shown.{shown_item, IsSmallItem}
-use Rattle.nb_engine.specs.Running.{Running, here, further_on, lets_run}
+use Rattle.nb_machine.specs.Running.{Running, here, further_on, lets_run}
 use Rattle.nb_engine.specs.declared.running.Progress.{Progress}
 use Rattle.nb_engine.proofs.Comings.{front_is, passes_command, runs_command, beginning_words, no_words, below_full, first_small, expansion_next_ok}
 use Rattle.nb_engine.proofs.Measures.{command_nearer}

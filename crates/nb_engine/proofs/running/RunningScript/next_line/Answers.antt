@@ -2,14 +2,13 @@ use Rattle.std.proofs.Common.{◌≡◌, ◌≤◌, true, false, [], List, lengt
 use Rattle.std.proofs.lemmas.List.{length-map}
 use Rattle.std.proofs.lemmas.Option.{slice_get_within}
 use Rattle.nb_defs.specs.Causes.{is_ok_cause, ok}
-use Rattle.nb_defs.specs.ScriptLines.{Line}
+use Rattle.nb_defs.specs.ScriptLines.{Line, is_idle_line}
 use Rattle.nb_script.specs.Shown.{shown_item}
 use Rattle.nb_script.specs.ShownLine.{shown_line}
-use Rattle.nb_engine.specs.Running.{Running, here, leaving, list_comes}
+use Rattle.nb_machine.specs.Running.{Running, here, leaving, list_comes}
 use Rattle.nb_engine.specs.declared.running.Progress.{Progress}
 use Rattle.nb_engine.proofs.Comings.{between_lists, behind_failure, no_list_comes, some_list_comes}
 use Rattle.std.specs.Prelude.{IfSome}
-use Rattle.nb_defs.specs.ScriptLines.{is_idle_line}
 use Rattle.nb_engine.proofs.Idles.{Reaches, idle_to, passes_to, lines_nearer}
 use Rattle.nb_engine.proofs.running.RunningScript.next_line.Goals as goal
 

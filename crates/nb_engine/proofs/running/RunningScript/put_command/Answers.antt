@@ -1,7 +1,7 @@
 use Rattle.std.proofs.Common.{[], ◌∷◌, ◌++◌}
 use Rattle.nb_defs.specs.Records.{result}
-use Rattle.nb_engine.specs.Effects.{shown_as}
-use Rattle.nb_engine.specs.Machine.{prints, command_record}
+use Rattle.nb_machine.specs.Effects.{shown_as}
+use Rattle.nb_machine.specs.CommandRecords.{prints, command_record}
 use Rattle.nb_engine.proofs.Puts.{Puts-one, Puts-outs}
 use Rattle.nb_engine.proofs.running.RunningScript.put_command.Goals as goal
 

@@ -38,8 +38,8 @@ use Rattle.nb_command.specs.Addresses.{address_table}
 use Rattle.nb_uri.specs.Addresses.{four_decimals}
 use Rattle.nb_dns.specs.WrittenNames.{is_lookup_name}
 use Rattle.nb_wire.specs.declared.address.Ip4.{Ip4}
-use Rattle.nb_engine.specs.Errands.{Wanted, remote_file, Errand, fetches_then, echoes_then, Onward, fetches_now, echoes_now, onward}
-use Rattle.nb_engine.specs.Queries.{Query, for_lease, for_echo, for_address, for_host, bad_name, no_server, dns_in, with_domain}
+use Rattle.nb_machine.specs.Errands.{Wanted, remote_file, Errand, fetches_then, echoes_then, Onward, fetches_now, echoes_now, onward}
+use Rattle.nb_machine.specs.Queries.{Query, for_lease, for_echo, for_address, for_host, bad_name, no_server, dns_in, with_domain}
 
 -- 16,384 opens were made
 abbrev pub full_opens : Cause

@@ -10,28 +10,30 @@ use Rattle.nb_tftp.specs.Received.{received}
 use Rattle.nb_tftp.specs.History.{came}
 use Rattle.nb_engine.specs.declared.world.World.{World}
 use Rattle.nb_engine.specs.World.{with_net}
-use Rattle.nb_engine.specs.Opens.{Open, has_route, request_of, heard_from}
+use Rattle.nb_engine.specs.Opens.{Open, heard_from}
+use Rattle.nb_machine.specs.Sendings.{has_route, request_of}
 use Rattle.nb_engine.specs.Talks.{first_message, message_in, message_for}
 use Rattle.nb_engine.specs.Lones.{Lone}
-use Rattle.nb_engine.specs.Running.{Running, anew}
-use Rattle.nb_engine.specs.Machine.{Machine, Phase, at, Hears, Replies, reply_records}
+use Rattle.nb_machine.specs.Running.{Running, anew}
+use Rattle.nb_engine.specs.Machine.{Machine, Phase, at, Hears, Replies}
+use Rattle.nb_machine.specs.CommandRecords.{reply_records}
 use Rattle.nb_engine.specs.Machine as lone
-use Rattle.nb_laws.specs.Agreement.{bare, opening_of}
+use Rattle.nb_machine.specs.States.{bare, net0, with_device}
+use Rattle.nb_laws.specs.Agreement.{opening_of}
 use Rattle.nb_laws.specs.Frames.{begun_by}
 use Rattle.nb_machine.specs.Lives.{Exchange, Live, OpenInput, message}
-use Rattle.nb_machine.specs.States.{net0, with_device}
 use Rattle.nb_machine.specs.Network.{Network}
 use Rattle.nb_machine.specs.Network as network
 use Rattle.nb_machine.specs.Scripts.{by_time, Waiting, waiting_anew, upshot_records, concluded_by}
 use Rattle.nb_machine.specs.Courses.{Standing, stands, running, waiting, yielded, StepBegins}
 use Rattle.nb_machine.specs.Courses as courses
-use Rattle.nb_machine.specs.Carried.{live_of, live_alone, state_in, waiting_in, asking_in, sleeping_in, Lives, LivesAlone, StandsAs}
-use Rattle.nb_machine.proofs.Ways.{free_reply, bare_reply, alone_reply, bare_after, route_after, ports_after}
-use Rattle.nb_machine.proofs.Talked.{a_message}
-use Rattle.nb_machine.proofs.Heard.{Taking, Result, waits_on, is_answered, heard}
-use Rattle.nb_machine.proofs.Replied.{replied}
-use Rattle.nb_machine.proofs.Frames.{HasPort, for_nobody, for_none, ForOpen, by_datagram}
-use Rattle.nb_machine.proofs.Comings.{ForAlone, by_datagram as a_datagram, by_reply, for_none_alone}
+use Rattle.nb_carried.specs.Carried.{live_of, live_alone, state_in, waiting_in, asking_in, sleeping_in, Lives, LivesAlone, StandsAs}
+use Rattle.nb_carried.proofs.Ways.{free_reply, bare_reply, alone_reply, bare_after, route_after, ports_after}
+use Rattle.nb_carried.proofs.Talked.{a_message}
+use Rattle.nb_carried.proofs.Heard.{Taking, Result, waits_on, is_answered, heard}
+use Rattle.nb_carried.proofs.Replied.{replied}
+use Rattle.nb_carried.proofs.Frames.{HasPort, for_nobody, for_none, ForOpen, by_datagram}
+use Rattle.nb_carried.proofs.Comings.{ForAlone, by_datagram as a_datagram, by_reply, for_none_alone}
 
 -- a step of one machine is one of the other, which comes to the same place
 pub record Steps (n : ℕ) (p : Standing) (r : In) (added : List Out) (m' : Machine) : Type 0 where

@@ -11,14 +11,16 @@ use Rattle.nb_dhcp.specs.History.{acknowledgement_in}
 use Rattle.nb_nodes.specs.LookupExchanges.{lookup_for}
 use Rattle.nb_command.specs.Addresses.{address_table}
 use Rattle.nb_engine.specs.declared.world.World.{World}
-use Rattle.nb_engine.specs.Opens.{has_route, acts_records}
-use Rattle.nb_engine.specs.Errands.{Errand, Onward, onward}
-use Rattle.nb_engine.specs.Queries.{Query, for_lease, for_echo, for_host, for_address}
+use Rattle.nb_machine.specs.Sendings.{has_route, acts_records}
+use Rattle.nb_machine.specs.Errands.{Errand, Onward, onward}
+use Rattle.nb_machine.specs.Queries.{Query, for_lease, for_echo, for_host, for_address}
 use Rattle.nb_engine.specs.Talks.{Talk, looks_up, leases, pings, fields_of, first_message, Incoming, TalkGoes}
-use Rattle.nb_engine.specs.Lones.{Lone, with_talk, without_lone, lease_change, onward_from, settled, world_settled}
-use Rattle.nb_engine.specs.Running.{Running, with_result}
-use Rattle.nb_engine.specs.Machine.{Phase, no_route, Replies, talks_on, comes_to_end, finds_host}
-use Rattle.nb_laws.specs.Agreement.{bare}
+use Rattle.nb_engine.specs.Lones.{Lone, with_talk, without_lone, onward_from, settled, world_settled}
+use Rattle.nb_machine.specs.Findings.{lease_change}
+use Rattle.nb_machine.specs.Running.{Running, with_result}
+use Rattle.nb_engine.specs.Machine.{Phase, Replies, talks_on, comes_to_end, finds_host}
+use Rattle.nb_machine.specs.CommandRecords.{no_route}
+use Rattle.nb_machine.specs.States.{bare}
 use Rattle.nb_laws.proofs.Asides.{aside_acts}
 use Rattle.nb_laws.proofs.Tellings.{same_number}
 use Rattle.nb_machine.specs.Lives.{OpenInput, Exchange, exchange, continued, Live}
@@ -29,11 +31,11 @@ use Rattle.nb_machine.specs.Takings as takings
 use Rattle.nb_machine.specs.Scripts.{job_for, by_end, settles, goes_onward, settled_with, next_of, upshot_records, concluded_by}
 use Rattle.nb_machine.specs.Kinds.{Keeps}
 use Rattle.nb_machine.specs.Courses.{running, waiting, reaching, LeadsTo}
-use Rattle.nb_machine.specs.Carried.{live_alone, state_in, asking_in, HasTalked, LivesAlone}
-use Rattle.nb_machine.proofs.Told.{end_put, earlier_none}
-use Rattle.nb_machine.proofs.Ways.{bare_acts, first_finds}
-use Rattle.nb_machine.proofs.Talked.{live_so, IsInput, talked_more, same_live, same_port, same_first, is_kept, talk_asks, all_arrived, all_given}
-use Rattle.nb_machine.proofs.Heard.{Taking, waits_on, is_answered}
+use Rattle.nb_carried.specs.Carried.{live_alone, state_in, asking_in, HasTalked, LivesAlone}
+use Rattle.nb_carried.proofs.Told.{end_put, earlier_none}
+use Rattle.nb_carried.proofs.Ways.{bare_acts, first_finds}
+use Rattle.nb_carried.proofs.Talked.{live_so, IsInput, talked_more, same_live, same_port, same_first, is_kept, talk_asks, all_arrived, all_given}
+use Rattle.nb_carried.proofs.Heard.{Taking, waits_on, is_answered}
 
 -- the exchange that this becomes
 abbrev pub exchanged_so : World → Lone → OpenInput → Acts → Exchange

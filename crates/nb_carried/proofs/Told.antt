@@ -10,14 +10,15 @@ use Rattle.nb_tftp.specs.Asks.{Begun}
 use Rattle.nb_tftp.specs.History.{Call, came, ticked, Entry, entry, got, received_by}
 use Rattle.nb_tftp.specs.Sentences.{Meets}
 use Rattle.nb_tftp.proofs.TryLaws.{Sends}
-use Rattle.nb_engine.specs.Machine.{no_route}
-use Rattle.nb_engine.specs.Opens.{has_route, request_of, acts_records, end_of}
-use Rattle.nb_laws.specs.Agreement.{bare, IsAside, AreAside}
+use Rattle.nb_machine.specs.CommandRecords.{no_route}
+use Rattle.nb_machine.specs.Sendings.{has_route, request_of, acts_records, end_of}
+use Rattle.nb_machine.specs.States.{bare}
+use Rattle.nb_laws.specs.Agreement.{IsAside, AreAside}
 use Rattle.nb_laws.proofs.Tellings.{same_number}
 use Rattle.nb_machine.specs.Lives.{Exchange, exchange}
 use Rattle.nb_machine.specs.Transfers.{arrival_of, earlier, end_records, transfer_end, transfer_records, Exchanged, at_first, takes, closes, datagram_in}
 use Rattle.nb_machine.specs.Takings.{end_told, end_among}
-use Rattle.nb_machine.proofs.Ways.{bare_acts, all_find}
+use Rattle.nb_carried.proofs.Ways.{bare_acts, all_find}
 
 pub earlier_none : (x : Option Cause) → earlier x None ≡ x
 earlier_none None = refl

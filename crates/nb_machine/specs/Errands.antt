@@ -1,7 +1,7 @@
 -- What a command fetches or asks once its server's address is known: a file, and what its image is to become, or an echo.
 use Rattle.std.specs.Prelude.{ℕ, Bool, List}
 use Rattle.nb_command.specs.declared.locating.Located.{Located}
-use Rattle.nb_engine.specs.declared.errand.RemoteFile.{RemoteFile}
+use Rattle.nb_machine.specs.declared.remote_file.RemoteFile.{RemoteFile}
 
 -- a file of a server whose address is known, the port that the server is asked at, and the name of its image
 pub record FileTarget : Type 0 where

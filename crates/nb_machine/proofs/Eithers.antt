@@ -13,10 +13,10 @@ use Rattle.nb_dns.specs.WrittenNames.{is_lookup_name}
 use Rattle.nb_settings.specs.Tables.{TableLists}
 use Rattle.nb_uri.specs.Addresses.{four_decimals}
 use Rattle.nb_wire.specs.declared.address.Ip4.{Ip4}
-use Rattle.nb_engine.specs.declared.errand.RemoteFile.{RemoteFile}
-use Rattle.nb_engine.specs.Errands.{Wanted, wanted_at, remote_file, Errand, fetches_then, echoes_then, onward}
-use Rattle.nb_engine.specs.Effects.{Effect, says, asks, inquires, fetch, fetched, full_opens, unless_full, onward_effect, asked_host, named_host, at_host, asked_name_server, name_effect, unless_refused, looked_up_effect}
-use Rattle.nb_engine.specs.Queries.{Query, for_echo, for_address, for_host, bad_name, no_server, dns_in, with_domain}
+use Rattle.nb_machine.specs.declared.remote_file.RemoteFile.{RemoteFile}
+use Rattle.nb_machine.specs.Errands.{Wanted, wanted_at, remote_file, Errand, fetches_then, echoes_then, onward}
+use Rattle.nb_machine.specs.Effects.{Effect, says, asks, inquires, fetch, fetched, full_opens, unless_full, onward_effect, asked_host, named_host, at_host, asked_name_server, name_effect, unless_refused, looked_up_effect}
+use Rattle.nb_machine.specs.Queries.{Query, for_echo, for_address, for_host, bad_name, no_server, dns_in, with_domain}
 
 pub either_of : (P : Effect → Type 0) (b : Bool) (e f : Effect) → P e → P f → P (cond b e f)
 either_of P true e f p q = p

@@ -10,12 +10,13 @@ use Rattle.nb_stack.specs.Resets.{has_flag}
 use Rattle.nb_graph.specs.Trace.{Said}
 use Rattle.nb_ping.specs.Pings.{Pinged}
 use Rattle.nb_ping.specs.PingCalls.{PingEntry}
-use Rattle.nb_engine.specs.Talks.{Talk, looks_up, leases, pings, counts_for, port_of, datagram_from, message_for}
+use Rattle.nb_engine.specs.Talks.{Talk, looks_up, leases, pings, counts_for, port_of, message_for}
+use Rattle.nb_machine.specs.Saying.{datagram_from}
 use Rattle.nb_machine.specs.Lives.{Exchange}
 use Rattle.nb_machine.specs.Kinds.{is_for, is_reply_for}
 use Rattle.nb_machine.specs.States.{net0}
 use Rattle.nb_machine.specs.Network.{is_for_one}
-use Rattle.nb_machine.proofs.Talked.{live_so, port_so, IsFrom}
+use Rattle.nb_carried.proofs.Talked.{live_so, port_so, IsFrom}
 
 -- what a frame brings the one open that lives
 abbrev brought_to : Client → ℕ → Talk → ℕ → Brought → Option Said

@@ -26,12 +26,13 @@ use Rattle.nb_nodes.specs.LeaseExchanges.{lease_service, handed_in}
 use Rattle.nb_nodes.specs.EchoExchanges.{ping_service, reply_in}
 use Rattle.nb_nodes.specs.Exchanges.{Service}
 use Rattle.nb_command.specs.SettingAddresses.{host}
-use Rattle.nb_engine.specs.Talks.{Talk, looks_up, leases, pings, fields_of, proto_of, first_message, Incoming, message_in, time_in, datagram_from, call_by, TalkGoes, look_up_goes, lease_goes, ping_goes}
+use Rattle.nb_engine.specs.Talks.{Talk, looks_up, leases, pings, fields_of, proto_of, first_message, Incoming, message_in, time_in, call_by, TalkGoes, look_up_goes, lease_goes, ping_goes}
+use Rattle.nb_machine.specs.Saying.{datagram_from}
 use Rattle.nb_machine.specs.Lives.{OpenInput, message, time, close, Exchange, exchange, Live}
 use Rattle.nb_machine.specs.States.{net0}
 use Rattle.nb_machine.specs.Cores.{CoreExchanged, at_first, takes_message, takes_time, closes, core_records, dns_datagrams_in, handed_bodies_in}
 use Rattle.nb_machine.specs.Kinds.{Keeps}
-use Rattle.nb_machine.specs.Carried.{open_kind, HasTalked}
+use Rattle.nb_carried.specs.Carried.{open_kind, HasTalked}
 
 -- an open of this number, since this time, that has come so far
 abbrev pub live_so : ℕ → ℕ → Talk → List Exchange → Live

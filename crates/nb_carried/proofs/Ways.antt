@@ -13,10 +13,10 @@ use Rattle.nb_stack.proofs.WayLaws.{same_way, same_put, same_reply}
 use Rattle.nb_tftp.specs.Asks.{Begun}
 use Rattle.nb_tftp.proofs.TryLaws.{Sends, sends_none, sends_one}
 use Rattle.nb_engine.specs.Talks.{Talk, looks_up, leases, pings}
-use Rattle.nb_engine.specs.Opens.{is_on_its_way, has_route, request_of, try_records, send_records, sends_records, advance_records, acts_records}
-use Rattle.nb_laws.specs.Agreement.{bare}
+use Rattle.nb_machine.specs.Sendings.{is_on_its_way, has_route, request_of, try_records, send_records, sends_records, advance_records, acts_records}
+use Rattle.nb_machine.specs.States.{bare}
 use Rattle.nb_machine.specs.Transfers.{finds_none}
-use Rattle.nb_machine.proofs.Talked.{port_so, AsksFirst, asks_none, asks_one}
+use Rattle.nb_carried.proofs.Talked.{port_so, AsksFirst, asks_none, asks_one}
 
 pub bare_route : (c : Client) (m : SendTo) → has_route (bare c) m ≡ has_route c m
 bare_route c m = same_way is_on_its_way refl (bare c) c (way_of c m)

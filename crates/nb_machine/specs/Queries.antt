@@ -10,7 +10,7 @@ use Rattle.nb_wire.specs.declared.address.Ip4.{Ip4}
 use Rattle.nb_settings.specs.declared.setting.OwnedKey.TheVariants.{Tag}
 use Rattle.nb_settings.specs.Tables.{TableLists, SettingValue, look}
 use Rattle.nb_command.specs.SettingAddresses.{value_address, nonzero}
-use Rattle.nb_engine.specs.Errands.{Errand}
+use Rattle.nb_machine.specs.Errands.{Errand}
 
 pub data Query : Type 0 where
   -- `dhcp`: a lease

@@ -8,17 +8,17 @@ use Rattle.nb_nodes.specs.LookupExchanges.{lookup_for, lookup_service}
 use Rattle.nb_nodes.specs.LeaseExchanges.{lease_service}
 use Rattle.nb_nodes.specs.EchoExchanges.{ping_service}
 use Rattle.nb_engine.specs.declared.world.World.{World}
-use Rattle.nb_engine.specs.Opens.{Open, has_route}
+use Rattle.nb_engine.specs.Opens.{Open}
+use Rattle.nb_machine.specs.Sendings.{has_route}
 use Rattle.nb_engine.specs.Talks.{Talk, looks_up, leases, pings, fields_of, proto_of, first_message}
 use Rattle.nb_engine.specs.Lones.{Lone}
-use Rattle.nb_engine.specs.Running.{Running}
+use Rattle.nb_machine.specs.Running.{Running}
 use Rattle.nb_engine.specs.Machine.{Machine, Phase}
 use Rattle.nb_engine.specs.Machine as lone
-use Rattle.nb_laws.specs.Agreement.{bare}
+use Rattle.nb_machine.specs.States.{bare, State, net0}
 use Rattle.nb_machine.specs.Lives.{OpenKind, tftp, dns, dhcp, ping, Exchange, Live}
 use Rattle.nb_machine.specs.Transfers.{Exchanged}
 use Rattle.nb_machine.specs.Cores.{CoreExchanged}
-use Rattle.nb_machine.specs.States.{State, net0}
 use Rattle.nb_machine.specs.Scripts.{fetch, sleep, job_for, answer, moment, Waiting}
 use Rattle.nb_machine.specs.Courses.{Standing, ready, running, waiting, reaching, yielded, handing, left, handed_off, stopped, Progress}
 

@@ -9,10 +9,9 @@ use Rattle.nb_image.specs.declared.error.ImageError.{ImageError}
 use Rattle.nb_image.specs.declared.error.ImageError.TheVariants as error
 use Rattle.nb_image.specs.declared.kind.ImageKind.{ImageKind}
 use Rattle.nb_image.specs.declared.kind.ImageKind.TheVariants as kind
-use Rattle.nb_image.specs.Images.{ImageList, image_of, with_image, image_place, refusal}
+use Rattle.nb_image.specs.Images.{ImageList, with_image, image_place, refusal}
 use Rattle.nb_image.specs.Kinds.{kind_of}
 use Rattle.nb_image.specs.Parts.{PartText, PieceText, part_number, parts, part_pieces}
-use Rattle.nb_engine.specs.Opens.{Open, body_of}
 
 -- the image can't be booted
 abbrev pub not_bootable : Cause
@@ -31,10 +30,6 @@ is_bootable kind.BzImage = true
 is_bootable kind.Elf = true
 is_bootable kind.Efi = true
 is_bootable kind.Other = false
-
--- the image that an open has fetched; it has no arguments
-abbrev pub image_from : Open → Image
-image_from o = image_of o.wanted.target.name (body_of o) [] o.wanted.uri
 
 -- a command whose open has ended: it goes on with this list of images, it fails, or this image of the list is handed off
 pub data Conclusion : Type 0 where

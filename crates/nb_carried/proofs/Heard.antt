@@ -12,11 +12,13 @@ use Rattle.nb_tftp.proofs.TryLaws.{call_sends}
 use Rattle.nb_engine.specs.declared.world.World.{World}
 use Rattle.nb_defs.specs.Causes.{ok}
 use Rattle.nb_engine.specs.World.{unbound, world_with_images}
-use Rattle.nb_engine.specs.Opens.{Open, with_entry, body_of, has_route, request_of, acts_records, end_of}
-use Rattle.nb_engine.specs.Conclusions.{Conclusion, keeps, fails, boots, conclusion, conclusion_records, handoff_records}
-use Rattle.nb_engine.specs.Running.{Running, with_result}
+use Rattle.nb_engine.specs.Opens.{Open, with_entry, body_of}
+use Rattle.nb_machine.specs.Sendings.{has_route, request_of, acts_records, end_of}
+use Rattle.nb_machine.specs.Conclusions.{Conclusion, keeps, fails, boots, conclusion, conclusion_records, handoff_records}
+use Rattle.nb_machine.specs.Running.{Running, with_result}
 use Rattle.nb_engine.specs.Machine.{Phase, Hears, goes_on, is_over, phase_after, concluded}
-use Rattle.nb_laws.specs.Agreement.{bare, opening_of}
+use Rattle.nb_machine.specs.States.{bare}
+use Rattle.nb_laws.specs.Agreement.{opening_of}
 use Rattle.nb_laws.specs.Frames.{begun_by}
 use Rattle.nb_laws.proofs.Asides.{aside_acts}
 use Rattle.nb_laws.proofs.Tellings.{same_number}
@@ -26,8 +28,8 @@ use Rattle.nb_machine.specs.Takings.{Over, AllTake, all_have, lives_on}
 use Rattle.nb_machine.specs.Takings as takings
 use Rattle.nb_machine.specs.Scripts.{fetch, Answer, by_end, answer_in, Waiting, Upshot, concludes, upshot_records, concluded_by}
 use Rattle.nb_machine.specs.Courses.{Standing, running, waiting, handing, LeadsTo}
-use Rattle.nb_machine.specs.Carried.{live_of, state_in, waiting_in, Lives, StandsAs}
-use Rattle.nb_machine.proofs.Told.{routed, end_put, all_came}
+use Rattle.nb_carried.specs.Carried.{live_of, state_in, waiting_in, Lives, StandsAs}
+use Rattle.nb_carried.proofs.Told.{routed, end_put, all_came}
 
 -- where a command that waits has an answer: it, the records and where they lead
 pub record Answered (w : World) (wait : Waiting) (r : In) (added put : List Out) (after : List Live) (over : List Over) (phase : Phase) : Type 0 where

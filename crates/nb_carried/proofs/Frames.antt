@@ -14,7 +14,7 @@ use Rattle.nb_machine.specs.Lives.{Exchange}
 use Rattle.nb_machine.specs.Kinds.{is_for}
 use Rattle.nb_machine.specs.States.{net0}
 use Rattle.nb_machine.specs.Network.{is_for_one}
-use Rattle.nb_machine.specs.Carried.{live_of}
+use Rattle.nb_carried.specs.Carried.{live_of}
 
 abbrev pub HasPort : Client → Open → Type 0
 HasPort net o = net.ports ≡ record { proto = 17; number = o.begun.own_port; to = o.number } ∷ []

@@ -8,18 +8,21 @@ use Rattle.nb_tftp.specs.History.{came, ticked}
 use Rattle.nb_engine.specs.declared.world.World.{World}
 use Rattle.nb_engine.specs.World.{with_net, with_open, with_ended_open}
 use Rattle.nb_engine.specs.World as world
-use Rattle.nb_engine.specs.Opens.{has_route, request_of, begun_for, open_for, send_records, heard_from}
+use Rattle.nb_machine.specs.Sendings.{has_route, request_of, send_records}
+use Rattle.nb_engine.specs.Opens.{begun_for, open_for, heard_from}
 use Rattle.nb_defs.specs.Causes.{ok}
-use Rattle.nb_engine.specs.Effects.{full_opens, inquires, effect, shown_words, table_after, up_after}
-use Rattle.nb_engine.specs.Errands.{fetches_now, echoes_now}
-use Rattle.nb_engine.specs.Queries.{Query, for_lease, for_echo, for_host, for_address}
+use Rattle.nb_machine.specs.Effects.{full_opens, inquires, effect, shown_words, table_after, up_after}
+use Rattle.nb_machine.specs.Errands.{fetches_now, echoes_now}
+use Rattle.nb_machine.specs.Queries.{Query, for_lease, for_echo, for_host, for_address}
 use Rattle.nb_engine.specs.Talks.{fields_of, proto_of, first_message, message_in, time_in, message_for}
 use Rattle.nb_engine.specs.Lones.{lone_for, talk_for, open_told, with_lone}
-use Rattle.nb_engine.specs.Running.{Running, coming, beginning, anew, further, entered, with_result}
+use Rattle.nb_machine.specs.Running.{Running, coming, beginning, anew, further, entered, with_result}
 use Rattle.nb_engine.proofs.CommandLaws.{sleeps_some}
-use Rattle.nb_engine.specs.Machine.{Machine, at, Hears, Replies, Begins, Move, Path, command_record, stopped_cause, world_after}
+use Rattle.nb_engine.specs.Machine.{Machine, at, Hears, Replies, Begins, Move, Path, world_after}
+use Rattle.nb_machine.specs.CommandRecords.{command_record, no_route, stopped_cause}
 use Rattle.nb_engine.specs.Machine as lone
-use Rattle.nb_laws.specs.Agreement.{bare, AgreesPhase}
+use Rattle.nb_machine.specs.States.{bare, state_at_start, with_live, with_one_made}
+use Rattle.nb_laws.specs.Agreement.{AgreesPhase}
 use Rattle.nb_laws.proofs.Runs.{run_tells}
 use Rattle.nb_laws.proofs.Tellings.{same_number}
 use Rattle.nb_machine.specs.Lives.{exchange, Live, open_record}
@@ -27,21 +30,20 @@ use Rattle.nb_machine.specs.Lives as lives
 use Rattle.nb_machine.specs.Transfers.{at_first, closes}
 use Rattle.nb_machine.specs.Cores as cores
 use Rattle.nb_machine.specs.Kinds.{first_records}
-use Rattle.nb_machine.specs.States.{state_at_start, with_live, with_one_made}
 use Rattle.nb_machine.specs.Takings.{all_have, is_over}
 use Rattle.nb_machine.specs.Network as network
 use Rattle.nb_machine.specs.Scripts.{fetch, by_time, opens, doing, doing_by, transfer_for, echo_for, live_for, job_for}
 use Rattle.nb_machine.specs.Courses.{Standing, Progress, stands, running, waiting, reaching, handing, left, handed_off, stopped, StepBegins, Proceeds, Course, begins, uses, goes_on, ready, yielded}
 use Rattle.nb_machine.specs.Courses as courses
-use Rattle.nb_machine.specs.Carried.{live_of, live_alone, state_in, waiting_in, asking_in, sleeping_in, Lives, HasTalked, LivesAlone, StandsAs, Carries}
-use Rattle.nb_machine.proofs.Ways.{bare_route, bare_send}
-use Rattle.nb_machine.proofs.Told.{meets_nothing}
-use Rattle.nb_machine.proofs.Talked.{a_time, talked_closed, is_kept}
-use Rattle.nb_machine.proofs.Heard.{heard, keeps_now}
-use Rattle.nb_machine.proofs.Replied.{replied}
-use Rattle.nb_machine.proofs.Frames.{for_open}
-use Rattle.nb_machine.proofs.Comings.{for_alone, same_client}
-use Rattle.nb_machine.proofs.Steps.{Steps, taken, frame_passes, frame_comes, same_net, frame_passes_it, frame_brings_it, frame_resumes, frame_sleeps, not_yet, by_now}
+use Rattle.nb_carried.specs.Carried.{live_of, live_alone, state_in, waiting_in, asking_in, sleeping_in, Lives, HasTalked, LivesAlone, StandsAs, Carries}
+use Rattle.nb_carried.proofs.Ways.{bare_route, bare_send}
+use Rattle.nb_carried.proofs.Told.{meets_nothing}
+use Rattle.nb_carried.proofs.Talked.{a_time, talked_closed, is_kept}
+use Rattle.nb_carried.proofs.Heard.{heard, keeps_now}
+use Rattle.nb_carried.proofs.Replied.{replied}
+use Rattle.nb_carried.proofs.Frames.{for_open}
+use Rattle.nb_carried.proofs.Comings.{for_alone, same_client}
+use Rattle.nb_carried.proofs.Steps.{Steps, taken, frame_passes, frame_comes, same_net, frame_passes_it, frame_brings_it, frame_resumes, frame_sleeps, not_yet, by_now}
 
 step_begins : (m : Machine) (r : In) (added : List Out) (m' : Machine) (es : _) (p : Standing) → Begins m r added m' → AgreesPhase es m.phase → StandsAs m.phase p → Steps m.used p r added m'
 step_begins m r added m' es p (lone.runs n s code valid reading) a same =
@@ -200,15 +202,15 @@ reaches_goes : (n : ℕ) (w : World) (s : Running) (c : List ℕ) (cs : List (Li
     has_route (world_after w (c ∷ cs)).net (first_message (talk_for (world_after w (c ∷ cs)) q)) ≡ false →
     Goes n (running (state_in w []) s [])
     (command_record s (shown_words w.state.table (c ∷ cs)) ∷ open_told w.opens (fields_of (talk_for (world_after w (c ∷ cs)) q))
-    ∷ ended w.opens (lone.no_route (fields_of (talk_for (world_after w (c ∷ cs)) q)).server)
-    ∷ result (lone.no_route (fields_of (talk_for (world_after w (c ∷ cs)) q)).server) ∷ [])
-    (at n (lone.running (with_ended_open (world_after w (c ∷ cs))) (further s (lone.no_route (fields_of (talk_for (world_after w (c ∷ cs)) q)).server))))
+    ∷ ended w.opens (no_route (fields_of (talk_for (world_after w (c ∷ cs)) q)).server)
+    ∷ result (no_route (fields_of (talk_for (world_after w (c ∷ cs)) q)).server) ∷ [])
+    (at n (lone.running (with_ended_open (world_after w (c ∷ cs))) (further s (no_route (fields_of (talk_for (world_after w (c ∷ cs)) q)).server))))
 reaches_goes n w s c cs q comes few is route =
     let st = state_in w [] in
     let v = world_after w (c ∷ cs) in
     let l = live_alone (lone_for v q) [] in
     let first = first_message (talk_for v q) in
-    let none = lone.no_route (fields_of (talk_for v q)).server in
+    let none = no_route (fields_of (talk_for v q)).server in
     let to = running (with_one_made (state_in v [])) (further s none) [] in
     record {
       to = to;
@@ -270,7 +272,7 @@ move_goes m added m' es p (lone.finds_no_route n w s c cs wanted comes few is ro
     let request = request_of (begun_for w wanted) in
     subst (λ z. Goes n z added m') (sym same)
     (record {
-      to = running (with_one_made st) (further s (lone.no_route wanted.target.server)) [];
+      to = running (with_one_made st) (further s (no_route wanted.target.server)) [];
       does = courses.finds_no_route n st st s [] c cs l (fetch wanted) (bare w.net) comes few (ap (doing_by st (table_after w.state.table (c ∷ cs)) (up_after w.state.table w.state.up (c ∷ cs))) is) refl
           (ap (λ b. cond b (Some (send_records (bare w.net) w.opens (Some 1) request)) None) (bare_route w.net request ∙ route));
       same = refl;
@@ -297,7 +299,7 @@ move_goes m added m' es p (lone.finds_no_way n w s wanted few route) a same =
     let request = request_of (begun_for w wanted) in
     subst (λ z. Goes n z added m') (sym same)
     (record {
-      to = running (with_one_made st) (with_result s (lone.no_route wanted.target.server)) [];
+      to = running (with_one_made st) (with_result s (no_route wanted.target.server)) [];
       does = courses.finds_no_way n st s [] (fetches_now wanted) (bare w.net) few refl
           (ap (λ b. cond b (Some (send_records (bare w.net) w.opens (Some 1) request)) None) (bare_route w.net request ∙ route));
       same = refl;
@@ -322,7 +324,7 @@ move_goes m added m' es p (lone.finds_no_way_to n w s server few route) a same =
     let first = first_message (talk_for w (for_echo server)) in
     subst (λ z. Goes n z added m') (sym same)
     (record {
-      to = running (with_one_made st) (with_result s (lone.no_route server)) [];
+      to = running (with_one_made st) (with_result s (no_route server)) [];
       does = courses.finds_no_way n st s [] (echoes_now server) (bare w.net) few refl
           (ap (λ b. cond b (Some (send_records (bare w.net) w.opens (Some 1) first)) None) (bare_route w.net first ∙ route));
       same = refl;

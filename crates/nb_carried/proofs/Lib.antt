@@ -1,0 +1,9 @@
+pub mod Talked
+pub mod Ways
+pub mod Told
+pub mod Heard
+pub mod Replied
+pub mod Frames
+pub mod Comings
+pub mod Steps
+pub mod Runs
