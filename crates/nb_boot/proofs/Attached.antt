@@ -3,8 +3,8 @@ use Rattle.std.proofs.Common.{ℕ, []}
 use Rattle.nb_record.specs.Outside.{Outside, Attaches}
 use Rattle.nb_record.proofs.OutsideLemmas.{Passes-then, Attaches-passes}
 use Rattle.nb_boot.specs.Run.{Run, Shows, IsOver}
-use Rattle.nb_engine.specs.declared.status.Status.{Status}
-use Rattle.nb_engine.specs.declared.status.Status.TheVariants as status
+use Rattle.nb_runner.specs.declared.status.Status.{Status}
+use Rattle.nb_runner.specs.declared.status.Status.TheVariants as status
 use Rattle.nb_boot.proofs.Written.{rose_later}
 use Rattle.nb_boot.proofs.InTurns.{turns_from}
 

@@ -11,9 +11,9 @@ use Rattle.nb_opens.specs.Graphs.{GraphAt, bare, without_graph, Graphs}
 use Rattle.nb_opens.specs.Graphs as order
 use Rattle.nb_opens.proofs.Tracing.{graphs_are_traced}
 use Rattle.nb_engine.specs.GraphSteps as with_graph
-use Rattle.nb_engine.specs.StatusNumber.{status_number}
-use Rattle.nb_engine.specs.declared.status.Status.{Status}
-use Rattle.nb_engine.specs.declared.status.Status.TheVariants as status
+use Rattle.nb_runner.specs.StatusNumber.{status_number}
+use Rattle.nb_runner.specs.declared.status.Status.{Status}
+use Rattle.nb_runner.specs.declared.status.Status.TheVariants as status
 use Rattle.nb_boot.specs.Run.{Run, Shows, Says, HandsTheirs, IsOver, Ends, was_left, was_handed, was_stopped, ran_out, was_bad, was_full, Closes, goes_on, is_over}
 use Rattle.nb_boot.specs.InTurn.{IsInTurn}
 use Rattle.nb_boot.specs.Going.{Going, Wrote, Stopped, IsFlaw, IsClosing, flaw_status}

@@ -6,7 +6,7 @@ use Rattle.nb_record.specs.Logged.{Logged}
 use Rattle.nb_engine.specs.Machine.{Machine}
 use Rattle.nb_opens.specs.Graphs.{Graphs, GraphAt, without_graph}
 use Rattle.nb_opens.proofs.Tracing.{graphs_are_traced}
-use Rattle.nb_engine.specs.declared.status.Status.TheVariants as status
+use Rattle.nb_runner.specs.declared.status.Status.TheVariants as status
 use Rattle.nb_boot.specs.Run.{Run, Shows, IsBetween, goes_on}
 use Rattle.nb_boot.specs.Going.{Going, Wrote, Stopped, IsFlaw, CutsAll, flaw_status}
 use Rattle.nb_boot.specs.declared.output.Flaw.{Flaw}

@@ -6,7 +6,7 @@ use Rattle.nb_record.specs.Logged.{Logged}
 use Rattle.nb_record.specs.Held.{IsFront}
 use Rattle.nb_engine.specs.Seen.{Seen}
 use Rattle.nb_engine.specs.Turns.{IsResting}
-use Rattle.nb_engine.specs.declared.status.Status.{Status}
+use Rattle.nb_runner.specs.declared.status.Status.{Status}
 use Rattle.nb_boot.specs.Run.{Shows, BeginsWith}
 use Rattle.nb_boot.specs.Going.{Goes, Waits, KeepsWaiting, LeadsOn, Stops, UsesRecord, UsesNext}
 use Rattle.nb_boot.proofs.Standing.{stands_between}

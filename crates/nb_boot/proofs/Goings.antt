@@ -11,7 +11,7 @@ use Rattle.nb_engine.specs.Seen.{Seen, StandsFor, FitsGraph, as_ready, as_runnin
 use Rattle.nb_engine.specs.GraphSteps.{GraphPath, IsUnderWay}
 use Rattle.nb_engine.specs.GraphSteps as with_graph
 use Rattle.nb_engine.specs.Turns.{Steps, Grows, FollowsRecord, IsBusy}
-use Rattle.nb_engine.proofs.Puts.{is_either}
+use Rattle.nb_runner.proofs.Puts.{is_either}
 use Rattle.nb_opens.specs.Graphs.{GraphAt, bare, without_graph}
 use Rattle.nb_opens.specs.Graphs as order
 use Rattle.nb_opens.proofs.Plain.{plain_append}

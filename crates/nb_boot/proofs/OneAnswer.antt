@@ -19,8 +19,8 @@ use Rattle.nb_stack.specs.Client.{Client}
 use Rattle.nb_stack.specs.Takes.{Outcome, Takes, outcome_of, reply_of, client_after}
 use Rattle.nb_stack.proofs.MessageLaws.{message_one}
 use Rattle.nb_defs.specs.Records.{Out, ended}
-use Rattle.nb_engine.specs.declared.world.World.{World}
-use Rattle.nb_engine.specs.World.{unbound}
+use Rattle.nb_runner.specs.declared.world.World.{World}
+use Rattle.nb_runner.specs.World.{unbound}
 use Rattle.nb_engine.specs.Opens.{Open, body_of, with_entry}
 use Rattle.nb_machine.specs.Sendings.{acts_records, end_of}
 use Rattle.nb_machine.specs.Conclusions.{conclusion_records}

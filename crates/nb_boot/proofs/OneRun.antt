@@ -5,8 +5,8 @@ use Rattle.nb_defs.specs.Causes.{ok}
 use Rattle.nb_defs.specs.Commands.{CommandOutcome, refused}
 use Rattle.nb_defs.specs.Records.{Start, In, start, frame, tick, off, Out, step, enter, leave, ended, result}
 use Rattle.nb_defs.specs.ScriptLines.{Reading, script, no_script, script_too_long, line_too_long, label_place}
-use Rattle.nb_engine.specs.declared.world.World.{World}
-use Rattle.nb_engine.specs.World.{world_of, with_open, with_ended_open}
+use Rattle.nb_runner.specs.declared.world.World.{World}
+use Rattle.nb_runner.specs.World.{world_of, with_open, with_ended_open}
 use Rattle.nb_machine.specs.FirstText.{first_reading, text_refusal}
 use Rattle.nb_machine.specs.Running.{Running, Coming, coming, passing, leaving, beginning, first_script, entered, with_result, further, behind_line, no_label}
 use Rattle.nb_machine.specs.Errands.{Wanted, Onward, fetches_now, echoes_now}

@@ -4,8 +4,8 @@ use Rattle.nb_tftp.specs.History.{Call, came, ticked}
 use Rattle.nb_stack.specs.Client.{Client}
 use Rattle.nb_stack.specs.Takes.{Outcome, Takes}
 use Rattle.nb_defs.specs.Records.{In, frame, tick, off, Out, step, ended, result}
-use Rattle.nb_engine.specs.declared.world.World.{World}
-use Rattle.nb_engine.specs.World.{with_net, world_later}
+use Rattle.nb_runner.specs.declared.world.World.{World}
+use Rattle.nb_runner.specs.World.{with_net, world_later}
 use Rattle.nb_engine.specs.Opens.{Open, heard_from}
 use Rattle.nb_defs.specs.Causes.{ok}
 use Rattle.nb_machine.specs.Running.{Running, anew, with_result}

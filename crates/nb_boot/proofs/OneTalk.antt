@@ -24,7 +24,7 @@ use Rattle.nb_ping.proofs.PingCallsLemmas.{ping_times-append, each-last as each_
 use Rattle.nb_nodes.specs.LookupExchanges.{lookup_for, dns_datagram_in}
 use Rattle.nb_nodes.specs.LeaseExchanges.{handed_in}
 use Rattle.nb_nodes.specs.EchoExchanges.{reply_in}
-use Rattle.nb_engine.specs.declared.world.World.{World}
+use Rattle.nb_runner.specs.declared.world.World.{World}
 use Rattle.nb_engine.specs.Talks.{Talk, looks_up, leases, pings, Incoming, message_in, time_in, TalkGoes, look_up_goes, lease_goes, ping_goes}
 use Rattle.nb_machine.specs.Errands.{Onward}
 use Rattle.nb_engine.specs.Lones.{Lone, with_talk, without_lone, onward_from, settled, world_settled}

@@ -9,7 +9,7 @@ use Rattle.nb_engine.specs.Seen.{Seen, seen, StandsFor, as_ready, FitsGraph, Fit
 use Rattle.nb_opens.specs.Graphs.{bare}
 use Rattle.nb_engine.specs.Turns.{IsResting}
 use Rattle.nb_engine.specs.declared.stage.Stage.TheVariants as stage
-use Rattle.nb_engine.specs.declared.status.Status.{Status}
+use Rattle.nb_runner.specs.declared.status.Status.{Status}
 use Rattle.nb_boot.specs.Going.{KeepsWaiting, LeadsOn, Stops, Opens, RefusesRun}
 
 -- a client before any record

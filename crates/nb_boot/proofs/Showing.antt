@@ -2,8 +2,8 @@
 use Rattle.std.proofs.Common.{ℕ, ◌<◌, List, sym, ◌∙◌, subst}
 use Rattle.nb_defs.specs.Records.{Out}
 use Rattle.nb_record.specs.Outside.{Outside}
-use Rattle.nb_engine.specs.declared.status.Status.{Status}
-use Rattle.nb_engine.specs.declared.status.Status.TheVariants as status
+use Rattle.nb_runner.specs.declared.status.Status.{Status}
+use Rattle.nb_runner.specs.declared.status.Status.TheVariants as status
 use Rattle.nb_engine.specs.Machine.{Machine, Phase, shutdown_records}
 use Rattle.nb_engine.specs.Machine as lone
 use Rattle.nb_opens.specs.Graphs.{without_graph}

@@ -3,14 +3,14 @@ use Rattle.std.proofs.Common.{◌≡◌, ℕ, ◌+◌, ◌<◌, List, [], ◌∷
 use Rattle.nb_defs.specs.Records.{In, IsIn, in_text, in_texts, Out}
 use Rattle.nb_defs.proofs.RecordLaws.{in_text_apart, length-in_text}
 use Rattle.nb_tftp.specs.History.{Call, entry}
-use Rattle.nb_engine.specs.declared.world.World.{World}
+use Rattle.nb_runner.specs.declared.world.World.{World}
 use Rattle.nb_engine.specs.Opens.{Open, with_entry}
 use Rattle.nb_engine.specs.Talks.{Incoming}
 use Rattle.nb_engine.specs.Lones.{Lone}
 use Rattle.nb_machine.specs.Conclusions.{Conclusion, keeps, fails, boots}
 use Rattle.nb_machine.specs.Running.{Running}
 use Rattle.nb_engine.specs.Machine.{Machine, Phase, ready, running, waiting, asking, sleeping, reaching, yielded, handing, left, handed_off, stopped, phase_after, concluded, Hears, goes_on, is_over, Replies, talks_on, comes_to_end, finds_host, Path, nothing, uses, moves, Begins, runs, refuses, passes_by, brings, passes_time, switches_off, passes_it_by, brings_it, passes_its_time, switches_it_off, sleeps_through_frame, sleeps_on, wakes, goes_off_asleep, goes_on_by_frame, goes_on_by_tick, goes_off, Move, passes, is_left, yields, does, closes_device, leaves, jumps, finds_no_label, falls_asleep, asks_for, finds_no_route, inquires_for, reaches_none, asks_on, finds_no_way, echoes_on, finds_no_way_to, opens_no_more, hands, has_handed}
-use Rattle.nb_engine.specs.World.{unbound}
+use Rattle.nb_runner.specs.World.{unbound}
 use Rattle.nb_boot.specs.Complete.{AreOthers}
 
 -- each has a spelling

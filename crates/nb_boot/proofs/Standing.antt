@@ -7,11 +7,11 @@ use Rattle.nb_laws.proofs.Counts.{path_counts}
 use Rattle.nb_engine.specs.Machine.{Machine}
 use Rattle.nb_opens.specs.Graphs.{without_graph}
 use Rattle.nb_engine.specs.Seen.{Seen, StandsFor, as_ready, as_running, as_waiting, as_asking, as_reaching, as_sleeping, as_yielded, as_handing, as_left, as_handed_off, as_stopped}
-use Rattle.nb_engine.specs.StatusNumber.{status_number}
+use Rattle.nb_runner.specs.StatusNumber.{status_number}
 use Rattle.nb_engine.specs.Turns.{IsEnd, IsResting, IsOverWith, MayUse}
 use Rattle.nb_engine.specs.declared.stage.Stage.{Stage}
-use Rattle.nb_engine.specs.declared.status.Status.{Status}
-use Rattle.nb_engine.specs.declared.status.Status.TheVariants as status
+use Rattle.nb_runner.specs.declared.status.Status.{Status}
+use Rattle.nb_runner.specs.declared.status.Status.TheVariants as status
 use Rattle.nb_boot.specs.Run.{Awaits, IsBetween, IsOther, IsFirst, BeginsWith, IsBadRest, Ends, was_left, was_handed, was_stopped}
 use Rattle.nb_boot.specs.Going.{Goes, IsClosing}
 

@@ -6,7 +6,7 @@ use Rattle.nb_stack.specs.Brings.{Brought}
 use Rattle.nb_stack.specs.Takes.{outcome_of}
 use Rattle.nb_tftp.specs.History.{ticked, Entry}
 use Rattle.nb_opens.specs.Graphs.{without_graph}
-use Rattle.nb_engine.specs.declared.world.World.{World}
+use Rattle.nb_runner.specs.declared.world.World.{World}
 use Rattle.nb_engine.specs.Opens.{heard_from}
 use Rattle.nb_engine.specs.Lones.{Lone}
 use Rattle.nb_engine.specs.Talks.{message_for}

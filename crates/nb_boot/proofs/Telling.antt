@@ -5,8 +5,8 @@ use Rattle.nb_defs.specs.Records.{In, off, IsIn, in_text, in_texts, Out, IsParti
 use Rattle.nb_defs.proofs.RecordLaws.{partial_not_whole, length-in_text}
 use Rattle.nb_opens.specs.Graphs.{without_graph}
 use Rattle.nb_record.specs.Outside.{Outside, IsAtEnd}
-use Rattle.nb_engine.specs.declared.status.Status.{Status}
-use Rattle.nb_engine.specs.declared.status.Status.TheVariants as status
+use Rattle.nb_runner.specs.declared.status.Status.{Status}
+use Rattle.nb_runner.specs.declared.status.Status.TheVariants as status
 use Rattle.nb_engine.specs.Machine.{Machine, Phase, ready, running, waiting, asking, sleeping, reaching, yielded, handing, left, handed_off, stopped, Path}
 use Rattle.nb_boot.specs.Run.{Run, Shows, IsOther, IsFirst, BeginsWith, IsBadRest, Awaits, Ends, was_left, was_handed, was_stopped, ran_out, was_bad, was_full}
 use Rattle.nb_boot.specs.Complete.{CompletesRun, SaysStatus}

@@ -7,8 +7,8 @@ use Rattle.nb_engine.specs.Seen.{Seen}
 use Rattle.nb_engine.specs.Turns.{Grows, AnswersTurn, IsWaiting, HasYielded, IsResting, IsEnd, IsOverWith}
 use Rattle.nb_engine.specs.declared.stage.Stage.{Stage}
 use Rattle.nb_engine.specs.declared.stage.Stage.TheVariants as stage
-use Rattle.nb_engine.specs.declared.status.Status.{Status}
-use Rattle.nb_engine.specs.declared.status.Status.TheVariants as status
+use Rattle.nb_runner.specs.declared.status.Status.{Status}
+use Rattle.nb_runner.specs.declared.status.Status.TheVariants as status
 use Rattle.nb_engine.specs.declared.client.Turn.TheVariants as turn
 use Rattle.nb_boot.specs.Going.{Goes, KeepsRun, CutsAll, LeadsOn, Stops, StepsTo, IsEndOf, HasNumber, flaw_status}
 use Rattle.nb_boot.specs.declared.output.Flaw.{Flaw}

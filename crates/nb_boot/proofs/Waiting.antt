@@ -4,10 +4,10 @@ use Rattle.nb_defs.specs.Records.{IsPartial, IsBroken}
 use Rattle.nb_record.specs.Outside.{Outside, IsAtEnd}
 use Rattle.nb_record.specs.Logged.{Logged}
 use Rattle.nb_engine.specs.Seen.{Seen}
-use Rattle.nb_engine.specs.StatusNumber.{status_number}
+use Rattle.nb_runner.specs.StatusNumber.{status_number}
 use Rattle.nb_engine.specs.Turns.{IsResting}
 use Rattle.nb_opens.specs.Graphs.{without_graph}
-use Rattle.nb_engine.specs.declared.status.Status.{Status}
+use Rattle.nb_runner.specs.declared.status.Status.{Status}
 use Rattle.nb_boot.specs.Run.{IsFirst, BeginsWith, Ends, ran_out, was_bad, was_full}
 use Rattle.nb_boot.specs.Going.{Waits, IsEndStatus, IsClosing}
 use Rattle.nb_boot.proofs.Standing.{stands_used, stands_awaits, stands_bad}

@@ -5,9 +5,9 @@ use Rattle.nb_record.specs.Outside.{Outside, Rose}
 use Rattle.nb_boot.specs.Run.{IsOther}
 use Rattle.nb_engine.specs.Machine.{Machine, Phase, ready, running, waiting, asking, sleeping, reaching, yielded, handing, left, handed_off, stopped, Path}
 use Rattle.nb_machine.specs.CommandRecords.{status_of}
-use Rattle.nb_engine.specs.StatusNumber.{status_number}
-use Rattle.nb_engine.specs.declared.status.Status.{Status}
-use Rattle.nb_engine.specs.declared.status.Status.TheVariants as status
+use Rattle.nb_runner.specs.StatusNumber.{status_number}
+use Rattle.nb_runner.specs.declared.status.Status.{Status}
+use Rattle.nb_runner.specs.declared.status.Status.TheVariants as status
 
 -- the words were invalid
 abbrev pub IsBadWords : Status → Type 0

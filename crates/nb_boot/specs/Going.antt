@@ -11,8 +11,8 @@ use Rattle.nb_record.specs.Logged.{Logged}
 use Rattle.nb_record.specs.declared.notes.ReadNote.{ReadNote}
 use Rattle.nb_boot.specs.InTurn.{IsInTurn, OfEachRead}
 use Rattle.nb_boot.specs.Run.{Shows, IsBetween, IsFirst, IsOther}
-use Rattle.nb_engine.specs.declared.status.Status.{Status}
-use Rattle.nb_engine.specs.declared.status.Status.TheVariants as status
+use Rattle.nb_runner.specs.declared.status.Status.{Status}
+use Rattle.nb_runner.specs.declared.status.Status.TheVariants as status
 use Rattle.nb_boot.specs.declared.output.Flaw.{Flaw}
 use Rattle.nb_boot.specs.declared.output.Flaw.TheVariants as flaw
 use Rattle.nb_boot.specs.declared.feeding.Filled.{Filled}

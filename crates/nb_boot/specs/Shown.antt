@@ -6,8 +6,8 @@ use Rattle.nb_machine.specs.CommandRecords.{status_of}
 use Rattle.nb_opens.specs.Graphs.{Graphs, GraphAt, bare, without_graph}
 use Rattle.nb_opens.specs.Traces.{AreTraced}
 use Rattle.nb_record.specs.Outside.{Outside, Passes, Rose, IsAtEnd}
-use Rattle.nb_engine.specs.declared.status.Status.{Status}
-use Rattle.nb_engine.specs.declared.status.Status.TheVariants as status
+use Rattle.nb_runner.specs.declared.status.Status.{Status}
+use Rattle.nb_runner.specs.declared.status.Status.TheVariants as status
 use Rattle.nb_machine.specs.Courses.{Standing, ready, running, waiting, reaching, yielded, handing, left, handed_off, stopped, Progress, Course}
 use Rattle.nb_laws.specs.Events.{Event}
 use Rattle.nb_laws.specs.Histories.{IsHistory}

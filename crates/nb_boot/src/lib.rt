@@ -14,5 +14,5 @@ mod turn;
 mod words;
 
 pub use laws::one_run;
-pub use nb_engine::Status;
+pub use nb_runner::Status;
 pub use top::netboot;

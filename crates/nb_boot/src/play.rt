@@ -2,7 +2,7 @@ ghost use Rattle.std.specs.Prelude.{◌≡◌, ◌<◌, ◌-◌, ◌^◌, ℕ, L
 ghost use Rattle.nb_defs.specs.Records.{In, IsIn};
 ghost use Rattle.nb_record.specs.Outside.{Outside};
 ghost use Rattle.nb_record.specs.View.{in_of};
-ghost use Rattle.nb_engine.specs.StatusNumber.{status_number};
+ghost use Rattle.nb_runner.specs.StatusNumber.{status_number};
 ghost use Rattle.nb_engine.specs.Machine.{Machine};
 ghost use Rattle.nb_engine.specs.Seen.{StandsFor, FitsGraph};
 ghost use Rattle.nb_engine.specs.Turns.{IsBusy, MayUse};

@@ -9,9 +9,9 @@ use Rattle.nb_tftp.specs.History.{Call, entry, got}
 use Rattle.nb_tftp.specs.Sentences.{Meets}
 use Rattle.nb_tftp.proofs.PlainLaws.{asks_last}
 use Rattle.nb_tftp.proofs.TryLaws.{call_sends}
-use Rattle.nb_engine.specs.declared.world.World.{World}
+use Rattle.nb_runner.specs.declared.world.World.{World}
 use Rattle.nb_defs.specs.Causes.{ok}
-use Rattle.nb_engine.specs.World.{unbound, world_with_images}
+use Rattle.nb_runner.specs.World.{unbound, world_with_images}
 use Rattle.nb_engine.specs.Opens.{Open, with_entry, body_of}
 use Rattle.nb_machine.specs.Sendings.{has_route, request_of, acts_records, end_of}
 use Rattle.nb_machine.specs.Conclusions.{Conclusion, keeps, fails, boots, conclusion, conclusion_records, handoff_records}

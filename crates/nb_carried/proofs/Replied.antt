@@ -10,7 +10,7 @@ use Rattle.nb_dns.specs.LookupReplies.{address_found}
 use Rattle.nb_dhcp.specs.History.{acknowledgement_in}
 use Rattle.nb_nodes.specs.LookupExchanges.{lookup_for}
 use Rattle.nb_command.specs.Addresses.{address_table}
-use Rattle.nb_engine.specs.declared.world.World.{World}
+use Rattle.nb_runner.specs.declared.world.World.{World}
 use Rattle.nb_machine.specs.Sendings.{has_route, acts_records}
 use Rattle.nb_machine.specs.Errands.{Errand, Onward, onward}
 use Rattle.nb_machine.specs.Queries.{Query, for_lease, for_echo, for_host, for_address}

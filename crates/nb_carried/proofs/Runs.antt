@@ -5,9 +5,9 @@ use Rattle.nb_stack.specs.Client.{Client}
 use Rattle.nb_stack.specs.Bound.{with_port}
 use Rattle.nb_tftp.specs.Received.{received}
 use Rattle.nb_tftp.specs.History.{came, ticked}
-use Rattle.nb_engine.specs.declared.world.World.{World}
-use Rattle.nb_engine.specs.World.{with_net, with_open, with_ended_open}
-use Rattle.nb_engine.specs.World as world
+use Rattle.nb_runner.specs.declared.world.World.{World}
+use Rattle.nb_runner.specs.World.{with_net, with_open, with_ended_open}
+use Rattle.nb_runner.specs.World as world
 use Rattle.nb_machine.specs.Sendings.{has_route, request_of, send_records}
 use Rattle.nb_engine.specs.Opens.{begun_for, open_for, heard_from}
 use Rattle.nb_defs.specs.Causes.{ok}
@@ -17,7 +17,7 @@ use Rattle.nb_machine.specs.Queries.{Query, for_lease, for_echo, for_host, for_a
 use Rattle.nb_engine.specs.Talks.{fields_of, proto_of, first_message, message_in, time_in, message_for}
 use Rattle.nb_engine.specs.Lones.{lone_for, talk_for, open_told, with_lone}
 use Rattle.nb_machine.specs.Running.{Running, coming, beginning, anew, further, entered, with_result}
-use Rattle.nb_engine.proofs.CommandLaws.{sleeps_some}
+use Rattle.nb_runner.proofs.CommandLaws.{sleeps_some}
 use Rattle.nb_engine.specs.Machine.{Machine, at, Hears, Replies, Begins, Move, Path, world_after}
 use Rattle.nb_machine.specs.CommandRecords.{command_record, no_route, stopped_cause}
 use Rattle.nb_engine.specs.Machine as lone

@@ -8,8 +8,8 @@ use Rattle.nb_stack.specs.Takes.{outcome_of, client_after, reply_of}
 use Rattle.nb_graph.specs.Trace.{Said}
 use Rattle.nb_tftp.specs.Received.{received}
 use Rattle.nb_tftp.specs.History.{came}
-use Rattle.nb_engine.specs.declared.world.World.{World}
-use Rattle.nb_engine.specs.World.{with_net}
+use Rattle.nb_runner.specs.declared.world.World.{World}
+use Rattle.nb_runner.specs.World.{with_net}
 use Rattle.nb_engine.specs.Opens.{Open, heard_from}
 use Rattle.nb_machine.specs.Sendings.{has_route, request_of}
 use Rattle.nb_engine.specs.Talks.{first_message, message_in, message_for}

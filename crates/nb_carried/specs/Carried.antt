@@ -7,7 +7,7 @@ use Rattle.nb_ping.specs.PingPromises.{PingMeets}
 use Rattle.nb_nodes.specs.LookupExchanges.{lookup_for, lookup_service}
 use Rattle.nb_nodes.specs.LeaseExchanges.{lease_service}
 use Rattle.nb_nodes.specs.EchoExchanges.{ping_service}
-use Rattle.nb_engine.specs.declared.world.World.{World}
+use Rattle.nb_runner.specs.declared.world.World.{World}
 use Rattle.nb_engine.specs.Opens.{Open}
 use Rattle.nb_machine.specs.Sendings.{has_route}
 use Rattle.nb_engine.specs.Talks.{Talk, looks_up, leases, pings, fields_of, proto_of, first_message}

@@ -15,11 +15,11 @@ use Rattle.nb_opens.specs.PairEvents.{made_events, begun_front, begun_back, clos
 use Rattle.nb_opens.specs.Notices.{begun_notices, down_notices, closed_notices, freed_notices}
 use Rattle.nb_opens.specs.Pairs.{Downloads}
 use Rattle.nb_stack.specs.Sends.{put_on, way_of}
-use Rattle.nb_engine.specs.declared.world.World.{World}
+use Rattle.nb_runner.specs.declared.world.World.{World}
 use Rattle.nb_engine.specs.declared.fetch.Fetch.{Fetch}
 use Rattle.nb_engine.specs.declared.stage.Stage.TheVariants as stage
 use Rattle.nb_machine.specs.Starting.{own_port}
-use Rattle.nb_engine.specs.World.{with_open, with_ended_open}
+use Rattle.nb_runner.specs.World.{with_open, with_ended_open}
 use Rattle.nb_machine.specs.Errands.{Wanted}
 use Rattle.nb_machine.specs.Effects.{asks, effect, words_effect, shown_words, shown_as}
 use Rattle.nb_engine.specs.Opens.{open_for, begun_for, opened_record}
@@ -28,24 +28,24 @@ use Rattle.nb_machine.specs.Conclusions.{fails, conclusion_records}
 use Rattle.nb_machine.specs.Running.{Running, entered, further}
 use Rattle.nb_engine.specs.Machine.{at, running, waiting, Moves, asks_for, finds_no_route}
 use Rattle.nb_machine.specs.CommandRecords.{command_record, no_route}
-use Rattle.nb_engine.specs.NextCommand.{HasCommand}
+use Rattle.nb_runner.specs.NextCommand.{HasCommand}
 use Rattle.nb_engine.specs.Tellings.{told_records}
 use Rattle.nb_engine.specs.Fetches.{IsLive, fetch_for, speaker_of}
 use Rattle.nb_engine.specs.Advance.{PutsBegun, TurnsBack}
 use Rattle.nb_engine.specs.Seen.{Seen, seen, KeepsOrder, as_running, as_waiting}
 use Rattle.nb_engine.specs.Turns.{Grows, AnswersTurn, IsBusy, IsNearer, moves_left}
-use Rattle.nb_engine.specs.Steps.{moves_in}
-use Rattle.nb_engine.specs.declared.status.Status.TheVariants as status
+use Rattle.nb_runner.specs.Steps.{moves_in}
+use Rattle.nb_runner.specs.declared.status.Status.TheVariants as status
 use Rattle.nb_engine.specs.declared.client.Turn.{Turn}
 use Rattle.nb_engine.specs.declared.client.Turn.TheVariants as turn
-use Rattle.nb_engine.proofs.Measures.{further_nearer}
+use Rattle.nb_runner.proofs.Measures.{further_nearer}
 use Rattle.std.specs.List.{list_all}
 use Rattle.std.proofs.lemmas.Bool.Decides.{nat_tests}
 use Rattle.nb_tftpmsg.specs.Texts.{HasNoZero}
 use Rattle.nb_nodes.specs.Asking.{is_nonzero, is_path}
-use Rattle.nb_engine.proofs.CommandLaws.{effect_of_words, shown_of_words}
+use Rattle.nb_runner.proofs.CommandLaws.{effect_of_words, shown_of_words}
 use Rattle.nb_engine.proofs.NamedEffects.{asked_for}
-use Rattle.nb_engine.proofs.Puts.{Puts-outs}
+use Rattle.nb_runner.proofs.Puts.{Puts-outs}
 use Rattle.nb_engine.proofs.Sides.{same_bare}
 use Rattle.nb_engine.proofs.Standing.{stands_at}
 use Rattle.nb_engine.proofs.Moves.{move_from}

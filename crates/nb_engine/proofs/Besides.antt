@@ -14,18 +14,18 @@ use Rattle.nb_opens.specs.Graphs.{Graphs, bare, holding, Cast, solo, backed, beg
 use Rattle.nb_stack.specs.Client.{Client}
 use Rattle.nb_stack.specs.Bound.{with_port, without}
 use Rattle.std.proofs.lemmas.Bool.Decides.{nat_tests}
-use Rattle.nb_engine.specs.CommandWords.{onward_of, FitsOnward}
+use Rattle.nb_runner.specs.CommandWords.{onward_of, FitsOnward}
 use Rattle.nb_engine.specs.Replying.{silent}
 use Rattle.nb_machine.specs.Running.{Running}
 use Rattle.nb_engine.specs.declared.prepared.Prepared.{Prepared}
 use Rattle.nb_engine.specs.declared.stage.Stage.TheVariants as stage
 use Rattle.nb_engine.specs.declared.inquiry.Inquiry.{Inquiry}
-use Rattle.nb_engine.specs.declared.inquiry.Query.{Query as Asked}
-use Rattle.nb_engine.specs.declared.inquiry.Query.TheVariants as asked
+use Rattle.nb_runner.specs.declared.query.Query.{Query as Asked}
+use Rattle.nb_runner.specs.declared.query.Query.TheVariants as asked
 use Rattle.nb_engine.specs.declared.speaker.Speaker.{Speaker}
-use Rattle.nb_engine.specs.declared.world.World.{World}
-use Rattle.nb_engine.specs.Inquiries.{query_of, kind_of_talk, kind_of_query, made_beside, company_of, IsBackedBy, IsNextObject, TalksAs, FitsQuery, IsWaiterOf, onward_waiter}
-use Rattle.nb_engine.specs.Inquiring.{CanAsk}
+use Rattle.nb_runner.specs.declared.world.World.{World}
+use Rattle.nb_runner.specs.Intents.{query_of, CanAsk}
+use Rattle.nb_engine.specs.Inquiries.{kind_of_talk, kind_of_query, made_beside, company_of, IsBackedBy, IsNextObject, TalksAs, FitsQuery, IsWaiterOf, onward_waiter}
 use Rattle.nb_engine.specs.Lones.{talk_for, open_told}
 use Rattle.nb_machine.specs.Queries.{Query, for_lease, for_echo, for_address, for_host}
 use Rattle.nb_engine.specs.Seen.{IsCastFor, of_one, of_two, IsSound}

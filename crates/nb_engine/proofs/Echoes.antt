@@ -20,10 +20,11 @@ use Rattle.nb_engine.specs.declared.inquiry.Inquiry.{Inquiry}
 use Rattle.nb_engine.specs.declared.prepared.Prepared.{Prepared}
 use Rattle.nb_engine.specs.declared.speaker.Speaker.{Speaker}
 use Rattle.nb_engine.specs.declared.stage.Stage.TheVariants as stage
-use Rattle.nb_engine.specs.declared.world.World.{World}
-use Rattle.nb_engine.specs.CommandWords.{onward_of}
+use Rattle.nb_runner.specs.declared.world.World.{World}
+use Rattle.nb_runner.specs.CommandWords.{onward_of}
 use Rattle.nb_machine.specs.Errands.{echoes_now}
-use Rattle.nb_engine.specs.Inquiries.{query_of, talker_of, opening_acts, IsLiveLone, IsWaiterOf, TalksAs}
+use Rattle.nb_runner.specs.Intents.{query_of}
+use Rattle.nb_engine.specs.Inquiries.{talker_of, opening_acts, IsLiveLone, IsWaiterOf, TalksAs}
 use Rattle.nb_engine.specs.Inquiring.{IsNextInquiry}
 use Rattle.nb_engine.specs.Lones.{talk_for, lone_for, open_told, with_lone}
 use Rattle.nb_engine.specs.Machine.{at, running, reaching, asking, echoes_on, finds_no_way_to}
@@ -36,13 +37,13 @@ use Rattle.nb_engine.specs.Seen.{seen, KeepsOrder, as_running, as_asking, IsCast
 use Rattle.nb_engine.specs.Talks.{fields_of, first_message}
 use Rattle.nb_engine.specs.Tellings.{told_records}
 use Rattle.nb_engine.specs.Turns.{Grows}
-use Rattle.nb_engine.specs.World.{with_ended_open}
+use Rattle.nb_runner.specs.World.{with_ended_open}
 use Rattle.nb_engine.proofs.Besides.{live_here}
 use Rattle.nb_engine.proofs.InquiryLemmas.{asked_by}
 use Rattle.nb_engine.proofs.InquiryRecords.{first_records, first_is, told_so, told_is, told_others, nothing_sent}
 use Rattle.nb_engine.proofs.Moves.{move_from}
 use Rattle.nb_engine.proofs.Onwards.{prepared_here, reaches_here}
-use Rattle.nb_engine.proofs.Puts.{Puts-outs}
+use Rattle.nb_runner.proofs.Puts.{Puts-outs}
 use Rattle.nb_engine.proofs.TellingLemmas.{without-append, sent_messages}
 
 -- the Ping is the one that has waited

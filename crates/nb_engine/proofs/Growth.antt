@@ -9,14 +9,14 @@ use Rattle.nb_stack.specs.Client.{Client}
 use Rattle.nb_stack.specs.Takes.{Outcome, Takes}
 use Rattle.nb_tftp.specs.Received.{received}
 use Rattle.nb_tftp.specs.History.{Call, came, ticked}
-use Rattle.nb_engine.specs.declared.world.World.{World}
+use Rattle.nb_runner.specs.declared.world.World.{World}
 use Rattle.nb_engine.specs.declared.fetch.Fetch.{Fetch}
 use Rattle.nb_engine.specs.declared.stage.Stage.{Stage}
 use Rattle.nb_engine.specs.declared.stage.Stage.TheVariants as stage
-use Rattle.nb_engine.specs.declared.status.Status.TheVariants as status
+use Rattle.nb_runner.specs.declared.status.Status.TheVariants as status
 use Rattle.nb_engine.specs.declared.client.Turn.{Turn}
 use Rattle.nb_engine.specs.declared.client.Turn.TheVariants as turn
-use Rattle.nb_engine.specs.World.{world_of, with_net, world_later}
+use Rattle.nb_runner.specs.World.{world_of, with_net, world_later}
 use Rattle.nb_engine.specs.Opens.{Open, heard_from}
 use Rattle.nb_machine.specs.FirstText.{first_reading, text_refusal, long_script, long_line}
 use Rattle.nb_machine.specs.Running.{Running, first_script, anew, with_result}

@@ -23,14 +23,14 @@ use Rattle.nb_opens.specs.declared.download.Download.{Download}
 use Rattle.nb_opens.specs.Graphs.{Graphs, GraphAt, bare, holding, prepared, pair, aside, IsEntry, without_graph}
 use Rattle.nb_opens.specs.Notices.{first_close, freed_notices}
 use Rattle.nb_opens.specs.Pairs.{CallDoes, goes_on as call_goes_on, is_over as call_is_over, is_too_large as call_too_large, fails as call_fails, Downloads, HasEnded, IsEnded, body_at_end}
-use Rattle.nb_engine.specs.declared.world.World.{World}
+use Rattle.nb_runner.specs.declared.world.World.{World}
 use Rattle.nb_engine.specs.declared.fetch.Fetch.{Fetch}
 use Rattle.nb_engine.specs.declared.stage.Stage.{Stage}
 use Rattle.nb_engine.specs.declared.stage.Stage.TheVariants as stage
-use Rattle.nb_engine.specs.declared.status.Status.TheVariants as status
+use Rattle.nb_runner.specs.declared.status.Status.TheVariants as status
 use Rattle.nb_engine.specs.declared.client.Turn.{Turn}
 use Rattle.nb_engine.specs.declared.client.Turn.TheVariants as turn
-use Rattle.nb_engine.specs.World.{unbound, world_with_images}
+use Rattle.nb_runner.specs.World.{unbound, world_with_images}
 use Rattle.nb_engine.specs.Opens.{Open, with_entry, body_of, image_from}
 use Rattle.nb_machine.specs.Sendings.{end_of, is_over_limit, acts_records, too_large_image}
 use Rattle.nb_machine.specs.Conclusions.{Conclusion, conclusion, conclusion_records, fails, keeps, boots}
@@ -49,7 +49,7 @@ use Rattle.nb_stack.specs.Client.{Client}
 use Rattle.nb_engine.specs.Heeding.{Heeds, Follows, HasHeard, IsCalled, WasCalled}
 use Rattle.nb_engine.specs.Spelling.{Spelling, HasSpelled}
 use Rattle.nb_engine.specs.Concluding.{EndsOpen, HasEndedOpen, end_records, comes_to}
-use Rattle.nb_engine.proofs.Puts.{is_either}
+use Rattle.nb_runner.proofs.Puts.{is_either}
 use Rattle.nb_engine.proofs.TellingLemmas.{SpeaksFor, without-append, without_aside}
 use Rattle.nb_engine.proofs.Sides.{aside_conclusion}
 use Rattle.nb_engine.proofs.CallLemmas.{call_closes, large_closes, meets_sends, call_others, large_others, freed_others, goes_order, ends_order, large_order, ending}

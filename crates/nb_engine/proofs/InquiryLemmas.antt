@@ -16,17 +16,18 @@ use Rattle.nb_opens.specs.Companies.{company_with}
 use Rattle.nb_opens.specs.Graphs.{Graphs, bare, holding, prepared, traced}
 use Rattle.nb_stack.specs.Bound.{with_port}
 use Rattle.nb_engine.specs.declared.inquiry.Inquiry.{Inquiry}
-use Rattle.nb_engine.specs.declared.inquiry.Query.{Query as Asked}
-use Rattle.nb_engine.specs.declared.inquiry.Query.TheVariants as asked
+use Rattle.nb_runner.specs.declared.query.Query.{Query as Asked}
+use Rattle.nb_runner.specs.declared.query.Query.TheVariants as asked
 use Rattle.nb_engine.specs.declared.opening.Opening.{Opening}
 use Rattle.nb_engine.specs.declared.opening.Opening.TheVariants as opening
 use Rattle.nb_engine.specs.declared.speaker.Speaker.{Speaker}
 use Rattle.nb_engine.specs.declared.stage.Stage.{Stage}
 use Rattle.nb_engine.specs.declared.stage.Stage.TheVariants as stage
-use Rattle.nb_engine.specs.declared.world.World.{World}
+use Rattle.nb_runner.specs.declared.world.World.{World}
 use Rattle.nb_machine.specs.Effects.{effect, inquires, shown_words, shown_as}
-use Rattle.nb_engine.specs.Inquiries.{query_of, talker_of, carrier_of, kind_of_talk, kind_of_query, opening_acts, talk_of, made_beside, CanBegin, IsAskedBy, IsBackedBy, IsNextObject, IsLiveLone, TalksAs}
-use Rattle.nb_engine.specs.Inquiring.{CanAsk, HasIntended, IsNextInquiry, PutsInquiry}
+use Rattle.nb_runner.specs.Intents.{query_of, CanAsk}
+use Rattle.nb_engine.specs.Inquiries.{talker_of, carrier_of, kind_of_talk, kind_of_query, opening_acts, talk_of, made_beside, CanBegin, IsAskedBy, IsBackedBy, IsNextObject, IsLiveLone, TalksAs}
+use Rattle.nb_engine.specs.Inquiring.{HasIntended, IsNextInquiry, PutsInquiry}
 use Rattle.nb_engine.specs.Lones.{talk_for, lone_for, open_told, with_lone}
 use Rattle.nb_engine.specs.Machine.{at, running, asking, Move, Moves, inquires_for, world_after}
 use Rattle.nb_machine.specs.CommandRecords.{command_record}

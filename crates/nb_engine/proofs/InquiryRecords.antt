@@ -15,7 +15,7 @@ use Rattle.nb_opens.specs.Graphs.{IsCastOf, of_name, of_lease, of_echo, solo, tr
 use Rattle.nb_opens.specs.Notices.{tells, sent_from}
 use Rattle.nb_stack.specs.Client.{Client}
 use Rattle.nb_stack.specs.Sends.{put_on, way_of}
-use Rattle.nb_engine.specs.declared.world.World.{World}
+use Rattle.nb_runner.specs.declared.world.World.{World}
 use Rattle.nb_machine.specs.Effects.{shown_as}
 use Rattle.nb_engine.specs.Inquiries.{talker_of, kind_of_talk, opening_acts}
 use Rattle.nb_engine.specs.Inquiring.{HasIntended}

@@ -17,10 +17,11 @@ use Rattle.nb_engine.specs.declared.client.Turn.TheVariants as turn
 use Rattle.nb_engine.specs.declared.inquiry.Inquiry.{Inquiry}
 use Rattle.nb_engine.specs.declared.speaker.Speaker.{Speaker}
 use Rattle.nb_engine.specs.declared.stage.Stage.TheVariants as stage
-use Rattle.nb_engine.specs.declared.status.Status.TheVariants as status
-use Rattle.nb_engine.specs.declared.world.World.{World}
+use Rattle.nb_runner.specs.declared.status.Status.TheVariants as status
+use Rattle.nb_runner.specs.declared.world.World.{World}
 use Rattle.nb_machine.specs.Effects.{effect, inquires, shown_words, shown_as}
-use Rattle.nb_engine.specs.Inquiries.{query_of, talker_of, kind_of_talk, opening_acts, made_beside, beside_freed_events, IsBackedBy, IsNextObject}
+use Rattle.nb_runner.specs.Intents.{query_of}
+use Rattle.nb_engine.specs.Inquiries.{talker_of, kind_of_talk, opening_acts, made_beside, beside_freed_events, IsBackedBy, IsNextObject}
 use Rattle.nb_engine.specs.Inquiring.{HasIntended, IsNextInquiry, PutsInquiry, TurnsInquiryBack}
 use Rattle.nb_engine.specs.Lones.{talk_for, open_told}
 use Rattle.nb_engine.specs.Machine.{at, running, Move, Moves, reaches_none, world_after}
@@ -29,15 +30,15 @@ use Rattle.nb_machine.specs.Sendings.{has_route, send_records}
 use Rattle.nb_machine.specs.Queries.{Query}
 use Rattle.nb_machine.specs.Running.{Running, coming, beginning, further}
 use Rattle.nb_engine.specs.Seen.{Seen, seen, KeepsOrder, as_running}
-use Rattle.nb_engine.specs.Steps.{moves_in}
+use Rattle.nb_runner.specs.Steps.{moves_in}
 use Rattle.nb_engine.specs.Talks.{Talk, fields_of, first_message}
 use Rattle.nb_engine.specs.Tellings.{told_records}
 use Rattle.nb_engine.specs.Turns.{Grows, AnswersTurn, IsBusy, IsNearer, moves_left}
-use Rattle.nb_engine.specs.World.{with_ended_open}
-use Rattle.nb_engine.proofs.Measures.{further_nearer}
+use Rattle.nb_runner.specs.World.{with_ended_open}
+use Rattle.nb_runner.proofs.Measures.{further_nearer}
 use Rattle.nb_engine.proofs.Moves.{move_from}
 use Rattle.nb_engine.proofs.NamedEffects.{intended_named, objects_for}
-use Rattle.nb_engine.proofs.Puts.{Puts-outs}
+use Rattle.nb_runner.proofs.Puts.{Puts-outs}
 use Rattle.nb_engine.proofs.Sides.{same_bare}
 use Rattle.nb_engine.proofs.Standing.{stands_at}
 use Rattle.nb_engine.proofs.TellingLemmas.{without-append}

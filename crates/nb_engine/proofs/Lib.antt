@@ -1,9 +1,7 @@
-pub mod Puts
 pub mod TellingLemmas
 pub mod SpellingLemmas
 pub mod Tellers
 pub mod CallLemmas
-pub mod Joins
 pub mod Standing
 pub mod Sendings
 pub mod TurnLemmas
@@ -13,10 +11,6 @@ pub mod Enterings
 pub mod Heedings
 pub mod BeginLemmas
 pub mod Growth
-pub mod Measures
-pub mod Comings
-pub mod CommandLaws
-pub mod Idles
 pub mod Moves
 pub mod NamedEffects
 pub mod Asking
@@ -25,7 +19,6 @@ pub mod Besides
 pub mod InquiryLemmas
 pub mod InquiryTurns
 pub mod Intents
-pub mod HandingLemmas
 pub mod TalkLemmas
 pub mod Talkings
 pub mod CallDeliveries
@@ -37,3 +30,4 @@ pub mod ReplyGrowth
 pub mod RanOut
 pub mod Onwards
 pub mod Echoes
+pub mod CommandEnds

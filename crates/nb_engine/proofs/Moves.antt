@@ -12,25 +12,25 @@ use Rattle.nb_nodes.specs.declared.obj.Obj.{Obj}
 use Rattle.nb_image.specs.declared.image.Image.{Image}
 use Rattle.nb_image.specs.Parts.{PartText, PieceText, parts, part_pieces}
 use Rattle.nb_opens.specs.Graphs.{AreAside}
-use Rattle.nb_engine.specs.declared.world.World.{World}
+use Rattle.nb_runner.specs.declared.world.World.{World}
 use Rattle.nb_engine.specs.declared.stage.Stage.TheVariants as stage
 use Rattle.nb_machine.specs.Effects.{goes, sleeps, shuts_device, effect, ShownWords, shown_words}
 use Rattle.nb_machine.specs.Conclusions.{part_records, piece_record}
 use Rattle.nb_machine.specs.Running.{Running, PassesOn, here, further_on, coming, beginning, entered, further, behind_line, no_label}
 use Rattle.nb_engine.specs.Machine.{Machine, at, running, sleeping, yielded, left, Move, Moves, rests, moves_on, passes, is_left, yields, does, closes_device, leaves, jumps, finds_no_label, falls_asleep, world_after, handing, handed_off, hands, has_handed}
 use Rattle.nb_machine.specs.CommandRecords.{command_record, command_records}
-use Rattle.nb_engine.specs.NextCommand.{IsFull, IsLeft}
-use Rattle.nb_engine.specs.declared.handing.Handing.{Handing}
-use Rattle.nb_engine.specs.Handings.{records_left, PutsNext}
-use Rattle.nb_engine.specs.Steps.{Does, GoesTo, moves_in}
+use Rattle.nb_runner.specs.NextCommand.{IsFull, IsLeft}
+use Rattle.nb_runner.specs.declared.handing.Handing.{Handing}
+use Rattle.nb_runner.specs.Handings.{records_left, PutsNext}
+use Rattle.nb_runner.specs.Steps.{Does, GoesTo, moves_in}
 use Rattle.nb_engine.specs.Seen.{Seen, seen, StandsFor, FitsAt, as_running, as_sleeping, as_yielded, as_left, as_handing, as_handed_off}
 use Rattle.nb_engine.specs.Turns.{Grows, AnswersTurn, IsNearer}
 use Rattle.nb_engine.specs.declared.client.Turn.{Turn}
 use Rattle.nb_engine.specs.declared.client.Turn.TheVariants as turn
 use Rattle.nb_engine.specs.Advance.{SettlesScript, EndsAtOnce}
 use Rattle.nb_engine.specs.Concluding.{IsTurn}
-use Rattle.nb_engine.proofs.Measures.{further_nearer, jump_nearer}
-use Rattle.nb_engine.proofs.Puts.{Puts-nothing}
+use Rattle.nb_runner.proofs.Measures.{further_nearer, jump_nearer}
+use Rattle.nb_runner.proofs.Puts.{Puts-nothing}
 use Rattle.nb_engine.proofs.TurnLemmas.{turn_acts}
 use Rattle.nb_engine.proofs.TellingLemmas.{aside-append}
 use Rattle.nb_engine.proofs.Sides.{NotWaiting, keep, aside_grows, aside_command}

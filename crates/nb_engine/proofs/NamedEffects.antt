@@ -33,7 +33,7 @@ use Rattle.nb_command.specs.Sleep.{sleep_plan}
 use Rattle.nb_opens.specs.declared.waiter.Waiter.{Waiter}
 use Rattle.nb_opens.specs.Alones.{alone_number}
 use Rattle.nb_opens.specs.Graphs.{AreNamed, IsForFile, WaitsFor, AreFor}
-use Rattle.nb_engine.specs.declared.world.World.{World}
+use Rattle.nb_runner.specs.declared.world.World.{World}
 use Rattle.nb_machine.specs.Effects.{Effect, says, asks, goes, sleeps, shuts_device, inquires, unless_full, device_effect, plan_effect, planned_effect, words_effect, expansion, expand_cause, ShownWords, shown_as}
 use Rattle.nb_machine.specs.Errands.{Errand, Wanted, fetches_then, echoes_then}
 use Rattle.nb_engine.specs.Inquiries.{IsBackedBy, IsWaiterOf, errand_waiter, kind_of_talk}
@@ -44,7 +44,7 @@ use Rattle.nb_machine.specs.Queries.{Query, for_lease, for_echo, for_address, fo
 use Rattle.nb_machine.specs.Running.{Running}
 use Rattle.nb_engine.specs.Seen.{Seen}
 use Rattle.nb_engine.proofs.Besides.{cast_of}
-use Rattle.nb_engine.proofs.CommandLaws.{effect_of_words, effect_of_refused, shown_of_words}
+use Rattle.nb_runner.proofs.CommandLaws.{effect_of_words, effect_of_refused, shown_of_words}
 use Rattle.nb_machine.proofs.Eithers.{either_of, full_either, fetch_case, pinged_case, looked_up_case}
 
 -- THE PLAN OF A NAME

@@ -19,8 +19,8 @@ use Rattle.nb_opens.specs.Pairs.{Downloads}
 use Rattle.nb_opens.specs.Waiters.{waiter_serial, waiter_freed_events}
 use Rattle.nb_engine.specs.declared.prepared.Prepared.{Prepared}
 use Rattle.nb_engine.specs.declared.stage.Stage.TheVariants as stage
-use Rattle.nb_engine.specs.declared.world.World.{World}
-use Rattle.nb_engine.specs.CommandWords.{onward_of}
+use Rattle.nb_runner.specs.declared.world.World.{World}
+use Rattle.nb_runner.specs.CommandWords.{onward_of}
 use Rattle.nb_machine.specs.Effects.{full_opens}
 use Rattle.nb_machine.specs.Errands.{Wanted, Onward, fetches_now}
 use Rattle.nb_engine.specs.Fetches.{IsLive, speaker_of}
@@ -32,12 +32,12 @@ use Rattle.nb_machine.specs.Sendings.{request_of, has_route, send_records}
 use Rattle.nb_engine.specs.Reaching.{PutsNext}
 use Rattle.nb_machine.specs.Running.{Running, with_result}
 use Rattle.nb_engine.specs.Seen.{seen, StandsFor, KeepsOrder, as_running, as_waiting}
-use Rattle.nb_engine.specs.Steps.{moves_in}
+use Rattle.nb_runner.specs.Steps.{moves_in}
 use Rattle.nb_engine.specs.Turns.{Grows}
-use Rattle.nb_engine.specs.World.{with_open, with_ended_open}
+use Rattle.nb_runner.specs.World.{with_open, with_ended_open}
 use Rattle.nb_engine.proofs.Asking.{next_fetch, asked_records, told_so, told_is, told_others, asked_is, nothing_asked, back_events}
 use Rattle.nb_engine.proofs.Moves.{move_from}
-use Rattle.nb_engine.proofs.Puts.{Puts-outs}
+use Rattle.nb_runner.proofs.Puts.{Puts-outs}
 use Rattle.nb_engine.proofs.Standing.{stands_at}
 use Rattle.nb_engine.proofs.TellingLemmas.{without-append, without_traced, sent_messages}
 

@@ -4,7 +4,7 @@ use Rattle.nb_defs.specs.Records.{In}
 use Rattle.nb_record.specs.Logged.{Logged}
 use Rattle.nb_engine.specs.declared.client.Turn.{Turn}
 use Rattle.nb_engine.specs.declared.client.Turn.TheVariants as turn
-use Rattle.nb_engine.specs.declared.status.Status.TheVariants as status
+use Rattle.nb_runner.specs.declared.status.Status.TheVariants as status
 use Rattle.nb_engine.specs.Seen.{Seen}
 use Rattle.nb_engine.specs.Turns.{AnswersTurn, Grows, IsBusy, IsNearer, OrRanOut, moves_left}
 

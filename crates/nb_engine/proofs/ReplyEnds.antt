@@ -21,12 +21,13 @@ use Rattle.nb_engine.specs.declared.client.Turn.TheVariants as turn
 use Rattle.nb_engine.specs.declared.inquiry.Inquiry.{Inquiry}
 use Rattle.nb_engine.specs.declared.speaker.Speaker.{Speaker}
 use Rattle.nb_engine.specs.declared.stage.Stage.TheVariants as stage
-use Rattle.nb_engine.specs.declared.status.Status.TheVariants as status
-use Rattle.nb_engine.specs.declared.world.World.{World}
-use Rattle.nb_engine.specs.Inquiries.{IsInquiryOf, TalkDoes, asks_on, comes_to_end, runs_out, query_of, company_of, talker_of, beside_freed_events}
+use Rattle.nb_runner.specs.declared.status.Status.TheVariants as status
+use Rattle.nb_runner.specs.declared.world.World.{World}
+use Rattle.nb_engine.specs.Inquiries.{IsInquiryOf, TalkDoes, asks_on, comes_to_end, runs_out, company_of, talker_of, beside_freed_events}
+use Rattle.nb_runner.specs.Intents.{query_of}
 use Rattle.nb_engine.specs.Lones.{Lone, without_lone, settled, world_settled, onward_from}
 use Rattle.nb_machine.specs.Findings.{Settled}
-use Rattle.nb_engine.specs.CommandWords.{onward_of}
+use Rattle.nb_runner.specs.CommandWords.{onward_of}
 use Rattle.nb_machine.specs.Errands.{Onward}
 use Rattle.nb_engine.specs.declared.prepared.Prepared.{Prepared}
 use Rattle.nb_engine.specs.Deliveries.{delivered_address}

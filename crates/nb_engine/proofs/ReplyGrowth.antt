@@ -19,8 +19,8 @@ use Rattle.nb_engine.specs.declared.inquiry.Inquiry.{Inquiry}
 use Rattle.nb_engine.specs.declared.speaker.Speaker.{Speaker}
 use Rattle.nb_engine.specs.declared.stage.Stage.{Stage}
 use Rattle.nb_engine.specs.declared.stage.Stage.TheVariants as stage
-use Rattle.nb_engine.specs.declared.status.Status.TheVariants as status
-use Rattle.nb_engine.specs.declared.world.World.{World}
+use Rattle.nb_runner.specs.declared.status.Status.TheVariants as status
+use Rattle.nb_runner.specs.declared.world.World.{World}
 use Rattle.nb_engine.specs.Inquiries.{IsInquiryOf}
 use Rattle.nb_engine.specs.Lones.{Lone}
 use Rattle.nb_engine.specs.Machine.{Begins, passes_it_by, brings_it, passes_its_time, switches_it_off, asking, at, stopped}
@@ -30,7 +30,7 @@ use Rattle.nb_machine.specs.Running.{Running, anew}
 use Rattle.nb_engine.specs.Seen.{Seen, seen, FitsAt, as_asking, as_stopped}
 use Rattle.nb_engine.specs.Talks.{Incoming, message_for, message_in, time_in}
 use Rattle.nb_engine.specs.Turns.{Grows, AnswersTurn, shut_alone, one_shut_events}
-use Rattle.nb_engine.specs.World.{with_net, world_later}
+use Rattle.nb_runner.specs.World.{with_net, world_later}
 use Rattle.nb_engine.proofs.Growth.{begins_from, reply_is}
 use Rattle.nb_engine.proofs.Sides.{aside_reply, moves_from}
 use Rattle.nb_engine.proofs.Standing.{stands_at}

@@ -19,7 +19,7 @@ use Rattle.nb_stack.specs.Client.{Client}
 use Rattle.nb_engine.specs.declared.inquiry.Inquiry.{Inquiry}
 use Rattle.nb_engine.specs.declared.speaker.Speaker.{Speaker}
 use Rattle.nb_engine.specs.declared.stage.Stage.TheVariants as stage
-use Rattle.nb_engine.specs.declared.world.World.{World}
+use Rattle.nb_runner.specs.declared.world.World.{World}
 use Rattle.nb_engine.specs.Inquiries.{IsInquiryOf, IsLiveLone, IsInquiring, TalkDoes, asks_on, comes_to_end, runs_out, company_of, talker_of}
 use Rattle.nb_engine.specs.Lones.{Lone, with_talk}
 use Rattle.nb_engine.specs.Machine.{Phase, Replies, talks_on, asking, at}

@@ -23,11 +23,12 @@ use Rattle.nb_opens.specs.AloneNotices.{alone_call, alone_freed}
 use Rattle.nb_settings.specs.Tables.{TableLists}
 use Rattle.nb_command.specs.Addresses.{address_table}
 use Rattle.nb_engine.specs.Deliveries.{delivered_bytes, delivered_address}
-use Rattle.nb_engine.specs.declared.errand.Errand.{Errand as Named}
-use Rattle.nb_engine.specs.declared.inquiry.Query.{Query as Asked}
-use Rattle.nb_engine.specs.declared.inquiry.Query.TheVariants as asked
-use Rattle.nb_engine.specs.CommandWords.{errand_of}
-use Rattle.nb_engine.specs.Inquiries.{query_of, Delivers, IsAskedBy}
+use Rattle.nb_runner.specs.declared.errand.Errand.{Errand as Named}
+use Rattle.nb_runner.specs.declared.query.Query.{Query as Asked}
+use Rattle.nb_runner.specs.declared.query.Query.TheVariants as asked
+use Rattle.nb_runner.specs.CommandWords.{errand_of}
+use Rattle.nb_runner.specs.Intents.{query_of}
+use Rattle.nb_engine.specs.Inquiries.{Delivers, IsAskedBy}
 use Rattle.nb_machine.specs.Findings.{Settled, lease_change, settled_by}
 use Rattle.nb_engine.specs.Lones.{settled, onward_from}
 use Rattle.nb_machine.specs.Errands.{onward}

@@ -3,7 +3,7 @@ use Rattle.std.proofs.Common.{◌≡◌, ◌≤◌, ◌*◌, ℕ, [], refl, sym,
 use Rattle.nb_graph.specs.Whole.{Objects}
 use Rattle.nb_nodes.specs.declared.obj.Obj.{Obj}
 use Rattle.nb_opens.specs.Pairs.{IsEmpty}
-use Rattle.nb_engine.specs.declared.world.World.{World}
+use Rattle.nb_runner.specs.declared.world.World.{World}
 use Rattle.nb_engine.specs.declared.fetch.Fetch.{Fetch}
 use Rattle.nb_engine.specs.declared.inquiry.Inquiry.{Inquiry}
 use Rattle.nb_engine.specs.declared.stage.Stage.{Stage}
@@ -14,9 +14,9 @@ use Rattle.nb_engine.specs.Opens.{Open}
 use Rattle.nb_engine.specs.Fetches.{IsLive}
 use Rattle.nb_engine.specs.Inquiries.{IsLiveLone}
 use Rattle.nb_engine.specs.Lones.{Lone}
-use Rattle.nb_engine.specs.CommandWords.{onward_of}
+use Rattle.nb_runner.specs.CommandWords.{onward_of}
 use Rattle.nb_engine.specs.declared.prepared.Prepared.{Prepared}
-use Rattle.nb_engine.specs.Handings.{records_left}
+use Rattle.nb_runner.specs.Handings.{records_left}
 use Rattle.nb_engine.specs.Seen.{Seen, HasNoObjects, StandsFor, as_ready, as_running, as_waiting, as_asking, as_reaching, as_sleeping, as_yielded, as_handing, as_left, as_handed_off, as_stopped}
 use Rattle.nb_engine.specs.Turns.{left_records}
 

@@ -2,9 +2,9 @@
 use Rattle.std.proofs.Common.{List}
 use Rattle.nb_defs.specs.Records.{In}
 use Rattle.nb_record.specs.Logged.{Logged}
-use Rattle.nb_engine.specs.StatusNumber.{IsLeftEnd}
-use Rattle.nb_engine.specs.declared.status.Status.{Status}
-use Rattle.nb_engine.specs.declared.status.Status.TheVariants as status
+use Rattle.nb_runner.specs.StatusNumber.{IsLeftEnd}
+use Rattle.nb_runner.specs.declared.status.Status.{Status}
+use Rattle.nb_runner.specs.declared.status.Status.TheVariants as status
 use Rattle.nb_engine.specs.declared.client.Turn.{Turn}
 use Rattle.nb_engine.specs.declared.client.Turn.TheVariants as turn
 use Rattle.nb_engine.specs.Seen.{Seen}

@@ -7,16 +7,16 @@ use Rattle.nb_ledger.specs.Flat.{Notice}
 use Rattle.nb_nodes.specs.Conversations.{first_acts}
 use Rattle.nb_tftp.specs.Asks.{begun}
 use Rattle.nb_opens.specs.Notices.{made_notices, begun_notices, closed_notices, freed_notices}
-use Rattle.nb_engine.specs.declared.world.World.{World}
+use Rattle.nb_runner.specs.declared.world.World.{World}
 use Rattle.nb_engine.specs.declared.fetch.Fetch.{Fetch}
-use Rattle.nb_engine.specs.declared.status.Status.TheVariants as status
+use Rattle.nb_runner.specs.declared.status.Status.TheVariants as status
 use Rattle.nb_engine.specs.declared.client.Turn.{Turn}
 use Rattle.nb_engine.specs.declared.client.Turn.TheVariants as turn
-use Rattle.nb_engine.specs.declared.command.Deed.{Deed}
-use Rattle.nb_engine.specs.CommandWords.{deed_effect}
+use Rattle.nb_runner.specs.declared.command.Deed.{Deed}
+use Rattle.nb_runner.specs.CommandWords.{deed_effect}
 use Rattle.nb_machine.specs.Errands.{Wanted}
 use Rattle.nb_machine.specs.Effects.{effect, says, ShownWords, shown_words, shown_as}
-use Rattle.nb_engine.specs.World.{IsLinked, with_ended_open}
+use Rattle.nb_runner.specs.World.{IsLinked, with_ended_open}
 use Rattle.nb_machine.specs.Starting.{own_port}
 use Rattle.nb_engine.specs.Opens.{opened_record}
 use Rattle.nb_machine.specs.Conclusions.{fails, conclusion_records}

@@ -8,7 +8,7 @@ use Rattle.nb_image.specs.Images.{ImageList, image_of}
 use Rattle.nb_engine.specs.Machine.{phase_after, at}
 use Rattle.nb_machine.specs.Running.{Running}
 use Rattle.nb_machine.specs.Conclusions.{Conclusion, conclusion, conclusion_records}
-use Rattle.nb_engine.specs.World.{unbound}
+use Rattle.nb_runner.specs.World.{unbound}
 use Rattle.nb_engine.specs.Fetches.{conclusion_of, speaker_of}
 use Rattle.nb_engine.specs.Tellings.{told_records}
 use Rattle.nb_opens.specs.Graphs.{bare}
@@ -21,7 +21,7 @@ use Rattle.nb_engine.specs.declared.conclusion.Conclusion.{Conclusion as Conclud
 use Rattle.nb_engine.specs.declared.conclusion.Conclusion.TheVariants as concluded
 use Rattle.nb_engine.specs.declared.fetch.Fetch.{Fetch}
 use Rattle.nb_engine.specs.declared.stage.Stage.{Stage}
-use Rattle.nb_engine.specs.declared.status.Status.TheVariants as status
+use Rattle.nb_runner.specs.declared.status.Status.TheVariants as status
 use Rattle.nb_engine.specs.declared.client.Turn.{Turn}
 use Rattle.nb_engine.specs.declared.client.Turn.TheVariants as turn
 

@@ -9,7 +9,7 @@ use Rattle.nb_opens.specs.Pairs.{Downloads}
 use Rattle.nb_engine.specs.declared.fetch.Fetch.{Fetch}
 use Rattle.nb_engine.specs.declared.conclusion.Conclusion.{Conclusion as Concluded}
 use Rattle.nb_engine.specs.declared.conclusion.Conclusion.TheVariants as concluded
-use Rattle.nb_engine.specs.Handings.{AreShort}
+use Rattle.nb_runner.specs.Handings.{AreShort}
 use Rattle.nb_engine.specs.Opens.{Open, body_of}
 use Rattle.nb_command.specs.SettingAddresses.{host}
 use Rattle.nb_machine.specs.Errands.{Wanted}

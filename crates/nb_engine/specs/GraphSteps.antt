@@ -12,7 +12,7 @@ use Rattle.nb_stack.specs.Client.{Client}
 use Rattle.nb_stack.specs.Takes.{Outcome, Takes}
 use Rattle.nb_tftp.specs.History.{Call, came, ticked}
 use Rattle.nb_opens.specs.Graphs.{without_graph}
-use Rattle.nb_engine.specs.declared.world.World.{World}
+use Rattle.nb_runner.specs.declared.world.World.{World}
 use Rattle.nb_machine.specs.Running.{Running}
 use Rattle.nb_engine.specs.Talks.{Incoming, message_in, time_in, message_for}
 use Rattle.nb_engine.specs.Lones.{Lone}

@@ -15,7 +15,7 @@ use Rattle.nb_tftp.specs.History.{Call, Entry}
 use Rattle.nb_opens.specs.Graphs.{without_graph, IsEntry}
 use Rattle.nb_opens.specs.declared.download.Download.{Download}
 use Rattle.nb_opens.specs.Pairs.{CallDoes, Downloads}
-use Rattle.nb_engine.specs.World.{with_net}
+use Rattle.nb_runner.specs.World.{with_net}
 use Rattle.nb_engine.specs.Machine.{Phase, Hears, at}
 use Rattle.nb_machine.specs.CommandRecords.{reply_records}
 use Rattle.nb_engine.specs.GraphSteps.{EntersFirst, way_of_call}
@@ -27,7 +27,7 @@ use Rattle.nb_engine.specs.Spelling.{Spelling, IsSpelled}
 use Rattle.nb_engine.specs.declared.speaker.Speaker.{Speaker}
 use Rattle.nb_engine.specs.Turns.{AnswersTurn, IsBusy, IsWaiting, HasYielded, IsOverWith, IsEnd}
 use Rattle.nb_engine.specs.declared.fetch.Fetch.{Fetch}
-use Rattle.nb_engine.specs.declared.status.Status.TheVariants as status
+use Rattle.nb_runner.specs.declared.status.Status.TheVariants as status
 use Rattle.nb_engine.specs.declared.client.Turn.{Turn}
 use Rattle.nb_engine.specs.declared.client.Turn.TheVariants as turn
 

@@ -27,8 +27,8 @@ use Rattle.nb_opens.specs.Waiters.{waiter_of, waiter_serial, waiter_made, waiter
 use Rattle.nb_ledger.specs.declared.event.GraphEvent.{GraphEvent}
 use Rattle.nb_opens.specs.Notices.{first_close}
 use Rattle.nb_engine.specs.declared.inquiry.Inquiry.{Inquiry}
-use Rattle.nb_engine.specs.declared.inquiry.Query.{Query as Asked}
-use Rattle.nb_engine.specs.declared.inquiry.Query.TheVariants as asked
+use Rattle.nb_runner.specs.declared.query.Query.{Query as Asked}
+use Rattle.nb_runner.specs.declared.query.Query.TheVariants as asked
 use Rattle.nb_engine.specs.declared.opening.Opening.{Opening}
 use Rattle.nb_engine.specs.declared.opening.Opening.TheVariants as opening
 use Rattle.nb_engine.specs.declared.speaker.Carrier.{Carrier}
@@ -37,17 +37,11 @@ use Rattle.nb_engine.specs.declared.speaker.Speaker.{Speaker}
 use Rattle.nb_command.specs.SettingAddresses.{host}
 use Rattle.nb_engine.specs.Lones.{Lone}
 use Rattle.nb_engine.specs.Spelling.{Spelling, IsSpelled}
-use Rattle.nb_engine.specs.CommandWords.{errand_of, FitsErrand}
+use Rattle.nb_runner.specs.CommandWords.{FitsErrand}
 use Rattle.nb_machine.specs.Errands.{Errand, fetches_then, echoes_then, Onward, fetches_now, echoes_now}
 use Rattle.nb_machine.specs.Queries.{Query, for_lease, for_echo, for_address, for_host}
 use Rattle.nb_engine.specs.Talks.{Talk, looks_up, leases, pings, fields_of, first_message, Incoming, TalkGoes}
-
--- what is asked, without where its words lie in memory
-abbrev pub query_of : Asked → Query
-query_of asked.Lease = for_lease
-query_of (asked.Echo server) = for_echo server.0
-query_of (asked.Address setting name by) = for_address setting name by.0
-query_of (asked.Host errand name by) = for_host (errand_of errand) name by.0
+use Rattle.nb_runner.specs.Intents.{query_of}
 
 -- a file that is fetched of a server whose name is looked up fits
 abbrev pub FitsQuery : Asked → Type 0

@@ -1,65 +1,32 @@
 -- A client whose script's command asks for a lease, an echo or a name's address.
-use Rattle.std.specs.Prelude.{◌≡◌, ℕ, ◌<◌, true, List, [], ◌∷◌, ◌++◌}
+use Rattle.std.specs.Prelude.{◌≡◌, ℕ, true, List, [], ◌∷◌, ◌++◌}
 use Rattle.nb_defs.specs.Records.{out_texts, ended, result}
 use Rattle.nb_record.specs.Logged.{Logged, Puts}
 use Rattle.nb_ledger.specs.Flat.{Notice}
 use Rattle.nb_ledger.specs.declared.event.Way.TheVariants as way
 use Rattle.nb_graph.specs.Whole.{port_at}
-use Rattle.nb_dns.specs.WrittenNames.{is_lookup_name}
 use Rattle.nb_opens.specs.AloneNotices.{alone_made, alone_call, alone_closed, alone_freed}
 use Rattle.nb_opens.specs.Alones.{alone_number}
 use Rattle.nb_opens.specs.Graphs.{traced}
-use Rattle.nb_defs.specs.Commands.{refused}
 use Rattle.nb_engine.specs.declared.inquiry.Inquiry.{Inquiry}
-use Rattle.nb_engine.specs.declared.inquiry.Query.{Query as Asked}
-use Rattle.nb_engine.specs.declared.inquiry.Query.TheVariants as asked
-use Rattle.nb_engine.specs.declared.intent.Intent.{Intent}
-use Rattle.nb_engine.specs.declared.intent.Intent.TheVariants as intent
-use Rattle.nb_engine.specs.declared.status.Status.TheVariants as status
+use Rattle.nb_runner.specs.declared.status.Status.TheVariants as status
 use Rattle.nb_engine.specs.declared.stage.Stage.TheVariants as stage
-use Rattle.nb_engine.specs.declared.world.World.{World}
+use Rattle.nb_runner.specs.declared.world.World.{World}
 use Rattle.nb_engine.specs.declared.client.Turn.{Turn}
 use Rattle.nb_engine.specs.declared.client.Turn.TheVariants as turn
-use Rattle.nb_engine.specs.World.{with_ended_open}
-use Rattle.nb_settings.specs.Tables.{TableLists}
-use Rattle.nb_command.specs.Addresses.{address_table}
-use Rattle.nb_uri.specs.Addresses.{four_decimals}
-use Rattle.std.specs.Option.{option_map_or}
-use Rattle.nb_engine.specs.CommandWords.{wanted_of, CanFetch, FitsErrand}
-use Rattle.nb_machine.specs.Effects.{Effect, says, asks, changed, inquires, effect, shown_words, shown_as}
+use Rattle.nb_runner.specs.World.{with_ended_open}
+use Rattle.nb_machine.specs.Effects.{asks, inquires, effect, shown_words, shown_as}
 use Rattle.nb_machine.specs.Queries.{Query}
 use Rattle.nb_engine.specs.Talks.{fields_of}
 use Rattle.nb_engine.specs.Lones.{talk_for, open_told}
-use Rattle.nb_engine.specs.Inquiries.{query_of, talker_of, kind_of_talk, opening_acts, made_beside, beside_freed_events}
+use Rattle.nb_runner.specs.Intents.{query_of}
+use Rattle.nb_engine.specs.Inquiries.{talker_of, kind_of_talk, opening_acts, made_beside, beside_freed_events}
 use Rattle.nb_machine.specs.Running.{Running, further, coming, beginning}
 use Rattle.nb_machine.specs.CommandRecords.{command_record, no_route}
 use Rattle.nb_engine.specs.Machine.{world_after}
 use Rattle.nb_engine.specs.Seen.{Seen, seen}
 use Rattle.nb_engine.specs.Spelling.{Spelling, IsSpelled}
 use Rattle.nb_engine.specs.Tellings.{told_records}
-
--- what a command comes to that may ask for something
-abbrev pub intent_effect : Intent → Effect
-intent_effect (intent.Over cause) = says (refused cause)
-intent_effect (intent.Asks query) = inquires (query_of query)
-intent_effect (intent.Fetches wanted) = asks (wanted_of wanted)
-
--- the settings with the address of a host that is written as four decimals
-abbrev pub looked_up_table : List ℕ → List ℕ → TableLists → TableLists
-looked_up_table setting text table = option_map_or (λ address. changed table (address_table setting address table)) (four_decimals text) table
-
--- a name that is asked for can be looked up
-abbrev pub CanAsk : Asked → Type 0
-CanAsk asked.Lease = Unit {0}
-CanAsk (asked.Echo server) = Unit {0}
-CanAsk (asked.Address setting name by) = is_lookup_name name ≡ true
-CanAsk (asked.Host errand name by) = (is_lookup_name name ≡ true) × FitsErrand errand
-
--- what is asked for may be, where so many opens were made
-abbrev pub MayAsk : ℕ → Intent → Type 0
-MayAsk opens (intent.Over cause) = Unit {0}
-MayAsk opens (intent.Asks query) = (opens < 16384) × CanAsk query
-MayAsk opens (intent.Fetches wanted) = CanFetch opens wanted
 
 -- the inquiry is that of the next open
 abbrev pub IsNextInquiry : World → Inquiry → Type 0

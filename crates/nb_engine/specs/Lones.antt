@@ -13,10 +13,10 @@ use Rattle.nb_nodes.specs.LookupExchanges.{lookup_for}
 use Rattle.nb_settings.specs.Tables.{TableLists}
 use Rattle.nb_command.specs.Settings.{Change}
 use Rattle.nb_command.specs.Addresses.{address_table}
-use Rattle.nb_engine.specs.declared.world.World.{World}
+use Rattle.nb_runner.specs.declared.world.World.{World}
 use Rattle.nb_command.specs.SettingAddresses.{host}
 use Rattle.nb_machine.specs.Starting.{own_port}
-use Rattle.nb_engine.specs.World.{with_net, world_with}
+use Rattle.nb_runner.specs.World.{with_net, world_with}
 use Rattle.nb_machine.specs.Errands.{Onward, onward}
 use Rattle.nb_machine.specs.Queries.{Query, for_lease, for_echo, for_address, for_host}
 use Rattle.nb_engine.specs.Talks.{Talk, looks_up, leases, pings, fields_of, proto_of}

@@ -12,8 +12,8 @@ use Rattle.nb_stack.specs.Takes.{Outcome as TakeOutcome, Takes}
 use Rattle.nb_tftp.specs.Received.{received}
 use Rattle.nb_tftp.specs.History.{Call, came, ticked, entry}
 use Rattle.nb_tftp.specs.Sentences.{Meets}
-use Rattle.nb_engine.specs.declared.world.World.{World}
-use Rattle.nb_engine.specs.World.{world_of, with_net, world_later, world_with_images, world_with, with_open, with_ended_open, unbound}
+use Rattle.nb_runner.specs.declared.world.World.{World}
+use Rattle.nb_runner.specs.World.{world_of, with_net, world_later, world_with_images, world_with, with_open, with_ended_open, unbound}
 use Rattle.nb_machine.specs.FirstText.{first_reading, text_refusal}
 use Rattle.nb_machine.specs.Running.{Running, first_script, coming, passing, leaving, beginning, entered, further, behind_line, with_result, anew, no_label}
 use Rattle.nb_graph.specs.Trace.{Said}

@@ -6,7 +6,7 @@ use Rattle.nb_stack.specs.Takes.{Outcome, dropped, replied, handed}
 use Rattle.nb_tftp.specs.Asks.{Begun, begun}
 use Rattle.nb_tftp.specs.History.{Entry, got}
 use Rattle.nb_tftp.specs.Blocks.{file}
-use Rattle.nb_engine.specs.declared.world.World.{World}
+use Rattle.nb_runner.specs.declared.world.World.{World}
 use Rattle.nb_command.specs.SettingAddresses.{host}
 use Rattle.nb_machine.specs.Starting.{own_port}
 use Rattle.nb_machine.specs.Errands.{Wanted}

@@ -12,7 +12,7 @@ use Rattle.nb_opens.specs.declared.waiter.Waiter.{Waiter}
 use Rattle.nb_opens.specs.AloneNotices.{alone_call, alone_closed, alone_freed}
 use Rattle.nb_opens.specs.Notices.{completed_notices, begun_notices, closed_notices, freed_notices}
 use Rattle.nb_opens.specs.Waiters.{Waits}
-use Rattle.nb_engine.specs.declared.world.World.{World}
+use Rattle.nb_runner.specs.declared.world.World.{World}
 use Rattle.nb_engine.specs.declared.fetch.Fetch.{Fetch}
 use Rattle.nb_engine.specs.declared.inquiry.Inquiry.{Inquiry}
 use Rattle.nb_engine.specs.declared.client.Turn.{Turn}
@@ -20,7 +20,8 @@ use Rattle.nb_engine.specs.declared.client.Turn.TheVariants as turn
 use Rattle.nb_engine.specs.declared.stage.Stage.TheVariants as stage
 use Rattle.nb_machine.specs.Errands.{Wanted}
 use Rattle.nb_engine.specs.Fetches.{speaker_of}
-use Rattle.nb_engine.specs.Inquiries.{query_of, opening_acts}
+use Rattle.nb_runner.specs.Intents.{query_of}
+use Rattle.nb_engine.specs.Inquiries.{opening_acts}
 use Rattle.nb_engine.specs.Lones.{talk_for, open_told}
 use Rattle.nb_machine.specs.CommandRecords.{no_route}
 use Rattle.nb_engine.specs.Opens.{opened_record}
@@ -30,7 +31,7 @@ use Rattle.nb_engine.specs.Spelling.{Spelling, IsSpelled}
 use Rattle.nb_engine.specs.Talks.{fields_of}
 use Rattle.nb_engine.specs.Tellings.{told_records}
 use Rattle.nb_engine.specs.Turns.{OrRanOut}
-use Rattle.nb_engine.specs.World.{with_ended_open}
+use Rattle.nb_runner.specs.World.{with_ended_open}
 
 -- this waits on the graph, and at most two objects were made for each open
 abbrev pub IsWaitedFor : Waiter → ℕ → Objects Obj → Type 0

@@ -20,13 +20,13 @@ use Rattle.nb_stack.specs.Bound.{without}
 use Rattle.nb_engine.specs.declared.inquiry.Inquiry.{Inquiry}
 use Rattle.nb_engine.specs.declared.prepared.Prepared.{Prepared}
 use Rattle.nb_engine.specs.declared.speaker.Speaker.{Speaker}
-use Rattle.nb_engine.specs.declared.status.Status.TheVariants as status
-use Rattle.nb_engine.specs.declared.world.World.{World}
+use Rattle.nb_runner.specs.declared.status.Status.TheVariants as status
+use Rattle.nb_runner.specs.declared.world.World.{World}
 use Rattle.nb_engine.specs.declared.client.Turn.{Turn}
 use Rattle.nb_engine.specs.declared.client.Turn.TheVariants as turn
 use Rattle.nb_engine.specs.declared.stage.Stage.TheVariants as stage
-use Rattle.nb_engine.specs.World.{with_net}
-use Rattle.nb_engine.specs.CommandWords.{onward_of}
+use Rattle.nb_runner.specs.World.{with_net}
+use Rattle.nb_runner.specs.CommandWords.{onward_of}
 use Rattle.nb_machine.specs.Errands.{Errand, Onward, onward}
 use Rattle.nb_machine.specs.Queries.{Query, for_lease, for_echo, for_address, for_host}
 use Rattle.nb_engine.specs.Talks.{Incoming}
@@ -36,7 +36,8 @@ use Rattle.nb_engine.specs.Machine.{Phase, Replies, at}
 use Rattle.nb_engine.specs.GraphSteps.{EntersFirst, way_of_incoming}
 use Rattle.nb_machine.specs.Running.{Running, with_result}
 use Rattle.nb_engine.specs.Deliveries.{delivered_bytes, delivered_address}
-use Rattle.nb_engine.specs.Inquiries.{query_of, company_of, IsInquiryOf, IsLiveLone, TalkDoes, beside_freed_events}
+use Rattle.nb_runner.specs.Intents.{query_of}
+use Rattle.nb_engine.specs.Inquiries.{company_of, IsInquiryOf, IsLiveLone, TalkDoes, beside_freed_events}
 use Rattle.nb_engine.specs.Tellings.{carrier_number, told_records}
 use Rattle.nb_engine.specs.Seen.{Seen, seen, StandsFor, KeepsOrder, FitsGraph}
 use Rattle.nb_engine.specs.Spelling.{Spelling, IsSpelled}

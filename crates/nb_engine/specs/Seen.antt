@@ -12,11 +12,11 @@ use Rattle.nb_opens.specs.Waiters.{Waits}
 use Rattle.nb_stack.specs.declared.ports.Port.{Port}
 use Rattle.nb_stack.specs.Bound.{with_port}
 use Rattle.nb_image.specs.Images.{ImageList}
-use Rattle.nb_engine.specs.declared.world.World.{World}
-use Rattle.nb_engine.specs.World.{IsLinked}
+use Rattle.nb_runner.specs.declared.world.World.{World}
+use Rattle.nb_runner.specs.World.{IsLinked}
 use Rattle.nb_engine.specs.declared.fetch.Fetch.{Fetch}
 use Rattle.nb_engine.specs.declared.inquiry.Inquiry.{Inquiry}
-use Rattle.nb_engine.specs.declared.handing.Handing.{Handing}
+use Rattle.nb_runner.specs.declared.handing.Handing.{Handing}
 use Rattle.nb_engine.specs.declared.prepared.Prepared.{Prepared}
 use Rattle.nb_engine.specs.declared.stage.Stage.{Stage}
 use Rattle.nb_engine.specs.declared.stage.Stage.TheVariants as stage
@@ -24,12 +24,13 @@ use Rattle.nb_machine.specs.Running.{Running}
 use Rattle.nb_engine.specs.Machine.{Machine, at, ready, running, waiting, asking, reaching, sleeping, yielded, handing, left, handed_off, stopped}
 use Rattle.nb_engine.specs.Opens.{Open}
 use Rattle.nb_engine.specs.Fetches.{IsLive}
-use Rattle.nb_engine.specs.CommandWords.{onward_of, FitsOnward}
+use Rattle.nb_runner.specs.CommandWords.{onward_of, FitsOnward}
 use Rattle.nb_machine.specs.Errands.{Onward}
-use Rattle.nb_engine.specs.Inquiries.{IsInquiring, IsLiveLone, FitsQuery, IsBackedBy, IsWaiterOf, onward_waiter, kind_of_query, query_of}
+use Rattle.nb_engine.specs.Inquiries.{IsInquiring, IsLiveLone, FitsQuery, IsBackedBy, IsWaiterOf, onward_waiter, kind_of_query}
+use Rattle.nb_runner.specs.Intents.{query_of}
 use Rattle.nb_engine.specs.Lones.{Lone}
 use Rattle.nb_engine.specs.Tellings.{carrier_number}
-use Rattle.nb_engine.specs.Handings.{IsAt, records_left, AreShort}
+use Rattle.nb_runner.specs.Handings.{IsAt, records_left, AreShort}
 
 -- a client: how many records were used, what it has beside its script, its graph, and where its run stands
 pub record Seen : Type 0 where

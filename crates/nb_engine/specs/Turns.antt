@@ -7,9 +7,9 @@ use Rattle.nb_record.specs.Logged.{Logged, Puts}
 use Rattle.nb_engine.specs.Machine.{Machine, Begins, Moves}
 use Rattle.nb_machine.specs.CommandRecords.{status_of, stopped_cause}
 use Rattle.nb_engine.specs.GraphSteps.{BeginsAs}
-use Rattle.nb_engine.specs.StatusNumber.{status_number}
-use Rattle.nb_engine.specs.Steps.{moves_in}
-use Rattle.nb_engine.specs.Handings.{records_left}
+use Rattle.nb_runner.specs.StatusNumber.{status_number}
+use Rattle.nb_runner.specs.Steps.{moves_in}
+use Rattle.nb_runner.specs.Handings.{records_left}
 use Rattle.nb_opens.specs.Graphs.{traced, without_graph}
 use Rattle.nb_opens.specs.declared.download.Download.{Download}
 use Rattle.nb_opens.specs.PairEvents.{shut_events}
@@ -19,8 +19,8 @@ use Rattle.nb_opens.specs.Waiters.{waiter_serial, waiter_freed_events}
 use Rattle.nb_ledger.specs.declared.event.GraphEvent.{GraphEvent}
 use Rattle.nb_opens.specs.declared.alone.Alone.{Alone}
 use Rattle.nb_engine.specs.Seen.{Seen, StandsFor, KeepsOrder}
-use Rattle.nb_engine.specs.declared.status.Status.{Status}
-use Rattle.nb_engine.specs.declared.status.Status.TheVariants as status
+use Rattle.nb_runner.specs.declared.status.Status.{Status}
+use Rattle.nb_runner.specs.declared.status.Status.TheVariants as status
 use Rattle.nb_engine.specs.declared.stage.Stage.{Stage}
 use Rattle.nb_engine.specs.declared.stage.Stage.TheVariants as stage
 use Rattle.nb_engine.specs.declared.client.Turn.{Turn}

@@ -9,11 +9,11 @@ ghost use Rattle.nb_machine.specs.Running.{entered, further};
 ghost use Rattle.nb_engine.specs.declared.client.Turn.TheVariants as turn;
 ghost use Rattle.nb_command.specs.Planning.{planned};
 ghost use Rattle.nb_command.specs.Printed.{most_printed};
-ghost use Rattle.nb_engine.specs.declared.world.World.{World};
+ghost use Rattle.nb_runner.specs.declared.world.World.{World};
 ghost use Rattle.nb_machine.specs.Effects.{words_effect, words_table, words_up, asks, fetch, shown_as};
-ghost use Rattle.nb_engine.specs.CommandWords.{wanted_of, IsLocal, CanFetch, PrintsAtMost};
-ghost use Rattle.nb_engine.specs.NextCommand.{HasCommand, IsReady};
-ghost use Rattle.nb_engine.specs.World.{with_open, with_ended_open};
+ghost use Rattle.nb_runner.specs.CommandWords.{wanted_of, IsLocal, CanFetch, PrintsAtMost};
+ghost use Rattle.nb_runner.specs.NextCommand.{HasCommand, IsReady};
+ghost use Rattle.nb_runner.specs.World.{with_open, with_ended_open};
 ghost use Rattle.nb_machine.specs.Starting.{own_port as own_port_of};
 ghost use Rattle.nb_engine.specs.Opens.{opened_record};
 ghost use Rattle.nb_machine.specs.Conclusions.{fails, conclusion_records};
@@ -28,25 +28,22 @@ ghost use Rattle.nb_engine.specs.Fetches.{fetch_for, speaker_by, speaker_of};
 ghost use Rattle.nb_engine.specs.Tellings.{told_records};
 ghost use Rattle.nb_engine.specs.Concluding.{IsTurn};
 ghost use Rattle.nb_engine.specs.Advance.{EndsAtOnce, HasCarriedOut, IsNextFetch, PutsBegun, PutsFetch, TurnsBack, SettlesScript};
-ghost use Rattle.nb_engine.specs.Handings.{IsAt};
+ghost use Rattle.nb_runner.specs.Handings.{IsAt};
 ghost use Rattle.nb_engine.specs.declared.stage.Stage.TheVariants as stage;
 
-use crate::command::{Deed, Done};
 use crate::desk::{Desk, lent};
-use crate::errand::Wanted;
-use crate::intent::Intent;
 use crate::objects::{begin, turn_back};
 use crate::put::{has_route, put_over, put_result};
-use crate::running::Next;
 use crate::speaker::{Speaker, UDP};
-use crate::status::status_after;
 use crate::teller::Teller;
-use crate::world::own_port;
-use crate::{Client, Fetch, Handing, KeptFetch, RunningScript, Stage, Status, Turn};
+use crate::{Client, Fetch, KeptFetch, Stage, Turn};
 use nb_command::{CommandPlan, PlanError, plan};
 use nb_nodes::Ask;
 use nb_opens::Download;
 use nb_record::{Cause, Log, NoMemory};
+use nb_runner::{
+    Deed, Done, Handing, Intent, Next, RunningScript, Status, Wanted, own_port, status_after,
+};
 use nb_terms::{Plain, Reason};
 use nb_wire::Word;
 

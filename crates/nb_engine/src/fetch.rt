@@ -1,11 +1,12 @@
 ghost use Rattle.std.specs.Prelude.{◌≡◌, ◌≤◌, length, IfOk};
-ghost use Rattle.nb_engine.specs.CommandWords.{wanted_of};
+ghost use Rattle.nb_runner.specs.CommandWords.{wanted_of};
 ghost use Rattle.nb_engine.specs.Fetches.{fetch_for, speaker_of};
 
+use crate::KeptFetch;
 use crate::speaker::Speaker;
-use crate::{KeptFetch, Wanted};
 use nb_opens::Download;
 use nb_record::NoMemory;
+use nb_runner::{Wanted, copy};
 use nb_wire::{Ip4, Text};
 use std::alloc::Global;
 
@@ -23,13 +24,6 @@ pub struct Fetch {
     pub(crate) uri: Text,
     /// Whether the image is booted.
     pub(crate) boots: bool,
-}
-
-/// A copy of these bytes.
-pub(crate) fn copy(alloc: Global, bytes: &[u8]) -> Result<Text, NoMemory>
-    ensures { IfOk result (λ text. text ≡ bytes.now) }
-{
-    Ok(Text::from_vec(Vec::from_slice(alloc, bytes)?))
 }
 
 impl Fetch {

@@ -27,8 +27,9 @@ use crate::objects::{end, shut};
 use crate::put::{put_over, put_result, put_step, put_told};
 use crate::speaker::UDP;
 use crate::teller::Teller;
-use crate::{Client, Fetch, Handing, KeptFetch, RunningScript, Stage, Status, Turn};
+use crate::{Client, Fetch, KeptFetch, Stage, Turn};
 use nb_record::{Cause, Log, NoMemory};
+use nb_runner::{Handing, RunningScript, Status};
 use nb_terms::Plain;
 
 impl Client {

@@ -7,38 +7,40 @@ ghost use Rattle.nb_ledger.specs.Flat.{Notice};
 ghost use Rattle.nb_graph.specs.Whole.{Objects};
 ghost use Rattle.nb_nodes.specs.declared.obj.Obj.{Obj as Object};
 ghost use Rattle.nb_command.specs.Planning.{planned};
-ghost use Rattle.nb_engine.specs.declared.world.World.{World as WorldValue};
+ghost use Rattle.nb_runner.specs.declared.world.World.{World as WorldValue};
 ghost use Rattle.nb_engine.specs.declared.client.Turn.TheVariants as turn;
 ghost use Rattle.nb_engine.specs.declared.stage.Stage.TheVariants as stage;
-ghost use Rattle.nb_engine.specs.CommandWords.{IsForInquiry};
+ghost use Rattle.nb_runner.specs.CommandWords.{IsForInquiry};
 ghost use Rattle.nb_machine.specs.Effects.{shown_as};
 ghost use Rattle.nb_opens.specs.Graphs.{traced};
-ghost use Rattle.nb_engine.specs.Inquiries.{beside_freed_events, query_of, talker_of, BeginsTalk, IsBackedBy, IsNextObject};
-ghost use Rattle.nb_engine.specs.Inquiring.{CanAsk, HasIntended, IsNextInquiry, PutsAsking, TurnsInquiryBack};
+ghost use Rattle.nb_engine.specs.Inquiries.{beside_freed_events, talker_of, BeginsTalk, IsBackedBy, IsNextObject};
+ghost use Rattle.nb_runner.specs.Intents.{query_of, CanAsk};
+ghost use Rattle.nb_engine.specs.Inquiring.{HasIntended, IsNextInquiry, PutsAsking, TurnsInquiryBack};
 ghost use Rattle.nb_engine.specs.Lones.{lone_for, open_told, talk_for, with_lone};
 ghost use Rattle.nb_machine.specs.CommandRecords.{command_record, no_route};
-ghost use Rattle.nb_engine.specs.NextCommand.{HasCommand, IsReady};
+ghost use Rattle.nb_runner.specs.NextCommand.{HasCommand, IsReady};
 ghost use Rattle.nb_machine.specs.Running.{entered, further};
 ghost use Rattle.nb_engine.specs.Seen.{HasNoObjects, IsSound, seen, standing};
 ghost use Rattle.nb_engine.specs.Talks.{fields_of};
 ghost use Rattle.nb_engine.specs.Tellings.{told_records};
 ghost use Rattle.nb_engine.specs.Turns.{AnswersTurn, IsNearer};
-ghost use Rattle.nb_engine.specs.World.{with_ended_open};
+ghost use Rattle.nb_runner.specs.World.{with_ended_open};
 
-use crate::command::{Deed, Done};
 use crate::desk::{Desk, lent};
-use crate::inquiry::{Inquiry, KeptInquiry, Query};
-use crate::intent::Intent;
+use crate::inquiry::{Inquiry, KeptInquiry};
 use crate::kinds::{DHCP, DNS, PING};
+use crate::opening::{next_opening, next_speaker};
+use crate::prepared::errand_waiter;
 use crate::put::{has_route, put_over, put_result, put_told};
 use crate::speaker::Speaker;
 use crate::talks::{begin_beside, begin_talk, free_waiter, turn_alone_back};
 use crate::teller::Teller;
-use crate::{Client, RunningScript, Stage, Status, Turn};
+use crate::{Client, Stage, Turn};
 use nb_command::CommandPlan;
 use nb_nodes::{LEASE_SERVER, NAME_SERVER};
 use nb_opens::{Alone, Waiter};
 use nb_record::{Cause, Log, NoMemory, OutRec};
+use nb_runner::{Deed, Done, Intent, Query, RunningScript, Status};
 use nb_terms::Reason;
 use nb_wire::Word;
 
@@ -130,7 +132,7 @@ impl Client {
     {
         self.stage = Stage::Stopped;
         let desk = lent(self.alloc, self.desk.take())?;
-        let speaker = self.world.speaker(&query);
+        let speaker = next_speaker(&self.world, &query);
         let (waiter, object, desk) = self.begin_objects(&query, &speaker, desk)?;
         let inquiry = KeptInquiry::of(
             self.alloc,
@@ -163,11 +165,11 @@ impl Client {
         ensures same { self.new ≡ seen self.old.used self.old.world self.new.graph stage.Stopped }
     {
         let (alloc, rec, now) = (self.alloc, self.used, self.world.time);
-        let opening = self.world.opening(query);
+        let opening = next_opening(&self.world, query);
         let (graph, net) = (&mut self.graph, &self.world.net);
         match query {
             Query::Host { errand, .. } => {
-                let waits = errand.waiter();
+                let waits = errand_waiter(errand);
                 let (waiter, object, desk) = begin_beside(
                     alloc, graph, net, who, rec, waits, &opening, now, desk,
                 )?;

@@ -3,27 +3,14 @@ ghost use Rattle.nb_engine.specs.Inquiries.{IsInquiryOf};
 ghost use Rattle.nb_engine.specs.Lones.{Lone};
 ghost use Rattle.nb_engine.specs.Talks.{counts_for, port_of};
 
-use crate::errand::Errand;
 use crate::speaker::Speaker;
 use nb_nodes::{LEASE_SERVER, NAME_SERVER};
 use nb_opens::{Alone, Waiter};
 use nb_record::NoMemory;
-use nb_wire::{Ip4, Text};
+use nb_runner::Query;
+use nb_wire::Ip4;
 use std::alloc::Global;
 use std::marker::Model;
-
-/// What a command asks by one exchange.
-#[derive(Drop)]
-pub enum Query {
-    /// A lease (RFC 2131).
-    Lease,
-    /// An echo of this host (RFC 792).
-    Echo(Ip4),
-    /// The address of a name, of this name server (RFC 1035), for this setting.
-    Address { setting: Text, name: Text, by: Ip4 },
-    /// The address of a server's name, of this name server; this is asked of that server then.
-    Host { errand: Errand, name: Text, by: Ip4 },
-}
 
 /// An open of one object, for which the script's command waits.
 #[derive(Drop)]

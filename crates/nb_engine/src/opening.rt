@@ -1,18 +1,17 @@
 //! What the next open asks for a query, and who speaks for it.
 
 ghost use Rattle.std.specs.Prelude.{◌≡◌, ◌<◌, ◌≤◌};
-ghost use Rattle.nb_engine.specs.Inquiries.{kind_of_talk, query_of, talk_of, talker_of};
+ghost use Rattle.nb_engine.specs.Inquiries.{kind_of_talk, talk_of, talker_of};
+ghost use Rattle.nb_runner.specs.Intents.{query_of};
 ghost use Rattle.nb_machine.specs.Findings.{asker_at, first_word, query_id};
 ghost use Rattle.nb_engine.specs.Lones.{talk_for};
 ghost use Rattle.nb_nodes.specs.LeaseExchanges.{asker_of};
 
-use crate::World;
-use crate::inquiry::Query;
 use crate::speaker::{Carrier, Speaker};
-use crate::world::own_port;
 use nb_machine::Identity;
 use nb_nodes::{LeaseAsk, LookupAsk, PingAsk};
 use nb_opens::AloneKind;
+use nb_runner::{Query, World, own_port};
 use nb_wire::Ip4;
 use rand_chacha::ChaCha8Rng;
 use rand_core::SeedableRng;
@@ -63,59 +62,57 @@ fn query_id(machine: &Identity, number: u16) -> u16
     (first_word(machine, number) % 65_536) as u16
 }
 
-impl World {
-    /// What the next open asks for this query.
-    pub(crate) fn opening<'q>(&self, query: &'q Query) -> Opening<'q>
-        requires w { self.now.w < 16384 }
-        requires few { self.now.opens < 16384 }
-        ensures { talk_of result ≡ talk_for self.now (query_of query.now) }
-    {
-        match query {
-            Query::Lease => Opening::Lease(self.lease_ask()),
-            Query::Echo(host) => Opening::Echo(PingAsk {
-                host: *host,
-                ident: self.opens,
-            }),
-            Query::Address { name, by, .. } | Query::Host { name, by, .. } => Opening::Name(
-                LookupAsk {
-                    server: *by,
-                    own_port: own_port(self.w, self.opens),
-                    id: query_id(&self.machine, self.opens),
-                    name: name.as_slice(),
-                },
-            ),
-        }
+/// What the next open asks for this query.
+pub(crate) fn next_opening<'q>(world: &World, query: &'q Query) -> Opening<'q>
+    requires w { world.now.w < 16384 }
+    requires few { world.now.opens < 16384 }
+    ensures { talk_of result ≡ talk_for world.now (query_of query.now) }
+{
+    match query {
+        Query::Lease => Opening::Lease(lease_ask(world)),
+        Query::Echo(host) => Opening::Echo(PingAsk {
+            host: *host,
+            ident: world.opens,
+        }),
+        Query::Address { name, by, .. } | Query::Host { name, by, .. } => Opening::Name(
+            LookupAsk {
+                server: *by,
+                own_port: own_port(world.w, world.opens),
+                id: query_id(&world.machine, world.opens),
+                name: name.as_slice(),
+            },
+        ),
     }
+}
 
-    fn lease_ask(&self) -> LeaseAsk
-        ensures { asker_of result ≡ asker_at self.now.net.mac self.now.machine self.now.opens }
-    {
-        LeaseAsk {
-            mac: self.net.mac(),
-            uuid: self.machine.uuid,
-            arch: self.machine.arch,
-            xid: first_word(&self.machine, self.opens),
-        }
+fn lease_ask(world: &World) -> LeaseAsk
+    ensures { asker_of result ≡ asker_at world.now.net.mac world.now.machine world.now.opens }
+{
+    LeaseAsk {
+        mac: world.net.mac(),
+        uuid: world.machine.uuid,
+        arch: world.machine.arch,
+        xid: first_word(&world.machine, world.opens),
     }
+}
 
-    /// Who speaks for the next open.
-    pub(crate) fn speaker(&self, query: &Query) -> Speaker
-        requires w { self.now.w < 16384 }
-        requires few { self.now.opens < 16384 }
-        ensures { result ≡ talker_of self.now.opens (talk_for self.now (query_of query.now)) }
-    {
-        let (carrier, server, own_port) = match query {
-            Query::Lease => (Carrier::Udp, ALL_HOSTS, DHCP_CLIENT),
-            Query::Echo(host) => (Carrier::Icmp, *host, self.opens),
-            Query::Address { by, .. } | Query::Host { by, .. } => {
-                (Carrier::Udp, *by, own_port(self.w, self.opens))
-            }
-        };
-        Speaker {
-            number: self.opens,
-            carrier,
-            server,
-            own_port,
+/// Who speaks for the next open.
+pub(crate) fn next_speaker(world: &World, query: &Query) -> Speaker
+    requires w { world.now.w < 16384 }
+    requires few { world.now.opens < 16384 }
+    ensures { result ≡ talker_of world.now.opens (talk_for world.now (query_of query.now)) }
+{
+    let (carrier, server, own_port) = match query {
+        Query::Lease => (Carrier::Udp, ALL_HOSTS, DHCP_CLIENT),
+        Query::Echo(host) => (Carrier::Icmp, *host, world.opens),
+        Query::Address { by, .. } | Query::Host { by, .. } => {
+            (Carrier::Udp, *by, own_port(world.w, world.opens))
         }
+    };
+    Speaker {
+        number: world.opens,
+        carrier,
+        server,
+        own_port,
     }
 }

@@ -1,12 +1,24 @@
 //! What a command does next whose server's address was found.
 
 ghost use Rattle.std.specs.Prelude.{◌≡◌, IfOk};
+ghost use Rattle.nb_runner.specs.CommandWords.{errand_of};
+ghost use Rattle.nb_engine.specs.Inquiries.{errand_waiter};
 
-use crate::errand::Onward;
-use nb_opens::Waiter;
+use nb_opens::{Waiter, WaiterKind};
 use nb_record::NoMemory;
+use nb_runner::{Errand, Onward};
 use std::alloc::Global;
 use std::marker::Model;
+
+/// What waits for an errand while its server's name is looked up.
+pub(crate) fn errand_waiter(errand: &Errand) -> WaiterKind
+    ensures { result ≡ errand_waiter (errand_of errand.now) }
+{
+    match errand {
+        Errand::File(_) => WaiterKind::Fetch,
+        Errand::Echo => WaiterKind::Ping,
+    }
+}
 
 /// What is asked of the server whose address was found, and the object that has waited for its open.
 #[derive(Drop)]

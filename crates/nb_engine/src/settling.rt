@@ -4,14 +4,14 @@ ghost use Rattle.std.specs.Prelude.{◌≡◌, ℕ, List, Ok, Err, Some, IfOk, O
 ghost use Rattle.std.specs.Option.{option_copied, option_map_or};
 ghost use Rattle.nb_dhcpmsg.specs.Fields.{message_in};
 ghost use Rattle.nb_command.specs.Addresses.{address_table};
-ghost use Rattle.nb_engine.specs.Inquiries.{query_of};
+ghost use Rattle.nb_runner.specs.Intents.{query_of};
 ghost use Rattle.nb_machine.specs.Findings.{lease_change, settled_by};
 ghost use Rattle.nb_engine.specs.Replying.{settled_with, FindsServer, IsMessage};
 
-use crate::inquiry::Query;
 use crate::spelled::Spelled;
 use nb_command::{ApplyError, put_address};
 use nb_record::{Cause, NoMemory};
+use nb_runner::Query;
 use nb_settings::{SetError, Table};
 use nb_terms::Plain;
 use nb_wire::{Ip4, Text};

@@ -8,10 +8,10 @@ ghost use Rattle.nb_engine.specs.Spelling.{first_there, FindsNothing, HasSpelled
 ghost use Rattle.nb_engine.specs.Tellings.{datagram_of};
 
 use crate::desk::Room;
-use crate::fetch::copy;
 use crate::put::put_datagram;
 use crate::speaker::Speaker;
 use nb_record::{Cause, Event, Log, NoMemory, OutRec};
+use nb_runner::copy;
 use nb_stack::Stack;
 use nb_wire::{Ip4, Text};
 use std::alloc::Global;

@@ -1,5 +1,6 @@
-use crate::{Handing, KeptFetch, KeptInquiry, KeptPrepared, RunningScript};
+use crate::{KeptFetch, KeptInquiry, KeptPrepared};
 use nb_record::Cause;
+use nb_runner::{Handing, RunningScript};
 
 /// Where a run stands.
 #[derive(Drop)]

@@ -1,4 +1,4 @@
-ghost use Rattle.std.specs.Prelude.{◌≡◌, ℕ, ◌+◌, ◌*◌, ◌≤◌, length, [], ◌∷◌, IfOk, IfErr, OnOk, OnErr};
+ghost use Rattle.std.specs.Prelude.{◌≡◌, ℕ, ◌+◌, ◌*◌, ◌≤◌, length, [], ◌∷◌, OnOk, OnErr};
 ghost use Rattle.nb_defs.specs.Causes.{ok};
 ghost use Rattle.nb_defs.specs.Records.{IsStart, IsFrameRecord, IsTick, out_texts, step, enter, leave, result as result_record};
 ghost use Rattle.nb_defs.specs.Records as defs;
@@ -9,11 +9,8 @@ ghost use Rattle.nb_stack.specs.Takes.{outcome};
 ghost use Rattle.nb_tftp.specs.Received.{received};
 ghost use Rattle.nb_tftp.specs.History.{came, ticked};
 ghost use Rattle.nb_opens.specs.Pairs.{IsDownloading};
-ghost use Rattle.nb_script.specs.Errors.{IsOfText};
 ghost use Rattle.nb_machine.specs.CommandRecords.{reply_records};
 ghost use Rattle.nb_machine.specs.Running.{Running, anew, with_result};
-ghost use Rattle.nb_machine.specs.FirstText.{first_text};
-ghost use Rattle.nb_engine.specs.FirstScript.{RunsFirst, IsRefusalOf, IsUnread};
 ghost use Rattle.nb_engine.specs.Opens.{heard_from};
 ghost use Rattle.nb_engine.specs.Seen.{IsSound, standing};
 ghost use Rattle.nb_engine.specs.Heeding.{Uses, Heeds, Comes, IsReply, TakesFrame};
@@ -23,68 +20,12 @@ ghost use Rattle.nb_engine.specs.declared.client.Turn.TheVariants as turn;
 use crate::desk::{Desk, lent};
 use crate::put::{put_reply, put_result, put_step};
 use crate::teller::Teller;
-use crate::{Client, KeptFetch, RunningScript, Stage, Status, Turn, World};
+use crate::{Client, KeptFetch, Stage, Turn};
 use nb_record::{Cause, Log, NoMemory, OutRec, Start};
-use nb_script::{Script, ScriptError};
+use nb_runner::{RunningScript, Status, Unread, World, read_script};
 use nb_stack::Taken;
-use nb_terms::{Long, Plain, Reason};
-use nb_wire::{Ip4, Text};
-use std::alloc::Global;
-
-/// The script that runs where START gives none.
-const BUILT_IN: &[u8] = b"#!ipxe
-dhcp || exit 1
-isset ${filename} || goto san
-chain ${filename} && exit 0 || goto san
-:san
-isset ${root-path} || exit 1
-sanboot ${root-path}
-";
-
-/// Why the first script's text doesn't run.
-enum Unread {
-    /// It is refused with this cause.
-    Refused(Cause),
-    /// Memory ran out.
-    NoMemory,
-}
-
-/// The cause of a text that is refused.
-fn refused_text(error: ScriptError) -> Unread
-    requires { IsOfText error }
-    ensures { IsUnread error result }
-{
-    match error {
-        ScriptError::ScriptTooLong => Unread::Refused(Cause::from(Reason::TooLong(Long::Script))),
-        ScriptError::LineTooLong => Unread::Refused(Cause::from(Reason::TooLong(Long::Line))),
-        ScriptError::NoMemory => Unread::NoMemory,
-        _ => Unread::Refused(Plain::NotScript.cause()),
-    }
-}
-
-/// The first script's text: START's, or where that is empty the one that is built in.
-fn first_text<'a>(given: &'a [u8]) -> &'a [u8]
-    ensures { result.now ≡ first_text given.now }
-{
-    if given.is_empty() { BUILT_IN } else { given }
-}
-
-/// The first script, its text copied, before its first line.
-fn read_script(alloc: Global, given: &[u8]) -> Result<RunningScript, Unread>
-    ensures runs { IfOk result (RunsFirst given.now) }
-    ensures refused { IfErr result (IsRefusalOf given.now) }
-{
-    let Ok(copy) = Vec::from_slice(alloc, first_text(given)) else {
-        return Err(Unread::NoMemory);
-    };
-    match Script::read(alloc, Text::from_vec(copy)) {
-        Ok(script) => match RunningScript::first(alloc, script) {
-            Ok(script) => Ok(script),
-            Err(NoMemory) => Err(Unread::NoMemory),
-        },
-        Err(error) => Err(refused_text(error)),
-    }
-}
+use nb_terms::Plain;
+use nb_wire::Ip4;
 
 /// Puts that a step begins, and that the first script is entered.
 fn put_entered(number: u32, log: &mut Log)

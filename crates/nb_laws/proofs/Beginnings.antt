@@ -6,8 +6,8 @@ use Rattle.nb_stack.specs.Takes.{client_after}
 use Rattle.nb_tftp.specs.Blocks.{is_whole}
 use Rattle.nb_tftp.specs.History.{came, ticked, received_by}
 use Rattle.nb_tftp.specs.Received.{received}
-use Rattle.nb_engine.specs.declared.world.World.{World}
-use Rattle.nb_engine.specs.World.{world_of, with_net, world_later}
+use Rattle.nb_runner.specs.declared.world.World.{World}
+use Rattle.nb_runner.specs.World.{world_of, with_net, world_later}
 use Rattle.nb_engine.specs.Opens.{Open, heard_from}
 use Rattle.nb_defs.specs.Causes.{ok}
 use Rattle.nb_machine.specs.Effects.{ShownWords, sleeps}

@@ -9,9 +9,9 @@ use Rattle.nb_stack.specs.Route.{route_of}
 use Rattle.nb_stack.specs.Sends.{fate_of}
 use Rattle.nb_tftp.specs.Blocks.{is_whole}
 use Rattle.nb_tftp.specs.History.{received_by}
-use Rattle.nb_engine.specs.declared.world.World.{World}
+use Rattle.nb_runner.specs.declared.world.World.{World}
 use Rattle.nb_command.specs.SettingAddresses.{host}
-use Rattle.nb_engine.specs.World.{with_open, with_ended_open}
+use Rattle.nb_runner.specs.World.{with_open, with_ended_open}
 use Rattle.nb_machine.specs.Starting.{own_port}
 use Rattle.nb_machine.specs.Errands.{Wanted}
 use Rattle.nb_engine.specs.Opens.{open_for, begun_for, opened_record}

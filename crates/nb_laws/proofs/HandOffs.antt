@@ -15,8 +15,8 @@ use Rattle.nb_image.specs.declared.error.ImageError.{ImageError}
 use Rattle.nb_image.specs.declared.error.ImageError.TheVariants as error
 use Rattle.nb_image.specs.Images.{ImageList, with_image, image_place, refusal}
 use Rattle.nb_image.specs.Kinds.{kind_of}
-use Rattle.nb_engine.specs.declared.world.World.{World}
-use Rattle.nb_engine.specs.World.{unbound}
+use Rattle.nb_runner.specs.declared.world.World.{World}
+use Rattle.nb_runner.specs.World.{unbound}
 use Rattle.nb_machine.specs.Effects.{ShownWords}
 use Rattle.nb_machine.specs.Sendings.{has_route, send_records, sends_records, acts_records, advance_records, try_records}
 use Rattle.nb_machine.specs.Conclusions.{Conclusion, keeps, fails, boots, conclusion, stored, taken_in, selected_in, place_for, is_bootable, not_bootable, cause_of_error, conclusion_records, handoff_records}
@@ -24,7 +24,7 @@ use Rattle.nb_defs.specs.Parts.{IsNoPart, HaveNoParts}
 use Rattle.nb_machine.specs.Running.{Running}
 use Rattle.nb_machine.specs.CommandRecords.{prints, command_record, command_records, reply_records}
 use Rattle.nb_engine.specs.Machine.{phase_after}
-use Rattle.nb_engine.proofs.HandingLemmas.{all_append}
+use Rattle.nb_runner.proofs.HandingLemmas.{all_append}
 use Rattle.nb_laws.specs.Events.{Event, starts, puts}
 use Rattle.nb_tftp.specs.Blocks.{is_whole}
 use Rattle.nb_laws.specs.Lists.{came_ok, last_end, end_by, datagrams_of, made}

@@ -11,8 +11,8 @@ use Rattle.nb_stack.specs.Bound.{without}
 use Rattle.nb_stack.specs.declared.ports.Port.{Port}
 use Rattle.nb_tftp.specs.Blocks.{is_whole}
 use Rattle.nb_tftp.specs.History.{Call, Entry, entry, got, received_by}
-use Rattle.nb_engine.specs.declared.world.World.{World}
-use Rattle.nb_engine.specs.World.{unbound}
+use Rattle.nb_runner.specs.declared.world.World.{World}
+use Rattle.nb_runner.specs.World.{unbound}
 use Rattle.nb_machine.specs.Errands.{Wanted}
 use Rattle.nb_laws.specs.CommandsSoFar.{CommandsSoFar, so_far, shown_effect}
 use Rattle.nb_laws.proofs.SoFar.{so_far_more, client_stays, opens_so_far, conclusion_so_far, settings_as, settings_over, asks_as, file_left}

@@ -6,8 +6,8 @@ use Rattle.nb_graph.specs.Trace.{Said}
 use Rattle.nb_stack.specs.Brings.{Brought}
 use Rattle.nb_stack.specs.Takes.{outcome_of, client_after}
 use Rattle.nb_tftp.specs.History.{Call, ticked, Entry}
-use Rattle.nb_engine.specs.declared.world.World.{World}
-use Rattle.nb_engine.specs.World.{with_net, world_later}
+use Rattle.nb_runner.specs.declared.world.World.{World}
+use Rattle.nb_runner.specs.World.{with_net, world_later}
 use Rattle.nb_machine.specs.Sendings.{has_route}
 use Rattle.nb_engine.specs.Talks.{Talk, looks_up, leases, pings, fields_of, first_message, message_for}
 use Rattle.nb_engine.specs.Lones.{Lone}

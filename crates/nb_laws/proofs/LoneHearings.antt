@@ -28,7 +28,7 @@ use Rattle.nb_tftp.specs.Received.{Received}
 use Rattle.nb_tftp.specs.Blocks.{is_whole}
 use Rattle.nb_tftp.specs.History.{Call, Entry, entry, got, received_by}
 use Rattle.nb_tftp.proofs.HistoryLemmas.{is_ended-append}
-use Rattle.nb_engine.specs.declared.world.World.{World}
+use Rattle.nb_runner.specs.declared.world.World.{World}
 use Rattle.nb_machine.specs.Effects.{Effect, inquires, changed}
 use Rattle.nb_machine.specs.Sendings.{has_route, acts_records, advance_records, sends_records}
 use Rattle.nb_machine.specs.Errands.{echoes_then}

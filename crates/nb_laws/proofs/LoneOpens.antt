@@ -5,8 +5,8 @@ use Rattle.nb_defs.specs.Records.{In, Out, ended, result}
 use Rattle.nb_stack.specs.Client.{Client}
 use Rattle.nb_stack.specs.declared.taken.Fate.TheVariants as fate
 use Rattle.nb_tftp.specs.History.{received_by}
-use Rattle.nb_engine.specs.declared.world.World.{World}
-use Rattle.nb_engine.specs.World.{with_ended_open}
+use Rattle.nb_runner.specs.declared.world.World.{World}
+use Rattle.nb_runner.specs.World.{with_ended_open}
 use Rattle.nb_machine.specs.Starting.{own_port}
 use Rattle.nb_machine.specs.Effects.{inquires}
 use Rattle.nb_machine.specs.Queries.{Query, for_lease, for_echo, for_host, for_address}

@@ -4,9 +4,9 @@ use Rattle.nb_terms.specs.declared.cause.Cause.{Cause}
 use Rattle.nb_defs.specs.Causes.{ok}
 use Rattle.nb_defs.specs.Commands.{CommandOutcome, refused}
 use Rattle.nb_defs.specs.Records.{In, Out, result, leave}
-use Rattle.nb_engine.specs.declared.world.World.{World}
+use Rattle.nb_runner.specs.declared.world.World.{World}
 use Rattle.nb_machine.specs.Effects.{asks, goes, sleeps, effect, ShownWords, shown_words, table_after, up_after}
-use Rattle.nb_engine.proofs.CommandLaws.{same_world, same_up}
+use Rattle.nb_runner.proofs.CommandLaws.{same_world, same_up}
 use Rattle.nb_engine.specs.Opens.{open_for}
 use Rattle.nb_machine.specs.Running.{Running, entered, further, behind_line, no_label}
 use Rattle.nb_engine.specs.Machine.{Machine, running, Move, passes, is_left, yields, does, closes_device, leaves, jumps, finds_no_label, falls_asleep, asks_for, finds_no_route, inquires_for, reaches_none, asks_on, finds_no_way, echoes_on, finds_no_way_to, opens_no_more, hands, has_handed, world_after}
@@ -21,7 +21,7 @@ use Rattle.nb_laws.proofs.SoFar.{so_far_more, begins_so_far, command_so_far, sil
 use Rattle.nb_defs.specs.Parts.{HaveNoParts}
 use Rattle.nb_laws.specs.Progress.{IsAdvanced}
 use Rattle.nb_laws.specs.Silence.{IsSilent}
-use Rattle.nb_engine.proofs.HandingLemmas.{all_append}
+use Rattle.nb_runner.proofs.HandingLemmas.{all_append}
 use Rattle.nb_laws.specs.Agreement.{AgreesSettings, AgreesImages, AgreesPhase, AreStill}
 use Rattle.nb_laws.proofs.Histories.{each_append}
 use Rattle.nb_laws.proofs.Tellings.{told, story_still, still_aside, still_advanced, live_kept, silent_frames, kept, Story}

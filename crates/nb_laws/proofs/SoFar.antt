@@ -14,7 +14,7 @@ use Rattle.nb_command.specs.Locating.{located}
 use Rattle.nb_command.specs.declared.locating.Located.{Located}
 use Rattle.nb_command.specs.Device.{device_change}
 use Rattle.nb_command.specs.Planning.{planned}
-use Rattle.nb_engine.specs.declared.world.World.{World}
+use Rattle.nb_runner.specs.declared.world.World.{World}
 use Rattle.nb_machine.specs.Effects.{Effect, says, asks, goes, sleeps, shuts_device, inquires, unless_full, device_effect, fetch, fetched, ShownWords, shown_as, shown_words, effect, words_effect, words_table, table_after, up_after, expansion, expanded_effect, plan_effect, planned_effect}
 use Rattle.nb_machine.specs.Conclusions.{Conclusion, keeps, fails, boots, conclusion_records}
 use Rattle.nb_engine.specs.Opens.{Open}
@@ -23,11 +23,11 @@ use Rattle.nb_machine.specs.Running.{Running}
 use Rattle.nb_machine.specs.CommandRecords.{prints, command_record, command_records}
 use Rattle.nb_machine.specs.StartTable.{start_table}
 use Rattle.nb_machine.specs.Starting.{is_up}
-use Rattle.nb_engine.specs.World.{world_of, with_net, world_later}
+use Rattle.nb_runner.specs.World.{world_of, with_net, world_later}
 use Rattle.nb_machine.specs.Errands.{Errand, fetches_then, echoes_then, remote_file}
 use Rattle.nb_machine.specs.Queries.{Query, for_lease, for_host}
 use Rattle.nb_machine.proofs.Eithers.{full_either}
-use Rattle.nb_engine.proofs.CommandLaws.{effect_of_words, table_of_words, up_of_words, shown_of_words, shown_of_refused, table_of_refused, up_of_refused, sleeps_some, KeepsTable, keeps_words}
+use Rattle.nb_runner.proofs.CommandLaws.{effect_of_words, table_of_words, up_of_words, shown_of_words, shown_of_refused, table_of_refused, up_of_refused, sleeps_some, KeepsTable, keeps_words}
 use Rattle.nb_stack.specs.Client.{Client}
 use Rattle.nb_laws.specs.Events.{Event, starts, puts, followed}
 use Rattle.nb_machine.specs.Link.{link_by}

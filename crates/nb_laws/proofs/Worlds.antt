@@ -8,9 +8,9 @@ use Rattle.nb_stack.specs.declared.taken.Fate.{Fate}
 use Rattle.nb_stack.specs.declared.taken.Fate.TheVariants as fate
 use Rattle.nb_stack.specs.Sends.{way_of}
 use Rattle.nb_stack.proofs.WayLaws.{same_way}
-use Rattle.nb_engine.specs.declared.world.World.{World}
+use Rattle.nb_runner.specs.declared.world.World.{World}
 use Rattle.nb_machine.specs.Link.{link_by}
-use Rattle.nb_engine.specs.World.{with_open, with_ended_open, world_with}
+use Rattle.nb_runner.specs.World.{with_open, with_ended_open, world_with}
 use Rattle.nb_machine.specs.Sendings.{has_route, is_on_its_way}
 use Rattle.nb_laws.specs.Events.{Event}
 use Rattle.nb_laws.specs.Histories.{client}

@@ -1,7 +1,7 @@
 use Rattle.std.proofs.Common.{[], inr, sym, subst}
 use Rattle.nb_opens.specs.Graphs.{bare}
 use Rattle.nb_engine.specs.Machine.{fresh}
-use Rattle.nb_engine.specs.declared.status.Status.{Status}
+use Rattle.nb_runner.specs.declared.status.Status.{Status}
 use Rattle.nb_boot.specs.Going.{RefusesRun}
 use Rattle.nb_boot.proofs.Openings.{opens_filled, refuses_filled}
 use Rattle.nb_boot.proofs.begin.begin.Goals as goal

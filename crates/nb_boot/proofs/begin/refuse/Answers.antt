@@ -3,9 +3,9 @@ use Rattle.nb_defs.specs.Records.{done, out_text, out_texts}
 use Rattle.nb_record.specs.Logged.{Puts}
 use Rattle.nb_opens.specs.Graphs.{bare}
 use Rattle.nb_engine.specs.Machine.{fresh}
-use Rattle.nb_engine.specs.declared.status.Status.{Status}
-use Rattle.nb_engine.specs.declared.status.Status.TheVariants as status
-use Rattle.nb_engine.proofs.Puts.{Puts-one}
+use Rattle.nb_runner.specs.declared.status.Status.{Status}
+use Rattle.nb_runner.specs.declared.status.Status.TheVariants as status
+use Rattle.nb_runner.proofs.Puts.{Puts-one}
 use Rattle.nb_boot.specs.Run.{Shows, was_bad}
 use Rattle.nb_boot.proofs.Last.{fresh_closes}
 use Rattle.nb_boot.proofs.Closings.{over_shows, flaw_shows}

@@ -1,7 +1,7 @@
 use Rattle.std.proofs.Common.{sym, subst}
-use Rattle.nb_engine.specs.StatusNumber.{status_number}
+use Rattle.nb_runner.specs.StatusNumber.{status_number}
 use Rattle.nb_engine.specs.Turns.{closing_records}
-use Rattle.nb_engine.specs.declared.status.Status.{Status}
+use Rattle.nb_runner.specs.declared.status.Status.{Status}
 use Rattle.nb_boot.specs.Run.{Shows}
 use Rattle.nb_boot.proofs.Last.{client_closes}
 use Rattle.nb_boot.proofs.Closings.{over_shows, flaw_shows}

@@ -1,6 +1,6 @@
 use Rattle.std.proofs.Common.{[], ◌∷◌, ◌++◌, sym, subst}
 use Rattle.nb_record.specs.View.{in_of}
-use Rattle.nb_engine.specs.declared.status.Status.{Status}
+use Rattle.nb_runner.specs.declared.status.Status.{Status}
 use Rattle.nb_boot.specs.Going.{Stops}
 use Rattle.nb_boot.proofs.Standing.{over_ends, end_closes}
 use Rattle.nb_boot.proofs.play.use_record.Goals as goal

@@ -1,7 +1,7 @@
 use Rattle.std.proofs.Common.{◌≡◌, [], arith, sym, ◌∙◌, subst, refl}
 use Rattle.nb_defs.specs.Records.{IsPartial}
 use Rattle.nb_defs.proofs.RecordLaws.{nothing_partial}
-use Rattle.nb_engine.specs.declared.status.Status.{Status}
+use Rattle.nb_runner.specs.declared.status.Status.{Status}
 use Rattle.nb_boot.specs.Run.{Shows}
 use Rattle.nb_boot.proofs.Standing.{stands_between}
 use Rattle.nb_boot.proofs.Waiting.{waits_out, waits_full, nothing_held, some_held}

@@ -3,7 +3,7 @@ use Rattle.nb_defs.proofs.RecordLaws.{partial_short}
 use Rattle.nb_record.specs.View.{in_of}
 use Rattle.nb_engine.specs.Seen.{Seen}
 use Rattle.nb_engine.specs.Turns.{IsResting}
-use Rattle.nb_engine.specs.declared.status.Status.{Status}
+use Rattle.nb_runner.specs.declared.status.Status.{Status}
 use Rattle.nb_boot.specs.Run.{Shows, IsFirst}
 use Rattle.nb_boot.proofs.Standing.{may_use, stands_between}
 use Rattle.nb_boot.proofs.Waiting.{waits_bad, waits_end}

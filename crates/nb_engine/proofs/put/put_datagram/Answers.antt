@@ -6,7 +6,7 @@ use Rattle.nb_stack.specs.Envelope.{message_of}
 use Rattle.nb_stack.specs.Sends.{put_on, way_of, fate_of}
 use Rattle.nb_machine.specs.Sendings.{has_route, try_records}
 use Rattle.nb_engine.specs.Tellings.{datagram_of}
-use Rattle.nb_engine.proofs.Puts.{Puts-one, Puts-outs}
+use Rattle.nb_runner.proofs.Puts.{Puts-one, Puts-outs}
 use Rattle.nb_engine.proofs.Sendings.{on_its_way}
 use Rattle.nb_engine.proofs.put.put_datagram.Goals as goal
 

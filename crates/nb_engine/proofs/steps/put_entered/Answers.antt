@@ -1,6 +1,6 @@
 use Rattle.std.proofs.Common.{[], ◌∷◌}
 use Rattle.nb_defs.specs.Records.{step, enter}
-use Rattle.nb_engine.proofs.Puts.{Puts-one, Puts-outs}
+use Rattle.nb_runner.proofs.Puts.{Puts-one, Puts-outs}
 use Rattle.nb_engine.proofs.steps.put_entered.Goals as goal
 
 pub returns : goal.returns

@@ -2,12 +2,12 @@ use Rattle.std.proofs.Common.{[], ◌∷◌, sym, subst}
 use Rattle.nb_defs.specs.Records.{out_texts, leave}
 use Rattle.nb_record.specs.Logged.{Puts}
 use Rattle.nb_machine.specs.Running.{Running}
-use Rattle.nb_engine.specs.World.{IsLinked}
+use Rattle.nb_runner.specs.World.{IsLinked}
 use Rattle.nb_engine.specs.Seen.{Seen, seen}
 use Rattle.nb_engine.specs.declared.stage.Stage.TheVariants as stage
 use Rattle.nb_engine.proofs.Moves.{pass_grows, left_grows, yield_grows}
 use Rattle.nb_engine.proofs.TurnLemmas.{turn_acts}
-use Rattle.nb_engine.proofs.CommandLaws.{ends_unexpanded}
+use Rattle.nb_engine.proofs.CommandEnds.{ends_unexpanded}
 use Rattle.nb_engine.proofs.client.Client.advance.Goals as goal
 
 pub returns-in-Ok-Passed-clause-does : goal.returns-in-Ok-Passed-clause-does

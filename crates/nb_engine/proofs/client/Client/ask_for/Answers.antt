@@ -1,13 +1,13 @@
 use Rattle.std.proofs.Common.{◌≡◌, refl, sym, ◌∙◌, ap, subst}
 use Rattle.nb_defs.specs.Commands.{refused}
 use Rattle.nb_machine.specs.Effects.{inquires, words_effect, words_table, words_up, fetch}
-use Rattle.nb_engine.specs.Inquiries.{query_of}
-use Rattle.nb_engine.specs.Inquiring.{intent_effect, HasIntended}
+use Rattle.nb_runner.specs.Intents.{query_of, intent_effect}
+use Rattle.nb_engine.specs.Inquiring.{HasIntended}
 use Rattle.nb_engine.proofs.Intents.{intends_here}
-use Rattle.nb_engine.specs.NextCommand.{HasCommand}
+use Rattle.nb_runner.specs.NextCommand.{HasCommand}
 use Rattle.nb_engine.specs.Seen.{Seen}
-use Rattle.nb_engine.specs.World.{IsLinked}
-use Rattle.nb_engine.proofs.CommandLaws.{ends_expanded}
+use Rattle.nb_runner.specs.World.{IsLinked}
+use Rattle.nb_engine.proofs.CommandEnds.{ends_expanded}
 use Rattle.nb_engine.proofs.client.Client.ask_for.Goals as goal
 
 pub refuse-requires-clause-refused : goal.refuse-requires-clause-refused

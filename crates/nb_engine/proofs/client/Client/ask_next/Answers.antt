@@ -5,7 +5,7 @@ use Rattle.nb_nodes.specs.Conversations.{first_acts}
 use Rattle.nb_tftp.specs.Asks.{begun}
 use Rattle.nb_opens.specs.Notices.{completed_notices, begun_notices}
 use Rattle.nb_engine.specs.Advance.{PutsOpen}
-use Rattle.nb_engine.specs.CommandWords.{wanted_of}
+use Rattle.nb_runner.specs.CommandWords.{wanted_of}
 use Rattle.nb_engine.specs.declared.fetch.Fetch.{Fetch}
 use Rattle.nb_engine.specs.Fetches.{speaker_of}
 use Rattle.nb_engine.specs.Opens.{opened_record}

@@ -4,7 +4,7 @@ use Rattle.nb_record.specs.Logged.{Puts}
 use Rattle.nb_engine.specs.Seen.{Seen}
 use Rattle.nb_engine.specs.Spelling.{IsSpelled, Spelling}
 use Rattle.nb_engine.specs.Tellings.{told_records}
-use Rattle.nb_engine.proofs.Puts.{Puts-outs}
+use Rattle.nb_runner.proofs.Puts.{Puts-outs}
 use Rattle.nb_engine.proofs.client.Client.ask_on.Goals as goal
 
 pub returns-clause-puts : goal.returns-clause-puts

@@ -1,8 +1,8 @@
 use Rattle.std.proofs.Common.{sym, subst}
 use Rattle.nb_engine.specs.Advance.{HasCarriedOut}
-use Rattle.nb_engine.specs.NextCommand.{HasCommand}
+use Rattle.nb_runner.specs.NextCommand.{HasCommand}
 use Rattle.nb_engine.specs.Seen.{Seen, seen}
-use Rattle.nb_engine.proofs.CommandLaws.{carried_deed}
+use Rattle.nb_engine.proofs.CommandEnds.{carried_deed}
 use Rattle.nb_engine.proofs.client.Client.carry_out.Goals as goal
 
 pub returns-in-Ok-clause-does : goal.returns-in-Ok-clause-does

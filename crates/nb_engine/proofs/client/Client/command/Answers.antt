@@ -1,7 +1,8 @@
 use Rattle.std.proofs.Common.{Ok, refl}
 use Rattle.nb_command.specs.declared.command_plan.CommandPlan.TheVariants as plan
 use Rattle.nb_command.specs.declared.error.PlanError.TheVariants as plan_error
-use Rattle.nb_engine.proofs.CommandLaws.{effect_of_plan, table_of_plan, up_of_plan, ends_unplanned}
+use Rattle.nb_runner.proofs.CommandLaws.{effect_of_plan, table_of_plan, up_of_plan}
+use Rattle.nb_engine.proofs.CommandEnds.{ends_unplanned}
 use Rattle.nb_engine.proofs.client.Client.command.Goals as goal
 
 pub ask_for-requires-clause-value : goal.ask_for-requires-clause-value

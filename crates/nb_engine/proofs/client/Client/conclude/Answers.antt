@@ -4,7 +4,7 @@ use Rattle.nb_machine.specs.Conclusions.{handoff_records}
 use Rattle.nb_machine.specs.Running.{with_result}
 use Rattle.nb_engine.specs.Seen.{Seen, as_running, as_handing}
 use Rattle.nb_engine.specs.Concluding.{IsPlaceFor}
-use Rattle.nb_engine.proofs.HandingLemmas.{begins_at}
+use Rattle.nb_runner.proofs.HandingLemmas.{begins_at}
 use Rattle.nb_engine.proofs.client.Client.conclude.Goals as goal
 
 pub invariant_of-self : goal.invariant_of-self

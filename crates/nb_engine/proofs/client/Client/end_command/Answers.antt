@@ -8,8 +8,9 @@ use Rattle.nb_stack.specs.Bound.{without}
 use Rattle.nb_stack.specs.Client.{Client}
 use Rattle.nb_engine.specs.declared.inquiry.Inquiry.{Inquiry}
 use Rattle.nb_engine.specs.declared.stage.Stage.TheVariants as stage
-use Rattle.nb_engine.specs.declared.world.World.{World}
-use Rattle.nb_engine.specs.Inquiries.{query_of, beside_freed_events}
+use Rattle.nb_runner.specs.declared.world.World.{World}
+use Rattle.nb_runner.specs.Intents.{query_of}
+use Rattle.nb_engine.specs.Inquiries.{beside_freed_events}
 use Rattle.nb_engine.specs.Deliveries.{delivered_bytes}
 use Rattle.nb_machine.specs.Link.{link_by}
 use Rattle.nb_machine.specs.Findings.{Settled}
@@ -18,8 +19,8 @@ use Rattle.nb_engine.specs.Replying.{EndsCommand, HasEndedCommand, closing_told,
 use Rattle.nb_machine.specs.Running.{with_result}
 use Rattle.nb_engine.specs.Seen.{Seen, seen}
 use Rattle.nb_engine.specs.Spelling.{Spelling, IsSpelled}
-use Rattle.nb_engine.specs.World.{state_of}
-use Rattle.nb_engine.proofs.Puts.{Puts-outs}
+use Rattle.nb_runner.specs.World.{state_of}
+use Rattle.nb_runner.proofs.Puts.{Puts-outs}
 use Rattle.nb_engine.proofs.Standing.{has_none}
 use Rattle.nb_engine.proofs.client.Client.end_command.Goals as goal
 

@@ -10,7 +10,8 @@ use Rattle.nb_engine.specs.declared.inquiry.Inquiry.{Inquiry}
 use Rattle.nb_engine.specs.declared.stage.Stage.TheVariants as stage
 use Rattle.nb_engine.specs.Deliveries.{delivered_address}
 use Rattle.nb_machine.specs.Errands.{onward}
-use Rattle.nb_engine.specs.Inquiries.{company_of, query_of}
+use Rattle.nb_engine.specs.Inquiries.{company_of}
+use Rattle.nb_runner.specs.Intents.{query_of}
 use Rattle.nb_machine.specs.Findings.{Settled}
 use Rattle.nb_engine.specs.Lones.{world_settled}
 use Rattle.nb_engine.specs.Spelling.{Spelling, IsSpelled, TellsMore}

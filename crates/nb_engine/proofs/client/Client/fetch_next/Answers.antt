@@ -1,10 +1,10 @@
 use Rattle.std.proofs.Common.{[], sym, ◌∙◌, ap, subst}
-use Rattle.nb_engine.specs.declared.errand.Onward.{Onward as Next}
+use Rattle.nb_runner.specs.declared.errand.Onward.{Onward as Next}
 use Rattle.nb_engine.specs.declared.fetch.Fetch.{Fetch}
 use Rattle.nb_engine.specs.declared.stage.Stage.TheVariants as stage
 use Rattle.nb_opens.specs.declared.waiter.WaiterKind.TheVariants as kind
 use Rattle.nb_opens.specs.Waiters.{waiter_serial}
-use Rattle.nb_engine.specs.CommandWords.{onward_of, FitsFile, FitsOnward}
+use Rattle.nb_runner.specs.CommandWords.{onward_of, FitsFile, FitsOnward}
 use Rattle.nb_engine.specs.Inquiries.{onward_waiter, IsWaiterOf}
 use Rattle.nb_engine.specs.Reaching.{IsWaitedFor}
 use Rattle.nb_engine.specs.Seen.{Seen, seen}

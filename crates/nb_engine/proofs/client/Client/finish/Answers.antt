@@ -2,7 +2,7 @@ use Rattle.std.proofs.Common.{[], ◌∷◌, subst}
 use Rattle.nb_defs.specs.Records.{done, out_texts}
 use Rattle.nb_record.specs.Logged.{Puts}
 use Rattle.nb_engine.specs.Turns.{closing_records, left_records}
-use Rattle.nb_engine.proofs.Puts.{Puts-one, Puts-outs}
+use Rattle.nb_runner.proofs.Puts.{Puts-one, Puts-outs}
 use Rattle.nb_engine.proofs.client.Client.finish.Goals as goal
 
 pub returns-clause-puts : goal.returns-clause-puts

@@ -4,7 +4,7 @@ use Rattle.nb_record.specs.Logged.{Puts}
 use Rattle.nb_opens.specs.Graphs.{traced}
 use Rattle.nb_engine.specs.Inquiries.{beside_freed_events}
 use Rattle.nb_engine.specs.Spelling.{Spelling}
-use Rattle.nb_engine.proofs.Puts.{Puts-outs}
+use Rattle.nb_runner.proofs.Puts.{Puts-outs}
 use Rattle.nb_engine.proofs.client.Client.give_inquiry_up.Goals as goal
 
 pub returns-clause-puts : goal.returns-clause-puts

@@ -5,7 +5,7 @@ use Rattle.nb_terms.specs.declared.cause.Cause.{Cause}
 use Rattle.nb_engine.specs.declared.fetch.Fetch.{Fetch}
 use Rattle.nb_machine.specs.Conclusions.{fails, conclusion_records}
 use Rattle.nb_machine.specs.CommandRecords.{no_route}
-use Rattle.nb_engine.proofs.Puts.{Puts-outs}
+use Rattle.nb_runner.proofs.Puts.{Puts-outs}
 use Rattle.nb_engine.proofs.client.Client.give_up.Goals as goal
 
 pub returns-clause-puts : goal.returns-clause-puts

@@ -1,14 +1,14 @@
 use Rattle.std.proofs.Common.{◌≡◌, true, ◌∷◌, refl, ◌∙◌, ap, subst}
 use Rattle.nb_defs.specs.ScriptLines.{label_place}
-use Rattle.nb_engine.specs.declared.command.Deed.{Deed}
-use Rattle.nb_engine.specs.CommandWords.{done_of, deed_effect}
+use Rattle.nb_runner.specs.declared.command.Deed.{Deed}
+use Rattle.nb_runner.specs.CommandWords.{done_of, deed_effect}
 use Rattle.nb_defs.specs.Causes.{ok}
 use Rattle.nb_defs.specs.Commands.{CommandOutcome, refused}
 use Rattle.nb_machine.specs.Effects.{goes, sleeps, shuts_device, effect, shown_as}
-use Rattle.nb_engine.specs.Steps.{Does, GoesTo}
+use Rattle.nb_runner.specs.Steps.{Does, GoesTo}
 use Rattle.nb_engine.specs.Machine.{world_after}
 use Rattle.nb_engine.specs.Advance.{EndsAtOnce}
-use Rattle.nb_engine.proofs.CommandLaws.{same_world, same_up, world_stays}
+use Rattle.nb_runner.proofs.CommandLaws.{same_world, same_up, world_stays}
 use Rattle.nb_engine.proofs.Moves.{settled_acts, settled_nearer, shut_acts, goes_grows, goes_nearer, sleeps_grows}
 use Rattle.nb_engine.proofs.client.Client.go_by.Goals as goal
 

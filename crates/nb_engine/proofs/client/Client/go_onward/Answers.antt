@@ -7,13 +7,14 @@ use Rattle.nb_engine.specs.declared.inquiry.Inquiry.{Inquiry}
 use Rattle.nb_engine.specs.declared.prepared.Prepared.{Prepared}
 use Rattle.nb_engine.specs.declared.speaker.Speaker.{Speaker}
 use Rattle.nb_engine.specs.declared.stage.Stage.TheVariants as stage
-use Rattle.nb_engine.specs.CommandWords.{onward_of, FitsOnward}
+use Rattle.nb_runner.specs.CommandWords.{onward_of, FitsOnward}
 use Rattle.nb_machine.specs.Errands.{Errand, onward}
-use Rattle.nb_engine.specs.Inquiries.{query_of, onward_waiter, FitsQuery, IsBackedBy, IsWaiterOf}
+use Rattle.nb_runner.specs.Intents.{query_of}
+use Rattle.nb_engine.specs.Inquiries.{onward_waiter, FitsQuery, IsBackedBy, IsWaiterOf}
 use Rattle.nb_engine.specs.Replying.{HasGoneOnward, IsFor, silent}
 use Rattle.nb_engine.specs.Seen.{Seen, seen, IsSound}
 use Rattle.nb_engine.specs.Spelling.{Spelling, IsSpelled}
-use Rattle.nb_engine.specs.World.{with_net}
+use Rattle.nb_runner.specs.World.{with_net}
 use Rattle.nb_stack.specs.Bound.{without}
 use Rattle.nb_engine.proofs.Besides.{reaching_sound}
 use Rattle.nb_engine.proofs.client.Client.go_onward.Goals as goal

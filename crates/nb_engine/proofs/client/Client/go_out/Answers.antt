@@ -3,7 +3,7 @@ use Rattle.nb_tftp.specs.Asks.{begun}
 use Rattle.nb_tftp.proofs.PlainLaws.{request_fits}
 use Rattle.nb_opens.specs.Pairs.{Downloads}
 use Rattle.nb_engine.specs.Advance.{PutsBegun, TurnsBack}
-use Rattle.nb_engine.specs.CommandWords.{wanted_of}
+use Rattle.nb_runner.specs.CommandWords.{wanted_of}
 use Rattle.nb_engine.specs.declared.fetch.Fetch.{Fetch}
 use Rattle.nb_engine.specs.declared.speaker.Speaker.{Speaker}
 use Rattle.nb_engine.specs.declared.stage.Stage.TheVariants as stage
@@ -16,7 +16,7 @@ use Rattle.nb_engine.specs.Tellings.{datagram_of}
 use Rattle.nb_engine.specs.Turns.{Grows}
 use Rattle.nb_command.specs.SettingAddresses.{host}
 use Rattle.nb_machine.specs.Starting.{own_port}
-use Rattle.nb_engine.specs.World.{with_open}
+use Rattle.nb_runner.specs.World.{with_open}
 use Rattle.nb_engine.proofs.Asking.{next_fetch, asks_grows, turned_acts, turned_nearer}
 use Rattle.nb_engine.proofs.client.Client.go_out.Goals as goal
 

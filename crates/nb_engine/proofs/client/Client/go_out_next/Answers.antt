@@ -6,7 +6,7 @@ use Rattle.nb_command.specs.SettingAddresses.{host}
 use Rattle.nb_engine.specs.declared.fetch.Fetch.{Fetch}
 use Rattle.nb_engine.specs.declared.speaker.Speaker.{Speaker}
 use Rattle.nb_engine.specs.declared.stage.Stage.TheVariants as stage
-use Rattle.nb_engine.specs.CommandWords.{wanted_of, onward_of}
+use Rattle.nb_runner.specs.CommandWords.{wanted_of, onward_of}
 use Rattle.nb_engine.specs.Fetches.{speaker_of}
 use Rattle.nb_machine.specs.CommandRecords.{no_route}
 use Rattle.nb_engine.specs.Opens.{begun_for}
@@ -15,7 +15,7 @@ use Rattle.nb_engine.specs.Reaching.{PutsNext, TurnsNextBack, HasTurnedNextBack}
 use Rattle.nb_engine.specs.Seen.{Seen, seen}
 use Rattle.nb_engine.specs.Tellings.{datagram_of}
 use Rattle.nb_engine.specs.Turns.{Grows, IsBusy, moves_left}
-use Rattle.nb_engine.specs.World.{with_open}
+use Rattle.nb_runner.specs.World.{with_open}
 use Rattle.nb_machine.specs.Starting.{own_port}
 use Rattle.nb_engine.proofs.Asking.{next_fetch}
 use Rattle.nb_engine.proofs.Onwards.{asks_on_grows, no_way_grows, result_nearer}

@@ -1,13 +1,14 @@
 use Rattle.std.proofs.Common.{sym, ◌∙◌, ap, subst}
-use Rattle.nb_engine.specs.declared.command.Deed.TheVariants as deed
+use Rattle.nb_runner.specs.declared.command.Deed.TheVariants as deed
 use Rattle.nb_engine.specs.Advance.{HasCarriedOut}
 use Rattle.nb_machine.specs.Effects.{says}
-use Rattle.nb_engine.specs.Inquiries.{query_of}
-use Rattle.nb_engine.specs.Inquiring.{HasIntended, intent_effect}
-use Rattle.nb_engine.specs.NextCommand.{HasCommand}
+use Rattle.nb_runner.specs.Intents.{query_of, intent_effect}
+use Rattle.nb_engine.specs.Inquiring.{HasIntended}
+use Rattle.nb_runner.specs.NextCommand.{HasCommand}
 use Rattle.nb_engine.specs.Seen.{Seen, seen}
-use Rattle.nb_engine.proofs.CommandLaws.{carried_deed}
-use Rattle.nb_engine.proofs.Intents.{intends, inquiry_fetches_not}
+use Rattle.nb_engine.proofs.CommandEnds.{carried_deed}
+use Rattle.nb_engine.proofs.Intents.{intends}
+use Rattle.nb_runner.proofs.Intents.{inquiry_fetches_not}
 use Rattle.nb_engine.proofs.client.Client.inquire.Goals as goal
 
 pub returns-in-Ok-Over-clause-does : goal.returns-in-Ok-Over-clause-does

@@ -1,7 +1,7 @@
 use Rattle.std.proofs.Common.{[], ◌∷◌}
 use Rattle.nb_defs.specs.Records.{step}
 use Rattle.nb_machine.specs.CommandRecords.{reply_records}
-use Rattle.nb_engine.proofs.Puts.{Puts-outs}
+use Rattle.nb_runner.proofs.Puts.{Puts-outs}
 use Rattle.nb_engine.proofs.client.Client.pass_it_by.Goals as goal
 
 pub returns-clause-puts : goal.returns-clause-puts

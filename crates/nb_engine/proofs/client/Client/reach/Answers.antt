@@ -1,7 +1,7 @@
 use Rattle.std.proofs.Common.{[], sym, ◌∙◌, ap, subst}
-use Rattle.nb_engine.specs.declared.inquiry.Query.{Query as Asked}
+use Rattle.nb_runner.specs.declared.query.Query.{Query as Asked}
 use Rattle.nb_engine.specs.declared.stage.Stage.TheVariants as stage
-use Rattle.nb_engine.specs.Inquiries.{query_of}
+use Rattle.nb_runner.specs.Intents.{query_of}
 use Rattle.nb_engine.specs.Inquiring.{HasIntended}
 use Rattle.nb_engine.specs.Seen.{Seen, seen}
 use Rattle.nb_engine.specs.Turns.{AnswersTurn, IsNearer}

@@ -7,7 +7,7 @@ use Rattle.nb_tftp.specs.Received.{received}
 use Rattle.nb_tftp.specs.History.{came}
 use Rattle.nb_engine.specs.declared.fetch.Fetch.{Fetch}
 use Rattle.nb_engine.specs.declared.stage.Stage.TheVariants as stage
-use Rattle.nb_engine.specs.World.{with_net}
+use Rattle.nb_runner.specs.World.{with_net}
 use Rattle.nb_engine.specs.Opens.{heard_from}
 use Rattle.nb_machine.specs.Running.{anew}
 use Rattle.nb_engine.specs.Heeding.{Heeds, Comes}

@@ -1,7 +1,7 @@
 use Rattle.std.proofs.Common.{refl, subst}
 use Rattle.nb_defs.specs.Commands.{CommandOutcome, refused}
 use Rattle.nb_machine.specs.Effects.{shown_as}
-use Rattle.nb_engine.specs.Steps.{Does}
+use Rattle.nb_runner.specs.Steps.{Does}
 use Rattle.nb_engine.proofs.Moves.{settled_acts, settled_nearer}
 use Rattle.nb_engine.proofs.client.Client.refuse.Goals as goal
 

@@ -6,8 +6,9 @@ use Rattle.nb_opens.specs.Companies.{company_with}
 use Rattle.nb_engine.specs.declared.inquiry.Inquiry.{Inquiry}
 use Rattle.nb_engine.specs.declared.speaker.Speaker.{Speaker}
 use Rattle.nb_engine.specs.declared.stage.Stage.TheVariants as stage
-use Rattle.nb_engine.specs.CommandWords.{onward_of}
-use Rattle.nb_engine.specs.Inquiries.{query_of, talker_of, opening_acts, TalksAs}
+use Rattle.nb_runner.specs.CommandWords.{onward_of}
+use Rattle.nb_runner.specs.Intents.{query_of}
+use Rattle.nb_engine.specs.Inquiries.{talker_of, opening_acts, TalksAs}
 use Rattle.nb_engine.specs.Lones.{talk_for, with_lone}
 use Rattle.nb_machine.specs.CommandRecords.{no_route}
 use Rattle.nb_machine.specs.Sendings.{has_route}

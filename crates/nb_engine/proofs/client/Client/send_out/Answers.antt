@@ -2,7 +2,8 @@ use Rattle.std.proofs.Common.{◌≡◌, true, false, [], sym, ◌∙◌, ap, su
 use Rattle.nb_engine.specs.declared.inquiry.Inquiry.{Inquiry}
 use Rattle.nb_engine.specs.declared.speaker.Speaker.{Speaker}
 use Rattle.nb_engine.specs.declared.stage.Stage.TheVariants as stage
-use Rattle.nb_engine.specs.Inquiries.{query_of, talker_of}
+use Rattle.nb_runner.specs.Intents.{query_of}
+use Rattle.nb_engine.specs.Inquiries.{talker_of}
 use Rattle.nb_engine.specs.Lones.{talk_for, with_lone}
 use Rattle.nb_machine.specs.Sendings.{has_route}
 use Rattle.nb_machine.specs.Running.{entered}

@@ -4,7 +4,7 @@ use Rattle.nb_record.specs.Logged.{Puts}
 use Rattle.nb_record.specs.View.{start_of}
 use Rattle.nb_machine.specs.FirstText.{first_reading, text_refusal}
 use Rattle.nb_engine.specs.Seen.{Seen}
-use Rattle.nb_engine.proofs.Puts.{Puts-outs}
+use Rattle.nb_runner.proofs.Puts.{Puts-outs}
 use Rattle.nb_engine.proofs.Growth.{start_grows, refusal_grows, refusal_fails}
 use Rattle.nb_engine.proofs.client.Client.start.Goals as goal
 

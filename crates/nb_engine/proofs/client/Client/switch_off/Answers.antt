@@ -6,8 +6,8 @@ use Rattle.nb_engine.specs.declared.fetch.Fetch.{Fetch}
 use Rattle.nb_engine.specs.declared.stage.Stage.TheVariants as stage
 use Rattle.nb_engine.specs.Seen.{Seen, seen}
 use Rattle.nb_engine.specs.Turns.{Grows, IsOverWith, shut_records}
-use Rattle.nb_engine.specs.declared.status.Status.TheVariants as status
-use Rattle.nb_engine.proofs.Puts.{Puts-outs}
+use Rattle.nb_runner.specs.declared.status.Status.TheVariants as status
+use Rattle.nb_runner.proofs.Puts.{Puts-outs}
 use Rattle.nb_engine.proofs.Growth.{off_grows}
 use Rattle.nb_engine.proofs.client.Client.switch_off.Goals as goal
 

@@ -4,10 +4,10 @@ use Rattle.nb_defs.specs.Records as defs
 use Rattle.nb_record.specs.Logged.{Puts}
 use Rattle.nb_engine.specs.declared.inquiry.Inquiry.{Inquiry}
 use Rattle.nb_engine.specs.declared.stage.Stage.TheVariants as stage
-use Rattle.nb_engine.specs.declared.status.Status.TheVariants as status
+use Rattle.nb_runner.specs.declared.status.Status.TheVariants as status
 use Rattle.nb_engine.specs.Seen.{Seen, seen}
 use Rattle.nb_engine.specs.Turns.{Grows, IsOverWith, shut_alone}
-use Rattle.nb_engine.proofs.Puts.{Puts-outs}
+use Rattle.nb_runner.proofs.Puts.{Puts-outs}
 use Rattle.nb_engine.proofs.ReplyGrowth.{off_asking_grows}
 use Rattle.nb_engine.proofs.client.Client.switch_off_asking.Goals as goal
 

@@ -14,7 +14,7 @@ use Rattle.nb_engine.specs.Replying.{RepliesAs, ComesFor}
 use Rattle.nb_machine.specs.Running.{anew}
 use Rattle.nb_engine.specs.Seen.{Seen, seen, IsSound}
 use Rattle.nb_engine.specs.Talks.{message_for, message_in}
-use Rattle.nb_engine.specs.World.{with_net}
+use Rattle.nb_runner.specs.World.{with_net}
 use Rattle.nb_stack.proofs.ShortLaws.{IsShort, takes_short}
 use Rattle.nb_engine.proofs.Bringings.{no_tcp, brings_taken, brings_short}
 use Rattle.nb_engine.proofs.ReplyGrowth.{reply_grows, pass_it_by_grows, replies_acts}

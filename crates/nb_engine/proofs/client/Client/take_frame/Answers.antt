@@ -4,7 +4,7 @@ use Rattle.nb_record.specs.Logged.{Puts}
 use Rattle.nb_stack.specs.Takes.{Takes, outcome}
 use Rattle.nb_engine.specs.Seen.{Seen}
 use Rattle.nb_machine.specs.CommandRecords.{reply_records}
-use Rattle.nb_engine.proofs.Puts.{Puts-outs}
+use Rattle.nb_runner.proofs.Puts.{Puts-outs}
 use Rattle.nb_engine.proofs.client.Client.take_frame.Goals as goal
 
 pub returns-clause-takes : goal.returns-clause-takes

@@ -2,7 +2,7 @@ use Rattle.std.proofs.Common.{◌≡◌, ◌+◌, [], ◌∷◌, ◌∙◌, ap, 
 use Rattle.nb_defs.specs.Records as defs
 use Rattle.nb_tftp.specs.History.{ticked}
 use Rattle.nb_engine.specs.declared.stage.Stage.TheVariants as stage
-use Rattle.nb_engine.specs.World.{world_later}
+use Rattle.nb_runner.specs.World.{world_later}
 use Rattle.nb_machine.specs.Running.{anew}
 use Rattle.nb_engine.specs.Heeding.{Heeds, Comes}
 use Rattle.nb_engine.specs.Seen.{Seen, seen}

@@ -5,7 +5,7 @@ use Rattle.nb_engine.specs.Replying.{RepliesAs, ComesFor}
 use Rattle.nb_machine.specs.Running.{anew}
 use Rattle.nb_engine.specs.Seen.{Seen, seen}
 use Rattle.nb_engine.specs.Talks.{time_in}
-use Rattle.nb_engine.specs.World.{world_later}
+use Rattle.nb_runner.specs.World.{world_later}
 use Rattle.nb_engine.proofs.ReplyGrowth.{time_grows, replies_acts}
 use Rattle.nb_engine.proofs.Sides.{keep_asking}
 use Rattle.nb_engine.proofs.client.Client.tick_asking.Goals as goal

@@ -3,7 +3,7 @@ use Rattle.nb_defs.specs.Causes.{ok}
 use Rattle.nb_defs.specs.Records.{out_texts, step, result}
 use Rattle.nb_record.specs.Logged.{Puts}
 use Rattle.nb_engine.specs.Seen.{Seen}
-use Rattle.nb_engine.proofs.Puts.{Puts-outs}
+use Rattle.nb_runner.proofs.Puts.{Puts-outs}
 use Rattle.nb_engine.proofs.Growth.{sleep_on_grows, wake_grows}
 use Rattle.nb_engine.proofs.client.Client.tick_asleep.Goals as goal
 

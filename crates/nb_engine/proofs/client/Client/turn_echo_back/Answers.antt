@@ -11,14 +11,15 @@ use Rattle.nb_opens.specs.Companies.{Company, company_with, HoldsOnly}
 use Rattle.nb_opens.specs.Pairs.{IsEmpty}
 use Rattle.nb_engine.specs.declared.inquiry.Inquiry.{Inquiry}
 use Rattle.nb_engine.specs.declared.stage.Stage.TheVariants as stage
-use Rattle.nb_engine.specs.Inquiries.{opening_acts, query_of}
+use Rattle.nb_engine.specs.Inquiries.{opening_acts}
+use Rattle.nb_runner.specs.Intents.{query_of}
 use Rattle.nb_engine.specs.Lones.{talk_for}
 use Rattle.nb_machine.specs.CommandRecords.{no_route}
 use Rattle.nb_engine.specs.Spelling.{TellsMore}
 use Rattle.nb_engine.specs.Reaching.{PutsEcho, PutsEchoing}
 use Rattle.nb_machine.specs.Running.{with_result}
 use Rattle.nb_engine.specs.Seen.{Seen, seen}
-use Rattle.nb_engine.specs.World.{with_ended_open}
+use Rattle.nb_runner.specs.World.{with_ended_open}
 use Rattle.nb_engine.proofs.Standing.{has_none}
 use Rattle.nb_engine.proofs.Talkings.{talks_open}
 use Rattle.nb_engine.proofs.Tellers.{tells_by}

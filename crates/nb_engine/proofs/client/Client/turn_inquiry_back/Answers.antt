@@ -12,14 +12,15 @@ use Rattle.nb_opens.specs.Graphs.{traced}
 use Rattle.nb_opens.specs.Pairs.{IsEmpty}
 use Rattle.nb_engine.specs.declared.inquiry.Inquiry.{Inquiry}
 use Rattle.nb_engine.specs.declared.stage.Stage.TheVariants as stage
-use Rattle.nb_engine.specs.Inquiries.{kind_of_talk, opening_acts, query_of, made_beside, beside_freed_events}
+use Rattle.nb_engine.specs.Inquiries.{kind_of_talk, opening_acts, made_beside, beside_freed_events}
+use Rattle.nb_runner.specs.Intents.{query_of}
 use Rattle.nb_engine.specs.Inquiring.{PutsAsking, PutsInquiry}
 use Rattle.nb_engine.specs.Lones.{talk_for}
 use Rattle.nb_machine.specs.CommandRecords.{no_route}
 use Rattle.nb_engine.specs.Spelling.{TellsMore}
 use Rattle.nb_machine.specs.Running.{further}
 use Rattle.nb_engine.specs.Seen.{Seen, seen}
-use Rattle.nb_engine.specs.World.{with_ended_open}
+use Rattle.nb_runner.specs.World.{with_ended_open}
 use Rattle.nb_engine.proofs.Besides.{left_here, left_made}
 use Rattle.nb_engine.proofs.Standing.{has_none}
 use Rattle.nb_engine.proofs.Talkings.{talks_open}

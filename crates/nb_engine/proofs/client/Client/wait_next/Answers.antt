@@ -5,7 +5,8 @@ use Rattle.nb_stack.specs.Client.{Client}
 use Rattle.nb_engine.specs.declared.inquiry.Inquiry.{Inquiry}
 use Rattle.nb_engine.specs.declared.speaker.Speaker.{Speaker}
 use Rattle.nb_engine.specs.declared.stage.Stage.TheVariants as stage
-use Rattle.nb_engine.specs.Inquiries.{query_of, talker_of, IsBackedBy, TalksAs}
+use Rattle.nb_runner.specs.Intents.{query_of}
+use Rattle.nb_engine.specs.Inquiries.{talker_of, IsBackedBy, TalksAs}
 use Rattle.nb_engine.specs.Inquiring.{IsNextInquiry}
 use Rattle.nb_engine.specs.Reaching.{PutsEchoing}
 use Rattle.nb_engine.specs.Lones.{talk_for, with_lone}

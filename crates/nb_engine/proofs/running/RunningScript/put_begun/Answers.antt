@@ -1,6 +1,0 @@
-use Rattle.std.proofs.Common.{arith}
-use Rattle.nb_engine.proofs.Joins.{words_length}
-use Rattle.nb_engine.proofs.running.RunningScript.put_begun.Goals as goal
-
-pub put-requires : goal.put-requires
-put-requires c = (omega arith, omega (arith, words_length c.args.words.now))

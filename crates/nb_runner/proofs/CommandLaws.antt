@@ -1,0 +1,434 @@
+-- What commands come to, by their words before and after expansion, and what carrying them out does.
+use Rattle.std.proofs.Common.{◌≡◌, ℕ, ◌<◌, ◌==◌, ◌&&◌, Bool, true, false, cond, List, Option, Result, Ok, Err, arith, refl, sym, ◌∙◌, ap, subst, eq-eqb}
+use Rattle.std.specs.Result.{result_map_both}
+use Rattle.std.proofs.lemmas.Bool.{eqb-false}
+use Rattle.std.specs.Str.{bytes_eq}
+use Rattle.nb_terms.specs.declared.cause.Cause.{Cause}
+use Rattle.nb_defs.specs.Causes.{ok}
+use Rattle.nb_defs.specs.Commands.{CommandOutcome, refused}
+use Rattle.nb_settings.specs.Tables.{TableLists}
+use Rattle.nb_expand.specs.declared.error.ExpandError.{ExpandError}
+use Rattle.nb_command.specs.declared.command_plan.CommandPlan.{CommandPlan}
+use Rattle.nb_command.specs.declared.command_plan.CommandPlan.TheVariants as plan
+use Rattle.nb_command.specs.declared.error.ApplyError.{ApplyError}
+use Rattle.nb_command.specs.declared.error.ApplyError.TheVariants.{False}
+use Rattle.nb_command.specs.declared.error.PlanError.{PlanError}
+use Rattle.nb_command.specs.declared.outcome.Outcome.{Outcome}
+use Rattle.nb_command.specs.declared.outcome.Outcome.TheVariants as outcome
+use Rattle.nb_command.specs.declared.state.State.{State}
+use Rattle.nb_command.specs.Failures.{apply_cause}
+use Rattle.nb_command.specs.Applying.{applied, truth, in_state, with_table, with_up, text_outcome}
+use Rattle.nb_command.specs.Planning.{planned}
+use Rattle.nb_command.specs.Settings.{Change}
+use Rattle.nb_command.specs.Isset.{is_word_set}
+use Rattle.nb_command.specs.Set.{set_table}
+use Rattle.nb_command.specs.Clear.{cleared_table}
+use Rattle.nb_command.specs.Show.{setting_shown}
+use Rattle.nb_command.specs.Inc.{increased_table}
+use Rattle.nb_command.specs.Device.{device_change}
+use Rattle.nb_stack.specs.declared.address.Addr.{Addr}
+use Rattle.nb_stack.specs.Client.{Client}
+use Rattle.nb_runner.specs.declared.world.World.{World}
+use Rattle.nb_runner.specs.World.{IsLinked, state_of, world_with}
+use Rattle.nb_machine.specs.Queries.{Query, for_lease}
+pub use Rattle.nb_machine.proofs.Eithers.{fetch_either}
+use Rattle.nb_machine.proofs.Eithers.{full_either, pinged_either, looked_up_either}
+use Rattle.nb_machine.specs.Effects.{fetch, Effect, says, asks, goes, sleeps, shuts_device, inquires, unless_full, sleeping_for, device_effect, plan_effect, plan_table, plan_up, set_up, planned_effect, planned_table, planned_up, words_effect, words_table, words_up, expansion, expanded_effect, expanded_table, expanded_up, expand_cause, effect, table_after, up_after, shown_words, shown_by, shown_as, truth_outcome, text_told, change_outcome, changed}
+use Rattle.nb_runner.specs.CommandWords.{IsLocal, IsLocalOutcome, outcome_effect}
+
+-- expanded words say the effect
+pub effect_of_words : (opens : ℕ) (table : TableLists) (written ws : List (List ℕ)) → expansion table written ≡ Ok ws → effect opens table written ≡ words_effect opens table ws
+unfolding effect
+effect_of_words opens table written ws e = ap (expanded_effect opens table) e
+
+pub table_of_words : (table : TableLists) (written ws : List (List ℕ)) → expansion table written ≡ Ok ws → table_after table written ≡ words_table table ws
+unfolding table_after
+table_of_words table written ws e = ap (expanded_table table) e
+
+pub up_of_words : (table : TableLists) (up : Bool) (written ws : List (List ℕ)) → expansion table written ≡ Ok ws → up_after table up written ≡ words_up up ws
+unfolding up_after
+up_of_words table up written ws e = ap (expanded_up up) e
+
+pub shown_of_words : (table : TableLists) (written ws : List (List ℕ)) → expansion table written ≡ Ok ws → shown_words table written ≡ shown_as true ws
+unfolding shown_words
+shown_of_words table written ws e = ap (shown_by written) e
+
+-- words that aren't expanded
+pub effect_of_refused : (opens : ℕ) (table : TableLists) (written : List (List ℕ)) (why : ExpandError) → expansion table written ≡ Err why → effect opens table written ≡ says (refused (expand_cause why))
+unfolding effect
+effect_of_refused opens table written why e = ap (expanded_effect opens table) e
+
+pub table_of_refused : (table : TableLists) (written : List (List ℕ)) (why : ExpandError) → expansion table written ≡ Err why → table_after table written ≡ table
+unfolding table_after
+table_of_refused table written why e = ap (expanded_table table) e
+
+pub up_of_refused : (table : TableLists) (up : Bool) (written : List (List ℕ)) (why : ExpandError) → expansion table written ≡ Err why → up_after table up written ≡ up
+unfolding up_after
+up_of_refused table up written why e = ap (expanded_up up) e
+
+pub shown_of_refused : (table : TableLists) (written : List (List ℕ)) (why : ExpandError) → expansion table written ≡ Err why → shown_words table written ≡ shown_as false written
+unfolding shown_words
+shown_of_refused table written why e = ap (shown_by written) e
+
+-- a planned command says the effect
+pub effect_of_plan : (opens : ℕ) (table : TableLists) (ws : List (List ℕ)) (q : Result CommandPlan PlanError) → planned ws ≡ q → words_effect opens table ws ≡ planned_effect opens table q
+unfolding words_effect
+effect_of_plan opens table ws q e = ap (planned_effect opens table) e
+
+pub table_of_plan : (table : TableLists) (ws : List (List ℕ)) (q : Result CommandPlan PlanError) → planned ws ≡ q → words_table table ws ≡ planned_table table q
+unfolding words_table
+table_of_plan table ws q e = ap (planned_table table) e
+
+pub up_of_plan : (up : Bool) (ws : List (List ℕ)) (q : Result CommandPlan PlanError) → planned ws ≡ q → words_up up ws ≡ planned_up up q
+unfolding words_up
+up_of_plan up ws q e = ap (planned_up up) e
+
+-- THE SETTINGS STAY, BUT FOR A COMMAND THAT IS OVER AT ONCE
+
+abbrev pub KeepsTable : Effect → TableLists → TableLists → Type 0
+KeepsTable (says o) table other = Unit {0}
+KeepsTable (asks wanted) table other = other ≡ table
+KeepsTable (goes name) table other = other ≡ table
+KeepsTable (sleeps seconds) table other = other ≡ table
+KeepsTable shuts_device table other = Unit {0}
+KeepsTable (inquires q) table other = Unit {0}
+
+keeps_same : (e : Effect) (table : TableLists) → KeepsTable e table table
+keeps_same (says o) table = tt
+keeps_same (asks wanted) table = refl
+keeps_same (goes name) table = refl
+keeps_same (sleeps seconds) table = refl
+keeps_same shuts_device table = tt
+keeps_same (inquires q) table = tt
+
+keeps_plan : (opens : ℕ) (table : TableLists) (p : CommandPlan) → KeepsTable (plan_effect opens table p) table (plan_table p table)
+keeps_plan opens table (plan.Echo newline text) = tt
+keeps_plan opens table (plan.Goto label) = refl
+keeps_plan opens table (plan.Exit n) = tt
+keeps_plan opens table (plan.Isset word) = tt
+keeps_plan opens table (plan.Iseq a b) = tt
+keeps_plan opens table (plan.Set name value) = tt
+keeps_plan opens table (plan.Clear name) = tt
+keeps_plan opens table (plan.Show name) = tt
+keeps_plan opens table (plan.Inc name by) = tt
+keeps_plan opens table (plan.Fetch uri) = keeps_same (plan_effect opens table (plan.Fetch uri)) table
+keeps_plan opens table (plan.Exec uri) = keeps_same (plan_effect opens table (plan.Exec uri)) table
+keeps_plan opens table (plan.Ifopen device) = keeps_same (plan_effect opens table (plan.Ifopen device)) table
+keeps_plan opens table (plan.Ifclose device) = keeps_same (plan_effect opens table (plan.Ifclose device)) table
+keeps_plan opens table (plan.Dhcp device) = keeps_same (plan_effect opens table (plan.Dhcp device)) table
+keeps_plan opens table (plan.Ping text) = keeps_same (plan_effect opens table (plan.Ping text)) table
+keeps_plan opens table (plan.Nslookup setting text) =
+    looked_up_either (λ e. KeepsTable e table (plan_table (plan.Nslookup setting text) table)) (λ o. tt) (λ q. tt) opens table setting text
+keeps_plan opens table (plan.Sleep seconds) = keeps_same (plan_effect opens table (plan.Sleep seconds)) table
+
+keeps_planned : (opens : ℕ) (table : TableLists) (q : Result CommandPlan PlanError) → KeepsTable (planned_effect opens table q) table (planned_table table q)
+keeps_planned opens table (Ok p) = keeps_plan opens table p
+keeps_planned opens table (Err why) = tt
+
+pub keeps_words : (opens : ℕ) (table : TableLists) (ws : List (List ℕ)) → KeepsTable (words_effect opens table ws) table (words_table table ws)
+unfolding words_effect words_table
+keeps_words opens table ws = keeps_planned opens table (planned ws)
+
+keeps_expanded : (opens : ℕ) (table : TableLists) (r : Result (List (List ℕ)) ExpandError) → KeepsTable (expanded_effect opens table r) table (expanded_table table r)
+keeps_expanded opens table (Ok ws) = keeps_words opens table ws
+keeps_expanded opens table (Err why) = tt
+
+pub keeps_table : (opens : ℕ) (table : TableLists) (ws : List (List ℕ)) → KeepsTable (effect opens table ws) table (table_after table ws)
+unfolding effect table_after
+keeps_table opens table ws = keeps_expanded opens table (expansion table ws)
+
+-- THE DEVICE STAYS UP OR DOWN, BUT FOR A COMMAND THAT IS OVER AT ONCE
+
+abbrev pub KeepsUp : Effect → Bool → Bool → Type 0
+KeepsUp (says o) up other = Unit {0}
+KeepsUp (asks wanted) up other = other ≡ up
+KeepsUp (goes name) up other = other ≡ up
+KeepsUp (sleeps seconds) up other = other ≡ up
+KeepsUp shuts_device up other = Unit {0}
+KeepsUp (inquires q) up other = Unit {0}
+
+keeps_same_up : (e : Effect) (up : Bool) → KeepsUp e up up
+keeps_same_up (says o) up = tt
+keeps_same_up (asks wanted) up = refl
+keeps_same_up (goes name) up = refl
+keeps_same_up (sleeps seconds) up = refl
+keeps_same_up shuts_device up = tt
+keeps_same_up (inquires q) up = tt
+
+device_keeps : (e : Effect) (r : Result Bool ApplyError) (up : Bool) → ((other : Bool) → KeepsUp e up other) → KeepsUp (device_effect e r) up (set_up up r)
+device_keeps e (Ok other) up k = k other
+device_keeps e (Err why) up k = tt
+
+keeps_plan_up : (opens : ℕ) (table : TableLists) (up : Bool) (p : CommandPlan) → KeepsUp (plan_effect opens table p) up (plan_up p up)
+keeps_plan_up opens table up (plan.Echo newline text) = keeps_same_up (plan_effect opens table (plan.Echo newline text)) up
+keeps_plan_up opens table up (plan.Goto label) = keeps_same_up (plan_effect opens table (plan.Goto label)) up
+keeps_plan_up opens table up (plan.Exit n) = keeps_same_up (plan_effect opens table (plan.Exit n)) up
+keeps_plan_up opens table up (plan.Isset word) = keeps_same_up (plan_effect opens table (plan.Isset word)) up
+keeps_plan_up opens table up (plan.Iseq a b) = keeps_same_up (plan_effect opens table (plan.Iseq a b)) up
+keeps_plan_up opens table up (plan.Set name value) = keeps_same_up (plan_effect opens table (plan.Set name value)) up
+keeps_plan_up opens table up (plan.Clear name) = keeps_same_up (plan_effect opens table (plan.Clear name)) up
+keeps_plan_up opens table up (plan.Show name) = keeps_same_up (plan_effect opens table (plan.Show name)) up
+keeps_plan_up opens table up (plan.Inc name by) = keeps_same_up (plan_effect opens table (plan.Inc name by)) up
+keeps_plan_up opens table up (plan.Fetch uri) = keeps_same_up (plan_effect opens table (plan.Fetch uri)) up
+keeps_plan_up opens table up (plan.Exec uri) = keeps_same_up (plan_effect opens table (plan.Exec uri)) up
+keeps_plan_up opens table up (plan.Sleep seconds) = keeps_same_up (plan_effect opens table (plan.Sleep seconds)) up
+keeps_plan_up opens table up (plan.Dhcp device) =
+    device_keeps (unless_full opens (inquires for_lease)) (device_change device true) up (λ other. full_either (λ e. KeepsUp e up other) (λ o. tt) opens (inquires for_lease) tt)
+keeps_plan_up opens table up (plan.Ping text) = keeps_same_up (plan_effect opens table (plan.Ping text)) up
+keeps_plan_up opens table up (plan.Nslookup setting text) = keeps_same_up (plan_effect opens table (plan.Nslookup setting text)) up
+keeps_plan_up opens table up (plan.Ifopen device) = device_keeps (says (refused ok)) (device_change device true) up (λ other. tt)
+keeps_plan_up opens table up (plan.Ifclose device) = device_keeps shuts_device (device_change device false) up (λ other. tt)
+
+keeps_planned_up : (opens : ℕ) (table : TableLists) (up : Bool) (q : Result CommandPlan PlanError) → KeepsUp (planned_effect opens table q) up (planned_up up q)
+keeps_planned_up opens table up (Ok p) = keeps_plan_up opens table up p
+keeps_planned_up opens table up (Err why) = tt
+
+pub keeps_words_up : (opens : ℕ) (table : TableLists) (up : Bool) (ws : List (List ℕ)) → KeepsUp (words_effect opens table ws) up (words_up up ws)
+unfolding words_effect words_up
+keeps_words_up opens table up ws = keeps_planned_up opens table up (planned ws)
+
+keeps_expanded_up : (opens : ℕ) (table : TableLists) (up : Bool) (r : Result (List (List ℕ)) ExpandError) → KeepsUp (expanded_effect opens table r) up (expanded_up up r)
+keeps_expanded_up opens table up (Ok ws) = keeps_words_up opens table up ws
+keeps_expanded_up opens table up (Err why) = tt
+
+pub keeps_up : (opens : ℕ) (table : TableLists) (up : Bool) (ws : List (List ℕ)) → KeepsUp (effect opens table ws) up (up_after table up ws)
+unfolding effect up_after
+keeps_up opens table up ws = keeps_expanded_up opens table up (expansion table ws)
+
+-- so does the world
+pub same_world : (w : World) (e : Effect) (ws : List (List ℕ)) → effect w.opens w.state.table ws ≡ e → KeepsTable e w.state.table (table_after w.state.table ws)
+same_world w e ws is = subst (λ x. KeepsTable x w.state.table (table_after w.state.table ws)) is (keeps_table w.opens w.state.table ws)
+
+pub same_up : (w : World) (e : Effect) (ws : List (List ℕ)) → effect w.opens w.state.table ws ≡ e → KeepsUp e w.state.up (up_after w.state.table w.state.up ws)
+same_up w e ws is = subst (λ x. KeepsUp x w.state.up (up_after w.state.table w.state.up ws)) is (keeps_up w.opens w.state.table w.state.up ws)
+
+-- a link that has its address and its state already
+link_stays : (net : Client) (address : Option Addr) (up : Bool) → net.address ≡ address → net.up ≡ up → ◌≡◌ {A = Client} (record net { address = address; up = up }) net
+link_stays net address up a u =
+    subst (λ x. ◌≡◌ {A = Client} (record net { address = x; up = up }) net) a (subst (λ y. ◌≡◌ {A = Client} (record net { address = net.address; up = y }) net) u refl)
+
+pub world_stays : (w : World) (table : TableLists) (up : Bool) → IsLinked w → table ≡ w.state.table → up ≡ w.state.up → world_with w table up ≡ w
+world_stays w table up linked e u =
+    rw (e, u) (ap (λ (net : Client). record { w = w.w; machine = w.machine; time = w.time; net = net; opens = w.opens; state = w.state }) (link_stays w.net _ w.state.up linked.address linked.up))
+
+-- WHAT A FILE'S COMMAND AND A SLEEP COME TO
+
+-- a fact of each effect that a command may have
+pub record Covers (P : Effect → Type 0) : Type 0 where
+  pub of_says : (o : CommandOutcome) → P (says o)
+  pub of_goes : (name : List ℕ) → P (goes name)
+  pub of_sleep : (seconds : ℕ) → P (sleeping_for seconds)
+  pub of_shut : P shuts_device
+  pub of_inquiry : (q : Query) → P (inquires q)
+  pub of_fetch : (opens : ℕ) (boots : Bool) (table : TableLists) (uri : List ℕ) → P (fetch opens boots table uri)
+
+device_covered : (P : Effect → Type 0) → Covers P → (e : Effect) → P e → (r : Result Bool ApplyError) → P (device_effect e r)
+device_covered P c e is (Ok up) = is
+device_covered P c e is (Err why) = c.of_says _
+
+plan_covered : (P : Effect → Type 0) → Covers P → (opens : ℕ) (table : TableLists) (p : CommandPlan) → P (plan_effect opens table p)
+plan_covered P c opens table (plan.Echo newline text) = c.of_says _
+plan_covered P c opens table (plan.Goto label) = c.of_goes label
+plan_covered P c opens table (plan.Exit n) = c.of_says _
+plan_covered P c opens table (plan.Isset word) = c.of_says _
+plan_covered P c opens table (plan.Iseq a b) = c.of_says _
+plan_covered P c opens table (plan.Set name value) = c.of_says _
+plan_covered P c opens table (plan.Clear name) = c.of_says _
+plan_covered P c opens table (plan.Show name) = c.of_says _
+plan_covered P c opens table (plan.Inc name by) = c.of_says _
+plan_covered P c opens table (plan.Fetch uri) = c.of_fetch opens false table uri
+plan_covered P c opens table (plan.Exec uri) = c.of_fetch opens true table uri
+plan_covered P c opens table (plan.Ifopen device) = device_covered P c (says (refused ok)) (c.of_says _) (device_change device true)
+plan_covered P c opens table (plan.Ifclose device) = device_covered P c shuts_device c.of_shut (device_change device false)
+plan_covered P c opens table (plan.Dhcp device) =
+    device_covered P c (unless_full opens (inquires for_lease)) (full_either P c.of_says opens (inquires for_lease) (c.of_inquiry for_lease)) (device_change device true)
+plan_covered P c opens table (plan.Ping text) = pinged_either P c.of_says c.of_inquiry opens table text
+plan_covered P c opens table (plan.Nslookup setting text) = looked_up_either P c.of_says c.of_inquiry opens table setting text
+plan_covered P c opens table (plan.Sleep seconds) = c.of_sleep seconds
+
+planned_covered : (P : Effect → Type 0) → Covers P → (opens : ℕ) (table : TableLists) (q : Result CommandPlan PlanError) → P (planned_effect opens table q)
+planned_covered P c opens table (Ok p) = plan_covered P c opens table p
+planned_covered P c opens table (Err why) = c.of_says _
+
+words_covered : (P : Effect → Type 0) → Covers P → (opens : ℕ) (table : TableLists) (ws : List (List ℕ)) → P (words_effect opens table ws)
+unfolding words_effect
+words_covered P c opens table ws = planned_covered P c opens table (planned ws)
+
+expanded_covered : (P : Effect → Type 0) → Covers P → (opens : ℕ) (table : TableLists) (r : Result (List (List ℕ)) ExpandError) → P (expanded_effect opens table r)
+expanded_covered P c opens table (Ok ws) = words_covered P c opens table ws
+expanded_covered P c opens table (Err why) = c.of_says _
+
+pub effect_covered : (P : Effect → Type 0) → Covers P → (opens : ℕ) (table : TableLists) (ws : List (List ℕ)) → P (effect opens table ws)
+unfolding effect
+effect_covered P c opens table ws = expanded_covered P c opens table (expansion table ws)
+
+abbrev IsRested : Effect → Type 0
+IsRested (sleeps seconds) = 0 < seconds
+IsRested (says o) = Unit {0}
+IsRested (asks wanted) = Unit {0}
+IsRested (goes name) = Unit {0}
+IsRested shuts_device = Unit {0}
+IsRested (inquires q) = Unit {0}
+
+rested_for : (seconds : ℕ) (b : Bool) → (seconds == 0) ≡ b → IsRested (cond b (says (refused ok)) (sleeps seconds))
+rested_for seconds true is = tt
+rested_for seconds false is = let some : seconds ≡ 0 → ⊥ = eqb-false seconds 0 is in grind arith
+
+all_rested : Covers IsRested
+all_rested = record {
+  of_says = λ o. tt;
+  of_goes = λ name. tt;
+  of_shut = tt;
+  of_inquiry = λ q. tt;
+  of_sleep = λ seconds. rested_for seconds (seconds == 0) refl;
+  of_fetch = λ opens boots table uri. fetch_either IsRested (λ o. tt) (λ wanted. tt) (λ q. tt) opens boots table uri;
+}
+
+-- a command that sleeps does so for some time
+pub sleeps_some : (opens : ℕ) (table : TableLists) (ws : List (List ℕ)) (seconds : ℕ) → effect opens table ws ≡ sleeps seconds → 0 < seconds
+sleeps_some opens table ws seconds is = subst IsRested is (effect_covered IsRested all_rested opens table ws)
+
+-- two causes that are the same are found so
+pub found_same : (x y : Cause) → x ≡ y → ((x.code == y.code) && ((x.a == y.a) && (x.b == y.b))) ≡ true
+found_same x y e = rw (e, eq-eqb y.code y.code refl, eq-eqb y.a y.a refl, eq-eqb y.b y.b refl) refl
+
+-- WHAT CARRYING A COMMAND OUT DOES
+
+pub record IsCarriedOut (p : CommandPlan) (o : Outcome) (s s' : State) : Type 0 where
+  pub comes_to : (opens : ℕ) → plan_effect opens s.table p ≡ outcome_effect o
+  pub state_is : s' ≡ state_of (plan_table p s.table) s.images (plan_up p s.up)
+  pub is_local : IsLocalOutcome o
+
+-- an answer with an outcome and a state
+pub same_outcome : (o o' : Outcome) (s s' : State) → ◌≡◌ {A = Result (Outcome × State) Cause} (Ok (o, s)) (Ok (o', s')) → (o ≡ o') × (s ≡ s')
+same_outcome o o' s s' e =
+    let same : (o, s) ≡ (o', s') = cc in
+    (ap (λ (x : Outcome × State). x.0) same, ap (λ (x : Outcome × State). x.1) same)
+
+abbrev pub Answered : Result (Outcome × State) ApplyError → Result (Outcome × State) Cause
+Answered answer = result_map_both (λ after. after) apply_cause answer
+
+-- a command that leaves the state as it was
+keeps_state : (p : CommandPlan) (o0 o : Outcome) (s s' : State) → plan_table p s.table ≡ s.table → plan_up p s.up ≡ s.up → ((opens : ℕ) → plan_effect opens s.table p ≡ outcome_effect o0) → IsLocalOutcome o0 →
+    ◌≡◌ {A = Result (Outcome × State) Cause} (Ok (o0, s)) (Ok (o, s')) → IsCarriedOut p o s s'
+keeps_state p o0 o s s' same still comes here e =
+    let both = same_outcome o0 o s s' e in
+    record {
+      comes_to = λ opens. comes opens ∙ ap outcome_effect both.0;
+      state_is = sym both.1 ∙ (ap (λ t. state_of t s.images s.up) (sym same) ∙ ap (λ u. state_of (plan_table p s.table) s.images u) (sym still));
+      is_local = subst IsLocalOutcome both.0 here;
+    }
+
+-- one that asks whether something is so
+truth_ok : (p : CommandPlan) (b : Bool) (o : Outcome) (s s' : State) → plan_table p s.table ≡ s.table → plan_up p s.up ≡ s.up → ((opens : ℕ) → plan_effect opens s.table p ≡ says (truth_outcome b)) →
+    Answered (in_state s (truth b)) ≡ Ok (o, s') → IsCarriedOut p o s s'
+truth_ok p true o s s' same still comes e = keeps_state p outcome.Done o s s' same still comes tt e
+truth_ok p false o s s' same still comes e = absurd (cc)
+
+-- one that prints a setting
+text_ok : (p : CommandPlan) (r : Result (List ℕ) ApplyError) (o : Outcome) (s s' : State) → plan_table p s.table ≡ s.table → plan_up p s.up ≡ s.up → ((opens : ℕ) → plan_effect opens s.table p ≡ says (text_told r)) →
+    Answered (in_state s (text_outcome r)) ≡ Ok (o, s') → IsCarriedOut p o s s'
+text_ok p (Ok text) o s s' same still comes e = keeps_state p (outcome.Text text) o s s' same still comes tt e
+text_ok p (Err why) o s s' same still comes e = absurd (cc)
+
+-- one that changes the settings
+change_ok : (p : CommandPlan) (r : Change) (o : Outcome) (s s' : State) → plan_table p s.table ≡ changed s.table r → plan_up p s.up ≡ s.up → ((opens : ℕ) → plan_effect opens s.table p ≡ says (change_outcome r)) →
+    Answered (with_table s r) ≡ Ok (o, s') → IsCarriedOut p o s s'
+change_ok p (Ok table) o s s' same still comes e =
+    let both = same_outcome outcome.Done o (state_of table s.images s.up) s' e in
+    record {
+      comes_to = λ opens. comes opens ∙ ap outcome_effect both.0;
+      state_is = sym both.1 ∙ (ap (λ t. state_of t s.images s.up) (sym same) ∙ ap (λ u. state_of (plan_table p s.table) s.images u) (sym still));
+      is_local = subst IsLocalOutcome both.0 tt;
+    }
+change_ok p (Err why) o s s' same still comes e = absurd (cc)
+
+-- one that sets the device up or down
+device_ok : (p : CommandPlan) (wanted : Outcome) (r : Result Bool ApplyError) (o : Outcome) (s s' : State) → plan_table p s.table ≡ s.table → plan_up p s.up ≡ set_up s.up r →
+    ((opens : ℕ) → plan_effect opens s.table p ≡ device_effect (outcome_effect wanted) r) → IsLocalOutcome wanted → Answered (with_up wanted s r) ≡ Ok (o, s') → IsCarriedOut p o s s'
+device_ok p wanted (Ok up) o s s' same still comes here e =
+    let both = same_outcome wanted o (state_of s.table s.images up) s' e in
+    record {
+      comes_to = λ opens. comes opens ∙ ap outcome_effect both.0;
+      state_is = sym both.1 ∙ (ap (λ t. state_of t s.images up) (sym same) ∙ ap (λ u. state_of (plan_table p s.table) s.images u) (sym still));
+      is_local = subst IsLocalOutcome both.0 here;
+    }
+device_ok p wanted (Err why) o s s' same still comes here e = absurd (cc)
+
+pub carried_ok : (p : CommandPlan) (o : Outcome) (s s' : State) → IsLocal p → applied p s ≡ Ok (o, s') → IsCarriedOut p o s s'
+unfolding applied
+carried_ok (plan.Echo newline text) o s s' here e = keeps_state (plan.Echo newline text) _ o s s' refl refl (λ opens. refl) tt e
+carried_ok (plan.Goto label) o s s' here e = keeps_state (plan.Goto label) _ o s s' refl refl (λ opens. refl) tt e
+carried_ok (plan.Exit n) o s s' here e = keeps_state (plan.Exit n) _ o s s' refl refl (λ opens. refl) tt e
+carried_ok (plan.Isset word) o s s' here e = truth_ok (plan.Isset word) (is_word_set word) o s s' refl refl (λ opens. refl) e
+carried_ok (plan.Iseq a b) o s s' here e = truth_ok (plan.Iseq a b) (bytes_eq a b) o s s' refl refl (λ opens. refl) e
+carried_ok (plan.Set name value) o s s' here e = change_ok (plan.Set name value) (set_table name value s.table) o s s' refl refl (λ opens. refl) e
+carried_ok (plan.Clear name) o s s' here e = change_ok (plan.Clear name) (cleared_table name s.table) o s s' refl refl (λ opens. refl) e
+carried_ok (plan.Show name) o s s' here e = text_ok (plan.Show name) (setting_shown name s.table) o s s' refl refl (λ opens. refl) e
+carried_ok (plan.Inc name by) o s s' here e = change_ok (plan.Inc name by) (increased_table name by s.table) o s s' refl refl (λ opens. refl) e
+carried_ok (plan.Ifopen device) o s s' here e = device_ok (plan.Ifopen device) outcome.Done (device_change device true) o s s' refl refl (λ opens. refl) tt e
+carried_ok (plan.Ifclose device) o s s' here e = device_ok (plan.Ifclose device) outcome.Down (device_change device false) o s s' refl refl (λ opens. refl) tt e
+carried_ok (plan.Sleep seconds) o s s' here e = keeps_state (plan.Sleep seconds) _ o s s' refl refl (λ opens. refl) tt e
+carried_ok (plan.Fetch uri) o s s' here e = absurd here
+carried_ok (plan.Exec uri) o s s' here e = absurd here
+carried_ok (plan.Dhcp device) o s s' here e = absurd here
+carried_ok (plan.Ping text) o s s' here e = absurd here
+carried_ok (plan.Nslookup setting text) o s s' here e = absurd here
+
+-- a command that is refused
+pub record IsRefusedSo (p : CommandPlan) (s : State) (cause : Cause) : Type 0 where
+  pub comes_to : (opens : ℕ) → plan_effect opens s.table p ≡ says (refused cause)
+  pub table_stays : plan_table p s.table ≡ s.table
+  pub up_stays : plan_up p s.up ≡ s.up
+
+pub same_cause : (c c' : Cause) → ◌≡◌ {A = Result (Outcome × State) Cause} (Err c) (Err c') → c ≡ c'
+same_cause c c' e = cc
+
+fails_so : (p : CommandPlan) (s : State) (why : ApplyError) (cause : Cause) → plan_table p s.table ≡ s.table → plan_up p s.up ≡ s.up → ((opens : ℕ) → plan_effect opens s.table p ≡ says (refused (apply_cause why))) →
+    ◌≡◌ {A = Result (Outcome × State) Cause} (Err (apply_cause why)) (Err cause) → IsRefusedSo p s cause
+fails_so p s why cause same still comes e = record { comes_to = λ opens. comes opens ∙ ap (λ c. says (refused c)) (same_cause (apply_cause why) cause e); table_stays = same; up_stays = still }
+
+truth_err : (p : CommandPlan) (b : Bool) (s : State) (cause : Cause) → plan_table p s.table ≡ s.table → plan_up p s.up ≡ s.up → ((opens : ℕ) → plan_effect opens s.table p ≡ says (truth_outcome b)) →
+    Answered (in_state s (truth b)) ≡ Err cause → IsRefusedSo p s cause
+truth_err p true s cause same still comes e = absurd (cc)
+truth_err p false s cause same still comes e = fails_so p s False cause same still comes e
+
+text_err : (p : CommandPlan) (r : Result (List ℕ) ApplyError) (s : State) (cause : Cause) → plan_table p s.table ≡ s.table → plan_up p s.up ≡ s.up → ((opens : ℕ) → plan_effect opens s.table p ≡ says (text_told r)) →
+    Answered (in_state s (text_outcome r)) ≡ Err cause → IsRefusedSo p s cause
+text_err p (Ok text) s cause same still comes e = absurd (cc)
+text_err p (Err why) s cause same still comes e = fails_so p s why cause same still comes e
+
+change_err : (p : CommandPlan) (r : Change) (s : State) (cause : Cause) → plan_table p s.table ≡ changed s.table r → plan_up p s.up ≡ s.up → ((opens : ℕ) → plan_effect opens s.table p ≡ says (change_outcome r)) →
+    Answered (with_table s r) ≡ Err cause → IsRefusedSo p s cause
+change_err p (Ok table) s cause same still comes e = absurd (cc)
+change_err p (Err why) s cause same still comes e = fails_so p s why cause same still comes e
+
+device_err : (p : CommandPlan) (wanted : Outcome) (r : Result Bool ApplyError) (e : Effect) (s : State) (cause : Cause) → plan_table p s.table ≡ s.table → plan_up p s.up ≡ set_up s.up r →
+    ((opens : ℕ) → plan_effect opens s.table p ≡ device_effect e r) → Answered (with_up wanted s r) ≡ Err cause → IsRefusedSo p s cause
+device_err p wanted (Ok up) e s cause same still comes is = absurd (cc)
+device_err p wanted (Err why) e s cause same still comes is = fails_so p s why cause same still comes is
+
+never_fails : (p : CommandPlan) (o : Outcome) (s s' : State) (cause : Cause) → ◌≡◌ {A = Result (Outcome × State) Cause} (Ok (o, s')) (Err cause) → IsRefusedSo p s cause
+never_fails p o s s' cause e = absurd (cc)
+
+pub carried_err : (p : CommandPlan) (s : State) (cause : Cause) → IsLocal p → applied p s ≡ Err cause → IsRefusedSo p s cause
+unfolding applied
+carried_err (plan.Echo newline text) s cause here e = never_fails (plan.Echo newline text) _ s s cause e
+carried_err (plan.Goto label) s cause here e = never_fails (plan.Goto label) _ s s cause e
+carried_err (plan.Exit n) s cause here e = never_fails (plan.Exit n) _ s s cause e
+carried_err (plan.Isset word) s cause here e = truth_err (plan.Isset word) (is_word_set word) s cause refl refl (λ opens. refl) e
+carried_err (plan.Iseq a b) s cause here e = truth_err (plan.Iseq a b) (bytes_eq a b) s cause refl refl (λ opens. refl) e
+carried_err (plan.Set name value) s cause here e = change_err (plan.Set name value) (set_table name value s.table) s cause refl refl (λ opens. refl) e
+carried_err (plan.Clear name) s cause here e = change_err (plan.Clear name) (cleared_table name s.table) s cause refl refl (λ opens. refl) e
+carried_err (plan.Show name) s cause here e = text_err (plan.Show name) (setting_shown name s.table) s cause refl refl (λ opens. refl) e
+carried_err (plan.Inc name by) s cause here e = change_err (plan.Inc name by) (increased_table name by s.table) s cause refl refl (λ opens. refl) e
+carried_err (plan.Ifopen device) s cause here e = device_err (plan.Ifopen device) outcome.Done (device_change device true) (says (refused ok)) s cause refl refl (λ opens. refl) e
+carried_err (plan.Ifclose device) s cause here e = device_err (plan.Ifclose device) outcome.Down (device_change device false) shuts_device s cause refl refl (λ opens. refl) e
+carried_err (plan.Sleep seconds) s cause here e = never_fails (plan.Sleep seconds) _ s s cause e
+carried_err (plan.Fetch uri) s cause here e = absurd here
+carried_err (plan.Exec uri) s cause here e = absurd here
+carried_err (plan.Dhcp device) s cause here e = absurd here
+carried_err (plan.Ping text) s cause here e = absurd here
+carried_err (plan.Nslookup setting text) s cause here e = absurd here
+
+-- COMMANDS THAT BEGIN

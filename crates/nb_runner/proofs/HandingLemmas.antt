@@ -1,0 +1,203 @@
+-- The parts of a hand-off are short, and its records come one after another.
+use Rattle.std.proofs.Common.{◌≡◌, ℕ, zero, suc, ◌+◌, ◌*◌, ◌/◌, ◌<◌, ◌≤◌, ◌^◌, ◌==◌, true, false, cond, List, [], ◌∷◌, ◌++◌, length, take, drop, map, Option, Some, None, refl, sym, ◌∙◌, ap, subst, arith, add-one}
+use Rattle.std.specs.Prelude.{slice_get, slice_set, IfSome}
+use Rattle.std.specs.List.{AllByRecursion, flat_map, remove, enumerate_from}
+use Rattle.std.specs.Option.{option_to_list}
+use Rattle.std.proofs.lemmas.Option.{slice_get_within, none-some, same_Some}
+use Rattle.std.proofs.lemmas.List.{drop-append-le, drop_all, length-take}
+use Rattle.nb_defs.specs.Records.{Out}
+use Rattle.nb_image.specs.declared.image.Image.{Image}
+use Rattle.nb_image.specs.Images.{ImageList, put_image, image_place, with_image}
+use Rattle.nb_image.specs.Parts.{PartText, PieceText, parts, kernel_parts, initrd_parts, others_parts, part_pieces, piece_count}
+use Rattle.nb_image.proofs.PartsLemmas.{piece_is, pieces_length}
+use Rattle.nb_runner.specs.declared.handing.Handing.{Handing}
+use Rattle.nb_machine.specs.Conclusions.{part_records, piece_record}
+use Rattle.nb_runner.specs.Handings.{IsShort, AreShort, IsAt}
+
+-- of all elements of both lists, and of an element
+pub all_append : {A : Type 0} (P : A → Type 0) (xs ys : List A) → AllByRecursion P xs → AllByRecursion P ys → AllByRecursion P (xs ++ ys)
+all_append P [] ys p q = q
+all_append P (x ∷ xs) ys p q = (p.0, all_append P xs ys p.1 q)
+
+all_at : {A : Type 0} (P : A → Type 0) (xs : List A) (k : ℕ) (x : A) → AllByRecursion P xs → slice_get xs k ≡ Some x → P x
+all_at P [] k x p h = absurd (none-some x h)
+all_at P (y ∷ ys) zero x p h = subst P (same_Some y x h) p.0
+all_at P (y ∷ ys) (suc k) x p h = all_at P ys k x p.1 h
+
+pub all_set : {A : Type 0} (P : A → Type 0) (xs : List A) (k : ℕ) (x : A) → AllByRecursion P xs → P x → AllByRecursion P (slice_set xs k x)
+all_set P [] k x p q = tt
+all_set P (y ∷ ys) zero x p q = (q, p.1)
+all_set P (y ∷ ys) (suc k) x p q = (p.0, all_set P ys k x p.1 q)
+
+all_remove : {A : Type 0} (P : A → Type 0) (xs : List A) (k : ℕ) → AllByRecursion P xs → AllByRecursion P (remove xs k)
+all_remove P [] zero p = tt
+all_remove P [] (suc k) p = tt
+all_remove P (y ∷ ys) zero p = p.1
+all_remove P (y ∷ ys) (suc k) p = (p.0, all_remove P ys k p.1)
+
+all_option : {A : Type 0} (P : A → Type 0) (xs : List A) (k : ℕ) → AllByRecursion P xs → AllByRecursion P (option_to_list (slice_get xs k))
+all_option P [] k p = tt
+all_option P (y ∷ ys) zero p = (p.0, tt)
+all_option P (y ∷ ys) (suc k) p = all_option P ys k p.1
+
+-- an image more
+put_short : (place : Option ℕ) (image : Image) (images : List Image) → IsShort image → AreShort images → AreShort (put_image place image images)
+put_short None image images q p = all_append IsShort images (image ∷ []) p (q, tt)
+put_short (Some i) image images q p = all_set IsShort images i image p q
+
+pub with_short : (image : Image) (images : List Image) → IsShort image → AreShort images → AreShort (with_image image images)
+with_short image images q p = put_short (image_place image.name images) image images q p
+
+-- a part has at most 268,435,456 bytes
+abbrev IsSmall : PartText → Type 0
+IsSmall p = length p.bytes ≤ 268435456
+
+kernel_small : (images : List Image) → AreShort images → AllByRecursion IsSmall (flat_map kernel_parts images)
+kernel_small [] p = tt
+kernel_small (i ∷ images) p = (p.0.name, (p.0.body, (p.0.args, kernel_small images p.1)))
+
+initrd_small : (n : ℕ) (images : List Image) → AreShort images → AllByRecursion IsSmall (flat_map initrd_parts (enumerate_from n images))
+initrd_small n [] p = tt
+initrd_small n (i ∷ images) p = (p.0.name, (p.0.body, initrd_small (n + 1) images p.1))
+
+parts_small : (kernel : ℕ) (images : List Image) → AreShort images → AllByRecursion IsSmall (parts kernel images)
+parts_small kernel images p =
+    all_append IsSmall (flat_map kernel_parts (option_to_list (slice_get images kernel))) (others_parts (remove images kernel))
+    (kernel_small (option_to_list (slice_get images kernel)) (all_option IsShort images kernel p))
+    (initrd_small 0 (remove images kernel) (all_remove IsShort images kernel p))
+
+pub part_small : (kernel : ℕ) (images : List Image) (k : ℕ) (p : PartText) → AreShort images → slice_get (parts kernel images) k ≡ Some p → length p.bytes ≤ 268435456
+part_small kernel images k p short h = all_at IsSmall (parts kernel images) k p (parts_small kernel images short) h
+
+-- from a place on: what stands there, and the rest
+pub drop_get : {A : Type 0} (xs : List A) (k : ℕ) (x : A) → slice_get xs k ≡ Some x → drop k xs ≡ x ∷ drop (k + 1) xs
+drop_get [] k x h = absurd (none-some x h)
+drop_get (y ∷ ys) zero x h = ap (λ z. z ∷ ys) (same_Some y x h)
+drop_get (y ∷ ys) (suc k) x h = rw add-one (subst (λ j. drop k ys ≡ x ∷ drop j ys) (add-one k) (drop_get ys k x h))
+
+pub drop_none : {A : Type 0} (xs : List A) (k : ℕ) → slice_get xs k ≡ None → drop k xs ≡ []
+drop_none [] zero h = refl
+drop_none [] (suc k) h = refl
+drop_none (y ∷ ys) zero h = absurd (none-some y (sym h))
+drop_none (y ∷ ys) (suc k) h = drop_none ys k h
+
+get_map : {A B : Type 0} (f : A → B) (xs : List A) (k : ℕ) (x : A) → slice_get xs k ≡ Some x → slice_get (map f xs) k ≡ Some (f x)
+get_map f [] k x h = absurd (none-some x h)
+get_map f (y ∷ ys) zero x h = ap (λ z. Some (f z)) (same_Some y x h)
+get_map f (y ∷ ys) (suc k) x h = get_map f ys k x h
+
+-- what is left at a piece of a part: its record, and what is left after it
+left_at : (ps : List PartText) (k j : ℕ) (p : PartText) → slice_get ps k ≡ Some p → j ≤ length (part_records p) →
+    drop j (flat_map part_records (drop k ps)) ≡ drop j (part_records p) ++ flat_map part_records (drop (k + 1) ps)
+left_at ps k j p h within =
+    ap (λ xs. drop j (flat_map part_records xs)) (drop_get ps k p h)
+    ∙ drop-append-le j (part_records p) (flat_map part_records (drop (k + 1) ps)) within
+
+pub next_left : (ps : List PartText) (k j : ℕ) (p : PartText) (piece : PieceText) → slice_get ps k ≡ Some p → slice_get (part_pieces p.bytes) j ≡ Some piece →
+    drop j (flat_map part_records (drop k ps)) ≡ piece_record p piece ∷ (drop (j + 1) (part_records p) ++ flat_map part_records (drop (k + 1) ps))
+next_left ps k j p piece h g =
+    let r = get_map (piece_record p) (part_pieces p.bytes) j piece g in
+    let within : j < length (part_records p) = slice_get_within (part_records p) j (piece_record p piece) r in
+    left_at ps k j p h (omega arith) ∙ ap (λ xs. xs ++ flat_map part_records (drop (k + 1) ps)) (drop_get (part_records p) j (piece_record p piece) r)
+
+-- within the part
+pub left_within : (ps : List PartText) (k j : ℕ) (p : PartText) → slice_get ps k ≡ Some p → j + 1 ≤ length (part_records p) →
+    drop (j + 1) (part_records p) ++ flat_map part_records (drop (k + 1) ps) ≡ drop (j + 1) (flat_map part_records (drop k ps))
+left_within ps k j p h within = sym (left_at ps k (j + 1) p h within)
+
+-- after the part's last piece
+pub left_behind : (ps : List PartText) (k j : ℕ) (p : PartText) → drop (j + 1) (part_records p) ≡ [] →
+    drop (j + 1) (part_records p) ++ flat_map part_records (drop (k + 1) ps) ≡ drop 0 (flat_map part_records (drop (k + 1) ps))
+left_behind ps k j p e = ap (λ xs. xs ++ flat_map part_records (drop (k + 1) ps)) e
+
+drop_nothing : (j : ℕ) → drop j (flat_map part_records []) ≡ []
+drop_nothing zero = refl
+drop_nothing (suc j) = refl
+
+-- after all parts nothing is left
+pub none_left : (ps : List PartText) (k j : ℕ) → slice_get ps k ≡ None → drop j (flat_map part_records (drop k ps)) ≡ []
+none_left ps k j h = ap (λ xs. drop j (flat_map part_records xs)) (drop_none ps k h) ∙ drop_nothing j
+
+-- no element at a place: it is after the last
+pub past_end : {A : Type 0} (xs : List A) (k : ℕ) → slice_get xs k ≡ None → length xs ≤ k
+past_end [] k h = omega arith
+past_end (y ∷ ys) zero h = absurd (none-some y (sym h))
+past_end (y ∷ ys) (suc k) h = let rest = past_end ys k h in omega arith
+
+small_count : (len j : ℕ) → len ≤ 268435456 → j < piece_count len → 65536 * j < 2 ^ 32
+small_count len j small h = elim (len == 0) as (λ t. j < cond t 1 ((len + 65535) / 65536) → 65536 * j < 2 ^ 32) [ true ↦ λ g. omega arith | false ↦ λ g. omega arith ] h
+
+-- what stands at a place of a short part's pieces
+pub record PieceAt (j : ℕ) (piece : PieceText) : Type 0 where
+  pub offset : piece.offset ≡ 65536 * j
+  pub short : length piece.bytes ≤ 65536
+  pub fits : 65536 * j < 2 ^ 32
+
+pub piece_at_place : (bytes : List ℕ) (j : ℕ) (piece : PieceText) → length bytes ≤ 268435456 → slice_get (part_pieces bytes) j ≡ Some piece → PieceAt j piece
+piece_at_place bytes j piece small h =
+    let within : j < length (part_pieces bytes) = slice_get_within (part_pieces bytes) j piece h in
+    let count : j < piece_count (length bytes) = rw (← pieces_length bytes) within in
+    let same = same_Some _ piece (sym (piece_is bytes j (65536 * j) (take 65536 (drop (65536 * j) bytes)) count refl refl) ∙ h) in
+    record {
+      offset = sym (ap (λ (p : PieceText). p.offset) same);
+      short = rw (← ap (λ (p : PieceText). p.bytes) same, length-take 65536 (drop (65536 * j) bytes)) (omega arith);
+      fits = small_count (length bytes) j small count;
+    }
+
+not_zero : (n : ℕ) → (n == 0) ≡ false → 0 < n
+not_zero zero e = let no : true ≡ false = e in cc
+not_zero (suc n) e = omega arith
+
+some_count : (len : ℕ) → 0 < piece_count len
+some_count len = elim (len == 0) as (λ t. (len == 0) ≡ t → 0 < cond t 1 ((len + 65535) / 65536)) [ true ↦ λ e. omega arith | false ↦ λ e. omega (arith, not_zero len e) ] refl
+
+map_length : {A B : Type 0} (f : A → B) (xs : List A) → length (map f xs) ≡ length xs
+map_length f [] = refl
+map_length f (x ∷ xs) = ap suc (map_length f xs)
+
+-- a part's records are as many as its pieces
+pub records_of_part : (p : PartText) → length (part_records p) ≡ length (part_pieces p.bytes)
+records_of_part p = map_length (piece_record p) (part_pieces p.bytes)
+
+-- a part has a piece
+first_piece : (o : Option PartText) → IfSome o (λ p. 0 < length (part_records p))
+first_piece None = tt
+first_piece (Some p) = rw (records_of_part p, pieces_length p.bytes) (some_count (length p.bytes))
+
+-- a hand-off begins
+pub begins_at : (list : ImageList) (kernel : ℕ) → kernel < length list.images → AreShort list.images → IsAt list (record { kernel = kernel; part = 0; piece = 0 })
+begins_at list kernel within short = record {
+  kernel = within;
+  part = omega arith;
+  piece = first_piece (slice_get (parts kernel list.images) 0);
+  behind = λ _. refl;
+  short = short;
+}
+
+-- after a part comes the next, at its first piece
+pub at_next : (list : ImageList) (h : Handing) → IsAt list h → h.part < length (parts h.kernel list.images) →
+    IsAt list (record { kernel = h.kernel; part = h.part + 1; piece = 0 })
+at_next list h at within = record {
+  kernel = at.kernel;
+  part = omega arith;
+  piece = first_piece (slice_get (parts h.kernel list.images) (h.part + 1));
+  behind = λ _. refl;
+  short = at.short;
+}
+
+-- within a part comes the next piece
+pub at_piece : (list : ImageList) (h : Handing) (p : PartText) → IsAt list h → slice_get (parts h.kernel list.images) h.part ≡ Some p →
+    h.piece + 1 < length (part_records p) → IsAt list (record { kernel = h.kernel; part = h.part; piece = h.piece + 1 })
+at_piece list h p at is within = record {
+  kernel = at.kernel;
+  part = at.part;
+  piece = rw is within;
+  behind = λ none. absurd (none-some p (sym none ∙ is));
+  short = at.short;
+}
+
+pub part_within : (ps : List PartText) (k : ℕ) (p : PartText) → slice_get ps k ≡ Some p → k < length ps
+part_within ps k p h = slice_get_within ps k p h
+
+pub drop_past : (k : ℕ) (xs : List Out) → k ≡ length xs → drop k xs ≡ []
+drop_past k xs e = drop_all k xs (omega (arith, e))

@@ -1,0 +1,41 @@
+-- How far a hand-off is, and what putting a piece does to it.
+use Rattle.std.specs.Prelude.{◌≡◌, ◌<◌, ◌≤◌, Bool, true, false, List, [], ◌∷◌, length, drop, None, slice_get, IfSome}
+use Rattle.std.specs.List.{flat_map, AllByRecursion}
+use Rattle.nb_defs.specs.Records.{Out, out_texts}
+use Rattle.nb_record.specs.Logged.{Logged, Puts}
+use Rattle.nb_image.specs.declared.image.Image.{Image}
+use Rattle.nb_image.specs.Images.{ImageList}
+use Rattle.nb_image.specs.Parts.{parts}
+use Rattle.nb_runner.specs.declared.handing.Handing.{Handing}
+use Rattle.nb_machine.specs.Conclusions.{part_records}
+
+-- an image's texts are short, and its body is an image's
+pub record IsShort (image : Image) : Type 0 where
+  pub name : length image.name ≤ 268435456
+  pub body : length image.body ≤ 268435456
+  pub args : length image.args ≤ 268435456
+
+abbrev pub AreShort : List Image → Type 0
+AreShort images = AllByRecursion IsShort images
+
+-- the records of the pieces that are still to come
+abbrev pub records_left : List Image → Handing → List Out
+records_left images h = drop h.piece (flat_map part_records (drop h.part (parts h.kernel images)))
+
+-- a hand-off stands at a piece of one of its parts, or after them all
+pub record IsAt (list : ImageList) (h : Handing) : Type 0 where
+  pub kernel : h.kernel < length list.images
+  pub part : h.part ≤ length (parts h.kernel list.images)
+  pub piece : IfSome (slice_get (parts h.kernel list.images) h.part) (λ p. h.piece < length (part_records p))
+  pub behind : slice_get (parts h.kernel list.images) h.part ≡ None → h.piece ≡ 0
+  pub short : AreShort list.images
+
+-- the next record was put, or there is none
+pub record PutsNext (images : List Image) (old new : Handing) (before after : Logged) : Type 0 where
+  pub next : Out
+  pub left : records_left images old ≡ next ∷ records_left images new
+  pub puts : Puts before after (out_texts (next ∷ []))
+
+abbrev pub HandsOn : Bool → ImageList → Handing → Handing → Logged → Logged → Type 0
+HandsOn true list old new before after = IsAt list new × PutsNext list.images old new before after
+HandsOn false list old new before after = (records_left list.images old ≡ []) × (new ≡ old) × (after ≡ before)

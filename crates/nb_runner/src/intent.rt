@@ -1,0 +1,317 @@
+//! What a command comes to that asks for a lease, an echo, a name's address or a file.
+
+ghost use Rattle.std.specs.Prelude.{◌≡◌, ◌<◌, ◌≤◌, ◌==◌, ◌++◌, ◌∷◌, ℕ, List, length, true, false, Some, None, Ok, IfOk, OnOk, OnErr};
+ghost use Rattle.nb_settings.specs.Tables.{look};
+ghost use Rattle.nb_settings.specs.declared.setting.OwnedKey.TheVariants.{Tag};
+ghost use Rattle.nb_runner.specs.CommandWords.{errand_of, onward_of, FitsErrand, FitsOnward, IsForInquiry, IsForLease};
+ghost use Rattle.nb_tftpmsg.specs.Texts.{HasNoZero};
+ghost use Rattle.nb_machine.specs.Effects.{at_host, fetch, fetched, inquires, looked_up_effect, name_effect, named_host, onward_effect, plan_effect, plan_table, plan_up, unless_full};
+ghost use Rattle.nb_runner.specs.Intents.{query_of, intent_effect, looked_up_table, CanAsk, MayAsk};
+ghost use Rattle.nb_machine.specs.Queries.{dns_in, with_domain, domain_bytes};
+ghost use Rattle.nb_runner.specs.World.{IsLinked, state_of, with_state, world_with};
+
+use crate::World;
+use crate::command::{MAX_OPENS, full_opens};
+use crate::errand::{Errand, Onward, Wanted};
+use crate::query::Query;
+use crate::settings::DNS;
+use crate::texts::copy;
+use nb_command::{
+    ApplyError, CommandPlan, Located, State, apply, locate, nonzero, put_address, refuses_address,
+    setting_address,
+};
+use nb_dns::is_name;
+use nb_machine::RemoteFile;
+use nb_record::{Cause, NoMemory};
+use nb_settings::{Key, Table};
+use nb_terms::Plain;
+use nb_uri::number;
+use nb_wire::{Ip4, Text};
+use std::alloc::Global;
+
+/// The option of RFC 2132 that is the domain's name.
+const DOMAIN: Key<'static> = Key::Tag(15);
+
+/// What such a command comes to.
+#[derive(Drop)]
+pub enum Intent {
+    /// It is over with this cause.
+    Over(Cause),
+    /// It asks this.
+    Asks(Query),
+    /// It fetches this.
+    Fetches(Wanted),
+}
+
+/// The bytes of `domain`, none where it isn't set.
+fn domain(table: &Table) -> &[u8]
+    ensures { result.now ≡ domain_bytes (look None (Tag 15) table.now) }
+{
+    match table.find(None, &DOMAIN) {
+        Some(value) => value.bytes,
+        None => b"",
+    }
+}
+
+/// A host's name, with `domain` after it where it has no dot.
+fn with_domain(alloc: Global, table: &Table, text: &[u8]) -> Result<Text, NoMemory>
+    ensures { IfOk result (λ name. name ≡ with_domain table.now text.now) }
+{
+    let mut name = Vec::from_slice(alloc, text)?;
+    let domain = domain(table);
+    if !text.contains(&b'.') && !domain.is_empty() {
+        name.push(b'.')?;
+        name.extend_from_slice(domain)?;
+    }
+    Ok(Text::from_vec(name))
+}
+
+/// The name server, if one is known.
+fn dns_in(table: &Table) -> Option<Ip4>
+    ensures { result ≡ dns_in table.now }
+{
+    nonzero(setting_address(table, None, &DNS))
+}
+
+/// A query, where one more open may be made.
+fn unless_full(opens: u16, query: Query) -> Intent
+    requires few { opens ≤ 16384 }
+    requires can { CanAsk query }
+    ensures value { intent_effect result ≡ unless_full opens (inquires (query_of query)) }
+    ensures may { MayAsk opens result }
+{
+    if opens == MAX_OPENS {
+        return Intent::Over(full_opens());
+    }
+    Intent::Asks(query)
+}
+
+/// What is asked of a server whose address is known, where one more open may be made.
+fn intend_onward(opens: u16, onward: Onward) -> Intent
+    requires few { opens ≤ 16384 }
+    requires fits { FitsOnward onward }
+    ensures value { intent_effect result ≡ unless_full opens (onward_effect (onward_of onward)) }
+    ensures may { MayAsk opens result }
+{
+    if opens == MAX_OPENS {
+        return Intent::Over(full_opens());
+    }
+    match onward {
+        Onward::File(wanted) => Intent::Fetches(wanted),
+        Onward::Echo(server) => Intent::Asks(Query::Echo(server)),
+    }
+}
+
+/// A name server is asked for the address of a host's name.
+fn intend_named(
+    alloc: Global,
+    opens: u16,
+    table: &Table,
+    text: &[u8],
+    errand: Errand,
+) -> Result<Intent, NoMemory>
+    requires few { opens ≤ 16384 }
+    requires fits { FitsErrand errand }
+    ensures value { IfOk result (λ i. intent_effect i ≡ named_host opens table.now (errand_of errand) (with_domain table.now text.now)) }
+    ensures may { IfOk result (λ i. MayAsk opens i) }
+{
+    let name = with_domain(alloc, table, text)?;
+    if !is_name(name.as_slice()) {
+        return Ok(Intent::Over(Plain::BadName.cause()));
+    }
+    if opens == MAX_OPENS {
+        return Ok(Intent::Over(full_opens()));
+    }
+    match dns_in(table) {
+        Some(by) => Ok(Intent::Asks(Query::Host { errand, name, by })),
+        None => Ok(Intent::Over(Plain::NoServer.cause())),
+    }
+}
+
+/// What is asked of a host: four decimals are its address, and a name is looked up.
+fn intend_host(
+    alloc: Global,
+    opens: u16,
+    table: &Table,
+    text: &[u8],
+    errand: Errand,
+) -> Result<Intent, NoMemory>
+    requires few { opens ≤ 16384 }
+    requires fits { FitsErrand errand }
+    ensures value { IfOk result (λ i. intent_effect i ≡ at_host opens table.now text.now (errand_of errand)) }
+    ensures may { IfOk result (λ i. MayAsk opens i) }
+{
+    match number(text) {
+        Some(server) => Ok(intend_onward(opens, errand.at(server))),
+        None => intend_named(alloc, opens, table, text, errand),
+    }
+}
+
+/// The address of a host's name for a setting.
+fn intend_name(
+    alloc: Global,
+    opens: u16,
+    table: &Table,
+    setting: &[u8],
+    text: &[u8],
+) -> Result<Intent, NoMemory>
+    requires { opens ≤ 16384 }
+    ensures value { IfOk result (λ i. intent_effect i ≡ name_effect opens table.now setting.now (with_domain table.now text.now)) }
+    ensures may { IfOk result (λ i. MayAsk opens i) }
+{
+    let name = with_domain(alloc, table, text)?;
+    if !is_name(name.as_slice()) {
+        return Ok(Intent::Over(Plain::BadName.cause()));
+    }
+    if opens == MAX_OPENS {
+        return Ok(Intent::Over(full_opens()));
+    }
+    match dns_in(table) {
+        Some(by) => Ok(Intent::Asks(Query::Address {
+            setting: copy(alloc, setting)?,
+            name,
+            by,
+        })),
+        None => Ok(Intent::Over(Plain::NoServer.cause())),
+    }
+}
+
+/// Sets the device up, which is to get a lease.
+fn intend_lease(
+    alloc: Global,
+    opens: u16,
+    plan: &CommandPlan,
+    state: &mut State,
+) -> Result<Intent, NoMemory>
+    requires lease { IsForLease plan.now }
+    requires few { opens ≤ 16384 }
+    ensures value { IfOk result (λ i. plan_effect opens state.old.table plan.now ≡ intent_effect i) }
+    ensures may { IfOk result (λ i. MayAsk opens i) }
+    ensures after { OnOk result (state.new ≡ state_of (plan_table plan.now state.old.table) state.old.images (plan_up plan.now state.old.up)) }
+    ensures same { OnErr result (state.new ≡ state.old) }
+{
+    match apply(alloc, plan, state) {
+        Ok(_) => Ok(unless_full(opens, Query::Lease)),
+        Err(cause) if cause == Plain::NoMemory.cause() => Err(NoMemory),
+        Err(cause) => Ok(Intent::Over(cause)),
+    }
+}
+
+/// The address of a host for a setting: four decimals are it, and a name is looked up.
+fn intend_address(
+    alloc: Global,
+    opens: u16,
+    table: &mut Table,
+    setting: &[u8],
+    text: &[u8],
+) -> Result<Intent, NoMemory>
+    requires { opens ≤ 16384 }
+    ensures value { IfOk result (λ i. intent_effect i ≡ looked_up_effect opens table.old setting.now text.now) }
+    ensures may { IfOk result (λ i. MayAsk opens i) }
+    ensures after { OnOk result (table.new ≡ looked_up_table setting.now text.now table.old) }
+    ensures same { OnErr result (table.new ≡ table.old) }
+{
+    if let Some(why) = refuses_address(setting, table) {
+        return Ok(Intent::Over(why.cause()));
+    }
+    let Some(address) = number(text) else {
+        return intend_name(alloc, opens, table, setting, text);
+    };
+    match put_address(alloc, setting, address, table) {
+        Ok(()) => Ok(Intent::Over(Plain::Ok.cause())),
+        Err(ApplyError::NoMemory) => Err(NoMemory),
+        Err(_) => unreachable!(),
+    }
+}
+
+/// What a command comes to that fetches a file that was located.
+fn fetch_located(
+    alloc: Global,
+    opens: u16,
+    boots: bool,
+    table: &Table,
+    file: Located,
+) -> Result<Intent, NoMemory>
+    requires few { opens ≤ 16384 }
+    requires clean { HasNoZero file.path }
+    requires fits { (length file.path ≤ 1024) × (length file.name ≤ 255) }
+    ensures value { IfOk result (λ i. intent_effect i ≡ fetched opens boots table.now (Ok file)) }
+    ensures may { IfOk result (λ i. MayAsk opens i) }
+{
+    let Located {
+        host,
+        port,
+        path,
+        name,
+        whole,
+    } = file;
+    let errand = Errand::File(RemoteFile {
+        port,
+        path,
+        name,
+        uri: whole,
+        boots,
+    });
+    intend_host(alloc, opens, table, host.as_slice(), errand)
+}
+
+impl World {
+    /// What a command comes to that fetches the file of a URI.
+    pub fn seek(&self, alloc: Global, uri: &[u8], boots: bool) -> Result<Intent, NoMemory>
+        requires few { self.now.opens ≤ 16384 }
+        ensures value { IfOk result (λ i. fetch self.now.opens boots self.now.state.table uri.now ≡ intent_effect i) }
+        ensures may { IfOk result (λ i. MayAsk self.now.opens i) }
+    {
+        match locate(alloc, &self.state.table, uri) {
+            Ok(file) => fetch_located(alloc, self.opens, boots, &self.state.table, file),
+            Err(ApplyError::NoMemory) => Err(NoMemory),
+            Err(why) => Ok(Intent::Over(why.cause())),
+        }
+    }
+
+    /// What a command comes to that asks for something by one exchange. What it does at once is done, and the link follows.
+    pub fn intend(&mut self, alloc: Global, plan: &CommandPlan) -> Result<Intent, NoMemory>
+        requires inquiring { IsForInquiry plan.now }
+        requires linked { IsLinked self.old }
+        requires few { self.old.opens ≤ 16384 }
+        ensures value { IfOk result (λ i. plan_effect self.old.opens self.old.state.table plan.now ≡ intent_effect i) }
+        ensures may { IfOk result (λ i. MayAsk self.old.opens i) }
+        ensures after { OnOk result
+            (self.new ≡ world_with self.old (plan_table plan.now self.old.state.table) (plan_up plan.now self.old.state.up)) }
+        ensures linked { IsLinked self.new }
+        ensures same { OnErr result (self.new ≡ self.old) }
+    {
+        let intent = self.intended(alloc, plan)?;
+        self.follow();
+        Ok(intent)
+    }
+
+    /// The same, before the link follows.
+    fn intended(&mut self, alloc: Global, plan: &CommandPlan) -> Result<Intent, NoMemory>
+        requires inquiring { IsForInquiry plan.now }
+        requires few { self.old.opens ≤ 16384 }
+        ensures value { IfOk result (λ i. plan_effect self.old.opens self.old.state.table plan.now ≡ intent_effect i) }
+        ensures may { IfOk result (λ i. MayAsk self.old.opens i) }
+        ensures after { OnOk result (self.new ≡ with_state self.old (state_of (plan_table plan.now self.old.state.table) self.old.state.images (plan_up plan.now self.old.state.up))) }
+        ensures same { OnErr result (self.new ≡ self.old) }
+    {
+        let opens = self.opens;
+        match plan {
+            CommandPlan::Dhcp(_) => intend_lease(alloc, opens, plan, &mut self.state),
+            CommandPlan::Ping { host } => {
+                intend_host(
+                    alloc,
+                    opens,
+                    &self.state.table,
+                    host.as_slice(),
+                    Errand::Echo,
+                )
+            }
+            CommandPlan::Nslookup { name, host } => {
+                let table = &mut self.state.table;
+                intend_address(alloc, opens, table, name.as_slice(), host.as_slice())
+            }
+            _ => unreachable!(),
+        }
+    }
+}
