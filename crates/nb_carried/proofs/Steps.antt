@@ -92,7 +92,7 @@ frame_comes n w s o xs bytes m port body added phase valid here brings (by_datag
     comes : (t : Taking w (waiting_in (anew s) o) (live_of o xs) (frame bytes) (message (n + 1) d.src_port d.body w.time) added phase) → Network (state_in w (live_of o xs ∷ [])) (n + 1) (frame bytes) t.put (state_in w t.after) t.over
     comes t =
         subst (λ (z : List Live). Network (state_in w (live_of o xs ∷ [])) (n + 1) (frame bytes) t.put (state_in w z) t.over) (append-nil t.after)
-        (network.brings (frame bytes) net0 bytes (bare w.net) p d [] [] t.after (live_of o xs) t.put t.over (network.on_net0 bytes) refl brings refl is t.take)
+        (network.brings (frame bytes) net0 bytes (bare w.net) p d [] [] t.after (live_of o xs) t.put t.over (network.on_net0 bytes) refl brings refl is refl refl t.take)
 
 pub same_net : (net : Client) (m : Brought) (port : ℕ) (body : List ℕ) (o : Open) (xs : List Exchange) → ForOpen o xs port body m → client_after net m ≡ net
 same_net net m port body o xs (by_datagram p d is from what) = refl
@@ -126,7 +126,7 @@ frame_brings_it n w s o xs bytes b m added phase valid here brings (a_datagram p
     comes : (t : Taking w (asking_in (anew s) o) (live_alone o xs) (frame bytes) (message (n + 1) d.src_port d.body w.time) added phase) → Network (state_in w (live_alone o xs ∷ [])) (n + 1) (frame bytes) t.put (state_in w t.after) t.over
     comes t =
         subst (λ (z : List Live). Network (state_in w (live_alone o xs ∷ [])) (n + 1) (frame bytes) t.put (state_in w z) t.over) (append-nil t.after)
-        (network.brings (frame bytes) net0 bytes (bare w.net) p d [] [] t.after (live_alone o xs) t.put t.over (network.on_net0 bytes) refl brings refl is t.take)
+        (network.brings (frame bytes) net0 bytes (bare w.net) p d [] [] t.after (live_alone o xs) t.put t.over (network.on_net0 bytes) refl brings refl is refl refl t.take)
 frame_brings_it n w s o xs bytes b m added phase valid here brings (by_reply p e is from what) replies =
     let input = a_message (n + 1) e.ident p.src e.body w.time from in
     let t = replied w (anew s) o xs (frame bytes) _ _ added phase (subst (λ (z : Said). Replies w (anew s) o (message_in z w.time) added phase) what replies) input here in
@@ -135,7 +135,7 @@ frame_brings_it n w s o xs bytes b m added phase valid here brings (by_reply p e
     comes : (t : Taking w (asking_in (anew s) o) (live_alone o xs) (frame bytes) (message (n + 1) e.ident e.body w.time) added phase) → Network (state_in w (live_alone o xs ∷ [])) (n + 1) (frame bytes) t.put (state_in w t.after) t.over
     comes t =
         subst (λ (z : List Live). Network (state_in w (live_alone o xs ∷ [])) (n + 1) (frame bytes) t.put (state_in w z) t.over) (append-nil t.after)
-        (network.brings_reply (frame bytes) net0 bytes (bare w.net) p e [] [] t.after (live_alone o xs) t.put t.over (network.on_net0 bytes) refl brings refl is t.take)
+        (network.brings_reply (frame bytes) net0 bytes (bare w.net) p e [] [] t.after (live_alone o xs) t.put t.over (network.on_net0 bytes) refl brings refl is refl refl t.take)
 
 -- a script that had all its commands goes on with a frame
 pub frame_resumes : (n : ℕ) (w : World) (s : Running) (bytes reply : List ℕ) (net : Client) (m : Brought) → IsIn (frame bytes) → Brings w.net.up w.net.mac w.net.address bytes m →

@@ -30,16 +30,16 @@ pub data Network (s : State) (n : ℕ) : In → List Out → State → List Over
   passes_by : (r : In) (device : ℕ) (bytes : List ℕ) (link : Client) (m : Brought) → IsFrameOn r device bytes → slice_get s.devices device ≡ Some link →
       Brings link.up link.mac link.address bytes m → is_for_one device m s.live ≡ false →
       Network s n r (reply_records (reply_of link m)) (with_device s device (client_after link m)) []
-  -- a datagram goes to the open of its port, and to no other
+  -- a datagram goes to the open of its port, and to no other: no other takes it
   brings : (r : In) (device : ℕ) (bytes : List ℕ) (link : Client) (p : PacketParts) (d : UdpParts) (before behind after : List Live) (l : Live) (put : List Out) (over : List Over) →
       IsFrameOn r device bytes → slice_get s.devices device ≡ Some link → Brings link.up link.mac link.address bytes (datagram p d) →
-      s.live ≡ before ++ l ∷ behind → is_for device p d l ≡ true →
+      s.live ≡ before ++ l ∷ behind → is_for device p d l ≡ true → list_any (is_for device p d) before ≡ false → list_any (is_for device p d) behind ≡ false →
       AllTake s.devices (message n d.src_port d.body s.now) (l ∷ []) put after over →
       Network s n r put (with_live s (before ++ after ++ behind)) over
-  -- an echo reply goes to the ping of its identifier, and to no other
+  -- an echo reply goes to the ping of its identifier, and to no other: no other takes it
   brings_reply : (r : In) (device : ℕ) (bytes : List ℕ) (link : Client) (p : PacketParts) (e : EchoParts) (before behind after : List Live) (l : Live) (put : List Out) (over : List Over) →
       IsFrameOn r device bytes → slice_get s.devices device ≡ Some link → Brings link.up link.mac link.address bytes (echo_reply p e) →
-      s.live ≡ before ++ l ∷ behind → is_reply_for device p e l ≡ true →
+      s.live ≡ before ++ l ∷ behind → is_reply_for device p e l ≡ true → list_any (is_reply_for device p e) before ≡ false → list_any (is_reply_for device p e) behind ≡ false →
       AllTake s.devices (message n e.ident e.body s.now) (l ∷ []) put after over →
       Network s n r put (with_live s (before ++ after ++ behind)) over
   -- time comes to every open that lives, in order
