@@ -10,8 +10,8 @@ use Rattle.nb_record.specs.Outside.{Outside, Gave, IsAtEnd}
 use Rattle.nb_boot.specs.Run.{IsOther, IsFirst, BeginsWith}
 use Rattle.nb_boot.specs.Shown.{NoneMayCome, EndsWhere, was_left, was_handed, was_stopped, ran_out, was_bad, was_full, Shown, ShowsCourse}
 use Rattle.nb_boot.specs.Complete.{Completes, AreOthers}
-use Rattle.nb_engine.specs.declared.status.Status.{Status}
-use Rattle.nb_engine.specs.declared.status.Status.TheVariants as status
+use Rattle.nb_runner.specs.declared.status.Status.{Status}
+use Rattle.nb_runner.specs.declared.status.Status.TheVariants as status
 use Rattle.nb_boot.proofs.Spelled.{Rest, spelled_rest, others_in, others_rest}
 use Rattle.nb_boot.proofs.CourseInputs.{course_in, course_counts, UsedBy, used_by}
 

@@ -1,8 +1,8 @@
 -- The records that a course has used.
 use Rattle.std.proofs.Common.{◌≡◌, ℕ, ◌+◌, ◌<◌, List, [], ◌∷◌, ◌++◌, length, refl, sym, ◌∙◌, ap, subst, arith, append_assoc, length-append}
 use Rattle.nb_defs.specs.Records.{Start, In, start, IsIn, Out}
-use Rattle.nb_engine.specs.Conclusions.{Conclusion, keeps, fails, boots}
-use Rattle.nb_engine.specs.Running.{Running, anew}
+use Rattle.nb_machine.specs.Conclusions.{Conclusion, keeps, fails, boots}
+use Rattle.nb_machine.specs.Running.{Running, anew}
 use Rattle.nb_machine.specs.States.{State}
 use Rattle.nb_machine.specs.Scripts.{Upshot, concludes, settles, goes_onward, concluded_by}
 use Rattle.nb_machine.specs.Takings.{Over}

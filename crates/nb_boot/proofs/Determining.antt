@@ -5,8 +5,8 @@ use Rattle.nb_defs.specs.Records.{In, IsIn, in_text, in_texts, Out, done, IsPart
 use Rattle.nb_opens.specs.Graphs.{without_graph}
 use Rattle.nb_opens.proofs.Plain.{plain_append}
 use Rattle.nb_record.specs.Outside.{Outside, IsAtEnd}
-use Rattle.nb_engine.specs.declared.status.Status.{Status}
-use Rattle.nb_engine.specs.declared.status.Status.TheVariants as status
+use Rattle.nb_runner.specs.declared.status.Status.{Status}
+use Rattle.nb_runner.specs.declared.status.Status.TheVariants as status
 use Rattle.nb_machine.specs.Courses.{Standing, ready, running, waiting, reaching, yielded, handing, left, handed_off, stopped, Progress, Course}
 use Rattle.nb_machine.specs.Closings.{Shuts}
 use Rattle.nb_onecourse.specs.Rests.{HasComeToRest, SameCourse}

@@ -1,12 +1,12 @@
 -- What a run of the engine's machine says of the status, its course says too.
 use Rattle.std.proofs.Common.{ℕ, List, refl, sym, subst}
 use Rattle.nb_record.specs.Outside.{Outside}
-use Rattle.nb_engine.specs.declared.status.Status.{Status}
+use Rattle.nb_runner.specs.declared.status.Status.{Status}
 use Rattle.nb_engine.specs.Machine.{Phase}
 use Rattle.nb_engine.specs.Machine as lone
 use Rattle.nb_machine.specs.Courses.{Standing}
-use Rattle.nb_machine.specs.Carried.{StandsAs}
-use Rattle.nb_machine.proofs.Runs.{runs_are_courses}
+use Rattle.nb_carried.specs.Carried.{StandsAs}
+use Rattle.nb_carried.proofs.Runs.{runs_are_courses}
 use Rattle.nb_boot.specs.Shown.{ShowsCourse}
 use Rattle.nb_boot.specs.Complete.{CompletesRun, SaysStatus}
 use Rattle.nb_boot.specs.Determined.{CourseSays}

@@ -3,10 +3,10 @@ use Rattle.std.specs.Prelude.{◌≡◌, ℕ, ◌≤◌, List, [], ◌∷◌, �
 use Rattle.nb_defs.specs.Records.{In, in_texts, Out, out_texts, done}
 use Rattle.nb_record.specs.Outside.{Outside, Passes}
 use Rattle.nb_opens.specs.Graphs.{without_graph}
-use Rattle.nb_engine.specs.Machine.{status_of}
-use Rattle.nb_engine.specs.StatusNumber.{status_number}
-use Rattle.nb_engine.specs.declared.status.Status.{Status}
-use Rattle.nb_engine.specs.declared.status.Status.TheVariants as status
+use Rattle.nb_machine.specs.CommandRecords.{status_of}
+use Rattle.nb_runner.specs.StatusNumber.{status_number}
+use Rattle.nb_runner.specs.declared.status.Status.{Status}
+use Rattle.nb_runner.specs.declared.status.Status.TheVariants as status
 use Rattle.nb_machine.specs.Courses.{Standing, ready, running, waiting, reaching, yielded, handing, left, handed_off, stopped, Progress, Course}
 use Rattle.nb_machine.specs.Closings.{Shuts}
 use Rattle.nb_boot.specs.Complete.{NoneRose}

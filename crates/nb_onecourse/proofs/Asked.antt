@@ -8,8 +8,8 @@ use Rattle.nb_stack.specs.Client.{Client}
 use Rattle.nb_graph.specs.Trace.{Said}
 use Rattle.nb_nodes.specs.Exchanges.{Service}
 use Rattle.nb_command.specs.SettingAddresses.{host}
-use Rattle.nb_engine.specs.Opens.{acts_records}
-use Rattle.nb_engine.specs.Talks.{datagram_from}
+use Rattle.nb_machine.specs.Sendings.{acts_records}
+use Rattle.nb_machine.specs.Saying.{datagram_from}
 use Rattle.nb_machine.specs.Lives.{OpenInput, message, time, close, Exchange, exchange, Live, continued}
 use Rattle.nb_machine.specs.Transfers.{finds_none, end_records}
 use Rattle.nb_machine.specs.Cores.{core_end, core_records, CoreExchanged, at_first, takes_message, takes_time, closes, KeepsCore}

@@ -13,7 +13,7 @@ use Rattle.nb_defs.specs.Records.{sent, tried}
 use Rattle.nb_stack.specs.Client.{Client}
 use Rattle.nb_stack.specs.Sends.{way_of, put_on}
 use Rattle.nb_tftp.specs.Asks.{nothing, sending, ended_by}
-use Rattle.nb_engine.specs.Opens.{has_route, sends_records, acts_records}
+use Rattle.nb_machine.specs.Sendings.{has_route, sends_records, acts_records}
 use Rattle.nb_machine.specs.Transfers.{finds_none}
 
 -- what was said at the last time

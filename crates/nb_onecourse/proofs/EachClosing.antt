@@ -1,7 +1,7 @@
 -- What closes a course is one list of records.
 use Rattle.std.proofs.Common.{◌≡◌, List, [], sym, ◌∙◌}
 use Rattle.nb_defs.specs.Records.{In, Out}
-use Rattle.nb_engine.specs.Machine.{stopped_cause}
+use Rattle.nb_machine.specs.CommandRecords.{stopped_cause}
 use Rattle.nb_machine.specs.Lives.{close}
 use Rattle.nb_machine.specs.States.{State}
 use Rattle.nb_machine.specs.Closings.{AllClose, Shuts}

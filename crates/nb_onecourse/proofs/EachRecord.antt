@@ -7,7 +7,7 @@ use Rattle.nb_stack.specs.Client.{Client}
 use Rattle.nb_stack.specs.Brings.{Brought, nothing, arp_message, datagram, echo_request, echo_reply, segment, Brings}
 use Rattle.nb_stack.specs.Takes.{client_after, reply_of}
 use Rattle.nb_stack.proofs.MessageLaws.{message_one}
-use Rattle.nb_engine.specs.Machine.{reply_records}
+use Rattle.nb_machine.specs.CommandRecords.{reply_records}
 use Rattle.nb_machine.specs.Lives.{OpenInput, message, time, Live}
 use Rattle.nb_machine.specs.Kinds.{is_for, is_reply_for}
 use Rattle.nb_machine.specs.States.{State, net0, with_device, with_live, later_by}

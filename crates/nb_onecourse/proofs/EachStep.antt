@@ -3,10 +3,10 @@ use Rattle.std.proofs.Common.{◌≡◌, ℕ, ◌+◌, List, [], ◌∷◌, ◌+
 use Rattle.nb_terms.specs.declared.cause.Cause.{Cause}
 use Rattle.nb_defs.specs.Records.{Start, In, start, off, Out, step, enter, leave}
 use Rattle.nb_defs.specs.ScriptLines.{Line, Reading, script}
-use Rattle.nb_engine.specs.Conclusions.{Conclusion, keeps, fails, boots}
-use Rattle.nb_engine.specs.FirstText.{first_reading, text_refusal}
-use Rattle.nb_engine.specs.Running.{Running, first_script, anew}
-use Rattle.nb_engine.specs.Machine.{stopped_cause}
+use Rattle.nb_machine.specs.Conclusions.{Conclusion, keeps, fails, boots}
+use Rattle.nb_machine.specs.FirstText.{first_reading, text_refusal}
+use Rattle.nb_machine.specs.Running.{Running, first_script, anew}
+use Rattle.nb_machine.specs.CommandRecords.{stopped_cause}
 use Rattle.nb_machine.specs.Lives.{close}
 use Rattle.nb_machine.specs.States.{State, state_at_start, with_live}
 use Rattle.nb_machine.specs.Takings.{Over, AllTake}

@@ -5,7 +5,7 @@ use Rattle.nb_terms.specs.declared.cause.Cause.{Cause}
 use Rattle.nb_defs.specs.Records.{Out, step, sent, text, command, result, script, opened, tried, advanced, ended, graph, part, done}
 use Rattle.nb_terms.specs.declared.acts.Acts.{Acts}
 use Rattle.nb_stack.specs.Client.{Client}
-use Rattle.nb_engine.specs.Opens.{acts_records}
+use Rattle.nb_machine.specs.Sendings.{acts_records}
 use Rattle.nb_machine.specs.Transfers.{earlier, finds_none, end_records}
 use Rattle.nb_machine.specs.Takings.{end_told, end_among}
 

@@ -6,11 +6,11 @@ use Rattle.nb_defs.specs.Commands.{CommandOutcome, refused}
 use Rattle.nb_defs.specs.Records.{Out, leave, result}
 use Rattle.nb_defs.specs.ScriptLines.{label_place}
 use Rattle.nb_stack.specs.Client.{Client}
-use Rattle.nb_engine.specs.Conclusions.{fails, conclusion_records}
-use Rattle.nb_engine.specs.Effects.{shown_words, full_opens}
-use Rattle.nb_engine.specs.Errands.{Onward}
-use Rattle.nb_engine.specs.Running.{Running, Coming, coming, passing, leaving, beginning, entered, further, behind_line, with_result, no_label}
-use Rattle.nb_engine.specs.Machine.{command_record, command_records, no_route}
+use Rattle.nb_machine.specs.Conclusions.{fails, conclusion_records}
+use Rattle.nb_machine.specs.Effects.{shown_words, full_opens}
+use Rattle.nb_machine.specs.Errands.{Onward}
+use Rattle.nb_machine.specs.Running.{Running, Coming, coming, passing, leaving, beginning, entered, further, behind_line, with_result, no_label}
+use Rattle.nb_machine.specs.CommandRecords.{command_record, command_records, no_route}
 use Rattle.nb_machine.specs.Lives.{Live, open_record, end_record}
 use Rattle.nb_machine.specs.Kinds.{first_records}
 use Rattle.nb_machine.specs.States.{State, with_live, with_opened, with_one_made}

@@ -5,8 +5,8 @@ use Rattle.nb_defs.specs.Causes.{ok}
 use Rattle.nb_defs.specs.Records.{Out, result}
 use Rattle.nb_defs.specs.ScriptLines.{label_place}
 use Rattle.nb_stack.specs.Client.{Client}
-use Rattle.nb_engine.specs.Errands.{Onward}
-use Rattle.nb_engine.specs.Running.{Running, Coming, coming, passing, leaving, beginning}
+use Rattle.nb_machine.specs.Errands.{Onward}
+use Rattle.nb_machine.specs.Running.{Running, Coming, coming, passing, leaving, beginning}
 use Rattle.nb_machine.specs.Lives.{close}
 use Rattle.nb_machine.specs.Kinds.{first_records}
 use Rattle.nb_machine.specs.States.{State}

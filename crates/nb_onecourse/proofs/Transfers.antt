@@ -11,7 +11,7 @@ use Rattle.nb_tftp.specs.History.{Call, came, ticked, Entry, entry, got, due_of,
 use Rattle.nb_tftp.specs.Received.{fixed_port}
 use Rattle.nb_tftp.specs.Blocks.{count, file}
 use Rattle.nb_tftp.specs.Sentences.{Meets, AsksSo}
-use Rattle.nb_engine.specs.Opens.{acts_records, end_of}
+use Rattle.nb_machine.specs.Sendings.{acts_records, end_of}
 use Rattle.nb_machine.specs.Lives.{OpenInput, close, Exchange, exchange, Live, continued}
 use Rattle.nb_machine.specs.Transfers.{transfer_of, arrival_of, finds_none, transfer_end, end_records, transfer_records, Exchanged, at_first, takes, closes, KeepsTransfer}
 use Rattle.nb_machine.specs.Takings.{end_among}

@@ -3,11 +3,11 @@ use Rattle.std.proofs.Common.{◌≡◌, ℕ, ◌+◌, Bool, List, [], ◌∷◌
 use Rattle.std.specs.List.{AllByRecursion}
 use Rattle.nb_defs.specs.Records.{In, Out}
 use Rattle.nb_settings.specs.Tables.{TableLists}
-use Rattle.nb_engine.specs.Conclusions.{Conclusion, keeps, fails, boots}
-use Rattle.nb_engine.specs.Effects.{Effect, says, asks, goes, sleeps, shuts_device, inquires, effect, table_after, up_after}
-use Rattle.nb_engine.specs.Errands.{Onward, fetches_now, echoes_now}
-use Rattle.nb_engine.specs.Queries.{Query, for_lease, for_echo, for_host, for_address}
-use Rattle.nb_engine.specs.Running.{Running, anew}
+use Rattle.nb_machine.specs.Conclusions.{Conclusion, keeps, fails, boots}
+use Rattle.nb_machine.specs.Effects.{Effect, says, asks, goes, sleeps, shuts_device, inquires, effect, table_after, up_after}
+use Rattle.nb_machine.specs.Errands.{Onward, fetches_now, echoes_now}
+use Rattle.nb_machine.specs.Queries.{Query, for_lease, for_echo, for_host, for_address}
+use Rattle.nb_machine.specs.Running.{Running, anew}
 use Rattle.nb_machine.specs.Lives.{Live}
 use Rattle.nb_machine.specs.States.{State, with_settings}
 use Rattle.nb_machine.specs.Scripts.{Doing, ends, opens, goes_to, waits_until, shuts, doing, doing_by, live_for, live_onward, Upshot, concludes, settles, goes_onward, concluded_by}
