@@ -1,9 +1,8 @@
 -- Where a command waits.
-use Rattle.std.proofs.Common.{◌≡◌, ℕ, List, ◌∷◌, refl, subst, arith}
+use Rattle.std.proofs.Common.{◌≡◌, List, ◌∷◌, refl, subst, arith}
 use Rattle.nb_defs.specs.Records.{In, Out}
-use Rattle.nb_record.specs.Outside.{Outside}
 use Rattle.nb_engine.specs.Machine.{Machine, Phase, ready, running, waiting, asking, sleeping, reaching, yielded, handing, left, handed_off, stopped, Path, Begins, runs, refuses, passes_by, brings, passes_time, switches_off, passes_it_by, brings_it, passes_its_time, switches_it_off, sleeps_through_frame, sleeps_on, wakes, goes_off_asleep, goes_on_by_frame, goes_on_by_tick, goes_off}
-use Rattle.nb_boot.specs.Run.{IsBadRest, Awaits}
+use Rattle.nb_boot.specs.Run.{Awaits}
 use Rattle.nb_boot.specs.Laws.{IsAtRest}
 use Rattle.nb_boot.proofs.Spelled.{HasUsed, path_used}
 use Rattle.nb_laws.proofs.Counts.{path_counts}
@@ -45,16 +44,3 @@ awaits_rests (handing rest) a = absurd a
 awaits_rests (left cause) a = absurd a
 awaits_rests handed_off a = absurd a
 awaits_rests stopped a = absurd a
-
-pub bad_awaits : (phase : Phase) (rest : List ℕ) (o : Outside) → IsBadRest phase rest o → (phase ≡ ready → ⊥) → Awaits phase
-bad_awaits ready rest o b rises = absurd (rises refl)
-bad_awaits (reaching w s next) rest o b rises = b
-bad_awaits (running w s) rest o b rises = b
-bad_awaits (waiting w s x) rest o b rises = tt
-bad_awaits (asking w s x) rest o b rises = tt
-bad_awaits (sleeping w s until) rest o b rises = tt
-bad_awaits (yielded w s) rest o b rises = tt
-bad_awaits (handing more) rest o b rises = b
-bad_awaits (left cause) rest o b rises = b
-bad_awaits handed_off rest o b rises = b
-bad_awaits stopped rest o b rises = b

@@ -1,18 +1,19 @@
--- With no fault and memory enough, a run ends as the machine does.
+-- With no fault and memory enough, a run ends as its course does.
 use Rattle.std.proofs.Common.{◌≡◌, ℕ, ◌<◌, ◌⊎◌, Bool, true, false, inl, inr, List, [], ◌∷◌, ◌++◌, length, Option, Some, None, refl, sym, ◌∙◌, ap, subst, arith, append-nil, append_assoc, length-append}
 use Rattle.std.specs.Prelude.{IsSome, IfSome, if◌then◌else◌}
 use Rattle.nb_defs.specs.Causes.{is_ok_cause}
 use Rattle.nb_defs.specs.Records.{Start, In, start, frame, tick, off, IsIn, in_text, in_texts, IsPartial, IsBroken}
 use Rattle.nb_defs.proofs.RecordLaws.{in_text_apart, partial_not_whole, length-in_text}
-use Rattle.nb_engine.specs.Machine.{Machine, Phase, ready, running, waiting, asking, sleeping, reaching, yielded, handing, left, handed_off, stopped}
+use Rattle.nb_machine.specs.Courses.{Standing, ready, running, waiting, reaching, yielded, handing, left, handed_off, stopped, Progress}
 use Rattle.nb_opens.specs.Graphs.{without_graph}
 use Rattle.nb_record.specs.Outside.{Outside, Gave, IsAtEnd}
-use Rattle.nb_boot.specs.Run.{Run, Shows, IsOther, IsFirst, BeginsWith, IsBadRest, Ends, was_left, was_handed, was_stopped, ran_out, was_bad, was_full}
+use Rattle.nb_boot.specs.Run.{IsOther, IsFirst, BeginsWith}
+use Rattle.nb_boot.specs.Shown.{NoneMayCome, EndsWhere, was_left, was_handed, was_stopped, ran_out, was_bad, was_full, Shown, ShowsCourse}
 use Rattle.nb_boot.specs.Complete.{Completes, AreOthers}
 use Rattle.nb_runner.specs.declared.status.Status.{Status}
 use Rattle.nb_runner.specs.declared.status.Status.TheVariants as status
-use Rattle.nb_laws.proofs.Counts.{path_counts}
-use Rattle.nb_boot.proofs.Spelled.{path_in, path_used, HasUsed, Rest, spelled_rest, others_in, others_rest}
+use Rattle.nb_boot.proofs.Spelled.{Rest, spelled_rest, others_in, others_rest}
+use Rattle.nb_boot.proofs.CourseInputs.{course_in, course_counts, UsedBy, used_by}
 
 -- what was read, and what is left, is what was left before
 pub gave_told : (old now : Option (List ℕ)) (input read : List ℕ) → old ≡ Some input → IsSome now → Gave old now read → (after : List ℕ) × (now ≡ Some after) × (input ≡ read ++ after)
@@ -55,6 +56,23 @@ pub empty_front : (rest after : List ℕ) → [] ≡ rest ++ after → rest ≡ 
 empty_front [] after e = refl
 empty_front (x ∷ xs) after e = absurd (omega (arith, ap length e))
 
+-- bytes that begin with a record are some
+pub some_bytes : (q : In) (tail : List ℕ) → in_text q ++ tail ≡ [] → ⊥
+some_bytes q tail e = omega (arith, ap length e, length-append (in_text q) tail, length-in_text q)
+
+-- where a command waits, a rest that begins with another record than START isn't bad
+pub no_bad_waiting : (q : In) (tail rest after : List ℕ) (o : Outside) → IsIn q → IsOther q → in_text q ++ tail ≡ rest ++ after → o.left ≡ Some after →
+    IsBroken rest ⊎ (BeginsWith rest IsFirst ⊎ (IsPartial rest × (0 < length rest) × IsAtEnd o)) → ⊥
+no_bad_waiting q tail rest after o valid other e told (inl b) = b q after tail valid (sym e)
+no_bad_waiting q tail rest after o valid other e told (inr (inl w)) = first_no_other q (same_entry IsFirst q tail rest after valid e w) other
+no_bad_waiting q tail rest after o valid other e told (inr (inr (p, some, end))) = partial_not_whole q rest tail valid (ended_there rest after (in_text q ++ tail) o e told end) p
+
+-- nor one of nothing
+pub no_bad_end : (rest : List ℕ) (o : Outside) → rest ≡ [] → IsBroken rest ⊎ (BeginsWith rest IsFirst ⊎ (IsPartial rest × (0 < length rest) × IsAtEnd o)) → ⊥
+no_bad_end rest o e (inl b) = b off (in_text off) [] tt (ap (λ t. t ++ in_text off) e ∙ sym (append-nil (in_text off)))
+no_bad_end rest o e (inr (inl w)) = omega (arith, ap length e, ap length w.spelled, length-append (in_text w.entry) w.more, length-in_text w.entry)
+no_bad_end rest o e (inr (inr (p, some, end))) = omega (arith, ap length e, some)
+
 -- after records used, a rest that begins with another than START, or where nothing follows, is not bad
 no_bad_later : (more : List In) (rest after : List ℕ) (o : Outside) → AreOthers more → in_texts more ≡ rest ++ after → o.left ≡ Some after →
     IsBroken rest ⊎ (BeginsWith rest IsFirst ⊎ (IsPartial rest × (0 < length rest) × IsAtEnd o)) → ⊥
@@ -68,59 +86,51 @@ no_bad_later (q ∷ qs) rest after o a e told (inr (inl w)) = first_no_other q (
 no_bad_later (q ∷ qs) rest after o a e told (inr (inr (p, some, end))) =
     partial_not_whole q rest (in_texts qs) a.0 (ended_there rest after (in_text q ++ in_texts qs) o e told end) p
 
-no_records : (ins : List In) → length ins ≡ 0 → ins ≡ []
-no_records [] h = refl
-no_records (r ∷ rs) h = absurd (omega (arith, h))
-
 -- an input that is spelled so has no bad rest
-no_bad : (phase : Phase) (s : Start) (others ins : List In) (rest after : List ℕ) (o : Outside) → IsIn (start s) → AreOthers others →
-    Rest ins (start s ∷ others) (rest ++ after) → HasUsed (length ins) phase → o.left ≡ Some after → IsBadRest phase rest o → ⊥
+no_bad : (p : Standing) (s : Start) (others ins : List In) (rest after : List ℕ) (o : Outside) → IsIn (start s) → AreOthers others →
+    Rest ins (start s ∷ others) (rest ++ after) → UsedBy p ins → o.left ≡ Some after → NoneMayCome p rest o → ⊥
 no_bad ready s others ins rest after o valid a t u told b =
-    let all : start s ∷ others ≡ t.more = t.are ∙ ap (λ xs. xs ++ t.more) (no_records ins u) in
+    let all : start s ∷ others ≡ t.more = t.are ∙ ap (λ xs. xs ++ t.more) u in
     no_bad_first s (in_texts others) rest after o valid (ap (λ xs. in_texts xs) all ∙ t.spelled) told b
-no_bad (waiting w x op) s others ins rest after o valid a t u told b =
+no_bad (waiting w x) s others ins rest after o valid a t u told b =
     no_bad_later t.more rest after o (others_rest ins t.more others (start s) t.are u a) t.spelled told b
-no_bad (asking w x op) s others ins rest after o valid a t u told b =
+no_bad (yielded w x outer) s others ins rest after o valid a t u told b =
     no_bad_later t.more rest after o (others_rest ins t.more others (start s) t.are u a) t.spelled told b
-no_bad (sleeping w x until) s others ins rest after o valid a t u told b =
-    no_bad_later t.more rest after o (others_rest ins t.more others (start s) t.are u a) t.spelled told b
-no_bad (yielded w x) s others ins rest after o valid a t u told b =
-    no_bad_later t.more rest after o (others_rest ins t.more others (start s) t.are u a) t.spelled told b
-no_bad (reaching w x next) s others ins rest after o valid a t u told b = b
-no_bad (running w x) s others ins rest after o valid a t u told b = b
-no_bad (handing x) s others ins rest after o valid a t u told b = b
-no_bad (left cause) s others ins rest after o valid a t u told b = b
-no_bad handed_off s others ins rest after o valid a t u told b = b
-no_bad stopped s others ins rest after o valid a t u told b = b
+no_bad (reaching w x outer next) s others ins rest after o valid a t u told b = b
+no_bad (running w x outer) s others ins rest after o valid a t u told b = b
+no_bad (handing w x) s others ins rest after o valid a t u told b = b
+no_bad (left w outer cause) s others ins rest after o valid a t u told b = b
+no_bad (handed_off w) s others ins rest after o valid a t u told b = b
+no_bad (stopped w) s others ins rest after o valid a t u told b = b
 
 -- the status of a script that was left is 3 or 4
 left_low : (ok : Bool) → (if ok then 3 else 4) < 5
 left_low true = omega arith
 left_low false = omega arith
 
-ends_bad : (m : Machine) (rest : List ℕ) (o : Outside) → Ends m rest o 6 → IsBadRest m.phase rest o
-ends_bad m rest o (was_left cause h e) = absurd (omega (arith, e, left_low (is_ok_cause cause)))
-ends_bad m rest o (was_handed h e) = absurd (omega (arith, e))
-ends_bad m rest o (was_stopped h e) = absurd (omega (arith, e))
-ends_bad m rest o (ran_out h none end e) = absurd (omega (arith, e))
-ends_bad m rest o (was_bad few bad e) = bad
-ends_bad m rest o (was_full full h some e) = absurd (omega (arith, e))
+ends_bad : (p : Progress) (rest : List ℕ) (o : Outside) → EndsWhere p rest o 6 → NoneMayCome p.standing rest o
+ends_bad p rest o (was_left s cause h e) = absurd (omega (arith, e, left_low (is_ok_cause cause)))
+ends_bad p rest o (was_handed s h e) = absurd (omega (arith, e))
+ends_bad p rest o (was_stopped s h e) = absurd (omega (arith, e))
+ends_bad p rest o (ran_out h none end e) = absurd (omega (arith, e))
+ends_bad p rest o (was_bad few bad e) = bad
+ends_bad p rest o (was_full full h some e) = absurd (omega (arith, e))
 
-ends_full : (m : Machine) (rest : List ℕ) (o : Outside) → Ends m rest o 11 → (m.used ≡ 4294967295) × (0 < length rest)
-ends_full m rest o (was_left cause h e) = absurd (omega (arith, e, left_low (is_ok_cause cause)))
-ends_full m rest o (was_handed h e) = absurd (omega (arith, e))
-ends_full m rest o (was_stopped h e) = absurd (omega (arith, e))
-ends_full m rest o (ran_out h none end e) = absurd (omega (arith, e))
-ends_full m rest o (was_bad few bad e) = absurd (omega (arith, e))
-ends_full m rest o (was_full full h some e) = (full, some)
+ends_full : (p : Progress) (rest : List ℕ) (o : Outside) → EndsWhere p rest o 11 → (p.used ≡ 4294967295) × (0 < length rest)
+ends_full p rest o (was_left s cause h e) = absurd (omega (arith, e, left_low (is_ok_cause cause)))
+ends_full p rest o (was_handed s h e) = absurd (omega (arith, e))
+ends_full p rest o (was_stopped s h e) = absurd (omega (arith, e))
+ends_full p rest o (ran_out h none end e) = absurd (omega (arith, e))
+ends_full p rest o (was_bad few bad e) = absurd (omega (arith, e))
+ends_full p rest o (was_full full h some e) = (full, some)
 
 -- what a run used of an input that is spelled so
-pub record Told (before after : Outside) (r : Run before after) (s : Start) (others : List In) : Type 0 where
+pub record Told (before after : Outside) (r : Shown before after) (s : Start) (others : List In) : Type 0 where
   pub behind : List ℕ
   pub now : after.left ≡ Some behind
   pub rest : Rest r.ins (start s ∷ others) (r.rest ++ behind)
 
-told : (before after : Outside) (r : Run before after) (s : Start) (others : List In) → IsIn (start s) → AreOthers others →
+told : (before after : Outside) (r : Shown before after) (s : Start) (others : List In) → IsIn (start s) → AreOthers others →
     before.left ≡ Some (in_texts (start s ∷ others)) → IsSome after.left → Told before after r s others
 told before after r s others valid a e some =
     let t = gave_told before.left after.left (in_texts (start s ∷ others)) r.read e some r.passes.gave in
@@ -129,7 +139,7 @@ told before after r s others valid a e some =
     record {
       behind = t.0;
       now = t.1;
-      rest = spelled_rest r.ins (start s ∷ others) (r.rest ++ t.0) (path_in r.ins (without_graph r.outs) r.machine r.path) (valid, others_in others a) all;
+      rest = spelled_rest r.ins (start s ∷ others) (r.rest ++ t.0) (course_in r.ins (without_graph r.outs) r.progress r.course) (valid, others_in others a) all;
     }
 
 -- records that spell more bytes are some
@@ -137,23 +147,22 @@ some_more : (more : List In) (rest after : List ℕ) → in_texts more ≡ rest 
 some_more [] rest after e h = absurd (omega (arith, ap length (empty_front rest after e), h))
 some_more (r ∷ rs) rest after e h = omega arith
 
-pub completes : (s : Status) (before after : Outside) → Shows s before after → Completes s before after
+pub completes : (s : Status) (before after : Outside) → ShowsCourse s before after → Completes s before after
 completes status.HandedOff before after (r, o) = λ s others valid a e some none memory. tt
 completes status.Ended before after (r, o) = λ s others valid a e some none memory. tt
 completes status.ScriptFailed before after (r, o) = λ s others valid a e some none memory. tt
 completes status.Unfinished before after (r, o) = λ s others valid a e some none memory. tt
 completes status.BadRecord before after (r, o) = λ s others valid a e some none memory.
     let t = told before after r s others valid a e some in
-    let used : HasUsed (length r.ins) r.machine.phase =
-    subst (λ n. HasUsed n r.machine.phase) (path_counts r.ins (without_graph r.outs) r.machine r.path) (path_used r.ins (without_graph r.outs) r.machine r.path) in
-    no_bad r.machine.phase s others r.ins r.rest t.behind after valid a t.rest used t.now (ends_bad r.machine r.rest after o.ends)
+    let used = used_by r.ins (without_graph r.outs) r.progress r.course in
+    no_bad r.progress.standing s others r.ins r.rest t.behind after valid a t.rest used t.now (ends_bad r.progress r.rest after o.ends)
 completes status.TooManyRecords before after (r, o) = λ s others valid a e some none memory.
     let t = told before after r s others valid a e some in
-    let full = ends_full r.machine r.rest after o.ends in
+    let full = ends_full r.progress r.rest after o.ends in
     omega (
       arith,
       full.0,
-      path_counts r.ins (without_graph r.outs) r.machine r.path,
+      course_counts r.ins (without_graph r.outs) r.progress r.course,
       some_more t.rest.more r.rest t.behind t.rest.spelled full.1,
       ap length t.rest.are,
       length-append r.ins t.rest.more,

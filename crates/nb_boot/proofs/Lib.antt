@@ -25,6 +25,8 @@ pub mod OneStep
 pub mod OneRuns
 pub mod Comparing
 pub mod Telling
+pub mod CourseInputs
+pub mod Determining
 pub mod Histories
 pub mod Shut
 pub mod Stepping

@@ -1,20 +1,9 @@
 -- What comes to an open has one answer, and bytes bring a client one thing.
-use Rattle.std.proofs.Common.{◌≡◌, ℕ, ◌⊎◌, inl, inr, List, [], ◌∷◌, ◌++◌, filter, map, Option, Some, None, refl, sym, ◌∙◌, ap, subst, append_assoc, append-nil}
-use Rattle.std.proofs.lemmas.List.{append_cancel_left, map-append}
-use Rattle.std.proofs.lemmas.List.Elements.{filter-append}
+use Rattle.std.proofs.Common.{◌≡◌, ℕ, ◌⊎◌, inl, inr, List, [], ◌∷◌, ◌++◌, Option, Some, None, refl, sym, ◌∙◌, ap}
 use Rattle.nb_terms.specs.declared.acts.Acts.{Acts}
 use Rattle.nb_terms.specs.declared.cause.Cause.{Cause}
-use Rattle.nb_retry.specs.declared.retry.Due.{Due}
-use Rattle.nb_retry.specs.declared.retry.Due.TheVariants.{Not, Again, Over}
-use Rattle.nb_retry.specs.declared.plan.Plan.TheVariants.{Common}
-use Rattle.nb_retry.specs.Plans.{asked_at, firings, waits}
-use Rattle.nb_retry.specs.Calls.{fires}
-use Rattle.nb_tftp.specs.Asks.{Begun, due_acts}
-use Rattle.nb_tftp.specs.History.{Call, came, ticked, Entry, entry, got, watched, due_of, EachEntry}
-use Rattle.nb_tftp.specs.Received.{fixed_port}
-use Rattle.nb_tftp.specs.Blocks.{count}
-use Rattle.nb_tftp.specs.Sentences.{Meets, AsksSo}
-use Rattle.nb_tftp.proofs.HistoryLemmas.{watched-append}
+use Rattle.nb_tftp.specs.History.{Call, entry}
+use Rattle.nb_tftp.specs.Sentences.{Meets}
 use Rattle.nb_stack.specs.Client.{Client}
 use Rattle.nb_stack.specs.Takes.{Outcome, Takes, outcome_of, reply_of, client_after}
 use Rattle.nb_stack.proofs.MessageLaws.{message_one}
@@ -25,44 +14,8 @@ use Rattle.nb_engine.specs.Opens.{Open, body_of, with_entry}
 use Rattle.nb_machine.specs.Sendings.{acts_records, end_of}
 use Rattle.nb_machine.specs.Conclusions.{conclusion_records}
 use Rattle.nb_machine.specs.Running.{Running}
+use Rattle.nb_onecourse.proofs.CoreAnswers.{one_answer}
 use Rattle.nb_engine.specs.Machine.{Phase, waiting, Hears, goes_on, is_over, phase_after, concluded}
-
--- a fact of the last entry
-each_last : (P : List Entry → Entry → Type 0) (before es : List Entry) (e : Entry) → EachEntry P before (es ++ e ∷ []) → P (before ++ es) e
-each_last P before [] e h = subst (λ z. P z e) (sym (append-nil before)) h.0
-each_last P before (x ∷ es) e h = subst (λ z. P z e) (append_assoc before (x ∷ []) es) (each_last P (before ++ x ∷ []) es e h.1)
-
--- what was said at the last time
-pub last_said : (n : ℕ) (c d : Due) → filter (λ call. fires call.said) (asked_at n c ∷ []) ≡ filter (λ call. fires call.said) (asked_at n d ∷ []) → c ≡ d
-last_said n Not Not h = refl
-last_said n Not (Again m) h = absurd (cc)
-last_said n Not Over h = absurd (cc)
-last_said n (Again k) Not h = absurd (cc)
-last_said n (Again k) (Again m) h = cc
-last_said n (Again k) Over h = absurd (cc)
-last_said n Over Not h = absurd (cc)
-last_said n Over (Again m) h = absurd (cc)
-last_said n Over Over h = refl
-
--- the firings of a watch whose last time was said so
-fired : (b : Begun) (began now : ℕ) (es : List Entry) (a : Acts) → Meets b began (es ++ entry (ticked now) a ∷ []) →
-    filter (λ call. fires call.said) (watched began es).times ++ filter (λ call. fires call.said) (asked_at now (due_of a) ∷ [])
-    ≡ firings (watched began es).since (waits Common) (map (λ call. call.at) (watched began es).times ++ now ∷ [])
-fired b began now es a m =
-    let w = watched-append began es (entry (ticked now) a) in
-    let t = rw w at m.tries in
-    sym (filter-append (λ call. fires call.said) (watched began es).times (asked_at now (due_of a) ∷ [])) ∙ t
-    ∙ ap (firings (watched began es).since (waits Common)) (map-append (λ call. call.at) (watched began es).times (asked_at now (due_of a) ∷ []))
-
--- the promises of a transfer leave it one answer
-one_answer : (b : Begun) (began : ℕ) (es : List Entry) (call : Call) (a c : Acts) → Meets b began (es ++ entry call a ∷ []) → Meets b began (es ++ entry call c ∷ []) → a ≡ c
-one_answer b began es (came m now) a c p q =
-    each_last (AsksSo b) [] es (entry (came m now) a) p.sending ∙ sym (each_last (AsksSo b) [] es (entry (came m now) c) q.sending)
-one_answer b began es (ticked now) a c p q =
-    let due = last_said now (due_of a) (due_of c) (append_cancel_left (filter (λ call. fires call.said) (watched began es).times) _ _ (fired b began now es a p ∙ sym (fired b began now es c q))) in
-    each_last (AsksSo b) [] es (entry (ticked now) a) p.sending
-    ∙ ap (due_acts b (fixed_port (got es)) (count (got es))) due
-    ∙ sym (each_last (AsksSo b) [] es (entry (ticked now) c) q.sending)
 
 -- bytes bring a client one thing
 pub record TookOne (seen seen' : Outcome) (reply reply' : List ℕ) (net net' : Client) : Type 0 where

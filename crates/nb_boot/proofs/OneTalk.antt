@@ -1,26 +1,10 @@
 -- What comes to an open of one object has one answer.
-use Rattle.std.proofs.Common.{◌≡◌, ℕ, inl, inr, List, [], ◌∷◌, ◌++◌, filter, map, Option, Some, None, sym, ◌∙◌, ap, subst}
-use Rattle.std.proofs.lemmas.List.{append_cancel_left, map-append}
-use Rattle.std.proofs.lemmas.List.Elements.{filter-append}
+use Rattle.std.proofs.Common.{◌≡◌, ℕ, List, [], ◌∷◌, ◌++◌, Option, Some, None, sym, ◌∙◌, ap}
 use Rattle.nb_terms.specs.declared.acts.Acts.{Acts}
 use Rattle.nb_terms.specs.declared.cause.Cause.{Cause}
-use Rattle.nb_retry.specs.declared.retry.Due.{Due}
-use Rattle.nb_retry.specs.declared.plan.Plan.TheVariants.{Common, Dhcp}
-use Rattle.nb_retry.specs.Plans.{Asked, asked_at, firings, waits}
-use Rattle.nb_retry.specs.Calls.{fires}
-use Rattle.nb_dns.specs.Lookups.{Lookup, asks_end, asks_by, lookup_cause}
-use Rattle.nb_dns.specs.LookupCalls.{DnsDatagram, LookupCall, arrived, clocked, LookupEntry, lookup_entry, datagrams, lookup_times, said_by}
-use Rattle.nb_dns.specs.LookupPromises.{AsksAt, AsksInTurn, LookupMeets}
-use Rattle.nb_dns.proofs.CallsLemmas.{lookup_times-append, each-last, reply_one}
-use Rattle.nb_dhcp.specs.declared.asker.Asker.{Asker}
-use Rattle.nb_dhcp.specs.History.{LeaseCall, replied, elapsed, LeaseEntry, lease_entry, all_handed, taken_offer, timer_said, LeaseWatch, lease_watch}
-use Rattle.nb_dhcp.specs.Acting.{timer_acts}
-use Rattle.nb_dhcp.specs.Promises.{ActsSo, TriesInPlan, LeasePromises}
-use Rattle.nb_dhcp.proofs.LeaseHistoryLemmas.{lease_watch-append, AtEach-at}
-use Rattle.nb_ping.specs.Pings.{Pinged, ping_asks}
-use Rattle.nb_ping.specs.PingCalls.{PingCall, echoed, waited, PingEntry, ping_entry, ping_times, ping_said}
-use Rattle.nb_ping.specs.PingPromises.{PingAsksInTurn, PingMeets}
-use Rattle.nb_ping.proofs.PingCallsLemmas.{ping_times-append, each-last as each_ping_last}
+use Rattle.nb_dns.specs.LookupCalls.{arrived, clocked, lookup_entry}
+use Rattle.nb_dhcp.specs.History.{replied, elapsed, lease_entry}
+use Rattle.nb_ping.specs.PingCalls.{echoed, waited, ping_entry}
 use Rattle.nb_nodes.specs.LookupExchanges.{lookup_for, dns_datagram_in}
 use Rattle.nb_nodes.specs.LeaseExchanges.{handed_in}
 use Rattle.nb_nodes.specs.EchoExchanges.{reply_in}
@@ -32,69 +16,8 @@ use Rattle.nb_machine.specs.Sendings.{acts_records}
 use Rattle.nb_defs.specs.Records.{Out, ended, result}
 use Rattle.nb_machine.specs.Running.{Running, with_result}
 use Rattle.nb_engine.specs.Machine.{Phase, running, asking, reaching, Replies, talks_on, comes_to_end, finds_host}
-use Rattle.nb_boot.proofs.OneAnswer.{last_said, HeardOne}
-
--- times after which a plan has fired as it has to leave one word to the last
-last_one : (plan : _) (start now : ℕ) (times : List Asked) (c d : Due) →
-    filter (λ (call : Asked). fires call.said) (times ++ asked_at now c ∷ []) ≡ firings start plan (map (λ (call : Asked). call.at) (times ++ asked_at now c ∷ [])) →
-    filter (λ (call : Asked). fires call.said) (times ++ asked_at now d ∷ []) ≡ firings start plan (map (λ (call : Asked). call.at) (times ++ asked_at now d ∷ [])) → c ≡ d
-last_one plan start now times c d p q =
-    last_said now c d (append_cancel_left (filter (λ (call : Asked). fires call.said) times) _ _ (as_fired c p ∙ sym (as_fired d q)))
-  where
-    as_fired : (x : Due) → filter (λ (call : Asked). fires call.said) (times ++ asked_at now x ∷ []) ≡ firings start plan (map (λ (call : Asked). call.at) (times ++ asked_at now x ∷ [])) →
-        filter (λ (call : Asked). fires call.said) times ++ filter (λ (call : Asked). fires call.said) (asked_at now x ∷ []) ≡ firings start plan (map (λ (call : Asked). call.at) times ++ now ∷ [])
-    as_fired x h =
-        sym (filter-append (λ (call : Asked). fires call.said) times (asked_at now x ∷ [])) ∙ h
-        ∙ ap (firings start plan) (map-append (λ (call : Asked). call.at) times (asked_at now x ∷ []))
-
--- a datagram of a name server
-arrived_one : (l : Lookup) (before : List DnsDatagram) (m : DnsDatagram) (now : ℕ) (a c : Acts) → AsksAt l before (arrived m now) a → AsksAt l before (arrived m now) c → a ≡ c
-arrived_one l before m now a c (inl x) (inl y) = x.ends ∙ ap (λ z. asks_end (lookup_cause m.rec z)) (reply_one l m x.answer y.answer x.replies y.replies) ∙ sym y.ends
-arrived_one l before m now a c (inl x) (inr (none, nothing)) = absurd (none x.answer x.replies)
-arrived_one l before m now a c (inr (none, nothing)) (inl y) = absurd (none y.answer y.replies)
-arrived_one l before m now a c (inr (none, nothing)) (inr (none', nothing')) = nothing ∙ sym nothing'
-
-look_up_one : (l : Lookup) (start : ℕ) (h : List LookupEntry) (call : LookupCall) (a c : Acts) → LookupMeets l start (h ++ lookup_entry call a ∷ []) → LookupMeets l start (h ++ lookup_entry call c ∷ []) → a ≡ c
-look_up_one l start h (arrived m now) a c p q =
-    arrived_one l (datagrams h) m now a c (each-last (AsksInTurn l) [] h (lookup_entry (arrived m now) a) p.asking) (each-last (AsksInTurn l) [] h (lookup_entry (arrived m now) c) q.asking)
-look_up_one l start h (clocked now) a c p q =
-    let said : said_by a ≡ said_by c = last_one (waits Common) start now (lookup_times h) (said_by a) (said_by c) (tries a p) (tries c q) in
-    let x = each-last (AsksInTurn l) [] h (lookup_entry (clocked now) a) p.asking in
-    let y = each-last (AsksInTurn l) [] h (lookup_entry (clocked now) c) q.asking in
-    x.0 ∙ ap (asks_by l) said ∙ sym y.0
-  where
-    tries : (z : Acts) → LookupMeets l start (h ++ lookup_entry (clocked now) z ∷ []) →
-        filter (λ (call : Asked). fires call.said) (lookup_times h ++ asked_at now (said_by z) ∷ []) ≡ firings start (waits Common) (map (λ (call : Asked). call.at) (lookup_times h ++ asked_at now (said_by z) ∷ []))
-    tries z meets = subst (λ ts. filter (λ (call : Asked). fires call.said) ts ≡ firings start (waits Common) (map (λ (call : Asked). call.at) ts)) (lookup_times-append h (lookup_entry (clocked now) z)) meets.tries
-
-lease_one : (b : Asker) (start : ℕ) (h : List LeaseEntry) (call : LeaseCall) (a c : Acts) → LeasePromises b start (h ++ lease_entry call a ∷ []) → LeasePromises b start (h ++ lease_entry call c ∷ []) → a ≡ c
-lease_one b start h (replied m now) a c p q =
-    AtEach-at (ActsSo b) [] h (lease_entry (replied m now) a) [] p.sending ∙ sym (AtEach-at (ActsSo b) [] h (lease_entry (replied m now) c) [] q.sending)
-lease_one b start h (elapsed now) a c p q =
-    let w = lease_watch start h in
-    let said : timer_said a ≡ timer_said c = last_one (waits Dhcp) w.since now w.times (timer_said a) (timer_said c) (tries a p) (tries c q) in
-    AtEach-at (ActsSo b) [] h (lease_entry (elapsed now) a) [] p.sending ∙ ap (timer_acts b (taken_offer b (all_handed h))) said
-    ∙ sym (AtEach-at (ActsSo b) [] h (lease_entry (elapsed now) c) [] q.sending)
-  where
-    tries : (z : Acts) → LeasePromises b start (h ++ lease_entry (elapsed now) z ∷ []) →
-        filter (λ (call : Asked). fires call.said) ((lease_watch start h).times ++ asked_at now (timer_said z) ∷ [])
-        ≡ firings (lease_watch start h).since (waits Dhcp) (map (λ (call : Asked). call.at) ((lease_watch start h).times ++ asked_at now (timer_said z) ∷ []))
-    tries z meets =
-        subst (λ (v : LeaseWatch). filter (λ (call : Asked). fires call.said) v.times ≡ firings v.since (waits Dhcp) (map (λ (call : Asked). call.at) v.times)) (lease_watch-append start h (lease_entry (elapsed now) z))
-        (AtEach-at (TriesInPlan start) [] h (lease_entry (elapsed now) z) [] meets.tries)
-
-ping_one : (b : Pinged) (start : ℕ) (h : List PingEntry) (call : PingCall) (a c : Acts) → PingMeets b start (h ++ ping_entry call a ∷ []) → PingMeets b start (h ++ ping_entry call c ∷ []) → a ≡ c
-ping_one b start h (echoed r now) a c p q =
-    each_ping_last (PingAsksInTurn b) [] h (ping_entry (echoed r now) a) p.asking ∙ sym (each_ping_last (PingAsksInTurn b) [] h (ping_entry (echoed r now) c) q.asking)
-ping_one b start h (waited now) a c p q =
-    let said : ping_said a ≡ ping_said c = last_one (waits Common) start now (ping_times h) (ping_said a) (ping_said c) (tries a p) (tries c q) in
-    let x = each_ping_last (PingAsksInTurn b) [] h (ping_entry (waited now) a) p.asking in
-    let y = each_ping_last (PingAsksInTurn b) [] h (ping_entry (waited now) c) q.asking in
-    x.0 ∙ ap (ping_asks b) said ∙ sym y.0
-  where
-    tries : (z : Acts) → PingMeets b start (h ++ ping_entry (waited now) z ∷ []) →
-        filter (λ (call : Asked). fires call.said) (ping_times h ++ asked_at now (ping_said z) ∷ []) ≡ firings start (waits Common) (map (λ (call : Asked). call.at) (ping_times h ++ asked_at now (ping_said z) ∷ []))
-    tries z meets = subst (λ ts. filter (λ (call : Asked). fires call.said) ts ≡ firings start (waits Common) (map (λ (call : Asked). call.at) ts)) (ping_times-append h (ping_entry (waited now) z)) meets.tries
+use Rattle.nb_onecourse.proofs.CoreAnswers.{look_up_one, lease_one, ping_one}
+use Rattle.nb_boot.proofs.OneAnswer.{HeardOne}
 
 -- a talk goes on in one way
 record TalkedOne (a c : Acts) (t u : Talk) : Type 0 where

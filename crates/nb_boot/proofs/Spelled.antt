@@ -18,34 +18,13 @@ abbrev pub AreIn : List In → Type 0
 AreIn [] = Unit {0}
 AreIn (r ∷ rs) = IsIn r × AreIn rs
 
-are_in_then : (ins : List In) (r : In) → AreIn ins → IsIn r → AreIn (ins ++ r ∷ [])
+pub are_in_then : (ins : List In) (r : In) → AreIn ins → IsIn r → AreIn (ins ++ r ∷ [])
 are_in_then [] r a v = (v, tt)
 are_in_then (q ∷ qs) r a v = (a.0, are_in_then qs r a.1 v)
 
-begins_in : (m : Machine) (r : In) (added : List Out) (m' : Machine) → Begins m r added m' → IsIn r
-begins_in m r added m' (runs n s code valid plain) = valid
-begins_in m r added m' (refuses n s cause valid plain) = valid
-begins_in m r added m' (passes_by n w s o bytes reply seen net valid t h) = valid
-begins_in m r added m' (brings n w s o bytes reply seen net port body added' phase valid t h k) = valid
-begins_in m r added m' (passes_time n w s o ms added' phase valid h) = valid
-begins_in m r added m' (switches_off n w s o) = tt
-begins_in m r added m' (passes_it_by n w s o bytes reply seen net valid t h) = valid
-begins_in m r added m' (brings_it n w s o bytes reply seen net said added' phase valid t h k) = valid
-begins_in m r added m' (passes_its_time n w s o ms added' phase valid h) = valid
-begins_in m r added m' (switches_it_off n w s o) = tt
-begins_in m r added m' (sleeps_through_frame n w s until bytes reply seen net valid t) = valid
-begins_in m r added m' (sleeps_on n w s until ms valid early) = valid
-begins_in m r added m' (wakes n w s until ms valid late) = valid
-begins_in m r added m' (goes_off_asleep n w s until) = tt
-begins_in m r added m' (goes_on_by_frame n w s bytes reply seen net valid t) = valid
-begins_in m r added m' (goes_on_by_tick n w s ms valid) = valid
-begins_in m r added m' (goes_off n w s) = tt
-
--- the records used have spellings
-pub path_in : (ins : List In) (outs : List Out) (m : Machine) → Path ins outs m → AreIn ins
-path_in ins outs m nothing = tt
-path_in ins outs m (uses ins' outs' m0 r added m' p b) = are_in_then ins' r (path_in ins' outs' m0 p) (begins_in m0 r added m' b)
-path_in ins outs m (moves ins' outs' m0 added m' p b) = path_in ins' outs' m0 p
+pub are-here : (xs : List In) (q : In) (qs : List In) → AreIn (xs ++ q ∷ qs) → IsIn q
+are-here [] q qs v = v.0
+are-here (x ∷ xs) q qs v = are-here xs q qs v.1
 
 -- how many records were used, by where a run stands: none, or some
 abbrev pub HasUsed : ℕ → Phase → Type 0

@@ -10,3 +10,4 @@ pub mod LowestObjects
 pub mod Entries
 pub mod Shown
 pub mod Lawful
+pub mod Determined

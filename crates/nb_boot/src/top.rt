@@ -5,6 +5,7 @@ ghost use Rattle.nb_boot.specs.Shown.{ShowsCourse};
 ghost use Rattle.nb_boot.specs.Lawful.{AreLawful};
 ghost use Rattle.nb_boot.specs.Words.{AreWords};
 ghost use Rattle.nb_boot.specs.Complete.{Completes, CompletesRun, IsBadWords};
+ghost use Rattle.nb_boot.specs.Determined.{IsDetermined};
 
 use crate::Status;
 use crate::begin::begin;
@@ -93,6 +94,8 @@ pub fn netboot<L: Line>(alloc: Global, words: &[String], line: &mut L) -> Status
     ensures complete { AreWords (map string_bytes words.now) → Completes result (L.outside line.old) (L.outside line.new) }
     // With no fault and memory enough the input alone says the status, where a run on it is over or waits at its end.
     ensures alone { AreWords (map string_bytes words.now) → CompletesRun result (L.outside line.old) (L.outside line.new) }
+    // The same of the machine's course, however many opens live; and the input alone says what was written, without GRAPH.
+    ensures determined { AreWords (map string_bytes words.now) → IsDetermined result (L.outside line.old) (L.outside line.new) }
 {
     match target(words) {
         Some(target) => attach(alloc, &target, line),

@@ -1,0 +1,14 @@
+pub mod Ends
+pub mod Dues
+pub mod CoreAnswers
+pub mod Transfers
+pub mod Asked
+pub mod EachKind
+pub mod EachTakes
+pub mod EachRecord
+pub mod Unended
+pub mod Nexts
+pub mod OneNext
+pub mod EachStep
+pub mod OneCourse
+pub mod EachClosing

@@ -1,0 +1,102 @@
+-- What a run does next, as a function; where it has come to rest, nothing.
+use Rattle.std.proofs.Common.{◌≡◌, ℕ, ◌==◌, Bool, true, false, List, [], ◌∷◌, ◌++◌, Option, Some, None, refl}
+use Rattle.std.specs.Prelude.{slice_get}
+use Rattle.nb_defs.specs.Causes.{ok}
+use Rattle.nb_defs.specs.Commands.{CommandOutcome, refused}
+use Rattle.nb_defs.specs.Records.{Out, leave, result}
+use Rattle.nb_defs.specs.ScriptLines.{label_place}
+use Rattle.nb_stack.specs.Client.{Client}
+use Rattle.nb_machine.specs.Conclusions.{fails, conclusion_records}
+use Rattle.nb_machine.specs.Effects.{shown_words, full_opens}
+use Rattle.nb_machine.specs.Errands.{Onward}
+use Rattle.nb_machine.specs.Running.{Running, Coming, coming, passing, leaving, beginning, entered, further, behind_line, with_result, no_label}
+use Rattle.nb_machine.specs.CommandRecords.{command_record, command_records, no_route}
+use Rattle.nb_machine.specs.Lives.{Live, open_record, end_record}
+use Rattle.nb_machine.specs.Kinds.{first_records}
+use Rattle.nb_machine.specs.States.{State, with_live, with_opened, with_one_made}
+use Rattle.nb_machine.specs.Scripts.{Job, sleep, Doing, ends, opens, goes_to, waits_until, shuts, doing, live_onward, job_onward, answer, moment}
+use Rattle.nb_machine.specs.Courses.{Standing, ready, running, waiting, reaching, yielded, handing, left, handed_off, stopped}
+use Rattle.nb_onecourse.specs.Rests.{HasComeToRest}
+
+-- what is next: nothing; these records, and then this standing; or, after this record, all that lives in this state is closed
+pub data Next : Type 0 where
+  still : Next
+  puts : List Out → Standing → Next
+  shuts_all : Out → State → Standing → Next
+
+abbrev pub next_ended : State → Running → List Running → List (List ℕ) → CommandOutcome → State → Bool → Next
+next_ended s inner outer ws o s' true = puts (command_records inner (shown_words s.table ws) o ++ (leave inner.depth o.cause ∷ [])) (left s' outer o.cause)
+next_ended s inner outer ws o s' false = puts (command_records inner (shown_words s.table ws) o) (running s' (further inner o.cause) outer)
+
+abbrev pub next_route : State → Running → List Running → List (List ℕ) → State → Live → Job → Option (List Out) → Next
+next_route s inner outer ws s' l job (Some put) =
+    puts (command_record inner (shown_words s.table ws) ∷ open_record l ∷ put) (waiting (with_opened s' l) (record { script = entered inner; outer = outer; awaited = answer l.number; job = job }))
+next_route s inner outer ws s' l job None =
+    puts (command_record inner (shown_words s.table ws) ∷ open_record l ∷ end_record l (no_route l.server) ∷ conclusion_records (fails (no_route l.server))) (running (with_one_made s') (further inner (no_route l.server)) outer)
+
+abbrev pub next_opened : State → Running → List Running → List (List ℕ) → State → Live → Job → Option Client → Next
+next_opened s inner outer ws s' l job None = still
+next_opened s inner outer ws s' l job (Some link) = next_route s inner outer ws s' l job (first_records l.kind l link)
+
+abbrev pub next_label : State → Running → List Running → List (List ℕ) → Option ℕ → Next
+next_label s inner outer ws (Some line) = puts (command_records inner (shown_words s.table ws) (refused ok)) (running s (behind_line inner line) outer)
+next_label s inner outer ws None = puts (command_records inner (shown_words s.table ws) (refused no_label)) (running s (further inner no_label) outer)
+
+abbrev pub next_doing : State → Running → List Running → List (List ℕ) → Doing → Next
+next_doing s inner outer ws (ends o s') = next_ended s inner outer ws o s' o.leaves
+next_doing s inner outer ws (opens s' l job) = next_opened s inner outer ws s' l job (slice_get s'.devices l.device)
+next_doing s inner outer ws (goes_to name) = next_label s inner outer ws (label_place name inner.code)
+next_doing s inner outer ws (waits_until time) =
+    puts (command_record inner (shown_words s.table ws) ∷ []) (waiting s (record { script = entered inner; outer = outer; awaited = moment time; job = sleep }))
+next_doing s inner outer ws (shuts s') = shuts_all (command_record inner (shown_words s.table ws)) s' (running (with_live s' []) (further inner ok) outer)
+
+abbrev pub next_begun : State → Running → List Running → List (List ℕ) → Bool → Next
+next_begun s inner outer ws true = puts [] (yielded s inner outer)
+next_begun s inner outer ws false = next_doing s inner outer ws (doing s ws)
+
+abbrev pub next_coming : State → Running → List Running → Coming → Next
+next_coming s inner outer (passing next) = puts [] (running s next outer)
+next_coming s inner outer (leaving cause) = puts (leave inner.depth cause ∷ []) (left s outer cause)
+next_coming s inner outer (beginning c cs) = next_begun s inner outer (c ∷ cs) (inner.begun == 4096)
+
+abbrev pub next_way : State → Running → List Running → Onward → Option (List Out) → Next
+next_way s inner outer next (Some put) =
+    puts (open_record (live_onward s next) ∷ put) (waiting (with_opened s (live_onward s next)) (record { script = inner; outer = outer; awaited = answer (live_onward s next).number; job = job_onward next }))
+next_way s inner outer next None =
+    puts (open_record (live_onward s next) ∷ end_record (live_onward s next) (no_route (live_onward s next).server) ∷ conclusion_records (fails (no_route (live_onward s next).server)))
+    (running (with_one_made s) (with_result inner (no_route (live_onward s next).server)) outer)
+
+abbrev pub next_link : State → Running → List Running → Onward → Option Client → Next
+next_link s inner outer next None = still
+next_link s inner outer next (Some link) = next_way s inner outer next (first_records (live_onward s next).kind (live_onward s next) link)
+
+abbrev pub next_onward : State → Running → List Running → Onward → Bool → Next
+next_onward s inner outer next true = puts (result full_opens ∷ []) (running s (with_result inner full_opens) outer)
+next_onward s inner outer next false = next_link s inner outer next (slice_get s.devices (live_onward s next).device)
+
+abbrev pub next_handed : State → List Out → Next
+next_handed s [] = puts [] (handed_off s)
+next_handed s (r ∷ rest) = puts (r ∷ []) (handing s rest)
+
+abbrev pub what_next : Standing → Next
+what_next ready = still
+what_next (running s inner outer) = next_coming s inner outer (coming inner)
+what_next (waiting s w) = still
+what_next (reaching s inner outer next) = next_onward s inner outer next (s.opens == 16384)
+what_next (yielded s inner outer) = still
+what_next (handing s rest) = next_handed s rest
+what_next (left s outer cause) = still
+what_next (handed_off s) = still
+what_next (stopped s) = still
+
+-- at rest nothing is next
+pub rest_still : (p : Standing) → HasComeToRest p → what_next p ≡ still
+rest_still ready h = absurd h
+rest_still (running s inner outer) h = absurd h
+rest_still (waiting s w) h = refl
+rest_still (reaching s inner outer next) h = absurd h
+rest_still (yielded s inner outer) h = refl
+rest_still (handing s rest) h = absurd h
+rest_still (left s outer cause) h = refl
+rest_still (handed_off s) h = refl
+rest_still (stopped s) h = refl

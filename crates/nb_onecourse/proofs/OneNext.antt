@@ -1,0 +1,148 @@
+-- What a run does next is one.
+use Rattle.std.proofs.Common.{◌≡◌, ℕ, ◌<◌, ◌==◌, Bool, true, false, List, [], ◌∷◌, ◌++◌, Option, Some, None, refl, sym, ◌∙◌, ap, subst, arith, eq-eqb, ne_eqb}
+use Rattle.std.specs.Prelude.{slice_get}
+use Rattle.nb_defs.specs.Causes.{ok}
+use Rattle.nb_defs.specs.Records.{Out, result}
+use Rattle.nb_defs.specs.ScriptLines.{label_place}
+use Rattle.nb_stack.specs.Client.{Client}
+use Rattle.nb_machine.specs.Errands.{Onward}
+use Rattle.nb_machine.specs.Running.{Running, Coming, coming, passing, leaving, beginning}
+use Rattle.nb_machine.specs.Lives.{close}
+use Rattle.nb_machine.specs.Kinds.{first_records}
+use Rattle.nb_machine.specs.States.{State}
+use Rattle.nb_machine.specs.Takings.{Over, AllTake}
+use Rattle.nb_machine.specs.Scripts.{Doing, ends, opens, goes_to, waits_until, shuts, doing, live_onward}
+use Rattle.nb_machine.specs.Courses.{down_cause, Standing, ready, running, waiting, reaching, yielded, handing, left, handed_off, stopped, Progress, stands, Proceeds, passes, is_left, yields, does, closes_device, leaves, jumps, finds_no_label, falls_asleep, opens_one, finds_no_route, opens_onward, finds_no_way, opens_no_more, hands, has_handed}
+use Rattle.nb_onecourse.proofs.EachTakes.{all_take_one}
+use Rattle.nb_onecourse.proofs.Unended.{AreUnended, StandsUnended, doing_leaves}
+use Rattle.nb_onecourse.proofs.Nexts.{Next, still, puts, shuts_all, next_ended, next_route, next_opened, next_label, next_doing, next_begun, next_coming, next_way, next_link, next_onward, next_handed, what_next}
+
+-- these records and this place are what is next
+abbrev Is : Next → ℕ → List Out → Progress → Type 0
+Is still n a m = ⊥
+Is (puts put p) n a m = (a ≡ put) × (m ≡ stands n p)
+Is (shuts_all first s p) n a m = (put : List Out) × (over : List Over) × AllTake s.devices (close down_cause) s.live put [] over × (a ≡ first ∷ put ++ (result ok ∷ [])) × (m ≡ stands n p)
+
+is_full : (n : ℕ) → n ≡ 4096 → (n == 4096) ≡ true
+is_full n e = eq-eqb n 4096 e
+
+not_full : (n : ℕ) → n < 4096 → (n == 4096) ≡ false
+not_full n h = ne_eqb n 4096 (λ e. omega (arith, h, e))
+
+not_all : (n : ℕ) → n < 16384 → (n == 16384) ≡ false
+not_all n h = ne_eqb n 16384 (λ e. omega (arith, h, e))
+
+-- a command that begins
+begun : (s : State) (inner : Running) (outer : List Running) (c : List ℕ) (cs : List (List ℕ)) (d : Doing) → coming inner ≡ beginning c cs → inner.begun < 4096 → doing s (c ∷ cs) ≡ d →
+    next_coming s inner outer (coming inner) ≡ next_doing s inner outer (c ∷ cs) d
+begun s inner outer c cs d h early e =
+    ap (next_coming s inner outer) h ∙ ap (next_begun s inner outer (c ∷ cs)) (not_full inner.begun early) ∙ ap (next_doing s inner outer (c ∷ cs)) e
+
+-- what is next by another name
+named : (x y : Next) (n : ℕ) (a : List Out) (m : Progress) → x ≡ y → Is y n a m → Is x n a m
+named x y n a m e h = subst (λ z. Is z n a m) (sym e) h
+
+pub is_next : (m : Progress) (a : List Out) (m' : Progress) → Proceeds m a m' → Is (what_next m.standing) m.used a m'
+is_next m a m' (passes n s inner next outer h) = named _ _ n a m' (ap (next_coming s inner outer) h) (refl, refl)
+is_next m a m' (is_left n s inner outer cause h) = named _ _ n a m' (ap (next_coming s inner outer) h) (refl, refl)
+is_next m a m' (yields n s inner outer c cs h full) = named _ _ n a m' (ap (next_coming s inner outer) h ∙ ap (next_begun s inner outer (c ∷ cs)) (is_full inner.begun full)) (refl, refl)
+is_next m a m' (does n s s' inner outer c cs o h early e k) = named _ _ n a m' (begun s inner outer c cs (ends o s') h early e ∙ ap (next_ended s inner outer (c ∷ cs) o s') k) (refl, refl)
+is_next m a m' (closes_device n s s' inner outer c cs put over h early e all) = named _ _ n a m' (begun s inner outer c cs (shuts s') h early e) (put, over, all, refl, refl)
+is_next m a m' (leaves n s s' inner outer c cs o h early e k) = named _ _ n a m' (begun s inner outer c cs (ends o s') h early e ∙ ap (next_ended s inner outer (c ∷ cs) o s') k) (refl, refl)
+is_next m a m' (jumps n s inner outer c cs name line h early e k) = named _ _ n a m' (begun s inner outer c cs (goes_to name) h early e ∙ ap (next_label s inner outer (c ∷ cs)) k) (refl, refl)
+is_next m a m' (finds_no_label n s inner outer c cs name h early e k) = named _ _ n a m' (begun s inner outer c cs (goes_to name) h early e ∙ ap (next_label s inner outer (c ∷ cs)) k) (refl, refl)
+is_next m a m' (falls_asleep n s inner outer c cs time h early e) = named _ _ n a m' (begun s inner outer c cs (waits_until time) h early e) (refl, refl)
+is_next m a m' (opens_one n s s' inner outer c cs l job link put h early e got way) =
+    named _ _ n a m' (begun s inner outer c cs (opens s' l job) h early e ∙ ap (next_opened s inner outer (c ∷ cs) s' l job) got ∙ ap (next_route s inner outer (c ∷ cs) s' l job) way) (refl, refl)
+is_next m a m' (finds_no_route n s s' inner outer c cs l job link h early e got way) =
+    named _ _ n a m' (begun s inner outer c cs (opens s' l job) h early e ∙ ap (next_opened s inner outer (c ∷ cs) s' l job) got ∙ ap (next_route s inner outer (c ∷ cs) s' l job) way) (refl, refl)
+is_next m a m' (opens_onward n s inner outer next link put few got way) =
+    named _ _ n a m' (ap (next_onward s inner outer next) (not_all s.opens few) ∙ ap (next_link s inner outer next) got ∙ ap (next_way s inner outer next) way) (refl, refl)
+is_next m a m' (finds_no_way n s inner outer next link few got way) =
+    named _ _ n a m' (ap (next_onward s inner outer next) (not_all s.opens few) ∙ ap (next_link s inner outer next) got ∙ ap (next_way s inner outer next) way) (refl, refl)
+is_next m a m' (opens_no_more n s inner outer next full) = named _ _ n a m' (ap (next_onward s inner outer next) (eq-eqb s.opens 16384 full)) (refl, refl)
+is_next m a m' (hands n s r rest) = (refl, refl)
+is_next m a m' (has_handed n s) = (refl, refl)
+
+-- where all that lives is closed, nothing of it has ended
+abbrev NextUnended : Next → Type 0
+NextUnended still = Unit {0}
+NextUnended (puts put p) = Unit {0}
+NextUnended (shuts_all first s p) = AreUnended s.live
+
+-- two moves of one place are one
+pub record SameMove (a b : List Out) (m m' : Progress) : Type 0 where
+  pub records : a ≡ b
+  pub places : m ≡ m'
+
+is_one : (x : Next) (n : ℕ) (a b : List Out) (m m' : Progress) → NextUnended x → Is x n a m → Is x n b m' → SameMove a b m m'
+is_one still n a b m m' u h g = absurd h
+is_one (puts put p) n a b m m' u h g = record { records = h.0 ∙ sym g.0; places = h.1 ∙ sym g.1 }
+is_one (shuts_all first s p) n a b m m' u (put, over, all, ea, em) (put', over', all', eb, en) =
+    let t = all_take_one s.devices (close down_cause) s.live put put' [] [] over over' u all all' in
+    record { records = ea ∙ ap (λ z. first ∷ z ++ (result ok ∷ [])) t.records ∙ sym eb; places = em ∙ sym en }
+
+doing_next : (s : State) (inner : Running) (outer : List Running) (ws : List (List ℕ)) (d : Doing) → doing s ws ≡ d → AreUnended s.live → NextUnended (next_doing s inner outer ws d)
+doing_next s inner outer ws (ends o s') e u = by_leaving o.leaves
+  where
+    by_leaving : (b : Bool) → NextUnended (next_ended s inner outer ws o s' b)
+    by_leaving true = tt
+    by_leaving false = tt
+doing_next s inner outer ws (opens s' l job) e u = by_link (slice_get s'.devices l.device)
+  where
+    by_route : (put : Option (List Out)) → NextUnended (next_route s inner outer ws s' l job put)
+    by_route None = tt
+    by_route (Some put) = tt
+
+    by_link : (link : Option Client) → NextUnended (next_opened s inner outer ws s' l job link)
+    by_link None = tt
+    by_link (Some link) = by_route (first_records l.kind l link)
+doing_next s inner outer ws (goes_to name) e u = by_line (label_place name inner.code)
+  where
+    by_line : (line : Option ℕ) → NextUnended (next_label s inner outer ws line)
+    by_line None = tt
+    by_line (Some line) = tt
+doing_next s inner outer ws (waits_until time) e u = tt
+doing_next s inner outer ws (shuts s') e u = subst AreUnended (sym (doing_leaves s ws (shuts s') e)) u
+
+coming_next : (s : State) (inner : Running) (outer : List Running) (x : Coming) → AreUnended s.live → NextUnended (next_coming s inner outer x)
+coming_next s inner outer (passing next) u = tt
+coming_next s inner outer (leaving cause) u = tt
+coming_next s inner outer (beginning c cs) u = by_count (inner.begun == 4096)
+  where
+    by_count : (b : Bool) → NextUnended (next_begun s inner outer (c ∷ cs) b)
+    by_count true = tt
+    by_count false = doing_next s inner outer (c ∷ cs) (doing s (c ∷ cs)) refl u
+
+onward_next : (s : State) (inner : Running) (outer : List Running) (next : Onward) (full : Bool) → NextUnended (next_onward s inner outer next full)
+onward_next s inner outer next true = tt
+onward_next s inner outer next false = by_link (slice_get s.devices (live_onward s next).device)
+  where
+    by_way : (put : Option (List Out)) → NextUnended (next_way s inner outer next put)
+    by_way None = tt
+    by_way (Some put) = tt
+
+    by_link : (link : Option Client) → NextUnended (next_link s inner outer next link)
+    by_link None = tt
+    by_link (Some link) = by_way (first_records (live_onward s next).kind (live_onward s next) link)
+
+handed_next : (s : State) (rest : List Out) → NextUnended (next_handed s rest)
+handed_next s [] = tt
+handed_next s (r ∷ rest) = tt
+
+next_unended : (p : Standing) → StandsUnended p → NextUnended (what_next p)
+next_unended ready u = tt
+next_unended (running s inner outer) u = coming_next s inner outer (coming inner) u
+next_unended (waiting s w) u = tt
+next_unended (reaching s inner outer next) u = onward_next s inner outer next (s.opens == 16384)
+next_unended (yielded s inner outer) u = tt
+next_unended (handing s rest) u = handed_next s rest
+next_unended (left s outer cause) u = tt
+next_unended (handed_off s) u = tt
+next_unended (stopped s) u = tt
+
+pub proceeds_one : (m : Progress) (a b : List Out) (m1 m2 : Progress) → StandsUnended m.standing → Proceeds m a m1 → Proceeds m b m2 → SameMove a b m1 m2
+proceeds_one m a b m1 m2 u v w = is_one (what_next m.standing) m.used a b m1 m2 (next_unended m.standing u) (is_next m a m1 v) (is_next m b m2 w)
+
+pub still_proceeds : (m : Progress) (a : List Out) (m' : Progress) → what_next m.standing ≡ still → Proceeds m a m' → ⊥
+still_proceeds m a m' e v = subst (λ z. Is z m.used a m') e (is_next m a m' v)

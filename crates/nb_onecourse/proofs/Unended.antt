@@ -1,0 +1,110 @@
+-- In every course no open that lives has put its end.
+use Rattle.std.proofs.Common.{◌≡◌, ℕ, ◌+◌, Bool, List, [], ◌∷◌, refl, sym, subst}
+use Rattle.std.specs.List.{AllByRecursion}
+use Rattle.nb_defs.specs.Records.{In, Out}
+use Rattle.nb_settings.specs.Tables.{TableLists}
+use Rattle.nb_machine.specs.Conclusions.{Conclusion, keeps, fails, boots}
+use Rattle.nb_machine.specs.Effects.{Effect, says, asks, goes, sleeps, shuts_device, inquires, effect, table_after, up_after}
+use Rattle.nb_machine.specs.Errands.{Onward, fetches_now, echoes_now}
+use Rattle.nb_machine.specs.Queries.{Query, for_lease, for_echo, for_host, for_address}
+use Rattle.nb_machine.specs.Running.{Running, anew}
+use Rattle.nb_machine.specs.Lives.{Live}
+use Rattle.nb_machine.specs.States.{State, with_settings}
+use Rattle.nb_machine.specs.Scripts.{Doing, ends, opens, goes_to, waits_until, shuts, doing, doing_by, live_for, live_onward, Upshot, concludes, settles, goes_onward, concluded_by}
+use Rattle.nb_machine.specs.Courses.{Standing, ready, running, waiting, reaching, yielded, handing, left, handed_off, stopped, Progress, ConclusionLeads, LeadsTo, StepBegins, runs, refuses, waits_on, is_answered, switches_off, resumes, goes_off, Proceeds, passes, is_left, yields, does, closes_device, leaves, jumps, finds_no_label, falls_asleep, opens_one, finds_no_route, opens_onward, finds_no_way, opens_no_more, hands, has_handed, Course, begins, uses, goes_on}
+use Rattle.nb_onecourse.specs.Answers.{PutsNoEnd, IsUnended}
+use Rattle.nb_onecourse.proofs.Ends.{all_snoc}
+use Rattle.nb_onecourse.proofs.EachRecord.{network_unended}
+
+abbrev pub AreUnended : List Live → Type 0
+AreUnended live = AllByRecursion IsUnended live
+
+-- so stands every open that lives
+abbrev pub StandsUnended : Standing → Type 0
+StandsUnended ready = Unit {0}
+StandsUnended (running s inner outer) = AreUnended s.live
+StandsUnended (waiting s w) = AreUnended s.live
+StandsUnended (reaching s inner outer next) = AreUnended s.live
+StandsUnended (yielded s inner outer) = AreUnended s.live
+StandsUnended (handing s rest) = AreUnended s.live
+StandsUnended (left s outer cause) = AreUnended s.live
+StandsUnended (handed_off s) = AreUnended s.live
+StandsUnended (stopped s) = AreUnended s.live
+
+-- what a command comes to leaves the opens that live, and one that it opens has exchanged nothing
+abbrev Leaves : List Live → Doing → Type 0
+Leaves live (ends o s) = s.live ≡ live
+Leaves live (opens s l job) = (s.live ≡ live) × (l.exchanges ≡ [])
+Leaves live (goes_to name) = Unit {0}
+Leaves live (waits_until time) = Unit {0}
+Leaves live (shuts s) = s.live ≡ live
+
+asked_fresh : (s : State) (q : Query) → (live_for s q).exchanges ≡ []
+asked_fresh s for_lease = refl
+asked_fresh s (for_echo server) = refl
+asked_fresh s (for_host errand name by) = refl
+asked_fresh s (for_address setting name by) = refl
+
+onward_fresh : (s : State) (next : Onward) → (live_onward s next).exchanges ≡ []
+onward_fresh s (fetches_now wanted) = refl
+onward_fresh s (echoes_now server) = refl
+
+leaves_by : (s : State) (table : TableLists) (up : Bool) (e : Effect) → Leaves s.live (doing_by s table up e)
+leaves_by s table up (says o) = refl
+leaves_by s table up (asks wanted) = (refl, refl)
+leaves_by s table up (goes name) = tt
+leaves_by s table up (sleeps seconds) = tt
+leaves_by s table up shuts_device = refl
+leaves_by s table up (inquires q) = (refl, asked_fresh (with_settings s table up) q)
+
+pub doing_leaves : (s : State) (ws : List (List ℕ)) (d : Doing) → doing s ws ≡ d → Leaves s.live d
+doing_leaves s ws d e = subst (Leaves s.live) e (leaves_by s (table_after s.table ws) (up_after s.table s.up ws) (effect s.opens s.table ws))
+
+-- an open that has exchanged nothing has ended nothing
+fresh : (l : Live) → l.exchanges ≡ [] → IsUnended l
+fresh l e = subst (AllByRecursion (PutsNoEnd l.number)) (sym e) tt
+
+-- where a conclusion leads, and what comes of a command
+concluded_unended : (s : State) (inner : Running) (outer : List Running) (c : Conclusion) (put : List Out) (p : Standing) → AreUnended s.live → ConclusionLeads s inner outer c put p → StandsUnended p
+concluded_unended s inner outer (keeps list) put p u h = subst StandsUnended (sym h.1) u
+concluded_unended s inner outer (fails cause) put p u h = subst StandsUnended (sym h.1) u
+concluded_unended s inner outer (boots list kernel) put p u h = subst StandsUnended (sym h.2) tt
+
+leads_unended : (s : State) (inner : Running) (outer : List Running) (x : Upshot) (put : List Out) (p : Standing) → AreUnended s.live → LeadsTo s inner outer x put p → StandsUnended p
+leads_unended s inner outer (concludes c) put p u h = concluded_unended s inner outer c put p u h
+leads_unended s inner outer (settles x) put p u h = subst StandsUnended (sym h.1) u
+leads_unended s inner outer (goes_onward next) put p u h = subst StandsUnended (sym h.1) u
+
+pub begins_unended : (m : Progress) (r : In) (a : List Out) (m' : Progress) → StandsUnended m.standing → StepBegins m r a m' → StandsUnended m'.standing
+begins_unended m r a m' u (runs n s code valid plain) = tt
+begins_unended m r a m' u (refuses n s cause valid plain) = tt
+begins_unended m r a m' u (waits_on n s s' w _ put over valid acts none) = network_unended s (n + 1) r put s' over u acts
+begins_unended m r a m' u (is_answered n s s' w _ put more over x p valid acts some leads) =
+    leads_unended s' (anew w.script) w.outer (concluded_by s' w.job x) more p (network_unended s (n + 1) r put s' over u acts) leads
+begins_unended m r a m' u (switches_off n s w put over all) = tt
+begins_unended m r a m' u (resumes n s s' inner outer _ put over valid acts) = network_unended s (n + 1) r put s' over u acts
+begins_unended m r a m' u (goes_off n s inner outer put over all) = tt
+
+pub proceeds_unended : (m : Progress) (a : List Out) (m' : Progress) → StandsUnended m.standing → Proceeds m a m' → StandsUnended m'.standing
+proceeds_unended m a m' u (passes n s inner next outer h) = u
+proceeds_unended m a m' u (is_left n s inner outer cause h) = u
+proceeds_unended m a m' u (yields n s inner outer c cs h full) = u
+proceeds_unended m a m' u (does n s s' inner outer c cs o h early e k) = subst AreUnended (sym (doing_leaves s (c ∷ cs) (ends o s') e)) u
+proceeds_unended m a m' u (closes_device n s s' inner outer c cs put over h early e all) = tt
+proceeds_unended m a m' u (leaves n s s' inner outer c cs o h early e k) = subst AreUnended (sym (doing_leaves s (c ∷ cs) (ends o s') e)) u
+proceeds_unended m a m' u (jumps n s inner outer c cs name line h early e k) = u
+proceeds_unended m a m' u (finds_no_label n s inner outer c cs name h early e k) = u
+proceeds_unended m a m' u (falls_asleep n s inner outer c cs time h early e) = u
+proceeds_unended m a m' u (opens_one n s s' inner outer c cs l job link put h early e got way) =
+    let k = doing_leaves s (c ∷ cs) (opens s' l job) e in all_snoc IsUnended s'.live l (subst AreUnended (sym k.0) u) (fresh l k.1)
+proceeds_unended m a m' u (finds_no_route n s s' inner outer c cs l job link h early e got way) = subst AreUnended (sym (doing_leaves s (c ∷ cs) (opens s' l job) e).0) u
+proceeds_unended m a m' u (opens_onward n s inner outer next link put few got way) = all_snoc IsUnended s.live (live_onward s next) u (fresh (live_onward s next) (onward_fresh s next))
+proceeds_unended m a m' u (finds_no_way n s inner outer next link few got way) = u
+proceeds_unended m a m' u (opens_no_more n s inner outer next full) = u
+proceeds_unended m a m' u (hands n s r rest) = u
+proceeds_unended m a m' u (has_handed n s) = u
+
+pub course_unended : (ins : List In) (outs : List Out) (m : Progress) → Course ins outs m → StandsUnended m.standing
+course_unended ins outs m begins = tt
+course_unended ins outs m (uses ins' outs' m0 r added m' p b) = begins_unended m0 r added m (course_unended ins' outs' m0 p) b
+course_unended ins outs m (goes_on ins' outs' m0 added m' p v) = proceeds_unended m0 added m (course_unended ins' outs' m0 p) v
