@@ -21,9 +21,9 @@ use Rattle.nb_imagecmd.specs.declared.error.ImageFailure.{ImageFailure}
 use Rattle.nb_imagecmd.specs.declared.outcome.ImageOutcome.{ImageOutcome}
 use Rattle.nb_imagecmd.specs.declared.outcome.ImageOutcome.TheVariants as outcome
 use Rattle.nb_imagecmd.specs.declared.outcome.ScriptImage.{ScriptImage}
-use Rattle.nb_imagecmd.specs.Arriving.{arrived_image, put_in, selected_in, runs_kind, taken_in, taken_unless, arrived}
-use Rattle.nb_imagecmd.specs.Asking.{asked}
-use Rattle.nb_imagecmd.specs.CarryingOut.{asks, execute_at, image_effect}
+use Rattle.nb_imagecmd.specs.Arriving.{arrived_image, listed_with, selected_listed, runs_kind, arrives_as, taken_unless, arrived}
+use Rattle.nb_imagecmd.specs.Asking.{asked_file}
+use Rattle.nb_imagecmd.specs.CarryingOut.{asking_answer, execute_at, image_effect}
 use Rattle.nb_imagecmd.specs.Executing.{selected_with, executed_kind, executed_image, is_too_deep}
 use Rattle.nb_imagecmd.specs.Promises.{Boots}
 
@@ -84,7 +84,7 @@ boots_image (Some image) i replace name args list left found at is =
       with_args = refl;
     })
 
-asks_no_boot : (answer : Result Asking ImageFailure) (list left : ImageList) → asks answer list ≡ Ok (outcome.Boot, left) → ⊥
+asks_no_boot : (answer : Result Asking ImageFailure) (list left : ImageList) → asking_answer answer list ≡ Ok (outcome.Boot, left) → ⊥
 asks_no_boot (Ok asking) list left is = ask_is_no_boot asking (ap (λ (x : ImageOutcome × ImageList). x.0) (same_answer (outcome.Ask asking, list) (outcome.Boot, left) is))
 asks_no_boot (Err why) list left is = no_answer why (outcome.Boot, left) is
 
@@ -95,7 +95,7 @@ boots_found None uri args replace asking list left found is = absurd (asks_no_bo
 -- the image of the name is booted, with the arguments of the command
 pub named_boots : (base name : Option (List ℕ)) (autofree replace : Bool) (uri : List ℕ) (args : List (List ℕ)) (list left : ImageList) → image_effect (command.Exec name autofree replace (Some uri) args) base list ≡ Ok (outcome.Boot, left) → Boots uri (join_with_byte 32 args) left
 unfolding image_effect
-named_boots base name autofree replace uri args list left is = boots_found (image_place uri list.images) uri args replace (asked base name uri args (after.Run replace)) list left refl is
+named_boots base name autofree replace uri args list left is = boots_found (image_place uri list.images) uri args replace (asked_file base name uri args (after.Run replace)) list left refl is
 
 -- FETCHED
 
@@ -112,26 +112,26 @@ put_at : (o : Option ℕ) (image : Image) (images : List Image) → image_place 
 put_at None image images found = push_at images image
 put_at (Some i) image images found = set_at images i image ((position-Some (has_name image.name) images i image found).0)
 
-selected_put : (image : Image) (list : ImageList) → selected_image (selected_in image list) ≡ Some image
+selected_put : (image : Image) (list : ImageList) → selected_image (selected_listed image list) ≡ Some image
 selected_put image list = put_at (image_place image.name list.images) image list.images refl
 
 script_boots : (too_deep : Bool) (script : ScriptImage) (replace : Bool) (list left : ImageList) (why : ImageFailure) → ◌≡◌ {A = Result (Arrival × ImageList) ImageFailure} (cond too_deep (Err why) (Ok (arrival.Run script replace, list))) (Ok (arrival.Boot, left)) → ⊥
 script_boots true script replace list left why is = no_arrival why (arrival.Boot, left) is
 script_boots false script replace list left why is = script_is_no_boot script replace (ap (λ (x : Arrival × ImageList). x.0) (same_arrival (arrival.Run script replace, list) (arrival.Boot, left) is))
 
-kind_boots : (kind : ImageKind) (image : Image) (replace : Bool) (depth : ℕ) (list left : ImageList) → runs_kind kind image replace depth list ≡ Ok (arrival.Boot, left) → left ≡ selected_in image list
+kind_boots : (kind : ImageKind) (image : Image) (replace : Bool) (depth : ℕ) (list left : ImageList) → runs_kind kind image replace depth list ≡ Ok (arrival.Boot, left) → left ≡ selected_listed image list
 kind_boots Script image replace depth list left is = absurd (script_boots (is_too_deep replace depth) _ replace _ left _ is)
-kind_boots BzImage image replace depth list left is = sym (ap (λ (x : Arrival × ImageList). x.1) (same_arrival (arrival.Boot, selected_in image list) (arrival.Boot, left) is))
-kind_boots Elf image replace depth list left is = sym (ap (λ (x : Arrival × ImageList). x.1) (same_arrival (arrival.Boot, selected_in image list) (arrival.Boot, left) is))
-kind_boots Efi image replace depth list left is = sym (ap (λ (x : Arrival × ImageList). x.1) (same_arrival (arrival.Boot, selected_in image list) (arrival.Boot, left) is))
+kind_boots BzImage image replace depth list left is = sym (ap (λ (x : Arrival × ImageList). x.1) (same_arrival (arrival.Boot, selected_listed image list) (arrival.Boot, left) is))
+kind_boots Elf image replace depth list left is = sym (ap (λ (x : Arrival × ImageList). x.1) (same_arrival (arrival.Boot, selected_listed image list) (arrival.Boot, left) is))
+kind_boots Efi image replace depth list left is = sym (ap (λ (x : Arrival × ImageList). x.1) (same_arrival (arrival.Boot, selected_listed image list) (arrival.Boot, left) is))
 kind_boots Other image replace depth list left is = absurd (no_arrival _ (arrival.Boot, left) is)
 
-after_boots : (a : After) (image : Image) (depth : ℕ) (list left : ImageList) → taken_in a image depth list ≡ Ok (arrival.Boot, left) → left ≡ selected_in image list
-after_boots after.Keep image depth list left is = absurd (kept_is_no_boot (ap (λ (x : Arrival × ImageList). x.0) (same_arrival (arrival.Kept, put_in image list) (arrival.Boot, left) is)))
-after_boots after.Select image depth list left is = absurd (kept_is_no_boot (ap (λ (x : Arrival × ImageList). x.0) (same_arrival (arrival.Kept, selected_in image list) (arrival.Boot, left) is)))
+after_boots : (a : After) (image : Image) (depth : ℕ) (list left : ImageList) → arrives_as a image depth list ≡ Ok (arrival.Boot, left) → left ≡ selected_listed image list
+after_boots after.Keep image depth list left is = absurd (kept_is_no_boot (ap (λ (x : Arrival × ImageList). x.0) (same_arrival (arrival.Kept, listed_with image list) (arrival.Boot, left) is)))
+after_boots after.Select image depth list left is = absurd (kept_is_no_boot (ap (λ (x : Arrival × ImageList). x.0) (same_arrival (arrival.Kept, selected_listed image list) (arrival.Boot, left) is)))
 after_boots (after.Run replace) image depth list left is = kind_boots (kind_of image.body) image replace depth list left is
 
-unless_boots : (why : Option ImageError) (a : After) (image : Image) (depth : ℕ) (list left : ImageList) → taken_unless why a image depth list ≡ Ok (arrival.Boot, left) → left ≡ selected_in image list
+unless_boots : (why : Option ImageError) (a : After) (image : Image) (depth : ℕ) (list left : ImageList) → taken_unless why a image depth list ≡ Ok (arrival.Boot, left) → left ≡ selected_listed image list
 unless_boots (Some why) a image depth list left is = absurd (no_arrival _ (arrival.Boot, left) is)
 unless_boots None a image depth list left is = after_boots a image depth list left is
 
@@ -140,5 +140,5 @@ pub fetched_boots : (asking : Asking) (body uri : List ℕ) (depth : ℕ) (list 
 unfolding arrived
 fetched_boots asking body uri depth list left is =
     let image = arrived_image asking body uri in
-    let e : left ≡ selected_in image list = unless_boots (refusal image list.images) asking.after image depth list left is in
+    let e : left ≡ selected_listed image list = unless_boots (refusal image list.images) asking.after image depth list left is in
     ap selected_image e ∙ selected_put image list

@@ -5,8 +5,8 @@ use Rattle.std.specs.List.{list_any}
 use Rattle.std.proofs.lemmas.Slice.Eq.{bytes_eq-Decides}
 use Rattle.nb_image.specs.declared.image.Image.{Image}
 use Rattle.nb_image.specs.Images.{ImageList, has_name}
-use Rattle.nb_imagecmd.specs.CarryingOut.{frees}
-use Rattle.nb_imagecmd.specs.Freeing.{is_among, is_freed, is_kept, kept_list, are_all_there}
+use Rattle.nb_imagecmd.specs.CarryingOut.{images_freed}
+use Rattle.nb_imagecmd.specs.Freeing.{is_among, is_freed, is_kept, kept_list, are_all_listed}
 use Rattle.nb_imagecmd.specs.declared.error.ImageFailure.{ImageFailure}
 use Rattle.nb_imagecmd.specs.declared.outcome.ImageOutcome.{ImageOutcome}
 use Rattle.nb_imagecmd.specs.declared.outcome.ImageOutcome.TheVariants.{Done}
@@ -43,7 +43,7 @@ second : (b : Bool) (kept left : ImageList) (outcome : ImageOutcome) → ◌≡�
 second true kept left outcome is = ap (λ (x : ImageOutcome × ImageList). x.1) (sym (same_pair (Done, kept) (outcome, left) is))
 second false kept left outcome is = absurd cc
 
-pub freed_are_gone : (names : List (List ℕ)) (name : List ℕ) (list left : ImageList) (outcome : ImageOutcome) → is_among names name ≡ true → frees names list ≡ Ok (outcome, left) → list_any (has_name name) left.images ≡ false
+pub freed_are_gone : (names : List (List ℕ)) (name : List ℕ) (list left : ImageList) (outcome : ImageOutcome) → is_among names name ≡ true → images_freed names list ≡ Ok (outcome, left) → list_any (has_name name) left.images ≡ false
 freed_are_gone names name list left outcome h is =
-    let e : left ≡ kept_list names list = second (are_all_there names list.images) (kept_list names list) left outcome is in
+    let e : left ≡ kept_list names list = second (are_all_listed names list.images) (kept_list names list) left outcome is in
     ap (λ (l : ImageList). list_any (has_name name) l.images) e ∙ none_named names name list.images h

@@ -20,13 +20,13 @@ use Rattle.nb_imagecmd.specs.declared.commands.ImageCommand.TheVariants as comma
 use Rattle.nb_imagecmd.specs.declared.error.ImageFailure.{ImageFailure}
 use Rattle.nb_imagecmd.specs.declared.outcome.ImageOutcome.{ImageOutcome}
 use Rattle.nb_imagecmd.specs.declared.outcome.ScriptImage.{ScriptImage}
-use Rattle.nb_imagecmd.specs.Arriving.{arrived_image, place_in, selected_in, runs_kind, taken_in, taken_unless, arrived}
-use Rattle.nb_imagecmd.specs.Asking.{asked}
-use Rattle.nb_imagecmd.specs.CarryingOut.{asks, select_at, execute_at, set_args_at, image_effect}
+use Rattle.nb_imagecmd.specs.Arriving.{arrived_image, listed_place, selected_listed, runs_kind, arrives_as, taken_unless, arrived}
+use Rattle.nb_imagecmd.specs.Asking.{asked_file}
+use Rattle.nb_imagecmd.specs.CarryingOut.{asking_answer, select_at, execute_at, set_args_at, image_effect}
 use Rattle.nb_imagecmd.specs.Executing.{selected_with, executed_kind, executed_image, executed_selected, is_too_deep, taken_from, script_taken}
-use Rattle.nb_imagecmd.specs.Freeing.{is_kept, are_all_there}
+use Rattle.nb_imagecmd.specs.Freeing.{is_kept, are_all_listed}
 use Rattle.nb_imagecmd.specs.Promises.{IsShortName, HasShortNames, IsShortLine}
-use Rattle.nb_imagecmd.specs.Stat.{is_at, mark, line_text, stat_line, stat_lines}
+use Rattle.nb_imagecmd.specs.Stat.{is_at, selected_mark, line_text, stat_line, stat_lines}
 
 -- LISTS
 
@@ -52,7 +52,7 @@ left_short : {A : Type 0} (answer : Result (A × ImageList) ImageFailure) (first
 unfolding Leaves
 left_short {A} answer first left h is = subst (λ (r : Result (A × ImageList) ImageFailure). IfOk r (λ (x : A × ImageList). HasShortNames x.1)) is h
 
-asks_short : (answer : Result Asking ImageFailure) (list : ImageList) → HasShortNames list → Leaves (asks answer list)
+asks_short : (answer : Result Asking ImageFailure) (list : ImageList) → HasShortNames list → Leaves (asking_answer answer list)
 unfolding Leaves
 asks_short (Ok asking) list h = h
 asks_short (Err why) list h = tt
@@ -96,12 +96,12 @@ either_short false one other h k = k
 
 effect_short : (c : ImageCommand) (base : Option (List ℕ)) (list : ImageList) → HasShortNames list → Leaves (image_effect c base list)
 unfolding Leaves image_effect
-effect_short (command.Fetch name uri args) base list h = asks_short (asked base name uri args after.Keep) list h
-effect_short (command.Select name uri args) base list h = select_short (image_place uri list.images) args (asked base name uri args after.Select) list h
+effect_short (command.Fetch name uri args) base list h = asks_short (asked_file base name uri args after.Keep) list h
+effect_short (command.Select name uri args) base list h = select_short (image_place uri list.images) args (asked_file base name uri args after.Select) list h
 effect_short (command.Exec name autofree replace None args) base list h = selected_short list.selected replace list h
-effect_short (command.Exec name autofree replace (Some uri) args) base list h = execute_short (image_place uri list.images) args replace (asked base name uri args (after.Run replace)) list h
+effect_short (command.Exec name autofree replace (Some uri) args) base list h = execute_short (image_place uri list.images) args replace (asked_file base name uri args (after.Run replace)) list h
 effect_short (command.Imgargs name args) base list h = set_short (image_place name list.images) (join_with_byte 32 args) list h
-effect_short (command.Imgfree names) base list h = either_short (are_all_there names list.images) _ _ (All-filter (is_kept names) IsShortName list.images h) tt
+effect_short (command.Imgfree names) base list h = either_short (are_all_listed names list.images) _ _ (All-filter (is_kept names) IsShortName list.images h) tt
 effect_short command.Imgstat base list h = h
 
 pub command_names_short : (c : ImageCommand) (base : Option (List ℕ)) (list left : ImageList) (outcome : ImageOutcome) → HasShortNames list → image_effect c base list ≡ Ok (outcome, left) → HasShortNames left
@@ -109,18 +109,18 @@ command_names_short c base list left outcome h is = left_short (image_effect c b
 
 -- FILES
 
-in_short : (image : Image) (list : ImageList) → IsShortName image → HasShortNames list → HasShortNames (selected_in image list)
+in_short : (image : Image) (list : ImageList) → IsShortName image → HasShortNames list → HasShortNames (selected_listed image list)
 in_short image list short h = put_short (image_place image.name list.images) image list.images short h
 
 runs_short : (kind : ImageKind) (image : Image) (replace : Bool) (depth : ℕ) (list : ImageList) → IsShortName image → HasShortNames list → Leaves (runs_kind kind image replace depth list)
 unfolding Leaves
-runs_short Script image replace depth list short h = either_short (is_too_deep replace depth) _ _ tt (removed_short _ (place_in image list) (in_short image list short h))
+runs_short Script image replace depth list short h = either_short (is_too_deep replace depth) _ _ tt (removed_short _ (listed_place image list) (in_short image list short h))
 runs_short BzImage image replace depth list short h = in_short image list short h
 runs_short Elf image replace depth list short h = in_short image list short h
 runs_short Efi image replace depth list short h = in_short image list short h
 runs_short Other image replace depth list short h = tt
 
-taken_short : (a : After) (image : Image) (depth : ℕ) (list : ImageList) → IsShortName image → HasShortNames list → Leaves (taken_in a image depth list)
+taken_short : (a : After) (image : Image) (depth : ℕ) (list : ImageList) → IsShortName image → HasShortNames list → Leaves (arrives_as a image depth list)
 unfolding Leaves
 taken_short after.Keep image depth list short h = in_short image list short h
 taken_short after.Select image depth list short h = in_short image list short h
@@ -149,18 +149,18 @@ script_names_short i replace depth list left script h is =
 
 -- LINES
 
-mark_short : (b : Bool) → length (mark b) ≤ 11
+mark_short : (b : Bool) → length (selected_mark b) ≤ 11
 mark_short true = omega arith
 mark_short false = omega arith
 
 line_short : (name : List ℕ) (size : ℕ) (b : Bool) → length name ≤ 255 → size ≤ 536870912 → IsShortLine (line_text name size b)
 line_short name size b named few =
     let digits : length (decimal size) ≤ 9 = length-decimal-le 9 size (omega arith) (omega arith) (omega arith) in
-    let end = mark b ++ codes "\n" in
+    let end = selected_mark b ++ codes "\n" in
     let bytes = codes " bytes" ++ end in
     let sized = decimal size ++ bytes in
     let behind = codes " : " ++ sized in
-    omega (arith, named, digits, mark_short b, length-append name behind, length-append (codes " : ") sized, length-append (decimal size) bytes, length-append (codes " bytes") end, length-append (mark b) (codes "\n"))
+    omega (arith, named, digits, mark_short b, length-append name behind, length-append (codes " : ") sized, length-append (decimal size) bytes, length-append (codes " bytes") end, length-append (selected_mark b) (codes "\n"))
 
 lines_short : (selected : Option ℕ) (n : ℕ) (images : List Image) → total_len images ≤ 536870912 → All IsShortName images → All IsShortLine (map (stat_line selected) (enumerate_from n images))
 lines_short selected n [] few h = All-nil IsShortLine

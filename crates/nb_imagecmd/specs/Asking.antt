@@ -32,28 +32,28 @@ target_name (Http host port path whole) = image_name whole host
 target_name (Iscsi host port lun name whole) = image_name whole host
 
 -- the name of a file's image: the one given goes before
-abbrev pub file_name : Option (List ℕ) → UriTarget → List ℕ
-file_name None target = target_name target
-file_name (Some name) target = name
+abbrev pub asked_name : Option (List ℕ) → UriTarget → List ℕ
+asked_name None target = target_name target
+asked_name (Some name) target = name
 
 abbrev pub asking_of : UriTarget → List ℕ → List (List ℕ) → After → Asking
 asking_of target name args after =
     record { target = target; name = name; args = join_with_byte 32 args; after = after }
 
 -- a disk is refused before what is too long
-abbrev pub asked_of : UriTarget → Option (List ℕ) → List (List ℕ) → After → Result Asking ImageFailure
-asked_of target name args after =
+abbrev pub asked_target : UriTarget → Option (List ℕ) → List (List ℕ) → After → Result Asking ImageFailure
+asked_target target name args after =
     if not (is_file target) then Err NoScheme
-    else if has_long_path target || nat_lt 255 (length (file_name name target)) then Err LongPath
-    else Ok (asking_of target (file_name name target) args after)
+    else if has_long_path target || nat_lt 255 (length (asked_name name target)) then Err LongPath
+    else Ok (asking_of target (asked_name name target) args after)
 
 abbrev pub asked_by : Result UriTarget UriError → Option (List ℕ) → List (List ℕ) → After → Result Asking ImageFailure
-asked_by (Ok target) name args after = asked_of target name args after
+asked_by (Ok target) name args after = asked_target target name args after
 asked_by (Err why) name args after = Err (unresolved why)
 
 -- what a command asks for whose URI is joined to this base, or why it asks for nothing
-abbrev pub asked : Option (List ℕ) → Option (List ℕ) → List ℕ → List (List ℕ) → After → Result Asking ImageFailure
-asked base name uri args after = asked_by (resolution base uri) name args after
+abbrev pub asked_file : Option (List ℕ) → Option (List ℕ) → List ℕ → List (List ℕ) → After → Result Asking ImageFailure
+asked_file base name uri args after = asked_by (resolution base uri) name args after
 
 -- a server may be asked for it, and the image may have its name
 pub record MayBeFetched (asking : Asking) : Type 0 where

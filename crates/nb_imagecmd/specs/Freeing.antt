@@ -6,12 +6,12 @@ use Rattle.std.specs.Str.{bytes_eq}
 use Rattle.nb_image.specs.declared.image.Image.{Image}
 use Rattle.nb_image.specs.Images.{ImageList, image_place}
 
-abbrev pub is_there : List Image → List ℕ → Bool
-is_there images name = is_some (image_place name images)
+abbrev pub is_listed : List Image → List ℕ → Bool
+is_listed images name = is_some (image_place name images)
 
 -- each name is that of an image
-abbrev pub are_all_there : List (List ℕ) → List Image → Bool
-are_all_there names images = list_all (is_there images) names
+abbrev pub are_all_listed : List (List ℕ) → List Image → Bool
+are_all_listed names images = list_all (is_listed images) names
 
 -- the name is one of these
 abbrev pub is_among : List (List ℕ) → List ℕ → Bool

@@ -20,15 +20,15 @@ abbrev pub options_spelled : List GivenOption → List (List ℕ) → List (List
 options_spelled [] rest = rest
 options_spelled (option ∷ options) rest = given_words option ++ options_spelled options rest
 
-abbrev pub with_option : GivenOption → OptionsRead → Option OptionsRead
-with_option (named name) o = with_name name o
-with_option autofree o = with_autofree o
-with_option replace o = with_replace o
+abbrev pub with_given : GivenOption → OptionsRead → Option OptionsRead
+with_given (named name) o = with_name name o
+with_given autofree o = with_autofree o
+with_given replace o = with_replace o
 
 -- what they say, if none is given twice
 abbrev pub options_meant : List GivenOption → List (List ℕ) → Option OptionsRead
 options_meant [] rest = Some (no_options rest)
-options_meant (option ∷ options) rest = option_and_then (with_option option) (options_meant options rest)
+options_meant (option ∷ options) rest = option_and_then (with_given option) (options_meant options rest)
 
 -- the first of these words, if there is one, is no option
 abbrev pub BeginsWithoutOption : List (List ℕ) → Type 0

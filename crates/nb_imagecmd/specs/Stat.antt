@@ -10,13 +10,13 @@ is_at None place = false
 is_at (Some selected) place = selected == place
 
 -- what stands after the size
-abbrev pub mark : Bool → List ℕ
-mark is_selected = if is_selected then codes " [SELECTED]" else []
+abbrev pub selected_mark : Bool → List ℕ
+selected_mark is_selected = if is_selected then codes " [SELECTED]" else []
 
 -- the name, the size, and whether it is selected
 abbrev pub line_text : List ℕ → ℕ → Bool → List ℕ
 line_text name size is_selected =
-    name ++ (codes " : " ++ (decimal size ++ (codes " bytes" ++ (mark is_selected ++ codes "\n"))))
+    name ++ (codes " : " ++ (decimal size ++ (codes " bytes" ++ (selected_mark is_selected ++ codes "\n"))))
 
 abbrev pub stat_line : Option ℕ → ℕ × Image → List ℕ
 stat_line selected numbered = line_text numbered.1.name (length numbered.1.body) (is_at selected numbered.0)

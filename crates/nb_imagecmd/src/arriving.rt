@@ -1,7 +1,7 @@
 ghost use Rattle.std.specs.Prelude.{◌≡◌, ◌⊎◌, Ok, Err, None, IfOk, IfErr, OnErr};
 ghost use Rattle.nb_image.specs.Images.{refusal};
-ghost use Rattle.nb_imagecmd.specs.Arriving.{arrived, arrived_image, taken_in, script_runs};
-ghost use Rattle.nb_imagecmd.specs.Arriving.{put_in, selected_in};
+ghost use Rattle.nb_imagecmd.specs.Arriving.{arrived, arrived_image, arrives_as, script_runs};
+ghost use Rattle.nb_imagecmd.specs.Arriving.{listed_with, selected_listed};
 ghost use Rattle.nb_imagecmd.specs.declared.arriving.Arrival.TheVariants as arrival;
 ghost use Rattle.nb_imagecmd.specs.declared.asking.After.TheVariants as after;
 ghost use Rattle.nb_imagecmd.specs.declared.error.ImageFailure.TheVariants as failure;
@@ -65,7 +65,7 @@ fn keep(
 ) -> Result<Arrival, ImageFailure>
     requires { refusal (arrived_image asking.now body uri.now) images.old.images ≡ None }
     ensures ok { IfOk result (λ a. (a ≡ arrival.Kept)
-        × (images.new ≡ put_in (arrived_image asking.now body uri.now) images.old)) }
+        × (images.new ≡ listed_with (arrived_image asking.now body uri.now) images.old)) }
     ensures memory { IfErr result (λ why. why ≡ failure.NoMemory) }
     ensures refused { OnErr result (images.new ≡ images.old) }
 {
@@ -90,7 +90,7 @@ fn select(
 ) -> Result<Arrival, ImageFailure>
     requires { refusal (arrived_image asking.now body uri.now) images.old.images ≡ None }
     ensures ok { IfOk result (λ a. (a ≡ arrival)
-        × (images.new ≡ selected_in (arrived_image asking.now body uri.now) images.old)) }
+        × (images.new ≡ selected_listed (arrived_image asking.now body uri.now) images.old)) }
     ensures memory { IfErr result (λ why. why ≡ failure.NoMemory) }
     ensures refused { OnErr result (images.new ≡ images.old) }
 {
@@ -116,10 +116,10 @@ fn run(
     depth: usize,
 ) -> Result<Arrival, ImageFailure>
     requires { refusal (arrived_image asking.now body uri.now) images.old.images ≡ None }
-    ensures value { IfOk result (λ a. taken_in (after.Run replace) (arrived_image asking.now body uri.now) depth
+    ensures value { IfOk result (λ a. arrives_as (after.Run replace) (arrived_image asking.now body uri.now) depth
         images.old ≡ Ok (a, images.new)) }
     ensures cause { IfErr result (λ why. (why ≡ failure.NoMemory)
-        ⊎ (taken_in (after.Run replace) (arrived_image asking.now body uri.now) depth images.old
+        ⊎ (arrives_as (after.Run replace) (arrived_image asking.now body uri.now) depth images.old
         ≡ Err why)) }
     ensures refused { OnErr result (images.new ≡ images.old) }
 {

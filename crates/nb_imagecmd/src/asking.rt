@@ -3,8 +3,8 @@
 ghost use Rattle.std.specs.Prelude.{◌≡◌, ◌⊎◌, Ok, Err, IfOk, IfErr};
 ghost use Rattle.std.specs.Option.{option_copied};
 ghost use Rattle.nb_uri.specs.Resolutions.{HasCleanPath, MayBeAsked, NamesItself};
-ghost use Rattle.nb_imagecmd.specs.Asking.{is_file, target_name, file_name, has_long_path};
-ghost use Rattle.nb_imagecmd.specs.Asking.{asked, MayBeFetched};
+ghost use Rattle.nb_imagecmd.specs.Asking.{is_file, target_name, asked_name, has_long_path};
+ghost use Rattle.nb_imagecmd.specs.Asking.{asked_file, MayBeFetched};
 ghost use Rattle.nb_imagecmd.specs.declared.error.ImageFailure.TheVariants as failure;
 
 use crate::ImageFailure;
@@ -46,7 +46,7 @@ pub struct Asking {
 }
 
 /// What a command asks for whose URI is joined to this base.
-pub(crate) fn asked(
+pub(crate) fn asked_file(
     alloc: Global,
     base: Option<&[u8]>,
     name: &Option<Word>,
@@ -55,16 +55,16 @@ pub(crate) fn asked(
     after: After,
 ) -> Result<Asking, ImageFailure>
     ensures value { IfOk result
-        (λ asking. asked (option_copied base.entry) name.now uri.now args.now after ≡ Ok asking) }
+        (λ asking. asked_file (option_copied base.entry) name.now uri.now args.now after ≡ Ok asking) }
     ensures cause { IfErr result (λ why. (why ≡ failure.NoMemory)
-        ⊎ (asked (option_copied base.entry) name.now uri.now args.now after ≡ Err why)) }
+        ⊎ (asked_file (option_copied base.entry) name.now uri.now args.now after ≡ Err why)) }
     ensures fetched { IfOk result MayBeFetched }
 {
     let target = resolve(alloc, base, uri.as_slice())?;
     if !is_file(&target) {
         return Err(ImageFailure::NoScheme);
     }
-    let name = file_name(alloc, name, &target)?;
+    let name = asked_name(alloc, name, &target)?;
     if has_long_path(&target) || name.len() > MAX_NAME {
         return Err(ImageFailure::LongPath);
     }
@@ -98,8 +98,8 @@ fn has_long_path(target: &UriTarget) -> bool
 }
 
 /// The name of the image of a file: the one given, or else the one that its URI gives it.
-fn file_name(alloc: Global, given: &Option<Word>, target: &UriTarget) -> Result<Text, NoMemory>
-    ensures { IfOk result (λ name. name ≡ file_name given.now target.now) }
+fn asked_name(alloc: Global, given: &Option<Word>, target: &UriTarget) -> Result<Text, NoMemory>
+    ensures { IfOk result (λ name. name ≡ asked_name given.now target.now) }
 {
     match given {
         Some(name) => copy_text(alloc, name.as_slice()),

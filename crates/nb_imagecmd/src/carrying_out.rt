@@ -1,15 +1,15 @@
 ghost use Rattle.std.specs.Prelude.{◌≡◌, ◌⊎◌, Ok, Err, IfOk, IfErr, OnErr};
 ghost use Rattle.std.specs.Option.{option_copied};
-ghost use Rattle.nb_imagecmd.specs.Asking.{asked, MayBeFetched};
-ghost use Rattle.nb_imagecmd.specs.CarryingOut.{waits, selects, executes, sets_args, frees};
+ghost use Rattle.nb_imagecmd.specs.Asking.{asked_file, MayBeFetched};
+ghost use Rattle.nb_imagecmd.specs.CarryingOut.{waiting_for, selects, executes, sets_args, images_freed};
 ghost use Rattle.nb_imagecmd.specs.CarryingOut.{image_effect, IfAsks};
 ghost use Rattle.nb_imagecmd.specs.declared.error.ImageFailure.TheVariants as failure;
 ghost use Rattle.nb_imagecmd.specs.declared.asking.After.TheVariants as after;
 
-use crate::asking::asked;
+use crate::asking::asked_file;
 use crate::copies::joined;
 use crate::executing::{execute, execute_selected, select_with};
-use crate::freeing::{are_all_there, free};
+use crate::freeing::{are_all_listed, free};
 use crate::stat::stat;
 use crate::{After, ImageCommand, ImageFailure, ImageOutcome};
 use nb_image::Images;
@@ -67,12 +67,12 @@ fn ask(
     after: After,
 ) -> Result<ImageOutcome, ImageFailure>
     ensures value { IfOk result (λ outcome.
-        waits (asked (option_copied base.entry) name.now uri.now args.now after) ≡ Ok outcome) }
+        waiting_for (asked_file (option_copied base.entry) name.now uri.now args.now after) ≡ Ok outcome) }
     ensures cause { IfErr result (λ why. (why ≡ failure.NoMemory)
-        ⊎ (asked (option_copied base.entry) name.now uri.now args.now after ≡ Err why)) }
+        ⊎ (asked_file (option_copied base.entry) name.now uri.now args.now after ≡ Err why)) }
     ensures fetched { IfOk result (λ outcome. IfAsks outcome MayBeFetched) }
 {
-    Ok(ImageOutcome::Ask(asked(alloc, base, name, uri, args, after)?))
+    Ok(ImageOutcome::Ask(asked_file(alloc, base, name, uri, args, after)?))
 }
 
 /// Selects the image of a name, or waits for a file.
@@ -147,12 +147,12 @@ fn set_args(
 
 /// Frees the images of these names, where each is there.
 fn free_named(names: &Words, images: &mut Images) -> Result<ImageOutcome, ImageFailure>
-    ensures value { IfOk result (λ outcome. frees names.now images.old ≡ Ok (outcome, images.new)) }
-    ensures cause { IfErr result (λ why. frees names.now images.old ≡ Err why) }
+    ensures value { IfOk result (λ outcome. images_freed names.now images.old ≡ Ok (outcome, images.new)) }
+    ensures cause { IfErr result (λ why. images_freed names.now images.old ≡ Err why) }
     ensures refused { OnErr result (images.new ≡ images.old) }
     ensures fetched { IfOk result (λ outcome. IfAsks outcome MayBeFetched) }
 {
-    if !are_all_there(names.as_slice(), images) {
+    if !are_all_listed(names.as_slice(), images) {
         return Err(ImageFailure::NoImage);
     }
     free(names.as_slice(), images);

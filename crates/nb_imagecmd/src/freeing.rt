@@ -2,20 +2,20 @@
 
 ghost use Rattle.std.specs.Prelude.{◌≡◌};
 ghost use Rattle.std.specs.Str.{bytes_eq};
-ghost use Rattle.nb_imagecmd.specs.Freeing.{is_there, are_all_there, is_among, is_freed, kept_list};
+ghost use Rattle.nb_imagecmd.specs.Freeing.{is_listed, are_all_listed, is_among, is_freed, kept_list};
 
 use nb_image::Images;
 use nb_wire::Word;
 
 /// Whether each name is that of an image.
-pub(crate) fn are_all_there(names: &[Word], images: &Images) -> bool
-    ensures { result ≡ are_all_there names.now images.now.images }
+pub(crate) fn are_all_listed(names: &[Word], images: &Images) -> bool
+    ensures { result ≡ are_all_listed names.now images.now.images }
 {
-    names.iter().all(|name| is_there(name, images))
+    names.iter().all(|name| is_listed(name, images))
 }
 
-fn is_there(name: &Word, images: &Images) -> bool
-    ensures { result ≡ is_there images.now.images name.now }
+fn is_listed(name: &Word, images: &Images) -> bool
+    ensures { result ≡ is_listed images.now.images name.now }
 {
     images.find(name.as_slice()).is_some()
 }

@@ -5,7 +5,7 @@ ghost use Rattle.std.specs.Prelude.{true, false};
 ghost use Rattle.std.specs.List.{list_any, join_with_byte};
 ghost use Rattle.nb_image.specs.Images.{ImageList, has_name, selected_image, total_len};
 ghost use Rattle.nb_imagecmd.specs.Arriving.{arrived_image, arrived};
-ghost use Rattle.nb_imagecmd.specs.CarryingOut.{frees, image_effect};
+ghost use Rattle.nb_imagecmd.specs.CarryingOut.{images_freed, image_effect};
 ghost use Rattle.nb_imagecmd.specs.Executing.{script_taken};
 ghost use Rattle.nb_imagecmd.specs.Freeing.{is_among};
 ghost use Rattle.nb_imagecmd.specs.Options.{options_read};
@@ -46,7 +46,7 @@ pub fn fetched_images_are_booted()
 /// After `imgfree` no image has a name that it was given.
 pub fn freed_names_are_gone()
     ensures { (names : List (List ℕ)) (name : List ℕ) (list left : ImageList) (outcome : ImageOutcome)
-        → is_among names name ≡ true → frees names list ≡ Ok (outcome, left)
+        → is_among names name ≡ true → images_freed names list ≡ Ok (outcome, left)
         → list_any (has_name name) left.images ≡ false }
 {}
 

@@ -1,7 +1,7 @@
 //! `imgstat`: prints a line for each image.
 
 ghost use Rattle.std.specs.Prelude.{◌≡◌, ◌<◌, Some, length, slice_get, option_map, IfOk};
-ghost use Rattle.nb_imagecmd.specs.Stat.{is_at, line_text, stat_line, stat_lines, mark};
+ghost use Rattle.nb_imagecmd.specs.Stat.{is_at, line_text, stat_line, stat_lines, selected_mark};
 
 use nb_image::Images;
 use nb_terms::NoMemory;
@@ -67,7 +67,7 @@ fn line_text(alloc: Global, name: &[u8], size: usize, is_selected: bool) -> Resu
     line.extend_from_slice(b" : ".as_slice())?;
     line.extend_from_slice(size.as_bytes())?;
     line.extend_from_slice(b" bytes".as_slice())?;
-    line.extend_from_slice(mark(is_selected))?;
+    line.extend_from_slice(selected_mark(is_selected))?;
     line.push(b'\n')?;
     Ok(Text::from_vec(line))
 }
@@ -82,8 +82,8 @@ fn is_selected(images: &Images, i: usize) -> bool
 }
 
 /// What stands after the size.
-fn mark(is_selected: bool) -> &'static [u8]
-    ensures { result.now ≡ mark is_selected }
+fn selected_mark(is_selected: bool) -> &'static [u8]
+    ensures { result.now ≡ selected_mark is_selected }
 {
     if is_selected { b" [SELECTED]" } else { b"" }
 }
