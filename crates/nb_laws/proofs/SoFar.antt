@@ -237,14 +237,14 @@ written_sleep : (k j : ℕ) (table : TableLists) (ws : List (List ℕ)) (n : ℕ
 unfolding effect
 written_sleep k j table ws n e = expanded_sleep k j table (expansion table ws) n e
 
-shown_sleeps : (k j : ℕ) (table : TableLists) (expanded : Bool) (ws : List (List ℕ)) (n : ℕ) → shown_effect k table (shown_as expanded ws) ≡ sleeps n → shown_effect j table (shown_as expanded ws) ≡ sleeps n
+pub shown_sleeps : (k j : ℕ) (table : TableLists) (expanded : Bool) (ws : List (List ℕ)) (n : ℕ) → shown_effect k table (shown_as expanded ws) ≡ sleeps n → shown_effect j table (shown_as expanded ws) ≡ sleeps n
 shown_sleeps k j table true ws n e = words_sleep k j table ws n e
 shown_sleeps k j table false ws n e = written_sleep k j table ws n e
 
-same_seconds : (n n' : ℕ) → sleeps n ≡ sleeps n' → n ≡ n'
+pub same_seconds : (n n' : ℕ) → sleeps n ≡ sleeps n' → n ≡ n'
 same_seconds n n' e = cc
 
-same_shown : (o : Option ShownWords) (x y : ShownWords) → o ≡ Some x → o ≡ Some y → x ≡ y
+pub same_shown : (o : Option ShownWords) (x y : ShownWords) → o ≡ Some x → o ≡ Some y → x ≡ y
 same_shown o x y p q = let both : Some x ≡ Some y = sym p ∙ q in cc
 
 -- NO COMMAND OVERSLEEPS

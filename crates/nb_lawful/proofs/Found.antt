@@ -1,0 +1,203 @@
+-- The open of a command that asks by one exchange has ended: what the history says that it has found, and its result.
+use Rattle.std.proofs.Common.{◌≡◌, ℕ, ◌-◌, ◌==◌, ◌&&◌, Bool, true, false, cond, List, [], ◌∷◌, ◌++◌, map, filter, Some, Ok, Err, refl, sym, ◌∙◌, ap, subst}
+use Rattle.std.specs.List.{flat_map}
+use Rattle.std.specs.Option.{option_map_or}
+use Rattle.nb_terms.specs.declared.cause.Cause.{Cause}
+use Rattle.nb_wire.specs.declared.address.Ip4.{Ip4}
+use Rattle.nb_defs.specs.Causes.{is_ok_cause}
+use Rattle.nb_defs.specs.Records.{Out, result}
+use Rattle.nb_settings.specs.Tables.{TableLists}
+use Rattle.nb_command.specs.Settings.{Change}
+use Rattle.nb_command.specs.Addresses.{address_table}
+use Rattle.nb_command.specs.SettingAddresses.{host}
+use Rattle.nb_dns.specs.LookupCalls.{DnsDatagram}
+use Rattle.nb_dns.specs.LookupReplies.{address_found}
+use Rattle.nb_dhcp.specs.History.{Handed, acknowledgement_in}
+use Rattle.nb_tftp.specs.Blocks.{is_whole}
+use Rattle.nb_tftp.specs.History.{received_by}
+use Rattle.nb_image.specs.declared.image.Image.{Image}
+use Rattle.nb_machine.specs.Effects.{inquires, changed}
+use Rattle.nb_machine.specs.Errands.{echoes_then}
+use Rattle.nb_machine.specs.Findings.{query_id, lease_change, Settled, settled_by}
+use Rattle.nb_machine.specs.Queries.{Query, for_lease, for_echo, for_host, for_address}
+use Rattle.nb_machine.specs.Running.{Running, with_result}
+use Rattle.nb_machine.specs.Lives.{dns, dhcp, kind_number, Live}
+use Rattle.nb_machine.specs.Kinds.{resolved, resolved_of, granted, granted_of}
+use Rattle.nb_machine.specs.States.{State, with_settings}
+use Rattle.nb_machine.specs.Scripts.{settled_with, leased_change, resolved_change}
+use Rattle.nb_machine.specs.Courses as course
+use Rattle.nb_laws.specs.Events.{Event, puts}
+use Rattle.nb_laws.specs.Lists.{Hardware, hardware, openings, opens_file, made, datagrams_of, calls, came_ok, last_end}
+use Rattle.nb_laws.specs.Cores.{lookup_by, asker_by, as_dns, looked_at, handed_over}
+use Rattle.nb_laws.specs.CommandsSoFar.{so_far, shown_effect, shown_table, shown_query, query_in, query_change, change_found, found_table, left_table, ComesTo}
+use Rattle.nb_laws.specs.Frames.{IsLastQuery}
+use Rattle.nb_laws.specs.HandOff.{shown_effect_of, image_by, last_image, image_at, image_list}
+use Rattle.nb_laws.specs.Agreement.{Asks, asks_at_once, echoes_next}
+use Rattle.nb_laws.proofs.Tellings.{told}
+use Rattle.nb_laws.proofs.Commands.{script_as, script_told}
+use Rattle.nb_laws.proofs.HandOffs.{one_keeps, parts_more}
+use Rattle.nb_laws.proofs.Inquiries.{asks_some, shown_inquiry_keeps}
+use Rattle.nb_laws.proofs.SoFar.{so_far_more, left_by_host}
+use Rattle.nb_lawful.specs.Standings.{live_opening, heard_calls}
+use Rattle.nb_lawful.specs.CommandOpens.{command_end}
+use Rattle.nb_lawful.specs.Results.{GivesResult, by_failed_end, by_found, by_echo_of_host, ResultStands}
+use Rattle.nb_lawful.specs.ScriptAgreement.{SettingsAre, IsLiveFor, AsksIn}
+use Rattle.nb_lawful.proofs.AtOnce.{Goes}
+use Rattle.nb_lawful.proofs.CommandEnds.{HasEnded, ends_with, look_up_heard, lease_heard}
+
+-- WHAT IT HAS FOUND
+
+-- put into these settings, as its query wants it
+abbrev pub found_by : Query → Live → TableLists → Change
+found_by for_lease l table = leased_change l table
+found_by (for_echo server) l table = Ok table
+found_by (for_address setting name by) l table = resolved_change setting l table
+found_by (for_host errand name by) l table = Ok table
+
+pub resolved_same : (es : List Event) (l : Live) → l.kind ≡ dns (query_id (hardware es).identity l.number) → calls l.number es ≡ heard_calls l.kind l.exchanges →
+    address_found (lookup_by (hardware es) l.number (live_opening l)) (looked_at (live_opening l) (datagrams_of l.number es)) ≡ resolved l
+resolved_same es l kind received =
+    let id = query_id (hardware es).identity l.number in
+    ap (λ z. address_found (lookup_by (hardware es) l.number (live_opening l)) (map (as_dns (host l.server)) (flat_map received_by z))) (received ∙ ap (λ k. heard_calls k l.exchanges) kind)
+    ∙ ap (λ (ms : List DnsDatagram). address_found (lookup_by (hardware es) l.number (live_opening l)) ms) (look_up_heard id l.server l.exchanges)
+    ∙ sym (ap (λ k. resolved_of k l) kind)
+
+granted_same : (es : List Event) (l : Live) → l.kind ≡ dhcp (asker_by (hardware es) l.number) → calls l.number es ≡ heard_calls l.kind l.exchanges →
+    acknowledgement_in (asker_by (hardware es) l.number) (handed_over (datagrams_of l.number es)) ≡ granted l
+granted_same es l kind received =
+    let a = asker_by (hardware es) l.number in
+    ap (λ z. acknowledgement_in a (handed_over (flat_map received_by z))) (received ∙ ap (λ k. heard_calls k l.exchanges) kind)
+    ∙ ap (λ (ms : List Handed). acknowledgement_in a ms) (lease_heard a l.exchanges)
+    ∙ sym (ap (λ k. granted_of k l.exchanges) kind)
+
+query_same : (es : List Event) (l : Live) (query : Query) (table : TableLists) → IsLiveFor (hardware es) query l → calls l.number es ≡ heard_calls l.kind l.exchanges →
+    query_change (hardware es) l.number (live_opening l ∷ []) (datagrams_of l.number es) table query ≡ found_by query l table
+query_same es l for_lease table is received = ap (λ x. option_map_or (lease_change table) x (Ok table)) (granted_same es l is received)
+query_same es l (for_echo server) table is received = refl
+query_same es l (for_host errand name by) table is received = refl
+query_same es l (for_address setting name by) table is received =
+    ap (λ x. option_map_or (λ (address : Ip4). address_table setting address.0 table) x (Ok table)) (resolved_same es l is received)
+
+found_same : (es : List Event) (outs : List Out) (s : State) (inner : Running) (l : Live) (cause : Cause) (query : Query) (table : TableLists) → HasEnded es outs s inner l cause → IsLiveFor (hardware es) query l → change_found es table query ≡ found_by query l table
+found_same es outs s inner l cause query table h is =
+    ap (λ n. query_change (hardware es) n (openings n es) (datagrams_of n es) table query) h.number
+    ∙ ap (λ os. query_change (hardware es) l.number os (datagrams_of l.number es) table query) h.opening
+    ∙ query_same es l query table is h.received
+
+-- ITS RESULT
+
+abbrev pub settled_query : Cause → Query → Live → TableLists → Settled
+settled_query cause query l table = settled_with cause (found_by query l table) table
+
+-- the open that receives an echo is a ping
+echo_kind : (h : Hardware) (query : Query) (l : Live) (server : ℕ) → query ≡ for_echo server → IsLiveFor h query l → kind_number l.kind ≡ 6
+echo_kind h query l server is f = let at : IsLiveFor h (for_echo server) l = subst (λ q. IsLiveFor h q l) is f in ap kind_number at
+
+-- a command whose open has ended, and which asks nothing more
+pub record HasFound (es : List Event) (outs : List Out) (s : State) (inner : Running) (l : Live) (cause : Cause) (query : Query) : Type 0 where
+  pub ended_so : HasEnded es outs s inner l cause
+  pub asks : AsksIn (hardware es) (so_far es) l query
+  pub last : is_ok_cause cause ≡ true → IsLastQuery query
+
+found_stands : (es : List Event) (outs : List Out) (s : State) (inner : Running) (l : Live) (cause : Cause) (query : Query) → HasFound es outs s inner l cause query → ResultStands es (settled_query cause query l s.table).cause
+found_stands es outs s inner l cause query f = by (is_ok_cause cause) refl
+  where
+    comes : (q : Query) → shown_effect l.number (so_far es).table f.asks.shown ≡ inquires q → ComesTo es (made es - 1) (inquires q)
+    comes q is = (f.asks.shown, f.asks.said, subst (λ n. shown_effect n (so_far es).table f.asks.shown ≡ inquires q) (sym f.ended_so.number) is)
+
+    came : is_ok_cause cause ≡ true → came_ok (command_end es) ≡ true
+    came e = ap came_ok (ends_with es outs s inner l cause f.ended_so) ∙ e
+
+    held : is_ok_cause cause ≡ true → Asks (shown_effect l.number (so_far es).table f.asks.shown) query → GivesResult es (settled_by s.table (found_by query l s.table)).cause
+    held e (asks_at_once is) =
+        by_found query (f.last e) (came e) (comes query is)
+        (ap (λ c. (settled_by s.table c).cause) (sym (found_same es outs s inner l cause query s.table f.ended_so f.asks.is_for)) ∙ ap (λ z. (settled_by z (change_found es z query)).cause) (sym f.ended_so.settings.table))
+    held e (echoes_next name server address is same) =
+        by_echo_of_host name server (came e) (comes (for_host echoes_then name server) is)
+        (record { opening = live_opening l; opened = ap (λ n. openings n es) f.ended_so.number ∙ f.ended_so.opening; kind_is = echo_kind (hardware es) query l address same f.asks.is_for })
+        (ap (λ q. (settled_by s.table (found_by q l s.table)).cause) same)
+
+    by : (b : Bool) → is_ok_cause cause ≡ b → ResultStands es (cond b (settled_by s.table (found_by query l s.table)) (record { cause = cause; table = s.table })).cause
+    by false e = record { is_open = f.ended_so.settings.is_open; holds = by_failed_end (ends_with es outs s inner l cause f.ended_so) e }
+    by true e = record { is_open = f.ended_so.settings.is_open; holds = held e f.asks.asked }
+
+-- THE SETTINGS THEN
+
+settled_table : (table : TableLists) (c : Change) → (settled_by table c).table ≡ changed table c
+settled_table table (Ok other) = refl
+settled_table table (Err why) = refl
+
+asks_keeps : (es : List Event) (l : Live) (query : Query) → AsksIn (hardware es) (so_far es) l query → shown_table (so_far es).table (so_far es).shown ≡ (so_far es).table
+asks_keeps es l query a =
+    let (q, is) = asks_some (shown_effect l.number (so_far es).table a.shown) query a.asked in
+    ap (shown_table (so_far es).table) a.said ∙ shown_inquiry_keeps l.number (so_far es).table a.shown q is
+
+found_leaves : (es : List Event) (outs : List Out) (s : State) (inner : Running) (l : Live) (cause : Cause) (query : Query) → HasFound es outs s inner l cause query → left_table es (so_far es).table (so_far es).shown ≡ (settled_query cause query l s.table).table
+found_leaves es outs s inner l cause query f = by_asked f.asks.asked
+  where
+    by : (b : Bool) → cond b (changed s.table (found_by query l s.table)) s.table ≡ (cond b (settled_by s.table (found_by query l s.table)) (record { cause = cause; table = s.table })).table
+    by true = sym (settled_table s.table (found_by query l s.table))
+    by false = refl
+
+    at_once : shown_effect l.number (so_far es).table f.asks.shown ≡ inquires query → left_table es (so_far es).table (so_far es).shown ≡ (settled_query cause query l s.table).table
+    at_once asked =
+        ap (left_table es (so_far es).table) f.asks.said
+        ∙ ap (λ x. cond (came_ok x) (found_table es (shown_table (so_far es).table (Some f.asks.shown)) (shown_query (made es - 1) (so_far es).table (Some f.asks.shown))) (shown_table (so_far es).table (Some f.asks.shown))) f.ended_so.last
+        ∙ ap (λ z. cond (is_ok_cause cause) (found_table es z (shown_query (made es - 1) (so_far es).table (Some f.asks.shown))) z) (shown_inquiry_keeps l.number (so_far es).table f.asks.shown query asked)
+        ∙ ap (λ z. cond (is_ok_cause cause) (found_table es (so_far es).table z) (so_far es).table) (ap (λ n. query_in (shown_effect n (so_far es).table f.asks.shown)) f.ended_so.number ∙ ap query_in asked)
+        ∙ ap (λ z. cond (is_ok_cause cause) (changed z (change_found es z query)) z) f.ended_so.settings.table
+        ∙ ap (λ c. cond (is_ok_cause cause) (changed s.table c) s.table) (found_same es outs s inner l cause query s.table f.ended_so f.asks.is_for)
+        ∙ by (is_ok_cause cause)
+
+    echo_leaves : (b : Bool) → s.table ≡ (cond b (settled_by s.table (Ok s.table)) (record { cause = cause; table = s.table })).table
+    echo_leaves true = refl
+    echo_leaves false = refl
+
+    by_asked : Asks (shown_effect l.number (so_far es).table f.asks.shown) query → left_table es (so_far es).table (so_far es).shown ≡ (settled_query cause query l s.table).table
+    by_asked (asks_at_once asked) = at_once asked
+    by_asked (echoes_next name server address asked same) =
+        left_by_host es (so_far es).table (so_far es).shown echoes_then name server
+        (ap (shown_query (made es - 1) (so_far es).table) f.asks.said ∙ ap (λ n. query_in (shown_effect n (so_far es).table f.asks.shown)) f.ended_so.number ∙ ap query_in asked)
+        ∙ asks_keeps es l query f.asks ∙ f.ended_so.settings.table ∙ echo_leaves (is_ok_cause cause)
+        ∙ ap (λ q. (settled_query cause q l s.table).table) (sym same)
+
+-- IT BRINGS NO IMAGE
+
+no_file : (h : Hardware) (query : Query) (l : Live) → IsLiveFor h query l → opens_file (live_opening l) ≡ false
+no_file h for_lease l is = ap (λ k. kind_number k == 1) is
+no_file h (for_echo server) l is = ap (λ k. kind_number k == 1) is
+no_file h (for_host errand name by) l is = ap (λ k. kind_number k == 1) is.0
+no_file h (for_address setting name by) l is = ap (λ k. kind_number k == 1) is
+
+either_none : (b : Bool) → cond {A = List Image} b [] [] ≡ []
+either_none true = refl
+either_none false = refl
+
+no_image : (es : List Event) (outs : List Out) (s : State) (inner : Running) (l : Live) (cause : Cause) (query : Query) (c : Cause) → HasEnded es outs s inner l cause → IsLiveFor (hardware es) query l → image_at es (puts (result c)) ≡ []
+no_image es outs s inner l cause query c h is =
+    ap (λ z. cond (is_ok_cause c && (came_ok (last_end es) && is_whole (datagrams_of (made es - 1) es))) z []) none ∙ either_none (is_ok_cause c && (came_ok (last_end es) && is_whole (datagrams_of (made es - 1) es)))
+  where
+    none : last_image es ≡ []
+    none =
+        ap (λ n. flat_map (image_by (shown_effect_of es) (datagrams_of (made es - 1) es)) (filter opens_file (openings n es))) h.number
+        ∙ ap (λ os. flat_map (image_by (shown_effect_of es) (datagrams_of (made es - 1) es)) (filter opens_file os)) h.opening
+        ∙ ap (λ b. flat_map (image_by (shown_effect_of es) (datagrams_of (made es - 1) es)) (cond b (live_opening l ∷ []) [])) (no_file (hardware es) query l is)
+
+-- its command is over
+pub found_goes : (es : List Event) (outs : List Out) (s : State) (inner : Running) (outer : List Running) (l : Live) (cause : Cause) (query : Query) → HasFound es outs s inner l cause query →
+    Goes es outs (result (settled_query cause query l s.table).cause ∷ []) (course.running (with_settings s (settled_query cause query l s.table).table s.up) (with_result inner (settled_query cause query l s.table).cause) outer)
+found_goes es outs s inner outer l cause query f =
+    let end = settled_query cause query l s.table in
+    let o = result end.cause in
+    record {
+      stands = (found_stands es outs s inner l cause query f, tt);
+      agrees = (
+        script_as (es ++ told (o ∷ [])) inner (with_result inner end.cause) refl refl (script_told es (o ∷ []) inner refl f.ended_so.script),
+        subst (λ m. SettingsAre m (with_settings s end.table s.up) false) (sym (so_far_more es (puts o)))
+            (record { table = found_leaves es outs s inner l cause query f; up = f.ended_so.settings.up; now = f.ended_so.settings.now; is_open = refl }),
+        record {
+          list = f.ended_so.images.list ∙ sym (ap image_list (one_keeps es o (no_image es outs s inner l cause query end.cause f.ended_so f.asks.is_for)));
+          none = parts_more outs (o ∷ []) f.ended_so.images.none (tt, tt);
+        },
+      );
+    }

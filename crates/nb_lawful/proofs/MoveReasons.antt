@@ -1,0 +1,167 @@
+-- A run goes on: the records that it puts have their reasons.
+use Rattle.std.proofs.Common.{◌≡◌, ℕ, true, List, [], ◌∷◌, ◌++◌, Option, Some, None, refl, sym, ap, subst}
+use Rattle.std.specs.Prelude.{slice_get}
+use Rattle.std.specs.List.{AllByRecursion}
+use Rattle.nb_defs.specs.Causes.{ok}
+use Rattle.nb_defs.specs.Commands.{CommandOutcome, refused}
+use Rattle.nb_defs.specs.Records.{In, Out, step, sent, result, ended, leave}
+use Rattle.nb_stack.specs.Client.{Client}
+use Rattle.nb_machine.specs.Conclusions.{fails, conclusion_records}
+use Rattle.nb_machine.specs.Effects.{shuts_device, effect, ShownWords, shown_words, full_opens}
+use Rattle.nb_machine.specs.Running.{Running, no_label}
+use Rattle.nb_machine.specs.CommandRecords.{prints, command_record, command_records, no_route}
+use Rattle.nb_machine.specs.Lives.{close, Live, open_record, end_record}
+use Rattle.nb_machine.specs.States.{State}
+use Rattle.nb_machine.specs.Takings.{Over, AllTake}
+use Rattle.nb_machine.specs.Scripts.{Job, opens, shuts, live_onward, doing}
+use Rattle.nb_machine.specs.Courses as course
+use Rattle.nb_machine.specs.Courses.{Progress, Proceeds, down_cause}
+use Rattle.nb_laws.specs.Events.{Event, puts, EachEvent}
+use Rattle.nb_laws.specs.Histories.{client}
+use Rattle.nb_laws.specs.CommandsSoFar.{CommandsSoFar, ComesTo}
+use Rattle.nb_laws.specs.Progress.{IsAdvanced}
+use Rattle.nb_laws.specs.Silence.{IsSilent}
+use Rattle.nb_laws.specs.Agreement.{IsStill, AreStill}
+use Rattle.nb_laws.proofs.Asides.{still_command}
+use Rattle.nb_laws.proofs.Tellings.{told, still_advances, still_tries, still_advanced}
+use Rattle.nb_lawful.specs.Standings.{AgreesState, AgreesDevice}
+use Rattle.nb_lawful.specs.OpenEndings.{OpensEndSo, FramesSo, by_device}
+use Rattle.nb_lawful.specs.ScriptAgreement.{ScriptsAgree}
+use Rattle.nb_lawful.proofs.OpenStates.{still_state}
+use Rattle.nb_lawful.proofs.Courses.{kept_state, opens_next, onward_next, shuts_keep}
+use Rattle.nb_lawful.proofs.Sendings.{OpenReasons, no_reasons, reasons_then}
+use Rattle.nb_lawful.proofs.Quiet.{ends_quiet}
+use Rattle.nb_lawful.proofs.Doings.{shuts_by, opens_by}
+use Rattle.nb_lawful.proofs.Begun.{begun_comes, begun_silently, begun_closing}
+use Rattle.nb_lawful.proofs.Opening.{begins_by}
+use Rattle.nb_lawful.proofs.Scripted.{based}
+use Rattle.nb_lawful.proofs.Devices.{opens_device}
+use Rattle.nb_lawful.proofs.KeptOpens.{AreKept, KeptAt}
+use Rattle.nb_lawful.proofs.Closings.{EndsFor, closes_reasons}
+use Rattle.nb_lawful.proofs.FirstReasons.{Opens, begins_reasons, lost_reasons}
+use Rattle.nb_lawful.proofs.OpenWays.{head_is}
+use Rattle.nb_lawful.proofs.Runs.{Story}
+
+-- RECORDS THAT TELL NOTHING OF AN OPEN
+
+-- no FRAME
+abbrev pub IsUnsent : Out → Type 0
+IsUnsent (sent bytes) = ⊥
+IsUnsent (step number) = Unit {0}
+IsUnsent _ = Unit {0}
+
+abbrev pub AreUnsent : List Out → Type 0
+AreUnsent outs = AllByRecursion IsUnsent outs
+
+ends_one : (before : List Event) (o : Out) → IsStill o → OpensEndSo before (puts o)
+ends_one before (ended number cause) h = absurd h
+ends_one before (step number) h = tt
+ends_one before _ h = tt
+
+frames_one : (before : List Event) (o : Out) → IsUnsent o → FramesSo before (puts o)
+frames_one before (sent bytes) h = absurd h
+frames_one before (step number) h = tt
+frames_one before _ h = tt
+
+ends_all : (es : List Event) (outs : List Out) → AreStill outs → EachEvent OpensEndSo es (told outs)
+ends_all es [] h = tt
+ends_all es (o ∷ outs) h = (ends_one es o h.0, ends_all (es ++ puts o ∷ []) outs h.1)
+
+frames_all : (es : List Event) (outs : List Out) → AreUnsent outs → EachEvent FramesSo es (told outs)
+frames_all es [] h = tt
+frames_all es (o ∷ outs) h = (frames_one es o h.0, frames_all (es ++ puts o ∷ []) outs h.1)
+
+pub still_reasons : (es : List Event) (outs : List Out) → AreStill outs → AreUnsent outs → IsAdvanced es → OpenReasons es outs
+still_reasons es outs still unsent a = record { ends = ends_all es outs still; frames = frames_all es outs unsent; advances = still_advances es outs still a; tries = still_tries es outs still; after = still_advanced es outs still a }
+
+unsent_command : (inner : Running) (shown : ShownWords) (o : CommandOutcome) → AreUnsent (command_records inner shown o)
+unsent_command inner shown o = by o.prints
+  where
+    by : (p : Option (List ℕ)) → AreUnsent ((command_record inner shown ∷ []) ++ prints p ++ (result o.cause ∷ []))
+    by None = (tt, (tt, tt))
+    by (Some bytes) = (tt, (tt, (tt, tt)))
+
+unsent_silent : (o : Out) → IsSilent o → IsUnsent o
+unsent_silent (sent bytes) h = absurd h
+unsent_silent (step number) h = tt
+unsent_silent _ h = tt
+
+command_reasons : (es : List Event) (inner : Running) (shown : ShownWords) (o : CommandOutcome) → IsAdvanced es → OpenReasons es (command_records inner shown o)
+command_reasons es inner shown o a = still_reasons es (command_records inner shown o) (still_command inner shown o) (unsent_command inner shown o) a
+
+-- A COMMAND MAKES AN OPEN
+
+-- its open, after COMMAND
+command_opens : (es : List Event) (outs : List Out) (s s2 : State) (inner : Running) (outer : List Running) (ws : List (List ℕ)) (l : Live) (job : Job) (link : Client) → AgreesState es s → AgreesDevice es s → ScriptsAgree es outs (course.running s inner outer) →
+    doing s ws ≡ opens s2 l job → slice_get s2.devices l.device ≡ Some link → IsAdvanced es → Opens (es ++ told (command_record inner (shown_words s.table ws) ∷ [])) s2 l link
+command_opens es outs s s2 inner outer ws l job link a d h is got adv =
+    let b = command_record inner (shown_words s.table ws) ∷ [] in
+    let es1 = es ++ told b in
+    let by = opens_by s ws s2 l job is in
+    let k = begins_by es outs s s2 inner outer ws l job (based es s a) h by in
+    let n = opens_next s s2 _ _ _ l job is in
+    let device : AgreesDevice es1 s2 = opens_device es b s s2 s2 ws l job _ true by refl refl refl d h.1 k.under_way.settings in
+    record {
+      next = n.1;
+      base = kept_state es1 s s2 n.0 (still_state es b s (tt, tt) a);
+      client_is = head_is (client es1) link s2.devices l.device device n.1.device_is got;
+      advanced = still_advanced es b (tt, tt) adv;
+    }
+
+-- `ifclose`
+device_ends : (es : List Event) (s : State) (inner : Running) (outs : List Out) (outer : List Running) (ws : List (List ℕ)) → AgreesState es s → ScriptsAgree es outs (course.running s inner outer) → effect s.opens s.table ws ≡ shuts_device →
+    EndsFor down_cause (es ++ told (command_record inner (shown_words s.table ws) ∷ []))
+device_ends es s inner outs outer ws a h e = λ ends all k.
+    let es1 = es ++ told (command_record inner (shown_words s.table ws) ∷ []) in
+    let b = begun_closing es1 s inner ws ends (ends_quiet down_cause ends all) (begun_silently es s inner ws a.opens h.0 h.1) in
+    by_device refl (ap (λ (x : CommandsSoFar). x.is_open) b.so_far_is.2)
+    (subst (λ n. ComesTo (es1 ++ told ends) n shuts_device) (sym b.opens) (begun_comes (es1 ++ told ends) b.so_far_is.0 s.opens s.table ws shuts_device b.so_far_is.1 b.so_far_is.2 e))
+
+shuts_reasons : (es : List Event) (outs : List Out) (s s2 : State) (inner : Running) (outer : List Running) (ws : List (List ℕ)) (put : List Out) (over : List Over) → AgreesState es s → ScriptsAgree es outs (course.running s inner outer) → AreKept s.live →
+    doing s ws ≡ shuts s2 → AllTake s2.devices (close down_cause) s2.live put [] over → IsAdvanced es → OpenReasons es (command_record inner (shown_words s.table ws) ∷ put ++ (result ok ∷ []))
+shuts_reasons es outs s s2 inner outer ws put over a h kept is all adv =
+    let b = command_record inner (shown_words s.table ws) ∷ [] in
+    let es1 = es ++ told b in
+    let d = shuts_by s ws s2 is in
+    let base : AgreesState es1 s2 = kept_state es1 s s2 (shuts_keep s s2 _ _ _ is) (still_state es b s (tt, tt) a) in
+    let first = still_reasons es b (tt, tt) (tt, tt) adv in
+    let closes = closes_reasons s2.devices down_cause s2.live put [] over all refl es1 base.each base.apart (subst (λ (z : State). AreKept z.live) (sym d.1) kept) first.after (device_ends es s inner outs outer ws a h d.0) in
+    let last = still_reasons (es1 ++ told put) (result ok ∷ []) (tt, tt) (tt, tt) closes.after in
+    reasons_then es b (put ++ (result ok ∷ [])) first (reasons_then es1 put (result ok ∷ []) closes last)
+
+-- EACH MOVE
+
+pub move_reasons : (ins : List In) (outs : List Out) (es : List Event) (m : Progress) (added : List Out) (m2 : Progress) → Proceeds m added m2 → Story ins outs es m.standing → KeptAt m.standing → OpenReasons es added
+move_reasons ins outs es m added m2 (course.passes n s inner next outer comes) t k = no_reasons es t.advanced
+move_reasons ins outs es m added m2 (course.is_left n s inner outer cause comes) t k = still_reasons es (leave inner.depth cause ∷ []) (tt, tt) (tt, tt) t.advanced
+move_reasons ins outs es m added m2 (course.yields n s inner outer c cs comes full) t k = no_reasons es t.advanced
+move_reasons ins outs es m added m2 (course.does n s s2 inner outer c cs x comes few is stays) t k = command_reasons es inner (shown_words s.table (c ∷ cs)) x t.advanced
+move_reasons ins outs es m added m2 (course.closes_device n s s2 inner outer c cs put over comes few is all) t k = shuts_reasons es outs s s2 inner outer (c ∷ cs) put over t.base t.scripts k is all t.advanced
+move_reasons ins outs es m added m2 (course.leaves n s s2 inner outer c cs x comes few is away) t k =
+    let b = command_records inner (shown_words s.table (c ∷ cs)) x in
+    let first = command_reasons es inner (shown_words s.table (c ∷ cs)) x t.advanced in
+    reasons_then es b (leave inner.depth x.cause ∷ []) first (still_reasons (es ++ told b) (leave inner.depth x.cause ∷ []) (tt, tt) (tt, tt) first.after)
+move_reasons ins outs es m added m2 (course.jumps n s inner outer c cs name line comes few is there) t k = command_reasons es inner (shown_words s.table (c ∷ cs)) (refused ok) t.advanced
+move_reasons ins outs es m added m2 (course.finds_no_label n s inner outer c cs name comes few is none) t k = command_reasons es inner (shown_words s.table (c ∷ cs)) (refused no_label) t.advanced
+move_reasons ins outs es m added m2 (course.falls_asleep n s inner outer c cs time comes few is) t k = still_reasons es (command_record inner (shown_words s.table (c ∷ cs)) ∷ []) (tt, tt) (tt, tt) t.advanced
+move_reasons ins outs es m added m2 (course.opens_one n s s2 inner outer c cs l job link put comes few is got first) t k =
+    let b = command_record inner (shown_words s.table (c ∷ cs)) ∷ [] in
+    reasons_then es b (open_record l ∷ put) (still_reasons es b (tt, tt) (tt, tt) t.advanced)
+    (begins_reasons (es ++ told b) s2 l link put (command_opens es outs s s2 inner outer (c ∷ cs) l job link t.base t.device t.scripts is got t.advanced) first)
+move_reasons ins outs es m added m2 (course.finds_no_route n s s2 inner outer c cs l job link comes few is got none) t k =
+    let b = command_record inner (shown_words s.table (c ∷ cs)) ∷ [] in
+    let two = open_record l ∷ end_record l (no_route l.server) ∷ [] in
+    let lost = lost_reasons (es ++ told b) s2 l link (command_opens es outs s s2 inner outer (c ∷ cs) l job link t.base t.device t.scripts is got t.advanced) none in
+    reasons_then es b (two ++ conclusion_records (fails (no_route l.server))) (still_reasons es b (tt, tt) (tt, tt) t.advanced)
+    (reasons_then (es ++ told b) two (result (no_route l.server) ∷ []) lost (still_reasons ((es ++ told b) ++ told two) (result (no_route l.server) ∷ []) (tt, tt) (tt, tt) lost.after))
+move_reasons ins outs es m added m2 (course.opens_onward n s inner outer next link put few got first) t k =
+    let l = live_onward s next in
+    begins_reasons es s l link put (record { next = onward_next s next; base = t.base; client_is = head_is (client es) link s.devices l.device t.device (onward_next s next).device_is got; advanced = t.advanced }) first
+move_reasons ins outs es m added m2 (course.finds_no_way n s inner outer next link few got none) t k =
+    let l = live_onward s next in
+    let two = open_record l ∷ end_record l (no_route l.server) ∷ [] in
+    let lost = lost_reasons es s l link (record { next = onward_next s next; base = t.base; client_is = head_is (client es) link s.devices l.device t.device (onward_next s next).device_is got; advanced = t.advanced }) none in
+    reasons_then es two (result (no_route l.server) ∷ []) lost (still_reasons (es ++ told two) (result (no_route l.server) ∷ []) (tt, tt) (tt, tt) lost.after)
+move_reasons ins outs es m added m2 (course.opens_no_more n s inner outer next full) t k = still_reasons es (result full_opens ∷ []) (tt, tt) (tt, tt) t.advanced
+move_reasons ins outs es m added m2 (course.hands n s r rest) t k = still_reasons es (r ∷ []) (t.base.1.0, tt) (unsent_silent r t.base.2.0, tt) t.advanced
+move_reasons ins outs es m added m2 (course.has_handed n s) t k = no_reasons es t.advanced

@@ -1,0 +1,145 @@
+-- A command that is under way makes an open: it begins, and the command waits for it, or it finds no route and has ended.
+use Rattle.std.proofs.Common.{◌≡◌, ℕ, ◌+◌, Bool, true, false, cond, List, [], ◌∷◌, ◌++◌, Some, None, refl, sym, ◌∙◌, ap, subst, append_assoc, append-nil}
+use Rattle.std.specs.List.{AllByRecursion}
+use Rattle.std.proofs.lemmas.Option.{none-some, same_Some}
+use Rattle.nb_terms.specs.declared.acts.SendTo.{SendTo}
+use Rattle.nb_defs.specs.Records.{Out, result}
+use Rattle.nb_stack.specs.Client.{Client}
+use Rattle.nb_dns.specs.Lookups.{query_to}
+use Rattle.nb_dhcp.specs.Acting.{to_servers}
+use Rattle.nb_dhcp.specs.Messages.{message_text}
+use Rattle.nb_ping.specs.Pings.{echo_request}
+use Rattle.nb_machine.specs.Sendings.{has_route, request_of, send_records}
+use Rattle.nb_machine.specs.Cores.{look_up_of, ping_of}
+use Rattle.nb_machine.specs.Transfers.{transfer_of}
+use Rattle.nb_machine.specs.Conclusions.{fails, conclusion_records}
+use Rattle.nb_machine.specs.Running.{Running, with_result}
+use Rattle.nb_machine.specs.CommandRecords.{no_route}
+use Rattle.nb_machine.specs.Errands.{Wanted}
+use Rattle.nb_machine.specs.Queries.{Query}
+use Rattle.nb_machine.specs.Lives.{OpenKind, tftp, dns, dhcp, ping, Live, open_record, end_record}
+use Rattle.nb_machine.specs.Kinds.{first_records}
+use Rattle.nb_machine.specs.States.{State, with_opened, with_one_made}
+use Rattle.nb_machine.specs.Scripts.{Job, fetch, job_for, answer, Waiting}
+use Rattle.nb_machine.specs.Courses as course
+use Rattle.nb_laws.specs.Events.{Event, puts}
+use Rattle.nb_laws.specs.Lists.{hardware, port_offset, commands_begun, came_ok, last_end}
+use Rattle.nb_laws.specs.CommandsSoFar.{CommandsSoFar, so_far, shown_table}
+use Rattle.nb_laws.specs.HandOff.{image_list}
+use Rattle.nb_laws.specs.Agreement.{AgreesScript}
+use Rattle.nb_laws.proofs.Histories.{hardware_more, offset_more}
+use Rattle.nb_laws.proofs.Tellings.{told, same_number}
+use Rattle.nb_laws.proofs.Commands.{script_as, script_told}
+use Rattle.nb_laws.proofs.HandOffs.{AreOpens, opens_send, parts_more, one_keeps, failed_image, last_end_more}
+use Rattle.nb_laws.proofs.SoFar.{so_far_more, over_so_far, left_quiet, result_so_far}
+use Rattle.nb_lawful.specs.CommandOpens.{command_open_by, command_end, over_of}
+use Rattle.nb_lawful.specs.Results.{by_failed_end, CommandsSo}
+use Rattle.nb_lawful.specs.ScriptAgreement.{SettingsAre, FetchesWith, AsksIn, IsAnother, IsAwaited, AwaitsSo, awaits_file, awaits_query, HasImages, ScriptsAgree}
+use Rattle.nb_lawful.proofs.Puts.{opens_quiet}
+use Rattle.nb_lawful.proofs.Quiet.{quiet_so_far, quiet_begin, quiet_images, quiet_parts, quiet_commands, command_open_more}
+use Rattle.nb_lawful.proofs.Awaited.{opens_keep_open}
+use Rattle.nb_lawful.proofs.AtOnce.{Goes}
+
+pub told_hardware : (es : List Event) (outs : List Out) → hardware (es ++ told outs) ≡ hardware es
+told_hardware es [] = ap hardware (append-nil es)
+told_hardware es (o ∷ outs) = ap hardware (sym (append_assoc es (puts o ∷ []) (told outs))) ∙ told_hardware (es ++ puts o ∷ []) outs ∙ hardware_more es (puts o)
+
+pub told_offset : (es : List Event) (outs : List Out) → port_offset (es ++ told outs) ≡ port_offset es
+told_offset es [] = ap port_offset (append-nil es)
+told_offset es (o ∷ outs) = ap port_offset (sym (append_assoc es (puts o ∷ []) (told outs))) ∙ told_offset (es ++ puts o ∷ []) outs ∙ offset_more es (puts o)
+
+-- ITS FIRST RECORDS
+
+either_begun : (b : Bool) (x put : List Out) → cond b (Some x) None ≡ Some put → AreOpens x → AreOpens put
+either_begun true x put is h = subst AreOpens (same_Some x put is) h
+either_begun false x put is h = absurd (none-some put is)
+
+sent_first : (link : Client) (k : ℕ) (m : SendTo) (put : List Out) → cond (has_route link m) (Some (send_records link k (Some 1) m)) None ≡ Some put → AreOpens put
+sent_first link k m put is = either_begun (has_route link m) (send_records link k (Some 1) m) put is (opens_send link k (Some 1) m)
+
+pub first_opens : (l : Live) (link : Client) (put : List Out) → first_records l.kind l link ≡ Some put → AreOpens put
+first_opens l link put is = by l.kind is
+  where
+    by : (kind : OpenKind) → first_records kind l link ≡ Some put → AreOpens put
+    by tftp is = sent_first link l.number (request_of (transfer_of l)) put is
+    by (dns id) is = sent_first link l.number (query_to (look_up_of id l)) put is
+    by (dhcp a) is = sent_first link l.number (to_servers (message_text a None)) put is
+    by ping is = sent_first link l.number (echo_request (ping_of l)) put is
+
+-- UNDER WAY
+
+-- a command has begun, and has no result yet
+pub record UnderWay (es : List Event) (outs : List Out) (s : State) (inner : Running) : Type 0 where
+  pub script : AgreesScript es inner
+  pub settings : SettingsAre (so_far es) s true
+  pub images : HasImages es outs s
+  pub fewer : AllByRecursion (IsAnother s.opens) s.live
+
+-- what the command asks by its open
+pub data Purpose (es : List Event) (l : Live) (job : Job) : Type 0 where
+  for_file : (wanted : Wanted) → job ≡ fetch wanted → FetchesWith (so_far es) l wanted → Purpose es l job
+  for_query : (query : Query) → job ≡ job_for query → AsksIn (hardware es) (so_far es) l query → Purpose es l job
+
+awaits_so : (es es3 : List Event) (s : State) (w : Waiting) (l : Live) → so_far es3 ≡ so_far es → hardware es3 ≡ hardware es → IsAwaited es3 s w l → Purpose es l w.job → AwaitsSo es3 s w
+awaits_so es es3 s w l same hard at (for_file wanted is f) = awaits_file l wanted at is (subst (λ m. FetchesWith m l wanted) (sym same) f)
+awaits_so es es3 s w l same hard at (for_query query is f) = awaits_query l query at is (subst (λ h. AsksIn h (so_far es3) l query) (sym hard) (subst (λ m. AsksIn (hardware es) m l query) (sym same) f))
+
+abbrev waiting_for : Running → List Running → Live → Job → Waiting
+waiting_for inner outer l job = record { script = inner; outer = outer; awaited = answer l.number; job = job }
+
+-- the open begins, and the command waits for it
+pub begins_open : (es : List Event) (outs : List Out) (s : State) (inner : Running) (outer : List Running) (l : Live) (link : Client) (put : List Out) (job : Job) → UnderWay es outs s inner → first_records l.kind l link ≡ Some put →
+    l.number ≡ s.opens → CommandsSo es (puts (open_record l)) → Purpose es l job → Goes es outs (open_record l ∷ put) (course.waiting (with_opened s l) (waiting_for inner outer l job))
+begins_open es outs s inner outer l link put job u first number stands purpose =
+    let o = open_record l in
+    let es2 = es ++ puts o ∷ [] in
+    let es3 = es2 ++ told put in
+    let at : es ++ told (o ∷ put) ≡ es3 = sym (append_assoc es (puts o ∷ []) (told put)) in
+    let opens = first_opens l link put first in
+    let quiet = opens_quiet put opens in
+    let same : so_far es3 ≡ so_far es = quiet_so_far es2 put quiet ∙ so_far_more es (puts o) in
+    let hard : hardware es3 ≡ hardware es = told_hardware es2 put ∙ hardware_more es (puts o) in
+    record {
+      stands = (stands, quiet_commands es2 put quiet);
+      agrees = subst (λ z. ScriptsAgree z (outs ++ (o ∷ put)) (course.waiting (with_opened s l) (waiting_for inner outer l job))) (sym at) (
+        script_told es2 put inner (quiet_begin (commands_begun es2) put quiet) (script_told es (o ∷ []) inner refl u.script),
+        subst (λ m. SettingsAre m (with_opened s l) true) (sym same) (record { table = u.settings.table; up = u.settings.up; now = u.settings.now; is_open = u.settings.is_open }),
+        record { list = u.images.list ∙ sym (ap image_list (quiet_images es2 put quiet ∙ one_keeps es o refl)); none = parts_more outs (o ∷ put) u.images.none (tt, quiet_parts put quiet) },
+        awaits_so es es3 (with_opened s l) (waiting_for inner outer l job) l same hard (record {
+          earlier = s.live;
+          last = refl;
+          others = subst (λ k. AllByRecursion (IsAnother k) s.live) (sym number) u.fewer;
+          number = ap (λ k. k + 1) (sym number);
+          awaited = refl;
+          its = opens_keep_open es2 put opens ∙ command_open_more es (puts o);
+        }) purpose,
+      );
+    }
+
+-- there is no way to its server: it has ended, and so has the command
+pub finds_none : (es : List Event) (outs : List Out) (s : State) (inner : Running) (outer : List Running) (l : Live) → UnderWay es outs s inner → CommandsSo es (puts (open_record l)) →
+    shown_table (so_far es).table (so_far es).shown ≡ (so_far es).table →
+    Goes es outs (open_record l ∷ end_record l (no_route l.server) ∷ conclusion_records (fails (no_route l.server))) (course.running (with_one_made s) (with_result inner (no_route l.server)) outer)
+finds_none es outs s inner outer l u stands keeps =
+    let o = open_record l in
+    let cause = no_route l.server in
+    let e = end_record l cause in
+    let es2 = es ++ puts o ∷ [] in
+    let es3 = es2 ++ puts e ∷ [] in
+    let all = o ∷ e ∷ result cause ∷ [] in
+    let at : es ++ told all ≡ es3 ++ puts (result cause) ∷ [] = sym (append_assoc es (puts o ∷ []) (puts e ∷ puts (result cause) ∷ [])) ∙ sym (append_assoc es2 (puts e ∷ []) (puts (result cause) ∷ [])) in
+    let same : so_far es3 ≡ so_far es = so_far_more es2 (puts e) ∙ so_far_more es (puts o) in
+    let failed : came_ok (last_end es3) ≡ false = ap came_ok (last_end_more es2 (puts e)) in
+    let its_end : command_end es3 ≡ Some cause = ap over_of (command_open_more es2 (puts e) ∙ ap (λ z. command_open_by z (puts e)) (command_open_more es (puts o))) ∙ ap (λ b. over_of (Some (cond b (record { number = l.number; over = Some cause }) (record { number = l.number; over = None })))) (same_number l.number) in
+    let over_is : so_far (es3 ++ puts (result cause) ∷ []) ≡ over_so_far (so_far es) = result_so_far es3 cause (left_quiet es3 (so_far es3).table (so_far es3).shown failed) ∙ ap over_so_far same in
+    record {
+      stands = (stands, (tt, (record { is_open = ap (λ (m : CommandsSoFar). m.is_open) same ∙ u.settings.is_open; holds = by_failed_end its_end refl }, tt)));
+      agrees = subst (λ z. ScriptsAgree z (outs ++ all) (course.running (with_one_made s) (with_result inner cause) outer)) (sym at) (
+        script_as (es3 ++ puts (result cause) ∷ []) inner (with_result inner cause) refl refl (script_told es3 (result cause ∷ []) inner refl (script_told es2 (e ∷ []) inner refl (script_told es (o ∷ []) inner refl u.script))),
+        subst (λ m. SettingsAre m (with_one_made s) false) (sym over_is) (record { table = keeps ∙ u.settings.table; up = u.settings.up; now = u.settings.now; is_open = refl }),
+        record {
+          list = u.images.list ∙ sym (ap image_list (one_keeps es3 (result cause) (failed_image es3 cause refl) ∙ one_keeps es2 e refl ∙ one_keeps es o refl));
+          none = parts_more outs all u.images.none (tt, (tt, (tt, tt)));
+        },
+      );
+    }

@@ -1,0 +1,168 @@
+-- What records of opens leave as it was: the settings, the commands, the images; and the end of a command's open.
+use Rattle.std.proofs.Common.{◌≡◌, ℕ, ◌+◌, false, List, [], ◌∷◌, ◌++◌, Some, None, refl, sym, ◌∙◌, ap, subst, append_assoc, append-nil, add-zero, fold}
+use Rattle.std.specs.List.{AllByRecursion}
+use Rattle.std.proofs.lemmas.List.Sums.{fold-append}
+use Rattle.nb_terms.specs.declared.cause.Cause.{Cause}
+use Rattle.nb_defs.specs.Parts.{IsNoPart, HaveNoParts}
+use Rattle.nb_defs.specs.Records.{Out, step, sent, command, result, opened, tried, advanced, ended, part, done}
+use Rattle.nb_machine.specs.CommandRecords.{reply_records}
+use Rattle.nb_laws.specs.Events.{Event, puts, EachEvent, followed}
+use Rattle.nb_laws.specs.Lists.{commands_by, came_ok, last_end, end_by, made, opens_by}
+use Rattle.nb_laws.specs.CommandsSoFar.{CommandsSoFar, so_far, so_far_by, no_commands}
+use Rattle.nb_laws.specs.HandOff.{image_at, images_brought}
+use Rattle.nb_laws.specs.Agreement.{IsStill}
+use Rattle.nb_laws.specs.Silence.{IsSilent, AreSilent}
+use Rattle.nb_laws.proofs.Histories.{followed_append}
+use Rattle.nb_laws.proofs.Tellings.{told, made_more}
+use Rattle.nb_laws.proofs.HandOffs.{one_keeps, last_end_more}
+use Rattle.nb_lawful.specs.CommandOpens.{command_open_by, command_open}
+use Rattle.nb_lawful.specs.Results.{CommandsSo}
+use Rattle.nb_lawful.proofs.Puts.{IsQuiet, AreQuiet, IsEndWith}
+
+pub reply_quiet : (bytes : List ℕ) → AreQuiet (reply_records bytes)
+unfolding IsQuiet
+reply_quiet [] = tt
+reply_quiet (b ∷ bytes) = (tt, tt)
+
+-- THE SETTINGS AND THE COMMAND
+
+told_so_far : (es : List Event) (outs : List Out) → so_far (es ++ told outs) ≡ followed so_far_by es (so_far es) (told outs)
+unfolding so_far
+told_so_far es outs = followed_append so_far_by [] no_commands es (told outs)
+
+quiet_one : (before : List Event) (m : CommandsSoFar) (o : Out) → IsQuiet o → so_far_by before m (puts o) ≡ m
+unfolding IsQuiet
+quiet_one before m (sent bytes) h = refl
+quiet_one before m (tried number count) h = refl
+quiet_one before m (advanced number place) h = refl
+quiet_one before m (ended number cause) h = refl
+quiet_one before m _ h = absurd h
+
+quiet_all : (before : List Event) (m : CommandsSoFar) (outs : List Out) → AreQuiet outs → followed so_far_by before m (told outs) ≡ m
+unfolding followed
+quiet_all before m [] h = refl
+quiet_all before m (o ∷ outs) h =
+    ap (λ z. followed so_far_by (before ++ puts o ∷ []) z (told outs)) (quiet_one before m o h.0) ∙ quiet_all (before ++ puts o ∷ []) m outs h.1
+
+pub quiet_so_far : (es : List Event) (outs : List Out) → AreQuiet outs → so_far (es ++ told outs) ≡ so_far es
+quiet_so_far es outs h = told_so_far es outs ∙ quiet_all es (so_far es) outs h
+
+quiet_begins_none : (n : ℕ) (o : Out) → IsQuiet o → commands_by n (puts o) ≡ n
+unfolding IsQuiet
+quiet_begins_none n (sent bytes) h = refl
+quiet_begins_none n (tried number count) h = refl
+quiet_begins_none n (advanced number place) h = refl
+quiet_begins_none n (ended number cause) h = refl
+quiet_begins_none n _ h = absurd h
+
+pub quiet_begin : (n : ℕ) (outs : List Out) → AreQuiet outs → fold commands_by n (told outs) ≡ n
+quiet_begin n [] h = refl
+quiet_begin n (o ∷ outs) h = ap (λ z. fold commands_by z (told outs)) (quiet_begins_none n o h.0) ∙ quiet_begin n outs h.1
+
+-- THE IMAGES
+
+quiet_image : (es : List Event) (o : Out) → IsQuiet o → image_at es (puts o) ≡ []
+unfolding IsQuiet
+quiet_image es (sent bytes) h = refl
+quiet_image es (tried number count) h = refl
+quiet_image es (advanced number place) h = refl
+quiet_image es (ended number cause) h = refl
+quiet_image es _ h = absurd h
+
+pub quiet_images : (es : List Event) (outs : List Out) → AreQuiet outs → images_brought (es ++ told outs) ≡ images_brought es
+quiet_images es [] h = ap images_brought (append-nil es)
+quiet_images es (o ∷ outs) h =
+    ap images_brought (sym (append_assoc es (puts o ∷ []) (told outs))) ∙ quiet_images (es ++ puts o ∷ []) outs h.1
+    ∙ one_keeps es o (quiet_image es o h.0)
+
+quiet_part : (o : Out) → IsQuiet o → IsNoPart o
+unfolding IsQuiet
+quiet_part (part kind index offset bytes) h = absurd h
+quiet_part _ h = tt
+
+pub quiet_parts : (outs : List Out) → AreQuiet outs → HaveNoParts outs
+quiet_parts [] h = tt
+quiet_parts (o ∷ outs) h = (quiet_part o h.0, quiet_parts outs h.1)
+
+-- how many opens were made
+quiet_made_one : (o : Out) → IsQuiet o → opens_by (puts o) ≡ 0
+unfolding IsQuiet
+quiet_made_one (sent bytes) h = refl
+quiet_made_one (tried number count) h = refl
+quiet_made_one (advanced number place) h = refl
+quiet_made_one (ended number cause) h = refl
+quiet_made_one _ h = absurd h
+
+pub quiet_made : (es : List Event) (outs : List Out) → AreQuiet outs → made (es ++ told outs) ≡ made es
+quiet_made es [] h = ap made (append-nil es)
+quiet_made es (o ∷ outs) h =
+    ap made (sym (append_assoc es (puts o ∷ []) (told outs))) ∙ quiet_made (es ++ puts o ∷ []) outs h.1
+    ∙ made_more es (puts o) ∙ ap (λ n. made es + n) (quiet_made_one o h.0) ∙ add-zero (made es)
+
+-- THEIR PLACE
+
+quiet_stands : (before : List Event) (o : Out) → IsQuiet o → CommandsSo before (puts o)
+unfolding IsQuiet
+quiet_stands before (sent bytes) h = tt
+quiet_stands before (tried number count) h = tt
+quiet_stands before (advanced number place) h = tt
+quiet_stands before (ended number cause) h = tt
+quiet_stands before _ h = absurd h
+
+pub quiet_commands : (es : List Event) (outs : List Out) → AreQuiet outs → EachEvent CommandsSo es (told outs)
+quiet_commands es [] h = tt
+quiet_commands es (o ∷ outs) h = (quiet_stands es o h.0, quiet_commands (es ++ puts o ∷ []) outs h.1)
+
+-- so have the records of a hand-off
+pub silent_stands : (before : List Event) (o : Out) → IsStill o → IsSilent o → CommandsSo before (puts o)
+silent_stands before (sent bytes) still h = absurd h
+silent_stands before (command depth line place expanded words) still h = absurd h
+silent_stands before (result cause) still h = absurd h
+silent_stands before (opened number kind server port own target) still h = absurd h
+silent_stands before (done status) still h = absurd h
+silent_stands before (step number) still h = absurd still
+silent_stands before _ still h = tt
+
+-- THE COMMAND'S OPEN
+
+pub command_open_more : (es : List Event) (e : Event) → command_open (es ++ e ∷ []) ≡ command_open_by (command_open es) e
+unfolding command_open
+command_open_more es e = fold-append command_open_by None es (e ∷ [])
+
+pub told_command_open : (es : List Event) (outs : List Out) → command_open (es ++ told outs) ≡ fold command_open_by (command_open es) (told outs)
+unfolding command_open
+told_command_open es outs = fold-append command_open_by None es (told outs)
+
+-- a command that has made none makes none by records of opens
+quiet_none_one : (o : Out) → IsQuiet o → command_open_by None (puts o) ≡ None
+unfolding IsQuiet
+quiet_none_one (sent bytes) h = refl
+quiet_none_one (tried number count) h = refl
+quiet_none_one (advanced number place) h = refl
+quiet_none_one (ended number cause) h = refl
+quiet_none_one _ h = absurd h
+
+pub quiet_none : (outs : List Out) → AreQuiet outs → fold command_open_by None (told outs) ≡ None
+quiet_none [] h = refl
+quiet_none (o ∷ outs) h = ap (λ z. fold command_open_by z (told outs)) (quiet_none_one o h.0) ∙ quiet_none outs h.1
+
+pub quiet_makes_none : (es : List Event) (outs : List Out) → AreQuiet outs → command_open es ≡ None → command_open (es ++ told outs) ≡ None
+quiet_makes_none es outs h none = told_command_open es outs ∙ ap (λ z. fold command_open_by z (told outs)) none ∙ quiet_none outs h
+
+-- CLOSES
+
+pub ends_quiet : (cause : Cause) (outs : List Out) → AllByRecursion (IsEndWith cause) outs → AreQuiet outs
+unfolding IsQuiet
+ends_quiet cause [] h = tt
+ends_quiet cause (o ∷ outs) h = (subst IsQuiet (sym h.0.1) tt, ends_quiet cause outs h.1)
+
+pub ends_silent : (cause : Cause) (outs : List Out) → AllByRecursion (IsEndWith cause) outs → AreSilent outs
+ends_silent cause [] h = tt
+ends_silent cause (o ∷ outs) h = (subst IsSilent (sym h.0.1) tt, ends_silent cause outs h.1)
+
+-- ends that aren't Ok leave none that is
+pub ends_fail : (cause : Cause) (es : List Event) (outs : List Out) → came_ok (Some cause) ≡ false → AllByRecursion (IsEndWith cause) outs → came_ok (last_end es) ≡ false → came_ok (last_end (es ++ told outs)) ≡ false
+ends_fail cause es [] bad h failed = ap (λ z. came_ok (last_end z)) (append-nil es) ∙ failed
+ends_fail cause es (o ∷ outs) bad h failed =
+    ap (λ z. came_ok (last_end z)) (sym (append_assoc es (puts o ∷ []) (told outs)))
+    ∙ ends_fail cause (es ++ puts o ∷ []) outs bad h.1 (ap came_ok (last_end_more es (puts o) ∙ ap (λ z. end_by (last_end es) (puts z)) h.0.1) ∙ bad)

@@ -1,0 +1,179 @@
+-- A record is used: what its step does to the settings, the command and the open that it waits for.
+use Rattle.std.proofs.Common.{◌≡◌, ◌⊎◌, inl, inr, ℕ, ◌+◌, Bool, List, [], ◌∷◌, ◌++◌, Option, None, refl, sym, ◌∙◌, ap, subst, append_assoc, append-nil, add-zero, fold}
+use Rattle.std.specs.List.{AllByRecursion}
+use Rattle.nb_defs.specs.Records.{In, Out, step}
+use Rattle.nb_defs.specs.ScriptLines.{Line}
+use Rattle.nb_image.specs.Images.{ImageList}
+use Rattle.nb_stack.specs.Client.{Client}
+use Rattle.nb_stack.specs.Takes.{reply_of}
+use Rattle.nb_machine.specs.CommandRecords.{reply_records}
+use Rattle.nb_machine.specs.Running.{Running, anew}
+use Rattle.nb_runner.proofs.HandingLemmas.{all_append}
+use Rattle.nb_machine.specs.Lives.{OpenInput, Live}
+use Rattle.nb_machine.specs.States.{State}
+use Rattle.nb_machine.specs.Takings.{Over, AllTake}
+use Rattle.nb_machine.specs.Network.{Network, passes_by, brings, brings_reply, passes_time}
+use Rattle.nb_laws.specs.Events.{Event, starts, hears, waits, stops, puts}
+use Rattle.nb_laws.specs.Lists.{time, ms_of, commands_by, commands_begun, hardware, hardware_by}
+use Rattle.nb_laws.specs.Code.{code_by, script_code}
+use Rattle.nb_laws.specs.CommandsSoFar.{CommandsSoFar, so_far, so_far_by}
+use Rattle.nb_laws.specs.HandOff.{images_brought, image_list}
+use Rattle.nb_laws.specs.Agreement.{AgreesScript}
+use Rattle.nb_laws.proofs.Histories.{hardware_more, time_more}
+use Rattle.nb_laws.proofs.Tellings.{told}
+use Rattle.nb_laws.proofs.Commands.{script_used, script_told}
+use Rattle.nb_laws.proofs.HandOffs.{used_keep, parts_more}
+use Rattle.nb_laws.proofs.SoFar.{so_far_more}
+use Rattle.nb_lawful.specs.CommandOpens.{CommandOpen, command_open_by, command_open}
+use Rattle.nb_lawful.specs.Results.{CommandsSo}
+use Rattle.nb_lawful.specs.ScriptAgreement.{SettingsAre, IsAnother, HasImages}
+use Rattle.nb_lawful.proofs.UsedEvents.{IsUsed, IsFurther}
+use Rattle.nb_lawful.proofs.Puts.{AreQuiet, take_quiet}
+use Rattle.nb_lawful.proofs.Quiet.{reply_quiet, quiet_so_far, quiet_begin, quiet_images, quiet_parts, command_open_more, told_command_open}
+use Rattle.nb_lawful.proofs.Awaited.{its, others_took, with_exchanges, Took, took_on, took_last, snoc_both, took}
+use Rattle.nb_lawful.proofs.Opened.{told_hardware}
+
+-- WHAT THE NETWORK LEAVES
+
+-- the settings, the images and how many opens were made; and the records are those of opens, or replies
+pub record Leaves (s s' : State) (put : List Out) : Type 0 where
+  pub table : s'.table ≡ s.table
+  pub up : s'.up ≡ s.up
+  pub images : s'.images ≡ s.images
+  pub opens : s'.opens ≡ s.opens
+  pub quiet : AreQuiet put
+
+pub network_leaves : (s s' : State) (n : ℕ) (r : In) (put : List Out) (over : List Over) → Network s n r put s' over → Leaves s s' put
+network_leaves s s' n r put over (passes_by _ device bytes link m on got brought none) = record { table = refl; up = refl; images = refl; opens = refl; quiet = reply_quiet (reply_of link m) }
+network_leaves s s' n r put over (brings _ device bytes link p d before behind after l _ _ on got brought is mine before_none behind_none takes) = record { table = refl; up = refl; images = refl; opens = refl; quiet = take_quiet _ _ _ _ _ _ takes }
+network_leaves s s' n r put over (brings_reply _ device bytes link p e before behind after l _ _ on got brought is mine before_none behind_none takes) = record { table = refl; up = refl; images = refl; opens = refl; quiet = take_quiet _ _ _ _ _ _ takes }
+network_leaves s s' n r put over (passes_time ms after _ _ takes) = record { table = refl; up = refl; images = refl; opens = refl; quiet = take_quiet _ _ _ _ _ _ takes }
+
+-- THE COMMAND'S OPEN
+
+last_view : {A : Type 0} (xs : List A) → (xs ≡ []) ⊎ ((front : List A) × (z : A) × (xs ≡ front ++ z ∷ []))
+last_view [] = inl refl
+last_view {A = A} (x ∷ xs) = by (last_view xs)
+  where
+    by : (xs ≡ []) ⊎ ((front : List A) × (z : A) × (xs ≡ front ++ z ∷ [])) → (x ∷ xs ≡ []) ⊎ ((front : List A) × (z : A) × (x ∷ xs ≡ front ++ z ∷ []))
+    by (inl e) = inr ([], x, ap (λ ys. x ∷ ys) e)
+    by (inr (front, z, e)) = inr (x ∷ front, z, ap (λ ys. x ∷ ys) e)
+
+all_front : {A : Type 0} (P : A → Type 0) (xs ys : List A) → AllByRecursion P (xs ++ ys) → AllByRecursion P xs
+all_front P [] ys h = tt
+all_front P (x ∷ xs) ys h = (h.0, all_front P xs ys h.1)
+
+all_back : {A : Type 0} (P : A → Type 0) (xs ys : List A) → AllByRecursion P (xs ++ ys) → AllByRecursion P ys
+all_back P [] ys h = h
+all_back P (x ∷ xs) ys h = all_back P xs ys h.1
+
+-- only one open takes what came
+one_took : (devices : List Client) (input : OpenInput) (live before behind after : List Live) (l1 : Live) (put : List Out) (over : List Over) → live ≡ before ++ l1 ∷ behind → AllTake devices input (l1 ∷ []) put after over →
+    (earlier : List Live) (l : Live) → live ≡ earlier ++ l ∷ [] → AllByRecursion (IsAnother l.number) earlier → Took l.number l put (before ++ after ++ behind) over
+one_took devices input live before behind after l1 put over is takes earlier l last h = by (last_view behind)
+  where
+    by_last : before ≡ earlier → l1 ≡ l → behind ≡ [] → Took l.number l put after over → Took l.number l put (before ++ after ++ behind) over
+    by_last same here none (took_on front xs at all missing still) =
+        took_on (before ++ front) xs
+        (ap (λ z. (before ++ after) ++ z) none ∙ append-nil (before ++ after) ∙ ap (λ z. before ++ z) at ∙ sym (append_assoc before front (with_exchanges l xs ∷ [])))
+        (all_append (IsAnother l.number) before front (subst (λ z. AllByRecursion (IsAnother l.number) z) (sym same) h) all) missing still
+    by_last same here none (took_last x cause some ends at_end) = took_last x cause some ends at_end
+
+    by : (behind ≡ []) ⊎ ((front : List Live) × (z : Live) × (behind ≡ front ++ z ∷ [])) → Took l.number l put (before ++ after ++ behind) over
+    by (inl none) =
+        let two = snoc_both before earlier l1 l (ap (λ z. before ++ l1 ∷ z) (sym none) ∙ sym is ∙ last) in
+        let here : l1 ∷ [] ≡ [] ++ l ∷ [] = ap (λ z. z ∷ []) two.1 in
+        by_last two.0 two.1 none (took devices input (l1 ∷ []) put after over takes [] l here tt)
+    by (inr (front, z, e)) =
+        let two = snoc_both (before ++ l1 ∷ front) earlier z l (append_assoc before (l1 ∷ front) (z ∷ []) ∙ ap (λ y. before ++ l1 ∷ y) (sym e) ∙ sym is ∙ last) in
+        let all : AllByRecursion (IsAnother l.number) (before ++ l1 ∷ front) = subst (λ y. AllByRecursion (IsAnother l.number) y) (sym two.0) h in
+        let first = all_front (IsAnother l.number) before (l1 ∷ front) all in
+        let rest = all_back (IsAnother l.number) before (l1 ∷ front) all in
+        let o = others_took devices input (l1 ∷ []) put after over takes l.number (rest.0, tt) in
+        took_on ((before ++ after) ++ front) l.exchanges
+        (ap (λ y. (before ++ after) ++ y) (e ∙ ap (λ y. front ++ y ∷ []) two.1) ∙ sym (append_assoc (before ++ after) front (l ∷ [])))
+        (all_append (IsAnother l.number) (before ++ after) front (all_append (IsAnother l.number) before after first o.others) rest.1) o.none o.still
+
+pub network_took : (s s' : State) (n : ℕ) (r : In) (put : List Out) (over : List Over) → Network s n r put s' over → (earlier : List Live) (l : Live) → s.live ≡ earlier ++ l ∷ [] → AllByRecursion (IsAnother l.number) earlier → Took l.number l put s'.live over
+network_took s s' n r put over (passes_by _ device bytes link m on got brought none) earlier l last h = took_on earlier l.exchanges last h refl (by (reply_of link m))
+  where
+    by : (bytes : List ℕ) → fold command_open_by (its l.number None) (told (reply_records bytes)) ≡ its l.number None
+    by [] = refl
+    by (b ∷ bytes) = refl
+network_took s s' n r put over (brings _ device bytes link p d before behind after l1 _ _ on got brought is mine before_none behind_none takes) earlier l last h = one_took _ _ s.live before behind after l1 put over is takes earlier l last h
+network_took s s' n r put over (brings_reply _ device bytes link p e before behind after l1 _ _ on got brought is mine before_none behind_none takes) earlier l last h = one_took _ _ s.live before behind after l1 put over is takes earlier l last h
+network_took s s' n r put over (passes_time ms after _ _ takes) earlier l last h = took _ _ s.live put after over takes earlier l last h
+
+-- THE EVENT
+
+-- what an event that is used, after START's, leaves of the commands
+pub record Stepped (e : Event) : Type 0 where
+  pub commands : (before : List Event) (m : CommandsSoFar) → so_far_by before m e ≡ record m { now = m.now + ms_of e }
+  pub code : (code : List Line) → code_by code e ≡ code
+  pub begun : (n : ℕ) → commands_by n e ≡ 0
+  pub same_hardware : (es : List Event) → hardware_by (hardware es) e ≡ hardware es
+
+pub stepped : (e : Event) → IsUsed e → IsFurther e → Stepped e
+stepped (starts n s) u f = absurd f
+stepped (hears n bytes m) u f = record { commands = λ before c. ap (λ t. record c { now = t }) (sym (add-zero c.now)); code = λ code. refl; begun = λ k. refl; same_hardware = λ es. refl }
+stepped (waits n ms) u f = record { commands = λ before c. refl; code = λ code. refl; begun = λ k. refl; same_hardware = λ es. refl }
+stepped (stops n) u f = record { commands = λ before c. ap (λ t. record c { now = t }) (sym (add-zero c.now)); code = λ code. refl; begun = λ k. refl; same_hardware = λ es. refl }
+stepped (puts o) u f = absurd u
+
+-- such an event brings no image
+pub used_images : (es : List Event) (e : Event) → IsUsed e → images_brought (es ++ e ∷ []) ≡ images_brought es
+used_images es (starts n s) u = used_keep es (starts n s) tt
+used_images es (hears n bytes m) u = used_keep es (hears n bytes m) tt
+used_images es (waits n ms) u = used_keep es (waits n ms) tt
+used_images es (stops n) u = used_keep es (stops n) tt
+used_images es (puts o) u = absurd u
+
+pub used_stands : (es : List Event) (e : Event) → IsUsed e → CommandsSo es e
+used_stands es (starts n s) u = tt
+used_stands es (hears n bytes m) u = tt
+used_stands es (waits n ms) u = tt
+used_stands es (stops n) u = tt
+used_stands es (puts o) u = absurd u
+
+used_open : (last : Option CommandOpen) (e : Event) → IsUsed e → command_open_by last e ≡ last
+used_open last (puts o) h = absurd h
+used_open last (starts n s) h = refl
+used_open last _ h = refl
+
+-- nor makes an open of the command, nor ends it
+pub used_command_open : (es : List Event) (e : Event) → IsUsed e → command_open (es ++ e ∷ []) ≡ command_open es
+used_command_open es e h = command_open_more es e ∙ used_open (command_open es) e h
+
+-- time passes by events that are used alone
+pub told_time : (es : List Event) (outs : List Out) → time (es ++ told outs) ≡ time es
+told_time es [] = ap time (append-nil es)
+told_time es (o ∷ outs) = ap time (sym (append_assoc es (puts o ∷ []) (told outs))) ∙ told_time (es ++ puts o ∷ []) outs ∙ time_more es (puts o) ∙ add-zero (time es)
+
+-- WHAT A STEP LEAVES
+
+-- what the history says of the scripts once the network has done its part
+pub record Came (es es2 : List Event) (outs : List Out) (s s' : State) (inner : Running) (still : Bool) (n : ℕ) (e : Event) (put : List Out) : Type 0 where
+  pub script : AgreesScript es2 (anew inner)
+  pub same : so_far es2 ≡ record (so_far es) { now = (so_far es).now + ms_of e }
+  pub settings : SettingsAre (so_far es2) s' still
+  pub images : HasImages es2 (outs ++ step n ∷ put) s'
+  pub hard : hardware es2 ≡ hardware es
+  pub opens : command_open es2 ≡ fold command_open_by (command_open es) (told put)
+
+pub comes : (es : List Event) (outs : List Out) (s s' : State) (inner : Running) (still : Bool) (n : ℕ) (e : Event) (put : List Out) → IsUsed e → IsFurther e → Leaves s s' put → s'.now ≡ s.now + ms_of e →
+    AgreesScript es inner → SettingsAre (so_far es) s still → HasImages es outs s → Came es ((es ++ e ∷ []) ++ told put) outs s s' inner still n e put
+comes es outs s s' inner still n e put used further leaves now script settings images =
+    let es1 = es ++ e ∷ [] in
+    let t = stepped e used further in
+    let same : so_far (es1 ++ told put) ≡ record (so_far es) { now = (so_far es).now + ms_of e } = quiet_so_far es1 put leaves.quiet ∙ so_far_more es e ∙ t.commands es (so_far es) in
+    record {
+      script = script_told es1 put (anew inner) (quiet_begin (commands_begun es1) put leaves.quiet) (script_used es e inner (t.code (script_code es)) (t.begun (commands_begun es)) script);
+      same = same;
+      settings = subst (λ m. SettingsAre m s' still) (sym same) (record { table = settings.table ∙ sym leaves.table; up = settings.up ∙ sym leaves.up; now = ap (λ z. z + ms_of e) settings.now ∙ sym now; is_open = settings.is_open });
+      images = record {
+        list = ap (λ (x : ImageList). x.images) leaves.images ∙ images.list ∙ sym (ap image_list (quiet_images es1 put leaves.quiet ∙ used_images es e used));
+        none = parts_more outs (step n ∷ put) images.none (tt, quiet_parts put leaves.quiet);
+      };
+      hard = told_hardware es1 put ∙ hardware_more es e ∙ t.same_hardware es;
+      opens = told_command_open es1 put ∙ ap (λ z. fold command_open_by z (told put)) (used_command_open es e used);
+    }

@@ -1,0 +1,8 @@
+pub mod Standings
+pub mod OpenEndings
+pub mod CommandOpens
+pub mod OpenPurposes
+pub mod Results
+pub mod ScriptAgreement
+pub mod Lawful
+pub mod StateByLists

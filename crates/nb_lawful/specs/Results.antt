@@ -1,0 +1,80 @@
+-- Why a command has its result, and each COMMAND, RESULT and OPEN its place.
+use Rattle.std.specs.Prelude.{◌≡◌, ℕ, ◌+◌, ◌-◌, ◌*◌, ◌≤◌, List, [], ◌∷◌, Some, None, true, false}
+use Rattle.nb_terms.specs.declared.cause.Cause.{Cause}
+use Rattle.nb_defs.specs.Causes.{ok, is_ok_cause}
+use Rattle.nb_defs.specs.Commands.{CommandOutcome}
+use Rattle.nb_defs.specs.Records.{step, sent, text, command, result, script, opened, tried, advanced, ended, graph, part, done}
+use Rattle.nb_defs.specs.ScriptLines.{label_place}
+use Rattle.nb_image.specs.declared.image.Image.{Image}
+use Rattle.nb_image.specs.Images.{refusal}
+use Rattle.nb_machine.specs.Running.{no_label}
+use Rattle.nb_machine.specs.Effects.{full_opens, says, asks, goes, sleeps, shuts_device, inquires}
+use Rattle.nb_machine.specs.Errands.{Wanted, Errand, fetches_then, echoes_then}
+use Rattle.nb_machine.specs.declared.remote_file.RemoteFile.{RemoteFile}
+use Rattle.nb_machine.specs.Queries.{Query, for_host}
+use Rattle.nb_machine.specs.Findings.{settled_by}
+use Rattle.nb_laws.specs.Events.{Event, starts, hears, waits, stops, puts}
+use Rattle.nb_laws.specs.Lists.{made, came_ok}
+use Rattle.nb_laws.specs.Code.{script_code}
+use Rattle.nb_laws.specs.CommandsSoFar.{so_far, ComesTo, change_found}
+use Rattle.nb_laws.specs.HandOff.{last_image, images_brought, image_list}
+use Rattle.nb_laws.specs.Frames.{IsLastQuery, IsLastKind, IsBegun, result_by}
+use Rattle.nb_lawful.specs.CommandOpens.{command_open, command_end}
+use Rattle.nb_lawful.specs.OpenPurposes.{OpenStands}
+
+-- The cause of a command's result; the first five are of one that has made no open, and the others of one whose last open has ended.
+pub data GivesResult (es : List Event) (cause : Cause) : Type 0 where
+  -- its words and the settings say it, or its words aren't expanded
+  by_words : (o : CommandOutcome) → command_open es ≡ None → ComesTo es (made es) (says o) → cause ≡ o.cause → GivesResult es cause
+  -- it goes to a label that stands in the script
+  by_jump : (name : List ℕ) (line : ℕ) → command_open es ≡ None → ComesTo es (made es) (goes name) → label_place name (script_code es) ≡ Some line → cause ≡ ok → GivesResult es cause
+  -- or to one that doesn't
+  by_no_label : (name : List ℕ) → command_open es ≡ None → ComesTo es (made es) (goes name) → label_place name (script_code es) ≡ None → cause ≡ no_label → GivesResult es cause
+  -- it has set the device down
+  by_shut : command_open es ≡ None → ComesTo es (made es) shuts_device → cause ≡ ok → GivesResult es cause
+  -- it has slept for its time
+  by_sleep : (seconds : ℕ) → command_open es ≡ None → ComesTo es (made es) (sleeps seconds) → (so_far es).since + 1000 * seconds ≤ (so_far es).now → cause ≡ ok → GivesResult es cause
+  -- its open has failed with it
+  by_failed_end : command_end es ≡ Some cause → is_ok_cause cause ≡ false → GivesResult es cause
+  -- its open has brought what it asked for by one exchange, and the settings take it, or refuse it
+  by_found : (query : Query) → IsLastQuery query → came_ok (command_end es) ≡ true → ComesTo es (made es - 1) (inquires query) →
+      cause ≡ (settled_by (so_far es).table (change_found es (so_far es).table query)).cause → GivesResult es cause
+  -- its open has brought an image, and the images brought before take it, or refuse it
+  by_image : (wanted : Wanted) (image : Image) → came_ok (command_end es) ≡ true → ComesTo es (made es - 1) (asks wanted) →
+      last_image es ≡ image ∷ [] → cause ≡ result_by (refusal image (image_list (images_brought es))) wanted.boots image → GivesResult es cause
+  -- it has looked up its server, and no more opens may be made
+  by_full_next : (errand : Errand) (name : List ℕ) (by : ℕ) → came_ok (command_end es) ≡ true → ComesTo es (made es - 1) (inquires (for_host errand name by)) →
+      IsLastKind es 4 → made es ≡ 16384 → cause ≡ full_opens → GivesResult es cause
+  -- or that server has replied
+  by_echo_of_host : (name : List ℕ) (by : ℕ) → came_ok (command_end es) ≡ true → ComesTo es (made es - 1) (inquires (for_host echoes_then name by)) →
+      IsLastKind es 6 → cause ≡ ok → GivesResult es cause
+  -- or an image has come of it, and the images brought before take it, or refuse it
+  by_image_of_host : (file : RemoteFile) (name : List ℕ) (by : ℕ) (image : Image) → came_ok (command_end es) ≡ true →
+      ComesTo es (made es - 1) (inquires (for_host (fetches_then file) name by)) →
+      last_image es ≡ image ∷ [] → cause ≡ result_by (refusal image (image_list (images_brought es))) file.boots image → GivesResult es cause
+
+-- a RESULT is that of a command that has none yet; opens of earlier commands may live
+pub record ResultStands (es : List Event) (cause : Cause) : Type 0 where
+  pub is_open : (so_far es).is_open ≡ true
+  pub holds : GivesResult es cause
+
+-- Each COMMAND, each RESULT and each OPEN has its reason in the records so far; fewer than 4,096 COMMANDs stand in its step before each,
+-- and between two of them one RESULT. No STEP stands but for a record that is used, and DONE nowhere but at the end of an output that is closed.
+abbrev pub CommandsSo : List Event → Event → Type 0
+CommandsSo before (puts (command depth line place expanded words)) = IsBegun before expanded words
+CommandsSo before (puts (result cause)) = ResultStands before cause
+CommandsSo before (puts (opened number kind server port own target)) = OpenStands before number kind server port own target
+CommandsSo before (puts (done status)) = ⊥
+CommandsSo before (puts (step number)) = ⊥
+CommandsSo before (puts (sent bytes)) = Unit {0}
+CommandsSo before (puts (text bytes)) = Unit {0}
+CommandsSo before (puts (script what depth cause)) = Unit {0}
+CommandsSo before (puts (tried number count)) = Unit {0}
+CommandsSo before (puts (advanced number place)) = Unit {0}
+CommandsSo before (puts (ended number cause)) = Unit {0}
+CommandsSo before (puts (graph happens)) = Unit {0}
+CommandsSo before (puts (part kind index offset bytes)) = Unit {0}
+CommandsSo before (starts n s) = Unit {0}
+CommandsSo before (hears n bytes m) = Unit {0}
+CommandsSo before (waits n ms) = Unit {0}
+CommandsSo before (stops n) = Unit {0}

@@ -1,0 +1,111 @@
+-- What the scripts of a course agree with in the history of its records: the settings, the device, the command that runs or waits, and
+-- the images.
+use Rattle.std.specs.Prelude.{◌≡◌, ℕ, ◌+◌, ◌-◌, ◌*◌, ◌<◌, ◌==◌, Bool, true, false, List, [], ◌∷◌, ◌++◌, Some, None}
+use Rattle.std.specs.List.{AllByRecursion}
+use Rattle.nb_defs.specs.Parts.{HaveNoParts}
+use Rattle.nb_defs.specs.Records.{Out}
+use Rattle.nb_machine.specs.Effects.{ShownWords, sleeps, inquires}
+use Rattle.nb_machine.specs.Errands.{Wanted, Errand, Onward, onward}
+use Rattle.nb_machine.specs.Queries.{Query, for_lease, for_echo, for_host, for_address}
+use Rattle.nb_machine.specs.Findings.{query_id}
+use Rattle.nb_machine.specs.Lives.{tftp, dns, dhcp, ping, Live}
+use Rattle.nb_machine.specs.States.{State}
+use Rattle.nb_machine.specs.Scripts.{fetch, sleep, job_for, answer, moment, Waiting}
+use Rattle.nb_machine.specs.Courses as course
+use Rattle.nb_machine.specs.Courses.{Standing}
+use Rattle.nb_laws.specs.Events.{Event}
+use Rattle.nb_laws.specs.Lists.{Hardware, hardware, made}
+use Rattle.nb_laws.specs.Cores.{asker_by}
+use Rattle.nb_laws.specs.CommandsSoFar.{CommandsSoFar, so_far, shown_effect, ComesTo}
+use Rattle.nb_laws.specs.HandOff.{wanted_by, images_brought, image_list, HandsOff}
+use Rattle.nb_laws.specs.Progress.{NoneOversleeps}
+use Rattle.nb_laws.specs.Silence.{AreSilent}
+use Rattle.nb_laws.specs.Agreement.{AgreesScript, Asks}
+use Rattle.nb_lawful.specs.Standings.{live_opening}
+use Rattle.nb_lawful.specs.CommandOpens.{command_open}
+use Rattle.nb_lawful.specs.OpenPurposes.{HasLookedUp}
+
+-- the settings, the device's state and the time are the state's, and the command that began last has its result, or hasn't
+pub record SettingsAre (m : CommandsSoFar) (s : State) (still : Bool) : Type 0 where
+  pub table : m.table ≡ s.table
+  pub up : m.up ≡ s.up
+  pub now : m.now ≡ s.now
+  pub is_open : m.is_open ≡ still
+
+-- the command that began last sleeps until this time, which hasn't come
+pub record SleepsUntil (m : CommandsSoFar) (s : State) (until : ℕ) : Type 0 where
+  pub shown : ShownWords
+  pub is_shown : m.shown ≡ Some shown
+  pub seconds : ℕ
+  pub sleeps_so : shown_effect s.opens m.table shown ≡ sleeps seconds
+  pub until_is : until ≡ m.since + 1000 * seconds
+  pub early : s.now < until
+
+-- the command that began last asks for this file by this open, of the server that its words name
+pub record FetchesWith (m : CommandsSoFar) (l : Live) (wanted : Wanted) : Type 0 where
+  pub shown : ShownWords
+  pub said : m.shown ≡ Some shown
+  pub asked : wanted_by (shown_effect l.number m.table shown) (live_opening l) ≡ Some wanted
+  pub kind_is : l.kind ≡ tftp
+  pub server_is : l.server ≡ wanted.target.server
+  pub port_is : l.port ≡ wanted.target.port
+  pub target_is : l.target ≡ wanted.target.path
+
+-- this open is for this query
+abbrev pub IsLiveFor : Hardware → Query → Live → Type 0
+IsLiveFor h for_lease l = l.kind ≡ dhcp (asker_by h l.number)
+IsLiveFor h (for_echo server) l = l.kind ≡ ping
+IsLiveFor h (for_host errand name by) l = (l.kind ≡ dns (query_id h.identity l.number)) × (l.target ≡ name) × (l.server ≡ by)
+IsLiveFor h (for_address setting name by) l = l.kind ≡ dns (query_id h.identity l.number)
+
+-- the command that began last asks this by this open
+pub record AsksIn (h : Hardware) (m : CommandsSoFar) (l : Live) (query : Query) : Type 0 where
+  pub shown : ShownWords
+  pub said : m.shown ≡ Some shown
+  pub asked : Asks (shown_effect l.number m.table shown) query
+  pub is_for : IsLiveFor h query l
+
+-- the command that began last has looked up its server, and asks this of it
+pub record IsToReach (es : List Event) (next : Onward) : Type 0 where
+  pub errand : Errand
+  pub name : List ℕ
+  pub by : ℕ
+  pub names : ComesTo es (made es - 1) (inquires (for_host errand name by))
+  pub address : ℕ
+  pub finds : HasLookedUp es name by address
+  pub next_is : next ≡ onward errand address
+
+abbrev pub IsAnother : ℕ → Live → Type 0
+IsAnother k l = (l.number == k) ≡ false
+
+-- this open is the last of those that live, and the command's; others may live beside it
+pub record IsAwaited (es : List Event) (s : State) (w : Waiting) (l : Live) : Type 0 where
+  pub earlier : List Live
+  pub last : s.live ≡ earlier ++ l ∷ []
+  pub others : AllByRecursion (IsAnother l.number) earlier
+  pub number : s.opens ≡ l.number + 1
+  pub awaited : w.awaited ≡ answer l.number
+  pub its : command_open es ≡ Some (record { number = l.number; over = None })
+
+-- what the command that began last waits for
+pub data AwaitsSo (es : List Event) (s : State) (w : Waiting) : Type 0 where
+  awaits_time : (until : ℕ) → w.awaited ≡ moment until → w.job ≡ sleep → command_open es ≡ None → SleepsUntil (so_far es) s until → AwaitsSo es s w
+  awaits_file : (l : Live) (wanted : Wanted) → IsAwaited es s w l → w.job ≡ fetch wanted → FetchesWith (so_far es) l wanted → AwaitsSo es s w
+  awaits_query : (l : Live) (query : Query) → IsAwaited es s w l → w.job ≡ job_for query → AsksIn (hardware es) (so_far es) l query → AwaitsSo es s w
+
+-- the images are those of the history, and nothing was handed off
+pub record HasImages (es : List Event) (outs : List Out) (s : State) : Type 0 where
+  pub list : s.images.images ≡ image_list (images_brought es)
+  pub none : HaveNoParts outs
+
+-- what the history says of the scripts, where a course stands
+abbrev pub ScriptsAgree : List Event → List Out → Standing → Type 0
+ScriptsAgree es outs course.ready = (es ≡ []) × HaveNoParts outs
+ScriptsAgree es outs (course.running s inner outer) = AgreesScript es inner × SettingsAre (so_far es) s false × HasImages es outs s
+ScriptsAgree es outs (course.waiting s w) = AgreesScript es w.script × SettingsAre (so_far es) s true × HasImages es outs s × AwaitsSo es s w
+ScriptsAgree es outs (course.reaching s inner outer next) = AgreesScript es inner × SettingsAre (so_far es) s true × HasImages es outs s × IsToReach es next
+ScriptsAgree es outs (course.yielded s inner outer) = AgreesScript es inner × SettingsAre (so_far es) s false × HasImages es outs s × (inner.begun ≡ 4096)
+ScriptsAgree es outs (course.handing s rest) = AreSilent rest × ((so_far es).is_open ≡ false) × HandsOff es outs rest
+ScriptsAgree es outs (course.left s outer cause) = ((so_far es).is_open ≡ false) × HaveNoParts outs
+ScriptsAgree es outs (course.handed_off s) = ((so_far es).is_open ≡ false) × HandsOff es outs []
+ScriptsAgree es outs (course.stopped s) = NoneOversleeps es × HaveNoParts outs

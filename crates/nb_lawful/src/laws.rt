@@ -1,0 +1,36 @@
+//! Laws from courses to the history of their records, each a function that does nothing.
+
+ghost use Rattle.std.specs.Prelude.{◌≡◌, ℕ, List, []};
+ghost use Rattle.nb_defs.specs.Records.{In, Out};
+ghost use Rattle.nb_laws.specs.Events.{Event};
+ghost use Rattle.nb_laws.specs.HandOff.{HandsOff};
+ghost use Rattle.nb_laws.specs.Histories.{IsHistory};
+ghost use Rattle.nb_machine.specs.Courses.{waiting, handed_off, Progress, stands, Course};
+ghost use Rattle.nb_machine.specs.Scripts.{Waiting};
+ghost use Rattle.nb_machine.specs.States.{State};
+ghost use Rattle.nb_lawful.specs.Lawful.{KeepsLaws};
+ghost use Rattle.nb_lawful.specs.ScriptAgreement.{ScriptsAgree};
+ghost use Rattle.nb_lawful.specs.Standings.{AgreesStanding};
+ghost use Rattle.nb_lawful.specs.StateByLists.{IsStateBy};
+
+/// The records of a course have one history. It keeps the laws, however many opens live at once: `KeepsLaws`
+/// says what holds of each of its events. The opens and the scripts agree with it where the course stands; and
+/// where all was handed off, that is what commands have brought.
+pub fn courses_are_lawful()
+    ensures has_one { (ins : List In) (outs : List Out) (p : Progress) → Course ins outs p
+        → (es : List Event) × IsHistory ins outs es
+        × ((other : List Event) → IsHistory ins outs other → other ≡ es) }
+    ensures keeps { (ins : List In) (outs : List Out) (p : Progress) (es : List Event)
+        → Course ins outs p → IsHistory ins outs es → KeepsLaws es }
+    ensures agrees { (ins : List In) (outs : List Out) (p : Progress) (es : List Event) → Course ins outs p
+        → IsHistory ins outs es → AgreesStanding es p.standing × ScriptsAgree es outs p.standing }
+    ensures hands_off { (ins : List In) (outs : List Out) (n : ℕ) (s : State) (es : List Event)
+        → Course ins outs (stands n (handed_off s)) → IsHistory ins outs es → HandsOff es outs [] }
+{}
+
+/// Where a command waits, the history of the records says the time, the device with its neighbours, the
+/// settings, and of each open that lives what its OPEN says and all that has come to it.
+pub fn state_by_the_lists()
+    ensures { (ins : List In) (outs : List Out) (n : ℕ) (s : State) (w : Waiting) (es : List Event)
+        → Course ins outs (stands n (waiting s w)) → IsHistory ins outs es → IsStateBy es s }
+{}

@@ -1,0 +1,8 @@
+// What the two lists of records of a course say, for any number of opens that live: laws from the machine of
+// nb_machine to the history of its records; no code. Begin with specs/Lawful.antt, then specs/Standings.antt
+// and specs/ScriptAgreement.antt.
+#![tactic(auto)]
+
+mod laws;
+
+pub use laws::{courses_are_lawful, state_by_the_lists};
