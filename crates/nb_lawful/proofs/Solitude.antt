@@ -146,7 +146,7 @@ last_view {A = A} (x ∷ xs) = by (last_view xs)
 -- the settings stay by one more event, where each open that lives then did so before, and they are the same
 pub stay_more : (es : List Event) (e : Event) → SettingsStay es →
     ((j : ℕ) (o was : Opening) (before since : List Event) → live j (es ++ e ∷ []) ≡ o ∷ [] → es ≡ before ++ since → openings j before ≡ was ∷ [] →
-        (live j es ≡ o ∷ []) × ((so_far (es ++ e ∷ [])).table ≡ (so_far es).table) × ((so_far (es ++ e ∷ [])).up ≡ (so_far es).up)) → SettingsStay (es ++ e ∷ [])
+    (live j es ≡ o ∷ []) × ((so_far (es ++ e ∷ [])).table ≡ (so_far es).table) × ((so_far (es ++ e ∷ [])).up ≡ (so_far es).up)) → SettingsStay (es ++ e ∷ [])
 stay_more es e stay same = λ j o was before since lives split made_one. by j o was before since lives split made_one (last_view since)
   where
     by : (j : ℕ) (o was : Opening) (before since : List Event) → live j (es ++ e ∷ []) ≡ o ∷ [] → es ++ e ∷ [] ≡ before ++ since → openings j before ≡ was ∷ [] → (since ≡ []) ⊎ ((front : List Event) × (z : Event) × (since ≡ front ++ z ∷ [])) →
