@@ -1,21 +1,19 @@
 -- So it is after each event of a history that keeps the laws.
-use Rattle.std.proofs.Common.{◌≡◌, ◌⊎◌, inl, inr, ℕ, ◌+◌, ◌-◌, ◌≤◌, ◌<◌, ◌==◌, Bool, true, false, cond, ◌||◌, List, [], ◌∷◌, ◌++◌, Option, Some, None, option_map, refl, sym, ◌∙◌, ap, subst, append_assoc, append-nil, add-zero, arith, eq-eqb, ne_eqb, length}
+use Rattle.std.proofs.Common.{◌≡◌, ◌⊎◌, inl, inr, ℕ, ◌+◌, ◌≤◌, ◌==◌, Bool, true, false, cond, ◌||◌, List, [], ◌∷◌, ◌++◌, Some, None, option_map, refl, sym, ◌∙◌, ap, subst, add-zero, arith, ne_eqb}
 use Rattle.std.proofs.lemmas.Bool.{eqb-true, eqb-false}
-use Rattle.std.proofs.lemmas.Option.{none-some, same_Some}
-use Rattle.std.proofs.lemmas.List.{length-append}
-use Rattle.std.proofs.Math.Bool.{or-false}
+use Rattle.std.proofs.lemmas.Option.{same_Some}
 use Rattle.nb_tftp.proofs.BlockLemmas.{either_way}
 use Rattle.nb_terms.specs.declared.cause.Cause.{Cause}
 use Rattle.nb_defs.specs.Records.{Start, Out, step, sent, text, command, result, script, opened, tried, advanced, ended, graph, part, done}
 use Rattle.nb_stack.specs.Brings.{Brought}
-use Rattle.nb_laws.specs.Events.{Event, starts, hears, waits, stops, puts, EachEvent}
-use Rattle.nb_laws.specs.CommandsSoFar.{CommandsSoFar, so_far, so_far_by, no_commands}
-use Rattle.nb_laws.specs.Lists.{made, Opening, gathered, opening_at, openings, is_end_of, open_has_ended, live, last_end, time, calls, marks}
+use Rattle.nb_laws.specs.Events.{Event, starts, hears, waits, stops, puts}
+use Rattle.nb_laws.specs.CommandsSoFar.{CommandsSoFar, so_far, so_far_by}
+use Rattle.nb_laws.specs.Lists.{made, Opening, gathered, opening_at, openings, open_has_ended, live, last_end, time}
 use Rattle.nb_laws.specs.Progress.{StepsSo}
 use Rattle.nb_laws.proofs.Histories.{gathered_append}
 use Rattle.nb_laws.proofs.HandOffs.{last_end_more}
 use Rattle.nb_laws.proofs.SoFar.{so_far_more, nothing_so_far}
-use Rattle.nb_laws.proofs.Tellings.{made_more, openings_more, over_more, no_more, live_same, same_number}
+use Rattle.nb_laws.proofs.Tellings.{made_more, openings_more, over_more, no_more, same_number}
 use Rattle.nb_lawful.specs.CommandOpens.{CommandOpen, command_open_ended, command_open}
 use Rattle.nb_lawful.specs.OpenPurposes.{OpenStands}
 use Rattle.nb_lawful.specs.OpenEndings.{OpensEndSo}
@@ -23,7 +21,7 @@ use Rattle.nb_lawful.specs.Results.{ResultStands, CommandsSo}
 use Rattle.nb_lawful.proofs.Quiet.{command_open_more}
 use Rattle.nb_lawful.proofs.Awaited.{its}
 use Rattle.nb_lawful.proofs.UsedEvents.{live_ended}
-use Rattle.nb_lawful.proofs.Solitude.{IsSettled, EndsMatch, HasAsked, SettingsStay, Solitude, none_lives, settled_by, settled_for, asked_for, IsCalm, live_then, stay_more, calm_then}
+use Rattle.nb_lawful.proofs.Solitude.{IsSettled, EndsMatch, HasAsked, Solitude, none_lives, settled_by, settled_for, asked_for, IsCalm, live_then, stay_more, calm_then}
 
 no_one : {A : Type 0} (x : A) → [] ≡ x ∷ [] → ⊥
 no_one x e = let no : [] ≡ x ∷ [] = e in cc no

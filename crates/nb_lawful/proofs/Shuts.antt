@@ -1,6 +1,5 @@
 -- A command that sets the device down does so however many opens were made.
-use Rattle.std.proofs.Common.{◌≡◌, ℕ, Bool, true, false, List, Option, Result, Ok, Err, subst}
-use Rattle.nb_defs.specs.Commands.{CommandOutcome}
+use Rattle.std.proofs.Common.{◌≡◌, ℕ, Bool, true, false, List, Result, Ok, Err, subst}
 use Rattle.nb_settings.specs.Tables.{TableLists}
 use Rattle.nb_expand.specs.declared.error.ExpandError.{ExpandError}
 use Rattle.nb_command.specs.declared.command_plan.CommandPlan.{CommandPlan}

@@ -1,26 +1,19 @@
 -- By the laws alone no open outlives its command: each that lives is the command's own, which has no result yet.
-use Rattle.std.proofs.Common.{◌≡◌, ◌⊎◌, inl, inr, ℕ, ◌+◌, ◌-◌, ◌≤◌, ◌<◌, ◌==◌, Bool, true, false, cond, ◌||◌, List, [], ◌∷◌, ◌++◌, Option, Some, None, refl, sym, ◌∙◌, ap, subst, append_assoc, append-nil, add-zero, arith, eq-eqb, ne_eqb, length}
-use Rattle.std.proofs.lemmas.Bool.{eqb-true}
-use Rattle.std.proofs.lemmas.Option.{none-some, same_Some}
-use Rattle.std.proofs.lemmas.List.{length-append}
+use Rattle.std.proofs.Common.{◌≡◌, ◌⊎◌, inl, inr, ℕ, ◌+◌, ◌-◌, ◌≤◌, true, false, ◌||◌, List, [], ◌∷◌, ◌++◌, Option, Some, None, refl, sym, ◌∙◌, ap, subst, append_assoc, append-nil, add-zero}
 use Rattle.std.proofs.Math.Bool.{or-false}
-use Rattle.nb_tftp.proofs.BlockLemmas.{either_way}
 use Rattle.nb_terms.specs.declared.cause.Cause.{Cause}
-use Rattle.nb_defs.specs.Records.{Start, Out, step, sent, text, command, result, script, opened, tried, advanced, ended, graph, part, done}
 use Rattle.nb_machine.specs.Effects.{Effect, says, asks, goes, sleeps, shuts_device, inquires, ShownWords}
-use Rattle.nb_laws.specs.Events.{Event, starts, hears, waits, stops, puts}
-use Rattle.nb_laws.specs.CommandsSoFar.{CommandsSoFar, so_far, so_far_by, shown_effect, ComesTo}
-use Rattle.nb_laws.specs.Lists.{made, opens_by, Opening, gathered, opening_at, openings, is_end_of, open_has_ended, live, last_end, end_by, came_ok, time}
-use Rattle.nb_laws.proofs.Histories.{gathered_append}
+use Rattle.nb_laws.specs.Events.{Event}
+use Rattle.nb_laws.specs.CommandsSoFar.{CommandsSoFar, so_far, so_far_by, shown_effect}
+use Rattle.nb_laws.specs.Lists.{made, opens_by, Opening, opening_at, openings, is_end_of, open_has_ended, live, last_end, end_by, came_ok}
 use Rattle.nb_laws.proofs.HandOffs.{last_end_more}
 use Rattle.nb_laws.proofs.SoFar.{so_far_more}
-use Rattle.nb_laws.proofs.Tellings.{made_more, openings_more, over_more, no_more, live_same, same_number}
-use Rattle.nb_lawful.specs.CommandOpens.{CommandOpen, command_open_by, command_open, over_of, command_end}
-use Rattle.nb_lawful.specs.OpenPurposes.{OpenIsFor, first_for_file, first_for_query, next_for_host, OpenStands}
-use Rattle.nb_lawful.specs.OpenEndings.{OpensEndSo}
-use Rattle.nb_lawful.specs.Results.{GivesResult, by_words, by_jump, by_no_label, by_shut, by_sleep, by_failed_end, by_found, by_image, by_full_next, by_echo_of_host, by_image_of_host, ResultStands, CommandsSo}
+use Rattle.nb_laws.proofs.Tellings.{made_more, openings_more, over_more, no_more, live_same}
+use Rattle.nb_lawful.specs.CommandOpens.{CommandOpen, command_open_by, command_open, over_of}
+use Rattle.nb_lawful.specs.OpenPurposes.{OpenIsFor, first_for_file, first_for_query, next_for_host}
+use Rattle.nb_lawful.specs.Results.{GivesResult, by_words, by_jump, by_no_label, by_shut, by_sleep, by_failed_end, by_found, by_image, by_full_next, by_echo_of_host, by_image_of_host}
 use Rattle.nb_lawful.proofs.Quiet.{command_open_more}
-use Rattle.nb_lawful.proofs.Awaited.{its, snoc_both, no_snoc}
+use Rattle.nb_lawful.proofs.Awaited.{its, snoc_both}
 
 -- WHAT HOLDS AFTER ANY EVENTS
 

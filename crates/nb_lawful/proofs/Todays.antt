@@ -1,14 +1,10 @@
 -- A history that keeps the laws of courses keeps those of nb_laws, as long as an open outlives no command.
-use Rattle.std.proofs.Common.{◌≡◌, ◌⊎◌, inl, inr, ℕ, ◌+◌, ◌-◌, ◌==◌, Bool, true, false, cond, List, [], ◌∷◌, ◌++◌, Option, Some, None, if◌then◌else◌, refl, sym, ◌∙◌, ap, subst, append_assoc, append-nil}
-use Rattle.std.specs.List.{AllByRecursion}
-use Rattle.std.proofs.lemmas.Option.{none-some, same_Some}
+use Rattle.std.proofs.Common.{◌≡◌, ℕ, ◌==◌, true, false, List, [], ◌∷◌, ◌++◌, Option, Some, None, if◌then◌else◌, refl, sym, ◌∙◌, ap, subst, append_assoc, append-nil}
+use Rattle.std.proofs.lemmas.Option.{none-some}
 use Rattle.nb_terms.specs.declared.cause.Cause.{Cause}
-use Rattle.nb_wire.specs.declared.address.Ip4.{Ip4}
-use Rattle.nb_wire.specs.declared.address.Mac.{Mac}
 use Rattle.nb_command.specs.SettingAddresses.{host}
-use Rattle.nb_defs.specs.Causes.{ok, is_ok_cause}
+use Rattle.nb_defs.specs.Causes.{ok}
 use Rattle.nb_defs.specs.Records.{Out, step, sent, text, command, result, script, opened, tried, advanced, ended, graph, part, done}
-use Rattle.nb_settings.specs.Tables.{TableLists}
 use Rattle.nb_stack.specs.Client.{Client}
 use Rattle.nb_stack.specs.Route.{route_of, packet_route}
 use Rattle.nb_stack.specs.Sends.{fate_of}
@@ -16,18 +12,18 @@ use Rattle.nb_stack.specs.declared.taken.Fate.{Fate}
 use Rattle.nb_stack.specs.declared.taken.Fate.TheVariants as fate
 use Rattle.nb_stack.proofs.WayLaws.{same_way}
 use Rattle.nb_machine.specs.Sendings.{is_on_its_way}
-use Rattle.nb_machine.specs.Link.{address_in_table, link_by}
-use Rattle.nb_machine.specs.Effects.{shuts_device, ShownWords}
-use Rattle.nb_laws.specs.Events.{Event, starts, hears, waits, stops, puts, outputs, EachEvent}
-use Rattle.nb_laws.specs.CommandsSoFar.{CommandsSoFar, so_far, so_far_by, no_commands, shown_effect, ComesTo}
+use Rattle.nb_machine.specs.Link.{address_in_table}
+use Rattle.nb_machine.specs.Effects.{shuts_device}
+use Rattle.nb_laws.specs.Events.{Event, starts, hears, waits, stops, puts, EachEvent}
+use Rattle.nb_laws.specs.CommandsSoFar.{CommandsSoFar, so_far, shown_effect, ComesTo}
 use Rattle.nb_laws.specs.Endings.{fate_to, Holds, EndsSo}
 use Rattle.nb_laws.specs.Frames as old
 use Rattle.nb_laws.specs.Frames.{IsPut, HoldsResult, IsResult, IsOpened, WritesSo}
 use Rattle.nb_laws.specs.HandOff.{HasBooted}
 use Rattle.nb_laws.specs.Histories.{client}
 use Rattle.nb_laws.specs.Lawful.{IsLawful}
-use Rattle.nb_laws.specs.Lists.{made, Opening, openings, live, last_end, came_ok}
-use Rattle.nb_laws.specs.Openings.{OpensFor, opens_for_file, opens_onward, opens_for_query, FindsHost}
+use Rattle.nb_laws.specs.Lists.{made, Opening, live, last_end, came_ok}
+use Rattle.nb_laws.specs.Openings.{OpensFor, opens_for_file, opens_onward, opens_for_query}
 use Rattle.nb_laws.specs.Progress.{StepsSo}
 use Rattle.nb_laws.specs.Silence.{AreSilent}
 use Rattle.nb_laws.proofs.Histories.{client_linked}
@@ -36,11 +32,11 @@ use Rattle.nb_laws.proofs.Tellings.{told}
 use Rattle.nb_lawful.specs.CommandOpens.{CommandOpen, over_of, command_open, command_end}
 use Rattle.nb_lawful.specs.Lawful.{KeepsLaws}
 use Rattle.nb_lawful.specs.OpenEndings.{HadWay, EndsBecause, by_itself, by_lost_way, by_device, by_hand_off, OpensEndSo, FramesSo}
-use Rattle.nb_lawful.specs.OpenPurposes.{OpenIsFor, first_for_file, first_for_query, next_for_host, OpenStands}
-use Rattle.nb_lawful.specs.Results.{GivesResult, by_words, by_jump, by_no_label, by_shut, by_sleep, by_failed_end, by_found, by_image, by_full_next, by_echo_of_host, by_image_of_host, ResultStands, CommandsSo}
+use Rattle.nb_lawful.specs.OpenPurposes.{OpenIsFor, first_for_file, first_for_query, next_for_host}
+use Rattle.nb_lawful.specs.Results.{GivesResult, by_words, by_jump, by_no_label, by_shut, by_sleep, by_failed_end, by_found, by_image, by_full_next, by_echo_of_host, by_image_of_host, CommandsSo}
 use Rattle.nb_lawful.proofs.Awaited.{its}
 use Rattle.nb_lawful.proofs.Shuts.{shown_shuts}
-use Rattle.nb_lawful.proofs.Solitude.{IsSettled, OverMatches, EndsMatch, AsksByOpen, HasAsked, Solitude, none_lives, settled_by, settled_for}
+use Rattle.nb_lawful.proofs.Solitude.{OverMatches, EndsMatch, AsksByOpen, HasAsked, Solitude, none_lives, settled_by, settled_for}
 use Rattle.nb_lawful.proofs.Alone.{solitude_first, solitude_then}
 
 -- THE LAST END
