@@ -7,6 +7,7 @@ use Rattle.nb_machine.specs.Courses.{waiting, handed_off, Progress, stands, Cour
 use Rattle.nb_laws.specs.Events.{Event}
 use Rattle.nb_laws.specs.HandOff.{HandsOff}
 use Rattle.nb_laws.specs.Histories.{IsHistory}
+use Rattle.nb_laws.specs.Lawful.{IsLawful}
 use Rattle.nb_laws.proofs.Histories.{one_history}
 use Rattle.nb_lawful.specs.Lawful.{KeepsLaws}
 use Rattle.nb_lawful.specs.ScriptAgreement.{ScriptsAgree}
@@ -14,6 +15,7 @@ use Rattle.nb_lawful.specs.Standings.{AgreesStanding}
 use Rattle.nb_lawful.specs.StateByLists.{IsStateBy}
 use Rattle.nb_lawful.proofs.Runs.{lawful_course, lawful_history, handed_off_all, waiting_state}
 use Rattle.nb_lawful.proofs.StepOpens.{opens_give}
+use Rattle.nb_lawful.proofs.Todays.{todays_laws}
 
 pub has_one : (ins : List In) (outs : List Out) (p : Progress) → Course ins outs p → (es : List Event) × IsHistory ins outs es × ((other : List Event) → IsHistory ins outs other → other ≡ es)
 has_one ins outs p c = let t = lawful_course opens_give ins outs p c in (t.0, t.1, λ other h. one_history ins outs other t.0 h t.1)
@@ -31,3 +33,6 @@ hands_off ins outs n s es c h = handed_off_all opens_give ins outs n s es c h
 
 pub waits_so : (ins : List In) (outs : List Out) (n : ℕ) (s : State) (w : Waiting) (es : List Event) → Course ins outs (stands n (waiting s w)) → IsHistory ins outs es → IsStateBy es s
 waits_so ins outs n s w es c h = waiting_state opens_give ins outs n s w es c h
+
+pub keeps_todays : (ins : List In) (outs : List Out) (p : Progress) (es : List Event) → Course ins outs p → IsHistory ins outs es → IsLawful es
+keeps_todays ins outs p es c h = todays_laws es (keeps_laws ins outs p es c h)

@@ -45,3 +45,7 @@ pub mod MoveReasons
 pub mod Booting
 pub mod StepOpens
 pub mod CourseLaws
+pub mod Shuts
+pub mod Solitude
+pub mod Alone
+pub mod Todays

@@ -5,6 +5,7 @@ ghost use Rattle.nb_defs.specs.Records.{In, Out};
 ghost use Rattle.nb_laws.specs.Events.{Event};
 ghost use Rattle.nb_laws.specs.HandOff.{HandsOff};
 ghost use Rattle.nb_laws.specs.Histories.{IsHistory};
+ghost use Rattle.nb_laws.specs.Lawful.{IsLawful};
 ghost use Rattle.nb_machine.specs.Courses.{waiting, handed_off, Progress, stands, Course};
 ghost use Rattle.nb_machine.specs.Scripts.{Waiting};
 ghost use Rattle.nb_machine.specs.States.{State};
@@ -33,4 +34,11 @@ pub fn courses_are_lawful()
 pub fn state_by_the_lists()
     ensures { (ins : List In) (outs : List Out) (n : ℕ) (s : State) (w : Waiting) (es : List Event)
         → Course ins outs (stands n (waiting s w)) → IsHistory ins outs es → IsStateBy es s }
+{}
+
+/// Each history of a course's records is lawful, word for word as nb_laws says it of one open: while each RESULT
+/// and each OPEN has its reason in the open of its own command, which has ended, none outlives its command.
+pub fn courses_keep_todays_laws()
+    ensures { (ins : List In) (outs : List Out) (p : Progress) (es : List Event)
+        → Course ins outs p → IsHistory ins outs es → IsLawful es }
 {}

@@ -5,4 +5,4 @@
 
 mod laws;
 
-pub use laws::{courses_are_lawful, state_by_the_lists};
+pub use laws::{courses_are_lawful, courses_keep_todays_laws, state_by_the_lists};

@@ -1,0 +1,178 @@
+-- By the laws alone no open outlives its command: each that lives is the command's own, which has no result yet.
+use Rattle.std.proofs.Common.{◌≡◌, ◌⊎◌, inl, inr, ℕ, ◌+◌, ◌-◌, ◌≤◌, true, false, ◌||◌, List, [], ◌∷◌, ◌++◌, Option, Some, None, refl, sym, ◌∙◌, ap, subst, append_assoc, append-nil, add-zero}
+use Rattle.std.proofs.Math.Bool.{or-false}
+use Rattle.nb_terms.specs.declared.cause.Cause.{Cause}
+use Rattle.nb_machine.specs.Effects.{Effect, says, asks, goes, sleeps, shuts_device, inquires, ShownWords}
+use Rattle.nb_laws.specs.Events.{Event}
+use Rattle.nb_laws.specs.CommandsSoFar.{CommandsSoFar, so_far, so_far_by, shown_effect}
+use Rattle.nb_laws.specs.Lists.{made, opens_by, Opening, opening_at, openings, is_end_of, open_has_ended, live, last_end, end_by, came_ok}
+use Rattle.nb_laws.proofs.HandOffs.{last_end_more}
+use Rattle.nb_laws.proofs.SoFar.{so_far_more}
+use Rattle.nb_laws.proofs.Tellings.{made_more, openings_more, over_more, no_more, live_same}
+use Rattle.nb_lawful.specs.CommandOpens.{CommandOpen, command_open_by, command_open, over_of}
+use Rattle.nb_lawful.specs.OpenPurposes.{OpenIsFor, first_for_file, first_for_query, next_for_host}
+use Rattle.nb_lawful.specs.Results.{GivesResult, by_words, by_jump, by_no_label, by_shut, by_sleep, by_failed_end, by_found, by_image, by_full_next, by_echo_of_host, by_image_of_host}
+use Rattle.nb_lawful.proofs.Quiet.{command_open_more}
+use Rattle.nb_lawful.proofs.Awaited.{its, snoc_both}
+
+-- WHAT HOLDS AFTER ANY EVENTS
+
+-- a command's open has ended, or it has none
+abbrev pub IsOver : Option Cause → Type 0
+IsOver None = ⊥
+IsOver (Some cause) = Unit {0}
+
+abbrev pub IsSettled : Option CommandOpen → Type 0
+IsSettled None = Unit {0}
+IsSettled (Some o) = IsOver o.over
+
+-- the last end since the last COMMAND is that of the command's open, once this has ended
+abbrev pub OverMatches : Option Cause → Option Cause → Type 0
+OverMatches None last = Unit {0}
+OverMatches (Some cause) last = last ≡ Some cause
+
+abbrev pub EndsMatch : Option CommandOpen → Option Cause → Type 0
+EndsMatch None last = last ≡ None
+EndsMatch (Some o) last = OverMatches o.over last
+
+-- something is asked for by an open
+abbrev pub AsksByOpen : Effect → Type 0
+AsksByOpen (asks wanted) = Unit {0}
+AsksByOpen (inquires q) = Unit {0}
+AsksByOpen (says o) = ⊥
+AsksByOpen (goes name) = ⊥
+AsksByOpen (sleeps seconds) = ⊥
+AsksByOpen shuts_device = ⊥
+
+-- a command that has made an open asks for something by its words
+abbrev pub HasAsked : Option CommandOpen → CommandsSoFar → Type 0
+HasAsked None m = Unit {0}
+HasAsked (Some o) m = (n : ℕ) × (shown : ShownWords) × (m.shown ≡ Some shown) × AsksByOpen (shown_effect n m.table shown)
+
+-- while an open lives the settings and the device's state stay
+abbrev pub SettingsStay : List Event → Type 0
+SettingsStay es = (j : ℕ) (o was : Opening) (before since : List Event) → live j es ≡ o ∷ [] → es ≡ before ++ since → openings j before ≡ was ∷ [] → ((so_far before).table ≡ (so_far es).table) × ((so_far before).up ≡ (so_far es).up)
+
+pub record Solitude (es : List Event) : Type 0 where
+  pub lives : (j : ℕ) (o : Opening) → live j es ≡ o ∷ [] → command_open es ≡ its j None
+  pub one : (j : ℕ) → (live j es ≡ []) ⊎ ((o : Opening) × (live j es ≡ o ∷ []))
+  pub ends : EndsMatch (command_open es) (last_end es)
+  pub idle : (so_far es).is_open ≡ false → IsSettled (command_open es)
+  pub asked : (so_far es).is_open ≡ true → HasAsked (command_open es) (so_far es)
+  pub unopened : (j : ℕ) → made es ≤ j → openings j es ≡ []
+  pub stay : SettingsStay es
+
+-- where the command's open has ended, or was not made, none lives
+pub none_lives : (es : List Event) → Solitude es → IsSettled (command_open es) → (j : ℕ) → live j es ≡ []
+none_lives es a settled j = by (a.one j)
+  where
+    by : (live j es ≡ []) ⊎ ((o : Opening) × (live j es ≡ o ∷ [])) → live j es ≡ []
+    by (inl none) = none
+    by (inr (o, is)) = absurd (subst IsSettled (a.lives j o is) settled)
+
+-- WHERE A RESULT OR AN OPEN STANDS
+
+settled_none : (es : List Event) → command_open es ≡ None → IsSettled (command_open es)
+settled_none es none = subst IsSettled (sym none) tt
+
+settled_end : (x : Option CommandOpen) (cause : Cause) → over_of x ≡ Some cause → IsSettled x
+settled_end None cause e = tt
+settled_end (Some o) cause e = subst IsOver (sym e) tt
+
+settled_well : (x : Option CommandOpen) → came_ok (over_of x) ≡ true → IsSettled x
+settled_well None e = tt
+settled_well (Some o) e = by o.over e
+  where
+    by : (c : Option Cause) → came_ok c ≡ true → IsOver c
+    by None e = let no : false ≡ true = e in cc no
+    by (Some cause) e = tt
+
+pub settled_by : (es : List Event) (cause : Cause) → GivesResult es cause → IsSettled (command_open es)
+settled_by es cause (by_words o none comes is) = settled_none es none
+settled_by es cause (by_jump name line none comes there is) = settled_none es none
+settled_by es cause (by_no_label name none comes nowhere is) = settled_none es none
+settled_by es cause (by_shut none comes is) = settled_none es none
+settled_by es cause (by_sleep seconds none comes due is) = settled_none es none
+settled_by es cause (by_failed_end end bad) = settled_end (command_open es) cause end
+settled_by es cause (by_found query last well comes is) = settled_well (command_open es) well
+settled_by es cause (by_image wanted image well comes last is) = settled_well (command_open es) well
+settled_by es cause (by_full_next errand name by well comes kind full is) = settled_well (command_open es) well
+settled_by es cause (by_echo_of_host name by well comes kind is) = settled_well (command_open es) well
+settled_by es cause (by_image_of_host file name by image well comes last is) = settled_well (command_open es) well
+
+pub settled_for : (es : List Event) (number kind server port own : ℕ) (target : List ℕ) → OpenIsFor es number kind server port own target → IsSettled (command_open es)
+settled_for es number kind server port own target (first_for_file r) = settled_none es r.first
+settled_for es number kind server port own target (first_for_query r) = settled_none es r.first
+settled_for es number kind server port own target (next_for_host r) = settled_well (command_open es) r.finds.ended
+
+-- such an open is asked for
+pub asked_for : (es : List Event) (number kind server port own : ℕ) (target : List ℕ) → OpenIsFor es number kind server port own target → (n : ℕ) × (shown : ShownWords) × ((so_far es).shown ≡ Some shown) × AsksByOpen (shown_effect n (so_far es).table shown)
+asked_for es number kind server port own target (first_for_file r) = let (shown, said, names) = r.names in (number, shown, said, subst AsksByOpen (sym names) tt)
+asked_for es number kind server port own target (first_for_query r) = let (shown, said, names) = r.names in (number, shown, said, subst AsksByOpen (sym names) tt)
+asked_for es number kind server port own target (next_for_host r) = let (shown, said, names) = r.names in (made es - 1, shown, said, subst AsksByOpen (sym names) tt)
+
+-- EVENTS THAT CHANGE NOTHING OF IT
+
+pub record IsCalm (es : List Event) (e : Event) : Type 0 where
+  pub unopens : (j : ℕ) → opening_at j es e ≡ []
+  pub unends : (j : ℕ) → is_end_of j e ≡ false
+  pub opens : (last : Option CommandOpen) → command_open_by last e ≡ last
+  pub last : (c : Option Cause) → end_by c e ≡ c
+  pub none : opens_by e ≡ 0
+  pub table : (so_far_by es (so_far es) e).table ≡ (so_far es).table
+  pub up : (so_far_by es (so_far es) e).up ≡ (so_far es).up
+  pub shown : (so_far_by es (so_far es) e).shown ≡ (so_far es).shown
+  pub is_open : (so_far_by es (so_far es) e).is_open ≡ (so_far es).is_open
+
+-- an event at which no open begins or ends
+pub live_then : (es : List Event) (e : Event) (j : ℕ) → opening_at j es e ≡ [] → is_end_of j e ≡ false → live j (es ++ e ∷ []) ≡ live j es
+live_then es e j none lasts = live_same j (es ++ e ∷ []) es (openings_more j es e ∙ no_more (openings j es) _ none) (over_more j es e ∙ ap (λ b. open_has_ended j es || b) lasts ∙ or-false (open_has_ended j es))
+
+pub last_view : {A : Type 0} (xs : List A) → (xs ≡ []) ⊎ ((front : List A) × (z : A) × (xs ≡ front ++ z ∷ []))
+last_view [] = inl refl
+last_view {A = A} (x ∷ xs) = by (last_view xs)
+  where
+    by : (xs ≡ []) ⊎ ((front : List A) × (z : A) × (xs ≡ front ++ z ∷ [])) → (x ∷ xs ≡ []) ⊎ ((front : List A) × (z : A) × (x ∷ xs ≡ front ++ z ∷ []))
+    by (inl e) = inr ([], x, ap (λ ys. x ∷ ys) e)
+    by (inr (front, z, e)) = inr (x ∷ front, z, ap (λ ys. x ∷ ys) e)
+
+-- the settings stay by one more event, where each open that lives then did so before, and they are the same
+pub stay_more : (es : List Event) (e : Event) → SettingsStay es →
+    ((j : ℕ) (o was : Opening) (before since : List Event) → live j (es ++ e ∷ []) ≡ o ∷ [] → es ≡ before ++ since → openings j before ≡ was ∷ [] →
+    (live j es ≡ o ∷ []) × ((so_far (es ++ e ∷ [])).table ≡ (so_far es).table) × ((so_far (es ++ e ∷ [])).up ≡ (so_far es).up)) → SettingsStay (es ++ e ∷ [])
+stay_more es e stay same = λ j o was before since lives split made_one. by j o was before since lives split made_one (last_view since)
+  where
+    by : (j : ℕ) (o was : Opening) (before since : List Event) → live j (es ++ e ∷ []) ≡ o ∷ [] → es ++ e ∷ [] ≡ before ++ since → openings j before ≡ was ∷ [] → (since ≡ []) ⊎ ((front : List Event) × (z : Event) × (since ≡ front ++ z ∷ [])) →
+        ((so_far before).table ≡ (so_far (es ++ e ∷ [])).table) × ((so_far before).up ≡ (so_far (es ++ e ∷ [])).up)
+    by j o was before since lives split made_one (inl none) =
+        let all : before ≡ es ++ e ∷ [] = sym (append-nil before) ∙ sym (ap (λ z. before ++ z) none) ∙ sym split in
+        (ap (λ (z : List Event). (so_far z).table) all, ap (λ (z : List Event). (so_far z).up) all)
+    by j o was before since lives split made_one (inr (front, z, is)) =
+        let two = snoc_both es (before ++ front) e z (split ∙ ap (λ y. before ++ y) is ∙ sym (append_assoc before front (z ∷ []))) in
+        let s = same j o was before front lives two.0 made_one in
+        let t = stay j o was before front s.0 two.0 made_one in
+        (t.0 ∙ sym s.1, t.1 ∙ sym s.2)
+
+pub asked_as : (x : Option CommandOpen) (m m' : CommandsSoFar) → m'.shown ≡ m.shown → m'.table ≡ m.table → HasAsked x m → HasAsked x m'
+asked_as None m m' shown table a = tt
+asked_as (Some o) m m' shown table (n, words, said, by_open) = (n, words, shown ∙ said, subst (λ t. AsksByOpen (shown_effect n t words)) (sym table) by_open)
+
+pub calm_then : (es : List Event) (e : Event) → IsCalm es e → Solitude es → Solitude (es ++ e ∷ [])
+calm_then es e c a =
+    let same : (j : ℕ) → live j (es ++ e ∷ []) ≡ live j es = λ j. live_then es e j (c.unopens j) (c.unends j) in
+    let opens : command_open (es ++ e ∷ []) ≡ command_open es = command_open_more es e ∙ c.opens (command_open es) in
+    let now : so_far (es ++ e ∷ []) ≡ so_far_by es (so_far es) e = so_far_more es e in
+    let is_open : (so_far (es ++ e ∷ [])).is_open ≡ (so_far es).is_open = ap (λ (m : CommandsSoFar). m.is_open) now ∙ c.is_open in
+    let table : (so_far (es ++ e ∷ [])).table ≡ (so_far es).table = ap (λ (m : CommandsSoFar). m.table) now ∙ c.table in
+    let up : (so_far (es ++ e ∷ [])).up ≡ (so_far es).up = ap (λ (m : CommandsSoFar). m.up) now ∙ c.up in
+    let shown : (so_far (es ++ e ∷ [])).shown ≡ (so_far es).shown = ap (λ (m : CommandsSoFar). m.shown) now ∙ c.shown in
+    let made_is : made (es ++ e ∷ []) ≡ made es = made_more es e ∙ ap (λ n. made es + n) c.none ∙ add-zero (made es) in
+    record {
+      lives = λ j o is. opens ∙ a.lives j o (sym (same j) ∙ is);
+      one = λ j. subst (λ z. (z ≡ []) ⊎ ((o : Opening) × (z ≡ o ∷ []))) (sym (same j)) (a.one j);
+      ends = subst (λ z. EndsMatch z (last_end (es ++ e ∷ []))) (sym opens) (subst (EndsMatch (command_open es)) (sym (last_end_more es e ∙ c.last (last_end es))) a.ends);
+      idle = λ off. subst IsSettled (sym opens) (a.idle (sym is_open ∙ off));
+      asked = λ still. asked_as (command_open (es ++ e ∷ [])) (so_far es) (so_far (es ++ e ∷ [])) shown table (subst (λ z. HasAsked z (so_far es)) (sym opens) (a.asked (sym is_open ∙ still)));
+      unopened = λ j more. openings_more j es e ∙ no_more (openings j es) _ (c.unopens j) ∙ a.unopened j (subst (λ n. n ≤ j) made_is more);
+      stay = stay_more es e a.stay (λ j o was before since is split made_one. (sym (same j) ∙ is, table, up));
+    }
