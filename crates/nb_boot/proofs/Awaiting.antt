@@ -5,7 +5,7 @@ use Rattle.nb_engine.specs.Machine.{Machine, Phase, ready, running, waiting, ask
 use Rattle.nb_boot.specs.Run.{Awaits}
 use Rattle.nb_boot.specs.Laws.{IsAtRest}
 use Rattle.nb_boot.proofs.Spelled.{HasUsed, path_used}
-use Rattle.nb_laws.proofs.Counts.{path_counts}
+use Rattle.nb_boot.proofs.Counts.{path_counts}
 
 pub begins_awaits : (m : Machine) (r : In) (added : List Out) (m' : Machine) → Begins m r added m' → (m.phase ≡ ready → ⊥) → Awaits m.phase
 begins_awaits m r added m' (runs n s code valid plain) rises = absurd (rises refl)

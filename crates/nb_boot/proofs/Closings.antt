@@ -19,9 +19,9 @@ use Rattle.nb_boot.specs.InTurn.{IsInTurn}
 use Rattle.nb_boot.specs.Going.{Going, Wrote, Stopped, IsFlaw, IsClosing, flaw_status}
 use Rattle.nb_boot.specs.declared.output.Flaw.{Flaw}
 use Rattle.nb_boot.specs.declared.output.Flaw.TheVariants as flaw
-use Rattle.nb_laws.proofs.Counts.{path_counts}
-use Rattle.nb_laws.proofs.Runs.{handed_off_all}
 use Rattle.nb_laws.proofs.Theirs.{brings_theirs}
+use Rattle.nb_boot.proofs.Counts.{path_counts}
+use Rattle.nb_boot.proofs.Places.{handed_off_all}
 use Rattle.nb_boot.proofs.Goings.{passes_wrote}
 use Rattle.nb_boot.proofs.Last.{ClosesAll, closes_some}
 use Rattle.nb_boot.proofs.BadRests.{ends_stay}

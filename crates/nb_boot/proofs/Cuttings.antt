@@ -11,10 +11,10 @@ use Rattle.nb_boot.specs.Run.{Run, Shows, IsBetween, goes_on}
 use Rattle.nb_boot.specs.Going.{Going, Wrote, Stopped, IsFlaw, CutsAll, flaw_status}
 use Rattle.nb_boot.specs.declared.output.Flaw.{Flaw}
 use Rattle.nb_boot.specs.declared.output.Flaw.TheVariants as flaw
-use Rattle.nb_laws.proofs.Counts.{path_counts}
 use Rattle.nb_boot.proofs.Goings.{passes_wrote}
 use Rattle.nb_boot.proofs.Written.{rose_later, wrote_nothing}
 use Rattle.nb_boot.proofs.InTurns.{turns_end}
+use Rattle.nb_boot.proofs.Counts.{path_counts}
 
 -- a write failed: a prefix of the output was written
 abbrev pub stopped_run : (ins : List In) (held : List ℕ) (first before now : Outside) (log : Logged) (m : Machine) (at : GraphAt) → Stopped before now log.bytes →

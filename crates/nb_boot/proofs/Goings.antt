@@ -18,9 +18,9 @@ use Rattle.nb_opens.proofs.Plain.{plain_append}
 use Rattle.nb_boot.specs.Run.{IsBetween}
 use Rattle.nb_boot.specs.InTurn.{OfEachRead}
 use Rattle.nb_boot.specs.Going.{TookTurn, Going, Goes, Wrote, HasNumber}
-use Rattle.nb_laws.proofs.Counts.{begins_counts, move_counts}
 use Rattle.nb_boot.proofs.Standing.{stands_used}
 use Rattle.nb_boot.proofs.InTurns.{no_reads, reads_weaker, reads_stay, turn_moves, turn_steps, turns_on}
+use Rattle.nb_boot.proofs.Counts.{begins_counts, move_counts}
 
 -- a list without elements
 no_length : (xs : List ℕ) → length xs ≡ 0 → xs ≡ []

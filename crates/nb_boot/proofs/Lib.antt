@@ -1,3 +1,6 @@
+pub mod Counts
+pub mod Places
+pub mod Came
 pub mod Written
 pub mod InTurns
 pub mod Goings
@@ -24,10 +27,8 @@ pub mod OneAsking
 pub mod OneStep
 pub mod OneRuns
 pub mod Comparing
-pub mod Telling
 pub mod CourseInputs
 pub mod Determining
-pub mod Histories
 pub mod Shut
 pub mod Stepping
 pub mod EntryScenes

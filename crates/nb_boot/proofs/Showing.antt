@@ -10,13 +10,13 @@ use Rattle.nb_opens.specs.Graphs.{without_graph}
 use Rattle.nb_machine.specs.Courses.{Standing, Progress, Course}
 use Rattle.nb_carried.specs.Carried.{StandsAs, Carries}
 use Rattle.nb_machine.specs.Closings.{Shuts}
-use Rattle.nb_carried.proofs.Runs.{runs_are_courses}
+use Rattle.nb_carried.proofs.Runs.{run_carried}
 use Rattle.nb_boot.specs.Run.{Awaits, IsBadRest, Ends, Closes, Run, IsOver, Says, Shows}
 use Rattle.nb_boot.specs.Run as run
 use Rattle.nb_boot.specs.Shown.{CommandWaits, NoneMayCome, EndsWhere, was_left, was_handed, was_stopped, ran_out, was_bad, was_full, ClosedBy, goes_on, has_ended, Shown, HasEnded, IsSaid, ShowsCourse}
-use Rattle.nb_laws.proofs.Runs.{lawful_run}
 use Rattle.nb_boot.proofs.InTurns.{between}
-use Rattle.nb_boot.proofs.Shut.{shuts}
+use Rattle.nb_boot.proofs.Places.{lawful_run}
+use Rattle.nb_boot.proofs.Shut.{shuts_by}
 use Rattle.nb_boot.proofs.Stepping.{paths_are_stepped, either_shuts}
 use Rattle.nb_boot.proofs.EntrySteps.{entries_agree}
 
@@ -123,6 +123,6 @@ said status.BadWords before after r p course c shut h = absurd h
 pub shows_course : (s : Status) (before after : Outside) → Shows s before after → ShowsCourse s before after
 shows_course s before after shows =
     let r = shows.0 in
-    let (p, course, c) = runs_are_courses r.ins (without_graph r.outs) r.machine r.path in
-    let shut = shuts r.ins (without_graph r.outs) r.machine p.standing r.path c.standing in
-    (with_course before after r p course c shut, said s before after r p course c shut shows.1)
+    let c = run_carried r.ins (without_graph r.outs) r.machine r.path in
+    let shut = shuts_by r.machine.phase c.progress.standing c.bound c.carries.standing in
+    (with_course before after r c.progress c.course c.carries shut, said s before after r c.progress c.course c.carries shut shows.1)

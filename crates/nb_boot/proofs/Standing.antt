@@ -3,7 +3,6 @@ use Rattle.std.proofs.Common.{◌≡◌, ℕ, ◌<◌, ◌⊎◌, List, length, 
 use Rattle.nb_defs.specs.Records.{In, start, frame, tick, off, IsPartial, IsBroken}
 use Rattle.nb_record.specs.Outside.{Outside, IsAtEnd}
 use Rattle.nb_record.specs.Logged.{Logged}
-use Rattle.nb_laws.proofs.Counts.{path_counts}
 use Rattle.nb_engine.specs.Machine.{Machine}
 use Rattle.nb_opens.specs.Graphs.{without_graph}
 use Rattle.nb_engine.specs.Seen.{Seen, StandsFor, as_ready, as_running, as_waiting, as_asking, as_reaching, as_sleeping, as_yielded, as_handing, as_left, as_handed_off, as_stopped}
@@ -14,6 +13,7 @@ use Rattle.nb_runner.specs.declared.status.Status.{Status}
 use Rattle.nb_runner.specs.declared.status.Status.TheVariants as status
 use Rattle.nb_boot.specs.Run.{Awaits, IsBetween, IsOther, IsFirst, BeginsWith, IsBadRest, Ends, was_left, was_handed, was_stopped}
 use Rattle.nb_boot.specs.Going.{Goes, IsClosing}
+use Rattle.nb_boot.proofs.Counts.{path_counts}
 
 -- it used as many records
 pub stands_used : (c : Seen) (m : Machine) → StandsFor c m → m.used ≡ c.used

@@ -4,7 +4,7 @@ use Rattle.std.specs.List.{flat_map}
 use Rattle.nb_defs.specs.Records.{In, Out, step}
 use Rattle.nb_stack.specs.Brings.{Brought}
 use Rattle.nb_stack.specs.Takes.{outcome_of}
-use Rattle.nb_tftp.specs.History.{ticked, Entry}
+use Rattle.nb_tftp.specs.History.{ticked}
 use Rattle.nb_opens.specs.Graphs.{without_graph}
 use Rattle.nb_runner.specs.declared.world.World.{World}
 use Rattle.nb_engine.specs.Opens.{heard_from}
@@ -17,14 +17,11 @@ use Rattle.nb_engine.specs.GraphSteps as traced_path
 use Rattle.nb_laws.specs.Events.{Event, starts, hears, waits, stops, puts, used_by, written_by}
 use Rattle.nb_laws.specs.Histories.{IsRead}
 use Rattle.nb_laws.specs.Lists.{Opening, time, live, call_at, came_in}
-use Rattle.nb_laws.specs.Agreement.{AgreesWorld, AgreesLone, AgreesPhase, NoneLives, opening_of, lone_opening}
-use Rattle.nb_laws.proofs.Beginnings.{none_at_start}
-use Rattle.nb_laws.proofs.Calls.{IsUsed, bare_brings, live_one, none_come, came_by, call_of, frame_brings_none}
-use Rattle.nb_laws.proofs.LoneCalls.{lone_brings_none}
-use Rattle.nb_laws.proofs.Lones.{calls_said, lone_came_same}
-use Rattle.nb_laws.proofs.Runs.{lawful_run}
-use Rattle.nb_boot.specs.Stepped.{ShutsLive, StartsSo, AreStepped, nothing, uses, goes_on}
+use Rattle.nb_lawful.proofs.UsedEvents.{IsUsed, live_one}
+use Rattle.nb_boot.specs.Stepped.{NoneLives, ShutsLive, StartsSo, AreStepped, nothing, uses, goes_on}
 use Rattle.nb_boot.proofs.Goings.{path_on}
+use Rattle.nb_boot.proofs.Places.{opening_of, lone_opening, KnowsWorld, KnowsLone, StandsSo, lawful_run}
+use Rattle.nb_boot.proofs.Came.{bare_brings, none_come, call_of, came_by, frame_brings_none, calls_said, lone_came_same, lone_brings_none}
 
 -- without the records of the graph it is a path
 pub path_of : (ins : List In) (outs : List Out) (m : Machine) → GraphPath ins outs m → Path ins (without_graph outs) m
@@ -38,28 +35,28 @@ one_or_none : {A : Type 0} {P : Type 0} (x : A) (xs : List A) → xs ≡ [] → 
 one_or_none {A} {P} x xs none one = absurd (let no : [] ≡ x ∷ [] = sym none ∙ one in cc)
 
 -- where no open lives nothing comes to one
-none_so : (es : List Event) (phase : Phase) → AgreesPhase es phase → HasNoOpen phase → NoneLives es
+none_so : (es : List Event) (phase : Phase) → StandsSo es phase → HasNoOpen phase → NoneLives es
 none_so es ready a none = subst NoneLives (sym a) none_at_start
-none_so es (running w s) a none = a.2
+none_so es (running w s) a none = a.1
 none_so es (waiting w s o) a none = absurd none
 none_so es (asking w s o) a none = absurd none
 none_so es (reaching w s next) a none = absurd none
-none_so es (sleeping w s until) a none = a.2
-none_so es (yielded w s) a none = a.2
-none_so es (handing rest) a none = a.2
-none_so es (left cause) a none = a.0
-none_so es handed_off a none = a.0
-none_so es stopped a none = a.0
+none_so es (sleeping w s until) a none = a.1
+none_so es (yielded w s) a none = a.1
+none_so es (handing rest) a none = a
+none_so es (left cause) a none = a
+none_so es handed_off a none = a
+none_so es stopped a none = a
 
-none_under_way : (es : List Event) (phase : Phase) → AgreesPhase es phase → IsUnderWay phase → NoneLives es
+none_under_way : (es : List Event) (phase : Phase) → StandsSo es phase → IsUnderWay phase → NoneLives es
 none_under_way es ready a way = absurd way
-none_under_way es (running w s) a way = a.2
+none_under_way es (running w s) a way = a.1
 none_under_way es (waiting w s o) a way = absurd way
 none_under_way es (asking w s o) a way = absurd way
-none_under_way es (reaching w s next) a way = a.2
+none_under_way es (reaching w s next) a way = a.1
 none_under_way es (sleeping w s until) a way = absurd way
 none_under_way es (yielded w s) a way = absurd way
-none_under_way es (handing rest) a way = a.2
+none_under_way es (handing rest) a way = a
 none_under_way es (left cause) a way = absurd way
 none_under_way es handed_off a way = absurd way
 none_under_way es stopped a way = absurd way
@@ -80,7 +77,7 @@ record Used (es : List Event) (r : In) (number : ℕ) : Type 0 where
   read : IsRead es event
   is_used : IsUsed event
 
-used_so : (es : List Event) (m : Machine) (r : In) (added : List Out) (m' : Machine) → Begins m r added m' → HasNoOpen m.phase → AgreesPhase es m.phase → Used es r (m.used + 1)
+used_so : (es : List Event) (m : Machine) (r : In) (added : List Out) (m' : Machine) → Begins m r added m' → HasNoOpen m.phase → StandsSo es m.phase → Used es r (m.used + 1)
 used_so es m r added m' (runs n s code valid reading) none a = record { event = starts (n + 1) s; used = refl; written = refl; read = tt; is_used = tt }
 used_so es m r added m' (refuses n s cause valid refusal) none a = record { event = starts (n + 1) s; used = refl; written = refl; read = tt; is_used = tt }
 used_so es m r added m' (passes_by n w s o bytes reply seen net valid takes other) none a = absurd none
@@ -116,18 +113,18 @@ time_came : (es : List Event) (n ms k : ℕ) (o : Opening) → live k es ≡ o �
 time_came es n ms k o lives = ap (λ (os : List Opening). flat_map (λ x. ticked (time es + ms) ∷ []) os) lives
 
 -- a message comes to an open of one object
-message_came : (es : List Event) (n : ℕ) (bytes : List ℕ) (m : Brought) (w : World) (o : Lone) (entries : List Entry) → AgreesWorld es w → AgreesLone es w o entries →
+message_came : (es : List Event) (n : ℕ) (bytes : List ℕ) (m : Brought) (w : World) (o : Lone) → KnowsWorld es w → KnowsLone es w o →
     call_at o.number es (hears n bytes m) ≡ calls_said w.time o.talk (message_for o.talk n (outcome_of w.net m))
-message_came es n bytes m w o entries hw ho =
+message_came es n bytes m w o hw ho =
     ap (λ os. flat_map (came_in n (time es) m) os) (live_one o.number es (lone_opening o) ho.opening ho.lives)
     ∙ append-nil (came_in n (time es) m (lone_opening o))
     ∙ ap (λ now. came_in n now m (lone_opening o)) hw.time
     ∙ lone_came_same n w.time o.start o.number o.talk w.net m ho.ports
 
-started : (es : List Event) (m : Machine) (r : In) (does : GraphStep) (added : List Out) (m' : Machine) (more : List Out) → MovesGraph m r does → Begins m r added m' → AgreesPhase es m.phase → ShowsFirst does more → Started es r (m.used + 1) more
+started : (es : List Event) (m : Machine) (r : In) (does : GraphStep) (added : List Out) (m' : Machine) (more : List Out) → MovesGraph m r does → Begins m r added m' → StandsSo es m.phase → ShowsFirst does more → Started es r (m.used + 1) more
 started es m r does added m' more (by_frame_for_others n w s o bytes reply seen net takes other) begins a shows =
     let e = hears (n + 1) bytes takes.message in
-    let none : (k : ℕ) → call_at k es e ≡ [] = frame_brings_none es (n + 1) bytes takes.message w o a.0 a.1 a.3 (ap (heard_from o.begun.server) (sym takes.is_outcome) ∙ other) in
+    let none : (k : ℕ) → call_at k es e ≡ [] = frame_brings_none es (n + 1) bytes takes.message w o a.0 a.1 a.2 (ap (heard_from o.begun.server) (sym takes.is_outcome) ∙ other) in
     record {
       event = e;
       used = refl;
@@ -159,7 +156,7 @@ started es m r does added m' more (by_off n w s o) begins a shows = record { eve
 started es m r does added m' more (by_message_for_others n w s o bytes reply seen net takes other) begins a shows =
     let e = hears (n + 1) bytes takes.message in
     let none : (k : ℕ) → call_at k es e ≡ [] =
-    lone_brings_none es (n + 1) bytes takes.message w o a.1.entries a.0 a.1.lone a.2 (ap (message_for o.talk (n + 1)) (sym takes.is_outcome) ∙ other) in
+    lone_brings_none es (n + 1) bytes takes.message w o a.0 a.1 a.2 (ap (message_for o.talk (n + 1)) (sym takes.is_outcome) ∙ other) in
     record {
       event = e;
       used = refl;
@@ -170,7 +167,7 @@ started es m r does added m' more (by_message_for_others n w s o bytes reply see
 started es m r does added m' more (by_message n w s o bytes reply seen net said takes some) begins a shows =
     let e = hears (n + 1) bytes takes.message in
     let said_so = ap (message_for o.talk (n + 1)) (sym takes.is_outcome) ∙ some in
-    let one = message_came es (n + 1) bytes takes.message w o a.1.entries a.0 a.1.lone ∙ ap (calls_said w.time o.talk) said_so in
+    let one = message_came es (n + 1) bytes takes.message w o a.0 a.1 ∙ ap (calls_said w.time o.talk) said_so in
     record {
       event = e;
       used = refl;
@@ -179,7 +176,7 @@ started es m r does added m' more (by_message n w s o bytes reply seen net said 
       starts_so = record { enters = λ k call came. shows; still = λ none. one_or_none _ (call_at o.number es e) (none o.number) one };
     }
 started es m r does added m' more (by_its_tick n w s o ms) begins a shows =
-    let one = time_came es (n + 1) ms o.number (lone_opening o) (live_one o.number es (lone_opening o) a.1.lone.opening a.1.lone.lives) in
+    let one = time_came es (n + 1) ms o.number (lone_opening o) (live_one o.number es (lone_opening o) a.1.opening a.1.lives) in
     record {
       event = waits (n + 1) ms;
       used = refl;
@@ -230,19 +227,19 @@ paths_are_stepped ins outs m (traced_path.moves ins0 outs0 m0 added m1 path way 
     goes_on ins0 outs0 t.0 added (paths_are_stepped ins0 outs0 m0 path) t.1 (none_under_way t.0 m0.phase t.3 way)
 
 -- what closes a run shuts the graph where an open lives
-pub shuts_live : (es : List Event) (phase : Phase) (closing : List Out) → AgreesPhase es phase → ShutsFirst phase closing → ShutsLive es closing
+pub shuts_live : (es : List Event) (phase : Phase) (closing : List Out) → StandsSo es phase → ShutsFirst phase closing → ShutsLive es closing
 shuts_live es (waiting w s o) closing a shuts = λ k x lives. shuts
 shuts_live es (asking w s o) closing a shuts = λ k x lives. shuts
 shuts_live es ready closing a shuts = λ k x lives. one_or_none x (live k es) (subst NoneLives (sym a) none_at_start k) lives
-shuts_live es (running w s) closing a shuts = λ k x lives. one_or_none x (live k es) (a.2 k) lives
-shuts_live es (reaching w s next) closing a shuts = λ k x lives. one_or_none x (live k es) (a.2 k) lives
-shuts_live es (sleeping w s until) closing a shuts = λ k x lives. one_or_none x (live k es) (a.2 k) lives
-shuts_live es (yielded w s) closing a shuts = λ k x lives. one_or_none x (live k es) (a.2 k) lives
-shuts_live es (handing rest) closing a shuts = λ k x lives. one_or_none x (live k es) (a.2 k) lives
-shuts_live es (left cause) closing a shuts = λ k x lives. one_or_none x (live k es) (a.0 k) lives
-shuts_live es handed_off closing a shuts = λ k x lives. one_or_none x (live k es) (a.0 k) lives
-shuts_live es stopped closing a shuts = λ k x lives. one_or_none x (live k es) (a.0 k) lives
+shuts_live es (running w s) closing a shuts = λ k x lives. one_or_none x (live k es) (a.1 k) lives
+shuts_live es (reaching w s next) closing a shuts = λ k x lives. one_or_none x (live k es) (a.1 k) lives
+shuts_live es (sleeping w s until) closing a shuts = λ k x lives. one_or_none x (live k es) (a.1 k) lives
+shuts_live es (yielded w s) closing a shuts = λ k x lives. one_or_none x (live k es) (a.1 k) lives
+shuts_live es (handing rest) closing a shuts = λ k x lives. one_or_none x (live k es) (a k) lives
+shuts_live es (left cause) closing a shuts = λ k x lives. one_or_none x (live k es) (a k) lives
+shuts_live es handed_off closing a shuts = λ k x lives. one_or_none x (live k es) (a k) lives
+shuts_live es stopped closing a shuts = λ k x lives. one_or_none x (live k es) (a k) lives
 
-pub either_shuts : (es : List Event) (phase : Phase) (closing : List Out) → AgreesPhase es phase → (closing ≡ []) ⊎ ShutsFirst phase closing → (closing ≡ []) ⊎ ShutsLive es closing
+pub either_shuts : (es : List Event) (phase : Phase) (closing : List Out) → StandsSo es phase → (closing ≡ []) ⊎ ShutsFirst phase closing → (closing ≡ []) ⊎ ShutsLive es closing
 either_shuts es phase closing a (inl none) = inl none
 either_shuts es phase closing a (inr shuts) = inr (shuts_live es phase closing a shuts)

@@ -11,7 +11,7 @@ use Rattle.nb_runner.specs.declared.status.Status.{Status}
 use Rattle.nb_boot.specs.Run.{IsFirst, BeginsWith, Ends, ran_out, was_bad, was_full}
 use Rattle.nb_boot.specs.Going.{Waits, IsEndStatus, IsClosing}
 use Rattle.nb_boot.proofs.Standing.{stands_used, stands_awaits, stands_bad}
-use Rattle.nb_laws.proofs.Counts.{path_counts}
+use Rattle.nb_boot.proofs.Counts.{path_counts}
 
 -- no record may come
 pub waits_bad : (n : ℕ) (held : List ℕ) (first now : Outside) (log : Logged) (c : Seen) (w : Waits n held first now log c) → IsResting c.stage → c.used < 4294967295 →

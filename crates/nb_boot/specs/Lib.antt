@@ -9,5 +9,4 @@ pub mod Stepped
 pub mod LowestObjects
 pub mod Entries
 pub mod Shown
-pub mod Lawful
 pub mod Determined

@@ -9,13 +9,16 @@ use Rattle.nb_engine.specs.GraphSteps.{EntersFirst, ClosesFirst}
 use Rattle.nb_laws.specs.Events.{Event, starts, hears, waits, stops, puts, used_by, written_by}
 use Rattle.nb_laws.specs.Histories.{IsHistory, IsRead}
 use Rattle.nb_laws.specs.Lists.{Opening, live, call_at}
-use Rattle.nb_laws.specs.Agreement.{NoneLives}
 
 -- Where this comes to an open, the records of a step begin with an entry by this way, whatever comes of it; and where nothing
 -- comes to any, none of them is the graph's.
 pub record EntersWith (by : Way) (comes : ℕ → List Call) (more : List Out) : Type 0 where
   pub enters : (k : ℕ) (call : Call) → comes k ≡ call ∷ [] → EntersFirst by more
   pub still : ((k : ℕ) → comes k ≡ []) → without_graph more ≡ more
+
+-- no open lives
+abbrev pub NoneLives : List Event → Type 0
+NoneLives es = (k : ℕ) → live k es ≡ []
 
 -- where an open lives, these records begin with the first close of the graph's end
 abbrev pub ShutsLive : List Event → List Out → Type 0

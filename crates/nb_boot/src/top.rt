@@ -2,9 +2,8 @@ ghost use Rattle.std.specs.Prelude.{◌≡◌, ◌↔◌, [], false, map, length
 ghost use Rattle.std.specs.String.{string_bytes};
 ghost use Rattle.nb_boot.specs.Run.{Shows};
 ghost use Rattle.nb_boot.specs.Shown.{ShowsCourse};
-ghost use Rattle.nb_boot.specs.Lawful.{AreLawful};
 ghost use Rattle.nb_boot.specs.Words.{AreWords};
-ghost use Rattle.nb_boot.specs.Complete.{Completes, CompletesRun, IsBadWords};
+ghost use Rattle.nb_boot.specs.Complete.{Completes, IsBadWords};
 ghost use Rattle.nb_boot.specs.Determined.{IsDetermined};
 
 use crate::Status;
@@ -80,21 +79,16 @@ pub fn netboot<L: Line>(alloc: Global, words: &[String], line: &mut L) -> Status
     ensures bad_words { IsBadWords result ↔ (AreWords (map string_bytes words.now) → ⊥) }
     ensures untouched { IsBadWords result → line.new ≡ line.old }
     // The records used are those read; those written, without GRAPH, are the machine's course on them; and the status is
-    // true of them. At each read no whole record is at hand, and all that was put was taken. The GRAPH records are a legal
+    // true of them. Each end, result, frame, try, advance, open and part has its reason in the records so far, as the two
+    // lists say alone. At each read no whole record is at hand, and all that was put was taken. The GRAPH records are a legal
     // run of the object graph, which is empty at DONE. Each open's objects are made before its OPEN, and freed before its
     // ENDED, whose cause is that of the first close after the OPEN. While it lives, each message that it receives, and each
     // time, is an entry first in its step, and no other frame is one.
     ensures course { AreWords (map string_bytes words.now) → ShowsCourse result (L.outside line.old) (L.outside line.new) }
-    // They are, without GRAPH, a run of the engine's own machine, in which a command waits for one open.
-    ensures run { AreWords (map string_bytes words.now) → Shows result (L.outside line.old) (L.outside line.new) }
-    // Each end, result, frame, try, advance, open and part has its reason in the records so far, as the two lists
-    // say alone.
-    ensures lawful { AreWords (map string_bytes words.now) → AreLawful (L.outside line.old) (L.outside line.new) }
     // With no fault and memory enough a START and other records end the script, hand off, or wait for one more.
     ensures complete { AreWords (map string_bytes words.now) → Completes result (L.outside line.old) (L.outside line.new) }
-    // With no fault and memory enough the input alone says the status, where a run on it is over or waits at its end.
-    ensures alone { AreWords (map string_bytes words.now) → CompletesRun result (L.outside line.old) (L.outside line.new) }
-    // The same of the machine's course, however many opens live; and the input alone says what was written, without GRAPH.
+    // With no fault and memory enough the input alone says the status, where a course on it is over or waits at its end,
+    // however many opens live, and what was written, without GRAPH.
     ensures determined { AreWords (map string_bytes words.now) → IsDetermined result (L.outside line.old) (L.outside line.new) }
 {
     match target(words) {
