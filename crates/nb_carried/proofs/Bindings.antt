@@ -1,23 +1,22 @@
 -- Each step of the engine's own machine, and each move, leaves bound the ports of the one open that lives.
-use Rattle.std.proofs.Common.{◌≡◌, ℕ, ◌==◌, ◌&&◌, Bool, true, false, cond, not, List, [], ◌∷◌, ◌++◌, Option, refl, sym, ◌∙◌, ap, subst, eq-eqb}
+use Rattle.std.proofs.Common.{◌≡◌, ℕ, ◌==◌, ◌&&◌, true, cond, not, List, [], ◌∷◌, refl, sym, ◌∙◌, ap, eq-eqb}
 use Rattle.nb_defs.specs.Records.{In, Out}
-use Rattle.nb_terms.specs.declared.acts.SendTo.{SendTo}
 use Rattle.nb_stack.specs.Brings.{Brought, arp_message}
 use Rattle.nb_stack.specs.Bound.{with_port, without}
 use Rattle.nb_stack.specs.Client.{Client}
 use Rattle.nb_stack.specs.Takes.{client_after}
 use Rattle.nb_stack.specs.declared.ports.Port.{Port}
-use Rattle.nb_tftp.specs.History.{Call, Entry}
+use Rattle.nb_tftp.specs.History.{Call}
 use Rattle.nb_runner.specs.declared.world.World.{World}
 use Rattle.nb_runner.specs.World.{with_net, with_open, unbound}
 use Rattle.nb_machine.specs.Conclusions.{Conclusion, keeps, fails, boots}
 use Rattle.nb_machine.specs.Errands.{Wanted}
-use Rattle.nb_machine.specs.Queries.{Query, for_lease, for_echo, for_host, for_address}
+use Rattle.nb_machine.specs.Queries.{Query, for_echo}
 use Rattle.nb_machine.specs.Running.{Running}
 use Rattle.nb_machine.specs.Sendings.{has_route, request_of}
 use Rattle.nb_engine.specs.Opens.{Open, begun_for, open_for}
-use Rattle.nb_engine.specs.Talks.{Talk, fields_of, proto_of, Incoming, TalkGoes}
-use Rattle.nb_engine.specs.Lones.{Lone, with_talk, with_lone, without_lone, talk_for, lone_for}
+use Rattle.nb_engine.specs.Talks.{Talk, fields_of, proto_of, Incoming}
+use Rattle.nb_engine.specs.Lones.{Lone, with_lone, talk_for, lone_for}
 use Rattle.nb_engine.specs.Machine as lone
 use Rattle.nb_engine.specs.Machine.{Machine, Phase, Hears, goes_on, is_over, phase_after, Replies, talks_on, comes_to_end, finds_host, Begins, Move}
 use Rattle.nb_carried.specs.Bound.{IsOpenBound, IsLoneBound, IsBound}
