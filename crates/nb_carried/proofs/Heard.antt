@@ -18,12 +18,10 @@ use Rattle.nb_machine.specs.Conclusions.{Conclusion, keeps, fails, boots, conclu
 use Rattle.nb_machine.specs.Running.{Running, with_result}
 use Rattle.nb_engine.specs.Machine.{Phase, Hears, goes_on, is_over, phase_after, concluded}
 use Rattle.nb_machine.specs.States.{bare}
-use Rattle.nb_laws.specs.Agreement.{opening_of}
-use Rattle.nb_laws.specs.Frames.{begun_by}
 use Rattle.nb_laws.proofs.Asides.{aside_acts}
 use Rattle.nb_laws.proofs.Tellings.{same_number}
 use Rattle.nb_machine.specs.Lives.{OpenInput, Exchange, exchange, continued, Live}
-use Rattle.nb_machine.specs.Transfers.{arrival_of, end_records, transfer_records, takes, KeepsTransfer}
+use Rattle.nb_machine.specs.Transfers.{arrival_of, end_records, transfer_of, transfer_records, takes, KeepsTransfer}
 use Rattle.nb_machine.specs.Takings.{Over, AllTake, all_have, lives_on}
 use Rattle.nb_machine.specs.Takings as takings
 use Rattle.nb_machine.specs.Scripts.{fetch, Answer, by_end, answer_in, Waiting, Upshot, concludes, upshot_records, concluded_by}
@@ -66,7 +64,7 @@ lives_more : (w : World) (o : Open) (xs : List Exchange) (call : Call) (acts : A
     Lives (with_entry o (entry call acts)) (xs ++ exchanged_by w o call acts ∷ [])
 lives_more w o xs call acts lives meets = record { exchanged = takes o.entries xs (bare w.net) call acts lives.exchanged; meets = meets }
 
-pub keeps_now : (o : Open) (xs : List Exchange) → Lives o xs → o.begun ≡ begun_by (opening_of o) → KeepsTransfer (live_of o xs)
+pub keeps_now : (o : Open) (xs : List Exchange) → Lives o xs → o.begun ≡ transfer_of (live_of o []) → KeepsTransfer (live_of o xs)
 keeps_now o xs lives begins = record {
   entries = o.entries;
   exchanged = lives.exchanged;
@@ -109,7 +107,7 @@ leads w own s (boots list kernel) = record {
 }
 
 pub heard : (w : World) (s : Running) (o : Open) (xs : List Exchange) (r : In) (call : Call) (added : List Out) (phase : Phase) → Hears w s o call added phase → Lives o xs →
-    has_route w.net (request_of o.begun) ≡ true → o.begun ≡ begun_by (opening_of o) → Taking w (waiting_in s o) (live_of o xs) r (arrival_of call) added phase
+    has_route w.net (request_of o.begun) ≡ true → o.begun ≡ transfer_of (live_of o []) → Taking w (waiting_in s o) (live_of o xs) r (arrival_of call) added phase
 heard w s o xs r call added phase (goes_on _ _ _ _ acts meets none) lives route begins =
     let e = entry call acts in
     let x = exchanged_by w o call acts in

@@ -6,4 +6,5 @@ pub mod Replied
 pub mod Frames
 pub mod Comings
 pub mod Steps
+pub mod Bindings
 pub mod Runs

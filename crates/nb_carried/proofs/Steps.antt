@@ -19,9 +19,8 @@ use Rattle.nb_engine.specs.Machine.{Machine, Phase, at, Hears, Replies}
 use Rattle.nb_machine.specs.CommandRecords.{reply_records}
 use Rattle.nb_engine.specs.Machine as lone
 use Rattle.nb_machine.specs.States.{bare, net0, with_device}
-use Rattle.nb_laws.specs.Agreement.{opening_of}
-use Rattle.nb_laws.specs.Frames.{begun_by}
 use Rattle.nb_machine.specs.Lives.{Exchange, Live, OpenInput, message}
+use Rattle.nb_machine.specs.Transfers.{transfer_of}
 use Rattle.nb_machine.specs.Network.{Network}
 use Rattle.nb_machine.specs.Network as network
 use Rattle.nb_machine.specs.Scripts.{by_time, Waiting, waiting_anew, upshot_records, concluded_by}
@@ -81,7 +80,7 @@ frame_passes n w s o xs bytes reply net m valid here brings put is port none =
 -- a datagram for the open
 pub frame_comes : (n : ℕ) (w : World) (s : Running) (o : Open) (xs : List Exchange) (bytes : List ℕ) (m : Brought) (port : ℕ) (body : List ℕ) (added : List Out) (phase : Phase) → IsIn (frame bytes) → Lives o xs →
     Brings w.net.up w.net.mac w.net.address bytes m → ForOpen o xs port body m → Hears w (anew s) o (came (received (n + 1) port body) w.time) added phase →
-    has_route w.net (request_of o.begun) ≡ true → o.begun ≡ begun_by (opening_of o) →
+    has_route w.net (request_of o.begun) ≡ true → o.begun ≡ transfer_of (live_of o []) →
     Steps n (waiting (state_in w (live_of o xs ∷ [])) (waiting_in s o)) (frame bytes) (step (n + 1) ∷ added) (at (n + 1) phase)
 frame_comes n w s o xs bytes m port body added phase valid here brings (by_datagram p d is from what) hears route is_begun =
     let heard_it : Hears w (anew s) o (came (received (n + 1) d.src_port d.body) w.time) added phase =
