@@ -1,7 +1,6 @@
 -- Each read is in its turn, and stays so as a run goes on.
 use Rattle.std.proofs.Common.{◌≡◌, ℕ, ◌+◌, ◌≤◌, List, [], ◌∷◌, ◌++◌, length, Option, Some, None, refl, sym, ◌∙◌, ap, subst, arith, append-nil, append_assoc, length-append}
 use Rattle.std.specs.Prelude.{IfSome}
-use Rattle.std.specs.List.{All}
 use Rattle.std.proofs.lemmas.List.Elements.{All-nil, All-cons, All-append, All-weaker}
 use Rattle.nb_defs.specs.Records.{In, in_texts, IsPartial, Out, step, out_texts}
 use Rattle.nb_opens.specs.Graphs.{without_graph}
@@ -10,7 +9,7 @@ use Rattle.nb_record.specs.Outside.{Outside, Gave, Took, Attaches, IsNoted, Note
 use Rattle.nb_engine.specs.Machine.{Machine, Phase, Path}
 use Rattle.nb_engine.specs.Machine as lone
 use Rattle.nb_engine.specs.GraphSteps.{IsUnderWay}
-use Rattle.nb_machine.specs.Courses.{Standing, Progress, Course}
+use Rattle.nb_machine.specs.Courses.{Standing}
 use Rattle.nb_carried.specs.Carried.{StandsAs}
 use Rattle.nb_carried.proofs.Runs.{runs_are_courses}
 use Rattle.nb_boot.specs.Run.{IsBetween}

@@ -1,6 +1,6 @@
 -- What closes a run of the engine's machine closes its course.
 use Rattle.std.proofs.Common.{◌≡◌, List, [], ◌∷◌, ◌++◌, Some, None, cond, refl, sym, ap, subst}
-use Rattle.nb_defs.specs.Records.{Out, ended}
+use Rattle.nb_defs.specs.Records.{ended}
 use Rattle.nb_engine.specs.Machine.{Phase, shutdown_records}
 use Rattle.nb_machine.specs.CommandRecords.{stopped_cause}
 use Rattle.nb_engine.specs.Machine as lone

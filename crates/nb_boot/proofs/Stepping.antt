@@ -16,7 +16,7 @@ use Rattle.nb_engine.specs.GraphSteps.{GraphPath, GraphStep, MovesGraph, ShowsFi
 use Rattle.nb_engine.specs.GraphSteps as traced_path
 use Rattle.nb_laws.specs.Events.{Event, starts, hears, waits, stops, puts, used_by, written_by}
 use Rattle.nb_laws.specs.Histories.{IsRead}
-use Rattle.nb_laws.specs.Lists.{Opening, time, live, call_at, came_in}
+use Rattle.nb_laws.specs.Lists.{Opening, time, openings, open_has_ended, live, call_at, came_in, gathered}
 use Rattle.nb_lawful.proofs.UsedEvents.{IsUsed, live_one}
 use Rattle.nb_boot.specs.Stepped.{NoneLives, ShutsLive, StartsSo, AreStepped, nothing, uses, goes_on}
 use Rattle.nb_boot.proofs.Goings.{path_on}
@@ -33,6 +33,10 @@ path_of ins outs m (traced_path.moves ins0 outs0 m0 added m1 path way moves) =
 -- one thing came, or nothing did
 one_or_none : {A : Type 0} {P : Type 0} (x : A) (xs : List A) → xs ≡ [] → xs ≡ x ∷ [] → P
 one_or_none {A} {P} x xs none one = absurd (let no : [] ≡ x ∷ [] = sym none ∙ one in cc)
+
+none_at_start : NoneLives []
+unfolding live openings open_has_ended gathered
+none_at_start = λ k. refl
 
 -- where no open lives nothing comes to one
 none_so : (es : List Event) (phase : Phase) → StandsSo es phase → HasNoOpen phase → NoneLives es
