@@ -175,3 +175,35 @@ module _ {N L : Type 0} (known : Nature N L) (own : ℕ → Bool) (number room m
   run_shuts now s t [] (d ∷ ds) x k i u h = absurd u
   run_shuts now s t (g ∷ gs) [] x k i u h = absurd u
   run_shuts now s t (g ∷ gs) (d ∷ ds) x k i (more, b, u) h = run_shuts now (after_deed d s) t (more ++ gs) ds x k i.1 u (deed_shuts d s x k i.0 h)
+
+  -- as many live, and may live
+  deed_counts : (d : Deed N L) (s : Scene) → IsPlainDeed d → ((after_deed d s).number ≡ s.number) × ((after_deed d s).room ≡ s.room)
+  deed_counts (writes (Made y kind)) s i = absurd i
+  deed_counts (writes (Held y)) s i = absurd i
+  deed_counts (writes (LetGo y)) s i = absurd i
+  deed_counts (writes (Plugged p q)) s i = absurd i
+  deed_counts (writes (Entered p by)) s i = (refl, refl)
+  deed_counts (writes (Left p)) s i = (refl, refl)
+  deed_counts (writes (Dropped p)) s i = (refl, refl)
+  deed_counts (writes (Closed p c)) s i = (refl, refl)
+  deed_counts (writes (Unplugged p q)) s i = (refl, refl)
+  deed_counts (writes (Freed y)) s i = absurd i
+  deed_counts (begins y n) s i = (refl, refl)
+  deed_counts (calls y e) s i = (refl, refl)
+  deed_counts (turns u) s i = (refl, refl)
+
+  pub run_counts : (now : ℕ) (s t : Scene) (gs : List (Stage N L)) (ds : List (Deed N L)) → AllByRecursion IsPlainDeed ds → UsesStack known now s gs ds t → (t.number ≡ s.number) × (t.room ≡ s.room)
+  run_counts now s t [] [] i u = (ap (λ (z : Scene). z.number) (sym u), ap (λ (z : Scene). z.room) (sym u))
+  run_counts now s t [] (d ∷ ds) i u = absurd u
+  run_counts now s t (g ∷ gs) [] i u = absurd u
+  run_counts now s t (g ∷ gs) (d ∷ ds) i (more, b, u) =
+      let one = deed_counts d s i.0 in
+      let others = run_counts now (after_deed d s) t (more ++ gs) ds i.1 u in
+      (others.0 ∙ one.0, others.1 ∙ one.1)
+
+  -- and no link leaves them
+  pub run_links : (now : ℕ) (s t : Scene) (gs : List (Stage N L)) (ds : List (Deed N L)) → AllByRecursion (IsDeedWithin own) ds → UsesStack known now s gs ds t → AreLinkedWithin own s.port → AreLinkedWithin own t.port
+  run_links now s t [] [] o u h = subst (λ (z : Scene). AreLinkedWithin own z.port) u h
+  run_links now s t [] (d ∷ ds) o u h = absurd u
+  run_links now s t (g ∷ gs) [] o u h = absurd u
+  run_links now s t (g ∷ gs) (d ∷ ds) o (more, b, u) h = run_links now (after_deed d s) t (more ++ gs) ds o.1 u (deed_links own d s o.0 h)

@@ -8,3 +8,4 @@ pub mod OwnLemmas
 pub mod GraphOfLemmas
 pub mod OwnCallLemmas
 pub mod MadeLemmas
+pub mod SameGraph

@@ -24,9 +24,9 @@ use Rattle.nb_graph.proofs.Laws.{only_call}
 use Rattle.nb_frames.specs.Frames.{is_one_of, last_of, graph_of, IsOwnCall, GoesAlone}
 use Rattle.nb_frames.proofs.WithinLemmas.{IsDeedWithin, asks_none, run_within}
 use Rattle.nb_frames.proofs.MaskLemmas.{own_scene, own_state}
-use Rattle.nb_frames.proofs.AloneLemmas.{IsPlainDeed, frees_other, run_alone, states_alone, run_shuts}
+use Rattle.nb_frames.proofs.AloneLemmas.{IsPlainDeed, frees_other, run_alone, states_alone, run_shuts, run_counts, run_links}
 use Rattle.nb_frames.proofs.BalanceLemmas.{account_grows, far_stays, far_covered, far_alike}
-use Rattle.nb_frames.proofs.OwnLemmas.{AreThere, are_there, own_lives, own_rank, own_port, own_node_at}
+use Rattle.nb_frames.proofs.OwnLemmas.{AreThere, are_there, no_port, own_lives, own_rank, own_port, own_node_at}
 use Rattle.nb_frames.proofs.GraphOfLemmas.{scene_alone, state_alone, hosts_alone, far_suited}
 
 pub either_way : (b : Bool) → (b ≡ true) ⊎ (b ≡ false)
@@ -41,15 +41,6 @@ or_true false c e = e
 last_in : (x : ℕ) (xs : List ℕ) → is_one_of (x ∷ xs) (last_of (x ∷ xs)) ≡ true
 last_in x [] = rw (eq-eqb x x refl) refl
 last_in x (y ∷ ys) = or_true (last_of (y ∷ ys) == x) (is_one_of (y ∷ ys) (last_of (y ∷ ys))) (last_in y ys)
-
--- a slot that no object has is closed
-beyond : (o : Option Object) → option_map_or (object_port 7) o port.Closed ≡ port.Closed
-beyond None = refl
-beyond (Some p) = refl
-
-no_slot : (l : Ledger) (x : ℕ) → port_in l x 7 ≡ port.Closed
-unfolding port_in
-no_slot l x = beyond (found l.objects x)
 
 module _ {N : Type 0} (ids : List ℕ) (g : Objects N) (there : AreThere ids g) where
   pub port_own : (x k : ℕ) → is_one_of ids x ≡ true → port_in (graph_of ids g).book x k ≡ port_in g.book x k
@@ -91,6 +82,13 @@ low_ends : (l : Ledger) (p q : Port) (s t d : List ℕ) → JoinedEnds l p q s t
 low_ends l p q s t d (joined a b c e f) = (a, b)
 low_ends l p q s t d (parted a b c e rest f) = (a, b)
 
+-- each live object of the graph of some has a node
+pub noded_own : {N : Type 0} (rank_of : N → ℕ) (ids : List ℕ) (g : Objects N) → AreThere ids g → AreNoded rank_of g → AreNoded rank_of (graph_of ids g)
+noded_own rank_of ids g there noded x l =
+    let z = lives_own ids g there x l in
+    let n = noded x z.1 in
+    record { node = n.node; is_node = node_own ids g there x z.0 ∙ n.is_node; at_rank = n.at_rank ∙ sym (rank_own ids g there x z.0) }
+
 -- two ends that aren't linked
 abbrev Apart : Ledger → Port → Port → List ℕ → List ℕ → Type 0
 Apart l p q s t = (open_count (port_in l p.obj.0 p.slot) ≡ 0) × (open_count (port_in l q.obj.0 q.slot) ≡ 0) × (rest : List ℕ) × (s ≡ t ++ rest)
@@ -124,7 +122,7 @@ module _ {N L : Type 0} (known : Nature N L) (ids : List ℕ) (g h : Objects N) 
       let ends = h0 e in
       let low2 = low_ends (graph_of ids g).book p q a.sent b.taken [] ends in
       let z = apart_first (graph_of ids g).book p q a.sent b.taken [] (port_far ids g here p.obj.0 p.slot i) ends in
-      parted (let l = low2.0 in omega (arith, l, low)) (let l = low2.1 in omega (arith, l, low)) (ap open_count (no_slot g.book p.obj.0)) (ap open_count (sym (port_own ids g here q.obj.0 q.slot j)) ∙ z.1) z.2 z.3
+      parted (let l = low2.0 in omega (arith, l, low)) (let l = low2.1 in omega (arith, l, low)) (ap open_count (no_port g.book p.obj.0 7 (omega arith))) (ap open_count (sym (port_own ids g here q.obj.0 q.slot j)) ∙ z.1) z.2 z.3
 
   still_shut : (x k : ℕ) → own x ≡ true → open_count (port_in (graph_of ids g).book x k) ≡ 0 → open_count (port_in (graph_of ids h).book x k) ≡ 0
   still_shut x k o z = ap open_count (port_own ids h there x k o) ∙ run_shuts known own 0 0 0 now (scene_of g.book) (scene_of h.book) asks ds x k plain uses (ap open_count (sym (port_own ids g here x k o)) ∙ z)
@@ -234,4 +232,7 @@ module _ {N L : Type 0} (known : Nature N L) (stands : N → List (NodeEntry N L
           balances = λ p q a b z. subst (λ y. Balanced (graph_of ids h).book p q (accounts known p a y) (accounts known q b y)) (sym one.1) (balance_alone known ids g h here there now asks ds plain within one.2 low bal p q a b z);
         };
         same = refl;
+        links = run_links known own 0 0 0 now (scene_of g.book) (scene_of h.book) asks ds within one.2 c.links;
+        same_number = (run_counts known own 0 0 0 now (scene_of g.book) (scene_of h.book) asks ds plain one.2).0;
+        same_room = (run_counts known own 0 0 0 now (scene_of g.book) (scene_of h.book) asks ds plain one.2).1;
       }

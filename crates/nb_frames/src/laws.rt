@@ -1,7 +1,7 @@
 //! Laws of calls on some objects of a graph, functions that do nothing.
 
 ghost use Rattle.std.specs.Prelude.{◌≡◌, ◌≤◌, ◌∷◌, [], ℕ, Bool, List, true};
-ghost use Rattle.nb_frames.specs.Frames.{GoesAlone, IsOwnCall, KeepsObject, KeepsOthers};
+ghost use Rattle.nb_frames.specs.Frames.{GoesAlone, graph_of, is_one_of, IsOwnCall, KeepsObject, KeepsOthers};
 ghost use Rattle.nb_frames.specs.Within.{AreLinkedWithin, AreStagesWithin, MakesNone};
 ghost use Rattle.nb_graph.specs.Deeds.{MustMake, Stage, Wants};
 ghost use Rattle.nb_graph.specs.Noded.{AreNoded};
@@ -11,7 +11,7 @@ ghost use Rattle.nb_graph.specs.Whole.{Objects};
 ghost use Rattle.nb_ledger.specs.declared.event.GraphEvent.TheVariants.{Held};
 ghost use Rattle.nb_ledger.specs.declared.port.ObjId.{ObjId as TheObjId};
 ghost use Rattle.nb_ledger.specs.Flat.{Heard};
-ghost use Rattle.nb_ledger.specs.Ledger.{port};
+ghost use Rattle.nb_ledger.specs.Ledger.{object_lives, port};
 
 use nb_graph::Node;
 
@@ -40,4 +40,11 @@ pub fn goes_as_alone<N: Node>()
         → IsOwnCall ids asks a b (all_of k.deeds)
         → GoesAlone N.stands (nature N.kind_of N.mark_of N.Load.first N.Load.second) ids now asks a b m n
         (all_of k.deeds) }
+{}
+
+/// Live objects that stay as they are stay the same graph of their own: what is true of it stays true.
+pub fn others_stay_a_graph<N: Node>()
+    ensures { (ids : List ℕ) (a b : Objects N) → AreNoded N.rank_of b
+        → ((x : ℕ) → is_one_of ids x ≡ true → object_lives a.book x ≡ true)
+        → ((x : ℕ) → is_one_of ids x ≡ true → KeepsObject a b x) → graph_of ids b ≡ graph_of ids a }
 {}

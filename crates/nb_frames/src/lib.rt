@@ -6,4 +6,4 @@
 
 mod laws;
 
-pub use laws::{goes_as_alone, makes_change_no_other, others_stay};
+pub use laws::{goes_as_alone, makes_change_no_other, others_stay, others_stay_a_graph};

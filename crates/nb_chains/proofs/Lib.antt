@@ -1,0 +1,4 @@
+pub mod NoMakes
+pub mod ChainCalls
+pub mod ChainDoes
+pub mod GoingOn

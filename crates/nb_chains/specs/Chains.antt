@@ -1,0 +1,107 @@
+-- The objects of an open on a graph, whatever else lives there: the top one first, each plugged to the next. What an
+-- open's objects are and do is said of the graph of these objects alone (graph_of). Our own.
+use Rattle.std.specs.Prelude.{◌≡◌, ◌≤◌, ℕ, true, List, [], ◌∷◌, length, Option, Some, None}
+use Rattle.nb_ledger.specs.declared.port.ObjId.{ObjId}
+use Rattle.nb_ledger.specs.Ledger.{object_lives, holds, port}
+use Rattle.nb_terms.specs.declared.cause.Cause.{Cause}
+use Rattle.nb_ledger.specs.declared.event.Way.{Way}
+use Rattle.nb_ledger.specs.declared.port.Port.{Port}
+use Rattle.nb_ledger.specs.Flat.{Heard, Notice, Given}
+use Rattle.nb_tftp.specs.History.{Call}
+use Rattle.nb_nodes.specs.Asking.{AskValue, ask_in, begun_with}
+use Rattle.nb_nodes.specs.Exchanges.{Service}
+use Rattle.nb_opens.specs.AloneNotices.{alone_closed}
+use Rattle.nb_opens.specs.Alones.{DoesAsk, IsOpenLone, IsReady, IsShutLone, ReceiveAllBy, TickAllBy}
+use Rattle.nb_opens.specs.Companies.{only}
+use Rattle.nb_opens.specs.Notices.{closed_notices}
+use Rattle.nb_opens.specs.Pairs.{AreGoing, AreMade, DoesBegin, DoesCall, HasEnded, IsDownloading}
+use Rattle.nb_graph.specs.Lived.{ObjectStands}
+use Rattle.nb_graph.specs.Trace.{NodeEntry, Said}
+use Rattle.nb_graph.specs.Whole.{Objects}
+use Rattle.nb_frames.specs.Frames.{is_one_of, graph_of, KeepsOthers}
+use Rattle.nb_frames.specs.Within.{AreLinkedWithin}
+use Rattle.nb_nodes.specs.declared.load.Load.{Load}
+use Rattle.nb_nodes.specs.declared.obj.Obj.{Obj}
+use Rattle.nb_nodes.specs.Standing.{ObjStands}
+use Rattle.nb_chains.specs.declared.chain.Chain.{Chain}
+
+-- the serials of a chain, the top one first
+abbrev pub below_ids : Option ObjId → List ℕ
+below_ids None = []
+below_ids (Some x) = x.0 ∷ []
+
+abbrev pub last_below : ℕ → Option ObjId → ℕ
+last_below x None = x
+last_below x (Some y) = y.0
+
+abbrev pub chain_ids : Chain → List ℕ
+chain_ids c = c.top.0 ∷ below_ids c.below
+
+-- its objects as a graph of their own
+abbrev pub own_graph : Chain → Objects Obj → Objects Obj
+own_graph c g = graph_of (chain_ids c) g
+
+-- x stands for some trace, and all loads that it lent came back
+abbrev pub StandsForSome : Objects Obj → ℕ → Type 0
+StandsForSome g x = (t : List (NodeEntry Obj Load)) × ObjectStands ObjStands g x t
+
+-- Each of these lives by its one hold, and no link leaves them. Nothing is said of what else lives.
+pub record AreChained (g : Objects Obj) (ids : List ℕ) : Type 0 where
+  pub given : (x : ℕ) → is_one_of ids x ≡ true → x ≤ g.book.made
+  pub lives : (x : ℕ) → is_one_of ids x ≡ true → object_lives g.book x ≡ true
+  pub held : (x : ℕ) → is_one_of ids x ≡ true → holds g.book x ≡ 1
+  pub stands : (x : ℕ) → is_one_of ids x ≡ true → StandsForSome g x
+  pub links : AreLinkedWithin (is_one_of ids) (port g.book)
+
+-- They still are after a call, and all else on the graph is as it was.
+pub record GoesOn (ids : List ℕ) (g h : Objects Obj) : Type 0 where
+  pub chained : AreChained h ids
+  pub others : KeepsOthers (is_one_of ids) g h
+  pub same_number : length h.book.objects ≡ length g.book.objects
+  pub same_room : h.book.room ≡ g.book.room
+
+-- the serial of its last object, which talks to the network
+abbrev pub last_serial : Chain → ℕ
+last_serial c = last_below c.top.0 c.below
+
+-- the address that the last object is told of what comes: one that asks by itself is, and a Tftp isn't
+abbrev pub source_for : Option ObjId → ℕ → ℕ
+source_for None source = source
+source_for (Some x) source = 0
+
+-- The user has asked two by these bytes: what a transfer asks at first leaves, or memory runs out.
+abbrev pub BeginsTwo : Chain → Objects Obj → Objects Obj → List ℕ → ℕ → ℕ → Heard → Heard → Type 0
+BeginsTwo c old new bytes now rec before after =
+    (t : ObjId) (a : AskValue) → c.below ≡ Some t → AreMade (own_graph c old) c.top.0 t.0 → ask_in bytes ≡ Some a
+    → DoesBegin (own_graph c new) c.top.0 t.0 (begun_with a) now rec before after
+
+-- the same of one that asks by itself
+abbrev pub BeginsOne : {S B C : Type 0} → Service S B C → ℕ → Chain → Objects Obj → Objects Obj → List ℕ → ℕ → ℕ → Heard → Heard → Type 0
+BeginsOne {S} {B} {C} s kind c old new bytes now rec before after =
+    (b : B) → s.asked bytes ≡ Some b → IsReady (own_graph c old) c.top.0 kind → DoesAsk s kind (own_graph c new) c.top.0 b now rec before after
+
+-- What a datagram or a time does to two, for each transfer that may be under way, and what the outside is told.
+abbrev pub CallsTwo : Chain → Objects Obj → Objects Obj → (ℕ → Port) → Way → ℕ → Call → Heard → Heard → Type 0
+CallsTwo c old new at by rec call before after =
+    (t : ObjId) → c.below ≡ Some t → IsDownloading (own_graph c old) c.top.0 t.0
+    → DoesCall (own_graph c old) (own_graph c new) c.top.0 t.0 (at t.0) by rec call before after
+
+-- What a message does to one that asks by itself, for each exchange that may be under way, and what the outside is told.
+abbrev pub HearsOne : Chain → Objects Obj → Objects Obj → Said → ℕ → Heard → Heard → Type 0
+HearsOne c old new m now before after =
+    c.below ≡ None → (ns : List Notice) × Given before after ns × ReceiveAllBy (only c.top.0) (own_graph c old) (own_graph c new) c.top.0 m now ns
+
+-- the same of a time
+abbrev pub TicksOne : Chain → Objects Obj → Objects Obj → ℕ → Heard → Heard → Type 0
+TicksOne c old new now before after =
+    c.below ≡ None → (ns : List Notice) × Given before after ns × TickAllBy (only c.top.0) (own_graph c old) (own_graph c new) c.top.0 now ns
+
+-- The user closes the open.
+abbrev pub ClosesTwo : Chain → Objects Obj → Objects Obj → Cause → Heard → Heard → Type 0
+ClosesTwo c old new cause before after =
+    (t : ObjId) → c.below ≡ Some t → AreGoing (own_graph c old) c.top.0 t.0
+    → HasEnded (own_graph c new) c.top.0 t.0 None × Given before after (closed_notices c.top.0 t.0 cause)
+
+abbrev pub ClosesSole : Chain → Objects Obj → Objects Obj → Cause → Heard → Heard → Type 0
+ClosesSole c old new cause before after =
+    c.below ≡ None → IsOpenLone (own_graph c old) c.top.0 → IsShutLone (own_graph c new) c.top.0 × Given before after (alone_closed c.top.0 cause)
