@@ -7,6 +7,7 @@
 
 mod chain;
 mod kind;
+mod making;
 
 pub use chain::Chain;
 pub use kind::ChainKind;
