@@ -5,3 +5,5 @@ pub mod GoingOn
 pub mod FreshOnes
 pub mod Plugging
 pub mod ChainsMade
+pub mod LettingGo
+pub mod Collecting

@@ -1,6 +1,19 @@
-ghost use Rattle.std.specs.Prelude.{◌≡◌, ◌+◌, ◌<◌, ◌≤◌, ◌^◌, ◌++◌, length};
+ghost use Rattle.std.specs.Prelude.{◌≡◌, ◌+◌, ◌<◌, ◌≤◌, ◌^◌, ◌++◌, ◌∷◌, [], ℕ, List, Option, Some, true, length};
 ghost use Rattle.nb_chains.specs.Chains.{AreChained, BeginsOne, BeginsTwo, CallsTwo, ClosesSole, ClosesTwo};
-ghost use Rattle.nb_chains.specs.Chains.{GoesOn, HearsOne, TicksOne, chain_ids, last_serial, source_for};
+ghost use Rattle.nb_chains.specs.Chains.{GoesOn, HearsOne, IsReleased, IsShutChain, TicksOne, chain_ids, last_serial};
+ghost use Rattle.nb_chains.specs.Chains.{own_graph, released_notices, source_for};
+ghost use Rattle.nb_frames.specs.Frames.{graph_of};
+ghost use Rattle.nb_graph.specs.Deeds.{Wants};
+ghost use Rattle.nb_graph.specs.Noded.{AreNoded};
+ghost use Rattle.nb_graph.specs.Went.{WentOne};
+ghost use Rattle.nb_ledger.specs.Flat.{Given};
+ghost use Rattle.nb_ledger.specs.Ledger.{holds, object_lives};
+ghost use Rattle.nb_ledger.specs.declared.event.GraphEvent.TheVariants.{LetGo};
+ghost use Rattle.nb_nodes.specs.Objects.{obj_nature, rank_of_obj};
+ghost use Rattle.nb_nodes.specs.Standing.{ObjStands};
+ghost use Rattle.nb_opens.specs.Notices.{freed_notices};
+ghost use Rattle.nb_opens.specs.Pairs.{AreShut, HasEnded, body_in};
+ghost use Rattle.nb_ledger.specs.declared.port.ObjId.{ObjId as TheObjId};
 ghost use Rattle.nb_graph.specs.Whole.{port_at};
 ghost use Rattle.nb_ledger.specs.declared.event.Way.TheVariants as way;
 ghost use Rattle.nb_nodes.specs.EchoExchanges.{ping_service};
@@ -12,7 +25,8 @@ ghost use Rattle.nb_tftp.specs.History.{came, ticked};
 ghost use Rattle.nb_tftp.specs.Received.{received};
 
 use nb_graph::{Graph, Msg, ObjId, Outside, Port};
-use nb_nodes::{ABOVE, BELOW, Obj, Tag};
+use nb_image::Body;
+use nb_nodes::{ABOVE, BELOW, Load, Obj, Tag};
 use nb_opens::Arrival;
 use nb_terms::Cause;
 use nb_wire::Ip4;
@@ -122,6 +136,34 @@ impl Chain {
         graph.has_nodes();
     }
 
+    /// The bytes of the file that it has brought, if it has. They are handed out once.
+    pub fn collect(self, graph: &mut Graph<Obj>) -> Option<Body>
+        requires { AreChained graph.old (chain_ids self) }
+        ensures on { GoesOn (chain_ids self) graph.old graph.new }
+        ensures body { (t : TheObjId) (body : Option (List ℕ)) → HasEnded (own_graph self graph.old) self.top.0 t.0 body
+            → result ≡ body }
+        ensures shut { IsShutChain self graph.old → IsShutChain self graph.new }
+    {
+        graph.has_nodes();
+        let load = graph.harvest(self.top);
+        graph.has_nodes();
+        body_in(load)
+    }
+
+    /// Lets its objects go, the top one first: none of them lives any more.
+    pub fn release<O: Outside>(self, graph: &mut Graph<Obj>, out: &mut O)
+        requires chained { AreChained graph.old (chain_ids self) }
+        requires shut { IsShutChain self graph.old }
+        ensures released { IsReleased self graph.old graph.new }
+        ensures told { Given (O.events out.old) (O.events out.new) (released_notices self) }
+    {
+        graph.has_nodes();
+        match self.below {
+            None => let_go(graph, self.top, out),
+            Some(below) => let_both_go(graph, self.top, below, out),
+        }
+    }
+
     /// The port to the user.
     fn user(self) -> Port
         ensures { result ≡ port_at self.top.0 0 }
@@ -161,4 +203,37 @@ impl Chain {
             Some(_) => 0,
         }
     }
+}
+
+/// The body in what was handed out.
+fn body_in(load: Option<Load>) -> Option<Body>
+    ensures { result ≡ body_in load }
+{
+    match load {
+        Some(Load::Body(body)) => Some(body),
+        Some(Load::Datagram(_)) => None,
+        None => None,
+    }
+}
+
+/// Lets two objects go.
+fn let_both_go<O: Outside>(graph: &mut Graph<Obj>, top: ObjId, below: ObjId, out: &mut O)
+    requires chained { AreChained graph.old (top.0 ∷ below.0 ∷ []) }
+    requires shut { AreShut (graph_of (top.0 ∷ below.0 ∷ []) graph.old) top.0 below.0 }
+    requires noded { AreNoded rank_of_obj graph.old }
+    ensures released { IsReleased (record { top = top; below = Some below }) graph.old graph.new }
+    ensures told { Given (O.events out.old) (O.events out.new) (freed_notices top.0 below.0) }
+{
+    let_go(graph, top, out);
+    let_go(graph, below, out);
+}
+
+/// Lets the hold of an object go that has one.
+fn let_go<O: Outside>(graph: &mut Graph<Obj>, id: ObjId, out: &mut O)
+    requires lives { object_lives graph.old.book id.0 ≡ true }
+    requires held { 0 < holds graph.old.book id.0 }
+    ensures { (now : ℕ) → WentOne ObjStands obj_nature now (Wants (LetGo id) ∷ []) graph.old graph.new
+        (O.events out.old) (O.events out.new) }
+{
+    let _held = graph.let_go(id, out);
 }
