@@ -1,5 +1,5 @@
 -- A call on the objects of a chain is one on the graph of these alone, and leaves all else as it was.
-use Rattle.std.proofs.Common.{◌≡◌, ℕ, ◌≤◌, ◌<◌, true, List, [], ◌∷◌, refl, sym, ap, ◌∙◌, subst, arith}
+use Rattle.std.proofs.Common.{◌≡◌, ℕ, ◌≤◌, true, List, [], ◌∷◌, sym, ap, ◌∙◌, subst, arith}
 use Rattle.std.proofs.lemmas.List.{append-nil}
 use Rattle.nb_ledger.specs.declared.event.GraphEvent.{GraphEvent}
 use Rattle.nb_ledger.specs.declared.event.GraphEvent.TheVariants.{Made, Held, LetGo, Plugged, Entered, Left, Dropped, Closed, Unplugged, Freed}
@@ -7,9 +7,7 @@ use Rattle.nb_ledger.specs.Flat.{Heard}
 use Rattle.nb_ledger.specs.GraphRun.{GraphRunOf}
 use Rattle.nb_ledger.specs.Ledger.{object_lives, holds, run_state}
 use Rattle.nb_ledger.proofs.PortLemmas.{held-live}
-use Rattle.nb_graph.specs.Trace.{NodeEntry}
 use Rattle.nb_graph.specs.Deeds.{Deed, Stage, events_of, trace_after}
-use Rattle.nb_graph.specs.Follows.{UsesStack}
 use Rattle.nb_graph.specs.Noded.{AreNoded}
 use Rattle.nb_graph.specs.Scene.{scene_of}
 use Rattle.nb_graph.specs.Went.{WentOne, all_of}
@@ -17,7 +15,7 @@ use Rattle.nb_graph.specs.Whole.{Objects, node_at}
 use Rattle.nb_graph.proofs.HostLemmas.{stood}
 use Rattle.nb_graph.proofs.Laws.{only_call}
 use Rattle.nb_frames.specs.Frames.{is_one_of, graph_of, IsOwnCall, GoesAlone, KeepsOthers}
-use Rattle.nb_frames.specs.Within.{AreStagesWithin, ArePlain, FreesNot, FreesNone, MakesNone}
+use Rattle.nb_frames.specs.Within.{AreStagesWithin, ArePlain, FreesNone, MakesNone}
 use Rattle.nb_frames.proofs.FrameLemmas.{others_stay}
 use Rattle.nb_frames.proofs.OwnLemmas.{are_there}
 use Rattle.nb_frames.proofs.OwnCallLemmas.{goes_alone, noded_own}

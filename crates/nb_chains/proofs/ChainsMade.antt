@@ -1,7 +1,7 @@
 -- The objects of a chain are made.
-use Rattle.std.proofs.Common.{◌≡◌, ℕ, ◌+◌, ◌<◌, ◌≤◌, Bool, true, false, List, [], ◌∷◌, ◌++◌, length, Option, Some, None, refl, sym, ap, ◌∙◌, subst, arith}
+use Rattle.std.proofs.Common.{◌≡◌, ℕ, ◌<◌, ◌≤◌, [], ◌∷◌, Option, Some, None, refl, sym, ◌∙◌, subst, arith}
 use Rattle.nb_ledger.specs.declared.port.ObjId.{ObjId}
-use Rattle.nb_ledger.specs.declared.event.GraphEvent.TheVariants.{Made, Held, Plugged}
+use Rattle.nb_ledger.specs.declared.event.GraphEvent.TheVariants.{Made, Held}
 use Rattle.nb_ledger.specs.declared.port.PortState.TheVariants as port
 use Rattle.nb_ledger.specs.Flat.{Heard, Given}
 use Rattle.nb_ledger.specs.Ledger.{rank, port as port_in}
@@ -10,20 +10,20 @@ use Rattle.nb_graph.specs.Deeds.{MustMake, MustPlug, Wants}
 use Rattle.nb_graph.specs.Noded.{AreNoded}
 use Rattle.nb_graph.specs.Went.{WentOne}
 use Rattle.nb_graph.specs.Whole.{Objects, IsMade, port_at}
-use Rattle.nb_frames.specs.Frames.{is_one_of, graph_of, KeepsObject}
+use Rattle.nb_frames.specs.Frames.{graph_of}
 use Rattle.nb_frames.proofs.MadeLemmas.{made_keeps}
 use Rattle.nb_nodes.specs.declared.obj.Obj.{Obj}
 use Rattle.nb_nodes.specs.Objects.{obj_nature, rank_of_obj, kind_of_obj, mark_of_obj}
 use Rattle.nb_nodes.specs.Standing.{ObjStands}
 use Rattle.nb_opens.specs.Alones.{IsReady}
-use Rattle.nb_opens.specs.Notices.{tells, serial, completed_notices}
+use Rattle.nb_opens.specs.Notices.{tells, completed_notices}
 use Rattle.nb_opens.specs.Pairs.{AreMade, IsNewTftp}
 use Rattle.nb_opens.proofs.Making.{OneMade, one_made}
 use Rattle.nb_chains.specs.declared.chain.Chain.{Chain}
 use Rattle.nb_chains.specs.declared.kind.ChainKind.{ChainKind}
 use Rattle.nb_chains.specs.declared.kind.ChainKind.TheVariants.{File, Name, Lease, Echo}
 use Rattle.nb_chains.specs.Kinds.{IsLowerOf, top_mark, top_number, top_rank}
-use Rattle.nb_chains.specs.Chains.{Awaits, GrowsBy, IsFresh, IsReadyChain, chain_ids, below_ids, own_graph, waits_notices}
+use Rattle.nb_chains.specs.Chains.{Awaits, GrowsBy, IsFresh, IsReadyChain, below_ids, waits_notices}
 use Rattle.nb_chains.proofs.FreshOnes.{fresh_kept, fresh_ready, made_fresh, one_grows}
 use Rattle.nb_chains.proofs.GoingOn.{keeps_both}
 use Rattle.nb_chains.proofs.Plugging.{plug_chained, plug_made, plug_number, plug_others, plug_ready, plug_room, plug_told}

@@ -1,13 +1,12 @@
 -- A chain hands out what it has brought.
-use Rattle.std.proofs.Common.{◌≡◌, ◌≢◌, ℕ, ◌≤◌, Bool, true, false, List, [], ◌∷◌, length, Option, Some, None, refl, sym, ap, ◌∙◌, subst}
+use Rattle.std.proofs.Common.{◌≡◌, ◌≢◌, ℕ, ◌≤◌, true, false, List, length, Option, Some, None, sym, ap, ◌∙◌, subst}
 use Rattle.std.proofs.lemmas.Bool.{false≢true}
 use Rattle.nb_ledger.specs.declared.port.ObjId.{ObjId}
-use Rattle.nb_ledger.specs.declared.port.PortState.{PortState}
 use Rattle.nb_ledger.specs.Ledger.{Ledger, object_lives, holds, rank, port as port_in}
 use Rattle.nb_graph.specs.Lived.{KeepsTraces}
 use Rattle.nb_graph.specs.Noded.{AreNoded}
 use Rattle.nb_graph.specs.Whole.{Objects, Harvests, node_at}
-use Rattle.nb_frames.specs.Frames.{is_one_of, graph_of}
+use Rattle.nb_frames.specs.Frames.{is_one_of}
 use Rattle.nb_frames.specs.Within.{AreLinkedWithin}
 use Rattle.nb_frames.proofs.OwnLemmas.{AreThere, are_there}
 use Rattle.nb_frames.proofs.OwnCallLemmas.{node_own, noded_own}
@@ -15,12 +14,11 @@ use Rattle.nb_nodes.specs.declared.load.Load.{Load}
 use Rattle.nb_nodes.specs.declared.obj.Obj.{Obj}
 use Rattle.nb_nodes.specs.Objects.{rank_of_obj}
 use Rattle.nb_nodes.specs.Standing.{ObjStands, ObjHarvests}
-use Rattle.nb_opens.specs.Alones.{IsLoneBy, IsShutLone, shut_slots}
-use Rattle.nb_opens.specs.Companies.{only}
+use Rattle.nb_opens.specs.Alones.{IsShutLone}
 use Rattle.nb_opens.specs.Pairs.{AreShut, HasEnded, body_in}
 use Rattle.nb_opens.proofs.Harvesting.{harvests_body}
 use Rattle.nb_chains.specs.declared.chain.Chain.{Chain}
-use Rattle.nb_chains.specs.Chains.{AreChained, GoesOn, IsShutBy, IsShutChain, below_ids, chain_ids, own_graph}
+use Rattle.nb_chains.specs.Chains.{AreChained, GoesOn, IsShutBy, IsShutChain, chain_ids, own_graph}
 use Rattle.nb_chains.proofs.ChainDoes.{top_in}
 
 -- what is said of a graph's book alone, whatever its nodes are

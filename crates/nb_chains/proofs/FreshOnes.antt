@@ -1,35 +1,28 @@
 -- An object that was just made, alone and as a graph of its own.
-use Rattle.std.proofs.Common.{inl, inr, ◌≡◌, ℕ, ◌+◌, ◌≤◌, Bool, true, false, List, [], ◌∷◌, length, Option, Some, None, refl, sym, ap, ◌∙◌, subst, arith, nat_lt, if◌then◌else◌}
+use Rattle.std.proofs.Common.{inl, inr, ◌≡◌, ℕ, ◌≤◌, Bool, true, false, [], ◌∷◌, length, None, refl, sym, ap, ◌∙◌, subst, arith, nat_lt, if◌then◌else◌}
 use Rattle.std.proofs.lemmas.Bool.{cases_eq, eq-eqb, ne_eqb, false≢true}
 use Rattle.nb_ledger.specs.declared.port.ObjId.{ObjId}
-use Rattle.nb_ledger.specs.declared.port.PortState.{PortState}
 use Rattle.nb_ledger.specs.declared.port.PortState.TheVariants as port
-use Rattle.nb_ledger.specs.declared.event.GraphEvent.TheVariants.{Made, Held}
-use Rattle.nb_ledger.specs.Flat.{Heard, Given}
+use Rattle.nb_ledger.specs.declared.event.GraphEvent.TheVariants.{Held}
+use Rattle.nb_ledger.specs.Flat.{Heard}
 use Rattle.nb_ledger.specs.GraphRun.{new_ports}
-use Rattle.nb_ledger.specs.Ledger.{object_lives, holds, rank, port as port_in}
+use Rattle.nb_ledger.specs.Ledger.{object_lives, holds, port as port_in}
 use Rattle.nb_graph.specs.Deeds.{MustMake, Wants}
 use Rattle.nb_graph.specs.Lived.{ObjectStands}
 use Rattle.nb_graph.specs.Noded.{AreNoded}
-use Rattle.nb_graph.specs.Trace.{NodeEntry}
 use Rattle.nb_graph.specs.Went.{WentOne}
-use Rattle.nb_graph.specs.Whole.{Objects, IsMade, node_at}
+use Rattle.nb_graph.specs.Whole.{Objects, IsMade}
 use Rattle.nb_frames.specs.Frames.{is_one_of, graph_of, KeepsObject}
 use Rattle.nb_frames.specs.Within.{AreLinkedWithin, LeadsWithin}
 use Rattle.nb_frames.proofs.MadeLemmas.{made_keeps}
-use Rattle.nb_frames.proofs.OwnLemmas.{AreThere, as_many, own_lives, own_holds, own_port, own_rank}
+use Rattle.nb_frames.proofs.OwnLemmas.{AreThere, as_many, own_lives, own_holds}
 use Rattle.nb_frames.proofs.OwnCallLemmas.{port_own, node_back}
-use Rattle.nb_nodes.specs.declared.load.Load.{Load}
 use Rattle.nb_nodes.specs.declared.obj.Obj.{Obj}
-use Rattle.nb_nodes.specs.Objects.{obj_nature, rank_of_obj, kind_of_obj, mark_of_obj}
+use Rattle.nb_nodes.specs.Objects.{obj_nature, rank_of_obj, mark_of_obj}
 use Rattle.nb_nodes.specs.Standing.{ObjStands}
-use Rattle.nb_opens.specs.AloneNotices.{alone_made}
 use Rattle.nb_opens.specs.Alones.{IsReady}
-use Rattle.nb_opens.specs.Notices.{tells}
-use Rattle.nb_opens.specs.Waiters.{IsOfKind}
-use Rattle.nb_opens.proofs.Making.{OneMade, one_made}
-use Rattle.nb_chains.specs.declared.chain.Chain.{Chain}
-use Rattle.nb_chains.specs.Chains.{AreChained, GrowsBy, IsFresh, chain_ids}
+use Rattle.nb_opens.proofs.Making.{OneMade}
+use Rattle.nb_chains.specs.Chains.{AreChained, GrowsBy, IsFresh}
 
 -- x is one of x alone, and only x is
 pub sole_in : (x : ℕ) → is_one_of (x ∷ []) x ≡ true

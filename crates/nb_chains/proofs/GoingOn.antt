@@ -1,5 +1,5 @@
 -- Calls on the objects of a chain, one after another.
-use Rattle.std.proofs.Common.{◌≡◌, ℕ, ◌≤◌, ◌∙◌, Bool, List, arith}
+use Rattle.std.proofs.Common.{ℕ, ◌∙◌, Bool, List, arith}
 use Rattle.nb_graph.specs.Whole.{Objects}
 use Rattle.nb_frames.specs.Frames.{is_one_of, KeepsObject, KeepsOthers}
 use Rattle.nb_nodes.specs.declared.obj.Obj.{Obj}

@@ -1,5 +1,5 @@
 -- The objects of a chain are let go.
-use Rattle.std.proofs.Common.{inl, inr, ◌≡◌, ℕ, ◌+◌, ◌-◌, ◌<◌, ◌≤◌, Bool, true, false, List, [], ◌∷◌, ◌++◌, length, Option, Some, None, is_some, nat_lt, refl, sym, ap, ◌∙◌, subst, arith}
+use Rattle.std.proofs.Common.{inl, inr, ◌≡◌, ℕ, ◌+◌, ◌<◌, ◌≤◌, Bool, true, false, List, [], ◌∷◌, length, Option, Some, None, is_some, nat_lt, refl, sym, ap, ◌∙◌, subst, arith}
 use Rattle.std.proofs.lemmas.Bool.{cases_eq, eq-eqb, ne_eqb, ltb-true, ltb-false, false≢true}
 use Rattle.nb_ledger.specs.declared.object.Object.{Object}
 use Rattle.nb_ledger.specs.declared.port.ObjId.{ObjId}
@@ -25,7 +25,7 @@ use Rattle.nb_nodes.specs.Objects.{obj_nature, rank_of_obj}
 use Rattle.nb_nodes.specs.Standing.{ObjStands}
 use Rattle.nb_opens.specs.AloneNotices.{alone_freed}
 use Rattle.nb_opens.specs.Alones.{IsShutLone}
-use Rattle.nb_opens.specs.Notices.{freed_notices, serial}
+use Rattle.nb_opens.specs.Notices.{freed_notices}
 use Rattle.nb_opens.specs.Pairs.{AreShut}
 use Rattle.nb_opens.proofs.Releasing.{LetsGo, lets_one_go, loose_shut, no_links, four}
 use Rattle.nb_chains.specs.declared.chain.Chain.{Chain}
@@ -178,8 +178,8 @@ module _ (g a h : Objects Obj) (m n o : Heard) (f t : ObjId) (noded : AreNoded r
         others = record {
           same_made = others_two.same_made ∙ others_one.same_made;
           others = λ y low far.
-          let z = apart_from y far in
-          keeps_both g a h y (others_one.others y low z.0) (others_two.others y (let e = others_one.same_made in omega (arith, low, e)) z.1);
+              let z = apart_from y far in
+              keeps_both g a h y (others_one.others y low z.0) (others_two.others y (let e = others_one.same_made in omega (arith, low, e)) z.1);
         };
         number = let i = goes_number g a m n f one j in let l = goes_number a h n o t two k in omega (arith, i, l);
         same_room = (goes a h n o t two k).room ∙ (goes g a m n f one j).room;

@@ -7,3 +7,4 @@ pub mod Plugging
 pub mod ChainsMade
 pub mod LettingGo
 pub mod Collecting
+pub mod Staying

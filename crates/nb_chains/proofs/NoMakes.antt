@@ -7,8 +7,8 @@ use Rattle.nb_frames.specs.Within.{AsksNoMake, MakesNone}
 use Rattle.nb_nodes.specs.declared.load.Load.{Load}
 use Rattle.nb_nodes.specs.declared.obj.Obj.{Obj}
 use Rattle.nb_nodes.specs.declared.obj.Obj.TheVariants as obj
-use Rattle.nb_nodes.specs.Conversations.{Conversation, Continues, RunsTo, begins as it_begins, receives, ticks, ends, rests, AsksOfIdle, PassesClose}
-use Rattle.nb_nodes.specs.Exchanges.{Service, Exchange, Exchanges, LeadsTo, is_begun, takes_message, takes_time, is_ended, stays_idle, ends_exchange}
+use Rattle.nb_nodes.specs.Conversations.{Conversation, Continues, RunsTo, begins as it_begins, receives, ticks, ends, rests, AsksOfIdle}
+use Rattle.nb_nodes.specs.Exchanges.{Service, Exchange, Exchanges, LeadsTo, is_begun, takes_message, takes_time, is_ended, stays_idle}
 use Rattle.nb_nodes.specs.Fetches.{EachOf, AsksOfFetch}
 use Rattle.nb_nodes.specs.Standing.{ObjStands}
 

@@ -1,5 +1,5 @@
 -- An object is made below one that waits, and plugged to it.
-use Rattle.std.proofs.Common.{inl, inr, ◌≡◌, ℕ, ◌+◌, ◌<◌, ◌≤◌, Bool, true, false, cond, eqb, List, [], ◌∷◌, length, Option, Some, None, refl, sym, ap, ◌∙◌, subst, arith, if◌then◌else◌}
+use Rattle.std.proofs.Common.{inl, inr, ◌≡◌, ℕ, ◌<◌, ◌≤◌, Bool, true, false, cond, eqb, List, [], ◌∷◌, length, refl, sym, ap, ◌∙◌, subst, arith}
 use Rattle.std.proofs.lemmas.Bool.{cases_eq, eq-eqb, ne_eqb, false≢true}
 use Rattle.std.proofs.lemmas.List.{append-nil}
 use Rattle.nb_ledger.specs.declared.port.Port.{Port}
@@ -19,10 +19,10 @@ use Rattle.nb_graph.specs.Went.{WentOne, all_of}
 use Rattle.nb_graph.specs.Whole.{Objects, port_at, node_at}
 use Rattle.nb_graph.proofs.Laws.{only_call}
 use Rattle.nb_graph.proofs.MarkLemmas.{mark_stays}
-use Rattle.nb_frames.specs.Frames.{is_one_of, graph_of, KeepsObject, KeepsOthers}
+use Rattle.nb_frames.specs.Frames.{is_one_of, graph_of, KeepsOthers}
 use Rattle.nb_frames.specs.Within.{AreLinkedWithin, LeadsWithin, MakesNone}
 use Rattle.nb_frames.proofs.FrameLemmas.{others_stay}
-use Rattle.nb_frames.proofs.OwnLemmas.{AreThere, own_lives, own_holds, own_port, own_rank}
+use Rattle.nb_frames.proofs.OwnLemmas.{AreThere, own_lives, own_holds}
 use Rattle.nb_frames.proofs.OwnCallLemmas.{port_own, node_back, rank_own}
 use Rattle.nb_nodes.specs.declared.load.Load.{Load}
 use Rattle.nb_nodes.specs.declared.obj.Obj.{Obj}

@@ -173,3 +173,12 @@ released_by x (Some t) = freed_notices x t.0
 
 abbrev pub released_notices : Chain → List Notice
 released_notices c = released_by c.top.0 c.below
+
+-- no object of the others is one of these
+abbrev pub AreOthers : List ℕ → List ℕ → Type 0
+AreOthers ids others = (x : ℕ) → is_one_of others x ≡ true → is_one_of ids x ≡ false
+
+-- these still are as they were, and their graph is the same
+pub record StaysChained (ids : List ℕ) (g h : Objects Obj) : Type 0 where
+  pub chained : AreChained h ids
+  pub same_graph : graph_of ids h ≡ graph_of ids g

@@ -1,7 +1,6 @@
 -- The kinds of opens, by the objects that they have: our own.
 use Rattle.std.specs.Prelude.{◌≡◌, ℕ, [], Option, Some, None}
 use Rattle.nb_nodes.specs.declared.obj.Obj.{Obj}
-use Rattle.nb_nodes.specs.Objects.{kind_of_obj}
 use Rattle.nb_nodes.specs.Standing.{ObjStands}
 use Rattle.nb_opens.specs.Pairs.{IsNewTftp}
 use Rattle.nb_chains.specs.declared.kind.ChainKind.{ChainKind}

@@ -7,7 +7,9 @@
 
 mod chain;
 mod kind;
+mod laws;
 mod making;
 
 pub use chain::Chain;
 pub use kind::ChainKind;
+pub use laws::other_chains_stay;

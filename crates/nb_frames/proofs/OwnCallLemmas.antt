@@ -1,15 +1,13 @@
 -- A call on some objects, in which none of them is made or freed, is one on the graph of these objects alone.
-use Rattle.std.proofs.Common.{inl, inr, ◌≡◌, ◌⊎◌, ℕ, ◌+◌, ◌≤◌, ◌==◌, ◌||◌, Bool, true, false, List, [], ◌∷◌, ◌++◌, length, append_assoc, Option, Some, None, refl, sym, ap, ◌∙◌, subst, arith}
+use Rattle.std.proofs.Common.{inl, inr, ◌≡◌, ◌⊎◌, ℕ, ◌+◌, ◌≤◌, ◌==◌, ◌||◌, Bool, true, false, List, [], ◌∷◌, ◌++◌, length, append_assoc, Some, None, refl, sym, ap, ◌∙◌, subst, arith}
 use Rattle.std.specs.List.{AllByRecursion}
-use Rattle.std.specs.Option.{option_map_or}
 use Rattle.std.proofs.lemmas.List.{append-nil}
 use Rattle.std.proofs.lemmas.Bool.{eq-eqb, false≢true}
-use Rattle.nb_ledger.specs.declared.object.Object.{Object}
 use Rattle.nb_ledger.specs.declared.port.Port.{Port}
 use Rattle.nb_ledger.specs.declared.port.PortState.TheVariants as port
 use Rattle.nb_ledger.specs.Flat.{Heard}
 use Rattle.nb_ledger.specs.GraphRun.{GraphRunOf}
-use Rattle.nb_ledger.specs.Ledger.{Ledger, found, object_lives, object_port, rank, port as port_in, run_state, open_count}
+use Rattle.nb_ledger.specs.Ledger.{Ledger, object_lives, rank, port as port_in, run_state, open_count}
 use Rattle.nb_graph.specs.Accounts.{Account, Balanced, JoinedEnds, joined, parted, Midway, account, rests}
 use Rattle.nb_graph.specs.Deeds.{Deed, Stage, events_of}
 use Rattle.nb_graph.specs.Follows.{UsesStack}

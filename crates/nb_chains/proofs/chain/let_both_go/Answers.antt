@@ -9,8 +9,11 @@ let_go-requires-2-clause-lives g c =
 
 pub let_go-requires-2-clause-held : goal.let_go-requires-2-clause-held
 let_go-requires-2-clause-held g c =
-    omega (arith, (two c.args.graph.now c.let_go.new.graph c.let_go.new.graph (g.O.Outside.events c.args.out.now) (g.O.Outside.events c.let_go.new.out) (g.O.Outside.events c.let_go.new.out) c.args.top c.args.below
-    c.requires.noded c.requires.chained c.requires.shut (c.let_go.ensures 0)).held)
+    omega (
+      arith,
+      (two c.args.graph.now c.let_go.new.graph c.let_go.new.graph (g.O.Outside.events c.args.out.now) (g.O.Outside.events c.let_go.new.out) (g.O.Outside.events c.let_go.new.out) c.args.top c.args.below
+          c.requires.noded c.requires.chained c.requires.shut (c.let_go.ensures 0)).held,
+    )
 
 pub returns-clause-released : goal.returns-clause-released
 returns-clause-released g c =

@@ -1,13 +1,7 @@
-use Rattle.std.proofs.Common.{◌≡◌, ◌+◌, ◌<◌, ◌^◌, ◌++◌, [], ◌∷◌, List, ℕ, length, length-append, refl, arith}
-use Rattle.nb_graph.specs.Deeds.{Offers}
-use Rattle.nb_graph.specs.Trace.{said}
-use Rattle.nb_graph.specs.Went.{WentOne}
-use Rattle.nb_graph.specs.Whole.{port_at}
+use Rattle.std.proofs.Common.{◌≡◌, ◌+◌, ◌<◌, ◌^◌, ◌++◌, List, ℕ, length, length-append, refl, arith}
 use Rattle.nb_nodes.specs.EchoExchanges.{ping_service}
 use Rattle.nb_nodes.specs.LeaseExchanges.{lease_service}
 use Rattle.nb_nodes.specs.LookupExchanges.{lookup_service}
-use Rattle.nb_nodes.specs.Objects.{obj_nature}
-use Rattle.nb_nodes.specs.Standing.{ObjStands}
 use Rattle.nb_opens.proofs.LoneCertain.{LookAsks, LeaseAsks, PingAsks}
 use Rattle.nb_opens.proofs.LoneStarts.{look_kind, lease_kind, ping_kind}
 use Rattle.nb_chains.proofs.ChainDoes.{offered_top, begins_two, begins_one}

@@ -1,4 +1,4 @@
-use Rattle.std.proofs.Common.{◌∙◌, ap}
+use Rattle.std.proofs.Common.{◌∙◌}
 use Rattle.nb_chains.proofs.ChainDoes.{top_in}
 use Rattle.nb_chains.proofs.Collecting.{collect_on, collects, still_shut}
 use Rattle.nb_chains.proofs.chain.Chain.collect.Goals as goal

@@ -1,4 +1,4 @@
-use Rattle.std.proofs.Common.{None, Option, subst}
+use Rattle.std.proofs.Common.{Option, subst}
 use Rattle.nb_nodes.specs.declared.obj.Obj.{Obj}
 use Rattle.nb_chains.specs.Kinds.{IsLowerOf}
 use Rattle.nb_chains.proofs.ChainsMade.{ready_so}

@@ -1,4 +1,4 @@
-use Rattle.std.proofs.Common.{Some, ◌∷◌, [], ℕ, subst}
+use Rattle.std.proofs.Common.{Some, ℕ, subst}
 use Rattle.nb_ledger.specs.Flat.{Given}
 use Rattle.nb_opens.specs.Notices.{completed_notices}
 use Rattle.nb_opens.specs.Pairs.{AreMade}
