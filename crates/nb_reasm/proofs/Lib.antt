@@ -10,3 +10,4 @@ pub mod PutLemmas
 pub mod StepLemmas
 pub mod AppendLemmas
 pub mod WindowLemmas
+pub mod FrontLemmas

@@ -1,5 +1,5 @@
 -- What a ring holds, place by place.
-use Rattle.std.specs.Prelude.{◌≡◌, ℕ, ◌+◌, ◌-◌, ◌*◌, ◌^◌, ◌<◌, ◌≤◌, ◌==◌, ◌&&◌, ◌||◌, Bool, true, Option, Some, None, vec_len, nat_lt, nat_le, if◌then◌else◌}
+use Rattle.std.specs.Prelude.{◌≡◌, ℕ, ◌+◌, ◌-◌, ◌*◌, ◌^◌, ◌<◌, ◌≤◌, ◌==◌, ◌&&◌, ◌||◌, Bool, true, min, Option, Some, None, vec_len, nat_lt, nat_le, if◌then◌else◌}
 use Rattle.nb_reasm.specs.Slots.{slot_mark, mark_of, wrapped_slot}
 use Rattle.nb_reasm.specs.Memories.{memory_size, memory_byte, IsWritten}
 use Rattle.nb_reasm.specs.declared.ring.Ring.{Ring}
@@ -55,3 +55,7 @@ pub record IsRunAt (r : Ring) (place to : ℕ) (run : Run) : Type 0 where
   pub within : place + run.len ≤ to
   pub piece : run.slot + run.len ≤ capacity r
   pub alike : (k : ℕ) → k < run.len → slot_mark r.marks.words.items (run.slot + k) ≡ mark_of run.marked
+
+-- how many bytes of the run lie before the last slot's end
+abbrev pub front_split : Ring → ℕ
+front_split r = min (r.next - r.base) (capacity r - r.start)

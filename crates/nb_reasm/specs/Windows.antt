@@ -1,5 +1,5 @@
 -- What a window of a stream holds: for each place a byte, or none.
-use Rattle.std.specs.Prelude.{◌≡◌, ℕ, zero, suc, ◌+◌, ◌-◌, ◌<◌, ◌≤◌, ◌&&◌, Bool, true, List, [], ◌∷◌, filter, Option, None, nat_lt, nat_le, slice_get, if◌then◌else◌}
+use Rattle.std.specs.Prelude.{◌≡◌, ℕ, zero, suc, ◌+◌, ◌-◌, ◌<◌, ◌≤◌, ◌&&◌, Bool, true, List, [], ◌∷◌, filter, Option, None, unwrap_or, nat_lt, nat_le, slice_get, if◌then◌else◌}
 use Rattle.std.specs.Option.{is_none, is_some}
 use Rattle.nb_streams.specs.Streams.{byte_at}
 use Rattle.nb_reasm.specs.declared.ring.Ring.{Ring}
@@ -51,3 +51,8 @@ window_pairs w pos bytes = filter (λ q. is_inside w q.0) (pairs_from pos bytes)
 -- from the base on, what is held is what a map by the first pair has
 abbrev pub HoldsPairs : HeldWindow → List (ℕ × ℕ) → Type 0
 HoldsPairs w pairs = (p : ℕ) → w.base ≤ p → w.at p ≡ byte_at p pairs
+
+-- what is held at so many places from one on, with 0 where nothing is
+abbrev pub bytes_from : HeldWindow → ℕ → ℕ → List ℕ
+bytes_from w p zero = []
+bytes_from w p (suc n) = unwrap_or (w.at p) 0 ∷ bytes_from w (p + 1) n

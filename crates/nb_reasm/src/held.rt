@@ -29,7 +29,7 @@ pub struct Held {
 }
 
 impl Held {
-    ghost use Rattle.nb_reasm.specs.HeldWindows.{window};
+    ghost use Rattle.nb_reasm.specs.HeldWindows.{window, front_first, front_second};
     ghost use Rattle.nb_reasm.specs.Windows.{window_byte, window_pairs, new_count, HoldsPairs, NextIsLeast};
 
     /// An empty window of so many places, from place 0 on. No later call takes memory.
@@ -70,6 +70,8 @@ impl Held {
             → (window self.now).at ((window self.now).base + k) ≡ Some (slice_index result.0.now k) }
         ensures second { (k : ℕ) → k < length result.1.now
             → (window self.now).at ((window self.now).base + (length result.0.now + k)) ≡ Some (slice_index result.1.now k) }
+        // Where it is cut is the window's.
+        ensures parts { (result.0.now ≡ front_first self.now) × (result.1.now ≡ front_second self.now) }
     {
         self.ring.front()
     }

@@ -1,6 +1,6 @@
 //! The memory of a ring: bytes in slots, written and lent by runs.
 
-ghost use Rattle.std.specs.Prelude.{◌≡◌, ℕ, ◌+◌, ◌^◌, ◌<◌, ◌≤◌, ◌⊎◌, length, slice_index, IfOk};
+ghost use Rattle.std.specs.Prelude.{◌≡◌, ℕ, ◌+◌, ◌-◌, ◌^◌, ◌<◌, ◌≤◌, ◌⊎◌, min, length, slice_index, IfOk};
 ghost use Rattle.nb_reasm.specs.Slots.{wrapped_slot};
 
 use nb_terms::NoMemory;
@@ -88,6 +88,7 @@ impl Memory {
         requires fits { len ≤ memory_size self.now }
         requires written { (k : ℕ) → k < len → IsWritten self.now (wrapped_slot (memory_size self.now) (slot + k)) }
         ensures len { length result.0.now + length result.1.now ≡ len }
+        ensures split { length result.0.now ≡ min len (memory_size self.now - slot) }
         ensures first { (k : ℕ) → k < length result.0.now
             → slice_index result.0.now k ≡ memory_byte self.now (wrapped_slot (memory_size self.now) (slot + k)) }
         ensures second { (k : ℕ) → k < length result.1.now

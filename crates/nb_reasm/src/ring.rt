@@ -3,7 +3,7 @@
 ghost use Rattle.std.specs.Prelude.{◌≡◌, ℕ, Option, Some, None, ◌+◌, ◌-◌, ◌^◌, ◌<◌, ◌≤◌, ◌⊎◌, min, max, length, slice_index, IfOk};
 ghost use Rattle.std.specs.Option.{option_or};
 ghost use Rattle.nb_reasm.specs.Slots.{slot_mark};
-ghost use Rattle.nb_reasm.specs.Rings.{IsRing, IsJoinable, IsRunAt, SameWindow, capacity, slot_of, held_byte};
+ghost use Rattle.nb_reasm.specs.Rings.{IsRing, IsJoinable, IsRunAt, SameWindow, capacity, slot_of, held_byte, front_split};
 ghost use Rattle.nb_reasm.specs.Windows.{window_of, window_byte, new_count, is_new, places_count};
 
 use crate::marks::Marks;
@@ -254,6 +254,7 @@ impl Ring {
     pub(crate) fn front(&self) -> (&[u8], &[u8])
         requires { IsRing self.now }
         ensures len { length result.0.now + length result.1.now ≡ self.now.next - self.now.base }
+        ensures split { length result.0.now ≡ front_split self.now }
         ensures first { (k : ℕ) → k < length result.0.now
             → held_byte self.now (self.now.base + k) ≡ Some (slice_index result.0.now k) }
         ensures second { (k : ℕ) → k < length result.1.now
