@@ -5,7 +5,7 @@ ghost use Rattle.nb_ledger.specs.Flat.{unknown};
 ghost use Rattle.nb_ledger.specs.Ledger.{object_lives, rank};
 
 use crate::{Knot, Taker};
-use nb_conns::{ConnAsk, Tcp};
+use nb_conns::ConnAsk;
 use nb_graph::{Graph, Msg, Node, ObjId, Outside, Port};
 use nb_tcpseg::{ACK, FIN, PSH, RST, SYN, Segment};
 use nb_terms::{Cause, Event};
@@ -88,8 +88,8 @@ fn opened(
         messages: 0,
     };
     graph.make(Knot::Taker(user), tape).ok().ok_or("full")?;
-    let conn = Box::new(rt.alloc(), Tcp::new(rt.alloc())?)?;
-    graph.make(Knot::Tcp(conn), tape).ok().ok_or("full")?;
+    let conn = Knot::tcp(rt.alloc())?;
+    graph.make(conn, tape).ok().ok_or("full")?;
     join(&mut graph, tape)?;
     let ask = ConnAsk {
         peer: PEER,

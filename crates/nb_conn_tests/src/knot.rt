@@ -1,12 +1,13 @@
 //! A graph's nodes for the tests: connections, and users that take a few bytes at a time.
 
-ghost use Rattle.std.specs.Prelude.{◌≡◌, ◌+◌, ◌<◌, ◌≤◌, [], length, None, OnOk, refl};
+ghost use Rattle.std.specs.Prelude.{◌≡◌, ◌+◌, ◌<◌, ◌≤◌, [], length, None, IfOk, OnOk, refl};
 ghost use Rattle.nb_graph.specs.Effects.{IsNothing};
 ghost use Rattle.nb_conn_tests.specs.Knots.{carried_carrier, carried_first, carried_second, rank_of_knot, kind_of_knot, KnotStands, TakesFew, HandsDown};
 
 use nb_conns::{CarriesConn, ConnLoad, Tcp};
 use nb_graph::{Emit, Fx, Msg, Node, Parts};
 use nb_terms::{Cause, NoMemory};
+use std::alloc::Global;
 
 /// What the messages of these nodes carry.
 #[derive(Drop)]
@@ -105,6 +106,17 @@ fn first_part<'m>(msg: &Msg<'m>, most: u8) -> &'m [u8]
 pub enum Knot {
     Taker(Taker),
     Tcp(Box<Tcp>),
+}
+
+impl Knot {
+    /// A connection that waits for what to ask for.
+    pub fn tcp(alloc: Global) -> Result<Knot, NoMemory>
+        ensures stands { IfOk result (λ k. KnotStands k []) }
+    {
+        let waiting = Tcp::new(alloc)?;
+        let tcp = Box::new(alloc, waiting)?;
+        Ok(Knot::Tcp(tcp))
+    }
 }
 
 impl Node for Knot {
