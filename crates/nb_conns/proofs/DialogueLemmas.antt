@@ -10,18 +10,17 @@ use Rattle.nb_graph.specs.declared.effects.Fx.{Fx}
 use Rattle.nb_graph.specs.Effects.{IsNothing, IsDown, IsUp, AreCloses}
 use Rattle.nb_ledger.specs.declared.message.Msg.{Msg}
 use Rattle.nb_graph.specs.Trace.{Said, said, NodeEntry, up, down, closed, time, regain, IsSettled}
-use Rattle.nb_conns.specs.declared.conn_ask.ConnAsk.{ConnAsk}
 use Rattle.nb_conns.specs.declared.conn_load.Lent.{Lent}
 use Rattle.nb_conns.specs.declared.stage.ConnStage.{ConnStage}
 use Rattle.nb_conns.specs.declared.stage.ConnStage.TheVariants.{Waiting, Running, Over}
 use Rattle.nb_conns.specs.declared.stage.Running.{Running as Connected}
-use Rattle.nb_conns.specs.declared.stream_tag.StreamTag.TheVariants.{Begin, Send}
+use Rattle.nb_conns.specs.declared.stream_tag.StreamTag.TheVariants.{Begin}
 use Rattle.nb_conns.specs.declared.tcp.Tcp.{Tcp}
 use Rattle.nb_conns.specs.StreamTags.{stream_tag_number}
 use Rattle.nb_conns.specs.ConnAsks.{conn_ask_in}
 use Rattle.nb_conns.specs.ConnLoads.{Carrier, window_of_conn}
 use Rattle.nb_conns.specs.ConnEffects.{SaysNothing, ConnWithin, TookAll}
-use Rattle.nb_conns.specs.Dialogues.{Dialogue, unopened, talking, closed_off, given_up, is_talking, is_live, is_home, at_close, comes_from, asks_below, is_window, is_quiet, is_cut, AsksIdly, HandsOnClose, Converses, ends_short, rests_still, ConversesTo, IsConnAt, before_asked, while_talking, once_closed, never_asked, TcpStands, CarriesOn, CarriesOnHome, IsUnopened, stage_takes, stage_asks, stage_is_over, stage_is_waiting}
+use Rattle.nb_conns.specs.Dialogues.{Dialogue, unopened, is_talking, is_live, at_close, comes_from, is_window, is_quiet, is_cut, AsksIdly, HandsOnClose, Converses, ends_short, rests_still, ConversesTo, IsConnAt, before_asked, while_talking, once_closed, never_asked, TcpStands, CarriesOn, CarriesOnHome, IsUnopened, stage_takes, stage_asks, stage_is_over}
 use Rattle.nb_conns.proofs.WindowLemmas.{home_settled}
 
 -- an entry that calls nothing

@@ -1,5 +1,5 @@
 -- What a call of a connection asks for lies within what an entry may ask for.
-use Rattle.std.proofs.Common.{◌≡◌, ℕ, zero, suc, ◌≤◌, ◌++◌, List, [], ◌∷◌, Option, Some, None, Bool, false, map, refl, ap, sym, ◌∙◌, subst, arith, append-nil}
+use Rattle.std.proofs.Common.{◌≡◌, ℕ, zero, suc, ◌++◌, List, [], ◌∷◌, Option, Some, None, Bool, false, map, refl, ap, sym, ◌∙◌, subst, arith}
 use Rattle.std.proofs.lemmas.Option.{none-some}
 use Rattle.std.proofs.lemmas.List.Concat.{flat_map-append}
 use Rattle.std.specs.Prelude.{IfSome}
@@ -9,11 +9,11 @@ use Rattle.nb_terms.specs.declared.cause.Cause.{Cause}
 use Rattle.nb_graph.specs.declared.effects.Emit.{Emit}
 use Rattle.nb_graph.specs.declared.effects.Few.{Few}
 use Rattle.nb_graph.specs.declared.effects.Fx.{Fx}
-use Rattle.nb_graph.specs.Trace.{Said, silence, loads, lent, in_list, carried}
-use Rattle.nb_graph.specs.Effects.{AreDowns, AreUps, AreCloses, IsUp}
+use Rattle.nb_graph.specs.Trace.{Said, silence, loads, in_list, carried}
+use Rattle.nb_graph.specs.Effects.{AreUps, AreCloses, IsUp}
 use Rattle.nb_conns.specs.declared.conn_load.Lent.{Lent}
 use Rattle.nb_conns.specs.ConnLoads.{Carrier, window_of_conn, windows_in}
-use Rattle.nb_conns.specs.ConnEffects.{SendsDown, GivesUp, ConnEffects, ConnWithin, SaysNothing, few_say, emit_says, emits_of, ups_for, closes_for, GoesAbove}
+use Rattle.nb_conns.specs.ConnEffects.{SendsDown, GivesUp, ConnEffects, ConnWithin, few_say, emit_says, emits_of, ups_for, closes_for, GoesAbove}
 
 both_within : (cause : Cause) → AreCloses ((0, cause) ∷ (1, cause) ∷ [])
 both_within cause zero d h = omega arith

@@ -1,13 +1,12 @@
 -- What a connection stands for once it took a segment and lent what waits.
-use Rattle.std.proofs.Common.{◌≡◌, ℕ, zero, suc, ◌+◌, ◌-◌, ◌<◌, ◌≤◌, ◌==◌, ◌&&◌, ◌||◌, Bool, true, false, not, cond, List, [], ◌∷◌, ◌++◌, length, take, Option, Some, None, is_some, refl, ap, sym, ◌∙◌, subst, arith, append-nil, if◌then◌else◌}
+use Rattle.std.proofs.Common.{◌≡◌, ℕ, zero, suc, ◌+◌, ◌-◌, ◌≤◌, ◌==◌, ◌&&◌, ◌||◌, Bool, true, false, not, List, [], ◌∷◌, ◌++◌, length, take, Option, Some, None, is_some, refl, ap, sym, ◌∙◌, subst, arith, if◌then◌else◌}
 use Rattle.std.specs.Prelude.{unwrap_or, MatchBool, IfSome}
 use Rattle.std.proofs.lemmas.Bool.{false≢true}
-use Rattle.std.proofs.lemmas.Option.{none-some, same_Some}
 use Rattle.nb_terms.specs.declared.acts.Acts.{Acts}
 use Rattle.nb_reasm.specs.declared.held.Held.{Held}
-use Rattle.nb_reasm.specs.HeldWindows.{window, front_first, front_second, front_seam}
+use Rattle.nb_reasm.specs.HeldWindows.{window, front_first, front_second}
 use Rattle.nb_reasm.specs.Windows.{HeldWindow, bytes_from}
-use Rattle.nb_reasm.proofs.FrontLemmas.{bytes_are, bytes_from-length, front_whole}
+use Rattle.nb_reasm.proofs.FrontLemmas.{bytes_are, front_whole}
 use Rattle.nb_streams.specs.Streams.{has_ended, next, grown}
 use Rattle.nb_streams.specs.Flows.{segment_came, ConnPhase, held_after, held_in, conn_phase, after_tcp_call}
 use Rattle.nb_streams.proofs.StreamLaws.{either}
@@ -16,10 +15,10 @@ use Rattle.nb_tcp.specs.declared.link.Link.{Link}
 use Rattle.nb_tcp.specs.declared.conn.Conn.{Conn}
 use Rattle.nb_tcp.specs.Numbers.{upto_stop}
 use Rattle.nb_tcp.specs.Replies.{only_ready}
-use Rattle.nb_tcp.specs.ConnHistory.{calls_in, lends_out, ConnEntry, conn_entry, tcp_calls, advanced_to, waits_after, is_waiting_after, lent_after, is_lent_after, has_ended_after, ends_by}
+use Rattle.nb_tcp.specs.ConnHistory.{calls_in, lends_out, ConnEntry, conn_entry, tcp_calls, advanced_to, is_waiting_after, has_ended_after, ends_by}
 use Rattle.nb_tcp.specs.ConnPromises.{AsksAsPromised, ConnKeeps}
 use Rattle.nb_tcp.specs.ConnStanding.{WindowStands, GoesUp, ConnStands, HasDelivered, IsLent, has_window}
-use Rattle.nb_tcp.proofs.ConnHistoryLemmas.{calls-append, advanced-append, waiting-append, lent-append, ended-append}
+use Rattle.nb_tcp.proofs.ConnHistoryLemmas.{advanced-append, waiting-append, lent-append, ended-append}
 use Rattle.nb_tcp.proofs.ConnLaws.{each_last, held_stays}
 use Rattle.nb_conns.specs.declared.conn_ask.ConnAsk.{ConnAsk}
 use Rattle.nb_conns.specs.declared.conn_load.Lent.{Lent}

@@ -1,5 +1,5 @@
 -- What each call of a connection's core makes of its dialogue.
-use Rattle.std.proofs.Common.{◌≡◌, ℕ, ◌++◌, ◌||◌, ◌==◌, Bool, true, false, List, [], ◌∷◌, length, min, Option, Some, None, refl, ap, sym, ◌∙◌, subst, if◌then◌else◌}
+use Rattle.std.proofs.Common.{◌≡◌, ℕ, ◌++◌, ◌||◌, Bool, true, false, List, [], ◌∷◌, length, min, Option, Some, None, refl, ap, sym, ◌∙◌, subst, if◌then◌else◌}
 use Rattle.std.proofs.lemmas.Bool.{false≢true, eqb-true}
 use Rattle.std.proofs.lemmas.Option.{none-some, same_Some}
 use Rattle.std.specs.Option.{is_some}
@@ -17,7 +17,7 @@ use Rattle.nb_tcpseg.specs.declared.segment.Segment.{Segment}
 use Rattle.nb_tcp.specs.declared.link.Link.{Link}
 use Rattle.nb_tcp.specs.declared.conn.Conn.{Conn}
 use Rattle.nb_tcp.specs.Replies.{only_ready}
-use Rattle.nb_tcp.specs.ConnHistory.{ConnCall, calls_in, comes_back, closes_from_above, ConnEntry, conn_entry, tcp_calls, waits_after, is_waiting_after, lent_after, is_lent_after, has_ended_after, ends_by}
+use Rattle.nb_tcp.specs.ConnHistory.{calls_in, comes_back, closes_from_above, ConnEntry, conn_entry, tcp_calls, waits_after, is_waiting_after, is_lent_after}
 use Rattle.nb_tcp.specs.ConnPromises.{starting_acts}
 use Rattle.nb_tcp.specs.ConnStanding.{WindowStands, ConnStands, HasDelivered, KeepsWindow}
 use Rattle.nb_tcp.proofs.ConnHistoryLemmas.{waiting-append, lent-append}
@@ -33,7 +33,7 @@ use Rattle.nb_conns.specs.StreamTags.{stream_tag_number}
 use Rattle.nb_conns.specs.ConnAsks.{conn_ask_in, link_of}
 use Rattle.nb_conns.specs.ConnLoads.{Carrier, window_of_conn}
 use Rattle.nb_conns.specs.ConnEffects.{ConnEffects, SaysNothing, TookAll, ups_for, closes_for}
-use Rattle.nb_conns.specs.Dialogues.{Dialogue, unopened, talking, closed_off, given_up, is_home, talked_on, comes_from, with_segment_call, with_lending, comes_to_end, Converses, is_asked, takes_segment, takes_none, takes_text, takes_tick, has_back, is_closed, rests_still, ConversesTo, IsOut, TalksSo, IsConnAt, before_asked, while_talking, once_closed, never_asked, TcpStands, CarriesOn, CarriesOnHome, TakesHere, TakesBack, ReturnsTo, CallsConn, TookSegment, lent_out, stage_takes, stage_asks, stage_is_waiting}
+use Rattle.nb_conns.specs.Dialogues.{Dialogue, unopened, talking, closed_off, given_up, is_home, talked_on, comes_from, with_segment_call, with_lending, Converses, is_asked, takes_segment, takes_none, takes_text, takes_tick, has_back, is_closed, rests_still, ConversesTo, IsOut, TalksSo, IsConnAt, before_asked, while_talking, once_closed, never_asked, TcpStands, CarriesOn, CarriesOnHome, TakesHere, TakesBack, ReturnsTo, CallsConn, TookSegment, lent_out, stage_asks}
 use Rattle.nb_conns.proofs.WindowLemmas.{lent_one}
 use Rattle.nb_conns.proofs.TakenLemmas.{ended_then}
 use Rattle.nb_conns.proofs.DialogueLemmas.{rests_on, stands_on, runs_more, quiet_other}

@@ -7,7 +7,7 @@ use Rattle.nb_graph.specs.declared.effects.Fx.{Fx}
 use Rattle.nb_graph.specs.Trace.{Said, NodeEntry, up, down, closed, time, regain, silence, in_list}
 use Rattle.nb_reasm.specs.declared.held.Held.{Held}
 use Rattle.nb_reasm.specs.HeldWindows.{window}
-use Rattle.nb_streams.specs.Segments.{Incoming, Arrival}
+use Rattle.nb_streams.specs.Segments.{Arrival}
 use Rattle.nb_streams.specs.Streams.{has_ended}
 use Rattle.nb_streams.specs.Flows.{segment_came, time_came, text_came, held_after}
 use Rattle.nb_tcpseg.specs.SegmentText.{SegmentParts, IsSegment}
@@ -19,8 +19,6 @@ use Rattle.nb_tcp.specs.ConnHistory.{ConnCall, calls_in, lends_out, comes_back, 
 use Rattle.nb_tcp.specs.ConnPromises.{starting_acts, ConnKeeps}
 use Rattle.nb_tcp.specs.ConnStanding.{WindowStands, GoesUp, ConnStands, HasDelivered, IsLent, has_window}
 use Rattle.nb_conns.specs.declared.conn_ask.ConnAsk.{ConnAsk}
-use Rattle.nb_conns.specs.declared.conn_load.ConnLoad.{ConnLoad}
-use Rattle.nb_conns.specs.declared.conn_load.ConnLoad.TheVariants.{Segments, Window}
 use Rattle.nb_conns.specs.declared.conn_load.Lent.{Lent}
 use Rattle.nb_conns.specs.declared.stage.ConnStage.{ConnStage}
 use Rattle.nb_conns.specs.declared.stage.ConnStage.TheVariants.{Waiting, Running, Over}
