@@ -1,4 +1,4 @@
--- The command's open has ended: what the history says of it, and how what it heard is read.
+-- The command's open has ended: what the history says of it, and how what it received is read.
 use Rattle.std.proofs.Common.{◌≡◌, ℕ, ◌-◌, true, List, [], ◌∷◌, ◌++◌, map, Some, refl, ◌∙◌, ap}
 use Rattle.std.specs.List.{flat_map}
 use Rattle.std.proofs.lemmas.List.{map-append}

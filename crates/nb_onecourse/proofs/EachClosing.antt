@@ -6,8 +6,9 @@ use Rattle.nb_machine.specs.Lives.{close}
 use Rattle.nb_machine.specs.States.{State}
 use Rattle.nb_machine.specs.Closings.{AllClose, Shuts}
 use Rattle.nb_machine.specs.Courses.{Standing, ready, running, waiting, reaching, yielded, handing, left, handed_off, stopped, Progress, Course}
+use Rattle.nb_onecourse.specs.Answers.{AreUnended, StandsUnended}
 use Rattle.nb_onecourse.proofs.EachTakes.{all_take_one}
-use Rattle.nb_onecourse.proofs.Unended.{AreUnended, StandsUnended, course_unended}
+use Rattle.nb_onecourse.proofs.Unended.{course_unended}
 
 close_one : (s : State) (put put' : List Out) → AreUnended s.live → AllClose s put → AllClose s put' → put ≡ put'
 close_one s put put' u (over, all) (over', all') = (all_take_one s.devices (close stopped_cause) s.live put put' [] [] over over' u all all').records

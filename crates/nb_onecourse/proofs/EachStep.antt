@@ -13,9 +13,9 @@ use Rattle.nb_machine.specs.Takings.{Over, AllTake}
 use Rattle.nb_machine.specs.Network.{Network}
 use Rattle.nb_machine.specs.Scripts.{Waiting, waiting_anew, Answer, answer_in, Upshot, concludes, settles, goes_onward, upshot_records, concluded_by}
 use Rattle.nb_machine.specs.Courses.{Standing, ready, running, waiting, reaching, yielded, handing, left, handed_off, stopped, Progress, stands, ConclusionLeads, LeadsTo, StepBegins, runs, refuses, waits_on, is_answered, switches_off, resumes, goes_off}
+use Rattle.nb_onecourse.specs.Answers.{AreUnended, StandsUnended}
 use Rattle.nb_onecourse.proofs.EachTakes.{all_take_one}
 use Rattle.nb_onecourse.proofs.EachRecord.{network_one, network_not_off, network_unended}
-use Rattle.nb_onecourse.proofs.Unended.{AreUnended, StandsUnended}
 use Rattle.nb_onecourse.proofs.Nexts.{still, what_next}
 use Rattle.nb_onecourse.proofs.OneNext.{SameMove}
 

@@ -2,9 +2,10 @@
 use Rattle.std.proofs.Common.{◌≡◌, List, [], ◌∷◌, ◌++◌, refl, sym, ◌∙◌, ap, subst, append_assoc, append-nil}
 use Rattle.nb_defs.specs.Records.{In, Out}
 use Rattle.nb_machine.specs.Courses.{Progress, nowhere, Course, begins, uses, goes_on, StepBegins, Proceeds}
+use Rattle.nb_onecourse.specs.Answers.{StandsUnended}
 use Rattle.nb_onecourse.specs.Rests.{HasComeToRest, SameCourse}
 use Rattle.nb_onecourse.proofs.Ends.{snoc_same, snoc_some}
-use Rattle.nb_onecourse.proofs.Unended.{StandsUnended, course_unended, begins_unended, proceeds_unended}
+use Rattle.nb_onecourse.proofs.Unended.{course_unended, begins_unended, proceeds_unended}
 use Rattle.nb_onecourse.proofs.Nexts.{still, what_next, rest_still}
 use Rattle.nb_onecourse.proofs.OneNext.{proceeds_one, still_proceeds}
 use Rattle.nb_onecourse.proofs.EachStep.{begins_one, begins_still}

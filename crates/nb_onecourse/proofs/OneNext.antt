@@ -13,8 +13,9 @@ use Rattle.nb_machine.specs.States.{State}
 use Rattle.nb_machine.specs.Takings.{Over, AllTake}
 use Rattle.nb_machine.specs.Scripts.{Doing, ends, opens, goes_to, waits_until, shuts, doing, live_onward}
 use Rattle.nb_machine.specs.Courses.{down_cause, Standing, ready, running, waiting, reaching, yielded, handing, left, handed_off, stopped, Progress, stands, Proceeds, passes, is_left, yields, does, closes_device, leaves, jumps, finds_no_label, falls_asleep, opens_one, finds_no_route, opens_onward, finds_no_way, opens_no_more, hands, has_handed}
+use Rattle.nb_onecourse.specs.Answers.{AreUnended, StandsUnended}
 use Rattle.nb_onecourse.proofs.EachTakes.{all_take_one}
-use Rattle.nb_onecourse.proofs.Unended.{AreUnended, StandsUnended, doing_leaves}
+use Rattle.nb_onecourse.proofs.Unended.{doing_leaves}
 use Rattle.nb_onecourse.proofs.Nexts.{Next, still, puts, shuts_all, next_ended, next_route, next_opened, next_label, next_doing, next_begun, next_coming, next_way, next_link, next_onward, next_handed, what_next}
 
 -- these records and this place are what is next

@@ -11,25 +11,10 @@ use Rattle.nb_machine.specs.Running.{Running, anew}
 use Rattle.nb_machine.specs.Lives.{Live}
 use Rattle.nb_machine.specs.States.{State, with_settings}
 use Rattle.nb_machine.specs.Scripts.{Doing, ends, opens, goes_to, waits_until, shuts, doing, doing_by, live_for, live_onward, Upshot, concludes, settles, goes_onward, concluded_by}
-use Rattle.nb_machine.specs.Courses.{Standing, ready, running, waiting, reaching, yielded, handing, left, handed_off, stopped, Progress, ConclusionLeads, LeadsTo, StepBegins, runs, refuses, waits_on, is_answered, switches_off, resumes, goes_off, Proceeds, passes, is_left, yields, does, closes_device, leaves, jumps, finds_no_label, falls_asleep, opens_one, finds_no_route, opens_onward, finds_no_way, opens_no_more, hands, has_handed, Course, begins, uses, goes_on}
-use Rattle.nb_onecourse.specs.Answers.{PutsNoEnd, IsUnended}
+use Rattle.nb_machine.specs.Courses.{Standing, Progress, ConclusionLeads, LeadsTo, StepBegins, runs, refuses, waits_on, is_answered, switches_off, resumes, goes_off, Proceeds, passes, is_left, yields, does, closes_device, leaves, jumps, finds_no_label, falls_asleep, opens_one, finds_no_route, opens_onward, finds_no_way, opens_no_more, hands, has_handed, Course, begins, uses, goes_on}
+use Rattle.nb_onecourse.specs.Answers.{PutsNoEnd, IsUnended, AreUnended, StandsUnended}
 use Rattle.nb_onecourse.proofs.Ends.{all_snoc}
 use Rattle.nb_onecourse.proofs.EachRecord.{network_unended}
-
-abbrev pub AreUnended : List Live → Type 0
-AreUnended live = AllByRecursion IsUnended live
-
--- so stands every open that lives
-abbrev pub StandsUnended : Standing → Type 0
-StandsUnended ready = Unit {0}
-StandsUnended (running s inner outer) = AreUnended s.live
-StandsUnended (waiting s w) = AreUnended s.live
-StandsUnended (reaching s inner outer next) = AreUnended s.live
-StandsUnended (yielded s inner outer) = AreUnended s.live
-StandsUnended (handing s rest) = AreUnended s.live
-StandsUnended (left s outer cause) = AreUnended s.live
-StandsUnended (handed_off s) = AreUnended s.live
-StandsUnended (stopped s) = AreUnended s.live
 
 -- what a command comes to leaves the opens that live, and one that it opens has exchanged nothing
 abbrev Leaves : List Live → Doing → Type 0

@@ -6,8 +6,13 @@ ghost use Rattle.nb_stack.specs.Client.{Client};
 ghost use Rattle.nb_machine.specs.Lives.{Live, OpenInput};
 ghost use Rattle.nb_machine.specs.Closings.{Shuts};
 ghost use Rattle.nb_machine.specs.Courses.{Course, Progress};
-ghost use Rattle.nb_onecourse.specs.Answers.{IsUnended, HasOneAnswer};
+ghost use Rattle.nb_onecourse.specs.Answers.{IsUnended, StandsUnended, HasOneAnswer};
 ghost use Rattle.nb_onecourse.specs.Rests.{HasComeToRest, SameCourse};
+
+/// No open that lives where a course stands has put its end.
+pub fn opens_that_live_have_not_ended()
+    ensures { (ins : List In) (outs : List Out) (p : Progress) → Course ins outs p → StandsUnended p.standing }
+{}
 
 /// An open none of whose exchanges has ended it has one answer to what comes to it over a client.
 pub fn opens_have_one_answer()

@@ -4,4 +4,7 @@
 
 mod laws;
 
-pub use laws::{courses_have_one_closing, opens_have_one_answer, records_have_one_course};
+pub use laws::{
+    courses_have_one_closing, opens_have_one_answer, opens_that_live_have_not_ended,
+    records_have_one_course,
+};

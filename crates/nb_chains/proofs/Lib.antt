@@ -1,0 +1,10 @@
+pub mod NoMakes
+pub mod ChainCalls
+pub mod ChainDoes
+pub mod GoingOn
+pub mod FreshOnes
+pub mod Plugging
+pub mod ChainsMade
+pub mod LettingGo
+pub mod Collecting
+pub mod Staying

@@ -1,0 +1,239 @@
+ghost use Rattle.std.specs.Prelude.{◌≡◌, ◌+◌, ◌<◌, ◌≤◌, ◌^◌, ◌++◌, ◌∷◌, [], ℕ, List, Option, Some, true, length};
+ghost use Rattle.nb_chains.specs.Chains.{AreChained, BeginsOne, BeginsTwo, CallsTwo, ClosesSole, ClosesTwo};
+ghost use Rattle.nb_chains.specs.Chains.{GoesOn, HearsOne, IsReleased, IsShutChain, TicksOne, chain_ids, last_serial};
+ghost use Rattle.nb_chains.specs.Chains.{own_graph, released_notices, source_for};
+ghost use Rattle.nb_frames.specs.Frames.{graph_of};
+ghost use Rattle.nb_graph.specs.Deeds.{Wants};
+ghost use Rattle.nb_graph.specs.Noded.{AreNoded};
+ghost use Rattle.nb_graph.specs.Went.{WentOne};
+ghost use Rattle.nb_ledger.specs.Flat.{Given};
+ghost use Rattle.nb_ledger.specs.Ledger.{holds, object_lives};
+ghost use Rattle.nb_ledger.specs.declared.event.GraphEvent.TheVariants.{LetGo};
+ghost use Rattle.nb_nodes.specs.Objects.{obj_nature, rank_of_obj};
+ghost use Rattle.nb_nodes.specs.Standing.{ObjStands};
+ghost use Rattle.nb_opens.specs.Notices.{freed_notices};
+ghost use Rattle.nb_opens.specs.Pairs.{AreShut, HasEnded, body_in};
+ghost use Rattle.nb_ledger.specs.declared.port.ObjId.{ObjId as TheObjId};
+ghost use Rattle.nb_graph.specs.Whole.{port_at};
+ghost use Rattle.nb_ledger.specs.declared.event.Way.TheVariants as way;
+ghost use Rattle.nb_nodes.specs.EchoExchanges.{ping_service};
+ghost use Rattle.nb_nodes.specs.LeaseExchanges.{lease_service};
+ghost use Rattle.nb_nodes.specs.LookupExchanges.{lookup_service};
+ghost use Rattle.nb_opens.specs.Alones.{alone_number, arrival_said};
+ghost use Rattle.nb_opens.specs.declared.alone.AloneKind.TheVariants as kind;
+ghost use Rattle.nb_tftp.specs.History.{came, ticked};
+ghost use Rattle.nb_tftp.specs.Received.{received};
+
+use nb_graph::{Graph, Msg, ObjId, Outside, Port};
+use nb_image::Body;
+use nb_nodes::{ABOVE, BELOW, Load, Obj, Tag};
+use nb_opens::Arrival;
+use nb_terms::Cause;
+use nb_wire::Ip4;
+
+/// The objects of an open on a graph, the top one first: one that stands alone, or one with another plugged below it. The
+/// user is above the top one's slot 0, the network below the last one's slot 1.
+#[derive(Clone, Copy, Debug, PartialEq, Eq)]
+pub struct Chain {
+    pub top: ObjId,
+    pub below: Option<ObjId>,
+}
+
+impl Chain {
+    /// The user begins the open in the record `rec`, at the time `now` in milliseconds, by these bytes in two parts.
+    pub fn begin<O: Outside>(
+        self,
+        graph: &mut Graph<Obj>,
+        rec: u32,
+        first: &[u8],
+        second: &[u8],
+        now: u64,
+        out: &mut O,
+    )
+        requires chained { AreChained graph.old (chain_ids self) }
+        requires short { length first.now + length second.now < 2 ^ 32 }
+        ensures on { GoesOn (chain_ids self) graph.old graph.new }
+        ensures file { BeginsTwo self graph.old graph.new (first.now ++ second.now) now rec (O.events out.old)
+            (O.events out.new) }
+        ensures lookup { BeginsOne lookup_service (alone_number kind.Resolver) self graph.old graph.new
+            (first.now ++ second.now) now rec (O.events out.old) (O.events out.new) }
+        ensures lease { BeginsOne lease_service (alone_number kind.Dhcp) self graph.old graph.new
+            (first.now ++ second.now) now rec (O.events out.old) (O.events out.new) }
+        ensures ping { BeginsOne ping_service (alone_number kind.Ping) self graph.old graph.new
+            (first.now ++ second.now) now rec (O.events out.old) (O.events out.new) }
+    {
+        let msg = Msg {
+            tag: u8::from(Tag::Begin),
+            rec,
+            a: 0,
+            b: 0,
+            first,
+            second,
+        };
+        graph.has_nodes();
+        let _reach = graph.down(self.user(), &msg, now, out);
+        graph.has_nodes();
+    }
+
+    /// A datagram or an echo reply comes in the record `rec`, at the time `now` in milliseconds.
+    pub fn message<O: Outside>(
+        self,
+        graph: &mut Graph<Obj>,
+        rec: u32,
+        arrival: &Arrival<'_>,
+        now: u64,
+        out: &mut O,
+    )
+        requires chained { AreChained graph.old (chain_ids self) }
+        requires short { length arrival.now.body.now ≤ 65535 }
+        ensures on { GoesOn (chain_ids self) graph.old graph.new }
+        ensures file { CallsTwo self graph.old graph.new (λ t. port_at t 1) way.Up rec
+            (came (received rec arrival.now.port arrival.now.body.now) now) (O.events out.old) (O.events out.new) }
+        ensures one { HearsOne self graph.old graph.new (arrival_said rec arrival.now) now (O.events out.old)
+            (O.events out.new) }
+    {
+        let msg = Msg {
+            tag: u8::from(Tag::Datagram),
+            rec,
+            a: u32::from(arrival.port),
+            b: self.source_for(arrival.source),
+            first: arrival.body,
+            second: &[],
+        };
+        graph.has_nodes();
+        let _reach = graph.up(self.network(), &msg, now, out);
+        graph.has_nodes();
+    }
+
+    /// Time has come to `now`, in milliseconds.
+    pub fn time<O: Outside>(self, graph: &mut Graph<Obj>, now: u64, out: &mut O)
+        requires { AreChained graph.old (chain_ids self) }
+        ensures on { GoesOn (chain_ids self) graph.old graph.new }
+        ensures file { CallsTwo self graph.old graph.new (λ t. port_at t 4) way.Time 0 (ticked now) (O.events out.old)
+            (O.events out.new) }
+        ensures one { TicksOne self graph.old graph.new now (O.events out.old) (O.events out.new) }
+    {
+        graph.has_nodes();
+        let _reach = graph.time(self.last(), now, out);
+        graph.has_nodes();
+    }
+
+    /// The user closes the open with this cause: both ports of the top object.
+    pub fn close<O: Outside>(self, graph: &mut Graph<Obj>, cause: &Cause, now: u64, out: &mut O)
+        requires { AreChained graph.old (chain_ids self) }
+        ensures on { GoesOn (chain_ids self) graph.old graph.new }
+        ensures file { ClosesTwo self graph.old graph.new cause.now (O.events out.old) (O.events out.new) }
+        ensures one { ClosesSole self graph.old graph.new cause.now (O.events out.old) (O.events out.new) }
+    {
+        graph.has_nodes();
+        graph.close(self.user(), cause, now, out);
+        graph.has_nodes();
+        let lower = Port {
+            obj: self.top,
+            slot: BELOW,
+        };
+        graph.close(lower, cause, now, out);
+        graph.has_nodes();
+    }
+
+    /// The bytes of the file that it has brought, if it has. They are handed out once.
+    pub fn collect(self, graph: &mut Graph<Obj>) -> Option<Body>
+        requires { AreChained graph.old (chain_ids self) }
+        ensures on { GoesOn (chain_ids self) graph.old graph.new }
+        ensures body { (t : TheObjId) (body : Option (List ℕ)) → HasEnded (own_graph self graph.old) self.top.0 t.0 body
+            → result ≡ body }
+        ensures shut { IsShutChain self graph.old → IsShutChain self graph.new }
+    {
+        graph.has_nodes();
+        let load = graph.harvest(self.top);
+        graph.has_nodes();
+        body_in(load)
+    }
+
+    /// Lets its objects go, the top one first: none of them lives any more.
+    pub fn release<O: Outside>(self, graph: &mut Graph<Obj>, out: &mut O)
+        requires chained { AreChained graph.old (chain_ids self) }
+        requires shut { IsShutChain self graph.old }
+        ensures released { IsReleased self graph.old graph.new }
+        ensures told { Given (O.events out.old) (O.events out.new) (released_notices self) }
+    {
+        graph.has_nodes();
+        match self.below {
+            None => let_go(graph, self.top, out),
+            Some(below) => let_both_go(graph, self.top, below, out),
+        }
+    }
+
+    /// The port to the user.
+    fn user(self) -> Port
+        ensures { result ≡ port_at self.top.0 0 }
+    {
+        Port {
+            obj: self.top,
+            slot: ABOVE,
+        }
+    }
+
+    /// The port to the network.
+    fn network(self) -> Port
+        ensures { result ≡ port_at (last_serial self) 1 }
+    {
+        Port {
+            obj: self.last(),
+            slot: BELOW,
+        }
+    }
+
+    /// The last object, which talks to the network.
+    pub fn last(self) -> ObjId
+        ensures { result.0 ≡ last_serial self }
+    {
+        match self.below {
+            None => self.top,
+            Some(below) => below,
+        }
+    }
+
+    /// The address that the last object is told of a message: a Tftp needs none, as its server's is known.
+    fn source_for(self, source: Ip4) -> u32
+        ensures { result ≡ source_for self.below source.0 }
+    {
+        match self.below {
+            None => source.0,
+            Some(_) => 0,
+        }
+    }
+}
+
+/// The body in what was handed out.
+fn body_in(load: Option<Load>) -> Option<Body>
+    ensures { result ≡ body_in load }
+{
+    match load {
+        Some(Load::Body(body)) => Some(body),
+        Some(Load::Datagram(_)) => None,
+        None => None,
+    }
+}
+
+/// Lets two objects go.
+fn let_both_go<O: Outside>(graph: &mut Graph<Obj>, top: ObjId, below: ObjId, out: &mut O)
+    requires chained { AreChained graph.old (top.0 ∷ below.0 ∷ []) }
+    requires shut { AreShut (graph_of (top.0 ∷ below.0 ∷ []) graph.old) top.0 below.0 }
+    requires noded { AreNoded rank_of_obj graph.old }
+    ensures released { IsReleased (record { top = top; below = Some below }) graph.old graph.new }
+    ensures told { Given (O.events out.old) (O.events out.new) (freed_notices top.0 below.0) }
+{
+    let_go(graph, top, out);
+    let_go(graph, below, out);
+}
+
+/// Lets the hold of an object go that has one.
+fn let_go<O: Outside>(graph: &mut Graph<Obj>, id: ObjId, out: &mut O)
+    requires lives { object_lives graph.old.book id.0 ≡ true }
+    requires held { 0 < holds graph.old.book id.0 }
+    ensures { (now : ℕ) → WentOne ObjStands obj_nature now (Wants (LetGo id) ∷ []) graph.old graph.new
+        (O.events out.old) (O.events out.new) }
+{
+    let _held = graph.let_go(id, out);
+}

@@ -1,0 +1,5 @@
+pub mod WindowLemmas
+pub mod TakenLemmas
+pub mod EffectLemmas
+pub mod DialogueLemmas
+pub mod TalkLemmas

@@ -1,0 +1,11 @@
+pub mod StageLemmas
+pub mod WithinLemmas
+pub mod FrameLemmas
+pub mod MaskLemmas
+pub mod AloneLemmas
+pub mod BalanceLemmas
+pub mod OwnLemmas
+pub mod GraphOfLemmas
+pub mod OwnCallLemmas
+pub mod MadeLemmas
+pub mod SameGraph
