@@ -33,7 +33,6 @@ use Rattle.nb_laws.proofs.CoreAsks.{CoreAsks, CoreTold, CoreEnds}
 use Rattle.nb_laws.proofs.LookupCores.{lookup_opening, lookup_is, lookup_unanswered, lookup_sends, lookup_ends}
 use Rattle.nb_laws.proofs.LeaseCores.{lease_opening, lease_unanswered, lease_sends, lease_ends}
 use Rattle.nb_laws.proofs.PingCores.{ping_opening, ping_unanswered, ping_sends, ping_ends}
-use Rattle.nb_laws.proofs.LoneTalks.{by_last}
 use Rattle.nb_laws.proofs.Tries.{either_false}
 use Rattle.nb_machine.specs.Lives.{OpenKind, tftp, dns, dhcp, ping, kind_number, Live}
 use Rattle.nb_machine.specs.Transfers.{transfer_of}
@@ -73,6 +72,15 @@ lease_kept : (hw : Hardware) (k : ℕ) (a : Asker) (since : ℕ) (h : List Entry
 lease_kept hw k a since h is meets = subst (λ (b : Asker). LeasePromises b since (map lease_entry_of h)) is meets
 
 -- WHAT IT ASKS FOR HASN'T COME WHILE IT GOES ON
+
+-- a list is empty, or has a last
+by_last : {A : Type 0} (xs : List A) → (xs ≡ []) ⊎ ((ys : List A) × (y : A) × (xs ≡ ys ++ y ∷ []))
+by_last [] = inl refl
+by_last (x ∷ xs) = by (by_last xs)
+  where
+    by : (xs ≡ []) ⊎ ((ys : List _) × (y : _) × (xs ≡ ys ++ y ∷ [])) → (x ∷ xs ≡ []) ⊎ ((ys : List _) × (y : _) × (x ∷ xs ≡ ys ++ y ∷ []))
+    by (inl e) = inr ([], x, ap (λ z. x ∷ z) e)
+    by (inr (ys, y, e)) = inr (x ∷ ys, y, ap (λ z. x ∷ z) e)
 
 none_over : (o : Option Cause) → is_some o ≡ false → o ≡ None
 none_over None e = refl

@@ -1,5 +1,5 @@
 -- A step: what its opens put has its reasons, and so have the records after it.
-use Rattle.std.proofs.Common.{◌≡◌, ℕ, ◌+◌, false, List, [], ◌∷◌, ◌++◌, Some, refl, sym, ◌∙◌, ap, subst, append_assoc, append-nil}
+use Rattle.std.proofs.Common.{◌≡◌, ℕ, ◌+◌, true, false, List, [], ◌∷◌, ◌++◌, Some, refl, sym, ◌∙◌, ap, subst, append_assoc, append-nil}
 use Rattle.std.proofs.lemmas.List.Sums.{fold-append}
 use Rattle.nb_defs.specs.Causes.{ok}
 use Rattle.nb_defs.specs.Records.{In, Out, enter, leave, result}
@@ -21,7 +21,6 @@ use Rattle.nb_laws.specs.HandOff.{BootsFile}
 use Rattle.nb_laws.specs.Progress.{AdvancesSo, IsAdvanced}
 use Rattle.nb_laws.specs.Agreement.{AreStill}
 use Rattle.nb_laws.proofs.Asides.{still_conclusion}
-use Rattle.nb_laws.proofs.Steps.{last_off}
 use Rattle.nb_laws.proofs.Tellings.{told}
 use Rattle.nb_lawful.specs.Standings.{AreLive, AgreesState, AgreesDevice}
 use Rattle.nb_lawful.specs.OpenEndings.{OpensEndSo, FramesSo, by_itself}
@@ -120,6 +119,10 @@ told_off : (es : List Event) (outs : List Out) → is_off (es ++ told outs) ≡ 
 unfolding is_off
 told_off es [] = ap is_off (append-nil es)
 told_off es (o ∷ outs) = ap is_off (sym (append_assoc es (puts o ∷ []) (told outs))) ∙ told_off (es ++ puts o ∷ []) outs ∙ fold-append off_by false es (puts o ∷ [])
+
+last_off : (es : List Event) (n : ℕ) → is_off (es ++ stops n ∷ []) ≡ true
+unfolding is_off
+last_off es n = fold-append off_by false es (stops n ∷ [])
 
 off_ends : (es : List Event) (n : ℕ) → EndsFor stopped_cause (es ++ stops n ∷ [])
 off_ends es n = λ ends all k. by_itself (by_stop refl (told_off (es ++ stops n ∷ []) ends ∙ last_off es n))

@@ -1,35 +1,25 @@
 -- The machine's images are those that the history says were brought.
-use Rattle.std.proofs.Common.{◌≡◌, ℕ, ◌-◌, ◌&&◌, Bool, true, false, cond, List, [], ◌∷◌, ◌++◌, Option, Some, None, refl, sym, ◌∙◌, ap, append_assoc, append-nil, length, if◌then◌else◌}
-use Rattle.std.specs.Prelude.{unwrap_or}
+use Rattle.std.proofs.Common.{◌≡◌, ℕ, ◌-◌, ◌&&◌, Bool, true, false, cond, List, [], ◌∷◌, ◌++◌, Option, Some, None, refl, sym, ◌∙◌, ap, append_assoc, append-nil, if◌then◌else◌}
 use Rattle.std.specs.List.{AllByRecursion}
 use Rattle.std.proofs.lemmas.List.Sums.{fold-append}
 use Rattle.nb_terms.specs.declared.acts.Acts.{Acts}
 use Rattle.nb_terms.specs.declared.acts.SendTo.{SendTo}
 use Rattle.nb_terms.specs.declared.cause.Cause.{Cause}
-use Rattle.nb_defs.specs.Causes.{ok, is_ok_cause}
+use Rattle.nb_defs.specs.Causes.{is_ok_cause}
 use Rattle.nb_defs.specs.Commands.{CommandOutcome}
 use Rattle.nb_defs.specs.Records.{Out, step, sent, text, command, result, script, opened, tried, advanced, ended, graph, part, done}
 use Rattle.nb_stack.specs.Client.{Client}
 use Rattle.nb_image.specs.declared.image.Image.{Image}
-use Rattle.nb_image.specs.declared.error.ImageError.{ImageError}
-use Rattle.nb_image.specs.declared.error.ImageError.TheVariants as error
-use Rattle.nb_image.specs.Images.{ImageList, with_image, image_place, refusal}
-use Rattle.nb_image.specs.Kinds.{kind_of}
-use Rattle.nb_runner.specs.declared.world.World.{World}
-use Rattle.nb_runner.specs.World.{unbound}
 use Rattle.nb_machine.specs.Effects.{ShownWords}
 use Rattle.nb_machine.specs.Sendings.{has_route, send_records, sends_records, acts_records, advance_records, try_records}
-use Rattle.nb_machine.specs.Conclusions.{Conclusion, keeps, fails, boots, conclusion, stored, taken_in, selected_in, place_for, is_bootable, not_bootable, cause_of_error, conclusion_records, handoff_records}
 use Rattle.nb_defs.specs.Parts.{IsNoPart, HaveNoParts}
 use Rattle.nb_machine.specs.Running.{Running}
-use Rattle.nb_machine.specs.CommandRecords.{prints, command_record, command_records, reply_records}
-use Rattle.nb_engine.specs.Machine.{phase_after}
+use Rattle.nb_machine.specs.CommandRecords.{prints, command_record, command_records}
 use Rattle.nb_runner.proofs.HandingLemmas.{all_append}
 use Rattle.nb_laws.specs.Events.{Event, starts, puts}
 use Rattle.nb_tftp.specs.Blocks.{is_whole}
 use Rattle.nb_laws.specs.Lists.{came_ok, last_end, end_by, datagrams_of, made}
-use Rattle.nb_laws.specs.HandOff.{last_image, image_at, images_brought, image_list, BootsFile}
-use Rattle.nb_laws.specs.Agreement.{AgreesImages}
+use Rattle.nb_laws.specs.HandOff.{last_image, image_at, images_brought}
 use Rattle.nb_laws.specs.Silence.{IsSilent}
 use Rattle.nb_laws.proofs.Histories.{gathered_one}
 use Rattle.nb_laws.proofs.Tellings.{told}
@@ -85,54 +75,14 @@ pub opens_acts : (net : Client) (k : ℕ) (acts : Acts) → AreOpens (acts_recor
 unfolding acts_records
 opens_acts net k acts = more (advance_records k acts.advance) (sends_records net k acts.tried acts.sends.items) (opens_advance k acts.advance) (opens_sends net k acts.tried acts.sends.items)
 
-pub opens_reply : (bytes : List ℕ) → AreOpens (reply_records bytes)
-unfolding IsOpens
-opens_reply [] = tt
-opens_reply (b ∷ bytes) = (tt, tt)
-
 -- what such records leave as it was
 pub brought_more : (es : List Event) (e : Event) → images_brought (es ++ e ∷ []) ≡ images_brought es ++ image_at es e
 unfolding images_brought
 brought_more es e = gathered_one image_at es e
 
-opens_image : (es : List Event) (o : Out) → IsOpens o → image_at es (puts o) ≡ []
-unfolding IsOpens
-opens_image es (sent bytes) h = refl
-opens_image es (tried number count) h = refl
-opens_image es (advanced number place) h = refl
-opens_image es _ h = absurd h
-
-opens_part : (o : Out) → IsOpens o → IsNoPart o
-unfolding IsOpens
-opens_part (part kind index offset bytes) h = absurd h
-opens_part _ h = tt
-
-pub opens_parts : (outs : List Out) → AreOpens outs → HaveNoParts outs
-opens_parts [] h = tt
-opens_parts (o ∷ outs) h = (opens_part o h.0, opens_parts outs h.1)
-
 pub last_end_more : (es : List Event) (e : Event) → last_end (es ++ e ∷ []) ≡ end_by (last_end es) e
 unfolding last_end
 last_end_more es e = fold-append end_by None es (e ∷ [])
-
-opens_end : (last : Option Cause) (o : Out) → IsOpens o → end_by last (puts o) ≡ last
-unfolding IsOpens
-opens_end last (sent bytes) h = refl
-opens_end last (tried number count) h = refl
-opens_end last (advanced number place) h = refl
-opens_end last _ h = absurd h
-
-pub opens_keep_end : (es : List Event) (outs : List Out) → AreOpens outs → last_end (es ++ told outs) ≡ last_end es
-opens_keep_end es [] h = ap last_end (append-nil es)
-opens_keep_end es (o ∷ outs) h =
-    ap last_end (sym (append_assoc es (puts o ∷ []) (told outs))) ∙ opens_keep_end (es ++ puts o ∷ []) outs h.1
-    ∙ last_end_more es (puts o) ∙ opens_end (last_end es) o h.0
-
-pub opens_keep : (es : List Event) (outs : List Out) → AreOpens outs → images_brought (es ++ told outs) ≡ images_brought es
-opens_keep es [] h = ap images_brought (append-nil es)
-opens_keep es (o ∷ outs) h =
-    ap images_brought (sym (append_assoc es (puts o ∷ []) (told outs))) ∙ opens_keep (es ++ puts o ∷ []) outs h.1
-    ∙ brought_more es (puts o) ∙ ap (λ z. images_brought es ++ z) (opens_image es o h.0) ∙ append-nil (images_brought es)
 
 -- a record is used
 used_image : (es : List Event) (e : Event) → IsUsed e → image_at es e ≡ []
@@ -182,85 +132,9 @@ pub no_command : (s : Running) (shown : ShownWords) (o : CommandOutcome) → Hav
 no_command s shown o =
     parts_more ((command_record s shown ∷ []) ++ prints o.prints) (result o.cause ∷ []) (parts_more (command_record s shown ∷ []) (prints o.prints) (tt, tt) (no_prints o.prints)) (tt, tt)
 
--- what a conclusion does to the list
-IsAfter : Cause → Bool → Image → ImageList → Conclusion → Type 0
-IsAfter cause booting image list (keeps new) = (is_ok_cause cause ≡ true) × (new.images ≡ with_image image list.images)
-IsAfter cause booting image list (fails c) = is_ok_cause c ≡ false
-IsAfter cause booting image list (boots new kernel) =
-    (is_ok_cause cause ≡ true) × (new.images ≡ with_image image list.images) × (kernel ≡ place_for image list) × (booting ≡ true)
-
-taken_after : (c : Cause) (booting : Bool) (image : Image) (list : ImageList) → is_ok_cause c ≡ true → IsAfter c booting image list (taken_in booting image list)
-unfolding IsAfter
-taken_after c false image list e = (e, refl)
-taken_after c true image list e = by (is_bootable (kind_of image.body))
-  where
-    by : (b : Bool) → IsAfter c true image list (cond b (boots (selected_in image list) (place_for image list)) (fails not_bootable))
-    by true = (e, refl, refl, refl)
-    by false = refl
-
-error_fails : (e : ImageError) → is_ok_cause (cause_of_error e) ≡ false
-error_fails error.TooMany = refl
-error_fails error.TooLarge = refl
-error_fails error.NoMemory = refl
-
-stored_after : (c : Cause) (x : Option ImageError) (booting : Bool) (image : Image) (list : ImageList) → is_ok_cause c ≡ true → IsAfter c booting image list (stored x booting image list)
-unfolding IsAfter
-stored_after c (Some x) booting image list e = error_fails x
-stored_after c None booting image list e = taken_after c booting image list e
-
-conclusion_after : (c : Cause) (booting : Bool) (image : Image) (list : ImageList) → IsAfter c booting image list (conclusion c booting image list)
-unfolding IsAfter
-conclusion_after c booting image list = by (is_ok_cause c) refl
-  where
-    by : (b : Bool) → is_ok_cause c ≡ b → IsAfter c booting image list (cond b (stored (refusal image list.images) booting image list) (fails c))
-    by true e = stored_after c (refusal image list.images) booting image list e
-    by false e = e
-
-listed_more : (images : List Image) (image : Image) → image_list (images ++ image ∷ []) ≡ with_image image (image_list images)
-listed_more images image = fold-append (λ (list : List Image) (i : Image). with_image i list) [] images (image ∷ [])
-
 -- a RESULT that isn't Ok brings none
 pub failed_image : (es : List Event) (cause : Cause) → is_ok_cause cause ≡ false → image_at es (puts (result cause)) ≡ []
 failed_image es cause e = ap (λ b. cond (b && (came_ok (last_end es) && is_whole (datagrams_of (made es - 1) es))) (last_image es) []) e
-
--- RESULT Ok after an end that was Ok brings the last open's image
-result_brings : (es : List Event) (cause : Cause) (image : Image) → last_end es ≡ Some cause → is_ok_cause cause ≡ true → is_whole (datagrams_of (made es - 1) es) ≡ true → last_image es ≡ image ∷ [] → images_brought (es ++ puts (result ok) ∷ []) ≡ images_brought es ++ image ∷ []
-result_brings es cause image end is whole last =
-    brought_more es (puts (result ok)) ∙ ap (λ z. images_brought es ++ cond (came_ok z && is_whole (datagrams_of (made es - 1) es)) (last_image es) []) end
-    ∙ ap (λ b. images_brought es ++ cond (b && is_whole (datagrams_of (made es - 1) es)) (last_image es) []) is ∙ ap (λ b. images_brought es ++ cond b (last_image es) []) whole ∙ ap (λ z. images_brought es ++ z) last
-
-by_conclusion : (es : List Event) (outs : List Out) (w : World) (own : ℕ) (s : Running) (cause : Cause) (booting : Bool) (image : Image) (c : Conclusion) → IsAfter cause booting image w.state.images c →
-    (booting ≡ true → BootsFile es) → last_end es ≡ Some cause → (is_ok_cause cause ≡ is_whole (datagrams_of (made es - 1) es)) → last_image es ≡ image ∷ [] → w.state.images.images ≡ image_list (images_brought es) → HaveNoParts outs →
-    AgreesImages (es ++ told (conclusion_records c)) (outs ++ conclusion_records c) (phase_after (unbound w own) s c)
-unfolding IsAfter
-by_conclusion es outs w own s cause booting image (keeps new) h file end whole last is none =
-    let all = result_brings es cause image end h.0 (sym whole ∙ h.0) last in (
-      h.1 ∙ ap (λ z. with_image image z) is ∙ sym (ap image_list all ∙ listed_more (images_brought es) image),
-      parts_more outs (result ok ∷ []) none (tt, tt),
-    )
-by_conclusion es outs w own s cause booting image (fails c) h file end whole last is none =
-    (is ∙ sym (ap image_list (one_keeps es (result c) (failed_image es c h))), parts_more outs (result c ∷ []) none (tt, tt))
-by_conclusion es outs w own s cause booting image (boots new kernel) h file end whole last is none =
-    let all = result_brings es cause image end h.0 (sym whole ∙ h.0) last in
-    let list : new.images ≡ image_list (images_brought es ++ image ∷ []) = h.1 ∙ ap (λ z. with_image image z) is ∙ sym (listed_more (images_brought es) image) in
-    let place : kernel ≡ place_for image (record { images = image_list (images_brought es); selected = None }) = h.2 ∙ ap (λ z. unwrap_or (image_place image.name z) (length z)) is in
-    record {
-      booted = record { before = es; since = []; ends = refl; silent = tt; boots = file h.3 };
-      earlier = images_brought es;
-      last = image;
-      all = all;
-      before = outs ++ result ok ∷ [];
-      none = parts_more outs (result ok ∷ []) none (tt, tt);
-      ends = ap (λ z. (outs ++ result ok ∷ []) ++ handoff_records z new.images) place
-          ∙ ap (λ z. (outs ++ result ok ∷ []) ++ handoff_records (place_for image (record { images = image_list (images_brought es); selected = None })) z) list;
-    }
-
-pub concluded_images : (es : List Event) (outs : List Out) (w : World) (own : ℕ) (s : Running) (cause : Cause) (booting : Bool) (image : Image) → (booting ≡ true → BootsFile es) → last_end es ≡ Some cause →
-    (is_ok_cause cause ≡ is_whole (datagrams_of (made es - 1) es)) → last_image es ≡ image ∷ [] → w.state.images.images ≡ image_list (images_brought es) → HaveNoParts outs →
-    AgreesImages (es ++ told (conclusion_records (conclusion cause booting image w.state.images))) (outs ++ conclusion_records (conclusion cause booting image w.state.images))
-    (phase_after (unbound w own) s (conclusion cause booting image w.state.images))
-concluded_images es outs w own s cause booting image file end whole last is none =
-    by_conclusion es outs w own s cause booting image (conclusion cause booting image w.state.images) (conclusion_after cause booting image w.state.images) file end whole last is none
 
 -- no image comes but with a RESULT
 pub silent_image : (es : List Event) (o : Out) → IsSilent o → image_at es (puts o) ≡ []
