@@ -1,4 +1,4 @@
-use crate::steps::{HOST, Tape, ask_echo, end_file, pass_time, reply, two};
+use crate::steps::{HOST, Tape, ask_echo, end_file, pass_time, reply, shut_file, two};
 use nb_chains::ChainKind;
 use nb_graph::{ObjId, Port};
 use nb_opens::Arrival;
@@ -77,5 +77,47 @@ fn one_outlives_the_other(rt: HostRuntime) -> Result<(), Fail> {
     };
     echo.message(&mut graph, 2, &arrival, 10, &mut tape);
     happened(&rt, &mut tape, &[(5, 1), (8, 1), (8, 1), (6, 1)]);
+    Ok(())
+}
+
+/// The run ends: of a file's open all ports are closed, by rising serial and slot, and both objects are let go; and then
+/// those of an echo that was asked for.
+#[test]
+fn both_are_shut_down(rt: HostRuntime) -> Result<(), Fail> {
+    let mut tape = empty_tape(&rt);
+    let (mut graph, echo, file) = two(&rt, &mut tape, ChainKind::Echo, ChainKind::File)?;
+    ask_echo(&mut graph, echo, file, 7, &mut tape);
+    tape.events.clear();
+    shut_file(&mut graph, file, echo, &STOPPED, &mut tape);
+    // Both ports of the Fetch, the Tftp's within an entry, Unplugged; slots 2 and 3 of both; LetGo and Freed, twice.
+    happened(
+        &rt,
+        &mut tape,
+        &[
+            (8, 2),
+            (8, 2),
+            (8, 3),
+            (5, 3),
+            (8, 3),
+            (6, 3),
+            (9, 2),
+            (8, 2),
+            (8, 2),
+            (8, 3),
+            (8, 3),
+            (3, 2),
+            (10, 2),
+            (3, 3),
+            (10, 3),
+        ],
+    );
+    assert_eq!(rt; graph.live(), 1);
+    echo.shut_down(&mut graph, &STOPPED, 0, &mut tape);
+    happened(
+        &rt,
+        &mut tape,
+        &[(8, 1), (8, 1), (8, 1), (8, 1), (3, 1), (10, 1)],
+    );
+    assert_eq!(rt; graph.live(), 0);
     Ok(())
 }

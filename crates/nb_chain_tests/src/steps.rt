@@ -126,3 +126,19 @@ pub(crate) fn end_file(
     chain.release(graph, tape);
     graph.has_nodes();
 }
+
+/// The run ends for a file's open that was just made.
+pub(crate) fn shut_file(
+    graph: &mut Graph<Obj>,
+    chain: Chain,
+    other: Chain,
+    cause: &Cause,
+    tape: &mut Tape,
+)
+    requires beside { AreBeside graph.old chain other }
+    requires ready { IsReadyChain kind.File chain graph.old }
+    ensures { AreChained graph.new (chain_ids other) }
+{
+    chain.shut_down(graph, cause, 0, tape);
+    graph.has_nodes();
+}

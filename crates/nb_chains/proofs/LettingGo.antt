@@ -8,7 +8,7 @@ use Rattle.nb_ledger.specs.declared.port.PortState.TheVariants as port
 use Rattle.nb_ledger.specs.declared.event.GraphEvent.TheVariants.{LetGo}
 use Rattle.nb_ledger.specs.Flat.{Heard, Given}
 use Rattle.nb_ledger.specs.GraphRun.{link_count}
-use Rattle.nb_ledger.specs.Ledger.{Ledger, found, object_lives, holds, port as port_in}
+use Rattle.nb_ledger.specs.Ledger.{Ledger, found, object_lives, port as port_in}
 use Rattle.nb_ledger.proofs.RunLemmas.{Given-append}
 use Rattle.nb_graph.specs.Deeds.{Wants}
 use Rattle.nb_graph.specs.Noded.{AreNoded}
@@ -29,19 +29,12 @@ use Rattle.nb_opens.specs.Notices.{freed_notices}
 use Rattle.nb_opens.specs.Pairs.{AreShut}
 use Rattle.nb_opens.proofs.Releasing.{LetsGo, lets_one_go, loose_shut, no_links, four}
 use Rattle.nb_chains.specs.declared.chain.Chain.{Chain}
-use Rattle.nb_chains.specs.Chains.{AreChained, IsReleased, IsShutBy, IsShutChain, StandsForSome, below_ids, chain_ids, released_by, released_notices}
+use Rattle.nb_chains.specs.Chains.{AreChained, IsReleased, IsShutBy, IsShutChain, below_ids, chain_ids, released_by, released_notices}
+use Rattle.nb_chains.specs.Ends.{AreUnlinked, LivesUnlinked}
 use Rattle.nb_chains.proofs.FreshOnes.{sole_in, sole_is}
 use Rattle.nb_chains.proofs.GoingOn.{keeps_both}
 use Rattle.nb_chains.proofs.NoMakes.{makes_none}
 use Rattle.nb_chains.proofs.Plugging.{first_in, other_in, of_two}
-
--- x lives by its one hold, without a link
-pub record IsLoose (g : Objects Obj) (x : ℕ) : Type 0 where
-  pub given : x ≤ g.book.made
-  pub lives : object_lives g.book x ≡ true
-  pub held : holds g.book x ≡ 1
-  pub loose : (k : ℕ) → k < 4 → link_count (port_in g.book x k) ≡ 0
-  pub stands : StandsForSome g x
 
 no_link : (own : ℕ → Bool) (v : PortState) → link_count v ≡ 0 → LeadsWithin own v
 no_link own port.Open e = tt
@@ -53,9 +46,9 @@ loose_port : (g : Objects Obj) (x k : ℕ) → ((k : ℕ) → k < 4 → link_cou
 loose_port g x k h true e = h k (ltb-true k 4 e)
 loose_port g x k h false e = ap link_count (no_port g.book x k (ltb-false k 4 e))
 
-loose_links : (g : Objects Obj) (x : ℕ) → IsLoose g x → AreLinkedWithin (is_one_of (x ∷ [])) (port_in g.book)
+loose_links : (g : Objects Obj) (x : ℕ) → LivesUnlinked g x → AreLinkedWithin (is_one_of (x ∷ [])) (port_in g.book)
 loose_links g x l y k o =
-    subst (λ (z : ℕ). LeadsWithin (is_one_of (x ∷ [])) (port_in g.book z k)) (sym (sole_is x y o)) (no_link (is_one_of (x ∷ [])) (port_in g.book x k) (loose_port g x k l.loose (nat_lt k 4) refl))
+    subst (λ (z : ℕ). LeadsWithin (is_one_of (x ∷ [])) (port_in g.book z k)) (sym (sole_is x y o)) (no_link (is_one_of (x ∷ [])) (port_in g.book x k) (loose_port g x k l.unlinked (nat_lt k 4) refl))
 
 some_there : (os : List Object) (x : ℕ) → is_some (found os x) ≡ true → 1 ≤ length os
 some_there [] x e = absurd (false≢true e)
@@ -66,9 +59,9 @@ unfolding object_lives
 one_lives l x e = some_there l.objects x e
 
 -- it is let go
-module _ (g h : Objects Obj) (m n : Heard) (x : ObjId) (l : IsLoose g x.0) (k : WentOne ObjStands obj_nature 0 (Wants (LetGo x) ∷ []) g h m n) where
+module _ (g h : Objects Obj) (m n : Heard) (x : ObjId) (l : LivesUnlinked g x.0) (k : WentOne ObjStands obj_nature 0 (Wants (LetGo x) ∷ []) g h m n) where
   pub goes : LetsGo g h m n x.0
-  goes = lets_one_go g h m n 0 x l.held (no_links g x.0 l.loose) k
+  goes = lets_one_go g h m n 0 x l.held (no_links g x.0 l.unlinked) k
 
   pub goes_others : KeepsOthers (is_one_of (x.0 ∷ [])) g h
   goes_others =
@@ -83,7 +76,7 @@ module _ (g h : Objects Obj) (m n : Heard) (x : ObjId) (l : IsLoose g x.0) (k : 
   is_gone = goes.live x.0 ∙ rw (eq-eqb x.0 x.0 refl) refl
 
 -- one alone
-sole_loose : (g : Objects Obj) (x : ℕ) → AreNoded rank_of_obj g → AreChained g (x ∷ []) → IsShutLone (graph_of (x ∷ []) g) x → IsLoose g x
+pub sole_loose : (g : Objects Obj) (x : ℕ) → AreNoded rank_of_obj g → AreChained g (x ∷ []) → IsShutLone (graph_of (x ∷ []) g) x → LivesUnlinked g x
 sole_loose g x noded c s =
     let there : AreThere (x ∷ []) g = are_there (x ∷ []) g c.lives (λ y o. let i = noded y (c.lives y o) in (i.node, i.is_node)) in
     let at : (k : ℕ) → port_in g.book x k ≡ port_in (graph_of (x ∷ []) g).book x k = λ k. sym (port_own (x ∷ []) g there x k (sole_in x)) in
@@ -91,71 +84,64 @@ sole_loose g x noded c s =
       given = c.given x (sole_in x);
       lives = c.lives x (sole_in x);
       held = c.held x (sole_in x);
-      loose = four (λ k. link_count (port_in g.book x k) ≡ 0) (ap link_count (at 0 ∙ s.ports 0)) (ap link_count (at 1 ∙ s.ports 1)) (ap link_count (at 2 ∙ s.ports 2)) (ap link_count (at 3 ∙ s.ports 3));
+      unlinked = four (λ k. link_count (port_in g.book x k) ≡ 0) (ap link_count (at 0 ∙ s.ports 0)) (ap link_count (at 1 ∙ s.ports 1)) (ap link_count (at 2 ∙ s.ports 2)) (ap link_count (at 3 ∙ s.ports 3));
       stands = c.stands x (sole_in x);
     }
 
-pub sole_released : (g h : Objects Obj) (m n : Heard) (x : ObjId) → AreNoded rank_of_obj g → AreChained g (x.0 ∷ []) → IsShutLone (graph_of (x.0 ∷ []) g) x.0 → WentOne ObjStands obj_nature 0 (Wants (LetGo x) ∷ []) g h m n
+pub sole_released : (g h : Objects Obj) (m n : Heard) (x : ObjId) → LivesUnlinked g x.0 → WentOne ObjStands obj_nature 0 (Wants (LetGo x) ∷ []) g h m n
     → IsReleased (record { top = x; below = None }) g h × Given m n (alone_freed x.0)
-sole_released g h m n x noded c s k =
-    let l = sole_loose g x.0 noded c s in (
-      record {
-        gone = λ y o. ap (object_lives h.book) (sole_is x.0 y o) ∙ is_gone g h m n x l k;
-        others = goes_others g h m n x l k;
-        number = goes_number g h m n x l k;
-        same_room = (goes g h m n x l k).room;
-      },
-      (goes g h m n x l k).told,
-    )
+sole_released g h m n x l k = (
+  record {
+    gone = λ y o. ap (object_lives h.book) (sole_is x.0 y o) ∙ is_gone g h m n x l k;
+    others = goes_others g h m n x l k;
+    number = goes_number g h m n x l k;
+    same_room = (goes g h m n x l k).room;
+  },
+  (goes g h m n x l k).told,
+)
 
 -- two
 module _ (g : Objects Obj) (f t : ℕ) (noded : AreNoded rank_of_obj g) (c : AreChained g (f ∷ t ∷ [])) (s : AreShut (graph_of (f ∷ t ∷ []) g) f t) where
   there : AreThere (f ∷ t ∷ []) g
   there = are_there (f ∷ t ∷ []) g c.lives (λ y o. let i = noded y (c.lives y o) in (i.node, i.is_node))
 
-  loose_at : (x : ℕ) → is_one_of (f ∷ t ∷ []) x ≡ true → ((k : ℕ) → k < 4 → link_count (port_in (graph_of (f ∷ t ∷ []) g).book x k) ≡ 0) → IsLoose g x
+  loose_at : (x : ℕ) → is_one_of (f ∷ t ∷ []) x ≡ true → ((k : ℕ) → k < 4 → link_count (port_in (graph_of (f ∷ t ∷ []) g).book x k) ≡ 0) → LivesUnlinked g x
   loose_at x o h = record {
     given = c.given x o;
     lives = c.lives x o;
     held = c.held x o;
-    loose = λ k i. ap link_count (sym (port_own (f ∷ t ∷ []) g there x k o)) ∙ h k i;
+    unlinked = λ k i. ap link_count (sym (port_own (f ∷ t ∷ []) g there x k o)) ∙ h k i;
     stands = c.stands x o;
   }
 
-  pub first_loose : IsLoose g f
+  pub first_loose : LivesUnlinked g f
   first_loose = loose_at f (first_in f t) (loose_shut (graph_of (f ∷ t ∷ []) g) f t s).fetch_links
 
-  pub other_loose : IsLoose g t
+  pub other_loose : LivesUnlinked g t
   other_loose = loose_at t (other_in f t) (loose_shut (graph_of (f ∷ t ∷ []) g) f t s).tftp_links
 
+  pub both_loose : AreUnlinked g f t
+  both_loose = record { different = λ e. let lt = s.two.older in omega (arith, e, lt); first = first_loose; other = other_loose }
+
 -- what stays as it is stays loose
-loose_kept : (g a : Objects Obj) (x : ℕ) → IsLoose g x → KeepsObject g a x → a.book.made ≡ g.book.made → IsLoose a x
+loose_kept : (g a : Objects Obj) (x : ℕ) → LivesUnlinked g x → KeepsObject g a x → a.book.made ≡ g.book.made → LivesUnlinked a x
 loose_kept g a x l k e = record {
   given = let i = l.given in omega (arith, i, e);
   lives = k.live ∙ l.lives;
   held = k.held ∙ l.held;
-  loose = λ j i. ap link_count (k.ports j) ∙ l.loose j i;
+  unlinked = λ j i. ap link_count (k.ports j) ∙ l.unlinked j i;
   stands = (l.stands.0, λ n i. l.stands.1 n (k.node n i));
 }
 
-module _ (g a h : Objects Obj) (m n o : Heard) (f t : ObjId) (noded : AreNoded rank_of_obj g) (c : AreChained g (f.0 ∷ t.0 ∷ [])) (s : AreShut (graph_of (f.0 ∷ t.0 ∷ []) g) f.0 t.0)
-    (j : WentOne ObjStands obj_nature 0 (Wants (LetGo f) ∷ []) g a m n) where
-  different : t.0 ≡ f.0 → ⊥
-  different e = let lt = s.two.older in omega (arith, e, lt)
-
+module _ (g a h : Objects Obj) (m n o : Heard) (f t : ObjId) (both : AreUnlinked g f.0 t.0) (j : WentOne ObjStands obj_nature 0 (Wants (LetGo f) ∷ []) g a m n) where
   not_first : (y : ℕ) → (y ≡ f.0 → ⊥) → is_one_of (f.0 ∷ []) y ≡ false
   not_first y i = rw (ne_eqb y f.0 i) refl
 
-  one : IsLoose g f.0
-  one = first_loose g f.0 t.0 noded c s
-
   others_one : KeepsOthers (is_one_of (f.0 ∷ [])) g a
-  others_one = goes_others g a m n f one j
+  others_one = goes_others g a m n f both.first j
 
-  pub two : IsLoose a t.0
-  two =
-      let l = other_loose g f.0 t.0 noded c s in
-      loose_kept g a t.0 l (others_one.others t.0 l.given (not_first t.0 different)) others_one.same_made
+  pub two : LivesUnlinked a t.0
+  two = loose_kept g a t.0 both.other (others_one.others t.0 both.other.given (not_first t.0 both.different)) others_one.same_made
 
   -- the other one too
   module _ (k : WentOne ObjStands obj_nature 0 (Wants (LetGo t) ∷ []) a h n o) where
@@ -174,22 +160,40 @@ module _ (g a h : Objects Obj) (m n o : Heard) (f t : ObjId) (noded : AreNoded r
     pub two_released : IsReleased (record { top = f; below = Some t }) g h × Given m o (freed_notices f.0 t.0)
     two_released = (
       record {
-        gone = of_two f.0 t.0 (λ (z : ℕ). object_lives h.book z ≡ false) ((goes a h n o t two k).live f.0 ∙ rw (ne_eqb f.0 t.0 (λ e. different (sym e))) (is_gone g a m n f one j)) (is_gone a h n o t two k);
+        gone = of_two f.0 t.0 (λ (z : ℕ). object_lives h.book z ≡ false) ((goes a h n o t two k).live f.0 ∙ rw (ne_eqb f.0 t.0 (λ e. both.different (sym e))) (is_gone g a m n f both.first j)) (is_gone a h n o t two k);
         others = record {
           same_made = others_two.same_made ∙ others_one.same_made;
           others = λ y low far.
               let z = apart_from y far in
               keeps_both g a h y (others_one.others y low z.0) (others_two.others y (let e = others_one.same_made in omega (arith, low, e)) z.1);
         };
-        number = let i = goes_number g a m n f one j in let l = goes_number a h n o t two k in omega (arith, i, l);
-        same_room = (goes a h n o t two k).room ∙ (goes g a m n f one j).room;
+        number = let i = goes_number g a m n f both.first j in let l = goes_number a h n o t two k in omega (arith, i, l);
+        same_room = (goes a h n o t two k).room ∙ (goes g a m n f both.first j).room;
       },
-      Given-append m n o _ _ (goes g a m n f one j).told (goes a h n o t two k).told,
+      Given-append m n o _ _ (goes g a m n f both.first j).told (goes a h n o t two k).told,
     )
 
 -- a chain that has nothing below its top object
-pub released_alone : (c : Chain) (g h : Objects Obj) (m n : Heard) → c.below ≡ None → AreNoded rank_of_obj g → AreChained g (chain_ids c) → IsShutChain c g → WentOne ObjStands obj_nature 0 (Wants (LetGo c.top) ∷ []) g h m n
+pub top_loose : (c : Chain) (g : Objects Obj) → c.below ≡ None → AreNoded rank_of_obj g → AreChained g (chain_ids c) → IsShutChain c g → LivesUnlinked g c.top.0
+top_loose c g e noded chained shut =
+    let goes : Option ObjId → Type 0 = λ b. AreChained g (c.top.0 ∷ below_ids b) → IsShutBy b c.top.0 (graph_of (c.top.0 ∷ below_ids b) g) → LivesUnlinked g c.top.0 in
+    subst goes (sym e) (λ i s. sole_loose g c.top.0 noded i s) chained shut
+
+pub released_alone : (c : Chain) (g h : Objects Obj) (m n : Heard) → c.below ≡ None → LivesUnlinked g c.top.0 → WentOne ObjStands obj_nature 0 (Wants (LetGo c.top) ∷ []) g h m n
     → IsReleased c g h × Given m n (released_notices c)
-released_alone c g h m n e noded chained shut k =
-    let goes : Option ObjId → Type 0 = λ b. AreChained g (c.top.0 ∷ below_ids b) → IsShutBy b c.top.0 (graph_of (c.top.0 ∷ below_ids b) g) → IsReleased (record { top = c.top; below = b }) g h × Given m n (released_by c.top.0 b) in
-    subst goes (sym e) (λ i s. sole_released g h m n c.top noded i s k) chained shut
+released_alone c g h m n e l k =
+    let goes : Option ObjId → Type 0 = λ b. IsReleased (record { top = c.top; below = b }) g h × Given m n (released_by c.top.0 b) in
+    subst goes (sym e) (sole_released g h m n c.top l k)
+
+-- one that has
+pub two_loose : (c : Chain) (g : Objects Obj) (t : ObjId) → c.below ≡ Some t → AreNoded rank_of_obj g → AreChained g (chain_ids c) → IsShutChain c g → AreUnlinked g c.top.0 t.0
+two_loose c g t e noded chained shut =
+    let goes : Option ObjId → Type 0 = λ b. AreChained g (c.top.0 ∷ below_ids b) → IsShutBy b c.top.0 (graph_of (c.top.0 ∷ below_ids b) g) → AreUnlinked g c.top.0 t.0 in
+    subst goes (sym e) (λ i s. both_loose g c.top.0 t.0 noded i s) chained shut
+
+-- whose objects were let go
+pub released_both : (c : Chain) (g h : Objects Obj) (m n : Heard) (t : ObjId) → c.below ≡ Some t → IsReleased (record { top = c.top; below = Some t }) g h × Given m n (freed_notices c.top.0 t.0)
+    → IsReleased c g h × Given m n (released_notices c)
+released_both c g h m n t e k =
+    let goes : Option ObjId → Type 0 = λ b. IsReleased (record { top = c.top; below = b }) g h × Given m n (released_by c.top.0 b) in
+    subst goes (sym e) k

@@ -6,5 +6,6 @@ pub mod FreshOnes
 pub mod Plugging
 pub mod ChainsMade
 pub mod LettingGo
+pub mod ShuttingDown
 pub mod Collecting
 pub mod Staying

@@ -2,17 +2,17 @@ ghost use Rattle.std.specs.Prelude.{◌≡◌, ◌+◌, ◌<◌, ◌≤◌, ◌^
 ghost use Rattle.nb_chains.specs.Chains.{AreChained, BeginsOne, BeginsTwo, CallsTwo, ClosesSole, ClosesTwo};
 ghost use Rattle.nb_chains.specs.Chains.{GoesOn, HearsOne, IsReleased, IsShutChain, TicksOne, chain_ids, last_serial};
 ghost use Rattle.nb_chains.specs.Chains.{own_graph, released_notices, source_for};
-ghost use Rattle.nb_frames.specs.Frames.{graph_of};
+ghost use Rattle.nb_chains.specs.Ends.{AreUnlinked, ClosesFreeSlots, HasFreeSlots, ShutsSole, ShutsTwo};
+ghost use Rattle.nb_frames.specs.Frames.{is_one_of};
 ghost use Rattle.nb_graph.specs.Deeds.{Wants};
-ghost use Rattle.nb_graph.specs.Noded.{AreNoded};
 ghost use Rattle.nb_graph.specs.Went.{WentOne};
 ghost use Rattle.nb_ledger.specs.Flat.{Given};
 ghost use Rattle.nb_ledger.specs.Ledger.{holds, object_lives};
 ghost use Rattle.nb_ledger.specs.declared.event.GraphEvent.TheVariants.{LetGo};
-ghost use Rattle.nb_nodes.specs.Objects.{obj_nature, rank_of_obj};
+ghost use Rattle.nb_nodes.specs.Objects.{obj_nature};
 ghost use Rattle.nb_nodes.specs.Standing.{ObjStands};
 ghost use Rattle.nb_opens.specs.Notices.{freed_notices};
-ghost use Rattle.nb_opens.specs.Pairs.{AreShut, HasEnded, body_in};
+ghost use Rattle.nb_opens.specs.Pairs.{HasEnded, body_in};
 ghost use Rattle.nb_ledger.specs.declared.port.ObjId.{ObjId as TheObjId};
 ghost use Rattle.nb_graph.specs.Whole.{port_at};
 ghost use Rattle.nb_ledger.specs.declared.event.Way.TheVariants as way;
@@ -164,6 +164,25 @@ impl Chain {
         }
     }
 
+    /// The end of a run: all ports of its objects are closed with this cause, by rising serial and slot, also those that
+    /// nothing is plugged to, and its objects are let go as they were made.
+    pub fn shut_down<O: Outside>(self, graph: &mut Graph<Obj>, cause: &Cause, now: u64, out: &mut O)
+        requires { AreChained graph.old (chain_ids self) }
+        ensures file { ShutsTwo self graph.old graph.new cause.now (O.events out.old) (O.events out.new) }
+        ensures one { ShutsSole self graph.old graph.new cause.now (O.events out.old) (O.events out.new) }
+    {
+        self.close(graph, cause, now, out);
+        graph.has_nodes();
+        close_free(graph, self.top, cause, now, out);
+        match self.below {
+            None => let_go(graph, self.top, out),
+            Some(below) => {
+                close_free(graph, below, cause, now, out);
+                let_both_go(graph, self.top, below, out);
+            }
+        }
+    }
+
     /// The port to the user.
     fn user(self) -> Port
         ensures { result ≡ port_at self.top.0 0 }
@@ -216,24 +235,36 @@ fn body_in(load: Option<Load>) -> Option<Body>
     }
 }
 
-/// Lets two objects go.
+/// Closes the two slots of an object that nothing is plugged to.
+fn close_free<O: Outside>(graph: &mut Graph<Obj>, id: ObjId, cause: &Cause, now: u64, out: &mut O)
+    ensures on { (ids : List ℕ) → AreChained graph.old ids → is_one_of ids id.0 ≡ true → GoesOn ids graph.old graph.new }
+    ensures free { HasFreeSlots graph.old id.0 → ClosesFreeSlots graph.old graph.new (O.events out.old) (O.events out.new)
+        id.0 cause.now }
+{
+    graph.has_nodes();
+    let first = Port { obj: id, slot: 2 };
+    graph.close(first, cause, now, out);
+    graph.has_nodes();
+    let other = Port { obj: id, slot: 3 };
+    graph.close(other, cause, now, out);
+    graph.has_nodes();
+}
+
+/// Lets two objects go that have no link.
 fn let_both_go<O: Outside>(graph: &mut Graph<Obj>, top: ObjId, below: ObjId, out: &mut O)
-    requires chained { AreChained graph.old (top.0 ∷ below.0 ∷ []) }
-    requires shut { AreShut (graph_of (top.0 ∷ below.0 ∷ []) graph.old) top.0 below.0 }
-    requires noded { AreNoded rank_of_obj graph.old }
-    ensures released { IsReleased (record { top = top; below = Some below }) graph.old graph.new }
-    ensures told { Given (O.events out.old) (O.events out.new) (freed_notices top.0 below.0) }
+    ensures { AreUnlinked graph.old top.0 below.0
+        → IsReleased (record { top = top; below = Some below }) graph.old graph.new
+        × Given (O.events out.old) (O.events out.new) (freed_notices top.0 below.0) }
 {
     let_go(graph, top, out);
     let_go(graph, below, out);
 }
 
-/// Lets the hold of an object go that has one.
+/// Lets the hold of an object go that lives and has one.
 fn let_go<O: Outside>(graph: &mut Graph<Obj>, id: ObjId, out: &mut O)
-    requires lives { object_lives graph.old.book id.0 ≡ true }
-    requires held { 0 < holds graph.old.book id.0 }
-    ensures { (now : ℕ) → WentOne ObjStands obj_nature now (Wants (LetGo id) ∷ []) graph.old graph.new
-        (O.events out.old) (O.events out.new) }
+    ensures { object_lives graph.old.book id.0 ≡ true → 0 < holds graph.old.book id.0 → (now : ℕ)
+        → WentOne ObjStands obj_nature now (Wants (LetGo id) ∷ []) graph.old graph.new (O.events out.old)
+        (O.events out.new) }
 {
     let _held = graph.let_go(id, out);
 }
