@@ -1,0 +1,3 @@
+pub mod WebAsks
+pub mod WebEffects
+pub mod WebTalks
