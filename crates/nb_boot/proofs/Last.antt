@@ -16,7 +16,7 @@ use Rattle.nb_machine.specs.CommandRecords.{stopped_cause}
 use Rattle.nb_engine.specs.Seen.{Seen, FitsGraph, IsCastFor, of_one, of_two, of_waited, StandsFor, as_ready, as_running, as_waiting, as_asking, as_reaching, as_sleeping, as_yielded, as_handing, as_left, as_handed_off, as_stopped}
 use Rattle.nb_engine.specs.declared.inquiry.Inquiry.{Inquiry}
 use Rattle.nb_engine.specs.Turns.{closing_records, shut_records, shut_alone, one_shut_events}
-use Rattle.nb_engine.specs.declared.speaker.Speaker.{Speaker}
+use Rattle.nb_teller.specs.declared.speaker.Speaker.{Speaker}
 
 -- the records that close a run of a machine
 abbrev pub closing : Machine → ℕ → List Out

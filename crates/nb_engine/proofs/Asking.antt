@@ -29,7 +29,7 @@ use Rattle.nb_machine.specs.Running.{Running, entered, further}
 use Rattle.nb_engine.specs.Machine.{at, running, waiting, Moves, asks_for, finds_no_route}
 use Rattle.nb_machine.specs.CommandRecords.{command_record, no_route}
 use Rattle.nb_runner.specs.NextCommand.{HasCommand}
-use Rattle.nb_engine.specs.Tellings.{told_records}
+use Rattle.nb_teller.specs.Tellings.{told_records}
 use Rattle.nb_engine.specs.Fetches.{IsLive, fetch_for, speaker_of}
 use Rattle.nb_engine.specs.Advance.{PutsBegun, TurnsBack}
 use Rattle.nb_engine.specs.Seen.{Seen, seen, KeepsOrder, as_running, as_waiting}
@@ -49,7 +49,7 @@ use Rattle.nb_runner.proofs.Puts.{Puts-outs}
 use Rattle.nb_engine.proofs.Sides.{same_bare}
 use Rattle.nb_engine.proofs.Standing.{stands_at}
 use Rattle.nb_engine.proofs.Moves.{move_from}
-use Rattle.nb_engine.proofs.TellingLemmas.{SpeaksFor, send_told, told-append, begun_told, without-append, without_traced, without_aside, aside_messages, sent_messages}
+use Rattle.nb_teller.proofs.TellingLemmas.{SpeaksFor, send_told, told-append, begun_told, without-append, without_traced, without_aside, aside_messages, sent_messages}
 
 -- the fetch of the next open
 abbrev pub next_fetch : World → Download → Wanted → Fetch

@@ -8,10 +8,10 @@ use Rattle.nb_opens.specs.declared.download.Download.{Download}
 use Rattle.nb_opens.specs.Notices.{made_notices, completed_notices}
 use Rattle.nb_opens.specs.Pairs.{DoesBegin, BeginDoes, begins, fails_at_once}
 use Rattle.nb_stack.specs.Client.{Client}
-use Rattle.nb_engine.specs.declared.speaker.Speaker.{Speaker}
+use Rattle.nb_teller.specs.declared.speaker.Speaker.{Speaker}
 use Rattle.nb_engine.specs.Objects.{BeginsOpen, BeginsCompleted}
-use Rattle.nb_engine.specs.Spelling.{Spelling, heard_by, IsBlank, IsSpelled, IsWhole}
-use Rattle.nb_engine.proofs.SpellingLemmas.{spelled_is, no_want}
+use Rattle.nb_teller.specs.Spelling.{Spelling, heard_by, IsBlank, IsSpelled, IsWhole}
+use Rattle.nb_teller.proofs.SpellingLemmas.{spelled_is, no_want}
 
 begins_by : (net : Client) (who : Speaker) (g : Objects Obj) (d : Download) (b : Begun) (now rec : ℕ) (made told : Spelling) (ns : List Notice) → IsSpelled net who made (made_notices d.fetch.0 d.tftp.0) →
     IsSpelled net who told ns → BeginDoes g d.fetch.0 d.tftp.0 b now rec ns → IsWhole told → BeginsOpen net who g d b now rec made told

@@ -22,7 +22,7 @@ use Rattle.nb_engine.specs.declared.stage.Stage.TheVariants as stage
 use Rattle.nb_engine.specs.declared.inquiry.Inquiry.{Inquiry}
 use Rattle.nb_runner.specs.declared.query.Query.{Query as Asked}
 use Rattle.nb_runner.specs.declared.query.Query.TheVariants as asked
-use Rattle.nb_engine.specs.declared.speaker.Speaker.{Speaker}
+use Rattle.nb_teller.specs.declared.speaker.Speaker.{Speaker}
 use Rattle.nb_runner.specs.declared.world.World.{World}
 use Rattle.nb_runner.specs.Intents.{query_of, CanAsk}
 use Rattle.nb_engine.specs.Inquiries.{kind_of_talk, kind_of_query, made_beside, company_of, IsBackedBy, IsNextObject, TalksAs, FitsQuery, IsWaiterOf, onward_waiter}
@@ -30,7 +30,8 @@ use Rattle.nb_engine.specs.Lones.{talk_for, open_told}
 use Rattle.nb_machine.specs.Queries.{Query, for_lease, for_echo, for_address, for_host}
 use Rattle.nb_engine.specs.Seen.{IsCastFor, of_one, of_two, IsSound}
 use Rattle.nb_engine.specs.Talks.{Talk, looks_up, leases, pings, fields_of}
-use Rattle.nb_engine.specs.Tellings.{told_records, carrier_number}
+use Rattle.nb_teller.specs.Tellings.{told_records}
+use Rattle.nb_teller.specs.Speakers.{carrier_number}
 use Rattle.nb_engine.proofs.InquiryRecords.{casts, beside_made_events}
 use Rattle.nb_engine.proofs.TalkLemmas.{left_by}
 use Rattle.nb_engine.proofs.Talkings.{talks_open}

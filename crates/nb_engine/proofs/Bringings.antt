@@ -14,23 +14,23 @@ use Rattle.nb_stack.specs.Bound.{owner_of, with_port}
 use Rattle.nb_stack.specs.Takes.{Outcome, dropped, replied, handed}
 use Rattle.nb_stack.proofs.ShortLaws.{IsShort}
 use Rattle.nb_engine.specs.declared.inquiry.Inquiry.{Inquiry}
-use Rattle.nb_engine.specs.declared.speaker.Carrier.{Carrier}
-use Rattle.nb_engine.specs.declared.speaker.Carrier.TheVariants.{Udp, Icmp}
+use Rattle.nb_teller.specs.declared.speaker.Carrier.{Carrier}
+use Rattle.nb_teller.specs.declared.speaker.Carrier.TheVariants.{Udp, Icmp}
 use Rattle.nb_opens.specs.Companies.{company_with}
 use Rattle.nb_terms.specs.declared.cause.Cause.{Cause}
 use Rattle.nb_graph.specs.Deeds.{no_memory}
 use Rattle.nb_opens.specs.Notices.{first_close}
 use Rattle.nb_stack.specs.Client.{Client}
-use Rattle.nb_engine.specs.declared.speaker.Speaker.{Speaker}
-use Rattle.nb_engine.specs.Spelling.{Spelling, heard_by, IsBlank, IsSpelled, HasSpelled}
+use Rattle.nb_teller.specs.declared.speaker.Speaker.{Speaker}
+use Rattle.nb_teller.specs.Spelling.{Spelling, heard_by, IsBlank, IsSpelled, HasSpelled}
 use Rattle.nb_engine.specs.Inquiries.{company_of, IsInquiryOf, IsLiveLone, IsInquiring, IsTakenBy, TalkDoes, DoesToTalks}
 use Rattle.nb_engine.specs.GraphSteps.{way_of_incoming}
 use Rattle.nb_engine.specs.Lones.{Lone}
 use Rattle.nb_engine.specs.Replying.{HasBrought, WasBrought}
 use Rattle.nb_engine.specs.Talks.{Talk, looks_up, leases, pings, Incoming, message_for, counts_for, port_of}
 use Rattle.nb_machine.specs.Saying.{datagram_from}
-use Rattle.nb_engine.specs.Tellings.{carrier_number}
-use Rattle.nb_engine.proofs.SpellingLemmas.{spelled_is, spelled_close}
+use Rattle.nb_teller.specs.Speakers.{carrier_number}
+use Rattle.nb_teller.proofs.SpellingLemmas.{spelled_is, spelled_close}
 use Rattle.nb_engine.proofs.ReplyingLemmas.{company_stays}
 
 -- what came to the object of an inquiry in this record is spelled where nothing is lost, and comes to each talk

@@ -18,7 +18,7 @@ use Rattle.nb_nodes.specs.LookupExchanges.{address_said}
 use Rattle.nb_nodes.specs.LeaseExchanges.{lease_said}
 use Rattle.nb_opens.specs.AloneNotices.{alone_call, alone_end, alone_freed}
 use Rattle.nb_opens.specs.Notices.{tells, sent_from}
-use Rattle.nb_engine.specs.Deliveries.{delivered_bytes, delivered_address}
+use Rattle.nb_teller.specs.Deliveries.{delivered_bytes, delivered_address}
 
 -- a message that delivers nothing
 abbrev DeliversNone : Said → Type 0

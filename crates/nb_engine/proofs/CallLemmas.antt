@@ -25,10 +25,10 @@ use Rattle.nb_opens.specs.PairEvents.{call_front, up_events, end_events, call_ba
 use Rattle.nb_opens.specs.Notices.{tells, or_else, first_close, sent_from, down_notices, up_notices, end_notices, call_notices, passed_on, closed_late, large_notices, freed_notices}
 use Rattle.nb_stack.specs.Client.{Client}
 use Rattle.nb_machine.specs.Sendings.{acts_records}
-use Rattle.nb_engine.specs.declared.speaker.Speaker.{Speaker}
-use Rattle.nb_engine.specs.Tellings.{told_records}
-use Rattle.nb_engine.proofs.SpellingLemmas.{first_close-append}
-use Rattle.nb_engine.proofs.TellingLemmas.{AreSendsOf, none, one, SpeaksFor, told-append, call_told, large_told, down_told, aside_messages, sent_messages, without-append, without_traced, without_aside}
+use Rattle.nb_teller.specs.declared.speaker.Speaker.{Speaker}
+use Rattle.nb_teller.specs.Tellings.{told_records}
+use Rattle.nb_teller.proofs.SpellingLemmas.{first_close-append}
+use Rattle.nb_teller.proofs.TellingLemmas.{AreSendsOf, none, one, SpeaksFor, told-append, call_told, large_told, down_told, aside_messages, sent_messages, without-append, without_traced, without_aside}
 
 -- what goes down closes nothing
 down_closes : (p : Port) (ms : List Said) → first_close (map (sent_from p) ms) ≡ None

@@ -18,7 +18,7 @@ use Rattle.nb_opens.specs.Notices.{serial}
 use Rattle.nb_opens.specs.Waiters.{waiter_serial}
 use Rattle.nb_engine.specs.declared.inquiry.Inquiry.{Inquiry}
 use Rattle.nb_engine.specs.declared.prepared.Prepared.{Prepared}
-use Rattle.nb_engine.specs.declared.speaker.Speaker.{Speaker}
+use Rattle.nb_teller.specs.declared.speaker.Speaker.{Speaker}
 use Rattle.nb_engine.specs.declared.stage.Stage.TheVariants as stage
 use Rattle.nb_runner.specs.declared.world.World.{World}
 use Rattle.nb_runner.specs.CommandWords.{onward_of}
@@ -35,7 +35,7 @@ use Rattle.nb_engine.specs.Reaching.{PutsEcho}
 use Rattle.nb_machine.specs.Running.{Running, with_result}
 use Rattle.nb_engine.specs.Seen.{seen, KeepsOrder, as_running, as_asking, IsCastFor, of_waited}
 use Rattle.nb_engine.specs.Talks.{fields_of, first_message}
-use Rattle.nb_engine.specs.Tellings.{told_records}
+use Rattle.nb_teller.specs.Tellings.{told_records}
 use Rattle.nb_engine.specs.Turns.{Grows}
 use Rattle.nb_runner.specs.World.{with_ended_open}
 use Rattle.nb_engine.proofs.Besides.{live_here}
@@ -44,7 +44,7 @@ use Rattle.nb_engine.proofs.InquiryRecords.{first_records, first_is, told_so, to
 use Rattle.nb_engine.proofs.Moves.{move_from}
 use Rattle.nb_engine.proofs.Onwards.{prepared_here, reaches_here}
 use Rattle.nb_runner.proofs.Puts.{Puts-outs}
-use Rattle.nb_engine.proofs.TellingLemmas.{without-append, sent_messages}
+use Rattle.nb_teller.proofs.TellingLemmas.{without-append, sent_messages}
 
 -- the Ping is the one that has waited
 pub is_kept : (k : Prepared) (x : ℕ) → IsWaiterOf kind.Ping k.waiter → x ≡ waiter_serial k.waiter → k.waiter ≡ waiter.Ping (serial x)

@@ -14,12 +14,12 @@ use Rattle.nb_opens.specs.Companies.{Company}
 use Rattle.nb_opens.specs.Notices.{tells, first_close}
 use Rattle.nb_opens.specs.Pairs.{CallDoes, goes_on as call_goes_on, is_over as call_is_over, is_too_large as call_too_large, fails as call_fails}
 use Rattle.nb_stack.specs.Client.{Client}
-use Rattle.nb_engine.specs.declared.speaker.Speaker.{Speaker}
+use Rattle.nb_teller.specs.declared.speaker.Speaker.{Speaker}
 use Rattle.nb_engine.specs.GraphSteps.{EntersFirst}
 use Rattle.nb_engine.specs.Inquiries.{TalkDoes, asks_on, comes_to_end, runs_out}
 use Rattle.nb_engine.specs.Talks.{Talk, Incoming}
-use Rattle.nb_engine.specs.Tellings.{told_records}
-use Rattle.nb_engine.proofs.TellingLemmas.{told-append}
+use Rattle.nb_teller.specs.Tellings.{told_records}
+use Rattle.nb_teller.proofs.TellingLemmas.{told-append}
 
 -- what is told begins with an entry
 told_first : (net : Client) (who : Speaker) (p : Port) (by : Way) (rest ns : List Notice) → ns ≡ tells (Entered p by) ∷ rest → EntersFirst by (told_records net who ns)

@@ -33,7 +33,7 @@ use Rattle.nb_engine.specs.Seen.{Seen, seen, FitsAt, as_running, as_waiting, as_
 use Rattle.nb_engine.specs.Heeding.{Heeds, Follows, Comes}
 use Rattle.nb_engine.specs.Turns.{Grows, AnswersTurn, shut_records}
 use Rattle.nb_engine.proofs.Standing.{stands_at}
-use Rattle.nb_engine.proofs.TellingLemmas.{without-append, without_traced, without_aside}
+use Rattle.nb_teller.proofs.TellingLemmas.{without-append, without_traced, without_aside}
 use Rattle.nb_engine.proofs.Sides.{aside_begins, moves_from, aside_reply, keep}
 
 -- from a state to the next by a record

@@ -15,9 +15,9 @@ use Rattle.nb_engine.specs.Opens.{Open, body_of}
 use Rattle.nb_engine.specs.Fetches.{IsLive}
 use Rattle.nb_engine.specs.Heeding.{HasHeard, WasCalled, DoesEach}
 use Rattle.nb_stack.specs.Client.{Client}
-use Rattle.nb_engine.specs.declared.speaker.Speaker.{Speaker}
-use Rattle.nb_engine.specs.Spelling.{Spelling, heard_by, IsBlank, IsSpelled}
-use Rattle.nb_engine.proofs.SpellingLemmas.{spelled_is}
+use Rattle.nb_teller.specs.declared.speaker.Speaker.{Speaker}
+use Rattle.nb_teller.specs.Spelling.{Spelling, heard_by, IsBlank, IsSpelled}
+use Rattle.nb_teller.proofs.SpellingLemmas.{spelled_is}
 
 pub heard_of : (g h : Objects Obj) (f : Fetch) (p : Port) (by : Way) (rec : ℕ) (call : Call) (ns : List Notice) (o : Open) → by ≡ way_of_call call → DoesEach g h f.objects p by rec call ns → IsLive g f o → HasHeard h f p by rec ns o call
 heard_of g h f p by rec call ns o way does live = record {

@@ -41,16 +41,16 @@ use Rattle.nb_engine.specs.Machine.{Phase, Hears, goes_on, is_over, waiting, at,
 use Rattle.nb_engine.specs.declared.conclusion.Conclusion.{Conclusion as Concluded}
 use Rattle.nb_engine.specs.declared.conclusion.Conclusion.TheVariants as concluded
 use Rattle.nb_engine.specs.Objects.{IsFile}
-use Rattle.nb_engine.specs.Tellings.{told_records}
+use Rattle.nb_teller.specs.Tellings.{told_records}
 use Rattle.nb_engine.specs.Fetches.{IsLive, IsFetchOf, HasKept, conclusion_of, speaker_of}
 use Rattle.nb_engine.specs.Seen.{Seen, seen, StandsFor, as_waiting, IsSound, FitsAt, KeepsOrder}
-use Rattle.nb_engine.specs.declared.speaker.Speaker.{Speaker}
+use Rattle.nb_teller.specs.declared.speaker.Speaker.{Speaker}
 use Rattle.nb_stack.specs.Client.{Client}
 use Rattle.nb_engine.specs.Heeding.{Heeds, Follows, HasHeard, IsCalled, WasCalled}
-use Rattle.nb_engine.specs.Spelling.{Spelling, HasSpelled}
+use Rattle.nb_teller.specs.Spelling.{Spelling, HasSpelled}
 use Rattle.nb_engine.specs.Concluding.{EndsOpen, HasEndedOpen, end_records, comes_to}
 use Rattle.nb_runner.proofs.Puts.{is_either}
-use Rattle.nb_engine.proofs.TellingLemmas.{SpeaksFor, without-append, without_aside}
+use Rattle.nb_teller.proofs.TellingLemmas.{SpeaksFor, without-append, without_aside}
 use Rattle.nb_engine.proofs.Sides.{aside_conclusion}
 use Rattle.nb_engine.proofs.CallLemmas.{call_closes, large_closes, meets_sends, call_others, large_others, freed_others, goes_order, ends_order, large_order, ending}
 

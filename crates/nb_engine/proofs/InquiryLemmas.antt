@@ -20,7 +20,7 @@ use Rattle.nb_runner.specs.declared.query.Query.{Query as Asked}
 use Rattle.nb_runner.specs.declared.query.Query.TheVariants as asked
 use Rattle.nb_engine.specs.declared.opening.Opening.{Opening}
 use Rattle.nb_engine.specs.declared.opening.Opening.TheVariants as opening
-use Rattle.nb_engine.specs.declared.speaker.Speaker.{Speaker}
+use Rattle.nb_teller.specs.declared.speaker.Speaker.{Speaker}
 use Rattle.nb_engine.specs.declared.stage.Stage.{Stage}
 use Rattle.nb_engine.specs.declared.stage.Stage.TheVariants as stage
 use Rattle.nb_runner.specs.declared.world.World.{World}
@@ -36,13 +36,14 @@ use Rattle.nb_machine.specs.Queries.{Query, for_lease, for_echo, for_address, fo
 use Rattle.nb_machine.specs.Running.{Running, coming, beginning, entered}
 use Rattle.nb_engine.specs.Seen.{Seen, seen, IsSound, KeepsOrder, as_asking}
 use Rattle.nb_engine.specs.Talks.{Talk, looks_up, leases, pings, fields_of, proto_of, first_message}
-use Rattle.nb_engine.specs.Tellings.{carrier_number, told_records}
+use Rattle.nb_teller.specs.Tellings.{told_records}
+use Rattle.nb_teller.specs.Speakers.{carrier_number}
 use Rattle.nb_engine.specs.Turns.{Grows}
 use Rattle.nb_engine.proofs.Moves.{move_from}
 use Rattle.nb_engine.proofs.NamedEffects.{intended_named, objects_for}
 use Rattle.nb_engine.proofs.Sides.{same_bare}
 use Rattle.nb_engine.proofs.Standing.{stands_at}
-use Rattle.nb_engine.proofs.TellingLemmas.{sent_messages}
+use Rattle.nb_teller.proofs.TellingLemmas.{sent_messages}
 use Rattle.nb_engine.proofs.Talkings.{talks_open}
 use Rattle.nb_engine.proofs.Besides.{begins_one, backed_talk, cast_of, cast_fits, made_told, live_here, fits_query}
 use Rattle.nb_engine.proofs.InquiryRecords.{all_made_events, first_records, told_so, told_is, begun_records, begun_others, same_opens}

@@ -26,8 +26,9 @@ use Rattle.nb_machine.specs.Queries.{Query}
 use Rattle.nb_machine.specs.Running.{Running}
 use Rattle.nb_engine.specs.Seen.{Seen}
 use Rattle.nb_engine.specs.Talks.{Talk, looks_up, leases, pings, fields_of, first_message}
-use Rattle.nb_engine.specs.Tellings.{datagram_of, told_records}
-use Rattle.nb_engine.proofs.TellingLemmas.{told-append, without-append, without_traced, without_aside, aside_messages}
+use Rattle.nb_teller.specs.Tellings.{told_records}
+use Rattle.nb_teller.specs.Speakers.{datagram_of}
+use Rattle.nb_teller.proofs.TellingLemmas.{told-append, without-append, without_traced, without_aside, aside_messages}
 
 -- a talk's first message is what its speaker sends
 pub same_first : (number : ℕ) (t : Talk) → datagram_of (talker_of number t) (first_message t).to_port (first_message t).body.items ≡ first_message t

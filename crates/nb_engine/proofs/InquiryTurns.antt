@@ -15,7 +15,7 @@ use Rattle.nb_opens.specs.Graphs.{Graphs, bare, holding, prepared, aside, traced
 use Rattle.nb_engine.specs.declared.client.Turn.{Turn}
 use Rattle.nb_engine.specs.declared.client.Turn.TheVariants as turn
 use Rattle.nb_engine.specs.declared.inquiry.Inquiry.{Inquiry}
-use Rattle.nb_engine.specs.declared.speaker.Speaker.{Speaker}
+use Rattle.nb_teller.specs.declared.speaker.Speaker.{Speaker}
 use Rattle.nb_engine.specs.declared.stage.Stage.TheVariants as stage
 use Rattle.nb_runner.specs.declared.status.Status.TheVariants as status
 use Rattle.nb_runner.specs.declared.world.World.{World}
@@ -32,7 +32,7 @@ use Rattle.nb_machine.specs.Running.{Running, coming, beginning, further}
 use Rattle.nb_engine.specs.Seen.{Seen, seen, KeepsOrder, as_running}
 use Rattle.nb_runner.specs.Steps.{moves_in}
 use Rattle.nb_engine.specs.Talks.{Talk, fields_of, first_message}
-use Rattle.nb_engine.specs.Tellings.{told_records}
+use Rattle.nb_teller.specs.Tellings.{told_records}
 use Rattle.nb_engine.specs.Turns.{Grows, AnswersTurn, IsBusy, IsNearer, moves_left}
 use Rattle.nb_runner.specs.World.{with_ended_open}
 use Rattle.nb_runner.proofs.Measures.{further_nearer}
@@ -41,7 +41,7 @@ use Rattle.nb_engine.proofs.NamedEffects.{intended_named, objects_for}
 use Rattle.nb_runner.proofs.Puts.{Puts-outs}
 use Rattle.nb_engine.proofs.Sides.{same_bare}
 use Rattle.nb_engine.proofs.Standing.{stands_at}
-use Rattle.nb_engine.proofs.TellingLemmas.{without-append}
+use Rattle.nb_teller.proofs.TellingLemmas.{without-append}
 use Rattle.nb_engine.proofs.Besides.{turns_one, backed_talk, made_told}
 use Rattle.nb_engine.proofs.TalkLemmas.{left_by, frees, freed_others}
 use Rattle.nb_engine.proofs.InquiryRecords.{all_made_events, first_is, told_is, begun_records, begun_others, nothing_sent, same_opens}

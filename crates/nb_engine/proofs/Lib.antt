@@ -1,9 +1,5 @@
-pub mod TellingLemmas
-pub mod SpellingLemmas
-pub mod Tellers
 pub mod CallLemmas
 pub mod Standing
-pub mod Sendings
 pub mod TurnLemmas
 pub mod Sides
 pub mod Hearings

@@ -32,7 +32,7 @@ use Rattle.nb_engine.specs.Concluding.{IsTurn}
 use Rattle.nb_runner.proofs.Measures.{further_nearer, jump_nearer}
 use Rattle.nb_runner.proofs.Puts.{Puts-nothing}
 use Rattle.nb_engine.proofs.TurnLemmas.{turn_acts}
-use Rattle.nb_engine.proofs.TellingLemmas.{aside-append}
+use Rattle.nb_teller.proofs.TellingLemmas.{aside-append}
 use Rattle.nb_engine.proofs.Sides.{NotWaiting, keep, aside_grows, aside_command}
 use Rattle.nb_engine.proofs.Standing.{stands_at}
 

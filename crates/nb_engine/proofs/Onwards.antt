@@ -39,7 +39,7 @@ use Rattle.nb_engine.proofs.Asking.{next_fetch, asked_records, told_so, told_is,
 use Rattle.nb_engine.proofs.Moves.{move_from}
 use Rattle.nb_runner.proofs.Puts.{Puts-outs}
 use Rattle.nb_engine.proofs.Standing.{stands_at}
-use Rattle.nb_engine.proofs.TellingLemmas.{without-append, without_traced, sent_messages}
+use Rattle.nb_teller.proofs.TellingLemmas.{without-append, without_traced, sent_messages}
 
 -- where the graph stands before
 pub prepared_here : (outs : List Out) (opens made j m : ℕ) (v kept there : Waiter) → (opens ≡ j) × (made ≡ m) × (v ≡ kept) → kept ≡ there → Graphs outs (prepared j m v) → Graphs outs (prepared opens made there)

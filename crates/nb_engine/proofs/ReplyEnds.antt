@@ -19,7 +19,7 @@ use Rattle.nb_stack.specs.Client.{Client}
 use Rattle.nb_engine.specs.declared.client.Turn.{Turn}
 use Rattle.nb_engine.specs.declared.client.Turn.TheVariants as turn
 use Rattle.nb_engine.specs.declared.inquiry.Inquiry.{Inquiry}
-use Rattle.nb_engine.specs.declared.speaker.Speaker.{Speaker}
+use Rattle.nb_teller.specs.declared.speaker.Speaker.{Speaker}
 use Rattle.nb_engine.specs.declared.stage.Stage.TheVariants as stage
 use Rattle.nb_runner.specs.declared.status.Status.TheVariants as status
 use Rattle.nb_runner.specs.declared.world.World.{World}
@@ -30,9 +30,9 @@ use Rattle.nb_machine.specs.Findings.{Settled}
 use Rattle.nb_runner.specs.CommandWords.{onward_of}
 use Rattle.nb_machine.specs.Errands.{Onward}
 use Rattle.nb_engine.specs.declared.prepared.Prepared.{Prepared}
-use Rattle.nb_engine.specs.Deliveries.{delivered_address}
+use Rattle.nb_teller.specs.Deliveries.{delivered_address}
 use Rattle.nb_engine.specs.Machine.{Phase, Replies, comes_to_end as ends_it, finds_host, running, reaching, at}
-use Rattle.nb_engine.specs.Spelling.{Spelling, HasSpelled, IsSpelled}
+use Rattle.nb_teller.specs.Spelling.{Spelling, HasSpelled, IsSpelled}
 use Rattle.nb_machine.specs.Sendings.{acts_records}
 use Rattle.nb_engine.specs.Replying.{HasReplied, RepliesAs, HasBrought, WasBrought, IsBrought, DeliversMessage, HasEndedInquiry, HasFoundHost, EndsAs, EndsInquiry, over_told, end_told, settled_so, onward_by, silent}
 use Rattle.nb_engine.specs.GraphSteps.{EntersFirst, way_of_incoming}
@@ -40,13 +40,13 @@ use Rattle.nb_engine.proofs.Enterings.{talk_enters, enters_more, enters_told_mor
 use Rattle.nb_machine.specs.Running.{Running, with_result}
 use Rattle.nb_engine.specs.Seen.{Seen, seen, StandsFor, as_running, as_reaching, KeepsOrder, FitsAt}
 use Rattle.nb_engine.specs.Talks.{Talk, looks_up, leases, pings, Incoming, TalkGoes}
-use Rattle.nb_engine.specs.Tellings.{told_records}
+use Rattle.nb_teller.specs.Tellings.{told_records}
 use Rattle.nb_engine.specs.Turns.{IsBusy}
-use Rattle.nb_engine.proofs.SpellingLemmas.{spelled_close}
+use Rattle.nb_teller.proofs.SpellingLemmas.{spelled_close}
 use Rattle.nb_engine.proofs.Settlements.{settles_as, goes_as, delivers_message}
 use Rattle.nb_engine.proofs.Talkings.{asked_stays}
 use Rattle.nb_engine.proofs.TalkLemmas.{alone_freed_others, found_has_none, alone_ends, alone_ending, Talking, is_talking, left_by, left_is, frees, freed_others}
-use Rattle.nb_engine.proofs.TellingLemmas.{without-append}
+use Rattle.nb_teller.proofs.TellingLemmas.{without-append}
 use Rattle.nb_engine.proofs.ReplyingLemmas.{asks_for, no_going, ends_with}
 
 -- what has a first close has ended, unless memory ran out

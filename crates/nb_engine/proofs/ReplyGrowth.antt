@@ -16,7 +16,7 @@ use Rattle.nb_stack.specs.Takes.{Outcome, Takes}
 use Rattle.nb_engine.specs.declared.client.Turn.{Turn}
 use Rattle.nb_engine.specs.declared.client.Turn.TheVariants as turn
 use Rattle.nb_engine.specs.declared.inquiry.Inquiry.{Inquiry}
-use Rattle.nb_engine.specs.declared.speaker.Speaker.{Speaker}
+use Rattle.nb_teller.specs.declared.speaker.Speaker.{Speaker}
 use Rattle.nb_engine.specs.declared.stage.Stage.{Stage}
 use Rattle.nb_engine.specs.declared.stage.Stage.TheVariants as stage
 use Rattle.nb_runner.specs.declared.status.Status.TheVariants as status
@@ -35,7 +35,7 @@ use Rattle.nb_engine.proofs.Growth.{begins_from, reply_is}
 use Rattle.nb_engine.proofs.Sides.{aside_reply, moves_from}
 use Rattle.nb_engine.proofs.Standing.{stands_at}
 use Rattle.nb_engine.proofs.TalkLemmas.{shut_is, last_is}
-use Rattle.nb_engine.proofs.TellingLemmas.{without-append, without_traced, without_aside}
+use Rattle.nb_teller.proofs.TellingLemmas.{without-append, without_traced, without_aside}
 
 -- a step without an entry
 pass_order : (n : ℕ) (s : Running) (i : Inquiry) (opens made : ℕ) (reply : List ℕ) (outs : List Out) (q : GraphAt) → Graphs outs q → FitsAt (stage.Asking s i) opens made q →

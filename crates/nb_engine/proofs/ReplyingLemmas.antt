@@ -17,7 +17,7 @@ use Rattle.nb_opens.specs.Companies.{Company}
 use Rattle.nb_opens.specs.Notices.{first_close}
 use Rattle.nb_stack.specs.Client.{Client}
 use Rattle.nb_engine.specs.declared.inquiry.Inquiry.{Inquiry}
-use Rattle.nb_engine.specs.declared.speaker.Speaker.{Speaker}
+use Rattle.nb_teller.specs.declared.speaker.Speaker.{Speaker}
 use Rattle.nb_engine.specs.declared.stage.Stage.TheVariants as stage
 use Rattle.nb_runner.specs.declared.world.World.{World}
 use Rattle.nb_engine.specs.Inquiries.{IsInquiryOf, IsLiveLone, IsInquiring, TalkDoes, asks_on, comes_to_end, runs_out, company_of, talker_of}
@@ -30,9 +30,9 @@ use Rattle.nb_engine.proofs.Enterings.{talk_enters}
 use Rattle.nb_machine.specs.Running.{Running}
 use Rattle.nb_engine.specs.Seen.{seen, StandsFor, as_asking, IsSound, KeepsOrder}
 use Rattle.nb_engine.specs.Talks.{Talk, Incoming, TalkGoes}
-use Rattle.nb_engine.specs.Tellings.{told_records}
-use Rattle.nb_engine.specs.Spelling.{Spelling, HasSpelled}
-use Rattle.nb_engine.proofs.SpellingLemmas.{spelled_close}
+use Rattle.nb_teller.specs.Tellings.{told_records}
+use Rattle.nb_teller.specs.Spelling.{Spelling, HasSpelled}
+use Rattle.nb_teller.proofs.SpellingLemmas.{spelled_close}
 use Rattle.nb_engine.proofs.Talkings.{talk_sends, talker_stays, asked_stays, talks_open}
 use Rattle.nb_engine.proofs.TalkLemmas.{alone_closes, alone_others, nothing_has_none, HaveNoRecords, Talking, is_talking, goes_alone}
 

@@ -22,7 +22,7 @@ use Rattle.nb_nodes.specs.LookupExchanges.{lookup_for, IsFoundBy}
 use Rattle.nb_opens.specs.AloneNotices.{alone_call, alone_freed}
 use Rattle.nb_settings.specs.Tables.{TableLists}
 use Rattle.nb_command.specs.Addresses.{address_table}
-use Rattle.nb_engine.specs.Deliveries.{delivered_bytes, delivered_address}
+use Rattle.nb_teller.specs.Deliveries.{delivered_bytes, delivered_address}
 use Rattle.nb_runner.specs.declared.errand.Errand.{Errand as Named}
 use Rattle.nb_runner.specs.declared.query.Query.{Query as Asked}
 use Rattle.nb_runner.specs.declared.query.Query.TheVariants as asked

@@ -17,7 +17,7 @@ use Rattle.nb_machine.specs.CommandRecords.{reply_records, prints, command_recor
 use Rattle.nb_engine.specs.GraphSteps.{GraphStep, stays_still, HasNoOpen, MovesGraph, without_open}
 use Rattle.nb_engine.specs.Seen.{Seen, StandsFor, FitsAt, FitsGraph, KeepsOrder, as_ready, as_running, as_waiting, as_asking, as_reaching, as_sleeping, as_yielded, as_handing, as_left, as_handed_off, as_stopped}
 use Rattle.nb_engine.specs.Turns.{Grows, Leads, IsBusy}
-use Rattle.nb_engine.proofs.TellingLemmas.{without_aside, aside-append}
+use Rattle.nb_teller.proofs.TellingLemmas.{without_aside, aside-append}
 
 -- no command waits for an open
 abbrev pub NotWaiting : Stage → Type 0

@@ -20,7 +20,7 @@ use Rattle.nb_opens.specs.declared.waiter.Waiter.{Waiter}
 use Rattle.nb_opens.specs.Graphs.{Graphs, GraphAt, bare, holding, prepared, Cast, solo, AsksBy, beside, after, left_at, last_made, cast_shut, passes as step_passes, goes_on_alone, ends_alone, goes_on_beside, ends_beside, gives_up, IsAtStep, AreSent, IsEntry, traced, without_graph}
 use Rattle.nb_opens.specs.Notices.{tells, first_close, sent_from}
 use Rattle.nb_stack.specs.Client.{Client}
-use Rattle.nb_engine.specs.declared.speaker.Speaker.{Speaker}
+use Rattle.nb_teller.specs.declared.speaker.Speaker.{Speaker}
 use Rattle.nb_engine.specs.declared.inquiry.Inquiry.{Inquiry}
 use Rattle.nb_engine.specs.Inquiries.{Delivers, beside_freed_events, freed_beside}
 use Rattle.nb_opens.specs.Companies.{beside_shut}
@@ -28,9 +28,10 @@ use Rattle.nb_engine.specs.Seen.{IsCastFor, of_one as cast_of_one, of_two as cas
 use Rattle.nb_engine.specs.Turns.{one_shut_events}
 use Rattle.nb_machine.specs.Sendings.{send_records, sends_records, advance_records, acts_records}
 use Rattle.nb_engine.specs.Talks.{Talk, looks_up, leases, pings}
-use Rattle.nb_engine.specs.Tellings.{datagram_of, told_records}
+use Rattle.nb_teller.specs.Tellings.{told_records}
+use Rattle.nb_teller.specs.Speakers.{datagram_of}
 use Rattle.nb_engine.proofs.CallLemmas.{without_front, joined}
-use Rattle.nb_engine.proofs.TellingLemmas.{told-append, aside_messages, sent_messages, without-append, without_traced, without_aside}
+use Rattle.nb_teller.proofs.TellingLemmas.{told-append, aside_messages, sent_messages, without-append, without_traced, without_aside}
 
 -- the messages that a core asks for: at most one, from who speaks
 pub data AreSendsBy (who : Speaker) : List SendTo → Type 0 where

@@ -32,9 +32,9 @@ use Rattle.nb_opens.specs.Companies.{Company}
 use Rattle.nb_engine.specs.Inquiries.{IsAskedBy, IsTakenBy, TalkDoes, asks_on, comes_to_end, runs_out, TalksAs, DoesToTalks, talker_of, opening_acts, AsksFor, TalkBegins, starts, fails_at_once}
 use Rattle.nb_opens.specs.AloneNotices.{alone_call}
 use Rattle.nb_stack.specs.Client.{Client}
-use Rattle.nb_engine.specs.declared.speaker.Speaker.{Speaker}
-use Rattle.nb_engine.specs.Spelling.{Spelling, heard_by, IsBlank, IsSpelled, IsWhole}
-use Rattle.nb_engine.proofs.SpellingLemmas.{spelled_is, no_want}
+use Rattle.nb_teller.specs.declared.speaker.Speaker.{Speaker}
+use Rattle.nb_teller.specs.Spelling.{Spelling, heard_by, IsBlank, IsSpelled, IsWhole}
+use Rattle.nb_teller.proofs.SpellingLemmas.{spelled_is, no_want}
 use Rattle.nb_machine.specs.Queries.{Query, for_lease, for_echo, for_address, for_host}
 use Rattle.nb_engine.specs.Talks.{Talk, looks_up, leases, pings, Incoming, message_in, time_in, call_by, TalkGoes, look_up_goes, lease_goes, ping_goes}
 use Rattle.nb_engine.proofs.TalkLemmas.{AreSendsBy, none, one}

@@ -21,13 +21,13 @@ use Rattle.nb_machine.specs.Starting.{own_port}
 use Rattle.nb_engine.specs.Opens.{opened_record}
 use Rattle.nb_machine.specs.Conclusions.{fails, conclusion_records}
 use Rattle.nb_engine.specs.Fetches.{speaker_of}
-use Rattle.nb_engine.specs.Tellings.{told_records}
+use Rattle.nb_teller.specs.Tellings.{told_records}
 use Rattle.nb_defs.specs.Commands.{CommandOutcome}
 use Rattle.nb_machine.specs.Running.{Running, further, coming, beginning}
 use Rattle.nb_machine.specs.CommandRecords.{no_route, command_record}
 use Rattle.nb_engine.specs.Machine.{world_after}
 use Rattle.nb_engine.specs.Seen.{Seen, seen, standing}
-use Rattle.nb_engine.specs.Spelling.{Spelling, IsSpelled}
+use Rattle.nb_teller.specs.Spelling.{Spelling, IsSpelled}
 use Rattle.nb_engine.specs.Concluding.{IsTurn}
 use Rattle.nb_engine.specs.declared.stage.Stage.TheVariants as stage
 

@@ -10,7 +10,7 @@ use Rattle.nb_machine.specs.Running.{Running}
 use Rattle.nb_machine.specs.Conclusions.{Conclusion, conclusion, conclusion_records}
 use Rattle.nb_runner.specs.World.{unbound}
 use Rattle.nb_engine.specs.Fetches.{conclusion_of, speaker_of}
-use Rattle.nb_engine.specs.Tellings.{told_records}
+use Rattle.nb_teller.specs.Tellings.{told_records}
 use Rattle.nb_opens.specs.Graphs.{bare}
 use Rattle.nb_opens.specs.Notices.{freed_notices}
 use Rattle.nb_opens.specs.Pairs.{HasEnded}

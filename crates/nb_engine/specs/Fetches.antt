@@ -3,7 +3,6 @@ use Rattle.std.specs.Prelude.{◌≡◌, ◌<◌, ◌≤◌, ℕ, length, Bool, 
 use Rattle.nb_graph.specs.Whole.{Objects}
 use Rattle.nb_nodes.specs.declared.obj.Obj.{Obj}
 use Rattle.nb_image.specs.Images.{ImageList}
-use Rattle.nb_wire.specs.declared.address.Ip4.{Ip4}
 use Rattle.nb_opens.specs.declared.download.Download.{Download}
 use Rattle.nb_opens.specs.Pairs.{Downloads}
 use Rattle.nb_engine.specs.declared.fetch.Fetch.{Fetch}
@@ -14,17 +13,13 @@ use Rattle.nb_engine.specs.Opens.{Open, body_of}
 use Rattle.nb_command.specs.SettingAddresses.{host}
 use Rattle.nb_machine.specs.Errands.{Wanted}
 use Rattle.nb_machine.specs.Conclusions.{Conclusion, keeps, fails, boots}
-use Rattle.nb_engine.specs.declared.speaker.Speaker.{Speaker}
-use Rattle.nb_engine.specs.declared.speaker.Carrier.TheVariants.{Udp}
+use Rattle.nb_teller.specs.declared.speaker.Speaker.{Speaker}
+use Rattle.nb_teller.specs.Speakers.{speaker_by}
 
 -- a fetch of this file, of the open of this number, which has these objects
 abbrev pub fetch_for : ℕ → Download → ℕ → Wanted → Fetch
 fetch_for number objects own_port wanted =
     record { number = number; objects = objects; server = host wanted.target.server; own_port = own_port; name = wanted.target.name; uri = wanted.uri; boots = wanted.boots }
-
--- who speaks for an open of this number that sends by UDP, to this server from this port
-abbrev pub speaker_by : ℕ → Ip4 → ℕ → Speaker
-speaker_by number server own_port = record { number = number; carrier = Udp; server = server; own_port = own_port }
 
 -- who speaks for a fetch
 abbrev pub speaker_of : Fetch → Speaker

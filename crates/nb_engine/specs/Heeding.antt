@@ -1,6 +1,6 @@
 -- What a datagram or a time does to a client whose command waits.
-use Rattle.std.specs.Prelude.{◌≡◌, ◌⊎◌, ℕ, ◌+◌, List, [], ◌∷◌, ◌≤◌, length}
-use Rattle.nb_defs.specs.Records.{In, Out, out_texts, step, IsFrameRecord}
+use Rattle.std.specs.Prelude.{◌≡◌, ℕ, ◌+◌, List, [], ◌∷◌, ◌≤◌, length}
+use Rattle.nb_defs.specs.Records.{In, Out, out_texts, step}
 use Rattle.nb_record.specs.Logged.{Logged, Puts}
 use Rattle.nb_stack.specs.Client.{Client}
 use Rattle.nb_stack.specs.Takes.{Outcome, Takes}
@@ -23,8 +23,8 @@ use Rattle.nb_machine.specs.Running.{Running}
 use Rattle.nb_engine.specs.Opens.{Open, body_of}
 use Rattle.nb_engine.specs.Fetches.{IsFetchOf, IsLive}
 use Rattle.nb_engine.specs.Seen.{Seen, seen, StandsFor, KeepsOrder}
-use Rattle.nb_engine.specs.Spelling.{Spelling, IsSpelled}
-use Rattle.nb_engine.specs.declared.speaker.Speaker.{Speaker}
+use Rattle.nb_teller.specs.Spelling.{Spelling, IsSpelled}
+use Rattle.nb_teller.specs.declared.speaker.Speaker.{Speaker}
 use Rattle.nb_engine.specs.Turns.{AnswersTurn, IsBusy, IsWaiting, HasYielded, IsOverWith, IsEnd}
 use Rattle.nb_engine.specs.declared.fetch.Fetch.{Fetch}
 use Rattle.nb_runner.specs.declared.status.Status.TheVariants as status
@@ -92,7 +92,3 @@ pub record TakesFrame (bytes : List ℕ) (before after : Seen) (old new : Logged
   pub puts : Puts old new (out_texts (step before.used ∷ reply_records reply))
   pub after_is : after ≡ seen before.used (with_net before.world net) before.graph after.stage
   pub ports : net.ports ≡ []
-
--- nothing, or a frame
-abbrev pub IsReply : List ℕ → Type 0
-IsReply bytes = (bytes ≡ []) ⊎ IsFrameRecord bytes

@@ -31,12 +31,12 @@ use Rattle.nb_runner.specs.declared.query.Query.{Query as Asked}
 use Rattle.nb_runner.specs.declared.query.Query.TheVariants as asked
 use Rattle.nb_engine.specs.declared.opening.Opening.{Opening}
 use Rattle.nb_engine.specs.declared.opening.Opening.TheVariants as opening
-use Rattle.nb_engine.specs.declared.speaker.Carrier.{Carrier}
-use Rattle.nb_engine.specs.declared.speaker.Carrier.TheVariants.{Udp, Icmp}
-use Rattle.nb_engine.specs.declared.speaker.Speaker.{Speaker}
+use Rattle.nb_teller.specs.declared.speaker.Carrier.{Carrier}
+use Rattle.nb_teller.specs.declared.speaker.Carrier.TheVariants.{Udp, Icmp}
+use Rattle.nb_teller.specs.declared.speaker.Speaker.{Speaker}
 use Rattle.nb_command.specs.SettingAddresses.{host}
 use Rattle.nb_engine.specs.Lones.{Lone}
-use Rattle.nb_engine.specs.Spelling.{Spelling, IsSpelled}
+use Rattle.nb_teller.specs.Spelling.{Spelling, IsSpelled}
 use Rattle.nb_runner.specs.CommandWords.{FitsErrand}
 use Rattle.nb_machine.specs.Errands.{Errand, fetches_then, echoes_then, Onward, fetches_now, echoes_now}
 use Rattle.nb_machine.specs.Queries.{Query, for_lease, for_echo, for_address, for_host}

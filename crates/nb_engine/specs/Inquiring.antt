@@ -25,8 +25,8 @@ use Rattle.nb_machine.specs.Running.{Running, further, coming, beginning}
 use Rattle.nb_machine.specs.CommandRecords.{command_record, no_route}
 use Rattle.nb_engine.specs.Machine.{world_after}
 use Rattle.nb_engine.specs.Seen.{Seen, seen}
-use Rattle.nb_engine.specs.Spelling.{Spelling, IsSpelled}
-use Rattle.nb_engine.specs.Tellings.{told_records}
+use Rattle.nb_teller.specs.Spelling.{Spelling, IsSpelled}
+use Rattle.nb_teller.specs.Tellings.{told_records}
 
 -- the inquiry is that of the next open
 abbrev pub IsNextInquiry : World → Inquiry → Type 0

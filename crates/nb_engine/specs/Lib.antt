@@ -3,10 +3,7 @@ pub mod Talks
 pub mod Lones
 pub mod Machine
 pub mod GraphSteps
-pub mod Tellings
-pub mod Spelling
 pub mod Objects
-pub mod Deliveries
 pub mod Inquiries
 pub mod Fetches
 pub mod Seen

@@ -9,8 +9,8 @@ use Rattle.nb_opens.specs.declared.download.Download.{Download}
 use Rattle.nb_opens.specs.Notices.{made_notices, completed_notices, begun_notices}
 use Rattle.nb_opens.specs.Pairs.{Downloads}
 use Rattle.nb_stack.specs.Client.{Client}
-use Rattle.nb_engine.specs.declared.speaker.Speaker.{Speaker}
-use Rattle.nb_engine.specs.Spelling.{Spelling, IsSpelled}
+use Rattle.nb_teller.specs.declared.speaker.Speaker.{Speaker}
+use Rattle.nb_teller.specs.Spelling.{Spelling, IsSpelled}
 
 -- the objects of an open, these, were made, and its transfer was begun in the record rec, at a time
 pub record BeginsOpen (net : Client) (who : Speaker) (g : Objects Obj) (d : Download) (b : Begun) (now rec : ℕ) (made told : Spelling) : Type 0 where

@@ -27,9 +27,9 @@ use Rattle.nb_machine.specs.CommandRecords.{no_route}
 use Rattle.nb_engine.specs.Opens.{opened_record}
 use Rattle.nb_machine.specs.Running.{Running, with_result}
 use Rattle.nb_engine.specs.Seen.{Seen, seen}
-use Rattle.nb_engine.specs.Spelling.{Spelling, IsSpelled}
+use Rattle.nb_teller.specs.Spelling.{Spelling, IsSpelled}
 use Rattle.nb_engine.specs.Talks.{fields_of}
-use Rattle.nb_engine.specs.Tellings.{told_records}
+use Rattle.nb_teller.specs.Tellings.{told_records}
 use Rattle.nb_engine.specs.Turns.{OrRanOut}
 use Rattle.nb_runner.specs.World.{with_ended_open}
 

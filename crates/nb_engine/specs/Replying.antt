@@ -19,7 +19,7 @@ use Rattle.nb_opens.specs.Graphs.{traced, without_graph, bare, prepared as prepa
 use Rattle.nb_stack.specs.Bound.{without}
 use Rattle.nb_engine.specs.declared.inquiry.Inquiry.{Inquiry}
 use Rattle.nb_engine.specs.declared.prepared.Prepared.{Prepared}
-use Rattle.nb_engine.specs.declared.speaker.Speaker.{Speaker}
+use Rattle.nb_teller.specs.declared.speaker.Speaker.{Speaker}
 use Rattle.nb_runner.specs.declared.status.Status.TheVariants as status
 use Rattle.nb_runner.specs.declared.world.World.{World}
 use Rattle.nb_engine.specs.declared.client.Turn.{Turn}
@@ -35,12 +35,13 @@ use Rattle.nb_machine.specs.Findings.{Settled, lease_change, settled_by}
 use Rattle.nb_engine.specs.Machine.{Phase, Replies, at}
 use Rattle.nb_engine.specs.GraphSteps.{EntersFirst, way_of_incoming}
 use Rattle.nb_machine.specs.Running.{Running, with_result}
-use Rattle.nb_engine.specs.Deliveries.{delivered_bytes, delivered_address}
+use Rattle.nb_teller.specs.Deliveries.{delivered_bytes, delivered_address}
 use Rattle.nb_runner.specs.Intents.{query_of}
 use Rattle.nb_engine.specs.Inquiries.{company_of, IsInquiryOf, IsLiveLone, TalkDoes, beside_freed_events}
-use Rattle.nb_engine.specs.Tellings.{carrier_number, told_records}
+use Rattle.nb_teller.specs.Tellings.{told_records}
+use Rattle.nb_teller.specs.Speakers.{carrier_number}
 use Rattle.nb_engine.specs.Seen.{Seen, seen, StandsFor, KeepsOrder, FitsGraph}
-use Rattle.nb_engine.specs.Spelling.{Spelling, IsSpelled}
+use Rattle.nb_teller.specs.Spelling.{Spelling, IsSpelled}
 use Rattle.nb_stack.specs.Client.{Client}
 use Rattle.nb_engine.specs.Turns.{IsBusy, IsWaiting, HasYielded, IsOverWith, IsEnd, OrRanOut}
 use Rattle.nb_defs.specs.Causes.{is_ok_cause}

@@ -29,7 +29,7 @@ use Rattle.nb_machine.specs.Errands.{Onward}
 use Rattle.nb_engine.specs.Inquiries.{IsInquiring, IsLiveLone, FitsQuery, IsBackedBy, IsWaiterOf, onward_waiter, kind_of_query}
 use Rattle.nb_runner.specs.Intents.{query_of}
 use Rattle.nb_engine.specs.Lones.{Lone}
-use Rattle.nb_engine.specs.Tellings.{carrier_number}
+use Rattle.nb_teller.specs.Speakers.{carrier_number}
 use Rattle.nb_runner.specs.Handings.{IsAt, records_left, AreShort}
 
 -- a client: how many records were used, what it has beside its script, its graph, and where its run stands

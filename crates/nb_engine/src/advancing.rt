@@ -24,18 +24,15 @@ ghost use Rattle.nb_opens.specs.Graphs.{AreNext};
 ghost use Rattle.nb_engine.specs.Objects.{BeginsOpen};
 ghost use Rattle.nb_graph.specs.Whole.{Objects};
 ghost use Rattle.nb_nodes.specs.declared.obj.Obj.{Obj as Object};
-ghost use Rattle.nb_engine.specs.Fetches.{fetch_for, speaker_by, speaker_of};
-ghost use Rattle.nb_engine.specs.Tellings.{told_records};
+ghost use Rattle.nb_engine.specs.Fetches.{fetch_for, speaker_of};
+ghost use Rattle.nb_teller.specs.Speakers.{speaker_by};
+ghost use Rattle.nb_teller.specs.Tellings.{told_records};
 ghost use Rattle.nb_engine.specs.Concluding.{IsTurn};
 ghost use Rattle.nb_engine.specs.Advance.{EndsAtOnce, HasCarriedOut, IsNextFetch, PutsBegun, PutsFetch, TurnsBack, SettlesScript};
 ghost use Rattle.nb_runner.specs.Handings.{IsAt};
 ghost use Rattle.nb_engine.specs.declared.stage.Stage.TheVariants as stage;
 
-use crate::desk::{Desk, lent};
 use crate::objects::{begin, turn_back};
-use crate::put::{has_route, put_over, put_result};
-use crate::speaker::{Speaker, UDP};
-use crate::teller::Teller;
 use crate::{Client, Fetch, KeptFetch, Stage, Turn};
 use nb_command::{CommandPlan, PlanError, plan};
 use nb_nodes::Ask;
@@ -44,6 +41,7 @@ use nb_record::{Cause, Log, NoMemory};
 use nb_runner::{
     Deed, Done, Handing, Intent, Next, RunningScript, Status, Wanted, own_port, status_after,
 };
+use nb_teller::{Desk, Speaker, Teller, UDP, has_route, lent, put_over, put_result};
 use nb_terms::{Plain, Reason};
 use nb_wire::Word;
 

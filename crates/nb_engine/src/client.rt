@@ -11,8 +11,6 @@ ghost use Rattle.nb_engine.specs.Inquiries.{company_of};
 ghost use Rattle.nb_engine.specs.Turns.{AnswersTurn, IsBusy, IsNearer, MayUse, closing_records, left_records, shut_alone, shut_records};
 ghost use Rattle.nb_engine.specs.declared.stage.Stage.TheVariants as stage;
 
-use crate::desk::{Desk, lent};
-use crate::put::put_told;
 use crate::talks::free_waiter;
 use crate::{Fetch, Inquiry, Stage};
 use nb_graph::Graph;
@@ -20,6 +18,7 @@ use nb_nodes::Obj;
 use nb_opens::Waiter;
 use nb_record::{InRec, Log, NoMemory, OutRec, Start};
 use nb_runner::{Status, World};
+use nb_teller::{Desk, lent, put_told};
 use std::alloc::Global;
 use std::marker::Model;
 use std::mem;

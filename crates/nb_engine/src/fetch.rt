@@ -3,10 +3,10 @@ ghost use Rattle.nb_runner.specs.CommandWords.{wanted_of};
 ghost use Rattle.nb_engine.specs.Fetches.{fetch_for, speaker_of};
 
 use crate::KeptFetch;
-use crate::speaker::Speaker;
 use nb_opens::Download;
 use nb_record::NoMemory;
 use nb_runner::{Wanted, copy};
+use nb_teller::Speaker;
 use nb_wire::{Ip4, Text};
 use std::alloc::Global;
 

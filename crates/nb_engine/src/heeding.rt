@@ -11,25 +11,22 @@ ghost use Rattle.nb_opens.specs.PairEvents.{shut_events};
 ghost use Rattle.nb_opens.specs.Pairs.{IsEnded, IsEmpty, IsDownloading};
 ghost use Rattle.nb_machine.specs.CommandRecords.{stopped_cause};
 ghost use Rattle.nb_machine.specs.Running.{with_result};
-ghost use Rattle.nb_engine.specs.Tellings.{told_records};
+ghost use Rattle.nb_teller.specs.Tellings.{told_records};
 ghost use Rattle.nb_engine.specs.Fetches.{speaker_of};
 ghost use Rattle.nb_engine.specs.Seen.{HasNoObjects, IsSound, seen, standing};
 ghost use Rattle.nb_engine.specs.Heeding.{Heeds, HasHeard, IsCalled, WasCalled};
-ghost use Rattle.nb_engine.specs.Spelling.{HasSpelled, IsSpelled};
+ghost use Rattle.nb_teller.specs.Spelling.{HasSpelled, IsSpelled};
 ghost use Rattle.nb_engine.specs.Turns.{shut_records};
 ghost use Rattle.nb_engine.specs.Concluding.{Concludes, EndsOpen, IsPlaceFor};
 ghost use Rattle.nb_engine.specs.declared.client.Turn.TheVariants as turn;
 ghost use Rattle.nb_engine.specs.declared.stage.Stage.TheVariants as stage;
 
 use crate::conclusion::{Conclusion, conclude};
-use crate::desk::{Desk, lent};
 use crate::objects::{end, shut};
-use crate::put::{put_over, put_result, put_step, put_told};
-use crate::speaker::UDP;
-use crate::teller::Teller;
 use crate::{Client, Fetch, KeptFetch, Stage, Turn};
 use nb_record::{Cause, Log, NoMemory};
 use nb_runner::{Handing, RunningScript, Status};
+use nb_teller::{Desk, Teller, UDP, lent, put_over, put_result, put_step, put_told};
 use nb_terms::Plain;
 
 impl Client {

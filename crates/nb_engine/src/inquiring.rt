@@ -22,25 +22,22 @@ ghost use Rattle.nb_runner.specs.NextCommand.{HasCommand, IsReady};
 ghost use Rattle.nb_machine.specs.Running.{entered, further};
 ghost use Rattle.nb_engine.specs.Seen.{HasNoObjects, IsSound, seen, standing};
 ghost use Rattle.nb_engine.specs.Talks.{fields_of};
-ghost use Rattle.nb_engine.specs.Tellings.{told_records};
+ghost use Rattle.nb_teller.specs.Tellings.{told_records};
 ghost use Rattle.nb_engine.specs.Turns.{AnswersTurn, IsNearer};
 ghost use Rattle.nb_runner.specs.World.{with_ended_open};
 
-use crate::desk::{Desk, lent};
 use crate::inquiry::{Inquiry, KeptInquiry};
 use crate::kinds::{DHCP, DNS, PING};
 use crate::opening::{next_opening, next_speaker};
 use crate::prepared::errand_waiter;
-use crate::put::{has_route, put_over, put_result, put_told};
-use crate::speaker::Speaker;
 use crate::talks::{begin_beside, begin_talk, free_waiter, turn_alone_back};
-use crate::teller::Teller;
 use crate::{Client, Stage, Turn};
 use nb_command::CommandPlan;
 use nb_nodes::{LEASE_SERVER, NAME_SERVER};
 use nb_opens::{Alone, Waiter};
 use nb_record::{Cause, Log, NoMemory, OutRec};
 use nb_runner::{Deed, Done, Intent, Query, RunningScript, Status};
+use nb_teller::{Desk, Speaker, Teller, has_route, lent, put_over, put_result, put_told};
 use nb_terms::Reason;
 use nb_wire::Word;
 

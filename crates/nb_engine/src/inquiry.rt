@@ -3,11 +3,11 @@ ghost use Rattle.nb_engine.specs.Inquiries.{IsInquiryOf};
 ghost use Rattle.nb_engine.specs.Lones.{Lone};
 ghost use Rattle.nb_engine.specs.Talks.{counts_for, port_of};
 
-use crate::speaker::Speaker;
 use nb_nodes::{LEASE_SERVER, NAME_SERVER};
 use nb_opens::{Alone, Waiter};
 use nb_record::NoMemory;
 use nb_runner::Query;
+use nb_teller::Speaker;
 use nb_wire::Ip4;
 use std::alloc::Global;
 use std::marker::Model;

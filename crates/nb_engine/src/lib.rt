@@ -7,7 +7,6 @@
 mod advancing;
 mod client;
 mod conclusion;
-mod desk;
 mod fetch;
 mod heeding;
 mod inquiring;
@@ -18,15 +17,11 @@ mod objects;
 mod onward;
 mod opening;
 mod prepared;
-mod put;
 mod replying;
 mod settling;
-mod speaker;
-mod spelled;
 mod stage;
 mod steps;
 mod talks;
-mod teller;
 
 pub use client::{Client, Turn};
 pub use fetch::Fetch;

@@ -7,17 +7,15 @@ ghost use Rattle.nb_opens.specs.PairEvents.{shut_events};
 ghost use Rattle.nb_opens.specs.Pairs.{HasEnded, IsDownloading, IsEmpty, IsEnded};
 ghost use Rattle.nb_opens.specs.Waiters.{waiter_number, waiter_serial, Waits};
 ghost use Rattle.nb_engine.specs.Objects.{BeginsCompleted, BeginsOpen, IsFile};
-ghost use Rattle.nb_engine.specs.Spelling.{IsBlank, TellsMore};
+ghost use Rattle.nb_teller.specs.Spelling.{IsBlank, TellsMore};
 
-use crate::desk::Desk;
-use crate::speaker::Speaker;
-use crate::teller::Teller;
 use nb_graph::Graph;
 use nb_image::Body;
 use nb_nodes::{Ask, Obj};
 use nb_opens::{Download, Waiter};
 use nb_record::{Cause, NoMemory};
 use nb_stack::Stack;
+use nb_teller::{Desk, Speaker, Teller};
 use std::alloc::Global;
 
 /// Makes the objects of an open on an empty graph, and begins its transfer in the record `rec`. What they tell is spelled

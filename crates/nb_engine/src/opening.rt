@@ -7,11 +7,11 @@ ghost use Rattle.nb_machine.specs.Findings.{asker_at, first_word, query_id};
 ghost use Rattle.nb_engine.specs.Lones.{talk_for};
 ghost use Rattle.nb_nodes.specs.LeaseExchanges.{asker_of};
 
-use crate::speaker::{Carrier, Speaker};
 use nb_machine::Identity;
 use nb_nodes::{LeaseAsk, LookupAsk, PingAsk};
 use nb_opens::AloneKind;
 use nb_runner::{Query, World, own_port};
+use nb_teller::{Carrier, Speaker};
 use nb_wire::Ip4;
 use rand_chacha::ChaCha8Rng;
 use rand_core::SeedableRng;

@@ -16,7 +16,8 @@ ghost use Rattle.nb_opens.specs.Graphs.{traced};
 ghost use Rattle.nb_opens.specs.Pairs.{IsEmpty};
 ghost use Rattle.nb_stack.specs.Client.{Client as NetClient};
 ghost use Rattle.nb_stack.specs.Takes.{outcome};
-ghost use Rattle.nb_engine.specs.Heeding.{Uses, IsReply};
+ghost use Rattle.nb_engine.specs.Heeding.{Uses};
+ghost use Rattle.nb_teller.specs.Put.{IsFrameOrNothing};
 ghost use Rattle.nb_runner.specs.CommandWords.{onward_of, FitsOnward};
 ghost use Rattle.nb_machine.specs.Errands.{Errand, onward};
 ghost use Rattle.nb_engine.specs.Inquiries.{company_of, onward_waiter, FitsQuery, IsBackedBy, IsInquiring, IsInquiryOf, IsTakenBy, IsWaiterOf};
@@ -26,27 +27,24 @@ ghost use Rattle.nb_machine.specs.CommandRecords.{reply_records, stopped_cause};
 ghost use Rattle.nb_engine.specs.Replying.{ComesFor, DeliversMessage, EndsCommand, EndsInquiry, GoesOnward, HasBrought, IsBrought, IsFor, IsMessage, RepliesAs, WasBrought};
 ghost use Rattle.nb_machine.specs.Running.{Running, anew};
 ghost use Rattle.nb_engine.specs.Seen.{IsSound, seen, standing};
-ghost use Rattle.nb_engine.specs.Spelling.{HasSpelled, IsSpelled};
+ghost use Rattle.nb_teller.specs.Spelling.{HasSpelled, IsSpelled};
 ghost use Rattle.nb_engine.specs.Talks.{message_for, message_in, time_in};
-ghost use Rattle.nb_engine.specs.Tellings.{told_records};
+ghost use Rattle.nb_teller.specs.Tellings.{told_records};
 ghost use Rattle.nb_engine.specs.Turns.{one_shut_events, shut_alone};
-ghost use Rattle.nb_engine.specs.declared.speaker.Speaker.{Speaker as TheSpeaker};
+ghost use Rattle.nb_teller.specs.declared.speaker.Speaker.{Speaker as TheSpeaker};
 ghost use Rattle.nb_engine.specs.declared.stage.Stage.TheVariants as stage;
 ghost use Rattle.nb_engine.specs.declared.client.Turn.TheVariants as turn;
 
-use crate::desk::{Desk, lent};
 use crate::inquiry::{Inquiry, KeptInquiry};
 use crate::prepared::{KeptPrepared, Prepared};
-use crate::put::{put_over, put_reply, put_step, put_told};
 use crate::settling::{found_host, settle};
-use crate::spelled::Spelled;
 use crate::talks::{end_talk, free_waiter, pass_its_time, receive_reply, shut_talk};
-use crate::teller::Teller;
 use crate::{Client, Stage, Turn};
 use nb_opens::Arrival;
 use nb_record::{Cause, Log, NoMemory};
 use nb_runner::{Query, RunningScript, Status};
 use nb_stack::Taken;
+use nb_teller::{Desk, Spelled, Teller, lent, put_over, put_reply, put_step, put_told};
 use nb_terms::Plain;
 use nb_wire::Ip4;
 
@@ -155,7 +153,7 @@ impl Client {
         log: &mut Log,
     ) -> Turn
         requires sound { IsSound self.old.used self.old.world self.old.graph (stage.Asking script inquiry) }
-        requires reply { IsReply reply.now }
+        requires reply { IsFrameOrNothing reply.now }
         ensures turn { result ≡ turn.Waiting }
         ensures puts { Puts log.old log.new (out_texts (step self.old.used ∷ reply_records reply.now)) }
         ensures after { self.new ≡ standing self.old (stage.Asking script inquiry) }

@@ -8,11 +8,11 @@ ghost use Rattle.nb_runner.specs.Intents.{query_of};
 ghost use Rattle.nb_machine.specs.Findings.{lease_change, settled_by};
 ghost use Rattle.nb_engine.specs.Replying.{settled_with, FindsServer, IsMessage};
 
-use crate::spelled::Spelled;
 use nb_command::{ApplyError, put_address};
 use nb_record::{Cause, NoMemory};
 use nb_runner::Query;
 use nb_settings::{SetError, Table};
+use nb_teller::Spelled;
 use nb_terms::Plain;
 use nb_wire::{Ip4, Text};
 use std::alloc::Global;

@@ -13,17 +13,16 @@ ghost use Rattle.nb_machine.specs.CommandRecords.{reply_records};
 ghost use Rattle.nb_machine.specs.Running.{Running, anew, with_result};
 ghost use Rattle.nb_engine.specs.Opens.{heard_from};
 ghost use Rattle.nb_engine.specs.Seen.{IsSound, standing};
-ghost use Rattle.nb_engine.specs.Heeding.{Uses, Heeds, Comes, IsReply, TakesFrame};
+ghost use Rattle.nb_engine.specs.Heeding.{Uses, Heeds, Comes, TakesFrame};
+ghost use Rattle.nb_teller.specs.Put.{IsFrameOrNothing};
 ghost use Rattle.nb_engine.specs.declared.stage.Stage.TheVariants as stage;
 ghost use Rattle.nb_engine.specs.declared.client.Turn.TheVariants as turn;
 
-use crate::desk::{Desk, lent};
-use crate::put::{put_reply, put_result, put_step};
-use crate::teller::Teller;
 use crate::{Client, KeptFetch, Stage, Turn};
 use nb_record::{Cause, Log, NoMemory, OutRec, Start};
 use nb_runner::{RunningScript, Status, Unread, World, read_script};
 use nb_stack::Taken;
+use nb_teller::{Desk, Teller, lent, put_reply, put_result, put_step};
 use nb_terms::Plain;
 use nb_wire::Ip4;
 
@@ -149,7 +148,7 @@ impl Client {
         log: &mut Log,
     ) -> Turn
         requires sound { IsSound self.old.used self.old.world self.old.graph (stage.Waiting script fetch) }
-        requires reply { IsReply reply.now }
+        requires reply { IsFrameOrNothing reply.now }
         ensures turn { result ≡ turn.Waiting }
         ensures puts { Puts log.old log.new (out_texts (step self.old.used ∷ reply_records reply.now)) }
         ensures after { self.new ≡ standing self.old (stage.Waiting script fetch) }

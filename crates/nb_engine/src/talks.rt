@@ -14,20 +14,17 @@ ghost use Rattle.nb_opens.specs.Pairs.{IsEmpty};
 ghost use Rattle.nb_opens.specs.Waiters.{waiter_number, waiter_serial, Waits};
 ghost use Rattle.nb_engine.specs.Inquiries.{kind_of_talk, talk_of, AsksFor, BeginsTalk, BeginsWaited, CanBegin, DoesToTalks, IsTakenBy};
 ghost use Rattle.nb_engine.specs.Inquiries.{beside_freed_events, IsWaiterOf};
-ghost use Rattle.nb_engine.specs.Spelling.{heard_by, IsBlank, TellsMore};
+ghost use Rattle.nb_teller.specs.Spelling.{heard_by, IsBlank, TellsMore};
 ghost use Rattle.nb_engine.specs.Talks.{message_in, time_in};
 ghost use Rattle.nb_engine.specs.Turns.{one_shut_events};
 
-use crate::desk::{Desk, Room};
 use crate::opening::Opening;
-use crate::speaker::Speaker;
-use crate::spelled::Spelled;
-use crate::teller::Teller;
 use nb_graph::Graph;
 use nb_nodes::Obj;
 use nb_opens::{Alone, Arrival, Waiter, WaiterKind};
 use nb_record::{Cause, NoMemory};
 use nb_stack::Stack;
+use nb_teller::{Desk, Room, Speaker, Spelled, Teller};
 use std::alloc::Global;
 
 /// Makes the object of an open on an empty graph, and asks this of it in the record `rec`. What it tells is spelled on the

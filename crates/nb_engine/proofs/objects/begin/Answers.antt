@@ -3,9 +3,9 @@ use Rattle.nb_ledger.specs.Flat.{Heard}
 use Rattle.nb_nodes.specs.Asking.{ask_value, begun_with}
 use Rattle.nb_opens.specs.Notices.{made_notices}
 use Rattle.nb_opens.specs.Pairs.{DoesBegin}
-use Rattle.nb_engine.specs.Spelling.{heard_by, IsSpelled}
+use Rattle.nb_teller.specs.Spelling.{heard_by, IsSpelled}
 use Rattle.nb_engine.proofs.BeginLemmas.{begins_so}
-use Rattle.nb_engine.proofs.Tellers.{heard, named, told_is}
+use Rattle.nb_teller.proofs.Tellers.{heard, named, told_is}
 use Rattle.nb_engine.proofs.objects.begin.Goals as goal
 
 pub returns-clause-next : goal.returns-clause-next

@@ -1,6 +1,6 @@
 use Rattle.std.proofs.Common.{sym}
 use Rattle.nb_opens.specs.Notices.{freed_notices}
-use Rattle.nb_engine.proofs.Tellers.{tells_more}
+use Rattle.nb_teller.proofs.Tellers.{tells_more}
 use Rattle.nb_engine.proofs.objects.end.Goals as goal
 
 pub returns-in-Some-clause-body : goal.returns-in-Some-clause-body

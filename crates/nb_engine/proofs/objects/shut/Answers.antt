@@ -3,9 +3,9 @@ use Rattle.nb_defs.specs.Records.{out_texts}
 use Rattle.nb_opens.specs.Graphs.{traced}
 use Rattle.nb_opens.specs.Notices.{shut_notices}
 use Rattle.nb_opens.specs.PairEvents.{shut_events}
-use Rattle.nb_engine.specs.Spelling.{IsWhole}
+use Rattle.nb_teller.specs.Spelling.{IsWhole}
 use Rattle.nb_engine.proofs.BeginLemmas.{on_ok}
-use Rattle.nb_engine.proofs.Tellers.{told_is}
+use Rattle.nb_teller.proofs.Tellers.{told_is}
 use Rattle.nb_engine.proofs.objects.shut.Goals as goal
 
 pub returns-clause-told : goal.returns-clause-told

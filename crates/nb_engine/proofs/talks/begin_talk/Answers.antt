@@ -5,9 +5,9 @@ use Rattle.nb_opens.specs.Alones.{alone_number}
 use Rattle.nb_opens.specs.AloneNotices.{alone_made}
 use Rattle.nb_opens.specs.Companies.{company_with}
 use Rattle.nb_engine.specs.Inquiries.{talk_of, AsksFor}
-use Rattle.nb_engine.specs.Spelling.{heard_by, IsSpelled}
+use Rattle.nb_teller.specs.Spelling.{heard_by, IsSpelled}
 use Rattle.nb_engine.proofs.Talkings.{asked_so}
-use Rattle.nb_engine.proofs.Tellers.{heard, named, told_is}
+use Rattle.nb_teller.proofs.Tellers.{heard, named, told_is}
 use Rattle.nb_engine.proofs.talks.begin_talk.Goals as goal
 
 pub returns-clause-begins : goal.returns-clause-begins

@@ -1,7 +1,7 @@
 use Rattle.nb_opens.specs.AloneNotices.{alone_freed}
-use Rattle.nb_engine.specs.Spelling.{IsWhole, TellsMore}
+use Rattle.nb_teller.specs.Spelling.{IsWhole, TellsMore}
 use Rattle.nb_engine.proofs.BeginLemmas.{on_ok}
-use Rattle.nb_engine.proofs.Tellers.{tells_more}
+use Rattle.nb_teller.proofs.Tellers.{tells_more}
 use Rattle.nb_engine.proofs.talks.end_talk.Goals as goal
 
 pub returns-clause-told : goal.returns-clause-told

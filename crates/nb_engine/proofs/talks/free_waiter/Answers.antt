@@ -3,11 +3,11 @@ use Rattle.nb_defs.specs.Records.{out_texts}
 use Rattle.nb_ledger.specs.Flat.{Given}
 use Rattle.nb_opens.specs.Graphs.{traced}
 use Rattle.nb_opens.specs.Waiters.{waiter_freed}
-use Rattle.nb_engine.specs.declared.teller.Teller.{Teller}
+use Rattle.nb_teller.specs.declared.teller.Teller.{Teller}
 use Rattle.nb_engine.specs.Inquiries.{beside_freed_events}
-use Rattle.nb_engine.specs.Spelling.{Spelling, IsWhole}
+use Rattle.nb_teller.specs.Spelling.{Spelling, IsWhole}
 use Rattle.nb_engine.proofs.BeginLemmas.{both_ok}
-use Rattle.nb_engine.proofs.Tellers.{heard, told_is}
+use Rattle.nb_teller.proofs.Tellers.{heard, told_is}
 use Rattle.nb_engine.proofs.talks.free_waiter.Goals.{in-Some, in-None}
 use Rattle.nb_engine.proofs.talks.free_waiter.Goals as goal
 

@@ -2,11 +2,11 @@ use Rattle.std.proofs.Common.{◌≡◌, refl, ◌∙◌, ap}
 use Rattle.nb_defs.specs.Records.{out_texts}
 use Rattle.nb_opens.specs.Companies.{beside_shut}
 use Rattle.nb_opens.specs.Graphs.{traced}
-use Rattle.nb_engine.specs.Spelling.{IsWhole}
+use Rattle.nb_teller.specs.Spelling.{IsWhole}
 use Rattle.nb_engine.specs.Turns.{one_shut_events}
 use Rattle.nb_engine.proofs.BeginLemmas.{on_ok}
 use Rattle.nb_engine.proofs.TalkLemmas.{one_shut_told}
-use Rattle.nb_engine.proofs.Tellers.{told_is}
+use Rattle.nb_teller.proofs.Tellers.{told_is}
 use Rattle.nb_engine.proofs.talks.shut_talk.Goals as goal
 
 pub returns-clause-told : goal.returns-clause-told

@@ -1,8 +1,8 @@
 use Rattle.std.proofs.Common.{◌++◌}
 use Rattle.nb_opens.specs.AloneNotices.{alone_closed, alone_freed}
-use Rattle.nb_engine.specs.Spelling.{IsWhole, TellsMore}
+use Rattle.nb_teller.specs.Spelling.{IsWhole, TellsMore}
 use Rattle.nb_engine.proofs.BeginLemmas.{on_ok}
-use Rattle.nb_engine.proofs.Tellers.{tells_two}
+use Rattle.nb_teller.proofs.Tellers.{tells_two}
 use Rattle.nb_engine.proofs.talks.turn_alone_back.Goals as goal
 
 pub returns-clause-told : goal.returns-clause-told

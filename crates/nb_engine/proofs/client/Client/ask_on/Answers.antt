@@ -2,8 +2,8 @@ use Rattle.std.proofs.Common.{[], ◌∷◌, sym, ap, subst}
 use Rattle.nb_defs.specs.Records.{step, out_texts}
 use Rattle.nb_record.specs.Logged.{Puts}
 use Rattle.nb_engine.specs.Seen.{Seen}
-use Rattle.nb_engine.specs.Spelling.{IsSpelled, Spelling}
-use Rattle.nb_engine.specs.Tellings.{told_records}
+use Rattle.nb_teller.specs.Spelling.{IsSpelled, Spelling}
+use Rattle.nb_teller.specs.Tellings.{told_records}
 use Rattle.nb_runner.proofs.Puts.{Puts-outs}
 use Rattle.nb_engine.proofs.client.Client.ask_on.Goals as goal
 

@@ -1,6 +1,6 @@
 use Rattle.std.proofs.Common.{◌∙◌, ap, subst}
 use Rattle.nb_record.specs.Logged.{Puts}
-use Rattle.nb_engine.specs.Spelling.{Spelling}
+use Rattle.nb_teller.specs.Spelling.{Spelling}
 use Rattle.nb_engine.proofs.client.Client.close_prepared.Goals as goal
 
 pub returns-clause-puts : goal.returns-clause-puts

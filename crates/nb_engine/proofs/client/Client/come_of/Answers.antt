@@ -1,9 +1,9 @@
 use Rattle.std.proofs.Common.{None, Some, refl, subst}
 use Rattle.nb_engine.specs.declared.stage.Stage.TheVariants as stage
-use Rattle.nb_engine.specs.Spelling.{HasSpelled}
+use Rattle.nb_teller.specs.Spelling.{HasSpelled}
 use Rattle.nb_engine.specs.Replying.{HasBrought}
 use Rattle.nb_engine.specs.Seen.{seen}
-use Rattle.nb_engine.proofs.SpellingLemmas.{spelled_close}
+use Rattle.nb_teller.proofs.SpellingLemmas.{spelled_close}
 use Rattle.nb_engine.proofs.ReplyEnds.{brought_ended, brought_message, ends_replies, ends_reply}
 use Rattle.nb_engine.proofs.ReplyingLemmas.{talks_reply, talks_sound}
 use Rattle.nb_engine.proofs.client.Client.come_of.Goals as goal

@@ -12,13 +12,13 @@ use Rattle.nb_machine.specs.Conclusions.{Conclusion, conclusion, conclusion_reco
 use Rattle.nb_engine.specs.Concluding.{EndsOpen}
 use Rattle.nb_engine.specs.Fetches.{conclusion_of, speaker_of}
 use Rattle.nb_engine.specs.Machine.{at, phase_after}
-use Rattle.nb_engine.specs.declared.speaker.Speaker.{Speaker}
-use Rattle.nb_engine.specs.Tellings.{told_records}
+use Rattle.nb_teller.specs.declared.speaker.Speaker.{Speaker}
+use Rattle.nb_teller.specs.Tellings.{told_records}
 use Rattle.nb_runner.specs.World.{unbound, state_of}
-use Rattle.nb_engine.specs.Spelling.{Spelling, IsSpelled, TellsMore}
+use Rattle.nb_teller.specs.Spelling.{Spelling, IsSpelled, TellsMore}
 use Rattle.nb_engine.specs.Seen.{Seen, seen, standing, StandsFor, FitsGraph}
 use Rattle.nb_runner.proofs.Puts.{Puts-outs}
-use Rattle.nb_engine.proofs.Tellers.{tells_by}
+use Rattle.nb_teller.proofs.Tellers.{tells_by}
 use Rattle.nb_engine.proofs.Heedings.{ends_of, IfFails, fails_keeps, same_phase}
 use Rattle.nb_engine.proofs.client.Client.end.Goals as goal
 

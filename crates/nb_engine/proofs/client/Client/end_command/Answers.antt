@@ -11,14 +11,14 @@ use Rattle.nb_engine.specs.declared.stage.Stage.TheVariants as stage
 use Rattle.nb_runner.specs.declared.world.World.{World}
 use Rattle.nb_runner.specs.Intents.{query_of}
 use Rattle.nb_engine.specs.Inquiries.{beside_freed_events}
-use Rattle.nb_engine.specs.Deliveries.{delivered_bytes}
+use Rattle.nb_teller.specs.Deliveries.{delivered_bytes}
 use Rattle.nb_machine.specs.Link.{link_by}
 use Rattle.nb_machine.specs.Findings.{Settled}
 use Rattle.nb_engine.specs.Lones.{world_settled}
 use Rattle.nb_engine.specs.Replying.{EndsCommand, HasEndedCommand, closing_told, last_told, settled_so, settled_with, silent}
 use Rattle.nb_machine.specs.Running.{with_result}
 use Rattle.nb_engine.specs.Seen.{Seen, seen}
-use Rattle.nb_engine.specs.Spelling.{Spelling, IsSpelled}
+use Rattle.nb_teller.specs.Spelling.{Spelling, IsSpelled}
 use Rattle.nb_runner.specs.World.{state_of}
 use Rattle.nb_runner.proofs.Puts.{Puts-outs}
 use Rattle.nb_engine.proofs.Standing.{has_none}

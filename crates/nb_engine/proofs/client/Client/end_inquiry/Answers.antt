@@ -8,13 +8,13 @@ use Rattle.nb_opens.specs.Graphs.{bare, prepared}
 use Rattle.nb_engine.specs.declared.client.Turn.TheVariants as turn
 use Rattle.nb_engine.specs.declared.inquiry.Inquiry.{Inquiry}
 use Rattle.nb_engine.specs.declared.stage.Stage.TheVariants as stage
-use Rattle.nb_engine.specs.Deliveries.{delivered_address}
+use Rattle.nb_teller.specs.Deliveries.{delivered_address}
 use Rattle.nb_machine.specs.Errands.{onward}
 use Rattle.nb_engine.specs.Inquiries.{company_of}
 use Rattle.nb_runner.specs.Intents.{query_of}
 use Rattle.nb_machine.specs.Findings.{Settled}
 use Rattle.nb_engine.specs.Lones.{world_settled}
-use Rattle.nb_engine.specs.Spelling.{Spelling, IsSpelled, TellsMore}
+use Rattle.nb_teller.specs.Spelling.{Spelling, IsSpelled, TellsMore}
 use Rattle.nb_engine.specs.Replying.{EndsAs, EndsInquiry, FindsServer, IsMessage, HasEndedCommand, HasEndedInquiry, HasFoundHost, HasGoneOnward, end_told, onward_by, settled_so, silent}
 use Rattle.nb_machine.specs.Running.{with_result}
 use Rattle.nb_engine.specs.Seen.{Seen, seen, standing, FitsGraph, IsSound}
@@ -22,7 +22,7 @@ use Rattle.nb_engine.proofs.Besides.{left_here, left_made}
 use Rattle.nb_engine.proofs.CallDeliveries.{freed_address}
 use Rattle.nb_engine.proofs.RanOut.{or_follows}
 use Rattle.nb_engine.proofs.Settlements.{freed_message, freed_settles}
-use Rattle.nb_engine.proofs.Tellers.{tells_by}
+use Rattle.nb_teller.proofs.Tellers.{tells_by}
 use Rattle.nb_engine.proofs.client.Client.end_inquiry.Goals as goal
 
 pub end_talk-requires : goal.end_talk-requires

@@ -9,7 +9,7 @@ use Rattle.nb_machine.specs.Effects.{full_opens}
 use Rattle.nb_engine.specs.Reaching.{IsWaitedFor}
 use Rattle.nb_machine.specs.Running.{with_result}
 use Rattle.nb_engine.specs.Seen.{Seen, seen}
-use Rattle.nb_engine.specs.Spelling.{Spelling}
+use Rattle.nb_teller.specs.Spelling.{Spelling}
 use Rattle.nb_engine.specs.Turns.{Grows}
 use Rattle.nb_engine.proofs.Onwards.{gives_up_grows, result_nearer}
 use Rattle.nb_engine.proofs.client.Client.give_errand_up.Goals as goal

@@ -3,7 +3,7 @@ use Rattle.nb_defs.specs.Records.{ended, result}
 use Rattle.nb_record.specs.Logged.{Puts}
 use Rattle.nb_opens.specs.Graphs.{traced}
 use Rattle.nb_engine.specs.Inquiries.{beside_freed_events}
-use Rattle.nb_engine.specs.Spelling.{Spelling}
+use Rattle.nb_teller.specs.Spelling.{Spelling}
 use Rattle.nb_runner.proofs.Puts.{Puts-outs}
 use Rattle.nb_engine.proofs.client.Client.give_inquiry_up.Goals as goal
 

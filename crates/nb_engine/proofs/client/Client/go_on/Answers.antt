@@ -3,8 +3,8 @@ use Rattle.nb_defs.specs.Records.{step, out_texts}
 use Rattle.nb_record.specs.Logged.{Puts}
 use Rattle.nb_engine.specs.Fetches.{speaker_of}
 use Rattle.nb_engine.specs.Seen.{Seen}
-use Rattle.nb_engine.specs.Spelling.{IsSpelled, Spelling}
-use Rattle.nb_engine.specs.Tellings.{told_records}
+use Rattle.nb_teller.specs.Spelling.{IsSpelled, Spelling}
+use Rattle.nb_teller.specs.Tellings.{told_records}
 use Rattle.nb_runner.proofs.Puts.{Puts-outs}
 use Rattle.nb_engine.proofs.client.Client.go_on.Goals as goal
 

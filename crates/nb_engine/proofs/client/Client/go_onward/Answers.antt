@@ -1,11 +1,11 @@
 use Rattle.std.proofs.Common.{◌≡◌, [], ◌∷◌, ◌++◌, Some, refl, sym, ◌∙◌, ap, subst}
 use Rattle.nb_defs.specs.Records.{ended, out_texts, step}
-use Rattle.nb_engine.specs.Tellings.{told_records}
+use Rattle.nb_teller.specs.Tellings.{told_records}
 use Rattle.nb_record.specs.Logged.{Puts}
 use Rattle.nb_opens.specs.Companies.{HoldsOnly}
 use Rattle.nb_engine.specs.declared.inquiry.Inquiry.{Inquiry}
 use Rattle.nb_engine.specs.declared.prepared.Prepared.{Prepared}
-use Rattle.nb_engine.specs.declared.speaker.Speaker.{Speaker}
+use Rattle.nb_teller.specs.declared.speaker.Speaker.{Speaker}
 use Rattle.nb_engine.specs.declared.stage.Stage.TheVariants as stage
 use Rattle.nb_runner.specs.CommandWords.{onward_of, FitsOnward}
 use Rattle.nb_machine.specs.Errands.{Errand, onward}
@@ -13,7 +13,7 @@ use Rattle.nb_runner.specs.Intents.{query_of}
 use Rattle.nb_engine.specs.Inquiries.{onward_waiter, FitsQuery, IsBackedBy, IsWaiterOf}
 use Rattle.nb_engine.specs.Replying.{HasGoneOnward, IsFor, silent}
 use Rattle.nb_engine.specs.Seen.{Seen, seen, IsSound}
-use Rattle.nb_engine.specs.Spelling.{Spelling, IsSpelled}
+use Rattle.nb_teller.specs.Spelling.{Spelling, IsSpelled}
 use Rattle.nb_runner.specs.World.{with_net}
 use Rattle.nb_stack.specs.Bound.{without}
 use Rattle.nb_engine.proofs.Besides.{reaching_sound}

@@ -5,14 +5,14 @@ use Rattle.nb_opens.specs.Pairs.{Downloads}
 use Rattle.nb_engine.specs.Advance.{PutsBegun, TurnsBack}
 use Rattle.nb_runner.specs.CommandWords.{wanted_of}
 use Rattle.nb_engine.specs.declared.fetch.Fetch.{Fetch}
-use Rattle.nb_engine.specs.declared.speaker.Speaker.{Speaker}
+use Rattle.nb_teller.specs.declared.speaker.Speaker.{Speaker}
 use Rattle.nb_engine.specs.declared.stage.Stage.TheVariants as stage
 use Rattle.nb_engine.specs.Fetches.{speaker_of}
 use Rattle.nb_engine.specs.Opens.{begun_for}
 use Rattle.nb_machine.specs.Sendings.{has_route, request_of}
 use Rattle.nb_machine.specs.Running.{entered}
 use Rattle.nb_engine.specs.Seen.{Seen, seen}
-use Rattle.nb_engine.specs.Tellings.{datagram_of}
+use Rattle.nb_teller.specs.Speakers.{datagram_of}
 use Rattle.nb_engine.specs.Turns.{Grows}
 use Rattle.nb_command.specs.SettingAddresses.{host}
 use Rattle.nb_machine.specs.Starting.{own_port}

@@ -4,7 +4,7 @@ use Rattle.nb_tftp.specs.Asks.{begun}
 use Rattle.nb_opens.specs.Pairs.{Downloads}
 use Rattle.nb_command.specs.SettingAddresses.{host}
 use Rattle.nb_engine.specs.declared.fetch.Fetch.{Fetch}
-use Rattle.nb_engine.specs.declared.speaker.Speaker.{Speaker}
+use Rattle.nb_teller.specs.declared.speaker.Speaker.{Speaker}
 use Rattle.nb_engine.specs.declared.stage.Stage.TheVariants as stage
 use Rattle.nb_runner.specs.CommandWords.{wanted_of, onward_of}
 use Rattle.nb_engine.specs.Fetches.{speaker_of}
@@ -13,7 +13,7 @@ use Rattle.nb_engine.specs.Opens.{begun_for}
 use Rattle.nb_machine.specs.Sendings.{request_of, has_route}
 use Rattle.nb_engine.specs.Reaching.{PutsNext, TurnsNextBack, HasTurnedNextBack}
 use Rattle.nb_engine.specs.Seen.{Seen, seen}
-use Rattle.nb_engine.specs.Tellings.{datagram_of}
+use Rattle.nb_teller.specs.Speakers.{datagram_of}
 use Rattle.nb_engine.specs.Turns.{Grows, IsBusy, moves_left}
 use Rattle.nb_runner.specs.World.{with_open}
 use Rattle.nb_machine.specs.Starting.{own_port}

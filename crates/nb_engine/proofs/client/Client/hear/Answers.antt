@@ -10,7 +10,7 @@ use Rattle.nb_engine.specs.declared.stage.Stage.TheVariants as stage
 use Rattle.nb_engine.specs.Fetches.{speaker_of}
 use Rattle.nb_engine.specs.Heeding.{Heeds, HasHeard, Comes}
 use Rattle.nb_engine.specs.Seen.{Seen, standing, IsSound}
-use Rattle.nb_engine.specs.Spelling.{Spelling, heard_by, HasSpelled}
+use Rattle.nb_teller.specs.Spelling.{Spelling, heard_by, HasSpelled}
 use Rattle.nb_engine.proofs.Hearings.{heard_of, spells_each, SpellsEach}
 use Rattle.nb_engine.proofs.Heedings.{heeds_less}
 use Rattle.nb_engine.proofs.client.Client.hear.Goals as goal

@@ -3,7 +3,7 @@ use Rattle.nb_engine.specs.declared.stage.Stage.TheVariants as stage
 use Rattle.nb_engine.specs.Fetches.{speaker_of}
 use Rattle.nb_engine.specs.Heeding.{HasHeard}
 use Rattle.nb_engine.specs.Seen.{seen}
-use Rattle.nb_engine.specs.Spelling.{HasSpelled}
+use Rattle.nb_teller.specs.Spelling.{HasSpelled}
 use Rattle.nb_engine.proofs.Heedings.{goes_heeds, goes_sound, called_ended, ends_heeds, ends_follow}
 use Rattle.nb_engine.proofs.client.Client.heed.Goals as goal
 

@@ -9,11 +9,11 @@ use Rattle.nb_engine.specs.Inquiries.{IsInquiryOf, DoesToTalks}
 use Rattle.nb_engine.specs.Lones.{Lone}
 use Rattle.nb_engine.specs.Replying.{RepliesAs, HasBrought, ComesFor}
 use Rattle.nb_engine.specs.Seen.{Seen, standing, FitsAt, IsSound}
-use Rattle.nb_engine.specs.Spelling.{Spelling, HasSpelled}
+use Rattle.nb_teller.specs.Spelling.{Spelling, HasSpelled}
 use Rattle.nb_engine.specs.Talks.{Talk, time_in}
 use Rattle.nb_engine.proofs.Bringings.{SpellsBrought, spells_brought, brought_to}
 use Rattle.nb_engine.proofs.ReplyGrowth.{replies_less}
-use Rattle.nb_engine.proofs.Tellers.{heard}
+use Rattle.nb_teller.proofs.Tellers.{heard}
 use Rattle.nb_engine.proofs.client.Client.let_time_come.Goals as goal
 
 pub come_of-requires-clause-sound : goal.come_of-requires-clause-sound

@@ -4,7 +4,7 @@ use Rattle.nb_machine.specs.Effects.{shown_as}
 use Rattle.nb_engine.specs.Fetches.{speaker_of}
 use Rattle.nb_machine.specs.CommandRecords.{command_record}
 use Rattle.nb_engine.specs.Opens.{opened_record}
-use Rattle.nb_engine.specs.Tellings.{told_records}
+use Rattle.nb_teller.specs.Tellings.{told_records}
 use Rattle.nb_runner.proofs.Puts.{Puts-outs}
 use Rattle.nb_engine.proofs.client.Client.put_begun.Goals as goal
 

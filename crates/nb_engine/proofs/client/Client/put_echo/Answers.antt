@@ -1,9 +1,9 @@
 use Rattle.std.proofs.Common.{[], ◌∷◌, sym, subst}
 use Rattle.nb_runner.specs.Intents.{query_of}
 use Rattle.nb_engine.specs.Lones.{open_told, talk_for}
-use Rattle.nb_engine.specs.Spelling.{IsSpelled, Spelling}
+use Rattle.nb_teller.specs.Spelling.{IsSpelled, Spelling}
 use Rattle.nb_engine.specs.Talks.{fields_of}
-use Rattle.nb_engine.specs.Tellings.{told_records}
+use Rattle.nb_teller.specs.Tellings.{told_records}
 use Rattle.nb_runner.proofs.Puts.{Puts-outs}
 use Rattle.nb_engine.proofs.client.Client.put_echo.Goals as goal
 

@@ -3,9 +3,9 @@ use Rattle.nb_machine.specs.Effects.{shown_as}
 use Rattle.nb_runner.specs.Intents.{query_of}
 use Rattle.nb_engine.specs.Lones.{open_told, talk_for}
 use Rattle.nb_machine.specs.CommandRecords.{command_record}
-use Rattle.nb_engine.specs.Spelling.{IsSpelled, Spelling}
+use Rattle.nb_teller.specs.Spelling.{IsSpelled, Spelling}
 use Rattle.nb_engine.specs.Talks.{fields_of}
-use Rattle.nb_engine.specs.Tellings.{told_records}
+use Rattle.nb_teller.specs.Tellings.{told_records}
 use Rattle.nb_runner.proofs.Puts.{Puts-outs}
 use Rattle.nb_engine.proofs.client.Client.put_inquiry.Goals as goal
 

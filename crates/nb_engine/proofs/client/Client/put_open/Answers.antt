@@ -2,8 +2,8 @@ use Rattle.std.proofs.Common.{[], ◌∷◌, ◌++◌, sym, subst}
 use Rattle.nb_runner.specs.CommandWords.{wanted_of}
 use Rattle.nb_engine.specs.Fetches.{speaker_of}
 use Rattle.nb_engine.specs.Opens.{opened_record}
-use Rattle.nb_engine.specs.Spelling.{IsSpelled, Spelling}
-use Rattle.nb_engine.specs.Tellings.{told_records}
+use Rattle.nb_teller.specs.Spelling.{IsSpelled, Spelling}
+use Rattle.nb_teller.specs.Tellings.{told_records}
 use Rattle.nb_runner.proofs.Puts.{Puts-outs}
 use Rattle.nb_engine.proofs.client.Client.put_open.Goals as goal
 

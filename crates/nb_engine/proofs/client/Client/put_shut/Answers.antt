@@ -4,7 +4,7 @@ use Rattle.nb_record.specs.Logged.{Puts}
 use Rattle.nb_opens.specs.Graphs.{traced}
 use Rattle.nb_opens.specs.PairEvents.{shut_events}
 use Rattle.nb_machine.specs.CommandRecords.{stopped_cause}
-use Rattle.nb_engine.specs.Spelling.{Spelling}
+use Rattle.nb_teller.specs.Spelling.{Spelling}
 use Rattle.nb_runner.proofs.Puts.{Puts-outs}
 use Rattle.nb_engine.proofs.client.Client.put_shut.Goals as goal
 

@@ -4,7 +4,7 @@ use Rattle.nb_graph.specs.Whole.{port_at}
 use Rattle.nb_opens.specs.AloneNotices.{alone_call}
 use Rattle.nb_opens.specs.Companies.{company_with}
 use Rattle.nb_engine.specs.declared.inquiry.Inquiry.{Inquiry}
-use Rattle.nb_engine.specs.declared.speaker.Speaker.{Speaker}
+use Rattle.nb_teller.specs.declared.speaker.Speaker.{Speaker}
 use Rattle.nb_engine.specs.declared.stage.Stage.TheVariants as stage
 use Rattle.nb_runner.specs.CommandWords.{onward_of}
 use Rattle.nb_runner.specs.Intents.{query_of}
@@ -16,7 +16,7 @@ use Rattle.nb_machine.specs.Queries.{for_echo}
 use Rattle.nb_engine.specs.Reaching.{PutsEcho, HasTurnedEchoBack}
 use Rattle.nb_engine.specs.Seen.{Seen, seen}
 use Rattle.nb_engine.specs.Talks.{Talk, first_message}
-use Rattle.nb_engine.specs.Tellings.{datagram_of}
+use Rattle.nb_teller.specs.Speakers.{datagram_of}
 use Rattle.nb_engine.specs.Turns.{Grows, IsBusy, moves_left}
 use Rattle.nb_engine.proofs.Echoes.{echoes_on_grows, no_way_to_grows}
 use Rattle.nb_engine.proofs.InquiryRecords.{same_first}

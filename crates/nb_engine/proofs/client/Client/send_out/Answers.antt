@@ -1,6 +1,6 @@
 use Rattle.std.proofs.Common.{◌≡◌, true, false, [], sym, ◌∙◌, ap, subst}
 use Rattle.nb_engine.specs.declared.inquiry.Inquiry.{Inquiry}
-use Rattle.nb_engine.specs.declared.speaker.Speaker.{Speaker}
+use Rattle.nb_teller.specs.declared.speaker.Speaker.{Speaker}
 use Rattle.nb_engine.specs.declared.stage.Stage.TheVariants as stage
 use Rattle.nb_runner.specs.Intents.{query_of}
 use Rattle.nb_engine.specs.Inquiries.{talker_of}
@@ -9,7 +9,7 @@ use Rattle.nb_machine.specs.Sendings.{has_route}
 use Rattle.nb_machine.specs.Running.{entered}
 use Rattle.nb_engine.specs.Seen.{Seen, seen}
 use Rattle.nb_engine.specs.Talks.{first_message}
-use Rattle.nb_engine.specs.Tellings.{datagram_of}
+use Rattle.nb_teller.specs.Speakers.{datagram_of}
 use Rattle.nb_engine.specs.Turns.{Grows}
 use Rattle.nb_engine.proofs.InquiryLemmas.{inquires_grows}
 use Rattle.nb_engine.proofs.InquiryRecords.{same_first}

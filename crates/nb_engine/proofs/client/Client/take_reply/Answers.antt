@@ -10,11 +10,11 @@ use Rattle.nb_engine.specs.Inquiries.{IsInquiryOf, IsTakenBy, DoesToTalks}
 use Rattle.nb_engine.specs.Lones.{Lone}
 use Rattle.nb_engine.specs.Replying.{RepliesAs, HasBrought, ComesFor}
 use Rattle.nb_engine.specs.Seen.{Seen, standing, FitsAt, IsSound}
-use Rattle.nb_engine.specs.Spelling.{Spelling, HasSpelled}
+use Rattle.nb_teller.specs.Spelling.{Spelling, HasSpelled}
 use Rattle.nb_engine.specs.Talks.{Talk, message_in}
 use Rattle.nb_engine.proofs.Bringings.{SpellsBrought, spells_brought, brought_to}
 use Rattle.nb_engine.proofs.ReplyGrowth.{replies_less}
-use Rattle.nb_engine.proofs.Tellers.{heard}
+use Rattle.nb_teller.proofs.Tellers.{heard}
 use Rattle.nb_engine.proofs.client.Client.take_reply.Goals as goal
 
 pub come_of-requires-clause-sound : goal.come_of-requires-clause-sound

@@ -6,19 +6,19 @@ use Rattle.nb_tftp.specs.Asks.{begun}
 use Rattle.nb_opens.specs.Notices.{made_notices, begun_notices, closed_notices, freed_notices}
 use Rattle.nb_opens.specs.Pairs.{IsEmpty}
 use Rattle.nb_engine.specs.Advance.{PutsBegun, PutsFetch}
-use Rattle.nb_engine.specs.declared.speaker.Speaker.{Speaker}
+use Rattle.nb_teller.specs.declared.speaker.Speaker.{Speaker}
 use Rattle.nb_runner.specs.CommandWords.{wanted_of}
 use Rattle.nb_engine.specs.declared.fetch.Fetch.{Fetch}
 use Rattle.nb_engine.specs.declared.stage.Stage.TheVariants as stage
 use Rattle.nb_machine.specs.Effects.{shown_as}
 use Rattle.nb_engine.specs.Fetches.{speaker_of}
 use Rattle.nb_machine.specs.CommandRecords.{command_record, no_route}
-use Rattle.nb_engine.specs.Spelling.{TellsMore}
+use Rattle.nb_teller.specs.Spelling.{TellsMore}
 use Rattle.nb_machine.specs.Running.{further}
 use Rattle.nb_engine.specs.Seen.{Seen, seen}
 use Rattle.nb_runner.specs.World.{with_ended_open}
 use Rattle.nb_engine.proofs.Standing.{has_none}
-use Rattle.nb_engine.proofs.Tellers.{tells_by}
+use Rattle.nb_teller.proofs.Tellers.{tells_by}
 use Rattle.nb_engine.proofs.client.Client.turn_back.Goals as goal
 
 pub give_up-requires-clause-empty : goal.give_up-requires-clause-empty

@@ -17,14 +17,14 @@ use Rattle.nb_runner.specs.Intents.{query_of}
 use Rattle.nb_engine.specs.Inquiring.{PutsAsking, PutsInquiry}
 use Rattle.nb_engine.specs.Lones.{talk_for}
 use Rattle.nb_machine.specs.CommandRecords.{no_route}
-use Rattle.nb_engine.specs.Spelling.{TellsMore}
+use Rattle.nb_teller.specs.Spelling.{TellsMore}
 use Rattle.nb_machine.specs.Running.{further}
 use Rattle.nb_engine.specs.Seen.{Seen, seen}
 use Rattle.nb_runner.specs.World.{with_ended_open}
 use Rattle.nb_engine.proofs.Besides.{left_here, left_made}
 use Rattle.nb_engine.proofs.Standing.{has_none}
 use Rattle.nb_engine.proofs.Talkings.{talks_open}
-use Rattle.nb_engine.proofs.Tellers.{tells_by}
+use Rattle.nb_teller.proofs.Tellers.{tells_by}
 use Rattle.nb_engine.proofs.client.Client.turn_inquiry_back.Goals as goal
 
 pub turn_alone_back-requires : goal.turn_alone_back-requires

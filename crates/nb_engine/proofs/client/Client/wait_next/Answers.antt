@@ -3,7 +3,7 @@ use Rattle.nb_opens.specs.Companies.{company_with}
 use Rattle.nb_stack.specs.Bound.{with_port}
 use Rattle.nb_stack.specs.Client.{Client}
 use Rattle.nb_engine.specs.declared.inquiry.Inquiry.{Inquiry}
-use Rattle.nb_engine.specs.declared.speaker.Speaker.{Speaker}
+use Rattle.nb_teller.specs.declared.speaker.Speaker.{Speaker}
 use Rattle.nb_engine.specs.declared.stage.Stage.TheVariants as stage
 use Rattle.nb_runner.specs.Intents.{query_of}
 use Rattle.nb_engine.specs.Inquiries.{talker_of, IsBackedBy, TalksAs}
@@ -12,7 +12,7 @@ use Rattle.nb_engine.specs.Reaching.{PutsEchoing}
 use Rattle.nb_engine.specs.Lones.{talk_for, with_lone}
 use Rattle.nb_engine.specs.Seen.{Seen, IsSound}
 use Rattle.nb_engine.specs.Talks.{fields_of}
-use Rattle.nb_engine.specs.Tellings.{carrier_number}
+use Rattle.nb_teller.specs.Speakers.{carrier_number}
 use Rattle.nb_engine.proofs.InquiryLemmas.{asks_sound, bound_so, same_proto}
 use Rattle.nb_engine.proofs.client.Client.wait_next.Goals as goal
 

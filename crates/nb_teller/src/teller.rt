@@ -2,10 +2,11 @@ ghost use Rattle.std.specs.Prelude.{◌≡◌, ◌==◌, ◌++◌, [], ℕ, List
 ghost use Rattle.nb_nodes.specs.Tags.{tag_number};
 ghost use Rattle.nb_nodes.specs.declared.tag.Tag.TheVariants as tag;
 ghost use Rattle.nb_stack.specs.Client.{Client};
-ghost use Rattle.nb_engine.specs.declared.speaker.Speaker.{Speaker as TheSpeaker};
+ghost use Rattle.nb_teller.specs.declared.speaker.Speaker.{Speaker as TheSpeaker};
 ghost use Rattle.nb_machine.specs.Sendings.{send_records};
-ghost use Rattle.nb_engine.specs.Spelling.{heard_by, IsBlank, IsWhole, SpellsMessage};
-ghost use Rattle.nb_engine.specs.Tellings.{datagram_of, message_records};
+ghost use Rattle.nb_teller.specs.Spelling.{heard_by, IsBlank, IsWhole, SpellsMessage};
+ghost use Rattle.nb_teller.specs.Tellings.{message_records};
+ghost use Rattle.nb_teller.specs.Speakers.{datagram_of};
 
 use crate::desk::Room;
 use crate::speaker::Speaker;
@@ -20,19 +21,19 @@ use nb_wire::Ip4;
 #[derive(Drop)]
 pub struct Teller<'a> {
     /// The client's link.
-    pub(crate) net: &'a Stack,
+    pub net: &'a Stack,
     /// Whose messages leave.
-    pub(crate) who: &'a Speaker,
+    pub who: &'a Speaker,
     /// Where frames are put together.
-    pub(crate) room: &'a mut Room,
+    pub room: &'a mut Room,
     /// What was told.
-    pub(crate) told: Box<Spelled>,
+    pub told: Box<Spelled>,
 }
 
 impl<'a> Teller<'a> {
     /// One that was told nothing.
     #[inline(always)]
-    pub(crate) fn over(
+    pub fn over(
         net: &'a Stack,
         who: &'a Speaker,
         mut told: Box<Spelled>,
@@ -53,7 +54,7 @@ impl<'a> Teller<'a> {
 
     /// One that was told this before.
     #[inline(always)]
-    pub(crate) fn after(
+    pub fn after(
         net: &'a Stack,
         who: &'a Speaker,
         told: Box<Spelled>,
@@ -72,7 +73,7 @@ impl<'a> Teller<'a> {
     }
 
     /// An error where memory ran out, in the graph or here.
-    pub(crate) fn check(&self) -> Result<(), NoMemory>
+    pub fn check(&self) -> Result<(), NoMemory>
         ensures { OnOk result (IsWhole self.now.told.value) }
     {
         match self.told.first_close() {
@@ -82,7 +83,7 @@ impl<'a> Teller<'a> {
     }
 
     /// What was told. An error where memory ran out, in the graph or here.
-    pub(crate) fn finish(self) -> Result<Box<Spelled>, NoMemory>
+    pub fn finish(self) -> Result<Box<Spelled>, NoMemory>
         ensures told { IfOk result (λ told. told.value ≡ self.entry.told.value) }
         ensures whole { IfOk result (λ told. IsWhole told.value) }
     {

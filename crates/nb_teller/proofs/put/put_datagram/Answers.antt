@@ -5,13 +5,13 @@ use Rattle.nb_stack.specs.declared.taken.Fate.{Fate}
 use Rattle.nb_stack.specs.Envelope.{message_of}
 use Rattle.nb_stack.specs.Sends.{put_on, way_of, fate_of}
 use Rattle.nb_machine.specs.Sendings.{has_route, try_records}
-use Rattle.nb_engine.specs.Tellings.{datagram_of}
+use Rattle.nb_teller.specs.Speakers.{datagram_of}
 use Rattle.nb_runner.proofs.Puts.{Puts-one, Puts-outs}
-use Rattle.nb_engine.proofs.Sendings.{on_its_way}
-use Rattle.nb_engine.proofs.put.put_datagram.Goals as goal
+use Rattle.nb_teller.proofs.Sendings.{on_its_way}
+use Rattle.nb_teller.proofs.put.put_datagram.Goals as goal
 
-pub returns : goal.returns
-returns c =
+pub returns-clause-records : goal.returns-clause-records
+returns-clause-records c =
     let net = c.args.net.now in
     let body = c.args.body.now in
     let message = datagram_of c.args.who.now c.args.port body in

@@ -1,5 +1,5 @@
 -- The records of what a graph tells of one open, spelled as it is told.
-use Rattle.std.specs.Prelude.{◌≡◌, ℕ, ◌==◌, List, [], ◌∷◌, ◌++◌, Bool, false, Option, Some, None, if◌then◌else◌}
+use Rattle.std.specs.Prelude.{◌≡◌, ℕ, ◌==◌, List, [], ◌∷◌, ◌++◌, ◌||◌, Bool, true, false, Option, Some, None, if◌then◌else◌}
 use Rattle.nb_terms.specs.declared.cause.Cause.{Cause}
 use Rattle.nb_wire.specs.declared.address.Ip4.{Ip4}
 use Rattle.nb_defs.specs.Records.{Out, out_texts}
@@ -9,17 +9,18 @@ use Rattle.nb_stack.specs.Client.{Client}
 use Rattle.nb_nodes.specs.Tags.{tag_number}
 use Rattle.nb_nodes.specs.declared.tag.Tag.TheVariants.{Bytes, Address}
 use Rattle.nb_opens.specs.Notices.{first_close}
-use Rattle.nb_engine.specs.declared.speaker.Speaker.{Speaker}
-use Rattle.nb_engine.specs.Deliveries.{delivered_bytes, delivered_address}
-use Rattle.nb_engine.specs.Tellings.{told_records, message_records}
+use Rattle.nb_teller.specs.declared.speaker.Speaker.{Speaker}
+use Rattle.nb_teller.specs.Deliveries.{delivered_bytes, delivered_address}
+use Rattle.nb_teller.specs.Tellings.{told_records, message_records, any_lacks_route, message_lacks_route}
 
--- the records, the cause of the first close, the first bytes and the first address that were delivered, and whether some of
--- it is lost
+-- the records, the cause of the first close, the first bytes and the first address that were delivered, whether some message
+-- found no route, and whether some of it is lost
 pub record Spelling : Type 0 where
   pub text : List ℕ
   pub closed : Option Cause
   pub bytes : Option (List ℕ)
   pub address : Option Ip4
+  pub is_stuck : Bool
   pub is_lost : Bool
 
 -- a cause as a row of numbers
@@ -36,13 +37,18 @@ abbrev pub address_row : Option Ip4 → List ℕ
 address_row None = []
 address_row (Some address) = address.0 ∷ []
 
--- what is spelled of what was told, its first close, and what it delivers first
+abbrev pub stuck_row : Bool → List ℕ
+stuck_row true = 1 ∷ []
+stuck_row false = []
+
+-- what is spelled of what was told, its first close, what it delivers first, and whether a message found no route
 abbrev pub rows_of : Client → Speaker → List Notice → List (List ℕ)
 rows_of net who ns =
-    out_texts (told_records net who ns) ∷ closed_row (first_close ns) ∷ bytes_row (delivered_bytes ns) ∷ address_row (delivered_address ns) ∷ []
+    out_texts (told_records net who ns) ∷ closed_row (first_close ns) ∷ bytes_row (delivered_bytes ns) ∷ address_row (delivered_address ns)
+    ∷ stuck_row (any_lacks_route net who ns) ∷ []
 
 abbrev pub rows_in : Spelling → List (List ℕ)
-rows_in s = s.text ∷ closed_row s.closed ∷ bytes_row s.bytes ∷ address_row s.address ∷ []
+rows_in s = s.text ∷ closed_row s.closed ∷ bytes_row s.bytes ∷ address_row s.address ∷ stuck_row s.is_stuck ∷ []
 
 -- what is known by it of what was told
 abbrev pub heard_by : Client → Speaker → Spelling → Heard
@@ -52,11 +58,11 @@ heard_by net who s = if s.is_lost then unknown else shows (rows_of net who) (row
 abbrev pub IsSpelled : Client → Speaker → Spelling → List Notice → Type 0
 IsSpelled net who s ns =
     (s.is_lost ≡ false) × (s.text ≡ out_texts (told_records net who ns)) × (s.closed ≡ first_close ns)
-    × (s.bytes ≡ delivered_bytes ns) × (s.address ≡ delivered_address ns)
+    × (s.bytes ≡ delivered_bytes ns) × (s.address ≡ delivered_address ns) × (s.is_stuck ≡ any_lacks_route net who ns)
 
 -- nothing was told, unless it is lost
 abbrev pub IsBlank : Spelling → Type 0
-IsBlank s = (s.text ≡ []) × (s.closed ≡ None) × (s.bytes ≡ None) × (s.address ≡ None)
+IsBlank s = (s.text ≡ []) × (s.closed ≡ None) × (s.bytes ≡ None) × (s.address ≡ None) × (s.is_stuck ≡ false)
 
 -- nothing is lost, and this is the cause of the first close, which isn't that memory ran out
 abbrev pub HasSpelled : Spelling → Option Cause → Type 0
@@ -78,6 +84,10 @@ SpellsMore s t outs = t.is_lost ≡ false → (s.is_lost ≡ false) × (t.text �
 abbrev pub FindsNothing : Spelling → Spelling → Type 0
 FindsNothing s t = (t.bytes ≡ s.bytes) × (t.address ≡ s.address)
 
+-- a message found no route, or one did before, unless some of it is lost
+abbrev pub StuckAfter : Spelling → Spelling → Bool → Type 0
+StuckAfter s t lacks = t.is_lost ≡ false → t.is_stuck ≡ (s.is_stuck || lacks)
+
 -- the first of two that is there
 abbrev pub first_there : {A : Type 0} → Option A → Option A → Option A
 first_there None b = b
@@ -95,4 +105,6 @@ FindsMore s t tag a bytes = t.is_lost ≡ false → (t.bytes ≡ bytes_after s.b
 
 -- a message's records were added, and what it delivers, unless some is lost
 abbrev pub SpellsMessage : Client → Speaker → Spelling → Spelling → ℕ → ℕ → ℕ → List ℕ → Type 0
-SpellsMessage net who s t tag a b bytes = (t.closed ≡ s.closed) × SpellsMore s t (message_records net who tag a b bytes) × FindsMore s t tag a bytes
+SpellsMessage net who s t tag a b bytes =
+    (t.closed ≡ s.closed) × SpellsMore s t (message_records net who tag a b bytes) × FindsMore s t tag a bytes
+    × StuckAfter s t (message_lacks_route net who tag b bytes)

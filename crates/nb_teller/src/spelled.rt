@@ -1,11 +1,11 @@
-ghost use Rattle.std.specs.Prelude.{◌≡◌, ◌≤◌, ◌∷◌, [], length, true, false, None, Some, IfOk};
+ghost use Rattle.std.specs.Prelude.{◌≡◌, ◌≤◌, ◌∷◌, ◌||◌, [], length, not, true, false, None, Some, IfOk};
 ghost use Rattle.std.specs.Option.{option_copied};
 ghost use Rattle.nb_defs.specs.Records.{advanced, graph};
 ghost use Rattle.nb_ledger.specs.Flat as notice;
 ghost use Rattle.nb_opens.specs.Notices.{close_of, or_else};
-ghost use Rattle.nb_machine.specs.Sendings.{send_records};
-ghost use Rattle.nb_engine.specs.Spelling.{first_there, FindsNothing, HasSpelled, IsBlank, SpellsMore};
-ghost use Rattle.nb_engine.specs.Tellings.{datagram_of};
+ghost use Rattle.nb_machine.specs.Sendings.{send_records, has_route};
+ghost use Rattle.nb_teller.specs.Spelling.{first_there, FindsNothing, HasSpelled, IsBlank, SpellsMore};
+ghost use Rattle.nb_teller.specs.Speakers.{datagram_of};
 
 use crate::desk::Room;
 use crate::put::put_datagram;
@@ -26,8 +26,8 @@ const CLOSED: u8 = 8;
 /// The code of a cause: memory ran out.
 const OUT_OF_MEMORY: u8 = 23;
 
-/// The records of what a graph told since this was cleared, and what was delivered first. Where memory ran out, or a
-/// message isn't one of an open's, in one part, all of it is lost.
+/// The records of what a graph told since this was cleared, what was delivered first, and whether a message found no
+/// route. Where memory ran out, or a message isn't one of an open's, in one part, all of it is lost.
 #[derive(Drop)]
 pub struct Spelled {
     alloc: Global,
@@ -35,12 +35,13 @@ pub struct Spelled {
     closed: Option<Cause>,
     bytes: Option<Text>,
     address: Option<Ip4>,
+    stuck: bool,
     lost: bool,
 }
 
 impl Model for Spelled {
     ghost use Rattle.std.specs.Prelude.{◌||◌};
-    ghost use Rattle.nb_engine.specs.Spelling.{Spelling};
+    ghost use Rattle.nb_teller.specs.Spelling.{Spelling};
 
     ghost Value = { Spelling };
 
@@ -49,6 +50,7 @@ impl Model for Spelled {
       closed = s.closed;
       bytes = s.bytes;
       address = s.address;
+      is_stuck = s.stuck;
       is_lost = s.lost || s.text.is_short;
     } };
 }
@@ -62,6 +64,7 @@ impl Spelled {
             closed: None,
             bytes: None,
             address: None,
+            stuck: false,
             lost: false,
         })
     }
@@ -79,6 +82,7 @@ impl Spelled {
         self.closed = None;
         self.bytes = None;
         self.address = None;
+        self.stuck = false;
         self.lost = false;
     }
 
@@ -116,10 +120,18 @@ impl Spelled {
         self.address
     }
 
+    /// Whether some message found no route: it has no record.
+    pub fn is_stuck(&self) -> bool
+        ensures { result ≡ self.now.is_stuck }
+    {
+        self.stuck
+    }
+
     /// An event is told.
     pub fn put_event(&mut self, e: &Event)
         ensures closed { self.new.closed ≡ or_else self.old.closed (close_of (notice.event e.now)) }
         ensures found { FindsNothing self.old self.new }
+        ensures stuck { self.new.is_stuck ≡ self.old.is_stuck }
         ensures more { SpellsMore self.old self.new (graph e.now ∷ []) }
     {
         self.text.put(&OutRec::Graph(*e));
@@ -130,6 +142,7 @@ impl Spelled {
     pub fn put_advance(&mut self, number: u16, place: u32)
         ensures closed { self.new.closed ≡ self.old.closed }
         ensures found { FindsNothing self.old self.new }
+        ensures stuck { self.new.is_stuck ≡ self.old.is_stuck }
         ensures more { SpellsMore self.old self.new (advanced number place ∷ []) }
     {
         self.text.put(&OutRec::Advance { number, place });
@@ -148,10 +161,14 @@ impl Spelled {
         requires short { length body.now ≤ 1480 }
         ensures closed { self.new.closed ≡ self.old.closed }
         ensures found { FindsNothing self.old self.new }
+        ensures stuck { self.new.is_stuck
+            ≡ (self.old.is_stuck || not (has_route net.now (datagram_of who.now port body.now))) }
         ensures more { SpellsMore self.old self.new
             (send_records net.now who.now.number tried (datagram_of who.now port body.now)) }
     {
-        put_datagram(net, who, tried, port, body, room, &mut self.text);
+        if !put_datagram(net, who, tried, port, body, room, &mut self.text) {
+            self.stuck = true;
+        }
     }
 
     /// These bytes are delivered.
@@ -159,6 +176,7 @@ impl Spelled {
         ensures closed { self.new.closed ≡ self.old.closed }
         ensures address { self.new.address ≡ self.old.address }
         ensures found { self.new.is_lost ≡ false → self.new.bytes ≡ first_there self.old.bytes (Some bytes.now) }
+        ensures stuck { self.new.is_stuck ≡ self.old.is_stuck }
         ensures more { SpellsMore self.old self.new [] }
     {
         if self.bytes.is_none() {
@@ -174,6 +192,7 @@ impl Spelled {
         ensures closed { self.new.closed ≡ self.old.closed }
         ensures bytes { self.new.bytes ≡ self.old.bytes }
         ensures found { self.new.address ≡ first_there self.old.address (Some address) }
+        ensures stuck { self.new.is_stuck ≡ self.old.is_stuck }
         ensures more { SpellsMore self.old self.new [] }
     {
         if self.address.is_none() {

@@ -14,8 +14,8 @@ use Rattle.nb_graph.specs.Trace.{Said}
 use Rattle.nb_graph.specs.Whole.{port_at}
 use Rattle.nb_nodes.specs.Tags.{tag_number}
 use Rattle.nb_nodes.specs.declared.tag.Tag.TheVariants.{Advance, Try, Bytes, Address}
-use Rattle.nb_engine.specs.declared.speaker.Carrier.TheVariants.{Udp}
-use Rattle.nb_engine.specs.declared.speaker.Speaker.{Speaker}
+use Rattle.nb_teller.specs.declared.speaker.Carrier.TheVariants.{Udp}
+use Rattle.nb_teller.specs.declared.speaker.Speaker.{Speaker}
 use Rattle.nb_nodes.specs.Carried.{advance_said, datagram_said}
 use Rattle.nb_nodes.specs.Fetches.{body_too_large}
 use Rattle.nb_tftp.specs.Asks.{Begun, datagram}
@@ -26,7 +26,8 @@ use Rattle.nb_opens.specs.PairEvents.{made_events, begun_front, begun_back, call
 use Rattle.nb_stack.specs.Client.{Client}
 use Rattle.nb_stack.specs.Sends.{put_on, way_of}
 use Rattle.nb_machine.specs.Sendings.{has_route, try_records, send_records, sends_records, advance_records, acts_records}
-use Rattle.nb_engine.specs.Tellings.{datagram_of, message_records, notice_records, told_records}
+use Rattle.nb_teller.specs.Tellings.{message_records, notice_records, told_records}
+use Rattle.nb_teller.specs.Speakers.{datagram_of}
 
 pub told-append : (net : Client) (who : Speaker) (xs ys : List Notice) → told_records net who (xs ++ ys) ≡ told_records net who xs ++ told_records net who ys
 told-append net who xs ys = flat_map-append (notice_records net who) xs ys

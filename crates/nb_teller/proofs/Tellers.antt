@@ -3,10 +3,10 @@ use Rattle.std.proofs.Common.{◌≡◌, List, ◌++◌, sym, subst}
 use Rattle.nb_ledger.specs.Flat.{Notice, Heard, Given}
 use Rattle.nb_ledger.proofs.RunLemmas.{Given-append}
 use Rattle.nb_stack.specs.Client.{Client}
-use Rattle.nb_engine.specs.declared.speaker.Speaker.{Speaker}
-use Rattle.nb_engine.specs.declared.teller.Teller.{Teller}
-use Rattle.nb_engine.specs.Spelling.{Spelling, heard_by, IsBlank, IsSpelled, IsWhole, TellsMore}
-use Rattle.nb_engine.proofs.SpellingLemmas.{spelled_is, spelled_more}
+use Rattle.nb_teller.specs.declared.speaker.Speaker.{Speaker}
+use Rattle.nb_teller.specs.declared.teller.Teller.{Teller}
+use Rattle.nb_teller.specs.Spelling.{Spelling, heard_by, IsBlank, IsSpelled, IsWhole, TellsMore}
+use Rattle.nb_teller.proofs.SpellingLemmas.{spelled_is, spelled_more}
 
 -- what is known of what it was told
 abbrev pub heard : Teller → Heard

@@ -18,13 +18,14 @@ pub struct Room {
 /// each record's step.
 #[derive(Drop)]
 pub struct Desk {
-    pub(crate) room: Box<Room>,
+    /// Where its frames are put together.
+    pub room: Box<Room>,
     /// What was told of objects that were made.
-    pub(crate) made: Box<Spelled>,
+    pub made: Box<Spelled>,
     /// What was told since.
-    pub(crate) told: Box<Spelled>,
+    pub told: Box<Spelled>,
     /// What was told of what was let go after the end of an open.
-    pub(crate) freed: Box<Spelled>,
+    pub freed: Box<Spelled>,
 }
 
 impl Room {

@@ -3,12 +3,13 @@ ghost use Rattle.nb_defs.specs.Records.{out_texts, step, ended, result as result
 ghost use Rattle.nb_record.specs.Logged.{Puts};
 ghost use Rattle.nb_ledger.specs.Flat.{Notice};
 ghost use Rattle.nb_stack.specs.Client.{Client};
-ghost use Rattle.nb_engine.specs.declared.speaker.Speaker.{Speaker as TheSpeaker};
-ghost use Rattle.nb_engine.specs.Spelling.{IsSpelled};
+ghost use Rattle.nb_teller.specs.declared.speaker.Speaker.{Speaker as TheSpeaker};
+ghost use Rattle.nb_teller.specs.Spelling.{IsSpelled};
 ghost use Rattle.nb_machine.specs.Sendings.{try_records, send_records, has_route};
 ghost use Rattle.nb_machine.specs.CommandRecords.{reply_records};
-ghost use Rattle.nb_engine.specs.Heeding.{IsReply};
-ghost use Rattle.nb_engine.specs.Tellings.{carrier_number, datagram_of, told_records};
+ghost use Rattle.nb_teller.specs.Put.{IsFrameOrNothing};
+ghost use Rattle.nb_teller.specs.Tellings.{told_records};
+ghost use Rattle.nb_teller.specs.Speakers.{carrier_number, datagram_of};
 
 use crate::desk::Room;
 use crate::speaker::Speaker;
@@ -40,7 +41,7 @@ pub fn put_over(number: u16, cause: Cause, log: &mut Log)
 
 /// Puts a reply to a frame, if there is one.
 pub fn put_reply(reply: &[u8], log: &mut Log)
-    requires { IsReply reply.now }
+    requires { IsFrameOrNothing reply.now }
     ensures { Puts log.old log.new (out_texts (reply_records reply.now)) }
 {
     if !reply.is_empty() {
@@ -78,8 +79,8 @@ pub fn has_route(net: &Stack, who: &Speaker, room: &mut Room) -> bool
     fate != Fate::NoRoute
 }
 
-/// Puts a datagram's frame, or the ARP request for its next hop, after its try. Nothing is put where it
-/// finds no route.
+/// Puts a datagram's frame, or the ARP request for its next hop, after its try. Returns whether it was put: nothing is
+/// where it finds no route.
 #[inline(always)]
 pub(crate) fn put_datagram(
     net: &Stack,
@@ -89,16 +90,18 @@ pub(crate) fn put_datagram(
     body: &[u8],
     room: &mut Room,
     log: &mut Log,
-)
+) -> bool
     requires short { length body.now ≤ 1480 }
-    ensures { Puts log.old log.new (out_texts (send_records net.now who.now.number tried (datagram_of who.now port body.now))) }
+    ensures put { result ≡ has_route net.now (datagram_of who.now port body.now) }
+    ensures records { Puts log.old log.new (out_texts (send_records net.now who.now.number tried (datagram_of who.now port body.now))) }
 {
     let mut out = room.out();
     if let Fate::NoRoute = net.send_parts(&envelope(who, port), b"", body, &mut out) {
-        return;
+        return false;
     }
     put_try(who.number, tried, log);
     log.put(&OutRec::Frame(out.written()));
+    true
 }
 
 /// Puts what the graph told of an open.

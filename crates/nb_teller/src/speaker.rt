@@ -1,11 +1,10 @@
 ghost use Rattle.std.specs.Prelude.{◌≡◌};
-ghost use Rattle.nb_engine.specs.Fetches.{speaker_by};
-ghost use Rattle.nb_engine.specs.Tellings.{carrier_number};
+ghost use Rattle.nb_teller.specs.Speakers.{speaker_by, carrier_number};
 
 use nb_wire::Ip4;
 
 /// UDP's number as a protocol (RFC 768).
-pub(crate) const UDP: u8 = 17;
+pub const UDP: u8 = 17;
 
 /// What carries an open's messages.
 #[derive(Clone, Copy, Debug, PartialEq, Eq)]
@@ -20,11 +19,13 @@ pub enum Carrier {
 #[derive(Clone, Copy, Debug)]
 pub struct Speaker {
     /// The open's number.
-    pub(crate) number: u16,
-    pub(crate) carrier: Carrier,
-    pub(crate) server: Ip4,
+    pub number: u16,
+    /// What carries its messages.
+    pub carrier: Carrier,
+    /// To whom they go.
+    pub server: Ip4,
     /// The client's port, of an echo its identifier.
-    pub(crate) own_port: u16,
+    pub own_port: u16,
 }
 
 impl Speaker {

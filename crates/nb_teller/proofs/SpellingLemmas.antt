@@ -1,6 +1,8 @@
 -- What is spelled, as more is told.
-use Rattle.std.proofs.Common.{◌≡◌, ℕ, ◌==◌, Bool, true, false, cond, List, [], ◌∷◌, ◌++◌, Option, Some, None, refl, sym, ◌∙◌, ap, subst, append-nil}
+use Rattle.std.proofs.Common.{◌≡◌, ℕ, ◌==◌, ◌||◌, Bool, true, false, cond, List, [], ◌∷◌, ◌++◌, Option, Some, None, refl, sym, ◌∙◌, ap, subst, append-nil}
+use Rattle.std.proofs.Math.Bool.{or-false}
 use Rattle.std.proofs.lemmas.Grind.{flat_map-append}
+use Rattle.std.proofs.lemmas.List.Folds.{list_any-append}
 use Rattle.nb_terms.specs.declared.cause.Cause.{Cause}
 use Rattle.nb_terms.specs.declared.event.Event.{Event}
 use Rattle.nb_wire.specs.declared.address.Ip4.{Ip4}
@@ -12,11 +14,11 @@ use Rattle.nb_nodes.specs.Tags.{tag_number}
 use Rattle.nb_nodes.specs.declared.tag.Tag.TheVariants.{Bytes, Address}
 use Rattle.nb_opens.specs.Notices.{close_of, first_close, or_else}
 use Rattle.nb_stack.specs.Client.{Client}
-use Rattle.nb_engine.specs.declared.speaker.Speaker.{Speaker}
-use Rattle.nb_engine.specs.Deliveries.{delivered_bytes, delivered_address}
-use Rattle.nb_engine.specs.Spelling.{Spelling, closed_row, bytes_row, address_row, rows_of, rows_in, heard_by, IsSpelled, IsBlank, HasSpelled, IsWhole, TellsMore, SpellsMore, SpellsMessage, FindsNothing, bytes_after, address_after}
-use Rattle.nb_engine.specs.Tellings.{notice_records, told_records}
-use Rattle.nb_engine.proofs.TellingLemmas.{told-append}
+use Rattle.nb_teller.specs.declared.speaker.Speaker.{Speaker}
+use Rattle.nb_teller.specs.Deliveries.{delivered_bytes, delivered_address}
+use Rattle.nb_teller.specs.Spelling.{Spelling, closed_row, bytes_row, address_row, stuck_row, rows_of, rows_in, heard_by, IsSpelled, IsBlank, HasSpelled, IsWhole, TellsMore, SpellsMore, SpellsMessage, FindsNothing, StuckAfter, bytes_after, address_after}
+use Rattle.nb_teller.specs.Tellings.{notice_records, told_records, lacks_route, any_lacks_route}
+use Rattle.nb_teller.proofs.TellingLemmas.{told-append}
 
 -- the cause of the first close in two parts
 pub first_close-append : (xs ys : List Notice) → first_close (xs ++ ys) ≡ or_else (first_close xs) (first_close ys)
@@ -75,6 +77,11 @@ address_more (message from tag rec a b bytes ∷ ns) n = by (tag == tag_number A
     by true rest = address_stays (record { 0 = a }) n
     by false rest = rest
 
+-- whether a message found no route, with one thing more
+stuck_more : (net : Client) (who : Speaker) (ns : List Notice) (n : Notice) → any_lacks_route net who (ns ++ n ∷ []) ≡ (any_lacks_route net who ns || lacks_route net who n)
+stuck_more net who ns n =
+    list_any-append (lacks_route net who) ns (n ∷ []) ∙ ap (λ b. any_lacks_route net who ns || b) (or-false (lacks_route net who n))
+
 -- nothing was delivered of what wasn't told
 none_delivered : (delivered_bytes [] ≡ None) × (delivered_address [] ≡ None)
 unfolding delivered_bytes delivered_address
@@ -116,6 +123,12 @@ address_is None (Some d) e = absurd (let no : false ≡ true = ap is_some_row e 
 address_is (Some c) None e = absurd (let no : true ≡ false = ap is_some_row e in cc)
 address_is (Some c) (Some d) e = ap (λ z. Some (record { 0 = z })) (ap (first_of 0) e)
 
+stuck_is : (a b : Bool) → stuck_row a ≡ stuck_row b → a ≡ b
+stuck_is true true e = refl
+stuck_is false false e = refl
+stuck_is true false e = absurd (let no : true ≡ false = ap is_some_row e in cc)
+stuck_is false true e = absurd (let no : false ≡ true = ap is_some_row e in cc)
+
 -- what is spelled is what its rows say
 are_rows : (net : Client) (who : Speaker) (s : Spelling) (ns : List Notice) → s.is_lost ≡ false → rows_of net who ns ≡ rows_in s → IsSpelled net who s ns
 are_rows net who s ns whole e = (
@@ -124,10 +137,11 @@ are_rows net who s ns whole e = (
   sym (cause_is (first_close ns) s.closed (ap (λ r. first_of [] (others_of r)) e)),
   sym (bytes_is (delivered_bytes ns) s.bytes (ap (λ r. first_of [] (others_of (others_of r))) e)),
   sym (address_is (delivered_address ns) s.address (ap (λ r. first_of [] (others_of (others_of (others_of r)))) e)),
+  sym (stuck_is (any_lacks_route net who ns) s.is_stuck (ap (λ r. first_of [] (others_of (others_of (others_of (others_of r))))) e)),
 )
 
 rows_are : (net : Client) (who : Speaker) (s : Spelling) (ns : List Notice) → IsSpelled net who s ns → rows_of net who ns ≡ rows_in s
-rows_are net who s ns is = rw (is.1, is.2, is.3, is.4) refl
+rows_are net who s ns is = rw (is.1, is.2, is.3, is.4, is.5) refl
 
 -- the records of one thing more
 texts_more : (net : Client) (who : Speaker) (ns : List Notice) (n : Notice) → out_texts (told_records net who (ns ++ n ∷ [])) ≡ out_texts (told_records net who ns) ++ out_texts (notice_records net who n)
@@ -138,7 +152,7 @@ texts_more net who ns n =
 -- what one thing more adds to what is spelled
 abbrev pub AddsIt : Client → Speaker → Spelling → Spelling → Notice → Type 0
 AddsIt net who s t n = (s.is_lost ≡ false) × (t.text ≡ s.text ++ out_texts (notice_records net who n)) × (t.closed ≡ or_else s.closed (close_of n))
-    × (t.bytes ≡ bytes_by s.bytes n) × (t.address ≡ address_by s.address n)
+    × (t.bytes ≡ bytes_by s.bytes n) × (t.address ≡ address_by s.address n) × (t.is_stuck ≡ (s.is_stuck || lacks_route net who n))
 
 spelled_then : (net : Client) (who : Speaker) (s t : Spelling) (ns : List Notice) (n : Notice) → t.is_lost ≡ false → AddsIt net who s t n → IsSpelled net who s ns → IsSpelled net who t (ns ++ n ∷ [])
 spelled_then net who s t ns n kept adds is = (
@@ -147,6 +161,7 @@ spelled_then net who s t ns n kept adds is = (
   adds.2 ∙ ap (λ z. or_else z (close_of n)) is.2 ∙ ap (or_else (first_close ns)) (sym (or_none (close_of n))) ∙ sym (first_close-append ns (n ∷ [])),
   adds.3 ∙ ap (λ z. bytes_by z n) is.3 ∙ sym (bytes_more ns n),
   adds.4 ∙ ap (λ z. address_by z n) is.4 ∙ sym (address_more ns n),
+  adds.5 ∙ ap (λ z. z || lacks_route net who n) is.5 ∙ sym (stuck_more net who ns n),
 )
 
 -- what is known of what was told, where nothing of it is lost or all
@@ -166,11 +181,11 @@ adds_given net who s t n adds = by t.is_lost refl
         (refl, λ ns h. rows_are net who t (ns ++ n ∷ []) (spelled_then net who s t ns n kept it (are_rows net who s ns it.0 h))))
 
 -- an event is told by one that is the same
-pub event_told : (net : Client) (who : Speaker) (s d t : Spelling) (e : Event) → d ≡ s → SpellsMore d t (graph e ∷ []) → FindsNothing d t → t.closed ≡ or_else d.closed (close_of (event e)) →
+pub event_told : (net : Client) (who : Speaker) (s d t : Spelling) (e : Event) → d ≡ s → SpellsMore d t (graph e ∷ []) → FindsNothing d t → t.is_stuck ≡ d.is_stuck → t.closed ≡ or_else d.closed (close_of (event e)) →
     Given (heard_by net who s) (heard_by net who t) (event e ∷ [])
-event_told net who s d t e same more found closed =
+event_told net who s d t e same more found stuck closed =
     subst (λ x. Given (heard_by net who x) (heard_by net who t) (event e ∷ [])) same
-    (adds_given net who d t (event e) (λ kept. ((more kept).0, (more kept).1, closed, found.0, found.1)))
+    (adds_given net who d t (event e) (λ kept. ((more kept).0, (more kept).1, closed, found.0, found.1, stuck ∙ sym (or-false d.is_stuck))))
 
 -- so is a message, by its tag
 pub message_told : (net : Client) (who : Speaker) (s d t : Spelling) (from : Port) (tag number rec a b : ℕ) (bytes : List ℕ) → d ≡ s → number ≡ tag → SpellsMessage net who d t number a b bytes →
@@ -178,7 +193,7 @@ pub message_told : (net : Client) (who : Speaker) (s d t : Spelling) (from : Por
 message_told net who s d t from tag number rec a b bytes same is says =
     let it : SpellsMessage net who d t tag a b bytes = subst (λ k. SpellsMessage net who d t k a b bytes) is says in
     subst (λ x. Given (heard_by net who x) (heard_by net who t) (message from tag rec a b bytes ∷ [])) same
-    (adds_given net who d t (message from tag rec a b bytes) (λ kept. ((it.1 kept).0, (it.1 kept).1, it.0 ∙ sym (or_none d.closed), (it.2 kept).0, (it.2 kept).1)))
+    (adds_given net who d t (message from tag rec a b bytes) (λ kept. ((it.1 kept).0, (it.1 kept).1, it.0 ∙ sym (or_none d.closed), (it.2 kept).0, (it.2 kept).1, it.3 kept)))
 
 -- what was told after what was told before, which may show by an image of another
 given_shown : (net net' : Client) (who who' : Speaker) (s t : Spelling) (ns more : List Notice) → t.is_lost ≡ false → rows_of net who ns ≡ rows_in s → Given (heard_by net who s) (heard_by net' who' t) more →
@@ -198,7 +213,7 @@ spelled_more net net' who who' s t more g kept = λ ns is. are_rows net who t (n
 -- what was given to one that had nothing is spelled
 pub spelled_is : (net net' : Client) (who who' : Speaker) (s t : Spelling) (ns : List Notice) → IsBlank s → Given (heard_by net who s) (heard_by net' who' t) ns → t.is_lost ≡ false → IsSpelled net who t ns
 spelled_is net net' who who' s t ns blank g kept =
-    let shown : rows_of net who [] ≡ rows_in s = rw (blank.0, blank.1, blank.2, blank.3, none_delivered.0, none_delivered.1) refl in
+    let shown : rows_of net who [] ≡ rows_in s = rw (blank.0, blank.1, blank.2, blank.3, blank.4, none_delivered.0, none_delivered.1) refl in
     are_rows net who t ns kept (given_shown net net' who who' s t [] ns kept shown g)
 
 -- the first close of what was told

@@ -1,0 +1,4 @@
+pub mod TellingLemmas
+pub mod SpellingLemmas
+pub mod Tellers
+pub mod Sendings

@@ -1,0 +1,5 @@
+pub mod Speakers
+pub mod Tellings
+pub mod Deliveries
+pub mod Spelling
+pub mod Put
