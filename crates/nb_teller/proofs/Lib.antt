@@ -1,4 +1,5 @@
 pub mod TellingLemmas
+pub mod RowLemmas
 pub mod SpellingLemmas
 pub mod Tellers
 pub mod Sendings

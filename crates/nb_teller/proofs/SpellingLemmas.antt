@@ -16,9 +16,10 @@ use Rattle.nb_opens.specs.Notices.{close_of, first_close, or_else}
 use Rattle.nb_stack.specs.Client.{Client}
 use Rattle.nb_teller.specs.declared.speaker.Speaker.{Speaker}
 use Rattle.nb_teller.specs.Deliveries.{delivered_bytes, delivered_address}
-use Rattle.nb_teller.specs.Spelling.{Spelling, closed_row, bytes_row, address_row, stuck_row, rows_of, rows_in, heard_by, IsSpelled, IsBlank, HasSpelled, IsWhole, TellsMore, SpellsMore, SpellsMessage, FindsNothing, StuckAfter, bytes_after, address_after}
+use Rattle.nb_teller.specs.Spelling.{Spelling, rows_of, rows_in, heard_by, IsSpelled, IsBlank, HasSpelled, IsWhole, TellsMore, SpellsMore, SpellsMessage, FindsNothing, bytes_after, address_after}
 use Rattle.nb_teller.specs.Tellings.{notice_records, told_records, lacks_route, any_lacks_route}
 use Rattle.nb_teller.proofs.TellingLemmas.{told-append}
+use Rattle.nb_teller.proofs.RowLemmas.{are_rows, rows_are}
 
 -- the cause of the first close in two parts
 pub first_close-append : (xs ys : List Notice) → first_close (xs ++ ys) ≡ or_else (first_close xs) (first_close ys)
@@ -86,62 +87,6 @@ stuck_more net who ns n =
 none_delivered : (delivered_bytes [] ≡ None) × (delivered_address [] ≡ None)
 unfolding delivered_bytes delivered_address
 none_delivered = (refl, refl)
-
--- the first of some, or else this, and the others
-abbrev first_of : {A : Type 0} → A → List A → A
-first_of d [] = d
-first_of d (x ∷ xs) = x
-
-abbrev others_of : {A : Type 0} → List A → List A
-others_of [] = []
-others_of (x ∷ xs) = xs
-
-abbrev is_some_row : List ℕ → Bool
-is_some_row [] = false
-is_some_row (x ∷ xs) = true
-
--- a cause is its row's
-cause_is : (a b : Option Cause) → closed_row a ≡ closed_row b → a ≡ b
-cause_is None None e = refl
-cause_is None (Some d) e = absurd (let no : false ≡ true = ap is_some_row e in cc)
-cause_is (Some c) None e = absurd (let no : true ≡ false = ap is_some_row e in cc)
-cause_is (Some c) (Some d) e = ap Some (by c d (ap (first_of 0) e) (ap (λ r. first_of 0 (others_of r)) e) (ap (λ r. first_of 0 (others_of (others_of r))) e))
-  where
-    by : (x y : Cause) → x.code ≡ y.code → x.a ≡ y.a → x.b ≡ y.b → x ≡ y
-    by x y f g h = ap (λ z. record { code = z; a = x.a; b = x.b }) f ∙ (ap (λ z. record { code = y.code; a = z; b = x.b }) g ∙ ap (λ z. record { code = y.code; a = y.a; b = z }) h)
-
--- so are bytes, and an address
-bytes_is : (a b : Option (List ℕ)) → bytes_row a ≡ bytes_row b → a ≡ b
-bytes_is None None e = refl
-bytes_is None (Some d) e = absurd (let no : false ≡ true = ap is_some_row e in cc)
-bytes_is (Some c) None e = absurd (let no : true ≡ false = ap is_some_row e in cc)
-bytes_is (Some c) (Some d) e = ap Some (ap others_of e)
-
-address_is : (a b : Option Ip4) → address_row a ≡ address_row b → a ≡ b
-address_is None None e = refl
-address_is None (Some d) e = absurd (let no : false ≡ true = ap is_some_row e in cc)
-address_is (Some c) None e = absurd (let no : true ≡ false = ap is_some_row e in cc)
-address_is (Some c) (Some d) e = ap (λ z. Some (record { 0 = z })) (ap (first_of 0) e)
-
-stuck_is : (a b : Bool) → stuck_row a ≡ stuck_row b → a ≡ b
-stuck_is true true e = refl
-stuck_is false false e = refl
-stuck_is true false e = absurd (let no : true ≡ false = ap is_some_row e in cc)
-stuck_is false true e = absurd (let no : false ≡ true = ap is_some_row e in cc)
-
--- what is spelled is what its rows say
-are_rows : (net : Client) (who : Speaker) (s : Spelling) (ns : List Notice) → s.is_lost ≡ false → rows_of net who ns ≡ rows_in s → IsSpelled net who s ns
-are_rows net who s ns whole e = (
-  whole,
-  sym (ap (first_of []) e),
-  sym (cause_is (first_close ns) s.closed (ap (λ r. first_of [] (others_of r)) e)),
-  sym (bytes_is (delivered_bytes ns) s.bytes (ap (λ r. first_of [] (others_of (others_of r))) e)),
-  sym (address_is (delivered_address ns) s.address (ap (λ r. first_of [] (others_of (others_of (others_of r)))) e)),
-  sym (stuck_is (any_lacks_route net who ns) s.is_stuck (ap (λ r. first_of [] (others_of (others_of (others_of (others_of r))))) e)),
-)
-
-rows_are : (net : Client) (who : Speaker) (s : Spelling) (ns : List Notice) → IsSpelled net who s ns → rows_of net who ns ≡ rows_in s
-rows_are net who s ns is = rw (is.1, is.2, is.3, is.4, is.5) refl
 
 -- the records of one thing more
 texts_more : (net : Client) (who : Speaker) (ns : List Notice) (n : Notice) → out_texts (told_records net who (ns ++ n ∷ [])) ≡ out_texts (told_records net who ns) ++ out_texts (notice_records net who n)
