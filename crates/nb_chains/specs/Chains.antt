@@ -74,43 +74,6 @@ abbrev pub source_for : Option ObjId → ℕ → ℕ
 source_for None source = source
 source_for (Some x) source = 0
 
--- The user has asked two by these bytes: what a transfer asks at first leaves, or memory runs out.
-abbrev pub BeginsTwo : Chain → Objects Obj → Objects Obj → List ℕ → ℕ → ℕ → Heard → Heard → Type 0
-BeginsTwo c old new bytes now rec before after =
-    (t : ObjId) (a : AskValue) → c.below ≡ Some t → AreMade (own_graph c old) c.top.0 t.0 → ask_in bytes ≡ Some a
-    → DoesBegin (own_graph c new) c.top.0 t.0 (begun_with a) now rec before after
-
--- the same of one that asks by itself
-abbrev pub BeginsOne : {S B C : Type 0} → Service S B C → ℕ → Chain → Objects Obj → Objects Obj → List ℕ → ℕ → ℕ → Heard → Heard → Type 0
-BeginsOne {S} {B} {C} s kind c old new bytes now rec before after =
-    (b : B) → s.asked bytes ≡ Some b → IsReady (own_graph c old) c.top.0 kind → DoesAsk s kind (own_graph c new) c.top.0 b now rec before after
-
--- What a datagram or a time does to two, for each transfer that may be under way, and what the outside is told.
-abbrev pub CallsTwo : Chain → Objects Obj → Objects Obj → (ℕ → Port) → Way → ℕ → Call → Heard → Heard → Type 0
-CallsTwo c old new at by rec call before after =
-    (t : ObjId) → c.below ≡ Some t → IsDownloading (own_graph c old) c.top.0 t.0
-    → DoesCall (own_graph c old) (own_graph c new) c.top.0 t.0 (at t.0) by rec call before after
-
--- What a message does to one that asks by itself, for each exchange that may be under way, and what the outside is told.
-abbrev pub HearsOne : Chain → Objects Obj → Objects Obj → Said → ℕ → Heard → Heard → Type 0
-HearsOne c old new m now before after =
-    c.below ≡ None → (ns : List Notice) × Given before after ns × ReceiveAllBy (only c.top.0) (own_graph c old) (own_graph c new) c.top.0 m now ns
-
--- the same of a time
-abbrev pub TicksOne : Chain → Objects Obj → Objects Obj → ℕ → Heard → Heard → Type 0
-TicksOne c old new now before after =
-    c.below ≡ None → (ns : List Notice) × Given before after ns × TickAllBy (only c.top.0) (own_graph c old) (own_graph c new) c.top.0 now ns
-
--- The user closes the open.
-abbrev pub ClosesTwo : Chain → Objects Obj → Objects Obj → Cause → Heard → Heard → Type 0
-ClosesTwo c old new cause before after =
-    (t : ObjId) → c.below ≡ Some t → AreGoing (own_graph c old) c.top.0 t.0
-    → HasEnded (own_graph c new) c.top.0 t.0 None × Given before after (closed_notices c.top.0 t.0 cause)
-
-abbrev pub ClosesSole : Chain → Objects Obj → Objects Obj → Cause → Heard → Heard → Type 0
-ClosesSole c old new cause before after =
-    c.below ≡ None → IsOpenLone (own_graph c old) c.top.0 → IsShutLone (own_graph c new) c.top.0 × Given before after (alone_closed c.top.0 cause)
-
 -- Nothing was asked of x: it lives by its one hold, and all its ports are open.
 pub record IsFresh (g : Objects Obj) (x at_rank mark : ℕ) : Type 0 where
   pub given : x ≤ g.book.made

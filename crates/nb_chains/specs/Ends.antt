@@ -44,15 +44,3 @@ pub record ClosesFreeSlots (g h : Objects Obj) (before after : Heard) (x : ℕ) 
   pub unlinked : (k : ℕ) → link_count (port g.book x k) ≡ 0 → link_count (port h.book x k) ≡ 0
   pub others : (y k : ℕ) → (y ≡ x → ⊥) → port h.book y k ≡ port g.book y k
   pub told : Given before after (free_slot_notices x c)
-
--- The end of a run, where two were made or a transfer is under way: the ports of the top one are closed, and so those of
--- the other that are plugged, then the ports that nothing is plugged to, and both are let go.
-abbrev pub ShutsTwo : Chain → Objects Obj → Objects Obj → Cause → Heard → Heard → Type 0
-ShutsTwo c old new cause before after =
-    (t : ObjId) → c.below ≡ Some t → AreGoing (own_graph c old) c.top.0 t.0
-    → IsReleased c old new × Given before after (shut_notices c.top.0 t.0 cause)
-
--- the same of one alone whose ports are open
-abbrev pub ShutsSole : Chain → Objects Obj → Objects Obj → Cause → Heard → Heard → Type 0
-ShutsSole c old new cause before after =
-    c.below ≡ None → IsOpenLone (own_graph c old) c.top.0 → IsReleased c old new × Given before after (alone_shut c.top.0 cause)
