@@ -1,4 +1,6 @@
 pub mod NoMakes
+pub mod GivingLemmas
+pub mod ShapesOf
 pub mod ChainCalls
 pub mod ChainDoes
 pub mod GoingOn

@@ -8,6 +8,8 @@ use Rattle.nb_ledger.specs.declared.event.Way.TheVariants as way
 use Rattle.nb_ledger.specs.declared.port.ObjId.{ObjId}
 use Rattle.nb_ledger.specs.declared.port.Port.{Port}
 use Rattle.nb_ledger.specs.Flat.{Heard, Notice}
+use Rattle.nb_dhcp.specs.declared.asker.Asker.{Asker}
+use Rattle.nb_dns.specs.Lookups.{Lookup}
 use Rattle.nb_graph.specs.Trace.{Said}
 use Rattle.nb_graph.specs.Whole.{Objects, port_at}
 use Rattle.nb_nodes.specs.declared.obj.Obj.{Obj}
@@ -22,6 +24,7 @@ use Rattle.nb_opens.specs.Alones.{Begins, IsOpenLone, IsReady, IsShutLone, Recei
 use Rattle.nb_opens.specs.Companies.{only}
 use Rattle.nb_opens.specs.Notices.{closed_notices, shut_notices}
 use Rattle.nb_opens.specs.Pairs.{AreGoing, AreMade, BeginDoes, CallDoes, Downloads, HasEnded, IsDownloading}
+use Rattle.nb_ping.specs.Pings.{Pinged}
 use Rattle.nb_tftp.specs.Asks.{Begun}
 use Rattle.nb_tftp.specs.History.{Call, Entry}
 use Rattle.nb_chains.specs.declared.chain.Chain.{Chain}
@@ -47,9 +50,9 @@ BeginsOne {S} {B} {C} s kind c old new bytes now rec ns =
 -- the bytes ask for what such an open does
 abbrev pub IsAsk : ChainKind → List ℕ → Type 0
 IsAsk File bytes = (a : AskValue) × (ask_in bytes ≡ Some a)
-IsAsk Name bytes = (b : _) × (lookup_service.asked bytes ≡ Some b)
-IsAsk Lease bytes = (b : _) × (lease_service.asked bytes ≡ Some b)
-IsAsk Echo bytes = (b : _) × (ping_service.asked bytes ≡ Some b)
+IsAsk Name bytes = (b : Lookup) × (lookup_service.asked bytes ≡ Some b)
+IsAsk Lease bytes = (b : Asker) × (lease_service.asked bytes ≡ Some b)
+IsAsk Echo bytes = (b : Pinged) × (ping_service.asked bytes ≡ Some b)
 
 -- The user begins the open by these bytes.
 pub record BeginsChain (c : Chain) (old new : Objects Obj) (bytes : List ℕ) (now rec : ℕ) (before after : Heard) : Type 0 where
