@@ -7,7 +7,7 @@ use Rattle.nb_ledger.specs.declared.event.GraphEvent.TheVariants.{Made, Held, Le
 use Rattle.nb_ledger.specs.Flat.{Given, Heard, Notice, all, event, events_part, flat, message}
 use Rattle.nb_ledger.specs.GraphRun.{GraphRunOf}
 use Rattle.nb_ledger.specs.Ledger.{run_state}
-use Rattle.nb_ledger.proofs.RunLemmas.{Given-append, Run-append}
+use Rattle.nb_ledger.proofs.RunLemmas.{Given-append, Given-none, Run-append}
 use Rattle.nb_graph.specs.Deeds.{Deed, Stage, writes, begins, calls, turns, events_of, told_of, is_shut, is_full, comes_to, is_reached, is_dead, arrives, goes_out, stays, lets_go, none_held}
 use Rattle.nb_graph.specs.Trace.{Nature, NodeEntry}
 use Rattle.nb_graph.specs.Went.{WentOne, all_of}
@@ -135,3 +135,7 @@ gives_both may g a h m n o xs ys i j = record {
 -- of more objects
 pub gives_more : (may more : GraphEvent → Type 0) → ((e : GraphEvent) → may e → more e) → (g h : Objects Obj) (m n : Heard) (ns : List Notice) → CallGives may g h m n ns → CallGives more g h m n ns
 gives_more may more f g h m n ns i = record { given = i.given; events = i.events; are = i.are; run = i.run; within = each_maps may more f i.events i.within }
+
+-- nothing happened
+pub gives_none : (may : GraphEvent → Type 0) (g : Objects Obj) (m : Heard) → CallGives may g g m m []
+gives_none may g m = record { given = Given-none m; events = []; are = refl; run = refl; within = tt }

@@ -1,8 +1,12 @@
 pub mod NoMakes
 pub mod GivingLemmas
 pub mod ShapesOf
+pub mod ShapesDone
 pub mod ChainCalls
 pub mod ChainDoes
+pub mod ChainBegins
+pub mod ChainReceives
+pub mod ChainCloses
 pub mod GoingOn
 pub mod FreshOnes
 pub mod Plugging

@@ -1,21 +1,17 @@
 ghost use Rattle.std.specs.Prelude.{◌≡◌, ◌+◌, ◌<◌, ◌≤◌, ◌^◌, ◌++◌, ◌∷◌, [], ℕ, List, Option, Some, true, length};
 ghost use Rattle.nb_chains.specs.Calls.{BeginsChain, ClosesChain, IsOpenChain, ReceivesChain, ReleasesChain, ShutsChain};
 ghost use Rattle.nb_chains.specs.Calls.{TicksChain};
-ghost use Rattle.nb_chains.specs.Chains.{AreChained, GoesOn, IsReleased, IsShutChain, chain_ids, last_serial, own_graph};
+ghost use Rattle.nb_chains.specs.Chains.{AreChained, GoesOn, IsShutChain, chain_ids, last_serial, own_graph};
 ghost use Rattle.nb_chains.specs.Chains.{source_for};
-ghost use Rattle.nb_chains.specs.Ends.{AreUnlinked, ClosesFreeSlots, HasFreeSlots};
-ghost use Rattle.nb_chains.specs.Giving.{CallGives};
+ghost use Rattle.nb_chains.specs.Ends.{AreUnlinked, FreesSlots};
 ghost use Rattle.nb_frames.specs.Frames.{is_one_of};
-ghost use Rattle.nb_frames.specs.Within.{IsEventWithin};
 ghost use Rattle.nb_graph.specs.Deeds.{Wants};
 ghost use Rattle.nb_graph.specs.Went.{WentOne};
-ghost use Rattle.nb_ledger.specs.Flat.{Given};
 ghost use Rattle.nb_ledger.specs.Ledger.{holds, object_lives};
 ghost use Rattle.nb_ledger.specs.declared.event.GraphEvent.TheVariants.{LetGo};
 ghost use Rattle.nb_nodes.specs.Objects.{obj_nature};
 ghost use Rattle.nb_nodes.specs.Standing.{ObjStands};
 ghost use Rattle.nb_opens.specs.Alones.{arrival_said};
-ghost use Rattle.nb_opens.specs.Notices.{freed_notices};
 ghost use Rattle.nb_opens.specs.Pairs.{HasEnded, body_in};
 ghost use Rattle.nb_ledger.specs.declared.port.ObjId.{ObjId as TheObjId};
 ghost use Rattle.nb_graph.specs.Whole.{port_at};
@@ -224,9 +220,8 @@ fn body_in(load: Option<Load>) -> Option<Body>
 
 /// Closes the two slots of an object that nothing is plugged to.
 fn close_free<O: Outside>(graph: &mut Graph<Obj>, id: ObjId, cause: &Cause, now: u64, out: &mut O)
-    ensures on { (ids : List ℕ) → AreChained graph.old ids → is_one_of ids id.0 ≡ true → GoesOn ids graph.old graph.new }
-    ensures free { HasFreeSlots graph.old id.0 → ClosesFreeSlots graph.old graph.new (O.events out.old) (O.events out.new)
-        id.0 cause.now }
+    ensures { (ids : List ℕ) → AreChained graph.old ids → is_one_of ids id.0 ≡ true
+        → FreesSlots ids graph.old graph.new (O.events out.old) (O.events out.new) id.0 cause.now }
 {
     graph.has_nodes();
     let first = Port { obj: id, slot: 2 };
@@ -240,8 +235,8 @@ fn close_free<O: Outside>(graph: &mut Graph<Obj>, id: ObjId, cause: &Cause, now:
 /// Lets two objects go that have no link.
 fn let_both_go<O: Outside>(graph: &mut Graph<Obj>, top: ObjId, below: ObjId, out: &mut O)
     ensures { AreUnlinked graph.old top.0 below.0
-        → IsReleased (record { top = top; below = Some below }) graph.old graph.new
-        × Given (O.events out.old) (O.events out.new) (freed_notices top.0 below.0) }
+        → ReleasesChain (record { top = top; below = Some below }) graph.old graph.new (O.events out.old)
+        (O.events out.new) }
 {
     let_go(graph, top, out);
     let_go(graph, below, out);
