@@ -6,6 +6,7 @@ use Rattle.nb_ledger.specs.declared.event.Way.TheVariants as way
 use Rattle.nb_ledger.specs.declared.port.ObjId.{ObjId}
 use Rattle.nb_ledger.specs.Flat.{Heard, Notice, all}
 use Rattle.nb_graph.specs.Deeds.{Offers, Stage, Ticks, told_of}
+use Rattle.nb_graph.specs.Noded.{AreNoded}
 use Rattle.nb_graph.specs.Trace.{Said}
 use Rattle.nb_graph.specs.Went.{WentOne, all_of}
 use Rattle.nb_graph.specs.Whole.{Objects, port_at}
@@ -14,7 +15,7 @@ use Rattle.nb_nodes.specs.declared.obj.Obj.{Obj}
 use Rattle.nb_nodes.specs.EchoExchanges.{ping_service}
 use Rattle.nb_nodes.specs.LeaseExchanges.{lease_service}
 use Rattle.nb_nodes.specs.LookupExchanges.{lookup_service}
-use Rattle.nb_nodes.specs.Objects.{obj_nature}
+use Rattle.nb_nodes.specs.Objects.{obj_nature, rank_of_obj}
 use Rattle.nb_nodes.specs.Standing.{ObjStands}
 use Rattle.nb_opens.specs.Alones.{ReceiveAllBy, TickAllBy}
 use Rattle.nb_opens.specs.Companies.{only}
@@ -29,10 +30,10 @@ use Rattle.nb_chains.specs.declared.chain.Chain.{Chain}
 use Rattle.nb_chains.specs.declared.kind.ChainKind.{ChainKind}
 use Rattle.nb_chains.specs.declared.kind.ChainKind.TheVariants.{File, Name, Lease, Echo}
 use Rattle.nb_chains.specs.Calls.{CallsTwo, IsChainUnderWay, ReceivesChain, ReceivesOne, TicksChain, TicksOne}
-use Rattle.nb_chains.specs.Chains.{chain_ids, last_below, last_serial, own_graph, source_for}
+use Rattle.nb_chains.specs.Chains.{AreChained, chain_ids, last_below, last_serial, own_graph, source_for}
 use Rattle.nb_chains.specs.Shapes.{HasShapeOrFails}
 use Rattle.nb_chains.proofs.ChainCalls.{ChainCalled}
-use Rattle.nb_chains.proofs.ChainDoes.{at_lower, at_top}
+use Rattle.nb_chains.proofs.ChainDoes.{at_lower, at_top, offered_last}
 use Rattle.nb_chains.proofs.GivingLemmas.{known_notices}
 use Rattle.nb_chains.proofs.ShapesDone.{lease_gives, lookup_gives, one_asks, one_receives, ping_gives, two_called}
 
@@ -46,6 +47,10 @@ by_time x = Some (Entered (port_at x 4) way.Time)
 -- a message, by what is below the top object
 abbrev pub message_at : ℕ → Option ObjId → ℕ → ℕ → ℕ → List ℕ → List (Stage Obj Load)
 message_at x b rec port source bytes = Offers (port_at (last_below x b) 1) (record { tag = 2; rec = rec; a = port; b = source_for b source; bytes = bytes }) ∷ []
+
+pub message_on : (c : Chain) (g h : Objects Obj) (m n : Heard) (now : ℕ) → AreChained g (chain_ids c) → AreNoded rank_of_obj g → AreNoded rank_of_obj h → (rec port source : ℕ) (bytes : List ℕ)
+    → WentOne ObjStands obj_nature now (message_at c.top.0 c.below rec port source bytes) g h m n → ChainCalled (chain_ids c) now (message_at c.top.0 c.below rec port source bytes) g h m n
+message_on c g h m n now chained before after rec port source bytes k = offered_last c g h m n now chained before after (record { tag = 2; rec = rec; a = port; b = source_for c.below source; bytes = bytes }) k
 
 module _ (c : Chain) (g h : Objects Obj) (m n : Heard) (now rec port source : ℕ) (bytes : List ℕ) (small : port < 2 ^ 16) (short : length bytes < 2 ^ 32) (z : ChainCalled (chain_ids c) now (message_at c.top.0 c.below rec port source bytes) g h m n) where
   -- on its objects alone

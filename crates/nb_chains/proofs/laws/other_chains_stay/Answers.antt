@@ -1,10 +1,3 @@
-use Rattle.nb_chains.proofs.ChainBegins.{begins_chain}
-use Rattle.nb_chains.proofs.ChainCloses.{closes_chain}
-use Rattle.nb_chains.proofs.LettingGo.{released_both}
-use Rattle.nb_chains.proofs.ChainCalls.{chain_call}
-use Rattle.nb_chains.proofs.ShapesOf.{stay}
-use Rattle.nb_chains.proofs.GivingLemmas.{gives_more}
-use Rattle.nb_chains.specs.Calls.{BeginsChain}
 use Rattle.nb_chains.proofs.Staying.{goes_stays, grows_stays, released_stays}
 use Rattle.nb_chains.proofs.laws.other_chains_stay.Goals as goal
 
