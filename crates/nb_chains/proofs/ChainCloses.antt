@@ -1,13 +1,13 @@
 -- What a chain does where the user closes both ports of its top object.
-use Rattle.std.proofs.Common.{inl, inr, ◌≡◌, ℕ, List, [], ◌∷◌, ◌++◌, Option, Some, None, refl, sym, ◌∙◌, subst}
+use Rattle.std.proofs.Common.{◌≡◌, ℕ, List, [], ◌∷◌, ◌++◌, Option, Some, None, sym, subst}
 use Rattle.nb_terms.specs.declared.cause.Cause.{Cause}
 use Rattle.nb_ledger.specs.declared.port.ObjId.{ObjId}
-use Rattle.nb_ledger.specs.Flat.{Given, Heard, Notice, all}
+use Rattle.nb_ledger.specs.Flat.{Heard, Notice, all}
 use Rattle.nb_graph.specs.Deeds.{Closes}
 use Rattle.nb_graph.specs.Noded.{AreNoded}
 use Rattle.nb_graph.specs.Went.{WentOne}
 use Rattle.nb_graph.specs.Whole.{Objects, port_at}
-use Rattle.nb_frames.specs.Frames.{graph_of, is_one_of}
+use Rattle.nb_frames.specs.Frames.{is_one_of}
 use Rattle.nb_frames.specs.Within.{IsEventWithin}
 use Rattle.nb_nodes.specs.declared.obj.Obj.{Obj}
 use Rattle.nb_nodes.specs.Objects.{obj_nature, rank_of_obj}
@@ -20,8 +20,8 @@ use Rattle.nb_opens.specs.Pairs.{AreGoing, HasEnded}
 use Rattle.nb_opens.proofs.Closing.{close_does}
 use Rattle.nb_opens.proofs.Lones.{both_slots}
 use Rattle.nb_chains.specs.declared.chain.Chain.{Chain}
-use Rattle.nb_chains.specs.Calls.{ClosesChain, ClosesSole, ClosesTwo, IsOpenBy, IsOpenChain, closed_by}
-use Rattle.nb_chains.specs.Chains.{AreChained, GoesOn, IsShutBy, IsShutChain, below_ids, chain_ids, last_below, last_serial, own_graph}
+use Rattle.nb_chains.specs.Calls.{ClosesChain, IsOpenBy, closed_by}
+use Rattle.nb_chains.specs.Chains.{AreChained, GoesOn, IsShutBy, chain_ids, last_below, last_serial, own_graph}
 use Rattle.nb_chains.specs.Shapes.{SendsNone}
 use Rattle.nb_chains.proofs.ChainCalls.{ChainCalled}
 use Rattle.nb_chains.proofs.ChainDoes.{closed_top}

@@ -1,15 +1,11 @@
 -- In which order the notices of a call stand, for whatever may be under way.
-use Rattle.std.proofs.Common.{inl, inr, ◌≡◌, ◌⊎◌, ℕ, ◌<◌, List, [], ◌∷◌, Option, Some, None, refl, sym, subst}
+use Rattle.std.proofs.Common.{inl, inr, ℕ, ◌<◌, List, [], Option, Some, None, refl, sym, subst}
 use Rattle.std.specs.List.{AllByRecursion}
 use Rattle.nb_ledger.specs.declared.event.GraphEvent.TheVariants.{Entered}
 use Rattle.nb_ledger.specs.declared.event.Way.{Way}
 use Rattle.nb_ledger.specs.declared.event.Way.TheVariants as way
 use Rattle.nb_ledger.specs.declared.port.Port.{Port}
 use Rattle.nb_ledger.specs.Flat.{Notice}
-use Rattle.nb_dhcp.specs.declared.asker.Asker.{Asker}
-use Rattle.nb_dhcp.specs.History.{LeaseEntry}
-use Rattle.nb_dns.specs.LookupCalls.{LookupEntry}
-use Rattle.nb_dns.specs.Lookups.{Lookup}
 use Rattle.nb_graph.specs.Trace.{Said}
 use Rattle.nb_graph.specs.Whole.{Objects, port_at}
 use Rattle.nb_nodes.specs.declared.obj.Obj.{Obj}
@@ -18,13 +14,9 @@ use Rattle.nb_nodes.specs.EchoExchanges.{ping_service}
 use Rattle.nb_nodes.specs.Exchanges.{Service}
 use Rattle.nb_nodes.specs.LeaseExchanges.{lease_said, lease_service}
 use Rattle.nb_nodes.specs.LookupExchanges.{address_said, lookup_service}
-use Rattle.nb_opens.specs.AloneNotices.{alone_call, alone_ignored}
 use Rattle.nb_opens.specs.Alones.{AsksMoreBy, BeginsBy, ReceivesBy, asks_on, comes_to_end, fails_at_once as fails_one, fails_before, is_ignored, is_taken, runs_out, starts}
 use Rattle.nb_opens.specs.Companies.{Company}
-use Rattle.nb_opens.specs.Notices.{begun_notices, call_notices, large_notices}
 use Rattle.nb_opens.specs.Pairs.{BeginDoes, CallDoes, begins, fails, fails_at_once, goes_on, is_over, is_too_large}
-use Rattle.nb_ping.specs.PingCalls.{PingEntry}
-use Rattle.nb_ping.specs.Pings.{Pinged}
 use Rattle.nb_tftp.specs.Asks.{Begun}
 use Rattle.nb_tftp.specs.History.{Call, Entry}
 use Rattle.nb_wire.specs.declared.address.Ip4.{Ip4}

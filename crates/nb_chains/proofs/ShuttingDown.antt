@@ -73,8 +73,8 @@ module _ (g a h : Objects Obj) (m n o : Heard) (now x : ℕ) (z : Cause)
           unlinked = λ k e. ap link_count (j.ports x k) ∙ no_link (port_at x 3) (port_in a.book) x k (ap link_count (i.ports x k) ∙ no_link (port_at x 2) (port_in g.book) x k e);
           others = λ y k far. j.ports y k ∙ (other_port x 3 y k (port_in a.book) far ∙ (i.ports y k ∙ other_port x 2 y k (port_in g.book) far));
           gives = gives_both own g a h m n o (tells (Closed (port_at x 2) z) ∷ []) (tells (Closed (port_at x 3) z) ∷ [])
-          (subst (CallGives own g a m n) (sym (known_notices one_called.ns (tells (Closed (port_at x 2) z) ∷ []) i.told)) one_called.gives)
-          (subst (CallGives own a h n o) (sym (known_notices two_called.ns (tells (Closed (port_at x 3) z) ∷ []) j.told)) two_called.gives);
+              (subst (CallGives own g a m n) (sym (known_notices one_called.ns (tells (Closed (port_at x 2) z) ∷ []) i.told)) one_called.gives)
+              (subst (CallGives own a h n o) (sym (known_notices two_called.ns (tells (Closed (port_at x 3) z) ∷ []) j.told)) two_called.gives);
         }
 
     pub frees_slots : FreesSlots ids g h m o x z
@@ -172,7 +172,7 @@ module _ (g b d e h : Objects Obj) (l m n o q : Heard) (f t : ObjId) (z : Cause)
       let slots = gives_both own b d e m n o (free_slot_notices f.0 z) (free_slot_notices t.0 z) i.gives j.gives in
       record {
         gives = gives_both own g b h l m q (closed_notices f.0 t.0 z) ((free_slot_notices f.0 z ++ free_slot_notices t.0 z) ++ freed_notices f.0 t.0) closed
-        (gives_both own b e h m o q (free_slot_notices f.0 z ++ free_slot_notices t.0 z) (freed_notices f.0 t.0) slots r.gives);
+            (gives_both own b e h m o q (free_slot_notices f.0 z ++ free_slot_notices t.0 z) (freed_notices f.0 t.0) slots r.gives);
         released = released_after chain_of_two g e h (goes_both ids g d e (goes_both ids g b d on top_freed.on) low_freed.on) r.released;
         shape = shut_stays f.0 t.0 z;
       }

@@ -1,6 +1,6 @@
 -- What each call does to a chain, for whatever may be under way, and what the outside is given: one list of notices, of which
 -- all is said. What an open's objects do is said of the graph of these objects alone. Our own.
-use Rattle.std.specs.Prelude.{◌≡◌, ◌+◌, ℕ, List, [], ◌∷◌, Option, Some, None}
+use Rattle.std.specs.Prelude.{◌≡◌, ℕ, List, Option, Some, None}
 use Rattle.nb_terms.specs.declared.cause.Cause.{Cause}
 use Rattle.nb_ledger.specs.declared.event.GraphEvent.TheVariants.{Entered}
 use Rattle.nb_ledger.specs.declared.event.Way.{Way}
@@ -30,7 +30,7 @@ use Rattle.nb_tftp.specs.History.{Call, Entry}
 use Rattle.nb_chains.specs.declared.chain.Chain.{Chain}
 use Rattle.nb_chains.specs.declared.kind.ChainKind.{ChainKind}
 use Rattle.nb_chains.specs.declared.kind.ChainKind.TheVariants.{File, Name, Lease, Echo}
-use Rattle.nb_chains.specs.Chains.{IsReadyChain, IsReleased, IsShutChain, chain_ids, last_serial, own_graph, released_notices}
+use Rattle.nb_chains.specs.Chains.{IsReadyChain, IsReleased, IsShutChain, last_serial, own_graph, released_notices}
 use Rattle.nb_chains.specs.Giving.{ChainGives}
 use Rattle.nb_chains.specs.Shapes.{HasShapeOrFails, SendsNone}
 

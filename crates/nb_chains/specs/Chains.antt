@@ -4,21 +4,14 @@ use Rattle.std.specs.Prelude.{◌≡◌, ◌+◌, ◌≤◌, ℕ, true, false, L
 use Rattle.nb_ledger.specs.declared.port.ObjId.{ObjId}
 use Rattle.nb_ledger.specs.GraphRun.{new_ports}
 use Rattle.nb_ledger.specs.Ledger.{object_lives, holds, port, rank}
-use Rattle.nb_terms.specs.declared.cause.Cause.{Cause}
-use Rattle.nb_ledger.specs.declared.event.Way.{Way}
-use Rattle.nb_ledger.specs.declared.port.Port.{Port}
-use Rattle.nb_ledger.specs.Flat.{Heard, Notice, Given}
-use Rattle.nb_tftp.specs.History.{Call}
-use Rattle.nb_nodes.specs.Asking.{AskValue, ask_in, begun_with}
-use Rattle.nb_nodes.specs.Exchanges.{Service}
-use Rattle.nb_opens.specs.AloneNotices.{alone_closed, alone_freed, alone_made}
-use Rattle.nb_opens.specs.Alones.{DoesAsk, IsOpenLone, IsReady, IsShutLone, ReceiveAllBy, TickAllBy}
-use Rattle.nb_opens.specs.Companies.{only}
-use Rattle.nb_opens.specs.Notices.{closed_notices, completed_notices, freed_notices}
+use Rattle.nb_ledger.specs.Flat.{Notice}
+use Rattle.nb_opens.specs.AloneNotices.{alone_freed, alone_made}
+use Rattle.nb_opens.specs.Alones.{IsReady, IsShutLone}
+use Rattle.nb_opens.specs.Notices.{completed_notices, freed_notices}
 use Rattle.nb_opens.specs.Waiters.{IsOfKind}
-use Rattle.nb_opens.specs.Pairs.{AreGoing, AreMade, AreShut, DoesBegin, DoesCall, HasEnded, IsDownloading}
+use Rattle.nb_opens.specs.Pairs.{AreMade, AreShut}
 use Rattle.nb_graph.specs.Lived.{ObjectStands}
-use Rattle.nb_graph.specs.Trace.{NodeEntry, Said}
+use Rattle.nb_graph.specs.Trace.{NodeEntry}
 use Rattle.nb_graph.specs.Whole.{Objects}
 use Rattle.nb_frames.specs.Frames.{is_one_of, graph_of, KeepsObject, KeepsOthers}
 use Rattle.nb_frames.specs.Within.{AreLinkedWithin}

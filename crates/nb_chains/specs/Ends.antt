@@ -2,7 +2,6 @@
 -- they were made. Our own.
 use Rattle.std.specs.Prelude.{◌≡◌, ◌<◌, ◌≤◌, ℕ, true, List, [], ◌∷◌}
 use Rattle.nb_ledger.specs.declared.event.GraphEvent.TheVariants.{Closed}
-use Rattle.nb_ledger.specs.declared.port.ObjId.{ObjId}
 use Rattle.nb_ledger.specs.declared.port.PortState.TheVariants.{Open}
 use Rattle.nb_ledger.specs.Flat.{Heard, Notice}
 use Rattle.nb_ledger.specs.GraphRun.{link_count}
