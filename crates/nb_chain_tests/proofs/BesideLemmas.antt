@@ -15,8 +15,9 @@ use Rattle.nb_chains.specs.Kinds.{count_below}
 use Rattle.nb_frames.specs.Frames.{is_one_of}
 use Rattle.nb_frames.proofs.OwnCallLemmas.{either_way}
 use Rattle.nb_chains.proofs.FreshOnes.{sole_is}
+use Rattle.nb_chains.proofs.Opened.{ready_open}
 use Rattle.nb_chains.proofs.Plugging.{of_two}
-use Rattle.nb_chains.specs.Calls.{ClosesChain, IsOpenBy, IsOpenChain, ShutsChain}
+use Rattle.nb_chains.specs.Calls.{ClosesChain, IsOpenChain, ShutsChain}
 use Rattle.nb_chains.specs.Chains.{AreChained, AreOthers, GrowsBy, GoesOn, IsReadyChain, IsReleased, IsShutChain, below_ids, chain_ids, own_graph}
 use Rattle.nb_chains.proofs.Staying.{goes_stays, grows_stays, released_stays}
 use Rattle.nb_chain_tests.specs.Beside.{AreBeside}
@@ -33,15 +34,12 @@ module _ (g h : Objects Obj) (c d : Chain) (noded : AreNoded rank_of_obj h) (b :
 
 -- a file's open that was just made is closed, and can be let go
 module _ (g h : Objects Obj) (c : Chain) (cause : Cause) (m n : Heard) where
-  made_open : IsReadyChain File c g → IsOpenChain c g
-  made_open r = subst (λ (b : Option ObjId). IsOpenBy b c.top.0 (own_graph c g)) (sym r.1) (inl r.2)
-
   pub shut_then : IsReadyChain File c g → ClosesChain c g h cause m n → IsShutChain c h
-  shut_then r k = k.shut (made_open r)
+  shut_then r k = k.shut (ready_open File c g r)
 
   -- at the end of a run it is let go
   pub gone_then : IsReadyChain File c g → (IsOpenChain c g → ShutsChain c g h cause m n) → IsReleased c g h
-  gone_then r k = (k (made_open r)).released
+  gone_then r k = (k (ready_open File c g r)).released
 
 -- the other stays
 module _ (c : Chain) (h : Objects Obj) where

@@ -29,11 +29,12 @@ use Rattle.nb_tftp.specs.Received.{received}
 use Rattle.nb_chains.specs.declared.chain.Chain.{Chain}
 use Rattle.nb_chains.specs.declared.kind.ChainKind.{ChainKind}
 use Rattle.nb_chains.specs.declared.kind.ChainKind.TheVariants.{File, Name, Lease, Echo}
-use Rattle.nb_chains.specs.Calls.{CallsTwo, IsChainUnderWay, ReceivesChain, ReceivesOne, TicksChain, TicksOne}
+use Rattle.nb_chains.specs.Calls.{CallsTwo, ComesOf, IsChainUnderWay, ReceivesChain, ReceivesOne, TicksChain, TicksOne}
 use Rattle.nb_chains.specs.Chains.{AreChained, chain_ids, last_below, last_serial, own_graph, source_for}
 use Rattle.nb_chains.specs.Shapes.{HasShapeOrFails}
 use Rattle.nb_chains.proofs.ChainCalls.{ChainCalled}
 use Rattle.nb_chains.proofs.ChainDoes.{at_lower, at_top, offered_last}
+use Rattle.nb_chains.proofs.Comings.{one_comes, one_receives_so, two_comes}
 use Rattle.nb_chains.proofs.GivingLemmas.{known_notices}
 use Rattle.nb_chains.proofs.ShapesDone.{lease_gives, lookup_gives, one_asks, one_receives, ping_gives, two_called}
 
@@ -86,8 +87,14 @@ module _ (c : Chain) (g h : Objects Obj) (m n : Heard) (now rec port source : �
   receives_shape Echo (e, (b, start, calls, d)) =
       at_top c from_below z.ns e (one_receives (only c.top.0) ping_service 7 (own_graph c h) c.top.0 b ping_gives start calls said now z.ns ((receives_one e).ping b start calls d))
 
+  receives_so : (kind : ChainKind) → IsChainUnderWay kind c g → ComesOf kind c h z.ns
+  receives_so File (t, e, (b, start, calls, body, d)) = two_comes c h t e b start calls body (port_at t.0 1) way.Up rec (came (received rec port bytes) now) z.ns (receives_two t e b start calls body d)
+  receives_so Name (e, (b, start, calls, d)) = one_receives_so c h e Name lookup_service 5 (λ w. (e, w)) b start calls said now z.ns ((receives_one e).lookup b start calls d)
+  receives_so Lease (e, (b, start, calls, d)) = one_receives_so c h e Lease lease_service 6 (λ w. (e, w)) b start calls said now z.ns ((receives_one e).lease b start calls d)
+  receives_so Echo (e, (b, start, calls, d)) = one_receives_so c h e Echo ping_service 7 (λ w. (e, w)) b start calls said now z.ns ((receives_one e).ping b start calls d)
+
   pub receives_chain : ReceivesChain c g h rec (came (received rec port bytes) now) said now m n
-  receives_chain = record { ns = z.ns; gives = z.gives; file = receives_two; one = receives_one; shape = receives_shape }
+  receives_chain = record { ns = z.ns; gives = z.gives; file = receives_two; one = receives_one; shape = receives_shape; comes = receives_so }
 
 module _ (c : Chain) (g h : Objects Obj) (m n : Heard) (now : ℕ) (z : ChainCalled (chain_ids c) now (Ticks (last_serial c) ∷ []) g h m n) where
   abbrev TickedAlone : ℕ → Type 0
@@ -118,5 +125,11 @@ module _ (c : Chain) (g h : Objects Obj) (m n : Heard) (now : ℕ) (z : ChainCal
   ticks_shape Echo (e, (b, start, calls, d)) =
       at_top c by_time z.ns e (one_asks (only c.top.0) ping_service 7 (own_graph c h) c.top.0 b ping_gives start calls (port_at c.top.0 4) way.Time 0 _ z.ns ((ticks_one e).ping b start calls d))
 
+  ticks_so : (kind : ChainKind) → IsChainUnderWay kind c g → ComesOf kind c h z.ns
+  ticks_so File (t, e, (b, start, calls, body, d)) = two_comes c h t e b start calls body (port_at t.0 4) way.Time 0 (ticked now) z.ns (ticks_two t e b start calls body d)
+  ticks_so Name (e, (b, start, calls, d)) = one_comes c h e Name lookup_service 5 (λ w. (e, w)) b start calls (port_at c.top.0 4) way.Time 0 _ z.ns ((ticks_one e).lookup b start calls d)
+  ticks_so Lease (e, (b, start, calls, d)) = one_comes c h e Lease lease_service 6 (λ w. (e, w)) b start calls (port_at c.top.0 4) way.Time 0 _ z.ns ((ticks_one e).lease b start calls d)
+  ticks_so Echo (e, (b, start, calls, d)) = one_comes c h e Echo ping_service 7 (λ w. (e, w)) b start calls (port_at c.top.0 4) way.Time 0 _ z.ns ((ticks_one e).ping b start calls d)
+
   pub ticks_chain : TicksChain c g h (ticked now) now m n
-  ticks_chain = record { ns = z.ns; gives = z.gives; file = ticks_two; one = ticks_one; shape = ticks_shape }
+  ticks_chain = record { ns = z.ns; gives = z.gives; file = ticks_two; one = ticks_one; shape = ticks_shape; comes = ticks_so }

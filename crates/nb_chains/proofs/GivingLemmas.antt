@@ -114,6 +114,11 @@ module _ {N L : Type 0} (stands : N → List (NodeEntry N L) → Type 0) (known 
 pub known_notices : (ns xs : List Notice) → Given (all []) (all ns) xs → xs ≡ ns
 known_notices ns xs given = given.1 [] refl
 
+pub events_parts : (xs ys : List Notice) → events_part (xs ++ ys) ≡ events_part xs ++ events_part ys
+events_parts [] ys = refl
+events_parts (event e ∷ xs) ys = ap (λ r. e ∷ r) (events_parts xs ys)
+events_parts (message from tag rec a b bytes ∷ xs) ys = events_parts xs ys
+
 -- two calls, one after the other
 pub gives_both : (may : GraphEvent → Type 0) (g a h : Objects Obj) (m n o : Heard) (xs ys : List Notice) → CallGives may g a m n xs → CallGives may a h n o ys → CallGives may g h m o (xs ++ ys)
 gives_both may g a h m n o xs ys i j = record {
@@ -124,13 +129,8 @@ gives_both may g a h m n o xs ys i j = record {
   within = each_append may i.events j.events i.within j.within;
 }
   where
-    parts : (xs ys : List Notice) → events_part (xs ++ ys) ≡ events_part xs ++ events_part ys
-    parts [] ys = refl
-    parts (event e ∷ xs) ys = ap (λ r. e ∷ r) (parts xs ys)
-    parts (message from tag rec a b bytes ∷ xs) ys = parts xs ys
-
     events_both : (xs ys : List Notice) (es fs : List GraphEvent) → events_part xs ≡ map flat es → events_part ys ≡ map flat fs → events_part (xs ++ ys) ≡ map flat (es ++ fs)
-    events_both xs ys es fs p q = parts xs ys ∙ (ap (λ z. z ++ events_part ys) p ∙ (ap (λ z. map flat es ++ z) q ∙ sym (map-append flat es fs)))
+    events_both xs ys es fs p q = events_parts xs ys ∙ (ap (λ z. z ++ events_part ys) p ∙ (ap (λ z. map flat es ++ z) q ∙ sym (map-append flat es fs)))
 
 -- of more objects
 pub gives_more : (may more : GraphEvent → Type 0) → ((e : GraphEvent) → may e → more e) → (g h : Objects Obj) (m n : Heard) (ns : List Notice) → CallGives may g h m n ns → CallGives more g h m n ns

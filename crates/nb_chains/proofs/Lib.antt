@@ -2,6 +2,9 @@ pub mod NoMakes
 pub mod GivingLemmas
 pub mod ShapesOf
 pub mod ShapesDone
+pub mod FlatOnce
+pub mod Comings
+pub mod Opened
 pub mod ChainCalls
 pub mod ChainDoes
 pub mod ChainBegins

@@ -10,6 +10,7 @@ use Rattle.nb_ledger.specs.declared.port.Port.{Port}
 use Rattle.nb_ledger.specs.Flat.{Heard, Notice}
 use Rattle.nb_dhcp.specs.declared.asker.Asker.{Asker}
 use Rattle.nb_dns.specs.Lookups.{Lookup}
+use Rattle.nb_graph.specs.Deeds.{no_memory}
 use Rattle.nb_graph.specs.Trace.{Said}
 use Rattle.nb_graph.specs.Whole.{Objects, port_at}
 use Rattle.nb_nodes.specs.declared.obj.Obj.{Obj}
@@ -22,7 +23,7 @@ use Rattle.nb_opens.specs.declared.alone.AloneKind.TheVariants.{Resolver, Dhcp, 
 use Rattle.nb_opens.specs.AloneNotices.{alone_closed, alone_shut}
 use Rattle.nb_opens.specs.Alones.{Begins, IsOpenLone, IsReady, IsShutLone, ReceiveAllBy, Talks, TickAllBy, alone_number}
 use Rattle.nb_opens.specs.Companies.{only}
-use Rattle.nb_opens.specs.Notices.{closed_notices, shut_notices}
+use Rattle.nb_opens.specs.Notices.{closed_notices, first_close, shut_notices}
 use Rattle.nb_opens.specs.Pairs.{AreGoing, AreMade, BeginDoes, CallDoes, Downloads, HasEnded, IsDownloading}
 use Rattle.nb_ping.specs.Pings.{Pinged}
 use Rattle.nb_tftp.specs.Asks.{Begun}
@@ -33,6 +34,26 @@ use Rattle.nb_chains.specs.declared.kind.ChainKind.TheVariants.{File, Name, Leas
 use Rattle.nb_chains.specs.Chains.{IsReadyChain, IsReleased, IsShutChain, last_serial, own_graph, released_notices}
 use Rattle.nb_chains.specs.Giving.{ChainGives}
 use Rattle.nb_chains.specs.Shapes.{HasShapeOrFails, SendsNone}
+
+-- WHAT IS UNDER WAY
+
+-- an exchange of this kind is under way
+abbrev pub IsTalking : {S B C : Type 0} → Service S B C → ℕ → Objects Obj → ℕ → Type 0
+IsTalking {S} {B} {C} s kind g x = (b : B) × (start : ℕ) × (calls : List C) × Talks s kind g x b start calls
+
+-- an open of this kind is under way
+abbrev pub IsChainUnderWay : ChainKind → Chain → Objects Obj → Type 0
+IsChainUnderWay File c g = (t : ObjId) × (c.below ≡ Some t) × IsDownloading (own_graph c g) c.top.0 t.0
+IsChainUnderWay Name c g = (c.below ≡ None) × IsTalking lookup_service (alone_number Resolver) (own_graph c g) c.top.0
+IsChainUnderWay Lease c g = (c.below ≡ None) × IsTalking lease_service (alone_number Dhcp) (own_graph c g) c.top.0
+IsChainUnderWay Echo c g = (c.below ≡ None) × IsTalking ping_service (alone_number Ping) (own_graph c g) c.top.0
+
+-- What has come of a call: nothing was closed, and the open is under way; or its ports are closed, with the cause of the first close;
+-- or memory ran out.
+pub data ComesOf (kind : ChainKind) (c : Chain) (g : Objects Obj) (ns : List Notice) : Type 0 where
+  is_under_way : first_close ns ≡ None → IsChainUnderWay kind c g → ComesOf kind c g ns
+  has_closed : (cause : Cause) → first_close ns ≡ Some cause → IsShutChain c g → ComesOf kind c g ns
+  has_failed : first_close ns ≡ Some no_memory → ComesOf kind c g ns
 
 -- THE USER BEGINS
 
@@ -63,19 +84,9 @@ pub record BeginsChain (c : Chain) (old new : Objects Obj) (bytes : List ℕ) (n
   pub lease : BeginsOne lease_service (alone_number Dhcp) c old new bytes now rec ns
   pub echo : BeginsOne ping_service (alone_number Ping) c old new bytes now rec ns
   pub shape : (kind : ChainKind) → IsReadyChain kind c old → IsAsk kind bytes → HasShapeOrFails (last_serial c) None ns
+  pub comes : (kind : ChainKind) → IsReadyChain kind c old → IsAsk kind bytes → ComesOf kind c new ns
 
 -- A MESSAGE OR A TIME COMES
-
--- an exchange of this kind is under way
-abbrev pub IsTalking : {S B C : Type 0} → Service S B C → ℕ → Objects Obj → ℕ → Type 0
-IsTalking {S} {B} {C} s kind g x = (b : B) × (start : ℕ) × (calls : List C) × Talks s kind g x b start calls
-
--- an open of this kind is under way
-abbrev pub IsChainUnderWay : ChainKind → Chain → Objects Obj → Type 0
-IsChainUnderWay File c g = (t : ObjId) × (c.below ≡ Some t) × IsDownloading (own_graph c g) c.top.0 t.0
-IsChainUnderWay Name c g = (c.below ≡ None) × IsTalking lookup_service (alone_number Resolver) (own_graph c g) c.top.0
-IsChainUnderWay Lease c g = (c.below ≡ None) × IsTalking lease_service (alone_number Dhcp) (own_graph c g) c.top.0
-IsChainUnderWay Echo c g = (c.below ≡ None) × IsTalking ping_service (alone_number Ping) (own_graph c g) c.top.0
 
 -- what a datagram or a time does to two, for each transfer that may be under way
 abbrev pub CallsTwo : Chain → Objects Obj → Objects Obj → (ℕ → Port) → Way → ℕ → Call → List Notice → Type 0
@@ -97,6 +108,7 @@ pub record ReceivesChain (c : Chain) (old new : Objects Obj) (rec : ℕ) (call :
   pub file : CallsTwo c old new (λ t. port_at t 1) way.Up rec call ns
   pub one : ReceivesOne c old new m now ns
   pub shape : (kind : ChainKind) → IsChainUnderWay kind c old → HasShapeOrFails (last_serial c) (Some (Entered (port_at (last_serial c) 1) way.Up)) ns
+  pub comes : (kind : ChainKind) → IsChainUnderWay kind c old → ComesOf kind c new ns
 
 -- A time comes to it.
 pub record TicksChain (c : Chain) (old new : Objects Obj) (call : Call) (now : ℕ) (before after : Heard) : Type 0 where
@@ -105,6 +117,7 @@ pub record TicksChain (c : Chain) (old new : Objects Obj) (call : Call) (now : �
   pub file : CallsTwo c old new (λ t. port_at t 4) way.Time 0 call ns
   pub one : TicksOne c old new now ns
   pub shape : (kind : ChainKind) → IsChainUnderWay kind c old → HasShapeOrFails (last_serial c) (Some (Entered (port_at (last_serial c) 4) way.Time)) ns
+  pub comes : (kind : ChainKind) → IsChainUnderWay kind c old → ComesOf kind c new ns
 
 -- ITS END
 

@@ -5,9 +5,12 @@ use Rattle.std.specs.List.{AllByRecursion}
 use Rattle.nb_ledger.specs.declared.event.GraphEvent.{GraphEvent}
 use Rattle.nb_ledger.specs.declared.event.GraphEvent.TheVariants.{Made, Held, LetGo, Plugged, Entered, Left, Dropped, Closed, Unplugged, Freed}
 use Rattle.nb_ledger.specs.declared.event.Way.TheVariants.{Up, Down, Close, Time}
-use Rattle.nb_ledger.specs.Flat.{Notice, event, message, flat}
+use Rattle.nb_ledger.specs.Flat.{Notice, event, events_part, message, flat}
+use Rattle.nb_ledger.specs.GraphRun.{GraphRunOf}
+use Rattle.nb_ledger.specs.Ledger.{run_state}
 use Rattle.nb_graph.specs.Deeds.{no_memory}
-use Rattle.nb_graph.specs.Whole.{port_at}
+use Rattle.nb_graph.specs.Whole.{Objects, port_at}
+use Rattle.nb_nodes.specs.declared.obj.Obj.{Obj}
 use Rattle.nb_nodes.specs.declared.tag.Tag.TheVariants.{Address, Advance, Bytes, Datagram, Try}
 use Rattle.nb_nodes.specs.Tags.{tag_number}
 use Rattle.nb_opens.specs.Notices.{first_close, tells}
@@ -74,3 +77,12 @@ pub record HasShape (x : ℕ) (entry : Option GraphEvent) (ns : List Notice) : T
 -- so they are, or memory ran out
 abbrev pub HasShapeOrFails : ℕ → Option GraphEvent → List Notice → Type 0
 HasShapeOrFails x entry ns = HasShape x entry ns ⊎ (first_close ns ≡ Some no_memory)
+
+-- The events of a call with that shape, which may be no others: those before what goes down and those after it are together its
+-- run, and none of the latter is an entry of x from outside.
+pub record RunsInOrder (may : GraphEvent → Type 0) (x : ℕ) (old new : Objects Obj) (first : List GraphEvent) (back : List Notice) : Type 0 where
+  pub others : List GraphEvent
+  pub are : events_part back ≡ map flat others
+  pub run : GraphRunOf (run_state old.book []) (first ++ others) (run_state new.book [])
+  pub within : AllByRecursion may (first ++ others)
+  pub inner : AllByRecursion (IsNoCall x) others
