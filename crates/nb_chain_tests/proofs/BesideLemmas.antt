@@ -16,7 +16,7 @@ use Rattle.nb_frames.specs.Frames.{is_one_of}
 use Rattle.nb_frames.proofs.OwnCallLemmas.{either_way}
 use Rattle.nb_chains.proofs.FreshOnes.{sole_is}
 use Rattle.nb_chains.proofs.Opened.{ready_open}
-use Rattle.nb_chains.proofs.Plugging.{of_two}
+use Rattle.nb_chains.proofs.OfTwo.{of_two}
 use Rattle.nb_chains.specs.Calls.{ClosesChain, IsOpenChain, ShutsChain}
 use Rattle.nb_chains.specs.Chains.{AreChained, AreOthers, GrowsBy, GoesOn, IsReadyChain, IsReleased, IsShutChain, below_ids, chain_ids, own_graph}
 use Rattle.nb_chains.proofs.Staying.{goes_stays, grows_stays, released_stays}

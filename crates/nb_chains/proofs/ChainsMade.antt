@@ -29,7 +29,8 @@ use Rattle.nb_chains.proofs.ChainDoes.{top_in}
 use Rattle.nb_chains.proofs.FreshOnes.{fresh_kept, fresh_ready, made_fresh, made_gives, one_grows, sole_in, sole_is}
 use Rattle.nb_chains.proofs.GivingLemmas.{gives_both, gives_more, gives_none, more_making}
 use Rattle.nb_chains.proofs.GoingOn.{keeps_both}
-use Rattle.nb_chains.proofs.Plugging.{other_in, plug_chained, plug_gives, plug_made, plug_number, plug_others, plug_ready, plug_room}
+use Rattle.nb_chains.proofs.OfTwo.{other_in}
+use Rattle.nb_chains.proofs.Plugging.{plug_chained, plug_gives, plug_made, plug_number, plug_others, plug_ready, plug_room}
 
 -- the top object
 module _ (g h : Objects Obj) (m n : Heard) (kind : ChainKind) (x : ObjId) (node : Obj) (stands : ObjStands node []) (made : IsMade g h node (rank_of_obj node) x) (k : WentOne ObjStands obj_nature 0 (MustMake x node ∷ Wants (Held x) ∷ []) g h m n) where

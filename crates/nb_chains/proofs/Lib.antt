@@ -12,9 +12,12 @@ pub mod ChainReceives
 pub mod ChainCloses
 pub mod GoingOn
 pub mod FreshOnes
+pub mod OfTwo
 pub mod Plugging
 pub mod ChainsMade
+pub mod LettingOneGo
 pub mod LettingGo
+pub mod FreeSlots
 pub mod ShuttingDown
 pub mod Collecting
 pub mod Staying

@@ -1,20 +1,18 @@
 ghost use Rattle.std.specs.Prelude.{◌≡◌, ◌+◌, ◌<◌, ◌≤◌, ◌^◌, ◌++◌, ◌∷◌, [], ℕ, List, Option, Some, true, length};
-ghost use Rattle.nb_chains.specs.Calls.{BeginsChain, ClosesChain, IsOpenChain, ReceivesChain, ReleasesChain, ShutsChain};
-ghost use Rattle.nb_chains.specs.Calls.{TicksChain};
-ghost use Rattle.nb_chains.specs.Chains.{AreChained, GoesOn, IsShutChain, chain_ids, last_serial, own_graph};
-ghost use Rattle.nb_chains.specs.Chains.{source_for};
+ghost use Rattle.nb_chains.specs.Calls.{BeginsChain, ClosesChain, IsOpenChain, ReceivesChain, ReleasesChain, ShutsChain, TicksChain};
+ghost use Rattle.nb_chains.specs.Chains.{AreChained, GoesOn, IsShutChain, chain_ids, last_serial, own_graph, source_for};
 ghost use Rattle.nb_chains.specs.Ends.{AreUnlinked, FreesSlots};
 ghost use Rattle.nb_frames.specs.Frames.{is_one_of};
 ghost use Rattle.nb_graph.specs.Deeds.{Wants};
 ghost use Rattle.nb_graph.specs.Went.{WentOne};
+ghost use Rattle.nb_graph.specs.Whole.{port_at};
 ghost use Rattle.nb_ledger.specs.Ledger.{holds, object_lives};
 ghost use Rattle.nb_ledger.specs.declared.event.GraphEvent.TheVariants.{LetGo};
+ghost use Rattle.nb_ledger.specs.declared.port.ObjId.{ObjId as TheObjId};
 ghost use Rattle.nb_nodes.specs.Objects.{obj_nature};
 ghost use Rattle.nb_nodes.specs.Standing.{ObjStands};
 ghost use Rattle.nb_opens.specs.Alones.{arrival_said};
 ghost use Rattle.nb_opens.specs.Pairs.{HasEnded, body_in};
-ghost use Rattle.nb_ledger.specs.declared.port.ObjId.{ObjId as TheObjId};
-ghost use Rattle.nb_graph.specs.Whole.{port_at};
 ghost use Rattle.nb_tftp.specs.History.{came, ticked};
 ghost use Rattle.nb_tftp.specs.Received.{received};
 

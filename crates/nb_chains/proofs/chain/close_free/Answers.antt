@@ -1,4 +1,4 @@
-use Rattle.nb_chains.proofs.ShuttingDown.{frees_slots}
+use Rattle.nb_chains.proofs.FreeSlots.{frees_slots}
 use Rattle.nb_chains.proofs.chain.close_free.Goals as goal
 
 pub returns : goal.returns
