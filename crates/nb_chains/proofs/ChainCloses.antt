@@ -20,7 +20,7 @@ use Rattle.nb_opens.specs.Pairs.{AreGoing, HasEnded}
 use Rattle.nb_opens.proofs.Closing.{close_does}
 use Rattle.nb_opens.proofs.Lones.{both_slots}
 use Rattle.nb_chains.specs.declared.chain.Chain.{Chain}
-use Rattle.nb_chains.specs.Calls.{ClosesChain, IsOpenBy, closed_by}
+use Rattle.nb_chains.specs.Calls.{ClosesChain, IsOpenBy, closing_notices}
 use Rattle.nb_chains.specs.Chains.{AreChained, GoesOn, IsShutBy, chain_ids, last_below, last_serial, own_graph}
 use Rattle.nb_chains.specs.Shapes.{SendsNone}
 use Rattle.nb_chains.proofs.ChainCalls.{ChainCalled}
@@ -30,13 +30,13 @@ use Rattle.nb_chains.proofs.GoingOn.{goes_both}
 use Rattle.nb_chains.proofs.ShapesOf.{alone_closed_stays, closed_stays}
 
 -- nothing goes down where it is closed
-pub close_stays : (x : ℕ) (b : Option ObjId) (z : Cause) → SendsNone (last_below x b) (closed_by x b z)
+pub close_stays : (x : ℕ) (b : Option ObjId) (z : Cause) → SendsNone (last_below x b) (closing_notices x b z)
 close_stays x None z = alone_closed_stays x z
 close_stays x (Some t) z = closed_stays x t.0 z
 
 -- what closing does to one and to two
 record IsClosed (x : ℕ) (b : Option ObjId) (z : Cause) (h : Objects Obj) (ns : List Notice) : Type 0 where
-  pub are : ns ≡ closed_by x b z
+  pub are : ns ≡ closing_notices x b z
   pub shut : IsShutBy b x h
 
 module _ (c : Chain) (g a h : Objects Obj) (m n o : Heard) (now : ℕ) (cause : Cause) (chained : AreChained g (chain_ids c)) (first : AreNoded rank_of_obj g) (mid : AreNoded rank_of_obj a) (end : AreNoded rank_of_obj h)

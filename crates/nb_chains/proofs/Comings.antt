@@ -27,7 +27,7 @@ use Rattle.nb_tftp.specs.History.{Call, Entry}
 use Rattle.nb_chains.specs.declared.chain.Chain.{Chain}
 use Rattle.nb_chains.specs.declared.kind.ChainKind.{ChainKind}
 use Rattle.nb_chains.specs.declared.kind.ChainKind.TheVariants.{File}
-use Rattle.nb_chains.specs.Calls.{ComesOf, IsChainUnderWay, IsTalking, has_closed, has_failed, is_under_way}
+use Rattle.nb_chains.specs.Calls.{ComesOf, IsChainUnderWay, IsTalking, has_closed, has_failed, stays_under_way}
 use Rattle.nb_chains.specs.Chains.{IsShutBy, IsShutChain, own_graph}
 
 -- THE FIRST CLOSE
@@ -74,13 +74,13 @@ module _ (c : Chain) (g : Objects Obj) (t : ObjId) (e : c.below ≡ Some t) wher
   shut_two s = subst (λ (b : Option ObjId). IsShutBy b c.top.0 (own_graph c g)) (sym e) s
 
   pub two_comes : (b : Begun) (start : ℕ) (calls : List Entry) (body : List ℕ) (p : Port) (by : Way) (rec : ℕ) (call : Call) (ns : List Notice) → CallDoes (own_graph c g) c.top.0 t.0 b start calls body p by rec call ns → ComesOf File c g ns
-  two_comes b start calls body p by rec call ns (goes_on acts _ none _ same d) = is_under_way (ap first_close same ∙ (call_close c.top.0 t.0 p by rec acts ∙ none)) (t, e, (b, start, _, _, d))
+  two_comes b start calls body p by rec call ns (goes_on acts _ none _ same d) = stays_under_way (ap first_close same ∙ (call_close c.top.0 t.0 p by rec acts ∙ none)) (t, e, (b, start, _, _, d))
   two_comes b start calls body p by rec call ns (is_over acts z _ over _ same ended) = has_closed z (ap first_close same ∙ (call_close c.top.0 t.0 p by rec acts ∙ over)) (shut_two ended.shut)
   two_comes b start calls body p by rec call ns (is_too_large acts _ _ same ended) = has_closed body_too_large (ap first_close same ∙ large_close c.top.0 t.0 p by rec acts) (shut_two ended.shut)
   two_comes b start calls body p by rec call ns (fails z) = has_failed z
 
   pub two_begins : (b : Begun) (now rec : ℕ) (ns : List Notice) → BeginDoes (own_graph c g) c.top.0 t.0 b now rec ns → ComesOf File c g ns
-  two_begins b now rec ns (begins same d) = is_under_way (ap first_close same ∙ begun_close c.top.0 t.0 rec (first_acts b)) (t, e, (b, now, _, _, d))
+  two_begins b now rec ns (begins same d) = stays_under_way (ap first_close same ∙ begun_close c.top.0 t.0 rec (first_acts b)) (t, e, (b, now, _, _, d))
   two_begins b now rec ns (fails_at_once z) = has_failed z
 
 -- one that asks by itself, of some kind
@@ -89,16 +89,16 @@ module _ (c : Chain) (g : Objects Obj) (e : c.below ≡ None) (of : ChainKind) {
   shut_one l = subst (λ (w : Option ObjId). IsShutBy w c.top.0 (own_graph c g)) (sym e) l
 
   pub one_begins : (now rec : ℕ) (ns : List Notice) → (s.opening b).over ≡ None → BeginsBy (only c.top.0) s kind (own_graph c g) c.top.0 b now rec ns → ComesOf of c g ns
-  one_begins now rec ns none (starts same d) = is_under_way (ap first_close same ∙ (alone_close c.top.0 (port_at c.top.0 0) way.Down rec (s.opening b) [] ∙ none)) (is (b, now, [], d))
+  one_begins now rec ns none (starts same d) = stays_under_way (ap first_close same ∙ (alone_close c.top.0 (port_at c.top.0 0) way.Down rec (s.opening b) [] ∙ none)) (is (b, now, [], d))
   one_begins now rec ns none (fails_one z) = has_failed z
 
   module _ (start : ℕ) (calls : List C) where
     pub one_comes : (p : Port) (by : Way) (rec : ℕ) (call : Acts → C) (ns : List Notice) → AsksMoreBy (only c.top.0) s kind (own_graph c g) c.top.0 b start calls p by rec call ns → ComesOf of c g ns
-    one_comes p by rec call ns (asks_on acts _ none same d) = is_under_way (ap first_close same ∙ (alone_close c.top.0 p by rec acts [] ∙ none)) (is (b, start, _, d))
+    one_comes p by rec call ns (asks_on acts _ none same d) = stays_under_way (ap first_close same ∙ (alone_close c.top.0 p by rec acts [] ∙ none)) (is (b, start, _, d))
     one_comes p by rec call ns (comes_to_end acts z given _ over _ same l) = has_closed z (ap first_close same ∙ (alone_close c.top.0 p by rec acts given ∙ over)) (shut_one l)
     one_comes p by rec call ns (runs_out z) = has_failed z
 
     pub one_receives_so : (m : Said) (now : ℕ) (ns : List Notice) → ReceivesBy (only c.top.0) s kind (own_graph c g) c.top.0 b start calls m now ns → ComesOf of c g ns
     one_receives_so m now ns (is_taken _ more) = one_comes (port_at c.top.0 1) way.Up m.rec (s.received m now) ns more
-    one_receives_so m now ns (is_ignored _ same d) = is_under_way (ap first_close same) (is (b, start, calls, d))
+    one_receives_so m now ns (is_ignored _ same d) = stays_under_way (ap first_close same) (is (b, start, calls, d))
     one_receives_so m now ns (fails_before z) = has_failed z

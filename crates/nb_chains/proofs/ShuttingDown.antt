@@ -22,7 +22,7 @@ use Rattle.nb_opens.specs.Alones.{IsShutLone}
 use Rattle.nb_opens.specs.Notices.{closed_notices, freed_notices}
 use Rattle.nb_opens.specs.Pairs.{AreShut}
 use Rattle.nb_chains.specs.declared.chain.Chain.{Chain}
-use Rattle.nb_chains.specs.Calls.{ClosesChain, IsOpenChain, ReleasesChain, ShutsChain, closed_by}
+use Rattle.nb_chains.specs.Calls.{ClosesChain, IsOpenChain, ReleasesChain, ShutsChain, closing_notices}
 use Rattle.nb_chains.specs.Chains.{AreChained, GoesOn, IsReleased, IsShutBy, below_ids, chain_ids}
 use Rattle.nb_chains.specs.Ends.{AreUnlinked, FreesSlots, HasFreeSlots, LivesUnlinked, free_slot_notices}
 use Rattle.nb_chains.specs.Giving.{ChainGives}
@@ -138,7 +138,7 @@ module _ (c : Chain) (g b d h : Objects Obj) (l m n o : Heard) (z : Cause) (node
   record WereShut (w : Option ObjId) : Type 0 where
     pub goes : GoesOn (c.top.0 ∷ below_ids w) g b
     pub shut : IsShutBy w c.top.0 (graph_of (c.top.0 ∷ below_ids w) b)
-    pub gives : ChainGives (record { top = c.top; below = w }) g b l m (closed_by c.top.0 w z)
+    pub gives : ChainGives (record { top = c.top; below = w }) g b l m (closing_notices c.top.0 w z)
 
   were_shut : IsOpenChain c g → WereShut c.below
   were_shut is = record { goes = on; shut = closes.shut is; gives = subst (ChainGives c g b l m) (closes.are is) closes.gives }

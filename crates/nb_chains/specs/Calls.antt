@@ -48,10 +48,10 @@ IsChainUnderWay Name c g = (c.below ≡ None) × IsTalking lookup_service (alone
 IsChainUnderWay Lease c g = (c.below ≡ None) × IsTalking lease_service (alone_number Dhcp) (own_graph c g) c.top.0
 IsChainUnderWay Echo c g = (c.below ≡ None) × IsTalking ping_service (alone_number Ping) (own_graph c g) c.top.0
 
--- What has come of a call: nothing was closed, and the open is under way; or its ports are closed, with the cause of the first close;
--- or memory ran out.
+-- What has come of a call: nothing was closed, and the open is under way; or its ports are closed, with the cause of the first
+-- close; or memory ran out.
 pub data ComesOf (kind : ChainKind) (c : Chain) (g : Objects Obj) (ns : List Notice) : Type 0 where
-  is_under_way : first_close ns ≡ None → IsChainUnderWay kind c g → ComesOf kind c g ns
+  stays_under_way : first_close ns ≡ None → IsChainUnderWay kind c g → ComesOf kind c g ns
   has_closed : (cause : Cause) → first_close ns ≡ Some cause → IsShutChain c g → ComesOf kind c g ns
   has_failed : first_close ns ≡ Some no_memory → ComesOf kind c g ns
 
@@ -101,7 +101,7 @@ ReceivesOne c old new m now ns = c.below ≡ None → ReceiveAllBy (only c.top.0
 abbrev pub TicksOne : Chain → Objects Obj → Objects Obj → ℕ → List Notice → Type 0
 TicksOne c old new now ns = c.below ≡ None → TickAllBy (only c.top.0) (own_graph c old) (own_graph c new) c.top.0 now ns
 
--- A message comes to the last object, in the record rec: this call to a transfer, or this to one that asks by itself.
+-- A message comes to the last object, in the record rec: to a transfer it is this call, to one that asks by itself this message.
 pub record ReceivesChain (c : Chain) (old new : Objects Obj) (rec : ℕ) (call : Call) (m : Said) (now : ℕ) (before after : Heard) : Type 0 where
   pub ns : List Notice
   pub gives : ChainGives c old new before after ns
@@ -130,11 +130,11 @@ abbrev pub IsOpenChain : Chain → Objects Obj → Type 0
 IsOpenChain c g = IsOpenBy c.below c.top.0 (own_graph c g)
 
 -- what the outside is given where the user closes it
-abbrev pub closed_by : ℕ → Option ObjId → Cause → List Notice
-closed_by x None cause = alone_closed x cause
-closed_by x (Some t) cause = closed_notices x t.0 cause
+abbrev pub closing_notices : ℕ → Option ObjId → Cause → List Notice
+closing_notices x None cause = alone_closed x cause
+closing_notices x (Some t) cause = closed_notices x t.0 cause
 
--- of two the body is gone; of each chain all ports are closed but the free ones
+-- of two nothing is left to hand out; of each the ports to the user, to the network and between them are closed
 abbrev pub ClosesTwo : Chain → Objects Obj → Objects Obj → Type 0
 ClosesTwo c old new = (t : ObjId) → c.below ≡ Some t → AreGoing (own_graph c old) c.top.0 t.0 → HasEnded (own_graph c new) c.top.0 t.0 None
 
@@ -145,7 +145,7 @@ ClosesSole c old new = c.below ≡ None → IsOpenLone (own_graph c old) c.top.0
 pub record ClosesChain (c : Chain) (old new : Objects Obj) (cause : Cause) (before after : Heard) : Type 0 where
   pub ns : List Notice
   pub gives : ChainGives c old new before after ns
-  pub are : IsOpenChain c old → ns ≡ closed_by c.top.0 c.below cause
+  pub are : IsOpenChain c old → ns ≡ closing_notices c.top.0 c.below cause
   pub shut : IsOpenChain c old → IsShutChain c new
   pub file : ClosesTwo c old new
   pub one : ClosesSole c old new
@@ -159,12 +159,12 @@ pub record ReleasesChain (c : Chain) (old new : Objects Obj) (before after : Hea
 
 -- what the outside is given at the end of a run: the ports of the top object are closed, and so those of the other that are
 -- plugged, then the ports that nothing is plugged to, and the objects are let go
-abbrev pub shut_by : ℕ → Option ObjId → Cause → List Notice
-shut_by x None cause = alone_shut x cause
-shut_by x (Some t) cause = shut_notices x t.0 cause
+abbrev pub shutting_notices : ℕ → Option ObjId → Cause → List Notice
+shutting_notices x None cause = alone_shut x cause
+shutting_notices x (Some t) cause = shut_notices x t.0 cause
 
 -- The run ends.
 pub record ShutsChain (c : Chain) (old new : Objects Obj) (cause : Cause) (before after : Heard) : Type 0 where
-  pub gives : ChainGives c old new before after (shut_by c.top.0 c.below cause)
+  pub gives : ChainGives c old new before after (shutting_notices c.top.0 c.below cause)
   pub released : IsReleased c old new
-  pub shape : SendsNone (last_serial c) (shut_by c.top.0 c.below cause)
+  pub shape : SendsNone (last_serial c) (shutting_notices c.top.0 c.below cause)

@@ -62,7 +62,7 @@ pub record GoesOn (ids : List ℕ) (g h : Objects Obj) : Type 0 where
 abbrev pub last_serial : Chain → ℕ
 last_serial c = last_below c.top.0 c.below
 
--- the address that the last object is told of what comes: one that asks by itself is, and a Tftp isn't
+-- the address that the last object gets with what comes: one that asks by itself does, and a Tftp doesn't
 abbrev pub source_for : Option ObjId → ℕ → ℕ
 source_for None source = source
 source_for (Some x) source = 0
@@ -97,7 +97,7 @@ IsReadyChain Name c g = (c.below ≡ None) × IsReady (own_graph c g) c.top.0 5
 IsReadyChain Lease c g = (c.below ≡ None) × IsReady (own_graph c g) c.top.0 6
 IsReadyChain Echo c g = (c.below ≡ None) × IsReady (own_graph c g) c.top.0 7
 
--- what the outside is told where the top object is made, and where the others are
+-- what the outside is given where the top object is made, and where the others are
 abbrev pub waits_notices : ChainKind → ℕ → List Notice
 waits_notices kind x = alone_made x (top_number kind)
 
@@ -122,7 +122,7 @@ IsShutBy (Some t) x g = AreShut g x t.0
 abbrev pub IsShutChain : Chain → Objects Obj → Type 0
 IsShutChain c g = IsShutBy c.below c.top.0 (own_graph c g)
 
--- what the outside is told where they are let go
+-- what the outside is given where they are let go
 abbrev pub released_by : ℕ → Option ObjId → List Notice
 released_by x None = alone_freed x
 released_by x (Some t) = freed_notices x t.0

@@ -33,7 +33,7 @@ pub record AreUnlinked (g : Objects Obj) (f t : ℕ) : Type 0 where
 abbrev pub HasFreeSlots : Objects Obj → ℕ → Type 0
 HasFreeSlots g x = (port g.book x 2 ≡ Open) × (port g.book x 3 ≡ Open)
 
--- what the outside is told where they are closed
+-- what the outside is given where they are closed
 abbrev pub free_slot_notices : ℕ → Cause → List Notice
 free_slot_notices x c = tells (Closed (port_at x 2) c) ∷ tells (Closed (port_at x 3) c) ∷ []
 

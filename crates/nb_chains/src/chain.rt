@@ -194,7 +194,7 @@ impl Chain {
         }
     }
 
-    /// The address that the last object is told of a message: a Tftp needs none, as its server's is known.
+    /// The address that the last object gets with a message: a Tftp needs none, as its server's is known.
     fn source_for(self, source: Ip4) -> u32
         ensures { result ≡ source_for self.below source.0 }
     {
