@@ -1,5 +1,5 @@
 -- Two chains stay beside one another.
-use Rattle.std.proofs.Common.{inl, inr, ◌≡◌, ℕ, ◌+◌, ◌<◌, ◌≤◌, true, ◌∷◌, [], Option, None, sym, subst, arith}
+use Rattle.std.proofs.Common.{inl, inr, ◌≡◌, ℕ, ◌+◌, ◌<◌, ◌≤◌, true, ◌∷◌, Option, None, sym, subst, arith}
 use Rattle.nb_terms.specs.declared.cause.Cause.{Cause}
 use Rattle.nb_ledger.specs.declared.port.ObjId.{ObjId}
 use Rattle.nb_ledger.specs.Flat.{Heard}
@@ -18,7 +18,7 @@ use Rattle.nb_chains.proofs.FreshOnes.{sole_is}
 use Rattle.nb_chains.proofs.Opened.{ready_open}
 use Rattle.nb_chains.proofs.OfTwo.{of_two}
 use Rattle.nb_chains.specs.Calls.{ClosesChain, IsOpenChain, ShutsChain}
-use Rattle.nb_chains.specs.Chains.{AreChained, AreOthers, GrowsBy, GoesOn, IsReadyChain, IsReleased, IsShutChain, below_ids, chain_ids, own_graph}
+use Rattle.nb_chains.specs.Chains.{AreChained, AreOthers, GrowsBy, GoesOn, IsReadyChain, IsReleased, IsShutChain, below_ids, chain_ids}
 use Rattle.nb_chains.proofs.Staying.{goes_stays, grows_stays, released_stays}
 use Rattle.nb_chain_tests.specs.Beside.{AreBeside}
 
