@@ -1,5 +1,5 @@
 -- Two chains stay beside one another.
-use Rattle.std.proofs.Common.{inl, inr, ◌≡◌, ℕ, ◌+◌, ◌<◌, ◌≤◌, true, ◌∷◌, [], Option, None, sym, subst, arith}
+use Rattle.std.proofs.Common.{inl, inr, ◌≡◌, ℕ, ◌+◌, ◌<◌, ◌≤◌, true, ◌∷◌, Option, None, sym, subst, arith}
 use Rattle.nb_terms.specs.declared.cause.Cause.{Cause}
 use Rattle.nb_ledger.specs.declared.port.ObjId.{ObjId}
 use Rattle.nb_ledger.specs.Flat.{Heard}
@@ -15,9 +15,10 @@ use Rattle.nb_chains.specs.Kinds.{count_below}
 use Rattle.nb_frames.specs.Frames.{is_one_of}
 use Rattle.nb_frames.proofs.OwnCallLemmas.{either_way}
 use Rattle.nb_chains.proofs.FreshOnes.{sole_is}
-use Rattle.nb_chains.proofs.Plugging.{of_two}
-use Rattle.nb_chains.specs.Chains.{AreChained, AreOthers, ClosesTwo, GrowsBy, GoesOn, IsReadyChain, IsReleased, IsShutBy, IsShutChain, below_ids, chain_ids, own_graph}
-use Rattle.nb_chains.specs.Ends.{ShutsTwo}
+use Rattle.nb_chains.proofs.Opened.{ready_open}
+use Rattle.nb_chains.proofs.OfTwo.{of_two}
+use Rattle.nb_chains.specs.Calls.{ClosesChain, IsOpenChain, ShutsChain}
+use Rattle.nb_chains.specs.Chains.{AreChained, AreOthers, GrowsBy, GoesOn, IsReadyChain, IsReleased, IsShutChain, below_ids, chain_ids}
 use Rattle.nb_chains.proofs.Staying.{goes_stays, grows_stays, released_stays}
 use Rattle.nb_chain_tests.specs.Beside.{AreBeside}
 
@@ -33,19 +34,17 @@ module _ (g h : Objects Obj) (c d : Chain) (noded : AreNoded rank_of_obj h) (b :
 
 -- a file's open that was just made is closed, and can be let go
 module _ (g h : Objects Obj) (c : Chain) (cause : Cause) (m n : Heard) where
-  pub shut_then : IsReadyChain File c g → ClosesTwo c g h cause m n → IsShutChain c h
-  shut_then r k =
-      let ended = k r.0 r.1 (inl r.2) in
-      subst (λ (b : Option ObjId). IsShutBy b c.top.0 (own_graph c h)) (sym r.1) ended.0.shut
+  pub shut_then : IsReadyChain File c g → ClosesChain c g h cause m n → IsShutChain c h
+  shut_then r k = k.shut (ready_open File c g r)
+
+  -- at the end of a run it is let go
+  pub gone_then : IsReadyChain File c g → (IsOpenChain c g → ShutsChain c g h cause m n) → IsReleased c g h
+  gone_then r k = (k (ready_open File c g r)).released
 
 -- the other stays
 module _ (c : Chain) (h : Objects Obj) where
   pub other_stays : (o : Objects Obj) (d : Chain) → AreNoded rank_of_obj o → AreBeside h c d → IsReleased c h o → AreChained o (chain_ids d)
   other_stays o d noded b gone = (released_stays c (chain_ids d) h o noded b.other b.apart gone).chained
-
--- a file's open that was just made is let go at the end of a run
-pub gone_then : (g h : Objects Obj) (c : Chain) (cause : Cause) (m n : Heard) → IsReadyChain File c g → ShutsTwo c g h cause m n → IsReleased c g h
-gone_then g h c cause m n r k = (k r.0 r.1 (inl r.2)).0
 
 -- at most one object is below the top one
 pub few_below : (k : ChainKind) → count_below k ≤ 1

@@ -1,12 +1,13 @@
 -- An object is made below one that waits, and plugged to it.
-use Rattle.std.proofs.Common.{inl, inr, ◌≡◌, ℕ, ◌<◌, ◌≤◌, Bool, true, false, cond, eqb, List, [], ◌∷◌, length, refl, sym, ap, ◌∙◌, subst, arith}
-use Rattle.std.proofs.lemmas.Bool.{cases_eq, eq-eqb, ne_eqb, false≢true}
+use Rattle.std.proofs.Common.{◌≡◌, ℕ, ◌<◌, ◌≤◌, Bool, true, false, cond, eqb, List, [], ◌∷◌, length, refl, sym, ap, ◌∙◌, subst, arith}
+use Rattle.std.specs.List.{AllByRecursion}
+use Rattle.std.proofs.lemmas.Bool.{eq-eqb, ne_eqb}
 use Rattle.std.proofs.lemmas.List.{append-nil}
 use Rattle.nb_ledger.specs.declared.port.Port.{Port}
 use Rattle.nb_ledger.specs.declared.port.PortState.{PortState}
 use Rattle.nb_ledger.specs.declared.port.PortState.TheVariants as port
 use Rattle.nb_ledger.specs.declared.event.GraphEvent.TheVariants.{Plugged}
-use Rattle.nb_ledger.specs.Flat.{Heard, Given}
+use Rattle.nb_ledger.specs.Flat.{Heard}
 use Rattle.nb_ledger.specs.GraphRun.{GraphRunOf, GraphState, new_ports, port_but}
 use Rattle.nb_ledger.specs.Ledger.{object_lives, holds, rank, port as port_in, run_state}
 use Rattle.nb_graph.specs.Deeds.{Deed, writes, MustPlug, events_of, told_of, trace_after}
@@ -32,30 +33,10 @@ use Rattle.nb_opens.specs.Notices.{tells}
 use Rattle.nb_opens.specs.Pairs.{AreMade}
 use Rattle.nb_opens.specs.Waiters.{IsOfKind}
 use Rattle.nb_chains.specs.Chains.{AreChained, IsFresh, StandsForSome}
+use Rattle.nb_chains.specs.Giving.{CallGives, IsMakeWithin}
+use Rattle.nb_chains.proofs.OfTwo.{first_in, neither_in, of_two, other_in}
 use Rattle.nb_chains.proofs.FreshOnes.{open_within}
-
--- x and y are those of two
-pub first_in : (x y : ℕ) → is_one_of (x ∷ y ∷ []) x ≡ true
-first_in x y = rw (eq-eqb x x refl) refl
-
-pub other_in : (x y : ℕ) → is_one_of (x ∷ y ∷ []) y ≡ true
-other_in x y = elim (cases_eq y x) [
-  | inl e ↦ rw (eq-eqb y x e) refl
-  | inr n ↦ rw (ne_eqb y x n) (rw (eq-eqb y y refl) refl)
-]
-
-pub neither_in : (x y z : ℕ) → (z ≡ x → ⊥) → (z ≡ y → ⊥) → is_one_of (x ∷ y ∷ []) z ≡ false
-neither_in x y z i j = rw (ne_eqb z x i) (rw (ne_eqb z y j) refl)
-
--- a fact of both is one of each of two
-pub of_two : (x y : ℕ) (P : ℕ → Type 0) → P x → P y → (z : ℕ) → is_one_of (x ∷ y ∷ []) z ≡ true → P z
-of_two x y P p q z o = elim (cases_eq z x) [
-  | inl e ↦ subst P (sym e) p
-  | inr i ↦ elim (cases_eq z y) [
-    | inl e ↦ subst P (sym e) q
-    | inr j ↦ absurd (false≢true (sym (neither_in x y z i j) ∙ o))
-  ]
-]
+use Rattle.nb_chains.proofs.GivingLemmas.{call_gives}
 
 plug_deeds : (now : ℕ) (s t : Scene) (p q : Port) (ds : List (Deed Obj Load)) → UsesStack obj_nature now s (MustPlug p q ∷ []) ds t → (ds ≡ writes (Plugged p q) ∷ []) × (after_noted (Plugged p q) s ≡ t)
 plug_deeds now s t p q [] h = absurd h
@@ -207,5 +188,6 @@ module _ (b h : Objects Obj) (m n : Heard) (x y : ℕ) (lt : x < y) (top : IsFre
       unharvested = ((λ i e. marks x 0 top.of_kind i (node_back ids h there x i e).1), (λ i e. marks y 0 low.of_kind i (node_back ids h there y i e).1));
     }
 
-  pub plug_told : Given m n (tells (Plugged (port_at x 1) (port_at y 0)) ∷ [])
-  plug_told = subst (λ e. Given m n (told_of e)) all k.tells
+  pub plug_gives : CallGives (IsMakeWithin own) b h m n (tells (Plugged (port_at x 1) (port_at y 0)) ∷ [])
+  plug_gives = subst (λ e. CallGives (IsMakeWithin own) b h m n (told_of e)) all
+      (call_gives b h m n 0 (MustPlug (port_at x 1) (port_at y 0) ∷ []) k (IsMakeWithin own) (subst (λ e. AllByRecursion (IsMakeWithin own) (events_of e)) (sym all) ((first_in x y, other_in x y), tt)))

@@ -1,73 +1,38 @@
 -- The end of a run: the ports of a chain's objects are closed, and its objects are let go.
-use Rattle.std.proofs.Common.{◌≡◌, ℕ, ◌<◌, Bool, true, false, cond, eqb, List, [], ◌∷◌, Option, Some, None, refl, sym, ap, ◌∙◌, subst, arith}
-use Rattle.std.proofs.lemmas.Bool.{eq-eqb, ne_eqb}
+use Rattle.std.proofs.Common.{◌≡◌, ℕ, ◌<◌, true, List, [], ◌∷◌, ◌++◌, Option, Some, None, sym, ap, ◌∙◌, subst, arith}
 use Rattle.nb_terms.specs.declared.cause.Cause.{Cause}
 use Rattle.nb_ledger.specs.declared.port.ObjId.{ObjId}
-use Rattle.nb_ledger.specs.declared.port.Port.{Port}
-use Rattle.nb_ledger.specs.declared.port.PortState.{PortState}
-use Rattle.nb_ledger.specs.declared.port.PortState.TheVariants as port
 use Rattle.nb_ledger.specs.declared.event.GraphEvent.TheVariants.{LetGo}
-use Rattle.nb_ledger.specs.Flat.{Heard, Given}
-use Rattle.nb_ledger.specs.GraphRun.{link_count, port_but}
+use Rattle.nb_ledger.specs.Flat.{Heard}
+use Rattle.nb_ledger.specs.GraphRun.{link_count}
 use Rattle.nb_ledger.specs.Ledger.{holds, object_lives, port as port_in}
-use Rattle.nb_ledger.proofs.RunLemmas.{Given-append}
-use Rattle.nb_graph.specs.Deeds.{Closes, Wants}
+use Rattle.nb_graph.specs.Deeds.{Wants}
 use Rattle.nb_graph.specs.Noded.{AreNoded}
 use Rattle.nb_graph.specs.Went.{WentOne}
-use Rattle.nb_graph.specs.Whole.{Objects, port_at}
+use Rattle.nb_graph.specs.Whole.{Objects}
 use Rattle.nb_frames.specs.Frames.{is_one_of, graph_of}
+use Rattle.nb_frames.specs.Within.{IsEventWithin}
 use Rattle.nb_frames.proofs.OwnLemmas.{AreThere, are_there}
 use Rattle.nb_frames.proofs.OwnCallLemmas.{port_own}
 use Rattle.nb_nodes.specs.declared.obj.Obj.{Obj}
 use Rattle.nb_nodes.specs.Objects.{obj_nature, rank_of_obj}
 use Rattle.nb_nodes.specs.Standing.{ObjStands}
-use Rattle.nb_opens.specs.AloneNotices.{alone_closed, alone_shut}
+use Rattle.nb_opens.specs.AloneNotices.{alone_closed, alone_freed}
 use Rattle.nb_opens.specs.Alones.{IsShutLone}
-use Rattle.nb_opens.specs.Notices.{closed_notices, freed_notices, shut_notices}
+use Rattle.nb_opens.specs.Notices.{closed_notices, freed_notices}
 use Rattle.nb_opens.specs.Pairs.{AreShut}
-use Rattle.nb_opens.proofs.Shutting.{closes_alone}
 use Rattle.nb_chains.specs.declared.chain.Chain.{Chain}
-use Rattle.nb_chains.specs.Chains.{AreChained, ClosesSole, ClosesTwo, GoesOn, IsReleased, below_ids, chain_ids, last_below, own_graph}
-use Rattle.nb_chains.specs.Ends.{AreUnlinked, ClosesFreeSlots, HasFreeSlots, LivesUnlinked, ShutsSole, ShutsTwo}
-use Rattle.nb_chains.proofs.ChainCalls.{chain_call}
+use Rattle.nb_chains.specs.Calls.{ClosesChain, IsOpenChain, ReleasesChain, ShutsChain, closing_notices}
+use Rattle.nb_chains.specs.Chains.{AreChained, GoesOn, IsReleased, IsShutBy, below_ids, chain_ids}
+use Rattle.nb_chains.specs.Ends.{AreUnlinked, FreesSlots, HasFreeSlots, LivesUnlinked, free_slot_notices}
+use Rattle.nb_chains.specs.Giving.{ChainGives}
 use Rattle.nb_chains.proofs.FreshOnes.{sole_in}
+use Rattle.nb_chains.proofs.GivingLemmas.{gives_both}
 use Rattle.nb_chains.proofs.GoingOn.{goes_both, others_both}
-use Rattle.nb_chains.proofs.LettingGo.{both_loose, sole_loose, sole_released}
-use Rattle.nb_chains.proofs.Plugging.{first_in, other_in}
-
--- no link comes where a port is closed
-no_link : (p : Port) (f : ℕ → ℕ → PortState) (y k : ℕ) → link_count (f y k) ≡ 0 → link_count (port_but p port.Closed f y k) ≡ 0
-no_link p f y k h = by_tests (eqb y p.obj.0) (eqb k p.slot)
-  where
-    by_tests : (a b : Bool) → link_count (cond a (cond b port.Closed (f y k)) (f y k)) ≡ 0
-    by_tests true true = refl
-    by_tests true false = h
-    by_tests false b = h
-
-other_port : (x i y k : ℕ) (f : ℕ → ℕ → PortState) → (y ≡ x → ⊥) → port_but (port_at x i) port.Closed f y k ≡ f y k
-other_port x i y k f h = rw (ne_eqb y x h) refl
-
-beside : (x : ℕ) (f : ℕ → ℕ → PortState) → port_but (port_at x 2) port.Closed f x 3 ≡ f x 3
-beside x f = rw (eq-eqb x x refl) refl
-
--- the slots of x that nothing is plugged to are closed
-module _ (g a h : Objects Obj) (m n o : Heard) (now x : ℕ) (z : Cause)
-    (one : WentOne ObjStands obj_nature now (Closes (port_at x 2) z ∷ []) g a m n) (two : WentOne ObjStands obj_nature now (Closes (port_at x 3) z ∷ []) a h n o) where
-  pub free_on : AreNoded rank_of_obj g → AreNoded rank_of_obj a → AreNoded rank_of_obj h → (ids : List ℕ) → AreChained g ids → is_one_of ids x ≡ true → GoesOn ids g h
-  free_on first mid end ids chained is =
-      let i = chain_call ids now (Closes (port_at x 2) z ∷ []) g a m n chained (is, tt) (tt, tt) (tt, tt) first mid one in
-      let j = chain_call ids now (Closes (port_at x 3) z ∷ []) a h n o i.on.chained (is, tt) (tt, tt) (tt, tt) mid end two in
-      goes_both ids g a h i.on j.on
-
-  pub frees : HasFreeSlots g x → ClosesFreeSlots g h m o x z
-  frees free =
-      let i = closes_alone g a m n now (port_at x 2) z free.0 one in
-      let j = closes_alone a h n o now (port_at x 3) z (i.ports x 3 ∙ (beside x (port_in g.book) ∙ free.1)) two in
-      record {
-        unlinked = λ k e. ap link_count (j.ports x k) ∙ no_link (port_at x 3) (port_in a.book) x k (ap link_count (i.ports x k) ∙ no_link (port_at x 2) (port_in g.book) x k e);
-        others = λ y k far. j.ports y k ∙ (other_port x 3 y k (port_in a.book) far ∙ (i.ports y k ∙ other_port x 2 y k (port_in g.book) far));
-        told = Given-append m n o _ _ i.told j.told;
-      }
+use Rattle.nb_chains.proofs.LettingGo.{both_loose}
+use Rattle.nb_chains.proofs.LettingOneGo.{sole_loose, sole_released}
+use Rattle.nb_chains.proofs.OfTwo.{first_in, other_in}
+use Rattle.nb_chains.proofs.ShapesOf.{alone_shut_stays, shut_stays}
 
 -- one of a chain without a link
 loose_of : (g : Objects Obj) (ids : List ℕ) (x : ℕ) → AreChained g ids → is_one_of ids x ≡ true → LivesUnlinked g x → (h : Objects Obj) → GoesOn ids g h → ((k : ℕ) → link_count (port_in g.book x k) ≡ 0 → link_count (port_in h.book x k) ≡ 0) → LivesUnlinked h x
@@ -90,13 +55,16 @@ released_after c g a h on r = record {
 
 -- one alone: its ports to the user and the network were closed, then the other two, and it is let go
 module _ (g b d h : Objects Obj) (l m n o : Heard) (x : ObjId) (z : Cause) (noded : AreNoded rank_of_obj b) (on : GoesOn (x.0 ∷ []) g b)
-    (more : (ids : List ℕ) → AreChained b ids → is_one_of ids x.0 ≡ true → GoesOn ids b d) (freed : HasFreeSlots b x.0 → ClosesFreeSlots b d m n x.0 z)
+    (more : (ids : List ℕ) → AreChained b ids → is_one_of ids x.0 ≡ true → FreesSlots ids b d m n x.0 z)
     (goes : object_lives d.book x.0 ≡ true → 0 < holds d.book x.0 → (now : ℕ) → WentOne ObjStands obj_nature now (Wants (LetGo x) ∷ []) d h n o) where
   abbrev sole : List ℕ
   sole = x.0 ∷ []
 
-  sole_on : GoesOn sole b d
-  sole_on = more sole on.chained (sole_in x.0)
+  abbrev chain : Chain
+  chain = record { top = x; below = None }
+
+  freed : FreesSlots sole b d m n x.0 z
+  freed = more sole on.chained (sole_in x.0)
 
   sole_there : AreThere sole b
   sole_there = are_there sole b on.chained.lives (λ y i. let e = noded y (on.chained.lives y i) in (e.node, e.is_node))
@@ -104,26 +72,33 @@ module _ (g b d h : Objects Obj) (l m n o : Heard) (x : ObjId) (z : Cause) (node
   sole_free : IsShutLone (graph_of sole b) x.0 → HasFreeSlots b x.0
   sole_free s = (sym (port_own sole b sole_there x.0 2 (sole_in x.0)) ∙ s.ports 2, sym (port_own sole b sole_there x.0 3 (sole_in x.0)) ∙ s.ports 3)
 
-  pub sole_shut : IsShutLone (graph_of sole b) x.0 → Given l m (alone_closed x.0 z) → IsReleased (record { top = x; below = None }) g h × Given l o (alone_shut x.0 z)
-  sole_shut s told =
-      let f = freed (sole_free s) in
-      let u = loose_of b sole x.0 on.chained (sole_in x.0) (sole_loose b x.0 noded on.chained s) d sole_on f.unlinked in
+  pub sole_shut : IsShutLone (graph_of sole b) x.0 → ChainGives chain g b l m (alone_closed x.0 z) → ShutsChain chain g h z l o
+  sole_shut s closed =
+      let f = freed.free (sole_free s) in
+      let u = loose_of b sole x.0 on.chained (sole_in x.0) (sole_loose b x.0 noded on.chained s) d freed.on f.unlinked in
       let r = sole_released d h n o x u (goes u.lives (omega (arith, u.held)) 0) in
-      (released_after (record { top = x; below = None }) g d h (goes_both sole g b d on sole_on) r.0, Given-append l m o _ _ told (Given-append m n o _ _ f.told r.1))
+      let own = IsEventWithin (is_one_of sole) in
+      record {
+        gives = gives_both own g b h l m o (alone_closed x.0 z) (free_slot_notices x.0 z ++ alone_freed x.0) closed (gives_both own b d h m n o (free_slot_notices x.0 z) (alone_freed x.0) f.gives r.gives);
+        released = released_after chain g d h (goes_both sole g b d on freed.on) r.released;
+        shape = alone_shut_stays x.0 z;
+      }
 
 -- two: the ports that are plugged were closed, then the free ones of each, and both are let go
 module _ (g b d e h : Objects Obj) (l m n o q : Heard) (f t : ObjId) (z : Cause) (noded : AreNoded rank_of_obj b) (on : GoesOn (f.0 ∷ t.0 ∷ []) g b)
-    (top_on : (ids : List ℕ) → AreChained b ids → is_one_of ids f.0 ≡ true → GoesOn ids b d) (top_free : HasFreeSlots b f.0 → ClosesFreeSlots b d m n f.0 z)
-    (low_on : (ids : List ℕ) → AreChained d ids → is_one_of ids t.0 ≡ true → GoesOn ids d e) (low_free : HasFreeSlots d t.0 → ClosesFreeSlots d e n o t.0 z)
-    (goes : AreUnlinked e f.0 t.0 → IsReleased (record { top = f; below = Some t }) e h × Given o q (freed_notices f.0 t.0)) where
+    (top_more : (ids : List ℕ) → AreChained b ids → is_one_of ids f.0 ≡ true → FreesSlots ids b d m n f.0 z) (low_more : (ids : List ℕ) → AreChained d ids → is_one_of ids t.0 ≡ true → FreesSlots ids d e n o t.0 z)
+    (goes : AreUnlinked e f.0 t.0 → ReleasesChain (record { top = f; below = Some t }) e h o q) where
   abbrev ids : List ℕ
   ids = f.0 ∷ t.0 ∷ []
 
-  one_on : GoesOn ids b d
-  one_on = top_on ids on.chained (first_in f.0 t.0)
+  abbrev chain_of_two : Chain
+  chain_of_two = record { top = f; below = Some t }
 
-  two_on : GoesOn ids d e
-  two_on = low_on ids one_on.chained (other_in f.0 t.0)
+  top_freed : FreesSlots ids b d m n f.0 z
+  top_freed = top_more ids on.chained (first_in f.0 t.0)
+
+  low_freed : FreesSlots ids d e n o t.0 z
+  low_freed = low_more ids top_freed.on.chained (other_in f.0 t.0)
 
   there : AreThere ids b
   there = are_there ids b on.chained.lives (λ y i. let k = noded y (on.chained.lives y i) in (k.node, k.is_node))
@@ -134,39 +109,47 @@ module _ (g b d e h : Objects Obj) (l m n o q : Heard) (f t : ObjId) (z : Cause)
   at_other : (k : ℕ) → port_in b.book t.0 k ≡ port_in (graph_of ids b).book t.0 k
   at_other k = sym (port_own ids b there t.0 k (other_in f.0 t.0))
 
-  pub two_shut : AreShut (graph_of ids b) f.0 t.0 → Given l m (closed_notices f.0 t.0 z) → IsReleased (record { top = f; below = Some t }) g h × Given l q (shut_notices f.0 t.0 z)
-  two_shut s told =
+  pub two_shut : AreShut (graph_of ids b) f.0 t.0 → ChainGives chain_of_two g b l m (closed_notices f.0 t.0 z) → ShutsChain chain_of_two g h z l q
+  two_shut s closed =
       let both = both_loose b f.0 t.0 noded on.chained s in
-      let i = top_free (at_first 2 ∙ s.two.fetch_2, at_first 3 ∙ s.two.fetch_3) in
+      let i = top_freed.free (at_first 2 ∙ s.two.fetch_2, at_first 3 ∙ s.two.fetch_3) in
       let apart : f.0 ≡ t.0 → ⊥ = λ same. both.different (sym same) in
-      let j = low_free (i.others t.0 2 both.different ∙ (at_other 2 ∙ s.two.tftp_2), i.others t.0 3 both.different ∙ (at_other 3 ∙ s.two.tftp_3)) in
-      let first = loose_of b ids f.0 on.chained (first_in f.0 t.0) both.first d one_on i.unlinked in
-      let other = loose_of b ids t.0 on.chained (other_in f.0 t.0) both.other d one_on (λ k z. ap link_count (i.others t.0 k both.different) ∙ z) in
+      let j = low_freed.free (i.others t.0 2 both.different ∙ (at_other 2 ∙ s.two.tftp_2), i.others t.0 3 both.different ∙ (at_other 3 ∙ s.two.tftp_3)) in
+      let first = loose_of b ids f.0 on.chained (first_in f.0 t.0) both.first d top_freed.on i.unlinked in
+      let other = loose_of b ids t.0 on.chained (other_in f.0 t.0) both.other d top_freed.on (λ k z. ap link_count (i.others t.0 k both.different) ∙ z) in
       let r = goes (record {
         different = both.different;
-        first = loose_of d ids f.0 one_on.chained (first_in f.0 t.0) first e two_on (λ k z. ap link_count (j.others f.0 k apart) ∙ z);
-        other = loose_of d ids t.0 one_on.chained (other_in f.0 t.0) other e two_on j.unlinked;
-      }) in (
-        released_after (record { top = f; below = Some t }) g e h (goes_both ids g d e (goes_both ids g b d on one_on) two_on) r.0,
-        Given-append l m q _ _ told (Given-append m o q _ _ (Given-append m n o _ _ i.told j.told) r.1),
-      )
+        first = loose_of d ids f.0 top_freed.on.chained (first_in f.0 t.0) first e low_freed.on (λ k z. ap link_count (j.others f.0 k apart) ∙ z);
+        other = loose_of d ids t.0 top_freed.on.chained (other_in f.0 t.0) other e low_freed.on j.unlinked;
+      }) in
+      let own = IsEventWithin (is_one_of ids) in
+      let slots = gives_both own b d e m n o (free_slot_notices f.0 z) (free_slot_notices t.0 z) i.gives j.gives in
+      record {
+        gives = gives_both own g b h l m q (closed_notices f.0 t.0 z) ((free_slot_notices f.0 z ++ free_slot_notices t.0 z) ++ freed_notices f.0 t.0) closed
+            (gives_both own b e h m o q (free_slot_notices f.0 z ++ free_slot_notices t.0 z) (freed_notices f.0 t.0) slots r.gives);
+        released = released_after chain_of_two g e h (goes_both ids g d e (goes_both ids g b d on top_freed.on) low_freed.on) r.released;
+        shape = shut_stays f.0 t.0 z;
+      }
 
 -- what a chain's shut_down does, by what it has below its top object
-module _ (c : Chain) (g b d h : Objects Obj) (l m n o : Heard) (z : Cause) (noded : AreNoded rank_of_obj b) (on : GoesOn (chain_ids c) g b)
-    (top_on : (ids : List ℕ) → AreChained b ids → is_one_of ids c.top.0 ≡ true → GoesOn ids b d) (top_free : HasFreeSlots b c.top.0 → ClosesFreeSlots b d m n c.top.0 z) where
-  pub shuts_sole : ClosesSole c g b z l m → (object_lives d.book c.top.0 ≡ true → 0 < holds d.book c.top.0 → (now : ℕ) → WentOne ObjStands obj_nature now (Wants (LetGo c.top) ∷ []) d h n o) → ShutsSole c g h z l o
-  shuts_sole closes goes = λ e whole.
-      let k = closes e whole in
-      let P : Option ObjId → Type 0 = λ w. GoesOn (c.top.0 ∷ below_ids w) g b → IsShutLone (graph_of (c.top.0 ∷ below_ids w) b) c.top.0 → IsReleased (record { top = c.top; below = w }) g h × Given l o (alone_shut c.top.0 z) in
-      subst P (sym e) (λ i s. sole_shut g b d h l m n o c.top z noded i top_on top_free goes s k.1) on k.0
+module _ (c : Chain) (g b d h : Objects Obj) (l m n o : Heard) (z : Cause) (noded : AreNoded rank_of_obj b) (on : GoesOn (chain_ids c) g b) (closes : ClosesChain c g b z l m)
+    (top_more : (ids : List ℕ) → AreChained b ids → is_one_of ids c.top.0 ≡ true → FreesSlots ids b d m n c.top.0 z) where
+  -- its ports were closed
+  record WereShut (w : Option ObjId) : Type 0 where
+    pub goes : GoesOn (c.top.0 ∷ below_ids w) g b
+    pub shut : IsShutBy w c.top.0 (graph_of (c.top.0 ∷ below_ids w) b)
+    pub gives : ChainGives (record { top = c.top; below = w }) g b l m (closing_notices c.top.0 w z)
 
-  pub shuts_two : (t : ObjId) → c.below ≡ Some t → ClosesTwo c g b z l m → (e : Objects Obj) (q : Heard) → ((ids : List ℕ) → AreChained d ids → is_one_of ids t.0 ≡ true → GoesOn ids d e)
-      → (HasFreeSlots d t.0 → ClosesFreeSlots d e n o t.0 z) → (AreUnlinked e c.top.0 t.0 → IsReleased (record { top = c.top; below = Some t }) e h × Given o q (freed_notices c.top.0 t.0)) → ShutsTwo c g h z l q
-  shuts_two t is closes e q low_on low_free goes = λ y i going.
-      let k = closes y i going in
-      let same : y.0 ≡ t.0 = ap (last_below 0) (sym i ∙ is) in
-      let shut : AreShut (own_graph c b) c.top.0 t.0 = subst (AreShut (own_graph c b) c.top.0) same k.0.shut in
-      let told : Given l m (closed_notices c.top.0 t.0 z) = subst (λ (w : ℕ). Given l m (closed_notices c.top.0 w z)) same k.1 in
-      let P : Option ObjId → Type 0 = λ w. GoesOn (c.top.0 ∷ below_ids w) g b → AreShut (graph_of (c.top.0 ∷ below_ids w) b) c.top.0 t.0 → IsReleased (record { top = c.top; below = w }) g h × Given l q (shut_notices c.top.0 t.0 z) in
-      let r = subst P (sym is) (λ j s. two_shut g b d e h l m n o q c.top t z noded j top_on top_free low_on low_free goes s told) on shut in
-      (r.0, subst (λ (w : ℕ). Given l q (shut_notices c.top.0 w z)) (sym same) r.1)
+  were_shut : IsOpenChain c g → WereShut c.below
+  were_shut is = record { goes = on; shut = closes.shut is; gives = subst (ChainGives c g b l m) (closes.are is) closes.gives }
+
+  pub shuts_sole : c.below ≡ None → (object_lives d.book c.top.0 ≡ true → 0 < holds d.book c.top.0 → (now : ℕ) → WentOne ObjStands obj_nature now (Wants (LetGo c.top) ∷ []) d h n o) → IsOpenChain c g → ShutsChain c g h z l o
+  shuts_sole e goes is =
+      let P : Option ObjId → Type 0 = λ w. WereShut w → ShutsChain (record { top = c.top; below = w }) g h z l o in
+      subst P (sym e) (λ k. sole_shut g b d h l m n o c.top z noded k.goes top_more goes k.shut k.gives) (were_shut is)
+
+  pub shuts_two : (t : ObjId) → c.below ≡ Some t → (e : Objects Obj) (q : Heard) → ((ids : List ℕ) → AreChained d ids → is_one_of ids t.0 ≡ true → FreesSlots ids d e n o t.0 z)
+      → (AreUnlinked e c.top.0 t.0 → ReleasesChain (record { top = c.top; below = Some t }) e h o q) → IsOpenChain c g → ShutsChain c g h z l q
+  shuts_two t same e q low_more goes is =
+      let P : Option ObjId → Type 0 = λ w. WereShut w → ShutsChain (record { top = c.top; below = w }) g h z l q in
+      subst P (sym same) (λ k. two_shut g b d e h l m n o q c.top t z noded k.goes top_more low_more goes k.shut k.gives) (were_shut is)

@@ -4,21 +4,14 @@ use Rattle.std.specs.Prelude.{◌≡◌, ◌+◌, ◌≤◌, ℕ, true, false, L
 use Rattle.nb_ledger.specs.declared.port.ObjId.{ObjId}
 use Rattle.nb_ledger.specs.GraphRun.{new_ports}
 use Rattle.nb_ledger.specs.Ledger.{object_lives, holds, port, rank}
-use Rattle.nb_terms.specs.declared.cause.Cause.{Cause}
-use Rattle.nb_ledger.specs.declared.event.Way.{Way}
-use Rattle.nb_ledger.specs.declared.port.Port.{Port}
-use Rattle.nb_ledger.specs.Flat.{Heard, Notice, Given}
-use Rattle.nb_tftp.specs.History.{Call}
-use Rattle.nb_nodes.specs.Asking.{AskValue, ask_in, begun_with}
-use Rattle.nb_nodes.specs.Exchanges.{Service}
-use Rattle.nb_opens.specs.AloneNotices.{alone_closed, alone_freed, alone_made}
-use Rattle.nb_opens.specs.Alones.{DoesAsk, IsOpenLone, IsReady, IsShutLone, ReceiveAllBy, TickAllBy}
-use Rattle.nb_opens.specs.Companies.{only}
-use Rattle.nb_opens.specs.Notices.{closed_notices, completed_notices, freed_notices}
+use Rattle.nb_ledger.specs.Flat.{Notice}
+use Rattle.nb_opens.specs.AloneNotices.{alone_freed, alone_made}
+use Rattle.nb_opens.specs.Alones.{IsReady, IsShutLone}
+use Rattle.nb_opens.specs.Notices.{completed_notices, freed_notices}
 use Rattle.nb_opens.specs.Waiters.{IsOfKind}
-use Rattle.nb_opens.specs.Pairs.{AreGoing, AreMade, AreShut, DoesBegin, DoesCall, HasEnded, IsDownloading}
+use Rattle.nb_opens.specs.Pairs.{AreMade, AreShut}
 use Rattle.nb_graph.specs.Lived.{ObjectStands}
-use Rattle.nb_graph.specs.Trace.{NodeEntry, Said}
+use Rattle.nb_graph.specs.Trace.{NodeEntry}
 use Rattle.nb_graph.specs.Whole.{Objects}
 use Rattle.nb_frames.specs.Frames.{is_one_of, graph_of, KeepsObject, KeepsOthers}
 use Rattle.nb_frames.specs.Within.{AreLinkedWithin}
@@ -69,47 +62,10 @@ pub record GoesOn (ids : List ℕ) (g h : Objects Obj) : Type 0 where
 abbrev pub last_serial : Chain → ℕ
 last_serial c = last_below c.top.0 c.below
 
--- the address that the last object is told of what comes: one that asks by itself is, and a Tftp isn't
+-- the address that the last object gets with what comes: one that asks by itself does, and a Tftp doesn't
 abbrev pub source_for : Option ObjId → ℕ → ℕ
 source_for None source = source
 source_for (Some x) source = 0
-
--- The user has asked two by these bytes: what a transfer asks at first leaves, or memory runs out.
-abbrev pub BeginsTwo : Chain → Objects Obj → Objects Obj → List ℕ → ℕ → ℕ → Heard → Heard → Type 0
-BeginsTwo c old new bytes now rec before after =
-    (t : ObjId) (a : AskValue) → c.below ≡ Some t → AreMade (own_graph c old) c.top.0 t.0 → ask_in bytes ≡ Some a
-    → DoesBegin (own_graph c new) c.top.0 t.0 (begun_with a) now rec before after
-
--- the same of one that asks by itself
-abbrev pub BeginsOne : {S B C : Type 0} → Service S B C → ℕ → Chain → Objects Obj → Objects Obj → List ℕ → ℕ → ℕ → Heard → Heard → Type 0
-BeginsOne {S} {B} {C} s kind c old new bytes now rec before after =
-    (b : B) → s.asked bytes ≡ Some b → IsReady (own_graph c old) c.top.0 kind → DoesAsk s kind (own_graph c new) c.top.0 b now rec before after
-
--- What a datagram or a time does to two, for each transfer that may be under way, and what the outside is told.
-abbrev pub CallsTwo : Chain → Objects Obj → Objects Obj → (ℕ → Port) → Way → ℕ → Call → Heard → Heard → Type 0
-CallsTwo c old new at by rec call before after =
-    (t : ObjId) → c.below ≡ Some t → IsDownloading (own_graph c old) c.top.0 t.0
-    → DoesCall (own_graph c old) (own_graph c new) c.top.0 t.0 (at t.0) by rec call before after
-
--- What a message does to one that asks by itself, for each exchange that may be under way, and what the outside is told.
-abbrev pub HearsOne : Chain → Objects Obj → Objects Obj → Said → ℕ → Heard → Heard → Type 0
-HearsOne c old new m now before after =
-    c.below ≡ None → (ns : List Notice) × Given before after ns × ReceiveAllBy (only c.top.0) (own_graph c old) (own_graph c new) c.top.0 m now ns
-
--- the same of a time
-abbrev pub TicksOne : Chain → Objects Obj → Objects Obj → ℕ → Heard → Heard → Type 0
-TicksOne c old new now before after =
-    c.below ≡ None → (ns : List Notice) × Given before after ns × TickAllBy (only c.top.0) (own_graph c old) (own_graph c new) c.top.0 now ns
-
--- The user closes the open.
-abbrev pub ClosesTwo : Chain → Objects Obj → Objects Obj → Cause → Heard → Heard → Type 0
-ClosesTwo c old new cause before after =
-    (t : ObjId) → c.below ≡ Some t → AreGoing (own_graph c old) c.top.0 t.0
-    → HasEnded (own_graph c new) c.top.0 t.0 None × Given before after (closed_notices c.top.0 t.0 cause)
-
-abbrev pub ClosesSole : Chain → Objects Obj → Objects Obj → Cause → Heard → Heard → Type 0
-ClosesSole c old new cause before after =
-    c.below ≡ None → IsOpenLone (own_graph c old) c.top.0 → IsShutLone (own_graph c new) c.top.0 × Given before after (alone_closed c.top.0 cause)
 
 -- Nothing was asked of x: it lives by its one hold, and all its ports are open.
 pub record IsFresh (g : Objects Obj) (x at_rank mark : ℕ) : Type 0 where
@@ -141,7 +97,7 @@ IsReadyChain Name c g = (c.below ≡ None) × IsReady (own_graph c g) c.top.0 5
 IsReadyChain Lease c g = (c.below ≡ None) × IsReady (own_graph c g) c.top.0 6
 IsReadyChain Echo c g = (c.below ≡ None) × IsReady (own_graph c g) c.top.0 7
 
--- what the outside is told where the top object is made, and where the others are
+-- what the outside is given where the top object is made, and where the others are
 abbrev pub waits_notices : ChainKind → ℕ → List Notice
 waits_notices kind x = alone_made x (top_number kind)
 
@@ -166,7 +122,7 @@ IsShutBy (Some t) x g = AreShut g x t.0
 abbrev pub IsShutChain : Chain → Objects Obj → Type 0
 IsShutChain c g = IsShutBy c.below c.top.0 (own_graph c g)
 
--- what the outside is told where they are let go
+-- what the outside is given where they are let go
 abbrev pub released_by : ℕ → Option ObjId → List Notice
 released_by x None = alone_freed x
 released_by x (Some t) = freed_notices x t.0

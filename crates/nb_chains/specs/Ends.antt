@@ -1,21 +1,19 @@
 -- The end of a run: all ports of a chain's objects are closed, by rising serial and slot, and its objects are let go as
 -- they were made. Our own.
-use Rattle.std.specs.Prelude.{◌≡◌, ◌<◌, ◌≤◌, ℕ, true, List, [], ◌∷◌, Some, None}
+use Rattle.std.specs.Prelude.{◌≡◌, ◌<◌, ◌≤◌, ℕ, true, List, [], ◌∷◌}
 use Rattle.nb_ledger.specs.declared.event.GraphEvent.TheVariants.{Closed}
-use Rattle.nb_ledger.specs.declared.port.ObjId.{ObjId}
 use Rattle.nb_ledger.specs.declared.port.PortState.TheVariants.{Open}
-use Rattle.nb_ledger.specs.Flat.{Given, Heard, Notice}
+use Rattle.nb_ledger.specs.Flat.{Heard, Notice}
 use Rattle.nb_ledger.specs.GraphRun.{link_count}
 use Rattle.nb_ledger.specs.Ledger.{holds, object_lives, port}
 use Rattle.nb_graph.specs.Whole.{Objects, port_at}
+use Rattle.nb_frames.specs.Frames.{is_one_of}
+use Rattle.nb_frames.specs.Within.{IsEventWithin}
 use Rattle.nb_nodes.specs.declared.obj.Obj.{Obj}
-use Rattle.nb_opens.specs.AloneNotices.{alone_shut}
-use Rattle.nb_opens.specs.Alones.{IsOpenLone}
-use Rattle.nb_opens.specs.Notices.{shut_notices, tells}
-use Rattle.nb_opens.specs.Pairs.{AreGoing}
+use Rattle.nb_opens.specs.Notices.{tells}
 use Rattle.nb_terms.specs.declared.cause.Cause.{Cause}
-use Rattle.nb_chains.specs.declared.chain.Chain.{Chain}
-use Rattle.nb_chains.specs.Chains.{IsReleased, StandsForSome, own_graph}
+use Rattle.nb_chains.specs.Chains.{GoesOn, StandsForSome}
+use Rattle.nb_chains.specs.Giving.{CallGives}
 
 -- x lives by its one hold, without a link
 pub record LivesUnlinked (g : Objects Obj) (x : ℕ) : Type 0 where
@@ -35,24 +33,17 @@ pub record AreUnlinked (g : Objects Obj) (f t : ℕ) : Type 0 where
 abbrev pub HasFreeSlots : Objects Obj → ℕ → Type 0
 HasFreeSlots g x = (port g.book x 2 ≡ Open) × (port g.book x 3 ≡ Open)
 
--- what the outside is told where they are closed
+-- what the outside is given where they are closed
 abbrev pub free_slot_notices : ℕ → Cause → List Notice
 free_slot_notices x c = tells (Closed (port_at x 2) c) ∷ tells (Closed (port_at x 3) c) ∷ []
 
 -- They were closed: a slot of x that had no link has none, and all ports of the others are as they were.
-pub record ClosesFreeSlots (g h : Objects Obj) (before after : Heard) (x : ℕ) (c : Cause) : Type 0 where
+pub record ClosesFreeSlots (ids : List ℕ) (g h : Objects Obj) (before after : Heard) (x : ℕ) (c : Cause) : Type 0 where
   pub unlinked : (k : ℕ) → link_count (port g.book x k) ≡ 0 → link_count (port h.book x k) ≡ 0
   pub others : (y k : ℕ) → (y ≡ x → ⊥) → port h.book y k ≡ port g.book y k
-  pub told : Given before after (free_slot_notices x c)
+  pub gives : CallGives (IsEventWithin (is_one_of ids)) g h before after (free_slot_notices x c)
 
--- The end of a run, where two were made or a transfer is under way: the ports of the top one are closed, and so those of
--- the other that are plugged, then the ports that nothing is plugged to, and both are let go.
-abbrev pub ShutsTwo : Chain → Objects Obj → Objects Obj → Cause → Heard → Heard → Type 0
-ShutsTwo c old new cause before after =
-    (t : ObjId) → c.below ≡ Some t → AreGoing (own_graph c old) c.top.0 t.0
-    → IsReleased c old new × Given before after (shut_notices c.top.0 t.0 cause)
-
--- the same of one alone whose ports are open
-abbrev pub ShutsSole : Chain → Objects Obj → Objects Obj → Cause → Heard → Heard → Type 0
-ShutsSole c old new cause before after =
-    c.below ≡ None → IsOpenLone (own_graph c old) c.top.0 → IsReleased c old new × Given before after (alone_shut c.top.0 cause)
+-- So they are of one of a chain's objects, which goes on.
+pub record FreesSlots (ids : List ℕ) (g h : Objects Obj) (before after : Heard) (x : ℕ) (c : Cause) : Type 0 where
+  pub on : GoesOn ids g h
+  pub free : HasFreeSlots g x → ClosesFreeSlots ids g h before after x c

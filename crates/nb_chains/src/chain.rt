@@ -1,26 +1,18 @@
 ghost use Rattle.std.specs.Prelude.{◌≡◌, ◌+◌, ◌<◌, ◌≤◌, ◌^◌, ◌++◌, ◌∷◌, [], ℕ, List, Option, Some, true, length};
-ghost use Rattle.nb_chains.specs.Chains.{AreChained, BeginsOne, BeginsTwo, CallsTwo, ClosesSole, ClosesTwo};
-ghost use Rattle.nb_chains.specs.Chains.{GoesOn, HearsOne, IsReleased, IsShutChain, TicksOne, chain_ids, last_serial};
-ghost use Rattle.nb_chains.specs.Chains.{own_graph, released_notices, source_for};
-ghost use Rattle.nb_chains.specs.Ends.{AreUnlinked, ClosesFreeSlots, HasFreeSlots, ShutsSole, ShutsTwo};
+ghost use Rattle.nb_chains.specs.Calls.{BeginsChain, ClosesChain, IsOpenChain, ReceivesChain, ReleasesChain, ShutsChain, TicksChain};
+ghost use Rattle.nb_chains.specs.Chains.{AreChained, GoesOn, IsShutChain, chain_ids, last_serial, own_graph, source_for};
+ghost use Rattle.nb_chains.specs.Ends.{AreUnlinked, FreesSlots};
 ghost use Rattle.nb_frames.specs.Frames.{is_one_of};
 ghost use Rattle.nb_graph.specs.Deeds.{Wants};
 ghost use Rattle.nb_graph.specs.Went.{WentOne};
-ghost use Rattle.nb_ledger.specs.Flat.{Given};
+ghost use Rattle.nb_graph.specs.Whole.{port_at};
 ghost use Rattle.nb_ledger.specs.Ledger.{holds, object_lives};
 ghost use Rattle.nb_ledger.specs.declared.event.GraphEvent.TheVariants.{LetGo};
+ghost use Rattle.nb_ledger.specs.declared.port.ObjId.{ObjId as TheObjId};
 ghost use Rattle.nb_nodes.specs.Objects.{obj_nature};
 ghost use Rattle.nb_nodes.specs.Standing.{ObjStands};
-ghost use Rattle.nb_opens.specs.Notices.{freed_notices};
+ghost use Rattle.nb_opens.specs.Alones.{arrival_said};
 ghost use Rattle.nb_opens.specs.Pairs.{HasEnded, body_in};
-ghost use Rattle.nb_ledger.specs.declared.port.ObjId.{ObjId as TheObjId};
-ghost use Rattle.nb_graph.specs.Whole.{port_at};
-ghost use Rattle.nb_ledger.specs.declared.event.Way.TheVariants as way;
-ghost use Rattle.nb_nodes.specs.EchoExchanges.{ping_service};
-ghost use Rattle.nb_nodes.specs.LeaseExchanges.{lease_service};
-ghost use Rattle.nb_nodes.specs.LookupExchanges.{lookup_service};
-ghost use Rattle.nb_opens.specs.Alones.{alone_number, arrival_said};
-ghost use Rattle.nb_opens.specs.declared.alone.AloneKind.TheVariants as kind;
 ghost use Rattle.nb_tftp.specs.History.{came, ticked};
 ghost use Rattle.nb_tftp.specs.Received.{received};
 
@@ -53,14 +45,8 @@ impl Chain {
         requires chained { AreChained graph.old (chain_ids self) }
         requires short { length first.now + length second.now < 2 ^ 32 }
         ensures on { GoesOn (chain_ids self) graph.old graph.new }
-        ensures file { BeginsTwo self graph.old graph.new (first.now ++ second.now) now rec (O.events out.old)
+        ensures begins { BeginsChain self graph.old graph.new (first.now ++ second.now) now rec (O.events out.old)
             (O.events out.new) }
-        ensures lookup { BeginsOne lookup_service (alone_number kind.Resolver) self graph.old graph.new
-            (first.now ++ second.now) now rec (O.events out.old) (O.events out.new) }
-        ensures lease { BeginsOne lease_service (alone_number kind.Dhcp) self graph.old graph.new
-            (first.now ++ second.now) now rec (O.events out.old) (O.events out.new) }
-        ensures ping { BeginsOne ping_service (alone_number kind.Ping) self graph.old graph.new
-            (first.now ++ second.now) now rec (O.events out.old) (O.events out.new) }
     {
         let msg = Msg {
             tag: u8::from(Tag::Begin),
@@ -87,10 +73,9 @@ impl Chain {
         requires chained { AreChained graph.old (chain_ids self) }
         requires short { length arrival.now.body.now ≤ 65535 }
         ensures on { GoesOn (chain_ids self) graph.old graph.new }
-        ensures file { CallsTwo self graph.old graph.new (λ t. port_at t 1) way.Up rec
-            (came (received rec arrival.now.port arrival.now.body.now) now) (O.events out.old) (O.events out.new) }
-        ensures one { HearsOne self graph.old graph.new (arrival_said rec arrival.now) now (O.events out.old)
-            (O.events out.new) }
+        ensures receives { ReceivesChain self graph.old graph.new rec
+            (came (received rec arrival.now.port arrival.now.body.now) now) (arrival_said rec arrival.now) now
+            (O.events out.old) (O.events out.new) }
     {
         let msg = Msg {
             tag: u8::from(Tag::Datagram),
@@ -109,9 +94,7 @@ impl Chain {
     pub fn time<O: Outside>(self, graph: &mut Graph<Obj>, now: u64, out: &mut O)
         requires { AreChained graph.old (chain_ids self) }
         ensures on { GoesOn (chain_ids self) graph.old graph.new }
-        ensures file { CallsTwo self graph.old graph.new (λ t. port_at t 4) way.Time 0 (ticked now) (O.events out.old)
-            (O.events out.new) }
-        ensures one { TicksOne self graph.old graph.new now (O.events out.old) (O.events out.new) }
+        ensures ticks { TicksChain self graph.old graph.new (ticked now) now (O.events out.old) (O.events out.new) }
     {
         graph.has_nodes();
         let _reach = graph.time(self.last(), now, out);
@@ -122,8 +105,7 @@ impl Chain {
     pub fn close<O: Outside>(self, graph: &mut Graph<Obj>, cause: &Cause, now: u64, out: &mut O)
         requires { AreChained graph.old (chain_ids self) }
         ensures on { GoesOn (chain_ids self) graph.old graph.new }
-        ensures file { ClosesTwo self graph.old graph.new cause.now (O.events out.old) (O.events out.new) }
-        ensures one { ClosesSole self graph.old graph.new cause.now (O.events out.old) (O.events out.new) }
+        ensures closes { ClosesChain self graph.old graph.new cause.now (O.events out.old) (O.events out.new) }
     {
         graph.has_nodes();
         graph.close(self.user(), cause, now, out);
@@ -154,8 +136,7 @@ impl Chain {
     pub fn release<O: Outside>(self, graph: &mut Graph<Obj>, out: &mut O)
         requires chained { AreChained graph.old (chain_ids self) }
         requires shut { IsShutChain self graph.old }
-        ensures released { IsReleased self graph.old graph.new }
-        ensures told { Given (O.events out.old) (O.events out.new) (released_notices self) }
+        ensures { ReleasesChain self graph.old graph.new (O.events out.old) (O.events out.new) }
     {
         graph.has_nodes();
         match self.below {
@@ -168,8 +149,8 @@ impl Chain {
     /// nothing is plugged to, and its objects are let go as they were made.
     pub fn shut_down<O: Outside>(self, graph: &mut Graph<Obj>, cause: &Cause, now: u64, out: &mut O)
         requires { AreChained graph.old (chain_ids self) }
-        ensures file { ShutsTwo self graph.old graph.new cause.now (O.events out.old) (O.events out.new) }
-        ensures one { ShutsSole self graph.old graph.new cause.now (O.events out.old) (O.events out.new) }
+        ensures { IsOpenChain self graph.old → ShutsChain self graph.old graph.new cause.now (O.events out.old)
+            (O.events out.new) }
     {
         self.close(graph, cause, now, out);
         graph.has_nodes();
@@ -213,7 +194,7 @@ impl Chain {
         }
     }
 
-    /// The address that the last object is told of a message: a Tftp needs none, as its server's is known.
+    /// The address that the last object gets with a message: a Tftp needs none, as its server's is known.
     fn source_for(self, source: Ip4) -> u32
         ensures { result ≡ source_for self.below source.0 }
     {
@@ -237,9 +218,8 @@ fn body_in(load: Option<Load>) -> Option<Body>
 
 /// Closes the two slots of an object that nothing is plugged to.
 fn close_free<O: Outside>(graph: &mut Graph<Obj>, id: ObjId, cause: &Cause, now: u64, out: &mut O)
-    ensures on { (ids : List ℕ) → AreChained graph.old ids → is_one_of ids id.0 ≡ true → GoesOn ids graph.old graph.new }
-    ensures free { HasFreeSlots graph.old id.0 → ClosesFreeSlots graph.old graph.new (O.events out.old) (O.events out.new)
-        id.0 cause.now }
+    ensures { (ids : List ℕ) → AreChained graph.old ids → is_one_of ids id.0 ≡ true
+        → FreesSlots ids graph.old graph.new (O.events out.old) (O.events out.new) id.0 cause.now }
 {
     graph.has_nodes();
     let first = Port { obj: id, slot: 2 };
@@ -253,8 +233,8 @@ fn close_free<O: Outside>(graph: &mut Graph<Obj>, id: ObjId, cause: &Cause, now:
 /// Lets two objects go that have no link.
 fn let_both_go<O: Outside>(graph: &mut Graph<Obj>, top: ObjId, below: ObjId, out: &mut O)
     ensures { AreUnlinked graph.old top.0 below.0
-        → IsReleased (record { top = top; below = Some below }) graph.old graph.new
-        × Given (O.events out.old) (O.events out.new) (freed_notices top.0 below.0) }
+        → ReleasesChain (record { top = top; below = Some below }) graph.old graph.new (O.events out.old)
+        (O.events out.new) }
 {
     let_go(graph, top, out);
     let_go(graph, below, out);

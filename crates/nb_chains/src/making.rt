@@ -2,13 +2,13 @@
 
 ghost use Rattle.std.specs.Prelude.{◌≡◌, ◌+◌, ◌-◌, ◌<◌, ◌≤◌, ◌^◌, ◌++◌, ℕ, [], ◌∷◌, IfOk, OnErr, Option, Some, length};
 ghost use Rattle.nb_chains.specs.Chains.{Awaits, GrowsBy, IsFresh, IsReadyChain, completes_notices, own_graph, waits_notices};
+ghost use Rattle.nb_chains.specs.Giving.{MakingGives};
 ghost use Rattle.nb_chains.specs.Kinds.{IsLowerOf, count_below, top_mark, top_number, top_rank};
 ghost use Rattle.nb_graph.specs.Deeds.{MustMake, MustPlug, Wants};
 ghost use Rattle.nb_graph.specs.Went.{WentOne};
 ghost use Rattle.nb_graph.specs.Whole.{IsMade};
 ghost use Rattle.nb_ledger.specs.declared.event.GraphEvent.TheVariants.{Held};
 ghost use Rattle.nb_ledger.specs.declared.port.PortState.TheVariants as state;
-ghost use Rattle.nb_ledger.specs.Flat.{Given};
 ghost use Rattle.nb_ledger.specs.Ledger.{port, rank};
 ghost use Rattle.nb_nodes.specs.Objects.{kind_of_obj, mark_of_obj, obj_nature, rank_of_obj};
 ghost use Rattle.nb_nodes.specs.Standing.{ObjStands};
@@ -35,7 +35,8 @@ impl Chain {
         ensures serial { IfOk result (λ c. c.top.0 ≡ graph.old.book.made + 1) }
         ensures waits { IfOk result (λ c. Awaits kind c graph.new) }
         ensures grows { IfOk result (λ c. GrowsBy 1 c graph.old graph.new) }
-        ensures told { IfOk result (λ c. Given (O.events out.old) (O.events out.new) (waits_notices kind c.top.0)) }
+        ensures gives { IfOk result (λ c. MakingGives c graph.old graph.new (O.events out.old) (O.events out.new)
+            (waits_notices kind c.top.0)) }
         ensures failed { OnErr result ((graph.new ≡ graph.old) × (out.new ≡ out.old)) }
     {
         let node = top_node(alloc, kind)?;
@@ -56,7 +57,8 @@ impl Chain {
         ensures top { IfOk result (λ c. c.top ≡ self.top) }
         ensures ready { IfOk result (λ c. IsReadyChain kind c graph.new) }
         ensures grows { IfOk result (λ c. GrowsBy (count_below kind) c graph.old graph.new) }
-        ensures told { IfOk result (λ c. Given (O.events out.old) (O.events out.new) (completes_notices kind c)) }
+        ensures gives { IfOk result (λ c. MakingGives c graph.old graph.new (O.events out.old) (O.events out.new)
+            (completes_notices kind c)) }
         ensures failed { OnErr result ((graph.new ≡ graph.old) × (out.new ≡ out.old)) }
     {
         let lower = lower_node(alloc, kind)?;
@@ -75,7 +77,7 @@ impl Chain {
         ensures top { IfOk result (λ c. c.top.0 ≡ graph.old.book.made + 1) }
         ensures ready { IfOk result (λ c. IsReadyChain kind c graph.new) }
         ensures grows { IfOk result (λ c. GrowsBy (1 + count_below kind) c graph.old graph.new) }
-        ensures told { IfOk result (λ c. Given (O.events out.old) (O.events out.new)
+        ensures gives { IfOk result (λ c. MakingGives c graph.old graph.new (O.events out.old) (O.events out.new)
             (waits_notices kind c.top.0 ++ completes_notices kind c)) }
         ensures failed { OnErr result ((graph.new ≡ graph.old) × (out.new ≡ out.old)) }
     {
@@ -100,7 +102,8 @@ impl Chain {
         ensures top { result.top ≡ self.top }
         ensures ready { IsReadyChain kind result graph.new }
         ensures grows { GrowsBy (count_below kind) result graph.old graph.new }
-        ensures told { Given (O.events out.old) (O.events out.new) (completes_notices kind result) }
+        ensures gives { MakingGives result graph.old graph.new (O.events out.old) (O.events out.new)
+            (completes_notices kind result) }
     {
         match lower {
             None => {
@@ -122,7 +125,7 @@ impl Chain {
         ensures below { result.below ≡ Some (serial (graph.old.book.made + 1)) }
         ensures made { AreMade (own_graph result graph.new) result.top.0 (graph.old.book.made + 1) }
         ensures grows { GrowsBy 1 result graph.old graph.new }
-        ensures told { Given (O.events out.old) (O.events out.new)
+        ensures gives { MakingGives result graph.old graph.new (O.events out.old) (O.events out.new)
             (completed_notices self.top.0 (graph.old.book.made + 1)) }
     {
         let tftp = make_object(graph, node, out);
@@ -154,7 +157,8 @@ fn top_with<O: Outside>(graph: &mut Graph<Obj>, kind: ChainKind, node: Obj, out:
     ensures serial { result.top.0 ≡ graph.old.book.made + 1 }
     ensures waits { Awaits kind result graph.new }
     ensures grows { GrowsBy 1 result graph.old graph.new }
-    ensures told { Given (O.events out.old) (O.events out.new) (waits_notices kind result.top.0) }
+    ensures gives { MakingGives result graph.old graph.new (O.events out.old) (O.events out.new)
+        (waits_notices kind result.top.0) }
 {
     let top = make_object(graph, node, out);
     Chain { top, below: None }

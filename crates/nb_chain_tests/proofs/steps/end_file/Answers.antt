@@ -3,7 +3,7 @@ use Rattle.nb_chain_tests.proofs.BesideLemmas.{stay_beside, shut_then, other_sta
 use Rattle.nb_chain_tests.proofs.steps.end_file.Goals as goal
 
 pub release-requires-clause-shut : goal.release-requires-clause-shut
-release-requires-clause-shut c = shut_then c.args.graph.now c.close.new.graph c.args.chain c.args.cause.now unknown unknown c.requires.ready c.close.ensures.file
+release-requires-clause-shut c = shut_then c.args.graph.now c.close.new.graph c.args.chain c.args.cause.now unknown unknown c.requires.ready c.close.ensures.closes
 
 pub returns : goal.returns
 returns c =

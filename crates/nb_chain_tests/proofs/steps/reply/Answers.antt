@@ -1,4 +1,4 @@
-use Rattle.nb_chain_tests.proofs.BesideLemmas.{stay_beside, stay_back, stay_ready}
+use Rattle.nb_chain_tests.proofs.BesideLemmas.{stay_beside, stay_back}
 use Rattle.nb_chain_tests.proofs.steps.reply.Goals as goal
 
 pub returns-clause-so : goal.returns-clause-so

@@ -1,4 +1,4 @@
-use Rattle.nb_chains.proofs.ChainsMade.{top_awaits, top_grows, top_told}
+use Rattle.nb_chains.proofs.ChainsMade.{top_awaits, top_grows, top_gives}
 use Rattle.nb_chains.proofs.making.top_with.Goals as goal
 
 pub returns-clause-waits : goal.returns-clause-waits
@@ -11,7 +11,7 @@ returns-clause-grows g c =
     top_grows c.args.graph.now c.make_object-top.new.graph (g.O.Outside.events c.args.out.now) (g.O.Outside.events c.make_object-top.new.out) c.args.kind c.make_object-top.result c.args.node
     c.requires.stands c.make_object-top.ensures.made (c.make_object-top.ensures.went 0)
 
-pub returns-clause-told : goal.returns-clause-told
-returns-clause-told g c =
-    top_told c.args.graph.now c.make_object-top.new.graph (g.O.Outside.events c.args.out.now) (g.O.Outside.events c.make_object-top.new.out) c.args.kind c.make_object-top.result c.args.node
+pub returns-clause-gives : goal.returns-clause-gives
+returns-clause-gives g c =
+    top_gives c.args.graph.now c.make_object-top.new.graph (g.O.Outside.events c.args.out.now) (g.O.Outside.events c.make_object-top.new.out) c.args.kind c.make_object-top.result c.args.node
     c.requires.stands c.make_object-top.ensures.made (c.make_object-top.ensures.went 0) c.requires.number

@@ -1,4 +1,4 @@
-use Rattle.nb_chains.proofs.ChainDoes.{close_on, closes_two, closes_sole}
+use Rattle.nb_chains.proofs.ChainCloses.{close_on, closes_chain}
 use Rattle.nb_chains.proofs.chain.Chain.close.Goals as goal
 
 pub returns-clause-on : goal.returns-clause-on
@@ -6,12 +6,7 @@ returns-clause-on g c =
     close_on c.args.self c.args.graph.now c.close.new.self c.close-2.new.self (g.O.Outside.events c.args.out.now) (g.O.Outside.events c.close.new.out) (g.O.Outside.events c.close-2.new.out) c.args.now c.args.cause.now
     c.requires c.has_nodes.ensures c.has_nodes-2.ensures c.has_nodes-3.ensures (rw c.user.ensures at c.close.ensures.went) c.close-2.ensures.went
 
-pub returns-clause-file : goal.returns-clause-file
-returns-clause-file g c =
-    closes_two c.args.self c.args.graph.now c.close.new.self c.close-2.new.self (g.O.Outside.events c.args.out.now) (g.O.Outside.events c.close.new.out) (g.O.Outside.events c.close-2.new.out) c.args.now c.args.cause.now
-    c.requires c.has_nodes.ensures c.has_nodes-2.ensures c.has_nodes-3.ensures (rw c.user.ensures at c.close.ensures.went) c.close-2.ensures.went
-
-pub returns-clause-one : goal.returns-clause-one
-returns-clause-one g c =
-    closes_sole c.args.self c.args.graph.now c.close.new.self c.close-2.new.self (g.O.Outside.events c.args.out.now) (g.O.Outside.events c.close.new.out) (g.O.Outside.events c.close-2.new.out) c.args.now c.args.cause.now
+pub returns-clause-closes : goal.returns-clause-closes
+returns-clause-closes g c =
+    closes_chain c.args.self c.args.graph.now c.close.new.self c.close-2.new.self (g.O.Outside.events c.args.out.now) (g.O.Outside.events c.close.new.out) (g.O.Outside.events c.close-2.new.out) c.args.now c.args.cause.now
     c.requires c.has_nodes.ensures c.has_nodes-2.ensures c.has_nodes-3.ensures (rw c.user.ensures at c.close.ensures.went) c.close-2.ensures.went

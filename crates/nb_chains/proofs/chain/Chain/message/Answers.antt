@@ -1,6 +1,6 @@
 use Rattle.std.proofs.Common.{arith}
 use Rattle.std.proofs.lemmas.List.{append-nil}
-use Rattle.nb_chains.proofs.ChainDoes.{message_on, hears_two, hears_one}
+use Rattle.nb_chains.proofs.ChainReceives.{message_on, receives_chain}
 use Rattle.nb_chains.proofs.chain.Chain.message.Goals as goal
 
 pub returns-clause-on : goal.returns-clause-on
@@ -8,12 +8,9 @@ returns-clause-on g c =
     (message_on c.args.self c.args.graph.now c.up-reach.new.self (g.O.Outside.events c.args.out.now) (g.O.Outside.events c.up-reach.new.out) c.args.now c.requires.chained c.has_nodes.ensures c.has_nodes-2.ensures
     c.args.rec c.args.arrival.now.port c.args.arrival.now.source.0 c.args.arrival.now.body.now (rw (c.network.ensures, c.source_for.ensures, c.from.ensures, c.from-2.ensures, append-nil) at c.up-reach.ensures.went)).on
 
-pub returns-clause-file : goal.returns-clause-file
-returns-clause-file g c =
-    hears_two c.args.self c.args.graph.now c.up-reach.new.self (g.O.Outside.events c.args.out.now) (g.O.Outside.events c.up-reach.new.out) c.args.now c.requires.chained c.has_nodes.ensures c.has_nodes-2.ensures
-    c.args.rec c.args.arrival.now.port c.args.arrival.now.source.0 c.args.arrival.now.body.now (omega (arith, c.type_inv.arrival)) (omega (arith, c.requires.short)) (rw (c.network.ensures, c.source_for.ensures, c.from.ensures, c.from-2.ensures, append-nil) at c.up-reach.ensures.went)
-
-pub returns-clause-one : goal.returns-clause-one
-returns-clause-one g c =
-    hears_one c.args.self c.args.graph.now c.up-reach.new.self (g.O.Outside.events c.args.out.now) (g.O.Outside.events c.up-reach.new.out) c.args.now c.requires.chained c.has_nodes.ensures c.has_nodes-2.ensures
-    c.args.rec c.args.arrival.now.port c.args.arrival.now.source.0 c.args.arrival.now.body.now (omega (arith, c.requires.short)) (rw (c.network.ensures, c.source_for.ensures, c.from.ensures, c.from-2.ensures, append-nil) at c.up-reach.ensures.went)
+pub returns-clause-receives : goal.returns-clause-receives
+returns-clause-receives g c =
+    receives_chain c.args.self c.args.graph.now c.up-reach.new.self (g.O.Outside.events c.args.out.now) (g.O.Outside.events c.up-reach.new.out) c.args.now
+    c.args.rec c.args.arrival.now.port c.args.arrival.now.source.0 c.args.arrival.now.body.now (omega (arith, c.type_inv.arrival)) (omega (arith, c.requires.short))
+    (message_on c.args.self c.args.graph.now c.up-reach.new.self (g.O.Outside.events c.args.out.now) (g.O.Outside.events c.up-reach.new.out) c.args.now c.requires.chained c.has_nodes.ensures c.has_nodes-2.ensures
+    c.args.rec c.args.arrival.now.port c.args.arrival.now.source.0 c.args.arrival.now.body.now (rw (c.network.ensures, c.source_for.ensures, c.from.ensures, c.from-2.ensures, append-nil) at c.up-reach.ensures.went))

@@ -1,9 +1,10 @@
 use Rattle.std.proofs.Common.{Some, ℕ, subst}
-use Rattle.nb_ledger.specs.Flat.{Given}
 use Rattle.nb_opens.specs.Notices.{completed_notices}
 use Rattle.nb_opens.specs.Pairs.{AreMade}
+use Rattle.nb_chains.specs.declared.chain.Chain.{Chain}
 use Rattle.nb_chains.specs.Chains.{own_graph}
-use Rattle.nb_chains.proofs.ChainsMade.{ranks_fall, upper_open, lower_open, two_ready, two_grow, two_told}
+use Rattle.nb_chains.specs.Giving.{MakingGives}
+use Rattle.nb_chains.proofs.ChainsMade.{ranks_fall, upper_open, lower_open, two_ready, two_give, two_grow}
 use Rattle.nb_chains.proofs.chain.Chain.plug_below.Goals as goal
 
 pub plug-requires-clause-ranks : goal.plug-requires-clause-ranks
@@ -34,8 +35,9 @@ returns-clause-grows g c =
     two_grow c.args.graph.now c.make_object-tftp.new.graph (g.O.Outside.events c.args.out.now) (g.O.Outside.events c.make_object-tftp.new.out) c.args.self.top.0 c.make_object-tftp.result c.args.node
     c.requires.fresh c.requires.stands c.requires.tftp c.make_object-tftp.ensures.made (c.make_object-tftp.ensures.went 0) c.plug.new.graph (g.O.Outside.events c.plug.new.out) (c.plug.ensures 0)
 
-pub returns-clause-told : goal.returns-clause-told
-returns-clause-told g c =
-    subst (λ (z : ℕ). Given (g.O.Outside.events c.args.out.now) (g.O.Outside.events c.plug.new.out) (completed_notices c.args.self.top.0 z)) c.make_object-tftp.ensures.made.serial
-    (two_told c.args.graph.now c.make_object-tftp.new.graph (g.O.Outside.events c.args.out.now) (g.O.Outside.events c.make_object-tftp.new.out) c.args.self.top.0 c.make_object-tftp.result c.args.node
+pub returns-clause-gives : goal.returns-clause-gives
+returns-clause-gives g c =
+    let chain : Chain = record { top = c.args.self.top; below = Some c.make_object-tftp.result } in
+    subst (λ (z : ℕ). MakingGives chain c.args.graph.now c.plug.new.graph (g.O.Outside.events c.args.out.now) (g.O.Outside.events c.plug.new.out) (completed_notices c.args.self.top.0 z)) c.make_object-tftp.ensures.made.serial
+    (two_give c.args.graph.now c.make_object-tftp.new.graph (g.O.Outside.events c.args.out.now) (g.O.Outside.events c.make_object-tftp.new.out) c.args.self.top.0 c.make_object-tftp.result c.args.node
     c.requires.fresh c.requires.stands c.requires.tftp c.make_object-tftp.ensures.made (c.make_object-tftp.ensures.went 0) c.plug.new.graph (g.O.Outside.events c.plug.new.out) (c.plug.ensures 0))
