@@ -13,7 +13,7 @@ use Rattle.nb_traced.specs.Pieces.{AreGone, AreInner, IsApart, IsCallOn, IsMakin
 
 -- a message or a time entered the lowest object of this open from outside, in the step of this number
 pub record Arrived : Type 0 where
-  pub open : ℕ
+  pub whose : ℕ
   pub way : Way
   pub number : ℕ
 
@@ -28,7 +28,7 @@ last_step outs = fold step_by 0 outs
 
 abbrev pub arrived : List Out → ℕ → Option Way → List Arrived
 arrived outs k None = []
-arrived outs k (Some way) = record { open = k; way = way; number = last_step outs } ∷ []
+arrived outs k (Some way) = record { whose = k; way = way; number = last_step outs } ∷ []
 
 -- no object that lives was made later
 abbrev pub IsNewest : GraphState → ℕ → Type 0
