@@ -15,19 +15,20 @@ pub record Kin : Type 0 where
   pub number : ℕ
   pub pieces : List Piece
 
--- The state to which a legal run has led; the objects of the opens that live; and those that wait for their open, in the order in which
--- they were made.
+-- The state to which a legal run has led; the objects of the opens that live; those that wait for their open, in the order in which
+-- they were made; and the least number that the next open may have.
 pub record Holdings : Type 0 where
   pub state : GraphState
   pub living : List Kin
   pub waits : List Piece
+  pub begun : ℕ
 
 -- no object was made yet
 abbrev pub no_state : GraphState
 no_state = record { made = 0; live = λ _. false; holds = λ _. 0; port = λ _ _. Closed; stack = [] }
 
 abbrev pub no_holdings : Holdings
-no_holdings = record { state = no_state; living = []; waits = [] }
+no_holdings = record { state = no_state; living = []; waits = []; begun = 0 }
 
 abbrev pub serials : List Piece → List ℕ
 serials ps = map (λ p. p.serial) ps

@@ -1,5 +1,5 @@
 -- In which order the records of the graph stand among the others in an output, for opens of any kind and any number of them that live. Our own.
-use Rattle.std.specs.Prelude.{◌≡◌, ◌<◌, ◌≤◌, ℕ, Bool, List, [], ◌∷◌, ◌++◌, fold, Option, Some, None}
+use Rattle.std.specs.Prelude.{◌≡◌, ◌≤◌, ◌+◌, ℕ, Bool, List, [], ◌∷◌, ◌++◌, fold, Option, Some, None}
 use Rattle.std.specs.List.{AllByRecursion}
 use Rattle.nb_terms.specs.declared.cause.Cause.{Cause}
 use Rattle.nb_defs.specs.Records.{Out, step, sent, command, opened, ended}
@@ -39,10 +39,10 @@ own_serials o = serials o.pieces
 
 -- a call on the objects of this open
 abbrev pub CallsOpen : Kin → Option Way → List Out → GraphState → GraphState → Type 0
-CallsOpen o by records s t = IsCallOn (own_serials o) (lowest_of (own_serials o)) by records s t
+CallsOpen o by records s t = IsCallOn o.number (own_serials o) (lowest_of (own_serials o)) by records s t
 
 abbrev pub ShutsOpen : Kin → List Piece → List Out → GraphState → GraphState → Type 0
-ShutsOpen o waits records s t = IsCallOn (own_serials o ++ serials waits) (lowest_of (own_serials o)) None records s t
+ShutsOpen o waits records s t = IsCallOn o.number (own_serials o ++ serials waits) (lowest_of (own_serials o)) None records s t
 
 -- The output has led the graph here, and these came to the opens from outside, each with its way, in this order.
 pub data Traced : List Out → Holdings → List Arrived → Type 0 where
@@ -58,10 +58,11 @@ pub data Traced : List Out → Holdings → List Arrived → Type 0 where
   -- objects are made and plugged, and wait for their open
   makes : (outs : List Out) (h : Holdings) (came : List Arrived) (es : List GraphEvent) (s : GraphState) → Traced outs h came → AllByRecursion IsMaking es → GraphRunOf h.state es s →
       Traced (outs ++ event_records es) (record h { state = s; waits = h.waits ++ pieces_made es }) came
-  -- an open begins: its objects, as its kind has them, were made for it, each plugged to the next, and the lowest is the newest of all
+  -- an open begins: its objects, as its kind has them, were made for it, each plugged to the next, and the lowest is the newest of all; no earlier
+  -- open had its number or a greater one
   opens : (outs : List Out) (h : Holdings) (came : List Arrived) (first : List Piece) (o : Kin) (kind server port own : ℕ) (target : List ℕ) → Traced outs h came → h.waits ≡ first ++ o.pieces →
-      kinds o.pieces ≡ objects_for kind → (o.pieces ≡ [] → ⊥) → AreJoined h.state (own_serials o) → IsNewest h.state (lowest_of (own_serials o)) → AllByRecursion (λ earlier. earlier.number < o.number) h.living →
-      Traced (outs ++ (opened o.number kind server port own target ∷ [])) (record h { living = h.living ++ o ∷ []; waits = first }) came
+      kinds o.pieces ≡ objects_for kind → (o.pieces ≡ [] → ⊥) → AreJoined h.state (own_serials o) → IsNewest h.state (lowest_of (own_serials o)) → h.begun ≤ o.number →
+      Traced (outs ++ (opened o.number kind server port own target ∷ [])) (record h { living = h.living ++ o ∷ []; waits = first; begun = o.number + 1 }) came
   -- a call on the objects of an open that goes on: no port of theirs is closed
   calls : (outs added : List Out) (h : Holdings) (came : List Arrived) (before after : List Kin) (o : Kin) (way : Option Way) (s : GraphState) → Traced outs h came → h.living ≡ before ++ o ∷ after →
       CallsOpen o way added h.state s → first_close_of (own_serials o) added ≡ None →
@@ -73,8 +74,8 @@ pub data Traced : List Out → Holdings → List Arrived → Type 0 where
   -- the run ends with an open beside which objects wait: all are gone
   ends_with_all : (outs added : List Out) (h : Holdings) (came : List Arrived) (before after : List Kin) (o : Kin) (s : GraphState) (cause : Cause) → Traced outs h came → h.living ≡ before ++ o ∷ after →
       ShutsOpen o h.waits added h.state s → first_close_of (own_serials o) added ≡ Some cause → AreGone (own_serials o ++ serials h.waits) s →
-      Traced (outs ++ (added ++ (ended o.number cause ∷ []))) (record { state = s; living = before ++ after; waits = [] }) came
-  -- no open comes of what waits: it is gone
+      Traced (outs ++ (added ++ (ended o.number cause ∷ []))) (record { state = s; living = before ++ after; waits = []; begun = h.begun }) came
+  -- no open comes of what waits: it is gone, and no entry runs
   gives_up : (outs : List Out) (h : Holdings) (came : List Arrived) (es : List GraphEvent) (s : GraphState) → Traced outs h came → GraphRunOf h.state es s →
-      AllByRecursion (IsEventWithin (is_one_of (serials h.waits))) es → ((x : ℕ) → AreInner x es) → AreGone (serials h.waits) s →
+      AllByRecursion (IsEventWithin (is_one_of (serials h.waits))) es → ((x : ℕ) → AreInner x es) → AreGone (serials h.waits) s → s.stack ≡ [] →
       Traced (outs ++ event_records es) (record h { state = s; waits = [] }) came

@@ -19,21 +19,21 @@ use Rattle.nb_traced.specs.Holdings.{Piece, lowest_of}
 abbrev pub event_records : List GraphEvent → List Out
 event_records es = map (λ e. graph (flat e)) es
 
--- a message of an open that leaves, its count of tries, or the place to which it has come
-abbrev pub IsOfOpen : Out → Type 0
-IsOfOpen (sent bytes) = Unit {0}
-IsOfOpen (tried number count) = Unit {0}
-IsOfOpen (advanced number place) = Unit {0}
-IsOfOpen (graph happens) = ⊥
-IsOfOpen (opened number kind server port own target) = ⊥
-IsOfOpen (ended number cause) = ⊥
-IsOfOpen (step number) = ⊥
-IsOfOpen (text bytes) = ⊥
-IsOfOpen (command depth line place expanded words) = ⊥
-IsOfOpen (result cause) = ⊥
-IsOfOpen (script what depth cause) = ⊥
-IsOfOpen (part kind index offset bytes) = ⊥
-IsOfOpen (done status) = ⊥
+-- a message that leaves, the count of tries of the open of this number, or the place to which it has come
+abbrev pub IsOfOpen : ℕ → Out → Type 0
+IsOfOpen k (sent bytes) = Unit {0}
+IsOfOpen k (tried number count) = number ≡ k
+IsOfOpen k (advanced number place) = number ≡ k
+IsOfOpen k (graph happens) = ⊥
+IsOfOpen k (opened number kind server port own target) = ⊥
+IsOfOpen k (ended number cause) = ⊥
+IsOfOpen k (step number) = ⊥
+IsOfOpen k (text bytes) = ⊥
+IsOfOpen k (command depth line place expanded words) = ⊥
+IsOfOpen k (result cause) = ⊥
+IsOfOpen k (script what depth cause) = ⊥
+IsOfOpen k (part kind index offset bytes) = ⊥
+IsOfOpen k (done status) = ⊥
 
 -- a record of which an open's calls know nothing: neither the graph's, nor an open's, nor COMMAND
 abbrev pub IsApart : Out → Type 0
@@ -90,15 +90,17 @@ pub record EndsWithin (x : ℕ) (front : List GraphEvent) : Type 0 where
   pub all : front ≡ init ++ (Entered port way ∷ [])
   pub object : port.obj.0 ≡ x
 
--- A call on objects of which x is the lowest: these records lead the graph from one state to another.
-pub record IsCallOn (ids : List ℕ) (x : ℕ) (by : Option Way) (records : List Out) (s t : GraphState) : Type 0 where
+-- A call on objects of which x is the lowest, those of open k: these records lead the graph from one state to another.
+pub record IsCallOn (k : ℕ) (ids : List ℕ) (x : ℕ) (by : Option Way) (records : List Out) (s t : GraphState) : Type 0 where
   pub front : List GraphEvent
   pub puts : List Out
   pub back : List GraphEvent
   pub all : records ≡ event_records front ++ (puts ++ event_records back)
   pub run : GraphRunOf s (front ++ back) t
   pub within : AllByRecursion (IsEventWithin (is_one_of ids)) (front ++ back)
-  pub of_open : AllByRecursion IsOfOpen puts
+  pub of_open : AllByRecursion (IsOfOpen k) puts
+  -- no entry runs after it
+  pub rests : t.stack ≡ []
   pub begins : BeginsBy x by front
   pub inner : AreInner x back
   -- what it sends stands within an entry of x, as the innermost
