@@ -77,3 +77,7 @@ spells_puts k outs h = record { are = sym (puts_none k outs h) }
 
 pub spells_ended : (k : ℕ) (cause : _) → Spells [] (ended k cause ∷ [])
 spells_ended k cause = record { are = refl }
+
+pub all_zip : {A : Type 0} (P Q R : A → Type 0) (xs : List A) → ((x : A) → P x → Q x → R x) → AllByRecursion P xs → AllByRecursion Q xs → AllByRecursion R xs
+all_zip P Q R [] f a b = tt
+all_zip P Q R (x ∷ xs) f a b = (f x a.0 b.0, all_zip P Q R xs f a.1 b.1)

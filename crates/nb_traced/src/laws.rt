@@ -1,12 +1,59 @@
 //! Laws of outputs in which the graph is traced, each a function that does nothing.
 
-ghost use Rattle.std.specs.Prelude.{List};
+ghost use Rattle.std.specs.Prelude.{◌≡◌, List, [], ℕ, false};
 ghost use Rattle.nb_defs.specs.Records.{Out};
+ghost use Rattle.nb_traced.specs.Entries.{came_to, entries, IsOutside};
 ghost use Rattle.nb_traced.specs.Holdings.{Holdings};
+ghost use Rattle.nb_traced.specs.Openings.{CommandsLeaveNone, EndsAreTheirs, OpensHavePieces};
 ghost use Rattle.nb_traced.specs.Outputs.{Arrived, Traced};
+ghost use Rattle.nb_traced.specs.Places.{AdvancesStand, FramesStand, LowestAreOwn, LowestAreTheirs, TriesStand};
 ghost use Rattle.nb_traced.specs.Runs.{HasLedTo};
 
 /// The records of the graph are a legal run, which leads from where no object was made to the state of the holdings.
 pub fn graph_runs()
     ensures { (outs : List Out) (h : Holdings) (came : List Arrived) → Traced outs h came → HasLedTo outs h.state }
+{}
+
+/// Each OPEN has its objects: made for it, after the last COMMAND, each plugged to the next, and alive.
+pub fn opens_have_pieces()
+    ensures { (outs : List Out) (h : Holdings) (came : List Arrived) → Traced outs h came → OpensHavePieces outs }
+{}
+
+/// Each ENDED is the only one of its open, and has the cause of the first close of a port of the open's objects, which
+/// were freed.
+pub fn ends_are_theirs()
+    ensures { (outs : List Out) (h : Holdings) (came : List Arrived) → Traced outs h came → EndsAreTheirs outs }
+{}
+
+/// Where a command begins, each object that lives is one of an open that has begun and hasn't ended.
+pub fn commands_leave_none()
+    ensures { (outs : List Out) (h : Holdings) (came : List Arrived) → Traced outs h came → CommandsLeaveNone outs }
+{}
+
+/// Where no open lives and nothing waits, no object lives.
+pub fn none_is_left()
+    ensures { (outs : List Out) (h : Holdings) (came : List Arrived) → Traced outs h came → h.living ≡ [] → h.waits ≡ []
+        → (x : ℕ) → h.state.live x ≡ false }
+{}
+
+/// What the records say is an open's lowest object is the last of its objects, and no two opens have the same.
+pub fn lowest_are_theirs()
+    ensures theirs { (outs : List Out) (h : Holdings) (came : List Arrived) → Traced outs h came → LowestAreTheirs outs }
+    ensures own { (outs : List Out) (h : Holdings) (came : List Arrived) → Traced outs h came → LowestAreOwn outs }
+{}
+
+/// The entries of an open's lowest object from outside are what came to the open, in order, each in its step; none runs
+/// after them.
+pub fn entries_are_theirs()
+    ensures entered { (outs : List Out) (h : Holdings) (came : List Arrived) → Traced outs h came
+        → (k : ℕ) → entries k outs ≡ came_to k came }
+    ensures rests { (outs : List Out) (h : Holdings) (came : List Arrived) → Traced outs h came → IsOutside outs }
+{}
+
+/// Each FRAME stands within an entry of the lowest object of an open, or directly after a STEP where no entry runs; each TRY
+/// and each ADVANCE within an entry of the lowest object of its open.
+pub fn records_stand_within()
+    ensures frames { (outs : List Out) (h : Holdings) (came : List Arrived) → Traced outs h came → FramesStand outs }
+    ensures tries { (outs : List Out) (h : Holdings) (came : List Arrived) → Traced outs h came → TriesStand outs }
+    ensures advances { (outs : List Out) (h : Holdings) (came : List Arrived) → Traced outs h came → AdvancesStand outs }
 {}

@@ -1,8 +1,12 @@
 // In which order the records of the object graph stand among the others in a run's output, for opens of any kind and
 // any number of them that live: definitions, and laws of what such an output says. No code that runs. Begin with
-// specs/Holdings.antt, then specs/Outputs.antt.
+// specs/Holdings.antt, then specs/Outputs.antt; what follows from it stands in specs/Openings.antt and
+// specs/Places.antt.
 #![tactic(auto)]
 
 mod laws;
 
-pub use laws::graph_runs;
+pub use laws::{
+    commands_leave_none, ends_are_theirs, entries_are_theirs, graph_runs, lowest_are_theirs, none_is_left, opens_have_pieces,
+    records_stand_within,
+};
