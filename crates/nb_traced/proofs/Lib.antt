@@ -5,3 +5,5 @@ pub mod StateLemmas
 pub mod RecordLemmas
 pub mod Seeing
 pub mod Keeping
+pub mod Calling
+pub mod Rules

@@ -15,7 +15,7 @@ use Rattle.nb_traced.specs.Holdings.{Piece}
 use Rattle.nb_traced.specs.Pieces.{IsMaking, IsOfOpen, IsApart, event_records, made_by, pieces_made, close_cause, first_or, first_close_of}
 use Rattle.nb_traced.specs.Runs.{LeadsBy, event_in, events_in}
 use Rattle.nb_traced.specs.Openings.{IsCommand, HaveNoCommand, made_record, freed_record, WasMadeLast, WasFreed, IsNoEnd, GoesOn}
-use Rattle.nb_traced.proofs.EventLemmas.{all_append}
+use Rattle.nb_traced.proofs.EventLemmas.{all_append, Spells}
 use Rattle.nb_traced.proofs.StateLemmas.{live_by, step_changes}
 
 -- a record that says nothing of the graph, and neither begins nor ends an open
@@ -96,6 +96,18 @@ puts_no_command k (o ∷ outs) h = (put_no_command k o h.0, puts_no_command k ou
 pub events_no_command : (es : List GraphEvent) → HaveNoCommand (event_records es)
 events_no_command [] = tt
 events_no_command (e ∷ es) = ((λ c. c), events_no_command es)
+
+event_aside : (o : Out) → IsAside o → event_in o ≡ []
+event_aside (graph happens) h = absurd h
+event_aside (step number) h = refl
+event_aside _ h = refl
+
+events_aside : (outs : List Out) → AreAside outs → events_in outs ≡ []
+events_aside [] h = refl
+events_aside (o ∷ outs) h = ap (λ z. z ++ events_in outs) (event_aside o h.0) ∙ events_aside outs h.1
+
+pub spells_aside : (outs : List Out) → AreAside outs → Spells [] outs
+spells_aside outs h = record { are = sym (events_aside outs h) }
 
 -- CLOSES
 
