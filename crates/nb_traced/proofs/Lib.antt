@@ -7,3 +7,6 @@ pub mod Seeing
 pub mod Keeping
 pub mod Calling
 pub mod Rules
+pub mod Saying
+pub mod Following
+pub mod Entering

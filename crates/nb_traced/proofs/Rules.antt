@@ -24,7 +24,7 @@ use Rattle.nb_traced.proofs.Seeing.{Sees, first_is_newest, sees_none, sees_other
 use Rattle.nb_traced.proofs.Keeping.{Kept, Lives, Waits, HeldBy, held_first, held_last, held_without, AreNumbered, numbered_more, numbered_without, numbered_below, IsAnother, another_first, another_last, another_new, IsNumberedBelow, all_named_raised, goes_on_new, lowest_then, lives_on, Called, IsStranger, strangers_live, waits_on, ended_strangers, ended_waits}
 use Rattle.nb_traced.proofs.Calling.{asides_unopened, asides_named, events_unopened, events_named, sees_then, sees_aside, called, given_up}
 
-some_same : (x y : ℕ) → Some x ≡ Some y → x ≡ y
+pub some_same : (x y : ℕ) → Some x ≡ Some y → x ≡ y
 some_same x y e = cc
 
 pub none_some : (o : Option ℕ) (x : ℕ) → o ≡ None → o ≡ Some x → ⊥
@@ -347,7 +347,7 @@ kept_ends outs added h before after o by s cause a living call gone =
     kept_ended outs added h before after o s cause own h.waits a living c (λ x e. inl (b.this.owned x e)) (λ x e. e) gone
     (waits_on own outs added h.state s a.owner h.waits c (λ x mine free. none_some (a.owner x) o.number free (b.this.owned x mine)) a.waits) a.rising (λ x n e. e)
 
-waiting_free : (outs : List Out) (h : Holdings) → (a : Kept outs h) → (x : ℕ) → is_one_of (serials h.waits) x ≡ true → a.owner x ≡ None
+pub waiting_free : (outs : List Out) (h : Holdings) → (a : Kept outs h) → (x : ℕ) → is_one_of (serials h.waits) x ≡ true → a.owner x ≡ None
 waiting_free outs h a x e = at_serial (λ y. a.owner y ≡ None) h.waits (all_map (Waits outs h.state a.owner) (λ p. a.owner p.serial ≡ None) h.waits (λ p w. w.free) a.waits) x e
 
 kept_ends_all : (outs added : List Out) (h : Holdings) (before after : List Kin) (o : Kin) (s : GraphState) (cause : Cause) → Kept outs h → h.living ≡ before ++ o ∷ after → ShutsOpen o h.waits added h.state s →
