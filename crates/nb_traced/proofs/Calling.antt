@@ -1,19 +1,18 @@
 -- What a call on some objects adds to an output, by the records that it puts.
-use Rattle.std.proofs.Common.{◌≡◌, ◌⊎◌, inl, inr, ℕ, ◌<◌, Bool, true, false, List, [], ◌∷◌, ◌++◌, map, fold, Option, Some, None, refl, sym, ◌∙◌, ap, subst}
+use Rattle.std.proofs.Common.{◌≡◌, ℕ, Bool, true, false, List, [], ◌∷◌, ◌++◌, fold, Option, None, refl, sym, ◌∙◌, subst}
 use Rattle.std.specs.List.{AllByRecursion}
 use Rattle.std.proofs.lemmas.List.Sums.{fold-append}
-use Rattle.nb_defs.specs.Records.{Out, step, sent, text, command, result, script, opened, tried, advanced, ended, graph, part, done}
+use Rattle.nb_defs.specs.Records.{Out, step, opened, ended, graph}
 use Rattle.nb_ledger.specs.declared.event.Way.{Way}
 use Rattle.nb_ledger.specs.declared.event.GraphEvent.{GraphEvent}
 use Rattle.nb_ledger.specs.GraphRun.{GraphState, GraphRunOf}
 use Rattle.nb_frames.specs.Frames.{is_one_of}
 use Rattle.nb_frames.specs.Within.{IsEventWithin}
-use Rattle.nb_traced.specs.Pieces.{IsCallOn, IsOfOpen, event_records, first_close_of}
-use Rattle.nb_traced.specs.Openings.{IsCommand, HaveNoCommand, GoesOn}
+use Rattle.nb_traced.specs.Pieces.{IsCallOn, event_records, first_close_of}
 use Rattle.nb_traced.specs.LowestObjects.{GraphSoFar, graph_so_far, graph_by}
 use Rattle.nb_traced.proofs.EventLemmas.{all_append, all_first, all_last, all_map, spells_events}
 use Rattle.nb_traced.proofs.StateLemmas.{run_leaves}
-use Rattle.nb_traced.proofs.RecordLemmas.{IsAside, AreAside, puts_aside, puts_no_command, events_no_command, close_in_last, closes_aside, closes_other, goes_on_aside, goes_on_events, goes_on_then}
+use Rattle.nb_traced.proofs.RecordLemmas.{IsAside, AreAside, puts_aside, puts_no_command, events_no_command, close_in_last, closes_aside, closes_other, goes_on_aside, goes_on_events}
 use Rattle.nb_traced.proofs.Leading.{leads_by, call_leads}
 use Rattle.nb_traced.proofs.Seeing.{Sees, so_far_append, IsNoOpening, IsNotOfGraph, sees_run, sees_others}
 use Rattle.nb_traced.proofs.Keeping.{IsNumberedBelow, Called}
@@ -92,8 +91,8 @@ module _ (k x : ℕ) (ids : List ℕ) (by : Option Way) (outs added : List Out) 
       let b : Sees g r.mid = sees_run c.front (graph_so_far outs) s r.mid a r.first in
       let d : Sees (fold graph_by g c.puts) r.mid = sees_others c.puts g r.mid (asides_not_graph c.puts aside_puts) b in
       sees_then outs added t (subst (λ z. Sees (fold graph_by (graph_so_far outs) z) t) (sym c.all)
-        (subst (λ z. Sees z t) (sym (fold-append graph_by (graph_so_far outs) (event_records c.front) (c.puts ++ event_records c.back) ∙ fold-append graph_by g c.puts (event_records c.back)))
-        (sees_run c.back (fold graph_by g c.puts) r.mid t d r.last)))
+      (subst (λ z. Sees z t) (sym (fold-append graph_by (graph_so_far outs) (event_records c.front) (c.puts ++ event_records c.back) ∙ fold-append graph_by g c.puts (event_records c.back)))
+      (sees_run c.back (fold graph_by g c.puts) r.mid t d r.last)))
 
   pub called : Called (is_one_of ids) outs added s t
   called = record {

@@ -1,8 +1,7 @@
 -- The entries of an open's lowest object from outside are what came to the open.
-use Rattle.std.proofs.Common.{◌≡◌, ◌⊎◌, inl, inr, ℕ, ◌==◌, ◌&&◌, Bool, true, false, cond, List, [], ◌∷◌, ◌++◌, map, fold, Option, Some, None, refl, sym, ◌∙◌, ap, subst, append_assoc, append-nil, if◌then◌else◌}
+use Rattle.std.proofs.Common.{◌≡◌, ◌⊎◌, inl, inr, ℕ, ◌==◌, ◌&&◌, Bool, true, false, cond, List, [], ◌∷◌, ◌++◌, fold, Option, Some, None, refl, sym, ◌∙◌, ap, subst, append_assoc, append-nil, if◌then◌else◌}
 use Rattle.std.specs.List.{AllByRecursion}
 use Rattle.std.proofs.lemmas.Bool.{and_right, cases_eq, eq-eqb, ne_eqb, false≢true}
-use Rattle.std.proofs.lemmas.List.Sums.{fold-append}
 use Rattle.nb_defs.specs.Records.{Out, step, sent, command, opened, ended, graph}
 use Rattle.nb_ledger.specs.Flat.{flat, way_number}
 use Rattle.nb_ledger.specs.declared.port.Port.{Port}
@@ -13,16 +12,15 @@ use Rattle.nb_ledger.specs.declared.event.GraphEvent.TheVariants.{Made, Held, Le
 use Rattle.nb_ledger.specs.GraphRun.{GraphState}
 use Rattle.nb_frames.specs.Frames.{is_one_of}
 use Rattle.nb_frames.specs.Within.{IsEventWithin}
-use Rattle.nb_traced.specs.Holdings.{Holdings, Kin, lowest_of, serials}
+use Rattle.nb_traced.specs.Holdings.{Holdings, lowest_of, serials}
 use Rattle.nb_traced.specs.Pieces.{AreInner, BeginsBy, IsCallOn, IsInner, IsMaking, IsOutsideWay, event_records}
 use Rattle.nb_traced.specs.Outputs.{Arrived, Traced, arrived, last_step, own_serials, at_first, apart, replies, commands, makes, opens, calls, ends, ends_with_all, gives_up}
-use Rattle.nb_traced.specs.LowestObjects.{GraphSoFar, graph_so_far, graph_by, graph_moves, is_it, is_from_outside, no_graph}
+use Rattle.nb_traced.specs.LowestObjects.{GraphSoFar, graph_so_far, graph_by, graph_moves, is_it, no_graph}
 use Rattle.nb_traced.specs.Entries.{Arrival, came_to, entries, entries_from, entry_at, entry_in}
-use Rattle.nb_traced.proofs.EventLemmas.{all_append, all_each, all_first, all_last, all_map}
+use Rattle.nb_traced.proofs.EventLemmas.{all_each, all_first, all_last, all_map}
 use Rattle.nb_traced.proofs.Serials.{not_one, one_in_either}
 use Rattle.nb_traced.proofs.RecordLemmas.{aparts_aside, puts_aside}
 use Rattle.nb_traced.proofs.Seeing.{IsNotOfGraph, lowest_stays, number_is}
-use Rattle.nb_traced.proofs.Keeping.{Kept}
 use Rattle.nb_traced.proofs.Calling.{asides_not_graph, asides_unopened, events_unopened}
 use Rattle.nb_traced.proofs.Rules.{beside, kept, none_some, some_same, waiting_free}
 
@@ -152,7 +150,7 @@ module _ (k n x : ℕ) (ids : List ℕ) (by : Option Way) (outs added : List Out
   split =
       ap (entries_from k the_graph) c.all ∙ entries_append k the_graph (event_records c.front) (c.puts ++ event_records c.back)
       ∙ ap (λ z. entries_from k the_graph (event_records c.front) ++ z) (entries_append k at_puts c.puts (event_records c.back)
-        ∙ ap (λ z. z ++ entries_from k after_puts (event_records c.back)) (others_none k at_puts c.puts (asides_not_graph c.puts (puts_aside n c.puts c.of_open))))
+      ∙ ap (λ z. z ++ entries_from k after_puts (event_records c.back)) (others_none k at_puts c.puts (asides_not_graph c.puts (puts_aside n c.puts c.of_open))))
 
   lowest_same : after_puts.lowest k ≡ the_graph.lowest k
   lowest_same = lowest_stays k at_puts c.puts (asides_unopened k c.puts (puts_aside n c.puts c.of_open)) ∙ lowest_stays k the_graph (event_records c.front) (events_unopened k c.front)
@@ -232,14 +230,14 @@ entered _ _ _ (ends outs added h came before after o by s cause t living call cl
     let b = beside outs h before after o a living in
     more_entered k outs (added ++ (ended o.number cause ∷ [])) came (arrived outs o.number by) (entered outs h came t k)
     (before_end k (graph_so_far outs) added (ended o.number cause ∷ []) (came_to k (arrived outs o.number by))
-      (call_enters k o.number (lowest_of (own_serials o)) (own_serials o) by outs added h.state s call a.owner a.lowests b.this.lowest (λ y e. inl (b.this.owned y e))) (tt, tt))
+    (call_enters k o.number (lowest_of (own_serials o)) (own_serials o) by outs added h.state s call a.owner a.lowests b.this.lowest (λ y e. inl (b.this.owned y e))) (tt, tt))
 entered _ _ _ (ends_with_all outs added h came before after o s cause t living call closed gone) k =
     let a = kept outs h came t in
     let b = beside outs h before after o a living in
     none_entered k outs (added ++ (ended o.number cause ∷ [])) came (entered outs h came t k)
     (before_end k (graph_so_far outs) added (ended o.number cause ∷ []) []
-      (call_enters k o.number (lowest_of (own_serials o)) (own_serials o ++ serials h.waits) None outs added h.state s call a.owner a.lowests b.this.lowest (λ y e.
-        elim (one_in_either (own_serials o) (serials h.waits) y e) [ inl f ↦ inl (b.this.owned y f) | inr f ↦ inr (waiting_free outs h a y f) ])) (tt, tt))
+    (call_enters k o.number (lowest_of (own_serials o)) (own_serials o ++ serials h.waits) None outs added h.state s call a.owner a.lowests b.this.lowest (λ y e.
+    elim (one_in_either (own_serials o) (serials h.waits) y e) [ inl f ↦ inl (b.this.owned y f) | inr f ↦ inr (waiting_free outs h a y f) ])) (tt, tt))
 entered _ _ _ (gives_up outs h came es s t run within inner gone rests) k =
     none_entered k outs (event_records es) came (entered outs h came t k)
     (inners_none k ((graph_so_far outs).lowest k) (graph_so_far outs) es refl (inner_all ((graph_so_far outs).lowest k) es inner))

@@ -1,14 +1,13 @@
 -- What follows of an output from what each of its records says.
-use Rattle.std.proofs.Common.{◌≡◌, ◌⊎◌, inl, inr, ℕ, ◌==◌, Bool, true, false, List, [], ◌∷◌, ◌++◌, fold, Some, None, refl, sym, ◌∙◌, ap, subst, append_assoc, if◌then◌else◌}
+use Rattle.std.proofs.Common.{◌≡◌, inl, inr, ℕ, false, List, [], ◌∷◌, ◌++◌, refl, sym, ◌∙◌, ap, subst, if◌then◌else◌}
 use Rattle.std.specs.List.{AllByRecursion}
 use Rattle.std.proofs.lemmas.Bool.{cases_Bool, eq-eqb, false≢true}
-use Rattle.nb_terms.specs.declared.cause.Cause.{Cause}
-use Rattle.nb_defs.specs.Records.{Out, step, sent, text, command, result, script, opened, tried, advanced, ended, graph, part, done}
+use Rattle.nb_defs.specs.Records.{Out, step, sent, command, opened, tried, advanced, ended}
 use Rattle.nb_frames.specs.Frames.{is_one_of}
-use Rattle.nb_traced.specs.Holdings.{Holdings, Piece, lowest_of, serials}
+use Rattle.nb_traced.specs.Holdings.{Holdings, serials}
 use Rattle.nb_traced.specs.Outputs.{Arrived, Traced}
 use Rattle.nb_traced.specs.Openings.{OpensHavePieces, EndsAreTheirs, CommandsLeaveNone}
-use Rattle.nb_traced.specs.LowestObjects.{GraphSoFar, graph_so_far, graph_by, first_in}
+use Rattle.nb_traced.specs.LowestObjects.{graph_so_far, graph_by, first_in}
 use Rattle.nb_traced.specs.Entries.{IsOutside}
 use Rattle.nb_traced.specs.Places.{LowestAreTheirs, LowestAreOwn, FramesStand, TriesStand, AdvancesStand}
 use Rattle.nb_traced.proofs.EventLemmas.{all_first, all_last}
@@ -74,7 +73,9 @@ lowest_are_theirs outs h came t before after k kind server port own target is =
     let each : EachSays [] (before ++ (this ∷ after)) = subst (EachSays []) is (says outs h came t).each in
     let o : OpensSo before k kind = says_at [] before after this each in
     let there : AllByRecursion (IsNoOpening k) (before ++ this ∷ []) → ⊥ = λ none. (all_last (IsNoOpening k) before (this ∷ []) none).0 refl in
-    let later : AllByRecursion (IsNoOpening k) after = no_later (before ++ this ∷ []) k after (says_after before (this ∷ []) after (says_after [] before (this ∷ after) each)) there in
-    (o.pieces, o.has,
+    let later : AllByRecursion (IsNoOpening k) after = no_later (before ++ this ∷ []) k after (says_after before (this ∷ []) after (says_after [] before (this ∷ after) each)) there in (
+      o.pieces,
+      o.has,
       ap (λ z. (graph_so_far z).lowest k) is ∙ ap (λ g. g.lowest k) (so_far_append before (this ∷ after)) ∙ lowest_stays k (graph_by (graph_so_far before) this) after later
-      ∙ ap (λ b. if b then first_in (graph_so_far before).living else (graph_so_far before).lowest k) (eq-eqb k k refl) ∙ o.newest)
+          ∙ ap (λ b. if b then first_in (graph_so_far before).living else (graph_so_far before).lowest k) (eq-eqb k k refl) ∙ o.newest,
+    )

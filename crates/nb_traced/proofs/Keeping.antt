@@ -1,9 +1,9 @@
 -- What is so wherever an output is traced: whose each object is, which opens live, and what waits.
-use Rattle.std.proofs.Common.{◌≡◌, ◌⊎◌, inl, inr, ℕ, ◌+◌, ◌<◌, ◌≤◌, ◌==◌, Bool, true, false, List, [], ◌∷◌, ◌++◌, map, fold, Option, Some, None, refl, sym, ◌∙◌, ap, subst, append_assoc, append-nil, arith, if◌then◌else◌, lt_irrefl}
+use Rattle.std.proofs.Common.{◌≡◌, ◌⊎◌, inl, inr, ℕ, ◌+◌, ◌<◌, ◌≤◌, Bool, true, false, List, [], ◌∷◌, ◌++◌, Option, Some, None, refl, sym, ◌∙◌, ap, subst, append_assoc, arith, lt_irrefl}
 use Rattle.std.specs.List.{AllByRecursion}
-use Rattle.std.proofs.lemmas.Bool.{cases_eq, cases_Bool, eq-eqb, ne_eqb, false≢true, true≢false}
+use Rattle.std.proofs.lemmas.Bool.{cases_Bool, false≢true}
 use Rattle.nb_terms.specs.declared.cause.Cause.{Cause}
-use Rattle.nb_defs.specs.Records.{Out, step, sent, command, opened, ended, graph}
+use Rattle.nb_defs.specs.Records.{Out, step, opened, ended}
 use Rattle.nb_ledger.specs.GraphRun.{GraphState}
 use Rattle.nb_frames.specs.Frames.{is_one_of}
 use Rattle.nb_traced.specs.Holdings.{Holdings, Kin, Piece, lowest_of, serials}
@@ -11,7 +11,7 @@ use Rattle.nb_traced.specs.Pieces.{first_close_of}
 use Rattle.nb_traced.specs.Outputs.{own_serials}
 use Rattle.nb_traced.specs.Runs.{LeadsBy}
 use Rattle.nb_traced.specs.Openings.{HaveNoCommand, WasMadeLast, HasOpened, IsNoEnd, GoesOn}
-use Rattle.nb_traced.specs.LowestObjects.{graph_so_far, graph_by}
+use Rattle.nb_traced.specs.LowestObjects.{graph_so_far}
 use Rattle.nb_traced.proofs.EventLemmas.{all_append, all_first, all_last, all_map, all_zip}
 use Rattle.nb_traced.proofs.Serials.{AreRising, not_one}
 use Rattle.nb_traced.proofs.StateLemmas.{LeavesOthers}

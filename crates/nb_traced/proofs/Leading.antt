@@ -1,5 +1,5 @@
 -- Where the records of an output lead the graph.
-use Rattle.std.proofs.Common.{◌≡◌, ℕ, List, [], ◌∷◌, ◌++◌, map, Option, refl, sym, ◌∙◌, ap, subst, append_assoc, append-nil}
+use Rattle.std.proofs.Common.{ℕ, List, [], ◌∷◌, ◌++◌, map, Option, refl, sym, ◌∙◌, ap, subst, append_assoc}
 use Rattle.std.proofs.lemmas.List.{map-append}
 use Rattle.nb_terms.specs.declared.cause.Cause.{Cause}
 use Rattle.nb_defs.specs.Records.{Out, step, sent, command, opened, ended}
@@ -11,7 +11,7 @@ use Rattle.nb_ledger.proofs.RunLemmas.{Run-append}
 use Rattle.nb_traced.specs.Holdings.{Holdings, no_state}
 use Rattle.nb_traced.specs.Pieces.{IsCallOn, event_records}
 use Rattle.nb_traced.specs.Outputs.{Arrived, Traced, at_first, apart, replies, commands, makes, opens, calls, ends, ends_with_all, gives_up}
-use Rattle.nb_traced.specs.Runs.{LeadsBy, HasLedTo, event_in, events_in}
+use Rattle.nb_traced.specs.Runs.{LeadsBy, HasLedTo, events_in}
 use Rattle.nb_traced.proofs.EventLemmas.{Spells, spells_events, spells_append, spells_apart, spells_puts, events_append}
 
 pub leads_none : (s : GraphState) → LeadsBy s [] s

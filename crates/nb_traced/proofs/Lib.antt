@@ -10,3 +10,5 @@ pub mod Rules
 pub mod Saying
 pub mod Following
 pub mod Entering
+pub mod OneState
+pub mod OnePieces

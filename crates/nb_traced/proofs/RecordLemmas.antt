@@ -1,7 +1,7 @@
 -- Records that stand somewhere in an output: those by which objects are made and freed; closes, commands and ends among some records.
-use Rattle.std.proofs.Common.{◌≡◌, ◌⊎◌, inl, inr, ℕ, ◌+◌, ◌<◌, ◌≤◌, ◌==◌, Bool, true, false, List, [], ◌∷◌, ◌++◌, map, Option, Some, None, refl, sym, ◌∙◌, ap, subst, append_assoc, arith, if◌then◌else◌}
+use Rattle.std.proofs.Common.{◌≡◌, ◌⊎◌, inl, inr, ℕ, ◌==◌, Bool, true, false, List, [], ◌∷◌, ◌++◌, map, Option, Some, None, refl, sym, ◌∙◌, ap, subst, append_assoc, if◌then◌else◌}
 use Rattle.std.specs.List.{AllByRecursion}
-use Rattle.std.proofs.lemmas.Bool.{cases_eq, eq-eqb, ne_eqb, false≢true, true≢false}
+use Rattle.std.proofs.lemmas.Bool.{cases_eq, ne_eqb, false≢true}
 use Rattle.nb_terms.specs.declared.cause.Cause.{Cause}
 use Rattle.nb_terms.specs.declared.event.Event.{Event}
 use Rattle.nb_defs.specs.Records.{Out, step, sent, text, command, result, script, opened, tried, advanced, ended, graph, part, done}
@@ -14,7 +14,7 @@ use Rattle.nb_frames.specs.Frames.{is_one_of}
 use Rattle.nb_traced.specs.Holdings.{Piece}
 use Rattle.nb_traced.specs.Pieces.{IsMaking, IsOfOpen, IsApart, event_records, made_by, pieces_made, close_cause, first_or, first_close_of}
 use Rattle.nb_traced.specs.Runs.{LeadsBy, event_in, events_in}
-use Rattle.nb_traced.specs.Openings.{IsCommand, HaveNoCommand, made_record, freed_record, WasMadeLast, WasFreed, IsNoEnd, GoesOn}
+use Rattle.nb_traced.specs.Openings.{IsCommand, HaveNoCommand, made_record, WasMadeLast, WasFreed, IsNoEnd, GoesOn}
 use Rattle.nb_traced.proofs.EventLemmas.{all_append, Spells}
 use Rattle.nb_traced.proofs.StateLemmas.{live_by, step_changes}
 

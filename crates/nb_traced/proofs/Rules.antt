@@ -1,9 +1,9 @@
 -- What is so wherever an output is traced, rule by rule.
-use Rattle.std.proofs.Common.{◌≡◌, ◌⊎◌, inl, inr, ℕ, ◌+◌, ◌<◌, ◌≤◌, ◌==◌, Bool, true, false, List, [], ◌∷◌, ◌++◌, map, fold, Option, Some, None, refl, sym, ◌∙◌, ap, subst, append_assoc, append-nil, arith, if◌then◌else◌, lt_irrefl, le_refl}
+use Rattle.std.proofs.Common.{◌≡◌, ◌⊎◌, inl, inr, ℕ, ◌+◌, ◌<◌, ◌≤◌, ◌==◌, Bool, true, false, List, [], ◌∷◌, ◌++◌, Option, Some, None, refl, sym, ◌∙◌, ap, subst, append_assoc, arith, if◌then◌else◌, lt_irrefl, le_refl}
 use Rattle.std.specs.List.{AllByRecursion}
-use Rattle.std.proofs.lemmas.Bool.{cases_eq, cases_Bool, eq-eqb, ne_eqb, false≢true, true≢false}
+use Rattle.std.proofs.lemmas.Bool.{cases_eq, cases_Bool, eq-eqb, ne_eqb, false≢true}
 use Rattle.nb_terms.specs.declared.cause.Cause.{Cause}
-use Rattle.nb_defs.specs.Records.{Out, step, sent, command, opened, ended, graph}
+use Rattle.nb_defs.specs.Records.{Out, step, sent, command, opened, ended}
 use Rattle.nb_ledger.specs.declared.event.Way.{Way}
 use Rattle.nb_ledger.specs.declared.event.GraphEvent.{GraphEvent}
 use Rattle.nb_ledger.specs.GraphRun.{GraphState, GraphRunOf}
@@ -14,7 +14,7 @@ use Rattle.nb_traced.specs.Pieces.{AreGone, IsMaking, event_records, first_close
 use Rattle.nb_traced.specs.Outputs.{Arrived, CallsOpen, IsNewest, ShutsOpen, Traced, own_serials, at_first, apart, replies, commands, makes, opens, calls, ends, ends_with_all, gives_up}
 use Rattle.nb_traced.specs.Runs.{HasLedTo, LeadsBy}
 use Rattle.nb_traced.specs.Openings.{HaveNoCommand, HasPieces, WasMadeLast}
-use Rattle.nb_traced.specs.LowestObjects.{graph_so_far, graph_by, first_in, no_graph}
+use Rattle.nb_traced.specs.LowestObjects.{graph_so_far, first_in}
 use Rattle.nb_traced.proofs.EventLemmas.{all_append, all_first, all_last, all_map, all_zip, spells_events}
 use Rattle.nb_traced.proofs.Serials.{AreRising, at_serial, each_serial, lowest_in, not_one, one_in_either, one_in_first, one_in_last, rising_append, rising_first, rising_parts, serials_append}
 use Rattle.nb_traced.proofs.StateLemmas.{making}
@@ -156,6 +156,7 @@ module _ (outs : List Out) (h : Holdings) (first : List Piece) (o : Kin) (kind s
     led = led;
     joined = joined;
     lives = all_map (Waits outs h.state a.owner) (λ p. h.state.live p.serial ≡ true) o.pieces (λ p w. w.lives) own_wait;
+    newest = newest;
   }
 
   is_free : (x : ℕ) → is_one_of (own_serials o) x ≡ true → a.owner x ≡ None
@@ -282,9 +283,10 @@ kept_calls outs added h before after o by s a living call none =
       waits = waits_on own outs added h.state s a.owner h.waits c (λ x mine free. none_some (a.owner x) o.number free (b.this.owned x mine)) a.waits;
       rising = a.rising;
       opens = subst (AllByRecursion (Lives (outs ++ added) s a.owner)) (sym living) (all_append (Lives (outs ++ added) s a.owner) before (o ∷ after)
-          (strangers_live own outs added h.state s a.owner before c b.first (strangers o.number own a.owner before whose (another_first h.begun before after o b.numbers)))
-          (lives_on outs added h.state s a.owner o b.this c.leads none (c.goes_on o.number) (c.no_opening o.number),
-          strangers_live own outs added h.state s a.owner after c b.last (strangers o.number own a.owner after whose (another_last h.begun before after o b.numbers))));
+          (strangers_live own outs added h.state s a.owner before c b.first (strangers o.number own a.owner before whose (another_first h.begun before after o b.numbers))) (
+            lives_on outs added h.state s a.owner o b.this c.leads none (c.goes_on o.number) (c.no_opening o.number),
+            strangers_live own outs added h.state s a.owner after c b.last (strangers o.number own a.owner after whose (another_last h.begun before after o b.numbers)),
+          ));
       numbers = a.numbers;
       named = all_append (IsNumberedBelow h.begun) outs added a.named (c.named h.begun);
       held = λ x lives. elim (cases_Bool (own x)) [

@@ -1,5 +1,5 @@
 -- What each record of a traced output says of those before it.
-use Rattle.std.proofs.Common.{◌≡◌, ◌⊎◌, inl, inr, ℕ, ◌+◌, ◌<◌, ◌≤◌, ◌==◌, Bool, true, false, List, [], ◌∷◌, ◌++◌, map, fold, Option, Some, None, refl, sym, ◌∙◌, ap, subst, append_assoc, append-nil, arith, if◌then◌else◌}
+use Rattle.std.proofs.Common.{◌≡◌, ◌⊎◌, inl, inr, ℕ, true, List, [], ◌∷◌, ◌++◌, Option, Some, None, refl, sym, ◌∙◌, ap, subst, append_assoc, append-nil}
 use Rattle.std.specs.List.{AllByRecursion}
 use Rattle.std.proofs.lemmas.Bool.{false≢true}
 use Rattle.nb_terms.specs.declared.cause.Cause.{Cause}
@@ -9,21 +9,20 @@ use Rattle.nb_ledger.specs.declared.port.Port.{Port}
 use Rattle.nb_ledger.specs.declared.event.Way.{Way}
 use Rattle.nb_ledger.specs.declared.event.GraphEvent.{GraphEvent}
 use Rattle.nb_ledger.specs.declared.event.GraphEvent.TheVariants.{Entered}
-use Rattle.nb_ledger.specs.GraphRun.{GraphState, GraphRunOf}
+use Rattle.nb_ledger.specs.GraphRun.{GraphState}
 use Rattle.nb_frames.specs.Frames.{is_one_of}
 use Rattle.nb_traced.specs.Holdings.{Holdings, Kin, Piece, lowest_of, serials}
 use Rattle.nb_traced.specs.Pieces.{AreGone, EndsWithin, IsApart, IsCallOn, IsOfOpen, event_records, first_close_of}
-use Rattle.nb_traced.specs.Outputs.{Arrived, CallsOpen, Traced, own_serials, at_first, apart, replies, commands, makes, opens, calls, ends, ends_with_all, gives_up}
+use Rattle.nb_traced.specs.Outputs.{Arrived, Traced, own_serials, at_first, apart, replies, commands, makes, opens, calls, ends, ends_with_all, gives_up}
 use Rattle.nb_traced.specs.Runs.{HasLedTo, LeadsBy}
-use Rattle.nb_traced.specs.Openings.{HasOpened, HasPieces, EndsAs, WasFreed, IsOfLiving, LeavesNone}
+use Rattle.nb_traced.specs.Openings.{HasPieces, EndsAs, WasFreed, IsOfLiving, LeavesNone}
 use Rattle.nb_traced.specs.LowestObjects.{GraphSoFar, graph_so_far, graph_by, first_in}
-use Rattle.nb_traced.specs.Entries.{IsWithin}
 use Rattle.nb_traced.specs.Places.{FrameStands, IsWithinOpen, by_open, by_step}
-use Rattle.nb_traced.proofs.EventLemmas.{all_append, event_records_append}
+use Rattle.nb_traced.proofs.EventLemmas.{event_records_append}
 use Rattle.nb_traced.proofs.Serials.{at_serial, each_serial, one_in_first}
 use Rattle.nb_traced.proofs.StateLemmas.{runners}
 use Rattle.nb_traced.proofs.RecordLemmas.{close_in_last, goes_on_then, was_freed}
-use Rattle.nb_traced.proofs.Leading.{has_led, leads_then, call_leads}
+use Rattle.nb_traced.proofs.Leading.{has_led, leads_then}
 use Rattle.nb_traced.proofs.Seeing.{IsNoOpening, so_far_append}
 use Rattle.nb_traced.proofs.Keeping.{Kept, Lives, HeldBy, lowest_then, opened_then, unopened_new, Called}
 use Rattle.nb_traced.proofs.Calling.{called, events_unopened}
@@ -230,12 +229,17 @@ says _ _ _ (makes outs h came es s t w run) = each_append (says outs h came t) (
 says _ _ _ (opens outs h came first o kind server port own target t waits are some joined newest later) =
     let a = kept outs h came t in
     let led = has_led outs h came t in
-    each_append (says outs h came t) (record { each = (record {
-      pieces = o.pieces;
-      has = has_pieces outs h first o kind server port own target a led waits are some joined newest later;
-      newest = newest_is outs h first o kind server port own target a led waits are some joined newest later;
-      fresh = unopened_new h.begun o.number outs later a.named;
-    }, tt) })
+    each_append (says outs h came t) (record {
+      each = (
+        record {
+          pieces = o.pieces;
+          has = has_pieces outs h first o kind server port own target a led waits are some joined newest later;
+          newest = newest_is outs h first o kind server port own target a led waits are some joined newest later;
+          fresh = unopened_new h.begun o.number outs later a.named;
+        },
+        tt,
+      );
+    })
 says _ _ _ (calls outs added h came before after o by s t living call none) =
     let a = kept outs h came t in
     let b = beside outs h before after o a living in
@@ -245,12 +249,12 @@ says _ _ _ (ends outs added h came before after o by s cause t living call close
     let b = beside outs h before after o a living in
     let d = called o.number (lowest_of (own_serials o)) (own_serials o) by outs added h.state s call in
     each_append (says outs h came t) (each_append (call_says outs h.state a.owner o b.this (own_serials o) by added h.state s call)
-      (record { each = (ends_as outs h.state a.owner o b.this (own_serials o) by added h.state s call cause refl closed gone d, tt) }))
+    (record { each = (ends_as outs h.state a.owner o b.this (own_serials o) by added h.state s call cause refl closed gone d, tt) }))
 says _ _ _ (ends_with_all outs added h came before after o s cause t living call closed gone) =
     let a = kept outs h came t in
     let b = beside outs h before after o a living in
     let ids : List ℕ = own_serials o ++ serials h.waits in
     let d = called o.number (lowest_of (own_serials o)) ids None outs added h.state s call in
     each_append (says outs h came t) (each_append (call_says outs h.state a.owner o b.this ids None added h.state s call)
-      (record { each = (ends_as outs h.state a.owner o b.this ids None added h.state s call cause refl closed (λ x e. gone x (one_in_first (own_serials o) (serials h.waits) x e)) d, tt) }))
+    (record { each = (ends_as outs h.state a.owner o b.this ids None added h.state s call cause refl closed (λ x e. gone x (one_in_first (own_serials o) (serials h.waits) x e)) d, tt) }))
 says _ _ _ (gives_up outs h came es s t run within inner gone rests) = each_append (says outs h came t) (each_events es)

@@ -1,9 +1,8 @@
 -- What the records alone say of the graph, and the state to which they have led it.
-use Rattle.std.proofs.Common.{◌≡◌, ◌⊎◌, inl, inr, ℕ, ◌+◌, ◌<◌, ◌≤◌, ◌==◌, ◌||◌, Bool, true, false, not, cond, List, [], ◌∷◌, ◌++◌, map, filter, fold, Option, Some, None, refl, sym, ◌∙◌, ap, subst, arith, if◌then◌else◌, lt_irrefl, le_refl}
+use Rattle.std.proofs.Common.{◌≡◌, inl, inr, ℕ, ◌+◌, ◌<◌, ◌≤◌, ◌==◌, ◌||◌, Bool, true, false, not, cond, List, [], ◌∷◌, ◌++◌, filter, fold, Some, refl, sym, ◌∙◌, ap, subst, arith, if◌then◌else◌, lt_irrefl}
 use Rattle.std.specs.List.{AllByRecursion}
-use Rattle.std.proofs.lemmas.Bool.{cases_eq, cases_Bool, eq-eqb, eqb-true, ne_eqb, false≢true, true≢false}
+use Rattle.std.proofs.lemmas.Bool.{cases_eq, eq-eqb, eqb-true, ne_eqb, false≢true}
 use Rattle.std.proofs.lemmas.List.Sums.{fold-append}
-use Rattle.nb_terms.specs.declared.event.Event.{Event as GraphRecord}
 use Rattle.nb_defs.specs.Records.{Out, step, sent, text, command, result, script, opened, tried, advanced, ended, graph, part, done}
 use Rattle.nb_ledger.specs.Flat.{flat}
 use Rattle.nb_ledger.specs.declared.port.Port.{Port}
@@ -15,8 +14,8 @@ use Rattle.nb_traced.specs.Holdings.{no_state}
 use Rattle.nb_traced.specs.Pieces.{event_records}
 use Rattle.nb_traced.specs.Outputs.{step_by, last_step}
 use Rattle.nb_traced.specs.LowestObjects.{GraphSoFar, no_graph, graph_by, graph_moves, graph_so_far, first_in, without_first}
-use Rattle.nb_traced.proofs.Serials.{one_first, one_later, one_cases}
-use Rattle.nb_traced.proofs.StateLemmas.{runners, live_by, made_after, runs_by, Changes, step_changes}
+use Rattle.nb_traced.proofs.Serials.{one_first, one_cases}
+use Rattle.nb_traced.proofs.StateLemmas.{runners, runs_by, step_changes}
 
 pub so_far_append : (xs ys : List Out) → graph_so_far (xs ++ ys) ≡ fold graph_by (graph_so_far xs) ys
 unfolding graph_so_far

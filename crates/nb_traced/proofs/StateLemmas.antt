@@ -1,7 +1,7 @@
 -- What events change of the state of the graph: which objects live, how many were made, and which entries run.
-use Rattle.std.proofs.Common.{◌≡◌, ◌⊎◌, inl, inr, ℕ, ◌+◌, ◌-◌, ◌<◌, ◌≤◌, ◌==◌, min, max, Bool, true, false, List, [], ◌∷◌, ◌++◌, map, refl, sym, ◌∙◌, ap, subst, arith, if◌then◌else◌, le_refl}
+use Rattle.std.proofs.Common.{◌≡◌, ◌⊎◌, inl, inr, ℕ, ◌+◌, ◌-◌, ◌<◌, ◌≤◌, ◌==◌, min, max, Bool, true, false, List, [], ◌∷◌, ◌++◌, refl, sym, ◌∙◌, ap, subst, arith, if◌then◌else◌, le_refl}
 use Rattle.std.specs.List.{AllByRecursion}
-use Rattle.std.proofs.lemmas.Bool.{cases_eq, eq-eqb, ne_eqb, false≢true, true≢false}
+use Rattle.std.proofs.lemmas.Bool.{cases_eq, eq-eqb, ne_eqb, false≢true}
 use Rattle.nb_ledger.specs.declared.port.Port.{Port}
 use Rattle.nb_ledger.specs.declared.port.PortState.TheVariants as port
 use Rattle.nb_terms.specs.declared.cause.Cause.{Cause}
@@ -12,7 +12,7 @@ use Rattle.nb_frames.specs.Within.{IsEventWithin}
 use Rattle.nb_frames.specs.Frames.{is_one_of}
 use Rattle.nb_traced.specs.Holdings.{Piece, serials}
 use Rattle.nb_traced.specs.Pieces.{IsMaking, made_by, pieces_made}
-use Rattle.nb_traced.proofs.Serials.{AreRising, one_first, one_later, one_cases, rising_append}
+use Rattle.nb_traced.proofs.Serials.{AreRising, one_first, one_later}
 
 -- the objects whose entries run, the innermost first
 abbrev pub runners : List OnStack → List ℕ

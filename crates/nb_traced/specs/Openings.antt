@@ -8,8 +8,9 @@ use Rattle.nb_ledger.specs.Flat.{flat}
 use Rattle.nb_ledger.specs.declared.event.GraphEvent.TheVariants.{Made, Freed}
 use Rattle.nb_ledger.specs.GraphRun.{GraphState}
 use Rattle.nb_frames.specs.Frames.{is_one_of}
-use Rattle.nb_traced.specs.Holdings.{Piece, AreJoined, kinds, objects_for, serials}
+use Rattle.nb_traced.specs.Holdings.{Piece, AreJoined, kinds, lowest_of, objects_for, serials}
 use Rattle.nb_traced.specs.Pieces.{first_close_of}
+use Rattle.nb_traced.specs.Outputs.{IsNewest}
 use Rattle.nb_traced.specs.Runs.{HasLedTo}
 
 abbrev pub IsCommand : Out → Type 0
@@ -38,7 +39,7 @@ pub record WasMadeLast (before : List Out) (p : Piece) : Type 0 where
   pub none : HaveNoCommand since
 
 -- The objects of an open of this kind that begins after these records: those that its kind has, each made for it, each plugged to the
--- next, and each alive.
+-- next, and each alive. No object that lives was made after the lowest.
 pub record HasPieces (before : List Out) (kind : ℕ) (pieces : List Piece) : Type 0 where
   pub of_kind : kinds pieces ≡ objects_for kind
   pub some : pieces ≡ [] → ⊥
@@ -47,6 +48,7 @@ pub record HasPieces (before : List Out) (kind : ℕ) (pieces : List Piece) : Ty
   pub led : HasLedTo before state
   pub joined : AreJoined state (serials pieces)
   pub lives : AllByRecursion (λ p. state.live p.serial ≡ true) pieces
+  pub newest : IsNewest state (lowest_of (serials pieces))
 
 -- each OPEN of an output has its objects
 abbrev pub OpensHavePieces : List Out → Type 0

@@ -13,7 +13,7 @@ use Rattle.nb_ledger.specs.declared.event.GraphEvent.TheVariants.{Made, Held, Le
 use Rattle.nb_ledger.specs.GraphRun.{GraphState, GraphRunOf}
 use Rattle.nb_frames.specs.Frames.{is_one_of}
 use Rattle.nb_frames.specs.Within.{IsEventWithin}
-use Rattle.nb_traced.specs.Holdings.{Piece, lowest_of}
+use Rattle.nb_traced.specs.Holdings.{Piece}
 
 -- the records of these events
 abbrev pub event_records : List GraphEvent → List Out

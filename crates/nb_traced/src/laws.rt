@@ -2,9 +2,10 @@
 
 ghost use Rattle.std.specs.Prelude.{◌≡◌, List, [], ℕ, false};
 ghost use Rattle.nb_defs.specs.Records.{Out};
+ghost use Rattle.nb_ledger.specs.GraphRun.{GraphState};
 ghost use Rattle.nb_traced.specs.Entries.{came_to, entries, IsOutside};
-ghost use Rattle.nb_traced.specs.Holdings.{Holdings};
-ghost use Rattle.nb_traced.specs.Openings.{CommandsLeaveNone, EndsAreTheirs, OpensHavePieces};
+ghost use Rattle.nb_traced.specs.Holdings.{Holdings, Piece};
+ghost use Rattle.nb_traced.specs.Openings.{CommandsLeaveNone, EndsAreTheirs, HasPieces, OpensHavePieces};
 ghost use Rattle.nb_traced.specs.Outputs.{Arrived, Traced};
 ghost use Rattle.nb_traced.specs.Places.{AdvancesStand, FramesStand, LowestAreOwn, LowestAreTheirs, TriesStand};
 ghost use Rattle.nb_traced.specs.Runs.{HasLedTo};
@@ -14,9 +15,20 @@ pub fn graph_runs()
     ensures { (outs : List Out) (h : Holdings) (came : List Arrived) → Traced outs h came → HasLedTo outs h.state }
 {}
 
+/// They lead to no other state.
+pub fn one_state()
+    ensures { (outs : List Out) (s t : GraphState) → HasLedTo outs s → HasLedTo outs t → s ≡ t }
+{}
+
 /// Each OPEN has its objects: made for it, after the last COMMAND, each plugged to the next, and alive.
 pub fn opens_have_pieces()
     ensures { (outs : List Out) (h : Holdings) (came : List Arrived) → Traced outs h came → OpensHavePieces outs }
+{}
+
+/// Which objects those are, the records leave open nowhere.
+pub fn pieces_are_one()
+    ensures { (before : List Out) (kind : ℕ) (some others : List Piece) → HasPieces before kind some
+        → HasPieces before kind others → some ≡ others }
 {}
 
 /// Each ENDED is the only one of its open, and has the cause of the first close of a port of the open's objects, which

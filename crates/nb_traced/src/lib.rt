@@ -7,6 +7,6 @@
 mod laws;
 
 pub use laws::{
-    commands_leave_none, ends_are_theirs, entries_are_theirs, graph_runs, lowest_are_theirs, none_is_left, opens_have_pieces,
-    records_stand_within,
+    commands_leave_none, ends_are_theirs, entries_are_theirs, graph_runs, lowest_are_theirs,
+    none_is_left, one_state, opens_have_pieces, pieces_are_one, records_stand_within,
 };
