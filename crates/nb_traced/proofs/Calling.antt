@@ -15,7 +15,8 @@ use Rattle.nb_traced.proofs.StateLemmas.{run_leaves}
 use Rattle.nb_traced.proofs.RecordLemmas.{IsAside, AreAside, puts_aside, puts_no_command, events_no_command, close_in_last, closes_aside, closes_other, goes_on_aside, goes_on_events}
 use Rattle.nb_traced.proofs.Leading.{leads_by, call_leads}
 use Rattle.nb_traced.proofs.Seeing.{Sees, so_far_append, IsNoOpening, IsNotOfGraph, sees_run, sees_others}
-use Rattle.nb_traced.proofs.Keeping.{IsNumberedBelow, Called}
+use Rattle.nb_traced.specs.Openings.{IsNumberedBelow}
+use Rattle.nb_traced.proofs.Keeping.{Called}
 
 -- RECORDS ASIDE, AND OF EVENTS
 

@@ -1,19 +1,19 @@
 -- What follows of an output from what each of its records says.
-use Rattle.std.proofs.Common.{◌≡◌, inl, inr, ℕ, false, List, [], ◌∷◌, ◌++◌, refl, sym, ◌∙◌, ap, subst, if◌then◌else◌}
+use Rattle.std.proofs.Common.{◌≡◌, inl, inr, ℕ, false, List, [], ◌∷◌, ◌++◌, refl, sym, ◌∙◌, ap, subst, if◌then◌else◌, le_refl}
 use Rattle.std.specs.List.{AllByRecursion}
 use Rattle.std.proofs.lemmas.Bool.{cases_Bool, eq-eqb, false≢true}
 use Rattle.nb_defs.specs.Records.{Out, step, sent, command, opened, tried, advanced, ended}
 use Rattle.nb_frames.specs.Frames.{is_one_of}
 use Rattle.nb_traced.specs.Holdings.{Holdings, serials}
 use Rattle.nb_traced.specs.Outputs.{Arrived, Traced}
-use Rattle.nb_traced.specs.Openings.{OpensHavePieces, EndsAreTheirs, CommandsLeaveNone}
+use Rattle.nb_traced.specs.Openings.{OpensHavePieces, EndsAreTheirs, CommandsLeaveNone, NumbersRise}
 use Rattle.nb_traced.specs.LowestObjects.{graph_so_far, graph_by, first_in}
 use Rattle.nb_traced.specs.Entries.{IsOutside}
 use Rattle.nb_traced.specs.Places.{LowestAreTheirs, LowestAreOwn, FramesStand, TriesStand, AdvancesStand}
 use Rattle.nb_traced.proofs.EventLemmas.{all_first, all_last}
 use Rattle.nb_traced.proofs.StateLemmas.{runners}
 use Rattle.nb_traced.proofs.Seeing.{IsNoOpening, lowest_stays, so_far_append}
-use Rattle.nb_traced.proofs.Keeping.{HeldBy}
+use Rattle.nb_traced.proofs.Keeping.{HeldBy, unopened_new}
 use Rattle.nb_traced.proofs.Rules.{kept, some_same}
 use Rattle.nb_traced.proofs.Saying.{EachSays, Says, OpensSo, says, says_at, says_after}
 
@@ -24,6 +24,11 @@ pub opens_have_pieces : (outs : List Out) (h : Holdings) (came : List Arrived) �
 opens_have_pieces outs h came t before after k kind server port own target is =
     let o : OpensSo before k kind = at outs h came t before after (opened k kind server port own target) is in
     (o.pieces, o.has)
+
+pub numbers_rise : (outs : List Out) (h : Holdings) (came : List Arrived) → Traced outs h came → NumbersRise outs
+numbers_rise outs h came t before after k kind server port own target is =
+    let o : OpensSo before k kind = at outs h came t before after (opened k kind server port own target) is in
+    o.rising
 
 pub ends_are_theirs : (outs : List Out) (h : Holdings) (came : List Arrived) → Traced outs h came → EndsAreTheirs outs
 ends_are_theirs outs h came t before after k cause is = at outs h came t before after (ended k cause) is
@@ -59,7 +64,7 @@ lowest_are_own outs h came t j k x a b = let e = (kept outs h came t).lowests in
 
 -- an open's OPEN stands once
 another_opening : (before : List Out) (k : ℕ) (o : Out) → Says before o → (AllByRecursion (IsNoOpening k) before → ⊥) → IsNoOpening k o
-another_opening before k (opened number kind server port own target) h there = λ e. there (subst (λ z. AllByRecursion (IsNoOpening z) before) e h.fresh)
+another_opening before k (opened number kind server port own target) h there = λ e. there (subst (λ z. AllByRecursion (IsNoOpening z) before) e (unopened_new number number before (le_refl number) h.rising))
 another_opening before k (step number) h there = tt
 another_opening before k _ h there = tt
 

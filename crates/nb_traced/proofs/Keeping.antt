@@ -10,7 +10,7 @@ use Rattle.nb_traced.specs.Holdings.{Holdings, Kin, Piece, lowest_of, serials}
 use Rattle.nb_traced.specs.Pieces.{first_close_of}
 use Rattle.nb_traced.specs.Outputs.{own_serials}
 use Rattle.nb_traced.specs.Runs.{LeadsBy}
-use Rattle.nb_traced.specs.Openings.{HaveNoCommand, WasMadeLast, HasOpened, IsNoEnd, GoesOn}
+use Rattle.nb_traced.specs.Openings.{HaveNoCommand, WasMadeLast, HasOpened, IsNoEnd, GoesOn, IsNumberedBelow}
 use Rattle.nb_traced.specs.LowestObjects.{graph_so_far}
 use Rattle.nb_traced.proofs.EventLemmas.{all_append, all_first, all_last, all_map, all_zip}
 use Rattle.nb_traced.proofs.Serials.{AreRising, not_one}
@@ -45,13 +45,6 @@ HeldBy x (o ∷ os) = (is_one_of (own_serials o) x ≡ true) ⊎ HeldBy x os
 abbrev pub AreNumbered : ℕ → List Kin → Type 0
 AreNumbered n [] = Unit {0}
 AreNumbered n (o ∷ os) = AllByRecursion (λ p. o.number < p.number) os × (o.number < n) × AreNumbered n os
-
--- if this record begins or ends an open, its number is below that
-abbrev pub IsNumberedBelow : ℕ → Out → Type 0
-IsNumberedBelow n (opened number kind server port own target) = number < n
-IsNumberedBelow n (ended number cause) = number < n
-IsNumberedBelow n (step number) = Unit {0}
-IsNumberedBelow n _ = Unit {0}
 
 pub record Kept (outs : List Out) (h : Holdings) : Type 0 where
   pub rests : h.state.stack ≡ []

@@ -12,3 +12,4 @@ pub mod Following
 pub mod Entering
 pub mod OneState
 pub mod OnePieces
+pub mod Worked

@@ -63,7 +63,7 @@ same_events es fs same = sym (are_events es) ∙ ap (map event_of) same ∙ are_
 
 -- WHAT THEY DO
 
-abbrev rest_of : List OnStack → List OnStack
+abbrev pub rest_of : List OnStack → List OnStack
 rest_of [] = []
 rest_of (x ∷ st) = st
 

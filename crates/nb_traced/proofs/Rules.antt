@@ -13,7 +13,7 @@ use Rattle.nb_traced.specs.Holdings.{Holdings, Kin, Piece, AreJoined, kinds, low
 use Rattle.nb_traced.specs.Pieces.{AreGone, IsMaking, event_records, first_close_of, pieces_made}
 use Rattle.nb_traced.specs.Outputs.{Arrived, CallsOpen, IsNewest, ShutsOpen, Traced, own_serials, at_first, apart, replies, commands, makes, opens, calls, ends, ends_with_all, gives_up}
 use Rattle.nb_traced.specs.Runs.{HasLedTo, LeadsBy}
-use Rattle.nb_traced.specs.Openings.{HaveNoCommand, HasPieces, WasMadeLast}
+use Rattle.nb_traced.specs.Openings.{HaveNoCommand, HasPieces, WasMadeLast, IsNumberedBelow}
 use Rattle.nb_traced.specs.LowestObjects.{graph_so_far, first_in}
 use Rattle.nb_traced.proofs.EventLemmas.{all_append, all_first, all_last, all_map, all_zip, spells_events}
 use Rattle.nb_traced.proofs.Serials.{AreRising, at_serial, each_serial, lowest_in, not_one, one_in_either, one_in_first, one_in_last, rising_append, rising_first, rising_parts, serials_append}
@@ -21,7 +21,7 @@ use Rattle.nb_traced.proofs.StateLemmas.{making}
 use Rattle.nb_traced.proofs.RecordLemmas.{AreAside, aparts_aside, aparts_no_command, all_made_last, closes_aside, closes_making, events_no_command, goes_on_aside, goes_on_events, goes_on_then, made_last_then, spells_aside}
 use Rattle.nb_traced.proofs.Leading.{has_led, leads_by, leads_none}
 use Rattle.nb_traced.proofs.Seeing.{Sees, first_is_newest, sees_none, sees_others, sees_run, so_far_append, IsNoOpening}
-use Rattle.nb_traced.proofs.Keeping.{Kept, Lives, Waits, HeldBy, held_first, held_last, held_without, AreNumbered, numbered_more, numbered_without, numbered_below, IsAnother, another_first, another_last, another_new, IsNumberedBelow, all_named_raised, goes_on_new, lowest_then, lives_on, Called, IsStranger, strangers_live, waits_on, ended_strangers, ended_waits}
+use Rattle.nb_traced.proofs.Keeping.{Kept, Lives, Waits, HeldBy, held_first, held_last, held_without, AreNumbered, numbered_more, numbered_without, numbered_below, IsAnother, another_first, another_last, another_new, all_named_raised, goes_on_new, lowest_then, lives_on, Called, IsStranger, strangers_live, waits_on, ended_strangers, ended_waits}
 use Rattle.nb_traced.proofs.Calling.{asides_unopened, asides_named, events_unopened, events_named, sees_then, sees_aside, called, given_up}
 
 pub some_same : (x y : ℕ) → Some x ≡ Some y → x ≡ y

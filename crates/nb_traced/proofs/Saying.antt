@@ -15,7 +15,7 @@ use Rattle.nb_traced.specs.Holdings.{Holdings, Kin, Piece, lowest_of, serials}
 use Rattle.nb_traced.specs.Pieces.{AreGone, EndsWithin, IsApart, IsCallOn, IsOfOpen, event_records, first_close_of}
 use Rattle.nb_traced.specs.Outputs.{Arrived, Traced, own_serials, at_first, apart, replies, commands, makes, opens, calls, ends, ends_with_all, gives_up}
 use Rattle.nb_traced.specs.Runs.{HasLedTo, LeadsBy}
-use Rattle.nb_traced.specs.Openings.{HasPieces, EndsAs, WasFreed, IsOfLiving, LeavesNone}
+use Rattle.nb_traced.specs.Openings.{HasPieces, EndsAs, WasFreed, IsOfLiving, LeavesNone, IsNumberedBelow}
 use Rattle.nb_traced.specs.LowestObjects.{GraphSoFar, graph_so_far, graph_by, first_in}
 use Rattle.nb_traced.specs.Places.{FrameStands, IsWithinOpen, by_open, by_step}
 use Rattle.nb_traced.proofs.EventLemmas.{event_records_append}
@@ -23,17 +23,17 @@ use Rattle.nb_traced.proofs.Serials.{at_serial, each_serial, one_in_first}
 use Rattle.nb_traced.proofs.StateLemmas.{runners}
 use Rattle.nb_traced.proofs.RecordLemmas.{close_in_last, goes_on_then, was_freed}
 use Rattle.nb_traced.proofs.Leading.{has_led, leads_then}
-use Rattle.nb_traced.proofs.Seeing.{IsNoOpening, so_far_append}
-use Rattle.nb_traced.proofs.Keeping.{Kept, Lives, HeldBy, lowest_then, opened_then, unopened_new, Called}
+use Rattle.nb_traced.proofs.Seeing.{so_far_append}
+use Rattle.nb_traced.proofs.Keeping.{Kept, Lives, HeldBy, lowest_then, opened_then, all_named_raised, Called}
 use Rattle.nb_traced.proofs.Calling.{called, events_unopened}
 use Rattle.nb_traced.proofs.Rules.{beside, has_pieces, kept, newest_is}
 
--- an OPEN has its objects, of which the lowest is the newest of all that live, and its number is new
+-- an OPEN has its objects, of which the lowest is the newest of all that live, and its number is above all before it
 pub record OpensSo (before : List Out) (k kind : ℕ) : Type 0 where
   pub pieces : List Piece
   pub has : HasPieces before kind pieces
   pub newest : first_in (graph_so_far before).living ≡ Some (lowest_of (serials pieces))
-  pub fresh : AllByRecursion (IsNoOpening k) before
+  pub rising : AllByRecursion (IsNumberedBelow k) before
 
 abbrev pub Says : List Out → Out → Type 0
 Says before (opened number kind server port own target) = OpensSo before number kind
@@ -235,7 +235,7 @@ says _ _ _ (opens outs h came first o kind server port own target t waits are so
           pieces = o.pieces;
           has = has_pieces outs h first o kind server port own target a led waits are some joined newest later;
           newest = newest_is outs h first o kind server port own target a led waits are some joined newest later;
-          fresh = unopened_new h.begun o.number outs later a.named;
+          rising = all_named_raised h.begun o.number outs later a.named;
         },
         tt,
       );

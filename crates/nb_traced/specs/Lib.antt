@@ -6,3 +6,4 @@ pub mod Openings
 pub mod LowestObjects
 pub mod Entries
 pub mod Places
+pub mod Example

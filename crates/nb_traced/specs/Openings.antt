@@ -1,6 +1,6 @@
 -- What the records of the graph in an output say of its opens: which objects each has, by which close it ends, and that nothing
 -- is left over where a command begins. Our own.
-use Rattle.std.specs.Prelude.{◌≡◌, ℕ, Bool, true, List, [], ◌∷◌, ◌++◌, Some}
+use Rattle.std.specs.Prelude.{◌≡◌, ◌<◌, ℕ, Bool, true, List, [], ◌∷◌, ◌++◌, Some}
 use Rattle.std.specs.List.{AllByRecursion}
 use Rattle.nb_terms.specs.declared.cause.Cause.{Cause}
 use Rattle.nb_defs.specs.Records.{Out, step, command, opened, ended, graph}
@@ -54,6 +54,18 @@ pub record HasPieces (before : List Out) (kind : ℕ) (pieces : List Piece) : Ty
 abbrev pub OpensHavePieces : List Out → Type 0
 OpensHavePieces outs = (before after : List Out) (k kind server port own : ℕ) (target : List ℕ) →
     outs ≡ before ++ (opened k kind server port own target ∷ after) → (pieces : List Piece) × HasPieces before kind pieces
+
+-- if this record begins or ends an open, its number is below that
+abbrev pub IsNumberedBelow : ℕ → Out → Type 0
+IsNumberedBelow n (opened number kind server port own target) = number < n
+IsNumberedBelow n (ended number cause) = number < n
+IsNumberedBelow n (step number) = Unit {0}
+IsNumberedBelow n _ = Unit {0}
+
+-- each OPEN of an output has a number above all before it
+abbrev pub NumbersRise : List Out → Type 0
+NumbersRise outs = (before after : List Out) (k kind server port own : ℕ) (target : List ℕ) →
+    outs ≡ before ++ (opened k kind server port own target ∷ after) → AllByRecursion (IsNumberedBelow k) before
 
 -- Open k has begun in these records: its OPEN, its objects, and what stands after it.
 pub record HasOpened (outs : List Out) (k : ℕ) (pieces : List Piece) (since : List Out) : Type 0 where

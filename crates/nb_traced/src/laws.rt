@@ -1,11 +1,13 @@
 //! Laws of outputs in which the graph is traced, each a function that does nothing.
 
-ghost use Rattle.std.specs.Prelude.{◌≡◌, List, [], ℕ, false};
+ghost use Rattle.std.specs.Prelude.{◌≡◌, List, [], length, ℕ, false};
 ghost use Rattle.nb_defs.specs.Records.{Out};
+ghost use Rattle.nb_terms.specs.declared.cause.Cause.{Cause};
 ghost use Rattle.nb_ledger.specs.GraphRun.{GraphState};
 ghost use Rattle.nb_traced.specs.Entries.{came_to, entries, IsOutside};
+ghost use Rattle.nb_traced.specs.Example.{came_to_both, came_to_two, one_ends, two_pings};
 ghost use Rattle.nb_traced.specs.Holdings.{Holdings, Piece};
-ghost use Rattle.nb_traced.specs.Openings.{CommandsLeaveNone, EndsAreTheirs, HasPieces, OpensHavePieces};
+ghost use Rattle.nb_traced.specs.Openings.{CommandsLeaveNone, EndsAreTheirs, HasPieces, NumbersRise, OpensHavePieces};
 ghost use Rattle.nb_traced.specs.Outputs.{Arrived, Traced};
 ghost use Rattle.nb_traced.specs.Places.{AdvancesStand, FramesStand, LowestAreOwn, LowestAreTheirs, TriesStand};
 ghost use Rattle.nb_traced.specs.Runs.{HasLedTo};
@@ -23,6 +25,11 @@ pub fn one_state()
 /// Each OPEN has its objects: made for it, after the last COMMAND, each plugged to the next, and alive.
 pub fn opens_have_pieces()
     ensures { (outs : List Out) (h : Holdings) (came : List Arrived) → Traced outs h came → OpensHavePieces outs }
+{}
+
+/// Each OPEN has a number above those of all opens before it.
+pub fn numbers_rise()
+    ensures { (outs : List Out) (h : Holdings) (came : List Arrived) → Traced outs h came → NumbersRise outs }
 {}
 
 /// Which objects those are, the records leave open nowhere.
@@ -68,4 +75,10 @@ pub fn records_stand_within()
     ensures frames { (outs : List Out) (h : Holdings) (came : List Arrived) → Traced outs h came → FramesStand outs }
     ensures tries { (outs : List Out) (h : Holdings) (came : List Arrived) → Traced outs h came → TriesStand outs }
     ensures advances { (outs : List Out) (h : Holdings) (came : List Arrived) → Traced outs h came → AdvancesStand outs }
+{}
+
+/// Two pings that live at once are traced, and still where the second ends while the first goes on.
+pub fn two_pings_are_traced()
+    ensures both { (h : Holdings) × (length h.living ≡ 2) × Traced two_pings h came_to_two }
+    ensures one { (cause : Cause) → (h : Holdings) × (length h.living ≡ 1) × Traced (one_ends cause) h came_to_both }
 {}
