@@ -14,8 +14,9 @@ use Rattle.nb_laws.specs.Lists.{Opening, live, call_at, came_in, time}
 use Rattle.nb_lawful.proofs.UsedEvents.{IsUsed}
 use Rattle.nb_laws.proofs.Histories.{gathered_one}
 use Rattle.nb_laws.proofs.Tellings.{told}
-use Rattle.nb_boot.specs.LowestObjects.{GraphSoFar, graph_by, is_it, is_from_outside}
-use Rattle.nb_boot.specs.Entries.{Arrival, way_of, event_number, arrival_at, arrivals, entry_at, entries_from}
+use Rattle.nb_traced.specs.LowestObjects.{GraphSoFar, graph_by, is_it, is_from_outside}
+use Rattle.nb_traced.specs.Entries.{Arrival, entry_at, entries_from}
+use Rattle.nb_boot.specs.Entries.{way_of, event_number, arrival_at, arrivals}
 use Rattle.nb_boot.proofs.EntryScenes.{Scene, scene_by, LivesAlone, Comes, first, inner, ComesIf, Fact, Walks}
 use Rattle.nb_boot.proofs.EntryTellings.{Known, HaveNoGraph, KindOf, of_graph, of_step, of_others, kind_of, told_put}
 

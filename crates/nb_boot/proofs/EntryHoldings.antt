@@ -4,7 +4,7 @@ use Rattle.std.proofs.lemmas.Bool.{cases_eq, cases_lt}
 use Rattle.nb_opens.specs.declared.waiter.Waiter.{Waiter}
 use Rattle.nb_opens.specs.Graphs.{GraphAt, bare, holding, prepared, Cast, pair, solo, backed, waited, last_made}
 use Rattle.nb_opens.specs.Waiters.{waiter_serial}
-use Rattle.nb_boot.specs.LowestObjects.{GraphSoFar}
+use Rattle.nb_traced.specs.LowestObjects.{GraphSoFar}
 use Rattle.nb_boot.proofs.EntryScenes.{Scene, NoneLive, LivesAlone}
 
 -- the lowest object of an open, and those that live with it, the one made last first

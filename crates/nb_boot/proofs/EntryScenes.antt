@@ -4,7 +4,7 @@ use Rattle.std.specs.Prelude.{fold}
 use Rattle.std.proofs.lemmas.List.Sums.{fold-append}
 use Rattle.nb_defs.specs.Records.{Out, step, sent, text, command, result, script, opened, tried, advanced, ended, graph, part, done}
 use Rattle.nb_opens.specs.Graphs.{IsSent, AreSent}
-use Rattle.nb_boot.specs.LowestObjects.{GraphSoFar, no_graph, graph_by, is_from_outside}
+use Rattle.nb_traced.specs.LowestObjects.{GraphSoFar, no_graph, graph_by, is_from_outside}
 
 -- the graph so far, which opens have begun and which have ended, and whether the record written last is a STEP
 pub record Scene : Type 0 where

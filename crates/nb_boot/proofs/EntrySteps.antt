@@ -23,8 +23,9 @@ use Rattle.nb_laws.specs.Lawful.{IsLawful}
 use Rattle.nb_lawful.proofs.UsedEvents.{IsUsed}
 use Rattle.nb_laws.proofs.Histories.{each_append}
 use Rattle.nb_laws.proofs.Tellings.{told}
-use Rattle.nb_boot.specs.LowestObjects.{GraphSoFar, no_graph, graph_by, is_it, is_from_outside}
-use Rattle.nb_boot.specs.Entries.{Arrival, way_of, event_number, arrival_at, arrivals, entry_at, entries_from, entries, plain, LeavesSo, EntriesAgree}
+use Rattle.nb_traced.specs.LowestObjects.{GraphSoFar, no_graph, graph_by, is_it, is_from_outside}
+use Rattle.nb_traced.specs.Entries.{Arrival, entry_at, entries_from, entries}
+use Rattle.nb_boot.specs.Entries.{way_of, event_number, arrival_at, arrivals, plain, LeavesSo, EntriesAgree}
 use Rattle.nb_boot.specs.Stepped.{NoneLives, AreStepped, nothing as none_yet, uses, goes_on, StartsSo}
 use Rattle.nb_boot.proofs.Came.{none_come, others_come}
 use Rattle.nb_boot.proofs.EntryScenes.{Scene, scene_by, first_scene, after, LivesAlone, Unlived, NoneLive, IsOwn, Comes, first, inner, ComesIf, Rests, calm, holds, Walks, walks_first, walks_last}

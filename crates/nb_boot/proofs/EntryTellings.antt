@@ -17,8 +17,9 @@ use Rattle.nb_laws.specs.Frames.{WritesSo, TriesSo, IsPut, by_open, IsSent, IsDu
 use Rattle.nb_laws.specs.Frames as frames
 use Rattle.nb_lawful.proofs.UsedEvents.{IsUsed}
 use Rattle.nb_laws.proofs.Tellings.{told}
-use Rattle.nb_boot.specs.LowestObjects.{GraphSoFar, graph_by, graph_so_far}
-use Rattle.nb_boot.specs.Entries.{IsWithin, Leaves, by_entry, by_reply, plain, LeavesSo}
+use Rattle.nb_traced.specs.LowestObjects.{GraphSoFar, graph_by, graph_so_far}
+use Rattle.nb_traced.specs.Entries.{IsWithin}
+use Rattle.nb_boot.specs.Entries.{Leaves, by_entry, by_reply, plain, LeavesSo}
 use Rattle.nb_boot.proofs.EntryScenes.{Scene, scene_by, first_scene, after, is_step, Inside, Sends, within, aside, replies, Notes, noted, noted_aside, Fact, Walks}
 use Rattle.nb_boot.proofs.EntryHistories.{AgreesWith, agrees_unlived, agrees_lives, agrees_put, agrees_graph, outputs_append, plain_events_append}
 

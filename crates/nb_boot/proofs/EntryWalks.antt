@@ -9,7 +9,7 @@ use Rattle.nb_opens.specs.declared.waiter.Waiter.{Waiter}
 use Rattle.nb_opens.specs.declared.waiter.Waiter.TheVariants as waiter
 use Rattle.nb_opens.specs.AloneEvents.{alone_front}
 use Rattle.nb_opens.specs.Graphs.{Cast, pair, solo, backed, waited, last_made, traced, IsAside, AreAside, IsNamed, IsForFile, WaitsFor, IsOpening, IsEntry, by_datagram, by_time, AreSent}
-use Rattle.nb_boot.specs.LowestObjects.{GraphSoFar, first_in}
+use Rattle.nb_traced.specs.LowestObjects.{GraphSoFar, first_in}
 use Rattle.nb_boot.proofs.EntryScenes.{Scene, scene_by, NoneLive, Inside, aside, noted_aside, calm, Comes, first, Fact, Leads, leads, leads_then, quiet, sent_leads}
 use Rattle.nb_boot.proofs.EntryHoldings.{low, living_of, IsSpare, AreLowest, IsBare, IsReady, Holds, counted_begun, none_live, lives_alone, lowest_begun, still_spare}
 

@@ -1,8 +1,7 @@
 -- What the records of the object graph say of the contents of entries, for objects of any kind and chains of any length: what enters the
 -- lowest object of an open is what the open received, and what goes down out of it is what was put.
-use Rattle.std.specs.Prelude.{◌≡◌, ℕ, ◌==◌, ◌&&◌, Bool, false, not, List, [], ◌∷◌, ◌++◌, map, filter, Some, if◌then◌else◌}
-use Rattle.nb_terms.specs.declared.event.Event.{Event as GraphRecord}
-use Rattle.nb_defs.specs.Records.{Out, step, sent, tried, graph}
+use Rattle.std.specs.Prelude.{◌≡◌, ℕ, Bool, false, not, List, [], ◌∷◌, ◌++◌, map, filter, Some}
+use Rattle.nb_defs.specs.Records.{Out, step, sent, tried}
 use Rattle.nb_stack.specs.Brings.{Brought}
 use Rattle.nb_stack.specs.Takes.{reply_of}
 use Rattle.nb_tftp.specs.History.{Call, came, ticked}
@@ -11,14 +10,10 @@ use Rattle.nb_laws.specs.Histories.{client}
 use Rattle.nb_laws.specs.Lists.{gathered, call_at}
 use Rattle.nb_laws.specs.Frames.{IsSent}
 use Rattle.nb_opens.specs.Graphs.{is_graph}
-use Rattle.nb_boot.specs.LowestObjects.{GraphSoFar, no_graph, graph_by, graph_so_far, is_it, is_from_outside}
+use Rattle.nb_traced.specs.LowestObjects.{graph_so_far}
+use Rattle.nb_traced.specs.Entries.{Arrival, entries, IsWithin, IsOutside}
 
 -- WHAT ENTERS IT
-
--- something that comes to an open, or enters an object: in the step of this number, and as a message from below (0) or a time (3)
-pub record Arrival : Type 0 where
-  pub number : ℕ
-  pub way : ℕ
 
 abbrev pub way_of : Call → ℕ
 way_of (came m now) = 0
@@ -38,36 +33,7 @@ arrival_at k before e = map (λ c. record { number = event_number e; way = way_o
 unfoldable pub arrivals : ℕ → List Event → List Arrival
 arrivals k es = gathered (arrival_at k) [] es
 
--- an Entered event (5) of that object, with its way in the second slot
-abbrev pub entry_in : ℕ → GraphSoFar → GraphRecord → List Arrival
-entry_in k g happens =
-    if (happens.event == 5) && (is_it (g.lowest k) happens.object && is_from_outside happens.other_slot) then record { number = g.number; way = happens.other_slot } ∷ [] else []
-
-abbrev pub entry_at : ℕ → GraphSoFar → Out → List Arrival
-entry_at k g (graph happens) = entry_in k g happens
-entry_at k g (step number) = []
-entry_at k g _ = []
-
-unfoldable pub entries_from : ℕ → GraphSoFar → List Out → List Arrival
-entries_from k g [] = []
-entries_from k g (o ∷ outs) = entry_at k g o ++ entries_from k (graph_by g o) outs
-
--- the entries of the lowest object of open k from outside, each in its step
-abbrev pub entries : ℕ → List Out → List Arrival
-entries k outs = entries_from k no_graph outs
-
 -- WHAT GOES DOWN OUT OF IT
-
--- the entry that runs, as the innermost, is one of the lowest object of open k
-pub record IsWithin (k : ℕ) (outs : List Out) : Type 0 where
-  pub object : ℕ
-  pub outer : List ℕ
-  pub is_lowest : (graph_so_far outs).lowest k ≡ Some object
-  pub runs : (graph_so_far outs).running ≡ object ∷ outer
-
--- no entry runs
-abbrev pub IsOutside : List Out → Type 0
-IsOutside outs = (graph_so_far outs).running ≡ []
 
 -- the record used last is a frame, nothing else stands since its STEP, and it is replied to with this
 pub record IsReplied (es : List Event) (bytes : List ℕ) : Type 0 where

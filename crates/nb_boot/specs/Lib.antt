@@ -6,7 +6,6 @@ pub mod Fetch
 pub mod Complete
 pub mod Laws
 pub mod Stepped
-pub mod LowestObjects
 pub mod Entries
 pub mod Shown
 pub mod Determined

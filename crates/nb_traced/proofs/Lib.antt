@@ -1,0 +1,15 @@
+pub mod EventLemmas
+pub mod Leading
+pub mod Serials
+pub mod StateLemmas
+pub mod RecordLemmas
+pub mod Seeing
+pub mod Keeping
+pub mod Calling
+pub mod Rules
+pub mod Saying
+pub mod Following
+pub mod Entering
+pub mod OneState
+pub mod OnePieces
+pub mod Worked

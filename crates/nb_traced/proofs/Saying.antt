@@ -1,0 +1,260 @@
+-- What each record of a traced output says of those before it.
+use Rattle.std.proofs.Common.{◌≡◌, ◌⊎◌, inl, inr, ℕ, true, List, [], ◌∷◌, ◌++◌, Option, Some, None, refl, sym, ◌∙◌, ap, subst, append_assoc, append-nil}
+use Rattle.std.specs.List.{AllByRecursion}
+use Rattle.std.proofs.lemmas.Bool.{false≢true}
+use Rattle.nb_terms.specs.declared.cause.Cause.{Cause}
+use Rattle.nb_defs.specs.Records.{Out, step, sent, text, command, result, script, opened, tried, advanced, ended, graph, part, done}
+use Rattle.nb_ledger.specs.Flat.{flat}
+use Rattle.nb_ledger.specs.declared.port.Port.{Port}
+use Rattle.nb_ledger.specs.declared.event.Way.{Way}
+use Rattle.nb_ledger.specs.declared.event.GraphEvent.{GraphEvent}
+use Rattle.nb_ledger.specs.declared.event.GraphEvent.TheVariants.{Entered}
+use Rattle.nb_ledger.specs.GraphRun.{GraphState}
+use Rattle.nb_frames.specs.Frames.{is_one_of}
+use Rattle.nb_traced.specs.Holdings.{Holdings, Kin, Piece, lowest_of, serials}
+use Rattle.nb_traced.specs.Pieces.{AreGone, EndsWithin, IsApart, IsCallOn, IsOfOpen, event_records, first_close_of}
+use Rattle.nb_traced.specs.Outputs.{Arrived, Traced, own_serials, at_first, apart, replies, commands, makes, opens, calls, ends, ends_with_all, gives_up}
+use Rattle.nb_traced.specs.Runs.{HasLedTo, LeadsBy}
+use Rattle.nb_traced.specs.Openings.{HasPieces, EndsAs, WasFreed, IsOfLiving, LeavesNone, IsNumberedBelow}
+use Rattle.nb_traced.specs.LowestObjects.{GraphSoFar, graph_so_far, graph_by, first_in}
+use Rattle.nb_traced.specs.Places.{FrameStands, IsWithinOpen, by_open, by_step}
+use Rattle.nb_traced.proofs.EventLemmas.{event_records_append}
+use Rattle.nb_traced.proofs.Serials.{at_serial, each_serial, one_in_first}
+use Rattle.nb_traced.proofs.StateLemmas.{runners}
+use Rattle.nb_traced.proofs.RecordLemmas.{close_in_last, goes_on_then, was_freed}
+use Rattle.nb_traced.proofs.Leading.{has_led, leads_then}
+use Rattle.nb_traced.proofs.Seeing.{so_far_append}
+use Rattle.nb_traced.proofs.Keeping.{Kept, Lives, HeldBy, lowest_then, opened_then, all_named_raised, Called}
+use Rattle.nb_traced.proofs.Calling.{called, events_unopened}
+use Rattle.nb_traced.proofs.Rules.{beside, has_pieces, kept, newest_is}
+
+-- an OPEN has its objects, of which the lowest is the newest of all that live, and its number is above all before it
+pub record OpensSo (before : List Out) (k kind : ℕ) : Type 0 where
+  pub pieces : List Piece
+  pub has : HasPieces before kind pieces
+  pub newest : first_in (graph_so_far before).living ≡ Some (lowest_of (serials pieces))
+  pub rising : AllByRecursion (IsNumberedBelow k) before
+
+abbrev pub Says : List Out → Out → Type 0
+Says before (opened number kind server port own target) = OpensSo before number kind
+Says before (ended number cause) = EndsAs before number cause
+Says before (command depth line place expanded words) = LeavesNone before
+Says before (sent bytes) = FrameStands before
+Says before (tried number count) = IsWithinOpen number before
+Says before (advanced number place) = IsWithinOpen number before
+Says before (graph happens) = Unit {0}
+Says before (step number) = Unit {0}
+Says before (text bytes) = Unit {0}
+Says before (result cause) = Unit {0}
+Says before (script what depth cause) = Unit {0}
+Says before (part kind index offset bytes) = Unit {0}
+Says before (done status) = Unit {0}
+
+abbrev pub EachSays : List Out → List Out → Type 0
+EachSays before [] = Unit {0}
+EachSays before (o ∷ outs) = Says before o × EachSays (before ++ o ∷ []) outs
+
+-- so do all of these, after those
+pub record EachOut (before outs : List Out) : Type 0 where
+  pub each : EachSays before outs
+
+append_says : (before xs ys : List Out) → EachSays before xs → EachSays (before ++ xs) ys → EachSays before (xs ++ ys)
+append_says before [] ys a b = subst (λ z. EachSays z ys) (append-nil before) b
+append_says before (x ∷ xs) ys a b =
+    (a.0, append_says (before ++ x ∷ []) xs ys a.1 (subst (λ z. EachSays z ys) (sym (append_assoc before (x ∷ []) xs)) b))
+
+pub says_at : (before xs ys : List Out) (o : Out) → EachSays before (xs ++ (o ∷ ys)) → Says (before ++ xs) o
+says_at before [] ys o h = subst (λ z. Says z o) (sym (append-nil before)) h.0
+says_at before (x ∷ xs) ys o h = subst (λ z. Says z o) (append_assoc before (x ∷ []) xs) (says_at (before ++ x ∷ []) xs ys o h.1)
+
+pub says_after : (before xs ys : List Out) → EachSays before (xs ++ ys) → EachSays (before ++ xs) ys
+says_after before [] ys h = subst (λ z. EachSays z ys) (sym (append-nil before)) h
+says_after before (x ∷ xs) ys h = subst (λ z. EachSays z ys) (append_assoc before (x ∷ []) xs) (says_after (before ++ x ∷ []) xs ys h.1)
+
+each_append : {before xs ys : List Out} → EachOut before xs → EachOut (before ++ xs) ys → EachOut before (xs ++ ys)
+each_append {before = before} {xs = xs} {ys = ys} a b = record { each = append_says before xs ys a.each b.each }
+
+says_apart : (before : List Out) (o : Out) → IsApart o → Says before o
+says_apart before (step number) h = tt
+says_apart before (text bytes) h = tt
+says_apart before (result cause) h = tt
+says_apart before (script what depth cause) h = tt
+says_apart before (part kind index offset bytes) h = tt
+says_apart before (done status) h = tt
+says_apart before (graph happens) h = tt
+says_apart before (command depth line place expanded words) h = absurd h
+says_apart before (sent bytes) h = absurd h
+says_apart before (tried number count) h = absurd h
+says_apart before (advanced number place) h = absurd h
+says_apart before (opened number kind server port own target) h = absurd h
+says_apart before (ended number cause) h = absurd h
+
+aparts_say : (before outs : List Out) → AllByRecursion IsApart outs → EachSays before outs
+aparts_say before [] h = tt
+aparts_say before (o ∷ outs) h = (says_apart before o h.0, aparts_say (before ++ o ∷ []) outs h.1)
+
+events_say : (before : List Out) (es : List GraphEvent) → EachSays before (event_records es)
+events_say before [] = tt
+events_say before (e ∷ es) = (tt, events_say (before ++ graph (flat e) ∷ []) es)
+
+each_events : {before : List Out} (es : List GraphEvent) → EachOut before (event_records es)
+each_events {before = before} es = record { each = events_say before es }
+
+-- WHAT AN OPEN SENDS
+
+put_same : (k : ℕ) (g : GraphSoFar) (o : Out) → IsOfOpen k o → graph_by g o ≡ g
+put_same k g (sent bytes) h = refl
+put_same k g (tried number count) h = refl
+put_same k g (advanced number place) h = refl
+put_same k g (graph happens) h = absurd h
+put_same k g (opened number kind server port own target) h = absurd h
+put_same k g (ended number cause) h = absurd h
+put_same k g (step number) h = absurd h
+put_same k g (text bytes) h = absurd h
+put_same k g (command depth line place expanded words) h = absurd h
+put_same k g (result cause) h = absurd h
+put_same k g (script what depth cause) h = absurd h
+put_same k g (part kind index offset bytes) h = absurd h
+put_same k g (done status) h = absurd h
+
+within_then : (k : ℕ) (outs : List Out) (o : Out) → IsWithinOpen k outs → IsOfOpen k o → IsWithinOpen k (outs ++ o ∷ [])
+within_then k outs o w h =
+    let same : graph_so_far (outs ++ o ∷ []) ≡ graph_so_far outs = so_far_append outs (o ∷ []) ∙ put_same k (graph_so_far outs) o h in
+    record {
+      pieces = w.pieces;
+      since = w.since ++ o ∷ [];
+      begun = opened_then outs (o ∷ []) k w.pieces w.since w.begun;
+      within = record {
+        object = w.within.object;
+        outer = w.within.outer;
+        is_lowest = ap (λ g. g.lowest k) same ∙ w.within.is_lowest;
+        runs = ap (λ g. g.running) same ∙ w.within.runs;
+      };
+    }
+
+put_says : (k : ℕ) (outs : List Out) (o : Out) → IsWithinOpen k outs → IsOfOpen k o → Says outs o
+put_says k outs (sent bytes) w h = by_open k w
+put_says k outs (tried number count) w h = subst (λ z. IsWithinOpen z outs) (sym h) w
+put_says k outs (advanced number place) w h = subst (λ z. IsWithinOpen z outs) (sym h) w
+put_says k outs (graph happens) w h = absurd h
+put_says k outs (opened number kind server port own target) w h = absurd h
+put_says k outs (ended number cause) w h = absurd h
+put_says k outs (step number) w h = absurd h
+put_says k outs (text bytes) w h = absurd h
+put_says k outs (command depth line place expanded words) w h = absurd h
+put_says k outs (result cause) w h = absurd h
+put_says k outs (script what depth cause) w h = absurd h
+put_says k outs (part kind index offset bytes) w h = absurd h
+put_says k outs (done status) w h = absurd h
+
+puts_say : (k : ℕ) (outs puts : List Out) → IsWithinOpen k outs → AllByRecursion (IsOfOpen k) puts → EachSays outs puts
+puts_say k outs [] w h = tt
+puts_say k outs (o ∷ puts) w h = (put_says k outs o w h.0, puts_say k (outs ++ o ∷ []) puts (within_then k outs o w h.0) h.1)
+
+-- the object that is entered last runs
+entered_runs : (outs : List Out) (front init : List GraphEvent) (p : Port) (way : Way) → front ≡ init ++ (Entered p way ∷ []) →
+    (graph_so_far (outs ++ event_records front)).running ≡ p.obj.0 ∷ (graph_so_far (outs ++ event_records init)).running
+entered_runs outs front init p way all =
+    ap (λ z. (graph_so_far (outs ++ event_records z)).running) all ∙ ap (λ z. (graph_so_far (outs ++ z)).running) (event_records_append init (Entered p way ∷ []))
+    ∙ ap (λ z. (graph_so_far z).running) (sym (append_assoc outs (event_records init) (event_records (Entered p way ∷ []))))
+    ∙ ap (λ g. g.running) (so_far_append (outs ++ event_records init) (event_records (Entered p way ∷ [])))
+
+module _ (outs : List Out) (s0 : GraphState) (owner : ℕ → Option ℕ) (o : Kin) (l : Lives outs s0 owner o) (ids : List ℕ) (by : Option Way) (added : List Out) (s t : GraphState)
+    (c : IsCallOn o.number ids (lowest_of (own_serials o)) by added s t) where
+  stands_within : EndsWithin (lowest_of (own_serials o)) c.front → IsWithinOpen o.number (outs ++ event_records c.front)
+  stands_within e = record {
+    pieces = o.pieces;
+    since = l.since ++ event_records c.front;
+    begun = opened_then outs (event_records c.front) o.number o.pieces l.since l.begun;
+    within = record {
+      object = lowest_of (own_serials o);
+      outer = (graph_so_far (outs ++ event_records e.init)).running;
+      is_lowest = lowest_then outs (event_records c.front) o.number (events_unopened o.number c.front) ∙ l.lowest;
+      runs = entered_runs outs c.front e.init e.port e.way e.all ∙ ap (λ z. z ∷ (graph_so_far (outs ++ event_records e.init)).running) e.object;
+    };
+  }
+
+  inside_says : (c.puts ≡ []) ⊎ EndsWithin (lowest_of (own_serials o)) c.front → EachSays (outs ++ event_records c.front) c.puts
+  inside_says (inl none) = subst (EachSays (outs ++ event_records c.front)) (sym none) tt
+  inside_says (inr e) = puts_say o.number (outs ++ event_records c.front) c.puts (stands_within e) c.of_open
+
+  call_says : EachOut outs added
+  call_says = subst (EachOut outs) (sym c.all) (each_append (each_events c.front) (each_append (record { each = inside_says c.inside }) (each_events c.back)))
+
+  -- ITS END
+
+  pub ends_as : (cause : Cause) → s0 ≡ s → first_close_of (own_serials o) added ≡ Some cause → AreGone (own_serials o) t → Called (is_one_of ids) outs added s t → EndsAs (outs ++ added) o.number cause
+  ends_as cause same closed gone d =
+      let since : List Out = l.since ++ added in
+      record {
+        pieces = o.pieces;
+        since = since;
+        begun = opened_then outs added o.number o.pieces l.since l.begun;
+        first = close_in_last (own_serials o) l.since added (Some cause) l.unclosed closed;
+        freed = each_serial (λ x. WasFreed since x) o.pieces (λ x e.
+            was_freed since l.begun.has.state t x (leads_then l.begun.has.state s0 t l.since added l.leads (subst (λ z. LeadsBy z added t) (sym same) d.leads))
+            (at_serial (λ y. l.begun.has.state.live y ≡ true) o.pieces l.begun.has.lives x e) (gone x e));
+        goes_on = goes_on_then o.number outs added l.goes_on (d.goes_on o.number);
+      }
+
+-- WHERE A COMMAND BEGINS
+
+held_living : (outs : List Out) (s : GraphState) (owner : ℕ → Option ℕ) (x : ℕ) (os : List Kin) → AllByRecursion (Lives outs s owner) os → HeldBy x os → IsOfLiving outs x
+held_living outs s owner x [] a h = absurd h
+held_living outs s owner x (o ∷ os) a (inl e) = record { number = o.number; pieces = o.pieces; since = a.0.since; begun = a.0.begun; is_piece = e; goes_on = a.0.goes_on }
+held_living outs s owner x (o ∷ os) a (inr h) = held_living outs s owner x os a.1 h
+
+leaves_none : (outs : List Out) (h : Holdings) → (a : Kept outs h) → HasLedTo outs h.state → h.waits ≡ [] → LeavesNone outs
+leaves_none outs h a led none = record {
+  state = h.state;
+  led = led;
+  theirs = λ x lives. elim (a.held x lives) [
+    | inl e ↦ held_living outs h.state a.owner x h.living a.opens e
+    | inr e ↦ absurd (false≢true (ap (λ z. is_one_of (serials z) x) (sym none) ∙ e))
+  ];
+}
+
+-- ALL OF THEM
+
+pub says : (outs : List Out) (h : Holdings) (came : List Arrived) → Traced outs h came → EachOut [] outs
+says _ _ _ at_first = record { each = tt }
+says _ _ _ (apart outs added h came t aside) = each_append (says outs h came t) (record { each = aparts_say outs added aside })
+says _ _ _ (replies outs n bytes h came t) =
+    let a = kept (outs ++ (step n ∷ [])) h came t in
+    subst (EachOut []) (append_assoc outs (step n ∷ []) (sent bytes ∷ []))
+    (each_append (says (outs ++ (step n ∷ [])) h came t) (record { each = (by_step outs n refl (a.sees.runs ∙ ap runners a.rests), tt) }))
+says _ _ _ (commands outs depth line place expanded words h came t none) =
+    each_append (says outs h came t) (record { each = (leaves_none outs h (kept outs h came t) (has_led outs h came t) none, tt) })
+says _ _ _ (makes outs h came es s t w run) = each_append (says outs h came t) (each_events es)
+says _ _ _ (opens outs h came first o kind server port own target t waits are some joined newest later) =
+    let a = kept outs h came t in
+    let led = has_led outs h came t in
+    each_append (says outs h came t) (record {
+      each = (
+        record {
+          pieces = o.pieces;
+          has = has_pieces outs h first o kind server port own target a led waits are some joined newest later;
+          newest = newest_is outs h first o kind server port own target a led waits are some joined newest later;
+          rising = all_named_raised h.begun o.number outs later a.named;
+        },
+        tt,
+      );
+    })
+says _ _ _ (calls outs added h came before after o by s t living call none) =
+    let a = kept outs h came t in
+    let b = beside outs h before after o a living in
+    each_append (says outs h came t) (call_says outs h.state a.owner o b.this (own_serials o) by added h.state s call)
+says _ _ _ (ends outs added h came before after o by s cause t living call closed gone) =
+    let a = kept outs h came t in
+    let b = beside outs h before after o a living in
+    let d = called o.number (lowest_of (own_serials o)) (own_serials o) by outs added h.state s call in
+    each_append (says outs h came t) (each_append (call_says outs h.state a.owner o b.this (own_serials o) by added h.state s call)
+    (record { each = (ends_as outs h.state a.owner o b.this (own_serials o) by added h.state s call cause refl closed gone d, tt) }))
+says _ _ _ (ends_with_all outs added h came before after o s cause t living call closed gone) =
+    let a = kept outs h came t in
+    let b = beside outs h before after o a living in
+    let ids : List ℕ = own_serials o ++ serials h.waits in
+    let d = called o.number (lowest_of (own_serials o)) ids None outs added h.state s call in
+    each_append (says outs h came t) (each_append (call_says outs h.state a.owner o b.this ids None added h.state s call)
+    (record { each = (ends_as outs h.state a.owner o b.this ids None added h.state s call cause refl closed (λ x e. gone x (one_in_first (own_serials o) (serials h.waits) x e)) d, tt) }))
+says _ _ _ (gives_up outs h came es s t run within inner gone rests) = each_append (says outs h came t) (each_events es)
