@@ -21,3 +21,4 @@ pub mod FreeSlots
 pub mod ShuttingDown
 pub mod Collecting
 pub mod Staying
+pub mod GivingUp

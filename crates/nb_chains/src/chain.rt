@@ -1,6 +1,6 @@
 ghost use Rattle.std.specs.Prelude.{◌≡◌, ◌+◌, ◌<◌, ◌≤◌, ◌^◌, ◌++◌, ◌∷◌, [], ℕ, List, Option, Some, true, length};
 ghost use Rattle.nb_chains.specs.Calls.{BeginsChain, ClosesChain, IsOpenChain, ReceivesChain, ReleasesChain, ShutsChain, TicksChain};
-ghost use Rattle.nb_chains.specs.Chains.{AreChained, GoesOn, IsShutChain, chain_ids, last_serial, own_graph, source_for};
+ghost use Rattle.nb_chains.specs.Chains.{AreChained, Awaits, GoesOn, IsShutChain, chain_ids, last_serial, own_graph, source_for};
 ghost use Rattle.nb_chains.specs.Ends.{AreUnlinked, FreesSlots};
 ghost use Rattle.nb_frames.specs.Frames.{is_one_of};
 ghost use Rattle.nb_graph.specs.Deeds.{Wants};
@@ -16,6 +16,7 @@ ghost use Rattle.nb_opens.specs.Pairs.{HasEnded, body_in};
 ghost use Rattle.nb_tftp.specs.History.{came, ticked};
 ghost use Rattle.nb_tftp.specs.Received.{received};
 
+use crate::kind::ChainKind;
 use nb_graph::{Graph, Msg, ObjId, Outside, Port};
 use nb_image::Body;
 use nb_nodes::{ABOVE, BELOW, Load, Obj, Tag};
@@ -125,6 +126,8 @@ impl Chain {
         ensures body { (t : TheObjId) (body : Option (List ℕ)) → HasEnded (own_graph self graph.old) self.top.0 t.0 body
             → result ≡ body }
         ensures shut { IsShutChain self graph.old → IsShutChain self graph.new }
+        // Every life, hold, rank, port and link.
+        ensures book { graph.new.book ≡ graph.old.book }
     {
         graph.has_nodes();
         let load = graph.harvest(self.top);
@@ -143,6 +146,15 @@ impl Chain {
             None => let_go(graph, self.top, out),
             Some(below) => let_both_go(graph, self.top, below, out),
         }
+    }
+
+    /// Lets its one object go, of which nothing was asked.
+    pub fn give_up<O: Outside>(self, graph: &mut Graph<Obj>, kind: ChainKind, out: &mut O)
+        requires waits { Awaits kind self graph.old }
+        ensures { ReleasesChain self graph.old graph.new (O.events out.old) (O.events out.new) }
+    {
+        let _kind = kind;
+        let_go(graph, self.top, out);
     }
 
     /// The end of a run: all ports of its objects are closed with this cause, by rising serial and slot, also those that
