@@ -1,5 +1,5 @@
 -- An object of which nothing was asked has no link.
-use Rattle.std.proofs.Common.{◌≡◌, ℕ, ◌<◌, Bool, true, false, [], refl, ap, ◌∙◌, nat_lt, if◌then◌else◌}
+use Rattle.std.proofs.Common.{◌≡◌, ℕ, Bool, true, false, [], refl, ap, ◌∙◌, nat_lt, if◌then◌else◌}
 use Rattle.nb_ledger.specs.declared.port.PortState.TheVariants as state
 use Rattle.nb_ledger.specs.GraphRun.{link_count, new_ports}
 use Rattle.nb_graph.specs.Whole.{Objects}

@@ -18,7 +18,10 @@ pub mod ChainsMade
 pub mod LettingOneGo
 pub mod LettingGo
 pub mod FreeSlots
+pub mod PortsClosing
 pub mod ShuttingDown
+pub mod OfBoth
+pub mod ShuttingBeside
 pub mod Collecting
 pub mod Staying
 pub mod GivingUp

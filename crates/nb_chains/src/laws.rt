@@ -3,7 +3,7 @@
 ghost use Rattle.std.specs.Prelude.{◌≡◌, ℕ, List, Option, []};
 ghost use Rattle.nb_chains.specs.Calls.{IsChainUnderWay, IsOpenChain};
 ghost use Rattle.nb_chains.specs.Chains.{AreChained, AreOthers, GoesOn, GrowsBy, IsReadyChain, IsReleased, StaysChained, chain_ids};
-ghost use Rattle.nb_chains.specs.Giving.{ChainGives};
+ghost use Rattle.nb_chains.specs.Giving.{CallGives, ChainGives};
 ghost use Rattle.nb_chains.specs.Shapes.{HasShape, RunsInOrder, SendsNone};
 ghost use Rattle.nb_chains.specs.declared.chain.Chain.{Chain as TheChain};
 ghost use Rattle.nb_chains.specs.declared.kind.ChainKind.{ChainKind as TheKind};
@@ -41,4 +41,7 @@ pub fn calls_run_in_order()
         → RunsInOrder (IsEventWithin (is_one_of (chain_ids c))) x g h s.first s.back }
     ensures above { (c : TheChain) (x : ℕ) (g h : Objects TheObj) (m n : Heard) (ns : List Notice)
         → ChainGives c g h m n ns → SendsNone x ns → RunsInOrder (IsEventWithin (is_one_of (chain_ids c))) x g h [] ns }
+    ensures among { (ids : List ℕ) (x : ℕ) (g h : Objects TheObj) (m n : Heard) (ns : List Notice)
+        → CallGives (IsEventWithin (is_one_of ids)) g h m n ns → SendsNone x ns
+        → RunsInOrder (IsEventWithin (is_one_of ids)) x g h [] ns }
 {}
