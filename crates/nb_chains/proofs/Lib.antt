@@ -24,4 +24,6 @@ pub mod OfBoth
 pub mod ShuttingBeside
 pub mod Collecting
 pub mod Staying
+pub mod NotBegun
+pub mod WaitingApart
 pub mod GivingUp

@@ -1,14 +1,17 @@
 -- The end of a run for a chain beside which another one waits.
-use Rattle.std.proofs.Common.{inl, inr, ◌≡◌, ℕ, ◌≤◌, true, false, List, [], ◌∷◌, ◌++◌, Option, Some, None, refl, sym, ◌∙◌, subst, arith}
+use Rattle.std.proofs.Common.{inl, inr, ◌≡◌, ℕ, ◌≤◌, true, false, List, [], ◌∷◌, ◌++◌, Option, Some, None, refl, sym, ap, ◌∙◌, subst, arith}
 use Rattle.nb_terms.specs.declared.cause.Cause.{Cause}
 use Rattle.nb_ledger.specs.declared.event.GraphEvent.TheVariants.{Closed}
 use Rattle.nb_ledger.specs.declared.port.ObjId.{ObjId}
 use Rattle.nb_ledger.specs.Flat.{Heard, Notice}
-use Rattle.nb_ledger.specs.Ledger.{object_lives}
+use Rattle.nb_ledger.specs.declared.port.PortState.{PortState}
+use Rattle.nb_ledger.specs.declared.port.PortState.TheVariants as port
+use Rattle.nb_ledger.specs.Ledger.{object_lives, port as port_in}
 use Rattle.nb_graph.specs.Noded.{AreNoded}
 use Rattle.nb_graph.specs.Whole.{Objects, port_at}
 use Rattle.nb_frames.specs.Frames.{is_one_of, graph_of, KeepsObject, KeepsOthers}
-use Rattle.nb_frames.specs.Within.{IsEventWithin}
+use Rattle.nb_frames.specs.Within.{IsEventWithin, LeadsWithin}
+use Rattle.nb_frames.proofs.OwnCallLemmas.{either_way}
 use Rattle.nb_nodes.specs.declared.obj.Obj.{Obj}
 use Rattle.nb_nodes.specs.Objects.{rank_of_obj}
 use Rattle.nb_opens.specs.AloneEvents.{alone_freed_events, all_closed_events}
@@ -17,14 +20,14 @@ use Rattle.nb_opens.specs.Companies.{all_closed}
 use Rattle.nb_chains.specs.declared.chain.Chain.{Chain}
 use Rattle.nb_chains.specs.declared.kind.ChainKind.{ChainKind}
 use Rattle.nb_chains.specs.Calls.{ClosesPorts, IsOpenBy, IsOpenChain, ReleasesChain, ShutsChainBeside, beside_notices, closing_notices, ports_closed_notices}
-use Rattle.nb_chains.specs.Chains.{AreChained, AreOthers, Awaits, GoesOn, StaysChained, below_ids, chain_ids, last_below, last_serial, released_by, released_notices}
+use Rattle.nb_chains.specs.Chains.{AreChained, AreOthers, Awaits, GoesOn, below_ids, chain_ids, last_below, last_serial, released_by, released_notices}
 use Rattle.nb_chains.specs.Ends.{HasNoLinks, first_close_among, free_notices, free_slot_notices}
 use Rattle.nb_chains.specs.Giving.{CallGives}
 use Rattle.nb_chains.specs.Kinds.{top_mark, top_rank}
 use Rattle.nb_chains.specs.Shapes.{SendsNone, StaysAbove}
 use Rattle.nb_chains.proofs.ChainCloses.{close_stays}
 use Rattle.nb_chains.proofs.ChainDoes.{top_in}
-use Rattle.nb_chains.proofs.FreshOnes.{fresh_chained, fresh_ready, sole_in}
+use Rattle.nb_chains.proofs.FreshOnes.{fresh_chained, fresh_ready, sole_in, sole_is}
 use Rattle.nb_chains.proofs.GivingLemmas.{each_append, gives_both}
 use Rattle.nb_chains.proofs.GoingOn.{others_both}
 use Rattle.nb_chains.proofs.LettingGo.{loose_kept}
@@ -85,23 +88,44 @@ module _ (kind : ChainKind) (w : Chain) (g : Objects Obj) (waits : Awaits kind w
   waits_open : AreNoded rank_of_obj g → IsOpenChain w g
   waits_open noded = subst (λ (b : Option ObjId). IsOpenBy b w.top.0 (graph_of (w.top.0 ∷ below_ids b) g)) (sym waits.alone) (fresh_ready g noded w.top.0 (top_rank kind) (top_mark kind) waits.fresh).lone
 
--- this chain is still there after the ports of what waits were closed
-module _ (c w : Chain) (g a : Objects Obj) (noded : AreNoded rank_of_obj a) (chained : AreChained g (chain_ids c)) (apart : AreOthers (chain_ids c) (chain_ids w)) (w_on : GoesOn (chain_ids w) g a) where
-  still : StaysChained (chain_ids c) g a
-  still = goes_stays (chain_ids w) (chain_ids c) g a noded chained (away_from (chain_ids c) (chain_ids w) apart) w_on
+-- a chain is still there after the ports of an object were closed that waits, whichever that is
+module _ (ids : List ℕ) (x : ℕ) (g a : Objects Obj) (chained : AreChained g ids) (on : GoesOn (x ∷ []) g a) where
+  leads_more : (v : PortState) → is_one_of ids x ≡ true → LeadsWithin (is_one_of (x ∷ [])) v → LeadsWithin (is_one_of ids) v
+  leads_more port.Open o k = tt
+  leads_more (port.Linked q) o k = ap (is_one_of ids) (sole_is x q.obj.0 k) ∙ o
+  leads_more (port.Leaving q) o k = ap (is_one_of ids) (sole_is x q.obj.0 k) ∙ o
+  leads_more port.Closed o k = tt
 
-  pub still_chained : AreChained a (chain_ids c)
-  still_chained = still.chained
+  kept : (y : ℕ) → is_one_of ids y ≡ true → is_one_of (x ∷ []) y ≡ false → KeepsObject g a y
+  kept y o far = on.others.others y (chained.given y o) far
 
-  still_open : IsOpenChain c g → IsOpenChain c a
-  still_open is = subst (IsOpenBy c.below c.top.0) (sym still.same_graph) is
+  pub still_chained : AreChained a ids
+  still_chained = record {
+    given = λ y o. let i = chained.given y o in let e = on.others.same_made in omega (arith, i, e);
+    lives = λ y o. elim (either_way (is_one_of (x ∷ []) y)) [ inl p ↦ on.chained.lives y p | inr p ↦ (kept y o p).live ∙ chained.lives y o ];
+    held = λ y o. elim (either_way (is_one_of (x ∷ []) y)) [ inl p ↦ on.chained.held y p | inr p ↦ (kept y o p).held ∙ chained.held y o ];
+    stands = λ y o. elim (either_way (is_one_of (x ∷ []) y)) [ inl p ↦ on.chained.stands y p | inr p ↦ (let t = chained.stands y o in (t.0, λ n e. t.1 n ((kept y o p).node n e))) ];
+    links = λ y k o. elim (either_way (is_one_of (x ∷ []) y)) [
+      | inl p ↦ leads_more (port_in a.book y k) (ap (is_one_of ids) (sym (sole_is x y p)) ∙ o) (on.chained.links y k p)
+      | inr p ↦ subst (LeadsWithin (is_one_of ids)) (sym ((kept y o p).ports k)) (chained.links y k o)
+    ];
+  }
+
+-- so it is of what waits
+pub chained_beside : (kind : ChainKind) (c w : Chain) (g a : Objects Obj) → AreChained g (chain_ids c) → Awaits kind w g → GoesOn (chain_ids w) g a → AreChained a (chain_ids c)
+chained_beside kind c w g a chained waits on = still_chained (chain_ids c) w.top.0 g a chained (subst (λ (b : Option ObjId). GoesOn (w.top.0 ∷ below_ids b) g a) waits.alone on)
+
+-- and where it isn't one of the chain's objects, the chain's ports are still open
+still_open : (c w : Chain) (g a : Objects Obj) → AreNoded rank_of_obj a → AreChained g (chain_ids c) → AreOthers (chain_ids c) (chain_ids w) → GoesOn (chain_ids w) g a → IsOpenChain c g → IsOpenChain c a
+still_open c w g a noded chained apart w_on is =
+    subst (IsOpenBy c.below c.top.0) (sym (goes_stays (chain_ids w) (chain_ids c) g a noded chained (away_from (chain_ids c) (chain_ids w) apart) w_on).same_graph) is
 
 -- BOTH
 
-module _ (kind : ChainKind) (c w : Chain) (g a b d h : Objects Obj) (l m n o q : Heard) (z : Cause) (chained : AreChained g (chain_ids c)) (waits : Awaits kind w g) (apart : AreOthers (chain_ids c) (chain_ids w))
+module _ (kind : ChainKind) (c w : Chain) (g a b d h : Objects Obj) (l m n o q : Heard) (z : Cause) (chained : AreChained g (chain_ids c)) (waits : Awaits kind w g)
     (g_noded : AreNoded rank_of_obj g) (a_noded : AreNoded rank_of_obj a) (w_on : GoesOn (chain_ids w) g a) (w_closes : IsOpenChain w g → ClosesPorts w g a z l m)
     (c_on : GoesOn (chain_ids c) a b) (c_closes : IsOpenChain c a → ClosesPorts c a b z m n)
-    (w_goes : HasNoLinks w.below w.top.0 b → ReleasesChain w b d n o) (c_goes : HasNoLinks c.below c.top.0 d → ReleasesChain c d h o q) where
+    (w_goes : HasNoLinks w.below w.top.0 b → ReleasesChain w b d n o) (c_goes : HasNoLinks c.below c.top.0 d → ReleasesChain c d h o q) (apart : AreOthers (chain_ids c) (chain_ids w)) where
   abbrev both : List ℕ
   both = chain_ids c ++ chain_ids w
 

@@ -178,9 +178,8 @@ impl Chain {
     )
         requires chained { AreChained graph.old (chain_ids self) }
         requires waits { Awaits kind waits graph.old }
-        requires apart { AreOthers (chain_ids self) (chain_ids waits) }
-        ensures { IsOpenChain self graph.old → ShutsChainBeside self waits graph.old graph.new cause.now
-            (O.events out.old) (O.events out.new) }
+        ensures { AreOthers (chain_ids self) (chain_ids waits) → IsOpenChain self graph.old
+            → ShutsChainBeside self waits graph.old graph.new cause.now (O.events out.old) (O.events out.new) }
     {
         let _kind = kind;
         graph.has_nodes();

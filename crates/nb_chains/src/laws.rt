@@ -2,7 +2,7 @@
 
 ghost use Rattle.std.specs.Prelude.{◌≡◌, ℕ, List, Option, []};
 ghost use Rattle.nb_chains.specs.Calls.{IsChainUnderWay, IsOpenChain};
-ghost use Rattle.nb_chains.specs.Chains.{AreChained, AreOthers, GoesOn, GrowsBy, IsReadyChain, IsReleased, StaysChained, chain_ids};
+ghost use Rattle.nb_chains.specs.Chains.{AreChained, AreOthers, Awaits, GoesOn, GrowsBy, IsReadyChain, IsReleased, StaysChained, chain_ids};
 ghost use Rattle.nb_chains.specs.Giving.{CallGives, ChainGives};
 ghost use Rattle.nb_chains.specs.Shapes.{HasShape, RunsInOrder, SendsNone};
 ghost use Rattle.nb_chains.specs.declared.chain.Chain.{Chain as TheChain};
@@ -32,6 +32,12 @@ pub fn chains_are_open()
     ensures ready { (kind : TheKind) (c : TheChain) (g : Objects TheObj) → IsReadyChain kind c g → IsOpenChain c g }
     ensures under_way { (kind : TheKind) (c : TheChain) (g : Objects TheObj) → IsChainUnderWay kind c g
         → IsOpenChain c g }
+{}
+
+/// What waits is no object of an open that is under way, of which something was asked.
+pub fn waiting_ones_are_apart()
+    ensures { (kind other : TheKind) (w c : TheChain) (g : Objects TheObj) → AreNoded rank_of_obj g → Awaits kind w g
+        → AreChained g (chain_ids c) → IsChainUnderWay other c g → AreOthers (chain_ids c) (chain_ids w) }
 {}
 
 /// The events of a call whose notices have a shape are those before what goes down and those after it, in that order.
